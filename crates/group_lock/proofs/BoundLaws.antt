@@ -19,8 +19,8 @@ use Rattle.session_model.specs.Counts.{dues_of, frame_dues, command_dues, used_i
 use Rattle.session_law.specs.Session.{AgreeBefore}
 use Rattle.session_law.proofs.AlikeLaws.{Alike}
 use Rattle.report_text.specs.declared.report.Refusal.{Refusal}
-use Rattle.member_ring.specs.declared.ends.RingOut.{RingOut}
-use Rattle.member_ring.specs.declared.ends.RingIn.{RingIn}
+use Rattle.member_ring.specs.Ends.{OutEnd}
+use Rattle.member_ring.specs.Ends.{InEnd}
 use Rattle.member_ring.specs.Ends.{out_passed, in_passed, SameIn}
 use Rattle.member_ring.proofs.EndLaws.{out-then, in-then}
 use Rattle.source_core.specs.Given.{ComesAlike, Stands as HasMade}
@@ -70,7 +70,7 @@ of-then leg a b is same = record {
   items = same.items ∙ is.items;
 }
 
-pub outs-then : (a b d : List (RingOut Container)) → SameOuts a b → SameOuts b d → SameOuts a d
+pub outs-then : (a b d : List (OutEnd Container)) → SameOuts a b → SameOuts b d → SameOuts a d
 outs-then a b d s t = record {
   count = t.count ∙ s.count;
   each = λ m old new was is.
@@ -80,10 +80,10 @@ outs-then a b d s t = record {
       out-then old mid new (s.each m old mid was there) (t.each m mid new there is);
 }
 
-pub ins-then : (ends : List (RingIn BackCell)) (a b : RingIn BackCell) → SameIns ends (a ∷ []) → SameIn a b →
+pub ins-then : (ends : List (InEnd BackCell)) (a b : InEnd BackCell) → SameIns ends (a ∷ []) → SameIn a b →
     SameIns ends (b ∷ [])
 ins-then ends a b s same = record { count = s.count; each = λ m old new was is. by_place m old new was is } where
-  by_place : (m : ℕ) (old new : RingIn BackCell) → slice_get ends m ≡ Some old → slice_get (b ∷ []) m ≡ Some new →
+  by_place : (m : ℕ) (old new : InEnd BackCell) → slice_get ends m ≡ Some old → slice_get (b ∷ []) m ≡ Some new →
       SameIn old new
   by_place zero old new was is = subst (SameIn old) (let e : b ≡ new = cc in e)
       (in-then old a b (s.each zero old a was refl) same)
@@ -177,7 +177,7 @@ module _ (leg : Leg) (a b : GroupState) (answer : TickAnswer) (of_script : IsOf 
   comes : ComesAlike (landed_scenario leg (counts_of a)) session (ticks_of b)
   comes = first-alike session (commands_of a) (frames_of a) (ticks_of b) orders-late offers-late
 
-  before : (m : ℕ) (old : RingOut Container) → slice_get a.tx.items m ≡ Some old →
+  before : (m : ℕ) (old : OutEnd Container) → slice_get a.tx.items m ≡ Some old →
       out_passed old ≡ containers_of session (taken_of b) m (ticks_of a)
   before m old was =
       let inside = slice_get_within a.tx.items m old was in
@@ -250,7 +250,7 @@ module _ (leg : Leg) (a b : GroupState) (answer : TickAnswer) (of_script : IsOf 
             (sym scenario-same) (call.made (landed_scenario leg (counts_of a)) made));
       }
 
-pub bound-ticks : (leg : Leg) (tx : List (RingOut Container)) (back : List (RingIn BackCell)) (a b : GroupState)
+pub bound-ticks : (leg : Leg) (tx : List (OutEnd Container)) (back : List (InEnd BackCell)) (a b : GroupState)
     (answer : TickAnswer) → IsBound leg tx back a → Ticks a b answer → IsBound leg tx back b
 bound-ticks leg tx back a b answer is call =
     let frames = call.landed.frames in

@@ -11,6 +11,7 @@ use Rattle.session_model.specs.Scenario.{Scenario}
 use Rattle.session_model.specs.Table.{Told}
 use Rattle.report_text.specs.declared.report.Refusal.{Refusal}
 use Rattle.report_text.specs.declared.report.Refusal.TheVariants.{Frame as frame_refused, Command as command_refused}
+use Rattle.source_core.specs.Terminal.{SameKind}
 use Rattle.source_core.specs.Given.{Stands as HasMade}
 use Rattle.walk_law.specs.Landed.{is_client, IsPlaced, refused_by}
 use Rattle.group_lock.specs.declared.answer.SubmitFault.{SubmitFault}
@@ -19,7 +20,9 @@ use Rattle.group_lock.specs.declared.group.GroupState.{GroupState}
 use Rattle.group_source.specs.Item.{size_of as octet_count}
 use Rattle.group_lock.specs.Answer.{fault_of, has_landed, refusal_told}
 use Rattle.group_lock.specs.Journal.{entry_of, fits}
-use Rattle.group_source.specs.Landed.{due_at}
+use Rattle.group_source.specs.Inbox.{Inbox}
+use Rattle.group_source.specs.Landed.{due_at, HasPassed}
+use Rattle.group_source.specs.Source.{SameRest}
 use Rattle.group_source.specs.Lands.{met_by, with_kind}
 use Rattle.group_lock.specs.Parts.{setting_in}
 use Rattle.group_lock.specs.Group.{parts_of, Stands, SameScript, SameRings, items_of, frames_of, commands_of}
@@ -196,6 +199,32 @@ pub record Lands (a b : GroupState) (number : ℕ) (kind : ItemKind) (why : Opti
   pub rings : SameRings a b
   pub made : (scenario : Scenario) (cells : List (Option Told)) → HasMade (source_of a) scenario cells →
       HasMade (source_of b) (with_kind scenario (ticks_of a) kind) cells
+
+-- its source has landed it, and the rest but its journal is as it was
+pub lands-in : (a b : GroupState) (number : ℕ) (kind : ItemKind) (answer why : Option Refusal) (refused : Bool) →
+    answer ≡ why → answer ≡ met_by (source_of a) kind → SameKind (source_of b) (source_of a) →
+    HasPassed a.source.landed b.source.landed (is_client kind) refused →
+    IsPlaced number (refused_by number answer) (refusals_of a) (refusals_of b) → SameRest a.source b.source →
+    ticks_of b ≡ ticks_of a → b.tx ≡ a.tx → b.back ≡ a.back →
+    ((scenario : Scenario) (cells : List (Option Told)) → HasMade (source_of a) scenario cells →
+    HasMade (source_of b) (with_kind scenario (ticks_of a) kind) cells) → Lands a b number kind why
+lands-in a b number kind answer why refused is met kept passed placed rest ticks tx back made = record {
+  is = sym is ∙ met ∙ refused-is a kind;
+  frames = passed.frames;
+  commands = passed.commands;
+  refusals = subst (λ (w : Option Refusal). IsPlaced number (refused_by number w) (refusals_of a) (refusals_of b)) is
+      placed;
+  script = record {
+    lines = kept.lines;
+    lag = kept.lag;
+    size = kept.size;
+    total = rest.total;
+    lost = ap (λ (i : Inbox). i.lost) rest.inbox;
+    items = passed.items;
+  };
+  rings = record { ticks = ticks; inbox = ap (λ (i : Inbox). i.cells) rest.inbox; tx = tx; back = back };
+  made = made;
+}
 
 counted : (a b : GroupState) (number : ℕ) (kind : ItemKind) (why : Option Refusal) → Lands a b number kind why →
     HasCounted a b kind true

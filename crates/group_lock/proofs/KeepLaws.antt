@@ -15,8 +15,8 @@ use Rattle.session_model.specs.Table.{Told}
 use Rattle.session_model.specs.Told.{told_in}
 use Rattle.session_model.specs.Sent.{container_of, containers_of, frame_of}
 use Rattle.session_model.specs.Counts.{dues_of, frame_dues, command_dues, used_in, held}
-use Rattle.member_ring.specs.declared.ends.RingOut.{RingOut}
-use Rattle.member_ring.specs.declared.ends.RingIn.{RingIn}
+use Rattle.member_ring.specs.Ends.{OutEnd}
+use Rattle.member_ring.specs.Ends.{InEnd}
 use Rattle.member_ring.specs.Ends.{out_passed, in_passed}
 use Rattle.source_core.specs.Terminal.{Terminal, SameKind, needed_at}
 use Rattle.source_core.specs.Given.{IsFresh, with_cell, Stands as HasMade}
@@ -150,7 +150,7 @@ windows-long : (at : Parts) → length (scenario_in at).windows ≡ at.source.li
 windows-long at = length-replicate at.source.lines []
 
 -- the line of a send ring is one of the session's
-line-low : (at : Parts) (size m : ℕ) (out : RingOut Container) → Keeps at size → slice_get at.tx m ≡ Some out →
+line-low : (at : Parts) (size m : ℕ) (out : OutEnd Container) → Keeps at size → slice_get at.tx m ≡ Some out →
     m < length (scenario_in at).windows
 line-low at size m out k there =
     let inside = slice_get_within at.tx m out there in
@@ -240,7 +240,7 @@ keeps-accepted at size source landed journal number kind k items frames commands
     }
 
 -- ---- return cells were moved
-pub told-moved : (at : Parts) (size : ℕ) (inbox : Inbox) (back : RingIn BackCell) → Keeps at size →
+pub told-moved : (at : Parts) (size : ℕ) (inbox : Inbox) (back : InEnd BackCell) → Keeps at size →
     HasMoved at.inbox inbox at.back back →
     told_in_parts (record at { inbox = inbox; back = back }) ≡ told_in_parts at
 told-moved at size inbox back k moved =
@@ -248,7 +248,7 @@ told-moved at size inbox back k moved =
     ∙ ap (told_taken at.inbox.lost at.source.lag at.source.ticks) (sym moved.received.1)
     ∙ taken-more at.inbox.lost at.source.lag at.source.ticks (in_passed at.back) moved.received.0 k.come.within
 
-pub keeps-moved : (at : Parts) (size : ℕ) (inbox : Inbox) (back : RingIn BackCell) → Keeps at size →
+pub keeps-moved : (at : Parts) (size : ℕ) (inbox : Inbox) (back : InEnd BackCell) → Keeps at size →
     HasMoved at.inbox inbox at.back back → Keeps (record at { inbox = inbox; back = back }) size
 keeps-moved at size inbox back k moved =
     let next : Parts = record at { inbox = inbox; back = back } in
@@ -306,7 +306,7 @@ empty-come at size k none many =
     omega arith
 
 -- ---- send rings were looked at
-pub keeps-looked : (at : Parts) (size : ℕ) (tx : List (RingOut Container)) → Keeps at size → HaveLooked at.tx tx →
+pub keeps-looked : (at : Parts) (size : ℕ) (tx : List (OutEnd Container)) → Keeps at size → HaveLooked at.tx tx →
     Keeps (record at { tx = tx }) size
 keeps-looked at size tx k looked = record {
   total = k.total;
@@ -347,7 +347,7 @@ agree-cell n cells None low = refl
 agree-cell n cells (Some cell) low = sym (take-append-le n cells (told_in cell ∷ []) low)
 
 -- the parts before a frame is made, and what it is made of
-pub record Made (at : Parts) (source : Terminal) (inbox : Inbox) (tx : List (RingOut Container))
+pub record Made (at : Parts) (source : Terminal) (inbox : Inbox) (tx : List (OutEnd Container))
     (cell : Option BackCell) (frame : List Container) : Type 0 where
   pub takes : Takes at.inbox inbox (in_passed at.back) at.source.lag at.source.ticks cell
   pub lost : inbox.lost ≡ at.inbox.lost
@@ -361,7 +361,7 @@ pub record Made (at : Parts) (source : Terminal) (inbox : Inbox) (tx : List (Rin
   pub same : SameKind source at.source
   pub pushed : ArePushed frame at.tx tx
 
-module _ (at : Parts) (size : ℕ) (source : Terminal) (inbox : Inbox) (tx : List (RingOut Container))
+module _ (at : Parts) (size : ℕ) (source : Terminal) (inbox : Inbox) (tx : List (OutEnd Container))
     (cell : Option BackCell) (frame : List Container)
     (k : Keeps at size) (made : Made at source inbox tx cell frame) where
   abbrev next : Parts
@@ -376,7 +376,7 @@ module _ (at : Parts) (size : ℕ) (source : Terminal) (inbox : Inbox) (tx : Lis
 
   -- each line was pushed its container of any session that the source has made so far
   pub pushed-made : (scenario : Scenario) → HasMade at.source scenario (told_in_parts at) →
-      (m : ℕ) (old new : RingOut Container) → slice_get at.tx m ≡ Some old → slice_get tx m ≡ Some new →
+      (m : ℕ) (old new : OutEnd Container) → slice_get at.tx m ≡ Some old → slice_get tx m ≡ Some new →
       out_passed new ≡ out_passed old ++ container_of scenario
       (told_in_parts (record at { source = source; inbox = inbox; tx = tx })) m at.source.ticks ∷ []
   pushed-made scenario has m old new was is =
@@ -391,7 +391,7 @@ module _ (at : Parts) (size : ℕ) (source : Terminal) (inbox : Inbox) (tx : Lis
       (with_cell (told_in_parts at) cell) m at.source.ticks) old new there was is).passed
       ∙ ap (λ c. out_passed old ++ container_of scenario c m at.source.ticks ∷ []) (sym told-made)
 
-  pub own-pushed : (m : ℕ) (old new : RingOut Container) → slice_get at.tx m ≡ Some old → slice_get tx m ≡ Some new →
+  pub own-pushed : (m : ℕ) (old new : OutEnd Container) → slice_get at.tx m ≡ Some old → slice_get tx m ≡ Some new →
       out_passed new ≡ out_passed old ++ container_of (scenario_in at)
       (told_in_parts (record at { source = source; inbox = inbox; tx = tx })) m at.source.ticks ∷ []
   own-pushed m old new was is =
@@ -490,7 +490,7 @@ takes-by at size inbox cell needs k same there first left =
     (first ∙ ap (λ b. cell_for b at.inbox.cells) same)
     (left ∙ ap (λ b. record at.inbox { cells = rest_for b at.inbox.cells }) same)
 
-pub made-by : (at : Parts) (size : ℕ) (source : Terminal) (inbox : Inbox) (tx : List (RingOut Container))
+pub made-by : (at : Parts) (size : ℕ) (source : Terminal) (inbox : Inbox) (tx : List (OutEnd Container))
     (cell : Option BackCell) (frame : List Container) (needs : Bool) → Keeps at size →
     needs ≡ is_some (needed_at at.source.lag at.source.ticks) →
     (is_some (needed_at at.source.lag at.source.ticks) ≡ true → 0 < length at.inbox.cells) →
@@ -514,7 +514,7 @@ made-by at size source inbox tx cell frame needs k same there first left make fr
   pushed = pushed;
 }
 
-pub same-ends : (frame : List Container) (a b : List (RingOut Container)) → length frame ≡ length a →
+pub same-ends : (frame : List Container) (a b : List (OutEnd Container)) → length frame ≡ length a →
     ArePushed frame a b → SameOuts a b
 same-ends frame a b long pushed = record {
   count = pushed.count;

@@ -8,8 +8,8 @@ use Rattle.session_model.specs.Leg.{Leg}
 use Rattle.session_model.specs.Scenario.{scenario_by}
 use Rattle.session_model.specs.Sent.{containers_of}
 use Rattle.session_model.specs.Counts.{used_in}
-use Rattle.member_ring.specs.declared.ends.RingOut.{RingOut}
-use Rattle.member_ring.specs.declared.ends.RingIn.{RingIn}
+use Rattle.member_ring.specs.Ends.{OutEnd}
+use Rattle.member_ring.specs.Ends.{InEnd}
 use Rattle.member_ring.specs.Ends.{out_passed, in_passed, SameIn}
 use Rattle.source_core.specs.Given.{Stands as HasMade}
 use Rattle.walk_law.specs.Landed.{landed_items, landed_scenario}
@@ -25,12 +25,12 @@ use Rattle.group_lock.proofs.KeepLaws.{there-at}
 use Rattle.group_lock.proofs.BoundLaws.{outs-then, ins-then}
 
 -- the same ends of send rings, through which nothing has passed since
-pub record AreStill (tx tx' : List (RingOut Container)) : Type 0 where
+pub record AreStill (tx tx' : List (OutEnd Container)) : Type 0 where
   pub same : SameOuts tx tx'
-  pub passed : (m : ℕ) (old new : RingOut Container) → slice_get tx m ≡ Some old → slice_get tx' m ≡ Some new →
+  pub passed : (m : ℕ) (old new : OutEnd Container) → slice_get tx m ≡ Some old → slice_get tx' m ≡ Some new →
       out_passed new ≡ out_passed old
 
-pub keeps-laid : (at : Parts) (size : ℕ) (tx : List (RingOut Container)) (back : RingIn BackCell) → Keeps at size →
+pub keeps-laid : (at : Parts) (size : ℕ) (tx : List (OutEnd Container)) (back : InEnd BackCell) → Keeps at size →
     AreStill at.tx tx → in_passed back ≡ in_passed at.back →
     Keeps (record at { tx = tx; back = back }) size
 keeps-laid at size tx back k still popped =
@@ -61,7 +61,7 @@ keeps-laid at size tx back k still popped =
           at.landed.refusals) (sym told) k.refused;
     }
 
-module _ (leg : Leg) (g : GroupState) (tx : Vec (RingOut Container)) (back : RingIn BackCell)
+module _ (leg : Leg) (g : GroupState) (tx : Vec (OutEnd Container)) (back : InEnd BackCell)
     (keeps : Keeps (parts g.source.core g.source.total g.source.landed g.journal g.source.inbox tx.items back)
     (length g.frame.items)) (still : AreStill g.tx.items tx.items) (same : SameIn g.back back)
     (popped : in_passed back ≡ in_passed g.back) where
@@ -87,7 +87,7 @@ module _ (leg : Leg) (g : GroupState) (tx : Vec (RingOut Container)) (back : Rin
     made = subst (λ cells. ∥ HasMade (source_of g) (landed_scenario leg (counts_of g)) cells ∥₁) (sym told) has.made;
   }
 
-  pub bound-laid : (ends : List (RingOut Container)) (ins : List (RingIn BackCell)) → IsBound leg ends ins g →
+  pub bound-laid : (ends : List (OutEnd Container)) (ins : List (InEnd BackCell)) → IsBound leg ends ins g →
       IsBound leg ends ins (record g { tx = tx; back = back; keeps = keeps })
   bound-laid ends ins is = record {
     of_script = record {

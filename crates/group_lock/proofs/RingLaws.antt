@@ -5,7 +5,7 @@ use Rattle.std.proofs.lemmas.Bool.{cases_Bool, cases_eq}
 use Rattle.outside_io.specs.Faults.{one_more}
 use Rattle.vc_cell.specs.declared.Container.{Container}
 use Rattle.realign_core.proofs.GatherLaws.{set-here, set-other, length-slice_set}
-use Rattle.member_ring.specs.declared.ends.RingOut.{RingOut}
+use Rattle.member_ring.specs.Ends.{OutEnd}
 use Rattle.member_ring.specs.Ends.{out_passed, out_free, out_misses, SameOut}
 use Rattle.group_lock.specs.Rings.{HasLooked, HaveLooked}
 
@@ -18,7 +18,7 @@ set-there (z ∷ xs) (suc m) x y e = set-there xs m x y e
 pub less : (a b : ℕ) → a ≤ b → (b ≡ a → ⊥) → a < b
 less a b low other = omega arith
 
-pub has-looked : (old new : RingOut Container) (found : Bool) → SameOut old new → out_passed new ≡ out_passed old →
+pub has-looked : (old new : OutEnd Container) (found : Bool) → SameOut old new → out_passed new ≡ out_passed old →
     out_free old ≤ out_free new →
     (IsFalse found → out_misses new ≡ one_more (out_misses old)) → (IsTrue found → out_misses new ≡ out_misses old) →
     HasLooked old new
@@ -44,7 +44,7 @@ each-set R a b m old new was is each k x y here there =
       | inr other ↦ each k x y here (sym (set-other b m k new other) ∙ there)
     ]
 
-pub looked-set : (a b : List (RingOut Container)) (m : ℕ) (old new : RingOut Container) → slice_get a m ≡ Some old →
+pub looked-set : (a b : List (OutEnd Container)) (m : ℕ) (old new : OutEnd Container) → slice_get a m ≡ Some old →
     HasLooked old new → HaveLooked a b → HaveLooked a (slice_set b m new)
 looked-set a b m old new was is looked = record {
   count = length-slice_set b m new ∙ looked.count;

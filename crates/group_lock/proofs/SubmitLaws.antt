@@ -42,8 +42,8 @@ use Rattle.std.specs.Global.{Vec}
 use Rattle.std.proofs.lemmas.List.{append-nil, map_push}
 use Rattle.vc_cell.specs.declared.Container.{Container}
 use Rattle.vc_cell.specs.declared.BackCell.{BackCell}
-use Rattle.member_ring.specs.declared.ends.RingOut.{RingOut}
-use Rattle.member_ring.specs.declared.ends.RingIn.{RingIn}
+use Rattle.member_ring.specs.Ends.{OutEnd}
+use Rattle.member_ring.specs.Ends.{InEnd}
 use Rattle.member_ring.specs.Ends.{in_passed}
 use Rattle.group_source.specs.Inbox.{told_taken}
 use Rattle.group_lock.specs.Rings.{SameOuts, SameIns}
@@ -415,7 +415,7 @@ module _ (leg : Leg) (a b : GroupState) (number : ℕ) (kind : ItemKind) (answer
       ap (λ l. told_taken l (lag_of b) (ticks_of b) (in_passed b.back)) call.script.lost
       ∙ ap (λ n. told_taken (lost_of a) n (ticks_of b) (in_passed b.back)) call.script.lag
       ∙ ap (λ n. told_taken (lost_of a) (lag_of a) n (in_passed b.back)) call.rings.ticks
-      ∙ ap (λ (end_ : RingIn BackCell). told_taken (lost_of a) (lag_of a) (ticks_of a) (in_passed end_)) call.rings.back
+      ∙ ap (λ (end_ : InEnd BackCell). told_taken (lost_of a) (lag_of a) (ticks_of a) (in_passed end_)) call.rings.back
 
   pub landed-submits : HasLandedOf leg b
   landed-submits =
@@ -459,7 +459,7 @@ module _ (leg : Leg) (a b : GroupState) (number : ℕ) (kind : ItemKind) (answer
             (if not (is_client kind) && is_none w then 1 else 0)) told
             ∙ sym commands ∙ sym
             (ap (λ c. length (accepted_commands_by leg c (landed_items leg (counts_of b)))) taken);
-        sent = subst (λ (v : Vec (RingOut Container)). AreSent (scenario_by leg) (taken_of b) (ticks_of b) v.items)
+        sent = subst (λ (v : Vec (OutEnd Container)). AreSent (scenario_by leg) (taken_of b) (ticks_of b) v.items)
             (sym call.rings.tx)
             (subst (λ n. AreSent (scenario_by leg) (taken_of b) n a.tx.items) (sym call.rings.ticks)
             (subst (λ c. AreSent (scenario_by leg) c (ticks_of a) a.tx.items) (sym taken) has.sent));
@@ -475,7 +475,7 @@ room-taken : (answer : Option SubmitFault) (n m size : ℕ) → m + room_for ans
 room-taken None n m size e = omega arith
 room-taken (Some fault) n m size e = omega arith
 
-pub bound-submits : (leg : Leg) (tx : List (RingOut Container)) (back : List (RingIn BackCell)) (a b : GroupState)
+pub bound-submits : (leg : Leg) (tx : List (OutEnd Container)) (back : List (InEnd BackCell)) (a b : GroupState)
     (number : ℕ) (kind : ItemKind) (answer : Option SubmitFault) →
     IsBound leg tx back a → Submits a b number kind answer → IsItemOf leg number kind → IsBound leg tx back b
 bound-submits leg tx back a b number kind answer is call is_item =
@@ -491,8 +491,8 @@ bound-submits leg tx back a b number kind answer is call is_item =
           let fewer = next.octets in
           record {
             of_script = of-then leg a b is.of_script call.script;
-            sends = subst (λ (v : Vec (RingOut Container)). SameOuts tx v.items) (sym call.rings.tx) is.sends;
-            returns = subst (λ (end_ : RingIn BackCell). SameIns back (end_ ∷ [])) (sym call.rings.back) is.returns;
+            sends = subst (λ (v : Vec (OutEnd Container)). SameOuts tx v.items) (sym call.rings.tx) is.sends;
+            returns = subst (λ (end_ : InEnd BackCell). SameIns back (end_ ∷ [])) (sym call.rings.back) is.returns;
             room = record { entries = omega arith; octets = omega arith };
             landed = landed-submits leg a b number kind answer is.of_script is.landed call landed is_item;
           }

@@ -6,8 +6,8 @@ use Rattle.session_model.specs.Scenario.{Scenario}
 use Rattle.std.specs.Global.{Vec}
 use Rattle.vc_cell.specs.declared.Container.{Container}
 use Rattle.vc_cell.specs.declared.BackCell.{BackCell}
-use Rattle.member_ring.specs.declared.ends.RingOut.{RingOut}
-use Rattle.member_ring.specs.declared.ends.RingIn.{RingIn}
+use Rattle.member_ring.specs.Ends.{OutEnd}
+use Rattle.member_ring.specs.Ends.{InEnd}
 use Rattle.member_ring.specs.Ends.{out_passed, in_passed, in_misses, SameIn}
 use Rattle.member_ring.proofs.EndLaws.{out-then}
 use Rattle.source_core.specs.Terminal.{Terminal, needed}
@@ -71,14 +71,14 @@ pub record Rests (a b : GroupState) : Type 0 where
   pub moved : AreMoved a b
   pub taken : taken_of b ≡ taken_of a
 
-same-looked : (ends : List (RingOut Container)) → HaveLooked ends ends
+same-looked : (ends : List (OutEnd Container)) → HaveLooked ends ends
 same-looked ends = record {
   count = refl;
   each = λ m old new was is.
       let e : Some old ≡ Some new = sym was ∙ is in
       let same : old ≡ new = cc in
       subst (HasLooked old) same (record
-      { same = ((refl, refl, refl, refl), refl); passed = refl; free = omega arith; misses = inl refl });
+      { same = (refl, refl, refl); passed = refl; free = omega arith; misses = inl refl });
 }
 
 pub rests-comes : (a b : GroupState) → Comes a b → Rests a b
@@ -86,7 +86,7 @@ rests-comes a b comes = record {
   script = comes.script;
   landed = comes.landed;
   source = comes.source;
-  looked = subst (λ tx. HaveLooked a.tx.items tx) (sym (ap (λ (v : Vec (RingOut Container)). v.items) comes.tx))
+  looked = subst (λ tx. HaveLooked a.tx.items tx) (sym (ap (λ (v : Vec (OutEnd Container)). v.items) comes.tx))
       (same-looked a.tx.items);
   returns = comes.returns;
   received = comes.received;
@@ -97,7 +97,7 @@ rests-comes a b comes = record {
 -- by the end of the return ring alone
 moved-on : (a b d : GroupState) → d.back ≡ b.back → AreMoved a b → AreMoved a d
 moved-on a b d same moved =
-    subst (λ (end_ : RingIn BackCell). IsDrained a.back end_ ⊎
+    subst (λ (end_ : InEnd BackCell). IsDrained a.back end_ ⊎
     (length (in_passed end_) ≡ used_in (lag_of a) (ticks_of a) + (lag_of a + 1))) (sym same) moved
 
 pub rests-looks : (a b d : GroupState) → Comes a b → Looks b d → Rests a d
@@ -105,7 +105,7 @@ rests-looks a b d comes looks = record {
   script = script-then a b d comes.script looks.script;
   landed = landed-then a b d comes.landed looks.landed;
   source = looks.source ∙ comes.source;
-  looked = subst (λ tx. HaveLooked tx d.tx.items) (ap (λ (v : Vec (RingOut Container)). v.items) comes.tx) looks.looked;
+  looked = subst (λ tx. HaveLooked tx d.tx.items) (ap (λ (v : Vec (OutEnd Container)). v.items) comes.tx) looks.looked;
   returns = subst (SameIn a.back) (sym looks.back) comes.returns;
   received = subst (λ end_. IsPrefix (in_passed a.back) (in_passed end_)) (sym looks.back) comes.received;
   moved = moved-on a b d looks.back comes.moved;
@@ -245,7 +245,7 @@ pub ticks-full : (a b d : GroupState) (line : ℕ) → Comes a b → Looks b d �
     IsFirstFull b.tx.items d.tx.items line → Ticks a d (TxFull line)
 ticks-full a b d line comes looks free full =
     let first : IsFirstFull a.tx.items d.tx.items line =
-    subst (λ tx. IsFirstFull tx d.tx.items line) (ap (λ (v : Vec (RingOut Container)). v.items) comes.tx) full
+    subst (λ tx. IsFirstFull tx d.tx.items line) (ap (λ (v : Vec (OutEnd Container)). v.items) comes.tx) full
     in
     still a d (TxFull line) (λ e. absurd cc) refl (rests-looks a b d comes looks) (record {
       done = (λ e. absurd cc, λ low. absurd (not-done a free low));

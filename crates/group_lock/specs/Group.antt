@@ -13,7 +13,7 @@ use Rattle.session_model.specs.Sent.{container_of}
 use Rattle.session_model.specs.Counts.{dues_of, used_in, held}
 use Rattle.report_text.specs.declared.report.Refusal.{Refusal}
 use Rattle.report_text.specs.declared.report.Totals.{Totals}
-use Rattle.member_ring.specs.declared.ends.RingOut.{RingOut}
+use Rattle.member_ring.specs.Ends.{OutEnd}
 use Rattle.member_ring.specs.Ends.{out_passed, in_passed, in_misses}
 use Rattle.source_core.specs.Terminal.{Terminal, needed}
 use Rattle.source_core.specs.Given.{Stands as HasMade}
@@ -250,12 +250,12 @@ pub record IsMissing (packet : ℕ) (a b : GroupState) : Type 0 where
 
 -- each line was pushed its container of the next frame of a session
 abbrev pub ArePushedOf : Scenario → GroupState → GroupState → Type 0
-ArePushedOf scenario a b = (m : ℕ) (old new : RingOut Container) → slice_get a.tx.items m ≡ Some old →
+ArePushedOf scenario a b = (m : ℕ) (old new : OutEnd Container) → slice_get a.tx.items m ≡ Some old →
     slice_get b.tx.items m ≡ Some new →
     out_passed new ≡ out_passed old ++ container_of scenario (taken_of b) m (ticks_of a) ∷ []
 
 -- no line was
 abbrev pub NothingPushed : GroupState → GroupState → Type 0
-NothingPushed a b = (m : ℕ) (old new : RingOut Container) → slice_get a.tx.items m ≡ Some old →
+NothingPushed a b = (m : ℕ) (old new : OutEnd Container) → slice_get a.tx.items m ≡ Some old →
     slice_get b.tx.items m ≡ Some new →
     out_passed new ≡ out_passed old

@@ -8,8 +8,8 @@ use Rattle.session_model.specs.Scenario.{Scenario}
 use Rattle.session_model.specs.Table.{Told}
 use Rattle.session_model.specs.Sent.{containers_of}
 use Rattle.session_model.specs.Counts.{dues_of, used_in}
-use Rattle.member_ring.specs.declared.ends.RingOut.{RingOut}
-use Rattle.member_ring.specs.declared.ends.RingIn.{RingIn}
+use Rattle.member_ring.specs.Ends.{OutEnd}
+use Rattle.member_ring.specs.Ends.{InEnd}
 use Rattle.member_ring.specs.Ends.{out_passed, in_passed}
 use Rattle.source_core.specs.Terminal.{Terminal}
 use Rattle.source_core.specs.Given.{Stands as HasMade}
@@ -26,10 +26,10 @@ pub record Parts : Type 0 where
   pub landed : Landed
   pub journal : Journal
   pub inbox : Inbox
-  pub tx : List (RingOut Container)
-  pub back : RingIn BackCell
+  pub tx : List (OutEnd Container)
+  pub back : InEnd BackCell
 
-abbrev pub parts : Terminal → ℕ → Landed → Journal → Inbox → List (RingOut Container) → RingIn BackCell → Parts
+abbrev pub parts : Terminal → ℕ → Landed → Journal → Inbox → List (OutEnd Container) → InEnd BackCell → Parts
 parts source total landed journal inbox tx back =
     record { source = source; total = total; landed = landed; journal = journal; inbox = inbox; tx = tx; back = back }
 
@@ -51,9 +51,9 @@ abbrev pub told_in_parts : Parts → List (Option Told)
 told_in_parts at = told_taken at.inbox.lost at.source.lag at.source.ticks (in_passed at.back)
 
 -- each line was sent its containers of the first frames of a session, and no more
-abbrev pub AreSent : Scenario → List (Option Told) → ℕ → List (RingOut Container) → Type 0
+abbrev pub AreSent : Scenario → List (Option Told) → ℕ → List (OutEnd Container) → Type 0
 AreSent scenario cells ticks ends =
-    (m : ℕ) (out : RingOut Container) → slice_get ends m ≡ Some out →
+    (m : ℕ) (out : OutEnd Container) → slice_get ends m ≡ Some out →
     out_passed out ≡ containers_of scenario cells m ticks
 
 -- each entry landed after as many ticks as its item is due

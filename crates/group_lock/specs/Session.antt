@@ -11,8 +11,8 @@ use Rattle.session_model.specs.Scenario.{DueFrame, scenario_by, offers_of, order
 use Rattle.session_model.specs.Table.{Told}
 use Rattle.session_model.specs.Counts.{Counts}
 use Rattle.report_text.specs.declared.report.Refusal.{Refusal}
-use Rattle.member_ring.specs.declared.ends.RingOut.{RingOut}
-use Rattle.member_ring.specs.declared.ends.RingIn.{RingIn}
+use Rattle.member_ring.specs.Ends.{OutEnd}
+use Rattle.member_ring.specs.Ends.{InEnd}
 use Rattle.source_core.specs.Given.{Stands as HasMade}
 use Rattle.walk_law.specs.Landed.{Numbered, is_client, landed_items, landed_scenario, kind_refusal, refused_by}
 use Rattle.group_lock.specs.Journal.{items_in}
@@ -90,7 +90,7 @@ pub record HasLandedOf (leg : Leg) (g : GroupState) : Type 0 where
   pub made : ∥ HasMade (source_of g) (landed_scenario leg (counts_of g)) (taken_of g) ∥₁
 
 -- a group is bound to a leg and to the ends of its rings as they were made
-pub record IsBound (leg : Leg) (tx : List (RingOut Container)) (back : List (RingIn BackCell))
+pub record IsBound (leg : Leg) (tx : List (OutEnd Container)) (back : List (InEnd BackCell))
     (g : GroupState) : Type 0 where
   pub of_script : IsOf leg g
   pub sends : SameOuts tx g.tx.items

@@ -16,14 +16,14 @@ pub trait Session: Send + Sync {
     ghost use Rattle.vc_cell.specs.declared.Container.{Container};
     ghost use Rattle.vc_cell.specs.declared.BackCell.{BackCell};
     ghost use Rattle.session_model.specs.declared.script.Script.{Script};
-    ghost use Rattle.member_ring.specs.declared.ends.RingOut.{RingOut};
-    ghost use Rattle.member_ring.specs.declared.ends.RingIn.{RingIn};
+    ghost use Rattle.member_ring.specs.Ends.{OutEnd};
+    ghost use Rattle.member_ring.specs.Ends.{InEnd};
 
     ghost script: { Script };
 
-    ghost tx: { List (RingOut Container) };
+    ghost tx: { List (OutEnd Container) };
 
-    ghost back: { List (RingIn BackCell) };
+    ghost back: { List (InEnd BackCell) };
 }
 
 impl Session for Brand {

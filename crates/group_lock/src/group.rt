@@ -33,7 +33,9 @@ pub struct GroupState {
     pub tx: Vec<RingOut<Container>>,
     /// Where it pops return cells.
     pub back: RingIn<BackCell>,
-    ghost keeps: { Keeps (parts source.core source.total source.landed journal source.inbox tx.items back) (length frame.items) },
+    ghost keeps: { Keeps
+        (parts source.core source.total source.landed journal source.inbox tx.items back)
+        (length frame.items) },
 }
 
 impl GroupState {
@@ -228,6 +230,6 @@ impl GroupState {
         ensures { Makes self.old self.new }
     {
         let _taken = self.source.make(&mut self.frame);
-        push_frame(&mut self.tx, &self.frame);
+        push_frame(&mut self.tx, &mut self.frame);
     }
 }

@@ -41,13 +41,14 @@ pub(crate) fn first_full(tx: &mut Vec<RingOut<Container>>) -> Option<u8>
     None
 }
 
-/// Pushes a frame, a container for each line.
-pub(crate) fn push_frame(tx: &mut Vec<RingOut<Container>>, frame: &[Box<HeldContainer>])
-    requires places { length frame.now ≡ length tx.old.items }
+/// Pushes a frame, a container for each line, in its box. Another box then lies in its place.
+pub(crate) fn push_frame(tx: &mut Vec<RingOut<Container>>, frame: &mut Vec<Box<HeldContainer>>)
+    requires places { length frame.old.items ≡ length tx.old.items }
     requires free { AreFree tx.old.items }
-    ensures { ArePushed (held frame.now) tx.old.items tx.new.items }
+    ensures pushed { ArePushed (held frame.old.items) tx.old.items tx.new.items }
+    ensures places { length frame.new.items ≡ length frame.old.items }
 {
     for m in 0..tx.len() {
-        tx[m].push(*frame[m].container());
+        tx[m].push_place(&mut frame[m]);
     }
 }

@@ -2,16 +2,16 @@
 use Rattle.std.proofs.Common.{◌≡◌, ℕ, ◌+◌, List, [], ◌∷◌, ◌++◌, length, replicate, sym, ◌∙◌, ap, ap₂}
 use Rattle.std.proofs.lemmas.List.{map-append, length-map, length-replicate, replicate-append-replicate}
 use Rattle.vc_cell.specs.declared.Cell.{Cell}
-use Rattle.member_ring.specs.declared.ends.RingIn.{RingIn}
+use Rattle.member_ring.specs.Ends.{InEnd}
 use Rattle.member_ring.specs.Ends.{in_passed}
 use Rattle.sink_worker.specs.Received.{received}
 
-pub one_more : (ends : List (RingIn Cell)) (end : RingIn Cell) (n : ℕ) → received ends ≡ replicate n [] →
+pub one_more : (ends : List (InEnd Cell)) (end : InEnd Cell) (n : ℕ) → received ends ≡ replicate n [] →
     in_passed end ≡ []
     → received (ends ++ end ∷ []) ≡ replicate (n + 1) []
 one_more ends end n are is =
     map-append in_passed ends (end ∷ []) ∙ ap₂ (λ (a : List (List Cell)) (b : List Cell). a ++ b ∷ []) are is
     ∙ replicate-append-replicate n 1 []
 
-pub so_many : (ends : List (RingIn Cell)) (n : ℕ) → received ends ≡ replicate n [] → length ends ≡ n
+pub so_many : (ends : List (InEnd Cell)) (n : ℕ) → received ends ≡ replicate n [] → length ends ≡ n
 so_many ends n are = sym (length-map ends in_passed) ∙ ap length are ∙ length-replicate n []

@@ -162,6 +162,29 @@ impl LineCore {
         }
     }
 
+    /// Makes a carry as `flush_to` does, but gives the box of a good cell's container, and takes the other for it.
+    pub fn flush_box(&mut self, out: &mut Box<HeldContainer>) -> CarrySign
+        requires pushed { self.old.pushed ≡ self.old.total }
+        requires runs { self.old.flushed ≤ self.old.delay }
+        ensures stands { (calls : Calls) → Stands self.old calls →
+            Stands self.new (and_flush calls) }
+        ensures cells { (calls : Calls) → Stands self.old calls →
+            path_cells (and_flush calls) ≡ path_cells calls ++ carry_cells result out.new.value }
+        ensures kept { result ≢ CarrySign.Good → out.new.value ≡ out.old.value }
+        ensures counts { Counts self.old self.new 0 1 }
+    {
+        let left = u32::from(self.delay) - self.flushed;
+        self.flushed += 1;
+        if left > self.total {
+            CarrySign::Nothing
+        } else if left == 0 {
+            CarrySign::End
+        } else {
+            let fate = self.windows.at(self.total - left);
+            self.store.let_go_box(fate, out)
+        }
+    }
+
     /// What comes of the container that the next push lets go, once the delay is filled.
     fn next_fate(&self) -> Option<Carried>
         requires { self.now.pushed < self.now.total }

@@ -132,6 +132,19 @@ impl Store {
         go_by(fate, oldest.container(), out)
     }
 
+    /// Takes the oldest container out of the store, and gives its box where it comes whole. The box that is left
+    /// over is let go.
+    pub(crate) fn let_go_box(&mut self, fate: Carried, out: &mut Box<HeldContainer>) -> CarrySign
+        requires { 0 < length self.old.items }
+        ensures store { self.new ≡ stored (drop 1 self.old.items) self.old.capacity self.old.spare }
+        ensures cells { (x : Container) → slice_get self.old.items 0 ≡ Some x →
+            carry_cells result out.new.value ≡ cells_of fate x }
+        ensures kept { result ≢ CarrySign.Good → out.new.value ≡ out.old.value }
+    {
+        let mut oldest = self.take_oldest();
+        change(fate, &mut oldest, out)
+    }
+
     /// Puts a container into a full store, and takes the oldest out: that is the container itself where the
     /// store has no place.
     pub(crate) fn pass(

@@ -15,8 +15,8 @@ same-refl a = record {
   delay = refl;
   windows = refl;
   total = refl;
-  consumer = ((refl, refl, refl, refl), refl);
-  producer = ((refl, refl, refl, refl), refl);
+  consumer = (refl, refl, refl);
+  producer = (refl, refl, refl);
 }
 
 pub later-refl : (a : LineWorker) → IsLater a a

@@ -3,3 +3,4 @@ pub mod LaterLaws
 pub mod CallLaws
 pub mod AlarmLaws
 pub mod NotedLaws
+pub mod KnownLaws

@@ -3,10 +3,9 @@ use Rattle.std.proofs.Common.{◌≡◌, ℕ, ◌+◌, ◌≤◌, List, ◌++◌
 use Rattle.vc_cell.specs.declared.Cell.{Cell}
 use Rattle.session_model.specs.Damage.{carried}
 use Rattle.member_ring.specs.Ends.{in_passed, out_passed}
-use Rattle.member_ring.specs.declared.alarm.Alarm.{Alarm}
 use Rattle.member_ring.specs.declared.worker.LineWorker.{LineWorker}
 use Rattle.member_ring.specs.Alarms.{alarms_from, alarms_of_line}
-use Rattle.member_ring.specs.Worker.{number_of, total_of, raised_by, last_raised, HasNoted}
+use Rattle.member_ring.specs.Worker.{number_of, total_of, last_raised, HasNoted}
 use Rattle.member_ring.proofs.AlarmLaws.{noted-more, cells-few}
 
 -- nothing was sent

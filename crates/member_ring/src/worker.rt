@@ -1,9 +1,12 @@
 //! A worker that carries the containers of a line from ring to ring.
-ghost use Rattle.std.specs.Prelude.{◌≡◌, ◌+◌, ◌<◌, ◌≤◌, ◌++◌, length, min, false};
+ghost use Rattle.std.specs.Prelude.{◌≡◌, ◌≢◌, ◌+◌, ◌<◌, ◌≤◌, ◌++◌, ◌∷◌, [], length, min, false};
+ghost use Rattle.vc_cell.specs.declared.Container.{Container};
 ghost use Rattle.line_core.specs.Line.{Stands, path_cells};
 ghost use Rattle.line_core.specs.Carry.{carry_cells};
-ghost use Rattle.member_ring.specs.Ends.{out_passed, out_free, out_misses, in_passed, SameOut};
-ghost use Rattle.member_ring.specs.Calls.{calls_on};
+ghost use Rattle.line_reader.specs.Told.{cell_with};
+ghost use Rattle.member_ring.specs.Ends.{out_passed, out_free, out_misses, out_hand, in_passed, in_items, in_misses};
+ghost use Rattle.member_ring.specs.Ends.{in_hand, SameOut, SameIn};
+ghost use Rattle.member_ring.specs.Calls.{calls_on, hand_cells, IsPushed, IsFlushed};
 ghost use Rattle.member_ring.specs.Alarms.{failed_after};
 
 use crate::alarm::Alarm;
@@ -11,7 +14,8 @@ use crate::ends::{RingIn, RingOut};
 use crate::gate::{Gate, Who};
 use crate::raised::Raised;
 use line_core::{CarrySign, LineCore};
-use vc_cell::{Cell, Container, PAYLOAD};
+use line_reader::CellSign;
+use vc_cell::{Cell, Container};
 
 /// The most carries of a burst.
 const CARRIES: u32 = 16;
@@ -45,8 +49,6 @@ pub struct LineWorker {
     core: LineCore,
     /// Where it pushes cells.
     pub producer: RingOut<Cell>,
-    /// Where the container of a good cell lies until it is pushed.
-    place: Container,
     /// What the cells of the last burst raised.
     raised: Raised,
     ghost stands: { Stands core (calls_on core (in_passed consumer)) },
@@ -91,7 +93,6 @@ impl LineWorker {
             consumer,
             core,
             producer,
-            place: blank(),
             raised: Raised::new(),
         }
     }
@@ -172,8 +173,8 @@ impl LineWorker {
         self.pass()
     }
 
-    /// Carries the next container, where it is there and there is a slot for its cell. It goes into the line
-    /// from where it lies in the ring.
+    /// Carries the next container, where it is there and there is a slot for its cell. It stays in its box, and
+    /// so does the one that comes out.
     fn pass(&mut self) -> Burst
         requires more { self.old.core.pushed < self.old.core.total }
         requires room { length (last_raised self.old) < 16 }
@@ -192,9 +193,9 @@ impl LineWorker {
         if !self.producer.ready() {
             return Burst::Idle(IdleCause::Full);
         }
-        let carry = self.core.push_from(self.consumer.front(), &mut self.place);
-        self.consumer.pop();
-        send(&mut self.producer, carry, &self.place);
+        self.consumer.pop_hand();
+        let carry = push_hand(&mut self.core, &mut self.consumer, &mut self.producer);
+        send(&mut self.producer, carry);
         self.raised.note(self.line, carry);
         Burst::Moved
     }
@@ -216,33 +217,60 @@ impl LineWorker {
         if !self.producer.ready() {
             return Burst::Idle(IdleCause::Full);
         }
-        let carry = self.core.flush_to(&mut self.place);
-        send(&mut self.producer, carry, &self.place);
+        let carry = flush_hand(&mut self.core, &mut self.producer);
+        send(&mut self.producer, carry);
         self.raised.note(self.line, carry);
         Burst::Moved
     }
 }
 
-/// Pushes the cell of a carry, if it gave one. The container of a good cell lies in `place`.
-fn send(producer: &mut RingOut<Cell>, carry: CarrySign, place: &Container)
+/// Pushes the container in the hand of one end into the line, and leaves the cell that comes out, if any, in the
+/// hand of the other.
+fn push_hand(core: &mut LineCore, from: &mut RingIn<Container>, to: &mut RingOut<Cell>) -> CarrySign
+    requires { core.old.pushed < core.old.total }
+    ensures pushed { IsPushed core.old core.new (in_hand from.old) result (out_hand to.new) }
+    ensures from { from.new ≡ record from.old { hand = in_hand from.new } }
+    ensures to { to.new ≡ record to.old { hand = out_hand to.new } }
+{
+    let carry = core.push_box(&mut from.hand, &mut to.hand.container);
+    to.hand.sign = sign_of(carry);
+    carry
+}
+
+/// Flushes the line, and leaves the cell that comes out, if any, in the hand of the end.
+fn flush_hand(core: &mut LineCore, to: &mut RingOut<Cell>) -> CarrySign
+    requires pushed { core.old.pushed ≡ core.old.total }
+    requires runs { core.old.flushed ≤ core.old.delay }
+    ensures flushed { IsFlushed core.old core.new result (out_hand to.new) }
+    ensures to { to.new ≡ record to.old { hand = out_hand to.new } }
+{
+    let carry = core.flush_box(&mut to.hand.container);
+    to.hand.sign = sign_of(carry);
+    carry
+}
+
+/// Pushes the cell of a carry, if it gave one: that in the hand.
+fn send(producer: &mut RingOut<Cell>, carry: CarrySign)
     requires { 0 < out_free producer.old }
     ensures sent { out_passed producer.new
-        ≡ out_passed producer.old ++ carry_cells carry place.now }
+        ≡ out_passed producer.old ++ hand_cells carry (out_hand producer.old) }
     ensures same { SameOut producer.old producer.new }
     ensures quiet { out_misses producer.new ≡ out_misses producer.old }
 {
     match carry {
         CarrySign::Nothing => {}
-        CarrySign::Good => producer.push(Cell::Good(*place)),
-        CarrySign::Fail => producer.push(Cell::Fail),
-        CarrySign::End => producer.push(Cell::End),
+        CarrySign::Good | CarrySign::Fail | CarrySign::End => producer.push_hand(),
     }
 }
 
-// A place for a container.
-fn blank() -> Container {
-    Container {
-        h4: 0,
-        payload: [0; PAYLOAD],
+/// The sign of the cell that a carry gave, if it gave one.
+fn sign_of(carry: CarrySign) -> CellSign
+    ensures { (place : Container) → hand_cells carry (cell_with result place)
+        ≡ carry_cells carry place }
+{
+    match carry {
+        CarrySign::Good => CellSign::Good,
+        CarrySign::End => CellSign::End,
+        CarrySign::Fail | CarrySign::Nothing => CellSign::Fail,
     }
 }

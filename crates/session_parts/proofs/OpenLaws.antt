@@ -6,8 +6,8 @@ use Rattle.vc_cell.specs.declared.Cell.{Cell}
 use Rattle.session_model.specs.declared.window.Window.{Window}
 use Rattle.session_model.specs.declared.script.Config.{Config}
 use Rattle.line_core.specs.Line.{Line, opened, Stands}
-use Rattle.member_ring.specs.declared.ends.RingOut.{RingOut}
-use Rattle.member_ring.specs.declared.ends.RingIn.{RingIn}
+use Rattle.member_ring.specs.Ends.{OutEnd}
+use Rattle.member_ring.specs.Ends.{InEnd}
 use Rattle.member_ring.specs.Ends.{out_passed, in_passed, AreEnds}
 use Rattle.member_ring.specs.Calls.{IsOpened}
 use Rattle.member_ring.specs.declared.worker.LineWorker.{LineWorker}
@@ -55,9 +55,9 @@ none-opened config = record {
   receives = λ m worker into there. absurd cc;
 }
 
-pub opened-more : (config : Config) (n : ℕ) (tx : List (RingOut Container)) (workers : List LineWorker)
-    (rx : List (RingIn Cell))
-    (out : RingOut Container) (worker : LineWorker) (into : RingIn Cell) → AreOpened config n tx workers rx →
+pub opened-more : (config : Config) (n : ℕ) (tx : List (OutEnd Container)) (workers : List LineWorker)
+    (rx : List (InEnd Cell))
+    (out : OutEnd Container) (worker : LineWorker) (into : InEnd Cell) → AreOpened config n tx workers rx →
     out_passed out ≡ [] → in_passed into ≡ [] → out_passed worker.producer ≡ [] →
     IsLineOf config n worker → AreEnds out worker.consumer → AreEnds worker.producer into →
     AreOpened config (n + 1) (tx ++ out ∷ []) (workers ++ worker ∷ []) (rx ++ into ∷ [])
@@ -89,7 +89,7 @@ opened-more config n tx workers rx out worker into are unused fresh quiet line s
     ]
     | inr (at, is) ↦ elim (get-last workers worker m other here) [
       | inl before' ↦ absurd (beyond workers m n other before' (at ∙ are.tx_count) are.workers_count)
-      | inr (at', is') ↦ subst (λ (a : RingOut Container). AreEnds a other.consumer) (sym is)
+      | inr (at', is') ↦ subst (λ (a : OutEnd Container). AreEnds a other.consumer) (sym is)
           (subst (λ (b : LineWorker). AreEnds out b.consumer) (sym is') send)
     ]
   ];
@@ -101,7 +101,7 @@ opened-more config n tx workers rx out worker into are unused fresh quiet line s
     | inr (at, is) ↦ elim (get-last rx into m other here) [
       | inl before' ↦ absurd (beyond rx m n other before' (at ∙ are.workers_count) are.rx_count)
       | inr (at', is') ↦ subst (λ (a : LineWorker). AreEnds a.producer other) (sym is)
-          (subst (λ (b : RingIn Cell). AreEnds worker.producer b) (sym is') receive)
+          (subst (λ (b : InEnd Cell). AreEnds worker.producer b) (sym is') receive)
     ]
   ];
 }

@@ -34,8 +34,8 @@ use Rattle.walk_law.proofs.ReturnLaws.{packet-is}
 use Rattle.sink_core.specs.Given.{given_frames}
 use Rattle.sink_core.proofs.SessionLaws.{session-frames}
 use Rattle.sink_worker.specs.Received.{received, backs}
-use Rattle.member_ring.specs.declared.ends.RingOut.{RingOut}
-use Rattle.member_ring.specs.declared.ends.RingIn.{RingIn}
+use Rattle.member_ring.specs.Ends.{OutEnd}
+use Rattle.member_ring.specs.Ends.{InEnd}
 use Rattle.member_ring.specs.Ends.{out_passed, in_passed, in_items}
 use Rattle.member_ring.specs.declared.worker.LineWorker.{LineWorker}
 use Rattle.session_parts.specs.Session.{IsGathered, session_backs}
@@ -47,8 +47,8 @@ some-of f (Some x) y e = (x, refl, (let h : Some (f x) ≡ Some y = e in cc))
 some-of f None y e = absurd cc
 
 -- ---- the lines, where the source was told some return cells
-module _ (script : Script) (returns : List (Option Told)) (tx : List (RingOut Container)) (workers : List LineWorker)
-    (rx : List (RingIn Cell))
+module _ (script : Script) (returns : List (Option Told)) (tx : List (OutEnd Container)) (workers : List LineWorker)
+    (rx : List (InEnd Cell))
     (gathered : IsGathered script returns tx workers rx) where
   made : ℕ → List Container
   made m = containers_of (scenario_of script) returns m script.config.ticks

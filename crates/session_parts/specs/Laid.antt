@@ -3,8 +3,8 @@ use Rattle.std.specs.Prelude.{◌≡◌, ℕ, ◌<◌, ◌≤◌, List, ◌++◌
 use Rattle.vc_cell.specs.declared.Container.{Container}
 use Rattle.vc_cell.specs.declared.Cell.{Cell}
 use Rattle.vc_cell.specs.declared.Cell.TheVariants.{End}
-use Rattle.member_ring.specs.declared.ends.RingOut.{RingOut}
-use Rattle.member_ring.specs.declared.ends.RingIn.{RingIn}
+use Rattle.member_ring.specs.Ends.{OutEnd}
+use Rattle.member_ring.specs.Ends.{InEnd}
 use Rattle.member_ring.specs.Ends.{out_passed, in_passed, in_items, AreEnds, SameOut, SameIn}
 use Rattle.member_ring.specs.declared.worker.LineWorker.{LineWorker}
 use Rattle.watched_line.specs.declared.served.ServedLine.{ServedLine}
@@ -21,20 +21,20 @@ AreServedDone lines = (m : ℕ) (line : ServedLine) → slice_get lines m ≡ So
     Contains (out_passed (worker_of line).producer) End
 
 -- ---- ends of the same rings, by line
-abbrev pub AreSendEnds : List (RingOut Container) → List LineWorker → Type 0
+abbrev pub AreSendEnds : List (OutEnd Container) → List LineWorker → Type 0
 AreSendEnds tx workers =
-    (m : ℕ) (out : RingOut Container) (worker : LineWorker) → slice_get tx m ≡ Some out →
+    (m : ℕ) (out : OutEnd Container) (worker : LineWorker) → slice_get tx m ≡ Some out →
     slice_get workers m ≡ Some worker → AreEnds out worker.consumer
 
-abbrev pub AreReceiveEnds : List LineWorker → List (RingIn Cell) → Type 0
+abbrev pub AreReceiveEnds : List LineWorker → List (InEnd Cell) → Type 0
 AreReceiveEnds workers rx =
-    (m : ℕ) (worker : LineWorker) (into : RingIn Cell) → slice_get workers m ≡ Some worker →
+    (m : ℕ) (worker : LineWorker) (into : InEnd Cell) → slice_get workers m ≡ Some worker →
     slice_get rx m ≡ Some into → AreEnds worker.producer into
 
 -- ---- a look at two ends that lie beside each other: they are ends of one ring, what has passed stays, and what was
 -- pushed is what was
 -- popped and what is still there
-pub record IsSendLaid (out : RingOut Container) (worker : LineWorker) (out' : RingOut Container)
+pub record IsSendLaid (out : OutEnd Container) (worker : LineWorker) (out' : OutEnd Container)
     (worker' : LineWorker) : Type 0 where
   pub ends : AreEnds out' worker'.consumer
   pub fifo : in_passed worker'.consumer ++ in_items worker'.consumer ≡ out_passed out'
@@ -45,8 +45,8 @@ pub record IsSendLaid (out : RingOut Container) (worker : LineWorker) (out' : Ri
   pub core : worker'.core ≡ worker.core
   pub producer : worker'.producer ≡ worker.producer
 
-pub record IsReceiveLaid (worker : LineWorker) (into : RingIn Cell) (worker' : LineWorker)
-    (into' : RingIn Cell) : Type 0 where
+pub record IsReceiveLaid (worker : LineWorker) (into : InEnd Cell) (worker' : LineWorker)
+    (into' : InEnd Cell) : Type 0 where
   pub ends : AreEnds worker'.producer into'
   pub fifo : in_passed into' ++ in_items into' ≡ out_passed worker'.producer
   pub pushed : out_passed worker'.producer ≡ out_passed worker.producer
@@ -67,9 +67,9 @@ pub record PairsBelow {A B : Type 0} (R : A → B → A → B → Type 0) (n : �
   pub second_rest : (m : ℕ) → n ≤ m → slice_get bs' m ≡ slice_get bs m
 
 -- and with all
-abbrev pub AreSendsLaid : List (RingOut Container) → List LineWorker → List (RingOut Container) → List LineWorker →
+abbrev pub AreSendsLaid : List (OutEnd Container) → List LineWorker → List (OutEnd Container) → List LineWorker →
     Type 0
 AreSendsLaid tx workers tx' workers' = PairsBelow IsSendLaid (length workers) tx workers tx' workers'
 
-abbrev pub AreReceivesLaid : List LineWorker → List (RingIn Cell) → List LineWorker → List (RingIn Cell) → Type 0
+abbrev pub AreReceivesLaid : List LineWorker → List (InEnd Cell) → List LineWorker → List (InEnd Cell) → Type 0
 AreReceivesLaid workers rx workers' rx' = PairsBelow IsReceiveLaid (length workers) workers rx workers' rx'

@@ -3,8 +3,8 @@ use Rattle.std.specs.Prelude.{◌≡◌, ℕ, List, [], length, slice_get, slice
 use Rattle.vc_cell.specs.declared.Container.{Container}
 use Rattle.vc_cell.specs.declared.Cell.{Cell}
 use Rattle.session_model.specs.declared.script.Config.{Config}
-use Rattle.member_ring.specs.declared.ends.RingOut.{RingOut}
-use Rattle.member_ring.specs.declared.ends.RingIn.{RingIn}
+use Rattle.member_ring.specs.Ends.{OutEnd}
+use Rattle.member_ring.specs.Ends.{InEnd}
 use Rattle.member_ring.specs.Ends.{out_passed, in_passed}
 use Rattle.member_ring.specs.declared.worker.LineWorker.{LineWorker}
 use Rattle.member_ring.specs.Worker.{number_of, delay_of, windows_of, total_of}
@@ -18,13 +18,13 @@ pub record IsLineOf (config : Config) (m : ℕ) (worker : LineWorker) : Type 0 w
   pub total : total_of worker ≡ config.ticks
 
 -- the workers of the first lines, between a send ring and a receive ring each, through which nothing has passed
-pub record AreOpened (config : Config) (n : ℕ) (tx : List (RingOut Container)) (workers : List LineWorker)
-    (rx : List (RingIn Cell)) : Type 0 where
+pub record AreOpened (config : Config) (n : ℕ) (tx : List (OutEnd Container)) (workers : List LineWorker)
+    (rx : List (InEnd Cell)) : Type 0 where
   pub tx_count : length tx ≡ n
   pub workers_count : length workers ≡ n
   pub rx_count : length rx ≡ n
-  pub unused : (m : ℕ) (out : RingOut Container) → slice_get tx m ≡ Some out → out_passed out ≡ []
-  pub fresh : (m : ℕ) (into : RingIn Cell) → slice_get rx m ≡ Some into → in_passed into ≡ []
+  pub unused : (m : ℕ) (out : OutEnd Container) → slice_get tx m ≡ Some out → out_passed out ≡ []
+  pub fresh : (m : ℕ) (into : InEnd Cell) → slice_get rx m ≡ Some into → in_passed into ≡ []
   pub silent : (m : ℕ) (worker : LineWorker) → slice_get workers m ≡ Some worker → out_passed worker.producer ≡ []
   pub lines : (m : ℕ) (worker : LineWorker) → slice_get workers m ≡ Some worker → IsLineOf config m worker
   pub sends : AreSendEnds tx workers

@@ -15,8 +15,8 @@ use Rattle.line_law.specs.StableRows.{AreDecidedAt}
 use Rattle.walk_law.specs.Walk.{sent_on}
 use Rattle.walk_law.specs.Rings.{line_cells, said_packet}
 use Rattle.walk_law.specs.Delivered.{delivered_of}
-use Rattle.member_ring.specs.declared.ends.RingOut.{RingOut}
-use Rattle.member_ring.specs.declared.ends.RingIn.{RingIn}
+use Rattle.member_ring.specs.Ends.{OutEnd}
+use Rattle.member_ring.specs.Ends.{InEnd}
 use Rattle.member_ring.specs.Ends.{out_passed, in_passed, in_items, AreEnds}
 use Rattle.member_ring.specs.declared.worker.LineWorker.{LineWorker}
 use Rattle.sink_worker.specs.declared.worker.SinkWorker.{SinkWorker}
@@ -26,19 +26,19 @@ use Rattle.session_parts.specs.Opened.{IsLineOf}
 
 -- ---- what the ends of all rings say once they were laid beside each other, where the source was told these return
 -- cells
-pub record IsGathered (script : Script) (returns : List (Option Told)) (tx : List (RingOut Container))
-    (workers : List LineWorker) (rx : List (RingIn Cell)) : Type 0 where
+pub record IsGathered (script : Script) (returns : List (Option Told)) (tx : List (OutEnd Container))
+    (workers : List LineWorker) (rx : List (InEnd Cell)) : Type 0 where
   pub tx_count : length tx ≡ script.config.lines
   pub workers_count : length workers ≡ script.config.lines
   pub rx_count : length rx ≡ script.config.lines
-  pub sent : (m : ℕ) (out : RingOut Container) → slice_get tx m ≡ Some out →
+  pub sent : (m : ℕ) (out : OutEnd Container) → slice_get tx m ≡ Some out →
       out_passed out ≡ containers_of (scenario_of script) returns m script.config.ticks
   pub lines : (m : ℕ) (worker : LineWorker) → slice_get workers m ≡ Some worker → IsLineOf script.config m worker
   pub done : AreDone workers
-  pub sends : (m : ℕ) (out : RingOut Container) (worker : LineWorker) → slice_get tx m ≡ Some out →
+  pub sends : (m : ℕ) (out : OutEnd Container) (worker : LineWorker) → slice_get tx m ≡ Some out →
       slice_get workers m ≡ Some worker →
       in_passed worker.consumer ++ in_items worker.consumer ≡ out_passed out
-  pub receives : (m : ℕ) (worker : LineWorker) (into : RingIn Cell) → slice_get workers m ≡ Some worker →
+  pub receives : (m : ℕ) (worker : LineWorker) (into : InEnd Cell) → slice_get workers m ≡ Some worker →
       slice_get rx m ≡ Some into →
       in_passed into ++ in_items into ≡ out_passed worker.producer
 
@@ -58,16 +58,16 @@ pub record IsLineEnded (script : Script) (m : ℕ) (worker : LineWorker) : Type 
 -- lines, in their order; what the sink received decides all
 -- rows, and what it didn't take of the cells is still there; it sent the session's return cells, and took all rows and
 -- their frames
-pub record IsEnded (script : Script) (tx : List (RingOut Container)) (back : RingIn BackCell)
+pub record IsEnded (script : Script) (tx : List (OutEnd Container)) (back : InEnd BackCell)
     (workers : List LineWorker) (sink : SinkWorker) : Type 0 where
   pub count : length workers ≡ script.config.lines
   pub send_ends : AreSendEnds tx workers
   pub receive_ends : AreReceiveEnds workers sink.rx.items
   pub return_ends : AreEnds sink.back back
-  pub sends : (m : ℕ) (out : RingOut Container) → slice_get tx m ≡ Some out →
+  pub sends : (m : ℕ) (out : OutEnd Container) → slice_get tx m ≡ Some out →
       out_passed out ≡ sent_on (scenario_of script) m
   pub lines : (m : ℕ) (worker : LineWorker) → slice_get workers m ≡ Some worker → IsLineEnded script m worker
-  pub cells : (m : ℕ) (into : RingIn Cell) → slice_get sink.rx.items m ≡ Some into →
+  pub cells : (m : ℕ) (into : InEnd Cell) → slice_get sink.rx.items m ≡ Some into →
       in_passed into ++ in_items into ≡ line_cells (leg_of script) m
   pub decided : (t : ℕ) → t < script.config.ticks → AreDecidedAt (cells_of sink) t
   pub backs : out_passed sink.back ≡ session_backs script

@@ -16,8 +16,8 @@ ghost use Rattle.walk_law.specs.Rings.{delay_on};
 ghost use Rattle.walk_law.specs.Delivered.{delivered_of};
 ghost use Rattle.sink_core.specs.Given.{given_frames};
 ghost use Rattle.sink_worker.specs.Received.{received, backs};
-ghost use Rattle.member_ring.specs.declared.ends.RingOut.{RingOut};
-ghost use Rattle.member_ring.specs.declared.ends.RingIn.{RingIn};
+ghost use Rattle.member_ring.specs.Ends.{OutEnd};
+ghost use Rattle.member_ring.specs.Ends.{InEnd};
 ghost use Rattle.member_ring.specs.Ends.{out_passed, in_passed};
 ghost use Rattle.member_ring.specs.declared.worker.LineWorker.{LineWorker};
 ghost use Rattle.session_parts.specs.Session.{IsGathered, session_backs};
@@ -25,15 +25,15 @@ ghost use Rattle.session_parts.specs.Session.{IsGathered, session_backs};
 /// Each line that has come to its end received all that was made for it and sent the cells of its path, and
 /// what the sink popped has come of it, whatever the source was told.
 pub fn gathered_law()
-    ensures lines { (script : Script) (returns : List (Option Told)) (tx : List (RingOut Container))
-        (workers : List LineWorker) (rx : List (RingIn Cell)) →
+    ensures lines { (script : Script) (returns : List (Option Told)) (tx : List (OutEnd Container))
+        (workers : List LineWorker) (rx : List (InEnd Cell)) →
         IsGathered script returns tx workers rx → (m : ℕ) (worker : LineWorker) →
         slice_get workers m ≡ Some worker → (in_passed worker.consumer
         ≡ containers_of (scenario_of script) returns m script.config.ticks)
         × (out_passed worker.producer ≡ given (scenario_of script) returns m script.config.ticks
         (delay_on (leg_of script) m) (script.config.ticks + delay_on (leg_of script) m + 1)) }
-    ensures come { (script : Script) (returns : List (Option Told)) (tx : List (RingOut Container))
-        (workers : List LineWorker) (rx : List (RingIn Cell)) →
+    ensures come { (script : Script) (returns : List (Option Told)) (tx : List (OutEnd Container))
+        (workers : List LineWorker) (rx : List (InEnd Cell)) →
         IsGathered script returns tx workers rx →
         length script.config.windows ≡ script.config.lines →
         ComeOfLines (scenario_of script) returns script.config.ticks (received rx) }

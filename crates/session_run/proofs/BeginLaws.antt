@@ -16,8 +16,8 @@ use Rattle.session_model.specs.Leg.{leg_of}
 use Rattle.session_model.specs.Scenario.{Scenario, scenario_of, offers_of, orders_of}
 use Rattle.session_model.specs.Counts.{used_in}
 use Rattle.session_model.specs.Sent.{containers_of}
-use Rattle.member_ring.specs.declared.ends.RingOut.{RingOut}
-use Rattle.member_ring.specs.declared.ends.RingIn.{RingIn}
+use Rattle.member_ring.specs.Ends.{OutEnd}
+use Rattle.member_ring.specs.Ends.{InEnd}
 use Rattle.member_ring.specs.Ends.{in_passed, SameOut, SameIn}
 use Rattle.source_core.specs.Given.{IsFresh, Stands as HasMade}
 use Rattle.walk_law.specs.Landed.{Numbered, is_client, landed_from, landed_items, landed_scenario}
@@ -36,16 +36,16 @@ use Rattle.group_lock.proofs.EntryLaws.{all-kinds}
 some-is : {X : Type 0} (x y : X) → Some x ≡ Some y → x ≡ y
 some-is x y e = cc
 
-pub outs-self : {T : Type 0} (ends : List (RingOut T)) → SameOuts ends ends
+pub outs-self : {T : Type 0} (ends : List (OutEnd T)) → SameOuts ends ends
 outs-self ends = record {
   count = refl;
-  each = λ m old new was is. subst (SameOut old) (some-is old new (sym was ∙ is)) ((refl, refl, refl, refl), refl);
+  each = λ m old new was is. subst (SameOut old) (some-is old new (sym was ∙ is)) (refl, refl, refl);
 }
 
-pub ins-self : {T : Type 0} (ends : List (RingIn T)) → SameIns ends ends
+pub ins-self : {T : Type 0} (ends : List (InEnd T)) → SameIns ends ends
 ins-self ends = record {
   count = refl;
-  each = λ m old new was is. subst (SameIn old) (some-is old new (sym was ∙ is)) ((refl, refl, refl, refl), refl);
+  each = λ m old new was is. subst (SameIn old) (some-is old new (sym was ∙ is)) (refl, refl, refl);
 }
 
 -- ---- nothing has landed
@@ -117,7 +117,7 @@ module _ (script : Script) (g : GroupState) (of_script : IsOf (leg_of script) g)
 
 -- ---- what is opened
 module _ {E : Type 0} (script : Script) (valid : IsValid script) where
-  pub group-opened : (entries bytes : ℕ) (tx : Vec (RingOut Container)) (back : RingIn BackCell)
+  pub group-opened : (entries bytes : ℕ) (tx : Vec (OutEnd Container)) (back : InEnd BackCell)
       (r : Result GroupState E) → entries ≡ length script.items →
       bytes ≡ octets_in (offers_of script.items) → AreUnused tx.items →
       IfOk r (λ g. IsOf (leg_of script) g) → IfOk r (λ g. ticks_of g ≡ 0) →
@@ -131,7 +131,7 @@ module _ {E : Type 0} (script : Script) (valid : IsValid script) where
       bound-begins script g of_script ticks landed.0 landed.1 journal
       (room-begins script g of_script ticks landed.0 landed.1 journal (room.0 ∙ count) (room.1 ∙ size))
       (landed-begins script g of_script ticks landed.0 landed.1 journal refusals
-      (subst (λ (v : Vec (RingOut Container)). AreUnused v.items) (sym ends.0) unused)
+      (subst (λ (v : Vec (OutEnd Container)). AreUnused v.items) (sym ends.0) unused)
       valid.sound.network.windows_each made)
   group-opened entries bytes tx back (Err e) count size unused of_script ticks landed journal room refusals ends made =
       tt

@@ -6,8 +6,8 @@ use Rattle.vc_cell.specs.declared.Container.{Container}
 use Rattle.vc_cell.specs.declared.Cell.{Cell}
 use Rattle.line_core.specs.Line.{Line}
 use Rattle.line_law.proofs.ListLaws.{slice_get-inside}
-use Rattle.member_ring.specs.declared.ends.RingOut.{RingOut}
-use Rattle.member_ring.specs.declared.ends.RingIn.{RingIn}
+use Rattle.member_ring.specs.Ends.{OutEnd}
+use Rattle.member_ring.specs.Ends.{InEnd}
 use Rattle.member_ring.specs.Ends.{out_passed, in_passed, in_items, AreEnds}
 use Rattle.member_ring.specs.declared.worker.LineWorker.{LineWorker}
 use Rattle.realign_core.specs.Gather.{Gather, line_count}
@@ -25,8 +25,8 @@ use Rattle.session_parts.specs.Laid.{AreReceiveEnds}
 use Rattle.session_run.specs.Beside.{HasLookedLine}
 
 -- ends that have passed the same, by place
-same-passed : (a b : List (RingIn Cell)) → length b ≡ length a →
-    ((m : ℕ) (old new : RingIn Cell) → slice_get a m ≡ Some old → slice_get b m ≡ Some new →
+same-passed : (a b : List (InEnd Cell)) → length b ≡ length a →
+    ((m : ℕ) (old new : InEnd Cell) → slice_get a m ≡ Some old → slice_get b m ≡ Some new →
     in_passed new ≡ in_passed old) →
     map in_passed b ≡ map in_passed a
 same-passed [] [] count each = refl
@@ -38,7 +38,7 @@ same-passed (x ∷ xs) (y ∷ ys) count each =
     (same-passed xs ys (omega (arith, count)) (λ m old new was is. each (suc m) old new was is))
 
 -- the receive rings, where the send rings were laid beside each other
-pub mid-receives : (tx tx' : List (RingOut Container)) (workers mid : List LineWorker) (rx : List (RingIn Cell)) →
+pub mid-receives : (tx tx' : List (OutEnd Container)) (workers mid : List LineWorker) (rx : List (InEnd Cell)) →
     AreSendsLaid tx workers tx' mid → length tx ≡ length workers →
     AreReceiveEnds workers rx → AreReceiveEnds mid rx
 mid-receives tx tx' workers mid rx sends count ends m other into is at =
@@ -48,7 +48,7 @@ mid-receives tx tx' workers mid rx sends count ends m other into is at =
     let (out, there) = slice_get-inside tx m (omega (arith, low, count)) in
     let (out', there') = slice_get-inside tx' m (omega (arith, low, count, sends.first_count)) in
     let laid = sends.each m out worker out' other low there was there' is in
-    subst (λ (producer : RingOut Cell). AreEnds producer into) (sym laid.producer) (ends m worker into was at)
+    subst (λ (producer : OutEnd Cell). AreEnds producer into) (sym laid.producer) (ends m worker into was at)
 
 -- a sink whose ends have passed the same stands as it stood
 pub stands-laid : (a b : SinkWorker) → b.rows ≡ a.rows → b.core ≡ a.core → got_of b ≡ got_of a →
@@ -71,7 +71,7 @@ stands-laid a b rows core got count cells back stands =
           ∙ sym (ap (λ (own : Core). count_of (given_frames own.size (cells_of b) own.taken)) core);
     }
 
-module _ (tx tx' : List (RingOut Container)) (workers mid workers' : List LineWorker) (rx rx' : List (RingIn Cell))
+module _ (tx tx' : List (OutEnd Container)) (workers mid workers' : List LineWorker) (rx rx' : List (InEnd Cell))
     (sends : AreSendsLaid tx workers tx' mid) (receives : AreReceivesLaid mid rx workers' rx')
     (tx_count : length tx ≡ length workers) (rx_count : length rx ≡ length workers) where
   laid-count : length workers' ≡ length workers
@@ -80,7 +80,7 @@ module _ (tx tx' : List (RingOut Container)) (workers mid workers' : List LineWo
   -- line m before, and what was laid of it
   send-at : (m : ℕ) (old : LineWorker) (other : LineWorker) → slice_get workers m ≡ Some old →
       slice_get mid m ≡ Some other →
-      (out : RingOut Container) × (out' : RingOut Container) × (slice_get tx m ≡ Some out) ×
+      (out : OutEnd Container) × (out' : OutEnd Container) × (slice_get tx m ≡ Some out) ×
       (slice_get tx' m ≡ Some out') × IsSendLaid out old out' other
   send-at m old other was is =
       let inside = slice_get_within workers m old was in
@@ -89,7 +89,7 @@ module _ (tx tx' : List (RingOut Container)) (workers mid workers' : List LineWo
       (out, out', there, there', sends.each m out old out' other inside there was there' is)
 
   receive-at : (m : ℕ) (other new : LineWorker) → slice_get mid m ≡ Some other → slice_get workers' m ≡ Some new →
-      (into : RingIn Cell) × (into' : RingIn Cell) × (slice_get rx m ≡ Some into) × (slice_get rx' m ≡ Some into') ×
+      (into : InEnd Cell) × (into' : InEnd Cell) × (slice_get rx m ≡ Some into) × (slice_get rx' m ≡ Some into') ×
       IsReceiveLaid other into new into'
   receive-at m other new was is =
       let inside = slice_get_within mid m other was in
@@ -120,7 +120,7 @@ module _ (tx tx' : List (RingOut Container)) (workers mid workers' : List LineWo
         pushed = got.pushed ∙ ap (out_passed {T = Cell}) sent.producer;
       }
 
-  sends-laid : (m : ℕ) (out : RingOut Container) (worker : LineWorker) → slice_get tx' m ≡ Some out →
+  sends-laid : (m : ℕ) (out : OutEnd Container) (worker : LineWorker) → slice_get tx' m ≡ Some out →
       slice_get workers' m ≡ Some worker →
       in_passed worker.consumer ++ in_items worker.consumer ≡ out_passed out
   sends-laid m out worker at there =
@@ -130,10 +130,10 @@ module _ (tx tx' : List (RingOut Container)) (workers mid workers' : List LineWo
       let (first, last, on, on', sent) = send-at m old other was mid_there in
       let (into, into', to, to', got) = receive-at m other worker mid_there there in
       let same : last ≡ out = (let e : Some last ≡ Some out = sym on' ∙ at in cc) in
-      ap (λ (end : RingIn Container). in_passed end ++ in_items end) got.consumer ∙ sent.fifo
+      ap (λ (end : InEnd Container). in_passed end ++ in_items end) got.consumer ∙ sent.fifo
       ∙ ap (out_passed {T = Container}) same
 
-  receives-laid : (m : ℕ) (worker : LineWorker) (into : RingIn Cell) → slice_get workers' m ≡ Some worker →
+  receives-laid : (m : ℕ) (worker : LineWorker) (into : InEnd Cell) → slice_get workers' m ≡ Some worker →
       slice_get rx' m ≡ Some into →
       in_passed into ++ in_items into ≡ out_passed worker.producer
   receives-laid m worker into there at =
@@ -141,7 +141,7 @@ module _ (tx tx' : List (RingOut Container)) (workers mid workers' : List LineWo
       let (other, mid_there) = mid-at m (omega (arith, inside, laid-count)) in
       let (first, last, on, on', got) = receive-at m other worker mid_there there in
       let same : into ≡ last = (let e : Some into ≡ Some last = sym at ∙ on' in cc) in
-      ap (λ (end : RingIn Cell). in_passed end ++ in_items end) same ∙ got.fifo
+      ap (λ (end : InEnd Cell). in_passed end ++ in_items end) same ∙ got.fifo
 
   send-ends-laid : AreSendEnds tx' workers'
   send-ends-laid m out worker at there =
@@ -151,8 +151,8 @@ module _ (tx tx' : List (RingOut Container)) (workers mid workers' : List LineWo
       let (first, last, on, on', sent) = send-at m old other was mid_there in
       let (into, into', to, to', got) = receive-at m other worker mid_there there in
       let same : last ≡ out = (let e : Some last ≡ Some out = sym on' ∙ at in cc) in
-      subst (λ (end : RingIn Container). AreEnds out end) (sym got.consumer)
-      (subst (λ (end : RingOut Container). AreEnds end other.consumer) same sent.ends)
+      subst (λ (end : InEnd Container). AreEnds out end) (sym got.consumer)
+      (subst (λ (end : OutEnd Container). AreEnds end other.consumer) same sent.ends)
 
   receive-ends-laid : AreReceiveEnds workers' rx'
   receive-ends-laid m worker into there at =
@@ -160,7 +160,7 @@ module _ (tx tx' : List (RingOut Container)) (workers mid workers' : List LineWo
       let (other, mid_there) = mid-at m (omega (arith, inside, laid-count)) in
       let (first, last, on, on', got) = receive-at m other worker mid_there there in
       let same : into ≡ last = (let e : Some into ≡ Some last = sym at ∙ on' in cc) in
-      subst (λ (end : RingIn Cell). AreEnds worker.producer end) (sym same) got.ends
+      subst (λ (end : InEnd Cell). AreEnds worker.producer end) (sym same) got.ends
 
   received-laid : received rx' ≡ received rx
   received-laid =
@@ -172,7 +172,7 @@ module _ (tx tx' : List (RingOut Container)) (workers mid workers' : List LineWo
       (receives.each m other old worker new (slice_get_within mid m other there) there was there' is).popped)
 
   -- a send ring, before and after
-  laid-at : (m : ℕ) (old new : RingOut Container) → slice_get tx m ≡ Some old → slice_get tx' m ≡ Some new →
+  laid-at : (m : ℕ) (old new : OutEnd Container) → slice_get tx m ≡ Some old → slice_get tx' m ≡ Some new →
       (worker : LineWorker) × (other : LineWorker) × IsSendLaid old worker new other
   laid-at m old new was is =
       let inside = slice_get_within tx m old was in
@@ -191,15 +191,15 @@ module _ (tx tx' : List (RingOut Container)) (workers mid workers' : List LineWo
   }
 
 -- ---- all of that
-pub record AreRingsLaid (tx tx' : List (RingOut Container)) (workers workers' : List LineWorker)
-    (rx rx' : List (RingIn Cell)) : Type 0 where
+pub record AreRingsLaid (tx tx' : List (OutEnd Container)) (workers workers' : List LineWorker)
+    (rx rx' : List (InEnd Cell)) : Type 0 where
   pub count : length workers' ≡ length workers
   pub lines : (m : ℕ) (old new : LineWorker) → slice_get workers m ≡ Some old → slice_get workers' m ≡ Some new →
       HasLookedLine old new
-  pub sends : (m : ℕ) (out : RingOut Container) (worker : LineWorker) → slice_get tx' m ≡ Some out →
+  pub sends : (m : ℕ) (out : OutEnd Container) (worker : LineWorker) → slice_get tx' m ≡ Some out →
       slice_get workers' m ≡ Some worker →
       in_passed worker.consumer ++ in_items worker.consumer ≡ out_passed out
-  pub receives : (m : ℕ) (worker : LineWorker) (into : RingIn Cell) → slice_get workers' m ≡ Some worker →
+  pub receives : (m : ℕ) (worker : LineWorker) (into : InEnd Cell) → slice_get workers' m ≡ Some worker →
       slice_get rx' m ≡ Some into →
       in_passed into ++ in_items into ≡ out_passed worker.producer
   pub send_ends : AreSendEnds tx' workers'
@@ -207,8 +207,8 @@ pub record AreRingsLaid (tx tx' : List (RingOut Container)) (workers workers' : 
   pub cells : received rx' ≡ received rx
   pub still : AreStill tx tx'
 
-pub rings-laid : (tx tx' : List (RingOut Container)) (workers mid workers' : List LineWorker)
-    (rx rx' : List (RingIn Cell)) → AreSendsLaid tx workers tx' mid → AreReceivesLaid mid rx workers' rx' →
+pub rings-laid : (tx tx' : List (OutEnd Container)) (workers mid workers' : List LineWorker)
+    (rx rx' : List (InEnd Cell)) → AreSendsLaid tx workers tx' mid → AreReceivesLaid mid rx workers' rx' →
     length tx ≡ length workers → length rx ≡ length workers → AreRingsLaid tx tx' workers workers' rx rx'
 rings-laid tx tx' workers mid workers' rx rx' sends receives tx_count rx_count = record {
   count = laid-count tx tx' workers mid workers' rx rx' sends receives tx_count rx_count;

@@ -4,7 +4,7 @@ use Rattle.std.proofs.Common.{refl, sym, ◌∙◌, ap, subst, arith}
 use Rattle.std.specs.Global.{Vec}
 use Rattle.std.specs.Vec.{vec_capacity}
 use Rattle.vc_cell.specs.declared.Cell.{Cell}
-use Rattle.member_ring.specs.declared.ends.RingIn.{RingIn}
+use Rattle.member_ring.specs.Ends.{InEnd}
 use Rattle.member_ring.specs.Ends.{in_passed}
 use Rattle.sink_worker.specs.Received.{received}
 use Rattle.watched_line.specs.declared.served.ServedLine.{ServedLine}
@@ -23,8 +23,8 @@ room-more most shares next room empty has w share there = elim (get-last shares 
 ]
 
 -- ---- rings through which nothing has passed
-pub none-received : (n : ℕ) (rx : List (RingIn Cell)) → length rx ≡ n →
-    ((m : ℕ) (into : RingIn Cell) → slice_get rx m ≡ Some into → in_passed into ≡ []) →
+pub none-received : (n : ℕ) (rx : List (InEnd Cell)) → length rx ≡ n →
+    ((m : ℕ) (into : InEnd Cell) → slice_get rx m ≡ Some into → in_passed into ≡ []) →
     received rx ≡ replicate n []
 none-received zero [] size fresh = refl
 none-received zero (x ∷ rx) size fresh = absurd (omega (arith, size))

@@ -13,8 +13,8 @@ use Rattle.line_law.proofs.ListLaws.{slice_get-inside}
 use Rattle.session_model.specs.declared.script.Script.{Script}
 use Rattle.session_model.specs.Leg.{leg_of}
 use Rattle.report_text.specs.Report.{got_texts}
-use Rattle.member_ring.specs.declared.ends.RingOut.{RingOut}
-use Rattle.member_ring.specs.declared.ends.RingIn.{RingIn}
+use Rattle.member_ring.specs.Ends.{OutEnd}
+use Rattle.member_ring.specs.Ends.{InEnd}
 use Rattle.member_ring.specs.Ends.{AreEnds}
 use Rattle.member_ring.specs.declared.worker.LineWorker.{LineWorker}
 use Rattle.member_ring.specs.Worker.{IsLater}
@@ -41,7 +41,7 @@ use Rattle.session_run.specs.Beside.{AreLaid, IsSessionOf}
 use Rattle.session_run.specs.Session.{IsSinkOf, IsOpen, HasComeToEnd}
 
 -- the members of a session are its script, and the ends of its group as they were made
-pub bound-own : (named : Script) (tx : List (RingOut Container)) (back : List (RingIn BackCell)) (script : Script)
+pub bound-own : (named : Script) (tx : List (OutEnd Container)) (back : List (InEnd BackCell)) (script : Script)
     (first group : GroupState) → IsSessionOf named tx back script first →
     IsBound (leg_of named) tx back group → IsBound (leg_of script) first.tx.items (first.back ∷ []) group
 bound-own named tx back script first group is bound =

@@ -16,8 +16,8 @@ use Rattle.session_model.specs.Damage.{AreWindows}
 use Rattle.session_model.specs.Valid.{IsNetwork}
 use Rattle.member_ring.specs.Ends.{out_passed}
 use Rattle.member_ring.specs.declared.worker.LineWorker.{LineWorker}
-use Rattle.member_ring.specs.declared.ends.RingOut.{RingOut}
-use Rattle.member_ring.specs.declared.ends.RingIn.{RingIn}
+use Rattle.member_ring.specs.Ends.{OutEnd}
+use Rattle.member_ring.specs.Ends.{InEnd}
 use Rattle.member_ring.specs.declared.alarm.Alarm.{Alarm}
 use Rattle.member_ring.specs.declared.alarm.AlarmKind.{AlarmKind}
 use Rattle.member_ring.specs.declared.alarm.AlarmKind.TheVariants.{Fails, Returns, Ends}
@@ -118,7 +118,7 @@ unfolding alarms_from
 none-raised m = refl
 
 pub watchable : (config : Config) → IsNetwork config →
-    (tx : List (RingOut Container)) (workers : List LineWorker) (rx : List (RingIn Cell)) →
+    (tx : List (OutEnd Container)) (workers : List LineWorker) (rx : List (InEnd Cell)) →
     AreOpened config config.lines tx workers rx →
     (log : AlarmLog) (posts : List AlarmPost) (n : ℕ) → IsMade log posts n 1024 513 → AreWatchable workers posts
 watchable config network tx workers rx opened log posts n made m worker post there here =

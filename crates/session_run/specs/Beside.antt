@@ -5,8 +5,8 @@ use Rattle.vc_cell.specs.declared.Cell.{Cell}
 use Rattle.vc_cell.specs.declared.BackCell.{BackCell}
 use Rattle.session_model.specs.declared.script.Script.{Script}
 use Rattle.session_model.specs.Leg.{leg_of}
-use Rattle.member_ring.specs.declared.ends.RingOut.{RingOut}
-use Rattle.member_ring.specs.declared.ends.RingIn.{RingIn}
+use Rattle.member_ring.specs.Ends.{OutEnd}
+use Rattle.member_ring.specs.Ends.{InEnd}
 use Rattle.member_ring.specs.Ends.{out_passed, in_passed, in_items, AreEnds}
 use Rattle.member_ring.specs.declared.worker.LineWorker.{LineWorker}
 use Rattle.member_ring.specs.Worker.{number_of, delay_of, windows_of, total_of}
@@ -18,7 +18,7 @@ use Rattle.group_lock.specs.Session.{IsBound}
 use Rattle.session_parts.specs.Laid.{AreSendEnds, AreReceiveEnds}
 
 -- the members of a session are this script, and the ends of this group's rings
-pub record IsSessionOf (of_script : Script) (tx : List (RingOut Container)) (back : List (RingIn BackCell))
+pub record IsSessionOf (of_script : Script) (tx : List (OutEnd Container)) (back : List (InEnd BackCell))
     (own : Script) (group : GroupState) : Type 0 where
   pub script : of_script ≡ own
   pub sends : tx ≡ group.tx.items
@@ -37,7 +37,7 @@ pub record HasLookedLine (old new : LineWorker) : Type 0 where
 -- has changed
 pub record AreLaid (group : GroupState) (lines : List LineWorker) (sink : SinkWorker) (group' : GroupState)
     (lines' : List LineWorker) (sink' : SinkWorker) : Type 0 where
-  pub landed : (script : Script) (tx : List (RingOut Container)) (back : List (RingIn BackCell)) →
+  pub landed : (script : Script) (tx : List (OutEnd Container)) (back : List (InEnd BackCell)) →
       IsBound (leg_of script) tx back group → IsBound (leg_of script) tx back group'
   pub ticks : ticks_of group' ≡ ticks_of group
   pub tx_count : length group'.tx.items ≡ length group.tx.items
@@ -48,10 +48,10 @@ pub record AreLaid (group : GroupState) (lines : List LineWorker) (sink : SinkWo
   pub send_ends : AreSendEnds group'.tx.items lines'
   pub receive_ends : AreReceiveEnds lines' sink'.rx.items
   pub return_ends : AreEnds sink'.back group'.back
-  pub sends : (m : ℕ) (out : RingOut Container) (worker : LineWorker) → slice_get group'.tx.items m ≡ Some out →
+  pub sends : (m : ℕ) (out : OutEnd Container) (worker : LineWorker) → slice_get group'.tx.items m ≡ Some out →
       slice_get lines' m ≡ Some worker →
       in_passed worker.consumer ++ in_items worker.consumer ≡ out_passed out
-  pub receives : (m : ℕ) (worker : LineWorker) (into : RingIn Cell) → slice_get lines' m ≡ Some worker →
+  pub receives : (m : ℕ) (worker : LineWorker) (into : InEnd Cell) → slice_get lines' m ≡ Some worker →
       slice_get sink'.rx.items m ≡ Some into →
       in_passed into ++ in_items into ≡ out_passed worker.producer
   pub returns : in_passed group'.back ++ in_items group'.back ≡ out_passed sink'.back

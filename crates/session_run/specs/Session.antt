@@ -6,8 +6,8 @@ use Rattle.session_model.specs.declared.script.Script.{Script}
 use Rattle.session_model.specs.Leg.{leg_of}
 use Rattle.session_model.specs.Scenario.{offers_of, orders_of}
 use Rattle.report_text.specs.declared.report.Totals.{Totals}
-use Rattle.member_ring.specs.declared.ends.RingOut.{RingOut}
-use Rattle.member_ring.specs.declared.ends.RingIn.{RingIn}
+use Rattle.member_ring.specs.Ends.{OutEnd}
+use Rattle.member_ring.specs.Ends.{InEnd}
 use Rattle.member_ring.specs.Ends.{out_passed, in_passed, in_items, AreEnds}
 use Rattle.member_ring.specs.declared.worker.LineWorker.{LineWorker}
 use Rattle.sink_worker.specs.declared.worker.SinkWorker.{SinkWorker}
@@ -61,10 +61,10 @@ pub record HasComeToEnd (script : Script) (group : GroupState) (workers : List L
   pub send_ends : AreSendEnds group.tx.items workers
   pub receive_ends : AreReceiveEnds workers sink.rx.items
   pub return_ends : AreEnds sink.back group.back
-  pub sends : (m : ℕ) (out : RingOut Container) (worker : LineWorker) → slice_get group.tx.items m ≡ Some out →
+  pub sends : (m : ℕ) (out : OutEnd Container) (worker : LineWorker) → slice_get group.tx.items m ≡ Some out →
       slice_get workers m ≡ Some worker →
       in_passed worker.consumer ++ in_items worker.consumer ≡ out_passed out
-  pub receives : (m : ℕ) (worker : LineWorker) (into : RingIn Cell) → slice_get workers m ≡ Some worker →
+  pub receives : (m : ℕ) (worker : LineWorker) (into : InEnd Cell) → slice_get workers m ≡ Some worker →
       slice_get sink.rx.items m ≡ Some into →
       in_passed into ++ in_items into ≡ out_passed worker.producer
   pub returns : in_passed group.back ++ in_items group.back ≡ out_passed sink.back

@@ -3,8 +3,8 @@ ghost use Rattle.std.specs.Prelude.{◌≡◌, ◌≤◌, [], ◌∷◌, ◌++�
 ghost use Rattle.vc_cell.specs.declared.Container.{Container};
 ghost use Rattle.vc_cell.specs.declared.BackCell.{BackCell};
 ghost use Rattle.session_model.specs.declared.script.Script.{Script};
-ghost use Rattle.member_ring.specs.declared.ends.RingOut.{RingOut};
-ghost use Rattle.member_ring.specs.declared.ends.RingIn.{RingIn};
+ghost use Rattle.member_ring.specs.Ends.{OutEnd};
+ghost use Rattle.member_ring.specs.Ends.{InEnd};
 ghost use Rattle.member_ring.specs.Ends.{AreEnds, out_passed, in_passed, in_items};
 ghost use Rattle.report_text.specs.Report.{got_texts};
 ghost use Rattle.sink_core.specs.Given.{given_frames};

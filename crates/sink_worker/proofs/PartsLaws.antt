@@ -14,8 +14,8 @@ use Rattle.line_law.specs.StableRows.{IsLonger, AreDecidedAt}
 use Rattle.line_law.proofs.ListLaws.{slice_get-inside}
 use Rattle.realign_core.specs.Gather.{Gather, with_cell}
 use Rattle.realign_core.specs.Gather.{Stands as Gathers}
-use Rattle.member_ring.specs.declared.ends.RingIn.{RingIn}
-use Rattle.member_ring.specs.declared.ends.RingOut.{RingOut}
+use Rattle.member_ring.specs.Ends.{InEnd}
+use Rattle.member_ring.specs.Ends.{OutEnd}
 use Rattle.member_ring.specs.Ends.{in_passed, SameIn}
 use Rattle.member_ring.proofs.EndLaws.{in-then, out-then}
 use Rattle.outside_io.specs.Start.{Start}
@@ -43,17 +43,17 @@ longer-then a b c s t = record {
 }
 
 -- ---- the same ends
-pub ends-refl : (a : List (RingIn Cell)) → AreSameIns a a
+pub ends-refl : (a : List (InEnd Cell)) → AreSameIns a a
 ends-refl a = record {
   count = refl;
   each =
-      λ m old new here then. subst (SameIn old) (some-is old new (sym here ∙ then)) ((refl, refl, refl, refl), refl);
+      λ m old new here then. subst (SameIn old) (some-is old new (sym here ∙ then)) (refl, refl, refl);
 }
   where
-    some-is : (x y : RingIn Cell) → Some x ≡ Some y → x ≡ y
+    some-is : (x y : InEnd Cell) → Some x ≡ Some y → x ≡ y
     some-is x y e = cc
 
-ends-then : (a b c : List (RingIn Cell)) → AreSameIns a b → AreSameIns b c → AreSameIns a c
+ends-then : (a b c : List (InEnd Cell)) → AreSameIns a b → AreSameIns b c → AreSameIns a c
 ends-then a b c s t = record {
   count = t.count ∙ s.count;
   each = λ m old new here last.
@@ -132,7 +132,7 @@ later-refl a = record {
   popped = omega arith;
   longer = longer-same (received a.rx) (received a.rx) refl;
   ends = ends-refl a.rx;
-  back = ((refl, refl, refl, refl), refl);
+  back = (refl, refl, refl);
 }
 
 pub later-then : (a b c : Parts) → Later a b → Later b c → Later a c
@@ -147,14 +147,14 @@ later-then a b c s t = record {
 }
 
 -- ---- a cell is popped
-pub popped-more : (was now : Gather) (rx after : List (RingIn Cell)) (line : ℕ) → TookCell rx after was now line →
+pub popped-more : (was now : Gather) (rx after : List (InEnd Cell)) (line : ℕ) → TookCell rx after was now line →
     line < length rx →
     popped (received after) ≡ popped (received rx) + 1
 popped-more was now rx after line took within =
     ap popped took.passed ∙ popped-with_cell (received rx) line took.cell
     (let size = length-map rx in_passed in omega (arith, size, within))
 
-pub later-cell : (was now : Gather) (core : Core) (rx after : List (RingIn Cell)) (back : RingOut BackCell) (line : ℕ) →
+pub later-cell : (was now : Gather) (core : Core) (rx after : List (InEnd Cell)) (back : OutEnd BackCell) (line : ℕ) →
     TookCell rx after was now line → line < length rx →
     AreSameIns rx after → Later (parts was core rx back) (parts now core after back)
 later-cell was now core rx after back line took within ends = record {
@@ -164,10 +164,10 @@ later-cell was now core rx after back line took within ends = record {
   popped = (let more = popped-more was now rx after line took within in omega (arith, more));
   longer = subst (IsLonger (received rx)) (sym took.passed) (with_cell-longer (received rx) line took.cell);
   ends = ends;
-  back = ((refl, refl, refl, refl), refl);
+  back = (refl, refl, refl);
 }
 
-pub keeps-cell : (was now : Gather) (core : Core) (rx after : List (RingIn Cell)) (back : RingOut BackCell) (line : ℕ) →
+pub keeps-cell : (was now : Gather) (core : Core) (rx after : List (InEnd Cell)) (back : OutEnd BackCell) (line : ℕ) →
     TookCell rx after was now line →
     AreSameIns rx after → Keeps (parts was core rx back) → Keeps (parts now core after back)
 keeps-cell was now core rx after back line took ends keeps =

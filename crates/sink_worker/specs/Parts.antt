@@ -10,8 +10,8 @@ use Rattle.realign_core.specs.Gather.{Stands as Gathers}
 use Rattle.outside_io.specs.Start.{Start}
 use Rattle.sink_core.specs.Core.{Core, Stands}
 use Rattle.sink_core.specs.Given.{added_frames}
-use Rattle.member_ring.specs.declared.ends.RingIn.{RingIn}
-use Rattle.member_ring.specs.declared.ends.RingOut.{RingOut}
+use Rattle.member_ring.specs.Ends.{InEnd}
+use Rattle.member_ring.specs.Ends.{OutEnd}
 use Rattle.member_ring.specs.Ends.{out_passed, out_free, out_misses, SameOut}
 use Rattle.sink_worker.specs.declared.burst.SinkBurst.{SinkBurst}
 use Rattle.sink_worker.specs.declared.burst.SinkBurst.TheVariants.{Moved, Idle, Done}
@@ -22,10 +22,10 @@ use Rattle.sink_worker.specs.Received.{received, popped, backs, AreSameIns, Miss
 pub record Parts : Type 0 where
   pub rows : Gather
   pub core : Core
-  pub rx : List (RingIn Cell)
-  pub back : RingOut BackCell
+  pub rx : List (InEnd Cell)
+  pub back : OutEnd BackCell
 
-abbrev pub parts : Gather → Core → List (RingIn Cell) → RingOut BackCell → Parts
+abbrev pub parts : Gather → Core → List (InEnd Cell) → OutEnd BackCell → Parts
 parts rows core rx back = record { rows = rows; core = core; rx = rx; back = back }
 
 -- the parts stand where the cells that were popped have brought them, and the return packets of the rows taken were
@@ -57,7 +57,7 @@ abbrev pub Rests : Parts → Parts → Type 0
 Rests a b = (b.core ≡ a.core) × (received b.rx ≡ received a.rx)
 
 -- a row makes a return packet, no slot for it was known to be free, and a look at the return ring missed
-pub record IsFull (t : ℕ) (old new : RingOut BackCell) : Type 0 where
+pub record IsFull (t : ℕ) (old new : OutEnd BackCell) : Type 0 where
   pub late : 22 < t
   pub last : t % 16 ≡ 7
   pub none : out_free old ≡ 0

@@ -6,12 +6,12 @@ use Rattle.vc_cell.specs.declared.BackCell.{BackCell}
 use Rattle.vc_cell.specs.declared.BackCell.TheVariants.{Packet as PacketCell}
 use Rattle.session_model.specs.declared.packet.Packet.{Packet}
 use Rattle.session_model.specs.Packet.{packet_nibbles}
-use Rattle.member_ring.specs.declared.ends.RingIn.{RingIn}
+use Rattle.member_ring.specs.Ends.{InEnd}
 use Rattle.member_ring.specs.Ends.{in_passed, in_items, in_misses, SameIn}
 use Rattle.sink_core.specs.Given.{back_at}
 
 -- the cells of each line that were popped
-abbrev pub received : List (RingIn Cell) → List (List Cell)
+abbrev pub received : List (InEnd Cell) → List (List Cell)
 received ends = map in_passed ends
 
 -- how many they are in all
@@ -30,14 +30,14 @@ backs cells zero = []
 backs cells (suc t) = backs cells t ++ back_cells (back_at cells t)
 
 -- the same ends of the same rings, at another moment
-pub record AreSameIns (a b : List (RingIn Cell)) : Type 0 where
+pub record AreSameIns (a b : List (InEnd Cell)) : Type 0 where
   pub count : length b ≡ length a
-  pub each : (m : ℕ) (old new : RingIn Cell) → slice_get a m ≡ Some old → slice_get b m ≡ Some new → SameIn old new
+  pub each : (m : ℕ) (old new : InEnd Cell) → slice_get a m ≡ Some old → slice_get b m ≡ Some new → SameIn old new
 
 -- no cell of a line was known to be there, and a look at its ring missed
-pub record Missed (a b : List (RingIn Cell)) (line : ℕ) : Type 0 where
-  pub before : RingIn Cell
-  pub after : RingIn Cell
+pub record Missed (a b : List (InEnd Cell)) (line : ℕ) : Type 0 where
+  pub before : InEnd Cell
+  pub after : InEnd Cell
   pub was : slice_get a line ≡ Some before
   pub is : slice_get b line ≡ Some after
   pub none : in_items before ≡ []

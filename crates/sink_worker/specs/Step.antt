@@ -4,7 +4,7 @@ use Rattle.vc_cell.specs.declared.Cell.{Cell}
 use Rattle.session_model.specs.declared.packet.Packet.{Packet}
 use Rattle.realign_core.specs.Gather.{Gather, line_count, with_cell}
 use Rattle.realign_core.specs.Gather.{Stands as Gathers}
-use Rattle.member_ring.specs.declared.ends.RingIn.{RingIn}
+use Rattle.member_ring.specs.Ends.{InEnd}
 use Rattle.member_ring.specs.Ends.{in_passed}
 use Rattle.sink_core.specs.declared.sink.TakeAnswer.{TakeAnswer}
 use Rattle.sink_core.specs.declared.sink.TakeAnswer.TheVariants.{Taken, Waiting}
@@ -17,12 +17,12 @@ pub record Grew (was now : Gather) (line : ℕ) (cell : Cell) : Type 0 where
   pub rows : now.rows ≡ was.rows
 
 -- a cell of a line was popped, and the rows have got it
-pub record PoppedCell (old new : RingIn Cell) (was now : Gather) (line : ℕ) : Type 0 where
+pub record PoppedCell (old new : InEnd Cell) (was now : Gather) (line : ℕ) : Type 0 where
   pub cell : Cell
   pub passed : in_passed new ≡ in_passed old ++ cell ∷ []
   pub grew : Grew was now line cell
 
-pub record TookCell (old new : List (RingIn Cell)) (was now : Gather) (line : ℕ) : Type 0 where
+pub record TookCell (old new : List (InEnd Cell)) (was now : Gather) (line : ℕ) : Type 0 where
   pub cell : Cell
   pub passed : received new ≡ with_cell (received old) line cell
   pub grew : Grew was now line cell

@@ -5,7 +5,7 @@ ghost use Rattle.sink_worker.specs.Parts.{parts, Keeps, Later, Does, Gives};
 
 use crate::burst::SinkBurst;
 use crate::step::step;
-use member_ring::{RingIn, RingOut};
+use member_ring::{CellPlace, RingIn, RingOut};
 use realign_core::RowGather;
 use sink_core::{FrameOut, SinkCore};
 use vc_cell::{BackCell, Cell};
@@ -21,6 +21,7 @@ pub(crate) fn take_rows<F: FrameOut>(
     rows: &mut RowGather,
     core: &mut SinkCore,
     rx: &mut Vec<RingIn<Cell>>,
+    place: &mut CellPlace,
     back: &mut RingOut<BackCell>,
     out: &mut F,
     ticks: u32,
@@ -48,11 +49,11 @@ pub(crate) fn take_rows<F: FrameOut>(
         (parts rows.new core.new rx.new.items back.new) }
 {
     let last = core.taken().saturating_add(ROWS).min(ticks);
-    let first = step(rows, core, rx, back, out);
+    let first = step(rows, core, rx, place, back, out);
     if first != SinkBurst::Moved {
         return first;
     }
-    go_on(rows, core, rx, back, out, last);
+    go_on(rows, core, rx, place, back, out, last);
     SinkBurst::Moved
 }
 
@@ -61,6 +62,7 @@ fn go_on<F: FrameOut>(
     rows: &mut RowGather,
     core: &mut SinkCore,
     rx: &mut Vec<RingIn<Cell>>,
+    place: &mut CellPlace,
     back: &mut RingOut<BackCell>,
     out: &mut F,
     last: u32,
@@ -86,7 +88,7 @@ fn go_on<F: FrameOut>(
         if core.taken() == last {
             return;
         }
-        if step(rows, core, rx, back, out) != SinkBurst::Moved {
+        if step(rows, core, rx, place, back, out) != SinkBurst::Moved {
             return;
         }
     }

@@ -14,14 +14,14 @@ ghost use Rattle.sink_worker.specs.Step.{PoppedCell, TookCell, packet_in};
 
 use crate::burst::{SinkBurst, SinkIdle};
 use lcas_packet::Packet;
-use line_reader::cell_ref;
-use member_ring::{RingIn, RingOut};
+use member_ring::{CellPlace, RingIn, RingOut};
 use realign_core::{RowAnswer, RowGather};
 use sink_core::{FrameOut, SinkCore, TakeAnswer};
 use vc_cell::{BackCell, Cell};
 
-/// Pops the next cell of a line, if there is one.
-fn pass_cell(end: &mut RingIn<Cell>, rows: &mut RowGather, line: u8) -> bool
+/// Pops the next cell of a line into `place`, if there is one, and offers it from there. Boxes change places, and
+/// nothing is copied.
+fn pass_cell(end: &mut RingIn<Cell>, place: &mut CellPlace, rows: &mut RowGather, line: u8) -> bool
     requires line { line < line_count rows.old }
     requires open { IsOpenAt rows.old line }
     ensures took { IsTrue result → PoppedCell end.old end.new rows.old rows.new line }
@@ -33,13 +33,18 @@ fn pass_cell(end: &mut RingIn<Cell>, rows: &mut RowGather, line: u8) -> bool
     if !end.ready() {
         return false;
     }
-    rows.offer_from(line, cell_ref(end.front()));
-    end.pop();
+    end.pop_place(place);
+    rows.offer_boxed(line, place.sign, &mut place.container);
     true
 }
 
 /// Pops the next cell of a line, which is open, if there is one in its ring.
-fn take_cell(rx: &mut Vec<RingIn<Cell>>, rows: &mut RowGather, line: u8) -> bool
+fn take_cell(
+    rx: &mut Vec<RingIn<Cell>>,
+    place: &mut CellPlace,
+    rows: &mut RowGather,
+    line: u8,
+) -> bool
     requires rings { length rx.old.items ≡ line_count rows.old }
     requires line { line < line_count rows.old }
     requires open { IsOpenAt rows.old line }
@@ -49,7 +54,7 @@ fn take_cell(rx: &mut Vec<RingIn<Cell>>, rows: &mut RowGather, line: u8) -> bool
     ensures missed { IsFalse result → Missed rx.old.items rx.new.items line }
     ensures same { AreSameIns rx.old.items rx.new.items }
 {
-    pass_cell(&mut rx[usize::from(line)], rows, line)
+    pass_cell(&mut rx[usize::from(line)], place, rows, line)
 }
 
 /// The return packet of an answer, if it has one.
@@ -131,6 +136,7 @@ pub(crate) fn step<F: FrameOut>(
     rows: &mut RowGather,
     core: &mut SinkCore,
     rx: &mut Vec<RingIn<Cell>>,
+    place: &mut CellPlace,
     back: &mut RingOut<BackCell>,
     out: &mut F,
 ) -> SinkBurst
@@ -157,7 +163,7 @@ pub(crate) fn step<F: FrameOut>(
 {
     match rows.row() {
         RowAnswer::Waiting { line } => {
-            if take_cell(rx, rows, line) {
+            if take_cell(rx, place, rows, line) {
                 SinkBurst::Moved
             } else {
                 SinkBurst::Idle(SinkIdle::Waiting { line })

@@ -6,7 +6,7 @@ use crate::burst::SinkBurst;
 use crate::got::{CountOut, ToldOut, take_back};
 use crate::rows::take_rows;
 use got_lines::{LentGotLines, LineBlock};
-use member_ring::{Gate, RingIn, RingOut, Who};
+use member_ring::{CellPlace, Gate, Placed, RingIn, RingOut, Who};
 use outside_io::ByteSink;
 use realign_core::RowGather;
 use sink_core::SinkCore;
@@ -20,6 +20,8 @@ pub struct SinkWorker {
     core: SinkCore,
     /// Where it pops the cells of each line.
     pub rx: Vec<RingIn<Cell>>,
+    /// The place of the cell that was popped last.
+    place: CellPlace,
     /// Where it pushes return cells.
     pub back: RingOut<BackCell>,
     ticks: u32,
@@ -72,11 +74,13 @@ impl SinkWorker {
     {
         let rows = RowGather::new(alloc, lines)?;
         let core = SinkCore::new(alloc, lines, size)?;
+        let place = Cell::new_place(alloc)?;
         let block = Box::new(alloc, LineBlock::new())?;
         Ok(SinkWorker {
             rows,
             core,
             rx,
+            place,
             back,
             ticks,
             got: 0,
@@ -132,6 +136,7 @@ impl SinkWorker {
             &mut self.rows,
             &mut self.core,
             &mut self.rx,
+            &mut self.place,
             &mut self.back,
             &mut silent,
             self.ticks,
@@ -161,6 +166,7 @@ impl SinkWorker {
             &mut self.rows,
             &mut self.core,
             &mut self.rx,
+            &mut self.place,
             &mut self.back,
             &mut told,
             self.ticks,

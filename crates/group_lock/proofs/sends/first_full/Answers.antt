@@ -4,7 +4,7 @@ use Rattle.std.proofs.lemmas.Bool.{cases_eq}
 use Rattle.std.proofs.lemmas.Option.{slice_get_read, slice_get_within}
 use Rattle.vc_cell.specs.declared.Container.{Container}
 use Rattle.realign_core.proofs.GatherLaws.{set-here, set-other}
-use Rattle.member_ring.specs.declared.ends.RingOut.{RingOut}
+use Rattle.member_ring.specs.Ends.{OutEnd}
 use Rattle.member_ring.specs.Ends.{out_free}
 use Rattle.group_lock.proofs.RingLaws.{set-there, has-looked, looked-set}
 use Rattle.group_lock.proofs.sends.first_full.Goals as goal
@@ -54,7 +54,7 @@ loop-m-preserved c =
             let now : out ≡ c.ready.new.self =
             set-here i.tx.items i.m c.ready.new.self out
             (sym (ap (slice_get (slice_set i.tx.items i.m c.ready.new.self)) same) ∙ there) in
-            subst (λ (o : RingOut Container). 0 < out_free o) (sym now) (e.known.0 c.if-not-ready.false)
+            subst (λ (o : OutEnd Container). 0 < out_free o) (sym now) (e.known.0 c.if-not-ready.false)
         | inr other ↦ i.invariant.free k out (omega arith)
             (sym (set-other i.tx.items i.m k c.ready.new.self other) ∙ there)
       ];

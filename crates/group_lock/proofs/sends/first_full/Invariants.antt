@@ -1,7 +1,7 @@
 -- A slot of each line so far is free, and the others are as they were.
 use Rattle.std.proofs.Common.{◌≡◌, ℕ, ◌<◌, ◌≤◌, slice_get, Some}
 use Rattle.vc_cell.specs.declared.Container.{Container}
-use Rattle.member_ring.specs.declared.ends.RingOut.{RingOut}
+use Rattle.member_ring.specs.Ends.{OutEnd}
 use Rattle.member_ring.specs.Ends.{out_free}
 use Rattle.group_lock.specs.Rings.{HaveLooked}
 use Rattle.group_lock.proofs.sends.first_full.Given as goal
@@ -9,6 +9,6 @@ use Rattle.group_lock.proofs.sends.first_full.Given as goal
 abbrev pub invariant-loop-m : goal.invariant-loop-m
 invariant-loop-m l = record {
   looked : HaveLooked l.fn.tx.items l.tx.items;
-  free : (k : ℕ) (out : RingOut Container) → k < l.m → slice_get l.tx.items k ≡ Some out → 0 < out_free out;
+  free : (k : ℕ) (out : OutEnd Container) → k < l.m → slice_get l.tx.items k ≡ Some out → 0 < out_free out;
   rest : (k : ℕ) → l.m ≤ k → slice_get l.tx.items k ≡ slice_get l.fn.tx.items k;
 }

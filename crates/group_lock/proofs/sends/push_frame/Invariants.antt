@@ -2,15 +2,17 @@
 use Rattle.std.proofs.Common.{◌≡◌, ℕ, ◌<◌, ◌≤◌, length, slice_get, Some}
 use Rattle.vc_cell.specs.declared.Container.{Container}
 use Rattle.vc_cell.specs.Held.{held}
-use Rattle.member_ring.specs.declared.ends.RingOut.{RingOut}
+use Rattle.member_ring.specs.Ends.{OutEnd}
 use Rattle.group_lock.specs.Rings.{IsPushed}
 use Rattle.group_lock.proofs.sends.push_frame.Given as goal
 
 abbrev pub invariant-loop-m : goal.invariant-loop-m
 invariant-loop-m l = record {
   count : length l.tx.items ≡ length l.fn.tx.items;
-  each : (k : ℕ) (container : Container) (old new : RingOut Container) → k < l.m →
-      slice_get (held l.frame) k ≡ Some container →
+  places : length l.frame.items ≡ length l.fn.frame.items;
+  boxes : (k : ℕ) → l.m ≤ k → slice_get l.frame.items k ≡ slice_get l.fn.frame.items k;
+  each : (k : ℕ) (container : Container) (old new : OutEnd Container) → k < l.m →
+      slice_get (held l.fn.frame.items) k ≡ Some container →
       slice_get l.fn.tx.items k ≡ Some old → slice_get l.tx.items k ≡ Some new → IsPushed container old new;
   rest : (k : ℕ) → l.m ≤ k → slice_get l.tx.items k ≡ slice_get l.fn.tx.items k;
 }

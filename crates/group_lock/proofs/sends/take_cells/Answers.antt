@@ -4,7 +4,7 @@ use Rattle.std.proofs.Common.{append_assoc}
 use Rattle.std.proofs.lemmas.List.{length_push}
 use Rattle.outside_io.specs.Faults.{one_more}
 use Rattle.vc_cell.specs.declared.BackCell.{BackCell}
-use Rattle.member_ring.specs.declared.ends.RingIn.{RingIn}
+use Rattle.member_ring.specs.Ends.{InEnd}
 use Rattle.member_ring.specs.Ends.{in_passed, SameIn}
 use Rattle.member_ring.proofs.EndLaws.{in-then}
 use Rattle.group_source.specs.Inbox.{is_lost_in}
@@ -15,7 +15,7 @@ use Rattle.group_source.proofs.CellLaws.{come-put}
 use Rattle.group_lock.proofs.RingLaws.{less}
 use Rattle.group_lock.proofs.sends.take_cells.Goals as goal
 
-moved-one : (first was is : Inbox) (start old new : RingIn BackCell) (cell : BackCell) → HasMoved first was start old →
+moved-one : (first was is : Inbox) (start old new : InEnd BackCell) (cell : BackCell) → HasMoved first was start old →
     is ≡ with_come was cell → length was.cells < was.room →
     SameIn old new → in_passed new ≡ in_passed old ++ cell ∷ [] → HasMoved first is start new
 moved-one first was is start old new cell moved put low same passed =
@@ -44,7 +44,9 @@ loop-back-preserved c =
     let is = c.put.new.self.inbox in
     let low = less (length was.cells) was.room i.invariant.within
     (λ (full : was.room ≡ length was.cells).
-    let is = c.is_full.ensures.1 (ap (λ (x : Inbox). x.room) c.inbox.ensures ∙ full ∙ sym (ap (λ (x : Inbox). length x.cells) c.inbox.ensures)) in let no = c.loop-back-test.true in absurd cc) in
+    let is = c.is_full.ensures.1 (ap (λ (x : Inbox). x.room) c.inbox.ensures ∙ full
+    ∙ sym (ap (λ (x : Inbox). length x.cells) c.inbox.ensures)) in
+    let no = c.loop-back-test.true in absurd cc) in
     let put : is ≡ with_come was c.pop.result = ap (λ (s : Source). s.inbox) c.put.ensures in
     let size : length is.cells ≡ length was.cells + 1 = ap (λ (x : Inbox). length x.cells) put
     ∙ length_push was.cells (come_by (is_lost_in was.lost was.come) c.pop.result) in

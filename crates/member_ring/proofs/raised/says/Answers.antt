@@ -5,8 +5,7 @@ use Rattle.vc_cell.specs.declared.Container.{Container}
 use Rattle.vc_cell.specs.declared.Cell.TheVariants.{Good, Fail}
 use Rattle.line_core.specs.Carry.{carry_cells}
 use Rattle.line_core.specs.declared.carry.CarrySign.{CarrySign}
-use Rattle.member_ring.specs.declared.alarm.AlarmKind.{AlarmKind}
-use Rattle.member_ring.specs.declared.alarm.AlarmKind.TheVariants.{Fails, Returns, Ends}
+use Rattle.member_ring.specs.declared.alarm.AlarmKind.TheVariants.{Fails, Returns}
 use Rattle.member_ring.specs.Alarms.{alarms_from, alarm_if}
 use Rattle.member_ring.proofs.raised.says.Goals as goal
 

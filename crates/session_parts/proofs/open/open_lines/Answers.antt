@@ -1,6 +1,6 @@
 -- A line is opened over fresh rings.
 use Rattle.std.proofs.Common.{◌≡◌, [], ℕ, sym, ◌∙◌, ap, subst, slice_index_or}
-use Rattle.member_ring.specs.declared.ends.RingOut.{RingOut}
+use Rattle.member_ring.specs.Ends.{OutEnd}
 use Rattle.member_ring.specs.Ends.{out_passed, AreEnds}
 use Rattle.vc_cell.specs.declared.Cell.{Cell}
 use Rattle.session_parts.proofs.OpenLaws.{none-opened, opened-more, opened-own}
@@ -29,7 +29,7 @@ loop-line-preserved c =
       total = c.new.ensures.total ∙ stands.total;
     })
     (subst (AreEnds ends.tx) (sym c.new.ensures.ends.0) c.in_ok-ends.ensures.send.ends)
-    (subst (λ (out : RingOut Cell). AreEnds out ends.rx_out)
+    (subst (λ (out : OutEnd Cell). AreEnds out ends.rx_out)
     (sym c.new.ensures.ends.1) c.in_ok-ends.ensures.receive.ends))
 
 pub new-requires-clause-core : goal.new-requires-clause-core

@@ -49,6 +49,6 @@ returns-clause-same c =
     let within : c.from.result < length items = omega (arith, c.from.ensures, c.requires.line, c.requires.rings) in
     record {
       count = set-length items c.from.result c.pass_cell.new.end;
-      each = set-each SameIn (λ a. ((refl, refl, refl, refl), refl)) items c.from.result c.index_mut.result.now
+      each = set-each SameIn (λ a. (refl, refl, refl)) items c.from.result c.index_mut.result.now
           c.pass_cell.new.end within c.index_mut.ensures.value c.pass_cell.ensures.same;
     }

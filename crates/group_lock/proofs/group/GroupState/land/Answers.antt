@@ -7,8 +7,8 @@ use Rattle.walk_law.specs.Landed.{is_client, IsPlaced, refused_by}
 use Rattle.group_source.specs.Item.{kind_of}
 use Rattle.vc_cell.specs.declared.Container.{Container}
 use Rattle.vc_cell.specs.declared.BackCell.{BackCell}
-use Rattle.member_ring.specs.declared.ends.RingOut.{RingOut}
-use Rattle.member_ring.specs.declared.ends.RingIn.{RingIn}
+use Rattle.member_ring.specs.Ends.{OutEnd}
+use Rattle.member_ring.specs.Ends.{InEnd}
 use Rattle.group_source.specs.Inbox.{Inbox}
 use Rattle.group_source.specs.Source.{Source, SameRest}
 use Rattle.group_lock.specs.Journal.{Journal, entry_of}
@@ -19,7 +19,8 @@ use Rattle.group_source.specs.Landed.{next_number, due_at, AreBehind}
 use Rattle.group_source.proofs.LandingLaws.{next-due, behind-next}
 use Rattle.group_lock.proofs.RefusedLaws.{refused-put, refused-now}
 use Rattle.group_lock.proofs.KeepLaws.{keeps-accepted, keeps-refused}
-use Rattle.group_lock.proofs.GroupLaws.{refused-is, submits-accepted, submits-refused, room-there}
+use Rattle.group_lock.proofs.GroupLaws.{refused-is, lands-in, submits-accepted, submits-refused}
+use Rattle.group_lock.proofs.GroupLaws.{room-there}
 use Rattle.group_lock.proofs.group.GroupState.land.Goals as goal
 
 pub push-requires-clause-slots : goal.push-requires-clause-slots
@@ -37,27 +38,10 @@ returns-in-None c =
     let g = c.args.self.now in
     let kind = kind_of c.args.item in
     let e = c.land.ensures in
-    let l = e.passed in
     submits-accepted g _ c.args.number kind
     (record { next = c.requires.next; due = c.requires.due; room = c.requires.room })
-    (record {
-      is = sym c.in-None.is ∙ e.met ∙ refused-is g kind;
-      frames = l.frames;
-      commands = l.commands;
-      refusals = subst (λ (w : Option Refusal). IsPlaced c.args.number
-          (refused_by c.args.number w) g.source.landed.refusals c.land.new.self.landed.refusals) c.in-None.is e.placed;
-      script = record {
-        lines = e.kind.lines;
-        lag = e.kind.lag;
-        size = e.kind.size;
-        total = e.rest.total;
-        lost = ap
-            (λ (i : Inbox). i.lost) e.rest.inbox;
-        items = l.items;
-      };
-      rings = record { ticks = e.ticks; inbox = ap (λ (i : Inbox). i.cells) e.rest.inbox; tx = refl; back = refl };
-      made = e.made;
-    })
+    (lands-in g _ c.args.number kind c.land.result _ _ c.in-None.is e.met e.kind e.passed e.placed e.rest e.ticks refl
+    refl e.made)
     (c.push.ensures.entries
     ∙ ap (λ n. g.journal.entries ++ entry_of c.args.number n kind ∷ []) (c.ticks.ensures ∙ e.ticks))
     c.push.ensures.slots c.push.ensures.bytes
@@ -67,27 +51,10 @@ returns-in-Some c =
     let g = c.args.self.now in
     let kind = kind_of c.args.item in
     let e = c.land.ensures in
-    let l = e.passed in
     submits-refused g _ c.args.number kind c.in-Some.why c.refused.result c.refused.ensures
     (record { next = c.requires.next; due = c.requires.due; room = c.requires.room })
-    (record {
-      is = sym c.in-Some.is ∙ e.met ∙ refused-is g kind;
-      frames = l.frames;
-      commands = l.commands;
-      refusals = subst (λ (w : Option Refusal). IsPlaced c.args.number
-          (refused_by c.args.number w) g.source.landed.refusals c.land.new.self.landed.refusals) c.in-Some.is e.placed;
-      script = record {
-        lines = e.kind.lines;
-        lag = e.kind.lag;
-        size = e.kind.size;
-        total = e.rest.total;
-        lost = ap
-            (λ (i : Inbox). i.lost) e.rest.inbox;
-        items = l.items;
-      };
-      rings = record { ticks = e.ticks; inbox = ap (λ (i : Inbox). i.cells) e.rest.inbox; tx = refl; back = refl };
-      made = e.made;
-    })
+    (lands-in g _ c.args.number kind c.land.result _ _ c.in-Some.is e.met e.kind e.passed e.placed e.rest e.ticks refl
+    refl e.made)
     refl refl refl
 
 -- what has landed is due, and so is one more of its kind
@@ -104,7 +71,7 @@ landed-behind g client number frames commands next due behind more most =
     (behind-next g.source.landed client number g.source.core.ticks next due behind))
 
 -- the rest of the source is as it was
-rested : (was now : Source) (journal : Journal) (tx : List (RingOut Container)) (back : RingIn BackCell) (size : ℕ) →
+rested : (was now : Source) (journal : Journal) (tx : List (OutEnd Container)) (back : InEnd BackCell) (size : ℕ) →
     SameRest was now →
     Keeps (parts now.core was.total now.landed journal was.inbox tx back) size →
     Keeps (parts now.core now.total now.landed journal now.inbox tx back) size

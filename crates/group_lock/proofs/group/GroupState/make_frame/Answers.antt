@@ -1,12 +1,12 @@
 -- A frame was made, and pushed.
-use Rattle.std.proofs.Common.{◌∙◌, ℕ, List, ap, sym, refl, subst, arith, length}
+use Rattle.std.proofs.Common.{◌∙◌, ℕ, List, ap, sym, refl, subst, arith}
 use Rattle.std.specs.Global.{Box}
 use Rattle.std.proofs.lemmas.List.{length-map}
 use Rattle.vc_cell.specs.declared.Container.{Container}
 use Rattle.vc_cell.specs.declared.BackCell.{BackCell}
 use Rattle.vc_cell.specs.Held.{held}
-use Rattle.member_ring.specs.declared.ends.RingOut.{RingOut}
-use Rattle.member_ring.specs.declared.ends.RingIn.{RingIn}
+use Rattle.member_ring.specs.Ends.{OutEnd}
+use Rattle.member_ring.specs.Ends.{InEnd}
 use Rattle.source_core.specs.Given.{Stands as HasMade}
 use Rattle.group_source.specs.Landed.{Landed}
 use Rattle.group_source.specs.Source.{Source, SameScript}
@@ -22,7 +22,6 @@ make-taken-requires-clause-places c = c.args.self.now.keeps.places
 
 pub push_frame-requires-clause-places : goal.push_frame-requires-clause-places
 push_frame-requires-clause-places c =
-    let size = ap length c.deref.ensures.value in
     let same = c.make-taken.ensures.places in
     let places = c.args.self.now.keeps.places in
     let rings = c.args.self.now.keeps.rings in
@@ -32,7 +31,7 @@ pub push_frame-requires-clause-free : goal.push_frame-requires-clause-free
 push_frame-requires-clause-free c = c.requires.free
 
 -- what has landed is as it was
-rested : (was now : Source) (journal : Journal) (tx : List (RingOut Container)) (back : RingIn BackCell) (size : ℕ) →
+rested : (was now : Source) (journal : Journal) (tx : List (OutEnd Container)) (back : InEnd BackCell) (size : ℕ) →
     SameScript was now →
     Keeps (parts now.core was.total was.landed journal now.inbox tx back) size →
     Keeps (parts now.core now.total now.landed journal now.inbox tx back) size
@@ -46,12 +45,12 @@ invariant_of-self c =
     let e = c.make-taken.ensures in
     let (left, none) = early-none g.source c.requires.early in
     let made = made-by _ _ c.make-taken.new.self.core c.make-taken.new.self.inbox c.push_frame.new.tx.items
-    c.make-taken.result (held c.deref.result.now) _ g.keeps refl (cell-there _ _ c.requires.cell)
-    e.cell e.inbox e.made (λ scenario cells has. ap held c.deref.ensures.value ∙ e.frame scenario cells has) e.ticks
-    e.kind c.push_frame.ensures in
+    c.make-taken.result (held c.make-taken.new.frame.items) _ g.keeps refl (cell-there _ _ c.requires.cell)
+    e.cell e.inbox e.made e.frame e.ticks
+    e.kind c.push_frame.ensures.pushed in
     let kept = keeps-made _ _ _ _ _ _ _ g.keeps made left none in
     record {
-      keeps = subst (Keeps _) (sym e.places)
+      keeps = subst (Keeps _) (sym (c.push_frame.ensures.places ∙ e.places))
           (rested g.source c.make-taken.new.self g.journal c.push_frame.new.tx.items g.back _ e.rest kept);
     }
 
@@ -61,14 +60,13 @@ returns c =
     let e = c.make-taken.ensures in
     let k = g.keeps in
     let made = made-by _ _ c.make-taken.new.self.core c.make-taken.new.self.inbox c.push_frame.new.tx.items
-    c.make-taken.result (held c.deref.result.now) _ k refl (cell-there _ _ c.requires.cell)
-    e.cell e.inbox e.made (λ scenario cells has. ap held c.deref.ensures.value ∙ e.frame scenario cells has) e.ticks
-    e.kind c.push_frame.ensures in
-    let size = ap length c.deref.ensures.value in
+    c.make-taken.result (held c.make-taken.new.frame.items) _ k refl (cell-there _ _ c.requires.cell)
+    e.cell e.inbox e.made e.frame e.ticks
+    e.kind c.push_frame.ensures.pushed in
     let places = e.places in
     let first = k.places in
     let rings = k.rings in
-    let long = length-map c.deref.result.now (λ (b : Box Container). b.value) in
+    let long = length-map c.make-taken.new.frame.items (λ (b : Box Container). b.value) in
     record {
       script = record {
         lines = e.kind.lines;
@@ -88,7 +86,7 @@ returns c =
         refusals = ap (λ (l : Landed). l.refusals) e.rest.landed;
       };
       ticks = e.ticks;
-      sends = same-ends (held c.deref.result.now) _ _ (omega (arith, long)) c.push_frame.ensures;
+      sends = same-ends (held c.make-taken.new.frame.items) _ _ (omega (arith, long)) c.push_frame.ensures.pushed;
       back = refl;
       made = λ scenario has. subst (HasMade c.make-taken.new.self.core scenario) (sym (told-made _ _ _ _ _ _ _ k made))
           (e.made scenario _ has);
