@@ -131,3 +131,80 @@ fn fault_of_field(field: u16, pfi: u16, extension: u8) -> Option<TypeFault>
         None
     }
 }
+
+#[cfg(test)]
+mod tests {
+    use super::*;
+
+    #[test]
+    fn type_headers(rt: HostRuntime) {
+        assert_eq!(rt; read_type(&type_bytes()), Ok(()));
+        let faults = [
+            ([0x20, 0x01, 0x16, 0xc7], TypeFault::NotClient { pti: 1 }),
+            ([0xff, 0xff, 0x1d, 0x0f], TypeFault::NotClient { pti: 7 }),
+            ([0x10, 0x01, 0x13, 0x52], TypeFault::PayloadFcs),
+            ([0x01, 0x01, 0x23, 0x10], TypeFault::Extension { exi: 1 }),
+            ([0x00, 0x02, 0x20, 0x42], TypeFault::NotEthernet { upi: 2 }),
+            (
+                [0x00, 0x01, 0x10, 0x20],
+                TypeFault::Check {
+                    said: 0x1020,
+                    found: 0x1021,
+                },
+            ),
+            (
+                [0x20, 0x01, 0x10, 0x21],
+                TypeFault::Check {
+                    said: 0x1021,
+                    found: 0x16c7,
+                },
+            ),
+        ];
+        for (octets, fault) in faults {
+            assert_eq!(rt; read_type(&octets), Err(fault));
+        }
+    }
+
+    #[test]
+    fn type_headers_with_fcs(rt: HostRuntime) {
+        assert_eq!(rt; read_type_fcs(&type_bytes_fcs()), Ok(()));
+        let faults = [
+            ([0x30, 0x01, 0x15, 0xb4], TypeFault::NotClient { pti: 1 }),
+            ([0x11, 0x01, 0x20, 0x63], TypeFault::Extension { exi: 1 }),
+            ([0x10, 0x02, 0x23, 0x31], TypeFault::NotEthernet { upi: 2 }),
+            (
+                [0x10, 0x01, 0x13, 0x53],
+                TypeFault::Check {
+                    said: 0x1353,
+                    found: 0x1352,
+                },
+            ),
+            ([0x00, 0x01, 0x10, 0x21], TypeFault::PayloadFcs),
+            ([0xff, 0xff, 0x1d, 0x0f], TypeFault::NotClient { pti: 7 }),
+        ];
+        for (octets, fault) in faults {
+            assert_eq!(rt; read_type_fcs(&octets), Err(fault));
+        }
+    }
+
+    #[test]
+    fn type_headers_with_extension(rt: HostRuntime) {
+        assert_eq!(rt; read_type_linear(&type_bytes_linear()), Ok(()));
+        let faults = [
+            ([0x21, 0x01, 0x25, 0xf6], TypeFault::NotClient { pti: 1 }),
+            ([0x11, 0x01, 0x20, 0x63], TypeFault::PayloadFcs),
+            ([0x00, 0x01, 0x10, 0x21], TypeFault::Extension { exi: 0 }),
+            ([0x01, 0x02, 0x13, 0x73], TypeFault::NotEthernet { upi: 2 }),
+            (
+                [0x01, 0x01, 0x23, 0x11],
+                TypeFault::Check {
+                    said: 0x2311,
+                    found: 0x2310,
+                },
+            ),
+        ];
+        for (octets, fault) in faults {
+            assert_eq!(rt; read_type_linear(&octets), Err(fault));
+        }
+    }
+}

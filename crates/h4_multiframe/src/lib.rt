@@ -147,3 +147,73 @@ fn state_after(place: Place, h4: u8) -> State
         }
     }
 }
+
+#[cfg(test)]
+mod tests {
+    use super::*;
+
+    #[test]
+    fn octets(rt: HostRuntime) {
+        assert_eq!(rt; h4(0, 0xa), 0xa0);
+        assert_eq!(rt; h4(4095, 0x3), 0x3f);
+        assert_eq!(rt; h4(u64::MAX - 2, 0xc), 0xcd);
+    }
+
+    /// Good cells with what they are, and cells that are not good.
+    #[test]
+    fn places(rt: HostRuntime) {
+        let cells = [
+            // No cell locks but one with MFI1 1 after one with MFI1 0.
+            Some((0x21, Place::Unknown)),
+            Some((0x32, Place::Unknown)),
+            Some((0x20, Place::Unknown)),
+            Some((0x31, Place::Locks(561))),
+            Some((0x42, Place::At(562))),
+            Some((0xf3, Place::At(563))),
+            // A failure unlocks.
+            None,
+            Some((0x54, Place::Unknown)),
+            Some((0x20, Place::Unknown)),
+            None,
+            Some((0x31, Place::Unknown)),
+            Some((0x20, Place::Unknown)),
+            Some((0x32, Place::Unknown)),
+            // The second of two begins.
+            Some((0x60, Place::Unknown)),
+            Some((0x20, Place::Unknown)),
+            Some((0x31, Place::Locks(561))),
+            // Another MFI1 than the next one unlocks.
+            Some((0x43, Place::Unknown)),
+            Some((0x44, Place::Unknown)),
+            // The numbers begin again after 4,095.
+            Some((0xf0, Place::Unknown)),
+            Some((0xf1, Place::Locks(4081))),
+            Some((0x02, Place::At(4082))),
+            Some((0x03, Place::At(4083))),
+            Some((0x04, Place::At(4084))),
+            Some((0x05, Place::At(4085))),
+            Some((0x06, Place::At(4086))),
+            Some((0x07, Place::At(4087))),
+            Some((0x08, Place::At(4088))),
+            Some((0x09, Place::At(4089))),
+            Some((0x0a, Place::At(4090))),
+            Some((0x0b, Place::At(4091))),
+            Some((0x0c, Place::At(4092))),
+            Some((0x0d, Place::At(4093))),
+            Some((0x0e, Place::At(4094))),
+            Some((0x0f, Place::At(4095))),
+            Some((0x00, Place::At(0))),
+            Some((0x01, Place::At(1))),
+            // Another MFI1 that is 0 unlocks, and begins.
+            Some((0x70, Place::Unknown)),
+            Some((0x81, Place::Locks(1921))),
+        ];
+        let mut lock = MfiLock::default();
+        for cell in cells {
+            match cell {
+                Some((octet, place)) => assert_eq!(rt; lock.good(octet), place),
+                None => lock.fail(),
+            }
+        }
+    }
+}

@@ -6,8 +6,6 @@
 mod decoding;
 mod digits;
 mod encoding;
-#[cfg(test)]
-mod tests;
 
 pub use decoding::{NotHex, decode_into};
 pub use encoding::encode;

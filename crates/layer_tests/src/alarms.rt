@@ -1,5 +1,5 @@
 //! An alarm log whose queue has room for one alarm, on one thread and on two.
-ghost use Rattle.std.specs.Prelude.{◌≡◌, ◌≤◌, ℕ, List, [], ◌∷◌, IfOk, IfSome};
+ghost use Rattle.std.specs.Prelude.{◌≡◌, ◌≤◌, ℕ, List, [], ◌∷◌, IfSome};
 ghost use Rattle.alarm_log.specs.Logs.{alarms_in, posts_of, IsPostOf, SameLog};
 ghost use Rattle.alarm_log.specs.Alarms.{of_line};
 ghost use Rattle.member_ring.specs.Alarms.{alarm_at};
@@ -7,9 +7,8 @@ ghost use Rattle.alarm_log.specs.Posts.{posted_by, most_by, SamePost};
 
 use alarm_log::{AlarmList, AlarmLog, AlarmPost, Posted, Turn, make_log};
 use member_ring::{Alarm, AlarmKind};
-use std::alloc::{AllocError, Global};
+use std::alloc::Global;
 use std::sync::Wait;
-use std::test::*;
 use std::thread;
 use std::thread::Threads;
 
@@ -25,60 +24,46 @@ fn fails(place: u32) -> Alarm
 }
 
 /// A log with one post and a queue with room for one alarm.
-fn open_one(alloc: Global, most: u32) -> Result<Option<(AlarmLog, AlarmPost)>, AllocError>
+fn open_one(alloc: Global, most: u32) -> Option<(AlarmLog, AlarmPost)>
     requires { most ≤ 100000 }
-    ensures { IfOk result (λ found. IfSome found (λ r. IsPostOf r.0 r.1
-        × (posts_of r.0 ≡ 1) × (posted_by r.1 ≡ []) × (most_by r.1 ≡ most))) }
+    ensures { IfSome result (λ r. IsPostOf r.0 r.1
+        × (posts_of r.0 ≡ 1) × (posted_by r.1 ≡ []) × (most_by r.1 ≡ most)) }
 {
-    let (log, mut posts) = make_log(alloc, 1, 1, most)?;
-    match posts.pop() {
-        Some(post) => Ok(Some((log, post))),
-        None => Ok(None),
-    }
+    let (log, mut posts) = make_log(alloc, 1, 1, most).ok()?;
+    let post = posts.pop()?;
+    Some((log, post))
 }
 
 /// Ends a log with one post.
-fn end_one<R: Wait>(
-    rt: &R,
-    alloc: Global,
-    log: AlarmLog,
-    post: AlarmPost,
-) -> Result<AlarmList, AllocError>
+fn end_one<R: Wait>(rt: &R, alloc: Global, log: AlarmLog, post: AlarmPost) -> Option<AlarmList>
     requires one_log { IsPostOf log post }
     requires count { posts_of log ≡ 1 }
-    ensures { IfOk result (λ list.
+    ensures { IfSome result (λ list.
         (m : ℕ) → of_line m (alarms_in list) ≡ of_line m (posted_by post)) }
 {
     let mut posts = Vec::new(alloc);
-    posts.push(post)?;
-    Ok(log.finish(rt, posts))
+    posts.push(post).ok()?;
+    Some(log.finish(rt, posts))
+}
+
+/// The places of three alarms.
+fn places(list: &AlarmList) -> Option<[u32; 3]> {
+    match list.alarms() {
+        [first, second, third] => Some([first.place, second.place, third.place]),
+        _ => None,
+    }
 }
 
 /// What three posts answer, of which the first two are before a turn; what the turn answers; and the places
 /// in the list.
-fn one_slot<R: Wait>(
-    rt: &R,
-    alloc: Global,
-) -> Result<Option<([Posted; 3], Turn, [u32; 3])>, AllocError> {
-    let Some((log, post)) = open_one(alloc, 3)? else {
-        return Ok(None);
-    };
-    let mut log = log;
-    let mut post = post;
+fn one_slot<R: Wait>(rt: &R, alloc: Global) -> Option<([Posted; 3], Turn, [u32; 3])> {
+    let (mut log, mut post) = open_one(alloc, 3)?;
     let first = post.post(rt, fails(100));
     let second = post.post(rt, fails(101));
     let turn = log.turn(rt);
     let third = post.post(rt, fails(161));
     let list = end_one(rt, alloc, log, post)?;
-    let alarms = list.alarms();
-    if alarms.len() != 3 {
-        return Ok(None);
-    }
-    Ok(Some((
-        [first, second, third],
-        turn,
-        [alarms[0].place, alarms[1].place, alarms[2].place],
-    )))
+    Some(([first, second, third], turn, places(&list)?))
 }
 
 /// Posts two alarms of line 3.
@@ -128,41 +113,38 @@ fn beside<R: Threads + Wait + Sync>(rt: &R, log: AlarmLog, post: AlarmPost) -> (
 }
 
 /// The alarms that one thread posted and another one collected.
-fn collected<R: Threads + Wait + Sync>(
-    rt: &R,
-    alloc: Global,
-) -> Result<Option<AlarmList>, AllocError>
-    ensures { IfOk result (λ found. IfSome found (λ list. of_line 3 (alarms_in list)
-        ≡ alarm_at 3 100 AlarmKind.Fails ∷ alarm_at 3 101 AlarmKind.Fails ∷ [])) }
+fn collected<R: Threads + Wait + Sync>(rt: &R, alloc: Global) -> Option<AlarmList>
+    ensures { IfSome result (λ list. of_line 3 (alarms_in list)
+        ≡ alarm_at 3 100 AlarmKind.Fails ∷ alarm_at 3 101 AlarmKind.Fails ∷ []) }
 {
-    let Some((log, post)) = open_one(alloc, 2)? else {
-        return Ok(None);
-    };
+    let (log, post) = open_one(alloc, 2)?;
     let (log, post) = beside(rt, log, post);
-    let list = end_one(rt, alloc, log, post)?;
-    Ok(Some(list))
+    end_one(rt, alloc, log, post)
 }
 
 #[test]
-fn a_queue_with_one_slot(rt: HostRuntime) -> Result<(), Fail> {
-    let found = one_slot(&rt, rt.alloc())?;
+fn a_queue_with_one_slot(rt: HostRuntime) {
     let wanted = (
         [Posted::Queued, Posted::Kept, Posted::Kept],
         Turn::Taken,
         [100, 101, 161],
     );
-    assert!(rt; found == Some(wanted));
-    Ok(())
+    assert!(rt; one_slot(&rt, rt.alloc()) == Some(wanted));
+}
+
+/// Whether a list has both alarms that were posted, in order.
+fn has_both(list: &AlarmList) -> bool {
+    match list.alarms() {
+        [first, second] => *first == fails(100) && *second == fails(101),
+        _ => false,
+    }
 }
 
 #[test]
-fn two_threads(rt: HostRuntime) -> Result<(), Fail> {
-    let found = collected(&rt, rt.alloc())?;
-    assert!(rt; found.is_some());
-    if let Some(list) = found {
-        let alarms = list.alarms();
-        assert!(rt; alarms.len() == 2);
-        assert!(rt; alarms[0] == fails(100) && alarms[1] == fails(101));
-    }
-    Ok(())
+fn two_threads(rt: HostRuntime) {
+    let are_both = match collected(&rt, rt.alloc()) {
+        Some(list) => has_both(&list),
+        None => false,
+    };
+    assert!(rt; are_both);
 }

@@ -1,5 +1,5 @@
-//! Tests of rings and their workers, of alarms, of the parts of a walk, of pointers and of traces, by their calls.
-//! Nothing is here but tests.
+//! Tests of rings and their workers, of alarms, of the parts of a walk, of pointers, of traces, and of texts of digits
+//! and reports, by their calls. Nothing is here but tests.
 #![tactic(auto)]
 
 #[cfg(test)]
@@ -14,5 +14,7 @@ mod pointers;
 mod rings;
 #[cfg(test)]
 mod sink_thread;
+#[cfg(test)]
+mod texts;
 #[cfg(test)]
 mod tracing;

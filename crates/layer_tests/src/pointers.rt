@@ -2,6 +2,7 @@
 
 ghost use Rattle.std.specs.Prelude.{◌≤◌};
 
+use au4_pointer::Action::{Down, Keep, New, Up};
 use au4_pointer::{
     Action, AuFrame, PointerFault, PointerSink, PointerSource, PointerWordFault, VC, VcFeed, VcOut,
     relay,
@@ -62,10 +63,14 @@ fn words(a: Action) -> (u16, u16) {
 
 #[test]
 fn words_at_value_5(rt: HostRuntime) {
-    assert_eq!(rt; words(Action::Keep), (0x6805, 0x6805));
-    assert_eq!(rt; words(Action::Up), (0x6aaf, 0x6806));
-    assert_eq!(rt; words(Action::Down), (0x6950, 0x6804));
-    assert_eq!(rt; words(Action::New(5)), (0x9805, 0x6805));
+    let seen = [Action::Keep, Action::Up, Action::Down, Action::New(5)].map(|action| words(action));
+    let wanted = [
+        (0x6805, 0x6805),
+        (0x6aaf, 0x6806),
+        (0x6950, 0x6804),
+        (0x9805, 0x6805),
+    ];
+    assert_eq!(rt; seen, wanted);
 }
 
 /// The numbers that come of frames behind a 9, as digits; how many were asked for; and how many calls failed.
@@ -86,20 +91,30 @@ fn sent_and_taken(start: u16, actions: &[Action]) -> (u64, u64, u8)
     (out.digits, feed.next, failed)
 }
 
-/// Those that another implementation gives too.
+/// Values at which a source starts, and actions, with what comes of them, as another implementation gives it too.
+const ROWS: [(u16, &[Action], (u64, u64, u8)); 5] = [
+    (0, &[Keep, Keep, New(5), Keep], (9012, 4, 0)),
+    (5, &[Keep, Keep, New(5), Keep], (902, 4, 0)),
+    // A Down frame ends two.
+    (1, &[Keep, Down], (901, 2, 0)),
+    // The value goes on from 782 to 0, and from 0 to 782.
+    (782, &[Keep, Up, Keep, Keep, Keep, New(0)], (901234, 5, 0)),
+    (0, &[Keep, Down, Keep, Keep, Keep, Up], (9012345, 6, 0)),
+];
+
+/// The place of the first row of which something else comes.
+fn first_wrong() -> Option<usize> {
+    for (place, (start, actions, wanted)) in ROWS.iter().enumerate() {
+        if *start > 782 || sent_and_taken(*start, *actions) != *wanted {
+            return Some(place);
+        }
+    }
+    None
+}
+
 #[test]
 fn whole_ones(rt: HostRuntime) {
-    let keep = Action::Keep;
-    let new = Action::New(5);
-    assert_eq!(rt; sent_and_taken(0, &[keep, keep, new, keep]), (9012, 4, 0));
-    assert_eq!(rt; sent_and_taken(5, &[keep, keep, new, keep]), (902, 4, 0));
-    // A Down frame ends two.
-    assert_eq!(rt; sent_and_taken(1, &[keep, Action::Down]), (901, 2, 0));
-    // The value goes on from 782 to 0, and from 0 to 782.
-    let up = [keep, Action::Up, keep, keep, keep, Action::New(0)];
-    assert_eq!(rt; sent_and_taken(782, &up), (901234, 5, 0));
-    let down = [keep, Action::Down, keep, keep, keep, Action::Up];
-    assert_eq!(rt; sent_and_taken(0, &down), (9012345, 6, 0));
+    assert_eq!(rt; first_wrong(), None);
 }
 
 /// A frame that is relayed.
@@ -121,38 +136,63 @@ fn relayed(rt: HostRuntime) {
     assert!(rt; went == Ok(()) && out.digits == 90);
 }
 
-#[test]
-fn refused_actions(rt: HostRuntime) {
+/// The answers to an Up in the first frame, to two new values, to a Keep, and to a Down two frames after a new value.
+fn answers_to_actions() -> [Result<(), PointerFault>; 5] {
+    let actions = [
+        Action::Up,
+        Action::New(783),
+        Action::New(782),
+        Action::Keep,
+        Action::Down,
+    ];
     let mut source = PointerSource::new(0);
     let mut feed = Numbered { next: 0 };
     let mut frame = blank();
-    assert!(rt;
-        source.send(Action::Up, &mut feed, &mut frame) == Err(PointerFault::TooSoon { left: 1 })
-    );
-    assert!(rt;
-        source.send(Action::New(783), &mut feed, &mut frame) == Err(PointerFault::Range { p: 783 })
-    );
-    assert!(rt; source.send(Action::New(782), &mut feed, &mut frame) == Ok(()));
-    assert!(rt; source.send(Action::Keep, &mut feed, &mut frame) == Ok(()));
-    assert!(rt;
-        source.send(Action::Down, &mut feed, &mut frame) == Err(PointerFault::TooSoon { left: 2 })
-    );
+    let mut answers = [Ok(()); 5];
+    for (answer, action) in answers.iter_mut().zip(&actions) {
+        *answer = source.send(*action, &mut feed, &mut frame);
+    }
+    answers
+}
+
+#[test]
+fn refused_actions(rt: HostRuntime) {
+    let wanted = [
+        Err(PointerFault::TooSoon { left: 1 }),
+        Err(PointerFault::Range { p: 783 }),
+        Ok(()),
+        Ok(()),
+        Err(PointerFault::TooSoon { left: 2 }),
+    ];
+    assert_eq!(rt; answers_to_actions(), wanted);
+}
+
+/// The answers to words, one after the other.
+fn answers_to_words(words: &[u16; 5]) -> [Result<(), PointerWordFault>; 5] {
+    let mut sink = PointerSink::new();
+    let mut out = Digits { digits: 0 };
+    let mut frame = blank();
+    let mut answers = [Ok(()); 5];
+    for (answer, word) in answers.iter_mut().zip(words) {
+        frame.word = *word;
+        *answer = sink.take(&frame, &mut out);
+    }
+    answers
 }
 
 #[test]
 fn refused_words(rt: HostRuntime) {
-    let mut sink = PointerSink::new();
-    let mut out = Digits { digits: 0 };
-    let mut frame = blank();
-    frame.word = 0x5805;
-    assert!(rt; sink.take(&frame, &mut out) == Err(PointerWordFault::Flag { flag: 5 }));
-    frame.word = 0x6b0f;
-    assert!(rt; sink.take(&frame, &mut out) == Err(PointerWordFault::Range { value: 783 }));
-    frame.word = 0x6005;
-    assert!(rt; sink.take(&frame, &mut out) == Ok(()));
-    frame.word = 0x6806;
-    assert!(rt; sink.take(&frame, &mut out) == Err(PointerWordFault::Unexpected { value: 6 }));
-    assert!(rt; sink.take(&frame, &mut out) == Ok(()));
+    let wanted = [
+        Err(PointerWordFault::Flag { flag: 5 }),
+        Err(PointerWordFault::Range { value: 783 }),
+        Ok(()),
+        Err(PointerWordFault::Unexpected { value: 6 }),
+        Ok(()),
+    ];
+    assert_eq!(rt;
+        answers_to_words(&[0x5805, 0x6b0f, 0x6005, 0x6806, 0x6806]),
+        wanted
+    );
 }
 
 #[test]

@@ -67,29 +67,27 @@ fn packets_and_a_wrong_check(rt: HostRuntime) {
 }
 
 /// Octets that stand at a place of the line, and how many answers there are then.
-fn rows() -> [(usize, u8, u32); 10] {
-    [
-        // The line locks at the second multiframe, or at none.
-        (0, 0x01, 1),
-        (1, 0x02, 1),
-        (16, 0x01, 0),
-        // It is unlocked before the first packet, in it, and at its last octet.
-        (7, 0x08, 1),
-        (8, 0x09, 1),
-        (12, 0x0d, 1),
-        (23, 0x08, 0),
-        // It is unlocked in the second packet.
-        (24, 0x07, 1),
-        (33, 0x22, 1),
-        (39, 0x48, 1),
-    ]
-}
+const ROWS: [(usize, u8, u32); 10] = [
+    // The line locks at the second multiframe, or at none.
+    (0, 0x01, 1),
+    (1, 0x02, 1),
+    (16, 0x01, 0),
+    // It is unlocked before the first packet, in it, and at its last octet.
+    (7, 0x08, 1),
+    (8, 0x09, 1),
+    (12, 0x0d, 1),
+    (23, 0x08, 0),
+    // It is unlocked in the second packet.
+    (24, 0x07, 1),
+    (33, 0x22, 1),
+    (39, 0x48, 1),
+];
 
 /// The first place at which another octet does not have as many answers.
 fn first_wrong() -> Option<usize> {
-    for (place, octet, count) in rows() {
-        if answers(place, octet).0 != count {
-            return Some(place);
+    for (place, octet, count) in &ROWS {
+        if answers(*place, *octet).0 != *count {
+            return Some(*place);
         }
     }
     None

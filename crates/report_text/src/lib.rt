@@ -8,8 +8,6 @@
 
 mod line;
 mod report;
-#[cfg(test)]
-mod tests;
 
 pub use line::LineCursor;
 pub use report::{

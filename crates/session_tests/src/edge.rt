@@ -48,21 +48,51 @@ fn puts(
     }
 }
 
+/// Limits, the calls that fail, and why a source of `TEXT` can't be read to its end then.
+const ENDS: [(usize, &[u32], Option<ReadEnd>); 6] = [
+    (5, &[0], Some(ReadEnd::Failed)),
+    (5, &[1], Some(ReadEnd::Failed)),
+    (4, &[1], Some(ReadEnd::TooLong)),
+    (0, &[], Some(ReadEnd::TooLong)),
+    (5, &[2], None),
+    (67_108_864, &[2], None),
+];
+
+/// Rooms, the calls that fail, and what comes of `TEXT` that is put twice.
+const PUTS: [(usize, &[u32], Result<(), Failed>, &[u8]); 4] = [
+    (10, &[2], Ok(()), b"frameframe"),
+    (9, &[], Err(Failed), b"framefram"),
+    (10, &[1], Err(Failed), b"frame"),
+    (0, &[], Err(Failed), b""),
+];
+
+/// The place of the first source whose end is another.
+fn first_wrong_end(alloc: Global) -> Option<usize> {
+    for (place, (limit, fail, want)) in ENDS.iter().enumerate() {
+        if end_in_memory(alloc, *limit, *fail) != *want {
+            return Some(place);
+        }
+    }
+    None
+}
+
+/// The place of the first room of which something else comes.
+fn first_wrong_put(alloc: Global) -> Option<usize> {
+    for (place, (room, fail, want, written)) in PUTS.iter().enumerate() {
+        if !puts(alloc, *room, *fail, *want, *written) {
+            return Some(place);
+        }
+    }
+    None
+}
+
 #[test]
 fn the_fakes(rt: HostRuntime) {
     let alloc = rt.alloc();
-    let failed = Some(ReadEnd::Failed);
-    let long = Some(ReadEnd::TooLong);
-    assert!(rt; end_in_memory(alloc, 5, &[0]) == failed);
-    assert!(rt; end_in_memory(alloc, 5, &[1]) == failed);
-    assert!(rt; end_in_memory(alloc, 4, &[1]) == long);
-    assert!(rt; end_in_memory(alloc, 0, &[]) == long);
-    assert!(rt; end_in_memory(alloc, 5, &[2]).is_none());
-    assert!(rt; end_in_memory(alloc, 67_108_864, &[2]).is_none());
-    assert!(rt; puts(alloc, 10, &[2], Ok(()), b"frameframe"));
-    assert!(rt; puts(alloc, 9, &[], Err(Failed), b"framefram"));
-    assert!(rt; puts(alloc, 10, &[1], Err(Failed), b"frame"));
-    assert!(rt; puts(alloc, 0, &[], Err(Failed), b""));
+    assert_eq!(rt;
+        (first_wrong_end(alloc), first_wrong_put(alloc)),
+        (None, None)
+    );
 }
 
 /// Moves at most two octets in a call, and fails once its calls are used up. What is written is lost.
@@ -123,9 +153,11 @@ fn is_full(room: &mut [u8]) -> bool {
 
 #[test]
 fn readers_and_writers(rt: HostRuntime) {
-    assert!(rt; is_failure_read(rt.alloc()));
-    assert!(rt; is_failure_written());
     let mut room = [0u8; 3];
-    assert!(rt; is_full(&mut room));
-    assert!(rt; room == *b"fra");
+    let seen = [
+        is_failure_read(rt.alloc()),
+        is_failure_written(),
+        is_full(&mut room),
+    ];
+    assert_eq!(rt; (seen, room), ([true; 3], *b"fra"));
 }

@@ -124,34 +124,37 @@ fn landing() -> &'static [u8] {
 }
 
 /// What is due lands before a tick.
+const LANDING: [Try; 15] = [
+    Try::Frame(2, Err(SubmitFault::Early { now: 0 })),
+    Try::Add(1, Err(SubmitFault::NotNext { next: Some(0) })),
+    Try::Ticks(1, TickAnswer::Held { item: 0 }),
+    Try::Add(0, Ok(())),
+    Try::Ticks(1, TickAnswer::Held { item: 1 }),
+    Try::Add(1, Err(SubmitFault::Command(CommandFault::AlreadyIn))),
+    Try::Add(1, Err(SubmitFault::NotNext { next: None })),
+    Try::Ticks(5, TickAnswer::Ticked),
+    Try::Ticks(1, TickAnswer::Held { item: 2 }),
+    Try::Frame(2, Ok(())),
+    Try::Ticks(19, TickAnswer::Ticked),
+    Try::Ticks(2, TickAnswer::BackMissing { packet: 0 }),
+    Try::Back,
+    Try::Ticks(8, TickAnswer::Ticked),
+    Try::Ticks(2, TickAnswer::TxFull { line: 0 }),
+];
+
+const LANDED: Totals = Totals {
+    ticks: 32,
+    taken: 0,
+    frames: 1,
+    commands: 1,
+    refused: 1,
+    got: 0,
+};
+
+/// Whether it does.
 fn lands_before_a_tick(group: &mut Group) -> bool {
-    let steps = [
-        Try::Frame(2, Err(SubmitFault::Early { now: 0 })),
-        Try::Add(1, Err(SubmitFault::NotNext { next: Some(0) })),
-        Try::Ticks(1, TickAnswer::Held { item: 0 }),
-        Try::Add(0, Ok(())),
-        Try::Ticks(1, TickAnswer::Held { item: 1 }),
-        Try::Add(1, Err(SubmitFault::Command(CommandFault::AlreadyIn))),
-        Try::Add(1, Err(SubmitFault::NotNext { next: None })),
-        Try::Ticks(5, TickAnswer::Ticked),
-        Try::Ticks(1, TickAnswer::Held { item: 2 }),
-        Try::Frame(2, Ok(())),
-        Try::Ticks(19, TickAnswer::Ticked),
-        Try::Ticks(2, TickAnswer::BackMissing { packet: 0 }),
-        Try::Back,
-        Try::Ticks(8, TickAnswer::Ticked),
-        Try::Ticks(2, TickAnswer::TxFull { line: 0 }),
-    ];
-    let totals = Totals {
-        ticks: 32,
-        taken: 0,
-        frames: 1,
-        commands: 1,
-        refused: 1,
-        got: 0,
-    };
     let refused = [(1, Refusal::Command(CommandFault::AlreadyIn))];
-    is_right(group, &steps, totals, &refused)
+    is_right(group, &LANDING, LANDED, &refused)
 }
 
 /// A frame and commands whose journal has one entry, and an octet too few for the frame.
@@ -159,39 +162,48 @@ fn full() -> &'static [u8] {
     b"lines 1\ndelays 0\nring 1\nlag 1\nticks 1\nframe 0 07\nadd 0 0\nadd 0 0\n"
 }
 
+/// Why a frame is refused that is an octet too short.
+const SHORT: AcceptFault = AcceptFault::Length { n: 63 };
+
 /// The source refuses before a full journal does.
+const REFUSING: [Try; 7] = [
+    Try::Frame(
+        0,
+        Err(SubmitFault::JournalFull {
+            entries: 1,
+            bytes: 63,
+        }),
+    ),
+    Try::Add(1, Ok(())),
+    Try::Add(2, Err(SubmitFault::Command(CommandFault::AlreadyIn))),
+    Try::Frame(
+        0,
+        Err(SubmitFault::JournalFull {
+            entries: 0,
+            bytes: 63,
+        }),
+    ),
+    Try::Ticks(1, TickAnswer::Held { item: 0 }),
+    Try::Short(0, Err(SubmitFault::Frame(SHORT))),
+    Try::Ticks(1, TickAnswer::Ticked),
+];
+
+const REFUSED: Totals = Totals {
+    ticks: 1,
+    taken: 0,
+    frames: 0,
+    commands: 1,
+    refused: 2,
+    got: 0,
+};
+
+/// Whether it does.
 fn refuses_before_a_full_journal(group: &mut Group) -> bool {
-    let few = SubmitFault::JournalFull {
-        entries: 1,
-        bytes: 63,
-    };
-    let none = SubmitFault::JournalFull {
-        entries: 0,
-        bytes: 63,
-    };
-    let short = AcceptFault::Length { n: 63 };
-    let steps = [
-        Try::Frame(0, Err(few)),
-        Try::Add(1, Ok(())),
-        Try::Add(2, Err(SubmitFault::Command(CommandFault::AlreadyIn))),
-        Try::Frame(0, Err(none)),
-        Try::Ticks(1, TickAnswer::Held { item: 0 }),
-        Try::Short(0, Err(SubmitFault::Frame(short))),
-        Try::Ticks(1, TickAnswer::Ticked),
-    ];
-    let totals = Totals {
-        ticks: 1,
-        taken: 0,
-        frames: 0,
-        commands: 1,
-        refused: 2,
-        got: 0,
-    };
     let refused = [
-        (0, Refusal::Frame(short)),
+        (0, Refusal::Frame(SHORT)),
         (2, Refusal::Command(CommandFault::AlreadyIn)),
     ];
-    is_right(group, &steps, totals, &refused)
+    is_right(group, &REFUSING, REFUSED, &refused)
 }
 
 /// Whether a group of one of both texts is right.
@@ -210,6 +222,6 @@ fn is_group(alloc: Global, is_full: bool) -> bool {
 
 #[test]
 fn what_is_due_lands_or_is_refused(rt: HostRuntime) {
-    assert!(rt; is_group(rt.alloc(), false));
-    assert!(rt; is_group(rt.alloc(), true));
+    let alloc = rt.alloc();
+    assert_eq!(rt; [is_group(alloc, false), is_group(alloc, true)], [true; 2]);
 }

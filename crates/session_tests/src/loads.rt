@@ -66,16 +66,6 @@ fn is_load(
     }
 }
 
-/// Frames as they are counted.
-fn counted(count: u64, octets: u64, sum: u64, last: u32) -> Frames {
-    Frames {
-        count,
-        octets,
-        sum,
-        last,
-    }
-}
-
 /// Whether a load has one frame, of 1,012 octets, that begins as is wanted.
 fn is_drawn(script: &Script) -> bool {
     let mut is_right = frames_of(script).count == 1;
@@ -100,17 +90,68 @@ fn is_first_drawn(alloc: Global) -> bool {
     }
 }
 
+/// A number, with its lines and ticks, and what its load has: delays, how many items, and frames.
+type Row = ((u64, u8, u32), &'static [u16], usize, Frames);
+
+const LOADS: [Row; 4] = [
+    (
+        (1, 1, 1),
+        &[33],
+        2,
+        Frames {
+            count: 1,
+            octets: 1012,
+            sum: 124_859,
+            last: 0,
+        },
+    ),
+    (
+        (0, 2, 8),
+        &[22, 2],
+        3,
+        Frames {
+            count: 1,
+            octets: 266,
+            sum: 33_319,
+            last: 0,
+        },
+    ),
+    (
+        (18_446_744_073_709_551_615, 3, 9),
+        &[9, 14, 33],
+        5,
+        Frames {
+            count: 2,
+            octets: 1399,
+            sum: 175_711,
+            last: 8,
+        },
+    ),
+    (
+        (7, 8, 4000),
+        &[19, 31, 2, 12, 15, 3, 33, 7],
+        508,
+        Frames {
+            count: 500,
+            octets: 405_860,
+            sum: 51_766_787,
+            last: 3992,
+        },
+    ),
+];
+
+/// The place of the first load that is another.
+fn first_wrong(alloc: Global) -> Option<usize> {
+    for (place, (load, delays, items, frames)) in LOADS.iter().enumerate() {
+        if !is_load(alloc, *load, *delays, *items, *frames) {
+            return Some(place);
+        }
+    }
+    None
+}
+
 #[test]
 fn loads_are_those_of_their_numbers(rt: HostRuntime) {
     let alloc = rt.alloc();
-    let first = counted(1, 1012, 124859, 0);
-    assert!(rt; is_load(alloc, (1, 1, 1), &[33], 2, first));
-    let second = counted(1, 266, 33319, 0);
-    assert!(rt; is_load(alloc, (0, 2, 8), &[22, 2], 3, second));
-    let third = counted(2, 1399, 175711, 8);
-    assert!(rt; is_load(alloc, (18446744073709551615, 3, 9), &[9, 14, 33], 5, third));
-    let fourth = counted(500, 405860, 51766787, 3992);
-    let delays = [19, 31, 2, 12, 15, 3, 33, 7];
-    assert!(rt; is_load(alloc, (7, 8, 4000), &delays, 508, fourth));
-    assert!(rt; is_first_drawn(alloc));
+    assert_eq!(rt; (first_wrong(alloc), is_first_drawn(alloc)), (None, true));
 }

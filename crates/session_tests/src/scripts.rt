@@ -103,8 +103,8 @@ fn is_limit(alloc: Global, of_return_path: bool) -> bool {
 
 #[test]
 fn windows_have_a_limit(rt: HostRuntime) {
-    assert!(rt; is_limit(rt.alloc(), false));
-    assert!(rt; is_limit(rt.alloc(), true));
+    let alloc = rt.alloc();
+    assert_eq!(rt; [is_limit(alloc, false), is_limit(alloc, true)], [true; 2]);
 }
 
 /// A script with each line that there is.
@@ -125,42 +125,42 @@ fn has_numbers(script: &Script) -> bool {
         && config.ticks == 100
 }
 
-/// Whether the windows of a line are these.
-fn has_windows(list: Option<&WindowList>, want: &[Window]) -> bool {
-    match list {
-        Some(list) => list.0.as_slice() == want,
-        None => false,
+/// Its windows, by lines.
+const FIRST: [Window; 1] = [Window {
+    first: 3,
+    end: 4,
+    slip: 0,
+}];
+
+const SECOND: [Window; 2] = [
+    Window {
+        first: 10,
+        end: 20,
+        slip: 4,
+    },
+    Window {
+        first: 20,
+        end: 22,
+        slip: 1,
+    },
+];
+
+/// Whether its windows are right.
+fn are_windows(lists: &[WindowList]) -> bool {
+    match lists {
+        [first, second] => {
+            first.0.as_slice() == FIRST.as_slice() && second.0.as_slice() == SECOND.as_slice()
+        }
+        _ => false,
     }
 }
 
 /// Whether its delays, its windows and the return packets that are lost are right.
 fn has_lists(script: &Script) -> bool {
-    let first = [Window {
-        first: 3,
-        end: 4,
-        slip: 0,
-    }];
-    let second = [
-        Window {
-            first: 10,
-            end: 20,
-            slip: 4,
-        },
-        Window {
-            first: 20,
-            end: 22,
-            slip: 1,
-        },
-    ];
     let config = &script.config;
-    let lists = config.windows.0.as_slice();
-    let delays = config.delays.0.as_slice();
-    let lost = config.lost.0.as_slice();
-    let are_windows = has_windows(lists.first(), &first) && has_windows(lists.get(1), &second);
-    are_windows
-        && lists.len() == 2
-        && delays == [3, 5].as_slice()
-        && lost == [(0, 2), (2, 62500)].as_slice()
+    are_windows(config.windows.0.as_slice())
+        && config.delays.0.as_slice() == [3, 5].as_slice()
+        && config.lost.0.as_slice() == [(0, 2), (2, 62500)].as_slice()
 }
 
 /// Whether an item of its number is right.
@@ -183,19 +183,21 @@ fn has_items(script: &Script) -> bool {
     are_right
 }
 
+/// Its event lines.
+const EVENTS: [EventLine; 8] = [
+    EventLine::Client(1),
+    EventLine::Operator(2),
+    EventLine::Tick(3),
+    EventLine::Carry(1, 4),
+    EventLine::Back(5),
+    EventLine::Take(6),
+    EventLine::Round(1_000_000),
+    EventLine::Drain,
+];
+
 /// Whether its event lines are right.
 fn has_events(script: &Script) -> bool {
-    let want = [
-        EventLine::Client(1),
-        EventLine::Operator(2),
-        EventLine::Tick(3),
-        EventLine::Carry(1, 4),
-        EventLine::Back(5),
-        EventLine::Take(6),
-        EventLine::Round(1_000_000),
-        EventLine::Drain,
-    ];
-    script.events.0.as_slice() == want.as_slice()
+    script.events.0.as_slice() == EVENTS.as_slice()
 }
 
 /// Whether the script with each line says them all.

@@ -2,7 +2,7 @@
 use Rattle.std.proofs.Common.{rules, ◌≡◌, zero, suc, ◌+◌, List, [], ◌∷◌, ◌++◌, length, Some, sym, subst}
 use Rattle.std.proofs.Common.{arith}
 use Rattle.std.proofs.lemmas.List.{length-append}
-use Rattle.member_ring.specs.declared.ends.RingOut.{RingOut}
+use Rattle.member_ring.specs.Ends.{OutEnd}
 use Rattle.member_ring.specs.Ends.{out_passed}
 use Rattle.group_lock.specs.Rings.{AreUnused}
 use Rattle.session_tests.proofs.groups.send_rings.Goals as goal
@@ -10,7 +10,7 @@ use Rattle.session_tests.proofs.groups.send_rings.Goals as goal
 same-some : {X : Type 0} (x y : X) → Some x ≡ Some y → x ≡ y
 same-some x y e = cc
 
-unused-more : {T : Type 0} (ends : List (RingOut T)) (end : RingOut T) → AreUnused ends → out_passed end ≡ [] →
+unused-more : {T : Type 0} (ends : List (OutEnd T)) (end : OutEnd T) → AreUnused ends → out_passed end ≡ [] →
     AreUnused (ends ++ end ∷ [])
 unused-more [] end none fresh zero out is = subst (λ o. out_passed o ≡ []) (same-some end out is) fresh
 unused-more [] end none fresh (suc m) out is = absurd cc
