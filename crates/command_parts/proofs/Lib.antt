@@ -1,3 +1,3 @@
 pub mod EndLaws
 pub mod StopLaws
-mod TakenLaws
+pub mod TakenLaws

@@ -12,7 +12,7 @@ use outside_io::{ByteSource, Failed, ReadEnd, read_all};
 use std::alloc::Global;
 
 /// The most octets that an input may have.
-pub(crate) const MOST: usize = 67_108_864;
+pub const MOST: usize = 67_108_864;
 
 /// Reads the whole input of a command.
 pub fn read_input<S: ByteSource>(alloc: Global, source: &mut S) -> Result<Vec<u8>, Stop>
@@ -32,7 +32,7 @@ pub fn read_input<S: ByteSource>(alloc: Global, source: &mut S) -> Result<Vec<u8
 
 /// Takes some octets of an input, at most so many, and appends them to a rest; none where the input has come to its
 /// end.
-pub(crate) fn take_some<S: ByteSource>(
+pub fn take_some<S: ByteSource>(
     source: &mut S,
     buf: &mut [u8],
     rest: &mut Vec<u8>,
@@ -60,11 +60,7 @@ pub(crate) fn take_some<S: ByteSource>(
 }
 
 /// Reads an input to its end, at most so many octets, of which nothing is kept.
-pub(crate) fn skip_rest<S: ByteSource>(
-    alloc: Global,
-    source: &mut S,
-    room: usize,
-) -> Result<(), Stop>
+pub fn skip_rest<S: ByteSource>(alloc: Global, source: &mut S, room: usize) -> Result<(), Stop>
     ensures read { IfOk result (λ _. (text : List ℕ) × (length text ≤ room)
         × GivesAll S.left source.old source.new text
         × (S.faults source.new ≡ S.faults source.old)) }

@@ -12,9 +12,9 @@ mod script;
 mod stop;
 mod words;
 
-pub use input::read_input;
+pub use input::{MOST, read_input, skip_rest, take_some};
 pub use laws::{end_law, input_law, made_law};
 pub use report::{take_back, write_rest};
-pub use script::{line_fault, read_whole_script};
+pub use script::{line_fault, read_whole_script, stop_of};
 pub use stop::{Fault, Refusal, Stop, tell, tell_usage};
 pub use words::{NO_MEMORY, given_words};

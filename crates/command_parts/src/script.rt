@@ -173,7 +173,7 @@ fn limit_fault(note: &[u8]) -> Fault
 }
 
 /// Why a text that says no script stops a command.
-fn stop_of(fault: ScriptFault) -> Stop
+pub fn stop_of(fault: ScriptFault) -> Stop
     ensures refused { fault ≢ ScriptFault.Memory → IsRefusedFor fault result }
     ensures short { fault ≡ ScriptFault.Memory → result ≡ Stop.Memory }
 {

@@ -1,6 +1,6 @@
 -- The lines of a script, one line on and at the end.
 use Rattle.std.proofs.Common.{◌≡◌, ℕ, ◌+◌, ◌<◌, ◌≤◌, List, ◌∷◌, ap, sym, ◌∙◌, arith, refl, true, false, inl, inr, ◌⊎◌}
-use Rattle.std.specs.Prelude.{None, Some, Err, Result, nat_lt}
+use Rattle.std.specs.Prelude.{Option, None, Some, Err, Result, nat_lt}
 use Rattle.std.proofs.lemmas.Bool.{cases_lt}
 use Rattle.std.proofs.lemmas.Bool.Decides.{nat_tests}
 use Rattle.script_read.specs.declared.fault.LineFault.{LineFault}
@@ -13,10 +13,12 @@ use Rattle.text_lines.specs.Language.{said_from}
 use Rattle.text_lines.proofs.LanguageLaws.{line_faulty, line_sound}
 use Rattle.script_read.specs.declared.fault.ScriptFault.{ScriptFault}
 use Rattle.script_read.specs.declared.fault.ScriptFault.TheVariants as fault
+use Rattle.script_read.specs.declared.keyword.Keyword.{Keyword}
 use Rattle.script_read.specs.declared.draft.Draft.{Draft}
 use Rattle.script_read.specs.declared.draft.Statement.{Statement}
 use Rattle.script_read.specs.Statements.{awaited, words_fault, words_said, after}
 use Rattle.script_read.specs.Drafts.{fault_at}
+use Rattle.script_read.specs.Pieces.{IsToldAt}
 use Rattle.script_read.specs.Script.{missing_line, script_lines, script_of_draft}
 
 -- a line without a fault
@@ -70,3 +72,19 @@ whole_config d none =
       | inl less ↦ absurd (let bad : Some (Missing (awaited d.next)) ≡ None = sym (config_missing d less) ∙ none in cc)
       | inr least ↦ least
     ]
+
+-- ---- a line by its number
+-- one that wasn't read
+pub stop_told : (n : ℕ) (found : Option LineFault) (why : LineStop) (f : ScriptFault) → f ≡ fault_at n why →
+    IsStop why found → (f ≡ fault.Memory) ⊎ IsToldAt n found f
+stop_told n found (stop.Fault wrong) f is fails = inr (record { wrong = wrong; fails = fails; is = is })
+stop_told n found stop.Memory f is fails = inl is
+
+-- the configuration isn't whole
+pub missing_told : (n : ℕ) (d : Draft) (k : Keyword) → d.next < 6 → k ≡ awaited d.next →
+    IsToldAt n (missing_line d) (fault.Line n (Missing k))
+missing_told n d k less is = record {
+  wrong = Missing k;
+  fails = config_missing d less ∙ ap (λ (k : Keyword). Some (Missing k)) (sym is);
+  is = refl;
+}

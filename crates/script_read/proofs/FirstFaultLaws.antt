@@ -65,7 +65,7 @@ config_line c =
     neither (slip_fault 0 c.windows) (fault_or (spread_fault c) (lag_fault c)) (slips_line 0 c.windows)
     (neither (spread_fault c) (lag_fault c) (spread_line c) (lag_line c))
 
-no_line : (c : Config) (m : ℕ) (kind : LineFault) → config_fault c ≡ Some (fault.Line m kind) → ⊥
+pub no_line : (c : Config) (m : ℕ) (kind : LineFault) → config_fault c ≡ Some (fault.Line m kind) → ⊥
 unfolding is_line
 no_line c m kind e = (let bad : true ≡ false = sym (ap is_line e) ∙ config_line c in cc)
 

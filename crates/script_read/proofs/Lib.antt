@@ -4,7 +4,7 @@ mod LimitLaws
 pub mod RowLaws
 mod GrowthLaws
 mod ValidLaws
-mod FirstFaultLaws
+pub mod FirstFaultLaws
 mod FitLaws
 pub mod ReadLaws
 mod PieceLaws

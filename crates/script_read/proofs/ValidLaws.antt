@@ -15,6 +15,7 @@ use Rattle.script_read.specs.Script.{fault_or, windows_fault, slip_fault, spread
 use Rattle.script_read.specs.Script.{config_fault, script_in}
 use Rattle.session_model.specs.Valid.{HasFailures, IsValid}
 use Rattle.script_read.specs.Drafts.{AreInOrder, AreFailures, IsDraft}
+use Rattle.script_read.specs.Pieces.{IsUntested}
 
 none_first : (f later : Option ScriptFault) → fault_or f later ≡ None → f ≡ None
 none_first None later is = refl
@@ -132,3 +133,12 @@ IsValid-draft d is whole few none =
       };
       events = is.events;
     }
+
+-- what its lines say, before slips, spread and lag are tested
+pub IsUntested-draft : (d : Draft) → IsDraft d → 6 ≤ d.next → length d.items ≤ 67108864 → IsUntested (script_in d)
+IsUntested-draft d is whole few = record {
+  few = (let lines = is.config.lines (omega (arith, whole)) in omega (arith, lines.1, is.config.few));
+  windows = is.config.windows;
+  few_lost = is.config.few_lost;
+  valid = λ none. IsValid-draft d is whole few none;
+}

@@ -20,5 +20,6 @@ mod statement;
 pub use fault::{LineFault, ScriptFault};
 pub use keyword::{Keyword, Part};
 pub use laws::{fault_law, valid_law};
+pub use limits::limit_fault;
 pub use pieces::ScriptReader;
 pub use script::read_script;

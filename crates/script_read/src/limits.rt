@@ -5,10 +5,11 @@ ghost use Rattle.session_model.specs.Plan.{greatest, least};
 ghost use Rattle.session_model.specs.Plan.{greatest_slip as greatest_slip_of};
 ghost use Rattle.script_read.specs.Script.{windows_fault, slip_fault, config_fault};
 ghost use Rattle.script_read.specs.Drafts.{AreFailures};
+ghost use Rattle.script_read.specs.Pieces.{IsUntested};
 
 use crate::fault::ScriptFault;
 use failure_window::greatest_slip;
-use session_model::{Config, Delays, WindowList, WindowLists};
+use session_model::{Config, Delays, Script, WindowList, WindowLists};
 
 // The first window of line `m` that slips too far.
 fn fault_of_windows(m: u8, list: &WindowList) -> Option<ScriptFault>
@@ -114,4 +115,12 @@ pub(crate) fn fault_of_config(config: &Config) -> Option<ScriptFault>
         });
     }
     None
+}
+
+/// What is wrong with the slips, the spread or the lag of a script whose lines have no fault, in this order.
+pub fn limit_fault(script: &Script) -> Option<ScriptFault>
+    requires { IsUntested script.now }
+    ensures { result ≡ config_fault script.now.config }
+{
+    fault_of_config(&script.config)
 }

@@ -1,9 +1,12 @@
 //! A script whose text comes in pieces.
-ghost use Rattle.std.specs.Prelude.{◌≡◌, ◌⊎◌, ℕ, ◌+◌, ◌≤◌, List, [], ◌++◌, length, take, IfOk, IfErr, Ok, Err};
+ghost use Rattle.std.specs.Prelude.{◌≡◌, ◌⊎◌, ℕ, ◌+◌, ◌≤◌, List, [], ◌++◌, length, take, IfOk, IfErr, Ok, Err, None};
 ghost use Rattle.std.specs.Str.Lines.{lines};
 ghost use Rattle.text_lines.specs.Language.{said_from};
-ghost use Rattle.script_read.specs.Script.{script_of, script_of_draft, script_in, script_lines};
-ghost use Rattle.script_read.specs.Pieces.{Stands, HasRoom, IsReader, Follows};
+ghost use Rattle.text_lines.specs.Words.{words};
+ghost use Rattle.script_read.specs.Statements.{words_fault, words_said, after, at_first};
+ghost use Rattle.script_read.specs.Script.{script_of, script_of_draft, script_in, script_lines, missing_line};
+ghost use Rattle.script_read.specs.Pieces.{Stands, HasRoom, IsReader, Follows, next_number, drafted, IsAt, IsToldAt};
+ghost use Rattle.script_read.specs.Pieces.{IsUntested};
 ghost use Rattle.script_read.specs.Drafts.{IsDraft, fault_at};
 ghost use Rattle.session_model.specs.Valid.{IsValid, HasFewLosses};
 ghost use Rattle.session_model.specs.Limits.{longest_input};
@@ -157,6 +160,71 @@ impl ScriptReader {
             return Err(fault);
         }
         Ok(finished(draft))
+    }
+}
+
+impl ScriptReader {
+    /// A reader of a script whose first line has this number in a text.
+    pub fn from_line(alloc: Global, number: u32) -> ScriptReader
+        requires { 1 ≤ number }
+        ensures reader { IsReader result }
+        ensures at { IsAt result number at_first }
+    {
+        ScriptReader {
+            draft: no_lines(alloc),
+            number,
+        }
+    }
+
+    /// The number of the line that is read next.
+    pub fn next_number(&self) -> u32
+        ensures { result ≡ next_number self.now }
+    {
+        self.number
+    }
+
+    /// Reads one line, without its end.
+    pub fn read_next(self, alloc: Global, line: &[u8]) -> Result<ScriptReader, ScriptFault>
+        requires reader { IsReader self }
+        requires room { HasRoom self 1 }
+        ensures reader { IfOk result IsReader }
+        ensures sound { IfOk result (λ _. words_fault (drafted self) (words line.now) ≡ None) }
+        ensures at { IfOk result (λ read. IsAt read (next_number self + 1)
+            (after (drafted self) (words_said (words line.now)))) }
+        ensures fault { IfErr result (λ fault. (fault ≡ ScriptFault.Memory) ⊎
+            IsToldAt (next_number self) (words_fault (drafted self) (words line.now)) fault) }
+    {
+        let mut draft = self.draft;
+        let said = match read_line(alloc, &draft, line) {
+            Ok(said) => said,
+            Err(stop) => return Err(fault_of(self.number, stop)),
+        };
+        match add(alloc, &mut draft, said) {
+            Ok(()) => Ok(ScriptReader {
+                draft,
+                number: self.number + 1,
+            }),
+            Err(_) => Err(ScriptFault::Memory),
+        }
+    }
+
+    /// The script that its lines say after the last of them. Its slips, spread and lag aren't tested.
+    pub fn end(self) -> Result<Script, ScriptFault>
+        requires reader { IsReader self }
+        requires room { HasRoom self 0 }
+        ensures whole { IfOk result (λ _. missing_line (drafted self) ≡ None) }
+        ensures script { IfOk result (λ script. script ≡ script_in (drafted self)) }
+        ensures untested { IfOk result IsUntested }
+        ensures fault { IfErr result (λ fault.
+            IsToldAt (next_number self) (missing_line (drafted self)) fault) }
+    {
+        if self.draft.next < 6 {
+            return Err(ScriptFault::Line {
+                number: self.number,
+                fault: LineFault::Missing(awaited(self.draft.next)),
+            });
+        }
+        Ok(finished(self.draft))
     }
 }
 

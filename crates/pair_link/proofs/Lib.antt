@@ -1,0 +1,5 @@
+mod HalfLaws
+mod PieceLaws
+mod LimitLaws
+mod InputLaws
+mod FirstFaultLaws

@@ -1,0 +1,10 @@
+-- What was taken of the input, and that all of it was read but the rest.
+use Rattle.pair_link.proofs.InputLaws.{IsPairReading}
+use Rattle.pair_link.proofs.read.read_pair.Given as goal
+
+abbrev pub invariant-loop-n : goal.invariant-loop-n
+invariant-loop-n g l =
+    IsPairReading g.S.ByteSource.left g.S.ByteSource.faults l.fn.source l.source l.reader l.rest.items l.room
+
+abbrev pub decreases-loop-n : goal.decreases-loop-n
+decreases-loop-n g l = l.room

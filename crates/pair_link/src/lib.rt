@@ -1,0 +1,18 @@
+//! Two scripts in one text, for two sessions that carry each other's return packets. A line of the one word `other`
+//! divides them. The language is a definition that computes, `pair_of`: the lines of both scripts as `script_read` has
+//! them, with numbers that run on, or the first fault; then what is wrong with either script as a whole, and with both
+//! together. The reader gives just that, in one pass over an input in pieces. Nothing is run here. Begin with
+//! `read_pair`.
+#![tactic(auto)]
+
+mod laws;
+mod limits;
+mod note;
+mod pair;
+mod read;
+mod reader;
+
+pub use laws::fault_law;
+pub use pair::{PairFault, ScriptPair};
+pub use read::read_pair;
+pub use reader::PairReader;
