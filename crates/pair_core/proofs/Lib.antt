@@ -1,0 +1,11 @@
+pub mod BesideLaws
+pub mod HeardLaws
+pub mod OpenLaws
+pub mod TickLaws
+pub mod TakeLaws
+pub mod CauseLaws
+pub mod RoundLaws
+pub mod ItemLaws
+pub mod PairLaws
+pub mod BothLaws
+pub mod LandLaws

@@ -1,0 +1,26 @@
+-- There is a path for each line.
+use Rattle.std.proofs.Common.{◌≡◌, length, sym, ◌∙◌, ap}
+use Rattle.walk_law.specs.Walk.{walk_plan}
+use Rattle.walk_law.proofs.PlanLaws.{has-paths, sound-walks}
+use Rattle.pair_law.specs.Pair.{IsWay, way_of}
+use Rattle.pair_law.specs.declared.pair.Way.TheVariants.{There, Back}
+use Rattle.pair_law.specs.PairCounts.{plan_on}
+use Rattle.pair_law.proofs.WayLaws.{way-sound}
+use Rattle.session_model.specs.declared.script.Script.{Script}
+use Rattle.pair_core.specs.Moved.{Paired, plan_of}
+use Rattle.pair_core.proofs.PairLaws.{paths-size}
+use Rattle.pair_core.proofs.pair.Pair.lines.Goals as goal
+
+pub returns-in-There-clause-paths : goal.returns-in-There-clause-paths
+returns-in-There-clause-paths c =
+    let f = c.self.inside in
+    paths-size f.there.script f.back.script c.self.invariant.pair.there_way
+    ∙ ap (λ (p : Paired). length (plan_on (plan_of p) There).paths) c.self.view_is
+    ∙ ap (λ w. length (plan_on (plan_of c.args.self.now) w).paths) (sym c.in-There.is)
+
+pub returns-in-Back-clause-paths : goal.returns-in-Back-clause-paths
+returns-in-Back-clause-paths c =
+    let f = c.self.inside in
+    paths-size f.back.script f.there.script c.self.invariant.pair.back_way
+    ∙ ap (λ (p : Paired). length (plan_on (plan_of p) Back).paths) c.self.view_is
+    ∙ ap (λ w. length (plan_on (plan_of c.args.self.now) w).paths) (sym c.in-Back.is)

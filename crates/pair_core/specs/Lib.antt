@@ -1,0 +1,4 @@
+pub mod Moved
+pub mod Said
+pub mod Ways
+pub mod Steps
