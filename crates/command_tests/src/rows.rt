@@ -93,7 +93,7 @@ fn push_word(alloc: Global, words: &mut Vec<String>, word: &str) {
 }
 
 /// Words that stand one space apart.
-fn words_of(alloc: Global, text: &str) -> Vec<String> {
+pub fn words_of(alloc: Global, text: &str) -> Vec<String> {
     let mut words = Vec::new(alloc);
     for word in text.split(' ') {
         push_word(alloc, &mut words, word);

@@ -1,9 +1,9 @@
 //! Words, one by one, and the commands that they are.
 
+use crate::rows::words_of;
 use cmd_words::read_words;
 use run_command::RunCommand;
-use std::alloc::{AllocError, Global};
-use std::test::Fail;
+use std::alloc::Global;
 use walk_command::WalkCommand;
 
 // Words with one space between them, and the command of the program of walks that they are.
@@ -103,44 +103,57 @@ const RUNS: &str = "\
     --help=> usage\n\
     => usage";
 
-/// Words with one space between them, each by itself.
-fn split(alloc: Global, text: &str) -> Result<Vec<String>, AllocError> {
-    let mut words = Vec::new(alloc);
-    for word in text.split(' ') {
-        words.push(String::from_str(alloc, word)?)?;
-    }
-    Ok(words)
-}
-
-/// What the program of walks is told by words.
-fn walk_told(alloc: Global, words: &[String]) -> Result<String, AllocError> {
-    match read_words::<WalkCommand>(alloc, words) {
+/// Whether the program of walks is told this by words.
+fn is_walk(alloc: Global, words: &[String], want: &str) -> bool {
+    let told = match read_words::<WalkCommand>(alloc, words) {
         Ok(command) => format!(in alloc; "{command:?}"),
         Err(fault) => format!(in alloc; "{fault}"),
+    };
+    match told {
+        Ok(told) => told.as_str() == want,
+        Err(_) => false,
     }
 }
 
 /// And the program of runs.
-fn run_told(alloc: Global, words: &[String]) -> Result<String, AllocError> {
-    match read_words::<RunCommand>(alloc, words) {
+fn is_run(alloc: Global, words: &[String], want: &str) -> bool {
+    let told = match read_words::<RunCommand>(alloc, words) {
         Ok(command) => format!(in alloc; "{command:?}"),
         Err(fault) => format!(in alloc; "{fault}"),
+    };
+    match told {
+        Ok(told) => told.as_str() == want,
+        Err(_) => false,
     }
 }
 
+/// Whether one of both programs is told what a row says.
+fn is_told(alloc: Global, row: &str, of_walks: bool) -> bool {
+    let (text, want) = row.split_once("=> ").unwrap_or((row, "a row"));
+    let words = words_of(alloc, text);
+    if of_walks {
+        is_walk(alloc, words.as_slice(), want)
+    } else {
+        is_run(alloc, words.as_slice(), want)
+    }
+}
+
+/// The first row of which something else is told.
+fn first_wrong(alloc: Global, rows: &'static str, of_walks: bool) -> Option<&'static str> {
+    for row in rows.lines() {
+        if !is_told(alloc, row, of_walks) {
+            return Some(row);
+        }
+    }
+    None
+}
+
 #[test]
-fn words_are_commands(rt: HostRuntime) -> Result<(), Fail> {
+fn words_are_commands(rt: HostRuntime) {
     let alloc = rt.alloc();
-    for row in WALKS.lines() {
-        let (text, want) = row.split_once("=> ").unwrap_or((row, "a row"));
-        let words = split(alloc, text)?;
-        assert_eq!(rt; walk_told(alloc, words.as_slice())?.as_str(), want, "{row}");
-    }
-    for row in RUNS.lines() {
-        let (text, want) = row.split_once("=> ").unwrap_or((row, "a row"));
-        let words = split(alloc, text)?;
-        assert_eq!(rt; run_told(alloc, words.as_slice())?.as_str(), want, "{row}");
-    }
-    assert_eq!(rt; walk_told(alloc, &[])?.as_str(), "usage");
-    Ok(())
+    let wrong = [
+        first_wrong(alloc, WALKS, true),
+        first_wrong(alloc, RUNS, false),
+    ];
+    assert_eq!(rt; (wrong, is_walk(alloc, &[], "usage")), ([None; 2], true));
 }

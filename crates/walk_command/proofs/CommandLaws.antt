@@ -17,7 +17,8 @@ use Rattle.command_parts.specs.declared.stop.Stop.TheVariants.{Memory}
 use Rattle.command_parts.proofs.StopLaws.{made-beside, ends-no-memory}
 use Rattle.walk_command.specs.declared.command.WalkCommand.{WalkCommand}
 use Rattle.walk_command.specs.declared.command.WalkCommand.TheVariants.{Walk, Trace, Fates, Capture, Gfp, Frames}
-use Rattle.walk_command.specs.declared.command.WalkCommand.TheVariants.{Decode, Noise, Au4, Channels, Make, Stream}
+use Rattle.walk_command.specs.declared.command.WalkCommand.TheVariants.{Decode, Noise, Au4, Channels, Pair, Make}
+use Rattle.walk_command.specs.declared.command.WalkCommand.TheVariants.{Stream}
 use Rattle.walk_command.specs.Walk.{word_at, is_word, walk_words}
 use Rattle.walk_command.specs.Trace.{trace_words}
 use Rattle.walk_command.specs.Fates.{fates_words}
@@ -28,6 +29,7 @@ use Rattle.walk_command.specs.Decode.{decode_words}
 use Rattle.walk_command.specs.Noise.{noise_words}
 use Rattle.walk_command.specs.Au4.{au4_words}
 use Rattle.walk_command.specs.Channels.{channels_words}
+use Rattle.walk_command.specs.Pair.{pair_words}
 use Rattle.walk_command.specs.Make.{load_of, make_words}
 use Rattle.walk_command.specs.Stream.{ticks_of, rate_of, numbers_in, stream_words}
 use Rattle.walk_command.specs.Commands.{command_of, task_at, command_in, task_for, task_of, usage}
@@ -45,6 +47,7 @@ Fits Decode = Unit {0}
 Fits Noise = Unit {0}
 Fits Au4 = Unit {0}
 Fits Channels = Unit {0}
+Fits Pair = Unit {0}
 Fits (Make number lines ticks) = IsWithin 1 64 lines × IsWithin 1 1000000 ticks
 Fits (Stream load) = IsRateLoad load
 
@@ -124,6 +127,9 @@ au4-fits words = if-fits (is_word (codes "au4") words) (Some Au4) tt
 channels-fits : (words : List (List ℕ)) → IfSome (channels_words words) Fits
 channels-fits words = if-fits (is_word (codes "channels") words) (Some Channels) tt
 
+pair-fits : (words : List (List ℕ)) → IfSome (pair_words words) Fits
+pair-fits words = if-fits (is_word (codes "pair") words) (Some Pair) tt
+
 decode-fits : (words : List (List ℕ)) → IfSome (decode_words words) Fits
 decode-fits words = if-fits (is_word (codes "decode") words) (Some Decode) tt
 
@@ -164,9 +170,11 @@ named-fits words =
     let noises = option_or decodes (noise_words words) in
     let links = option_or noises (au4_words words) in
     let channels = option_or links (channels_words words) in
-    let makes = option_or channels (make_words words) in
+    let pairs = option_or channels (pair_words words) in
+    let makes = option_or pairs (make_words words) in
     or-fits makes (stream_words words)
-    (or-fits channels (make_words words)
+    (or-fits pairs (make_words words)
+    (or-fits channels (pair_words words)
     (or-fits links (channels_words words)
     (or-fits noises (au4_words words)
     (or-fits decodes (noise_words words)
@@ -179,7 +187,7 @@ named-fits words =
     (gfp-fits words))
     (frames-fits words))
     (decode-fits words)) (noise-fits words)) (au4-fits words))
-    (channels-fits words)) (make-fits words)) (stream-fits words)
+    (channels-fits words)) (pair-fits words)) (make-fits words)) (stream-fits words)
 
 pub fits : (words : List (String Global)) (command : WalkCommand) → command_in words ≡ Some command → Fits command
 fits words command is =
@@ -213,6 +221,7 @@ is-command (Some Decode) some = tt
 is-command (Some Noise) some = tt
 is-command (Some Au4) some = tt
 is-command (Some Channels) some = tt
+is-command (Some Pair) some = tt
 is-command (Some (Make number lines ticks)) some = tt
 is-command (Some (Stream load)) some = tt
 

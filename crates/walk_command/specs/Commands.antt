@@ -9,7 +9,8 @@ use Rattle.command_parts.specs.Ends.{Lent}
 use Rattle.walk_core.specs.Moved.{Walked}
 use Rattle.walk_command.specs.declared.command.WalkCommand.{WalkCommand}
 use Rattle.walk_command.specs.declared.command.WalkCommand.TheVariants.{Walk, Trace, Fates, Capture, Gfp, Frames}
-use Rattle.walk_command.specs.declared.command.WalkCommand.TheVariants.{Decode, Noise, Au4, Channels, Make, Stream}
+use Rattle.walk_command.specs.declared.command.WalkCommand.TheVariants.{Decode, Noise, Au4, Channels, Pair, Make}
+use Rattle.walk_command.specs.declared.command.WalkCommand.TheVariants.{Stream}
 use Rattle.walk_command.specs.Walk.{walk_words, walk_answer}
 use Rattle.walk_command.specs.Trace.{trace_words, trace_answer}
 use Rattle.walk_command.specs.Capture.{capture_words, capture_answer}
@@ -20,17 +21,19 @@ use Rattle.walk_command.specs.Decode.{decode_words, decode_answer}
 use Rattle.walk_command.specs.Noise.{noise_words, noise_answer}
 use Rattle.walk_command.specs.Au4.{au4_words, au4_answer}
 use Rattle.walk_command.specs.Channels.{channels_words, channels_answer}
+use Rattle.walk_command.specs.Pair.{pair_words}
+use Rattle.walk_pair.specs.Text.{pair_reply}
 use Rattle.walk_command.specs.Make.{make_words, make_answer}
 use Rattle.walk_command.specs.Stream.{stream_words, stream_answer}
 use Rattle.walk_command.specs.Ended.{IsWalkOf, HandsScript}
 
 abbrev pub usage : List ℕ
-usage = codes "usage: vcat_walk walk, trace, fates, capture, gfp, frames, decode, noise, au4, channels, make NUMBER LINES TICKS, or stream OCTETS MBITS FIRST END NUMBER\n"
+usage = codes "usage: vcat_walk walk, trace, fates, capture, gfp, frames, decode, noise, au4, channels, pair, make NUMBER LINES TICKS, or stream OCTETS MBITS FIRST END NUMBER\n"
 
 -- ---- a line for each command
 abbrev pub command_of : List (List ℕ) → Option WalkCommand
 command_of words =
-    option_or (option_or (option_or (option_or
+    option_or (option_or (option_or (option_or (option_or
     (option_or (option_or (option_or (option_or (option_or (option_or (option_or (walk_words words)
     (trace_words words))
     (fates_words words))
@@ -41,6 +44,7 @@ command_of words =
     (noise_words words))
     (au4_words words))
     (channels_words words))
+    (pair_words words))
     (make_words words))
     (stream_words words)
 
@@ -55,6 +59,7 @@ task_at Decode = reads decode_answer
 task_at Noise = reads noise_answer
 task_at Au4 = reads au4_answer
 task_at Channels = reads channels_answer
+task_at Pair = reads pair_reply
 task_at (Make number lines ticks) = makes (make_answer number lines ticks)
 task_at (Stream load) = makes (stream_answer load)
 
@@ -69,6 +74,7 @@ HandsBack source walk Decode = walk ≡ None
 HandsBack source walk Noise = walk ≡ None
 HandsBack source walk Au4 = walk ≡ None
 HandsBack source walk Channels = walk ≡ None
+HandsBack source walk Pair = walk ≡ None
 HandsBack source walk (Make number lines ticks) = IsWalkOf (load number lines ticks) walk
 HandsBack source walk (Stream rate) = walk ≡ None
 
@@ -84,6 +90,7 @@ RunsScript Decode = ⊥
 RunsScript Noise = ⊥
 RunsScript Au4 = ⊥
 RunsScript Channels = ⊥
+RunsScript Pair = ⊥
 RunsScript (Make number lines ticks) = ⊥
 RunsScript (Stream rate) = ⊥
 

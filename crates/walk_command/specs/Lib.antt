@@ -9,6 +9,7 @@ pub mod Decode
 pub mod Noise
 pub mod Au4
 pub mod Channels
+pub mod Pair
 pub mod Make
 pub mod Stream
 pub mod Commands

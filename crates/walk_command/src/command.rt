@@ -1,6 +1,6 @@
 //! The commands of the program, a line for each.
 
-use crate::{au4, capture, channels, decode, fates, frames, gfp, make, noise, stream, trace, walk};
+use crate::{au4, capture, channels, decode, fates, frames, gfp, make, noise, pair, stream, trace, walk};
 use cmd_words::FromWords;
 use rate_load::RateLoad;
 
@@ -27,6 +27,8 @@ pub enum WalkCommand {
     Au4,
     /// `channels`: send frames of clients that share a stream by channel numbers, and write those that get through.
     Channels,
+    /// `pair`: make the sessions of two scripts, which carry each other's return packets.
+    Pair,
     /// `make`: make the walk of the load of a number, of 1 to 64 lines and 1 to 1,000,000 ticks.
     Make { number: u64, lines: u8, ticks: u32 },
     /// `stream`: write the script lines of a client that sends at a rate.
@@ -49,6 +51,7 @@ impl FromWords for WalkCommand {
             .or(noise::words(words))
             .or(au4::words(words))
             .or(channels::words(words))
+            .or(pair::words(words))
             .or(make::words(words))
             .or(stream::words(words))
     }

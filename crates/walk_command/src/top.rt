@@ -17,6 +17,7 @@ use crate::frames::frames;
 use crate::gfp::gfp;
 use crate::make::make;
 use crate::noise::noise;
+use crate::pair::pair;
 use crate::stream::stream;
 use crate::trace::trace;
 use crate::walk::walk;
@@ -37,12 +38,14 @@ use std::alloc::Global;
 /// bits of their stream are turned over, and the counts. `au4` reads what the pointers of AU-4 frames do, and
 /// writes a line of each numbered VC-4 that comes whole over them, and the counts. `channels` reads the frames
 /// of clients that share a stream by channel numbers, and which octets of it don't arrive, and writes the
-/// frames that get through with their channels, those that are refused, and the counts. `stream` writes the
-/// script lines of a client that sends at a rate.
+/// frames that get through with their channels, those that are refused, and the counts. `pair` reads two
+/// scripts, divided by the line `other`, makes a session of each, which carry each other's return packets, and
+/// writes what `walk` writes of a script: of the first on `out`, and of the second on `notes`. `stream` writes
+/// the script lines of a client that sends at a rate.
 ///
 /// The status is 2 where the words are no command, 3 where the input can't be read, 8 where it or the text of
 /// `stream` has more than 67,108,864 octets, 5 where one of its lines is faulty, or of a capture its head or
-/// a record, 6 where a script's slips, spread or lag don't fit its rings, 4 where an output can't be written,
+/// a record, 6 where a script's slips, spread or lag don't fit its rings, or two scripts don't go together, 4 where an output can't be written,
 /// 7 where memory is short, and else 0. Of those that hold the first in this order is told; want of memory
 /// may come in the place of any but 2, before anything is written. A note says on `notes` what went wrong.
 /// After a fault nothing more is written but that note.
@@ -83,6 +86,7 @@ pub fn walk_top<S: ByteSource, K: ByteSink, E: ByteSink>(
         Ok(WalkCommand::Noise) => noise(alloc, script, out, notes),
         Ok(WalkCommand::Au4) => au4(alloc, script, out, notes),
         Ok(WalkCommand::Channels) => channels(alloc, script, out, notes),
+        Ok(WalkCommand::Pair) => pair(alloc, script, out, notes),
         Ok(
             WalkCommand::Make {
                 number,
@@ -103,7 +107,7 @@ fn no_command<E: ByteSink>(notes: &mut E) -> WalkEnd
     ensures told { Tells E.written E.faults notes.old notes.new usage }
 {
     let text =
-        b"usage: vcat_walk walk, trace, fates, capture, gfp, frames, decode, noise, au4, channels, make NUMBER LINES TICKS, or stream OCTETS MBITS FIRST END NUMBER\n";
+        b"usage: vcat_walk walk, trace, fates, capture, gfp, frames, decode, noise, au4, channels, pair, make NUMBER LINES TICKS, or stream OCTETS MBITS FIRST END NUMBER\n";
     let status = tell_usage(text, notes);
     WalkEnd { status, walk: None }
 }

@@ -14,5 +14,6 @@ returns c =
     let noises = c.or-7.ensures ∙ ap₂ option_or decodes c.words-8.ensures in
     let links = c.or-8.ensures ∙ ap₂ option_or noises c.words-9.ensures in
     let channels = c.or-9.ensures ∙ ap₂ option_or links c.words-10.ensures in
-    let makes = c.or-10.ensures ∙ ap₂ option_or channels c.words-11.ensures in
-    c.or-11.ensures ∙ ap₂ option_or makes c.words-12.ensures
+    let pairs = c.or-10.ensures ∙ ap₂ option_or channels c.words-11.ensures in
+    let makes = c.or-11.ensures ∙ ap₂ option_or pairs c.words-12.ensures in
+    c.or-12.ensures ∙ ap₂ option_or makes c.words-13.ensures
