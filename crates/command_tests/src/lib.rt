@@ -10,6 +10,8 @@ mod group;
 #[cfg(test)]
 mod noise;
 #[cfg(test)]
+mod pairs;
+#[cfg(test)]
 mod pointers;
 #[cfg(test)]
 mod rows;
