@@ -35,9 +35,9 @@ fn faulty_rows() -> &'static str {
     pair;lines 1|delays 0|ring 1|lag 1|ticks 20|other|lines 2|delays 0 20|ring 1|lag 1|ticks 20| => 6;;fault: spread 20 0 0 1|help: delays from 0 to 20 and slips of 0 need a ring of at least 21|\n\
     pair;lines 1|delays 0|ring 1|lag 1|ticks 20|lost 0 1|other|lines 2|delays 0 20|ring 1|lag 1|ticks 20| => 6;;fault: spread 20 0 0 1|help: delays from 0 to 20 and slips of 0 need a ring of at least 21|\n\
     pair;lines 1|delays 0|ring 1|lag 1|ticks 20|lost 0 1|other|lines 1|delays 0|ring 1|lag 2|ticks 21| => 6;;fault: pair lost|\n\
-    pair;lines 1|delays 0|ring 1|lag 1|ticks 20|other|lines 1|delays 0|ring 1|lag 1|ticks 20|lost 0 1|client| => 5;;fault: line 13: word|help: client takes 1 words, and 0 follow|\n\
-    pair;lines 1|delays 0|ring 1|lag 1|ticks 20|client|other|lines 1|delays 0|ring 1|lag 2|ticks 21| => 5;;fault: line 6: word|help: client takes 1 words, and 0 follow|\n\
-    pair;lines 1|delays 0|ring 1|lag 1|ticks 20|other|lines 1|delays 0|ring 1|lag 2|ticks 21|client| => 5;;fault: line 12: word|help: client takes 1 words, and 0 follow|\n\
+    pair;lines 1|delays 0|ring 1|lag 1|ticks 20|other|lines 1|delays 0|ring 1|lag 1|ticks 20|lost 0 1|tick 1| => 6;;fault: pair lost|\n\
+    pair;lines 1|delays 0|ring 1|lag 1|ticks 20|tick 1|other|lines 1|delays 0|ring 1|lag 2|ticks 21| => 6;;fault: pair events|\n\
+    pair;lines 1|delays 0|ring 1|lag 1|ticks 20|other|lines 1|delays 0|ring 1|lag 2|ticks 21|tick 1| => 6;;fault: pair events|\n\
     pair;lines 1|delays 0|ring 1|lag 1|ticks 20|other|lines 1|delays 0|ring 1|lag 2|ticks 21| => 6;;fault: pair lag 1 2|\n\
     pair;lines 1|delays 0|ring 1|lag 257|ticks 20|other|lines 1|delays 0|ring 1|lag 257|ticks 21| => 6;;fault: pair lag 257 257|\n\
     pair;lines 1|delays 0|ring 1|lag 1|ticks 20|other|lines 1|delays 0|ring 1|lag 1|ticks 21| => 6;;fault: pair ticks 20 21|\n\
