@@ -1,9 +1,8 @@
 -- What is delivered of each channel of a plan, by the laws of channels.
-use Rattle.std.proofs.Common.{◌≡◌, ℕ, ◌<◌, ◌≤◌, ◌^◌, List, [], ◌∷◌, length, map, take, All, refl, sym, ◌∙◌, ap, subst}
+use Rattle.std.proofs.Common.{◌≡◌, ℕ, List, [], ◌∷◌, length, map, take, refl, sym, ◌∙◌, ap, subst}
 use Rattle.std.proofs.Common.{arith}
 use Rattle.std.proofs.lemmas.List.Elements.{All-map}
 use Rattle.linear_model.specs.declared.Cut.{Cut}
-use Rattle.linear_model.specs.Linear.{ChannelFrame}
 use Rattle.linear_model.specs.Channels.{Channels, silent, waiting_of, pushed}
 use Rattle.linear_model.specs.Stream.{stream_to}
 use Rattle.channel_law.specs.Kept.{AreSound, AreOrdered, delivered_of}

@@ -9,7 +9,6 @@ use Rattle.std.proofs.lemmas.List.Elements.{All-cons}
 use Rattle.fate_law.specs.Ruler.{Ruler, ruled}
 use Rattle.fate_core.specs.declared.ruler.Piece.{Piece}
 use Rattle.fate_core.specs.Sides.{side_of, ruler_in, with_begun, AreInOrder, IsBegun, IsRuler}
-use Rattle.fate_core.proofs.ListLaws.{drop-or}
 
 -- ---- lists
 take-set : {X : Type 0} (xs : List X) (i : ℕ) (x : X) → i < length xs →

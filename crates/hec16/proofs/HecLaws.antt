@@ -1,7 +1,7 @@
 -- The check as bits and as a number.
-use Rattle.std.proofs.Common.{◌≡◌, ℕ, ◌^◌, ◌<◌, length, sym, ◌∙◌, ap, mod-eq_of_lt, subst}
+use Rattle.std.proofs.Common.{◌≡◌, ℕ, ◌^◌, ◌<◌, length, sym, ◌∙◌, ap, mod-eq_of_lt}
 use Rattle.remainder.specs.Bits.{bits, number}
-use Rattle.remainder.proofs.BitLaws.{length-bits, bits-number, number-bits, number_below}
+use Rattle.remainder.proofs.BitLaws.{length-bits, bits-number, number-bits}
 use Rattle.remainder.proofs.RemainderLaws.{length-remainder}
 use Rattle.hec16.specs.Hec.{crc16, hec_bits, hec_of}
 

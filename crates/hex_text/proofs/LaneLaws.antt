@@ -8,7 +8,7 @@ use Rattle.std.specs.List.{range_with_len}
 use Rattle.std.proofs.lemmas.Simd.{length-zip2, get_or-zip2, get_or-replicate, map-map, mask_l-mod, Each1-get_or}
 use Rattle.std.proofs.lemmas.List.{length-map, get_or-map}
 use Rattle.std.proofs.lemmas.List.FromFn.{get_or-map-range_with_len}
-use Rattle.std.proofs.lemmas.Bool.{cases_Bool, cases_lt, ltb-true, ltb-false, agree_below, agree_below_at}
+use Rattle.std.proofs.lemmas.Bool.{cases_lt, ltb-true, ltb-false, agree_below, agree_below_at}
 use Rattle.std.proofs.lemmas.Nat.{le_or_l, le_or_r, or_lt}
 use Rattle.hex.specs.Hex.{hex_digit_value, is_hex_digit}
 use lib.Lanes.{zip2, sel_l, top, mask_l, Each1}

@@ -2,7 +2,7 @@
 use Rattle.std.proofs.Common.{◌≡◌, ℕ, ◌+◌, ◌<◌, ◌≤◌, List, [], ◌∷◌, ◌++◌, length, take, drop, slice_index_or, slice_set}
 use Rattle.std.proofs.Common.{sym, ◌∙◌, ap, append_assoc, add-one, arith}
 use Rattle.std.proofs.Math.Seq.{drop-cons}
-use Rattle.std.proofs.lemmas.List.{take_more_set, drop-set-lt, drop_all, set-get_or, take-append-drop}
+use Rattle.std.proofs.lemmas.List.{take_more_set, drop-set-lt, drop_all, take-append-drop}
 
 -- so far the front is rewritten, and the recursion would rewrite the rest
 abbrev pub IsRewriting : {X : Type 0} → (ℕ → List X → List X) → ℕ → List X → List X → Type 0

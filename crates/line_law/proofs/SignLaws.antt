@@ -1,12 +1,12 @@
 -- What is computed of each cell of a line, against its wording.
-use Rattle.std.proofs.Common.{◌≡◌, ℕ, zero, suc, ◌+◌, ◌*◌, ◌<◌, ◌↔◌, List, [], ◌∷◌, ◌++◌, length, Option, Some, None}
+use Rattle.std.proofs.Common.{◌≡◌, ℕ, zero, suc, ◌+◌, ◌*◌, ◌<◌, List, [], ◌∷◌, ◌++◌, length, Option, Some, None}
 use Rattle.std.proofs.Common.{slice_get, refl, sym, ◌∙◌, ap, subst, arith, length-append}
-use Rattle.vc_bits.specs.Lock.{IsOutOfStep, HasMfi2, Locks, IsAt}
+use Rattle.vc_bits.specs.Lock.{HasMfi2}
 use Rattle.vc_bits.proofs.LockLaws.{slice_get-append_seam, IsFirstStep_only, IsInStep-inside, HasMfi2_only}
 use Rattle.std.proofs.lemmas.Option.{slice_get_within}
 use Rattle.session_model.specs.Number.{LineLock, unlocked, Sight, unknown, locks, at, sight_of}
 use Rattle.session_model.specs.Sight.{sight_by, lock_by, sights_on, sights}
-use Rattle.line_law.specs.Sights.{LocksAs, AreAtSights, AreLockingSights, AreUnknownSights}
+use Rattle.line_law.specs.Sights.{AreAtSights, AreLockingSights, AreUnknownSights}
 use Rattle.line_law.proofs.ListLaws.{slice_get-inside, append_one}
 use Rattle.line_law.proofs.SightLaws.{Stands, IsSight, sight-is, stands-after, stands-fail, stands-none}
 use Rattle.line_law.proofs.CountLaws.{IsSight-append, out-here}

@@ -1,5 +1,5 @@
 -- More cells change no verdict, and more carries no cell.
-use Rattle.std.proofs.Common.{◌≡◌, ℕ, suc, ◌+◌, ◌-◌, ◌<◌, ◌≤◌, nat_lt, true, inl, inr, List, [], ◌∷◌, ◌++◌, length}
+use Rattle.std.proofs.Common.{◌≡◌, ℕ, ◌+◌, ◌-◌, ◌<◌, ◌≤◌, nat_lt, true, inl, inr, List, [], ◌∷◌, ◌++◌, length}
 use Rattle.std.proofs.Common.{take, slice_get, Option, Some, None, refl, sym, ◌∙◌, ap, subst, arith, append_assoc}
 use Rattle.line_law.proofs.ListLaws.{take-part}
 use Rattle.std.proofs.lemmas.Bool.{cases_Bool, ltb-true}
@@ -10,7 +10,7 @@ use Rattle.vc_cell.specs.declared.Cell.{Cell}
 use Rattle.vc_cell.specs.declared.Cell.TheVariants.{Good, Fail, End}
 use Rattle.vc_bits.proofs.LockLaws.{slice_get-append}
 use Rattle.session_model.specs.declared.window.Carried.{Carried}
-use Rattle.session_model.specs.Path.{cells_of, path, end_of, cells}
+use Rattle.session_model.specs.Path.{path, end_of, cells}
 use Rattle.session_model.specs.Number.{LineLock, unlocked, begun, locked, over, sight_of, verdicts_by, Reading, read_at}
 use Rattle.session_model.specs.Number.{read_on, reading_of, verdict_over, verdict_or, verdict_in, verdict}
 use Rattle.session_model.proofs.PathLaws.{path-append}

@@ -1,19 +1,17 @@
 -- What is known of a way and the other one, and what a call that the other doesn't see leaves of that.
-use Rattle.std.proofs.Common.{◌≡◌, ℕ, ◌≤◌, refl, sym, ◌∙◌, ap, subst}
+use Rattle.std.proofs.Common.{◌≡◌, ℕ, ◌≤◌, sym, subst}
 use Rattle.session_model.specs.declared.script.Script.{Script}
-use Rattle.session_model.specs.Leg.{Leg}
 use Rattle.session_model.specs.Scenario.{packets_in}
 use Rattle.session_model.specs.Counts.{used_in}
 use Rattle.group_source.specs.Inbox.{Inbox}
-use Rattle.pair_law.specs.Pair.{IsPair, way_of}
+use Rattle.pair_law.specs.Pair.{way_of}
 use Rattle.pair_law.specs.PairCounts.{PairPlan, PairCounts}
-use Rattle.pair_law.specs.PairProgress.{with_lag, IsPairPlan}
+use Rattle.pair_law.specs.PairProgress.{with_lag}
 use Rattle.pair_law.specs.PairWalk.{pair_plan}
 use Rattle.pair_law.proofs.GoingLaws.{goes-near}
 use Rattle.pair_law.proofs.PairMoveLaws.{IsNear, is-near, walks-fits}
 use Rattle.pair_law.proofs.PairPlanLaws.{has-pair-plan}
 use Rattle.pair_law.proofs.WayLaws.{pair-turned}
-use Rattle.walk_core.specs.Parts.{Parts, Stands}
 use Rattle.pair_core.specs.declared.pair_way.PairWay.{PairWay}
 use Rattle.pair_core.specs.Said.{Said}
 use Rattle.pair_core.specs.Steps.{IsQuiet}

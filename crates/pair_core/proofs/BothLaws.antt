@@ -3,19 +3,18 @@ use Rattle.std.proofs.Common.{◌≡◌, ℕ, ◌+◌, Option, None, refl, sym, 
 use Rattle.std.specs.Option.{is_some}
 use Rattle.vc_cell.specs.declared.BackCell.{BackCell}
 use Rattle.session_model.specs.declared.packet.Packet.{Packet}
-use Rattle.session_model.specs.declared.script.Script.{Script}
 use Rattle.session_model.specs.declared.walk.Event.TheVariants.{Tick}
 use Rattle.session_model.specs.Leg.{Leg}
 use Rattle.session_model.specs.Scenario.{packets_in}
 use Rattle.session_model.specs.Counts.{Counts}
 use Rattle.source_core.specs.Terminal.{needed}
 use Rattle.walk_law.specs.Walk.{walk_plan}
-use Rattle.group_source.specs.Inbox.{Inbox, cell_for, rest_for}
+use Rattle.group_source.specs.Inbox.{cell_for, rest_for}
 use Rattle.group_source.specs.Source.{early_in, missing_in}
 use Rattle.session_model.specs.declared.walk.StallCause.{StallCause}
 use Rattle.pair_law.specs.declared.pair.Way.{Way}
 use Rattle.pair_law.specs.Pair.{way_of}
-use Rattle.pair_law.specs.PairCounts.{PairCounts, PairStep, pair_step, tick_cause, tick_by, ticked}
+use Rattle.pair_law.specs.PairCounts.{tick_cause, tick_by, ticked}
 use Rattle.pair_law.specs.PairWalk.{pair_plan, IsPairWalked}
 use Rattle.pair_law.proofs.PairEndLaws.{pair-steps}
 use Rattle.pair_law.proofs.TickLaws.{IsFree, both-free}
@@ -24,8 +23,8 @@ use Rattle.walk_core.specs.declared.moved.Moved.TheVariants.{Yes}
 use Rattle.walk_core.specs.Parts.{Parts, Stands, StandsForSome}
 use Rattle.walk_core.specs.Way.{Makes, CanTick}
 use Rattle.pair_core.specs.declared.pair_way.PairWay.{PairWay}
-use Rattle.pair_core.specs.Said.{Said, tells_next, told_now, left_untold}
-use Rattle.pair_core.specs.Ways.{leg_beside, way_counts, pair_counts, IsWayBeside, IsPairWalk, AreBeside}
+use Rattle.pair_core.specs.Said.{tells_next, told_now, left_untold}
+use Rattle.pair_core.specs.Ways.{way_counts, pair_counts, IsWayBeside, IsPairWalk, AreBeside}
 use Rattle.pair_core.proofs.BesideLaws.{seen-other, there-beside, back-beside}
 use Rattle.pair_core.proofs.TickLaws.{early-free, cell-there, can-tick, tick-rows, tick-counts, tick-beside}
 

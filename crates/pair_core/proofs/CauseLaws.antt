@@ -1,9 +1,7 @@
 -- Why a pair stalls, and what an event of one way leaves of the pair.
-use Rattle.std.proofs.Common.{◌≡◌, ℕ, Option, Some, None, option_map, refl, sym, ◌∙◌, ap, subst}
+use Rattle.std.proofs.Common.{◌≡◌, Option, Some, None, option_map, refl, sym, ◌∙◌, ap}
 use Rattle.session_model.specs.declared.walk.StallCause.{StallCause}
-use Rattle.session_model.specs.Counts.{Counts, Step}
 use Rattle.report_text.specs.declared.report.Refusal.{Refusal}
-use Rattle.walk_core.specs.declared.moved.Moved.{Moved}
 use Rattle.walk_core.specs.Moved.{answer_by as way_answer}
 use Rattle.pair_law.specs.declared.pair.Way.{Way}
 use Rattle.pair_law.specs.PairCounts.{or_else}

@@ -1,16 +1,15 @@
 -- What waits to be told of a way, and what its source heard: over a tick, and over a row.
-use Rattle.std.proofs.Common.{◌≡◌, ℕ, ◌+◌, ◌-◌, ◌*◌, ◌/◌, ◌%◌, ◌==◌, ◌&&◌, ◌<◌, ◌≤◌, nat_le, nat_lt, true, false, Bool}
+use Rattle.std.proofs.Common.{◌≡◌, ℕ, ◌+◌, ◌-◌, ◌*◌, ◌%◌, ◌==◌, ◌<◌, nat_le, true}
 use Rattle.std.proofs.Common.{if◌then◌else◌, List, [], ◌∷◌, ◌++◌, length, map, drop, slice_get, Option, Some, None}
-use Rattle.std.proofs.Common.{refl, sym, ◌∙◌, ap, subst, arith, inl, inr}
+use Rattle.std.proofs.Common.{refl, sym, ◌∙◌, ap, arith, inl, inr}
 use Rattle.std.specs.Option.{is_some}
 use Rattle.std.specs.List.{range_with_len}
-use Rattle.std.proofs.lemmas.Bool.{cases_Bool, eqb-true, leb-true, leb-false, eq-eqb, le-leb, ltb-true, lt-ltb}
-use Rattle.std.proofs.lemmas.List.{length-map, map-append}
+use Rattle.std.proofs.lemmas.Bool.{cases_Bool, eqb-true, leb-true, leb-false}
+use Rattle.std.proofs.lemmas.List.{length-map}
 use Rattle.std.proofs.lemmas.List.FromFn.{length-range_with_len}
 use Rattle.vc_cell.specs.declared.BackCell.{BackCell}
 use Rattle.session_model.specs.declared.packet.Packet.{Packet}
 use Rattle.session_model.specs.Leg.{Leg}
-use Rattle.session_model.specs.Table.{Told}
 use Rattle.session_model.specs.Told.{told_in}
 use Rattle.session_model.specs.Scenario.{scenario_by, packets_in}
 use Rattle.session_model.specs.Back.{cells_before}

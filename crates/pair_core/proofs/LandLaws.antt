@@ -1,13 +1,13 @@
 -- The next item of a way lands, or stalls.
 use Rattle.std.proofs.Common.{◌≡◌, ℕ, ◌+◌, ◌<◌, ◌≤◌, nat_lt, Bool, true, false, Option, Some, None, refl, sym, ◌∙◌, ap}
-use Rattle.std.proofs.Common.{subst, arith, inl, inr, length}
+use Rattle.std.proofs.Common.{subst, inl, inr}
 use Rattle.std.proofs.lemmas.Bool.{cases_Bool, lt-ltb, le-ltb}
 use Rattle.session_model.specs.declared.script.Script.{Script}
 use Rattle.session_model.specs.declared.walk.StallCause.{StallCause}
 use Rattle.session_model.specs.declared.walk.StallCause.TheVariants.{Done, NotDue}
 use Rattle.session_model.specs.Leg.{Leg}
 use Rattle.session_model.specs.Scenario.{packets_in}
-use Rattle.session_model.specs.Counts.{Due, frame_due, command_due, Plan, Counts, Step, dues_of, land_due, step}
+use Rattle.session_model.specs.Counts.{Due, Plan, Counts, Step, dues_of, land_due, step}
 use Rattle.session_model.specs.Counts.{frame_dues, command_dues}
 use Rattle.std.specs.List.Sorted.{IsNonDecreasing}
 use Rattle.report_text.specs.declared.report.Refusal.{Refusal}
@@ -16,7 +16,6 @@ use Rattle.group_source.specs.Landed.{Landed}
 use Rattle.group_source.proofs.BareLaws.{bare-dues}
 use Rattle.pair_law.specs.Pair.{way_of}
 use Rattle.pair_law.specs.PairCounts.{left_after, first_due, land_first, land_item}
-use Rattle.walk_core.specs.declared.moved.Moved.{Moved}
 use Rattle.walk_core.specs.declared.moved.Moved.TheVariants.{Stalled}
 use Rattle.walk_core.specs.Landing.{landing_of}
 use Rattle.walk_core.specs.Moved.{answer_by, refusal_in_event}

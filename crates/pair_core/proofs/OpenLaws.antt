@@ -1,7 +1,6 @@
 -- A way before any event.
-use Rattle.std.proofs.Common.{◌≡◌, ℕ, ◌+◌, ◌-◌, ◌*◌, ◌≤◌, [], map, refl, sym, ◌∙◌, ap, subst, arith}
+use Rattle.std.proofs.Common.{◌≡◌, ◌+◌, ◌-◌, ◌*◌, ◌≤◌, [], map, refl, sym, ◌∙◌, ap, subst, arith}
 use Rattle.std.specs.List.{range_with_len}
-use Rattle.session_model.specs.declared.script.Config.{Config}
 use Rattle.session_model.specs.declared.script.Script.{Script}
 use Rattle.session_model.specs.Leg.{leg_of}
 use Rattle.session_model.specs.Scenario.{packets_in}
@@ -13,7 +12,7 @@ use Rattle.session_model.specs.Told.{told_in}
 use Rattle.walk_law.specs.Rings.{said_packet, back_cell}
 use Rattle.walk_law.specs.Walk.{walk_plan}
 use Rattle.pair_law.specs.Pair.{IsWay, IsPair, way_of}
-use Rattle.pair_law.specs.PairCounts.{PairCounts, pair_begin}
+use Rattle.pair_law.specs.PairCounts.{pair_begin}
 use Rattle.pair_law.specs.PairWalk.{pair_plan, IsPairWalked}
 use Rattle.pair_law.proofs.PairEndLaws.{pair-begins}
 use Rattle.pair_law.proofs.WayLaws.{way-sound}

@@ -13,13 +13,13 @@ use Rattle.pair_law.specs.declared.pair.PairEvent.TheVariants.{Tick, Take}
 use Rattle.walk_law.proofs.PlanLaws.{has-paths, sound-walks}
 use Rattle.pair_law.proofs.WayLaws.{way-sound}
 use Rattle.pair_law.specs.Pair.{IsWay, IsPair, way_of}
-use Rattle.pair_law.specs.PairCounts.{PairPlan, PairCounts, PairStep, plan_on, on_way, pair_step, take_one, tick_cause, tick_by}
+use Rattle.pair_law.specs.PairCounts.{PairCounts, PairStep, plan_on, on_way, pair_step, take_one, tick_cause, tick_by}
 use Rattle.pair_law.specs.PairWalk.{pair_plan, IsPairWalked}
 use Rattle.pair_law.proofs.PairEndLaws.{pair-steps}
 use Rattle.pair_core.specs.declared.pair_way.PairWay.{PairWay}
 use Rattle.pair_core.specs.declared.moved.PairMoved.{PairMoved}
 use Rattle.pair_core.specs.declared.moved.PairMoved.TheVariants.{Yes, Stalled}
-use Rattle.pair_core.specs.Moved.{Paired, plan_of, script_on, step_of, after, moved_on, moved_of, refusal_in, answer_by, SameRows}
+use Rattle.pair_core.specs.Moved.{Paired, plan_of, script_on, step_of, after, moved_on, moved_of, refusal_in, answer_by}
 use Rattle.pair_core.specs.Steps.{Goes, IsQuiet, TakesRow}
 use Rattle.pair_core.specs.Ways.{leg_beside, way_counts, pair_counts, IsPairWalk}
 use Rattle.pair_core.proofs.BesideLaws.{quiet-own, seen-other}

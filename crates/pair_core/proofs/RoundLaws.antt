@@ -1,6 +1,6 @@
 -- Rounds of a pair: items land until they stall, each line is tried once, and so for the rest.
 use Rattle.std.proofs.Common.{◌≡◌, ℕ, zero, suc, ◌+◌, ◌-◌, ◌<◌, ◌≤◌, nat_le, nat_lt, List, [], ◌∷◌, ◌++◌, length, replicate}
-use Rattle.std.proofs.Common.{drop, Option, Some, None, option_map, refl, sym, ◌∙◌, ap, subst, arith, append_assoc, inl}
+use Rattle.std.proofs.Common.{drop, Option, Some, None, option_map, refl, sym, ◌∙◌, ap, subst, arith, inl}
 use Rattle.std.proofs.Common.{inr, true, false}
 use Rattle.std.proofs.lemmas.Bool.{cases_Bool}
 use Rattle.session_model.specs.declared.walk.StallCause.{StallCause}

@@ -1,18 +1,16 @@
 -- A row of one way, and what the other one hears.
 use Rattle.std.proofs.Common.{◌≡◌, ℕ, ◌+◌, ◌-◌, ◌*◌, ◌/◌, ◌%◌, ◌==◌, ◌&&◌, ◌<◌, ◌≤◌, nat_le, nat_lt, true, false, Bool}
-use Rattle.std.proofs.Common.{if◌then◌else◌, List, [], ◌∷◌, ◌++◌, length, map, drop, Option, Some, None, option_map}
+use Rattle.std.proofs.Common.{List, [], ◌∷◌, ◌++◌, length, map, Option, Some, None, option_map}
 use Rattle.std.proofs.Common.{refl, sym, ◌∙◌, ap, subst, arith, inl, inr}
 use Rattle.std.specs.List.{range_with_len}
-use Rattle.std.proofs.lemmas.Bool.{cases_Bool, cases_lt, eqb-true, leb-true, leb-false, ltb-true, eq-eqb, le-leb, lt-ltb}
+use Rattle.std.proofs.lemmas.Bool.{cases_Bool, eqb-true, ltb-true, le-leb}
 use Rattle.std.proofs.lemmas.List.{append-nil, map-append, drop_all}
 use Rattle.vc_cell.specs.declared.BackCell.{BackCell}
 use Rattle.session_model.specs.declared.packet.Packet.{Packet}
 use Rattle.session_model.specs.declared.script.Script.{Script}
-use Rattle.session_model.specs.declared.walk.Event.TheVariants.{Take}
-use Rattle.session_model.specs.declared.walk.StallCause.{StallCause}
-use Rattle.session_model.specs.declared.walk.StallCause.TheVariants.{Done, BackFull, Waiting as Stall_waiting}
+use Rattle.session_model.specs.declared.walk.StallCause.TheVariants.{Done, Waiting as Stall_waiting}
 use Rattle.session_model.specs.Leg.{Leg}
-use Rattle.session_model.specs.Scenario.{packets_in, scenario_by}
+use Rattle.session_model.specs.Scenario.{packets_in}
 use Rattle.session_model.specs.Told.{told_by, told_in}
 use Rattle.session_model.specs.ReturnPacket.{leader}
 use Rattle.session_model.specs.Rows.{governing, read_packets}
@@ -23,7 +21,7 @@ use Rattle.sink_core.specs.declared.sink.TakeAnswer.{TakeAnswer}
 use Rattle.sink_core.specs.declared.sink.TakeAnswer.TheVariants.{Taken, Waiting}
 use Rattle.sink_core.specs.Given.{rows_taken}
 use Rattle.group_source.specs.Inbox.{Inbox, with_come}
-use Rattle.walk_law.specs.Walk.{walk_plan, CanWalk, IsWalked, popped_cells}
+use Rattle.walk_law.specs.Walk.{walk_plan, IsWalked, popped_cells}
 use Rattle.walk_law.specs.Rings.{said_packet, back_cell}
 use Rattle.walk_law.specs.Delivered.{delivered_of}
 use Rattle.walk_law.proofs.EndLaws.{counts-within}
@@ -33,16 +31,16 @@ use Rattle.outside_io.specs.Start.{Start}
 use Rattle.pair_law.specs.Pair.{way_of}
 use Rattle.pair_law.specs.PairCounts.{take_said, take_one}
 use Rattle.pair_law.proofs.LinkLaws.{reads-told}
-use Rattle.pair_law.proofs.OneWayLaws.{HasSaid, take-leads}
+use Rattle.pair_law.proofs.OneWayLaws.{take-leads}
 use Rattle.walk_core.specs.Moved.{answer_by, delivered_since, GivesRows}
 use Rattle.walk_core.specs.Parts.{Parts, counts_of, line_counts, Stands}
 use Rattle.walk_core.specs.Take.{take_cause}
 use Rattle.walk_core.specs.Way.{take_moved, said_at, take_by, Takes}
 use Rattle.walk_core.proofs.EventLaws.{stands-back}
 use Rattle.pair_core.specs.declared.pair_way.PairWay.{PairWay}
-use Rattle.pair_core.specs.Said.{Said, untold_packets, heard_in, heard_cells}
+use Rattle.pair_core.specs.Said.{Said, untold_packets, heard_cells}
 use Rattle.pair_core.specs.Steps.{TakesRow, EndsPacket, Hears}
-use Rattle.pair_core.specs.Ways.{leg_beside, way_counts, StandsAs, Meets, IsWayBeside, AreBeside}
+use Rattle.pair_core.specs.Ways.{way_counts, StandsAs, Meets, IsWayBeside, AreBeside}
 use Rattle.pair_core.proofs.BesideLaws.{meets-same, seen-other}
 use Rattle.pair_core.proofs.HeardLaws.{counts_with, said-size, heard-size}
 

@@ -1,18 +1,17 @@
 -- A tick of both ways, as one of them sees it.
-use Rattle.std.proofs.Common.{◌≡◌, ◌≢◌, ℕ, ◌+◌, ◌-◌, ◌*◌, ◌/◌, ◌%◌, ◌==◌, ◌&&◌, ◌<◌, ◌≤◌, nat_le, true, false, Bool}
-use Rattle.std.proofs.Common.{if◌then◌else◌, List, Option, Some, None, option_map, refl, sym, ◌∙◌, ap, subst, arith}
+use Rattle.std.proofs.Common.{◌≡◌, ℕ, ◌+◌, ◌-◌, ◌*◌, ◌/◌, ◌%◌, ◌==◌, ◌&&◌, ◌<◌, ◌≤◌, nat_le, true, false, Bool}
+use Rattle.std.proofs.Common.{if◌then◌else◌, Option, Some, None, option_map, refl, sym, ◌∙◌, ap, subst, arith}
 use Rattle.std.proofs.Common.{inl, inr}
 use Rattle.std.specs.Option.{is_some}
 use Rattle.std.proofs.lemmas.Bool.{cases_Bool, cases_lt, eqb-true, leb-true, leb-false, eq-eqb, le-leb}
 use Rattle.vc_cell.specs.declared.BackCell.{BackCell}
 use Rattle.session_model.specs.declared.packet.Packet.{Packet}
-use Rattle.session_model.specs.declared.script.Script.{Script}
 use Rattle.session_model.specs.declared.walk.Event.TheVariants.{Tick}
 use Rattle.session_model.specs.Leg.{Leg}
 use Rattle.session_model.specs.Scenario.{packets_in, scenario_by}
 use Rattle.session_model.specs.Telling.{untold, telling_at, passed_on}
 use Rattle.session_model.specs.Told.{told_by}
-use Rattle.session_model.specs.Counts.{Plan, Counts, Step, moved, step, used_in}
+use Rattle.session_model.specs.Counts.{Counts, Step, moved, step, used_in}
 use Rattle.source_core.specs.Terminal.{needed, needed_at}
 use Rattle.source_core.specs.Given.{with_cell}
 use Rattle.walk_law.specs.Landed.{told_before}
@@ -23,8 +22,8 @@ use Rattle.walk_law.proofs.PlanLaws.{sound-walks}
 use Rattle.walk_law.proofs.ReturnLaws as return_laws
 use Rattle.group_source.specs.Inbox.{Inbox, cell_for, rest_for}
 use Rattle.group_source.specs.Source.{early_in, missing_by, missing_in}
-use Rattle.group_source.specs.declared.source.EarlyCause.TheVariants.{Done, Held}
-use Rattle.pair_law.specs.Pair.{IsWay, way_of}
+use Rattle.group_source.specs.declared.source.EarlyCause.TheVariants.{Held}
+use Rattle.pair_law.specs.Pair.{way_of}
 use Rattle.pair_law.specs.PairCounts.{is_unsaid, ticked}
 use Rattle.pair_law.proofs.HeardLaws as heard_laws
 use Rattle.pair_law.proofs.LinkLaws.{says-told}
@@ -35,7 +34,7 @@ use Rattle.walk_core.specs.Way.{Makes, IsTold, CanTick}
 use Rattle.walk_core.proofs.TickLaws.{early-is}
 use Rattle.pair_core.specs.declared.pair_way.PairWay.{PairWay}
 use Rattle.pair_core.specs.Said.{Said, tells_next, told_now, left_untold, untold_packets}
-use Rattle.pair_core.specs.Ways.{leg_beside, way_counts, Meets, IsWayBeside, AreBeside}
+use Rattle.pair_core.specs.Ways.{way_counts, Meets, IsWayBeside, AreBeside}
 use Rattle.pair_core.proofs.BesideLaws.{meets-same}
 use Rattle.pair_core.proofs.HeardLaws.{told-left, HeardNext, heard-next}
 

@@ -1,6 +1,6 @@
 -- What one way of a pair has to tell in the other, and what its source has heard there.
 use Rattle.std.specs.Prelude.{◌≡◌, ℕ, ◌+◌, ◌-◌, ◌*◌, ◌%◌, ◌==◌, ◌&&◌, nat_le, if◌then◌else◌, Bool, List, [], map}
-use Rattle.std.specs.Prelude.{drop, slice_get, Option, Some, None}
+use Rattle.std.specs.Prelude.{drop, slice_get, Option, None}
 use Rattle.std.specs.List.{range_with_len}
 use Rattle.vc_cell.specs.declared.BackCell.{BackCell}
 use Rattle.session_model.specs.declared.packet.Packet.{Packet}

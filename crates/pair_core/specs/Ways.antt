@@ -1,5 +1,5 @@
 -- What a pair holds, by its scripts and its counts.
-use Rattle.std.specs.Prelude.{◌≡◌, ℕ, ◌*◌, ◌≤◌, [], List}
+use Rattle.std.specs.Prelude.{◌≡◌, ℕ, ◌*◌, ◌≤◌, []}
 use Rattle.session_model.specs.declared.script.Script.{Script}
 use Rattle.session_model.specs.Leg.{Leg}
 use Rattle.session_model.specs.Scenario.{packets_in}

@@ -1,9 +1,8 @@
 -- What a loop over rounds needs: each round with rows left makes more, and leaves what all rounds give as it is.
 use Rattle.std.proofs.Common.{◌≡◌, ℕ, zero, suc, ◌-◌, ◌<◌, ◌≤◌, nat_le, true, refl, arith}
-use Rattle.session_model.specs.declared.walk.Event.{Event}
-use Rattle.session_model.specs.Counts.{Plan, Counts, step, run, round, drain, bound}
+use Rattle.session_model.specs.Counts.{Plan, Counts, run, round, drain, bound}
 use Rattle.progress_law.specs.Progress.{IsPlan, Fits, made}
-use Rattle.progress_law.proofs.MoveLaws.{step-fits, run-fits, bounded, round-rises, drain-turn}
+use Rattle.progress_law.proofs.MoveLaws.{run-fits, bounded, round-rises, drain-turn}
 
 -- the measure falls
 pub round-less : (plan : Plan) (s : Counts) → IsPlan plan → Fits plan s → s.rows < plan.ticks →

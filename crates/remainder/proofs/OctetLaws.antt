@@ -1,6 +1,6 @@
 -- Octets and their bits.
 use Rattle.std.proofs.Common.{◌≡◌, ℕ, zero, suc, ◌+◌, ◌*◌, ◌/◌, ◌%◌, ◌^◌, ◌<◌, ◌≤◌, Bool, List, [], ◌∷◌, ◌++◌, length}
-use Rattle.std.proofs.Common.{take, drop, All, bit_xor, refl, sym, ◌∙◌, ap, ap₂, arith, suc-add, zero-add, div-one}
+use Rattle.std.proofs.Common.{take, drop, All, refl, sym, ◌∙◌, ap, ap₂, arith, suc-add, zero-add, div-one}
 use Rattle.std.proofs.Common.{pow-suc, mod-eq_of_lt, pow_mono, lt_of_lt_of_le}
 use Rattle.std.proofs.lemmas.List.{length-append, length-take, length-drop, take_at, drop_at, take-append-drop}
 use Rattle.std.proofs.lemmas.List.{take-append-le, drop-append-le}
@@ -8,9 +8,8 @@ use Rattle.std.specs.Int.{byte_at, bytes_high_first}
 use Rattle.std.proofs.lemmas.Nat.{pow-add}
 use Rattle.std.proofs.lemmas.List.Elements.{All-nil, All-cons, All-head, All-tail}
 use Rattle.std.proofs.lemmas.List.Concat.{flat_map-append}
-use Rattle.remainder.specs.Bits.{bits, number, octet_bits, octets_of, xors}
-use Rattle.remainder.proofs.XorLaws.{xors-append}
-use Rattle.remainder.proofs.BitLaws.{length-bits, bits-add, bits-mod, bits-xor, number-bits, number_below, bits-number}
+use Rattle.remainder.specs.Bits.{bits, number, octet_bits, octets_of}
+use Rattle.remainder.proofs.BitLaws.{length-bits, bits-add, bits-mod, number-bits, number_below, bits-number}
 
 pub octet_bits-append : (front back : List ℕ) → octet_bits (front ++ back) ≡ octet_bits front ++ octet_bits back
 octet_bits-append front back = flat_map-append (bits 8) front back

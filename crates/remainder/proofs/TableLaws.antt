@@ -4,13 +4,12 @@ use Rattle.std.proofs.Common.{take, drop, replicate, map, bit_xor, slice_index, 
 use Rattle.std.proofs.Common.{ap₂, subst, arith, add_comm, add-zero}
 use Rattle.std.specs.List.{list_all, range_with_len}
 use Rattle.std.proofs.lemmas.List.{take_at, drop_at, length-map, get_or-map}
-use Rattle.std.proofs.lemmas.List.Concat.{flat_map-append}
 use Rattle.std.proofs.lemmas.List.FromFn.{length-map-range_with_len, get_or-map-range_with_len}
 use Rattle.std.proofs.lemmas.Nat.{pow_pos, shl-shr, shr_below, xor_lt, mod_below, one_shl, shl_whole, shl_below}
 use Rattle.std.proofs.lemmas.List.Sums.{AllPass-from_list_all}
 use Rattle.remainder.specs.Bits.{bits, xors}
 use Rattle.remainder.specs.Remainder.{remainder}
-use Rattle.remainder.specs.Table.{IsTable, nibble_bits}
+use Rattle.remainder.specs.Table.{IsTable}
 use Rattle.remainder.proofs.XorLaws.{xors_comm}
 use Rattle.remainder.proofs.BitLaws.{length-bits, bits-add, bits_low, bits-mod, bits-xor, bits-zero}
 use Rattle.remainder.proofs.RemainderLaws.{remainder-append_at}

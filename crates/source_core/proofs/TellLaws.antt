@@ -1,7 +1,6 @@
 -- What the packets of a terminal tell: a return packet that is passed on, and the list of what is told.
 use Rattle.std.proofs.Common.{◌≡◌, ◌<◌, ℕ, zero, suc, ◌%◌, ◌^◌, ◌==◌, not, Bool, true, false, List, [], ◌∷◌}
 use Rattle.std.proofs.Common.{map, length, slice_index_or, refl, sym, ◌∙◌, ap, arith}
-use Rattle.std.specs.List.{range_with_len}
 use Rattle.std.proofs.lemmas.List.FromFn.{fill_by_all}
 use Rattle.remainder.specs.Bits.{bits, number}
 use Rattle.remainder.proofs.BitLaws.{length-bits, number-bits}

@@ -3,7 +3,7 @@ use Rattle.std.proofs.Common.{◌≡◌, ℕ, ◌^◌, ◌<◌, List, [], ◌∷
 use Rattle.remainder.specs.Bits.{bits, number}
 use Rattle.remainder.specs.Remainder.{add_front, divide, remainder}
 use Rattle.remainder.specs.Table.{IsTable, nibble_bits}
-use Rattle.remainder.proofs.BitLaws.{length-bits, number-bits, number_below, bits-number}
+use Rattle.remainder.proofs.BitLaws.{length-bits, number-bits, number_below}
 use Rattle.remainder.proofs.RemainderLaws.{length-remainder}
 use Rattle.remainder.proofs.TableLaws.{IsTable-from_entries}
 use Rattle.vc_bits.specs.Check.{crc8_lower, crc8_of}

@@ -1,6 +1,8 @@
 //! The commands of the program, a line for each.
 
-use crate::{au4, capture, channels, decode, fates, frames, gfp, make, noise, pair, stream, trace, walk};
+use crate::{
+    au4, capture, channels, decode, fates, frames, gfp, make, noise, pair, stream, trace, walk,
+};
 use cmd_words::FromWords;
 use rate_load::RateLoad;
 

@@ -1,5 +1,5 @@
 -- One alarm more.
-use Rattle.std.proofs.Common.{[], ◌∷◌, ◌++◌, take, sym, ◌∙◌, ap, subst, append_assoc}
+use Rattle.std.proofs.Common.{◌++◌, take, sym, ◌∙◌, ap, subst, append_assoc}
 use Rattle.got_lines.specs.Told.{HasText}
 use Rattle.alarm_log.specs.Alarms.{of_line}
 use Rattle.alarm_text.specs.Text.{alarm_texts}

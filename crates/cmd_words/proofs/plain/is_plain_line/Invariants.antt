@@ -1,5 +1,5 @@
 -- The words so far are plain.
-use Rattle.std.proofs.Common.{◌≡◌, ◌≤◌, length, map, take, true}
+use Rattle.std.proofs.Common.{◌≡◌, map, take, true}
 use Rattle.std.specs.Prelude.{string_bytes}
 use Rattle.std.specs.List.{list_all}
 use Rattle.cmd_words.specs.Words.{is_plain}

@@ -1,5 +1,5 @@
 -- The octets of the pairs so far are written, if all were digits; else one wasn't.
-use Rattle.std.proofs.Common.{◌≤◌, ◌+◌, ◌-◌, length}
+use Rattle.std.proofs.Common.{◌≤◌, ◌-◌, length}
 use Rattle.hex_text.proofs.TextSteps.{AreRead}
 use Rattle.hex_text.proofs.decoding.decode.Given as goal
 

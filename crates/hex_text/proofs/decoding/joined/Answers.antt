@@ -1,5 +1,5 @@
 -- Each lane of two values.
-use Rattle.std.proofs.Common.{◌≡◌, ℕ, ◌+◌, ◌*◌, ◌%◌, slice_index, ◌∙◌, arith}
+use Rattle.std.proofs.Common.{◌≡◌, ◌+◌, ◌*◌, ◌%◌, slice_index, ◌∙◌, arith}
 use Rattle.hex_text.proofs.LaneLaws.{two_lane, two_long}
 use Rattle.hex_text.proofs.decoding.joined.Goals as goal
 

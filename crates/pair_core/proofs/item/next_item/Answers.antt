@@ -1,5 +1,5 @@
 -- Of the next of each kind the one that lands first.
-use Rattle.std.proofs.Common.{◌≡◌, Option, Some, None, sym, ◌∙◌, ap, ap₂}
+use Rattle.std.proofs.Common.{Some, sym, ◌∙◌, ap, ap₂}
 use Rattle.pair_core.specs.declared.item.NextItem.{NextItem}
 use Rattle.pair_core.specs.Steps.{due_of_next, found_by}
 use Rattle.pair_core.proofs.ItemLaws.{pick, first-found, pick-both, pick-frame, pick-command}

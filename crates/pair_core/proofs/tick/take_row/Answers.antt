@@ -1,5 +1,5 @@
 -- All rows are taken, or the next one waits, or it is taken, and maybe heard.
-use Rattle.std.proofs.Common.{◌≡◌, ◌<◌, List, [], ◌∷◌, ◌++◌, Some, None, refl, sym, ◌∙◌, ap, subst, arith}
+use Rattle.std.proofs.Common.{◌≡◌, ◌<◌, List, [], ◌∷◌, ◌++◌, sym, ◌∙◌, ap, subst, arith}
 use Rattle.session_model.specs.declared.packet.Packet.{Packet}
 use Rattle.session_model.specs.Counts.{Counts}
 use Rattle.walk_core.specs.declared.moved.Moved.TheVariants.{Yes}

@@ -1,10 +1,8 @@
 -- Both ways tell, and make their frames.
-use Rattle.std.proofs.Common.{◌≡◌, sym, ◌∙◌, ap, subst}
-use Rattle.walk_core.specs.Parts.{Parts}
-use Rattle.pair_law.specs.PairCounts.{tick_by}
+use Rattle.std.proofs.Common.{sym, ◌∙◌, ap, subst}
 use Rattle.pair_core.specs.declared.pair_way.PairWay.{PairWay}
 use Rattle.pair_core.specs.Ways.{pair_counts, IsPairWalk}
-use Rattle.pair_core.proofs.BothLaws.{left_own, HasTicked, stands-for, early-for, cell-for, has-ticked, there-free}
+use Rattle.pair_core.proofs.BothLaws.{left_own, stands-for, early-for, cell-for, has-ticked, there-free}
 use Rattle.pair_core.proofs.BothLaws.{back-free, both-counts, both-walk}
 use Rattle.pair_core.proofs.tick.tick_both.Goals as goal
 

@@ -1,5 +1,5 @@
 -- The causes, one after another.
-use Rattle.std.proofs.Common.{◌≡◌, Option, Some, None, sym, ◌∙◌, ap, ap₂}
+use Rattle.std.proofs.Common.{sym, ◌∙◌, ap, ap₂}
 use Rattle.pair_law.specs.PairCounts.{first_way, missing_at}
 use Rattle.pair_core.specs.declared.pair_way.PairWay.{PairWay}
 use Rattle.pair_core.specs.Ways.{way_counts}

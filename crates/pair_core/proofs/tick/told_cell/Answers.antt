@@ -1,5 +1,5 @@
 -- What is sent of a packet is read back.
-use Rattle.std.proofs.Common.{◌≡◌, ◌∙◌, ap, arith}
+use Rattle.std.proofs.Common.{◌∙◌, ap, arith}
 use Rattle.vc_cell.specs.declared.BackCell.TheVariants.{Packet as Nibbles}
 use Rattle.session_model.specs.declared.packet.Packet.{Packet}
 use Rattle.session_model.specs.Packet.{IsPacket}

@@ -1,5 +1,5 @@
 -- Member status and RS-Ack are those of the return packet, and 0 where there is none.
-use Rattle.std.proofs.Common.{◌≡◌, ℕ, Bool, false, Some, None, refl, sym, ◌∙◌, ap, arith}
+use Rattle.std.proofs.Common.{ℕ, Bool, Some, sym, ◌∙◌, ap, arith}
 use Rattle.remainder.specs.Bits.{number_behind}
 use Rattle.session_model.specs.declared.packet.Packet.{Packet}
 use Rattle.session_model.specs.Telling.{telling, passed_on}

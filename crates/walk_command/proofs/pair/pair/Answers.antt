@@ -1,9 +1,6 @@
 -- The input is read, and says two scripts that go together or doesn't.
-use Rattle.std.proofs.Common.{ap, ◌∙◌}
-use Rattle.command_parts.specs.Task.{reads}
 use Rattle.command_parts.specs.Ends.{lent}
-use Rattle.command_parts.proofs.StopLaws.{ends-stopped, ends-done, ends-cut}
-use Rattle.pair_link.specs.Inputs.{pair_answer_of}
+use Rattle.command_parts.proofs.StopLaws.{ends-stopped}
 use Rattle.walk_pair.specs.Text.{pair_text, pair_reply}
 use Rattle.walk_command.proofs.pair.pair.Goals as goal
 

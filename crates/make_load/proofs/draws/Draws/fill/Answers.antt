@@ -1,5 +1,5 @@
 -- One draw on, and after the last one.
-use Rattle.std.proofs.Common.{◌≡◌, ◌<◌, ◌≤◌, ◌∙◌, ◌+◌, ◌-◌, ℕ, List, [], ◌∷◌, ◌++◌, length, take, ap, sym, arith}
+use Rattle.std.proofs.Common.{◌<◌, ◌≤◌, ◌∙◌, ◌+◌, ◌-◌, ℕ, List, ◌++◌, length, take, ap, sym, arith}
 use Rattle.std.proofs.lemmas.List.{take_more_set, take_all}
 use Rattle.make_load.specs.Draws.{draws}
 use Rattle.make_load.proofs.DrawLaws.{draws_next, after_next, draws_end, after_end}

@@ -1,5 +1,5 @@
 -- A line of a way carries.
-use Rattle.std.proofs.Common.{◌≡◌, ◌<◌, length, None, refl, sym, ◌∙◌, ap, subst}
+use Rattle.std.proofs.Common.{◌<◌, length, None, refl, sym, ◌∙◌, ap, subst}
 use Rattle.session_model.specs.Counts.{carry}
 use Rattle.walk_law.specs.Walk.{walk_plan}
 use Rattle.pair_law.specs.declared.pair.PairEvent.TheVariants.{Carry}

@@ -1,5 +1,5 @@
 -- One line more.
-use Rattle.std.proofs.Common.{◌≡◌, ◌+◌, ◌<◌, length, drop, refl, sym, ◌∙◌, ap, subst, arith}
+use Rattle.std.proofs.Common.{◌+◌, ◌<◌, length, drop, refl, sym, ◌∙◌, ap, subst, arith}
 use Rattle.pair_law.specs.declared.pair.PairEvent.TheVariants.{Carry}
 use Rattle.pair_law.specs.PairCounts.{PairPlan, PairCounts, plan_on, pair_step, pair_run, carries_on}
 use Rattle.pair_core.specs.Moved.{Paired, plan_of, with_counts}

@@ -1,5 +1,5 @@
 -- A round more, or all rows are taken.
-use Rattle.std.proofs.Common.{◌≡◌, refl, sym, ◌∙◌, ap, arith}
+use Rattle.std.proofs.Common.{refl, sym, ◌∙◌, ap, arith}
 use Rattle.pair_law.specs.declared.pair.Way.TheVariants.{There, Back}
 use Rattle.pair_law.specs.PairCounts.{PairPlan, is_over, pair_bound}
 use Rattle.pair_law.proofs.PairEndLaws.{pair-stops}

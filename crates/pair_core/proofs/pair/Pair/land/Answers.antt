@@ -1,5 +1,5 @@
 -- The next item of a way lands, or stalls.
-use Rattle.std.proofs.Common.{◌≡◌, refl, sym, ◌∙◌, ap}
+use Rattle.std.proofs.Common.{refl, sym, ◌∙◌, ap}
 use Rattle.pair_law.specs.PairCounts.{land_item}
 use Rattle.walk_law.specs.Walk.{walk_plan}
 use Rattle.pair_law.specs.declared.pair.PairEvent.TheVariants.{Item}

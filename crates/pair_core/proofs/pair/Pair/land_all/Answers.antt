@@ -1,5 +1,5 @@
 -- Items land until one stalls.
-use Rattle.std.proofs.Common.{◌≡◌, refl, sym, ◌∙◌, ap}
+use Rattle.std.proofs.Common.{refl, sym, ◌∙◌, ap}
 use Rattle.pair_law.specs.declared.pair.PairEvent.TheVariants.{Item}
 use Rattle.pair_law.specs.PairCounts.{PairPlan, pair_step}
 use Rattle.pair_core.specs.Moved.{Paired, plan_of, with_counts}

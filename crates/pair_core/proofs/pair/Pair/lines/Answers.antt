@@ -1,12 +1,7 @@
 -- There is a path for each line.
-use Rattle.std.proofs.Common.{◌≡◌, length, sym, ◌∙◌, ap}
-use Rattle.walk_law.specs.Walk.{walk_plan}
-use Rattle.walk_law.proofs.PlanLaws.{has-paths, sound-walks}
-use Rattle.pair_law.specs.Pair.{IsWay, way_of}
+use Rattle.std.proofs.Common.{length, sym, ◌∙◌, ap}
 use Rattle.pair_law.specs.declared.pair.Way.TheVariants.{There, Back}
 use Rattle.pair_law.specs.PairCounts.{plan_on}
-use Rattle.pair_law.proofs.WayLaws.{way-sound}
-use Rattle.session_model.specs.declared.script.Script.{Script}
 use Rattle.pair_core.specs.Moved.{Paired, plan_of}
 use Rattle.pair_core.proofs.PairLaws.{paths-size}
 use Rattle.pair_core.proofs.pair.Pair.lines.Goals as goal

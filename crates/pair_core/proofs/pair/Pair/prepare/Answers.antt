@@ -1,5 +1,5 @@
 -- A round but for its rows.
-use Rattle.std.proofs.Common.{◌≡◌, suc, length, replicate, refl, sym, ◌∙◌, ap}
+use Rattle.std.proofs.Common.{suc, length, replicate, refl, ◌∙◌, ap}
 use Rattle.pair_law.specs.declared.pair.Way.TheVariants.{There, Back}
 use Rattle.pair_law.specs.declared.pair.PairEvent.TheVariants.{Item, Tick}
 use Rattle.pair_law.specs.PairCounts.{PairPlan, pair_step, pair_run, carries_on}

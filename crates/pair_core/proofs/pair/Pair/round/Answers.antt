@@ -1,5 +1,5 @@
 -- A round with its rows.
-use Rattle.std.proofs.Common.{◌≡◌, ◌≤◌, sym, ◌∙◌, ap, subst, arith}
+use Rattle.std.proofs.Common.{◌≤◌, sym, ◌∙◌, ap, subst, arith}
 use Rattle.pair_law.specs.declared.pair.Way.TheVariants.{There, Back}
 use Rattle.pair_law.specs.declared.pair.PairEvent.TheVariants.{Take}
 use Rattle.pair_law.specs.PairCounts.{PairPlan, PairCounts, counts_on, pair_step}

@@ -1,5 +1,5 @@
 -- What waits in a send ring of a way.
-use Rattle.std.proofs.Common.{◌≡◌, slice_get, sym, ◌∙◌, ap, arith}
+use Rattle.std.proofs.Common.{slice_get, sym, ◌∙◌, ap}
 use Rattle.session_model.specs.Scenario.{packets_in}
 use Rattle.walk_core.specs.Waiting.{send_ring}
 use Rattle.pair_law.specs.declared.pair.Way.TheVariants.{There, Back}

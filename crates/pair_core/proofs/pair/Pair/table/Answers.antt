@@ -1,5 +1,5 @@
 -- The table that the decision steps of a way leave.
-use Rattle.std.proofs.Common.{◌≡◌, sym, ◌∙◌, ap, subst}
+use Rattle.std.proofs.Common.{sym, ◌∙◌, ap}
 use Rattle.session_model.specs.Course.{Course}
 use Rattle.session_model.specs.Scenario.{packets_in}
 use Rattle.walk_law.specs.Step.{table_in}

@@ -1,5 +1,5 @@
 -- A row of a way is tried.
-use Rattle.std.proofs.Common.{◌≡◌, sym, ◌∙◌, ap, subst}
+use Rattle.std.proofs.Common.{sym, ◌∙◌, ap, subst}
 use Rattle.pair_law.specs.declared.pair.PairEvent.TheVariants.{Take}
 use Rattle.pair_law.specs.declared.pair.Way.TheVariants.{There, Back}
 use Rattle.pair_law.specs.PairCounts.{counts_on}

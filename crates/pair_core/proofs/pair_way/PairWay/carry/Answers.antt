@@ -1,5 +1,5 @@
 -- A line carries.
-use Rattle.std.proofs.Common.{◌≡◌, sym, ◌∙◌, ap, subst}
+use Rattle.std.proofs.Common.{sym, ◌∙◌, ap, subst}
 use Rattle.session_model.specs.Scenario.{packets_in}
 use Rattle.pair_law.specs.Pair.{way_of}
 use Rattle.walk_core.specs.Parts.{Parts, counts_of, Stands}

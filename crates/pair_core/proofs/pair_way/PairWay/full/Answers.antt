@@ -1,5 +1,5 @@
 -- A send ring is full, or none is.
-use Rattle.std.proofs.Common.{◌≡◌, Option, Some, None, option_map, sym, ◌∙◌, ap}
+use Rattle.std.proofs.Common.{option_map, sym, ◌∙◌, ap}
 use Rattle.session_model.specs.declared.walk.StallCause.TheVariants.{TxFull}
 use Rattle.session_model.specs.Scenario.{packets_in}
 use Rattle.pair_law.specs.Pair.{way_of}

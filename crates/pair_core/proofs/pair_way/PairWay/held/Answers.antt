@@ -1,5 +1,5 @@
 -- An item is held, or none is.
-use Rattle.std.proofs.Common.{◌≡◌, ℕ, Option, Some, None, option_map, sym, ◌∙◌, ap}
+use Rattle.std.proofs.Common.{◌≡◌, ℕ, Option, option_map, sym, ◌∙◌, ap}
 use Rattle.session_model.specs.declared.script.Script.{Script}
 use Rattle.session_model.specs.declared.walk.StallCause.TheVariants.{Held}
 use Rattle.session_model.specs.Counts.{dues_of, held}

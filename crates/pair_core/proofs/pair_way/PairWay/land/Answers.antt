@@ -1,6 +1,5 @@
 -- The next item lands, or stalls.
-use Rattle.std.proofs.Common.{◌≡◌, ℕ, ◌<◌, ◌≤◌, Bool, Some, None, length, refl, sym, ◌∙◌, ap, subst, arith}
-use Rattle.session_model.specs.declared.script.Script.{Script}
+use Rattle.std.proofs.Common.{◌≤◌, None, refl, sym, ◌∙◌, ap, subst, arith}
 use Rattle.session_model.specs.Scenario.{packets_in}
 use Rattle.group_source.specs.Item.{kind_of}
 use Rattle.group_source.specs.Landed.{Landed, next_number, due_at}
