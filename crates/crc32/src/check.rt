@@ -89,15 +89,3 @@ fn after_octet(tables: &[[u32; 256]; 8], register: u32, octet: u8) -> u32
 {
     (register >> 8) ^ tables[0][((register % 256) as u8 ^ octet) as usize]
 }
-
-#[cfg(test)]
-mod tests {
-    use super::*;
-
-    #[test]
-    fn digits_and_none(rt: HostRuntime) {
-        assert_eq!(rt; fcs(b"123456789"), [0xfc, 0x89, 0x19, 0x18]);
-        assert_eq!(rt; ethernet_fcs(b"123456789"), [0x26, 0x39, 0xf4, 0xcb]);
-        assert_eq!(rt; ethernet_fcs(&[]), [0; 4]);
-    }
-}

@@ -34,23 +34,3 @@ pub fn read_cid(octets: &[u8; 4]) -> Result<u8, CidFault>
         Err(CidFault { said, found })
     }
 }
-
-#[cfg(test)]
-mod tests {
-    use super::*;
-
-    #[test]
-    fn extension_headers(rt: HostRuntime) {
-        assert_eq!(rt; extension_bytes(0), [0, 0, 0, 0]);
-        assert_eq!(rt; extension_bytes(1), [1, 0, 0x33, 0x31]);
-        assert_eq!(rt; read_cid(&[1, 0, 0x33, 0x31]), Ok(1));
-        assert_eq!(rt; read_cid(&[0, 1, 0x10, 0x21]), Ok(0));
-        assert_eq!(rt;
-            read_cid(&[1, 0, 0x33, 0x30]),
-            Err(CidFault {
-                said: 0x3330,
-                found: 0x3331
-            })
-        );
-    }
-}

@@ -42,30 +42,3 @@ fn is_core(pli: u16, check: u16) -> bool
 {
     (pli == 0 || pli >= 4) && hec_ok(pli, check)
 }
-
-#[cfg(test)]
-mod tests {
-    use super::*;
-
-    #[test]
-    fn headers_of_plis(rt: HostRuntime) {
-        let headers = [
-            (0, [0xb6, 0xab, 0x31, 0xe0]),
-            (68, [0xb6, 0xef, 0x39, 0xa0]),
-            (9604, [0x93, 0x2f, 0x19, 0xff]),
-        ];
-        for (pli, octets) in headers {
-            assert_eq!(rt; core_bytes(pli), octets);
-            assert_eq!(rt; read_core(&octets), Some(pli));
-        }
-        assert_eq!(rt; read_core(&[0xb6, 0xef, 0x39, 0xa1]), None);
-    }
-
-    #[test]
-    fn plis_that_no_header_has(rt: HostRuntime) {
-        for pli in 1..4 {
-            assert_eq!(rt; read_core(&core_bytes(pli)), None);
-        }
-        assert_eq!(rt; read_core(&core_bytes(4)), Some(4));
-    }
-}

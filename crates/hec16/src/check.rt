@@ -41,22 +41,3 @@ pub fn hec_ok(word: u16, check: u16) -> bool
 {
     check == hec(word)
 }
-
-#[cfg(test)]
-mod tests {
-    use super::*;
-
-    #[test]
-    fn checks_of_words(rt: HostRuntime) {
-        for (word, check) in [
-            (0x0044, 0x0840),
-            (0x2584, 0x281f),
-            (0x0001, 0x1021),
-            (0x0000, 0x0000),
-        ] {
-            assert_eq!(rt; hec(word), check);
-            assert!(rt; hec_ok(word, check));
-            assert!(rt; !hec_ok(word, check ^ 1));
-        }
-    }
-}

@@ -48,23 +48,3 @@ pub fn fix_one(word: u16, check: u16) -> Option<u16>
     }
     None
 }
-
-#[cfg(test)]
-mod tests {
-    use super::*;
-
-    #[test]
-    fn words_with_one_wrong_bit(rt: HostRuntime) {
-        for (word, check, right) in [
-            (0x0044, 0x0840, Some(0x0044)),
-            (0x0045, 0x0840, Some(0x0044)),
-            (0x8044, 0x0840, Some(0x0044)),
-            (0x0044, 0x0841, Some(0x0044)),
-            (0x0044, 0x8840, Some(0x0044)),
-            (0x0047, 0x0840, None),
-            (0x0045, 0x0841, None),
-        ] {
-            assert_eq!(rt; fix_one(word, check), right);
-        }
-    }
-}

@@ -41,32 +41,3 @@ pub fn remainder_of_nibbles<const DEGREE: u32>(table: &[u32; 16], nibbles: &[u8]
     }
     register
 }
-
-#[cfg(test)]
-mod tests {
-    use super::*;
-
-    /// The remainders of the nibbles by `x^8 + x^2 + x + 1`.
-    const CRC8: [u32; 16] = [
-        0x00, 0x07, 0x0e, 0x09, 0x1c, 0x1b, 0x12, 0x15, 0x38, 0x3f, 0x36, 0x31, 0x24, 0x23, 0x2a,
-        0x2d,
-    ];
-
-    /// The remainders of the nibbles by `x^16 + x^12 + x^5 + 1`.
-    const CRC16: [u32; 16] = [
-        0x0000, 0x1021, 0x2042, 0x3063, 0x4084, 0x50a5, 0x60c6, 0x70e7, 0x8108, 0x9129, 0xa14a,
-        0xb16b, 0xc18c, 0xd1ad, 0xe1ce, 0xf1ef,
-    ];
-
-    #[test]
-    fn remainders(rt: HostRuntime) {
-        assert_eq!(rt;
-            remainder_of_nibbles::<8>(&CRC8, &[0, 0, 0, 1, 0, 0, 0, 0, 0, 2, 3, 1, 0, 1]),
-            0x14
-        );
-        assert_eq!(rt; remainder_of_nibbles::<16>(&CRC16, &[0, 0, 4, 4]), 0x0840);
-        assert_eq!(rt; remainder_of_nibbles::<16>(&CRC16, &[2, 5, 8, 4]), 0x281f);
-        assert_eq!(rt; remainder_of_nibbles::<16>(&CRC16, &[0, 0, 0, 1]), 0x1021);
-        assert_eq!(rt; with_nibble::<16>(&CRC16, 0, 1), 0x1021);
-    }
-}

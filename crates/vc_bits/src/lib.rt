@@ -49,20 +49,3 @@ pub fn crc8(nibbles: &[u8; 14]) -> u8
 {
     remainder_of_nibbles::<8>(&CRC8, nibbles) as u8
 }
-
-#[cfg(test)]
-mod tests {
-    use super::*;
-
-    #[test]
-    fn checks(rt: HostRuntime) {
-        let nibbles = [0, 0, 0, 1, 0, 0, 0, 0, 0, 2, 3, 1, 0, 1];
-        assert_eq!(rt; crc8(&nibbles), 0x14);
-    }
-
-    #[test]
-    fn halves(rt: HostRuntime) {
-        assert_eq!(rt; (nibble_hi(0x2d), nibble_lo(0x2d)), (0x2, 0xd));
-        assert_eq!(rt; join_nibbles(0x2, 0xd), 0x2d);
-    }
-}

@@ -98,27 +98,3 @@ impl Ctrl {
         }
     }
 }
-
-#[cfg(test)]
-mod tests {
-    use super::*;
-
-    #[test]
-    fn codes(rt: HostRuntime) {
-        let words = [
-            (0, Ctrl::Fixed),
-            (1, Ctrl::Add),
-            (2, Ctrl::Norm),
-            (3, Ctrl::Eos),
-            (5, Ctrl::Idle),
-            (15, Ctrl::Dnu),
-        ];
-        for (code, word) in words {
-            assert_eq!(rt; word.code(), code);
-            assert_eq!(rt; Ctrl::of(code), Some(word));
-        }
-        for code in [4, 6, 14, 16, 255] {
-            assert_eq!(rt; Ctrl::of(code), None);
-        }
-    }
-}
