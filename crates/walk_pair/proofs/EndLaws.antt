@@ -1,6 +1,6 @@
 -- How a pair's reports end: all of them is written, or a part.
 use Rattle.std.proofs.Common.{◌≡◌, ℕ, ◌+◌, ◌-◌, ◌≤◌, Bool, true, false, not, List, [], ◌∷◌, ◌++◌, drop, length, Option, refl}
-use Rattle.std.proofs.Common.{sym, ◌∙◌, ap, subst, arith, append_assoc, append-nil, inl, inr, Result, Ok, Err, OnOk}
+use Rattle.std.proofs.Common.{sym, ◌∙◌, ap, subst, arith, append_assoc, append-nil, inl, inr, Result, Ok, Err, OnOk, OnErr}
 use Rattle.std.proofs.lemmas.Grind.{flat_map-append}
 use Rattle.outside_io.specs.Start.{Start}
 use Rattle.outside_io.specs.Transfer.{Appends, AppendsPart}
@@ -187,6 +187,19 @@ rest-lines written faults first was got leg s refusals totals refused told write
     (subst (λ (r : List (ℕ × Refusal)). HasText written faults got start (frames ++ refused_texts r
     ++ total_text totals)) refused all) in
     (all.0, subst (λ n. HasText written faults got (start_at written faults first n) (report_of leg s)) (sym all.0) own)
+
+-- ---- what a result says
+pub on-ok : {T E P : Type 0} (r : Result T E) → P → OnOk r P
+on-ok (Ok x) p = p
+on-ok (Err e) p = tt
+
+pub at-ok : {T E P : Type 0} (r : Result T E) (x : T) → r ≡ Ok x → OnOk r P → P
+at-ok (Ok y) x is p = p
+at-ok (Err e) x is p = absurd cc
+
+pub at-err : {T E P : Type 0} (r : Result T E) (e : E) → r ≡ Err e → OnErr r P → P
+at-err (Ok y) e is p = absurd cc
+at-err (Err f) e is p = p
 
 -- ---- both ways
 pub stops-both : {K E : Type 0} (out : Lent K) (notes : Lent E) (failed : Bool) (text told : List ℕ) →
