@@ -3,9 +3,8 @@ use Rattle.std.proofs.Common.{◌≡◌, ℕ, ◌+◌, ◌-◌, ◌≤◌, Bool,
 use Rattle.std.proofs.Common.{sym, ◌∙◌, ap, subst, arith, append_assoc, append-nil, inl, inr, Result, Ok, Err, OnOk, OnErr}
 use Rattle.std.proofs.lemmas.Grind.{flat_map-append}
 use Rattle.outside_io.specs.Start.{Start}
-use Rattle.outside_io.specs.Transfer.{Appends, AppendsPart}
+use Rattle.outside_io.specs.Transfer.{Appends}
 use Rattle.outside_io.proofs.Parts.{AppendsPart-longer}
-use Rattle.session_model.specs.declared.script.Script.{Script}
 use Rattle.session_model.specs.Leg.{Leg}
 use Rattle.session_model.specs.SessionStream.{rows_of}
 use Rattle.session_model.specs.Segment.{segments_on}

@@ -1,5 +1,5 @@
 -- The row of the way there, and that of the way back where no write has failed.
-use Rattle.std.proofs.Common.{refl, sym, ◌∙◌, ap}
+use Rattle.std.proofs.Common.{refl, ◌∙◌, ap}
 use Rattle.pair_law.specs.declared.pair.Way.TheVariants.{There, Back}
 use Rattle.pair_law.specs.declared.pair.PairEvent.TheVariants.{Take}
 use Rattle.pair_law.specs.PairCounts.{PairPlan, pair_step}

@@ -1,5 +1,5 @@
 -- A round more, or all rows are taken, or a write has failed.
-use Rattle.std.proofs.Common.{◌≡◌, refl, sym, ◌∙◌, ap, subst, arith}
+use Rattle.std.proofs.Common.{refl, sym, ◌∙◌, ap, subst, arith}
 use Rattle.pair_law.specs.declared.pair.Way.TheVariants.{There, Back}
 use Rattle.pair_law.specs.Pair.{IsPair}
 use Rattle.pair_law.specs.PairCounts.{PairPlan, is_over, pair_bound}
