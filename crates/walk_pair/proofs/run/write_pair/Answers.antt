@@ -10,8 +10,8 @@ use Rattle.pair_law.specs.declared.pair.Way.TheVariants.{There, Back}
 use Rattle.pair_law.specs.PairCounts.{counts_on}
 use Rattle.pair_core.specs.Moved.{leg_on}
 use Rattle.walk_pair.specs.Text.{way_text}
-use Rattle.walk_pair.proofs.EndLaws.{appends-all, begun-few, ended-there, ended-back, same-name, way-lines, way-given_up}
-use Rattle.walk_pair.proofs.EndLaws.{on-ok, at-ok, at-err, stops-both}
+use Rattle.walk_pair.proofs.EndLaws.{appends-all, begun-few, ended-there, ended-back, same-name, way-lines}
+use Rattle.walk_pair.proofs.EndLaws.{way-given_up, on-ok, at-ok, at-err, stops-both}
 use Rattle.walk_pair.proofs.run.write_pair.Goals as goal
 
 pub returns-then-write_rounds-clause-err : goal.returns-then-write_rounds-clause-err
@@ -33,13 +33,9 @@ returns-then-write_rounds-clause-err g c =
     (way-given_up g.E.ByteSink.written g.E.ByteSink.faults c.args.notes.now c.new-back.result c.write_rounds.new.back
     s0 s1 Back c.requires.begun made.scripts c.new-back.ensures.fresh made.gives_back (not failed)
     c.abandon-lent_notes.result.now few c.if-write_rounds.ensures.failed c.abandon-lent_notes.ensures.gives_up) in
-    let k : WritesPart
-    (lent g.K.ByteSink.written g.K.ByteSink.faults c.args.out.now c.take_back.new.out)
-    (lent g.E.ByteSink.written g.E.ByteSink.faults c.args.notes.now c.take_back-then-write_rounds.new.out) (writes_both text told) =
-    stops-both
-    (lent g.K.ByteSink.written g.K.ByteSink.faults c.args.out.now c.take_back.new.out)
-    (lent g.E.ByteSink.written g.E.ByteSink.faults c.args.notes.now c.take_back-then-write_rounds.new.out) failed text told there
-    back in
+    let out = lent g.K.ByteSink.written g.K.ByteSink.faults c.args.out.now c.take_back.new.out in
+    let notes = lent g.E.ByteSink.written g.E.ByteSink.faults c.args.notes.now c.take_back-then-write_rounds.new.out in
+    let k : WritesPart out notes (writes_both text told) = stops-both out notes failed text told there back in
     let named_out = c.abandon-lent_out.ensures.name
     ∙ same-name g.K.ByteSink.written g.K.ByteSink.faults c.args.out.now c.new-there.result c.write_rounds.new.there s0
     s1 There c.requires.begun made.scripts c.new-there.ensures.fresh made.gives_there ∙ c.new-there.ensures.name in
