@@ -1,30 +1,72 @@
 //! A pair drains, and the report of each way is written.
-ghost use Rattle.std.specs.Prelude.{◌≡◌, OnOk, OnErr};
+ghost use Rattle.std.specs.Prelude.{◌≡◌, false, OnOk, OnErr};
+ghost use Rattle.outside_io.specs.Transfer.{Appends, AppendsPart};
+ghost use Rattle.report_text.specs.Report.{got_texts};
+ghost use Rattle.walk_law.specs.Delivered.{delivered_of};
+ghost use Rattle.walk_law.specs.Report.{report_of};
+ghost use Rattle.got_lines.specs.Told.{HasText, name_of, start_at};
 ghost use Rattle.command_parts.specs.Ends.{lent, WritesAll, WritesPart};
 ghost use Rattle.command_parts.specs.Task.{writes_both};
-ghost use Rattle.pair_law.specs.PairCounts.{pair_begin};
+ghost use Rattle.pair_law.specs.declared.pair.Way.TheVariants.{There as THERE, Back as BACK};
+ghost use Rattle.pair_law.specs.Pair.{IsPair};
+ghost use Rattle.pair_law.specs.PairCounts.{counts_on, pair_begin, pair_round, pair_run};
 ghost use Rattle.pair_law.specs.PairWalk.{pair_drained};
-ghost use Rattle.pair_core.specs.Moved.{plan_of, with_counts};
+ghost use Rattle.pair_core.specs.Moved.{leg_on, plan_of, with_counts, GivesWay, MoreRows};
+ghost use Rattle.walk_pair.specs.Rounds.{FailsOne, FewRows};
 ghost use Rattle.walk_pair.specs.Text.{way_text};
 
 use command_parts::{take_back, write_rest};
 use got_lines::{GotLines, MayFail};
 use outside_io::{ByteSink, Failed};
 use pair_core::{Pair, PairEvent, Way};
+use sink_core::FrameOut;
 
-/// Makes a round, and writes what it delivers. Answers whether a write has failed; it is the last one.
-fn write_round<F: MayFail, G: MayFail>(pair: &mut Pair, there: &mut F, back: &mut G) -> bool {
+/// Takes frames, and does nothing with them.
+#[derive(Drop)]
+struct Silent;
+
+impl FrameOut for Silent {
+    ghost stands_for = { λ silent start frames. Unit {0} };
+
+    fn frame(&mut self, _frame: &[u8]) {}
+}
+
+/// Makes a round, and writes what it delivers. Answers whether a write has failed; it is the last one. A row of one way
+/// gives the other no frames, so the place of the other is left out.
+fn write_round<F: MayFail, G: MayFail>(pair: &mut Pair, there: &mut F, back: &mut G) -> bool
+    requires there { F.has_failed there.old ≡ false }
+    requires back { G.has_failed back.old ≡ false }
+    ensures scripts { pair.new ≡ with_counts pair.old pair.new.counts }
+    ensures counts { result ≡ false → pair.new ≡ with_counts pair.old
+        (pair_run (plan_of pair.old) pair.old.counts (pair_round (plan_of pair.old))) }
+    ensures rises { MoreRows pair.old pair.new }
+    ensures few { FewRows pair.old → FewRows pair.new }
+    ensures gives_there { GivesWay F.stands_for there.old there.new pair.old pair.new THERE }
+    ensures gives_back { GivesWay G.stands_for back.old back.new pair.old pair.new BACK }
+    ensures failed { FailsOne result (F.has_failed there.new) (G.has_failed back.new) }
+{
     pair.prepare();
-    let _ = pair.step(PairEvent::Take(Way::There), there, back);
+    let _ = pair.step(PairEvent::Take(Way::There), there, &mut Silent);
     if there.failed() {
         return true;
     }
-    let _ = pair.step(PairEvent::Take(Way::Back), there, back);
+    let _ = pair.step(PairEvent::Take(Way::Back), &mut Silent, back);
     back.failed()
 }
 
 /// Makes rounds until all rows of both ways are taken, or a write fails. Answers whether one has failed.
-fn write_rounds<F: MayFail, G: MayFail>(pair: &mut Pair, there: &mut F, back: &mut G) -> bool {
+fn write_rounds<F: MayFail, G: MayFail>(pair: &mut Pair, there: &mut F, back: &mut G) -> bool
+    requires there { F.has_failed there.old ≡ false }
+    requires back { G.has_failed back.old ≡ false }
+    ensures scripts { pair.new ≡ with_counts pair.old pair.new.counts }
+    ensures drained { result ≡ false → pair.new ≡ with_counts pair.old
+        (pair_drained pair.old.there pair.old.back pair.old.counts) }
+    ensures fits { IsPair pair.old.there pair.old.back }
+    ensures few { FewRows pair.old → FewRows pair.new }
+    ensures gives_there { GivesWay F.stands_for there.old there.new pair.old pair.new THERE }
+    ensures gives_back { GivesWay G.stands_for back.old back.new pair.old pair.new BACK }
+    ensures failed { FailsOne result (F.has_failed there.new) (G.has_failed back.new) }
+{
     while !pair.is_over() {
         if write_round(pair, there, back) {
             return true;
@@ -33,18 +75,30 @@ fn write_rounds<F: MayFail, G: MayFail>(pair: &mut Pair, there: &mut F, back: &m
     false
 }
 
-/// Writes the end of the report of a way. Answers whether all was written.
-fn end_way<K: ByteSink>(pair: &Pair, way: Way, mut got: GotLines<K>) -> Result<(), Failed> {
+/// Writes the end of the report of a way, whose frames are written or wait. Answers where it was written, and whether
+/// all of it was.
+fn end_way<'a, K: ByteSink>(
+    pair: &Pair,
+    way: Way,
+    mut got: GotLines<'a, K>,
+) -> (&'a mut K, Result<(), Failed>)
+    ensures name { (first : K) → HasText K.written K.faults got.entry
+        (start_at K.written K.faults first (name_of got.entry))
+        (got_texts (delivered_of (leg_on pair.now way) (counts_on pair.now.counts way).rows)) →
+        result.0.ghost_name ≡ name_of got.entry }
+    ensures ok { (first : K) → HasText K.written K.faults got.entry
+        (start_at K.written K.faults first (name_of got.entry))
+        (got_texts (delivered_of (leg_on pair.now way) (counts_on pair.now.counts way).rows)) →
+        OnOk result.1 (Appends K.written K.faults first result.0.now
+        (report_of (leg_on pair.now way) (counts_on pair.now.counts way))) }
+    ensures err { (first : K) → HasText K.written K.faults got.entry
+        (start_at K.written K.faults first (name_of got.entry))
+        (got_texts (delivered_of (leg_on pair.now way) (counts_on pair.now.counts way).rows)) →
+        OnErr result.1 (AppendsPart K.written K.faults first result.0.now
+        (report_of (leg_on pair.now way) (counts_on pair.now.counts way))) }
+{
     write_rest(pair.refusals(way), &pair.totals(way), &mut got);
-    let (back, end) = got.finish();
-    take_back(back);
-    end
-}
-
-/// Gives up what waits to be written of a way.
-fn give_up<K: ByteSink>(got: GotLines<K>) {
-    let back = got.abandon();
-    take_back(back);
+    got.finish()
 }
 
 /// Makes a pair until all rows of both ways are taken, and writes the report of the way there on `out` and that of the
@@ -69,14 +123,23 @@ pub fn write_pair<K: ByteSink, E: ByteSink>(
     let mut there = GotLines::new(out);
     let mut back = GotLines::new(notes);
     if write_rounds(pair, &mut there, &mut back) {
-        give_up(there);
-        give_up(back);
+        let lent_out = there.abandon();
+        take_back(lent_out);
+        let lent_notes = back.abandon();
+        take_back(lent_notes);
         return Err(Failed);
     }
-    match end_way(pair, Way::There, there) {
-        Ok(()) => end_way(pair, Way::Back, back),
+    let (lent_out, end) = end_way(pair, Way::There, there);
+    take_back(lent_out);
+    match end {
+        Ok(()) => {
+            let (lent_notes, last) = end_way(pair, Way::Back, back);
+            take_back(lent_notes);
+            last
+        }
         Err(Failed) => {
-            give_up(back);
+            let lent_notes = back.abandon();
+            take_back(lent_notes);
             Err(Failed)
         }
     }
