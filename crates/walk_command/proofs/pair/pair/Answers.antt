@@ -44,9 +44,10 @@ returns-in-Err-new-clause-ends g c =
     c.stopped-in-Err-new.ensures.status refl c.stopped-in-Err-new.ensures.told
 
 pub write_pair-requires : goal.write_pair-requires
-write_pair-requires g c =
-    c.in-Ok-new.ensures.counts
-    ∙ sym (ap₂ (λ there back. pair_begin (pair_plan there back)) c.in-Ok-new.ensures.there c.in-Ok-new.ensures.back)
+write_pair-requires g c = record {
+  begun = c.in-Ok-new.ensures.counts
+  ∙ sym (ap₂ (λ there back. pair_begin (pair_plan there back)) c.in-Ok-new.ensures.there c.in-Ok-new.ensures.back);
+}
 
 -- ---- its reports
 pub returns-in-Ok-write_pair-clause-ends : goal.returns-in-Ok-write_pair-clause-ends
