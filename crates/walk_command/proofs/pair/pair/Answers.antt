@@ -46,7 +46,7 @@ returns-in-Err-new-clause-ends g c =
 pub write_pair-requires : goal.write_pair-requires
 write_pair-requires g c = record {
   begun = c.in-Ok-new.ensures.counts
-  ∙ sym (ap₂ (λ there back. pair_begin (pair_plan there back)) c.in-Ok-new.ensures.there c.in-Ok-new.ensures.back);
+      ∙ sym (ap₂ (λ there back. pair_begin (pair_plan there back)) c.in-Ok-new.ensures.there c.in-Ok-new.ensures.back);
 }
 
 -- ---- its reports
