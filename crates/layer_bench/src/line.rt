@@ -3,7 +3,7 @@
 use crate::Done;
 use line_core::{LineCore, Windows};
 use member_ring::{Burst, LineEnds, LineWorker, OpenGate, RingIn, RingOut, line_rings};
-use std::alloc::Global;
+use std::alloc::{AllocError, Global};
 use vc_cell::{Cell, Container, PAYLOAD};
 
 /// The slots of the receive ring, and as many containers are sent at once.
@@ -52,7 +52,10 @@ pub(crate) fn line(alloc: Global, delay: u16, octets: u64) -> Option<Done> {
         tx_out,
         rx,
         mut rx_out,
-    } = line_rings(alloc, SLOTS).ok()?;
+    } = match line_rings(alloc, SLOTS) {
+        Ok(ends) => ends,
+        Err(AllocError) => return None,
+    };
     let windows = Windows::new(alloc, &[]).ok()?;
     let core = LineCore::new(alloc, delay, windows, u32::MAX).ok()?;
     let mut worker = LineWorker::new(0, tx_out, core, rx);

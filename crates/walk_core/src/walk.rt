@@ -41,7 +41,6 @@ use vc_cell::{BackCell, Container};
 use walk_parts::ReturnRing;
 
 /// A walk of a script.
-#[derive(Drop)]
 pub struct Walk {
     script: Script,
     way: WayCore,
@@ -49,6 +48,18 @@ pub struct Walk {
     ring: ReturnRing,
     /// The last decision step.
     last: Option<StepNote>,
+}
+
+/// A call of its own, so that a function which drops one doesn't go through its parts.
+impl Drop for Walk {
+    fn drop(self) {
+        let Walk {
+            script: _,
+            way: _,
+            ring: _,
+            last: _,
+        } = self;
+    }
 }
 
 impl Model for Walk {
