@@ -7,7 +7,7 @@ ghost use Rattle.alarm_log.specs.Posts.{posted_by, most_by, SamePost};
 
 use alarm_log::{AlarmList, AlarmLog, AlarmPost, Posted, Turn, make_log};
 use member_ring::{Alarm, AlarmKind};
-use std::alloc::Global;
+use std::alloc::{AllocError, Global};
 use std::sync::Wait;
 use std::thread;
 use std::thread::Threads;
@@ -29,7 +29,10 @@ fn open_one(alloc: Global, most: u32) -> Option<(AlarmLog, AlarmPost)>
     ensures { IfSome result (λ r. IsPostOf r.0 r.1
         × (posts_of r.0 ≡ 1) × (posted_by r.1 ≡ []) × (most_by r.1 ≡ most)) }
 {
-    let (log, mut posts) = make_log(alloc, 1, 1, most).ok()?;
+    let (log, mut posts) = match make_log(alloc, 1, 1, most) {
+        Ok(made) => made,
+        Err(AllocError) => return None,
+    };
     let post = posts.pop()?;
     Some((log, post))
 }
