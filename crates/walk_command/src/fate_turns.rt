@@ -1,24 +1,38 @@
 //! A walk is made turn by turn, and after each turn it is seen which lines carry payload under the packet
 //! that was begun, whether the row that was taken is whole and why not, and what is confirmed after it.
 //! Behind the last turn stand the places of the frames.
-ghost use Rattle.std.specs.Prelude.{◌≡◌, ◌+◌, ◌≤◌, ◌<◌, List, replicate, IfOk, OnOk};
+ghost use Rattle.std.specs.Prelude.{◌≡◌, ◌+◌, ◌≤◌, ◌<◌, List, replicate, IfOk, IfErr, OnOk};
 ghost use Rattle.std.specs.List.{flat_map};
+ghost use Rattle.session_model.specs.declared.script.Script.{Script};
 ghost use Rattle.session_model.specs.declared.walk.Event.{Event};
 ghost use Rattle.session_model.specs.Leg.{leg_of};
 ghost use Rattle.session_model.specs.Valid.{IsValid, IsEvent};
 ghost use Rattle.session_model.specs.Counts.{begin, run, run_line, drain, bound};
 ghost use Rattle.walk_law.specs.Walk.{walk_plan, IsWalked};
 ghost use Rattle.headline_law.specs.Texts.{counts_in};
+ghost use Rattle.command_parts.specs.Task.{Answer};
+ghost use Rattle.command_parts.specs.Ends.{lent};
+ghost use Rattle.command_parts.specs.Scripts.{HasScript, script_answer};
+ghost use Rattle.command_parts.specs.Stops.{StopsReading};
 ghost use Rattle.walk_command.specs.Told.{events_of, IsTurn};
 ghost use Rattle.walk_fates.specs.Seen.{Sees};
 ghost use Rattle.walk_fates.specs.Lines.{SeesWalk};
 
 use crate::events::{Turn, silent_turn, turns_of};
-use crate::ready::LinesAndTicks;
+use crate::ready::{LinesAndTicks, read_walk};
+use command_parts::Stop;
+use outside_io::ByteSource;
 use session_model::EventLine;
 use std::alloc::{AllocError, Global};
 use walk_core::Walk;
 use walk_fates::{SeenRows, SeenWalk, nothing_seen, place_frames, see_since};
+
+/// The walk of a script at its end, and what was seen of it.
+#[derive(Drop)]
+pub struct WatchedWalk {
+    pub walk: Walk,
+    pub seen: SeenWalk,
+}
 
 /// Makes a turn, and sees what came of it.
 fn see_turn(walk: &mut Walk, turn: Turn, seen: &mut SeenRows) -> Result<(), AllocError>
@@ -130,7 +144,7 @@ fn see_event_lines(
 }
 
 /// Makes the walk of a script, and sees it.
-pub fn see_walk(
+fn see_walk(
     alloc: Global,
     walk: &mut Walk,
     lines: &[EventLine],
@@ -148,4 +162,26 @@ pub fn see_walk(
     see_event_lines(walk, lines, size.ticks, &mut rows)?;
     let ruler = place_frames(alloc, walk, &rows.packets)?;
     Ok(SeenWalk { rows, ruler })
+}
+
+/// Reads a script, makes its walk and sees it.
+pub fn see_script<S: ByteSource>(alloc: Global, source: &mut S) -> Result<WatchedWalk, Stop>
+    ensures script { IfOk result (λ watched.
+        HasScript (lent S.left S.faults source.old source.new) watched.walk.script) }
+    ensures counts { IfOk result (λ watched.
+        watched.walk.counts ≡ counts_in watched.walk.script) }
+    ensures seen { IfOk result (λ watched.
+        SeesWalk (leg_of watched.walk.script) watched.walk.counts watched.seen) }
+    ensures stopped { (writes : Script → Answer) → IfErr result
+        (StopsReading (lent S.left S.faults source.old source.new) (script_answer writes)) }
+{
+    let begun = match read_walk(alloc, source) {
+        Ok(begun) => begun,
+        Err(stop) => return Err(stop),
+    };
+    let mut walk = begun.walk;
+    match see_walk(alloc, &mut walk, begun.lines.as_slice(), begun.size) {
+        Ok(seen) => Ok(WatchedWalk { walk, seen }),
+        Err(AllocError) => Err(Stop::Memory),
+    }
 }

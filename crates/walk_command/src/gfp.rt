@@ -8,11 +8,9 @@ ghost use Rattle.walk_command.specs.Ended.{HandsScript};
 
 use crate::command::WalkCommand;
 use crate::end::{WalkEnd, cut, done, stopped};
-use crate::fate_turns::see_walk;
-use crate::ready::read_walk;
-use command_parts::Stop;
+use crate::fate_turns::see_script;
 use outside_io::{ByteSink, ByteSource, Failed};
-use std::alloc::{AllocError, Global};
+use std::alloc::Global;
 use walk_gfp::write_gfp;
 
 /// The words `gfp`.
@@ -43,17 +41,12 @@ pub fn gfp<S: ByteSource, K: ByteSink, E: ByteSink>(
         HandsScript (lent S.left S.faults script.old script.new) result.walk }
     ensures kept { result.status ≢ 0 → result.status ≢ 4 → result.walk ≡ None }
 {
-    let begun = match read_walk(alloc, script) {
-        Ok(begun) => begun,
+    let watched = match see_script(alloc, script) {
+        Ok(watched) => watched,
         Err(stop) => return stopped(stop, notes),
     };
-    let mut walk = begun.walk;
-    let seen = match see_walk(alloc, &mut walk, begun.lines.as_slice(), begun.size) {
-        Ok(seen) => seen,
-        Err(AllocError) => return stopped(Stop::Memory, notes),
-    };
-    match write_gfp(&walk, &seen, out) {
-        Ok(()) => done(Some(walk)),
-        Err(Failed) => cut(Some(walk), notes),
+    match write_gfp(&watched.walk, &watched.seen, out) {
+        Ok(()) => done(Some(watched.walk)),
+        Err(Failed) => cut(Some(watched.walk), notes),
     }
 }

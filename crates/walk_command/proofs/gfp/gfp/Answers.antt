@@ -1,14 +1,12 @@
 -- A script is read, its walk is made and seen, and the capture is written or a write fails.
-use Rattle.std.proofs.Common.{◌≡◌, ℕ, List, refl, ◌∙◌, ap, subst}
+use Rattle.std.proofs.Common.{ℕ, List, refl, ap, subst}
 use Rattle.outside_io.specs.Transfer.{Appends, AppendsPart}
 use Rattle.session_model.specs.declared.script.Script.{Script}
 use Rattle.session_model.specs.Leg.{leg_of}
-use Rattle.session_model.specs.Counts.{Counts}
 use Rattle.headline_law.specs.Texts.{counts_in}
-use Rattle.command_parts.specs.declared.stop.Stop.TheVariants.{Memory}
 use Rattle.command_parts.specs.Task.{Answer, writes, reads}
 use Rattle.command_parts.specs.Ends.{lent}
-use Rattle.command_parts.proofs.StopLaws.{ends-stopped, ends-done, ends-cut, ends-short, meets-script, stops-not-run}
+use Rattle.command_parts.proofs.StopLaws.{ends-stopped, ends-done, ends-cut, meets-script, stops-not-run}
 use Rattle.walk_gfp.specs.Carried.{sent_capture}
 use Rattle.walk_command.specs.Gfp.{gfp_answer}
 use Rattle.walk_command.proofs.gfp.gfp.Goals as goal
@@ -16,16 +14,10 @@ use Rattle.walk_command.proofs.gfp.gfp.Goals as goal
 abbrev answer : Script → Answer
 answer script = writes (sent_capture (leg_of script) (counts_in script))
 
--- the walk's capture is that of its script
-own-text : (script now : Script) (s : Counts) → now ≡ script → s ≡ counts_in script →
-    sent_capture (leg_of now) s ≡ sent_capture (leg_of script) (counts_in script)
-own-text script now s same counts = ap (λ (x : Script). sent_capture (leg_of x) s) same
-    ∙ ap (sent_capture (leg_of script)) counts
-
 -- ---- nothing was read, or no script
 pub returns-in-Err-clause-ends : goal.returns-in-Err-clause-ends
 returns-in-Err-clause-ends g c =
-    ends-stopped (lent g.S.ByteSource.left g.S.ByteSource.faults c.args.script.now c.read_walk.new.source)
+    ends-stopped (lent g.S.ByteSource.left g.S.ByteSource.faults c.args.script.now c.see_script.new.source)
     (lent g.K.ByteSink.written g.K.ByteSink.faults c.args.out.now c.args.out.now)
     (lent g.E.ByteSink.written g.E.ByteSink.faults c.args.notes.now c.stopped.new.notes)
     gfp_answer c.in-Err.stop c.stopped.result.status (c.in-Err.ensures.stopped answer) c.stopped.ensures.status refl
@@ -33,54 +25,36 @@ returns-in-Err-clause-ends g c =
 
 pub returns-in-Err-clause-handed : goal.returns-in-Err-clause-handed
 returns-in-Err-clause-handed g c run =
-    absurd (stops-not-run (lent g.S.ByteSource.left g.S.ByteSource.faults c.args.script.now c.read_walk.new.source)
+    absurd (stops-not-run (lent g.S.ByteSource.left g.S.ByteSource.faults c.args.script.now c.see_script.new.source)
     gfp_answer c.in-Err.stop c.stopped.result.status (c.in-Err.ensures.stopped answer) c.stopped.ensures.status run)
-
--- ---- memory was short for what is seen
-pub returns-in-Err-see_walk-clause-ends : goal.returns-in-Err-see_walk-clause-ends
-returns-in-Err-see_walk-clause-ends g c =
-    ends-short (lent g.S.ByteSource.left g.S.ByteSource.faults c.args.script.now c.read_walk.new.source)
-    (lent g.K.ByteSink.written g.K.ByteSink.faults c.args.out.now c.args.out.now)
-    (lent g.E.ByteSink.written g.E.ByteSink.faults c.args.notes.now c.stopped-in-Err-see_walk.new.notes)
-    (reads gfp_answer) (answer c.in-Ok.begun.walk.script) c.stopped-in-Err-see_walk.result.status
-    (meets-script (lent g.S.ByteSource.left g.S.ByteSource.faults c.args.script.now c.read_walk.new.source) answer
-    c.in-Ok.begun.walk.script c.in-Ok.ensures.script)
-    c.stopped-in-Err-see_walk.ensures.status refl c.stopped-in-Err-see_walk.ensures.told
-
-pub returns-in-Err-see_walk-clause-handed : goal.returns-in-Err-see_walk-clause-handed
-returns-in-Err-see_walk-clause-handed g c run =
-    absurd (stops-not-run (lent g.S.ByteSource.left g.S.ByteSource.faults c.args.script.now c.read_walk.new.source)
-    gfp_answer Memory c.stopped-in-Err-see_walk.result.status
-    c.in-Ok.ensures.script.read.quiet c.stopped-in-Err-see_walk.ensures.status run)
 
 -- ---- the walk
 pub returns-in-Ok-write_gfp-clause-ends : goal.returns-in-Ok-write_gfp-clause-ends
 returns-in-Ok-write_gfp-clause-ends g c =
-    let script : Script = c.in-Ok.begun.walk.script in
+    let script : Script = c.in-Ok.watched.walk.script in
     let P : List ℕ → Type 0 = λ text. Appends g.K.ByteSink.written g.K.ByteSink.faults c.args.out.now
     c.write_gfp.new.out text in
-    let text = own-text script c.see_walk.new.walk.script c.see_walk.new.walk.counts c.see_walk.ensures.script
-    c.in-Ok-see_walk.ensures.counts in
-    ends-done (lent g.S.ByteSource.left g.S.ByteSource.faults c.args.script.now c.read_walk.new.source)
+    ends-done (lent g.S.ByteSource.left g.S.ByteSource.faults c.args.script.now c.see_script.new.source)
     (lent g.K.ByteSink.written g.K.ByteSink.faults c.args.out.now c.write_gfp.new.out)
     (lent g.E.ByteSink.written g.E.ByteSink.faults c.args.notes.now c.args.notes.now)
     (reads gfp_answer) (answer script) c.done.result.status
-    (meets-script (lent g.S.ByteSource.left g.S.ByteSource.faults c.args.script.now c.read_walk.new.source) answer
+    (meets-script (lent g.S.ByteSource.left g.S.ByteSource.faults c.args.script.now c.see_script.new.source) answer
     script c.in-Ok.ensures.script)
-    c.done.ensures.status (subst P text c.in-Ok-write_gfp.ensures.ok, refl)
+    c.done.ensures.status
+    (subst P (ap (sent_capture (leg_of script)) c.in-Ok.ensures.counts) c.in-Ok-write_gfp.ensures.ok, refl)
 
 -- ---- a write has failed
 pub returns-clause-ends : goal.returns-clause-ends
 returns-clause-ends g c =
-    let script : Script = c.in-Ok.begun.walk.script in
+    let script : Script = c.in-Ok.watched.walk.script in
     let P : List ℕ → Type 0 = λ text. AppendsPart g.K.ByteSink.written g.K.ByteSink.faults c.args.out.now
     c.write_gfp.new.out text in
-    let text = own-text script c.see_walk.new.walk.script c.see_walk.new.walk.counts c.see_walk.ensures.script
-    c.in-Ok-see_walk.ensures.counts in
-    ends-cut (lent g.S.ByteSource.left g.S.ByteSource.faults c.args.script.now c.read_walk.new.source)
+    ends-cut (lent g.S.ByteSource.left g.S.ByteSource.faults c.args.script.now c.see_script.new.source)
     (lent g.K.ByteSink.written g.K.ByteSink.faults c.args.out.now c.write_gfp.new.out)
     (lent g.E.ByteSink.written g.E.ByteSink.faults c.args.notes.now c.cut.new.notes)
     (reads gfp_answer) (answer script) c.args.notes.now c.cut.result.status
-    (meets-script (lent g.S.ByteSource.left g.S.ByteSource.faults c.args.script.now c.read_walk.new.source) answer
+    (meets-script (lent g.S.ByteSource.left g.S.ByteSource.faults c.args.script.now c.see_script.new.source) answer
     script c.in-Ok.ensures.script)
-    c.cut.ensures.status (subst P text c.in-Err-write_gfp.ensures.err, refl) c.cut.ensures.told
+    c.cut.ensures.status
+    (subst P (ap (sent_capture (leg_of script)) c.in-Ok.ensures.counts) c.in-Err-write_gfp.ensures.err, refl)
+    c.cut.ensures.told
