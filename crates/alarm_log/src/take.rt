@@ -4,7 +4,7 @@ ghost use Rattle.member_ring.specs.declared.alarm.Alarm.{Alarm};
 ghost use Rattle.std.specs.Vec.{vec_capacity};
 ghost use Rattle.crossbeam_queue.specs.Passes.{view};
 ghost use Rattle.crossbeam_queue.specs.Fifo.{Held};
-ghost use Rattle.alarm_log.specs.Views.{IsHeard, known_of, got_of};
+ghost use Rattle.alarm_log.specs.Views.{IsHeard};
 ghost use Rattle.alarm_log.specs.Listens.{Listens, SameEars};
 
 use crate::rule::{AlarmQueue, Got, View};

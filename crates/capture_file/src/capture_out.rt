@@ -1,10 +1,10 @@
 //! Delivered frames are written as the records of a capture.
-ghost use Rattle.std.specs.Prelude.{◌≡◌, ◌≤◌, ◌<◌, ◌+◌, ◌*◌, ◌/◌, ◌%◌, ℕ, List, [], ◌++◌, length, OnOk, OnErr};
-ghost use Rattle.std.specs.Int.{w32, to_le_bytes};
+ghost use Rattle.std.specs.Prelude.{◌≡◌, ◌<◌, ◌+◌, ◌*◌, ◌/◌, ◌%◌, ℕ, List, [], ◌++◌, OnOk, OnErr};
+ghost use Rattle.std.specs.Int.{to_le_bytes};
 ghost use Rattle.outside_io.specs.Start.{Start};
 ghost use Rattle.outside_io.specs.Transfer.{Appends, AppendsPart};
 ghost use Rattle.got_lines.specs.Told.{HasText, start_at};
-ghost use Rattle.capture_file.specs.Written.{RowFrame, record_head, ethernet_capture, ethernet_head};
+ghost use Rattle.capture_file.specs.Written.{RowFrame, record_head, ethernet_capture};
 ghost use Rattle.capture_file.specs.Out.{HasCapture, name_of, row_at};
 
 use got_lines::GotLines;

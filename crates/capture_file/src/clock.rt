@@ -1,7 +1,7 @@
 //! The ticks in which the frames of a capture are due.
-ghost use Rattle.std.specs.Prelude.{◌≡◌, ◌<◌, ◌≤◌, ◌++◌, [], ◌∷◌, ℕ, List, max};
+ghost use Rattle.std.specs.Prelude.{◌≡◌, ◌<◌, ◌++◌, [], ◌∷◌, List, max};
 ghost use Rattle.capture_file.specs.Form.{Record};
-ghost use Rattle.capture_file.specs.Reading.{time_of, due_of, ticks_between};
+ghost use Rattle.capture_file.specs.Reading.{time_of};
 
 use crate::form::{RecordHead, TimeUnit};
 

@@ -6,7 +6,7 @@ ghost use Rattle.session_model.specs.Limits.{longest_frame};
 ghost use Rattle.session_model.specs.TypeHeader.{type_header};
 ghost use Rattle.got_lines.specs.Told.{HasText, start_at};
 ghost use Rattle.capture_file.specs.Written.{RowFrame};
-ghost use Rattle.capture_file.specs.Gfp.{plain_header, gfp_capture, gfp_head};
+ghost use Rattle.capture_file.specs.Gfp.{plain_header, gfp_capture};
 ghost use Rattle.capture_file.specs.Out.{HasGfp, gfp_name_of};
 
 use crate::capture_out::add_head;

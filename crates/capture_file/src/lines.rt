@@ -1,13 +1,12 @@
 //! The frames of a capture as lines of a script.
-ghost use Rattle.std.specs.Prelude.{◌≡◌, ◌≤◌, ◌+◌, ◌*◌, ℕ, List, ◌++◌, length, take, drop, replicate, true, false, Ok};
+ghost use Rattle.std.specs.Prelude.{◌≡◌, ◌≤◌, ◌+◌, ◌*◌, ℕ, List, ◌++◌, length, take, drop, replicate, Ok};
 ghost use Rattle.std.specs.Prelude.{OnOk, OnErr};
 ghost use Rattle.hex.specs.Hex.{encode_lower};
-ghost use Rattle.crc32.specs.Crc32.{least_first, fcs_in};
 ghost use Rattle.outside_io.specs.Start.{Start};
 ghost use Rattle.outside_io.specs.Transfer.{Appends, AppendsPart};
 ghost use Rattle.got_lines.specs.Told.{HasText};
 ghost use Rattle.capture_file.specs.Form.{form_of};
-ghost use Rattle.capture_file.specs.Reading.{filled_up, client_frame, with_fcs, capture_said, frames_of};
+ghost use Rattle.capture_file.specs.Reading.{filled_up, client_frame, with_fcs, frames_of};
 ghost use Rattle.capture_file.specs.Texts.{line_start, frame_text, frame_texts};
 
 use crate::clock::Clock;

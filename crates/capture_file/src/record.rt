@@ -1,6 +1,6 @@
 //! The records of a capture, one by one. Nothing is copied.
-ghost use Rattle.std.specs.Prelude.{◌≡◌, ◌≤◌, ◌<◌, ◌+◌, ◌*◌, length, Some, None, IfSome, IfNone};
-ghost use Rattle.capture_file.specs.Form.{Record, head_of, first_record};
+ghost use Rattle.std.specs.Prelude.{◌≡◌, ◌≤◌, ◌<◌, ◌+◌, length, Some, None, IfSome, IfNone};
+ghost use Rattle.capture_file.specs.Form.{head_of, first_record};
 ghost use Rattle.capture_file.specs.Reading.{most_octets, record_fault};
 
 use crate::form::{ByteOrder, RecordFault, RecordHead};

@@ -3,7 +3,7 @@
 //! Begin with `channel_law`. It is the law of losses with frames that have a linear extension header as their kind.
 #![tactic(auto)]
 
-ghost use Rattle.std.specs.Prelude.{◌≡◌, ℕ, ◌<◌, ◌≤◌, ◌^◌, true, List, [], ◌∷◌, ◌++◌, length, take, drop, All};
+ghost use Rattle.std.specs.Prelude.{◌≡◌, ℕ, ◌<◌, ◌≤◌, ◌^◌, List, [], ◌∷◌, ◌++◌, length, take, drop, All};
 ghost use Rattle.session_model.specs.Loss.{TrueStarts};
 ghost use Rattle.linear_model.specs.declared.Cut.{Cut};
 ghost use Rattle.linear_model.specs.Linear.{ChannelFrame};

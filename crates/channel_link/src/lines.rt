@@ -1,5 +1,5 @@
 //! The lines of what came of a plan.
-ghost use Rattle.std.specs.Prelude.{◌≡◌, ◌≤◌, ◌+◌, ◌*◌, length, take};
+ghost use Rattle.std.specs.Prelude.{◌≡◌, ◌≤◌, length, take};
 ghost use Rattle.session_model.specs.Limits.{longest_frame};
 ghost use Rattle.channel_link.specs.Text.{got_front, frame_end, refused_text, counts_text};
 

@@ -1,6 +1,6 @@
 //! Words as `clap` reads them.
-ghost use Rattle.std.specs.Prelude.{◌≡◌, IfOk, IfErr, true, List, map, string_bytes};
-ghost use Rattle.clap.specs.Words.{Text, app_of, kind_of, rows_of, found_of, all_of};
+ghost use Rattle.std.specs.Prelude.{◌≡◌, IfOk, IfErr, true, map, string_bytes};
+ghost use Rattle.clap.specs.Words.{app_of, kind_of, rows_of, found_of};
 ghost use Rattle.cmd_words.specs.Words.{are_plain};
 ghost use Rattle.cmd_words.specs.Parser.{words_app, words_in};
 

@@ -1,5 +1,5 @@
 //! The command that words are.
-ghost use Rattle.std.specs.Prelude.{◌≡◌, ◌↔◌, IfOk, IfErr, IsErrOf, IsNone, Some, map, option_map, string_bytes, codes};
+ghost use Rattle.std.specs.Prelude.{◌≡◌, ◌↔◌, IfOk, IsErrOf, IsNone, Some, map, option_map, string_bytes, codes};
 ghost use Rattle.clap.specs.Words.{all_of, found_of, rows_of};
 ghost use Rattle.cmd_words.specs.Words.{taken_as};
 ghost use Rattle.cmd_words.specs.Parser.{words_in};

@@ -1,5 +1,5 @@
 //! What an end says, fact by fact.
-ghost use Rattle.std.specs.Prelude.{◌≡◌, ◌≢◌, ◌⊎◌, ◌↔◌, ◌≤◌, ℕ, List, length, IfSome, IsTrue, codes};
+ghost use Rattle.std.specs.Prelude.{◌≡◌, ◌≢◌, ◌⊎◌, ◌≤◌, ℕ, List, length, IfSome, IsTrue, codes};
 ghost use Rattle.std.specs.Io.KnownBytes.{IsAtEnd};
 ghost use Rattle.command_parts.specs.declared.stop.Refusal.{Refusal};
 ghost use Rattle.command_parts.specs.Task.{Answer, Task, none, reads, makes, refuses, exceeds, Reads, IsGood};

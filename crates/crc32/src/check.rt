@@ -1,5 +1,5 @@
 //! The check, eight octets at a time, with a table for each of their places.
-ghost use Rattle.std.specs.Prelude.{◌≡◌, ℕ, ◌+◌, ◌<◌, ◌≤◌, List, ◌++◌, [], ◌∷◌, length, take};
+ghost use Rattle.std.specs.Prelude.{◌≡◌, ℕ, ◌+◌, ◌≤◌, List, ◌++◌, [], ◌∷◌, length, take};
 ghost use Rattle.std.specs.Int.{to_le_bytes, w64};
 ghost use Rattle.crc32.specs.Crc32.{BitOrder, least_first, fcs_of, fcs_in};
 ghost use Rattle.crc32.specs.Register.{Stands, IsTables};

@@ -1,5 +1,5 @@
 //! Why a row isn't whole.
-ghost use Rattle.std.specs.Prelude.{◌≡◌, ℕ, ◌+◌, ◌*◌, ◌^◌, ◌<◌, ◌≤◌, length, List, All, Option};
+ghost use Rattle.std.specs.Prelude.{◌≡◌, ◌+◌, ◌*◌, ◌^◌, ◌<◌, ◌≤◌, length, List, All, Option};
 ghost use Rattle.std.specs.List.{list_any};
 ghost use Rattle.session_model.specs.Damage.{AreWindows};
 ghost use Rattle.session_model.specs.Scenario.{Scenario};

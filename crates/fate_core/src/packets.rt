@@ -1,5 +1,5 @@
 //! The rows that control packets govern: which lines carry payload in them, and where in the stream they begin.
-ghost use Rattle.std.specs.Prelude.{◌≡◌, ℕ, suc, ◌+◌, ◌-◌, ◌*◌, ◌/◌, ◌≤◌, ◌<◌, [], ◌∷◌, ◌++◌, length, List, OnOk};
+ghost use Rattle.std.specs.Prelude.{◌≡◌, suc, ◌+◌, ◌-◌, ◌*◌, ◌/◌, ◌≤◌, ◌<◌, [], ◌∷◌, ◌++◌, length, List, OnOk};
 ghost use Rattle.std.specs.Prelude.{OnErr, IfSome, IfNone, Option};
 ghost use Rattle.session_model.specs.Scenario.{Scenario};
 ghost use Rattle.session_model.specs.Table.{Told, active};

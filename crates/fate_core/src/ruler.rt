@@ -1,5 +1,5 @@
 //! The places at which the pieces of accepted frames begin and end, by lengths alone.
-ghost use Rattle.std.specs.Prelude.{◌≡◌, ℕ, ◌+◌, ◌^◌, ◌==◌, ◌||◌, ◌<◌, ◌≤◌, [], ◌∷◌, ◌++◌, length, List, OnOk, OnErr};
+ghost use Rattle.std.specs.Prelude.{◌≡◌, ◌+◌, ◌^◌, ◌==◌, ◌||◌, ◌<◌, [], length, OnOk, OnErr};
 ghost use Rattle.std.specs.Prelude.{slice_get, IfSome};
 ghost use Rattle.session_model.specs.Client.{Stream};
 ghost use Rattle.fate_law.specs.Ruler.{new_ruler, ruler_of, ruled, with_waiting};

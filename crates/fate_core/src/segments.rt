@@ -1,5 +1,5 @@
 //! The segments of the taken rows, by their rows, and their marks.
-ghost use Rattle.std.specs.Prelude.{◌≡◌, ℕ, ◌+◌, ◌^◌, ◌<◌, ◌≤◌, [], ◌∷◌, ◌++◌, length, List, OnOk, OnErr, slice_get};
+ghost use Rattle.std.specs.Prelude.{◌≡◌, ◌+◌, ◌^◌, ◌<◌, [], ◌∷◌, ◌++◌, length, List, OnOk, OnErr, slice_get};
 ghost use Rattle.std.specs.Prelude.{Option, None, false};
 ghost use Rattle.std.specs.Option.{ForSome};
 ghost use Rattle.session_model.specs.Segment.{StreamRow};

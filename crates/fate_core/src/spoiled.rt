@@ -1,5 +1,5 @@
 //! The runs of rows that aren't whole for one cause.
-ghost use Rattle.std.specs.Prelude.{◌≡◌, ℕ, ◌+◌, ◌<◌, ◌==◌, ◌&&◌, [], ◌∷◌, ◌++◌, List, OnOk, OnErr, Option};
+ghost use Rattle.std.specs.Prelude.{◌≡◌, ◌+◌, ◌<◌, ◌==◌, ◌&&◌, [], ◌∷◌, ◌++◌, List, OnOk, OnErr, Option};
 ghost use Rattle.fate_law.specs.declared.Cause.{Cause as CauseData};
 ghost use Rattle.fate_law.specs.Spoiled.{same_cause, spoiled_runs};
 ghost use Rattle.fate_core.specs.Runs.{AreRuns, with_row};

@@ -18,7 +18,6 @@ ghost use Rattle.session_model.specs.SessionStream.{rows_of};
 ghost use Rattle.loss_law.specs.Worked.{worked_pieces, worked_rows};
 ghost use Rattle.fate_law.specs.Spans.{later_segments, fate_by_rows};
 ghost use Rattle.fate_law.specs.Worked.{worked_fates, worked_segments, worked_causes, worked_runs, worked_ruler};
-ghost use Rattle.fate_law.specs.FateText.{fates_text};
 ghost use Rattle.fate_law.specs.SessionFates.{fate_at, ended_of, got_frames};
 ghost use Rattle.fate_law.specs.Spoiled.{row_cause, spoiled_runs};
 ghost use Rattle.session_model.specs.Leg.{Leg};

@@ -1,6 +1,6 @@
 //! The payload areas of a stream, found from any place of it on.
 
-ghost use Rattle.std.specs.Prelude.{◌≡◌, ◌≢◌, ℕ, ◌-◌, ◌<◌, ◌≤◌, Bool, true, false, List, [], ◌∷◌, ◌++◌, length, take};
+ghost use Rattle.std.specs.Prelude.{◌≡◌, ◌≢◌, ℕ, ◌-◌, ◌<◌, ◌≤◌, Bool, true, false, List, [], ◌∷◌, length, take};
 ghost use Rattle.std.specs.Prelude.{IfOk, IfSome, IfNone, Some};
 ghost use Rattle.session_model.specs.Core.{core_header};
 ghost use Rattle.gfp_delineate.specs.Repeated.{idles_from};

@@ -9,13 +9,13 @@
 //! of other kinds of frames stand on it too.
 #![tactic(auto)]
 
-ghost use Rattle.std.specs.Prelude.{◌≡◌, ◌≢◌, ℕ, ◌+◌, ◌-◌, ◌<◌, ◌≤◌, ◌↔◌, Bool, true, false, List, [], ◌∷◌, ◌++◌};
+ghost use Rattle.std.specs.Prelude.{◌≡◌, ◌≢◌, ℕ, ◌+◌, ◌-◌, ◌<◌, ◌≤◌, ◌↔◌, Bool, true, false, List, [], ◌∷◌};
 ghost use Rattle.std.specs.Prelude.{length, map, take, drop, All, IfOk, IfSome, IfNone, IsSome, IsTrue};
 ghost use Rattle.session_model.specs.Core.{core_header};
 ghost use Rattle.session_model.specs.Piece.{stream_of, opening, frames_by};
 ghost use Rattle.session_model.specs.Run.{is_sync};
 ghost use Rattle.session_model.specs.TypeHeader.{type_fault};
-ghost use Rattle.session_model.specs.Outcome.{outcome_by, outcomes};
+ghost use Rattle.session_model.specs.Outcome.{outcome_by};
 ghost use Rattle.session_model.specs.Delivery.{delivered};
 ghost use Rattle.gfp_delineate.specs.Repeated.{idles_from};
 ghost use Rattle.gfp_delineate.specs.Receiver.{most, StandsIn, Advances, Brings, frame_of, header_begun, told_outcomes};

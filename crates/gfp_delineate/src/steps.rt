@@ -1,7 +1,7 @@
 //! The steps of a receiver: what it takes of a piece in one go.
 
-ghost use Rattle.std.specs.Prelude.{◌≡◌, ◌≢◌, ℕ, ◌+◌, ◌-◌, ◌<◌, ◌≤◌, ◌⊎◌, List, [], ◌∷◌, ◌++◌, length, take, drop};
-ghost use Rattle.std.specs.Prelude.{Bool, false, IfSome};
+ghost use Rattle.std.specs.Prelude.{◌≡◌, ◌≢◌, ◌+◌, ◌-◌, ◌<◌, ◌≤◌, ◌⊎◌, [], ◌∷◌, ◌++◌, length, take, drop};
+ghost use Rattle.std.specs.Prelude.{false, IfSome};
 ghost use Rattle.gfp_delineate.specs.Areas.{Goes, Adds, ends_told, reader};
 
 use crate::areas::{AreaReceiver, AreaStep, AreaWhy, Phase};

@@ -6,7 +6,7 @@
 //! says with which octet the state SYNC begins.
 #![tactic(auto)]
 
-ghost use Rattle.std.specs.Prelude.{◌≡◌, ◌≢◌, ℕ, ◌+◌, ◌-◌, ◌^◌, ◌<◌, ◌≤◌, ◌↔◌, Bool, true, false, List, [], ◌∷◌, ◌++◌};
+ghost use Rattle.std.specs.Prelude.{◌≡◌, ℕ, ◌+◌, ◌-◌, ◌^◌, ◌<◌, ◌≤◌, ◌↔◌, Bool, true, false, List, [], ◌∷◌, ◌++◌};
 ghost use Rattle.std.specs.Prelude.{length, take, Option, Some, None, IfOk, IfSome, IsSome};
 ghost use Rattle.session_model.specs.Hunt.{Confirmed, hunt};
 ghost use Rattle.session_model.specs.Run.{is_sync};

@@ -1,6 +1,6 @@
 //! The scrambler, by octets, words and areas.
 
-ghost use Rattle.std.specs.Prelude.{◌≡◌, ℕ, ◌%◌, List, [], ◌∷◌, length};
+ghost use Rattle.std.specs.Prelude.{◌≡◌, ◌%◌, [], ◌∷◌, length};
 ghost use Rattle.std.specs.Int.{to_be_bytes, w64};
 ghost use Rattle.gfp_scramble.specs.Scrambler.{Stands, Continues, ScramblesTo};
 

@@ -1,7 +1,6 @@
 //! Frames are written as lines of text.
 ghost use Rattle.std.specs.Prelude.{◌≡◌, ◌≤◌, ℕ, Bool, List, [], ◌++◌, length, false, OnOk, OnErr};
 ghost use Rattle.outside_io.specs.Transfer.{Appends, AppendsPart};
-ghost use Rattle.outside_io.specs.Faults.{one_more};
 ghost use Rattle.outside_io.specs.Start.{Start};
 ghost use Rattle.got_lines.specs.Told.{HasText, GivesUp, name_of, has_failed, start_at};
 ghost use Rattle.session_model.specs.Limits.{longest_got_line};

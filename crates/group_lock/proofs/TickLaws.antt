@@ -213,9 +213,6 @@ ticks-held a b i comes low is =
       missing = λ packet e. absurd cc;
     })
 
-pub held-later : (b d : GroupState) → Looks b d → held_of d ≡ held_of b
-held-later b d looks = held-same b d looks.script looks.landed looks.source
-
 -- ---- ticks are left, and no item holds them
 pub free-before : (a b : GroupState) → Comes a b → ticks_of b < total_of b → None ≡ held_of b → IsFreeToTick a
 free-before a b comes low is =

@@ -1,6 +1,6 @@
 //! A group: its source, the ends of its rings, what has landed, and the journal of what was accepted.
 
-ghost use Rattle.std.specs.Prelude.{◌≡◌, ◌↔◌, ◌+◌, ◌<◌, if◌then◌else◌, List, Option, None, length, drop, slice_get};
+ghost use Rattle.std.specs.Prelude.{◌≡◌, ◌<◌, if◌then◌else◌, Option, None, length};
 ghost use Rattle.std.specs.Prelude.{IsSome, IfOk};
 ghost use Rattle.session_model.specs.Leg.{leg_of};
 ghost use Rattle.session_model.specs.Scenario.{Scenario};

@@ -1,6 +1,6 @@
 //! What a group begins with, but its ends of the rings.
 
-ghost use Rattle.std.specs.Prelude.{◌≡◌, length, IfOk};
+ghost use Rattle.std.specs.Prelude.{◌≡◌, IfOk};
 ghost use Rattle.session_model.specs.Leg.{leg_of};
 ghost use Rattle.session_model.specs.Valid.{IsValid};
 ghost use Rattle.group_lock.specs.Opened.{IsOpened};

@@ -1,6 +1,6 @@
 //! The return cells that have come to a group and that no decision step has taken.
 
-ghost use Rattle.std.specs.Prelude.{◌≡◌, ◌<◌, ◌≤◌, ◌+◌, ◌↔◌, [], ◌∷◌, ◌++◌, length, drop, slice_get, IfOk, IsTrue};
+ghost use Rattle.std.specs.Prelude.{◌≡◌, ◌<◌, ◌≤◌, ◌+◌, ◌↔◌, [], length, drop, slice_get, IfOk, IsTrue};
 ghost use Rattle.group_source.specs.Inbox.{is_lost_in, empty_inbox, with_come};
 
 use circular_buffer::HeapCircularBuffer;

@@ -1,7 +1,7 @@
 //! The source side of a group: its terminal, what has landed, and the inbox.
 
-ghost use Rattle.std.specs.Prelude.{◌≡◌, ◌+◌, ◌<◌, ◌≤◌, ◌&&◌, not, if◌then◌else◌, List, Option, None, Some, length};
-ghost use Rattle.std.specs.Prelude.{slice_get, IsSome, IfOk};
+ghost use Rattle.std.specs.Prelude.{◌≡◌, ◌+◌, ◌<◌, ◌≤◌, if◌then◌else◌, List, Option, None, Some, length};
+ghost use Rattle.std.specs.Prelude.{IsSome, IfOk};
 ghost use Rattle.std.specs.Option.{is_some};
 ghost use Rattle.vc_cell.specs.Held.{held};
 ghost use Rattle.session_model.specs.Leg.{leg_of};

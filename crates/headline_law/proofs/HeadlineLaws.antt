@@ -1,7 +1,6 @@
 -- The headline of a script's text. What walks and runs write of it is here to be cited by the commands.
-use Rattle.std.proofs.Common.{◌≡◌, ℕ, ◌≤◌, List, [], length, Option, ap, ◌∙◌, arith}
+use Rattle.std.proofs.Common.{◌≡◌, ℕ, ◌≤◌, List, [], length, ap, ◌∙◌, arith}
 use Rattle.std.specs.Prelude.{Ok}
-use Rattle.outside_io.specs.Transfer.{Appends}
 use Rattle.session_model.specs.declared.script.Script.{Script}
 use Rattle.session_model.specs.Counts.{begin, walked}
 use Rattle.session_model.specs.Valid.{IsValid}
@@ -17,7 +16,7 @@ use Rattle.walk_law.proofs.PlanLaws.{sound-walks}
 use Rattle.walk_law.proofs.WalkLaws.{begins-walked}
 use Rattle.walk_law.proofs.EndLaws.{counts-within, drained-report}
 use Rattle.headline_law.specs.Texts.{counts_in, walk_text}
-use Rattle.headline_law.specs.Headline.{IsWalkHeadline, IsRunHeadline, WritesHeadline}
+use Rattle.headline_law.specs.Headline.{IsWalkHeadline, IsRunHeadline}
 use Rattle.headline_law.proofs.ReportLaws.{is_headline}
 
 -- a walk takes no row beyond the ticks
@@ -44,21 +43,6 @@ run_headline text script short said =
     let valid = valid_text text script short said in
     let all = script.config.ticks in
     (script, said, is_headline (leg_of script) all all (numbered 0 script.items) valid.sound (omega arith))
-
--- ---- from what a command has appended
-pub walk_written : {K : Type 0} (written : K → Option (List ℕ)) (faults : K → ℕ) (old new : K) (text : List ℕ) →
-    length text ≤ 67108864 →
-    (script : Script) × (script_of text ≡ Ok script) × Appends written faults old new (walk_text script) →
-    WritesHeadline IsWalkHeadline written faults old new text
-walk_written written faults old new text short is =
-    record { report = walk_text is.0; is = walk_headline text is.0 short is.1; appended = is.2 }
-
-pub run_written : {K : Type 0} (written : K → Option (List ℕ)) (faults : K → ℕ) (old new : K) (text : List ℕ) →
-    length text ≤ 67108864 →
-    (script : Script) × (script_of text ≡ Ok script) × Appends written faults old new (final_report (leg_of script)) →
-    WritesHeadline IsRunHeadline written faults old new text
-run_written written faults old new text short is =
-    record { report = final_report (leg_of is.0); is = run_headline text is.0 short is.1; appended = is.2 }
 
 -- ---- without event lines
 pub walk-same : (text : List ℕ) (script : Script) → length text ≤ 67108864 → script_of text ≡ Ok script →

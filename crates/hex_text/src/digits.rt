@@ -1,6 +1,6 @@
 //! A digit's character and its value, without a table and without a branch, of one digit and of sixteen.
 
-ghost use Rattle.std.specs.Prelude.{◌≡◌, ◌⊎◌, ℕ, ◌<◌, ◌≤◌, length, nat_lt, Some, Bool, true, false, slice_index};
+ghost use Rattle.std.specs.Prelude.{◌≡◌, ◌⊎◌, ℕ, ◌<◌, ◌≤◌, length, nat_lt, Some, true, false, slice_index};
 ghost use Rattle.hex.specs.Hex.{lower_digits, hex_digit_value, is_hex_digit};
 
 use std::simd::prelude::*;

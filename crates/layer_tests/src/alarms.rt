@@ -1,5 +1,5 @@
 //! An alarm log whose queue has room for one alarm, on one thread and on two.
-ghost use Rattle.std.specs.Prelude.{◌≡◌, ◌≤◌, ℕ, List, [], ◌∷◌, IfSome};
+ghost use Rattle.std.specs.Prelude.{◌≡◌, ◌≤◌, ℕ, [], ◌∷◌, IfSome};
 ghost use Rattle.alarm_log.specs.Logs.{alarms_in, posts_of, IsPostOf, SameLog};
 ghost use Rattle.alarm_log.specs.Alarms.{of_line};
 ghost use Rattle.member_ring.specs.Alarms.{alarm_at};

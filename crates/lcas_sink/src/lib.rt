@@ -4,8 +4,6 @@
 
 ghost use Rattle.std.specs.Prelude.{◌≡◌, ℕ, ◌+◌, ◌*◌, ◌<◌, ◌≤◌, [], ◌∷◌, ◌++◌, List, length, not, if◌then◌else◌};
 ghost use Rattle.std.specs.Prelude.{Option};
-ghost use Rattle.std.specs.List.{list_any};
-ghost use Rattle.session_model.specs.declared.packet.Packet.{Packet as PacketData};
 ghost use Rattle.session_model.specs.ReturnPacket.{Row, leader, ack_by, is_member, says_at, status_of, mst_of};
 ghost use Rattle.session_model.specs.ReturnPacket.{return_of, state_next, sink_state};
 ghost use Rattle.lcas_sink.specs.Stands.{Stands, state_at, state_after};

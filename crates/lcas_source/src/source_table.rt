@@ -1,6 +1,6 @@
 //! The table of a source: what an operator asks for, the decision steps, and what the source tells of each line.
 
-ghost use Rattle.std.specs.Prelude.{◌≡◌, ℕ, ◌+◌, ◌-◌, ◌%◌, ◌<◌, ◌≤◌, [], ◌∷◌, ◌++◌, List, length, Some, OnErr, All};
+ghost use Rattle.std.specs.Prelude.{◌≡◌, ℕ, ◌+◌, ◌-◌, ◌%◌, ◌<◌, ◌≤◌, [], ◌∷◌, List, length, Some, OnErr, All};
 ghost use Rattle.std.specs.Prelude.{nat_lt, option_map};
 ghost use Rattle.std.specs.Bool.{OnTrue};
 ghost use Rattle.std.specs.List.{list_all};

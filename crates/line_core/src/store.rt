@@ -1,5 +1,5 @@
 //! The containers on their way, oldest first, and what comes of the oldest.
-ghost use Rattle.std.specs.Prelude.{◌≡◌, ◌≢◌, ◌+◌, ◌-◌, ◌<◌, ◌≤◌, ◌==◌, min, [], ◌∷◌, ◌++◌, length, drop, slice_get};
+ghost use Rattle.std.specs.Prelude.{◌≡◌, ◌≢◌, ◌+◌, ◌-◌, ◌<◌, ◌==◌, min, [], ◌∷◌, ◌++◌, length, drop, slice_get};
 ghost use Rattle.std.specs.Prelude.{Some, IfOk};
 ghost use Rattle.vc_cell.specs.declared.Container.{Container};
 ghost use Rattle.session_model.specs.Path.{cells_of};

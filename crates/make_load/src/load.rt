@@ -1,7 +1,6 @@
 //! The script of a load.
 ghost use Rattle.std.specs.Prelude.{◌≡◌, ◌≤◌, ◌++◌, [], IfOk, OnOk, replicate};
 ghost use Rattle.session_model.specs.Valid.{IsValid, IsWithin};
-ghost use Rattle.make_load.specs.Draws.{after_draws};
 ghost use Rattle.make_load.specs.Load.{frame_of, after_frame, additions, frames, frame_count, load};
 
 use crate::draws::Draws;

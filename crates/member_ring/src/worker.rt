@@ -1,11 +1,11 @@
 //! A worker that carries the containers of a line from ring to ring.
-ghost use Rattle.std.specs.Prelude.{◌≡◌, ◌≢◌, ◌+◌, ◌<◌, ◌≤◌, ◌++◌, ◌∷◌, [], length, min, false};
+ghost use Rattle.std.specs.Prelude.{◌≡◌, ◌≢◌, ◌+◌, ◌<◌, ◌≤◌, ◌++◌, [], length, min, false};
 ghost use Rattle.vc_cell.specs.declared.Container.{Container};
 ghost use Rattle.line_core.specs.Line.{Stands, path_cells};
 ghost use Rattle.line_core.specs.Carry.{carry_cells};
 ghost use Rattle.line_reader.specs.Told.{cell_with};
-ghost use Rattle.member_ring.specs.Ends.{out_passed, out_free, out_misses, out_hand, in_passed, in_items, in_misses};
-ghost use Rattle.member_ring.specs.Ends.{in_hand, SameOut, SameIn};
+ghost use Rattle.member_ring.specs.Ends.{out_passed, out_free, out_misses, out_hand, in_passed};
+ghost use Rattle.member_ring.specs.Ends.{in_hand, SameOut};
 ghost use Rattle.member_ring.specs.Calls.{calls_on, hand_cells, IsPushed, IsFlushed};
 ghost use Rattle.member_ring.specs.Alarms.{failed_after};
 

@@ -1,5 +1,5 @@
 //! The receiver of a stream, and the lines of the frames that it delivers.
-ghost use Rattle.std.specs.Prelude.{◌≡◌, ℕ, ◌+◌, ◌<◌, ◌≤◌, List, [], ◌∷◌, ◌++◌, length};
+ghost use Rattle.std.specs.Prelude.{◌≡◌, ℕ, ◌+◌, ◌<◌, ◌≤◌, List, [], ◌∷◌, ◌++◌};
 ghost use Rattle.outside_io.specs.Start.{Start};
 ghost use Rattle.noise_link.specs.Run.{Received};
 

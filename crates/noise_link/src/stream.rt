@@ -1,5 +1,5 @@
 //! The stream of frames, and its bits that are turned over.
-ghost use Rattle.std.specs.Prelude.{◌≡◌, ℕ, ◌≤◌, List, [], ◌∷◌, ◌++◌, length, map, All, IfOk, OnOk};
+ghost use Rattle.std.specs.Prelude.{◌≡◌, ℕ, List, [], ◌∷◌, ◌++◌, length, All, IfOk, OnOk};
 ghost use Rattle.std.specs.List.{fold};
 ghost use Rattle.flip_law.specs.Places.{turned, LiesIn};
 ghost use Rattle.flip_law.specs.Flipped.{fcs_stream, IsFrame};

@@ -352,10 +352,3 @@ pub pick-command : (c : Option NextItem) → IfSome c (λ next. next.client ≡ 
     due_of_next c ≡ pick None (found_by c)
 pick-command None is = refl
 pick-command (Some c) is = ap (λ b. Some (due_by b c.due)) is
-
-pub sooner-has : (P : NextItem → Type 0) (f c : NextItem) → P f → P c → P (sooner_of f c)
-sooner-has P f c has_f has_c =
-    elim (cases_Bool (nat_lt c.due f.due || (c.due == f.due && nat_lt c.number f.number))) [
-      | inl first ↦ rw first has_c
-      | inr later ↦ rw later has_f
-    ]

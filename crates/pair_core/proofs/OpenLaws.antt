@@ -1,12 +1,10 @@
 -- A way before any event.
-use Rattle.std.proofs.Common.{◌≡◌, ◌+◌, ◌-◌, ◌*◌, ◌≤◌, [], map, refl, sym, ◌∙◌, ap, subst, arith}
+use Rattle.std.proofs.Common.{◌≡◌, ◌-◌, ◌*◌, [], map, refl, sym, ◌∙◌, ap, subst, arith}
 use Rattle.std.specs.List.{range_with_len}
 use Rattle.session_model.specs.declared.script.Script.{Script}
 use Rattle.session_model.specs.Leg.{leg_of}
 use Rattle.session_model.specs.Scenario.{packets_in}
 use Rattle.session_model.specs.Counts.{Counts, begin, used_in}
-use Rattle.session_model.specs.Plan.{greatest, greatest_slip}
-use Rattle.session_model.specs.Valid.{IsValid}
 use Rattle.group_source.specs.Inbox.{Inbox, empty_inbox}
 use Rattle.session_model.specs.Told.{told_in}
 use Rattle.walk_law.specs.Rings.{said_packet, back_cell}
@@ -25,36 +23,6 @@ use Rattle.pair_core.specs.Ways.{way_counts, pair_counts, IsNewWay, Meets, IsWay
 -- ---- a script with twice the lag
 abbrev pub doubled : Script → Script
 doubled script = record script { config = record script.config { lag = 2 * script.config.lag } }
-
-pub doubled-valid : (script : Script) → IsWay script → IsValid (doubled script)
-doubled-valid script is =
-    let sound = is.valid.sound in
-    let network = sound.network in
-    let near = is.near in
-    let some = network.lag.0 in
-    let fits = network.fits_lag in
-    record {
-      sound = record {
-        network = record {
-          lines = network.lines;
-          delay_each = network.delay_each;
-          delays = network.delays;
-          windows_each = network.windows_each;
-          windows = network.windows;
-          lost = network.lost;
-          ring = network.ring;
-          lag = (omega (arith, some), omega (arith, near));
-          ticks = network.ticks;
-          size = network.size;
-          fits_ring = network.fits_ring;
-          fits_lag = let more : 16 + greatest script.config.delays + greatest_slip script.config.windows
-              ≤ 16 * (2 * script.config.lag) = omega (arith, fits) in more;
-        };
-        items = sound.items;
-        few = sound.few;
-      };
-      events = is.valid.events;
-    }
 
 pub way-alike : (script other : Script) → IsWay script → IsAlike (way_of script other) (leg_of (doubled script))
 way-alike script other is = record { sound = way-sound script other is; network = refl; items = refl }

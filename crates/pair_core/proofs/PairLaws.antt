@@ -18,7 +18,7 @@ use Rattle.pair_law.specs.PairWalk.{pair_plan, IsPairWalked}
 use Rattle.pair_law.proofs.PairEndLaws.{pair-steps}
 use Rattle.pair_core.specs.declared.pair_way.PairWay.{PairWay}
 use Rattle.pair_core.specs.declared.moved.PairMoved.{PairMoved}
-use Rattle.pair_core.specs.declared.moved.PairMoved.TheVariants.{Yes, Stalled}
+use Rattle.pair_core.specs.declared.moved.PairMoved.TheVariants.{Stalled}
 use Rattle.pair_core.specs.Moved.{Paired, plan_of, script_on, step_of, after, moved_on, moved_of, refusal_in, answer_by}
 use Rattle.pair_core.specs.Steps.{Goes, IsQuiet, TakesRow}
 use Rattle.pair_core.specs.Ways.{leg_beside, way_counts, pair_counts, IsPairWalk}
@@ -171,19 +171,6 @@ tick-stays there back cause walk is = record {
   }) (sym is);
   moved = sym (ap (λ (found : Option (Way × StallCause)). answer_by (tick_by found (pair_counts there back)).cause None)
       is);
-}
-
-pub tick-follows : (there back there_now back_now : PairWay) → IsPairWalk there_now back_now →
-    there_now.script ≡ there.script → back_now.script ≡ back.script →
-    tick_cause (pair_plan there.script back.script) (pair_counts there back) ≡ None →
-    pair_counts there_now back_now ≡ (tick_by None (pair_counts there back)).counts →
-    Follows there back there_now back_now Tick Yes
-tick-follows there back there_now back_now walk a b none counts = record {
-  walk = walk;
-  pair = paired-is there back there_now back_now _ a b (counts
-      ∙ sym (ap (λ (found : Option (Way × StallCause)). (tick_by found (pair_counts there back)).counts) none));
-  moved = sym (ap (λ (found : Option (Way × StallCause)). answer_by (tick_by found (pair_counts there back)).cause None)
-      none);
 }
 
 -- ---- there is a path for each line

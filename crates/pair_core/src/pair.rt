@@ -6,7 +6,6 @@ ghost use Rattle.session_model.specs.Scenario.{steps_in};
 ghost use Rattle.line_reader.specs.Told.{cell_of};
 ghost use Rattle.walk_law.specs.Landed.{refusals_of, totals_of};
 ghost use Rattle.walk_law.specs.Step.{table_in};
-ghost use Rattle.walk_law.specs.Walk.{walk_plan};
 ghost use Rattle.walk_core.specs.Waiting.{send_ring, receive_ring};
 ghost use Rattle.pair_law.specs.declared.pair.Way.TheVariants.{There as THERE, Back as BACK};
 ghost use Rattle.pair_law.specs.declared.pair.PairEvent.TheVariants.{Item, Tick, Carry, Take};

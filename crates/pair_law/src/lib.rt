@@ -8,10 +8,9 @@
 
 mod pair;
 
-ghost use Rattle.std.specs.Prelude.{◌≡◌, ℕ, ◌+◌, ◌<◌, ◌≤◌, Bool, true, false, List, Option, Some, None, option_map};
+ghost use Rattle.std.specs.Prelude.{◌≡◌, ℕ, ◌+◌, ◌<◌, ◌≤◌, true, false, List, Option, Some, None, option_map};
 ghost use Rattle.std.specs.Prelude.{[], ◌∷◌, take, ◌-◌, ◌*◌, ◌/◌, ◌%◌};
 ghost use Rattle.session_model.specs.declared.script.Script.{Script};
-ghost use Rattle.session_model.specs.Leg.{Leg};
 ghost use Rattle.session_model.specs.Scenario.{Scenario, scenario_by, scenario_of, packets_in, is_heard, is_lost};
 ghost use Rattle.session_model.specs.Table.{Told};
 ghost use Rattle.session_model.specs.Source.{table_of};

@@ -1,5 +1,5 @@
 -- The lines of two scripts, one line on and at the end.
-use Rattle.std.proofs.Common.{◌≡◌, ◌≢◌, ◌⊎◌, ℕ, ◌+◌, Bool, true, false, List, [], ◌∷◌, length, ap, ap₂, sym}
+use Rattle.std.proofs.Common.{◌≡◌, ◌⊎◌, ℕ, ◌+◌, Bool, true, false, List, [], ◌∷◌, ap, ap₂, sym}
 use Rattle.std.proofs.Common.{◌∙◌, refl, inl, inr, if◌then◌else◌}
 use Rattle.std.specs.Prelude.{Option, None, Some, Result, Ok, Err, IfOk, IfErr, option_map, is_none}
 use Rattle.text_lines.specs.Fields.{where_true}
@@ -21,7 +21,7 @@ use Rattle.pair_link.specs.declared.pair.PairFault.{PairFault}
 use Rattle.pair_link.specs.declared.pair.PairFault.TheVariants as fault
 use Rattle.pair_link.specs.declared.pair.ScriptPair.{ScriptPair}
 use Rattle.pair_link.specs.declared.reader.PairReader.{PairReader}
-use Rattle.pair_link.specs.Lines.{Halves, HalfFault, of_script, no_division, is_division, half_fault, half_after}
+use Rattle.pair_link.specs.Lines.{Halves, HalfFault, of_script, no_division, half_fault, half_after}
 use Rattle.pair_link.specs.Lines.{divides, divided, half_missing, pair_lines}
 use Rattle.pair_link.specs.Pair.{pair_of_halves, pair_in, pair_unless, limits_fault}
 use Rattle.pair_link.specs.Pieces.{no_memory, line_at, halves_of, said_after, IsPairAt, IsPairToldAt}
@@ -32,13 +32,6 @@ half there d = record { there = there; now = d }
 
 abbrev both : Script → Script → ScriptPair
 both there back = record { there = there; back = back }
-
--- ---- one line
--- more words than one, or none
-pub other_count : (ws : List (List ℕ)) → length ws ≢ 1 → is_division ws ≡ false
-other_count [] other = refl
-other_count (w ∷ []) other = absurd (other refl)
-other_count (w ∷ v ∷ ws) other = refl
 
 -- the line that divides
 pub divide_fault : (h : Halves) (ws : List (List ℕ)) → true ≡ divides h ws →

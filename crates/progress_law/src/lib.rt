@@ -3,7 +3,7 @@
 //! Begin at `progress_law`.
 #![tactic(auto)]
 
-ghost use Rattle.std.specs.Prelude.{◌≡◌, ℕ, ◌<◌, ◌≤◌, [], List, length, replicate, Option, Some};
+ghost use Rattle.std.specs.Prelude.{◌≡◌, ℕ, ◌<◌, ◌≤◌, [], List, length, replicate, Some};
 ghost use Rattle.vc_cell.specs.declared.Container.{Container};
 ghost use Rattle.session_model.specs.declared.window.Window.{Window};
 ghost use Rattle.session_model.specs.declared.window.Carried.{Carried};

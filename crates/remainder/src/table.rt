@@ -1,4 +1,4 @@
-ghost use Rattle.std.specs.Prelude.{◌≡◌, ℕ, ◌^◌, ◌<◌, ◌≤◌, nat_lt, Bool, List, ◌++◌, length, All, IsTrue};
+ghost use Rattle.std.specs.Prelude.{◌≡◌, ◌^◌, ◌<◌, ◌≤◌, nat_lt, Bool, List, ◌++◌, length, All, IsTrue};
 ghost use Rattle.std.specs.List.{list_all};
 ghost use Rattle.remainder.specs.Bits.{bits};
 ghost use Rattle.remainder.specs.Remainder.{remainder};

@@ -4,7 +4,7 @@
 #![tactic(auto)]
 
 ghost use Rattle.std.specs.Prelude.{◌≡◌, ℕ, ◌*◌, ◌≤◌, Bool, true, List, [], ◌∷◌, length, map, if◌then◌else◌, Option};
-ghost use Rattle.std.specs.Prelude.{Some, None, is_some};
+ghost use Rattle.std.specs.Prelude.{Some, None};
 ghost use Rattle.std.specs.List.{list_all, range_with_len};
 ghost use Rattle.vc_cell.specs.declared.BackCell.TheVariants.{Packet as Nibbles};
 ghost use Rattle.vc_cell.specs.declared.Cell.{Cell};

@@ -1,5 +1,5 @@
 //! `watch`: a script's session is run, and what came of it is written, with the alarms of its lines on `notes`.
-ghost use Rattle.std.specs.Prelude.{◌≡◌, ◌≢◌, ◌≤◌, ◌<◌, ℕ, None, OnOk, OnErr, map, string_bytes};
+ghost use Rattle.std.specs.Prelude.{◌≡◌, ◌≢◌, ◌≤◌, ◌<◌, None, OnOk, OnErr, map, string_bytes};
 ghost use Rattle.outside_io.specs.Transfer.{Appends, AppendsPart};
 ghost use Rattle.cmd_words.specs.Words.{number_in};
 ghost use Rattle.alarm_log.specs.Logs.{alarms_in};

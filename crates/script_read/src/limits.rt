@@ -1,5 +1,5 @@
 //! The tests of a script all of whose lines are right: slips, the spread of the lines, and the lag.
-ghost use Rattle.std.specs.Prelude.{◌≡◌, ◌≤◌, length, All, max, IfNone, None, Some};
+ghost use Rattle.std.specs.Prelude.{◌≡◌, ◌≤◌, length, All, max, None, Some};
 ghost use Rattle.session_model.specs.Damage.{AreWindows};
 ghost use Rattle.session_model.specs.Plan.{greatest, least};
 ghost use Rattle.session_model.specs.Plan.{greatest_slip as greatest_slip_of};

@@ -1,5 +1,5 @@
 //! The lines of a session are opened.
-ghost use Rattle.std.specs.Prelude.{◌≡◌, ◌<◌, [], slice_index_or, IfOk};
+ghost use Rattle.std.specs.Prelude.{◌<◌, [], slice_index_or, IfOk};
 ghost use Rattle.line_core.specs.Line.{Stands, opened};
 ghost use Rattle.session_model.specs.Valid.{IsNetwork};
 ghost use Rattle.session_parts.specs.Opened.{AreOpened};

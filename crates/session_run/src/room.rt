@@ -1,6 +1,5 @@
 //! Room for the threads of a session, which is taken before any of them starts, and their flags and bells.
-ghost use Rattle.std.specs.Prelude.{◌≡◌, ◌<◌, ◌≤◌, IfOk, vec_len, [], length};
-ghost use Rattle.std.specs.Vec.{vec_capacity};
+ghost use Rattle.std.specs.Prelude.{◌≡◌, ◌<◌, IfOk, vec_len};
 ghost use Rattle.session_parts.specs.Lines.{HaveRoom};
 ghost use Rattle.session_run.specs.Room.{HasRoomFor};
 

@@ -1,16 +1,11 @@
 //! A session from its opening to its end.
-ghost use Rattle.std.specs.Prelude.{◌≡◌, ◌≤◌, [], ◌∷◌, ◌++◌, List, ℕ, Some, slice_get, length, false, vec_len};
-ghost use Rattle.vc_cell.specs.declared.Container.{Container};
-ghost use Rattle.vc_cell.specs.declared.BackCell.{BackCell};
+ghost use Rattle.std.specs.Prelude.{◌≡◌, ◌≤◌, List, length, false, vec_len};
 ghost use Rattle.session_model.specs.declared.script.Script.{Script};
-ghost use Rattle.member_ring.specs.Ends.{OutEnd};
-ghost use Rattle.member_ring.specs.Ends.{InEnd};
-ghost use Rattle.member_ring.specs.Ends.{AreEnds, out_passed, in_passed, in_items};
+ghost use Rattle.member_ring.specs.Ends.{AreEnds};
 ghost use Rattle.report_text.specs.Report.{got_texts};
 ghost use Rattle.sink_core.specs.Given.{given_frames};
 ghost use Rattle.sink_worker.specs.Told.{Writes};
 ghost use Rattle.sink_worker.specs.Worker.{cells_of, size_of, taken_of, has_failed};
-ghost use Rattle.group_lock.specs.Session.{IsBound};
 ghost use Rattle.std.specs.List.{AllZip};
 ghost use Rattle.alarm_log.specs.Posts.{SamePost};
 ghost use Rattle.watched_line.specs.Served.{AreWatchable, AreTold};

@@ -1,6 +1,6 @@
 //! The lines that carry payload, by the packets that are read.
 
-ghost use Rattle.std.specs.Prelude.{◌≡◌, ℕ, ◌+◌, ◌≤◌, List, [], ◌++◌, length, vec_len};
+ghost use Rattle.std.specs.Prelude.{◌≡◌, ◌+◌, ◌≤◌, ◌++◌, length, vec_len};
 ghost use Rattle.std.specs.Vec.{vec_capacity};
 ghost use Rattle.session_model.specs.ReturnPacket.{leader};
 ghost use Rattle.session_model.specs.Rows.{is_carrying, has, lines_at, active_of};

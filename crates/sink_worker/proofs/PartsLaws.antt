@@ -3,7 +3,7 @@ use Rattle.std.proofs.Common.{◌≡◌, ℕ, zero, suc, ◌+◌, ◌%◌, ◌<�
 use Rattle.std.proofs.Common.{length, Some, refl, sym, ◌∙◌, ap, ap₂, subst, arith, append_assoc}
 use Rattle.std.proofs.lemmas.Bool.{cases_Bool}
 use Rattle.std.proofs.lemmas.Bool.Decides.{nat_tests}
-use Rattle.std.proofs.lemmas.List.{append-nil, drop_all, length-map}
+use Rattle.std.proofs.lemmas.List.{append-nil, length-map}
 use Rattle.std.proofs.lemmas.Option.{slice_get_within}
 use Rattle.vc_cell.specs.declared.Cell.{Cell}
 use Rattle.vc_cell.specs.declared.BackCell.{BackCell}
@@ -81,11 +81,6 @@ backs-more cells t next is = let e : next ≡ suc t = omega (arith, is) in ap (b
 cancel : {X : Type 0} (xs ys zs : List X) → xs ++ ys ≡ xs ++ zs → ys ≡ zs
 cancel [] ys zs e = e
 cancel (x ∷ xs) ys zs e = cancel xs ys zs (let rest : xs ++ ys ≡ xs ++ zs = cc in rest)
-
-pub added-none : (size : ℕ) (cells : List (List Cell)) (t u : ℕ) → u ≡ t → added_frames size cells t u ≡ []
-added-none size cells t u same =
-    let sizes = ap (λ n. length (given_frames size cells n)) same in
-    drop_all (length (given_frames size cells t)) (given_frames size cells u) (omega (arith, sizes))
 
 added-then : (size : ℕ) (cells longer : List (List Cell)) (a b c : ℕ) → a ≤ b → b ≤ c → IsLonger cells longer →
     ((t : ℕ) → t < b → AreDecidedAt cells t) →

@@ -1,13 +1,11 @@
 //! One step of the sink: a cell is popped, or a row taken.
-ghost use Rattle.std.specs.Prelude.{◌≡◌, ℕ, ◌+◌, ◌%◌, ◌<◌, ◌≤◌, ◌≢◌, ◌↔◌, ◌++◌, [], List, length, Some, None, IsTrue};
+ghost use Rattle.std.specs.Prelude.{◌≡◌, ◌+◌, ◌%◌, ◌<◌, ◌≤◌, ◌≢◌, ◌++◌, [], length, Some, None, IsTrue};
 ghost use Rattle.std.specs.Prelude.{IsFalse};
-ghost use Rattle.vc_cell.specs.declared.Cell.{Cell as LineCell};
 ghost use Rattle.session_model.specs.Rows.{first_open};
-ghost use Rattle.realign_core.specs.Gather.{Stands as Gathers, line_count, IsOpenAt, with_cell};
-ghost use Rattle.member_ring.specs.Ends.{out_passed, out_free, out_misses, in_passed, in_items, in_misses, SameIn};
+ghost use Rattle.realign_core.specs.Gather.{line_count, IsOpenAt};
+ghost use Rattle.member_ring.specs.Ends.{out_passed, out_free, in_passed, in_items, in_misses, SameIn};
 ghost use Rattle.member_ring.specs.Ends.{SameOut};
 ghost use Rattle.outside_io.specs.Faults.{one_more};
-ghost use Rattle.sink_core.specs.Given.{answer_at};
 ghost use Rattle.sink_worker.specs.Received.{received, back_cells, AreSameIns, Missed};
 ghost use Rattle.sink_worker.specs.Parts.{parts, Keeps, Later, IsFull, Does, Gives};
 ghost use Rattle.sink_worker.specs.Step.{PoppedCell, TookCell, packet_in};

@@ -1,6 +1,6 @@
 //! A decision step, and what the lines send until the next one.
 
-ghost use Rattle.std.specs.Prelude.{◌≡◌, ℕ, ◌<◌, ◌≤◌, All, IfOk, length, replicate};
+ghost use Rattle.std.specs.Prelude.{◌≡◌, ◌<◌, ◌≤◌, All, IfOk, length, replicate};
 ghost use Rattle.session_model.specs.Packet.{packet_nibbles};
 ghost use Rattle.session_model.specs.Telling.{telling, passed_on};
 ghost use Rattle.source_core.specs.Step.{is_step, table_by, active_by, nibbles_of, nibbles_by, left_by, AreNibbles};

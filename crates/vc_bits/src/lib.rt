@@ -3,7 +3,7 @@
 //! keeps one.
 #![tactic(auto)]
 
-ghost use Rattle.std.specs.Prelude.{◌≡◌, ℕ, ◌+◌, ◌*◌, ◌/◌, ◌%◌, ◌<◌, Bool, List, All};
+ghost use Rattle.std.specs.Prelude.{◌≡◌, ◌+◌, ◌*◌, ◌/◌, ◌%◌, ◌<◌, Bool, List, All};
 ghost use Rattle.remainder.specs.Bits.{bits};
 ghost use Rattle.remainder.specs.Remainder.{IsRemainder};
 ghost use Rattle.remainder.specs.Table.{nibble_bits};

@@ -3,8 +3,6 @@ use Rattle.std.proofs.Common.{◌≡◌, ℕ, zero, suc, ◌+◌, ◌<◌, ◌�
 use Rattle.std.proofs.Common.{length, replicate, take, slice_get, get_or, Option, Some, None, refl, ◌∙◌, ap, arith}
 use Rattle.std.specs.List.{flat_map}
 use Rattle.std.proofs.lemmas.Bool.{cases_Bool}
-use Rattle.std.proofs.lemmas.Grind.{flat_map-append}
-use Rattle.std.proofs.lemmas.List.{append-nil}
 use Rattle.session_model.specs.declared.script.EventLine.{EventLine}
 use Rattle.session_model.specs.declared.script.EventLine.TheVariants.{Client, Operator, Round, Drain}
 use Rattle.session_model.specs.declared.script.EventLine.TheVariants as line
@@ -157,22 +155,9 @@ replicate-last zero x = refl
 replicate-last (suc k) x = ap (λ n. replicate n x) (let e : suc k + 1 ≡ suc (k + 1) = omega arith in e)
     ∙ ap (λ l. x ∷ l) (replicate-last k x)
 
-pub run-last : (plan : Plan) (s : Counts) (k : ℕ) (event : Event) →
-    run plan s (replicate (k + 1) event) ≡ (step plan (run plan s (replicate k event)) event).counts
-unfolding run
-run-last plan s k event = ap (run plan s) (replicate-last k event) ∙ run-append plan s (replicate k event) (event ∷ [])
-
 -- one round more
 abbrev all-of : List (List Event) → List Event
 all-of tries = flat_map (λ (events : List Event). events) tries
-
-pub rounds-last : (plan : Plan) (s : Counts) (k : ℕ) →
-    run_line plan s (Round (k + 1)) ≡ run plan (run_line plan s (Round k)) (round plan)
-rounds-last plan s k =
-    ap (λ tries. run plan s (all-of tries)) (replicate-last k (round plan))
-    ∙ ap (run plan s) (flat_map-append (λ (events : List Event). events) (replicate k (round plan)) (round plan ∷ [])
-    ∙ ap (λ events. all-of (replicate k (round plan)) ++ events) (append-nil (round plan)))
-    ∙ run-append plan s (all-of (replicate k (round plan))) (round plan)
 
 pub drain-rises : (k : ℕ) (plan : Plan) (s : Counts) → Rises s (drain k plan s)
 unfolding drain
@@ -207,10 +192,6 @@ lines-append : (plan : Plan) (s : Counts) (xs ys : List EventLine) →
 unfolding run_lines
 lines-append plan s [] ys = refl
 lines-append plan s (x ∷ xs) ys = lines-append plan (run_line plan s x) xs ys
-
-pub lines-none : (plan : Plan) (s : Counts) → run_lines plan s [] ≡ s
-unfolding run_lines
-lines-none plan s = refl
 
 pub lines-last : (plan : Plan) (s : Counts) (lines : List EventLine) (k : ℕ) (line : EventLine) →
     slice_get lines k ≡ Some line

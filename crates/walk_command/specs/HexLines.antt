@@ -36,8 +36,5 @@ hex_text (Err at) = Err at.0
 abbrev pub hex_text_of : List ℕ → Result (List ℕ) ℕ
 hex_text_of text = hex_text (said_by hex_lines text)
 
-abbrev pub IsHexText : List ℕ → List ℕ → Type 0
-IsHexText text octets = hex_text_of text ≡ Ok octets
-
 abbrev pub IsFirstFault : List ℕ → ℕ → Type 0
 IsFirstFault text number = hex_text_of text ≡ Err number

@@ -1,6 +1,6 @@
 //! What the event lines of a script say is made, and what comes of it is written: the lines of delivered
 //! frames, of refused items and of totals, and after each decision step its line on `notes`.
-ghost use Rattle.std.specs.Prelude.{◌≡◌, ◌≢◌, ◌+◌, ◌-◌, ◌≤◌, ◌<◌, ℕ, List, ◌++◌, length, replicate, false, IfSome};
+ghost use Rattle.std.specs.Prelude.{◌≡◌, ◌+◌, ◌-◌, ◌≤◌, ◌<◌, ℕ, List, ◌++◌, length, replicate, false, IfSome};
 ghost use Rattle.std.specs.Prelude.{IfNone, OnOk, OnErr};
 ghost use Rattle.std.specs.List.{flat_map};
 ghost use Rattle.outside_io.specs.Transfer.{Appends, AppendsPart};

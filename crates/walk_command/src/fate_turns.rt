@@ -1,7 +1,7 @@
 //! A walk is made turn by turn, and after each turn it is seen which lines carry payload under the packet
 //! that was begun, whether the row that was taken is whole and why not, and what is confirmed after it.
 //! Behind the last turn stand the places of the frames.
-ghost use Rattle.std.specs.Prelude.{◌≡◌, ◌+◌, ◌≤◌, ◌<◌, List, replicate, IfOk, IfErr, OnOk};
+ghost use Rattle.std.specs.Prelude.{◌≡◌, ◌<◌, List, replicate, IfOk, IfErr, OnOk};
 ghost use Rattle.std.specs.List.{flat_map};
 ghost use Rattle.session_model.specs.declared.script.Script.{Script};
 ghost use Rattle.session_model.specs.declared.walk.Event.{Event};

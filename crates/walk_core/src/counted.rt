@@ -1,7 +1,6 @@
 //! Frames that are counted on their way.
 
-ghost use Rattle.std.specs.Prelude.{◌≡◌, ℕ, List};
-ghost use Rattle.outside_io.specs.Start.{Start};
+ghost use Rattle.std.specs.Prelude.{◌≡◌};
 
 use sink_core::FrameOut;
 

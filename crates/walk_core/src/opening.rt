@@ -1,6 +1,6 @@
 //! What one direction of a script begins with, before any event.
 
-ghost use Rattle.std.specs.Prelude.{◌≡◌, ◌≤◌, length, All, IfOk};
+ghost use Rattle.std.specs.Prelude.{◌≡◌, length, All, IfOk};
 ghost use Rattle.std.specs.Global.{Vec, Box};
 ghost use Rattle.vc_cell.specs.declared.Container.{Container};
 ghost use Rattle.session_model.specs.Valid.{IsValid, IsNetwork};

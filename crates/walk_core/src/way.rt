@@ -17,7 +17,7 @@ ghost use Rattle.source_core.specs.Terminal.{needed, SameKind};
 ghost use Rattle.line_reader.specs.Told.{cell_of};
 ghost use Rattle.gfp_mark.specs.Marks.{first_place};
 ghost use Rattle.walk_law.specs.Delivered.{session_rows};
-ghost use Rattle.walk_law.specs.Landed.{is_client, told_before, totals_of};
+ghost use Rattle.walk_law.specs.Landed.{is_client, totals_of};
 ghost use Rattle.walk_law.specs.Walk.{walk_plan, popped_cells};
 ghost use Rattle.group_source.specs.Inbox.{empty_inbox, with_come, cell_for, rest_for};
 ghost use Rattle.group_source.specs.Item.{kind_of};

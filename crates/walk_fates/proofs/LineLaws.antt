@@ -492,10 +492,6 @@ frames-few leg s cursor count done come =
     let few = come.at.sound.few in
     omega (arith, size, items, offers, part, few)
 
-pub frames-less : (leg : Leg) (was now : Cursor) (found : LandedFrame) → IsNext leg was now found →
-    length (frames_left leg now) < length (frames_left leg was)
-frames-less leg was now found next = let rest = ap length next.rest in omega (arith, rest)
-
 pub frames-past : (leg : Leg) (s : Counts) (cursor : Cursor) (count : EndedCount) (done : List Ended) →
     FramesDone leg s cursor count done → IsPast leg s cursor → done ≡ ended_of leg s
 unfolding ended_on

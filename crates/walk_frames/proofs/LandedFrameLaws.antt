@@ -351,13 +351,6 @@ past-before leg s was now skipped past = record {
   late = λ j offer far there. past.late j offer (let before = skipped.before in omega (arith, before, far)) there;
 }
 
-pub skipped-none : (leg : Leg) (cursor : Cursor) → IsSkipped leg cursor cursor
-skipped-none leg cursor = record { before = refl; rest = refl }
-
-pub skipped-more : (leg : Leg) (was between now : Cursor) → IsSkipped leg was between →
-    IsSkipped leg between now → IsSkipped leg was now
-skipped-more leg was between now one two = record { before = two.before ∙ one.before; rest = one.rest ∙ two.rest }
-
 pub next-more : (leg : Leg) (was between now : Cursor) (frame : LandedFrame) → IsSkipped leg was between →
     IsNext leg between now frame → IsNext leg was now frame
 next-more leg was between now frame one next = record {

@@ -4,7 +4,7 @@
 //! `stream_law` and `stay_law` are laws of definitions alone.
 #![tactic(auto)]
 
-ghost use Rattle.std.specs.Prelude.{◌≡◌, ℕ, ◌+◌, ◌<◌, ◌≤◌, ◌++◌, ◌∷◌, [], List, length, Option, Some, None};
+ghost use Rattle.std.specs.Prelude.{◌≡◌, ℕ, ◌+◌, ◌<◌, ◌≤◌, List, length, Some, None};
 ghost use Rattle.session_model.specs.declared.refusal.AcceptFault.{AcceptFault};
 ghost use Rattle.session_model.specs.Leg.{Leg};
 ghost use Rattle.session_model.specs.Client.{Stream, frame_refusal, offered, reached, stream_before};
@@ -13,9 +13,8 @@ ghost use Rattle.walk_law.specs.Walk.{session_of};
 ghost use Rattle.walk_law.specs.Delivered.{session_rows};
 ghost use Rattle.walk_law.specs.Promise.{session_pieces};
 ghost use Rattle.fate_law.specs.Ruler.{new_ruler, ruler_of, with_waiting};
-ghost use Rattle.fate_law.specs.Marks.{is_piece_at, are_true_marks};
 ghost use Rattle.fate_law.specs.SessionFates.{fate_at};
-ghost use Rattle.walk_frames.specs.Places.{place_in, stream_in, Between, IsEarly};
+ghost use Rattle.walk_frames.specs.Places.{place_in, stream_in, Between};
 
 mod landed;
 

@@ -3,7 +3,7 @@
 //! Begin with `write_gfp`.
 #![tactic(auto)]
 
-ghost use Rattle.std.specs.Prelude.{◌≡◌, ℕ, List, map, length, take, drop, IfSome};
+ghost use Rattle.std.specs.Prelude.{◌≡◌, List, map, length, take, drop};
 ghost use Rattle.std.specs.List.{Contains};
 ghost use Rattle.session_model.specs.Piece.{Piece, frames_by, stream_of};
 ghost use Rattle.session_model.specs.Segment.{StreamRow, octets_of_rows};

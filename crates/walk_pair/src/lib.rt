@@ -4,7 +4,7 @@
 
 mod run;
 
-ghost use Rattle.std.specs.Prelude.{◌≡◌, ℕ, List};
+ghost use Rattle.std.specs.Prelude.{◌≡◌};
 ghost use Rattle.session_model.specs.declared.script.Script.{Script};
 ghost use Rattle.walk_law.specs.Report.{report_of};
 ghost use Rattle.pair_law.specs.Pair.{IsPair, way_of};

@@ -38,10 +38,6 @@ abbrev pub listed : {X : Type 0} → Option X → List X
 listed None = []
 listed (Some x) = x ∷ []
 
--- the sink has said a packet, or none
-abbrev pub and_said : Return → Option Packet → Return
-and_said path packet = record path { ring = path.ring ++ listed packet }
-
 abbrev pub moved_by : Return → List Packet → Return
 moved_by path [] = path
 moved_by path (packet ∷ packets) = record path {
