@@ -24,7 +24,9 @@ fine i end window none =
             | inr apart ↦
                 let other : nat_lt window.first end ≡ false = grind (arith, apart) in
                 elim (cases_lt window.slip (window.end - window.first)) [
-                  | inr long ↦ absurd (let last : nat_le (window.end - window.first) window.slip ≡ true = grind (arith, long) in let e : Some (SlipTooLong i) ≡ None = rw (test, other, last) at none in cc)
+                  | inr long ↦ absurd (
+                      let last : nat_le (window.end - window.first) window.slip ≡ true = grind (arith, long) in
+                      let e : Some (SlipTooLong i) ≡ None = rw (test, other, last) at none in cc)
                   | inl short ↦ (omega arith, omega arith)
                 ]
           ]

@@ -125,7 +125,8 @@ module _ (pieces more : List Piece) (rows : List StreamRow)
       ∙ elim (front-or-behind front later i) [
         | inl here ↦ ap (fate_if (fate_of (pieces ++ more) rows)) here
             ∙ elim (get-between 0 size front i (extents-between 0 pieces)) [
-              | inl none ↦ ap (fate_if (fate_of (pieces ++ more) rows)) none ∙ sym (ap (fate_if (fate_of pieces rows)) none)
+              | inl none ↦ ap (fate_if (fate_of (pieces ++ more) rows)) none
+                  ∙ sym (ap (fate_if (fate_of pieces rows)) none)
               | inr some ↦ ap (fate_if (fate_of (pieces ++ more) rows)) some.1 ∙ same-fate some.0 some.2
                   ∙ sym (ap (fate_if (fate_of pieces rows)) some.1)
             ]

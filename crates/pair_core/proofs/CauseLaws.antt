@@ -15,7 +15,8 @@ answer-on way None (Some why) = refl
 answer-on way (Some cause) why = refl
 
 -- ---- the first cause of a tick
-pub cause-here : (d r : Option (Way × StallCause)) (cause : Way × StallCause) → d ≡ Some cause → Some cause ≡ or_else d r
+pub cause-here : (d r : Option (Way × StallCause)) (cause : Way × StallCause) → d ≡ Some cause →
+    Some cause ≡ or_else d r
 cause-here d r cause e = sym (ap (λ x. or_else x r) e)
 
 pub cause-later : (d r found : Option (Way × StallCause)) → d ≡ None → found ≡ r → found ≡ or_else d r

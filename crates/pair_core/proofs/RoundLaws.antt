@@ -1,11 +1,13 @@
 -- Rounds of a pair: items land until they stall, each line is tried once, and so for the rest.
-use Rattle.std.proofs.Common.{◌≡◌, ℕ, zero, suc, ◌+◌, ◌-◌, ◌<◌, ◌≤◌, nat_le, nat_lt, List, [], ◌∷◌, ◌++◌, length, replicate}
+use Rattle.std.proofs.Common.{◌≡◌, ℕ, zero, suc, ◌+◌, ◌-◌, ◌<◌, ◌≤◌, nat_le, nat_lt, List, [], ◌∷◌, ◌++◌, length}
+use Rattle.std.proofs.Common.{replicate}
 use Rattle.std.proofs.Common.{drop, Option, Some, None, option_map, refl, sym, ◌∙◌, ap, subst, arith, inl}
 use Rattle.std.proofs.Common.{inr, true, false}
 use Rattle.std.proofs.lemmas.Bool.{cases_Bool}
 use Rattle.session_model.specs.declared.walk.StallCause.{StallCause}
 use Rattle.session_model.specs.declared.walk.StallCause.TheVariants.{NotDue}
-use Rattle.session_model.specs.Counts.{Due, frame_due, command_due, frame_dues, command_dues, LinePath, LineCounts, Plan, Counts, pop_lines}
+use Rattle.session_model.specs.Counts.{Due, frame_due, command_due, frame_dues, command_dues, LinePath, LineCounts}
+use Rattle.session_model.specs.Counts.{Plan, Counts, pop_lines}
 use Rattle.session_model.specs.declared.script.Script.{Script}
 use Rattle.report_text.specs.declared.report.Refusal.{Refusal}
 use Rattle.pair_law.specs.Pair.{IsPair}
@@ -23,7 +25,8 @@ use Rattle.pair_law.specs.declared.pair.Way.TheVariants.{There, Back}
 use Rattle.pair_law.specs.declared.pair.PairEvent.{PairEvent}
 use Rattle.pair_law.specs.declared.pair.PairEvent.TheVariants.{Item, Tick, Carry, Take}
 use Rattle.pair_law.specs.PairCounts.{PairPlan, PairCounts, plan_on, counts_on, pair_step, pair_run, carries_on}
-use Rattle.pair_law.specs.PairCounts.{pair_round, pair_drain, pair_bound, is_over, left_after, first_due, land_first, land_item, take_said, take_one}
+use Rattle.pair_law.specs.PairCounts.{pair_round, pair_drain, pair_bound, is_over, left_after, first_due, land_first}
+use Rattle.pair_law.specs.PairCounts.{land_item, take_said, take_one}
 use Rattle.pair_law.specs.PairProgress.{with_lag, IsPairPlan, IsPairReached}
 use Rattle.pair_law.proofs.GoingLaws.{goes-near}
 use Rattle.pair_law.proofs.PairMoveLaws.{pair_made, is-near, walks-fits}
@@ -268,7 +271,8 @@ stalled-some None (Some why) way found is = absurd cc
 stalled-some (Some cause) why way found is = (cause, refl)
 
 -- ---- rows never fall, and frames are given one after another
-said-rise : (s : Counts) (lines : List LineCounts) (waiting : Option ℕ) → s.rows ≤ (take_said s lines waiting).counts.rows
+said-rise : (s : Counts) (lines : List LineCounts) (waiting : Option ℕ)
+    → s.rows ≤ (take_said s lines waiting).counts.rows
 said-rise s lines None = omega arith
 said-rise s lines (Some line) = omega arith
 

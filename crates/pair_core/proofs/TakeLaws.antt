@@ -233,7 +233,8 @@ module _ (own other : PairWay) (beside : AreBeside own other) (row : ℕ) (at_ro
         waiting-is : popped_in (walk_plan (way_of own.script other.script)) (way_counts own) ≡ Some line
         waiting-is = by (popped_in (walk_plan leg) s) (sym waits ∙ takes.answers)
           where
-            by : (found : Option ℕ) → Waiting line ≡ take_by (way_of own.script other.script) own.core.sink.taken found →
+            by : (found : Option ℕ) →
+                Waiting line ≡ take_by (way_of own.script other.script) own.core.sink.taken found →
                 found ≡ Some line
             by None same = absurd cc
             by (Some other_line) same = ap Some (let e : other_line ≡ line = cc in e)
@@ -424,7 +425,8 @@ module _ (was own other : PairWay) (row : ℕ) (is : EndsPacket was own other ro
 
   low-row : (row + 1 ≤ other.core.source.core.ticks) × (other.core.source.core.ticks ≤ other.script.config.ticks)
   low-row =
-      let (rows, ticks) = counts-within was_leg (way_counts own) (sound-walks was_leg is.stands.sound) is.stands.walked in
+      let (rows, ticks) =
+          counts-within was_leg (way_counts own) (sound-walks was_leg is.stands.sound) is.stands.walked in
       let more = is.row_is in
       let other_is = is.beside.other_way.stands in
       let (other_rows, other_ticks) = counts-within other_leg (way_counts other) (sound-walks other_leg other_is.sound)
@@ -588,7 +590,8 @@ module _ (was own other : PairWay) (row : ℕ) (is : EndsPacket was own other ro
                       ∙ ap (λ told. told ++ told_in cell ∷ []) was-meets.heard.tells
                       ∙ ap (λ told. map told_in (heard_cells other_leg other_lag ticks row) ++ told ∷ [])
                       (cell-is cell row_read reads told)
-                      ∙ sym (map-append told_in (heard_cells other_leg other_lag ticks row) (back_cell other_leg k ∷ []))
+                      ∙ sym (map-append told_in (heard_cells other_leg other_lag ticks row)
+                          (back_cell other_leg k ∷ []))
                       ∙ ap (map told_in) (sym (return_laws.inbox-comes other_leg (counts_with ticks row k) used-low))
                       ∙ ap (λ n. map told_in (map (back_cell other_leg)
                       (range_with_len (used_in (2 * other_lag) ticks) (n - used_in (2 * other_lag) ticks)))) (sym more);

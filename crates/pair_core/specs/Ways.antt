@@ -41,8 +41,8 @@ pub record IsNewWay (script : Script) (own : PairWay) : Type 0 where
   pub said : own.said ≡ record { packets = []; room = script.config.lag }
 
 -- ---- after some events
--- what goes to the other way and comes from it, after some ticks and rows, and some rows of the other: what was said and
--- waits to be told there, and what the source heard there
+-- what goes to the other way and comes from it, after some ticks and rows, and some rows of the other: what was said
+-- and waits to be told there, and what the source heard there
 pub record Meets (script other : Script) (rows other_rows ticks : ℕ) (said : Said) (inbox : Inbox) : Type 0 where
   pub packets : said.packets ≡ untold_packets (way_of script other) script.config.lag ticks rows
   pub room : said.room ≡ script.config.lag

@@ -99,7 +99,8 @@ said-rises scenario cells k (suc i) =
 
 -- ---- one bit of acknowledgement stands for the whole count
 confirmed-least : (table : Table) → table.count ≤ confirmed table + 1
-confirmed-least table = elim table.acknowledged as (λ b. table.count ≤ (if b then table.count else table.count - 1) + 1) [
+confirmed-least table =
+    elim table.acknowledged as (λ b. table.count ≤ (if b then table.count else table.count - 1) + 1) [
   | true ↦ omega arith
   | false ↦ omega arith
 ]

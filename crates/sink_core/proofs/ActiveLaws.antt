@@ -139,8 +139,10 @@ active_from-fits n sq (packet ∷ packets) =
     let first = one-more n sq packet packets in
     let rest = active_from-fits n sq packets in
     elim (cases_Bool (carries packet)) [
-      | inl on ↦ let first' : length (active_from sq n (packet ∷ packets)) ≤ 1 + length (active_from sq n packets) = rw on at first in rw on (omega arith)
-      | inr off ↦ let first' : length (active_from sq n (packet ∷ packets)) ≤ 0 + length (active_from sq n packets) = rw off at first in rw off (omega arith)
+      | inl on ↦ let first' : length (active_from sq n (packet ∷ packets)) ≤ 1 + length (active_from sq n packets) =
+          rw on at first in rw on (omega arith)
+      | inr off ↦ let first' : length (active_from sq n (packet ∷ packets)) ≤ 0 + length (active_from sq n packets) =
+          rw off at first in rw off (omega arith)
     ]
 
 pub carrying-fits : (packets : List (Option Packet)) → carrying packets ≤ length packets

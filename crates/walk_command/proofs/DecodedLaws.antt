@@ -93,7 +93,8 @@ module _ {K : Type 0} (written : K → Option (List ℕ)) (faults : K → ℕ) (
     pub all_decoded : Appends written faults old new line → Appends written faults start new (decoded_text octets)
     all_decoded put =
         let P : List ℕ → Type 0 = λ text. Appends written faults start new text in
-        subst P last (Appends-then written faults start old new (found_texts (packets_in (take i octets))) line has.lines
+        subst P last (Appends-then written faults start old new (found_texts (packets_in (take i octets))) line
+            has.lines
         put)
 
     pub end_part : AppendsPart written faults old new line → AppendsPart written faults start new (decoded_text octets)

@@ -46,7 +46,8 @@ module _ {S K E : Type 0} (source : Lent S) (out : Lent K) (notes : Lent E) (ans
   abbrev IsTold : List ℕ → Type 0
   IsTold text = (written : List ℕ) × Takes out written × IsWalkHeadline text written
 
-  told-by : (text : List ℕ) (of : Result Script ScriptFault) → script_of text ≡ of → length text ≤ 67108864 → WritesAll out notes (answer_of answer of) → IsTold text
+  told-by : (text : List ℕ) (of : Result Script ScriptFault) → script_of text ≡ of → length text ≤ 67108864
+      → WritesAll out notes (answer_of answer of) → IsTold text
   told-by text (Ok script) is few all = (walk_text script, tells script all, walk_headline text script few is)
   told-by text (Err fault) is few all = absurd all
 

@@ -4,7 +4,8 @@ use Rattle.failure_window.proofs.SlipLaws.{slip-step, slip-end, are-more}
 use Rattle.failure_window.proofs.windows.greatest_slip.Goals as goal
 
 pub run_with-run-requires : goal.run_with-run-requires
-run_with-run-requires c = let are = are-more c.loop-window.end c.args.list.now c.loop-window.window-index _ c.loop-window-test.true c.loop-window.invariant.apart in
+run_with-run-requires c = let are =
+    are-more c.loop-window.end c.args.list.now c.loop-window.window-index _ c.loop-window-test.true c.loop-window.invariant.apart in
     record { sum = c.loop-window.invariant.within; apart = are.0; sign = are.1 }
 
 pub loop-window-preserved : goal.loop-window-preserved

@@ -21,7 +21,8 @@ pub invariant_of-self-in-Back : goal.invariant_of-self-in-Back
 invariant_of-self-in-Back c =
     let f = c.self.inside in
     (back-follows f.there f.back c.self.invariant (Carry Back c.args.line) c.carry-in-Back.new.self
-    (carry (walk_plan (leg_beside f.back f.there)) (way_counts f.back) c.args.line) None c.carry-in-Back.result refl refl
+    (carry (walk_plan (leg_beside f.back f.there)) (way_counts f.back) c.args.line)
+    None c.carry-in-Back.result refl refl
     c.carry-in-Back.ensures.quiet (c.carry-in-Back.ensures.goes f.there.script c.self.invariant.back_way.stands)).walk
 
 pub returns-in-There-clause-pair : goal.returns-in-There-clause-pair
@@ -47,7 +48,8 @@ pub returns-in-Back-clause-pair : goal.returns-in-Back-clause-pair
 returns-in-Back-clause-pair c =
     let f = c.self.inside in
     (back-follows f.there f.back c.self.invariant (Carry Back c.args.line) c.carry-in-Back.new.self
-    (carry (walk_plan (leg_beside f.back f.there)) (way_counts f.back) c.args.line) None c.carry-in-Back.result refl refl
+    (carry (walk_plan (leg_beside f.back f.there)) (way_counts f.back) c.args.line)
+    None c.carry-in-Back.result refl refl
     c.carry-in-Back.ensures.quiet (c.carry-in-Back.ensures.goes f.there.script c.self.invariant.back_way.stands)).pair
     ∙ ap (λ (p : Paired). after p (Carry Back c.args.line)) c.self.view_is
     ∙ ap (λ w. after c.args.self.now (Carry w c.args.line)) (sym c.in-Back.is)
@@ -57,7 +59,8 @@ returns-in-Back-clause-moved c =
     let f = c.self.inside in
     c.moved_on-in-Back.ensures ∙ ap (λ w. moved_on w c.carry-in-Back.result) c.in-Back.is
     ∙ (back-follows f.there f.back c.self.invariant (Carry Back c.args.line) c.carry-in-Back.new.self
-    (carry (walk_plan (leg_beside f.back f.there)) (way_counts f.back) c.args.line) None c.carry-in-Back.result refl refl
+    (carry (walk_plan (leg_beside f.back f.there)) (way_counts f.back) c.args.line)
+    None c.carry-in-Back.result refl refl
     c.carry-in-Back.ensures.quiet (c.carry-in-Back.ensures.goes f.there.script c.self.invariant.back_way.stands)).moved
     ∙ ap (λ (p : Paired). moved_of p (Carry Back c.args.line)) c.self.view_is
     ∙ ap (λ w. moved_of c.args.self.now (Carry w c.args.line)) (sym c.in-Back.is)

@@ -13,21 +13,24 @@ pub invariant_of-self : goal.invariant_of-self
 invariant_of-self c =
     let f = c.self.inside in
     (there-follows f.there f.back c.self.invariant (Item There) c.land.new.self
-    (land_item (walk_plan (leg_beside f.there f.back)) (way_counts f.there)) (next_refusal (leg_beside f.there f.back) (way_counts f.there)) c.land.result refl refl
+    (land_item (walk_plan (leg_beside f.there f.back)) (way_counts f.there)) (next_refusal (leg_beside f.there f.back)
+        (way_counts f.there)) c.land.result refl refl
     c.land.ensures.quiet (c.land.ensures.goes f.back.script c.self.invariant.there_way.stands)).walk
 
 pub invariant_of-self-in-Back : goal.invariant_of-self-in-Back
 invariant_of-self-in-Back c =
     let f = c.self.inside in
     (back-follows f.there f.back c.self.invariant (Item Back) c.land-in-Back.new.self
-    (land_item (walk_plan (leg_beside f.back f.there)) (way_counts f.back)) (next_refusal (leg_beside f.back f.there) (way_counts f.back)) c.land-in-Back.result refl refl
+    (land_item (walk_plan (leg_beside f.back f.there)) (way_counts f.back)) (next_refusal (leg_beside f.back f.there)
+        (way_counts f.back)) c.land-in-Back.result refl refl
     c.land-in-Back.ensures.quiet (c.land-in-Back.ensures.goes f.there.script c.self.invariant.back_way.stands)).walk
 
 pub returns-in-There-clause-pair : goal.returns-in-There-clause-pair
 returns-in-There-clause-pair c =
     let f = c.self.inside in
     (there-follows f.there f.back c.self.invariant (Item There) c.land.new.self
-    (land_item (walk_plan (leg_beside f.there f.back)) (way_counts f.there)) (next_refusal (leg_beside f.there f.back) (way_counts f.there)) c.land.result refl refl
+    (land_item (walk_plan (leg_beside f.there f.back)) (way_counts f.there)) (next_refusal (leg_beside f.there f.back)
+        (way_counts f.there)) c.land.result refl refl
     c.land.ensures.quiet (c.land.ensures.goes f.back.script c.self.invariant.there_way.stands)).pair
     ∙ ap (λ (p : Paired). after p (Item There)) c.self.view_is
     ∙ ap (λ w. after c.args.self.now (Item w)) (sym c.in-There.is)
@@ -37,7 +40,8 @@ returns-in-There-clause-moved c =
     let f = c.self.inside in
     c.moved_on.ensures ∙ ap (λ w. moved_on w c.land.result) c.in-There.is
     ∙ (there-follows f.there f.back c.self.invariant (Item There) c.land.new.self
-    (land_item (walk_plan (leg_beside f.there f.back)) (way_counts f.there)) (next_refusal (leg_beside f.there f.back) (way_counts f.there)) c.land.result refl refl
+    (land_item (walk_plan (leg_beside f.there f.back)) (way_counts f.there)) (next_refusal (leg_beside f.there f.back)
+        (way_counts f.there)) c.land.result refl refl
     c.land.ensures.quiet (c.land.ensures.goes f.back.script c.self.invariant.there_way.stands)).moved
     ∙ ap (λ (p : Paired). moved_of p (Item There)) c.self.view_is
     ∙ ap (λ w. moved_of c.args.self.now (Item w)) (sym c.in-There.is)
@@ -46,7 +50,8 @@ pub returns-in-Back-clause-pair : goal.returns-in-Back-clause-pair
 returns-in-Back-clause-pair c =
     let f = c.self.inside in
     (back-follows f.there f.back c.self.invariant (Item Back) c.land-in-Back.new.self
-    (land_item (walk_plan (leg_beside f.back f.there)) (way_counts f.back)) (next_refusal (leg_beside f.back f.there) (way_counts f.back)) c.land-in-Back.result refl refl
+    (land_item (walk_plan (leg_beside f.back f.there)) (way_counts f.back)) (next_refusal (leg_beside f.back f.there)
+        (way_counts f.back)) c.land-in-Back.result refl refl
     c.land-in-Back.ensures.quiet (c.land-in-Back.ensures.goes f.there.script c.self.invariant.back_way.stands)).pair
     ∙ ap (λ (p : Paired). after p (Item Back)) c.self.view_is
     ∙ ap (λ w. after c.args.self.now (Item w)) (sym c.in-Back.is)
@@ -56,7 +61,8 @@ returns-in-Back-clause-moved c =
     let f = c.self.inside in
     c.moved_on-in-Back.ensures ∙ ap (λ w. moved_on w c.land-in-Back.result) c.in-Back.is
     ∙ (back-follows f.there f.back c.self.invariant (Item Back) c.land-in-Back.new.self
-    (land_item (walk_plan (leg_beside f.back f.there)) (way_counts f.back)) (next_refusal (leg_beside f.back f.there) (way_counts f.back)) c.land-in-Back.result refl refl
+    (land_item (walk_plan (leg_beside f.back f.there)) (way_counts f.back)) (next_refusal (leg_beside f.back f.there)
+        (way_counts f.back)) c.land-in-Back.result refl refl
     c.land-in-Back.ensures.quiet (c.land-in-Back.ensures.goes f.there.script c.self.invariant.back_way.stands)).moved
     ∙ ap (λ (p : Paired). moved_of p (Item Back)) c.self.view_is
     ∙ ap (λ w. moved_of c.args.self.now (Item w)) (sym c.in-Back.is)
@@ -65,12 +71,15 @@ pub returns-in-There-clause-walked : goal.returns-in-There-clause-walked
 returns-in-There-clause-walked c =
     let f = c.self.inside in
     (there-follows f.there f.back c.self.invariant (Item There) c.land.new.self
-    (land_item (walk_plan (leg_beside f.there f.back)) (way_counts f.there)) (next_refusal (leg_beside f.there f.back) (way_counts f.there)) c.land.result refl refl
+    (land_item (walk_plan (leg_beside f.there f.back)) (way_counts f.there)) (next_refusal (leg_beside f.there f.back)
+        (way_counts f.there)) c.land.result refl refl
     c.land.ensures.quiet (c.land.ensures.goes f.back.script c.self.invariant.there_way.stands)).walk.walked
 
 pub returns-in-Back-clause-walked : goal.returns-in-Back-clause-walked
 returns-in-Back-clause-walked c =
     let f = c.self.inside in
     (back-follows f.there f.back c.self.invariant (Item Back) c.land-in-Back.new.self
-    (land_item (walk_plan (leg_beside f.back f.there)) (way_counts f.back)) (next_refusal (leg_beside f.back f.there) (way_counts f.back)) c.land-in-Back.result refl refl
-    c.land-in-Back.ensures.quiet (c.land-in-Back.ensures.goes f.there.script c.self.invariant.back_way.stands)).walk.walked
+    (land_item (walk_plan (leg_beside f.back f.there)) (way_counts f.back)) (next_refusal (leg_beside f.back f.there)
+        (way_counts f.back)) c.land-in-Back.result refl refl
+    c.land-in-Back.ensures.quiet (c.land-in-Back.ensures.goes f.there.script
+        c.self.invariant.back_way.stands)).walk.walked

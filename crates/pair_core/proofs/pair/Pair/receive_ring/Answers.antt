@@ -15,7 +15,8 @@ returns-in-There c =
     c.self.invariant.there_way.stands
     ∙ ap (λ (p : Paired). slice_get (receive_ring (leg_on p There) (counts_on p.counts There) c.args.line) c.args.place)
     c.self.view_is
-    ∙ ap (λ w. slice_get (receive_ring (leg_on c.args.self.now w) (counts_on c.args.self.now.counts w) c.args.line) c.args.place) (sym c.in-There.is)
+    ∙ ap (λ w. slice_get (receive_ring (leg_on c.args.self.now w) (counts_on c.args.self.now.counts w) c.args.line)
+        c.args.place) (sym c.in-There.is)
 
 pub returns-in-Back : goal.returns-in-Back
 returns-in-Back c =
@@ -24,4 +25,5 @@ returns-in-Back c =
     c.self.invariant.back_way.stands
     ∙ ap (λ (p : Paired). slice_get (receive_ring (leg_on p Back) (counts_on p.counts Back) c.args.line) c.args.place)
     c.self.view_is
-    ∙ ap (λ w. slice_get (receive_ring (leg_on c.args.self.now w) (counts_on c.args.self.now.counts w) c.args.line) c.args.place) (sym c.in-Back.is)
+    ∙ ap (λ w. slice_get (receive_ring (leg_on c.args.self.now w) (counts_on c.args.self.now.counts w) c.args.line)
+        c.args.place) (sym c.in-Back.is)

@@ -69,4 +69,5 @@ returns-in-Back-clause-moved g c =
 pub returns-in-Back-clause-gives_back : goal.returns-in-Back-clause-gives_back
 returns-in-Back-clause-gives_back g c =
     subst (λ (p : Paired). GivesRows g.G.FrameOut.stands_for c.args.back.now c.take_row-in-Back.new.out (leg_on p Back)
-    (counts_on p.counts Back).rows c.take_row-in-Back.new.own.core.sink.taken) c.self.view_is c.take_row-in-Back.ensures.gives
+    (counts_on p.counts Back).rows c.take_row-in-Back.new.own.core.sink.taken) c.self.view_is
+    c.take_row-in-Back.ensures.gives

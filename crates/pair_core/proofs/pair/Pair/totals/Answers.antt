@@ -18,6 +18,7 @@ returns-in-There c =
 pub returns-in-Back : goal.returns-in-Back
 returns-in-Back c =
     let f = c.self.inside in
-    c.totals-in-Back.ensures (leg_beside f.back f.there) (packets_in f.back.core.sink.taken) c.self.invariant.back_way.stands
+    c.totals-in-Back.ensures (leg_beside f.back f.there) (packets_in f.back.core.sink.taken)
+    c.self.invariant.back_way.stands
     ∙ ap (λ (p : Paired). totals_of (leg_on p Back) (counts_on p.counts Back)) c.self.view_is
     ∙ ap (λ w. totals_of (leg_on c.args.self.now w) (counts_on c.args.self.now.counts w)) (sym c.in-Back.is)
