@@ -1,5 +1,6 @@
 -- Rounds of a walk: items land until they stall, each line is tried once, and so for the rest.
-use Rattle.std.proofs.Common.{◌≡◌, ℕ, zero, suc, ◌+◌, ◌-◌, ◌<◌, ◌≤◌, ◌&&◌, nat_le, nat_lt, inl, inr, List, [], ◌∷◌}
+use Rattle.std.proofs.Common.{◌≡◌, ℕ, Bool, true, false, zero, suc, ◌+◌, ◌-◌, ◌<◌, ◌≤◌, ◌&&◌, nat_le, nat_lt, inl}
+use Rattle.std.proofs.Common.{inr, List, [], ◌∷◌}
 use Rattle.std.proofs.Common.{◌++◌, length, replicate, drop, slice_get, Option, Some, None, refl, sym, ◌∙◌, ap, subst}
 use Rattle.std.proofs.Common.{arith, append_assoc}
 use Rattle.std.proofs.lemmas.Option.{slice_get_within}
@@ -10,7 +11,7 @@ use Rattle.session_model.specs.declared.walk.Event.{Event}
 use Rattle.session_model.specs.declared.walk.Event.TheVariants.{Accept, Command, Tick, Carry, Back, Take}
 use Rattle.session_model.specs.declared.walk.StallCause.{StallCause}
 use Rattle.session_model.specs.declared.walk.StallCause.TheVariants.{NotDue, Done}
-use Rattle.session_model.specs.Counts.{Due, frame_due, command_due, LinePath, LineCounts, Plan, Counts, in_send}
+use Rattle.session_model.specs.Counts.{Due, frame_due, command_due, LinePath, LineCounts, Plan, Counts, Step, in_send}
 use Rattle.session_model.specs.Counts.{in_receive, in_return, held, full, is_missing, tick_full, tick_held, carry_at}
 use Rattle.session_model.specs.Counts.{pop_lines, take_popped, is_back_full, back, tick, take_row, land_due, frame_dues}
 use Rattle.session_model.specs.Counts.{command_dues, step, run, carries_from, round, drain, bound}
@@ -25,6 +26,7 @@ use Rattle.walk_law.proofs.PlanLaws.{has-plan, sound-walks}
 use Rattle.walk_law.specs.Delivered.{delivered_of}
 use Rattle.walk_law.proofs.FrameLaws.{frames-grow}
 use Rattle.walk_core.specs.Moved.{delivered_since, answer_by, moved_of, counts_after, refusal_in_event, GivesRows}
+use Rattle.walk_core.specs.Landing.{landing_of}
 use Rattle.walk_core.specs.declared.moved.Moved.{Moved}
 use Rattle.walk_core.specs.declared.moved.Moved.TheVariants.{Yes, Stalled, Refused}
 use Rattle.walk_core.proofs.EventLaws.{walk-fits}
@@ -75,6 +77,32 @@ unfolding command_dues
 commands-few [] = omega arith
 commands-few (frame_due due ∷ items) = let rest = commands-few items in omega (arith, rest)
 commands-few (command_due due ∷ items) = let rest = commands-few items in omega (arith, rest)
+
+-- the due ticks of a kind of items, how many of them have landed, and one more
+abbrev dues_of : Bool → List Due → List ℕ
+dues_of true items = frame_dues items
+dues_of false items = command_dues items
+
+abbrev pub landed_of : Bool → Counts → ℕ
+landed_of true s = s.frames
+landed_of false s = s.commands
+
+abbrev and_one : Bool → Counts → Counts
+and_one true s = record s { frames = s.frames + 1 }
+and_one false s = record s { commands = s.commands + 1 }
+
+dues-few : (client : Bool) (items : List Due) → length (dues_of client items) ≤ length items
+dues-few true items = frames-few items
+dues-few false items = commands-few items
+
+one-more : (client : Bool) (s : Counts) → landed_of client (and_one client s) ≡ landed_of client s + 1
+one-more true s = refl
+one-more false s = refl
+
+land-step : (client : Bool) (plan : Plan) (s : Counts) → step plan s (landing_of client)
+    ≡ land_due s.ticks (slice_get (dues_of client plan.items) (landed_of client s)) s (and_one client s)
+land-step true plan s = refl
+land-step false plan s = refl
 
 stalls-same : (ticks : ℕ) (due : Option ℕ) (s next : Counts) (why : Option Refusal) (cause : StallCause) →
     Stalled cause ≡ answer_by (land_due ticks due s next).cause why → (land_due ticks due s next).counts ≡ s
@@ -128,62 +156,41 @@ abbrev pub IsMoving : Moved → Type 0
 IsMoving moved = (cause : StallCause) → moved ≡ Stalled cause → ⊥
 
 module _ (leg : Leg) (start : Counts) where
-  pub frame-turn : (s next : Counts) (moved : Moved) → Landed (walk_plan leg) start s Accept (λ s. s.frames) →
-      next ≡ counts_after leg s Accept → moved ≡ moved_of leg s Accept → IsMoving moved →
-      Landed (walk_plan leg) start next Accept (λ s. s.frames) ×
-      (length (walk_plan leg).items - next.frames < length (walk_plan leg).items - s.frames)
-  frame-turn s next moved (k, is, sum, few) after said moving =
-      let (then_, d, here) = moves-on s.ticks (slice_get (frame_dues (walk_plan leg).items) s.frames) s
-      (record s { frames = s.frames + 1 }) (refusal_in_event leg s Accept)
-      (λ cause e. moving cause (said ∙ sym e)) in
-      let inside = slice_get_within (frame_dues (walk_plan leg).items) s.frames d here in
-      let most = frames-few (walk_plan leg).items in
-      let count : next.frames ≡ s.frames + 1 = ap (λ (s : Counts). s.frames) (after ∙ then_) in (
+  pub land-turn : (client : Bool) (s next : Counts) (moved : Moved) →
+      Landed (walk_plan leg) start s (landing_of client) (landed_of client) →
+      next ≡ counts_after leg s (landing_of client) → moved ≡ moved_of leg s (landing_of client) → IsMoving moved →
+      Landed (walk_plan leg) start next (landing_of client) (landed_of client) ×
+      (length (walk_plan leg).items - landed_of client next < length (walk_plan leg).items - landed_of client s)
+  land-turn client s next moved (k, is, sum, few) after said moving =
+      let steps = land-step client (walk_plan leg) s in
+      let due = slice_get (dues_of client (walk_plan leg).items) (landed_of client s) in
+      let (then_, d, here) = moves-on s.ticks due s (and_one client s) (refusal_in_event leg s (landing_of client))
+          (λ cause e. moving cause (said
+          ∙ ap (λ (t : Step). answer_by t.cause (refusal_in_event leg s (landing_of client))) steps ∙ sym e)) in
+      let inside = slice_get_within (dues_of client (walk_plan leg).items) (landed_of client s) d here in
+      let most = dues-few client (walk_plan leg).items in
+      let count : landed_of client next ≡ landed_of client s + 1 =
+          ap (landed_of client) (after ∙ ap (λ (t : Step). t.counts) steps ∙ then_) ∙ one-more client s in (
         (
           suc k,
-          after ∙ moved-one (walk_plan leg) start s Accept k is,
+          after ∙ moved-one (walk_plan leg) start s (landing_of client) k is,
           omega (arith, count, sum),
           omega (arith, sum, inside, most),
         ),
         omega (arith, count, inside, most),
       )
 
-  pub frame-end : (s next : Counts) (cause : StallCause) → Landed (walk_plan leg) start s Accept (λ s. s.frames) →
-      next ≡ counts_after leg s Accept → Stalled cause ≡ moved_of leg s Accept →
-      next ≡ run (walk_plan leg) start (replicate (suc (length (walk_plan leg).items)) Accept)
-  frame-end s next cause (k, is, sum, few) after stalls =
-      after ∙ stalled-all (walk_plan leg) start s Accept k (length (walk_plan leg).items) is few
-      (stalls-same s.ticks (slice_get (frame_dues (walk_plan leg).items) s.frames) s
-      (record s { frames = s.frames + 1 }) (refusal_in_event leg s Accept) cause stalls)
-
-  pub command-turn : (s next : Counts) (moved : Moved) → Landed (walk_plan leg) start s Command (λ s. s.commands) →
-      next ≡ counts_after leg s Command → moved ≡ moved_of leg s Command → IsMoving moved →
-      Landed (walk_plan leg) start next Command (λ s. s.commands) ×
-      (length (walk_plan leg).items - next.commands < length (walk_plan leg).items - s.commands)
-  command-turn s next moved (k, is, sum, few) after said moving =
-      let (then_, d, here) = moves-on s.ticks (slice_get (command_dues (walk_plan leg).items) s.commands) s
-      (record s { commands = s.commands + 1 }) (refusal_in_event leg s Command)
-      (λ cause e. moving cause (said ∙ sym e)) in
-      let inside = slice_get_within (command_dues (walk_plan leg).items) s.commands d here in
-      let most = commands-few (walk_plan leg).items in
-      let count : next.commands ≡ s.commands + 1 = ap (λ (s : Counts). s.commands) (after ∙ then_) in (
-        (
-          suc k,
-          after ∙ moved-one (walk_plan leg) start s Command k is,
-          omega (arith, count, sum),
-          omega (arith, sum, inside, most),
-        ),
-        omega (arith, count, inside, most),
-      )
-
-  pub command-end : (s next : Counts) (cause : StallCause) →
-      Landed (walk_plan leg) start s Command (λ s. s.commands) → next ≡ counts_after leg s Command →
-      Stalled cause ≡ moved_of leg s Command →
-      next ≡ run (walk_plan leg) start (replicate (suc (length (walk_plan leg).items)) Command)
-  command-end s next cause (k, is, sum, few) after stalls =
-      after ∙ stalled-all (walk_plan leg) start s Command k (length (walk_plan leg).items) is few
-      (stalls-same s.ticks (slice_get (command_dues (walk_plan leg).items) s.commands) s
-      (record s { commands = s.commands + 1 }) (refusal_in_event leg s Command) cause stalls)
+  pub land-end : (client : Bool) (s next : Counts) (cause : StallCause) →
+      Landed (walk_plan leg) start s (landing_of client) (landed_of client) →
+      next ≡ counts_after leg s (landing_of client) → Stalled cause ≡ moved_of leg s (landing_of client) →
+      next ≡ run (walk_plan leg) start (replicate (suc (length (walk_plan leg).items)) (landing_of client))
+  land-end client s next cause (k, is, sum, few) after stalls =
+      let steps = land-step client (walk_plan leg) s in
+      let due = slice_get (dues_of client (walk_plan leg).items) (landed_of client s) in
+      let why = refusal_in_event leg s (landing_of client) in
+      after ∙ stalled-all (walk_plan leg) start s (landing_of client) k (length (walk_plan leg).items) is few
+      (ap (λ (t : Step). t.counts) steps ∙ stalls-same s.ticks due s (and_one client s) why cause
+      (stalls ∙ ap (λ (t : Step). answer_by t.cause why) steps))
 
   pub carry-turn : (s next : Counts) (m : ℕ) (whole : Counts) → m < length (walk_plan leg).paths →
       run (walk_plan leg) s (carries_from m (drop m (walk_plan leg).paths)) ≡ whole →
@@ -244,13 +251,11 @@ land-rows : (ticks : ℕ) (due : Option ℕ) (s next : Counts) → next.rows ≡
 land-rows ticks None s next e = refl
 land-rows ticks (Some due) s next e = elim (cases_Bool (nat_lt ticks due)) [ inl h ↦ rw h refl | inr h ↦ rw h e ]
 
-pub frame-rows : (leg : Leg) (s : Counts) → (counts_after leg s Accept).rows ≡ s.rows
-frame-rows leg s = land-rows s.ticks (slice_get (frame_dues (walk_plan leg).items) s.frames) s
-    (record s { frames = s.frames + 1 }) refl
-
-pub command-rows : (leg : Leg) (s : Counts) → (counts_after leg s Command).rows ≡ s.rows
-command-rows leg s = land-rows s.ticks (slice_get (command_dues (walk_plan leg).items) s.commands) s
-    (record s { commands = s.commands + 1 }) refl
+pub landed-rows : (client : Bool) (leg : Leg) (s : Counts) → (counts_after leg s (landing_of client)).rows ≡ s.rows
+landed-rows true leg s = land-rows s.ticks (slice_get (frame_dues (walk_plan leg).items) s.frames) s
+    (and_one true s) refl
+landed-rows false leg s = land-rows s.ticks (slice_get (command_dues (walk_plan leg).items) s.commands) s
+    (and_one false s) refl
 
 back-rows : (s : Counts) → (back s).counts.rows ≡ s.rows
 back-rows s = elim (cases_Bool (nat_le (in_return s) 0)) [ inl h ↦ rw h refl | inr h ↦ rw h refl ]
@@ -336,8 +341,8 @@ round-rows leg a b t m r e s is_a is_b is_t is_m is_r =
 
 -- ---- no event takes rows back
 step-rises : (leg : Leg) (s : Counts) (event : Event) → s.rows ≤ (counts_after leg s event).rows
-step-rises leg s Accept = let e = frame-rows leg s in omega (arith, e)
-step-rises leg s Command = let e = command-rows leg s in omega (arith, e)
+step-rises leg s Accept = let e = landed-rows true leg s in omega (arith, e)
+step-rises leg s Command = let e = landed-rows false leg s in omega (arith, e)
 step-rises leg s Tick = let e = tick-rows (walk_plan leg) s in omega (arith, e)
 step-rises leg s (Carry m) = let e = carry-rows leg s m in omega (arith, e)
 step-rises leg s Back = let e = back-rows s in omega (arith, e)

@@ -102,8 +102,8 @@ impl Walk {
             self.old.counts.rows self.new.counts.rows }
     {
         match event {
-            Event::Accept => self.accept(),
-            Event::Command => self.command(),
+            Event::Accept => self.land(true),
+            Event::Command => self.land(false),
             Event::Tick => self.tick(),
             Event::Carry(line) => {
                 prove!(line < self.script.config.lines);
@@ -123,8 +123,8 @@ impl Walk {
         ensures gives { GivesRows F.stands_for out.old out.new (leg_of self.old.script)
             self.old.counts.rows self.new.counts.rows }
     {
-        self.accept_all();
-        self.command_all();
+        self.land_all(true);
+        self.land_all(false);
         self.tick();
         self.carry_all();
         self.back();
@@ -242,52 +242,18 @@ impl Walk {
         }
     }
 
-    /// Lands frames until one stalls.
-    fn accept_all(&mut self)
+    /// Lands frames, or commands, until one stalls.
+    fn land_all(&mut self, client: bool)
         ensures script { self.new.script ≡ self.old.script }
         ensures counts { self.new.counts ≡ run (walk_plan (leg_of self.old.script)) self.old.counts
-            (replicate (suc (length (walk_plan (leg_of self.old.script)).items)) Accept) }
+            (replicate (suc (length (walk_plan (leg_of self.old.script)).items)) (landing_of client)) }
         ensures rows { self.new.counts.rows ≡ self.old.counts.rows }
     {
         loop {
-            if let Moved::Stalled(_) = self.accept() {
+            if let Moved::Stalled(_) = self.land(client) {
                 return;
             }
         }
-    }
-
-    /// Lands commands until one stalls.
-    fn command_all(&mut self)
-        ensures script { self.new.script ≡ self.old.script }
-        ensures counts { self.new.counts ≡ run (walk_plan (leg_of self.old.script)) self.old.counts
-            (replicate (suc (length (walk_plan (leg_of self.old.script)).items)) Command) }
-        ensures rows { self.new.counts.rows ≡ self.old.counts.rows }
-    {
-        loop {
-            if let Moved::Stalled(_) = self.command() {
-                return;
-            }
-        }
-    }
-
-    /// Lands the next frame.
-    fn accept(&mut self) -> Moved
-        ensures script { self.new.script ≡ self.old.script }
-        ensures counts { self.new.counts
-            ≡ counts_after (leg_of self.old.script) self.old.counts Accept }
-        ensures moved { result ≡ moved_of (leg_of self.old.script) self.old.counts Accept }
-    {
-        self.land(true)
-    }
-
-    /// Lands the next command.
-    fn command(&mut self) -> Moved
-        ensures script { self.new.script ≡ self.old.script }
-        ensures counts { self.new.counts
-            ≡ counts_after (leg_of self.old.script) self.old.counts Command }
-        ensures moved { result ≡ moved_of (leg_of self.old.script) self.old.counts Command }
-    {
-        self.land(false)
     }
 
     /// Lands the next frame, or the next command, where there is one and it is due.

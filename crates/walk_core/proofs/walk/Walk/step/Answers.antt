@@ -7,7 +7,7 @@ use Rattle.progress_law.specs.Progress.{HasLine}
 use Rattle.walk_law.specs.Walk.{walk_plan}
 use Rattle.walk_law.proofs.PlanLaws.{has-paths, sound-walks}
 use Rattle.walk_core.specs.Moved.{Walked}
-use Rattle.walk_core.proofs.RoundLaws.{frame-rows, command-rows, carry-rows, gives-none}
+use Rattle.walk_core.proofs.RoundLaws.{landed-rows, carry-rows, gives-none}
 use Rattle.walk_core.proofs.walk.Walk.step.Goals as goal
 
 pub prove-unreachable-requires : goal.prove-unreachable-requires
@@ -24,14 +24,14 @@ prove-unreachable-requires g c =
 pub returns-in-Accept-clause-gives : goal.returns-in-Accept-clause-gives
 returns-in-Accept-clause-gives g c =
     gives-none g.F.FrameOut.stands_for c.args.out.now (leg_of c.args.self.now.script) _ _
-    (ap (λ (s : Counts). s.rows) c.accept.ensures.counts
-    ∙ frame-rows (leg_of c.args.self.now.script) c.args.self.now.counts)
+    (ap (λ (s : Counts). s.rows) c.land.ensures.counts
+    ∙ landed-rows true (leg_of c.args.self.now.script) c.args.self.now.counts)
 
 pub returns-in-Command-clause-gives : goal.returns-in-Command-clause-gives
 returns-in-Command-clause-gives g c =
     gives-none g.F.FrameOut.stands_for c.args.out.now (leg_of c.args.self.now.script) _ _
-    (ap (λ (s : Counts). s.rows) c.command.ensures.counts
-    ∙ command-rows (leg_of c.args.self.now.script) c.args.self.now.counts)
+    (ap (λ (s : Counts). s.rows) c.land-in-Command.ensures.counts
+    ∙ landed-rows false (leg_of c.args.self.now.script) c.args.self.now.counts)
 
 pub returns-in-Carry-clause-gives : goal.returns-in-Carry-clause-gives
 returns-in-Carry-clause-gives g c =
