@@ -24,9 +24,8 @@ returns-in-Stalled-clause-counts c =
     ∙ ap (λ (x : Script). counts_after (leg_of x) c.loop.self.counts (landing_of c.args.client)) inv.script in
     let said = sym c.in-Stalled.is ∙ c.land.ensures.moved
     ∙ ap (λ (x : Script). moved_of (leg_of x) c.loop.self.counts (landing_of c.args.client)) inv.script in
-    land-end (leg_of
-        c.args.self.now.script) c.args.self.now.counts c.args.client c.loop.self.counts c.land.new.self.counts _ inv.landed
-    after said
+    land-end (leg_of c.args.self.now.script) c.args.self.now.counts c.args.client c.loop.self.counts
+    c.land.new.self.counts _ inv.landed after said
 
 pub loop-smaller : goal.loop-smaller
 loop-smaller c =
@@ -36,8 +35,7 @@ loop-smaller c =
     let said = c.land.ensures.moved
     ∙ ap (λ (x : Script). moved_of (leg_of x) c.loop.self.counts (landing_of c.args.client)) inv.script in
     (land-turn (leg_of c.args.self.now.script) c.args.self.now.counts c.args.client c.loop.self.counts
-        c.land.new.self.counts
-    c.land.result inv.landed after said c.in_default.not-Stalled).1
+    c.land.new.self.counts c.land.result inv.landed after said c.in_default.not-Stalled).1
 
 pub loop-preserved : goal.loop-preserved
 loop-preserved c =
@@ -49,9 +47,7 @@ loop-preserved c =
     record {
       script = c.land.ensures.script ∙ inv.script;
       landed = (land-turn (leg_of c.args.self.now.script) c.args.self.now.counts c.args.client
-          c.loop.self.counts c.land.new.self.counts
-          c.land.result inv.landed after said c.in_default.not-Stalled).0;
+          c.loop.self.counts c.land.new.self.counts c.land.result inv.landed after said c.in_default.not-Stalled).0;
       rows = ap (λ (s : Counts). s.rows) after
-          ∙ landed-rows c.args.client (leg_of c.args.self.now.script) c.loop.self.counts
-          ∙ inv.rows;
+          ∙ landed-rows c.args.client (leg_of c.args.self.now.script) c.loop.self.counts ∙ inv.rows;
     }
