@@ -76,7 +76,7 @@ module _ (leg : Leg) where
   landed-accepts (item ∷ rest) front a b parts =
       let longer : leg.items ≡ (front ++ item ∷ []) ++ rest = parts ∙ sym (append_assoc front (item ∷ []) rest) in
       let size : length (front ++ item ∷ []) ≡ suc (length front) = let e = length-append front (item ∷ []) in
-          omega arith in
+      omega arith in
       let offers : offers_of (front ++ item ∷ []) ≡ offers_of front ++ offers_by item =
       flat_map-append offers_by front (item ∷ [])
       ∙ ap (λ l. offers_of front ++ l) (append-nil (offers_by item)) in

@@ -66,7 +66,7 @@ told-stays reading more t told (Some v) here e =
 told-stays reading more t told None here e =
     let is : reading.lock ≡ over = none-over reading.lock told e in
     let ends : reading ≡ record { lock = over; verdicts = reading.verdicts } =
-        ap (λ lock. let r : Reading = record { lock = lock; verdicts = reading.verdicts } in r) is in
+    ap (λ lock. let r : Reading = record { lock = lock; verdicts = reading.verdicts } in r) is in
     let stays : read_on reading more ≡ record { lock = over; verdicts = reading.verdicts } =
     ap (λ r. read_on r more) ends ∙ over-stays more reading.verdicts in
     rw (stays, here) (subst (λ lock. verdict_over lock ≡ Some told) is e)

@@ -236,52 +236,52 @@ first-here : (a b due : ℕ) (kind : ItemKind) (items : List Item) →
 unfolding first_due left_after found_of frame_dues command_dues
 first-here zero zero due (Frame octets) items frames commands rest =
     ap (λ found. Some (sooner (frame_due due) found)) (rest zero zero (rest-in_order due (frame_dues (dues_of items))
-        frames) commands)
+    frames) commands)
     ∙ front-frame due (found_of is_frame zero items) (found_of is_command zero items)
     (λ at e. first-low due at.1 (frame_dues (dues_of items)) frames (frame-found zero items at e))
 first-here zero (suc b) due (Frame octets) items frames commands rest =
     ap (λ found. Some (sooner (frame_due due) found)) (rest zero (suc b)
-        (rest-in_order due (frame_dues (dues_of items)) frames) commands)
+    (rest-in_order due (frame_dues (dues_of items)) frames) commands)
     ∙ front-frame due (found_of is_frame zero items) (found_of is_command (suc b) items)
     (λ at e. first-low due at.1 (frame_dues (dues_of items)) frames (frame-found zero items at e))
 first-here (suc a) zero due (Frame octets) items frames commands rest =
     rest a zero (rest-in_order due (frame_dues (dues_of items)) frames) commands
-        ∙ sym (pick-up (found_of is_frame a items) (found_of is_command zero items))
+    ∙ sym (pick-up (found_of is_frame a items) (found_of is_command zero items))
 first-here (suc a) (suc b) due (Frame octets) items frames commands rest =
     rest a (suc b) (rest-in_order due (frame_dues (dues_of items)) frames) commands
-        ∙ sym (pick-up (found_of is_frame a items) (found_of is_command (suc b) items))
+    ∙ sym (pick-up (found_of is_frame a items) (found_of is_command (suc b) items))
 first-here zero zero due (Add line) items frames commands rest =
     ap (λ found. Some (sooner (command_due due) found)) (rest zero zero frames
-        (rest-in_order due (command_dues (dues_of items)) commands))
+    (rest-in_order due (command_dues (dues_of items)) commands))
     ∙ front-command due (found_of is_frame zero items) (found_of is_command zero items)
     (λ at e. first-low due at.1 (command_dues (dues_of items)) commands (command-found zero items at e))
 first-here zero (suc b) due (Add line) items frames commands rest =
     rest zero b frames (rest-in_order due (command_dues (dues_of items)) commands)
-        ∙ sym (pick-up (found_of is_frame zero items) (found_of is_command b items))
+    ∙ sym (pick-up (found_of is_frame zero items) (found_of is_command b items))
 first-here (suc a) zero due (Add line) items frames commands rest =
     ap (λ found. Some (sooner (command_due due) found)) (rest (suc a) zero frames
-        (rest-in_order due (command_dues (dues_of items)) commands))
+    (rest-in_order due (command_dues (dues_of items)) commands))
     ∙ front-command due (found_of is_frame (suc a) items) (found_of is_command zero items)
     (λ at e. first-low due at.1 (command_dues (dues_of items)) commands (command-found zero items at e))
 first-here (suc a) (suc b) due (Add line) items frames commands rest =
     rest (suc a) b frames (rest-in_order due (command_dues (dues_of items)) commands)
-        ∙ sym (pick-up (found_of is_frame (suc a) items) (found_of is_command b items))
+    ∙ sym (pick-up (found_of is_frame (suc a) items) (found_of is_command b items))
 first-here zero zero due (Remove line) items frames commands rest =
     ap (λ found. Some (sooner (command_due due) found)) (rest zero zero frames
-        (rest-in_order due (command_dues (dues_of items)) commands))
+    (rest-in_order due (command_dues (dues_of items)) commands))
     ∙ front-command due (found_of is_frame zero items) (found_of is_command zero items)
     (λ at e. first-low due at.1 (command_dues (dues_of items)) commands (command-found zero items at e))
 first-here zero (suc b) due (Remove line) items frames commands rest =
     rest zero b frames (rest-in_order due (command_dues (dues_of items)) commands)
-        ∙ sym (pick-up (found_of is_frame zero items) (found_of is_command b items))
+    ∙ sym (pick-up (found_of is_frame zero items) (found_of is_command b items))
 first-here (suc a) zero due (Remove line) items frames commands rest =
     ap (λ found. Some (sooner (command_due due) found)) (rest (suc a) zero frames
-        (rest-in_order due (command_dues (dues_of items)) commands))
+    (rest-in_order due (command_dues (dues_of items)) commands))
     ∙ front-command due (found_of is_frame (suc a) items) (found_of is_command zero items)
     (λ at e. first-low due at.1 (command_dues (dues_of items)) commands (command-found zero items at e))
 first-here (suc a) (suc b) due (Remove line) items frames commands rest =
     rest (suc a) b frames (rest-in_order due (command_dues (dues_of items)) commands)
-        ∙ sym (pick-up (found_of is_frame (suc a) items) (found_of is_command b items))
+    ∙ sym (pick-up (found_of is_frame (suc a) items) (found_of is_command b items))
 
 pub first-is : (a b : ℕ) (items : List Item) → IsNonDecreasing (frame_dues (dues_of items)) →
     IsNonDecreasing (command_dues (dues_of items)) → first_due (left_after a b (dues_of items))

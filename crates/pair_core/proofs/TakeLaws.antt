@@ -426,7 +426,7 @@ module _ (was own other : PairWay) (row : ℕ) (is : EndsPacket was own other ro
   low-row : (row + 1 ≤ other.core.source.core.ticks) × (other.core.source.core.ticks ≤ other.script.config.ticks)
   low-row =
       let (rows, ticks) =
-          counts-within was_leg (way_counts own) (sound-walks was_leg is.stands.sound) is.stands.walked in
+      counts-within was_leg (way_counts own) (sound-walks was_leg is.stands.sound) is.stands.walked in
       let more = is.row_is in
       let other_is = is.beside.other_way.stands in
       let (other_rows, other_ticks) = counts-within other_leg (way_counts other) (sound-walks other_leg other_is.sound)
@@ -591,7 +591,7 @@ module _ (was own other : PairWay) (row : ℕ) (is : EndsPacket was own other ro
                       ∙ ap (λ told. map told_in (heard_cells other_leg other_lag ticks row) ++ told ∷ [])
                       (cell-is cell row_read reads told)
                       ∙ sym (map-append told_in (heard_cells other_leg other_lag ticks row)
-                          (back_cell other_leg k ∷ []))
+                      (back_cell other_leg k ∷ []))
                       ∙ ap (map told_in) (sym (return_laws.inbox-comes other_leg (counts_with ticks row k) used-low))
                       ∙ ap (λ n. map told_in (map (back_cell other_leg)
                       (range_with_len (used_in (2 * other_lag) ticks) (n - used_in (2 * other_lag) ticks)))) (sym more);

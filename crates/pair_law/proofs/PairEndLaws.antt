@@ -197,7 +197,7 @@ module _ (pair : PairPlan) (is : IsPairPlan pair) where
         | inr e ↦
             let more = round-rises pair is s going (not-over pair is s e) in
             let again = drain-again k (turned s) (all-goes pair is s (pair_round pair) going)
-                (omega (arith, more, most))
+            (omega (arith, more, most))
             in
             rw e again
       ]

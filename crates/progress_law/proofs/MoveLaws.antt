@@ -390,7 +390,7 @@ module _ (slow fast slip : ℕ) (plan : Plan) (is : IsPlanOf slow fast slip plan
         | inl same ↦ elim here [
           | inl e ↦
               let f : made (step plan s event).counts ≡ made s =
-                  subst (λ event. made (step plan s event).counts ≡ made s) e (ap made same) in
+              subst (λ event. made (step plan s event).counts ≡ made s) e (ap made same) in
               absurd (omega (arith, f, more))
           | inr later ↦ subst (λ next. made s < made (run plan next events)) (sym same)
               (run-rises s event events fits later more)

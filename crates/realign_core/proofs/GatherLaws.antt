@@ -202,7 +202,7 @@ passed_more m j places old new before after here are at_line at_here next = reco
             subst (λ k. slice_get places k ≡ Some place) same at_place in
             let at_old' : slice_get old m ≡ Some was = subst (λ k. slice_get old k ≡ Some was) same at_old in
             let first : was ≡ before =
-                let e : Some was ≡ Some before = sym at_old' ∙ sym (are.others m (omega arith)) ∙ at_line in cc in
+            let e : Some was ≡ Some before = sym at_old' ∙ sym (are.others m (omega arith)) ∙ at_line in cc in
             let there : place ≡ here = let e : Some place ≡ Some here = sym at_place' ∙ at_here in cc in
             rw (set-here new m after is at_new', first, there) next
         | inr other ↦ are.passed k was is place (omega arith) at_old (sym (set-other new m k after other) ∙ at_new)

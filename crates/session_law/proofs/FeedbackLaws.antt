@@ -101,9 +101,9 @@ said-rises scenario cells k (suc i) =
 confirmed-least : (table : Table) → table.count ≤ confirmed table + 1
 confirmed-least table =
     elim table.acknowledged as (λ b. table.count ≤ (if b then table.count else table.count - 1) + 1) [
-  | true ↦ omega arith
-  | false ↦ omega arith
-]
+      | true ↦ omega arith
+      | false ↦ omega arith
+    ]
 
 whole_count : (table : Table) (n : ℕ) → confirmed table ≤ n → n ≤ table.count → n % 2 ≡ table.count % 2 →
     n ≡ table.count

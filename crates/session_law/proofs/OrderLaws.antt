@@ -178,9 +178,9 @@ admit-all kept base (member ∷ order) (suc sq) line fine has =
     let e : base + zero ≡ base = omega arith in
     admit_on-all (is_adding member) (is_ok (kept base)) member (admit kept (base + 1) order) order sq line
     (λ adds.
-        let ok = fine zero member.line (omega arith)
-            (ap (λ s. Some (member_of member.line s)) (is_adding-standing member adds)) in
-        rw e at ok)
+    let ok = fine zero member.line (omega arith)
+    (ap (λ s. Some (member_of member.line s)) (is_adding-standing member adds)) in
+    rw e at ok)
     (admit-all kept (base + 1) order sq line (Fine-rest kept base member order sq fine) has)
 
 -- ---- an exchange of ADD lines
@@ -223,9 +223,9 @@ exchange-none kept base (member ∷ order) (suc sq) line fine has =
     exchange_on-none (is_adding member) (is_fail (kept base)) member (exchange kept (base + 1) order)
     (take_out kept (base + 1) order)
     (λ adds.
-        let ok = fine zero member.line (omega arith)
-            (ap (λ s. Some (member_of member.line s)) (is_adding-standing member adds)) in
-        rw e at ok)
+    let ok = fine zero member.line (omega arith)
+    (ap (λ s. Some (member_of member.line s)) (is_adding-standing member adds)) in
+    rw e at ok)
     (λ not. exchange-none kept (base + 1) order sq line (AtMostFails-rest kept base member order sq fine) has)
 
 -- it lets go of no line

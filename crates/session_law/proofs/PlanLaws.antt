@@ -366,7 +366,7 @@ gone_other : (line x l n m : ℕ) → (x ≡ line → ⊥) → (if l == line the
     (if l == line then 0 else one x l + n) ≡ one x l + m
 gone_other line x l n m other rest =
     elim (l == line) as (λ b. (l == line) ≡ b → (if b then 0 else n) ≡ m → (if b then 0 else one x l + n)
-        ≡ one x l + m) [
+    ≡ one x l + m) [
       | true ↦ λ e rest. let none = one-other x l (λ h. other (sym h ∙ eqb-true l line e)) in omega arith
       | false ↦ λ e rest. omega arith
     ] refl rest

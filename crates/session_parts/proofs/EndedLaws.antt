@@ -77,7 +77,7 @@ backs-are own (suc t) =
     let f : ℕ → BackCell = λ k. Nibbles (packet_nibbles (return_at own k)) in
     let more : backs own (suc t) ≡ backs own t ++ back_cells (back_at own t) = backs-more own t (suc t) (omega arith) in
     let next : packets_in (suc t) ≡ packets_in t + (if nat_lt 22 t && t % 16 == 7 then 1 else 0) =
-        let e : suc t ≡ t + 1 = omega arith in ap packets_in e ∙ packets-next t in
+    let e : suc t ≡ t + 1 = omega arith in ap packets_in e ∙ packets-next t in
     more ∙ ap (λ l. l ++ back_cells (back_at own t)) (backs-are own t) ∙ one-more own t next
   where
     one-more : (own : List (List Cell)) (t : ℕ) →

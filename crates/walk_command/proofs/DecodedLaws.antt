@@ -94,7 +94,7 @@ module _ {K : Type 0} (written : K → Option (List ℕ)) (faults : K → ℕ) (
     all_decoded put =
         let P : List ℕ → Type 0 = λ text. Appends written faults start new text in
         subst P last (Appends-then written faults start old new (found_texts (packets_in (take i octets))) line
-            has.lines
+        has.lines
         put)
 
     pub end_part : AppendsPart written faults old new line → AppendsPart written faults start new (decoded_text octets)

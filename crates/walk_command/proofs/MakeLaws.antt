@@ -81,7 +81,7 @@ module _ (number lines ticks : ℕ) (was now : Walked) (script : was.script ≡ 
     counts-are =
         drained ∙ ap (drain (bound (walk_plan (leg_of was.script))) (walk_plan (leg_of was.script))) begun
         ∙ ap (λ (s : Script). drain (bound (walk_plan (leg_of s))) (walk_plan (leg_of s))
-            (begin (walk_plan (leg_of s))))
+        (begin (walk_plan (leg_of s))))
         script
 
     pub lines-are : (octets total : ℕ) (totals : Totals) → totals ≡ totals_of (leg_of now.script) now.counts →

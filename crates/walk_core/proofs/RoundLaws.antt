@@ -165,12 +165,12 @@ module _ (leg : Leg) (start : Counts) where
       let steps = land-step client (walk_plan leg) s in
       let due = slice_get (dues_of client (walk_plan leg).items) (landed_of client s) in
       let (then_, d, here) = moves-on s.ticks due s (and_one client s) (refusal_in_event leg s (landing_of client))
-          (λ cause e. moving cause (said
-          ∙ ap (λ (t : Step). answer_by t.cause (refusal_in_event leg s (landing_of client))) steps ∙ sym e)) in
+      (λ cause e. moving cause (said
+      ∙ ap (λ (t : Step). answer_by t.cause (refusal_in_event leg s (landing_of client))) steps ∙ sym e)) in
       let inside = slice_get_within (dues_of client (walk_plan leg).items) (landed_of client s) d here in
       let most = dues-few client (walk_plan leg).items in
       let count : landed_of client next ≡ landed_of client s + 1 =
-          ap (landed_of client) (after ∙ ap (λ (t : Step). t.counts) steps ∙ then_) ∙ one-more client s in (
+      ap (landed_of client) (after ∙ ap (λ (t : Step). t.counts) steps ∙ then_) ∙ one-more client s in (
         (
           suc k,
           after ∙ moved-one (walk_plan leg) start s (landing_of client) k is,

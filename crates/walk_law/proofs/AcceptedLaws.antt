@@ -171,7 +171,7 @@ items-judged leg (item ∷ rest) front parts =
     let first : take (length front) leg.items ≡ front = ap (take (length front)) parts
     ∙ take_at front (item ∷ rest) (length front) refl in
     let size : suc (length front) ≡ length (front ++ item ∷ []) = let e = length-append front (item ∷ []) in
-        omega arith in
+    omega arith in
     let next = items-judged leg rest (front ++ item ∷ []) (parts ∙ sym (append_assoc front (item ∷ []) rest)) in
     let offers : offers_of (front ++ item ∷ []) ≡ offers_of front ++ offers_by item =
     flat_map-append offers_by front (item ∷ [])

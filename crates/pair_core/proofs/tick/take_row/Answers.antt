@@ -115,7 +115,7 @@ returns-in-Taken-Some-clause-takes g c =
     let packet : Packet = c.in-Taken-Some.packet in
     let h = c.hear.ensures in
     let done =
-        said-row own other c.requires row c.taken-row.ensures low c.take.new.self c.take.result takes c.take.ensures.rest
+    said-row own other c.requires row c.taken-row.ensures low c.take.new.self c.take.result takes c.take.ensures.rest
     c.in-Taken-Some.back c.in-Taken-Some.is packet c.in-Taken-Some.back-is c.hear.new.other
     (record {
       script = h.script;

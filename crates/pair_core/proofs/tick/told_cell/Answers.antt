@@ -11,5 +11,5 @@ pub returns : goal.returns
 returns c =
     let packet : Packet = c.args.packet in
     let octets : IsPacket packet =
-        record { mst = omega arith; sq = omega arith; mfi2 = omega arith; act = omega arith } in
+    record { mst = omega arith; sq = omega arith; mfi2 = omega arith; act = omega arith } in
     ap (λ nibbles. told_in (Nibbles nibbles)) c.nibbles.ensures ∙ told_in-nibbles packet octets

@@ -14,7 +14,7 @@ returns-in-Bad c cells stands =
     let t = c.args.rows.now.rows in
     let line : ℕ = get_or active i 0 in
     let inside : line < length cells = (let below = c.requires.lines i c.loop-line-test.true in
-        let size = stands.size in omega (arith, below)) in
+    let size = stands.size in omega (arith, below)) in
     let bad : container_on (slice_get cells line) t ≡ None =
     container_on-told cells line t (told_by c.verdict.result) inside
     (λ own here. c.verdict.ensures cells own stands here) ∙ ap told_by c.in-Bad.is in
@@ -29,7 +29,7 @@ loop-line-preserved c cells stands =
     let t = c.args.rows.now.rows in
     let line : ℕ = get_or active i 0 in
     let inside : line < length cells = (let below = c.requires.lines i c.loop-line-test.true in
-        let size = stands.size in omega (arith, below)) in
+    let size = stands.size in omega (arith, below)) in
     let whole : container_on (slice_get cells line) t ≡ Some c.in-Whole.field-0.now =
     container_on-told cells line t (told_by c.verdict.result) inside
     (λ own here. c.verdict.ensures cells own stands here) ∙ ap told_by c.in-Whole.is in

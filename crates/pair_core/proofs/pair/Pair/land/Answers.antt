@@ -14,7 +14,7 @@ invariant_of-self c =
     let f = c.self.inside in
     (there-follows f.there f.back c.self.invariant (Item There) c.land.new.self
     (land_item (walk_plan (leg_beside f.there f.back)) (way_counts f.there)) (next_refusal (leg_beside f.there f.back)
-        (way_counts f.there)) c.land.result refl refl
+    (way_counts f.there)) c.land.result refl refl
     c.land.ensures.quiet (c.land.ensures.goes f.back.script c.self.invariant.there_way.stands)).walk
 
 pub invariant_of-self-in-Back : goal.invariant_of-self-in-Back
@@ -22,7 +22,7 @@ invariant_of-self-in-Back c =
     let f = c.self.inside in
     (back-follows f.there f.back c.self.invariant (Item Back) c.land-in-Back.new.self
     (land_item (walk_plan (leg_beside f.back f.there)) (way_counts f.back)) (next_refusal (leg_beside f.back f.there)
-        (way_counts f.back)) c.land-in-Back.result refl refl
+    (way_counts f.back)) c.land-in-Back.result refl refl
     c.land-in-Back.ensures.quiet (c.land-in-Back.ensures.goes f.there.script c.self.invariant.back_way.stands)).walk
 
 pub returns-in-There-clause-pair : goal.returns-in-There-clause-pair
@@ -30,7 +30,7 @@ returns-in-There-clause-pair c =
     let f = c.self.inside in
     (there-follows f.there f.back c.self.invariant (Item There) c.land.new.self
     (land_item (walk_plan (leg_beside f.there f.back)) (way_counts f.there)) (next_refusal (leg_beside f.there f.back)
-        (way_counts f.there)) c.land.result refl refl
+    (way_counts f.there)) c.land.result refl refl
     c.land.ensures.quiet (c.land.ensures.goes f.back.script c.self.invariant.there_way.stands)).pair
     ∙ ap (λ (p : Paired). after p (Item There)) c.self.view_is
     ∙ ap (λ w. after c.args.self.now (Item w)) (sym c.in-There.is)
@@ -41,7 +41,7 @@ returns-in-There-clause-moved c =
     c.moved_on.ensures ∙ ap (λ w. moved_on w c.land.result) c.in-There.is
     ∙ (there-follows f.there f.back c.self.invariant (Item There) c.land.new.self
     (land_item (walk_plan (leg_beside f.there f.back)) (way_counts f.there)) (next_refusal (leg_beside f.there f.back)
-        (way_counts f.there)) c.land.result refl refl
+    (way_counts f.there)) c.land.result refl refl
     c.land.ensures.quiet (c.land.ensures.goes f.back.script c.self.invariant.there_way.stands)).moved
     ∙ ap (λ (p : Paired). moved_of p (Item There)) c.self.view_is
     ∙ ap (λ w. moved_of c.args.self.now (Item w)) (sym c.in-There.is)
@@ -51,7 +51,7 @@ returns-in-Back-clause-pair c =
     let f = c.self.inside in
     (back-follows f.there f.back c.self.invariant (Item Back) c.land-in-Back.new.self
     (land_item (walk_plan (leg_beside f.back f.there)) (way_counts f.back)) (next_refusal (leg_beside f.back f.there)
-        (way_counts f.back)) c.land-in-Back.result refl refl
+    (way_counts f.back)) c.land-in-Back.result refl refl
     c.land-in-Back.ensures.quiet (c.land-in-Back.ensures.goes f.there.script c.self.invariant.back_way.stands)).pair
     ∙ ap (λ (p : Paired). after p (Item Back)) c.self.view_is
     ∙ ap (λ w. after c.args.self.now (Item w)) (sym c.in-Back.is)
@@ -62,7 +62,7 @@ returns-in-Back-clause-moved c =
     c.moved_on-in-Back.ensures ∙ ap (λ w. moved_on w c.land-in-Back.result) c.in-Back.is
     ∙ (back-follows f.there f.back c.self.invariant (Item Back) c.land-in-Back.new.self
     (land_item (walk_plan (leg_beside f.back f.there)) (way_counts f.back)) (next_refusal (leg_beside f.back f.there)
-        (way_counts f.back)) c.land-in-Back.result refl refl
+    (way_counts f.back)) c.land-in-Back.result refl refl
     c.land-in-Back.ensures.quiet (c.land-in-Back.ensures.goes f.there.script c.self.invariant.back_way.stands)).moved
     ∙ ap (λ (p : Paired). moved_of p (Item Back)) c.self.view_is
     ∙ ap (λ w. moved_of c.args.self.now (Item w)) (sym c.in-Back.is)
@@ -72,7 +72,7 @@ returns-in-There-clause-walked c =
     let f = c.self.inside in
     (there-follows f.there f.back c.self.invariant (Item There) c.land.new.self
     (land_item (walk_plan (leg_beside f.there f.back)) (way_counts f.there)) (next_refusal (leg_beside f.there f.back)
-        (way_counts f.there)) c.land.result refl refl
+    (way_counts f.there)) c.land.result refl refl
     c.land.ensures.quiet (c.land.ensures.goes f.back.script c.self.invariant.there_way.stands)).walk.walked
 
 pub returns-in-Back-clause-walked : goal.returns-in-Back-clause-walked
@@ -80,6 +80,6 @@ returns-in-Back-clause-walked c =
     let f = c.self.inside in
     (back-follows f.there f.back c.self.invariant (Item Back) c.land-in-Back.new.self
     (land_item (walk_plan (leg_beside f.back f.there)) (way_counts f.back)) (next_refusal (leg_beside f.back f.there)
-        (way_counts f.back)) c.land-in-Back.result refl refl
+    (way_counts f.back)) c.land-in-Back.result refl refl
     c.land-in-Back.ensures.quiet (c.land-in-Back.ensures.goes f.there.script
-        c.self.invariant.back_way.stands)).walk.walked
+    c.self.invariant.back_way.stands)).walk.walked

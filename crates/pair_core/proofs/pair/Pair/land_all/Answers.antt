@@ -28,7 +28,7 @@ loop-preserved c =
       pair = now;
       landed = (item-turn plan c.args.way c.args.self.now.counts c.loop.self.counts c.land.new.self.counts inv.landed
           counts none (few-in c.args.self.now c.land.new.self c.args.way now c.land.ensures.fits
-              c.land.ensures.walked)).0;
+          c.land.ensures.walked)).0;
       rows = record {
         there = c.land.ensures.rows.there ∙ inv.rows.there;
         back = c.land.ensures.rows.back ∙ inv.rows.back;
