@@ -3,7 +3,7 @@
 use Rattle.std.specs.Prelude.{◌≡◌, ℕ, zero, suc, ◌+◌, ◌-◌, ◌<◌, ◌≤◌, ◌==◌, nat_le, if◌then◌else◌, true, false, List, []}
 use Rattle.std.specs.Prelude.{◌∷◌, ◌++◌, length, map, take, drop, sum_by, Option, Some, None}
 use Rattle.std.specs.List.{flat_map}
-use Rattle.session_model.specs.Piece.{with_header, scrambled_areas}
+use Rattle.session_model.specs.Piece.{areas_stream}
 use Rattle.session_model.specs.Segment.{StreamRow, Segment, segments}
 use Rattle.linear_model.specs.declared.Cut.{Cut}
 use Rattle.linear_model.specs.Linear.{linear_area, LinearOutcome, linear_outcomes}
@@ -22,7 +22,7 @@ area_of (client cid frame) = linear_area cid frame
 
 -- the octets of pieces on the stream
 abbrev pub linear_stream : List LinearPiece → List ℕ
-linear_stream pieces = flat_map with_header (scrambled_areas (map area_of pieces))
+linear_stream pieces = areas_stream (map area_of pieces)
 
 -- how many they are
 abbrev pub size_of : LinearPiece → ℕ

@@ -1,7 +1,7 @@
 -- The laws of octets cut at lengths, and of areas joined to one list.
 use Rattle.std.proofs.Common.{◌≡◌, ℕ, suc, ◌+◌, ◌≤◌, List, [], ◌∷◌, ◌++◌, length, map, take, drop, sum, refl, sym, ◌∙◌}
 use Rattle.std.proofs.Common.{ap, ap₂, arith, append_assoc}
-use Rattle.std.proofs.lemmas.List.{length-append, length-take, length-drop, take_at, drop_at, take-append-le}
+use Rattle.std.proofs.lemmas.List.{append-nil, length-append, length-take, length-drop, take_at, drop_at, take-append-le}
 use Rattle.std.proofs.lemmas.List.{drop-append-le, drop-drop, take_all}
 use Rattle.std.proofs.Math.Seq.{take-add}
 use Rattle.std.proofs.lemmas.List.Sums.{sum_by-cons}
@@ -14,6 +14,9 @@ sum-cons x xs = sum_by-cons (λ y. y) x xs
 -- ---- areas joined
 pub joined-append : (areas more : List (List ℕ)) → joined (areas ++ more) ≡ joined areas ++ joined more
 joined-append areas more = flat_map-append (λ area. area) areas more
+
+pub joined-push : (areas : List (List ℕ)) (area : List ℕ) → joined (areas ++ area ∷ []) ≡ joined areas ++ area
+joined-push areas area = joined-append areas (area ∷ []) ∙ ap (λ l. joined areas ++ l) (append-nil area)
 
 pub length-joined : (areas : List (List ℕ)) → length (joined areas) ≡ sum (map length areas)
 length-joined [] = refl

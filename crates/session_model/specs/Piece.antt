@@ -32,9 +32,13 @@ scrambled_areas areas = cut (map length areas) (scrambled_octets (joined areas))
 abbrev pub with_header : List ℕ → List ℕ
 with_header area = core_header (length area) ++ area
 
--- the octets of pieces on the stream
+-- the octets of areas on the stream
+abbrev pub areas_stream : List (List ℕ) → List ℕ
+areas_stream areas = flat_map with_header (scrambled_areas areas)
+
+-- those of pieces
 abbrev pub stream_of : List Piece → List ℕ
-stream_of pieces = flat_map with_header (scrambled_areas (map area_of pieces))
+stream_of pieces = areas_stream (map area_of pieces)
 
 -- the number of octets that a piece has on the stream
 abbrev pub size_of : Piece → ℕ
