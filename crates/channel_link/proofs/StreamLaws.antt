@@ -4,7 +4,8 @@ use Rattle.std.proofs.Common.{length-append, length-take-le}
 use Rattle.linear_model.specs.Channels.{Channels}
 use Rattle.linear_model.specs.Stream.{Shared, linear_stream, reached, unsent, stream_to}
 use Rattle.gfp_linear.specs.Queue.{Queued}
-use Rattle.gfp_linear.specs.Filler.{Sender, Stands, HasWritten}
+use Rattle.gfp_fill.specs.Areas.{Sender}
+use Rattle.gfp_linear.specs.Filler.{Stands, HasWritten}
 use Rattle.gfp_linear.proofs.ReachLaws.{reached-fewest}
 use Rattle.gfp_linear.proofs.StreamSteps.{long, written-both, written-none}
 

@@ -3,7 +3,7 @@ use Rattle.std.specs.Prelude.{ℕ, ◌+◌, ◌-◌, ◌*◌, ◌<◌, ◌≤◌
 use Rattle.std.specs.Prelude.{length, map, take, drop, replicate, All}
 use Rattle.std.specs.List.{flat_map}
 use Rattle.session_model.specs.Core.{head}
-use Rattle.session_model.specs.Piece.{with_header, scrambled_areas}
+use Rattle.session_model.specs.Piece.{areas_stream}
 use Rattle.session_model.specs.Outcome.{outcomes_with}
 use Rattle.remainder.specs.Count.{count}
 use Rattle.fcs_model.specs.Near.{near}
@@ -11,7 +11,7 @@ use Rattle.fcs_model.specs.Fcs.{fcs_area, fcs_outcome, frame_in}
 
 -- two idles, and then the frames
 abbrev pub fcs_stream : List (List ℕ) → List ℕ
-fcs_stream frames = flat_map with_header (scrambled_areas ([] ∷ [] ∷ map fcs_area frames))
+fcs_stream frames = areas_stream ([] ∷ [] ∷ map fcs_area frames)
 
 pub record IsFrame (frame : List ℕ) : Type 0 where
   pub least : 64 ≤ length frame

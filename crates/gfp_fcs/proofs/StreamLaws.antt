@@ -1,15 +1,12 @@
 -- The stream with one frame more.
 use Rattle.std.proofs.Common.{◌≡◌, ℕ, ◌+◌, List, [], ◌∷◌, ◌++◌, length, map, take, drop, sym, ◌∙◌, ap, ap₂, arith}
-use Rattle.std.proofs.Common.{append-nil, append_assoc, length-append}
-use Rattle.std.specs.List.{flat_map}
+use Rattle.std.proofs.Common.{append_assoc, length-append}
 use Rattle.std.proofs.lemmas.List.{map-append, take_at, drop_at}
-use Rattle.std.proofs.lemmas.List.Concat.{flat_map-append}
 use Rattle.session_model.specs.Core.{core_header}
-use Rattle.session_model.specs.Piece.{joined, with_header}
+use Rattle.session_model.specs.Piece.{joined, areas_stream}
 use Rattle.session_model.specs.Scramble.{scrambled_octets}
-use Rattle.session_model.proofs.AreaLaws.{scrambled_behind, scrambled_behind-append, scrambled_behind-single}
-use Rattle.session_model.proofs.AreaLaws.{length-scrambled_single}
-use Rattle.session_model.proofs.CutLaws.{joined-append}
+use Rattle.session_model.proofs.CutLaws.{joined-push}
+use Rattle.session_model.proofs.StreamLaws.{areas_stream-push}
 use Rattle.session_model.proofs.ScrambledOctets.{length-scrambled_octets}
 use Rattle.fcs_model.specs.Fcs.{fcs_area}
 use Rattle.flip_law.specs.Flipped.{fcs_stream}
@@ -17,9 +14,7 @@ use Rattle.flip_law.specs.Flipped.{fcs_stream}
 pub areas-more : (frames : List (List ℕ)) (frame : List ℕ)
     → joined (map fcs_area (frames ++ frame ∷ [])) ≡ joined (map fcs_area frames) ++ fcs_area frame
 areas-more frames frame =
-    ap joined (map-append fcs_area frames (frame ∷ []))
-    ∙ joined-append (map fcs_area frames) (fcs_area frame ∷ [])
-    ∙ ap (λ l. joined (map fcs_area frames) ++ l) (append-nil (fcs_area frame))
+    ap joined (map-append fcs_area frames (frame ∷ [])) ∙ joined-push (map fcs_area frames) (fcs_area frame)
 
 -- a piece of a scrambled list is as long as what it is of
 pub length-piece : (before more piece : List ℕ)
@@ -39,30 +34,15 @@ module _ (frames : List (List ℕ)) (frame head area : List ℕ)
     (scrambles : scrambled_octets (joined (map fcs_area frames) ++ fcs_area frame)
     ≡ scrambled_octets (joined (map fcs_area frames)) ++ area)
     (is : head ≡ core_header (length (fcs_area frame))) where
-  areas : List (List ℕ)
-  areas = [] ∷ [] ∷ map fcs_area frames
-
-  before : List ℕ
-  before = joined (map fcs_area frames)
-
-  last : drop (length before) (scrambled_octets (before ++ fcs_area frame)) ≡ area
-  unfolding before
-  last =
-      ap (drop (length before)) scrambles
-      ∙ drop_at (scrambled_octets before) area (length before) (length-scrambled_octets before)
-
   pub stream-more : fcs_stream (frames ++ frame ∷ []) ≡ fcs_stream frames ++ (head ++ area)
-  unfolding areas before
   stream-more =
-      ap (λ l. flat_map with_header (scrambled_behind [] ([] ∷ [] ∷ l))) (map-append fcs_area frames (frame ∷ []))
-      ∙ ap (flat_map with_header) (scrambled_behind-append [] areas (fcs_area frame ∷ [])
-      ∙ ap (λ l. scrambled_behind [] areas ++ l) (scrambled_behind-single before (fcs_area frame)))
-      ∙ flat_map-append with_header (scrambled_behind [] areas)
-      (drop (length before) (scrambled_octets (before ++ fcs_area frame)) ∷ [])
-      ∙ ap (λ l. fcs_stream frames ++ l)
-      (append-nil (with_header (drop (length before) (scrambled_octets (before ++ fcs_area frame))))
-      ∙ ap₂ (λ a b. a ++ b)
-      (ap core_header (length-scrambled_single before (fcs_area frame)) ∙ sym is) last)
+      let before : List ℕ = joined (map fcs_area frames) in
+      let last : drop (length before) (scrambled_octets (before ++ fcs_area frame)) ≡ area =
+      ap (drop (length before)) scrambles
+      ∙ drop_at (scrambled_octets before) area (length before) (length-scrambled_octets before) in
+      ap (λ l. areas_stream ([] ∷ [] ∷ l)) (map-append fcs_area frames (frame ∷ []))
+      ∙ areas_stream-push ([] ∷ [] ∷ map fcs_area frames) (fcs_area frame)
+      ∙ ap (λ l. fcs_stream frames ++ l) (ap₂ ◌++◌ (sym is) last)
 
 -- what is written of it are its core header and its area
 pub taken : (n : ℕ) (head area rest : List ℕ) → length head ≡ 4 → length area ≡ n + 8

@@ -1,19 +1,13 @@
--- Idle frames, one after another, and what stands after them.
-use Rattle.std.proofs.Common.{◌≡◌, ℕ, zero, suc, ◌+◌, ◌-◌, ◌*◌, ◌/◌, ◌%◌, ◌<◌, List, [], ◌∷◌, ◌++◌, length, take, drop}
-use Rattle.std.proofs.Common.{refl, sym, ◌∙◌, ap, ap₂, arith, append_assoc, length-append, inl, inr}
-use Rattle.std.proofs.lemmas.Bool.{cases_lt}
-use Rattle.std.proofs.lemmas.List.{append-nil, take_at, drop_at, take-append-drop, take-append-le, drop-append-le}
-use Rattle.std.proofs.lemmas.List.{take_all, drop_all, length-drop}
+-- Idle frames, one after another.
+use Rattle.std.proofs.Common.{◌≡◌, ℕ, zero, suc, ◌+◌, ◌-◌, ◌*◌, ◌/◌, ◌%◌, List, [], ◌∷◌, ◌++◌, length, take, refl, sym}
+use Rattle.std.proofs.Common.{◌∙◌, ap, ap₂, arith, append_assoc, length-append}
+use Rattle.std.proofs.lemmas.List.{append-nil, take_at}
 use Rattle.remainder.specs.Bits.{octets_of}
 use Rattle.session_model.specs.Scramble.{scrambled_octets}
 use Rattle.session_model.specs.Core.{core_header}
-use Rattle.session_model.specs.Piece.{stream_of, idle, cut}
-use Rattle.session_model.specs.Client.{Stream, reached}
+use Rattle.session_model.specs.Piece.{areas_stream, cut}
 use Rattle.session_model.proofs.CoreLaws.{length-core_header}
 use Rattle.session_model.proofs.IdleLaws.{idle_header, core_header-idle, idles, idles-suc}
-use Rattle.gfp_fill.specs.Queue.{Held}
-use Rattle.gfp_fill.specs.Stream.{Sender, head_of, Stands, HasWritten}
-use Rattle.gfp_fill.proofs.StreamSteps.{idle_written, written-both}
 
 -- one more in front
 idles-front : (n : ℕ) → idles (suc n) ≡ core_header 0 ++ idles n
@@ -68,55 +62,7 @@ idles-rest n octets are =
     ∙ (let e : 16 * (n / 16) + rest ≡ n = omega arith in ap idles e)
 
 -- the two idles at the start, and no octets of areas
-pub two_idles : stream_of (idle ∷ idle ∷ []) ≡ (idle_header ++ idle_header) ++ scrambled_octets []
+pub two_idles : areas_stream ([] ∷ [] ∷ []) ≡ (idle_header ++ idle_header) ++ scrambled_octets []
 unfolding cut octets_of
 two_idles = idles-front 1 ∙ ap (λ l. core_header 0 ++ l) (idles-front 0 ∙ append-nil (core_header 0))
     ∙ ap (λ l. l ++ l) core_header-idle
-
--- octets of idles are written, where no frame waits; of the last idle fewer than four octets are left
-pub idles_written : (n : ℕ) (s t : Sender) (queue : Held) (stream : Stream) (place : ℕ) (octets head : List ℕ) →
-    Stands s queue stream place
-    → head_of s ≡ [] → queue.begun ≡ [] → queue.waiting ≡ [] → idles n ≡ octets ++ head → head_of t ≡ head →
-    length head < 4 → 0 < length octets → t.scrambler ≡ s.scrambler
-    → HasWritten t queue stream place octets
-idles_written zero s t queue stream place octets head stands done begun waits are left few some scrambler =
-    absurd (omega (arith, ap length are, length-append octets head))
-idles_written (suc n) s t queue stream place octets head stands done begun waits are left few some scrambler =
-    let core = core_header 0 in
-    let four = length-core_header 0 in
-    let split : core ++ idles n ≡ octets ++ head = sym (idles-front n) ∙ are in
-    let sizes : 4 + 4 * n ≡ length octets + length head =
-    omega (
-      arith,
-      ap length split,
-      length-append core (idles n),
-      length-append octets head,
-      four,
-      length-idles n,
-    ) in
-    elim (cases_lt 4 (length octets)) [
-      | inl more ↦
-          let front : take 4 octets ≡ core = sym (take-append-le 4 octets head (omega arith)) ∙ ap (take 4) (sym split)
-          ∙ take_at core (idles n) 4 four in
-          let rest : idles n ≡ drop 4 octets ++ head = sym (drop_at core (idles n) 4 four) ∙ ap (drop 4) split
-          ∙ drop-append-le 4 octets head (omega arith) in
-          let both : core ++ drop 4 octets ≡ octets = ap (λ l. l ++ drop 4 octets) (sym front)
-          ∙ take-append-drop 4 octets in
-          let one : HasWritten s queue stream place core =
-          idle_written s s queue stream place 4 core stands done begun waits (omega arith) (omega arith)
-          (sym (take_all 4 core (omega arith))) (done ∙ sym (drop_all 4 core (omega arith))) refl in
-          let others = idles_written n s t queue (reached (place + length core) stream) (place + length core)
-          (drop 4 octets) head one.stands done begun waits rest left few
-          (omega (arith, length-drop 4 octets)) scrambler in
-          rw both at (written-both s t queue queue stream place core (drop 4 octets) one others)
-      | inr less ↦
-          let last : n ≡ 0 = omega arith in
-          let whole : octets ++ head ≡ core = sym split ∙ ap (λ k. core ++ idles k) last ∙ append-nil core in
-          idle_written s t queue stream place (length octets) octets stands done begun waits some (omega arith)
-          (sym (ap (take (length octets)) (sym whole) ∙ take_at octets head (length octets) refl))
-          (left ∙ sym (ap (drop (length octets)) (sym whole) ∙ drop_at octets head (length octets) refl)) scrambler
-    ]
-
--- octets of one idle, and those of it that are left
-pub first_of_idle : (n : ℕ) → idles 1 ≡ take n idle_header ++ drop n idle_header
-first_of_idle n = idles-front 0 ∙ append-nil (core_header 0) ∙ core_header-idle ∙ sym (take-append-drop n idle_header)

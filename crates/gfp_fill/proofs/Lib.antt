@@ -1,3 +1,4 @@
+pub mod AreaSteps
 pub mod StreamLaws
 pub mod StreamSteps
 mod IdleLaws

@@ -1,352 +1,149 @@
 -- What one step of a fill does to what stands, and how steps follow one another.
-use Rattle.std.proofs.Common.{◌≡◌, ℕ, ◌+◌, ◌<◌, ◌≤◌, List, [], ◌∷◌, ◌++◌, length, map, take, drop, refl, sym, ap, ap₂}
-use Rattle.std.proofs.Common.{subst, ◌∙◌, arith, append_assoc, length-append, length-take-le, length-drop}
-use Rattle.std.proofs.Math.Seq.{take-add, take-append-add}
-use Rattle.std.proofs.lemmas.List.{append-nil, map-append, take_at, drop_at, drop_all, take-append-drop, take-append-le}
-use Rattle.std.proofs.lemmas.List.{drop-append-le, drop-drop}
-use Rattle.std.proofs.lemmas.List.Sums.{sum-map}
-use Rattle.session_model.specs.Scramble.{scrambled_octets}
-use Rattle.session_model.specs.Core.{core_header}
+use Rattle.std.proofs.Common.{◌≡◌, ℕ, zero, suc, ◌+◌, ◌*◌, ◌<◌, ◌≤◌, List, [], ◌∷◌, ◌++◌, length, map, replicate, refl}
+use Rattle.std.proofs.Common.{sym, ap, ap₂, subst, ◌∙◌, arith, append_assoc, length-append}
+use Rattle.std.proofs.lemmas.List.{append-nil, map-append}
+use Rattle.std.proofs.lemmas.List.Sums.{sum-map, sum_by-append}
 use Rattle.session_model.specs.TypeHeader.{type_header}
 use Rattle.session_model.specs.Piece.{Piece, idle, client, area_of, joined, size_of, stream_of}
 use Rattle.session_model.specs.Client.{size, Stream, next_by, reached}
-use Rattle.session_model.proofs.CutLaws.{joined-append}
-use Rattle.session_model.proofs.ScrambledOctets.{length-scrambled_octets, scrambled_octets-append}
-use Rattle.session_model.proofs.StreamLaws.{stream_behind, stream_of-append, stream_of-push, length-stream_of}
+use Rattle.session_model.proofs.StreamLaws.{stream_behind, stream_of-append, length-stream_of}
 use Rattle.session_model.proofs.ReachLaws.{reaching-here, reached-next, reached-join, reached-fewest}
-use Rattle.gfp_scramble.specs.Scrambler.{Stands as HasScrambled, Continues, ScramblesTo}
+use Rattle.gfp_fill.specs.Areas.{Sender, head_of, StandsIn, HasWrittenIn}
 use Rattle.gfp_fill.specs.Queue.{Held}
-use Rattle.gfp_fill.specs.Stream.{Sender, head_of, Stands, HasWritten}
+use Rattle.gfp_fill.specs.Stream.{Stands, HasWritten}
+use Rattle.gfp_fill.proofs.AreaSteps.{one_left, all_written, map-replicate, next-both}
 
 -- a stream has as many octets as its pieces count
 pub long : (pieces : List Piece) → length (stream_of pieces) ≡ size pieces
 long pieces = length-stream_of pieces ∙ sum-map size_of pieces
 
--- ---- a filler and a place in a stream tell the queue
--- how many octets are left of the pieces that are begun
-octets_left : (sender : Sender) (queue : Held) (stream : Stream) (place : ℕ) → Stands sender queue stream place →
-    length (drop place (stream_of stream.pieces)) ≡ length (head_of sender) + length queue.begun
-octets_left sender queue stream place stands =
-    let all : List ℕ = stands.given ++ queue.begun in
-    let area : List ℕ = drop (length stands.given) (scrambled_octets all) in
-    let size : length area ≡ length queue.begun =
-    omega (
-      arith,
-      length-drop (length stands.given) (scrambled_octets all),
-      length-scrambled_octets all,
-      length-append stands.given queue.begun,
-    ) in
-    ap length stands.rest ∙ length-append (head_of sender) area ∙ ap (λ n. length (head_of sender) + n) size
-
--- two lists that are alike end alike
-same_end : (a b c d : List ℕ) → a ++ b ≡ c ++ d → length b ≡ length d → b ≡ d
-same_end a b c d e size =
-    let front : length a ≡ length c = omega (arith, ap length e, length-append a b, length-append c d, size) in
-    sym (drop_at a b (length c) front) ∙ ap (drop (length c)) e ∙ drop_at c d (length c) refl
-
+-- a filler and a place in a stream tell the queue
 pub one_queue : (sender : Sender) (queue other : Held) (stream : Stream) (place : ℕ) →
     Stands sender queue stream place → Stands sender other stream place → other ≡ queue
 one_queue sender queue other stream place one two =
-    let size : length other.begun ≡ length queue.begun =
-    omega (arith, octets_left sender queue stream place one, octets_left sender other stream place two) in
     let made : List (List ℕ) → List ℕ → Held = λ waiting begun. record { waiting = waiting; begun = begun } in
     ap₂ made (two.waits ∙ sym one.waits)
-    (same_end two.given other.begun one.given queue.begun (sym two.areas ∙ one.areas) size)
+    (one_left sender queue.begun other.begun (map area_of stream.pieces) place one.octets two.octets)
 
--- ---- octets of pieces that are begun are written
-part_written : (stream : Stream) (place n : ℕ) (sender : Sender) (queue : Held) (rest octets : List ℕ)
-    → place ≤ size stream.pieces → drop place (stream_of stream.pieces) ≡ rest → n ≤ length rest → octets ≡ take n rest
-    → (place + n ≤ size stream.pieces → Stands sender queue stream (place + n)) →
-    HasWritten sender queue stream place octets
-part_written stream place n sender queue rest octets within is fits part stands =
-    let count : length octets ≡ n = ap length part ∙ length-take-le n rest fits in
-    let reach : place + n ≤ size stream.pieces =
-    omega (arith, ap length is, length-drop place (stream_of stream.pieces), long stream.pieces) in
-    let same : reached (place + n) stream ≡ stream = reaching-here (place + n) (place + n) stream reach in
-    record {
-      stands = rw (count, same) (stands reach);
-      next = rw (count, same) (part ∙ ap (take n) (sym is));
-    }
+-- ---- one step
+-- octets of pieces that are begun, where these are the fewest that reach the place after them
+written_by : (sender : Sender) (queue : Held) (stream after : Stream) (place : ℕ) (octets : List ℕ) →
+    reached (place + length octets) stream ≡ after → queue.waiting ≡ after.waiting
+    → HasWrittenIn sender queue.begun (map area_of after.pieces) place octets
+    → HasWritten sender queue stream place octets
+written_by sender queue stream after place octets same waits written = record {
+  stands = rw same (record { waits = waits; octets = written.stands });
+  next = rw same written.next;
+}
 
--- octets of headers
-pub head_written : (s t : Sender) (queue : Held) (stream : Stream) (place n : ℕ) (octets : List ℕ) →
-    Stands s queue stream place
-    → n ≤ length (head_of s) → octets ≡ take n (head_of s) → head_of t ≡ drop n (head_of s) → t.scrambler ≡ s.scrambler
-    → HasWritten t queue stream place octets
-head_written s t queue stream place n octets stands fits part head scrambler =
-    let area : List ℕ = drop (length stands.given) (scrambled_octets (stands.given ++ queue.begun)) in
-    part_written stream place n t queue (head_of s ++ area) octets stands.within stands.rest
-    (omega (arith, length-append (head_of s) area))
-    (part ∙ sym (take-append-le n (head_of s) area fits))
-    (λ reach. record {
-      waits = stands.waits;
-      within = reach;
-      given = stands.given;
-      scrambled = subst (λ scrambling. HasScrambled scrambling stands.given) (sym scrambler) stands.scrambled;
-      areas = stands.areas;
-      rest = sym (drop-drop n place (stream_of stream.pieces)) ∙ ap (drop n) stands.rest
-          ∙ drop-append-le n (head_of s) area fits ∙ ap (λ l. l ++ area) (sym head);
-    })
-
--- octets that are scrambled in two parts
-two_parts : (given first rest octets : List ℕ) → scrambled_octets (given ++ first) ≡ scrambled_octets given ++ octets
-    → drop (length given) (scrambled_octets (given ++ (first ++ rest))) ≡ octets ++ drop (length (given ++ first))
-    (scrambled_octets ((given ++ first) ++ rest))
-two_parts given first rest octets is =
-    let more : List ℕ = drop (length (given ++ first)) (scrambled_octets ((given ++ first) ++ rest)) in
-    ap (λ l. drop (length given) (scrambled_octets l)) (sym (append_assoc given first rest))
-    ∙ ap (drop (length given)) (scrambled_octets-append (given ++ first) rest ∙ ap (λ l. l ++ more) is
-    ∙ append_assoc (scrambled_octets given) octets more)
-    ∙ drop_at (scrambled_octets given) (octets ++ more) (length given) (length-scrambled_octets given)
-
-as_many : (given first octets : List ℕ) → scrambled_octets (given ++ first) ≡ scrambled_octets given ++ octets →
-    length octets ≡ length first
-as_many given first octets is =
-    omega (
-      arith,
-      ap length is,
-      length-append (scrambled_octets given) octets,
-      length-scrambled_octets (given ++ first),
-      length-scrambled_octets given,
-      length-append given first,
-    )
-
--- octets of the frame that is being sent
-pub frame_written : (s t : Sender) (queue rest : Held) (stream : Stream) (place n : ℕ) (octets : List ℕ) →
-    Stands s queue stream place
-    → head_of s ≡ [] → head_of t ≡ [] → n ≤ length queue.begun → rest.begun ≡ drop n queue.begun →
-    rest.waiting ≡ queue.waiting
-    → ScramblesTo s.scrambler (take n queue.begun) octets → Continues s.scrambler t.scrambler (take n queue.begun)
-    → HasWritten t rest stream place octets
-frame_written s t queue rest stream place n octets stands none done fits left waits scrambled continues =
-    let given = stands.given in
-    let first = take n queue.begun in
-    let both : first ++ drop n queue.begun ≡ queue.begun = take-append-drop n queue.begun in
-    let is = scrambled given stands.scrambled in
-    let count : length octets ≡ n = as_many given first octets is ∙ length-take-le n queue.begun fits in
-    let more : List ℕ = drop (length (given ++ first)) (scrambled_octets ((given ++ first) ++ drop n queue.begun)) in
-    let all : drop place (stream_of stream.pieces) ≡ octets ++ more =
-    stands.rest ∙ ap (λ head. head ++ drop (length given) (scrambled_octets (given ++ queue.begun))) none
-    ∙ ap (λ l. drop (length given) (scrambled_octets (given ++ l))) (sym both)
-    ∙ two_parts given first (drop n queue.begun) octets is in
-    part_written stream place n t rest (octets ++ more) octets stands.within all
-    (omega (arith, length-append octets more))
-    (sym (take_at octets more n count))
-    (λ reach. record {
-      waits = waits ∙ stands.waits;
-      within = reach;
-      given = given ++ first;
-      scrambled = continues given stands.scrambled;
-      areas = stands.areas ∙ ap (λ l. given ++ l) (sym both) ∙ sym (append_assoc given first (drop n queue.begun))
-          ∙ ap (λ l. (given ++ first) ++ l) (sym left);
-      rest = sym (drop-drop n place (stream_of stream.pieces)) ∙ ap (drop n) all ∙ drop_at octets more n count
-          ∙ ap₂ (λ head l. head ++ drop (length (given ++ first)) (scrambled_octets ((given ++ first) ++ l))) (sym done)
-          (sym left);
-    })
-
--- ---- the next piece is begun
--- the areas of pieces with one more
-areas-push : (pieces : List Piece) (piece : Piece) →
-    joined (map area_of (pieces ++ piece ∷ [])) ≡ joined (map area_of pieces) ++ area_of piece
-areas-push pieces piece =
-    ap joined (map-append area_of pieces (piece ∷ [])) ∙ joined-append (map area_of pieces) (area_of piece ∷ [])
-    ∙ ap (λ l. joined (map area_of pieces) ++ l) (append-nil (area_of piece))
+-- those that are begun already
+pub here_written : (sender : Sender) (queue : Held) (stream : Stream) (place : ℕ) (octets : List ℕ) →
+    queue.waiting ≡ stream.waiting → HasWrittenIn sender queue.begun (map area_of stream.pieces) place octets
+    → HasWritten sender queue stream place octets
+here_written sender queue stream place octets waits written =
+    let end = place + length octets in
+    written_by sender queue stream stream place octets
+    (reaching-here end end stream (omega (arith, written.stands.within, long stream.pieces))) waits written
 
 -- where all octets of the pieces are written, the place is at the end of the stream
-all_written : (s : Sender) (queue : Held) (stream : Stream) (place : ℕ) → Stands s queue stream place → head_of s ≡ [] →
-    queue.begun ≡ [] → place ≡ size stream.pieces
-all_written s queue stream place stands head begun =
-    let given = stands.given in
-    let none : drop place (stream_of stream.pieces) ≡ [] =
-    stands.rest ∙ ap₂ (λ h l. h ++ drop (length given) (scrambled_octets (given ++ l))) head begun
-    ∙ ap (λ l. drop (length given) (scrambled_octets l)) (append-nil given)
-    ∙ drop_all (length given) (scrambled_octets given) (omega (arith, length-scrambled_octets given)) in
-    omega (arith, ap length none, length-drop place (stream_of stream.pieces), long stream.pieces, stands.within)
+pub at_end : (sender : Sender) (queue : Held) (stream : Stream) (place : ℕ) → Stands sender queue stream place →
+    queue.begun ≡ [] → StandsIn sender [] (map area_of stream.pieces) place
+at_end sender queue stream place stands begun =
+    subst (λ left. StandsIn sender left (map area_of stream.pieces) place) begun stands.octets
 
--- the areas that were given are those of the pieces
-all_given : (s : Sender) (queue : Held) (stream : Stream) (place : ℕ) → (stands : Stands s queue stream place) →
-    queue.begun ≡ [] → joined (map area_of stream.pieces) ≡ stands.given
-all_given s queue stream place stands begun = stands.areas ∙ ap (λ l. stands.given ++ l) begun ∙ append-nil stands.given
+all_counted : (sender : Sender) (queue : Held) (stream : Stream) (place : ℕ) → Stands sender queue stream place →
+    queue.begun ≡ [] → head_of sender ≡ [] → place ≡ size stream.pieces
+all_counted sender queue stream place stands begun head =
+    all_written sender (map area_of stream.pieces) place (at_end sender queue stream place stands begun) head
+    ∙ long stream.pieces
 
--- the octets of one more piece
-one_more : (pieces : List Piece) (piece : Piece) (given : List ℕ) → joined (map area_of pieces) ≡ given
-    → drop (size pieces) (stream_of (pieces ++ piece ∷ [])) ≡ core_header (length (area_of piece)) ++ drop
-    (length given) (scrambled_octets (given ++ area_of piece))
-one_more pieces piece given is =
-    let octets : List ℕ = core_header (length (area_of piece)) ++ drop (length (joined (map area_of pieces)))
-    (scrambled_octets (joined (map area_of pieces) ++ area_of piece)) in
-    ap (drop (size pieces)) (stream_of-push pieces piece)
-    ∙ drop_at (stream_of pieces) octets (size pieces) (long pieces)
-    ∙ ap (λ l. core_header (length (area_of piece)) ++ drop (length l) (scrambled_octets (l ++ area_of piece))) is
-
-grows : (pieces : List Piece) (piece : Piece) → size pieces ≤ size (pieces ++ piece ∷ [])
-grows pieces piece =
-    omega (
-      arith,
-      long pieces,
-      long (pieces ++ piece ∷ []),
-      ap length (stream_of-append pieces (piece ∷ [])),
-      length-append (stream_of pieces) (stream_behind (joined (map area_of pieces)) (piece ∷ [])),
-    )
-
--- a frame
-client_at : (s t : Sender) (queue rest : Held) (stream : Stream) (place : ℕ) → (stands : Stands s queue stream place) →
-    head_of s ≡ [] → queue.begun ≡ []
-    → stream.waiting ≡ rest.begun ∷ rest.waiting → take 4 (head_of t) ≡ core_header (4 + length rest.begun)
-    → ScramblesTo s.scrambler type_header (drop 4 (head_of t)) → Continues s.scrambler t.scrambler type_header
-    → Stands t rest (record { pieces = stream.pieces ++ client rest.begun ∷ []; waiting = rest.waiting }) place
-client_at s t queue rest stream place stands head begun waits core scrambled continues =
-    let given = stands.given in
-    let frame = rest.begun in
-    let pieces = stream.pieces in
-    let area = all_given s queue stream place stands begun in
-    let place_is = all_written s queue stream place stands head begun in
-    let more : List ℕ = drop (length (given ++ type_header)) (scrambled_octets ((given ++ type_header) ++ frame)) in
-    let size : length (type_header ++ frame) ≡ 4 + length frame = omega arith in
-    record {
-      waits = refl;
-      within = omega (arith, grows pieces (client frame));
-      given = given ++ type_header;
-      scrambled = continues given stands.scrambled;
-      areas = areas-push pieces (client frame) ∙ ap (λ l. l ++ (type_header ++ frame)) area
-          ∙ sym (append_assoc given type_header frame);
-      rest = ap (λ p. drop p (stream_of (pieces ++ client frame ∷ []))) place_is
-          ∙ one_more pieces (client frame) given area
-          ∙ ap₂ ◌++◌ (ap core_header size ∙ sym core)
-          (two_parts given type_header frame (drop 4 (head_of t)) (scrambled given stands.scrambled))
-          ∙ sym (append_assoc (take 4 (head_of t)) (drop 4 (head_of t)) more)
-          ∙ ap (λ l. l ++ more) (take-append-drop 4 (head_of t));
-    }
-
--- an idle
-idle_at : (s t : Sender) (queue : Held) (stream : Stream) (place : ℕ) → (stands : Stands s queue stream place) →
-    head_of s ≡ [] → queue.begun ≡ []
-    → queue.waiting ≡ [] → head_of t ≡ core_header 0 → t.scrambler ≡ s.scrambler
-    → Stands t queue (record { pieces = stream.pieces ++ idle ∷ []; waiting = [] }) place
-idle_at s t queue stream place stands head begun waits core scrambler =
-    let given = stands.given in
-    let pieces = stream.pieces in
-    let area = all_given s queue stream place stands begun in
-    let place_is = all_written s queue stream place stands head begun in
-    record {
-      waits = waits;
-      within = omega (arith, grows pieces idle);
-      given = given;
-      scrambled = subst (λ scrambling. HasScrambled scrambling given) (sym scrambler) stands.scrambled;
-      areas = areas-push pieces idle ∙ ap₂ (λ a b. a ++ b) area (sym begun);
-      rest = ap (λ p. drop p (stream_of (pieces ++ idle ∷ []))) place_is ∙ one_more pieces idle given area
-          ∙ ap₂ (λ h l. h ++ drop (length given) (scrambled_octets (given ++ l))) (sym core) (sym begun);
-    }
-
--- what is written after a piece that was begun
-next_written : (sender : Sender) (queue : Held) (stream : Stream) (place : ℕ) (octets : List ℕ) →
-    place ≡ size stream.pieces → 0 < length octets
-    → HasWritten sender queue (next_by stream.waiting stream.pieces) place octets →
-    HasWritten sender queue stream place octets
-next_written sender queue stream place octets end some written =
-    let same : reached (place + length octets) stream ≡ reached (place + length octets)
-    (next_by stream.waiting stream.pieces) = reached-next (place + length octets) stream (omega arith) in
-    record { stands = rw same written.stands; next = rw same written.next }
-
--- the headers of a frame that waits, and octets of them
-pub client_written : (s b t : Sender) (queue rest : Held) (stream : Stream) (place n : ℕ) (octets : List ℕ) →
-    Stands s queue stream place → head_of s ≡ [] → queue.begun ≡ []
-    → queue.waiting ≡ rest.begun ∷ rest.waiting → take 4 (head_of b) ≡ core_header (4 + length rest.begun)
-    → ScramblesTo s.scrambler type_header (drop 4 (head_of b)) → Continues s.scrambler b.scrambler type_header
-    → 0 < n → n ≤ length (head_of b) → octets ≡ take n (head_of b) → head_of t ≡ drop n (head_of b) →
-    t.scrambler ≡ b.scrambler
+-- headers of a frame that waits
+pub client_written : (s t : Sender) (queue rest : Held) (stream : Stream) (place : ℕ) (octets : List ℕ) →
+    Stands s queue stream place → head_of s ≡ [] → queue.begun ≡ [] → queue.waiting ≡ rest.begun ∷ rest.waiting
+    → 0 < length octets
+    → HasWrittenIn t rest.begun (map area_of stream.pieces ++ (type_header ++ rest.begun) ∷ []) place octets
     → HasWritten t rest stream place octets
-client_written s b t queue rest stream place n octets stands head begun waits core scrambled continues some fits part
-    left scrambler =
-    let front : stream.waiting ≡ rest.begun ∷ rest.waiting = sym stands.waits ∙ waits in
-    let count : length octets ≡ n = ap length part ∙ length-take-le n (head_of b) fits in
-    let next : next_by stream.waiting stream.pieces
-    ≡ record { pieces = stream.pieces ++ client rest.begun ∷ []; waiting = rest.waiting } =
-    ap (λ l. next_by l stream.pieces) front in
-    next_written t rest stream place octets (all_written s queue stream place stands head begun) (omega arith)
-    (rw next
-    (head_written b t rest (record { pieces = stream.pieces ++ client rest.begun ∷ []; waiting = rest.waiting }) place n
-    octets
-    (client_at s b queue rest stream place stands head begun front core scrambled continues) fits part left scrambler))
+client_written s t queue rest stream place octets stands head begun waits some written =
+    let end = place + length octets in
+    let at = all_counted s queue stream place stands begun head in
+    let pieces : List Piece = stream.pieces ++ client rest.begun ∷ [] in
+    let after : Stream = record { pieces = pieces; waiting = rest.waiting } in
+    let is : HasWrittenIn t rest.begun (map area_of pieces) place octets =
+    subst (λ areas. HasWrittenIn t rest.begun areas place octets)
+    (sym (map-append area_of stream.pieces (client rest.begun ∷ []))) written in
+    let next : next_by stream.waiting stream.pieces ≡ after =
+    ap (λ l. next_by l stream.pieces) (sym stands.waits ∙ waits) in
+    written_by t rest stream after place octets
+    (reached-next end stream (omega arith) ∙ ap (reached end) next
+    ∙ reaching-here end end after (omega (arith, is.stands.within, long pieces))) refl is
 
--- an idle, where none waits, and octets of it
-pub idle_written : (s t : Sender) (queue : Held) (stream : Stream) (place n : ℕ) (octets : List ℕ) →
-    Stands s queue stream place → head_of s ≡ [] → queue.begun ≡ []
-    → queue.waiting ≡ [] → 0 < n → n ≤ length (core_header 0) → octets ≡ take n (core_header 0) →
-    head_of t ≡ drop n (core_header 0) → t.scrambler ≡ s.scrambler
+-- the fewest pieces that reach a place where none waits are idles
+reached-idles : (n place : ℕ) (pieces : List Piece) → place ≤ size pieces + 4 * n → size pieces + 4 * n < place + 4 →
+    reached place (record { pieces = pieces; waiting = [] })
+    ≡ record { pieces = pieces ++ replicate n idle; waiting = [] }
+reached-idles zero place pieces within few =
+    reaching-here place place (record { pieces = pieces; waiting = [] }) (omega arith)
+    ∙ ap (λ ps. record { pieces = ps; waiting = [] }) (sym (append-nil pieces))
+reached-idles (suc n) place pieces within few =
+    let one : size (pieces ++ idle ∷ []) ≡ size pieces + 4 = sum_by-append size_of pieces (idle ∷ []) in
+    reached-next place (record { pieces = pieces; waiting = [] }) (omega arith)
+    ∙ reached-idles n place (pieces ++ idle ∷ []) (omega (arith, one)) (omega (arith, one))
+    ∙ ap (λ ps. record { pieces = ps; waiting = [] }) (append_assoc pieces (idle ∷ []) (replicate n idle))
+
+-- idles, where none waits
+pub idles_next : (s t : Sender) (queue : Held) (stream : Stream) (place n : ℕ) (octets : List ℕ) →
+    Stands s queue stream place → head_of s ≡ [] → queue.begun ≡ [] → queue.waiting ≡ [] → length octets ≤ 4 * n
+    → 4 * n < length octets + 4 → HasWrittenIn t [] (map area_of stream.pieces ++ replicate n []) place octets
     → HasWritten t queue stream place octets
-idle_written s t queue stream place n octets stands head begun waits some fits part left scrambler =
-    let b : Sender = record { headers = core_header 0; sent = 0; scrambler = s.scrambler } in
-    let front : stream.waiting ≡ [] = sym stands.waits ∙ waits in
-    let count : length octets ≡ n = ap length part ∙ length-take-le n (core_header 0) fits in
-    let next : next_by stream.waiting stream.pieces ≡ record { pieces = stream.pieces ++ idle ∷ []; waiting = [] } =
-    ap (λ l. next_by l stream.pieces) front in
-    next_written t queue stream place octets (all_written s queue stream place stands head begun) (omega arith)
-    (rw next
-    (head_written b t queue (record { pieces = stream.pieces ++ idle ∷ []; waiting = [] }) place n octets
-    (idle_at s b queue stream place stands head begun waits refl refl) fits part left scrambler))
+idles_next s t queue stream place n octets stands head begun waits within few written =
+    let end = place + length octets in
+    let at = all_counted s queue stream place stands begun head in
+    let pieces : List Piece = stream.pieces ++ replicate n idle in
+    let areas : map area_of stream.pieces ++ replicate n [] ≡ map area_of pieces =
+    sym (map-append area_of stream.pieces (replicate n idle)
+    ∙ ap (λ l. map area_of stream.pieces ++ l) (map-replicate area_of n idle)) in
+    written_by t queue stream (record { pieces = pieces; waiting = [] }) place octets
+    (ap (λ l. reached end (record { pieces = stream.pieces; waiting = l })) (sym stands.waits ∙ waits)
+    ∙ reached-idles n end stream.pieces (omega arith) (omega arith)) waits
+    (subst (λ left. HasWrittenIn t left (map area_of pieces) place octets) (sym begun)
+    (subst (λ l. HasWrittenIn t [] l place octets) areas written))
 
 -- ---- steps, one after another
--- octets in the first part of a list
-within-append : (n k : ℕ) (octets more : List ℕ) → n + k ≤ length octets →
-    take k (drop n (octets ++ more)) ≡ take k (drop n octets)
-within-append n k octets more within =
-    ap (take k) (drop-append-le n octets more (omega arith))
-    ∙ take-append-le k (drop n octets) more (omega (arith, length-drop n octets))
+octets_of : Stream → List ℕ
+octets_of stream = stream_of stream.pieces
 
--- octets that are written stand in the stream of a later place
-still_next : (stream : Stream) (place n later : ℕ) → place + n ≤ later
-    → take n (drop place (stream_of (reached later stream).pieces)) ≡ take n
-    (drop place (stream_of (reached (place + n) stream).pieces))
-still_next stream place n later more =
-    let sooner = reached (place + n) stream in
-    let fewest = reached-fewest later sooner in
-    let reach = (reached-fewest (place + n) stream).reach in
-    ap (λ s. take n (drop place (stream_of s.pieces))) (sym (reached-join (place + n) later stream more))
-    ∙ ap (λ l. take n (drop place (stream_of l))) fewest.follow
-    ∙ ap (λ l. take n (drop place l)) (stream_of-append sooner.pieces fewest.more)
-    ∙ within-append place n (stream_of sooner.pieces) (stream_behind (joined (map area_of sooner.pieces)) fewest.more)
-    (omega (arith, long sooner.pieces))
+reach : (place : ℕ) (stream : Stream) → place ≤ length (octets_of (reached place stream))
+unfolding octets_of
+reach place stream =
+    omega (arith, (reached-fewest place stream).reach, long (reached place stream).pieces)
+
+follow : (place : ℕ) (stream : Stream) →
+    (more : List ℕ) × (octets_of (reached place stream) ≡ octets_of stream ++ more)
+unfolding octets_of
+follow place stream =
+    let fewest = reached-fewest place stream in (
+      stream_behind (joined (map area_of stream.pieces)) fewest.more,
+      ap stream_of fewest.follow ∙ stream_of-append stream.pieces fewest.more,
+    )
 
 pub written-both : (s t : Sender) (queue rest : Held) (stream : Stream) (place : ℕ) (first more : List ℕ) →
     HasWritten s queue stream place first
     → HasWritten t rest (reached (place + length first) stream) (place + length first) more →
     HasWritten t rest stream place (first ++ more)
+unfolding octets_of
 written-both s t queue rest stream place first more one other =
-    let a = length first in
-    let b = length more in
-    let count : place + length (first ++ more) ≡ place + a + b = omega (arith, length-append first more) in
-    let size : length (first ++ more) ≡ a + b = length-append first more in
-    let same : reached (place + a + b) (reached (place + a) stream) ≡ reached (place + a + b) stream =
-    reached-join (place + a) (place + a + b) stream (omega arith) in
-    let octets : List ℕ = stream_of (reached (place + a + b) stream).pieces in
-    let front : first ≡ take a (drop place octets) = one.next
-    ∙ sym (still_next stream place a (place + a + b) (omega arith)) in
-    let back : more ≡ take b (drop (place + a) octets) = other.next
-    ∙ ap (λ s. take b (drop (place + a) (stream_of s.pieces))) same in
-    let cut : take (a + b) (drop place octets) ≡ take a (drop place octets) ++ take b (drop (place + a) octets) =
-    take-add a b (drop place octets) ∙ ap (λ l. take a (drop place octets) ++ take b l) (drop-drop a place octets) in
+    let at = place + length first in
+    let count : place + length (first ++ more) ≡ at + length more = omega (arith, length-append first more) in
+    let same : reached (at + length more) (reached at stream) ≡ reached (at + length more) stream =
+    reached-join at (at + length more) stream (omega arith) in
     record {
       stands = rw count (rw same at other.stands);
-      next = rw (count, size) (ap₂ ◌++◌ front back ∙ sym cut);
+      next = next-both octets_of reached reached-join reach follow stream place first more one.next other.next;
     }
 
 -- nothing is written
 pub written-none : (s : Sender) (queue : Held) (stream : Stream) (place : ℕ) → Stands s queue stream place →
     HasWritten s queue stream place []
 written-none s queue stream place stands =
-    part_written stream place 0 s queue (drop place (stream_of stream.pieces)) [] stands.within refl (omega arith) refl
-    (λ reach. let same : place + 0 ≡ place = omega arith in rw same stands)
-
--- what stands in the first part of a slice after a part of it was written
-pub take-written : (at n : ℕ) (out part back : List ℕ) → at ≤ length out → n ≤ length part →
-    take (at + n) (take at out ++ (part ++ back)) ≡ take at out ++ take n part
-take-written at n out part back within some =
-    let front = length-take-le at out within in
-    ap (λ k. take (k + n) (take at out ++ (part ++ back))) (sym front) ∙ take-append-add (take at out) (part ++ back) n
-    ∙ ap (λ octets. take at out ++ octets) (take-append-le n part back some)
-
--- octets of which there are none
-pub none_of : (octets : List ℕ) → length octets ≡ 0 → octets ≡ []
-none_of [] e = refl
-none_of (o ∷ octets) e = absurd (omega (arith, e))
+    let same : place + 0 ≡ place = omega arith in
+    here_written s queue stream place [] stands.waits (record { stands = rw same stands.octets; next = refl })

@@ -1,3 +1,4 @@
+pub mod Areas
 pub mod Queue
 pub mod Store
 pub mod Stream

@@ -1,9 +1,8 @@
 -- G.7041, frame multiplexing: which octets of the client's stream a filler and its queue have written.
-use Rattle.std.specs.Prelude.{◌≡◌, ℕ, ◌+◌, ◌-◌, ◌≤◌, List, [], ◌∷◌, ◌++◌, length, map, take, drop, replicate}
-use Rattle.session_model.specs.Scramble.{scrambled_octets}
-use Rattle.session_model.specs.Piece.{Piece, idle, client, area_of, joined, stream_of}
-use Rattle.session_model.specs.Client.{size, Stream, reached}
-use Rattle.gfp_scramble.specs.Scrambler.{Scrambling, Stands as HasScrambled}
+use Rattle.std.specs.Prelude.{◌≡◌, ℕ, ◌+◌, ◌-◌, List, [], ◌∷◌, ◌++◌, length, map, take, drop, replicate}
+use Rattle.session_model.specs.Piece.{Piece, idle, client, area_of, stream_of}
+use Rattle.session_model.specs.Client.{Stream, reached}
+use Rattle.gfp_fill.specs.Areas.{Sender, StandsIn}
 use Rattle.gfp_fill.specs.Queue.{Held}
 
 -- the first n of: the waiting frames in order, and then idles without end
@@ -14,27 +13,11 @@ next_pieces n waiting = map client (take n waiting) ++ replicate (n - length wai
 abbrev pub unsent : List (List ℕ) → Stream
 unsent waiting = record { pieces = idle ∷ idle ∷ []; waiting = waiting }
 
--- what a Filler knows: the octets of the headers begun last, how many of them are written, and the scrambler
-pub record Sender : Type 0 where
-  pub headers : List ℕ
-  pub sent : ℕ
-  pub scrambler : Scrambling
-
--- the octets of headers that aren't written yet
-abbrev pub head_of : Sender → List ℕ
-head_of sender = drop sender.sent sender.headers
-
 -- of a stream, the octets before a place are written: what is left of its pieces are octets of headers, and then those
--- of the
--- frame that is being sent, scrambled after the octets of areas that were given to the scrambler
+-- of the frame that is being sent
 pub record Stands (sender : Sender) (queue : Held) (stream : Stream) (place : ℕ) : Type 0 where
   pub waits : queue.waiting ≡ stream.waiting
-  pub within : place ≤ size stream.pieces
-  pub given : List ℕ
-  pub scrambled : HasScrambled sender.scrambler given
-  pub areas : joined (map area_of stream.pieces) ≡ given ++ queue.begun
-  pub rest : drop place (stream_of stream.pieces) ≡ head_of sender ++ drop (length given)
-      (scrambled_octets (given ++ queue.begun))
+  pub octets : StandsIn sender queue.begun (map area_of stream.pieces) place
 
 -- these octets are the next ones of a stream, and no piece is begun that they don't need
 abbrev pub AreNext : Stream → ℕ → List ℕ → Type 0

@@ -1,63 +1,33 @@
 //! The stream of GFP frames, octet by octet.
 
-ghost use Rattle.std.specs.Prelude.{◌≡◌, ℕ, ◌+◌, ◌*◌, ◌/◌, ◌<◌, ◌≤◌, List, [], ◌∷◌, ◌++◌, length, min, take, drop};
-ghost use Rattle.std.specs.Prelude.{replicate};
-ghost use Rattle.std.specs.List.{flat_map};
-ghost use Rattle.session_model.specs.Core.{core_header};
-ghost use Rattle.session_model.specs.TypeHeader.{type_header};
-ghost use Rattle.session_model.specs.Piece.{with_header, stream_of};
+ghost use Rattle.std.specs.Prelude.{◌≡◌, ℕ, ◌+◌, ◌<◌, ◌≤◌, List, [], length, min, take, drop};
+ghost use Rattle.session_model.specs.Piece.{stream_of};
 ghost use Rattle.session_model.specs.Client.{Stream, reached};
-ghost use Rattle.gfp_scramble.specs.Scrambler.{Continues, ScramblesTo};
+ghost use Rattle.gfp_fill.specs.Areas.{head_of, StandsIn, HasWrittenIn};
 ghost use Rattle.gfp_fill.specs.Queue.{unbegun};
-ghost use Rattle.gfp_fill.specs.Stream.{Sender, head_of, unsent, Stands, Writes};
-ghost use Rattle.session_model.specs.Limits.{longest_frame};
+ghost use Rattle.gfp_fill.specs.Stream.{unsent, Stands, Writes};
 
-use crate::octets::{copy_some, put};
+use crate::area_sender::AreaSender;
 use crate::queue::FrameQueue;
-use gfp_headers::{core_bytes, type_bytes};
-use gfp_scramble::Scrambler;
+use gfp_headers::type_bytes;
 use std::marker::Model;
-
-// The octets of a core header, and of both headers of a frame.
-const CORE_HEADER: usize = 4;
-
-const HEADERS: usize = 8;
-
-// The core headers of two idle frames.
-const TWO_IDLES: [u8; HEADERS] = [0xb6, 0xab, 0x31, 0xe0, 0xb6, 0xab, 0x31, 0xe0];
-
-// How many idle frames are written at once, and their octets.
-const IDLES: usize = 16;
-
-const IDLE_OCTETS: [u8; CORE_HEADER * IDLES] = [
-    0xb6, 0xab, 0x31, 0xe0, 0xb6, 0xab, 0x31, 0xe0, 0xb6, 0xab, 0x31, 0xe0, 0xb6, 0xab, 0x31, 0xe0,
-    0xb6, 0xab, 0x31, 0xe0, 0xb6, 0xab, 0x31, 0xe0, 0xb6, 0xab, 0x31, 0xe0, 0xb6, 0xab, 0x31, 0xe0,
-    0xb6, 0xab, 0x31, 0xe0, 0xb6, 0xab, 0x31, 0xe0, 0xb6, 0xab, 0x31, 0xe0, 0xb6, 0xab, 0x31, 0xe0,
-    0xb6, 0xab, 0x31, 0xe0, 0xb6, 0xab, 0x31, 0xe0, 0xb6, 0xab, 0x31, 0xe0, 0xb6, 0xab, 0x31, 0xe0,
-];
 
 /// Writes the stream of GFP frames: two idle frames, and then each frame that waits, or an idle frame where
 /// none does. The payload areas are scrambled as one list, and the core headers are not. A frame is sent from
 /// the buffer in which it waited, so a `Filler` belongs to one `FrameQueue`.
 #[derive(Clone, Copy)]
 pub struct Filler {
-    scrambler: Scrambler,
-    // The headers that were begun last, as they are sent, and how many of their octets are written.
-    headers: [u8; HEADERS],
-    sent: usize,
+    sender: AreaSender,
 }
 
 impl Model for Filler {
-    ghost use Rattle.std.specs.Prelude.{◌≤◌};
-    ghost use Rattle.gfp_fill.specs.Stream.{Sender};
+    ghost use Rattle.gfp_fill.specs.Areas.{Sender};
 
     ghost Value = { Sender };
 
-    ghost view = { λ filler. record { headers = filler.headers; sent = filler.sent; scrambler = filler.scrambler } };
+    ghost view = { λ filler. filler.sender };
 
-    ghost invariant = { λ filler. filler.sent ≤ 8 };
-
-    ghost inverse = { λ sender. record { scrambler = sender.scrambler; headers = sender.headers; sent = sender.sent } };
+    ghost inverse = { λ sender. record { sender = sender } };
 }
 
 impl Filler {
@@ -66,9 +36,7 @@ impl Filler {
         ensures { (waiting : List (List ℕ)) → Stands result (unbegun waiting) (unsent waiting) 0 }
     {
         Filler {
-            scrambler: Scrambler::new(),
-            headers: TWO_IDLES,
-            sent: 0,
+            sender: AreaSender::new(),
         }
     }
 
@@ -99,97 +67,33 @@ impl Filler {
         ensures within { result ≤ length out.old }
         ensures writes { Writes self.old waiting.old self.new waiting.new (take result out.new) }
     {
-        if self.sent < HEADERS {
-            return self.send_headers(out);
+        if self.sender.left() > 0 {
+            return self.sender.send_headers(out);
         }
         if waiting.left() > 0 {
             return self.send_frame(waiting, out);
         }
         match waiting.begin() {
             Some(n) => {
-                self.begin(n);
-                self.send_headers(out)
+                self.sender.begin(&type_bytes(), n);
+                self.sender.send_headers(out)
             }
-            None => self.send_idles(out),
+            None => self.sender.send_idles(out),
         }
-    }
-
-    // Begins the headers of a frame of `n` octets.
-    fn begin(&mut self, n: usize)
-        requires { n ≤ longest_frame }
-        ensures core { take 4 (head_of self.new) ≡ core_header (4 + n) }
-        ensures area { ScramblesTo self.old.scrambler type_header (drop 4 (head_of self.new)) }
-        ensures given { Continues self.old.scrambler self.new.scrambler type_header }
-        ensures long { length (head_of self.new) ≡ 8 }
-    {
-        let mut area = type_bytes();
-        self.scrambler.area(&mut area);
-        put(&mut self.headers, 0, &core_bytes((CORE_HEADER + n) as u16));
-        put(&mut self.headers, CORE_HEADER, &area);
-        self.sent = 0;
-    }
-
-    // Writes as many octets of the headers as aren't written and `out` has room for, and says how many.
-    fn send_headers(&mut self, out: &mut [u8]) -> usize
-        ensures count { result ≡ min (length (head_of self.old)) (length out.old) }
-        ensures octets { take result out.new ≡ take result (head_of self.old) }
-        ensures rest { head_of self.new ≡ drop result (head_of self.old) }
-        ensures scrambler { self.new.scrambler ≡ self.old.scrambler }
-    {
-        let n = copy_some(&self.headers[self.sent..], out);
-        self.sent += n;
-        n
     }
 
     // Writes as many octets of the frame that is being sent as aren't written and `out` has room for, and
     // says how many.
     fn send_frame(&mut self, waiting: &mut FrameQueue, out: &mut [u8]) -> usize
+        requires { head_of self.old ≡ [] }
         ensures count { result ≡ min (length waiting.old.begun) (length out.old) }
-        ensures octets { let octets = take result waiting.old.begun in
-            ScramblesTo self.old.scrambler octets (take result out.new) }
-        ensures given { let octets = take result waiting.old.begun in
-            Continues self.old.scrambler self.new.scrambler octets }
-        ensures rest { waiting.new.begun ≡ drop result waiting.old.begun }
+        ensures writes { (areas : List (List ℕ)) (place : ℕ) →
+            StandsIn self.old waiting.old.begun areas place →
+            HasWrittenIn self.new waiting.new.begun areas place (take result out.new) }
         ensures waits { waiting.new.waiting ≡ waiting.old.waiting }
-        ensures head { head_of self.new ≡ head_of self.old }
     {
         let n = waiting.send(out);
-        self.scrambler.area(&mut out[..n]);
+        self.sender.send_octets(&mut out[..n]);
         n
     }
-
-    // Writes idle frames, or where `out` has no room for one, the octets of one for which it has.
-    fn send_idles(&mut self, out: &mut [u8]) -> usize
-        requires room { 0 < length out.old }
-        requires done { head_of self.old ≡ [] }
-        ensures some { 0 < result }
-        ensures within { result ≤ length out.old }
-        ensures octets { (n : ℕ) ×
-            (flat_map with_header (replicate n []) ≡ take result out.new ++ head_of self.new) }
-        ensures few { length (head_of self.new) < 4 }
-        ensures scrambler { self.new.scrambler ≡ self.old.scrambler }
-    {
-        let n = put_idles(out);
-        if n > 0 {
-            return n;
-        }
-        self.headers = TWO_IDLES;
-        self.sent = CORE_HEADER;
-        self.send_headers(out)
-    }
-}
-
-// Writes as many whole idle frames as there is room for, and says how many octets they have.
-fn put_idles(out: &mut [u8]) -> usize
-    ensures count { result ≡ 4 * (length out.old / 4) }
-    ensures idles { take result out.new ≡ flat_map with_header (replicate (length out.old / 4) []) }
-{
-    let n = out.len() / CORE_HEADER;
-    let blocks = n / IDLES;
-    for i in 0..blocks {
-        put(out, IDLE_OCTETS.len() * i, &IDLE_OCTETS);
-    }
-    let rest = &IDLE_OCTETS[..CORE_HEADER * (n % IDLES)];
-    put(out, IDLE_OCTETS.len() * blocks, rest);
-    CORE_HEADER * n
 }

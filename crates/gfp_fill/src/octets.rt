@@ -12,9 +12,9 @@ pub(crate) fn put(out: &mut [u8], at: usize, octets: &[u8])
     out[at..at + octets.len()].copy_from_slice(octets);
 }
 
-// Copies as many octets as `out` has room for, and says how many.
+/// Copies as many octets as `out` has room for, and says how many.
 #[inline]
-pub(crate) fn copy_some(octets: &[u8], out: &mut [u8]) -> usize
+pub fn copy_some(octets: &[u8], out: &mut [u8]) -> usize
     ensures count { result ≡ min (length octets.now) (length out.old) }
     ensures copied { take result out.new ≡ take result octets.now }
 {

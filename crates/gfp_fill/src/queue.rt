@@ -7,7 +7,8 @@ ghost use Rattle.std.specs.Vec.{vec_capacity};
 ghost use Rattle.std.specs.VecDeque.{deque_len, deque_capacity};
 ghost use Rattle.session_model.specs.Client.{Stream, refusal_while, offered};
 ghost use Rattle.gfp_fill.specs.Queue.{IsFrameLength, IsOtherLength, unbegun};
-ghost use Rattle.gfp_fill.specs.Stream.{Sender, Stands};
+ghost use Rattle.gfp_fill.specs.Areas.{Sender};
+ghost use Rattle.gfp_fill.specs.Stream.{Stands};
 ghost use Rattle.session_model.specs.Limits.{longest_frame, most_waiting};
 
 use crate::octets::copy_some;

@@ -1,7 +1,5 @@
 pub mod AreaLaws
 mod BusyLaws
 pub mod ReachLaws
-mod PieceLaws
 pub mod StreamSteps
-mod IdleLaws
 pub mod TurnLaws

@@ -11,7 +11,6 @@ mod busy;
 mod channel;
 mod delineator;
 mod filler;
-mod octets;
 mod queue;
 
 pub use delineator::{LinearDelineator, LinearStep};

@@ -8,11 +8,12 @@ ghost use Rattle.session_model.specs.Limits.{longest_frame};
 ghost use Rattle.linear_model.specs.Channels.{Channels, silent, turn, served, oldest, pushed, channel_refusal};
 ghost use Rattle.linear_model.specs.Stream.{Shared, offered};
 ghost use Rattle.gfp_linear.specs.Queue.{unbegun, busy_from, turn_among, IsRising};
-ghost use Rattle.gfp_linear.specs.Filler.{Sender, Stands};
+ghost use Rattle.gfp_fill.specs.Areas.{Sender};
+ghost use Rattle.gfp_linear.specs.Filler.{Stands};
 
 use crate::busy::{add, count_below};
 use crate::channel::{ChannelQueue, MAX_FRAME};
-use crate::octets::copy_some;
+use gfp_fill::copy_some;
 use linear_model::ChannelFault;
 use std::alloc::{AllocError, Global};
 use std::marker::Model;

@@ -1,35 +1,13 @@
 -- Streams of one kind: their parts, how many octets they have, and which areas of them may be sent.
-use Rattle.std.proofs.Common.{◌≡◌, ℕ, ◌+◌, ◌<◌, List, [], ◌∷◌, ◌++◌, length, map, All, refl, sym, ◌∙◌, ap, ap₂}
-use Rattle.std.proofs.Common.{arith, inl, inr, length-append}
-use Rattle.std.specs.List.{flat_map}
-use Rattle.std.proofs.lemmas.List.{map-append}
-use Rattle.std.proofs.lemmas.List.Concat.{flat_map-append}
+use Rattle.std.proofs.Common.{◌≡◌, ℕ, ◌+◌, ◌<◌, List, [], ◌∷◌, ◌++◌, length, map, sum, All, refl, ap, ap₂, arith, inl}
+use Rattle.std.proofs.Common.{inr, length-append}
+use Rattle.std.proofs.lemmas.List.{length-map}
 use Rattle.std.proofs.lemmas.List.Elements.{All-nil, All-append, All-map, All-weaker}
 use Rattle.session_model.specs.Core.{IsPli}
 use Rattle.session_model.specs.TypeHeader.{type_header}
-use Rattle.session_model.specs.Piece.{Piece, idle, client, area_of, joined, with_header, stream_of}
-use Rattle.session_model.proofs.AreaLaws.{scrambled_behind, map-length-scrambled_behind, scrambled_behind-append}
-use Rattle.session_model.proofs.StreamLaws.{length-with_header}
+use Rattle.session_model.specs.Piece.{Piece, idle, client, area_of, joined, stream_of}
+use Rattle.session_model.proofs.StreamLaws.{areas_behind, pieces_behind-append, length-areas_behind}
 use Rattle.loss_law.specs.Kind.{Kind, IsKind, area_in, stream_in, IsPieceIn}
-
--- areas of the same sizes have as many octets with their headers
-pub headed-same : (a b : List (List ℕ)) → map length a ≡ map length b →
-    length (flat_map with_header a) ≡ length (flat_map with_header b)
-headed-same [] [] same = refl
-headed-same [] (area ∷ b) same = absurd cc
-headed-same (area ∷ a) [] same = absurd cc
-headed-same (one ∷ a) (other ∷ b) same =
-    let first : length one ≡ length other = cc in
-    let rest : map length a ≡ map length b = cc in
-    omega (
-      arith,
-      length-append (with_header one) (flat_map with_header a),
-      length-append (with_header other) (flat_map with_header b),
-      length-with_header one,
-      length-with_header other,
-      first,
-      headed-same a b rest,
-    )
 
 pub idle_fits : IsPli 0
 idle_fits = (omega arith, inl refl)
@@ -37,15 +15,11 @@ idle_fits = (omega arith, inl refl)
 module _ {X Y : Type 0} (kind : Kind X Y) (sound : IsKind kind) where
   -- the stream of pieces behind octets of earlier areas
   abbrev pub stream_behind : List ℕ → List Piece → List ℕ
-  stream_behind before pieces = flat_map with_header (scrambled_behind before (map (area_in kind) pieces))
+  stream_behind before pieces = areas_behind before (map (area_in kind) pieces)
 
   pub stream-append : (front more : List Piece) → stream_in kind (front ++ more)
       ≡ stream_in kind front ++ stream_behind (joined (map (area_in kind) front)) more
-  stream-append front more =
-      ap (λ areas. flat_map with_header (scrambled_behind [] areas)) (map-append (area_in kind) front more)
-      ∙ ap (flat_map with_header) (scrambled_behind-append [] (map (area_in kind) front) (map (area_in kind) more))
-      ∙ flat_map-append with_header (scrambled_behind [] (map (area_in kind) front))
-      (scrambled_behind ([] ++ joined (map (area_in kind) front)) (map (area_in kind) more))
+  stream-append front more = pieces_behind-append (area_in kind) [] front more
 
   -- an area is as long as that of an Ethernet frame with the same content
   pub length-area : (piece : Piece) → length (area_in kind piece) ≡ length (area_of piece)
@@ -59,9 +33,14 @@ module _ {X Y : Type 0} (kind : Kind X Y) (sound : IsKind kind) where
 
   pub length-stream : (pieces : List Piece) → length (stream_in kind pieces) ≡ length (stream_of pieces)
   length-stream pieces =
-      headed-same (scrambled_behind [] (map (area_in kind) pieces)) (scrambled_behind [] (map area_of pieces))
-      (map-length-scrambled_behind [] (map (area_in kind) pieces) ∙ sizes-same pieces
-      ∙ sym (map-length-scrambled_behind [] (map area_of pieces)))
+      omega (
+        arith,
+        length-areas_behind [] (map (area_in kind) pieces),
+        length-areas_behind [] (map area_of pieces),
+        ap sum (sizes-same pieces),
+        length-map pieces (area_in kind),
+        length-map pieces area_of,
+      )
 
   -- areas that may be sent
   IsPli-area : (piece : Piece) → IsPieceIn kind piece → IsPli (length (area_in kind piece))

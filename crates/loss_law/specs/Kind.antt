@@ -3,7 +3,7 @@
 use Rattle.std.specs.Prelude.{◌≡◌, ℕ, ◌<◌, ◌≤◌, ◌^◌, Bool, true, false, List, [], ◌∷◌, ◌++◌, length, map, All}
 use Rattle.std.specs.List.{flat_map}
 use Rattle.session_model.specs.Core.{head}
-use Rattle.session_model.specs.Piece.{Piece, idle, client, scrambled_areas, with_header}
+use Rattle.session_model.specs.Piece.{Piece, idle, client, areas_stream}
 use Rattle.session_model.specs.TypeHeader.{type_header}
 use Rattle.session_model.specs.Outcome.{Outcome, client_outcome, outcomes_with}
 use Rattle.session_model.specs.Delivery.{frame_in}
@@ -30,7 +30,7 @@ area_in kind idle = []
 area_in kind (client content) = kind.header ++ content
 
 abbrev pub stream_in : {X Y : Type 0} → Kind X Y → List Piece → List ℕ
-stream_in kind pieces = flat_map with_header (scrambled_areas (map (area_in kind) pieces))
+stream_in kind pieces = areas_stream (map (area_in kind) pieces)
 
 -- a content that may be sent: its area has six octets at least, and as many as a header may say; and it comes through
 pub record IsContent {X Y : Type 0} (kind : Kind X Y) (content : List ℕ) : Type 0 where

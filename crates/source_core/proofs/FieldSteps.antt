@@ -12,7 +12,7 @@ use Rattle.session_model.specs.Told.{told_in}
 use Rattle.session_model.specs.Course.{Course, asks, called, said_by}
 use Rattle.session_law.proofs.PlanLaws.{Fits, Fits-asked, Fits-decide}
 use Rattle.gfp_fill.specs.Queue.{Held}
-use Rattle.gfp_fill.specs.Stream.{Sender}
+use Rattle.gfp_fill.specs.Areas.{Sender}
 use Rattle.source_core.specs.Step.{is_step, table_by, active_by, nibbles_by, AreNibbles, AreMembers, terminal_of}
 use Rattle.source_core.specs.Step.{IsTerminal}
 use Rattle.source_core.proofs.MemberLaws.{active-members}

@@ -15,7 +15,8 @@ use Rattle.session_model.specs.Source.{asked, asked_all, after}
 use Rattle.session_model.specs.Course.{Course, called, asks}
 use Rattle.session_model.specs.Client.{Stream, offered, stream_before, place_of}
 use Rattle.gfp_fill.specs.Queue.{Held}
-use Rattle.gfp_fill.specs.Stream.{Sender, Stands as HasWritten}
+use Rattle.gfp_fill.specs.Areas.{Sender}
+use Rattle.gfp_fill.specs.Stream.{Stands as HasWritten}
 use Rattle.source_core.specs.Step.{terminal_of}
 use Rattle.source_core.specs.Given.{with_frame, with_command, with_told, stream_now, source_now, nibbles_after}
 use Rattle.source_core.specs.Given.{Stands}

@@ -13,7 +13,8 @@ use Rattle.session_model.specs.Course.{Course, begun}
 use Rattle.session_model.specs.Client.{offered, stream_before, place_of}
 use Rattle.session_law.proofs.PlanLaws.{opening-fits}
 use Rattle.gfp_fill.specs.Queue.{Held, unbegun}
-use Rattle.gfp_fill.specs.Stream.{Sender, unsent, Stands as HasWritten}
+use Rattle.gfp_fill.specs.Areas.{Sender}
+use Rattle.gfp_fill.specs.Stream.{unsent, Stands as HasWritten}
 use Rattle.source_core.specs.Step.{AreNibbles, AreMembers, terminal_of, IsTerminal}
 use Rattle.source_core.specs.Given.{IsFresh, stream_now, source_now, course_now, nibbles_after, nibbles_now, active_now}
 use Rattle.source_core.specs.Given.{Stands}

@@ -28,7 +28,8 @@ use Rattle.session_model.specs.Sent.{active_at, payload_on, nibble_in, nibble_at
 use Rattle.session_law.proofs.FeedbackLaws.{asked_all-table}
 use Rattle.session_law.proofs.SessionLaws.{Agree, Agree-append}
 use Rattle.gfp_fill.specs.Queue.{Held}
-use Rattle.gfp_fill.specs.Stream.{Sender, Stands as HasWritten}
+use Rattle.gfp_fill.specs.Areas.{Sender}
+use Rattle.gfp_fill.specs.Stream.{Stands as HasWritten}
 use Rattle.source_core.specs.Terminal.{needed_at}
 use Rattle.source_core.specs.Frame.{container_by, containers_by}
 use Rattle.source_core.specs.Step.{is_step, table_by, active_by, nibbles_of, nibbles_by, left_by, terminal_of}

@@ -12,7 +12,7 @@ use Rattle.session_model.specs.Forward.{forward_packet}
 use Rattle.session_model.specs.Telling.{untold, telling}
 use Rattle.session_law.proofs.PlanLaws.{Fits}
 use Rattle.gfp_fill.specs.Queue.{Held}
-use Rattle.gfp_fill.specs.Stream.{Sender}
+use Rattle.gfp_fill.specs.Areas.{Sender}
 use Rattle.vcat_interleave.specs.Members.{AreLines}
 use Rattle.vcat_interleave.specs.Spread.{AreDistinct}
 use Rattle.source_core.specs.Terminal.{Terminal}

@@ -3,7 +3,7 @@ use Rattle.std.specs.Prelude.{◌≡◌, ℕ, ◌-◌, ◌/◌, ◌%◌, ◌==�
 use Rattle.session_model.specs.Table.{Told}
 use Rattle.session_model.specs.Course.{Course}
 use Rattle.gfp_fill.specs.Queue.{Held}
-use Rattle.gfp_fill.specs.Stream.{Sender}
+use Rattle.gfp_fill.specs.Areas.{Sender}
 
 -- how many lines there are; the lag in packets; the payload octets of a container; how many frames were made; the
 -- client's frames

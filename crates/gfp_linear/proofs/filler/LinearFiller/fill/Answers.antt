@@ -1,6 +1,7 @@
 -- What is written first, and then what is written in the loop's next turn, are the next octets.
 use Rattle.std.proofs.Common.{take, arith, length, ◌+◌}
-use Rattle.gfp_linear.proofs.StreamSteps.{written-none, written-both, take-written}
+use Rattle.gfp_fill.proofs.AreaSteps.{take-written}
+use Rattle.gfp_linear.proofs.StreamSteps.{written-none, written-both}
 use Rattle.linear_model.specs.Stream.{reached}
 use Rattle.gfp_linear.proofs.filler.LinearFiller.fill.Goals as goal
 

@@ -1,14 +1,13 @@
--- Two idles are begun, and no octet of a frame.
+-- Two idles are begun, and no octet of an area.
 use Rattle.std.proofs.Common.{[], refl, arith}
 use Rattle.gfp_fill.proofs.IdleLaws.{two_idles}
-use Rattle.gfp_fill.proofs.filler.Filler.new.Goals as goal
+use Rattle.gfp_fill.proofs.area_sender.AreaSender.new.Goals as goal
 
 pub returns : goal.returns
-returns c waiting = record {
-  waits = refl;
+returns c = record {
   within = omega arith;
   given = [];
   scrambled = c.new.ensures;
-  areas = refl;
+  parts = refl;
   rest = two_idles;
 }

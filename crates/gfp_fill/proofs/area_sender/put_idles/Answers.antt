@@ -3,7 +3,7 @@ use Rattle.std.proofs.Common.{◌≡◌, ℕ, ◌+◌, ◌*◌, ◌/◌, ◌%◌
 use Rattle.std.proofs.lemmas.List.{length-take-le}
 use Rattle.session_model.proofs.IdleLaws.{idles}
 use Rattle.gfp_fill.proofs.IdleLaws.{repeated, idles-sixteen, idles-rest}
-use Rattle.gfp_fill.proofs.filler.put_idles.Goals as goal
+use Rattle.gfp_fill.proofs.area_sender.put_idles.Goals as goal
 
 pub loop-i-preserved : goal.loop-i-preserved
 loop-i-preserved c =

@@ -1,7 +1,0 @@
--- The idles so far.
-use Rattle.std.proofs.Common.{◌≡◌, ◌*◌, take}
-use Rattle.session_model.proofs.IdleLaws.{idles}
-use Rattle.gfp_fill.proofs.filler.put_idles.Given as goal
-
-abbrev pub invariant-loop-i : goal.invariant-loop-i
-invariant-loop-i l = take (64 * l.i) l.out ≡ idles (16 * l.i)
