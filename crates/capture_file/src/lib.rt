@@ -1,8 +1,7 @@
 //! Captures of the classic form (pcap) as lists of octets: a head, and then records of frames with their
 //! times. One is read in place, whole or up to its first fault; what it says is written as the `frame` lines
 //! of a script; and one is written, of Ethernet frames or of the GFP frames that hold them. Captures of the newer
-//! form (pcapng) are
-//! refused, and no check of a frame is tested. Begin with `read_capture`.
+//! form (pcapng) are refused, and no check of a frame is tested. Begin with `read_capture`.
 #![tactic(auto)]
 
 ghost use Rattle.std.specs.Prelude.{◌≡◌, ℕ, List, [], ◌∷◌, ◌++◌, length, take, drop, Ok, Err};

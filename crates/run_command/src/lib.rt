@@ -1,6 +1,6 @@
 //! The program `vcat_run` as a call: it runs the script of a group on threads, and watches its lines
-//! where this is wanted. The program itself only makes its input and outputs and
-//! hands them over. Begin with `run_top`.
+//! where this is wanted. The program itself only makes its input and outputs and hands them over. Begin with
+//! `run_top`.
 #![tactic(auto)]
 
 mod command;

@@ -1,4 +1,6 @@
-//! The definitions that the contracts of a session speak of, and the types that they name.
+//! The definitions that the contracts of a session speak of, and the types that they name. There is no code here but
+//! the nibbles of a packet. Begin with `specs/Scenario.antt`: the other definitions of a session are recursions over a
+//! scenario.
 #![tactic(auto)]
 
 mod packet;

@@ -1,4 +1,5 @@
-//! The program `vcat_run`: it runs the script of a group on threads.
+//! The program `vcat_run`: it hands its words, standard input and both outputs to `run_top`, which runs the script
+//! of a group on threads.
 #![tactic(auto)]
 
 use command_parts::{NO_MEMORY, given_words};

@@ -1,5 +1,5 @@
-//! The program `vcat_walk`: it runs the scripts and loads of a group on one thread, and decodes the control
-//! packets of a line.
+//! The program `vcat_walk`: it hands its words, standard input and both outputs to `walk_top`, which has all
+//! commands on one thread.
 #![tactic(auto)]
 
 use command_parts::{NO_MEMORY, given_words};
