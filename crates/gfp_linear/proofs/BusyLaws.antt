@@ -6,7 +6,7 @@ use Rattle.std.proofs.Common.{length-take-le}
 use Rattle.std.proofs.Common.{length-append, length-take, length-drop}
 use Rattle.std.specs.Prelude.{slice_index_or, slice_set, insert, remove, replicate}
 use Rattle.std.proofs.lemmas.Bool.{le-leb, lt-leb, le-ltb}
-use Rattle.std.proofs.lemmas.List.{take-append-drop, take_at, drop_at}
+use Rattle.std.proofs.lemmas.List.{take-append-drop, take_at, drop_at, get_or_default}
 use Rattle.std.proofs.lemmas.List.Elements.{All-nil, All-cons, All-head, All-tail, All-weaker, All-get_or}
 use Rattle.linear_model.specs.Channels.{Channels, turn, first_busy, or_else, with_queue, waiting_of}
 use Rattle.linear_model.specs.Channels.{channel_refusal, pushed_by, pushed, served}
@@ -251,6 +251,12 @@ unfolding busy_from
 busy-few cid [] = omega arith
 busy-few cid ([] ∷ queues) = let few = busy-few (cid + 1) queues in omega (arith, few)
 busy-few cid ((frame ∷ frames) ∷ queues) = let few = busy-few (cid + 1) queues in omega (arith, few)
+
+-- what an access of the vector finds
+pub queue-at : (cid at : ℕ) (queue : List (List ℕ)) (queues : List (List (List ℕ))) → at < length queues → at ≡ cid →
+    queue ≡ slice_index_or queues at queue → queue ≡ slice_index_or queues cid []
+queue-at cid at queue queues inside same is =
+    is ∙ sym (get_or_default queues at [] queue inside) ∙ ap (λ k. slice_index_or queues k []) same
 
 -- what an edit of the vector does
 pub set-with : (cid : ℕ) (queue : List (List ℕ)) (queues : List (List (List ℕ))) → cid < length queues →

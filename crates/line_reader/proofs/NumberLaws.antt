@@ -49,10 +49,6 @@ all-passed numbers place cells t is stands =
     ∙ append-nil stands.passed in
     record { more = runs.0; lock = runs.1; size = ap length same ∙ runs.2 }
 
-pub lock-of : (numbers : Numbers) (place : Container) (cells : List Cell) (t : ℕ) → IsOpen numbers →
-    Stands numbers place cells t → LockStands numbers.lock (signs_of cells)
-lock-of numbers place cells t is stands = (all-passed numbers place cells t is stands).lock
-
 -- ---- one cell more
 modulo-verdicts : (answer : Place) (next t : ℕ) (c : Container) → next ≡ t % 4096 →
     verdicts_for answer t c ≡ verdicts_for answer next c
@@ -72,65 +68,69 @@ Stands-none lock place is = record {
   over = λ e. absurd (false-true e);
 }
 
-pub Stands-good : (numbers : Numbers) (place : Container) (cells : List Cell) (t : ℕ) (c : Container) (answer : Place)
-    (lock' : MfiLock) (bad : ℕ) (whole : Bool) (place' : Container) →
-    IsOpen numbers → Stands numbers place cells t →
-    IsPlace (signs_of cells ++ Some c.h4 ∷ []) (length (signs_of cells)) answer →
-    LockStands lock' (signs_of cells ++ Some c.h4 ∷ []) →
-    verdicts_for answer numbers.next c ≡ replicate bad None ++ last_of whole place' →
-    Stands (record { lock = lock'; next = numbers.next; bad = bad; whole = whole; ended = numbers.ended }) place'
-    (cells ++ Good c ∷ []) t
-Stands-good numbers place cells t c answer lock' bad whole place' is stands at_place lock new =
-    let all = all-passed numbers place cells t is stands in
-    record {
-      number = stands.number;
-      passed = (reading_of cells).verdicts;
-      verdicts = good-next cells c answer all.more at_place
-          ∙ ap (λ l. (reading_of cells).verdicts ++ l)
-          (ap (λ d. verdicts_for answer d c) all.size ∙ modulo-verdicts answer numbers.next t c stands.number ∙ new);
-      runs = λ e. (
-        no_end-next cells (Good c) all.more (λ e. absurd cc),
-        subst (LockStands lock') (sym (signs-next cells (Good c))) lock,
-        all.size,
-      );
-      over = λ e. absurd (false-true (sym is.ended ∙ e));
-    }
+module _ (numbers now : Numbers) (place : Container) (cells : List Cell) (t : ℕ) (same : numbers ≡ now)
+    (are_open : IsOpen now) (stands : Stands now place cells t) where
+  opened : IsOpen numbers
+  opened = subst IsOpen (sym same) are_open
 
-pub Stands-fail : (numbers : Numbers) (place : Container) (cells : List Cell) (t : ℕ) (lock' : MfiLock) →
-    IsOpen numbers → Stands numbers place cells t → LockStands lock' (signs_of cells ++ None ∷ []) →
-    Stands (record { lock = lock'; next = numbers.next; bad = 1; whole = numbers.whole; ended = numbers.ended }) place
-    (cells ++ Fail ∷ []) t
-Stands-fail numbers place cells t lock' is stands lock =
-    let all = all-passed numbers place cells t is stands in
-    record {
-      number = stands.number;
-      passed = (reading_of cells).verdicts;
-      verdicts = fail-next cells all.more
-          ∙ ap (λ l. (reading_of cells).verdicts ++ None ∷ l) (sym (ap (λ whole. last_of whole place) is.whole));
-      runs = λ e. (
-        no_end-next cells Fail all.more (λ e. absurd cc),
-        subst (LockStands lock') (sym (signs-next cells Fail)) lock,
-        all.size,
-      );
-      over = λ e. absurd (false-true (sym is.ended ∙ e));
-    }
+  before : Stands numbers place cells t
+  before = subst (λ v. Stands v place cells t) (sym same) stands
 
-pub Stands-end : (numbers : Numbers) (place : Container) (cells : List Cell) (t : ℕ) → IsOpen numbers →
-    Stands numbers place cells t →
-    Stands (record { lock = numbers.lock; next = numbers.next; bad = numbers.bad; whole = numbers.whole; ended = true })
-    place (cells ++ End ∷ []) t
-Stands-end numbers place cells t is stands =
-    let all = all-passed numbers place cells t is stands in
-    let now = end-reading cells [] in
-    let none = left-none numbers place is in
-    record {
-      number = stands.number;
-      passed = (reading_of cells).verdicts;
-      verdicts = ap (λ r. r.verdicts) now ∙ sym (append-nil (reading_of cells).verdicts)
-          ∙ ap (λ l. (reading_of cells).verdicts ++ l) (sym none);
-      runs = λ e. absurd (true-false e);
-      over = λ e. (ap (λ r. r.lock) now, none, omega (arith, all.size));
-    }
+  all : All numbers cells t
+  all = all-passed numbers place cells t opened before
+
+  pub Stands-good : (c : Container) (answer : Place) (lock' : MfiLock) (bad : ℕ) (whole : Bool) (place' : Container) →
+      ((signs : List (Option ℕ)) → LockStands numbers.lock signs →
+      IsPlace (signs ++ Some c.h4 ∷ []) (length signs) answer) →
+      ((signs : List (Option ℕ)) → LockStands numbers.lock signs → LockStands lock' (signs ++ Some c.h4 ∷ [])) →
+      verdicts_for answer numbers.next c ≡ replicate bad None ++ last_of whole place' →
+      Stands (record { lock = lock'; next = numbers.next; bad = bad; whole = whole; ended = numbers.ended }) place'
+      (cells ++ Good c ∷ []) t
+  Stands-good c answer lock' bad whole place' at_place lock new = record {
+    number = before.number;
+    passed = (reading_of cells).verdicts;
+    verdicts = good-next cells c answer all.more (at_place (signs_of cells) all.lock)
+        ∙ ap (λ l. (reading_of cells).verdicts ++ l)
+        (ap (λ d. verdicts_for answer d c) all.size ∙ modulo-verdicts answer numbers.next t c before.number ∙ new);
+    runs = λ e. (
+      no_end-next cells (Good c) all.more (λ e. absurd cc),
+      subst (LockStands lock') (sym (signs-next cells (Good c))) (lock (signs_of cells) all.lock),
+      all.size,
+    );
+    over = λ e. absurd (false-true (sym opened.ended ∙ e));
+  }
+
+  pub Stands-fail : (lock' : MfiLock) →
+      ((signs : List (Option ℕ)) → LockStands numbers.lock signs → LockStands lock' (signs ++ None ∷ [])) →
+      Stands (record { lock = lock'; next = numbers.next; bad = 1; whole = numbers.whole; ended = numbers.ended })
+      place (cells ++ Fail ∷ []) t
+  Stands-fail lock' lock = record {
+    number = before.number;
+    passed = (reading_of cells).verdicts;
+    verdicts = fail-next cells all.more
+        ∙ ap (λ l. (reading_of cells).verdicts ++ None ∷ l) (sym (ap (λ whole. last_of whole place) opened.whole));
+    runs = λ e. (
+      no_end-next cells Fail all.more (λ e. absurd cc),
+      subst (LockStands lock') (sym (signs-next cells Fail)) (lock (signs_of cells) all.lock),
+      all.size,
+    );
+    over = λ e. absurd (false-true (sym opened.ended ∙ e));
+  }
+
+  pub Stands-end :
+      Stands (record { lock = numbers.lock; next = numbers.next; bad = numbers.bad; whole = numbers.whole; ended = true })
+      place (cells ++ End ∷ []) t
+  Stands-end =
+      let now = end-reading cells [] in
+      let none = left-none numbers place opened in
+      record {
+        number = before.number;
+        passed = (reading_of cells).verdicts;
+        verdicts = ap (λ r. r.verdicts) now ∙ sym (append-nil (reading_of cells).verdicts)
+            ∙ ap (λ l. (reading_of cells).verdicts ++ l) (sym none);
+        runs = λ e. absurd (true-false e);
+        over = λ e. (ap (λ r. r.lock) now, none, omega (arith, all.size));
+      }
 
 -- what a cell leaves to be passed
 pub locks-left : (d number ahead' : ℕ) (c place : Container) (whole : Bool) → ahead' ≡ ahead d number → whole ≡ false →

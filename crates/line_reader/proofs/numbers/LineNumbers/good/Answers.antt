@@ -1,28 +1,16 @@
 -- What is kept after the cell, by what the lock says of it.
 use Rattle.std.proofs.Common.{◌≡◌, ◌+◌, ◌∷◌, ◌∙◌, true, false, None, sym, ap, subst}
-use Rattle.vc_cell.specs.declared.Container.{Container}
 use Rattle.h4_multiframe.specs.declared.Place.TheVariants.{Unknown, Locks, At}
-use Rattle.session_model.specs.Sign.{signs_of}
-use Rattle.line_reader.specs.Numbers.{Numbers, IsOpen, Stands, last_of}
-use Rattle.line_reader.proofs.NumberLaws.{Stands-good, lock-of, locks-left, at-left}
+use Rattle.line_reader.specs.Numbers.{IsOpen, last_of}
+use Rattle.line_reader.proofs.NumberLaws.{Stands-good, locks-left, at-left}
 use Rattle.line_reader.proofs.numbers.LineNumbers.good.Goals as goal
 use Rattle.line_reader.proofs.numbers.LineNumbers.good.Goals.{in-Unknown, in-Locks, in-At}
 
 pub returns-clause-kept : goal.returns-clause-kept
 returns-clause-kept c kept place cells t stands =
     let inside = c.self.inside in
-    let old : Numbers = record {
-      lock = inside.lock;
-      next = inside.next;
-      bad = inside.bad;
-      whole = inside.whole;
-      ended =
-          inside.ended;
-    } in
-    let before : Stands old place cells t = subst (λ v. Stands v place cells t) (sym c.self.view_is) stands in
-    let is : IsOpen old = subst IsOpen (sym c.self.view_is) c.requires.open in
-    let container : Container = c.args.container.now in
-    let lock = lock-of old place cells t is before in
+    let container = c.args.container.now in
+    let is = subst IsOpen (sym c.self.view_is) c.requires.open in
     elim c.match-good.branch [
       | in-Unknown w ↦ absurd (let e : false ≡ true = sym is.whole ∙ sym (ap (λ s. s.whole) w.self-inside-is)
           ∙ kept in cc)
@@ -30,38 +18,26 @@ returns-clause-kept c kept place cells t stands =
           ∙ kept in cc)
       | in-At w ↦
           let number = w.in-At.field-0 in
-          rw w.self-inside-is (Stands-good old place cells t container (At number) c.good.new.self inside.bad true
-          container is before
-          (w.in-At.ensures.place (signs_of cells) lock) (c.good.ensures.stands (signs_of cells) lock)
+          rw w.self-inside-is (Stands-good _ c.args.self.now place cells t c.self.view_is c.requires.open stands
+          container (At number) c.good.new.self inside.bad true container w.in-At.ensures.place c.good.ensures.stands
           (at-left number inside.next inside.bad container is.bad))
     ]
 
 pub returns-clause-bad : goal.returns-clause-bad
 returns-clause-bad c bad place cells t stands =
     let inside = c.self.inside in
-    let old : Numbers = record {
-      lock = inside.lock;
-      next = inside.next;
-      bad = inside.bad;
-      whole = inside.whole;
-      ended =
-          inside.ended;
-    } in
-    let before : Stands old place cells t = subst (λ v. Stands v place cells t) (sym c.self.view_is) stands in
-    let is : IsOpen old = subst IsOpen (sym c.self.view_is) c.requires.open in
-    let container : Container = c.args.container.now in
-    let lock = lock-of old place cells t is before in
+    let container = c.args.container.now in
+    let is = subst IsOpen (sym c.self.view_is) c.requires.open in
     elim c.match-good.branch [
       | in-Unknown w ↦
-          rw w.self-inside-is (Stands-good old place cells t container Unknown c.good.new.self 1 inside.whole place is
-          before
-          (w.in-Unknown.ensures.place (signs_of cells) lock) (c.good.ensures.stands (signs_of cells) lock)
+          rw w.self-inside-is (Stands-good _ c.args.self.now place cells t c.self.view_is c.requires.open stands
+          container Unknown c.good.new.self 1 inside.whole place w.in-Unknown.ensures.place c.good.ensures.stands
           (ap (λ whole. None ∷ last_of whole place) (sym is.whole)))
       | in-Locks w ↦
           let number = w.in-Locks.number in
-          rw w.self-inside-is (Stands-good old place cells t container (Locks number) c.good.new.self
-          (w.ahead_of.result + 1) inside.whole place is before
-          (w.in-Locks.ensures.place (signs_of cells) lock) (c.good.ensures.stands (signs_of cells) lock)
+          rw w.self-inside-is (Stands-good _ c.args.self.now place cells t c.self.view_is c.requires.open stands
+          container (Locks number) c.good.new.self (w.ahead_of.result + 1) inside.whole place w.in-Locks.ensures.place
+          c.good.ensures.stands
           (locks-left inside.next number w.ahead_of.result container place inside.whole w.ahead_of.ensures.value
           is.whole))
       | in-At w ↦ absurd (let e : false ≡ true = sym bad ∙ ap (λ s. s.whole) w.self-inside-is in cc)
