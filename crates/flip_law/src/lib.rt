@@ -3,8 +3,8 @@
 //! just those that it doesn't touch. There is no code here. Begin with `flip_law`.
 #![tactic(auto)]
 
-ghost use Rattle.std.specs.Prelude.{◌∷◌, ◌==◌, slice_index_or, ◌≡◌, ◌≢◌, ◌↔◌, ◌<◌, ℕ, ◌+◌, ◌*◌, ◌≤◌, ◌++◌, Bool, false};
-ghost use Rattle.std.specs.Prelude.{List, [], true, length, take, drop, replicate, All, Option, Some, None};
+ghost use Rattle.std.specs.Prelude.{◌==◌, slice_index_or, ◌≡◌, ◌≢◌, ◌↔◌, ◌<◌, ℕ, ◌+◌, ◌*◌, ◌≤◌, ◌++◌, Bool, false};
+ghost use Rattle.std.specs.Prelude.{List, [], true, length, take, drop, replicate, All, Some, None};
 ghost use Rattle.session_model.specs.Core.{core_header, IsPli, pli_of};
 ghost use Rattle.remainder.specs.Count.{count};
 ghost use Rattle.fcs_model.specs.Flips.{flipped};

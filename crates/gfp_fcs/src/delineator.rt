@@ -1,6 +1,6 @@
 //! The receiver of a stream of frames with an FCS. In SYNC it corrects core headers with one wrong bit.
 
-ghost use Rattle.std.specs.Prelude.{◌≡◌, ◌≢◌, ℕ, ◌-◌, ◌<◌, ◌≤◌, ◌↔◌, List, [], ◌∷◌, ◌++◌, length, map, take, drop};
+ghost use Rattle.std.specs.Prelude.{◌≡◌, ◌≢◌, ℕ, ◌-◌, ◌<◌, ◌≤◌, ◌↔◌, List, [], ◌∷◌, ◌++◌, length, map, take};
 ghost use Rattle.std.specs.Prelude.{IfOk, IfSome, IsSome, IsTrue, Some};
 ghost use Rattle.std.specs.Int.{to_be_bytes, w32};
 ghost use Rattle.session_model.specs.Limits.{longest_frame};

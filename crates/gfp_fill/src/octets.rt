@@ -1,6 +1,6 @@
 //! Octets that are copied.
 
-ghost use Rattle.std.specs.Prelude.{◌≡◌, ℕ, ◌+◌, ◌≤◌, List, ◌++◌, length, min, take, drop};
+ghost use Rattle.std.specs.Prelude.{◌≡◌, ◌+◌, ◌≤◌, ◌++◌, length, min, take, drop};
 
 // Puts octets at a place of a slice.
 #[inline]

@@ -1,6 +1,6 @@
 //! The receiver of a stream that channels share. No header is corrected.
 
-ghost use Rattle.std.specs.Prelude.{◌≡◌, ◌≢◌, ℕ, ◌≤◌, ◌↔◌, Bool, true, false, List, [], ◌∷◌, ◌++◌, length, map, take};
+ghost use Rattle.std.specs.Prelude.{◌≡◌, ℕ, ◌≤◌, ◌↔◌, Bool, true, false, List, [], ◌∷◌, ◌++◌, length, map, take};
 ghost use Rattle.std.specs.Prelude.{drop, IfOk, IfSome, IsSome, IsTrue, Some};
 ghost use Rattle.session_model.specs.Limits.{longest_frame};
 ghost use Rattle.gfp_delineate.specs.Areas.{ends_told};

@@ -1,13 +1,12 @@
 //! The frames that wait, channel by channel, and the one that is being sent.
 
-ghost use Rattle.std.specs.Prelude.{◌≡◌, ℕ, ◌+◌, ◌<◌, ◌≤◌, ◌↔◌, List, ◌∷◌, length, min, take, drop, IfOk, OnErr};
-ghost use Rattle.std.specs.Prelude.{IfSome, IfNone, Some, None, All, vec_len, slice_index_or};
-ghost use Rattle.std.specs.Vec.{vec_capacity};
+ghost use Rattle.std.specs.Prelude.{◌≡◌, ℕ, ◌+◌, ◌<◌, ◌≤◌, length, min, take, drop, IfOk, OnErr};
+ghost use Rattle.std.specs.Prelude.{IfSome, IfNone, Some, None, slice_index_or};
 ghost use Rattle.std.specs.Result.{result_err};
 ghost use Rattle.session_model.specs.Limits.{longest_frame};
-ghost use Rattle.linear_model.specs.Channels.{Channels, silent, turn, served, oldest, pushed, channel_refusal};
+ghost use Rattle.linear_model.specs.Channels.{silent, turn, served, oldest, pushed, channel_refusal};
 ghost use Rattle.linear_model.specs.Stream.{Shared, offered};
-ghost use Rattle.gfp_linear.specs.Queue.{unbegun, busy_from, turn_among, IsRising};
+ghost use Rattle.gfp_linear.specs.Queue.{unbegun, busy_from};
 ghost use Rattle.gfp_fill.specs.Areas.{Sender};
 ghost use Rattle.gfp_linear.specs.Filler.{Stands};
 

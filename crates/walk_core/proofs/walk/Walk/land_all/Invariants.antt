@@ -1,7 +1,6 @@
 -- Items of one kind have landed, each of the last events one.
 use Rattle.std.proofs.Common.{◌≡◌, ◌-◌, length}
 use Rattle.walk_core.specs.Landing.{landing_of}
-use Rattle.session_model.specs.Counts.{Counts}
 use Rattle.session_model.specs.Leg.{leg_of}
 use Rattle.walk_law.specs.Walk.{walk_plan}
 use Rattle.walk_core.proofs.RoundLaws.{Landed, landed_of}
