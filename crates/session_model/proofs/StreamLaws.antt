@@ -137,13 +137,6 @@ pub stream_of-append : (pieces more : List Piece) →
     stream_of (pieces ++ more) ≡ stream_of pieces ++ stream_behind (joined (map area_of pieces)) more
 stream_of-append pieces more = pieces_behind-append area_of [] pieces more
 
-pub stream_of-push : (pieces : List Piece) (piece : Piece) →
-    stream_of (pieces ++ piece ∷ []) ≡ stream_of pieces ++
-    (core_header (length (area_of piece)) ++ drop (length (joined (map area_of pieces)))
-    (scrambled_octets (joined (map area_of pieces) ++ area_of piece)))
-stream_of-push pieces piece =
-    ap areas_stream (map-append area_of pieces (piece ∷ [])) ∙ areas_stream-push (map area_of pieces) (area_of piece)
-
 -- the octets of the first of several pieces
 pub length-stream_of-cons : (piece : Piece) (pieces : List Piece) →
     length (stream_of (piece ∷ pieces)) ≡ size_of piece + length (stream_of pieces)
