@@ -6,10 +6,10 @@ ghost use Rattle.session_model.specs.Valid.{IsValid};
 ghost use Rattle.group_lock.specs.Opened.{IsOpened};
 
 use crate::journal::Journal;
-use group_source::{GroupSource, blank_boxes};
+use group_source::GroupSource;
 use session_model::Script;
 use std::alloc::{AllocError, Global};
-use vc_cell::HeldContainer;
+use vc_cell::{HeldContainer, blank_boxes};
 
 /// What a group begins with, before anything has come.
 #[derive(Drop)]
@@ -33,7 +33,7 @@ pub(crate) fn open(
     ensures bytes { IfOk result (λ opened. opened.journal.bytes ≡ bytes) }
 {
     Ok(Opened {
-        frame: blank_boxes(alloc, u16::from(script.config.lines))?,
+        frame: blank_boxes(alloc, usize::from(script.config.lines))?,
         journal: Journal::new(alloc, entries, bytes)?,
         source: GroupSource::new(alloc, script)?,
     })

@@ -3,7 +3,6 @@
 //! `GroupSource`. Where its frames go, and when an engine ticks, is not said here.
 #![tactic(auto)]
 
-mod boxes;
 mod inbox;
 mod item;
 mod items;
@@ -11,7 +10,6 @@ mod landing;
 mod laws;
 mod source;
 
-pub use boxes::blank_boxes;
 pub use inbox::Inbox;
 pub use item::{ItemRef, handed};
 pub use items::{held_item, next_command, next_frame};

@@ -12,7 +12,7 @@ use session_model::Carried;
 use std::alloc::{AllocError, Global};
 use std::marker::Model;
 use std::mem;
-use vc_cell::{Container, HeldContainer};
+use vc_cell::{Container, HeldContainer, blank_boxes};
 
 /// The containers on their way: as many as the delay, once it is filled. Each lies in a box, so that it is
 /// never moved itself.
@@ -42,7 +42,7 @@ impl Store {
         ensures { IfOk result (λ store. store ≡ stored [] delay (min delay total)) }
     {
         let kept = HeapCircularBuffer::with_capacity(alloc, usize::from(delay))?;
-        let spare = blank_boxes(alloc, u32::from(delay).min(total))?;
+        let spare = blank_boxes(alloc, u32::from(delay).min(total) as usize)?;
         Ok(Store { kept, spare })
     }
 
@@ -194,17 +194,6 @@ impl Store {
         self.append(oldest);
         carry
     }
-}
-
-/// So many boxes.
-fn blank_boxes(alloc: Global, count: u32) -> Result<Vec<Box<HeldContainer>>, AllocError>
-    ensures { IfOk result (λ places. length places.items ≡ count) }
-{
-    let mut places = Vec::with_capacity(alloc, count as usize)?;
-    for _ in 0..count {
-        places.push(Box::new(alloc, HeldContainer::new())?)?;
-    }
-    Ok(places)
 }
 
 /// What comes of a container, which is copied where it comes whole.

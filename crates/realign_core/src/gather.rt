@@ -21,7 +21,7 @@ use lcas_packet::Packet;
 use line_reader::{CellRef, CellSign, Verdict, cell_ref};
 use std::alloc::{AllocError, Global};
 use std::marker::Model;
-use vc_cell::{Cell, HeldContainer};
+use vc_cell::{Cell, HeldContainer, blank_boxes};
 
 /// Gathers the rows of a group from the cells of its lines.
 #[derive(Drop)]
@@ -60,7 +60,7 @@ impl RowGather {
     {
         Ok(RowGather {
             lines: new_lines(alloc, lines)?,
-            places: blank_places(alloc, lines)?,
+            places: blank_boxes(alloc, usize::from(lines))?,
             packets: no_packets(alloc, lines)?,
             decided: 0,
             rows: 0,
@@ -186,17 +186,6 @@ fn new_lines(alloc: Global, count: u8) -> Result<Vec<GatherLine>, AllocError>
         lines.push(GatherLine::new())?;
     }
     Ok(lines)
-}
-
-/// A box for the container of each line.
-fn blank_places(alloc: Global, count: u8) -> Result<Vec<Box<HeldContainer>>, AllocError>
-    ensures { IfOk result (λ places. length places.items ≡ count) }
-{
-    let mut places = Vec::with_capacity(alloc, usize::from(count))?;
-    for _ in 0..count {
-        places.push(Box::new(alloc, HeldContainer::new())?)?;
-    }
-    Ok(places)
 }
 
 /// No packet on a count of lines.

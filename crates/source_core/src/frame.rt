@@ -1,6 +1,6 @@
 //! The containers of a frame.
 
-ghost use Rattle.std.specs.Prelude.{◌≡◌, IfOk, ℕ, ◌+◌, ◌-◌, ◌*◌, ◌<◌, ◌≤◌, if◌then◌else◌, All, false, length, take};
+ghost use Rattle.std.specs.Prelude.{◌≡◌, ℕ, ◌+◌, ◌-◌, ◌*◌, ◌<◌, ◌≤◌, if◌then◌else◌, All, false, length, take};
 ghost use Rattle.std.specs.Prelude.{drop, replicate, slice_index_or};
 ghost use Rattle.session_model.specs.Piece.{stream_of};
 ghost use Rattle.session_model.specs.Client.{Stream, reached};
@@ -15,23 +15,11 @@ ghost use Rattle.session_model.specs.Limits.{vc4_size};
 use crate::step::NIBBLES;
 use gfp_fill::{Filler, FrameQueue};
 use h4_multiframe::h4;
-use std::alloc::{AllocError, Global};
 use vc_cell::{Container, HeldContainer};
 use vcat_interleave::spread_places;
 
 /// The most lines of a group.
 const LINES: usize = 128;
-
-/// A box for the container of each line.
-pub(crate) fn boxes(alloc: Global, lines: u8) -> Result<Vec<Box<HeldContainer>>, AllocError>
-    ensures { IfOk result (λ boxes. length boxes.items ≡ lines) }
-{
-    let mut boxes = Vec::with_capacity(alloc, usize::from(lines))?;
-    for _ in 0..lines {
-        boxes.push(Box::new(alloc, HeldContainer::new())?)?;
-    }
-    Ok(boxes)
-}
 
 /// Copies the containers out of their boxes.
 pub(crate) fn copy_out(boxes: &[Box<HeldContainer>], out: &mut [Container])

@@ -14,7 +14,7 @@ ghost use Rattle.source_core.specs.Terminal.{needed, SameKind};
 ghost use Rattle.source_core.specs.Given.{with_frame, with_command, with_cell, with_told, IsFresh, Stands};
 ghost use Rattle.session_model.specs.Limits.{vc4_size};
 
-use crate::frame::{boxes, copy_out};
+use crate::frame::copy_out;
 use crate::maker::Maker;
 use gfp_fill::AcceptFault;
 use lcas_packet::Packet;
@@ -22,7 +22,7 @@ use lcas_source::{CommandFault, SourceTable};
 use session_model::Command;
 use std::alloc::{AllocError, Global};
 use std::marker::Model;
-use vc_cell::{BackCell, Container, HeldContainer};
+use vc_cell::{BackCell, Container, HeldContainer, blank_boxes};
 
 /// The source terminal of a group.
 #[derive(Drop)]
@@ -59,7 +59,7 @@ impl SourceCore {
     {
         Ok(SourceCore {
             maker: Maker::new(alloc, lines, lag, size)?,
-            frame: boxes(alloc, lines)?,
+            frame: blank_boxes(alloc, usize::from(lines))?,
         })
     }
 

@@ -3,11 +3,13 @@
 //! and what comes of them on a line, is not said here.
 #![tactic(auto)]
 
+mod boxes;
 mod held;
 
 ghost use Rattle.std.specs.Prelude.{◌≡◌, ◌≢◌, IfSome, IfNone};
 ghost use Rattle.vc_cell.specs.Code.{code_of, ctrl_of};
 
+pub use boxes::blank_boxes;
 pub use held::HeldContainer;
 
 /// The payload octets of a VC-4 of one frame.

@@ -8,12 +8,12 @@ ghost use Rattle.session_model.specs.Leg.{leg_of};
 ghost use Rattle.group_source.specs.Source.{IsUnused};
 ghost use Rattle.walk_core.specs.Opened.{AreOpened, AreRings, IsNewSink, IsNew};
 
-use group_source::{GroupSource, blank_boxes};
+use group_source::GroupSource;
 use realign_core::RowGather;
 use session_model::{Config, Script};
 use sink_core::SinkCore;
 use std::alloc::{AllocError, Global};
-use vc_cell::HeldContainer;
+use vc_cell::{HeldContainer, blank_boxes};
 use walk_parts::WalkLine;
 
 /// The frames that the send rings hold.
@@ -87,7 +87,7 @@ fn new_sent(alloc: Global, lines: u8) -> Result<Vec<Vec<Box<HeldContainer>>>, Al
 {
     let mut sent = Vec::with_capacity(alloc, SENDS)?;
     for _ in 0..SENDS {
-        sent.push(blank_boxes(alloc, u16::from(lines))?)?;
+        sent.push(blank_boxes(alloc, usize::from(lines))?)?;
     }
     Ok(sent)
 }

@@ -15,13 +15,12 @@ ghost use Rattle.walk_parts.specs.Ringed.{Ringed, ring_of, Has, popped_cells, Is
 ghost use Rattle.walk_parts.specs.Ringed.{leaves_open, with_sign, count_of, is_at};
 
 use failure_window::{Window, Windows};
-use group_source::blank_boxes;
 use line_core::{CarrySign, LineCore};
 use line_reader::{CellRef, CellSign};
 use realign_core::{RowAnswer, RowGather};
 use std::alloc::{AllocError, Global};
 use std::marker::Model;
-use vc_cell::{Container, HeldContainer};
+use vc_cell::{Container, HeldContainer, blank_boxes};
 
 /// A line with its receive ring: the cells that it gave and that weren't popped. Only its making takes
 /// memory, and a container is copied nowhere on its way into the line, through it and out of the ring.
@@ -76,7 +75,7 @@ impl WalkLine {
         Ok(WalkLine {
             core: LineCore::new(alloc, delay, windows, total)?,
             signs: vec![in alloc; CarrySign::Nothing; usize::from(ring)]?,
-            places: blank_boxes(alloc, ring)?,
+            places: blank_boxes(alloc, usize::from(ring))?,
             carried: 0,
             given: 0,
             popped: 0,

@@ -11,7 +11,7 @@ invariant_of-result c =
     let size = lines.size in
     let none = ap length c.in_ok-no_packets.ensures ∙ length-replicate c.args.lines None in (
       omega arith,
-      omega (arith, c.in_ok-blank_places.ensures, size),
+      omega (arith, c.in_ok-blank_boxes.ensures, size),
       omega (arith, none, size),
       decided-new c.args.lines c.in_ok-new_lines.field-0.items lines,
     )
@@ -19,6 +19,6 @@ invariant_of-result c =
 pub returns-clause-stands : goal.returns-clause-stands
 returns-clause-stands c =
     let lines = c.in_ok-new_lines.ensures in
-    new_stands c.args.lines c.in_ok-new_lines.field-0.items (held c.in_ok-blank_places.field-0.items)
+    new_stands c.args.lines c.in_ok-new_lines.field-0.items (held c.in_ok-blank_boxes.field-0.items)
     c.in_ok-no_packets.field-0.items lines.size c.in_ok-no_packets.ensures
     (λ m line place here. lines.fresh m line place here)

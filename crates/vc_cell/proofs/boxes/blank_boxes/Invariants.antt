@@ -1,6 +1,6 @@
 -- A box for each turn so far.
 use Rattle.std.proofs.Common.{◌≡◌, length}
-use Rattle.realign_core.proofs.gather.blank_places.Given as goal
+use Rattle.vc_cell.proofs.boxes.blank_boxes.Given as goal
 
 abbrev pub invariant-loop : goal.invariant-loop
-invariant-loop l = length l.places.items ≡ l.counter
+invariant-loop l = length l.boxes.items ≡ l.counter

@@ -1,6 +1,0 @@
--- A box for each turn so far.
-use Rattle.std.proofs.Common.{◌≡◌, length}
-use Rattle.line_core.proofs.store.blank_boxes.Given as goal
-
-abbrev pub invariant-loop : goal.invariant-loop
-invariant-loop l = length l.places.items ≡ l.counter
