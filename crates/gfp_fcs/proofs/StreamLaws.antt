@@ -14,13 +14,6 @@ use Rattle.session_model.proofs.ScrambledOctets.{length-scrambled_octets}
 use Rattle.fcs_model.specs.Fcs.{fcs_area}
 use Rattle.flip_law.specs.Flipped.{fcs_stream}
 
-pub areas-more : (frames : List (List ℕ)) (frame : List ℕ)
-    → joined (map fcs_area (frames ++ frame ∷ [])) ≡ joined (map fcs_area frames) ++ fcs_area frame
-areas-more frames frame =
-    ap joined (map-append fcs_area frames (frame ∷ []))
-    ∙ joined-append (map fcs_area frames) (fcs_area frame ∷ [])
-    ∙ ap (λ l. joined (map fcs_area frames) ++ l) (append-nil (fcs_area frame))
-
 -- a piece of a scrambled list is as long as what it is of
 pub length-piece : (before more piece : List ℕ)
     → scrambled_octets (before ++ more) ≡ scrambled_octets before ++ piece → length piece ≡ length more
