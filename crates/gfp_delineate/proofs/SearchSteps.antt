@@ -7,7 +7,8 @@ use Rattle.session_model.specs.Run.{Run}
 use Rattle.gfp_delineate.specs.declared.areas.Phase.{Phase}
 use Rattle.gfp_delineate.specs.declared.areas.Phase.TheVariants.{Hunt, PresyncArea, PresyncHeader}
 use Rattle.gfp_delineate.specs.LeftOpen.{searching, Leaves}
-use Rattle.gfp_delineate.specs.Areas.{ends, reader, Progress, Searches, Headed, InHunt, InPresyncArea, InPresyncHeader}
+use Rattle.gfp_delineate.specs.Areas.{ends, reader, Progress, Searches, Headed, IsIn, InHunt, InPresyncArea}
+use Rattle.gfp_delineate.specs.Areas.{InPresyncHeader}
 use Rattle.gfp_delineate.proofs.StandingLaws.{Becomes-on, Leaves-longer, Leaves-goes_on}
 use Rattle.gfp_delineate.proofs.Known.{ends_of, ends-hunt, ends-presync, nothing, length-shifted}
 use Rattle.gfp_delineate.proofs.Known.{window-more, window-whole, window-none}
@@ -35,75 +36,56 @@ searches-more old first octets ended settled last next more phase window is four
 -- ---- the phases that are reached
 module _ (base : Progress) (longest : ℕ) (first : Bool) (octets more : List ℕ) (limit : base.longest ≡ longest)
     (ended : List Run) (settled : Bool) (was : ends longest base.corrects first octets ≡ ends_of longest ended) where
+  -- no area has ended
+  reached : (phase : Phase) → IsIn phase (in_phase base phase) first (octets ++ more) →
+      ends longest base.corrects first (octets ++ more) ≡ ends_of longest ended →
+      Taken (in_phase base phase) longest base.corrects first octets more []
+  reached phase is now = record {
+    stands = record { limit = limit; setting = refl; phase = is };
+    outcome = nothing longest base.corrects first octets more (ends_of longest ended) was now;
+  }
+
   pub to-hunt : (have : ℕ) → have < 4 →
       Searches (in_phase base (Hunt have)) first (octets ++ more) ended settled (drop (4 - have) base.window) →
       Taken (in_phase base (Hunt have)) longest base.corrects first octets more []
-  to-hunt have part is = record {
-    stands = record {
-      limit = limit;
-      setting = refl;
-      phase = record {
-        ended = ended;
-        settled = settled;
-        part
-            = part;
-        search = is;
-      };
-    };
-    outcome = nothing longest base.corrects first octets more (ends_of longest ended) was
-        (ends-hunt (in_phase base (Hunt have)) longest first (octets ++ more) ended settled have part is);
-  }
+  to-hunt have part is =
+      reached (Hunt have) (record { ended = ended; settled = settled; part = part; search = is })
+      (ends-hunt (in_phase base (Hunt have)) longest first (octets ++ more) ended settled have part is)
 
   to-presync-area : (header come : List ℕ) (left : ℕ) → Headed head header come left → 0 < left →
       Searches (in_phase base (PresyncArea left)) first (octets ++ more) ended settled (header ++ come) →
       Taken (in_phase base (PresyncArea left)) longest base.corrects first octets more []
-  to-presync-area header come left headed part is = record {
-    stands = record {
-      limit = limit;
-      setting = refl;
-      phase =
-          record {
-            ended = ended;
-            settled = settled;
-            header = header;
-            come = come;
-            headed = headed;
-            part = part;
-            search =
-                is;
-          };
-    };
-    outcome = nothing longest base.corrects first octets more (ends_of longest ended) was
-        (ends-presync (in_phase base (PresyncArea left)) longest first (octets ++ more) ended settled header come
-        (length come + left) headed.size headed.found (omega arith) is);
-  }
+  to-presync-area header come left headed part is =
+      reached (PresyncArea left) (record {
+        ended = ended;
+        settled = settled;
+        header = header;
+        come = come;
+        headed = headed;
+        part = part;
+        search = is;
+      })
+      (ends-presync (in_phase base (PresyncArea left)) longest first (octets ++ more) ended settled header come
+      (length come + left) headed.size headed.found (omega arith) is)
 
   to-presync-header : (header come : List ℕ) (have : ℕ) → Headed head header come 0 → have < 4 →
       Searches (in_phase base (PresyncHeader have)) first (octets ++ more) ended settled
       (header ++ (come ++ drop (4 - have) base.window)) →
       Taken (in_phase base (PresyncHeader have)) longest base.corrects first octets more []
-  to-presync-header header come have headed part is = record {
-    stands = record {
-      limit = limit;
-      setting = refl;
-      phase =
-          record {
-            ended = ended;
-            settled = settled;
-            header = header;
-            come = come;
-            headed = headed;
-            part = part;
-            search =
-                is;
-          };
-    };
-    outcome = nothing longest base.corrects first octets more (ends_of longest ended) was
-        (ends-presync (in_phase base (PresyncHeader have)) longest first (octets ++ more) ended settled header
-        (come ++ drop (4 - have) base.window) (length come + 0) headed.size headed.found
-        (omega (arith, length-append come (drop (4 - have) base.window), length-drop (4 - have) base.window, is.window))
-        is);
-  }
+  to-presync-header header come have headed part is =
+      reached (PresyncHeader have) (record {
+        ended = ended;
+        settled = settled;
+        header = header;
+        come = come;
+        headed = headed;
+        part = part;
+        search = is;
+      })
+      (ends-presync (in_phase base (PresyncHeader have)) longest first (octets ++ more) ended settled header
+      (come ++ drop (4 - have) base.window) (length come + 0) headed.size headed.found
+      (omega (arith, length-append come (drop (4 - have) base.window), length-drop (4 - have) base.window, is.window))
+      is)
 
 -- ---- the steps
 module _ (old : Progress) (longest : ℕ) (first : Bool) (octets : List ℕ) (limit : old.longest ≡ longest) where

@@ -5,16 +5,10 @@ use Rattle.std.proofs.lemmas.List.{map-append, take_at, drop_at}
 use Rattle.session_model.specs.Core.{core_header}
 use Rattle.session_model.specs.Piece.{joined, areas_stream}
 use Rattle.session_model.specs.Scramble.{scrambled_octets}
-use Rattle.session_model.proofs.CutLaws.{joined-push}
 use Rattle.session_model.proofs.StreamLaws.{areas_stream-push}
 use Rattle.session_model.proofs.ScrambledOctets.{length-scrambled_octets}
 use Rattle.fcs_model.specs.Fcs.{fcs_area}
 use Rattle.flip_law.specs.Flipped.{fcs_stream}
-
-pub areas-more : (frames : List (List ℕ)) (frame : List ℕ)
-    → joined (map fcs_area (frames ++ frame ∷ [])) ≡ joined (map fcs_area frames) ++ fcs_area frame
-areas-more frames frame =
-    ap joined (map-append fcs_area frames (frame ∷ [])) ∙ joined-push (map fcs_area frames) (fcs_area frame)
 
 -- a piece of a scrambled list is as long as what it is of
 pub length-piece : (before more piece : List ℕ)

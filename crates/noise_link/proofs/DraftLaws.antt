@@ -18,7 +18,7 @@ use Rattle.noise_link.specs.declared.draft.Noise.{Noise}
 use Rattle.noise_link.specs.declared.draft.Statement.{Statement}
 use Rattle.noise_link.specs.declared.draft.Statement.TheVariants as says
 use Rattle.noise_link.specs.Lines.{words_fault, words_said, after, at_first, noise_lines}
-use Rattle.noise_link.specs.Noise.{noise_in, noise_of_draft, noise_of, IsNoise, IsNoiseFault}
+use Rattle.noise_link.specs.Noise.{noise_of_draft, noise_of, IsNoiseFault}
 use Rattle.noise_link.specs.Drafts.{behind, stopped, IsDraft, IsLineStop, Fits}
 
 -- ---- the text
@@ -49,10 +49,6 @@ line_stopped text n d all l ls stop.Memory same first fails = tt
 pub whole_said : (text : List ℕ) (n : ℕ) (d : Draft) (all : List (List ℕ))
     → said_by noise_lines text ≡ said_from noise_lines n d all → all ≡ [] → said_by noise_lines text ≡ Ok d
 whole_said text n d all same none = same ∙ end_sound noise_lines n d all none refl
-
-pub noise_said : (text : List ℕ) (d : Draft) (noise : Noise) → said_by noise_lines text ≡ Ok d → noise ≡ noise_in d
-    → noise_of text ≡ Ok noise
-noise_said text d noise said is = ap noise_of_draft said ∙ ap Ok (sym is)
 
 -- ---- a frame more
 sizes-more : (frames : List (List ℕ)) (frame : List ℕ) →
@@ -126,11 +122,3 @@ pub size-after : (d : Draft) (said : Statement) → Fits d said → (after d sai
 size-after d says.Nothing fits = omega arith
 size-after d (says.Frame frame) fits = let most = fits.1.most in omega (arith, most)
 size-after d (says.Flip flip) fits = omega arith
-
--- ---- a noise
-pub noise-whole : (d : Draft) → IsDraft d → IsNoise (noise_in d)
-noise-whole d is = record {
-  frames = is.frames;
-  flips = subst (λ n. All (LiesIn n) d.flips) is.size is.flips;
-  rising = is.rising;
-}
