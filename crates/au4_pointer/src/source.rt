@@ -32,7 +32,7 @@ pub enum PointerFault {
 }
 
 /// Sends VC-4s in frames.
-#[derive(Drop)]
+#[derive(Clone, Copy)]
 pub struct PointerSource {
     /// The value of the next frame.
     value: u16,
