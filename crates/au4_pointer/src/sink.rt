@@ -35,7 +35,7 @@ pub enum PointerWordFault {
 }
 
 /// Finds the VC-4s in frames.
-#[derive(Clone, Copy)]
+#[derive(Drop)]
 pub struct PointerSink {
     /// The value of the next frame, where one came before.
     value: Option<u16>,

@@ -32,7 +32,7 @@ pub enum PointerFault {
 }
 
 /// Sends VC-4s in frames.
-#[derive(Clone, Copy)]
+#[derive(Drop)]
 pub struct PointerSource {
     /// The value of the next frame.
     value: u16,
