@@ -53,10 +53,6 @@ whole_said text n d all same none least =
     let whole : missing_line d ≡ None = rw no refl in
     same ∙ end_sound link_lines n d all none whole
 
-pub link_said : (text : List ℕ) (d : Draft) (link : Link) → said_by link_lines text ≡ Ok d → link ≡ link_in d
-    → link_of text ≡ Ok link
-link_said text d link said is = ap link_of_draft said ∙ ap Ok (sym is)
-
 -- ---- actions
 -- Keep up to a frame, one more
 pub keep_one : (before all new : List Action) (n more : ℕ) → new ≡ all ++ Keep ∷ [] → all ≡ before ++ replicate n Keep

@@ -60,10 +60,6 @@ whole_said text n d all same none least =
     let whole : missing_line d ≡ None = rw no refl in
     same ∙ end_sound plan_lines n d all none whole
 
-pub plan_said : (text : List ℕ) (d : Draft) (plan : ChannelPlan) → said_by plan_lines text ≡ Ok d → plan ≡ plan_in d
-    → plan_of text ≡ Ok plan
-plan_said text d plan said is = ap plan_of_draft said ∙ ap Ok (sym is)
-
 -- ---- a cut more
 cuts-more : (place most : ℕ) (cuts : List Cut) (cut : Cut) → AreCuts place most cuts → end_behind place cuts ≤ cut.first
     → cut.first < cut.end → cut.end ≤ most → AreCuts place most (cuts ++ cut ∷ [])
@@ -137,16 +133,3 @@ draft-after d (says.Cut cut) is fits = record {
       cuts-more 0 d.octets d.cuts cut is.cuts (subst (λ n. n ≤ cut.first) is.end fits.1) fits.2 fits.3;
   end = behind-more d.cuts cut;
 }
-
--- ---- a plan
-pub plan-whole : (d : Draft) → IsDraft d → 2 ≤ d.next → IsPlan (plan_in d)
-plan-whole d is least =
-    let channels = is.channels (omega (arith, least)) in
-    record {
-      some = channels.0;
-      most = channels.1;
-      long = is.octets least;
-      short = is.few;
-      frames = is.frames;
-      cuts = is.cuts;
-    }

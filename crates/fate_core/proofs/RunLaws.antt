@@ -32,11 +32,6 @@ same-is (Container line) Packet is = absurd cc
 same-is (Container line) (PacketOf other) is = absurd cc
 same-is (Container line) (Container other) is = ap Container (eqb-true line other is)
 
-pub same-self : (a : Cause) → same_cause a a ≡ true
-same-self Packet = refl
-same-self (PacketOf line) = eq-eqb line line refl
-same-self (Container line) = eq-eqb line line refl
-
 -- the row in front and the one behind meet
 module _ (t n : ℕ) (first cause : Cause) where
   abbrev new : SpoiledRun
