@@ -9,7 +9,6 @@ use Rattle.session_model.specs.Piece.{joined, with_header}
 use Rattle.session_model.specs.Scramble.{scrambled_octets}
 use Rattle.session_model.proofs.AreaLaws.{scrambled_behind, scrambled_behind-append, scrambled_behind-single}
 use Rattle.session_model.proofs.AreaLaws.{length-scrambled_single}
-use Rattle.session_model.proofs.CutLaws.{joined-append}
 use Rattle.session_model.proofs.ScrambledOctets.{length-scrambled_octets}
 use Rattle.fcs_model.specs.Fcs.{fcs_area}
 use Rattle.flip_law.specs.Flipped.{fcs_stream}

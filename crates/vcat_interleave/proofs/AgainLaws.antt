@@ -1,6 +1,6 @@
 -- Rows whose octets come again and again.
 use Rattle.std.proofs.Common.{◌≡◌, ℕ, zero, suc, ◌+◌, ◌-◌, ◌*◌, ◌/◌, ◌%◌, ◌<◌, List, length, take, drop}
-use Rattle.std.proofs.Common.{slice_index, sym, ap, ◌∙◌, arith, length-drop}
+use Rattle.std.proofs.Common.{slice_index, sym, ap, ◌∙◌, arith}
 use Rattle.std.proofs.lemmas.List.{get_or-take, get_or-drop}
 use Rattle.vcat_interleave.specs.Again.{ComesAgain}
 
