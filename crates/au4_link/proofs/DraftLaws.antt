@@ -13,7 +13,6 @@ use Rattle.au4_pointer.specs.declared.Action.{Action}
 use Rattle.au4_pointer.specs.declared.Action.TheVariants.{Keep}
 use Rattle.au4_pointer.proofs.LinkSteps.{accepted-more}
 use Rattle.au4_link.specs.declared.draft.Draft.{Draft}
-use Rattle.au4_link.specs.declared.draft.Link.{Link}
 use Rattle.au4_link.specs.declared.draft.Statement.{Statement}
 use Rattle.au4_link.specs.declared.draft.Statement.TheVariants as says
 use Rattle.au4_link.specs.Lines.{awaited, words_fault, words_said, after, at_first, missing_line, link_lines}

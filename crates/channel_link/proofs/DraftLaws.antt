@@ -13,11 +13,10 @@ use Rattle.channel_link.specs.declared.fault.LineFault.TheVariants.{Missing}
 use Rattle.channel_link.specs.declared.fault.LineStop.{LineStop}
 use Rattle.channel_link.specs.declared.fault.LineStop.TheVariants as stop
 use Rattle.channel_link.specs.declared.draft.Draft.{Draft}
-use Rattle.channel_link.specs.declared.draft.ChannelPlan.{ChannelPlan}
 use Rattle.channel_link.specs.declared.draft.Statement.{Statement}
 use Rattle.channel_link.specs.declared.draft.Statement.TheVariants as says
 use Rattle.channel_link.specs.Lines.{awaited, words_fault, words_said, after, at_first, missing_line, plan_lines}
-use Rattle.channel_link.specs.Plan.{plan_in, plan_of_draft, plan_of, AreCuts, IsOfOctets, IsPlan, IsPlanFault}
+use Rattle.channel_link.specs.Plan.{plan_of_draft, plan_of, AreCuts, IsOfOctets, IsPlanFault}
 use Rattle.channel_link.specs.Drafts.{end_behind, stopped, IsDraft, IsLineStop, Fits}
 
 -- ---- the text

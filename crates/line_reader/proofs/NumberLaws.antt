@@ -117,9 +117,7 @@ module _ (numbers now : Numbers) (place : Container) (cells : List Cell) (t : �
     over = λ e. absurd (false-true (sym opened.ended ∙ e));
   }
 
-  pub Stands-end :
-      Stands (record { lock = numbers.lock; next = numbers.next; bad = numbers.bad; whole = numbers.whole; ended = true })
-      place (cells ++ End ∷ []) t
+  pub Stands-end : Stands (record numbers { ended = true }) place (cells ++ End ∷ []) t
   Stands-end =
       let now = end-reading cells [] in
       let none = left-none numbers place opened in

@@ -1,5 +1,5 @@
 -- A frame more, or none.
-use Rattle.std.proofs.Common.{◌≡◌, List, [], ◌∷◌, ◌++◌, sym, ◌∙◌, ap, subst, refl, length}
+use Rattle.std.proofs.Common.{◌≡◌, List, [], ◌∷◌, ◌++◌, sym, ◌∙◌, ap, subst, refl}
 use Rattle.std.specs.List.{flat_map}
 use Rattle.got_lines.specs.Told.{HasText}
 use Rattle.linear_model.specs.Linear.{ChannelFrame, LinearOutcome, delivery, frame_in, linear_outcomes}
