@@ -5,10 +5,7 @@ use Rattle.std.proofs.lemmas.List.{map-append, take_at, drop_at}
 use Rattle.session_model.specs.Core.{core_header}
 use Rattle.session_model.specs.Piece.{joined, areas_stream}
 use Rattle.session_model.specs.Scramble.{scrambled_octets}
-<<<<<<< HEAD
 use Rattle.session_model.proofs.StreamLaws.{areas_stream-push}
-=======
->>>>>>> 3ef8c590a3880d6bf5944f412da87f7944fcbb94
 use Rattle.session_model.proofs.ScrambledOctets.{length-scrambled_octets}
 use Rattle.fcs_model.specs.Fcs.{fcs_area}
 use Rattle.flip_law.specs.Flipped.{fcs_stream}
