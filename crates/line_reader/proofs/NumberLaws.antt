@@ -199,9 +199,8 @@ says-over lock next t bad whole place cells stands =
     let is = stands.over refl in
     let all : (reading_of cells).verdicts ≡ stands.passed = stands.verdicts ∙ ap (λ l. stands.passed ++ l) is.1
     ∙ append-nil stands.passed in
-    let none : slice_get (reading_of cells).verdicts t
-        ≡ None = slice_get_past (reading_of cells).verdicts t (let size = ap length all in let low = is.2 in
-            omega arith) in
+    let none : slice_get (reading_of cells).verdicts t ≡ None =
+    slice_get_past (reading_of cells).verdicts t (let size = ap length all in let low = is.2 in omega arith) in
     rw (none, is.0) refl
 
 pub says-whole : (lock : MfiLock) (next t : ℕ) (place : Container) (cells : List Cell) →
