@@ -27,6 +27,14 @@ returns-in-Stalled-clause-counts c =
     land-end (leg_of c.args.self.now.script) c.args.self.now.counts c.args.client c.loop.self.counts
     c.land.new.self.counts _ inv.landed after said
 
+pub returns-in-Stalled-clause-rows : goal.returns-in-Stalled-clause-rows
+returns-in-Stalled-clause-rows c =
+    let inv = c.loop.invariant in
+    let after = c.land.ensures.counts
+    ∙ ap (λ (x : Script). counts_after (leg_of x) c.loop.self.counts (landing_of c.args.client)) inv.script in
+    ap (λ (s : Counts). s.rows) after
+    ∙ landed-rows c.args.client (leg_of c.args.self.now.script) c.loop.self.counts ∙ inv.rows
+
 pub loop-smaller : goal.loop-smaller
 loop-smaller c =
     let inv = c.loop.invariant in

@@ -1,5 +1,5 @@
 -- No event but a Take gives frames.
-use Rattle.std.proofs.Common.{◌<◌, length, ◌∙◌, ap, subst, arith}
+use Rattle.std.proofs.Common.{◌<◌, true, false, length, ◌∙◌, ap, subst, arith}
 use Rattle.session_model.specs.Counts.{Counts}
 use Rattle.session_model.specs.Valid.{IsValid}
 use Rattle.session_model.specs.Leg.{leg_of}
