@@ -36,8 +36,11 @@ pub struct AlarmLog {
     pub(crate) list: Vec<Alarm>,
     /// Room for what the posts kept.
     pub(crate) back: Vec<Vec<Alarm>>,
+    /// The pass is that of this log, and the list has the alarms that it got.
     pub ghost listens: { Listens (arc_value queue) pass list },
+    /// No post's pass was joined to that of the log.
     pub ghost open_: { known_of (view pass) ≡ [] },
+    /// Nothing came back yet, and there is room for what each post that was made kept.
     pub ghost room: { (back.items ≡ []) × (made_of (view pass) ≤ vec_capacity back) },
 }
 

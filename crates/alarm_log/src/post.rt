@@ -30,9 +30,13 @@ pub struct AlarmPost {
     pub(crate) queue: Arc<AlarmQueue, Global>,
     pub(crate) pass: Pass<Tagged, View>,
     pub(crate) kept: Vec<Alarm>,
+    /// The pass is one of this queue.
     pub ghost own: { IsPassOf (arc_value queue) pass },
+    /// The pass is that of the post with this number and this limit.
     pub ghost seat: { view pass ≡ Post number most (posts_in (view pass)) (put_of (view pass)) },
+    /// What was put and what is kept are together no more than it may post.
     pub ghost limit: { length (put_of (view pass)) + length kept.items ≤ most },
+    /// There is room to keep all of them.
     pub ghost room: { most ≤ vec_capacity kept },
 }
 

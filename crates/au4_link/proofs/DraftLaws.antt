@@ -13,7 +13,6 @@ use Rattle.au4_pointer.specs.declared.Action.{Action}
 use Rattle.au4_pointer.specs.declared.Action.TheVariants.{Keep}
 use Rattle.au4_pointer.proofs.LinkSteps.{accepted-more}
 use Rattle.au4_link.specs.declared.draft.Draft.{Draft}
-use Rattle.au4_link.specs.declared.draft.Link.{Link}
 use Rattle.au4_link.specs.declared.draft.Statement.{Statement}
 use Rattle.au4_link.specs.declared.draft.Statement.TheVariants as says
 use Rattle.au4_link.specs.Lines.{awaited, words_fault, words_said, after, at_first, missing_line, link_lines}
@@ -52,10 +51,6 @@ whole_said text n d all same none least =
     let no : nat_lt d.next 2 ≡ false = grind (arith, nat_tests, least) in
     let whole : missing_line d ≡ None = rw no refl in
     same ∙ end_sound link_lines n d all none whole
-
-pub link_said : (text : List ℕ) (d : Draft) (link : Link) → said_by link_lines text ≡ Ok d → link ≡ link_in d
-    → link_of text ≡ Ok link
-link_said text d link said is = ap link_of_draft said ∙ ap Ok (sym is)
 
 -- ---- actions
 -- Keep up to a frame, one more

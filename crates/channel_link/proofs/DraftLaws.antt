@@ -13,11 +13,10 @@ use Rattle.channel_link.specs.declared.fault.LineFault.TheVariants.{Missing}
 use Rattle.channel_link.specs.declared.fault.LineStop.{LineStop}
 use Rattle.channel_link.specs.declared.fault.LineStop.TheVariants as stop
 use Rattle.channel_link.specs.declared.draft.Draft.{Draft}
-use Rattle.channel_link.specs.declared.draft.ChannelPlan.{ChannelPlan}
 use Rattle.channel_link.specs.declared.draft.Statement.{Statement}
 use Rattle.channel_link.specs.declared.draft.Statement.TheVariants as says
 use Rattle.channel_link.specs.Lines.{awaited, words_fault, words_said, after, at_first, missing_line, plan_lines}
-use Rattle.channel_link.specs.Plan.{plan_in, plan_of_draft, plan_of, AreCuts, IsOfOctets, IsPlan, IsPlanFault}
+use Rattle.channel_link.specs.Plan.{plan_of_draft, plan_of, AreCuts, IsOfOctets, IsPlanFault}
 use Rattle.channel_link.specs.Drafts.{end_behind, stopped, IsDraft, IsLineStop, Fits}
 
 -- ---- the text
@@ -59,10 +58,6 @@ whole_said text n d all same none least =
     let no : nat_lt d.next 2 ≡ false = grind (arith, nat_tests, least) in
     let whole : missing_line d ≡ None = rw no refl in
     same ∙ end_sound plan_lines n d all none whole
-
-pub plan_said : (text : List ℕ) (d : Draft) (plan : ChannelPlan) → said_by plan_lines text ≡ Ok d → plan ≡ plan_in d
-    → plan_of text ≡ Ok plan
-plan_said text d plan said is = ap plan_of_draft said ∙ ap Ok (sym is)
 
 -- ---- a cut more
 cuts-more : (place most : ℕ) (cuts : List Cut) (cut : Cut) → AreCuts place most cuts → end_behind place cuts ≤ cut.first
@@ -137,16 +132,3 @@ draft-after d (says.Cut cut) is fits = record {
       cuts-more 0 d.octets d.cuts cut is.cuts (subst (λ n. n ≤ cut.first) is.end fits.1) fits.2 fits.3;
   end = behind-more d.cuts cut;
 }
-
--- ---- a plan
-pub plan-whole : (d : Draft) → IsDraft d → 2 ≤ d.next → IsPlan (plan_in d)
-plan-whole d is least =
-    let channels = is.channels (omega (arith, least)) in
-    record {
-      some = channels.0;
-      most = channels.1;
-      long = is.octets least;
-      short = is.few;
-      frames = is.frames;
-      cuts = is.cuts;
-    }

@@ -7,15 +7,16 @@ use Rattle.got_lines.specs.declared.got.GotLines.{GotLines}
 use Rattle.got_lines.specs.Told.{HasText}
 use Rattle.session_model.specs.Segment.{Segment}
 use Rattle.linear_model.specs.declared.Cut.{Cut}
-use Rattle.linear_model.specs.Linear.{ChannelFrame, frame_in}
+use Rattle.linear_model.specs.Linear.{ChannelFrame, LinearOutcome, frame_in, linear_outcomes}
 use Rattle.linear_model.specs.Stream.{cut_outcomes}
-use Rattle.gfp_linear.specs.Delineator.{StandsIn}
+use Rattle.gfp_linear.specs.Delineator.{LinearReceiver, StandsIn}
 use Rattle.channel_link.specs.declared.reception.Reception.{Reception}
 use Rattle.channel_link.specs.Plan.{AreCuts}
 use Rattle.channel_link.specs.Text.{got_text}
 use Rattle.channel_link.specs.Run.{Received, ReceivedIn, longer_by, open_segment, ended_outcomes, ended_by}
 use Rattle.channel_link.proofs.CutLaws.{none-come, count-none, ended-none, open-none, arrives, skips, Skips, come_of}
 use Rattle.channel_link.proofs.CutLaws.{come-all, come-none}
+use Rattle.channel_link.proofs.TextLaws.{frames-same}
 
 -- nothing was sent
 pub received-none : {K : Type 0} (written : K → Option (List ℕ)) (faults : K → ℕ) (reception : Reception K)
@@ -61,6 +62,23 @@ received-next written faults old new start most cuts d sent o are was later goes
       goes_on = subst (λ l. ReceivedIn written faults new start l (open_segment 0 true cuts (sent ++ o ∷ [])))
           (sym steps.ended)
           (subst (ReceivedIn written faults new start (ended_outcomes 0 true cuts sent)) (sym steps.goes_on) goes_on);
+    }
+
+-- of an octet no frame came
+pub received-nothing : {K : Type 0} (written : K → Option (List ℕ)) (faults : K → ℕ) (old : Reception K)
+    (delineator : LinearReceiver) (start : Start) (before told : List LinearOutcome) (segment : Segment) (o : ℕ)
+    → ReceivedIn written faults old start before segment
+    → StandsIn delineator segment.first (segment.octets ++ o ∷ [])
+    → linear_outcomes segment.first (segment.octets ++ o ∷ []) ≡ linear_outcomes segment.first segment.octets ++ told
+    → flat_map frame_in told ≡ []
+    → ReceivedIn written faults (record old { delineator = delineator }) start before (longer_by segment o)
+received-nothing written faults old delineator start before told segment o was stands outcome none =
+    let same = frames-same before (linear_outcomes segment.first segment.octets) told
+    (linear_outcomes segment.first (segment.octets ++ o ∷ [])) outcome none in
+    record {
+      stands = stands;
+      text = subst (λ f. HasText written faults old.lines start (flat_map got_text f)) (sym same) was.text;
+      got = was.got ∙ ap length (sym same);
     }
 
 -- an octet of a cut was sent

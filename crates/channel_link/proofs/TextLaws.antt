@@ -29,12 +29,6 @@ texts-more frames frame =
     flat_map-append got_text frames (frame ∷ [])
     ∙ ap (λ l. flat_map got_text frames ++ l) (append-nil (got_text frame))
 
-pub refusal-texts-more : (refusals : List Refusal) (refusal : Refusal)
-    → flat_map refusal_text (refusals ++ refusal ∷ []) ≡ flat_map refusal_text refusals ++ refusal_text refusal
-refusal-texts-more refusals refusal =
-    flat_map-append refusal_text refusals (refusal ∷ [])
-    ∙ ap (λ l. flat_map refusal_text refusals ++ l) (append-nil (refusal_text refusal))
-
 pub length-more : {A : Type 0} (before all : List A) (x : A) (n : ℕ) → all ≡ before ++ x ∷ [] → n ≡ length before
     → n + 1 ≡ length all
 length-more before all x n e is = ap (λ m. m + 1) is ∙ sym (ap length e ∙ length-append before (x ∷ []))

@@ -19,7 +19,9 @@ pub enum Refusal {
 /// An input isn't what a command takes, and the note on that.
 #[derive(Drop)]
 pub struct Fault {
+    /// Whether it is one of the lines, or what they ask for as a whole.
     pub why: Refusal,
+    /// The text of the note, up to 512 octets.
     pub note: ArrayVec<u8, 512>,
 }
 

@@ -16,7 +16,9 @@ use walk_command::walk_top;
 /// The program that is called.
 #[derive(Clone, Copy)]
 pub enum Program {
+    /// The one that makes walks on one thread, `walk_top`.
     Walk,
+    /// The one that runs sessions on threads, `run_top`.
     Run,
 }
 

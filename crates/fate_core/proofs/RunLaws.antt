@@ -2,7 +2,7 @@
 use Rattle.std.proofs.Common.{◌≡◌, ℕ, zero, suc, ◌+◌, ◌&&◌, ◌==◌, Bool, true, false, List, [], ◌∷◌, ◌++◌, length}
 use Rattle.std.proofs.Common.{slice_index_or, slice_set, Option, Some, None, refl, sym, ◌∙◌, ap, ap₂, arith, inl, inr}
 use Rattle.std.proofs.Common.{length-append}
-use Rattle.std.proofs.lemmas.Bool.{cases_Bool, eqb-true, eq-eqb}
+use Rattle.std.proofs.lemmas.Bool.{cases_Bool, eqb-true}
 use Rattle.fate_law.specs.declared.Cause.{Cause}
 use Rattle.fate_law.specs.declared.Cause.TheVariants.{Packet, PacketOf, Container}
 use Rattle.fate_law.specs.declared.SpoiledRun.{SpoiledRun}
@@ -31,11 +31,6 @@ same-is (PacketOf line) (Container other) is = absurd cc
 same-is (Container line) Packet is = absurd cc
 same-is (Container line) (PacketOf other) is = absurd cc
 same-is (Container line) (Container other) is = ap Container (eqb-true line other is)
-
-pub same-self : (a : Cause) → same_cause a a ≡ true
-same-self Packet = refl
-same-self (PacketOf line) = eq-eqb line line refl
-same-self (Container line) = eq-eqb line line refl
 
 -- the row in front and the one behind meet
 module _ (t n : ℕ) (first cause : Cause) where

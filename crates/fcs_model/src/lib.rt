@@ -11,10 +11,15 @@ use session_model::TypeFault;
 /// another.
 #[derive(Clone, Copy, Debug, PartialEq, Eq)]
 pub enum FcsWhy {
+    /// The descrambler was not settled when the area began.
     Unsettled,
+    /// The area has `pli` octets, more than 9,608.
     TooLong { pli: u16 },
+    /// The type header has this fault.
     Header(TypeFault),
+    /// The area has `pli` octets, fewer than 12.
     Short { pli: u16 },
+    /// The payload FCS (pFCS) says `said`, and that of the frame before it is `found`.
     Fcs { said: u32, found: u32 },
 }
 
@@ -22,6 +27,8 @@ pub enum FcsWhy {
 /// the octet, 0 for the most significant one.
 #[derive(Clone, Copy, Debug, PartialEq, Eq)]
 pub struct Flip {
+    /// The place of its octet in the stream, counted from 0.
     pub place: u64,
+    /// Its place in that octet, from 0 for the most significant bit to 7.
     pub bit: u8,
 }

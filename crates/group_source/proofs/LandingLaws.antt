@@ -384,17 +384,19 @@ item-there [] i low = absurd (omega arith)
 item-there (item ∷ items) zero low = (item, refl)
 item-there (item ∷ items) (suc i) low = item-there items i (omega arith)
 
--- the next item isn't refused yet: it has no refusal, and there is room for one
-pub fresh-next : (landed : Landed) (frame command space : ℕ) (client : Bool) → IsLanded landed frame command space →
-    next_place landed client < length landed.items →
-    AreOthers (next_place landed client) landed.refusals
-fresh-next landed frame command space client is there =
+-- the next item isn't refused yet: it has no refusal, and there is room for one; `view` is what is kept
+pub fresh-next : (view landed : Landed) (frame command space : ℕ) (client : Bool) → view ≡ landed →
+    IsLanded view frame command space → next_place landed client < length landed.items →
+    AreOthers (next_place landed client) view.refusals
+fresh-next view landed frame command space client same kept there =
+    let is : IsLanded landed frame command space = subst (λ (l : Landed). IsLanded l frame command space) same kept in
     let (item, here) = item-there landed.items (next_place landed client) there in
     record {
-      order = is.order;
-      other =
-          next-fresh landed client (next_place landed client) item is.of_landed refl here
-          (next-kind landed client item here);
+      order = kept.order;
+      other = subst (λ (l : Landed).
+          All (λ (refused : ℕ × Refusal). refused.0 ≡ next_place landed client → ⊥) l.refusals) (sym same)
+          (next-fresh landed client (next_place landed client) item is.of_landed refl here
+          (next-kind landed client item here));
     }
 
 pub next-later : (landed : Landed) (client : Bool) → next_place landed client < length landed.items →

@@ -117,9 +117,7 @@ module _ (numbers now : Numbers) (place : Container) (cells : List Cell) (t : �
     over = λ e. absurd (false-true (sym opened.ended ∙ e));
   }
 
-  pub Stands-end :
-      Stands (record { lock = numbers.lock; next = numbers.next; bad = numbers.bad; whole = numbers.whole; ended = true })
-      place (cells ++ End ∷ []) t
+  pub Stands-end : Stands (record numbers { ended = true }) place (cells ++ End ∷ []) t
   Stands-end =
       let now = end-reading cells [] in
       let none = left-none numbers place opened in
@@ -201,7 +199,8 @@ says-over lock next t bad whole place cells stands =
     let is = stands.over refl in
     let all : (reading_of cells).verdicts ≡ stands.passed = stands.verdicts ∙ ap (λ l. stands.passed ++ l) is.1
     ∙ append-nil stands.passed in
-    let none : slice_get (reading_of cells).verdicts t ≡ None = slice_get_past (reading_of cells).verdicts t (let size = ap length all in let low = is.2 in omega arith) in
+    let none : slice_get (reading_of cells).verdicts t ≡ None =
+    slice_get_past (reading_of cells).verdicts t (let size = ap length all in let low = is.2 in omega arith) in
     rw (none, is.0) refl
 
 pub says-whole : (lock : MfiLock) (next t : ℕ) (place : Container) (cells : List Cell) →

@@ -19,10 +19,15 @@ pub struct CidFault {
 /// and has `pli` octets; or its extension header has a fault.
 #[derive(Clone, Copy, Debug, PartialEq, Eq)]
 pub enum LinearWhy {
+    /// The descrambler was not settled when the area began.
     Unsettled,
+    /// The area has `pli` octets, more than 9,608.
     TooLong { pli: u16 },
+    /// The type header has this fault.
     Header(TypeFault),
+    /// The area has `pli` octets, fewer than 8.
     Short { pli: u16 },
+    /// The extension header has this fault.
     Extension(CidFault),
 }
 

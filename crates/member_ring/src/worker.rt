@@ -53,8 +53,11 @@ pub struct LineWorker {
     raised: Raised,
     ghost stands: { Stands core (calls_on core (in_passed consumer)) },
     ghost sent: { out_passed producer ≡ path_cells (calls_on core (in_passed consumer)) },
+    /// No flush is made before all containers were pushed.
     pub ghost order: { 0 < core.flushed → core.pushed ≡ core.total },
+    /// The flushes are at most one more than the delay in frames.
     pub ghost flushes: { core.flushed ≤ core.delay + 1 },
+    /// No more containers were popped than the line carries.
     pub ghost received: { length (in_passed consumer) ≤ core.total },
     ghost failed: { raised.failed ≡ failed_after false (out_passed producer) },
     ghost next: { raised.place ≡ min (length (out_passed producer)) 4294967295 },

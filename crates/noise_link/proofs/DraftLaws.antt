@@ -14,7 +14,6 @@ use Rattle.noise_link.specs.declared.fault.LineFault.{LineFault}
 use Rattle.noise_link.specs.declared.fault.LineStop.{LineStop}
 use Rattle.noise_link.specs.declared.fault.LineStop.TheVariants as stop
 use Rattle.noise_link.specs.declared.draft.Draft.{Draft}
-use Rattle.noise_link.specs.declared.draft.Noise.{Noise}
 use Rattle.noise_link.specs.declared.draft.Statement.{Statement}
 use Rattle.noise_link.specs.declared.draft.Statement.TheVariants as says
 use Rattle.noise_link.specs.Lines.{words_fault, words_said, after, at_first, noise_lines}

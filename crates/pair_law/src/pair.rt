@@ -3,7 +3,9 @@
 /// One of the two directions of a pair.
 #[derive(Clone, Copy, Debug, PartialEq, Eq)]
 pub enum Way {
+    /// The way of the first script.
     There,
+    /// The way of the second script.
     Back,
 }
 

@@ -1,3 +1,4 @@
+//! The remainder of nibbles one by one, with a table of what each of them leaves.
 ghost use Rattle.std.specs.Prelude.{◌≡◌, ◌^◌, ◌<◌, ◌≤◌, nat_lt, Bool, List, ◌++◌, length, All, IsTrue};
 ghost use Rattle.std.specs.List.{list_all};
 ghost use Rattle.remainder.specs.Bits.{bits};

@@ -14,7 +14,6 @@ use Rattle.session_model.specs.Interleave.{part_of}
 use Rattle.session_model.specs.Sent.{rank_of, payload_by}
 use Rattle.session_model.specs.Piece.{Piece, stream_of}
 use Rattle.session_model.specs.Client.{size}
-use Rattle.gfp_fill.proofs.StreamSteps.{long}
 use Rattle.vcat_interleave.specs.Members.{AreLines, with_octets}
 use Rattle.vcat_interleave.specs.Spread.{SpreadsOver, Spreads, AreDistinct}
 use Rattle.vcat_interleave.proofs.RowLaws.{length-part_of, is-part_of}
@@ -151,7 +150,7 @@ spreads-one size row active before after single distinct lines long put =
     (spreads-none 0 0 0 size row active before (omega arith)))
 
 -- the next octets of a stream are as many as it has been reached for
-pub next-size : (place n : ℕ) (pieces : List Piece) → place + n ≤ size pieces →
+pub next-size : (place n : ℕ) (pieces : List Piece) → place + n ≤ length (stream_of pieces) →
     length (take n (drop place (stream_of pieces))) ≡ n
 next-size place n pieces within =
-    length-take-le n (drop place (stream_of pieces)) (omega (arith, length-drop place (stream_of pieces), long pieces))
+    length-take-le n (drop place (stream_of pieces)) (omega (arith, length-drop place (stream_of pieces)))

@@ -21,7 +21,8 @@ again-part row again p x rank within =
     let times : ℕ = p / 4 in
     let is : p ≡ turn + 4 * times = omega arith in
     let place : p * x + rank ≡ turn * x + rank + 4 * (times * x) = omega (arith, ap (λ n. n * x) is) in
-    sym (ap (slice_index row) place ∙ again-times row again (turn * x + rank) (times * x) (omega (arith, place, within)))
+    sym (ap (slice_index row) place
+    ∙ again-times row again (turn * x + rank) (times * x) (omega (arith, place, within)))
 
 -- a row that is its own end, four octets later
 pub is-again : (row : List ℕ) → drop 4 row ≡ take (length row - 4) row → ComesAgain row

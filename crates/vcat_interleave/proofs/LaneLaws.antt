@@ -50,7 +50,10 @@ back_is a b e (suc (suc (suc (suc (suc (suc (suc (suc n)))))))) h = absurd (omeg
 
 -- each first one
 abbrev pub firsts : List ℕ → List ℕ
-firsts l = get_or l 0 0 ∷ get_or l 2 0 ∷ get_or l 4 0 ∷ get_or l 6 0 ∷ get_or l 8 0 ∷ get_or l 10 0 ∷ get_or l 12 0 ∷ get_or l 14 0 ∷ get_or l 16 0 ∷ get_or l 18 0 ∷ get_or l 20 0 ∷ get_or l 22 0 ∷ get_or l 24 0 ∷ get_or l 26 0 ∷ get_or l 28 0 ∷ get_or l 30 0 ∷ []
+firsts l =
+    get_or l 0 0 ∷ get_or l 2 0 ∷ get_or l 4 0 ∷ get_or l 6 0 ∷ get_or l 8 0 ∷ get_or l 10 0 ∷ get_or l 12 0 ∷
+    get_or l 14 0 ∷ get_or l 16 0 ∷ get_or l 18 0 ∷ get_or l 20 0 ∷ get_or l 22 0 ∷ get_or l 24 0 ∷ get_or l 26 0 ∷
+    get_or l 28 0 ∷ get_or l 30 0 ∷ []
 
 pub firsts_are : (l : List ℕ) (i : ℕ) → i < 16 → get_or (firsts l) i 0 ≡ get_or l (i * 2) 0
 firsts_are l zero h = refl
@@ -69,11 +72,15 @@ firsts_are l (suc (suc (suc (suc (suc (suc (suc (suc (suc (suc (suc (suc zero)))
 firsts_are l (suc (suc (suc (suc (suc (suc (suc (suc (suc (suc (suc (suc (suc zero))))))))))))) h = refl
 firsts_are l (suc (suc (suc (suc (suc (suc (suc (suc (suc (suc (suc (suc (suc (suc zero)))))))))))))) h = refl
 firsts_are l (suc (suc (suc (suc (suc (suc (suc (suc (suc (suc (suc (suc (suc (suc (suc zero))))))))))))))) h = refl
-firsts_are l (suc (suc (suc (suc (suc (suc (suc (suc (suc (suc (suc (suc (suc (suc (suc (suc n)))))))))))))))) h = absurd (omega arith)
+firsts_are l (suc (suc (suc (suc (suc (suc (suc (suc (suc (suc (suc (suc (suc (suc (suc (suc n)))))))))))))))) h =
+    absurd (omega arith)
 
 -- each second one
 abbrev pub seconds : List ℕ → List ℕ
-seconds l = get_or l 1 0 ∷ get_or l 3 0 ∷ get_or l 5 0 ∷ get_or l 7 0 ∷ get_or l 9 0 ∷ get_or l 11 0 ∷ get_or l 13 0 ∷ get_or l 15 0 ∷ get_or l 17 0 ∷ get_or l 19 0 ∷ get_or l 21 0 ∷ get_or l 23 0 ∷ get_or l 25 0 ∷ get_or l 27 0 ∷ get_or l 29 0 ∷ get_or l 31 0 ∷ []
+seconds l =
+    get_or l 1 0 ∷ get_or l 3 0 ∷ get_or l 5 0 ∷ get_or l 7 0 ∷ get_or l 9 0 ∷ get_or l 11 0 ∷ get_or l 13 0 ∷
+    get_or l 15 0 ∷ get_or l 17 0 ∷ get_or l 19 0 ∷ get_or l 21 0 ∷ get_or l 23 0 ∷ get_or l 25 0 ∷ get_or l 27 0 ∷
+    get_or l 29 0 ∷ get_or l 31 0 ∷ []
 
 pub seconds_are : (l : List ℕ) (i : ℕ) → i < 16 → get_or (seconds l) i 0 ≡ get_or l (i * 2 + 1) 0
 seconds_are l zero h = refl
@@ -92,4 +99,5 @@ seconds_are l (suc (suc (suc (suc (suc (suc (suc (suc (suc (suc (suc (suc zero))
 seconds_are l (suc (suc (suc (suc (suc (suc (suc (suc (suc (suc (suc (suc (suc zero))))))))))))) h = refl
 seconds_are l (suc (suc (suc (suc (suc (suc (suc (suc (suc (suc (suc (suc (suc (suc zero)))))))))))))) h = refl
 seconds_are l (suc (suc (suc (suc (suc (suc (suc (suc (suc (suc (suc (suc (suc (suc (suc zero))))))))))))))) h = refl
-seconds_are l (suc (suc (suc (suc (suc (suc (suc (suc (suc (suc (suc (suc (suc (suc (suc (suc n)))))))))))))))) h = absurd (omega arith)
+seconds_are l (suc (suc (suc (suc (suc (suc (suc (suc (suc (suc (suc (suc (suc (suc (suc (suc n)))))))))))))))) h =
+    absurd (omega arith)

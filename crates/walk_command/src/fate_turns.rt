@@ -30,7 +30,9 @@ use walk_fates::{SeenRows, SeenWalk, nothing_seen, place_frames, see_since};
 /// The walk of a script at its end, and what was seen of it.
 #[derive(Drop)]
 pub struct WatchedWalk {
+    /// The walk, after its last event.
     pub walk: Walk,
+    /// What was seen of it, with the places of its frames.
     pub seen: SeenWalk,
 }
 

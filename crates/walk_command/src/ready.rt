@@ -17,15 +17,20 @@ use walk_core::Walk;
 /// The lines and the ticks of a script.
 #[derive(Clone, Copy)]
 pub struct LinesAndTicks {
+    /// The lines of the group, 1 to 128.
     pub lines: u8,
+    /// The ticks of the session, each a frame of 125 microseconds.
     pub ticks: u32,
 }
 
 /// A walk before any event, the event lines of its script, and the script's size.
 #[derive(Drop)]
 pub struct ReadyWalk {
+    /// The event lines of its script, in order.
     pub lines: Vec<EventLine>,
+    /// How many lines and ticks the script has.
     pub size: LinesAndTicks,
+    /// The walk, of which no event was made.
     pub walk: Walk,
 }
 

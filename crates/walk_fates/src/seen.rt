@@ -26,6 +26,7 @@ pub struct SeenRows {
 /// What is known of a walk that was made.
 #[derive(Drop)]
 pub struct SeenWalk {
+    /// What was seen of its packets and rows.
     pub rows: SeenRows,
     /// Where the pieces of its accepted frames lie.
     pub ruler: Ruler,

@@ -1,3 +1,4 @@
+-- The one type header without a fault, an area as it is sent, and one that flips have changed.
 use Rattle.std.proofs.Common.{ap, ◌∙◌}
 use Rattle.fcs_model.specs.Fcs.{fcs_type_fault}
 use Rattle.flip_law.proofs.TypeLaws.{fcs_header_right, fcs_type_fault-right}

@@ -1,3 +1,4 @@
+-- What reading a type header answers is its fault, or that it has none.
 use Rattle.std.proofs.Common.{◌≡◌, [], ◌∷◌, Option, Some, None, refl, sym, ◌∙◌, ap}
 use Rattle.std.specs.Prelude.{Result, Ok, Err, MatchOption}
 use Rattle.session_model.specs.declared.TypeFault.{TypeFault}

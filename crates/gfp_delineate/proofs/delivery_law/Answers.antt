@@ -1,3 +1,4 @@
+-- The frames that are delivered of a first part of the opening are those whose piece ends in it.
 use Rattle.gfp_delineate.proofs.Delivery.{delivered-opening}
 use Rattle.gfp_delineate.proofs.delivery_law.Goals as goal
 

@@ -1,3 +1,4 @@
+-- However far the stream is made, what is begun of a channel and what waits are together the same.
 use Rattle.gfp_linear.proofs.TurnLaws.{reached-keeps}
 use Rattle.gfp_linear.proofs.turns_law.Goals as goal
 

@@ -1,3 +1,4 @@
+-- One status more behind the bits so far, and none is left after eight.
 use Rattle.std.proofs.Common.{◌∙◌, arith}
 use Rattle.lcas_sink.proofs.RowSteps.{status-first, status-more, status-small, status-last}
 use Rattle.lcas_sink.proofs.member_status.Goals as goal

@@ -1,3 +1,4 @@
+-- The bits so far, with the statuses that are left behind them, are the octet.
 use Rattle.std.proofs.Common.{◌≡◌, ◌+◌, ◌-◌, ◌<◌, ◌^◌, map, not}
 use Rattle.std.specs.List.{range_with_len}
 use Rattle.remainder.specs.Bits.{number_behind}

@@ -1,3 +1,4 @@
+-- One line more has its next state.
 use Rattle.std.proofs.Common.{◌<◌, length, refl, arith}
 use Rattle.lcas_sink.proofs.RowSteps.{upto-more}
 use Rattle.lcas_sink.proofs.take_row.Goals as goal

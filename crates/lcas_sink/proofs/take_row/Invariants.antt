@@ -1,3 +1,4 @@
+-- The lines so far have their next state, and the others are as they were.
 use Rattle.std.proofs.Common.{◌≡◌, ℕ}
 use Rattle.lcas_sink.specs.Stands.{state_at, state_upto}
 use Rattle.lcas_sink.proofs.take_row.Given as goal

@@ -1,3 +1,4 @@
+-- A list with one call more is one more step of the fold over it.
 use Rattle.std.proofs.Common.{[], ◌∷◌}
 use Rattle.session_model.specs.Course.{begun, called}
 use Rattle.lcas_source.proofs.SessionLaws.{fold-append}

@@ -1,3 +1,4 @@
+-- The course of a scenario's calls, field by field.
 use Rattle.std.proofs.Common.{ap}
 use Rattle.session_model.specs.Course.{Course}
 use Rattle.lcas_source.proofs.SessionLaws.{course-of_scenario}

@@ -1,3 +1,4 @@
+-- The first fifteen bits, and those after them.
 use Rattle.lcas_source.proofs.GroupBitLaws.{bits-early, bits-later}
 use Rattle.lcas_source.proofs.group_bit_law.Goals as goal
 

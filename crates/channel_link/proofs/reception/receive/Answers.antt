@@ -1,41 +1,30 @@
 -- A frame more, or none.
-use Rattle.std.proofs.Common.{◌≡◌, List, [], ◌∷◌, ◌++◌, sym, ◌∙◌, ap, subst, refl, length}
+use Rattle.std.proofs.Common.{◌≡◌, List, [], ◌∷◌, ◌++◌, sym, ◌∙◌, ap, subst, refl}
 use Rattle.std.specs.List.{flat_map}
 use Rattle.got_lines.specs.Told.{HasText}
 use Rattle.linear_model.specs.Linear.{ChannelFrame, LinearOutcome, delivery, frame_in, linear_outcomes}
 use Rattle.gfp_linear.specs.Delineator.{frame_of, outcomes_told}
 use Rattle.gfp_linear.specs.declared.delineator.LinearStep.TheVariants.{Frame}
 use Rattle.channel_link.specs.Text.{got_text}
-use Rattle.channel_link.proofs.TextLaws.{frames-more, frames-same, texts-more, length-more}
+use Rattle.channel_link.proofs.ReceptionSteps.{received-nothing}
+use Rattle.channel_link.proofs.TextLaws.{frames-more, texts-more, length-more}
 use Rattle.channel_link.proofs.reception.receive.Goals as goal
 
 pub returns-in-Nothing-clause-received : goal.returns-in-Nothing-clause-received
 returns-in-Nothing-clause-received g c start segment before r =
-    let all = segment.octets ++ c.args.o ∷ [] in
-    let same = frames-same before (linear_outcomes segment.first segment.octets)
-    (outcomes_told (frame_of c.byte.new.self) c.byte.result) (linear_outcomes segment.first all)
+    received-nothing g.K.ByteSink.written g.K.ByteSink.faults c.args.reception.now c.byte.new.self start before
+    (outcomes_told (frame_of c.byte.new.self) c.byte.result) segment c.args.o r
+    (c.byte.ensures.stands segment.first segment.octets r.stands)
     (c.byte.ensures.outcome segment.first segment.octets r.stands)
-    (subst (λ s. flat_map frame_in (outcomes_told (frame_of c.byte.new.self) s) ≡ []) (sym c.in-Nothing.is) refl) in
-    record {
-      stands = c.byte.ensures.stands segment.first segment.octets r.stands;
-      text = subst (λ f. HasText g.K.ByteSink.written g.K.ByteSink.faults c.args.reception.now.lines start
-          (flat_map got_text f)) (sym same) r.text;
-      got = r.got ∙ ap length (sym same);
-    }
+    (subst (λ s. flat_map frame_in (outcomes_told (frame_of c.byte.new.self) s) ≡ []) (sym c.in-Nothing.is) refl)
 
 pub returns-in-Dropped-clause-received : goal.returns-in-Dropped-clause-received
 returns-in-Dropped-clause-received g c start segment before r =
-    let all = segment.octets ++ c.args.o ∷ [] in
-    let same = frames-same before (linear_outcomes segment.first segment.octets)
-    (outcomes_told (frame_of c.byte.new.self) c.byte.result) (linear_outcomes segment.first all)
+    received-nothing g.K.ByteSink.written g.K.ByteSink.faults c.args.reception.now c.byte.new.self start before
+    (outcomes_told (frame_of c.byte.new.self) c.byte.result) segment c.args.o r
+    (c.byte.ensures.stands segment.first segment.octets r.stands)
     (c.byte.ensures.outcome segment.first segment.octets r.stands)
-    (subst (λ s. flat_map frame_in (outcomes_told (frame_of c.byte.new.self) s) ≡ []) (sym c.in-Dropped.is) refl) in
-    record {
-      stands = c.byte.ensures.stands segment.first segment.octets r.stands;
-      text = subst (λ f. HasText g.K.ByteSink.written g.K.ByteSink.faults c.args.reception.now.lines start
-          (flat_map got_text f)) (sym same) r.text;
-      got = r.got ∙ ap length (sym same);
-    }
+    (subst (λ s. flat_map frame_in (outcomes_told (frame_of c.byte.new.self) s) ≡ []) (sym c.in-Dropped.is) refl)
 
 pub returns-in-Frame-clause-received : goal.returns-in-Frame-clause-received
 returns-in-Frame-clause-received g c start segment before r =

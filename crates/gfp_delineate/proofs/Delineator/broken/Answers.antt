@@ -1,3 +1,4 @@
+-- The receiver of areas begins a new segment, and so does that of frames.
 use Rattle.std.proofs.Common.{false, sym, subst}
 use Rattle.gfp_delineate.specs.Receiver.{Receiver, area_limit, StandsIn}
 use Rattle.gfp_delineate.proofs.Delineator.broken.Goals as goal

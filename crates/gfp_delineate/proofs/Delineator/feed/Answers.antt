@@ -1,3 +1,4 @@
+-- How an area ended tells what the octets bring; those before the last one bring nothing.
 use Rattle.std.proofs.Common.{◌-◌, [], take, false, refl, sym, subst}
 use Rattle.gfp_delineate.specs.Areas.{ends_told}
 use Rattle.gfp_delineate.specs.Receiver.{Receiver, area_limit, StandsIn, told_outcomes, Brings}

@@ -1,3 +1,4 @@
+-- Idles that end no area bring no outcome.
 use Rattle.std.proofs.Common.{ℕ, [], false, Option, Some, None, refl, subst}
 use Rattle.std.specs.Prelude.{IfSome}
 use Rattle.gfp_delineate.specs.Repeated.{idles_from}

@@ -1,3 +1,4 @@
+-- An area has four octets more than its frame, those of the type header.
 use Rattle.gfp_delineate.specs.Receiver.{area_limit}
 use Rattle.gfp_delineate.proofs.Delineator.new.Goals as goal
 

@@ -1,3 +1,4 @@
+-- The bits that were turned over give no header; those that are left decide.
 use Rattle.std.proofs.Common.{◌≡◌, ◌-◌}
 use Rattle.fcs_model.specs.Near.{near, turned_below}
 use Rattle.gfp_delineate.proofs.near.read_near.Given as goal

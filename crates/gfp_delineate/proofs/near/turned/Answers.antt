@@ -1,3 +1,4 @@
+-- To turn over a bit of the word turns over that of its octets, counted from the last one.
 use Rattle.std.proofs.Common.{rules, ◌≡◌, ◌^◌, bit_xor, w32, ◌∙◌}
 use Rattle.std.specs.Int.{to_be_bytes}
 use Rattle.std.proofs.lemmas.Nat.{be_bytes_4}

@@ -1,3 +1,4 @@
+-- What came is compared with as many octets of an idle header, and no other number of them is as long.
 use Rattle.std.proofs.Common.{◌≡◌, ◌-◌, ◌<◌, ℕ, List, length, take, drop, sym, ◌∙◌, ap, arith, length-drop, length-take}
 use Rattle.std.proofs.lemmas.List.{take_all}
 use Rattle.std.proofs.lemmas.Slice.Eq.{bytes_eq-Decides}

@@ -1,3 +1,4 @@
+-- Eight words more.
 use Rattle.std.proofs.Common.{◌≡◌, ◌+◌, ◌*◌, ◌++◌, take, sym, ap, ◌∙◌, arith}
 use Rattle.std.specs.Int.{to_le_bytes, w64}
 use Rattle.gfp_delineate.specs.Repeated.{repeated}

@@ -1,3 +1,4 @@
+-- Each block so far is eight times the word.
 use Rattle.std.proofs.Common.{◌≡◌, ◌*◌, take}
 use Rattle.std.specs.Int.{to_le_bytes, w64}
 use Rattle.gfp_delineate.specs.Repeated.{repeated}

@@ -1,3 +1,4 @@
+-- One word more; at the end another one stands there, or fewer than eight octets are left.
 use Rattle.std.proofs.Common.{◌≡◌, ℕ, ◌+◌, ◌*◌, ◌/◌, List, ◌++◌, length, take, drop, sym, ap, ◌∙◌, arith}
 use Rattle.std.specs.Int.{to_le_bytes, from_le_bytes, w64}
 use Rattle.std.proofs.lemmas.List.{drop-take, drop_at, length-take, length-drop}

@@ -1,3 +1,4 @@
+-- The octets so far are the word, again and again.
 use Rattle.std.proofs.Common.{◌≡◌, ◌*◌, take}
 use Rattle.std.specs.Int.{to_le_bytes, w64}
 use Rattle.gfp_delineate.specs.Repeated.{repeated}

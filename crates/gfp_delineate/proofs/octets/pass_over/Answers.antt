@@ -1,3 +1,4 @@
+-- Six octets settle a descrambler, so that the last six of a piece leave it as all of them do.
 use Rattle.std.proofs.Common.{◌-◌, ℕ, List, false, [], length, drop, subst, arith, length-drop}
 use Rattle.std.proofs.lemmas.List.{take_all}
 use Rattle.gfp_scramble.specs.Descrambler.{Stands}

@@ -1,3 +1,4 @@
+-- The descrambler has the octets so far.
 use Rattle.std.proofs.Common.{take}
 use Rattle.gfp_scramble.specs.Descrambler.{Continues}
 use Rattle.gfp_delineate.proofs.octets.settle.Given as goal

@@ -1,3 +1,4 @@
+-- What is a header is read as that one, whether headers are corrected or not.
 use Rattle.std.proofs.Common.{sym, ◌∙◌}
 use Rattle.gfp_delineate.proofs.ReaderLaws.{reader-head}
 use Rattle.gfp_delineate.proofs.steps.read_header.Goals as goal

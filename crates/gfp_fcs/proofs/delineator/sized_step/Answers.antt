@@ -1,3 +1,4 @@
+-- The last four octets are the FCS of the frame, or they say another one.
 use Rattle.std.proofs.Common.{[], ◌∷◌, sym, ◌∙◌, ap}
 use Rattle.crc32.specs.Crc32.{fcs_of}
 use Rattle.gfp_fcs.proofs.AreaLaws.{last-four, sized-right, sized-wrong}

@@ -1,3 +1,4 @@
+-- The octets of the word that was read, the most significant one first, are these.
 use Rattle.std.proofs.lemmas.Nat.{be_bytes_4}
 use Rattle.gfp_fcs.proofs.delineator.word.Goals as goal
 

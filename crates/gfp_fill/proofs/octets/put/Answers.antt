@@ -1,3 +1,4 @@
+-- What stands behind the octets that are put stays.
 use Rattle.std.proofs.Common.{rules}
 use Rattle.std.proofs.lemmas.Slice.{overwrites}
 use Rattle.gfp_fill.proofs.octets.put.Goals as goal

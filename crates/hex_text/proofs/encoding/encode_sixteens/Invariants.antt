@@ -1,3 +1,4 @@
+-- The text of the sixteens so far is written.
 use Rattle.std.proofs.Common.{◌≡◌, ◌*◌, take}
 use Rattle.hex.specs.Hex.{encode_lower}
 use Rattle.hex_text.proofs.encoding.encode_sixteens.Given as goal

@@ -1,3 +1,4 @@
+-- The octets taken so far are of the row, and each turn leaves fewer of it.
 use Rattle.std.proofs.Common.{length, ◌-◌, ◌≤◌}
 use Rattle.layer_bench.proofs.ends.take_row.Given as goal
 

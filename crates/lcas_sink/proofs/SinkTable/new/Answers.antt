@@ -1,3 +1,4 @@
+-- No row was taken, and each line is idle.
 use Rattle.std.proofs.Common.{refl}
 use Rattle.lcas_sink.proofs.SinkTable.new.Goals as goal
 

@@ -1,3 +1,4 @@
+-- Each field of the return packet is what the rows give with this one behind them.
 use Rattle.std.proofs.Common.{◌∙◌, ap}
 use Rattle.lcas_sink.specs.Stands.{Sink}
 use Rattle.lcas_sink.proofs.RowSteps.{return-fields}

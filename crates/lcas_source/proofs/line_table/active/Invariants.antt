@@ -1,3 +1,4 @@
+-- The lines so far that are in NORM, and no more of them than were passed.
 use Rattle.std.proofs.Common.{◌≡◌, ◌≤◌, map, filter, take, length}
 use Rattle.session_model.specs.Table.{is_normal}
 use Rattle.lcas_source.proofs.line_table.active.Given as goal

@@ -1,3 +1,4 @@
+-- A line that isn't in ADD stays, one that has OK becomes NORM, and the first one without it ends the loop.
 use Rattle.std.proofs.Common.{◌<◌, length, sym, ◌∙◌, ap, arith}
 use Rattle.std.proofs.Math.Seq.{drop-cons}
 use Rattle.std.proofs.lemmas.List.{set-get_or}

@@ -1,3 +1,4 @@
+-- The front is rewritten, and the rule for the members that are left gives the rest.
 use Rattle.session_model.specs.Table.{admit, kept_in}
 use Rattle.lcas_source.proofs.FrontLaws.{IsRewriting}
 use Rattle.lcas_source.proofs.line_table.admit.Given as goal

@@ -1,3 +1,4 @@
+-- None is in ADD, the first in ADD hasn't FAIL, no later one has OK, or one is put before it.
 use Rattle.std.proofs.Common.{position, Some, None, sym, ◌∙◌, ap, arith}
 use Rattle.std.specs.Prelude.{insert, remove}
 use Rattle.session_model.specs.declared.table.Standing.TheVariants.{Add as adding}

@@ -1,3 +1,4 @@
+-- One line more is passed, or it is in ADD and has OK.
 use Rattle.std.proofs.Common.{sym, ◌∙◌, arith}
 use Rattle.session_model.specs.Table.{kept_in}
 use Rattle.lcas_source.proofs.ExchangeLaws.{passed-none, passed-more, passed-found, passed-all}

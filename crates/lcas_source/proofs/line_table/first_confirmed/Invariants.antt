@@ -1,3 +1,4 @@
+-- The lines so far are passed, and what is taken out stands behind them.
 use Rattle.session_model.specs.Table.{kept_in}
 use Rattle.lcas_source.proofs.ExchangeLaws.{IsPassed}
 use Rattle.lcas_source.proofs.line_table.first_confirmed.Given as goal

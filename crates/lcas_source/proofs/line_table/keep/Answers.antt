@@ -1,3 +1,4 @@
+-- The eight statuses of the group are replaced where they stand.
 use Rattle.std.proofs.Common.{◌≡◌, ◌+◌, ◌*◌, ◌-◌, ◌∙◌, arith}
 use Rattle.session_model.specs.Told.{oks_in}
 use Rattle.lcas_source.proofs.KeepLaws.{keep-in_place, oks_in-size}

@@ -1,3 +1,4 @@
+-- The line is found here, or is looked for behind this place, or has no sequence number.
 use Rattle.std.proofs.Common.{◌+◌, slice_index_or, sym, ◌∙◌, ap, arith}
 use Rattle.std.specs.List.{list_any}
 use Rattle.std.proofs.lemmas.List.{take_rest}

@@ -1,3 +1,4 @@
+-- The line is none of those so far, so that its place is among the members that are left.
 use Rattle.std.proofs.Common.{◌≡◌, drop}
 use Rattle.session_model.specs.Forward.{place_in}
 use Rattle.lcas_source.proofs.line_table.place_in.Given as goal

@@ -1,3 +1,4 @@
+-- The line is found here, or is looked for behind this place, or has no sequence number.
 use Rattle.std.proofs.Common.{sym, ◌∙◌, arith}
 use Rattle.lcas_source.proofs.ForwardSteps.{state-found, state-next, state-none}
 use Rattle.lcas_source.proofs.line_table.state_in.Goals as goal

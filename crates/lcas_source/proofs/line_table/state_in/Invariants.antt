@@ -1,3 +1,4 @@
+-- The line is none of those so far, so that the members that are left tell its state.
 use Rattle.std.proofs.Common.{◌≡◌, drop}
 use Rattle.session_model.specs.Forward.{state_in}
 use Rattle.lcas_source.proofs.line_table.state_in.Given as goal

@@ -1,3 +1,4 @@
+-- The eight statuses of an octet, bit by bit.
 use Rattle.std.proofs.Common.{ap, sym, map, Some}
 use Rattle.lcas_source.proofs.KeepLaws.{oks_in-bits}
 use Rattle.lcas_source.proofs.line_table.statuses_in.Goals as goal

@@ -1,3 +1,4 @@
+-- What is retained is what the filter keeps.
 use Rattle.std.proofs.Common.{rules}
 use Rattle.arrayvec.proofs.ArrayVecLemmas.{filter-from_retain}
 use Rattle.lcas_source.proofs.line_table.take_out.Goals as goal

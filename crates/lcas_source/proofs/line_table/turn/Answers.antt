@@ -1,3 +1,4 @@
+-- One standing more is turned, and at the end all are.
 use Rattle.std.proofs.Common.{◌<◌, length, arith}
 use Rattle.session_model.specs.Table.{turned, kept_in}
 use Rattle.lcas_source.proofs.FrontLaws.{front-written, front-ends}

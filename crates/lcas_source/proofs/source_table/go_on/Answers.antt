@@ -1,3 +1,4 @@
+-- The bits of a packet, moved on by one, are those of the next one.
 use Rattle.std.proofs.Common.{◌≡◌, ◌+◌, ◌-◌, ◌++◌, ◌∷◌, [], false, drop, slice_index_or, sym, ◌∙◌, ap, arith}
 use Rattle.remainder.specs.Bits.{xor}
 use Rattle.session_model.specs.GroupBit.{bits_from}

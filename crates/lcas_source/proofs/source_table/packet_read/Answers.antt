@@ -1,3 +1,4 @@
+-- Numbers of which one has more than four bits are no packet.
 use Rattle.std.proofs.Common.{sym, ◌∙◌}
 use Rattle.lcas_source.proofs.CourseSteps.{packet_read-none}
 use Rattle.lcas_source.proofs.source_table.packet_read.Goals as goal

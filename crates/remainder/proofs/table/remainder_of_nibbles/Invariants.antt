@@ -1,3 +1,4 @@
+-- The register has the remainder of the nibbles so far, and no more bits than the degree.
 use Rattle.std.proofs.Common.{◌≡◌, ◌^◌, ◌<◌, Bool, List, length, take}
 use Rattle.remainder.specs.Bits.{bits}
 use Rattle.remainder.specs.Remainder.{remainder}

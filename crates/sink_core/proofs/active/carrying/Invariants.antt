@@ -1,3 +1,4 @@
+-- The lines counted so far and those that are left.
 use Rattle.std.proofs.Common.{◌≡◌, ◌+◌, ◌≤◌, drop}
 use Rattle.sink_core.specs.Active.{carrying}
 use Rattle.sink_core.proofs.active.carrying.Given as goal

@@ -1,3 +1,4 @@
+-- The lines of the sequence numbers so far are found, and there is room for 128.
 use Rattle.std.proofs.Common.{◌≡◌, ◌≤◌}
 use Rattle.std.specs.Vec.{vec_capacity}
 use Rattle.session_model.specs.Rows.{active_from}

@@ -1,3 +1,4 @@
+-- No line so far has a packet, so that the leader is among those that are left.
 use Rattle.std.proofs.Common.{◌≡◌, drop}
 use Rattle.session_model.specs.ReturnPacket.{leader}
 use Rattle.sink_core.specs.Active.{act_of}

@@ -1,3 +1,4 @@
+-- The lines added so far, with those that are left behind them, are all that have the number.
 use Rattle.std.proofs.Common.{◌≡◌, ◌++◌, drop}
 use Rattle.std.specs.Vec.{vec_capacity}
 use Rattle.session_model.specs.Rows.{lines_at}

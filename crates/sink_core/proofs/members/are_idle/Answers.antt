@@ -1,3 +1,4 @@
+-- One member more has the octets of idle frames, and where all have them the row does.
 use Rattle.std.proofs.Common.{◌≡◌, ℕ, List, ◌+◌, ◌*◌, ◌%◌, length, slice_index, sym, ◌∙◌, subst, arith, inl, inr}
 use Rattle.std.proofs.lemmas.Bool.{cases_lt}
 use Rattle.session_model.specs.Core.{core_header}

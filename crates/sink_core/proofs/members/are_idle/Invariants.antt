@@ -1,3 +1,4 @@
+-- The members so far have the octets of idle frames.
 use Rattle.vc_cell.specs.Held.{held}
 use Rattle.sink_core.proofs.IdleLaws.{AreDealt}
 use Rattle.sink_core.proofs.members.are_idle.Given as goal

@@ -1,3 +1,4 @@
+-- A word that stands as often as the part is long is all of the part.
 use Rattle.std.proofs.Common.{◌≡◌, ℕ, List, ◌*◌, ◌/◌, ◌<◌, drop, slice_index, refl, sym, ◌∙◌, ap, arith}
 use Rattle.std.specs.Int.{to_le_bytes, w64}
 use Rattle.std.proofs.lemmas.Bool.{eqb-true}

@@ -1,3 +1,4 @@
+-- The four octets are the core header of an idle frame.
 use Rattle.std.proofs.Common.{◌%◌, slice_index, sym, ap}
 use Rattle.session_model.proofs.IdleLaws.{core_header-idle}
 use Rattle.sink_core.proofs.members.idle_octet.Goals as goal

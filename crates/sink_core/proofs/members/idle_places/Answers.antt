@@ -1,3 +1,4 @@
+-- The idles that are left change nothing, and neither do no octets at all.
 use Rattle.std.proofs.Common.{ℕ, ◌-◌, ◌*◌, ◌/◌, length, sym, subst}
 use Rattle.vc_cell.specs.Held.{held}
 use Rattle.session_model.specs.Interleave.{octets_from}

@@ -1,3 +1,4 @@
+-- Each of the eight octets of the word is the one of its place.
 use Rattle.std.proofs.Common.{◌≡◌, ℕ, ◌+◌, ◌*◌, ◌%◌, slice_index, ◌∙◌, ap, arith}
 use Rattle.session_model.specs.Core.{core_header}
 use Rattle.sink_core.proofs.IdleLaws.{get-eight}

@@ -1,3 +1,4 @@
+-- The octets so far are taken, and the frames that they complete are given.
 use Rattle.std.proofs.Common.{◌≤◌, ◌-◌, length, take}
 use Rattle.outside_io.specs.Start.{Start}
 use Rattle.sink_core.specs.Receives.{IsKnown, Grows, Gives}

@@ -1,3 +1,4 @@
+-- The octets of the word that was read, the least significant one first, are these.
 use Rattle.std.proofs.lemmas.Nat.{le_bytes_8}
 use Rattle.sink_core.proofs.members.word_of.Goals as goal
 

@@ -1,3 +1,4 @@
+-- The lines so far are whole, so that those that are left decide.
 use Rattle.std.proofs.Common.{◌≡◌, List, drop, is_some}
 use Rattle.vc_cell.specs.declared.Cell.{Cell}
 use Rattle.session_model.specs.Rows.{containers_at}

@@ -16,6 +16,8 @@ loop-p-preserved c =
           (let within : q * x + rank < length c.loop-p.row =
           omega (arith, within-row x (length c.args.octets.now) q rank c.loop-p-test.true c.requires.rank) in
           rw get_or-set_same);
-      others = λ i apart. let other : i ≢ q * x + rank = (λ same. apart (ap (λ n. n % x) same ∙ (rank-place x q rank c.requires.rank).0)) in
+      others = λ i apart.
+          let other : i ≢ q * x + rank =
+          (λ same. apart (ap (λ n. n % x) same ∙ (rank-place x q rank c.requires.rank).0)) in
           rw get_or-set_other (c.loop-p.invariant.others i apart);
     }

@@ -17,7 +17,8 @@ overflow_add-self c =
     let low = start-low c.self.inside.size c.self.inside.packets.items c.self.inside.end c.self.invariant
     (length c.self.inside.packets.items) (omega arith) in
     let few = c.len.ensures.fits in
-    let own = rows-few c.from.result c.len.result (let e = c.from.ensures in let small = c.self.invariant.small in omega (arith, e, small)) few in
+    let own = rows-few c.from.result c.len.result (let e = c.from.ensures in let small = c.self.invariant.small in
+    omega (arith, e, small)) few in
     let e : c.from.result * c.len.result * c.from-2.result ≡ c.from.result * c.len.result * 16 =
     ap (λ n. c.from.result * c.len.result * n) c.from-2.ensures in
     let ends = c.self.invariant.ends in

@@ -55,7 +55,8 @@ returns-else-i-len-2 c = λ rows stands.
     elim c.else-i-len-2.branch [
       | else-i-len-2-via-then-i-len-2+else-is_told w ↦ (
           let told : is_told c.args.self.now ≡ false = sym w.is_told.ensures ∙ w.if-is_told.false in
-          let few : length (c.args.self.now.ended ++ []) ≤ i = (let sum = length-append c.args.self.now.ended [] in let n = c.len-else-i-len.ensures in omega (arith, sum, ended, n, w.if-i-len-2.true)) in
+          let few : length (c.args.self.now.ended ++ []) ≤ i = (let sum = length-append c.args.self.now.ended [] in
+          let n = c.len-else-i-len.ensures in omega (arith, sum, ended, n, w.if-i-len-2.true)) in
           sym (ap (λ l. slice_get l i) (all
           ∙ ap (λ b. c.args.self.now.ended ++ (if b then c.args.self.now.last ∷ [] else [])) told)
           ∙ get-none (c.args.self.now.ended ++ []) i few))

@@ -1,3 +1,4 @@
+-- The descrambler forgot, and HUNT begins: no octet of the new segment has come.
 use Rattle.std.proofs.Common.{false, refl, ◌∙◌, ap}
 use Rattle.gfp_delineate.specs.Areas.{Progress}
 use Rattle.gfp_delineate.proofs.Known.{IsAt-start}

@@ -1,3 +1,4 @@
+-- A step that takes some of one octet takes that octet.
 use Rattle.std.proofs.Common.{subst}
 use Rattle.gfp_delineate.specs.Areas.{Goes, Adds, ends_told}
 use Rattle.gfp_delineate.proofs.ListLaws.{part_of_one}

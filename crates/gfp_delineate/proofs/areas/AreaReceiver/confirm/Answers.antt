@@ -1,3 +1,4 @@
+-- One of the first three octets of the header that confirms.
 use Rattle.std.proofs.Common.{◌+◌}
 use Rattle.gfp_delineate.specs.declared.areas.Phase.TheVariants.{PresyncHeader}
 use Rattle.gfp_delineate.proofs.Taking.{seen}

@@ -1,3 +1,4 @@
+-- The headers of idles, a header as three octets and one more, or a single octet.
 use Rattle.std.proofs.Common.{ℕ, List, [], ◌∷◌, get_or, ◌∙◌, ap}
 use Rattle.gfp_delineate.specs.declared.areas.Phase.TheVariants.{SyncHeader}
 use Rattle.gfp_delineate.proofs.ListLaws.{take_one, take_four}

@@ -1,3 +1,4 @@
+-- One of the first three octets of a header in SYNC.
 use Rattle.std.proofs.Common.{◌+◌}
 use Rattle.gfp_delineate.specs.declared.areas.Phase.TheVariants.{SyncHeader}
 use Rattle.gfp_delineate.proofs.Taking.{seen}

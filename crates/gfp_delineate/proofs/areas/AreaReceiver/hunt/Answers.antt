@@ -1,3 +1,4 @@
+-- Fewer than four octets; at the fourth, no header, that of an idle, or one with an area.
 use Rattle.std.proofs.Common.{◌+◌, ◌<◌, Some, ◌∙◌, ap, arith}
 use Rattle.session_model.specs.Core.{head}
 use Rattle.gfp_delineate.specs.declared.areas.Phase.TheVariants.{Hunt, PresyncArea, PresyncHeader}

@@ -1,3 +1,4 @@
+-- The octets of a header in the window are the first ones of an idle's, or they aren't.
 use Rattle.std.proofs.Common.{true, false, Some, ◌≡◌, ◌-◌, ◌<◌, ℕ, take, drop, sym, ◌∙◌, ap, subst}
 use Rattle.std.specs.Prelude.{vec_len}
 use Rattle.gfp_delineate.specs.declared.areas.Phase.TheVariants.{SyncHeader}

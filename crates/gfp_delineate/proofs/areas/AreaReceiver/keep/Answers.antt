@@ -1,3 +1,4 @@
+-- Octets go on with the area, or complete it; before its last octet no area ends.
 use Rattle.std.proofs.Common.{◌≡◌, ◌-◌, ◌<◌, ℕ, List, [], ◌∷◌, ◌++◌, length, take, drop, refl, sym, ◌∙◌, ap}
 use Rattle.std.proofs.Common.{subst, arith, length-take}
 use Rattle.std.specs.Prelude.{vec_len}

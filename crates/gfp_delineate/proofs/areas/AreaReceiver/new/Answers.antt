@@ -1,3 +1,4 @@
+-- No octet of the first segment has come.
 use Rattle.std.proofs.Common.{true, refl}
 use Rattle.gfp_delineate.proofs.Known.{IsAt-start}
 use Rattle.gfp_delineate.proofs.areas.AreaReceiver.new.Goals as goal

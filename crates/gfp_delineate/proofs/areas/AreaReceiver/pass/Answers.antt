@@ -1,3 +1,4 @@
+-- The area that is dropped goes on, or ends; before its last octet no area ends.
 use Rattle.std.proofs.Common.{◌-◌, ◌<◌, ℕ, List, length, take, ◌∙◌, ap, subst, arith, length-take}
 use Rattle.std.specs.Prelude.{vec_len}
 use Rattle.std.proofs.lemmas.List.{take_all, length-take-le}

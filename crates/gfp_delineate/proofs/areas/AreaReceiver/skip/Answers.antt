@@ -1,3 +1,4 @@
+-- Octets of the area after the header that was found, or all that are left of it.
 use Rattle.std.proofs.Common.{◌-◌, ℕ, List, length, take, ◌∙◌, arith}
 use Rattle.std.proofs.lemmas.List.{take_all, length-take-le}
 use Rattle.gfp_delineate.specs.declared.areas.Phase.TheVariants.{PresyncArea, PresyncHeader}

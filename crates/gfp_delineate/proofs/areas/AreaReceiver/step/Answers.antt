@@ -1,3 +1,4 @@
+-- In HUNT, and in the header that confirms, the first octet is taken alone.
 use Rattle.gfp_delineate.proofs.ListLaws.{take_one}
 use Rattle.gfp_delineate.proofs.areas.AreaReceiver.step.Goals as goal
 

@@ -1,3 +1,4 @@
+-- The octets lead to SYNC exactly where the phase is one of SYNC.
 use Rattle.std.proofs.Common.{◌≡◌, true, false, inl, inr, sym, ◌∙◌, ap}
 use Rattle.gfp_delineate.specs.Areas.{Progress}
 use Rattle.gfp_delineate.proofs.Known.{in_sync, is_sync-IsAt}

@@ -1,3 +1,4 @@
+-- One part more, behind parts in which no area ended.
 use Rattle.std.proofs.Common.{◌≡◌, ◌+◌, ◌-◌, ◌≤◌, ℕ, List, [], length, take, drop, ◌∙◌, ap, subst, arith}
 use Rattle.std.proofs.Common.{length-take, length-drop}
 use Rattle.gfp_delineate.specs.Areas.{AreaEnd, ends_told, Progress, Adds}

@@ -1,3 +1,4 @@
+-- The octets so far are taken, and no area ended with them.
 use Rattle.std.proofs.Common.{◌-◌, ◌≤◌, [], length, take}
 use Rattle.gfp_delineate.specs.Areas.{Goes, Adds}
 use Rattle.gfp_delineate.proofs.areas.AreaReceiver.take.Given as goal

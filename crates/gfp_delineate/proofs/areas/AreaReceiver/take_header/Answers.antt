@@ -1,3 +1,4 @@
+-- No header, that of an idle, or one whose area is unsettled, too long, or kept.
 use Rattle.std.proofs.Common.{true, false, [], ◌∷◌, ◌++◌, drop, Some, ◌∙◌, ap, subst, arith}
 use Rattle.gfp_delineate.specs.declared.areas.AreaWhy.TheVariants.{Unsettled, TooLong}
 use Rattle.gfp_delineate.specs.declared.areas.Phase.TheVariants.{SyncHeader, SyncArea, SyncPassing}

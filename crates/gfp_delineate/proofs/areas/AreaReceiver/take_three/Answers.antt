@@ -1,3 +1,4 @@
+-- Three octets of a header, one after the other.
 use Rattle.gfp_delineate.specs.declared.areas.Phase.TheVariants.{SyncHeader}
 use Rattle.gfp_delineate.proofs.Taking.{seen}
 use Rattle.gfp_delineate.proofs.SearchSteps.{shifted}

@@ -1,3 +1,4 @@
+-- How an area ended tells what the octets bring; those before the last one bring nothing.
 use Rattle.std.proofs.Common.{◌-◌, [], take, true, refl, sym, ◌∙◌, subst}
 use Rattle.std.proofs.lemmas.List.{append-nil}
 use Rattle.gfp_delineate.specs.Areas.{ends_told}

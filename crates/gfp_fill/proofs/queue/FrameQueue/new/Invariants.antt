@@ -1,3 +1,4 @@
+-- A buffer for each turn so far, each with room for a frame, and room for all of them.
 use Rattle.std.proofs.Common.{◌≡◌, ◌≤◌, vec_len}
 use Rattle.std.specs.List.{All}
 use Rattle.std.specs.Vec.{vec_capacity}

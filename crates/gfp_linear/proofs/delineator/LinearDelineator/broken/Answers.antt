@@ -1,3 +1,4 @@
+-- The receiver of areas begins a new segment, and so does that of frames.
 use Rattle.std.proofs.Common.{false, sym, subst}
 use Rattle.gfp_linear.specs.Delineator.{LinearReceiver, StandsIn}
 use Rattle.gfp_linear.proofs.delineator.LinearDelineator.broken.Goals as goal

@@ -1,3 +1,4 @@
+-- How an area ended tells what the octet brings, and that a frame that is held is short enough.
 use Rattle.std.proofs.Common.{◌∷◌, [], false, sym, subst}
 use Rattle.gfp_delineate.specs.Areas.{ends_told}
 use Rattle.gfp_linear.specs.Delineator.{LinearReceiver, StandsIn, told_linear}

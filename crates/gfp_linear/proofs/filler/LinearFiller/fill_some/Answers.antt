@@ -38,7 +38,8 @@ returns-in-Some-clause-writes c shared place stands =
     subst (λ l. StandsIn c.begin-in-Some.new.self rest.begun (areas ++ (l ++ rest.begun) ∷ []) place)
     c.area_headers.ensures
     (c.begin-in-Some.ensures.begins rest.begun areas place (sym c.in-Some.ensures.long)
-    (subst (λ (t : Sender). StandsIn t [] areas place) (sym c.self.view_is) (at_end s queue shared place stands gone))) in
+    (subst (λ (t : Sender). StandsIn t [] areas place) (sym c.self.view_is)
+    (at_end s queue shared place stands gone))) in
     client_written s c.send_headers-in-Some.new.self queue rest shared place cid _ stands none gone
     c.in-Some.ensures.turn c.in-Some.ensures.frame c.in-Some.ensures.rest
     (omega (

@@ -42,7 +42,8 @@ module _ (c : Else-not-push) where
       let few : length c.index_mut.result.now < 16 = c.if-not-push.ensures.room.0 refl in
       let room : length (slice_index_or c.self.inside.queues.items c.args.cid []) < 16 =
       omega (arith, few, ap length old) in
-      ap (λ k. channels_of c.self.inside.next (slice_set c.self.inside.queues.items k c.push.new.self)) c.from-at.ensures
+      ap (λ k. channels_of c.self.inside.next (slice_set c.self.inside.queues.items k c.push.new.self))
+      c.from-at.ensures
       ∙ pushed-is c.args.cid c.self.inside.next c.args.frame.now c.self.inside.queues.items c.push.new.self inside
       (omega arith) (omega arith) room new
       ∙ ap (λ (q : Queued). pushed c.args.cid c.args.frame.now q.channels) c.self.view_is

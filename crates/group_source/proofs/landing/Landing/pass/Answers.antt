@@ -1,8 +1,7 @@
 -- The next item of a kind has landed.
 use Rattle.std.proofs.Common.{◌+◌, ◌<◌, length, drop, true, false, sym, ◌∙◌, ap, subst, arith}
 use Rattle.group_source.specs.Place.{is_frame, is_command, place_of}
-use Rattle.std.specs.Vec.{vec_capacity}
-use Rattle.group_source.specs.Landed.{Landed, next_place, landed_of, refused_of, AreOthers, IsLanded}
+use Rattle.group_source.specs.Landed.{Landed, next_place}
 use Rattle.group_source.proofs.LandingLaws.{all-dues, frame-landed, command-landed, fresh-next, next-later}
 use Rattle.group_source.proofs.landing.Landing.pass.Goals as goal
 
@@ -38,80 +37,30 @@ pub returns-then-client-clause-passed : goal.returns-then-client-clause-passed
 returns-then-client-clause-passed c =
     let now = c.args.self.now in
     let low = subst (λ b. next_place now b < length now.items) c.if-client.true c.requires in
-    subst (λ b. next_place now b < next_place
-    (record {
-      items = c.self.inside.items.items;
-      frames = c.self.inside.frames + 1;
-      commands =
-          c.self.inside.commands;
-      refused_frames = c.self.inside.refused_frames;
-      refused_commands =
-          c.self.inside.refused_commands;
-      refusals = c.self.inside.refusals.items;
-    }) b) (sym c.if-client.true)
-    (subst (λ (l : Landed). next_place now true < place_of is_frame (l.frames + 1) l.items) (sym c.self.view_is)
-    (next-later now true low))
+    rw c.if-client.true (subst (λ (l : Landed). next_place now true < place_of is_frame (l.frames + 1) l.items)
+    (sym c.self.view_is) (next-later now true low))
 
 pub returns-else-client-clause-passed : goal.returns-else-client-clause-passed
 returns-else-client-clause-passed c =
     let now = c.args.self.now in
     let low = subst (λ b. next_place now b < length now.items) c.if-client.false c.requires in
-    subst (λ b. next_place now b < next_place
-    (record {
-      items = c.self.inside.items.items;
-      frames = c.self.inside.frames;
-      commands =
-          c.self.inside.commands + 1;
-      refused_frames = c.self.inside.refused_frames;
-      refused_commands =
-          c.self.inside.refused_commands;
-      refusals = c.self.inside.refusals.items;
-    }) b) (sym c.if-client.false)
-    (subst (λ (l : Landed). next_place now false < place_of is_command (l.commands + 1) l.items) (sym c.self.view_is)
-    (next-later now false low))
+    rw c.if-client.false (subst (λ (l : Landed). next_place now false < place_of is_command (l.commands + 1) l.items)
+    (sym c.self.view_is) (next-later now false low))
 
 pub returns-then-client-clause-others : goal.returns-then-client-clause-others
 returns-then-client-clause-others c =
-    let now = c.args.self.now in
-    let is = subst (λ (l : Landed). IsLanded l c.self.inside.frame c.self.inside.command
-    (vec_capacity c.self.inside.refusals)) c.self.view_is c.self.invariant in
-    subst (λ (l : Landed). AreOthers (next_place now c.args.client) l.refusals) (sym c.self.view_is)
-    (fresh-next now _ _ _ c.args.client is c.requires)
+    fresh-next _ c.args.self.now _ _ _ c.args.client c.self.view_is c.self.invariant c.requires
 
 pub returns-else-client-clause-others : goal.returns-else-client-clause-others
 returns-else-client-clause-others c =
-    let now = c.args.self.now in
-    let is = subst (λ (l : Landed). IsLanded l c.self.inside.frame c.self.inside.command
-    (vec_capacity c.self.inside.refusals)) c.self.view_is c.self.invariant in
-    subst (λ (l : Landed). AreOthers (next_place now c.args.client) l.refusals) (sym c.self.view_is)
-    (fresh-next now _ _ _ c.args.client is c.requires)
+    fresh-next _ c.args.self.now _ _ _ c.args.client c.self.view_is c.self.invariant c.requires
 
 pub returns-then-client-clause-fewer : goal.returns-then-client-clause-fewer
 returns-then-client-clause-fewer c =
-    let now : Landed = record {
-      items = c.self.inside.items.items;
-      frames = c.self.inside.frames + 1;
-      commands =
-          c.self.inside.commands;
-      refused_frames = c.self.inside.refused_frames;
-      refused_commands =
-          c.self.inside.refused_commands;
-      refusals = c.self.inside.refusals.items;
-    } in
     let few = c.self.invariant.few_frames in
-    subst (λ b. refused_of now b < landed_of now b) (sym c.if-client.true) (omega arith)
+    rw c.if-client.true (omega arith)
 
 pub returns-else-client-clause-fewer : goal.returns-else-client-clause-fewer
 returns-else-client-clause-fewer c =
-    let now : Landed = record {
-      items = c.self.inside.items.items;
-      frames = c.self.inside.frames;
-      commands =
-          c.self.inside.commands + 1;
-      refused_frames = c.self.inside.refused_frames;
-      refused_commands =
-          c.self.inside.refused_commands;
-      refusals = c.self.inside.refusals.items;
-    } in
     let few = c.self.invariant.few_commands in
-    subst (λ b. refused_of now b < landed_of now b) (sym c.if-client.false) (omega arith)
+    rw c.if-client.false (omega arith)

@@ -1,3 +1,4 @@
+-- The first bit leaves the register, and the sum of the first two comes in behind the last one.
 use Rattle.std.proofs.Common.{◌∷◌, [], ◌++◌, false, drop, slice_index_or, ◌∙◌, ap}
 use Rattle.remainder.specs.Bits.{xor}
 use Rattle.lcas_source.proofs.GroupBitLaws.{bits-advanced}

@@ -1,3 +1,4 @@
+-- The first of the fifteen bits is the most significant one of the register.
 use Rattle.std.proofs.Common.{◌≡◌, ◌/◌, ◌%◌, ◌==◌, false, slice_index_or, sym, ◌∙◌, ap, arith}
 use Rattle.lcas_source.proofs.GroupBitLaws.{bit_0}
 use Rattle.lcas_source.proofs.group_bits.GroupBits.first.Goals as goal

@@ -1,3 +1,4 @@
+-- As many lines carry payload as there are members in NORM.
 use Rattle.std.proofs.Common.{length, sym, ◌∙◌, ap, filter}
 use Rattle.std.specs.Prelude.{count_by}
 use Rattle.std.proofs.lemmas.List.{length-map}

@@ -1,3 +1,4 @@
+-- A command that is accepted waits behind the others, and its line is planned, or isn't any more.
 use Rattle.std.proofs.Common.{sym, ◌∙◌, ap, refl}
 use Rattle.session_model.specs.Source.{refusal}
 use Rattle.session_model.specs.Course.{Course, asks, called}

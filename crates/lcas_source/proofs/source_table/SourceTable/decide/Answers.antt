@@ -1,3 +1,4 @@
+-- There is room for a line to be added, and the fields are those after the decision step.
 use Rattle.std.proofs.Common.{◌%◌, ◌∙◌, ap, option_map}
 use Rattle.session_model.specs.Table.{told_on}
 use Rattle.session_model.specs.Told.{told_in}

@@ -1,3 +1,4 @@
+-- The fields are those of the course before the first call.
 use Rattle.lcas_source.proofs.CourseSteps.{begun-fields, IsTable-new}
 use Rattle.lcas_source.proofs.source_table.SourceTable.new.Goals as goal
 

@@ -1,3 +1,4 @@
+-- The fields of the packet are what the table and the bits of the group tell of the line.
 use Rattle.std.proofs.Common.{◌<◌, ◌-◌, sym, ◌∙◌, ap, subst}
 use Rattle.session_model.specs.Course.{Course}
 use Rattle.session_model.specs.Forward.{forward_packet}
