@@ -5,7 +5,7 @@ use crate::group::beginning_row;
 use crate::rows::Program::Walk;
 use crate::rows::{Turns, try_rows, try_rows_with};
 
-/// Walks and loads.
+/// Walks and loads. At the end a line beyond the group of 64, and a frame for which there is no room behind 256 others.
 fn answer_rows() -> &'static str {
     "\
     walk;lines 1|delays 0|ring 1|lag 1|ticks 1| => 0+;total ticks 1 taken 1 frames 0 commands 0 refused 0 got 0|;\n\
@@ -22,12 +22,7 @@ fn answer_rows() -> &'static str {
     make 1 1 1; => 0+;made lines 1 ticks 1|total ticks 1 taken 1 frames 1 commands 1 refused 0 got 0|octets 0 sum 0|;\n\
     make 7 2 400; => 0+;made lines 2 ticks 400|total ticks 400 taken 400 frames 50 commands 2 refused 0 got 50|octets 43246 sum 5512389|;\n\
     stream 9600 400000 0 1000000 1; => 8;;fault: too long|\n\
-    walk;lines 2|delays 0 63|ring 64|lag 5|ticks 1| => 0+;total ticks 1 taken 1 frames 0 commands 0 refused 0 got 0|;"
-}
-
-/// A line beyond the group of 64, and a frame for which there is no room behind 256 others.
-fn limit_rows() -> &'static str {
-    "\
+    walk;lines 2|delays 0 63|ring 64|lag 5|ticks 1| => 0+;total ticks 1 taken 1 frames 0 commands 0 refused 0 got 0|;\n\
     walk;lines 64|delays 0 0 0 0 0 0 0 0 0 0 0 0 0 0 0 0 0 0 0 0 0 0 0 0 0 0 0 0 0 0 0 0 0 0 0 0 0 0 0 0 0 0 0 0 0 0 0 0 0 0 0 0 0 0 0 0 0 0 0 0 0 0 0 0|ring 1|lag 1|ticks 1|add 0 64| => \
     0+;refused 0 unknown|total ticks 1 taken 1 frames 0 commands 0 refused 1 got 0|;\n\
     walk;lines 1|delays 0|ring 1|lag 1|ticks 1|\
@@ -217,7 +212,6 @@ fn answers(rt: HostRuntime) {
     let alloc = rt.alloc();
     let mut wrong = String::new(alloc);
     try_rows(&rt, alloc, (Walk, Turns::Whole), answer_rows(), &mut wrong);
-    try_rows(&rt, alloc, (Walk, Turns::Whole), limit_rows(), &mut wrong);
     try_rows(&rt, alloc, (Walk, Turns::Whole), faulty_rows(), &mut wrong);
     try_rows(&rt, alloc, (Walk, Turns::Whole), usage_rows(), &mut wrong);
     try_rows(&rt, alloc, (Walk, Turns::Whole), frame_rows(), &mut wrong);
