@@ -26,12 +26,14 @@ fn two_lines_row() -> &'static str {
     0+;got 07*64|got 09*70|refused 2 already in|total ticks 200 taken 200 frames 2 commands 3 refused 1 got 2|;"
 }
 
-/// Sessions whose alarms are told: one failure, two lines of which one slips in the midst and the other at its end,
+/// Sessions whose alarms are told: one failure, one in which all containers but one vanish, two lines of which one slips in the midst and the other at its end,
 /// and none at all.
 fn watched_rows() -> &'static str {
     "\
     watch 1;lines 1|delays 0|ring 64|lag 4|ticks 161|fail 0 100 101 0|add 0 0| => \
     0+;total ticks 161 taken 161 frames 0 commands 1 refused 0 got 0|;alarm 0 100 fails|alarm 0 101 returns|alarm 0 161 ends|\n\
+    watch 1;lines 1|delays 0|ring 40|lag 4|ticks 200|fail 0 100 140 39|add 0 0| => \
+    0+;total ticks 200 taken 200 frames 0 commands 1 refused 0 got 0|;alarm 0 100 fails|alarm 0 101 returns|alarm 0 161 ends|\n\
     watch 3;lines 2|delays 0 3|ring 64|lag 4|ticks 200|fail 0 20 30 2|fail 1 0 4 0|fail 1 190 200 9|add 0 0|add 0 1|add 0 1| => \
     0+;refused 2 already in|total ticks 200 taken 200 frames 0 commands 2 refused 1 got 0|;\
     alarm 0 20 fails|alarm 0 28 returns|alarm 0 198 ends|alarm 1 0 fails|alarm 1 4 returns|alarm 1 190 fails|alarm 1 191 ends|\n\

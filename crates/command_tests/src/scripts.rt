@@ -95,6 +95,10 @@ fn fault_rows() -> &'static str {
     lines 1|delays 3|ring 8|lag 2|ticks 100|fail 0 10 20 4|fail 0 36 40 3 => 0+;total ticks 100 taken 100 frames 0 commands 0 refused 0 got 0|;\n\
     lines 1|delays 3|ring 7|lag 2|ticks 100|fail 0 10 20 4|fail 0 36 40 3 => 6;;fault: spread 3 3 7 7|help: delays from 3 to 3 and slips of 7 need a ring of at least 8|\n\
     lines 1|delays 3|ring 7|lag 2|ticks 100|fail 0 10 20 4|fail 0 37 40 2 => 0+;total ticks 100 taken 100 frames 0 commands 0 refused 0 got 0|;\n\
+    lines 1|delays 3|ring 8|lag 2|ticks 200|fail 0 100 110 3|fail 0 120 130 4 => 0+;total ticks 200 taken 200 frames 0 commands 0 refused 0 got 0|;\n\
+    lines 1|delays 3|ring 7|lag 2|ticks 200|fail 0 100 110 3|fail 0 120 130 4 => 6;;fault: spread 3 3 7 7|help: delays from 3 to 3 and slips of 7 need a ring of at least 8|\n\
+    lines 1|delays 3|ring 5|lag 2|ticks 200|fail 0 100 110 3|fail 0 127 137 4 => 0+;total ticks 200 taken 200 frames 0 commands 0 refused 0 got 0|;\n\
+    lines 1|delays 3|ring 4|lag 2|ticks 200|fail 0 100 110 3|fail 0 127 137 4 => 6;;fault: spread 3 3 4 4|help: delays from 3 to 3 and slips of 4 need a ring of at least 5|\n\
     lines 1|delays 14|ring 5|lag 2|ticks 100|fail 0 10 20 3 => 6;;fault: lag 2 least 3|help: a delay of 14 and slips of 3 need a lag of at least 3|"
 }
 

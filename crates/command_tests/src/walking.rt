@@ -5,20 +5,45 @@ use crate::group::beginning_row;
 use crate::rows::Program::Walk;
 use crate::rows::{Turns, try_rows, try_rows_with};
 
-/// Walks and loads.
+/// Walks and loads. At the end a line beyond the group of 64, and a frame for which there is no room behind 256 others.
 fn answer_rows() -> &'static str {
     "\
     walk;lines 1|delays 0|ring 1|lag 1|ticks 1| => 0+;total ticks 1 taken 1 frames 0 commands 0 refused 0 got 0|;\n\
     walk;lines 1|delays 0|ring 1|lag 1|ticks 5|tick 2|carry 0 1| => 0+;total ticks 2 taken 0 frames 0 commands 0 refused 0 got 0|;\n\
-    walk;lines 1|delays 0|ring 1|lag 1|ticks 1|add 0 0|add 0 0|remove 0 1|frame 0 00| => 0+;refused 1 already in|refused 2 unknown|refused 3 length 1|total ticks 1 taken 1 frames 0 commands 1 refused 3 got 0|;\n\
+    walk;lines 1|delays 0|ring 1|lag 1|ticks 1|add 0 0|add 0 0|remove 0 1|frame 0 00*63| => 0+;refused 1 already in|refused 2 unknown|refused 3 length 63|total ticks 1 taken 1 frames 0 commands 1 refused 3 got 0|;\n\
     walk;lines 2|delays 0 0|ring 1|lag 1|ticks 1|add 0 0|add 0 0|remove 0 1 => 0+;refused 1 already in|refused 2 not in|total ticks 1 taken 1 frames 0 commands 1 refused 2 got 0|;\n\
     trace;lines 1|delays 0|ring 1|lag 1|ticks 41|add 0 0| => 0+;total ticks 41 taken 41 frames 0 commands 1 refused 0 got 0|;packet 0 chg 1 act 0 back none add:0|packet 1 chg 1 act 1 back 7f/1 eos:0|packet 2 chg 1 act 1 back ff/1 eos:0|\n\
     fates;lines 1|delays 0|ring 1|lag 1|ticks 41|add 0 0|frame 0 5a*2324|frame 0 5a*63|frame 0 5a*64| => 0+;frame 1 due 0 got 40 40|frame 2 due 0 refused length 63|frame 3 due 0 waits|fates ticks 41 taken 41 frames 2 got 1 lost 0 waits 1 refused 1 starts true|;\n\
     fates;lines 1|delays 0|ring 40|lag 4|ticks 200|fail 0 100 140 39|add 0 0|frame 0 5a*64|frame 168 5a*64|frame 168 5a*64|frame 168 5a*64| => 0+;spoiled 100 104 container 0|spoiled 104 168 packet|segment 168 200 true 168|frame 1 due 0 got 88 88|frame 2 due 168 hunting 168 168|frame 3 due 168 unsettled 168 168|frame 4 due 168 got 168 168|fates ticks 200 taken 200 frames 4 got 2 lost 2 waits 0 refused 0 starts true|;\n\
+    fates;lines 1|delays 0|ring 1|lag 1|ticks 200|fail 0 119 120 0|add 0 0|frame 118 5a*64|frame 119 5a*64|frame 151 5a*64|frame 152 5a*64|frame 152 5a*64| => \
+    0+;spoiled 119 120 container 0|spoiled 120 152 packet|segment 152 200 true 152|frame 1 due 118 got 118 118|frame 2 due 119 cut 119 119 119|frame 3 due 151 cut 151 151 151|frame 4 due 152 hunting 152 152|frame 5 due 152 unsettled 152 152|fates ticks 200 taken 200 frames 5 got 1 lost 4 waits 0 refused 0 starts true|;\n\
+    fates;lines 1|delays 0|ring 1|lag 1|ticks 200|fail 0 111 112 0|add 0 0|frame 110 5a*64|frame 113 5a*64|frame 114 5a*64|frame 119 5a*64|frame 120 5a*64|frame 136 5a*64| => \
+    0+;spoiled 111 114 container 0|spoiled 120 136 packet|segment 114 120 true 114|segment 136 200 true 136|frame 1 due 110 got 110 110|frame 2 due 113 cut 113 113 113|frame 3 due 114 hunting 114 114|frame 4 due 119 unsettled 119 119|frame 5 due 120 cut 120 120 120|frame 6 due 136 hunting 136 136|fates ticks 200 taken 200 frames 6 got 1 lost 5 waits 0 refused 0 starts true|;\n\
     make 1 1 1; => 0+;made lines 1 ticks 1|total ticks 1 taken 1 frames 1 commands 1 refused 0 got 0|octets 0 sum 0|;\n\
     make 7 2 400; => 0+;made lines 2 ticks 400|total ticks 400 taken 400 frames 50 commands 2 refused 0 got 50|octets 43246 sum 5512389|;\n\
     stream 9600 400000 0 1000000 1; => 8;;fault: too long|\n\
-    walk;lines 2|delays 0 63|ring 64|lag 5|ticks 1| => 0+;total ticks 1 taken 1 frames 0 commands 0 refused 0 got 0|;"
+    walk;lines 2|delays 0 63|ring 64|lag 5|ticks 1| => 0+;total ticks 1 taken 1 frames 0 commands 0 refused 0 got 0|;\n\
+    walk;lines 64|delays 0 0 0 0 0 0 0 0 0 0 0 0 0 0 0 0 0 0 0 0 0 0 0 0 0 0 0 0 0 0 0 0 0 0 0 0 0 0 0 0 0 0 0 0 0 0 0 0 0 0 0 0 0 0 0 0 0 0 0 0 0 0 0 0|ring 1|lag 1|ticks 1|add 0 64| => \
+    0+;refused 0 unknown|total ticks 1 taken 1 frames 0 commands 0 refused 1 got 0|;\n\
+    walk;lines 1|delays 0|ring 1|lag 1|ticks 1|\
+    frame 0 5a*64|frame 0 5a*64|frame 0 5a*64|frame 0 5a*64|frame 0 5a*64|frame 0 5a*64|frame 0 5a*64|frame 0 5a*64|frame 0 5a*64|frame 0 5a*64|frame 0 5a*64|frame 0 5a*64|frame 0 5a*64|frame 0 5a*64|frame 0 5a*64|frame 0 5a*64|\
+    frame 0 5a*64|frame 0 5a*64|frame 0 5a*64|frame 0 5a*64|frame 0 5a*64|frame 0 5a*64|frame 0 5a*64|frame 0 5a*64|frame 0 5a*64|frame 0 5a*64|frame 0 5a*64|frame 0 5a*64|frame 0 5a*64|frame 0 5a*64|frame 0 5a*64|frame 0 5a*64|\
+    frame 0 5a*64|frame 0 5a*64|frame 0 5a*64|frame 0 5a*64|frame 0 5a*64|frame 0 5a*64|frame 0 5a*64|frame 0 5a*64|frame 0 5a*64|frame 0 5a*64|frame 0 5a*64|frame 0 5a*64|frame 0 5a*64|frame 0 5a*64|frame 0 5a*64|frame 0 5a*64|\
+    frame 0 5a*64|frame 0 5a*64|frame 0 5a*64|frame 0 5a*64|frame 0 5a*64|frame 0 5a*64|frame 0 5a*64|frame 0 5a*64|frame 0 5a*64|frame 0 5a*64|frame 0 5a*64|frame 0 5a*64|frame 0 5a*64|frame 0 5a*64|frame 0 5a*64|frame 0 5a*64|\
+    frame 0 5a*64|frame 0 5a*64|frame 0 5a*64|frame 0 5a*64|frame 0 5a*64|frame 0 5a*64|frame 0 5a*64|frame 0 5a*64|frame 0 5a*64|frame 0 5a*64|frame 0 5a*64|frame 0 5a*64|frame 0 5a*64|frame 0 5a*64|frame 0 5a*64|frame 0 5a*64|\
+    frame 0 5a*64|frame 0 5a*64|frame 0 5a*64|frame 0 5a*64|frame 0 5a*64|frame 0 5a*64|frame 0 5a*64|frame 0 5a*64|frame 0 5a*64|frame 0 5a*64|frame 0 5a*64|frame 0 5a*64|frame 0 5a*64|frame 0 5a*64|frame 0 5a*64|frame 0 5a*64|\
+    frame 0 5a*64|frame 0 5a*64|frame 0 5a*64|frame 0 5a*64|frame 0 5a*64|frame 0 5a*64|frame 0 5a*64|frame 0 5a*64|frame 0 5a*64|frame 0 5a*64|frame 0 5a*64|frame 0 5a*64|frame 0 5a*64|frame 0 5a*64|frame 0 5a*64|frame 0 5a*64|\
+    frame 0 5a*64|frame 0 5a*64|frame 0 5a*64|frame 0 5a*64|frame 0 5a*64|frame 0 5a*64|frame 0 5a*64|frame 0 5a*64|frame 0 5a*64|frame 0 5a*64|frame 0 5a*64|frame 0 5a*64|frame 0 5a*64|frame 0 5a*64|frame 0 5a*64|frame 0 5a*64|\
+    frame 0 5a*64|frame 0 5a*64|frame 0 5a*64|frame 0 5a*64|frame 0 5a*64|frame 0 5a*64|frame 0 5a*64|frame 0 5a*64|frame 0 5a*64|frame 0 5a*64|frame 0 5a*64|frame 0 5a*64|frame 0 5a*64|frame 0 5a*64|frame 0 5a*64|frame 0 5a*64|\
+    frame 0 5a*64|frame 0 5a*64|frame 0 5a*64|frame 0 5a*64|frame 0 5a*64|frame 0 5a*64|frame 0 5a*64|frame 0 5a*64|frame 0 5a*64|frame 0 5a*64|frame 0 5a*64|frame 0 5a*64|frame 0 5a*64|frame 0 5a*64|frame 0 5a*64|frame 0 5a*64|\
+    frame 0 5a*64|frame 0 5a*64|frame 0 5a*64|frame 0 5a*64|frame 0 5a*64|frame 0 5a*64|frame 0 5a*64|frame 0 5a*64|frame 0 5a*64|frame 0 5a*64|frame 0 5a*64|frame 0 5a*64|frame 0 5a*64|frame 0 5a*64|frame 0 5a*64|frame 0 5a*64|\
+    frame 0 5a*64|frame 0 5a*64|frame 0 5a*64|frame 0 5a*64|frame 0 5a*64|frame 0 5a*64|frame 0 5a*64|frame 0 5a*64|frame 0 5a*64|frame 0 5a*64|frame 0 5a*64|frame 0 5a*64|frame 0 5a*64|frame 0 5a*64|frame 0 5a*64|frame 0 5a*64|\
+    frame 0 5a*64|frame 0 5a*64|frame 0 5a*64|frame 0 5a*64|frame 0 5a*64|frame 0 5a*64|frame 0 5a*64|frame 0 5a*64|frame 0 5a*64|frame 0 5a*64|frame 0 5a*64|frame 0 5a*64|frame 0 5a*64|frame 0 5a*64|frame 0 5a*64|frame 0 5a*64|\
+    frame 0 5a*64|frame 0 5a*64|frame 0 5a*64|frame 0 5a*64|frame 0 5a*64|frame 0 5a*64|frame 0 5a*64|frame 0 5a*64|frame 0 5a*64|frame 0 5a*64|frame 0 5a*64|frame 0 5a*64|frame 0 5a*64|frame 0 5a*64|frame 0 5a*64|frame 0 5a*64|\
+    frame 0 5a*64|frame 0 5a*64|frame 0 5a*64|frame 0 5a*64|frame 0 5a*64|frame 0 5a*64|frame 0 5a*64|frame 0 5a*64|frame 0 5a*64|frame 0 5a*64|frame 0 5a*64|frame 0 5a*64|frame 0 5a*64|frame 0 5a*64|frame 0 5a*64|frame 0 5a*64|\
+    frame 0 5a*64|frame 0 5a*64|frame 0 5a*64|frame 0 5a*64|frame 0 5a*64|frame 0 5a*64|frame 0 5a*64|frame 0 5a*64|frame 0 5a*64|frame 0 5a*64|frame 0 5a*64|frame 0 5a*64|frame 0 5a*64|frame 0 5a*64|frame 0 5a*64|frame 0 5a*64|\
+    frame 0 5a*64| => \
+    0+;refused 256 queue|total ticks 1 taken 1 frames 256 commands 0 refused 1 got 0|;"
 }
 
 /// Scripts that are faulty, or don't fit their rings.

@@ -1,0 +1,1 @@
+eight_lines
