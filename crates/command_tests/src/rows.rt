@@ -1,9 +1,9 @@
 //! Rows of words, an input and answers, and a runner that tries them on either program.
 //!
-//! A row is `WORDS;INPUT => ANSWER THEN ANSWER ..`, with one answer for each turn, and `N TIMES` before one
+//! A row is `WORDS;INPUT => ANSWER THEN ANSWER` and so on, with one answer for each turn, and `N TIMES` before one
 //! that comes in N turns. An answer is `STATUS;OUT;NOTES`, where `+` follows the status if a walk or a
-//! session is handed back. `|` stands for LF, and `07*9` at the end of a line for nine octets of 07. Nothing
-//! here stops at want of memory: a text that is cut by it is another than the wanted one.
+//! session is handed back. `|` stands for LF, `07*9` at the end of a line for nine octets of 07, and `..` at the end of
+//! an answer for any rest. Nothing here stops at want of memory: a text that is cut by it is another than the wanted one.
 
 use crate::door::Door;
 use outside_io::{MemSink, MemSource};
@@ -221,12 +221,20 @@ fn is_traced(alloc: Global, answer: &[u8], want: &str) -> bool {
     answer.starts_with(before.as_slice()) && answer.ends_with(notes.as_slice())
 }
 
+/// Whether an answer is the wanted one, of which `..` at the end stands for any rest.
+fn is_whole(alloc: Global, answer: &[u8], want: &str) -> bool {
+    match want.strip_suffix("..") {
+        Some(front) => answer.starts_with(unfolded(alloc, front).as_slice()),
+        None => answer == unfolded(alloc, want).as_slice(),
+    }
+}
+
 /// Whether an answer is the wanted one.
 fn is_right(alloc: Global, turns: Turns, answer: &[u8], want: &str) -> bool {
     match turns {
         Turns::Lines => has_line(answer, want),
         Turns::TracedPuts => is_traced(alloc, answer, want),
-        _ => answer == unfolded(alloc, want).as_slice(),
+        _ => is_whole(alloc, answer, want),
     }
 }
 
