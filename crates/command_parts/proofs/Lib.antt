@@ -1,3 +1,4 @@
 pub mod EndLaws
 pub mod StopLaws
 pub mod TakenLaws
+pub mod ScriptLaws

@@ -1,58 +1,61 @@
 -- Each exit of a command is one of the ends.
-use Rattle.std.proofs.Common.{◌≡◌, ◌≢◌, ◌⊎◌, ℕ, List, Err, refl, sym, ◌∙◌, ap, ap₂, subst, inl, inr, arith}
+use Rattle.std.proofs.Common.{◌≡◌, ◌≢◌, ◌⊎◌, ℕ, List, Result, Ok, Err, refl, sym, ◌∙◌, ap, ap₂, subst, inl, inr}
+use Rattle.std.proofs.Common.{arith}
 use Rattle.session_model.specs.declared.script.Script.{Script}
 use Rattle.script_read.specs.declared.fault.ScriptFault.{ScriptFault}
 use Rattle.script_read.specs.declared.fault.ScriptFault.TheVariants.{Line, Slip, Spread, Lag}
 use Rattle.script_read.specs.declared.fault.ScriptFault.TheVariants as fault
-use Rattle.script_read.specs.Script.{script_of}
 use Rattle.command_parts.specs.declared.stop.Stop.{Stop}
 use Rattle.command_parts.specs.declared.stop.Stop.TheVariants.{Read, TooLong, Refused, Write, Memory}
 use Rattle.command_parts.specs.Task.{Answer, Task, refuses, exceeds, none, reads, makes, IsCommand}
 use Rattle.command_parts.specs.Ends.{Lent, Kept, Quiet, IsTold, HasRead, Meets, WritesAll, WritesPart, until, since}
 use Rattle.command_parts.specs.Ends.{Ends, no_source, done, no_command, cut, refused, unread, short, too_long, beyond}
-use Rattle.command_parts.specs.Faults.{IsRefusedFor}
+use Rattle.command_parts.specs.Faults.{why_of, fault_text, IsRefusedFor}
 use Rattle.command_parts.specs.declared.stop.Fault.{Fault}
 use Rattle.command_parts.specs.declared.stop.Refusal.{Refusal}
 use Rattle.command_parts.specs.Status.{HasRunAt}
 use Rattle.command_parts.proofs.EndLaws.{refused-within}
-use Rattle.command_parts.specs.Scripts.{HasScript, answer_of, script_answer}
-use Rattle.command_parts.specs.Stops.{StopsReading, note_of, status_at}
+use Rattle.command_parts.specs.Scripts.{HasScript, told_of, answer_of, script_answer}
+use Rattle.command_parts.specs.Stops.{StopsReading, IsRefusedAs, note_of, status_at}
+use Rattle.command_parts.specs.Pieces.{StopsAt}
+
+-- ---- why a text says nothing
+-- a cause with its note
+pub stops_as : {A : Type 0} (said : Result A (Refusal × List ℕ)) (why : Refusal) (note : List ℕ) (stop : Stop) →
+    said ≡ Err (why, note) → IsRefusedAs why note stop → StopsAt said stop
+stops_as said why note Read says is = is
+stops_as said why note TooLong says is = is
+stops_as said why note (Refused it) says is =
+    says ∙ ap₂ (λ (w : Refusal) (n : List ℕ). Err (w, n)) (sym is.0) (sym is.1)
+stops_as said why note Write says is = is
+stops_as said why note Memory says is = tt
+
+-- want of memory
+pub stops_short : {A : Type 0} (said : Result A (Refusal × List ℕ)) (stop : Stop) → stop ≡ Memory → StopsAt said stop
+stops_short said stop is = let P : Stop → Type 0 = λ stop. StopsAt said stop in subst P (sym is) tt
 
 -- ---- a text that says no script
-refused-for : {S : Type 0} (source : Lent S) (writes : Script → Answer) (text : List ℕ) (own : ScriptFault)
-    (stop : Stop) → HasRead source text
-    → script_of text ≡ Err own → IsRefusedFor own stop → StopsReading source (script_answer writes) stop
-refused-for source writes text own Read read says is = absurd is
-refused-for source writes text own TooLong read says is = absurd is
-refused-for source writes text own (Refused it) read says is =
-    (text, read, ap (answer_of writes) says ∙ ap₂ refuses (sym is.0) (sym is.1))
-refused-for source writes text own Write read says is = absurd is
-refused-for source writes text own Memory read says is = absurd is
+memory_or : (own : ScriptFault) → (own ≡ fault.Memory) ⊎ (own ≢ fault.Memory)
+memory_or (Line n wrong) = inr (λ e. cc)
+memory_or (Slip l w x) = inr (λ e. cc)
+memory_or (Spread a b c d) = inr (λ e. cc)
+memory_or (Lag a b x y) = inr (λ e. cc)
+memory_or fault.Memory = inl refl
 
-short-stop : {S : Type 0} (source : Lent S) (answer : List ℕ → Answer) (stop : Stop) → Quiet source → stop ≡ Memory →
-    StopsReading source answer stop
-short-stop source answer stop quiet is = let P : Stop → Type 0 = λ stop. StopsReading source answer stop in
-    subst P (sym is) quiet
+pub stops_script : (of : Result Script ScriptFault) (own : ScriptFault) (stop : Stop) →
+    (own ≡ fault.Memory) ⊎ (of ≡ Err own) → (own ≢ fault.Memory → IsRefusedFor own stop) →
+    (own ≡ fault.Memory → stop ≡ Memory) → StopsAt (told_of of) stop
+stops_script of own stop either for lack = elim (memory_or own) [
+  | inl e ↦ stops_short (told_of of) stop (lack e)
+  | inr other ↦ elim either [
+    | inl e ↦ absurd (other e)
+    | inr says ↦ stops_as (told_of of) (why_of own) (fault_text own) stop (ap told_of says) (for other)
+  ]
+]
 
-pub refused-script : {S : Type 0} (source : Lent S) (writes : Script → Answer) (text : List ℕ) (own : ScriptFault)
-    (stop : Stop) → HasRead source text
-    → (own ≡ fault.Memory) ⊎ (script_of text ≡ Err own) → (own ≢ fault.Memory → IsRefusedFor own stop) →
-    (own ≡ fault.Memory → stop ≡ Memory)
-    → StopsReading source (script_answer writes) stop
-refused-script source writes text (Line n k) stop read (inl e) for lack = absurd cc
-refused-script source writes text (Line n k) stop read (inr says) for lack =
-    refused-for source writes text (Line n k) stop read says (for (λ e. absurd cc))
-refused-script source writes text (Slip l w x) stop read (inl e) for lack = absurd cc
-refused-script source writes text (Slip l w x) stop read (inr says) for lack =
-    refused-for source writes text (Slip l w x) stop read says (for (λ e. absurd cc))
-refused-script source writes text (Spread a b c d) stop read (inl e) for lack = absurd cc
-refused-script source writes text (Spread a b c d) stop read (inr says) for lack =
-    refused-for source writes text (Spread a b c d) stop read says (for (λ e. absurd cc))
-refused-script source writes text (Lag a b x y) stop read (inl e) for lack = absurd cc
-refused-script source writes text (Lag a b x y) stop read (inr says) for lack =
-    refused-for source writes text (Lag a b x y) stop read says (for (λ e. absurd cc))
-refused-script source writes text fault.Memory stop read either for lack =
-    short-stop source (script_answer writes) stop read.quiet (lack refl)
+pub said-script : (of : Result Script ScriptFault) (script : Script) → told_of of ≡ Ok script → of ≡ Ok script
+said-script (Ok own) script says = let same : own ≡ script = cc in ap Ok same
+said-script (Err own) script says = absurd cc
 
 -- ---- a script is answered
 pub meets-script : {S : Type 0} (source : Lent S) (writes : Script → Answer) (script : Script) →

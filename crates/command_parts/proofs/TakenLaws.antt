@@ -1,21 +1,18 @@
 -- A text that a source gives piece by piece.
-use Rattle.std.proofs.Common.{◌≡◌, ◌⊎◌, ℕ, ◌+◌, ◌<◌, ◌≤◌, List, [], ◌++◌, length, length-append, append_assoc, arith}
-use Rattle.std.proofs.Common.{Option, None, Some, Err, refl, sym, ap, ◌∙◌, inl, inr}
+use Rattle.std.proofs.Common.{◌≡◌, ℕ, ◌+◌, ◌<◌, ◌≤◌, List, [], ◌++◌, length, length-append, append_assoc, arith}
+use Rattle.std.proofs.Common.{Option, None, Some, Result, refl, sym, ap, ◌∙◌}
 use Rattle.std.specs.Prelude.{IfSome}
 use Rattle.std.specs.Io.KnownBytes.{prepend_known, IsAtEnd}
 use Rattle.outside_io.specs.Faults.{one_more}
 use Rattle.session_model.specs.Limits.{longest_input}
-use Rattle.script_read.specs.declared.fault.ScriptFault.{ScriptFault}
-use Rattle.script_read.specs.declared.fault.ScriptFault.TheVariants as fault
-use Rattle.script_read.specs.declared.pieces.ScriptReader.{ScriptReader}
-use Rattle.script_read.specs.Pieces.{Stands, Follows, HasRoom, IsReader}
-use Rattle.script_read.specs.Script.{script_of}
+use Rattle.command_parts.specs.declared.stop.Refusal.{Refusal}
 use Rattle.command_parts.specs.declared.stop.Stop.{Stop}
 use Rattle.command_parts.specs.declared.stop.Stop.TheVariants.{Read, TooLong, Refused, Write, Memory}
 use Rattle.command_parts.specs.Task.{Answer}
-use Rattle.command_parts.specs.Ends.{lent, HasRead}
-use Rattle.command_parts.specs.Stops.{StopsReading, StopsTaking}
+use Rattle.command_parts.specs.Ends.{Lent, lent, HasRead}
+use Rattle.command_parts.specs.Stops.{StopsReading, StopsFor, StopsTaking}
 use Rattle.command_parts.specs.Scripts.{IsTaken}
+use Rattle.command_parts.specs.Pieces.{answer_told, StopsAt, Follows, HasRoom}
 
 prepended : (all piece : List ℕ) (known : Option (List ℕ)) →
     prepend_known all (prepend_known piece known) ≡ prepend_known (all ++ piece) known
@@ -73,36 +70,54 @@ module _ {S : Type 0} (left : S → Option (List ℕ)) (faults : S → ℕ) wher
   stops_taking start old new all room answer Write taken stops = absurd stops
   stops_taking start old new all room answer Memory taken stops = stops ∙ taken.quiet
 
--- what follows is a rest that grows, and there is room for it
-pub follows_more : (reader : ScriptReader) (rest all piece more : List ℕ) → more ≡ rest ++ piece →
-    Follows reader rest all → Follows reader more (all ++ piece)
-follows_more reader rest all piece more is follows = record {
-  text = follows.text;
-  is = ap (λ (t : List ℕ). t ++ piece) follows.is ∙ append_assoc follows.text rest piece
-      ∙ ap (λ (t : List ℕ). follows.text ++ t) (sym is);
-  stands = follows.stands;
-}
+-- what stops a reader of a text that was read to its end
+pub stops_read : {S : Type 0} (source : Lent S) (answer : List ℕ → Answer) (text : List ℕ) (stop : Stop) →
+    HasRead source text → StopsFor (answer text) stop → StopsReading source answer stop
+stops_read source answer text Read read stops = absurd stops
+stops_read source answer text TooLong read stops = absurd stops
+stops_read source answer text (Refused it) read stops = (text, read, stops)
+stops_read source answer text Write read stops = absurd stops
+stops_read source answer text Memory read stops = read.quiet
 
-pub room_for : (reader : ScriptReader) (rest all : List ℕ) → Follows reader rest all → length all ≤ longest_input →
-    HasRoom reader (length rest)
-room_for reader rest all follows fits =
-    omega (arith, fits, follows.stands.count, ap (λ (t : List ℕ). length t) follows.is, length-append follows.text rest)
+pub stops_told : {A : Type 0} (writes : A → Answer) (said : Result A (Refusal × List ℕ)) (stop : Stop) →
+    StopsAt said stop → StopsFor (answer_told writes said) stop
+stops_told writes said Read stops = stops
+stops_told writes said TooLong stops = stops
+stops_told writes said (Refused it) stops = ap (answer_told writes) stops
+stops_told writes said Write stops = stops
+stops_told writes said Memory stops = tt
 
-pub follows_none : (reader : ScriptReader) → Stands reader [] → Follows reader [] []
-follows_none reader stands = record { text = []; is = refl; stands = stands }
+-- ---- what was taken, all of it read but a rest
+module _ {R S : Type 0} (Reads : R → List ℕ → Type 0) (left : S → Option (List ℕ)) (faults : S → ℕ) where
+  pub record IsReading (start now : S) (reader : R) (rest : List ℕ) (room : ℕ) : Type 0 where
+    pub all : List ℕ
+    pub taken : IsTaken left faults start now all room
+    pub follows : Follows Reads reader rest all
 
--- what was taken, all of it read but a rest
-pub record IsReading {S : Type 0} (left : S → Option (List ℕ)) (faults : S → ℕ) (start now : S) (reader : ScriptReader)
-    (rest : List ℕ) (room : ℕ) : Type 0 where
-  pub all : List ℕ
-  pub taken : IsTaken left faults start now all room
-  pub follows : Follows reader rest all
-  pub made : IsReader reader
+  pub reading_none : (start : S) (reader : R) (rest : List ℕ) → Reads reader [] → rest ≡ [] →
+      IsReading start start reader rest longest_input
+  reading_none start reader rest reads none = record {
+    all = [];
+    taken = taken_none left faults start;
+    follows = record { text = []; is = sym none; reads = reads };
+  }
 
--- where no more may follow, what is said whatever follows is said of the text
-pub told_at_end : (reader : ScriptReader) (rest all : List ℕ) (f : ScriptFault) (follows : Follows reader rest all) →
-    (f ≡ fault.Memory) ⊎ (script_of (follows.text ++ rest) ≡ Err f) → (f ≡ fault.Memory) ⊎ (script_of all ≡ Err f)
-told_at_end reader rest all f follows told = elim told [
-  | inl short ↦ inl short
-  | inr fails ↦ inr (ap script_of follows.is ∙ fails)
-]
+  -- the rest grows by a piece
+  pub reading_more : (start old new : S) (reader : R) (rest piece more : List ℕ) (room n later : ℕ) →
+      IsReading start old reader rest room → left old ≡ prepend_known piece (left new) → faults new ≡ faults old →
+      length piece ≡ n → later + n ≡ room → more ≡ rest ++ piece → IsReading start new reader more later
+  reading_more start old new reader rest piece more room n later was gives quiet long fits is = record {
+    all = was.all ++ piece;
+    taken = taken_more left faults start old new was.all piece room n later was.taken gives quiet long fits;
+    follows = record {
+      text = was.follows.text;
+      is = ap (λ (t : List ℕ). t ++ piece) was.follows.is ∙ append_assoc was.follows.text rest piece
+          ∙ ap (λ (t : List ℕ). was.follows.text ++ t) (sym is);
+      reads = was.follows.reads;
+    };
+  }
+
+  pub reading_room : (start now : S) (reader : R) (rest : List ℕ) (room : ℕ) → IsReading start now reader rest room →
+      HasRoom Reads reader rest
+  reading_room start now reader rest room is =
+      record { all = is.all; follows = is.follows; fits = omega (arith, is.taken.size) }

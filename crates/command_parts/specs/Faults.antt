@@ -1,5 +1,5 @@
 -- The notes on what is wrong with an input.
-use Rattle.std.specs.Prelude.{◌≡◌, ℕ, List, ◌++◌, codes, decimal}
+use Rattle.std.specs.Prelude.{ℕ, List, ◌++◌, codes, decimal}
 use Rattle.text_lines.specs.declared.fault.LineKind.{LineKind}
 use Rattle.text_lines.specs.declared.fault.LineKind.TheVariants.{Word, Number, Hex, Range, Order, Missing}
 use Rattle.text_lines.specs.Fields.{field_kind}
@@ -11,8 +11,7 @@ use Rattle.command_parts.specs.Helps.{line_help_text, slip_help_text, spread_hel
 use Rattle.command_parts.specs.declared.stop.Refusal.{Refusal}
 use Rattle.command_parts.specs.declared.stop.Refusal.TheVariants as why
 use Rattle.command_parts.specs.declared.stop.Stop.{Stop}
-use Rattle.command_parts.specs.declared.stop.Stop.TheVariants.{Read, TooLong, Refused, Write}
-use Rattle.command_parts.specs.declared.stop.Stop.TheVariants as stop
+use Rattle.command_parts.specs.Stops.{IsRefusedAs}
 
 abbrev pub kind_text : LineKind → List ℕ
 kind_text Word = codes "word"
@@ -66,8 +65,4 @@ why_of Memory = why.Limit
 
 -- the cause is this fault
 abbrev pub IsRefusedFor : ScriptFault → Stop → Type 0
-IsRefusedFor fault Read = ⊥
-IsRefusedFor fault TooLong = ⊥
-IsRefusedFor fault (Refused own) = (own.why ≡ why_of fault) × (own.note.items ≡ fault_text fault)
-IsRefusedFor fault Write = ⊥
-IsRefusedFor fault stop.Memory = ⊥
+IsRefusedFor fault = IsRefusedAs (why_of fault) (fault_text fault)

@@ -5,3 +5,4 @@ pub mod Helps
 pub mod Faults
 pub mod Scripts
 pub mod Status
+pub mod Pieces

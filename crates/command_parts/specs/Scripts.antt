@@ -4,15 +4,23 @@ use Rattle.std.specs.Io.KnownBytes.{prepend_known}
 use Rattle.session_model.specs.Limits.{longest_input}
 use Rattle.session_model.specs.declared.script.Script.{Script}
 use Rattle.script_read.specs.declared.fault.ScriptFault.{ScriptFault}
+use Rattle.script_read.specs.declared.pieces.ScriptReader.{ScriptReader}
+use Rattle.script_read.specs.Pieces.{IsReader, Stands}
 use Rattle.script_read.specs.Script.{script_of}
-use Rattle.command_parts.specs.Task.{Answer, refuses}
+use Rattle.command_parts.specs.declared.stop.Refusal.{Refusal}
+use Rattle.command_parts.specs.Task.{Answer}
 use Rattle.command_parts.specs.Ends.{Lent, HasRead}
 use Rattle.command_parts.specs.Faults.{fault_text, why_of}
+use Rattle.command_parts.specs.Pieces.{answer_told}
 
--- what is answered of a script, and of a text that is none; no text wants for memory
+-- a script, or why a text is none, and the note on that; no text wants for memory
+abbrev pub told_of : Result Script ScriptFault → Result Script (Refusal × List ℕ)
+told_of (Ok script) = Ok script
+told_of (Err fault) = Err (why_of fault, fault_text fault)
+
+-- what is answered of that
 abbrev pub answer_of : (Script → Answer) → Result Script ScriptFault → Answer
-answer_of writes (Ok script) = writes script
-answer_of writes (Err fault) = refuses (why_of fault) (fault_text fault)
+answer_of writes of = answer_told writes (told_of of)
 
 abbrev pub script_answer : (Script → Answer) → List ℕ → Answer
 script_answer writes text = answer_of writes (script_of text)
@@ -22,6 +30,11 @@ pub record HasScript {S : Type 0} (source : Lent S) (script : Script) : Type 0 w
   pub text : List ℕ
   pub read : HasRead source text
   pub says : script_of text ≡ Ok script
+
+-- a reader of a script was made by its calls, and has read this text, which ends where a line does
+pub record ReadsScript (reader : ScriptReader) (text : List ℕ) : Type 0 where
+  pub made : IsReader reader
+  pub stands : Stands reader text
 
 -- a source has given this text, without a fault, and may give so many octets more
 pub record IsTaken {S : Type 0} (left : S → Option (List ℕ)) (faults : S → ℕ) (old now : S) (text : List ℕ)

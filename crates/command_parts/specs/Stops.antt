@@ -1,5 +1,6 @@
 -- Why a command stopped, as private clauses say it.
-use Rattle.std.specs.Prelude.{ℕ, ◌<◌, List, length, IfSome, codes}
+use Rattle.std.specs.Prelude.{◌≡◌, ℕ, ◌<◌, List, length, IfSome, codes}
+use Rattle.command_parts.specs.declared.stop.Refusal.{Refusal}
 use Rattle.command_parts.specs.declared.stop.Stop.{Stop}
 use Rattle.command_parts.specs.declared.stop.Stop.TheVariants.{Read, TooLong, Refused, Write, Memory}
 use Rattle.command_parts.specs.Task.{Answer, refuses, reads, refused_status}
@@ -27,6 +28,22 @@ StopsReading source answer TooLong = IsLong source
 StopsReading source answer (Refused fault) = Meets source (reads answer) (refuses fault.why fault.note.items)
 StopsReading source answer Write = ⊥
 StopsReading source answer Memory = Quiet source
+
+-- a text that is answered so stops its reader for this cause; memory may be short in place of any
+abbrev pub StopsFor : Answer → Stop → Type 0
+StopsFor answer Read = ⊥
+StopsFor answer TooLong = ⊥
+StopsFor answer (Refused fault) = answer ≡ refuses fault.why fault.note.items
+StopsFor answer Write = ⊥
+StopsFor answer Memory = Unit {0}
+
+-- the cause is this one, with this note
+abbrev pub IsRefusedAs : Refusal → List ℕ → Stop → Type 0
+IsRefusedAs why note Read = ⊥
+IsRefusedAs why note TooLong = ⊥
+IsRefusedAs why note (Refused own) = (own.why ≡ why) × (own.note.items ≡ note)
+IsRefusedAs why note Write = ⊥
+IsRefusedAs why note Memory = ⊥
 
 -- some octets of a source, at most so many, weren't taken
 abbrev pub StopsTaking : {S : Type 0} → Lent S → ℕ → Stop → Type 0

@@ -7,13 +7,15 @@
 mod help;
 mod input;
 mod laws;
+mod pieces;
 mod report;
 mod script;
 mod stop;
 mod words;
 
-pub use input::{MOST, read_input, skip_rest, take_some};
+pub use input::{MOST, read_input};
 pub use laws::{end_law, input_law, made_law};
+pub use pieces::{PieceReader, read_pieces};
 pub use report::{take_back, write_rest};
 pub use script::{line_fault, read_whole_script, stop_of};
 pub use stop::{Fault, Refusal, Stop, tell, tell_usage};

@@ -1,5 +1,5 @@
 //! The script that an input says, and the notes on what is wrong with one, put together in a slice with room for one.
-ghost use Rattle.std.specs.Prelude.{◌≡◌, ◌≢◌, ◌⊎◌, ℕ, ◌+◌, ◌≤◌, List, ◌++◌, length, take, IfOk, IfErr, Err};
+ghost use Rattle.std.specs.Prelude.{◌≡◌, ◌≢◌, ℕ, ◌+◌, ◌≤◌, List, length, take, IfOk, IfErr};
 ghost use Rattle.session_model.specs.declared.script.Script.{Script};
 ghost use Rattle.session_model.specs.Valid.{IsValid};
 ghost use Rattle.script_read.specs.declared.fault.ScriptFault.{ScriptFault};
@@ -7,14 +7,11 @@ ghost use Rattle.command_parts.specs.Task.{Answer};
 ghost use Rattle.command_parts.specs.Ends.{lent};
 ghost use Rattle.command_parts.specs.Stops.{StopsReading};
 ghost use Rattle.command_parts.specs.Faults.{kind_text, kind_of, line_text, fault_text, IsRefusedFor};
-ghost use Rattle.command_parts.specs.Scripts.{HasScript, IsTaken, script_answer};
-ghost use Rattle.script_read.specs.Script.{script_of};
-ghost use Rattle.script_read.specs.Pieces.{Follows, HasRoom, IsReader};
+ghost use Rattle.command_parts.specs.Scripts.{HasScript, script_answer};
 
 use crate::help::{lag_help, line_help, slip_help, spread_help};
-use crate::input::{MOST, skip_rest, take_some};
+use crate::pieces::{PieceReader, read_pieces};
 use crate::stop::{Fault, Refusal, Stop};
-use memchr::memchr;
 use outside_io::ByteSource;
 use report_text::LineCursor;
 use script_read::{LineFault, ScriptFault, ScriptReader};
@@ -27,9 +24,6 @@ const NOTE_ROOM: usize = 256;
 
 /// Room for what is said of how to write a line.
 const HELP_ROOM: usize = 160;
-
-/// The octets of a script that are asked for at once.
-const PIECE: usize = 65_536;
 
 /// The word of a kind of fault.
 fn kind_word(kind: LineKind) -> &'static [u8]
@@ -206,37 +200,35 @@ pub fn stop_of(fault: ScriptFault) -> Stop
     }
 }
 
-/// Reads on once the end of a line has come.
-fn read_more(
-    reader: ScriptReader,
-    alloc: Global,
-    rest: Vec<u8>,
-    piece: &[u8],
-) -> Result<(ScriptReader, Vec<u8>), ScriptFault>
-    requires reader { IsReader reader }
-    requires room { HasRoom reader (length rest.items) }
-    ensures reader { IfOk result (λ read. IsReader read.0) }
-    ensures follows { (all : List ℕ) → Follows reader rest.items all →
-        IfOk result (λ read. Follows read.0 read.1.items all) }
-    ensures fault { (all : List ℕ) → Follows reader rest.items all → IfErr result (λ fault.
-        (fault ≡ ScriptFault.Memory) ⊎ ((more : List ℕ) → script_of (all ++ more) ≡ Err fault)) }
-{
-    match memchr(b'\n', piece) {
-        Some(_) => reader.read_on(alloc, rest),
-        None => Ok((reader, rest)),
-    }
-}
+impl PieceReader for ScriptReader {
+    ghost use Rattle.script_read.specs.Script.{script_of};
+    ghost use Rattle.session_model.specs.Valid.{IsValid};
+    ghost use Rattle.command_parts.specs.Scripts.{told_of, ReadsScript};
 
-/// Reads the rest of an input whose lines so far have a fault, since what is wrong with the input comes first.
-fn stop_after<S: ByteSource>(alloc: Global, source: &mut S, room: usize, fault: ScriptFault) -> Stop
-    ensures stopped { (start : S) (before : List ℕ) (writes : Script → Answer) →
-        IsTaken S.left S.faults start source.old before room →
-        (fault ≡ ScriptFault.Memory) ⊎ ((more : List ℕ) → script_of (before ++ more) ≡ Err fault) →
-        StopsReading (lent S.left S.faults start source.new) (script_answer writes) result }
-{
-    match skip_rest(alloc, source, room) {
-        Ok(()) => stop_of(fault),
-        Err(stop) => stop,
+    type Said = Script;
+
+    ghost says = { λ text. told_of (script_of text) };
+
+    ghost Fits = { IsValid };
+
+    ghost Reads = { ReadsScript };
+
+    fn at_start(alloc: Global) -> ScriptReader {
+        ScriptReader::new(alloc)
+    }
+
+    fn read_lines(self, alloc: Global, rest: Vec<u8>) -> Result<(ScriptReader, Vec<u8>), Stop> {
+        match self.read_on(alloc, rest) {
+            Ok(read) => Ok(read),
+            Err(fault) => Err(stop_of(fault)),
+        }
+    }
+
+    fn read_end(self, alloc: Global, rest: &[u8]) -> Result<Script, Stop> {
+        match self.finish(alloc, rest) {
+            Ok(script) => Ok(script),
+            Err(fault) => Err(stop_of(fault)),
+        }
     }
 }
 
@@ -247,28 +239,5 @@ pub fn read_whole_script<S: ByteSource>(alloc: Global, source: &mut S) -> Result
     ensures stopped { (writes : Script → Answer) → IfErr result
         (StopsReading (lent S.left S.faults source.old source.new) (script_answer writes)) }
 {
-    let mut reader = ScriptReader::new(alloc);
-    let mut rest = Vec::new(alloc);
-    let mut room = MOST;
-    let mut buf = [0u8; PIECE];
-    loop {
-        let n = match take_some(source, &mut buf, &mut rest, room) {
-            Ok(n) => n,
-            Err(stop) => return Err(stop),
-        };
-        if n == 0 {
-            return match reader.finish(alloc, rest.as_slice()) {
-                Ok(script) => Ok(script),
-                Err(fault) => Err(stop_of(fault)),
-            };
-        }
-        room -= n;
-        match read_more(reader, alloc, rest, &buf[..n]) {
-            Ok((next, left)) => {
-                reader = next;
-                rest = left;
-            }
-            Err(fault) => return Err(stop_after(alloc, source, room, fault)),
-        }
-    }
+    read_pieces::<ScriptReader, S>(alloc, source)
 }

@@ -8,7 +8,6 @@ ghost use Rattle.pair_link.specs.Inputs.{IsPairRefused};
 use crate::pair::PairFault;
 use command_parts::{Fault, Refusal, Stop, line_fault, stop_of};
 use report_text::LineCursor;
-use script_read::ScriptFault;
 use text_lines::LineKind;
 
 /// Room for a note.
@@ -56,15 +55,6 @@ fn limit_refusal(note: &[u8]) -> Fault
     Fault::new(Refusal::Limit, note)
 }
 
-/// Why a script with a fault stops a command.
-fn script_stop(fault: ScriptFault) -> Stop
-    ensures refused { fault ≢ ScriptFault.Memory →
-        IsPairRefused (PairFault.Script fault) result }
-    ensures short { fault ≡ ScriptFault.Memory → result ≡ Stop.Memory }
-{
-    stop_of(fault)
-}
-
 /// Why a text that doesn't say two scripts stops a command.
 pub(crate) fn stop_of_pair(fault: PairFault) -> Stop
     ensures refused { fault ≢ no_memory → IsPairRefused fault result }
@@ -72,7 +62,7 @@ pub(crate) fn stop_of_pair(fault: PairFault) -> Stop
 {
     let mut note = [0u8; NOTE_ROOM];
     match fault {
-        PairFault::Script(fault) => script_stop(fault),
+        PairFault::Script(fault) => stop_of(fault),
         PairFault::Undivided { number } => Stop::Refused(line_fault(
             u64::from(number),
             LineKind::Missing,

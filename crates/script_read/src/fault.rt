@@ -15,7 +15,7 @@ pub enum LineFault {
     /// The first word is none that begins a line.
     #[error("word")]
     First,
-    /// So many words follow a keyword that takes another number of them.
+    /// Behind `keyword`, which takes `takes` words, there are `follow` of them.
     #[error("word")]
     Count {
         keyword: Keyword,
@@ -28,13 +28,13 @@ pub enum LineFault {
     /// This line of the configuration has to stand here.
     #[error("missing")]
     Missing(Keyword),
-    /// The line is of a part that stands before one which has begun.
+    /// The line is of the part `this`, which stands before `begun`, which has begun.
     #[error("order")]
     Part {
         this: Part,
         begun: Part,
     },
-    /// A line of the group has 256 failures already.
+    /// Line `line` of the group has 256 failures already.
     #[error("range")]
     FullLine {
         line: u8,
@@ -42,22 +42,22 @@ pub enum LineFault {
     /// The return path has 256 losses already.
     #[error("range")]
     FullPath,
-    /// A failure begins before the one before it of its line has ended.
+    /// A failure begins before the one before it of its line has ended, in tick `end`.
     #[error("order")]
     FailureBefore {
         end: u32,
     },
-    /// A loss begins before the one before it has ended.
+    /// A loss begins before the one before it has ended, in tick `end`.
     #[error("order")]
     LossBefore {
         end: u32,
     },
-    /// A frame is due before the frame before it.
+    /// A frame is due before the frame before it, which is due in tick `due`.
     #[error("order")]
     FrameBefore {
         due: u32,
     },
-    /// A command is due before the command before it.
+    /// A command is due before the command before it, which is due in tick `due`.
     #[error("order")]
     CommandBefore {
         due: u32,
@@ -133,7 +133,7 @@ pub enum ScriptFault {
         number: u32,
         fault: LineFault,
     },
-    /// A window of a line lets `slip` containers vanish, which is as many as it damages, or more.
+    /// Window `window` of line `line` lets `slip` containers vanish, which is as many as it damages, or more.
     #[error("fault: slip line {line} window {window}")]
     Slip {
         line: u8,
