@@ -8,7 +8,7 @@ use Rattle.script_read.specs.declared.fault.ScriptFault.TheVariants as fault
 use Rattle.command_parts.specs.declared.stop.Stop.{Stop}
 use Rattle.command_parts.specs.declared.stop.Stop.TheVariants.{Read, TooLong, Refused, Write, Memory}
 use Rattle.command_parts.specs.Task.{Answer, Task, refuses, exceeds, none, reads, makes, IsCommand}
-use Rattle.command_parts.specs.Ends.{Lent, Kept, Quiet, IsTold, HasRead, Meets, WritesAll, WritesPart, until, since}
+use Rattle.command_parts.specs.Ends.{Lent, Kept, IsTold, HasRead, Meets, WritesAll, WritesPart, until, since}
 use Rattle.command_parts.specs.Ends.{Ends, no_source, done, no_command, cut, refused, unread, short, too_long, beyond}
 use Rattle.command_parts.specs.Faults.{why_of, fault_text, IsRefusedFor}
 use Rattle.command_parts.specs.declared.stop.Fault.{Fault}

@@ -1,5 +1,5 @@
 //! An input that is read line by line, as it comes.
-ghost use Rattle.std.specs.Prelude.{◌≡◌, ℕ, List, ◌++◌, length, IfOk, IfErr, Ok};
+ghost use Rattle.std.specs.Prelude.{◌≡◌, ℕ, List, ◌++◌, IfOk, IfErr, Ok};
 ghost use Rattle.command_parts.specs.Task.{Answer};
 ghost use Rattle.command_parts.specs.Ends.{lent, HasRead};
 ghost use Rattle.command_parts.specs.Stops.{StopsReading, StopsFor};

@@ -1,5 +1,5 @@
 //! The script that an input says, and the notes on what is wrong with one, put together in a slice with room for one.
-ghost use Rattle.std.specs.Prelude.{◌≡◌, ◌≢◌, ℕ, ◌+◌, ◌≤◌, List, length, take, IfOk, IfErr};
+ghost use Rattle.std.specs.Prelude.{◌≡◌, ◌≢◌, ◌≤◌, length, take, IfOk, IfErr};
 ghost use Rattle.session_model.specs.declared.script.Script.{Script};
 ghost use Rattle.session_model.specs.Valid.{IsValid};
 ghost use Rattle.script_read.specs.declared.fault.ScriptFault.{ScriptFault};
