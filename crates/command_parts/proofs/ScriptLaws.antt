@@ -1,7 +1,7 @@
 -- A reader of a script as any reader of a text in pieces.
 use Rattle.std.proofs.Common.{ℕ, List, length, length-append, ap, arith}
-use Rattle.script_read.specs.declared.pieces.ScriptReader.{ScriptReader}
-use Rattle.script_read.specs.Pieces as script
+use Rattle.text_scripts.specs.declared.script_read.pieces.ScriptReader.{ScriptReader}
+use Rattle.text_scripts.specs.script_read.Pieces as script
 use Rattle.command_parts.specs.Pieces.{Follows, HasRoom}
 use Rattle.command_parts.specs.Scripts.{ReadsScript}
 

@@ -1,10 +1,10 @@
 -- Each exit of a command is one of the ends.
 use Rattle.std.proofs.Common.{◌≡◌, ◌≢◌, ◌⊎◌, ℕ, List, Result, Ok, Err, refl, sym, ◌∙◌, ap, ap₂, subst, inl, inr}
 use Rattle.std.proofs.Common.{arith}
-use Rattle.session_model.specs.declared.script.Script.{Script}
-use Rattle.script_read.specs.declared.fault.ScriptFault.{ScriptFault}
-use Rattle.script_read.specs.declared.fault.ScriptFault.TheVariants.{Line, Slip, Spread, Lag}
-use Rattle.script_read.specs.declared.fault.ScriptFault.TheVariants as fault
+use Rattle.law_model.specs.declared.script.Script.{Script}
+use Rattle.text_scripts.specs.declared.script_read.fault.ScriptFault.{ScriptFault}
+use Rattle.text_scripts.specs.declared.script_read.fault.ScriptFault.TheVariants.{Line, Slip, Spread, Lag}
+use Rattle.text_scripts.specs.declared.script_read.fault.ScriptFault.TheVariants as fault
 use Rattle.command_parts.specs.declared.stop.Stop.{Stop}
 use Rattle.command_parts.specs.declared.stop.Stop.TheVariants.{Read, TooLong, Refused, Write, Memory}
 use Rattle.command_parts.specs.Task.{Answer, Task, refuses, exceeds, none, reads, makes, IsCommand}

@@ -3,8 +3,8 @@ use Rattle.std.proofs.Common.{◌≡◌, ℕ, ◌+◌, ◌<◌, List, [], ◌++�
 use Rattle.std.proofs.Common.{Option, None, Some, Result, refl, sym, ap, ◌∙◌}
 use Rattle.std.specs.Prelude.{IfSome}
 use Rattle.std.specs.Io.KnownBytes.{prepend_known, IsAtEnd}
-use Rattle.outside_io.specs.Faults.{one_more}
-use Rattle.session_model.specs.Limits.{longest_input}
+use Rattle.base_io.specs.Faults.{one_more}
+use Rattle.law_model.specs.Limits.{longest_input}
 use Rattle.command_parts.specs.declared.stop.Refusal.{Refusal}
 use Rattle.command_parts.specs.declared.stop.Stop.{Stop}
 use Rattle.command_parts.specs.declared.stop.Stop.TheVariants.{Read, TooLong, Refused, Write, Memory}

@@ -1,6 +1,6 @@
 -- A text that comes in pieces, and what it says.
 use Rattle.std.specs.Prelude.{◌≡◌, ℕ, ◌≤◌, List, ◌++◌, length, Ok, Err, Result}
-use Rattle.session_model.specs.Limits.{longest_input}
+use Rattle.law_model.specs.Limits.{longest_input}
 use Rattle.command_parts.specs.declared.stop.Refusal.{Refusal}
 use Rattle.command_parts.specs.declared.stop.Stop.{Stop}
 use Rattle.command_parts.specs.declared.stop.Stop.TheVariants.{Read, TooLong, Refused, Write, Memory}

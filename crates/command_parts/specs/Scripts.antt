@@ -1,12 +1,12 @@
 -- Commands that run the script which their input says.
 use Rattle.std.specs.Prelude.{◌≡◌, ℕ, ◌+◌, List, length, Option, Ok, Err, Result}
 use Rattle.std.specs.Io.KnownBytes.{prepend_known}
-use Rattle.session_model.specs.Limits.{longest_input}
-use Rattle.session_model.specs.declared.script.Script.{Script}
-use Rattle.script_read.specs.declared.fault.ScriptFault.{ScriptFault}
-use Rattle.script_read.specs.declared.pieces.ScriptReader.{ScriptReader}
-use Rattle.script_read.specs.Pieces.{IsReader, Stands}
-use Rattle.script_read.specs.Script.{script_of}
+use Rattle.law_model.specs.Limits.{longest_input}
+use Rattle.law_model.specs.declared.script.Script.{Script}
+use Rattle.text_scripts.specs.declared.script_read.fault.ScriptFault.{ScriptFault}
+use Rattle.text_scripts.specs.declared.script_read.pieces.ScriptReader.{ScriptReader}
+use Rattle.text_scripts.specs.script_read.Pieces.{IsReader, Stands}
+use Rattle.text_scripts.specs.script_read.Script.{script_of}
 use Rattle.command_parts.specs.declared.stop.Refusal.{Refusal}
 use Rattle.command_parts.specs.Task.{Answer}
 use Rattle.command_parts.specs.Ends.{Lent, HasRead}

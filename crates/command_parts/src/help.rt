@@ -2,11 +2,11 @@
 ghost use Rattle.std.specs.Prelude.{◌≡◌, ◌≤◌, length, take};
 ghost use Rattle.command_parts.specs.Helps.{keyword_text, part_text, line_help_text, slip_help_text, spread_help_text};
 ghost use Rattle.command_parts.specs.Helps.{lag_help_text};
-ghost use Rattle.script_read.specs.declared.fault.LineFault.{LineFault};
+ghost use Rattle.text_scripts.specs.declared.script_read.fault.LineFault.{LineFault};
 
-use help_text::{count_help, field_help, missing_help, number_help, order_help};
-use report_text::LineCursor;
-use script_read::{Keyword, LineFault, Part};
+use text_help::{count_help, field_help, missing_help, number_help, order_help};
+use text_report::LineCursor;
+use text_scripts::script_read::{Keyword, LineFault, Part};
 
 /// The words that a line may begin with.
 const FIRST_WORDS: &[u8] =

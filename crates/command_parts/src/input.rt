@@ -1,14 +1,14 @@
 //! Inputs are read whole before anything is written.
 ghost use Rattle.std.specs.Prelude.{◌≡◌, ◌<◌, ◌≤◌, ℕ, List, ◌++◌, length, vec_len, IfOk, IfErr};
 ghost use Rattle.std.specs.Io.KnownBytes.{prepend_known, IsAtEnd};
-ghost use Rattle.outside_io.specs.Transfer.{GivesAll};
+ghost use Rattle.base_io.specs.Transfer.{GivesAll};
 ghost use Rattle.command_parts.specs.Task.{Answer};
 ghost use Rattle.command_parts.specs.Ends.{lent, HasRead};
 ghost use Rattle.command_parts.specs.Stops.{StopsReading, StopsTaking};
-ghost use Rattle.session_model.specs.Limits.{longest_input};
+ghost use Rattle.law_model.specs.Limits.{longest_input};
 
 use crate::stop::Stop;
-use outside_io::{ByteSource, Failed, ReadEnd, read_all};
+use base_io::{ByteSource, Failed, ReadEnd, read_all};
 use std::alloc::Global;
 
 /// The most octets that an input may have.

@@ -8,8 +8,8 @@ ghost use Rattle.command_parts.specs.Pieces.{answer_told, StopsAt, Follows, HasR
 
 use crate::input::{MOST, skip_rest, take_some};
 use crate::stop::Stop;
+use base_io::ByteSource;
 use memchr::memchr;
-use outside_io::ByteSource;
 use std::alloc::Global;
 
 /// The octets of an input that are asked for at once.

@@ -1,8 +1,8 @@
 //! The script that an input says, and the notes on what is wrong with one, put together in a slice with room for one.
 ghost use Rattle.std.specs.Prelude.{◌≡◌, ◌≢◌, ◌≤◌, length, take, IfOk, IfErr};
-ghost use Rattle.session_model.specs.declared.script.Script.{Script};
-ghost use Rattle.session_model.specs.Valid.{IsValid};
-ghost use Rattle.script_read.specs.declared.fault.ScriptFault.{ScriptFault};
+ghost use Rattle.law_model.specs.declared.script.Script.{Script};
+ghost use Rattle.law_model.specs.session.Valid.{IsValid};
+ghost use Rattle.text_scripts.specs.declared.script_read.fault.ScriptFault.{ScriptFault};
 ghost use Rattle.command_parts.specs.Task.{Answer};
 ghost use Rattle.command_parts.specs.Ends.{lent};
 ghost use Rattle.command_parts.specs.Stops.{StopsReading};
@@ -12,12 +12,12 @@ ghost use Rattle.command_parts.specs.Scripts.{HasScript, script_answer};
 use crate::help::{lag_help, line_help, slip_help, spread_help};
 use crate::pieces::{PieceReader, read_pieces};
 use crate::stop::{Fault, Refusal, Stop};
-use outside_io::ByteSource;
-use report_text::LineCursor;
-use script_read::{LineFault, ScriptFault, ScriptReader};
-use session_model::Script;
+use base_io::ByteSource;
+use law_model::Script;
 use std::alloc::Global;
 use text_lines::LineKind;
+use text_report::LineCursor;
+use text_scripts::script_read::{LineFault, ScriptFault, ScriptReader};
 
 /// Room for a note.
 const NOTE_ROOM: usize = 256;
@@ -201,8 +201,8 @@ pub fn stop_of(fault: ScriptFault) -> Stop
 }
 
 impl PieceReader for ScriptReader {
-    ghost use Rattle.script_read.specs.Script.{script_of};
-    ghost use Rattle.session_model.specs.Valid.{IsValid};
+    ghost use Rattle.text_scripts.specs.script_read.Script.{script_of};
+    ghost use Rattle.law_model.specs.session.Valid.{IsValid};
     ghost use Rattle.command_parts.specs.Scripts.{told_of, ReadsScript};
 
     type Said = Script;

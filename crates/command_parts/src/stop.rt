@@ -1,11 +1,11 @@
 //! Why a command stopped, its exit status, and the note on it.
 ghost use Rattle.std.specs.Prelude.{◌≡◌, ◌≤◌, length};
-ghost use Rattle.outside_io.specs.Transfer.{Tells};
+ghost use Rattle.base_io.specs.Transfer.{Tells};
 ghost use Rattle.command_parts.specs.Task.{refused_status};
 ghost use Rattle.command_parts.specs.Stops.{status_at, note_of};
 
 use arrayvec::ArrayVec;
-use outside_io::{ByteSink, put_all};
+use base_io::{ByteSink, put_all};
 
 /// What about an input isn't as a command takes it.
 #[derive(Clone, Copy, Debug, PartialEq, Eq)]

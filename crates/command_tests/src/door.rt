@@ -1,9 +1,9 @@
 //! A gate that can hold the workers of a session up until all of them are under way, and the sink until the
 //! others have moved.
 
-use member_ring::{Gate, Who};
 use std::sync::atomic::{AtomicBool, AtomicU8, Ordering};
 use std::thread;
+use thread_rings::{Gate, Who};
 
 /// Where each one may have to wait at its first pass until all have come, and the sink then until all others
 /// have moved, each time for at most 1,000,000 turns. The sink is the calling thread's: while that waits,

@@ -6,12 +6,12 @@
 //! an answer for any rest. Nothing here stops at want of memory: a text that is cut by it is another than the wanted one.
 
 use crate::door::Door;
-use outside_io::{MemSink, MemSource};
-use run_command::run_top;
+use base_io::{MemSink, MemSource};
+use command_run::run_top;
+use command_walk::walk_top;
 use std::alloc::{AllocError, Global};
 use std::sync::Wait;
 use std::thread::Threads;
-use walk_command::walk_top;
 
 /// The program that is called.
 #[derive(Clone, Copy)]

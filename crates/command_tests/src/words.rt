@@ -1,10 +1,10 @@
 //! Words, one by one, and the commands that they are.
 
 use crate::rows::words_of;
-use cmd_words::read_words;
-use run_command::RunCommand;
+use command_run::RunCommand;
+use command_walk::WalkCommand;
 use std::alloc::Global;
-use walk_command::WalkCommand;
+use text_words::read_words;
 
 // Words with one space between them, and the command of the program of walks that they are.
 const WALKS: &str = "\

@@ -4,12 +4,12 @@ use Rattle.std.proofs.Common.{inl, inr, Option, Some, sym, ◌∙◌, ap, subst,
 use Rattle.std.proofs.lemmas.List.{append-nil, drop-append-le, drop-drop}
 use Rattle.gfp_scramble.specs.Descrambler.{Descrambling, IsKnown, unknown, Continues, DescramblesTo}
 use Rattle.gfp_scramble.specs.Descrambler as descrambler
-use Rattle.session_model.specs.Core.{head}
-use Rattle.session_model.specs.Scramble.{descrambled_octets}
-use Rattle.session_model.specs.Piece.{joined}
-use Rattle.session_model.specs.Run.{Run}
-use Rattle.session_model.proofs.ScrambledOctets.{length-descrambled_octets}
-use Rattle.session_model.proofs.AreaLaws.{length-descrambled_single}
+use Rattle.law_model.specs.frames.Core.{head}
+use Rattle.law_model.specs.frames.Scramble.{descrambled_octets}
+use Rattle.law_model.specs.frames.Piece.{joined}
+use Rattle.law_model.specs.frames.Run.{Run}
+use Rattle.law_model.proofs.ScrambledOctets.{length-descrambled_octets}
+use Rattle.law_model.proofs.AreaLaws.{length-descrambled_single}
 use Rattle.gfp_delineate.specs.declared.areas.AreaWhy.{AreaWhy}
 use Rattle.gfp_delineate.specs.declared.areas.Phase.{Phase}
 use Rattle.gfp_delineate.specs.declared.areas.Phase.TheVariants.{SyncHeader, SyncArea, SyncPassing}

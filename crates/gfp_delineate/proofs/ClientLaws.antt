@@ -2,10 +2,10 @@
 use Rattle.std.proofs.Common.{◌≡◌, ℕ, ◌+◌, ◌≤◌, Bool, true, false, List, ◌++◌, length, map, take, drop, Some}
 use Rattle.std.proofs.Common.{refl, sym, ◌∙◌, ap, subst, arith}
 use Rattle.std.specs.Prelude.{nat_lt, if◌then◌else◌, ◌↔◌, IsTrue, IfSome}
-use Rattle.session_model.specs.Core.{head}
-use Rattle.session_model.specs.TypeHeader.{type_fault}
-use Rattle.session_model.specs.declared.Why.TheVariants.{TooLong}
-use Rattle.session_model.specs.Outcome.{Outcome, dropping, outcome_by, client_outcome, outcomes}
+use Rattle.law_model.specs.frames.Core.{head}
+use Rattle.law_model.specs.frames.TypeHeader.{type_fault}
+use Rattle.law_model.specs.declared.Why.TheVariants.{TooLong}
+use Rattle.law_model.specs.frames.Outcome.{Outcome, dropping, outcome_by, client_outcome, outcomes}
 use Rattle.gfp_delineate.specs.declared.areas.AreaWhy.TheVariants.{TooLong as IsLong}
 use Rattle.gfp_delineate.specs.declared.areas.AreaStep.{AreaStep}
 use Rattle.gfp_delineate.specs.declared.areas.AreaStep.TheVariants.{Area}

@@ -9,21 +9,21 @@ use Rattle.std.proofs.lemmas.List.Elements.{All-nil, All-cons, All-head, All-tai
 use Rattle.std.proofs.lemmas.List.Elements.{All-weaker, filter-append}
 use Rattle.std.proofs.lemmas.List.Concat.{flat_map-append}
 use Rattle.std.proofs.lemmas.Bool.{le-leb, lt-leb, le-ltb, cases_lt}
-use Rattle.remainder.specs.Bits.{bits, number_behind}
-use Rattle.remainder.specs.Remainder.{add_front, divide}
-use Rattle.hec16.specs.Hec.{hec_of}
-use Rattle.session_model.specs.Core.{core_header, IsPli}
-use Rattle.session_model.specs.TypeHeader.{type_header, type_fault}
-use Rattle.session_model.specs.Piece.{Piece, idle, client, area_of, cut, with_header, scrambled_areas, stream_of}
-use Rattle.session_model.specs.Piece.{size_of, frame_ends, frames_by, opening}
-use Rattle.session_model.specs.Core.{head}
-use Rattle.session_model.specs.Hunt.{header_at}
-use Rattle.session_model.specs.Run.{Followed, run_then, runs, delineate}
-use Rattle.session_model.specs.Outcome.{outcome_of, outcomes_after, outcomes_after_with, run_outcomes}
-use Rattle.session_model.specs.Outcome.{descrambled_areas}
-use Rattle.session_model.specs.Delivery.{frame_in, delivered}
-use Rattle.session_model.proofs.CoreLaws.{length-core_header}
-use Rattle.session_model.proofs.AreaLaws.{map-length-scrambled_areas}
+use Rattle.base_remainder.specs.Bits.{bits, number_behind}
+use Rattle.base_remainder.specs.Remainder.{add_front, divide}
+use Rattle.base_hec16.specs.Hec.{hec_of}
+use Rattle.law_model.specs.frames.Core.{core_header, IsPli}
+use Rattle.law_model.specs.frames.TypeHeader.{type_header, type_fault}
+use Rattle.law_model.specs.frames.Piece.{Piece, idle, client, area_of, cut, with_header, scrambled_areas, stream_of}
+use Rattle.law_model.specs.frames.Piece.{size_of, frame_ends, frames_by, opening}
+use Rattle.law_model.specs.frames.Core.{head}
+use Rattle.law_model.specs.frames.Hunt.{header_at}
+use Rattle.law_model.specs.frames.Run.{Followed, run_then, runs, delineate}
+use Rattle.law_model.specs.frames.Outcome.{outcome_of, outcomes_after, outcomes_after_with, run_outcomes}
+use Rattle.law_model.specs.frames.Outcome.{descrambled_areas}
+use Rattle.law_model.specs.frames.Delivery.{frame_in, delivered}
+use Rattle.law_model.proofs.CoreLaws.{length-core_header}
+use Rattle.law_model.proofs.AreaLaws.{map-length-scrambled_areas}
 use Rattle.gfp_delineate.specs.Receiver.{IsClientFrame}
 use Rattle.gfp_delineate.proofs.HuntLaws.{search-few, search-short, search-confirmed}
 use Rattle.gfp_delineate.proofs.RunLaws.{delineate_from, delineate-open}

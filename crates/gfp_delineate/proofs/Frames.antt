@@ -5,8 +5,8 @@ use Rattle.std.specs.Prelude.{◌↔◌, IfSome, IsTrue}
 use Rattle.std.specs.List.{flat_map}
 use Rattle.std.specs.Option.{option_to_list}
 use Rattle.std.proofs.lemmas.Bool.{le-leb, lt-leb, cases_lt}
-use Rattle.session_model.specs.Outcome.{delivery}
-use Rattle.session_model.specs.Delivery.{frame_in}
+use Rattle.law_model.specs.frames.Outcome.{delivery}
+use Rattle.law_model.specs.frames.Delivery.{frame_in}
 use Rattle.gfp_delineate.specs.declared.Step.{Step}
 use Rattle.gfp_delineate.specs.declared.Step.TheVariants.{Nothing, Frame, Dropped}
 use Rattle.gfp_delineate.specs.Areas.{Progress}

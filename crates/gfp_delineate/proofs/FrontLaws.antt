@@ -6,17 +6,17 @@ use Rattle.std.specs.List.{flat_map}
 use Rattle.std.proofs.lemmas.List.{take_at, drop_at, append-nil}
 use Rattle.std.proofs.lemmas.List.Elements.{All-nil, All-cons, All-head, All-tail}
 use Rattle.std.proofs.lemmas.Bool.{le-leb, lt-leb, cases_lt}
-use Rattle.session_model.specs.Scramble.{scrambled_octets}
-use Rattle.session_model.specs.Core.{core_header, IsPli}
-use Rattle.session_model.specs.Piece.{cut, with_header, scrambled_areas}
-use Rattle.session_model.specs.Core.{head}
-use Rattle.session_model.specs.Hunt.{header_at}
-use Rattle.session_model.specs.Run.{area_then, no_area, follow_with}
-use Rattle.session_model.specs.Outcome.{descrambled_areas}
-use Rattle.session_model.proofs.CoreLaws.{length-core_header, head-core_header}
-use Rattle.session_model.proofs.AreaLaws.{scrambled_behind, scrambled_behind-append, scrambled_behind-single}
-use Rattle.session_model.proofs.AreaLaws.{length-scrambled_single, descrambled_areas-scrambled_areas}
-use Rattle.session_model.proofs.StreamLaws.{length-with_header}
+use Rattle.law_model.specs.frames.Scramble.{scrambled_octets}
+use Rattle.law_model.specs.frames.Core.{core_header, IsPli}
+use Rattle.law_model.specs.frames.Piece.{cut, with_header, scrambled_areas}
+use Rattle.law_model.specs.frames.Core.{head}
+use Rattle.law_model.specs.frames.Hunt.{header_at}
+use Rattle.law_model.specs.frames.Run.{area_then, no_area, follow_with}
+use Rattle.law_model.specs.frames.Outcome.{descrambled_areas}
+use Rattle.law_model.proofs.CoreLaws.{length-core_header, head-core_header}
+use Rattle.law_model.proofs.AreaLaws.{scrambled_behind, scrambled_behind-append, scrambled_behind-single}
+use Rattle.law_model.proofs.AreaLaws.{length-scrambled_single, descrambled_areas-scrambled_areas}
+use Rattle.law_model.proofs.StreamLaws.{length-with_header}
 use Rattle.gfp_delineate.proofs.HuntLaws.{header-window}
 use Rattle.gfp_delineate.proofs.RunLaws.{follow-few, follow-part, follow-whole}
 

@@ -7,10 +7,10 @@ use Rattle.std.proofs.lemmas.List.{append-nil}
 use Rattle.gfp_scramble.specs.Descrambler.{Descrambling}
 use Rattle.gfp_scramble.specs.Descrambler as descrambler
 use Rattle.gfp_delineate.specs.declared.areas.AreaWhy.TheVariants.{Unsettled, TooLong}
-use Rattle.session_model.specs.Core.{head}
-use Rattle.session_model.specs.Piece.{joined}
-use Rattle.session_model.specs.Run.{Run}
-use Rattle.session_model.proofs.CoreLaws.{head-core_header}
+use Rattle.law_model.specs.frames.Core.{head}
+use Rattle.law_model.specs.frames.Piece.{joined}
+use Rattle.law_model.specs.frames.Run.{Run}
+use Rattle.law_model.proofs.CoreLaws.{head-core_header}
 use Rattle.gfp_delineate.specs.declared.areas.Phase.TheVariants.{Hunt, PresyncHeader, SyncHeader, SyncArea, SyncPassing}
 use Rattle.gfp_delineate.specs.LeftOpen.{searching, running, Leaves}
 use Rattle.gfp_delineate.specs.Areas.{end_of, reader, ends, Progress, InPresyncHeader, InSyncHeader}
@@ -21,7 +21,7 @@ use Rattle.gfp_delineate.proofs.OutcomeLaws.{run_outcomes-none, outcomes_of-push
 use Rattle.gfp_delineate.proofs.Known.{ends_of, ends_with, ends-presync, ends-header, length-shifted}
 use Rattle.gfp_delineate.proofs.Known.{window-few, window-none}
 use Rattle.gfp_delineate.proofs.Taking.{Takes, Taken, Takes-in, Takes-none, Takes-then}
-use Rattle.session_model.proofs.IdleLaws.{idle_header, idles, core_header-idle, idles-suc}
+use Rattle.law_model.proofs.IdleLaws.{idle_header, idles, core_header-idle, idles-suc}
 use Rattle.gfp_delineate.proofs.SearchSteps.{in_phase, shifted, to-hunt}
 use Rattle.gfp_delineate.proofs.RunSteps.{followed, Knows, followed-idle, followed-unknown, followed-long}
 use Rattle.gfp_delineate.proofs.RunSteps.{followed-kept, Takes-follow-part}

@@ -6,7 +6,7 @@ use Rattle.std.proofs.Common.{Option, Some, None, refl, sym, ◌∙◌, ap, inl,
 use Rattle.std.proofs.Common.{zero-add}
 use Rattle.std.proofs.lemmas.List.{take_at}
 use Rattle.std.proofs.lemmas.Bool.{le-leb, lt-leb, cases_lt}
-use Rattle.session_model.specs.Hunt.{Confirmed, header_with, confirm_by, confirm_with, hunt_by, hunt_within, hunt_with}
+use Rattle.law_model.specs.frames.Hunt.{Confirmed, header_with, confirm_by, confirm_with, hunt_by, hunt_within, hunt_with}
 
 -- a view of what is confirmed, but for its place
 abbrev pub viewed : {X : Type 0} → (Bool → List ℕ → X) → Option Confirmed → Option X

@@ -2,9 +2,9 @@
 use Rattle.std.proofs.Common.{◌≡◌, ℕ, zero, suc, ◌-◌, ◌<◌, List, [], ◌++◌, take, drop, inl, refl, sym, ◌∙◌, ap, subst}
 use Rattle.std.proofs.Common.{arith}
 use Rattle.std.proofs.lemmas.List.{append-nil, take-append-drop}
-use Rattle.session_model.specs.Core.{head}
-use Rattle.session_model.proofs.CoreLaws.{head-core_header}
-use Rattle.session_model.proofs.IdleLaws.{idle_header, core_header-idle}
+use Rattle.law_model.specs.frames.Core.{head}
+use Rattle.law_model.proofs.CoreLaws.{head-core_header}
+use Rattle.law_model.proofs.IdleLaws.{idle_header, core_header-idle}
 use Rattle.gfp_delineate.specs.declared.areas.Phase.TheVariants.{SyncHeader}
 use Rattle.gfp_delineate.specs.LeftOpen.{running, Leaves}
 use Rattle.gfp_delineate.specs.Areas.{reader, ends, Progress}

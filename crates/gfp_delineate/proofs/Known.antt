@@ -4,8 +4,8 @@ use Rattle.std.proofs.Common.{◌∙◌, ap, subst, arith, length-append, length
 use Rattle.std.specs.List.{flat_map}
 use Rattle.std.proofs.lemmas.List.{append-nil, drop-append-le, drop-drop, drop_all}
 use Rattle.gfp_scramble.specs.Descrambler as descrambler
-use Rattle.session_model.specs.Core.{head}
-use Rattle.session_model.specs.Run.{Run}
+use Rattle.law_model.specs.frames.Core.{head}
+use Rattle.law_model.specs.frames.Run.{Run}
 use Rattle.gfp_delineate.specs.declared.areas.Phase.{Phase}
 use Rattle.gfp_delineate.specs.declared.areas.Phase.TheVariants.{Hunt, PresyncArea, PresyncHeader, SyncHeader, SyncArea}
 use Rattle.gfp_delineate.specs.declared.areas.Phase.TheVariants.{SyncPassing}

@@ -4,13 +4,13 @@ use Rattle.std.proofs.Common.{ap₂, arith, append_assoc, Option}
 use Rattle.std.specs.List.{flat_map}
 use Rattle.std.proofs.lemmas.List.{append-nil, map-append}
 use Rattle.std.proofs.lemmas.List.Concat.{flat_map-append}
-use Rattle.session_model.specs.Scramble.{descrambled_octets}
-use Rattle.session_model.specs.Piece.{cut, joined}
-use Rattle.session_model.specs.Run.{Run, runs_with}
-use Rattle.session_model.specs.Outcome.{area_outcomes, is_settled, outcomes_after_with, descrambled_areas}
-use Rattle.session_model.specs.Outcome.{run_outcomes_with, outcomes_with}
-use Rattle.session_model.proofs.CutLaws.{sum-cons, length-joined}
-use Rattle.session_model.proofs.AreaLaws.{map-length-descrambled_areas, descrambled_areas-push}
+use Rattle.law_model.specs.frames.Scramble.{descrambled_octets}
+use Rattle.law_model.specs.frames.Piece.{cut, joined}
+use Rattle.law_model.specs.frames.Run.{Run, runs_with}
+use Rattle.law_model.specs.frames.Outcome.{area_outcomes, is_settled, outcomes_after_with, descrambled_areas}
+use Rattle.law_model.specs.frames.Outcome.{run_outcomes_with, outcomes_with}
+use Rattle.law_model.proofs.CutLaws.{sum-cons, length-joined}
+use Rattle.law_model.proofs.AreaLaws.{map-length-descrambled_areas, descrambled_areas-push}
 
 module _ {X : Type 0} (outcome : Bool → List ℕ → X) where
   pub outcomes_after-append : (settled : Bool) (before : ℕ) (areas more : List (List ℕ)) →

@@ -2,7 +2,7 @@
 use Rattle.std.proofs.Common.{◌≡◌, ℕ, zero, suc, ◌+◌, ◌*◌, List, ◌++◌, refl, sym, ◌∙◌, ap, arith, append_assoc}
 use Rattle.std.proofs.lemmas.List.{append-nil}
 use Rattle.std.specs.Int.{to_le_bytes, w64}
-use Rattle.session_model.proofs.IdleLaws.{idle_header, idles, idles-more}
+use Rattle.law_model.proofs.IdleLaws.{idle_header, idles, idles-more}
 use Rattle.gfp_delineate.specs.Repeated.{repeated}
 
 -- so often, and so often again

@@ -3,9 +3,9 @@ use Rattle.std.proofs.Common.{◌≡◌, ℕ, zero, suc, ◌+◌, ◌<◌, ◌�
 use Rattle.std.proofs.Common.{drop, Option, Some, None, refl, sym, ◌∙◌, ap, inl, inr, arith, length-drop}
 use Rattle.std.specs.Prelude.{IfSome}
 use Rattle.std.proofs.lemmas.Bool.{le-leb, lt-leb, cases_lt}
-use Rattle.session_model.specs.Hunt.{Confirmed, header_with, confirm_by, confirm_with, hunt_by, hunt_within, hunt_with}
-use Rattle.session_model.specs.Run.{Followed, area_then, no_area, follow_by, follow_within, follow_with, Run}
-use Rattle.session_model.specs.Run.{Delineated, no_run, run_then, delineate_by, delineate_within, delineate_with}
+use Rattle.law_model.specs.frames.Hunt.{Confirmed, header_with, confirm_by, confirm_with, hunt_by, hunt_within, hunt_with}
+use Rattle.law_model.specs.frames.Run.{Followed, area_then, no_area, follow_by, follow_within, follow_with, Run}
+use Rattle.law_model.specs.frames.Run.{Delineated, no_run, run_then, delineate_by, delineate_within, delineate_with}
 use Rattle.gfp_delineate.proofs.HuntLaws.{no_header, viewed, search, search_octets-same}
 
 -- ---- a run

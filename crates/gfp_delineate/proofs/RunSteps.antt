@@ -6,14 +6,14 @@ use Rattle.std.proofs.lemmas.List.{append-nil, drop_all}
 use Rattle.std.proofs.lemmas.Bool.{cases_lt, lt-ltb, le-ltb, le-leb, lt-leb}
 use Rattle.gfp_scramble.specs.Descrambler.{Descrambling, IsKnown}
 use Rattle.gfp_scramble.specs.Descrambler as descrambler
-use Rattle.session_model.specs.Core.{head}
-use Rattle.session_model.specs.Scramble.{descrambled_octets}
-use Rattle.session_model.specs.Piece.{joined}
-use Rattle.session_model.specs.Run.{Run}
-use Rattle.session_model.specs.Outcome.{is_settled}
-use Rattle.session_model.proofs.ScrambledOctets.{length-descrambled_octets}
-use Rattle.session_model.proofs.CutLaws.{joined-append}
-use Rattle.session_model.proofs.AreaLaws.{length-descrambled_single}
+use Rattle.law_model.specs.frames.Core.{head}
+use Rattle.law_model.specs.frames.Scramble.{descrambled_octets}
+use Rattle.law_model.specs.frames.Piece.{joined}
+use Rattle.law_model.specs.frames.Run.{Run}
+use Rattle.law_model.specs.frames.Outcome.{is_settled}
+use Rattle.law_model.proofs.ScrambledOctets.{length-descrambled_octets}
+use Rattle.law_model.proofs.CutLaws.{joined-append}
+use Rattle.law_model.proofs.AreaLaws.{length-descrambled_single}
 use Rattle.gfp_delineate.specs.declared.areas.AreaWhy.{AreaWhy}
 use Rattle.gfp_delineate.specs.declared.areas.AreaWhy.TheVariants.{Unsettled, TooLong}
 use Rattle.gfp_delineate.specs.declared.areas.Phase.{Phase}

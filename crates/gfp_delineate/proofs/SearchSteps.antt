@@ -2,8 +2,8 @@
 use Rattle.std.proofs.Common.{◌≡◌, ℕ, ◌+◌, ◌-◌, ◌<◌, ◌≤◌, Bool, List, [], ◌∷◌, ◌++◌, length, drop, Some, None, sym, ◌∙◌}
 use Rattle.std.proofs.Common.{refl, ap, subst, arith, append_assoc, length-append, length-drop}
 use Rattle.std.proofs.lemmas.List.{append-nil}
-use Rattle.session_model.specs.Core.{head}
-use Rattle.session_model.specs.Run.{Run}
+use Rattle.law_model.specs.frames.Core.{head}
+use Rattle.law_model.specs.frames.Run.{Run}
 use Rattle.gfp_delineate.specs.declared.areas.Phase.{Phase}
 use Rattle.gfp_delineate.specs.declared.areas.Phase.TheVariants.{Hunt, PresyncArea, PresyncHeader}
 use Rattle.gfp_delineate.specs.LeftOpen.{searching, Leaves}

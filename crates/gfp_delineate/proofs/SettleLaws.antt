@@ -4,8 +4,8 @@ use Rattle.std.proofs.Common.{sym, ◌∙◌, ap, arith, append_assoc, length-ap
 use Rattle.std.specs.Prelude.{if◌then◌else◌}
 use Rattle.std.proofs.lemmas.List.{take-append-drop}
 use Rattle.std.proofs.Math.Seq.{drop-append-add}
-use Rattle.remainder.specs.Bits.{octet_bits}
-use Rattle.remainder.proofs.OctetLaws.{octet_bits-append, length-octet_bits}
+use Rattle.base_remainder.specs.Bits.{octet_bits}
+use Rattle.base_remainder.proofs.OctetLaws.{octet_bits-append, length-octet_bits}
 use Rattle.gfp_scramble.specs.Descrambler.{Descrambling, Stands, Continues}
 
 -- the octets of a list after a place that lies in its second part

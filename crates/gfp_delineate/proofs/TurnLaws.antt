@@ -4,12 +4,12 @@ use Rattle.std.proofs.Common.{replicate, Some, None, bit_xor, refl, sym, ◌∙�
 use Rattle.std.specs.Int.{to_be_bytes}
 use Rattle.std.proofs.Math.Nat.{div-eq_of_lt, div_self, pow-suc}
 use Rattle.std.proofs.lemmas.Nat.{pow_pos}
-use Rattle.remainder.specs.Bits.{bits, octets_of, xors}
-use Rattle.remainder.proofs.BitLaws.{bits-add, bits_low, bits-xor, bits-zero}
-use Rattle.remainder.proofs.OctetLaws.{octets_of-octet_bits, octet_bits-bytes_high_first, bytes_high_first_below}
-use Rattle.session_model.specs.Core.{head}
-use Rattle.fcs_model.specs.Flips.{flipped}
-use Rattle.fcs_model.specs.Near.{or_else, turned_below, near}
+use Rattle.base_remainder.specs.Bits.{bits, octets_of, xors}
+use Rattle.base_remainder.proofs.BitLaws.{bits-add, bits_low, bits-xor, bits-zero}
+use Rattle.base_remainder.proofs.OctetLaws.{octets_of-octet_bits, octet_bits-bytes_high_first, bytes_high_first_below}
+use Rattle.law_model.specs.frames.Core.{head}
+use Rattle.gfp_model.specs.fcs_model.Flips.{flipped}
+use Rattle.gfp_model.specs.fcs_model.Near.{or_else, turned_below, near}
 
 -- one bit among others, from the first one
 abbrev pub one_bit : ℕ → ℕ → List Bool

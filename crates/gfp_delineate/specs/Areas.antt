@@ -4,12 +4,12 @@ use Rattle.std.specs.Prelude.{◌≡◌, ℕ, ◌+◌, ◌-◌, ◌<◌, ◌≤�
 use Rattle.std.specs.Prelude.{Option, Some, None, if◌then◌else◌}
 use Rattle.gfp_scramble.specs.Descrambler.{Descrambling, IsKnown}
 use Rattle.gfp_scramble.specs.Descrambler as descrambler
-use Rattle.session_model.specs.Core.{head}
-use Rattle.session_model.specs.Scramble.{descrambled_octets}
-use Rattle.session_model.specs.Piece.{joined}
-use Rattle.session_model.specs.Run.{Run, delineate_with}
-use Rattle.session_model.specs.Outcome.{area_outcomes, run_outcomes_with, outcomes_with}
-use Rattle.fcs_model.specs.Near.{near}
+use Rattle.law_model.specs.frames.Core.{head}
+use Rattle.law_model.specs.frames.Scramble.{descrambled_octets}
+use Rattle.law_model.specs.frames.Piece.{joined}
+use Rattle.law_model.specs.frames.Run.{Run, delineate_with}
+use Rattle.law_model.specs.frames.Outcome.{area_outcomes, run_outcomes_with, outcomes_with}
+use Rattle.gfp_model.specs.fcs_model.Near.{near}
 use Rattle.gfp_delineate.specs.declared.areas.AreaWhy.{AreaWhy}
 use Rattle.gfp_delineate.specs.declared.areas.AreaWhy.TheVariants.{Unsettled, TooLong}
 use Rattle.gfp_delineate.specs.declared.areas.AreaStep.{AreaStep}

@@ -2,10 +2,10 @@
 use Rattle.std.specs.Prelude.{◌≡◌, ℕ, ◌+◌, ◌^◌, ◌<◌, ◌≤◌, ◌&&◌, nat_le, Bool, true, false, List, [], ◌∷◌, ◌++◌, length}
 use Rattle.std.specs.Prelude.{map, take, drop, All, Option, Some, None, if◌then◌else◌}
 use Rattle.std.specs.Option.{option_to_list}
-use Rattle.session_model.specs.declared.Why.{Why}
-use Rattle.session_model.specs.declared.Why.TheVariants.{Unsettled, TooLong}
-use Rattle.session_model.specs.TypeHeader.{type_fault}
-use Rattle.session_model.specs.Outcome.{Outcome, delivery, dropping, outcome_by, outcomes}
+use Rattle.law_model.specs.declared.Why.{Why}
+use Rattle.law_model.specs.declared.Why.TheVariants.{Unsettled, TooLong}
+use Rattle.law_model.specs.frames.TypeHeader.{type_fault}
+use Rattle.law_model.specs.frames.Outcome.{Outcome, delivery, dropping, outcome_by, outcomes}
 use Rattle.gfp_delineate.specs.declared.areas.AreaWhy.{AreaWhy}
 use Rattle.gfp_delineate.specs.declared.areas.AreaWhy.TheVariants.{Unsettled as NotSettled, TooLong as IsLong}
 use Rattle.gfp_delineate.specs.declared.Step.{Step}

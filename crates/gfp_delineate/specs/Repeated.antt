@@ -1,7 +1,7 @@
 -- Octets again and again.
 use Rattle.std.specs.Prelude.{ℕ, List, ◌++◌, take, drop, replicate}
-use Rattle.session_model.specs.Core.{core_header}
-use Rattle.session_model.specs.Piece.{joined}
+use Rattle.law_model.specs.frames.Core.{core_header}
+use Rattle.law_model.specs.frames.Piece.{joined}
 
 abbrev pub repeated : ℕ → List ℕ → List ℕ
 repeated count octets = joined (replicate count octets)

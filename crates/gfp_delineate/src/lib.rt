@@ -11,12 +11,12 @@
 
 ghost use Rattle.std.specs.Prelude.{◌≡◌, ◌≢◌, ℕ, ◌+◌, ◌-◌, ◌<◌, ◌≤◌, ◌↔◌, Bool, true, false, List, [], ◌∷◌};
 ghost use Rattle.std.specs.Prelude.{length, map, take, drop, All, IfOk, IfSome, IfNone, IsSome, IsTrue};
-ghost use Rattle.session_model.specs.Core.{core_header};
-ghost use Rattle.session_model.specs.Piece.{stream_of, opening, frames_by};
-ghost use Rattle.session_model.specs.Run.{is_sync};
-ghost use Rattle.session_model.specs.TypeHeader.{type_fault};
-ghost use Rattle.session_model.specs.Outcome.{outcome_by};
-ghost use Rattle.session_model.specs.Delivery.{delivered};
+ghost use Rattle.law_model.specs.frames.Core.{core_header};
+ghost use Rattle.law_model.specs.frames.Piece.{stream_of, opening, frames_by};
+ghost use Rattle.law_model.specs.frames.Run.{is_sync};
+ghost use Rattle.law_model.specs.frames.TypeHeader.{type_fault};
+ghost use Rattle.law_model.specs.frames.Outcome.{outcome_by};
+ghost use Rattle.law_model.specs.frames.Delivery.{delivered};
 ghost use Rattle.gfp_delineate.specs.Repeated.{idles_from};
 ghost use Rattle.gfp_delineate.specs.Receiver.{most, StandsIn, Advances, Brings, frame_of, header_begun, told_outcomes};
 ghost use Rattle.gfp_delineate.specs.Areas.{ends_told};
@@ -30,7 +30,7 @@ mod steps;
 pub use crate::areas::{AreaReceiver, AreaStep, AreaWhy};
 pub use crate::octets::{first_four, word_run};
 use gfp_headers::read_type;
-pub use session_model::{TypeFault, Why};
+pub use law_model::{TypeFault, Why};
 use std::alloc::{AllocError, Global};
 use std::marker::Model;
 

@@ -1,8 +1,8 @@
 //! The core header from which four octets differ in at most one bit.
 
 ghost use Rattle.std.specs.Prelude.{◌≡◌, ◌-◌, ◌<◌, ◌⊎◌, ◌≤◌, ◌++◌, ◌∷◌, true, false, replicate, IfSome};
-ghost use Rattle.fcs_model.specs.Flips.{flipped};
-ghost use Rattle.fcs_model.specs.Near.{near};
+ghost use Rattle.gfp_model.specs.fcs_model.Flips.{flipped};
+ghost use Rattle.gfp_model.specs.fcs_model.Near.{near};
 
 use gfp_headers::read_core;
 

@@ -6,7 +6,7 @@ ghost use Rattle.std.specs.Vec.{vec_capacity};
 ghost use Rattle.std.specs.Int.{to_le_bytes, w64};
 ghost use Rattle.gfp_scramble.specs.Descrambler.{Continues, DescramblesTo};
 ghost use Rattle.std.specs.List.{flat_map};
-ghost use Rattle.session_model.specs.Piece.{with_header};
+ghost use Rattle.law_model.specs.frames.Piece.{with_header};
 ghost use Rattle.gfp_delineate.specs.Repeated.{repeated};
 
 use gfp_scramble::Descrambler;

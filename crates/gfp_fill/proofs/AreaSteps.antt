@@ -5,15 +5,15 @@ use Rattle.std.proofs.Common.{length-drop}
 use Rattle.std.proofs.Math.Seq.{take-add, take-append-add}
 use Rattle.std.proofs.lemmas.List.{append-nil, take_at, drop_at, take_all, drop_all, take-append-drop, take-append-le}
 use Rattle.std.proofs.lemmas.List.{drop-append-le, drop-drop}
-use Rattle.session_model.specs.Scramble.{scrambled_octets}
-use Rattle.session_model.specs.Core.{core_header}
-use Rattle.session_model.specs.Piece.{cut, joined, with_header, areas_stream}
-use Rattle.session_model.proofs.CoreLaws.{length-core_header}
-use Rattle.session_model.proofs.CutLaws.{joined-append, joined-push}
-use Rattle.session_model.proofs.ScrambledOctets.{length-scrambled_octets, scrambled_octets-append}
-use Rattle.session_model.proofs.AreaLaws.{length-scrambled_single}
-use Rattle.session_model.proofs.StreamLaws.{areas_behind, areas_stream-append, areas_stream-push}
-use Rattle.session_model.proofs.IdleLaws.{idles}
+use Rattle.law_model.specs.frames.Scramble.{scrambled_octets}
+use Rattle.law_model.specs.frames.Core.{core_header}
+use Rattle.law_model.specs.frames.Piece.{cut, joined, with_header, areas_stream}
+use Rattle.law_model.proofs.CoreLaws.{length-core_header}
+use Rattle.law_model.proofs.CutLaws.{joined-append, joined-push}
+use Rattle.law_model.proofs.ScrambledOctets.{length-scrambled_octets, scrambled_octets-append}
+use Rattle.law_model.proofs.AreaLaws.{length-scrambled_single}
+use Rattle.law_model.proofs.StreamLaws.{areas_behind, areas_stream-append, areas_stream-push}
+use Rattle.law_model.proofs.IdleLaws.{idles}
 use Rattle.gfp_scramble.specs.Scrambler.{Stands as HasScrambled, Continues, ScramblesTo}
 use Rattle.gfp_fill.specs.Areas.{Sender, head_of, StandsIn, HasWrittenIn}
 

@@ -2,12 +2,12 @@
 use Rattle.std.proofs.Common.{◌≡◌, ℕ, zero, suc, ◌+◌, ◌-◌, ◌*◌, ◌/◌, ◌%◌, List, [], ◌∷◌, ◌++◌, length, take, refl, sym}
 use Rattle.std.proofs.Common.{◌∙◌, ap, ap₂, arith, append_assoc, length-append}
 use Rattle.std.proofs.lemmas.List.{append-nil, take_at}
-use Rattle.remainder.specs.Bits.{octets_of}
-use Rattle.session_model.specs.Scramble.{scrambled_octets}
-use Rattle.session_model.specs.Core.{core_header}
-use Rattle.session_model.specs.Piece.{areas_stream, cut}
-use Rattle.session_model.proofs.CoreLaws.{length-core_header}
-use Rattle.session_model.proofs.IdleLaws.{idle_header, core_header-idle, idles, idles-suc}
+use Rattle.base_remainder.specs.Bits.{octets_of}
+use Rattle.law_model.specs.frames.Scramble.{scrambled_octets}
+use Rattle.law_model.specs.frames.Core.{core_header}
+use Rattle.law_model.specs.frames.Piece.{areas_stream, cut}
+use Rattle.law_model.proofs.CoreLaws.{length-core_header}
+use Rattle.law_model.proofs.IdleLaws.{idle_header, core_header-idle, idles, idles-suc}
 
 -- one more in front
 idles-front : (n : ℕ) → idles (suc n) ≡ core_header 0 ++ idles n

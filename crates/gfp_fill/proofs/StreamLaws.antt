@@ -2,9 +2,9 @@
 use Rattle.std.proofs.Common.{◌≡◌, ℕ, zero, suc, ◌+◌, ◌-◌, ◌≤◌, List, [], ◌∷◌, ◌++◌, length, map, take, drop, replicate}
 use Rattle.std.proofs.Common.{refl, sym, ap, ap₂, ◌∙◌, arith, append_assoc}
 use Rattle.std.proofs.lemmas.List.{append-nil, drop_all, replicate-append-replicate, take_all, take-append-le}
-use Rattle.session_model.specs.Piece.{Piece, idle, client, area_of, joined, stream_of, opening}
-use Rattle.session_model.proofs.StreamLaws.{stream_behind, stream_of-append}
-use Rattle.session_model.specs.Client.{Stream, begun}
+use Rattle.law_model.specs.frames.Piece.{Piece, idle, client, area_of, joined, stream_of, opening}
+use Rattle.law_model.proofs.StreamLaws.{stream_behind, stream_of-append}
+use Rattle.law_model.specs.source.Client.{Stream, begun}
 use Rattle.gfp_fill.specs.Stream.{next_pieces, unsent}
 
 -- where none waits there are idles

@@ -7,7 +7,7 @@ use Rattle.std.specs.VecDeque.{deque_len, deque_capacity}
 use Rattle.std.specs.declared.alloc.Global.{Global}
 use Rattle.std.specs.declared.collections.VecDeque.{VecDeque}
 use Rattle.gfp_fill.specs.Queue.{IsFrameLength}
-use Rattle.session_model.specs.Limits.{longest_frame, most_waiting}
+use Rattle.law_model.specs.Limits.{longest_frame, most_waiting}
 
 -- a buffer that has room for any frame
 abbrev pub HasRoom : Vec ℕ Global → Type 0

@@ -1,15 +1,15 @@
 //! The frames that wait, and the stream of GFP frames that is made of them. It knows nothing of rows, lines
 //! or time: the caller says how many octets come next, and offers frames between. Begin with `FrameQueue` and
 //! `Filler`; what is promised of the two together is `Stands` in `specs/Stream.antt`, over the streams of
-//! session_model's `specs/Client.antt`.
+//! law_model's `specs/source/Client.antt`.
 //!
 //! Below it `AreaSender` writes payload areas, whatever is in them, and idle frames. Fillers with frames of other kinds
 //! stand on it too.
 #![tactic(auto)]
 
 ghost use Rattle.std.specs.Prelude.{◌≡◌, ℕ, ◌+◌, ◌≤◌, List, [], ◌++◌, length, take, drop};
-ghost use Rattle.session_model.specs.Piece.{Piece, stream_of, opening};
-ghost use Rattle.session_model.specs.Client.{size, Stream, offered, begun, reached, IsFewest};
+ghost use Rattle.law_model.specs.frames.Piece.{Piece, stream_of, opening};
+ghost use Rattle.law_model.specs.source.Client.{size, Stream, offered, begun, reached, IsFewest};
 ghost use Rattle.gfp_fill.specs.Areas.{Sender};
 ghost use Rattle.gfp_fill.specs.Queue.{Held};
 ghost use Rattle.gfp_fill.specs.Stream.{next_pieces, unsent, Stands};
@@ -21,9 +21,9 @@ mod queue;
 
 pub use area_sender::AreaSender;
 pub use filler::Filler;
+pub use law_model::AcceptFault;
 pub use octets::copy_some;
 pub use queue::{FrameQueue, MAX_FRAME, MAX_WAITING, MIN_FRAME};
-pub use session_model::AcceptFault;
 
 /// The pieces of a stream that reaches a place are the fewest, a place can be reached in parts, and octets
 /// that are written stand in each longer stream. Where all frames wait from the start, the pieces are those

@@ -5,14 +5,14 @@ ghost use Rattle.std.specs.Prelude.{IfOk, OnOk, OnErr, IfSome, IfNone, vec_len};
 ghost use Rattle.std.specs.Result.{result_err};
 ghost use Rattle.std.specs.Vec.{vec_capacity};
 ghost use Rattle.std.specs.VecDeque.{deque_len, deque_capacity};
-ghost use Rattle.session_model.specs.Client.{Stream, refusal_while, offered};
+ghost use Rattle.law_model.specs.source.Client.{Stream, refusal_while, offered};
 ghost use Rattle.gfp_fill.specs.Queue.{IsFrameLength, IsOtherLength, unbegun};
 ghost use Rattle.gfp_fill.specs.Areas.{Sender};
 ghost use Rattle.gfp_fill.specs.Stream.{Stands};
-ghost use Rattle.session_model.specs.Limits.{longest_frame, most_waiting};
+ghost use Rattle.law_model.specs.Limits.{longest_frame, most_waiting};
 
 use crate::octets::copy_some;
-use session_model::AcceptFault;
+use law_model::AcceptFault;
 use std::alloc::{AllocError, Global};
 use std::collections::VecDeque;
 use std::marker::Model;

@@ -2,9 +2,9 @@
 use Rattle.std.proofs.Common.{◌≡◌, ◌≢◌, ℕ, List, Some, None, sym, ◌∙◌, ap, ap₂, eq-eqb}
 use Rattle.std.specs.Prelude.{if◌then◌else◌}
 use Rattle.std.proofs.lemmas.Bool.{ne_eqb}
-use Rattle.hec16.specs.Hec.{hec_of}
-use Rattle.linear_model.specs.declared.CidFault.{CidFault}
-use Rattle.linear_model.specs.Linear.{cid_field, cid_check, cid_fault}
+use Rattle.base_hec16.specs.Hec.{hec_of}
+use Rattle.gfp_model.specs.declared.linear_model.CidFault.{CidFault}
+use Rattle.gfp_model.specs.linear_model.Linear.{cid_field, cid_check, cid_fault}
 
 module _ (octets : List ℕ) (field said found : ℕ) (e : field ≡ cid_field octets) (s : said ≡ cid_check octets)
     (f : found ≡ hec_of field) where

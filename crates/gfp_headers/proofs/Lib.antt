@@ -1,9 +1,9 @@
-pub use Rattle.session_model.proofs.ScrambleLaws
-pub use Rattle.session_model.proofs.ScrambledOctets
-pub use Rattle.session_model.proofs.CutLaws
-pub use Rattle.session_model.proofs.CoreLaws
-pub use Rattle.session_model.proofs.AreaLaws
-pub use Rattle.session_model.proofs.StreamLaws
-pub use Rattle.session_model.proofs.OctetsOfHeader
+pub use Rattle.law_model.proofs.ScrambleLaws
+pub use Rattle.law_model.proofs.ScrambledOctets
+pub use Rattle.law_model.proofs.CutLaws
+pub use Rattle.law_model.proofs.CoreLaws
+pub use Rattle.law_model.proofs.AreaLaws
+pub use Rattle.law_model.proofs.StreamLaws
+pub use Rattle.law_model.proofs.OctetsOfHeader
 pub mod TypeLaws
 pub mod CidLaws

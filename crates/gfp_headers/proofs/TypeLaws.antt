@@ -4,14 +4,14 @@ use Rattle.std.proofs.Common.{length, Some}
 use Rattle.std.proofs.Common.{None, get_or, refl, sym, ◌∙◌, ap, ap₂, arith, eq-eqb}
 use Rattle.std.specs.Prelude.{if◌then◌else◌, ◌==◌}
 use Rattle.std.proofs.lemmas.Bool.{ne_eqb, eqb-true}
-use Rattle.remainder.specs.Bits.{bits, number_behind}
-use Rattle.remainder.specs.Remainder.{add_front, divide}
-use Rattle.hec16.specs.Hec.{hec_of}
-use Rattle.session_model.specs.declared.TypeFault.{TypeFault}
-use Rattle.session_model.specs.declared.TypeFault.TheVariants.{Check}
-use Rattle.session_model.specs.TypeHeader.{type_header, type_field, type_check, type_fault}
-use Rattle.fcs_model.specs.Fcs.{fcs_header, fcs_type_fault}
-use Rattle.linear_model.specs.Linear.{linear_header, linear_type_fault}
+use Rattle.base_remainder.specs.Bits.{bits, number_behind}
+use Rattle.base_remainder.specs.Remainder.{add_front, divide}
+use Rattle.base_hec16.specs.Hec.{hec_of}
+use Rattle.law_model.specs.declared.TypeFault.{TypeFault}
+use Rattle.law_model.specs.declared.TypeFault.TheVariants.{Check}
+use Rattle.law_model.specs.frames.TypeHeader.{type_header, type_field, type_check, type_fault}
+use Rattle.gfp_model.specs.fcs_model.Fcs.{fcs_header, fcs_type_fault}
+use Rattle.gfp_model.specs.linear_model.Linear.{linear_header, linear_type_fault}
 use Rattle.gfp_headers.specs.TypeField.{field_with, header_with, field_fault_with, type_fault_with}
 
 -- ---- the kinds of Ethernet frames

@@ -1,12 +1,12 @@
 //! The linear extension header: the number of a channel, a spare octet, and their check.
 
 ghost use Rattle.std.specs.Prelude.{◌≡◌, ◌≢◌, ◌↔◌, MatchOption, IsErr, slice_index};
-ghost use Rattle.hec16.specs.Hec.{hec_of};
-ghost use Rattle.linear_model.specs.Linear.{extension_header, cid_field, cid_check, cid_fault};
+ghost use Rattle.base_hec16.specs.Hec.{hec_of};
+ghost use Rattle.gfp_model.specs.linear_model.Linear.{extension_header, cid_field, cid_check, cid_fault};
 
 use crate::type_header::word;
-use hec16::hec;
-use linear_model::CidFault;
+use base_hec16::hec;
+use gfp_model::linear_model::CidFault;
 
 /// The extension header of a channel, as it is before scrambling. Its spare octet is 0.
 #[inline]

@@ -1,10 +1,10 @@
 //! The core header, written and read as one word of 32 bits.
 
 ghost use Rattle.std.specs.Prelude.{◌≡◌, ◌≢◌, ◌↔◌, ℕ, IfSome, IfNone, IsTrue};
-ghost use Rattle.hec16.specs.Hec.{hec_of};
-ghost use Rattle.session_model.specs.Core.{core_header, head, IsPli};
+ghost use Rattle.base_hec16.specs.Hec.{hec_of};
+ghost use Rattle.law_model.specs.frames.Core.{core_header, head, IsPli};
 
-use hec16::{hec, hec_ok};
+use base_hec16::{hec, hec_ok};
 
 // What a core header is combined with by exclusive or, its first octet most significant.
 const MASK: u32 = 0xb6ab_31e0;

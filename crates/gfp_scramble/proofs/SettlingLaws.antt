@@ -3,10 +3,10 @@ use Rattle.std.proofs.Common.{◌≡◌, ℕ, zero, suc, ◌+◌, ◌*◌, Bool,
 use Rattle.std.proofs.Common.{replicate, refl, sym, ◌∙◌, ap, ap₂, arith, append_assoc, length-append}
 use Rattle.std.proofs.lemmas.List.{length-replicate, drop-append-le}
 use Rattle.std.proofs.Math.Seq.{drop-append-add}
-use Rattle.remainder.specs.Bits.{octet_bits, octets_of}
-use Rattle.remainder.proofs.OctetLaws.{octet_bits-append, octet_bits-octets_of, length-octets_of}
-use Rattle.session_model.specs.Scramble.{descrambled_octets}
-use Rattle.session_model.proofs.ScrambledOctets.{length-descrambled_octets, descrambled_octets-behind}
+use Rattle.base_remainder.specs.Bits.{octet_bits, octets_of}
+use Rattle.base_remainder.proofs.OctetLaws.{octet_bits-append, octet_bits-octets_of, length-octets_of}
+use Rattle.law_model.specs.frames.Scramble.{descrambled_octets}
+use Rattle.law_model.proofs.ScrambledOctets.{length-descrambled_octets, descrambled_octets-behind}
 use Rattle.gfp_scramble.specs.Descrambler.{Stands, unknown}
 
 -- two lists that agree from a place of each on, where both have as many elements behind it, with more behind them

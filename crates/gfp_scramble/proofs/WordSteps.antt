@@ -4,10 +4,10 @@ use Rattle.std.proofs.Common.{drop, replicate, bit_xor, refl, sym, ◌∙◌, ap
 use Rattle.std.specs.Prelude.{if◌then◌else◌}
 use Rattle.std.specs.Int.{bytes_high_first}
 use Rattle.std.proofs.lemmas.List.{length-append}
-use Rattle.remainder.specs.Bits.{bits, octet_bits}
-use Rattle.remainder.proofs.OctetLaws.{octet_bits-append, length-octet_bits, octet_bits-bytes_high_first}
-use Rattle.session_model.specs.Scramble.{scrambled, scrambled_octets, descrambled, descrambled_octets}
-use Rattle.session_model.proofs.ScrambleLaws.{scramble_on-append, length-scrambled, length-descrambled}
+use Rattle.base_remainder.specs.Bits.{bits, octet_bits}
+use Rattle.base_remainder.proofs.OctetLaws.{octet_bits-append, length-octet_bits, octet_bits-bytes_high_first}
+use Rattle.law_model.specs.frames.Scramble.{scrambled, scrambled_octets, descrambled, descrambled_octets}
+use Rattle.law_model.proofs.ScrambleLaws.{scramble_on-append, length-scrambled, length-descrambled}
 use Rattle.gfp_scramble.specs.Scrambler.{Stands}
 use Rattle.gfp_scramble.specs.Descrambler.{Stands as StandsBack}
 use Rattle.gfp_scramble.proofs.RegisterLaws.{window}

@@ -21,10 +21,10 @@ pub struct Descrambler {
 
 impl Model for Descrambler {
     ghost use Rattle.std.specs.Prelude.{◌^◌, ◌<◌, ◌≤◌};
-    ghost use Rattle.remainder.specs.Bits.{bits, number};
+    ghost use Rattle.base_remainder.specs.Bits.{bits, number};
     ghost use Rattle.gfp_scramble.specs.Descrambler.{Descrambling};
     ghost use Rattle.std.proofs.Common.{◌∙◌, ap, mod-eq_of_lt};
-    ghost use Rattle.remainder.proofs.BitLaws.{number-bits};
+    ghost use Rattle.base_remainder.proofs.BitLaws.{number-bits};
 
     ghost Value = { Descrambling };
 

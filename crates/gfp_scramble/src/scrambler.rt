@@ -16,11 +16,11 @@ pub struct Scrambler {
 
 impl Model for Scrambler {
     ghost use Rattle.std.specs.Prelude.{◌^◌, ◌<◌};
-    ghost use Rattle.remainder.specs.Bits.{bits, number};
+    ghost use Rattle.base_remainder.specs.Bits.{bits, number};
     ghost use Rattle.gfp_scramble.specs.Scrambler.{Scrambling};
     ghost use Rattle.std.specs.Prelude.{◌≡◌, ◌*◌, ◌/◌};
     ghost use Rattle.std.proofs.Common.{◌∙◌, ap, mod-eq_of_lt};
-    ghost use Rattle.remainder.proofs.BitLaws.{number-bits};
+    ghost use Rattle.base_remainder.proofs.BitLaws.{number-bits};
 
     ghost Value = { Scrambling };
 

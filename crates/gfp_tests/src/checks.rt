@@ -1,8 +1,8 @@
 //! Remainders and the checks that are such, of worked octets from outside the program.
 
-use crc32::{ethernet_fcs, fcs};
-use hec16::{fix_one, hec, hec_ok};
-use remainder::{remainder_of_nibbles, with_nibble};
+use base_crc32::{ethernet_fcs, fcs};
+use base_hec16::{fix_one, hec, hec_ok};
+use base_remainder::{remainder_of_nibbles, with_nibble};
 
 /// The remainders of the nibbles by `x^8 + x^2 + x + 1`.
 const CRC8: [u32; 16] = [

@@ -1,10 +1,10 @@
 -- Fresh ends of rings, one more and another.
 use Rattle.std.proofs.Common.{◌≡◌, ℕ, ◌+◌, List, [], ◌∷◌, ◌++◌, length, replicate, sym, ◌∙◌, ap, ap₂}
 use Rattle.std.proofs.lemmas.List.{map-append, length-map, length-replicate, replicate-append-replicate}
-use Rattle.vc_cell.specs.declared.Cell.{Cell}
-use Rattle.member_ring.specs.Ends.{InEnd}
-use Rattle.member_ring.specs.Ends.{in_passed}
-use Rattle.sink_worker.specs.Received.{received}
+use Rattle.base_cells.specs.declared.Cell.{Cell}
+use Rattle.thread_rings.specs.Ends.{InEnd}
+use Rattle.thread_rings.specs.Ends.{in_passed}
+use Rattle.thread_sink.specs.Received.{received}
 
 pub one_more : (ends : List (InEnd Cell)) (end : InEnd Cell) (n : ℕ) → received ends ≡ replicate n [] →
     in_passed end ≡ []

@@ -3,13 +3,13 @@
 ghost use Rattle.std.specs.Prelude.{◌<◌, ◌≤◌};
 
 use crate::Done;
+use base_cells::{Cell, Container, Ctrl, PAYLOAD};
 use gfp_fill::{Filler, FrameQueue};
-use h4_multiframe::h4;
-use lcas_packet::Packet;
-use member_ring::RingOut;
+use member_path::h4_multiframe::h4;
+use member_rows::lcas_packet::Packet;
+use member_rows::vcat_interleave::spread;
 use std::alloc::{AllocError, Global};
-use vc_cell::{Cell, Container, Ctrl, PAYLOAD};
-use vcat_interleave::spread;
+use thread_rings::RingOut;
 
 /// The rows that are sent at once.
 pub(crate) const ROWS: usize = 16;

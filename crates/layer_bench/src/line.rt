@@ -1,10 +1,10 @@
 //! Times the two rings and the worker of a line.
 
 use crate::Done;
-use line_core::{LineCore, Windows};
-use member_ring::{Burst, LineEnds, LineWorker, OpenGate, RingIn, RingOut, line_rings};
+use base_cells::{Cell, Container, PAYLOAD};
+use member_path::line_core::{LineCore, Windows};
 use std::alloc::{AllocError, Global};
-use vc_cell::{Cell, Container, PAYLOAD};
+use thread_rings::{Burst, LineEnds, LineWorker, OpenGate, RingIn, RingOut, line_rings};
 
 /// The slots of the receive ring, and as many containers are sent at once.
 const SLOTS: u16 = 16;

@@ -2,8 +2,8 @@
 //! is over what is said of each text, so that another reader of the same texts can be compared.
 
 use crate::texts::{MOST, make_text};
-use script_read::{ScriptFault, read_script};
 use std::alloc::{AllocError, Global};
+use text_scripts::script_read::{ScriptFault, read_script};
 
 /// How many texts are scripts, have a faulty line, or have limits that don't fit; and a sum over what is said
 /// of all of them.

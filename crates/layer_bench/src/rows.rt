@@ -3,9 +3,9 @@
 ghost use Rattle.std.specs.Prelude.{◌≡◌, ℕ, ◌*◌, ◌<◌, ◌≤◌, length, slice_index, IfOk};
 
 use crate::Done;
+use base_cells::{Container, HeldContainer, PAYLOAD};
+use member_rows::vcat_interleave::{gather_places, spread_places};
 use std::alloc::{AllocError, Global};
-use vc_cell::{Container, HeldContainer, PAYLOAD};
-use vcat_interleave::{gather_places, spread_places};
 
 /// The octets that are done at once, or those of sixteen places where these are more.
 const PIECE: usize = 2048;

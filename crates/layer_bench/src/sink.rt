@@ -1,14 +1,14 @@
 //! Times the worker of the sink over the rings of its lines.
 ghost use Rattle.std.specs.Prelude.{◌≡◌, ◌<◌, ◌≤◌, [], length, replicate, IfOk};
-ghost use Rattle.sink_worker.specs.Received.{received};
+ghost use Rattle.thread_sink.specs.Received.{received};
 
 use crate::Done;
 use crate::feed::{Feed, ROWS};
-use member_ring::{LineEnds, OpenGate, RingIn, RingOut, back_ring, line_rings};
-use outside_io::{ByteSink, Failed};
-use sink_worker::{SinkBurst, SinkWorker};
+use base_cells::{BackCell, Cell, PAYLOAD};
+use base_io::{ByteSink, Failed};
 use std::alloc::{AllocError, Global};
-use vc_cell::{BackCell, Cell, PAYLOAD};
+use thread_rings::{LineEnds, OpenGate, RingIn, RingOut, back_ring, line_rings};
+use thread_sink::{SinkBurst, SinkWorker};
 
 /// Takes all that is written, and counts it.
 #[derive(Drop)]

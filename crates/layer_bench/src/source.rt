@@ -1,12 +1,12 @@
 //! Times the source terminal of a group.
 ghost use Rattle.std.specs.Prelude.{◌≡◌, ◌+◌, ◌<◌, ◌≤◌, length};
-ghost use Rattle.source_core.specs.Terminal.{SameKind};
+ghost use Rattle.terminal_source.specs.source_core.Terminal.{SameKind};
 
 use crate::Done;
-use lcas_packet::Packet;
-use source_core::SourceCore;
+use base_cells::{BackCell, Container, Ctrl, PAYLOAD};
+use member_rows::lcas_packet::Packet;
 use std::alloc::{AllocError, Global};
-use vc_cell::{BackCell, Container, Ctrl, PAYLOAD};
+use terminal_source::source_core::SourceCore;
 
 /// The octets of each frame.
 const FRAME: usize = 1518;

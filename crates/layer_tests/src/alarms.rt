@@ -1,16 +1,16 @@
 //! An alarm log whose queue has room for one alarm, on one thread and on two.
 ghost use Rattle.std.specs.Prelude.{◌≡◌, ◌≤◌, ℕ, [], ◌∷◌, IfSome};
-ghost use Rattle.alarm_log.specs.Logs.{alarms_in, posts_of, IsPostOf, SameLog};
-ghost use Rattle.alarm_log.specs.Alarms.{of_line};
-ghost use Rattle.member_ring.specs.Alarms.{alarm_at};
-ghost use Rattle.alarm_log.specs.Posts.{posted_by, most_by, SamePost};
+ghost use Rattle.thread_alarms.specs.alarm_log.Logs.{alarms_in, posts_of, IsPostOf, SameLog};
+ghost use Rattle.thread_alarms.specs.alarm_log.Alarms.{of_line};
+ghost use Rattle.thread_rings.specs.Alarms.{alarm_at};
+ghost use Rattle.thread_alarms.specs.alarm_log.Posts.{posted_by, most_by, SamePost};
 
-use alarm_log::{AlarmList, AlarmLog, AlarmPost, Posted, Turn, make_log};
-use member_ring::{Alarm, AlarmKind};
 use std::alloc::{AllocError, Global};
 use std::sync::Wait;
 use std::thread;
 use std::thread::Threads;
+use thread_alarms::alarm_log::{AlarmList, AlarmLog, AlarmPost, Posted, Turn, make_log};
+use thread_rings::{Alarm, AlarmKind};
 
 /// An alarm of line 3.
 fn fails(place: u32) -> Alarm

@@ -1,7 +1,7 @@
 //! A gate that counts.
 
-use member_ring::{Gate, Who};
 use std::sync::atomic::{AtomicU64, Ordering};
+use thread_rings::{Gate, Who};
 
 /// Counts how often one of those who pass a gate passes, and how often it moved.
 #[derive(Drop)]

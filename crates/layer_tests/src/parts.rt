@@ -2,14 +2,14 @@
 
 ghost use Rattle.std.specs.Prelude.{◌≡◌, length, IfSome};
 
-use failure_window::Window;
-use group_source::{Inbox, held_item, next_command, next_frame};
-use lcas_packet::Packet;
-use realign_core::{RowAnswer, RowGather};
-use session_model::{Item, ItemKind, Octets};
+use base_cells::{BackCell, Container, Ctrl, HeldContainer, PAYLOAD};
+use law_model::{Item, ItemKind, Octets};
+use member_path::failure_window::Window;
+use member_rows::lcas_packet::Packet;
+use member_rows::realign_core::{RowAnswer, RowGather};
 use std::alloc::Global;
-use vc_cell::{BackCell, Container, Ctrl, HeldContainer, PAYLOAD};
-use walk_parts::{ReturnRing, WalkLine};
+use terminal_group::{Inbox, held_item, next_command, next_frame};
+use walk_engine::walk_parts::{ReturnRing, WalkLine};
 
 const CONTAINER: Container = Container {
     h4: 5,
@@ -25,7 +25,7 @@ fn push(line: &mut WalkLine, place: &mut Box<HeldContainer>) {
 }
 
 // A line of four containers and a ring of two cells: it gives a cell, the sign of a failure, and nothing.
-#[tactic(auto, unfolding(session_model::specs::Damage::AreWindows))]
+#[tactic(auto, unfolding(law_model::specs::members::Damage::AreWindows))]
 fn line(alloc: Global) -> Option<WalkLine> {
     let window = Window {
         first: 1,

@@ -1,9 +1,9 @@
 //! Worked rows of bursts, with all ends on one thread.
 use crate::counting::Counter;
-use line_core::{LineCore, Windows};
-use member_ring::{Burst, IdleCause, LineEnds, LineWorker, RingIn, RingOut, Who, line_rings};
+use base_cells::{Cell, Container, PAYLOAD};
+use member_path::line_core::{LineCore, Windows};
 use std::alloc::Global;
-use vc_cell::{Cell, Container, PAYLOAD};
+use thread_rings::{Burst, IdleCause, LineEnds, LineWorker, RingIn, RingOut, Who, line_rings};
 
 // A container that tells its number.
 fn container(n: u8) -> Container {

@@ -1,19 +1,19 @@
 //! Worked rows of bursts, with all ends on one thread.
 ghost use Rattle.std.specs.Prelude.{◌≡◌, ◌≤◌, [], length, replicate, IfSome};
-ghost use Rattle.member_ring.specs.Ends.{in_passed};
-ghost use Rattle.sink_worker.specs.Received.{received};
+ghost use Rattle.thread_rings.specs.Ends.{in_passed};
+ghost use Rattle.thread_sink.specs.Received.{received};
 
 use crate::counting::Counter;
+use base_cells::{Cell, Container, Ctrl, PAYLOAD};
+use base_io::MemSink;
 use gfp_fill::{Filler, FrameQueue};
-use h4_multiframe::h4;
-use lcas_packet::Packet;
-use line_core::{LineCore, Windows};
-use member_ring::{LineEnds, LineWorker, OpenGate, RingIn, RingOut, Who, back_ring, line_rings};
-use outside_io::MemSink;
-use sink_worker::{SinkBurst, SinkIdle, SinkWorker};
+use member_path::h4_multiframe::h4;
+use member_path::line_core::{LineCore, Windows};
+use member_rows::lcas_packet::Packet;
+use member_rows::vcat_interleave::spread;
 use std::alloc::Global;
-use vc_cell::{Cell, Container, Ctrl, PAYLOAD};
-use vcat_interleave::spread;
+use thread_rings::{LineEnds, LineWorker, OpenGate, RingIn, RingOut, Who, back_ring, line_rings};
+use thread_sink::{SinkBurst, SinkIdle, SinkWorker};
 
 // The end of one line.
 fn one(alloc: Global, a: RingIn<Cell>) -> Option<Vec<RingIn<Cell>>>

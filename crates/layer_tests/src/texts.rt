@@ -1,11 +1,11 @@
 //! Octets as hexadecimal digits there and back, and the lines of a report.
 
-use hex_text::{decode_into, encode};
-use report_text::{
+use law_model::{AcceptFault, CommandFault};
+use std::alloc::Global;
+use text_hex::{decode_into, encode};
+use text_report::{
     GOT_ROOM, REFUSED_ROOM, Refusal, TOTAL_ROOM, Totals, got_line, refused_line, total_line,
 };
-use session_model::{AcceptFault, CommandFault};
-use std::alloc::Global;
 
 /// Whether a text is decoded to these octets behind one that was there; or is refused, where none are wanted, and
 /// leaves that one alone.

@@ -1,8 +1,8 @@
 //! The H4 octets of a line that locks, with two packets, and what one octet that is another does to them.
 
-use lcas_packet::{Packet, PacketFault};
-use trace_core::H4Decoder;
-use vc_cell::Ctrl;
+use base_cells::Ctrl;
+use member_rows::lcas_packet::{Packet, PacketFault};
+use text_captures::trace_core::H4Decoder;
 
 /// Octets of a line that locks at the second one: a packet begins at the ninth, and another at the twenty-fifth.
 const OCTETS: [u8; 40] = [

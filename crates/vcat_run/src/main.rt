@@ -2,11 +2,11 @@
 //! of a group on threads.
 #![tactic(auto)]
 
+use base_io::{StdSink, StdSource};
 use command_parts::{NO_MEMORY, given_words};
-use member_ring::OpenGate;
-use outside_io::{StdSink, StdSource};
-use run_command::run_top;
+use command_run::run_top;
 use std::process::ExitCode;
+use thread_rings::OpenGate;
 
 fn main(rt: HostRuntime) -> ExitCode {
     let Ok(words) = given_words(&rt) else {

@@ -2,10 +2,10 @@
 //! commands on one thread.
 #![tactic(auto)]
 
+use base_io::{StdSink, StdSource};
 use command_parts::{NO_MEMORY, given_words};
-use outside_io::{StdSink, StdSource};
+use command_walk::walk_top;
 use std::process::ExitCode;
-use walk_command::walk_top;
 
 fn main(rt: HostRuntime) -> ExitCode {
     let Ok(words) = given_words(&rt) else {

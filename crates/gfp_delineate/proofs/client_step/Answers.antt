@@ -1,9 +1,9 @@
 -- What reading a type header answers is its fault, or that it has none.
 use Rattle.std.proofs.Common.{◌≡◌, [], ◌∷◌, Option, Some, None, refl, sym, ◌∙◌, ap}
 use Rattle.std.specs.Prelude.{Result, Ok, Err, MatchOption}
-use Rattle.session_model.specs.declared.TypeFault.{TypeFault}
-use Rattle.session_model.specs.TypeHeader.{type_fault}
-use Rattle.session_model.specs.Outcome.{outcome_by}
+use Rattle.law_model.specs.declared.TypeFault.{TypeFault}
+use Rattle.law_model.specs.frames.TypeHeader.{type_fault}
+use Rattle.law_model.specs.frames.Outcome.{outcome_by}
 use Rattle.gfp_delineate.proofs.client_step.Goals as goal
 
 -- what the answer of reading a type header says of it

@@ -1,8 +1,8 @@
 -- The lines of the refusals so far are written.
 use Rattle.std.proofs.Common.{ℕ, List, ◌++◌, take}
-use Rattle.outside_io.specs.Start.{Start}
-use Rattle.walk_law.specs.Report.{refused_texts}
-use Rattle.got_lines.specs.Told.{HasText}
+use Rattle.base_io.specs.Start.{Start}
+use Rattle.law_walk.specs.Report.{refused_texts}
+use Rattle.text_got.specs.Told.{HasText}
 use Rattle.command_parts.proofs.report.write_refusals.Given as goal
 
 abbrev pub invariant-loop-item : goal.invariant-loop-item

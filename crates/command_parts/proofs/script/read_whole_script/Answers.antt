@@ -1,6 +1,6 @@
 -- What the input says is a script.
 use Rattle.std.proofs.lemmas.Result.{IfOk-weaker}
-use Rattle.script_read.specs.Script.{script_of}
+use Rattle.text_scripts.specs.script_read.Script.{script_of}
 use Rattle.command_parts.proofs.StopLaws.{said-script}
 use Rattle.command_parts.proofs.script.read_whole_script.Goals as goal
 

@@ -1,6 +1,6 @@
 -- The octets are a header, or become one when a bit is turned over, or no bit makes them one.
 use Rattle.std.proofs.Common.{◌≡◌, ◌-◌, sym, ◌∙◌, ap, arith}
-use Rattle.fcs_model.specs.Near.{turned_below}
+use Rattle.gfp_model.specs.fcs_model.Near.{turned_below}
 use Rattle.gfp_delineate.proofs.TurnLaws.{near-head, near-turned, turned-none, turned-some, turned-end}
 use Rattle.gfp_delineate.proofs.near.read_near.Goals as goal
 

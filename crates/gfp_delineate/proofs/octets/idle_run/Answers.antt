@@ -1,6 +1,6 @@
 -- Each word is two idle headers, and one more may stand behind them.
 use Rattle.std.proofs.Common.{◌≡◌, ◌+◌, ◌*◌, ◌++◌, take, sym, ap, ◌∙◌, arith}
-use Rattle.session_model.proofs.IdleLaws.{idle_header, idles-more}
+use Rattle.law_model.proofs.IdleLaws.{idle_header, idles-more}
 use Rattle.gfp_delineate.proofs.Repeating.{repeated-idles}
 use Rattle.gfp_delineate.proofs.octets.idle_run.Goals as goal
 

@@ -3,7 +3,7 @@ use Rattle.std.proofs.Common.{◌≡◌, ℕ, ◌+◌, ◌-◌, List, [], ◌∷
 use Rattle.std.proofs.Common.{arith}
 use Rattle.std.specs.Prelude.{vec_len}
 use Rattle.std.proofs.lemmas.List.{length-append, length-drop, drop_at, take_all}
-use Rattle.session_model.specs.Scramble.{descrambled_octets}
+use Rattle.law_model.specs.frames.Scramble.{descrambled_octets}
 use Rattle.gfp_scramble.specs.Descrambler.{Stands, unknown}
 use Rattle.gfp_delineate.proofs.ListLaws.{written_after, take_one}
 use Rattle.gfp_delineate.proofs.octets.keep.Goals as goal

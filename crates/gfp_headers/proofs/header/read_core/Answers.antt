@@ -1,9 +1,9 @@
 -- The PLI that is read is that of the octets, so where it gives no header, none does.
 use Rattle.std.proofs.Common.{sym, ap, ◌∙◌}
 use Rattle.std.proofs.lemmas.Nat.{be_bytes_4}
-use Rattle.session_model.specs.Core.{head}
-use Rattle.session_model.proofs.CoreLaws.{head-core_header}
-use Rattle.session_model.proofs.OctetsOfHeader.{header_read, no_other, no_head}
+use Rattle.law_model.specs.frames.Core.{head}
+use Rattle.law_model.proofs.CoreLaws.{head-core_header}
+use Rattle.law_model.proofs.OctetsOfHeader.{header_read, no_other, no_head}
 use Rattle.gfp_headers.proofs.header.read_core.Goals as goal
 
 pub returns-then-is_core-clause-some : goal.returns-then-is_core-clause-some

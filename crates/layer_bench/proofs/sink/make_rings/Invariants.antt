@@ -1,6 +1,6 @@
 -- The ends up to here are fresh.
 use Rattle.std.proofs.Common.{◌≡◌, [], replicate}
-use Rattle.sink_worker.specs.Received.{received}
+use Rattle.thread_sink.specs.Received.{received}
 use Rattle.layer_bench.proofs.sink.make_rings.Given as goal
 
 abbrev pub invariant-loop-line : goal.invariant-loop-line

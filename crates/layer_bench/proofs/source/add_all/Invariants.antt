@@ -1,6 +1,6 @@
 -- As many frames were made as there were turns.
 use Rattle.std.proofs.Common.{◌≡◌}
-use Rattle.source_core.specs.Terminal.{SameKind}
+use Rattle.terminal_source.specs.source_core.Terminal.{SameKind}
 use Rattle.layer_bench.proofs.source.add_all.Given as goal
 
 abbrev pub invariant-loop-frames : goal.invariant-loop-frames

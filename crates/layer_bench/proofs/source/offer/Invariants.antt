@@ -1,6 +1,6 @@
 -- No frame is made.
 use Rattle.std.proofs.Common.{◌≡◌}
-use Rattle.source_core.specs.Terminal.{SameKind}
+use Rattle.terminal_source.specs.source_core.Terminal.{SameKind}
 use Rattle.layer_bench.proofs.source.offer.Given as goal
 
 abbrev pub invariant-loop : goal.invariant-loop

@@ -1,5 +1,5 @@
 -- It is the same log.
-use Rattle.alarm_log.proofs.LogLaws.{same-log, same-then}
+use Rattle.thread_alarms.proofs.AlarmLogLaws.LogLaws.{same-log, same-then}
 use Rattle.layer_tests.proofs.alarms.turn_five.Goals as goal
 
 pub loop-init : goal.loop-init

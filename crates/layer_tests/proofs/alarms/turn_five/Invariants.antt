@@ -1,5 +1,5 @@
 -- It is the same log.
-use Rattle.alarm_log.specs.Logs.{SameLog}
+use Rattle.thread_alarms.specs.alarm_log.Logs.{SameLog}
 use Rattle.layer_tests.proofs.alarms.turn_five.Given as goal
 
 abbrev pub invariant-loop : goal.invariant-loop

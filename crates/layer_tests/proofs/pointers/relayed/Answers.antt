@@ -1,7 +1,7 @@
 -- Nothing was sent yet.
 use Rattle.std.proofs.Common.{[], arith}
-use Rattle.outside_io.specs.Start.{Start}
-use Rattle.au4_pointer.proofs.LinkSteps.{first-carries}
+use Rattle.base_io.specs.Start.{Start}
+use Rattle.member_au4.proofs.Au4PointerLaws.LinkSteps.{first-carries}
 use Rattle.layer_tests.proofs.pointers.relayed.Goals as goal
 
 none : Start

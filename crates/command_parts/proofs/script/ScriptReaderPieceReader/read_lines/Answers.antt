@@ -1,6 +1,6 @@
 -- What the reader of scripts says, in the words of any reader.
 use Rattle.std.proofs.Common.{◌++◌, inl, inr}
-use Rattle.script_read.specs.Script.{script_of}
+use Rattle.text_scripts.specs.script_read.Script.{script_of}
 use Rattle.command_parts.proofs.ScriptLaws.{as_script, room_for}
 use Rattle.command_parts.proofs.StopLaws.{stops_script}
 use Rattle.command_parts.proofs.script.ScriptReaderPieceReader.read_lines.Goals as goal

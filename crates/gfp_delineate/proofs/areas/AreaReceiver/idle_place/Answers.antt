@@ -3,8 +3,8 @@ use Rattle.std.proofs.Common.{true, false, Some, ◌≡◌, ◌-◌, ◌<◌, �
 use Rattle.std.specs.Prelude.{vec_len}
 use Rattle.gfp_delineate.specs.declared.areas.Phase.TheVariants.{SyncHeader}
 use Rattle.gfp_delineate.specs.Areas.{Progress, IsWithin, header_begun_in}
-use Rattle.session_model.proofs.IdleLaws.{idle_header, core_header-idle}
-use Rattle.session_model.specs.Core.{core_header}
+use Rattle.law_model.proofs.IdleLaws.{idle_header, core_header-idle}
+use Rattle.law_model.specs.frames.Core.{core_header}
 use Rattle.gfp_delineate.proofs.Taking.{told}
 use Rattle.gfp_delineate.proofs.IdleSteps.{Takes-idles_from}
 use Rattle.gfp_delineate.proofs.areas.AreaReceiver.idle_place.Goals as goal

@@ -1,6 +1,6 @@
 -- Whole idles are written, or the first octets of one.
 use Rattle.std.proofs.Common.{◌≡◌, ◌+◌, ◌/◌, [], ◌∷◌, ◌++◌, length, sym, ap, arith}
-use Rattle.session_model.proofs.IdleLaws.{core_header-idle}
+use Rattle.law_model.proofs.IdleLaws.{core_header-idle}
 use Rattle.gfp_fill.specs.Areas.{Sender}
 use Rattle.gfp_fill.proofs.AreaSteps.{idle_begun, idles_written}
 use Rattle.gfp_fill.proofs.area_sender.AreaSender.send_idles.Goals as goal

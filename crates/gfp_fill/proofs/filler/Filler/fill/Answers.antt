@@ -2,7 +2,7 @@
 use Rattle.std.proofs.Common.{take, arith, length, ◌+◌}
 use Rattle.gfp_fill.proofs.AreaSteps.{take-written}
 use Rattle.gfp_fill.proofs.StreamSteps.{written-none, written-both}
-use Rattle.session_model.specs.Client.{reached}
+use Rattle.law_model.specs.source.Client.{reached}
 use Rattle.gfp_fill.proofs.filler.Filler.fill.Goals as goal
 
 pub loop-filled-init : goal.loop-filled-init

@@ -1,8 +1,8 @@
 -- Each way in which octets are written is one step of the stream.
 use Rattle.std.proofs.Common.{◌≡◌, ℕ, ◌+◌, ◌/◌, List, [], ◌∷◌, ◌++◌, length, take, map, sym, ◌∙◌, ap, subst, arith}
 use Rattle.std.proofs.lemmas.List.{length-take-le}
-use Rattle.session_model.specs.TypeHeader.{type_header}
-use Rattle.session_model.specs.Piece.{area_of}
+use Rattle.law_model.specs.frames.TypeHeader.{type_header}
+use Rattle.law_model.specs.frames.Piece.{area_of}
 use Rattle.gfp_fill.specs.Areas.{Sender, head_of, StandsIn}
 use Rattle.gfp_fill.proofs.AreaSteps.{none_of}
 use Rattle.gfp_fill.proofs.StreamSteps.{here_written, at_end, client_written, idles_next}

@@ -4,7 +4,7 @@ use Rattle.std.specs.List.{All}
 use Rattle.std.specs.Vec.{vec_capacity}
 use Rattle.gfp_fill.specs.Store.{HasRoom}
 use Rattle.gfp_fill.proofs.queue.FrameQueue.new.Given as goal
-use Rattle.session_model.specs.Limits.{most_waiting}
+use Rattle.law_model.specs.Limits.{most_waiting}
 
 abbrev pub invariant-loop : goal.invariant-loop
 invariant-loop l = record {

@@ -1,7 +1,7 @@
 -- One octet more is descrambled.
 use Rattle.std.proofs.Common.{◌++◌, take, subst, arith}
-use Rattle.session_model.specs.Scramble.{descrambled_octets}
-use Rattle.session_model.proofs.ScrambledOctets.{length-descrambled_octets}
+use Rattle.law_model.specs.frames.Scramble.{descrambled_octets}
+use Rattle.law_model.proofs.ScrambledOctets.{length-descrambled_octets}
 use Rattle.gfp_scramble.specs.Descrambler.{Stands, unknown}
 use Rattle.gfp_scramble.proofs.AreaSteps.{back_more, given_more, front_more, front_all}
 use Rattle.gfp_scramble.proofs.descrambler.Descrambler.octets.Goals as goal

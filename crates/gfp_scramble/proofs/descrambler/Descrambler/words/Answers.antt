@@ -1,7 +1,7 @@
 -- Eight octets more are descrambled.
 use Rattle.std.proofs.Common.{◌++◌, ◌*◌, take, subst, arith}
-use Rattle.session_model.specs.Scramble.{descrambled_octets}
-use Rattle.session_model.proofs.ScrambledOctets.{length-descrambled_octets}
+use Rattle.law_model.specs.frames.Scramble.{descrambled_octets}
+use Rattle.law_model.proofs.ScrambledOctets.{length-descrambled_octets}
 use Rattle.gfp_scramble.specs.Descrambler.{Stands, unknown}
 use Rattle.gfp_scramble.proofs.AreaSteps.{back_eight, given_eight, front_eight, front_all}
 use Rattle.gfp_scramble.proofs.descrambler.Descrambler.words.Goals as goal

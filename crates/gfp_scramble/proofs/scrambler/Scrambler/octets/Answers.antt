@@ -1,7 +1,7 @@
 -- One octet more is scrambled.
 use Rattle.std.proofs.Common.{◌++◌, take, subst}
-use Rattle.session_model.specs.Scramble.{scrambled_octets}
-use Rattle.session_model.proofs.ScrambledOctets.{length-scrambled_octets}
+use Rattle.law_model.specs.frames.Scramble.{scrambled_octets}
+use Rattle.law_model.proofs.ScrambledOctets.{length-scrambled_octets}
 use Rattle.gfp_scramble.specs.Scrambler.{Stands}
 use Rattle.gfp_scramble.proofs.AreaSteps.{back_more, given_more, front_more}
 use Rattle.gfp_scramble.proofs.scrambler.Scrambler.octets.Goals as goal

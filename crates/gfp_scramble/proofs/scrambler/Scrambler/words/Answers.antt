@@ -1,7 +1,7 @@
 -- Eight octets more are scrambled.
 use Rattle.std.proofs.Common.{◌++◌, ◌*◌, take, subst}
-use Rattle.session_model.specs.Scramble.{scrambled_octets}
-use Rattle.session_model.proofs.ScrambledOctets.{length-scrambled_octets}
+use Rattle.law_model.specs.frames.Scramble.{scrambled_octets}
+use Rattle.law_model.proofs.ScrambledOctets.{length-scrambled_octets}
 use Rattle.gfp_scramble.specs.Scrambler.{Stands}
 use Rattle.gfp_scramble.proofs.AreaSteps.{back_eight, given_eight, front_eight}
 use Rattle.gfp_scramble.proofs.scrambler.Scrambler.words.Goals as goal

@@ -1,0 +1,49 @@
+-- The alarms of a session as text, and what is written of it where a write fails.
+use Rattle.std.proofs.Common.{◌≡◌, ℕ, zero, suc, ◌+◌, ◌<◌, List, [], ◌++◌, Option, refl, sym, ◌∙◌, ap, ap₂, subst}
+use Rattle.std.proofs.Common.{arith}
+use Rattle.std.specs.List.{flat_map, range_with_len}
+use Rattle.std.proofs.lemmas.List.{append-nil}
+use Rattle.base_io.specs.Transfer.{Appends}
+use Rattle.base_io.proofs.Parts.{Appends-none}
+use Rattle.text_got.specs.Told.{AppendsSome}
+use Rattle.law_model.specs.declared.script.Script.{Script}
+use Rattle.law_model.specs.session.Leg.{leg_of}
+use Rattle.thread_rings.specs.declared.alarm.Alarm.{Alarm}
+use Rattle.thread_rings.specs.Alarms.{alarms_of_line}
+use Rattle.thread_alarms.specs.alarm_log.Alarms.{of_line}
+use Rattle.thread_alarms.specs.alarm_text.Text.{alarm_texts, lines_text}
+use Rattle.thread_alarms.proofs.AlarmTextLaws.TextLaws.{texts_more}
+use Rattle.law_walk.specs.Rings.{line_cells}
+use Rattle.command_run.specs.Watch.{alarms_text}
+
+texts-same : (f g : ℕ → List ℕ) (n : ℕ) → ((m : ℕ) → m < n → f m ≡ g m) →
+    flat_map f (range_with_len 0 n) ≡ flat_map g (range_with_len 0 n)
+texts-same f g zero same = refl
+texts-same f g (suc n) same =
+    let more : n + 1 ≡ suc n = omega arith in
+    let rest = texts-same f g n (λ m low. same m (omega (arith, low))) in
+    subst (λ k. flat_map f (range_with_len 0 k) ≡ flat_map g (range_with_len 0 k)) more
+    (texts_more f n ∙ ap₂ (λ a b. a ++ b) rest (same n (omega arith)) ∙ sym (texts_more g n))
+
+pub told-text : (script : Script) (list : List Alarm) →
+    ((m : ℕ) → m < script.config.lines → of_line m list ≡ alarms_of_line m (line_cells (leg_of script) m)) →
+    lines_text script.config.lines list ≡ alarms_text script
+told-text script list same =
+    texts-same (λ m. alarm_texts (of_line m list)) (λ m. alarm_texts (alarms_of_line m (line_cells (leg_of script) m)))
+    script.config.lines (λ m low. ap alarm_texts (same m low))
+
+module _ {K : Type 0} (written : K → Option (List ℕ)) (faults : K → ℕ) where
+  -- nothing of a text is a prefix of it, and so is all of it
+  pub some-none : (k : K) (text : List ℕ) → AppendsSome written faults k k text
+  some-none k text = let none = Appends-none written faults k in
+      record { part = []; rest = text; prefix = refl; appended = none.appended; quiet = none.quiet }
+
+  pub some-all : (old new : K) (text : List ℕ) → Appends written faults old new text →
+      AppendsSome written faults old new text
+  some-all old new text all = record {
+    part = text;
+    rest = [];
+    prefix = append-nil text;
+    appended = all.appended;
+    quiet = all.quiet;
+  }

@@ -1,0 +1,29 @@
+-- The session that is handed back, and the end of its report.
+use Rattle.std.specs.Prelude.{ℕ, List, ◌++◌, Option, Some, None}
+use Rattle.law_model.specs.declared.script.Script.{Script}
+use Rattle.law_model.specs.session.Leg.{leg_of}
+use Rattle.text_report.specs.Report.{total_text}
+use Rattle.law_walk.specs.Landed.{refusals_among, totals_among}
+use Rattle.law_walk.specs.Promise.{numbered}
+use Rattle.law_walk.specs.Report.{refused_texts}
+use Rattle.thread_session.specs.session_parts.Session.{IsEnded}
+use Rattle.thread_session.specs.declared.session_run.session.Ended.{Ended}
+use Rattle.command_parts.specs.Ends.{Lent}
+use Rattle.command_parts.specs.Scripts.{HasScript}
+use Rattle.thread_session.specs.session_run.Session.{IsGroupEnded}
+
+-- the session is that of the script: both ends of each ring say so, and so does the group
+pub record HasEnded (script : Script) (ended : Ended) : Type 0 where
+  pub rings : IsEnded script ended.group.tx.items ended.group.back ended.lines.items ended.sink
+  pub group : IsGroupEnded script ended.group
+
+-- that of the script which was read is handed back
+abbrev pub HandsSession : {S : Type 0} → Lent S → Option Ended → Type 0
+HandsSession source None = ⊥
+HandsSession source (Some ended) = (script : Script) × HasScript source script × HasEnded script ended
+
+-- the lines of refused items, and the line of totals
+abbrev pub end_text : Script → List ℕ
+end_text script =
+    refused_texts (refusals_among (leg_of script) (numbered 0 script.items))
+    ++ total_text (totals_among (leg_of script) script.config.ticks script.config.ticks (numbered 0 script.items))

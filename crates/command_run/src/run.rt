@@ -1,0 +1,106 @@
+//! `run`: a script's session is run, and what came of it is written.
+ghost use Rattle.std.specs.Prelude.{◌≡◌, ◌≢◌, ◌≤◌, None, OnOk, OnErr, map, string_bytes};
+ghost use Rattle.base_io.specs.Transfer.{Appends, AppendsPart};
+ghost use Rattle.law_model.specs.declared.script.Script.{Script};
+ghost use Rattle.law_model.specs.session.Leg.{leg_of};
+ghost use Rattle.law_walk.specs.Landed.{totals_among};
+ghost use Rattle.law_walk.specs.Promise.{numbered};
+ghost use Rattle.text_words.specs.Words.{number_in};
+ghost use Rattle.command_parts.specs.Status.{HasRunAt};
+ghost use Rattle.command_parts.specs.Task.{reads};
+ghost use Rattle.command_parts.specs.Ends.{Ends, lent};
+ghost use Rattle.command_run.specs.Run.{run_of, run_words, run_answer};
+ghost use Rattle.command_run.specs.Ended.{HasEnded, HandsSession, end_text};
+
+use crate::command::RunCommand;
+use crate::end::{RunEnd, cut, done, stopped};
+use base_io::{ByteSink, ByteSource, Failed};
+use command_parts::{Stop, read_whole_script, take_back, write_rest};
+use std::alloc::Global;
+use std::sync::Wait;
+use std::thread::Threads;
+use text_got::GotLines;
+use text_report::Totals;
+use text_words::number_within;
+use thread_rings::Gate;
+use thread_session::session_run::{Ended, run_session};
+
+/// The run of a number of workers.
+fn run_of(workers: &[u8]) -> Option<RunCommand>
+    ensures { result ≡ run_of (number_in 1 64 workers.now) }
+{
+    let workers = number_within(workers, 1, 64)? as u8;
+    Some(RunCommand::Run { workers })
+}
+
+/// The words `run WORKERS`.
+pub fn words(words: &[String]) -> Option<RunCommand>
+    ensures { result ≡ run_words (map string_bytes words.now) }
+{
+    match words {
+        [word, workers] if word.as_str() == "run" => run_of(workers.as_bytes()),
+        _ => None,
+    }
+}
+
+/// The numbers of a session.
+fn totals(ended: &Ended) -> Totals
+    ensures { (script : Script) → HasEnded script ended.now → result
+        ≡ totals_among (leg_of script) script.config.ticks script.config.ticks
+        (numbered 0 script.items) }
+{
+    Totals {
+        taken: ended.sink.taken(),
+        got: ended.sink.got(),
+        ..ended.group.totals()
+    }
+}
+
+/// Writes what follows the lines of delivered frames.
+pub fn write_end<K: ByteSink>(ended: &Ended, out: &mut K) -> Result<(), Failed>
+    ensures ok { (script : Script) → HasEnded script ended.now → OnOk result
+        (Appends K.written K.faults out.old out.new (end_text script)) }
+    ensures err { (script : Script) → HasEnded script ended.now → OnErr result
+        (AppendsPart K.written K.faults out.old out.new (end_text script)) }
+{
+    let mut got = GotLines::new(out);
+    write_rest(ended.group.refusals(), &totals(ended), &mut got);
+    let (back, end) = got.finish();
+    take_back(back);
+    end
+}
+
+/// Reads a script, runs its session with so many threads for its lines, and writes what comes of it.
+pub fn run<R: Threads + Wait + Sync, S: ByteSource, K: ByteSink, E: ByteSink, G: Gate>(
+    rt: &R,
+    alloc: Global,
+    workers: u8,
+    script: &mut S,
+    out: &mut K,
+    notes: &mut E,
+    gate: &G,
+) -> RunEnd
+    requires least { 1 ≤ workers }
+    requires most { workers ≤ 64 }
+    ensures ends { Ends (lent S.left S.faults script.old script.new)
+        (lent K.written K.faults out.old out.new) (lent E.written E.faults notes.old notes.new)
+        (reads run_answer) result.status }
+    ensures handed { HasRunAt result.status →
+        HandsSession (lent S.left S.faults script.old script.new) result.ended }
+    ensures kept { result.status ≢ 0 → result.status ≢ 4 → result.ended ≡ None }
+{
+    let script = match read_whole_script(alloc, script) {
+        Ok(script) => script,
+        Err(stop) => return stopped(stop, notes),
+    };
+    let Ok(ended) = run_session(rt, alloc, script, workers, out, gate) else {
+        return stopped(Stop::Memory, notes);
+    };
+    if ended.sink.failed() {
+        return cut(ended, notes);
+    }
+    match write_end(&ended, out) {
+        Ok(()) => done(ended),
+        Err(Failed) => cut(ended, notes),
+    }
+}

@@ -1,0 +1,256 @@
+-- What is known of a command by the words that it was, and of its task.
+use Rattle.std.proofs.Common.{◌≡◌, ◌<◌, ◌≤◌, ℕ, List, Option, Some, None, IfSome, Bool, true, false, ◌&&◌, nat_le, inl}
+use Rattle.std.proofs.Common.{inr, refl, sym, ◌∙◌, ap, subst, arith, if◌then◌else◌, map}
+use Rattle.std.specs.Prelude.{String, string_bytes, IsNone, nat_lt, length, drop, ◌==◌, bytes_eq, codes}
+use Rattle.std.specs.Option.{option_or}
+use Rattle.std.specs.declared.alloc.Global.{Global}
+use Rattle.std.proofs.lemmas.Bool.{cases_Bool, and_parts, leb-true, ltb-true}
+use Rattle.text_lines.specs.Words.{number_of}
+use Rattle.text_words.specs.Words.{is_number, number_in, are_plain}
+use Rattle.law_model.specs.session.Valid.{IsWithin}
+use Rattle.text_scripts.specs.rate_load.Lines.{IsRateLoad}
+use Rattle.command_parts.specs.Task.{Answer, Task, none, makes, IsCommand}
+use Rattle.command_parts.specs.Ends.{Lent, Kept, IsTold, Ends, no_source, no_command}
+use Rattle.command_parts.specs.Stops.{note_of}
+use Rattle.command_parts.specs.Status.{HasRunAt}
+use Rattle.command_parts.specs.declared.stop.Stop.TheVariants.{Memory}
+use Rattle.command_parts.proofs.StopLaws.{made-beside, ends-no-memory}
+use Rattle.command_walk.specs.declared.command.WalkCommand.{WalkCommand}
+use Rattle.command_walk.specs.declared.command.WalkCommand.TheVariants.{Walk, Trace, Fates, Capture, Gfp, Frames}
+use Rattle.command_walk.specs.declared.command.WalkCommand.TheVariants.{Decode, Noise, Au4, Channels, Pair, Make}
+use Rattle.command_walk.specs.declared.command.WalkCommand.TheVariants.{Stream}
+use Rattle.command_walk.specs.rooms.Walk.{word_at, is_word, walk_words}
+use Rattle.command_walk.specs.rooms.Trace.{trace_words}
+use Rattle.command_walk.specs.rooms.Fates.{fates_words}
+use Rattle.command_walk.specs.rooms.Capture.{capture_words}
+use Rattle.command_walk.specs.rooms.Gfp.{gfp_words}
+use Rattle.command_walk.specs.rooms.Frames.{frames_words}
+use Rattle.command_walk.specs.rooms.Decode.{decode_words}
+use Rattle.command_walk.specs.rooms.Noise.{noise_words}
+use Rattle.command_walk.specs.rooms.Au4.{au4_words}
+use Rattle.command_walk.specs.rooms.Channels.{channels_words}
+use Rattle.command_walk.specs.rooms.Pair.{pair_words}
+use Rattle.command_walk.specs.rooms.Make.{load_of, make_words}
+use Rattle.command_walk.specs.rooms.Stream.{ticks_of, rate_of, numbers_in, stream_words}
+use Rattle.command_walk.specs.Commands.{command_of, task_at, command_in, task_for, task_of, usage}
+
+-- ---- numbers
+-- the numbers of a command are within their bounds
+abbrev pub Fits : WalkCommand → Type 0
+Fits Walk = Unit {0}
+Fits Trace = Unit {0}
+Fits Fates = Unit {0}
+Fits Capture = Unit {0}
+Fits Gfp = Unit {0}
+Fits Frames = Unit {0}
+Fits Decode = Unit {0}
+Fits Noise = Unit {0}
+Fits Au4 = Unit {0}
+Fits Channels = Unit {0}
+Fits Pair = Unit {0}
+Fits (Make number lines ticks) = IsWithin 1 64 lines × IsWithin 1 1000000 ticks
+Fits (Stream load) = IsRateLoad load
+
+number-fits : (least most : ℕ) (w : List ℕ) → IfSome (number_in least most w) (IsWithin least most)
+number-fits least most w =
+    elim (cases_Bool (is_number w && (nat_le least (number_of w) && nat_le (number_of w) most))) [
+      | inl within ↦
+          let both = and_parts (nat_le least (number_of w)) (nat_le (number_of w) most)
+          (and_parts (is_number w) (nat_le least (number_of w) && nat_le (number_of w) most) within).1 in
+          rw within (leb-true least (number_of w) both.0, leb-true (number_of w) most both.1)
+      | inr outside ↦ rw outside tt
+    ]
+
+or-fits : (f g : Option WalkCommand) → IfSome f Fits → IfSome g Fits → IfSome (option_or f g) Fits
+or-fits None g a b = b
+or-fits (Some command) g a b = a
+
+if-fits : (test : Bool) (f : Option WalkCommand) → IfSome f Fits → IfSome (if test then f else None) Fits
+if-fits true f fits = fits
+if-fits false f fits = tt
+
+load-fits : (number lines ticks : Option ℕ) → IfSome lines (IsWithin 1 64) → IfSome ticks (IsWithin 1 1000000) →
+    IfSome (load_of number lines ticks) Fits
+load-fits (Some number) (Some lines) (Some ticks) a b = (a, b)
+load-fits (Some number) (Some lines) None a b = tt
+load-fits (Some number) None ticks a b = tt
+load-fits None lines ticks a b = tt
+
+-- the ticks from one to before another
+abbrev AreTicks : ℕ × ℕ → Type 0
+AreTicks ticks = (ticks.0 < ticks.1) × (ticks.1 ≤ 1000000)
+
+ticks-fit : (first end : Option ℕ) → IfSome end (IsWithin 0 1000000) → IfSome (ticks_of first end) AreTicks
+ticks-fit (Some first) (Some end) a =
+    elim (cases_Bool (nat_lt first end)) [
+      | inl less ↦ rw less (ltb-true first end less, a.1)
+      | inr not ↦ rw not tt
+    ]
+ticks-fit (Some first) None a = tt
+ticks-fit None end a = tt
+
+rate-fits : (octets mbits : Option ℕ) (ticks : Option (ℕ × ℕ)) (number : Option ℕ) → IfSome octets (IsWithin 64 9600) →
+    IfSome mbits (IsWithin 1 400000)
+    → IfSome ticks AreTicks → IfSome (rate_of octets mbits ticks number) Fits
+rate-fits (Some octets) (Some mbits) (Some ticks) (Some number) a b c =
+    record { least = a.0; most = a.1; some = b.0; fast = b.1; before = c.0; end = c.1 }
+rate-fits (Some octets) (Some mbits) (Some ticks) None a b c = tt
+rate-fits (Some octets) (Some mbits) None number a b c = tt
+rate-fits (Some octets) None ticks number a b c = tt
+rate-fits None mbits ticks number a b c = tt
+
+-- ---- words
+walk-fits : (words : List (List ℕ)) → IfSome (walk_words words) Fits
+walk-fits words = if-fits (is_word (codes "walk") words) (Some Walk) tt
+
+trace-fits : (words : List (List ℕ)) → IfSome (trace_words words) Fits
+trace-fits words = if-fits (is_word (codes "trace") words) (Some Trace) tt
+
+fates-fits : (words : List (List ℕ)) → IfSome (fates_words words) Fits
+fates-fits words = if-fits (is_word (codes "fates") words) (Some Fates) tt
+
+capture-fits : (words : List (List ℕ)) → IfSome (capture_words words) Fits
+capture-fits words = if-fits (is_word (codes "capture") words) (Some Capture) tt
+
+gfp-fits : (words : List (List ℕ)) → IfSome (gfp_words words) Fits
+gfp-fits words = if-fits (is_word (codes "gfp") words) (Some Gfp) tt
+
+frames-fits : (words : List (List ℕ)) → IfSome (frames_words words) Fits
+frames-fits words = if-fits (is_word (codes "frames") words) (Some Frames) tt
+
+noise-fits : (words : List (List ℕ)) → IfSome (noise_words words) Fits
+noise-fits words = if-fits (is_word (codes "noise") words) (Some Noise) tt
+
+au4-fits : (words : List (List ℕ)) → IfSome (au4_words words) Fits
+au4-fits words = if-fits (is_word (codes "au4") words) (Some Au4) tt
+
+channels-fits : (words : List (List ℕ)) → IfSome (channels_words words) Fits
+channels-fits words = if-fits (is_word (codes "channels") words) (Some Channels) tt
+
+pair-fits : (words : List (List ℕ)) → IfSome (pair_words words) Fits
+pair-fits words = if-fits (is_word (codes "pair") words) (Some Pair) tt
+
+decode-fits : (words : List (List ℕ)) → IfSome (decode_words words) Fits
+decode-fits words = if-fits (is_word (codes "decode") words) (Some Decode) tt
+
+make-fits : (words : List (List ℕ)) → IfSome (make_words words) Fits
+make-fits words =
+    let number = number_in 0 18446744073709551615 (word_at 1 words) in
+    let lines = number_in 1 64 (word_at 2 words) in
+    let ticks = number_in 1 1000000 (word_at 3 words) in
+    if-fits (length words == 4 && bytes_eq (word_at 0 words) (codes "make")) (load_of number lines ticks)
+    (load-fits number lines ticks (number-fits 1 64 (word_at 2 words)) (number-fits 1 1000000 (word_at 3 words)))
+
+numbers-fit : (ws : List (List ℕ)) → IfSome (numbers_in ws) Fits
+numbers-fit ws =
+    let octets = number_in 64 9600 (word_at 0 ws) in
+    let mbits = number_in 1 400000 (word_at 1 ws) in
+    let first = number_in 0 1000000 (word_at 2 ws) in
+    let end = number_in 0 1000000 (word_at 3 ws) in
+    let number = number_in 0 18446744073709551615 (word_at 4 ws) in
+    if-fits (length ws == 5) (rate_of octets mbits (ticks_of first end) number)
+    (rate-fits octets mbits (ticks_of first end) number (number-fits 64 9600 (word_at 0 ws))
+    (number-fits 1 400000 (word_at 1 ws))
+    (ticks-fit first end (number-fits 0 1000000 (word_at 3 ws))))
+
+stream-fits : (words : List (List ℕ)) → IfSome (stream_words words) Fits
+stream-fits words =
+    if-fits (nat_le 1 (length words) && bytes_eq (word_at 0 words) (codes "stream")) (numbers_in (drop 1 words))
+    (numbers-fit (drop 1 words))
+
+named-fits : (words : List (List ℕ)) → IfSome (command_of words) Fits
+named-fits words =
+    let walks = walk_words words in
+    let traces = option_or walks (trace_words words) in
+    let fates = option_or traces (fates_words words) in
+    let captures = option_or fates (capture_words words) in
+    let gfps = option_or captures (gfp_words words) in
+    let frames = option_or gfps (frames_words words) in
+    let decodes = option_or frames (decode_words words) in
+    let noises = option_or decodes (noise_words words) in
+    let links = option_or noises (au4_words words) in
+    let channels = option_or links (channels_words words) in
+    let pairs = option_or channels (pair_words words) in
+    let makes = option_or pairs (make_words words) in
+    or-fits makes (stream_words words)
+    (or-fits pairs (make_words words)
+    (or-fits channels (pair_words words)
+    (or-fits links (channels_words words)
+    (or-fits noises (au4_words words)
+    (or-fits decodes (noise_words words)
+    (or-fits frames (decode_words words)
+    (or-fits gfps (frames_words words)
+    (or-fits captures (gfp_words words)
+    (or-fits fates (capture_words words)
+    (or-fits traces (fates_words words)
+    (or-fits walks (trace_words words) (walk-fits words) (trace-fits words)) (fates-fits words)) (capture-fits words))
+    (gfp-fits words))
+    (frames-fits words))
+    (decode-fits words)) (noise-fits words)) (au4-fits words))
+    (channels-fits words)) (pair-fits words)) (make-fits words)) (stream-fits words)
+
+pub fits : (words : List (String Global)) (command : WalkCommand) → command_in words ≡ Some command → Fits command
+fits words command is =
+    let P : Option WalkCommand → Type 0 = λ o. IfSome o Fits in
+    subst P is (if-fits (are_plain (map string_bytes words)) (command_of (map string_bytes words))
+    (named-fits (map string_bytes words)))
+
+-- ---- what stands of any command
+pub any-command : (P : WalkCommand → Type 0) (o : Option WalkCommand) → ((command : WalkCommand) → P command) →
+    IfSome o P
+any-command P None all = tt
+any-command P (Some command) all = all command
+
+pub no-such-command : (P : WalkCommand → Type 0) (o : Option WalkCommand) → IsNone o → IfSome o P
+no-such-command P None is = tt
+no-such-command P (Some command) is = absurd cc
+
+none-task : (o : Option WalkCommand) → IsNone o → task_for o ≡ none usage
+none-task None is = refl
+none-task (Some command) is = absurd cc
+
+is-command : (o : Option WalkCommand) → (IsNone o → ⊥) → IsCommand (task_for o)
+is-command None some = some refl
+is-command (Some Walk) some = tt
+is-command (Some Trace) some = tt
+is-command (Some Fates) some = tt
+is-command (Some Capture) some = tt
+is-command (Some Gfp) some = tt
+is-command (Some Frames) some = tt
+is-command (Some Decode) some = tt
+is-command (Some Noise) some = tt
+is-command (Some Au4) some = tt
+is-command (Some Channels) some = tt
+is-command (Some Pair) some = tt
+is-command (Some (Make number lines ticks)) some = tt
+is-command (Some (Stream load)) some = tt
+
+pub not-run : (status : ℕ) → HasRunAt status → status ≡ 7 → ⊥
+not-run status (inl at) is = omega (arith, at, is)
+not-run status (inr at) is = omega (arith, at, is)
+
+-- ---- the ends
+module _ {S K E : Type 0} (source : Lent S) (out : Lent K) (notes : Lent E) (words : List (String Global))
+    (status : ℕ) where
+  pub ends-made : (command : WalkCommand) (answer : Answer) → command_in words ≡ Some command →
+      task_at command ≡ makes answer → Kept source
+      → Ends no_source out notes (makes answer) status → Ends source out notes (task_of words) status
+  ends-made command answer is task kept ends =
+      let P : Task → Type 0 = λ task. Ends source out notes task status in
+      subst P (sym (ap task_for is ∙ task)) (made-beside source out notes answer status kept ends)
+
+  pub ends-usage : IsNone (command_in words) → status ≡ 2 → Kept source → Kept out → IsTold notes usage →
+      Ends source out notes (task_of words) status
+  ends-usage is at kept nothing told =
+      no_command at (record {
+        usage = usage;
+        none = none-task (command_in words) is;
+        unread = kept;
+        nothing = nothing;
+        told = told;
+      })
+
+  pub ends-wanting : (IsNone (command_in words) → ⊥) → status ≡ 7 → Kept source → Kept out →
+      IsTold notes (note_of Memory) → Ends source out notes (task_of words) status
+  ends-wanting some at kept nothing told =
+      ends-no-memory source out notes (task_of words) status (is-command (command_in words) some) at kept nothing told

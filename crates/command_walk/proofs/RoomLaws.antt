@@ -1,0 +1,65 @@
+-- How the rooms of the commands end.
+use Rattle.std.proofs.Common.{◌≡◌, ◌≤◌, ℕ, List, length, Option, Some, IfSome, Result, Ok, Err, refl, sym, ◌∙◌, ap}
+use Rattle.std.proofs.Common.{subst, inl, inr, arith}
+use Rattle.base_io.specs.Transfer.{AppendsPart}
+use Rattle.law_model.specs.declared.script.Script.{Script}
+use Rattle.law_model.specs.session.Counts.{Counts}
+use Rattle.text_scripts.specs.declared.script_read.fault.ScriptFault.{ScriptFault}
+use Rattle.text_scripts.specs.script_read.Script.{script_of}
+use Rattle.law_headline.specs.Texts.{counts_in, walk_text}
+use Rattle.law_headline.specs.Headline.{IsWalkHeadline}
+use Rattle.law_headline.proofs.HeadlineLaws.{walk_headline}
+use Rattle.walk_engine.specs.walk_core.Moved.{Walked}
+use Rattle.command_parts.specs.Task.{Answer, reads}
+use Rattle.command_parts.specs.Ends.{Lent, Takes, WritesAll, Ends}
+use Rattle.command_parts.specs.Scripts.{HasScript, answer_of, script_answer}
+use Rattle.command_parts.proofs.EndLaws.{is-done, known-text}
+use Rattle.command_walk.specs.declared.command.WalkCommand.{WalkCommand}
+use Rattle.command_walk.specs.Ended.{HandsScript, StopsBoth}
+
+-- the walk of a script
+walk-is : (walk : Walked) (script : Script) (s : Counts) → walk.script ≡ script → walk.counts ≡ s →
+    walk ≡ record { script = script; counts = s }
+walk-is walk script s same counts =
+    let f : Script → Walked = λ script. record { script = script; counts = walk.counts } in
+    let g : Counts → Walked = λ s. record { script = script; counts = s } in
+    ap f same ∙ ap g counts
+
+pub hands-script : {S : Type 0} (source : Lent S) (script : Script) (walk : Walked) → HasScript source script →
+    walk.script ≡ script → walk.counts ≡ counts_in script
+    → HandsScript source (Some walk)
+hands-script source script walk has mine counts =
+    (script, has, ap Some (walk-is walk script (counts_in script) mine counts))
+
+-- ---- notes that go nowhere don't fail
+pub stops-out : {K E : Type 0} (k_written : K → Option (List ℕ)) (k_faults : K → ℕ) (k_old k_new : K) (text : List ℕ)
+    (e_written : E → Option (List ℕ)) (e_old e_new : E) (trace : List ℕ)
+    → StopsBoth k_written k_faults k_old k_new text e_written (λ e. 0) e_old e_new trace →
+    AppendsPart k_written k_faults k_old k_new text
+stops-out k_written k_faults k_old k_new text e_written e_old e_new trace (inl both) = both.0
+stops-out k_written k_faults k_old k_new text e_written e_old e_new trace (inr both) =
+    absurd (let e = both.1.counted in omega (arith, e))
+
+-- ---- the headline
+module _ {S K E : Type 0} (source : Lent S) (out : Lent K) (notes : Lent E) (answer : Script → Answer) (status : ℕ)
+    (tells : (script : Script) → WritesAll out notes (answer script) → Takes out (walk_text script)) where
+  abbrev IsTold : List ℕ → Type 0
+  IsTold text = (written : List ℕ) × Takes out written × IsWalkHeadline text written
+
+  told-by : (text : List ℕ) (of : Result Script ScriptFault) → script_of text ≡ of → length text ≤ 67108864
+      → WritesAll out notes (answer_of answer of) → IsTold text
+  told-by text (Ok script) is few all = (walk_text script, tells script all, walk_headline text script few is)
+  told-by text (Err fault) is few all = absurd all
+
+  pub tells-headline : Ends source out notes (reads (script_answer answer)) status → status ≡ 0 →
+      IfSome (source.octets source.old) IsTold
+  tells-headline ends at =
+      let it = is-done source out notes (reads (script_answer answer)) status ends at in
+      let text = it.meets.0 in
+      known-text source IsTold text it.meets.1
+      (told-by text (script_of text) refl it.meets.1.fits (subst (WritesAll out notes) (sym it.meets.2) it.written))
+
+-- ---- words
+pub some-command : (P : WalkCommand → Type 0) (o : Option WalkCommand) (command : WalkCommand) → o ≡ Some command →
+    P command → IfSome o P
+some-command P o command is holds = let Q : Option WalkCommand → Type 0 = λ o. IfSome o P in subst Q (sym is) holds

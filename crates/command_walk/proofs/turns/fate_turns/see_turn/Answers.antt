@@ -1,0 +1,12 @@
+-- The walk goes on by a turn's events.
+use Rattle.law_model.specs.session.Leg.{leg_of}
+use Rattle.law_walk.specs.Walk.{walk_plan}
+use Rattle.command_walk.specs.Told.{events_of}
+use Rattle.command_walk.proofs.SeeLaws.{walked-on}
+use Rattle.command_walk.proofs.turns.fate_turns.see_turn.Goals as goal
+
+pub see_since-requires-clause-walked : goal.see_since-requires-clause-walked
+see_since-requires-clause-walked c =
+    walked-on c.args.walk.now.script c.silent_turn.new.walk.script c.args.walk.now.counts c.silent_turn.new.walk.counts
+    (events_of (walk_plan (leg_of c.args.walk.now.script)) c.args.turn)
+    c.requires.walked c.silent_turn.ensures.script c.silent_turn.ensures.counts

@@ -1,0 +1,26 @@
+-- The walk that is handed back, and where two texts stop, as private clauses say it. `written` and `faults` are what a
+-- sink tells of its
+-- octets, where it tells them, and its count of faults.
+use Rattle.std.specs.Prelude.{◌≡◌, ◌⊎◌, ℕ, List, Option, Some}
+use Rattle.base_io.specs.Transfer.{AppendsPart}
+use Rattle.law_model.specs.declared.script.Script.{Script}
+use Rattle.law_headline.specs.Texts.{counts_in}
+use Rattle.walk_engine.specs.walk_core.Moved.{Walked}
+use Rattle.text_got.specs.Told.{AppendsSome}
+use Rattle.command_parts.specs.Ends.{Lent}
+use Rattle.command_parts.specs.Scripts.{HasScript}
+
+-- the walk of a script, with the counts of its events
+abbrev pub IsWalkOf : Script → Option Walked → Type 0
+IsWalkOf script walk = walk ≡ Some (record { script = script; counts = counts_in script })
+
+-- that of the script which was read
+abbrev pub HandsScript : {S : Type 0} → Lent S → Option Walked → Type 0
+HandsScript source walk = (script : Script) × HasScript source script × IsWalkOf script walk
+
+-- of two texts, each on its output, prefixes are written up to the first fault on either
+abbrev pub StopsBoth : {K E : Type 0} → (K → Option (List ℕ)) → (K → ℕ) → K → K → List ℕ → (E → Option (List ℕ)) →
+    (E → ℕ) → E → E → List ℕ → Type 0
+StopsBoth k_written k_faults k_old k_new text e_written e_faults e_old e_new trace =
+    (AppendsPart k_written k_faults k_old k_new text × AppendsSome e_written e_faults e_old e_new trace)
+    ⊎ (AppendsSome k_written k_faults k_old k_new text × AppendsPart e_written e_faults e_old e_new trace)

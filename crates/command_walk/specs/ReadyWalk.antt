@@ -1,0 +1,16 @@
+-- A walk before any event, with what a command reads of its script beside it.
+use Rattle.std.specs.Prelude.{◌≡◌}
+use Rattle.law_model.specs.declared.script.Script.{Script}
+use Rattle.law_model.specs.session.Leg.{leg_of}
+use Rattle.law_model.specs.session.Valid.{IsValid}
+use Rattle.law_model.specs.session.Counts.{begin}
+use Rattle.law_walk.specs.Walk.{walk_plan}
+use Rattle.command_walk.specs.declared.turns.ready.ReadyWalk.{ReadyWalk}
+
+pub record IsBegun (own : Script) (begun : ReadyWalk) : Type 0 where
+  pub valid : IsValid own
+  pub script : begun.walk.script ≡ own
+  pub counts : begun.walk.counts ≡ begin (walk_plan (leg_of own))
+  pub events : begun.lines.items ≡ own.events
+  pub lines : begun.size.lines ≡ own.config.lines
+  pub ticks : begun.size.ticks ≡ own.config.ticks

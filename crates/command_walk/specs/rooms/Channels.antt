@@ -1,0 +1,24 @@
+-- `channels`: frames of clients in a stream that they share by channel numbers, and of which octets don't arrive.
+use Rattle.std.specs.Prelude.{ℕ, List, codes, Option, Some, None, Result, Ok, Err, if◌then◌else◌}
+use Rattle.gfp_channels.specs.declared.channel_link.fault.LineFault.{LineFault}
+use Rattle.gfp_channels.specs.channel_link.Helps.{kind_of, help_of}
+use Rattle.gfp_channels.specs.declared.channel_link.draft.ChannelPlan.{ChannelPlan}
+use Rattle.gfp_channels.specs.channel_link.Plan.{plan_of}
+use Rattle.gfp_channels.specs.channel_link.Text.{plan_text}
+use Rattle.command_parts.specs.declared.stop.Refusal.TheVariants.{Line}
+use Rattle.command_parts.specs.Task.{Answer, writes, refuses}
+use Rattle.command_parts.specs.Faults.{line_text}
+use Rattle.command_walk.specs.declared.command.WalkCommand.{WalkCommand}
+use Rattle.command_walk.specs.declared.command.WalkCommand.TheVariants.{Channels}
+use Rattle.command_walk.specs.rooms.Walk.{is_word}
+
+abbrev pub channels_words : List (List ℕ) → Option WalkCommand
+channels_words words = if is_word (codes "channels") words then Some Channels else None
+
+-- of the plan that a text says, or of its first faulty line
+abbrev pub shared : Result ChannelPlan (ℕ × LineFault) → Answer
+shared (Ok plan) = writes (plan_text plan)
+shared (Err at) = refuses Line (line_text at.0 (kind_of at.1) (help_of at.1))
+
+abbrev pub channels_answer : List ℕ → Answer
+channels_answer text = shared (plan_of text)

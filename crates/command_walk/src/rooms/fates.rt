@@ -1,0 +1,53 @@
+//! `fates`: a script's walk is made, and what became of each of its frames is written, with the rows that
+//! were spoiled and what was confirmed after each break.
+ghost use Rattle.std.specs.Prelude.{◌≡◌, ◌≢◌, None, map, string_bytes};
+ghost use Rattle.command_parts.specs.Status.{HasRunAt};
+ghost use Rattle.command_parts.specs.Task.{reads};
+ghost use Rattle.command_parts.specs.Ends.{Ends, lent};
+ghost use Rattle.command_walk.specs.rooms.Fates.{fates_words, fates_answer};
+ghost use Rattle.command_walk.specs.Ended.{HandsScript};
+
+use crate::command::WalkCommand;
+use crate::end::{WalkEnd, cut, done, stopped};
+use crate::turns::fate_turns::see_script;
+use base_io::{ByteSink, ByteSource, Failed};
+use fate_walks::walk_fates::write_fates;
+use std::alloc::Global;
+
+/// The words `fates`.
+pub fn words(words: &[String]) -> Option<WalkCommand>
+    ensures { result ≡ fates_words (map string_bytes words.now) }
+{
+    match words {
+        [word] if word.as_str() == "fates" => Some(WalkCommand::Fates),
+        _ => None,
+    }
+}
+
+/// Reads a script, makes its walk and writes what became of each frame. All memory is taken before the first
+/// octet is written.
+pub fn fates<S: ByteSource, K: ByteSink, E: ByteSink>(
+    alloc: Global,
+    script: &mut S,
+    out: &mut K,
+    notes: &mut E,
+) -> WalkEnd
+    // That the text says `starts true` exactly where what is confirmed first after each break is the place of
+    // a piece, and that then the frames with the fate `got` are the delivered ones, in order and each once,
+    // is `fate_law` of the crate of that name.
+    ensures ends { Ends (lent S.left S.faults script.old script.new)
+        (lent K.written K.faults out.old out.new) (lent E.written E.faults notes.old notes.new)
+        (reads fates_answer) result.status }
+    ensures handed { HasRunAt result.status →
+        HandsScript (lent S.left S.faults script.old script.new) result.walk }
+    ensures kept { result.status ≢ 0 → result.status ≢ 4 → result.walk ≡ None }
+{
+    let watched = match see_script(alloc, script) {
+        Ok(watched) => watched,
+        Err(stop) => return stopped(stop, notes),
+    };
+    match write_fates(&watched.walk, &watched.seen, out) {
+        Ok(()) => done(Some(watched.walk)),
+        Err(Failed) => cut(Some(watched.walk), notes),
+    }
+}

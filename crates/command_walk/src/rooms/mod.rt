@@ -1,0 +1,15 @@
+//! The commands, each in a room of its own: what it reads, runs and writes, and how it ends.
+
+pub(super) mod au4;
+pub(super) mod capture;
+pub(super) mod channels;
+pub(super) mod decode;
+pub(super) mod fates;
+pub(super) mod frames;
+pub(super) mod gfp;
+pub(super) mod make;
+pub(super) mod noise;
+pub(super) mod pair;
+pub(super) mod stream;
+pub(super) mod trace;
+pub(super) mod walk;

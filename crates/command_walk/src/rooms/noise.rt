@@ -1,0 +1,71 @@
+//! `noise`: frames with an FCS are sent, bits of their stream are turned over, and the frames that get
+//! through are written.
+ghost use Rattle.std.specs.Prelude.{◌≡◌, None, map, string_bytes};
+ghost use Rattle.command_parts.specs.Task.{reads};
+ghost use Rattle.command_parts.specs.Ends.{Ends, lent};
+ghost use Rattle.command_parts.specs.Faults.{line_text};
+ghost use Rattle.gfp_noise.specs.noise_link.Helps.{kind_of, help_of};
+ghost use Rattle.command_walk.specs.rooms.Noise.{noise_words, noise_answer};
+
+use crate::command::WalkCommand;
+use crate::end::{WalkEnd, cut, done, stopped};
+use base_io::{ByteSink, ByteSource, Failed};
+use command_parts::{Fault, Refusal, Stop, line_fault, read_input};
+use gfp_noise::noise_link::{LineFault, NoiseFault, NoiseRun, noise_help, read_noise};
+use std::alloc::Global;
+
+/// Room for what is said of how to write a line.
+const HELP_ROOM: usize = 128;
+
+/// The words `noise`.
+pub fn words(words: &[String]) -> Option<WalkCommand>
+    ensures { result ≡ noise_words (map string_bytes words.now) }
+{
+    match words {
+        [word] if word.as_str() == "noise" => Some(WalkCommand::Noise),
+        _ => None,
+    }
+}
+
+/// A line of the input is faulty.
+fn faulty(number: u64, fault: LineFault) -> Fault
+    ensures why { result.why ≡ Refusal.Line }
+    ensures note { result.note.items ≡ line_text number (kind_of fault) (help_of fault) }
+{
+    let mut help = [0u8; HELP_ROOM];
+    let end = noise_help(fault, &mut help);
+    line_fault(number, fault.kind(), &help[..end])
+}
+
+/// Reads frames and flips, and writes the frames that get through.
+pub fn noise<S: ByteSource, K: ByteSink, E: ByteSink>(
+    alloc: Global,
+    script: &mut S,
+    out: &mut K,
+    notes: &mut E,
+) -> WalkEnd
+    ensures ends { Ends (lent S.left S.faults script.old script.new)
+        (lent K.written K.faults out.old out.new) (lent E.written E.faults notes.old notes.new)
+        (reads noise_answer) result.status }
+    ensures kept { result.walk ≡ None }
+{
+    let text = match read_input(alloc, script) {
+        Ok(text) => text,
+        Err(stop) => return stopped(stop, notes),
+    };
+    let noise = match read_noise(alloc, text.as_slice()) {
+        Ok(noise) => noise,
+        Err(NoiseFault::Memory) => return stopped(Stop::Memory, notes),
+        Err(NoiseFault::Line { number, fault }) => {
+            return stopped(Stop::Refused(faulty(number, fault)), notes);
+        }
+    };
+    let run = match NoiseRun::new(alloc, &noise) {
+        Ok(run) => run,
+        Err(_) => return stopped(Stop::Memory, notes),
+    };
+    match run.write(&noise, out) {
+        Ok(()) => done(None),
+        Err(Failed) => cut(None, notes),
+    }
+}

@@ -1,0 +1,189 @@
+//! A walk is made turn by turn, and after each turn it is seen which lines carry payload under the packet
+//! that was begun, whether the row that was taken is whole and why not, and what is confirmed after it.
+//! Behind the last turn stand the places of the frames.
+ghost use Rattle.std.specs.Prelude.{◌≡◌, ◌<◌, List, replicate, IfOk, IfErr, OnOk};
+ghost use Rattle.std.specs.List.{flat_map};
+ghost use Rattle.law_model.specs.declared.script.Script.{Script};
+ghost use Rattle.law_model.specs.declared.walk.Event.{Event};
+ghost use Rattle.law_model.specs.session.Leg.{leg_of};
+ghost use Rattle.law_model.specs.session.Valid.{IsValid, IsEvent};
+ghost use Rattle.law_model.specs.session.Counts.{begin, run, run_line, drain, bound};
+ghost use Rattle.law_walk.specs.Walk.{walk_plan, IsWalked};
+ghost use Rattle.law_headline.specs.Texts.{counts_in};
+ghost use Rattle.command_parts.specs.Task.{Answer};
+ghost use Rattle.command_parts.specs.Ends.{lent};
+ghost use Rattle.command_parts.specs.Scripts.{HasScript, script_answer};
+ghost use Rattle.command_parts.specs.Stops.{StopsReading};
+ghost use Rattle.command_walk.specs.Told.{events_of, IsTurn};
+ghost use Rattle.fate_walks.specs.walk_fates.Seen.{Sees};
+ghost use Rattle.fate_walks.specs.walk_fates.Lines.{SeesWalk};
+
+use crate::turns::events::{Turn, silent_turn, turns_of};
+use crate::turns::ready::{LinesAndTicks, read_walk};
+use base_io::ByteSource;
+use command_parts::Stop;
+use fate_walks::walk_fates::{SeenRows, SeenWalk, nothing_seen, place_frames, see_since};
+use law_model::EventLine;
+use std::alloc::{AllocError, Global};
+use walk_engine::walk_core::Walk;
+
+/// The walk of a script at its end, and what was seen of it.
+#[derive(Drop)]
+pub struct WatchedWalk {
+    /// The walk, after its last event.
+    pub walk: Walk,
+    /// What was seen of it, with the places of its frames.
+    pub seen: SeenWalk,
+}
+
+/// Makes a turn, and sees what came of it.
+fn see_turn(walk: &mut Walk, turn: Turn, seen: &mut SeenRows) -> Result<(), AllocError>
+    requires valid { IsValid walk.old.script }
+    requires walked { IsWalked (leg_of walk.old.script) walk.old.counts }
+    requires turn { IsTurn (walk_plan (leg_of walk.old.script)) turn }
+    requires seen { Sees
+        (leg_of walk.old.script) walk.old.counts.ticks walk.old.counts.rows seen.old }
+    ensures script { walk.new.script ≡ walk.old.script }
+    ensures counts { let plan = walk_plan (leg_of walk.old.script) in
+        walk.new.counts ≡ run plan walk.old.counts (events_of plan turn) }
+    ensures seen { OnOk result
+        (Sees (leg_of walk.new.script) walk.new.counts.ticks walk.new.counts.rows seen.new) }
+{
+    let totals = walk.totals();
+    silent_turn(walk, turn);
+    see_since(walk, totals.ticks, totals.taken, seen)
+}
+
+/// Makes a turn a number of times.
+fn see_turns(walk: &mut Walk, turn: Turn, count: u32, seen: &mut SeenRows) -> Result<(), AllocError>
+    requires valid { IsValid walk.old.script }
+    requires walked { IsWalked (leg_of walk.old.script) walk.old.counts }
+    requires turn { IsTurn (walk_plan (leg_of walk.old.script)) turn }
+    requires seen { Sees
+        (leg_of walk.old.script) walk.old.counts.ticks walk.old.counts.rows seen.old }
+    ensures script { walk.new.script ≡ walk.old.script }
+    ensures counts { let plan = walk_plan (leg_of walk.old.script) in
+        OnOk result (walk.new.counts ≡ run plan walk.old.counts
+        (flat_map (λ (tries : List Event). tries) (replicate count (events_of plan turn)))) }
+    ensures seen { OnOk result
+        (Sees (leg_of walk.new.script) walk.new.counts.ticks walk.new.counts.rows seen.new) }
+{
+    for _made in 0..count {
+        see_turn(walk, turn, seen)?;
+    }
+    Ok(())
+}
+
+/// Makes rounds until all rows are taken.
+fn see_drain(walk: &mut Walk, ticks: u32, seen: &mut SeenRows) -> Result<(), AllocError>
+    requires valid { IsValid walk.old.script }
+    requires walked { IsWalked (leg_of walk.old.script) walk.old.counts }
+    requires ticks { ticks ≡ walk.old.script.config.ticks }
+    requires seen { Sees
+        (leg_of walk.old.script) walk.old.counts.ticks walk.old.counts.rows seen.old }
+    ensures script { walk.new.script ≡ walk.old.script }
+    ensures counts { let plan = walk_plan (leg_of walk.old.script) in
+        OnOk result (walk.new.counts ≡ drain (bound plan) plan walk.old.counts) }
+    ensures seen { OnOk result
+        (Sees (leg_of walk.new.script) walk.new.counts.ticks walk.new.counts.rows seen.new) }
+{
+    while walk.totals().taken < ticks {
+        see_turn(walk, Turn::Round, seen)?;
+    }
+    Ok(())
+}
+
+/// Makes what an event line says.
+fn see_event_line(
+    walk: &mut Walk,
+    line: EventLine,
+    ticks: u32,
+    seen: &mut SeenRows,
+) -> Result<(), AllocError>
+    requires valid { IsValid walk.old.script }
+    requires walked { IsWalked (leg_of walk.old.script) walk.old.counts }
+    requires event { IsEvent walk.old.script.config.lines line }
+    requires ticks { ticks ≡ walk.old.script.config.ticks }
+    requires seen { Sees
+        (leg_of walk.old.script) walk.old.counts.ticks walk.old.counts.rows seen.old }
+    ensures script { walk.new.script ≡ walk.old.script }
+    ensures counts { OnOk result
+        (walk.new.counts ≡ run_line (walk_plan (leg_of walk.old.script)) walk.old.counts line) }
+    ensures seen { OnOk result
+        (Sees (leg_of walk.new.script) walk.new.counts.ticks walk.new.counts.rows seen.new) }
+{
+    match turns_of(line) {
+        Some((turn, count)) => see_turns(walk, turn, count, seen),
+        None => see_drain(walk, ticks, seen),
+    }
+}
+
+/// Makes what the event lines of a walk's script say. Where there are none, it drains.
+fn see_event_lines(
+    walk: &mut Walk,
+    lines: &[EventLine],
+    ticks: u32,
+    seen: &mut SeenRows,
+) -> Result<(), AllocError>
+    requires valid { IsValid walk.old.script }
+    requires events { lines.now ≡ walk.old.script.events }
+    requires begun { walk.old.counts ≡ begin (walk_plan (leg_of walk.old.script)) }
+    requires ticks { ticks ≡ walk.old.script.config.ticks }
+    requires seen { Sees
+        (leg_of walk.old.script) walk.old.counts.ticks walk.old.counts.rows seen.old }
+    ensures script { walk.new.script ≡ walk.old.script }
+    ensures counts { OnOk result (walk.new.counts ≡ counts_in walk.old.script) }
+    ensures seen { OnOk result
+        (Sees (leg_of walk.new.script) walk.new.counts.ticks walk.new.counts.rows seen.new) }
+{
+    if lines.is_empty() {
+        return see_drain(walk, ticks, seen);
+    }
+    for line in lines {
+        see_event_line(walk, *line, ticks, seen)?;
+    }
+    Ok(())
+}
+
+/// Makes the walk of a script, and sees it.
+fn see_walk(
+    alloc: Global,
+    walk: &mut Walk,
+    lines: &[EventLine],
+    size: LinesAndTicks,
+) -> Result<SeenWalk, AllocError>
+    requires valid { IsValid walk.old.script }
+    requires events { lines.now ≡ walk.old.script.events }
+    requires begun { walk.old.counts ≡ begin (walk_plan (leg_of walk.old.script)) }
+    requires ticks { size.ticks ≡ walk.old.script.config.ticks }
+    ensures script { walk.new.script ≡ walk.old.script }
+    ensures counts { OnOk result (walk.new.counts ≡ counts_in walk.old.script) }
+    ensures seen { IfOk result (SeesWalk (leg_of walk.new.script) walk.new.counts) }
+{
+    let mut rows = nothing_seen(alloc, walk.script().config.size);
+    see_event_lines(walk, lines, size.ticks, &mut rows)?;
+    let ruler = place_frames(alloc, walk, &rows.packets)?;
+    Ok(SeenWalk { rows, ruler })
+}
+
+/// Reads a script, makes its walk and sees it.
+pub fn see_script<S: ByteSource>(alloc: Global, source: &mut S) -> Result<WatchedWalk, Stop>
+    ensures script { IfOk result (λ watched.
+        HasScript (lent S.left S.faults source.old source.new) watched.walk.script) }
+    ensures counts { IfOk result (λ watched.
+        watched.walk.counts ≡ counts_in watched.walk.script) }
+    ensures seen { IfOk result (λ watched.
+        SeesWalk (leg_of watched.walk.script) watched.walk.counts watched.seen) }
+    ensures stopped { (writes : Script → Answer) → IfErr result
+        (StopsReading (lent S.left S.faults source.old source.new) (script_answer writes)) }
+{
+    let begun = match read_walk(alloc, source) {
+        Ok(begun) => begun,
+        Err(stop) => return Err(stop),
+    };
+    let mut walk = begun.walk;
+    match see_walk(alloc, &mut walk, begun.lines.as_slice(), begun.size) {
+        Ok(seen) => Ok(WatchedWalk { walk, seen }),
+        Err(AllocError) => Err(Stop::Memory),
+    }
+}

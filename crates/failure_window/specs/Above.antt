@@ -1,9 +1,0 @@
--- The windows that are left once those below a container are passed.
-use Rattle.std.specs.Prelude.{ℕ, ◌<◌, List, [], ◌∷◌}
-use Rattle.session_model.specs.declared.window.Window.{Window}
-use Rattle.session_model.specs.Damage.{AreWindows}
-
--- the first window ends above container n, and all others begin at its end or later
-unfoldable pub IsFirstAbove : ℕ → List Window → Type 0
-IsFirstAbove n [] = Unit {0}
-IsFirstAbove n (window ∷ windows) = (n < window.end) × AreWindows window.end windows

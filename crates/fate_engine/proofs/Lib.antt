@@ -1,0 +1,2 @@
+pub mod FateLaws
+pub mod FateCoreLaws

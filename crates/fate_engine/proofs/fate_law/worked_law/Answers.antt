@@ -1,0 +1,41 @@
+-- Worked streams, computed.
+use Rattle.std.proofs.Common.{refl}
+use Rattle.base_hec16.specs.Hec.{hec_of}
+use Rattle.base_remainder.specs.Bits.{bits, number_behind, octets_of, xors}
+use Rattle.base_remainder.specs.Remainder.{add_front, divide}
+use Rattle.law_model.specs.frames.Core.{core_header, pli_of, head}
+use Rattle.law_model.specs.frames.Hunt.{header_with, hunt_within}
+use Rattle.law_model.specs.frames.Scramble.{scramble_on}
+use Rattle.law_model.specs.frames.Piece.{cut}
+use Rattle.law_model.specs.frames.Segment.{segments_on}
+use Rattle.law_model.specs.frames.Loss.{extents}
+use Rattle.law_loss.specs.Worked.{worked_stream, worked_rows}
+use Rattle.fate_engine.specs.fate_law.Fates.{row_from, spoiled_from, fate_among}
+use Rattle.fate_engine.specs.fate_law.Marks.{places}
+use Rattle.fate_engine.specs.fate_law.Spans.{spans_on, row_segments_with}
+use Rattle.fate_engine.specs.fate_law.Spoiled.{spoiled_runs}
+use Rattle.fate_engine.specs.fate_law.Ruler.{ruled}
+use Rattle.fate_engine.proofs.fate_law.worked_law.Goals as goal
+
+pub returns-clause-fates : goal.returns-clause-fates
+unfolding worked_rows worked_stream cut core_header octets_of xors bits number_behind divide add_front scramble_on
+    pli_of head hec_of header_with hunt_within segments_on extents row_from spoiled_from fate_among
+returns-clause-fates c = refl
+
+pub returns-clause-segments : goal.returns-clause-segments
+unfolding worked_rows worked_stream cut core_header octets_of xors bits number_behind divide add_front scramble_on
+    pli_of head hec_of header_with hunt_within segments_on spans_on row_segments_with
+returns-clause-segments c = refl
+
+pub returns-clause-starts : goal.returns-clause-starts
+unfolding worked_rows worked_stream cut core_header octets_of xors bits number_behind divide add_front scramble_on
+    pli_of head hec_of header_with hunt_within segments_on places
+returns-clause-starts c = refl
+
+pub returns-clause-runs : goal.returns-clause-runs
+unfolding spoiled_runs
+returns-clause-runs c = refl
+
+pub returns-clause-ruler : goal.returns-clause-ruler
+unfolding ruled
+returns-clause-ruler c = refl

@@ -1,0 +1,3 @@
+pub mod fate_law
+pub mod fate_core
+pub mod fate_text

@@ -1,0 +1,22 @@
+//! What became of each frame of a session, found while its rows come: where the pieces of accepted frames
+//! begin and end, which rows are whole and why others aren't, and what is confirmed first after each break.
+//! It is told of each accepted frame, of the active lines under each packet, of the place that the stream has
+//! reached, and of each taken row; it holds no octet of a frame, no row and nothing of a walk. Begin with
+//! `fate`, and with the three that it asks: `Ruler`, `Packets` and `Segments`.
+
+mod cause;
+mod frame_fate;
+mod packets;
+mod ruler;
+mod segments;
+mod spoiled;
+mod totals;
+
+pub use crate::fate_law::{Cause, Fate, RowSegment, SpoiledRun};
+pub use cause::row_cause;
+pub use frame_fate::{fate, starts_true};
+pub use packets::Packets;
+pub use ruler::Ruler;
+pub use segments::Segments;
+pub use spoiled::SpoiledRuns;
+pub use totals::FateTotals;

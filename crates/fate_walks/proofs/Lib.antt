@@ -1,0 +1,3 @@
+pub mod WalkFramesLaws
+pub mod WalkFatesLaws
+pub mod WalkGfpLaws

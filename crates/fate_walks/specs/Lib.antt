@@ -1,0 +1,3 @@
+pub mod walk_frames
+pub mod walk_fates
+pub mod walk_gfp

@@ -1,0 +1,17 @@
+//! What becomes of the frames of a walk, turn by turn: which client frames have landed, the text of fates, and
+//! a capture of the GFP frames that the source sent. No turn is made here: a walk is seen after each of its
+//! turns. What a fate is, and how it is found, is in `fate_engine`. Begin with `walk_fates::SeenWalk`.
+//!
+//! - `walk_frames`: the client's frames in a walk that was made: which of them have landed, and why others are
+//!   refused; the stream that they make tick by tick; and that what became of a frame is known by the pieces
+//!   that the taken rows reach.
+//! - `walk_fates`: what became of each frame of a walk: it is seen after each turn what packets and rows came
+//!   of it (`see_since`), then where the pieces of its accepted frames lie (`place_frames`), and then the text
+//!   is written (`write_fates`).
+//! - `walk_gfp`: the GFP frames of a walk's client, as the source sent them, are written as a capture: each
+//!   accepted frame that the taken rows carry, with the row of its last octet.
+#![tactic(auto)]
+
+pub mod walk_fates;
+mod walk_frames;
+pub mod walk_gfp;

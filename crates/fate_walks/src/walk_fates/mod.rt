@@ -1,0 +1,11 @@
+//! What became of each frame of a walk: it is seen after each turn what packets and rows came of it
+//! (`see_since`), then where the pieces of its accepted frames lie (`place_frames`), and then the text is
+//! written (`write_fates`). No turn is made here. Begin with `SeenWalk`.
+
+mod lines;
+mod places;
+mod seen;
+
+pub use lines::{accepted_fate, write_fates};
+pub use places::place_frames;
+pub use seen::{SeenRows, SeenWalk, is_step, nothing_seen, see_since};

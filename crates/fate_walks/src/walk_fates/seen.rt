@@ -1,0 +1,92 @@
+//! What is seen of a walk after each turn: which lines carry payload under the packet that was begun, whether
+//! the row that was taken is whole and why not, and what is confirmed after it.
+ghost use Rattle.std.specs.Prelude.{◌≡◌, ◌+◌, ◌≤◌, OnOk};
+ghost use Rattle.std.specs.Bool.{OnTrue, OnFalse};
+ghost use Rattle.law_model.specs.session.Leg.{Leg, leg_of};
+ghost use Rattle.law_model.specs.session.Scenario.{steps_in};
+ghost use Rattle.law_model.specs.session.Valid.{IsValid};
+ghost use Rattle.law_walk.specs.Walk.{IsWalked};
+ghost use Rattle.fate_walks.specs.walk_fates.Seen.{Sees};
+
+use fate_engine::fate_core::{Packets, Ruler, Segments, SpoiledRuns, row_cause};
+use std::alloc::{AllocError, Global};
+use walk_engine::walk_core::Walk;
+
+/// What was seen of the packets and rows of a walk.
+#[derive(Drop)]
+pub struct SeenRows {
+    /// Of the packets whose decision step was made.
+    pub packets: Packets,
+    /// Of the rows that were taken.
+    pub segments: Segments,
+    /// Of the same rows.
+    pub runs: SpoiledRuns,
+}
+
+/// What is known of a walk that was made.
+#[derive(Drop)]
+pub struct SeenWalk {
+    /// What was seen of its packets and rows.
+    pub rows: SeenRows,
+    /// Where the pieces of its accepted frames lie.
+    pub ruler: Ruler,
+}
+
+/// Whether a decision step was made since a number of ticks, after which one more was made at most.
+pub fn is_step(before: u32, now: u32) -> bool
+    requires least { before ≤ now }
+    requires most { now ≤ before + 1 }
+    ensures yes { OnTrue result (steps_in now ≡ steps_in before + 1) }
+    ensures no { OnFalse result (steps_in now ≡ steps_in before) }
+{
+    now != before && now % 16 == 9
+}
+
+/// Sees a row, which was taken last.
+fn see_row(walk: &Walk, row: u32, seen: &mut SeenRows) -> Result<(), AllocError>
+    requires valid { IsValid walk.now.script }
+    requires walked { IsWalked (leg_of walk.now.script) walk.now.counts }
+    requires last { row + 1 ≡ walk.now.counts.rows }
+    requires seen { Sees (leg_of walk.now.script) walk.now.counts.ticks row seen.old }
+    ensures { OnOk result
+        (Sees (leg_of walk.now.script) walk.now.counts.ticks walk.now.counts.rows seen.new) }
+{
+    let cause = row_cause(&walk.script().config.windows, &seen.packets, row);
+    seen.runs.row(cause)?;
+    let end = seen.packets.place(row + 1);
+    seen.segments
+        .row(cause.is_none(), end, walk.first_confirmed())
+}
+
+/// Sees what came of a turn, after so many ticks and rows.
+pub fn see_since(walk: &Walk, ticks: u32, rows: u32, seen: &mut SeenRows) -> Result<(), AllocError>
+    requires valid { IsValid walk.now.script }
+    requires walked { IsWalked (leg_of walk.now.script) walk.now.counts }
+    requires least { ticks ≤ walk.now.counts.ticks }
+    requires most { walk.now.counts.ticks ≤ ticks + 1 }
+    requires rows { rows ≤ walk.now.counts.rows }
+    requires one { walk.now.counts.rows ≤ rows + 1 }
+    requires seen { Sees (leg_of walk.now.script) ticks rows seen.old }
+    ensures { OnOk result
+        (Sees (leg_of walk.now.script) walk.now.counts.ticks walk.now.counts.rows seen.new) }
+{
+    let totals = walk.totals();
+    if is_step(ticks, totals.ticks) {
+        seen.packets.push(walk.table().active())?;
+    }
+    if totals.taken == rows {
+        return Ok(());
+    }
+    see_row(walk, rows, seen)
+}
+
+/// Before the first turn.
+pub fn nothing_seen(alloc: Global, size: u16) -> SeenRows
+    ensures { (leg : Leg) → leg.config.size ≡ size → Sees leg 0 0 result }
+{
+    SeenRows {
+        packets: Packets::new(alloc, size),
+        segments: Segments::new(alloc),
+        runs: SpoiledRuns::new(alloc),
+    }
+}

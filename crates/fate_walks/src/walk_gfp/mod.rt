@@ -1,0 +1,29 @@
+//! The GFP frames of a walk's client, as the source sent them, are written as a capture: each accepted frame
+//! that the taken rows carry, with the row of its last octet. No turn is made here, and no frame is copied.
+//! Begin with `write_gfp`.
+
+ghost use Rattle.std.specs.Prelude.{◌≡◌, List, map, length, take, drop};
+ghost use Rattle.std.specs.List.{Contains};
+ghost use Rattle.law_model.specs.frames.Piece.{Piece, frames_by, stream_of};
+ghost use Rattle.law_model.specs.frames.Segment.{StreamRow, octets_of_rows};
+ghost use Rattle.law_model.specs.frames.Loss.{Extent, extents};
+ghost use Rattle.text_captures.specs.capture_file.Written.{RowFrame};
+ghost use Rattle.text_captures.specs.capture_file.Gfp.{with_pattern, gfp_octets};
+ghost use Rattle.fate_walks.specs.walk_gfp.Carried.{carried_frames};
+
+mod records;
+
+pub use records::write_gfp;
+
+/// The frames that rows carry are those whose pieces end by the place at which the rows end, in order and
+/// each once; and the GFP frame of a frame has the core header that the stream has at the place of its piece,
+/// but for B6 AB 31 E0.
+pub fn carried_law()
+    ensures frames { (pieces : List Piece) (rows : List StreamRow) →
+        map (λ (own : RowFrame). own.frame) (carried_frames pieces rows)
+        ≡ frames_by (length (octets_of_rows rows)) pieces }
+    ensures header { (pieces : List Piece) (extent : Extent) →
+        Contains (extents 0 pieces) extent →
+        with_pattern (take 4 (gfp_octets extent.frame))
+        ≡ take 4 (drop extent.from (stream_of pieces)) }
+{}

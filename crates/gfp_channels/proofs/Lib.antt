@@ -1,0 +1,3 @@
+pub mod GfpLinearLaws
+pub mod ChannelLaws
+pub mod ChannelLinkLaws

@@ -1,0 +1,6 @@
+-- What an answer depends on.
+use Rattle.gfp_channels.proofs.ChannelLaws.QueueLaws.{refusal-same}
+use Rattle.gfp_channels.proofs.channel_law.answer_law.Goals as goal
+
+pub returns : goal.returns
+returns c = refusal-same

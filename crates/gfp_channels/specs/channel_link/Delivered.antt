@@ -1,0 +1,48 @@
+-- Of each channel of a plan: the frames that it accepted, those that its stream carries, those of them that arrive, and
+-- those that are delivered.
+use Rattle.std.specs.Prelude.{ℕ, List, map}
+use Rattle.law_model.specs.frames.Segment.{StreamRow}
+use Rattle.law_model.specs.frames.Loss.{TrueStarts}
+use Rattle.gfp_model.specs.linear_model.Linear.{ChannelFrame}
+use Rattle.gfp_model.specs.linear_model.Channels.{Channels, silent}
+use Rattle.gfp_model.specs.linear_model.Stream.{LinearPiece, unsent, reached, stream_to, cut_rows}
+use Rattle.gfp_channels.specs.channel_law.Kept.{as_pieces, frames_told, carried_of, kept_of}
+use Rattle.gfp_channels.specs.channel_law.Offers.{accepted_frames}
+use Rattle.gfp_channels.specs.declared.channel_link.draft.Offer.{Offer}
+use Rattle.gfp_channels.specs.declared.channel_link.draft.ChannelPlan.{ChannelPlan}
+use Rattle.gfp_channels.specs.channel_link.Text.{after_offers, delivered}
+
+-- the channels when the stream begins, its pieces, and its rows: those that arrive and those that are cut
+abbrev pub plan_channels : ChannelPlan → Channels
+plan_channels plan = after_offers (silent plan.channels) plan.offers
+
+abbrev pub plan_pieces : ChannelPlan → List LinearPiece
+plan_pieces plan = (reached plan.octets (unsent (plan_channels plan))).pieces
+
+abbrev pub plan_rows : ChannelPlan → List StreamRow
+plan_rows plan = cut_rows 0 plan.cuts (stream_to plan.octets (plan_channels plan))
+
+-- each place that is confirmed first behind a cut is that of a piece
+abbrev pub HasTrueStarts : ChannelPlan → Type 0
+HasTrueStarts plan = TrueStarts (as_pieces (plan_pieces plan)) (plan_rows plan)
+
+-- ---- the frames of one channel
+-- an offer as a frame with the number of its channel
+abbrev pub as_frame : Offer → ChannelFrame
+as_frame offer = record { cid = offer.cid; frame = offer.frame }
+
+-- those that are accepted
+abbrev pub accepted_by : ChannelPlan → ℕ → List (List ℕ)
+accepted_by plan cid = accepted_frames cid (silent plan.channels) (map as_frame plan.offers)
+
+-- those that the stream carries whole
+abbrev pub carried_by : ChannelPlan → ℕ → List (List ℕ)
+carried_by plan cid = carried_of cid plan.octets (plan_pieces plan)
+
+-- those of them that aren't lost
+abbrev pub kept_by : ChannelPlan → ℕ → List (List ℕ)
+kept_by plan cid = kept_of cid (plan_pieces plan) (plan_rows plan)
+
+-- those that are delivered
+abbrev pub delivered_by : ChannelPlan → ℕ → List (List ℕ)
+delivered_by plan cid = frames_told cid (delivered plan)

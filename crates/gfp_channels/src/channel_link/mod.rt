@@ -1,0 +1,49 @@
+//! Clients that share a stream by channel numbers: what a text says of channels, frames and cuts, and the lines of the
+//! frames that get through. The language is a definition that computes, `plan_of`: lines, words, and for each line the
+//! first fault that it has or what it adds to the lines before it; the reader gives just that, in one pass. How frames
+//! are queued, sent and received is in `gfp_linear`. Begin with `read_plan` and `ChannelRun`.
+
+ghost use Rattle.std.specs.Prelude.{◌≡◌, ◌↔◌, ℕ, List, [], length, take, Err};
+ghost use Rattle.std.specs.Str.Lines.{lines};
+ghost use Rattle.text_lines.specs.FirstFault.{IsFirstFault};
+ghost use Rattle.gfp_channels.specs.declared.channel_link.fault.LineFault.{LineFault};
+ghost use Rattle.gfp_channels.specs.channel_link.Lines.{at_first, plan_lines};
+ghost use Rattle.gfp_channels.specs.declared.channel_link.draft.ChannelPlan.{ChannelPlan};
+ghost use Rattle.gfp_channels.specs.channel_link.Plan.{plan_of, IsPlan};
+ghost use Rattle.gfp_channels.specs.channel_link.Delivered.{HasTrueStarts, accepted_by, carried_by, kept_by, delivered_by};
+
+mod draft;
+mod fault;
+mod help;
+mod keyword;
+mod lines;
+mod read;
+mod reception;
+mod run;
+mod statement;
+
+pub use draft::{ChannelPlan, CutList, Offer, OfferList};
+pub use fault::LineFault;
+pub use help::plan_help;
+pub use keyword::Keyword;
+pub use read::{PlanFault, read_plan};
+pub use run::ChannelRun;
+
+/// A text has the fault of a line exactly where that line is faulty after lines none of which is.
+pub fn fault_law()
+    ensures { (text : List ℕ) (number : ℕ) (fault : LineFault) →
+        (plan_of text ≡ Err (number, fault))
+        ↔ IsFirstFault plan_lines 1 at_first (lines text) number fault }
+{}
+
+/// Of each channel of a plan: the frames that its stream carries whole are, in order, the first of those that were
+/// accepted. Without cuts just these are delivered. With cuts, where each place that is confirmed first behind one is
+/// that of a piece, those are delivered, in order and each once, that are carried and aren't lost.
+pub fn plan_law()
+    ensures carried { (plan : ChannelPlan) (cid : ℕ) →
+        carried_by plan cid ≡ take (length (carried_by plan cid)) (accepted_by plan cid) }
+    ensures uncut { (plan : ChannelPlan) (cid : ℕ) → IsPlan plan →
+        plan.cuts ≡ [] → delivered_by plan cid ≡ carried_by plan cid }
+    ensures kept { (plan : ChannelPlan) (cid : ℕ) → IsPlan plan →
+        HasTrueStarts plan → delivered_by plan cid ≡ kept_by plan cid }
+{}

@@ -1,6 +1,0 @@
--- However far the stream is made, what is begun of a channel and what waits are together the same.
-use Rattle.gfp_linear.proofs.TurnLaws.{reached-keeps}
-use Rattle.gfp_linear.proofs.turns_law.Goals as goal
-
-pub returns : goal.returns
-returns c place cid shared = reached-keeps place shared cid

@@ -1,0 +1,2 @@
+pub mod fcs_model
+pub mod linear_model

@@ -1,0 +1,3 @@
+pub mod FlipLaws
+pub mod GfpFcsLaws
+pub mod NoiseLinkLaws

@@ -1,0 +1,12 @@
+-- The stream of no frames.
+use Rattle.std.proofs.Common.{◌≡◌, ℕ, List, [], ◌++◌, ◌∙◌, ap, ap₂, append-nil}
+use Rattle.law_model.specs.frames.Core.{core_header}
+use Rattle.law_model.specs.frames.Piece.{cut}
+use Rattle.gfp_noise.specs.flip_law.Flipped.{fcs_stream}
+
+-- it is two idles
+pub idles : fcs_stream [] ≡ core_header 0 ++ core_header 0
+unfolding cut
+idles =
+    let idle : List ℕ = core_header 0 in
+    ap₂ (λ a b. a ++ (b ++ [])) (append-nil idle) (append-nil idle) ∙ ap (λ b. idle ++ b) (append-nil idle)

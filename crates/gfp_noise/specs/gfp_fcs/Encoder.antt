@@ -1,0 +1,10 @@
+-- What an encoder of frames with an FCS has written.
+use Rattle.std.specs.Prelude.{ℕ, List, map}
+use Rattle.law_model.specs.frames.Piece.{joined}
+use Rattle.gfp_scramble.specs.Scrambler.{Scrambling}
+use Rattle.gfp_scramble.specs.Scrambler as scrambler
+use Rattle.gfp_model.specs.fcs_model.Fcs.{fcs_area}
+
+-- these frames were written: their areas were scrambled
+abbrev pub Stands : Scrambling → List (List ℕ) → Type 0
+Stands encoder frames = scrambler.Stands encoder (joined (map fcs_area frames))

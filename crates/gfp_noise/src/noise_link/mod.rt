@@ -1,0 +1,48 @@
+//! Frames with an FCS in a stream of which bits are turned over: what a text says of frames and flips, and
+//! the lines of the frames that get through. The language is a definition that computes, `noise_of`: lines,
+//! words, and for each line the first fault that it has or what it adds to the lines before it; the reader
+//! gives just that, in one pass. How frames are sent and received is in `gfp_fcs`. Begin with `read_noise`
+//! and `NoiseRun`.
+
+ghost use Rattle.std.specs.Prelude.{◌≡◌, ◌↔◌, ℕ, List, Err};
+ghost use Rattle.gfp_noise.specs.declared.noise_link.draft.Noise.{Noise};
+ghost use Rattle.gfp_noise.specs.gfp_fcs.Delineator.{fcs_outcomes};
+ghost use Rattle.gfp_noise.specs.noise_link.Text.{received, delivered, untouched, AreSingle};
+ghost use Rattle.std.specs.Str.Lines.{lines};
+ghost use Rattle.text_lines.specs.FirstFault.{IsFirstFault};
+ghost use Rattle.gfp_noise.specs.declared.noise_link.fault.LineFault.{LineFault};
+ghost use Rattle.gfp_noise.specs.noise_link.Lines.{at_first, noise_lines};
+ghost use Rattle.gfp_noise.specs.noise_link.Noise.{noise_of, IsNoise};
+
+mod draft;
+mod fault;
+mod help;
+mod keyword;
+mod lines;
+mod read;
+mod reception;
+mod run;
+mod statement;
+mod stream;
+
+pub use draft::{FlipList, FrameList, Noise};
+pub use fault::LineFault;
+pub use help::noise_help;
+pub use keyword::Keyword;
+pub use read::{NoiseFault, read_noise};
+pub use run::NoiseRun;
+
+/// A text has the fault of a line exactly where that line is faulty after lines none of which is.
+pub fn fault_law()
+    ensures { (text : List ℕ) (number : ℕ) (fault : LineFault) →
+        (noise_of text ≡ Err (number, fault))
+        ↔ IsFirstFault noise_lines 1 at_first (lines text) number fault }
+{}
+
+/// Where the two idles have no flip, each other core header has one at most, and each area with the 43 area
+/// bits before it has one at most, the frames that are delivered are, in order and each once, exactly those
+/// whose area and the 43 area bits before it have none.
+pub fn noise_law()
+    ensures { (noise : Noise) → IsNoise noise → AreSingle noise →
+        delivered (fcs_outcomes (received noise)) ≡ untouched noise }
+{}

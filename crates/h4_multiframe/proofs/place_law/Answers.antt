@@ -1,9 +1,0 @@
--- What a cell is, is one thing, and stays so.
-use Rattle.h4_multiframe.proofs.PlaceLaws.{IsPlace_only, IsPlace-append}
-use Rattle.h4_multiframe.proofs.place_law.Goals as goal
-
-pub returns-clause-only : goal.returns-clause-only
-returns-clause-only c = IsPlace_only
-
-pub returns-clause-stays : goal.returns-clause-stays
-returns-clause-stays c = IsPlace-append

@@ -1,9 +1,0 @@
--- The lanes of two vectors, taken apart.
-use Rattle.hex_text.proofs.TextSteps.{first_column, second_column}
-use Rattle.hex_text.proofs.decoding.columns.Goals as goal
-
-pub returns-clause-upper : goal.returns-clause-upper
-returns-clause-upper c = first_column c.args.text.now c.args.at
-
-pub returns-clause-lower : goal.returns-clause-lower
-returns-clause-lower c = second_column c.args.text.now c.args.at

@@ -1,6 +1,0 @@
--- The tests agree, for each of the 256 characters.
-use Rattle.hex_text.proofs.DigitLaws.{digit_between}
-use Rattle.hex_text.proofs.digits.is_digit.Goals as goal
-
-pub returns : goal.returns
-returns c = digit_between c.args.c c.ranges.c.fits

@@ -1,0 +1,54 @@
+-- The headline of a script's text. What walks and runs write of it is here to be cited by the commands.
+use Rattle.std.proofs.Common.{◌≡◌, ℕ, ◌≤◌, List, [], length, ap, ◌∙◌, arith}
+use Rattle.std.specs.Prelude.{Ok}
+use Rattle.law_model.specs.declared.script.Script.{Script}
+use Rattle.law_model.specs.session.Counts.{begin, walked}
+use Rattle.law_model.specs.session.Valid.{IsValid}
+use Rattle.law_model.specs.session.Leg.{leg_of}
+use Rattle.text_scripts.specs.script_read.Script.{script_of}
+use Rattle.text_scripts.proofs.ScriptReadLaws.ReadLaws.{valid_text}
+use Rattle.law_progress.proofs.ReachLaws.{walked-reached}
+use Rattle.law_walk.specs.Walk.{walk_plan}
+use Rattle.law_walk.specs.Landed.{landed_items}
+use Rattle.law_walk.specs.Promise.{numbered}
+use Rattle.law_walk.specs.Report.{report_of, final_report}
+use Rattle.law_walk.proofs.PlanLaws.{sound-walks}
+use Rattle.law_walk.proofs.WalkLaws.{begins-walked}
+use Rattle.law_walk.proofs.EndLaws.{counts-within, drained-report}
+use Rattle.law_headline.specs.Texts.{counts_in, walk_text}
+use Rattle.law_headline.specs.Headline.{IsWalkHeadline, IsRunHeadline}
+use Rattle.law_headline.proofs.ReportLaws.{is_headline}
+
+-- a walk takes no row beyond the ticks
+few-rows : (script : Script) → IsValid script → (counts_in script).rows ≤ script.config.ticks
+few-rows script valid =
+    let within = counts-within (leg_of script) (counts_in script) (sound-walks (leg_of script) valid.sound)
+    (walked-reached (walk_plan (leg_of script)) script.events) in
+    omega (arith, within.0, within.1)
+
+pub walk_headline : (text : List ℕ) (script : Script) → length text ≤ 67108864 → script_of text ≡ Ok script →
+    IsWalkHeadline text (walk_text script)
+walk_headline text script short said =
+    let valid = valid_text text script short said in
+    let s = counts_in script in (
+      script,
+      said,
+      is_headline (leg_of script) s.ticks s.rows (landed_items (leg_of script) s) valid.sound
+          (few-rows script valid),
+    )
+
+pub run_headline : (text : List ℕ) (script : Script) → length text ≤ 67108864 → script_of text ≡ Ok script →
+    IsRunHeadline text (final_report (leg_of script))
+run_headline text script short said =
+    let valid = valid_text text script short said in
+    let all = script.config.ticks in
+    (script, said, is_headline (leg_of script) all all (numbered 0 script.items) valid.sound (omega arith))
+
+-- ---- without event lines
+pub walk-same : (text : List ℕ) (script : Script) → length text ≤ 67108864 → script_of text ≡ Ok script →
+    script.events ≡ [] →
+    walk_text script ≡ final_report (leg_of script)
+walk-same text script short said none =
+    ap (λ events. report_of (leg_of script) (walked (walk_plan (leg_of script)) events)) none
+    ∙ drained-report (leg_of script) (begin (walk_plan (leg_of script))) (valid_text text script short said).sound
+    (begins-walked (leg_of script))

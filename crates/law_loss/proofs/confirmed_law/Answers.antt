@@ -1,0 +1,6 @@
+-- What is confirmed stays so.
+use Rattle.law_loss.proofs.StayLaws.{confirmed-stays}
+use Rattle.law_loss.proofs.confirmed_law.Goals as goal
+
+pub returns : goal.returns
+returns c = confirmed-stays

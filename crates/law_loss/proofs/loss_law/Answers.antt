@@ -1,0 +1,6 @@
+-- What is delivered is what is carried and not lost.
+use Rattle.law_loss.proofs.KeptLaws.{deliver-kept}
+use Rattle.law_loss.proofs.loss_law.Goals as goal
+
+pub returns : goal.returns
+returns c = deliver-kept

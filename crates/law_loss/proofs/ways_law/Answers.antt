@@ -1,0 +1,9 @@
+-- The four ways in which a frame is lost.
+use Rattle.law_model.specs.frames.Segment.{segments}
+use Rattle.law_loss.proofs.CutLaws.{Stands-all}
+use Rattle.law_loss.proofs.WayLaws.{way_of, lost_of}
+use Rattle.law_loss.proofs.ways_law.Goals as goal
+
+pub returns : goal.returns
+returns c rows all frame some =
+    (way_of all frame (segments rows), lost_of all frame (segments rows) some (Stands-all rows).order)

@@ -1,0 +1,11 @@
+pub mod Scramble
+pub mod Core
+pub mod TypeHeader
+pub mod Piece
+pub mod Hunt
+pub mod Run
+pub mod Outcome
+pub mod Delivery
+pub mod Payload
+pub mod Segment
+pub mod Loss

@@ -1,0 +1,10 @@
+pub mod Packet
+pub mod Told
+pub mod GroupBit
+pub mod Forward
+pub mod Telling
+pub mod ReturnPacket
+pub mod MemberPacket
+pub mod Decode
+pub mod PacketText
+pub mod DecodeText

@@ -1,0 +1,5 @@
+pub mod Rows
+pub mod SessionRows
+pub mod Sent
+pub mod SessionStream
+pub mod Interleave

@@ -1,0 +1,5 @@
+pub mod Leg
+pub mod Scenario
+pub mod Counts
+pub mod Plan
+pub mod Valid

@@ -1,0 +1,307 @@
+-- What an event of a pair does in one way: a walk of that way can do it, it counts more or changes nothing, and what
+-- moves in the walk moves here.
+use Rattle.std.proofs.Common.{◌≡◌, ◌⊎◌, ℕ, ◌+◌, ◌%◌, ◌<◌, ◌≤◌, ◌==◌, ◌&&◌, nat_le, nat_lt, Bool, ◌-◌, if◌then◌else◌}
+use Rattle.std.proofs.Common.{true, false, inl, inr, List, [], ◌∷◌, slice_get, Option, Some, None, refl, sym, ◌∙◌, ap}
+use Rattle.std.proofs.Common.{arith}
+use Rattle.std.specs.List.Sorted.{IsNonDecreasing}
+use Rattle.std.proofs.lemmas.Bool.{ltb-false, cases_Bool, cases_lt}
+use Rattle.law_model.specs.declared.walk.Event.TheVariants.{Accept, Command, Carry, Back, Take}
+use Rattle.law_model.specs.declared.walk.StallCause.TheVariants.{NotDue, BackEmpty}
+use Rattle.law_model.specs.session.Scenario.{packets_in}
+use Rattle.law_model.specs.session.Counts.{Due, frame_due, command_due, frame_dues, command_dues, LinePath, LineCounts}
+use Rattle.law_model.specs.session.Counts.{Plan, Counts, Step, in_send, in_receive, in_return, moved, stalled, land_due}
+use Rattle.law_model.specs.session.Counts.{accept, command, carry_on, carry_at, carry, back, pop_lines, take_popped}
+use Rattle.law_model.specs.session.Counts.{is_back_full, take_row, run}
+use Rattle.law_progress.specs.Progress.{sum_lines, made}
+use Rattle.law_progress.proofs.MoveLaws.{Lands}
+use Rattle.law_progress.proofs.ReachLaws.{Leads, run-none}
+use Rattle.law_pair.specs.PairCounts.{left_after, tick_of, first_due, landed, land_first, land_item, take_said}
+use Rattle.law_pair.specs.PairCounts.{take_one}
+use Rattle.law_pair.proofs.ItemLaws.{frame-lands, command-lands, IsDueBy, frame-due, command-due}
+
+-- what is counted of a way but its ticks and return packets
+abbrev pub way_made : Counts → ℕ
+way_made s = s.frames + s.commands + sum_lines s.lines + s.rows
+
+abbrev pub HasSaid : Counts → Type 0
+HasSaid s = s.backs ≡ packets_in s.rows
+
+-- an event leads from counts to others, which are the same or more, by events of the walk that make no tick
+pub record OneWay (plan : Plan) (s next : Counts) : Type 0 where
+  pub leads : Leads plan s next
+  pub ticks : next.ticks ≡ s.ticks
+  pub said : HasSaid next
+
+abbrev pub Grows : Counts → Counts → Type 0
+Grows s next = (next ≡ s) ⊎ (way_made s < way_made next)
+
+pub leads-none : (plan : Plan) (s : Counts) → Leads plan s s
+leads-none plan s = ([], sym (run-none plan s))
+
+stays : (plan : Plan) (s : Counts) → HasSaid s → OneWay plan s s
+stays plan s said = record { leads = leads-none plan s; ticks = refl; said = said }
+
+-- ---- Item
+abbrev pub AreInOrder : Plan → Type 0
+AreInOrder plan = IsNonDecreasing (frame_dues plan.items) × IsNonDecreasing (command_dues plan.items)
+
+accept-leads : (plan : Plan) (s : Counts) (due : ℕ) → Lands due (frame_dues plan.items) s.frames → due ≤ s.ticks →
+    Leads plan s (landed (frame_due due) s)
+unfolding run
+accept-leads plan s due lands now =
+    let low = lands.2 in
+    let on_time : nat_lt s.ticks lands.0 ≡ false = grind (arith, low, now) in
+    let next = record s { frames = s.frames + 1 } in (
+      Accept ∷ [],
+      sym (ap (λ found. (land_due s.ticks found s next).counts) lands.1
+          ∙ ap (λ (early : Bool). (if early then stalled s (NotDue lands.0) else moved next).counts) on_time),
+    )
+
+command-leads : (plan : Plan) (s : Counts) (due : ℕ) → Lands due (command_dues plan.items) s.commands →
+    due ≤ s.ticks → Leads plan s (landed (command_due due) s)
+unfolding run
+command-leads plan s due lands now =
+    let low = lands.2 in
+    let on_time : nat_lt s.ticks lands.0 ≡ false = grind (arith, low, now) in
+    let next = record s { commands = s.commands + 1 } in (
+      Command ∷ [],
+      sym (ap (λ found. (land_due s.ticks found s next).counts) lands.1
+          ∙ ap (λ (early : Bool). (if early then stalled s (NotDue lands.0) else moved next).counts) on_time),
+    )
+
+module _ (plan : Plan) (s : Counts) where
+  -- ---- Item
+  abbrev next_item : Option Due
+  next_item = first_due (left_after s.frames s.commands plan.items)
+
+  pub item-leads : AreInOrder plan → HasSaid s → OneWay plan s (land_item plan s).counts
+  item-leads order said = by next_item refl
+    where
+      by : (found : Option Due) → next_item ≡ found → OneWay plan s (land_first found s).counts
+      by None is = stays plan s said
+      by (Some (frame_due due)) is =
+          elim (cases_Bool (nat_lt s.ticks due)) [
+            | inl early ↦ rw early (stays plan s said)
+            | inr late ↦ let now = ltb-false s.ticks due late in
+                rw late (record {
+                  leads = accept-leads plan s due (frame-lands s.frames s.commands due plan.items order.0 is)
+                      (omega (arith, now));
+                  ticks = refl;
+                  said = said;
+                })
+          ]
+      by (Some (command_due due)) is =
+          elim (cases_Bool (nat_lt s.ticks due)) [
+            | inl early ↦ rw early (stays plan s said)
+            | inr late ↦ let now = ltb-false s.ticks due late in
+                rw late (record {
+                  leads = command-leads plan s due (command-lands s.frames s.commands due plan.items order.1 is)
+                      (omega (arith, now));
+                  ticks = refl;
+                  said = said;
+                })
+          ]
+
+  pub item-grows : Grows s (land_item plan s).counts
+  item-grows = by next_item
+    where
+      by : (found : Option Due) → Grows s (land_first found s).counts
+      by None = inl refl
+      by (Some (frame_due due)) =
+          elim (cases_Bool (nat_lt s.ticks due)) [ inl e ↦ rw e (inl refl) | inr e ↦ rw e (inr (omega arith)) ]
+      by (Some (command_due due)) =
+          elim (cases_Bool (nat_lt s.ticks due)) [ inl e ↦ rw e (inl refl) | inr e ↦ rw e (inr (omega arith)) ]
+
+  -- an item that is due moves
+  due-moves : (found : Option Due) → IsDueBy s.ticks found → ((land_first found s).cause ≡ None)
+      × (way_made s < way_made (land_first found s).counts)
+  due-moves None has = absurd (let e : None ≡ Some has.0 = has.1 in cc)
+  due-moves (Some (frame_due due)) has =
+      let e : Some (frame_due due) ≡ Some has.0 = has.1 in
+      let same : frame_due due ≡ has.0 = cc in
+      let tick : due ≡ tick_of has.0 = ap tick_of same in
+      let low = has.2 in
+      let late : nat_lt s.ticks due ≡ false = grind (arith, tick, low) in
+      rw late (refl, omega arith)
+  due-moves (Some (command_due due)) has =
+      let e : Some (command_due due) ≡ Some has.0 = has.1 in
+      let same : command_due due ≡ has.0 = cc in
+      let tick : due ≡ tick_of has.0 = ap tick_of same in
+      let low = has.2 in
+      let late : nat_lt s.ticks due ≡ false = grind (arith, tick, low) in
+      rw late (refl, omega arith)
+
+  landed-due : (found : Option ℕ) (next : Counts) → (land_due s.ticks found s next).cause ≡ None →
+      (due : ℕ) × (found ≡ Some due) × (due ≤ s.ticks)
+  landed-due None next moves = absurd cc
+  landed-due (Some due) next moves =
+      elim (cases_Bool (nat_lt s.ticks due)) [
+        | inl early ↦ absurd (let e : (stalled s (NotDue due)).cause ≡ None = rw early at moves in cc)
+        | inr late ↦ (due, refl, ltb-false s.ticks due late)
+      ]
+
+  pub accept-moves : (accept plan s).cause ≡ None → ((land_item plan s).cause ≡ None)
+      × (way_made s < way_made (land_item plan s).counts)
+  accept-moves moves =
+      due-moves next_item (frame-due s.frames s.commands s.ticks plan.items
+      (landed-due (slice_get (frame_dues plan.items) s.frames) (record s { frames = s.frames + 1 }) moves))
+
+  pub command-moves : (command plan s).cause ≡ None → ((land_item plan s).cause ≡ None)
+      × (way_made s < way_made (land_item plan s).counts)
+  command-moves moves =
+      due-moves next_item (command-due s.frames s.commands s.ticks plan.items
+      (landed-due (slice_get (command_dues plan.items) s.commands) (record s { commands = s.commands + 1 }) moves))
+
+  -- ---- Carry
+  abbrev KeepsLines : Step → Type 0
+  KeepsLines next = next.counts ≡ record s { lines = next.counts.lines }
+
+  carry-on : (m : ℕ) (path : LinePath) (line : LineCounts) → KeepsLines (carry_on plan s m path line)
+  carry-on m path line =
+      elim (cases_Bool (nat_lt (plan.ticks + path.delay) line.carried)) [
+        | inl e ↦ rw e refl
+        | inr e ↦ rw e (elim
+            (cases_Bool (nat_lt line.carried plan.ticks && nat_le (in_send plan.ticks s.ticks line) 0)) [
+              | inl f ↦ rw f refl
+              | inr f ↦ rw f (elim (cases_Bool (nat_le plan.ring (in_receive path line))) [
+                | inl g ↦ rw g refl
+                | inr g ↦ rw g refl
+              ])
+            ])
+      ]
+
+  carry-at : (m : ℕ) (path : Option LinePath) (line : Option LineCounts) → KeepsLines (carry_at plan s m path line)
+  carry-at m (Some path) (Some line) = carry-on m path line
+  carry-at m (Some path) None = refl
+  carry-at m None line = refl
+
+  carry-keeps : (m : ℕ) → KeepsLines (carry plan s m)
+  carry-keeps m = carry-at m (slice_get plan.paths m) (slice_get s.lines m)
+
+  pub carry-leads : (m : ℕ) → HasSaid s → OneWay plan s (carry plan s m).counts
+  unfolding run
+  carry-leads m said =
+      let keeps = carry-keeps m in
+      record {
+        leads = (Carry m ∷ [], refl);
+        ticks = ap (λ (c : Counts). c.ticks) keeps;
+        said = ap (λ (c : Counts). c.backs) keeps ∙ said
+            ∙ sym (ap (λ (c : Counts). packets_in c.rows) keeps);
+      }
+
+  pub carry-more : (m : ℕ) → made s < made (carry plan s m).counts → way_made s < way_made (carry plan s m).counts
+  carry-more m more =
+      let keeps = carry-keeps m in
+      let a = ap made keeps in
+      let b = ap way_made keeps in
+      omega (arith, more, a, b)
+
+  -- ---- Take
+  full-none : HasSaid s → is_back_full s ≡ false
+  full-none said =
+      let none : nat_le 4 (in_return s) ≡ false = grind (arith, said) in
+      ap (λ c. nat_le 23 s.rows && s.rows % 16 == 7 && c) none ∙ and_false (nat_le 23 s.rows && s.rows % 16 == 7)
+    where
+      and_false : (b : Bool) → (b && false) ≡ false
+      and_false true = refl
+      and_false false = refl
+
+  -- a row is taken by Take, and by a Back where it ends a return packet
+  taken-leads : (lines : List LineCounts) → HasSaid s →
+      (take_row plan s) ≡ moved (record s { lines = lines; rows = s.rows + 1 }) →
+      Leads plan s (record s { lines = lines; rows = s.rows + 1; backs = packets_in (s.rows + 1) })
+  unfolding run
+  taken-leads lines said is =
+      let next = record s { lines = lines; rows = s.rows + 1 } in
+      elim (cases_lt (packets_in s.rows) (packets_in (s.rows + 1))) [
+        | inr same ↦
+            let e : packets_in (s.rows + 1) ≡ s.backs = omega (arith, same, said) in (
+              Take ∷ [],
+              ap (λ n. record s { lines = lines; rows = s.rows + 1; backs = n }) e
+                  ∙ sym (ap (λ (c : Step). c.counts) is),
+            )
+        | inl more ↦
+            let e : packets_in (s.rows + 1) ≡ s.backs + 1 = omega (arith, more, said) in
+            let some : nat_le (packets_in (s.rows + 1) - s.backs) 0 ≡ false = grind (arith, e) in (
+              Take ∷ Back ∷ [],
+              ap (λ n. record s { lines = lines; rows = s.rows + 1; backs = n }) e
+                  ∙ sym (ap (λ (c : Step). (back c.counts).counts) is
+                  ∙ ap (λ (none : Bool). (if none then stalled next BackEmpty
+                  else moved (record next { backs = next.backs + 1 })).counts) some),
+            )
+      ]
+
+  pub take-leads : HasSaid s → OneWay plan s (take_one plan s).counts
+  unfolding run
+  take-leads said =
+      let room = full-none said in
+      elim (cases_Bool (nat_le plan.ticks s.rows)) [
+        | inl e ↦ rw e (stays plan s said)
+        | inr e ↦ rw e (by (pop_lines s.rows 0 plan.paths s.lines).lines
+            (pop_lines s.rows 0 plan.paths s.lines).waiting
+            (rw (e, room) refl))
+      ]
+    where
+      by : (lines : List LineCounts) (waiting : Option ℕ) → take_row plan s ≡ take_popped s lines waiting →
+          OneWay plan s (take_said s lines waiting).counts
+      by lines (Some line) is = record {
+        leads = (Take ∷ [], sym (ap (λ (c : Step). c.counts) is));
+        ticks = refl;
+        said = said;
+      }
+      by lines None is = record { leads = taken-leads lines said is; ticks = refl; said = refl }
+
+  -- the two counts of a Take differ in return packets alone
+  pub record TakesAs : Type 0 where
+    pub lines : (take_one plan s).counts.lines ≡ (take_row plan s).counts.lines
+    pub cause : (take_one plan s).cause ≡ (take_row plan s).cause
+    pub grows : made s < made (take_row plan s).counts → way_made s < way_made (take_one plan s).counts
+    pub same : (take_row plan s).counts ≡ s → (take_one plan s).counts ≡ s
+
+  pub take-as : HasSaid s → TakesAs
+  take-as said =
+      let room = full-none said in
+      elim (cases_Bool (nat_le plan.ticks s.rows)) [
+        | inl e ↦ record {
+          lines = rw e refl;
+          cause = rw e refl;
+          grows = rw e (λ more. absurd (omega (arith, more)));
+          same = rw e (λ f. f);
+        }
+        | inr e ↦
+            let lines = (pop_lines s.rows 0 plan.paths s.lines).lines in
+            let waiting = (pop_lines s.rows 0 plan.paths s.lines).waiting in
+            record {
+              lines = rw (e, room) (as_lines lines waiting);
+              cause = rw (e, room) (as_cause lines waiting);
+              grows = rw (e, room) (as_grows lines waiting);
+              same = rw (e, room) (as_same lines waiting);
+            }
+      ]
+    where
+      as_lines : (lines : List LineCounts) (waiting : Option ℕ) →
+          (take_said s lines waiting).counts.lines ≡ (take_popped s lines waiting).counts.lines
+      as_lines lines (Some line) = refl
+      as_lines lines None = refl
+
+      as_cause : (lines : List LineCounts) (waiting : Option ℕ) →
+          (take_said s lines waiting).cause ≡ (take_popped s lines waiting).cause
+      as_cause lines (Some line) = refl
+      as_cause lines None = refl
+
+      as_grows : (lines : List LineCounts) (waiting : Option ℕ) →
+          made s < made (take_popped s lines waiting).counts →
+          way_made s < way_made (take_said s lines waiting).counts
+      as_grows lines (Some line) more = omega (arith, more)
+      as_grows lines None more = omega (arith, more)
+
+      as_same : (lines : List LineCounts) (waiting : Option ℕ) → (take_popped s lines waiting).counts ≡ s →
+          (take_said s lines waiting).counts ≡ s
+      as_same lines (Some line) f = f
+      as_same lines None f = let g : s.rows + 1 ≡ s.rows = ap (λ (c : Counts). c.rows) f in absurd (omega (arith, g))
+
+  -- ---- Back: nothing waits
+  pub back-none : HasSaid s → (back s).cause ≡ None → ⊥
+  back-none said moves =
+      let none : nat_le (in_return s) 0 ≡ true = grind (arith, said) in
+      let e : (stalled s BackEmpty).cause ≡ None = rw none at moves in cc

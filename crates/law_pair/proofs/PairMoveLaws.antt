@@ -1,0 +1,347 @@
+-- Some event of a pair moves where rows are left.
+use Rattle.std.proofs.Common.{◌≡◌, ◌⊎◌, ℕ, zero, suc, ◌+◌, ◌<◌, inl, inr, List, [], ◌∷◌, ◌++◌, length, replicate}
+use Rattle.std.proofs.Common.{sum_by}
+use Rattle.std.proofs.Common.{Option, Some, None, option_map, refl, sym, ◌∙◌, ap, subst, arith}
+use Rattle.std.proofs.lemmas.Bool.{leb-false}
+use Rattle.law_model.specs.declared.walk.Event.{Event}
+use Rattle.law_model.specs.declared.walk.Event.TheVariants as walk
+use Rattle.law_model.specs.declared.walk.StallCause.{StallCause}
+use Rattle.law_model.specs.session.Counts.{LinePath, Plan, Counts, LineCounts, carry, tick, step}
+use Rattle.law_progress.specs.Progress.{IsPlan, IsReached, LineFits, Fits, made, HasLine, cells_popped, IsProgress}
+use Rattle.law_progress.proofs.EachLaws.{each-map}
+use Rattle.law_progress.proofs.StepLaws.{carry-kept}
+use Rattle.law_progress.proofs.TakeLaws.{take-kept}
+use Rattle.law_progress.proofs.StallLaws.{is_progress}
+use Rattle.law_progress.proofs.MoveLaws.{rows-ticks, reached-fits, reached-moves}
+use Rattle.law_pair.specs.declared.pair.Way.{Way}
+use Rattle.law_pair.specs.declared.pair.Way.TheVariants.{There, Back}
+use Rattle.law_pair.specs.declared.pair.PairEvent.{PairEvent}
+use Rattle.law_pair.specs.declared.pair.PairEvent.TheVariants.{Item, Tick, Carry, Take}
+use Rattle.law_pair.specs.PairCounts.{PairPlan, PairCounts, plan_on, counts_on, with_counts, land_item, take_one}
+use Rattle.law_pair.specs.PairCounts.{tick_cause, tick_by, pair_step, carries_on, pair_round}
+use Rattle.law_pair.specs.PairProgress.{with_lag, IsPairPlan, HasWayLine, IsPairProgress, IsOpen}
+use Rattle.law_pair.proofs.OneWayLaws.{way_made, HasSaid, OneWay, Grows, item-leads, item-grows, accept-moves}
+use Rattle.law_pair.proofs.OneWayLaws.{command-moves, carry-leads, carry-more, take-leads, take-as, back-none}
+use Rattle.law_pair.proofs.TickLaws.{IsFree, tick-free, free-both}
+use Rattle.law_pair.proofs.GoingLaws.{IsGoing}
+
+-- ---- the measure: the ticks of both ways at once, and what is counted of each
+abbrev pub pair_made : PairCounts → ℕ
+pair_made s = s.there.ticks + way_made s.there + way_made s.back
+
+abbrev pub PairGrows : PairCounts → PairCounts → Type 0
+PairGrows s next = (next ≡ s) ⊎ (pair_made s < pair_made next)
+
+-- a way that can walk with a plan, and has
+pub record Walks (plan : Plan) (s : Counts) : Type 0 where
+  pub is : IsPlan plan
+  pub reached : IsReached plan s
+  pub said : HasSaid s
+
+pub walks-fits : (plan : Plan) (s : Counts) → Walks plan s → Fits plan s
+walks-fits plan s walks = reached-fits plan s walks.is walks.reached
+
+carry-grows : (plan : Plan) (s : Counts) (m : ℕ) → Walks plan s → Grows s (carry plan s m).counts
+carry-grows plan s m walks =
+    elim (carry-kept walks.is.slow walks.is.fast walks.is.slip plan s walks.is.is (walks-fits plan s walks) m) [
+      | inl same ↦ inl same.0
+      | inr more ↦ inr (carry-more plan s m more.1)
+    ]
+
+take-grows : (plan : Plan) (s : Counts) → Walks plan s → Grows s (take_one plan s).counts
+take-grows plan s walks =
+    elim (take-kept walks.is.slow walks.is.fast walks.is.slip plan s walks.is.is (walks-fits plan s walks)) [
+      | inl same ↦ inl ((take-as plan s walks.said).same same.0)
+      | inr more ↦ inr ((take-as plan s walks.said).grows more.1)
+    ]
+
+-- ---- the events of a round
+unfoldable pub In : PairEvent → List PairEvent → Type 0
+In event [] = ⊥
+In event (first ∷ events) = (first ≡ event) ⊎ In event events
+
+in-right : (event : PairEvent) (xs ys : List PairEvent) → In event ys → In event (xs ++ ys)
+unfolding In
+in-right event [] ys h = h
+in-right event (x ∷ xs) ys h = inr (in-right event xs ys h)
+
+in-left : (event : PairEvent) (xs ys : List PairEvent) → In event xs → In event (xs ++ ys)
+unfolding In
+in-left event [] ys h = absurd h
+in-left event (x ∷ xs) ys (inl h) = inl h
+in-left event (x ∷ xs) ys (inr h) = inr (in-left event xs ys h)
+
+in-carries : (way : Way) (n m : ℕ) (paths : List LinePath) → m < length paths →
+    In (Carry way (n + m)) (carries_on way n paths)
+unfolding In carries_on
+in-carries way n m [] h = absurd (omega (arith, h))
+in-carries way n zero (path ∷ paths) h = inl (ap (Carry way) (let e : n ≡ n + 0 = omega arith in e))
+in-carries way n (suc m) (path ∷ paths) h =
+    inr (subst (λ k. In (Carry way k) (carries_on way (suc n) paths)) (let e : suc n + m ≡ n + suc m = omega arith in e)
+    (in-carries way (suc n) m paths (omega (arith, h))))
+
+module _ (pair : PairPlan) where
+  abbrev last_takes : List PairEvent
+  last_takes = Take There ∷ Take Back ∷ []
+
+  abbrev carries : List PairEvent
+  carries =
+      carries_on There 0 pair.there.paths ++ (carries_on Back 0 pair.back.paths ++ last_takes)
+
+  in-end : (event : PairEvent) → In event (Tick ∷ carries) → In event (pair_round pair)
+  in-end event h =
+      in-right event (replicate (suc (length pair.there.items)) (Item There))
+      (replicate (suc (length pair.back.items)) (Item Back) ++ Tick ∷ carries)
+      (in-right event (replicate (suc (length pair.back.items)) (Item Back)) (Tick ∷ carries) h)
+
+  in-item : (way : Way) → In (Item way) (pair_round pair)
+  unfolding In
+  in-item There = inl refl
+  in-item Back =
+      in-right (Item Back) (replicate (suc (length pair.there.items)) (Item There))
+      (replicate (suc (length pair.back.items)) (Item Back) ++ Tick ∷ carries) (inl refl)
+
+  in-tick : In Tick (pair_round pair)
+  unfolding In
+  in-tick = in-end Tick (inl refl)
+
+  in-carry : (way : Way) (m : ℕ) → m < length (plan_on pair way).paths → In (Carry way m) (pair_round pair)
+  unfolding In
+  in-carry There m h =
+      in-end (Carry There m) (inr (in-left (Carry There m) (carries_on There 0 pair.there.paths)
+      (carries_on Back 0 pair.back.paths ++ last_takes)
+      (subst (λ k. In (Carry There k) (carries_on There 0 pair.there.paths)) (let e : 0 + m ≡ m = omega arith in e)
+      (in-carries There 0 m pair.there.paths h))))
+  in-carry Back m h =
+      in-end (Carry Back m) (inr (in-right (Carry Back m) (carries_on There 0 pair.there.paths)
+      (carries_on Back 0 pair.back.paths ++ last_takes)
+      (in-left (Carry Back m) (carries_on Back 0 pair.back.paths) last_takes
+      (subst (λ k. In (Carry Back k) (carries_on Back 0 pair.back.paths)) (let e : 0 + m ≡ m = omega arith in e)
+      (in-carries Back 0 m pair.back.paths h)))))
+
+  in-take : (way : Way) → In (Take way) (pair_round pair)
+  unfolding In
+  in-take There =
+      in-end (Take There) (inr (in-right (Take There) (carries_on There 0 pair.there.paths)
+      (carries_on Back 0 pair.back.paths ++ last_takes)
+      (in-right (Take There) (carries_on Back 0 pair.back.paths) last_takes (inl refl))))
+  in-take Back =
+      in-end (Take Back) (inr (in-right (Take Back) (carries_on There 0 pair.there.paths)
+      (carries_on Back 0 pair.back.paths ++ last_takes)
+      (in-right (Take Back) (carries_on Back 0 pair.back.paths) last_takes (inr (inl refl)))))
+
+-- ---- an event of a round that moves
+pub record Found (pair : PairPlan) (s : PairCounts) : Type 0 where
+  pub event : PairEvent
+  pub line : HasWayLine pair event
+  pub tried : In event (pair_round pair)
+  pub progress : IsPairProgress pair s event
+  pub more : pair_made s < pair_made (pair_step pair s event).counts
+
+module _ (pair : PairPlan) (s : PairCounts) where
+  way-more : (way : Way) (next : Counts) → next.ticks ≡ (counts_on s way).ticks →
+      way_made (counts_on s way) < way_made next → pair_made s < pair_made (with_counts way next s)
+  way-more There next ticks more = omega (arith, ticks, more)
+  way-more Back next ticks more = omega (arith, more)
+
+  way-grows : (way : Way) (next : Counts) → next.ticks ≡ (counts_on s way).ticks →
+      Grows (counts_on s way) next → PairGrows s (with_counts way next s)
+  way-grows There next ticks (inl same) = inl (ap (λ c. with_counts There c s) same)
+  way-grows There next ticks (inr more) = inr (way-more There next ticks more)
+  way-grows Back next ticks (inl same) = inl (ap (λ c. with_counts Back c s) same)
+  way-grows Back next ticks (inr more) = inr (way-more Back next ticks more)
+
+  no-cause : (way : Way) (cause : Option StallCause) → cause ≡ None →
+      option_map {U = Way × StallCause} (λ (found : StallCause). (way, found)) cause ≡ None
+  no-cause way None none = refl
+  no-cause way (Some cause) none = absurd cc
+
+-- ---- each event counts more, or changes nothing
+pub record IsNear (pair : PairPlan) (s : PairCounts) : Type 0 where
+  pub there : Walks (with_lag pair.lag pair.there) s.there
+  pub back : Walks (with_lag pair.lag pair.back) s.back
+  pub together : s.there.ticks ≡ s.back.ticks
+
+pub is-near : (pair : PairPlan) (s : PairCounts) → IsPairPlan pair → IsGoing pair pair.lag pair.lag s → IsNear pair s
+is-near pair s is going = record {
+  there = record { is = is.there_plan; reached = going.there_walks; said = going.there_said };
+  back = record { is = is.back_plan; reached = going.back_walks; said = going.back_said };
+  together = going.together;
+}
+
+module _ (pair : PairPlan) (s : PairCounts) (near : IsNear pair s) where
+  abbrev near_plan : Way → Plan
+  near_plan way = with_lag pair.lag (plan_on pair way)
+
+  near-walks : (way : Way) → Walks (near_plan way) (counts_on s way)
+  near-walks There = near.there
+  near-walks Back = near.back
+
+  near-order : (way : Way) → IsPlan (near_plan way)
+  near-order way = (near-walks way).is
+
+  item-way : (way : Way) → OneWay (near_plan way) (counts_on s way) (land_item (near_plan way) (counts_on s way)).counts
+  item-way way =
+      let is = (near-walks way).is.is in
+      item-leads (near_plan way) (counts_on s way) (is.frames, is.commands) (near-walks way).said
+
+  carry-way : (way : Way) (m : ℕ) →
+      OneWay (near_plan way) (counts_on s way) (carry (near_plan way) (counts_on s way) m).counts
+  carry-way way m = carry-leads (near_plan way) (counts_on s way) m (near-walks way).said
+
+  take-way : (way : Way) → OneWay (near_plan way) (counts_on s way) (take_one (near_plan way) (counts_on s way)).counts
+  take-way way = take-leads (near_plan way) (counts_on s way) (near-walks way).said
+
+  tick-grows : (cause : Option (Way × StallCause)) → PairGrows s (tick_by cause s).counts
+  tick-grows (Some cause) = inl refl
+  tick-grows None = inr (omega arith)
+
+  pub step-grows : (event : PairEvent) → PairGrows s (pair_step pair s event).counts
+  step-grows (Item way) =
+      way-grows pair s way (land_item (near_plan way) (counts_on s way)).counts (item-way way).ticks
+      (item-grows (near_plan way) (counts_on s way))
+  step-grows Tick = tick-grows (tick_cause pair s)
+  step-grows (Carry way m) =
+      way-grows pair s way (carry (near_plan way) (counts_on s way) m).counts (carry-way way m).ticks
+      (carry-grows (near_plan way) (counts_on s way) m (near-walks way))
+  step-grows (Take way) =
+      way-grows pair s way (take_one (near_plan way) (counts_on s way)).counts (take-way way).ticks
+      (take-grows (near_plan way) (counts_on s way) (near-walks way))
+
+  -- ---- some event moves
+  item-found : (way : Way) → ((land_item (near_plan way) (counts_on s way)).cause ≡ None)
+      × (way_made (counts_on s way) < way_made (land_item (near_plan way) (counts_on s way)).counts) → Found pair s
+  item-found way moves = record {
+    event = Item way;
+    line = tt;
+    tried = in-item pair way;
+    progress = inl (no-cause pair s way (land_item (near_plan way) (counts_on s way)).cause moves.0);
+    more = way-more pair s way (land_item (near_plan way) (counts_on s way)).counts (item-way way).ticks moves.1;
+  }
+
+  carry-found : (way : Way) (m : ℕ) → m < length (plan_on pair way).paths →
+      (carry (near_plan way) (counts_on s way) m).cause ≡ None →
+      made (counts_on s way) < made (carry (near_plan way) (counts_on s way) m).counts → Found pair s
+  carry-found way m inside moves more = record {
+    event = Carry way m;
+    line = inside;
+    tried = in-carry pair way m inside;
+    progress = inl (no-cause pair s way (carry (near_plan way) (counts_on s way) m).cause moves);
+    more = way-more pair s way (carry (near_plan way) (counts_on s way) m).counts (carry-way way m).ticks
+        (carry-more (near_plan way) (counts_on s way) m more);
+  }
+
+  take-progress : (way : Way) → IsProgress (near_plan way) (counts_on s way) walk.Take →
+      IsPairProgress pair s (Take way)
+  take-progress way (inl moves) =
+      let as_ = take-as (near_plan way) (counts_on s way) (near-walks way).said in
+      inl (no-cause pair s way (take_one (near_plan way) (counts_on s way)).cause (as_.cause ∙ moves))
+  take-progress There (inr (e, pops)) =
+      let as_ = take-as (near_plan There) s.there near.there.said in
+      inr (
+        There,
+        refl,
+        subst (λ lines. cells_popped s.there < sum_by (λ (line : LineCounts). line.popped) lines)
+            (sym as_.lines) pops,
+      )
+  take-progress Back (inr (e, pops)) =
+      let as_ = take-as (near_plan Back) s.back near.back.said in
+      inr (
+        Back,
+        refl,
+        subst (λ lines. cells_popped s.back < sum_by (λ (line : LineCounts). line.popped) lines)
+            (sym as_.lines) pops,
+      )
+
+  take-found : (way : Way) → IsProgress (near_plan way) (counts_on s way) walk.Take →
+      made (counts_on s way) < made (step (near_plan way) (counts_on s way) walk.Take).counts → Found pair s
+  take-found way progress more = record {
+    event = Take way;
+    line = tt;
+    tried = in-take pair way;
+    progress = take-progress way progress;
+    more = way-more pair s way (take_one (near_plan way) (counts_on s way)).counts (take-way way).ticks
+        ((take-as (near_plan way) (counts_on s way) (near-walks way).said).grows more);
+  }
+
+  -- what moves in the walk of a way moves in the pair, but its tick
+  abbrev TicksOr : Way → Type 0
+  TicksOr way = ((tick (near_plan way) (counts_on s way)).cause ≡ None) ⊎ Found pair s
+
+  from-walk : (way : Way) (event : Event) → HasLine (near_plan way) event →
+      IsProgress (near_plan way) (counts_on s way) event →
+      made (counts_on s way) < made (step (near_plan way) (counts_on s way) event).counts → TicksOr way
+  from-walk way walk.Accept line (inl moves) more =
+      inr (item-found way (accept-moves (near_plan way) (counts_on s way) moves))
+  from-walk way walk.Accept line (inr (e, pops)) more = absurd cc
+  from-walk way walk.Command line (inl moves) more =
+      inr (item-found way (command-moves (near_plan way) (counts_on s way) moves))
+  from-walk way walk.Command line (inr (e, pops)) more = absurd cc
+  from-walk way walk.Tick line (inl moves) more = inl moves
+  from-walk way walk.Tick line (inr (e, pops)) more = absurd cc
+  from-walk way (walk.Carry m) line (inl moves) more = inr (carry-found way m line moves more)
+  from-walk way (walk.Carry m) line (inr (e, pops)) more = absurd cc
+  from-walk way walk.Back line (inl moves) more =
+      absurd (back-none (near_plan way) (counts_on s way) (near-walks way).said moves)
+  from-walk way walk.Back line (inr (e, pops)) more = absurd cc
+  from-walk way walk.Take line progress more = inr (take-found way progress more)
+
+  ticks-or : (way : Way) → (counts_on s way).rows < (plan_on pair way).ticks → TicksOr way
+  ticks-or way open_ =
+      let walks = near-walks way in
+      let plan = near_plan way in
+      let c = counts_on s way in
+      let found = reached-moves plan c walks.is walks.reached open_ in
+      let beside = each-map (LineFits plan.ticks plan.ring c.ticks c.rows) (λ path line. Unit {0}) plan.paths c.lines
+      (λ path line fits. tt) (walks-fits plan c walks).lines in
+      from-walk way found.0 found.1.1 (is_progress plan c found.0 beside found.2) found.2
+
+  near-free : (way : Way) → (tick (near_plan way) (counts_on s way)).cause ≡ None →
+      IsFree (plan_on pair way) pair.lag (counts_on s way)
+  near-free way moves =
+      let free = tick-free (near_plan way) (counts_on s way) (near-walks way).said moves in
+      record { open_ = free.open_; landed = free.landed; room = free.room; said = free.said }
+
+  -- a way that can tick has rows left
+  free-open : (way : Way) → (counts_on s way).ticks < (plan_on pair way).ticks →
+      (counts_on s way).rows < (plan_on pair way).ticks
+  free-open way low =
+      let walks = near-walks way in
+      let early = rows-ticks walks.is.slow walks.is.fast walks.is.slip (near_plan way) walks.is.is (counts_on s way)
+      (walks-fits (near_plan way) (counts_on s way) walks) in
+      omega (arith, early, low)
+
+  tick-found : IsFree pair.there pair.lag s.there → IsFree pair.back pair.lag s.back → Found pair s
+  tick-found one other =
+      let none = free-both pair s one other in
+      record {
+        event = Tick;
+        line = tt;
+        tried = in-tick pair;
+        progress = inl (ap (λ cause. (tick_by cause s).cause) none);
+        more = subst (λ cause. pair_made s < pair_made (tick_by cause s).counts) (sym none) (omega arith);
+      }
+
+  pub some-found : pair.there.ticks ≡ pair.back.ticks → IsOpen pair s → Found pair s
+  some-found ticks (There, open_) = elim (ticks-or There open_) [
+    | inr found ↦ found
+    | inl moves ↦
+        let free = near-free There moves in
+        let low = leb-false pair.there.ticks s.there.ticks free.open_ in
+        let same = near.together in
+        elim (ticks-or Back (free-open Back (omega (arith, low, same, ticks)))) [
+          | inr found ↦ found
+          | inl other ↦ tick-found free (near-free Back other)
+        ]
+  ]
+  some-found ticks (Back, open_) = elim (ticks-or Back open_) [
+    | inr found ↦ found
+    | inl moves ↦
+        let free = near-free Back moves in
+        let low = leb-false pair.back.ticks s.back.ticks free.open_ in
+        let same = near.together in
+        elim (ticks-or There (free-open There (omega (arith, low, same, ticks)))) [
+          | inr found ↦ found
+          | inl other ↦ tick-found (near-free There other) free
+        ]
+  ]

@@ -1,0 +1,109 @@
+-- A session doesn't depend on what its packets tell.
+use Rattle.std.proofs.Common.{◌≡◌, ℕ, zero, suc, ◌+◌, ◌-◌, ◌*◌, ◌/◌, ◌%◌, nat_lt, ◌&&◌, true, if◌then◌else◌, List, []}
+use Rattle.std.proofs.Common.{◌∷◌, ◌++◌, map, length, take, drop, slice_get, Option, Some, None, refl, ◌∙◌, ap}
+use Rattle.std.specs.List.{list_all}
+use Rattle.law_model.specs.session.Scenario.{Scenario, orders_at, carried_by, is_read, is_heard, is_lost}
+use Rattle.law_model.specs.members.Damage.{is_good}
+use Rattle.law_model.specs.frames.Piece.{stream_of}
+use Rattle.law_model.specs.source.Table.{Table, Told, active}
+use Rattle.law_model.specs.source.Source.{Source, asked_all, decide, cell_at, after, table_of}
+use Rattle.law_model.specs.source.Back.{said_before, status_by, return_packet, return_cell, cells_before}
+use Rattle.law_model.specs.source.Client.{Stream, width, place_of, stream_before}
+use Rattle.law_model.specs.frames.Payload.{payload_of}
+use Rattle.law_model.specs.rows.Sent.{active_at, payload_on, container_of}
+use Rattle.law_model.specs.rows.SessionRows.{is_whole_row}
+use Rattle.law_model.specs.rows.SessionStream.{rows_of}
+use Rattle.law_session.proofs.ClientLaws.{SameTables, width-same, place_of-same, stream_before-same}
+use Rattle.law_pair.specs.Telling.{telling_of}
+
+module _ (scenario : Scenario) (tells : List Told) where
+  abbrev other : Scenario
+  other = telling_of scenario tells
+
+  -- ---- tables
+  pub telling-after : (cells : List (Option Told)) (j : ℕ) → after other cells j ≡ after scenario cells j
+  unfolding after
+  telling-after cells zero = refl
+  telling-after cells (suc j) =
+      ap (λ source. decide ((j - scenario.lag) % 16) (cell_at scenario cells j)
+      (asked_all (length scenario.windows) (orders_at scenario j) source)) (telling-after cells j)
+
+  pub telling-table : (cells : List (Option Told)) (j : ℕ) → table_of other cells j ≡ table_of scenario cells j
+  telling-table cells j = ap (λ (source : Source). source.table) (telling-after cells (suc j))
+
+  -- ---- return cells
+  telling-said : (cells : List (Option Told)) (k : ℕ) → said_before other cells k ≡ said_before scenario cells k
+  unfolding said_before
+  telling-said cells zero = refl
+  telling-said cells (suc k) =
+      ap (λ (table : Table). if is_heard scenario k then table.count else said_before other cells k)
+      (telling-table cells k)
+      ∙ ap (λ count. if is_heard scenario k then (table_of scenario cells k).count else count) (telling-said cells k)
+
+  abbrev packet_with : ℕ → ℕ → Table → Told
+  packet_with count k table = record {
+    rs_ack = count % 2;
+    oks = map (λ i. status_by scenario k (slice_get table.order (8 * (k % 16) + i)))
+        (0 ∷ 1 ∷ 2 ∷ 3 ∷ 4 ∷ 5 ∷ 6 ∷ 7 ∷ []);
+  }
+
+  pub telling-packet : (cells : List (Option Told)) (k : ℕ) →
+      return_packet other cells k ≡ return_packet scenario cells k
+  telling-packet cells k =
+      ap (λ count. packet_with count k (table_of other cells k)) (telling-said cells (suc k))
+      ∙ ap (packet_with (said_before scenario cells (suc k)) k) (telling-table cells k)
+
+  telling-cell : (cells : List (Option Told)) (k : ℕ) → return_cell other cells k ≡ return_cell scenario cells k
+  telling-cell cells k =
+      ap (λ packet. if is_lost scenario k then None else Some packet) (telling-packet cells k)
+
+  pub telling-cells : (n : ℕ) → cells_before other n ≡ cells_before scenario n
+  unfolding cells_before
+  telling-cells zero = refl
+  telling-cells (suc n) =
+      ap (λ cells. cells ++ return_cell other cells n ∷ []) (telling-cells n)
+      ∙ ap (λ cell. cells_before scenario n ++ cell ∷ []) (telling-cell (cells_before scenario n) n)
+
+  -- ---- rows
+  tables : (cells : List (Option Told)) (n : ℕ) → SameTables other cells scenario cells n
+  tables cells n = record { size = refl; tables = λ j low. telling-after cells j }
+
+  pub telling-payload : (cells : List (Option Told)) (t : ℕ) → payload_of other cells t ≡ payload_of scenario cells t
+  telling-payload cells t =
+      ap (λ n. take (scenario.size * n) (drop (place_of other cells t)
+      (stream_of (stream_before other cells (suc t)).pieces)))
+      (width-same other cells scenario cells t (tables cells ((t - 8) / 16)))
+      ∙ ap (λ place. take (scenario.size * width scenario cells t) (drop place
+      (stream_of (stream_before other cells (suc t)).pieces)))
+      (place_of-same other cells scenario cells t (tables cells ((t - 8) / 16)))
+      ∙ ap (λ (s : Stream). take (scenario.size * width scenario cells t)
+      (drop (place_of scenario cells t) (stream_of s.pieces)))
+      (stream_before-same other cells scenario cells (suc t) (tables cells ((suc t - 8) / 16)) (λ u low. refl))
+
+  telling-active : (cells : List (Option Told)) (t : ℕ) → active_at other cells t ≡ active_at scenario cells t
+  telling-active cells t =
+      ap (λ (table : Table). if nat_lt t 24 then [] else active table) (telling-table cells ((t - 24) / 16))
+
+  pub telling-container : (cells : List (Option Told)) (line t : ℕ) →
+      (container_of other cells line t).payload ≡ (container_of scenario cells line t).payload
+  telling-container cells line t =
+      ap (λ lines. payload_on lines line scenario.size (payload_of other cells t)) (telling-active cells t)
+      ∙ ap (payload_on (active_at scenario cells t) line scenario.size) (telling-payload cells t)
+
+  telling-whole : (cells : List (Option Told)) (t : ℕ) → is_whole_row other cells t ≡ is_whole_row scenario cells t
+  telling-whole cells t =
+      ap (λ (table : Table). if nat_lt t 24 then true else (is_heard scenario ((t - 24) / 16)
+      && list_all (λ line. is_read scenario line ((t - 24) / 16) && is_good (carried_by scenario line) t)
+      (active table)))
+      (telling-table cells ((t - 24) / 16))
+
+  pub telling-rows : (cells : List (Option Told)) (n : ℕ) → rows_of other cells n ≡ rows_of scenario cells n
+  unfolding rows_of
+  telling-rows cells zero = refl
+  telling-rows cells (suc t) =
+      ap (λ rows. rows ++ record { whole = is_whole_row other cells t; octets = payload_of other cells t } ∷ [])
+      (telling-rows cells t)
+      ∙ ap (λ whole. rows_of scenario cells t ++ record { whole = whole; octets = payload_of other cells t } ∷ [])
+      (telling-whole cells t)
+      ∙ ap (λ octets. rows_of scenario cells t ++ record { whole = is_whole_row scenario cells t; octets = octets }
+      ∷ []) (telling-payload cells t)

@@ -1,0 +1,70 @@
+-- A pair of sessions: two groups, one each way, that tick together. What the sink of a way has to say of it goes in the
+-- control packets of the other way, and is lost where no line of that way has a readable packet. So each way is a
+-- session by itself: what it needs of the other way are the windows of that way's lines, and what is said there.
+use Rattle.std.specs.Prelude.{◌≡◌, ℕ, ◌+◌, ◌*◌, ◌≤◌, not, Bool, List, [], ◌++◌, map, filter, replicate}
+use Rattle.std.specs.List.{range_with_len}
+use Rattle.law_model.specs.declared.script.Config.{Config}
+use Rattle.law_model.specs.declared.script.Script.{Script}
+use Rattle.law_model.specs.session.Leg.{Leg}
+use Rattle.law_model.specs.session.Scenario.{packets_in, is_heard, scenario_by, scenario_of}
+use Rattle.law_model.specs.source.Table.{Told}
+use Rattle.law_model.specs.source.Back.{return_packet, session_cells}
+use Rattle.law_model.specs.packets.Telling.{untold}
+use Rattle.law_model.specs.session.Valid.{IsValid}
+
+-- ---- what two scripts have to meet
+-- no return packet of a script is lost by itself, and it says nothing of the order of events
+pub record IsWay (script : Script) : Type 0 where
+  pub valid : IsValid script
+  pub near : script.config.lag ≤ 256
+  pub lost : script.config.lost ≡ []
+  pub events : script.events ≡ []
+
+pub record IsPair (there back : Script) : Type 0 where
+  pub there_way : IsWay there
+  pub back_way : IsWay back
+  pub lag : there.config.lag ≡ back.config.lag
+  pub ticks : there.config.ticks ≡ back.config.ticks
+
+-- ---- the network of a way
+-- return packet k comes in packet k + lag of the other way: it is lost where no line of that way has it
+abbrev pub is_unheard : Script → ℕ → Bool
+is_unheard other k = not (is_heard (scenario_of other) (k + other.config.lag))
+
+-- one window for each of some first return packets that is lost
+abbrev pub unheard : Script → ℕ → List (ℕ × ℕ)
+unheard other packets = map (λ k. (k, k + 1)) (filter (is_unheard other) (range_with_len 0 packets))
+
+-- a return packet needs the lag twice: until it is in a packet of the other way, and until that has come
+abbrev pub way_config : Script → Script → Config
+way_config script other = record {
+  lines = script.config.lines;
+  delays = script.config.delays;
+  windows = script.config.windows;
+  lost = unheard other (packets_in script.config.ticks);
+  ring = script.config.ring;
+  lag = 2 * script.config.lag;
+  ticks = script.config.ticks;
+  size = script.config.size;
+}
+
+-- ---- what its packets tell
+-- a way with packets that tell this
+abbrev pub way_telling : Script → Script → List Told → Leg
+way_telling script other tells =
+    record { config = way_config script other; items = script.items; tells = tells }
+
+-- what the sink of a leg says of it, packet by packet
+abbrev pub said_of : Leg → List Told
+said_of leg =
+    map (return_packet (scenario_by leg) (session_cells (scenario_by leg)))
+    (range_with_len 0 (packets_in leg.config.ticks))
+
+-- the packets of a way tell what is said of the other way, and the first ones, as many as the lag, tell nothing. What
+-- is said of the other way doesn't depend on what its own packets tell
+abbrev pub way_tells : Script → Script → List Told
+way_tells script other = replicate script.config.lag untold ++ said_of (way_telling other script [])
+
+-- ---- a way of a pair: that of a script, beside the other script
+abbrev pub way_of : Script → Script → Leg
+way_of script other = way_telling script other (way_tells script other)

@@ -1,0 +1,30 @@
+-- Worked rows, computed: five lines, of which lines 3, 0, 2 and 1 have SQ 0 to 3 in NORM, DNU, NORM and ADD, and line 4
+-- is IDLE.
+use Rattle.std.specs.Prelude.{ℕ, ◌==◌, not, Bool, true, List, [], ◌∷◌, map, None}
+use Rattle.base_cells.specs.declared.Ctrl.{Ctrl}
+use Rattle.law_model.specs.declared.table.Standing.TheVariants.{Add as adding, Norm as normal, Dnu as unused}
+use Rattle.law_model.specs.source.Table.{member_of, Table, none_kept}
+use Rattle.law_model.specs.packets.Forward.{forward_packet}
+use Rattle.law_model.specs.packets.Telling.{untold}
+use Rattle.law_model.specs.rows.Rows.{active_of}
+use Rattle.law_model.specs.rows.SessionRows.{packets_from}
+
+abbrev pub five : Table
+five = record {
+  order = member_of 3 normal ∷ member_of 0 unused ∷ member_of 2 normal ∷ member_of 1 adding ∷ [];
+  leaving = None;
+  count = 7;
+  acknowledged = true;
+  statuses = none_kept;
+}
+
+-- the control words and SQ that the lines send
+abbrev pub sent : List (Ctrl × ℕ)
+sent = map (λ line. ((forward_packet five line 0).ctrl, (forward_packet five line 0).sq)) (0 ∷ 1 ∷ 2 ∷ 3 ∷ 4 ∷ [])
+
+-- the lines that carry payload by the packets that are read
+abbrev pub active_read : (ℕ → Bool) → List ℕ
+active_read readable = active_of (packets_from 5 untold five 0 readable)
+
+abbrev pub all_but : ℕ → ℕ → Bool
+all_but other line = not (line == other)

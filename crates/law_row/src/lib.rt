@@ -1,0 +1,70 @@
+//! The laws of the rows of a session: that a sink, which counts the active packets that it reads, finds whole
+//! the very rows that the source's table and the failures make whole, and says the return packets that the
+//! definition of a session says. There is no code here. Begin at `row_law`.
+#![tactic(auto)]
+
+ghost use Rattle.std.specs.Prelude.{◌≡◌, ℕ, ◌*◌, ◌≤◌, Bool, true, List, [], ◌∷◌, length, map, if◌then◌else◌, Option};
+ghost use Rattle.std.specs.Prelude.{Some, None};
+ghost use Rattle.std.specs.List.{list_all, range_with_len};
+ghost use Rattle.base_cells.specs.declared.BackCell.TheVariants.{Packet as Nibbles};
+ghost use Rattle.base_cells.specs.declared.Cell.{Cell};
+ghost use Rattle.base_cells.specs.declared.Container.{Container};
+ghost use Rattle.base_cells.specs.declared.Ctrl.TheVariants.{Add, Norm, Eos, Idle, Dnu};
+ghost use Rattle.law_model.specs.declared.packet.Packet.{Packet};
+ghost use Rattle.law_model.specs.packets.Packet.{IsPacket, packet_nibbles};
+ghost use Rattle.law_model.specs.session.Scenario.{Scenario};
+ghost use Rattle.law_model.specs.source.Table.{Told, active};
+ghost use Rattle.law_model.specs.source.Source.{table_of};
+ghost use Rattle.law_model.specs.source.Back.{return_packet};
+ghost use Rattle.law_model.specs.packets.Told.{told_by, told_in};
+ghost use Rattle.law_model.specs.rows.Rows.{active_of, row_at, return_at, carried_row};
+ghost use Rattle.law_model.specs.rows.SessionRows.{packets_from, is_whole_row};
+ghost use Rattle.law_model.specs.frames.Payload.{payload_of};
+ghost use Rattle.law_row.specs.Received.{HasPackets, TellsRow, row_octets, AreDealt, IsDealtRow};
+ghost use Rattle.law_row.specs.Worked.{sent, active_read, all_but};
+
+/// A row is whole by the packets that the sink reads exactly where it is by the source's table and the
+/// failures, and then it gives the octets of the lines that carry payload, in the order of their SQ: those of
+/// the stream that the frame carries, where they were dealt to the lines so. Joining gives back what was
+/// dealt.
+pub fn row_law()
+    ensures active { (scenario : Scenario) (returns : List (Option Told)) (k : ℕ)
+        (told : Told) (readable : ℕ → Bool) → length scenario.windows ≤ 128 →
+        list_all readable (active (table_of scenario returns k)) ≡ true →
+        active_of (packets_from (length scenario.windows) told (table_of scenario returns k) k readable)
+        ≡ active (table_of scenario returns k) }
+    ensures whole { (scenario : Scenario) (returns : List (Option Told)) (sent : ℕ → Container)
+        (cells : List (List Cell)) (t : ℕ) →
+        length scenario.windows ≤ 128 → TellsRow scenario returns sent cells t →
+        row_at scenario.size cells t
+        ≡ (if is_whole_row scenario returns t then Some (row_octets scenario returns sent t)
+        else None) }
+    ensures payload { (scenario : Scenario) (returns : List (Option Told)) (sent : ℕ → Container)
+        (t : ℕ) → IsDealtRow scenario returns sent t →
+        row_octets scenario returns sent t ≡ payload_of scenario returns t }
+    ensures joined { (octet : ℕ → ℕ) (containers : List Container) (size : ℕ) →
+        AreDealt octet containers size →
+        carried_row containers size ≡ map octet (range_with_len 0 (size * length containers)) }
+{}
+
+/// What the return packet that a sink makes of its cells tells the source, and what its nibbles tell, is what
+/// the definition of a session says.
+pub fn return_law()
+    ensures told { (scenario : Scenario) (returns : List (Option Told)) (cells : List (List Cell))
+        (k : ℕ) → HasPackets scenario returns cells k →
+        told_by (return_at cells k) ≡ return_packet scenario returns k }
+    ensures said { (scenario : Scenario) (returns : List (Option Told)) (cells : List (List Cell))
+        (k : ℕ) → HasPackets scenario returns cells k →
+        told_in (Nibbles (packet_nibbles (return_at cells k)))
+        ≡ Some (return_packet scenario returns k) }
+    ensures packet { (cells : List (List Cell)) (k : ℕ) → IsPacket (return_at cells k) }
+    ensures wire { (packet : Packet) → IsPacket packet →
+        told_in (Nibbles (packet_nibbles packet)) ≡ Some (told_by packet) }
+{}
+
+/// Worked rows, computed: the last line in NORM sends EOS, and the lines that carry payload come in the order of SQ.
+pub fn worked_law()
+    ensures sent { sent ≡ (Dnu, 1) ∷ (Add, 3) ∷ (Eos, 2) ∷ (Norm, 0) ∷ (Idle, 255) ∷ [] }
+    ensures active { active_read (all_but 5) ≡ 3 ∷ 2 ∷ [] }
+    ensures one_lost { active_read (all_but 2) ≡ 3 ∷ [] }
+{}

@@ -1,0 +1,21 @@
+//! What the laws of a session and of delivery ask of a scenario, that of a sound leg has. There is no code
+//! here. What a walk asks is in `law_walk`: its `plan_law`. Begin at `read_law`.
+#![tactic(auto)]
+
+ghost use Rattle.law_model.specs.session.Leg.{Leg};
+ghost use Rattle.law_model.specs.session.Valid.{IsSound};
+ghost use Rattle.law_model.specs.session.Scenario.{scenario_by, orders_of, offers_of};
+ghost use Rattle.law_session.specs.Landing.{AreOrdersInOrder, AreOffersInOrder};
+ghost use Rattle.law_session.specs.Use.{HasLimits};
+ghost use Rattle.law_loss.specs.Carried.{AreOctets};
+
+/// A sound leg has a lag of at least one packet and at most 128 lines; its commands land in their order,
+/// and so do its frames; and these are octets.
+pub fn read_law()
+    ensures limits { (leg : Leg) → IsSound leg → HasLimits (scenario_by leg) }
+    ensures orders { (leg : Leg) → IsSound leg →
+        AreOrdersInOrder (orders_of leg.items) }
+    ensures offers { (leg : Leg) → IsSound leg →
+        AreOffersInOrder (offers_of leg.items) }
+    ensures octets { (leg : Leg) → IsSound leg → AreOctets (scenario_by leg) }
+{}

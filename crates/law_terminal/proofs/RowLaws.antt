@@ -1,0 +1,58 @@
+-- The rows and return packets that a sink makes of what has come, by the session.
+use Rattle.std.proofs.Common.{◌≡◌, ℕ, ◌+◌, ◌*◌, ◌<◌, Bool, true, false, if◌then◌else◌, List, Option, Some, None, refl}
+use Rattle.std.proofs.Common.{◌∙◌, ap, arith}
+use Rattle.base_cells.specs.declared.Cell.{Cell}
+use Rattle.base_cells.specs.declared.BackCell.TheVariants.{Packet as Nibbles, Lost}
+use Rattle.law_model.specs.packets.Packet.{packet_nibbles}
+use Rattle.law_model.specs.session.Scenario.{Scenario, is_lost}
+use Rattle.law_model.specs.packets.Told.{told_in}
+use Rattle.law_model.specs.source.Back.{return_packet, return_cell}
+use Rattle.law_model.specs.source.Table.{Told}
+use Rattle.law_model.specs.frames.Payload.{payload_of}
+use Rattle.law_model.specs.packets.ReturnPacket.{return_of}
+use Rattle.law_model.specs.rows.Rows.{read_packets, row_at, return_at}
+use Rattle.law_model.specs.rows.SessionRows.{packets_of, is_whole_row}
+use Rattle.law_model.specs.rows.Sent.{container_of}
+use Rattle.law_line.specs.StableRows.{AreDecidedAt}
+use Rattle.law_row.proofs.WholeLaws.{row-whole}
+use Rattle.law_row.proofs.DealtLaws.{row-payload}
+use Rattle.law_row.proofs.ReturnLaws.{said-nibbles}
+use Rattle.law_terminal.specs.Lines.{HasLines, ComeOfLines}
+use Rattle.law_terminal.specs.Course.{back_of, packet_by}
+use Rattle.law_terminal.proofs.ListLaws.{same-range}
+use Rattle.law_terminal.proofs.DealtLaws.{dealt-row}
+use Rattle.law_terminal.proofs.CellLaws.{has-packets, tells-row}
+
+pub row-told : (scenario : Scenario) (returns : List (Option Told)) (frames : ℕ) (cells : List (List Cell)) (t : ℕ) →
+    HasLines scenario →
+    ComeOfLines scenario returns frames cells → t < scenario.ticks → AreDecidedAt cells t →
+    row_at scenario.size cells t ≡ (if is_whole_row scenario returns t then Some
+    (payload_of scenario returns t) else None)
+row-told scenario returns frames cells t lines come low decided =
+    let sent = λ (line : ℕ). container_of scenario returns line t in
+    row-whole scenario returns sent cells t lines.few (tells-row scenario returns lines frames cells come t low decided)
+    ∙ ap (λ octets. if is_whole_row scenario returns t then Some octets else None)
+    (row-payload scenario returns sent t (dealt-row scenario returns t))
+
+-- what comes of a return packet, by whether it is lost
+lost-or : (lost : Bool) (nibbles : List ℕ) (told : Told) → told_in (Nibbles nibbles) ≡ Some told →
+    told_in (if lost then Lost else Nibbles nibbles) ≡ (if lost then None else Some told)
+lost-or true nibbles told is = refl
+lost-or false nibbles told is = is
+
+pub back-told : (scenario : Scenario) (returns : List (Option Told)) (frames : ℕ) (cells : List (List Cell)) (k : ℕ) →
+    HasLines scenario →
+    ComeOfLines scenario returns frames cells → 16 * k + 23 < scenario.ticks → AreDecidedAt cells (16 * k + 23) →
+    told_in (back_of scenario cells k) ≡ return_cell scenario returns k
+back-told scenario returns frames cells k lines come low decided =
+    lost-or (is_lost scenario k) (packet_nibbles (return_at cells k)) (return_packet scenario returns k)
+    (said-nibbles scenario returns cells k (has-packets scenario returns lines frames cells come k low decided))
+
+pub packet-told : (scenario : Scenario) (returns : List (Option Told)) (frames : ℕ) (cells : List (List Cell)) (k : ℕ) →
+    HasLines scenario →
+    ComeOfLines scenario returns frames cells → 16 * k + 23 < scenario.ticks → AreDecidedAt cells (16 * k + 23) →
+    return_at cells k ≡ packet_by scenario returns k
+packet-told scenario returns frames cells k lines come low decided =
+    let read = has-packets scenario returns lines frames cells come k low decided in
+    ap (λ rows. return_of rows k) (same-range (read_packets cells) (packets_of scenario returns) (k + 1)
+    (λ j below. read j (omega arith)))

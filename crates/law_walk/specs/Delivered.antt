@@ -1,0 +1,23 @@
+-- The frames that the rows of a leg's session give.
+use Rattle.std.specs.Prelude.{◌≡◌, ℕ, false, List, Option, Some, None}
+use Rattle.law_model.specs.session.Leg.{Leg}
+use Rattle.law_model.specs.session.Scenario.{scenario_by}
+use Rattle.law_model.specs.frames.Segment.{StreamRow, deliver}
+use Rattle.law_model.specs.rows.SessionStream.{rows_of}
+use Rattle.law_loss.specs.Added.{whole_row}
+use Rattle.law_walk.specs.Walk.{session_of}
+use Rattle.law_model.specs.Limits.{longest_frame}
+
+-- the first rows
+abbrev pub session_rows : Leg → ℕ → List StreamRow
+session_rows leg rows = rows_of (scenario_by leg) (session_of leg) rows
+
+-- the frames that are delivered of them
+abbrev pub delivered_of : Leg → ℕ → List (List ℕ)
+delivered_of leg rows = deliver longest_frame (session_rows leg rows)
+
+-- what a sink makes of a row that it reads: the row with its octets, where it is whole, and else one that isn't whole,
+-- of any octets
+pub record IsReceived (receive : Option (List ℕ) → StreamRow) : Type 0 where
+  pub whole : (octets : List ℕ) → receive (Some octets) ≡ whole_row octets
+  pub lost : (receive None).whole ≡ false

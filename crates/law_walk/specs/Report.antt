@@ -1,0 +1,28 @@
+-- The report of a walk: a line for each frame that was delivered, one for each item that was refused, and a line of
+-- totals.
+use Rattle.std.specs.Prelude.{ℕ, List, ◌++◌}
+use Rattle.std.specs.List.{flat_map}
+use Rattle.law_model.specs.session.Leg.{Leg}
+use Rattle.law_model.specs.session.Counts.{Counts}
+use Rattle.text_report.specs.declared.report.Refusal.{Refusal}
+use Rattle.text_report.specs.Report.{got_texts, refused_text, total_text}
+use Rattle.law_walk.specs.Delivered.{delivered_of}
+use Rattle.law_walk.specs.Landed.{Numbered, landed_items, refusals_among, totals_among}
+use Rattle.law_walk.specs.Promise.{numbered}
+
+abbrev pub refused_texts : List (ℕ × Refusal) → List ℕ
+refused_texts refusals = flat_map (λ (refused : ℕ × Refusal). refused_text refused.0 refused.1) refusals
+
+-- after some ticks and rows, where these items have landed
+abbrev pub report_among : Leg → ℕ → ℕ → List Numbered → List ℕ
+report_among leg ticks rows items =
+    got_texts (delivered_of leg rows) ++ refused_texts (refusals_among leg items) ++ total_text
+    (totals_among leg ticks rows items)
+
+-- by the counts of a walk
+abbrev pub report_of : Leg → Counts → List ℕ
+report_of leg s = report_among leg s.ticks s.rows (landed_items leg s)
+
+-- of a session whose ticks are all made, whose rows are all taken and whose items have all landed
+abbrev pub final_report : Leg → List ℕ
+final_report leg = report_among leg leg.config.ticks leg.config.ticks (numbered 0 leg.items)

@@ -1,8 +1,0 @@
--- The front is rewritten, and the rule for the members that are left gives the rest.
-use Rattle.session_model.specs.Table.{admit, kept_in}
-use Rattle.lcas_source.proofs.FrontLaws.{IsRewriting}
-use Rattle.lcas_source.proofs.line_table.admit.Given as goal
-
-abbrev pub invariant-loop-sq : goal.invariant-loop-sq
-invariant-loop-sq l = IsRewriting (admit (kept_in l.statuses)) l.sq l.members
-    (admit (kept_in l.statuses) 0 l.fn.members)

@@ -1,0 +1,2 @@
+pub mod Au4PointerLaws
+pub mod Au4LinkLaws

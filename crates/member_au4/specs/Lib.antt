@@ -1,0 +1,2 @@
+pub mod au4_pointer
+pub mod au4_link

@@ -1,0 +1,28 @@
+-- The cells that a carry gives.
+use Rattle.std.specs.Prelude.{List, [], ◌∷◌}
+use Rattle.base_cells.specs.declared.Container.{Container}
+use Rattle.base_cells.specs.declared.Cell.{Cell}
+use Rattle.base_cells.specs.declared.Cell.TheVariants.{Good as GoodCell, Fail as FailCell, End as EndCell}
+use Rattle.law_model.specs.declared.window.Carried.{Carried}
+use Rattle.law_model.specs.declared.window.Carried.TheVariants.{Whole, Fails, Vanishes}
+use Rattle.member_path.specs.declared.line_core.carry.CarrySign.{CarrySign}
+use Rattle.member_path.specs.declared.line_core.carry.CarrySign.TheVariants.{Nothing, Good, Fail, End}
+use Rattle.member_path.specs.declared.line_core.carry.Out.{Out}
+use Rattle.member_path.specs.declared.line_core.carry.Out.TheVariants.{Nothing as NothingOut, One}
+
+abbrev pub out_cells : Out → List Cell
+out_cells NothingOut = []
+out_cells (One cell) = cell ∷ []
+
+-- where the container of a good cell lies in this place
+abbrev pub carry_cells : CarrySign → Container → List Cell
+carry_cells Nothing place = []
+carry_cells Good place = GoodCell place ∷ []
+carry_cells Fail place = FailCell ∷ []
+carry_cells End place = EndCell ∷ []
+
+-- by what comes of a container
+abbrev pub carry_for : Carried → CarrySign
+carry_for Whole = Good
+carry_for Fails = Fail
+carry_for Vanishes = Nothing

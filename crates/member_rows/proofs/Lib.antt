@@ -1,0 +1,3 @@
+pub mod LcasPacketLaws
+pub mod RealignCoreLaws
+pub mod VcatInterleaveLaws

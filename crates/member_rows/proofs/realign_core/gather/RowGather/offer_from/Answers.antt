@@ -1,0 +1,65 @@
+-- One line has taken the cell, and where it was the first that waits, another one may be.
+use Rattle.std.proofs.Common.{ℕ, ◌<◌, List, [], ◌∷◌, ◌++◌, length, slice_set, Some, sym, ◌∙◌, ap, subst, arith}
+use Rattle.std.proofs.lemmas.Option.{slice_get-get_or}
+use Rattle.base_cells.specs.declared.Container.{Container}
+use Rattle.base_cells.specs.declared.Cell.{Cell}
+use Rattle.base_cells.specs.Held.{held}
+use Rattle.member_path.specs.line_reader.Told.{cell_of}
+use Rattle.member_rows.specs.realign_core.Line.{LineStands}
+use Rattle.member_rows.specs.realign_core.Gather.{Gather, Stands, IsOpenAt, decided_lines, with_cell}
+use Rattle.member_rows.proofs.RealignCoreLaws.GatherLaws.{offered_held, length-slice_set}
+use Rattle.member_rows.proofs.realign_core.gather.RowGather.offer_from.Goals as goal
+
+pub invariant_of-self : goal.invariant_of-self
+invariant_of-self c =
+    let inside = c.self.inside in
+    let m = c.from-m.result in
+    let old = inside.lines.items in
+    let after = c.cell.new.self in
+    let known = c.self.invariant in
+    let lines = length-slice_set old m after in
+    let size = ap (λ v. length v.lines) c.self.view_is in
+    let within : m < length old = omega (arith, c.requires.line, c.from-m.ensures, size) in
+    let was = slice_get-get_or old m c.index_mut.result.now within ∙ ap Some (sym c.index_mut.ensures.value) in
+    let is : IsOpenAt (record {
+      lines = old;
+      places = held inside.places.items;
+      packets = inside.packets.items;
+      rows =
+          inside.rows;
+    }) m =
+    subst (λ v. IsOpenAt v m) (sym c.self.view_is)
+    (subst (IsOpenAt c.args.self.now) (sym c.from-m.ensures) c.requires.open) in (
+      omega (arith, lines, known.0),
+      length-slice_set inside.places.items m _ ∙ known.1 ∙ sym lines,
+      known.2 ∙ sym lines,
+      c.decided_after-self-inside.ensures old c.index_mut.result.now after c.deref.ensures.value known.3 was
+          (is c.index_mut.result.now was) ∙ ap decided_lines c.deref.ensures.value,
+    )
+
+pub returns-clause-stands : goal.returns-clause-stands
+returns-clause-stands c cells stands =
+    let inside = c.self.inside in
+    let m = c.from-m.result in
+    let old = inside.lines.items in
+    let known = c.self.invariant in
+    let before = subst (λ v. Stands v cells) (sym c.self.view_is) stands in
+    let size = ap (λ v. length v.lines) c.self.view_is in
+    let within : m < length old = omega (arith, c.requires.line, c.from-m.ensures, size) in
+    let sizes = known.1 in
+    let was = slice_get-get_or old m c.index_mut.result.now within ∙ ap Some (sym c.index_mut.ensures.value) in
+    let lay = slice_get-get_or inside.places.items m c.index_mut-2.result.now (omega arith)
+    ∙ ap Some (sym c.index_mut-2.ensures.value) in
+    let new : Gather = record {
+      lines = slice_set old m c.cell.new.self;
+      places = held (slice_set inside.places.items m (record c.index_mut-2.result.now { value = c.cell.new.place }));
+      packets = inside.packets.items;
+      rows = inside.rows;
+    } in
+    let next = subst (λ (place : Container). (own : List Cell) (t : ℕ) → LineStands c.index_mut.result.now place own t →
+    LineStands c.cell.new.self c.cell.new.place (own ++ cell_of c.args.cell ∷ []) t)
+    (c.container_mut.ensures.value ∙ c.deref_mut.ensures.value) c.cell.ensures.stands in
+    subst (λ k. Stands new (with_cell cells k (cell_of c.args.cell))) c.from-m.ensures
+    (offered_held old inside.places.items inside.packets.items inside.rows m c.index_mut.result.now c.cell.new.self
+    c.index_mut-2.result.now (record c.index_mut-2.result.now { value = c.cell.new.place })
+    (cell_of c.args.cell) cells was lay next before)

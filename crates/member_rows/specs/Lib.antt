@@ -1,0 +1,2 @@
+pub mod realign_core
+pub mod vcat_interleave

@@ -1,0 +1,14 @@
+//! The payload of a group, dealt octet by octet to its members and joined again (G.707). Octet `i` of a row
+//! goes to the member of rank `i mod x`, place `i div x`, where `x` members carry payload. Which lines these
+//! are is not known here. Begin with `spread` and `gather`, which do one member; `spread_places` and
+//! `gather_places` do all members at once, at any number of places.
+
+mod gathering;
+mod laws;
+mod member;
+mod spreading;
+mod square;
+
+pub use gathering::{gather, gather_places};
+pub use laws::{gather_law, interleave_law};
+pub use spreading::{spread, spread_places};

@@ -1,0 +1,142 @@
+-- The next item of a way lands, or stalls.
+use Rattle.std.proofs.Common.{◌≡◌, ℕ, ◌+◌, ◌<◌, ◌≤◌, nat_lt, Bool, true, false, Option, Some, None, refl, sym, ◌∙◌, ap}
+use Rattle.std.proofs.Common.{subst, inl, inr}
+use Rattle.std.proofs.lemmas.Bool.{cases_Bool, lt-ltb, le-ltb}
+use Rattle.law_model.specs.declared.script.Script.{Script}
+use Rattle.law_model.specs.declared.walk.StallCause.{StallCause}
+use Rattle.law_model.specs.declared.walk.StallCause.TheVariants.{Done, NotDue}
+use Rattle.law_model.specs.session.Leg.{Leg}
+use Rattle.law_model.specs.session.Scenario.{packets_in}
+use Rattle.law_model.specs.session.Counts.{Due, Plan, Counts, Step, dues_of, land_due, step}
+use Rattle.law_model.specs.session.Counts.{frame_dues, command_dues}
+use Rattle.std.specs.List.Sorted.{IsNonDecreasing}
+use Rattle.text_report.specs.declared.report.Refusal.{Refusal}
+use Rattle.law_walk.specs.Walk.{walk_plan}
+use Rattle.terminal_group.specs.Landed.{Landed}
+use Rattle.terminal_group.proofs.BareLaws.{bare-dues}
+use Rattle.law_pair.specs.Pair.{way_of}
+use Rattle.law_pair.specs.PairCounts.{left_after, first_due, land_first, land_item}
+use Rattle.walk_engine.specs.declared.walk_core.moved.Moved.TheVariants.{Stalled}
+use Rattle.walk_engine.specs.walk_core.Landing.{landing_of}
+use Rattle.walk_engine.specs.walk_core.Moved.{answer_by, refusal_in_event}
+use Rattle.walk_engine.specs.walk_core.Parts.{Parts, counts_of, Stands}
+use Rattle.walk_engine.specs.walk_core.Way.{Makes}
+use Rattle.pair_engine.specs.declared.item.NextItem.{NextItem}
+use Rattle.pair_engine.specs.declared.pair_way.PairWay.{PairWay}
+use Rattle.pair_engine.specs.Moved.{refusal_by, next_refusal}
+use Rattle.pair_engine.specs.Steps.{due_by, due_of_next, AreInOrder, Goes}
+use Rattle.pair_engine.specs.Ways.{way_counts, StandsAs}
+
+-- ---- in numbers
+first-early : (s : Counts) (client : Bool) (due : ℕ) → s.ticks < due →
+    land_first (Some (due_by client due)) s ≡ record { counts = s; cause = Some (NotDue due) }
+first-early s true due low = let early : nat_lt s.ticks due ≡ true = lt-ltb s.ticks due low in rw early refl
+first-early s false due low = let early : nat_lt s.ticks due ≡ true = lt-ltb s.ticks due low in rw early refl
+
+landed-counts : (ticks : ℕ) (found : Option ℕ) (s next : Counts) → (land_due ticks found s next).cause ≡ None →
+    (land_due ticks found s next).counts ≡ next
+landed-counts ticks None s next e = absurd cc
+landed-counts ticks (Some due) s next e =
+    elim (cases_Bool (nat_lt ticks due)) [
+      | inl early ↦ absurd (let f : Some (NotDue due) ≡ None = rw early at e in cc)
+      | inr late ↦ rw late refl
+    ]
+
+-- the item that is due first lands as the next of its kind does in a walk
+first-lands : (plan : Plan) (s : Counts) (client : Bool) (due : ℕ) → due ≤ s.ticks →
+    (step plan s (landing_of client)).cause ≡ None →
+    (land_first (Some (due_by client due)) s ≡ record {
+      counts = (step plan s (landing_of client)).counts;
+      cause = None;
+    })
+first-lands plan s true due low e =
+    let late : nat_lt s.ticks due ≡ false = le-ltb s.ticks due low in
+    rw late (ap (λ (c : Counts). record { counts = c; cause = None }) (sym (landed-counts s.ticks _ s
+    (record s { frames = s.frames + 1 }) e)))
+first-lands plan s false due low e =
+    let late : nat_lt s.ticks due ≡ false = le-ltb s.ticks due low in
+    rw late (ap (λ (c : Counts). record { counts = c; cause = None }) (sym (landed-counts s.ticks _ s
+    (record s { commands = s.commands + 1 }) e)))
+
+refusal-is : (leg : Leg) (s : Counts) (client : Bool) (due : ℕ) →
+    refusal_by leg s (Some (due_by client due)) ≡ refusal_in_event leg s (landing_of client)
+refusal-is leg s true due = refl
+refusal-is leg s false due = refl
+
+-- ---- of a way
+module _ (own : PairWay) (other : Script) (stands : StandsAs (way_of own.script other) own) (found : Option NextItem)
+    (landing : Landed) (same : landing ≡ own.core.source.landed)
+    (first : AreInOrder landing.items →
+    due_of_next found ≡ first_due (left_after landing.frames landing.commands (dues_of landing.items))) where
+  abbrev leg : Leg
+  leg = way_of own.script other
+
+  dues-same : dues_of landing.items ≡ dues_of own.script.items
+  dues-same = ap (λ (l : Landed). dues_of l.items) same ∙ ap dues_of stands.landed.items ∙ bare-dues own.script.items
+
+  in-order : AreInOrder landing.items
+  in-order = (
+    subst (λ dues. IsNonDecreasing (frame_dues dues)) (sym dues-same) stands.sound.items.frames,
+    subst (λ dues. IsNonDecreasing (command_dues dues)) (sym dues-same) stands.sound.items.commands,
+  )
+
+  pub first-of : first_due (left_after own.core.source.landed.frames own.core.source.landed.commands
+      (dues_of own.script.items)) ≡ due_of_next found
+  first-of =
+      sym (first in-order ∙ ap (λ (l : Landed). first_due (left_after l.frames l.commands (dues_of l.items))) same
+      ∙ ap (λ dues. first_due (left_after own.core.source.landed.frames own.core.source.landed.commands dues))
+      (ap dues_of stands.landed.items ∙ bare-dues own.script.items))
+
+  item-step : land_item (walk_plan (way_of own.script other)) (way_counts own)
+      ≡ land_first (due_of_next found) (way_counts own)
+  item-step = ap (λ (due : Option Due). land_first due (way_counts own)) first-of
+
+  -- nothing moves
+  goes-same : (cause : StallCause) →
+      land_item (walk_plan (way_of own.script other)) (way_counts own)
+      ≡ record { counts = way_counts own; cause = Some cause } →
+      Goes (way_of own.script other) own (land_item (walk_plan (way_of own.script other)) (way_counts own))
+      (next_refusal (way_of own.script other) (way_counts own)) (Stalled cause)
+  goes-same cause e = record {
+    stands = stands;
+    counts = sym (ap (λ (x : Step). x.counts) e);
+    moved = sym (ap (λ (x : Step). answer_by x.cause (next_refusal leg (way_counts own))) e);
+  }
+
+  pub goes-none : None ≡ found →
+      Goes (way_of own.script other) own (land_item (walk_plan (way_of own.script other)) (way_counts own))
+      (next_refusal (way_of own.script other) (way_counts own)) (Stalled Done)
+  goes-none none = goes-same Done
+      (item-step ∙ ap (λ (o : Option NextItem). land_first (due_of_next o) (way_counts own)) (sym none))
+
+  pub goes-early : (next : NextItem) → Some next ≡ found → own.core.source.core.ticks < next.due →
+      Goes (way_of own.script other) own (land_item (walk_plan (way_of own.script other)) (way_counts own))
+      (next_refusal (way_of own.script other) (way_counts own)) (Stalled (NotDue next.due))
+  goes-early next some early = goes-same (NotDue next.due)
+      (item-step ∙ ap (λ (o : Option NextItem). land_first (due_of_next o) (way_counts own)) (sym some)
+      ∙ first-early (way_counts own) next.client next.due early)
+
+  pub goes-landed : (next : NextItem) → Some next ≡ found → next.due ≤ own.core.source.core.ticks →
+      (step (walk_plan (way_of own.script other)) (way_counts own) (landing_of next.client)).cause ≡ None →
+      (now : Parts) (why : Option Refusal) →
+      Makes (way_of own.script other) (packets_in own.core.sink.taken) (landing_of next.client) own.core now
+      (answer_by None why) → now.sink.taken ≡ own.core.sink.taken →
+      Goes (way_of own.script other) (record own { core = now })
+      (land_item (walk_plan (way_of own.script other)) (way_counts own))
+      (next_refusal (way_of own.script other) (way_counts own)) (answer_by None why)
+  goes-landed next some late moves now why makes rows =
+      let plan : Plan = walk_plan leg in
+      let s : Counts = way_counts own in
+      let is : land_item plan s ≡ record { counts = (step plan s (landing_of next.client)).counts; cause = None } =
+      item-step ∙ ap (λ (o : Option NextItem). land_first (due_of_next o) s) (sym some)
+      ∙ first-lands plan s next.client next.due late moves in
+      let refuses : next_refusal leg s ≡ refusal_in_event leg s (landing_of next.client) =
+      ap (refusal_by leg s) (first-of ∙ ap due_of_next (sym some)) ∙ refusal-is leg s next.client next.due in
+      record {
+        stands = subst (λ n. Stands leg (packets_in n) now) (sym rows) makes.stands;
+        counts = ap (λ n. counts_of now (packets_in n)) rows ∙ makes.counts ∙ sym (ap (λ (x : Step). x.counts) is);
+        moved = makes.moved
+            ∙ ap (λ (cause : Option StallCause). answer_by cause (refusal_in_event leg s (landing_of next.client)))
+            moves
+            ∙ sym (ap (λ (x : Step). answer_by x.cause (next_refusal leg s)) is ∙ ap (answer_by None) refuses);
+      }

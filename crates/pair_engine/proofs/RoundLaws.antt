@@ -1,0 +1,372 @@
+-- Rounds of a pair: items land until they stall, each line is tried once, and so for the rest.
+use Rattle.std.proofs.Common.{◌≡◌, ℕ, zero, suc, ◌+◌, ◌-◌, ◌<◌, ◌≤◌, nat_le, nat_lt, List, [], ◌∷◌, ◌++◌, length}
+use Rattle.std.proofs.Common.{replicate}
+use Rattle.std.proofs.Common.{drop, Option, Some, None, option_map, refl, sym, ◌∙◌, ap, subst, arith, inl}
+use Rattle.std.proofs.Common.{inr, true, false}
+use Rattle.std.proofs.lemmas.Bool.{cases_Bool}
+use Rattle.law_model.specs.declared.walk.StallCause.{StallCause}
+use Rattle.law_model.specs.declared.walk.StallCause.TheVariants.{NotDue}
+use Rattle.law_model.specs.session.Counts.{Due, frame_due, command_due, frame_dues, command_dues, LinePath, LineCounts}
+use Rattle.law_model.specs.session.Counts.{Plan, Counts, pop_lines}
+use Rattle.law_model.specs.declared.script.Script.{Script}
+use Rattle.text_report.specs.declared.report.Refusal.{Refusal}
+use Rattle.law_pair.specs.Pair.{IsPair}
+use Rattle.law_pair.specs.PairWalk.{IsPairWalked}
+use Rattle.law_pair.proofs.PairPlanLaws.{has-pair-plan, there-taken, back-taken}
+use Rattle.pair_engine.specs.declared.moved.PairMoved.{PairMoved}
+use Rattle.pair_engine.specs.declared.moved.PairMoved.TheVariants.{Stalled}
+use Rattle.pair_engine.specs.Moved.{Paired, plan_of, leg_on, with_counts, answer_by, GivesWay}
+use Rattle.base_io.specs.Start.{Start}
+use Rattle.law_model.specs.session.Leg.{Leg}
+use Rattle.walk_engine.specs.walk_core.Moved.{GivesRows}
+use Rattle.walk_engine.proofs.WalkCoreLaws.RoundLaws.{gives-then}
+use Rattle.law_pair.specs.declared.pair.Way.{Way}
+use Rattle.law_pair.specs.declared.pair.Way.TheVariants.{There, Back}
+use Rattle.law_pair.specs.declared.pair.PairEvent.{PairEvent}
+use Rattle.law_pair.specs.declared.pair.PairEvent.TheVariants.{Item, Tick, Carry, Take}
+use Rattle.law_pair.specs.PairCounts.{PairPlan, PairCounts, plan_on, counts_on, pair_step, pair_run, carries_on}
+use Rattle.law_pair.specs.PairCounts.{pair_round, pair_drain, pair_bound, is_over, left_after, first_due, land_first}
+use Rattle.law_pair.specs.PairCounts.{land_item, take_said, take_one}
+use Rattle.law_pair.specs.PairProgress.{with_lag, IsPairPlan, IsPairReached}
+use Rattle.law_pair.proofs.GoingLaws.{goes-near}
+use Rattle.law_pair.proofs.PairMoveLaws.{pair_made, is-near, walks-fits}
+use Rattle.law_pair.proofs.PairEndLaws.{pair-round-less, pair-turns, pair-stops}
+
+-- ---- events one after another
+pub run-append : (pair : PairPlan) (s : PairCounts) (xs ys : List PairEvent) →
+    pair_run pair s (xs ++ ys) ≡ pair_run pair (pair_run pair s xs) ys
+unfolding pair_run
+run-append pair s [] ys = refl
+run-append pair s (x ∷ xs) ys = run-append pair (pair_step pair s x).counts xs ys
+
+pub run-one : (pair : PairPlan) (s : PairCounts) (event : PairEvent) (events : List PairEvent) →
+    pair_run pair s (event ∷ events) ≡ pair_run pair (pair_step pair s event).counts events
+unfolding pair_run
+run-one pair s event events = refl
+
+pub run-none : (pair : PairPlan) (s : PairCounts) → pair_run pair s [] ≡ s
+unfolding pair_run
+run-none pair s = refl
+
+-- ---- each line once
+drop-next : {X : Type 0} (xs : List X) (m : ℕ) → m < length xs → (x : X) × (drop m xs ≡ x ∷ drop (suc m) xs)
+drop-next [] m h = absurd (omega (arith, h))
+drop-next (x ∷ xs) zero h = (x, refl)
+drop-next (x ∷ xs) (suc m) h = drop-next xs m (omega (arith, h))
+
+drop-all : {X : Type 0} (xs : List X) (m : ℕ) → length xs ≤ m → drop m xs ≡ []
+drop-all [] zero h = refl
+drop-all [] (suc m) h = refl
+drop-all (x ∷ xs) zero h = absurd (omega (arith, h))
+drop-all (x ∷ xs) (suc m) h = drop-all xs m (omega (arith, h))
+
+pub carry-next : (pair : PairPlan) (way : Way) (s : PairCounts) (paths : List LinePath) (m : ℕ) → m < length paths →
+    pair_run pair s (carries_on way m (drop m paths))
+    ≡ pair_run pair (pair_step pair s (Carry way m)).counts (carries_on way (m + 1) (drop (m + 1) paths))
+unfolding pair_run carries_on
+carry-next pair way s paths m h =
+    let (x, e) = drop-next paths m h in
+    ap (λ xs. pair_run pair s (carries_on way m xs)) e
+    ∙ ap (λ k. pair_run pair (pair_step pair s (Carry way m)).counts (carries_on way k (drop k paths)))
+    (let f : suc m ≡ m + 1 = omega arith in f)
+
+pub carry-last : (pair : PairPlan) (way : Way) (s : PairCounts) (paths : List LinePath) (m : ℕ) → length paths ≤ m →
+    pair_run pair s (carries_on way m (drop m paths)) ≡ s
+unfolding pair_run carries_on
+carry-last pair way s paths m h = ap (λ xs. pair_run pair s (carries_on way m xs)) (drop-all paths m h)
+
+-- ---- a round
+pub round-run : (pair : PairPlan) (s items_there items_back ticked lines_there lines_back : PairCounts) →
+    items_there ≡ pair_run pair s (replicate (suc (length pair.there.items)) (Item There)) →
+    items_back ≡ pair_run pair items_there (replicate (suc (length pair.back.items)) (Item Back)) →
+    ticked ≡ (pair_step pair items_back Tick).counts →
+    lines_there ≡ pair_run pair ticked (carries_on There 0 pair.there.paths) →
+    lines_back ≡ pair_run pair lines_there (carries_on Back 0 pair.back.paths) →
+    pair_run pair lines_back (Take There ∷ Take Back ∷ []) ≡ pair_run pair s (pair_round pair)
+round-run pair s items_there items_back ticked lines_there lines_back a b c d e =
+    let last : List PairEvent = Take There ∷ Take Back ∷ [] in
+    let backs : List PairEvent = carries_on Back 0 pair.back.paths ++ last in
+    let carries : List PairEvent = carries_on There 0 pair.there.paths ++ backs in
+    let rest : List PairEvent = replicate (suc (length pair.back.items)) (Item Back) ++ Tick ∷ carries in
+    ap (λ n. pair_run pair n last) e
+    ∙ sym (run-append pair lines_there (carries_on Back 0 pair.back.paths) last)
+    ∙ ap (λ n. pair_run pair n backs) d
+    ∙ sym (run-append pair ticked (carries_on There 0 pair.there.paths) backs)
+    ∙ ap (λ n. pair_run pair n carries) c
+    ∙ sym (run-one pair items_back Tick carries)
+    ∙ ap (λ n. pair_run pair n (Tick ∷ carries)) b
+    ∙ sym (run-append pair items_there (replicate (suc (length pair.back.items)) (Item Back)) (Tick ∷ carries))
+    ∙ ap (λ n. pair_run pair n rest) a
+    ∙ sym (run-append pair s (replicate (suc (length pair.there.items)) (Item There)) rest)
+
+-- ---- items land until they stall
+replicate-add : {X : Type 0} (a b : ℕ) (x : X) → replicate (a + b) x ≡ replicate a x ++ replicate b x
+replicate-add zero b x = ap (λ n. replicate n x) (let e : 0 + b ≡ b = omega arith in e)
+replicate-add (suc a) b x = ap (λ n. replicate n x) (let e : suc a + b ≡ suc (a + b) = omega arith in e)
+    ∙ ap (λ l. x ∷ l) (replicate-add a b x)
+
+run-same : (pair : PairPlan) (s : PairCounts) (event : PairEvent) (k : ℕ) → (pair_step pair s event).counts ≡ s →
+    pair_run pair s (replicate k event) ≡ s
+unfolding pair_run
+run-same pair s event zero e = refl
+run-same pair s event (suc k) e = ap (λ next. pair_run pair next (replicate k event)) e ∙ run-same pair s event k e
+
+abbrev pub landed_on : PairCounts → Way → ℕ
+landed_on s way = (counts_on s way).frames + (counts_on s way).commands
+
+abbrev pub items_on : PairPlan → Way → ℕ
+items_on pair way = length (plan_on pair way).items
+
+-- the loop: k items have landed
+abbrev pub Landed : PairPlan → Way → PairCounts → PairCounts → Type 0
+Landed pair way start s =
+    (k : ℕ) × (s ≡ pair_run pair start (replicate k (Item way))) × (landed_on s way ≡ landed_on start way + k)
+
+pub landed-none : (pair : PairPlan) (way : Way) (start : PairCounts) → Landed pair way start start
+landed-none pair way start = (0, sym (run-none pair start), omega arith)
+
+kinds : (items : List Due) → length (frame_dues items) + length (command_dues items) ≡ length items
+unfolding frame_dues command_dues
+kinds [] = refl
+kinds (frame_due due ∷ items) = let rest = kinds items in omega (arith, rest)
+kinds (command_due due ∷ items) = let rest = kinds items in omega (arith, rest)
+
+pub few-landed : (pair : PairPlan) (s : PairCounts) (way : Way) → IsPairPlan pair → IsPairReached pair s →
+    landed_on s way ≤ items_on pair way
+few-landed pair s There is reached =
+    let near = is-near pair s is (goes-near pair s is reached) in
+    let fits = walks-fits (with_lag pair.lag pair.there) s.there near.there in
+    let frames = fits.frames in
+    let commands = fits.commands in
+    let all = kinds pair.there.items in
+    omega (arith, frames, commands, all)
+few-landed pair s Back is reached =
+    let near = is-near pair s is (goes-near pair s is reached) in
+    let fits = walks-fits (with_lag pair.lag pair.back) s.back near.back in
+    let frames = fits.frames in
+    let commands = fits.commands in
+    let all = kinds pair.back.items in
+    omega (arith, frames, commands, all)
+
+-- an item that lands, or stalls
+first-lands : (s : Counts) (found : Option Due) → (land_first found s).cause ≡ None →
+    (land_first found s).counts.frames + (land_first found s).counts.commands ≡ s.frames + s.commands + 1
+first-lands s None e = absurd cc
+first-lands s (Some (frame_due due)) e =
+    elim (cases_Bool (nat_lt s.ticks due)) [
+      | inl early ↦ absurd (let f : Some (NotDue due) ≡ None = rw early at e in cc)
+      | inr late ↦ rw late (omega arith)
+    ]
+first-lands s (Some (command_due due)) e =
+    elim (cases_Bool (nat_lt s.ticks due)) [
+      | inl early ↦ absurd (let f : Some (NotDue due) ≡ None = rw early at e in cc)
+      | inr late ↦ rw late (omega arith)
+    ]
+
+first-stalls : (s : Counts) (found : Option Due) (cause : StallCause) → (land_first found s).cause ≡ Some cause →
+    (land_first found s).counts ≡ s
+first-stalls s None cause e = refl
+first-stalls s (Some (frame_due due)) cause e =
+    elim (cases_Bool (nat_lt s.ticks due)) [
+      | inl early ↦ rw early refl
+      | inr late ↦ absurd (let f : None ≡ Some cause = rw late at e in cc)
+    ]
+first-stalls s (Some (command_due due)) cause e =
+    elim (cases_Bool (nat_lt s.ticks due)) [
+      | inl early ↦ rw early refl
+      | inr late ↦ absurd (let f : None ≡ Some cause = rw late at e in cc)
+    ]
+
+no-cause : (way : Way) (found : Option StallCause) →
+    option_map {U = Way × StallCause} (λ (cause : StallCause). (way, cause)) found ≡ None → found ≡ None
+no-cause way None e = refl
+no-cause way (Some cause) e = absurd cc
+
+some-cause : (way : Way) (found : Option StallCause) (cause : Way × StallCause) →
+    option_map {U = Way × StallCause} (λ (cause : StallCause). (way, cause)) found ≡ Some cause →
+    (own : StallCause) × (found ≡ Some own)
+some-cause way None cause e = absurd cc
+some-cause way (Some own) cause e = (own, refl)
+
+item-lands : (pair : PairPlan) (s : PairCounts) (way : Way) → (pair_step pair s (Item way)).cause ≡ None →
+    landed_on (pair_step pair s (Item way)).counts way ≡ landed_on s way + 1
+item-lands pair s There e =
+    first-lands s.there (first_due (left_after s.there.frames s.there.commands pair.there.items))
+    (no-cause There (land_item pair.there s.there).cause e)
+item-lands pair s Back e =
+    first-lands s.back (first_due (left_after s.back.frames s.back.commands pair.back.items))
+    (no-cause Back (land_item pair.back s.back).cause e)
+
+item-stalls : (pair : PairPlan) (s : PairCounts) (way : Way) (cause : Way × StallCause) →
+    (pair_step pair s (Item way)).cause ≡ Some cause → (pair_step pair s (Item way)).counts ≡ s
+item-stalls pair s There cause e =
+    let (own, is) = some-cause There (land_item pair.there s.there).cause cause e in
+    ap (λ (c : Counts). record { there = c; back = s.back })
+    (first-stalls s.there (first_due (left_after s.there.frames s.there.commands pair.there.items)) own is)
+item-stalls pair s Back cause e =
+    let (own, is) = some-cause Back (land_item pair.back s.back).cause cause e in
+    ap (λ (c : Counts). record { there = s.there; back = c })
+    (first-stalls s.back (first_due (left_after s.back.frames s.back.commands pair.back.items)) own is)
+
+module _ (pair : PairPlan) (way : Way) (start s next : PairCounts) (landed : Landed pair way start s)
+    (is : next ≡ (pair_step pair s (Item way)).counts) where
+  pub item-turn : (pair_step pair s (Item way)).cause ≡ None → landed_on next way ≤ items_on pair way →
+      Landed pair way start next × (items_on pair way - landed_on next way < items_on pair way - landed_on s way)
+  item-turn moves few =
+      let (k, run, sum) = landed in
+      let one = ap (λ (c : PairCounts). landed_on c way) is ∙ item-lands pair s way moves in (
+        (
+          k + 1,
+          is ∙ ap (λ (c : PairCounts). (pair_step pair c (Item way)).counts) run
+              ∙ sym (run-none pair (pair_step pair (pair_run pair start (replicate k (Item way))) (Item way)).counts)
+              ∙ sym (run-one pair (pair_run pair start (replicate k (Item way))) (Item way) [])
+              ∙ sym (run-append pair start (replicate k (Item way)) (Item way ∷ []))
+              ∙ ap (pair_run pair start) (sym (replicate-add k 1 (Item way))),
+          omega (arith, one, sum),
+        ),
+        omega (arith, one, few),
+      )
+
+  pub item-end : (cause : Way × StallCause) → (pair_step pair s (Item way)).cause ≡ Some cause →
+      landed_on next way ≤ items_on pair way →
+      next ≡ pair_run pair start (replicate (suc (items_on pair way)) (Item way))
+  item-end cause stalls few =
+      let (k, run, sum) = landed in
+      let same = item-stalls pair s way cause stalls in
+      let kept = ap (λ (c : PairCounts). landed_on c way) (is ∙ same) in
+      let j : ℕ = suc (items_on pair way) - k in
+      is ∙ same ∙ sym (run-same pair s (Item way) j same)
+      ∙ ap (λ (c : PairCounts). pair_run pair c (replicate j (Item way))) run
+      ∙ sym (run-append pair start (replicate k (Item way)) (replicate j (Item way)))
+      ∙ ap (pair_run pair start) (sym (replicate-add k j (Item way))
+      ∙ ap (λ n. replicate n (Item way)) (let e : k + j ≡ suc (items_on pair way) = omega (arith, few, sum, kept) in e))
+
+-- ---- a pair that keeps its scripts
+pub keeps : (a b c : Paired) (s : PairCounts) → b ≡ with_counts a b.counts → c ≡ with_counts b s →
+    c ≡ with_counts a c.counts
+keeps a b c s one two =
+    two ∙ ap (λ (x : Script). record { there = x; back = b.back; counts = s }) (ap (λ (p : Paired). p.there) one)
+    ∙ ap (λ (x : Script). record { there = a.there; back = x; counts = s }) (ap (λ (p : Paired). p.back) one)
+    ∙ ap (with_counts a) (sym (ap (λ (p : Paired). p.counts) two))
+
+pub same-plan : (a b : Paired) → b ≡ with_counts a b.counts → plan_of b ≡ plan_of a
+same-plan a b e = ap plan_of e
+
+pub few-in : (a b : Paired) (way : Way) → b ≡ with_counts a b.counts → IsPair b.there b.back →
+    IsPairWalked b.there b.back b.counts → landed_on b.counts way ≤ items_on (plan_of a) way
+few-in a b way e fits walked =
+    subst (λ plan. landed_on b.counts way ≤ items_on plan way) (same-plan a b e)
+    (few-landed (plan_of b) b.counts way (has-pair-plan b.there b.back fits) walked)
+
+-- ---- what an answer says of the cause
+pub moved-none : (cause : Option (Way × StallCause)) (why : Option Refusal) (answer : PairMoved) →
+    answer ≡ answer_by cause why → ((way : Way) (found : StallCause) → answer ≡ Stalled way found → ⊥) → cause ≡ None
+moved-none None why answer is not = refl
+moved-none (Some cause) why answer is not = absurd (not cause.0 cause.1 is)
+
+pub stalled-some : (cause : Option (Way × StallCause)) (why : Option Refusal) (way : Way) (found : StallCause) →
+    Stalled way found ≡ answer_by cause why → (own : Way × StallCause) × (cause ≡ Some own)
+stalled-some None None way found is = absurd cc
+stalled-some None (Some why) way found is = absurd cc
+stalled-some (Some cause) why way found is = (cause, refl)
+
+-- ---- rows never fall, and frames are given one after another
+said-rise : (s : Counts) (lines : List LineCounts) (waiting : Option ℕ)
+    → s.rows ≤ (take_said s lines waiting).counts.rows
+said-rise s lines None = omega arith
+said-rise s lines (Some line) = omega arith
+
+one-rise : (plan : Plan) (s : Counts) → s.rows ≤ (take_one plan s).counts.rows
+one-rise plan s =
+    elim (cases_Bool (nat_le plan.ticks s.rows)) [
+      | inl e ↦ rw e (omega arith)
+      | inr e ↦ rw e (said-rise s (pop_lines s.rows 0 plan.paths s.lines).lines
+          (pop_lines s.rows 0 plan.paths s.lines).waiting)
+    ]
+
+pub take-rise : (pair : PairPlan) (s : PairCounts) (own way : Way) →
+    (counts_on s way).rows ≤ (counts_on (pair_step pair s (Take own)).counts way).rows
+take-rise pair s There There = one-rise pair.there s.there
+take-rise pair s There Back = omega arith
+take-rise pair s Back There = omega arith
+take-rise pair s Back Back = one-rise pair.back s.back
+
+-- a round, by its last rows
+pub round-rows : (pair : PairPlan) (s ready one two : PairCounts) →
+    pair_run pair ready (Take There ∷ Take Back ∷ []) ≡ pair_run pair s (pair_round pair) →
+    one ≡ (pair_step pair ready (Take There)).counts → two ≡ (pair_step pair one (Take Back)).counts →
+    two ≡ pair_run pair s (pair_round pair)
+round-rows pair s ready one two whole a b =
+    b ∙ ap (λ (n : PairCounts). (pair_step pair n (Take Back)).counts) a
+    ∙ sym (run-none pair (pair_step pair (pair_step pair ready (Take There)).counts (Take Back)).counts)
+    ∙ sym (run-one pair (pair_step pair ready (Take There)).counts (Take Back) [])
+    ∙ sym (run-one pair ready (Take There) (Take Back ∷ [])) ∙ whole
+
+-- the frames of two rows of a round
+pub gives-both : {Out : Type 0} (stands_for : Out → Start → List (List ℕ) → Type 0) (was middle now : Out) (way : Way)
+    (s0 s1 s2 s3 : Paired) → s1 ≡ with_counts s0 s1.counts → s2 ≡ with_counts s0 s2.counts →
+    (counts_on s1.counts way).rows ≡ (counts_on s0.counts way).rows →
+    (counts_on s1.counts way).rows ≤ (counts_on s2.counts way).rows →
+    (counts_on s2.counts way).rows ≤ (counts_on s3.counts way).rows →
+    GivesWay stands_for was middle s1 s2 way → GivesWay stands_for middle now s2 s3 way →
+    GivesWay stands_for was now s0 s3 way
+gives-both stands_for was middle now way s0 s1 s2 s3 k1 k2 rows up more one two =
+    gives-then stands_for was middle now (leg_on s0 way) (counts_on s0.counts way).rows
+    (counts_on s2.counts way).rows (counts_on s3.counts way).rows (omega (arith, rows, up)) more
+    (subst (λ n. GivesRows stands_for was middle (leg_on s0 way) n (counts_on s2.counts way).rows) rows
+    (subst (λ (leg : Leg). GivesRows stands_for was middle leg (counts_on s1.counts way).rows
+    (counts_on s2.counts way).rows) (leg-same s1 k1 way) one))
+    (subst (λ (leg : Leg). GivesRows stands_for middle now leg (counts_on s2.counts way).rows
+    (counts_on s3.counts way).rows) (leg-same s2 k2 way) two)
+  where
+    leg-same : (b : Paired) → b ≡ with_counts s0 b.counts → (way : Way) → leg_on b way ≡ leg_on s0 way
+    leg-same b e There = ap (λ (p : Paired). leg_on p There) e
+    leg-same b e Back = ap (λ (p : Paired). leg_on p Back) e
+
+-- ---- a round more, where rows are left
+pub round-more : (a b c : Paired) → b ≡ with_counts a b.counts → IsPair b.there b.back →
+    IsPairWalked b.there b.back b.counts → is_over (plan_of b) b.counts ≡ false →
+    c ≡ with_counts b (pair_run (plan_of b) b.counts (pair_round (plan_of b))) →
+    (pair_bound (plan_of a) - pair_made c.counts < pair_bound (plan_of a) - pair_made b.counts)
+    × (pair_drain (pair_bound (plan_of a)) (plan_of a) c.counts
+    ≡ pair_drain (pair_bound (plan_of a)) (plan_of a) b.counts)
+round-more a b c e fits walked open_ after =
+    let is = has-pair-plan b.there b.back fits in
+    subst (λ (plan : PairPlan). (pair_bound plan - pair_made c.counts < pair_bound plan - pair_made b.counts)
+    × (pair_drain (pair_bound plan) plan c.counts ≡ pair_drain (pair_bound plan) plan b.counts))
+    (same-plan a b e)
+    (subst (λ (n : PairCounts). (pair_bound (plan_of b) - pair_made n < pair_bound (plan_of b) - pair_made b.counts)
+    × (pair_drain (pair_bound (plan_of b)) (plan_of b) n
+    ≡ pair_drain (pair_bound (plan_of b)) (plan_of b) b.counts))
+    (sym (ap (λ (p : Paired). p.counts) after))
+    (pair-round-less (plan_of b) is b.counts walked open_, pair-turns (plan_of b) b.counts is walked open_))
+
+pub gives-more : {Out : Type 0} (stands_for : Out → Start → List (List ℕ) → Type 0) (was middle now : Out) (way : Way)
+    (a b c : Paired) → b ≡ with_counts a b.counts → (counts_on a.counts way).rows ≤ (counts_on b.counts way).rows →
+    (counts_on b.counts way).rows ≤ (counts_on c.counts way).rows →
+    GivesWay stands_for was middle a b way → GivesWay stands_for middle now b c way →
+    GivesWay stands_for was now a c way
+gives-more stands_for was middle now way a b c same up more one two =
+    gives-then stands_for was middle now (leg_on a way) (counts_on a.counts way).rows
+    (counts_on b.counts way).rows (counts_on c.counts way).rows up more one
+    (subst (λ (leg : Leg). GivesRows stands_for middle now leg (counts_on b.counts way).rows
+    (counts_on c.counts way).rows) (leg-same way) two)
+  where
+    leg-same : (way : Way) → leg_on b way ≡ leg_on a way
+    leg-same There = ap (λ (p : Paired). leg_on p There) same
+    leg-same Back = ap (λ (p : Paired). leg_on p Back) same
+
+-- ---- all rows of both ways are taken
+pub over-there : (a b : Paired) → b ≡ with_counts a b.counts → IsPair b.there b.back →
+    IsPairWalked b.there b.back b.counts → is_over (plan_of b) b.counts ≡ true →
+    b.counts.there.rows ≡ a.there.config.ticks
+over-there a b e fits walked over =
+    sym (ap (λ (s : PairCounts). s.there.rows) (pair-stops (plan_of b) b.counts (pair_bound (plan_of b)) over))
+    ∙ there-taken b.there b.back b.counts fits walked ∙ ap (λ (p : Paired). p.there.config.ticks) e
+
+pub over-back : (a b : Paired) → b ≡ with_counts a b.counts → IsPair b.there b.back →
+    IsPairWalked b.there b.back b.counts → is_over (plan_of b) b.counts ≡ true →
+    b.counts.back.rows ≡ a.back.config.ticks
+over-back a b e fits walked over =
+    sym (ap (λ (s : PairCounts). s.back.rows) (pair-stops (plan_of b) b.counts (pair_bound (plan_of b)) over))
+    ∙ back-taken b.there b.back b.counts fits walked ∙ ap (λ (p : Paired). p.back.config.ticks) e

@@ -1,0 +1,19 @@
+-- A line carries.
+use Rattle.std.proofs.Common.{sym, ◌∙◌, ap, subst}
+use Rattle.law_model.specs.session.Scenario.{packets_in}
+use Rattle.law_pair.specs.Pair.{way_of}
+use Rattle.walk_engine.specs.walk_core.Parts.{Parts, counts_of, Stands}
+use Rattle.pair_engine.proofs.pair_way.PairWay.carry.Goals as goal
+
+pub returns-clause-goes : goal.returns-clause-goes
+returns-clause-goes c other stands =
+    let own = c.args.self.now in
+    let leg = way_of own.script other in
+    let e = c.carry.ensures in
+    let makes = e.makes leg (packets_in own.core.sink.taken) stands in
+    let rows = ap (λ (p : Parts). packets_in p.sink.taken) e.rest in
+    record {
+      stands = subst (λ n. Stands leg n c.carry.new.self) (sym rows) makes.stands;
+      counts = ap (counts_of c.carry.new.self) rows ∙ makes.counts;
+      moved = c.carried.ensures ∙ makes.moved;
+    }

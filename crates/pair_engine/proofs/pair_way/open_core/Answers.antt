@@ -1,0 +1,15 @@
+-- The script's direction, with twice the lag.
+use Rattle.std.proofs.Common.{◌*◌, ◌∙◌, ap}
+use Rattle.terminal_group.specs.Inbox.{empty_inbox}
+use Rattle.law_pair.specs.Pair.{way_of}
+use Rattle.pair_engine.proofs.OpenLaws.{way-alike}
+use Rattle.pair_engine.proofs.pair_way.open_core.Goals as goal
+
+pub returns-clause-core : goal.returns-clause-core
+returns-clause-core c = record {
+  stands = λ other. c.in_ok-core.ensures.stands (way_of c.args.script other)
+      (way-alike c.args.script other c.requires);
+  counts = λ other. c.in_ok-core.ensures.counts (way_of c.args.script other)
+      (way-alike c.args.script other c.requires);
+  inbox = c.in_ok-core.ensures.inbox ∙ ap (λ lost. empty_inbox lost (2 * c.args.script.config.lag)) c.requires.lost;
+}

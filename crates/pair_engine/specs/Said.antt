@@ -1,0 +1,53 @@
+-- What one way of a pair has to tell in the other, and what its source has heard there.
+use Rattle.std.specs.Prelude.{◌≡◌, ℕ, ◌+◌, ◌-◌, ◌*◌, ◌%◌, ◌==◌, ◌&&◌, nat_le, if◌then◌else◌, Bool, List, [], map}
+use Rattle.std.specs.Prelude.{drop, slice_get, Option, None}
+use Rattle.std.specs.List.{range_with_len}
+use Rattle.base_cells.specs.declared.BackCell.{BackCell}
+use Rattle.law_model.specs.declared.packet.Packet.{Packet}
+use Rattle.law_model.specs.session.Leg.{Leg}
+use Rattle.law_model.specs.session.Scenario.{packets_in}
+use Rattle.law_model.specs.packets.Told.{told_in}
+use Rattle.law_model.specs.session.Counts.{used_in}
+use Rattle.law_walk.specs.Rings.{said_packet, back_cell}
+use Rattle.terminal_group.specs.Inbox.{Inbox}
+
+-- ---- what is told
+-- the return packets of a way that wait to be told in the other one, and how many there is room for
+pub record Said : Type 0 where
+  pub packets : List Packet
+  pub room : ℕ
+
+-- those that the sink has said with some rows and that no packet of the other way has told in some ticks, whose first
+-- packets, as many as the lag, tell none
+abbrev pub untold_packets : Leg → ℕ → ℕ → ℕ → List Packet
+untold_packets leg lag ticks rows =
+    map (said_packet leg) (range_with_len (used_in lag ticks) (packets_in rows - used_in lag ticks))
+
+-- the frame after some ticks begins a packet that tells one
+abbrev pub tells_next : ℕ → ℕ → Bool
+tells_next lag ticks = nat_le (16 * lag + 8) ticks && ticks % 16 == 8
+
+-- the packet that it tells, of those that wait, and those that are left
+abbrev pub told_now : Bool → List Packet → Option Packet
+told_now tells packets = if tells then slice_get packets 0 else None
+
+abbrev pub left_untold : Bool → Said → Said
+left_untold tells said = if tells then record said { packets = drop 1 said.packets } else said
+
+-- ---- what is heard
+-- how many return packets were heard in some rows of the other way
+abbrev pub heard_in : ℕ → ℕ → ℕ
+heard_in lag rows = packets_in rows - lag
+
+-- those that no decision step of some ticks has taken
+abbrev pub heard_cells : Leg → ℕ → ℕ → ℕ → List BackCell
+heard_cells leg lag ticks rows =
+    map (back_cell leg)
+    (range_with_len (used_in leg.config.lag ticks) (heard_in lag rows - used_in leg.config.lag ticks))
+
+-- an inbox holds cells that tell what these do
+pub record HasHeard (leg : Leg) (lag ticks rows : ℕ) (inbox : Inbox) : Type 0 where
+  pub lost : inbox.lost ≡ []
+  pub room : inbox.room ≡ leg.config.lag + 1
+  pub come : inbox.come ≡ heard_in lag rows
+  pub tells : map told_in inbox.cells ≡ map told_in (heard_cells leg lag ticks rows)

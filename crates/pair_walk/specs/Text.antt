@@ -1,0 +1,22 @@
+-- What the command `pair` writes of two scripts: on `out` the report of the way there, on notes that of the way back.
+use Rattle.std.specs.Prelude.{ℕ, List}
+use Rattle.law_model.specs.declared.script.Script.{Script}
+use Rattle.law_walk.specs.Report.{final_report}
+use Rattle.law_pair.specs.Pair.{way_of}
+use Rattle.command_parts.specs.Task.{Answer, writes_both}
+use Rattle.pair_script.specs.declared.pair.ScriptPair.{ScriptPair}
+use Rattle.pair_script.specs.Inputs.{pair_answer}
+
+-- of the way of a script, beside the other one, whose ticks are all made and whose rows are all taken: the got lines of
+-- the frames that are delivered, the lines of refused items, and the line of totals
+abbrev pub way_text : Script → Script → List ℕ
+way_text script other = final_report (way_of script other)
+
+-- of both ways
+abbrev pub pair_text : ScriptPair → Answer
+pair_text pair = writes_both (way_text pair.there pair.back) (way_text pair.back pair.there)
+
+-- of an input: where it isn't two scripts that make a pair, the note on its first fault. The statuses are those of any
+-- task that reads an input and is answered by it
+abbrev pub pair_reply : List ℕ → Answer
+pair_reply = pair_answer pair_text

@@ -1,7 +1,0 @@
--- As many rows were passed as there were numbers, of one line.
-use Rattle.std.proofs.Common.{◌≡◌}
-use Rattle.realign_core.specs.Gather.{line_count}
-use Rattle.path_tests.proofs.realignment.are_right.Given as goal
-
-abbrev pub invariant-loop-t : goal.invariant-loop-t
-invariant-loop-t l = (line_count l.rows ≡ 1) × (l.rows.rows ≡ l.t)

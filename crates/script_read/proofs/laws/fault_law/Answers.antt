@@ -1,9 +1,0 @@
--- Both directions of each law.
-use Rattle.script_read.proofs.FirstFaultLaws.{told_line, said_script}
-use Rattle.script_read.proofs.laws.fault_law.Goals as goal
-
-pub returns-clause-line : goal.returns-clause-line
-returns-clause-line c = told_line
-
-pub returns-clause-script : goal.returns-clause-script
-returns-clause-script c = said_script

@@ -1,8 +1,0 @@
--- No line so far has a packet, so that the leader is among those that are left.
-use Rattle.std.proofs.Common.{◌≡◌, drop}
-use Rattle.session_model.specs.ReturnPacket.{leader}
-use Rattle.sink_core.specs.Active.{act_of}
-use Rattle.sink_core.proofs.active.leading_act.Given as goal
-
-abbrev pub invariant-loop-packet : goal.invariant-loop-packet
-invariant-loop-packet l = act_of (leader (drop l.packet-index l.packets)) ≡ act_of (leader l.packets)

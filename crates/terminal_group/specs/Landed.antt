@@ -1,0 +1,118 @@
+-- What has landed in a group.
+use Rattle.std.specs.Prelude.{◌≡◌, ℕ, ◌+◌, ◌<◌, ◌≤◌, nat_lt, ◌&&◌, not, Bool, true, false, if◌then◌else◌, List, [], ◌∷◌}
+use Rattle.std.specs.Prelude.{length, slice_get, All, Option, Some, None}
+use Rattle.std.specs.List.Sorted.{IsNonDecreasing}
+use Rattle.law_model.specs.declared.script.Item.{Item}
+use Rattle.law_model.specs.session.Counts.{Due, dues_of, frame_dues, command_dues}
+use Rattle.text_report.specs.declared.report.Refusal.{Refusal}
+use Rattle.law_walk.specs.Landed.{is_client}
+use Rattle.terminal_group.specs.Place.{is_frame, is_command, place_of}
+use Rattle.law_model.specs.Limits.{longest_input}
+
+-- the items, without the octets of frames; how many frames and commands have landed, and how many of each were refused;
+-- the items that were refused, in their order,
+-- and why
+pub record Landed : Type 0 where
+  pub items : List Item
+  pub frames : ℕ
+  pub commands : ℕ
+  pub refused_frames : ℕ
+  pub refused_commands : ℕ
+  pub refusals : List (ℕ × Refusal)
+
+abbrev pub none_landed : List Item → Landed
+none_landed items = record {
+  items = items;
+  frames = 0;
+  commands = 0;
+  refused_frames = 0;
+  refused_commands = 0;
+  refusals = [];
+}
+
+-- ---- what lands next
+-- the place of the next frame, or of the next command; the number of items where there is none
+abbrev pub next_place : Landed → Bool → ℕ
+next_place landed true = place_of is_frame landed.frames landed.items
+next_place landed false = place_of is_command landed.commands landed.items
+
+abbrev pub there_at : ℕ → List Item → Option ℕ
+there_at place items = if nat_lt place (length items) then Some place else None
+
+-- the number of the next frame, or of the next command, where there is one
+abbrev pub next_number : Landed → Bool → Option ℕ
+next_number landed frame = there_at (next_place landed frame) landed.items
+
+abbrev pub due_in : Option Item → ℕ
+due_in None = 0
+due_in (Some item) = item.due
+
+-- after how many ticks an item lands
+abbrev pub due_at : List Item → ℕ → ℕ
+due_at items number = due_in (slice_get items number)
+
+-- how many frames, or how many commands, have landed, and how many of them were refused
+abbrev pub landed_of : Landed → Bool → ℕ
+landed_of landed true = landed.frames
+landed_of landed false = landed.commands
+
+abbrev pub refused_of : Landed → Bool → ℕ
+refused_of landed true = landed.refused_frames
+refused_of landed false = landed.refused_commands
+
+-- one more has landed, a frame or a command, refused or not
+pub record HasPassed (was now : Landed) (client refused : Bool) : Type 0 where
+  pub items : now.items ≡ was.items
+  pub frames : now.frames ≡ was.frames + (if client then 1 else 0)
+  pub commands : now.commands ≡ was.commands + (if client then 0 else 1)
+  pub refused_frames : now.refused_frames ≡ was.refused_frames + (if refused && client then 1 else 0)
+  pub refused_commands : now.refused_commands ≡ was.refused_commands + (if refused && not client then 1 else 0)
+
+-- ---- of items by their due ticks so many frames and commands have landed
+-- what hasn't landed isn't due before these ticks
+pub record AreAhead (dues : List Due) (ticks frames commands : ℕ) : Type 0 where
+  pub of_frames : (k due : ℕ) → frames ≤ k → slice_get (frame_dues dues) k ≡ Some due → ticks ≤ due
+  pub of_commands : (k due : ℕ) → commands ≤ k → slice_get (command_dues dues) k ≡ Some due → ticks ≤ due
+
+-- what has landed is due after no more ticks than these
+pub record AreBehind (dues : List Due) (ticks frames commands : ℕ) : Type 0 where
+  pub of_frames : (k due : ℕ) → k < frames → slice_get (frame_dues dues) k ≡ Some due → due ≤ ticks
+  pub of_commands : (k due : ℕ) → k < commands → slice_get (command_dues dues) k ≡ Some due → due ≤ ticks
+
+-- ---- refusals by item
+abbrev pub AreBefore : ℕ → List (ℕ × Refusal) → Type 0
+AreBefore number refusals = All (λ (refused : ℕ × Refusal). refused.0 < number) refusals
+
+abbrev pub AreAfter : ℕ → List (ℕ × Refusal) → Type 0
+AreAfter number refusals = All (λ (refused : ℕ × Refusal). number < refused.0) refusals
+
+-- they stand in the order of the items, each item once
+unfoldable pub AreInOrder : List (ℕ × Refusal) → Type 0
+AreInOrder [] = Unit {0}
+AreInOrder (refused ∷ refusals) = AreAfter refused.0 refusals × AreInOrder refusals
+
+-- they are of items other than this one
+pub record AreOthers (number : ℕ) (refusals : List (ℕ × Refusal)) : Type 0 where
+  pub order : AreInOrder refusals
+  pub other : All (λ (refused : ℕ × Refusal). refused.0 ≡ number → ⊥) refusals
+
+-- each is of an item that has landed
+abbrev pub AreOfLanded : Landed → Type 0
+AreOfLanded landed = All (λ (refused : ℕ × Refusal). (item : Item) → slice_get landed.items refused.0 ≡ Some item →
+    refused.0 < next_place landed (is_client item.kind)) landed.refusals
+
+-- what is kept of it: the places of the next frame and the next command, and room for a refusal of each item
+pub record IsLanded (landed : Landed) (next_frame next_command space : ℕ) : Type 0 where
+  pub frame : next_frame ≡ next_place landed true
+  pub command : next_command ≡ next_place landed false
+  pub few : length landed.items ≤ longest_input
+  pub frames : IsNonDecreasing (frame_dues (dues_of landed.items))
+  pub commands : IsNonDecreasing (command_dues (dues_of landed.items))
+  pub most_frames : landed.frames ≤ length (frame_dues (dues_of landed.items))
+  pub most_commands : landed.commands ≤ length (command_dues (dues_of landed.items))
+  pub order : AreInOrder landed.refusals
+  pub of_landed : AreOfLanded landed
+  pub refused : length landed.refusals ≡ landed.refused_frames + landed.refused_commands
+  pub few_frames : landed.refused_frames ≤ landed.frames
+  pub few_commands : landed.refused_commands ≤ landed.commands
+  pub room : length landed.items ≤ space

@@ -1,0 +1,91 @@
+//! The items of a script in the order in which they land: frames by themselves, and commands by themselves.
+
+ghost use Rattle.std.specs.Prelude.{◌≡◌, ℕ, ◌+◌, ◌<◌, ◌≤◌, true, length, drop, slice_get};
+ghost use Rattle.std.specs.List.Sorted.{IsNonDecreasing};
+ghost use Rattle.law_model.specs.session.Counts.{dues_of, frame_dues, command_dues, held};
+ghost use Rattle.terminal_group.specs.Place.{is_frame, is_command, place_of, due_by, least_held};
+ghost use Rattle.law_model.specs.Limits.{longest_input};
+
+use law_model::{Item, ItemKind};
+
+/// The place of the first frame from a place on, or the number of items where there is none.
+pub fn next_frame(items: &[Item], from: usize) -> usize
+    requires { from ≤ length items.now }
+    ensures { result ≡ from + place_of is_frame 0 (drop from items.now) }
+{
+    for i in from..items.len() {
+        if is_frame_item(&items[i]) {
+            return i;
+        }
+    }
+    items.len()
+}
+
+/// The place of the first command from a place on, or the number of items where there is none.
+pub fn next_command(items: &[Item], from: usize) -> usize
+    requires { from ≤ length items.now }
+    ensures { result ≡ from + place_of is_command 0 (drop from items.now) }
+{
+    for i in from..items.len() {
+        if is_command_item(&items[i]) {
+            return i;
+        }
+    }
+    items.len()
+}
+
+/// Whether an item is a frame.
+fn is_frame_item(item: &Item) -> bool
+    ensures { result ≡ is_frame item.now.kind }
+{
+    match item.kind {
+        ItemKind::Frame(_) => true,
+        ItemKind::Add(_) | ItemKind::Remove(_) => false,
+    }
+}
+
+/// Whether an item is a command.
+fn is_command_item(item: &Item) -> bool
+    ensures { result ≡ is_command item.now.kind }
+{
+    match item.kind {
+        ItemKind::Frame(_) => false,
+        ItemKind::Add(_) | ItemKind::Remove(_) => true,
+    }
+}
+
+/// The least item that is due now and hasn't landed, where the next frame and the next command stand at these places.
+pub fn held_item(items: &[Item], frame: usize, command: usize, ticks: u32) -> Option<u32>
+    requires { length items.now ≤ longest_input }
+    ensures { (a b : ℕ) → IsNonDecreasing (frame_dues (dues_of items.now)) →
+        IsNonDecreasing (command_dues (dues_of items.now)) →
+        frame ≡ place_of is_frame a items.now → command ≡ place_of is_command b items.now →
+        result ≡ held ticks a b 0 (dues_of items.now) }
+{
+    let client = is_due(items, frame, ticks);
+    let operator = is_due(items, command, ticks);
+    least_of(frame, command, client, operator)
+}
+
+/// The least place of those whose item is due.
+fn least_of(frame: usize, command: usize, client: bool, operator: bool) -> Option<u32>
+    requires client { client ≡ true → frame < longest_input }
+    requires operator { operator ≡ true → command < longest_input }
+    ensures { result ≡ least_held 0 frame command client operator }
+{
+    if client && (frame < command || !operator) {
+        Some(frame as u32)
+    } else if operator {
+        Some(command as u32)
+    } else {
+        None
+    }
+}
+
+/// Whether there is an item at a place that is due now.
+fn is_due(items: &[Item], i: usize, ticks: u32) -> bool
+    ensures due { result ≡ due_by ticks (slice_get items.now i) }
+    ensures there { result ≡ true → i < length items.now }
+{
+    i < items.len() && items[i].due <= ticks
+}

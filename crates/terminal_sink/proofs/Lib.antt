@@ -1,0 +1,3 @@
+pub mod LcasSinkLaws
+pub mod GfpMarkLaws
+pub mod SinkCoreLaws

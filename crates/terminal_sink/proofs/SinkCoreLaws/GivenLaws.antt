@@ -1,0 +1,151 @@
+-- Rows, frames and return packets of one row more.
+use Rattle.std.proofs.Common.{◌≡◌, ◌*◌, ℕ, zero, suc, ◌+◌, ◌-◌, ◌/◌, ◌%◌, ◌<◌, ◌≤◌, ◌==◌, ◌&&◌, nat_lt, true, false}
+use Rattle.std.proofs.Common.{inl, inr, List, [], ◌∷◌, ◌++◌, map, length, Option, Some, None, refl, sym, ◌∙◌, ap, subst}
+use Rattle.std.proofs.Common.{arith}
+use Rattle.std.specs.Prelude.{if◌then◌else◌, is_none, IsSome}
+use Rattle.std.specs.List.{position_from}
+use Rattle.std.proofs.lemmas.Bool.{cases_Bool, cases_lt}
+use Rattle.std.proofs.lemmas.Bool.Decides.{nat_tests}
+use Rattle.std.proofs.lemmas.List.FromFn.{map-range_with_len_more, length-map-range_with_len}
+use Rattle.base_cells.specs.declared.Cell.{Cell}
+use Rattle.law_model.specs.declared.packet.Packet.{Packet}
+use Rattle.law_model.specs.packets.ReturnPacket.{return_of}
+use Rattle.law_model.specs.members.Number.{verdict}
+use Rattle.law_model.specs.rows.Rows.{read_packets, governing, active_of, row_at, first_open, return_at}
+use Rattle.law_line.specs.StableRows.{AreDecidedAt}
+use Rattle.member_rows.proofs.RealignCoreLaws.PacketLaws.{governing-same}
+use Rattle.std.proofs.lemmas.List.{nil_from_length}
+use Rattle.terminal_sink.specs.sink_core.Active.{carrying}
+use Rattle.terminal_sink.proofs.SinkCoreLaws.ActiveLaws.{active_from-fits}
+use Rattle.terminal_sink.specs.sink_core.Given.{row_in, received_rows, read_rows, packet_rows, back_at, answer_by, answer_at}
+use Rattle.terminal_sink.specs.declared.sink_core.sink.TakeAnswer.TheVariants.{Taken}
+
+-- ---- rows
+pub received-more : (size : ℕ) (cells : List (List Cell)) (n : ℕ) →
+    received_rows size cells (n + 1) ≡ received_rows size cells n ++ row_in (row_at size cells n) ∷ []
+received-more size cells n = map-range_with_len_more (λ t. row_in (row_at size cells t)) 0 n n (omega arith)
+
+-- ---- packets that are read
+pub read-more : (cells : List (List Cell)) (n : ℕ) →
+    read_rows cells (n + 1) ≡ read_rows cells n ++ read_packets cells n ∷ []
+read-more cells n = map-range_with_len_more (read_packets cells) 0 n n (omega arith)
+
+pub length-read : (cells : List (List Cell)) (n : ℕ) → length (read_rows cells n) ≡ n
+length-read cells n = length-map-range_with_len (read_packets cells) 0 n
+
+-- a packet ends with row t
+pub packet-ends : (t : ℕ) → (nat_lt 22 t && t % 16 == 7) ≡ true → (23 ≤ t) × (t % 16 ≡ 7)
+packet-ends t ends =
+    elim (cases_Bool (nat_lt 22 t)) [
+      | inr early ↦ absurd (let e : false ≡ true = rw early at ends in cc)
+      | inl late ↦
+          let a : 22 < t = grind (arith, nat_tests, late) in
+          let tested : (t % 16 == 7) ≡ true = rw late at ends in
+          let b : t % 16 ≡ 7 = grind (arith, nat_tests, tested) in
+          (omega arith, b)
+    ]
+
+pub packet_rows-more : (t : ℕ) → 23 ≤ t → t % 16 ≡ 7 → packet_rows (t + 1) ≡ packet_rows t + 1
+packet_rows-more t late last = omega arith
+
+pub packet-of : (t : ℕ) → 23 ≤ t → t % 16 ≡ 7 → (t - 23) / 16 ≡ packet_rows t
+packet-of t late last = omega arith
+
+pub governing-back : (cells : List (List Cell)) (t : ℕ) → 23 ≤ t → t % 16 ≡ 7 →
+    governing cells (t + 1) ≡ read_packets cells (packet_rows t)
+governing-back cells t late last =
+    let e : nat_lt (t + 1) 24 ≡ false = grind (arith, nat_tests, (let h : 24 ≤ t + 1 = omega arith in h)) in
+    ap (λ early. if early then map (λ own. None) cells else read_packets cells ((t + 1 - 24) / 16)) e
+    ∙ ap (read_packets cells) (let f : (t + 1 - 24) / 16 ≡ packet_rows t = omega arith in f)
+
+pub back-here : (cells : List (List Cell)) (t : ℕ) → 23 ≤ t → t % 16 ≡ 7 →
+    back_at cells t ≡ Some (return_of (read_rows cells (packet_rows t) ++ read_packets cells (packet_rows t) ∷ [])
+    (packet_rows t))
+back-here cells t late last =
+    let k = packet_rows t in
+    let e : nat_lt 22 t ≡ true = grind (arith, nat_tests, (let h : 22 < t = omega arith in h)) in
+    let f : (t % 16 == 7) ≡ true = grind (arith, nat_tests, last) in
+    ap (λ b. if b && t % 16 == 7 then Some (return_at cells ((t - 23) / 16)) else None) e
+    ∙ ap (λ b. if b then Some (return_at cells ((t - 23) / 16)) else None) f
+    ∙ ap (λ k. Some (return_at cells k)) (packet-of t late last)
+    ∙ ap (λ rows. Some (return_of rows k)) (read-more cells k)
+
+-- ---- the answer
+not-none : {X : Type 0} (x : Option X) → is_none x ≡ false → IsSome x
+not-none None e = absurd cc
+not-none (Some x) e = refl
+
+decided-from : (cells : List (List Cell)) (t i : ℕ) → position_from (λ own. is_none (verdict own t)) i cells ≡ None →
+    AreDecidedAt cells t
+decided-from [] t i none m own here = absurd cc
+decided-from (first ∷ cells) t i none zero own here =
+    elim (cases_Bool (is_none (verdict first t))) [
+      | inl open' ↦ absurd (let e : Some i ≡ None = rw open' at none in cc)
+      | inr shut ↦ let same : first ≡ own = cc in
+          subst (λ own. IsSome (verdict own t)) same (not-none (verdict first t) shut)
+    ]
+decided-from (first ∷ cells) t i none (suc m) own here =
+    elim (cases_Bool (is_none (verdict first t))) [
+      | inl open' ↦ absurd (let e : Some i ≡ None = rw open' at none in cc)
+      | inr shut ↦ decided-from cells t (i + 1) (rw shut at none) m own here
+    ]
+
+pub decided-none : (cells : List (List Cell)) (t : ℕ) → first_open cells t ≡ None → AreDecidedAt cells t
+decided-none cells t none = decided-from cells t 0 none
+
+pub decided-more : (cells : List (List Cell)) (taken : ℕ) → ((t : ℕ) → t < taken → AreDecidedAt cells t) →
+    AreDecidedAt cells taken → (t : ℕ) → t < taken + 1 → AreDecidedAt cells t
+decided-more cells taken before here t low =
+    elim (cases_lt t taken) [
+      | inl earlier ↦ before t earlier
+      | inr last ↦ let same : taken ≡ t = omega arith in subst (AreDecidedAt cells) same here
+    ]
+
+pub answer-taken : (cells : List (List Cell)) (t : ℕ) (back : Option Packet) → first_open cells t ≡ None →
+    back ≡ back_at cells t → Taken back ≡ answer_at cells t
+answer-taken cells t back none is = ap Taken is ∙ sym (ap (λ o. answer_by o cells t) none)
+
+-- ---- return packets at rows 16 k + 23 alone
+pub back-there : (cells : List (List Cell)) (k : ℕ) → back_at cells (16 * k + 23) ≡ Some (return_at cells k)
+back-there cells k =
+    let t = 16 * k + 23 in
+    let e : nat_lt 22 t ≡ true = grind (arith, nat_tests, (let h : 22 < t = omega arith in h)) in
+    let f : (t % 16 == 7) ≡ true = grind (arith, nat_tests, (let h : t % 16 ≡ 7 = omega arith in h)) in
+    ap (λ b. if b && t % 16 == 7 then Some (return_at cells ((t - 23) / 16)) else None) e
+    ∙ ap (λ b. if b then Some (return_at cells ((t - 23) / 16)) else None) f
+    ∙ ap (λ k. Some (return_at cells k)) (let g : (t - 23) / 16 ≡ k = omega arith in g)
+
+pub back-elsewhere : (cells : List (List Cell)) (t : ℕ) → ((k : ℕ) → t ≡ 16 * k + 23 → ⊥) → back_at cells t ≡ None
+back-elsewhere cells t other =
+    elim (cases_Bool (nat_lt 22 t && t % 16 == 7)) [
+      | inl ends ↦ let (late, last) = packet-ends t ends in absurd (other ((t - 23) / 16) (omega (arith, late, last)))
+      | inr no_end ↦ ap (λ b. if b then Some (return_at cells ((t - 23) / 16)) else None) no_end
+    ]
+
+-- ---- the lines that carry payload
+pub governing-between : (cells : List (List Cell)) (t : ℕ) → (nat_lt 22 t && t % 16 == 7) ≡ false →
+    governing cells (t + 1) ≡ governing cells t
+governing-between cells t no_end =
+    elim (cases_Bool (nat_lt 22 t)) [
+      | inl late ↦
+          let tested : (t % 16 == 7) ≡ false = rw late at no_end in
+          governing-same cells t (λ e. absurd
+          (let f : (t % 16 == 7) ≡ true = grind (arith, nat_tests, (let h : t % 16 ≡ 7 = omega arith in h)) in
+          let g : true ≡ false = sym f ∙ tested in cc))
+      | inr early ↦
+          let low : t ≤ 22 = grind (arith, nat_tests, early) in
+          let a : nat_lt (t + 1) 24 ≡ true = grind (arith, nat_tests, (let h : t + 1 < 24 = omega arith in h)) in
+          let b : nat_lt t 24 ≡ true = grind (arith, nat_tests, (let h : t < 24 = omega arith in h)) in
+          rw (a, b) refl
+    ]
+
+carrying-none : (cells : List (List Cell)) → carrying (map (λ own. None) cells) ≡ 0
+carrying-none [] = refl
+carrying-none (own ∷ cells) = carrying-none cells
+
+pub active-none : (cells : List (List Cell)) → active_of (governing cells 0) ≡ []
+active-none cells =
+    let packets : List (Option Packet) = map (λ own. None) cells in
+    let none = carrying-none cells in
+    let fits = active_from-fits 256 0 packets in
+    nil_from_length (active_of packets) (omega arith)

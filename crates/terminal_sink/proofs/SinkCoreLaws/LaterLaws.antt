@@ -1,0 +1,139 @@
+-- More cells change nothing of rows that are decided, and more rows add frames.
+use Rattle.std.proofs.Common.{◌≡◌, ℕ, zero, suc, ◌+◌, ◌-◌, ◌*◌, ◌/◌, ◌%◌, ◌<◌, ◌≤◌, ◌==◌, nat_lt, inl, inr, List, []}
+use Rattle.std.proofs.Common.{◌∷◌, ◌++◌, length, drop, slice_get, Some, refl, sym, ◌∙◌, ap, subst, arith, append_assoc}
+use Rattle.std.specs.Prelude.{is_some}
+use Rattle.std.proofs.lemmas.Bool.{cases_Bool}
+use Rattle.std.proofs.lemmas.Bool.Decides.{nat_tests}
+use Rattle.std.proofs.lemmas.List.{append-nil}
+use Rattle.std.proofs.lemmas.Option.{slice_get_within}
+use Rattle.base_cells.specs.declared.Cell.{Cell}
+use Rattle.law_model.specs.members.Number.{verdict}
+use Rattle.law_model.specs.rows.Rows.{read_packets, governing, active_of, row_at}
+use Rattle.law_model.specs.frames.Segment.{StreamRow, deliver}
+use Rattle.law_line.specs.StableRows.{IsLonger, AreDecidedAt}
+use Rattle.law_line.proofs.ListLaws.{slice_get-inside, is-some}
+use Rattle.law_line.proofs.StableLaws.{verdict-stays}
+use Rattle.law_line.proofs.RowLaws.{map-same, nones-stay, read-stays, rows_stay, returns_stay}
+use Rattle.law_loss.proofs.GrowLaws.{deliver-grows}
+use Rattle.terminal_sink.specs.lcas_sink.Stands as sink_table
+use Rattle.member_rows.specs.realign_core.Gather.{with_cell}
+use Rattle.terminal_sink.specs.sink_core.Given.{row_in, received_rows, given_frames, added_frames, read_rows, packet_rows, back_at}
+use Rattle.terminal_sink.specs.sink_core.Receives.{Receives}
+use Rattle.terminal_sink.specs.sink_core.Core.{Core, Stands}
+use Rattle.terminal_sink.proofs.SinkCoreLaws.GivenLaws.{received-more}
+
+-- ---- more cells
+abbrev AreDecidedTo : List (List Cell) → ℕ → Type 0
+AreDecidedTo cells taken = (t : ℕ) → t < taken → AreDecidedAt cells t
+
+received-stays : (size taken : ℕ) (cells longer : List (List Cell)) → IsLonger cells longer → AreDecidedTo cells taken →
+    received_rows size longer taken ≡ received_rows size cells taken
+received-stays size taken cells longer more decided =
+    map-same (λ t. row_in (row_at size longer t)) (λ t. row_in (row_at size cells t)) 0 taken
+    (λ t low. ap row_in (rows_stay size cells longer t more (decided t (omega arith))))
+
+packets-stay : (taken : ℕ) (cells longer : List (List Cell)) → IsLonger cells longer → AreDecidedTo cells taken →
+    read_rows longer (packet_rows taken) ≡ read_rows cells (packet_rows taken)
+packets-stay taken cells longer more decided =
+    map-same (read_packets longer) (read_packets cells) 0 (packet_rows taken)
+    (λ k low. read-stays cells longer k more (decided (16 * k + 23) (omega arith)))
+
+-- what governs the row after those that are decided
+governing-stays : (taken : ℕ) (cells longer : List (List Cell)) → IsLonger cells longer → AreDecidedTo cells taken →
+    governing longer taken ≡ governing cells taken
+governing-stays taken cells longer more decided =
+    elim (cases_Bool (nat_lt taken 24)) [
+      | inl early ↦ rw early (nones-stay cells longer more.size)
+      | inr late ↦
+          let high : 24 ≤ taken = grind (arith, nat_tests, late) in
+          rw late (read-stays cells longer ((taken - 24) / 16) more
+          (decided (16 * ((taken - 24) / 16) + 23) (omega arith)))
+    ]
+
+decided-stays : (t : ℕ) (cells longer : List (List Cell)) → IsLonger cells longer → AreDecidedAt cells t →
+    AreDecidedAt longer t
+decided-stays t cells longer are decided m own here =
+    let inside = slice_get_within longer m own here in
+    let size = are.size in
+    let (before, was) = slice_get-inside cells m (omega arith) in
+    let (more, now) = are.each m before was in
+    let same : own ≡ before ++ more = let e : Some own ≡ Some (before ++ more) = sym here ∙ now in cc in
+    let (told, said) = is-some (verdict before t) (decided m before was) in
+    ap is_some (ap (λ own. verdict own t) same ∙ verdict-stays before more t told said)
+
+pub stands-longer : (core : Core) (cells longer : List (List Cell)) → IsLonger cells longer → Stands core cells →
+    Stands core longer
+stands-longer core cells longer more stands = record {
+  lines = more.size ∙ stands.lines;
+  receives = subst (Receives core.receiver) (sym (received-stays core.size core.taken cells longer more stands.decided))
+      stands.receives;
+  table = subst (sink_table.Stands core.table) (sym (packets-stay core.taken cells longer more stands.decided))
+      stands.table;
+  active = stands.active ∙ ap active_of (sym (governing-stays core.taken cells longer more stands.decided));
+  decided = λ t low. decided-stays t cells longer more (stands.decided t low);
+}
+
+pub frames-stay : (size taken : ℕ) (cells longer : List (List Cell)) → IsLonger cells longer →
+    ((t : ℕ) → t < taken → AreDecidedAt cells t) → given_frames size longer taken ≡ given_frames size cells taken
+frames-stay size taken cells longer more decided =
+    ap (deliver 9600) (received-stays size taken cells longer more decided)
+
+pub back-stays : (t : ℕ) (cells longer : List (List Cell)) → IsLonger cells longer → AreDecidedAt cells t →
+    back_at longer t ≡ back_at cells t
+back-stays t cells longer more decided =
+    elim (cases_Bool (nat_lt 22 t)) [
+      | inr early ↦ rw early refl
+      | inl late ↦
+          elim (cases_Bool (t % 16 == 7)) [
+            | inr other ↦ rw (late, other) refl
+            | inl last ↦
+                let a : 22 < t = grind (arith, nat_tests, late) in
+                let b : t % 16 ≡ 7 = grind (arith, nat_tests, last) in
+                let k = (t - 23) / 16 in
+                let at : t ≡ 16 * k + 23 = omega arith in
+                rw (late, last) (ap Some (returns_stay cells longer k more (subst (AreDecidedAt cells) at decided)))
+          ]
+    ]
+
+pub with_cell-longer : (cells : List (List Cell)) (line : ℕ) (cell : Cell) → IsLonger cells (with_cell cells line cell)
+with_cell-longer cells line cell = record { size = size cells line; each = each cells line }
+  where
+    size : (cells : List (List Cell)) (line : ℕ) → length (with_cell cells line cell) ≡ length cells
+    size [] line = refl
+    size (own ∷ cells) zero = refl
+    size (own ∷ cells) (suc line) = ap suc (size cells line)
+
+    each : (cells : List (List Cell)) (line m : ℕ) (own : List Cell) → slice_get cells m ≡ Some own →
+        (more : List Cell) × (slice_get (with_cell cells line cell) m ≡ Some (own ++ more))
+    each [] line m own here = absurd cc
+    each (first ∷ cells) zero zero own here =
+        (cell ∷ [], ap (λ own. Some (own ++ cell ∷ [])) (let same : first ≡ own = cc in same))
+    each (first ∷ cells) zero (suc m) own here = ([], here ∙ ap Some (sym (append-nil own)))
+    each (first ∷ cells) (suc line) zero own here = ([], here ∙ ap Some (sym (append-nil own)))
+    each (first ∷ cells) (suc line) (suc m) own here = each cells line m own here
+
+-- ---- more rows
+received-split : (size : ℕ) (cells : List (List Cell)) (n more : ℕ) → (rest : List StreamRow) ×
+    (received_rows size cells (n + more) ≡ received_rows size cells n ++ rest)
+received-split size cells n zero =
+    let e : n + 0 ≡ n = omega arith in
+    ([], ap (received_rows size cells) e ∙ sym (append-nil (received_rows size cells n)))
+received-split size cells n (suc more) =
+    let (rest, is) = received-split size cells n more in
+    let e : n + suc more ≡ n + more + 1 = omega arith in
+    let row = row_in (row_at size cells (n + more)) in (
+      rest ++ row ∷ [],
+      ap (received_rows size cells) e ∙ received-more size cells (n + more) ∙ ap (λ l. l ++ row ∷ []) is
+          ∙ append_assoc (received_rows size cells n) rest (row ∷ []),
+    )
+
+pub frames-grow : (size before taken : ℕ) (cells : List (List Cell)) → before ≤ taken →
+    given_frames size cells taken ≡ given_frames size cells before ++ added_frames size cells before taken
+frames-grow size before taken cells low =
+    let (rest, is) = received-split size cells before (taken - before) in
+    let e : before + (taken - before) ≡ taken = omega arith in
+    let all : received_rows size cells taken ≡ received_rows size cells before ++ rest =
+    ap (received_rows size cells) (sym e) ∙ is in
+    ap (deliver 9600) all ∙ deliver-grows 9600 (received_rows size cells before) rest
+    ∙ ap (λ rows. given_frames size cells before ++ drop (length (given_frames size cells before)) (deliver 9600 rows))
+    (sym all)

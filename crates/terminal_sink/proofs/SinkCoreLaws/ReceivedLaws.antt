@@ -1,0 +1,49 @@
+-- One row more, whole or not.
+use Rattle.std.proofs.Common.{◌≡◌, ℕ, ◌<◌, ◌≤◌, nat_lt, true, false, List, [], ◌∷◌, ◌++◌, Some, refl, sym, ◌∙◌, ap}
+use Rattle.std.proofs.Common.{subst, arith}
+use Rattle.std.specs.Prelude.{if◌then◌else◌}
+use Rattle.std.proofs.lemmas.Bool.Decides.{nat_tests}
+use Rattle.std.proofs.lemmas.List.{append-nil}
+use Rattle.base_cells.specs.declared.Cell.{Cell}
+use Rattle.law_model.specs.rows.Rows.{governing, row_under, row_at}
+use Rattle.law_model.specs.frames.Segment.{StreamRow, Segments, segments_of}
+use Rattle.terminal_sink.specs.gfp_mark.Marks.{Marked as Receiver, StandsIn}
+use Rattle.law_loss.specs.Added.{added, whole_row, lost_row}
+use Rattle.law_loss.proofs.SegmentLaws.{segments_of-push, added-whole, added-lost}
+use Rattle.terminal_sink.specs.sink_core.Receives.{Receives, Grows, Gives}
+
+pub receives-whole : (was now : Receiver) (come : List StreamRow) (octets : List ℕ) → Grows was now octets →
+    Receives was come → Receives now (come ++ whole_row octets ∷ [])
+receives-whole was now come octets grows has =
+    subst (λ (come : Segments). StandsIn now 9600 come.last.first come.last.octets)
+    (sym (segments_of-push come (whole_row octets)))
+    (grows (segments_of come).last.first (segments_of come).last.octets has)
+
+pub receives-lost : (now : Receiver) (come : List StreamRow) (octets : List ℕ) → StandsIn now 9600 false [] →
+    Receives now (come ++ lost_row octets ∷ [])
+receives-lost now come octets stands =
+    subst (λ (come : Segments). StandsIn now 9600 come.last.first come.last.octets)
+    (sym (segments_of-push come (lost_row octets))) stands
+
+pub gives-whole : {A : Type 0} (stands : A → List (List ℕ) → Type 0) (was : Receiver) (come : List StreamRow)
+    (octets : List ℕ) (before after : A) → Gives stands was octets before after → Receives was come →
+    (frames : List (List ℕ)) → stands before frames → stands after (frames ++ added 9600 come (whole_row octets))
+gives-whole stands was come octets before after gives has frames given =
+    subst (λ more. stands after (frames ++ more)) (sym (added-whole 9600 come octets))
+    (gives (segments_of come).last.first (segments_of come).last.octets has frames given)
+
+pub gives-lost : {A : Type 0} (stands : A → List (List ℕ) → Type 0) (come : List StreamRow) (octets : List ℕ) (out : A)
+    (frames : List (List ℕ)) → stands out frames →
+    stands out (frames ++ added 9600 come (lost_row octets))
+gives-lost stands come octets out frames given =
+    subst (stands out) (sym (append-nil frames) ∙ ap (λ l. frames ++ l) (sym (added-lost 9600 come octets))) given
+
+-- ---- rows before the first that a packet governs, and after it
+pub row-early : (size : ℕ) (cells : List (List Cell)) (t : ℕ) → t < 24 → row_at size cells t ≡ Some []
+row-early size cells t early = let e : nat_lt t 24 ≡ true = grind (arith, nat_tests, early) in rw e refl
+
+pub row-late : (size : ℕ) (cells : List (List Cell)) (t : ℕ) → 24 ≤ t →
+    row_at size cells t ≡ row_under (governing cells t) size cells t
+row-late size cells t late =
+    let e : nat_lt t 24 ≡ false = grind (arith, nat_tests, late) in ap
+    (λ early. if early then Some [] else row_under (governing cells t) size cells t) e

@@ -1,0 +1,96 @@
+-- The frames of rows whose whole ones are those of a session.
+use Rattle.std.proofs.Common.{◌≡◌, ℕ, zero, suc, ◌+◌, ◌≤◌, Bool, true, false, List, [], ◌∷◌, ◌++◌, length, Option, Some}
+use Rattle.std.proofs.Common.{None, refl, sym, ◌∙◌, ap, ap₂, subst, arith}
+use Rattle.std.specs.Prelude.{if◌then◌else◌}
+use Rattle.base_cells.specs.declared.Cell.{Cell}
+use Rattle.law_model.specs.session.Scenario.{Scenario}
+use Rattle.law_model.specs.source.Table.{Told}
+use Rattle.law_model.specs.rows.SessionRows.{is_whole_row}
+use Rattle.law_model.specs.frames.Payload.{payload_of}
+use Rattle.law_model.specs.rows.Rows.{row_at}
+use Rattle.law_model.specs.frames.Segment.{StreamRow, Segments, segments_of, deliver}
+use Rattle.law_model.specs.rows.SessionStream.{row_of, rows_of}
+use Rattle.law_row.proofs.WholeLaws.{row-whole}
+use Rattle.law_row.proofs.DealtLaws.{row-payload}
+use Rattle.law_loss.specs.Added.{next_frames, whole_row, lost_row}
+use Rattle.law_loss.proofs.SegmentLaws.{segments_of-push, deliver-lost, added-whole, grows-whole}
+use Rattle.law_loss.proofs.GrowLaws.{adds}
+use Rattle.terminal_sink.specs.sink_core.Given.{row_in, received_rows, given_frames}
+use Rattle.terminal_sink.specs.sink_core.Session.{AreSessionRows, TellRows}
+use Rattle.terminal_sink.proofs.SinkCoreLaws.GivenLaws.{received-more}
+
+-- rows give the same frames, and so they do with more rows
+pub record Agree (some' other : List StreamRow) : Type 0 where
+  pub frames : deliver 9600 some' ≡ deliver 9600 other
+  pub first : (segments_of some').last.first ≡ (segments_of other).last.first
+  pub octets : (segments_of some').last.octets ≡ (segments_of other).last.octets
+
+agree-whole : (a b : List StreamRow) (octets : List ℕ) → Agree a b →
+    Agree (a ++ whole_row octets ∷ []) (b ++ whole_row octets ∷ [])
+agree-whole a b octets agree =
+    let last-a = (segments_of a).last in
+    let last-b = (segments_of b).last in
+    record {
+      frames =
+          grows-whole 9600 a octets (adds 9600 last-a.first last-a.octets octets)
+          ∙ ap₂ ◌++◌ agree.frames (added-whole 9600 a octets
+          ∙ ap₂ (λ first before. next_frames 9600 first before octets) agree.first agree.octets
+          ∙ sym (added-whole 9600 b octets))
+          ∙ sym (grows-whole 9600 b octets (adds 9600 last-b.first last-b.octets octets));
+      first = ap (λ (s : Segments). s.last.first) (segments_of-push a (whole_row octets)) ∙ agree.first
+          ∙ sym (ap (λ (s : Segments). s.last.first) (segments_of-push b (whole_row octets)));
+      octets =
+          ap (λ (s : Segments). s.last.octets) (segments_of-push a (whole_row octets))
+          ∙ ap (λ l. l ++ octets) agree.octets
+          ∙ sym (ap (λ (s : Segments). s.last.octets) (segments_of-push b (whole_row octets)));
+    }
+
+agree-lost : (a b : List StreamRow) (some' other : List ℕ) → Agree a b →
+    Agree (a ++ lost_row some' ∷ []) (b ++ lost_row other ∷ [])
+agree-lost a b some' other agree = record {
+  frames = deliver-lost 9600 a some' ∙ agree.frames ∙ sym (deliver-lost 9600 b other);
+  first = ap (λ (s : Segments). s.last.first) (segments_of-push a (lost_row some'))
+      ∙ sym (ap (λ (s : Segments). s.last.first) (segments_of-push b (lost_row other)));
+  octets = ap (λ (s : Segments). s.last.octets) (segments_of-push a (lost_row some'))
+      ∙ sym (ap (λ (s : Segments). s.last.octets) (segments_of-push b (lost_row other)));
+}
+
+-- one row more
+agree-row : (a b : List StreamRow) (whole : Bool) (octets : List ℕ) (row : Option (List ℕ)) →
+    row ≡ (if whole then Some octets else None) → Agree a b →
+    Agree (a ++ row_in row ∷ []) (b ++ record { whole = whole; octets = octets } ∷ [])
+agree-row a b true octets row is agree = rw is (agree-whole a b octets agree)
+agree-row a b false octets row is agree = rw is (agree-lost a b [] octets agree)
+
+rows-agree : (scenario : Scenario) (returns : List (Option Told)) (cells : List (List Cell)) (n : ℕ) →
+    AreSessionRows scenario returns cells n → Agree (received_rows scenario.size cells n) (rows_of scenario returns n)
+unfolding rows_of
+rows-agree scenario returns cells zero are = record { frames = refl; first = refl; octets = refl }
+rows-agree scenario returns cells (suc n) are =
+    let e : suc n ≡ n + 1 = omega arith in
+    let all : received_rows scenario.size cells (suc n) ≡ received_rows scenario.size cells n ++ row_in
+    (row_at scenario.size cells n) ∷ [] =
+    ap (received_rows scenario.size cells) e ∙ received-more scenario.size cells n in
+    subst (λ rows. Agree rows (rows_of scenario returns n ++ row_of scenario returns n ∷ [])) (sym all)
+    (agree-row (received_rows scenario.size cells n) (rows_of scenario returns n) (is_whole_row scenario returns n)
+    (payload_of scenario returns n) (row_at scenario.size cells n) (are n (omega arith))
+    (rows-agree scenario returns cells n (λ t low. are t (omega arith))))
+
+pub session-frames : (scenario : Scenario) (returns : List (Option Told)) (cells : List (List Cell)) (n : ℕ) →
+    AreSessionRows scenario returns cells n →
+    given_frames scenario.size cells n ≡ deliver 9600 (rows_of scenario returns n)
+session-frames scenario returns cells n are = let agree = rows-agree scenario returns cells n are in agree.frames
+
+pub session-last : (scenario : Scenario) (returns : List (Option Told)) (cells : List (List Cell)) (n : ℕ) →
+    AreSessionRows scenario returns cells n →
+    (segments_of (received_rows scenario.size cells n)).last.octets ≡
+    (segments_of (rows_of scenario returns n)).last.octets
+session-last scenario returns cells n are = let agree = rows-agree scenario returns cells n are in agree.octets
+
+pub session-rows : (scenario : Scenario) (returns : List (Option Told)) (cells : List (List Cell)) (n : ℕ) →
+    length scenario.windows ≤ 128 → TellRows scenario returns cells n → AreSessionRows scenario returns cells n
+session-rows scenario returns cells n few tell t low =
+    let tells = tell t low in
+    row-whole scenario returns tells.sent cells t few tells.tells
+    ∙ ap (λ octets. if is_whole_row scenario returns t then Some octets else None)
+    (row-payload scenario returns tells.sent t tells.dealt)

@@ -1,0 +1,82 @@
+-- What a sink takes, gives and says, by the cells of its lines alone (G.707, G.7041, G.7042).
+use Rattle.std.specs.Prelude.{◌≡◌, ℕ, ◌-◌, ◌/◌, ◌%◌, ◌==◌, ◌&&◌, ◌<◌, nat_lt, if◌then◌else◌, List, [], map, length}
+use Rattle.std.specs.Prelude.{drop, Option, Some, None}
+use Rattle.std.specs.List.{range_with_len}
+use Rattle.base_cells.specs.declared.Cell.{Cell}
+use Rattle.law_model.specs.declared.packet.Packet.{Packet}
+use Rattle.law_model.specs.packets.ReturnPacket.{Row}
+use Rattle.law_model.specs.rows.Rows.{read_packets, row_at, first_open, return_at}
+use Rattle.law_model.specs.frames.Segment.{StreamRow, deliver}
+use Rattle.member_rows.specs.realign_core.Gather.{Gather, line_count, IsOpenAt, AreDecided}
+use Rattle.law_loss.specs.Added.{whole_row, lost_row}
+use Rattle.terminal_sink.specs.declared.sink_core.sink.TakeAnswer.{TakeAnswer}
+use Rattle.terminal_sink.specs.declared.sink_core.sink.TakeAnswer.TheVariants.{Taken, Waiting}
+use Rattle.law_model.specs.Limits.{longest_frame}
+
+-- ---- rows and frames
+-- a row, where it is whole with these octets. What was sent in a row that isn't whole is not known
+abbrev pub row_in : Option (List ℕ) → StreamRow
+row_in None = lost_row []
+row_in (Some octets) = whole_row octets
+
+-- the first rows of a group, of which containers have a size of payload octets
+abbrev pub received_rows : ℕ → List (List Cell) → ℕ → List StreamRow
+received_rows size cells taken = map (λ t. row_in (row_at size cells t)) (range_with_len 0 taken)
+
+-- the frames that they give
+abbrev pub given_frames : ℕ → List (List Cell) → ℕ → List (List ℕ)
+given_frames size cells taken = deliver longest_frame (received_rows size cells taken)
+
+-- those that the rows up to a count give beside those of fewer rows
+abbrev pub added_frames : ℕ → List (List Cell) → ℕ → ℕ → List (List ℕ)
+added_frames size cells before taken = drop (length (given_frames size cells before)) (given_frames size cells taken)
+
+-- ---- return packets
+-- the packets that were read, by row and line, of a count of packet rows
+abbrev pub read_rows : List (List Cell) → ℕ → List Row
+read_rows cells count = map (read_packets cells) (range_with_len 0 count)
+
+-- how many packet rows have passed with rows: packet k ends with row 16 k + 23
+abbrev pub packet_rows : ℕ → ℕ
+packet_rows taken = (taken - 8) / 16
+
+-- a packet ends with row t, which is 16 k + 23
+abbrev pub IsPacketEnd : ℕ → Type 0
+IsPacketEnd t = (22 < t) × (t % 16 ≡ 7)
+
+-- the return packet that row t makes, where a packet ends with it
+abbrev pub back_at : List (List Cell) → ℕ → Option Packet
+back_at cells t = if nat_lt 22 t && t % 16 == 7 then Some (return_at cells ((t - 23) / 16)) else None
+
+-- ---- the answer
+abbrev pub answer_by : Option ℕ → List (List Cell) → ℕ → TakeAnswer
+answer_by (Some line) cells t = Waiting line
+answer_by None cells t = Taken (back_at cells t)
+
+-- the answer where t rows were taken: it waits for the first line whose cells don't decide row t, or the row is taken
+abbrev pub answer_at : List (List Cell) → ℕ → TakeAnswer
+answer_at cells t = answer_by (first_open cells t) cells t
+
+-- the line that an answer waits for
+abbrev pub waiting_for : TakeAnswer → Option ℕ
+waiting_for (Taken back) = None
+waiting_for (Waiting line) = Some line
+
+-- the return packet that it has
+abbrev pub back_of : TakeAnswer → Option Packet
+back_of (Taken back) = back
+back_of (Waiting line) = None
+
+-- how many rows an answer takes
+abbrev pub rows_taken : TakeAnswer → ℕ
+rows_taken (Taken back) = 1
+rows_taken (Waiting line) = 0
+
+-- it takes none
+abbrev pub IsWaiting : TakeAnswer → Type 0
+IsWaiting answer = (line : ℕ) × (answer ≡ Waiting line)
+
+-- what an answer says of the rows that it was asked for: the next one was decided, or it isn't on a line
+abbrev pub Allows : Gather → TakeAnswer → Type 0
+Allows rows (Taken back) = AreDecided rows
+Allows rows (Waiting line) = (line < line_count rows) × IsOpenAt rows line

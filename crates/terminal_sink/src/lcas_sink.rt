@@ -1,0 +1,198 @@
+//! The sink's side of LCAS (G.7042): what it tells the source of the control packets that it read. Begin with
+//! `SinkTable`. Which packets are read, and which rows of payload are whole by them, is not said here.
+
+ghost use Rattle.std.specs.Prelude.{◌≡◌, ℕ, ◌+◌, ◌*◌, ◌<◌, ◌≤◌, [], ◌∷◌, ◌++◌, List, length, not, if◌then◌else◌};
+ghost use Rattle.std.specs.Prelude.{Option};
+ghost use Rattle.law_model.specs.packets.ReturnPacket.{Row, leader, ack_by, is_member, says_at, status_of, mst_of};
+ghost use Rattle.law_model.specs.packets.ReturnPacket.{return_of, state_next, sink_state};
+ghost use Rattle.terminal_sink.specs.lcas_sink.Stands.{Stands, state_at, state_after};
+
+use base_cells::Ctrl;
+use law_model::Packet;
+pub use law_model::SinkState;
+use std::marker::Model;
+
+/// The most lines of a group.
+const LINES: usize = 128;
+
+/// What a sink knows of the lines of a group after some rows of control packets (G.7042).
+#[derive(Clone, Copy)]
+pub struct SinkTable {
+    lines: u8,
+    /// How many rows were taken.
+    taken: u32,
+    /// The change bit of the last packet that led a row.
+    ack: bool,
+    states: [SinkState; LINES],
+}
+
+impl Model for SinkTable {
+    ghost use Rattle.std.specs.Prelude.{◌≡◌, ◌≤◌, ℕ};
+    ghost use Rattle.law_model.specs.declared.table.SinkState.TheVariants.{Idle};
+    ghost use Rattle.terminal_sink.specs.lcas_sink.Stands.{Sink, state_at};
+
+    ghost Value = { Sink };
+
+    ghost view = { λ table. record { lines = table.lines; taken = table.taken; ack = table.ack; states = table.states } };
+
+    ghost invariant = { λ table. (table.lines ≤ 128) × ((line : ℕ) → table.lines ≤ line → state_at table.states line ≡ Idle) };
+
+    ghost inverse = { λ sink. record { lines = sink.lines; taken = sink.taken; ack = sink.ack; states = sink.states } };
+}
+
+impl SinkTable {
+    /// The table of a group of `lines` lines, up to 128, of which no packet was read.
+    pub fn new(lines: u8) -> SinkTable
+        requires { lines ≤ 128 }
+        ensures lines { result.lines ≡ lines }
+        ensures stands { Stands result [] }
+    {
+        SinkTable {
+            lines,
+            taken: 0,
+            ack: false,
+            states: all_idle(),
+        }
+    }
+
+    /// Takes the next row: of each line the packet that was read, or none. Gives the return packet that tells
+    /// of it: the change bit of the last packet that was read, taken from the least line of its row, and the
+    /// statuses of one of sixteen groups of eight sequence numbers, each group in its turn.
+    pub fn packet_row(&mut self, row: &[Option<Packet>]) -> Packet
+        requires few { self.old.taken < 4294967295 }
+        requires lines { length row.now ≡ self.old.lines }
+        ensures lines { self.new.lines ≡ self.old.lines }
+        ensures taken { self.new.taken ≡ self.old.taken + 1 }
+        ensures stands { (rows : List Row) → Stands self.old rows →
+            Stands self.new (rows ++ row.now ∷ []) }
+        ensures packet { (rows : List Row) → Stands self.old rows →
+            result ≡ return_of (rows ++ row.now ∷ []) (length rows) }
+    {
+        self.ack = ack_after(self.ack, row);
+        take_row(&mut self.states, row);
+        let group = (self.taken % 16) as u8;
+        self.taken += 1;
+        Packet {
+            mst: member_status(row, 8 * group),
+            rs_ack: self.ack,
+            chg: false,
+            sq: 255,
+            mfi2: (self.taken % 256) as u8,
+            ctrl: Ctrl::Idle,
+            gid: false,
+            act: 0,
+        }
+    }
+
+    /// The state of a line: idle at first and after a packet that says IDLE; fine after another packet;
+    /// failed where its packet could not be read, unless it is idle.
+    pub fn state(&self, line: u8) -> SinkState
+        ensures { (rows : List Row) → Stands self.now rows → result ≡ sink_state rows line }
+    {
+        if usize::from(line) < LINES {
+            self.states[usize::from(line)]
+        } else {
+            SinkState::Idle
+        }
+    }
+}
+
+/// What was told of a row stands: further rows change no return packet of those before.
+pub fn rows_law()
+    ensures { (rows more : List Row) (k : ℕ) → k < length rows →
+        return_of (rows ++ more) k ≡ return_of rows k }
+{}
+
+/// No line is a member.
+fn all_idle() -> [SinkState; LINES]
+    ensures { (line : ℕ) → state_at result line ≡ SinkState.Idle }
+{
+    [SinkState::Idle; LINES]
+}
+
+/// The change bit to acknowledge after a row.
+fn ack_after(ack: bool, row: &[Option<Packet>]) -> bool
+    ensures { result ≡ ack_by ack (leader row.now) }
+{
+    match leader(row) {
+        Some(packet) => packet.chg,
+        None => ack,
+    }
+}
+
+/// The packet of the least line of which one was read.
+fn leader(row: &[Option<Packet>]) -> Option<Packet>
+    ensures { result ≡ leader row.now }
+{
+    for packet in row {
+        if packet.is_some() {
+            return *packet;
+        }
+    }
+    None
+}
+
+/// Goes on with the state of each line of a row.
+fn take_row(states: &mut [SinkState], row: &[Option<Packet>])
+    requires { length row.now ≤ length states.old }
+    ensures { (line : ℕ) → state_at states.new line ≡ state_after states.old row.now line }
+{
+    for (line, packet) in row.iter().enumerate() {
+        states[line] = state_next(states[line], packet);
+    }
+}
+
+/// The state of a line after its next packet.
+fn state_next(state: SinkState, packet: &Option<Packet>) -> SinkState
+    ensures { result ≡ state_next state packet.now }
+{
+    match (packet, state) {
+        (Some(packet), _) if is_member(packet.ctrl) => SinkState::Fine,
+        (Some(_), _) | (None, SinkState::Idle) => SinkState::Idle,
+        (None, SinkState::Fine | SinkState::Failed) => SinkState::Failed,
+    }
+}
+
+/// Whether the control word is that of a member.
+fn is_member(ctrl: Ctrl) -> bool
+    ensures { result ≡ is_member ctrl }
+{
+    !matches!(ctrl, Ctrl::Idle)
+}
+
+/// The octet of the eight statuses from a sequence number on: OK is 0, and the first one stands in the most
+/// significant bit.
+fn member_status(row: &[Option<Packet>], first: u8) -> u8
+    requires { first ≤ 248 }
+    ensures { result ≡ mst_of row.now first }
+{
+    let mut mst = 0;
+    for place in 0..8 {
+        mst = 2 * mst + status_bit(row, first + place);
+    }
+    mst
+}
+
+/// The bit that says the status of a sequence number.
+fn status_bit(row: &[Option<Packet>], sq: u8) -> u8
+    ensures { result ≡ (if not (status_of row.now sq) then 1 else 0) }
+{
+    if is_said(row, sq) { 0 } else { 1 }
+}
+
+/// Whether some line of a row is a member with this sequence number.
+fn is_said(row: &[Option<Packet>], sq: u8) -> bool
+    ensures { result ≡ status_of row.now sq }
+{
+    row.iter().any(|packet| says_at(packet, sq))
+}
+
+/// Whether a packet is that of a member with this sequence number.
+fn says_at(packet: &Option<Packet>, sq: u8) -> bool
+    ensures { result ≡ says_at sq packet.now }
+{
+    match packet {
+        Some(packet) => is_member(packet.ctrl) && packet.sq == sq,
+        None => false,
+    }
+}

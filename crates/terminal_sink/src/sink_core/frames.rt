@@ -1,0 +1,91 @@
+//! Where frames go.
+
+ghost use Rattle.std.specs.Prelude.{◌≡◌, ℕ, ◌≤◌, false, List, [], ◌∷◌, ◌++◌, length, map, IfOk};
+ghost use Rattle.base_io.specs.Start.{Start};
+ghost use Rattle.terminal_sink.specs.sink_core.Kept.{HasKept};
+ghost use Rattle.law_model.specs.Limits.{longest_frame};
+
+use std::alloc::{AllocError, Global};
+use std::marker::Model;
+
+/// Takes the frames that come through, in order.
+pub trait FrameOut {
+    /// It stands for the frames that it was given, after what had been given before.
+    ghost stands_for: { Self → Start → List (List ℕ) → Type 0 };
+
+    /// Takes the next frame, from destination address to FCS, of at most 9,600 octets.
+    fn frame(&mut self, frame: &[u8])
+        requires { length frame.now ≤ longest_frame }
+        ensures { (start : Start) (frames : List (List ℕ)) → stands_for self.old start frames →
+            stands_for self.new start (frames ++ frame.now ∷ []) };
+}
+
+/// Keeps the frames that it is given, until it has no memory for one.
+#[derive(Drop)]
+pub struct KeptFrames {
+    alloc: Global,
+    frames: Vec<Vec<u8>>,
+    full: bool,
+}
+
+impl Model for KeptFrames {
+    ghost use Rattle.std.specs.Prelude.{map};
+    ghost use Rattle.terminal_sink.specs.sink_core.Kept.{Kept};
+
+    ghost Value = { Kept };
+
+    ghost view = { λ kept. record { frames = map (λ frame. frame.items) kept.frames.items; full = kept.full } };
+}
+
+impl KeptFrames {
+    /// No frame.
+    pub fn new(alloc: Global) -> Result<KeptFrames, AllocError>
+        ensures frames { IfOk result (λ kept. kept.frames ≡ []) }
+        ensures full { IfOk result (λ kept. kept.full ≡ false) }
+    {
+        Ok(KeptFrames {
+            alloc,
+            frames: Vec::with_capacity(alloc, 0)?,
+            full: false,
+        })
+    }
+
+    /// The frames that are kept.
+    pub fn frames(&self) -> &[Vec<u8>]
+        ensures { map (λ frame. frame.items) result.now ≡ self.now.frames }
+    {
+        &self.frames
+    }
+
+    /// Whether there was no memory for a frame.
+    pub fn is_full(&self) -> bool
+        ensures { result ≡ self.now.full }
+    {
+        self.full
+    }
+}
+
+impl FrameOut for KeptFrames {
+    ghost use Rattle.terminal_sink.specs.sink_core.Kept.{HasKept};
+
+    ghost stands_for = { λ kept start frames. HasKept kept frames };
+
+    fn frame(&mut self, frame: &[u8]) {
+        match copy(self.alloc, frame) {
+            Ok(kept) => match self.frames.push(kept) {
+                Ok(()) => {}
+                Err(_) => self.full = true,
+            },
+            Err(_) => self.full = true,
+        }
+    }
+}
+
+/// The octets of a frame, in memory of their own.
+fn copy(alloc: Global, frame: &[u8]) -> Result<Vec<u8>, AllocError>
+    ensures { IfOk result (λ kept. kept.items ≡ frame.now) }
+{
+    let mut kept = Vec::with_capacity(alloc, frame.len())?;
+    kept.extend_from_slice(frame)?;
+    Ok(kept)
+}

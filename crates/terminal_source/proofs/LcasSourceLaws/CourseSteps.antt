@@ -1,0 +1,254 @@
+-- What commands and decision steps make of the fields of a source's table.
+use Rattle.std.proofs.Common.{◌≡◌, ℕ, zero, suc, ◌+◌, ◌-◌, ◌%◌, ◌<◌, ◌≤◌, ◌==◌, ◌&&◌, nat_le, nat_lt, Bool, true, false}
+use Rattle.std.proofs.Common.{if◌then◌else◌, List, [], ◌∷◌, ◌++◌, length, take, slice_set, replicate, Option, Some}
+use Rattle.std.proofs.Common.{None, refl, sym, ◌∙◌, ap, subst, arith}
+use Rattle.std.specs.List.{list_all}
+use Rattle.std.proofs.Math.Seq.{take-set-lt}
+use Rattle.std.proofs.lemmas.Bool.Decides.{nat_tests}
+use Rattle.std.proofs.lemmas.List.{length-map}
+use Rattle.law_model.specs.declared.table.Command.{Command}
+use Rattle.law_model.specs.declared.table.Command.TheVariants.{Add as add, Remove as remove}
+use Rattle.law_model.specs.declared.table.Member.{Member}
+use Rattle.law_model.specs.declared.refusal.CommandFault.{CommandFault}
+use Rattle.law_model.specs.declared.refusal.CommandFault.TheVariants.{UnknownLine}
+use Rattle.law_model.specs.source.Table.{Table, Told, first_table, heard, told_on, exchange, exchanged, kept_of}
+use Rattle.law_model.specs.packets.Packet.{read_of}
+use Rattle.law_model.specs.packets.Told.{packet_read}
+use Rattle.law_model.specs.packets.GroupBit.{bits_from}
+use Rattle.law_model.specs.source.Source.{Source, opening, line_of, is_add, refusal, asked, asked_by, change, change_by}
+use Rattle.law_model.specs.source.Source.{decide}
+use Rattle.law_model.specs.source.Course.{Course, begun, count_of}
+use Rattle.law_session.specs.Feedback.{lines_of}
+use Rattle.law_session.proofs.TableLaws.{told_on-lines, heard-order, heard-count}
+use Rattle.law_session.proofs.PlanLaws.{Fits, opening-fits, Fits-asked, Fits-decide, Fits-room}
+use Rattle.terminal_source.specs.lcas_source.Fields.{none_planned, IsTable, changed_by}
+
+-- ---- before the first call
+take-none : (n m : ℕ) → n ≤ m → take n (replicate m false) ≡ replicate n false
+take-none zero m h = refl
+take-none (suc n) zero h = absurd (omega arith)
+take-none (suc n) (suc m) h = ap (λ rest. false ∷ rest) (take-none n m (omega arith))
+
+none-planned : (lines : ℕ) → lines ≤ 128 → take lines none_planned ≡ replicate lines false
+unfolding none_planned
+none-planned lines h = take-none lines 128 h
+
+opening-fields : (lines : ℕ) (table : Table) (planned : List Bool) (waiting : List Command) → lines ≤ 128 →
+    table ≡ first_table → planned ≡ none_planned → waiting ≡ [] →
+    record { table = table; planned = take lines planned; waiting = waiting } ≡ opening lines
+opening-fields lines table planned waiting few is_table is_planned is_waiting =
+    ap (λ table. record { table = table; planned = take lines planned; waiting = waiting }) is_table
+    ∙ ap (λ planned. record { table = first_table; planned = take lines planned; waiting = waiting }) is_planned
+    ∙ ap (λ planned. record { table = first_table; planned = planned; waiting = waiting }) (none-planned lines few)
+    ∙ ap (λ waiting. record { table = first_table; planned = replicate lines false; waiting = waiting }) is_waiting
+
+pub begun-fields : (lines : ℕ) (table : Table) (planned : List Bool) (waiting : List Command) → lines ≤ 128 →
+    table ≡ first_table → planned ≡ none_planned → waiting ≡ [] →
+    record {
+      lines = lines;
+      source = record { table = table; planned = take lines planned; waiting = waiting };
+      taken =
+          0;
+      steps = 0;
+    } ≡ begun lines
+begun-fields lines table planned waiting few is_table is_planned is_waiting =
+    ap (λ source. record { lines = lines; source = source; taken = 0; steps = 0 })
+    (opening-fields lines table planned waiting few is_table is_planned is_waiting)
+
+IsTable-begun : (lines : ℕ) (group : List Bool) → lines ≤ 128 → group ≡ bits_from 0 → IsTable (begun lines) group
+IsTable-begun lines group few bits =
+    record { lines = few; fits = opening-fits lines; count = omega arith; taken = omega arith; bits = bits }
+
+pub IsTable-new : (course : Course) (lines : ℕ) (group : List Bool) → course ≡ begun lines → lines ≤ 128 →
+    group ≡ bits_from 0 → IsTable course group
+IsTable-new course lines group is few bits =
+    subst (λ course. IsTable course group) (sym is) (IsTable-begun lines group few bits)
+
+-- ---- a command
+some-none : (fault : CommandFault) → Some fault ≡ None → ⊥
+some-none fault e = cc
+
+lt-of_test : (a b : ℕ) → nat_le a b ≡ false → b < a
+lt-of_test a b e = grind (arith, nat_tests, e)
+
+inside-of_accepted : (lines : ℕ) (command : Command) (source : Source) → refusal lines command source ≡ None →
+    line_of command < lines
+inside-of_accepted lines command source e =
+    elim (nat_le lines (line_of command)) as (λ b. nat_le lines (line_of command) ≡ b → line_of command < lines) [
+      | true ↦ λ test. absurd (some-none (UnknownLine lines) (rw test at e))
+      | false ↦ λ test. lt-of_test lines (line_of command) test
+    ] refl
+
+asked-accepted : (lines : ℕ) (command : Command) (table : Table) (planned : List Bool) (waiting : List Command) →
+    refusal lines command (record { table = table; planned = take lines planned; waiting = waiting }) ≡ None →
+    record {
+      table = table;
+      planned = take lines (slice_set planned (line_of command) (is_add command));
+      waiting =
+          waiting ++ command ∷ [];
+    }
+    ≡ asked lines (record { table = table; planned = take lines planned; waiting = waiting }) command
+asked-accepted lines command table planned waiting e =
+    let source : Source = record { table = table; planned = take lines planned; waiting = waiting } in
+    ap (λ planned. record { table = table; planned = planned; waiting = waiting ++ command ∷ [] })
+    (take-set-lt lines planned (line_of command) (is_add command) (inside-of_accepted lines command source e))
+    ∙ sym (ap (λ r. asked_by r command source) e)
+
+-- the same, by what the fields were set to
+pub asked-fields : (lines : ℕ) (command : Command) (table : Table) (planned : List Bool) (waiting after : List Command)
+    (line : ℕ) (adds : Bool) →
+    line ≡ line_of command → adds ≡ is_add command → after ≡ waiting ++ command ∷ [] →
+    refusal lines command (record { table = table; planned = take lines planned; waiting = waiting }) ≡ None →
+    record { table = table; planned = take lines (slice_set planned line adds); waiting = after }
+    ≡ asked lines (record { table = table; planned = take lines planned; waiting = waiting }) command
+asked-fields lines command table planned waiting after line adds is_line is_adds more e =
+    ap (λ line. record { table = table; planned = take lines (slice_set planned line adds); waiting = after }) is_line
+    ∙ ap (λ adds. record {
+      table = table;
+      planned = take lines (slice_set planned (line_of command) adds);
+      waiting =
+          after;
+    }) is_adds
+    ∙ ap (λ after. record {
+      table = table;
+      planned = take lines (slice_set planned (line_of command) (is_add command));
+      waiting = after;
+    }) more
+    ∙ asked-accepted lines command table planned waiting e
+
+accepted-fits : (lines : ℕ) (command : Command) (source after : Source) → after ≡ asked lines source command →
+    Fits lines source → Fits lines after
+accepted-fits lines command source after e fits = subst (Fits lines) (sym e) (Fits-asked lines source command fits)
+
+-- a command is accepted
+pub IsTable-asked : (course : Course) (group : List Bool) (command : Command) (after : Source) →
+    after ≡ asked course.lines course.source command →
+    after.table ≡ course.source.table → IsTable course group →
+    IsTable (record { lines = course.lines; source = after; taken = course.taken; steps = course.steps }) group
+IsTable-asked course group command after e same is =
+    let counts = is.count in
+    let count = ap (λ table. table.count) same in
+    record {
+      lines = is.lines;
+      fits = accepted-fits course.lines command course.source after e is.fits;
+      count = omega arith;
+      taken = is.taken;
+      bits = is.bits;
+    }
+
+-- ---- a decision step
+settled-size : (group : ℕ) (told : Option Told) (table : Table) →
+    length (told_on (heard group told table)).order ≡ length table.order
+settled-size group told table =
+    let line : Member → ℕ = λ member. member.line in
+    sym (length-map (told_on (heard group told table)).order line)
+    ∙ ap length (told_on-lines (heard group told table) ∙ ap lines_of (heard-order group told table))
+    ∙ length-map table.order line
+
+pub settled-room : (lines group : ℕ) (told : Option Told) (source : Source) (line : ℕ) (commands : List Command) →
+    lines ≤ 128 → Fits lines source →
+    source.waiting ≡ add line ∷ commands → length (told_on (heard group told source.table)).order < 128
+settled-room lines group told source line commands most fits waits =
+    let room = Fits-room lines source line commands fits waits in
+    let same = settled-size group told source.table in
+    omega arith
+
+-- planned lines are as before
+abbrev pub with_planned : List Bool → Source → Source
+with_planned planned source = record { table = source.table; planned = planned; waiting = source.waiting }
+
+change_by-planned : (commands : List Command) (source : Source) (table : Table) →
+    with_planned source.planned (change_by commands (record { table = table; planned = []; waiting = commands }) table)
+    ≡ change_by commands source table
+change_by-planned [] source table = refl
+change_by-planned (command ∷ commands) source table = refl
+
+change-planned : (source : Source) (table : Table) →
+    with_planned source.planned (changed_by source.waiting table) ≡ change source table
+change-planned source table =
+    elim table.acknowledged as (λ b. with_planned source.planned
+    (if b then change_by source.waiting (record { table = table; planned = []; waiting = source.waiting }) table
+    else record { table = table; planned = []; waiting = source.waiting })
+    ≡ (if b then change_by source.waiting source table
+    else record { table = table; planned = source.planned; waiting = source.waiting })) [
+      | true ↦ change_by-planned source.waiting source table
+      | false ↦ refl
+    ]
+
+pub decided-fields : (group : ℕ) (told : Option Told) (source : Source) (settled table : Table)
+    (waiting : List Command) →
+    settled ≡ told_on (heard group told source.table) → table ≡ (changed_by source.waiting settled).table →
+    waiting ≡ (changed_by source.waiting settled).waiting →
+    record { table = table; planned = source.planned; waiting = waiting } ≡ decide group told source
+decided-fields group told source settled table waiting is_settled is_table is_waiting =
+    ap (λ table. record { table = table; planned = source.planned; waiting = waiting }) is_table
+    ∙ ap (λ waiting. record {
+      table = (changed_by source.waiting settled).table;
+      planned = source.planned;
+      waiting =
+          waiting;
+    }) is_waiting
+    ∙ change-planned source settled ∙ ap (change source) is_settled
+
+exchanged-count : (found : Option (List Member)) (table : Table) → (exchanged found table).count ≤ table.count + 1
+exchanged-count None table = omega arith
+exchanged-count (Some order) table = omega arith
+
+change_by-count : (commands : List Command) (source : Source) (table : Table) →
+    (change_by commands source table).table.count ≤ table.count + 1
+change_by-count [] source table = exchanged-count (exchange (kept_of table) 0 table.order) table
+change_by-count (add line ∷ commands) source table = omega arith
+change_by-count (remove line ∷ commands) source table = omega arith
+
+change-count : (source : Source) (table : Table) → (change source table).table.count ≤ table.count + 1
+change-count source table =
+    elim table.acknowledged as (λ b.
+    (if b then change_by source.waiting source table
+    else record { table = table; planned = source.planned; waiting = source.waiting }).table.count ≤ table.count +
+    1) [
+      | true ↦ change_by-count source.waiting source table
+      | false ↦ omega arith
+    ]
+
+count_of-small : (cell : Option (Option Told)) → count_of cell ≤ 1
+count_of-small None = omega arith
+count_of-small (Some told) = omega arith
+
+pub IsTable-decided : (course : Course) (group bits : List Bool) (told : Option Told) (cell : Option (Option Told))
+    (after : Source) →
+    after ≡ decide (course.taken % 16) told course.source → bits ≡ bits_from course.steps → IsTable course group →
+    IsTable (record {
+      lines = course.lines;
+      source = after;
+      taken = course.taken + count_of cell;
+      steps =
+          course.steps + 1;
+    }) bits
+IsTable-decided course group bits told cell after e next is =
+    let counts = is.count in
+    let takens = is.taken in
+    let heard_count = heard-count (course.taken % 16) told course.source.table in
+    let rises = change-count course.source (told_on (heard (course.taken % 16) told course.source.table)) in
+    let count = ap (λ source. source.table.count) e in
+    let small = count_of-small cell in
+    let now : course.steps ≡ course.steps + 1 - 1 = omega arith in
+    record {
+      lines = is.lines;
+      fits = subst (Fits course.lines) (sym e)
+          (Fits-decide course.lines (course.taken % 16) told course.source is.fits);
+      count = omega arith;
+      taken = omega arith;
+      bits = next ∙ ap bits_from now;
+    }
+
+-- ---- a return cell
+both-false : (a b : Bool) → b ≡ false → (a && b) ≡ false
+both-false true b e = e
+both-false false b e = refl
+
+pub packet_read-none : (nibbles : List ℕ) → list_all (λ nibble. nat_lt nibble 16) nibbles ≡ false →
+    packet_read (read_of nibbles) ≡ None
+unfolding read_of
+packet_read-none nibbles e =
+    let test = both-false (length nibbles == 16) (list_all (λ nibble. nat_lt nibble 16) nibbles) e in
+    rw test refl

@@ -1,0 +1,2 @@
+pub mod LcasSourceLaws
+pub mod SourceCoreLaws

@@ -1,0 +1,2 @@
+pub mod lcas_source
+pub mod source_core

@@ -1,0 +1,16 @@
+//! The source terminal of a group: it takes the client's frames, the operator's commands and the return
+//! packets, and makes the containers of all lines, frame by frame (G.707, G.7041, G.7042). What comes of a
+//! container on its line, and what the sink makes of it, is not said here. Begin with `SourceCore`.
+
+mod frame;
+mod laws;
+mod maker;
+mod step;
+mod terminal;
+
+pub use crate::lcas_source::CommandFault;
+pub use gfp_fill::AcceptFault;
+pub use law_model::Command;
+pub use laws::{accepted_law, landed_law, membership_law, needed_law};
+pub use member_rows::lcas_packet::Packet;
+pub use terminal::SourceCore;

@@ -1,0 +1,142 @@
+//! Rows of packets that two lines carry, what is told of them, and the states after each.
+
+ghost use Rattle.std.specs.Prelude.{◌≡◌, ◌+◌, ◌≤◌};
+
+use base_cells::Ctrl;
+use law_model::Packet;
+use terminal_sink::lcas_sink::{SinkState, SinkTable};
+
+const IDLE: Packet = Packet {
+    mst: 0,
+    rs_ack: false,
+    chg: true,
+    sq: 255,
+    mfi2: 0,
+    ctrl: Ctrl::Idle,
+    gid: true,
+    act: 0,
+};
+
+const ADD: Packet = Packet {
+    sq: 0,
+    ctrl: Ctrl::Add,
+    ..IDLE
+};
+
+const DNU: Packet = Packet {
+    chg: false,
+    sq: 9,
+    ctrl: Ctrl::Dnu,
+    ..IDLE
+};
+
+/// Rows: the packets of two lines, which are `-` for none, `i` for IDLE, `a` for ADD and `d` for DNU; the
+/// member statuses and the acknowledgement that are told of them; and the states after it, which are `i` for
+/// Idle, `f` for Fine and `x` for Failed. The status of a line is told in every sixteenth packet.
+fn listed() -> &'static str {
+    "\
+    -- ff - ii\n\
+    -d bf - if\n\
+    id ff + if\n\
+    -- ff + ix\n\
+    a- ff + fx\n\
+    -d ff - xf\n\
+    ii ff + ii\n\
+    a- ff + fi\n\
+    a- ff + fi\n\
+    a- ff + fi\n\
+    a- ff + fi\n\
+    a- ff + fi\n\
+    a- ff + fi\n\
+    a- ff + fi\n\
+    a- ff + fi\n\
+    a- ff + fi\n\
+    a- 7f + fi"
+}
+
+/// The packet of a letter.
+fn packet(letter: u8) -> Option<Packet> {
+    match letter {
+        b'i' => Some(IDLE),
+        b'a' => Some(ADD),
+        b'd' => Some(DNU),
+        _ => None,
+    }
+}
+
+/// The letter of a state.
+fn letter(state: SinkState) -> u8 {
+    match state {
+        SinkState::Idle => b'i',
+        SinkState::Fine => b'f',
+        SinkState::Failed => b'x',
+    }
+}
+
+/// A hexadecimal digit.
+fn digit(n: u8) -> u8 {
+    if n % 16 < 10 {
+        b'0' + n % 16
+    } else {
+        b'a' + n % 16 - 10
+    }
+}
+
+/// Takes a row. Tells whether what is told of it, and the states after it, are those that are listed.
+fn is_right(table: &mut SinkTable, row: &[u8], mfi2: u8) -> bool
+    requires lines { table.old.lines ≡ 2 }
+    requires few { table.old.taken ≤ 100 }
+    ensures lines { table.new.lines ≡ 2 }
+    ensures taken { table.new.taken ≡ table.old.taken + 1 }
+{
+    let packets = match row {
+        [first, second, ..] => [packet(*first), packet(*second)],
+        _ => [None, None],
+    };
+    let told = table.packet_row(&packets);
+    let seen = [
+        digit(told.mst / 16),
+        digit(told.mst),
+        b' ',
+        if told.rs_ack { b'+' } else { b'-' },
+        b' ',
+        letter(table.state(0)),
+        letter(table.state(1)),
+    ];
+    let rest = Packet {
+        mst: 0,
+        rs_ack: false,
+        ..told
+    };
+    let wanted = Packet {
+        chg: false,
+        mfi2,
+        gid: false,
+        ..IDLE
+    };
+    row.get(3..) == Some(seen.as_slice()) && rest == wanted
+}
+
+/// The number of the first row that is not right, or that after the last one.
+fn right_rows(table: &mut SinkTable) -> u8
+    requires lines { table.old.lines ≡ 2 }
+    requires few { table.old.taken ≡ 0 }
+{
+    let mut mfi2 = 1u8;
+    for row in listed().lines() {
+        if mfi2 > 100 || !is_right(table, row.as_bytes(), mfi2) {
+            return mfi2;
+        }
+        mfi2 += 1;
+    }
+    mfi2
+}
+
+#[test]
+fn rows(rt: HostRuntime) {
+    let unknown = SinkTable::new(2).state(2);
+    assert_eq!(rt;
+        (right_rows(&mut SinkTable::new(2)), unknown),
+        (18, SinkState::Idle)
+    );
+}

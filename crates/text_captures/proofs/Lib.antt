@@ -1,0 +1,2 @@
+pub mod CaptureFileLaws
+pub mod TraceCoreLaws

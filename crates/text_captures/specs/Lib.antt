@@ -1,0 +1,2 @@
+pub mod capture_file
+pub mod trace_core

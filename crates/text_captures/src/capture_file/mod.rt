@@ -1,0 +1,56 @@
+//! Captures of the classic form (pcap) as lists of octets: a head, and then records of frames with their
+//! times. One is read in place, whole or up to its first fault; what it says is written as the `frame` lines
+//! of a script; and one is written, of Ethernet frames or of the GFP frames that hold them. Captures of the newer
+//! form (pcapng) are refused, and no check of a frame is tested. Begin with `read_capture`.
+
+ghost use Rattle.std.specs.Prelude.{◌≡◌, ℕ, List, [], ◌∷◌, ◌++◌, length, take, drop, Ok, Err};
+ghost use Rattle.law_model.specs.frames.Core.{core_header};
+ghost use Rattle.law_model.specs.frames.Piece.{client, area_of};
+ghost use Rattle.text_captures.specs.declared.capture_file.form.CaptureFault.{CaptureFault};
+ghost use Rattle.text_captures.specs.declared.capture_file.form.RecordFault.{RecordFault};
+ghost use Rattle.text_captures.specs.capture_file.Reading.{capture_said};
+ghost use Rattle.text_captures.specs.capture_file.Written.{RowFrame, ethernet_capture, AreRising, due_frames, two_frames};
+ghost use Rattle.text_captures.specs.capture_file.Gfp.{plain_header, with_pattern, gfp_octets};
+
+mod capture_out;
+mod check;
+mod clock;
+mod form;
+mod gfp_out;
+mod head;
+mod lines;
+mod note;
+mod record;
+
+pub use capture_out::CaptureOut;
+pub use check::read_capture;
+pub use form::{ByteOrder, CaptureFault, Form, HeadFault, RecordFault, RecordHead, TimeUnit};
+pub use gfp_out::GfpOut;
+pub use head::read_head;
+pub use lines::write_frames;
+pub use note::fault_note;
+pub use record::{NextRecord, next_record};
+
+/// A capture that is written of frames whose rows don't fall is read as the frames in it: each is due as many
+/// ticks after the first one as its row comes after the row of that.
+pub fn written_law()
+    ensures { (frames : List RowFrame) → AreRising 0 frames →
+        capture_said (ethernet_capture frames) ≡ Ok (due_frames frames) }
+{}
+
+/// The GFP frame that holds a client frame begins with what the source sends as the core header of that
+/// frame's piece, but for B6 AB 31 E0; behind that it is the payload area of the piece before scrambling.
+pub fn gfp_law()
+    ensures header { (frame : List ℕ) → with_pattern (take 4 (gfp_octets frame))
+        ≡ core_header (length (area_of (client frame))) }
+    ensures area { (frame : List ℕ) → drop 4 (gfp_octets frame) ≡ area_of (client frame) }
+    ensures worked { plain_header 68 ≡ 0x00 ∷ 0x44 ∷ 0x08 ∷ 0x40 ∷ [] }
+{}
+
+/// Worked: two frames of two octets with an FCS, nanoseconds, the most significant octet first; the second
+/// one is 250,000 nanoseconds later. An octet more is the start of a record that is cut.
+pub fn worked_law()
+    ensures said { capture_said two_frames ≡ Ok (record { due = 0; frame = 0xaa ∷ 0xbb ∷ [] }
+        ∷ record { due = 2; frame = 0xcc ∷ 0xdd ∷ [] } ∷ []) }
+    ensures cut { capture_said (two_frames ++ 0 ∷ []) ≡ Err (CaptureFault.Record 2 RecordFault.Cut) }
+{}

@@ -1,0 +1,6 @@
+-- The tests agree, for each of the 256 characters.
+use Rattle.text_hex.proofs.DigitLaws.{digit_between}
+use Rattle.text_hex.proofs.digits.is_digit.Goals as goal
+
+pub returns : goal.returns
+returns c = digit_between c.args.c c.ranges.c.fits

@@ -1,0 +1,3 @@
+pub mod ScriptReadLaws
+pub mod MakeLoadLaws
+pub mod RateLoadLaws

@@ -1,0 +1,67 @@
+-- Draws one on, and their bounds.
+use Rattle.std.proofs.Common.{◌≡◌, ℕ, zero, suc, ◌+◌, ◌-◌, ◌/◌, ◌<◌, ◌≤◌, ◌^◌, List, [], ◌∷◌, ◌++◌, length, ap, sym}
+use Rattle.std.proofs.Common.{◌∙◌, arith, refl, All}
+use Rattle.std.proofs.lemmas.List.{append-nil, append_assoc}
+use Rattle.std.proofs.lemmas.List.Elements.{All-cons}
+use Rattle.std.proofs.lemmas.Nat.{mod_below}
+use Rattle.text_scripts.specs.make_load.Draws.{next, drawn, draws, after_draws}
+
+draws_more : (count bound state : ℕ) → 0 < count →
+    draws count bound state ≡ drawn (next state) bound ∷ draws (count - 1) bound (next state)
+unfolding draws
+draws_more zero bound state some = absurd (omega (arith, some))
+draws_more (suc count) bound state some =
+    ap (λ (k : ℕ). drawn (next state) bound ∷ draws k bound (next state))
+    (let e : count ≡ suc count - 1 = omega arith in e)
+
+after_more : (count state : ℕ) → 0 < count → after_draws count state ≡ after_draws (count - 1) (next state)
+unfolding after_draws
+after_more zero state some = absurd (omega (arith, some))
+after_more (suc count) state some =
+    ap (λ (k : ℕ). after_draws k (next state)) (let e : count ≡ suc count - 1 = omega arith in e)
+
+-- one draw on: what was drawn so far, and the draws that are left
+pub draws_next : (all before : List ℕ) (count i bound state now n : ℕ) → all ≡ before ++ draws (count - i) bound state →
+    i < count
+    → now ≡ next state → n ≡ drawn (next state) bound → all ≡ (before ++ n ∷ []) ++ draws (count - (i + 1)) bound now
+draws_next all before count i bound state now n is within moves draw =
+    is ∙ ap (λ (l : List ℕ). before ++ l) (draws_more (count - i) bound state (omega (arith, within)))
+    ∙ ap (λ (k : ℕ). before ++ drawn (next state) bound ∷ draws k bound (next state))
+    (let e : count - i - 1 ≡ count - (i + 1) = omega arith in e)
+    ∙ ap (λ (s : ℕ). before ++ drawn (next state) bound ∷ draws (count - (i + 1)) bound s) (sym moves)
+    ∙ ap (λ (m : ℕ). before ++ m ∷ draws (count - (i + 1)) bound now) (sym draw)
+    ∙ sym (append_assoc before (n ∷ []) (draws (count - (i + 1)) bound now))
+
+pub after_next : (all count i state now : ℕ) → all ≡ after_draws (count - i) state → i < count → now ≡ next state
+    → all ≡ after_draws (count - (i + 1)) now
+after_next all count i state now is within moves =
+    is ∙ after_more (count - i) state (omega (arith, within))
+    ∙ ap (λ (k : ℕ). after_draws k (next state)) (let e : count - i - 1 ≡ count - (i + 1) = omega arith in e)
+    ∙ ap (λ (s : ℕ). after_draws (count - (i + 1)) s) (sym moves)
+
+-- no draw is left
+pub draws_end : (all before : List ℕ) (count i bound state : ℕ) → all ≡ before ++ draws (count - i) bound state →
+    count ≤ i → before ≡ all
+unfolding draws
+draws_end all before count i bound state is past =
+    sym (is ∙ ap (λ (k : ℕ). before ++ draws k bound state) (let e : count - i ≡ 0 = omega (arith, past) in e)
+    ∙ append-nil before)
+
+pub after_end : (all count i state : ℕ) → all ≡ after_draws (count - i) state → count ≤ i → state ≡ all
+unfolding after_draws
+after_end all count i state is past =
+    sym (is ∙ ap (λ (k : ℕ). after_draws k state) (let e : count - i ≡ 0 = omega (arith, past) in e))
+
+-- ---- bounds
+pub length-draws : (count bound state : ℕ) → length (draws count bound state) ≡ count
+unfolding draws
+length-draws zero bound state = refl
+length-draws (suc count) bound state = ap suc (length-draws count bound (next state))
+
+pub draws_below : (count bound state : ℕ) → 0 < bound → All (λ n. n < bound) (draws count bound state)
+unfolding draws
+draws_below zero bound state some = λ i d within. absurd (omega (arith, within))
+draws_below (suc count) bound state some =
+    All-cons (λ n. n < bound) (drawn (next state) bound) (draws count bound (next state))
+    (let less : drawn (next state) bound < bound = mod_below (next state / 2 ^ 33) bound some in less)
+    (draws_below count bound (next state) some)

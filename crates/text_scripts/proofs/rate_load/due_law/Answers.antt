@@ -1,0 +1,6 @@
+-- By the quotients that say it.
+use Rattle.text_scripts.proofs.RateLoadLaws.LineLaws.{due_before}
+use Rattle.text_scripts.proofs.rate_load.due_law.Goals as goal
+
+pub returns : goal.returns
+returns c = due_before

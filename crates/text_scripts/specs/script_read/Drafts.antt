@@ -1,0 +1,131 @@
+-- What a draft meets, and what a line may say that stands after those of a draft.
+use Rattle.std.specs.Prelude.{◌≡◌, ◌⊎◌, ⊤, ℕ, ◌-◌, ◌==◌, ◌<◌, ◌≤◌, not, nat_lt, List, [], ◌∷◌, length, replicate}
+use Rattle.std.specs.Prelude.{Option, option_map, All}
+use Rattle.std.specs.Option.{option_or}
+use Rattle.law_model.specs.declared.window.Window.{Window}
+use Rattle.law_model.specs.declared.script.Config.{Config}
+use Rattle.law_model.specs.declared.script.ItemKind.{ItemKind}
+use Rattle.law_model.specs.declared.script.ItemKind.TheVariants as item
+use Rattle.law_model.specs.session.Counts.{dues_of, frame_dues, command_dues}
+use Rattle.text_scripts.specs.declared.script_read.fault.LineFault.{LineFault}
+use Rattle.text_scripts.specs.declared.script_read.fault.LineFault.TheVariants as wrong
+use Rattle.text_scripts.specs.declared.script_read.fault.ScriptFault.{ScriptFault}
+use Rattle.text_scripts.specs.declared.script_read.fault.ScriptFault.TheVariants as fault
+use Rattle.text_scripts.specs.declared.script_read.fault.LineStop.{LineStop}
+use Rattle.text_scripts.specs.declared.script_read.fault.LineStop.TheVariants as stop
+use Rattle.text_scripts.specs.declared.script_read.keyword.Keyword.{Keyword}
+use Rattle.text_scripts.specs.declared.script_read.keyword.Keyword.TheVariants as word
+use Rattle.text_scripts.specs.declared.script_read.draft.Statement.{Statement}
+use Rattle.text_scripts.specs.declared.script_read.draft.Statement.TheVariants as says
+use Rattle.text_scripts.specs.declared.script_read.draft.Draft.{Draft}
+use Rattle.text_lines.specs.Words.{word_at, number_at}
+use Rattle.text_lines.specs.Fields.{where_true, within, number_fault, name_fault, fields_fault}
+use Rattle.text_scripts.specs.script_read.Statements.{container_names, windows_of, last_end, last_lost}
+use Rattle.law_model.specs.session.Valid.{IsWithin, HasLosses, IsSize, IsItem, AreItems, IsEvent}
+
+-- ---- faults
+-- the fault of line n, which wasn't read
+abbrev pub fault_at : ℕ → LineStop → ScriptFault
+fault_at n (stop.Fault f) = fault.Line n f
+fault_at n stop.Memory = fault.Memory
+
+-- a keyword takes so many words
+abbrev pub count_fault : Keyword → ℕ → List (List ℕ) → Option LineFault
+count_fault k n ws = where_true (not (length ws == n)) (wrong.Count k n (length ws))
+
+-- the fault of the words of a container, of a number of delays, of one number, and of a command
+abbrev pub container_fault : List (List ℕ) → Option LineFault
+container_fault ws =
+    option_or (count_fault word.Container 1 ws) (option_map wrong.Field (name_fault 2 container_names (word_at 0 ws)))
+
+abbrev pub delays_fault : ℕ → List (List ℕ) → Option LineFault
+delays_fault n ws =
+    option_or (count_fault word.Delays n ws)
+    (option_map wrong.Field (fields_fault (replicate n (within 0 2047)) 2 0 ws))
+
+abbrev pub one_fault : Keyword → ℕ → ℕ → List (List ℕ) → Option LineFault
+one_fault k least most ws =
+    option_or (count_fault k 1 ws) (option_map wrong.Field (number_fault 2 least most (word_at 0 ws)))
+
+abbrev pub command_fault : Draft → Keyword → List (List ℕ) → Option LineFault
+command_fault d k ws =
+    option_or (count_fault k 2 ws)
+    (option_or (option_map wrong.Field (fields_fault (within 0 (d.config.ticks - 1) ∷ within 0 255 ∷ []) 2 0 ws))
+    (where_true (nat_lt (number_at 0 ws) d.command_due) (wrong.CommandBefore d.command_due)))
+
+-- a keyword's place may stand next
+abbrev pub IsPlaced : ℕ → ℕ → Type 0
+IsPlaced next at = (at ≤ 5 → (next ≡ at) ⊎ ((next ≡ 0) × (at ≡ 1))) × (6 ≤ at → (6 ≤ next) × (next ≤ at))
+
+-- ---- the lines of a draft
+-- windows each of which isn't empty and begins at the end of the one before or later, from this container on
+unfoldable pub AreInOrder : ℕ → List Window → Type 0
+AreInOrder from [] = Unit {0}
+AreInOrder from (window ∷ windows) = (from ≤ window.first) × (window.first < window.end) × AreInOrder window.end windows
+
+-- the windows of a line, before their slips are tested
+pub record AreFailures (ticks : ℕ) (windows : List Window) : Type 0 where
+  pub few : length windows ≤ 256
+  pub order : AreInOrder 0 windows
+  pub ends : All (λ (window : Window). window.end ≤ ticks) windows
+  pub slips : All (λ (window : Window). window.slip ≤ 2047) windows
+
+-- the configuration, line by line: each fact stands once the next place is beyond that line
+pub record HasConfig (next : ℕ) (config : Config) : Type 0 where
+  pub few : config.lines ≤ 128
+  pub lines : 2 ≤ next → (1 ≤ config.lines) × (length config.windows ≡ config.lines)
+  pub delay_each : 3 ≤ next → length config.delays ≡ config.lines
+  pub delays : All (λ delay. delay ≤ 2047) config.delays
+  pub ring : 4 ≤ next → IsWithin 1 2048 config.ring
+  pub lag : 5 ≤ next → IsWithin 1 512 config.lag
+  pub ticks : 6 ≤ next → IsWithin 1 1000000 config.ticks
+  pub size : IsSize config.size
+  pub none : next ≤ 5 → All (λ windows. windows ≡ []) config.windows
+  pub windows : All (AreFailures config.ticks) config.windows
+  pub lost : HasLosses config.lost
+  pub few_lost : length config.lost ≤ 256
+
+pub record IsDraft (d : Draft) : Type 0 where
+  pub config : HasConfig d.next d.config
+  pub no_items : d.next ≤ 6 → d.items ≡ []
+  pub items : AreItems d.config.ticks d.items
+  pub frame_due : All (λ due. due ≤ d.frame_due) (frame_dues (dues_of d.items))
+  pub command_due : All (λ due. due ≤ d.command_due) (command_dues (dues_of d.items))
+  pub no_events : d.next ≤ 7 → d.events ≡ []
+  pub events : All (IsEvent d.config.lines) d.events
+
+-- ---- what may come next
+-- the due tick of the last item of its kind
+abbrev pub last_due : Draft → ItemKind → ℕ
+last_due d (item.Frame octets) = d.frame_due
+last_due d (item.Add line) = d.command_due
+last_due d (item.Remove line) = d.command_due
+
+-- a window that line m may have next
+pub record IsNext (d : Draft) (m : ℕ) (window : Window) : Type 0 where
+  pub line : m < d.config.lines
+  pub some : window.first < window.end
+  pub ends : window.end ≤ d.config.ticks
+  pub slips : window.slip ≤ 2047
+  pub order : last_end (windows_of d m) ≤ window.first
+  pub room : length (windows_of d m) < 256
+
+-- and a return window
+pub record IsNextLost (d : Draft) (first end : ℕ) : Type 0 where
+  pub some : first < end
+  pub ends : end ≤ 62500
+  pub order : last_lost d.config.lost ≤ first
+  pub room : length d.config.lost < 256
+
+abbrev pub Fits : Draft → Statement → Type 0
+Fits d says.Nothing = ⊤
+Fits d (says.Container n) = (d.next ≡ 0) × IsSize n
+Fits d (says.Lines n) = (d.next ≤ 1) × IsWithin 1 128 n
+Fits d (says.Delays ns) = (d.next ≡ 2) × (length ns ≡ d.config.lines) × All (λ n. n ≤ 2047) ns
+Fits d (says.Ring n) = (d.next ≡ 3) × IsWithin 1 2048 n
+Fits d (says.Lag n) = (d.next ≡ 4) × IsWithin 1 512 n
+Fits d (says.Ticks n) = (d.next ≡ 5) × IsWithin 1 1000000 n
+Fits d (says.Fail m window) = (d.next ≡ 6) × IsNext d m window
+Fits d (says.Lost first end) = (d.next ≡ 6) × IsNextLost d first end
+Fits d (says.Item it) = (6 ≤ d.next) × (d.next ≤ 7) × IsItem d.config.ticks it × (last_due d it.kind ≤ it.due)
+Fits d (says.Event e) = (6 ≤ d.next) × IsEvent d.config.lines e

@@ -1,0 +1,254 @@
+-- The lines of a script: what each may say after those before it, which fault it has first, and what it adds to them.
+use Rattle.std.specs.Prelude.{unwrap_or, ℕ, ◌-◌, ◌==◌, ◌&&◌, ◌||◌, nat_le, nat_lt, not, Bool, false, List, [], ◌∷◌}
+use Rattle.std.specs.Prelude.{◌++◌, length, map, replicate, Option, Some, None, option_map, slice_index_or, slice_set}
+use Rattle.std.specs.Prelude.{drop, codes, bytes_eq, if◌then◌else◌}
+use Rattle.std.specs.Option.{option_or}
+use Rattle.text_scripts.specs.declared.script_read.fault.LineFault.{LineFault}
+use Rattle.text_scripts.specs.declared.script_read.fault.LineFault.TheVariants as wrong
+use Rattle.text_lines.specs.Words.{word_at, is_skipped, number_of, number_at, octets_of}
+use Rattle.text_lines.specs.Fields.{Field, within, any, above, digits, one_of, where_true, fields_fault}
+use Rattle.law_model.specs.declared.window.Window.{Window}
+use Rattle.law_model.specs.declared.script.Item.{Item}
+use Rattle.law_model.specs.declared.script.ItemKind.{ItemKind}
+use Rattle.law_model.specs.declared.script.ItemKind.TheVariants as item
+use Rattle.law_model.specs.declared.script.EventLine.TheVariants as event
+use Rattle.text_scripts.specs.declared.script_read.keyword.Keyword.{Keyword}
+use Rattle.text_scripts.specs.declared.script_read.keyword.Keyword.TheVariants as word
+use Rattle.text_scripts.specs.declared.script_read.keyword.Part.{Part}
+use Rattle.text_scripts.specs.declared.script_read.keyword.Part.TheVariants as part
+use Rattle.text_scripts.specs.declared.script_read.draft.Statement.{Statement}
+use Rattle.text_scripts.specs.declared.script_read.draft.Statement.TheVariants as says
+use Rattle.text_scripts.specs.declared.script_read.draft.Draft.{Draft}
+use Rattle.law_model.specs.Limits.{vc3_size, vc4_size}
+
+-- ---- the first word
+-- the words that may begin an event line
+abbrev pub event_keyword : List ℕ → Option Keyword
+event_keyword w =
+    if bytes_eq w (codes "client") then Some word.Client
+    else if bytes_eq w (codes "operator") then Some word.Operator
+    else if bytes_eq w (codes "tick") then Some word.Tick
+    else if bytes_eq w (codes "carry") then Some word.Carry
+    else if bytes_eq w (codes "back") then Some word.Back
+    else if bytes_eq w (codes "take") then Some word.Take
+    else if bytes_eq w (codes "round") then Some word.Round
+    else if bytes_eq w (codes "drain") then Some word.Drain
+    else None
+
+-- those and the words of windows and items
+abbrev pub item_keyword : List ℕ → Option Keyword
+item_keyword w =
+    if bytes_eq w (codes "fail") then Some word.Fail
+    else if bytes_eq w (codes "lost") then Some word.Lost
+    else if bytes_eq w (codes "frame") then Some word.Frame
+    else if bytes_eq w (codes "add") then Some word.Add
+    else if bytes_eq w (codes "remove") then Some word.Remove
+    else event_keyword w
+
+-- all words that may begin a line
+abbrev pub keyword_of : List ℕ → Option Keyword
+keyword_of w =
+    if bytes_eq w (codes "container") then Some word.Container
+    else if bytes_eq w (codes "lines") then Some word.Lines
+    else if bytes_eq w (codes "delays") then Some word.Delays
+    else if bytes_eq w (codes "ring") then Some word.Ring
+    else if bytes_eq w (codes "lag") then Some word.Lag
+    else if bytes_eq w (codes "ticks") then Some word.Ticks
+    else item_keyword w
+
+-- the place of a line in a script: 0 to 5 are the lines of the configuration, 6 is that of windows, 7 of items, 8 of
+-- event lines
+abbrev pub place : Keyword → ℕ
+place word.Container = 0
+place word.Lines = 1
+place word.Delays = 2
+place word.Ring = 3
+place word.Lag = 4
+place word.Ticks = 5
+place word.Fail = 6
+place word.Lost = 6
+place word.Frame = 7
+place word.Add = 7
+place word.Remove = 7
+place word.Client = 8
+place word.Operator = 8
+place word.Tick = 8
+place word.Carry = 8
+place word.Back = 8
+place word.Take = 8
+place word.Round = 8
+place word.Drain = 8
+
+-- the line of the configuration that has to stand at a place; that of the container need not
+abbrev pub awaited : ℕ → Keyword
+awaited next =
+    if nat_le next 1 then word.Lines
+    else if next == 2 then word.Delays
+    else if next == 3 then word.Ring
+    else if next == 4 then word.Lag
+    else word.Ticks
+
+-- the part of a place
+abbrev pub part_of : ℕ → Part
+part_of at =
+    if nat_le at 5 then part.Configuration
+    else if at == 6 then part.Windows
+    else if at == 7 then part.Items
+    else part.Events
+
+-- before place 6 each line has its place, and that of the container may be passed over; from there on no line comes
+-- back to an
+-- earlier part
+abbrev pub place_fault : ℕ → ℕ → Option LineFault
+place_fault next at =
+    option_or (where_true (nat_lt next 6 && not (at == next || (next == 0 && at == 1))) (wrong.Missing (awaited next)))
+    (where_true (nat_lt at next) (wrong.Part (part_of at) (part_of next)))
+
+-- ---- the other words
+-- the names of containers
+abbrev pub container_names : List (List ℕ)
+container_names = codes "vc3" ∷ codes "vc4" ∷ []
+
+-- what the words after a keyword have to be
+abbrev pub fields : Draft → Keyword → List Field
+fields d word.Container = one_of container_names ∷ []
+fields d word.Lines = within 1 128 ∷ []
+fields d word.Delays = replicate d.config.lines (within 0 2047)
+fields d word.Ring = within 1 2048 ∷ []
+fields d word.Lag = within 1 512 ∷ []
+fields d word.Ticks = within 1 1000000 ∷ []
+fields d word.Fail = within 0 (d.config.lines - 1) ∷ any ∷ above d.config.ticks ∷ within 0 2047 ∷ []
+fields d word.Lost = any ∷ above 62500 ∷ []
+fields d word.Frame = within 0 (d.config.ticks - 1) ∷ digits 1 65535 ∷ []
+fields d word.Add = within 0 (d.config.ticks - 1) ∷ within 0 255 ∷ []
+fields d word.Remove = within 0 (d.config.ticks - 1) ∷ within 0 255 ∷ []
+fields d word.Client = within 1 1000000 ∷ []
+fields d word.Operator = within 1 1000000 ∷ []
+fields d word.Tick = within 1 1000000 ∷ []
+fields d word.Carry = within 0 (d.config.lines - 1) ∷ within 1 1000000 ∷ []
+fields d word.Back = within 1 1000000 ∷ []
+fields d word.Take = within 1 1000000 ∷ []
+fields d word.Round = within 1 1000000 ∷ []
+fields d word.Drain = []
+
+-- the payload octets of a container, by its name
+abbrev pub size_of : List ℕ → Option ℕ
+size_of w = if bytes_eq w (codes "vc3") then Some vc3_size else if bytes_eq w (codes "vc4") then Some vc4_size else None
+
+-- ---- what the lines before it leave no room for
+-- the windows of a line so far, and the end of the last of them
+abbrev pub windows_of : Draft → ℕ → List Window
+windows_of d m = slice_index_or d.config.windows m []
+
+abbrev pub last_end : List Window → ℕ
+last_end windows = slice_index_or (map (λ (window : Window). window.end) windows) (length windows - 1) 0
+
+abbrev pub last_lost : List (ℕ × ℕ) → ℕ
+last_lost lost = slice_index_or (map (λ (window : ℕ × ℕ). window.1) lost) (length lost - 1) 0
+
+-- a line, or the return path, has 256 windows
+abbrev pub is_full : Draft → Keyword → List (List ℕ) → Bool
+is_full d word.Fail ws = nat_le 256 (length (windows_of d (number_at 0 ws)))
+is_full d word.Lost ws = nat_le 256 (length d.config.lost)
+is_full d k ws = false
+
+-- a window begins before the end of the one before it of its line, or of the return path; an item is due before the
+-- last one of
+-- its kind, frame or command
+abbrev pub is_early : Draft → Keyword → List (List ℕ) → Bool
+is_early d word.Fail ws = nat_lt (number_at 1 ws) (last_end (windows_of d (number_at 0 ws)))
+is_early d word.Lost ws = nat_lt (number_at 0 ws) (last_lost d.config.lost)
+is_early d word.Frame ws = nat_lt (number_at 0 ws) d.frame_due
+is_early d word.Add ws = nat_lt (number_at 0 ws) d.command_due
+is_early d word.Remove ws = nat_lt (number_at 0 ws) d.command_due
+is_early d k ws = false
+
+-- ---- the first fault of a line
+-- that of a line, or a return path, which is full, by its keyword
+abbrev pub full_fault : Keyword → List (List ℕ) → LineFault
+full_fault word.Fail ws = wrong.FullLine (number_at 0 ws)
+full_fault k ws = wrong.FullPath
+
+-- and of what is early
+abbrev pub early_fault : Draft → Keyword → List (List ℕ) → LineFault
+early_fault d word.Fail ws = wrong.FailureBefore (last_end (windows_of d (number_at 0 ws)))
+early_fault d word.Lost ws = wrong.LossBefore (last_lost d.config.lost)
+early_fault d word.Frame ws = wrong.FrameBefore d.frame_due
+early_fault d k ws = wrong.CommandBefore d.command_due
+
+-- of the words after a first word that may stand there, of which the first is word 2 of its line
+abbrev pub rest_fault : Draft → Keyword → List (List ℕ) → Option LineFault
+rest_fault d k ws =
+    option_or (where_true (not (length ws == length (fields d k))) (wrong.Count k (length (fields d k)) (length ws)))
+    (option_or (option_map wrong.Field (fields_fault (fields d k) 2 0 ws))
+    (option_or (where_true (is_full d k ws) (full_fault k ws))
+    (where_true (is_early d k ws) (early_fault d k ws))))
+
+abbrev pub known_fault : Draft → List (List ℕ) → Option Keyword → Option LineFault
+known_fault d ws None = Some wrong.First
+known_fault d ws (Some k) = option_or (place_fault d.next (place k)) (rest_fault d k ws)
+
+-- of the words of a line
+abbrev pub words_fault : Draft → List (List ℕ) → Option LineFault
+words_fault d ws = if is_skipped ws then None else known_fault d (drop 1 ws) (keyword_of (word_at 0 ws))
+
+-- ---- what a line without a fault says
+abbrev pub said : Keyword → List (List ℕ) → Statement
+said word.Container ws = says.Container (unwrap_or (size_of (word_at 0 ws)) 0)
+said word.Lines ws = says.Lines (number_at 0 ws)
+said word.Delays ws = says.Delays (map number_of ws)
+said word.Ring ws = says.Ring (number_at 0 ws)
+said word.Lag ws = says.Lag (number_at 0 ws)
+said word.Ticks ws = says.Ticks (number_at 0 ws)
+said word.Fail ws =
+    says.Fail (number_at 0 ws) (record { first = number_at 1 ws; end = number_at 2 ws; slip = number_at 3 ws })
+said word.Lost ws = says.Lost (number_at 0 ws) (number_at 1 ws)
+said word.Frame ws = says.Item (record { due = number_at 0 ws; kind = item.Frame (octets_of (word_at 1 ws)) })
+said word.Add ws = says.Item (record { due = number_at 0 ws; kind = item.Add (number_at 1 ws) })
+said word.Remove ws = says.Item (record { due = number_at 0 ws; kind = item.Remove (number_at 1 ws) })
+said word.Client ws = says.Event (event.Client (number_at 0 ws))
+said word.Operator ws = says.Event (event.Operator (number_at 0 ws))
+said word.Tick ws = says.Event (event.Tick (number_at 0 ws))
+said word.Carry ws = says.Event (event.Carry (number_at 0 ws) (number_at 1 ws))
+said word.Back ws = says.Event (event.Back (number_at 0 ws))
+said word.Take ws = says.Event (event.Take (number_at 0 ws))
+said word.Round ws = says.Event (event.Round (number_at 0 ws))
+said word.Drain ws = says.Event (event.Drain)
+
+abbrev pub known_said : List (List ℕ) → Option Keyword → Statement
+known_said ws None = says.Nothing
+known_said ws (Some k) = said k ws
+
+abbrev pub words_said : List (List ℕ) → Statement
+words_said ws = if is_skipped ws then says.Nothing else known_said (drop 1 ws) (keyword_of (word_at 0 ws))
+
+-- ---- what it adds to what the lines before it say
+abbrev pub after_item : Draft → Item → ItemKind → Draft
+after_item d it (item.Frame octets) = record d { next = 7; items = d.items ++ it ∷ []; frame_due = it.due }
+after_item d it (item.Add line) = record d { next = 7; items = d.items ++ it ∷ []; command_due = it.due }
+after_item d it (item.Remove line) = record d { next = 7; items = d.items ++ it ∷ []; command_due = it.due }
+
+abbrev pub after : Draft → Statement → Draft
+after d says.Nothing = d
+after d (says.Container n) = record d { next = 1; config = record d.config { size = n } }
+after d (says.Lines n) = record d { next = 2; config = record d.config { lines = n; windows = replicate n [] } }
+after d (says.Delays ns) = record d { next = 3; config = record d.config { delays = ns } }
+after d (says.Ring n) = record d { next = 4; config = record d.config { ring = n } }
+after d (says.Lag n) = record d { next = 5; config = record d.config { lag = n } }
+after d (says.Ticks n) = record d { next = 6; config = record d.config { ticks = n } }
+after d (says.Fail m window) =
+    record d { config = record d.config { windows = slice_set d.config.windows m (windows_of d m ++ window ∷ []) } }
+after d (says.Lost first end) = record d { config = record d.config { lost = d.config.lost ++ (first, end) ∷ [] } }
+after d (says.Item it) = after_item d it it.kind
+after d (says.Event e) = record d { next = 8; events = d.events ++ e ∷ [] }
+
+-- before the first line. The container is a VC-4 where no line says another
+abbrev pub at_first : Draft
+at_first = record {
+  next = 0;
+  config = record { lines = 0; delays = []; windows = []; lost = []; ring = 0; lag = 0; ticks = 0; size = vc4_size };
+  items = [];
+  events = [];
+  frame_due = 0;
+  command_due = 0;
+}

@@ -1,0 +1,19 @@
+//! The lines of a script for a client that sends frames of one length at a rate, drawn from a number: when
+//! each is due, and which octets it has. The text is written line by line, and how long it is can be known
+//! before. Nothing is run here. Begin with `RateLoad`.
+
+ghost use Rattle.std.specs.Prelude.{◌↔◌, ◌<◌, ℕ};
+ghost use Rattle.text_scripts.specs.declared.rate_load.lines.RateLoad.{RateLoad};
+ghost use Rattle.text_scripts.specs.rate_load.Lines.{IsRateLoad, due_of, count_of};
+
+mod lines;
+mod text;
+
+pub use lines::RateLoad;
+pub use text::{is_too_long, write_lines};
+
+/// The frames that are counted are exactly those that are due before the end.
+pub fn due_law()
+    ensures { (load : RateLoad) (k : ℕ) → IsRateLoad load →
+        (k < count_of load) ↔ (due_of load k < load.end) }
+{}

@@ -1,0 +1,47 @@
+//! What a line of a script says, and what its lines so far say.
+
+use law_model::{Config, Delays, EventLine, EventList, Item, ItemList, Window};
+
+/// What a line says.
+#[derive(Drop)]
+pub(super) enum Statement {
+    /// Nothing: it has no words, or is a comment.
+    Nothing,
+    /// The payload octets of a container.
+    Container(u16),
+    /// The number of lines of the group.
+    Lines(u8),
+    /// The delay of each.
+    Delays(Delays),
+    /// The cells that a receive ring holds.
+    Ring(u16),
+    /// The lag in packets.
+    Lag(u16),
+    /// The number of ticks.
+    Ticks(u32),
+    /// A window of a line.
+    Fail(u8, Window),
+    /// A return window, from a packet up to another.
+    Lost(u32, u32),
+    /// An item.
+    Item(Item),
+    /// An event line.
+    Event(EventLine),
+}
+
+/// What the lines of a script so far say.
+#[derive(Drop)]
+pub(super) struct Draft {
+    /// The place in the order of a script from which the next line may stand.
+    pub next: u8,
+    /// The network.
+    pub config: Config,
+    /// The items.
+    pub items: ItemList,
+    /// The event lines.
+    pub events: EventList,
+    /// The due tick of the last frame.
+    pub frame_due: u32,
+    /// The due tick of the last command.
+    pub command_due: u32,
+}

@@ -1,0 +1,4 @@
+pub mod AlarmLaws
+pub mod AlarmLogLaws
+pub mod WatchedLineLaws
+pub mod AlarmTextLaws

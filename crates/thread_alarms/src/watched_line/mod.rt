@@ -1,0 +1,9 @@
+//! The line of a member as it is served, burst by burst: its worker, and beside it the post to which the
+//! alarms of each burst go, where the line is watched. It starts no thread, and what becomes of the alarms
+//! behind the post is not its matter. Begin with `ServedLine`, and then `serve_lines` and `split_lines`.
+
+mod lines;
+mod served;
+
+pub use lines::{serve_lines, split_lines};
+pub use served::ServedLine;

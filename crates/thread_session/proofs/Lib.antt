@@ -1,0 +1,2 @@
+pub mod SessionPartsLaws
+pub mod SessionRunLaws

@@ -1,0 +1,146 @@
+-- A group before anything has moved is bound to its script; and the sink's worker is the script's.
+use Rattle.std.specs.Prelude.{IfOk}
+use Rattle.std.specs.Global.{Vec}
+use Rattle.thread_sink.specs.declared.worker.SinkWorker.{SinkWorker}
+use Rattle.thread_sink.specs.Worker.{Stands as SinkStands, lines_of as sink_lines, size_of as sink_size}
+use Rattle.thread_sink.specs.Worker.{taken_of as rows_taken, ticks_of as rows_of, has_failed}
+use Rattle.law_model.specs.session.Valid.{IsValid}
+use Rattle.thread_session.specs.session_run.Session.{IsSinkOf}
+use Rattle.std.proofs.Common.{Result, Ok, Err, ◌≡◌, ℕ, suc, ◌+◌, ◌≤◌, true, false, if◌then◌else◌, List, [], ◌∷◌, take}
+use Rattle.std.proofs.Common.{drop, length, Some, refl, sym, ◌∙◌, ap, subst, arith}
+use Rattle.base_cells.specs.declared.BackCell.{BackCell}
+use Rattle.base_cells.specs.declared.Container.{Container}
+use Rattle.law_model.specs.declared.script.Item.{Item}
+use Rattle.law_model.specs.declared.script.Script.{Script}
+use Rattle.law_model.specs.session.Leg.{leg_of}
+use Rattle.law_model.specs.session.Scenario.{Scenario, scenario_of, offers_of, orders_of}
+use Rattle.law_model.specs.session.Counts.{used_in}
+use Rattle.law_model.specs.rows.Sent.{containers_of}
+use Rattle.thread_rings.specs.Ends.{OutEnd}
+use Rattle.thread_rings.specs.Ends.{InEnd}
+use Rattle.thread_rings.specs.Ends.{in_passed, SameOut, SameIn}
+use Rattle.terminal_source.specs.source_core.Given.{IsFresh, Stands as HasMade}
+use Rattle.law_walk.specs.Landed.{Numbered, is_client, landed_from, landed_items, landed_scenario}
+use Rattle.thread_group.specs.declared.group.GroupState.{GroupState}
+use Rattle.terminal_group.specs.Inbox.{told_from}
+use Rattle.thread_group.specs.Journal.{items_in}
+use Rattle.thread_group.specs.Rings.{SameOuts, SameIns, AreUnused}
+use Rattle.thread_group.specs.Parts.{ArePast}
+use Rattle.thread_group.specs.Group.{IsOf, lines_of, lag_of, size_of, lost_of, ticks_of, frames_of, commands_of}
+use Rattle.thread_group.specs.Group.{journal_of, slots_of, bytes_of, refusals_of, taken_of, source_of}
+use Rattle.thread_group.specs.Session.{counts_of, refusals_by, accepted_frames_by, accepted_commands_by, octets_in}
+use Rattle.thread_group.specs.Session.{AreItemsOf, HasRoom, HasLandedOf, IsBound}
+use Rattle.thread_group.proofs.EntryLaws.{all-kinds}
+
+-- ---- the same ends
+some-is : {X : Type 0} (x y : X) → Some x ≡ Some y → x ≡ y
+some-is x y e = cc
+
+pub outs-self : {T : Type 0} (ends : List (OutEnd T)) → SameOuts ends ends
+outs-self ends = record {
+  count = refl;
+  each = λ m old new was is. subst (SameOut old) (some-is old new (sym was ∙ is)) (refl, refl, refl);
+}
+
+pub ins-self : {T : Type 0} (ends : List (InEnd T)) → SameIns ends ends
+ins-self ends = record {
+  count = refl;
+  each = λ m old new was is. subst (SameIn old) (some-is old new (sym was ∙ is)) (refl, refl, refl);
+}
+
+-- ---- nothing has landed
+none-landed : (items : List Item) (i : ℕ) → landed_from 0 0 i items ≡ []
+unfolding landed_from
+none-landed [] i = refl
+none-landed (item ∷ items) i = elim (is_client item.kind)
+    as (λ b. (if b then landed_from 0 0 (suc i) items else landed_from 0 0 (suc i) items) ≡ [])
+    [ true ↦ none-landed items (suc i) | false ↦ none-landed items (suc i) ]
+
+-- ---- before anything has moved
+module _ (script : Script) (g : GroupState) (of_script : IsOf (leg_of script) g) (ticks : ticks_of g ≡ 0)
+    (frames : frames_of g ≡ 0) (commands : commands_of g ≡ 0) (journal : journal_of g ≡ []) where
+  landed-none : landed_items (leg_of script) (counts_of g) ≡ []
+  landed-none = ap (λ n. landed_from n (commands_of g) 0 script.items) frames
+      ∙ ap (λ n. landed_from 0 n 0 script.items) commands ∙ none-landed script.items 0
+
+  taken-none : taken_of g ≡ []
+  taken-none =
+      let none : used_in (lag_of g) (ticks_of g) ≡ 0 = omega (arith, ticks) in
+      ap (λ n. take n (told_from (lost_of g) (in_passed g.back))) none
+
+  pub room-begins : slots_of g ≡ length script.items → bytes_of g ≡ octets_in (offers_of script.items) →
+      HasRoom (leg_of script) g
+  room-begins slots bytes =
+      let all = all-kinds script.items in
+      record {
+        entries = subst (λ n. length (drop n (offers_of script.items)) + length
+            (drop (commands_of g) (orders_of script.items)) ≤ slots_of g) (sym frames)
+            (subst (λ n. length (offers_of script.items) + length (drop n (orders_of script.items)) ≤ slots_of g)
+            (sym commands) (omega arith));
+        octets = subst (λ n. octets_in (drop n (offers_of script.items)) ≤ bytes_of g) (sym frames) (omega arith);
+      }
+
+  pub landed-begins : refusals_of g ≡ [] → AreUnused g.tx.items → length script.config.windows ≡ script.config.lines →
+      ((scenario : Scenario) → IsFresh scenario (lines_of g) (lag_of g) (size_of g) → HasMade (source_of g) scenario [])
+      → HasLandedOf (leg_of script) g
+  landed-begins refusals unused windows made = record {
+    entries = subst (AreItemsOf (leg_of script)) (sym journal) (λ i entry there. absurd cc);
+    past = subst (ArePast (ticks_of g)) (sym landed-none) (λ i entry there. absurd cc);
+    most_frames = omega (arith, frames);
+    most_commands = omega (arith, commands);
+    refusals = refusals ∙ sym (ap (refusals_by (leg_of script) (taken_of g)) landed-none);
+    frames = ap (λ (l : List Numbered). length (offers_of (items_in l))) journal
+        ∙ sym (ap (λ (l : List Numbered). length (accepted_frames_by (leg_of script) (taken_of g) l)) landed-none);
+    commands = ap (λ (l : List Numbered). length (orders_of (items_in l))) journal
+        ∙ sym (ap (λ (l : List Numbered). length (accepted_commands_by (leg_of script) (taken_of g) l)) landed-none);
+    sent = λ m out there. unused m out there ∙ sym (ap (containers_of (scenario_of script) (taken_of g) m) ticks);
+    made = ∣ subst (HasMade (source_of g) (landed_scenario (leg_of script) (counts_of g))) (sym taken-none)
+        (made (landed_scenario (leg_of script) (counts_of g)) (record {
+          of_lines = windows ∙ sym of_script.lines;
+          of_lag = sym of_script.lag;
+          of_size = sym of_script.size;
+          no_offers = ap (λ n. take n (offers_of script.items)) frames;
+          no_orders = ap (λ n. take n (orders_of script.items)) commands;
+          no_tells = refl;
+        })) ∣₁;
+  }
+
+  pub bound-begins : HasRoom (leg_of script) g → HasLandedOf (leg_of script) g →
+      IsBound (leg_of script) g.tx.items (g.back ∷ []) g
+  bound-begins room landed = record {
+    of_script = of_script;
+    sends = outs-self g.tx.items;
+    returns = ins-self (g.back ∷ []);
+    room = room;
+    landed = landed;
+  }
+
+-- ---- what is opened
+module _ {E : Type 0} (script : Script) (valid : IsValid script) where
+  pub group-opened : (entries bytes : ℕ) (tx : Vec (OutEnd Container)) (back : InEnd BackCell)
+      (r : Result GroupState E) → entries ≡ length script.items →
+      bytes ≡ octets_in (offers_of script.items) → AreUnused tx.items →
+      IfOk r (λ g. IsOf (leg_of script) g) → IfOk r (λ g. ticks_of g ≡ 0) →
+      IfOk r (λ g. (frames_of g ≡ 0) × (commands_of g ≡ 0)) → IfOk r (λ g. journal_of g ≡ []) →
+      IfOk r (λ g. (slots_of g ≡ entries) × (bytes_of g ≡ bytes)) → IfOk r (λ g. refusals_of g ≡ []) →
+      IfOk r (λ g. (g.tx ≡ tx) × (g.back ≡ back)) →
+      IfOk r (λ g. (scenario : Scenario) → IsFresh scenario (lines_of g) (lag_of g) (size_of g) →
+      HasMade (source_of g) scenario []) →
+      IfOk r (λ g. IsBound (leg_of script) g.tx.items (g.back ∷ []) g)
+  group-opened entries bytes tx back (Ok g) count size unused of_script ticks landed journal room refusals ends made =
+      bound-begins script g of_script ticks landed.0 landed.1 journal
+      (room-begins script g of_script ticks landed.0 landed.1 journal (room.0 ∙ count) (room.1 ∙ size))
+      (landed-begins script g of_script ticks landed.0 landed.1 journal refusals
+      (subst (λ (v : Vec (OutEnd Container)). AreUnused v.items) (sym ends.0) unused)
+      valid.sound.network.windows_each made)
+  group-opened entries bytes tx back (Err e) count size unused of_script ticks landed journal room refusals ends made =
+      tt
+
+  pub sink-opened : (r : Result SinkWorker E) → IfOk r (λ s. sink_lines s ≡ script.config.lines) →
+      IfOk r (λ s. sink_size s ≡ script.config.size) →
+      IfOk r (λ s. rows_of s ≡ script.config.ticks) → IfOk r (λ s. rows_taken s ≡ 0) →
+      IfOk r (λ s. has_failed s ≡ false) → IfOk r (λ s. SinkStands s) →
+      IfOk r (λ s. IsSinkOf script s)
+  sink-opened (Ok s) lines size rows taken failed stands =
+      record { lines = lines; size = size; rows = rows; taken = taken; failed = failed; stands = stands }
+  sink-opened (Err e) lines size rows taken failed stands = tt

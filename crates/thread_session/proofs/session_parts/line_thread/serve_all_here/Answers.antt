@@ -1,0 +1,40 @@
+-- One after the other is served where it is here.
+use Rattle.std.proofs.Common.{sym, subst, ap, length, arith}
+use Rattle.std.proofs.lemmas.List.{with_items_is}
+use Rattle.std.specs.Global.{Vec}
+use Rattle.thread_alarms.specs.declared.watched_line.served.ServedLine.{ServedLine}
+use Rattle.thread_session.specs.declared.session_parts.line_thread.Held.{Held}
+use Rattle.thread_session.specs.session_parts.Held.{IsHeldOf, AreHeldOf, AreToldBy}
+use Rattle.thread_session.proofs.SessionPartsLaws.ZipLaws.{zip-set}
+use Rattle.thread_session.proofs.SessionPartsLaws.FlagLaws.{told-set}
+use Rattle.thread_session.proofs.session_parts.line_thread.serve_all_here.Goals as goal
+
+pub loop-share-init : goal.loop-share-init
+loop-share-init g c = record {
+  held = λ shares held. subst (AreHeldOf shares) (sym c.deref_mut-share-items.ensures.value) held;
+  told = λ flags told. subst (AreToldBy flags) (sym c.deref_mut-share-items.ensures.value) told;
+}
+
+pub loop-share-preserved : goal.loop-share-preserved
+loop-share-preserved g c = record {
+  held = λ shares held.
+      zip-set (λ (share : Vec ServedLine) (one : Held). IsHeldOf share.items one) shares c.loop-share.share-items
+      c.loop-share.share-index c.share-item.result c.serve_here.new.held
+      (omega (arith, c.loop-share-test.true, c.loop-share.auto.share-items))
+      (λ share one. c.serve_here.ensures.held share.items one) (c.loop-share.invariant.held shares held);
+  told = λ flags told.
+      told-set flags c.loop-share.share-items c.loop-share.share-index c.share-item.result c.serve_here.new.held
+      (omega (arith, c.loop-share-test.true, c.loop-share.auto.share-items)) c.serve_here.ensures.told
+      (c.loop-share.invariant.told flags told);
+}
+
+pub returns : goal.returns
+returns g c =
+    let v = c.args.held.now in
+    let items = c.loop-share.share-items in
+    let size = ap (length {A = Held}) c.deref_mut-share-items.ensures.value in
+    let whole = with_items_is v items (omega (arith, c.loop-share.auto.share-items, size, v.ok.0)) in
+    record {
+      held = λ shares held. subst (AreHeldOf shares) (sym whole) (c.loop-share.invariant.held shares held);
+      told = λ flags told. subst (AreToldBy flags) (sym whole) (c.loop-share.invariant.told flags told);
+    }

@@ -1,0 +1,12 @@
+-- Workers that are here are later.
+use Rattle.std.proofs.Common.{subst}
+use Rattle.thread_alarms.specs.watched_line.Served.{IsServedLater}
+use Rattle.thread_alarms.proofs.WatchedLineLaws.ServedLaws.{served-then}
+use Rattle.thread_session.proofs.SessionPartsLaws.ZipLaws.{zip-then}
+use Rattle.thread_session.specs.session_parts.Held.{IsHeldOf}
+use Rattle.thread_session.proofs.session_parts.line_thread.serve_here.Goals as goal
+
+pub returns-in-Here-clause-held : goal.returns-in-Here-clause-held
+returns-in-Here-clause-held g c =
+    λ workers held. zip-then IsServedLater served-then _ _ _ (let h = subst (IsHeldOf workers) c.in-Here.is held in h)
+    c.serve_once.ensures

@@ -1,0 +1,6 @@
+-- A worker that is not served is as it was.
+use Rattle.thread_alarms.proofs.WatchedLineLaws.ServedLaws.{served-refl}
+use Rattle.thread_session.proofs.session_parts.line_thread.serve_one.Goals as goal
+
+pub returns-then-is_some : goal.returns-then-is_some
+returns-then-is_some g c = served-refl _

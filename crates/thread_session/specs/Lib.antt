@@ -1,0 +1,2 @@
+pub mod session_parts
+pub mod session_run

@@ -1,0 +1,17 @@
+-- Flags by their numbers.
+use Rattle.std.specs.Prelude.{ℕ}
+use Rattle.thread_session.specs.declared.session_parts.flag.Flag.{Flag}
+use Rattle.thread_session.specs.declared.session_parts.flag.Heed.{Heed}
+use Rattle.thread_session.specs.declared.session_parts.flag.Comes.{Comes}
+
+-- which flag it is
+abbrev pub flag_of : Flag → ℕ
+flag_of flag = flag.stored.id
+
+-- the flag that a thread looks at
+abbrev pub heeded : Heed → ℕ
+heeded heed = flag_of heed.flag.now
+
+-- the flag by which it promises to come back
+abbrev pub comes_by : Comes → ℕ
+comes_by comes = flag_of comes.0.value

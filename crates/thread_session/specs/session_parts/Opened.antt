@@ -1,0 +1,31 @@
+-- The lines of a session before anything has moved.
+use Rattle.std.specs.Prelude.{◌≡◌, ℕ, List, [], length, slice_get, slice_index_or, Some}
+use Rattle.base_cells.specs.declared.Container.{Container}
+use Rattle.base_cells.specs.declared.Cell.{Cell}
+use Rattle.law_model.specs.declared.script.Config.{Config}
+use Rattle.thread_rings.specs.Ends.{OutEnd}
+use Rattle.thread_rings.specs.Ends.{InEnd}
+use Rattle.thread_rings.specs.Ends.{out_passed, in_passed}
+use Rattle.thread_rings.specs.declared.worker.LineWorker.{LineWorker}
+use Rattle.thread_rings.specs.Worker.{number_of, delay_of, windows_of, total_of}
+use Rattle.thread_session.specs.session_parts.Laid.{AreSendEnds, AreReceiveEnds}
+
+-- a worker is that of line m
+pub record IsLineOf (config : Config) (m : ℕ) (worker : LineWorker) : Type 0 where
+  pub number : number_of worker ≡ m
+  pub delay : delay_of worker ≡ slice_index_or config.delays m 0
+  pub windows : windows_of worker ≡ slice_index_or config.windows m []
+  pub total : total_of worker ≡ config.ticks
+
+-- the workers of the first lines, between a send ring and a receive ring each, through which nothing has passed
+pub record AreOpened (config : Config) (n : ℕ) (tx : List (OutEnd Container)) (workers : List LineWorker)
+    (rx : List (InEnd Cell)) : Type 0 where
+  pub tx_count : length tx ≡ n
+  pub workers_count : length workers ≡ n
+  pub rx_count : length rx ≡ n
+  pub unused : (m : ℕ) (out : OutEnd Container) → slice_get tx m ≡ Some out → out_passed out ≡ []
+  pub fresh : (m : ℕ) (into : InEnd Cell) → slice_get rx m ≡ Some into → in_passed into ≡ []
+  pub silent : (m : ℕ) (worker : LineWorker) → slice_get workers m ≡ Some worker → out_passed worker.producer ≡ []
+  pub lines : (m : ℕ) (worker : LineWorker) → slice_get workers m ≡ Some worker → IsLineOf config m worker
+  pub sends : AreSendEnds tx workers
+  pub receives : AreReceiveEnds workers rx

@@ -1,0 +1,21 @@
+-- Room that is taken before threads are started.
+use Rattle.std.specs.Prelude.{◌≡◌, ℕ, ◌<◌, ◌≤◌, [], vec_len}
+use Rattle.std.specs.Vec.{vec_capacity}
+use Rattle.thread_session.specs.session_parts.Lines.{HaveRoom}
+use Rattle.thread_session.specs.declared.session_run.room.Room.{Room}
+use Rattle.thread_session.specs.declared.session_run.room.Places.{Places}
+
+-- room for so many lines, in so many shares
+pub record HasRoomFor (lines workers : ℕ) (room : Room) : Type 0 where
+  pub some : 0 < workers
+  pub count : vec_len room.shares ≡ workers
+  pub shares : HaveRoom lines room.shares.items
+  pub held : (room.held.items ≡ []) × (workers ≤ vec_capacity room.held)
+  pub back : (room.back.items ≡ []) × (workers ≤ vec_capacity room.back)
+  pub place : (room.lines.items ≡ []) × (lines ≤ vec_capacity room.lines)
+
+-- places for so many lines, their workers and their posts
+pub record HasPlacesFor (lines : ℕ) (places : Places) : Type 0 where
+  pub lines_place : (places.lines.items ≡ []) × (lines ≤ vec_capacity places.lines)
+  pub workers : (places.workers.items ≡ []) × (lines ≤ vec_capacity places.workers)
+  pub posts : (places.posts.items ≡ []) × (lines ≤ vec_capacity places.posts)

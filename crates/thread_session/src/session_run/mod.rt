@@ -1,0 +1,17 @@
+//! A session of a group on threads: the client, the operator, the source and the lines each by itself, and
+//! the sink on the thread that calls. Whatever the order in which they go on, what has come of it in the end
+//! is what the script says. It promises nothing of when that is, nor that it ends. Begin with `run_session`,
+//! and with `run_watched` where alarms are wanted too.
+
+mod beside;
+mod finish;
+mod open;
+mod room;
+mod run;
+mod session;
+mod turns;
+mod watched;
+
+pub use run::run_session;
+pub use session::Ended;
+pub use watched::run_watched;

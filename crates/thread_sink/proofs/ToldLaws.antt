@@ -1,0 +1,24 @@
+-- Frames are counted, and their lines told.
+use Rattle.std.proofs.Common.{◌≡◌, ℕ, ◌+◌, ◌-◌, ◌^◌, min, List, [], ◌∷◌, ◌++◌, length, Option, Result, Ok, Err, OnOk}
+use Rattle.std.proofs.Common.{OnErr, is_err, false, ap, arith, length-append}
+use Rattle.base_io.specs.Transfer.{Appends, AppendsPart}
+use Rattle.thread_sink.specs.Told.{count_of, Writes}
+
+pub count-more : (frames : List (List ℕ)) (frame : List ℕ) (count next : ℕ) → count ≡ count_of frames →
+    next ≡ min (count + 1) (2 ^ 64 - 1) → next ≡ count_of (frames ++ frame ∷ [])
+count-more frames frame count next is more = omega (arith, is, more, length-append frames (frame ∷ []))
+
+-- counts of some frames and of more
+pub counts-then : (before more all : List (List ℕ)) (a b c : ℕ) → all ≡ before ++ more → a ≡ count_of before →
+    b ≡ count_of more → c ≡ min (a + b) (2 ^ 64 - 1) → c ≡ count_of all
+counts-then before more all a b c is one two sum =
+    let size = ap length is in
+    omega (arith, size, one, two, sum, length-append before more)
+
+-- what is told at the end is written
+pub told-end : {K E : Type 0} (written : K → Option (List ℕ)) (faults : K → ℕ) (end_ : Result (Unit {0}) E)
+    (old new : K) (text : List ℕ) →
+    OnOk end_ (Appends written faults old new text) → OnErr end_ (AppendsPart written faults old new text) →
+    Writes written faults false (is_err end_) old new text
+told-end written faults (Ok done) old new text whole part = whole
+told-end written faults (Err fault) old new text whole part = part

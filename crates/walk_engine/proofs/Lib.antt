@@ -1,0 +1,2 @@
+pub mod WalkPartsLaws
+pub mod WalkCoreLaws

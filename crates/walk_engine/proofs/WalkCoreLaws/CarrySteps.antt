@@ -1,0 +1,120 @@
+-- What a carry of a line leaves of one direction, where the line was read at its number.
+use Rattle.std.proofs.Common.{◌≡◌, ℕ, ◌+◌, ◌%◌, ◌<◌, ◌≤◌, List, length, map, slice_get, slice_set, slice_index_or}
+use Rattle.std.proofs.Common.{Option, Some, None, sym, ◌∙◌, ap, subst, arith}
+use Rattle.std.specs.Global.{Vec, Box}
+use Rattle.base_cells.specs.declared.Container.{Container}
+use Rattle.law_model.specs.declared.walk.Event.TheVariants.{Carry}
+use Rattle.law_model.specs.declared.walk.StallCause.{StallCause}
+use Rattle.law_model.specs.session.Leg.{Leg}
+use Rattle.law_walk.specs.Walk.{path_on}
+use Rattle.walk_engine.specs.walk_parts.Ringed.{Ringed, ring_of}
+use Rattle.terminal_group.proofs.ItemLaws.{at-index}
+use Rattle.walk_engine.specs.declared.walk_core.moved.Moved.TheVariants.{Yes, Stalled}
+use Rattle.walk_engine.specs.walk_core.Way.{Makes}
+use Rattle.law_model.specs.declared.packet.Packet.{Packet}
+use Rattle.walk_engine.specs.declared.walk_core.moved.StepNote.{StepNote}
+use Rattle.walk_engine.specs.walk_core.Parts.{Parts, frame_in, line_counts, HasLine, Stands, IsWalk}
+use Rattle.walk_engine.specs.walk_core.Carry.{carry_cause, CanCarry, HasRoom, IsSentOn, IsCarriedAt}
+use Rattle.walk_engine.proofs.WalkCoreLaws.CarryLaws.{same-some, line-has, line-room, carry-stays, carry-kept_at, carry-counts_at}
+use Rattle.walk_engine.proofs.WalkCoreLaws.CarryLaws.{carry-moved, line-sent, room-left}
+
+-- a line that has carried one container more, of the send rings as they were and as they are
+pub record IsOn (m : ℕ) (was line : Ringed) (before : List (Vec (Box Container)))
+    (after : List (List Container)) : Type 0 where
+  pub has : (leg : Leg) → HasLine leg m was → IsSentOn leg m was.carried before → HasLine leg m line
+  pub carried : line.carried ≡ was.carried + 1
+  pub popped : line.popped ≡ was.popped
+  pub sent : IsCarriedAt (was.carried % 32) m (map frame_in before) after
+
+module _ (leg : Leg) (backs : ℕ) (parts : Parts) (is : Stands leg backs parts)
+    (m k : ℕ) (at : k ≡ m) (inside : m < length parts.lines) where
+  pub line-low : m < leg.config.lines
+  line-low = let size = is.lines.size in omega (arith, inside, size)
+
+  pub line-there : (line : Ringed) → line ≡ slice_index_or parts.lines k line → slice_get parts.lines m ≡ Some line
+  line-there line read =
+      at-index parts.lines m line inside (read ∙ ap (λ j. slice_index_or parts.lines j line) at)
+
+  module _ (line : Ringed) (read : line ≡ slice_index_or parts.lines k line) (ticks : ℕ)
+      (now : ticks ≡ parts.source.core.ticks) (found : Option StallCause)
+      (clause : (leg : Leg) → HasLine leg m line → HasRoom leg m line →
+      found ≡ carry_cause leg.config.ticks leg.config.ring ticks m (path_on leg m) (line_counts line))
+    where
+      cause-is : found
+          ≡ carry_cause leg.config.ticks leg.config.ring parts.source.core.ticks m (path_on leg m)
+          (line_counts line)
+      cause-is =
+          clause leg
+          (line-has leg backs parts is m line-low line (line-there line read))
+          (line-room leg backs parts is m line-low line (line-there line read))
+          ∙ ap (λ n. carry_cause leg.config.ticks leg.config.ring n m (path_on leg m)
+          (line_counts line)) now
+
+      pub line-stays : (cause : StallCause) → found ≡ Some cause →
+          Makes leg backs (Carry m) parts parts (Stalled cause)
+      line-stays cause e =
+          let stays = carry-stays leg backs parts is m line-low line (line-there line read) cause (sym e ∙ cause-is) in
+          record { stands = is; counts = stays.0; moved = stays.1 }
+
+      module _ (none : found ≡ None) (can : CanCarry line ticks) (own : Ringed)
+          (own_read : own ≡ slice_index_or parts.lines k own) where
+        own-is : own ≡ line
+        own-is = same-some own line (sym (line-there own own_read) ∙ line-there line read)
+
+        own-can : CanCarry own parts.source.core.ticks
+        own-can = subst (λ l. CanCarry l parts.source.core.ticks) (sym own-is) (subst (CanCarry line) now can)
+
+        pub line-runs : own.core.flushed ≤ own.core.delay
+        line-runs = own-can.runs
+
+        pub line-free : own.given < own.popped + ring_of own
+        line-free = room-left leg backs parts is m line-low own (line-there own own_read) own-can.room
+
+        none-is : None
+            ≡ carry_cause leg.config.ticks leg.config.ring parts.source.core.ticks m (path_on leg m)
+            (line_counts own)
+        none-is =
+            sym none ∙ cause-is
+            ∙ ap (λ l. carry_cause leg.config.ticks leg.config.ring parts.source.core.ticks m
+            (path_on leg m)
+            (line_counts l)) (sym own-is)
+
+        module _ (before : List (Vec (Box Container))) (same : map frame_in before ≡ parts.sent) (after : Ringed)
+            (sent : List (List Container))
+            (on : IsOn k own after before sent) where
+          by : IsOn m own after before sent
+          by = subst (λ j. IsOn j own after before sent) at on
+
+          has : HasLine leg m after
+          has =
+              by.has leg
+              (line-has leg backs parts is m line-low own (line-there own own_read))
+              (line-sent leg backs parts is m line-low own
+              (line-there own own_read) before same own-can)
+
+          changed : IsCarriedAt (own.carried % 32) m parts.sent sent
+          changed = subst (λ was. IsCarriedAt (own.carried % 32) m was sent) same by.sent
+
+          pub line-carried : Makes leg backs (Carry m) parts
+              (record parts { lines = slice_set parts.lines k after; sent = sent }) Yes
+          line-carried = record {
+            stands = carry-kept_at leg backs parts is m line-low own
+                (line-there own own_read) after none-is has by.carried by.popped
+                sent changed k at;
+            counts = carry-counts_at leg backs parts is m line-low own
+                (line-there own own_read) after none-is has by.carried by.popped
+                sent changed k at;
+            moved = carry-moved leg backs parts is m line-low own
+                (line-there own own_read) after none-is has by.carried by.popped;
+          }
+
+-- a walk of which a line has carried, or stalled
+pub carried-walk : (leg : Leg) (parts now : Parts) (ring : List Packet) (last : Option StepNote) →
+    IsWalk leg parts ring last → Stands leg parts.source.inbox.come now →
+    now ≡ record parts { sent = now.sent; lines = now.lines } → IsWalk leg now ring last
+carried-walk leg parts now ring last is stands rest =
+    subst (λ (p : Parts). IsWalk leg p ring last) (sym rest) (record {
+      stands = subst (Stands leg parts.source.inbox.come) rest stands;
+      back = record { ring = is.back.ring; lost = is.back.lost; inbox = is.back.inbox; room = is.back.room };
+      noted = is.noted;
+    })

@@ -1,0 +1,74 @@
+-- What each event leaves of a walk's counts.
+use Rattle.std.proofs.Common.{◌≡◌, ℕ, List, [], ◌∷◌, ◌++◌, Option, Some, refl, sym, ◌∙◌, ap}
+use Rattle.law_model.specs.declared.walk.Event.{Event}
+use Rattle.law_model.specs.session.Leg.{Leg}
+use Rattle.law_model.specs.declared.walk.StallCause.{StallCause}
+use Rattle.law_model.specs.session.Counts.{LineCounts, Counts, run, begin}
+use Rattle.law_model.specs.session.Valid.{IsSound}
+use Rattle.law_progress.specs.Progress.{Fits}
+use Rattle.law_progress.proofs.MoveLaws.{reached-fits}
+use Rattle.law_progress.proofs.ReachLaws.{run-append}
+use Rattle.text_report.specs.declared.report.Refusal.{Refusal}
+use Rattle.law_walk.specs.Walk.{walk_plan, IsWalked}
+use Rattle.law_walk.proofs.PlanLaws.{has-plan, sound-walks}
+use Rattle.terminal_group.specs.Landed.{Landed}
+use Rattle.terminal_source.specs.source_core.Terminal.{Terminal}
+use Rattle.walk_engine.specs.walk_core.Moved.{answer_by, counts_after}
+use Rattle.terminal_group.specs.Inbox.{Inbox}
+use Rattle.walk_engine.specs.walk_core.Parts.{Parts, counts_of, HasSource, HasLanded, Stands}
+use Rattle.walk_engine.specs.declared.walk_core.moved.Moved.TheVariants.{Stalled}
+
+pub walked-next : (leg : Leg) (s next : Counts) (event : Event) → IsWalked leg s →
+    next ≡ counts_after leg s event → IsWalked leg next
+unfolding run
+walked-next leg s next event walked is = (
+  walked.0 ++ event ∷ [],
+  is ∙ ap (λ s. counts_after leg s event) walked.1
+      ∙ sym (run-append (walk_plan leg) (begin (walk_plan leg)) walked.0 (event ∷ [])),
+)
+
+pub walk-fits : (leg : Leg) (s : Counts) → IsSound leg → IsWalked leg s → Fits (walk_plan leg) s
+walk-fits leg s sound walked = reached-fits (walk_plan leg) s (has-plan leg (sound-walks leg sound)) walked
+
+-- a stalled event
+pub stalled-moved : (cause : StallCause) (found : Option StallCause) (why : Option Refusal) → found ≡ Some cause →
+    Stalled cause ≡ answer_by found why
+stalled-moved cause found why e = rw e refl
+
+-- the source and what has landed, where lines, rows or return packets move
+module _ (leg : Leg) (s : Counts) (lines : List LineCounts) (rows backs : ℕ) where
+  pub source-stays : (source : Terminal) → HasSource leg s source →
+      HasSource leg (record s { lines = lines; rows = rows; backs = backs }) source
+  source-stays source has = record { made = has.made; lines = has.lines; lag = has.lag; size = has.size }
+
+  pub landed-stays : (landing : Landed) → HasLanded leg s landing →
+      HasLanded leg (record s { lines = lines; rows = rows; backs = backs }) landing
+  landed-stays landing has = record {
+    items = has.items;
+    refusals = has.refusals;
+    frames = has.frames;
+    commands = has.commands;
+  }
+
+-- a direction to which more return packets have come, and whose inbox holds others
+pub stands-back : (leg : Leg) (backs next : ℕ) (parts : Parts) (inbox : Inbox) → Stands leg backs parts →
+    IsWalked leg (counts_of parts next) →
+    Stands leg next (record parts { source = record parts.source { inbox = inbox } })
+stands-back leg backs next parts inbox is walked = record {
+  sound = is.sound;
+  total = is.total;
+  walked = walked;
+  source = source-stays leg (counts_of parts backs) _ _ _ parts.source.core is.source;
+  sent = is.sent;
+  lines = is.lines;
+  sink = record {
+    gathers = is.sink.gathers;
+    taken = is.sink.taken;
+    passed = is.sink.passed;
+    lines = is.sink.lines;
+    all = is.sink.all;
+    size = is.sink.size;
+  };
+  landed = landed-stays leg (counts_of parts backs) _ _ _ parts.source.landed is.landed;
+  counted = is.counted;
+}

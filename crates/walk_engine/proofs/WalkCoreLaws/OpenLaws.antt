@@ -1,0 +1,380 @@
+-- One direction, and a walk, of which no event was made.
+use Rattle.std.proofs.Common.{◌≡◌, ◌⊎◌, ℕ, zero, suc, ◌+◌, ◌-◌, ◌<◌, min, List, [], ◌∷◌, ◌++◌, All, length, take}
+use Rattle.std.proofs.Common.{drop, map, filter, replicate, slice_get, slice_index_or, Some, None, refl, sym, ◌∙◌, ap}
+use Rattle.std.proofs.Common.{subst, arith, inl, inr}
+use Rattle.std.specs.List.{range_with_len, flat_map}
+use Rattle.std.specs.Global.{Vec, Box}
+use Rattle.std.proofs.lemmas.Bool.{cases_Bool}
+use Rattle.std.proofs.lemmas.List.{length-map}
+use Rattle.std.proofs.lemmas.List.FromFn.{length-range_with_len}
+use Rattle.base_cells.specs.declared.Container.{Container}
+use Rattle.base_cells.specs.declared.Cell.{Cell}
+use Rattle.law_model.specs.declared.window.Window.{Window}
+use Rattle.law_model.specs.declared.script.Config.{Config}
+use Rattle.law_model.specs.declared.script.Item.{Item}
+use Rattle.law_model.specs.session.Leg.{Leg}
+use Rattle.law_model.specs.session.Scenario.{scenario_by, offers_of, orders_of}
+use Rattle.law_model.specs.frames.Segment.{segments_on}
+use Rattle.law_model.specs.rows.SessionStream.{rows_of}
+use Rattle.law_model.specs.frames.Run.{delineate_within}
+use Rattle.law_model.specs.frames.Hunt.{hunt_within}
+use Rattle.law_model.specs.source.Back.{cells_before}
+use Rattle.law_model.specs.session.Valid.{IsSound}
+use Rattle.law_model.specs.session.Counts.{LineCounts, Counts, begin, used_in, in_return, in_inbox}
+use Rattle.member_path.specs.line_core.Line.{opened}
+use Rattle.member_rows.specs.realign_core.Gather.{Gather, Stands as Gathers}
+use Rattle.terminal_source.specs.source_core.Terminal.{Terminal}
+use Rattle.terminal_source.specs.source_core.Given.{Stands as HasMade}
+use Rattle.terminal_sink.specs.sink_core.Core.{Core}
+use Rattle.law_walk.specs.Walk.{walk_plan, IsWalked, sent_on, counts_at, cells_on, popped_on, popped_cells}
+use Rattle.law_walk.specs.Rings.{delay_on, back_cell, said_packet}
+use Rattle.law_walk.specs.Landed.{Numbered, landed_from, is_client, told_before, refused_by}
+use Rattle.law_walk.specs.Landed.{refusal_at, is_accepted_frame, is_accepted_command}
+use Rattle.law_walk.specs.Delivered.{delivered_of}
+use Rattle.law_walk.specs.Step.{last_packet}
+use Rattle.law_walk.proofs.PlanLaws.{has-paths, sound-walks}
+use Rattle.law_walk.proofs.WalkLaws.{begins-walked}
+use Rattle.law_model.specs.declared.packet.Packet.{Packet}
+use Rattle.terminal_group.specs.Item.{bare_items}
+use Rattle.terminal_group.specs.Inbox.{Inbox, empty_inbox}
+use Rattle.terminal_group.specs.Landed.{Landed, none_landed}
+use Rattle.terminal_group.specs.Source.{IsUnusedCore}
+use Rattle.walk_engine.specs.walk_parts.Return.{path_of}
+use Rattle.walk_engine.specs.walk_parts.Ringed.{Ringed, ring_of, Has}
+use Rattle.walk_engine.specs.declared.walk_core.opening.Opened.{Opened}
+use Rattle.walk_engine.specs.walk_core.Opened.{IsOpened, AreOpened, AreRings, IsNewSink, IsNewGather, IsNew, IsAlike}
+use Rattle.walk_engine.specs.walk_core.Parts.{Parts, frame_in, HasSource, HasSent, HasLines, HasBack, HasLanded, counts_of}
+use Rattle.walk_engine.specs.walk_core.Parts.{line_counts, calls_on, note_of, told_scenario, Stands, IsWalk}
+
+-- ---- the lines
+get-last : {X : Type 0} (xs : List X) (x : X) (m : ℕ) (y : X) → slice_get (xs ++ x ∷ []) m ≡ Some y →
+    (slice_get xs m ≡ Some y) ⊎ ((m ≡ length xs) × (y ≡ x))
+get-last [] x zero y e = inr (refl, let h : y ≡ x = cc in h)
+get-last [] x (suc m) y e = absurd cc
+get-last (z ∷ xs) x zero y e = inl e
+get-last (z ∷ xs) x (suc m) y e = elim (get-last xs x m y e) [
+  | inl there ↦ inl there
+  | inr last ↦ inr (ap suc last.0, last.1)
+]
+
+size-more : {X : Type 0} (xs : List X) (x : X) → length (xs ++ x ∷ []) ≡ length xs + 1
+size-more [] x = refl
+size-more (y ∷ xs) x = let e = size-more xs x in omega (arith, e)
+
+pub none-opened : (config : Config) → AreOpened config 0 []
+none-opened config = record { size = refl; each = λ m line e. absurd cc }
+
+pub opened-more : (config : Config) (n : ℕ) (lines : List Ringed) (line : Ringed) → AreOpened config n lines →
+    IsOpened config n line → AreOpened config (n + 1) (lines ++ line ∷ [])
+opened-more config n lines line are is = record {
+  size = size-more lines line ∙ ap (λ k. k + 1) are.size;
+  each = λ m other e. elim (get-last lines line m other e) [
+    | inl there ↦ are.each m other there
+    | inr last ↦ subst (IsOpened config m) (sym last.1)
+        (subst (λ k. IsOpened config k line) (sym (last.0 ∙ are.size)) is)
+  ];
+}
+
+calls-opened : (leg : Leg) (m : ℕ) (line : Ringed) → IsOpened leg.config m line →
+    calls_on leg m line.carried
+    ≡ opened (delay_on leg m) (slice_index_or leg.config.windows m []) leg.config.ticks
+calls-opened leg m line is =
+    let none : line.carried ≡ 0 = is.has.carried in
+    ap (λ x. calls_on leg m x) none
+    ∙ ap (λ n. record (calls_on leg m 0) { containers = take n (sent_on (scenario_by leg) m) })
+    (let e : min 0 leg.config.ticks ≡ 0 = omega arith in e)
+    ∙ ap (λ n. record (opened (delay_on leg m) (slice_index_or leg.config.windows m []) leg.config.ticks)
+    { flushes = n }) (let e : 0 - leg.config.ticks ≡ 0 = omega arith in e)
+
+opened-lines : (leg : Leg) (lines : List Ringed) → AreOpened leg.config leg.config.lines lines →
+    HasLines leg lines
+opened-lines leg lines are = record {
+  size = are.size;
+  each = λ m line there. let is = are.each m line there in
+      record { has = subst (Has line) (sym (calls-opened leg m line is)) is.has; ring = is.ring };
+}
+
+abbrev no_counts : LineCounts
+no_counts = record { carried = 0; popped = 0 }
+
+counts-none : (lines : List Ringed) →
+    ((m : ℕ) (line : Ringed) → slice_get lines m ≡ Some line → line_counts line ≡ no_counts) →
+    map line_counts lines ≡ replicate (length lines) no_counts
+counts-none [] each = refl
+counts-none (line ∷ lines) each =
+    ap (λ x. x ∷ map line_counts lines) (each 0 line refl)
+    ∙ ap (λ rest. no_counts ∷ rest) (counts-none lines (λ m other e. each (suc m) other e))
+
+opened-counts : (config : Config) (n : ℕ) (lines : List Ringed) → AreOpened config n lines →
+    map line_counts lines ≡ replicate n no_counts
+opened-counts config n lines are =
+    counts-none lines (λ m line e. let is = are.each m line e in
+    ap (λ x. record { carried = x; popped = line.popped }) is.has.carried
+    ∙ ap (λ y. record { carried = 0; popped = y }) is.popped)
+    ∙ ap (λ k. replicate k no_counts) are.size
+
+-- ---- no cell was popped
+none-popped : (n m : ℕ) → (counts_at (replicate n no_counts) m).popped ≡ 0
+none-popped zero m = refl
+none-popped (suc n) zero = refl
+none-popped (suc n) (suc m) = none-popped n m
+
+map-none : (f : ℕ → List Cell) → ((k : ℕ) → f k ≡ []) → (ks : List ℕ) → map f ks ≡ replicate (length ks) []
+map-none f none [] = refl
+map-none f none (k ∷ ks) = ap (λ x. x ∷ map f ks) (none k) ∙ ap (λ rest. [] ∷ rest) (map-none f none ks)
+
+cells-none : (leg : Leg) (n : ℕ) →
+    popped_cells leg (replicate n no_counts) ≡ replicate (length leg.config.windows) []
+cells-none leg n =
+    map-none (popped_on leg (replicate n no_counts))
+    (λ m. ap (λ k. take k (cells_on (scenario_by leg) (delay_on leg m) m)) (none-popped n m))
+    (range_with_len 0 (length leg.config.windows))
+    ∙ ap (λ k. replicate k []) (length-range_with_len 0 (length leg.config.windows))
+
+-- ---- nothing has landed
+none-landed : (items : List Item) (i : ℕ) → landed_from 0 0 i items ≡ []
+unfolding landed_from
+none-landed [] i = refl
+none-landed (item ∷ items) i =
+    elim (cases_Bool (is_client item.kind)) [
+      | inl client ↦ rw client (none-landed items (suc i))
+      | inr operator ↦ rw operator (none-landed items (suc i))
+    ]
+
+-- ---- the send rings
+sent-long : (sent : List (Vec (Box Container))) (n : ℕ) →
+    All (λ (row : Vec (Box Container)). length row.items ≡ n) sent → (k : ℕ) (frame : List Container) →
+    slice_get (map frame_in sent) k ≡ Some frame → length frame ≡ n
+sent-long [] n all k frame e = absurd cc
+sent-long (row ∷ rows) n all zero frame e = ap length (let h : frame ≡ frame_in row = cc in h)
+    ∙ length-map row.items (λ (b : Box Container). b.value) ∙ all 0 row (omega arith)
+sent-long (row ∷ rows) n all (suc k) frame e = sent-long rows n
+    (λ i d low. all (suc i) d (omega (arith, low))) k frame e
+
+pub sent-opened : (leg : Leg) (counts : List LineCounts) (sent : List (Vec (Box Container))) → length sent ≡ 32 →
+    All (λ (row : Vec (Box Container)). length row.items ≡ leg.config.lines) sent →
+    HasSent leg 0 counts (map frame_in sent)
+sent-opened leg counts sent places long = record {
+  places = length-map sent frame_in ∙ places;
+  lines = sent-long sent leg.config.lines long;
+  frames = λ t m frame inside late low high told. absurd (omega (arith, low));
+}
+
+-- ---- nothing was told, nothing is on its way, and nothing was delivered
+none-told : (leg : Leg) → told_before leg 0 ≡ []
+unfolding cells_before
+none-told leg = ap (cells_before (scenario_by leg)) (let e : used_in leg.config.lag 0 ≡ 0 = omega arith in e)
+
+none-delivered : (leg : Leg) → delivered_of leg 0 ≡ []
+unfolding rows_of segments_on delineate_within hunt_within
+none-delivered leg = refl
+
+take-none : {X : Type 0} (xs : List X) → take 0 xs ≡ []
+take-none [] = refl
+take-none (x ∷ xs) = refl
+
+drop-none : {X : Type 0} (xs : List X) → drop 0 xs ≡ xs
+drop-none [] = refl
+drop-none (x ∷ xs) = refl
+
+range-none : {X : Type 0} (f : ℕ → X) (z n : ℕ) → n ≡ 0 → map f (range_with_len z n) ≡ []
+range-none f z n none = ap (λ k. map f (range_with_len z k)) none
+
+refused-none : (leg : Leg) (items : List Numbered) → items ≡ [] →
+    flat_map (λ item. refused_by item.number (refusal_at leg item)) items ≡ []
+refused-none leg items none = ap (flat_map (λ item. refused_by item.number (refusal_at leg item))) none
+
+-- ---- the direction
+abbrev counts_from : ℕ → List LineCounts → ℕ → Counts
+counts_from ticks lines rows = record
+    { ticks = ticks; frames = 0; commands = 0; lines = lines; rows = rows; backs = 0 }
+
+-- what is new in the network of a leg, whatever return packets it loses
+record IsNewOn (leg : Leg) (all : Opened) : Type 0 where
+  core : IsUnusedCore leg.config all.ends.source.core
+  total : all.ends.source.total ≡ leg.config.ticks
+  landed : all.ends.source.landed ≡ none_landed (bare_items leg.items)
+  sink : IsNewSink leg.config all.ends.sink
+  sent : AreRings leg.config.lines all.paths.sent.items
+  lines : AreOpened leg.config leg.config.lines all.paths.lines.items
+  rows : IsNewGather leg.config.lines all.rows
+
+opened-on : (config : Config) (lost : List (ℕ × ℕ)) (n : ℕ) (lines : List Ringed) → AreOpened config n lines →
+    AreOpened (record config { lost = lost }) n lines
+opened-on config lost n lines are = record {
+  size = are.size;
+  each = λ m line e. let is = are.each m line e in record { has = is.has; ring = is.ring; popped = is.popped };
+}
+
+new-on : (leg other : Leg) (all : Opened) → IsNew other all → IsAlike leg other → IsNewOn leg all
+new-on leg other all is alike =
+    let network = sym alike.network in
+    let core = is.source.core in
+    let sink = is.sink in
+    let lines : leg.config.lines ≡ other.config.lines = ap (λ (c : Config). c.lines) alike.network in
+    record {
+      core = subst (λ (c : Config). IsUnusedCore c all.ends.source.core) network
+          (record { lines = core.lines; lag = core.lag; size = core.size; ticks = core.ticks; made = core.made });
+      total = is.source.total ∙ ap (λ (c : Config). c.ticks) network;
+      landed = is.source.landed ∙ ap (λ items. none_landed (bare_items items)) (sym alike.items);
+      sink = subst (λ (c : Config). IsNewSink c all.ends.sink) network
+          (record { lines = sink.lines; size = sink.size; taken = sink.taken; stands = sink.stands });
+      sent = subst (λ n. AreRings n all.paths.sent.items) (sym lines) is.sent;
+      lines = subst (λ (c : Config). AreOpened c c.lines all.paths.lines.items) network
+          (opened-on other.config leg.config.lost other.config.lines all.paths.lines.items is.lines);
+      rows = subst (λ n. IsNewGather n all.rows) (sym lines) is.rows;
+    }
+
+-- what was opened, put together
+abbrev pub opened_parts : Opened → Parts
+opened_parts all = record {
+  source = all.ends.source;
+  sent = map frame_in all.paths.sent.items;
+  lines = all.paths.lines.items;
+  rows = all.rows;
+  sink = all.ends.sink;
+  got = 0;
+}
+
+module _ (leg other : Leg) (all : Opened) (new : IsNew other all) (alike : IsAlike leg other) where
+  abbrev source : Terminal
+  source = all.ends.source.core
+
+  abbrev sent : List (Vec (Box Container))
+  sent = all.paths.sent.items
+
+  abbrev lines : List Ringed
+  lines = all.paths.lines.items
+
+  abbrev rows : Gather
+  rows = all.rows
+
+  abbrev sink : Core
+  sink = all.ends.sink
+
+  is : IsNewOn leg all
+  is = new-on leg other all new alike
+
+  sound : IsSound leg
+  sound = alike.sound
+
+  paths-size : length (walk_plan leg).paths ≡ leg.config.lines
+  paths-size = has-paths leg (sound-walks leg sound) ∙ sound.network.windows_each
+
+  begin-counts : counts_from source.ticks (map line_counts lines) sink.taken ≡ begin (walk_plan leg)
+  begin-counts =
+      ap (λ n. counts_from n (map line_counts lines) sink.taken) is.core.ticks
+      ∙ ap (λ ls. counts_from 0 ls sink.taken)
+      (opened-counts leg.config leg.config.lines lines is.lines
+      ∙ ap (λ k. replicate k no_counts) (sym paths-size))
+      ∙ ap (λ n. counts_from 0 (replicate (length (walk_plan leg).paths) no_counts) n) is.sink.taken
+
+  pub new-counts : counts_of (opened_parts all) 0 ≡ begin (walk_plan leg)
+  new-counts =
+      ap (λ (l : Landed). record (counts_of (opened_parts all) 0) { frames = l.frames; commands = l.commands })
+      is.landed
+      ∙ begin-counts
+
+  cells-are : popped_cells leg (map line_counts lines) ≡ replicate leg.config.lines []
+  cells-are =
+      ap (popped_cells leg) (opened-counts leg.config leg.config.lines lines is.lines)
+      ∙ cells-none leg leg.config.lines
+      ∙ ap (λ k. replicate k []) sound.network.windows_each
+
+  cells-size : length (popped_cells leg (map line_counts lines)) ≡ leg.config.lines
+  cells-size =
+      length-map (range_with_len 0 (length leg.config.windows)) (popped_on leg (map line_counts lines))
+      ∙ length-range_with_len 0 (length leg.config.windows)
+      ∙ sound.network.windows_each
+
+  pub new-stands : Stands leg 0 (opened_parts all)
+  new-stands = record {
+    sound = sound;
+    total = is.total;
+    walked = subst (IsWalked leg) (sym new-counts) (begins-walked leg);
+    source = subst (λ s. HasSource leg s source) (sym new-counts) (record {
+      made = subst (HasMade source (told_scenario leg (begin (walk_plan leg)))) (sym (none-told leg))
+          (is.core.made (told_scenario leg (begin (walk_plan leg)))
+          (record {
+            of_lines = sound.network.windows_each;
+            of_lag = refl;
+            of_size = refl;
+            no_offers = take-none
+                (offers_of leg.items);
+            no_orders = take-none (orders_of leg.items);
+            no_tells = refl;
+          }));
+      lines = is.core.lines;
+      lag = is.core.lag;
+      size = is.core.size;
+    });
+    sent = subst (λ n. HasSent leg n (map line_counts lines) (map frame_in sent)) (sym is.core.ticks)
+        (sent-opened leg (map line_counts lines) sent is.sent.places is.sent.lines);
+    lines = opened-lines leg lines is.lines;
+    sink = record {
+      gathers = subst (Gathers rows) (sym cells-are) is.rows.gathers;
+      taken = is.sink.stands (popped_cells leg (map line_counts lines)) cells-size;
+      passed = is.rows.rows ∙ sym is.sink.taken;
+      lines = is.rows.lines ∙ sym is.sink.lines;
+      all = is.sink.lines;
+      size = is.sink.size;
+    };
+    landed = subst (λ s. HasLanded leg s all.ends.source.landed) (sym new-counts)
+        (subst (HasLanded leg (begin (walk_plan leg))) (sym is.landed) (record {
+          items = refl;
+          refusals = sym (refused-none leg (landed_from 0 0 0 leg.items) (none-landed leg.items 0));
+          frames = sym (ap (λ xs. length (filter (is_accepted_frame leg) xs) + 0) (none-landed leg.items 0));
+          commands = sym (ap (λ xs. length (filter (is_accepted_command leg) xs) + 0) (none-landed leg.items 0));
+        }));
+    counted = sym (ap (λ n. min (length (delivered_of leg n)) 18446744073709551615) is.sink.taken
+        ∙ ap (λ xs. min (length xs) 18446744073709551615) (none-delivered leg));
+  }
+
+-- ---- a walk, to which nothing has come
+pub new-walk : (leg : Leg) (parts : Parts) (ring : List Packet) → Stands leg 0 parts →
+    counts_of parts 0 ≡ begin (walk_plan leg) →
+    parts.source.inbox ≡ empty_inbox leg.config.lost leg.config.lag → ring ≡ [] → IsWalk leg parts ring None
+new-walk leg parts ring stands begins empty none =
+    let come : parts.source.inbox.come ≡ 0 = ap (λ (i : Inbox). i.come) empty in
+    let ticks : parts.source.core.ticks ≡ 0 = ap (λ (s : Counts). s.ticks) begins in
+    record {
+      stands = subst (λ n. Stands leg n parts) (sym come) stands;
+      back = subst (λ n. HasBack leg (counts_of parts n) (path_of ring parts.source.inbox)) (sym come)
+          (subst (λ s. HasBack leg s (path_of ring parts.source.inbox)) (sym begins)
+          (subst (λ (i : Inbox). HasBack leg (begin (walk_plan leg)) (path_of ring i)) (sym empty)
+          (subst (λ (r : List Packet). HasBack leg (begin (walk_plan leg))
+          (path_of r (empty_inbox leg.config.lost leg.config.lag))) (sym none) (record {
+            lost = refl;
+            ring = sym (range-none (said_packet leg) 0 (in_return (begin (walk_plan leg)))
+                (let e : in_return (begin (walk_plan leg)) ≡ 0 = refl in e));
+            inbox = sym (range-none (back_cell leg) (used_in leg.config.lag 0)
+                (in_inbox (walk_plan leg) (begin (walk_plan leg)))
+                (let e : 0 - used_in leg.config.lag 0 ≡ 0 = omega arith in e));
+            room = refl;
+          }))));
+      noted = subst (λ n. None ≡ note_of leg (last_packet n)) (sym ticks) refl;
+    }
+
+pub new-walk-counts : (leg : Leg) (parts : Parts) → counts_of parts 0 ≡ begin (walk_plan leg) →
+    parts.source.inbox ≡ empty_inbox leg.config.lost leg.config.lag →
+    counts_of parts parts.source.inbox.come ≡ begin (walk_plan leg)
+new-walk-counts leg parts begins empty = ap (λ (i : Inbox). counts_of parts i.come) empty ∙ begins
+
+-- a line that was opened with the numbers of its place
+pub opened-at : (config : Config) (m : ℕ) (line : Ringed) (delay : ℕ) (windows : List Window) (total : ℕ) →
+    delay ≡ slice_index_or config.delays m 0 → windows ≡ slice_index_or config.windows m [] →
+    total ≡ config.ticks → Has line (opened delay windows total) → ring_of line ≡ config.ring → line.popped ≡ 0 →
+    IsOpened config m line
+opened-at config m line delay windows total a b d has size popped = record {
+  has = subst (Has line) (ap (λ x. opened x windows total) a
+      ∙ ap (λ x. opened (slice_index_or config.delays m 0) x total) b
+      ∙ ap (opened (slice_index_or config.delays m 0) (slice_index_or config.windows m [])) d) has;
+  ring = size;
+  popped = popped;
+}
+
+pub index-is : {X : Type 0} (xs : List X) (m : ℕ) (x d : X) → m < length xs → x ≡ slice_index_or xs m x →
+    x ≡ slice_index_or xs m d
+index-is [] m x d low e = absurd (omega (arith, low))
+index-is (y ∷ xs) zero x d low e = e
+index-is (y ∷ xs) (suc m) x d low e = index-is xs m x d (omega (arith, low)) e

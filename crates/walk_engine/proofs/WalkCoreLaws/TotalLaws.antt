@@ -1,0 +1,38 @@
+-- The totals of one direction.
+use Rattle.std.proofs.Common.{◌≡◌, ℕ, ◌+◌, length, ◌∙◌, ap, arith}
+use Rattle.law_model.specs.session.Leg.{Leg}
+use Rattle.text_report.specs.declared.report.Totals.{Totals}
+use Rattle.law_walk.specs.Landed.{totals_of}
+use Rattle.law_walk.specs.Delivered.{delivered_of}
+use Rattle.law_walk.proofs.CountLaws.{delivered-few}
+use Rattle.walk_engine.specs.walk_core.Parts.{Parts, counts_of, Stands}
+use Rattle.walk_engine.proofs.WalkCoreLaws.EventLaws.{walk-fits}
+
+abbrev totals_with : ℕ → ℕ → ℕ → ℕ → ℕ → ℕ → Totals
+totals_with ticks taken frames commands refused got = record
+    { ticks = ticks; taken = taken; frames = frames; commands = commands; refused = refused; got = got }
+
+module _ (leg : Leg) (backs : ℕ) (parts : Parts) (is : Stands leg backs parts) where
+  all-counted : parts.got ≡ length (delivered_of leg parts.sink.taken)
+  all-counted =
+      let most = delivered-few leg parts.sink.taken is.sound
+      (walk-fits leg (counts_of parts backs) is.sound is.walked).rows in
+      let counted = is.counted in
+      omega (arith, most, counted)
+
+  pub totals-are : (ticks taken frames commands refused : ℕ) → ticks ≡ parts.source.core.ticks →
+      taken ≡ parts.sink.taken →
+      frames + parts.source.landed.refused_frames ≡ parts.source.landed.frames →
+      commands + parts.source.landed.refused_commands ≡ parts.source.landed.commands →
+      refused ≡ length parts.source.landed.refusals →
+      totals_with ticks taken frames commands refused parts.got ≡ totals_of leg (counts_of parts backs)
+  totals-are ticks taken frames commands refused is_ticks is_taken more most all =
+      let t : Totals = totals_of leg (counts_of parts backs) in
+      let is_frames : frames ≡ t.frames = let e = is.landed.frames in omega (arith, e, more) in
+      let is_commands : commands ≡ t.commands = let e = is.landed.commands in omega (arith, e, most) in
+      ap (λ n. totals_with n taken frames commands refused parts.got) is_ticks
+      ∙ ap (λ n. totals_with t.ticks n frames commands refused parts.got) is_taken
+      ∙ ap (λ n. totals_with t.ticks t.taken n commands refused parts.got) is_frames
+      ∙ ap (λ n. totals_with t.ticks t.taken t.frames n refused parts.got) is_commands
+      ∙ ap (λ n. totals_with t.ticks t.taken t.frames t.commands n parts.got) (all ∙ ap length is.landed.refusals)
+      ∙ ap (totals_with t.ticks t.taken t.frames t.commands t.refused) all-counted

@@ -1,0 +1,15 @@
+-- The mark of the sink's segment.
+use Rattle.std.proofs.Common.{◌∙◌, ap}
+use Rattle.law_model.specs.frames.Segment.{segments_of}
+use Rattle.law_model.specs.session.Leg.{leg_of}
+use Rattle.law_walk.specs.Delivered.{session_rows}
+use Rattle.terminal_sink.specs.gfp_mark.Marks.{first_place}
+use Rattle.walk_engine.specs.walk_core.Moved.{Walked}
+use Rattle.walk_engine.proofs.walk_core.walk.Walk.first_confirmed.Goals as goal
+
+pub returns : goal.returns
+returns c =
+    let f = c.self.inside in
+    c.first_confirmed.ensures (leg_of f.script) f.way.source.inbox.come c.self.invariant.1.stands
+    ∙ ap (λ (w : Walked). first_place (segments_of (session_rows (leg_of w.script) w.counts.rows)).last.octets)
+    c.self.view_is

@@ -1,0 +1,12 @@
+-- What was counted is what the script and the counts say.
+use Rattle.std.proofs.Common.{◌∙◌, ap}
+use Rattle.law_model.specs.session.Leg.{leg_of}
+use Rattle.law_walk.specs.Landed.{totals_of}
+use Rattle.walk_engine.specs.walk_core.Moved.{Walked}
+use Rattle.walk_engine.proofs.walk_core.walk.Walk.totals.Goals as goal
+
+pub returns : goal.returns
+returns c =
+    let f = c.self.inside in
+    c.totals.ensures (leg_of f.script) f.way.source.inbox.come c.self.invariant.1.stands
+    ∙ ap (λ (w : Walked). totals_of (leg_of w.script) w.counts) c.self.view_is

@@ -1,0 +1,2 @@
+pub mod walk_parts
+pub mod walk_core

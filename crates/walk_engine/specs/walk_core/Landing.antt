@@ -1,0 +1,24 @@
+-- What an item meets that lands.
+use Rattle.std.specs.Prelude.{ℕ, nat_lt, Bool, true, false, if◌then◌else◌, Option, Some, None}
+use Rattle.law_model.specs.declared.script.Item.{Item}
+use Rattle.law_model.specs.declared.walk.StallCause.{StallCause}
+use Rattle.law_model.specs.declared.walk.StallCause.TheVariants.{Done, NotDue, Held}
+use Rattle.terminal_group.specs.declared.source.EarlyCause.{EarlyCause}
+use Rattle.terminal_group.specs.declared.source.EarlyCause.TheVariants.{Done as Early_done, Held as Early_held}
+use Rattle.law_model.specs.declared.walk.Event.{Event}
+use Rattle.law_model.specs.declared.walk.Event.TheVariants.{Accept, Command}
+
+-- why the next item of a kind, where there is one, doesn't land
+abbrev pub stall_by : ℕ → Option Item → Option StallCause
+stall_by ticks None = Some Done
+stall_by ticks (Some item) = if nat_lt ticks item.due then Some (NotDue item.due) else None
+
+-- the event that lands a frame, or a command
+abbrev pub landing_of : Bool → Event
+landing_of true = Accept
+landing_of false = Command
+
+-- the cause of a stall before the send rings are looked at
+abbrev pub early_stall : EarlyCause → StallCause
+early_stall Early_done = Done
+early_stall (Early_held item) = Held item

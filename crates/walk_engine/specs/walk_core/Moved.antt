@@ -1,0 +1,63 @@
+-- What an event of a walk answers, and which frames it gives.
+use Rattle.std.specs.Prelude.{ℕ, List, ◌++◌, length, drop, slice_get, Option, Some, None}
+use Rattle.law_model.specs.declared.script.Item.{Item}
+use Rattle.law_model.specs.declared.script.Script.{Script}
+use Rattle.law_model.specs.session.Leg.{Leg}
+use Rattle.law_model.specs.declared.walk.Event.{Event}
+use Rattle.law_model.specs.declared.walk.Event.TheVariants.{Accept, Command, Tick, Carry, Back, Take}
+use Rattle.law_model.specs.declared.walk.StallCause.{StallCause}
+use Rattle.law_model.specs.session.Counts.{Counts, step}
+use Rattle.text_report.specs.declared.report.Refusal.{Refusal}
+use Rattle.law_walk.specs.Walk.{walk_plan}
+use Rattle.law_walk.specs.Landed.{refusal_at}
+use Rattle.law_walk.specs.Delivered.{delivered_of}
+use Rattle.base_io.specs.Start.{Start}
+use Rattle.terminal_group.specs.Place.{is_frame, is_command, place_of}
+use Rattle.walk_engine.specs.declared.walk_core.moved.Moved.{Moved}
+use Rattle.walk_engine.specs.declared.walk_core.moved.Moved.TheVariants.{Yes, Stalled, Refused}
+
+-- a walk: its script, and its counts
+pub record Walked : Type 0 where
+  pub script : Script
+  pub counts : Counts
+
+-- why an item is refused, where there is one
+abbrev pub refusal_of_item : Leg → ℕ → Option Item → Option Refusal
+refusal_of_item leg number None = None
+refusal_of_item leg number (Some item) = refusal_at leg (record { number = number; item = item })
+
+-- why the item is refused that an event lands
+abbrev pub refusal_in_event : Leg → Counts → Event → Option Refusal
+refusal_in_event leg s Accept =
+    refusal_of_item leg (place_of is_frame s.frames leg.items)
+    (slice_get leg.items (place_of is_frame s.frames leg.items))
+refusal_in_event leg s Command =
+    refusal_of_item leg (place_of is_command s.commands leg.items)
+    (slice_get leg.items (place_of is_command s.commands leg.items))
+refusal_in_event leg s Tick = None
+refusal_in_event leg s (Carry line) = None
+refusal_in_event leg s Back = None
+refusal_in_event leg s Take = None
+
+-- the answer, where the event stalls for a cause, or moves and maybe lands an item that is refused
+abbrev pub answer_by : Option StallCause → Option Refusal → Moved
+answer_by (Some cause) why = Stalled cause
+answer_by None (Some why) = Refused why
+answer_by None None = Yes
+
+abbrev pub moved_of : Leg → Counts → Event → Moved
+moved_of leg s event = answer_by (step (walk_plan leg) s event).cause (refusal_in_event leg s event)
+
+-- the counts after an event
+abbrev pub counts_after : Leg → Counts → Event → Counts
+counts_after leg s event = (step (walk_plan leg) s event).counts
+
+-- the frames that some rows give beside those of fewer rows
+abbrev pub delivered_since : Leg → ℕ → ℕ → List (List ℕ)
+delivered_since leg before rows = drop (length (delivered_of leg before)) (delivered_of leg rows)
+
+-- a place of frames is given those of more rows: behind each start it stands for what it stood for, followed by them
+abbrev pub GivesRows : {Out : Type 0} → (Out → Start → List (List ℕ) → Type 0) → Out → Out → Leg → ℕ → ℕ → Type 0
+GivesRows stands_for was now leg before rows =
+    (start : Start) (given : List (List ℕ)) → stands_for was start given →
+    stands_for now start (given ++ delivered_since leg before rows)

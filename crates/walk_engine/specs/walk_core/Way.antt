@@ -1,0 +1,88 @@
+-- What the events of one direction answer, and what they leave of it.
+use Rattle.std.specs.Prelude.{◌≡◌, ◌≢◌, ℕ, ◌+◌, ◌/◌, ◌%◌, ◌==◌, ◌&&◌, ◌≤◌, nat_le, nat_lt, if◌then◌else◌, map}
+use Rattle.std.specs.Prelude.{slice_get, slice_index_or, Option, Some, None, option_map}
+use Rattle.base_cells.specs.declared.BackCell.{BackCell}
+use Rattle.law_model.specs.declared.script.Item.{Item}
+use Rattle.law_model.specs.declared.script.ItemKind.{ItemKind}
+use Rattle.law_model.specs.declared.packet.Packet.{Packet}
+use Rattle.law_model.specs.declared.walk.Event.{Event}
+use Rattle.law_model.specs.declared.walk.Event.TheVariants.{Tick, Take}
+use Rattle.law_model.specs.declared.walk.StallCause.TheVariants.{Waiting as Stall_waiting}
+use Rattle.law_model.specs.session.Leg.{Leg}
+use Rattle.law_model.specs.session.Scenario.{Scenario, packets_in}
+use Rattle.law_model.specs.packets.Told.{told_by}
+use Rattle.law_model.specs.packets.Telling.{untold, passed_on}
+use Rattle.law_model.specs.session.Counts.{Plan, Counts, held, pop_lines, step}
+use Rattle.terminal_source.specs.source_core.Given.{with_cell, with_told}
+use Rattle.terminal_sink.specs.declared.sink_core.sink.TakeAnswer.{TakeAnswer}
+use Rattle.terminal_sink.specs.declared.sink_core.sink.TakeAnswer.TheVariants.{Taken, Waiting}
+use Rattle.terminal_sink.specs.sink_core.Given.{rows_taken}
+use Rattle.law_walk.specs.Walk.{walk_plan}
+use Rattle.law_walk.specs.Rings.{said_packet}
+use Rattle.law_walk.specs.Landed.{told_before}
+use Rattle.terminal_group.specs.declared.source.EarlyCause.{EarlyCause}
+use Rattle.terminal_group.specs.declared.source.EarlyCause.TheVariants.{Done, Held}
+use Rattle.terminal_group.specs.Landed.{due_at}
+use Rattle.walk_engine.specs.declared.walk_core.moved.Moved.{Moved}
+use Rattle.walk_engine.specs.declared.walk_core.moved.Moved.TheVariants.{Yes, Stalled}
+use Rattle.walk_engine.specs.walk_core.Moved.{moved_of, counts_after}
+use Rattle.walk_engine.specs.walk_core.Parts.{Parts, counts_of, line_counts, Stands}
+
+-- an event in a leg answers as its counts say, and leaves what they give
+pub record Makes (leg : Leg) (backs : ℕ) (event : Event) (was now : Parts) (answer : Moved) : Type 0 where
+  pub stands : Stands leg backs now
+  pub counts : counts_of now backs ≡ counts_after leg (counts_of was backs) event
+  pub moved : answer ≡ moved_of leg (counts_of was backs) event
+
+-- ---- an item that lands
+-- the item of this number is due, and is of this kind
+pub record IsDue (leg : Leg) (parts : Parts) (number : ℕ) (kind : ItemKind) : Type 0 where
+  pub due : due_at parts.source.landed.items number ≤ parts.source.core.ticks
+  pub handed : (item : Item) → slice_get leg.items number ≡ Some item → kind ≡ item.kind
+
+-- ---- a frame that is made
+-- why none is, before the send rings are looked at
+abbrev pub early_by : Plan → Counts → Option EarlyCause
+early_by plan s =
+    if nat_le plan.ticks s.ticks then Some Done else option_map Held (held s.ticks s.frames s.commands 0 plan.items)
+
+-- a session whose packet of the next decision step, after n steps, passes this on
+abbrev pub with_passed : Scenario → ℕ → Option Packet → Scenario
+with_passed scenario n None = scenario
+with_passed scenario n (Some packet) = with_told scenario n (told_by packet)
+
+-- what the frame after some ticks is to pass on: where it makes decision step k, what packet k of the leg tells, and
+-- else nothing
+pub record IsTold (leg : Leg) (ticks : ℕ) (told : Option Packet) : Type 0 where
+  pub step : ticks % 16 ≡ 8 → passed_on told ≡ slice_index_or leg.tells (ticks / 16) untold
+  pub between : ticks % 16 ≢ 8 → told ≡ None
+
+-- nothing stalls it, what its packets pass on is the leg's, and so is the return cell that its decision step takes,
+-- where it takes one
+pub record CanTick (leg : Leg) (backs : ℕ) (parts : Parts) (told : Option Packet) (cell : Option BackCell) : Type 0
+  where
+    pub free : None ≡ (step (walk_plan leg) (counts_of parts backs) Tick).cause
+    pub tells : IsTold leg parts.source.core.ticks told
+    pub cells : told_before leg (parts.source.core.ticks + 1)
+        ≡ with_cell (told_before leg parts.source.core.ticks) cell
+
+-- ---- a row that is taken
+abbrev pub take_moved : TakeAnswer → Moved
+take_moved (Taken back) = Yes
+take_moved (Waiting line) = Stalled (Stall_waiting line)
+
+-- the return packet that is said with row t
+abbrev pub said_at : Leg → ℕ → Option Packet
+said_at leg t = if nat_lt 22 t && t % 16 == 7 then Some (said_packet leg (packets_in t)) else None
+
+-- the answer, where a line leaves row t open, or none does
+abbrev pub take_by : Leg → ℕ → Option ℕ → TakeAnswer
+take_by leg t (Some line) = Waiting line
+take_by leg t None = Taken (said_at leg t)
+
+-- a Take in a leg moves as its counts say, and says the leg's return packets
+pub record Takes (leg : Leg) (backs : ℕ) (was now : Parts) (answer : TakeAnswer) : Type 0 where
+  pub makes : Makes leg backs Take was now (take_moved answer)
+  pub answers : answer ≡ take_by leg was.sink.taken
+      (pop_lines was.sink.taken 0 (walk_plan leg).paths (map line_counts was.lines)).waiting
+  pub rows : now.sink.taken ≡ was.sink.taken + rows_taken answer

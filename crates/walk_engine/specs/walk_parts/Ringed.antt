@@ -1,0 +1,104 @@
+-- A line with its receive ring.
+use Rattle.std.specs.Prelude.{◌≡◌, ℕ, zero, suc, ◌+◌, ◌%◌, ◌<◌, ◌≤◌, Bool, false, ◌==◌, if◌then◌else◌, List, [], ◌∷◌}
+use Rattle.std.specs.Prelude.{length, take, slice_get, slice_set, Option, Some, None, is_none, IsSome}
+use Rattle.base_cells.specs.declared.Container.{Container}
+use Rattle.base_cells.specs.declared.Cell.{Cell}
+use Rattle.member_path.specs.declared.line_core.carry.CarrySign.{CarrySign}
+use Rattle.member_path.specs.declared.line_core.carry.CarrySign.TheVariants.{Nothing, Good, Fail, End}
+use Rattle.member_path.specs.line_core.Carry.{carry_cells}
+use Rattle.member_path.specs.line_core.Line.{Line, Calls, carries_of, path_cells, Stands}
+use Rattle.law_model.specs.members.Number.{verdict}
+use Rattle.member_rows.specs.realign_core.Gather.{Gather, Stands as Gathers}
+
+-- the line itself; the places of its ring, of each what a carry gave and its container; how many carries were made, and
+-- how many cells
+-- were given and popped
+pub record Ringed : Type 0 where
+  pub core : Line
+  pub signs : List CarrySign
+  pub places : List Container
+  pub carried : ℕ
+  pub given : ℕ
+  pub popped : ℕ
+
+-- how many cells the ring has places for
+abbrev pub ring_of : Ringed → ℕ
+ring_of line = length line.signs
+
+abbrev pub cell_in : Option CarrySign → Option Container → List Cell
+cell_in None place = []
+cell_in (Some sign) None = []
+cell_in (Some sign) (Some place) = carry_cells sign place
+
+-- the cell of number y, where the ring holds it
+abbrev pub cell_at : List CarrySign → List Container → ℕ → List Cell
+cell_at signs places y = cell_in (slice_get signs (y % length signs)) (slice_get places (y % length signs))
+
+-- what a ring has after a carry, whose sign is put at a place where it gave a cell, and how many cells it gave
+abbrev pub with_sign : CarrySign → ℕ → List CarrySign → List CarrySign
+with_sign Nothing slot signs = signs
+with_sign Good slot signs = slice_set signs slot Good
+with_sign Fail slot signs = slice_set signs slot Fail
+with_sign End slot signs = slice_set signs slot End
+
+abbrev pub count_of : CarrySign → ℕ
+count_of Nothing = 0
+count_of Good = 1
+count_of Fail = 1
+count_of End = 1
+
+-- these calls have brought a line where it is, and its ring holds the cells that weren't popped
+pub record Has (line : Ringed) (calls : Calls) : Type 0 where
+  pub core : Stands line.core calls
+  pub carried : line.carried ≡ carries_of calls
+  pub given : line.given ≡ length (path_cells calls)
+  pub holds : (y : ℕ) (cell : Cell) → line.popped ≤ y → y < line.given → slice_get (path_cells calls) y ≡ Some cell →
+      cell_at line.signs line.places y ≡ cell ∷ []
+
+-- the cells that were popped
+abbrev pub popped_cells : Ringed → Calls → List Cell
+popped_cells line calls = take line.popped (path_cells calls)
+
+-- cells were popped, and nothing else has changed but what lies in the places of the ring
+pub record IsPopped (before after : Ringed) : Type 0 where
+  pub core : after.core ≡ before.core
+  pub signs : after.signs ≡ before.signs
+  pub size : length after.places ≡ length before.places
+  pub carried : after.carried ≡ before.carried
+  pub given : after.given ≡ before.given
+
+-- the cells that were popped of each line are those that were gathered; this one is of number m, and those before it
+-- decide the next row
+pub record IsNext (line : Ringed) (calls : Calls) (rows : Gather) (cells : List (List Cell)) (m : ℕ) : Type 0 where
+  pub has : Has line calls
+  pub gathers : Gathers rows cells
+  pub own : slice_get cells m ≡ Some (popped_cells line calls)
+  pub before : (i : ℕ) (other : List Cell) → i < m → slice_get cells i ≡ Some other → IsSome (verdict other rows.rows)
+
+-- a number is there, and is this one
+abbrev pub is_at : ℕ → Option ℕ → Bool
+is_at m None = false
+is_at m (Some n) = n == m
+
+-- from a number of cells on, the first that is enough, or as many more as there are
+unfoldable pub popped_until : ℕ → (ℕ → Bool) → ℕ → ℕ
+popped_until zero is_open y = y
+popped_until (suc k) is_open y = if is_open y then popped_until k is_open (suc y) else y
+
+-- the first cells of a path don't decide row t
+abbrev pub leaves_open : List Cell → ℕ → ℕ → Bool
+leaves_open path t y = is_none (verdict (take y path) t)
+
+-- what is true of the fields of a line: it has a ring, which holds no more than it has places for, and its counts are
+-- in their ranges
+pub record IsRinged (line : Ringed) : Type 0 where
+  pub some : 0 < length line.signs
+  pub beside : length line.places ≡ length line.signs
+  pub pops : line.popped ≤ line.given
+  pub room : line.given ≤ line.popped + length line.signs
+  pub gives : line.given ≤ line.carried
+  pub carries : line.carried ≡ line.core.pushed + line.core.flushed
+  pub pushes : line.core.pushed ≤ line.core.total
+  pub flushes : line.core.flushed ≤ line.core.delay + 1
+  pub total : line.core.total ≤ 1000000
+  pub delay : line.core.delay ≤ 2047

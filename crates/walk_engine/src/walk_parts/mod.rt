@@ -1,0 +1,9 @@
+//! What a walk of a session moves between its two terminals: lines with their receive rings, and the return
+//! ring. Begin with `WalkLine` and `ReturnRing`. In which order events come, and what the terminals make of
+//! it, is not said here.
+
+mod line;
+mod path;
+
+pub use line::WalkLine;
+pub use path::ReturnRing;

@@ -1,9 +1,0 @@
--- By the laws of the frames and of the headers.
-use Rattle.walk_gfp.proofs.HeaderLaws.{frames-carried, header-sent}
-use Rattle.walk_gfp.proofs.carried_law.Goals as goal
-
-pub returns-clause-frames : goal.returns-clause-frames
-returns-clause-frames c = frames-carried
-
-pub returns-clause-header : goal.returns-clause-header
-returns-clause-header c = header-sent
