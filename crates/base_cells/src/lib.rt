@@ -1,6 +1,7 @@
-//! What a line carries: containers and cells (G.707), and the control words of LCAS with their codes
-//! (G.7042). Begin with `Cell` and `Ctrl`; `HeldContainer` is a place for a container. What containers hold,
-//! and what comes of them on a line, is not said here.
+//! What a line carries: containers and cells (G.707), and the control words of LCAS with their codes (G.7042).
+//! Begin with `Cell` and `Ctrl`; `HeldContainer` is a place for a container, which is written in that place.
+//! `payload_law`: a container has room for 2,340 octets. What containers hold, and what comes of them on a
+//! line, is not said here.
 #![tactic(auto)]
 
 mod boxes;

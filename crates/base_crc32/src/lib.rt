@@ -1,6 +1,6 @@
-//! The check of 32 bits over octets (CRC-32), in either order of bits, as a definition with its laws, and the code
-//! that makes it. Where a check stands in a frame is not said here. Begin with `fcs`; what it computes is in
-//! `specs/Crc32.antt`.
+//! The check of 32 bits over octets (CRC-32), in either order of bits, as a definition with its laws, and the
+//! code that makes it. Begin with `fcs`; what it computes is in `specs/Crc32.antt`. `check_law` says that it is
+//! a remainder, and by what it differs after bit errors. Where a check stands in a frame is not said here.
 #![tactic(auto)]
 
 mod check;

@@ -1,7 +1,9 @@
 //! What the commands of the programs have in common: the words after a program's name, an input that is read
-//! whole, why a command stops, its exit status and what is said of that on notes, and the end of a report.
-//! What a command means is a `Task` of specs/, and how it ends is `Ends`. Which command is run, and how, is
-//! the programs' own. Begin with `Stop`, `read_whole_script` and `tell`.
+//! whole or line by line, why a command stops, its exit status and what is said of that on notes, and the end
+//! of a report. What a command means is a `Task` of specs/, and how it ends is `Ends`, which `end_law` says
+//! fact by fact. Which command is run, and how, is the programs' own. Begin with `Stop`, `read_whole_script`
+//! and `tell`. Two things may be built upon: what is wrong with an input comes before what is wrong with its
+//! lines; and no clause says that `given_words` gives the words of the command line.
 #![tactic(auto)]
 
 mod help;

@@ -1,6 +1,7 @@
-//! The program `vcat_run` as a call: it runs the script of a group on threads, and watches its lines
-//! where this is wanted. The program itself only makes its input and outputs and hands them over. Begin with
-//! `run_top`.
+//! The program `vcat_run` as a call: it runs the script of a group on threads, and watches its lines if this is
+//! wanted. The program itself only makes its input and outputs and hands them over. Begin with `run_top`: it
+//! answers how the task ended that the words are, the headline, and the session that was run. No clause here
+//! knows how a stream is scrambled.
 #![tactic(auto)]
 
 mod command;

@@ -1,9 +1,11 @@
-//! The program `vcat_walk` as a call: it runs the scripts and loads of a group on one thread, writes and
-//! reads captures, decodes the control packets of a line, turns over bits of a stream of frames with FCS,
-//! carries VC-4s over a link of AU-4 frames and frames of channels over a stream with cuts, runs two scripts
-//! that carry each other's return packets, and writes the lines of a client at a rate. The program itself
-//! only makes its input and outputs and hands them over. Each command has a room: a module here for its words
-//! and its run, and one of specs/ for what it means. Begin with `walk_top`.
+//! The program `vcat_walk` as a call: all commands that need one thread alone.
+//!
+//! The commands walk scripts, write and read captures, decode control packets, invert bits of a stream with
+//! FCS, carry VC-4s over AU-4 frames and frames of channels over a stream with cuts, run a pair of scripts, and
+//! make loads. The program itself only makes its input and outputs and hands them over. Each command has a
+//! room: a module here for its words and its run, and one of specs/ for what it means. Begin with `walk_top`:
+//! it answers how the task ended that the words are, the headline, and the walk that was made. `capture_law`
+//! says whose frames a capture has. No clause here knows how a stream is scrambled.
 #![tactic(auto)]
 
 mod command;

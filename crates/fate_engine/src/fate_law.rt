@@ -1,5 +1,7 @@
 //! The laws of fates: what became of each frame of a stream that comes in rows, and whether what is confirmed
-//! after each break was true. There is no code here. Begin at `got_law`.
+//! after each break was true. There is no code here. Begin at `got_law`; `fate_law` says of a walk that if all
+//! marks are true the premise on breaks holds, and `made_law` that the taken rows and the pieces made so far
+//! decide all fates.
 
 ghost use Rattle.std.specs.Prelude.{◌≡◌, ℕ, ◌<◌, ◌≤◌, ◌↔◌, ◌-◌, ◌&&◌, nat_lt, not, true, false, List, [], ◌∷◌, ◌++◌};
 ghost use Rattle.std.specs.Prelude.{map, length, All, Option, None};

@@ -6,8 +6,7 @@
 //!   refused; the stream that they make tick by tick; and that what became of a frame is known by the pieces
 //!   that the taken rows reach.
 //! - `walk_fates`: what became of each frame of a walk: it is seen after each turn what packets and rows came
-//!   of it (`see_since`), then where the pieces of its accepted frames lie (`place_frames`), and then the text
-//!   is written (`write_fates`).
+//!   of it, then the places of its accepted frames are found, and then the text is written.
 //! - `walk_gfp`: the GFP frames of a walk's client, as the source sent them, are written as a capture: each
 //!   accepted frame that the taken rows carry, with the row of its last octet.
 #![tactic(auto)]

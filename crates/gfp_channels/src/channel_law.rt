@@ -1,6 +1,7 @@
-//! The laws of channels that share a stream by linear extension headers: what of each channel a stream carries, what
-//! is delivered of it where octets don't arrive, and what an answer to a frame depends on. There is no code here.
-//! Begin with `channel_law`. It is the law of losses with frames that have a linear extension header as their kind.
+//! The laws of channels that share a stream by linear extension headers: what of each channel a stream carries,
+//! what is delivered of it if octets are lost, and what an answer to a frame depends on. There is no code here.
+//! Begin with `channel_law`. It is the law of losses with frames that have a linear extension header as their
+//! kind.
 
 ghost use Rattle.std.specs.Prelude.{◌≡◌, ℕ, ◌<◌, ◌≤◌, ◌^◌, List, [], ◌∷◌, ◌++◌, length, take, drop, All};
 ghost use Rattle.law_model.specs.frames.Loss.{TrueStarts};

@@ -1,10 +1,11 @@
-//! The frames that wait, and the stream of GFP frames that is made of them. It knows nothing of rows, lines
-//! or time: the caller says how many octets come next, and offers frames between. Begin with `FrameQueue` and
+//! The frames that wait, and the stream of GFP frames that is made of them. It knows nothing of rows, lines or
+//! time: the caller says how many octets come next, and offers frames between. Begin with `FrameQueue` and
 //! `Filler`; what is promised of the two together is `Stands` in `specs/Stream.antt`, over the streams of
-//! law_model's `specs/source/Client.antt`.
+//! law_model's `specs/source/Client.antt`. `filling_law`: a filler at a place of a stream goes with one queue
+//! alone.
 //!
-//! Below it `AreaSender` writes payload areas, whatever is in them, and idle frames. Fillers with frames of other kinds
-//! stand on it too.
+//! Below it `AreaSender` writes payload areas, whatever is in them, and idle frames, by `StandsIn` of
+//! `specs/Areas.antt`. Fillers with frames of other kinds stand on it too.
 #![tactic(auto)]
 
 ghost use Rattle.std.specs.Prelude.{◌≡◌, ℕ, ◌+◌, ◌≤◌, List, [], ◌++◌, length, take, drop};

@@ -1,8 +1,10 @@
-//! The core header and the type header of a GFP frame (G.7041): written, and read with what is wrong with
-//! them; the type header also as a frame with an FCS has it, and one with a linear extension header, which is written
-//! and read here too. Nothing here corrects a header, and nothing scrambles. Begin with `core_bytes` and `read_core`;
-//! what a header is stands in law_model's `specs/frames/Core.antt` and `specs/frames/TypeHeader.antt`, that of a frame with an
-//! FCS in gfp_model's `specs/fcs_model/Fcs.antt`, and the two of a frame of a channel in its `specs/linear_model/Linear.antt`.
+//! The core header and the type header of a GFP frame (G.7041): written, and read with what is wrong with them.
+//!
+//! The type header is here also as a frame with an FCS has it, and one with a linear extension header, which is
+//! written and read here too. Nothing here corrects a header, and nothing scrambles. Begin with `core_bytes`
+//! and `read_core`, which are inverse; what a header is stands in law_model's `specs/frames`, that of a frame
+//! with an FCS in gfp_model's `specs/fcs_model/Fcs.antt`, and the two of a frame of a channel in its
+//! `specs/linear_model/Linear.antt`.
 #![tactic(auto)]
 
 mod extension;

@@ -1,6 +1,7 @@
-//! Definitions of client frames with a frame check sequence behind them: their areas, what comes of one, bits that
-//! are turned over on the way, and core headers that are read in spite of one such bit. Nothing is read or written
-//! here. Begin with `specs/fcs_model/Fcs.antt`.
+//! Definitions of client frames with a frame check sequence after them: their areas, what comes of one, bit
+//! errors on the way, and core headers that are read in spite of one bit error. Nothing is read or written
+//! here. Begin with `specs/fcs_model/Fcs.antt`: `fcs_outcome` is what comes of an area, a frame or the first
+//! cause.
 
 use law_model::TypeFault;
 

@@ -1,14 +1,12 @@
 //! Definitions of two kinds of GFP frames (G.7041) that the stream of a session doesn't have: client frames
-//! with a frame check sequence behind them, and client frames of channels that share a stream. The frames of a
+//! with a frame check sequence after them, and client frames of channels that share a stream. The frames of a
 //! session are defined in `law_model`. Nothing is read or written here. Begin with `specs/fcs_model/Fcs.antt`
 //! and `specs/linear_model/Linear.antt`.
 //!
-//! - `fcs_model`: definitions of client frames with a frame check sequence behind them: their areas, what
-//!   comes of one, bits that are turned over on the way, and core headers that are read in spite of one such
-//!   bit.
-//! - `linear_model`: definitions of client frames that share a stream by channel numbers: their areas with
-//!   linear extension headers, what comes of one, the queues of the channels and whose turn it is, and the
-//!   stream with its cuts.
+//! - `fcs_model`: client frames with a frame check sequence after them: their areas, what comes of one, bit
+//!   errors on the way, and core headers that are read in spite of one bit error.
+//! - `linear_model`: client frames that share a stream by channel numbers: their areas with linear extension
+//!   headers, what comes of one, the queues of the channels and whose turn it is, and the stream with its cuts.
 #![tactic(auto)]
 
 pub mod fcs_model;

@@ -1,6 +1,7 @@
-//! Laws of a stream of frames with FCS of which single bits are turned over: header correction reads each core
-//! header, descrambling spreads a flip to two places at most, the FCS finds it, and the frames that get through are
-//! just those that it doesn't touch. There is no code here. Begin with `flip_law`.
+//! Laws of a stream of frames with FCS with single bit errors: header correction reads each core header,
+//! descrambling makes of one error two at most, the FCS finds it, and the frames that get through are just
+//! those that none touches. There is no code here. Begin with `flip_law`, or with `place_law` if errors are
+//! told by place.
 
 ghost use Rattle.std.specs.Prelude.{◌==◌, slice_index_or, ◌≡◌, ◌≢◌, ◌↔◌, ◌<◌, ℕ, ◌+◌, ◌*◌, ◌≤◌, ◌++◌, Bool, false};
 ghost use Rattle.std.specs.Prelude.{List, [], true, length, take, drop, replicate, All, Some, None};

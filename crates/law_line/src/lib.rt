@@ -1,8 +1,9 @@
 //! Laws of the numbers of a line's cells: that they are the numbers of its containers, although cells vanish
-//! and a number is sent modulo 4,096. It has no code of its own: each function is a theorem of the
-//! definitions in `law_model`, which is its contract. Begin with `numbering_law`; `reading_law` says that
-//! those definitions are what G.707 words, and `stable_law` that more cells change nothing of what is
-//! decided.
+//! and a number is sent modulo 4,096. It has no code of its own: each function is a theorem of the definitions
+//! in `law_model`, which is its contract. Begin with `numbering_law`. How a sink locks on the multiframe, and
+//! which number is decided when, are this project's own definitions: G.707 has the multiframe alone.
+//! `reading_law` and `sight_law` say that what is computed of cells is what these definitions say in words, and
+//! `stable_law` that more cells change nothing of what is decided.
 #![tactic(auto)]
 
 ghost use Rattle.law_line.specs.Numbering.{AreNumbered, AreAt, AreInStep, AreExpected, ArePackets, AreReadable};

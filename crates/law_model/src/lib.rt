@@ -1,6 +1,7 @@
-//! The definitions that the contracts of a session speak of, and the types that they name. There is no code here but
-//! the nibbles of a packet. Begin with `specs/session/Scenario.antt`: the other definitions of a session are recursions over a
-//! scenario.
+//! The definitions that the contracts of a session speak of, and the types that they name. There is no code
+//! here but the nibbles of a packet. Begin with `specs/session/Scenario.antt`: the other definitions of a
+//! session are recursions over a scenario. proofs/ has lemmas of headers, areas, scrambling, streams, packets
+//! and paths that the proofs of other crates use.
 #![tactic(auto)]
 
 mod packet;

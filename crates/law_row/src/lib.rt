@@ -1,6 +1,6 @@
 //! The laws of the rows of a session: that a sink, which counts the active packets that it reads, finds whole
 //! the very rows that the source's table and the failures make whole, and says the return packets that the
-//! definition of a session says. There is no code here. Begin at `row_law`.
+//! definition of a session says. There is no code here. Begin at `row_law`; `return_law` is of return packets.
 #![tactic(auto)]
 
 ghost use Rattle.std.specs.Prelude.{◌≡◌, ℕ, ◌*◌, ◌≤◌, Bool, true, List, [], ◌∷◌, length, map, if◌then◌else◌, Option};

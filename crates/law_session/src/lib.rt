@@ -1,6 +1,7 @@
-//! The laws of a session, over the definitions alone: what return packets tell the source, how soon a line
-//! that is added carries payload, what is accepted, and how the client's stream goes on. There is no code
-//! here. Begin at `feedback_law`, by which one bit of a return packet stands for a whole count of changes.
+//! The laws of a session, over the definitions alone: what return packets tell the source, how soon a line that
+//! is added carries payload, what is accepted, and how the client's stream goes on. There is no code here.
+//! Begin at `feedback_law`, by which one bit of a return packet stands for a whole count of changes; `use_law`,
+//! `readable_law`, `journal_law` and `client_law` have the rest.
 #![tactic(auto)]
 
 ghost use Rattle.std.specs.Prelude.{◌≡◌, ◌↔◌, ◌<◌, ◌≤◌, ◌++◌, ◌+◌, ◌-◌, ◌*◌, ◌/◌, ℕ, Bool, true, List, Option, Some};

@@ -1,5 +1,6 @@
-//! Tests of rings and their workers, of alarms, of the parts of a walk, of pointers, of traces, and of texts of digits
-//! and reports, by their calls. Nothing is here but tests. Begin with `rings`, where a letter says what a burst did.
+//! Tests of rings and their workers, of alarms, of the parts of a walk, of pointers, of traces, and of texts of
+//! digits and reports, by their calls. Nothing is here but tests. Begin with `rings`: a letter there says what
+//! a burst did.
 #![tactic(auto)]
 
 #[cfg(test)]

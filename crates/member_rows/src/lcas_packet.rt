@@ -1,6 +1,6 @@
 //! Reads the sixteen nibbles of a control packet (LCAS, G.7042). The packet, its nibbles as they are sent and
-//! the definitions stand in law_model; begin with `read`. Where a packet stands among the H4 octets of a
-//! line is not said here.
+//! the definitions stand in law_model; begin with `read`. `packet_law`: what is sent is read back. The place of
+//! a packet among the H4 octets of a line is not said here.
 
 ghost use Rattle.std.specs.Prelude.{◌≡◌, ◌≢◌, ℕ, ◌%◌, ◌==◌, ◌<◌, ◌↔◌, List, length, All, IsOk, IsSome, IfOk, None};
 ghost use Rattle.base_cells.specs.Code.{ctrl_of};

@@ -1,5 +1,6 @@
-//! Tests of the path of a member by their calls: failures, the line, the numbers of its cells, rows of lines, and
-//! rows dealt to members. Nothing is here but tests. Begin with `line`, where a letter stands for each carry.
+//! Tests of the path of a member by their calls: failures, the line, the numbers of its cells, rows of lines,
+//! and rows dealt to members. Nothing is here but tests. Begin with `line`: a letter there stands for each
+//! carry.
 #![tactic(auto)]
 
 #[cfg(test)]

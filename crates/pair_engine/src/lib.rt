@@ -1,10 +1,10 @@
 //! A pair of sessions on one thread: two groups, one each way, that tick together. What the sink of a way says
-//! of it goes in the control packets of the other way, and is lost where no line of that way has a packet that
-//! can be read. Events move it in any order, and each answers whether it moved, in which way and why it
-//! stalled, or why the item that landed is refused, just as the scripts and the counts of the pair say; rounds
-//! of events drain it until all rows of both ways are taken. The frames that come through are given to a
-//! `FrameOut` a way. No script is read here and no report is written. Begin with `Pair`; what a pair gives by
-//! its scripts stands in `law_pair`, and each of its ways is a `WayCore`.
+//! of it goes in the control packets of the other way, and is lost if no line of that way has a packet that can
+//! be read. Events move it in any order, and each answers whether it moved, in which way and why it stalled, or
+//! why the item that landed is refused, just as the scripts and the counts of the pair say; rounds of events
+//! drain it until all rows of both ways are taken. The frames that come through are given to a `FrameOut` a
+//! way. No script is read here and no report is written. Begin with `Pair`; what a pair gives by its scripts
+//! stands in `law_pair`, and each of its ways is a `WayCore`.
 #![tactic(auto)]
 
 mod item;

@@ -1,8 +1,8 @@
-//! Two scripts in one text, for two sessions that carry each other's return packets. A line of the one word `other`
-//! divides them. The language is a definition that computes, `pair_of`: the lines of both scripts as `script_read` has
-//! them, with numbers that run on, or the first fault; then what is wrong with either script as a whole, and with both
-//! together. The reader gives just that, in one pass over an input in pieces. Nothing is run here. Begin with
-//! `read_pair`.
+//! Two scripts in one text, for two sessions that carry each other's return packets. A line of the one word
+//! `other` divides them. The language is a definition that computes, `pair_of`: the lines of both scripts as
+//! `script_read` has them, with numbers that run on, or the first fault; then what is wrong with either script
+//! as a whole, and with both together. The reader gives just that, in one pass over an input in pieces; a fault
+//! stays, whatever follows. Nothing is run here. Begin with `read_pair`.
 #![tactic(auto)]
 
 mod laws;

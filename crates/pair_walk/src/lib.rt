@@ -1,5 +1,6 @@
 //! What comes of two scripts as a pair of sessions, in words: the report of each way, once all rows of both are
-//! taken. Begin with `write_pair`, and with `pair_text` of the specs; no text is read here.
+//! taken. Begin with `write_pair`, and with `pair_text` of the specs; no text is read here. `text_law`: the
+//! reports don't depend on the order of events.
 #![tactic(auto)]
 
 mod run;

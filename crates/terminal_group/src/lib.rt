@@ -1,6 +1,7 @@
 //! The source side of a group, whatever engine moves it: its terminal, what of its items lands next, what was
 //! refused, why no tick comes, and which return cells have come that no decision step has taken. Begin with
-//! `GroupSource`. Where its frames go, and when an engine ticks, is not said here.
+//! `GroupSource`; `source_law`: a refusal has one place, and ticks take what has come in its order. Where its
+//! frames go, and when an engine ticks, is not said here.
 #![tactic(auto)]
 
 mod inbox;

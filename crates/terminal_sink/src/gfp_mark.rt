@@ -1,9 +1,9 @@
 //! The receiver of a stream of GFP frames (G.7041) that also tells of each segment which place was confirmed
 //! first in it: its mark.
 //!
-//! It is a `Delineator`, which finds the frames, and beside it what the search for the mark has come to. It
-//! doesn't know where in its stream a segment begins. `MarkedDelineator` is the place to begin; `confirm_law`
-//! says with which octet the state SYNC begins.
+//! It is a `Delineator`, which finds the frames, and beside it what the search for the mark has come to, in a
+//! segment of fewer than 2^64 octets. It doesn't know at which place of its stream a segment begins.
+//! `MarkedDelineator` is the place to begin; `confirm_law` says with which octet the state SYNC begins.
 
 ghost use Rattle.std.specs.Prelude.{◌≡◌, ℕ, ◌+◌, ◌-◌, ◌^◌, ◌<◌, ◌≤◌, ◌↔◌, Bool, true, false, List, [], ◌∷◌, ◌++◌};
 ghost use Rattle.std.specs.Prelude.{length, take, Option, Some, None, IfOk, IfSome, IsSome};

@@ -1,5 +1,7 @@
 //! The sink's side of LCAS (G.7042): what it tells the source of the control packets that it read. Begin with
-//! `SinkTable`. Which packets are read, and which rows of payload are whole by them, is not said here.
+//! `SinkTable`; `rows_law`: further rows change no return packet of those before. Which packets are read, and
+//! which rows of payload are whole by them, is not said here. That the sink answers a change by RS-Ack as an
+//! echo of the change bit is this project's own.
 
 ghost use Rattle.std.specs.Prelude.{◌≡◌, ℕ, ◌+◌, ◌*◌, ◌<◌, ◌≤◌, [], ◌∷◌, ◌++◌, List, length, not, if◌then◌else◌};
 ghost use Rattle.std.specs.Prelude.{Option};

@@ -1,5 +1,5 @@
-//! Tests of source and sink by their calls: their tables by worked steps, and their terminals by worked frames and
-//! groups. Nothing is here but tests. Begin with `source_table`, whose first steps are those of one line.
+//! Tests of source and sink by their calls: their tables by worked steps, and their terminals by worked frames
+//! and groups. Nothing is here but tests. Begin with `source_table`, whose first steps are those of one line.
 #![tactic(auto)]
 
 #[cfg(test)]

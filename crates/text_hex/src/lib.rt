@@ -1,4 +1,4 @@
-//! Octets to hexadecimal text and back, by loops that a compiler can make vectors of: for long lines, where
+//! Octets to hexadecimal text and back, by loops that a compiler can make vectors of: for long lines, of which
 //! the crate `hex` takes several times as long. What a text says is as that crate has it, in either case of
 //! letters. It tells no wrong digit's place. Begin with `encode` and `decode_into`.
 #![tactic(auto)]

@@ -1,7 +1,8 @@
-//! Lines of text for every command that reads them: lines and their words, numbers within a range, hexadecimal digits,
-//! and what can be wrong with a line. `Language` of the specs is a language of lines as plain data: what a text says in
-//! it, or its first fault by number, computes; which line that is stands in laws. Which words a line may have isn't
-//! known here. Begin with `next_line`.
+//! Lines of text for every command that reads them: lines and their words, numbers within a range, hexadecimal
+//! digits, and what can be wrong with a line. `Language` of the specs is a language of lines as plain data:
+//! what a text says in it, or its first fault by number, computes (`said_by`). Which line that is stands in the
+//! laws of each language, by `first_fault` and `all_said` of proofs/. Which words a line may have isn't known
+//! here. Begin with `next_line`, and with `number_within` and `octets_within` for what a word says.
 #![tactic(auto)]
 
 mod fault;

@@ -1,5 +1,5 @@
-//! Tests of the edge, of scripts, of walks by single events, and of a group for a lock. Nothing is here but tests.
-//! Begin with `walks`, whose events stand in `courses`.
+//! Tests of the edge, of scripts, of walks by single events, and of a group for a lock. Nothing is here but
+//! tests. Begin with `walks`, whose events stand in `courses`.
 #![tactic(auto)]
 
 #[cfg(test)]

@@ -1,8 +1,9 @@
-//! What became of each frame of a session, found while its rows come: where the pieces of accepted frames
-//! begin and end, which rows are whole and why others aren't, and what is confirmed first after each break.
-//! It is told of each accepted frame, of the active lines under each packet, of the place that the stream has
-//! reached, and of each taken row; it holds no octet of a frame, no row and nothing of a walk. Begin with
-//! `fate`, and with the three that it asks: `Ruler`, `Packets` and `Segments`.
+//! What became of each frame of a session, found while its rows come: the places at which the pieces of
+//! accepted frames begin and end, which rows are whole and why others aren't, and what is confirmed first after
+//! each break. It is told of each accepted frame, of the active lines under each packet, of the place that the
+//! stream has reached, and of each taken row; it holds no octet of a frame, no row and nothing of a walk. At
+//! want of memory nothing changes. Begin with `fate`, and with the three that it asks: `Ruler`, `Packets` and
+//! `Segments`.
 
 mod cause;
 mod frame_fate;

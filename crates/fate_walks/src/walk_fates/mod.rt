@@ -1,6 +1,7 @@
 //! What became of each frame of a walk: it is seen after each turn what packets and rows came of it
-//! (`see_since`), then where the pieces of its accepted frames lie (`place_frames`), and then the text is
-//! written (`write_fates`). No turn is made here. Begin with `SeenWalk`.
+//! (`see_since`), then the places of its accepted frames are found (`place_frames`), and then the text is
+//! written (`write_fates`), or a prefix of it if a write fails. `accepted_fate` says what became of one frame.
+//! No turn is made here. Begin with `SeenWalk`.
 
 mod lines;
 mod places;

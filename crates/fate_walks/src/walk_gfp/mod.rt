@@ -1,6 +1,7 @@
 //! The GFP frames of a walk's client, as the source sent them, are written as a capture: each accepted frame
-//! that the taken rows carry, with the row of its last octet. No turn is made here, and no frame is copied.
-//! Begin with `write_gfp`.
+//! that the taken rows carry, with the row of its last octet, or a prefix of that if a write fails. No turn is
+//! made here, and no frame is copied. Begin with `write_gfp`; `carried_law` says which frames these are, and
+//! that their headers are the stream's.
 
 ghost use Rattle.std.specs.Prelude.{◌≡◌, List, map, length, take, drop};
 ghost use Rattle.std.specs.List.{Contains};

@@ -1,7 +1,8 @@
-//! Clients that share a stream by channel numbers: what a text says of channels, frames and cuts, and the lines of the
-//! frames that get through. The language is a definition that computes, `plan_of`: lines, words, and for each line the
-//! first fault that it has or what it adds to the lines before it; the reader gives just that, in one pass. How frames
-//! are queued, sent and received is in `gfp_linear`. Begin with `read_plan` and `ChannelRun`.
+//! Clients that share a stream by channel numbers: what a text says of channels, frames and cuts, and the lines
+//! of the frames that get through. The language is a definition that computes, `plan_of`: lines, words, and for
+//! each line the first fault that it has or what it adds to the lines before it; the reader gives just that, in
+//! one pass. How frames are queued, sent and received is in `gfp_linear`. Begin with `read_plan` and
+//! `ChannelRun`; `plan_law` says what of each channel is carried and delivered.
 
 ghost use Rattle.std.specs.Prelude.{◌≡◌, ◌↔◌, ℕ, List, [], length, take, Err};
 ghost use Rattle.std.specs.Str.Lines.{lines};

@@ -1,7 +1,8 @@
-//! Client frames with a frame check sequence (FCS) behind them, as a stream with noise has them: the FCS as a number,
-//! the encoder that writes their stream, and the receiver, which corrects core headers with one wrong bit. What a frame
-//! is on the stream, and what comes of one, stands in gfp_model's `specs/fcs_model/Fcs.antt`; which frames get through flipped
-//! bits, in `flip_law`. Begin with `FcsEncoder` and `FcsDelineator`.
+//! Client frames with a frame check sequence (FCS) after them, as a stream with noise has them: the FCS as a
+//! number, the encoder that writes their stream, and the receiver, which corrects core headers with one wrong
+//! bit. What a frame is on the stream, and what comes of one, stands in gfp_model's `specs/fcs_model/Fcs.antt`;
+//! which frames get through in spite of bit errors, in `flip_law`. Begin with `FcsEncoder` and `FcsDelineator`,
+//! which takes a stream as one first segment.
 
 mod check;
 mod delineator;

@@ -1,8 +1,8 @@
-//! Frames with an FCS in a stream of which bits are turned over: what a text says of frames and flips, and
-//! the lines of the frames that get through. The language is a definition that computes, `noise_of`: lines,
-//! words, and for each line the first fault that it has or what it adds to the lines before it; the reader
-//! gives just that, in one pass. How frames are sent and received is in `gfp_fcs`. Begin with `read_noise`
-//! and `NoiseRun`.
+//! Frames with an FCS in a stream with bit errors: what a text says of frames and errors, and the lines of the
+//! frames that get through. The language is a definition that computes, `noise_of`: lines, words, and for each
+//! line the first fault that it has or what it adds to the lines before it; the reader gives just that, in one
+//! pass. How frames are sent and received is in `gfp_fcs`. Begin with `read_noise` and `NoiseRun`; `noise_law`
+//! says which frames are delivered if errors are single.
 
 ghost use Rattle.std.specs.Prelude.{◌≡◌, ◌↔◌, ℕ, List, Err};
 ghost use Rattle.gfp_noise.specs.declared.noise_link.draft.Noise.{Noise};

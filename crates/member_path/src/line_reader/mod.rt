@@ -1,7 +1,8 @@
 //! What the cells of a line say of its numbers (G.707): of each number that they decide whether it is whole,
-//! and then its container. It knows one line; rows over all lines are not made here. Begin with `LineReader`,
-//! which keeps the container itself. What it keeps besides is `LineNumbers`, for one who has a place for the
-//! container of each line, so that a payload is copied once, or, where the containers lie in boxes, never.
+//! and then its container. It knows one line; rows over all lines are not made here. Begin with `LineNumbers`,
+//! for one who has a place for the container of each line, so that a payload is copied once, or, if the
+//! containers lie in boxes, never. `LineReader` is the same with the container kept, and only tests use it. How
+//! numbers are decided is this project's own: `law_line` says that they are right.
 
 mod numbers;
 mod reader;

@@ -1,6 +1,6 @@
 //! Realignment: the rows of a group, number by number over all its lines, and the control packets that its
-//! lines carry (G.707, G.7042). Whether a row is whole, and what it gives, is not said here. Begin with
-//! `RowGather`.
+//! lines carry (G.707, G.7042). A row comes exactly if each line decides it, and else the least line is told
+//! that doesn't. Whether a row is whole, and what it gives, is not said here. Begin with `RowGather`.
 
 mod gather;
 mod line;

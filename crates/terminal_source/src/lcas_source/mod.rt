@@ -1,7 +1,7 @@
 //! The source's side of LCAS (G.7042): which lines of a group are members, and what the source tells of each.
 //! Begin with `SourceTable`. It makes one decision step after the other; when a step is made, and what a line
-//! carries, is not said here. The rules by which a line is added, removed, passed over and brought forward
-//! are this project's own.
+//! carries, is not said here. `course_law`: the table after these steps is that of a scenario. The rules by
+//! which a line is added, removed, passed over and brought forward are this project's own.
 
 ghost use Rattle.std.specs.Prelude.{◌≡◌, ℕ, ◌+◌, ◌-◌, ◌<◌, [], ◌∷◌, ◌++◌, true, List, Option, length};
 ghost use Rattle.base_remainder.specs.Bits.{xor};

@@ -1,7 +1,9 @@
-//! Captures of the classic form (pcap) as lists of octets: a head, and then records of frames with their
-//! times. One is read in place, whole or up to its first fault; what it says is written as the `frame` lines
-//! of a script; and one is written, of Ethernet frames or of the GFP frames that hold them. Captures of the newer
-//! form (pcapng) are refused, and no check of a frame is tested. Begin with `read_capture`.
+//! Captures of the classic form (pcap) as lists of octets: a head, and then records of frames with their times.
+//! One is read in place, whole or up to its first fault; what it says is written as the `frame` lines of a
+//! script; and one is written, of Ethernet frames or of the GFP frames that hold them. Captures of the newer
+//! form (pcapng) are refused, and no check of a frame is tested. Begin with `read_capture`, and for writing
+//! with `CaptureOut`. `written_law`: what is written of frames whose rows never fall is read as these frames;
+//! `gfp_law`: what a GFP frame is in a core header and an area.
 
 ghost use Rattle.std.specs.Prelude.{◌≡◌, ℕ, List, [], ◌∷◌, ◌++◌, length, take, drop, Ok, Err};
 ghost use Rattle.law_model.specs.frames.Core.{core_header};

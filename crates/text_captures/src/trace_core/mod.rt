@@ -1,7 +1,7 @@
 //! Finds the control packets of a line in its H4 octets, octet by octet, and puts together the lines of a
 //! decoding, of a trace and of a VC-4. Begin with `H4Decoder` and `trace_line`; `packets_law` says that the
-//! decoder's definition is what is worded of packets. How a packet is read is not said here, and nothing is
-//! written to an output.
+//! decoder's definition is what is said of packets in words, and that more octets change none. How a packet is
+//! read is not said here, and nothing is written to an output.
 
 ghost use Rattle.std.specs.Prelude.{◌≡◌, ℕ, ◌+◌, ◌<◌, List, [], ◌∷◌, ◌++◌};
 ghost use Rattle.std.specs.Option.{option_to_list};

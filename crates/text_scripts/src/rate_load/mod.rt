@@ -1,6 +1,6 @@
-//! The lines of a script for a client that sends frames of one length at a rate, drawn from a number: when
-//! each is due, and which octets it has. The text is written line by line, and how long it is can be known
-//! before. Nothing is run here. Begin with `RateLoad`.
+//! The lines of a script for a client that sends frames of one length at a rate, drawn from a number: when each
+//! is due, and which octets it has. The text is written line by line, or a prefix of it if a write fails, and
+//! `is_too_long` tells before whether a script may be that long. Nothing is run here. Begin with `RateLoad`.
 
 ghost use Rattle.std.specs.Prelude.{◌↔◌, ◌<◌, ℕ};
 ghost use Rattle.text_scripts.specs.declared.rate_load.lines.RateLoad.{RateLoad};

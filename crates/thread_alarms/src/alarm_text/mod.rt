@@ -1,5 +1,5 @@
-//! Alarms as lines of text, line by line of the group. Where alarms come from, and where their lines go, is not its
-//! matter. Begin with `alarm_line`, and then `write_alarms`.
+//! Alarms as lines of text, those of line 0 first, of each line in their order. From what alarms come, and to
+//! what output their lines go, is not its matter. Begin with `alarm_line`, and then `write_alarms`.
 
 mod text;
 mod write;

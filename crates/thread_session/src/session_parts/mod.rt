@@ -1,7 +1,9 @@
-//! The parts of a session that need no group: the workers of lines are dealt to line threads and come back;
-//! the sink is a duty of the calling thread; threads come back with evidence that their flags were stored,
-//! and sleep at their bells while they can't go on; and the ends of rings are laid beside each other at the
-//! end. Begin with `start_shares`, `Flag` and `Duty`.
+//! The parts of a session that need no group: the workers of lines are dealt to line threads and come back; the
+//! sink is a duty of the calling thread; threads come back with evidence that their flags were stored, and
+//! sleep at their bells while they can't go on; and the ends of rings are laid beside each other at the end.
+//! Begin with `start_shares`, `Flag` and `Duty`. `gathered_law` and `ended_law`: once all lines have come to
+//! their end, containers, cells, frames and return cells are the session's. A `Bell` has no clause: it only
+//! lets threads sleep.
 
 mod bell;
 mod duty;

@@ -1,7 +1,8 @@
-//! A session of a group on threads: the client, the operator, the source and the lines each by itself, and
-//! the sink on the thread that calls. Whatever the order in which they go on, what has come of it in the end
-//! is what the script says. It promises nothing of when that is, nor that it ends. Begin with `run_session`,
-//! and with `run_watched` where alarms are wanted too.
+//! A session of a group on threads: the client, the operator, the source and the lines each by itself, and the
+//! sink on the thread that calls. Whatever the order in which they go on, what has come of it in the end is
+//! what the script says: the records `IsEnded` and `IsGroupEnded` of named facts. At want of memory nothing is
+//! said. It promises nothing of when that is, nor that it ends. Begin with `run_session`, and with
+//! `run_watched` if alarms are wanted too.
 
 mod beside;
 mod finish;

@@ -1,6 +1,6 @@
 //! What a walk of a session moves between its two terminals: lines with their receive rings, and the return
-//! ring. Begin with `WalkLine` and `ReturnRing`. In which order events come, and what the terminals make of
-//! it, is not said here.
+//! ring. Begin with `WalkLine`, whose ring holds the cells of the path that weren't popped, and with
+//! `ReturnRing`. In which order events come, and what the terminals make of it, is not said here.
 
 mod line;
 mod path;
