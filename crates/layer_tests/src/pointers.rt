@@ -2,12 +2,12 @@
 
 ghost use Rattle.std.specs.Prelude.{◌≤◌};
 
+use member_au4::au4_link::vc_line;
 use member_au4::au4_pointer::Action::{Down, Keep, New, Up};
 use member_au4::au4_pointer::{
     Action, AuFrame, PointerFault, PointerSink, PointerSource, PointerWordFault, VC, VcFeed, VcOut,
     relay,
 };
-use text_captures::trace_core::vc_line;
 
 /// VC-4s with their number in the first eight octets, and behind them octets that rise from it.
 #[derive(Drop)]

@@ -2,5 +2,6 @@ pub mod Lines
 pub mod Helps
 pub mod Link
 pub mod Vcs
+pub mod VcText
 pub mod Text
 pub mod Drafts

@@ -2,4 +2,3 @@ pub mod Decoder
 pub mod Wording
 pub mod Worked
 pub mod StepText
-pub mod VcText

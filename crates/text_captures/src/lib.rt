@@ -5,7 +5,7 @@
 //! - `capture_file`: captures of the classic form (pcap) as lists of octets: a head, and then records of
 //!   frames with their times.
 //! - `trace_core`: finds the control packets of a line in its H4 octets, octet by octet, and puts together the
-//!   lines of a decoding, of a trace and of a VC-4.
+//!   lines of a decoding and of a trace.
 #![tactic(auto)]
 
 pub mod capture_file;

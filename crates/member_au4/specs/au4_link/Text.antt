@@ -4,7 +4,7 @@ use Rattle.std.specs.List.{flat_map}
 use Rattle.base_io.specs.Start.{Start}
 use Rattle.text_got.specs.declared.got.GotLines.{GotLines}
 use Rattle.text_got.specs.Told.{HasText}
-use Rattle.text_captures.specs.trace_core.VcText.{vc_text}
+use Rattle.member_au4.specs.au4_link.VcText.{vc_text}
 use Rattle.member_au4.specs.declared.au4_pointer.Action.{Action}
 use Rattle.member_au4.specs.declared.au4_pointer.Action.TheVariants.{Keep, Up, Down, New}
 use Rattle.member_au4.specs.au4_pointer.Part.{Part, begins, ends, begun, next_part, first_part, part_after, whole}

@@ -2,9 +2,9 @@
 ghost use Rattle.std.specs.Prelude.{◌≡◌, ◌≤◌, length, take};
 ghost use Rattle.member_au4.specs.au4_link.Text.{end_text};
 
+use crate::au4_link::vc::vc_line;
 use crate::au4_pointer::VcOut;
 use base_io::ByteSink;
-use text_captures::trace_core::vc_line;
 use text_got::GotLines;
 use text_report::LineCursor;
 

@@ -20,6 +20,7 @@ mod lines;
 mod read;
 mod run;
 mod statement;
+mod vc;
 
 pub use draft::{ActionList, Link};
 pub use fault::LineFault;
@@ -27,6 +28,7 @@ pub use help::link_help;
 pub use keyword::Keyword;
 pub use read::{LinkFault, read_link};
 pub use run::write_link;
+pub use vc::vc_line;
 
 /// A text has the fault of a line exactly where that line is faulty after lines none of which is, or where no
 /// line is faulty and one that has to be there isn't.

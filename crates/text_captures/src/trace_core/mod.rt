@@ -1,7 +1,7 @@
 //! Finds the control packets of a line in its H4 octets, octet by octet, and puts together the lines of a
-//! decoding, of a trace and of a VC-4. Begin with `H4Decoder` and `trace_line`; `packets_law` says that the
-//! decoder's definition is what is said of packets in words, and that more octets change none. How a packet is
-//! read is not said here, and nothing is written to an output.
+//! decoding and of a trace. Begin with `H4Decoder` and `trace_line`; `packets_law` says that the decoder's
+//! definition is what is said of packets in words, and that more octets change none. How a packet is read is
+//! not said here, and nothing is written to an output.
 
 ghost use Rattle.std.specs.Prelude.{◌≡◌, ℕ, ◌+◌, ◌<◌, List, [], ◌∷◌, ◌++◌};
 ghost use Rattle.std.specs.Option.{option_to_list};
@@ -11,14 +11,12 @@ ghost use Rattle.text_captures.specs.trace_core.Wording.{AreWorded, AreOnly, Pac
 ghost use Rattle.text_captures.specs.trace_core.Worked.{AreRead, IsRefused};
 
 mod lines;
-mod vc;
 
 use base_nibbles::{nibble_hi, nibble_lo};
 pub use lines::{FOUND_ROOM, TRACE_ROOM, end_line, found_line, trace_line};
 use member_path::h4_multiframe::{MfiLock, Place};
 use member_rows::lcas_packet::{Packet, PacketFault, read};
 use std::marker::Model;
-pub use vc::vc_line;
 
 /// Finds the control packets in the H4 octets of a line, all of whose cells are good.
 #[derive(Clone, Copy)]

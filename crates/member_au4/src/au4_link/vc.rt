@@ -2,7 +2,7 @@
 ghost use Rattle.std.specs.Prelude.{◌≡◌, ◌≤◌, length, take};
 ghost use Rattle.std.specs.List.{sum};
 ghost use Rattle.std.specs.Int.{w64, from_be_bytes};
-ghost use Rattle.text_captures.specs.trace_core.VcText.{vc_text};
+ghost use Rattle.member_au4.specs.au4_link.VcText.{vc_text};
 
 use text_report::LineCursor;
 
