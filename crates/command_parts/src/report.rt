@@ -1,13 +1,13 @@
 //! The end of a report, behind the lines of delivered frames.
 ghost use Rattle.std.specs.Prelude.{◌≡◌, ℕ, List, ◌++◌};
-ghost use Rattle.text_report.specs.Report.{total_text};
-ghost use Rattle.law_walk.specs.Report.{refused_texts};
+ghost use Rattle.text_report.specs.Report.{refused_texts, total_text};
 ghost use Rattle.base_io.specs.Start.{Start};
 ghost use Rattle.text_got.specs.Told.{HasText};
 
 use base_io::ByteSink;
+use law_model::{Refusal, Totals};
 use text_got::GotLines;
-use text_report::{REFUSED_ROOM, Refusal, TOTAL_ROOM, Totals, refused_line, total_line};
+use text_report::{REFUSED_ROOM, TOTAL_ROOM, refused_line, total_line};
 
 /// Writes the lines of refused items.
 fn write_refusals<K: ByteSink>(refusals: &[(u32, Refusal)], got: &mut GotLines<K>)

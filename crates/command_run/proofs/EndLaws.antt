@@ -6,14 +6,14 @@ use Rattle.base_io.proofs.Parts.{Appends-then, AppendsPart-then, AppendsPart-lon
 use Rattle.law_model.specs.declared.script.Script.{Script}
 use Rattle.law_model.specs.session.Leg.{leg_of}
 use Rattle.text_scripts.specs.script_read.Script.{script_of}
-use Rattle.text_report.specs.declared.report.Refusal.{Refusal}
-use Rattle.text_report.specs.declared.report.Totals.{Totals}
-use Rattle.text_report.specs.Report.{got_texts, total_text}
+use Rattle.law_model.specs.declared.refusal.Refusal.{Refusal}
+use Rattle.law_model.specs.declared.totals.Totals.{Totals}
+use Rattle.text_report.specs.Report.{got_texts, refused_texts, total_text}
 use Rattle.base_io.specs.Start.{Start}
 use Rattle.law_walk.specs.Delivered.{delivered_of}
 use Rattle.law_walk.specs.Landed.{refusals_among, totals_among}
 use Rattle.law_walk.specs.Promise.{numbered}
-use Rattle.law_walk.specs.Report.{refused_texts, final_report}
+use Rattle.law_walk.specs.Report.{final_report}
 use Rattle.text_got.specs.declared.got.GotLines.{GotLines}
 use Rattle.text_got.specs.Told.{HasText}
 use Rattle.text_scripts.specs.declared.script_read.fault.ScriptFault.{ScriptFault}

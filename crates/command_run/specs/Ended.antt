@@ -2,10 +2,9 @@
 use Rattle.std.specs.Prelude.{ℕ, List, ◌++◌, Option, Some, None}
 use Rattle.law_model.specs.declared.script.Script.{Script}
 use Rattle.law_model.specs.session.Leg.{leg_of}
-use Rattle.text_report.specs.Report.{total_text}
+use Rattle.text_report.specs.Report.{refused_texts, total_text}
 use Rattle.law_walk.specs.Landed.{refusals_among, totals_among}
 use Rattle.law_walk.specs.Promise.{numbered}
-use Rattle.law_walk.specs.Report.{refused_texts}
 use Rattle.thread_session.specs.session_parts.Session.{IsEnded}
 use Rattle.thread_session.specs.declared.session_run.session.Ended.{Ended}
 use Rattle.command_parts.specs.Ends.{Lent}

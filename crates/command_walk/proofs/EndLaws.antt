@@ -5,14 +5,14 @@ use Rattle.base_io.proofs.Parts.{Appends-none}
 use Rattle.law_model.specs.declared.script.Script.{Script}
 use Rattle.law_model.specs.session.Leg.{leg_of}
 use Rattle.law_model.specs.session.Counts.{Counts, begin}
-use Rattle.text_report.specs.Report.{got_texts, total_text}
+use Rattle.text_report.specs.Report.{got_texts, refused_texts, total_text}
 use Rattle.base_io.specs.Start.{Start}
 use Rattle.text_got.specs.declared.got.GotLines.{GotLines}
 use Rattle.text_got.specs.Told.{GivesUp, HasText, has_failed, name_of, start_at}
 use Rattle.law_walk.specs.Walk.{walk_plan}
 use Rattle.law_walk.specs.Delivered.{delivered_of}
 use Rattle.law_walk.specs.Landed.{refusals_of, totals_of}
-use Rattle.law_walk.specs.Report.{refused_texts, report_of}
+use Rattle.law_walk.specs.Report.{report_of}
 use Rattle.walk_engine.specs.walk_core.Moved.{Walked}
 use Rattle.command_walk.specs.Ended.{StopsBoth}
 use Rattle.law_headline.specs.Texts.{counts_in, walk_text}

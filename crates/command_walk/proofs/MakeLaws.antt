@@ -12,7 +12,7 @@ use Rattle.law_model.specs.rows.SessionStream.{rows_of}
 use Rattle.law_model.specs.frames.Segment.{segments_on}
 use Rattle.law_model.specs.frames.Run.{delineate_within}
 use Rattle.law_model.specs.frames.Hunt.{hunt_within}
-use Rattle.text_report.specs.declared.report.Totals.{Totals}
+use Rattle.law_model.specs.declared.totals.Totals.{Totals}
 use Rattle.text_scripts.specs.make_load.Load.{load}
 use Rattle.law_walk.specs.Walk.{walk_plan}
 use Rattle.law_walk.specs.Landed.{totals_of}

@@ -17,7 +17,7 @@ use Rattle.law_model.specs.source.Table.{Table}
 use Rattle.law_model.specs.source.Source.{after}
 use Rattle.law_model.specs.session.Counts.{Plan, Counts, step, run, run_lines, begin, round}
 use Rattle.law_progress.proofs.ReachLaws.{run-append, walked-reached}
-use Rattle.text_report.specs.Report.{got_text, got_texts, total_text}
+use Rattle.text_report.specs.Report.{got_text, got_texts, refused_texts, total_text}
 use Rattle.base_io.specs.Start.{Start}
 use Rattle.text_captures.proofs.TraceCoreLaws.StepTextLaws.{texts-more}
 use Rattle.text_got.specs.Told.{AppendsSome, GivesUp}
@@ -25,7 +25,6 @@ use Rattle.law_walk.specs.Delivered.{delivered_of}
 use Rattle.law_walk.specs.Walk.{session_of, walk_plan, IsWalked}
 use Rattle.law_walk.specs.Step.{last_packet, cell_taken, table_in}
 use Rattle.law_walk.specs.Landed.{refusals_of, totals_of}
-use Rattle.law_walk.specs.Report.{refused_texts}
 use Rattle.law_walk.proofs.FrameLaws.{frames-grow}
 use Rattle.law_walk.proofs.PlanLaws.{has-paths, sound-walks}
 use Rattle.law_walk.proofs.WalkLaws.{begins-walked}

@@ -10,7 +10,7 @@ use Rattle.law_model.specs.frames.Segment.{StreamRow, Segment, segments, octets_
 use Rattle.law_model.specs.rows.SessionStream.{rows_of}
 use Rattle.law_model.specs.frames.Loss.{Extent, is_carried, lies_in, is_frame_lost}
 use Rattle.law_model.specs.session.Valid.{IsSound}
-use Rattle.text_report.specs.Report.{got_texts, total_text}
+use Rattle.text_report.specs.Report.{got_texts, refused_texts, total_text}
 use Rattle.law_loss.specs.Carried.{IsUndamaged}
 use Rattle.law_loss.proofs.CutLaws.{Stands-all}
 use Rattle.law_loss.proofs.WayLaws.{way_of, lost_of}
@@ -22,7 +22,7 @@ use Rattle.law_walk.specs.Delivered.{session_rows}
 use Rattle.law_walk.specs.Landed.{Numbered, refusals_among, totals_among}
 use Rattle.law_walk.specs.Promise.{session_pieces, session_extents, place_after, HasNoFailure, AreWholeBefore}
 use Rattle.law_walk.specs.Promise.{ConfirmsTrue}
-use Rattle.law_walk.specs.Report.{refused_texts, report_among}
+use Rattle.law_walk.specs.Report.{report_among}
 use Rattle.law_walk.proofs.PlanLaws.{sound-walks}
 use Rattle.law_walk.proofs.PromiseLaws.{frames-kept, frames-known}
 use Rattle.law_walk.proofs.WholeLaws.{whole-starts}

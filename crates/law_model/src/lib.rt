@@ -1,23 +1,27 @@
-//! The definitions that the contracts of a session speak of, and the types that they name. There is no code
-//! here but the nibbles of a packet. Begin with `specs/session/Scenario.antt`: the other definitions of a
-//! session are recursions over a scenario. proofs/ has lemmas of headers, areas, scrambling, streams, packets
-//! and paths that the proofs of other crates use.
+//! The definitions that the contracts of a session speak of, and the types that they name; `FrameOut` is what a
+//! session gives its frames to. There is no code here but the nibbles of a packet. Begin with
+//! `specs/session/Scenario.antt`: the other definitions of a session are recursions over a scenario. proofs/ has
+//! lemmas of headers, areas, scrambling, streams, packets and paths that the proofs of other crates use.
 #![tactic(auto)]
 
+mod out;
 mod packet;
 mod refusal;
 mod script;
 mod table;
+mod totals;
 mod walk;
 mod window;
 
+pub use out::FrameOut;
 pub use packet::{Packet, PacketFault};
-pub use refusal::{AcceptFault, CommandFault};
+pub use refusal::{AcceptFault, CommandFault, Refusal};
 pub use script::{
     Config, Delays, EventLine, EventList, Item, ItemKind, ItemList, LostList, Octets, Script,
     WindowList, WindowLists,
 };
 pub use table::{Command, Member, SinkState, SourceState, Standing};
+pub use totals::Totals;
 pub use walk::{Event, StallCause};
 pub use window::{Carried, Window};
 

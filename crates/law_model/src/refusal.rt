@@ -21,3 +21,12 @@ pub enum CommandFault {
     /// `pending` accepted commands aren't carried out, as many as may.
     TooManyPending { pending: u8 },
 }
+
+/// Why an item of a script is refused.
+#[derive(Clone, Copy, Debug, PartialEq, Eq)]
+pub enum Refusal {
+    /// A frame isn't accepted.
+    Frame(AcceptFault),
+    /// A command isn't accepted.
+    Command(CommandFault),
+}

@@ -23,8 +23,8 @@ use Rattle.law_model.specs.source.Journal.{accepted_offers, offers_before, frame
 use Rattle.law_model.specs.session.Valid.{IsItem, IsSound}
 use Rattle.law_session.specs.Landing.{landed, is_come}
 use Rattle.law_session.proofs.LandingLaws.{comes_apart, offers_land}
-use Rattle.text_report.specs.declared.report.Refusal.{Refusal}
-use Rattle.text_report.specs.declared.report.Refusal.TheVariants.{Frame as frame_fault}
+use Rattle.law_model.specs.declared.refusal.Refusal.{Refusal}
+use Rattle.law_model.specs.declared.refusal.Refusal.TheVariants.{Frame as frame_fault}
 use Rattle.law_loss.proofs.FilterLaws.{filter-skip, filter-keep}
 use Rattle.law_walk.specs.Landed.{Numbered, stream_met, kind_refusal, refusal_at}
 use Rattle.law_walk.specs.Promise.{numbered, frame_by, accepted_frames}

@@ -16,7 +16,7 @@ use Rattle.law_model.specs.session.Counts.{due_of, dues_of, frame_dues, command_
 use Rattle.law_model.specs.session.Valid.{IsItem, IsSound}
 use Rattle.law_line.proofs.ListLaws.{slice_get-inside}
 use Rattle.law_progress.proofs.MoveLaws.{rows-ticks}
-use Rattle.text_report.specs.declared.report.Refusal.{Refusal}
+use Rattle.law_model.specs.declared.refusal.Refusal.{Refusal}
 use Rattle.law_walk.specs.Walk.{walk_plan, CanWalk, IsWalked}
 use Rattle.law_walk.specs.Landed.{Numbered, is_client, landed_from, landed_items, refusal_at, is_accepted_frame}
 use Rattle.law_walk.specs.Landed.{totals_of}

@@ -13,8 +13,8 @@ use Rattle.law_model.specs.declared.script.ItemKind.TheVariants.{Frame, Add, Rem
 use Rattle.law_model.specs.session.Leg.{Leg}
 use Rattle.law_model.specs.session.Scenario.{DueCommand, DueFrame, order_of, offer_of, orders_of, offers_of}
 use Rattle.law_model.specs.session.Counts.{Counts}
-use Rattle.text_report.specs.declared.report.Refusal.{Refusal}
-use Rattle.text_report.specs.declared.report.Totals.{Totals}
+use Rattle.law_model.specs.declared.refusal.Refusal.{Refusal}
+use Rattle.law_model.specs.declared.totals.Totals.{Totals}
 use Rattle.law_walk.specs.Delivered.{delivered_of}
 use Rattle.law_walk.specs.Landed.{Numbered, is_client, with_if, landed_from, landed_items, IsOfferAt, IsOrderAt}
 use Rattle.law_walk.specs.Landed.{refusal_at, refused_by, refusals_among, refusals_of, IsPlaced, is_accepted_frame}

@@ -14,7 +14,7 @@ use Rattle.law_model.specs.source.Client.{Stream, frame_refusal, offered, stream
 use Rattle.law_model.specs.source.Back.{session_cells}
 use Rattle.law_model.specs.rows.Sent.{frame_of}
 use Rattle.law_model.specs.session.Counts.{Counts, used_in}
-use Rattle.text_report.specs.declared.report.Refusal.TheVariants.{Frame as frame_fault, Command as command_fault}
+use Rattle.law_model.specs.declared.refusal.Refusal.TheVariants.{Frame as frame_fault, Command as command_fault}
 use Rattle.law_session.proofs.SessionLaws.{Agree-first}
 use Rattle.law_terminal.proofs.CourseLaws.{session-agree}
 use Rattle.law_walk.specs.Walk.{CanWalk, IsWalked}

@@ -16,9 +16,9 @@ use Rattle.law_model.specs.source.Table.{Told}
 use Rattle.law_model.specs.source.Source.{Source, after, asked_all, refusal}
 use Rattle.law_model.specs.source.Client.{Stream, frame_refusal, offered, stream_before}
 use Rattle.law_model.specs.session.Counts.{Counts, used_in}
-use Rattle.text_report.specs.declared.report.Refusal.{Refusal}
-use Rattle.text_report.specs.declared.report.Refusal.TheVariants.{Frame as frame_fault, Command as command_fault}
-use Rattle.text_report.specs.declared.report.Totals.{Totals}
+use Rattle.law_model.specs.declared.refusal.Refusal.{Refusal}
+use Rattle.law_model.specs.declared.refusal.Refusal.TheVariants.{Frame as frame_fault, Command as command_fault}
+use Rattle.law_model.specs.declared.totals.Totals.{Totals}
 use Rattle.law_walk.specs.Walk.{session_of, told_first}
 use Rattle.law_walk.specs.Delivered.{delivered_of}
 

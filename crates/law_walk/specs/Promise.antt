@@ -14,7 +14,7 @@ use Rattle.law_model.specs.rows.SessionRows.{is_whole_row}
 use Rattle.law_model.specs.session.Counts.{Counts, bound, drain}
 use Rattle.law_model.specs.frames.Loss.{Extent, extents, TrueStarts}
 use Rattle.law_session.specs.Use.{IsInUse}
-use Rattle.text_report.specs.declared.report.Refusal.{Refusal}
+use Rattle.law_model.specs.declared.refusal.Refusal.{Refusal}
 use Rattle.law_walk.specs.Walk.{session_of, walk_plan}
 use Rattle.law_walk.specs.Delivered.{session_rows}
 use Rattle.law_walk.specs.Landed.{Numbered, refusal_at}

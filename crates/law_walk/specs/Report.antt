@@ -1,17 +1,12 @@
 -- The report of a walk: a line for each frame that was delivered, one for each item that was refused, and a line of
 -- totals.
 use Rattle.std.specs.Prelude.{ℕ, List, ◌++◌}
-use Rattle.std.specs.List.{flat_map}
 use Rattle.law_model.specs.session.Leg.{Leg}
 use Rattle.law_model.specs.session.Counts.{Counts}
-use Rattle.text_report.specs.declared.report.Refusal.{Refusal}
-use Rattle.text_report.specs.Report.{got_texts, refused_text, total_text}
+use Rattle.text_report.specs.Report.{got_texts, refused_texts, total_text}
 use Rattle.law_walk.specs.Delivered.{delivered_of}
 use Rattle.law_walk.specs.Landed.{Numbered, landed_items, refusals_among, totals_among}
 use Rattle.law_walk.specs.Promise.{numbered}
-
-abbrev pub refused_texts : List (ℕ × Refusal) → List ℕ
-refused_texts refusals = flat_map (λ (refused : ℕ × Refusal). refused_text refused.0 refused.1) refusals
 
 -- after some ticks and rows, where these items have landed
 abbrev pub report_among : Leg → ℕ → ℕ → List Numbered → List ℕ

@@ -12,9 +12,9 @@ use Rattle.law_model.specs.session.Leg.{Leg}
 use Rattle.law_model.specs.session.Scenario.{scenario_by}
 use Rattle.law_model.specs.rows.SessionRows.{is_whole_row}
 use Rattle.law_model.specs.session.Counts.{Counts}
-use Rattle.text_report.specs.declared.report.Refusal.{Refusal}
-use Rattle.text_report.specs.declared.report.Refusal.TheVariants.{Frame as frame_fault, Command as command_fault}
-use Rattle.text_report.specs.declared.report.Totals.{Totals}
+use Rattle.law_model.specs.declared.refusal.Refusal.{Refusal}
+use Rattle.law_model.specs.declared.refusal.Refusal.TheVariants.{Frame as frame_fault, Command as command_fault}
+use Rattle.law_model.specs.declared.totals.Totals.{Totals}
 use Rattle.law_walk.specs.Walk.{session_of}
 use Rattle.law_model.specs.Limits.{vc3_size}
 

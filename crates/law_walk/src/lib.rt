@@ -18,7 +18,7 @@ ghost use Rattle.law_session.specs.Session.{AreWhole};
 ghost use Rattle.law_model.specs.declared.script.Item.{Item};
 ghost use Rattle.law_model.specs.declared.script.EventLine.{EventLine};
 ghost use Rattle.law_model.specs.session.Leg.{Leg};
-ghost use Rattle.text_report.specs.declared.report.Refusal.TheVariants.{Frame as frame_fault, Command as command_fault};
+ghost use Rattle.law_model.specs.declared.refusal.Refusal.TheVariants.{Frame as frame_fault, Command as command_fault};
 ghost use Rattle.law_model.specs.members.Path.{cells};
 ghost use Rattle.law_model.specs.members.Number.{verdict};
 ghost use Rattle.law_model.specs.session.Valid.{IsSound};

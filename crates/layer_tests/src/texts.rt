@@ -1,11 +1,9 @@
 //! Octets as hexadecimal digits there and back, and the lines of a report.
 
-use law_model::{AcceptFault, CommandFault};
+use law_model::{AcceptFault, CommandFault, Refusal, Totals};
 use std::alloc::Global;
 use text_hex::{decode_into, encode};
-use text_report::{
-    GOT_ROOM, REFUSED_ROOM, Refusal, TOTAL_ROOM, Totals, got_line, refused_line, total_line,
-};
+use text_report::{GOT_ROOM, REFUSED_ROOM, TOTAL_ROOM, got_line, refused_line, total_line};
 
 /// Whether a text is decoded to these octets behind one that was there; or is refused, where none are wanted, and
 /// leaves that one alone.

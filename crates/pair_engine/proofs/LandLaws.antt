@@ -10,7 +10,7 @@ use Rattle.law_model.specs.session.Scenario.{packets_in}
 use Rattle.law_model.specs.session.Counts.{Due, Plan, Counts, Step, dues_of, land_due, step}
 use Rattle.law_model.specs.session.Counts.{frame_dues, command_dues}
 use Rattle.std.specs.List.Sorted.{IsNonDecreasing}
-use Rattle.text_report.specs.declared.report.Refusal.{Refusal}
+use Rattle.law_model.specs.declared.refusal.Refusal.{Refusal}
 use Rattle.law_walk.specs.Walk.{walk_plan}
 use Rattle.terminal_group.specs.Landed.{Landed}
 use Rattle.terminal_group.proofs.BareLaws.{bare-dues}

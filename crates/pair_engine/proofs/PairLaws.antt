@@ -3,7 +3,7 @@ use Rattle.std.proofs.Common.{◌≡◌, ℕ, ◌<◌, length, Option, Some, Non
 use Rattle.law_model.specs.declared.script.Script.{Script}
 use Rattle.law_model.specs.declared.walk.StallCause.{StallCause}
 use Rattle.law_model.specs.session.Counts.{Counts, Step}
-use Rattle.text_report.specs.declared.report.Refusal.{Refusal}
+use Rattle.law_model.specs.declared.refusal.Refusal.{Refusal}
 use Rattle.law_walk.specs.Walk.{walk_plan}
 use Rattle.walk_engine.specs.declared.walk_core.moved.Moved.{Moved}
 use Rattle.law_pair.specs.declared.pair.Way.{Way}

@@ -9,7 +9,7 @@ use Rattle.law_model.specs.declared.walk.StallCause.TheVariants.{NotDue}
 use Rattle.law_model.specs.session.Counts.{Due, frame_due, command_due, frame_dues, command_dues, LinePath, LineCounts}
 use Rattle.law_model.specs.session.Counts.{Plan, Counts, pop_lines}
 use Rattle.law_model.specs.declared.script.Script.{Script}
-use Rattle.text_report.specs.declared.report.Refusal.{Refusal}
+use Rattle.law_model.specs.declared.refusal.Refusal.{Refusal}
 use Rattle.law_pair.specs.Pair.{IsPair}
 use Rattle.law_pair.specs.PairWalk.{IsPairWalked}
 use Rattle.law_pair.proofs.PairPlanLaws.{has-pair-plan, there-taken, back-taken}

@@ -6,7 +6,7 @@ use Rattle.law_model.specs.declared.walk.Event.TheVariants.{Accept, Command}
 use Rattle.law_model.specs.declared.walk.StallCause.{StallCause}
 use Rattle.law_model.specs.session.Leg.{Leg}
 use Rattle.law_model.specs.session.Counts.{Due, frame_due, command_due, Counts, dues_of}
-use Rattle.text_report.specs.declared.report.Refusal.{Refusal}
+use Rattle.law_model.specs.declared.refusal.Refusal.{Refusal}
 use Rattle.base_io.specs.Start.{Start}
 use Rattle.law_pair.specs.declared.pair.Way.{Way}
 use Rattle.law_pair.specs.declared.pair.Way.TheVariants.{There, Back}

@@ -6,7 +6,7 @@ use Rattle.law_model.specs.declared.script.Item.{Item}
 use Rattle.law_model.specs.session.Leg.{Leg}
 use Rattle.law_model.specs.session.Counts.{Due, Step, frame_due, command_due, frame_dues, command_dues, dues_of}
 use Rattle.terminal_group.specs.Landed.{Landed, next_number, due_at}
-use Rattle.text_report.specs.declared.report.Refusal.{Refusal}
+use Rattle.law_model.specs.declared.refusal.Refusal.{Refusal}
 use Rattle.law_walk.specs.Walk.{walk_plan}
 use Rattle.walk_engine.specs.declared.walk_core.moved.Moved.{Moved}
 use Rattle.walk_engine.specs.walk_core.Moved.{answer_by}

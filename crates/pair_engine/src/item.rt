@@ -10,9 +10,8 @@ ghost use Rattle.terminal_group.specs.Landed.{next_number, due_at};
 ghost use Rattle.walk_engine.specs.walk_core.Moved.{answer_by};
 ghost use Rattle.pair_engine.specs.Steps.{due_of_next, found_by, next_in, AreInOrder};
 
-use law_model::Script;
+use law_model::{Refusal, Script};
 use terminal_group::{ItemRef, Landing, handed};
-use text_report::Refusal;
 use walk_engine::walk_core::Moved;
 
 /// An item that lands next.

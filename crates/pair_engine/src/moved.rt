@@ -3,9 +3,8 @@
 ghost use Rattle.std.specs.Prelude.{◌≡◌};
 ghost use Rattle.pair_engine.specs.Moved.{moved_on};
 
-use law_model::StallCause;
+use law_model::{Refusal, StallCause};
 use law_pair::Way;
-use text_report::Refusal;
 use walk_engine::walk_core::Moved;
 
 /// What a step of a pair gave.

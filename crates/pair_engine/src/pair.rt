@@ -21,14 +21,12 @@ use crate::moved::{PairMoved, moved_on};
 use crate::pair_way::PairWay;
 use crate::tick::{take_row, tick_both, tick_stall};
 use base_cells::Container;
-use law_model::Script;
+use law_model::{FrameOut, Refusal, Script, Totals};
 use law_pair::{PairEvent, Way};
 use member_path::line_reader::CellRef;
 use std::alloc::{AllocError, Global};
 use std::marker::Model;
-use terminal_sink::sink_core::FrameOut;
 use terminal_source::lcas_source::SourceTable;
-use text_report::{Refusal, Totals};
 
 /// Two sessions, one each way, that tick together.
 pub struct Pair {

@@ -12,10 +12,10 @@ ghost use Rattle.pair_engine.specs.Ways.{AreBeside, IsPairWalk, leg_beside, pair
 
 use crate::pair_way::PairWay;
 use base_cells::BackCell;
-use law_model::StallCause;
+use law_model::{FrameOut, StallCause};
 use law_pair::Way;
 use member_rows::lcas_packet::Packet;
-use terminal_sink::sink_core::{FrameOut, TakeAnswer};
+use terminal_sink::sink_core::TakeAnswer;
 use walk_engine::walk_core::Moved;
 
 /// Why no frame is made, and in which way: a cause of the way there comes before the same one of the way back.

@@ -12,13 +12,13 @@ use Rattle.law_model.specs.frames.Segment.{segments_on}
 use Rattle.law_model.specs.frames.Run.{delineate_within}
 use Rattle.law_model.specs.frames.Hunt.{hunt_within}
 use Rattle.law_model.specs.session.Counts.{Counts}
-use Rattle.text_report.specs.declared.report.Refusal.{Refusal}
-use Rattle.text_report.specs.declared.report.Totals.{Totals}
-use Rattle.text_report.specs.Report.{got_text, got_texts, total_text}
+use Rattle.law_model.specs.declared.refusal.Refusal.{Refusal}
+use Rattle.law_model.specs.declared.totals.Totals.{Totals}
+use Rattle.text_report.specs.Report.{got_text, got_texts, refused_texts, total_text}
 use Rattle.law_walk.specs.Delivered.{delivered_of}
 use Rattle.law_walk.specs.Landed.{refusals_among, refusals_of, totals_among, totals_of}
 use Rattle.law_walk.specs.Promise.{numbered}
-use Rattle.law_walk.specs.Report.{refused_texts, report_of, final_report}
+use Rattle.law_walk.specs.Report.{report_of, final_report}
 use Rattle.law_walk.proofs.FrameLaws.{frames-grow}
 use Rattle.walk_engine.specs.walk_core.Moved.{delivered_since, GivesRows}
 use Rattle.text_got.specs.declared.got.GotLines.{GotLines}

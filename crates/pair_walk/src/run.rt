@@ -17,8 +17,8 @@ ghost use Rattle.pair_walk.specs.Text.{way_text};
 
 use base_io::{ByteSink, Failed};
 use command_parts::{take_back, write_rest};
+use law_model::FrameOut;
 use pair_engine::{Pair, PairEvent, Way};
-use terminal_sink::sink_core::FrameOut;
 use text_got::{GotLines, MayFail};
 
 /// Takes frames, and does nothing with them.

@@ -9,7 +9,7 @@ use Rattle.law_model.specs.declared.script.Item.{Item}
 use Rattle.law_model.specs.declared.script.ItemKind.{ItemKind}
 use Rattle.law_model.specs.declared.script.ItemKind.TheVariants.{Frame, Add, Remove}
 use Rattle.law_model.specs.session.Counts.{due_of, dues_of, frame_dues, command_dues}
-use Rattle.text_report.specs.declared.report.Refusal.{Refusal}
+use Rattle.law_model.specs.declared.refusal.Refusal.{Refusal}
 use Rattle.law_walk.specs.Landed.{is_client, IsPlaced}
 use Rattle.terminal_group.specs.Place.{is_frame, is_command, place_of}
 use Rattle.terminal_group.proofs.PlaceLaws.{place-next, place-found, due_found, frame-due, command-due}

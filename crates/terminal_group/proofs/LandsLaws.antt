@@ -20,8 +20,8 @@ use Rattle.law_model.specs.source.Journal.{with_items}
 use Rattle.law_model.specs.session.Counts.{Counts, dues_of, frame_dues, command_dues}
 use Rattle.law_model.specs.source.Table.{Told}
 use Rattle.law_session.proofs.AlikeLaws.{Alike, alike-after, alike-stream}
-use Rattle.text_report.specs.declared.report.Refusal.{Refusal}
-use Rattle.text_report.specs.declared.report.Refusal.TheVariants.{Frame as frame_refused, Command as command_refused}
+use Rattle.law_model.specs.declared.refusal.Refusal.{Refusal}
+use Rattle.law_model.specs.declared.refusal.Refusal.TheVariants.{Frame as frame_refused, Command as command_refused}
 use Rattle.terminal_source.specs.source_core.Terminal.{Terminal}
 use Rattle.terminal_source.specs.source_core.Given.{with_command, Stands as HasMade}
 use Rattle.terminal_source.proofs.SourceCoreLaws.LandedLaws.{alike-landed, first-alike}

@@ -12,10 +12,9 @@ ghost use Rattle.terminal_group.specs.Landed.{none_landed, next_place, next_numb
 ghost use Rattle.terminal_group.specs.Landed.{HasPassed, AreOthers, AreBefore, AreAfter};
 
 use crate::items::{held_item, next_command, next_frame};
-use law_model::{Item, ItemKind, Octets};
+use law_model::{Item, ItemKind, Octets, Refusal};
 use std::alloc::{AllocError, Global};
 use std::marker::Model;
-use text_report::Refusal;
 
 /// The items of a script without the octets of its frames, which of them have landed, and which were refused.
 #[derive(Drop)]

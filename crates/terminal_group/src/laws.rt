@@ -5,7 +5,7 @@ ghost use Rattle.std.specs.Option.{is_some};
 ghost use Rattle.base_cells.specs.declared.BackCell.{BackCell};
 ghost use Rattle.law_model.specs.session.Counts.{used_in};
 ghost use Rattle.terminal_source.specs.source_core.Terminal.{needed_at};
-ghost use Rattle.text_report.specs.declared.report.Refusal.{Refusal};
+ghost use Rattle.law_model.specs.declared.refusal.Refusal.{Refusal};
 ghost use Rattle.law_walk.specs.Landed.{IsPlaced};
 ghost use Rattle.terminal_group.specs.Inbox.{Inbox, told_taken, with_come, cell_for, rest_for, HasCome, Takes};
 ghost use Rattle.terminal_group.specs.Source.{missing_by};

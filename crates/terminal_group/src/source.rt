@@ -23,12 +23,11 @@ use crate::inbox::Inbox;
 use crate::item::ItemRef;
 use crate::landing::Landing;
 use base_cells::{BackCell, HeldContainer};
-use law_model::{Item, Script};
+use law_model::{Item, Refusal, Script};
 use std::alloc::{AllocError, Global};
 use std::marker::Model;
 use terminal_source::lcas_source::SourceTable;
 use terminal_source::source_core::{Command, Packet, SourceCore};
-use text_report::Refusal;
 
 /// Why a source makes no frame, before any ring is looked at.
 #[derive(Clone, Copy, Debug, PartialEq, Eq)]

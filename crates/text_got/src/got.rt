@@ -7,7 +7,7 @@ ghost use Rattle.law_model.specs.Limits.{longest_got_line};
 
 use crate::block::LineBlock;
 use base_io::{ByteSink, Failed};
-use terminal_sink::sink_core::FrameOut;
+use law_model::FrameOut;
 
 /// Frames go out on something that may fail.
 pub trait MayFail: FrameOut {

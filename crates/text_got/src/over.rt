@@ -6,7 +6,7 @@ ghost use Rattle.text_got.specs.Over.{HasText, name_of};
 
 use crate::block::LineBlock;
 use base_io::{ByteSink, Failed};
-use terminal_sink::sink_core::FrameOut;
+use law_model::FrameOut;
 
 /// Writes the line of each frame that it is given. After a write that failed it writes nothing more.
 pub struct LentGotLines<'a, K> {

@@ -8,9 +8,9 @@ use Rattle.law_model.specs.declared.refusal.AcceptFault.{AcceptFault}
 use Rattle.law_model.specs.declared.refusal.AcceptFault.TheVariants.{Length, QueueFull}
 use Rattle.law_model.specs.declared.refusal.CommandFault.{CommandFault}
 use Rattle.law_model.specs.declared.refusal.CommandFault.TheVariants.{UnknownLine, AlreadyIn, NotIn, TooManyPending}
-use Rattle.text_report.specs.declared.report.Refusal.{Refusal}
-use Rattle.text_report.specs.declared.report.Refusal.TheVariants.{Frame, Command}
-use Rattle.text_report.specs.declared.report.Totals.{Totals}
+use Rattle.law_model.specs.declared.refusal.Refusal.{Refusal}
+use Rattle.law_model.specs.declared.refusal.Refusal.TheVariants.{Frame, Command}
+use Rattle.law_model.specs.declared.totals.Totals.{Totals}
 
 -- the line of a delivered frame
 abbrev pub got_text : List ℕ → List ℕ
@@ -40,6 +40,10 @@ refusal_text (Command fault) = command_fault_text fault
 -- the line of a refused item
 abbrev pub refused_text : ℕ → Refusal → List ℕ
 refused_text item why = codes "refused " ++ decimal item ++ codes " " ++ refusal_text why ++ codes "\n"
+
+-- the lines of refused items, each with its number
+abbrev pub refused_texts : List (ℕ × Refusal) → List ℕ
+refused_texts refusals = flat_map (λ (refused : ℕ × Refusal). refused_text refused.0 refused.1) refusals
 
 -- the line of totals
 abbrev pub total_text : Totals → List ℕ

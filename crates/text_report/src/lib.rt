@@ -10,6 +10,4 @@ mod line;
 mod report;
 
 pub use line::LineCursor;
-pub use report::{
-    GOT_ROOM, REFUSED_ROOM, Refusal, TOTAL_ROOM, Totals, got_line, refused_line, total_line,
-};
+pub use report::{GOT_ROOM, REFUSED_ROOM, TOTAL_ROOM, got_line, refused_line, total_line};

@@ -4,7 +4,7 @@ ghost use Rattle.text_report.specs.Line.{Extends, HasRoom};
 ghost use Rattle.text_report.specs.Report.{got_text, accept_fault_text, command_fault_text, refused_text, total_text};
 
 use crate::line::LineCursor;
-use law_model::{AcceptFault, CommandFault};
+use law_model::{AcceptFault, CommandFault, Refusal, Totals};
 
 /// Room for the line of a frame of 9,600 octets, in octets.
 pub const GOT_ROOM: usize = 19_205;
@@ -14,32 +14,6 @@ pub const REFUSED_ROOM: usize = 64;
 
 /// Room for the line of totals, in octets.
 pub const TOTAL_ROOM: usize = 128;
-
-/// Why an item of a script is refused.
-#[derive(Clone, Copy, Debug, PartialEq, Eq)]
-pub enum Refusal {
-    /// A frame isn't accepted.
-    Frame(AcceptFault),
-    /// A command isn't accepted.
-    Command(CommandFault),
-}
-
-/// What came of a session, in numbers.
-#[derive(Clone, Copy, Debug, PartialEq, Eq)]
-pub struct Totals {
-    /// How many ticks were made.
-    pub ticks: u32,
-    /// How many rows were taken.
-    pub taken: u32,
-    /// How many frames were accepted.
-    pub frames: u32,
-    /// How many commands were accepted.
-    pub commands: u32,
-    /// How many items of either kind were refused.
-    pub refused: u32,
-    /// How many frames were delivered.
-    pub got: u64,
-}
 
 /// Writes the line of a delivered frame: `got`, a space, and two lower-case digits for each octet.
 pub fn got_line(frame: &[u8], out: &mut [u8]) -> usize

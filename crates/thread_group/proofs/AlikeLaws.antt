@@ -25,7 +25,7 @@ use Rattle.law_model.specs.source.Course.{Course}
 use Rattle.law_model.specs.rows.Sent.{container_of, containers_of, frame_of}
 use Rattle.law_session.specs.Session.{AgreeBefore}
 use Rattle.law_session.proofs.AlikeLaws.{Alike, Alike-sooner, alike-after, alike-stream, alike-frame}
-use Rattle.text_report.specs.declared.report.Refusal.TheVariants.{Frame as frame_refused, Command as command_refused}
+use Rattle.law_model.specs.declared.refusal.Refusal.TheVariants.{Frame as frame_refused, Command as command_refused}
 use Rattle.terminal_source.specs.source_core.Terminal.{Terminal}
 use Rattle.terminal_source.specs.source_core.Given.{ComesAlike, has_come, Stands as HasMade}
 use Rattle.terminal_source.proofs.SourceCoreLaws.LandedLaws.{alike-landed}

@@ -18,7 +18,7 @@ use Rattle.law_model.specs.rows.Sent.{container_of, containers_of}
 use Rattle.law_model.specs.session.Counts.{dues_of, frame_dues, command_dues, used_in}
 use Rattle.law_session.specs.Session.{AgreeBefore}
 use Rattle.law_session.proofs.AlikeLaws.{Alike}
-use Rattle.text_report.specs.declared.report.Refusal.{Refusal}
+use Rattle.law_model.specs.declared.refusal.Refusal.{Refusal}
 use Rattle.thread_rings.specs.Ends.{OutEnd}
 use Rattle.thread_rings.specs.Ends.{InEnd}
 use Rattle.thread_rings.specs.Ends.{out_passed, in_passed, SameIn}

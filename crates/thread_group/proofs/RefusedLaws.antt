@@ -9,7 +9,7 @@ use Rattle.law_model.specs.declared.script.ItemKind.{ItemKind}
 use Rattle.law_model.specs.session.Scenario.{Scenario}
 use Rattle.law_model.specs.source.Table.{Told}
 use Rattle.law_session.proofs.AlikeLaws.{Alike}
-use Rattle.text_report.specs.declared.report.Refusal.{Refusal}
+use Rattle.law_model.specs.declared.refusal.Refusal.{Refusal}
 use Rattle.law_walk.specs.Landed.{Numbered, is_client, kind_refusal, IsPlaced}
 use Rattle.thread_group.specs.Journal.{items_in}
 use Rattle.terminal_group.specs.Landed.{Landed, next_number, due_at}

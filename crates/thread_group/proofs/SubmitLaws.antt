@@ -9,7 +9,7 @@ use Rattle.std.proofs.lemmas.Bool.{cases_Bool, ltb-false, eqb-true}
 use Rattle.std.proofs.lemmas.Bool.Decides.{nat_tests}
 use Rattle.std.proofs.lemmas.List.Elements.{All-cons, All-append}
 use Rattle.std.proofs.lemmas.Option.{slice_get_within}
-use Rattle.text_report.specs.declared.report.Refusal.{Refusal}
+use Rattle.law_model.specs.declared.refusal.Refusal.{Refusal}
 use Rattle.law_model.specs.session.Leg.{Leg}
 use Rattle.law_walk.specs.Landed.{Numbered, is_client, refused_by, IsPlaced}
 use Rattle.thread_group.specs.declared.answer.SubmitFault.{SubmitFault}
@@ -30,7 +30,7 @@ use Rattle.law_model.specs.declared.table.Command.TheVariants.{Add as add, Remov
 use Rattle.law_model.specs.session.Scenario.{Scenario, DueCommand, DueFrame, order_of, offer_of, orders_of, offers_of}
 use Rattle.law_model.specs.session.Scenario.{scenario_by}
 use Rattle.law_model.specs.session.Counts.{Counts}
-use Rattle.text_report.specs.declared.report.Refusal.TheVariants.{Frame as frame_refused, Command as command_refused}
+use Rattle.law_model.specs.declared.refusal.Refusal.TheVariants.{Frame as frame_refused, Command as command_refused}
 use Rattle.terminal_source.specs.source_core.Given.{Stands as HasMade}
 use Rattle.law_walk.specs.Landed.{landed_items, landed_scenario, IsOfferAt}
 use Rattle.law_walk.specs.Landed.{IsOrderAt}

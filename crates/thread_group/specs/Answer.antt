@@ -1,7 +1,7 @@
 -- What it means that an item isn't accepted, and that no ring stops a tick.
 use Rattle.std.specs.Prelude.{Bool, true, false, Option, Some, None}
-use Rattle.text_report.specs.declared.report.Refusal.{Refusal}
-use Rattle.text_report.specs.declared.report.Refusal.TheVariants.{Frame as frame_refused, Command as command_refused}
+use Rattle.law_model.specs.declared.refusal.Refusal.{Refusal}
+use Rattle.law_model.specs.declared.refusal.Refusal.TheVariants.{Frame as frame_refused, Command as command_refused}
 use Rattle.thread_group.specs.declared.answer.SubmitFault.{SubmitFault}
 use Rattle.thread_group.specs.declared.answer.SubmitFault.TheVariants.{NotNext, Early, Frame, Command, JournalFull}
 use Rattle.terminal_group.specs.declared.source.EarlyCause.{EarlyCause}

@@ -11,8 +11,8 @@ use Rattle.law_model.specs.session.Scenario.{Scenario, offers_of, orders_of}
 use Rattle.law_model.specs.source.Table.{Told}
 use Rattle.law_model.specs.rows.Sent.{container_of}
 use Rattle.law_model.specs.session.Counts.{dues_of, used_in, held}
-use Rattle.text_report.specs.declared.report.Refusal.{Refusal}
-use Rattle.text_report.specs.declared.report.Totals.{Totals}
+use Rattle.law_model.specs.declared.refusal.Refusal.{Refusal}
+use Rattle.law_model.specs.declared.totals.Totals.{Totals}
 use Rattle.thread_rings.specs.Ends.{OutEnd}
 use Rattle.thread_rings.specs.Ends.{out_passed, in_passed, in_misses}
 use Rattle.terminal_source.specs.source_core.Terminal.{Terminal, needed}

@@ -14,7 +14,7 @@ use Rattle.thread_rings.specs.Ends.{out_passed, in_passed}
 use Rattle.terminal_source.specs.source_core.Terminal.{Terminal}
 use Rattle.terminal_source.specs.source_core.Given.{Stands as HasMade}
 use Rattle.law_walk.specs.Landed.{Numbered, is_client, kind_refusal}
-use Rattle.text_report.specs.declared.report.Refusal.{Refusal}
+use Rattle.law_model.specs.declared.refusal.Refusal.{Refusal}
 use Rattle.thread_group.specs.Journal.{Journal, Setting, journal_scenario, items_in, IsLegal}
 use Rattle.terminal_group.specs.Landed.{Landed, due_at, AreAhead, AreBehind}
 use Rattle.terminal_group.specs.Inbox.{Inbox, told_taken, HasCome}

@@ -10,7 +10,7 @@ use Rattle.law_model.specs.declared.script.ItemKind.{ItemKind}
 use Rattle.law_model.specs.session.Scenario.{DueFrame, scenario_by, offers_of, orders_of}
 use Rattle.law_model.specs.source.Table.{Told}
 use Rattle.law_model.specs.session.Counts.{Counts}
-use Rattle.text_report.specs.declared.report.Refusal.{Refusal}
+use Rattle.law_model.specs.declared.refusal.Refusal.{Refusal}
 use Rattle.thread_rings.specs.Ends.{OutEnd}
 use Rattle.thread_rings.specs.Ends.{InEnd}
 use Rattle.terminal_source.specs.source_core.Given.{Stands as HasMade}

@@ -3,9 +3,9 @@
 ghost use Rattle.std.specs.Prelude.{◌≡◌};
 ghost use Rattle.thread_group.specs.Answer.{fault_of, stop_of};
 
+use law_model::Refusal;
 use terminal_group::EarlyCause;
 use terminal_source::source_core::{AcceptFault, CommandFault};
-use text_report::Refusal;
 
 /// Why an item isn't accepted.
 #[derive(Clone, Copy, Debug, PartialEq, Eq)]

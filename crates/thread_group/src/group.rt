@@ -14,10 +14,9 @@ use crate::journal::Journal;
 use crate::opening::{Opened, open};
 use crate::sends::{first_full, push_frame, take_cells};
 use base_cells::{BackCell, Container, HeldContainer};
-use law_model::Script;
+use law_model::{Refusal, Script, Totals};
 use std::alloc::{AllocError, Global};
 use terminal_group::{GroupSource, ItemRef};
-use text_report::{Refusal, Totals};
 use thread_rings::{RingIn, RingOut};
 
 /// A group. It takes the client's frames and the operator's commands in the order of its script, each kind by

@@ -2,7 +2,7 @@
 ghost use Rattle.std.specs.Prelude.{◌≡◌};
 
 use base_io::ByteSink;
-use terminal_sink::sink_core::FrameOut;
+use law_model::FrameOut;
 use text_got::LentGotLines;
 
 /// Counts the frames that it is given, and writes none.

@@ -6,8 +6,9 @@ ghost use Rattle.thread_sink.specs.Parts.{parts, Keeps, Later, Does, Gives};
 use crate::burst::SinkBurst;
 use crate::step::step;
 use base_cells::{BackCell, Cell};
+use law_model::FrameOut;
 use member_rows::realign_core::RowGather;
-use terminal_sink::sink_core::{FrameOut, SinkCore};
+use terminal_sink::sink_core::SinkCore;
 use thread_rings::{CellPlace, RingIn, RingOut};
 
 /// The most rows of a burst.

@@ -12,9 +12,10 @@ ghost use Rattle.thread_sink.specs.Step.{PoppedCell, TookCell, packet_in};
 
 use crate::burst::{SinkBurst, SinkIdle};
 use base_cells::{BackCell, Cell};
+use law_model::FrameOut;
 use member_rows::lcas_packet::Packet;
 use member_rows::realign_core::{RowAnswer, RowGather};
-use terminal_sink::sink_core::{FrameOut, SinkCore, TakeAnswer};
+use terminal_sink::sink_core::{SinkCore, TakeAnswer};
 use thread_rings::{CellPlace, RingIn, RingOut};
 
 /// Pops the next cell of a line into `place`, if there is one, and offers it from there. Boxes change places, and

@@ -5,11 +5,10 @@ ghost use Rattle.thread_group.specs.Rings.{AreUnused};
 
 use crate::scripts::read;
 use base_cells::{BackCell, Container};
-use law_model::Script;
+use law_model::{Refusal, Script, Totals};
 use std::alloc::{AllocError, Global};
 use terminal_group::ItemRef;
 use terminal_source::source_core::{AcceptFault, CommandFault};
-use text_report::{Refusal, Totals};
 use thread_group::{GroupState, SubmitFault, TickAnswer};
 use thread_rings::{LineEnds, RingIn, RingOut, back_ring, line_rings};
 

@@ -5,7 +5,7 @@ use Rattle.std.specs.List.{sum_by}
 use Rattle.law_model.specs.declared.script.Script.{Script}
 use Rattle.law_model.specs.session.Leg.{leg_of}
 use Rattle.law_model.specs.session.Counts.{Counts}
-use Rattle.text_report.specs.declared.report.Totals.{Totals}
+use Rattle.law_model.specs.declared.totals.Totals.{Totals}
 use Rattle.text_report.specs.Report.{total_text}
 use Rattle.text_scripts.specs.make_load.Load.{load}
 use Rattle.text_words.specs.Words.{number_in}

@@ -20,9 +20,9 @@ use crate::command::WalkCommand;
 use crate::end::{WalkEnd, cut, done, stopped};
 use base_io::{ByteSink, Failed, put_all};
 use command_parts::Stop;
+use law_model::{FrameOut, Totals};
 use std::alloc::Global;
-use terminal_sink::sink_core::FrameOut;
-use text_report::{LineCursor, Totals, total_line};
+use text_report::{LineCursor, total_line};
 use text_words::number_within;
 use walk_engine::walk_core::Walk;
 

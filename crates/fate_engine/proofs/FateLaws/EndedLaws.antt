@@ -7,7 +7,7 @@ use Rattle.law_model.specs.declared.script.ItemKind.{ItemKind}
 use Rattle.law_model.specs.declared.script.ItemKind.TheVariants.{Frame, Add, Remove}
 use Rattle.law_model.specs.session.Leg.{Leg}
 use Rattle.law_model.specs.frames.Loss.{Extent}
-use Rattle.text_report.specs.declared.report.Refusal.{Refusal}
+use Rattle.law_model.specs.declared.refusal.Refusal.{Refusal}
 use Rattle.law_loss.proofs.FilterLaws.{filter-none}
 use Rattle.law_walk.specs.Landed.{Numbered, refusal_at}
 use Rattle.law_walk.specs.Promise.{frame_by}

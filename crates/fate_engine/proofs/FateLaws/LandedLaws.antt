@@ -20,7 +20,7 @@ use Rattle.law_model.specs.session.Valid.{IsSound}
 use Rattle.law_session.specs.Landing.{is_come}
 use Rattle.law_session.proofs.LandingLaws.{offers_land}
 use Rattle.law_script.proofs.ItemLaws.{offers_rise}
-use Rattle.text_report.specs.declared.report.Refusal.{Refusal}
+use Rattle.law_model.specs.declared.refusal.Refusal.{Refusal}
 use Rattle.law_walk.specs.Walk.{IsWalked}
 use Rattle.law_walk.specs.Landed.{Numbered, is_client, with_if, landed_from, landed_items, kind_refusal}
 use Rattle.law_walk.specs.Promise.{numbered, frame_by, accepted_frames}

@@ -8,7 +8,7 @@ use Rattle.law_model.specs.frames.Piece.{Piece}
 use Rattle.law_model.specs.frames.Segment.{StreamRow}
 use Rattle.law_model.specs.frames.Loss.{Extent, extents}
 use Rattle.law_model.specs.session.Counts.{Counts}
-use Rattle.text_report.specs.declared.report.Refusal.{Refusal}
+use Rattle.law_model.specs.declared.refusal.Refusal.{Refusal}
 use Rattle.law_walk.specs.Delivered.{session_rows}
 use Rattle.law_walk.specs.Landed.{Numbered, landed_items, refusal_at}
 use Rattle.law_walk.specs.Promise.{session_pieces}

@@ -7,8 +7,8 @@ ghost use Rattle.fate_engine.specs.fate_law.FateText.{cause_text, spoiled_text, 
 ghost use Rattle.fate_engine.specs.fate_text.Lines.{told_text, told_segment, item_text, last_text};
 
 use crate::fate_law::{Cause, Fate, RowSegment, SpoiledRun};
-use law_model::{AcceptFault, CommandFault};
-use text_report::{LineCursor, Refusal};
+use law_model::{AcceptFault, CommandFault, Refusal};
+use text_report::LineCursor;
 
 /// Room for a line, in octets.
 pub const ROOM: usize = 192;

@@ -21,7 +21,7 @@ use Rattle.law_model.specs.session.Counts.{Counts}
 use Rattle.law_loss.proofs.CutLaws.{IsPart}
 use Rattle.law_loss.proofs.FoundLaws.{confirmed-within}
 use Rattle.law_loss.proofs.SessionStreamLaws.{pieces-begin, rows-octets, rows-length}
-use Rattle.text_report.specs.declared.report.Refusal.{Refusal}
+use Rattle.law_model.specs.declared.refusal.Refusal.{Refusal}
 use Rattle.law_walk.specs.Walk.{session_of}
 use Rattle.law_walk.specs.Delivered.{session_rows}
 use Rattle.law_walk.specs.Promise.{session_pieces}

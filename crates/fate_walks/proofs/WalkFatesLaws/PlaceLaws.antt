@@ -5,7 +5,7 @@ use Rattle.law_model.specs.session.Leg.{Leg}
 use Rattle.law_model.specs.session.Scenario.{DueFrame, scenario_by, offers_of}
 use Rattle.law_model.specs.session.Counts.{Counts}
 use Rattle.law_model.specs.session.Valid.{IsSound}
-use Rattle.text_report.specs.declared.report.Refusal.{Refusal}
+use Rattle.law_model.specs.declared.refusal.Refusal.{Refusal}
 use Rattle.law_walk.specs.Walk.{session_of, IsWalked}
 use Rattle.law_walk.proofs.PlanLaws.{sound-walks}
 use Rattle.law_walk.proofs.EndLaws.{counts-within}

@@ -12,7 +12,7 @@ use Rattle.law_model.specs.declared.script.ItemKind.TheVariants.{Frame, Add, Rem
 use Rattle.law_model.specs.session.Leg.{Leg}
 use Rattle.law_model.specs.session.Scenario.{DueFrame, offer_of, offers_of}
 use Rattle.law_model.specs.session.Counts.{Counts}
-use Rattle.text_report.specs.declared.report.Refusal.{Refusal}
+use Rattle.law_model.specs.declared.refusal.Refusal.{Refusal}
 use Rattle.law_walk.proofs.LandLaws.{frame-waits}
 use Rattle.law_walk.specs.Landed.{Numbered, is_client, with_if, landed_from, refused_by, refusal_at, refusals_among}
 use Rattle.law_walk.specs.Landed.{refusals_of}

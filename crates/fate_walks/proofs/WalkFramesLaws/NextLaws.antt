@@ -8,8 +8,8 @@ use Rattle.law_model.specs.session.Scenario.{DueFrame, scenario_by, offer_of, of
 use Rattle.law_model.specs.source.Client.{frame_refusal, offered}
 use Rattle.law_model.specs.session.Valid.{IsSound}
 use Rattle.law_script.proofs.ItemLaws.{offers_rise}
-use Rattle.text_report.specs.declared.report.Refusal.{Refusal}
-use Rattle.text_report.specs.declared.report.Refusal.TheVariants.{Frame as frame_fault}
+use Rattle.law_model.specs.declared.refusal.Refusal.{Refusal}
+use Rattle.law_model.specs.declared.refusal.Refusal.TheVariants.{Frame as frame_fault}
 use Rattle.law_walk.specs.Walk.{session_of}
 use Rattle.law_walk.specs.Landed.{stream_met, kind_refusal}
 use Rattle.law_walk.proofs.LandLaws.{offer-at}

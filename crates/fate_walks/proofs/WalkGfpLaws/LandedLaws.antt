@@ -27,8 +27,8 @@ use Rattle.law_loss.proofs.FilterLaws.{filter-none}
 use Rattle.law_loss.proofs.ExtentLaws.{IsBetween, extents-between, extents-append}
 use Rattle.law_loss.proofs.SessionLossLaws.{frames-extents}
 use Rattle.law_loss.proofs.SessionStreamLaws.{pieces-begin, rows-length}
-use Rattle.text_report.specs.declared.report.Refusal.{Refusal}
-use Rattle.text_report.specs.declared.report.Refusal.TheVariants.{Frame as frame_fault}
+use Rattle.law_model.specs.declared.refusal.Refusal.{Refusal}
+use Rattle.law_model.specs.declared.refusal.Refusal.TheVariants.{Frame as frame_fault}
 use Rattle.law_walk.specs.Walk.{session_of, IsWalked}
 use Rattle.law_walk.specs.Delivered.{session_rows}
 use Rattle.law_walk.specs.Landed.{Numbered, is_client, with_if, landed_from, landed_items, refusal_at}

@@ -7,7 +7,7 @@ use Rattle.law_walk.specs.Walk.{IsWalked}
 use Rattle.law_walk.specs.Delivered.{session_rows}
 use Rattle.law_walk.specs.Promise.{session_pieces}
 use Rattle.fate_engine.specs.declared.fate_law.RowSegment.{RowSegment}
-use Rattle.text_report.specs.declared.report.Refusal.{Refusal}
+use Rattle.law_model.specs.declared.refusal.Refusal.{Refusal}
 use Rattle.fate_engine.specs.declared.fate_law.Fate.{Fate}
 use Rattle.fate_engine.specs.fate_law.SessionFates.{End, refused, accepted, Ended, fate_at, is_refused, has_got, has_waited}
 use Rattle.fate_engine.specs.fate_law.SessionFates.{count_of}

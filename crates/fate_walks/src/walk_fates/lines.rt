@@ -24,8 +24,8 @@ use fate_engine::fate_core::{Fate, FateTotals, RowSegment, SpoiledRun, fate, sta
 use fate_engine::fate_text::{
     ROOM, Tally, ToldMark, fate_line, fates_line, refused_line, segment_line, spoiled_line,
 };
+use law_model::Refusal;
 use text_got::GotLines;
-use text_report::Refusal;
 use walk_engine::walk_core::Walk;
 
 /// The client items whose lines were written.

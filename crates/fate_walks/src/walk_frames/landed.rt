@@ -2,15 +2,14 @@
 //! refused where it is.
 ghost use Rattle.std.specs.Prelude.{◌≡◌, ℕ, ◌+◌, ◌<◌, List, ◌++◌, length, drop, All, Option, IfSome, IfNone};
 ghost use Rattle.law_model.specs.session.Leg.{leg_of};
-ghost use Rattle.text_report.specs.declared.report.Refusal.{Refusal as RefusalData};
+ghost use Rattle.law_model.specs.declared.refusal.Refusal.{Refusal as RefusalData};
 ghost use Rattle.law_model.specs.session.Valid.{IsSound};
 ghost use Rattle.law_walk.specs.Walk.{IsWalked};
 ghost use Rattle.law_walk.specs.Landed.{refused_by};
 ghost use Rattle.fate_walks.specs.walk_frames.Landed.{IsAt, IsNext, IsPast, IsSkipped};
 
-use law_model::{Item, ItemKind};
+use law_model::{Item, ItemKind, Refusal};
 use std::marker::Model;
-use text_report::Refusal;
 use walk_engine::walk_core::Walk;
 
 /// A client item that has landed.

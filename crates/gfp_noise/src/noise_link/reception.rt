@@ -5,7 +5,7 @@ ghost use Rattle.gfp_noise.specs.noise_link.Run.{Received};
 
 use crate::gfp_fcs::{FcsDelineator, FcsStep};
 use base_io::ByteSink;
-use terminal_sink::sink_core::FrameOut;
+use law_model::FrameOut;
 use text_got::GotLines;
 
 /// What octets came to so far.

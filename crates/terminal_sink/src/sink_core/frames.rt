@@ -1,24 +1,10 @@
-//! Where frames go.
+//! Frames that are kept.
 
-ghost use Rattle.std.specs.Prelude.{◌≡◌, ℕ, ◌≤◌, false, List, [], ◌∷◌, ◌++◌, length, map, IfOk};
-ghost use Rattle.base_io.specs.Start.{Start};
-ghost use Rattle.terminal_sink.specs.sink_core.Kept.{HasKept};
-ghost use Rattle.law_model.specs.Limits.{longest_frame};
+ghost use Rattle.std.specs.Prelude.{◌≡◌, false, [], map, IfOk};
 
+use law_model::FrameOut;
 use std::alloc::{AllocError, Global};
 use std::marker::Model;
-
-/// Takes the frames that come through, in order.
-pub trait FrameOut {
-    /// It stands for the frames that it was given, after what had been given before.
-    ghost stands_for: { Self → Start → List (List ℕ) → Type 0 };
-
-    /// Takes the next frame, from destination address to FCS, of at most 9,600 octets.
-    fn frame(&mut self, frame: &[u8])
-        requires { length frame.now ≤ longest_frame }
-        ensures { (start : Start) (frames : List (List ℕ)) → stands_for self.old start frames →
-            stands_for self.new start (frames ++ frame.now ∷ []) };
-}
 
 /// Keeps the frames that it is given, until it has no memory for one.
 #[derive(Drop)]

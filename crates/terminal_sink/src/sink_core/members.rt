@@ -15,9 +15,9 @@ ghost use Rattle.terminal_sink.specs.sink_core.Receives.{IsKnown, Grows, Gives, 
 ghost use Rattle.law_model.specs.Limits.{longest_frame, vc4_size};
 
 use crate::gfp_mark::MarkedDelineator;
-use crate::sink_core::frames::FrameOut;
 use base_cells::{HeldContainer, PAYLOAD};
 use gfp_delineate::{Step, word_run};
+use law_model::FrameOut;
 use member_rows::vcat_interleave::gather_places;
 
 /// The octets of a block.

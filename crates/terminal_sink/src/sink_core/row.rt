@@ -16,8 +16,8 @@ ghost use Rattle.law_model.specs.Limits.{vc4_size};
 
 use crate::gfp_mark::MarkedDelineator;
 use crate::sink_core::active::leading_act;
-use crate::sink_core::frames::FrameOut;
 use crate::sink_core::members::{take_break, take_members};
+use law_model::FrameOut;
 use member_path::line_reader::Verdict;
 use member_rows::realign_core::RowGather;
 

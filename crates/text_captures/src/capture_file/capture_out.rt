@@ -8,7 +8,7 @@ ghost use Rattle.text_captures.specs.capture_file.Written.{RowFrame, record_head
 ghost use Rattle.text_captures.specs.capture_file.Out.{HasCapture, name_of, row_at};
 
 use base_io::{ByteSink, Failed};
-use terminal_sink::sink_core::FrameOut;
+use law_model::FrameOut;
 use text_got::GotLines;
 
 /// The head of a capture of Ethernet frames that end with an FCS.

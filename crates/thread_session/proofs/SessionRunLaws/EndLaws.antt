@@ -22,8 +22,8 @@ use Rattle.law_terminal.specs.Lines.{ComeOfLines}
 use Rattle.law_terminal.specs.Course.{told_of, IsCourse}
 use Rattle.law_terminal.proofs.SentLaws.{containers-size}
 use Rattle.law_terminal.proofs.CourseLaws.{course-returns, session-agree}
-use Rattle.text_report.specs.declared.report.Refusal.{Refusal}
-use Rattle.text_report.specs.declared.report.Totals.{Totals}
+use Rattle.law_model.specs.declared.refusal.Refusal.{Refusal}
+use Rattle.law_model.specs.declared.totals.Totals.{Totals}
 use Rattle.law_walk.specs.Walk.{sent_on}
 use Rattle.law_walk.specs.Rings.{delay_on, line_cells}
 use Rattle.law_walk.specs.Delivered.{delivered_of}

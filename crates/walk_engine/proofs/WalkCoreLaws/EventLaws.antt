@@ -8,7 +8,7 @@ use Rattle.law_model.specs.session.Valid.{IsSound}
 use Rattle.law_progress.specs.Progress.{Fits}
 use Rattle.law_progress.proofs.MoveLaws.{reached-fits}
 use Rattle.law_progress.proofs.ReachLaws.{run-append}
-use Rattle.text_report.specs.declared.report.Refusal.{Refusal}
+use Rattle.law_model.specs.declared.refusal.Refusal.{Refusal}
 use Rattle.law_walk.specs.Walk.{walk_plan, IsWalked}
 use Rattle.law_walk.proofs.PlanLaws.{has-plan, sound-walks}
 use Rattle.terminal_group.specs.Landed.{Landed}

@@ -12,7 +12,7 @@ use Rattle.law_model.specs.session.Counts.{Counts, Step, land_due, step}
 use Rattle.law_walk.specs.Walk.{walk_plan}
 use Rattle.terminal_group.specs.Place.{is_frame, is_command, place_of}
 use Rattle.terminal_group.proofs.PlaceLaws.{due_found, frame-due, command-due}
-use Rattle.text_report.specs.declared.report.Refusal.{Refusal}
+use Rattle.law_model.specs.declared.refusal.Refusal.{Refusal}
 use Rattle.law_walk.specs.Landed.{refusal_at}
 use Rattle.walk_engine.specs.walk_core.Landing.{stall_by}
 use Rattle.walk_engine.specs.declared.walk_core.moved.Moved.{Moved}

@@ -23,9 +23,9 @@ use Rattle.law_model.specs.source.Client.{Stream, refusal_while, frame_refusal}
 use Rattle.law_model.specs.session.Counts.{Counts, step}
 use Rattle.law_model.specs.source.Course.{Course}
 use Rattle.law_model.specs.source.Table.{Told}
-use Rattle.text_report.specs.declared.report.Refusal.{Refusal}
-use Rattle.text_report.specs.declared.report.Refusal.TheVariants.{Frame as frame_fault, Command as command_fault}
-use Rattle.text_report.specs.declared.report.Totals.{Totals}
+use Rattle.law_model.specs.declared.refusal.Refusal.{Refusal}
+use Rattle.law_model.specs.declared.refusal.Refusal.TheVariants.{Frame as frame_fault, Command as command_fault}
+use Rattle.law_model.specs.declared.totals.Totals.{Totals}
 use Rattle.terminal_source.specs.source_core.Terminal.{Terminal, SameKind}
 use Rattle.terminal_source.specs.source_core.Given.{Stands as HasMade}
 use Rattle.law_walk.specs.Step.{last_packet}

@@ -19,7 +19,7 @@ use Rattle.law_model.specs.session.Valid.{IsSound}
 use Rattle.law_progress.specs.Progress.{made}
 use Rattle.law_progress.proofs.MeasureLaws.{round-less, drain-round, drain-stop}
 use Rattle.law_progress.proofs.ReachLaws.{run-append}
-use Rattle.text_report.specs.declared.report.Refusal.{Refusal}
+use Rattle.law_model.specs.declared.refusal.Refusal.{Refusal}
 use Rattle.law_walk.specs.Walk.{walk_plan, IsWalked}
 use Rattle.base_io.specs.Start.{Start}
 use Rattle.law_walk.proofs.PlanLaws.{has-plan, sound-walks}

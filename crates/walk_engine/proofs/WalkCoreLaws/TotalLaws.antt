@@ -1,7 +1,7 @@
 -- The totals of one direction.
 use Rattle.std.proofs.Common.{◌≡◌, ℕ, ◌+◌, length, ◌∙◌, ap, arith}
 use Rattle.law_model.specs.session.Leg.{Leg}
-use Rattle.text_report.specs.declared.report.Totals.{Totals}
+use Rattle.law_model.specs.declared.totals.Totals.{Totals}
 use Rattle.law_walk.specs.Landed.{totals_of}
 use Rattle.law_walk.specs.Delivered.{delivered_of}
 use Rattle.law_walk.proofs.CountLaws.{delivered-few}

@@ -7,7 +7,7 @@ use Rattle.law_model.specs.declared.walk.Event.{Event}
 use Rattle.law_model.specs.declared.walk.Event.TheVariants.{Accept, Command, Tick, Carry, Back, Take}
 use Rattle.law_model.specs.declared.walk.StallCause.{StallCause}
 use Rattle.law_model.specs.session.Counts.{Counts, step}
-use Rattle.text_report.specs.declared.report.Refusal.{Refusal}
+use Rattle.law_model.specs.declared.refusal.Refusal.{Refusal}
 use Rattle.law_walk.specs.Walk.{walk_plan}
 use Rattle.law_walk.specs.Landed.{refusal_at}
 use Rattle.law_walk.specs.Delivered.{delivered_of}

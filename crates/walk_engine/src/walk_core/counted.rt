@@ -2,7 +2,7 @@
 
 ghost use Rattle.std.specs.Prelude.{◌≡◌};
 
-use terminal_sink::sink_core::FrameOut;
+use law_model::FrameOut;
 
 /// Hands frames on, and counts them.
 #[derive(Drop)]

@@ -1,8 +1,7 @@
 //! What a step of a walk answers, and what is noted of a decision step.
 
 use base_cells::BackCell;
-use law_model::StallCause;
-use text_report::Refusal;
+use law_model::{Refusal, StallCause};
 
 /// What a step of a walk gave.
 #[derive(Clone, Copy, Debug, PartialEq, Eq)]

@@ -10,9 +10,10 @@ ghost use Rattle.member_rows.specs.realign_core.Gather.{line_count};
 
 use crate::walk_core::counted::{CountedOut, take_back};
 use crate::walk_parts::WalkLine;
+use law_model::FrameOut;
 use member_rows::lcas_packet::Packet;
 use member_rows::realign_core::RowGather;
-use terminal_sink::sink_core::{FrameOut, SinkCore, TakeAnswer};
+use terminal_sink::sink_core::{SinkCore, TakeAnswer};
 
 /// The first row that ends a packet.
 const FIRST_END: u32 = 23;

@@ -31,14 +31,13 @@ use crate::walk_core::rows::ends_packet;
 use crate::walk_core::way::WayCore;
 use crate::walk_parts::ReturnRing;
 use base_cells::{BackCell, Container};
-use law_model::{Event, Script, StallCause};
+use law_model::{Event, FrameOut, Refusal, Script, StallCause, Totals};
 use member_path::line_reader::CellRef;
 use std::alloc::{AllocError, Global};
 use std::marker::Model;
 use terminal_group::{EarlyCause, ItemRef, handed};
-use terminal_sink::sink_core::{FrameOut, TakeAnswer};
+use terminal_sink::sink_core::TakeAnswer;
 use terminal_source::lcas_source::SourceTable;
-use text_report::{Refusal, Totals};
 
 /// A walk of a script.
 pub struct Walk {

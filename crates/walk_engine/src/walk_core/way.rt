@@ -37,16 +37,15 @@ use crate::walk_core::rings::{carry_on, carry_stall, first_full, frame_at, next_
 use crate::walk_core::rows::{pop_lines, take_row};
 use crate::walk_parts::WalkLine;
 use base_cells::{BackCell, Container, HeldContainer};
-use law_model::{Script, StallCause};
+use law_model::{FrameOut, Refusal, Script, StallCause, Totals};
 use member_path::line_reader::CellRef;
 use member_rows::lcas_packet::Packet;
 use member_rows::realign_core::RowGather;
 use std::alloc::{AllocError, Global};
 use std::marker::Model;
 use terminal_group::{EarlyCause, GroupSource, ItemRef, Landing};
-use terminal_sink::sink_core::{FrameOut, SinkCore, TakeAnswer};
+use terminal_sink::sink_core::{SinkCore, TakeAnswer};
 use terminal_source::lcas_source::SourceTable;
-use text_report::{Refusal, Totals};
 
 /// One direction of a group without its way back: its source side, its lines with their rings, and its sink
 /// side. Who calls it says which item lands, and brings the return cells. What its calls do is said of each

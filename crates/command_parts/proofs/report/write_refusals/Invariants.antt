@@ -1,7 +1,7 @@
 -- The lines of the refusals so far are written.
 use Rattle.std.proofs.Common.{ℕ, List, ◌++◌, take}
 use Rattle.base_io.specs.Start.{Start}
-use Rattle.law_walk.specs.Report.{refused_texts}
+use Rattle.text_report.specs.Report.{refused_texts}
 use Rattle.text_got.specs.Told.{HasText}
 use Rattle.command_parts.proofs.report.write_refusals.Given as goal
 

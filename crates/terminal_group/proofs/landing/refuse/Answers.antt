@@ -4,7 +4,7 @@ use Rattle.std.proofs.Common.{append_assoc, rules}
 use Rattle.std.specs.Result.{is_ok}
 use Rattle.std.specs.List.{insert}
 use Rattle.std.proofs.lemmas.List.{take-append-drop}
-use Rattle.text_report.specs.declared.report.Refusal.{Refusal}
+use Rattle.law_model.specs.declared.refusal.Refusal.{Refusal}
 use Rattle.law_walk.specs.Landed.{IsPlaced}
 use Rattle.terminal_group.specs.Landed.{AreBefore, AreAfter}
 use Rattle.terminal_group.proofs.landing.refuse.Goals as goal

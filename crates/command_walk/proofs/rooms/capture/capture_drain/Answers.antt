@@ -3,7 +3,7 @@ use Rattle.std.proofs.Common.{◌<◌, ◌≤◌, refl, ◌∙◌, ap, arith}
 use Rattle.law_model.specs.declared.script.Script.{Script}
 use Rattle.law_model.specs.session.Leg.{leg_of}
 use Rattle.law_model.specs.session.Counts.{Counts, run, round}
-use Rattle.text_report.specs.declared.report.Totals.{Totals}
+use Rattle.law_model.specs.declared.totals.Totals.{Totals}
 use Rattle.law_walk.specs.Walk.{walk_plan}
 use Rattle.walk_engine.proofs.WalkCoreLaws.RoundLaws.{round-turn, drained-end}
 use Rattle.command_walk.proofs.TraceLaws.{turn-walked}

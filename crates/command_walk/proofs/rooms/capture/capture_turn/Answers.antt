@@ -1,6 +1,6 @@
 -- The frames of a row that is taken stand behind those before them.
 use Rattle.std.proofs.Common.{◌∙◌, ap}
-use Rattle.text_report.specs.declared.report.Totals.{Totals}
+use Rattle.law_model.specs.declared.totals.Totals.{Totals}
 use Rattle.command_walk.proofs.TakenLaws.{turn-taken}
 use Rattle.command_walk.proofs.rooms.capture.capture_turn.Goals as goal
 

@@ -4,7 +4,7 @@ use Rattle.std.proofs.lemmas.Result.{on_ok_weaker, on_err_weaker}
 use Rattle.base_io.specs.Transfer.{Appends, AppendsPart}
 use Rattle.base_io.proofs.Parts.{Appends-then, AppendsPart-then}
 use Rattle.law_model.specs.session.Scenario.{steps_in}
-use Rattle.text_report.specs.declared.report.Totals.{Totals}
+use Rattle.law_model.specs.declared.totals.Totals.{Totals}
 use Rattle.command_walk.proofs.TraceLaws.{lines-same, lines-next}
 use Rattle.command_walk.proofs.turns.events.tell_since.Goals as goal
 

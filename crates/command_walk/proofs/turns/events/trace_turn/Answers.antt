@@ -1,7 +1,7 @@
 -- A turn is told, or nothing more is.
 use Rattle.std.proofs.Common.{sym, ◌∙◌, ap, arith}
 use Rattle.law_model.specs.declared.script.Script.{Script}
-use Rattle.text_report.specs.declared.report.Totals.{Totals}
+use Rattle.law_model.specs.declared.totals.Totals.{Totals}
 use Rattle.command_walk.proofs.TraceLaws.{told-silent, turn-told}
 use Rattle.command_walk.proofs.turns.events.trace_turn.Goals as goal
 

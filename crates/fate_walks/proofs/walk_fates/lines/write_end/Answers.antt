@@ -4,7 +4,7 @@ use Rattle.law_model.specs.session.Leg.{leg_of}
 use Rattle.text_got.specs.Told.{HasText}
 use Rattle.law_model.specs.session.Scenario.{scenario_of}
 use Rattle.law_model.specs.source.Client.{stream_before}
-use Rattle.text_report.specs.declared.report.Totals.{Totals}
+use Rattle.law_model.specs.declared.totals.Totals.{Totals}
 use Rattle.law_walk.specs.Walk.{session_of}
 use Rattle.law_walk.specs.Delivered.{session_rows}
 use Rattle.fate_engine.specs.declared.fate_text.lines.Tally.{Tally}

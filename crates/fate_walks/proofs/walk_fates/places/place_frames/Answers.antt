@@ -1,7 +1,7 @@
 -- Frame by frame the stream is ruled, and then up to the last tick.
 use Rattle.std.proofs.Common.{◌≡◌, ℕ, not, ◌∙◌, ap, subst}
 use Rattle.law_model.specs.session.Leg.{leg_of}
-use Rattle.text_report.specs.declared.report.Totals.{Totals}
+use Rattle.law_model.specs.declared.totals.Totals.{Totals}
 use Rattle.fate_engine.specs.fate_law.Ruler.{ruler_of}
 use Rattle.fate_walks.specs.walk_frames.Places.{Between, stream_in}
 use Rattle.fate_walks.proofs.WalkFatesLaws.PlaceLaws.{none-of, some-of, ruled-first, next-due, next-fewer, ruled-refused}

@@ -3,7 +3,7 @@ use Rattle.std.proofs.Common.{◌≡◌, sym, ◌∙◌, ap, subst, arith}
 use Rattle.law_model.specs.session.Leg.{leg_of}
 use Rattle.law_model.specs.session.Scenario.{steps_in}
 use Rattle.law_model.specs.source.Table.{active}
-use Rattle.text_report.specs.declared.report.Totals.{Totals}
+use Rattle.law_model.specs.declared.totals.Totals.{Totals}
 use Rattle.fate_walks.specs.walk_fates.Seen.{Sees}
 use Rattle.fate_walks.proofs.WalkFatesLaws.SeenLaws.{few-rows, sees-step, sees-same}
 use Rattle.fate_walks.proofs.walk_fates.seen.see_since.Goals as goal

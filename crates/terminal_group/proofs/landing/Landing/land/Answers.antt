@@ -4,7 +4,7 @@ use Rattle.std.proofs.Common.{arith, false, true, if◌then◌else◌, not}
 use Rattle.std.specs.Option.{is_some}
 use Rattle.std.specs.Vec.{vec_capacity}
 use Rattle.law_model.specs.declared.script.Item.{Item}
-use Rattle.text_report.specs.declared.report.Refusal.{Refusal}
+use Rattle.law_model.specs.declared.refusal.Refusal.{Refusal}
 use Rattle.law_walk.specs.Landed.{is_client, IsPlaced, refused_by}
 use Rattle.terminal_group.specs.Landed.{Landed, next_place, landed_of, refused_of, HasPassed, AreOthers}
 use Rattle.terminal_group.proofs.LandingLaws.{all-dues, one-low, fewer-all, number-there, next-kind, none-put}

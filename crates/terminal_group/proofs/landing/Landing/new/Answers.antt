@@ -4,7 +4,7 @@ use Rattle.std.specs.List.Sorted.{IsNonDecreasing}
 use Rattle.std.specs.Vec.{vec_capacity}
 use Rattle.std.proofs.lemmas.List.{length-map}
 use Rattle.law_model.specs.session.Counts.{dues_of, frame_dues, command_dues}
-use Rattle.text_report.specs.declared.report.Refusal.{Refusal}
+use Rattle.law_model.specs.declared.refusal.Refusal.{Refusal}
 use Rattle.terminal_group.specs.Item.{bare}
 use Rattle.terminal_group.specs.Place.{is_frame, is_command, place_of}
 use Rattle.terminal_group.specs.Landed.{IsLanded}

@@ -1,7 +1,7 @@
 -- An item has landed: the source has it, and it is counted; it is in the journal, or its refusal is kept.
 use Rattle.std.proofs.Common.{◌≡◌, ℕ, ◌+◌, ◌≤◌, Bool, Some, if◌then◌else◌, [], ◌∷◌, ◌++◌, List, length, Option, refl}
 use Rattle.std.proofs.Common.{sym, ◌∙◌, ap, subst, arith}
-use Rattle.text_report.specs.declared.report.Refusal.{Refusal}
+use Rattle.law_model.specs.declared.refusal.Refusal.{Refusal}
 use Rattle.terminal_source.specs.source_core.Terminal.{Terminal}
 use Rattle.law_walk.specs.Landed.{is_client, IsPlaced, refused_by}
 use Rattle.terminal_group.specs.Item.{kind_of}
