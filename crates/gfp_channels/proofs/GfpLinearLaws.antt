@@ -1,5 +1,5 @@
 pub mod AreaLaws
-pub mod BusyLaws
+mod BusyLaws
 pub mod ReachLaws
 pub mod StreamSteps
 pub mod TurnLaws

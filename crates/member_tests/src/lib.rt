@@ -8,6 +8,8 @@ mod cells;
 #[cfg(test)]
 mod failures;
 #[cfg(test)]
+mod hand;
+#[cfg(test)]
 mod interleaving;
 #[cfg(test)]
 mod line;

@@ -1,9 +1,10 @@
 //! Worked rows of carries.
 ghost use Rattle.std.specs.Prelude.{◌≤◌, length};
 
-use base_cells::{Cell, Container, PAYLOAD};
+use crate::hand::new_box;
+use base_cells::{Container, HeldContainer, PAYLOAD};
 use member_path::failure_window::Window;
-use member_path::line_core::{CarrySign, LineCore, Out, Windows};
+use member_path::line_core::{CarrySign, LineCore, Windows};
 use std::alloc::Global;
 
 // A container that tells its number.
@@ -31,43 +32,50 @@ fn line(alloc: Global, delay: u16, windows: &[Window], total: u32) -> Option<Lin
     LineCore::new(alloc, delay, windows, total).ok()
 }
 
-// The carry of a line that comes next, with container `n` where one is to come, or `None` after the end.
-fn carry(line: &mut LineCore, n: u8) -> Option<Out> {
+// The carry of a line that comes next, with the container in `next` where one is to come, or `None` after the end.
+fn carry(
+    line: &mut LineCore,
+    next: &mut Box<HeldContainer>,
+    out: &mut Box<HeldContainer>,
+) -> Option<CarrySign> {
     if !line.all_pushed() {
-        Some(line.push(container(n)))
+        Some(line.push(next, out))
     } else if !line.ended() {
-        Some(line.flush())
+        Some(line.flush(out))
     } else {
         None
     }
 }
 
 // The letter of a carry: the digit of its container, or a letter.
-fn letter(carry: Option<Out>) -> u8 {
+fn letter(carry: Option<CarrySign>, out: &Container) -> u8 {
     match carry {
         None => b'-',
-        Some(Out::Nothing) => b'.',
-        Some(Out::One(Cell::Fail)) => b'F',
-        Some(Out::One(Cell::End)) => b'E',
-        Some(Out::One(Cell::Good(found))) => digit(&found),
+        Some(CarrySign::Nothing) => b'.',
+        Some(CarrySign::Fail) => b'F',
+        Some(CarrySign::End) => b'E',
+        Some(CarrySign::Good) => digit(out),
     }
 }
 
 // The letters of seven carries, where the containers are numbered by digits.
-fn letters(line: Option<LineCore>) -> [u8; 7] {
+fn letters(alloc: Global, line: Option<LineCore>) -> Option<[u8; 7]> {
+    let mut line = line?;
+    let mut next = new_box(alloc)?;
+    let mut out = new_box(alloc)?;
     let mut seen = *b"0123456";
-    if let Some(mut line) = line {
-        for place in &mut seen {
-            *place = letter(carry(&mut line, *place));
-        }
+    for letter_of in &mut seen {
+        next.put(&container(*letter_of));
+        let carry = carry(&mut line, &mut next, &mut out);
+        *letter_of = letter(carry, out.container());
     }
-    seen
+    Some(seen)
 }
 
 #[test]
 fn a_delay_is_filled_and_flushed(rt: HostRuntime) {
     let line = line(rt.alloc(), 2, &[], 3);
-    assert_eq!(rt; letters(line), *b"..012E-");
+    assert_eq!(rt; letters(rt.alloc(), line), Some(*b"..012E-"));
 }
 
 #[test]
@@ -78,40 +86,30 @@ fn a_window_fails_and_slips(rt: HostRuntime) {
         slip: 1,
     };
     let line = line(rt.alloc(), 0, &[window], 4);
-    assert_eq!(rt; letters(line), *b"0F.3E--");
+    assert_eq!(rt; letters(rt.alloc(), line), Some(*b"0F.3E--"));
 }
 
-// The same where the container goes by a place of the caller's.
-fn carry_by(line: &mut LineCore, place: &mut Container) -> Option<CarrySign> {
-    if !line.all_pushed() {
-        Some(line.push_from(&container(b'7'), place))
-    } else if !line.ended() {
-        Some(line.flush_to(place))
-    } else {
-        None
-    }
-}
-
-// Six carries by a place, and the digits that lie there after each.
-fn carries_by(line: &mut LineCore) -> ([Option<CarrySign>; 6], [u8; 6]) {
-    let mut place = container(b'9');
+// Six carries, and the digits of the containers that lie in the box for a good cell's after each.
+fn carries(alloc: Global, line: Option<LineCore>) -> Option<([Option<CarrySign>; 6], [u8; 6])> {
+    let mut line = line?;
+    let mut next = new_box(alloc)?;
+    let mut out = new_box(alloc)?;
+    out.put(&container(b'9'));
     let mut carries = [None; 6];
     let mut digits = [0; 6];
-    for (carry, found) in carries.iter_mut().zip(&mut digits) {
-        *carry = carry_by(line, &mut place);
-        *found = digit(&place);
+    for (carry_of, found) in carries.iter_mut().zip(&mut digits) {
+        next.put(&container(b'7'));
+        *carry_of = carry(&mut line, &mut next, &mut out);
+        *found = digit(out.container());
     }
-    (carries, digits)
+    Some((carries, digits))
 }
 
 #[test]
 fn a_delay_may_be_longer_than_the_line(rt: HostRuntime) {
-    let seen = match line(rt.alloc(), 3, &[], 1) {
-        Some(mut line) => carries_by(&mut line),
-        None => ([None; 6], [0; 6]),
-    };
+    let line = line(rt.alloc(), 3, &[], 1);
     let nothing = Some(CarrySign::Nothing);
-    let carries = [
+    let wanted = [
         nothing,
         nothing,
         nothing,
@@ -119,5 +117,5 @@ fn a_delay_may_be_longer_than_the_line(rt: HostRuntime) {
         Some(CarrySign::End),
         None,
     ];
-    assert_eq!(rt; seen, (carries, *b"999777"));
+    assert_eq!(rt; carries(rt.alloc(), line), Some((wanted, *b"999777")));
 }

@@ -1,8 +1,10 @@
 //! Worked lines.
 
-use base_cells::{Cell, Container, PAYLOAD};
+use crate::hand::{new_box, put};
+use base_cells::{Cell, Container, HeldContainer, PAYLOAD};
 use member_path::h4_multiframe::h4;
-use member_path::line_reader::{LineReader, Verdict};
+use member_path::line_reader::{LineNumbers, Verdict};
+use std::alloc::Global;
 
 /// A line of which the containers `first` to `end - 1` are damaged, the last `slip` of them without a sign.
 #[derive(Clone, Copy)]
@@ -52,42 +54,58 @@ fn is_right(line: &Line, t: u64, verdict: &Verdict<'_>) -> bool {
     }
 }
 
+/// The numbers of a line, with a box for the next container and a box for that of a whole number.
+#[derive(Drop)]
+struct Reader {
+    numbers: LineNumbers,
+    hand: Box<HeldContainer>,
+    place: Box<HeldContainer>,
+}
+
 /// Passes the numbers from `t` on that are decided, up to `end`, and tells the next one, where all are right.
-fn pass(reader: &mut LineReader, line: &Line, t: u64, end: u64) -> Option<u64> {
+fn pass(reader: &mut Reader, line: &Line, t: u64, end: u64) -> Option<u64> {
     let mut t = t;
     for _ in t..end {
-        let right = match reader.verdict(t) {
+        let right = match reader.numbers.verdict(reader.place.container()) {
             None => return Some(t),
             Some(verdict) => is_right(line, t, &verdict),
         };
         if !right {
             return None;
         }
-        reader.next();
+        reader.numbers.next();
         t = t.wrapping_add(1);
     }
     Some(t)
 }
 
 /// Gives a cell, where number `t` is not decided, and passes the numbers that are decided then.
-fn give(reader: &mut LineReader, line: &Line, cell: Cell, t: u64, end: u64) -> Option<u64> {
-    if reader.verdict(t).is_some() {
+fn give(reader: &mut Reader, line: &Line, cell: Cell, t: u64, end: u64) -> Option<u64> {
+    let sign = put(&cell, &mut reader.hand);
+    if !reader.numbers.is_open() {
         return None;
     }
-    reader.cell(cell);
+    reader
+        .numbers
+        .cell(sign, &mut reader.hand, &mut reader.place);
     pass(reader, line, t, end)
 }
 
 /// Gives a line its cells, and then its end. Tells the number that is not decided by the cells, and that
 /// after three more, where all are right.
-fn numbers(reader: &mut LineReader, line: &Line) -> Option<(u64, u64)> {
+fn numbers(alloc: Global, line: &Line) -> Option<(u64, u64)> {
+    let mut reader = Reader {
+        numbers: LineNumbers::new(),
+        hand: new_box(alloc)?,
+        place: new_box(alloc)?,
+    };
     let mut t = 0;
     for n in 0..line.total {
         if let Some(cell) = cell(line, n) {
-            t = give(reader, line, cell, t, u64::MAX)?;
+            t = give(&mut reader, line, cell, t, u64::MAX)?;
         }
     }
-    let end = give(reader, line, Cell::End, t, t.wrapping_add(3))?;
+    let end = give(&mut reader, line, Cell::End, t, t.wrapping_add(3))?;
     Some((t, end))
 }
 
@@ -120,10 +138,10 @@ const LINES: [Line; 3] = [
 ];
 
 /// The numbers of each line.
-fn all_numbers() -> [Option<(u64, u64)>; 3] {
+fn all_numbers(alloc: Global) -> [Option<(u64, u64)>; 3] {
     let mut seen = [None; 3];
     for (numbers_of, line) in seen.iter_mut().zip(&LINES) {
-        *numbers_of = numbers(&mut LineReader::default(), line);
+        *numbers_of = numbers(alloc, line);
     }
     seen
 }
@@ -131,5 +149,5 @@ fn all_numbers() -> [Option<(u64, u64)>; 3] {
 #[test]
 fn numbers_of_lines(rt: HostRuntime) {
     let wanted = [Some((200, 203)), Some((4600, 4603)), Some((2100, 2103))];
-    assert_eq!(rt; all_numbers(), wanted);
+    assert_eq!(rt; all_numbers(rt.alloc()), wanted);
 }

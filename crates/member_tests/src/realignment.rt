@@ -5,7 +5,8 @@ mod table;
 ghost use Rattle.std.specs.Prelude.{◌≡◌, ◌<◌, IfSome, OnSome};
 ghost use Rattle.member_rows.specs.realign_core.Gather.{line_count, AreDecided};
 
-use base_cells::{Cell, Container, Ctrl, PAYLOAD};
+use crate::hand::{new_box, put};
+use base_cells::{Cell, Container, Ctrl, HeldContainer, PAYLOAD};
 use member_path::h4_multiframe::h4;
 use member_path::line_reader::Verdict;
 use member_rows::lcas_packet::Packet;
@@ -191,7 +192,7 @@ fn is_packet(line: Line, t: u32, packets: &[Option<Packet>]) -> bool {
 }
 
 /// Gives the cells of a line from place `i` on, until the next number is decided.
-fn feed(rows: &mut RowGather, line: Line, i: u32) -> u32
+fn feed(rows: &mut RowGather, hand: &mut Box<HeldContainer>, line: Line, i: u32) -> u32
     ensures lines { line_count rows.new ≡ line_count rows.old }
     ensures rows { rows.new.rows ≡ rows.old.rows }
 {
@@ -201,7 +202,8 @@ fn feed(rows: &mut RowGather, line: Line, i: u32) -> u32
             RowAnswer::Row => return i,
             RowAnswer::Waiting { line: waiting } => {
                 if let Some(cell) = cell(line, i) {
-                    rows.offer(waiting, cell);
+                    let sign = put(&cell, hand);
+                    rows.offer(waiting, sign, hand);
                 }
             }
         }
@@ -226,13 +228,13 @@ fn said(rows: &RowGather, line: u8) -> Option<Option<Octets>>
 
 /// Gives the cells of a line to a group of one line. Tells whether each number that they decide, and each
 /// packet, is that of the line.
-fn are_right(rows: &mut RowGather, line: Line) -> bool
+fn are_right(rows: &mut RowGather, hand: &mut Box<HeldContainer>, line: Line) -> bool
     requires lines { line_count rows.old ≡ 1 }
     requires rows { rows.old.rows ≡ 0 }
 {
     let mut i = 0;
     for t in 0..most(line).1 {
-        i = feed(rows, line, i);
+        i = feed(rows, hand, line, i);
         let said = said(rows, 0);
         if said != wanted(line, t) {
             return false;
@@ -250,8 +252,11 @@ fn are_right(rows: &mut RowGather, line: Line) -> bool
 
 /// The same for a group that is made for it.
 fn is_right(alloc: Global, line: Line) -> bool {
+    let Some(mut hand) = new_box(alloc) else {
+        return false;
+    };
     match RowGather::new(alloc, 1) {
-        Ok(mut rows) => are_right(&mut rows, line),
+        Ok(mut rows) => are_right(&mut rows, &mut hand, line),
         Err(_) => false,
     }
 }
@@ -287,40 +292,42 @@ fn paths_and_lists(rt: HostRuntime) {
 }
 
 /// Gives a cell to the line that is waited for, and tells which that is.
-fn give(rows: &mut RowGather, cell: Cell) -> Option<u8>
+fn give(rows: &mut RowGather, hand: &mut Box<HeldContainer>, cell: Cell) -> Option<u8>
     ensures lines { line_count rows.new ≡ line_count rows.old }
     ensures rows { rows.new.rows ≡ rows.old.rows }
 {
     match rows.row() {
         RowAnswer::Row => None,
         RowAnswer::Waiting { line } => {
-            rows.offer(line, cell);
+            let sign = put(&cell, hand);
+            rows.offer(line, sign, hand);
             Some(line)
         }
     }
 }
 
 /// Which lines of two are waited for, as each is given a cell by which its number is bad.
-fn waited_for(rows: &mut RowGather) -> [Option<u8>; 3]
+fn waited_for(rows: &mut RowGather, hand: &mut Box<HeldContainer>) -> [Option<u8>; 3]
     requires lines { line_count rows.old ≡ 2 }
     requires rows { rows.old.rows ≡ 0 }
 {
-    let first = give(rows, Cell::Fail);
-    let second = give(rows, Cell::End);
+    let first = give(rows, hand, Cell::Fail);
+    let second = give(rows, hand, Cell::End);
     let bad = (said(rows, 0), said(rows, 1)) == (Some(None), Some(None));
     if bad && rows.row() == RowAnswer::Row {
         rows.advance();
     }
     let unread = rows.packets() == [None, None].as_slice();
-    let third = give(rows, Cell::Fail);
+    let third = give(rows, hand, Cell::Fail);
     [first, second, if unread { third } else { None }]
 }
 
 #[test]
 fn waits_for_the_least_line(rt: HostRuntime) {
-    let seen = match RowGather::new(rt.alloc(), 2) {
-        Ok(mut rows) => waited_for(&mut rows),
-        Err(_) => [None; 3],
+    let alloc = rt.alloc();
+    let seen = match (RowGather::new(alloc, 2), new_box(alloc)) {
+        (Ok(mut rows), Some(mut hand)) => waited_for(&mut rows, &mut hand),
+        _ => [None; 3],
     };
     assert_eq!(rt; seen, [Some(0), Some(1), Some(0)]);
 }

@@ -5,10 +5,11 @@ mod table;
 ghost use Rattle.std.specs.Prelude.{◌≡◌, ◌<◌, IfSome};
 ghost use Rattle.member_rows.specs.realign_core.Gather.{line_count, IsOpenAt};
 
-use base_cells::{Cell, Container, Ctrl, PAYLOAD};
+use base_cells::{Cell, Container, Ctrl, HeldContainer, PAYLOAD};
 use gfp_headers::{core_bytes, type_bytes};
 use gfp_scramble::Scrambler;
 use member_path::h4_multiframe::h4;
+use member_path::line_reader::CellSign;
 use member_rows::lcas_packet::Packet;
 use member_rows::realign_core::RowGather;
 use std::alloc::{AllocError, Global};
@@ -173,14 +174,33 @@ fn cell(case: &Case, stream: &[u8], line: u8, n: u32) -> Option<Cell> {
     }
 }
 
+/// What the lines of a group are given next: the number of each one's container, and a box for a container.
+#[derive(Drop)]
+struct Next {
+    numbers: [u32; 3],
+    hand: Box<HeldContainer>,
+}
+
+/// Puts the container of a good cell into a box, and tells the sign of the cell.
+fn put(cell: &Cell, hand: &mut Box<HeldContainer>) -> CellSign {
+    match cell {
+        Cell::Good(container) => {
+            hand.put(container);
+            CellSign::Good
+        }
+        Cell::Fail => CellSign::Fail,
+        Cell::End => CellSign::End,
+    }
+}
+
 /// Gives a line the cell of its next container.
-fn give(rows: &mut RowGather, case: &Case, stream: &[u8], line: u8, next: &mut [u32; 3])
+fn give(rows: &mut RowGather, case: &Case, stream: &[u8], line: u8, next: &mut Next)
     requires line { line < line_count rows.old }
     requires open { IsOpenAt rows.old line }
     ensures lines { line_count rows.new ≡ line_count rows.old }
     ensures rows { rows.new.rows ≡ rows.old.rows }
 {
-    let n = match next.get_mut(usize::from(line)) {
+    let n = match next.numbers.get_mut(usize::from(line)) {
         Some(next) => {
             let n = *next;
             *next = n.wrapping_add(1);
@@ -189,7 +209,8 @@ fn give(rows: &mut RowGather, case: &Case, stream: &[u8], line: u8, next: &mut [
         None => 0,
     };
     if let Some(cell) = cell(case, stream, line, n) {
-        rows.offer(line, cell);
+        let sign = put(&cell, &mut next.hand);
+        rows.offer(line, sign, &mut next.hand);
     }
 }
 
@@ -256,18 +277,18 @@ fn take_all(
     rows: &mut RowGather,
     sink: &mut SinkCore,
     out: &mut KeptFrames,
+    next: &mut Next,
 ) -> bool
     requires lines { line_count rows.old ≡ sink.old.lines }
     requires rows { rows.old.rows ≡ sink.old.taken }
 {
-    let mut next = [0u32; 3];
     for _ in 0..10_000 {
         let t = sink.taken();
         if t >= case.rows {
             return true;
         }
         match sink.take(rows, out) {
-            TakeAnswer::Waiting { line } => give(rows, case, stream, line, &mut next),
+            TakeAnswer::Waiting { line } => give(rows, case, stream, line, next),
             TakeAnswer::Taken { back } => {
                 if !is_back(case, t, back) {
                     return false;
@@ -297,7 +318,12 @@ fn is_right(alloc: Global, case: &Case) -> Option<bool> {
     let stream = stream_of(alloc, case.pieces).ok()?;
     let mut out = KeptFrames::new(alloc).ok()?;
     let (mut rows, mut sink) = sink_of(alloc, case)?;
-    let taken = take_all(case, &stream, &mut rows, &mut sink, &mut out);
+    let hand = Box::new(alloc, HeldContainer::new()).ok()?;
+    let mut next = Next {
+        numbers: [0; 3],
+        hand,
+    };
+    let taken = take_all(case, &stream, &mut rows, &mut sink, &mut out, &mut next);
     Some(taken && are_frames(case, &out))
 }
 

@@ -1,10 +1,10 @@
-pub mod DelayLaws
-pub mod DraftLaws
-pub mod LimitLaws
+mod DelayLaws
+mod DraftLaws
+mod LimitLaws
 pub mod RowLaws
-pub mod GrowthLaws
-pub mod ValidLaws
+mod GrowthLaws
+mod ValidLaws
 pub mod FirstFaultLaws
 mod FitLaws
 pub mod ReadLaws
-pub mod PieceLaws
+mod PieceLaws

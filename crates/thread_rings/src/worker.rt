@@ -235,7 +235,7 @@ fn push_hand(core: &mut LineCore, from: &mut RingIn<Container>, to: &mut RingOut
     ensures from { from.new ≡ record from.old { hand = in_hand from.new } }
     ensures to { to.new ≡ record to.old { hand = out_hand to.new } }
 {
-    let carry = core.push_box(&mut from.hand, &mut to.hand.container);
+    let carry = core.push(&mut from.hand, &mut to.hand.container);
     to.hand.sign = sign_of(carry);
     carry
 }
@@ -247,7 +247,7 @@ fn flush_hand(core: &mut LineCore, to: &mut RingOut<Cell>) -> CarrySign
     ensures flushed { IsFlushed core.old core.new result (out_hand to.new) }
     ensures to { to.new ≡ record to.old { hand = out_hand to.new } }
 {
-    let carry = core.flush_box(&mut to.hand.container);
+    let carry = core.flush(&mut to.hand.container);
     to.hand.sign = sign_of(carry);
     carry
 }

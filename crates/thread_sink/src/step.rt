@@ -33,7 +33,7 @@ fn pass_cell(end: &mut RingIn<Cell>, place: &mut CellPlace, rows: &mut RowGather
         return false;
     }
     end.pop_place(place);
-    rows.offer_boxed(line, place.sign, &mut place.container);
+    rows.offer(line, place.sign, &mut place.container);
     true
 }
 

@@ -7,12 +7,6 @@ use Rattle.law_model.specs.declared.window.Carried.{Carried}
 use Rattle.law_model.specs.declared.window.Carried.TheVariants.{Whole, Fails, Vanishes}
 use Rattle.member_path.specs.declared.line_core.carry.CarrySign.{CarrySign}
 use Rattle.member_path.specs.declared.line_core.carry.CarrySign.TheVariants.{Nothing, Good, Fail, End}
-use Rattle.member_path.specs.declared.line_core.carry.Out.{Out}
-use Rattle.member_path.specs.declared.line_core.carry.Out.TheVariants.{Nothing as NothingOut, One}
-
-abbrev pub out_cells : Out → List Cell
-out_cells NothingOut = []
-out_cells (One cell) = cell ∷ []
 
 -- where the container of a good cell lies in this place
 abbrev pub carry_cells : CarrySign → Container → List Cell

@@ -1,14 +1,14 @@
 //! A line with its delay and its windows.
 ghost use Rattle.std.specs.Prelude.{◌≡◌, ◌≢◌, ◌-◌, ◌<◌, ◌≤◌, ◌↔◌, ◌++◌, IfOk, IfSome, IfNone, IsTrue, Contains};
 ghost use Rattle.law_model.specs.members.Damage.{carried};
-ghost use Rattle.member_path.specs.line_core.Carry.{carry_cells, out_cells};
+ghost use Rattle.member_path.specs.line_core.Carry.{carry_cells};
 ghost use Rattle.member_path.specs.line_core.Line.{Line, IsLine, Calls, opened, and_push, and_flush, path_cells, Stands, Counts};
 ghost use Rattle.member_path.specs.line_core.Line.{IsEnded};
 
 use crate::failure_window::Windows;
-use crate::line_core::carry::{CarrySign, Out};
+use crate::line_core::carry::CarrySign;
 use crate::line_core::store::Store;
-use base_cells::{Cell, Container, HeldContainer, PAYLOAD};
+use base_cells::{Cell, HeldContainer};
 use law_model::Carried;
 use std::alloc::{AllocError, Global};
 use std::marker::Model;
@@ -61,45 +61,10 @@ impl LineCore {
         })
     }
 
-    /// Carries a container on, and gives the cell that comes out, if any.
-    pub fn push(&mut self, c: Container) -> Out
-        requires { self.old.pushed < self.old.total }
-        ensures stands { (calls : Calls) → Stands self.old calls →
-            Stands self.new (and_push calls c) }
-        ensures cells { (calls : Calls) → Stands self.old calls →
-            path_cells (and_push calls c) ≡ path_cells calls ++ out_cells result }
-        ensures counts { Counts self.old self.new 1 0 }
-    {
-        let mut place = blank();
-        self.push_from(&c, &mut place).out(&place)
-    }
-
-    /// Carries a container on as `push` does, and writes the container of a good cell to `out`, which else
-    /// stays as it was.
-    pub fn push_from(&mut self, container: &Container, out: &mut Container) -> CarrySign
-        requires { self.old.pushed < self.old.total }
-        ensures stands { (calls : Calls) → Stands self.old calls →
-            Stands self.new (and_push calls container.now) }
-        ensures cells { (calls : Calls) → Stands self.old calls →
-            path_cells (and_push calls container.now)
-            ≡ path_cells calls ++ carry_cells result out.new }
-        ensures kept { result ≢ CarrySign.Good → out.new ≡ out.old }
-        ensures counts { Counts self.old self.new 1 0 }
-    {
-        let fate = self.next_fate();
-        self.pushed += 1;
-        match fate {
-            Some(fate) => self.store.pass(fate, container, out),
-            None => {
-                self.store.keep(container);
-                CarrySign::Nothing
-            }
-        }
-    }
-
-    /// Carries a container on as `push_from` does, but takes its box, and gives that of a good cell's
-    /// container. Another box lies in `container` afterwards.
-    pub fn push_box(
+    /// Carries a container on, and says what comes out. It takes the container's box, and leaves another one in
+    /// `container`. Where the cell is good, the box of its container lies in `out` afterwards; else the container
+    /// there stays as it was.
+    pub fn push(
         &mut self,
         container: &mut Box<HeldContainer>,
         out: &mut Box<HeldContainer>,
@@ -116,54 +81,18 @@ impl LineCore {
         let fate = self.next_fate();
         self.pushed += 1;
         match fate {
-            Some(fate) => self.store.pass_box(fate, container, out),
+            Some(fate) => self.store.pass(fate, container, out),
             None => {
-                self.store.keep_box(container);
+                self.store.keep(container);
                 CarrySign::Nothing
             }
         }
     }
 
-    /// Makes a carry once all containers were pushed, and gives the cell that comes out, if any. After the
-    /// cell of the last container one carry gives the end.
-    pub fn flush(&mut self) -> Out
-        requires pushed { self.old.pushed ≡ self.old.total }
-        requires runs { self.old.flushed ≤ self.old.delay }
-        ensures stands { (calls : Calls) → Stands self.old calls →
-            Stands self.new (and_flush calls) }
-        ensures cells { (calls : Calls) → Stands self.old calls →
-            path_cells (and_flush calls) ≡ path_cells calls ++ out_cells result }
-        ensures counts { Counts self.old self.new 0 1 }
-    {
-        let mut place = blank();
-        self.flush_to(&mut place).out(&place)
-    }
-
-    /// Makes a carry as `flush` does, and writes the container of a good cell to `out`, which else stays as it was.
-    pub fn flush_to(&mut self, out: &mut Container) -> CarrySign
-        requires pushed { self.old.pushed ≡ self.old.total }
-        requires runs { self.old.flushed ≤ self.old.delay }
-        ensures stands { (calls : Calls) → Stands self.old calls →
-            Stands self.new (and_flush calls) }
-        ensures cells { (calls : Calls) → Stands self.old calls →
-            path_cells (and_flush calls) ≡ path_cells calls ++ carry_cells result out.new }
-        ensures kept { result ≢ CarrySign.Good → out.new ≡ out.old }
-        ensures counts { Counts self.old self.new 0 1 }
-    {
-        let left = u32::from(self.delay) - self.flushed;
-        self.flushed += 1;
-        if left > self.total {
-            CarrySign::Nothing
-        } else if left == 0 {
-            CarrySign::End
-        } else {
-            let fate = self.windows.at(self.total - left);
-            self.store.let_go(fate, out)
-        }
-    }
-
-    /// Makes a carry as `flush_to` does, but gives the box of a good cell's container, and takes the other for it.
-    pub fn flush_box(&mut self, out: &mut Box<HeldContainer>) -> CarrySign
+    /// Makes a carry once all containers were pushed, and says what comes out. After the cell of the last
+    /// container one carry gives the end. Where the cell is good, the box of its container lies in `out`
+    /// afterwards; else the container there stays as it was.
+    pub fn flush(&mut self, out: &mut Box<HeldContainer>) -> CarrySign
         requires pushed { self.old.pushed ≡ self.old.total }
         requires runs { self.old.flushed ≤ self.old.delay }
         ensures stands { (calls : Calls) → Stands self.old calls →
@@ -181,7 +110,7 @@ impl LineCore {
             CarrySign::End
         } else {
             let fate = self.windows.at(self.total - left);
-            self.store.let_go_box(fate, out)
+            self.store.let_go(fate, out)
         }
     }
 
@@ -214,13 +143,5 @@ impl LineCore {
             IsTrue result ↔ Contains (path_cells calls) Cell.End }
     {
         self.flushed > u32::from(self.delay)
-    }
-}
-
-// A place for a container.
-fn blank() -> Container {
-    Container {
-        h4: 0,
-        payload: [0; PAYLOAD],
     }
 }

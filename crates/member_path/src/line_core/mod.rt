@@ -9,6 +9,6 @@ mod line;
 mod store;
 
 pub use crate::failure_window::Windows;
-pub use carry::{CarrySign, Out};
+pub use carry::CarrySign;
 pub use laws::carry_law;
 pub use line::LineCore;

@@ -7,7 +7,7 @@ ghost use Rattle.member_path.specs.line_core.Carry.{carry_cells, carry_for};
 ghost use Rattle.member_path.specs.line_core.Line.{stored};
 
 use crate::line_core::carry::CarrySign;
-use base_cells::{Container, HeldContainer, blank_boxes};
+use base_cells::{HeldContainer, blank_boxes};
 use circular_buffer::HeapCircularBuffer;
 use law_model::Carried;
 use std::alloc::{AllocError, Global};
@@ -60,21 +60,8 @@ impl Store {
         self.kept.is_empty()
     }
 
-    /// Puts a container after those on their way, into a spare box.
-    pub(super) fn keep(&mut self, container: &Container)
-        requires room { length self.old.items < self.old.capacity }
-        requires spare { 0 < self.old.spare }
-        ensures { self.new ≡ stored (self.old.items ++ container.now ∷ [])
-            self.old.capacity (self.old.spare - 1) }
-    {
-        match self.spare.pop() {
-            Some(place) => self.put(place, container),
-            None => unreachable!(),
-        }
-    }
-
     /// Puts a container after those on their way, in its box, and leaves a spare box for it.
-    pub(super) fn keep_box(&mut self, container: &mut Box<HeldContainer>)
+    pub(super) fn keep(&mut self, container: &mut Box<HeldContainer>)
         requires room { length self.old.items < self.old.capacity }
         requires spare { 0 < self.old.spare }
         ensures { self.new ≡ stored (self.old.items ++ container.old.value ∷ [])
@@ -87,16 +74,6 @@ impl Store {
             }
             None => unreachable!(),
         }
-    }
-
-    /// Puts a container after those on their way, into this box.
-    fn put(&mut self, mut place: Box<HeldContainer>, container: &Container)
-        requires { length self.old.items < self.old.capacity }
-        ensures { self.new ≡ stored (self.old.items ++ container.now ∷ [])
-            self.old.capacity self.old.spare }
-    {
-        place.put(container);
-        self.append(place);
     }
 
     /// Puts a box after those on their way.
@@ -120,21 +97,9 @@ impl Store {
         }
     }
 
-    /// Takes the oldest container out of the store, and copies it to `out` where it comes whole.
-    pub(super) fn let_go(&mut self, fate: Carried, out: &mut Container) -> CarrySign
-        requires { 0 < length self.old.items }
-        ensures store { self.new ≡ stored (drop 1 self.old.items) self.old.capacity self.old.spare }
-        ensures cells { (x : Container) → slice_get self.old.items 0 ≡ Some x →
-            carry_cells result out.new ≡ cells_of fate x }
-        ensures kept { result ≢ CarrySign.Good → out.new ≡ out.old }
-    {
-        let oldest = self.take_oldest();
-        go_by(fate, oldest.container(), out)
-    }
-
     /// Takes the oldest container out of the store, and gives its box where it comes whole. The box that is left
     /// over is let go.
-    pub(super) fn let_go_box(&mut self, fate: Carried, out: &mut Box<HeldContainer>) -> CarrySign
+    pub(super) fn let_go(&mut self, fate: Carried, out: &mut Box<HeldContainer>) -> CarrySign
         requires { 0 < length self.old.items }
         ensures store { self.new ≡ stored (drop 1 self.old.items) self.old.capacity self.old.spare }
         ensures cells { (x : Container) → slice_get self.old.items 0 ≡ Some x →
@@ -145,33 +110,10 @@ impl Store {
         change(fate, &mut oldest, out)
     }
 
-    /// Puts a container into a full store, and takes the oldest out: that is the container itself where the
-    /// store has no place.
+    /// Puts a container into a full store in its box, and takes the oldest out: that is the container itself
+    /// where the store has no place. It gives the box of the oldest, where it comes whole. Another box lies in
+    /// `container` afterwards.
     pub(super) fn pass(
-        &mut self,
-        fate: Carried,
-        container: &Container,
-        out: &mut Container,
-    ) -> CarrySign
-        requires { length self.old.items ≡ self.old.capacity }
-        ensures store { self.new ≡ stored (drop 1 (self.old.items ++ container.now ∷ []))
-            self.old.capacity self.old.spare }
-        ensures cells { (x : Container) → slice_get (self.old.items ++ container.now ∷ []) 0 ≡ Some x →
-            carry_cells result out.new ≡ cells_of fate x }
-        ensures kept { result ≢ CarrySign.Good → out.new ≡ out.old }
-    {
-        if self.is_empty() {
-            return go_by(fate, container, out);
-        }
-        let oldest = self.take_oldest();
-        let carry = go_by(fate, oldest.container(), out);
-        self.put(oldest, container);
-        carry
-    }
-
-    /// Puts a container into a full store and takes the oldest out as `pass` does, but takes its box, and
-    /// gives that of the oldest, where it comes whole. Another box lies in `container` afterwards.
-    pub(super) fn pass_box(
         &mut self,
         fate: Carried,
         container: &mut Box<HeldContainer>,
@@ -194,17 +136,6 @@ impl Store {
         self.append(oldest);
         carry
     }
-}
-
-/// What comes of a container, which is copied where it comes whole.
-fn go_by(fate: Carried, container: &Container, out: &mut Container) -> CarrySign
-    ensures cells { carry_cells result out.new ≡ cells_of fate container.now }
-    ensures kept { result ≢ CarrySign.Good → out.new ≡ out.old }
-{
-    if let Carried::Whole = fate {
-        *out = *container;
-    }
-    carry_of(fate)
 }
 
 /// What comes of a container in a box, which changes places with the other where it comes whole.

@@ -5,11 +5,11 @@ ghost use Rattle.std.specs.Prelude.{◌↔◌, option_map};
 ghost use Rattle.base_cells.specs.declared.Container.{Container};
 ghost use Rattle.base_cells.specs.declared.Cell.{Cell};
 ghost use Rattle.law_model.specs.members.Number.{ahead, verdict};
-ghost use Rattle.member_path.specs.line_reader.Told.{cell_of, cell_with, told_by};
+ghost use Rattle.member_path.specs.line_reader.Told.{cell_with, told_by};
 ghost use Rattle.member_path.specs.line_reader.Numbers.{IsOpen, is_open, Stands};
 
 use crate::h4_multiframe::{MfiLock, Place};
-use crate::line_reader::{CellRef, CellSign, Verdict};
+use crate::line_reader::{CellSign, Verdict};
 use base_cells::{Container, HeldContainer};
 use std::marker::Model;
 use std::mem;
@@ -65,27 +65,10 @@ impl LineNumbers {
         }
     }
 
-    /// Takes the next cell, once each decided number was passed. Where the cell has a number of its own,
-    /// which is then whole, its container is copied into `place`.
-    pub fn cell(&mut self, cell: CellRef<'_>, place: &mut Container)
-        requires open { IsOpen self.old }
-        ensures stands { (cells : List Cell) (t : ℕ) → Stands self.old place.old cells t →
-            Stands self.new place.new (cells ++ cell_of cell.entry ∷ []) t }
-    {
-        match cell {
-            CellRef::Good(container) => {
-                if self.good(container) {
-                    *place = *container;
-                }
-            }
-            CellRef::Fail => self.fail(),
-            CellRef::End => self.end(),
-        }
-    }
-
-    /// Takes the next cell as `cell` does, but changes the boxes where the container of a good cell is whole.
-    /// What lies in `container` afterwards says nothing.
-    pub fn cell_boxed(
+    /// Takes the next cell, once each decided number was passed. Where the cell has a number of its own, which
+    /// is then whole, the boxes change, so that its container lies in `place`. What lies in `container`
+    /// afterwards says nothing.
+    pub fn cell(
         &mut self,
         sign: CellSign,
         container: &mut Box<HeldContainer>,

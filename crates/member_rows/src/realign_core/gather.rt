@@ -7,7 +7,7 @@ ghost use Rattle.base_cells.specs.declared.Cell.{Cell};
 ghost use Rattle.base_cells.specs.Held.{held};
 ghost use Rattle.law_model.specs.members.Number.{verdict};
 ghost use Rattle.law_model.specs.rows.Rows.{governing, first_open};
-ghost use Rattle.member_path.specs.line_reader.Told.{cell_of, cell_with, told_by};
+ghost use Rattle.member_path.specs.line_reader.Told.{cell_with, told_by};
 ghost use Rattle.member_path.specs.line_reader.Numbers.{IsOpen};
 ghost use Rattle.member_rows.specs.realign_core.Line.{Line};
 ghost use Rattle.member_rows.specs.realign_core.Gather.{Stands, line_count, IsOpenAt, AreDecided, decided_lines, open_line};
@@ -18,8 +18,8 @@ use crate::lcas_packet::Packet;
 use crate::realign_core::RowAnswer;
 use crate::realign_core::line::GatherLine;
 use crate::realign_core::nibbles::NIBBLES;
-use base_cells::{Cell, HeldContainer, blank_boxes};
-use member_path::line_reader::{CellRef, CellSign, Verdict, cell_ref};
+use base_cells::{HeldContainer, blank_boxes};
+use member_path::line_reader::{CellSign, Verdict};
 use std::alloc::{AllocError, Global};
 use std::marker::Model;
 
@@ -83,36 +83,9 @@ impl RowGather {
         }
     }
 
-    /// Takes the next cell of a line on which the next row isn't decided.
-    pub fn offer(&mut self, line: u8, cell: Cell)
-        requires line { line < line_count self.old }
-        requires open { IsOpenAt self.old line }
-        ensures stands { (cells : List (List Cell)) → Stands self.old cells →
-            Stands self.new (with_cell cells line cell) }
-        ensures lines { line_count self.new ≡ line_count self.old }
-        ensures rows { self.new.rows ≡ self.old.rows }
-    {
-        self.offer_from(line, cell_ref(&cell));
-    }
-
-    /// Takes the next cell as `offer` does, from where its container lies. Its payload is copied once, and
-    /// only where it is whole.
-    pub fn offer_from(&mut self, line: u8, cell: CellRef<'_>)
-        requires line { line < line_count self.old }
-        requires open { IsOpenAt self.old line }
-        ensures stands { (cells : List (List Cell)) → Stands self.old cells →
-            Stands self.new (with_cell cells line (cell_of cell.entry)) }
-        ensures lines { line_count self.new ≡ line_count self.old }
-        ensures rows { self.new.rows ≡ self.old.rows }
-    {
-        let m = usize::from(line);
-        self.lines[m].cell(cell, self.places[m].container_mut());
-        self.decided = decided_after(&self.lines, m, self.decided);
-    }
-
-    /// Takes the next cell as `offer` does, but changes the boxes where the container of a good cell is
-    /// whole, and copies nothing. What lies in `container` afterwards says nothing.
-    pub fn offer_boxed(&mut self, line: u8, sign: CellSign, container: &mut Box<HeldContainer>)
+    /// Takes the next cell of a line on which the next row isn't decided. Where the container of a good cell is
+    /// whole, the boxes change, so that nothing is copied. What lies in `container` afterwards says nothing.
+    pub fn offer(&mut self, line: u8, sign: CellSign, container: &mut Box<HeldContainer>)
         requires line { line < line_count self.old }
         requires open { IsOpenAt self.old line }
         ensures stands { (cells : List (List Cell)) → Stands self.old cells →
@@ -121,7 +94,7 @@ impl RowGather {
         ensures rows { self.new.rows ≡ self.old.rows }
     {
         let m = usize::from(line);
-        self.lines[m].cell_boxed(sign, container, &mut self.places[m]);
+        self.lines[m].cell(sign, container, &mut self.places[m]);
         self.decided = decided_after(&self.lines, m, self.decided);
     }
 

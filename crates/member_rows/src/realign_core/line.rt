@@ -5,7 +5,7 @@ ghost use Rattle.base_cells.specs.declared.Container.{Container};
 ghost use Rattle.base_cells.specs.declared.Cell.{Cell};
 ghost use Rattle.law_model.specs.members.Number.{verdict};
 ghost use Rattle.law_model.specs.packets.MemberPacket.{upper_of};
-ghost use Rattle.member_path.specs.line_reader.Told.{cell_of, cell_with, told_by};
+ghost use Rattle.member_path.specs.line_reader.Told.{cell_with, told_by};
 ghost use Rattle.member_path.specs.line_reader.Numbers.{IsOpen, is_open};
 ghost use Rattle.member_rows.specs.realign_core.Begun.{packet_at};
 ghost use Rattle.member_rows.specs.realign_core.Line.{LineStands};
@@ -14,7 +14,7 @@ use crate::lcas_packet::Packet;
 use crate::realign_core::nibbles::PacketNibbles;
 use base_cells::{Container, HeldContainer};
 use base_nibbles::nibble_hi;
-use member_path::line_reader::{CellRef, CellSign, LineNumbers, Verdict};
+use member_path::line_reader::{CellSign, LineNumbers, Verdict};
 use std::marker::Model;
 
 /// The numbers of a line, and the nibbles of its packets.
@@ -44,17 +44,9 @@ impl GatherLine {
         }
     }
 
-    /// Takes the next cell of a line whose next number isn't decided.
-    pub(super) fn cell(&mut self, cell: CellRef<'_>, place: &mut Container)
-        requires open { IsOpen self.old.numbers }
-        ensures stands { (own : List Cell) (t : ℕ) → LineStands self.old place.old own t →
-            LineStands self.new place.new (own ++ cell_of cell.entry ∷ []) t }
-    {
-        self.numbers.cell(cell, place);
-    }
-
-    /// Takes the next cell as `cell` does, but changes the boxes where the container of a good cell is whole.
-    pub(super) fn cell_boxed(
+    /// Takes the next cell of a line whose next number isn't decided, and changes the boxes where the container
+    /// of a good cell is whole.
+    pub(super) fn cell(
         &mut self,
         sign: CellSign,
         container: &mut Box<HeldContainer>,
@@ -65,7 +57,7 @@ impl GatherLine {
             LineStands self.new place.new.value
             (own ++ cell_with sign container.old.value ∷ []) t }
     {
-        self.numbers.cell_boxed(sign, container, place);
+        self.numbers.cell(sign, container, place);
     }
 
     /// Whether the next number isn't decided.

@@ -142,7 +142,7 @@ impl WalkLine {
             slot,
             (self.popped as usize + size - 1) % size,
         );
-        let carry = self.core.push_box(container, &mut self.places[slot]);
+        let carry = self.core.push(container, &mut self.places[slot]);
         self.carried += 1;
         self.given += keep(&mut self.signs, slot, carry);
     }
@@ -158,7 +158,7 @@ impl WalkLine {
         ensures popped { self.new.popped ≡ self.old.popped }
     {
         let slot = self.given as usize % self.signs.len();
-        let carry = self.core.flush_to(self.places[slot].container_mut());
+        let carry = self.core.flush(&mut self.places[slot]);
         self.carried += 1;
         self.given += keep(&mut self.signs, slot, carry);
     }
@@ -187,7 +187,7 @@ impl WalkLine {
             }
             let slot = self.popped as usize % self.signs.len();
             let sign = sign_of(self.signs[slot]);
-            rows.offer_boxed(line, sign, &mut self.places[slot]);
+            rows.offer(line, sign, &mut self.places[slot]);
             self.popped += 1;
         }
         !waits_for(rows, line)

@@ -1,6 +1,6 @@
 -- The cell changes nothing of the nibbles.
 use Rattle.std.proofs.Common.{◌∷◌, [], sym, subst}
-use Rattle.member_path.specs.line_reader.Told.{cell_of}
+use Rattle.member_path.specs.line_reader.Told.{cell_with}
 use Rattle.member_rows.specs.realign_core.Line.{LineStands}
 use Rattle.member_rows.proofs.RealignCoreLaws.LineLaws.{nibbles-stay}
 use Rattle.member_rows.proofs.realign_core.line.GatherLine.cell.Goals as goal
@@ -9,10 +9,11 @@ pub returns : goal.returns
 returns c = record {
   stands = λ own t stands.
       let inside = c.self.inside in
-      let before = subst (λ v. LineStands v c.args.place.now own t) (sym c.self.view_is) stands in
+      let place = c.args.place.now.value in
+      let before = subst (λ v. LineStands v place own t) (sym c.self.view_is) stands in
       record {
         numbers = c.cell.ensures.stands own t before.numbers;
-        nibbles = nibbles-stay inside.nibbles inside.numbers c.args.place.now own
-            (cell_of c.args.cell ∷ []) t before.numbers before.nibbles;
+        nibbles = nibbles-stay inside.nibbles inside.numbers place own
+            (cell_with c.args.sign c.args.container.now.value ∷ []) t before.numbers before.nibbles;
       };
 }

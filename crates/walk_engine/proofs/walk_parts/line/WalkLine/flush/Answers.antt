@@ -18,11 +18,13 @@ returns-clause-has c calls has =
     let popped = ap (λ (line : Ringed). line.popped) c.self.view_is in
     let size = ap (λ (line : Ringed). length line.signs) c.self.view_is in
     let count : c.len.result ≡ length c.self.inside.signs.items = search (rules, c.len.ensures) in
-    has-more _ _ calls (and_flush calls) c.flush_to-carry.result c.flush_to-carry.new.out _ _ _ own is.some is.beside
-    (omega (arith, room, given, popped, size)) (c.flush_to-carry.ensures.stands calls own.core) (omega arith)
-    (c.flush_to-carry.ensures.cells calls own.core)
-    (c.keep.ensures.signs ∙ ap (λ n. with_sign c.flush_to-carry.result
+    has-more _ _ calls (and_flush calls) c.flush-carry.result
+    c.flush-carry.new.out.value _ _ _ own is.some is.beside
+    (omega (arith, room, given, popped, size)) (c.flush-carry.ensures.stands calls own.core) (omega arith)
+    (c.flush-carry.ensures.cells calls own.core)
+    (c.keep.ensures.signs ∙ ap (λ n. with_sign c.flush-carry.result
     (c.self.inside.given % n) c.self.inside.signs.items) count)
-    (map-set (λ (b : Box Container). b.value) c.self.inside.places.items (c.self.inside.given % c.len.result) _
-    ∙ ap (λ n. slice_set (held c.self.inside.places.items) (c.self.inside.given % n) c.flush_to-carry.new.out) count)
+    (map-set (λ (b : Box Container). b.value) c.self.inside.places.items (c.self.inside.given % c.len.result)
+    c.flush-carry.new.out
+    ∙ ap (λ n. slice_set (held c.self.inside.places.items) (c.self.inside.given % n) c.flush-carry.new.out.value) count)
     c.keep.ensures.count

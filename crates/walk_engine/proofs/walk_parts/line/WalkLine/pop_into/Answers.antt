@@ -93,16 +93,16 @@ loop-self-preserved c =
     record {
       core = inv.core;
       signs = inv.signs;
-      size = length-slice_set boxes (y % c.len.result) c.offer_boxed.new.container ∙ size;
+      size = length-slice_set boxes (y % c.len.result) c.offer.new.container ∙ size;
       carried = inv.carried;
       given = inv.given;
       more = omega (arith, more);
       pops = omega (arith, given, test);
-      lines = c.offer_boxed.ensures.lines ∙ inv.lines;
-      rows = c.offer_boxed.ensures.rows ∙ inv.rows;
+      lines = c.offer.ensures.lines ∙ inv.lines;
+      rows = c.offer.ensures.rows ∙ inv.rows;
       has = λ calls has.
-          let put = map-set (λ (b : Box Container). b.value) boxes (y % c.len.result) c.offer_boxed.new.container
-          ∙ ap (λ n. slice_set (held boxes) (y % n) c.offer_boxed.new.container.value) count in
+          let put = map-set (λ (b : Box Container). b.value) boxes (y % c.len.result) c.offer.new.container
+          ∙ ap (λ n. slice_set (held boxes) (y % n) c.offer.new.container.value) count in
           let before = inv.has calls has in
           let inside = c.loop-self.self-inside in
           subst (λ p. Has (record {
@@ -114,7 +114,7 @@ loop-self-preserved c =
             given = inside.given;
             popped = y + 1;
           }) calls) (sym put)
-          (has-popped _ calls c.offer_boxed.new.container.value before test
+          (has-popped _ calls c.offer.new.container.value before test
           (omega (arith, given, more, signs, room, was, is)));
       gathers = λ calls cells next.
           let path : List Cell = path_cells calls in
@@ -129,11 +129,11 @@ loop-self-preserved c =
           c.sign_of-sign.ensures c.index_mut.result.now.value cell
           (sym read ∙ before.holds y cell (omega arith) test there) in
           let low = slice_get_within cells c.args.line _ next.own in
-          subst (Gathers c.offer_boxed.new.self)
+          subst (Gathers c.offer.new.self)
           (ap (λ x. with_cell (slice_set cells c.args.line (take y path)) c.args.line x) is
           ∙ with-set cells c.args.line (take y path) cell low
           ∙ ap (slice_set cells c.args.line) (sym (take-next path y cell there)))
-          (c.offer_boxed.ensures.stands _ (inv.gathers calls cells next));
+          (c.offer.ensures.stands _ (inv.gathers calls cells next));
       until = λ calls cells next.
           let open' : c.waits_for.result ≡ true = search (rules, c.if-not-waits_for.false) in
           let own : List Cell = take c.loop-self.self-inside.popped (path_cells calls) in

@@ -32,14 +32,14 @@ returns-clause-has c calls has =
     (c.exchange.ensures.others k (λ e. apart (e ∙ ap (λ n. c.self.inside.given % n) count))
     (λ e. free (e ∙ ap (λ n. (c.self.inside.popped + n - 1) % n) count)))
     ∙ sym (slice_get-map (λ (b : Box Container). b.value) c.self.inside.places.items k)) in
-    has-more _ _ calls (and_push calls c.args.container.now.value) c.push_box-carry.result
-    c.push_box-carry.new.out.value _ _ _ changed is.some (same ∙ is.beside)
-    few (c.push_box-carry.ensures.stands calls own.core) (omega (arith, grown))
-    (c.push_box-carry.ensures.cells calls own.core)
-    (c.keep.ensures.signs ∙ ap (λ n. with_sign c.push_box-carry.result
+    has-more _ _ calls (and_push calls c.args.container.now.value) c.push-carry.result
+    c.push-carry.new.out.value _ _ _ changed is.some (same ∙ is.beside)
+    few (c.push-carry.ensures.stands calls own.core) (omega (arith, grown))
+    (c.push-carry.ensures.cells calls own.core)
+    (c.keep.ensures.signs ∙ ap (λ n. with_sign c.push-carry.result
     (c.self.inside.given % n) c.self.inside.signs.items) count)
     (map-set (λ (b : Box Container). b.value) c.exchange.new.places.items (c.self.inside.given % c.len-size.result)
-    c.push_box-carry.new.out
-    ∙ ap (λ n. slice_set (held c.exchange.new.places.items) (c.self.inside.given % n) c.push_box-carry.new.out.value)
+    c.push-carry.new.out
+    ∙ ap (λ n. slice_set (held c.exchange.new.places.items) (c.self.inside.given % n) c.push-carry.new.out.value)
     count)
     c.keep.ensures.count

@@ -3,7 +3,7 @@ use Rattle.std.proofs.Common.{◌-◌, [], ◌∷◌, ◌∙◌, ap, subst, sym,
 use Rattle.law_model.specs.members.Damage.{carried}
 use Rattle.member_path.specs.line_core.Line.{Line, Stands}
 use Rattle.member_path.proofs.LineCoreLaws.StandsLaws.{push-stored, push-cells, none-flushed}
-use Rattle.member_path.proofs.line_core.line.LineCore.push_from.Goals as goal
+use Rattle.member_path.proofs.line_core.line.LineCore.push.Goals as goal
 
 pub returns-in-Some-clause-stands : goal.returns-in-Some-clause-stands
 returns-in-Some-clause-stands c calls stands =
@@ -19,8 +19,8 @@ returns-in-Some-clause-stands c calls stands =
       windows = own.windows;
       total = own.total;
       stored = ap (λ store. store.items) c.pass.ensures.store
-          ∙ push-stored _ calls c.args.container.now own none (omega (arith, full, pushed, delay));
-      pushed = omega (arith, length-append calls.containers (c.args.container.now ∷ []), own.pushed);
+          ∙ push-stored _ calls c.args.container.now.value own none (omega (arith, full, pushed, delay));
+      pushed = omega (arith, length-append calls.containers (c.args.container.now.value ∷ []), own.pushed);
       flushed = own.flushed;
     }
 
@@ -33,6 +33,7 @@ returns-in-Some-clause-cells c calls stands =
     let none = none-flushed c.self.inside.pushed c.self.inside.total c.self.inside.flushed c.self.invariant.order
     (omega arith) in
     let full = c.in-Some.ensures.filled.0 in
-    push-cells _ calls c.args.container.now c.in-Some.fate _ own none (omega (arith, full, pushed, delay)) (omega arith)
+    push-cells _ calls c.args.container.now.value c.in-Some.fate _ own none (omega (arith, full, pushed, delay))
+    (omega arith)
     (c.in-Some.ensures.filled.1 ∙ ap (λ (line : Line). carried line.windows (line.pushed - line.delay))
     (sym c.self.view_is)) c.pass.ensures.cells

@@ -3,7 +3,7 @@ use Rattle.std.proofs.Common.{◌≡◌, ◌+◌, ◌-◌, ◌∙◌, ap, subst,
 use Rattle.law_model.specs.members.Damage.{carried}
 use Rattle.member_path.specs.line_core.Line.{Line, Stands}
 use Rattle.member_path.proofs.LineCoreLaws.StandsLaws.{flush-stored, flush-cells}
-use Rattle.member_path.proofs.line_core.line.LineCore.flush_box.Goals as goal
+use Rattle.member_path.proofs.line_core.line.LineCore.flush.Goals as goal
 
 pub returns-else-left-eq0-clause-stands : goal.returns-else-left-eq0-clause-stands
 returns-else-left-eq0-clause-stands c calls stands =
@@ -14,7 +14,7 @@ returns-else-left-eq0-clause-stands c calls stands =
       delay = own.delay;
       windows = own.windows;
       total = own.total;
-      stored = ap (λ store. store.items) c.let_go_box.ensures.store ∙ flush-stored _ calls own (omega arith);
+      stored = ap (λ store. store.items) c.let_go.ensures.store ∙ flush-stored _ calls own (omega arith);
       pushed = own.pushed;
       flushed = omega (arith, own.flushed);
     }
@@ -29,4 +29,4 @@ returns-else-left-eq0-clause-cells c calls stands =
     let next : c.self.inside.total - (c.from.result - c.self.inside.flushed)
     ≡ c.self.inside.pushed + c.self.inside.flushed - c.self.inside.delay = omega arith in
     flush-cells _ calls c.at-fate.result _ own (omega arith) (omega arith) (omega arith)
-    (c.at-fate.ensures ∙ ap (carried c.self.inside.windows) next) c.let_go_box.ensures.cells
+    (c.at-fate.ensures ∙ ap (carried c.self.inside.windows) next) c.let_go.ensures.cells

@@ -5,14 +5,14 @@ use Rattle.base_cells.specs.Held.{held}
 use Rattle.member_path.specs.line_reader.Told.{cell_with}
 use Rattle.member_rows.specs.realign_core.Gather.{Gather, Stands, IsOpenAt, decided_lines, with_cell}
 use Rattle.member_rows.proofs.RealignCoreLaws.GatherLaws.{offered_held, length-slice_set}
-use Rattle.member_rows.proofs.realign_core.gather.RowGather.offer_boxed.Goals as goal
+use Rattle.member_rows.proofs.realign_core.gather.RowGather.offer.Goals as goal
 
 pub invariant_of-self : goal.invariant_of-self
 invariant_of-self c =
     let inside = c.self.inside in
     let m = c.from-m.result in
     let old = inside.lines.items in
-    let after = c.cell_boxed.new.self in
+    let after = c.cell.new.self in
     let known = c.self.invariant in
     let lines = length-slice_set old m after in
     let size = ap (λ v. length v.lines) c.self.view_is in
@@ -48,12 +48,12 @@ returns-clause-stands c cells stands =
     let lay = slice_get-get_or inside.places.items m c.index_mut-2.result.now (omega arith)
     ∙ ap Some (sym c.index_mut-2.ensures.value) in
     let new : Gather = record {
-      lines = slice_set old m c.cell_boxed.new.self;
-      places = held (slice_set inside.places.items m c.cell_boxed.new.place);
+      lines = slice_set old m c.cell.new.self;
+      places = held (slice_set inside.places.items m c.cell.new.place);
       packets = inside.packets.items;
       rows = inside.rows;
     } in
     subst (λ k. Stands new (with_cell cells k (cell_with c.args.sign c.args.container.now.value))) c.from-m.ensures
     (offered_held old inside.places.items inside.packets.items inside.rows m c.index_mut.result.now
-    c.cell_boxed.new.self c.index_mut-2.result.now c.cell_boxed.new.place
-    (cell_with c.args.sign c.args.container.now.value) cells was lay c.cell_boxed.ensures.stands before)
+    c.cell.new.self c.index_mut-2.result.now c.cell.new.place
+    (cell_with c.args.sign c.args.container.now.value) cells was lay c.cell.ensures.stands before)
