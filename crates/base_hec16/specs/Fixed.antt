@@ -1,8 +1,8 @@
 -- Words whose check stands behind them, with at most one wrong bit among both.
-use Rattle.std.specs.Prelude.{◌≡◌, ℕ, ◌-◌, ◌/◌, ◌%◌, ◌^◌, ◌<◌, ◌≤◌, true, false, Bool, List, ◌∷◌, ◌++◌, replicate}
+use Rattle.std.specs.Prelude.{ℕ, ◌-◌, ◌^◌, ◌<◌, ◌≤◌, true, false, Bool, List, ◌∷◌, ◌++◌, replicate}
 use Rattle.base_remainder.specs.Bits.{bits, xors}
 use Rattle.base_remainder.specs.Count.{count}
-use Rattle.base_hec16.specs.Hec.{hec_bits, hec_of}
+use Rattle.base_hec16.specs.Hec.{hec_bits}
 
 -- one bit of 32
 abbrev pub bit_at : ℕ → List Bool
@@ -12,8 +12,3 @@ bit_at place = replicate place false ++ true ∷ replicate (31 - place) false
 pub record IsFixed (word check right : ℕ) : Type 0 where
   pub fits : right < 2 ^ 16
   pub few : count (xors (bits 16 right ++ hec_bits right) (bits 16 word ++ bits 16 check)) ≤ 1
-
--- ---- as private clauses say it
--- the lower half of 32 bits is the check of the upper half
-abbrev pub IsSound : ℕ → Type 0
-IsSound header = header % 2 ^ 16 ≡ hec_of (header / 2 ^ 16)

@@ -14,4 +14,4 @@ mod transfer;
 pub use memory::{MemSink, MemSource};
 pub use standard::{StdSink, StdSource};
 pub use traits::{ByteSink, ByteSource, Failed};
-pub use transfer::{ReadEnd, put_all, read_all};
+pub use transfer::{ReadEnd, put_all, read_all, take_back};

@@ -18,7 +18,7 @@ mod words;
 pub use input::{MOST, read_input};
 pub use laws::{end_law, input_law, made_law};
 pub use pieces::{PieceReader, read_pieces};
-pub use report::{take_back, write_rest};
+pub use report::write_rest;
 pub use script::{line_fault, read_whole_script, stop_of};
 pub use stop::{Fault, Refusal, Stop, tell, tell_usage};
 pub use words::{NO_MEMORY, given_words};

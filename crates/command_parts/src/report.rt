@@ -1,5 +1,5 @@
 //! The end of a report, behind the lines of delivered frames.
-ghost use Rattle.std.specs.Prelude.{◌≡◌, ℕ, List, ◌++◌};
+ghost use Rattle.std.specs.Prelude.{ℕ, List, ◌++◌};
 ghost use Rattle.text_report.specs.Report.{refused_texts, total_text};
 ghost use Rattle.base_io.specs.Start.{Start};
 ghost use Rattle.text_got.specs.Told.{HasText};
@@ -33,11 +33,4 @@ pub fn write_rest<K: ByteSink>(refusals: &[(u32, Refusal)], totals: &Totals, got
     let mut line = [0u8; TOTAL_ROOM];
     let end = total_line(totals, &mut line);
     got.line(&line[..end]);
-}
-
-/// Ends a loan: what was lent is then what the reference says.
-pub fn take_back<K>(out: &mut K)
-    ensures { out.new ≡ out.old }
-{
-    let _ = out;
 }

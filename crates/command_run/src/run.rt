@@ -14,8 +14,8 @@ ghost use Rattle.command_run.specs.Ended.{HasEnded, HandsSession, end_text};
 
 use crate::command::RunCommand;
 use crate::end::{RunEnd, cut, done, stopped};
-use base_io::{ByteSink, ByteSource, Failed};
-use command_parts::{Stop, read_whole_script, take_back, write_rest};
+use base_io::{ByteSink, ByteSource, Failed, take_back};
+use command_parts::{Stop, read_whole_script, write_rest};
 use law_model::Totals;
 use std::alloc::Global;
 use std::sync::Wait;

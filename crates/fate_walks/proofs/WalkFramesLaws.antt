@@ -1,4 +1,3 @@
 pub mod StreamLaws
-pub mod StayLaws
 pub mod LandedFrameLaws
 pub mod NextLaws

@@ -3,8 +3,7 @@
 //! turns. What a fate is, and how it is found, is in `fate_engine`. Begin with `walk_fates::SeenWalk`.
 //!
 //! - `walk_frames`: the client's frames in a walk that was made: which of them have landed, and why others are
-//!   refused; the stream that they make tick by tick; and that what became of a frame is known by the pieces
-//!   that the taken rows reach.
+//!   refused; and the stream that they make tick by tick.
 //! - `walk_fates`: what became of each frame of a walk: it is seen after each turn what packets and rows came
 //!   of it, then the places of its accepted frames are found, and then the text is written.
 //! - `walk_gfp`: the GFP frames of a walk's client, as the source sent them, are written as a capture: each

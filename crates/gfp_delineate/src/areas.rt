@@ -116,7 +116,6 @@ impl AreaReceiver {
 
     /// Takes octets as `byte` does, up to and including the first at which it answers other than `Nothing`,
     /// or all of them. The answer is their number, and that step or `Nothing`.
-    #[inline]
     pub fn feed(&mut self, piece: &[u8]) -> (usize, AreaStep)
         ensures within { result.0 ≤ length piece.now }
         ensures some { 0 < length piece.now → 0 < result.0 }
@@ -129,7 +128,16 @@ impl AreaReceiver {
         ensures least { result.1 ≡ AreaStep.Area → 4 ≤ length self.new.area }
         ensures greatest { result.1 ≡ AreaStep.Area → length self.new.area ≤ self.new.longest }
     {
-        self.take(piece)
+        let mut at = 0;
+        while at < piece.len() {
+            let (taken, step) = self.step(&piece[at..]);
+            at += taken;
+            match step {
+                AreaStep::Nothing => {}
+                _ => return (at, step),
+            }
+        }
+        (at, AreaStep::Nothing)
     }
 
     /// The area that is held, where the last octet completed one.

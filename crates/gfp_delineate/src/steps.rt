@@ -10,31 +10,6 @@ use crate::octets::{idle_run, keep, pass_over};
 use gfp_headers::read_core;
 
 impl AreaReceiver {
-    /// Takes octets up to and including the first that completes something, or all of them.
-    pub(crate) fn take(&mut self, piece: &[u8]) -> (usize, AreaStep)
-        ensures within { result.0 ≤ length piece.now }
-        ensures some { 0 < length piece.now → 0 < result.0 }
-        ensures all { result.1 ≡ AreaStep.Nothing → result.0 ≡ length piece.now }
-        ensures takes { Goes self.old self.new (take result.0 piece.now) ×
-            Adds self.old (take result.0 piece.now) (ends_told self.new.area result.1) }
-        ensures first { result.1 ≢ AreaStep.Nothing →
-            Adds self.old (take (result.0 - 1) piece.now) [] }
-        ensures least { result.1 ≡ AreaStep.Area → 4 ≤ length self.new.area }
-        ensures greatest { result.1 ≡ AreaStep.Area →
-            length self.new.area ≤ self.new.longest }
-    {
-        let mut at = 0;
-        while at < piece.len() {
-            let (taken, step) = self.step(&piece[at..]);
-            at += taken;
-            match step {
-                AreaStep::Nothing => {}
-                _ => return (at, step),
-            }
-        }
-        (at, AreaStep::Nothing)
-    }
-
     /// Takes octets of one part of the stream, at least one.
     #[inline]
     pub(crate) fn step(&mut self, piece: &[u8]) -> (usize, AreaStep)

@@ -1,6 +1,5 @@
 -- The headline: what the report of a session tells, in the words of whoever wrote its script.
 use Rattle.std.specs.Prelude.{◌≡◌, ◌↔◌, ◌⊎◌, ℕ, ◌≤◌, Bool, true, List, ◌++◌, map, filter, All, Option, Ok}
-use Rattle.base_io.specs.Transfer.{Appends}
 use Rattle.law_model.specs.declared.script.Script.{Script}
 use Rattle.law_model.specs.session.Leg.{Leg, leg_of}
 use Rattle.law_model.specs.frames.Segment.{segments}
@@ -64,11 +63,3 @@ abbrev pub IsRunHeadline : List ℕ → List ℕ → Type 0
 IsRunHeadline text written =
     (script : Script) × (script_of text ≡ Ok script)
     × (let all = script.config.ticks in IsHeadline (leg_of script) all all (numbered 0 script.items) written)
-
--- ---- written on a sink, which tells its octets by `written` and its faults by `faults`
--- a headline of a text, `IsWalkHeadline` or `IsRunHeadline`, was appended whole
-pub record WritesHeadline {K : Type 0} (IsHeadlineOf : List ℕ → List ℕ → Type 0) (written : K → Option (List ℕ))
-    (faults : K → ℕ) (old new : K) (text : List ℕ) : Type 0 where
-  pub report : List ℕ
-  pub is : IsHeadlineOf text report
-  pub appended : Appends written faults old new report

@@ -1,12 +1,7 @@
 //! A pair of sessions, event by event.
 
-ghost use Rattle.std.specs.Prelude.{◌≡◌, ◌<◌, suc, [], ◌∷◌, length, replicate, IfOk, option_map, slice_get};
-ghost use Rattle.std.specs.Option.{option_copied};
-ghost use Rattle.law_model.specs.session.Scenario.{steps_in};
-ghost use Rattle.member_path.specs.line_reader.Told.{cell_of};
+ghost use Rattle.std.specs.Prelude.{◌≡◌, ◌<◌, suc, [], ◌∷◌, length, replicate, IfOk};
 ghost use Rattle.law_walk.specs.Landed.{refusals_of, totals_of};
-ghost use Rattle.law_walk.specs.Step.{table_in};
-ghost use Rattle.walk_engine.specs.walk_core.Waiting.{send_ring, receive_ring};
 ghost use Rattle.law_pair.specs.declared.pair.Way.TheVariants.{There as THERE, Back as BACK};
 ghost use Rattle.law_pair.specs.declared.pair.PairEvent.TheVariants.{Item, Tick, Carry, Take};
 ghost use Rattle.law_pair.specs.Pair.{IsPair};
@@ -20,13 +15,10 @@ ghost use Rattle.pair_engine.specs.Ways.{IsNewWay};
 use crate::moved::{PairMoved, moved_on};
 use crate::pair_way::PairWay;
 use crate::tick::{take_row, tick_both, tick_stall};
-use base_cells::Container;
 use law_model::{FrameOut, Refusal, Script, Totals};
 use law_pair::{PairEvent, Way};
-use member_path::line_reader::CellRef;
 use std::alloc::{AllocError, Global};
 use std::marker::Model;
-use terminal_source::lcas_source::SourceTable;
 
 /// Two sessions, one each way, that tick together.
 pub struct Pair {
@@ -175,44 +167,6 @@ impl Pair {
         match way {
             Way::There => &self.there.script,
             Way::Back => &self.back.script,
-        }
-    }
-
-    /// The table of the lines of a way after its last decision step and the commands that were accepted since.
-    pub fn table(&self, way: Way) -> &SourceTable
-        ensures table { result.now.source.table
-            ≡ table_in (leg_on self.now way) (counts_on self.now.counts way).ticks }
-        ensures steps { result.now.steps ≡ steps_in (counts_on self.now.counts way).ticks }
-    {
-        match way {
-            Way::There => self.there.core.table(),
-            Way::Back => self.back.core.table(),
-        }
-    }
-
-    /// The container at a place of the send ring of a line of a way, from the oldest on, or `None` beyond the
-    /// last one that waits there.
-    pub fn send_ring(&self, way: Way, line: u8, place: u32) -> Option<&Container>
-        requires { line < (script_on self.now way).config.lines }
-        ensures { option_copied result ≡ slice_get
-            (send_ring (leg_on self.now way) (counts_on self.now.counts way) line) place }
-    {
-        match way {
-            Way::There => self.there.core.send_ring(line, place),
-            Way::Back => self.back.core.send_ring(line, place),
-        }
-    }
-
-    /// The cell at a place of the receive ring of a line of a way, from the oldest on, or `None` beyond the
-    /// last one that waits there.
-    pub fn receive_ring(&self, way: Way, line: u8, place: u32) -> Option<CellRef<'_>>
-        requires { line < (script_on self.now way).config.lines }
-        ensures { option_map cell_of result ≡ slice_get
-            (receive_ring (leg_on self.now way) (counts_on self.now.counts way) line) place }
-    {
-        match way {
-            Way::There => self.there.core.receive_ring(line, place),
-            Way::Back => self.back.core.receive_ring(line, place),
         }
     }
 

@@ -15,8 +15,8 @@ ghost use Rattle.pair_engine.specs.Moved.{leg_on, plan_of, with_counts, GivesWay
 ghost use Rattle.pair_walk.specs.Rounds.{FailsOne, FewRows};
 ghost use Rattle.pair_walk.specs.Text.{way_text};
 
-use base_io::{ByteSink, Failed};
-use command_parts::{take_back, write_rest};
+use base_io::{ByteSink, Failed, take_back};
+use command_parts::write_rest;
 use law_model::FrameOut;
 use pair_engine::{Pair, PairEvent, Way};
 use text_got::{GotLines, MayFail};

@@ -1,4 +1,3 @@
-pub mod Kept
 pub mod Given
 pub mod Receives
 pub mod Active

@@ -1,5 +1,6 @@
 //! Worked groups: which frames come through, and which return packets are said.
 
+mod kept;
 mod table;
 
 ghost use Rattle.std.specs.Prelude.{◌≡◌, ◌<◌, IfSome};
@@ -8,13 +9,14 @@ ghost use Rattle.member_rows.specs.realign_core.Gather.{line_count, IsOpenAt};
 use base_cells::{Cell, Container, Ctrl, HeldContainer, PAYLOAD};
 use gfp_headers::{core_bytes, type_bytes};
 use gfp_scramble::Scrambler;
+use kept::KeptFrames;
 use member_path::h4_multiframe::h4;
 use member_path::line_reader::CellSign;
 use member_rows::lcas_packet::Packet;
 use member_rows::realign_core::RowGather;
 use std::alloc::{AllocError, Global};
 use table::{Case, Said, case_of, case_rows, number};
-use terminal_sink::sink_core::{KeptFrames, SinkCore, TakeAnswer};
+use terminal_sink::sink_core::{SinkCore, TakeAnswer};
 
 /// Octet `j` of frame `number`.
 fn octet(number: u32, j: u32) -> u8 {
@@ -259,7 +261,7 @@ fn is_frame(case: &Case, frame: &str, found: &[u8]) -> bool {
 /// Whether the frames that came through are those of the group.
 fn are_frames(case: &Case, out: &KeptFrames) -> bool {
     let mut wanted = case.frames.split(' ');
-    for found in out.frames() {
+    for found in &out.frames {
         let Some(frame) = wanted.next() else {
             return false;
         };
@@ -267,7 +269,7 @@ fn are_frames(case: &Case, out: &KeptFrames) -> bool {
             return false;
         }
     }
-    wanted.next().is_none() && !out.is_full()
+    wanted.next().is_none() && !out.full
 }
 
 /// Takes all rows of a group. Tells whether they are all taken, and each return packet is that of the group.
@@ -316,7 +318,7 @@ fn sink_of(alloc: Global, case: &Case) -> Option<(RowGather, SinkCore)>
 /// Whether the rows, the return packets and the frames are those of a group.
 fn is_right(alloc: Global, case: &Case) -> Option<bool> {
     let stream = stream_of(alloc, case.pieces).ok()?;
-    let mut out = KeptFrames::new(alloc).ok()?;
+    let mut out = KeptFrames::new(alloc);
     let (mut rows, mut sink) = sink_of(alloc, case)?;
     let hand = Box::new(alloc, HeldContainer::new()).ok()?;
     let mut next = Next {

@@ -1,5 +1,4 @@
 //! Frames are counted, and written as lines of text.
-ghost use Rattle.std.specs.Prelude.{◌≡◌};
 
 use base_io::ByteSink;
 use law_model::FrameOut;
@@ -42,11 +41,4 @@ impl<'a, K: ByteSink> FrameOut for ToldOut<'a, K> {
         self.counted.frame(frame);
         self.lines.frame(frame);
     }
-}
-
-/// Ends a loan: what was lent is then what the reference says.
-pub(crate) fn take_back<K>(out: &mut K)
-    ensures { out.new ≡ out.old }
-{
-    let _ = out;
 }

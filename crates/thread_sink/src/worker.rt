@@ -3,10 +3,10 @@ ghost use Rattle.std.specs.Prelude.{◌≡◌, ◌≤◌, length};
 ghost use Rattle.member_rows.specs.realign_core.Gather.{line_count};
 
 use crate::burst::SinkBurst;
-use crate::got::{CountOut, ToldOut, take_back};
+use crate::got::{CountOut, ToldOut};
 use crate::rows::take_rows;
 use base_cells::{BackCell, Cell};
-use base_io::ByteSink;
+use base_io::{ByteSink, take_back};
 use member_rows::realign_core::RowGather;
 use std::alloc::{AllocError, Global};
 use terminal_sink::sink_core::SinkCore;

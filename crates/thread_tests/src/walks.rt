@@ -6,11 +6,21 @@ use crate::courses::{Answer, course};
 use crate::scripts::read;
 use law_model::SourceState;
 use std::alloc::Global;
-use terminal_sink::sink_core::KeptFrames;
+use terminal_sink::sink_core::FrameOut;
 use walk_engine::walk_core::{Event, Moved, Walk};
 
+/// Takes frames, and does nothing with them.
+#[derive(Drop)]
+struct Silent;
+
+impl FrameOut for Silent {
+    ghost stands_for = { λ silent start frames. Unit {0} };
+
+    fn frame(&mut self, _frame: &[u8]) {}
+}
+
 /// Makes an event, where it is of no line beyond the last.
-fn make(walk: &mut Walk, lines: u8, event: Event, out: &mut KeptFrames) -> Option<Moved>
+fn make(walk: &mut Walk, lines: u8, event: Event, out: &mut Silent) -> Option<Moved>
     requires valid { IsValid walk.old.script }
     requires lines { lines ≡ walk.old.script.config.lines }
     ensures { walk.new.script ≡ walk.old.script }
@@ -26,13 +36,7 @@ fn make(walk: &mut Walk, lines: u8, event: Event, out: &mut KeptFrames) -> Optio
 }
 
 /// Makes an event some times, and gives its last answer.
-fn repeat(
-    walk: &mut Walk,
-    lines: u8,
-    event: Event,
-    count: u32,
-    out: &mut KeptFrames,
-) -> Option<Moved>
+fn repeat(walk: &mut Walk, lines: u8, event: Event, count: u32, out: &mut Silent) -> Option<Moved>
     requires valid { IsValid walk.old.script }
     requires lines { lines ≡ walk.old.script.config.lines }
     ensures { walk.new.script ≡ walk.old.script }
@@ -45,7 +49,7 @@ fn repeat(
 }
 
 /// Makes the events of a course. Whether the last answer of each is right.
-fn makes(walk: &mut Walk, lines: u8, steps: &[Answer], out: &mut KeptFrames) -> bool
+fn makes(walk: &mut Walk, lines: u8, steps: &[Answer], out: &mut Silent) -> bool
     requires valid { IsValid walk.old.script }
     requires lines { lines ≡ walk.old.script.config.lines }
 {
@@ -58,7 +62,7 @@ fn makes(walk: &mut Walk, lines: u8, steps: &[Answer], out: &mut KeptFrames) -> 
 }
 
 /// Whether the line of a walk is in the group once it has drained.
-fn is_added(walk: &mut Walk, out: &mut KeptFrames) -> bool {
+fn is_added(walk: &mut Walk, out: &mut Silent) -> bool {
     walk.drain(out);
     walk.totals().taken == 41 && walk.table().state(0) == SourceState::Norm
 }
@@ -73,7 +77,7 @@ fn text_of(number: u8) -> &'static [u8] {
 }
 
 /// Whether a course is right in the walk of its script.
-fn is_right(alloc: Global, number: u8, out: &mut KeptFrames) -> bool {
+fn is_right(alloc: Global, number: u8, out: &mut Silent) -> bool {
     let Ok(script) = read(alloc, text_of(number)) else {
         return false;
     };
@@ -86,7 +90,7 @@ fn is_right(alloc: Global, number: u8, out: &mut KeptFrames) -> bool {
 }
 
 /// Whether all are.
-fn are_all_right(alloc: Global, out: &mut KeptFrames) -> bool {
+fn are_all_right(alloc: Global, out: &mut Silent) -> bool {
     let mut are_right = true;
     for number in 0..4u8 {
         are_right = are_right && is_right(alloc, number, out);
@@ -96,9 +100,5 @@ fn are_all_right(alloc: Global, out: &mut KeptFrames) -> bool {
 
 #[test]
 fn events_answer(rt: HostRuntime) {
-    let are_right = match KeptFrames::new(rt.alloc()) {
-        Ok(mut out) => are_all_right(rt.alloc(), &mut out),
-        Err(_) => false,
-    };
-    assert!(rt; are_right);
+    assert!(rt; are_all_right(rt.alloc(), &mut Silent));
 }

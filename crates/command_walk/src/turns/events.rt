@@ -22,8 +22,7 @@ ghost use Rattle.command_walk.specs.rooms.Trace.{decision_text, decisions_text, 
 ghost use Rattle.command_walk.specs.Told.{events_of, IsTurn, IsTold};
 
 use crate::turns::ready::LinesAndTicks;
-use base_io::{ByteSink, Failed, put_all};
-use command_parts::take_back;
+use base_io::{ByteSink, Failed, put_all, take_back};
 use fate_walks::walk_fates::is_step;
 use law_model::{Event, EventLine, FrameOut};
 use text_captures::trace_core::{TRACE_ROOM, trace_line};

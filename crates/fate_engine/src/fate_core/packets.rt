@@ -84,13 +84,6 @@ impl Packets {
         }
     }
 
-    /// How many packets there are.
-    pub fn len(&self) -> usize
-        ensures { result ≡ length self.now.active }
-    {
-        self.packets.len()
-    }
-
     /// The place of the stream at which a row begins.
     pub fn place(&self, row: u32) -> u64
         requires { row ≤ 16 * length self.now.active + 24 }

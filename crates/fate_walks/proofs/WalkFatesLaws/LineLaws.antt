@@ -38,13 +38,13 @@ use Rattle.fate_engine.specs.fate_law.SessionFates.{End, refused, accepted, Ende
 use Rattle.fate_engine.specs.fate_law.SessionFates.{fate_at, is_refused, has_got, has_waited, count_of}
 use Rattle.fate_engine.specs.fate_law.FateText.{ended_text, fates_end}
 use Rattle.fate_engine.specs.fate_text.Lines.{last_text}
+use Rattle.fate_engine.proofs.FateLaws.MadeLaws.{session-made}
 use Rattle.fate_engine.proofs.FateLaws.MarkLaws.{parts-of}
 use Rattle.fate_engine.proofs.FateLaws.RulerLaws.{piece-front}
 use Rattle.fate_engine.proofs.FateCoreLaws.FateSteps.{rows-count, place-up, row-is}
 use Rattle.fate_walks.specs.declared.walk_frames.landed.LandedFrame.{LandedFrame}
 use Rattle.fate_walks.specs.walk_frames.Landed.{Cursor, frames_before_item, frames_left, IsAt, IsNext, IsPast}
 use Rattle.fate_walks.proofs.WalkFramesLaws.LandedFrameLaws.{take-one}
-use Rattle.fate_walks.proofs.WalkFramesLaws.StayLaws.{session-fate}
 use Rattle.fate_walks.proofs.WalkFramesLaws.NextLaws.{next-count}
 use Rattle.fate_walks.specs.declared.walk_fates.seen.SeenWalk.{SeenWalk}
 use Rattle.fate_walks.specs.declared.walk_fates.lines.EndedCount.{EndedCount}
@@ -177,7 +177,8 @@ module _ (leg : Leg) (s : Counts) (seen : SeenWalk) (sees : SeesWalk leg s seen)
   pub fate-is : (i : ℕ) (result : Fate) →
       result ≡ fate_at (stream_before (scenario_by leg) (session_of leg) s.ticks).pieces
       (session_rows leg s.rows) i → result ≡ fates_in leg s.rows i
-  fate-is i result is = is ∙ sym (session-fate leg s.ticks s.rows i within.0 within.1)
+  fate-is i result is =
+      is ∙ sym (session-made (scenario_by leg) (session_of leg) s.rows s.ticks leg.config.ticks i within.0 within.1)
 
   pub starts-are : (result : Bool) →
       result ≡ are_true_marks (stream_before (scenario_by leg) (session_of leg) s.ticks).pieces

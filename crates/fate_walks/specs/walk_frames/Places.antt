@@ -2,10 +2,9 @@
 use Rattle.std.specs.Prelude.{◌≡◌, ℕ, ◌≤◌, ◌<◌, take, Some, slice_get}
 use Rattle.law_model.specs.session.Leg.{Leg}
 use Rattle.law_model.specs.session.Scenario.{DueFrame, scenario_by, offers_of}
-use Rattle.law_model.specs.source.Client.{Stream, place_of, stream_before}
+use Rattle.law_model.specs.source.Client.{Stream, place_of}
 use Rattle.law_walk.specs.Walk.{session_of}
 use Rattle.law_walk.specs.Landed.{stream_met}
-use Rattle.fate_engine.specs.fate_law.Ruler.{Ruler, ruler_of}
 
 -- the place of the stream at which a row begins
 abbrev pub place_in : Leg → ℕ → ℕ
@@ -29,7 +28,3 @@ IsLate leg frames to = (j : ℕ) (offer : DueFrame) → frames ≤ j → slice_g
 pub record Between (leg : Leg) (frames from to : ℕ) : Type 0 where
   pub early : IsEarly leg frames from
   pub late : IsLate leg frames to
-
--- the ruler is that of the stream before a tick is made
-abbrev pub Rules : Leg → ℕ → Ruler → Type 0
-Rules leg ticks ruler = ruler ≡ ruler_of (stream_before (scenario_by leg) (session_of leg) ticks)

@@ -18,8 +18,7 @@ ghost use Rattle.fate_engine.specs.fate_text.Lines.{told_text, item_text};
 
 use crate::walk_fates::seen::SeenWalk;
 use crate::walk_frames::{FrameCursor, LandedFrame};
-use base_io::{ByteSink, Failed};
-use command_parts::take_back;
+use base_io::{ByteSink, Failed, take_back};
 use fate_engine::fate_core::{Fate, FateTotals, RowSegment, SpoiledRun, fate, starts_true};
 use fate_engine::fate_text::{
     ROOM, Tally, ToldMark, fate_line, fates_line, refused_line, segment_line, spoiled_line,

@@ -16,8 +16,7 @@ ghost use Rattle.fate_walks.specs.walk_gfp.Records.{last_row, frame_if};
 
 use crate::walk_fates::{SeenWalk, accepted_fate};
 use crate::walk_frames::FrameCursor;
-use base_io::{ByteSink, Failed};
-use command_parts::take_back;
+use base_io::{ByteSink, Failed, take_back};
 use fate_engine::fate_core::Fate;
 use law_model::ItemKind;
 use text_captures::capture_file::GfpOut;

@@ -11,10 +11,10 @@ ghost use Rattle.gfp_channels.specs.channel_link.Text.{after_offers, plan_text, 
 ghost use Rattle.gfp_channels.specs.channel_link.Run.{IsReady, Received};
 
 use crate::channel_link::draft::{ChannelPlan, Offer};
-use crate::channel_link::lines::{Counts, LINE_ROOM, end_line, refused_line, take_back};
+use crate::channel_link::lines::{Counts, LINE_ROOM, end_line, refused_line};
 use crate::channel_link::reception::{Reception, send_all};
 use crate::gfp_linear::{LinearDelineator, LinearFiller, LinearQueue};
-use base_io::{ByteSink, Failed};
+use base_io::{ByteSink, Failed, take_back};
 use gfp_model::linear_model::{ChannelFault, Cut};
 use std::alloc::{AllocError, Global};
 use std::marker::Model;

@@ -1,6 +1,6 @@
 //! The receiver of a stream of frames with an FCS. In SYNC it corrects core headers with one wrong bit.
 
-ghost use Rattle.std.specs.Prelude.{◌≡◌, ◌≢◌, ℕ, ◌-◌, ◌<◌, ◌≤◌, ◌↔◌, List, [], ◌∷◌, ◌++◌, length, map, take};
+ghost use Rattle.std.specs.Prelude.{◌≡◌, ◌≢◌, ℕ, ◌<◌, ◌≤◌, ◌↔◌, List, [], ◌∷◌, ◌++◌, length, map, take};
 ghost use Rattle.std.specs.Prelude.{IfOk, IfSome, IsSome, IsTrue, Some};
 ghost use Rattle.std.specs.Int.{to_be_bytes, w32};
 ghost use Rattle.law_model.specs.Limits.{longest_frame};
@@ -81,30 +81,6 @@ impl FcsDelineator {
         step
     }
 
-    /// Takes octets as `byte` does, up to and including the first at which it answers other than `Nothing`,
-    /// or all of them. The answer is their number, and that step or `Nothing`.
-    pub fn feed(&mut self, piece: &[u8]) -> (usize, FcsStep)
-        ensures within { result.0 ≤ length piece.now }
-        ensures none { (result.0 ≡ 0) ↔ (length piece.now ≡ 0) }
-        ensures all { result.1 ≡ FcsStep.Nothing → result.0 ≡ length piece.now }
-        ensures stands { (octets : List ℕ) → Stands self.old octets →
-            Stands self.new (octets ++ take result.0 piece.now) }
-        ensures outcome { (octets : List ℕ) → Stands self.old octets →
-            fcs_outcomes (octets ++ take result.0 piece.now)
-            ≡ fcs_outcomes octets ++ told_fcs self.new result.1 }
-        ensures first_step { (octets : List ℕ) → Stands self.old octets →
-            result.1 ≢ FcsStep.Nothing →
-            fcs_outcomes (octets ++ take (result.0 - 1) piece.now) ≡ fcs_outcomes octets }
-        ensures held { IsSome (frame_of self.new) ↔ (result.1 ≡ FcsStep.Frame) }
-        ensures short { (octets : List ℕ) → Stands self.old octets →
-            IfSome (frame_of self.new) (λ frame. length frame ≤ longest_frame) }
-    {
-        let (taken, end) = self.receiver.feed(piece);
-        let step = step_of(end, self.receiver.area());
-        self.holds = step.is_frame();
-        (taken, step)
-    }
-
     /// The frame that the last octet completed.
     pub fn frame(&self) -> &[u8]
         requires { IsSome (frame_of self.now) }
@@ -119,7 +95,6 @@ fn step_of(end: AreaStep, area: &[u8]) -> FcsStep
     requires least { end ≡ AreaStep.Area → 4 ≤ length area.now }
     ensures outcome { outcomes_told (Some (info_of area.now)) result
         ≡ map fcs_of_end (ends_told area.now end) }
-    ensures nothing { (result ≡ FcsStep.Nothing) ↔ (end ≡ AreaStep.Nothing) }
     ensures frame { result ≡ FcsStep.Frame → end ≡ AreaStep.Area }
     ensures room { result ≡ FcsStep.Frame → 12 ≤ length area.now }
 {
@@ -136,7 +111,6 @@ fn whole_step(area: &[u8]) -> FcsStep
     requires { 4 ≤ length area.now }
     ensures outcome { outcomes_told (Some (info_of area.now)) result
         ≡ by_type (fcs_type_fault (take 4 area.now)) area.now ∷ [] }
-    ensures some { result ≢ FcsStep.Nothing }
     ensures room { result ≡ FcsStep.Frame → 12 ≤ length area.now }
 {
     match read_type_fcs(&first_four(area)) {
@@ -148,7 +122,6 @@ fn whole_step(area: &[u8]) -> FcsStep
 /// What comes of a whole area whose type header is right.
 fn sized_step(area: &[u8]) -> FcsStep
     ensures outcome { outcomes_told (Some (info_of area.now)) result ≡ by_size area.now ∷ [] }
-    ensures some { result ≢ FcsStep.Nothing }
     ensures room { result ≡ FcsStep.Frame → 12 ≤ length area.now }
 {
     if area.len() < 12 {

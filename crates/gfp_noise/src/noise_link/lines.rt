@@ -39,10 +39,3 @@ pub(super) fn end_line(counts: Counts, out: &mut [u8]) -> usize
     line.text(b"\n");
     line.end()
 }
-
-/// Ends a loan: what was lent is then what the reference says.
-pub(super) fn take_back<K>(out: &mut K)
-    ensures { out.new ≡ out.old }
-{
-    let _ = out;
-}

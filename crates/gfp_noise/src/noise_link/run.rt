@@ -6,10 +6,10 @@ ghost use Rattle.gfp_noise.specs.noise_link.Text.{received, noise_text};
 
 use crate::gfp_fcs::FcsDelineator;
 use crate::noise_link::draft::Noise;
-use crate::noise_link::lines::{Counts, END_ROOM, end_line, take_back};
+use crate::noise_link::lines::{Counts, END_ROOM, end_line};
 use crate::noise_link::reception::{Reception, receive_all};
 use crate::noise_link::stream::{stream_of, turn_all};
-use base_io::{ByteSink, Failed};
+use base_io::{ByteSink, Failed, take_back};
 use std::alloc::{AllocError, Global};
 use std::marker::Model;
 use text_got::GotLines;

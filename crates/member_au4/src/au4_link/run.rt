@@ -8,9 +8,9 @@ ghost use Rattle.member_au4.specs.au4_link.Text.{back_of, cut_after, end_text, c
 
 use crate::au4_link::draft::Link;
 use crate::au4_link::feed::NumberedVcs;
-use crate::au4_link::lines::{Counts, END_ROOM, VcLines, end_line, take_back};
+use crate::au4_link::lines::{Counts, END_ROOM, VcLines, end_line};
 use crate::au4_pointer::{Action, AuFrame, PointerSink, PointerSource, VC, relay};
-use base_io::{ByteSink, Failed};
+use base_io::{ByteSink, Failed, take_back};
 use text_got::GotLines;
 
 /// How many VC-4s are cut with a frame more, where so many began before it and so many came whole: a new

@@ -105,7 +105,7 @@ fn form_by(kind: Option<(ByteOrder, TimeUnit)>, octets: &[u8]) -> Result<Form, H
 }
 
 /// What the head of a capture says, or the first that is wrong with it.
-pub fn read_head(octets: &[u8]) -> Result<Form, HeadFault>
+pub(super) fn read_head(octets: &[u8]) -> Result<Form, HeadFault>
     ensures { result ≡ form_of octets.now }
 {
     if octets.len() < 24 {

@@ -13,7 +13,7 @@ use crate::capture_file::clock::Clock;
 use crate::capture_file::form::Form;
 use crate::capture_file::record::next_record;
 use base_crc32::ethernet_fcs;
-use base_io::{ByteSink, Failed};
+use base_io::{ByteSink, Failed, take_back};
 use text_got::GotLines;
 use text_hex::encode;
 use text_report::LineCursor;
@@ -137,13 +137,6 @@ fn add_lines<K: ByteSink>(form: Form, body: &[u8], got: &mut GotLines<K>)
         let due = clock.due(record.head);
         add_line(form.has_fcs, due, record.octets, &mut room, got);
     }
-}
-
-/// Ends a loan: what was lent is then what the reference says.
-fn take_back<K>(out: &mut K)
-    ensures { out.new ≡ out.old }
-{
-    let _ = out;
 }
 
 /// Writes a `frame` line for each record of a capture, whose head says its form.

@@ -28,10 +28,8 @@ pub use capture_out::CaptureOut;
 pub use check::read_capture;
 pub use form::{ByteOrder, CaptureFault, Form, HeadFault, RecordFault, RecordHead, TimeUnit};
 pub use gfp_out::GfpOut;
-pub use head::read_head;
 pub use lines::write_frames;
 pub use note::fault_note;
-pub use record::{NextRecord, next_record};
 
 /// A capture that is written of frames whose rows don't fall is read as the frames in it: each is due as many
 /// ticks after the first one as its row comes after the row of that.

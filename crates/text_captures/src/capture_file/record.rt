@@ -8,7 +8,7 @@ use crate::capture_file::head::number_at;
 
 /// A record that stands whole at the front of some octets.
 #[derive(Clone, Copy)]
-pub struct NextRecord<'a> {
+pub(super) struct NextRecord<'a> {
     /// What its head says.
     pub head: RecordHead,
     /// Its octets.
@@ -33,7 +33,7 @@ fn head_of(order: ByteOrder, octets: &[u8]) -> RecordHead
 
 /// The record at the front of octets, where one stands there whole.
 #[inline]
-pub fn next_record<'a>(order: ByteOrder, octets: &'a [u8]) -> Option<NextRecord<'a>>
+pub(super) fn next_record<'a>(order: ByteOrder, octets: &'a [u8]) -> Option<NextRecord<'a>>
     ensures some { IfSome result (λ found. first_record order octets.now
         ≡ Some (record { head = found.head; octets = found.octets.now }, found.rest.now)) }
     ensures none { IfNone result (first_record order octets.now ≡ None) }

@@ -105,10 +105,3 @@ impl<'a, R: Wait, K: ByteSink> Duty for SinkDuty<'a, R, K> {
         }
     }
 }
-
-/// Ends a loan: what was lent is then what the reference says.
-pub fn take_back<K>(out: &mut K)
-    ensures { out.new ≡ out.old }
-{
-    let _ = out;
-}

@@ -15,7 +15,7 @@ mod open;
 mod shares;
 
 pub use bell::Bell;
-pub use duty::{Duty, SinkDuty, Turned, take_back};
+pub use duty::{Duty, SinkDuty, Turned};
 pub use flag::{Comes, Flag, Heed};
 pub use laws::{ended_law, gathered_law};
 pub use lay::{carry_all, lay_receives, lay_sends};

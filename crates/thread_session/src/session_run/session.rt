@@ -15,12 +15,12 @@ ghost use Rattle.thread_session.specs.session_run.Room.{HasRoomFor, HasPlacesFor
 ghost use Rattle.thread_session.specs.session_run.Session.{IsOpen, HasComeToEnd};
 ghost use Rattle.thread_session.specs.session_run.Beside.{AreLaid, IsSessionOf};
 
-use crate::session_parts::{SinkDuty, lay_receives, lay_sends, take_back};
+use crate::session_parts::{SinkDuty, lay_receives, lay_sends};
 use crate::session_run::beside::lines_beside;
 use crate::session_run::finish::finish;
 use crate::session_run::open::{Opened, items_of};
 use crate::session_run::room::Places;
-use base_io::ByteSink;
+use base_io::{ByteSink, take_back};
 use law_model::Script;
 use std::sync::{Mutex, Wait};
 use std::thread::Threads;

@@ -36,8 +36,3 @@ impl<'a, F: FrameOut> FrameOut for CountedOut<'a, F> {
         self.got = self.got.saturating_add(1);
     }
 }
-
-/// Ties a reference to what lent it.
-pub(super) fn take_back<T>(x: &mut T)
-    ensures { x.new ≡ x.old }
-{}

@@ -8,8 +8,9 @@ ghost use Rattle.terminal_sink.specs.sink_core.Given.{added_frames};
 ghost use Rattle.base_cells.specs.declared.Cell.{Cell};
 ghost use Rattle.member_rows.specs.realign_core.Gather.{line_count};
 
-use crate::walk_core::counted::{CountedOut, take_back};
+use crate::walk_core::counted::CountedOut;
 use crate::walk_parts::WalkLine;
+use base_io::take_back;
 use law_model::FrameOut;
 use member_rows::lcas_packet::Packet;
 use member_rows::realign_core::RowGather;

@@ -1,7 +1,7 @@
 -- The octets so far are taken, and no area ended with them.
 use Rattle.std.proofs.Common.{◌-◌, ◌≤◌, [], length, take}
 use Rattle.gfp_delineate.specs.Areas.{Goes, Adds}
-use Rattle.gfp_delineate.proofs.areas.AreaReceiver.take.Given as goal
+use Rattle.gfp_delineate.proofs.areas.AreaReceiver.feed.Given as goal
 
 abbrev pub invariant-loop-at : goal.invariant-loop-at
 invariant-loop-at l = record {

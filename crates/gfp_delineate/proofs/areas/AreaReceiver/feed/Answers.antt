@@ -4,7 +4,7 @@ use Rattle.std.proofs.Common.{length-take, length-drop}
 use Rattle.gfp_delineate.specs.Areas.{AreaEnd, ends_told, Progress, Adds}
 use Rattle.gfp_delineate.proofs.ListLaws.{taken_more}
 use Rattle.gfp_delineate.proofs.Taking.{Takes, tell, told, Takes-then, Adds-then}
-use Rattle.gfp_delineate.proofs.areas.AreaReceiver.take.Goals as goal
+use Rattle.gfp_delineate.proofs.areas.AreaReceiver.feed.Goals as goal
 
 -- what came before, and one part more
 part_more : (old middle new : Progress) (piece : List ℕ) (at n : ℕ) (come : List AreaEnd) →
@@ -46,13 +46,21 @@ returns-in_default-clause-within c =
 pub returns-in_default-clause-all : goal.returns-in_default-clause-all
 returns-in_default-clause-all c = λ nothing. absurd (c.in_default.not-Nothing nothing)
 
-pub returns-in_default-clause-takes : goal.returns-in_default-clause-takes
-returns-in_default-clause-takes c =
-    told _ _ _ _ (part_more c.args.self.now c.loop-at.self c.step-taken.new.self
+pub returns-in_default-clause-stands : goal.returns-in_default-clause-stands
+returns-in_default-clause-stands c =
+    (part_more c.args.self.now c.loop-at.self c.step-taken.new.self
     c.args.piece.now c.loop-at.at c.step-taken.result.0
     (ends_told c.step-taken.new.self.area c.step-taken.result.1)
     c.step-taken.ensures.within
-    (tell _ _ _ _ c.loop-at.invariant.takes) (tell _ _ _ _ c.step-taken.ensures.takes))
+    (tell _ _ _ _ c.loop-at.invariant.takes) (tell _ _ _ _ c.step-taken.ensures.takes)).stands
+
+pub returns-in_default-clause-outcome : goal.returns-in_default-clause-outcome
+returns-in_default-clause-outcome c =
+    (part_more c.args.self.now c.loop-at.self c.step-taken.new.self
+    c.args.piece.now c.loop-at.at c.step-taken.result.0
+    (ends_told c.step-taken.new.self.area c.step-taken.result.1)
+    c.step-taken.ensures.within
+    (tell _ _ _ _ c.loop-at.invariant.takes) (tell _ _ _ _ c.step-taken.ensures.takes)).outcome
 
 pub returns-in_default-clause-first : goal.returns-in_default-clause-first
 returns-in_default-clause-first c = λ other.
