@@ -19,7 +19,7 @@ pub Has-line : (member : Member) (line : ℕ) (standing : Standing) → Some mem
     member.line ≡ line
 Has-line member line standing e = ap (λ found. elim found [ None ↦ 0 | Some m ↦ m.line ]) e
 
-Has-standing : (member : Member) (line : ℕ) (standing : Standing) → Some member ≡ Some (member_of line standing) →
+pub Has-standing : (member : Member) (line : ℕ) (standing : Standing) → Some member ≡ Some (member_of line standing) →
     member.standing ≡ standing
 Has-standing member line standing e = ap (λ found. elim found [ None ↦ adding | Some m ↦ m.standing ]) e
 
@@ -44,7 +44,7 @@ turn-adds (Some ok) = refl
 abbrev pub turned_member : Option Bool → Member → Member
 turned_member status member = member_of member.line (turn status member.standing)
 
-slice_get-turned : (kept : ℕ → Option Bool) (base : ℕ) (order : List Member) (sq : ℕ) →
+pub slice_get-turned : (kept : ℕ → Option Bool) (base : ℕ) (order : List Member) (sq : ℕ) →
     slice_get (turned kept base order) sq ≡ option_map (turned_member (kept (base + sq))) (slice_get order sq)
 unfolding turned
 slice_get-turned kept base [] sq = refl
@@ -146,7 +146,7 @@ Fine-rest kept base member order sq fine s line low has =
     let e : base + suc s ≡ base + 1 + s = omega arith in
     let ok = fine (suc s) line (omega arith) has in rw e at ok
 
-adding_of : (standing : Standing) → is_add standing ≡ true → standing ≡ adding
+pub adding_of : (standing : Standing) → is_add standing ≡ true → standing ≡ adding
 adding_of adding e = refl
 adding_of normal e = absurd cc
 adding_of unused e = absurd cc

@@ -90,7 +90,7 @@ heard-not : (group : ℕ) (told : Option Told) (table : Table) → is_for table.
     heard group told table ≡ table
 heard-not group told table e = rw e refl
 
-heard-for : (group : ℕ) (told : Option Told) (table : Table) → is_for table.count told ≡ true →
+pub heard-for : (group : ℕ) (told : Option Told) (table : Table) → is_for table.count told ≡ true →
     heard group told table ≡ acknowledged_by group told table
 heard-for group told table e = rw e refl
 
@@ -124,7 +124,7 @@ slice_get-eight f (suc (suc (suc (suc (suc (suc (suc zero))))))) h = refl
 slice_get-eight f (suc (suc (suc (suc (suc (suc (suc (suc r)))))))) h = absurd (omega arith)
 
 -- the line that has an SQ has it in each order of the same lines
-found_line : (found : Option Member) (line : ℕ) → option_map (λ member. member.line) found ≡ Some line →
+pub found_line : (found : Option Member) (line : ℕ) → option_map (λ member. member.line) found ≡ Some line →
     (member : Member) × (found ≡ Some member) × (member.line ≡ line)
 found_line None line e = absurd (none-some line e)
 found_line (Some member) line e = (member, refl, ap (λ o. elim o [ None ↦ 0 | Some l ↦ l ]) e)
@@ -136,12 +136,12 @@ same_line a b s line same has =
     (sym (slice_get-map (λ member. member.line) b s) ∙ sym (ap (λ lines. slice_get lines s) same)
     ∙ slice_get-map (λ member. member.line) a s ∙ ap (option_map (λ member. member.line)) has)
 
-cell_at-taken : (scenario : Scenario) (cells : List (Option Told)) (i : ℕ) (told : Told) → scenario.lag ≤ i →
+pub cell_at-taken : (scenario : Scenario) (cells : List (Option Told)) (i : ℕ) (told : Told) → scenario.lag ≤ i →
     slice_index_or cells (i - scenario.lag) None ≡ Some told →
     cell_at scenario cells i ≡ Some told
 cell_at-taken scenario cells i told low is = rw (le-leb scenario.lag i low) is
 
-said-heard : (scenario : Scenario) (cells : List (Option Told)) (k : ℕ) → is_heard scenario k ≡ true →
+pub said-heard : (scenario : Scenario) (cells : List (Option Told)) (k : ℕ) → is_heard scenario k ≡ true →
     said scenario cells k ≡ (table_of scenario cells k).count
 unfolding said_before
 said-heard scenario cells k e = rw e refl
