@@ -22,7 +22,7 @@ do for [lines in "1 4 16"] {
         using (is(container, lines + 0, load + 0) ? $4 : NaN):($19 + $23) with steps linewidth 2 \
         dashtype dash(container) linecolor rgb color(load + 0)
     unset title
-    set xlabel "length of the failure in frames of 125 µs"
+    set xlabel "length of the failure in ticks of 125 µs"
     set ylabel lines eq "1" ? "longest silence in milliseconds" : ""
     unset logscale y
     set yrange [0:60]

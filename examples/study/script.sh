@@ -1,6 +1,6 @@
 #!/bin/sh
 # Writes one script of the study to standard output: script.sh CONTAINER LINES LOAD LENGTH [DRAW]. CONTAINER is vc3 or vc4; LINES is how many lines
-# the group has, line n with a delay of n frames; LOAD is per cent of what it carries; and line 0 fails for LENGTH frames. The frames, of 1,518 octets
+# the group has, line n with a delay of n ticks; LOAD is per cent of what it carries; and line 0 fails for LENGTH ticks. The frames, of 1,518 octets
 # each, are due from tick 640 to 1199, and their octets are drawn from DRAW, or from 1. The program vcat_walk, which makes them, stands beside this
 # script or, in the repository, where it was built.
 here=$(dirname -- "$0")
