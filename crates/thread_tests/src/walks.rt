@@ -4,9 +4,8 @@ ghost use Rattle.law_model.specs.session.Valid.{IsValid};
 
 use crate::courses::{Answer, course};
 use crate::scripts::read;
-use law_model::SourceState;
+use law_model::{FrameOut, SourceState};
 use std::alloc::Global;
-use terminal_sink::sink_core::FrameOut;
 use walk_engine::walk_core::{Event, Moved, Walk};
 
 /// Takes frames, and does nothing with them.

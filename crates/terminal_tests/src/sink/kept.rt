@@ -1,7 +1,7 @@
 //! Frames that are kept to be looked at.
 
+use law_model::FrameOut;
 use std::alloc::{AllocError, Global};
-use terminal_sink::sink_core::FrameOut;
 
 /// Keeps the frames that it is given, until it has no memory for one.
 #[derive(Drop)]
