@@ -33,6 +33,7 @@ use Rattle.command_walk.specs.rooms.Pair.{pair_words}
 use Rattle.command_walk.specs.rooms.Make.{load_of, make_words}
 use Rattle.command_walk.specs.rooms.Stream.{ticks_of, rate_of, numbers_in, stream_words}
 use Rattle.command_walk.specs.Commands.{command_of, task_at, command_in, task_for, task_of, usage}
+use Rattle.law_model.specs.Limits.{longest_frame}
 
 -- ---- numbers
 -- the numbers of a command are within their bounds
@@ -89,7 +90,7 @@ ticks-fit (Some first) (Some end) a =
 ticks-fit (Some first) None a = tt
 ticks-fit None end a = tt
 
-rate-fits : (octets mbits : Option ℕ) (ticks : Option (ℕ × ℕ)) (number : Option ℕ) → IfSome octets (IsWithin 64 9600) →
+rate-fits : (octets mbits : Option ℕ) (ticks : Option (ℕ × ℕ)) (number : Option ℕ) → IfSome octets (IsWithin 64 longest_frame) →
     IfSome mbits (IsWithin 1 400000)
     → IfSome ticks AreTicks → IfSome (rate_of octets mbits ticks number) Fits
 rate-fits (Some octets) (Some mbits) (Some ticks) (Some number) a b c =
@@ -143,13 +144,13 @@ make-fits words =
 
 numbers-fit : (ws : List (List ℕ)) → IfSome (numbers_in ws) Fits
 numbers-fit ws =
-    let octets = number_in 64 9600 (word_at 0 ws) in
+    let octets = number_in 64 longest_frame (word_at 0 ws) in
     let mbits = number_in 1 400000 (word_at 1 ws) in
     let first = number_in 0 1000000 (word_at 2 ws) in
     let end = number_in 0 1000000 (word_at 3 ws) in
     let number = number_in 0 18446744073709551615 (word_at 4 ws) in
     if-fits (length ws == 5) (rate_of octets mbits (ticks_of first end) number)
-    (rate-fits octets mbits (ticks_of first end) number (number-fits 64 9600 (word_at 0 ws))
+    (rate-fits octets mbits (ticks_of first end) number (number-fits 64 longest_frame (word_at 0 ws))
     (number-fits 1 400000 (word_at 1 ws))
     (ticks-fit first end (number-fits 0 1000000 (word_at 3 ws))))
 

@@ -21,12 +21,13 @@ use Rattle.law_walk.proofs.CountLaws.{delivered-few}
 use Rattle.walk_engine.specs.walk_core.Moved.{Walked, delivered_since}
 use Rattle.command_walk.specs.rooms.Make.{octet_count, octet_sum, lines_text, make_text, HasSummed}
 use Rattle.law_headline.specs.Texts.{counts_in}
+use Rattle.law_model.specs.Limits.{longest_frame}
 
 pub summed-none : HasSummed 0 0 []
 summed-none = record { octets = refl; total = refl; few = omega arith; small = omega arith }
 
 pub summed-next : (octets total size add more_octets more_total : ℕ) (frames : List (List ℕ)) (frame : List ℕ) →
-    HasSummed octets total frames → length frame ≤ 9600 → size ≡ length frame
+    HasSummed octets total frames → length frame ≤ longest_frame → size ≡ length frame
     → add ≡ sum frame → add ≤ 255 * length frame → more_octets ≡ min (octets + size) 18446744073709551615 →
     more_total ≡ min (total + add) 18446744073709551615
     → HasSummed more_octets more_total (frames ++ frame ∷ [])

@@ -34,7 +34,7 @@ use Rattle.command_walk.proofs.TakenLaws.{taken-none, taken-more}
 
 -- ---- no delivered frame is long
 abbrev Short : List ℕ → Type 0
-Short frame = length frame ≤ 9600
+Short frame = length frame ≤ longest_frame
 
 all-flat : {X : Type 0} (f : X → List (List ℕ)) (xs : List X) → ((x : X) → All Short (f x)) → All Short (flat_map f xs)
 all-flat f [] each = All-nil Short

@@ -24,7 +24,7 @@ pub use area_sender::AreaSender;
 pub use filler::Filler;
 pub use law_model::AcceptFault;
 pub use octets::copy_some;
-pub use queue::{FrameQueue, MAX_FRAME, MAX_WAITING, MIN_FRAME};
+pub use queue::{FrameQueue, MAX_WAITING, MIN_FRAME};
 
 /// The pieces of a stream that reaches a place are the fewest, a place can be reached in parts, and octets
 /// that are written stand in each longer stream. Where all frames wait from the start, the pieces are those

@@ -12,7 +12,7 @@ ghost use Rattle.gfp_fill.specs.Stream.{Stands};
 ghost use Rattle.law_model.specs.Limits.{longest_frame, most_waiting};
 
 use crate::octets::copy_some;
-use law_model::AcceptFault;
+use law_model::{AcceptFault, LONGEST_FRAME};
 use std::alloc::{AllocError, Global};
 use std::collections::VecDeque;
 use std::marker::Model;
@@ -20,9 +20,6 @@ use std::mem;
 
 /// The least number of octets in a frame that is accepted, from the destination address to the FCS.
 pub const MIN_FRAME: usize = 64;
-
-/// The greatest number of octets in a frame that is accepted.
-pub const MAX_FRAME: usize = 9600;
 
 /// How many frames may wait.
 pub const MAX_WAITING: usize = 256;
@@ -50,18 +47,18 @@ impl Model for FrameQueue {
 }
 
 impl FrameQueue {
-    /// An empty queue with room for `MAX_WAITING` frames of `MAX_FRAME` octets and for the one that is being sent.
+    /// An empty queue with room for `MAX_WAITING` frames of `LONGEST_FRAME` octets and for the one that is being sent.
     pub fn new(alloc: Global) -> Result<FrameQueue, AllocError>
         ensures { IfOk result (λ queue. queue ≡ unbegun []) }
     {
         let mut spare = Vec::with_capacity(alloc, MAX_WAITING)?;
         for _ in 0..MAX_WAITING {
-            spare.push(Vec::with_capacity(alloc, MAX_FRAME)?)?;
+            spare.push(Vec::with_capacity(alloc, LONGEST_FRAME)?)?;
         }
         Ok(FrameQueue {
             waiting: VecDeque::with_capacity(alloc, MAX_WAITING)?,
             spare,
-            begun: Vec::with_capacity(alloc, MAX_FRAME)?,
+            begun: Vec::with_capacity(alloc, LONGEST_FRAME)?,
             sent: 0,
         })
     }
@@ -82,7 +79,7 @@ impl FrameQueue {
             Stands sender self.old stream place →
             Stands sender self.new (offered stream frame.now) place }
     {
-        if frame.len() < MIN_FRAME || frame.len() > MAX_FRAME {
+        if frame.len() < MIN_FRAME || frame.len() > LONGEST_FRAME {
             return Err(AcceptFault::Length {
                 n: frame.len() as u64,
             });
@@ -100,7 +97,7 @@ impl FrameQueue {
     pub fn refusal(&self, frame: &[u8]) -> Option<AcceptFault>
         ensures { result ≡ refusal_while self.now.waiting frame.now }
     {
-        if frame.len() < MIN_FRAME || frame.len() > MAX_FRAME {
+        if frame.len() < MIN_FRAME || frame.len() > LONGEST_FRAME {
             return Some(AcceptFault::Length {
                 n: frame.len() as u64,
             });

@@ -31,6 +31,7 @@ use Rattle.law_loss.proofs.CutLaws.{IsPart, Stands-all}
 use Rattle.law_loss.proofs.SegmentLaws.{segments_of-push}
 use Rattle.law_loss.proofs.SessionStreamLaws.{rows-carry, rows-length}
 use Rattle.law_loss.proofs.SessionLossLaws.{pieces-sent}
+use Rattle.law_model.specs.Limits.{longest_frame}
 
 abbrev IsFit : List ℕ → Type 0
 IsFit area = IsPli (length area)
@@ -257,12 +258,12 @@ aligned-starts scenario cells rows n octets low each k d inside later =
       | inl first ↦ absurd (let wrong : true ≡ false = sym first ∙ later in cc)
       | inr behind ↦
           let place = each behind.0 behind.1 behind.2 in
-          let sent : All (IsSentPiece 9600) (place.front ++ place.more) = subst (All (IsSentPiece 9600)) place.parts
+          let sent : All (IsSentPiece longest_frame) (place.front ++ place.more) = subst (All (IsSentPiece longest_frame)) place.parts
           (pieces-sent scenario cells n octets) in
-          let sendable = All-weaker (IsSentPiece 9600) (IsSendable 9600) (sendable_of 9600) place.more
-          (All-after (IsSentPiece 9600) place.front place.more sent) in
+          let sendable = All-weaker (IsSentPiece longest_frame) (IsSendable longest_frame) (sendable_of longest_frame) place.more
+          (All-after (IsSentPiece longest_frame) place.front place.more sent) in
           subst (λ ps. IfSome (confirmed_in segment) (IsPlaceOfPiece ps)) (sym place.parts)
-          (aligned-confirms 9600 place.front place.more segment (length segment.octets) (omega arith) sendable
+          (aligned-confirms longest_frame place.front place.more segment (length segment.octets) (omega arith) sendable
           (part ∙ ap (λ ps. take (length segment.octets) (drop segment.base (stream_of ps))) place.parts)
           (place.ends ∙ sym behind.3))
     ]

@@ -26,22 +26,23 @@ use Rattle.law_loss.proofs.WholeLaws.{IsWhole, deliver-whole}
 use Rattle.law_loss.proofs.ExtentLaws.{frames_ended}
 use Rattle.law_loss.proofs.PrefixLaws.{all_frames, frames_to-first}
 use Rattle.law_loss.proofs.SessionStreamLaws.{pieces-open, rows-carry, rows-length, All-accepted}
+use Rattle.law_model.specs.Limits.{longest_frame}
 
 -- ---- accepted frames may be sent
 abbrev pub IsOffered : DueFrame → Type 0
 IsOffered offer = All (λ octet. octet < 2 ^ 8) offer.frame
 
 abbrev pub IsSentOffer : DueFrame → Type 0
-IsSentOffer offer = IsSentFrame 9600 offer.frame
+IsSentOffer offer = IsSentFrame longest_frame offer.frame
 
 not_refused : (frame : List ℕ) (stream : Stream) → frame_refusal frame stream ≡ None → (64 ≤ length frame) ×
-    (length frame ≤ 9600)
+    (length frame ≤ longest_frame)
 not_refused frame stream none =
-    elim (cases_Bool (nat_lt (length frame) 64 || nat_lt 9600 (length frame))) [
+    elim (cases_Bool (nat_lt (length frame) 64 || nat_lt longest_frame (length frame))) [
       | inl wrong ↦ absurd (let e : Some (Length (length frame)) ≡ None = rw wrong at none in cc)
       | inr right ↦
-          let parts = or_parts (nat_lt (length frame) 64) (nat_lt 9600 (length frame)) right in
-          (ltb-false (length frame) 64 parts.0, ltb-false 9600 (length frame) parts.1)
+          let parts = or_parts (nat_lt (length frame) 64) (nat_lt longest_frame (length frame)) right in
+          (ltb-false (length frame) 64 parts.0, ltb-false longest_frame (length frame) parts.1)
     ]
 
 accepted-sent : (offer : DueFrame) (stream : Stream) → frame_refusal offer.frame stream ≡ None → IsOffered offer →
@@ -64,39 +65,39 @@ offers-sent scenario cells octets (suc t) =
     (All-filter (comes_at t) IsOffered scenario.offers octets))
 
 frames-sent : (offers : List DueFrame) → All IsSentOffer offers →
-    All (IsSentFrame 9600) (map (λ (offer : DueFrame). offer.frame) offers)
-frames-sent [] each = All-nil (IsSentFrame 9600)
+    All (IsSentFrame longest_frame) (map (λ (offer : DueFrame). offer.frame) offers)
+frames-sent [] each = All-nil (IsSentFrame longest_frame)
 frames-sent (offer ∷ offers) each =
-    All-cons (IsSentFrame 9600) offer.frame (map (λ (o : DueFrame). o.frame) offers)
+    All-cons (IsSentFrame longest_frame) offer.frame (map (λ (o : DueFrame). o.frame) offers)
     (All-head IsSentOffer offer offers each) (frames-sent offers (All-tail IsSentOffer offer offers each))
 
-pieces-of_frames : (pieces : List Piece) → All (IsSentFrame 9600) (frames_in pieces) → All (IsSentPiece 9600) pieces
-pieces-of_frames [] each = All-nil (IsSentPiece 9600)
-pieces-of_frames (idle ∷ pieces) each = All-cons (IsSentPiece 9600) idle pieces tt (pieces-of_frames pieces each)
+pieces-of_frames : (pieces : List Piece) → All (IsSentFrame longest_frame) (frames_in pieces) → All (IsSentPiece longest_frame) pieces
+pieces-of_frames [] each = All-nil (IsSentPiece longest_frame)
+pieces-of_frames (idle ∷ pieces) each = All-cons (IsSentPiece longest_frame) idle pieces tt (pieces-of_frames pieces each)
 pieces-of_frames (client frame ∷ pieces) each =
-    All-cons (IsSentPiece 9600) (client frame) pieces (All-head (IsSentFrame 9600) frame (frames_in pieces) each)
-    (pieces-of_frames pieces (All-tail (IsSentFrame 9600) frame (frames_in pieces) each))
+    All-cons (IsSentPiece longest_frame) (client frame) pieces (All-head (IsSentFrame longest_frame) frame (frames_in pieces) each)
+    (pieces-of_frames pieces (All-tail (IsSentFrame longest_frame) frame (frames_in pieces) each))
 
 pub pieces-sent : (scenario : Scenario) (cells : List (Option Told)) (n : ℕ) → AreOctets scenario →
-    All (IsSentPiece 9600) (stream_before scenario cells n).pieces
+    All (IsSentPiece longest_frame) (stream_before scenario cells n).pieces
 pieces-sent scenario cells n octets =
     let stream = stream_before scenario cells n in
-    let all : All (IsSentFrame 9600) (frames_in stream.pieces ++ stream.waiting) =
-    subst (All (IsSentFrame 9600)) (sym (stream_before-frames scenario cells n))
+    let all : All (IsSentFrame longest_frame) (frames_in stream.pieces ++ stream.waiting) =
+    subst (All (IsSentFrame longest_frame)) (sym (stream_before-frames scenario cells n))
     (frames-sent (offers_before scenario cells n) (offers-sent scenario cells octets n)) in
-    pieces-of_frames stream.pieces (All-front (IsSentFrame 9600) (frames_in stream.pieces) stream.waiting all)
+    pieces-of_frames stream.pieces (All-front (IsSentFrame longest_frame) (frames_in stream.pieces) stream.waiting all)
 
 -- those after the two idles
-rest-sent : (pieces more : List Piece) → pieces ≡ idle ∷ idle ∷ more → All (IsSentPiece 9600) pieces →
-    All (IsSentPiece 9600) more
+rest-sent : (pieces more : List Piece) → pieces ≡ idle ∷ idle ∷ more → All (IsSentPiece longest_frame) pieces →
+    All (IsSentPiece longest_frame) more
 rest-sent pieces more is all =
-    All-tail (IsSentPiece 9600) idle more
-    (All-tail (IsSentPiece 9600) idle (idle ∷ more) (subst (All (IsSentPiece 9600)) is all))
+    All-tail (IsSentPiece longest_frame) idle more
+    (All-tail (IsSentPiece longest_frame) idle (idle ∷ more) (subst (All (IsSentPiece longest_frame)) is all))
 
 -- ---- losses
 pub session-kept : (scenario : Scenario) (cells : List (Option Told)) (t n : ℕ) → AreOctets scenario → t ≤ n →
     TrueStarts (stream_before scenario cells n).pieces (rows_of scenario cells t) →
-    deliver 9600 (rows_of scenario cells t) ≡ frames_kept (stream_before scenario cells n).pieces
+    deliver longest_frame (rows_of scenario cells t) ≡ frames_kept (stream_before scenario cells n).pieces
     (rows_of scenario cells t)
 session-kept scenario cells t n octets low starts =
     let rows = rows_of scenario cells t in
@@ -106,7 +107,7 @@ session-kept scenario cells t n octets low starts =
     let carried : CarriesStream rows (idle ∷ idle ∷ opens.0) =
     subst (CarriesStream rows) opens.1 (rows-carry scenario cells t n low) in
     let true_starts : TrueStarts (idle ∷ idle ∷ opens.0) rows = subst (λ ps. TrueStarts ps rows) opens.1 starts in
-    deliver-kept 9600 opens.0 rows (omega arith) sent carried true_starts ∙ ap (λ ps. frames_kept ps rows) (sym opens.1)
+    deliver-kept longest_frame opens.0 rows (omega arith) sent carried true_starts ∙ ap (λ ps. frames_kept ps rows) (sym opens.1)
 
 -- the client frames among pieces, by their places
 pub frames-extents : (start : ℕ) (pieces : List Piece) → all_frames (extents start pieces) ≡ frames_in pieces
@@ -180,7 +181,7 @@ rows-whole scenario cells (suc rows) each =
 
 pub session-hitless : (scenario : Scenario) (cells : List (Option Told)) (t n : ℕ) → AreOctets scenario →
     IsUndamaged scenario → t ≤ n →
-    deliver 9600 (rows_of scenario cells t) ≡ frames_by (place_of scenario cells t)
+    deliver longest_frame (rows_of scenario cells t) ≡ frames_by (place_of scenario cells t)
     (stream_before scenario cells n).pieces
 session-hitless scenario cells t n octets undamaged low =
     let rows = rows_of scenario cells t in
@@ -189,7 +190,7 @@ session-hitless scenario cells t n octets undamaged low =
     let sent = rest-sent pieces opens.0 opens.1 (pieces-sent scenario cells n octets) in
     let carried : CarriesStream rows (idle ∷ idle ∷ opens.0) =
     subst (CarriesStream rows) opens.1 (rows-carry scenario cells t n low) in
-    deliver-whole 9600 opens.0 rows (omega arith) sent carried
+    deliver-whole longest_frame opens.0 rows (omega arith) sent carried
     (rows-whole scenario cells t (λ row low. undamaged-whole scenario cells row undamaged))
     ∙ ap₂ frames_by (rows-length scenario cells t n low) (sym opens.1)
 
@@ -202,14 +203,14 @@ take-front (suc count) (x ∷ front) rest = ap (λ l. x ∷ l) (take-front count
 
 pub session-prefix : (scenario : Scenario) (cells : List (Option Told)) (t n : ℕ) → AreOctets scenario →
     IsUndamaged scenario → t ≤ n →
-    deliver 9600 (rows_of scenario cells t) ≡ take (length (deliver 9600 (rows_of scenario cells t)))
+    deliver longest_frame (rows_of scenario cells t) ≡ take (length (deliver longest_frame (rows_of scenario cells t)))
     (frames_before scenario cells n)
 session-prefix scenario cells t n octets undamaged low =
     let stream = stream_before scenario cells n in
     let place = place_of scenario cells t in
     let first = frames_to-first place 0 stream.pieces in
     let frames = frames_in stream.pieces in
-    let is : deliver 9600 (rows_of scenario cells t) ≡ take first.0 frames =
+    let is : deliver longest_frame (rows_of scenario cells t) ≡ take first.0 frames =
     session-hitless scenario cells t n octets undamaged low ∙ frames_ended place 0 stream.pieces ∙ first.1
     ∙ ap (take first.0) (frames-extents 0 stream.pieces) in
     is ∙ take-front first.0 frames stream.waiting

@@ -8,6 +8,11 @@ shortest_frame = 64
 abbrev pub longest_frame : ℕ
 longest_frame = 9600
 
+-- the octets of the longest area of a client frame that has a payload FCS or a linear extension header: a type header
+-- of four octets and four octets more
+abbrev pub longest_extended_area : ℕ
+longest_extended_area = longest_frame + 8
+
 -- how many accepted frames may wait
 abbrev pub most_waiting : ℕ
 most_waiting = 256

@@ -4,6 +4,7 @@
 //! lemmas of headers, areas, scrambling, streams, packets and paths that the proofs of other crates use.
 #![tactic(auto)]
 
+mod limits;
 mod out;
 mod packet;
 mod refusal;
@@ -13,6 +14,7 @@ mod totals;
 mod walk;
 mod window;
 
+pub use limits::LONGEST_FRAME;
 pub use out::FrameOut;
 pub use packet::{Packet, PacketFault};
 pub use refusal::{AcceptFault, CommandFault, Refusal};

@@ -31,6 +31,7 @@ use Rattle.law_model.proofs.CutLaws.{length-cut}
 use Rattle.law_session.proofs.PlanLaws.{order-length}
 use Rattle.law_loss.proofs.SessionStreamLaws.{rows-length}
 use Rattle.law_walk.specs.Delivered.{delivered_of}
+use Rattle.law_model.specs.Limits.{longest_frame}
 
 -- ---- a search goes on in fewer octets
 abbrev Shorter : List ℕ → Option Confirmed → Type 0
@@ -272,7 +273,7 @@ pub delivered-few : (leg : Leg) (rows : ℕ) → IsSound leg → rows ≤ leg.co
 delivered-few leg rows sound low =
     let scenario : Scenario = scenario_by leg in
     let cells : List (Option Told) = session_cells scenario in
-    let few = deliver-few 9600 (rows_of scenario cells rows) in
+    let few = deliver-few longest_frame (rows_of scenario cells rows) in
     let octets = rows-length scenario cells rows rows (omega arith) in
     let place = place-most leg rows sound low in
     omega (arith, few, octets, place)

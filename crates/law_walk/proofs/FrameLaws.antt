@@ -20,10 +20,11 @@ use Rattle.law_loss.proofs.GrowLaws.{adds, deliver-grows}
 use Rattle.law_walk.specs.Walk.{CanWalk, IsWalked, popped_cells}
 use Rattle.law_walk.specs.Delivered.{session_rows, delivered_of, IsReceived}
 use Rattle.law_walk.proofs.WalkLaws.{rows-are}
+use Rattle.law_model.specs.Limits.{longest_frame}
 
 -- rows give the same frames, and their last segments have the same octets
 record SameFrames (a b : List StreamRow) : Type 0 where
-  pub frames : deliver 9600 a ≡ deliver 9600 b
+  pub frames : deliver longest_frame a ≡ deliver longest_frame b
   pub first : (segments_of a).last.first ≡ (segments_of b).last.first
   pub octets : (segments_of a).last.octets ≡ (segments_of b).last.octets
 
@@ -32,12 +33,12 @@ with-whole : (a b : List StreamRow) (octets : List ℕ) → SameFrames a b →
 with-whole a b octets same =
     let one : Segments = segments_of a in
     let other : Segments = segments_of b in
-    let more : added 9600 a (whole_row octets) ≡ added 9600 b (whole_row octets) =
-    added-whole 9600 a octets ∙ ap₂ (λ first before. next_frames 9600 first before octets) same.first same.octets
-    ∙ sym (added-whole 9600 b octets) in
+    let more : added longest_frame a (whole_row octets) ≡ added longest_frame b (whole_row octets) =
+    added-whole longest_frame a octets ∙ ap₂ (λ first before. next_frames longest_frame first before octets) same.first same.octets
+    ∙ sym (added-whole longest_frame b octets) in
     record {
-      frames = grows-whole 9600 a octets (adds 9600 one.last.first one.last.octets octets) ∙ ap₂ ◌++◌ same.frames more
-          ∙ sym (grows-whole 9600 b octets (adds 9600 other.last.first other.last.octets octets));
+      frames = grows-whole longest_frame a octets (adds longest_frame one.last.first one.last.octets octets) ∙ ap₂ ◌++◌ same.frames more
+          ∙ sym (grows-whole longest_frame b octets (adds longest_frame other.last.first other.last.octets octets));
       first = ap (λ (come : Segments). come.last.first) (segments_of-push a (whole_row octets)) ∙ same.first
           ∙ sym (ap (λ (come : Segments). come.last.first) (segments_of-push b (whole_row octets)));
       octets = ap (λ (come : Segments). come.last.octets) (segments_of-push a (whole_row octets))
@@ -48,7 +49,7 @@ with-whole a b octets same =
 with-lost : (a b : List StreamRow) (some other : List ℕ) → SameFrames a b →
     SameFrames (a ++ lost_row some ∷ []) (b ++ lost_row other ∷ [])
 with-lost a b some other same = record {
-  frames = deliver-lost 9600 a some ∙ same.frames ∙ sym (deliver-lost 9600 b other);
+  frames = deliver-lost longest_frame a some ∙ same.frames ∙ sym (deliver-lost longest_frame b other);
   first = ap (λ (come : Segments). come.last.first) (segments_of-push a (lost_row some))
       ∙ sym (ap (λ (come : Segments). come.last.first) (segments_of-push b (lost_row other)));
   octets = ap (λ (come : Segments). come.last.octets) (segments_of-push a (lost_row some))
@@ -94,7 +95,7 @@ module _ (leg : Leg) (s : Counts) (can : CanWalk leg) (walked : IsWalked leg s)
       (with-row receive is (map read (range_with_len 0 n)) (rows_of scenario session n)
       (is_whole_row scenario session n) (payload_of scenario session n) (same-frames n (omega arith))))
 
-  pub frames-received : (n : ℕ) → n ≤ s.rows → deliver 9600 (map read (range_with_len 0 n)) ≡ delivered_of leg n
+  pub frames-received : (n : ℕ) → n ≤ s.rows → deliver longest_frame (map read (range_with_len 0 n)) ≡ delivered_of leg n
   frames-received n low = (same-frames n low).frames
 
 -- ---- more rows
@@ -121,5 +122,5 @@ frames-grow leg n more =
     let (rows, longer) = rows-longer (scenario_by leg) (session_cells (scenario_by leg)) n more in
     let e : n + more ≡ more + n = omega arith in
     let all : session_rows leg (n + more) ≡ session_rows leg n ++ rows = ap (session_rows leg) e ∙ longer in
-    subst (λ l. deliver 9600 l ≡ delivered_of leg n ++ drop (length (delivered_of leg n)) (deliver 9600 l))
-    (sym all) (deliver-grows 9600 (session_rows leg n) rows)
+    subst (λ l. deliver longest_frame l ≡ delivered_of leg n ++ drop (length (delivered_of leg n)) (deliver longest_frame l))
+    (sym all) (deliver-grows longest_frame (session_rows leg n) rows)

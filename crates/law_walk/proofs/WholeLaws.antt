@@ -31,6 +31,7 @@ use Rattle.law_loss.proofs.WholeLaws.{only_segment, deliver-whole}
 use Rattle.law_script.proofs.ItemLaws.{are_octets}
 use Rattle.law_walk.specs.Delivered.{delivered_of}
 use Rattle.law_walk.specs.Promise.{session_pieces, place_after, IsClear, row_from, AreWholeBefore, ConfirmsTrue}
+use Rattle.law_model.specs.Limits.{longest_frame}
 
 -- ---- one line
 clear-carried : (windows : List Window) (from end n : ℕ) → IsClear windows from end → from ≤ n → n < end →
@@ -117,14 +118,14 @@ delivered-before leg rows sound low whole =
     let cells : List (Option Told) = session_cells scenario in
     let pieces : List Piece = session_pieces leg in
     let opens = pieces-open scenario cells leg.config.ticks in
-    let all : All (IsSentPiece 9600) (idle ∷ idle ∷ opens.0) =
-    subst (All (IsSentPiece 9600)) opens.1
+    let all : All (IsSentPiece longest_frame) (idle ∷ idle ∷ opens.0) =
+    subst (All (IsSentPiece longest_frame)) opens.1
     (pieces-sent scenario cells leg.config.ticks (are_octets leg sound)) in
-    let sent : All (IsSentPiece 9600) opens.0 = λ k d inside. all (suc (suc k)) d (omega arith) in
+    let sent : All (IsSentPiece longest_frame) opens.0 = λ k d inside. all (suc (suc k)) d (omega arith) in
     let carry : CarriesStream (rows_of scenario cells rows) (idle ∷ idle ∷ opens.0) =
     subst (CarriesStream (rows_of scenario cells rows)) opens.1
     (rows-carry scenario cells rows leg.config.ticks low) in
-    deliver-whole 9600 opens.0 (rows_of scenario cells rows) (omega arith) sent carry
+    deliver-whole longest_frame opens.0 (rows_of scenario cells rows) (omega arith) sent carry
     (rows-whole scenario cells rows whole)
     ∙ ap₂ frames_by (rows-length scenario cells rows leg.config.ticks low) (sym opens.1)
 

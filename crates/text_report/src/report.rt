@@ -4,10 +4,10 @@ ghost use Rattle.text_report.specs.Line.{Extends, HasRoom};
 ghost use Rattle.text_report.specs.Report.{got_text, accept_fault_text, command_fault_text, refused_text, total_text};
 
 use crate::line::LineCursor;
-use law_model::{AcceptFault, CommandFault, Refusal, Totals};
+use law_model::{AcceptFault, CommandFault, LONGEST_FRAME, Refusal, Totals};
 
-/// Room for the line of a frame of 9,600 octets, in octets.
-pub const GOT_ROOM: usize = 19_205;
+/// Room for the line of a frame of `LONGEST_FRAME` octets, in octets.
+pub const GOT_ROOM: usize = 2 * LONGEST_FRAME + 5;
 
 /// Room for the line of a refused item, in octets.
 pub const REFUSED_ROOM: usize = 64;

@@ -1,7 +1,7 @@
 -- `stream`: the script lines of a client that sends at a rate.
 use Rattle.std.specs.Prelude.{ℕ, ◌==◌, ◌&&◌, nat_le, nat_lt, List, length, drop, codes, bytes_eq, Option, Some, None}
 use Rattle.std.specs.Prelude.{if◌then◌else◌}
-use Rattle.law_model.specs.Limits.{longest_input}
+use Rattle.law_model.specs.Limits.{longest_input, longest_frame}
 use Rattle.text_scripts.specs.declared.rate_load.lines.RateLoad.{RateLoad}
 use Rattle.text_scripts.specs.rate_load.Lines.{rate_text}
 use Rattle.text_words.specs.Words.{number_in}
@@ -30,7 +30,7 @@ rate_of None mbits ticks number = None
 abbrev pub numbers_in : List (List ℕ) → Option WalkCommand
 numbers_in ws =
     if length ws == 5 then
-    rate_of (number_in 64 9600 (word_at 0 ws)) (number_in 1 400000 (word_at 1 ws))
+    rate_of (number_in 64 longest_frame (word_at 0 ws)) (number_in 1 400000 (word_at 1 ws))
     (ticks_of (number_in 0 1000000 (word_at 2 ws)) (number_in 0 1000000 (word_at 3 ws)))
     (number_in 0 18446744073709551615 (word_at 4 ws))
     else None

@@ -5,11 +5,13 @@ ghost use Rattle.text_words.specs.Words.{number_in};
 ghost use Rattle.command_parts.specs.Task.{makes};
 ghost use Rattle.command_parts.specs.Ends.{Ends, lent, no_source};
 ghost use Rattle.command_walk.specs.rooms.Stream.{ticks_of, rate_of, numbers_in, stream_words, stream_answer};
+ghost use Rattle.law_model.specs.Limits.{longest_frame};
 
 use crate::command::WalkCommand;
 use crate::end::{WalkEnd, cut, done, stopped};
 use base_io::{ByteSink, Failed};
 use command_parts::Stop;
+use law_model::LONGEST_FRAME;
 use text_scripts::rate_load::{RateLoad, is_too_long, write_lines};
 use text_words::number_within;
 
@@ -33,10 +35,10 @@ fn rate_of(
     ticks: Option<(u32, u32)>,
     number: &[u8],
 ) -> Option<WalkCommand>
-    ensures { result ≡ rate_of (number_in 64 9600 octets.now) (number_in 1 400000 mbits.now)
+    ensures { result ≡ rate_of (number_in 64 longest_frame octets.now) (number_in 1 400000 mbits.now)
         ticks (number_in 0 18446744073709551615 number.now) }
 {
-    let octets = number_within(octets, 64, 9_600)? as u16;
+    let octets = number_within(octets, 64, LONGEST_FRAME as u64)? as u16;
     let mbits = number_within(mbits, 1, 400_000)? as u32;
     let (first, end) = ticks?;
     let number = number_within(number, 0, u64::MAX)?;

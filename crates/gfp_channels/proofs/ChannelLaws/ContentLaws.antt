@@ -18,6 +18,7 @@ use Rattle.gfp_model.specs.linear_model.Linear.{linear_outcome, frame_in, linear
 use Rattle.gfp_model.specs.linear_model.Stream.{LinearPiece, idle, client, area_of, linear_stream}
 use Rattle.law_loss.specs.Kind.{IsKind, area_in, stream_in, IsContent, IsPieceIn}
 use Rattle.gfp_channels.specs.channel_law.Kept.{IsChannelFrame, read_content, linear_kind, as_piece, as_pieces}
+use Rattle.law_model.specs.Limits.{longest_extended_area, longest_frame}
 
 -- ---- the headers
 linear_header_right : linear_type_fault linear_header ≡ None
@@ -59,11 +60,11 @@ linear-sound = record {
   unsettled = λ area. refl;
 }
 
-comes : (cid : ℕ) (frame : List ℕ) → length frame ≤ 9600 →
+comes : (cid : ℕ) (frame : List ℕ) → length frame ≤ longest_frame →
     frame_in (linear_outcome true (linear_area cid frame)) ≡ read_content (extension_header cid ++ frame)
 comes cid frame most =
     rw (
-      le-ltb 9608 (length (linear_area cid frame)) (omega arith),
+      le-ltb longest_extended_area (length (linear_area cid frame)) (omega arith),
       linear_header_right,
       le-ltb (length (linear_area cid frame)) 8 (omega arith),
       extension_right cid,

@@ -16,6 +16,7 @@ use Rattle.gfp_model.specs.linear_model.Stream.{reached}
 use Rattle.gfp_channels.proofs.GfpLinearLaws.TurnLaws.{IsBusy, turn-busy}
 use Rattle.gfp_channels.specs.channel_law.Kept.{IsChannelFrame, AreSound}
 use Rattle.gfp_channels.proofs.ChannelLaws.ContentLaws.{IsSent}
+use Rattle.law_model.specs.Limits.{longest_frame}
 
 -- ---- one queue is another one
 length-with_queue : (cid : ℕ) (queue : List (List ℕ)) (queues : List (List (List ℕ))) →
@@ -58,12 +59,12 @@ accepted_frame cid frame channels octets none =
       | inl inside ↦ elim (cases_lt (length frame) 64) [
         | inl short ↦ absurd (let e : channel_refusal cid frame channels ≡ Some (Length (length frame)) =
             rw (lt-leb (length channels.waiting) cid inside, lt-ltb (length frame) 64 short) refl in cc)
-        | inr least ↦ elim (cases_lt 9600 (length frame)) [
+        | inr least ↦ elim (cases_lt longest_frame (length frame)) [
           | inl long ↦ absurd (let e : channel_refusal cid frame channels ≡ Some (Length (length frame)) =
               rw (
                 lt-leb (length channels.waiting) cid inside,
                 le-ltb (length frame) 64 least,
-                lt-ltb 9600 (length frame) long,
+                lt-ltb longest_frame (length frame) long,
               ) refl in cc)
           | inr most ↦ record { least = least; most = most; octets = octets }
         ]
@@ -141,5 +142,5 @@ pub refusal-same : (cid : ℕ) (frame : List ℕ) (one other : Channels) →
     channel_refusal cid frame one ≡ channel_refusal cid frame other
 refusal-same cid frame one other many wait =
     ap₂ (λ (n : ℕ) (m : ℕ). if nat_le n cid then Some (Unknown n)
-    else if nat_lt (length frame) 64 || nat_lt 9600 (length frame) then Some (Length (length frame))
+    else if nat_lt (length frame) 64 || nat_lt longest_frame (length frame) then Some (Length (length frame))
     else if nat_le 16 m then Some (QueueFull 16) else None) many wait

@@ -19,6 +19,7 @@ use Rattle.gfp_channels.specs.declared.gfp_linear.delineator.LinearStep.{LinearS
 use Rattle.gfp_channels.specs.declared.gfp_linear.delineator.LinearStep.TheVariants.{Nothing, Frame, Dropped}
 use Rattle.gfp_channels.specs.gfp_linear.Delineator.{LinearReceiver, frame_of, IsFrame, outcomes_told, told_linear, linear_of_end}
 use Rattle.gfp_channels.specs.gfp_linear.Delineator.{StandsIn}
+use Rattle.law_model.specs.Limits.{longest_extended_area, longest_frame}
 
 -- ---- a whole area
 -- the four octets behind the type header
@@ -54,8 +55,8 @@ by_length true area = refl
 by_length false area = refl
 
 linear_outcome-end : (settled : Bool) (area : List ℕ) →
-    linear_outcome settled area ≡ linear_of_end (end_of 9608 settled area)
-linear_outcome-end true area = by_length (nat_lt 9608 (length area)) area
+    linear_outcome settled area ≡ linear_of_end (end_of longest_extended_area settled area)
+linear_outcome-end true area = by_length (nat_lt longest_extended_area (length area)) area
 linear_outcome-end false area = refl
 
 -- what more octets bring, of the areas that end with them
@@ -63,8 +64,8 @@ pub outcomes-ends : (was : LinearReceiver) (first : Bool) (octets more : List �
     (told : List LinearOutcome) → told ≡ map linear_of_end come → Adds was.progress more come →
     StandsIn was first octets → linear_outcomes first (octets ++ more) ≡ linear_outcomes first octets ++ told
 outcomes-ends was first octets more come told same adds stands =
-    outcomes_more-map (end_of 9608) linear_outcome linear_of_end linear_outcome-end head head
-    first octets more come (adds 9608 false first octets stands)
+    outcomes_more-map (end_of longest_extended_area) linear_outcome linear_of_end linear_outcome-end head head
+    first octets more come (adds longest_extended_area false first octets stands)
     ∙ ap (λ l. linear_outcomes first octets ++ l) (sym same)
 
 -- ---- what an answer tells, where a frame is held exactly at the answer Frame
@@ -94,9 +95,9 @@ told-ends progress holds end step area held same is room =
 
 -- it is no longer than a frame may be
 pub short-ends : (progress : Progress) (holds : Bool) (end : AreaStep) (step : LinearStep) →
-    (IsTrue holds ↔ IsFrame step) → progress.longest ≡ 9608 → (IsFrame step → end ≡ Area) →
+    (IsTrue holds ↔ IsFrame step) → progress.longest ≡ longest_extended_area → (IsFrame step → end ≡ Area) →
     (end ≡ Area → length progress.area ≤ progress.longest) →
-    IfSome (frame_of (record { progress = progress; holds = holds })) (λ frame. length frame ≤ 9600)
+    IfSome (frame_of (record { progress = progress; holds = holds })) (λ frame. length frame ≤ longest_frame)
 short-ends progress false end step held limit frame greatest = tt
 short-ends progress true end step held limit frame greatest =
     let area : List ℕ = progress.area in

@@ -11,6 +11,7 @@ use Rattle.std.proofs.lemmas.List.Elements.{All-nil, All-cons, All-head, All-tai
 use Rattle.gfp_model.specs.linear_model.Channels.{Channels, turn, first_busy, or_else, with_queue, waiting_of}
 use Rattle.gfp_model.specs.linear_model.Channels.{channel_refusal, pushed_by, pushed, served}
 use Rattle.gfp_channels.specs.gfp_linear.Queue.{busy_from, first_from, first_of, turn_among, IsRising}
+use Rattle.law_model.specs.Limits.{longest_frame}
 
 -- ---- in parts
 one_of : List (List ℕ) → ℕ → List ℕ
@@ -271,13 +272,13 @@ abbrev pub channels_of : ℕ → List (List (List ℕ)) → Channels
 channels_of next queues = record { waiting = queues; next = next }
 
 pub accepted : (cid : ℕ) (frame : List ℕ) (channels : Channels) → cid < length channels.waiting →
-    64 ≤ length frame → length frame ≤ 9600 → length (waiting_of cid channels) < 16 →
+    64 ≤ length frame → length frame ≤ longest_frame → length (waiting_of cid channels) < 16 →
     channel_refusal cid frame channels ≡ None
 accepted cid frame channels inside least most room =
     rw (
       lt-leb (length channels.waiting) cid inside,
       le-ltb (length frame) 64 least,
-      le-ltb 9600 (length frame) most,
+      le-ltb longest_frame (length frame) most,
       lt-leb 16 (length (waiting_of cid channels)) room,
     ) refl
 
@@ -287,7 +288,7 @@ silent-told queue told says other is = let yes : told ≡ true = says.1 is in ab
 
 -- the queue of a channel is edited as it is described
 pub pushed-is : (cid next : ℕ) (frame : List ℕ) (queues : List (List (List ℕ))) (queue : List (List ℕ)) →
-    cid < length queues → 64 ≤ length frame → length frame ≤ 9600 → length (slice_index_or queues cid []) < 16 →
+    cid < length queues → 64 ≤ length frame → length frame ≤ longest_frame → length (slice_index_or queues cid []) < 16 →
     queue ≡ slice_index_or queues cid [] ++ frame ∷ [] →
     channels_of next (slice_set queues cid queue) ≡ pushed cid frame (channels_of next queues)
 pushed-is cid next frame queues queue inside least most room is =

@@ -13,11 +13,12 @@ use Rattle.gfp_model.specs.linear_model.Linear.{frame_in}
 use Rattle.gfp_model.specs.linear_model.Channels.{Channels}
 use Rattle.gfp_model.specs.linear_model.Stream.{LinearPiece, idle, client, cut_outcomes}
 use Rattle.law_loss.specs.Kind.{Kind}
+use Rattle.law_model.specs.Limits.{longest_frame}
 
 -- ---- channels of which each frame may be sent
 pub record IsChannelFrame (frame : List ℕ) : Type 0 where
   pub least : 64 ≤ length frame
-  pub most : length frame ≤ 9600
+  pub most : length frame ≤ longest_frame
   pub octets : All (λ octet. octet < 2 ^ 8) frame
 
 pub record AreSound (channels : Channels) : Type 0 where

@@ -10,6 +10,7 @@ use Rattle.gfp_delineate.specs.declared.areas.AreaWhy.TheVariants.{Unsettled as 
 use Rattle.gfp_delineate.specs.Areas.{AreaEnd, keeping, passing, Progress, IsAt}
 use Rattle.gfp_channels.specs.declared.gfp_linear.delineator.LinearStep.{LinearStep}
 use Rattle.gfp_channels.specs.declared.gfp_linear.delineator.LinearStep.TheVariants.{Nothing, Frame, Dropped}
+use Rattle.law_model.specs.Limits.{longest_extended_area}
 
 -- how far a receiver is, and whether the last octet that it was given completed the frame in the area that it keeps
 pub record LinearReceiver : Type 0 where
@@ -47,4 +48,4 @@ linear_of_end (passing why) = dropping (why_of why)
 
 -- these octets of a segment have come, which is the first one of its stream or a later one
 abbrev pub StandsIn : LinearReceiver → Bool → List ℕ → Type 0
-StandsIn receiver first octets = IsAt receiver.progress 9608 false first octets
+StandsIn receiver first octets = IsAt receiver.progress longest_extended_area false first octets

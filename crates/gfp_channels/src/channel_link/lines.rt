@@ -4,13 +4,14 @@ ghost use Rattle.law_model.specs.Limits.{longest_frame};
 ghost use Rattle.gfp_channels.specs.channel_link.Text.{got_front, frame_end, refused_text, counts_text};
 
 use gfp_model::linear_model::ChannelFault;
+use law_model::LONGEST_FRAME;
 use text_report::LineCursor;
 
 /// Room for a line other than that of a frame.
 pub(super) const LINE_ROOM: usize = 128;
 
 /// Room for the octets of a frame in its line.
-pub(super) const FRAME_ROOM: usize = 19_201;
+pub(super) const FRAME_ROOM: usize = 2 * LONGEST_FRAME + 1;
 
 /// What became of frames.
 #[derive(Clone, Copy)]
@@ -39,8 +40,8 @@ pub(super) fn got_head(cid: u8, out: &mut [u8]) -> usize
 /// Puts the rest of that line together.
 pub(super) fn got_tail(frame: &[u8], out: &mut [u8]) -> usize
     requires short { length frame.now ≤ longest_frame }
-    requires room { 19201 ≤ length out.old }
-    ensures within { result ≤ 19201 }
+    requires room { 2 * longest_frame + 1 ≤ length out.old }
+    ensures within { result ≤ 2 * longest_frame + 1 }
     ensures line { take result out.new ≡ frame_end frame.now }
 {
     let mut line = LineCursor::new(out);

@@ -9,13 +9,11 @@ ghost use Rattle.law_model.specs.Limits.{longest_frame};
 ghost use Rattle.gfp_model.specs.linear_model.Channels.{most_of_channel};
 ghost use Rattle.gfp_channels.specs.gfp_linear.Queue.{HasRoom};
 
+use law_model::LONGEST_FRAME;
 use std::alloc::{AllocError, Global};
 use std::collections::VecDeque;
 use std::marker::Model;
 use std::mem;
-
-/// The greatest number of octets in a frame.
-pub(super) const MAX_FRAME: usize = 9600;
 
 /// How many frames of a channel may wait.
 const MAX_WAITING: usize = 16;
@@ -39,13 +37,13 @@ impl Model for ChannelQueue {
 }
 
 impl ChannelQueue {
-    /// A channel without a frame, with room for sixteen of 9,600 octets.
+    /// A channel without a frame, with room for sixteen of `LONGEST_FRAME` octets.
     pub(super) fn new(alloc: Global) -> Result<ChannelQueue, AllocError>
         ensures { IfOk result (λ queue. queue ≡ []) }
     {
         let mut spare = Vec::with_capacity(alloc, MAX_WAITING)?;
         for _ in 0..MAX_WAITING {
-            spare.push(Vec::with_capacity(alloc, MAX_FRAME)?)?;
+            spare.push(Vec::with_capacity(alloc, LONGEST_FRAME)?)?;
         }
         Ok(ChannelQueue {
             waiting: VecDeque::with_capacity(alloc, MAX_WAITING)?,

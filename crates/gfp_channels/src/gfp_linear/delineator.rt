@@ -11,11 +11,12 @@ ghost use Rattle.gfp_channels.specs.gfp_linear.Delineator.{linear_of_end};
 use gfp_delineate::{AreaReceiver, AreaStep, AreaWhy, first_four};
 use gfp_headers::{read_cid, read_type_linear};
 use gfp_model::linear_model::LinearWhy;
+use law_model::LONGEST_FRAME;
 use std::alloc::{AllocError, Global};
 use std::marker::Model;
 
 /// The most octets of an area that is kept: a type header, an extension header and a frame.
-const LONGEST_AREA: u16 = 9608;
+const LONGEST_AREA: u16 = LONGEST_FRAME as u16 + 8;
 
 /// What an octet completes: nothing, a frame that is delivered, or a client frame that is not.
 #[derive(Clone, Copy, Debug, PartialEq, Eq)]

@@ -11,9 +11,10 @@ ghost use Rattle.gfp_fill.specs.Areas.{Sender};
 ghost use Rattle.gfp_channels.specs.gfp_linear.Filler.{Stands};
 
 use crate::gfp_linear::busy::{add, count_below};
-use crate::gfp_linear::channel::{ChannelQueue, MAX_FRAME};
+use crate::gfp_linear::channel::ChannelQueue;
 use gfp_fill::copy_some;
 use gfp_model::linear_model::ChannelFault;
+use law_model::LONGEST_FRAME;
 use std::alloc::{AllocError, Global};
 use std::marker::Model;
 
@@ -64,7 +65,7 @@ impl LinearQueue {
             queues,
             busy: Vec::with_capacity(alloc, count)?,
             next: 0,
-            begun: Vec::with_capacity(alloc, MAX_FRAME)?,
+            begun: Vec::with_capacity(alloc, LONGEST_FRAME)?,
             sent: 0,
         })
     }
@@ -84,7 +85,7 @@ impl LinearQueue {
         if u16::from(cid) >= channels {
             return Err(ChannelFault::Unknown { channels });
         }
-        if frame.len() < MIN_FRAME || frame.len() > MAX_FRAME {
+        if frame.len() < MIN_FRAME || frame.len() > LONGEST_FRAME {
             return Err(ChannelFault::Length {
                 n: frame.len() as u64,
             });

@@ -12,6 +12,7 @@ use Rattle.law_model.specs.declared.TypeFault.TheVariants.{NotEthernet}
 use Rattle.law_model.specs.frames.TypeHeader.{type_field, type_check}
 use Rattle.gfp_model.specs.declared.fcs_model.FcsWhy.{FcsWhy}
 use Rattle.gfp_model.specs.declared.fcs_model.FcsWhy.TheVariants.{Unsettled, TooLong, Header, Short, Fcs}
+use Rattle.law_model.specs.Limits.{longest_extended_area}
 
 -- the type header of a client frame with an FCS
 abbrev pub fcs_header : List ℕ
@@ -65,7 +66,7 @@ by_type (Some fault) area = dropping (Header fault)
 -- the outcome of a descrambled area: the first cause that holds, or the frame in it
 abbrev pub fcs_outcome : Bool → List ℕ → FcsOutcome
 fcs_outcome true area =
-    if nat_lt 9608 (length area) then dropping (TooLong (length area))
+    if nat_lt longest_extended_area (length area) then dropping (TooLong (length area))
     else by_type (fcs_type_fault (take 4 area)) area
 fcs_outcome false area = dropping Unsettled
 

@@ -57,7 +57,7 @@ served cid channels =
     record { waiting = with_queue cid (drop 1 (waiting_of cid channels)) channels.waiting; next = cid + 1 }
 
 -- ---- a frame is offered
--- why it is refused: there is no such channel; or else its length is outside 64 to 9600 octets; or else 16 frames of
+-- why it is refused: there is no such channel; or else its length is outside 64 to 9,600 octets; or else 16 frames of
 -- this channel wait
 abbrev pub channel_refusal : ℕ → List ℕ → Channels → Option ChannelFault
 channel_refusal cid frame channels =

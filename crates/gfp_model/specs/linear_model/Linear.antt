@@ -11,6 +11,7 @@ use Rattle.law_model.specs.frames.Outcome.{outcomes_with}
 use Rattle.gfp_model.specs.declared.linear_model.CidFault.{CidFault}
 use Rattle.gfp_model.specs.declared.linear_model.LinearWhy.{LinearWhy}
 use Rattle.gfp_model.specs.declared.linear_model.LinearWhy.TheVariants.{Unsettled, TooLong, Header, Short, Extension}
+use Rattle.law_model.specs.Limits.{longest_extended_area}
 
 -- ---- the headers in an area
 -- the type header of a client frame with a linear extension header
@@ -80,7 +81,7 @@ by_type (Some fault) area = dropping (Header fault)
 -- the outcome of a descrambled area: the first cause that holds, or the frame in it
 abbrev pub linear_outcome : Bool → List ℕ → LinearOutcome
 linear_outcome true area =
-    if nat_lt 9608 (length area) then dropping (TooLong (length area))
+    if nat_lt longest_extended_area (length area) then dropping (TooLong (length area))
     else by_type (linear_type_fault (take 4 area)) area
 linear_outcome false area = dropping Unsettled
 

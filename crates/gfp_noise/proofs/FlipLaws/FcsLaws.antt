@@ -28,6 +28,7 @@ use Rattle.gfp_noise.proofs.FlipLaws.FlippedLaws.{length-flipped, flipped_below,
 use Rattle.gfp_noise.proofs.FlipLaws.TypeLaws.{fcs_header_right, fcs_type_fault-right}
 use Rattle.law_model.specs.declared.TypeFault.{TypeFault}
 use Rattle.gfp_noise.proofs.FlipLaws.RegisterLaws.{something_left}
+use Rattle.law_model.specs.Limits.{longest_extended_area, longest_frame}
 
 -- ---- the FCS of flipped octets
 none_in_zeros : (bs : List Bool) (n : ℕ) → bs ≡ replicate n false → count bs ≡ 0
@@ -89,7 +90,7 @@ parts_by (Some fault) info said = dropping (Header fault)
 abbrev parts_outcome : List ℕ → List ℕ → List ℕ → FcsOutcome
 parts_outcome header info said = parts_by (fcs_type_fault header) info said
 
-module _ (header info said : List ℕ) (four : length header ≡ 4) (least : 64 ≤ length info) (most : length info ≤ 9600)
+module _ (header info said : List ℕ) (four : length header ≡ 4) (least : 64 ≤ length info) (most : length info ≤ longest_frame)
     (last : length said ≡ 4) where
   all : List ℕ
   all = header ++ (info ++ said)
@@ -120,7 +121,7 @@ module _ (header info said : List ℕ) (four : length header ≡ 4) (least : 64 
   outcome-parts : fcs_outcome true (header ++ (info ++ said)) ≡ parts_outcome header info said
   unfolding all
   outcome-parts =
-      rw (le-ltb 9608 (length all) (omega (arith, length-all, most)), take_at header (info ++ said) 4 four)
+      rw (le-ltb longest_extended_area (length all) (omega (arith, length-all, most)), take_at header (info ++ said) 4 four)
       (by_type-parts (fcs_type_fault header))
 
 -- ---- the area of a frame

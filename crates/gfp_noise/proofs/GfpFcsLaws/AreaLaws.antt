@@ -27,6 +27,7 @@ use Rattle.gfp_noise.specs.declared.gfp_fcs.delineator.FcsStep.{FcsStep}
 use Rattle.gfp_noise.specs.declared.gfp_fcs.delineator.FcsStep.TheVariants.{Nothing, Frame, Dropped}
 use Rattle.gfp_noise.specs.gfp_fcs.Delineator.{FcsReceiver, fcs_outcomes, info_of, frame_of, outcomes_told, told_fcs, fcs_of_end}
 use Rattle.gfp_noise.specs.gfp_fcs.Delineator.{Stands}
+use Rattle.law_model.specs.Limits.{longest_extended_area, longest_frame}
 
 -- ---- a whole area
 -- the number of four octets
@@ -76,8 +77,8 @@ by_length : (long : Bool) (area : List ℕ) →
 by_length true area = refl
 by_length false area = refl
 
-fcs_outcome-end : (settled : Bool) (area : List ℕ) → fcs_outcome settled area ≡ fcs_of_end (end_of 9608 settled area)
-fcs_outcome-end true area = by_length (nat_lt 9608 (length area)) area
+fcs_outcome-end : (settled : Bool) (area : List ℕ) → fcs_outcome settled area ≡ fcs_of_end (end_of longest_extended_area settled area)
+fcs_outcome-end true area = by_length (nat_lt longest_extended_area (length area)) area
 fcs_outcome-end false area = refl
 
 -- what more octets bring, of the areas that end with them
@@ -85,8 +86,8 @@ pub outcomes-ends : (was : FcsReceiver) (octets more : List ℕ) (come : List Ar
     told ≡ map fcs_of_end come → Adds was.progress more come → Stands was octets →
     fcs_outcomes (octets ++ more) ≡ fcs_outcomes octets ++ told
 outcomes-ends was octets more come told same adds stands =
-    outcomes_more-map (end_of 9608) fcs_outcome fcs_of_end fcs_outcome-end head near
-    true octets more come (adds 9608 true true octets stands)
+    outcomes_more-map (end_of longest_extended_area) fcs_outcome fcs_of_end fcs_outcome-end head near
+    true octets more come (adds longest_extended_area true true octets stands)
     ∙ ap (λ l. fcs_outcomes octets ++ l) (sym same)
 
 -- ---- what an answer tells, where a frame is held exactly at the answer Frame
@@ -115,9 +116,9 @@ told-ends progress holds end step area held same is room =
 
 -- it is no longer than a frame may be
 pub short-ends : (progress : Progress) (holds : Bool) (end : AreaStep) (step : FcsStep) →
-    (IsTrue holds ↔ (step ≡ Frame)) → progress.longest ≡ 9608 → (step ≡ Frame → end ≡ Area) →
+    (IsTrue holds ↔ (step ≡ Frame)) → progress.longest ≡ longest_extended_area → (step ≡ Frame → end ≡ Area) →
     (end ≡ Area → length progress.area ≤ progress.longest) →
-    IfSome (frame_of (record { progress = progress; holds = holds })) (λ frame. length frame ≤ 9600)
+    IfSome (frame_of (record { progress = progress; holds = holds })) (λ frame. length frame ≤ longest_frame)
 short-ends progress false end step held limit frame greatest = tt
 short-ends progress true end step held limit frame greatest =
     let area : List ℕ = progress.area in

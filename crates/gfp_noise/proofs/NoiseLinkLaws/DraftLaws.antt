@@ -18,6 +18,7 @@ use Rattle.gfp_noise.specs.declared.noise_link.draft.Statement.{Statement}
 use Rattle.gfp_noise.specs.declared.noise_link.draft.Statement.TheVariants as says
 use Rattle.gfp_noise.specs.noise_link.Lines.{words_fault, words_said, after, at_first, noise_lines}
 use Rattle.gfp_noise.specs.noise_link.Noise.{noise_of_draft, noise_of, IsNoiseFault}
+use Rattle.law_model.specs.Limits.{longest_frame}
 use Rattle.gfp_noise.specs.noise_link.Drafts.{behind, stopped, IsDraft, IsLineStop, Fits}
 
 -- ---- the text
@@ -117,7 +118,7 @@ draft-after d (says.Flip flip) is fits = record {
 }
 
 -- a frame more has 9,612 octets at most
-pub size-after : (d : Draft) (said : Statement) → Fits d said → (after d said).size ≤ d.size + 9612
+pub size-after : (d : Draft) (said : Statement) → Fits d said → (after d said).size ≤ d.size + (longest_frame + 12)
 size-after d says.Nothing fits = omega arith
 size-after d (says.Frame frame) fits = let most = fits.1.most in omega (arith, most)
 size-after d (says.Flip flip) fits = omega arith

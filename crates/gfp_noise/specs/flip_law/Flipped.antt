@@ -8,6 +8,7 @@ use Rattle.law_model.specs.frames.Outcome.{outcomes_with}
 use Rattle.base_remainder.specs.Count.{count}
 use Rattle.gfp_model.specs.fcs_model.Near.{near}
 use Rattle.gfp_model.specs.fcs_model.Fcs.{fcs_area, fcs_outcome, frame_in}
+use Rattle.law_model.specs.Limits.{longest_frame}
 
 -- two idles, and then the frames
 abbrev pub fcs_stream : List (List ℕ) → List ℕ
@@ -15,7 +16,7 @@ fcs_stream frames = areas_stream ([] ∷ [] ∷ map fcs_area frames)
 
 pub record IsFrame (frame : List ℕ) : Type 0 where
   pub least : 64 ≤ length frame
-  pub most : length frame ≤ 9600
+  pub most : length frame ≤ longest_frame
   pub octets : All (λ o. o < 256) frame
 
 -- the frames that are delivered

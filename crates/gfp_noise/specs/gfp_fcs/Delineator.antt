@@ -13,6 +13,7 @@ use Rattle.gfp_delineate.specs.declared.areas.AreaWhy.TheVariants.{Unsettled as 
 use Rattle.gfp_delineate.specs.Areas.{AreaEnd, keeping, passing, Progress, IsAt}
 use Rattle.gfp_noise.specs.declared.gfp_fcs.delineator.FcsStep.{FcsStep}
 use Rattle.gfp_noise.specs.declared.gfp_fcs.delineator.FcsStep.TheVariants.{Nothing, Frame, Dropped}
+use Rattle.law_model.specs.Limits.{longest_extended_area}
 
 -- what comes of the client frames of a stream, all of which is one first segment. Headers are corrected in SYNC alone
 abbrev pub fcs_outcomes : List ℕ → List FcsOutcome
@@ -52,4 +53,4 @@ fcs_of_end (passing why) = dropping (why_of why)
 
 -- these octets of the stream have come
 abbrev pub Stands : FcsReceiver → List ℕ → Type 0
-Stands receiver octets = IsAt receiver.progress 9608 true true octets
+Stands receiver octets = IsAt receiver.progress longest_extended_area true true octets

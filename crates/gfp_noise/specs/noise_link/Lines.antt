@@ -16,6 +16,7 @@ use Rattle.gfp_noise.specs.declared.noise_link.fault.LineFault.TheVariants as wr
 use Rattle.gfp_noise.specs.declared.noise_link.draft.Statement.{Statement}
 use Rattle.gfp_noise.specs.declared.noise_link.draft.Statement.TheVariants as says
 use Rattle.gfp_noise.specs.declared.noise_link.draft.Draft.{Draft}
+use Rattle.law_model.specs.Limits.{longest_frame}
 
 -- ---- the first word
 -- the words that may begin a line
@@ -34,7 +35,7 @@ place_fault d word.Flip = None
 -- what the words after a keyword have to be: a frame's digits, or the place of an octet of the stream and of a bit in
 -- it
 abbrev pub fields : Draft → Keyword → List Field
-fields d word.Frame = digits 64 9600 ∷ []
+fields d word.Frame = digits 64 longest_frame ∷ []
 fields d word.Flip = within 0 (d.size - 1) ∷ within 0 7 ∷ []
 
 -- ---- what the lines before it leave no room for

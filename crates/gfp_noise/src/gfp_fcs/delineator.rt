@@ -13,11 +13,12 @@ use crate::gfp_fcs::check::fcs;
 use gfp_delineate::{AreaReceiver, AreaStep, AreaWhy, first_four};
 use gfp_headers::read_type_fcs;
 use gfp_model::fcs_model::FcsWhy;
+use law_model::LONGEST_FRAME;
 use std::alloc::{AllocError, Global};
 use std::marker::Model;
 
 /// The most octets of an area that is kept: a type header, a frame and its FCS.
-const LONGEST_AREA: u16 = 9608;
+const LONGEST_AREA: u16 = LONGEST_FRAME as u16 + 8;
 
 /// What an octet completes: nothing, a frame that is delivered, or a client frame that is not.
 #[derive(Clone, Copy, Debug, PartialEq, Eq)]

@@ -10,7 +10,7 @@ use crate::noise_link::draft::{Draft, Statement};
 use crate::noise_link::fault::{LineFault, LineStop};
 use crate::noise_link::keyword::Keyword;
 use gfp_model::fcs_model::Flip;
-use law_model::Octets;
+use law_model::{LONGEST_FRAME, Octets};
 use std::alloc::Global;
 use text_lines::{count_words, first_word, number_within, octets_within, one_word, two_words};
 
@@ -37,7 +37,7 @@ fn read_frame(alloc: Global, draft: &Draft, rest: &[u8]) -> Result<Octets, LineS
     let Some(digits) = one_word(rest) else {
         return Err(LineStop::Fault(count_fault(Keyword::Frame, 1, rest)));
     };
-    let octets = octets_within(alloc, digits, 2, 64, 9_600)?;
+    let octets = octets_within(alloc, digits, 2, 64, LONGEST_FRAME)?;
     Ok(Octets(octets))
 }
 

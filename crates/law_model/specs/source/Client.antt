@@ -18,7 +18,7 @@ pub record Stream : Type 0 where
   pub pieces : List Piece
   pub waiting : List (List ℕ)
 
--- why a frame is refused while others wait: its length is outside 64 to 9600 octets, or else 256 frames wait
+-- why a frame is refused while others wait: its length is outside 64 to 9,600 octets, or else 256 frames wait
 abbrev pub refusal_while : List (List ℕ) → List ℕ → Option AcceptFault
 refusal_while waiting frame =
     if nat_lt (length frame) shortest_frame || nat_lt longest_frame (length frame) then Some (Length (length frame))

@@ -18,58 +18,59 @@ use Rattle.law_loss.proofs.SegmentLaws.{next-none, next-more}
 use Rattle.law_loss.proofs.GrowLaws.{adds}
 use Rattle.terminal_sink.specs.gfp_mark.Marks.{Advances, Brings}
 use Rattle.terminal_sink.specs.sink_core.Receives.{IsKnown, Grows, Gives, IsIdle}
+use Rattle.law_model.specs.Limits.{longest_frame}
 
 pub known-grows : (was now : Receiver) (more : List ℕ) → IsKnown was → Grows was now more → IsKnown now
 known-grows was now more (first, octets, stands) grows = (first, octets ++ more, grows first octets stands)
 
 pub grows-none : (was : Receiver) → Grows was was []
-grows-none was first octets stands = subst (StandsIn was 9600 first) (sym (append-nil octets)) stands
+grows-none was first octets stands = subst (StandsIn was longest_frame first) (sym (append-nil octets)) stands
 
 pub grows-more : (was then' now : Receiver) (a b : List ℕ) → Grows was then' a → Grows then' now b →
     Grows was now (a ++ b)
 grows-more was then' now a b one two first octets stands =
-    subst (StandsIn now 9600 first) (append_assoc octets a b) (two first (octets ++ a) (one first octets stands))
+    subst (StandsIn now longest_frame first) (append_assoc octets a b) (two first (octets ++ a) (one first octets stands))
 
 pub gives-none : {A : Type 0} (stands : A → List (List ℕ) → Type 0) (was : Receiver) (out : A) →
     Gives stands was [] out out
 gives-none stands was out first octets has frames before =
-    subst (stands out) (sym (append-nil frames) ∙ ap (λ l. frames ++ l) (sym (next-none 9600 first octets))) before
+    subst (stands out) (sym (append-nil frames) ∙ ap (λ l. frames ++ l) (sym (next-none longest_frame first octets))) before
 
 pub gives-more : {A : Type 0} (stands : A → List (List ℕ) → Type 0) (was then' : Receiver) (a b : List ℕ)
     (before middle after : A) → Grows was then' a →
     Gives stands was a before middle → Gives stands then' b middle after → Gives stands was (a ++ b) before after
 gives-more stands was then' a b before middle after grows one two first octets has frames given =
-    let front : List (List ℕ) = next_frames 9600 first octets a in
-    let back : List (List ℕ) = next_frames 9600 first (octets ++ a) b in
+    let front : List (List ℕ) = next_frames longest_frame first octets a in
+    let back : List (List ℕ) = next_frames longest_frame first (octets ++ a) b in
     subst (stands after)
     (append_assoc frames front back
-    ∙ ap (λ l. frames ++ l) (sym (next-more 9600 first octets a b (adds 9600 first octets a)
-    (adds 9600 first (octets ++ a) b))))
+    ∙ ap (λ l. frames ++ l) (sym (next-more longest_frame first octets a b (adds longest_frame first octets a)
+    (adds longest_frame first (octets ++ a) b))))
     (two first (octets ++ a) (grows first octets has) (frames ++ front) (one first octets has frames given))
 
 -- the frames that octets add are those that the answer tells
 pub next-told : (receiver : Receiver) (step : Step) (first : Bool) (octets more : List ℕ) →
-    outcomes 9600 first (octets ++ more) ≡ outcomes 9600 first octets ++ told_outcomes receiver step →
-    next_frames 9600 first octets more ≡ told receiver.receiver step
+    outcomes longest_frame first (octets ++ more) ≡ outcomes longest_frame first octets ++ told_outcomes receiver step →
+    next_frames longest_frame first octets more ≡ told receiver.receiver step
 next-told receiver step first octets more outcome =
-    let before : List (List ℕ) = frames_in 9600 first octets in
+    let before : List (List ℕ) = frames_in longest_frame first octets in
     ap (drop (length before))
     (ap (flat_map frame_in) outcome
-    ∙ flat_map-append frame_in (outcomes 9600 first octets) (told_outcomes receiver step)
+    ∙ flat_map-append frame_in (outcomes longest_frame first octets) (told_outcomes receiver step)
     ∙ ap (λ l. before ++ l) (frames_told receiver.receiver step))
     ∙ drop_at before (told receiver.receiver step) (length before) refl
 
 -- ---- octets that change nothing
 pub idle-none : (receiver : Receiver) (more : List ℕ) → more ≡ [] → IsIdle receiver more
 idle-none receiver more none first octets stands = (
-  subst (StandsIn receiver 9600 first) (sym (ap (λ l. octets ++ l) none ∙ append-nil octets)) stands,
-  ap (next_frames 9600 first octets) none ∙ next-none 9600 first octets,
+  subst (StandsIn receiver longest_frame first) (sym (ap (λ l. octets ++ l) none ∙ append-nil octets)) stands,
+  ap (next_frames longest_frame first octets) none ∙ next-none longest_frame first octets,
 )
 
 pub idle-by : (receiver : Receiver) (more : List ℕ) → Advances receiver receiver more × Brings receiver more [] →
     IsIdle receiver more
 idle-by receiver more both first octets stands =
-    (both.0 9600 first octets stands, next-told receiver Nothing first octets more (both.1 9600 first octets stands))
+    (both.0 longest_frame first octets stands, next-told receiver Nothing first octets more (both.1 longest_frame first octets stands))
 
 pub idle-grows : (receiver : Receiver) (more : List ℕ) → IsIdle receiver more → Grows receiver receiver more
 idle-grows receiver more idle first octets stands = (idle first octets stands).0

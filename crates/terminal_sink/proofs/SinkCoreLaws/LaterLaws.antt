@@ -21,6 +21,7 @@ use Rattle.terminal_sink.specs.sink_core.Given.{row_in, received_rows, given_fra
 use Rattle.terminal_sink.specs.sink_core.Receives.{Receives}
 use Rattle.terminal_sink.specs.sink_core.Core.{Core, Stands}
 use Rattle.terminal_sink.proofs.SinkCoreLaws.GivenLaws.{received-more}
+use Rattle.law_model.specs.Limits.{longest_frame}
 
 -- ---- more cells
 abbrev AreDecidedTo : List (List Cell) → ℕ → Type 0
@@ -76,7 +77,7 @@ stands-longer core cells longer more stands = record {
 pub frames-stay : (size taken : ℕ) (cells longer : List (List Cell)) → IsLonger cells longer →
     ((t : ℕ) → t < taken → AreDecidedAt cells t) → given_frames size longer taken ≡ given_frames size cells taken
 frames-stay size taken cells longer more decided =
-    ap (deliver 9600) (received-stays size taken cells longer more decided)
+    ap (deliver longest_frame) (received-stays size taken cells longer more decided)
 
 pub back-stays : (t : ℕ) (cells longer : List (List Cell)) → IsLonger cells longer → AreDecidedAt cells t →
     back_at longer t ≡ back_at cells t
@@ -134,6 +135,6 @@ frames-grow size before taken cells low =
     let e : before + (taken - before) ≡ taken = omega arith in
     let all : received_rows size cells taken ≡ received_rows size cells before ++ rest =
     ap (received_rows size cells) (sym e) ∙ is in
-    ap (deliver 9600) all ∙ deliver-grows 9600 (received_rows size cells before) rest
-    ∙ ap (λ rows. given_frames size cells before ++ drop (length (given_frames size cells before)) (deliver 9600 rows))
+    ap (deliver longest_frame) all ∙ deliver-grows longest_frame (received_rows size cells before) rest
+    ∙ ap (λ rows. given_frames size cells before ++ drop (length (given_frames size cells before)) (deliver longest_frame rows))
     (sym all)

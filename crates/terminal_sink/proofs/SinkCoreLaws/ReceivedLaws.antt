@@ -11,32 +11,33 @@ use Rattle.terminal_sink.specs.gfp_mark.Marks.{Marked as Receiver, StandsIn}
 use Rattle.law_loss.specs.Added.{added, whole_row, lost_row}
 use Rattle.law_loss.proofs.SegmentLaws.{segments_of-push, added-whole, added-lost}
 use Rattle.terminal_sink.specs.sink_core.Receives.{Receives, Grows, Gives}
+use Rattle.law_model.specs.Limits.{longest_frame}
 
 pub receives-whole : (was now : Receiver) (come : List StreamRow) (octets : List ℕ) → Grows was now octets →
     Receives was come → Receives now (come ++ whole_row octets ∷ [])
 receives-whole was now come octets grows has =
-    subst (λ (come : Segments). StandsIn now 9600 come.last.first come.last.octets)
+    subst (λ (come : Segments). StandsIn now longest_frame come.last.first come.last.octets)
     (sym (segments_of-push come (whole_row octets)))
     (grows (segments_of come).last.first (segments_of come).last.octets has)
 
-pub receives-lost : (now : Receiver) (come : List StreamRow) (octets : List ℕ) → StandsIn now 9600 false [] →
+pub receives-lost : (now : Receiver) (come : List StreamRow) (octets : List ℕ) → StandsIn now longest_frame false [] →
     Receives now (come ++ lost_row octets ∷ [])
 receives-lost now come octets stands =
-    subst (λ (come : Segments). StandsIn now 9600 come.last.first come.last.octets)
+    subst (λ (come : Segments). StandsIn now longest_frame come.last.first come.last.octets)
     (sym (segments_of-push come (lost_row octets))) stands
 
 pub gives-whole : {A : Type 0} (stands : A → List (List ℕ) → Type 0) (was : Receiver) (come : List StreamRow)
     (octets : List ℕ) (before after : A) → Gives stands was octets before after → Receives was come →
-    (frames : List (List ℕ)) → stands before frames → stands after (frames ++ added 9600 come (whole_row octets))
+    (frames : List (List ℕ)) → stands before frames → stands after (frames ++ added longest_frame come (whole_row octets))
 gives-whole stands was come octets before after gives has frames given =
-    subst (λ more. stands after (frames ++ more)) (sym (added-whole 9600 come octets))
+    subst (λ more. stands after (frames ++ more)) (sym (added-whole longest_frame come octets))
     (gives (segments_of come).last.first (segments_of come).last.octets has frames given)
 
 pub gives-lost : {A : Type 0} (stands : A → List (List ℕ) → Type 0) (come : List StreamRow) (octets : List ℕ) (out : A)
     (frames : List (List ℕ)) → stands out frames →
-    stands out (frames ++ added 9600 come (lost_row octets))
+    stands out (frames ++ added longest_frame come (lost_row octets))
 gives-lost stands come octets out frames given =
-    subst (stands out) (sym (append-nil frames) ∙ ap (λ l. frames ++ l) (sym (added-lost 9600 come octets))) given
+    subst (stands out) (sym (append-nil frames) ∙ ap (λ l. frames ++ l) (sym (added-lost longest_frame come octets))) given
 
 -- ---- rows before the first that a packet governs, and after it
 pub row-early : (size : ℕ) (cells : List (List Cell)) (t : ℕ) → t < 24 → row_at size cells t ≡ Some []

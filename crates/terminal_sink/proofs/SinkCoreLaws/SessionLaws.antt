@@ -18,10 +18,11 @@ use Rattle.law_loss.proofs.GrowLaws.{adds}
 use Rattle.terminal_sink.specs.sink_core.Given.{row_in, received_rows, given_frames}
 use Rattle.terminal_sink.specs.sink_core.Session.{AreSessionRows, TellRows}
 use Rattle.terminal_sink.proofs.SinkCoreLaws.GivenLaws.{received-more}
+use Rattle.law_model.specs.Limits.{longest_frame}
 
 -- rows give the same frames, and so they do with more rows
 pub record Agree (some' other : List StreamRow) : Type 0 where
-  pub frames : deliver 9600 some' ≡ deliver 9600 other
+  pub frames : deliver longest_frame some' ≡ deliver longest_frame other
   pub first : (segments_of some').last.first ≡ (segments_of other).last.first
   pub octets : (segments_of some').last.octets ≡ (segments_of other).last.octets
 
@@ -32,11 +33,11 @@ agree-whole a b octets agree =
     let last-b = (segments_of b).last in
     record {
       frames =
-          grows-whole 9600 a octets (adds 9600 last-a.first last-a.octets octets)
-          ∙ ap₂ ◌++◌ agree.frames (added-whole 9600 a octets
-          ∙ ap₂ (λ first before. next_frames 9600 first before octets) agree.first agree.octets
-          ∙ sym (added-whole 9600 b octets))
-          ∙ sym (grows-whole 9600 b octets (adds 9600 last-b.first last-b.octets octets));
+          grows-whole longest_frame a octets (adds longest_frame last-a.first last-a.octets octets)
+          ∙ ap₂ ◌++◌ agree.frames (added-whole longest_frame a octets
+          ∙ ap₂ (λ first before. next_frames longest_frame first before octets) agree.first agree.octets
+          ∙ sym (added-whole longest_frame b octets))
+          ∙ sym (grows-whole longest_frame b octets (adds longest_frame last-b.first last-b.octets octets));
       first = ap (λ (s : Segments). s.last.first) (segments_of-push a (whole_row octets)) ∙ agree.first
           ∙ sym (ap (λ (s : Segments). s.last.first) (segments_of-push b (whole_row octets)));
       octets =
@@ -48,7 +49,7 @@ agree-whole a b octets agree =
 agree-lost : (a b : List StreamRow) (some' other : List ℕ) → Agree a b →
     Agree (a ++ lost_row some' ∷ []) (b ++ lost_row other ∷ [])
 agree-lost a b some' other agree = record {
-  frames = deliver-lost 9600 a some' ∙ agree.frames ∙ sym (deliver-lost 9600 b other);
+  frames = deliver-lost longest_frame a some' ∙ agree.frames ∙ sym (deliver-lost longest_frame b other);
   first = ap (λ (s : Segments). s.last.first) (segments_of-push a (lost_row some'))
       ∙ sym (ap (λ (s : Segments). s.last.first) (segments_of-push b (lost_row other)));
   octets = ap (λ (s : Segments). s.last.octets) (segments_of-push a (lost_row some'))
@@ -78,7 +79,7 @@ rows-agree scenario returns cells (suc n) are =
 
 pub session-frames : (scenario : Scenario) (returns : List (Option Told)) (cells : List (List Cell)) (n : ℕ) →
     AreSessionRows scenario returns cells n →
-    given_frames scenario.size cells n ≡ deliver 9600 (rows_of scenario returns n)
+    given_frames scenario.size cells n ≡ deliver longest_frame (rows_of scenario returns n)
 session-frames scenario returns cells n are = let agree = rows-agree scenario returns cells n are in agree.frames
 
 pub session-last : (scenario : Scenario) (returns : List (Option Told)) (cells : List (List Cell)) (n : ℕ) →

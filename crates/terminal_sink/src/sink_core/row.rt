@@ -12,7 +12,7 @@ ghost use Rattle.terminal_sink.specs.sink_core.Members.{Hold, octets_if};
 ghost use Rattle.base_io.specs.Start.{Start};
 ghost use Rattle.terminal_sink.specs.sink_core.Given.{row_in};
 ghost use Rattle.terminal_sink.specs.sink_core.Receives.{IsKnown, Receives};
-ghost use Rattle.law_model.specs.Limits.{vc4_size};
+ghost use Rattle.law_model.specs.Limits.{longest_frame, vc4_size};
 
 use crate::gfp_mark::MarkedDelineator;
 use crate::sink_core::active::leading_act;
@@ -80,7 +80,7 @@ pub(super) fn take_row<F: FrameOut>(
     ensures gives { (cells : List (List Cell)) (come : List StreamRow) → Stands rows.now cells →
         active.now ≡ active_of (governing cells t) → Receives delineator.old come →
         (start : Start) (frames : List (List ℕ)) → F.stands_for out.old start frames →
-        F.stands_for out.new start (frames ++ added 9600 come (row_in (row_at size cells t))) }
+        F.stands_for out.new start (frames ++ added longest_frame come (row_in (row_at size cells t))) }
 {
     if t < FIRST_ROW {
         return;

@@ -21,14 +21,14 @@ use crate::lcas_sink::SinkTable;
 use crate::sink_core::active::find_active;
 use crate::sink_core::members::BLOCK;
 use crate::sink_core::row::{FIRST_ROW, take_row};
-use law_model::FrameOut;
+use law_model::{FrameOut, LONGEST_FRAME};
 use member_rows::lcas_packet::Packet;
 use member_rows::realign_core::{RowAnswer, RowGather};
 use std::alloc::{AllocError, Global};
 use std::marker::Model;
 
 /// The greatest frame that is given, in octets.
-const LONGEST: u16 = 9600;
+const LONGEST: u16 = LONGEST_FRAME as u16;
 
 /// The most lines of a group.
 const LINES: usize = 128;

@@ -7,10 +7,11 @@ use Rattle.hex.specs.Hex.{encode_lower}
 use Rattle.base_crc32.specs.Crc32.{least_first, fcs_in}
 use Rattle.text_scripts.specs.make_load.Draws.{draws, after_draws}
 use Rattle.text_scripts.specs.declared.rate_load.lines.RateLoad.{RateLoad}
+use Rattle.law_model.specs.Limits.{longest_frame}
 
 pub record IsRateLoad (load : RateLoad) : Type 0 where
   pub least : 64 ≤ load.octets
-  pub most : load.octets ≤ 9600
+  pub most : load.octets ≤ longest_frame
   pub some : 1 ≤ load.mbits
   pub fast : load.mbits ≤ 400000
   pub before : load.first < load.end

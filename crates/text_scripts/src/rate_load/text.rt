@@ -7,13 +7,12 @@ ghost use Rattle.text_scripts.specs.rate_load.Lines.{IsRateLoad, state_of, line_
 use crate::make_load::Draws;
 use crate::rate_load::lines::{RateLoad, count_of, fill_frame, frame_line, line_start};
 use base_io::{ByteSink, Failed, put_all};
+use law_model::LONGEST_FRAME;
 
 /// The most octets of a text that can be read again.
 const LONGEST: u64 = 67_108_864;
 
-/// Room for a frame, and for its line.
-const FRAME_ROOM: usize = 9_600;
-
+/// Room for the line of a frame.
 const LINE_ROOM: usize = 19_264;
 
 /// Whether the text has more than 67,108,864 octets. None of it is made.
@@ -63,7 +62,7 @@ pub fn write_lines<K: ByteSink>(load: &RateLoad, out: &mut K) -> Result<(), Fail
     ensures err { OnErr result (AppendsPart K.written K.faults out.old out.new (rate_text load.now)) }
 {
     let mut draws = Draws::new(load.number);
-    let mut room = [0u8; FRAME_ROOM];
+    let mut room = [0u8; LONGEST_FRAME];
     let (frame, _) = room.split_at_mut(usize::from(load.octets));
     let mut line = [0u8; LINE_ROOM];
     for k in 0..count_of(load) {

@@ -15,6 +15,7 @@ use Rattle.terminal_sink.proofs.SinkCoreLaws.WholeLaws.{hold-some}
 use Rattle.terminal_sink.proofs.SinkCoreLaws.GivingLaws.{grows-none, gives-none}
 use Rattle.terminal_sink.proofs.SinkCoreLaws.ReceivedLaws.{receives-whole, receives-lost, gives-whole, gives-lost, row-early, row-late}
 use Rattle.terminal_sink.proofs.sink_core.row.take_row.Goals as goal
+use Rattle.law_model.specs.Limits.{longest_frame}
 
 pub returns-then-t-lt-FIRST_ROW-clause-receives : goal.returns-then-t-lt-FIRST_ROW-clause-receives
 returns-then-t-lt-FIRST_ROW-clause-receives g c cells come stands carry has =
@@ -28,7 +29,7 @@ returns-then-t-lt-FIRST_ROW-clause-gives g c cells come stands carry has start f
     let was = c.args.delineator.now in
     let out = c.args.out.now in
     let F = g.F.FrameOut.stands_for in
-    subst (λ row. F out start (frames ++ added 9600 come (row_in row)))
+    subst (λ row. F out start (frames ++ added longest_frame come (row_in row)))
     (sym (row-early c.args.size cells c.args.t c.if-t-lt-FIRST_ROW.true))
     (gives-whole (λ o. F o start) was come [] out out (gives-none (λ o. F o start) was out) has frames given)
 
@@ -77,7 +78,7 @@ returns-then-is_whole-clause-gives g c cells come stands carry has start frames 
     c.requires.row c.from.ensures
     (c.if-is_whole.ensures.row c.args.size cells places stands
     (carried c.args.active.now cells c.args.t c.args.rows.now.rows c.requires.row carry) hold) in
-    subst (λ row. g.F.FrameOut.stands_for c.take_members.new.out start (frames ++ added 9600 come (row_in row)))
+    subst (λ row. g.F.FrameOut.stands_for c.take_members.new.out start (frames ++ added longest_frame come (row_in row)))
     (sym row)
     (gives-whole (λ o. g.F.FrameOut.stands_for o start) c.args.delineator.now come octets c.args.out.now
     c.take_members.new.out (c.take_members.ensures.gives start) has frames given)
@@ -100,5 +101,5 @@ returns-else-is_whole-clause-gives g c cells come stands carry has start frames 
     let row = is-no-row c.args.size cells c.args.t t late c.requires.row
     (c.if-is_whole.ensures.row c.args.size cells _ stands
     (carried c.args.active.now cells c.args.t t c.requires.row carry) (hold-some cells t)) in
-    subst (λ row. g.F.FrameOut.stands_for c.args.out.now start (frames ++ added 9600 come (row_in row))) (sym row)
+    subst (λ row. g.F.FrameOut.stands_for c.args.out.now start (frames ++ added longest_frame come (row_in row))) (sym row)
     (gives-lost (λ o. g.F.FrameOut.stands_for o start) come [] c.args.out.now frames given)

@@ -4,10 +4,11 @@ use Rattle.gfp_delineate.specs.Areas.{ends_told}
 use Rattle.gfp_channels.specs.gfp_linear.Delineator.{LinearReceiver, StandsIn, told_linear}
 use Rattle.gfp_channels.proofs.GfpLinearLaws.AreaLaws.{outcomes-ends, told-ends, short-ends}
 use Rattle.gfp_channels.proofs.gfp_linear.delineator.LinearDelineator.byte.Goals as goal
+use Rattle.law_model.specs.Limits.{longest_extended_area}
 
 pub returns-clause-stands : goal.returns-clause-stands
 returns-clause-stands c = λ first octets stands.
-    c.byte-end.ensures.stands 9608 false first octets
+    c.byte-end.ensures.stands longest_extended_area false first octets
     (subst (λ (was : LinearReceiver). StandsIn was first octets) (sym c.self.view_is) stands)
 
 pub returns-clause-outcome : goal.returns-clause-outcome

@@ -4,10 +4,11 @@ use Rattle.gfp_delineate.specs.Areas.{ends_told}
 use Rattle.gfp_noise.specs.gfp_fcs.Delineator.{FcsReceiver, Stands, told_fcs}
 use Rattle.gfp_noise.proofs.GfpFcsLaws.AreaLaws.{outcomes-ends, told-ends, short-ends}
 use Rattle.gfp_noise.proofs.gfp_fcs.delineator.FcsDelineator.byte.Goals as goal
+use Rattle.law_model.specs.Limits.{longest_extended_area}
 
 pub returns-clause-stands : goal.returns-clause-stands
 returns-clause-stands c = λ octets stands.
-    c.byte-end.ensures.stands 9608 true true octets
+    c.byte-end.ensures.stands longest_extended_area true true octets
     (subst (λ (was : FcsReceiver). Stands was octets) (sym c.self.view_is) stands)
 
 pub returns-clause-outcome : goal.returns-clause-outcome

@@ -8,6 +8,7 @@ use Rattle.terminal_sink.specs.sink_core.Receives.{Receives}
 use Rattle.terminal_sink.specs.sink_core.Core.{Core, Stands}
 use Rattle.terminal_sink.proofs.SinkCoreLaws.GivenLaws.{received-more, decided-none, decided-more, answer-taken}
 use Rattle.terminal_sink.proofs.sink_core.sink.SinkCore.take.Goals as goal
+use Rattle.law_model.specs.Limits.{longest_frame}
 
 pub returns-in-Row-clause-answer : goal.returns-in-Row-clause-answer
 returns-in-Row-clause-answer g c cells gathers stands =
@@ -78,7 +79,7 @@ returns-in-Row-clause-gives g c cells gathers stands start frames given =
     let F = g.F.FrameOut.stands_for in
     subst (λ v. F c.take_row.new.out start (frames ++ added_frames v.size cells v.taken (inside.taken + 1)))
     c.self.view_is
-    (subst (λ rows. F c.take_row.new.out start (frames ++ drop (length (deliver 9600 come)) (deliver 9600 rows)))
+    (subst (λ rows. F c.take_row.new.out start (frames ++ drop (length (deliver longest_frame come)) (deliver longest_frame rows)))
     (sym (received-more inside.size cells inside.taken))
     (c.take_row.ensures.gives cells come gathers (c.deref.ensures.value ∙ before.active) before.receives start frames
     given))
