@@ -1,7 +1,7 @@
 #!/usr/bin/env python3
 """Checks README and docs against the tree, and says on standard error what isn't right; .ci/docs runs it.
 
-- docs/CRATES.md and docs/INDEX.md are what docs/lists.py writes.
+- docs/CRATES.md is what docs/lists.py writes, and crates.txt has each folder of crates/ in the section that its name begins with.
 - Each link leads to a file, and its # part to a heading.
 - What a page shows as antt stands so in the tree, but for comments.
 - Each path and each name in backticks is there. In `call` of `crate` the crate has the call, and in `call`: `clause` the call has the clause.
@@ -12,6 +12,7 @@ import pathlib
 import re
 import sys
 
+sys.dont_write_bytecode = True
 sys.path.insert(0, str(pathlib.Path(__file__).resolve().parent))
 import lists
 
@@ -138,7 +139,7 @@ def is_path(word):
 
 
 def check_path(tree, page, word):
-    plain = word.rstrip("/").removeprefix("./")
+    plain = re.sub(r"\bNAME\b", "*", word.rstrip("/").removeprefix("./"))
     wanted = re.compile(re.escape(plain).replace(r"\*", "[^/]*"))
     for place in tree.files | tree.folders:
         if wanted.fullmatch(place) or (len(place) > len(plain) and wanted.fullmatch(place[len(place) - len(plain):]) and place[-len(plain) - 1] == "/"):
@@ -181,7 +182,8 @@ def check_cited(tree, page, text):
         for span in re.findall(r"`([\w:]+)`", these):
             if not set(span.split("::")) <= tree.of_crate[crate]:
                 fault(page, f"`{span}` isn't in `{crate}`")
-    for calls, clauses in re.findall(rf"({CALLS}(?:; {CALLS})*)(?: \||:) ({LIST})", flat):
+    for calls, sign, clauses in re.findall(rf"({CALLS}(?:; {CALLS})*)( \||:) ({LIST})", flat):
+        is_strict = sign == " |" and "| Clauses |" in flat
         known = set()
         for these, crate in re.findall(rf"({LIST})(?: of `([\w:]+)`)?", calls):
             crate = crate.split("::")[0]
@@ -189,7 +191,8 @@ def check_cited(tree, page, text):
                 if call in tree.calls:
                     known |= tree.clauses(call)
         for clause in re.findall(r"`([\w:]+)`", clauses) if known else []:
-            if clause not in known and ("", clause) not in tree.calls and not clause[0].isupper():
+            is_other = ("", clause) in tree.calls or clause[0].isupper()
+            if clause not in known and (is_strict or not is_other):
                 fault(page, f"`{clause}` is no clause of {calls}")
 
 
@@ -205,7 +208,18 @@ def check_lengths(page, text):
     return words if page not in ("CHANGELOG.md", "bench/README.md") else 0
 
 
+def check_sections():
+    found, uses = lists.sections()
+    for section, _, names in found:
+        for name in names:
+            if not name.startswith(section + "_"):
+                fault("crates.txt", f"{name} stands in the section {section}")
+    for name in sorted(set(uses) ^ {path.name for path in (TOP / "crates").iterdir() if path.is_dir()}):
+        fault("crates.txt", f"{name} stands there alone, or in crates/ alone")
+
+
 def main():
+    check_sections()
     for page, made in lists.PAGES.items():
         if not (TOP / page).exists() or (TOP / page).read_text() != made():
             fault(page, "not what docs/lists.py writes: run python3 docs/lists.py")

@@ -1,46 +1,45 @@
 #!/usr/bin/env python3
-"""Writes the two pages that are lists: docs/CRATES.md, of the crates by section, and docs/INDEX.md, of the files of definitions.
+"""Writes docs/CRATES.md, the list of crates by section.
 
-Sections and uses come from crates.txt; what a crate, a module or a file is, from the first sentence of its head. .ci/docs (docs/check.py) refuses
-a page that isn't what this writes. Run it with python3 after a change of a head or of crates.txt.
+Sections and uses come from crates.txt; what a crate or a module is, from the first sentence of its head. .ci/docs (docs/check.py) refuses a page that
+isn't what this writes. Run it with python3 after a change of a head or of crates.txt.
 """
 
 import pathlib
 import re
 
 TOP = pathlib.Path(__file__).resolve().parent.parent
-# The crates whose definitions the promises are written in.
-DEFINED = ["law_model", "law_walk", "law_headline"]
+# A sentence of more words is cut at its first colon or semicolon.
+LONG = 18
 
 
-def head(path, mark):
+def head(path):
     """The lines of a file's head, without the mark of a comment."""
     lines = []
     for line in path.read_text().splitlines():
-        if not line.startswith(mark):
+        if not line.startswith("//!"):
             break
-        lines.append(line[len(mark):].strip())
+        lines.append(line[3:].strip())
     return lines
 
 
-def sentence(words, longest=0, least=5):
-    """The first sentence of a text, without its full stop; up to its first colon or semicolon if it has more words than the longest, and that
-    leaves enough of them."""
+def sentence(words, long, least):
+    """The first sentence of a text, without its full stop; up to its first colon or semicolon if it is long, and that leaves enough words of it."""
     first = re.split(r"\.(?:\s|$)", " ".join(words.split()), maxsplit=1)[0]
     short = re.split(r"[:;]\s", first, maxsplit=1)[0]
-    return short if len(first.split()) > longest and len(short.split()) >= least else first
+    return short if len(first.split()) > long and len(short.split()) >= least else first
 
 
 def parts(name):
     """What a crate is, and its modules with what each is, which are the bullets of its head."""
     folder = TOP / "crates" / name / "src"
     path = folder / "lib.rt" if (folder / "lib.rt").exists() else folder / "main.rt"
-    text, _, bullets = "\n".join(head(path, "//!")).partition("\n- ")
+    text, _, bullets = "\n".join(head(path)).partition("\n- ")
     modules = []
     for bullet in filter(None, bullets.split("\n- ")):
         module, _, what = " ".join(bullet.split()).partition(": ")
-        modules.append((module, sentence(what)))
-    return sentence(text, 22), modules
+        modules.append((module, sentence(what, 0, 3)))
+    return sentence(text, LONG, 5), modules
 
 
 def sections():
@@ -76,25 +75,7 @@ def crates():
     return "\n".join(lines) + "\n"
 
 
-def index():
-    """docs/INDEX.md."""
-    lines = [
-        "# Definitions",
-        "",
-        "The files that the promises are written in, of `" + "`, `".join(DEFINED) + "`, with what each is of. Written by `docs/lists.py` from their heads.",
-        "To find one word: `grep -rn 'pub.* WORD ' crates/*/specs`.",
-    ]
-    for crate in DEFINED:
-        specs = TOP / "crates" / crate / "specs"
-        lines += ["", f"## {crate}", "", "| File | What it is of |", "|---|---|"]
-        for path in sorted(specs.rglob("*.antt"), key=lambda path: (len(path.relative_to(specs).parts), str(path))):
-            text = head(path, "--")
-            if text:
-                lines.append(f"| `{path.relative_to(specs)}` | {sentence(' '.join(text))} |")
-    return "\n".join(lines) + "\n"
-
-
-PAGES = {"docs/CRATES.md": crates, "docs/INDEX.md": index}
+PAGES = {"docs/CRATES.md": crates}
 
 if __name__ == "__main__":
     for page, made in PAGES.items():

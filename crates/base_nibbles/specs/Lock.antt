@@ -1,6 +1,6 @@
 -- G.707, multiframe alignment of virtual concatenation, over the H4 octets of the cells of a line: an entry is the H4
--- octet
--- of a good cell, or none. The lower half of H4 is MFI1, which counts the frames modulo 16.
+-- octet of a good cell, or none. The lower half of H4 is MFI1, which counts the frames modulo 16. The lock on two
+-- octets, lost at one bad cell, is this project's own.
 use Rattle.std.specs.Prelude.{◌≡◌, ℕ, ◌+◌, ◌-◌, ◌*◌, ◌/◌, ◌%◌, ◌<◌, ◌≤◌, List, Option, Some, slice_get}
 
 -- a good cell with this MFI1 stands at a place

@@ -1,5 +1,5 @@
 pub mod AreaLaws
-mod BusyLaws
+pub mod BusyLaws
 pub mod ReachLaws
 pub mod StreamSteps
 pub mod TurnLaws

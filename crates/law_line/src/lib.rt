@@ -34,7 +34,7 @@ pub fn reading_law()
     ensures end { EndDecides }
 {}
 
-/// What is computed of each cell of a line is the one thing that G.707 words of it.
+/// What is computed of each cell of a line is the one thing that this project words of it.
 pub fn sight_law()
     ensures at { AreAtSights }
     ensures locks { AreLockingSights }

@@ -1,10 +1,10 @@
-mod DelayLaws
-mod DraftLaws
-mod LimitLaws
+pub mod DelayLaws
+pub mod DraftLaws
+pub mod LimitLaws
 pub mod RowLaws
-mod GrowthLaws
-mod ValidLaws
+pub mod GrowthLaws
+pub mod ValidLaws
 pub mod FirstFaultLaws
 mod FitLaws
 pub mod ReadLaws
-mod PieceLaws
+pub mod PieceLaws

@@ -1,4 +1,5 @@
--- How the sink numbers the cells of a line (G.707): what each cell decides.
+-- How the sink numbers the cells of a line, by the multiframe of G.707: what each cell decides. Which number is decided
+-- when is this project's own.
 use Rattle.std.specs.Prelude.{ℕ, suc, ◌+◌, ◌-◌, ◌*◌, ◌/◌, ◌%◌, ◌==◌, List, [], ◌∷◌, ◌++◌, length, replicate, slice_get}
 use Rattle.std.specs.Prelude.{Option, Some, None, if◌then◌else◌}
 use Rattle.base_cells.specs.declared.Container.{Container}

@@ -1,6 +1,5 @@
 -- G.7042, what the sink tells: rows of control packets, one packet of each line or none where it could not be read, and
--- the return
--- packet that each row makes.
+-- the return packet that each row makes. RS-Ack as an echo, and statuses told by 16 packets, are this project's own.
 use Rattle.std.specs.Prelude.{ℕ, ◌+◌, ◌*◌, ◌%◌, ◌==◌, ◌&&◌, not, Bool, true, false, if◌then◌else◌, List, [], ◌∷◌, map}
 use Rattle.std.specs.Prelude.{fold, take, slice_index_or, Option, Some, None}
 use Rattle.std.specs.List.{list_any, range_with_len}

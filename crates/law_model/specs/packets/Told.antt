@@ -1,4 +1,5 @@
 -- G.7042, what a return cell tells the source: a return packet's acknowledgement (RS-Ack) and member status (MST).
+-- RS-Ack as an echo of the change bit is this project's own.
 use Rattle.std.specs.Prelude.{ℕ, not, Bool, List, map, Option, Some, None, option_map, Result, Ok, Err}
 use Rattle.base_remainder.specs.Bits.{bits}
 use Rattle.base_cells.specs.declared.BackCell.{BackCell}

@@ -1,4 +1,5 @@
--- G.7042, the source's table of lines: what a decision step does with a return packet.
+-- G.7042, the source's table of lines: what a decision step does with a return packet. That one change at a time is
+-- out, and that RS-Ack echoes it, are this project's own.
 use Rattle.std.specs.Prelude.{ℕ, ◌+◌, ◌/◌, ◌%◌, ◌==◌, ◌&&◌, not, Bool, true, false, if◌then◌else◌, List, [], ◌∷◌, ◌++◌}
 use Rattle.std.specs.Prelude.{map, filter, Option, Some, None, option_map, slice_get, slice_index_or, replicate}
 use Rattle.law_model.specs.declared.table.Standing.{Standing}

@@ -1,0 +1,103 @@
+#!/usr/bin/env python3
+"""Times whole scripts: the call from script to text, least of some turns, and the octets of all containers that it is in a second.
+
+    bench/loads.py [TURNS]                          all loads, five turns of each
+    bench/loads.py --script KIND LINES TICKS OCTETS   the script of a load, printed
+
+A load is `full`, a group that is kept nearly full with frames of so many octets from the tick on in which all lines are in use; `idle`, a group without
+frames; or `queue`, 256 frames that wait from the start. The programs have to be built: rt ci does it."""
+import pathlib
+import random
+import subprocess
+import sys
+import tempfile
+import time
+
+TOP = pathlib.Path(__file__).resolve().parent.parent
+PAYLOAD = 2340                   # octets of a container
+LAG = 4                          # in packets; a command is carried out each LAG packets
+MOST = 65_000_000                # octets of a script, below the limit
+WAIT = 250                       # frames that may come in a tick, below the limit of the queue
+LOADS = [
+    ("walk", "full", 1, 14_000, 64),
+    ("walk", "full", 1, 14_000, 1518),
+    ("walk", "full", 8, 2300, 1518),
+    ("walk", "full", 64, 4450, 64),
+    ("walk", "full", 64, 4450, 1518),
+    ("walk", "full", 64, 4450, 9600),
+    ("walk", "full", 128, 8500, 1518),
+    ("walk", "idle", 1, 200_000, 0),
+    ("walk", "idle", 64, 12_000, 0),
+    ("walk", "queue", 1, 200_000, 9600),
+] + [(f"run {workers}", "full", lines, ticks, 1518) for lines, ticks in ((1, 14_000), (8, 2300), (64, 4450)) for workers in (1, 2, 4)]
+
+
+def head(lines, ticks):
+    """The configuration, and the commands that add all lines: at most 64 of them wait at once."""
+    yield f"lines {lines}"
+    yield "delays " + " ".join(str(7 * line % 41) for line in range(lines))
+    yield "ring 64"
+    yield f"lag {LAG}"
+    yield f"ticks {ticks}"
+    for line in range(lines):
+        yield f"add {64 * max(0, line - 60)} {line}"
+
+
+def frames(kind, lines, ticks, octets, room):
+    """The lines of the client's frames, as far as there is room for them."""
+    draw = random.Random(1)
+    first, rate = (0, 256) if kind == "queue" else (16 * LAG * lines + 164, 0.95 * PAYLOAD * lines / (octets + 8))
+    credit = 0.0
+    for tick in range(first, first + 1 if kind == "queue" else ticks):
+        credit += rate
+        for _ in range(int(credit) if kind == "queue" else min(WAIT, int(credit))):
+            line = f"frame {tick} {draw.randbytes(octets).hex()}"
+            room -= len(line) + 1
+            if room < 0:
+                return
+            yield line
+        credit %= 1
+
+
+def script(kind, lines, ticks, octets):
+    """The text of a load."""
+    text = list(head(lines, ticks))
+    if kind != "idle":
+        text += frames(kind, lines, ticks, octets, MOST - sum(len(line) + 1 for line in text))
+    return "\n".join(text) + "\n"
+
+
+def timed(words, path, turns):
+    """The least seconds of a call on a script."""
+    name = "vcat_run" if words[0] == "run" else "vcat_walk"
+    program = TOP / "crates" / name / "out" / name
+    if not program.exists():
+        sys.exit(f"loads: {program} is missing: run rt ci first")
+    best = None
+    for _ in range(turns):
+        with open(path, "rb") as source:
+            start = time.perf_counter()
+            subprocess.run([program, *words], stdin=source, stdout=subprocess.DEVNULL, check=True)
+            taken = time.perf_counter() - start
+        best = taken if best is None else min(best, taken)
+    return best
+
+
+def main():
+    if sys.argv[1:2] == ["--script"]:
+        kind, lines, ticks, octets = sys.argv[2], *map(int, sys.argv[3:6])
+        sys.stdout.write(script(kind, lines, ticks, octets))
+        return
+    turns = int(sys.argv[1]) if len(sys.argv) > 1 else 5
+    with tempfile.TemporaryDirectory() as folder:
+        for words, kind, lines, ticks, octets in LOADS:
+            path = pathlib.Path(folder) / f"{kind}-{lines}-{ticks}-{octets}"
+            if not path.exists():
+                path.write_text(script(kind, lines, ticks, octets))
+            seconds = timed(words.split(), path, turns)
+            speed = lines * ticks * PAYLOAD / seconds / 1e6
+            print(f"{words}, {kind}, {lines} lines, {ticks} ticks, {octets} octets: {seconds:.3f} s, {speed:,.0f} million octets a second", flush=True)
+
+
+if __name__ == "__main__":
+    main()
