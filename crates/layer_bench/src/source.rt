@@ -3,7 +3,7 @@ ghost use Rattle.std.specs.Prelude.{◌≡◌, ◌+◌, ◌<◌, ◌≤◌, leng
 ghost use Rattle.terminal_source.specs.source_core.Terminal.{SameKind};
 
 use crate::Done;
-use base_cells::{BackCell, Container, Ctrl, PAYLOAD};
+use base_cells::{BackCell, Ctrl, HeldContainer, PAYLOAD, blank_boxes};
 use member_rows::lcas_packet::Packet;
 use std::alloc::{AllocError, Global};
 use terminal_source::source_core::SourceCore;
@@ -36,7 +36,7 @@ fn answer(core: &SourceCore) -> BackCell {
 }
 
 /// Makes a frame.
-fn tick(core: &mut SourceCore, out: &mut [Container])
+fn tick(core: &mut SourceCore, out: &mut [Box<HeldContainer>])
     requires places { length out.old ≡ core.old.lines }
     requires few { core.old.ticks < 4294967295 }
     ensures ticks { core.new.ticks ≡ core.old.ticks + 1 }
@@ -63,7 +63,7 @@ fn offer(core: &mut SourceCore, frame: &[u8])
 
 /// Adds all lines to the group of a terminal that made no frame, and makes frames until the table has all of
 /// them in use.
-fn add_all(core: &mut SourceCore, out: &mut [Container])
+fn add_all(core: &mut SourceCore, out: &mut [Box<HeldContainer>])
     requires places { length out.old ≡ core.old.lines }
     requires lines { length out.old ≤ 128 }
     requires ticks { core.old.ticks ≡ 0 }
@@ -95,12 +95,8 @@ fn made(alloc: Global, members: u8, octets: u64) -> Result<Done, AllocError>
     requires some { 0 < members }
     requires most { members ≤ 128 }
 {
-    let blank = Container {
-        h4: 0,
-        payload: [0; PAYLOAD],
-    };
     let frame = [0x5au8; FRAME];
-    let mut out = vec![in alloc; blank; usize::from(members)]?;
+    let mut out = blank_boxes(alloc, usize::from(members))?;
     let mut core = SourceCore::new(alloc, members, 1, 2340)?;
     add_all(&mut core, &mut out);
     let a_frame = (PAYLOAD * usize::from(members)) as u64;
@@ -109,8 +105,8 @@ fn made(alloc: Global, members: u8, octets: u64) -> Result<Done, AllocError>
     for _ in 0..rounds {
         offer(&mut core, &frame);
         tick(&mut core, &mut out);
-        if let Some(container) = out.first() {
-            sum = sum.wrapping_add(u64::from(container.payload[0]));
+        if let Some(place) = out.first() {
+            sum = sum.wrapping_add(u64::from(place.container().payload[0]));
         }
     }
     let octets = rounds.wrapping_mul(a_frame);

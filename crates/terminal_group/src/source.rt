@@ -227,7 +227,7 @@ impl GroupSource {
         ensures rest { SameScript self.old self.new }
     {
         let cell = take_needed(&mut self.inbox, self.core.needs_back().is_some());
-        self.core.tick_boxed(cell, frame);
+        self.core.tick(cell, frame);
         cell
     }
 }

@@ -3,4 +3,3 @@ pub mod Given
 pub mod Frame
 pub mod Step
 pub mod Dealt
-pub mod Maker

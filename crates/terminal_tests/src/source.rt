@@ -2,16 +2,11 @@
 ghost use Rattle.std.specs.Prelude.{◌≡◌, ◌+◌, ◌%◌, ◌<◌, ◌≤◌, length, IfSome};
 ghost use Rattle.terminal_source.specs.source_core.Terminal.{SameKind};
 
-use base_cells::{BackCell, Container, Ctrl, PAYLOAD};
+use base_cells::{BackCell, Ctrl, HeldContainer, blank_boxes};
 use member_rows::lcas_packet::Packet;
 use std::alloc::Global;
 use terminal_source::lcas_source::SourceTable;
 use terminal_source::source_core::{Command, SourceCore};
-
-const EMPTY: Container = Container {
-    h4: 0,
-    payload: [0; PAYLOAD],
-};
 
 /// The return packet that says this member status and this RS-Ack.
 fn saying(mst: u8, rs_ack: bool) -> Packet {
@@ -33,7 +28,7 @@ fn back(mst: u8, rs_ack: bool) -> BackCell {
 }
 
 /// Makes a frame, with the return cell that it needs.
-fn tick(core: &mut SourceCore, cells: &[BackCell], out: &mut [Container])
+fn tick(core: &mut SourceCore, cells: &[BackCell], out: &mut [Box<HeldContainer>])
     requires places { length out.old ≡ core.old.lines }
     requires few { core.old.ticks < 1000000 }
     ensures ticks { core.new.ticks ≡ core.old.ticks + 1 }
@@ -91,8 +86,9 @@ fn one_line(alloc: Global, octets: usize) -> Option<SourceCore>
 
 /// Makes a frame for each place of `h4`, where the sink says at once that it reads the line, and then one
 /// more, which lies in `out`. Tells whether the payload of all but the last is 0.
-fn make(core: &mut SourceCore, h4: &mut [u8], out: &mut [Container; 1]) -> bool
+fn make(core: &mut SourceCore, h4: &mut [u8], out: &mut [Box<HeldContainer>]) -> bool
     requires lines { core.old.lines ≡ 1 }
+    requires places { length out.old ≡ 1 }
     requires none { core.old.ticks ≡ 0 }
     requires few { length h4.old ≤ 100 }
 {
@@ -100,8 +96,9 @@ fn make(core: &mut SourceCore, h4: &mut [u8], out: &mut [Container; 1]) -> bool
     let mut blank = true;
     for place in h4.iter_mut() {
         tick(core, &cells, out);
-        *place = out[0].h4;
-        blank &= out[0].payload.iter().all(|octet| *octet == 0);
+        let container = out[0].container();
+        *place = container.h4;
+        blank &= container.payload.iter().all(|octet| *octet == 0);
     }
     tick(core, &cells, out);
     blank
@@ -111,11 +108,10 @@ fn make(core: &mut SourceCore, h4: &mut [u8], out: &mut [Container; 1]) -> bool
 fn beginning(alloc: Global) -> Option<([u8; 40], bool, [u8; 28])> {
     let mut core = one_line(alloc, 64)?;
     let mut h4 = [0; 40];
-    let mut out = [EMPTY];
+    let mut out = blank_boxes(alloc, 1).ok()?;
     let blank = make(&mut core, &mut h4, &mut out);
     let mut octets = [0; 28];
-    let [container] = &out;
-    octets.copy_from_slice(&container.payload[..28]);
+    octets.copy_from_slice(&out.first()?.container().payload[..28]);
     Some((h4, blank, octets))
 }
 
@@ -136,7 +132,7 @@ fn telling_once(alloc: Global) -> Option<[u8; 40]> {
     core.tell(saying(0x5a, false));
     core.tell(saying(0xa5, true));
     let mut h4 = [0; 40];
-    let mut out = [EMPTY];
+    let mut out = blank_boxes(alloc, 1).ok()?;
     make(&mut core, &mut h4, &mut out);
     Some(h4)
 }
@@ -154,11 +150,10 @@ fn later(alloc: Global, octets: usize, place: usize) -> Option<[u8; 4]>
     requires { place ≤ 100 }
 {
     let mut core = one_line(alloc, octets)?;
-    let mut out = [EMPTY];
+    let mut out = blank_boxes(alloc, 1).ok()?;
     make(&mut core, &mut [0; 41], &mut out);
     let mut seen = [0; 4];
-    let [container] = &out;
-    seen.copy_from_slice(&container.payload[place..place + 4]);
+    seen.copy_from_slice(&out.first()?.container().payload[place..place + 4]);
     Some(seen)
 }
 
@@ -200,26 +195,26 @@ fn hear(core: &SourceCore, lines: u8, silent: Option<u8>, cells: &mut [BackCell;
 
 /// Which lines carry payload from frame 600 on, where the second one is removed before that frame. An octet
 /// of a stream of idles is never 0.
-fn carrying(core: &mut SourceCore) -> [[bool; 3]; 17]
+fn carrying(core: &mut SourceCore, out: &mut [Box<HeldContainer>]) -> [[bool; 3]; 17]
     requires lines { core.old.lines ≡ 3 }
+    requires places { length out.old ≡ 3 }
     requires none { core.old.ticks ≡ 0 }
 {
     let mut cells = [BackCell::Lost; 80];
-    let mut out = [EMPTY; 3];
     let mut seen = [[false; 3]; 17];
     for t in 0..617usize {
         if t == 600 {
             let _ = core.remove(1);
         }
-        tick(core, &cells, &mut out);
+        tick(core, &cells, out);
         if t % 16 == 8 {
             hear(core, 3, None, &mut cells);
         }
         if t >= 600 {
             seen[t - 600] = [
-                out[0].payload[0] != 0,
-                out[1].payload[0] != 0,
-                out[2].payload[0] != 0,
+                out[0].container().payload[0] != 0,
+                out[1].container().payload[0] != 0,
+                out[2].container().payload[0] != 0,
             ];
         }
     }
@@ -230,9 +225,9 @@ fn carrying(core: &mut SourceCore) -> [[bool; 3]; 17]
 /// two of them from then on.
 #[test]
 fn a_removal(rt: HostRuntime) {
-    let seen = match source(rt.alloc(), 3, 1, 756, 3) {
-        Some(mut core) => carrying(&mut core),
-        None => [[false; 3]; 17],
+    let seen = match (source(rt.alloc(), 3, 1, 756, 3), blank_boxes(rt.alloc(), 3)) {
+        (Some(mut core), Ok(mut out)) => carrying(&mut core, &mut out),
+        _ => [[false; 3]; 17],
     };
     let mut wanted = [[true; 3]; 17];
     wanted[16] = [true, false, true];
@@ -306,8 +301,9 @@ fn hear_some(draws: &mut Draws, core: &SourceCore, cells: &mut [BackCell; 80])
 }
 
 /// Goes on with a digest of a frame.
-fn digest_frame(sum: &mut u64, out: &[Container; 6]) {
-    for container in out {
+fn digest_frame(sum: &mut u64, out: &[Box<HeldContainer>]) {
+    for place in out {
+        let container = place.container();
         digest(sum, container.h4);
         for octet in &container.payload[..760] {
             digest(sum, *octet);
@@ -316,22 +312,22 @@ fn digest_frame(sum: &mut u64, out: &[Container; 6]) {
 }
 
 /// The digests of twelve hundred frames, after each two hundred.
-fn drawn(core: &mut SourceCore) -> [u64; 6]
+fn drawn(core: &mut SourceCore, out: &mut [Box<HeldContainer>]) -> [u64; 6]
     requires lines { core.old.lines ≡ 6 }
+    requires places { length out.old ≡ 6 }
     requires none { core.old.ticks ≡ 0 }
 {
     let mut draws = Draws(5);
     let mut cells = [BackCell::Lost; 80];
-    let mut out = [EMPTY; 6];
     let mut sum = 0;
     let mut sums = [0; 6];
     for t in 0..1200usize {
         land(&mut draws, core, &mut sum);
-        tick(core, &cells, &mut out);
+        tick(core, &cells, out);
         if t % 16 == 8 {
             hear_some(&mut draws, core, &mut cells);
         }
-        digest_frame(&mut sum, &out);
+        digest_frame(&mut sum, out);
         sums[t / 200] = sum;
     }
     sums
@@ -340,9 +336,9 @@ fn drawn(core: &mut SourceCore) -> [u64; 6]
 /// Twelve hundred frames of six lines, whose digests another program has found.
 #[test]
 fn drawn_frames(rt: HostRuntime) {
-    let sums = match source(rt.alloc(), 6, 2, 756, 4) {
-        Some(mut core) => drawn(&mut core),
-        None => [0; 6],
+    let sums = match (source(rt.alloc(), 6, 2, 756, 4), blank_boxes(rt.alloc(), 6)) {
+        (Some(mut core), Ok(mut out)) => drawn(&mut core, &mut out),
+        _ => [0; 6],
     };
     let digests = [
         1_968_506_556_928_311_926,

@@ -21,16 +21,6 @@ use member_rows::vcat_interleave::spread_places;
 /// The most lines of a group.
 const LINES: usize = 128;
 
-/// Copies the containers out of their boxes.
-pub(super) fn copy_out(boxes: &[Box<HeldContainer>], out: &mut [Container])
-    requires { length out.old ≡ length boxes.now }
-    ensures { out.new ≡ held boxes.now }
-{
-    for line in 0..boxes.len() {
-        out[line] = *boxes[line].container();
-    }
-}
-
 /// Writes H4 of all lines, by the nibbles of their packets, and zeros where no octet of the stream is carried.
 pub(super) fn begin_all(
     ticks: u32,

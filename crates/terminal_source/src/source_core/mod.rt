@@ -7,7 +7,6 @@
 
 mod frame;
 mod laws;
-mod maker;
 mod step;
 mod terminal;
 

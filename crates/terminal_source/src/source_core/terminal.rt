@@ -15,10 +15,11 @@ ghost use Rattle.terminal_source.specs.source_core.Given.{with_frame, with_comma
 ghost use Rattle.law_model.specs.Limits.{vc4_size};
 
 use crate::lcas_source::{CommandFault, SourceTable};
-use crate::source_core::frame::copy_out;
-use crate::source_core::maker::Maker;
-use base_cells::{BackCell, Container, HeldContainer, blank_boxes};
-use gfp_fill::AcceptFault;
+use crate::source_core::frame::{begin_all, fill_all};
+use crate::source_core::step::{NIBBLES, no_packets, take_step};
+use arrayvec::ArrayVec;
+use base_cells::{BackCell, HeldContainer};
+use gfp_fill::{AcceptFault, Filler, FrameQueue};
 use law_model::Command;
 use member_rows::lcas_packet::Packet;
 use std::alloc::{AllocError, Global};
@@ -27,21 +28,41 @@ use std::marker::Model;
 /// The source terminal of a group.
 #[derive(Drop)]
 pub struct SourceCore {
-    maker: Maker,
-    /// A frame in boxes, for a caller that has none.
-    frame: Vec<Box<HeldContainer>>,
+    /// The accepted frames of which no octet is sent yet.
+    queue: FrameQueue,
+    /// The stream that the frames are put into.
+    filler: Filler,
+    /// The table of the lines.
+    table: SourceTable,
+    /// The return cell of packet `k` is taken in decision step `k + lag`.
+    lag: u16,
+    /// The payload octets of a container.
+    size: u16,
+    /// How many frames were made.
+    ticks: u32,
+    /// The lines that carry payload.
+    active: ArrayVec<u8, 128>,
+    /// The nibbles of the packet of each line.
+    nibbles: Vec<[u8; NIBBLES]>,
+    /// The return packet that the packets of the next decision step pass on.
+    told: Option<Packet>,
+    /// The payload of one frame, over all lines.
+    row: Vec<u8>,
 }
 
 impl Model for SourceCore {
     ghost use Rattle.std.specs.Prelude.{length};
+    ghost use Rattle.law_model.specs.packets.Telling.{passed_on};
     ghost use Rattle.terminal_source.specs.source_core.Terminal.{Terminal};
-    ghost use Rattle.terminal_source.specs.source_core.Maker.{terminal_in, IsCore};
+    ghost use Rattle.terminal_source.specs.source_core.Step.{terminal_of, IsTerminal};
 
     ghost Value = { Terminal };
 
-    ghost view = { λ s. terminal_in s.maker };
+    ghost view = { λ s. terminal_of s.lag s.size s.ticks s.queue s.filler s.table s.active.items s.nibbles.items
+        (passed_on s.told) };
 
-    ghost invariant = { λ s. IsCore s.maker (length s.frame.items) };
+    ghost invariant = { λ s. IsTerminal (terminal_of s.lag s.size s.ticks s.queue s.filler s.table s.active.items
+        s.nibbles.items (passed_on s.told)) (length s.row.items) };
 }
 
 impl SourceCore {
@@ -58,8 +79,16 @@ impl SourceCore {
         ensures ticks { IfOk result (λ core. core.ticks ≡ 0) }
     {
         Ok(SourceCore {
-            maker: Maker::new(alloc, lines, lag, size)?,
-            frame: blank_boxes(alloc, usize::from(lines))?,
+            queue: FrameQueue::new(alloc)?,
+            filler: Filler::new(),
+            table: SourceTable::new(lines),
+            lag,
+            size,
+            ticks: 0,
+            active: ArrayVec::new(),
+            nibbles: no_packets(alloc, lines)?,
+            told: None,
+            row: vec![in alloc; 0u8; usize::from(size) * usize::from(lines)]?,
         })
     }
 
@@ -74,7 +103,7 @@ impl SourceCore {
         ensures ticks { self.new.ticks ≡ self.old.ticks }
         ensures kind { SameKind self.new self.old }
     {
-        self.maker.queue.push(frame)
+        self.queue.push(frame)
     }
 
     /// Asks for a line to become a member. A refusal tells its first cause, and changes nothing.
@@ -87,7 +116,7 @@ impl SourceCore {
         ensures ticks { self.new.ticks ≡ self.old.ticks }
         ensures kind { SameKind self.new self.old }
     {
-        self.maker.table.add(line)
+        self.table.add(line)
     }
 
     /// Asks for a line to be no member any more. A refusal tells its first cause, and changes nothing.
@@ -101,21 +130,21 @@ impl SourceCore {
         ensures ticks { self.new.ticks ≡ self.old.ticks }
         ensures kind { SameKind self.new self.old }
     {
-        self.maker.table.remove(line)
+        self.table.remove(line)
     }
 
     /// The first cause for which a frame would be refused now; none where it would be taken.
     pub fn frame_refusal(&self, frame: &[u8]) -> Option<AcceptFault>
         ensures { result ≡ refusal_while self.now.queue.waiting frame.now }
     {
-        self.maker.queue.refusal(frame)
+        self.queue.refusal(frame)
     }
 
     /// The first cause for which a command would be refused now; none where it would be taken.
     pub fn command_refusal(&self, command: Command) -> Option<CommandFault>
         ensures { result ≡ refusal self.now.lines command self.now.table.source }
     {
-        self.maker.table.refusal(command)
+        self.table.refusal(command)
     }
 
     /// The number of the return cell that the next tick takes. It takes one exactly where it makes decision
@@ -124,9 +153,9 @@ impl SourceCore {
     pub fn needs_back(&self) -> Option<u32>
         ensures { result ≡ needed self.now }
     {
-        let step = self.maker.ticks / 16;
-        let lag = u32::from(self.maker.lag);
-        if self.maker.ticks % 16 == 8 && step >= lag {
+        let step = self.ticks / 16;
+        let lag = u32::from(self.lag);
+        if self.ticks % 16 == 8 && step >= lag {
             Some(step - lag)
         } else {
             None
@@ -143,30 +172,12 @@ impl SourceCore {
         ensures ticks { self.new.ticks ≡ self.old.ticks }
         ensures kind { SameKind self.new self.old }
     {
-        self.maker.told = Some(packet);
+        self.told = Some(packet);
     }
 
-    /// Makes the next frame, a container for each line at its place in `out`. The return cell that
-    /// `needs_back` names is there exactly where it names one.
-    pub fn tick(&mut self, back: Option<BackCell>, out: &mut [Container])
-        requires places { length out.old ≡ self.old.lines }
-        requires back { IsSome back ↔ IsSome (needed self.old) }
-        requires few { self.old.ticks < 4294967295 }
-        ensures stands { (scenario : Scenario) (cells : List (Option Told)) →
-            Stands self.old scenario cells →
-            Stands self.new scenario (with_cell cells back) }
-        ensures frame { (scenario : Scenario) (cells : List (Option Told)) →
-            Stands self.old scenario cells →
-            out.new ≡ frame_of scenario (with_cell cells back) self.old.ticks }
-        ensures ticks { self.new.ticks ≡ self.old.ticks + 1 }
-        ensures kind { SameKind self.new self.old }
-    {
-        self.maker.make(back, &mut self.frame);
-        copy_out(&self.frame, out);
-    }
-
-    /// Makes the next frame as `tick` does, each container in the box of its line.
-    pub fn tick_boxed(&mut self, back: Option<BackCell>, out: &mut [Box<HeldContainer>])
+    /// Makes the next frame, the container of each line in its box. The return cell that `needs_back` names is there
+    /// exactly where it names one.
+    pub fn tick(&mut self, back: Option<BackCell>, out: &mut [Box<HeldContainer>])
         requires places { length out.old ≡ self.old.lines }
         requires back { IsSome back ↔ IsSome (needed self.old) }
         requires few { self.old.ticks < 4294967295 }
@@ -179,14 +190,32 @@ impl SourceCore {
         ensures ticks { self.new.ticks ≡ self.old.ticks + 1 }
         ensures kind { SameKind self.new self.old }
     {
-        self.maker.make(back, out);
+        take_step(
+            self.ticks,
+            back,
+            &mut self.told,
+            &mut self.table,
+            &mut self.active,
+            &mut self.nibbles,
+        );
+        let size = usize::from(self.size);
+        begin_all(self.ticks, &self.nibbles, &self.active, size, out);
+        fill_all(
+            &mut self.filler,
+            &mut self.queue,
+            &self.active,
+            size,
+            &mut self.row,
+            out,
+        );
+        self.ticks += 1;
     }
 
     /// How many frames were made.
     pub fn ticks(&self) -> u32
         ensures { result ≡ self.now.ticks }
     {
-        self.maker.ticks
+        self.ticks
     }
 
     /// The table of the lines after the last decision step.
@@ -194,6 +223,6 @@ impl SourceCore {
         ensures table { result.now ≡ self.now.table }
         ensures steps { result.now.steps ≡ steps_in self.now.ticks }
     {
-        &self.maker.table
+        &self.table
     }
 }

@@ -8,8 +8,8 @@ use Rattle.terminal_group.proofs.CellLaws.{cell-for}
 use Rattle.terminal_group.proofs.SourceLaws.{early-none}
 use Rattle.terminal_group.proofs.source.GroupSource.make.Goals as goal
 
-pub tick_boxed-requires-clause-back : goal.tick_boxed-requires-clause-back
-tick_boxed-requires-clause-back c =
+pub tick-requires-clause-back : goal.tick-requires-clause-back
+tick-requires-clause-back c =
     let f = c.self.inside in
     let none : missing_by (needed f.core) f.inbox.cells ≡ None = ap missing_in c.self.view_is ∙ c.requires.cell in
     let same = c.is_some.ensures ∙ ap is_some c.needs_back.ensures in
@@ -17,8 +17,8 @@ tick_boxed-requires-clause-back c =
     ∙ cell-for (needed f.core) f.inbox.cells none in
     (λ is. sym t ∙ is, λ is. t ∙ is)
 
-pub tick_boxed-requires-clause-few : goal.tick_boxed-requires-clause-few
-tick_boxed-requires-clause-few c =
+pub tick-requires-clause-few : goal.tick-requires-clause-few
+tick-requires-clause-few c =
     let f = c.self.inside in
     let now : Source = record { core = f.core; total = f.total; landed = f.landing; inbox = f.inbox } in
     let low = (early-none now (ap early_in c.self.view_is ∙ c.requires.early)).0 in

@@ -8,7 +8,7 @@ use Rattle.terminal_source.proofs.source_core.terminal.SourceCore.accept.Goals a
 
 pub returns-clause-stands : goal.returns-clause-stands
 returns-clause-stands c scenario cells stands =
-    let f = c.self.inside.maker in
+    let f = c.self.inside in
     let before = subst (λ core. Stands core scenario cells) (sym c.self.view_is) stands in
     subst (λ core. Stands (terminal_of f.lag f.size f.ticks c.push.new.self f.filler f.table f.active.items
     f.nibbles.items (passed_on f.told)) (with_frame scenario core.ticks c.args.frame.now) cells) c.self.view_is

@@ -1,7 +1,6 @@
 -- A command more came.
-use Rattle.std.proofs.Common.{length, sym, ◌∙◌, ap, subst}
+use Rattle.std.proofs.Common.{length, sym, subst}
 use Rattle.law_model.specs.declared.table.Command.TheVariants.{Remove as remove}
-use Rattle.law_model.specs.source.Course.{Course}
 use Rattle.law_model.specs.packets.Telling.{passed_on}
 use Rattle.terminal_source.specs.source_core.Step.{terminal_of}
 use Rattle.terminal_source.specs.source_core.Given.{with_command, Stands}
@@ -11,17 +10,13 @@ use Rattle.terminal_source.proofs.source_core.terminal.SourceCore.remove.Goals a
 
 pub invariant_of-self : goal.invariant_of-self
 invariant_of-self c =
-    let f = c.self.inside.maker in
-    record {
-      made = IsTerminal-asked f.lag f.size f.ticks f.queue f.filler f.table c.remove.new.self f.active.items
-          f.nibbles.items (passed_on f.told) (length f.row.items) (remove c.args.line) c.remove.ensures.asked
-          c.self.invariant.made;
-      places = c.self.invariant.places ∙ sym (ap (λ (course : Course). course.lines) c.remove.ensures.asked);
-    }
+    let f = c.self.inside in
+    IsTerminal-asked f.lag f.size f.ticks f.queue f.filler f.table c.remove.new.self f.active.items f.nibbles.items
+    (passed_on f.told) (length f.row.items) (remove c.args.line) c.remove.ensures.asked c.self.invariant
 
 pub returns-clause-stands : goal.returns-clause-stands
 returns-clause-stands c scenario cells stands =
-    let f = c.self.inside.maker in
+    let f = c.self.inside in
     let before = subst (λ core. Stands core scenario cells) (sym c.self.view_is) stands in
     subst (λ core. Stands (terminal_of f.lag f.size f.ticks f.queue f.filler c.remove.new.self f.active.items
     f.nibbles.items (passed_on f.told)) (with_command scenario core.ticks (remove c.args.line)) cells) c.self.view_is

@@ -10,7 +10,7 @@ use Rattle.terminal_source.proofs.source_core.terminal.SourceCore.tell.Goals as 
 
 pub returns-clause-stands : goal.returns-clause-stands
 returns-clause-stands c scenario cells stands =
-    let f = c.self.inside.maker in
+    let f = c.self.inside in
     let before = subst (λ core. Stands core scenario cells) (sym c.self.view_is) stands in
     subst (λ core. Stands (terminal_of f.lag f.size f.ticks f.queue f.filler f.table f.active.items f.nibbles.items
     (told_by c.args.packet)) (with_told scenario (steps_in core.ticks) (told_by c.args.packet)) cells) c.self.view_is

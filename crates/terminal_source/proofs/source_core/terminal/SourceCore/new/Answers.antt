@@ -2,10 +2,10 @@
 use Rattle.std.proofs.Common.{◌≡◌, ◌*◌, [], length, refl, ◌∙◌, ap, arith}
 use Rattle.law_model.specs.packets.Telling.{untold}
 use Rattle.terminal_source.proofs.SourceCoreLaws.NewSteps.{IsTerminal-new, Stands-new}
-use Rattle.terminal_source.proofs.source_core.maker.Maker.new.Goals as goal
+use Rattle.terminal_source.proofs.source_core.terminal.SourceCore.new.Goals as goal
 
-pub returns-clause-is : goal.returns-clause-is
-returns-clause-is c =
+pub invariant_of-result : goal.invariant_of-result
+invariant_of-result c =
     let octets : c.from.result * c.from-2.result ≡ c.args.size * c.args.lines =
     ap (λ n. n * c.from-2.result) c.from.ensures ∙ ap (λ n. c.args.size * n) c.from-2.ensures in
     IsTerminal-new c.args.lag c.args.size c.args.lines c.in_ok-new.field-0 c.new-2.result c.new-3.result
