@@ -5,14 +5,15 @@
 //! segment of fewer than 2^64 octets. It doesn't know at which place of its stream a segment begins.
 //! `MarkedDelineator` is the place to begin; `confirm_law` says with which octet the state SYNC begins.
 
-ghost use Rattle.std.specs.Prelude.{◌≡◌, ℕ, ◌+◌, ◌-◌, ◌^◌, ◌<◌, ◌≤◌, ◌↔◌, Bool, true, false, List, [], ◌∷◌, ◌++◌};
-ghost use Rattle.std.specs.Prelude.{length, take, Option, Some, None, IfOk, IfSome, IsSome};
+ghost use Rattle.std.specs.Prelude.{◌≡◌, ◌≢◌, ℕ, ◌+◌, ◌-◌, ◌^◌, ◌<◌, ◌≤◌, ◌↔◌, Bool, true, false, List, [], ◌∷◌, ◌++◌};
+ghost use Rattle.std.specs.Prelude.{length, take, Option, Some, None, IfOk, IfSome, IfNone, IsSome};
+ghost use Rattle.law_model.specs.frames.Core.{core_header};
 ghost use Rattle.law_model.specs.frames.Hunt.{Confirmed, hunt};
 ghost use Rattle.law_model.specs.frames.Run.{is_sync};
 ghost use Rattle.gfp_delineate.specs.Receiver.{most};
 ghost use Rattle.gfp_delineate.specs.Repeated.{idles_from};
 ghost use Rattle.terminal_sink.specs.gfp_mark.Marks.{first_place, next_mark, is_hunting, StandsIn, Advances, Brings, frame_of};
-ghost use Rattle.terminal_sink.specs.gfp_mark.Marks.{told_outcomes};
+ghost use Rattle.terminal_sink.specs.gfp_mark.Marks.{told_outcomes, header_begun};
 
 use gfp_delineate::{Delineator, Step};
 use std::alloc::{AllocError, Global};
@@ -127,19 +128,19 @@ impl MarkedDelineator {
         }
     }
 
-    /// How many octets of the header of an idle frame came last, as a `Delineator` says. Idle frames that go
-    /// on from there change nothing.
+    /// How many octets of the header of an idle frame came last, below four, in SYNC where a header is due, and `None`
+    /// exactly in all other states, as a `Delineator` says. Idle frames that go on from there change nothing.
     pub fn idle_place(&self) -> Option<usize>
         ensures below { IfSome result (λ place. place < 4) }
+        ensures idle { IfSome result (λ place.
+            header_begun self.now ≡ Some (take place (core_header 0))) }
+        ensures none { IfNone result ((place : ℕ) →
+            header_begun self.now ≢ Some (take place (core_header 0))) }
         ensures stays { IfSome result (λ place. (count : ℕ) →
             Advances self.now self.now (idles_from place count)
             × Brings self.now (idles_from place count) []) }
     {
-        if self.delineator.synced() {
-            self.delineator.idle_place()
-        } else {
-            None
-        }
+        self.delineator.idle_place()
     }
 
     /// The frame that the last octet completed.

@@ -90,6 +90,7 @@ impl LineWorker {
         ensures total { total_of result ≡ core.total }
         ensures flushes { flushes_of result ≡ 0 }
         ensures ends { (result.consumer ≡ consumer) × (result.producer ≡ producer) }
+        ensures none { last_raised result ≡ [] }
     {
         LineWorker {
             line,
@@ -102,7 +103,7 @@ impl LineWorker {
 
     /// Passes the gate, and then makes up to 16 carries. What was sent since the worker was made is, whatever
     /// the bursts were, the cells of the path of its line for the containers that were received. Once the end
-    /// was pushed no burst is made, and the alarms are still those of the one before.
+    /// was pushed no burst is made, and the alarms are still those of the last one that was made.
     pub fn burst<G: Gate>(&mut self, gate: &G) -> Burst
         ensures sent { out_passed self.new.producer
             ≡ cells (carried (windows_of self.new)) (delay_of self.new) (total_of self.new)
@@ -111,6 +112,7 @@ impl LineWorker {
         ensures most { carries_of self.new ≤ carries_of self.old + 16 }
         ensures done { (result ≡ Burst.Done) ↔ Contains (out_passed self.old.producer) Cell.End }
         ensures still { result ≡ Burst.Done → self.new ≡ self.old }
+        ensures kept { result ≡ Burst.Done → last_raised self.new ≡ last_raised self.old }
         ensures empty { result ≡ Burst.Idle IdleCause.Empty → WasEmpty self.old self.new }
         ensures full { result ≡ Burst.Idle IdleCause.Full → WasFull self.old self.new }
         ensures later { IsLater self.old self.new }
@@ -131,7 +133,8 @@ impl LineWorker {
         first
     }
 
-    /// What the cells of the last burst raised, in their order.
+    /// What the cells of the last burst raised that was made, in their order; none before the first one. A call of
+    /// `burst` that answers `Done` makes none, so who posts them looks at the answer first.
     pub fn alarms(&self) -> &[Alarm]
         ensures last { result.now ≡ last_raised self.now }
         ensures few { length result.now ≤ 16 }

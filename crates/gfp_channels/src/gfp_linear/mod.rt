@@ -4,7 +4,8 @@
 //! `specs/linear_model`. Begin with `LinearQueue`, `LinearFiller` and `LinearDelineator`. Whether an offered
 //! frame is refused depends on its channel alone; `turns_law`: turns lose and reorder no frame of a channel.
 
-ghost use Rattle.std.specs.Prelude.{◌≡◌, ℕ};
+ghost use Rattle.std.specs.Prelude.{◌≡◌, ◌<◌, ℕ, List, [], ◌∷◌, ◌++◌, length, replicate, true, false};
+ghost use Rattle.gfp_model.specs.linear_model.Linear.{linear_header, linear_outcome, dropping};
 ghost use Rattle.gfp_model.specs.linear_model.Stream.{Shared, reached, accepted_of};
 
 mod busy;
@@ -24,4 +25,18 @@ pub use queue::LinearQueue;
 pub fn turns_law()
     ensures { (place cid : ℕ) (shared : Shared) →
         accepted_of cid (reached place shared) ≡ accepted_of cid shared }
+{}
+
+/// Worked: what each cause tells of an area.
+pub fn cause_law()
+    ensures unsettled { (area : List ℕ) →
+        linear_outcome false area ≡ dropping LinearWhy.Unsettled }
+    ensures too_long { (area : List ℕ) → 9608 < length area →
+        linear_outcome true area ≡ dropping (LinearWhy.TooLong (length area)) }
+    ensures header { linear_outcome true (0x01 ∷ 0x01 ∷ replicate 6 0)
+        ≡ dropping (LinearWhy.Header (TypeFault.Check 0 0x2310)) }
+    ensures short { linear_outcome true (linear_header ++ replicate 3 0)
+        ≡ dropping (LinearWhy.Short 7) }
+    ensures extension { linear_outcome true (linear_header ++ 5 ∷ replicate 3 0)
+        ≡ dropping (LinearWhy.Extension (record { said = 0; found = 0xfff5 })) }
 {}

@@ -44,6 +44,10 @@ pub record Marked : Type 0 where
 abbrev pub frame_of : Marked → Option (List ℕ)
 frame_of marked = receiver.frame_of marked.receiver
 
+-- in SYNC, where a header is due, those of its octets that have come
+abbrev pub header_begun : Marked → Option (List ℕ)
+header_begun marked = receiver.header_begun marked.receiver
+
 abbrev pub told_outcomes : Marked → Step → List Outcome
 told_outcomes marked step = receiver.told_outcomes marked.receiver step
 

@@ -14,6 +14,7 @@ use Rattle.thread_alarms.proofs.AlarmLogLaws.FinishLaws.{NotAmong, all-there}
 
 pub record KnowsAll (xs : List Tagged) (posts : List AlarmPost) : Type 0 where
   pub heard : AreHeard xs (map known_by posts)
+  pub apart : AreApart (map known_by posts)
   pub rest : (p : ℕ) → NotAmong number_of put_by kept_by p posts → through p xs ≡ []
 
 -- v before the joins, w after them, u once the queue was found empty
@@ -28,6 +29,7 @@ knows-all v w u posts is open_ after is' made known heard count =
     let made' : made_of u ≡ made_of v = made ∙ j.made in
     record {
       heard = subst (AreHeard (got_of u)) known' all.1;
+      apart = subst AreApart known' all.2;
       rest = all-there number_of put_by kept_by (made_of v) posts (got_of u) count (subst AreApart known' all.2)
           (subst (λ (y : ℕ × List Known). AreBelow y.0 y.1) (λ i. (made' i, known' i)) all.3)
           (λ p above. all.0 p (omega (arith, above, made')));

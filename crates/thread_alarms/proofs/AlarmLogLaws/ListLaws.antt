@@ -59,10 +59,10 @@ abbrev pub without : ℕ → List Tagged → List Tagged
 without n [] = []
 without n (x ∷ xs) = if x.from == n then without n xs else x ∷ without n xs
 
-without-own : (n : ℕ) (x : Tagged) (xs : List Tagged) → x.from ≡ n → without n (x ∷ xs) ≡ without n xs
+pub without-own : (n : ℕ) (x : Tagged) (xs : List Tagged) → x.from ≡ n → without n (x ∷ xs) ≡ without n xs
 without-own n x xs e = ap (λ b. if b then without n xs else x ∷ without n xs) (test-true x.from n e)
 
-without-other : (n : ℕ) (x : Tagged) (xs : List Tagged) → x.from ≢ n → without n (x ∷ xs) ≡ x ∷ without n xs
+pub without-other : (n : ℕ) (x : Tagged) (xs : List Tagged) → x.from ≢ n → without n (x ∷ xs) ≡ x ∷ without n xs
 without-other n x xs e = ap (λ b. if b then without n xs else x ∷ without n xs) (test-false x.from n e)
 
 pub parts-length : (n : ℕ) (xs : List Tagged) → length xs ≡ length (through n xs) + length (without n xs)

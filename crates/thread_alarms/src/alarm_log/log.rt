@@ -24,7 +24,7 @@ const MOVES: u32 = 16;
 pub enum Turn {
     /// At least one alarm was moved.
     Taken,
-    /// No alarm was moved: the queue was empty.
+    /// No alarm was moved: none was found in the queue.
     Empty,
 }
 
@@ -64,16 +64,17 @@ impl AlarmList {
 
 impl AlarmLog {
     ghost use Rattle.std.specs.Prelude.{◌≡◌, ◌+◌, ◌<◌, ◌≤◌, ◌↔◌, ◌++◌, List, length, true, false, ℕ, slice_get, Some};
-    ghost use Rattle.std.specs.Prelude.{vec_len};
+    ghost use Rattle.std.specs.Prelude.{vec_len, map, IsPermutation};
     ghost use Rattle.thread_alarms.specs.declared.alarm_log.post.AlarmPost.{AlarmPost};
-    ghost use Rattle.thread_alarms.specs.alarm_log.Alarms.{of_line};
+    ghost use Rattle.thread_alarms.specs.alarm_log.Alarms.{of_line, in_row};
     ghost use Rattle.thread_alarms.specs.alarm_log.Posts.{posted_by};
     ghost use Rattle.crossbeam_queue.specs.Fifo.{Held};
     ghost use Rattle.thread_rings.specs.declared.alarm.Alarm.{Alarm};
     ghost use Rattle.thread_alarms.specs.alarm_log.Logs.{moved_by, was_heard, alarms_in, posts_of, IsAlone, IsPostOf, SameLog};
 
-    /// Moves up to 16 alarms from the queue to the list, and fewer only where it finds the queue empty. It takes
-    /// no memory.
+    /// Moves up to 16 alarms from the queue to the list, and ends before that where it finds no further one. It takes
+    /// no memory. Others may post meanwhile, so no clause says what the queue held: `empty` and `all` say what the
+    /// list has then, and that what a queue without alarms teaches was learned, which of a list without alarms is nothing.
     pub fn turn<R: Wait>(&mut self, rt: &R) -> Turn
         ensures taken { (result ≡ Turn.Taken)
             ↔ (length (moved_by self.old) < length (moved_by self.new)) }
@@ -92,12 +93,13 @@ impl AlarmLog {
         Turn::Taken
     }
 
-    /// Moves what is left in the queue to the list, and then what each post keeps. The alarms of a line that
-    /// came through one post alone are those posted, in order. It takes no memory.
+    /// Moves what is left in the queue to the list, and then what each post keeps: in some order that is all that was
+    /// posted. The alarms of a line that came through one post alone are those posted, in order. It takes no memory.
     pub fn finish<R: Wait>(self, rt: &R, posts: Vec<AlarmPost>) -> AlarmList
         requires one_log { (i : ℕ) (post : AlarmPost) →
             slice_get posts.items i ≡ Some post → IsPostOf self post }
         requires count { vec_len posts ≡ posts_of self }
+        ensures whole { IsPermutation (in_row (map posted_by posts.items)) (alarms_in result) }
         ensures lines { (m i : ℕ) (post : AlarmPost) →
             slice_get posts.items i ≡ Some post → IsAlone m i posts.items →
             of_line m (alarms_in result) ≡ of_line m (posted_by post) }

@@ -10,7 +10,7 @@ ghost use Rattle.thread_alarms.specs.alarm_log.Posts.{posted_by, most_by, SamePo
 
 use crate::alarm_log::AlarmPost;
 use std::sync::Wait;
-use thread_rings::{Alarm, Burst, Gate, LineWorker};
+use thread_rings::{Alarm, Burst, Gate, IdleCause, LineWorker};
 
 /// The worker of a line, and the post through which its alarms go, where it is watched.
 #[derive(Drop)]
@@ -36,10 +36,11 @@ fn post_all<R: Wait>(rt: &R, post: &mut AlarmPost, alarms: &[Alarm])
 }
 
 impl ServedLine {
-    ghost use Rattle.std.specs.Prelude.{◌≡◌, ◌↔◌, Some, Contains};
+    ghost use Rattle.std.specs.Prelude.{◌≡◌, ◌<◌, ◌↔◌, Some, Contains};
     ghost use Rattle.base_cells.specs.declared.Cell.{Cell};
     ghost use Rattle.thread_alarms.specs.declared.alarm_log.post.AlarmPost.{AlarmPost as Through};
     ghost use Rattle.thread_rings.specs.Ends.{out_passed};
+    ghost use Rattle.thread_rings.specs.Worker.{carries_of, WasEmpty, WasFull};
     ghost use Rattle.thread_alarms.specs.watched_line.Served.{worker_of, post_of, MayWatch, IsServedLater};
 
     /// A line with its worker, and with a post where it is watched.
@@ -51,9 +52,15 @@ impl ServedLine {
         ServedLine { worker, post }
     }
 
-    /// Passes the gate and makes a burst of the worker, and posts the alarms that it raised.
+    /// Passes the gate and makes a burst of the worker, and posts the alarms that it raised. The answer is the worker's.
     pub fn burst<R: Wait, G: Gate>(&mut self, rt: &R, gate: &G) -> Burst
         ensures later { IsServedLater self.old self.new }
+        ensures moved { (result ≡ Burst.Moved)
+            ↔ (carries_of (worker_of self.old) < carries_of (worker_of self.new)) }
+        ensures empty { result ≡ Burst.Idle IdleCause.Empty →
+            WasEmpty (worker_of self.old) (worker_of self.new) }
+        ensures full { result ≡ Burst.Idle IdleCause.Full →
+            WasFull (worker_of self.old) (worker_of self.new) }
         ensures done { (result ≡ Burst.Done)
             ↔ Contains (out_passed (worker_of self.old).producer) Cell.End }
         ensures still { result ≡ Burst.Done → self.new ≡ self.old }

@@ -1,40 +1,47 @@
--- Idle frames change no mark in SYNC.
-use Rattle.std.proofs.Common.{ℕ, Bool, List, [], ◌++◌, Option, Some, None, sym, ◌∙◌, subst}
+-- Idle frames change no mark in SYNC, and a header is due in SYNC alone.
+use Rattle.std.proofs.Common.{◌≡◌, ℕ, true, false, refl, List, [], take, Option, Some, None, ◌∙◌, subst}
 use Rattle.std.specs.Prelude.{IfSome}
+use Rattle.law_model.specs.frames.Core.{core_header}
+use Rattle.gfp_delineate.specs.declared.areas.Phase.{Phase}
+use Rattle.gfp_delineate.specs.declared.areas.Phase.TheVariants.{Hunt, PresyncArea, PresyncHeader, SyncHeader, SyncArea}
+use Rattle.gfp_delineate.specs.declared.areas.Phase.TheVariants.{SyncPassing}
+use Rattle.gfp_delineate.specs.Areas.{header_begun_in}
 use Rattle.gfp_delineate.specs.Receiver as receiver
 use Rattle.gfp_delineate.specs.Repeated.{idles_from}
-use Rattle.terminal_sink.specs.gfp_mark.Marks.{HasMark, Marked, StandsIn, Advances, Brings}
+use Rattle.gfp_delineate.proofs.Known.{in_sync, is_sync-IsAt}
+use Rattle.terminal_sink.specs.gfp_mark.Marks.{Marked, header_begun, Advances, Brings}
 use Rattle.terminal_sink.proofs.GfpMarkLaws.MarkSteps.{synced-stays}
 use Rattle.terminal_sink.proofs.gfp_mark.MarkedDelineator.idle_place.Goals as goal
 
--- with a mark that stays
-abbrev Stay : Marked → List ℕ → Type 0
-Stay marked more = (longest : ℕ) (first : Bool) (octets : List ℕ) → StandsIn marked longest first octets →
-    HasMark marked.mark (octets ++ more)
+due-synced : (phase : Phase) (window begun : List ℕ) → header_begun_in phase window ≡ Some begun → in_sync phase ≡ true
+due-synced (Hunt have) window begun due = absurd (let wrong : None ≡ Some begun = due in cc)
+due-synced (PresyncArea left) window begun due = absurd (let wrong : None ≡ Some begun = due in cc)
+due-synced (PresyncHeader have) window begun due = absurd (let wrong : None ≡ Some begun = due in cc)
+due-synced (SyncHeader have) window begun due = refl
+due-synced (SyncArea left) window begun due = refl
+due-synced (SyncPassing left why) window begun due = refl
 
-both : (marked : Marked) (result : Option ℕ) → ((more : List ℕ) → Stay marked more) →
+both : (marked : Marked) (result : Option ℕ) →
+    IfSome result (λ place. header_begun marked ≡ Some (take place (core_header 0))) →
     IfSome result (λ place. (count : ℕ) → receiver.Advances marked.receiver marked.receiver (idles_from place count) ×
     receiver.Brings marked.receiver (idles_from place count) []) →
     IfSome result (λ place. (count : ℕ) → Advances marked marked (idles_from place count) ×
     Brings marked (idles_from place count) [])
-both marked None stay stays = tt
-both marked (Some place) stay stays = λ count. (
+both marked None due stays = tt
+both marked (Some place) due stays = λ count. (
   λ longest first octets stands. (
     (stays count).0 longest first octets stands.0,
-    stay (idles_from place count) longest first octets stands,
+    synced-stays marked.mark octets (idles_from place count)
+        (is_sync-IsAt marked.receiver.progress (receiver.area_limit longest) false first octets stands.0
+        ∙ due-synced marked.receiver.progress.phase marked.receiver.progress.window (take place (core_header 0)) due)
+        stands.1,
   ),
   λ longest first octets stands. (stays count).1 longest first octets stands.0,
 )
 
-pub returns-then-synced-clause-stays : goal.returns-then-synced-clause-stays
-returns-then-synced-clause-stays c =
-    both c.args.self.now c.idle_place.result
-    (λ more longest first octets stands.
-    let inside = subst (λ (marked : Marked). receiver.StandsIn marked.receiver longest first octets)
-    (sym c.self.view_is) stands.0 in
-    synced-stays c.args.self.now.mark octets more
-    (sym (c.synced.ensures longest first octets inside) ∙ c.if-synced.true) stands.1)
-    (subst (λ (marked : Marked). IfSome c.idle_place.result
-    (λ place. (count : ℕ) → receiver.Advances marked.receiver marked.receiver (idles_from place count) ×
-    receiver.Brings marked.receiver (idles_from place count) []))
-    c.self.view_is c.idle_place.ensures.stays)
+pub returns-clause-stays : goal.returns-clause-stays
+returns-clause-stays c =
+    subst (λ (marked : Marked). IfSome c.idle_place.result (λ place. (count : ℕ) →
+    Advances marked marked (idles_from place count) × Brings marked (idles_from place count) [])) c.self.view_is
+    (both (record { receiver = c.self.inside.delineator; mark = c.self.inside.mark }) c.idle_place.result
+    c.idle_place.ensures.idle c.idle_place.ensures.stays)

@@ -5,7 +5,7 @@ use Rattle.std.specs.Prelude.{Contains, IsTrue, ◌↔◌}
 use Rattle.base_cells.specs.declared.Cell.TheVariants.{End}
 use Rattle.thread_rings.specs.Ends.{in_passed, out_passed}
 use Rattle.thread_rings.specs.Calls.{calls_on}
-use Rattle.thread_rings.specs.Worker.{raised_by}
+use Rattle.thread_rings.specs.Worker.{raised_by, last_raised}
 use Rattle.thread_rings.proofs.LaterLaws.{later-then}
 use Rattle.thread_rings.proofs.NotedLaws.{noted-then, sent-few}
 use Rattle.thread_rings.proofs.worker.LineWorker.burst.Goals as goal
@@ -57,3 +57,6 @@ returns-else-eq-clause-still g c = λ done.
     subst (λ cells. IsTrue c.ended.result ↔ Contains cells End) (sym old.sent)
     (c.ended.ensures.given (calls_on old.core (in_passed old.consumer)) old.stands) in
     absurd (let ended = given.1 (c.carry-first.ensures.done.0 done) in let open_ = c.if-ended.false in cc)
+
+pub returns-else-eq-clause-kept : goal.returns-else-eq-clause-kept
+returns-else-eq-clause-kept g c = λ done. ap last_raised (returns-else-eq-clause-still g c done)

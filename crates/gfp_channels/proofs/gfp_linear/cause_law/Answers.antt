@@ -1,0 +1,25 @@
+-- What each cause tells is computed.
+use Rattle.std.proofs.Common.{◌≡◌, true, length, refl}
+use Rattle.std.specs.Prelude.{nat_lt}
+use Rattle.std.proofs.lemmas.Bool.{lt-ltb}
+use Rattle.base_hec16.specs.Hec.{hec_of}
+use Rattle.base_remainder.specs.Bits.{number_behind, bits}
+use Rattle.base_remainder.specs.Remainder.{divide, add_front}
+use Rattle.gfp_model.specs.linear_model.Linear.{linear_type_fault, cid_fault}
+use Rattle.gfp_channels.proofs.gfp_linear.cause_law.Goals as goal
+
+pub returns-clause-too_long : goal.returns-clause-too_long
+returns-clause-too_long c area long =
+    let is : nat_lt 9608 (length area) ≡ true = lt-ltb 9608 (length area) long in rw is refl
+
+pub returns-clause-header : goal.returns-clause-header
+unfolding linear_type_fault hec_of number_behind divide bits add_front
+returns-clause-header c = refl
+
+pub returns-clause-short : goal.returns-clause-short
+unfolding linear_type_fault hec_of number_behind divide bits add_front
+returns-clause-short c = refl
+
+pub returns-clause-extension : goal.returns-clause-extension
+unfolding linear_type_fault cid_fault hec_of number_behind divide bits add_front
+returns-clause-extension c = refl
