@@ -2,16 +2,16 @@
 use Rattle.std.proofs.Common.{◌≡◌, ◌⊎◌, ℕ, zero, suc, ◌+◌, ◌-◌, ◌*◌, ◌<◌, ◌≤◌, inl, inr, [], ◌∷◌, slice_get, get_or}
 use Rattle.std.proofs.Common.{All, Some, refl, sym, ◌∙◌, ap, arith, true, List}
 use Rattle.std.proofs.lemmas.Option.{none-some, same_Some}
-use Rattle.std.proofs.lemmas.List.Elements.{All-nil, All-cons, All-replicate}
-use Rattle.std.proofs.lemmas.List.Sorted.{IsNonDecreasingBy-short, IsNonDecreasingBy-push}
+use Rattle.std.proofs.lemmas.List.Elements.{All-nil, All-cons}
+use Rattle.std.proofs.lemmas.List.Sorted.{IsNonDecreasingBy-short}
 use Rattle.law_model.specs.declared.window.Window.{Window}
 use Rattle.law_model.specs.declared.script.ItemKind.TheVariants.{Add}
 use Rattle.law_model.specs.declared.table.Standing.TheVariants.{Add as adding, Norm as normal}
 use Rattle.law_model.specs.declared.table.Member.{Member}
 use Rattle.law_model.specs.declared.table.Command.TheVariants.{Add as add}
-use Rattle.law_model.specs.session.Valid.{AreApart, HasFailures, IsNetwork, IsItem, IsSound}
+use Rattle.law_model.specs.session.Valid.{HasFailures, IsNetwork, IsItem, IsSound}
 use Rattle.law_model.specs.session.Counts.{frame_dues, command_dues}
-use Rattle.law_model.specs.members.Damage.{carried, are_whole, AreWindows, slip_after}
+use Rattle.law_model.specs.members.Damage.{carried, are_whole, slip_after}
 use Rattle.law_model.specs.source.Table.{member_of, keep, none_kept, admit, turned, take_out, exchange}
 use Rattle.law_model.specs.session.Scenario.{DueCommand, scenario_by, orders_of, is_read}
 use Rattle.law_model.specs.source.Source.{after}
@@ -19,6 +19,7 @@ use Rattle.law_model.specs.source.Back.{said_before, cells_before}
 use Rattle.law_session.specs.Feedback.{lines_of}
 use Rattle.law_walk.specs.Walk.{session_of}
 use Rattle.law_walk.specs.Worked.{item, plain}
+use Rattle.law_walk.proofs.MetLaws.{equal-rise, no_failure, one_failure, plain_network}
 use Rattle.law_cost.specs.Cost.{windows_of, FailsBy, StaysClear, FailsOnce, FailTogether, table_at, HasSq}
 use Rattle.law_cost.specs.Settled.{IsSettled}
 use Rattle.law_cost.specs.Closed.{WasUsed, WereUsed}
@@ -28,43 +29,14 @@ use Rattle.law_cost.specs.Worked.{costly_window, costly_windows, costly_leg}
 use Rattle.law_cost.proofs.SettledLaws.{settled-still}
 
 -- ---- the leg is sound
-abbrev EndsBy : ℕ → Window → Type 0
-EndsBy ticks window = window.end ≤ ticks
-
-abbrev IsShort : Window → Type 0
-IsShort window = window.slip ≤ 2047
-
-costly-failures : HasFailures 1400 (costly_window ∷ [])
-unfolding AreWindows
-costly-failures = record {
-  few = omega arith;
-  apart = (omega arith, omega arith, tt);
-  ends = All-cons (EndsBy 1400) costly_window [] (omega arith) (All-nil (EndsBy 1400));
-  slips = All-cons IsShort costly_window [] (omega arith) (All-nil IsShort);
-}
-
-no_failures : HasFailures 1400 []
-unfolding AreWindows
-no_failures =
-    record { few = omega arith; apart = tt; ends = All-nil (EndsBy 1400); slips = All-nil IsShort }
-
 costly-network : IsNetwork (plain costly_windows 4 2 1400)
-unfolding AreApart slip_after
-costly-network = record {
-  lines = (omega arith, omega arith);
-  delay_each = refl;
-  delays = All-replicate (λ delay. delay ≤ 2047) 2 0 (omega arith);
-  windows_each = refl;
-  windows = All-cons (HasFailures 1400) [] ((costly_window ∷ []) ∷ []) no_failures
-      (All-cons (HasFailures 1400) (costly_window ∷ []) [] costly-failures (All-nil (HasFailures 1400)));
-  lost = record { apart = tt; ends = All-nil (λ (window : ℕ × ℕ). window.1 ≤ 62500) };
-  ring = (omega arith, omega arith);
-  lag = (omega arith, omega arith);
-  ticks = (omega arith, omega arith);
-  size = inl refl;
-  fits_ring = omega arith;
-  fits_lag = omega arith;
-}
+unfolding slip_after
+costly-network =
+    plain_network costly_windows 4 2 1400 (omega arith, omega arith)
+    (All-cons (HasFailures 1400) [] ((costly_window ∷ []) ∷ []) (no_failure 1400)
+    (All-cons (HasFailures 1400) (costly_window ∷ []) []
+    (one_failure 1400 costly_window (omega arith) (omega arith) (omega arith)) (All-nil (HasFailures 1400))))
+    (omega arith, omega arith) (omega arith, omega arith) (omega arith, omega arith) (omega arith) (omega arith)
 
 pub costly-sound : IsSound costly_leg
 unfolding frame_dues command_dues
@@ -74,8 +46,7 @@ costly-sound = record {
     each = All-cons (IsItem 1400) (item 0 (Add 0)) (item 0 (Add 1) ∷ []) (omega arith, omega arith)
         (All-cons (IsItem 1400) (item 0 (Add 1)) [] (omega arith, omega arith) (All-nil (IsItem 1400)));
     frames = IsNonDecreasingBy-short (λ (n : ℕ). n) [] (omega arith);
-    commands = IsNonDecreasingBy-push (λ (n : ℕ). n) (0 ∷ []) 0 (IsNonDecreasingBy-short (λ (n : ℕ). n) (0 ∷ []) (omega arith))
-        (λ d some. omega arith);
+    commands = equal-rise 2 0;
   };
   few = omega arith;
 }

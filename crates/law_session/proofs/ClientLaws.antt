@@ -157,7 +157,7 @@ offered-pieces : (why : Option AcceptFault) (frame : List ℕ) (stream : Stream)
 offered-pieces None frame stream = refl
 offered-pieces (Some why) frame stream = refl
 
-offered_all-pieces : (frames : List (List ℕ)) (stream : Stream) → (fold offered stream frames).pieces ≡ stream.pieces
+pub offered_all-pieces : (frames : List (List ℕ)) (stream : Stream) → (fold offered stream frames).pieces ≡ stream.pieces
 offered_all-pieces [] stream = refl
 offered_all-pieces (frame ∷ frames) stream = offered_all-pieces frames (offered stream frame)
     ∙ offered-pieces (frame_refusal frame stream) frame stream

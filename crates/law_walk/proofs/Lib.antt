@@ -14,4 +14,4 @@ pub mod EndLaws
 pub mod WholeLaws
 pub mod CountLaws
 pub mod QuietLaws
-mod MetLaws
+pub mod MetLaws

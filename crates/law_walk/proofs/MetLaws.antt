@@ -34,7 +34,7 @@ use Rattle.law_walk.proofs.WholeLaws.{clear-whole, row-whole}
 use Rattle.law_walk.proofs.QuietLaws.{quiet-true}
 
 -- ---- lists
-equal-rise : (n x : ℕ) → IsNonDecreasing (replicate n x)
+pub equal-rise : (n x : ℕ) → IsNonDecreasing (replicate n x)
 equal-rise n x i j d before within =
     let one = All-replicate (λ (y : ℕ). y ≡ x) n x refl i d (omega (arith, before, within)) in
     let other = All-replicate (λ (y : ℕ). y ≡ x) n x refl j d within in
@@ -62,7 +62,7 @@ EndsBy ticks window = window.end ≤ ticks
 abbrev IsShort : Window → Type 0
 IsShort window = window.slip ≤ 2047
 
-one_failure : (ticks : ℕ) (window : Window) → window.slip + window.first < window.end → EndsBy ticks window →
+pub one_failure : (ticks : ℕ) (window : Window) → window.slip + window.first < window.end → EndsBy ticks window →
     IsShort window →
     HasFailures ticks (window ∷ [])
 unfolding AreWindows
@@ -73,12 +73,12 @@ one_failure ticks window sign ends short = record {
   slips = All-cons IsShort window [] short (All-nil IsShort);
 }
 
-no_failure : (ticks : ℕ) → HasFailures ticks []
+pub no_failure : (ticks : ℕ) → HasFailures ticks []
 unfolding AreWindows
 no_failure ticks = record { few = omega arith; apart = tt; ends = All-nil (EndsBy ticks); slips = All-nil IsShort }
 
 -- ---- lines without delay
-plain_network : (windows : List (List Window)) (ring lag ticks : ℕ) → IsWithin 1 128 (length windows) →
+pub plain_network : (windows : List (List Window)) (ring lag ticks : ℕ) → IsWithin 1 128 (length windows) →
     All (HasFailures ticks) windows → IsWithin 1 2048 ring → IsWithin 1 512 lag → IsWithin 1 1000000 ticks →
     FitsRing (plain windows ring lag ticks) → FitsLag (plain windows ring lag ticks) →
     IsNetwork (plain windows ring lag ticks)

@@ -31,7 +31,7 @@ few-used rows ticks backs used low most taken = omega arith
 same-first : {X : Type 0} (x y : X) → x ∷ [] ≡ y ∷ [] → x ≡ y
 same-first x y e = cc
 
-offer-refusal : (scenario : Scenario) (cells : List (Option Told)) (due : ℕ) (earlier : List Item) (kind : ItemKind)
+pub offer-refusal : (scenario : Scenario) (cells : List (Option Told)) (due : ℕ) (earlier : List Item) (kind : ItemKind)
     (offer : DueFrame) → offer_of due kind ≡ offer ∷ [] →
     kind_refusal scenario cells due earlier kind ≡ option_map frame_fault
     (frame_refusal offer.frame (stream_met scenario cells offer.due (offers_of earlier)))

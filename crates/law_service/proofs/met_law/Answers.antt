@@ -1,0 +1,12 @@
+-- Legs that meet what is asked.
+use Rattle.law_service.proofs.MetLaws.{queued-sound, full-sound, full-keeps}
+use Rattle.law_service.proofs.met_law.Goals as goal
+
+pub returns-clause-queued : goal.returns-clause-queued
+returns-clause-queued c = queued-sound
+
+pub returns-clause-full : goal.returns-clause-full
+returns-clause-full c = full-sound
+
+pub returns-clause-keeps : goal.returns-clause-keeps
+returns-clause-keeps c = full-keeps
