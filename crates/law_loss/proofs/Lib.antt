@@ -18,3 +18,4 @@ pub mod GrowLaws
 pub mod SessionStreamLaws
 pub mod SessionLossLaws
 pub mod AlignedLaws
+pub mod LawScriptLaws

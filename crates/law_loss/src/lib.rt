@@ -2,7 +2,11 @@
 //! is no code here. Begin at `loss_law`, which is of any stream and rows; `ways_law` has the four ways in which
 //! a frame is lost, and `session_loss_law` and `hitless_law` say it of a session. The proofs of `loss_law` and
 //! `whole_law` are of any kind of frames (`specs/Kind.antt`), of which Ethernet frames are one.
+//!
+//! - `law_script`: what the laws of a session and of delivery ask of a scenario, that of a sound leg has.
 #![tactic(auto)]
+
+pub mod law_script;
 
 ghost use Rattle.std.specs.Prelude.{◌≡◌, ℕ, suc, ◌≤◌, ◌<◌, ◌↔◌, Bool, true, false, List, [], ◌∷◌, ◌++◌, length, map};
 ghost use Rattle.std.specs.Prelude.{take, drop, All, Option, Some};

@@ -28,7 +28,7 @@ use Rattle.law_model.specs.declared.refusal.Refusal.TheVariants.{Frame as frame_
 use Rattle.law_loss.proofs.FilterLaws.{filter-skip, filter-keep}
 use Rattle.law_walk.specs.Landed.{Numbered, stream_met, kind_refusal, refusal_at}
 use Rattle.law_walk.specs.Promise.{numbered, frame_by, accepted_frames}
-use Rattle.law_script.proofs.ItemLaws.{offers_rise}
+use Rattle.law_loss.proofs.LawScriptLaws.ItemLaws.{offers_rise}
 
 -- ---- offers one after another
 -- a frame, where it isn't refused

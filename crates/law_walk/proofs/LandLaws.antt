@@ -18,7 +18,7 @@ use Rattle.law_model.specs.session.Counts.{LineCounts, Plan, Counts, land_due, h
 use Rattle.law_model.specs.session.Counts.{tick, in_send, in_receive, carry_on, carry_at, in_return, back, take_popped}
 use Rattle.law_model.specs.session.Counts.{pop_lines, is_back_full, take_row, step, run, begin}
 use Rattle.law_loss.proofs.FilterLaws.{and_false, filter-skip}
-use Rattle.law_script.proofs.ItemLaws.{order_dues, offer_dues}
+use Rattle.law_loss.proofs.LawScriptLaws.ItemLaws.{order_dues, offer_dues}
 use Rattle.law_walk.specs.Walk.{walk_plan, IsWalked}
 use Rattle.law_walk.specs.Landed.{Numbered, landed_scenario, IsOfferAt, IsOrderAt}
 

@@ -14,7 +14,7 @@ use Rattle.law_loss.specs.Carried.{IsUndamaged}
 use Rattle.law_loss.proofs.SessionLossLaws.{session-kept, session-hitless, session-prefix, frames-extents}
 use Rattle.law_session.proofs.ClientLaws.{stream_before-frames}
 use Rattle.law_model.specs.session.Valid.{IsSound}
-use Rattle.law_script.proofs.ItemLaws.{are_octets}
+use Rattle.law_loss.proofs.LawScriptLaws.ItemLaws.{are_octets}
 use Rattle.law_walk.specs.Walk.{walk_plan, CanWalk, IsWalked}
 use Rattle.law_walk.specs.Delivered.{session_rows, delivered_of}
 use Rattle.law_walk.specs.Promise.{accepted_frames, session_pieces, session_extents, session_waiting, place_after}

@@ -19,7 +19,7 @@ use Rattle.law_model.proofs.StreamLaws.{length-stream_of-cons}
 use Rattle.law_session.proofs.ClientLaws.{stream-reaches, stream_before-frames}
 use Rattle.law_loss.proofs.SessionStreamLaws.{pieces-begin}
 use Rattle.law_loss.proofs.AlignedLaws.{aligned-starts}
-use Rattle.law_script.proofs.ItemLaws.{are_octets}
+use Rattle.law_loss.proofs.LawScriptLaws.ItemLaws.{are_octets}
 use Rattle.law_walk.specs.Promise.{session_pieces, place_after, ConfirmsTrue}
 
 -- ---- rows that end at the place of a piece

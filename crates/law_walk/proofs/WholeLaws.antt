@@ -28,7 +28,7 @@ use Rattle.law_loss.proofs.FilterLaws.{and_false}
 use Rattle.law_loss.proofs.SessionLossLaws.{pieces-sent, rows-whole}
 use Rattle.law_loss.proofs.SessionStreamLaws.{pieces-open, rows-carry, rows-length}
 use Rattle.law_loss.proofs.WholeLaws.{only_segment, deliver-whole}
-use Rattle.law_script.proofs.ItemLaws.{are_octets}
+use Rattle.law_loss.proofs.LawScriptLaws.ItemLaws.{are_octets}
 use Rattle.law_walk.specs.Delivered.{delivered_of}
 use Rattle.law_walk.specs.Promise.{session_pieces, place_after, IsClear, row_from, AreWholeBefore, ConfirmsTrue}
 use Rattle.law_model.specs.Limits.{longest_frame}

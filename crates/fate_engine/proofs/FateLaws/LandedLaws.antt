@@ -19,7 +19,7 @@ use Rattle.law_model.specs.source.Journal.{frames_before}
 use Rattle.law_model.specs.session.Valid.{IsSound}
 use Rattle.law_session.specs.Landing.{is_come}
 use Rattle.law_session.proofs.LandingLaws.{offers_land}
-use Rattle.law_script.proofs.ItemLaws.{offers_rise}
+use Rattle.law_loss.proofs.LawScriptLaws.ItemLaws.{offers_rise}
 use Rattle.law_model.specs.declared.refusal.Refusal.{Refusal}
 use Rattle.law_walk.specs.Walk.{IsWalked}
 use Rattle.law_walk.specs.Landed.{Numbered, is_client, with_if, landed_from, landed_items, kind_refusal}

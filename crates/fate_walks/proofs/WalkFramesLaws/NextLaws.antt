@@ -7,7 +7,7 @@ use Rattle.law_model.specs.session.Leg.{Leg}
 use Rattle.law_model.specs.session.Scenario.{DueFrame, scenario_by, offer_of, offers_of}
 use Rattle.law_model.specs.source.Client.{frame_refusal, offered}
 use Rattle.law_model.specs.session.Valid.{IsSound}
-use Rattle.law_script.proofs.ItemLaws.{offers_rise}
+use Rattle.law_loss.proofs.LawScriptLaws.ItemLaws.{offers_rise}
 use Rattle.law_model.specs.declared.refusal.Refusal.{Refusal}
 use Rattle.law_model.specs.declared.refusal.Refusal.TheVariants.{Frame as frame_fault}
 use Rattle.law_walk.specs.Walk.{session_of}

@@ -1,7 +1,7 @@
 -- Each fact of what a sound leg meets.
 use Rattle.std.proofs.Common.{arith}
-use Rattle.law_script.proofs.ItemLaws.{orders_rise, offers_rise, are_octets}
-use Rattle.law_script.proofs.read_law.Goals as goal
+use Rattle.law_loss.proofs.LawScriptLaws.ItemLaws.{orders_rise, offers_rise, are_octets}
+use Rattle.law_loss.proofs.law_script.read_law.Goals as goal
 
 pub returns-clause-limits : goal.returns-clause-limits
 returns-clause-limits c leg is = record {

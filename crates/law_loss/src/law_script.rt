@@ -1,6 +1,5 @@
 //! What the laws of a session and of delivery ask of a scenario, that of a sound leg has: limits, orders and
 //! octets. There is no code here. What a walk asks is in `law_walk`: its `plan_law`. Begin at `read_law`.
-#![tactic(auto)]
 
 ghost use Rattle.law_model.specs.session.Leg.{Leg};
 ghost use Rattle.law_model.specs.session.Valid.{IsSound};
