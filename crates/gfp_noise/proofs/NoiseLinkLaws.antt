@@ -1,3 +1,4 @@
 pub mod DraftLaws
 pub mod StreamLaws
 pub mod TextLaws
+pub mod SaidLaws

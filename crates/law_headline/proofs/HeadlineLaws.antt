@@ -1,5 +1,5 @@
 -- The headline of a script's text. What walks and runs write of it is here to be cited by the commands.
-use Rattle.std.proofs.Common.{◌≡◌, ℕ, ◌≤◌, List, [], length, ap, ◌∙◌, arith}
+use Rattle.std.proofs.Common.{◌≡◌, ℕ, ◌≤◌, List, [], length, ap, ◌∙◌, subst, arith, inr}
 use Rattle.std.specs.Prelude.{Ok}
 use Rattle.law_model.specs.declared.script.Script.{Script}
 use Rattle.law_model.specs.session.Counts.{begin, walked}
@@ -10,13 +10,14 @@ use Rattle.text_scripts.proofs.ScriptReadLaws.ReadLaws.{valid_text}
 use Rattle.law_progress.proofs.ReachLaws.{walked-reached}
 use Rattle.law_walk.specs.Walk.{walk_plan}
 use Rattle.law_walk.specs.Landed.{landed_items}
-use Rattle.law_walk.specs.Promise.{numbered}
+use Rattle.law_walk.specs.Promise.{numbered, ConfirmsTrue}
 use Rattle.law_walk.specs.Report.{report_of, final_report}
 use Rattle.law_walk.proofs.PlanLaws.{sound-walks}
 use Rattle.law_walk.proofs.WalkLaws.{begins-walked}
+use Rattle.law_walk.proofs.PromiseLaws.{drain-ends}
 use Rattle.law_walk.proofs.EndLaws.{counts-within, drained-report}
 use Rattle.law_headline.specs.Texts.{counts_in, walk_text}
-use Rattle.law_headline.specs.Headline.{IsWalkHeadline, IsRunHeadline}
+use Rattle.law_headline.specs.Headline.{IsWalkHeadline, IsWalkReport, IsRunHeadline, IsRunReport}
 use Rattle.law_headline.proofs.ReportLaws.{is_headline}
 
 -- a walk takes no row beyond the ticks
@@ -37,6 +38,18 @@ walk_headline text script short said =
           (few-rows script valid),
     )
 
+-- if what is confirmed first after each break is the place of a piece, nothing is presumed
+pub walk_report : (text : List ℕ) (script : Script) → length text ≤ 67108864 → script_of text ≡ Ok script →
+    ConfirmsTrue (leg_of script) (counts_in script).rows → IsWalkReport text (walk_text script)
+walk_report text script short said starts =
+    let valid = valid_text text script short said in
+    let s = counts_in script in (
+      script,
+      said,
+      (is_headline (leg_of script) s.ticks s.rows (landed_items (leg_of script) s) valid.sound
+          (few-rows script valid)).tells (inr starts),
+    )
+
 pub run_headline : (text : List ℕ) (script : Script) → length text ≤ 67108864 → script_of text ≡ Ok script →
     IsRunHeadline text (final_report (leg_of script))
 run_headline text script short said =
@@ -45,6 +58,22 @@ run_headline text script short said =
     (script, said, is_headline (leg_of script) all all (numbered 0 script.items) valid.sound (omega arith))
 
 -- ---- without event lines
+pub run_report : (text : List ℕ) (script : Script) → length text ≤ 67108864 → script_of text ≡ Ok script →
+    script.events ≡ [] → ConfirmsTrue (leg_of script) (counts_in script).rows →
+    IsRunReport text (final_report (leg_of script))
+run_report text script short said none starts =
+    let valid = valid_text text script short said in
+    let leg = leg_of script in
+    let all = script.config.ticks in
+    let rows : (counts_in script).rows ≡ all =
+    ap (λ events. (walked (walk_plan leg) events).rows) none
+    ∙ drain-ends leg (begin (walk_plan leg)) (sound-walks leg valid.sound) (begins-walked leg) in (
+      script,
+      said,
+      (is_headline leg all all (numbered 0 script.items) valid.sound (omega arith)).tells
+          (inr (subst (ConfirmsTrue leg) rows starts)),
+    )
+
 pub walk-same : (text : List ℕ) (script : Script) → length text ≤ 67108864 → script_of text ≡ Ok script →
     script.events ≡ [] →
     walk_text script ≡ final_report (leg_of script)

@@ -58,8 +58,19 @@ IsWalkHeadline text written =
     (script : Script) × (script_of text ≡ Ok script)
     × (let s = counts_in script in IsHeadline (leg_of script) s.ticks s.rows (landed_items (leg_of script) s) written)
 
+-- and with nothing presumed
+abbrev pub IsWalkReport : List ℕ → List ℕ → Type 0
+IsWalkReport text written =
+    (script : Script) × (script_of text ≡ Ok script)
+    × (let s = counts_in script in Reports (leg_of script) s.ticks s.rows (landed_items (leg_of script) s) written)
+
 -- by `run`: with all of them
 abbrev pub IsRunHeadline : List ℕ → List ℕ → Type 0
 IsRunHeadline text written =
     (script : Script) × (script_of text ≡ Ok script)
     × (let all = script.config.ticks in IsHeadline (leg_of script) all all (numbered 0 script.items) written)
+
+abbrev pub IsRunReport : List ℕ → List ℕ → Type 0
+IsRunReport text written =
+    (script : Script) × (script_of text ≡ Ok script)
+    × (let all = script.config.ticks in Reports (leg_of script) all all (numbered 0 script.items) written)

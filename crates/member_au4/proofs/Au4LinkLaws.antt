@@ -3,3 +3,5 @@ pub mod AcceptLaws
 pub mod DraftLaws
 pub mod CutLaws
 pub mod CarrySteps
+pub mod FitLaws
+pub mod SaidLaws

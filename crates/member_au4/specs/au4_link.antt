@@ -5,3 +5,4 @@ pub mod Vcs
 pub mod VcText
 pub mod Text
 pub mod Drafts
+pub mod Carried

@@ -1,6 +1,7 @@
 -- Of each channel of a plan: the frames that it accepted, those that its stream carries, those of them that arrive, and
 -- those that are delivered.
-use Rattle.std.specs.Prelude.{ℕ, List, map}
+use Rattle.std.specs.Prelude.{◌≡◌, ℕ, ◌-◌, List, [], ◌++◌, length, map}
+use Rattle.std.specs.List.{flat_map}
 use Rattle.law_model.specs.frames.Segment.{StreamRow}
 use Rattle.law_model.specs.frames.Loss.{TrueStarts}
 use Rattle.gfp_model.specs.linear_model.Linear.{ChannelFrame}
@@ -10,7 +11,7 @@ use Rattle.gfp_channels.specs.channel_law.Kept.{as_pieces, frames_told, carried_
 use Rattle.gfp_channels.specs.channel_law.Offers.{accepted_frames}
 use Rattle.gfp_channels.specs.declared.channel_link.draft.Offer.{Offer}
 use Rattle.gfp_channels.specs.declared.channel_link.draft.ChannelPlan.{ChannelPlan}
-use Rattle.gfp_channels.specs.channel_link.Text.{after_offers, delivered}
+use Rattle.gfp_channels.specs.channel_link.Text.{after_offers, delivered, refused, got_text, refusal_text, counts_text}
 
 -- the channels when the stream begins, its pieces, and its rows: those that arrive and those that are cut
 abbrev pub plan_channels : ChannelPlan → Channels
@@ -46,3 +47,15 @@ kept_by plan cid = kept_of cid (plan_pieces plan) (plan_rows plan)
 -- those that are delivered
 abbrev pub delivered_by : ChannelPlan → ℕ → List (List ℕ)
 delivered_by plan cid = frames_told cid (delivered plan)
+
+-- ---- what is written
+-- a line for each of some frames, one for each that is refused, and the counts; and of each channel the frames are, in
+-- order and each once, those that its stream carries whole if there are no cuts, and those of them that aren't lost if
+-- each place that is confirmed first behind a cut is that of a piece
+pub record IsPlanReport (plan : ChannelPlan) (text : List ℕ) : Type 0 where
+  pub told : List ChannelFrame
+  pub lines : text
+      ≡ flat_map got_text told ++ flat_map refusal_text (refused plan)
+      ++ counts_text (length plan.offers - length (refused plan)) (length (refused plan)) (length told)
+  pub uncut : plan.cuts ≡ [] → (cid : ℕ) → frames_told cid told ≡ carried_by plan cid
+  pub kept : HasTrueStarts plan → (cid : ℕ) → frames_told cid told ≡ kept_by plan cid

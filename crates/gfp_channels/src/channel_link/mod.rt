@@ -2,16 +2,19 @@
 //! of the frames that get through. The language is a definition that computes, `plan_of`: lines, words, and for
 //! each line the first fault that it has or what it adds to the lines before it; the reader gives just that, in
 //! one pass. How frames are queued, sent and received is in `gfp_linear`. Begin with `read_plan` and
-//! `ChannelRun`; `plan_law` says what of each channel is carried and delivered.
+//! `ChannelRun`; `plan_law` says what of each channel is carried and delivered, and `text_law` what is then
+//! written of a text.
 
-ghost use Rattle.std.specs.Prelude.{◌≡◌, ◌↔◌, ℕ, List, [], length, take, Err};
+ghost use Rattle.std.specs.Prelude.{◌≡◌, ◌↔◌, ℕ, List, [], length, take, Ok, Err};
 ghost use Rattle.std.specs.Str.Lines.{lines};
 ghost use Rattle.text_lines.specs.FirstFault.{IsFirstFault};
 ghost use Rattle.gfp_channels.specs.declared.channel_link.fault.LineFault.{LineFault};
 ghost use Rattle.gfp_channels.specs.channel_link.Lines.{at_first, plan_lines};
 ghost use Rattle.gfp_channels.specs.declared.channel_link.draft.ChannelPlan.{ChannelPlan};
 ghost use Rattle.gfp_channels.specs.channel_link.Plan.{plan_of, IsPlan};
+ghost use Rattle.gfp_channels.specs.channel_link.Text.{plan_text};
 ghost use Rattle.gfp_channels.specs.channel_link.Delivered.{HasTrueStarts, accepted_by, carried_by, kept_by, delivered_by};
+ghost use Rattle.gfp_channels.specs.channel_link.Delivered.{IsPlanReport};
 
 mod draft;
 mod fault;
@@ -47,4 +50,13 @@ pub fn plan_law()
         plan.cuts ≡ [] → delivered_by plan cid ≡ carried_by plan cid }
     ensures kept { (plan : ChannelPlan) (cid : ℕ) → IsPlan plan →
         HasTrueStarts plan → delivered_by plan cid ≡ kept_by plan cid }
+{}
+
+/// A text that says a plan says one of 1 to 256 channels and 1 to 100,000,000 octets, with frames of octets and cuts
+/// one after the other. What is written of it are got lines, of each channel just those that `plan_law` says, the lines
+/// of refused frames, and the counts.
+pub fn text_law()
+    ensures valid { (text : List ℕ) (plan : ChannelPlan) → plan_of text ≡ Ok plan → IsPlan plan }
+    ensures written { (text : List ℕ) (plan : ChannelPlan) → plan_of text ≡ Ok plan →
+        IsPlanReport plan (plan_text plan) }
 {}

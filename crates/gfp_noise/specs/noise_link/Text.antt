@@ -55,3 +55,10 @@ pub record AreSingle (noise : Noise) : Type 0 where
 -- the frames whose area and the 43 area bits before it have no flip
 abbrev pub untouched : Noise → List (List ℕ)
 untouched noise = clear [] (drop 64 (flip_bits noise)) noise.frames
+
+-- what is then written: a line for each of these frames, and the counts
+abbrev pub untouched_text : Noise → List ℕ
+untouched_text noise =
+    got_texts (untouched noise)
+    ++ counts_text (length noise.frames) (length noise.flips) (length (untouched noise))
+    (length (causes (fcs_outcomes (received noise))))

@@ -2,12 +2,12 @@
 //! frames that get through. The language is a definition that computes, `noise_of`: lines, words, and for each
 //! line the first fault that it has or what it adds to the lines before it; the reader gives just that, in one
 //! pass. How frames are sent and received is in `gfp_fcs`. Begin with `read_noise` and `NoiseRun`; `noise_law`
-//! says which frames are delivered if errors are single.
+//! says which frames are delivered if errors are single, and `text_law` what is then written of a text.
 
-ghost use Rattle.std.specs.Prelude.{◌≡◌, ◌↔◌, ℕ, List, Err};
+ghost use Rattle.std.specs.Prelude.{◌≡◌, ◌↔◌, ℕ, List, Ok, Err};
 ghost use Rattle.gfp_noise.specs.declared.noise_link.draft.Noise.{Noise};
 ghost use Rattle.gfp_noise.specs.gfp_fcs.Delineator.{fcs_outcomes};
-ghost use Rattle.gfp_noise.specs.noise_link.Text.{received, delivered, untouched, AreSingle};
+ghost use Rattle.gfp_noise.specs.noise_link.Text.{received, delivered, untouched, AreSingle, noise_text, untouched_text};
 ghost use Rattle.std.specs.Str.Lines.{lines};
 ghost use Rattle.text_lines.specs.FirstFault.{IsFirstFault};
 ghost use Rattle.gfp_noise.specs.declared.noise_link.fault.LineFault.{LineFault};
@@ -45,4 +45,13 @@ pub fn fault_law()
 pub fn noise_law()
     ensures { (noise : Noise) → IsNoise noise → AreSingle noise →
         delivered (fcs_outcomes (received noise)) ≡ untouched noise }
+{}
+
+/// A text that says frames and flips says frames of 64 to 9,600 octets, and flips of bits of their stream that
+/// rise strictly. If they are single as `noise_law` has it, what is written is a line for each frame whose
+/// area and the 43 area bits before it have no flip, in order, and the counts.
+pub fn text_law()
+    ensures valid { (text : List ℕ) (noise : Noise) → noise_of text ≡ Ok noise → IsNoise noise }
+    ensures single { (text : List ℕ) (noise : Noise) → noise_of text ≡ Ok noise →
+        AreSingle noise → noise_text noise ≡ untouched_text noise }
 {}

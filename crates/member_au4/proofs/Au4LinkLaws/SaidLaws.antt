@@ -1,0 +1,113 @@
+-- What lines without a fault say is a link, and what comes of numbered VC-4s over it.
+use Rattle.std.proofs.Common.{◌≡◌, ℕ, zero, suc, ◌+◌, ◌≤◌, List, [], ◌∷◌, ◌++◌, length, map, All, refl, sym, ◌∙◌, ap}
+use Rattle.std.proofs.Common.{subst, arith, true, false, Bool, nat_lt, length-append}
+use Rattle.std.specs.Prelude.{None, Result, Ok, Err}
+use Rattle.std.specs.List.{range_with_len}
+use Rattle.std.specs.Int.{w64, to_be_bytes}
+use Rattle.std.specs.Str.Lines.{lines}
+use Rattle.std.proofs.lemmas.Bool.{ltb-false}
+use Rattle.std.proofs.lemmas.List.{length-map}
+use Rattle.std.proofs.lemmas.List.FromFn.{length-range_with_len}
+use Rattle.std.proofs.lemmas.List.Elements.{All-nil, All-cons}
+use Rattle.text_lines.specs.Words.{words}
+use Rattle.text_lines.specs.Language.{said_by}
+use Rattle.text_lines.specs.FirstFault.{AreSound}
+use Rattle.text_lines.proofs.FieldLaws.{where_none}
+use Rattle.text_lines.proofs.FirstFaultLaws.{all_said}
+use Rattle.member_au4.specs.au4_pointer.Part.{AreVcs, begun, part_after, whole}
+use Rattle.member_au4.specs.au4_pointer.Sink.{given}
+use Rattle.member_au4.specs.au4_pointer.Sent.{sent, AreTaken}
+use Rattle.member_au4.proofs.Au4PointerLaws.FollowLaws.{all-whole, all-taken}
+use Rattle.member_au4.specs.declared.au4_link.fault.LineFault.{LineFault}
+use Rattle.member_au4.specs.declared.au4_link.fault.LineFault.TheVariants.{Missing}
+use Rattle.member_au4.specs.declared.au4_link.draft.Draft.{Draft}
+use Rattle.member_au4.specs.declared.au4_link.draft.Link.{Link}
+use Rattle.member_au4.specs.au4_link.Lines.{awaited, words_said, after, at_first, missing_line, link_lines}
+use Rattle.member_au4.specs.au4_link.Link.{link_in, link_of_draft, link_of, IsLink}
+use Rattle.member_au4.specs.au4_link.Drafts.{IsDraft}
+use Rattle.member_au4.specs.au4_link.Vcs.{rising, vc_of, first_vcs}
+use Rattle.member_au4.specs.au4_link.Text.{vc_texts, end_text, cuts, back_of, link_text}
+use Rattle.member_au4.specs.au4_link.Carried.{link_vcs, link_frames, carried_text}
+use Rattle.member_au4.proofs.Au4LinkLaws.DraftLaws.{draft-first, draft-after, link-whole}
+use Rattle.member_au4.proofs.Au4LinkLaws.FitLaws.{fits_words}
+
+-- ---- line by line
+sound_draft : (ls : List (List ℕ)) (d now : Draft) → IsDraft d → AreSound link_lines d ls now → IsDraft now
+unfolding AreSound
+sound_draft [] d now is sound = subst IsDraft sound is
+sound_draft (l ∷ ls) d now is sound =
+    let said = words_said (words l) in
+    sound_draft ls (after d said) now (draft-after d said is (fits_words d (words l) is sound.0)) sound.1
+
+-- ---- the text
+whole_next : (d : Draft) → IsDraft d → missing_line d ≡ None → d.next ≡ 2
+whole_next d is none =
+    let place = is.place in
+    let late = ltb-false d.next 2 (where_none (nat_lt d.next 2) (Missing (awaited d.next)) none) in
+    omega (arith, place, late)
+
+said_link : (text : List ℕ) (link : Link) (of : Result Draft (ℕ × LineFault)) → said_by link_lines text ≡ of →
+    link_of_draft of ≡ Ok link → IsLink link
+said_link text link (Ok d) is said =
+    let same : link_in d ≡ link = cc in
+    let are = (all_said link_lines text d).0 is in
+    let draft = sound_draft (lines text) at_first d draft-first are.sound in
+    subst IsLink same (link-whole d draft (whole_next d draft are.whole))
+said_link text link (Err at) is said = absurd cc
+
+pub valid_link : (text : List ℕ) (link : Link) → link_of text ≡ Ok link → IsLink link
+valid_link text link said = said_link text link (said_by link_lines text) refl said
+
+-- ---- numbered VC-4s
+length-rising : (count n : ℕ) → length (rising count n) ≡ count
+unfolding rising
+length-rising zero n = refl
+length-rising (suc count) n = ap suc (length-rising count (n + 1))
+
+vc-size : (i : ℕ) → length (vc_of i) ≡ 2349
+unfolding vc_of
+vc-size i =
+    length-append (to_be_bytes w64 i) (rising 2341 (i + 8))
+    ∙ ap (λ (n : ℕ). length (to_be_bytes w64 i) + n) (length-rising 2341 (i + 8))
+
+vcs-from : (count first : ℕ) → AreVcs (map vc_of (range_with_len first count))
+vcs-from zero first = All-nil (λ vc. length vc ≡ 2349)
+vcs-from (suc count) first =
+    All-cons (λ vc. length vc ≡ 2349) (vc_of first) (map vc_of (range_with_len (first + 1) count)) (vc-size first)
+    (vcs-from count (first + 1))
+
+pub first-size : (count : ℕ) → AreVcs (first_vcs count)
+unfolding first_vcs
+first-size count = vcs-from count 0
+
+pub first-count : (count : ℕ) → length (first_vcs count) ≡ count
+unfolding first_vcs
+first-count count = length-map (range_with_len 0 count) vc_of ∙ length-range_with_len 0 count
+
+-- ---- over a link
+enough : (link : Link) → begun (part_after link.start link.actions) ≤ length (link_vcs link)
+enough link =
+    let all = first-count (begun (part_after link.start link.actions)) in omega (arith, all)
+
+pub link-taken : (text : List ℕ) (link : Link) → link_of text ≡ Ok link → AreTaken (link_frames link)
+link-taken text link said =
+    let is = valid_link text link said in
+    all-taken link.start link.actions (link_vcs link) is.start is.accepted
+    (first-size (begun (part_after link.start link.actions))) (enough link)
+
+pub link-given : (text : List ℕ) (link : Link) → link_of text ≡ Ok link →
+    given (link_frames link) ≡ whole link.start link.actions (link_vcs link)
+link-given text link said =
+    let is = valid_link text link said in
+    all-whole link.start link.actions (link_vcs link) is.start is.accepted
+    (first-size (begun (part_after link.start link.actions))) (enough link)
+
+pub link-written : (text : List ℕ) (link : Link) → link_of text ≡ Ok link → link_text link ≡ carried_text link
+link-written text link said =
+    let count = begun (part_after link.start link.actions) in
+    ap (λ (n : ℕ). vc_texts (back_of link.start link.actions)
+    ++ end_text (length link.actions) n (length (back_of link.start link.actions)) (cuts link.start link.actions))
+    (sym (first-count count))
+    ∙ ap (λ (came : List (List ℕ)). vc_texts came
+    ++ end_text (length link.actions) (length (link_vcs link)) (length came) (cuts link.start link.actions))
+    (sym (link-given text link said))
