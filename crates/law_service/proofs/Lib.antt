@@ -1,3 +1,4 @@
 pub mod PlaceLaws
 pub mod BucketLaws
+pub mod TwinLaws
 mod MetLaws

@@ -18,9 +18,10 @@ use Rattle.law_model.specs.source.Client.{size, Stream, reaching, place_of, stre
 use Rattle.law_model.specs.source.Source.{after}
 use Rattle.law_model.specs.source.Table.{keep, none_kept, admit, turned, take_out, exchange}
 use Rattle.law_walk.specs.Walk.{session_of}
-use Rattle.law_walk.specs.Worked.{item, plain}
-use Rattle.law_walk.proofs.MetLaws.{equal-rise, no_failure, plain_network}
+use Rattle.law_walk.specs.Worked.{item, plain, failing_leg}
+use Rattle.law_walk.proofs.MetLaws.{equal-rise, no_failure, plain_network, failing-sound}
 use Rattle.law_service.specs.Bucket.{arrivals, arrivals_in, KeepsTo}
+use Rattle.law_service.specs.Twins.{with_delays}
 use Rattle.law_service.specs.Worked.{queued_leg, full_bucket, full_leg}
 
 -- one line without failures
@@ -174,3 +175,27 @@ full-keeps = record {
   rate = omega arith;
   burst = omega arith;
 }
+
+-- ---- the line that fails has a delay
+pub twin-sound : IsSound (with_delays failing_leg (15 ∷ []) 7)
+unfolding slip_after
+twin-sound =
+    let network = failing-sound.network in
+    record {
+      network = record {
+        lines = network.lines;
+        delay_each = refl;
+        delays = All-replicate (λ delay. delay ≤ 2047) 1 15 (omega arith);
+        windows_each = network.windows_each;
+        windows = network.windows;
+        lost = network.lost;
+        ring = (omega arith, omega arith);
+        lag = network.lag;
+        ticks = network.ticks;
+        size = network.size;
+        fits_ring = omega arith;
+        fits_lag = omega arith;
+      };
+      items = failing-sound.items;
+      few = failing-sound.few;
+    }

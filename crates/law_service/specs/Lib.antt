@@ -1,3 +1,4 @@
 pub mod Place
 pub mod Bucket
+pub mod Twins
 pub mod Worked

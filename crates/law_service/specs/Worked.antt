@@ -2,10 +2,9 @@
 use Rattle.std.specs.Prelude.{ℕ, List, [], ◌∷◌, map, replicate}
 use Rattle.law_model.specs.declared.script.Item.{Item}
 use Rattle.law_model.specs.declared.script.ItemKind.TheVariants.{Frame, Add}
-use Rattle.law_model.specs.frames.Loss.{Extent}
 use Rattle.law_model.specs.session.Leg.{Leg}
 use Rattle.law_model.specs.session.Scenario.{scenario_by}
-use Rattle.law_walk.specs.Promise.{session_extents, place_after}
+use Rattle.law_walk.specs.Promise.{place_after}
 use Rattle.law_walk.specs.Walk.{session_of}
 use Rattle.law_walk.specs.Worked.{item, plain}
 use Rattle.law_service.specs.Bucket.{Bucket, stream_at}
@@ -19,6 +18,7 @@ queued_items =
     ∷ item 0 (Frame (replicate 63 3)) ∷ item 0 (Frame (replicate 66 4)) ∷ item 40 (Frame (replicate 64 5))
     ∷ item 41 (Frame (replicate 70 6)) ∷ []
 
+-- in 42 ticks, with a lag of one packet
 abbrev pub queued_leg : Leg
 queued_leg = record { config = plain ([] ∷ []) 1 1 42; items = queued_items; tells = [] }
 
@@ -26,20 +26,18 @@ queued_leg = record { config = plain ([] ∷ []) 1 1 42; items = queued_items; t
 abbrev pub told_ends : Leg → List (ℕ × ℕ)
 told_ends leg = map (λ (placed : Placed). (placed.due, placed.to)) (placed_frames leg)
 
--- where the frames on the stream begin and end
-abbrev pub sides : Leg → List (ℕ × ℕ)
-sides leg = map (λ (extent : Extent). (extent.from, extent.to)) (session_extents leg)
-
--- one line in use from frame 40 on; two frames come just before it is made that fill a burst, and one with the next
--- tick that is just the rate
+-- a bucket that suits one container of 756 octets in each frame
 abbrev pub full_bucket : Bucket
 full_bucket = record { burst = 1504; rate = 756; shortest = 744 }
 
+-- one line, in use from frame 40 on; two frames come just before it is made that fill a burst, and one with the next
+-- tick that is just the rate
 abbrev pub full_items : List Item
 full_items =
     item 0 (Add 0) ∷ item 40 (Frame (replicate 744 1)) ∷ item 40 (Frame (replicate 744 2))
     ∷ item 41 (Frame (replicate 748 3)) ∷ []
 
+-- in 43 ticks, with a lag of one packet
 abbrev pub full_leg : Leg
 full_leg = record { config = plain ([] ∷ []) 1 1 43; items = full_items; tells = [] }
 

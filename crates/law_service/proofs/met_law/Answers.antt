@@ -1,5 +1,5 @@
 -- Legs that meet what is asked.
-use Rattle.law_service.proofs.MetLaws.{queued-sound, full-sound, full-keeps}
+use Rattle.law_service.proofs.MetLaws.{queued-sound, full-sound, full-keeps, twin-sound}
 use Rattle.law_service.proofs.met_law.Goals as goal
 
 pub returns-clause-queued : goal.returns-clause-queued
@@ -10,3 +10,6 @@ returns-clause-full c = full-sound
 
 pub returns-clause-keeps : goal.returns-clause-keeps
 returns-clause-keeps c = full-keeps
+
+pub returns-clause-twin : goal.returns-clause-twin
+returns-clause-twin c = twin-sound

@@ -1,0 +1,15 @@
+-- Legs that differ in the delays of their lines and in the room of their rings alone.
+use Rattle.std.specs.Prelude.{ℕ, List}
+use Rattle.law_model.specs.session.Counts.{Counts, begin}
+use Rattle.law_model.specs.session.Leg.{Leg}
+use Rattle.law_walk.specs.Promise.{drained}
+use Rattle.law_walk.specs.Walk.{walk_plan}
+
+-- a leg with other delays, and with rings of other room
+abbrev pub with_delays : Leg → List ℕ → ℕ → Leg
+with_delays leg delays ring =
+    record { config = record leg.config { delays = delays; ring = ring }; items = leg.items; tells = leg.tells }
+
+-- the counts after a walk that has no event lines
+abbrev pub whole_walk : Leg → Counts
+whole_walk leg = drained leg (begin (walk_plan leg))
