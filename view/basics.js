@@ -9,9 +9,9 @@ Life.basics = (() => {
   const count = (n, one, many) => number(n) + " " + (n === 1 ? one : many || one + "s");
   const range = (first, last) => (first === last ? number(first) : number(first) + "\u2013" + number(last));
 
-  /* Eight frames of 125 microseconds are a millisecond. */
-  function milliseconds(frames) {
-    const [whole, part] = (frames / 8).toFixed(3).replace(/\.?0+$/, "").split(".");
+  /* Eight ticks of 125 microseconds are a millisecond. */
+  function milliseconds(ticks) {
+    const [whole, part] = (ticks / 8).toFixed(3).replace(/\.?0+$/, "").split(".");
     return number(whole) + (part ? "." + part : "");
   }
 
@@ -34,13 +34,13 @@ Life.basics = (() => {
     return i < runs.length && runs[i].first <= place ? runs[i] : null;
   }
 
-  /* The packet that governs a frame, and the first frame that a packet governs; before frame 24 there is none. */
-  const packetOf = (frame) => (frame < 24 ? -1 : Math.floor((frame - 24) / 16));
-  const frameOf = (packet) => 16 * packet + 24;
+  /* The packet that governs a row, and the first row that a packet governs; before row 24 there is none. */
+  const packetOf = (row) => (row < 24 ? -1 : Math.floor((row - 24) / 16));
+  const rowOf = (packet) => 16 * packet + 24;
   /* Step j is made in tick 16 j + 8. */
   const stepsOf = (ticks) => Math.max(0, Math.ceil((ticks - 8) / 16));
 
   const clamp = (value, least, most) => Math.max(least, Math.min(most, value));
 
-  return { byId, number, count, range, milliseconds, escapeHtml, firstWhere, runAt, packetOf, frameOf, stepsOf, clamp };
+  return { byId, number, count, range, milliseconds, escapeHtml, firstWhere, runAt, packetOf, rowOf, stepsOf, clamp };
 })();

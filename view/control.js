@@ -18,7 +18,7 @@ Life.control = (() => {
   const fingers = new Map();
   let drag = null;
 
-  /* Two fingers: how far apart they are, and the frame in their middle stays there. */
+  /* Two fingers: how far apart they are, and the tick in their middle stays there. */
   const apart = () => { const [one, other] = [...fingers.values()]; return Math.max(20, Math.abs(one - other)); };
   const between = (stack) => { const [one, other] = [...fingers.values()]; return (one + other) / 2 - stack.getBoundingClientRect().left; };
   function pinch(stack) {
@@ -32,8 +32,8 @@ Life.control = (() => {
     if (Math.abs(d) > 4) drag.moved = true;
     if (!drag.moved) return;
     stack.classList.add("drag");
-    const frames = d * (drag.view.end - drag.view.start) / (page.width - page.lay.gutter - page.lay.right);
-    page.look(drag.view.start - frames, drag.view.end - frames);
+    const ticks = d * (drag.view.end - drag.view.start) / (page.width - page.lay.gutter - page.lay.right);
+    page.look(drag.view.start - ticks, drag.view.end - ticks);
   }
 
   function point(stack, e) {

@@ -1,7 +1,7 @@
 "use strict";
 /* Draws the lanes of the lines and that of the return path: only what is in sight. */
 Life.lanes = (() => {
-  const { firstWhere, packetOf, frameOf } = Life.basics;
+  const { firstWhere, packetOf, rowOf } = Life.basics;
   const { colours, FONT, ratio, bar, faded, plate, state, failure, lostPacket } = Life.paint;
   /* States that are never left out, however short. */
   const TROUBLE = new Set(["dnu", "fail"]);
@@ -43,8 +43,8 @@ Life.lanes = (() => {
   /* Calls `put` with each run of one line that is in sight, cut to what is, and counts its steps. */
   function forRuns(s, line, put) {
     const runs = s.m.trace.runs[line], ends = s.b;
-    for (let i = firstWhere(runs.length, (n) => frameOf(runs[n].end) > s.a); i < runs.length; i++) {
-      const run = runs[i], from = Math.max(s.a, frameOf(run.from)), end = Math.min(ends, frameOf(run.end));
+    for (let i = firstWhere(runs.length, (n) => rowOf(runs[n].end) > s.a); i < runs.length; i++) {
+      const run = runs[i], from = Math.max(s.a, rowOf(run.from)), end = Math.min(ends, rowOf(run.end));
       if (from >= ends) break;
       if (end <= from) continue;
       s.drawn.cells[run.code] = (s.drawn.cells[run.code] || 0) + Math.ceil((end - 24) / 16) - Math.floor((from - 24) / 16);
@@ -84,13 +84,13 @@ Life.lanes = (() => {
     for (const label of labels) drawLabel(s, label);
   }
 
-  /* A hair line at each packet's first frame, once there is room for it. */
+  /* A hair line at each packet's first row, once there is room for it. */
   function drawSteps(s) {
     const { g, lay, X, k, a, b } = s;
     if (16 * k < 14 || lay.laneHeight < 8) return;
     faded(g, 0.45, () => {
-      for (let j = Math.max(0, packetOf(a)); frameOf(j) <= b; j++) {
-        bar(g, colours.bg, X(frameOf(j)) - 1, lay.lineTop, 1, lay.lineBottom - lay.lineTop);
+      for (let j = Math.max(0, packetOf(a)); rowOf(j) <= b; j++) {
+        bar(g, colours.bg, X(rowOf(j)) - 1, lay.lineTop, 1, lay.lineBottom - lay.lineTop);
       }
     });
   }
@@ -155,7 +155,7 @@ Life.lanes = (() => {
     const { g, m, X, x0, x1 } = s, back = m.trace.back;
     g.textAlign = "center"; g.font = "11px " + FONT; g.fillStyle = colours.ink;
     for (let j = first; j < end; j++) {
-      const x = X(frameOf(j) + 8);
+      const x = X(rowOf(j) + 8);
       if (back[j][2] === "/" && x > x0 + 7 && x < x1 - 7) g.fillText(back[j].slice(0, 2), x, lane.y + lane.h / 2 + 2);
     }
     g.font = "12px " + FONT;
@@ -172,12 +172,12 @@ Life.lanes = (() => {
       if (back[j] === "lost") { losts.push(j); s.drawn.lost++; j = next; continue; }
       if (back[j] === "none") { j = next; continue; }
       while (next < end && back[next].length === 4 && back[next][2] === "/" && back[next][3] === back[j][3]) next++;
-      drawLevel(s, lane, frameOf(j), frameOf(next), back[j][3] === "1");
+      drawLevel(s, lane, rowOf(j), rowOf(next), back[j][3] === "1");
       j = next;
     }
     if (words) drawStatuses(s, lane, first, end);
     for (const j of losts) {
-      const x = X(frameOf(j)), w = 16 * k - 1;
+      const x = X(rowOf(j)), w = 16 * k - 1;
       lostPacket(g, x, lane.y, w, lane.h);
       if (w >= 40) plate(g, "lost", x + w / 2, lane.y + lane.h / 2, c.fail, c.bg, "center");
     }

@@ -36,11 +36,11 @@ Life.layout = (() => {
     return [1, 2, 5, 10].map((k) => k * power).find((step) => step >= raw * 0.999999);
   }
 
-  /* Frames above the line of time and milliseconds below it. */
+  /* Ticks above the line of time and milliseconds below it. */
   function drawAxis(s) {
     const { g, lay, view, X, x0, x1 } = s, c = colours, h = lay.lane("axis").h, middle = 22, span = view.end - view.start;
     bar(g, c.panel, 0, 0, x1 + lay.right, h);
-    const most = (x1 - x0) / (lay.narrow ? 64 : 84), frames = Math.max(1, roundStep(span, most)), eighths = 8 * roundStep(span / 8, most);
+    const most = (x1 - x0) / (lay.narrow ? 64 : 84), ticks = Math.max(1, roundStep(span, most)), eighths = 8 * roundStep(span / 8, most);
     const steps = (step) => {
       const all = [];
       for (let i = Math.ceil(view.start / step); i * step <= view.end + 1e-6; i++) all.push(i * step);
@@ -48,24 +48,24 @@ Life.layout = (() => {
     };
     g.strokeStyle = c.faint; g.lineWidth = 1;
     g.beginPath();
-    for (const t of steps(frames)) { const x = Math.round(X(t)) + 0.5; g.moveTo(x, h); g.lineTo(x, lay.height); }
+    for (const t of steps(ticks)) { const x = Math.round(X(t)) + 0.5; g.moveTo(x, h); g.lineTo(x, lay.height); }
     g.stroke();
     g.strokeStyle = c.muted;
     g.beginPath();
     g.moveTo(x0, middle + 0.5); g.lineTo(x1, middle + 0.5);
     g.textAlign = "center";
-    const tick = (t, text, up) => {
+    const label = (t, text, up) => {
       const x = Math.round(X(t)) + 0.5, half = g.measureText(text).width / 2;
       g.moveTo(x, middle); g.lineTo(x, up ? middle - 5 : middle + 5);
       g.fillText(text, clamp(x, x0 + half - 4, x1 - half + lay.right - 2), up ? middle - 12 : middle + 13);
     };
     g.fillStyle = c.ink;
-    for (const t of steps(frames)) tick(t, number(Math.round(t)), true);
+    for (const t of steps(ticks)) label(t, number(Math.round(t)), true);
     g.fillStyle = c.muted;
-    for (const t of steps(eighths)) tick(t, milliseconds(t), false);
+    for (const t of steps(eighths)) label(t, milliseconds(t), false);
     g.stroke();
     g.textAlign = "right";
-    g.fillStyle = c.ink; g.fillText("frame", x0 - 14, middle - 11);
+    g.fillStyle = c.ink; g.fillText("tick", x0 - 14, middle - 11);
     g.fillStyle = c.muted; g.fillText(lay.narrow ? "ms" : "milliseconds", x0 - 14, middle + 13);
     bar(g, c.rule, 0, h - 1, x1 + lay.right, 1);
   }
@@ -81,8 +81,8 @@ Life.layout = (() => {
     g.textAlign = "right"; g.font = "12px " + FONT;
     say("command", lay.narrow ? "comm." : "commands");
     say("frames", "due", c.muted, 9);
-    say("frames", lay.narrow ? "frames" : "client frames");
-    say("frames", lay.narrow ? "row" : "last row", c.muted, frames.h - 9);
+    say("frames", "frames");
+    say("frames", lay.narrow ? "row" : "first row", c.muted, frames.h - 9);
     say("rows", "rows");
     if (!lay.narrow && m.fates.segments.length) say("segments", "after a break", c.muted);
     say("back", lay.narrow ? "return" : "return path");
@@ -109,7 +109,7 @@ Life.layout = (() => {
     g.save();
     g.translate(52, (lay.lineTop + lay.lineBottom) / 2); g.rotate(-Math.PI / 2);
     g.textAlign = "center"; g.fillStyle = c.muted;
-    g.fillText(m.script.lines + " lines; bars: delay up to " + number(most) + " frames", 0, 0);
+    g.fillText(m.script.lines + " lines; bars: delay up to " + number(most) + " ticks", 0, 0);
     g.restore();
   }
 

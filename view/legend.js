@@ -31,7 +31,7 @@ Life.legend = (() => {
     return [["before packet 0", 28, (g) => bar(g, colours.faint, 0, 1, 28, 14)],
       ...codes.map((code) => [STATES[code], 28, (g) => state(g, code, 0, 1, 28, 14)]),
       ["damaged", 28, (g) => failure(g, 0, 1, 28, 14)], ["slip (vanished)", 34, (g) => failure(g, 0, 1, 26, 14, 13)],
-      ["number: SQ", 0], ["+n: delay in frames", 0]];
+      ["number: SQ", 0], ["+n: delay in ticks", 0]];
   }
 
   const LEVEL = (g) => {

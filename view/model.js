@@ -2,7 +2,7 @@
 /* The texts of one walk beside each other. Each text may be missing, cut off or of another script: what is missing is told
    in the model's `faults`, and a note of the program in its `note`. */
 Life.model = (() => {
-  const { count, stepsOf, frameOf } = Life.basics;
+  const { count, stepsOf, rowOf } = Life.basics;
   const { FATES, readScript, readTrace, readFates, readReport } = Life.texts;
   const nothing = (text) => text == null || text.trim() === "";
 
@@ -42,7 +42,8 @@ Life.model = (() => {
     if (!model.told) {
       return script.items.filter((q) => q.kind === "frame").map((q) => {
         const why = report.refused.get(q.item) || "";
-        return { item: q.item, due: q.due, fate: why ? "refused" : "untold", why, octets: q.octets, first: -1, last: -1, row: -1, out: q.due };
+        return { item: q.item, due: q.due, fate: why ? "refused" : "untold", why, octets: q.octets, first: -1, last: -1, row: -1,
+          at: q.due + 0.5, out: q.due + 0.5 };
       });
     }
     let others = 0;
@@ -50,8 +51,9 @@ Life.model = (() => {
       const item = script.items[f.item];
       if (!item || item.kind !== "frame" || item.due !== f.due) others++;
       f.octets = item && item.octets;
-      /* Where its string ends: in the middle of the row of its last octet. */
-      f.out = f.last >= 0 ? f.last + 0.5 : f.fate === "refused" ? f.due : ends;
+      /* Where its thread begins and ends: in the middle of the tick that it is due, and of the row of its first octet. */
+      f.at = f.due + 0.5;
+      f.out = f.first >= 0 ? f.first + 0.5 : f.fate === "refused" ? f.at : Math.max(f.at, ends);
     }
     if (others) {
       model.faults.push(count(others, "frame") + " of fates " + (others === 1 ? "is" : "are") +
@@ -65,15 +67,17 @@ Life.model = (() => {
     const marks = [];
     for (const f of model.script.fails) marks.push({ t: f.first, hold: "line." + f.line + "." + f.first });
     for (const f of model.frames) {
-      if (f.fate !== "got" && f.fate !== "waits" && f.fate !== "untold") marks.push({ t: placeOf(f), hold: "frame." + f.item });
+      if (isMissed(f)) marks.push({ t: placeOf(f), hold: "frame." + f.item });
     }
     for (const c of model.commands) marks.push({ t: c.due, hold: "command." + c.item });
     model.trace.back.forEach((back, packet) => {
-      if (back === "lost") marks.push({ t: frameOf(packet), hold: "back." + packet });
+      if (back === "lost") marks.push({ t: rowOf(packet), hold: "back." + packet });
     });
     return marks.sort((one, other) => one.t - other.t);
   }
-  const placeOf = (f) => (f.last >= 0 ? f.last : f.due);
+  /* Whether a frame was lost or refused. */
+  const isMissed = (f) => f.fate !== "got" && f.fate !== "waits" && f.fate !== "untold";
+  const placeOf = (f) => (f.first >= 0 ? f.first : f.due);
 
   function modelOf(texts) {
     const faults = [], script = readScript(texts.script || "", faults);
@@ -91,17 +95,18 @@ Life.model = (() => {
     model.frames = framesOf(model);
     model.accepted = model.frames.filter((f) => f.fate !== "refused");
     /* The accepted frames as plain arrays, for the drawing of many. */
-    model.columns = { due: Float64Array.from(model.accepted, (f) => f.due), out: Float64Array.from(model.accepted, (f) => f.out),
+    const column = (of) => Float64Array.from(model.accepted, of);
+    model.columns = { due: column((f) => f.at), out: column((f) => f.out), end: column((f) => f.out + f.last - f.first),
       fate: Uint8Array.from(model.accepted, (f) => Math.max(0, FATES.indexOf(f.fate))) };
     model.refused = model.frames.filter((f) => f.fate === "refused");
     model.byItem = new Map(model.frames.map((f) => [f.item, f]));
     model.commands = script.items.filter((c) => c.kind !== "frame");
-    for (const c of model.commands) c.why = model.report.refused.get(c.item) || "";
+    for (const c of model.commands) { c.at = c.due + 0.5; c.why = model.report.refused.get(c.item) || ""; }
     model.failsOf = Array.from({ length: script.lines }, (_, line) => script.fails.filter((f) => f.line === line));
     model.marks = marksOf(model);
     model.drawable = !note && script.lines > 0 && script.ticks > 0;
     return model;
   }
 
-  return { modelOf, placeOf };
+  return { modelOf, isMissed, placeOf };
 })();

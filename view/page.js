@@ -92,7 +92,7 @@ Life.page = (() => {
     if (page.times.length > 1000) page.times.splice(0, 500);
     byId("plot").dataset.drawn = JSON.stringify(drawn);
     const a = Math.round(view.start), b = Math.round(view.end);
-    byId("range").innerHTML = "<b>Frames " + range(a, b - 1) + "</b> <span>" + milliseconds(a) + "\u2013" + milliseconds(b) + " ms</span>";
+    byId("range").innerHTML = "<b>Ticks " + range(a, b - 1) + "</b> <span>" + milliseconds(a) + "\u2013" + milliseconds(b) + " ms</span>";
     clearTimeout(timer);
     timer = setTimeout(() => rest(drawn), 250);
   };
@@ -111,7 +111,7 @@ Life.page = (() => {
     page.written = parts.length ? "#" + parts.join("&") : "";
     if (location.hash !== page.written) history.replaceState(null, "", location.pathname + location.search + page.written);
     const frames = Object.entries(drawn.frames).map(([fate, n]) => number(n) + " " + Life.words.FATE_WORDS[fate]).join(", ");
-    const text = "Frames " + number(a) + " to " + number(b - 1) + ". Client frames: " + (frames || "none") + ". " +
+    const text = "Ticks " + number(a) + " to " + number(b - 1) + ". Frames: " + (frames || "none") + ". " +
       (model.told ? count(drawn.spoiled, "row") + " spoiled. " : "") + (drawn.fails ? count(drawn.fails, "failure") + ". " : "") +
       (drawn.lost ? count(drawn.lost, "lost return packet") + ". " : "") + count(drawn.commands, "command") + ".";
     byId("plot").setAttribute("aria-label", text);
@@ -138,7 +138,7 @@ Life.page = (() => {
   };
   page.all = () => page.look(0, page.model.ticks);
   page.move = (by) => { const d = page.span() * by; page.look(page.view.start + d, page.view.end + d); };
-  /* Zooms about a frame, which stays where it is. */
+  /* Zooms about a tick, which stays where it is. */
   page.zoom = (by, about = (page.view.start + page.view.end) / 2) => {
     const n = page.model.ticks, span = clamp(page.span() * by, Math.min(n, LEAST_SPAN), n), part = (about - page.view.start) / page.span();
     page.look(about - part * span, about - part * span + span);
@@ -167,8 +167,8 @@ Life.page = (() => {
 
   function frameAt(lane, x, y) {
     const part = clamp((y - lane.y - 9) / (lane.h - 18), 0, 1), top = lane.y + 9;
-    return nearest(page.model.frames, (f) => (f.fate === "refused" || f.fate === "untold" ? Math.hypot(page.X(f.due) - x, top - y) :
-      Math.abs(page.X(f.due + (f.out - f.due) * part) - x)), 10);
+    return nearest(page.model.frames, (f) => (f.fate === "refused" || f.fate === "untold" ? Math.hypot(page.X(f.at) - x, top - y) :
+      Math.abs(page.X(f.at + (f.out - f.at) * part) - x)), 10);
   }
 
   /* What is at a point of the chart, as Life.words.held names it; null where nothing is. */
@@ -182,15 +182,20 @@ Life.page = (() => {
       case "line": return "line." + lane.line + "." + t;
       case "rows": case "segments": return "row." + t;
       case "back": return packetOf(t) >= 0 ? "back." + packetOf(t) : null;
-      case "command": { const c = nearest(model.commands, (q) => Math.abs(page.X(q.due) - x), 14); return c ? "command." + c.item : null; }
+      case "command": { const c = nearest(model.commands, (q) => Math.abs(page.X(q.at) - x), 14); return c ? "command." + c.item : null; }
       case "frames": { const f = frameAt(lane, x, y); return f ? "frame." + f.item : null; }
       default: return null;
     }
   };
 
   const heldOr = (hold) => (hold && Life.words.held(page.model, hold) ? hold : null);
+  /* Marks the row of the table that tells of what is held, alone or with its neighbours. */
   function markRow() {
-    for (const row of document.querySelectorAll("tr[data-hold]")) row.classList.toggle("held", row.dataset.hold === page.hold);
+    const [kind, item] = (page.hold || ".").split(".");
+    for (const row of document.querySelectorAll("tr[data-hold]")) {
+      const [its, first] = row.dataset.hold.split(".");
+      row.classList.toggle("held", kind === its && +first <= +item && +item <= +row.dataset.end);
+    }
   }
   page.setHold = (hold) => {
     page.hold = heldOr(hold);

@@ -165,7 +165,7 @@ Life.paint = (() => {
     strokes(g, [x - r - 1, y - r, x + r + 1, y + r], [x + r + 1, y - r, x - r - 1, y + r]);
   }
 
-  /* A flag where a frame's start was found after a break, hollow where it is none. */
+  /* A flag where a GFP frame's start was found after a break, hollow where it is none. */
   function start(g, kind, x, y) {
     g.strokeStyle = g.fillStyle = kind === "true" ? colours.whole : colours.bad;
     g.lineWidth = 1.5;

@@ -1,9 +1,9 @@
 "use strict";
 /* Puts the picture together: all lanes for what is in sight, the strip with the whole session, and the layer above with the
-   pointer's frame and what is held. */
+   pointer's tick and what is held. */
 Life.plot = (() => {
-  const { frameOf } = Life.basics;
-  const { placeOf } = Life.model;
+  const { rowOf } = Life.basics;
+  const { isMissed, placeOf } = Life.model;
   const { colours, FATE_COLOUR, FONT, bar, faded, causeColour, ratio } = Life.paint;
   const { drawAxis, drawNames } = Life.layout;
   const STRIP = 30;
@@ -59,8 +59,7 @@ Life.plot = (() => {
         bar(g, colour(q), x - 0.75, y, 1.5, 5);
       }
     };
-    const bad = m.frames.filter((f) => f.fate !== "got" && f.fate !== "waits" && f.fate !== "untold");
-    ticks(bad, placeOf, (f) => c[FATE_COLOUR[f.fate]], 3);
+    ticks(m.frames.filter(isMissed), placeOf, (f) => c[FATE_COLOUR[f.fate]], 3);
     ticks(m.commands, (q) => q.due, () => c.ink, STRIP - 8);
     return e;
   }
@@ -78,7 +77,7 @@ Life.plot = (() => {
 
   /* ---- The layer above ---- */
 
-  /* A frame from top to bottom, and dotted when its container arrives on each line. */
+  /* A tick from top to bottom, and dotted when its container arrives on each line. */
   function drawFront(g, m, lay, X, t) {
     const c = colours, x = Math.round(X(t)) + 0.5;
     g.strokeStyle = c.hold; g.lineWidth = 1;
@@ -99,12 +98,12 @@ Life.plot = (() => {
   const around = (g, lane, from, end, least) => g.strokeRect(from, lane.y - 2, Math.max(least, end - from), lane.h + 4);
   function ring(g, x, y, r) { g.beginPath(); g.arc(x, y, r, 0, 7); g.stroke(); }
 
-  /* A frame that is held: its string, and a ring about its mark, which may have climbed. */
+  /* A frame that is held: its thread, and a ring about its mark, which may have climbed. */
   function drawHeldFrame(g, m, lay, X, item, places) {
     const f = m.byItem.get(item), lane = lay.lane("frames"), top = lane.y + 9, bottom = lane.y + lane.h - 9;
     const above = f.fate === "refused" || f.fate === "untold", end = above ? top : f.fate === "waits" ? bottom - 22 : bottom;
-    const place = places.get(item) || { x: X(above ? f.due : f.out), y: end };
-    g.beginPath(); g.moveTo(X(f.due), top); g.lineTo(X(f.out), end); g.stroke();
+    const place = places.get(item) || { x: X(f.out), y: end };
+    g.beginPath(); g.moveTo(X(f.at), top); g.lineTo(X(f.out), end); g.stroke();
     ring(g, place.x, place.y, 8.5);
   }
 
@@ -112,9 +111,9 @@ Life.plot = (() => {
     const [kind, ...words] = hold.split("."), [a, b] = words.map(Number);
     g.strokeStyle = colours.hold; g.lineWidth = 2;
     if (kind === "frame") drawHeldFrame(g, m, lay, X, a, places);
-    else if (kind === "command") { const lane = lay.lane("command"); ring(g, X(m.commands.find((q) => q.item === a).due), lane.y + lane.h / 2, 9); }
+    else if (kind === "command") { const lane = lay.lane("command"); ring(g, X(m.commands.find((q) => q.item === a).at), lane.y + lane.h / 2, 9); }
     else if (kind === "row") around(g, lay.lane("rows"), X(a) - 2, X(a + 1) + 1, 6);
-    else if (kind === "back") around(g, lay.lane("back"), X(frameOf(a)) - 2, X(frameOf(a + 1)) + 1, 6);
+    else if (kind === "back") around(g, lay.lane("back"), X(rowOf(a)) - 2, X(rowOf(a + 1)) + 1, 6);
     else if (kind === "line") {
       drawFront(g, m, lay, X, b);
       g.strokeStyle = colours.hold; g.lineWidth = 2;

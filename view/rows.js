@@ -56,8 +56,8 @@ Life.rows = (() => {
   function drawCommands(s) {
     const { g, lay, m, X, a, b, x1 } = s, lane = lay.lane("command"), y = lane.y + lane.h / 2, list = m.commands, groups = [];
     bar(g, colours.rule, X(a), y, X(b) - X(a), 1);
-    for (let i = firstWhere(list.length, (n) => list[n].due >= a); i < list.length && list[i].due <= b; i++) {
-      const x = X(list[i].due), last = groups[groups.length - 1];
+    for (let i = firstWhere(list.length, (n) => list[n].at >= a); i < list.length && list[i].at <= b; i++) {
+      const x = X(list[i].at), last = groups[groups.length - 1];
       s.drawn.commands++;
       if (last && x - last.x < 12) last.all.push(list[i]); else groups.push({ x, all: [list[i]] });
     }

@@ -1,11 +1,11 @@
 "use strict";
 /* Totals and the premise at the head; below the picture the table of what was lost and refused, and the picture in words. */
 Life.tables = (() => {
-  const { byId, number, count, range, milliseconds, escapeHtml, frameOf } = Life.basics;
+  const { byId, number, count, range, milliseconds, escapeHtml, rowOf } = Life.basics;
   const { FATES } = Life.texts;
-  const { placeOf } = Life.model;
+  const { isMissed, placeOf } = Life.model;
   const { fit, fate, command } = Life.paint;
-  const { FATE_WORDS, CODES, cause, reason, refusal, segment, premise, held, upper } = Life.words;
+  const { FATE_WORDS, CODES, cause, spoiledRows, shared, reason, refusal, segment, premise, held, upper } = Life.words;
   const MOST = 200;
   let rows = [], shown = 0;
 
@@ -48,14 +48,29 @@ Life.tables = (() => {
 
   /* ---- The table of what was lost and refused ---- */
 
+  /* The frames that were lost or refused, neighbours with one fate and one reason together. */
+  function groupsOf(m) {
+    const groups = [];
+    let group = null;
+    for (const f of m.frames) {
+      const key = isMissed(f) ? shared(m, f) : null;
+      if (key === null) group = null;
+      else if (group && group.key === key) {
+        group.last = f; group.n++; group.least = Math.min(group.least, f.octets); group.most = Math.max(group.most, f.octets);
+      } else groups.push(group = { key, first: f, last: f, n: 1, least: f.octets, most: f.octets });
+    }
+    return groups;
+  }
+
   function rowsOf(m) {
-    const all = m.frames.filter((f) => f.fate !== "got" && f.fate !== "waits" && f.fate !== "untold").map((f) => ({ item: f.item, due: f.due,
-      octets: f.octets === undefined ? "" : number(f.octets), rows: f.first >= 0 ? range(f.first, f.last) : "", icon: f.fate,
-      word: FATE_WORDS[f.fate], why: reason(m, f), place: placeOf(f), hold: "frame." + f.item }));
+    const all = groupsOf(m).map(({ first, last, n, least, most }) => ({ item: first.item, end: last.item, due: first.due, last: last.due,
+      octets: least >= 0 ? range(least, most) : "", rows: first.first >= 0 ? range(first.first, last.last) : "", icon: first.fate,
+      word: FATE_WORDS[first.fate] + (n > 1 ? ", " + number(n) + " frames" : ""), why: reason(m, first, last), from: placeOf(first),
+      to: placeOf(last), hold: "frame." + first.item }));
     for (const c of m.commands) {
       if (c.why) {
-        all.push({ item: c.item, due: c.due, octets: "", rows: "", icon: c.kind, word: c.kind + " " + c.line + " refused", why: refusal(c),
-          place: c.due, hold: "command." + c.item });
+        all.push({ item: c.item, end: c.item, due: c.due, last: c.due, octets: "", rows: "", icon: c.kind, word: c.kind + " " + c.line + " refused",
+          why: refusal(c), from: c.due, to: c.due, hold: "command." + c.item });
       }
     }
     return all.sort((one, other) => one.item - other.item);
@@ -74,17 +89,18 @@ Life.tables = (() => {
     shown = 0;
     byId("table").tBodies[0].textContent = "";
     byId("table").tHead.hidden = !rows.length;
-    byId("caption").textContent = rows.length ? "An item's number leads to its place above." :
+    byId("caption").textContent = rows.length ? "An item's number leads to its place above. Neighbouring frames that share a reason are one row." :
       m.told ? "Nothing was lost or refused." : "Nothing was refused; what was lost isn't told.";
     byId("foot").textContent = footOf(m);
     showMore(m);
   }
 
   function rowHtml(m, r) {
-    const span = Math.min(m.ticks, 200), start = Math.max(0, Math.min(m.ticks - span, Math.round(r.place - span / 2)));
-    const cell = (name, text) => '<td class="n" data-k="' + name + '">' + text + "</td>";
-    const link = '<a href="#at=' + start + "-" + (start + span) + "&amp;hold=" + r.hold + '">' + number(r.item) + "</a>";
-    return '<tr data-hold="' + r.hold + '">' + cell("Item", link) + cell("due", number(r.due)) + cell("ms", milliseconds(r.due)) +
+    const span = Math.min(m.ticks, Math.max(200, 2 * (r.to - r.from))), middle = Math.round((r.from + r.to - span) / 2);
+    const start = Math.max(0, Math.min(m.ticks - span, middle)), cell = (name, text) => '<td class="n" data-k="' + name + '">' + text + "</td>";
+    const link = '<a href="#at=' + start + "-" + (start + span) + "&amp;hold=" + r.hold + '">' + range(r.item, r.end) + "</a>";
+    const ms = milliseconds(r.due) + (r.last === r.due ? "" : "\u2013" + milliseconds(r.last));
+    return '<tr data-hold="' + r.hold + '" data-end="' + r.end + '">' + cell("Item", link) + cell("due", range(r.due, r.last)) + cell("ms", ms) +
       cell("octets", r.octets) + cell("rows", r.rows) + '<td class="f"><canvas data-icon="' + r.icon + '" aria-hidden="true"></canvas>' + r.word +
       '</td><td class="w">' + upper(r.why) + "</td></tr>";
   }
@@ -115,8 +131,8 @@ Life.tables = (() => {
   };
 
   function lineWords(m, line) {
-    const runs = m.trace.runs[line], told = runs.slice(0, 40).map((r) => r.code + (r.code === "idle" ? "" : " " + r.sq) + " in frames " +
-      range(frameOf(r.from), Math.max(frameOf(r.from), Math.min(m.ticks, frameOf(r.end)) - 1)));
+    const runs = m.trace.runs[line], told = runs.slice(0, 40).map((r) => r.code + (r.code === "idle" ? "" : " " + r.sq) + " in ticks " +
+      range(rowOf(r.from), Math.max(rowOf(r.from), Math.min(m.ticks, rowOf(r.end)) - 1)));
     if (runs.length > 40) told.push("and " + number(runs.length - 40) + " more states");
     const fails = m.failsOf[line].slice(0, 40).map((f) => range(f.first, f.end - 1) + (f.slip ? " with a slip of " + f.slip : ""));
     return "<b>Line " + line + "</b>, delay " + number(m.script.delays[line] || 0) + ": " + (told.join("; ") || "no state is told") + "." +
@@ -124,7 +140,7 @@ Life.tables = (() => {
   }
 
   function spokenHtml(m) {
-    const spoiled = m.fates.spoiled.map((r) => () => "<b>Rows " + range(r.first, r.end - 1) + "</b> are spoiled: " + cause(r) + ".");
+    const spoiled = m.fates.spoiled.map((r) => () => spoiledRows(r) + cause(r) + ".");
     const breaks = m.fates.segments.map((s) => () => upper(segment(s)));
     const losts = [];
     m.trace.back.forEach((told, packet) => { if (told === "lost") losts.push(() => held(m, "back." + packet)); });

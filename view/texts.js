@@ -116,10 +116,18 @@ Life.texts = (() => {
   };
   const optional = (word) => (word === undefined ? -1 : +word);
 
+  /* Where the break begins of which a run of spoiled rows is a part: runs that adjoin are of one break. */
+  function startOf(runs, first) {
+    const before = runs[runs.length - 1];
+    return before && before.end === first ? before.start : first;
+  }
+
   function fatesLine(fates, kind, w) {
     switch (kind) {
-      case "spoiled": fates.spoiled.push({ first: +w[1], end: +w[2], cause: w[3], line: optional(w[4]) }); break;
-      case "segment": fates.segments.push({ first: +w[1], end: +w[2], mark: w[3], row: optional(w[4]) }); break;
+      case "spoiled":
+        fates.spoiled.push({ first: +w[1], end: +w[2], start: startOf(fates.spoiled, +w[1]), cause: w[3], line: optional(w[4]) });
+        break;
+      case "segment": fates.segments.push({ first: +w[1], end: +w[2], start: +w[1], mark: w[3], row: optional(w[4]) }); break;
       case "frame":
         fates.frames.push({ item: +w[1], due: +w[2], fate: w[3] || w[4] || w[6] || w[9], why: w[5] || "",
           first: optional(w[7] || w[10]), last: optional(w[8] || w[11]), row: optional(w[12]) });

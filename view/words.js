@@ -2,14 +2,18 @@
 /* What the page says in sentences: of a frame, a command, a line, a row, a return packet, and of the premise on chance.
    Each gives HTML of which only numbers and words of the program are parts. */
 Life.words = (() => {
-  const { number, count, range, milliseconds, escapeHtml, firstWhere, runAt, packetOf, frameOf } = Life.basics;
+  const { number, count, range, milliseconds, escapeHtml, firstWhere, runAt, packetOf, rowOf } = Life.basics;
 
-  const CODES = { idle: "not in the group, or being removed", add: "added, and carries nothing yet", norm: "in use",
-    eos: "in use, the last of the group", dnu: "in the group, but not to be used", fixed: "in use, without control" };
-  const REFUSALS = { unknown: "the group has no such line", "already in": "the line is in already",
-    "not in": "the line isn't in", pending: "64 commands waited already" };
+  const CODES = { idle: "no member, or being removed", add: "added, and carries no payload yet", norm: "an active member",
+    eos: "the active member of the highest sequence number", dnu: "a member out of use, since the sink said that it fails",
+    fixed: "an active member without LCAS" };
+  const REFUSALS = { unknown: "the group has no such line", "already in": "the line was added before and not removed",
+    "not in": "the line wasn't added", pending: "64 commands waited already" };
   const FATE_WORDS = { got: "got", cut: "cut", hunting: "hunting", unsettled: "unsettled", unconfirmed: "unconfirmed",
     waits: "waits", refused: "refused", untold: "not told" };
+
+  /* How many causes are told of one break. */
+  const MOST_RUNS = 4;
 
   const when = (t) => number(t) + " (" + milliseconds(t) + " ms)";
   const upper = (s) => s[0].toUpperCase() + s.slice(1);
@@ -17,33 +21,45 @@ Life.words = (() => {
   /* Why a run of rows is spoiled. */
   function cause(spoiled) {
     const line = spoiled.line;
-    if (spoiled.cause === "container") return "a container of line " + line + ", which is in use, is damaged or not yet locked";
-    return line < 0 ? "no line has a readable control packet for these frames" :
-      "the control packet of line " + line + ", which is in use, can't be read";
+    if (spoiled.cause === "container") return "a container of line " + line + ", an active member, is damaged or not yet locked";
+    return line < 0 ? "no line has a readable control packet for these rows" :
+      "the control packet of line " + line + ", an active member, can't be read";
   }
 
-  function cutReason(m, f) {
-    const spoiled = runAt(m.fates.spoiled, f.row);
-    const alone = f.first === f.last && f.row === f.first;
-    return (alone ? "Row " + number(f.row) + ", in which it lies, is spoiled: " :
-      "It lies in rows " + range(f.first, f.last) + ", and row " + number(f.row) + " is spoiled: ") +
-      (spoiled ? cause(spoiled) : "the cause isn't told") + ".";
+  /* That the rows of a run are spoiled; the cause follows. */
+  const spoiledRows = (run) => (run.end - run.first === 1 ? "Row " + number(run.first) + " is" : "Rows " + range(run.first, run.end - 1) + " are") +
+    " spoiled: ";
+
+  /* The spoiled rows that cut the frames from one to another of a break, with their causes. */
+  function cutReason(m, f, last) {
+    const runs = m.fates.spoiled, at = (row) => firstWhere(runs.length, (i) => runs[i].end > row);
+    if (!runAt(runs, f.row)) return "Row " + number(f.row) + " is spoiled; the cause isn't told.";
+    const all = runs.slice(at(f.row), at(last.row) + 1), more = all.length - MOST_RUNS;
+    return all.slice(0, MOST_RUNS).map((run) => spoiledRows(run) + cause(run) + ".").join(" ") +
+      (more > 0 ? " So are the rows up to " + number(all[all.length - 1].end - 1) + ", for " + count(more, "more cause") + "." : "");
   }
 
-  /* Why a frame has its fate. */
-  function reason(m, f) {
+  /* What frames share that have one fate for one reason: the break that cut them, the stretch in which they lie, or why they were refused. */
+  function shared(m, f) {
+    const run = f.fate === "cut" ? runAt(m.fates.spoiled, f.row) : f.first >= 0 ? runAt(m.fates.segments, f.first) : null;
+    return f.fate + " " + (f.why || (run ? run.start : f.row));
+  }
+
+  /* Why a frame has its fate, or neighbours from it to another that share the reason. */
+  function reason(m, f, last = f) {
     const stretch = f.first >= 0 ? runAt(m.fates.segments, f.first) : null;
+    const found = stretch && stretch.row >= 0 ? "in row " + number(stretch.row) : "";
     switch (f.fate) {
       case "got": return "Delivered whole.";
-      case "cut": return cutReason(m, f);
+      case "cut": return cutReason(m, f, last);
       case "hunting":
-        return "After the break the receiver was still looking for a frame's start" +
-          (stretch && stretch.row >= 0 ? ", which it found in row " + number(stretch.row) : "") + "; this frame began before that place.";
+        return "After the break the receiver was still looking for a GFP frame's start" + (found && ", which it found later, " + found) + ".";
       case "unsettled":
-        return "It came whole, but as the first one after the break: the descrambler has to see six octets before it is right again.";
+        return "It came whole, but as the first after the break" + (found && ", from the GFP frame's start " + found + " on") +
+          ": the descrambler has to see six octets before it is right again.";
       case "unconfirmed":
-        return "The receiver found no frame's start in the whole stretch" +
-          (stretch ? " of rows " + range(stretch.first, stretch.end - 1) : "") + " in which it lies.";
+        return "The receiver found no GFP frame's start in the whole stretch" +
+          (stretch ? " of rows " + range(stretch.first, stretch.end - 1) : "") + ".";
       case "waits": return "It wasn't wholly carried when the session ended.";
       case "refused":
         return f.why === "queue" ? "256 frames waited already." :
@@ -57,7 +73,7 @@ Life.words = (() => {
   function frame(m, f) {
     const waited = f.first - f.due;
     const carried = f.first < 0 ? "" : ", carried in " + (f.first === f.last ? "row " : "rows ") + range(f.first, f.last) +
-      (waited > 0 ? " after waiting " + count(waited, "frame") : "");
+      (waited > 0 ? " after waiting " + count(waited, "tick") : "");
     return "<b>Frame " + number(f.item) + ": " + FATE_WORDS[f.fate] + ".</b> " +
       (f.octets ? count(f.octets, "octet") + ", due at " : "Due at ") + when(f.due) + carried + ". " + reason(m, f);
   }
@@ -67,36 +83,35 @@ Life.words = (() => {
       when(c.due) + "." + (c.why ? " " + refusal(c) : "");
   }
 
-  /* A line at a frame: its state, its delay, and the failure that it is in. */
+  /* A line at a tick: its state, its delay, and the failure that it is in. */
   function line(m, n, t) {
     const packet = packetOf(t), runs = m.trace.runs[n];
     const run = packet < 0 ? null : runs[firstWhere(runs.length, (i) => runs[i].end > packet)];
-    const title = "<b>Line " + n + " at frame " + number(t) +
+    const title = "<b>Line " + n + " at tick " + number(t) +
       (run ? ": " + run.code + (run.code === "idle" ? "" : ", sequence number " + run.sq) : "") + ".</b> ";
     const delay = m.script.delays[n] || 0, failure = m.failsOf[n].find((f) => f.first <= t && t < f.end);
-    return title + (packet < 0 ? "Before frame 24 no packet governs. " : run ? inRun(m, run) : "No packet of the trace governs this frame. ") +
-      (delay ? "Its delay is " + count(delay, "frame") + ": this container arrives at " + number(t + delay) + " (dotted). " : "It has no delay. ") +
+    return title + (packet < 0 ? "Before row 24 no packet governs. " : run ? inRun(m, run) : "No packet of the trace governs this row. ") +
+      (delay ? "Its delay is " + count(delay, "tick") + ": this container arrives at " + number(t + delay) + " (dotted). " : "It has no delay. ") +
       (failure ? "<b>Damaged</b> are its containers " + range(failure.first, failure.end - 1) +
         (failure.slip ? ", and the last " + failure.slip + " of them vanish" : "") + ". " : "");
   }
   function inRun(m, run) {
-    return "It is " + (CODES[run.code] || run.code) + " in frames " +
-      range(frameOf(run.from), Math.max(frameOf(run.from), Math.min(m.ticks, frameOf(run.end)) - 1)) +
-      " (packets " + range(run.from, run.end - 1) + "). ";
+    return "In ticks " + range(rowOf(run.from), Math.max(rowOf(run.from), Math.min(m.ticks, rowOf(run.end)) - 1)) +
+      (run.end - run.from === 1 ? " (packet " : " (packets ") + range(run.from, run.end - 1) + ") it is " + (CODES[run.code] || run.code) + ". ";
   }
 
   function row(m, t) {
     if (m.totals && t >= m.totals.taken) return "<b>Row " + number(t) + "</b> was never taken.";
     if (!m.told) return "<b>Row " + number(t) + "</b>: whether it is whole isn't told here.";
     const spoiled = runAt(m.fates.spoiled, t), stretch = runAt(m.fates.segments, t);
-    return (spoiled ? "<b>Rows " + range(spoiled.first, spoiled.end - 1) + " are spoiled:</b> " + cause(spoiled) + "." :
+    return (spoiled ? "<b>" + spoiledRows(spoiled) + "</b>" + cause(spoiled) + "." :
       "<b>Row " + number(t) + " is whole.</b>") + (stretch ? " It is of the stretch of " + segment(stretch) : "");
   }
   function segment(s) {
     return "rows " + range(s.first, s.end - 1) + " after a break; " +
-      (s.mark === "none" ? "no frame's start was found in it." :
-        s.mark === "true" ? "a frame's start was found in row " + number(s.row) + "." :
-          "in row " + number(s.row) + " a place was taken for a frame's start that is none.");
+      (s.mark === "none" ? "no GFP frame's start was found in it." :
+        s.mark === "true" ? "a GFP frame's start was found in row " + number(s.row) + "." :
+          "in row " + number(s.row) + " a place was taken for a GFP frame's start that is none.");
   }
 
   /* A decision step: what it was told, and what it sends. A return packet has the statuses of eight sequence numbers. */
@@ -104,7 +119,7 @@ Life.words = (() => {
     const told = packet < 0 ? undefined : m.trace.back[packet];
     if (told === undefined) return "No decision step is told of here.";
     const eight = 8 * ((packet - m.script.lag) % 16);
-    return "<b>Step of packet " + packet + "</b> (frames " + range(frameOf(packet), frameOf(packet) + 15) + ") " +
+    return "<b>Step of packet " + packet + "</b> (for rows " + range(rowOf(packet), rowOf(packet) + 15) + ") " +
       (told === "none" ? "took no return packet." :
         told === "lost" ? "took a lost return packet: it learns nothing." :
           "was told status <b>" + told.slice(0, 2) + "</b> of sequence numbers " + eight + " to " + (eight + 7) + ", with RS-Ack " +
@@ -118,20 +133,20 @@ Life.words = (() => {
     const exact = "so exactly the frames shown as got were delivered, in order, each once.";
     if (!totals) return ["", ""];
     if (!breaks.length) {
-      return ["The premise on chance holds:", "no break made the receiver look for a frame's start again, " + exact];
+      return ["The premise on chance holds:", "no break made the receiver look for a GFP frame's start again, " + exact];
     }
     if (totals.starts) {
       const none = breaks.filter((s) => s.mark === "none").length;
-      return ["The premise on chance holds in this walk:", "after " +
+      return ["The premise on chance holds:", "after " +
         (breaks.length === 1 ? "the one break" : "each of " + number(breaks.length) + " breaks") +
-        " the receiver took only true frame starts" + (none ? " (in " + number(none) + " it found none)" : "") + ", " + exact];
+        " the receiver took only true GFP frame starts" + (none ? " (in " + number(none) + " it found none)" : "") + ", " + exact];
     }
     const rows = breaks.filter((s) => s.mark === "false").map((s) => number(s.row));
     return ["The premise on chance doesn't hold in this walk:", "in row " + rows.join(", ") +
-      " the receiver took a place for a frame's start that is none. What is shown as got needn't be what was delivered."];
+      " the receiver took a place for a GFP frame's start that is none. What is shown as got needn't be what was delivered."];
   }
 
-  /* The sentence on what is held, which is a word with its numbers: frame.ITEM, command.ITEM, line.LINE.FRAME, row.ROW, back.PACKET. */
+  /* The sentence on what is held, which is a word with its numbers: frame.ITEM, command.ITEM, line.LINE.TICK, row.ROW, back.PACKET. */
   function held(m, hold) {
     const [kind, ...words] = hold.split("."), [a, b] = words.map(Number);
     switch (kind) {
@@ -144,5 +159,5 @@ Life.words = (() => {
     }
   }
 
-  return { CODES, FATE_WORDS, cause, reason, refusal, segment, premise, held, upper };
+  return { CODES, FATE_WORDS, cause, spoiledRows, shared, reason, refusal, segment, premise, held, upper };
 })();

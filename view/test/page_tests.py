@@ -14,7 +14,7 @@ import time
 
 sys.dont_write_bytecode = True
 from browser import Browser, NoBrowser
-from texts import Pages, bursts, expected, made, points, totals, walked
+from texts import Pages, bursts, expected, made, points, reasons, totals, walked
 
 EXAMPLES = ("failed_member", "slip", "lost_return", "eight_lines", "queue", "refused")
 TOP = os.path.dirname(os.path.dirname(os.path.dirname(os.path.abspath(__file__))))
@@ -63,10 +63,11 @@ class Tests:
             self.same(name + ": " + key, drawn[key], wanted[key])
         head = dict(b.js("""[...document.querySelectorAll('#totals > div')].map(e => [e.querySelector('dt').textContent,
             parseInt(e.querySelector('dd').firstChild.textContent.replace(/,/g, ''))])"""))
-        numbers, rows, starts = totals(texts)
+        numbers, starts = totals(texts)
         self.same(name + ": totals", {key: head.get(key) for key in numbers}, numbers)
         self.same(name + ": premise", b.js("document.getElementById('premise').className"), "" if starts else "bad")
-        self.same(name + ": table", b.js("document.querySelectorAll('tbody tr').length"), min(200, rows))
+        told = b.js("[...document.querySelectorAll('td.f')].map(e => +(/([\\d,]+) frames/.exec(e.textContent) || [0, '1'])[1].replace(/,/g, ''))")
+        self.same(name + ": table", told, reasons(texts)[:200])
         self.same(name + ": faults", b.js(FAULTS), "")
         for width in (1280, 400):
             b.size(width, 900 if width == 1280 else 800)
@@ -97,10 +98,38 @@ class Tests:
         self.same(name + ": points of the picture", len(wanted) > 100, True)
         self.same(name + ": colours", [pair for pair in zip(found, wanted) if not near(pair[0][3], pair[1][3])], [])
         ends = [words for words in (line.split(" ") for line in texts["fates"].decode().splitlines()) if words[0] == "frame" and len(words) > 6]
-        told = b.js("""%s.map(([item, last]) => { const l = Life.page.lay.lane('frames');
-            return Life.words.held(Life.page.model, Life.page.at(Life.page.X(last + 0.5), l.y + l.h - 9)).slice(3).split('.')[0]; })"""
-                    % json.dumps([[int(words[1]), int(words[6])] for words in ends]))
+        told = b.js("""%s.map(([item, row]) => { const l = Life.page.lay.lane('frames');
+            return Life.words.held(Life.page.model, Life.page.at(Life.page.X(row + 0.5), l.y + l.h - 9)).slice(3).split('.')[0]; })"""
+                    % json.dumps([[int(words[1]), int(words[5])] for words in ends]))
         self.same(name + ": what is at each frame's end", told, ["Frame %s: %s" % (words[1], words[4]) for words in ends])
+
+    def threads(self, texts):
+        """Threads lean if and only if their frames waited: frame 8 lies in six rows and didn't wait, frame 9 waited ten ticks, frame 10 didn't."""
+        b = self.browser
+        fates = texts["fates"].replace(b"got 1300 1300", b"got 1300 1305").replace(b"got 1500 1500", b"got 1510 1512")
+        self.open("threads", {**texts, "fates": fates}, "#at=1280-1620")
+        found = b.js("""[[8, 1300, 1300], [9, 1500, 1510], [10, 1600, 1600]].map(([item, due, row]) => {
+            const { lay, X, places } = Life.page, l = lay.lane('frames'), q = places.get(item), g = document.getElementById('plot').getContext('2d');
+            const painted = [0.2, 0.5, 0.8].every(part => { const x = X(due + 0.5 + (row - due) * part), y = l.y + 9 + (l.h - 18) * part;
+                return g.getImageData(Math.floor(x) - 1, Math.floor(y), 3, 1).data.some((n, i) => i % 4 === 0 && n < 128); });
+            return [item, q.out - q.due > 10, q.out === q.due, painted]; })""")
+        self.same("leaning threads", found, [[8, False, True, True], [9, True, False, True], [10, False, True, True]])
+        told = b.js("Life.words.held(Life.page.model, 'frame.9')")
+        self.same("a wait is of ticks", "carried in rows 1,510\u20131,512 after waiting 10 ticks." in told, True)
+        self.picture("threads-1280")
+
+    def terms(self, texts):
+        """A tick is called a tick, and a frame is one of Ethernet or GFP: beside the lanes, and in what is said of a line and of a step."""
+        b = self.browser
+        self.open("terms", texts)
+        said = b.js("""(text => { const all = [], fill = text.fillText;
+            text.fillText = function (word, ...place) { all.push(word); fill.call(this, word, ...place); };
+            Life.page.draw(); text.fillText = fill; return all; })(CanvasRenderingContext2D.prototype)""")
+        self.same("names of the lanes", [word for word in said if re.search("tick|frame|due|first", word)], ["tick", "due", "frames", "first row"])
+        line, step = b.js("['line.1.1100', 'back.65'].map(what => Life.words.held(Life.page.model, what).replace(/<[^>]*>/g, ''))")
+        self.same("a line", line, "Line 1 at tick 1,100: dnu, sequence number 1. In ticks 1,064\u20131,319 (packets 65\u201380) it is a "
+                  "member out of use, since the sink said that it fails. It has no delay. ")
+        self.same("a step", step.split(") ")[0], "Step of packet 65 (for rows 1,064\u20131,079")
 
     # ---- Keys, pointer, fingers, fragment: over failed_member ----
 
@@ -110,7 +139,7 @@ class Tests:
         whole = b.js(RANGE)
         b.key("+")
         b.settle()
-        self.same("zoom by key", b.js(RANGE), "Frames 425\u20131,274")
+        self.same("zoom by key", b.js(RANGE), "Ticks 425\u20131,274")
         b.key("ArrowRight")
         b.settle()
         fragment, place = b.js("location.hash"), b.js(RANGE)
@@ -129,10 +158,18 @@ class Tests:
         b.key("Escape")
         b.settle()
         self.same("let go", b.js(HELD), False)
+        rows = b.js("[...document.querySelectorAll('tbody tr')].map(e => [0, 1, 4, 5].map(n => e.cells[n].textContent))")
+        self.same("neighbours of one reason are one row", rows,
+                  [["4\u20136", "1,024\u20131,060", "1,024\u20131,060", "cut, 3 frames"], ["7", "1,100", "1,100", "unsettled"]])
+        for part in ("Rows 1,024\u20131,031 are spoiled: a container of line 1,", "Rows 1,032\u20131,063 are spoiled: the control packet of line 1,"):
+            self.same("with all causes", part in b.js("document.querySelector('td.w').textContent"), True)
         b.js("document.querySelector('tbody a').click()")
         b.settle()
         self.same("a link of the table holds", b.js("document.querySelector('#detail b').textContent"), "Frame 4: cut.")
-        self.same("and marks its line", b.js("document.querySelectorAll('tr.held').length"), 1)
+        marked = "[...document.querySelectorAll('tr.held')].map(e => e.rowIndex).join()"
+        self.same("and marks its row", b.js(marked), "1")
+        b.js("Life.page.setHold('frame.6')")
+        self.same("as do its neighbours", b.js(marked), "1")
         self.same("and leads there", b.js("Life.page.view.start < 1024 && Life.page.view.end > 1024"), True)
         self.picture("held-1280")
 
@@ -165,7 +202,7 @@ class Tests:
         self.same("and keeps what is held", b.js("Life.page.hold"), "frame.7")
 
     def fingers(self, texts):
-        """Two fingers that part zoom, and the frames under them stay under them."""
+        """Two fingers that part zoom, and the ticks under them stay under them."""
         b = self.browser
         b.size(400, 800, touch=True)
         self.open("fingers", texts)
@@ -232,17 +269,18 @@ class Tests:
             if not node.get("ignored"):
                 names.setdefault(node["role"]["value"], []).append(node.get("name", {}).get("value", ""))
         self.same("each button has a name", [name for name in names["button"] if len(name) < 3], [])
-        seen = [name[:47] for name in names["image"]]
-        self.same("the picture has its content as its name", "Frames 0 to 1,699. Client frames: 5 got, 3 cut," in seen, True)
+        seen = [name[:39] for name in names["image"]]
+        self.same("the picture has its content as its name", "Ticks 0 to 1,699. Frames: 5 got, 3 cut," in seen, True)
         self.same("the table is one", len(names["table"]), 1)
         b.key("+")
         b.settle(500)
-        self.same("a new place is said", b.js("document.getElementById('said').textContent").startswith("Frames 425 to 1,274. Client frames:"), True)
+        self.same("a new place is said", b.js("document.getElementById('said').textContent").startswith("Ticks 425 to 1,274. Frames:"), True)
         b.js("document.getElementById('spoken').open = true")
         b.settle()
         words = b.js("document.getElementById('words').textContent")
-        for part in ("Line 1, delay 0: idle in frames 24\u201339", "dnu 1 in frames 1,064\u20131,319", "Damaged containers: 1,024\u20131,047",
-                     "Rows 1,024\u20131,031 are spoiled: a container of line 1", "a frame's start was found in row 1,064", "Item 1: add line 1"):
+        for part in ("dnu: a member out of use, since the sink said that it fails", "Line 1, delay 0: idle in ticks 24\u201339",
+                     "dnu 1 in ticks 1,064\u20131,319", "Damaged containers: 1,024\u20131,047",
+                     "Rows 1,024\u20131,031 are spoiled: a container of line 1", "a GFP frame's start was found in row 1,064", "Item 1: add line 1"):
             self.same("in words: " + part, part in words, True)
 
     # ---- Texts that end an element, that aren't whole, that are of another script, that are dropped ----
@@ -308,10 +346,10 @@ class Tests:
 
     def refused(self, texts):
         """A script that is refused has a page with the note; where there is no trace for another reason there is no page."""
-        b = self.browser
-        script, note = texts["script"] + b"Add 0 0\n", b"fault: line %d: word\n" % (texts["script"].count(b"\n") + 1)
+        b, line = self.browser, texts["script"].count(b"\n") + 1
+        script, note = texts["script"] + b"Add 0 0\n", b"fault: line %d: word\n" % line
         notes, status = self.told("a fault", {**texts, "script": script, "trace": note}, note.decode().strip(), False, trace_status=5)
-        self.same("a fault: view", (notes.encode(), status), (note, 5))
+        self.same("a fault: view", (notes, status), ("%svcat: line %d is: Add 0 0\n" % (note.decode(), line), 5))
         self.same("a fault: the line is shown", "is \u201cAdd 0 0\u201d" in b.js(FAULTS), True)
         self.picture("fault-1280")
         path, _, status = self.pages.make("long", {**texts, "trace": b"fault: too long\n"}, trace_status=8)
@@ -376,8 +414,8 @@ def run(tests, program):
         tests.counts(name, texts[name])
     example = texts["failed_member"]
     tests.painted("failed_member", example)
-    for test in (tests.keys, tests.pointer, tests.fingers, tests.media, tests.spoken, tests.escaped, tests.without_fates, tests.refused,
-                 tests.dropped):
+    for test in (tests.threads, tests.terms, tests.keys, tests.pointer, tests.fingers, tests.media, tests.spoken, tests.escaped,
+                 tests.without_fates, tests.refused, tests.dropped):
         test(example)
     tests.cut(example, texts["slip"])
     for name, large in (("made", made()), ("bursts", walked(program, bursts()))):

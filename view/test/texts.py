@@ -1,4 +1,5 @@
 """Texts of walks, what a page has to show of them, and pages of them: by ./vcat view over a program that hands out given texts."""
+import bisect
 import os
 import random
 import re
@@ -47,11 +48,51 @@ def expected(texts):
 
 
 def totals(texts):
-    """The numbers at the head of a page by the last line of the fates, and how many lines its table has."""
+    """The numbers at the head of a page by the last line of the fates, and whether the premise held."""
     words = texts["fates"].decode().splitlines()[-1].split(" ")
-    numbers = dict(zip(("Ticks", "Rows", "Frames", "Got", "Lost", "Waits", "Refused"), map(int, words[2:15:2])))
-    refused = len(re.findall(r"^refused \d+ (?:unknown|already in|not in|pending)$", texts["report"].decode(), re.M))
-    return numbers, numbers["Lost"] + numbers["Refused"] + refused, words[-1] == "true"
+    return dict(zip(("Ticks", "Rows", "Frames", "Got", "Lost", "Waits", "Refused"), map(int, words[2:15:2]))), words[-1] == "true"
+
+
+def reasons(texts):
+    """Of each row of a page's table how many frames or commands it tells of, in order: neighbouring frames of one fate that one break cut, that lie
+    in one segment, or that were refused for one reason, are one row."""
+    lines = [line.split(" ") for line in texts["fates"].decode().splitlines()]
+    runs = {kind: [(int(words[1]), int(words[2]), words[4:]) for words in lines if words[0] == kind] for kind in ("spoiled", "segment")}
+    breaks = []
+    for first, end, _ in runs["spoiled"]:
+        if breaks and breaks[-1][1] == first:
+            first = breaks.pop()[0]
+        breaks.append((first, end, None))
+    at_break, at_segment = look_up(breaks), look_up(runs["segment"])
+    rows, before = [], None
+    for words in lines:
+        if words[0] != "frame":
+            continue
+        fate, reason = words[4], None
+        if fate == "cut":
+            reason = at_break(int(words[7])) or words[7]
+        elif fate == "refused":
+            reason = words[5:]
+        elif fate not in ("got", "waits"):
+            reason = at_segment(int(words[5]))
+        reason = None if fate in ("got", "waits") else (fate, reason)
+        if reason and reason == before:
+            rows[-1][1] += 1
+        elif reason:
+            rows.append([int(words[1]), 1])
+        before = reason
+    commands = re.findall(r"^refused (\d+) (?:unknown|already in|not in|pending)$", texts["report"].decode(), re.M)
+    return [count for _, count in sorted(rows + [[int(item), 1] for item in commands])]
+
+
+def look_up(runs):
+    """Of runs in order, a look-up of the one that holds a row, or None."""
+    starts = [first for first, _, _ in runs]
+
+    def at(row):
+        i = bisect.bisect_right(starts, row) - 1
+        return runs[i] if i >= 0 and row < runs[i][1] else None
+    return at
 
 
 def points(texts):
