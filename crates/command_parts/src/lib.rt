@@ -9,6 +9,7 @@
 mod help;
 mod input;
 mod laws;
+mod notes;
 mod pieces;
 mod report;
 mod script;
@@ -17,8 +18,9 @@ mod words;
 
 pub use input::{MOST, read_input};
 pub use laws::{end_law, input_law, made_law};
+pub use notes::{line_fault, stop_of};
 pub use pieces::{PieceReader, read_pieces};
 pub use report::write_rest;
-pub use script::{line_fault, read_whole_script, stop_of};
+pub use script::read_whole_script;
 pub use stop::{Fault, Refusal, Stop, tell, tell_usage};
 pub use words::{NO_MEMORY, given_words};
