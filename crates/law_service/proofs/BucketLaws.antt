@@ -25,7 +25,7 @@ use Rattle.law_walk.specs.Landed.{Numbered, IsOfferAt, stream_met, refusal_at}
 use Rattle.law_walk.specs.Walk.{session_of}
 use Rattle.law_walk.proofs.LandLaws.{offer-at}
 use Rattle.law_walk.proofs.SourceLaws.{offer-refusal}
-use Rattle.text_report.specs.declared.report.Refusal.TheVariants.{Frame as frame_fault}
+use Rattle.law_model.specs.declared.refusal.Refusal.TheVariants.{Frame as frame_fault}
 use Rattle.law_service.specs.Bucket.{arrivals, arrivals_in, stream_at, Bucket, KeepsTo, LiesIn}
 use Rattle.law_service.specs.Place.{filled, Placed, placed_by, placed_offers, placed_before, placed_frames}
 use Rattle.law_service.proofs.PlaceLaws.{kept-all, at-number, place-settled, place-begins, place-waits}

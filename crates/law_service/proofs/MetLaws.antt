@@ -9,7 +9,8 @@ use Rattle.std.proofs.lemmas.List.Sorted.{IsNonDecreasingBy-short, IsNonDecreasi
 use Rattle.law_model.specs.declared.script.Item.{Item}
 use Rattle.law_model.specs.declared.script.ItemKind.TheVariants.{Frame, Add}
 use Rattle.law_model.specs.frames.Piece.{idle}
-use Rattle.law_model.specs.members.Damage.{carried, are_whole, slip_after}
+use Rattle.law_model.specs.declared.window.Window.{Window}
+use Rattle.law_model.specs.members.Damage.{carried, are_whole, slip_of, slip_after}
 use Rattle.law_model.specs.session.Counts.{frame_dues, command_dues}
 use Rattle.law_model.specs.session.Scenario.{Scenario, scenario_by, frames_at}
 use Rattle.law_model.specs.session.Valid.{IsWithin, HasFailures, IsItem, IsNetwork, IsSound}
@@ -19,8 +20,9 @@ use Rattle.law_model.specs.source.Source.{after}
 use Rattle.law_model.specs.source.Table.{keep, none_kept, admit, turned, take_out, exchange}
 use Rattle.law_walk.specs.Walk.{session_of}
 use Rattle.law_walk.specs.Worked.{item, plain, failing_leg}
-use Rattle.law_walk.proofs.MetLaws.{equal-rise, no_failure, plain_network, failing-sound}
+use Rattle.law_walk.proofs.MetLaws.{equal-rise, one_failure, no_failure, plain_network, failing-sound}
 use Rattle.law_service.specs.Bucket.{arrivals, arrivals_in, KeepsTo}
+use Rattle.law_service.specs.Clock.{HasNoSlip, timed_windows, timed_leg}
 use Rattle.law_service.specs.Twins.{with_delays}
 use Rattle.law_service.specs.Worked.{queued_leg, full_bucket, full_leg}
 
@@ -199,3 +201,47 @@ twin-sound =
       items = failing-sound.items;
       few = failing-sound.few;
     }
+
+-- ---- one line fails and doesn't slip, another has a delay
+timed-window : Window
+timed-window = record { first = 1000; «end» = 1003; slip = 0 }
+
+timed-network : IsNetwork (plain timed_windows 16 2 1100)
+unfolding timed-window slip_after
+timed-network =
+    plain_network timed_windows 16 2 1100 (omega arith, omega arith)
+    (All-cons (HasFailures 1100) (timed-window ∷ []) ([] ∷ [])
+    (one_failure 1100 timed-window (omega arith) (omega arith) (omega arith))
+    (All-cons (HasFailures 1100) [] [] (no_failure 1100) (All-nil (HasFailures 1100))))
+    (omega arith, omega arith) (omega arith, omega arith) (omega arith, omega arith) (omega arith) (omega arith)
+
+pub timed-sound : IsSound timed_leg
+unfolding slip_after
+timed-sound =
+    let network = timed-network in
+    record {
+      network = record {
+        lines = network.lines;
+        delay_each = refl;
+        delays = All-cons (λ (delay : ℕ). delay ≤ 2047) 0 (15 ∷ []) (omega arith)
+            (All-replicate (λ delay. delay ≤ 2047) 1 15 (omega arith));
+        windows_each = network.windows_each;
+        windows = network.windows;
+        lost = network.lost;
+        ring = (omega arith, omega arith);
+        lag = network.lag;
+        ticks = network.ticks;
+        size = network.size;
+        fits_ring = omega arith;
+        fits_lag = omega arith;
+      };
+      items = failing-sound.items;
+      few = failing-sound.few;
+    }
+
+abbrev NoSlip : List Window → Type 0
+NoSlip windows = slip_of windows ≡ 0
+
+pub timed-even : HasNoSlip timed_leg
+unfolding timed-window slip_after
+timed-even = All-cons NoSlip (timed-window ∷ []) ([] ∷ []) refl (All-cons NoSlip [] [] refl (All-nil NoSlip))

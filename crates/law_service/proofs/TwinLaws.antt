@@ -7,7 +7,7 @@ use Rattle.law_model.specs.session.Counts.{Counts, begin}
 use Rattle.law_model.specs.session.Leg.{Leg}
 use Rattle.law_model.specs.session.Scenario.{scenario_by}
 use Rattle.law_model.specs.session.Valid.{IsSound}
-use Rattle.text_report.specs.declared.report.Refusal.{Refusal}
+use Rattle.law_model.specs.declared.refusal.Refusal.{Refusal}
 use Rattle.law_walk.specs.Delivered.{session_rows}
 use Rattle.law_walk.specs.Landed.{Numbered, landed_items, refusal_at}
 use Rattle.law_walk.specs.Promise.{numbered, session_pieces}

@@ -2,3 +2,6 @@ pub mod Place
 pub mod Bucket
 pub mod Twins
 pub mod Worked
+pub mod Turns
+pub mod Kept
+pub mod Clock

@@ -1,25 +1,40 @@
 //! The laws of the service that a client gets: where its frames end on the stream, and that none is refused or
-//! waits long if it keeps to a bucket; and that delays take none of them. There is no code here. Begin at
-//! `place_law`; `met_law` shows legs that meet what is asked, and `worked_law` that the bounds are reached.
+//! waits long if it keeps to a bucket; that delays take none of them; how a walk goes by the clock, and that it
+//! ends whoever tries its events in whatever order; and that more rows take nothing back. There is no code here.
+//! Begin at `place_law`; `met_law` shows legs that meet what is asked, and `worked_law` that bounds are reached.
 #![tactic(auto)]
 
-ghost use Rattle.std.specs.Prelude.{◌≡◌, ℕ, ◌+◌, ◌*◌, ◌<◌, ◌≤◌, List, [], ◌∷◌, map, length, slice_get, Some, None};
-ghost use Rattle.law_model.specs.session.Leg.{Leg};
-ghost use Rattle.law_model.specs.session.Valid.{IsSound};
-ghost use Rattle.law_model.specs.frames.Piece.{client, size_of};
+ghost use Rattle.std.specs.Prelude.{◌≡◌, ◌↔◌, ℕ, ◌+◌, ◌-◌, ◌*◌, ◌<◌, ◌≤◌, min, List, [], ◌∷◌, ◌++◌, map, length};
+ghost use Rattle.std.specs.Prelude.{sum, slice_get, All, Some, None};
+ghost use Rattle.law_model.specs.declared.walk.Event.{Event};
 ghost use Rattle.law_model.specs.frames.Loss.{Extent};
-ghost use Rattle.law_model.specs.source.Client.{size};
-ghost use Rattle.law_walk.specs.Promise.{accepted_frames, session_extents, session_pieces, place_after};
+ghost use Rattle.law_model.specs.frames.Piece.{Piece, client, size_of};
+ghost use Rattle.law_model.specs.frames.Segment.{StreamRow};
+ghost use Rattle.law_model.specs.session.Counts.{Plan, Counts, frame_dues, command_dues, begin, run, drain, bound};
+ghost use Rattle.law_model.specs.session.Leg.{Leg};
+ghost use Rattle.law_model.specs.session.Plan.{greatest, least};
 ghost use Rattle.law_model.specs.session.Scenario.{DueFrame, scenario_by};
+ghost use Rattle.law_model.specs.session.Valid.{IsSound};
+ghost use Rattle.law_model.specs.source.Client.{size};
+ghost use Rattle.law_progress.specs.Progress.{IsPlan, IsReached, made};
+ghost use Rattle.law_progress.specs.Worked.{one_line};
+ghost use Rattle.law_walk.specs.Delivered.{session_rows};
 ghost use Rattle.law_walk.specs.Landed.{Numbered, IsOfferAt, refusal_at};
-ghost use Rattle.law_walk.specs.Walk.{session_of};
-ghost use Rattle.law_service.specs.Bucket.{Bucket, KeepsTo, LiesIn, stream_at};
-ghost use Rattle.law_service.specs.Place.{filled, Placed, placed_frames};
+ghost use Rattle.law_walk.specs.Promise.{accepted_frames, session_extents, session_pieces, place_after};
 ghost use Rattle.law_walk.specs.Report.{report_of};
-ghost use Rattle.fate_engine.specs.fate_law.FateText.{fates_text};
-ghost use Rattle.fate_engine.specs.fate_law.Ruler.{sides};
-ghost use Rattle.law_service.specs.Twins.{with_delays, whole_walk};
+ghost use Rattle.law_walk.specs.Walk.{session_of, IsWalked, walk_plan};
 ghost use Rattle.law_walk.specs.Worked.{failing_leg};
+ghost use Rattle.fate_engine.specs.fate_law.FateText.{fates_text};
+ghost use Rattle.fate_engine.specs.fate_law.Fates.{fate_of};
+ghost use Rattle.fate_engine.specs.fate_law.Ruler.{sides};
+ghost use Rattle.fate_engine.specs.fate_law.SessionFates.{fate_at};
+ghost use Rattle.law_service.specs.Bucket.{Bucket, KeepsTo, LiesIn, stream_at};
+ghost use Rattle.law_service.specs.Clock.{after_rounds, KeepsTime, HasNoSlip, LagsEnough, two_lines, timed_leg};
+ghost use Rattle.law_service.specs.Clock.{told_after};
+ghost use Rattle.law_service.specs.Kept.{Keeps, fates_after, first_fates, next_fates, last_fates};
+ghost use Rattle.law_service.specs.Place.{filled, Placed, placed_frames};
+ghost use Rattle.law_service.specs.Turns.{TriesEach, in_turn, walked_plan, backwards, without_back, rows_after};
+ghost use Rattle.law_service.specs.Twins.{with_delays, whole_walk};
 ghost use Rattle.law_service.specs.Worked.{queued_leg, told_ends, full_bucket, full_leg, fills};
 
 /// Where an accepted frame ends is settled when it lands: behind all that was begun by then and the accepted
@@ -70,12 +85,108 @@ pub fn twins_law()
         ≡ fates_text leg (whole_walk leg) }
 {}
 
+/// A walk that keeps time goes by the clock, from its start: each round makes one tick while any is left, and with
+/// it lands just the items that are due by then and weren't; and once as many rounds as the greatest delay are
+/// over, it takes one row, until all are taken. So a drain has as many rounds as there are ticks, and as many
+/// more as the greatest delay. A leg keeps time if no window slips its line, and its lag is one tick at least
+/// above what it must be.
+pub fn clock_law()
+    ensures ticks { (slow fast count : ℕ) (plan : Plan) → KeepsTime slow fast plan →
+        (after_rounds count plan).ticks ≡ min count plan.ticks }
+    ensures frames { (slow fast count : ℕ) (plan : Plan) → KeepsTime slow fast plan → (i due : ℕ) →
+        slice_get (frame_dues plan.items) i ≡ Some due →
+        (i < (after_rounds count plan).frames) ↔ (due < min count (plan.ticks + 1)) }
+    ensures commands { (slow fast count : ℕ) (plan : Plan) → KeepsTime slow fast plan → (i due : ℕ) →
+        slice_get (command_dues plan.items) i ≡ Some due →
+        (i < (after_rounds count plan).commands) ↔ (due < min count (plan.ticks + 1)) }
+    ensures rows { (slow fast count : ℕ) (plan : Plan) → KeepsTime slow fast plan →
+        (after_rounds count plan).rows ≡ min (count - slow) plan.ticks }
+    ensures row { (slow fast t : ℕ) (plan : Plan) → KeepsTime slow fast plan → t < plan.ticks →
+        ((after_rounds (t + slow) plan).rows ≡ t) × ((after_rounds (t + slow + 1) plan).rows ≡ t + 1) }
+    ensures ends { (slow fast : ℕ) (plan : Plan) → KeepsTime slow fast plan → 0 < plan.ticks →
+        drain (bound plan) plan (begin plan) ≡ after_rounds (plan.ticks + slow) plan }
+    ensures goes_on { (slow fast count : ℕ) (plan : Plan) → KeepsTime slow fast plan → 0 < plan.ticks →
+        count < plan.ticks + slow → (after_rounds count plan).rows < plan.ticks }
+    ensures legs { (leg : Leg) → IsSound leg → HasNoSlip leg → LagsEnough leg →
+        KeepsTime (greatest leg.config.delays) (least leg.config.delays) (walk_plan leg) }
+    ensures whole { (leg : Leg) → IsSound leg → HasNoSlip leg → LagsEnough leg → whole_walk leg
+        ≡ after_rounds (leg.config.ticks + greatest leg.config.delays) (walk_plan leg) }
+{}
+
+/// Worked walks by the clock, computed. Of two lines the slower one has a delay of two ticks: 41 ticks end with
+/// the 43rd round. With a lag that is the least that it may be, ticks stall once for each return packet that a
+/// decision step takes: 41 ticks of a line without delay take 43 rounds, and not 41.
+pub fn worked_clock_law()
+    ensures keeps { KeepsTime 2 0 two_lines }
+    ensures rounds { told_after two_lines (2 ∷ 3 ∷ 5 ∷ 6 ∷ 8 ∷ 42 ∷ 43 ∷ [])
+        ≡ (2, 0, 0) ∷ (3, 0, 1) ∷ (5, 0, 3) ∷ (6, 1, 4) ∷ (8, 2, 6) ∷ (41, 2, 40) ∷ (41, 2, 41) ∷ [] }
+    ensures stalls { told_after (one_line 1 []) (24 ∷ 25 ∷ 40 ∷ 41 ∷ 42 ∷ 43 ∷ [])
+        ≡ (24, 0, 24) ∷ (24, 0, 24) ∷ (39, 0, 39) ∷ (40, 0, 40) ∷ (40, 0, 40) ∷ (41, 0, 41) ∷ [] }
+{}
+
+/// More rows take nothing back: a frame that is got, cut, sought through or unsettled by some rows is the same by
+/// more of them, and has the same rows; and one in whose segment nothing was confirmed stays so, or begins before
+/// what is confirmed there by then. That is so of any stream and rows, of the accepted frames of a session, and
+/// of those of a walk after more events.
+pub fn kept_law()
+    ensures frame { (pieces : List Piece) (rows more : List StreamRow) (frame : Extent) →
+        frame.from + 4 ≤ frame.to → Keeps (fate_of pieces rows frame) (fate_of pieces (rows ++ more) frame) }
+    ensures number { (pieces : List Piece) (rows more : List StreamRow) (i : ℕ) →
+        Keeps (fate_at pieces rows i) (fate_at pieces (rows ++ more) i) }
+    ensures session { (leg : Leg) (rows later i : ℕ) → rows ≤ later →
+        Keeps (fate_at (session_pieces leg) (session_rows leg rows) i)
+        (fate_at (session_pieces leg) (session_rows leg later) i) }
+    ensures walk { (leg : Leg) (s : Counts) (events : List Event) (i : ℕ) →
+        Keeps (fate_at (session_pieces leg) (session_rows leg s.rows) i)
+        (fate_at (session_pieces leg) (session_rows leg (run (walk_plan leg) s events).rows) i) }
+{}
+
+/// What became of the frames of a worked stream by three of its rows, by four and by all six, computed: the
+/// second frame is one in whose segment nothing is confirmed, until a place behind it is.
+pub fn worked_kept_law()
+    ensures first { fates_after 3 ≡ first_fates }
+    ensures next { fates_after 4 ≡ next_fates }
+    ensures last { fates_after 6 ≡ last_fates }
+{}
+
+/// Whoever tries each event of a walk again and again takes all rows, in whatever order and with whatever more
+/// is tried. While rows are left, each turn that tries every event adds to the counts, whose sum has a bound:
+/// so as many turns as the bound are enough, from whatever the events so far have led to. It is told by the
+/// lines, ticks, delays and items of a script.
+pub fn turns_law()
+    ensures rises { (plan : Plan) (s : Counts) (turn : List Event) → IsPlan plan → IsReached plan s →
+        s.rows < plan.ticks → TriesEach plan turn → made s < made (run plan s turn) }
+    ensures enough { (plan : Plan) (s : Counts) (turns : List (List Event)) → IsPlan plan → IsReached plan s →
+        All (TriesEach plan) turns → bound plan ≤ made s + length turns →
+        (run plan s (in_turn turns)).rows ≡ plan.ticks }
+    ensures legs { (leg : Leg) (s : Counts) (turns : List (List Event)) → IsSound leg → IsWalked leg s →
+        All (TriesEach (walk_plan leg)) turns → bound (walk_plan leg) ≤ length turns →
+        (run (walk_plan leg) s (in_turn turns)).rows ≡ leg.config.ticks }
+    ensures told { (leg : Leg) → IsSound leg → bound (walk_plan leg)
+        ≡ (2 * length leg.config.windows + 3) * leg.config.ticks + sum leg.config.delays
+        + 2 * length leg.config.windows + length leg.items }
+{}
+
+/// Turns, computed: of one line, 41 ticks and two items. Tried in the order that is the least use, each turn but
+/// the first moves what the one before it left; and with no return packet tried, ticks end for good, after
+/// however many turns: with as many as the bound 24 rows are taken.
+pub fn worked_turns_law()
+    ensures tries { TriesEach walked_plan backwards }
+    ensures bound { bound walked_plan ≡ 209 }
+    ensures most { rows_after 45 backwards ≡ 40 }
+    ensures all { rows_after 46 backwards ≡ 41 }
+    ensures stuck { rows_after 209 without_back ≡ 24 }
+{}
+
 /// Legs that meet what is asked above.
 pub fn met_law()
     ensures queued { IsSound queued_leg }
     ensures full { IsSound full_leg }
     ensures keeps { KeepsTo full_bucket full_leg 40 1 }
     ensures twin { IsSound (with_delays failing_leg (15 ∷ []) 7) }
+    ensures timed { IsSound timed_leg }
+    ensures even { HasNoSlip timed_leg }
+    ensures lags { LagsEnough timed_leg }
 {}
 
 /// These legs, computed. In one three frames wait behind the first two idles; a fourth comes behind them; and

@@ -1,0 +1,29 @@
+-- A worked stream by more and more of its rows, computed.
+use Rattle.std.proofs.Common.{refl}
+use Rattle.base_hec16.specs.Hec.{hec_of}
+use Rattle.base_remainder.specs.Bits.{bits, number_behind, octets_of, xors}
+use Rattle.base_remainder.specs.Remainder.{add_front, divide}
+use Rattle.law_model.specs.frames.Core.{core_header, pli_of, head}
+use Rattle.law_model.specs.frames.Hunt.{header_with, hunt_within}
+use Rattle.law_model.specs.frames.Scramble.{scramble_on}
+use Rattle.law_model.specs.frames.Piece.{cut}
+use Rattle.law_model.specs.frames.Segment.{segments_on}
+use Rattle.law_model.specs.frames.Loss.{extents}
+use Rattle.law_loss.specs.Worked.{worked_stream, worked_rows}
+use Rattle.fate_engine.specs.fate_law.Fates.{row_from, spoiled_from, fate_among}
+use Rattle.law_service.proofs.worked_kept_law.Goals as goal
+
+pub returns-clause-first : goal.returns-clause-first
+unfolding worked_rows worked_stream cut core_header octets_of xors bits number_behind divide add_front scramble_on
+    pli_of head hec_of header_with hunt_within segments_on extents row_from spoiled_from fate_among
+returns-clause-first c = refl
+
+pub returns-clause-next : goal.returns-clause-next
+unfolding worked_rows worked_stream cut core_header octets_of xors bits number_behind divide add_front scramble_on
+    pli_of head hec_of header_with hunt_within segments_on extents row_from spoiled_from fate_among
+returns-clause-next c = refl
+
+pub returns-clause-last : goal.returns-clause-last
+unfolding worked_rows worked_stream cut core_header octets_of xors bits number_behind divide add_front scramble_on
+    pli_of head hec_of header_with hunt_within segments_on extents row_from spoiled_from fate_among
+returns-clause-last c = refl
