@@ -9,3 +9,5 @@ pub mod SeeLaws
 pub mod CommandLaws
 pub mod TakenLaws
 pub mod ReadBackLaws
+pub mod StartsLaws
+pub mod LinkAnswerLaws

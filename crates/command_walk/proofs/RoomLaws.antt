@@ -14,6 +14,13 @@ use Rattle.command_parts.specs.Task.{Answer, reads}
 use Rattle.command_parts.specs.Ends.{Lent, Takes, WritesAll, Ends}
 use Rattle.command_parts.specs.Scripts.{HasScript, answer_of, script_answer}
 use Rattle.command_parts.proofs.EndLaws.{is-done, known-text}
+use Rattle.pair_script.specs.declared.pair.PairFault.{PairFault}
+use Rattle.pair_script.specs.declared.pair.ScriptPair.{ScriptPair}
+use Rattle.pair_script.specs.Pair.{pair_of}
+use Rattle.pair_script.specs.Inputs.{pair_answer_of}
+use Rattle.pair_walk.specs.Text.{way_text, pair_text, pair_reply}
+use Rattle.pair_walk.proofs.HeadlineLaws.{pair_headline}
+use Rattle.command_walk.specs.rooms.Pair.{TellsPair}
 use Rattle.command_walk.specs.declared.command.WalkCommand.{WalkCommand}
 use Rattle.command_walk.specs.Ended.{HandsScript, StopsBoth}
 
@@ -58,6 +65,27 @@ module _ {S K E : Type 0} (source : Lent S) (out : Lent K) (notes : Lent E) (ans
       let text = it.meets.0 in
       known-text source IsTold text it.meets.1
       (told-by text (script_of text) refl it.meets.1.fits (subst (WritesAll out notes) (sym it.meets.2) it.written))
+
+-- ---- the headline of a pair
+module _ {S K E : Type 0} (source : Lent S) (out : Lent K) (notes : Lent E) (status : ℕ) where
+  pair-told : (text : List ℕ) (of : Result ScriptPair PairFault) → pair_of text ≡ of → length text ≤ 67108864 →
+      WritesAll out notes (pair_answer_of pair_text of) → TellsPair out notes text
+  pair-told text (Ok pair) is few all = record {
+    there = way_text pair.there pair.back;
+    back = way_text pair.back pair.there;
+    on_out = all.0;
+    on_notes = all.1;
+    is = pair_headline text pair few is;
+  }
+  pair-told text (Err fault) is few all = absurd all
+
+  pub tells-pair : Ends source out notes (reads pair_reply) status → status ≡ 0 →
+      IfSome (source.octets source.old) (TellsPair out notes)
+  tells-pair ends at =
+      let it = is-done source out notes (reads pair_reply) status ends at in
+      let text = it.meets.0 in
+      known-text source (TellsPair out notes) text it.meets.1
+      (pair-told text (pair_of text) refl it.meets.1.fits (subst (WritesAll out notes) (sym it.meets.2) it.written))
 
 -- ---- words
 pub some-command : (P : WalkCommand → Type 0) (o : Option WalkCommand) (command : WalkCommand) → o ≡ Some command →

@@ -4,8 +4,10 @@
 //! FCS, carry VC-4s over AU-4 frames and frames of channels over a stream with cuts, run a pair of scripts, and
 //! make loads. The program itself only makes its input and outputs and hands them over. Each command has a
 //! room: a module here for its words and its run, and one of specs/ for what it means. Begin with `walk_top`:
-//! it answers how the task ended that the words are, the headline, and the walk that was made. `capture_law`
-//! says whose frames a capture has. No clause here knows how a stream is scrambled.
+//! it answers how the task ended that the words are, the headline, and the walk that was made. `starts_law`
+//! says when nothing is presumed of the headline, `capture_law` whose frames a capture has, and `noise_law`,
+//! `au4_law` and `channels_law` which frames and VC-4s are written. No clause here knows how a stream is
+//! scrambled.
 #![tactic(auto)]
 
 mod command;
@@ -17,5 +19,9 @@ mod turns;
 
 pub use command::WalkCommand;
 pub use end::WalkEnd;
+pub use rooms::au4::au4_law;
 pub use rooms::capture::{capture_law, capture_read_law};
+pub use rooms::channels::channels_law;
+pub use rooms::fates::starts_law;
+pub use rooms::noise::noise_law;
 pub use top::walk_top;

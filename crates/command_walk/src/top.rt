@@ -1,9 +1,11 @@
 //! The program as a call: words, an input and two outputs in, a status and a walk out.
-ghost use Rattle.std.specs.Prelude.{◌≡◌, ◌≢◌, List, ℕ, IfSome, None};
+ghost use Rattle.std.specs.Prelude.{◌≡◌, ◌≢◌, List, ℕ, IfSome, Some, None};
 ghost use Rattle.base_io.specs.Transfer.{Appends, Tells};
 ghost use Rattle.law_headline.specs.Headline.{IsWalkHeadline};
 ghost use Rattle.command_parts.specs.Status.{HasRunAt};
 ghost use Rattle.command_parts.specs.Ends.{Ends, lent};
+ghost use Rattle.command_walk.specs.declared.command.WalkCommand.TheVariants.{Pair};
+ghost use Rattle.command_walk.specs.rooms.Pair.{TellsPair};
 ghost use Rattle.command_walk.specs.Commands.{command_in, task_of, usage, HandsBack, RunsScript};
 
 use crate::command::WalkCommand;
@@ -69,6 +71,12 @@ pub fn walk_top<S: ByteSource, K: ByteSink, E: ByteSink>(
     ensures headline { IfSome (command_in words.now) (λ command. RunsScript command →
         result.status ≡ 0 → IfSome (S.left script.old) (λ text. (written : List ℕ)
         × Appends K.written K.faults out.old out.new written × IsWalkHeadline text written)) }
+
+    // That of a pair: what is written on `out` is the headline of the way there, and what is written on
+    // `notes` that of the way back.
+    ensures ways { command_in words.now ≡ Some Pair → result.status ≡ 0 → IfSome (S.left script.old)
+        (TellsPair (lent K.written K.faults out.old out.new)
+        (lent E.written E.faults notes.old notes.new)) }
 
     // The walk that is handed back has made all events of its script, also where a write failed.
     ensures handed { IfSome (command_in words.now) (λ command. HasRunAt result.status →

@@ -3,3 +3,4 @@ mod PieceLaws
 mod LimitLaws
 mod InputLaws
 mod FirstFaultLaws
+pub mod SaidLaws

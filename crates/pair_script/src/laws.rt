@@ -1,10 +1,13 @@
 //! What the definition of the language means, apart from how it computes.
-ghost use Rattle.std.specs.Prelude.{◌≡◌, ◌↔◌, ℕ, List, Err};
+ghost use Rattle.std.specs.Prelude.{◌≡◌, ◌↔◌, ◌≤◌, ℕ, List, length, Ok, Err};
 ghost use Rattle.std.specs.Str.Lines.{lines};
 ghost use Rattle.text_lines.specs.FirstFault.{IsFirstFault};
 ghost use Rattle.text_scripts.specs.declared.script_read.fault.LineFault.{LineFault};
 ghost use Rattle.text_scripts.specs.declared.script_read.fault.ScriptFault.TheVariants.{Line};
+ghost use Rattle.law_model.specs.Limits.{longest_input};
+ghost use Rattle.law_pair.specs.Pair.{IsPair};
 ghost use Rattle.pair_script.specs.declared.pair.PairFault.{PairFault};
+ghost use Rattle.pair_script.specs.declared.pair.ScriptPair.{ScriptPair};
 ghost use Rattle.pair_script.specs.Lines.{of_script, no_division, nothing_said, pair_lines};
 ghost use Rattle.pair_script.specs.Pair.{pair_of};
 
@@ -17,4 +20,11 @@ pub fn fault_law()
     ensures undivided { (text : List ℕ) (number : ℕ) →
         (pair_of text ≡ Err (PairFault.Undivided number))
         ↔ IsFirstFault pair_lines 1 nothing_said (lines text) number no_division }
+{}
+
+/// A text of at most 67,108,864 octets that says two scripts says a pair: each of them can be walked, neither loses
+/// return packets by itself or has event lines, and their lags and their ticks are the same.
+pub fn valid_law()
+    ensures { (text : List ℕ) (pair : ScriptPair) → length text ≤ longest_input →
+        pair_of text ≡ Ok pair → IsPair pair.there pair.back }
 {}

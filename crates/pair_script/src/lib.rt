@@ -2,7 +2,8 @@
 //! `other` divides them. The language is a definition that computes, `pair_of`: the lines of both scripts as
 //! `script_read` has them, with numbers that run on, or the first fault; then what is wrong with either script
 //! as a whole, and with both together. The reader gives just that, in one pass over an input in pieces; a fault
-//! stays, whatever follows. Nothing is run here. Begin with `read_pair`.
+//! stays, whatever follows. Nothing is run here. Begin with `read_pair`; `valid_law`: a text that says two
+//! scripts says a pair.
 #![tactic(auto)]
 
 mod laws;
@@ -12,7 +13,7 @@ mod pair;
 mod read;
 mod reader;
 
-pub use laws::fault_law;
+pub use laws::{fault_law, valid_law};
 pub use pair::{PairFault, ScriptPair};
 pub use read::read_pair;
 pub use reader::PairReader;

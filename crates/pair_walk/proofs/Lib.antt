@@ -1,2 +1,3 @@
 pub mod RoundLaws
 pub mod EndLaws
+pub mod HeadlineLaws

@@ -1,27 +1,24 @@
 //! What comes of two scripts as a pair of sessions, in words: the report of each way, once all rows of both are
-//! taken. Begin with `write_pair`, and with `pair_text` of the specs; no text is read here. `text_law`: the
-//! reports don't depend on the order of events.
+//! taken. Begin with `write_pair`, and with `pair_text` of the specs; no text is read here. `headline_law`: what
+//! the reports of the two ways tell.
 #![tactic(auto)]
 
 mod run;
 
-ghost use Rattle.std.specs.Prelude.{◌≡◌};
-ghost use Rattle.law_model.specs.declared.script.Script.{Script};
-ghost use Rattle.law_walk.specs.Report.{report_of};
-ghost use Rattle.law_pair.specs.Pair.{IsPair, way_of};
-ghost use Rattle.law_pair.specs.PairCounts.{PairCounts};
-ghost use Rattle.law_pair.specs.PairWalk.{pair_drained, IsPairWalked};
+ghost use Rattle.std.specs.Prelude.{◌≡◌, ℕ, ◌≤◌, List, length, Ok};
+ghost use Rattle.law_model.specs.Limits.{longest_input};
+ghost use Rattle.pair_script.specs.declared.pair.ScriptPair.{ScriptPair};
+ghost use Rattle.pair_script.specs.Pair.{pair_of};
 ghost use Rattle.pair_walk.specs.Text.{way_text};
+ghost use Rattle.pair_walk.specs.Headline.{IsPairHeadline};
 
 pub use run::write_pair;
 
-/// After any events of a pair and a drain, the report of each way by its counts is its text. So what is written
-/// doesn't depend on the order in which a pair's events were tried.
-pub fn text_law()
-    ensures there { (there back : Script) (s : PairCounts) → IsPair there back →
-        IsPairWalked there back s →
-        report_of (way_of there back) (pair_drained there back s).there ≡ way_text there back }
-    ensures back { (there back : Script) (s : PairCounts) → IsPair there back →
-        IsPairWalked there back s →
-        report_of (way_of back there) (pair_drained there back s).back ≡ way_text back there }
+/// Of each text of at most 67,108,864 octets that says two scripts, the report of the way there has the got lines of
+/// just those accepted frames of the first script that the rows carry whole and that aren't lost to a failure of its
+/// lines, in item order and each once; then the lines of its refused items; and then its line of totals. The report of
+/// the way back has the same of the second script. `IsHeadline` says it in full, with the one premise of each way.
+pub fn headline_law()
+    ensures { (text : List ℕ) (pair : ScriptPair) → length text ≤ longest_input → pair_of text ≡ Ok pair →
+        IsPairHeadline text (way_text pair.there pair.back) (way_text pair.back pair.there) }
 {}

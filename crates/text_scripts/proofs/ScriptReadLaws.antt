@@ -5,6 +5,6 @@ pub mod RowLaws
 pub mod GrowthLaws
 pub mod ValidLaws
 pub mod FirstFaultLaws
-mod FitLaws
+pub mod FitLaws
 pub mod ReadLaws
 pub mod PieceLaws

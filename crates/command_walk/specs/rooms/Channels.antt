@@ -1,10 +1,11 @@
 -- `channels`: frames of clients in a stream that they share by channel numbers, and of which octets don't arrive.
-use Rattle.std.specs.Prelude.{ℕ, List, codes, Option, Some, None, Result, Ok, Err, if◌then◌else◌}
+use Rattle.std.specs.Prelude.{◌≡◌, ℕ, List, codes, Option, Some, None, Result, Ok, Err, if◌then◌else◌}
 use Rattle.gfp_channels.specs.declared.channel_link.fault.LineFault.{LineFault}
 use Rattle.gfp_channels.specs.channel_link.Helps.{kind_of, help_of}
 use Rattle.gfp_channels.specs.declared.channel_link.draft.ChannelPlan.{ChannelPlan}
 use Rattle.gfp_channels.specs.channel_link.Plan.{plan_of}
 use Rattle.gfp_channels.specs.channel_link.Text.{plan_text}
+use Rattle.gfp_channels.specs.channel_link.Delivered.{IsPlanReport}
 use Rattle.command_parts.specs.declared.stop.Refusal.TheVariants.{Line}
 use Rattle.command_parts.specs.Task.{Answer, writes, refuses}
 use Rattle.command_parts.specs.Faults.{line_text}
@@ -22,3 +23,9 @@ shared (Err at) = refuses Line (line_text at.0 (kind_of at.1) (help_of at.1))
 
 abbrev pub channels_answer : List ℕ → Answer
 channels_answer text = shared (plan_of text)
+
+-- what is written of a text is a report of a plan
+pub record TellsPlan (text : List ℕ) (plan : ChannelPlan) : Type 0 where
+  pub report : List ℕ
+  pub answers : channels_answer text ≡ writes report
+  pub is : IsPlanReport plan report

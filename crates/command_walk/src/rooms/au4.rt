@@ -1,8 +1,11 @@
 //! `au4`: numbered VC-4s are carried over a link of AU-4 frames, and a line is written of each that comes whole.
-ghost use Rattle.std.specs.Prelude.{◌≡◌, None, map, string_bytes};
-ghost use Rattle.command_parts.specs.Task.{reads};
+ghost use Rattle.std.specs.Prelude.{◌≡◌, ℕ, List, Ok, None, map, string_bytes};
+ghost use Rattle.command_parts.specs.Task.{reads, writes};
 ghost use Rattle.command_parts.specs.Ends.{Ends, lent};
 ghost use Rattle.command_parts.specs.Faults.{line_text};
+ghost use Rattle.member_au4.specs.declared.au4_link.draft.Link.{Link};
+ghost use Rattle.member_au4.specs.au4_link.Link.{link_of};
+ghost use Rattle.member_au4.specs.au4_link.Carried.{carried_text};
 ghost use Rattle.member_au4.specs.au4_link.Helps.{kind_of, help_of};
 ghost use Rattle.command_walk.specs.rooms.Au4.{au4_words, au4_answer};
 
@@ -64,3 +67,10 @@ pub fn au4<S: ByteSource, K: ByteSink, E: ByteSink>(
         Err(Failed) => cut(None, notes),
     }
 }
+
+/// Of each text that says a link, what is written is a line for each VC-4 that a sink gives of the frames that a
+/// source sends with the numbered VC-4s, and the counts; which these are, `au4_link::text_law` of `member_au4` says.
+pub fn au4_law()
+    ensures { (text : List ℕ) (link : Link) → link_of text ≡ Ok link →
+        au4_answer text ≡ writes (carried_text link) }
+{}

@@ -1,11 +1,13 @@
 //! `channels`: frames of clients share a stream by channel numbers, octets of it don't arrive, and the frames that get
 //! through are written.
-ghost use Rattle.std.specs.Prelude.{◌≡◌, None, map, string_bytes};
+ghost use Rattle.std.specs.Prelude.{◌≡◌, ℕ, List, Ok, None, map, string_bytes};
 ghost use Rattle.command_parts.specs.Task.{reads};
 ghost use Rattle.command_parts.specs.Ends.{Ends, lent};
 ghost use Rattle.command_parts.specs.Faults.{line_text};
+ghost use Rattle.gfp_channels.specs.declared.channel_link.draft.ChannelPlan.{ChannelPlan};
+ghost use Rattle.gfp_channels.specs.channel_link.Plan.{plan_of};
 ghost use Rattle.gfp_channels.specs.channel_link.Helps.{kind_of, help_of};
-ghost use Rattle.command_walk.specs.rooms.Channels.{channels_words, channels_answer};
+ghost use Rattle.command_walk.specs.rooms.Channels.{channels_words, channels_answer, TellsPlan};
 
 use crate::command::WalkCommand;
 use crate::end::{WalkEnd, cut, done, stopped};
@@ -69,3 +71,9 @@ pub fn channels<S: ByteSource, K: ByteSink, E: ByteSink>(
         Err(Failed) => cut(None, notes),
     }
 }
+
+/// Of each text that says a plan, what is written are got lines, of each channel just those of the frames that are
+/// carried or kept, the lines of refused frames, and the counts.
+pub fn channels_law()
+    ensures { (text : List ℕ) (plan : ChannelPlan) → plan_of text ≡ Ok plan → TellsPlan text plan }
+{}

@@ -1,10 +1,16 @@
 //! `fates`: a script's walk is made, and what became of each of its frames is written, with the rows that
 //! were spoiled and what was confirmed after each break.
-ghost use Rattle.std.specs.Prelude.{◌≡◌, ◌≢◌, None, map, string_bytes};
+ghost use Rattle.std.specs.Prelude.{◌≡◌, ◌≢◌, ◌≤◌, ℕ, List, [], length, Ok, None, map, string_bytes};
+ghost use Rattle.law_model.specs.declared.script.Script.{Script};
+ghost use Rattle.law_model.specs.session.Leg.{leg_of};
+ghost use Rattle.law_walk.specs.Report.{final_report};
+ghost use Rattle.text_scripts.specs.script_read.Script.{script_of};
+ghost use Rattle.law_headline.specs.Headline.{IsRunReport};
+ghost use Rattle.law_model.specs.Limits.{longest_input};
 ghost use Rattle.command_parts.specs.Status.{HasRunAt};
-ghost use Rattle.command_parts.specs.Task.{reads};
+ghost use Rattle.command_parts.specs.Task.{reads, writes};
 ghost use Rattle.command_parts.specs.Ends.{Ends, lent};
-ghost use Rattle.command_walk.specs.rooms.Fates.{fates_words, fates_answer};
+ghost use Rattle.command_walk.specs.rooms.Fates.{fates_words, fates_answer, EndsTrue, WalksTrue};
 ghost use Rattle.command_walk.specs.Ended.{HandsScript};
 
 use crate::command::WalkCommand;
@@ -34,7 +40,7 @@ pub fn fates<S: ByteSource, K: ByteSink, E: ByteSink>(
 ) -> WalkEnd
     // That the text says `starts true` exactly where what is confirmed first after each break is the place of
     // a piece, and that then the frames with the fate `got` are the delivered ones, in order and each once,
-    // is `fate_law` of the crate of that name.
+    // is `fate_law` of `fate_engine`; what `walk` then writes is `starts_law`.
     ensures ends { Ends (lent S.left S.faults script.old script.new)
         (lent K.written K.faults out.old out.new) (lent E.written E.faults notes.old notes.new)
         (reads fates_answer) result.status }
@@ -51,3 +57,13 @@ pub fn fates<S: ByteSource, K: ByteSink, E: ByteSink>(
         Err(Failed) => cut(Some(watched.walk), notes),
     }
 }
+
+/// Of each text of at most 67,108,864 octets: if what `fates` writes of it ends in `starts true`, what `walk`
+/// writes of it is its headline with nothing presumed; and what `run` writes too, if it has no event lines.
+pub fn starts_law()
+    ensures walk { (text fates : List ℕ) → length text ≤ longest_input →
+        fates_answer text ≡ writes fates → EndsTrue fates → WalksTrue text }
+    ensures run { (text fates : List ℕ) (script : Script) → length text ≤ longest_input →
+        script_of text ≡ Ok script → script.events ≡ [] → fates_answer text ≡ writes fates →
+        EndsTrue fates → IsRunReport text (final_report (leg_of script)) }
+{}

@@ -1,9 +1,12 @@
 //! `noise`: frames with an FCS are sent, bits of their stream are turned over, and the frames that get
 //! through are written.
-ghost use Rattle.std.specs.Prelude.{◌≡◌, None, map, string_bytes};
-ghost use Rattle.command_parts.specs.Task.{reads};
+ghost use Rattle.std.specs.Prelude.{◌≡◌, ℕ, List, Ok, None, map, string_bytes};
+ghost use Rattle.command_parts.specs.Task.{reads, writes};
 ghost use Rattle.command_parts.specs.Ends.{Ends, lent};
 ghost use Rattle.command_parts.specs.Faults.{line_text};
+ghost use Rattle.gfp_noise.specs.declared.noise_link.draft.Noise.{Noise};
+ghost use Rattle.gfp_noise.specs.noise_link.Noise.{noise_of};
+ghost use Rattle.gfp_noise.specs.noise_link.Text.{AreSingle, untouched_text};
 ghost use Rattle.gfp_noise.specs.noise_link.Helps.{kind_of, help_of};
 ghost use Rattle.command_walk.specs.rooms.Noise.{noise_words, noise_answer};
 
@@ -69,3 +72,10 @@ pub fn noise<S: ByteSource, K: ByteSink, E: ByteSink>(
         Err(Failed) => cut(None, notes),
     }
 }
+
+/// Of each text that says frames and flips which are single, what is written is a line for each frame whose area
+/// and the 43 area bits before it have no flip, in order, and the counts.
+pub fn noise_law()
+    ensures { (text : List ℕ) (noise : Noise) → noise_of text ≡ Ok noise → AreSingle noise →
+        noise_answer text ≡ writes (untouched_text noise) }
+{}

@@ -10,7 +10,7 @@ use Rattle.command_walk.specs.rooms.Stream.{stream_answer}
 use Rattle.command_walk.specs.Commands.{command_in}
 use Rattle.command_walk.proofs.CommandLaws.{fits, not-run, any-command, no-such-command, ends-made, ends-usage}
 use Rattle.command_walk.proofs.CommandLaws.{ends-wanting}
-use Rattle.command_walk.proofs.RoomLaws.{some-command, tells-headline}
+use Rattle.command_walk.proofs.RoomLaws.{some-command, tells-headline, tells-pair}
 use Rattle.command_walk.proofs.top.walk_top.Goals as goal
 
 pub returns-in-Ok-Walk-clause-headline : goal.returns-in-Ok-Walk-clause-headline
@@ -49,6 +49,13 @@ returns-in-Ok-Capture-clause-handed g c =
 pub returns-in-Ok-Gfp-clause-handed : goal.returns-in-Ok-Gfp-clause-handed
 returns-in-Ok-Gfp-clause-handed g c =
     some-command _ (command_in c.args.words.now) Gfp (search rules) c.gfp.ensures.handed
+
+pub returns-in-Ok-Pair-clause-ways : goal.returns-in-Ok-Pair-clause-ways
+returns-in-Ok-Pair-clause-ways g c is =
+    tells-pair (lent g.S.ByteSource.left g.S.ByteSource.faults c.args.script.now c.pair.new.script)
+    (lent g.K.ByteSink.written g.K.ByteSink.faults c.args.out.now c.pair.new.out)
+    (lent g.E.ByteSink.written g.E.ByteSink.faults c.args.notes.now c.pair.new.notes) c.pair.result.status
+    c.pair.ensures.ends
 
 pub make-requires-clause-lines : goal.make-requires-clause-lines
 make-requires-clause-lines g c =
