@@ -9,8 +9,10 @@ import pathlib
 import re
 
 TOP = pathlib.Path(__file__).resolve().parent.parent
-# A sentence of more words is cut at its first colon or semicolon.
-LONG = 18
+# A sentence of more words is cut at its first colon, semicolon or comma: of a crate, and of a module.
+LONG, LONG_OF_MODULE = 18, 9
+# Not at a comma of a list, nor in brackets.
+CUT = re.compile(r"(?:[:;]|,(?! (?:a|and|of|the|what|\w+ and) ))\s(?![^(]*\))")
 
 
 def head(path):
@@ -24,10 +26,10 @@ def head(path):
 
 
 def sentence(words, long, least):
-    """The first sentence of a text, without its full stop; up to its first colon or semicolon if it is long, and that leaves enough words of it."""
+    """The first sentence of a text, without its full stop; if it is long, up to the first place for a cut that leaves enough words of it."""
     first = re.split(r"\.(?:\s|$)", " ".join(words.split()), maxsplit=1)[0]
-    short = re.split(r"[:;]\s", first, maxsplit=1)[0]
-    return short if len(first.split()) > long and len(short.split()) >= least else first
+    shorts = [first[:match.start()] for match in CUT.finditer(first)] if len(first.split()) > long else []
+    return next((short for short in shorts if len(short.split()) >= least), first)
 
 
 def parts(name):
@@ -38,8 +40,8 @@ def parts(name):
     modules = []
     for bullet in filter(None, bullets.split("\n- ")):
         module, _, what = " ".join(bullet.split()).partition(": ")
-        modules.append((module, sentence(what, 0, 3)))
-    return sentence(text, LONG, 5), modules
+        modules.append((module, re.sub(r" \(G[^)]*\)", "", sentence(what, LONG_OF_MODULE, 3))))
+    return sentence(text, LONG, 3), modules
 
 
 def sections():
