@@ -18,10 +18,11 @@ use Rattle.command_parts.proofs.StopLaws.{made-beside, ends-no-memory}
 use Rattle.command_walk.specs.declared.command.WalkCommand.{WalkCommand}
 use Rattle.command_walk.specs.declared.command.WalkCommand.TheVariants.{Walk, Trace, Fates, Capture, Gfp, Frames}
 use Rattle.command_walk.specs.declared.command.WalkCommand.TheVariants.{Decode, Noise, Au4, Channels, Pair, Make}
-use Rattle.command_walk.specs.declared.command.WalkCommand.TheVariants.{Stream}
+use Rattle.command_walk.specs.declared.command.WalkCommand.TheVariants.{Service, Stream}
 use Rattle.command_walk.specs.rooms.Walk.{word_at, is_word, walk_words}
 use Rattle.command_walk.specs.rooms.Trace.{trace_words}
 use Rattle.command_walk.specs.rooms.Fates.{fates_words}
+use Rattle.command_walk.specs.rooms.Service.{interval_of, service_words}
 use Rattle.command_walk.specs.rooms.Capture.{capture_words}
 use Rattle.command_walk.specs.rooms.Gfp.{gfp_words}
 use Rattle.command_walk.specs.rooms.Frames.{frames_words}
@@ -41,6 +42,7 @@ abbrev pub Fits : WalkCommand → Type 0
 Fits Walk = Unit {0}
 Fits Trace = Unit {0}
 Fits Fates = Unit {0}
+Fits (Service interval) = IsWithin 1 1000000 interval
 Fits Capture = Unit {0}
 Fits Gfp = Unit {0}
 Fits Frames = Unit {0}
@@ -110,6 +112,16 @@ trace-fits words = if-fits (is_word (codes "trace") words) (Some Trace) tt
 fates-fits : (words : List (List ℕ)) → IfSome (fates_words words) Fits
 fates-fits words = if-fits (is_word (codes "fates") words) (Some Fates) tt
 
+interval-fits : (interval : Option ℕ) → IfSome interval (IsWithin 1 1000000) → IfSome (interval_of interval) Fits
+interval-fits (Some interval) within = within
+interval-fits None within = tt
+
+service-fits : (words : List (List ℕ)) → IfSome (service_words words) Fits
+service-fits words =
+    if-fits (length words == 2 && bytes_eq (word_at 0 words) (codes "service"))
+    (interval_of (number_in 1 1000000 (word_at 1 words)))
+    (interval-fits (number_in 1 1000000 (word_at 1 words)) (number-fits 1 1000000 (word_at 1 words)))
+
 capture-fits : (words : List (List ℕ)) → IfSome (capture_words words) Fits
 capture-fits words = if-fits (is_word (codes "capture") words) (Some Capture) tt
 
@@ -164,7 +176,8 @@ named-fits words =
     let walks = walk_words words in
     let traces = option_or walks (trace_words words) in
     let fates = option_or traces (fates_words words) in
-    let captures = option_or fates (capture_words words) in
+    let services = option_or fates (service_words words) in
+    let captures = option_or services (capture_words words) in
     let gfps = option_or captures (gfp_words words) in
     let frames = option_or gfps (frames_words words) in
     let decodes = option_or frames (decode_words words) in
@@ -182,9 +195,11 @@ named-fits words =
     (or-fits frames (decode_words words)
     (or-fits gfps (frames_words words)
     (or-fits captures (gfp_words words)
-    (or-fits fates (capture_words words)
+    (or-fits services (capture_words words)
+    (or-fits fates (service_words words)
     (or-fits traces (fates_words words)
-    (or-fits walks (trace_words words) (walk-fits words) (trace-fits words)) (fates-fits words)) (capture-fits words))
+    (or-fits walks (trace_words words) (walk-fits words) (trace-fits words)) (fates-fits words)) (service-fits words))
+    (capture-fits words))
     (gfp-fits words))
     (frames-fits words))
     (decode-fits words)) (noise-fits words)) (au4-fits words))
@@ -215,6 +230,7 @@ is-command None some = some refl
 is-command (Some Walk) some = tt
 is-command (Some Trace) some = tt
 is-command (Some Fates) some = tt
+is-command (Some (Service interval)) some = tt
 is-command (Some Capture) some = tt
 is-command (Some Gfp) some = tt
 is-command (Some Frames) some = tt

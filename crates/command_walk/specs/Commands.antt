@@ -10,13 +10,14 @@ use Rattle.walk_engine.specs.walk_core.Moved.{Walked}
 use Rattle.command_walk.specs.declared.command.WalkCommand.{WalkCommand}
 use Rattle.command_walk.specs.declared.command.WalkCommand.TheVariants.{Walk, Trace, Fates, Capture, Gfp, Frames}
 use Rattle.command_walk.specs.declared.command.WalkCommand.TheVariants.{Decode, Noise, Au4, Channels, Pair, Make}
-use Rattle.command_walk.specs.declared.command.WalkCommand.TheVariants.{Stream}
+use Rattle.command_walk.specs.declared.command.WalkCommand.TheVariants.{Service, Stream}
 use Rattle.command_walk.specs.rooms.Walk.{walk_words, walk_answer}
 use Rattle.command_walk.specs.rooms.Trace.{trace_words, trace_answer}
 use Rattle.command_walk.specs.rooms.Capture.{capture_words, capture_answer}
 use Rattle.command_walk.specs.rooms.Gfp.{gfp_words, gfp_answer}
 use Rattle.command_walk.specs.rooms.Frames.{frames_words, frames_answer}
 use Rattle.command_walk.specs.rooms.Fates.{fates_words, fates_answer}
+use Rattle.command_walk.specs.rooms.Service.{service_words, service_answer}
 use Rattle.command_walk.specs.rooms.Decode.{decode_words, decode_answer}
 use Rattle.command_walk.specs.rooms.Noise.{noise_words, noise_answer}
 use Rattle.command_walk.specs.rooms.Au4.{au4_words, au4_answer}
@@ -28,15 +29,16 @@ use Rattle.command_walk.specs.rooms.Stream.{stream_words, stream_answer}
 use Rattle.command_walk.specs.Ended.{IsWalkOf, HandsScript}
 
 abbrev pub usage : List ℕ
-usage = codes "usage: vcat_walk walk, trace, fates, capture, gfp, frames, decode, noise, au4, channels, pair, make NUMBER LINES TICKS, or stream OCTETS MBITS FIRST END NUMBER\n"
+usage = codes "usage: vcat_walk walk, trace, fates, service INTERVAL, capture, gfp, frames, decode, noise, au4, channels, pair, make NUMBER LINES TICKS, or stream OCTETS MBITS FIRST END NUMBER\n"
 
 -- ---- a line for each command
 abbrev pub command_of : List (List ℕ) → Option WalkCommand
 command_of words =
-    option_or (option_or (option_or (option_or (option_or
+    option_or (option_or (option_or (option_or (option_or (option_or
     (option_or (option_or (option_or (option_or (option_or (option_or (option_or (walk_words words)
     (trace_words words))
     (fates_words words))
+    (service_words words))
     (capture_words words))
     (gfp_words words))
     (frames_words words))
@@ -52,6 +54,7 @@ abbrev pub task_at : WalkCommand → Task
 task_at Walk = reads walk_answer
 task_at Trace = reads trace_answer
 task_at Fates = reads fates_answer
+task_at (Service interval) = reads (service_answer interval)
 task_at Capture = reads capture_answer
 task_at Gfp = reads gfp_answer
 task_at Frames = reads frames_answer
@@ -67,6 +70,7 @@ abbrev pub HandsBack : {S : Type 0} → Lent S → Option Walked → WalkCommand
 HandsBack source walk Walk = HandsScript source walk
 HandsBack source walk Trace = HandsScript source walk
 HandsBack source walk Fates = HandsScript source walk
+HandsBack source walk (Service interval) = HandsScript source walk
 HandsBack source walk Capture = HandsScript source walk
 HandsBack source walk Gfp = HandsScript source walk
 HandsBack source walk Frames = walk ≡ None
@@ -83,6 +87,7 @@ abbrev pub RunsScript : WalkCommand → Type 0
 RunsScript Walk = Unit {0}
 RunsScript Trace = Unit {0}
 RunsScript Fates = ⊥
+RunsScript (Service interval) = ⊥
 RunsScript Capture = ⊥
 RunsScript Gfp = ⊥
 RunsScript Frames = ⊥

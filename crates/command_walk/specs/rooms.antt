@@ -11,4 +11,5 @@ pub mod Au4
 pub mod Channels
 pub mod Pair
 pub mod Make
+pub mod Service
 pub mod Stream

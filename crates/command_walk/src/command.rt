@@ -1,7 +1,7 @@
 //! The commands of the program, a line for each.
 
 use crate::rooms::{
-    au4, capture, channels, decode, fates, frames, gfp, make, noise, pair, stream, trace, walk,
+    au4, capture, channels, decode, fates, frames, gfp, make, noise, pair, service, stream, trace, walk,
 };
 use text_scripts::rate_load::RateLoad;
 use text_words::FromWords;
@@ -15,6 +15,9 @@ pub enum WalkCommand {
     Trace,
     /// `fates`: make the walk of a script, and write what became of each frame.
     Fates,
+    /// `service`: make the walk of a script, and write what it was worth to its client, by stretches of 1 to
+    /// 1,000,000 ticks.
+    Service { interval: u32 },
     /// `capture`: make the walk of a script, and write a capture of the frames that it delivers.
     Capture,
     /// `gfp`: make the walk of a script, and write a capture of the GFP frames of its client.
@@ -46,6 +49,7 @@ impl FromWords for WalkCommand {
         walk::words(words)
             .or(trace::words(words))
             .or(fates::words(words))
+            .or(service::words(words))
             .or(capture::words(words))
             .or(gfp::words(words))
             .or(frames::words(words))

@@ -20,6 +20,7 @@ use crate::rooms::gfp::gfp;
 use crate::rooms::make::make;
 use crate::rooms::noise::noise;
 use crate::rooms::pair::pair;
+use crate::rooms::service::service;
 use crate::rooms::stream::stream;
 use crate::rooms::trace::trace;
 use crate::rooms::walk::walk;
@@ -32,8 +33,9 @@ use text_words::{WordFault, read_words};
 /// lines of the frames that it delivers, the lines of refused items, and the line of totals; without event
 /// lines the walk drains, and with event lines it makes just these. `trace` does the same, and writes a line
 /// for each decision step of the source on `notes`. `make` runs the load of a number and writes three lines.
-/// `fates` makes the walk of a script and writes what became of each of its frames. `capture` makes the walk
-/// of a script and writes a capture of the frames that it delivers, `gfp` one of the GFP frames that its
+/// `fates` makes the walk of a script and writes what became of each of its frames. `service` does so too, and
+/// writes what the walk was worth to its client, by stretches of ticks. `capture` makes the walk of a script
+/// and writes a capture of the frames that it delivers, `gfp` one of the GFP frames that its
 /// source sent and the taken rows carry. `frames` reads a capture and writes the line of a script for each
 /// frame in it. `decode` reads the H4 octets of a line in hexadecimal digits and writes the control packets
 /// in them. `noise` reads frames and flips, and writes the frames with an FCS that get through when these
@@ -87,6 +89,7 @@ pub fn walk_top<S: ByteSource, K: ByteSink, E: ByteSink>(
         Ok(WalkCommand::Walk) => walk(alloc, script, out, notes),
         Ok(WalkCommand::Trace) => trace(alloc, script, out, notes),
         Ok(WalkCommand::Fates) => fates(alloc, script, out, notes),
+        Ok(WalkCommand::Service { interval }) => service(alloc, interval, script, out, notes),
         Ok(WalkCommand::Capture) => capture(alloc, script, out, notes),
         Ok(WalkCommand::Gfp) => gfp(alloc, script, out, notes),
         Ok(WalkCommand::Frames) => frames(alloc, script, out, notes),
@@ -115,7 +118,7 @@ fn no_command<E: ByteSink>(notes: &mut E) -> WalkEnd
     ensures told { Tells E.written E.faults notes.old notes.new usage }
 {
     let text =
-        b"usage: vcat_walk walk, trace, fates, capture, gfp, frames, decode, noise, au4, channels, pair, make NUMBER LINES TICKS, or stream OCTETS MBITS FIRST END NUMBER\n";
+        b"usage: vcat_walk walk, trace, fates, service INTERVAL, capture, gfp, frames, decode, noise, au4, channels, pair, make NUMBER LINES TICKS, or stream OCTETS MBITS FIRST END NUMBER\n";
     let status = tell_usage(text, notes);
     WalkEnd { status, walk: None }
 }

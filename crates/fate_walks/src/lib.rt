@@ -11,5 +11,5 @@
 #![tactic(auto)]
 
 pub mod walk_fates;
-mod walk_frames;
+pub mod walk_frames;
 pub mod walk_gfp;

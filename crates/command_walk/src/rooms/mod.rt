@@ -10,6 +10,7 @@ pub(super) mod gfp;
 pub(super) mod make;
 pub(super) mod noise;
 pub(super) mod pair;
+pub(super) mod service;
 pub(super) mod stream;
 pub(super) mod trace;
 pub(super) mod walk;

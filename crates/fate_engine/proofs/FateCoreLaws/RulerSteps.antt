@@ -1,9 +1,10 @@
 -- What the calls of a ruler do to its fields.
-use Rattle.std.proofs.Common.{◌≡◌, ℕ, zero, suc, ◌+◌, ◌-◌, ◌*◌, ◌/◌, ◌^◌, ◌<◌, ◌≤◌, true, false, nat_le, List, [], ◌∷◌}
+use Rattle.std.proofs.Common.{◌≡◌, ℕ, zero, suc, ◌+◌, ◌-◌, ◌*◌, ◌/◌, ◌^◌, ◌<◌, ◌≤◌, true, false, nat_le, nat_lt, List, []}
+use Rattle.std.proofs.Common.{◌∷◌, filter}
 use Rattle.std.proofs.Common.{◌++◌, length, map, take, drop, slice_get, slice_index_or, slice_set, All, Some, refl, sym}
 use Rattle.std.proofs.Common.{◌∙◌, ap, ap₂, subst, arith}
 use Rattle.std.specs.List.Sorted.{IsPartitionedBy, IsPartitionPoint}
-use Rattle.std.proofs.lemmas.Bool.{le-leb, lt-leb, leb-true, leb-false}
+use Rattle.std.proofs.lemmas.Bool.{le-leb, lt-leb, leb-true, leb-false, lt-ltb, ltb-true}
 use Rattle.std.proofs.lemmas.List.{length-map, map-append}
 use Rattle.std.proofs.lemmas.List.Elements.{All-cons}
 use Rattle.fate_engine.specs.fate_law.Ruler.{Ruler, ruled}
@@ -242,3 +243,31 @@ is-begun frames place i within point = record {
       omega (arith, begins, one, other);
   above = above frames place i point;
 }
+
+-- ---- the frames that begin before a place
+pub parted-before : (frames : List Piece) (end place : ℕ) → AreInOrder 0 (map side_of frames) end →
+    IsPartitionedBy (λ (p : Piece). nat_lt p.from place) frames
+parted-before frames end place are i j d before within passed =
+    let count = length-map frames side_of in
+    let rise = (sides-rise 0 (map side_of frames) end i j (side_of d) are before (omega (arith, within, count))).1 in
+    let one = ap (λ (s : ℕ × ℕ). s.0) (map-at frames i d (omega (arith, before, within))) in
+    let other = ap (λ (s : ℕ × ℕ). s.0) (map-at frames j d within) in
+    let low = ltb-true (slice_index_or frames j d).from place passed in
+    lt-ltb (slice_index_or frames i d).from place (omega (arith, rise, one, other, low))
+
+abbrev pub BegunBefore : List Piece → ℕ → ℕ → Type 0
+BegunBefore frames place i = IsPartitionPoint (λ (p : Piece). nat_lt p.from place ≡ true)
+    (λ (p : Piece). nat_lt p.from place ≡ false) frames i
+
+pub count-before : (frames : List Piece) (place i : ℕ) → i ≤ length frames → BegunBefore frames place i →
+    i ≡ length (filter (λ (side : ℕ × ℕ). nat_lt side.0 place) (map side_of frames))
+count-before [] place i within point = omega (arith, within)
+count-before (x ∷ frames) place zero within point =
+    let rest = count-before frames place zero (omega arith)
+    ((λ k d least low. absurd (omega (arith, low))), (λ k d from low. point.1 (suc k) d (omega arith) (omega (arith, low)))) in
+    rw (point.1 0 x (omega arith) (omega arith)) rest
+count-before (x ∷ frames) place (suc i) within point =
+    let rest = count-before frames place i (omega (arith, within))
+    ((λ k d least low. point.0 (suc k) d (omega arith) (omega (arith, low))),
+    (λ k d from low. point.1 (suc k) d (omega (arith, from)) (omega (arith, low)))) in
+    rw (point.0 0 x (omega arith) (omega arith)) (omega (arith, rest))

@@ -1,6 +1,6 @@
 -- What is kept of accepted frames.
 use Rattle.std.specs.Prelude.{◌≡◌, ℕ, ◌+◌, ◌-◌, ◌%◌, ◌==◌, ◌&&◌, nat_le, ◌≤◌, ◌<◌, ◌^◌, Bool, List, [], ◌∷◌, ◌++◌, map}
-use Rattle.std.specs.Prelude.{take, drop, length, All, Some, slice_get, slice_index_or}
+use Rattle.std.specs.Prelude.{take, drop, length, filter, nat_lt, All, Some, slice_get, slice_index_or}
 use Rattle.fate_engine.specs.fate_law.Ruler.{Ruler}
 use Rattle.fate_engine.specs.declared.fate_core.ruler.Piece.{Piece}
 
@@ -38,6 +38,10 @@ pub record IsBegun (sent : List (ℕ × ℕ)) (place i : ℕ) : Type 0 where
   pub within : i ≤ length sent
   pub begun : (k : ℕ) (side : ℕ × ℕ) → k < i → slice_get sent k ≡ Some side → side.0 ≤ place
   pub above : (k : ℕ) (d : ℕ × ℕ) → i ≤ k → k < length sent → place < (slice_index_or sent k d).0
+
+-- how many frames begin before a place
+abbrev pub begun_before : ℕ → List (ℕ × ℕ) → ℕ
+begun_before place sent = length (filter (λ (side : ℕ × ℕ). nat_lt side.0 place) sent)
 
 -- what is true of the fields
 pub record IsRuler (frames : List Piece) (begun end : ℕ) : Type 0 where

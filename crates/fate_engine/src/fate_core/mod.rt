@@ -18,6 +18,6 @@ pub use cause::row_cause;
 pub use frame_fate::{fate, starts_true};
 pub use packets::Packets;
 pub use ruler::Ruler;
-pub use segments::Segments;
+pub use segments::{Around, Segments};
 pub use spoiled::SpoiledRuns;
 pub use totals::FateTotals;

@@ -4,7 +4,7 @@ ghost use Rattle.std.specs.Prelude.{OnErr, IfSome, IfNone, Option};
 ghost use Rattle.law_model.specs.session.Scenario.{Scenario};
 ghost use Rattle.law_model.specs.source.Table.{Told, active};
 ghost use Rattle.law_model.specs.source.Source.{table_of};
-ghost use Rattle.law_model.specs.source.Client.{place_of};
+ghost use Rattle.law_model.specs.source.Client.{place_of, width};
 ghost use Rattle.fate_engine.specs.fate_core.Packets.{ArePackets, start_by};
 
 use arrayvec::ArrayVec;
@@ -126,11 +126,26 @@ impl Packets {
     /// The active lines under a packet.
     pub fn active(&self, packet: usize) -> &[u8]
         requires { packet < length self.now.active }
-        ensures { (scenario : Scenario) (cells : List (Option Told)) →
+        ensures few { length result.now ≤ 128 }
+        ensures lines { (scenario : Scenario) (cells : List (Option Told)) →
             ArePackets scenario cells self.now →
             result.now ≡ active (table_of scenario cells packet) }
     {
         &self.packets[packet].lines
+    }
+
+    /// How many lines carry payload in a row.
+    pub fn width_in(&self, row: u32) -> u32
+        requires { row < 16 * length self.now.active + 24 }
+        ensures few { result ≤ 128 }
+        ensures width { (scenario : Scenario) (cells : List (Option Told)) →
+            ArePackets scenario cells self.now → result ≡ width scenario cells row }
+    {
+        if row < FIRST {
+            return 0;
+        }
+        let lines = self.active(self.packet_of(row) as usize);
+        lines.len() as u32
     }
 
     /// The packet in whose rows a place lies.

@@ -4,7 +4,7 @@ ghost use Rattle.std.specs.Prelude.{slice_get, IfSome};
 ghost use Rattle.law_model.specs.source.Client.{Stream};
 ghost use Rattle.fate_engine.specs.fate_law.Ruler.{new_ruler, ruler_of, ruled, with_waiting};
 ghost use Rattle.fate_engine.specs.fate_law.Marks.{is_piece_at};
-ghost use Rattle.fate_engine.specs.fate_core.Sides.{with_begun, is_fourth, IsBegun};
+ghost use Rattle.fate_engine.specs.fate_core.Sides.{with_begun, is_fourth, IsBegun, begun_before};
 
 use std::alloc::{AllocError, Global};
 use std::marker::Model;
@@ -117,6 +117,13 @@ impl Ruler {
         }
         let Piece { from, length } = self.frames[frame];
         Some((from, from + (HEADERS + u64::from(length))))
+    }
+
+    /// How many pieces of frames begin before a place.
+    pub fn begun_before(&self, place: u64) -> usize
+        ensures { result ≡ begun_before place self.now.sent }
+    {
+        self.frames[..self.begun].partition_point(|piece| piece.from < place)
     }
 
     /// Whether a piece begins at a place.

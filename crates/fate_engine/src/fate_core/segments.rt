@@ -10,15 +10,15 @@ use crate::fate_law::RowSegment;
 use std::alloc::{AllocError, Global};
 use std::marker::Model;
 
-/// Where a row lies.
+/// Where a row lies among segments.
 #[derive(Clone, Copy)]
-pub(super) struct Around {
+pub struct Around {
     /// The first row from it on that isn't whole.
-    pub(super) spoiled: u32,
+    pub spoiled: u32,
     /// It lies in the first segment.
-    pub(super) first: bool,
+    pub first: bool,
     /// The mark of its segment, where it lies in another one.
-    pub(super) mark: Option<u64>,
+    pub mark: Option<u64>,
 }
 
 /// In a segment but the first.
@@ -141,7 +141,7 @@ impl Segments {
     }
 
     /// Where a row lies.
-    pub(super) fn around(&self, row: u32) -> Around
+    pub fn around(&self, row: u32) -> Around
         ensures { (rows : List StreamRow) → Stands self.now rows → row < length rows →
             IsAround rows row result }
     {

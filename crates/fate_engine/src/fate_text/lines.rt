@@ -38,7 +38,7 @@ pub struct Tally {
 }
 
 /// Whether something is so, in words.
-fn truth(is: bool) -> &'static [u8]
+pub fn truth(is: bool) -> &'static [u8]
     ensures text { result.now ≡ truth_text is }
     ensures short { length result.now ≤ 5 }
 {
@@ -58,7 +58,7 @@ fn add_rows(line: &mut LineCursor, first: u32, last: u32)
 }
 
 /// Adds why rows aren't whole.
-fn add_cause(line: &mut LineCursor, cause: Cause)
+pub fn add_cause(line: &mut LineCursor, cause: Cause)
     requires { HasRoom line.old 13 }
     ensures text { Extends line.old line.new (cause_text cause) }
     ensures end { line.new.at ≤ line.old.at + 13 }

@@ -7,5 +7,6 @@
 mod lines;
 
 pub use lines::{
-    ROOM, Tally, ToldMark, fate_line, fates_line, refused_line, segment_line, spoiled_line,
+    ROOM, Tally, ToldMark, add_cause, fate_line, fates_line, refused_line, segment_line,
+    spoiled_line, truth,
 };

@@ -3,6 +3,7 @@ use Rattle.std.proofs.Common.{◌≡◌, ℕ, zero, suc, ◌+◌, ◌-◌, ◌*�
 use Rattle.std.proofs.Common.{[], ◌∷◌, ◌++◌, length, filter, take, drop, get_or, All, Option, Some, None, slice_get}
 use Rattle.std.proofs.Common.{refl, sym, ◌∙◌, ap, ap₂, subst, arith, inl, inr, append-nil, append_assoc, length-append}
 use Rattle.std.proofs.Common.{length-take}
+use Rattle.std.specs.Prelude.{if◌then◌else◌}
 use Rattle.std.specs.List.{flat_map, list_all, Contains}
 use Rattle.std.specs.Option.{option_map}
 use Rattle.std.proofs.lemmas.Bool.{cases_Bool}
@@ -34,6 +35,7 @@ use Rattle.fate_engine.specs.declared.fate_law.RowSegment.{RowSegment}
 use Rattle.fate_engine.specs.fate_law.Fates.{row_at}
 use Rattle.fate_engine.specs.fate_law.Marks.{is_piece_at, is_true_mark, has_true_mark, are_true_marks}
 use Rattle.fate_engine.specs.fate_law.Spans.{Span, spans, row_segment, row_segments_with, row_segments, has_row, later_segments}
+use Rattle.fate_engine.specs.fate_law.Spans.{mark_of_row}
 use Rattle.fate_engine.specs.fate_law.SessionFates.{End, refused, accepted, Ended, ended_by, ended_then, ended_on, ended_of}
 use Rattle.fate_engine.specs.fate_law.SessionFates.{fate_at, is_refused, has_got, has_waited, count_of}
 use Rattle.fate_engine.specs.fate_law.FateText.{ended_text, fates_end}
@@ -116,6 +118,27 @@ pub mark-low : (rows : List StreamRow) (segment : RowSegment) (place : ℕ) → 
     segment.mark ≡ Some place → place < length (octets_of_rows rows)
 mark-low rows segment place among marked =
     subst (MarkLow (length (octets_of_rows rows))) among.2 (later-low rows among.0 segment among.1) place marked
+
+row-mark-low : (n : ℕ) (segments : List RowSegment) (r place : ℕ) → All (MarkLow n) segments →
+    mark_of_row segments r ≡ Some place → place < n
+unfolding mark_of_row
+row-mark-low n [] r place low there = absurd (let e : None ≡ Some place = there in cc)
+row-mark-low n (segment ∷ segments) r place low there =
+    elim (cases_Bool (nat_lt r segment.end)) [
+      | inl here ↦ All-head (MarkLow n) segment segments low place
+          (let e : (if nat_lt r segment.end then segment.mark else mark_of_row segments r) ≡ Some place = there in
+          sym (rw here refl) ∙ e)
+      | inr later ↦ row-mark-low n segments r place (All-tail (MarkLow n) segment segments low)
+          (let e : (if nat_lt r segment.end then segment.mark else mark_of_row segments r) ≡ Some place = there in
+          sym (rw later refl) ∙ e)
+    ]
+
+-- a row's mark is a place of the rows
+pub mark-of-low : (rows : List StreamRow) (r place : ℕ) → mark_of_row (row_segments rows) r ≡ Some place →
+    place < length (octets_of_rows rows)
+mark-of-low rows r place there =
+    row-mark-low (length (octets_of_rows rows)) (row_segments rows) r place
+    (with-low (octets_of_rows rows) (spans rows) (segments rows) (parts-of rows)) there
 
 -- ---- the pieces of the ticks made
 pub piece-stays : (leg : Leg) (ticks rows place : ℕ) → rows ≤ ticks → ticks ≤ leg.config.ticks →
@@ -234,7 +257,7 @@ module _ (leg : Leg) (fate : ℕ → Fate) where
   then-same item None (Remove line) n xs ys same = same n
   then-same item (Some why) (Remove line) n xs ys same = same n
 
-  with-skips : (there : Bool) (item : Numbered) (rest : List Numbered) (n : ℕ) → is_client item.item.kind ≡ false →
+  pub with-skips : (there : Bool) (item : Numbered) (rest : List Numbered) (n : ℕ) → is_client item.item.kind ≡ false →
       ended_on leg fate (with_if there item rest) n ≡ ended_on leg fate rest n
   unfolding ended_on
   with-skips true item rest n other =
@@ -249,13 +272,13 @@ module _ (leg : Leg) (fate : ℕ → Fate) where
       then-same item (refusal_at leg item) item.item.kind n (ended_on leg fate xs) (ended_on leg fate ys) same
   with-same false item xs ys n same = same n
 
-  landed-client : (a b i : ℕ) (item : Item) (items : List Item) → is_client item.kind ≡ true →
+  pub landed-client : (a b i : ℕ) (item : Item) (items : List Item) → is_client item.kind ≡ true →
       landed_from a b i (item ∷ items) ≡ with_if (nat_lt 0 a) (record { number = i; item = item })
       (landed_from (a - 1) b (suc i) items)
   unfolding landed_from
   landed-client a b i item items client = rw client refl
 
-  landed-other : (a b i : ℕ) (item : Item) (items : List Item) → is_client item.kind ≡ false →
+  pub landed-other : (a b i : ℕ) (item : Item) (items : List Item) → is_client item.kind ≡ false →
       landed_from a b i (item ∷ items) ≡ with_if (nat_lt 0 b) (record { number = i; item = item })
       (landed_from a (b - 1) (suc i) items)
   unfolding landed_from

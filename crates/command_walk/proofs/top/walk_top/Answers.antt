@@ -4,6 +4,7 @@ use Rattle.law_headline.specs.Texts.{walk_text}
 use Rattle.command_parts.specs.Task.{writes, writes_both}
 use Rattle.command_parts.specs.Ends.{lent}
 use Rattle.command_walk.specs.declared.command.WalkCommand.TheVariants.{Walk, Trace, Fates, Capture, Gfp, Make, Stream}
+use Rattle.command_walk.specs.declared.command.WalkCommand.TheVariants.{Service}
 use Rattle.command_walk.specs.rooms.Trace.{trace_text}
 use Rattle.command_walk.specs.rooms.Make.{make_answer}
 use Rattle.command_walk.specs.rooms.Stream.{stream_answer}
@@ -41,6 +42,14 @@ returns-in-Ok-Trace-clause-handed g c =
 pub returns-in-Ok-Fates-clause-handed : goal.returns-in-Ok-Fates-clause-handed
 returns-in-Ok-Fates-clause-handed g c =
     some-command _ (command_in c.args.words.now) Fates (search rules) c.fates.ensures.handed
+
+pub service-requires : goal.service-requires
+service-requires g c = fits c.args.words.now (Service c.in-Ok-Service.interval) (search rules)
+
+pub returns-in-Ok-Service-clause-handed : goal.returns-in-Ok-Service-clause-handed
+returns-in-Ok-Service-clause-handed g c =
+    some-command _ (command_in c.args.words.now) (Service c.in-Ok-Service.interval) (search rules)
+    c.service.ensures.handed
 
 pub returns-in-Ok-Capture-clause-handed : goal.returns-in-Ok-Capture-clause-handed
 returns-in-Ok-Capture-clause-handed g c =

@@ -1,0 +1,10 @@
+pub mod PointLaws
+pub mod DelayLaws
+pub mod FrameLaws
+pub mod OrderLaws
+pub mod FoldLaws
+pub mod OutageLaws
+pub mod CountLaws
+pub mod StateLaws
+pub mod TextLaws
+pub mod LineTextLaws

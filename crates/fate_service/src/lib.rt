@@ -1,0 +1,24 @@
+//! What a walk was worth to its client: how many members carried payload and when, the outages with what they
+//! cost, and by stretches of ticks the frames and octets that were offered, refused, got and lost, the
+//! capacity, the queue and the delay. No turn is made here: it is all worked out from a walk that was seen,
+//! and what became of a frame is asked of `fate_walks`. Begin with `write_service`.
+//!
+//! - `landed`: the client's frames that have landed, in the columns that the sums need.
+//! - `rows`: what each taken row is: whole, whole and not yet of use, or not whole.
+//! - `outages`: the longest runs of rows that are of no use, and the frames that are lost in each.
+//! - `stretch`: the counts from one tick to another.
+//! - `delays`: the delays that so many frames don't exceed.
+//! - `lines`: the lines of the text.
+//! - `service`: what is found of a walk, and the text that is written of it.
+#![tactic(auto)]
+
+mod delays;
+mod landed;
+mod lines;
+mod members;
+mod outages;
+mod rows;
+mod service;
+mod stretch;
+
+pub use service::{Survey, survey_walk, write_service};
