@@ -4,6 +4,7 @@ pub mod OctetLaws
 pub mod RoomLaws
 pub mod ToldLaws
 pub mod EndLaws
+pub mod LandLaws
 pub mod LayLaws
 pub mod RunLaws
 pub mod WatchLaws

@@ -1,6 +1,6 @@
 //! What is seen of a walk after each turn: which lines carry payload under the packet that was begun, whether
 //! the row that was taken is whole and why not, and what is confirmed after it.
-ghost use Rattle.std.specs.Prelude.{◌≡◌, ◌+◌, ◌≤◌, OnOk};
+ghost use Rattle.std.specs.Prelude.{◌≡◌, ◌+◌, ◌≤◌, OnOk, OnErr};
 ghost use Rattle.std.specs.Bool.{OnTrue, OnFalse};
 ghost use Rattle.law_model.specs.session.Leg.{Leg, leg_of};
 ghost use Rattle.law_model.specs.session.Scenario.{steps_in};
@@ -48,8 +48,9 @@ fn see_row(walk: &Walk, row: u32, seen: &mut SeenRows) -> Result<(), AllocError>
     requires walked { IsWalked (leg_of walk.now.script) walk.now.counts }
     requires last { row + 1 ≡ walk.now.counts.rows }
     requires seen { Sees (leg_of walk.now.script) walk.now.counts.ticks row seen.old }
-    ensures { OnOk result
+    ensures ok { OnOk result
         (Sees (leg_of walk.now.script) walk.now.counts.ticks walk.now.counts.rows seen.new) }
+    ensures err { OnErr result (seen.new.segments ≡ seen.old.segments) }
 {
     let cause = row_cause(&walk.script().config.windows, &seen.packets, row);
     seen.runs.row(cause)?;
@@ -58,7 +59,8 @@ fn see_row(walk: &Walk, row: u32, seen: &mut SeenRows) -> Result<(), AllocError>
         .row(cause.is_none(), end, walk.first_confirmed())
 }
 
-/// Sees what came of a turn, after so many ticks and rows.
+/// Sees what came of a turn, after so many ticks and rows. Where memory is short the segments are as they
+/// were, while the packets and the runs may be ahead of them.
 pub fn see_since(walk: &Walk, ticks: u32, rows: u32, seen: &mut SeenRows) -> Result<(), AllocError>
     requires valid { IsValid walk.now.script }
     requires walked { IsWalked (leg_of walk.now.script) walk.now.counts }
@@ -67,8 +69,9 @@ pub fn see_since(walk: &Walk, ticks: u32, rows: u32, seen: &mut SeenRows) -> Res
     requires rows { rows ≤ walk.now.counts.rows }
     requires one { walk.now.counts.rows ≤ rows + 1 }
     requires seen { Sees (leg_of walk.now.script) ticks rows seen.old }
-    ensures { OnOk result
+    ensures ok { OnOk result
         (Sees (leg_of walk.now.script) walk.now.counts.ticks walk.now.counts.rows seen.new) }
+    ensures err { OnErr result (seen.new.segments ≡ seen.old.segments) }
 {
     let totals = walk.totals();
     if is_step(ticks, totals.ticks) {

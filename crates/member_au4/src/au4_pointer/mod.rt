@@ -5,8 +5,8 @@
 //! memory. Groups of lines and text are not here.
 
 ghost use Rattle.std.specs.Prelude.{◌≡◌, ◌≢◌, ℕ, ◌+◌, ◌-◌, ◌*◌, ◌%◌, ◌<◌, ◌≤◌, ◌↔◌, List, [], ◌∷◌, ◌++◌, length};
-ghost use Rattle.std.specs.Prelude.{replicate};
-ghost use Rattle.member_au4.specs.au4_pointer.Word.{word_of, next_value, value_after, new_wait};
+ghost use Rattle.std.specs.Prelude.{replicate, Some, None, Err};
+ghost use Rattle.member_au4.specs.au4_pointer.Word.{word_of, next_value, value_after, new_wait, reading};
 ghost use Rattle.member_au4.specs.au4_pointer.Part.{Part, AreVcs, begins, ends, begun, part_after, whole};
 ghost use Rattle.member_au4.specs.au4_pointer.Sink.{given, added};
 ghost use Rattle.member_au4.specs.au4_pointer.Source.{frame_after};
@@ -119,4 +119,12 @@ pub fn worked_law()
     ensures two_whole { whole 5 worked_actions worked_vcs ≡ (0 ∷ []) ∷ (2 ∷ []) ∷ [] }
     ensures four_begun { begun (part_after 0 worked_actions) ≡ 4 }
     ensures one_cut { begun (part_after 5 worked_actions) ≡ 4 }
+{}
+
+/// Worked: the words that a sink refuses, behind a frame with a next value or behind none.
+pub fn refused_law()
+    ensures flag { reading None 0x3805 ≡ Err (PointerWordFault.Flag 3) }
+    ensures range { reading None 0x9b0f ≡ Err (PointerWordFault.Range 783) }
+    ensures later_range { reading (Some 5) 0x9b0f ≡ Err (PointerWordFault.Range 783) }
+    ensures unexpected { reading (Some 5) 0x6806 ≡ Err (PointerWordFault.Unexpected 6) }
 {}

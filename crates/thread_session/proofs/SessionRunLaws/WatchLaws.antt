@@ -1,9 +1,11 @@
 -- Lines that are served with their posts, from the opening of a session to its end.
 use Rattle.std.proofs.Common.{◌≡◌, ℕ, zero, suc, ◌<◌, ◌≤◌, ◌==◌, Bool, true, false, List, [], ◌∷◌, ◌++◌, map}
 use Rattle.std.proofs.Common.{length, vec_len, slice_get, Some, refl, sym, ◌∙◌, ap, ap₂, subst, arith}
-use Rattle.std.specs.Prelude.{Contains}
+use Rattle.std.specs.Prelude.{Contains, All, IsPermutation}
 use Rattle.std.specs.List.{AllZip}
 use Rattle.std.specs.Global.{Vec}
+use Rattle.std.proofs.lemmas.List.Elements.{All-nil, All-cons, All-append}
+use Rattle.std.proofs.lemmas.List.Sorted.{All-permutation}
 use Rattle.std.proofs.lemmas.Option.{slice_get_within}
 use Rattle.std.proofs.lemmas.Bool.Decides.{nat_tests}
 use Rattle.base_cells.specs.declared.Container.{Container}
@@ -27,7 +29,7 @@ use Rattle.thread_sink.specs.declared.worker.SinkWorker.{SinkWorker}
 use Rattle.thread_group.specs.declared.group.GroupState.{GroupState}
 use Rattle.thread_alarms.specs.declared.alarm_log.log.AlarmLog.{AlarmLog}
 use Rattle.thread_alarms.specs.declared.alarm_log.post.AlarmPost.{AlarmPost}
-use Rattle.thread_alarms.specs.alarm_log.Alarms.{of_line}
+use Rattle.thread_alarms.specs.alarm_log.Alarms.{of_line, in_row}
 use Rattle.thread_alarms.specs.alarm_log.Logs.{IsMade, IsPostOf, SameLog, IsAlone}
 use Rattle.thread_alarms.specs.alarm_log.Posts.{posted_by, SamePost}
 use Rattle.thread_alarms.specs.declared.watched_line.served.ServedLine.{ServedLine}
@@ -184,6 +186,30 @@ other-from m k i false (Fail ∷ sent) other = of-other m k i Fails (alarms_from
 other-from m k i failed (End ∷ sent) other = of-other m k i Ends (alarms_from k (suc i) false sent) other
     ∙ other-from m k (suc i) false sent other
 
+-- the alarms of a line below a bound are of lines below it
+below-from : (m n i : ℕ) (failed : Bool) (sent : List Cell) → m < n →
+    All (λ (alarm : Alarm). alarm.line < n) (alarms_from m i failed sent)
+unfolding alarms_from
+below-from m n i failed [] low = All-nil (λ (alarm : Alarm). alarm.line < n)
+below-from m n i true (Good c ∷ sent) low = All-cons (λ (alarm : Alarm). alarm.line < n) (alarm_at m i Returns) _ low
+    (below-from m n (suc i) false sent low)
+below-from m n i false (Good c ∷ sent) low = below-from m n (suc i) false sent low
+below-from m n i true (Fail ∷ sent) low = below-from m n (suc i) true sent low
+below-from m n i false (Fail ∷ sent) low = All-cons (λ (alarm : Alarm). alarm.line < n) (alarm_at m i Fails) _ low
+    (below-from m n (suc i) true sent low)
+below-from m n i failed (End ∷ sent) low = All-cons (λ (alarm : Alarm). alarm.line < n) (alarm_at m i Ends) _ low
+    (below-from m n (suc i) false sent low)
+
+-- what is so of each list is so of all in a row
+all-in-row : (n : ℕ) (posts : List AlarmPost) →
+    ((k : ℕ) (post : AlarmPost) → slice_get posts k ≡ Some post →
+    All (λ (alarm : Alarm). alarm.line < n) (posted_by post)) →
+    All (λ (alarm : Alarm). alarm.line < n) (in_row (map posted_by posts))
+all-in-row n [] each = All-nil (λ (alarm : Alarm). alarm.line < n)
+all-in-row n (post ∷ posts) each =
+    All-append (λ (alarm : Alarm). alarm.line < n) (posted_by post) (in_row (map posted_by posts)) (each 0 post refl)
+    (all-in-row n posts (λ k later there. each (suc k) later there))
+
 module _ (script : Script) (group : GroupState) (workers : List LineWorker) (sink : SinkWorker)
     (ended : IsEnded script group.tx.items group.back workers sink)
     (posts : List AlarmPost) (told : AreTold workers posts) (count : length posts ≡ length workers) where
@@ -208,3 +234,13 @@ module _ (script : Script) (group : GroupState) (workers : List LineWorker) (sin
       let (post, here) = slice_get-inside posts m (omega (arith, low, count, ended.count)) in
       lines m m post here (are-alone m) ∙ ap (of_line m) (posted-at m post here)
       ∙ own-from m 0 false (line_cells (leg_of script) m)
+
+  pub all-below : (list : List Alarm) → IsPermutation (in_row (map posted_by posts)) list →
+      All (λ (alarm : Alarm). alarm.line < script.config.lines) list
+  all-below list same =
+      All-permutation (λ (alarm : Alarm). alarm.line < script.config.lines) (in_row (map posted_by posts)) list same
+      (all-in-row script.config.lines posts (λ m post here.
+      let inside = slice_get_within posts m post here in
+      subst (All (λ (alarm : Alarm). alarm.line < script.config.lines)) (sym (posted-at m post here))
+      (below-from m script.config.lines 0 false (line_cells (leg_of script) m)
+      (omega (arith, inside, count, ended.count)))))

@@ -1,6 +1,6 @@
 //! Flags that tell threads to come back, and the evidence with which they do.
 ghost use Rattle.std.specs.Prelude.{◌≡◌};
-ghost use Rattle.thread_session.specs.session_parts.Flags.{flag_of, heeded};
+ghost use Rattle.thread_session.specs.session_parts.Flags.{flag_of, heeded, stored_flag};
 
 use crate::session_parts::bell::Bell;
 use std::snapshot::Snapshot;
@@ -21,6 +21,10 @@ pub struct Flag {
 pub struct Heed<'s> {
     flag: &'s Flag,
 }
+
+/// Evidence that a flag was stored, for one that outlives the flag. It is made of a token of that flag alone.
+#[derive(Drop)]
+pub struct Stored(Snapshot<Flag>);
 
 /// What a thread promises that comes back with nothing else: evidence that its flag was stored.
 #[derive(Drop)]
@@ -79,7 +83,7 @@ impl Flag {
 
 impl<'s> Heed<'s> {
     ghost use Rattle.std.specs.Prelude.{◌≡◌, IfSome};
-    ghost use Rattle.thread_session.specs.session_parts.Flags.{heeded};
+    ghost use Rattle.thread_session.specs.session_parts.Flags.{heeded, stored_flag};
 
     /// The evidence that it was stored, if it was.
     pub fn told(self) -> Option<OnceToken<'s, ()>>
@@ -115,10 +119,12 @@ impl<'s> Heed<'s> {
         unreachable!()
     }
 
-    /// What a thread that comes back shows: that its flag was stored.
-    pub fn comes_back(self, told: &OnceToken<'s, ()>)
+    /// The evidence of a token that it was stored.
+    pub fn stored(self, told: &OnceToken<'_, ()>) -> Stored
         requires { told.now.of ≡ heeded self }
+        ensures { stored_flag result ≡ heeded self.entry }
     {
         let _ = told;
+        Stored(Snapshot::of(self.flag))
     }
 }

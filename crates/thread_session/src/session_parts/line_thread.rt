@@ -6,32 +6,39 @@ ghost use Rattle.thread_alarms.specs.declared.watched_line.served.ServedLine.{Se
 ghost use Rattle.thread_alarms.specs.watched_line.Served.{AreServedLater, IsServedLater};
 ghost use Rattle.thread_session.specs.session_parts.Lines.{SharesLater};
 ghost use Rattle.thread_session.specs.declared.session_parts.flag.Flag.{Flag as OwnFlag};
-ghost use Rattle.thread_session.specs.session_parts.Flags.{flag_of, heeded};
+ghost use Rattle.thread_session.specs.session_parts.Flags.{flag_of, heeded, stored_flag};
 ghost use Rattle.thread_session.specs.session_parts.Held.{IsHeldOf, AreHeldOf, IsToldBy, AreToldBy};
 
 use crate::session_parts::bell::Bell;
-use crate::session_parts::flag::{Flag, Heed};
+use crate::session_parts::flag::{Flag, Heed, Stored};
 use std::snapshot::Snapshot;
 use std::sync::{OnceToken, Wait};
 use std::thread::{Promise, PromisedHandle, Scope, Threads};
 use thread_alarms::watched_line::ServedLine;
 use thread_rings::{Burst, Gate, IdleCause};
 
-/// What a line thread promises: it gives back the workers that it was given, each later, once this flag was stored.
+/// What a line thread gives back: its workers, and evidence that its flag was stored.
+type Back = (Vec<ServedLine>, Stored);
+
+/// What a line thread promises: it gives back the workers that it was given, each later, with evidence that this
+/// flag was stored.
 #[derive(Drop)]
 pub struct Kept(Snapshot<Vec<ServedLine>>, Snapshot<Flag>);
 
-impl Promise<Vec<ServedLine>> for Kept {
+impl Promise<Back> for Kept {
+    ghost use Rattle.std.specs.Prelude.{◌≡◌};
     ghost use Rattle.thread_alarms.specs.watched_line.Served.{AreServedLater};
+    ghost use Rattle.thread_session.specs.session_parts.Flags.{flag_of, stored_flag};
 
-    ghost kept_by = { λ kept back. AreServedLater kept.0.value.items back.items };
+    ghost kept_by = { λ kept back. AreServedLater kept.0.value.items back.0.items
+        × (stored_flag back.1 ≡ flag_of kept.1.value) };
 }
 
 /// The workers of a share.
 #[derive(Drop)]
 pub enum Held {
     /// A thread serves them.
-    There(PromisedHandle<Vec<ServedLine>, Kept>),
+    There(PromisedHandle<Back, Kept>),
     /// No thread could be started for them.
     Here(Vec<ServedLine>),
 }
@@ -137,7 +144,25 @@ fn serve<'s, R: Wait, G: Gate>(
     unreachable!()
 }
 
-/// Serves workers until the flag is stored, and gives them back.
+/// Serves workers until the flag is stored, and gives them back with the evidence that it is.
+fn serve_own<R: Wait, G: Gate>(
+    rt: &R,
+    gate: &G,
+    stop: Heed<'_>,
+    source: &Bell,
+    sink: &Bell,
+    workers: Vec<ServedLine>,
+) -> Back
+    ensures later { AreServedLater workers.items result.0.items }
+    ensures stored { stored_flag result.1 ≡ heeded stop.entry }
+{
+    let mut own = workers;
+    let told = serve(rt, gate, stop, source, sink, &mut own);
+    let stored = stop.stored(&told);
+    (own, stored)
+}
+
+/// What a line thread does: it serves workers by what it has of its flag.
 fn serve_until<R: Wait, G: Gate>(
     rt: &R,
     gate: &G,
@@ -145,14 +170,11 @@ fn serve_until<R: Wait, G: Gate>(
     source: &Bell,
     sink: &Bell,
     workers: Vec<ServedLine>,
-) -> Vec<ServedLine>
-    ensures { AreServedLater workers.items result.items }
+) -> Back
+    ensures { AreServedLater workers.items result.0.items
+        × (stored_flag result.1 ≡ flag_of flag.now) }
 {
-    let stop = flag.heed();
-    let mut own = workers;
-    let told = serve(rt, gate, stop, source, sink, &mut own);
-    stop.comes_back(&told);
-    own
+    serve_own(rt, gate, flag.heed(), source, sink, workers)
 }
 
 /// Starts the thread of a share. Where it can't be started its flag is stored, and the workers stay here.
@@ -175,7 +197,8 @@ fn start_share<'s, 'e, R: Wait + Sync, G: Gate>(
         Ok(child) => Held::There(child),
         Err(refused) => {
             flag.store(rt);
-            Held::Here((refused.value)())
+            let (workers, _) = (refused.value)();
+            Held::Here(workers)
         }
     }
 }
@@ -234,7 +257,10 @@ fn take_back<R: Threads>(rt: &R, held: Held, stored: &OnceToken<'_, ()>) -> Vec<
     ensures { (workers : List ServedLine) → IsHeldOf workers held → AreServedLater workers result.items }
 {
     match held {
-        Held::There(child) => child.join(rt),
+        Held::There(child) => {
+            let (workers, _) = child.join(rt);
+            workers
+        }
         Held::Here(workers) => workers,
     }
 }

@@ -16,7 +16,7 @@ mod shares;
 
 pub use bell::Bell;
 pub use duty::{Duty, SinkDuty, Turned};
-pub use flag::{Comes, Flag, Heed};
+pub use flag::{Comes, Flag, Heed, Stored};
 pub use laws::{ended_law, gathered_law};
 pub use lay::{carry_all, lay_receives, lay_sends};
 pub use line_thread::{Held, Kept, serve_all_here, start_shares, take_all_back};

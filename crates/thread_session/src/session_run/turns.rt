@@ -1,11 +1,13 @@
 //! The turns at the group: each takes the lock, makes one call of the group and gives the lock back.
-ghost use Rattle.std.specs.Prelude.{◌≡◌, IfSome};
+ghost use Rattle.std.specs.Prelude.{◌≡◌, true, IfSome, IfNone};
 ghost use Rattle.law_model.specs.session.Leg.{leg_of};
+ghost use Rattle.law_model.specs.source.Accepted.{refusal_in};
 ghost use Rattle.terminal_group.specs.Item.{kind_of};
+ghost use Rattle.thread_group.specs.Answer.{has_landed};
 ghost use Rattle.thread_group.specs.Group.{HasCounted};
 ghost use Rattle.thread_group.specs.Session.{IsItemOf};
 ghost use Rattle.thread_session.specs.session_parts.Flags.{heeded};
-ghost use Rattle.thread_session.specs.session_run.Turns.{bringer};
+ghost use Rattle.thread_session.specs.session_run.Turns.{bringer, HasLanded};
 
 use crate::session_parts::{Bell, Heed};
 use crate::session_run::room::Flags;
@@ -39,12 +41,11 @@ pub(super) fn who_brings(kind: &ItemKind) -> Who
     }
 }
 
-/// Hands in an item, and says whether it has landed.
-pub(super) fn hand_in<Y: Session>(group: &mut BoundGroup<Y>, number: u32, kind: &ItemKind) -> bool
-    requires { IsItemOf (leg_of Y.script) number kind.now }
-    ensures { HasCounted group.old.state group.new.state kind.now result }
+/// Whether an item has landed, by what the group answered.
+fn has_landed(answer: Result<(), SubmitFault>) -> bool
+    ensures { result ≡ has_landed (refusal_in answer) }
 {
-    match group.submit(number, as_handed(kind)) {
+    match answer {
         Ok(()) | Err(SubmitFault::Frame(_) | SubmitFault::Command(_)) => true,
         Err(
             SubmitFault::NotNext { next: _ }
@@ -55,6 +56,15 @@ pub(super) fn hand_in<Y: Session>(group: &mut BoundGroup<Y>, number: u32, kind: 
             },
         ) => false,
     }
+}
+
+/// Hands in an item, and says whether it has landed.
+pub(super) fn hand_in<Y: Session>(group: &mut BoundGroup<Y>, number: u32, kind: &ItemKind) -> bool
+    requires { IsItemOf (leg_of Y.script) number kind.now }
+    ensures counted { HasCounted group.old.state group.new.state kind.now result }
+    ensures landed { result ≡ true → HasLanded (leg_of Y.script) Y.tx Y.back number kind.now }
+{
+    has_landed(group.submit(number, as_handed(kind)))
 }
 
 /// Lands an item once it is due. Where the flag is stored first it doesn't land, and the evidence is given
@@ -70,7 +80,9 @@ fn land<'s, Y: Session, R: Wait, G: Gate>(
     kind: &ItemKind,
 ) -> Option<OnceToken<'s, ()>>
     requires { IsItemOf (leg_of Y.script) number kind.now }
-    ensures { IfSome result (λ told. told.of ≡ heeded stop.entry) }
+    ensures told { IfSome result (λ told. told.of ≡ heeded stop.entry) }
+    ensures landed { IfNone result
+        (HasLanded (leg_of Y.script) Y.tx Y.back number kind.now) }
 {
     let who = who_brings(kind);
     for _ in rt.forever() {

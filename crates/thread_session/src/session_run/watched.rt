@@ -1,9 +1,10 @@
 //! The call that runs a session of which each line is watched.
-ghost use Rattle.std.specs.Prelude.{◌≡◌, ℕ, ◌<◌, ◌≤◌, true, false, IfOk, IfErr};
+ghost use Rattle.std.specs.Prelude.{◌≡◌, ℕ, ◌<◌, ◌≤◌, true, false, All, IfOk, IfErr};
 ghost use Rattle.law_model.specs.session.Leg.{leg_of};
 ghost use Rattle.base_io.specs.Transfer.{Appends, AppendsPart};
 ghost use Rattle.text_report.specs.Report.{got_texts};
 ghost use Rattle.law_model.specs.session.Valid.{IsValid};
+ghost use Rattle.thread_rings.specs.declared.alarm.Alarm.{Alarm};
 ghost use Rattle.thread_rings.specs.Alarms.{alarms_of_line};
 ghost use Rattle.thread_alarms.specs.alarm_log.Alarms.{of_line};
 ghost use Rattle.thread_alarms.specs.alarm_log.Logs.{alarms_in};
@@ -32,7 +33,7 @@ const MOST: u32 = 513;
 
 /// Runs the session of a script as `run_session` does, and beside it collects the alarms of each line in the
 /// order in which the line raised them: each line posts those of a burst through a post of its own, and they
-/// come to one list through one queue.
+/// come to one list through one queue. There are no alarms of other lines.
 pub fn run_watched<R: Threads + Wait + Sync, K: ByteSink, G: Gate>(
     rt: &R,
     alloc: Global,
@@ -55,6 +56,8 @@ pub fn run_watched<R: Threads + Wait + Sync, K: ByteSink, G: Gate>(
         (got_texts (delivered_of (leg_of script) script.config.ticks))) }
     ensures alarms { IfOk result (λ w. (m : ℕ) → m < script.config.lines →
         of_line m (alarms_in w.1) ≡ alarms_of_line m (line_cells (leg_of script) m)) }
+    ensures below { IfOk result (λ w.
+        All (λ (alarm : Alarm). alarm.line < script.config.lines) (alarms_in w.1)) }
     ensures nothing { IfErr result (λ _. out.new ≡ out.old) }
 {
     let opened = open(alloc, &script, workers)?;

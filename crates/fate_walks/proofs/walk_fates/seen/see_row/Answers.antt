@@ -74,8 +74,8 @@ row-requires-2-clause-confirmed c =
     mark-low (leg_of script) c.args.walk.now.counts.rows c.first_confirmed.result c.requires.valid.sound low
     c.first_confirmed.ensures
 
-pub returns : goal.returns
-returns c =
+pub returns-clause-ok : goal.returns-clause-ok
+returns-clause-ok c =
     let script : Script = c.args.walk.now.script in
     let scenario = scenario_of script in
     let cells = session_of (leg_of script) in

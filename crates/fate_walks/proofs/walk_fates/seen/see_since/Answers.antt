@@ -4,6 +4,8 @@ use Rattle.law_model.specs.session.Leg.{leg_of}
 use Rattle.law_model.specs.session.Scenario.{steps_in}
 use Rattle.law_model.specs.source.Table.{active}
 use Rattle.law_model.specs.declared.totals.Totals.{Totals}
+use Rattle.std.proofs.lemmas.Result.{on_err_weaker}
+use Rattle.fate_walks.specs.declared.walk_fates.seen.SeenRows.{SeenRows}
 use Rattle.fate_walks.specs.walk_fates.Seen.{Sees}
 use Rattle.fate_walks.proofs.WalkFatesLaws.SeenLaws.{few-rows, sees-step, sees-same}
 use Rattle.fate_walks.proofs.walk_fates.seen.see_since.Goals as goal
@@ -24,8 +26,8 @@ push-requires c =
     let least = c.requires.least in
     omega (arith, few.2, least, c.requires.seen.packets.steps)
 
-pub returns-then-totals-rows : goal.returns-then-totals-rows
-returns-then-totals-rows c =
+pub returns-then-totals-rows-clause-ok : goal.returns-then-totals-rows-clause-ok
+returns-then-totals-rows-clause-ok c =
     let script = c.args.walk.now.script in
     let ticks = c.args.walk.now.counts.ticks in
     let on : steps_in ticks ≡ steps_in c.totals-totals.result.ticks =
@@ -58,3 +60,11 @@ see_row-requires-clause-seen c =
       | else-is_step w ↦ sees-same (leg_of script) c.args.ticks ticks c.args.rows c.args.seen.now c.if-is_step.seen
           c.requires.seen (on ∙ w.if-is_step.ensures.no) w.seen-is
     ]
+
+pub returns-clause-err : goal.returns-clause-err
+returns-clause-err c =
+    let same : c.if-is_step.seen.segments ≡ c.args.seen.now.segments = elim c.if-is_step.branch [
+      | then-is_step+in_ok-push w ↦ ap (λ (seen : SeenRows). seen.segments) w.seen-is
+      | else-is_step w ↦ ap (λ (seen : SeenRows). seen.segments) w.seen-is
+    ] in
+    on_err_weaker c.see_row.result (λ stays. stays ∙ same) c.see_row.ensures.err

@@ -8,7 +8,7 @@ use Rattle.thread_session.specs.session_parts.Duty.{IsLogLater}
 use Rattle.thread_session.proofs.SessionPartsLaws.ZipLaws.{zip-length}
 use Rattle.thread_session.proofs.SessionRunLaws.EndLaws.{frames-ended, session-ended, group-ended}
 use Rattle.thread_session.proofs.SessionRunLaws.RunLaws.{writes-whole, writes-part}
-use Rattle.thread_session.proofs.SessionRunLaws.WatchLaws.{watchable, still-posts, all-alarms}
+use Rattle.thread_session.proofs.SessionRunLaws.WatchLaws.{watchable, still-posts, all-alarms, all-below}
 use Rattle.thread_session.proofs.session_run.watched.run_watched.Goals as goal
 
 pub run_opened-left-requires-clause-watch : goal.run_opened-left-requires-clause-watch
@@ -76,3 +76,21 @@ returns-clause-alarms g c =
     all-alarms c.args.script left.ended.group left.ended.lines.items left.ended.sink ended left.posts.items
     (c.run_opened-left.ensures.told many) count
     (alarms_in c.finish.result) c.finish.ensures.lines
+
+pub returns-clause-below : goal.returns-clause-below
+returns-clause-below g c =
+    let left = c.run_opened-left.result in
+    let lines = c.in_ok-opened.opened.lines in
+    let posts = c.in_ok-log.posts in
+    let made = c.in_ok-log.ensures in
+    let opened = c.in_ok-opened.ensures.open.lines in
+    let ended = session-ended c.args.script c.requires.script left.ended.group left.ended.lines.items left.ended.sink
+    c.run_opened-left.ensures.end in
+    let long = zip-length SamePost posts.items left.posts.items c.run_opened-left.ensures.posts in
+    let many : vec_len posts ≡ vec_len lines =
+    omega (arith, made.count, opened.workers_count, posts.ok.0, lines.ok.0) in
+    let count : length left.posts.items ≡ length left.ended.lines.items =
+    omega (arith, long, made.count, ended.count) in
+    all-below c.args.script left.ended.group left.ended.lines.items left.ended.sink ended left.posts.items
+    (c.run_opened-left.ensures.told many) count
+    (alarms_in c.finish.result) c.finish.ensures.whole
