@@ -1,7 +1,8 @@
 //! The commands of the program, a line for each.
 
 use crate::rooms::{
-    au4, capture, channels, decode, fates, frames, gfp, make, noise, pair, service, stream, trace, walk,
+    au4, capture, channels, decode, fates, frames, gfp, make, noise, pair, service, stream, trace,
+    walk,
 };
 use text_scripts::rate_load::RateLoad;
 use text_words::FromWords;

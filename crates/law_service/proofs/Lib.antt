@@ -10,3 +10,4 @@ mod LandedLaws
 mod CarriedLaws
 mod ClockLaws
 mod ClockLegLaws
+pub mod LawCostLaws

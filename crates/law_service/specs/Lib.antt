@@ -5,3 +5,4 @@ pub mod Worked
 pub mod Turns
 pub mod Kept
 pub mod Clock
+pub mod law_cost

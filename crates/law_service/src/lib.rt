@@ -2,7 +2,11 @@
 //! waits long if it keeps to a bucket; that delays take none of them; how a walk goes by the clock, and that it
 //! ends whoever tries its events in whatever order; and that more rows take nothing back. There is no code here.
 //! Begin at `place_law`; `met_law` shows legs that meet what is asked, and `worked_law` that bounds are reached.
+//!
+//! - `law_cost`: what a failure costs: how many rows, whatever its length, and when the line is in use again.
 #![tactic(auto)]
+
+pub mod law_cost;
 
 ghost use Rattle.std.specs.Prelude.{◌≡◌, ◌↔◌, ℕ, ◌+◌, ◌-◌, ◌*◌, ◌<◌, ◌≤◌, min, List, [], ◌∷◌, ◌++◌, map, length};
 ghost use Rattle.std.specs.Prelude.{sum, slice_get, All, Some, None};

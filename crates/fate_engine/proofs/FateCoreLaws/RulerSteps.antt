@@ -267,7 +267,8 @@ count-before (x ∷ frames) place zero within point =
     ((λ k d least low. absurd (omega (arith, low))), (λ k d from low. point.1 (suc k) d (omega arith) (omega (arith, low)))) in
     rw (point.1 0 x (omega arith) (omega arith)) rest
 count-before (x ∷ frames) place (suc i) within point =
-    let rest = count-before frames place i (omega (arith, within))
-    ((λ k d least low. point.0 (suc k) d (omega arith) (omega (arith, low))),
-    (λ k d from low. point.1 (suc k) d (omega (arith, from)) (omega (arith, low)))) in
+    let rest = count-before frames place i (omega (arith, within)) (
+      (λ k d least low. point.0 (suc k) d (omega arith) (omega (arith, low))),
+      (λ k d from low. point.1 (suc k) d (omega (arith, from)) (omega (arith, low))),
+    ) in
     rw (point.0 0 x (omega arith) (omega arith)) (omega (arith, rest))

@@ -19,7 +19,7 @@ use Rattle.law_session.proofs.OrderLaws.{Has, Has-standing, turned-normal}
 use Rattle.law_session.proofs.FeedbackLaws.{IsSession, cell-taken, says_count, known, same_lines_since}
 use Rattle.law_session.proofs.StatusLaws.{none_kept-at, keep-at, full-after}
 use Rattle.law_session.proofs.UseLaws.{after-change, told_at-table, found_line, kept-is}
-use Rattle.law_cost.proofs.TurnLaws.{same-told, told_on-norm}
+use Rattle.law_service.proofs.LawCostLaws.TurnLaws.{same-told, told_on-norm}
 
 -- ---- a line in NORM stays so in one step
 admit_on-normal : (adds ok : Bool) (member : Member) (rest order : List Member) (line : ℕ) →

@@ -20,13 +20,13 @@ use Rattle.law_session.specs.Feedback.{lines_of}
 use Rattle.law_walk.specs.Walk.{session_of}
 use Rattle.law_walk.specs.Worked.{item, plain}
 use Rattle.law_walk.proofs.MetLaws.{equal-rise, no_failure, one_failure, plain_network}
-use Rattle.law_cost.specs.Cost.{windows_of, FailsBy, StaysClear, FailsOnce, FailTogether, table_at, HasSq}
-use Rattle.law_cost.specs.Settled.{IsSettled}
-use Rattle.law_cost.specs.Closed.{WasUsed, WereUsed}
+use Rattle.law_service.specs.law_cost.Cost.{windows_of, FailsBy, StaysClear, FailsOnce, FailTogether, table_at, HasSq}
+use Rattle.law_service.specs.law_cost.Settled.{IsSettled}
+use Rattle.law_service.specs.law_cost.Closed.{WasUsed, WereUsed}
 use Rattle.law_walk.specs.Promise.{IsClear}
-use Rattle.law_cost.proofs.DamageLaws.{clear-read}
-use Rattle.law_cost.specs.Worked.{costly_window, costly_windows, costly_leg}
-use Rattle.law_cost.proofs.SettledLaws.{settled-still}
+use Rattle.law_service.proofs.LawCostLaws.DamageLaws.{clear-read}
+use Rattle.law_service.specs.law_cost.Worked.{costly_window, costly_windows, costly_leg}
+use Rattle.law_service.proofs.LawCostLaws.SettledLaws.{settled-still}
 
 -- ---- the leg is sound
 costly-network : IsNetwork (plain costly_windows 4 2 1400)

@@ -1,6 +1,6 @@
 -- The rows and the lines in use, exactly.
-use Rattle.law_cost.proofs.CostLaws.{cost-exact, cost-told, cost-stands, cost-unnoticed}
-use Rattle.law_cost.proofs.exact_law.Goals as goal
+use Rattle.law_service.proofs.LawCostLaws.CostLaws.{cost-exact, cost-told, cost-stands, cost-unnoticed}
+use Rattle.law_service.proofs.law_cost.exact_law.Goals as goal
 
 pub returns-clause-spoiled : goal.returns-clause-spoiled
 returns-clause-spoiled c leg from horizon t sound once late low high =

@@ -1,6 +1,6 @@
 -- Which rows failures cost, and when lines are in use again.
-use Rattle.law_cost.proofs.CostLaws.{cost-rows, cost-together, cost-bill, cost-back, cost-others}
-use Rattle.law_cost.proofs.cost_law.Goals as goal
+use Rattle.law_service.proofs.LawCostLaws.CostLaws.{cost-rows, cost-together, cost-bill, cost-back, cost-others}
+use Rattle.law_service.proofs.law_cost.cost_law.Goals as goal
 
 pub returns-clause-rows : goal.returns-clause-rows
 returns-clause-rows c leg from horizon t sound once spared low high =

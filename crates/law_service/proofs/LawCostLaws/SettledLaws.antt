@@ -19,9 +19,9 @@ use Rattle.law_session.proofs.TableLaws.{heard-order}
 use Rattle.law_session.proofs.UseLaws.{after-change, told_at-table}
 use Rattle.law_session.proofs.AddLaws.{told_at-count}
 use Rattle.law_walk.specs.Walk.{session_of}
-use Rattle.law_cost.specs.Cost.{first_hit, table_at}
-use Rattle.law_cost.specs.Settled.{IsSettled, MakesNoChange}
-use Rattle.law_cost.proofs.TurnLaws.{told_on-adding}
+use Rattle.law_service.specs.law_cost.Cost.{first_hit, table_at}
+use Rattle.law_service.specs.law_cost.Settled.{IsSettled, MakesNoChange}
+use Rattle.law_service.proofs.LawCostLaws.TurnLaws.{told_on-adding}
 
 -- ---- no line in ADD, no exchange
 exchange-idle : (kept : ℕ → Option Bool) (base : ℕ) (order : List Member) →

@@ -9,7 +9,7 @@ use Rattle.law_model.specs.members.Damage.{AreWindows, carried, carried_in, is_g
 use Rattle.law_session.proofs.DamageLaws.{readable-whole, good-whole}
 use Rattle.law_walk.specs.Promise.{IsClear, row_from}
 use Rattle.law_walk.proofs.WholeLaws.{clear-whole}
-use Rattle.law_cost.specs.Cost.{FailsBy, first_hit, end_packet, Spoils}
+use Rattle.law_service.specs.law_cost.Cost.{FailsBy, first_hit, end_packet, Spoils}
 
 -- a container of a window doesn't arrive whole
 carried_in-damaged : (window : Window) (n : ℕ) → carried_in window n ≡ Whole → ⊥

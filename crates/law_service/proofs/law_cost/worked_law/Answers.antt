@@ -4,7 +4,7 @@ use Rattle.law_model.specs.members.Damage.{carried, are_whole}
 use Rattle.law_model.specs.source.Table.{keep, none_kept, admit, turned, take_out, exchange}
 use Rattle.law_model.specs.source.Source.{after}
 use Rattle.law_model.specs.source.Back.{said_before, cells_before}
-use Rattle.law_cost.proofs.worked_law.Goals as goal
+use Rattle.law_service.proofs.law_cost.worked_law.Goals as goal
 
 pub returns-clause-rows : goal.returns-clause-rows
 returns-clause-rows c = refl

@@ -1,6 +1,6 @@
 -- A leg that meets what is asked.
-use Rattle.law_cost.proofs.MetLaws.{costly-sound, costly-settled, costly-together, costly-has, costly-were}
-use Rattle.law_cost.proofs.met_law.Goals as goal
+use Rattle.law_service.proofs.LawCostLaws.MetLaws.{costly-sound, costly-settled, costly-together, costly-has, costly-were}
+use Rattle.law_service.proofs.law_cost.met_law.Goals as goal
 
 pub returns-clause-sound : goal.returns-clause-sound
 returns-clause-sound c = costly-sound

@@ -5,7 +5,7 @@ use Rattle.law_model.specs.declared.script.ItemKind.TheVariants.{Add}
 use Rattle.law_model.specs.session.Leg.{Leg}
 use Rattle.law_model.specs.source.Table.{active}
 use Rattle.law_walk.specs.Worked.{item, plain}
-use Rattle.law_cost.specs.Cost.{governing_table}
+use Rattle.law_service.specs.law_cost.Cost.{governing_table}
 
 -- containers 536 to 1024 fail, of which the last three vanish
 abbrev pub costly_window : Window

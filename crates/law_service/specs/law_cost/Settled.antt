@@ -6,7 +6,7 @@ use Rattle.law_model.specs.source.Table.{kept_of, exchange}
 use Rattle.law_model.specs.source.Source.{after, told_at, carried}
 use Rattle.law_session.specs.Use.{IsAdded}
 use Rattle.law_walk.specs.Walk.{session_of}
-use Rattle.law_cost.specs.Cost.{first_hit, table_at}
+use Rattle.law_service.specs.law_cost.Cost.{first_hit, table_at}
 
 -- before the first step that is made when a failure can have begun no command waits and no line is in ADD; and no
 -- command lands from then on up to a horizon

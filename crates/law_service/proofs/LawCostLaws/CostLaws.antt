@@ -25,11 +25,11 @@ use Rattle.law_session.proofs.PlanLaws.{order-length}
 use Rattle.law_session.proofs.SessionLaws.{session-cell}
 use Rattle.law_walk.specs.Walk.{session_of}
 use Rattle.law_walk.specs.Promise.{IsClear, row_from}
-use Rattle.law_cost.specs.Cost.{windows_of, FailsBy, StaysClear, first_hit, FailsOnce, IsSpared, IsSparedFor, cost_end}
-use Rattle.law_cost.specs.Cost.{FailTogether, HasSq, end_packet, Spoils, IsSpoiled, spoiled_rows}
-use Rattle.law_cost.proofs.StatusLaws.{IsQuiet, Has-in_lines, last-said, norm-read, read-stands}
-use Rattle.law_cost.proofs.DamageLaws.{clear-within, clear-read, clear-good, window-some, behind-clear, spoils-or}
-use Rattle.law_cost.proofs.DamageLaws.{spoils-arrives, spared-arrives, read-behind}
+use Rattle.law_service.specs.law_cost.Cost.{windows_of, FailsBy, StaysClear, first_hit, FailsOnce, IsSpared, IsSparedFor, cost_end}
+use Rattle.law_service.specs.law_cost.Cost.{FailTogether, HasSq, end_packet, Spoils, IsSpoiled, spoiled_rows}
+use Rattle.law_service.proofs.LawCostLaws.StatusLaws.{IsQuiet, Has-in_lines, last-said, norm-read, read-stands}
+use Rattle.law_service.proofs.LawCostLaws.DamageLaws.{clear-within, clear-read, clear-good, window-some, behind-clear, spoils-or}
+use Rattle.law_service.proofs.LawCostLaws.DamageLaws.{spoils-arrives, spared-arrives, read-behind}
 
 -- ---- lists
 norm_of : (standing : Standing) → is_norm standing ≡ true → standing ≡ normal

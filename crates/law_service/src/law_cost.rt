@@ -2,7 +2,6 @@
 //! There is no code here. Begin at `cost_law`; `exact_law` is what it stands on, and `closed_law` has the rows
 //! in numbers alone. `settled_law` says when no change is made, `met_law` shows a leg that meets what is asked,
 //! and `worked_law` that the bounds are reached.
-#![tactic(auto)]
 
 ghost use Rattle.std.specs.Prelude.{◌≡◌, ◌↔◌, ℕ, ◌+◌, ◌-◌, ◌*◌, ◌/◌, ◌%◌, ◌<◌, ◌≤◌, min, true, false, Some, slice_get};
 ghost use Rattle.std.specs.Prelude.{[], ◌∷◌};
@@ -17,12 +16,12 @@ ghost use Rattle.law_session.specs.Feedback.{lines_of};
 ghost use Rattle.law_session.specs.Use.{IsInUse};
 ghost use Rattle.law_walk.specs.Walk.{session_of};
 ghost use Rattle.law_model.specs.declared.window.Window.{Window};
-ghost use Rattle.law_cost.specs.Cost.{windows_of, StaysClear, FailsBy, FailsOnce, IsSpared, IsSparedFor, cost_end};
-ghost use Rattle.law_cost.specs.Cost.{FailTogether, first_hit, governing_table, table_at, HasSq, Spoils, IsSpoiled};
-ghost use Rattle.law_cost.specs.Cost.{spoiled_rows};
-ghost use Rattle.law_cost.specs.Closed.{WereUsed, IsHit};
-ghost use Rattle.law_cost.specs.Settled.{IsSettled, MakesNoChange};
-ghost use Rattle.law_cost.specs.Worked.{costly_leg, used_in_rows};
+ghost use Rattle.law_service.specs.law_cost.Cost.{windows_of, StaysClear, FailsBy, FailsOnce, IsSpared, IsSparedFor, cost_end};
+ghost use Rattle.law_service.specs.law_cost.Cost.{FailTogether, first_hit, governing_table, table_at, HasSq, Spoils, IsSpoiled};
+ghost use Rattle.law_service.specs.law_cost.Cost.{spoiled_rows};
+ghost use Rattle.law_service.specs.law_cost.Closed.{WereUsed, IsHit};
+ghost use Rattle.law_service.specs.law_cost.Settled.{IsSettled, MakesNoChange};
+ghost use Rattle.law_service.specs.law_cost.Worked.{costly_leg, used_in_rows};
 ghost use Rattle.law_walk.specs.Worked.{whole_rows};
 
 /// Which rows failures cost, if each line fails once at most and one line doesn't fail: however long a line

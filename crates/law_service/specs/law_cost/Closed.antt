@@ -6,7 +6,7 @@ use Rattle.law_model.specs.session.Leg.{Leg}
 use Rattle.law_model.specs.session.Scenario.{scenario_by, is_read}
 use Rattle.law_model.specs.source.Table.{member_of}
 use Rattle.law_session.specs.Feedback.{lines_of}
-use Rattle.law_cost.specs.Cost.{windows_of, FailsBy, first_hit, table_at, Spoils}
+use Rattle.law_service.specs.law_cost.Cost.{windows_of, FailsBy, first_hit, table_at, Spoils}
 
 -- the first packet that a failure can hit, and that says a status of an SQ
 abbrev pub first_told : Window → ℕ → ℕ

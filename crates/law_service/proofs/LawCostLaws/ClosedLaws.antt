@@ -14,12 +14,12 @@ use Rattle.law_session.specs.Feedback.{lines_of, table_before}
 use Rattle.law_session.proofs.OrderLaws.{Has}
 use Rattle.law_session.proofs.SessionLaws.{session-law}
 use Rattle.law_walk.specs.Walk.{session_of}
-use Rattle.law_cost.specs.Cost.{windows_of, FailsBy, FailsOnce, FailTogether, Spoils, first_hit}
-use Rattle.law_cost.specs.Closed.{first_told, WasUsed, WereUsed, IsHit}
-use Rattle.law_cost.proofs.StatusLaws.{Has-in_lines, count-before}
-use Rattle.law_cost.proofs.DamageLaws.{clear-within, clear-read, before-clear}
-use Rattle.law_cost.proofs.UsedLaws.{stays-normal}
-use Rattle.law_cost.proofs.CostLaws.{is-quiet, failing-some, few-before, spoils-not, cost-exact}
+use Rattle.law_service.specs.law_cost.Cost.{windows_of, FailsBy, FailsOnce, FailTogether, Spoils, first_hit}
+use Rattle.law_service.specs.law_cost.Closed.{first_told, WasUsed, WereUsed, IsHit}
+use Rattle.law_service.proofs.LawCostLaws.StatusLaws.{Has-in_lines, count-before}
+use Rattle.law_service.proofs.LawCostLaws.DamageLaws.{clear-within, clear-read, before-clear}
+use Rattle.law_service.proofs.LawCostLaws.UsedLaws.{stays-normal}
+use Rattle.law_service.proofs.LawCostLaws.CostLaws.{is-quiet, failing-some, few-before, spoils-not, cost-exact}
 
 module _ (leg : Leg) (sound : IsSound leg) (from horizon : ℕ) (once : FailsOnce leg from horizon) where
   abbrev scenario : Scenario

@@ -1,6 +1,6 @@
 -- When no change is made.
-use Rattle.law_cost.proofs.SettledLaws.{settled-still, unchanged-still}
-use Rattle.law_cost.proofs.settled_law.Goals as goal
+use Rattle.law_service.proofs.LawCostLaws.SettledLaws.{settled-still, unchanged-still}
+use Rattle.law_service.proofs.law_cost.settled_law.Goals as goal
 
 pub returns-clause-still : goal.returns-clause-still
 returns-clause-still c leg from horizon k none low high = unchanged-still leg from horizon none k low high

@@ -21,7 +21,7 @@ use Rattle.law_session.proofs.StatusLaws.{keep-at, full-after}
 use Rattle.law_session.proofs.OrderLaws.{Has, Known, IsThere, turned-adding, exchange-there_plain}
 use Rattle.law_session.proofs.UseLaws.{told_at-table, after-change, heard-for, found_line, cell_at-taken, said-heard}
 use Rattle.law_session.proofs.UseLaws.{kept-is}
-use Rattle.law_cost.proofs.TurnLaws.{same-told, told_on-norm, told_on-dnu, told_on-adding}
+use Rattle.law_service.proofs.LawCostLaws.TurnLaws.{same-told, told_on-norm, told_on-dnu, told_on-adding}
 
 -- from step first to step last no change is made, and each packet from packet first on comes back that these steps take
 pub record IsQuiet (scenario : Scenario) (cells : List (Option Told)) (first last : ℕ) : Type 0 where

@@ -1,6 +1,6 @@
 -- The rows that failures spoil, in numbers.
-use Rattle.law_cost.proofs.ClosedLaws.{cost-closed, cost-first}
-use Rattle.law_cost.proofs.closed_law.Goals as goal
+use Rattle.law_service.proofs.LawCostLaws.ClosedLaws.{cost-closed, cost-first}
+use Rattle.law_service.proofs.law_cost.closed_law.Goals as goal
 
 pub returns-clause-rows : goal.returns-clause-rows
 returns-clause-rows c leg from horizon t sound once were late low high =
