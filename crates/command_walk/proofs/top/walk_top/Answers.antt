@@ -44,7 +44,9 @@ returns-in-Ok-Fates-clause-handed g c =
     some-command _ (command_in c.args.words.now) Fates (search rules) c.fates.ensures.handed
 
 pub service-requires : goal.service-requires
-service-requires g c = fits c.args.words.now (Service c.in-Ok-Service.interval) (search rules)
+service-requires g c = record {
+  interval = fits c.args.words.now (Service c.in-Ok-Service.interval) (search rules);
+}
 
 pub returns-in-Ok-Service-clause-handed : goal.returns-in-Ok-Service-clause-handed
 returns-in-Ok-Service-clause-handed g c =
