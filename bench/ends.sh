@@ -2,7 +2,7 @@
 # Times each end of the stream alone from outside: the filler, and the receiver over a stream of frames and over idles. The number
 # is that of the octets. The program has to be built: rt ci does it.
 cd "$(dirname "$0")/.." || exit 1
-program=$PWD/crates/layer_bench/out/layer_bench
+program=$PWD/crates/parts_bench/out/parts_bench
 octets=${1:-2000000000}
 [ -x "$program" ] || { echo "bench: $program is missing: run rt ci first" >&2; exit 1; }
 # Two frames a row are more than it holds; of none there are idles alone.

@@ -3,7 +3,7 @@
 # a delay and with one of 8 containers; and cells pushed and taken by the worker of the sink of 1, 8 and 64 lines, each beside a copy of
 # as many octets. The number is that of the octets. The program has to be built: rt ci does it.
 cd "$(dirname "$0")/.." || exit 1
-program=$PWD/crates/layer_bench/out/layer_bench
+program=$PWD/crates/parts_bench/out/parts_bench
 octets=${1:-5000000000}
 [ -x "$program" ] || { echo "bench: $program is missing: run rt ci first" >&2; exit 1; }
 pass() {

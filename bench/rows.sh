@@ -2,7 +2,7 @@
 # Times the interleaving of groups from outside: rows spread over their members, and members gathered into rows, for 1 to 128
 # members. The number is that of the octets. The program has to be built: rt ci does it.
 cd "$(dirname "$0")/.." || exit 1
-program=$PWD/crates/layer_bench/out/layer_bench
+program=$PWD/crates/parts_bench/out/parts_bench
 octets=${1:-2000000000}
 [ -x "$program" ] || { echo "bench: $program is missing: run rt ci first" >&2; exit 1; }
 for way in spread gather; do

@@ -3,7 +3,7 @@
 # octet is another are walked. It says how many are what; the status is 0 where each was answered with a status that there is, in time,
 # and with nothing written beside a fault. With the name of a file it keeps there what was changed and what came of it.
 cd "$(dirname "$0")/.." || exit 1
-reader=$PWD/crates/layer_bench/out/layer_bench
+reader=$PWD/crates/parts_bench/out/parts_bench
 program=$PWD/crates/vcat_walk/out/vcat_walk
 [ -x "$reader" ] && [ -x "$program" ] || { echo "texts: build the programs first: rt ci" >&2; exit 1; }
 kept=${1:-/dev/null}

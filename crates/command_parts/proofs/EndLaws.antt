@@ -2,9 +2,9 @@
 use Rattle.std.proofs.Common.{◌≡◌, ◌≢◌, ◌⊎◌, ℕ, ◌<◌, ◌≤◌, List, ◌++◌, length, Option, Some, None, IfSome, IsTrue, refl}
 use Rattle.std.proofs.Common.{sym, ◌∙◌, ap, subst, inl, inr, arith, codes, append-nil}
 use Rattle.std.specs.Io.KnownBytes.{prepend_known, IsAtEnd}
-use Rattle.base_io.specs.Faults.{one_more}
-use Rattle.command_parts.specs.declared.stop.Refusal.{Refusal}
-use Rattle.command_parts.specs.declared.stop.Refusal.TheVariants.{Line, Limit}
+use Rattle.octet_io.specs.Faults.{one_more}
+use Rattle.command_parts.specs.declared.stop_and_status.Refusal.{Refusal}
+use Rattle.command_parts.specs.declared.stop_and_status.Refusal.TheVariants.{Line, Limit}
 use Rattle.command_parts.specs.Task.{Answer, Task, writes, writes_both, refuses, exceeds, none, reads, makes, IsCommand}
 use Rattle.command_parts.specs.Task.{Reads, IsGood, IsQuiet, IsQuietTask, refused_status}
 use Rattle.command_parts.specs.Ends.{Lent, Kept, Quiet, FailedOnce, IsTold, HasRead, IsLong, Meets, WritesAll}

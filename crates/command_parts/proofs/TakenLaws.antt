@@ -3,16 +3,16 @@ use Rattle.std.proofs.Common.{◌≡◌, ℕ, ◌+◌, ◌<◌, List, [], ◌++�
 use Rattle.std.proofs.Common.{Option, None, Some, Result, refl, sym, ap, ◌∙◌}
 use Rattle.std.specs.Prelude.{IfSome}
 use Rattle.std.specs.Io.KnownBytes.{prepend_known, IsAtEnd}
-use Rattle.base_io.specs.Faults.{one_more}
+use Rattle.octet_io.specs.Faults.{one_more}
 use Rattle.law_model.specs.Limits.{longest_input}
-use Rattle.command_parts.specs.declared.stop.Refusal.{Refusal}
-use Rattle.command_parts.specs.declared.stop.Stop.{Stop}
-use Rattle.command_parts.specs.declared.stop.Stop.TheVariants.{Read, TooLong, Refused, Write, Memory}
+use Rattle.command_parts.specs.declared.stop_and_status.Refusal.{Refusal}
+use Rattle.command_parts.specs.declared.stop_and_status.Stop.{Stop}
+use Rattle.command_parts.specs.declared.stop_and_status.Stop.TheVariants.{Read, TooLong, Refused, Write, Memory}
 use Rattle.command_parts.specs.Task.{Answer}
 use Rattle.command_parts.specs.Ends.{Lent, lent, HasRead}
 use Rattle.command_parts.specs.Stops.{StopsReading, StopsFor, StopsTaking}
 use Rattle.command_parts.specs.Scripts.{IsTaken}
-use Rattle.command_parts.specs.Pieces.{answer_told, StopsAt, Follows, HasRoom}
+use Rattle.command_parts.specs.Pieces.{answer_told, StopsAt, Follows, HasNumbersLeft}
 
 prepended : (all piece : List ℕ) (known : Option (List ℕ)) →
     prepend_known all (prepend_known piece known) ≡ prepend_known (all ++ piece) known
@@ -118,6 +118,6 @@ module _ {R S : Type 0} (Reads : R → List ℕ → Type 0) (left : S → Option
   }
 
   pub reading_room : (start now : S) (reader : R) (rest : List ℕ) (room : ℕ) → IsReading start now reader rest room →
-      HasRoom Reads reader rest
+      HasNumbersLeft Reads reader rest
   reading_room start now reader rest room is =
       record { all = is.all; follows = is.follows; fits = omega (arith, is.taken.size) }

@@ -1,16 +1,16 @@
 -- The notes on what is wrong with an input.
 use Rattle.std.specs.Prelude.{ℕ, List, ◌++◌, codes, decimal}
-use Rattle.text_lines.specs.declared.fault.LineKind.{LineKind}
-use Rattle.text_lines.specs.declared.fault.LineKind.TheVariants.{Word, Number, Hex, Range, Order, Missing}
+use Rattle.text_lines.specs.declared.field_fault.LineKind.{LineKind}
+use Rattle.text_lines.specs.declared.field_fault.LineKind.TheVariants.{Word, Number, Hex, Range, Order, Missing}
 use Rattle.text_lines.specs.Fields.{field_kind}
-use Rattle.text_scripts.specs.declared.script_read.fault.LineFault.{LineFault}
-use Rattle.text_scripts.specs.declared.script_read.fault.LineFault.TheVariants as wrong
-use Rattle.text_scripts.specs.declared.script_read.fault.ScriptFault.{ScriptFault}
-use Rattle.text_scripts.specs.declared.script_read.fault.ScriptFault.TheVariants.{Line, Slip, Spread, Lag, Memory}
+use Rattle.text_scripts.specs.declared.script_read.script_fault.LineFault.{LineFault}
+use Rattle.text_scripts.specs.declared.script_read.script_fault.LineFault.TheVariants as wrong
+use Rattle.text_scripts.specs.declared.script_read.script_fault.ScriptFault.{ScriptFault}
+use Rattle.text_scripts.specs.declared.script_read.script_fault.ScriptFault.TheVariants.{Line, Slip, Spread, Lag, Memory}
 use Rattle.command_parts.specs.Helps.{line_help_text, slip_help_text, spread_help_text, lag_help_text}
-use Rattle.command_parts.specs.declared.stop.Refusal.{Refusal}
-use Rattle.command_parts.specs.declared.stop.Refusal.TheVariants as why
-use Rattle.command_parts.specs.declared.stop.Stop.{Stop}
+use Rattle.command_parts.specs.declared.stop_and_status.Refusal.{Refusal}
+use Rattle.command_parts.specs.declared.stop_and_status.Refusal.TheVariants as why
+use Rattle.command_parts.specs.declared.stop_and_status.Stop.{Stop}
 use Rattle.command_parts.specs.Stops.{IsRefusedAs}
 
 abbrev pub kind_text : LineKind → List ℕ

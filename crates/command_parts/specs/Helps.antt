@@ -1,12 +1,12 @@
 -- What is said of how to write what a script has wrong.
 use Rattle.std.specs.Prelude.{ℕ, ◌+◌, ◌-◌, List, ◌++◌, codes, decimal}
 use Rattle.text_help.specs.Helps.{field_text, count_text, missing_text, order_text}
-use Rattle.text_scripts.specs.declared.script_read.keyword.Keyword.{Keyword}
-use Rattle.text_scripts.specs.declared.script_read.keyword.Keyword.TheVariants as word
-use Rattle.text_scripts.specs.declared.script_read.keyword.Part.{Part}
-use Rattle.text_scripts.specs.declared.script_read.keyword.Part.TheVariants as part
-use Rattle.text_scripts.specs.declared.script_read.fault.LineFault.{LineFault}
-use Rattle.text_scripts.specs.declared.script_read.fault.LineFault.TheVariants as wrong
+use Rattle.text_scripts.specs.declared.script_read.script_keyword.Keyword.{Keyword}
+use Rattle.text_scripts.specs.declared.script_read.script_keyword.Keyword.TheVariants as word
+use Rattle.text_scripts.specs.declared.script_read.script_keyword.Part.{Part}
+use Rattle.text_scripts.specs.declared.script_read.script_keyword.Part.TheVariants as part
+use Rattle.text_scripts.specs.declared.script_read.script_fault.LineFault.{LineFault}
+use Rattle.text_scripts.specs.declared.script_read.script_fault.LineFault.TheVariants as wrong
 
 -- ---- names
 abbrev pub keyword_text : Keyword → List ℕ

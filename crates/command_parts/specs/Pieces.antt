@@ -1,9 +1,9 @@
 -- A text that comes in pieces, and what it says.
 use Rattle.std.specs.Prelude.{◌≡◌, ℕ, ◌≤◌, List, ◌++◌, length, Ok, Err, Result}
 use Rattle.law_model.specs.Limits.{longest_input}
-use Rattle.command_parts.specs.declared.stop.Refusal.{Refusal}
-use Rattle.command_parts.specs.declared.stop.Stop.{Stop}
-use Rattle.command_parts.specs.declared.stop.Stop.TheVariants.{Read, TooLong, Refused, Write, Memory}
+use Rattle.command_parts.specs.declared.stop_and_status.Refusal.{Refusal}
+use Rattle.command_parts.specs.declared.stop_and_status.Stop.{Stop}
+use Rattle.command_parts.specs.declared.stop_and_status.Stop.TheVariants.{Read, TooLong, Refused, Write, Memory}
 use Rattle.command_parts.specs.Task.{Answer, refuses}
 
 -- what is answered of what a text says, and of why it isn't what a command takes, with the note on that
@@ -26,7 +26,7 @@ pub record Follows {R : Type 0} (Reads : R → List ℕ → Type 0) (reader : R)
   pub reads : Reads reader text
 
 -- and the text isn't longer than an input may be
-pub record HasRoom {R : Type 0} (Reads : R → List ℕ → Type 0) (reader : R) (rest : List ℕ) : Type 0 where
+pub record HasNumbersLeft {R : Type 0} (Reads : R → List ℕ → Type 0) (reader : R) (rest : List ℕ) : Type 0 where
   pub all : List ℕ
   pub follows : Follows Reads reader rest all
   pub fits : length all ≤ longest_input

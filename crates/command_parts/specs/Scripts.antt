@@ -2,12 +2,12 @@
 use Rattle.std.specs.Prelude.{◌≡◌, ℕ, ◌+◌, List, length, Option, Ok, Err, Result}
 use Rattle.std.specs.Io.KnownBytes.{prepend_known}
 use Rattle.law_model.specs.Limits.{longest_input}
-use Rattle.law_model.specs.declared.script.Script.{Script}
-use Rattle.text_scripts.specs.declared.script_read.fault.ScriptFault.{ScriptFault}
-use Rattle.text_scripts.specs.declared.script_read.pieces.ScriptReader.{ScriptReader}
-use Rattle.text_scripts.specs.script_read.Pieces.{IsReader, Stands}
+use Rattle.law_model.specs.declared.script_types.Script.{Script}
+use Rattle.text_scripts.specs.declared.script_read.script_fault.ScriptFault.{ScriptFault}
+use Rattle.text_scripts.specs.declared.script_read.script_reader.ScriptReader.{ScriptReader}
+use Rattle.text_scripts.specs.script_read.Pieces.{IsReader, ReaderStands}
 use Rattle.text_scripts.specs.script_read.Script.{script_of}
-use Rattle.command_parts.specs.declared.stop.Refusal.{Refusal}
+use Rattle.command_parts.specs.declared.stop_and_status.Refusal.{Refusal}
 use Rattle.command_parts.specs.Task.{Answer}
 use Rattle.command_parts.specs.Ends.{Lent, HasRead}
 use Rattle.command_parts.specs.Faults.{fault_text, why_of}
@@ -34,7 +34,7 @@ pub record HasScript {S : Type 0} (source : Lent S) (script : Script) : Type 0 w
 -- a reader of a script was made by its calls, and has read this text, which ends where a line does
 pub record ReadsScript (reader : ScriptReader) (text : List ℕ) : Type 0 where
   pub made : IsReader reader
-  pub stands : Stands reader text
+  pub stands : ReaderStands reader text
 
 -- a source has given this text, without a fault, and may give so many octets more
 pub record IsTaken {S : Type 0} (left : S → Option (List ℕ)) (faults : S → ℕ) (old now : S) (text : List ℕ)

@@ -1,8 +1,8 @@
 -- Why a command stopped, as private clauses say it.
 use Rattle.std.specs.Prelude.{◌≡◌, ℕ, ◌<◌, List, length, IfSome, codes}
-use Rattle.command_parts.specs.declared.stop.Refusal.{Refusal}
-use Rattle.command_parts.specs.declared.stop.Stop.{Stop}
-use Rattle.command_parts.specs.declared.stop.Stop.TheVariants.{Read, TooLong, Refused, Write, Memory}
+use Rattle.command_parts.specs.declared.stop_and_status.Refusal.{Refusal}
+use Rattle.command_parts.specs.declared.stop_and_status.Stop.{Stop}
+use Rattle.command_parts.specs.declared.stop_and_status.Stop.TheVariants.{Read, TooLong, Refused, Write, Memory}
 use Rattle.command_parts.specs.Task.{Answer, refuses, reads, refused_status}
 use Rattle.command_parts.specs.Ends.{Lent, FailedOnce, IsLong, Quiet, Meets}
 

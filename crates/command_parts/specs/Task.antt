@@ -1,7 +1,7 @@
 -- What the words of a command line ask of a program, as plain data.
 use Rattle.std.specs.Prelude.{ℕ, List}
-use Rattle.command_parts.specs.declared.stop.Refusal.{Refusal}
-use Rattle.command_parts.specs.declared.stop.Refusal.TheVariants.{Line, Limit}
+use Rattle.command_parts.specs.declared.stop_and_status.Refusal.{Refusal}
+use Rattle.command_parts.specs.declared.stop_and_status.Refusal.TheVariants.{Line, Limit}
 
 -- what a command makes of its input: the text that it writes on `out`; its texts on `out` and on notes; why the input
 -- isn't what it

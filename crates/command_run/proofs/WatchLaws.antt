@@ -3,12 +3,12 @@ use Rattle.std.proofs.Common.{◌≡◌, ℕ, zero, suc, ◌+◌, ◌<◌, List,
 use Rattle.std.proofs.Common.{arith}
 use Rattle.std.specs.List.{flat_map, range_with_len}
 use Rattle.std.proofs.lemmas.List.{append-nil}
-use Rattle.base_io.specs.Transfer.{Appends}
-use Rattle.base_io.proofs.Parts.{Appends-none}
+use Rattle.octet_io.specs.Transfer.{Appends}
+use Rattle.octet_io.proofs.Parts.{Appends-none}
 use Rattle.text_got.specs.Told.{AppendsSome}
-use Rattle.law_model.specs.declared.script.Script.{Script}
+use Rattle.law_model.specs.declared.script_types.Script.{Script}
 use Rattle.law_model.specs.session.Leg.{leg_of}
-use Rattle.thread_rings.specs.declared.alarm.Alarm.{Alarm}
+use Rattle.thread_rings.specs.declared.alarm_kinds.Alarm.{Alarm}
 use Rattle.thread_rings.specs.Alarms.{alarms_of_line}
 use Rattle.thread_alarms.specs.alarm_log.Alarms.{of_line}
 use Rattle.thread_alarms.specs.alarm_text.Text.{alarm_texts, lines_text}

@@ -2,10 +2,10 @@
 use Rattle.std.specs.Prelude.{ℕ, List, Option, Some, None, String, map, string_bytes, codes}
 use Rattle.std.specs.Option.{option_or}
 use Rattle.std.specs.declared.alloc.Global.{Global}
-use Rattle.text_words.specs.Words.{taken_as}
+use Rattle.command_words.specs.Words.{taken_as}
 use Rattle.command_parts.specs.Task.{Task, none, reads}
-use Rattle.command_run.specs.declared.command.RunCommand.{RunCommand}
-use Rattle.command_run.specs.declared.command.RunCommand.TheVariants.{Run, Watch}
+use Rattle.command_run.specs.declared.command_of_words.RunCommand.{RunCommand}
+use Rattle.command_run.specs.declared.command_of_words.RunCommand.TheVariants.{Run, Watch}
 use Rattle.command_run.specs.Run.{run_words, run_answer}
 use Rattle.command_run.specs.Watch.{watch_words, watch_answer}
 

@@ -3,11 +3,11 @@ use Rattle.std.specs.Prelude.{ℕ, ◌==◌, ◌&&◌, List, [], length, bytes_e
 use Rattle.std.specs.Prelude.{if◌then◌else◌}
 use Rattle.law_model.specs.session.Leg.{leg_of}
 use Rattle.law_walk.specs.Report.{final_report}
-use Rattle.text_words.specs.Words.{number_in}
+use Rattle.command_words.specs.Words.{number_in}
 use Rattle.command_parts.specs.Task.{Answer, writes}
 use Rattle.command_parts.specs.Scripts.{script_answer}
-use Rattle.command_run.specs.declared.command.RunCommand.{RunCommand}
-use Rattle.command_run.specs.declared.command.RunCommand.TheVariants.{Run}
+use Rattle.command_run.specs.declared.command_of_words.RunCommand.{RunCommand}
+use Rattle.command_run.specs.declared.command_of_words.RunCommand.TheVariants.{Run}
 
 -- with 1 to 64 threads for its lines
 abbrev pub run_of : Option ℕ → Option RunCommand

@@ -4,12 +4,12 @@
 //! knows how a stream is scrambled.
 #![tactic(auto)]
 
-mod command;
-mod end;
+mod command_of_words;
+mod run_end;
 mod run;
-mod top;
+mod top_call;
 mod watch;
 
-pub use command::RunCommand;
-pub use end::RunEnd;
-pub use top::run_top;
+pub use command_of_words::RunCommand;
+pub use run_end::RunEnd;
+pub use top_call::run_top;

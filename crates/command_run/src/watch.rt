@@ -1,7 +1,7 @@
 //! `watch`: a script's session is run, and what came of it is written, with the alarms of its lines on `notes`.
 ghost use Rattle.std.specs.Prelude.{◌≡◌, ◌≢◌, ◌≤◌, ◌<◌, None, OnOk, OnErr, map, string_bytes};
-ghost use Rattle.base_io.specs.Transfer.{Appends, AppendsPart};
-ghost use Rattle.text_words.specs.Words.{number_in};
+ghost use Rattle.octet_io.specs.Transfer.{Appends, AppendsPart};
+ghost use Rattle.command_words.specs.Words.{number_in};
 ghost use Rattle.thread_alarms.specs.alarm_log.Logs.{alarms_in};
 ghost use Rattle.thread_alarms.specs.alarm_text.Text.{lines_text};
 ghost use Rattle.command_parts.specs.Status.{HasRunAt};
@@ -10,16 +10,16 @@ ghost use Rattle.command_parts.specs.Ends.{Ends, lent};
 ghost use Rattle.command_run.specs.Watch.{watch_of, watch_words, watch_answer};
 ghost use Rattle.command_run.specs.Ended.{HandsSession};
 
-use crate::command::RunCommand;
-use crate::end::{RunEnd, cut, done, stopped};
+use crate::command_of_words::RunCommand;
+use crate::run_end::{RunEnd, cut, done, stopped};
 use crate::run::write_end;
-use base_io::{ByteSink, ByteSource, Failed, take_back};
+use octet_io::{ByteSink, ByteSource, Failed, take_back};
 use command_parts::{Stop, read_whole_script};
 use std::alloc::Global;
 use std::sync::Wait;
 use std::thread::Threads;
 use text_got::GotLines;
-use text_words::number_within;
+use command_words::number_within;
 use thread_alarms::alarm_log::AlarmList;
 use thread_alarms::alarm_text::write_alarms;
 use thread_rings::Gate;

@@ -4,24 +4,24 @@
 #![tactic(auto)]
 
 #[cfg(test)]
-mod door;
+mod gate_door;
 #[cfg(test)]
-mod group;
+mod beginnings_of_script;
 #[cfg(test)]
-mod noise;
+mod noise_command;
 #[cfg(test)]
-mod pairs;
+mod pair_command;
 #[cfg(test)]
-mod pointers;
+mod au4_command;
 #[cfg(test)]
-mod rows;
+mod try_rows;
 #[cfg(test)]
-mod running;
+mod run_and_watch;
 #[cfg(test)]
-mod scripts;
+mod script_rows;
 #[cfg(test)]
-mod sharing;
+mod channels_command;
 #[cfg(test)]
-mod walking;
+mod walk_commands;
 #[cfg(test)]
-mod words;
+mod words_of_commands;

@@ -6,34 +6,34 @@ use Rattle.std.specs.Option.{option_or}
 use Rattle.std.specs.declared.alloc.Global.{Global}
 use Rattle.std.proofs.lemmas.Bool.{cases_Bool, and_parts, leb-true, ltb-true}
 use Rattle.text_lines.specs.Words.{number_of}
-use Rattle.text_words.specs.Words.{is_number, number_in, are_plain}
+use Rattle.command_words.specs.Words.{is_number, number_in, are_plain}
 use Rattle.law_model.specs.session.Valid.{IsWithin}
-use Rattle.text_scripts.specs.rate_load.Lines.{IsRateLoad}
+use Rattle.text_scripts.specs.rate_load.RateTexts.{IsRateLoad}
 use Rattle.command_parts.specs.Task.{Answer, Task, none, makes, IsCommand}
 use Rattle.command_parts.specs.Ends.{Lent, Kept, IsTold, Ends, no_source, no_command}
 use Rattle.command_parts.specs.Stops.{note_of}
 use Rattle.command_parts.specs.Status.{HasRunAt}
-use Rattle.command_parts.specs.declared.stop.Stop.TheVariants.{Memory}
+use Rattle.command_parts.specs.declared.stop_and_status.Stop.TheVariants.{Memory}
 use Rattle.command_parts.proofs.StopLaws.{made-beside, ends-no-memory}
-use Rattle.command_walk.specs.declared.command.WalkCommand.{WalkCommand}
-use Rattle.command_walk.specs.declared.command.WalkCommand.TheVariants.{Walk, Trace, Fates, Capture, Gfp, Frames}
-use Rattle.command_walk.specs.declared.command.WalkCommand.TheVariants.{Decode, Noise, Au4, Channels, Pair, Make}
-use Rattle.command_walk.specs.declared.command.WalkCommand.TheVariants.{Service, Stream}
-use Rattle.command_walk.specs.rooms.Walk.{word_at, is_word, walk_words}
-use Rattle.command_walk.specs.rooms.Trace.{trace_words}
-use Rattle.command_walk.specs.rooms.Fates.{fates_words}
-use Rattle.command_walk.specs.rooms.Service.{interval_of, service_words}
-use Rattle.command_walk.specs.rooms.Capture.{capture_words}
-use Rattle.command_walk.specs.rooms.Gfp.{gfp_words}
-use Rattle.command_walk.specs.rooms.Frames.{frames_words}
-use Rattle.command_walk.specs.rooms.Decode.{decode_words}
-use Rattle.command_walk.specs.rooms.Noise.{noise_words}
-use Rattle.command_walk.specs.rooms.Au4.{au4_words}
-use Rattle.command_walk.specs.rooms.Channels.{channels_words}
-use Rattle.command_walk.specs.rooms.Pair.{pair_words}
-use Rattle.command_walk.specs.rooms.Make.{load_of, make_words}
-use Rattle.command_walk.specs.rooms.Stream.{ticks_of, rate_of, numbers_in, stream_words}
-use Rattle.command_walk.specs.Commands.{command_of, task_at, command_in, task_for, task_of, usage}
+use Rattle.command_walk.specs.declared.command_of_words.WalkCommand.{WalkCommand}
+use Rattle.command_walk.specs.declared.command_of_words.WalkCommand.TheVariants.{Walk, Trace, Fates, Capture, Gfp, Frames}
+use Rattle.command_walk.specs.declared.command_of_words.WalkCommand.TheVariants.{Decode, Noise, Au4, Channels, Pair, Make}
+use Rattle.command_walk.specs.declared.command_of_words.WalkCommand.TheVariants.{Service, Stream}
+use Rattle.command_walk.specs.commands.Walk.{word_at, is_word, walk_words}
+use Rattle.command_walk.specs.commands.Trace.{trace_words}
+use Rattle.command_walk.specs.commands.Fates.{fates_words}
+use Rattle.command_walk.specs.commands.Service.{interval_of, service_words}
+use Rattle.command_walk.specs.commands.Capture.{capture_words}
+use Rattle.command_walk.specs.commands.Gfp.{gfp_words}
+use Rattle.command_walk.specs.commands.Frames.{frames_words}
+use Rattle.command_walk.specs.commands.Decode.{decode_words}
+use Rattle.command_walk.specs.commands.Noise.{noise_words}
+use Rattle.command_walk.specs.commands.Au4.{au4_words}
+use Rattle.command_walk.specs.commands.Channels.{channels_words}
+use Rattle.command_walk.specs.commands.Pair.{pair_words}
+use Rattle.command_walk.specs.commands.Make.{load_of, make_words}
+use Rattle.command_walk.specs.commands.Stream.{ticks_of, rate_of, numbers_in, stream_words}
+use Rattle.command_walk.specs.WordsOfCommands.{command_of, task_at, command_in, task_for, task_of, usage}
 use Rattle.law_model.specs.Limits.{longest_frame}
 
 -- ---- numbers

@@ -3,11 +3,11 @@ use Rattle.std.proofs.Common.{◌≡◌, ℕ, zero, suc, ◌+◌, ◌<◌, ◌�
 use Rattle.std.proofs.Common.{length, replicate, take, slice_get, get_or, Option, Some, None, refl, ◌∙◌, ap, arith}
 use Rattle.std.specs.List.{flat_map}
 use Rattle.std.proofs.lemmas.Bool.{cases_Bool}
-use Rattle.law_model.specs.declared.script.EventLine.{EventLine}
-use Rattle.law_model.specs.declared.script.EventLine.TheVariants.{Client, Operator, Round, Drain}
-use Rattle.law_model.specs.declared.script.EventLine.TheVariants as line
-use Rattle.law_model.specs.declared.walk.Event.{Event}
-use Rattle.law_model.specs.declared.walk.Event.TheVariants.{Accept, Command, Tick, Carry, Back, Take}
+use Rattle.law_model.specs.declared.script_types.EventLine.{EventLine}
+use Rattle.law_model.specs.declared.script_types.EventLine.TheVariants.{Client, Operator, Round, Drain}
+use Rattle.law_model.specs.declared.script_types.EventLine.TheVariants as line
+use Rattle.law_model.specs.declared.walk_events.Event.{Event}
+use Rattle.law_model.specs.declared.walk_events.Event.TheVariants.{Accept, Command, Tick, Carry, Back, Take}
 use Rattle.law_model.specs.session.Counts.{LinePath, LineCounts, Plan, Counts, in_send, in_receive, in_return, held, full}
 use Rattle.law_model.specs.session.Counts.{is_missing, tick_full, tick_held, tick, carry_at, back, pop_lines, take_popped}
 use Rattle.law_model.specs.session.Counts.{take_row, is_back_full, land_due, frame_dues, command_dues, step, run}

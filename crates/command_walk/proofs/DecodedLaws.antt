@@ -3,13 +3,13 @@ use Rattle.std.proofs.Common.{◌≡◌, ℕ, ◌+◌, ◌<◌, ◌≤◌, List,
 use Rattle.std.proofs.Common.{refl, sym, ap, ◌∙◌, subst, arith, append-nil, length-append, take-append-drop}
 use Rattle.std.proofs.lemmas.List.{take_more, take_all}
 use Rattle.std.proofs.lemmas.List.Concat.{flat_map-append}
-use Rattle.base_io.specs.Transfer.{Appends, AppendsPart}
-use Rattle.base_io.proofs.Parts.{Appends-none, Appends-then, AppendsPart-then, AppendsPart-longer}
-use Rattle.law_model.specs.declared.packet.Packet.{Packet}
-use Rattle.law_model.specs.declared.packet.PacketFault.{PacketFault}
+use Rattle.octet_io.specs.Transfer.{Appends, AppendsPart}
+use Rattle.octet_io.proofs.Parts.{Appends-none, Appends-then, AppendsPart-then, AppendsPart-longer}
+use Rattle.law_model.specs.declared.control_packet.Packet.{Packet}
+use Rattle.law_model.specs.declared.control_packet.PacketFault.{PacketFault}
 use Rattle.law_model.specs.packets.Decode.{Found, packets_on, packets_in}
 use Rattle.law_model.specs.packets.DecodeText.{found_text, found_texts, end_text, decoded_text}
-use Rattle.text_captures.proofs.TraceCoreLaws.WordingLaws.{packets_stay}
+use Rattle.text_captures.proofs.PacketTraceLaws.WordingLaws.{packets_stay}
 use Rattle.command_walk.specs.Written.{HasLines, HasLinesPart}
 
 -- ---- the lines

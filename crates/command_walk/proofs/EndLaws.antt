@@ -1,13 +1,13 @@
 -- How a traced walk ends: its text and its trace are written, or prefixes of them.
 use Rattle.std.proofs.Common.{◌≡◌, ℕ, false, not, List, [], ◌++◌, Option, sym, ◌∙◌, ap, subst, arith}
-use Rattle.base_io.specs.Transfer.{Appends}
-use Rattle.base_io.proofs.Parts.{Appends-none}
-use Rattle.law_model.specs.declared.script.Script.{Script}
+use Rattle.octet_io.specs.Transfer.{Appends}
+use Rattle.octet_io.proofs.Parts.{Appends-none}
+use Rattle.law_model.specs.declared.script_types.Script.{Script}
 use Rattle.law_model.specs.session.Leg.{leg_of}
 use Rattle.law_model.specs.session.Counts.{Counts, begin}
 use Rattle.text_report.specs.Report.{got_texts, refused_texts, total_text}
-use Rattle.base_io.specs.Start.{Start}
-use Rattle.text_got.specs.declared.got.GotLines.{GotLines}
+use Rattle.octet_io.specs.Start.{Start}
+use Rattle.text_got.specs.declared.got_text.GotLines.{GotLines}
 use Rattle.text_got.specs.Told.{GivesUp, HasText, has_failed, name_of, start_at}
 use Rattle.law_walk.specs.Walk.{walk_plan}
 use Rattle.law_walk.specs.Delivered.{delivered_of}
@@ -16,7 +16,7 @@ use Rattle.law_walk.specs.Report.{report_of}
 use Rattle.walk_engine.specs.walk_core.Moved.{Walked}
 use Rattle.command_walk.specs.Ended.{StopsBoth}
 use Rattle.law_headline.specs.Texts.{counts_in, walk_text}
-use Rattle.command_walk.specs.rooms.Trace.{decisions_text, trace_text}
+use Rattle.command_walk.specs.commands.Trace.{decisions_text, trace_text}
 use Rattle.command_walk.specs.Told.{TellsAll, TellsPart}
 use Rattle.command_walk.proofs.MakeLaws.{none-delivered}
 use Rattle.command_walk.proofs.TraceLaws.{stops-both, walk-given_up}

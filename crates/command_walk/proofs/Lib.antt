@@ -1,7 +1,7 @@
 pub mod MakeLaws
 pub mod TraceLaws
 pub mod EndLaws
-pub mod HexLineLaws
+pub mod HexTextLaws
 pub mod DecodedLaws
 pub mod CountLaws
 pub mod RoomLaws

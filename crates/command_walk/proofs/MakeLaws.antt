@@ -4,7 +4,7 @@ use Rattle.std.proofs.Common.{arith, length-append}
 use Rattle.std.proofs.lemmas.List.Sums.{sum_by_push}
 use Rattle.std.proofs.lemmas.List.{length-take-le}
 use borrow.Rule.Slice.PartMut.{put_mid, post_of}
-use Rattle.law_model.specs.declared.script.Script.{Script}
+use Rattle.law_model.specs.declared.script_types.Script.{Script}
 use Rattle.law_model.specs.session.Leg.{leg_of}
 use Rattle.law_model.specs.session.Counts.{Counts, begin, drain, bound}
 use Rattle.law_model.specs.session.Valid.{IsValid}
@@ -12,14 +12,14 @@ use Rattle.law_model.specs.rows.SessionStream.{rows_of}
 use Rattle.law_model.specs.frames.Segment.{segments_on}
 use Rattle.law_model.specs.frames.Run.{delineate_within}
 use Rattle.law_model.specs.frames.Hunt.{hunt_within}
-use Rattle.law_model.specs.declared.totals.Totals.{Totals}
+use Rattle.law_model.specs.declared.session_totals.Totals.{Totals}
 use Rattle.text_scripts.specs.make_load.Load.{load}
 use Rattle.law_walk.specs.Walk.{walk_plan}
 use Rattle.law_walk.specs.Landed.{totals_of}
 use Rattle.law_walk.specs.Delivered.{delivered_of}
 use Rattle.law_walk.proofs.CountLaws.{delivered-few}
 use Rattle.walk_engine.specs.walk_core.Moved.{Walked, delivered_since}
-use Rattle.command_walk.specs.rooms.Make.{octet_count, octet_sum, lines_text, make_text, HasSummed}
+use Rattle.command_walk.specs.commands.Make.{octet_count, octet_sum, lines_text, make_text, HasSummed}
 use Rattle.law_headline.specs.Texts.{counts_in}
 use Rattle.law_model.specs.Limits.{longest_frame}
 

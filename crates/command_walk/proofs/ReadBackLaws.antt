@@ -7,8 +7,8 @@ use Rattle.std.specs.List.{flat_map}
 use Rattle.std.proofs.lemmas.Bool.{cases_Bool, ltb-false}
 use Rattle.std.proofs.lemmas.List.Concat.{flat_map-append}
 use Rattle.std.proofs.lemmas.List.Elements.{All-nil, All-cons, All-head, All-tail, All-append, All-drop, All-weaker}
-use Rattle.law_model.specs.declared.script.Script.{Script}
-use Rattle.law_model.specs.declared.TypeFault.{TypeFault}
+use Rattle.law_model.specs.declared.script_types.Script.{Script}
+use Rattle.law_model.specs.declared.frame_faults.TypeFault.{TypeFault}
 use Rattle.law_model.specs.session.Leg.{leg_of}
 use Rattle.law_model.specs.Limits.{longest_frame}
 use Rattle.law_model.specs.frames.TypeHeader.{type_fault}
@@ -28,7 +28,7 @@ use Rattle.text_captures.specs.capture_file.Written.{RowFrame, AreRising, due_fr
 use Rattle.text_captures.specs.capture_file.Reading.{capture_said}
 use Rattle.text_captures.specs.capture_file.Out.{at_row}
 use Rattle.text_captures.proofs.CaptureFileLaws.WrittenLaws.{read-back}
-use Rattle.command_walk.specs.rooms.Capture.{frames_of_row, taken_frames, capture_octets}
+use Rattle.command_walk.specs.commands.Capture.{frames_of_row, taken_frames, capture_octets}
 use Rattle.command_walk.proofs.SeeLaws.{counts-walked}
 use Rattle.command_walk.proofs.TakenLaws.{taken-none, taken-more}
 

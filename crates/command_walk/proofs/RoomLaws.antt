@@ -1,10 +1,10 @@
 -- How the rooms of the commands end.
 use Rattle.std.proofs.Common.{◌≡◌, ◌≤◌, ℕ, List, length, Option, Some, IfSome, Result, Ok, Err, refl, sym, ◌∙◌, ap}
 use Rattle.std.proofs.Common.{subst, inl, inr, arith}
-use Rattle.base_io.specs.Transfer.{AppendsPart}
-use Rattle.law_model.specs.declared.script.Script.{Script}
+use Rattle.octet_io.specs.Transfer.{AppendsPart}
+use Rattle.law_model.specs.declared.script_types.Script.{Script}
 use Rattle.law_model.specs.session.Counts.{Counts}
-use Rattle.text_scripts.specs.declared.script_read.fault.ScriptFault.{ScriptFault}
+use Rattle.text_scripts.specs.declared.script_read.script_fault.ScriptFault.{ScriptFault}
 use Rattle.text_scripts.specs.script_read.Script.{script_of}
 use Rattle.law_headline.specs.Texts.{counts_in, walk_text}
 use Rattle.law_headline.specs.Headline.{IsWalkHeadline}
@@ -14,14 +14,14 @@ use Rattle.command_parts.specs.Task.{Answer, reads}
 use Rattle.command_parts.specs.Ends.{Lent, Takes, WritesAll, Ends}
 use Rattle.command_parts.specs.Scripts.{HasScript, answer_of, script_answer}
 use Rattle.command_parts.proofs.EndLaws.{is-done, known-text}
-use Rattle.pair_script.specs.declared.pair.PairFault.{PairFault}
-use Rattle.pair_script.specs.declared.pair.ScriptPair.{ScriptPair}
+use Rattle.pair_script.specs.declared.script_pair.PairFault.{PairFault}
+use Rattle.pair_script.specs.declared.script_pair.ScriptPair.{ScriptPair}
 use Rattle.pair_script.specs.Pair.{pair_of}
 use Rattle.pair_script.specs.Inputs.{pair_answer_of}
 use Rattle.pair_walk.specs.Text.{way_text, pair_text, pair_reply}
 use Rattle.pair_walk.proofs.HeadlineLaws.{pair_headline}
-use Rattle.command_walk.specs.rooms.Pair.{TellsPair}
-use Rattle.command_walk.specs.declared.command.WalkCommand.{WalkCommand}
+use Rattle.command_walk.specs.commands.Pair.{TellsPair}
+use Rattle.command_walk.specs.declared.command_of_words.WalkCommand.{WalkCommand}
 use Rattle.command_walk.specs.Ended.{HandsScript, StopsBoth}
 
 -- the walk of a script

@@ -3,7 +3,7 @@ use Rattle.std.proofs.Common.{◌≡◌, ℕ, ◌≤◌, Bool, true, false, List
 use Rattle.std.specs.Prelude.{Result, Ok, Err, codes, decimal, ◌-◌, ◌+◌, reverse, slice_index_or}
 use Rattle.std.specs.List.{flat_map}
 use Rattle.std.proofs.lemmas.List.{reverse-append}
-use Rattle.law_model.specs.declared.script.Script.{Script}
+use Rattle.law_model.specs.declared.script_types.Script.{Script}
 use Rattle.law_model.specs.session.Counts.{Counts}
 use Rattle.law_model.specs.session.Leg.{Leg, leg_of}
 use Rattle.law_model.specs.session.Scenario.{scenario_by}
@@ -12,7 +12,7 @@ use Rattle.law_walk.specs.Walk.{walk_plan, session_of}
 use Rattle.law_walk.specs.Delivered.{session_rows}
 use Rattle.law_walk.specs.Promise.{session_pieces, ConfirmsTrue}
 use Rattle.law_walk.specs.Report.{final_report}
-use Rattle.text_scripts.specs.declared.script_read.fault.ScriptFault.{ScriptFault}
+use Rattle.text_scripts.specs.declared.script_read.script_fault.ScriptFault.{ScriptFault}
 use Rattle.text_scripts.specs.script_read.Script.{script_of}
 use Rattle.text_scripts.proofs.ScriptReadLaws.ReadLaws.{valid_text}
 use Rattle.law_headline.specs.Texts.{counts_in, walk_text}
@@ -26,7 +26,7 @@ use Rattle.fate_engine.specs.fate_law.FateText.{spoiled_text, segment_text, ende
 use Rattle.fate_engine.proofs.FateLaws.FateLaws.{starts-decided}
 use Rattle.command_parts.specs.Task.{Answer, writes}
 use Rattle.command_parts.specs.Scripts.{answer_of}
-use Rattle.command_walk.specs.rooms.Fates.{fates_answer, EndsTrue, WalksTrue}
+use Rattle.command_walk.specs.commands.Fates.{fates_answer, EndsTrue, WalksTrue}
 
 -- ---- how a text ends
 -- the octet that is the third from the end

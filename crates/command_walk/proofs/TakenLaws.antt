@@ -5,8 +5,8 @@ use Rattle.std.specs.List.{flat_map, range_with_len}
 use Rattle.std.proofs.lemmas.List.{map-append}
 use Rattle.std.proofs.lemmas.List.Concat.{flat_map-append}
 use Rattle.std.proofs.lemmas.List.FromFn.{map-range_with_len_more}
-use Rattle.base_io.specs.Start.{Start}
-use Rattle.law_model.specs.declared.script.Script.{Script}
+use Rattle.octet_io.specs.Start.{Start}
+use Rattle.law_model.specs.declared.script_types.Script.{Script}
 use Rattle.law_model.specs.session.Leg.{leg_of}
 use Rattle.law_model.specs.session.Counts.{Counts, begin}
 use Rattle.law_walk.specs.Walk.{walk_plan}
@@ -17,7 +17,7 @@ use Rattle.text_captures.specs.capture_file.Written.{RowFrame}
 use Rattle.text_captures.specs.declared.capture_file.capture_out.CaptureOut.{CaptureOut}
 use Rattle.text_captures.specs.capture_file.Out.{HasCapture, AddsRow, at_row}
 use Rattle.text_captures.proofs.CaptureFileLaws.OutLaws.{row-more}
-use Rattle.command_walk.specs.rooms.Capture.{frames_of_row, taken_frames, HasTaken}
+use Rattle.command_walk.specs.commands.Capture.{frames_of_row, taken_frames, HasTaken}
 use Rattle.command_walk.proofs.MakeLaws.{none-delivered}
 use Rattle.command_walk.proofs.TraceLaws.{since}
 

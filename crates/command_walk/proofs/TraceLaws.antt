@@ -5,11 +5,11 @@ use Rattle.std.proofs.Common.{refl, sym, ◌∙◌, ap, arith, subst, append_ass
 use Rattle.std.specs.List.{flat_map, range_with_len}
 use Rattle.std.proofs.lemmas.Bool.{lt-ltb}
 use Rattle.std.proofs.lemmas.Grind.{flat_map-append}
-use Rattle.base_io.specs.Transfer.{Appends, AppendsPart}
-use Rattle.base_io.proofs.Parts.{AppendsPart-longer}
-use Rattle.law_model.specs.declared.script.Script.{Script}
-use Rattle.law_model.specs.declared.script.EventLine.{EventLine}
-use Rattle.law_model.specs.declared.walk.Event.{Event}
+use Rattle.octet_io.specs.Transfer.{Appends, AppendsPart}
+use Rattle.octet_io.proofs.Parts.{AppendsPart-longer}
+use Rattle.law_model.specs.declared.script_types.Script.{Script}
+use Rattle.law_model.specs.declared.script_types.EventLine.{EventLine}
+use Rattle.law_model.specs.declared.walk_events.Event.{Event}
 use Rattle.law_model.specs.session.Leg.{leg_of}
 use Rattle.law_model.specs.session.Valid.{IsValid}
 use Rattle.law_model.specs.session.Scenario.{scenario_of, steps_in}
@@ -18,8 +18,8 @@ use Rattle.law_model.specs.source.Source.{after}
 use Rattle.law_model.specs.session.Counts.{Plan, Counts, step, run, run_lines, begin, round}
 use Rattle.law_progress.proofs.ReachLaws.{run-append, walked-reached}
 use Rattle.text_report.specs.Report.{got_text, got_texts, refused_texts, total_text}
-use Rattle.base_io.specs.Start.{Start}
-use Rattle.text_captures.proofs.TraceCoreLaws.StepTextLaws.{texts-more}
+use Rattle.octet_io.specs.Start.{Start}
+use Rattle.text_captures.proofs.PacketTraceLaws.StepTextLaws.{texts-more}
 use Rattle.text_got.specs.Told.{AppendsSome, GivesUp}
 use Rattle.law_walk.specs.Delivered.{delivered_of}
 use Rattle.law_walk.specs.Walk.{session_of, walk_plan, IsWalked}
@@ -30,11 +30,11 @@ use Rattle.law_walk.proofs.PlanLaws.{has-paths, sound-walks}
 use Rattle.law_walk.proofs.WalkLaws.{begins-walked}
 use Rattle.walk_engine.specs.walk_core.Moved.{Walked, GivesRows, delivered_since}
 use Rattle.walk_engine.specs.walk_core.Parts.{note_of}
-use Rattle.walk_engine.specs.declared.walk_core.moved.StepNote.{StepNote}
-use Rattle.text_captures.specs.trace_core.StepText.{step_text}
+use Rattle.walk_engine.specs.declared.walk_core.step_answers.StepNote.{StepNote}
+use Rattle.text_captures.specs.packet_trace.StepText.{step_text}
 use Rattle.command_walk.specs.Ended.{StopsBoth}
 use Rattle.law_headline.specs.Texts.{counts_in, walk_text}
-use Rattle.command_walk.specs.rooms.Trace.{decision_text, decisions_text}
+use Rattle.command_walk.specs.commands.Trace.{decision_text, decisions_text}
 use Rattle.command_walk.specs.Told.{TellsPart, IsTold}
 use Rattle.command_walk.proofs.CountLaws.{Moves, step-moves, round-moves, replicate-last}
 

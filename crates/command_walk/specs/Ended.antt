@@ -2,8 +2,8 @@
 -- sink tells of its
 -- octets, where it tells them, and its count of faults.
 use Rattle.std.specs.Prelude.{◌≡◌, ◌⊎◌, ℕ, List, Option, Some}
-use Rattle.base_io.specs.Transfer.{AppendsPart}
-use Rattle.law_model.specs.declared.script.Script.{Script}
+use Rattle.octet_io.specs.Transfer.{AppendsPart}
+use Rattle.law_model.specs.declared.script_types.Script.{Script}
 use Rattle.law_headline.specs.Texts.{counts_in}
 use Rattle.walk_engine.specs.walk_core.Moved.{Walked}
 use Rattle.text_got.specs.Told.{AppendsSome}

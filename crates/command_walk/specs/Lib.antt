@@ -1,6 +1,6 @@
-pub mod Commands
+pub mod WordsOfCommands
 pub mod Ended
 pub mod Written
 pub mod Told
 pub mod ReadyWalk
-pub mod rooms
+pub mod commands

@@ -2,7 +2,7 @@
 -- the sink before the
 -- first line, and `now` is the sink as it is.
 use Rattle.std.specs.Prelude.{◌≡◌, ℕ, List, length, Option}
-use Rattle.base_io.specs.Transfer.{Appends, AppendsPart}
+use Rattle.octet_io.specs.Transfer.{Appends, AppendsPart}
 use Rattle.law_model.specs.packets.Decode.{packets_in}
 use Rattle.law_model.specs.packets.DecodeText.{found_texts}
 

@@ -10,18 +10,18 @@
 //! scrambled.
 #![tactic(auto)]
 
-mod command;
-mod end;
-mod hex_lines;
-mod rooms;
-mod top;
+mod command_of_words;
+mod walk_end;
+mod hex_text;
+mod commands;
+mod top_call;
 mod turns;
 
-pub use command::WalkCommand;
-pub use end::WalkEnd;
-pub use rooms::au4::au4_law;
-pub use rooms::capture::{capture_law, capture_read_law};
-pub use rooms::channels::channels_law;
-pub use rooms::fates::starts_law;
-pub use rooms::noise::noise_law;
-pub use top::walk_top;
+pub use command_of_words::WalkCommand;
+pub use walk_end::WalkEnd;
+pub use commands::au4::au4_law;
+pub use commands::capture::{capture_law, capture_read_law};
+pub use commands::channels::channels_law;
+pub use commands::fates::starts_law;
+pub use commands::noise::noise_law;
+pub use top_call::walk_top;

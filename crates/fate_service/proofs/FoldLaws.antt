@@ -3,13 +3,13 @@ use Rattle.std.proofs.Common.{◌≡◌, ℕ, suc, ◌+◌, ◌-◌, ◌*◌, �
 use Rattle.std.proofs.Common.{get_or, refl, sym, ap, subst, arith}
 use Rattle.std.specs.Prelude.{if◌then◌else◌, not}
 use Rattle.std.proofs.lemmas.List.{at_drop_more, at_drop_all}
-use Rattle.fate_service.specs.declared.landed.Tally.{Tally}
-use Rattle.fate_service.specs.declared.landed.CarriedFrame.{CarriedFrame}
-use Rattle.fate_service.specs.declared.landed.OfferedFrame.{OfferedFrame}
-use Rattle.fate_service.specs.declared.rows.RowState.{RowState}
-use Rattle.fate_service.specs.declared.stretch.Came.{Came}
-use Rattle.fate_service.specs.declared.stretch.Ended.{Ended}
-use Rattle.fate_service.specs.declared.stretch.Peak.{Peak}
+use Rattle.fate_service.specs.declared.landed_frames.Tally.{Tally}
+use Rattle.fate_service.specs.declared.landed_frames.CarriedFrame.{CarriedFrame}
+use Rattle.fate_service.specs.declared.landed_frames.OfferedFrame.{OfferedFrame}
+use Rattle.fate_service.specs.declared.row_states.RowState.{RowState}
+use Rattle.fate_service.specs.declared.stretch_counts.Came.{Came}
+use Rattle.fate_service.specs.declared.stretch_counts.Ended.{Ended}
+use Rattle.fate_service.specs.declared.stretch_counts.Peak.{Peak}
 use Rattle.fate_service.specs.declared.outages.Outage.{Outage}
 use Rattle.fate_service.specs.Frames.{with_frame, with_frame_if}
 use Rattle.fate_service.specs.RowStates.{is_dark, dark_on}

@@ -4,20 +4,20 @@ use Rattle.std.proofs.Common.{Option, Some, None, refl, sym, ◌∙◌, ap, subs
 use Rattle.std.proofs.Common.{length-append, length-take}
 use Rattle.std.proofs.lemmas.List.{map-append}
 use Rattle.std.proofs.lemmas.List.Concat.{flat_map-append}
-use Rattle.law_model.specs.declared.refusal.Refusal.{Refusal}
+use Rattle.law_model.specs.declared.item_refusals.Refusal.{Refusal}
 use Rattle.law_model.specs.session.Leg.{Leg}
 use Rattle.law_model.specs.session.Counts.{Counts}
 use Rattle.fate_engine.specs.declared.fate_law.Fate.{Fate}
 use Rattle.fate_engine.specs.fate_law.SessionFates.{End, refused, accepted, Ended, ended_on, ended_of, has_waited}
-use Rattle.fate_walks.specs.declared.walk_frames.landed.LandedFrame.{LandedFrame}
+use Rattle.fate_walks.specs.declared.walk_frames.landed_cursor.LandedFrame.{LandedFrame}
 use Rattle.fate_walks.specs.walk_frames.Landed.{Cursor, frames_before_item, frames_left, IsAt, IsNext, IsPast}
-use Rattle.fate_walks.specs.walk_fates.Lines.{fates_in, end_by}
+use Rattle.fate_walks.specs.walk_fates.MadeWalk.{fates_in, end_by}
 use Rattle.fate_walks.proofs.WalkFramesLaws.NextLaws.{next-count}
 use Rattle.fate_walks.proofs.WalkFatesLaws.LineLaws.{accepted_by, ended_frame, next-ended, commands-none, offers-few}
 use Rattle.law_walk.specs.Landed.{landed_from}
-use Rattle.fate_service.specs.declared.landed.Tally.{Tally}
-use Rattle.fate_service.specs.declared.landed.CarriedFrame.{CarriedFrame}
-use Rattle.fate_service.specs.declared.landed.LandedFrames.{LandedFrames}
+use Rattle.fate_service.specs.declared.landed_frames.Tally.{Tally}
+use Rattle.fate_service.specs.declared.landed_frames.CarriedFrame.{CarriedFrame}
+use Rattle.fate_service.specs.declared.landed_frames.LandedFrames.{LandedFrames}
 use Rattle.fate_service.specs.Frames.{no_frames, with_frame_if, offered_frame, due_if, accepted_of}
 use Rattle.fate_service.specs.Frames.{carried_end, listed, carried_of, waits_on, AreLanded, TakesFrame}
 

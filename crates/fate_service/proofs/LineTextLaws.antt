@@ -1,9 +1,9 @@
 -- A line that has grown by one text and then by another.
 use Rattle.std.proofs.Common.{ℕ, List, ◌++◌, ◌∙◌, ap, arith, append_assoc, length-append}
-use Rattle.text_report.specs.declared.line.LineCursor.{LineCursor}
-use Rattle.text_report.specs.Line.{text_of, Extends}
+use Rattle.text_report.specs.declared.text_cursor.TextCursor.{TextCursor}
+use Rattle.text_report.specs.TextCursor.{text_of, Extends}
 
-pub extends-then : {old middle new : LineCursor} {x y : List ℕ} → Extends old middle x → Extends middle new y →
+pub extends-then : {old middle new : TextCursor} {x y : List ℕ} → Extends old middle x → Extends middle new y →
     Extends old new (x ++ y)
 extends-then {old} {middle} {new} {x} {y} one two = record {
   text = two.text ∙ ap (λ l. l ++ y) one.text ∙ append_assoc (text_of old) x y;

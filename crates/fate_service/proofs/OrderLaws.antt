@@ -3,10 +3,10 @@ use Rattle.std.proofs.Common.{◌≡◌, ℕ, zero, suc, ◌+◌, ◌-◌, ◌<�
 use Rattle.std.proofs.Common.{◌++◌, length, get_or, Option, Some, None, slice_get, refl, sym, subst, arith}
 use Rattle.std.proofs.Common.{inl, inr}
 use Rattle.std.specs.List.Sorted.{IsNonDecreasing, IsNonDecreasingBy}
-use Rattle.law_model.specs.declared.refusal.Refusal.{Refusal}
-use Rattle.law_model.specs.declared.script.Item.{Item}
-use Rattle.law_model.specs.declared.script.ItemKind.{ItemKind}
-use Rattle.law_model.specs.declared.script.ItemKind.TheVariants.{Frame, Add, Remove}
+use Rattle.law_model.specs.declared.item_refusals.Refusal.{Refusal}
+use Rattle.law_model.specs.declared.script_types.Item.{Item}
+use Rattle.law_model.specs.declared.script_types.ItemKind.{ItemKind}
+use Rattle.law_model.specs.declared.script_types.ItemKind.TheVariants.{Frame, Add, Remove}
 use Rattle.law_model.specs.session.Leg.{Leg}
 use Rattle.law_model.specs.session.Counts.{Counts, Due, dues_of, due_of, frame_dues}
 use Rattle.law_model.specs.session.Valid.{IsSound}
@@ -28,12 +28,12 @@ use Rattle.fate_engine.proofs.FateLaws.RowLaws.{row-of_place}
 use Rattle.fate_engine.proofs.FateLaws.SpanLaws.{fate-rows}
 use Rattle.fate_engine.proofs.FateCoreLaws.PieceLaws.{order-of}
 use Rattle.law_walk.specs.Landed.{Numbered, is_client, with_if, landed_from, landed_items, refusal_at}
-use Rattle.fate_walks.specs.walk_fates.Lines.{fates_in}
+use Rattle.fate_walks.specs.walk_fates.MadeWalk.{fates_in}
 use Rattle.fate_walks.proofs.WalkFatesLaws.LineLaws.{with-skips, landed-client, landed-other}
 use Rattle.fate_engine.specs.declared.fate_law.Fate.{Fate}
 use Rattle.fate_engine.specs.fate_law.SessionFates.{End, refused, accepted, Ended, ended_then, ended_on, ended_of, fate_if, fate_at}
-use Rattle.fate_service.specs.declared.landed.OfferedFrame.{OfferedFrame}
-use Rattle.fate_service.specs.declared.landed.CarriedFrame.{CarriedFrame}
+use Rattle.fate_service.specs.declared.landed_frames.OfferedFrame.{OfferedFrame}
+use Rattle.fate_service.specs.declared.landed_frames.CarriedFrame.{CarriedFrame}
 use Rattle.fate_service.specs.Frames.{offered_of, due_if, accepted_of, carried_if, listed, carried_of}
 
 -- ---- a key that never falls

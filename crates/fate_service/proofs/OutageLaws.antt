@@ -10,8 +10,8 @@ use Rattle.law_walk.specs.Walk.{session_of}
 use Rattle.law_walk.specs.Delivered.{session_rows}
 use Rattle.fate_engine.proofs.FateCoreLaws.FateSteps.{rows-count}
 use Rattle.fate_service.specs.declared.outages.Outage.{Outage}
-use Rattle.fate_service.specs.declared.rows.RowState.{RowState}
-use Rattle.fate_service.specs.declared.rows.RowState.TheVariants.{Clear, Hunting, Spoiled}
+use Rattle.fate_service.specs.declared.row_states.RowState.{RowState}
+use Rattle.fate_service.specs.declared.row_states.RowState.TheVariants.{Clear, Hunting, Spoiled}
 use Rattle.fate_service.specs.RowStates.{state_of, states_of}
 use Rattle.fate_service.specs.Outages.{grown, with_dark, with_state, outages_on, outages_of, HasFewSpoiled}
 

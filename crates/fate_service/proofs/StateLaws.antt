@@ -14,10 +14,10 @@ use Rattle.fate_engine.specs.fate_law.Fates.{row_at, spoiled_after}
 use Rattle.fate_engine.specs.fate_law.Spans.{row_segments, mark_of_row}
 use Rattle.fate_engine.proofs.FateCoreLaws.FateSteps.{place-up, row-is}
 use Rattle.law_loss.proofs.SessionStreamLaws.{rows-length}
-use Rattle.fate_walks.specs.declared.walk_fates.seen.SeenWalk.{SeenWalk}
-use Rattle.fate_walks.specs.walk_fates.Lines.{SeesWalk}
+use Rattle.fate_walks.specs.declared.walk_fates.seen_rows.SeenWalk.{SeenWalk}
+use Rattle.fate_walks.specs.walk_fates.MadeWalk.{SeesWalk}
 use Rattle.fate_walks.proofs.WalkFatesLaws.LineLaws.{mark-of-low, reach}
-use Rattle.fate_service.specs.declared.rows.RowState.TheVariants.{Clear, Hunting, Spoiled}
+use Rattle.fate_service.specs.declared.row_states.RowState.TheVariants.{Clear, Hunting, Spoiled}
 use Rattle.fate_service.specs.RowStates.{state_by_mark, state_of}
 
 module _ (rows : List StreamRow) (t : ℕ) where

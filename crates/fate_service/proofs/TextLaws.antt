@@ -5,15 +5,15 @@ use Rattle.std.specs.List.{flat_map, range_with_len}
 use Rattle.std.proofs.lemmas.Bool.{cases_Bool, lt-ltb, le-ltb}
 use Rattle.std.proofs.lemmas.List.{at_drop_more, at_drop_all}
 use Rattle.fate_engine.specs.declared.fate_law.Cause.{Cause}
-use Rattle.fate_service.specs.declared.landed.Tally.{Tally}
-use Rattle.fate_service.specs.declared.landed.CarriedFrame.{CarriedFrame}
-use Rattle.fate_service.specs.declared.members.WidthRun.{WidthRun}
+use Rattle.fate_service.specs.declared.landed_frames.Tally.{Tally}
+use Rattle.fate_service.specs.declared.landed_frames.CarriedFrame.{CarriedFrame}
+use Rattle.fate_service.specs.declared.width_run.WidthRun.{WidthRun}
 use Rattle.fate_service.specs.declared.outages.Outage.{Outage}
-use Rattle.fate_service.specs.declared.lines.Ends.{Ends}
-use Rattle.fate_service.specs.declared.stretch.Came.{Came}
-use Rattle.fate_service.specs.declared.stretch.Ended.{Ended}
-use Rattle.fate_service.specs.declared.stretch.Peak.{Peak}
-use Rattle.fate_service.specs.declared.stretch.Stretch.{Stretch}
+use Rattle.fate_service.specs.declared.service_text.Ends.{Ends}
+use Rattle.fate_service.specs.declared.stretch_counts.Came.{Came}
+use Rattle.fate_service.specs.declared.stretch_counts.Ended.{Ended}
+use Rattle.fate_service.specs.declared.stretch_counts.Peak.{Peak}
+use Rattle.fate_service.specs.declared.stretch_counts.Stretch.{Stretch}
 use Rattle.fate_service.specs.Members.{runs_on, runs_of}
 use Rattle.fate_service.specs.Outages.{losses, next_first}
 use Rattle.fate_service.specs.Stretches.{spans_on}

@@ -1,8 +1,8 @@
 -- The delays of the frames that were got: the least, one that half of them don't exceed, one that 99 of 100 don't, and
 -- the greatest.
 use Rattle.std.specs.Prelude.{ℕ, zero, suc, ◌+◌, ◌*◌, ◌/◌, nat_le, ◌&&◌, if◌then◌else◌, min, Bool, List, [], ◌∷◌}
-use Rattle.fate_service.specs.declared.landed.CarriedFrame.{CarriedFrame}
-use Rattle.fate_service.specs.declared.delays.Delays.{Delays}
+use Rattle.fate_service.specs.declared.landed_frames.CarriedFrame.{CarriedFrame}
+use Rattle.fate_service.specs.declared.frame_delays.Delays.{Delays}
 use Rattle.fate_service.specs.Stretches.{delay_of, ended_of}
 
 -- how many were got with a delay of at most so many ticks

@@ -4,10 +4,10 @@ use Rattle.std.specs.List.{flat_map}
 use Rattle.fate_engine.specs.declared.fate_law.Fate.{Fate}
 use Rattle.fate_engine.specs.declared.fate_law.Fate.TheVariants.{Waits, Cut, Unconfirmed, Hunting, Unsettled, Got}
 use Rattle.fate_engine.specs.fate_law.SessionFates.{End, refused, accepted, Ended, is_refused, has_waited}
-use Rattle.fate_service.specs.declared.landed.Tally.{Tally}
-use Rattle.fate_service.specs.declared.landed.OfferedFrame.{OfferedFrame}
-use Rattle.fate_service.specs.declared.landed.CarriedFrame.{CarriedFrame}
-use Rattle.fate_service.specs.declared.landed.LandedFrames.{LandedFrames}
+use Rattle.fate_service.specs.declared.landed_frames.Tally.{Tally}
+use Rattle.fate_service.specs.declared.landed_frames.OfferedFrame.{OfferedFrame}
+use Rattle.fate_service.specs.declared.landed_frames.CarriedFrame.{CarriedFrame}
+use Rattle.fate_service.specs.declared.landed_frames.LandedFrames.{LandedFrames}
 
 -- ---- numbers of frames and of their octets
 abbrev pub no_frames : Tally

@@ -1,6 +1,6 @@
 -- How many members carry payload, and in which rows: the longest runs of rows with one number.
 use Rattle.std.specs.Prelude.{ℕ, ◌+◌, ◌==◌, if◌then◌else◌, List, [], ◌∷◌}
-use Rattle.fate_service.specs.declared.members.WidthRun.{WidthRun}
+use Rattle.fate_service.specs.declared.width_run.WidthRun.{WidthRun}
 
 -- a run goes on with each row that has its number, and another row begins the next one
 unfoldable pub runs_on : WidthRun → List ℕ → List WidthRun

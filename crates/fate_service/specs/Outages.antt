@@ -1,11 +1,11 @@
 -- Outages: the longest runs of dark rows, and the frames that are lost in each.
 use Rattle.std.specs.Prelude.{◌≤◌, ℕ, ◌+◌, ◌==◌, nat_le, nat_lt, ◌&&◌, if◌then◌else◌, List, []}
 use Rattle.std.specs.Prelude.{◌∷◌, filter, not}
-use Rattle.fate_service.specs.declared.landed.Tally.{Tally}
-use Rattle.fate_service.specs.declared.landed.CarriedFrame.{CarriedFrame}
+use Rattle.fate_service.specs.declared.landed_frames.Tally.{Tally}
+use Rattle.fate_service.specs.declared.landed_frames.CarriedFrame.{CarriedFrame}
 use Rattle.fate_service.specs.declared.outages.Outage.{Outage}
-use Rattle.fate_service.specs.declared.rows.RowState.{RowState}
-use Rattle.fate_service.specs.declared.rows.RowState.TheVariants.{Clear, Hunting, Spoiled}
+use Rattle.fate_service.specs.declared.row_states.RowState.{RowState}
+use Rattle.fate_service.specs.declared.row_states.RowState.TheVariants.{Clear, Hunting, Spoiled}
 use Rattle.fate_service.specs.Frames.{no_frames, with_frame_if}
 
 -- ---- dark rows

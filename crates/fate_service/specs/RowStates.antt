@@ -5,8 +5,8 @@ use Rattle.std.specs.List.{range_with_len}
 use Rattle.law_model.specs.frames.Segment.{StreamRow}
 use Rattle.fate_engine.specs.fate_law.Fates.{row_at, spoiled_after}
 use Rattle.fate_engine.specs.fate_law.Spans.{row_segments, mark_of_row}
-use Rattle.fate_service.specs.declared.rows.RowState.{RowState}
-use Rattle.fate_service.specs.declared.rows.RowState.TheVariants.{Clear, Hunting, Spoiled}
+use Rattle.fate_service.specs.declared.row_states.RowState.{RowState}
+use Rattle.fate_service.specs.declared.row_states.RowState.TheVariants.{Clear, Hunting, Spoiled}
 
 -- a whole row of a segment but the first, by the mark of the segment: it is of use from the row of the mark on
 abbrev pub state_by_mark : List StreamRow → ℕ → Option ℕ → RowState

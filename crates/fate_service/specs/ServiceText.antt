@@ -15,16 +15,16 @@ use Rattle.fate_engine.specs.fate_law.Marks.{are_true_marks}
 use Rattle.fate_engine.specs.fate_law.Spoiled.{row_cause}
 use Rattle.fate_engine.specs.fate_law.SessionFates.{ended_of}
 use Rattle.fate_engine.specs.fate_law.FateText.{cause_text, truth_text}
-use Rattle.fate_service.specs.declared.landed.Tally.{Tally}
-use Rattle.fate_service.specs.declared.landed.CarriedFrame.{CarriedFrame}
-use Rattle.fate_service.specs.declared.members.WidthRun.{WidthRun}
+use Rattle.fate_service.specs.declared.landed_frames.Tally.{Tally}
+use Rattle.fate_service.specs.declared.landed_frames.CarriedFrame.{CarriedFrame}
+use Rattle.fate_service.specs.declared.width_run.WidthRun.{WidthRun}
 use Rattle.fate_service.specs.declared.outages.Outage.{Outage}
-use Rattle.fate_service.specs.declared.stretch.Came.{Came}
-use Rattle.fate_service.specs.declared.stretch.Ended.{Ended}
-use Rattle.fate_service.specs.declared.stretch.Peak.{Peak}
-use Rattle.fate_service.specs.declared.stretch.Stretch.{Stretch}
-use Rattle.fate_service.specs.declared.delays.Delays.{Delays}
-use Rattle.fate_service.specs.declared.lines.Ends.{Ends}
+use Rattle.fate_service.specs.declared.stretch_counts.Came.{Came}
+use Rattle.fate_service.specs.declared.stretch_counts.Ended.{Ended}
+use Rattle.fate_service.specs.declared.stretch_counts.Peak.{Peak}
+use Rattle.fate_service.specs.declared.stretch_counts.Stretch.{Stretch}
+use Rattle.fate_service.specs.declared.frame_delays.Delays.{Delays}
+use Rattle.fate_service.specs.declared.service_text.Ends.{Ends}
 use Rattle.fate_service.specs.Frames.{offered_of, accepted_of, carried_of, waits_of}
 use Rattle.fate_service.specs.RowStates.{states_of}
 use Rattle.fate_service.specs.Outages.{outages_of, losses, next_first}

@@ -3,13 +3,13 @@
 use Rattle.std.specs.Prelude.{ℕ, zero, suc, ◌+◌, ◌-◌, nat_le, nat_lt, ◌&&◌, if◌then◌else◌, min, max, Bool}
 use Rattle.std.specs.Prelude.{List, [], ◌∷◌, length, filter, take, drop}
 use Rattle.fate_engine.specs.fate_core.Sides.{begun_before}
-use Rattle.fate_service.specs.declared.landed.OfferedFrame.{OfferedFrame}
-use Rattle.fate_service.specs.declared.landed.CarriedFrame.{CarriedFrame}
-use Rattle.fate_service.specs.declared.rows.RowState.{RowState}
-use Rattle.fate_service.specs.declared.stretch.Came.{Came}
-use Rattle.fate_service.specs.declared.stretch.Ended.{Ended}
-use Rattle.fate_service.specs.declared.stretch.Peak.{Peak}
-use Rattle.fate_service.specs.declared.stretch.Stretch.{Stretch}
+use Rattle.fate_service.specs.declared.landed_frames.OfferedFrame.{OfferedFrame}
+use Rattle.fate_service.specs.declared.landed_frames.CarriedFrame.{CarriedFrame}
+use Rattle.fate_service.specs.declared.row_states.RowState.{RowState}
+use Rattle.fate_service.specs.declared.stretch_counts.Came.{Came}
+use Rattle.fate_service.specs.declared.stretch_counts.Ended.{Ended}
+use Rattle.fate_service.specs.declared.stretch_counts.Peak.{Peak}
+use Rattle.fate_service.specs.declared.stretch_counts.Stretch.{Stretch}
 use Rattle.fate_service.specs.Frames.{no_frames, with_frame, with_frame_if}
 use Rattle.fate_service.specs.RowStates.{dark_among}
 

@@ -4,8 +4,8 @@ use Rattle.law_model.specs.session.Leg.{Leg}
 use Rattle.law_model.specs.session.Counts.{Counts}
 use Rattle.law_walk.specs.Delivered.{session_rows}
 use Rattle.fate_engine.specs.fate_law.SessionFates.{ended_of}
-use Rattle.fate_service.specs.declared.members.WidthRun.{WidthRun}
-use Rattle.fate_service.specs.declared.service.Survey.{Survey}
+use Rattle.fate_service.specs.declared.width_run.WidthRun.{WidthRun}
+use Rattle.fate_service.specs.declared.service_report.Survey.{Survey}
 use Rattle.fate_service.specs.Frames.{AreLanded}
 use Rattle.fate_service.specs.Outages.{outages_of}
 use Rattle.fate_service.specs.RowStates.{states_of}

@@ -12,13 +12,13 @@
 //! - `service`: what is found of a walk, and the text that is written of it.
 #![tactic(auto)]
 
-mod delays;
-mod landed;
-mod lines;
-mod members;
+mod frame_delays;
+mod landed_frames;
+mod service_text;
+mod width_run;
 mod outages;
-mod rows;
-mod service;
-mod stretch;
+mod row_states;
+mod service_report;
+mod stretch_counts;
 
-pub use service::{Survey, survey_walk, write_service};
+pub use service_report::{Survey, survey_walk, write_service};

@@ -1,12 +1,12 @@
 //! The longest runs of rows that are of no use, and the frames that are lost in each.
 ghost use Rattle.std.specs.Prelude.{◌≡◌, ◌<◌, ◌≤◌, ◌==◌, length, All, IfOk, OnOk};
 ghost use Rattle.std.specs.List.Sorted.{IsNonDecreasingBy};
-ghost use Rattle.fate_service.specs.declared.landed.CarriedFrame.{CarriedFrame as CarriedData};
+ghost use Rattle.fate_service.specs.declared.landed_frames.CarriedFrame.{CarriedFrame as CarriedData};
 ghost use Rattle.fate_service.specs.Frames.{no_frames};
 ghost use Rattle.fate_service.specs.Outages.{grown, with_dark, with_state, outages_of, lost_on, losses, HasFewSpoiled};
 
-use crate::landed::{CarriedFrame, Tally};
-use crate::rows::RowState;
+use crate::landed_frames::{CarriedFrame, Tally};
+use crate::row_states::RowState;
 use std::alloc::{AllocError, Global};
 
 /// Rows that are of no use: as many in turn as there are.

@@ -1,3 +1,3 @@
 pub mod Places
 pub mod Seen
-pub mod Lines
+pub mod MadeWalk

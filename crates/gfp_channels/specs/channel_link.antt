@@ -1,4 +1,4 @@
-pub mod Lines
+pub mod ChannelTextLines
 pub mod Helps
 pub mod Plan
 pub mod Drafts

@@ -10,9 +10,9 @@ use Rattle.law_model.specs.frames.Piece.{joined}
 use Rattle.law_model.specs.frames.Run.{Run}
 use Rattle.law_model.proofs.ScrambledOctets.{length-descrambled_octets}
 use Rattle.law_model.proofs.AreaLaws.{length-descrambled_single}
-use Rattle.gfp_delineate.specs.declared.areas.AreaWhy.{AreaWhy}
-use Rattle.gfp_delineate.specs.declared.areas.Phase.{Phase}
-use Rattle.gfp_delineate.specs.declared.areas.Phase.TheVariants.{SyncHeader, SyncArea, SyncPassing}
+use Rattle.gfp_delineate.specs.declared.area_receiver.AreaWhy.{AreaWhy}
+use Rattle.gfp_delineate.specs.declared.area_receiver.Phase.{Phase}
+use Rattle.gfp_delineate.specs.declared.area_receiver.Phase.TheVariants.{SyncHeader, SyncArea, SyncPassing}
 use Rattle.gfp_delineate.specs.LeftOpen.{running, Leaves}
 use Rattle.gfp_delineate.specs.Areas.{AreaEnd, keeping, passing, reader, ends, area_ends, Progress, Follows, Headed}
 use Rattle.gfp_delineate.specs.Areas.{InSyncArea, InSyncPassing, Adds}
@@ -55,7 +55,7 @@ follows-more old first octets ended settled before header come more phase next a
       (append_assoc header come more)
       (Leaves-longer head (reader old.corrects) first octets ended (running settled before
       (header ++ come)) more run.leaves);
-  given = subst (λ all. descrambler.Stands next settled all) (append_assoc (joined before) come more)
+  given = subst (λ all. descrambler.DescramblerStands next settled all) (append_assoc (joined before) come more)
       (passes settled (joined before ++ come) run.given);
   window = run.window;
 }
@@ -75,7 +75,7 @@ follows-whole base first octets ended settled before header area headed run =
           (Leaves-goes_on head (reader base.corrects) first octets ended (running settled before (header ++ area))
           (running settled (before ++ area ∷ []) []) run.leaves
           (Becomes-area head (reader base.corrects) settled before header area headed.size found));
-      given = subst (λ all. descrambler.Stands base.descrambling settled all)
+      given = subst (λ all. descrambler.DescramblerStands base.descrambling settled all)
           (sym (joined-push before area) ∙ sym (append-nil (joined (before ++ area ∷ [])))) run.given;
       window = run.window;
     }

@@ -4,13 +4,13 @@ use Rattle.std.proofs.Common.{refl, sym, ◌∙◌, ap, subst, arith}
 use Rattle.std.specs.Prelude.{nat_lt, if◌then◌else◌, ◌↔◌, IsTrue, IfSome}
 use Rattle.law_model.specs.frames.Core.{head}
 use Rattle.law_model.specs.frames.TypeHeader.{type_fault}
-use Rattle.law_model.specs.declared.Why.TheVariants.{TooLong}
+use Rattle.law_model.specs.declared.frame_faults.Why.TheVariants.{TooLong}
 use Rattle.law_model.specs.frames.Outcome.{Outcome, dropping, outcome_by, client_outcome, outcomes}
-use Rattle.gfp_delineate.specs.declared.areas.AreaWhy.TheVariants.{TooLong as IsLong}
-use Rattle.gfp_delineate.specs.declared.areas.AreaStep.{AreaStep}
-use Rattle.gfp_delineate.specs.declared.areas.AreaStep.TheVariants.{Area}
-use Rattle.gfp_delineate.specs.declared.Step.{Step}
-use Rattle.gfp_delineate.specs.declared.Step.TheVariants.{Frame}
+use Rattle.gfp_delineate.specs.declared.area_receiver.AreaWhy.TheVariants.{TooLong as IsLong}
+use Rattle.gfp_delineate.specs.declared.area_receiver.AreaStep.{AreaStep}
+use Rattle.gfp_delineate.specs.declared.area_receiver.AreaStep.TheVariants.{Area}
+use Rattle.gfp_delineate.specs.declared.delineator.Step.{Step}
+use Rattle.gfp_delineate.specs.declared.delineator.Step.TheVariants.{Frame}
 use Rattle.gfp_delineate.specs.Areas.{AreaEnd, keeping, passing, end_of, ends_told, Progress, Adds}
 use Rattle.gfp_delineate.specs.Receiver.{Receiver, frame_of, outcomes_told, told_outcomes, client_of, area_limit}
 use Rattle.gfp_delineate.specs.Receiver.{Brings}

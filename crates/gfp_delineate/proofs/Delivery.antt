@@ -9,9 +9,9 @@ use Rattle.std.proofs.lemmas.List.Elements.{All-nil, All-cons, All-head, All-tai
 use Rattle.std.proofs.lemmas.List.Elements.{All-weaker, filter-append}
 use Rattle.std.proofs.lemmas.List.Concat.{flat_map-append}
 use Rattle.std.proofs.lemmas.Bool.{le-leb, lt-leb, le-ltb, cases_lt}
-use Rattle.base_remainder.specs.Bits.{bits, number_behind}
-use Rattle.base_remainder.specs.Remainder.{add_front, divide}
-use Rattle.base_hec16.specs.Hec.{hec_of}
+use Rattle.check_remainder.specs.Bits.{bits, number_behind}
+use Rattle.check_remainder.specs.Remainder.{add_front, divide}
+use Rattle.check_hec16.specs.Hec.{hec_of}
 use Rattle.law_model.specs.frames.Core.{core_header, IsPli}
 use Rattle.law_model.specs.frames.TypeHeader.{type_header, type_fault}
 use Rattle.law_model.specs.frames.Piece.{Piece, idle, client, area_of, cut, with_header, scrambled_areas, stream_of}

@@ -7,8 +7,8 @@ use Rattle.std.specs.Option.{option_to_list}
 use Rattle.std.proofs.lemmas.Bool.{le-leb, lt-leb, cases_lt}
 use Rattle.law_model.specs.frames.Outcome.{delivery}
 use Rattle.law_model.specs.frames.Delivery.{frame_in}
-use Rattle.gfp_delineate.specs.declared.Step.{Step}
-use Rattle.gfp_delineate.specs.declared.Step.TheVariants.{Nothing, Frame, Dropped}
+use Rattle.gfp_delineate.specs.declared.delineator.Step.{Step}
+use Rattle.gfp_delineate.specs.declared.delineator.Step.TheVariants.{Nothing, Frame, Dropped}
 use Rattle.gfp_delineate.specs.Areas.{Progress}
 use Rattle.gfp_delineate.specs.Receiver.{Receiver, frame_of, outcomes_told, told_outcomes}
 

@@ -6,12 +6,12 @@ use Rattle.std.specs.Prelude.{◌⊎◌}
 use Rattle.std.proofs.lemmas.List.{append-nil}
 use Rattle.gfp_scramble.specs.Descrambler.{Descrambling}
 use Rattle.gfp_scramble.specs.Descrambler as descrambler
-use Rattle.gfp_delineate.specs.declared.areas.AreaWhy.TheVariants.{Unsettled, TooLong}
+use Rattle.gfp_delineate.specs.declared.area_receiver.AreaWhy.TheVariants.{Unsettled, TooLong}
 use Rattle.law_model.specs.frames.Core.{head}
 use Rattle.law_model.specs.frames.Piece.{joined}
 use Rattle.law_model.specs.frames.Run.{Run}
 use Rattle.law_model.proofs.CoreLaws.{head-core_header}
-use Rattle.gfp_delineate.specs.declared.areas.Phase.TheVariants.{Hunt, PresyncHeader, SyncHeader, SyncArea, SyncPassing}
+use Rattle.gfp_delineate.specs.declared.area_receiver.Phase.TheVariants.{Hunt, PresyncHeader, SyncHeader, SyncArea, SyncPassing}
 use Rattle.gfp_delineate.specs.LeftOpen.{searching, running, Leaves}
 use Rattle.gfp_delineate.specs.Areas.{end_of, reader, ends, Progress, InPresyncHeader, InSyncHeader}
 use Rattle.gfp_delineate.proofs.ReaderLaws.{reader-head}
@@ -38,7 +38,7 @@ pub record Heads (old : Progress) (longest : ℕ) (first : Bool) (octets more wi
   pub was : ends longest old.corrects first octets ≡ ends_with longest ended settled before
   pub four : length window ≡ 4
   pub leaves : Leaves head (reader old.corrects) first (octets ++ more) ended (running settled before window)
-  pub given : descrambler.Stands old.descrambling settled (joined before ++ [])
+  pub given : descrambler.DescramblerStands old.descrambling settled (joined before ++ [])
 
 module _ (old : Progress) (longest : ℕ) (first : Bool) (octets : List ℕ) (octet : ℕ)
     (limit : old.longest ≡ longest) where
@@ -48,7 +48,7 @@ module _ (old : Progress) (longest : ℕ) (first : Bool) (octets : List ℕ) (oc
       length (drop 1 old.window ++ octet ∷ []) ≡ 4 →
       Leaves head (reader old.corrects) first (octets ++ octet ∷ []) ended (searching false (drop 1
       (drop 1 old.window ++ octet ∷ []))) →
-      descrambler.Stands forgot false [] → Taken (lost old octet forgot) longest old.corrects first octets
+      descrambler.DescramblerStands forgot false [] → Taken (lost old octet forgot) longest old.corrects first octets
       (octet ∷ []) []
   lost-by ended forgot was four leaves given =
       to-hunt (lost old octet forgot) longest first octets (octet ∷ []) limit ended false was 3 (omega arith)
@@ -79,7 +79,7 @@ module _ (old : Progress) (longest : ℕ) (first : Bool) (octets : List ℕ) (oc
     presync-found = is.headed.found ∙ ap (λ n. Some n) (let e : length is.come + 0 ≡ length is.come = omega arith in e)
 
     confirm-lost : (forgot : Descrambling) → head (drop 1 old.window ++ octet ∷ []) ≡ None →
-        descrambler.Stands forgot false [] → Taken (lost old octet forgot) longest old.corrects first octets
+        descrambler.DescramblerStands forgot false [] → Taken (lost old octet forgot) longest old.corrects first octets
         (octet ∷ []) []
     confirm-lost forgot none given =
         let window : List ℕ = drop 1 old.window ++ octet ∷ [] in
@@ -125,7 +125,7 @@ module _ (old : Progress) (longest : ℕ) (first : Bool) (octets : List ℕ) (oc
         (window-few old.window is.run.window 3 is.part) is.run.leaves
 
     follow-lost : (forgot : Descrambling) → reader old.corrects (drop 1 old.window ++ octet ∷ []) ≡ None →
-        descrambler.Stands forgot false [] → Taken (lost old octet forgot) longest old.corrects first octets
+        descrambler.DescramblerStands forgot false [] → Taken (lost old octet forgot) longest old.corrects first octets
         (octet ∷ []) []
     follow-lost forgot none given =
         let window : List ℕ = drop 1 old.window ++ octet ∷ [] in
@@ -156,7 +156,7 @@ module _ (old : Progress) (octet : ℕ) (corrects : Bool)
     ⊎ ((old.phase ≡ SyncHeader 3) × (corrects ≡ old.corrects))) where
   -- it is none
   pub Takes-lost : (forgot : Descrambling) → reader corrects (drop 1 old.window ++ octet ∷ []) ≡ None →
-      descrambler.Stands forgot false [] → Takes old (lost old octet forgot) (octet ∷ []) []
+      descrambler.DescramblerStands forgot false [] → Takes old (lost old octet forgot) (octet ∷ []) []
   Takes-lost forgot none given =
       let here : Bool → Type 0 = λ corrects. reader corrects (drop 1 old.window ++ octet ∷ []) ≡ None in
       elim place [

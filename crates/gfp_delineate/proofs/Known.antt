@@ -6,9 +6,9 @@ use Rattle.std.proofs.lemmas.List.{append-nil, drop-append-le, drop-drop, drop_a
 use Rattle.gfp_scramble.specs.Descrambler as descrambler
 use Rattle.law_model.specs.frames.Core.{head}
 use Rattle.law_model.specs.frames.Run.{Run}
-use Rattle.gfp_delineate.specs.declared.areas.Phase.{Phase}
-use Rattle.gfp_delineate.specs.declared.areas.Phase.TheVariants.{Hunt, PresyncArea, PresyncHeader, SyncHeader, SyncArea}
-use Rattle.gfp_delineate.specs.declared.areas.Phase.TheVariants.{SyncPassing}
+use Rattle.gfp_delineate.specs.declared.area_receiver.Phase.{Phase}
+use Rattle.gfp_delineate.specs.declared.area_receiver.Phase.TheVariants.{Hunt, PresyncArea, PresyncHeader, SyncHeader, SyncArea}
+use Rattle.gfp_delineate.specs.declared.area_receiver.Phase.TheVariants.{SyncPassing}
 use Rattle.gfp_delineate.specs.LeftOpen.{LeftOpen, searching, running, Leaves}
 use Rattle.gfp_delineate.specs.Areas.{AreaEnd, end_of, run_ends, ends, reader, is_sync_by, Progress, Searches, Headed}
 use Rattle.gfp_delineate.specs.Areas.{InHunt, IsIn, IsAt}
@@ -187,7 +187,7 @@ is_sync-IsAt progress longest corrects first octets at =
 -- ---- no octet has come
 pub IsAt-start : (progress : Progress) (longest : ℕ) (corrects first : Bool) → progress.phase ≡ Hunt 0 →
     progress.longest ≡ longest → progress.corrects ≡ corrects → length progress.window ≡ 4 →
-    descrambler.Stands progress.descrambling first [] →
+    descrambler.DescramblerStands progress.descrambling first [] →
     IsAt progress longest corrects first []
 IsAt-start progress longest corrects first begun limit setting four given =
     let is : InHunt 0 progress first [] = record {

@@ -14,10 +14,10 @@ use Rattle.law_model.specs.frames.Outcome.{is_settled}
 use Rattle.law_model.proofs.ScrambledOctets.{length-descrambled_octets}
 use Rattle.law_model.proofs.CutLaws.{joined-append}
 use Rattle.law_model.proofs.AreaLaws.{length-descrambled_single}
-use Rattle.gfp_delineate.specs.declared.areas.AreaWhy.{AreaWhy}
-use Rattle.gfp_delineate.specs.declared.areas.AreaWhy.TheVariants.{Unsettled, TooLong}
-use Rattle.gfp_delineate.specs.declared.areas.Phase.{Phase}
-use Rattle.gfp_delineate.specs.declared.areas.Phase.TheVariants.{SyncHeader, SyncArea, SyncPassing}
+use Rattle.gfp_delineate.specs.declared.area_receiver.AreaWhy.{AreaWhy}
+use Rattle.gfp_delineate.specs.declared.area_receiver.AreaWhy.TheVariants.{Unsettled, TooLong}
+use Rattle.gfp_delineate.specs.declared.area_receiver.Phase.{Phase}
+use Rattle.gfp_delineate.specs.declared.area_receiver.Phase.TheVariants.{SyncHeader, SyncArea, SyncPassing}
 use Rattle.gfp_delineate.specs.LeftOpen.{running, Leaves}
 use Rattle.gfp_delineate.specs.Areas.{AreaEnd, keeping, passing, end_of, reader, ends, area_ends, run_ends}
 use Rattle.gfp_delineate.specs.Areas.{Progress, Follows, Headed, InSyncHeader}
@@ -181,7 +181,7 @@ joined-push before area = joined-append before (area ∷ []) ∙ ap (λ l. joine
 -- ---- a header that is whole
 -- whether a descrambler knows the octets that come
 abbrev pub Knows : Bool → Descrambling → Type 0
-Knows known descrambling = (settled : Bool) (octets : List ℕ) → descrambler.Stands descrambling settled octets →
+Knows known descrambling = (settled : Bool) (octets : List ℕ) → descrambler.DescramblerStands descrambling settled octets →
     IsTrue known ↔ IsKnown settled octets
 
 unknown-settled : (settled : Bool) (octets : List ℕ) → (IsTrue false ↔ IsKnown settled octets) → settled ≡ false
@@ -202,7 +202,7 @@ module _ (old : Progress) (longest : ℕ) (first : Bool) (octets more : List ℕ
     (ended : List Run) (settled : Bool) (before : List (List ℕ)) (window : List ℕ)
     (was : ends longest old.corrects first octets ≡ ends_with longest ended settled before) (four : length window ≡ 4)
     (leaves : Leaves head (reader old.corrects) first (octets ++ more) ended (running settled before window))
-    (given : descrambler.Stands old.descrambling settled (joined before ++ [])) where
+    (given : descrambler.DescramblerStands old.descrambling settled (joined before ++ [])) where
   -- an idle, whatever is in the window afterwards, and whatever is kept
   pub followed-idle : (left area : List ℕ) → length left ≡ 4 → reader old.corrects window ≡ Some 0 →
       Taken (record old { phase = SyncHeader 0; window = left; area = area }) longest old.corrects first octets more []
@@ -226,7 +226,7 @@ module _ (old : Progress) (longest : ℕ) (first : Bool) (octets more : List ℕ
       (record {
         leaves = subst (λ last. Leaves head (reader old.corrects) first (octets ++ more) ended
             (running settled (before ++ [] ∷ []) last)) (sym (window-none left left_four)) next;
-        given = subst (λ all. descrambler.Stands old.descrambling settled all)
+        given = subst (λ all. descrambler.DescramblerStands old.descrambling settled all)
             (sym (append-nil (joined before ++ [])) ∙ ap (λ l. l ++ []) (sym (joined-push before []))) given;
         window = left_four;
       })

@@ -4,8 +4,8 @@ use Rattle.std.proofs.Common.{refl, ap, subst, arith, append_assoc, length-appen
 use Rattle.std.proofs.lemmas.List.{append-nil}
 use Rattle.law_model.specs.frames.Core.{head}
 use Rattle.law_model.specs.frames.Run.{Run}
-use Rattle.gfp_delineate.specs.declared.areas.Phase.{Phase}
-use Rattle.gfp_delineate.specs.declared.areas.Phase.TheVariants.{Hunt, PresyncArea, PresyncHeader}
+use Rattle.gfp_delineate.specs.declared.area_receiver.Phase.{Phase}
+use Rattle.gfp_delineate.specs.declared.area_receiver.Phase.TheVariants.{Hunt, PresyncArea, PresyncHeader}
 use Rattle.gfp_delineate.specs.LeftOpen.{searching, Leaves}
 use Rattle.gfp_delineate.specs.Areas.{ends, reader, Progress, Searches, Headed, IsIn, InHunt, InPresyncArea}
 use Rattle.gfp_delineate.specs.Areas.{InPresyncHeader}

@@ -4,9 +4,9 @@ use Rattle.std.proofs.Common.{sym, ◌∙◌, ap, arith, append_assoc, length-ap
 use Rattle.std.specs.Prelude.{if◌then◌else◌}
 use Rattle.std.proofs.lemmas.List.{take-append-drop}
 use Rattle.std.proofs.Math.Seq.{drop-append-add}
-use Rattle.base_remainder.specs.Bits.{octet_bits}
-use Rattle.base_remainder.proofs.OctetLaws.{octet_bits-append, length-octet_bits}
-use Rattle.gfp_scramble.specs.Descrambler.{Descrambling, Stands, Continues}
+use Rattle.check_remainder.specs.Bits.{octet_bits}
+use Rattle.check_remainder.proofs.OctetLaws.{octet_bits-append, length-octet_bits}
+use Rattle.gfp_scramble.specs.Descrambler.{Descrambling, DescramblerStands, Continues}
 
 -- the octets of a list after a place that lies in its second part
 drop_past : (k n : ℕ) (xs ys : List Bool) → length xs + n ≡ k → drop k (xs ++ ys) ≡ drop n ys
@@ -34,7 +34,7 @@ given_all true given n six enough = six
 given_all false given n six enough = omega (arith, six, enough)
 
 pub Continues-last : (old new : Descrambling) (piece : List ℕ) → 6 ≤ length piece →
-    Stands new false (drop (length piece - 6) piece) → Continues old new piece
+    DescramblerStands new false (drop (length piece - 6) piece) → Continues old new piece
 Continues-last old new piece enough last = λ settled octets stands.
     let part : List ℕ = drop (length piece - 6) piece in
     let front : List ℕ = octets ++ take (length piece - 6) piece in

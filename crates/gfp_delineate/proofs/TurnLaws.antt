@@ -4,9 +4,9 @@ use Rattle.std.proofs.Common.{replicate, Some, None, bit_xor, refl, sym, ◌∙�
 use Rattle.std.specs.Int.{to_be_bytes}
 use Rattle.std.proofs.Math.Nat.{div-eq_of_lt, div_self, pow-suc}
 use Rattle.std.proofs.lemmas.Nat.{pow_pos}
-use Rattle.base_remainder.specs.Bits.{bits, octets_of, xors}
-use Rattle.base_remainder.proofs.BitLaws.{bits-add, bits_low, bits-xor, bits-zero}
-use Rattle.base_remainder.proofs.OctetLaws.{octets_of-octet_bits, octet_bits-bytes_high_first, bytes_high_first_below}
+use Rattle.check_remainder.specs.Bits.{bits, octets_of, xors}
+use Rattle.check_remainder.proofs.BitLaws.{bits-add, bits_low, bits-xor, bits-zero}
+use Rattle.check_remainder.proofs.OctetLaws.{octets_of-octet_bits, octet_bits-bytes_high_first, bytes_high_first_below}
 use Rattle.law_model.specs.frames.Core.{head}
 use Rattle.gfp_model.specs.fcs_model.Flips.{flipped}
 use Rattle.gfp_model.specs.fcs_model.Near.{or_else, turned_below, near}

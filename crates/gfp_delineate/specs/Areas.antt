@@ -10,13 +10,13 @@ use Rattle.law_model.specs.frames.Piece.{joined}
 use Rattle.law_model.specs.frames.Run.{Run, delineate_with}
 use Rattle.law_model.specs.frames.Outcome.{area_outcomes, run_outcomes_with, outcomes_with}
 use Rattle.gfp_model.specs.fcs_model.Near.{near}
-use Rattle.gfp_delineate.specs.declared.areas.AreaWhy.{AreaWhy}
-use Rattle.gfp_delineate.specs.declared.areas.AreaWhy.TheVariants.{Unsettled, TooLong}
-use Rattle.gfp_delineate.specs.declared.areas.AreaStep.{AreaStep}
-use Rattle.gfp_delineate.specs.declared.areas.AreaStep.TheVariants.{Nothing, Area, Dropped}
-use Rattle.gfp_delineate.specs.declared.areas.Phase.{Phase}
-use Rattle.gfp_delineate.specs.declared.areas.Phase.TheVariants.{Hunt, PresyncArea, PresyncHeader, SyncHeader, SyncArea}
-use Rattle.gfp_delineate.specs.declared.areas.Phase.TheVariants.{SyncPassing}
+use Rattle.gfp_delineate.specs.declared.area_receiver.AreaWhy.{AreaWhy}
+use Rattle.gfp_delineate.specs.declared.area_receiver.AreaWhy.TheVariants.{Unsettled, TooLong}
+use Rattle.gfp_delineate.specs.declared.area_receiver.AreaStep.{AreaStep}
+use Rattle.gfp_delineate.specs.declared.area_receiver.AreaStep.TheVariants.{Nothing, Area, Dropped}
+use Rattle.gfp_delineate.specs.declared.area_receiver.Phase.{Phase}
+use Rattle.gfp_delineate.specs.declared.area_receiver.Phase.TheVariants.{Hunt, PresyncArea, PresyncHeader, SyncHeader, SyncArea}
+use Rattle.gfp_delineate.specs.declared.area_receiver.Phase.TheVariants.{SyncPassing}
 use Rattle.gfp_delineate.specs.LeftOpen.{searching, running, Leaves}
 
 -- ---- how an area ends
@@ -82,7 +82,7 @@ header_begun_in (SyncPassing left why) window = None
 pub record Searches (progress : Progress) (first : Bool) (octets : List ℕ) (ended : List Run) (settled : Bool)
     (last : List ℕ) : Type 0 where
   pub leaves : Leaves head (reader progress.corrects) first octets ended (searching settled last)
-  pub given : descrambler.Stands progress.descrambling settled []
+  pub given : descrambler.DescramblerStands progress.descrambling settled []
   pub window : length progress.window ≡ 4
 
 -- SYNC: these runs ended, a run with these areas goes on in the last octets, and the descrambler has its areas and
@@ -90,7 +90,7 @@ pub record Searches (progress : Progress) (first : Bool) (octets : List ℕ) (en
 pub record Follows (progress : Progress) (first : Bool) (octets : List ℕ) (ended : List Run) (settled : Bool)
     (before : List (List ℕ)) (last come : List ℕ) : Type 0 where
   pub leaves : Leaves head (reader progress.corrects) first octets ended (running settled before last)
-  pub given : descrambler.Stands progress.descrambling settled (joined before ++ come)
+  pub given : descrambler.DescramblerStands progress.descrambling settled (joined before ++ come)
   pub window : length progress.window ≡ 4
 
 -- a header of four octets, after which these octets of its area have come, and a number of them is left to come

@@ -2,14 +2,14 @@
 use Rattle.std.specs.Prelude.{◌≡◌, ℕ, ◌+◌, ◌^◌, ◌<◌, ◌≤◌, ◌&&◌, nat_le, Bool, true, false, List, [], ◌∷◌, ◌++◌, length}
 use Rattle.std.specs.Prelude.{map, take, drop, All, Option, Some, None, if◌then◌else◌}
 use Rattle.std.specs.Option.{option_to_list}
-use Rattle.law_model.specs.declared.Why.{Why}
-use Rattle.law_model.specs.declared.Why.TheVariants.{Unsettled, TooLong}
+use Rattle.law_model.specs.declared.frame_faults.Why.{Why}
+use Rattle.law_model.specs.declared.frame_faults.Why.TheVariants.{Unsettled, TooLong}
 use Rattle.law_model.specs.frames.TypeHeader.{type_fault}
 use Rattle.law_model.specs.frames.Outcome.{Outcome, delivery, dropping, outcome_by, outcomes}
-use Rattle.gfp_delineate.specs.declared.areas.AreaWhy.{AreaWhy}
-use Rattle.gfp_delineate.specs.declared.areas.AreaWhy.TheVariants.{Unsettled as NotSettled, TooLong as IsLong}
-use Rattle.gfp_delineate.specs.declared.Step.{Step}
-use Rattle.gfp_delineate.specs.declared.Step.TheVariants.{Nothing, Frame, Dropped}
+use Rattle.gfp_delineate.specs.declared.area_receiver.AreaWhy.{AreaWhy}
+use Rattle.gfp_delineate.specs.declared.area_receiver.AreaWhy.TheVariants.{Unsettled as NotSettled, TooLong as IsLong}
+use Rattle.gfp_delineate.specs.declared.delineator.Step.{Step}
+use Rattle.gfp_delineate.specs.declared.delineator.Step.TheVariants.{Nothing, Frame, Dropped}
 use Rattle.gfp_delineate.specs.Areas.{AreaEnd, keeping, passing, Progress, header_begun_in, IsAt}
 
 -- the most octets that a frame may have beside its type header in an area, whose length is told in sixteen bits
@@ -59,8 +59,8 @@ abbrev pub StandsIn : Receiver → ℕ → Bool → List ℕ → Type 0
 StandsIn receiver longest first octets = IsAt receiver.progress (area_limit longest) false first octets
 
 -- these octets of the first segment have come
-abbrev pub Stands : Receiver → ℕ → List ℕ → Type 0
-Stands receiver longest octets = StandsIn receiver longest true octets
+abbrev pub ReceiverStands : Receiver → ℕ → List ℕ → Type 0
+ReceiverStands receiver longest octets = StandsIn receiver longest true octets
 
 -- whatever octets of a segment came before, these came after them
 abbrev pub Advances : Receiver → Receiver → List ℕ → Type 0

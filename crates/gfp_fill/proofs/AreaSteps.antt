@@ -14,7 +14,7 @@ use Rattle.law_model.proofs.ScrambledOctets.{length-scrambled_octets, scrambled_
 use Rattle.law_model.proofs.AreaLaws.{length-scrambled_single}
 use Rattle.law_model.proofs.StreamLaws.{areas_behind, areas_stream-append, areas_stream-push}
 use Rattle.law_model.proofs.IdleLaws.{idles}
-use Rattle.gfp_scramble.specs.Scrambler.{Stands as HasScrambled, Continues, ScramblesTo}
+use Rattle.gfp_scramble.specs.Scrambler.{ScramblerStands as HasScrambled, Continues, ScramblesTo}
 use Rattle.gfp_fill.specs.Areas.{Sender, head_of, StandsIn, HasWrittenIn}
 
 -- ---- a sender and a place in areas tell the octets that are left

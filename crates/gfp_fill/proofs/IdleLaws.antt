@@ -2,7 +2,7 @@
 use Rattle.std.proofs.Common.{◌≡◌, ℕ, zero, suc, ◌+◌, ◌-◌, ◌*◌, ◌/◌, ◌%◌, List, [], ◌∷◌, ◌++◌, length, take, refl, sym}
 use Rattle.std.proofs.Common.{◌∙◌, ap, ap₂, arith, append_assoc, length-append}
 use Rattle.std.proofs.lemmas.List.{append-nil, take_at}
-use Rattle.base_remainder.specs.Bits.{octets_of}
+use Rattle.check_remainder.specs.Bits.{octets_of}
 use Rattle.law_model.specs.frames.Scramble.{scrambled_octets}
 use Rattle.law_model.specs.frames.Core.{core_header}
 use Rattle.law_model.specs.frames.Piece.{areas_stream, cut}

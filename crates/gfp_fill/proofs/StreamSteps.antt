@@ -10,7 +10,7 @@ use Rattle.law_model.proofs.StreamLaws.{stream_behind, stream_of-append, length-
 use Rattle.law_model.proofs.ReachLaws.{reaching-here, reached-next, reached-join, reached-fewest}
 use Rattle.gfp_fill.specs.Areas.{Sender, head_of, StandsIn, HasWrittenIn}
 use Rattle.gfp_fill.specs.Queue.{Held}
-use Rattle.gfp_fill.specs.Stream.{Stands, HasWritten}
+use Rattle.gfp_fill.specs.Stream.{FillerStands, HasWritten}
 use Rattle.gfp_fill.proofs.AreaSteps.{one_left, all_written, map-replicate, next-both}
 
 -- a stream has as many octets as its pieces count
@@ -19,7 +19,7 @@ long pieces = length-stream_of pieces ∙ sum-map size_of pieces
 
 -- a filler and a place in a stream tell the queue
 pub one_queue : (sender : Sender) (queue other : Held) (stream : Stream) (place : ℕ) →
-    Stands sender queue stream place → Stands sender other stream place → other ≡ queue
+    FillerStands sender queue stream place → FillerStands sender other stream place → other ≡ queue
 one_queue sender queue other stream place one two =
     let made : List (List ℕ) → List ℕ → Held = λ waiting begun. record { waiting = waiting; begun = begun } in
     ap₂ made (two.waits ∙ sym one.waits)
@@ -46,12 +46,12 @@ here_written sender queue stream place octets waits written =
     (reaching-here end end stream (omega (arith, written.stands.within, long stream.pieces))) waits written
 
 -- where all octets of the pieces are written, the place is at the end of the stream
-pub at_end : (sender : Sender) (queue : Held) (stream : Stream) (place : ℕ) → Stands sender queue stream place →
+pub at_end : (sender : Sender) (queue : Held) (stream : Stream) (place : ℕ) → FillerStands sender queue stream place →
     queue.begun ≡ [] → StandsIn sender [] (map area_of stream.pieces) place
 at_end sender queue stream place stands begun =
     subst (λ left. StandsIn sender left (map area_of stream.pieces) place) begun stands.octets
 
-all_counted : (sender : Sender) (queue : Held) (stream : Stream) (place : ℕ) → Stands sender queue stream place →
+all_counted : (sender : Sender) (queue : Held) (stream : Stream) (place : ℕ) → FillerStands sender queue stream place →
     queue.begun ≡ [] → head_of sender ≡ [] → place ≡ size stream.pieces
 all_counted sender queue stream place stands begun head =
     all_written sender (map area_of stream.pieces) place (at_end sender queue stream place stands begun) head
@@ -59,7 +59,7 @@ all_counted sender queue stream place stands begun head =
 
 -- headers of a frame that waits
 pub client_written : (s t : Sender) (queue rest : Held) (stream : Stream) (place : ℕ) (octets : List ℕ) →
-    Stands s queue stream place → head_of s ≡ [] → queue.begun ≡ [] → queue.waiting ≡ rest.begun ∷ rest.waiting
+    FillerStands s queue stream place → head_of s ≡ [] → queue.begun ≡ [] → queue.waiting ≡ rest.begun ∷ rest.waiting
     → 0 < length octets
     → HasWrittenIn t rest.begun (map area_of stream.pieces ++ (type_header ++ rest.begun) ∷ []) place octets
     → HasWritten t rest stream place octets
@@ -92,7 +92,7 @@ reached-idles (suc n) place pieces within few =
 
 -- idles, where none waits
 pub idles_next : (s t : Sender) (queue : Held) (stream : Stream) (place n : ℕ) (octets : List ℕ) →
-    Stands s queue stream place → head_of s ≡ [] → queue.begun ≡ [] → queue.waiting ≡ [] → length octets ≤ 4 * n
+    FillerStands s queue stream place → head_of s ≡ [] → queue.begun ≡ [] → queue.waiting ≡ [] → length octets ≤ 4 * n
     → 4 * n < length octets + 4 → HasWrittenIn t [] (map area_of stream.pieces ++ replicate n []) place octets
     → HasWritten t queue stream place octets
 idles_next s t queue stream place n octets stands head begun waits within few written =
@@ -142,7 +142,7 @@ written-both s t queue rest stream place first more one other =
     }
 
 -- nothing is written
-pub written-none : (s : Sender) (queue : Held) (stream : Stream) (place : ℕ) → Stands s queue stream place →
+pub written-none : (s : Sender) (queue : Held) (stream : Stream) (place : ℕ) → FillerStands s queue stream place →
     HasWritten s queue stream place []
 written-none s queue stream place stands =
     let same : place + 0 ≡ place = omega arith in

@@ -3,7 +3,7 @@
 use Rattle.std.specs.Prelude.{◌≡◌, ℕ, ◌+◌, ◌≤◌, List, ◌++◌, length, take, drop}
 use Rattle.law_model.specs.frames.Scramble.{scrambled_octets}
 use Rattle.law_model.specs.frames.Piece.{joined, areas_stream}
-use Rattle.gfp_scramble.specs.Scrambler.{Scrambling, Stands as HasScrambled}
+use Rattle.gfp_scramble.specs.Scrambler.{Scrambling, ScramblerStands as HasScrambled}
 
 -- what a sender knows: octets of which the last are the headers begun last, how many of them are written or aren't
 -- sent at all, and the scrambler

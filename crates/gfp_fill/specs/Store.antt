@@ -10,12 +10,12 @@ use Rattle.gfp_fill.specs.Queue.{IsFrameLength}
 use Rattle.law_model.specs.Limits.{longest_frame, most_waiting}
 
 -- a buffer that has room for any frame
-abbrev pub HasRoom : Vec ℕ Global → Type 0
-HasRoom buffer = longest_frame ≤ vec_capacity buffer
+abbrev pub HasFrameRoom : Vec ℕ Global → Type 0
+HasFrameRoom buffer = longest_frame ≤ vec_capacity buffer
 
 -- a buffer that holds a frame
 abbrev pub HoldsFrame : Vec ℕ Global → Type 0
-HoldsFrame buffer = IsFrameLength (vec_len buffer) × HasRoom buffer
+HoldsFrame buffer = IsFrameLength (vec_len buffer) × HasFrameRoom buffer
 
 -- what is true of the buffers of a queue
 pub record IsStore (waiting : VecDeque (Vec ℕ Global) Global) (spare : Vec (Vec ℕ Global) Global)
@@ -24,5 +24,5 @@ pub record IsStore (waiting : VecDeque (Vec ℕ Global) Global) (spare : Vec (Ve
   pub places : most_waiting ≤ deque_capacity waiting
   pub spares : most_waiting ≤ vec_capacity spare
   pub frames : All HoldsFrame waiting.items
-  pub room : All HasRoom spare.items
-  pub sending : HasRoom begun
+  pub room : All HasFrameRoom spare.items
+  pub sending : HasFrameRoom begun

@@ -15,7 +15,7 @@ unsent waiting = record { pieces = idle ∷ idle ∷ []; waiting = waiting }
 
 -- of a stream, the octets before a place are written: what is left of its pieces are octets of headers, and then those
 -- of the frame that is being sent
-pub record Stands (sender : Sender) (queue : Held) (stream : Stream) (place : ℕ) : Type 0 where
+pub record FillerStands (sender : Sender) (queue : Held) (stream : Stream) (place : ℕ) : Type 0 where
   pub waits : queue.waiting ≡ stream.waiting
   pub octets : StandsIn sender queue.begun (map area_of stream.pieces) place
 
@@ -26,10 +26,10 @@ AreNext stream place octets = octets ≡ take (length octets)
 
 -- what stands after octets of a stream that are the next ones
 pub record HasWritten (sender : Sender) (queue : Held) (stream : Stream) (place : ℕ) (octets : List ℕ) : Type 0 where
-  pub stands : Stands sender queue (reached (place + length octets) stream) (place + length octets)
+  pub stands : FillerStands sender queue (reached (place + length octets) stream) (place + length octets)
   pub next : AreNext stream place octets
 
 -- whatever stream stood before, its next octets are written
 abbrev pub Writes : Sender → Held → Sender → Held → List ℕ → Type 0
-Writes before queue after rest octets = (stream : Stream) (place : ℕ) → Stands before queue stream place →
+Writes before queue after rest octets = (stream : Stream) (place : ℕ) → FillerStands before queue stream place →
     HasWritten after rest stream place octets

@@ -6,7 +6,7 @@ ghost use Rattle.std.specs.List.{flat_map};
 ghost use Rattle.law_model.specs.frames.Piece.{with_header};
 ghost use Rattle.gfp_fill.specs.Areas.{head_of, StandsIn, HasWrittenIn};
 
-use crate::octets::{copy_some, put};
+use crate::copy_octets::{copy_some, put};
 use gfp_headers::core_bytes;
 use gfp_scramble::Scrambler;
 use std::marker::Model;

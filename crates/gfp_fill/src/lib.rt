@@ -1,6 +1,6 @@
 //! The frames that wait, and the stream of GFP frames that is made of them. It knows nothing of rows, lines or
 //! time: the caller says how many octets come next, and offers frames between. Begin with `FrameQueue` and
-//! `Filler`; what is promised of the two together is `Stands` in `specs/Stream.antt`, over the streams of
+//! `Filler`; what is promised of the two together is `FillerStands` in `specs/Stream.antt`, over the streams of
 //! law_model's `specs/source/Client.antt`. `filling_law`: a filler at a place of a stream goes with one queue
 //! alone.
 //!
@@ -13,18 +13,18 @@ ghost use Rattle.law_model.specs.frames.Piece.{Piece, stream_of, opening};
 ghost use Rattle.law_model.specs.source.Client.{size, Stream, offered, begun, reached, IsFewest};
 ghost use Rattle.gfp_fill.specs.Areas.{Sender};
 ghost use Rattle.gfp_fill.specs.Queue.{Held};
-ghost use Rattle.gfp_fill.specs.Stream.{next_pieces, unsent, Stands};
+ghost use Rattle.gfp_fill.specs.Stream.{next_pieces, unsent, FillerStands};
 
 mod area_sender;
-mod filler;
-mod octets;
-mod queue;
+mod stream_filler;
+mod copy_octets;
+mod frame_queue;
 
 pub use area_sender::AreaSender;
-pub use filler::Filler;
+pub use stream_filler::Filler;
 pub use law_model::AcceptFault;
-pub use octets::copy_some;
-pub use queue::{FrameQueue, MAX_WAITING, MIN_FRAME};
+pub use copy_octets::copy_some;
+pub use frame_queue::{FrameQueue, MAX_WAITING, MIN_FRAME};
 
 /// The pieces of a stream that reaches a place are the fewest, a place can be reached in parts, and octets
 /// that are written stand in each longer stream. Where all frames wait from the start, the pieces are those
@@ -42,7 +42,7 @@ pub fn filling_law()
     ensures opening { (frames : List (List ℕ)) (idles : ℕ) →
         begun (length frames + idles) (unsent frames) ≡ record { pieces = opening frames idles; waiting = [] } }
     ensures queue { (sender : Sender) (queue other : Held) (stream : Stream) (place : ℕ) →
-        Stands sender queue stream place → Stands sender other stream place →
+        FillerStands sender queue stream place → FillerStands sender other stream place →
         other ≡ queue }
     ensures offers { (stream : Stream) (frame : List ℕ) →
         (offered stream frame).pieces ≡ stream.pieces }

@@ -2,7 +2,7 @@
 use Rattle.std.proofs.Common.{◌≡◌, ◌≢◌, ℕ, List, Some, None, sym, ◌∙◌, ap, ap₂, eq-eqb}
 use Rattle.std.specs.Prelude.{if◌then◌else◌}
 use Rattle.std.proofs.lemmas.Bool.{ne_eqb}
-use Rattle.base_hec16.specs.Hec.{hec_of}
+use Rattle.check_hec16.specs.Hec.{hec_of}
 use Rattle.gfp_model.specs.declared.linear_model.CidFault.{CidFault}
 use Rattle.gfp_model.specs.linear_model.Linear.{cid_field, cid_check, cid_fault}
 

@@ -4,11 +4,11 @@ use Rattle.std.proofs.Common.{length, Some}
 use Rattle.std.proofs.Common.{None, get_or, refl, sym, ◌∙◌, ap, ap₂, arith, eq-eqb}
 use Rattle.std.specs.Prelude.{if◌then◌else◌, ◌==◌}
 use Rattle.std.proofs.lemmas.Bool.{ne_eqb, eqb-true}
-use Rattle.base_remainder.specs.Bits.{bits, number_behind}
-use Rattle.base_remainder.specs.Remainder.{add_front, divide}
-use Rattle.base_hec16.specs.Hec.{hec_of}
-use Rattle.law_model.specs.declared.TypeFault.{TypeFault}
-use Rattle.law_model.specs.declared.TypeFault.TheVariants.{Check}
+use Rattle.check_remainder.specs.Bits.{bits, number_behind}
+use Rattle.check_remainder.specs.Remainder.{add_front, divide}
+use Rattle.check_hec16.specs.Hec.{hec_of}
+use Rattle.law_model.specs.declared.frame_faults.TypeFault.{TypeFault}
+use Rattle.law_model.specs.declared.frame_faults.TypeFault.TheVariants.{Check}
 use Rattle.law_model.specs.frames.TypeHeader.{type_header, type_field, type_check, type_fault}
 use Rattle.gfp_model.specs.fcs_model.Fcs.{fcs_header, fcs_type_fault}
 use Rattle.gfp_model.specs.linear_model.Linear.{linear_header, linear_type_fault}

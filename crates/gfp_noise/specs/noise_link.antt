@@ -1,4 +1,4 @@
-pub mod Lines
+pub mod NoiseTextLines
 pub mod Helps
 pub mod Noise
 pub mod Drafts

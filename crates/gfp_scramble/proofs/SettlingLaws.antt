@@ -3,11 +3,11 @@ use Rattle.std.proofs.Common.{◌≡◌, ℕ, zero, suc, ◌+◌, ◌*◌, Bool,
 use Rattle.std.proofs.Common.{replicate, refl, sym, ◌∙◌, ap, ap₂, arith, append_assoc, length-append}
 use Rattle.std.proofs.lemmas.List.{length-replicate, drop-append-le}
 use Rattle.std.proofs.Math.Seq.{drop-append-add}
-use Rattle.base_remainder.specs.Bits.{octet_bits, octets_of}
-use Rattle.base_remainder.proofs.OctetLaws.{octet_bits-append, octet_bits-octets_of, length-octets_of}
+use Rattle.check_remainder.specs.Bits.{octet_bits, octets_of}
+use Rattle.check_remainder.proofs.OctetLaws.{octet_bits-append, octet_bits-octets_of, length-octets_of}
 use Rattle.law_model.specs.frames.Scramble.{descrambled_octets}
 use Rattle.law_model.proofs.ScrambledOctets.{length-descrambled_octets, descrambled_octets-behind}
-use Rattle.gfp_scramble.specs.Descrambler.{Stands, unknown}
+use Rattle.gfp_scramble.specs.Descrambler.{DescramblerStands, unknown}
 
 -- two lists that agree from a place of each on, where both have as many elements behind it, with more behind them
 pub drop_alike : {A : Type 0} → (a b : ℕ) (xs ys more : List A) → a + length ys ≡ b + length xs →
@@ -24,8 +24,8 @@ before_octets before = octets_of 6 (replicate 5 false ++ before)
 
 -- ---- a descrambler with these last bits
 module _ (last : List Bool) (octets : List ℕ) where
-  settled-before : (given : ℕ) (stands : Stands (record { last = last; given = given }) false octets) →
-      Stands (record { last = last; given = 6 }) true (before_octets stands.before ++ octets)
+  settled-before : (given : ℕ) (stands : DescramblerStands (record { last = last; given = given }) false octets) →
+      DescramblerStands (record { last = last; given = 6 }) true (before_octets stands.before ++ octets)
   settled-before given stands =
       let zeros : List Bool = replicate 43 false in
       let five : List Bool = replicate 5 false in
@@ -55,8 +55,8 @@ module _ (last : List Bool) (octets : List ℕ) where
 
   -- what it answers where it was settled is what it answers where it forgot, apart from what is unknown
   pub answers-known : (given : ℕ) (settled : Bool) (more out : List ℕ) →
-      Stands (record { last = last; given = given }) settled octets →
-      ((given : ℕ) (before : List ℕ) → Stands (record { last = last; given = given }) true before →
+      DescramblerStands (record { last = last; given = given }) settled octets →
+      ((given : ℕ) (before : List ℕ) → DescramblerStands (record { last = last; given = given }) true before →
       descrambled_octets (before ++ more) ≡ descrambled_octets before ++ out) →
       drop (unknown settled) (descrambled_octets (octets ++ more))
       ≡ drop (unknown settled) (descrambled_octets octets ++ out)

@@ -3,15 +3,15 @@ use Rattle.std.proofs.Common.{◌≡◌, ℕ, ◌+◌, ◌*◌, ◌/◌, ◌%◌
 use Rattle.std.proofs.Common.{arith}
 use Rattle.std.specs.Int.{bytes_high_first}
 use Rattle.std.proofs.lemmas.Nat.{shr-shr, shl-shr}
-use Rattle.base_remainder.specs.Bits.{bits}
+use Rattle.check_remainder.specs.Bits.{bits}
 use Rattle.law_model.specs.frames.Scramble.{scrambled_octets}
-use Rattle.gfp_scramble.specs.Scrambler.{Stands}
+use Rattle.gfp_scramble.specs.Scrambler.{ScramblerStands}
 use Rattle.gfp_scramble.proofs.RegisterLaws.{combined_below}
 use Rattle.gfp_scramble.proofs.ScramblerSteps.{stands-more, answer-more}
 use Rattle.gfp_scramble.proofs.WordSteps.{word-stands, word-answer, result_of}
 
 module _ (last : ℕ) (small : last / 2 ^ 21 < 2 ^ 43) (whole : last / 2 ^ 21 * 2 ^ 21 ≡ last) (octets : List ℕ)
-    (stands : Stands (record { last = bits 43 (last / 2 ^ 21) }) octets) where
+    (stands : ScramblerStands (record { last = bits 43 (last / 2 ^ 21) }) octets) where
   module _ (o : ℕ) (h : o < 2 ^ 8) where
     same : bit_xor o (last / 2 ^ 21 / 2 ^ 35) ≡ bit_xor o (last / 2 ^ 56)
     same = ap (bit_xor o) (shr-shr last 21 35)
@@ -28,9 +28,9 @@ module _ (last : ℕ) (small : last / 2 ^ 21 < 2 ^ 43) (whole : last / 2 ^ 21 * 
         ∙ ap (λ x. scrambled_octets octets ++ x ∷ []) same
 
     pub upper_octet-stands : (x : ℕ) → x ≡ bit_xor o (last / 2 ^ 56) →
-        Stands (record { last = bits 43 ((last % 2 ^ 56 * 256 + x * 2 ^ 21) / 2 ^ 21) }) (octets ++ o ∷ [])
+        ScramblerStands (record { last = bits 43 ((last % 2 ^ 56 * 256 + x * 2 ^ 21) / 2 ^ 21) }) (octets ++ o ∷ [])
     upper_octet-stands x e =
-        subst (λ v. Stands (record { last = bits 43 v }) (octets ++ o ∷ []))
+        subst (λ v. ScramblerStands (record { last = bits 43 v }) (octets ++ o ∷ []))
         (ap (λ y. last / 2 ^ 21 % 2 ^ 35 * 2 ^ 8 + y) (same ∙ sym e) ∙ moved x)
         (stands-more (last / 2 ^ 21) o octets stands below)
 
@@ -46,9 +46,9 @@ module _ (last : ℕ) (small : last / 2 ^ 21 < 2 ^ 43) (whole : last / 2 ^ 21 * 
     upper_word-answer = word-answer (last / 2 ^ 21) w small h octets stands
         ∙ ap (λ v. scrambled_octets octets ++ bytes_high_first 8 v) is_result
 
-    pub upper_word-stands : Stands (record { last = bits 43 (word_result % 2 ^ 43 * 2 ^ 21 / 2 ^ 21) })
+    pub upper_word-stands : ScramblerStands (record { last = bits 43 (word_result % 2 ^ 43 * 2 ^ 21 / 2 ^ 21) })
         (octets ++ bytes_high_first 8 w)
     upper_word-stands =
-        subst (λ v. Stands (record { last = bits 43 v }) (octets ++ bytes_high_first 8 w))
+        subst (λ v. ScramblerStands (record { last = bits 43 v }) (octets ++ bytes_high_first 8 w))
         (ap (λ v. v % 2 ^ 43) is_result ∙ sym (shl-shr (word_result % 2 ^ 43) 21))
         (word-stands (last / 2 ^ 21) w small h octets stands)

@@ -7,10 +7,10 @@ use Rattle.std.specs.Int.{bytes_high_first}
 use Rattle.std.specs.Int.Bits.{xor_zero_r}
 use Rattle.std.proofs.lemmas.List.{drop_at, length-append}
 use Rattle.std.proofs.lemmas.Nat.{shr-shr, shr_high, shr_split, xor_shr, xor_block, xor_lt, pow_pos}
-use Rattle.base_remainder.specs.Bits.{bits, octets_of, xors}
-use Rattle.base_remainder.proofs.BitLaws.{length-bits, bits-add, bits_low, bits-mod, bits-xor}
-use Rattle.base_remainder.proofs.OctetLaws.{octets_of-append, octets_of-octet_bits, bytes_high_first_below}
-use Rattle.base_remainder.proofs.OctetLaws.{octet_bits-bytes_high_first}
+use Rattle.check_remainder.specs.Bits.{bits, octets_of, xors}
+use Rattle.check_remainder.proofs.BitLaws.{length-bits, bits-add, bits_low, bits-mod, bits-xor}
+use Rattle.check_remainder.proofs.OctetLaws.{octets_of-append, octets_of-octet_bits, bytes_high_first_below}
+use Rattle.check_remainder.proofs.OctetLaws.{octet_bits-bytes_high_first}
 use Rattle.law_model.specs.frames.Scramble.{scramble_on}
 use Rattle.law_model.proofs.ScrambleLaws.{scramble_on-append, scramble_on-short, xors-longer, descramble}
 use Rattle.law_model.proofs.ScrambleLaws.{descramble-append}

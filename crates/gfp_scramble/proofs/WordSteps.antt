@@ -4,12 +4,12 @@ use Rattle.std.proofs.Common.{drop, replicate, bit_xor, refl, sym, ◌∙◌, ap
 use Rattle.std.specs.Prelude.{if◌then◌else◌}
 use Rattle.std.specs.Int.{bytes_high_first}
 use Rattle.std.proofs.lemmas.List.{length-append}
-use Rattle.base_remainder.specs.Bits.{bits, octet_bits}
-use Rattle.base_remainder.proofs.OctetLaws.{octet_bits-append, length-octet_bits, octet_bits-bytes_high_first}
+use Rattle.check_remainder.specs.Bits.{bits, octet_bits}
+use Rattle.check_remainder.proofs.OctetLaws.{octet_bits-append, length-octet_bits, octet_bits-bytes_high_first}
 use Rattle.law_model.specs.frames.Scramble.{scrambled, scrambled_octets, descrambled, descrambled_octets}
 use Rattle.law_model.proofs.ScrambleLaws.{scramble_on-append, length-scrambled, length-descrambled}
-use Rattle.gfp_scramble.specs.Scrambler.{Stands}
-use Rattle.gfp_scramble.specs.Descrambler.{Stands as StandsBack}
+use Rattle.gfp_scramble.specs.Scrambler.{ScramblerStands}
+use Rattle.gfp_scramble.specs.Descrambler.{DescramblerStands as StandsBack}
 use Rattle.gfp_scramble.proofs.RegisterLaws.{window}
 use Rattle.gfp_scramble.proofs.DescramblerSteps.{last-octets, last-settled}
 use Rattle.gfp_scramble.proofs.WordLaws.{word_scrambled, word_descrambled, word_register, more_octets, length-bytes}
@@ -22,7 +22,7 @@ word_bits octets w = octet_bits-append octets (bytes_high_first 8 w)
     ∙ ap (λ l. octet_bits octets ++ l) (octet_bits-bytes_high_first 8 w)
 
 module _ (r w : ℕ) (small : r < 2 ^ 43) (h : w < 2 ^ 64) (octets : List ℕ)
-    (stands : Stands (record { last = bits 43 r }) octets) where
+    (stands : ScramblerStands (record { last = bits 43 r }) octets) where
   more : scrambled (octet_bits (octets ++ bytes_high_first 8 w)) ≡ scrambled (octet_bits octets) ++ bits 64
       (result_of r w)
   more =
@@ -37,7 +37,7 @@ module _ (r w : ℕ) (small : r < 2 ^ 43) (h : w < 2 ^ 64) (octets : List ℕ)
       (scrambled (octet_bits octets))
       (length-scrambled (octet_bits octets) ∙ length-octet_bits octets) more
 
-  pub word-stands : Stands (record { last = bits 43 (result_of r w % 2 ^ 43) }) (octets ++ bytes_high_first 8 w)
+  pub word-stands : ScramblerStands (record { last = bits 43 (result_of r w % 2 ^ 43) }) (octets ++ bytes_high_first 8 w)
   word-stands = record {
     last =
         word_register 21 43 r (result_of r w) (replicate 43 false) (scrambled (octet_bits octets)) stands.last

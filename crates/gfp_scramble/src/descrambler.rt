@@ -2,7 +2,7 @@
 
 ghost use Rattle.std.specs.Prelude.{◌≡◌, ℕ, ◌%◌, ◌↔◌, Bool, true, false, List, [], ◌∷◌, length, IsTrue};
 ghost use Rattle.std.specs.Int.{to_be_bytes, w64};
-ghost use Rattle.gfp_scramble.specs.Descrambler.{Stands, IsKnown, Continues, DescramblesTo};
+ghost use Rattle.gfp_scramble.specs.Descrambler.{DescramblerStands, IsKnown, Continues, DescramblesTo};
 
 use crate::scrambler::{octets_of_word, word_of};
 use std::marker::Model;
@@ -21,10 +21,10 @@ pub struct Descrambler {
 
 impl Model for Descrambler {
     ghost use Rattle.std.specs.Prelude.{◌^◌, ◌<◌, ◌≤◌};
-    ghost use Rattle.base_remainder.specs.Bits.{bits, number};
+    ghost use Rattle.check_remainder.specs.Bits.{bits, number};
     ghost use Rattle.gfp_scramble.specs.Descrambler.{Descrambling};
     ghost use Rattle.std.proofs.Common.{◌∙◌, ap, mod-eq_of_lt};
-    ghost use Rattle.base_remainder.proofs.BitLaws.{number-bits};
+    ghost use Rattle.check_remainder.proofs.BitLaws.{number-bits};
 
     ghost Value = { Descrambling };
 
@@ -40,7 +40,7 @@ impl Model for Descrambler {
 impl Descrambler {
     /// A descrambler that is settled: before its octets there are 43 bits of 0.
     pub fn new() -> Descrambler
-        ensures { Stands result true [] }
+        ensures { DescramblerStands result true [] }
     {
         Descrambler {
             register: 0,
@@ -118,7 +118,7 @@ impl Descrambler {
 
     /// Whether the octets that come are those that were scrambled.
     pub fn known(&self) -> bool
-        ensures { (settled : Bool) (octets : List ℕ) → Stands self.now settled octets →
+        ensures { (settled : Bool) (octets : List ℕ) → DescramblerStands self.now settled octets →
             IsTrue result ↔ IsKnown settled octets }
     {
         self.given == SETTLED
@@ -127,7 +127,7 @@ impl Descrambler {
     /// Forgets the octets before, and is settled again once six octets were given: from the seventh on, in whatever
     /// calls they come, they are those that were scrambled.
     pub fn forget(&mut self)
-        ensures { Stands self.new false [] }
+        ensures { DescramblerStands self.new false [] }
     {
         self.given = 0;
     }

@@ -2,7 +2,7 @@
 
 ghost use Rattle.std.specs.Prelude.{◌≡◌, ◌%◌, [], ◌∷◌, length};
 ghost use Rattle.std.specs.Int.{to_be_bytes, w64};
-ghost use Rattle.gfp_scramble.specs.Scrambler.{Stands, Continues, ScramblesTo};
+ghost use Rattle.gfp_scramble.specs.Scrambler.{ScramblerStands, Continues, ScramblesTo};
 
 use std::marker::Model;
 
@@ -16,11 +16,11 @@ pub struct Scrambler {
 
 impl Model for Scrambler {
     ghost use Rattle.std.specs.Prelude.{◌^◌, ◌<◌};
-    ghost use Rattle.base_remainder.specs.Bits.{bits, number};
+    ghost use Rattle.check_remainder.specs.Bits.{bits, number};
     ghost use Rattle.gfp_scramble.specs.Scrambler.{Scrambling};
     ghost use Rattle.std.specs.Prelude.{◌≡◌, ◌*◌, ◌/◌};
     ghost use Rattle.std.proofs.Common.{◌∙◌, ap, mod-eq_of_lt};
-    ghost use Rattle.base_remainder.proofs.BitLaws.{number-bits};
+    ghost use Rattle.check_remainder.proofs.BitLaws.{number-bits};
 
     ghost Value = { Scrambling };
 
@@ -36,7 +36,7 @@ impl Model for Scrambler {
 impl Scrambler {
     /// A scrambler before whose octets there are 43 bits of 0.
     pub fn new() -> Scrambler
-        ensures { Stands result [] }
+        ensures { ScramblerStands result [] }
     {
         Scrambler { last: 0 }
     }

@@ -4,7 +4,7 @@
 #![tactic(auto)]
 
 #[cfg(test)]
-mod checks;
+mod check_sums;
 #[cfg(test)]
 mod delineation;
 #[cfg(test)]

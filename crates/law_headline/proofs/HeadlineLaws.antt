@@ -1,7 +1,7 @@
 -- The headline of a script's text. What walks and runs write of it is here to be cited by the commands.
 use Rattle.std.proofs.Common.{◌≡◌, ℕ, ◌≤◌, List, [], length, ap, ◌∙◌, subst, arith, inr}
 use Rattle.std.specs.Prelude.{Ok}
-use Rattle.law_model.specs.declared.script.Script.{Script}
+use Rattle.law_model.specs.declared.script_types.Script.{Script}
 use Rattle.law_model.specs.session.Counts.{begin, walked}
 use Rattle.law_model.specs.session.Valid.{IsValid}
 use Rattle.law_model.specs.session.Leg.{leg_of}

@@ -1,6 +1,6 @@
 -- The headline: what the report of a session tells, in the words of whoever wrote its script.
 use Rattle.std.specs.Prelude.{◌≡◌, ◌↔◌, ◌⊎◌, ℕ, ◌≤◌, Bool, true, List, ◌++◌, map, filter, All, Option, Ok}
-use Rattle.law_model.specs.declared.script.Script.{Script}
+use Rattle.law_model.specs.declared.script_types.Script.{Script}
 use Rattle.law_model.specs.session.Leg.{Leg, leg_of}
 use Rattle.law_model.specs.frames.Segment.{segments}
 use Rattle.law_model.specs.frames.Loss.{Extent, Lost}

@@ -1,6 +1,6 @@
 -- What `walk` writes of a script.
 use Rattle.std.specs.Prelude.{List, ℕ}
-use Rattle.law_model.specs.declared.script.Script.{Script}
+use Rattle.law_model.specs.declared.script_types.Script.{Script}
 use Rattle.law_model.specs.session.Counts.{Counts, walked}
 use Rattle.law_model.specs.session.Leg.{leg_of}
 use Rattle.law_walk.specs.Walk.{walk_plan}

@@ -3,7 +3,7 @@
 #![tactic(auto)]
 
 ghost use Rattle.std.specs.Prelude.{◌≡◌, ℕ, ◌≤◌, List, [], length, Ok};
-ghost use Rattle.law_model.specs.declared.script.Script.{Script};
+ghost use Rattle.law_model.specs.declared.script_types.Script.{Script};
 ghost use Rattle.text_scripts.specs.script_read.Script.{script_of};
 ghost use Rattle.law_walk.specs.Report.{final_report};
 ghost use Rattle.law_headline.specs.Texts.{walk_text};

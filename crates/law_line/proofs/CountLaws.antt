@@ -7,24 +7,24 @@ use Rattle.std.proofs.lemmas.Bool.{cases_lt, cases_Bool}
 use Rattle.std.proofs.lemmas.List.{append-nil, length-map, map-append, length-replicate, length-take-le, take_all}
 use Rattle.std.proofs.lemmas.List.{take-append-drop, take-append-le, take-take}
 use Rattle.std.proofs.lemmas.Option.{slice_get_within}
-use Rattle.base_cells.specs.declared.Container.{Container}
-use Rattle.base_cells.specs.declared.Cell.{Cell}
-use Rattle.base_cells.specs.declared.Cell.TheVariants.{Good, Fail, End}
-use Rattle.base_nibbles.specs.Lock.{IsFirstStep, IsOutOfStep, HasMfi2, Locks, IsAt}
-use Rattle.base_nibbles.proofs.LockLaws.{slice_get-append, slice_get-append_seam, HasMfi2-append, HasMfi2_only, Locks-append}
-use Rattle.base_nibbles.proofs.LockLaws.{IsAt-append, IsOutOfStep-append, IsFirstStep_only, IsInStep-inside, IsInStep_before}
-use Rattle.base_nibbles.proofs.LockLaws.{IsInStep-append}
+use Rattle.member_cells.specs.declared.containers_and_cells.Container.{Container}
+use Rattle.member_cells.specs.declared.containers_and_cells.Cell.{Cell}
+use Rattle.member_cells.specs.declared.containers_and_cells.Cell.TheVariants.{Good, Fail, End}
+use Rattle.check_nibbles.specs.Lock.{IsFirstStep, IsOutOfStep, HasMfi2, Locks, IsAt}
+use Rattle.check_nibbles.proofs.LockLaws.{slice_get-append, slice_get-append_seam, HasMfi2-append, HasMfi2_only, Locks-append}
+use Rattle.check_nibbles.proofs.LockLaws.{IsAt-append, IsOutOfStep-append, IsFirstStep_only, IsInStep-inside, IsInStep_before}
+use Rattle.check_nibbles.proofs.LockLaws.{IsInStep-append}
 use Rattle.law_model.specs.members.Number.{LineLock, unlocked, begun, locked, over, Sight, unknown, locks, at, sight_of}
 use Rattle.law_model.specs.members.Number.{ahead, verdicts_by, Reading, read_at, read_on, reading_of}
 use Rattle.law_model.specs.members.Sign.{sign_of, signs_of, HasNoEnd}
 use Rattle.law_model.specs.members.Line.{IsLine}
 use Rattle.law_line.specs.Wording.{IsLeast, IsCount, IsWholeAt, dec_of}
 use Rattle.law_line.specs.Numbering.{IsCellOf, AreAt}
-use Rattle.law_model.specs.declared.window.Window.{Window}
-use Rattle.law_line.proofs.SightLaws.{Stands, IsSight, sight-is, stands-after, stands-fail, stands-none}
+use Rattle.law_model.specs.declared.window_types.Window.{Window}
+use Rattle.law_line.proofs.SightLaws.{LockStands, IsSight, sight-is, stands-after, stands-fail, stands-none}
 use Rattle.law_line.proofs.RunLaws.{read_on-append, cut-path, are_in_step}
-use Rattle.law_model.specs.declared.window.Carried.{Carried}
-use Rattle.law_model.specs.declared.window.Carried.TheVariants.{Whole, Fails, Vanishes}
+use Rattle.law_model.specs.declared.window_types.Carried.{Carried}
+use Rattle.law_model.specs.declared.window_types.Carried.TheVariants.{Whole, Fails, Vanishes}
 use Rattle.law_model.specs.members.Damage.{carried}
 use Rattle.law_model.specs.members.Path.{cells_of, path}
 use Rattle.law_line.proofs.StableLaws.{extends}
@@ -32,7 +32,7 @@ use Rattle.law_line.proofs.StableLaws.{extends}
 -- a cell and those before it
 -- what is known of a line after any cells none of which is End
 next-stands : (lock : LineLock) (verdicts : List (Option Container)) (signs : List (Option ℕ)) (cell : Cell) →
-    (cell ≡ End → ⊥) → Stands lock signs → Stands (read_at lock verdicts cell).lock (signs ++ sign_of cell ∷ [])
+    (cell ≡ End → ⊥) → LockStands lock signs → LockStands (read_at lock verdicts cell).lock (signs ++ sign_of cell ∷ [])
 next-stands unlocked verdicts signs (Good c) more stands =
     stands-after (sight_of unlocked c.h4) signs c.h4 (sight-is unlocked signs c.h4 stands)
 next-stands (begun octet) verdicts signs (Good c) more stands =
@@ -48,7 +48,7 @@ next-stands (begun octet) verdicts signs End more stands = absurd (more refl)
 next-stands (locked mfi1) verdicts signs End more stands = absurd (more refl)
 
 stands-on : (rest : List Cell) (reading : Reading) (signs : List (Option ℕ)) → HasNoEnd rest →
-    Stands reading.lock signs → Stands (read_on reading rest).lock (signs ++ signs_of rest)
+    LockStands reading.lock signs → LockStands (read_on reading rest).lock (signs ++ signs_of rest)
 unfolding read_on
 stands-on [] reading signs more stands = rw (append-nil signs) stands
 stands-on (cell ∷ rest) reading signs more stands =
@@ -56,7 +56,7 @@ stands-on (cell ∷ rest) reading signs more stands =
     (stands-on rest (read_at reading.lock reading.verdicts cell) (signs ++ sign_of cell ∷ []) (λ i e. more (suc i) e)
     (next-stands reading.lock reading.verdicts signs cell (λ e. more 0 (ap Some e)) stands))
 
-pub stands-of : (cells : List Cell) → HasNoEnd cells → Stands (reading_of cells).lock (signs_of cells)
+pub stands-of : (cells : List Cell) → HasNoEnd cells → LockStands (reading_of cells).lock (signs_of cells)
 stands-of cells more = stands-on cells (record { lock = unlocked; verdicts = [] }) [] more stands-none
 
 -- ---- at each place
@@ -87,7 +87,7 @@ IsLeast_only d r a b p q = let low = p.least b q.least_of q.same in let high = q
     omega arith
 
 module _ (cells : List Cell) (more : HasNoEnd cells) where
-  before-stands : (i : ℕ) → Stands (reading_of (take i cells)).lock (signs_of (take i cells))
+  before-stands : (i : ℕ) → LockStands (reading_of (take i cells)).lock (signs_of (take i cells))
   before-stands i = stands-of (take i cells) (λ j e. more j (slice_get-take cells i j End e))
 
   next-reading : (i : ℕ) (cell : Cell) → slice_get cells i ≡ Some cell →
@@ -142,7 +142,7 @@ module _ (cells : List Cell) (more : HasNoEnd cells) where
   size-by at d c = refl
 
   read-good : (lock : LineLock) (verdicts : List (Option Container)) (signs : List (Option ℕ)) (c : Container) →
-      Stands lock signs →
+      LockStands lock signs →
       length (read_at lock verdicts (Good c)).verdicts ≡ length verdicts + size_by (sight_of lock c.h4)
       (length verdicts)
   read-good unlocked verdicts signs c stands =
@@ -156,7 +156,7 @@ module _ (cells : List Cell) (more : HasNoEnd cells) where
       ∙ ap (λ n. length verdicts + n) (size-by (sight_of (locked mfi1) c.h4) (length verdicts) c)
   read-good over verdicts signs c stands = absurd stands
 
-  read-fail : (lock : LineLock) (verdicts : List (Option Container)) (signs : List (Option ℕ)) → Stands lock signs →
+  read-fail : (lock : LineLock) (verdicts : List (Option Container)) (signs : List (Option ℕ)) → LockStands lock signs →
       length (read_at lock verdicts Fail).verdicts ≡ length verdicts + 1
   read-fail unlocked verdicts signs stands = length-append verdicts (None ∷ [])
   read-fail (begun octet) verdicts signs stands = length-append verdicts (None ∷ [])
@@ -273,7 +273,7 @@ module _ (cells : List Cell) (more : HasNoEnd cells) where
         slice_get new 0 ≡ Some (Some c)
 
   pub good-verdicts : (lock : LineLock) (verdicts : List (Option Container)) (signs : List (Option ℕ)) (c : Container) →
-      Stands lock signs →
+      LockStands lock signs →
       (read_at lock verdicts (Good c)).verdicts ≡ verdicts ++ verdicts_by (sight_of lock c.h4) (length verdicts) c
   good-verdicts unlocked verdicts signs c stands = refl
   good-verdicts (begun octet) verdicts signs c stands = refl
@@ -281,7 +281,7 @@ module _ (cells : List Cell) (more : HasNoEnd cells) where
   good-verdicts over verdicts signs c stands = absurd stands
 
   pub fail-verdicts : (lock : LineLock) (verdicts : List (Option Container)) (signs : List (Option ℕ)) →
-      Stands lock signs → (read_at lock verdicts Fail).verdicts ≡ verdicts ++ None ∷ []
+      LockStands lock signs → (read_at lock verdicts Fail).verdicts ≡ verdicts ++ None ∷ []
   fail-verdicts unlocked verdicts signs stands = refl
   fail-verdicts (begun octet) verdicts signs stands = refl
   fail-verdicts (locked mfi1) verdicts signs stands = refl

@@ -4,20 +4,20 @@ use Rattle.std.proofs.Common.{arith}
 use Rattle.law_line.proofs.ListLaws.{none-beyond}
 use Rattle.std.proofs.lemmas.List.{take_all}
 use Rattle.std.proofs.lemmas.Option.{slice_get_past}
-use Rattle.base_cells.specs.declared.Container.{Container}
-use Rattle.base_cells.specs.declared.Cell.{Cell}
-use Rattle.base_cells.specs.declared.Cell.TheVariants.{End}
+use Rattle.member_cells.specs.declared.containers_and_cells.Container.{Container}
+use Rattle.member_cells.specs.declared.containers_and_cells.Cell.{Cell}
+use Rattle.member_cells.specs.declared.containers_and_cells.Cell.TheVariants.{End}
 use Rattle.law_model.specs.members.Number.{LineLock, unlocked, begun, locked, over, Reading, read_at, read_on, reading_of}
 use Rattle.law_model.specs.members.Number.{verdict_over, verdict_or, verdict}
 use Rattle.law_model.specs.members.Sign.{signs_of, HasNoEnd}
 use Rattle.law_line.specs.Wording.{dec_of, AreWhole, AreDecided, EndDecides}
-use Rattle.law_line.proofs.SightLaws.{Stands}
+use Rattle.law_line.proofs.SightLaws.{LockStands}
 use Rattle.law_line.proofs.RunLaws.{read_on-append}
 use Rattle.law_line.proofs.StableLaws.{over-stays}
 use Rattle.law_line.proofs.CountLaws.{stands-of, is_whole_at, whole_at_is}
 
 -- a line that has not ended decides no more than its verdicts
-pub open-lock : (lock : LineLock) (signs : List (Option ℕ)) → Stands lock signs → verdict_over lock ≡ None
+pub open-lock : (lock : LineLock) (signs : List (Option ℕ)) → LockStands lock signs → verdict_over lock ≡ None
 open-lock unlocked signs is = refl
 open-lock (begun octet) signs is = refl
 open-lock (locked mfi1) signs is = refl

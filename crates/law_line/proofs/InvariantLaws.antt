@@ -4,10 +4,10 @@ use Rattle.std.proofs.Common.{List, [], ◌∷◌, ◌++◌, length, replicate, 
 use Rattle.std.proofs.Common.{subst, arith, length-append, append_assoc}
 use Rattle.std.proofs.lemmas.Bool.{cases_eq, eq-eqb, eqb-true, eqb-false, cases_Bool, leb-true}
 use Rattle.std.proofs.lemmas.List.{append-nil}
-use Rattle.base_cells.specs.declared.Container.{Container}
-use Rattle.base_cells.specs.declared.Cell.TheVariants.{Good, Fail}
-use Rattle.law_model.specs.declared.window.Carried.{Carried}
-use Rattle.law_model.specs.declared.window.Carried.TheVariants.{Whole, Fails, Vanishes}
+use Rattle.member_cells.specs.declared.containers_and_cells.Container.{Container}
+use Rattle.member_cells.specs.declared.containers_and_cells.Cell.TheVariants.{Good, Fail}
+use Rattle.law_model.specs.declared.window_types.Carried.{Carried}
+use Rattle.law_model.specs.declared.window_types.Carried.TheVariants.{Whole, Fails, Vanishes}
 use Rattle.law_model.specs.members.Damage.{is_whole}
 use Rattle.law_model.specs.members.Line.{HasPlace, expected}
 use Rattle.law_model.specs.members.Number.{LineLock, unlocked, begun, locked, over, unknown, locks, at, ahead, Reading}

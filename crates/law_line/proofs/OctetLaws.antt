@@ -5,9 +5,9 @@ use Rattle.std.proofs.Common.{◌∙◌, ap, subst, arith}
 use Rattle.law_line.proofs.ListLaws.{take-next, slice_get-drop, slice_get-inside, is-some}
 use Rattle.std.proofs.lemmas.Bool.{cases_eq, cases_Bool}
 use Rattle.std.proofs.lemmas.List.{map-append}
-use Rattle.base_cells.specs.declared.Container.{Container}
-use Rattle.base_cells.specs.declared.Cell.{Cell}
-use Rattle.law_model.specs.declared.window.Carried.{Carried}
+use Rattle.member_cells.specs.declared.containers_and_cells.Container.{Container}
+use Rattle.member_cells.specs.declared.containers_and_cells.Cell.{Cell}
+use Rattle.law_model.specs.declared.window_types.Carried.{Carried}
 use Rattle.law_model.specs.members.Damage.{carried, is_good, is_readable}
 use Rattle.law_model.specs.members.Path.{cells}
 use Rattle.law_model.specs.members.Number.{verdict}

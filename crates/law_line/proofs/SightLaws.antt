@@ -2,10 +2,10 @@
 use Rattle.std.proofs.Common.{◌≡◌, ◌≢◌, ℕ, ◌+◌, ◌-◌, ◌*◌, ◌/◌, ◌%◌, ◌<◌, ◌==◌, inl, inr, List, [], ◌∷◌, ◌++◌, length}
 use Rattle.std.proofs.Common.{slice_get, Option, Some, None, refl, sym, ◌∙◌, subst, arith, length-append}
 use Rattle.std.proofs.lemmas.Bool.{eqb-true, eqb-false, cases_Bool}
-use Rattle.base_nibbles.specs.Lock.{HasMfi1, IsInStep, IsFirstStep, IsOutOfStep, HasMfi2, Locks, IsAt}
-use Rattle.base_nibbles.proofs.LockLaws.{slice_get-append, slice_get-append_seam, IsFirstStep-append, IsFirstStep_longer}
-use Rattle.base_nibbles.proofs.LockLaws.{IsOutOfStep-append, HasMfi1-append, HasMfi1_before, HasMfi1_only, IsInStep_two}
-use Rattle.base_nibbles.proofs.LockLaws.{IsInStep_shorter, IsOutOfStep_next, IsOutOfStep_goes_on}
+use Rattle.check_nibbles.specs.Lock.{HasMfi1, IsInStep, IsFirstStep, IsOutOfStep, HasMfi2, Locks, IsAt}
+use Rattle.check_nibbles.proofs.LockLaws.{slice_get-append, slice_get-append_seam, IsFirstStep-append, IsFirstStep_longer}
+use Rattle.check_nibbles.proofs.LockLaws.{IsOutOfStep-append, HasMfi1-append, HasMfi1_before, HasMfi1_only, IsInStep_two}
+use Rattle.check_nibbles.proofs.LockLaws.{IsInStep_shorter, IsOutOfStep_next, IsOutOfStep_goes_on}
 use Rattle.law_model.specs.members.Number.{LineLock, unlocked, begun, locked, over, Sight, unknown, locks, at, sight_of}
 use Rattle.law_model.specs.members.Number.{lock_after}
 
@@ -13,13 +13,13 @@ abbrev pub IsLast : List (Option ℕ) → ℕ → Type 0
 IsLast signs place = place + 1 ≡ length signs
 
 -- what is known of a line after these signs
-abbrev pub Stands : LineLock → List (Option ℕ) → Type 0
-Stands unlocked signs = (place : ℕ) → IsLast signs place → IsOutOfStep signs place × (HasMfi1 signs place 0 → ⊥)
-Stands (begun octet) signs = (place : ℕ) × IsLast signs place × IsOutOfStep signs place ×
+abbrev pub LockStands : LineLock → List (Option ℕ) → Type 0
+LockStands unlocked signs = (place : ℕ) → IsLast signs place → IsOutOfStep signs place × (HasMfi1 signs place 0 → ⊥)
+LockStands (begun octet) signs = (place : ℕ) × IsLast signs place × IsOutOfStep signs place ×
     (slice_get signs place ≡ Some (Some octet)) × (octet % 16 ≡ 0)
-Stands (locked mfi1) signs = (place : ℕ) × (from : ℕ) × IsLast signs place × IsFirstStep signs from place ×
+LockStands (locked mfi1) signs = (place : ℕ) × (from : ℕ) × IsLast signs place × IsFirstStep signs from place ×
     HasMfi1 signs place mfi1
-Stands over signs = ⊥
+LockStands over signs = ⊥
 
 -- what a place is
 abbrev pub IsSight : List (Option ℕ) → ℕ → Sight → Type 0
@@ -41,7 +41,7 @@ only_last signs entry place last = omega (arith, length-append signs (entry ∷ 
 begin-none : (h4 from : ℕ) → IsInStep (Some h4 ∷ []) from 0 → ⊥
 begin-none h4 from step = let later = step.later in omega arith
 
-sight-unlocked : (signs : List (Option ℕ)) (h4 : ℕ) → Stands unlocked signs →
+sight-unlocked : (signs : List (Option ℕ)) (h4 : ℕ) → LockStands unlocked signs →
     IsOutOfStep (signs ++ Some h4 ∷ []) (length signs)
 sight-unlocked [] h4 stands = λ from step. begin-none h4 from step
 sight-unlocked (x ∷ xs) h4 stands =
@@ -53,7 +53,7 @@ sight-unlocked (x ∷ xs) h4 stands =
     (IsOutOfStep_goes_on (signs ++ more) (length xs) (IsOutOfStep-append signs more (length xs) (omega arith) known.0)
     (λ has. known.1 (HasMfi1_before signs more (length xs) 0 (omega arith) has)))
 
-sight-other : (signs : List (Option ℕ)) (octet h4 : ℕ) → h4 % 16 ≢ 1 → Stands (begun octet) signs →
+sight-other : (signs : List (Option ℕ)) (octet h4 : ℕ) → h4 % 16 ≢ 1 → LockStands (begun octet) signs →
     IsOutOfStep (signs ++ Some h4 ∷ []) (length signs)
 sight-other signs octet h4 other (place, last, out, here, zeroth) =
     let more = Some h4 ∷ [] in
@@ -62,7 +62,7 @@ sight-other signs octet h4 other (place, last, out, here, zeroth) =
     (octet, slice_get-append signs more place (omega arith) ∙ here, zeroth)
     (h4, entry_after signs (Some h4) place last, refl) other)
 
-sight-locks : (signs : List (Option ℕ)) (octet h4 : ℕ) → h4 % 16 ≡ 1 → Stands (begun octet) signs →
+sight-locks : (signs : List (Option ℕ)) (octet h4 : ℕ) → h4 % 16 ≡ 1 → LockStands (begun octet) signs →
     IsSight (signs ++ Some h4 ∷ []) (length signs) (locks (16 * (16 * (octet / 16) + h4 / 16) + 1))
 sight-locks signs octet h4 first (place, last, out, here, zeroth) =
     let more = Some h4 ∷ [] in
@@ -82,7 +82,7 @@ sight-locks signs octet h4 first (place, last, out, here, zeroth) =
       refl,
     )
 
-sight-mismatch : (signs : List (Option ℕ)) (mfi1 h4 : ℕ) → h4 % 16 ≢ (mfi1 + 1) % 16 → Stands (locked mfi1) signs →
+sight-mismatch : (signs : List (Option ℕ)) (mfi1 h4 : ℕ) → h4 % 16 ≢ (mfi1 + 1) % 16 → LockStands (locked mfi1) signs →
     IsOutOfStep (signs ++ Some h4 ∷ []) (length signs)
 sight-mismatch signs mfi1 h4 other (place, from, last, step, has) =
     let more = Some h4 ∷ [] in
@@ -94,7 +94,7 @@ due : (from place mfi1 h4 : ℕ) → from < place → (place - from) % 16 ≡ mf
     h4 % 16 ≡ (place + 1 - from) % 16
 due from place mfi1 h4 later before next = omega arith
 
-sight-at : (signs : List (Option ℕ)) (mfi1 h4 : ℕ) → h4 % 16 ≡ (mfi1 + 1) % 16 → Stands (locked mfi1) signs →
+sight-at : (signs : List (Option ℕ)) (mfi1 h4 : ℕ) → h4 % 16 ≡ (mfi1 + 1) % 16 → LockStands (locked mfi1) signs →
     IsAt (signs ++ Some h4 ∷ []) (length signs)
 sight-at signs mfi1 h4 next (place, from, last, first, has) =
     let more = Some h4 ∷ [] in
@@ -107,7 +107,7 @@ sight-at signs mfi1 h4 next (place, from, last, first, has) =
     (h4, entry_after signs (Some h4) place last, due from place mfi1 h4 later before next) in
     subst (IsAt all) last (from, longer, omega arith)
 
-pub sight-is : (lock : LineLock) (signs : List (Option ℕ)) (h4 : ℕ) → Stands lock signs →
+pub sight-is : (lock : LineLock) (signs : List (Option ℕ)) (h4 : ℕ) → LockStands lock signs →
     IsSight (signs ++ Some h4 ∷ []) (length signs) (sight_of lock h4)
 sight-is unlocked signs h4 stands = sight-unlocked signs h4 stands
 sight-is (begun octet) signs h4 stands =
@@ -130,7 +130,7 @@ is_last : (signs : List (Option ℕ)) (entry : Option ℕ) → IsLast (signs ++ 
 is_last signs entry = omega (arith, length-append signs (entry ∷ []))
 
 after-unknown : (signs : List (Option ℕ)) (h4 : ℕ) → IsOutOfStep (signs ++ Some h4 ∷ []) (length signs) →
-    Stands (lock_after unknown h4) (signs ++ Some h4 ∷ [])
+    LockStands (lock_after unknown h4) (signs ++ Some h4 ∷ [])
 after-unknown signs h4 out =
     let all = signs ++ Some h4 ∷ [] in
     elim (cases_Bool (h4 % 16 == 0)) [
@@ -149,7 +149,7 @@ after-unknown signs h4 out =
     ]
 
 pub stands-after : (sight : Sight) (signs : List (Option ℕ)) (h4 : ℕ) →
-    IsSight (signs ++ Some h4 ∷ []) (length signs) sight → Stands (lock_after sight h4) (signs ++ Some h4 ∷ [])
+    IsSight (signs ++ Some h4 ∷ []) (length signs) sight → LockStands (lock_after sight h4) (signs ++ Some h4 ∷ [])
 stands-after unknown signs h4 is = after-unknown signs h4 is
 stands-after (locks number) signs h4 is = (length signs, is.0.0, is_last signs (Some h4), is.0.1, mfi1-last signs h4)
 stands-after at signs h4 is = (length signs, is.0, is_last signs (Some h4), is.1, mfi1-last signs h4)
@@ -158,7 +158,7 @@ none-last : (signs : List (Option ℕ)) (mfi1 : ℕ) → HasMfi1 (signs ++ None 
 none-last signs mfi1 has = let e : Some None ≡ Some (Some has.0) = sym (slice_get-append_seam signs None []) ∙ has.1 in
     absurd cc
 
-pub stands-fail : (signs : List (Option ℕ)) → Stands unlocked (signs ++ None ∷ [])
+pub stands-fail : (signs : List (Option ℕ)) → LockStands unlocked (signs ++ None ∷ [])
 stands-fail signs place last =
     let all = signs ++ None ∷ [] in
     let same = only_last signs None place last in (
@@ -168,5 +168,5 @@ stands-fail signs place last =
       λ has. none-last signs 0 (subst (λ n. HasMfi1 all n 0) same has),
     )
 
-pub stands-none : Stands unlocked []
+pub stands-none : LockStands unlocked []
 stands-none place last = absurd (omega arith)

@@ -1,24 +1,24 @@
 -- What is computed of each cell of a line, against its wording.
 use Rattle.std.proofs.Common.{◌≡◌, ℕ, zero, suc, ◌+◌, ◌*◌, ◌<◌, List, [], ◌∷◌, ◌++◌, length, Option, Some, None}
 use Rattle.std.proofs.Common.{slice_get, refl, sym, ◌∙◌, ap, subst, arith, length-append}
-use Rattle.base_nibbles.specs.Lock.{HasMfi2}
-use Rattle.base_nibbles.proofs.LockLaws.{slice_get-append_seam, IsFirstStep_only, IsInStep-inside, HasMfi2_only}
+use Rattle.check_nibbles.specs.Lock.{HasMfi2}
+use Rattle.check_nibbles.proofs.LockLaws.{slice_get-append_seam, IsFirstStep_only, IsInStep-inside, HasMfi2_only}
 use Rattle.std.proofs.lemmas.Option.{slice_get_within}
 use Rattle.law_model.specs.members.Number.{LineLock, unlocked, Sight, unknown, locks, at, sight_of}
 use Rattle.law_model.specs.members.Sight.{sight_by, lock_by, sights_on, sights}
 use Rattle.law_line.specs.Sights.{AreAtSights, AreLockingSights, AreUnknownSights}
 use Rattle.law_line.proofs.ListLaws.{slice_get-inside, append_one}
-use Rattle.law_line.proofs.SightLaws.{Stands, IsSight, sight-is, stands-after, stands-fail, stands-none}
+use Rattle.law_line.proofs.SightLaws.{LockStands, IsSight, sight-is, stands-after, stands-fail, stands-none}
 use Rattle.law_line.proofs.CountLaws.{IsSight-append, out-here}
 
 -- ---- one cell more
-sign-is : (lock : LineLock) (signs : List (Option ℕ)) (sign : Option ℕ) → Stands lock signs →
+sign-is : (lock : LineLock) (signs : List (Option ℕ)) (sign : Option ℕ) → LockStands lock signs →
     IsSight (signs ++ sign ∷ []) (length signs) (sight_by lock sign)
 sign-is lock signs None stands = out-here (signs ++ None ∷ []) (length signs) (slice_get-append_seam signs None [])
 sign-is lock signs (Some h4) stands = sight-is lock signs h4 stands
 
-pub stands-next : (lock : LineLock) (signs : List (Option ℕ)) (sign : Option ℕ) → Stands lock signs →
-    Stands (lock_by lock sign) (signs ++ sign ∷ [])
+pub stands-next : (lock : LineLock) (signs : List (Option ℕ)) (sign : Option ℕ) → LockStands lock signs →
+    LockStands (lock_by lock sign) (signs ++ sign ∷ [])
 stands-next lock signs None stands = stands-fail signs
 stands-next lock signs (Some h4) stands = stands-after (sight_of lock h4) signs h4 (sight-is lock signs h4 stands)
 
@@ -30,7 +30,7 @@ length-sights_on (sign ∷ signs) lock = ap suc (length-sights_on signs (lock_by
 
 -- what is computed of a cell is worded of it
 pub sights-each : (rest : List (Option ℕ)) (lock : LineLock) (before : List (Option ℕ)) (k : ℕ) (sight : Sight) →
-    Stands lock before →
+    LockStands lock before →
     slice_get (sights_on lock rest) k ≡ Some sight → IsSight (before ++ rest) (length before + k) sight
 unfolding sights_on
 sights-each [] lock before k sight stands e = absurd cc

@@ -5,11 +5,11 @@ use Rattle.law_line.proofs.ListLaws.{take-part}
 use Rattle.std.proofs.lemmas.Bool.{cases_Bool, ltb-true}
 use Rattle.std.proofs.lemmas.List.{append-nil, take_all}
 use Rattle.std.proofs.lemmas.Option.{slice_get_within}
-use Rattle.base_cells.specs.declared.Container.{Container}
-use Rattle.base_cells.specs.declared.Cell.{Cell}
-use Rattle.base_cells.specs.declared.Cell.TheVariants.{Good, Fail, End}
-use Rattle.base_nibbles.proofs.LockLaws.{slice_get-append}
-use Rattle.law_model.specs.declared.window.Carried.{Carried}
+use Rattle.member_cells.specs.declared.containers_and_cells.Container.{Container}
+use Rattle.member_cells.specs.declared.containers_and_cells.Cell.{Cell}
+use Rattle.member_cells.specs.declared.containers_and_cells.Cell.TheVariants.{Good, Fail, End}
+use Rattle.check_nibbles.proofs.LockLaws.{slice_get-append}
+use Rattle.law_model.specs.declared.window_types.Carried.{Carried}
 use Rattle.law_model.specs.members.Path.{path, end_of, cells}
 use Rattle.law_model.specs.members.Number.{LineLock, unlocked, begun, locked, over, sight_of, verdicts_by, Reading, read_at}
 use Rattle.law_model.specs.members.Number.{read_on, reading_of, verdict_over, verdict_or, verdict_in, verdict}

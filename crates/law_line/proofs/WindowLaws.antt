@@ -2,9 +2,9 @@
 use Rattle.std.proofs.Common.{◌≡◌, ℕ, zero, suc, ◌+◌, ◌-◌, ◌<◌, ◌≤◌, nat_le, nat_lt, Bool, true, false, ◌⊎◌}
 use Rattle.std.proofs.Common.{if◌then◌else◌, inl, inr, List, [], ◌∷◌, refl, sym, ◌∙◌, subst, arith}
 use Rattle.std.proofs.lemmas.Bool.{cases_lt, cases_Bool}
-use Rattle.law_model.specs.declared.window.Window.{Window}
-use Rattle.law_model.specs.declared.window.Carried.{Carried}
-use Rattle.law_model.specs.declared.window.Carried.TheVariants.{Whole, Fails, Vanishes}
+use Rattle.law_model.specs.declared.window_types.Window.{Window}
+use Rattle.law_model.specs.declared.window_types.Carried.{Carried}
+use Rattle.law_model.specs.declared.window_types.Carried.TheVariants.{Whole, Fails, Vanishes}
 use Rattle.law_model.specs.members.Damage.{carried_in, carried, is_whole, AreWindows, slip_after, slip_of}
 use Rattle.law_model.proofs.PathLaws.{carried-in, carried-before, carried-after}
 use Rattle.law_line.proofs.GoodLaws.{steady, lost, vanished}

@@ -1,7 +1,7 @@
 -- The worked lines.
 use Rattle.std.proofs.Common.{◌≡◌, ℕ, zero, suc, ◌+◌, ◌%◌, inl, inr, slice_get, Some, refl, ◌∙◌, ap, arith}
 use Rattle.std.proofs.lemmas.Bool.{cases_eq, eq-eqb, ne_eqb}
-use Rattle.base_cells.specs.declared.Container.{Container}
+use Rattle.member_cells.specs.declared.containers_and_cells.Container.{Container}
 use Rattle.law_model.specs.members.Damage.{carried, slip_after, AreWindows}
 use Rattle.law_model.specs.members.Path.{path}
 use Rattle.law_model.specs.members.Number.{read_on}

@@ -1,7 +1,7 @@
 -- Lines for which the law holds, and lines just outside it.
 use Rattle.std.specs.Prelude.{◌≡◌, ℕ, zero, suc, ◌+◌, ◌*◌, ◌/◌, ◌%◌, ◌==◌, List, [], ◌∷◌, Some, if◌then◌else◌}
-use Rattle.base_cells.specs.declared.Container.{Container}
-use Rattle.law_model.specs.declared.window.Window.{Window}
+use Rattle.member_cells.specs.declared.containers_and_cells.Container.{Container}
+use Rattle.law_model.specs.declared.window_types.Window.{Window}
 use Rattle.law_model.specs.members.Damage.{carried, slip_of}
 use Rattle.law_model.specs.members.Path.{path}
 use Rattle.law_model.specs.members.Number.{begun, locked, reading_of, verdict}

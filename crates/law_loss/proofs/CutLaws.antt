@@ -32,7 +32,7 @@ InOrder-push low (segment ∷ segments) last next after order =
     (order.0, InOrder-push (segment.base + length segment.octets) segments last next after order.1)
 
 -- what is known when so many octets have gone by
-pub record Stands (sent : List ℕ) (come : Segments) (gone : ℕ) : Type 0 where
+pub record SegmentsStand (sent : List ℕ) (come : Segments) (gone : ℕ) : Type 0 where
   pub each : All (IsPart sent) come.ended
   pub last : IsPart sent come.last
   pub ends : come.last.base + length come.last.octets ≡ gone
@@ -40,7 +40,7 @@ pub record Stands (sent : List ℕ) (come : Segments) (gone : ℕ) : Type 0 wher
 
 Stands-longer : (sent : List ℕ) (come : Segments) (gone : ℕ) (octets : List ℕ) →
     octets ≡ take (length octets) (drop gone sent) → gone + length octets ≤ length sent →
-    Stands sent come gone → Stands sent (longer come octets) (gone + length octets)
+    SegmentsStand sent come gone → SegmentsStand sent (longer come octets) (gone + length octets)
 Stands-longer sent come gone octets next fits stands =
     let last : Segment = come.last in
     let size : length (last.octets ++ octets) ≡ length last.octets + length octets = length-append last.octets octets in
@@ -60,7 +60,7 @@ Stands-longer sent come gone octets next fits stands =
     }
 
 Stands-broken : (sent : List ℕ) (come : Segments) (gone : ℕ) (octets : List ℕ) → gone + length octets ≤ length sent →
-    Stands sent come gone → Stands sent (broken come octets) (gone + length octets)
+    SegmentsStand sent come gone → SegmentsStand sent (broken come octets) (gone + length octets)
 Stands-broken sent come gone octets fits stands =
     let last : Segment = come.last in
     record {
@@ -73,12 +73,12 @@ Stands-broken sent come gone octets fits stands =
 
 Stands-row : (whole : Bool) (sent : List ℕ) (come : Segments) (gone : ℕ) (octets : List ℕ) →
     octets ≡ take (length octets) (drop gone sent) → gone + length octets ≤ length sent →
-    Stands sent come gone → Stands sent (row_by whole come octets) (gone + length octets)
+    SegmentsStand sent come gone → SegmentsStand sent (row_by whole come octets) (gone + length octets)
 Stands-row true sent come gone octets next fits stands = Stands-longer sent come gone octets next fits stands
 Stands-row false sent come gone octets next fits stands = Stands-broken sent come gone octets fits stands
 
 pub Stands-rows : (sent : List ℕ) (come : Segments) (gone : ℕ) (rows : List StreamRow) → gone ≤ length sent →
-    drop gone sent ≡ octets_of_rows rows → Stands sent come gone → Stands sent (segments_on come rows) (length sent)
+    drop gone sent ≡ octets_of_rows rows → SegmentsStand sent come gone → SegmentsStand sent (segments_on come rows) (length sent)
 unfolding segments_on
 Stands-rows sent come gone [] within rest stands =
     let all : gone ≡ length sent = omega (arith, within, ap length rest, length-drop gone sent) in
@@ -95,7 +95,7 @@ Stands-rows sent come gone (row ∷ rows) within rest stands =
     (Stands-row row.whole sent come gone octets next fits stands)
 
 pub Stands-all : (rows : List StreamRow) →
-    Stands (octets_of_rows rows) (segments_of rows) (length (octets_of_rows rows))
+    SegmentsStand (octets_of_rows rows) (segments_of rows) (length (octets_of_rows rows))
 Stands-all rows =
     Stands-rows (octets_of_rows rows) _ 0 rows (omega arith) refl
     (record {

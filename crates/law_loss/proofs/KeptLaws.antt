@@ -10,9 +10,9 @@ use Rattle.std.proofs.lemmas.Bool.{cases_Bool, leb-true, le-leb, le-ltb}
 use Rattle.std.proofs.lemmas.List.{map-append, take-append-le, drop-append-le}
 use Rattle.std.proofs.lemmas.List.Concat.{flat_map-append}
 use Rattle.std.proofs.lemmas.List.Elements.{All-nil, All-cons, All-head, All-tail, All-append, All-weaker}
-use Rattle.base_remainder.specs.Bits.{bits, number_behind}
-use Rattle.base_remainder.specs.Remainder.{add_front, divide}
-use Rattle.base_hec16.specs.Hec.{hec_of}
+use Rattle.check_remainder.specs.Bits.{bits, number_behind}
+use Rattle.check_remainder.specs.Remainder.{add_front, divide}
+use Rattle.check_hec16.specs.Hec.{hec_of}
 use Rattle.law_model.specs.frames.TypeHeader.{type_header, type_fault}
 use Rattle.law_model.specs.frames.Piece.{Piece, idle, client, area_of, size_of, stream_of, with_header, scrambled_areas}
 use Rattle.law_model.specs.frames.Hunt.{Confirmed, hunt}

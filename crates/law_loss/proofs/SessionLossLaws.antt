@@ -6,8 +6,8 @@ use Rattle.std.proofs.Common.{slice_index_or, refl, sym, ◌∙◌, ap, ap₂, s
 use Rattle.std.specs.List.{list_any, list_all}
 use Rattle.std.proofs.lemmas.Bool.{cases_Bool, or_parts, ltb-false, le-leb}
 use Rattle.std.proofs.lemmas.List.Elements.{All-nil, All-cons, All-head, All-tail, All-append, All-filter}
-use Rattle.law_model.specs.declared.refusal.AcceptFault.TheVariants.{Length}
-use Rattle.law_model.specs.declared.window.Window.{Window}
+use Rattle.law_model.specs.declared.item_refusals.AcceptFault.TheVariants.{Length}
+use Rattle.law_model.specs.declared.window_types.Window.{Window}
 use Rattle.law_model.specs.frames.Piece.{Piece, idle, client, size_of, frames_by}
 use Rattle.law_model.specs.members.Damage.{carried, are_whole, is_good, is_readable}
 use Rattle.law_model.specs.session.Scenario.{DueFrame, Scenario, comes_at, carried_by, is_read, is_heard}

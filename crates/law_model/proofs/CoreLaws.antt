@@ -6,11 +6,11 @@ use Rattle.std.specs.Str.{bytes_eq}
 use Rattle.std.proofs.lemmas.Bool.Decides.{nat_tests}
 use Rattle.std.proofs.lemmas.List.{take_at}
 use Rattle.std.proofs.lemmas.Slice.Eq.{bytes_eq-Decides}
-use Rattle.base_remainder.specs.Bits.{bits, number, octet_bits, octets_of, xors}
-use Rattle.base_remainder.proofs.XorLaws.{length-xors, length_xors, xors-append, xors_twice}
-use Rattle.base_remainder.proofs.BitLaws.{length-bits, bits-add, bits_low, number-bits, number_below}
-use Rattle.base_remainder.proofs.OctetLaws.{length-octets_of, octets_of_below, octet_bits-octets_of, octets_of-append}
-use Rattle.base_hec16.specs.Hec.{hec_bits}
+use Rattle.check_remainder.specs.Bits.{bits, number, octet_bits, octets_of, xors}
+use Rattle.check_remainder.proofs.XorLaws.{length-xors, length_xors, xors-append, xors_twice}
+use Rattle.check_remainder.proofs.BitLaws.{length-bits, bits-add, bits_low, number-bits, number_below}
+use Rattle.check_remainder.proofs.OctetLaws.{length-octets_of, octets_of_below, octet_bits-octets_of, octets_of-append}
+use Rattle.check_hec16.specs.Hec.{hec_bits}
 use Rattle.law_model.specs.frames.Core.{core_header, IsPli, is_pli, pli_of, head}
 
 pub length-core_header : (pli : ℕ) → length (core_header pli) ≡ 4

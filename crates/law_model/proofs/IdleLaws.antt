@@ -3,8 +3,8 @@ use Rattle.std.proofs.Common.{◌≡◌, ℕ, zero, suc, ◌+◌, List, [], ◌�
 use Rattle.std.proofs.Common.{append_assoc}
 use Rattle.std.specs.List.{flat_map}
 use Rattle.std.proofs.lemmas.List.{append-nil}
-use Rattle.base_remainder.specs.Bits.{bits, number_behind, octets_of, xors}
-use Rattle.base_remainder.specs.Remainder.{add_front, divide}
+use Rattle.check_remainder.specs.Bits.{bits, number_behind, octets_of, xors}
+use Rattle.check_remainder.specs.Remainder.{add_front, divide}
 use Rattle.law_model.specs.frames.Core.{core_header}
 use Rattle.law_model.specs.frames.Piece.{with_header}
 

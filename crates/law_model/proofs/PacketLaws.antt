@@ -7,13 +7,13 @@ use Rattle.std.specs.List.{list_all}
 use Rattle.std.proofs.lemmas.Bool.{and_parts, and_from, and_left, and_right, eqb-true, eq-eqb, ne_eqb, ltb-true, lt-ltb}
 use Rattle.std.proofs.lemmas.Bool.{cases_Bool, cases_eq}
 use Rattle.std.proofs.lemmas.List.Elements.{All-nil, All-cons, All-append, All-head, All-tail}
-use Rattle.base_nibbles.specs.Check.{crc8_of}
-use Rattle.base_nibbles.proofs.CheckLaws.{crc8_of_below}
-use Rattle.base_cells.specs.declared.Ctrl.{Ctrl}
-use Rattle.base_cells.specs.Code.{code_of, ctrl_of}
-use Rattle.base_cells.proofs.CodeLaws.{code_of_below, ctrl_of-code_of, ctrl_of-some}
-use Rattle.law_model.specs.declared.packet.Packet.{Packet}
-use Rattle.law_model.specs.declared.packet.PacketFault.TheVariants.{Crc}
+use Rattle.check_nibbles.specs.Check.{crc8_of}
+use Rattle.check_nibbles.proofs.CheckLaws.{crc8_of_below}
+use Rattle.member_cells.specs.declared.control_word.Ctrl.{Ctrl}
+use Rattle.member_cells.specs.Code.{code_of, ctrl_of}
+use Rattle.member_cells.proofs.CodeLaws.{code_of_below, ctrl_of-code_of, ctrl_of-some}
+use Rattle.law_model.specs.declared.control_packet.Packet.{Packet}
+use Rattle.law_model.specs.declared.control_packet.PacketFault.TheVariants.{Crc}
 use Rattle.law_model.specs.packets.Packet.{octet_nibbles, bit_nibble, IsPacket, covered_nibbles, packet_nibbles, octet_at}
 use Rattle.law_model.specs.packets.Packet.{said_check, found_check, said_code, packet_of, cleared_nibbles, are_nibbles}
 use Rattle.law_model.specs.packets.Packet.{read_by, read_of}

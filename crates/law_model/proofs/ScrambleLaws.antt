@@ -3,8 +3,8 @@ use Rattle.std.proofs.Common.{◌≡◌, ℕ, zero, suc, ◌+◌, ◌<◌, ◌�
 use Rattle.std.proofs.Common.{replicate, get_or, refl, sym, ◌∙◌, ap, ap₂, arith, append_assoc, zero-add}
 use Rattle.std.proofs.lemmas.List.{append-nil, length-append, length-replicate, length-drop, take_all, take_at, drop_at}
 use Rattle.std.proofs.lemmas.List.{take-take, take-append-drop, drop-append-le, drop_more, drop-drop}
-use Rattle.base_remainder.specs.Bits.{xor, xors}
-use Rattle.base_remainder.proofs.XorLaws.{length-xors, xors_twice_right, take-xors, drop-xors}
+use Rattle.check_remainder.specs.Bits.{xor, xors}
+use Rattle.check_remainder.proofs.XorLaws.{length-xors, xors_twice_right, take-xors, drop-xors}
 use Rattle.law_model.specs.frames.Scramble.{back, scramble_on, IsScrambled, scrambled, descrambled}
 
 -- ---- exclusive or of lists, one of which is longer

@@ -4,54 +4,24 @@
 //! lemmas of headers, areas, scrambling, streams, packets and paths that the proofs of other crates use.
 #![tactic(auto)]
 
-mod limits;
-mod out;
-mod packet;
-mod refusal;
-mod script;
-mod table;
-mod totals;
-mod walk;
-mod window;
+mod frame_faults;
+mod frame_limits;
+mod frame_out;
+mod control_packet;
+mod item_refusals;
+mod script_types;
+mod lcas_states;
+mod session_totals;
+mod walk_events;
+mod window_types;
 
-pub use limits::LONGEST_FRAME;
-pub use out::FrameOut;
-pub use packet::{Packet, PacketFault};
-pub use refusal::{AcceptFault, CommandFault, Refusal};
-pub use script::{
-    Config, Delays, EventLine, EventList, Item, ItemKind, ItemList, LostList, Octets, Script,
-    WindowList, WindowLists,
-};
-pub use table::{Command, Member, SinkState, SourceState, Standing};
-pub use totals::Totals;
-pub use walk::{Event, StallCause};
-pub use window::{Carried, Window};
-
-/// What is wrong with a type header (G.7041): its check, which says one word and was found to be another; or
-/// the first field that is not that of an Ethernet frame, in the order PTI, PFI, EXI, UPI.
-#[derive(Clone, Copy, Debug, PartialEq, Eq)]
-pub enum TypeFault {
-    /// The check (tHEC) says `said`, and that of the type field is `found`.
-    Check { said: u16, found: u16 },
-    /// The payload type identifier (PTI) is `pti`, and not 0, that of client data.
-    NotClient { pti: u8 },
-    /// The payload FCS indicator (PFI) says that an FCS is behind the frame where none may be, or none where one
-    /// has to be.
-    PayloadFcs,
-    /// The extension header identifier (EXI) is `exi`, and not that of this kind of frame.
-    Extension { exi: u8 },
-    /// The user payload identifier (UPI) is `upi`, and not 1, that of frame-mapped Ethernet.
-    NotEthernet { upi: u8 },
-}
-
-/// Why a client frame that was followed is not delivered: the descrambler was not settled when its area
-/// began; its area is longer than a frame may be, and has `pli` octets; or its type header has a fault.
-#[derive(Clone, Copy, Debug, PartialEq, Eq)]
-pub enum Why {
-    /// The descrambler was not settled when the area began.
-    Unsettled,
-    /// The area has `pli` octets, more than a type header and the longest frame.
-    TooLong { pli: u16 },
-    /// The type header has this fault.
-    Header(TypeFault),
-}
+pub use frame_limits::LONGEST_FRAME;
+pub use frame_out::FrameOut;
+pub use control_packet::{Packet, PacketFault};
+pub use item_refusals::{AcceptFault, CommandFault, Refusal};
+pub use script_types::{Config, Delays, EventLine, EventList, Item, ItemKind, ItemList, LostList, Octets, Script, WindowList, WindowLists};
+pub use lcas_states::{Command, Member, SinkState, SourceState, Standing};
+pub use session_totals::Totals;
+pub use walk_events::{Event, StallCause};
+pub use window_types::{Carried, Window};
+pub use frame_faults::{TypeFault, Why};

@@ -2,16 +2,16 @@
 -- are as they should be.
 use Rattle.std.proofs.Common.{◌≡◌, ℕ, ◌+◌, ◌≤◌, List, [], ◌∷◌, Option, Some, None}
 use Rattle.std.proofs.Common.{refl, sym, ◌∙◌, ap, subst, arith}
-use Rattle.law_model.specs.declared.walk.StallCause.{StallCause}
-use Rattle.law_model.specs.declared.walk.Event.TheVariants as walk
+use Rattle.law_model.specs.declared.walk_events.StallCause.{StallCause}
+use Rattle.law_model.specs.declared.walk_events.Event.TheVariants as walk
 use Rattle.law_model.specs.session.Scenario.{packets_in}
 use Rattle.law_model.specs.session.Counts.{Plan, Counts, Step, run, begin}
 use Rattle.law_progress.specs.Progress.{IsReached}
 use Rattle.law_progress.proofs.ReachLaws.{Leads, Leads-then, run-none}
-use Rattle.law_pair.specs.declared.pair.Way.{Way}
-use Rattle.law_pair.specs.declared.pair.Way.TheVariants.{There, Back}
-use Rattle.law_pair.specs.declared.pair.PairEvent.{PairEvent}
-use Rattle.law_pair.specs.declared.pair.PairEvent.TheVariants.{Item, Tick, Carry, Take}
+use Rattle.law_pair.specs.declared.pair_events.Way.{Way}
+use Rattle.law_pair.specs.declared.pair_events.Way.TheVariants.{There, Back}
+use Rattle.law_pair.specs.declared.pair_events.PairEvent.{PairEvent}
+use Rattle.law_pair.specs.declared.pair_events.PairEvent.TheVariants.{Item, Tick, Carry, Take}
 use Rattle.law_pair.specs.PairCounts.{PairPlan, PairCounts, plan_on, counts_on, with_counts, tick_cause, tick_by}
 use Rattle.law_pair.specs.PairCounts.{ticked}
 use Rattle.law_pair.specs.PairCounts.{pair_step, pair_run, pair_begin}

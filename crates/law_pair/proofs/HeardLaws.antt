@@ -5,10 +5,10 @@ use Rattle.std.proofs.Common.{None, option_map, refl, sym, ◌∙◌, ap, arith}
 use Rattle.std.specs.List.{list_any, range_with_len}
 use Rattle.std.proofs.lemmas.List.{length-map}
 use Rattle.std.proofs.lemmas.List.FromFn.{get_or-map-range_with_len}
-use Rattle.base_remainder.specs.Bits.{bits, number}
-use Rattle.base_remainder.proofs.BitLaws.{bits-number}
-use Rattle.law_model.specs.declared.packet.Packet.{Packet}
-use Rattle.law_model.specs.declared.script.Script.{Script}
+use Rattle.check_remainder.specs.Bits.{bits, number}
+use Rattle.check_remainder.proofs.BitLaws.{bits-number}
+use Rattle.law_model.specs.declared.control_packet.Packet.{Packet}
+use Rattle.law_model.specs.declared.script_types.Script.{Script}
 use Rattle.law_model.proofs.PacketLaws.{bit_nibble-bit}
 use Rattle.law_model.specs.session.Scenario.{Scenario, packets_in, scenario_by, scenario_of, is_read, is_heard}
 use Rattle.law_model.specs.source.Table.{Told}

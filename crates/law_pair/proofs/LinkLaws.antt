@@ -1,7 +1,7 @@
 -- Where the two ways of a pair meet: what the sink of one says and what is read in the packets of the other, by the
 -- cells that were popped.
 use Rattle.std.proofs.Common.{◌≡◌, ℕ, ◌+◌, ◌*◌, ◌<◌, option_map, sym, ◌∙◌, ap, arith}
-use Rattle.law_model.specs.declared.script.Script.{Script}
+use Rattle.law_model.specs.declared.script_types.Script.{Script}
 use Rattle.law_model.specs.session.Leg.{Leg}
 use Rattle.law_model.specs.session.Scenario.{packets_in, scenario_by}
 use Rattle.law_model.specs.packets.Told.{told_by}

@@ -5,8 +5,8 @@ use Rattle.std.proofs.Common.{true, false, inl, inr, List, [], ◌∷◌, slice_
 use Rattle.std.proofs.Common.{arith}
 use Rattle.std.specs.List.Sorted.{IsNonDecreasing}
 use Rattle.std.proofs.lemmas.Bool.{ltb-false, cases_Bool, cases_lt}
-use Rattle.law_model.specs.declared.walk.Event.TheVariants.{Accept, Command, Carry, Back, Take}
-use Rattle.law_model.specs.declared.walk.StallCause.TheVariants.{NotDue, BackEmpty}
+use Rattle.law_model.specs.declared.walk_events.Event.TheVariants.{Accept, Command, Carry, Back, Take}
+use Rattle.law_model.specs.declared.walk_events.StallCause.TheVariants.{NotDue, BackEmpty}
 use Rattle.law_model.specs.session.Scenario.{packets_in}
 use Rattle.law_model.specs.session.Counts.{Due, frame_due, command_due, frame_dues, command_dues, LinePath, LineCounts}
 use Rattle.law_model.specs.session.Counts.{Plan, Counts, Step, in_send, in_receive, in_return, moved, stalled, land_due}

@@ -1,9 +1,9 @@
 -- Rounds of a pair end, within a bound.
 use Rattle.law_pair.proofs.TickLaws.{IsFree, both-free}
-use Rattle.law_pair.specs.declared.pair.PairEvent.TheVariants.{Tick}
+use Rattle.law_pair.specs.declared.pair_events.PairEvent.TheVariants.{Tick}
 use Rattle.law_progress.proofs.MoveLaws.{inbox-fits}
 use Rattle.law_model.specs.session.Scenario.{packets_in}
-use Rattle.law_model.specs.declared.walk.StallCause.{StallCause}
+use Rattle.law_model.specs.declared.walk_events.StallCause.{StallCause}
 use Rattle.std.proofs.Common.{◌-◌, ◌/◌, ◌%◌, ◌==◌, Option, Some, None}
 use Rattle.std.proofs.Common.{◌≡◌, ℕ, zero, suc, ◌+◌, ◌*◌, ◌<◌, ◌≤◌, nat_le, true, false, inl, inr, List, []}
 use Rattle.std.proofs.Common.{◌∷◌, ◌++◌, length, refl, sym, ◌∙◌, ap, subst, arith}
@@ -14,9 +14,9 @@ use Rattle.law_model.specs.session.Counts.{Due, frame_due, command_due, frame_du
 use Rattle.law_model.specs.session.Counts.{Plan, Counts, sum_delays}
 use Rattle.law_progress.specs.Progress.{IsSound, LineFits}
 use Rattle.law_progress.proofs.EachLaws.{each-map, each-with, sum-bounded}
-use Rattle.law_pair.specs.declared.pair.Way.{Way}
-use Rattle.law_pair.specs.declared.pair.Way.TheVariants.{There, Back}
-use Rattle.law_pair.specs.declared.pair.PairEvent.{PairEvent}
+use Rattle.law_pair.specs.declared.pair_events.Way.{Way}
+use Rattle.law_pair.specs.declared.pair_events.Way.TheVariants.{There, Back}
+use Rattle.law_pair.specs.declared.pair_events.PairEvent.{PairEvent}
 use Rattle.law_pair.specs.PairCounts.{tick_cause, tick_by}
 use Rattle.law_pair.specs.PairCounts.{PairPlan, PairCounts, plan_on, counts_on, pair_step, pair_run, pair_begin}
 use Rattle.law_pair.specs.PairCounts.{pair_round, is_over, pair_drain, pair_bound}

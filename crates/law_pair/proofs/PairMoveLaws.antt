@@ -3,9 +3,9 @@ use Rattle.std.proofs.Common.{◌≡◌, ◌⊎◌, ℕ, zero, suc, ◌+◌, ◌
 use Rattle.std.proofs.Common.{sum_by}
 use Rattle.std.proofs.Common.{Option, Some, None, option_map, refl, sym, ◌∙◌, ap, subst, arith}
 use Rattle.std.proofs.lemmas.Bool.{leb-false}
-use Rattle.law_model.specs.declared.walk.Event.{Event}
-use Rattle.law_model.specs.declared.walk.Event.TheVariants as walk
-use Rattle.law_model.specs.declared.walk.StallCause.{StallCause}
+use Rattle.law_model.specs.declared.walk_events.Event.{Event}
+use Rattle.law_model.specs.declared.walk_events.Event.TheVariants as walk
+use Rattle.law_model.specs.declared.walk_events.StallCause.{StallCause}
 use Rattle.law_model.specs.session.Counts.{LinePath, Plan, Counts, LineCounts, carry, tick, step}
 use Rattle.law_progress.specs.Progress.{IsPlan, IsReached, LineFits, Fits, made, HasLine, cells_popped, IsProgress}
 use Rattle.law_progress.proofs.EachLaws.{each-map}
@@ -13,10 +13,10 @@ use Rattle.law_progress.proofs.StepLaws.{carry-kept}
 use Rattle.law_progress.proofs.TakeLaws.{take-kept}
 use Rattle.law_progress.proofs.StallLaws.{is_progress}
 use Rattle.law_progress.proofs.MoveLaws.{rows-ticks, reached-fits, reached-moves}
-use Rattle.law_pair.specs.declared.pair.Way.{Way}
-use Rattle.law_pair.specs.declared.pair.Way.TheVariants.{There, Back}
-use Rattle.law_pair.specs.declared.pair.PairEvent.{PairEvent}
-use Rattle.law_pair.specs.declared.pair.PairEvent.TheVariants.{Item, Tick, Carry, Take}
+use Rattle.law_pair.specs.declared.pair_events.Way.{Way}
+use Rattle.law_pair.specs.declared.pair_events.Way.TheVariants.{There, Back}
+use Rattle.law_pair.specs.declared.pair_events.PairEvent.{PairEvent}
+use Rattle.law_pair.specs.declared.pair_events.PairEvent.TheVariants.{Item, Tick, Carry, Take}
 use Rattle.law_pair.specs.PairCounts.{PairPlan, PairCounts, plan_on, counts_on, with_counts, land_item, take_one}
 use Rattle.law_pair.specs.PairCounts.{tick_cause, tick_by, pair_step, carries_on, pair_round}
 use Rattle.law_pair.specs.PairProgress.{with_lag, IsPairPlan, HasWayLine, IsPairProgress, IsOpen}

@@ -2,10 +2,10 @@
 use Rattle.std.proofs.Common.{◌≡◌, ℕ, zero, suc, ◌+◌, ◌<◌, List, [], ◌∷◌, map, length, slice_get, slice_index_or}
 use Rattle.std.proofs.Common.{Some, refl, sym, ◌∙◌, ap, subst, arith}
 use Rattle.std.specs.List.{range_with_len}
-use Rattle.base_cells.specs.declared.Container.{Container}
-use Rattle.law_model.specs.declared.window.Window.{Window}
-use Rattle.law_model.specs.declared.script.Config.{Config}
-use Rattle.law_model.specs.declared.script.Script.{Script}
+use Rattle.member_cells.specs.declared.containers_and_cells.Container.{Container}
+use Rattle.law_model.specs.declared.window_types.Window.{Window}
+use Rattle.law_model.specs.declared.script_types.Config.{Config}
+use Rattle.law_model.specs.declared.script_types.Script.{Script}
 use Rattle.law_model.specs.session.Leg.{Leg}
 use Rattle.law_model.specs.session.Counts.{Counts}
 use Rattle.law_model.specs.session.Valid.{IsSound}
@@ -17,7 +17,7 @@ use Rattle.law_model.specs.rows.SessionStream.{rows_of}
 use Rattle.law_model.specs.source.Back.{session_cells}
 use Rattle.law_model.specs.Limits.{longest_frame}
 use Rattle.law_progress.specs.Progress.{IsPlan}
-use Rattle.law_progress.specs.Lines.{AreSentBy}
+use Rattle.law_progress.specs.AskedOfLines.{AreSentBy}
 use Rattle.law_progress.proofs.LineLaws.{can_run-plan}
 use Rattle.law_terminal.proofs.SentLaws.{containers-size}
 use Rattle.law_terminal.proofs.CellLaws.{is-line}
@@ -27,7 +27,7 @@ use Rattle.law_walk.specs.Landed.{landed_items}
 use Rattle.law_walk.specs.Report.{report_among, report_of, final_report}
 use Rattle.law_walk.proofs.EndLaws.{ticks-made, items-landed}
 use Rattle.law_walk.proofs.PlanLaws.{has-lines, sound-walks}
-use Rattle.law_pair.specs.declared.pair.Way.TheVariants.{There, Back}
+use Rattle.law_pair.specs.declared.pair_events.Way.TheVariants.{There, Back}
 use Rattle.law_pair.specs.Pair.{IsWay, IsPair, way_config, way_telling, way_tells, way_of}
 use Rattle.law_pair.specs.PairCounts.{PairCounts, pair_bound}
 use Rattle.law_pair.specs.PairProgress.{with_lag, IsPairPlan}

@@ -3,11 +3,11 @@ use Rattle.std.proofs.Common.{◌≡◌, ℕ, ◌+◌, ◌-◌, ◌*◌, ◌/◌
 use Rattle.std.proofs.Common.{true, false, inl, inr, Option, Some, None, refl, ◌∙◌, ap, arith}
 use Rattle.std.proofs.Common.{option_map, if◌then◌else◌}
 use Rattle.std.proofs.lemmas.Bool.{leb-true, cases_Bool, eqb-true, and_parts}
-use Rattle.law_model.specs.declared.walk.StallCause.{StallCause}
-use Rattle.law_model.specs.declared.walk.StallCause.TheVariants.{Done, Held, TxFull, BackMissing}
+use Rattle.law_model.specs.declared.walk_events.StallCause.{StallCause}
+use Rattle.law_model.specs.declared.walk_events.StallCause.TheVariants.{Done, Held, TxFull, BackMissing}
 use Rattle.law_model.specs.session.Counts.{Plan, Counts, moved, stalled, in_inbox, held, full, is_missing, tick_full}
 use Rattle.law_model.specs.session.Counts.{tick_held, tick}
-use Rattle.law_pair.specs.declared.pair.Way.{Way}
+use Rattle.law_pair.specs.declared.pair_events.Way.{Way}
 use Rattle.law_pair.specs.PairCounts.{PairPlan, PairCounts, is_unsaid, done_at, held_at, full_at, missing_at, first_way}
 use Rattle.law_pair.specs.PairCounts.{or_else, tick_cause, ticked}
 use Rattle.law_pair.proofs.OneWayLaws.{HasSaid}

@@ -4,7 +4,7 @@ use Rattle.std.proofs.Common.{List, map, filter, All, refl, sym, ◌∙◌, ap, 
 use Rattle.std.specs.List.{list_any, range_with_len}
 use Rattle.std.proofs.lemmas.Bool.{cases_Bool, cases_lt, le-leb, lt-ltb}
 use Rattle.std.proofs.lemmas.List.Elements.{All-nil, All-cons}
-use Rattle.law_model.specs.declared.script.Script.{Script}
+use Rattle.law_model.specs.declared.script_types.Script.{Script}
 use Rattle.law_model.specs.session.Scenario.{packets_in, scenario_by, is_lost}
 use Rattle.law_model.specs.session.Valid.{AreApart, IsSound}
 use Rattle.law_model.specs.session.Plan.{greatest, greatest_slip}

@@ -3,8 +3,8 @@
 -- session by itself: what it needs of the other way are the windows of that way's lines, and what is said there.
 use Rattle.std.specs.Prelude.{◌≡◌, ℕ, ◌+◌, ◌*◌, ◌≤◌, not, Bool, List, [], ◌++◌, map, filter, replicate}
 use Rattle.std.specs.List.{range_with_len}
-use Rattle.law_model.specs.declared.script.Config.{Config}
-use Rattle.law_model.specs.declared.script.Script.{Script}
+use Rattle.law_model.specs.declared.script_types.Config.{Config}
+use Rattle.law_model.specs.declared.script_types.Script.{Script}
 use Rattle.law_model.specs.session.Leg.{Leg}
 use Rattle.law_model.specs.session.Scenario.{packets_in, is_heard, scenario_by, scenario_of}
 use Rattle.law_model.specs.source.Table.{Told}

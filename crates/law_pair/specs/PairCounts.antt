@@ -3,15 +3,15 @@
 -- packet that carries it.
 use Rattle.std.specs.Prelude.{ℕ, zero, suc, ◌+◌, ◌-◌, ◌*◌, ◌/◌, ◌%◌, ◌&&◌, ◌==◌, nat_le, nat_lt, Bool, List, []}
 use Rattle.std.specs.Prelude.{◌∷◌, ◌++◌, length, replicate, Option, Some, None, option_map, if◌then◌else◌}
-use Rattle.law_model.specs.declared.walk.StallCause.{StallCause}
-use Rattle.law_model.specs.declared.walk.StallCause.TheVariants.{Done, Held, TxFull, BackMissing, Waiting}
+use Rattle.law_model.specs.declared.walk_events.StallCause.{StallCause}
+use Rattle.law_model.specs.declared.walk_events.StallCause.TheVariants.{Done, Held, TxFull, BackMissing, Waiting}
 use Rattle.law_model.specs.session.Scenario.{packets_in}
 use Rattle.law_model.specs.session.Counts.{LinePath, Due, frame_due, command_due, Plan, LineCounts, Counts, Step, moved}
 use Rattle.law_model.specs.session.Counts.{stalled, land_due, held, full, carry, pop_lines, begin, sum_delays}
-use Rattle.law_pair.specs.declared.pair.Way.{Way}
-use Rattle.law_pair.specs.declared.pair.Way.TheVariants.{There, Back}
-use Rattle.law_pair.specs.declared.pair.PairEvent.{PairEvent}
-use Rattle.law_pair.specs.declared.pair.PairEvent.TheVariants.{Item, Tick, Carry, Take}
+use Rattle.law_pair.specs.declared.pair_events.Way.{Way}
+use Rattle.law_pair.specs.declared.pair_events.Way.TheVariants.{There, Back}
+use Rattle.law_pair.specs.declared.pair_events.PairEvent.{PairEvent}
+use Rattle.law_pair.specs.declared.pair_events.PairEvent.TheVariants.{Item, Tick, Carry, Take}
 
 -- ---- what a pair is given, and its counts
 -- the lag of its scripts, and the walk of each way

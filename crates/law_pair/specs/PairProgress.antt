@@ -2,9 +2,9 @@
 use Rattle.std.specs.Prelude.{◌≡◌, ◌⊎◌, ℕ, ◌<◌, ◌≤◌, List, length, None}
 use Rattle.law_model.specs.session.Counts.{LineCounts, Plan, Counts}
 use Rattle.law_progress.specs.Progress.{IsPlan, cells_popped}
-use Rattle.law_pair.specs.declared.pair.Way.{Way}
-use Rattle.law_pair.specs.declared.pair.PairEvent.{PairEvent}
-use Rattle.law_pair.specs.declared.pair.PairEvent.TheVariants.{Item, Tick, Carry, Take}
+use Rattle.law_pair.specs.declared.pair_events.Way.{Way}
+use Rattle.law_pair.specs.declared.pair_events.PairEvent.{PairEvent}
+use Rattle.law_pair.specs.declared.pair_events.PairEvent.TheVariants.{Item, Tick, Carry, Take}
 use Rattle.law_pair.specs.PairCounts.{PairPlan, PairCounts, plan_on, counts_on, with_counts, pair_step, pair_run}
 use Rattle.law_pair.specs.PairCounts.{pair_begin}
 

@@ -1,9 +1,9 @@
 -- Worked pairs: which return packets are lost, what the packets tell, and a frame that is delivered.
 use Rattle.std.specs.Prelude.{ℕ, true, false, List, [], ◌∷◌, replicate}
-use Rattle.law_model.specs.declared.window.Window.{Window}
-use Rattle.law_model.specs.declared.script.Script.{Script}
-use Rattle.law_model.specs.declared.script.Item.{Item}
-use Rattle.law_model.specs.declared.script.ItemKind.TheVariants.{Frame, Add}
+use Rattle.law_model.specs.declared.window_types.Window.{Window}
+use Rattle.law_model.specs.declared.script_types.Script.{Script}
+use Rattle.law_model.specs.declared.script_types.Item.{Item}
+use Rattle.law_model.specs.declared.script_types.ItemKind.TheVariants.{Frame, Add}
 use Rattle.law_model.specs.source.Table.{Told}
 use Rattle.law_model.specs.packets.Telling.{untold}
 use Rattle.law_walk.specs.Worked.{item, plain}

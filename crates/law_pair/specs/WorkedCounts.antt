@@ -1,13 +1,13 @@
 -- Worked pairs in numbers: why events stall, and what a drain leads to.
 use Rattle.std.specs.Prelude.{List, [], ◌∷◌, ◌++◌, replicate, Option}
 use Rattle.std.specs.List.{flat_map}
-use Rattle.law_model.specs.declared.walk.StallCause.{StallCause}
+use Rattle.law_model.specs.declared.walk_events.StallCause.{StallCause}
 use Rattle.law_model.specs.session.Counts.{Due}
 use Rattle.law_progress.specs.Worked.{one_line, all_done}
-use Rattle.law_pair.specs.declared.pair.Way.{Way}
-use Rattle.law_pair.specs.declared.pair.Way.TheVariants.{There}
-use Rattle.law_pair.specs.declared.pair.PairEvent.{PairEvent}
-use Rattle.law_pair.specs.declared.pair.PairEvent.TheVariants.{Tick, Carry, Take}
+use Rattle.law_pair.specs.declared.pair_events.Way.{Way}
+use Rattle.law_pair.specs.declared.pair_events.Way.TheVariants.{There}
+use Rattle.law_pair.specs.declared.pair_events.PairEvent.{PairEvent}
+use Rattle.law_pair.specs.declared.pair_events.PairEvent.TheVariants.{Tick, Carry, Take}
 use Rattle.law_pair.specs.PairCounts.{PairPlan, PairCounts, pair_step, pair_run, pair_begin, pair_drain, pair_bound}
 
 -- each way has one line that never fails, without delay, and makes 41 ticks; the lag of its script is one packet

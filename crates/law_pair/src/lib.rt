@@ -6,11 +6,11 @@
 //! in each way as a walk, and `link_law` how the two ways meet.
 #![tactic(auto)]
 
-mod pair;
+mod pair_events;
 
 ghost use Rattle.std.specs.Prelude.{◌≡◌, ℕ, ◌+◌, ◌<◌, ◌≤◌, true, false, List, Option, Some, None, option_map};
 ghost use Rattle.std.specs.Prelude.{[], ◌∷◌, take, ◌-◌, ◌*◌, ◌/◌, ◌%◌};
-ghost use Rattle.law_model.specs.declared.script.Script.{Script};
+ghost use Rattle.law_model.specs.declared.script_types.Script.{Script};
 ghost use Rattle.law_model.specs.session.Scenario.{Scenario, scenario_by, scenario_of, packets_in, is_heard, is_lost};
 ghost use Rattle.law_model.specs.source.Table.{Told};
 ghost use Rattle.law_model.specs.source.Source.{table_of};
@@ -23,12 +23,12 @@ ghost use Rattle.law_model.specs.rows.SessionRows.{packets_of};
 ghost use Rattle.law_model.specs.rows.SessionStream.{rows_of};
 ghost use Rattle.law_model.specs.session.Valid.{IsSound};
 ghost use Rattle.law_progress.specs.Progress.{IsReached};
-ghost use Rattle.law_pair.specs.declared.pair.Way.{Way};
-ghost use Rattle.law_pair.specs.declared.pair.PairEvent.{PairEvent};
-ghost use Rattle.law_pair.specs.declared.pair.PairEvent.TheVariants.{Item, Tick};
-ghost use Rattle.law_pair.specs.declared.pair.Way.TheVariants.{There, Back};
-ghost use Rattle.law_model.specs.declared.walk.StallCause.{StallCause};
-ghost use Rattle.law_model.specs.declared.walk.StallCause.TheVariants.{NotDue, Held, BackMissing};
+ghost use Rattle.law_pair.specs.declared.pair_events.Way.{Way};
+ghost use Rattle.law_pair.specs.declared.pair_events.PairEvent.{PairEvent};
+ghost use Rattle.law_pair.specs.declared.pair_events.PairEvent.TheVariants.{Item, Tick};
+ghost use Rattle.law_pair.specs.declared.pair_events.Way.TheVariants.{There, Back};
+ghost use Rattle.law_model.specs.declared.walk_events.StallCause.{StallCause};
+ghost use Rattle.law_model.specs.declared.walk_events.StallCause.TheVariants.{NotDue, Held, BackMissing};
 ghost use Rattle.law_progress.specs.Worked.{two_items};
 ghost use Rattle.law_pair.specs.WorkedCounts.{two_ways, pair_cause, all_ticked, there_taken, drained_from, both_done};
 ghost use Rattle.law_pair.specs.PairCounts.{PairPlan, PairCounts, plan_on, counts_on, pair_step, pair_drain};
@@ -45,7 +45,7 @@ ghost use Rattle.law_pair.specs.Worked.{worked_there, worked_back, failing_back,
 ghost use Rattle.law_pair.specs.Pair.{IsWay, IsPair, is_unheard, way_config, way_telling, way_tells, way_of};
 ghost use Rattle.law_pair.specs.Telling.{telling_of};
 
-pub use pair::{PairEvent, Way};
+pub use pair_events::{PairEvent, Way};
 
 /// A session doesn't depend on what its packets tell: its return cells, its tables, the octets of the
 /// stream that its frames and its containers carry, and which rows are whole are the same.

@@ -6,14 +6,14 @@ use Rattle.std.proofs.lemmas.Bool.{cases_lt, le-ltb, lt-ltb}
 use Rattle.std.proofs.lemmas.List.{append-nil, take-append-le, take_all, take-take}
 use Rattle.std.proofs.Math.Seq.{take-length}
 use Rattle.std.proofs.lemmas.Option.{slice_get_within}
-use Rattle.base_cells.specs.declared.Container.{Container}
-use Rattle.base_cells.specs.declared.Cell.{Cell}
-use Rattle.base_cells.specs.declared.Cell.TheVariants.{End}
-use Rattle.law_model.specs.declared.window.Window.{Window}
-use Rattle.law_model.specs.declared.window.Carried.{Carried}
-use Rattle.law_model.specs.declared.window.Carried.TheVariants.{Whole, Fails, Vanishes}
-use Rattle.law_model.specs.declared.script.Config.{Config}
-use Rattle.law_model.specs.declared.script.Item.{Item}
+use Rattle.member_cells.specs.declared.containers_and_cells.Container.{Container}
+use Rattle.member_cells.specs.declared.containers_and_cells.Cell.{Cell}
+use Rattle.member_cells.specs.declared.containers_and_cells.Cell.TheVariants.{End}
+use Rattle.law_model.specs.declared.window_types.Window.{Window}
+use Rattle.law_model.specs.declared.window_types.Carried.{Carried}
+use Rattle.law_model.specs.declared.window_types.Carried.TheVariants.{Whole, Fails, Vanishes}
+use Rattle.law_model.specs.declared.script_types.Config.{Config}
+use Rattle.law_model.specs.declared.script_types.Item.{Item}
 use Rattle.law_model.specs.members.Damage.{carried, slip_of}
 use Rattle.law_model.specs.members.Path.{cells_of, path, cells}
 use Rattle.law_model.specs.members.Number.{LineLock, unlocked, begun, locked, over, Reading, reading_of, verdict_or}
@@ -31,7 +31,7 @@ use Rattle.law_line.proofs.EndLaws.{end-reading}
 use Rattle.law_line.proofs.StableLaws.{verdict-stays, cells-part}
 use Rattle.law_model.proofs.PathLaws.{path-append}
 use Rattle.law_progress.specs.Progress.{IsPath, IsSound, IsPlan, AllPaths}
-use Rattle.law_progress.specs.Lines.{IsDecided, AreSentBy, CanRun}
+use Rattle.law_progress.specs.AskedOfLines.{IsDecided, AreSentBy, CanRun}
 
 -- ---- a cell each, at most
 fate-few : (fate : Carried) (container : Container) → length (cells_of fate container) ≤ 1

@@ -4,8 +4,8 @@ use Rattle.std.proofs.Common.{◌++◌, length, replicate, slice_get, Some, None
 use Rattle.std.proofs.lemmas.Bool.{leb-true, leb-false, cases_Bool, cases_lt}
 use Rattle.std.specs.List.Sorted.{IsNonDecreasing}
 use Rattle.std.proofs.lemmas.Option.{slice_get_within, same_Some}
-use Rattle.law_model.specs.declared.walk.Event.{Event}
-use Rattle.law_model.specs.declared.walk.Event.TheVariants.{Accept, Command, Tick, Carry, Back, Take}
+use Rattle.law_model.specs.declared.walk_events.Event.{Event}
+use Rattle.law_model.specs.declared.walk_events.Event.TheVariants.{Accept, Command, Tick, Carry, Back, Take}
 use Rattle.law_model.specs.session.Scenario.{packets_in}
 use Rattle.law_model.specs.session.Counts.{Due, frame_due, command_due, frame_dues, command_dues, bound, LinePath}
 use Rattle.law_model.specs.session.Counts.{LineCounts, Plan, Counts, in_send, in_inbox, held, full, step, run, begin}

@@ -3,10 +3,10 @@ use Rattle.std.proofs.Common.{◌≡◌, ℕ, zero, suc, ◌<◌, nat_le, inl, i
 use Rattle.std.proofs.Common.{ap}
 use Rattle.std.specs.List.{flat_map}
 use Rattle.std.proofs.lemmas.Bool.{cases_Bool}
-use Rattle.law_model.specs.declared.script.EventLine.{EventLine}
-use Rattle.law_model.specs.declared.script.EventLine.TheVariants as script_line
-use Rattle.law_model.specs.declared.walk.Event.{Event}
-use Rattle.law_model.specs.declared.walk.Event.TheVariants.{Accept, Command, Tick, Carry, Back, Take}
+use Rattle.law_model.specs.declared.script_types.EventLine.{EventLine}
+use Rattle.law_model.specs.declared.script_types.EventLine.TheVariants as script_line
+use Rattle.law_model.specs.declared.walk_events.Event.{Event}
+use Rattle.law_model.specs.declared.walk_events.Event.TheVariants.{Accept, Command, Tick, Carry, Back, Take}
 use Rattle.law_model.specs.session.Counts.{Plan, Counts, step, run, begin, round, drain, bound, run_line, run_lines, walked}
 use Rattle.law_progress.specs.Progress.{IsPlan, LineFits, IsReached, SomeProgress}
 use Rattle.law_progress.proofs.EachLaws.{each-map}

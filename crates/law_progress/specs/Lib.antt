@@ -1,3 +1,3 @@
 pub mod Progress
 pub mod Worked
-pub mod Lines
+pub mod AskedOfLines

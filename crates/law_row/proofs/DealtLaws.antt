@@ -6,7 +6,7 @@ use Rattle.std.specs.List.{range_with_len}
 use Rattle.std.proofs.lemmas.Bool.{cases_Bool, ltb-false}
 use Rattle.std.proofs.lemmas.List.{length-map, nil_from_length}
 use Rattle.std.proofs.lemmas.List.FromFn.{fill_by_all}
-use Rattle.base_cells.specs.declared.Container.{Container}
+use Rattle.member_cells.specs.declared.containers_and_cells.Container.{Container}
 use Rattle.law_model.specs.rows.Interleave.{octets_at, octets_from}
 use Rattle.law_model.specs.rows.Rows.{carried_row}
 use Rattle.law_model.specs.session.Scenario.{Scenario}

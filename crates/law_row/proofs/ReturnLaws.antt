@@ -7,17 +7,17 @@ use Rattle.std.proofs.lemmas.Bool.{cases_lt}
 use Rattle.std.proofs.lemmas.List.{length-map}
 use Rattle.std.proofs.lemmas.List.Sums.{fold_push}
 use Rattle.std.proofs.lemmas.List.FromFn.{take-map-range_with_len, get_or-map-range_with_len, map-range_with_len_more}
-use Rattle.base_remainder.specs.Bits.{bits, number}
-use Rattle.base_remainder.proofs.BitLaws.{bits-number, number_below}
-use Rattle.base_cells.specs.declared.Cell.{Cell}
-use Rattle.base_cells.specs.declared.BackCell.TheVariants.{Packet as Nibbles}
-use Rattle.law_model.specs.declared.packet.Packet.{Packet}
+use Rattle.check_remainder.specs.Bits.{bits, number}
+use Rattle.check_remainder.proofs.BitLaws.{bits-number, number_below}
+use Rattle.member_cells.specs.declared.containers_and_cells.Cell.{Cell}
+use Rattle.member_cells.specs.declared.containers_and_cells.BackCell.TheVariants.{Packet as Nibbles}
+use Rattle.law_model.specs.declared.control_packet.Packet.{Packet}
 use Rattle.law_model.specs.packets.Packet.{bit_nibble, IsPacket, packet_nibbles}
 use Rattle.law_model.proofs.PacketLaws.{read_of-packet_nibbles, bit_nibble-bit}
 use Rattle.law_model.specs.session.Scenario.{Scenario, is_read, is_heard}
-use Rattle.law_model.specs.declared.table.Standing.{Standing}
-use Rattle.law_model.specs.declared.table.Standing.TheVariants.{Add as adding, Norm as normal, Dnu as unused}
-use Rattle.law_model.specs.declared.table.Member.{Member}
+use Rattle.law_model.specs.declared.lcas_states.Standing.{Standing}
+use Rattle.law_model.specs.declared.lcas_states.Standing.TheVariants.{Add as adding, Norm as normal, Dnu as unused}
+use Rattle.law_model.specs.declared.lcas_states.Member.{Member}
 use Rattle.law_model.specs.source.Table.{Told, is_normal}
 use Rattle.law_model.specs.source.Source.{table_of}
 use Rattle.law_model.specs.packets.Forward.{ctrl_by}

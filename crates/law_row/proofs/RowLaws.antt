@@ -4,12 +4,12 @@ use Rattle.std.proofs.Common.{◌≡◌, ℕ, zero, suc, ◌+◌, ◌%◌, ◌<�
 use Rattle.std.proofs.Common.{inr, List, [], ◌∷◌, ◌++◌, map, filter, length, Option, Some, refl, sym, ◌∙◌, ap, arith}
 use Rattle.std.specs.List.{list_any, list_all, range_with_len}
 use Rattle.std.proofs.lemmas.Bool.{cases_lt, eq-eqb, eqb-true, eqb-false, ne_eqb, and_parts}
-use Rattle.base_cells.specs.declared.Ctrl.{Ctrl}
-use Rattle.base_cells.specs.declared.Ctrl.TheVariants.{Idle}
-use Rattle.law_model.specs.declared.packet.Packet.{Packet}
-use Rattle.law_model.specs.declared.table.Standing.{Standing}
-use Rattle.law_model.specs.declared.table.Standing.TheVariants.{Add as adding, Norm as normal, Dnu as unused}
-use Rattle.law_model.specs.declared.table.Member.{Member}
+use Rattle.member_cells.specs.declared.control_word.Ctrl.{Ctrl}
+use Rattle.member_cells.specs.declared.control_word.Ctrl.TheVariants.{Idle}
+use Rattle.law_model.specs.declared.control_packet.Packet.{Packet}
+use Rattle.law_model.specs.declared.lcas_states.Standing.{Standing}
+use Rattle.law_model.specs.declared.lcas_states.Standing.TheVariants.{Add as adding, Norm as normal, Dnu as unused}
+use Rattle.law_model.specs.declared.lcas_states.Member.{Member}
 use Rattle.law_model.specs.source.Table.{Told, is_norm, is_normal}
 use Rattle.law_model.specs.session.Scenario.{Scenario}
 use Rattle.law_model.specs.source.Source.{planned_of, after, table_of}

@@ -4,13 +4,13 @@ use Rattle.std.proofs.Common.{if◌then◌else◌, inl, inr, List, [], ◌∷◌
 use Rattle.std.proofs.Common.{option_map, slice_get, slice_index_or, refl, ◌∙◌, ap, ap₂, arith}
 use Rattle.std.specs.List.{list_any, list_all, range_with_len}
 use Rattle.std.proofs.lemmas.Bool.{cases_Bool, ltb-false}
-use Rattle.base_cells.specs.declared.Container.{Container}
-use Rattle.base_cells.specs.declared.Cell.{Cell}
-use Rattle.law_model.specs.declared.window.Window.{Window}
-use Rattle.law_model.specs.declared.packet.Packet.{Packet}
+use Rattle.member_cells.specs.declared.containers_and_cells.Container.{Container}
+use Rattle.member_cells.specs.declared.containers_and_cells.Cell.{Cell}
+use Rattle.law_model.specs.declared.window_types.Window.{Window}
+use Rattle.law_model.specs.declared.control_packet.Packet.{Packet}
 use Rattle.law_model.specs.members.Damage.{is_good, is_readable, carried}
 use Rattle.law_model.specs.session.Scenario.{Scenario, carried_by, is_read, is_heard}
-use Rattle.law_model.specs.declared.table.Member.{Member}
+use Rattle.law_model.specs.declared.lcas_states.Member.{Member}
 use Rattle.law_model.specs.source.Table.{Told, is_norm, is_normal, active}
 use Rattle.law_model.specs.source.Source.{table_of}
 use Rattle.law_model.specs.packets.Telling.{telling_at, sent_packet}

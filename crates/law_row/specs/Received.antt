@@ -1,8 +1,8 @@
 -- What a sink has got of the lines of a session, and what it makes of it.
 use Rattle.std.specs.Prelude.{◌≡◌, ℕ, ◌+◌, ◌-◌, ◌*◌, ◌/◌, ◌<◌, ◌≤◌, nat_lt, if◌then◌else◌, List, [], map, length}
 use Rattle.std.specs.Prelude.{slice_get, slice_index, Option, Some, None}
-use Rattle.base_cells.specs.declared.Container.{Container}
-use Rattle.base_cells.specs.declared.Cell.{Cell}
+use Rattle.member_cells.specs.declared.containers_and_cells.Container.{Container}
+use Rattle.member_cells.specs.declared.containers_and_cells.Cell.{Cell}
 use Rattle.law_model.specs.members.Damage.{is_good}
 use Rattle.law_model.specs.session.Scenario.{Scenario, carried_by}
 use Rattle.law_model.specs.source.Table.{Told, active}

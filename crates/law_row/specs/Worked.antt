@@ -1,8 +1,8 @@
 -- Worked rows, computed: five lines, of which lines 3, 0, 2 and 1 have SQ 0 to 3 in NORM, DNU, NORM and ADD, and line 4
 -- is IDLE.
 use Rattle.std.specs.Prelude.{ℕ, ◌==◌, not, Bool, true, List, [], ◌∷◌, map, None}
-use Rattle.base_cells.specs.declared.Ctrl.{Ctrl}
-use Rattle.law_model.specs.declared.table.Standing.TheVariants.{Add as adding, Norm as normal, Dnu as unused}
+use Rattle.member_cells.specs.declared.control_word.Ctrl.{Ctrl}
+use Rattle.law_model.specs.declared.lcas_states.Standing.TheVariants.{Add as adding, Norm as normal, Dnu as unused}
 use Rattle.law_model.specs.source.Table.{member_of, Table, none_kept}
 use Rattle.law_model.specs.packets.Forward.{forward_packet}
 use Rattle.law_model.specs.packets.Telling.{untold}

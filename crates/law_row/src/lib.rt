@@ -6,11 +6,11 @@
 ghost use Rattle.std.specs.Prelude.{◌≡◌, ℕ, ◌*◌, ◌≤◌, Bool, true, List, [], ◌∷◌, length, map, if◌then◌else◌, Option};
 ghost use Rattle.std.specs.Prelude.{Some, None};
 ghost use Rattle.std.specs.List.{list_all, range_with_len};
-ghost use Rattle.base_cells.specs.declared.BackCell.TheVariants.{Packet as Nibbles};
-ghost use Rattle.base_cells.specs.declared.Cell.{Cell};
-ghost use Rattle.base_cells.specs.declared.Container.{Container};
-ghost use Rattle.base_cells.specs.declared.Ctrl.TheVariants.{Add, Norm, Eos, Idle, Dnu};
-ghost use Rattle.law_model.specs.declared.packet.Packet.{Packet};
+ghost use Rattle.member_cells.specs.declared.containers_and_cells.BackCell.TheVariants.{Packet as Nibbles};
+ghost use Rattle.member_cells.specs.declared.containers_and_cells.Cell.{Cell};
+ghost use Rattle.member_cells.specs.declared.containers_and_cells.Container.{Container};
+ghost use Rattle.member_cells.specs.declared.control_word.Ctrl.TheVariants.{Add, Norm, Eos, Idle, Dnu};
+ghost use Rattle.law_model.specs.declared.control_packet.Packet.{Packet};
 ghost use Rattle.law_model.specs.packets.Packet.{IsPacket, packet_nibbles};
 ghost use Rattle.law_model.specs.session.Scenario.{Scenario};
 ghost use Rattle.law_model.specs.source.Table.{Told, active};

@@ -9,7 +9,7 @@ use Rattle.std.proofs.lemmas.Option.{none-some, same_Some, slice_get-get_or}
 use Rattle.std.proofs.lemmas.List.{append-nil, map-append}
 use Rattle.std.proofs.lemmas.List.Elements.{All-nil, All-cons, All-append, filter-append, filter_passes}
 use Rattle.std.proofs.lemmas.List.Sums.{sum_by-append, sum_by-cons}
-use Rattle.law_model.specs.declared.refusal.AcceptFault.{AcceptFault}
+use Rattle.law_model.specs.declared.item_refusals.AcceptFault.{AcceptFault}
 use Rattle.law_model.specs.frames.Piece.{Piece, idle, client, size_of}
 use Rattle.law_model.specs.frames.Loss.{Extent}
 use Rattle.law_model.specs.Limits.{shortest_frame, longest_frame, most_waiting}
@@ -25,7 +25,7 @@ use Rattle.law_walk.specs.Landed.{Numbered, IsOfferAt, stream_met, refusal_at}
 use Rattle.law_walk.specs.Walk.{session_of}
 use Rattle.law_walk.proofs.LandLaws.{offer-at}
 use Rattle.law_walk.proofs.SourceLaws.{offer-refusal}
-use Rattle.law_model.specs.declared.refusal.Refusal.TheVariants.{Frame as frame_fault}
+use Rattle.law_model.specs.declared.item_refusals.Refusal.TheVariants.{Frame as frame_fault}
 use Rattle.law_service.specs.Bucket.{arrivals, arrivals_in, stream_at, Bucket, KeepsTo, LiesIn}
 use Rattle.law_service.specs.Place.{filled, Placed, placed_by, placed_offers, placed_before, placed_frames}
 use Rattle.law_service.proofs.PlaceLaws.{kept-all, at-number, place-settled, place-begins, place-waits}

@@ -4,7 +4,7 @@ use Rattle.std.proofs.Common.{◌∷◌, ◌++◌, length, slice_get, slice_set,
 use Rattle.std.proofs.Common.{arith, append_assoc, length-append}
 use Rattle.std.proofs.lemmas.Bool.{cases_Bool, cases_lt, leb-false, lt-leb, lt-ltb, le-ltb}
 use Rattle.std.proofs.lemmas.List.{append-nil}
-use Rattle.law_model.specs.declared.walk.Event.TheVariants.{Carry, Back, Take}
+use Rattle.law_model.specs.declared.walk_events.Event.TheVariants.{Carry, Back, Take}
 use Rattle.law_model.specs.session.Counts.{LinePath, LineCounts, Plan, Counts, in_send, in_receive, full, carry_on, carry_at}
 use Rattle.law_model.specs.session.Counts.{pop, popped_line, pop_lines, step, run, carries_from}
 use Rattle.law_loss.proofs.FilterLaws.{and_false}

@@ -3,8 +3,8 @@ use Rattle.std.proofs.Common.{◌≡◌, ℕ, zero, suc, ◌+◌, ◌-◌, ◌*�
 use Rattle.std.proofs.Common.{inl, inr, List, [], ◌∷◌, ◌++◌, length, replicate, Option, Some, None, refl, sym}
 use Rattle.std.proofs.Common.{◌∙◌, ap, subst, arith}
 use Rattle.std.proofs.lemmas.Bool.{cases_Bool, cases_lt, le-leb, lt-leb, leb-true, eqb-true}
-use Rattle.law_model.specs.declared.walk.Event.{Event}
-use Rattle.law_model.specs.declared.walk.Event.TheVariants.{Accept, Command, Tick, Back, Take}
+use Rattle.law_model.specs.declared.walk_events.Event.{Event}
+use Rattle.law_model.specs.declared.walk_events.Event.TheVariants.{Accept, Command, Tick, Back, Take}
 use Rattle.law_model.specs.session.Counts.{Due, frame_due, command_due, frame_dues, command_dues, LinePath, LineCounts, Plan}
 use Rattle.law_model.specs.session.Counts.{Counts, in_return, in_inbox, is_missing, back, pop_lines, take_popped, is_back_full}
 use Rattle.law_model.specs.session.Counts.{take_row, step, run, begin, carries_from, round, drain, bound}

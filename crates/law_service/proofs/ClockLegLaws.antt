@@ -3,7 +3,7 @@ use Rattle.std.proofs.Common.{◌≡◌, ℕ, zero, suc, ◌+◌, ◌<◌, ◌�
 use Rattle.std.proofs.Common.{Some, inl, inr, refl, sym, ◌∙◌, subst, arith}
 use Rattle.std.proofs.lemmas.Bool.{cases_lt}
 use Rattle.std.proofs.lemmas.Option.{slice_get_within, same_Some}
-use Rattle.law_model.specs.declared.window.Window.{Window}
+use Rattle.law_model.specs.declared.window_types.Window.{Window}
 use Rattle.law_model.specs.members.Damage.{carried, slip_of}
 use Rattle.law_model.specs.session.Counts.{LinePath}
 use Rattle.law_model.specs.session.Leg.{Leg}

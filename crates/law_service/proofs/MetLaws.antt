@@ -6,10 +6,10 @@ use Rattle.std.proofs.lemmas.Bool.{cases_lt}
 use Rattle.std.proofs.lemmas.List.{length-replicate}
 use Rattle.std.proofs.lemmas.List.Elements.{All-nil, All-cons, All-replicate}
 use Rattle.std.proofs.lemmas.List.Sorted.{IsNonDecreasingBy-short, IsNonDecreasingBy-push}
-use Rattle.law_model.specs.declared.script.Item.{Item}
-use Rattle.law_model.specs.declared.script.ItemKind.TheVariants.{Frame, Add}
+use Rattle.law_model.specs.declared.script_types.Item.{Item}
+use Rattle.law_model.specs.declared.script_types.ItemKind.TheVariants.{Frame, Add}
 use Rattle.law_model.specs.frames.Piece.{idle}
-use Rattle.law_model.specs.declared.window.Window.{Window}
+use Rattle.law_model.specs.declared.window_types.Window.{Window}
 use Rattle.law_model.specs.members.Damage.{carried, are_whole, slip_of, slip_after}
 use Rattle.law_model.specs.session.Counts.{frame_dues, command_dues}
 use Rattle.law_model.specs.session.Scenario.{Scenario, scenario_by, frames_at}

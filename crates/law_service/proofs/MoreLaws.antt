@@ -2,7 +2,7 @@
 use Rattle.std.proofs.Common.{◌≡◌, ℕ, zero, suc, ◌+◌, ◌-◌, ◌≤◌, List, [], ◌∷◌, ◌++◌, Option, sym, ◌∙◌, ap, subst, arith}
 use Rattle.std.proofs.Common.{append_assoc}
 use Rattle.std.proofs.lemmas.List.{append-nil}
-use Rattle.law_model.specs.declared.walk.Event.{Event}
+use Rattle.law_model.specs.declared.walk_events.Event.{Event}
 use Rattle.law_model.specs.frames.Segment.{StreamRow}
 use Rattle.law_model.specs.rows.SessionStream.{row_of, rows_of}
 use Rattle.law_model.specs.session.Counts.{Counts, run}

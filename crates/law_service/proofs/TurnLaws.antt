@@ -7,11 +7,11 @@ use Rattle.std.proofs.lemmas.Bool.{cases_Bool, cases_lt}
 use Rattle.std.proofs.lemmas.List.{length-map}
 use Rattle.std.proofs.lemmas.List.Elements.{All-head, All-tail}
 use Rattle.std.proofs.lemmas.List.Sums.{sum_by-cons}
-use Rattle.base_cells.specs.declared.Container.{Container}
-use Rattle.law_model.specs.declared.script.Item.{Item}
-use Rattle.law_model.specs.declared.walk.Event.{Event}
-use Rattle.law_model.specs.declared.walk.Event.TheVariants.{Accept, Command, Tick, Carry, Back, Take}
-use Rattle.law_model.specs.declared.window.Window.{Window}
+use Rattle.member_cells.specs.declared.containers_and_cells.Container.{Container}
+use Rattle.law_model.specs.declared.script_types.Item.{Item}
+use Rattle.law_model.specs.declared.walk_events.Event.{Event}
+use Rattle.law_model.specs.declared.walk_events.Event.TheVariants.{Accept, Command, Tick, Carry, Back, Take}
+use Rattle.law_model.specs.declared.window_types.Window.{Window}
 use Rattle.law_model.specs.session.Counts.{frame_dues, command_dues, LinePath, LineCounts, Plan, Counts, in_send}
 use Rattle.law_model.specs.session.Counts.{in_receive, in_return, land_due, is_missing, tick_full, tick_held, held}
 use Rattle.law_model.specs.session.Counts.{full, carry_at, pop_lines, take_popped, is_back_full, step, run, round}

@@ -1,6 +1,6 @@
 -- A walk by the clock: each round makes one tick and takes one row.
 use Rattle.std.specs.Prelude.{◌≡◌, ℕ, zero, suc, ◌+◌, ◌*◌, ◌≤◌, List, [], ◌∷◌, map, slice_get, All, Some}
-use Rattle.law_model.specs.declared.window.Window.{Window}
+use Rattle.law_model.specs.declared.window_types.Window.{Window}
 use Rattle.law_model.specs.members.Damage.{slip_of}
 use Rattle.law_model.specs.session.Counts.{frame_due, command_due, LinePath, Plan, Counts, run, begin, round}
 use Rattle.law_model.specs.session.Leg.{Leg}

@@ -1,7 +1,7 @@
 -- Worked legs of the service that a client gets.
 use Rattle.std.specs.Prelude.{ℕ, List, [], ◌∷◌, map, replicate}
-use Rattle.law_model.specs.declared.script.Item.{Item}
-use Rattle.law_model.specs.declared.script.ItemKind.TheVariants.{Frame, Add}
+use Rattle.law_model.specs.declared.script_types.Item.{Item}
+use Rattle.law_model.specs.declared.script_types.ItemKind.TheVariants.{Frame, Add}
 use Rattle.law_model.specs.session.Leg.{Leg}
 use Rattle.law_model.specs.session.Scenario.{scenario_by}
 use Rattle.law_walk.specs.Promise.{place_after}

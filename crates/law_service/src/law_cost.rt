@@ -7,7 +7,7 @@ ghost use Rattle.std.specs.Prelude.{◌≡◌, ◌↔◌, ℕ, ◌+◌, ◌-◌,
 ghost use Rattle.std.specs.Prelude.{[], ◌∷◌};
 ghost use Rattle.law_model.specs.session.Leg.{Leg};
 ghost use Rattle.law_model.specs.session.Valid.{IsSound};
-ghost use Rattle.law_model.specs.declared.table.Standing.TheVariants.{Add, Norm};
+ghost use Rattle.law_model.specs.declared.lcas_states.Standing.TheVariants.{Add, Norm};
 ghost use Rattle.law_model.specs.session.Scenario.{scenario_by, is_read};
 ghost use Rattle.law_model.specs.source.Table.{member_of};
 ghost use Rattle.law_model.specs.source.Source.{table_of};
@@ -15,7 +15,7 @@ ghost use Rattle.law_model.specs.rows.SessionRows.{is_whole_row};
 ghost use Rattle.law_session.specs.Feedback.{lines_of};
 ghost use Rattle.law_session.specs.Use.{IsInUse};
 ghost use Rattle.law_walk.specs.Walk.{session_of};
-ghost use Rattle.law_model.specs.declared.window.Window.{Window};
+ghost use Rattle.law_model.specs.declared.window_types.Window.{Window};
 ghost use Rattle.law_service.specs.law_cost.Cost.{windows_of, StaysClear, FailsBy, FailsOnce, IsSpared, IsSparedFor, cost_end};
 ghost use Rattle.law_service.specs.law_cost.Cost.{FailTogether, first_hit, governing_table, table_at, HasSq, Spoils, IsSpoiled};
 ghost use Rattle.law_service.specs.law_cost.Cost.{spoiled_rows};

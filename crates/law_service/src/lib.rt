@@ -10,7 +10,7 @@ pub mod law_cost;
 
 ghost use Rattle.std.specs.Prelude.{◌≡◌, ◌↔◌, ℕ, ◌+◌, ◌-◌, ◌*◌, ◌<◌, ◌≤◌, min, List, [], ◌∷◌, ◌++◌, map, length};
 ghost use Rattle.std.specs.Prelude.{sum, slice_get, All, Some, None};
-ghost use Rattle.law_model.specs.declared.walk.Event.{Event};
+ghost use Rattle.law_model.specs.declared.walk_events.Event.{Event};
 ghost use Rattle.law_model.specs.frames.Loss.{Extent};
 ghost use Rattle.law_model.specs.frames.Piece.{Piece, client, size_of};
 ghost use Rattle.law_model.specs.frames.Segment.{StreamRow};

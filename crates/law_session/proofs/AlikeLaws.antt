@@ -5,7 +5,7 @@ use Rattle.std.proofs.Common.{List, [], ◌∷◌, map, fold, length, take, drop
 use Rattle.std.proofs.Common.{ap, arith}
 use Rattle.std.specs.List.{range_with_len}
 use Rattle.std.proofs.lemmas.Bool.{ltb-false}
-use Rattle.base_cells.specs.declared.Container.{Container}
+use Rattle.member_cells.specs.declared.containers_and_cells.Container.{Container}
 use Rattle.law_model.specs.session.Scenario.{Scenario, orders_at, frames_at, steps_in}
 use Rattle.law_model.specs.packets.Packet.{packet_nibbles}
 use Rattle.law_model.specs.frames.Piece.{stream_of}

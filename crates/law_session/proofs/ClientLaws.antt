@@ -7,7 +7,7 @@ use Rattle.std.proofs.lemmas.Grind.{flat_map-append}
 use Rattle.std.proofs.lemmas.List.{append_assoc, append-nil, map-append, length-drop, length-take-le}
 use Rattle.std.proofs.lemmas.List.Sums.{sum-map}
 use Rattle.std.proofs.lemmas.Bool.{ltb-false}
-use Rattle.law_model.specs.declared.refusal.AcceptFault.{AcceptFault}
+use Rattle.law_model.specs.declared.item_refusals.AcceptFault.{AcceptFault}
 use Rattle.law_model.specs.session.Scenario.{DueFrame, Scenario, comes_at, frames_at}
 use Rattle.law_model.specs.source.Table.{Told, active}
 use Rattle.law_model.specs.source.Source.{after, table_of}

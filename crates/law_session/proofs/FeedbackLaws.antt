@@ -5,9 +5,9 @@ use Rattle.std.proofs.Common.{List, [], ◌∷◌, length, Option, Some, None, s
 use Rattle.std.proofs.Common.{arith}
 use Rattle.std.proofs.lemmas.Option.{none-some}
 use Rattle.std.proofs.lemmas.Bool.{leb-true, eqb-true}
-use Rattle.law_model.specs.declared.table.Command.{Command}
+use Rattle.law_model.specs.declared.lcas_states.Command.{Command}
 use Rattle.law_model.specs.session.Scenario.{Scenario, orders_at, is_heard}
-use Rattle.law_model.specs.declared.refusal.CommandFault.{CommandFault}
+use Rattle.law_model.specs.declared.item_refusals.CommandFault.{CommandFault}
 use Rattle.law_model.specs.source.Table.{Table, Told}
 use Rattle.law_model.specs.source.Source.{Source, asked, asked_by, asked_all, refusal, after, cell_at, table_of}
 use Rattle.law_model.specs.source.Back.{said_before, said, return_packet}

@@ -5,10 +5,10 @@ use Rattle.std.proofs.Common.{List, length, slice_index_or, [], ◌∷◌, Optio
 use Rattle.std.proofs.Common.{subst, arith}
 use Rattle.std.proofs.lemmas.Option.{same_Some}
 use Rattle.std.proofs.lemmas.Bool.{eqb-true}
-use Rattle.law_model.specs.declared.table.Command.{Command}
-use Rattle.law_model.specs.declared.table.Command.TheVariants.{Add as add, Remove as remove}
+use Rattle.law_model.specs.declared.lcas_states.Command.{Command}
+use Rattle.law_model.specs.declared.lcas_states.Command.TheVariants.{Add as add, Remove as remove}
 use Rattle.law_model.specs.session.Scenario.{Scenario, is_lost}
-use Rattle.law_model.specs.declared.table.Member.{Member}
+use Rattle.law_model.specs.declared.lcas_states.Member.{Member}
 use Rattle.law_model.specs.source.Table.{kept_of, keep, Table, Told, acknowledged_by, heard, told_on, exchange, exchanged}
 use Rattle.law_model.specs.source.Source.{Source, change_by, change, after, cell_at, source_at, told_at}
 use Rattle.law_model.specs.source.Back.{said, status, return_packet}

@@ -6,13 +6,13 @@ use Rattle.std.specs.Bool.{⊤}
 use Rattle.std.proofs.lemmas.Bool.{cases_lt, leb-false, eqb-true, eq-eqb, eqb-false}
 use Rattle.std.proofs.lemmas.List.{length-append, length-replicate, map-append, length-map, length-set, get_or-set_same}
 use Rattle.std.proofs.lemmas.List.{get_or-set_other}
-use Rattle.law_model.specs.declared.table.Command.{Command}
-use Rattle.law_model.specs.declared.table.Command.TheVariants.{Add as add, Remove as remove}
+use Rattle.law_model.specs.declared.lcas_states.Command.{Command}
+use Rattle.law_model.specs.declared.lcas_states.Command.TheVariants.{Add as add, Remove as remove}
 use Rattle.law_model.specs.session.Scenario.{Scenario, orders_at}
-use Rattle.law_model.specs.declared.refusal.CommandFault.{CommandFault}
-use Rattle.law_model.specs.declared.refusal.CommandFault.TheVariants.{UnknownLine, AlreadyIn, NotIn, TooManyPending}
-use Rattle.law_model.specs.declared.table.Standing.TheVariants.{Add as adding}
-use Rattle.law_model.specs.declared.table.Member.{Member}
+use Rattle.law_model.specs.declared.item_refusals.CommandFault.{CommandFault}
+use Rattle.law_model.specs.declared.item_refusals.CommandFault.TheVariants.{UnknownLine, AlreadyIn, NotIn, TooManyPending}
+use Rattle.law_model.specs.declared.lcas_states.Standing.TheVariants.{Add as adding}
+use Rattle.law_model.specs.declared.lcas_states.Member.{Member}
 use Rattle.law_model.specs.source.Table.{kept_of, member_of, Table, Told, is_adding, is_ok, is_fail, heard, told_on}
 use Rattle.law_model.specs.source.Table.{changed, carried_out, take_out, exchange, exchanged}
 use Rattle.law_model.specs.source.Source.{Source, planned_of, accepted, opening, line_of, is_add, refusal, asked, asked_by}

@@ -4,10 +4,10 @@ use Rattle.std.proofs.Common.{[], ◌∷◌, length, replicate, Option, Some, No
 use Rattle.std.proofs.Common.{ap, subst, arith}
 use Rattle.std.proofs.lemmas.Option.{none-some}
 use Rattle.std.proofs.lemmas.List.{length-replicate}
-use Rattle.law_model.specs.declared.table.Command.{Command}
-use Rattle.law_model.specs.declared.table.Command.TheVariants.{Add as add, Remove as remove}
+use Rattle.law_model.specs.declared.lcas_states.Command.{Command}
+use Rattle.law_model.specs.declared.lcas_states.Command.TheVariants.{Add as add, Remove as remove}
 use Rattle.law_model.specs.session.Scenario.{Scenario, orders_at}
-use Rattle.law_model.specs.declared.table.Member.{Member}
+use Rattle.law_model.specs.declared.lcas_states.Member.{Member}
 use Rattle.law_model.specs.source.Table.{Table, Told, kept_of, is_for, keep, none_kept, acknowledged_by, heard, told_on}
 use Rattle.law_model.specs.source.Table.{exchange, exchanged}
 use Rattle.law_model.specs.source.Source.{Source, change_by, change, asked_all, cell_at, after}

@@ -4,10 +4,10 @@ use Rattle.std.proofs.Common.{if◌then◌else◌, inl, inr, List, [], ◌∷◌
 use Rattle.std.proofs.Common.{slice_index_or, option_map, refl, sym, ◌∙◌, ap, subst, arith}
 use Rattle.std.proofs.lemmas.Bool.{cases_lt, eqb-true, eq-eqb, eqb-false, le-leb}
 use Rattle.std.proofs.lemmas.Option.{none-some, slice_get-map}
-use Rattle.law_model.specs.declared.table.Command.{Command}
+use Rattle.law_model.specs.declared.lcas_states.Command.{Command}
 use Rattle.law_model.specs.session.Scenario.{Scenario, orders_at, is_read, is_heard}
-use Rattle.law_model.specs.declared.table.Standing.TheVariants.{Add as adding, Norm as normal}
-use Rattle.law_model.specs.declared.table.Member.{Member}
+use Rattle.law_model.specs.declared.lcas_states.Standing.TheVariants.{Add as adding, Norm as normal}
+use Rattle.law_model.specs.declared.lcas_states.Member.{Member}
 use Rattle.law_model.specs.source.Table.{kept_of, member_of, Table, Told, is_ok, is_fail, is_for, acknowledged_by, heard}
 use Rattle.law_model.specs.source.Table.{admit, told_on, changed, exchange, exchanged}
 use Rattle.law_model.specs.source.Source.{Source, change_by, change, after, cell_at, source_at, told_at, first_of, carried}

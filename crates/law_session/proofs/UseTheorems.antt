@@ -4,9 +4,9 @@ use Rattle.std.proofs.Common.{None, slice_get, option_map, ◌∙◌, ap, arith}
 use Rattle.std.proofs.lemmas.Bool.{cases_lt}
 use Rattle.std.proofs.lemmas.Option.{slice_get_within, none-some, slice_get-map}
 use Rattle.std.proofs.lemmas.List.{length-append}
-use Rattle.law_model.specs.declared.table.Command.TheVariants.{Add as add}
+use Rattle.law_model.specs.declared.lcas_states.Command.TheVariants.{Add as add}
 use Rattle.law_model.specs.session.Scenario.{Scenario, packets}
-use Rattle.law_model.specs.declared.table.Standing.TheVariants.{Add as adding}
+use Rattle.law_model.specs.declared.lcas_states.Standing.TheVariants.{Add as adding}
 use Rattle.law_model.specs.source.Table.{member_of, Told, carried_out}
 use Rattle.law_model.specs.source.Source.{after, told_at, carried, table_of}
 use Rattle.law_model.specs.source.Back.{session_cells}

@@ -6,7 +6,7 @@
 
 ghost use Rattle.std.specs.Prelude.{◌≡◌, ◌↔◌, ◌<◌, ◌≤◌, ◌++◌, ◌+◌, ◌-◌, ◌*◌, ◌/◌, ℕ, Bool, true, List, Option, Some};
 ghost use Rattle.std.specs.Prelude.{take, filter, suc, length};
-ghost use Rattle.law_model.specs.declared.window.Carried.{Carried};
+ghost use Rattle.law_model.specs.declared.window_types.Carried.{Carried};
 ghost use Rattle.law_model.specs.members.Damage.{is_good, is_readable};
 ghost use Rattle.law_model.specs.session.Scenario.{Scenario, DueCommand, DueFrame, steps_in, is_read, is_heard, lands_at};
 ghost use Rattle.law_model.specs.session.Scenario.{comes_at};

@@ -9,10 +9,10 @@ use Rattle.std.specs.Result.{result_ok}
 use Rattle.std.proofs.lemmas.Bool.{cases_lt}
 use Rattle.std.proofs.lemmas.List.FromFn.{take-map-range_with_len}
 use Rattle.std.proofs.lemmas.Option.{slice_get_within}
-use Rattle.base_cells.specs.declared.Container.{Container}
-use Rattle.base_cells.specs.declared.Cell.{Cell}
-use Rattle.law_model.specs.declared.window.Window.{Window}
-use Rattle.law_model.specs.declared.packet.Packet.{Packet}
+use Rattle.member_cells.specs.declared.containers_and_cells.Container.{Container}
+use Rattle.member_cells.specs.declared.containers_and_cells.Cell.{Cell}
+use Rattle.law_model.specs.declared.window_types.Window.{Window}
+use Rattle.law_model.specs.declared.control_packet.Packet.{Packet}
 use Rattle.law_model.specs.members.Damage.{is_good}
 use Rattle.law_model.specs.members.Path.{path, end_of, cells}
 use Rattle.law_model.specs.members.Number.{verdict}
@@ -32,7 +32,7 @@ use Rattle.law_line.proofs.RunLaws.{are_numbered}
 use Rattle.law_line.proofs.StableLaws.{verdict-stays}
 use Rattle.law_line.proofs.RowLaws.{earlier, packets_stay, are_read}
 use Rattle.law_row.specs.Received.{HasPackets, TellsRow}
-use Rattle.law_terminal.specs.Lines.{HasLines, given, ComesOfLine, ComeOfLines}
+use Rattle.law_terminal.specs.SessionLines.{HasLines, given, ComesOfLine, ComeOfLines}
 use Rattle.law_terminal.proofs.SentLaws.{sent-packet, container-at, containers-size, are-sent, packet-nibbles}
 
 -- ---- one line

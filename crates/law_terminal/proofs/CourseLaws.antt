@@ -5,7 +5,7 @@ use Rattle.std.specs.List.{range_with_len}
 use Rattle.std.proofs.lemmas.List.FromFn.{length-map-range_with_len}
 use Rattle.std.proofs.lemmas.List.{take_all, take-take}
 use Rattle.std.proofs.lemmas.Option.{slice_get-map}
-use Rattle.base_cells.specs.declared.Cell.{Cell}
+use Rattle.member_cells.specs.declared.containers_and_cells.Cell.{Cell}
 use Rattle.law_model.specs.members.Path.{cells}
 use Rattle.law_model.specs.session.Scenario.{Scenario, carried_by, packets, steps_in}
 use Rattle.law_model.specs.source.Table.{Told}
@@ -15,7 +15,7 @@ use Rattle.law_model.specs.rows.Sent.{container_of}
 use Rattle.law_line.proofs.ListLaws.{take-next}
 use Rattle.law_session.specs.Session.{AgreeBefore}
 use Rattle.law_session.proofs.SessionLaws.{return_cell-agree, Agree-take, cells_before-prefix}
-use Rattle.law_terminal.specs.Lines.{HasLines, ComesOfLine, ComeOfLines}
+use Rattle.law_terminal.specs.SessionLines.{HasLines, ComesOfLine, ComeOfLines}
 use Rattle.law_terminal.specs.Course.{back_of, told_of, IsCourse}
 use Rattle.law_terminal.proofs.ListLaws.{range-at, same-range}
 use Rattle.law_terminal.proofs.DealtLaws.{container-same}

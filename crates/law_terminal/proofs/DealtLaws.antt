@@ -5,9 +5,9 @@ use Rattle.std.proofs.Common.{slice_get, slice_index, Option, Some, None, refl, 
 use Rattle.std.specs.List.{position_from}
 use Rattle.std.proofs.lemmas.Bool.{cases_Bool, ltb-false, eq-eqb, ne_eqb}
 use Rattle.std.proofs.lemmas.List.{length-map, length-replicate, get_or_append_left}
-use Rattle.base_cells.specs.declared.Container.{Container}
+use Rattle.member_cells.specs.declared.containers_and_cells.Container.{Container}
 use Rattle.member_rows.proofs.VcatInterleaveLaws.RowLaws.{length-part_of, get-part_of}
-use Rattle.law_model.specs.declared.table.Member.{Member}
+use Rattle.law_model.specs.declared.lcas_states.Member.{Member}
 use Rattle.law_model.specs.session.Scenario.{Scenario}
 use Rattle.law_model.specs.source.Table.{Told, is_norm, is_normal, active}
 use Rattle.law_model.specs.source.Source.{table_of}

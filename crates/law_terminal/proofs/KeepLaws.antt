@@ -7,9 +7,9 @@ use Rattle.std.proofs.lemmas.Bool.{cases_eq}
 use Rattle.std.proofs.lemmas.List.{length-replicate, take-append-drop}
 use Rattle.std.proofs.lemmas.List.FromFn.{take-map-range_with_len}
 use Rattle.std.proofs.lemmas.Option.{slice_get_within}
-use Rattle.base_cells.specs.declared.Cell.{Cell}
-use Rattle.base_cells.specs.declared.Cell.TheVariants.{End}
-use Rattle.base_cells.specs.declared.BackCell.TheVariants.{Packet as Nibbles, Lost}
+use Rattle.member_cells.specs.declared.containers_and_cells.Cell.{Cell}
+use Rattle.member_cells.specs.declared.containers_and_cells.Cell.TheVariants.{End}
+use Rattle.member_cells.specs.declared.containers_and_cells.BackCell.TheVariants.{Packet as Nibbles, Lost}
 use Rattle.law_model.specs.packets.Packet.{packet_nibbles}
 use Rattle.law_model.specs.members.Path.{path}
 use Rattle.law_model.specs.members.Number.{verdict}
@@ -21,7 +21,7 @@ use Rattle.law_line.proofs.ListLaws.{is-some, slice_get-inside}
 use Rattle.law_line.proofs.StableLaws.{verdict-stays}
 use Rattle.law_line.proofs.RowLaws.{returns_stay}
 use Rattle.law_session.specs.Session.{AgreeBefore}
-use Rattle.law_terminal.specs.Lines.{given, ComesOfLine, ComeOfLines}
+use Rattle.law_terminal.specs.SessionLines.{given, ComesOfLine, ComeOfLines}
 use Rattle.law_terminal.specs.Course.{back_of, told_of, IsCourse}
 use Rattle.law_terminal.proofs.CellLaws.{given-whole}
 use Rattle.law_terminal.proofs.ListLaws.{same-range}

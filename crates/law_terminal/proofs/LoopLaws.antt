@@ -1,7 +1,7 @@
 -- A course by the session's own return cells.
 use Rattle.std.proofs.Common.{◌≡◌, ℕ, suc, ◌+◌, ◌-◌, ◌*◌, ◌/◌, ◌<◌, ◌≤◌, if◌then◌else◌, List, [], ◌∷◌, ◌++◌, take}
 use Rattle.std.proofs.Common.{length, Some, None, sym, ◌∙◌, ap, arith}
-use Rattle.base_cells.specs.declared.Cell.{Cell}
+use Rattle.member_cells.specs.declared.containers_and_cells.Cell.{Cell}
 use Rattle.law_model.specs.session.Scenario.{Scenario, packets, steps_in}
 use Rattle.law_model.specs.packets.Told.{told_in}
 use Rattle.law_model.specs.source.Source.{after}
@@ -15,7 +15,7 @@ use Rattle.law_line.specs.StableRows.{AreDecidedAt}
 use Rattle.law_session.specs.Session.{AgreeBefore}
 use Rattle.law_session.proofs.SessionLaws.{Agree, Agree-first, after-agree, return_cell-agree, Agree-take}
 use Rattle.law_session.proofs.ClientLaws.{stream_before-agree}
-use Rattle.law_terminal.specs.Lines.{HasLines, ComeOfLines}
+use Rattle.law_terminal.specs.SessionLines.{HasLines, ComeOfLines}
 use Rattle.law_terminal.specs.Course.{back_of, packet_by, told_of, IsCourse}
 use Rattle.law_terminal.proofs.RowLaws.{row-told, back-told, packet-told}
 use Rattle.law_terminal.proofs.ListLaws.{same-range}

@@ -1,8 +1,8 @@
 -- The rows and return packets that a sink makes of what has come, by the session.
 use Rattle.std.proofs.Common.{◌≡◌, ℕ, ◌+◌, ◌*◌, ◌<◌, Bool, true, false, if◌then◌else◌, List, Option, Some, None, refl}
 use Rattle.std.proofs.Common.{◌∙◌, ap, arith}
-use Rattle.base_cells.specs.declared.Cell.{Cell}
-use Rattle.base_cells.specs.declared.BackCell.TheVariants.{Packet as Nibbles, Lost}
+use Rattle.member_cells.specs.declared.containers_and_cells.Cell.{Cell}
+use Rattle.member_cells.specs.declared.containers_and_cells.BackCell.TheVariants.{Packet as Nibbles, Lost}
 use Rattle.law_model.specs.packets.Packet.{packet_nibbles}
 use Rattle.law_model.specs.session.Scenario.{Scenario, is_lost}
 use Rattle.law_model.specs.packets.Told.{told_in}
@@ -17,7 +17,7 @@ use Rattle.law_line.specs.StableRows.{AreDecidedAt}
 use Rattle.law_row.proofs.WholeLaws.{row-whole}
 use Rattle.law_row.proofs.DealtLaws.{row-payload}
 use Rattle.law_row.proofs.ReturnLaws.{said-nibbles}
-use Rattle.law_terminal.specs.Lines.{HasLines, ComeOfLines}
+use Rattle.law_terminal.specs.SessionLines.{HasLines, ComeOfLines}
 use Rattle.law_terminal.specs.Course.{back_of, packet_by}
 use Rattle.law_terminal.proofs.ListLaws.{same-range}
 use Rattle.law_terminal.proofs.DealtLaws.{dealt-row}

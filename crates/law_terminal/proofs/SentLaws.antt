@@ -8,9 +8,9 @@ use Rattle.std.proofs.lemmas.Bool.{cases_Bool, ltb-true, ltb-false}
 use Rattle.std.proofs.lemmas.List.{length-map, drop-map}
 use Rattle.std.proofs.lemmas.List.FromFn.{length-range_with_len, take-map-range_with_len, fill_by_all}
 use Rattle.std.proofs.lemmas.Option.{slice_get-map, slice_get_within}
-use Rattle.base_remainder.proofs.BitLaws.{number_below}
-use Rattle.base_cells.specs.declared.Container.{Container}
-use Rattle.law_model.specs.declared.table.Member.{Member}
+use Rattle.check_remainder.proofs.BitLaws.{number_below}
+use Rattle.member_cells.specs.declared.containers_and_cells.Container.{Container}
+use Rattle.law_model.specs.declared.lcas_states.Member.{Member}
 use Rattle.law_model.specs.packets.Packet.{IsPacket, packet_nibbles}
 use Rattle.law_model.proofs.PacketLaws.{length-packet_nibbles, packet_nibbles_below}
 use Rattle.law_model.specs.session.Scenario.{Scenario}

@@ -7,7 +7,7 @@
 
 ghost use Rattle.std.specs.Prelude.{◌≡◌, ℕ, suc, ◌+◌, ◌-◌, ◌*◌, ◌/◌, ◌<◌, ◌≤◌, min, if◌then◌else◌, All, [], ◌∷◌, ◌++◌};
 ghost use Rattle.std.specs.Prelude.{List, length, take, replicate, Option, Some, None};
-ghost use Rattle.base_cells.specs.declared.Cell.{Cell};
+ghost use Rattle.member_cells.specs.declared.containers_and_cells.Cell.{Cell};
 ghost use Rattle.law_model.specs.session.Scenario.{Scenario, packets, steps_in};
 ghost use Rattle.law_model.specs.source.Table.{Told};
 ghost use Rattle.law_model.specs.packets.Told.{told_in};
@@ -24,7 +24,7 @@ ghost use Rattle.law_model.specs.rows.Sent.{container_of, containers_of, frame_o
 ghost use Rattle.law_line.specs.StableRows.{IsLonger, AreDecidedAt};
 ghost use Rattle.law_session.specs.Session.{AgreeBefore};
 ghost use Rattle.law_row.specs.Received.{HasPackets, TellsRow, IsDealtRow};
-ghost use Rattle.law_terminal.specs.Lines.{HasLines, given, ComesOfLine, ComeOfLines};
+ghost use Rattle.law_terminal.specs.SessionLines.{HasLines, given, ComesOfLine, ComeOfLines};
 ghost use Rattle.law_terminal.specs.Course.{back_of, packet_by, told_of, IsCourse};
 ghost use Rattle.law_terminal.specs.Worked.{two_lines, h4_from, no_packet, first_added, first_in_use, second_added};
 ghost use Rattle.law_terminal.specs.Worked.{first_told, first_cells, dealt};

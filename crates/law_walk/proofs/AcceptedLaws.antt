@@ -9,10 +9,10 @@ use Rattle.std.proofs.lemmas.List.{append-nil, map-append, take_at}
 use Rattle.std.proofs.lemmas.List.Concat.{flat_map-append}
 use Rattle.std.proofs.lemmas.List.Elements.{filter-append, filter_passes}
 use Rattle.std.proofs.lemmas.List.Sums.{fold-append}
-use Rattle.law_model.specs.declared.refusal.AcceptFault.{AcceptFault}
-use Rattle.law_model.specs.declared.script.Item.{Item}
-use Rattle.law_model.specs.declared.script.ItemKind.{ItemKind}
-use Rattle.law_model.specs.declared.script.ItemKind.TheVariants.{Frame, Add, Remove}
+use Rattle.law_model.specs.declared.item_refusals.AcceptFault.{AcceptFault}
+use Rattle.law_model.specs.declared.script_types.Item.{Item}
+use Rattle.law_model.specs.declared.script_types.ItemKind.{ItemKind}
+use Rattle.law_model.specs.declared.script_types.ItemKind.TheVariants.{Frame, Add, Remove}
 use Rattle.law_model.specs.session.Leg.{Leg}
 use Rattle.law_model.specs.source.Accepted.{kept_by}
 use Rattle.law_model.specs.session.Scenario.{Scenario, DueFrame, offer_of, offers_of, scenario_by, comes_at}
@@ -23,8 +23,8 @@ use Rattle.law_model.specs.source.Journal.{accepted_offers, offers_before, frame
 use Rattle.law_model.specs.session.Valid.{IsItem, IsSound}
 use Rattle.law_session.specs.Landing.{landed, is_come}
 use Rattle.law_session.proofs.LandingLaws.{comes_apart, offers_land}
-use Rattle.law_model.specs.declared.refusal.Refusal.{Refusal}
-use Rattle.law_model.specs.declared.refusal.Refusal.TheVariants.{Frame as frame_fault}
+use Rattle.law_model.specs.declared.item_refusals.Refusal.{Refusal}
+use Rattle.law_model.specs.declared.item_refusals.Refusal.TheVariants.{Frame as frame_fault}
 use Rattle.law_loss.proofs.FilterLaws.{filter-skip, filter-keep}
 use Rattle.law_walk.specs.Landed.{Numbered, stream_met, kind_refusal, refusal_at}
 use Rattle.law_walk.specs.Promise.{numbered, frame_by, accepted_frames}

@@ -7,16 +7,16 @@ use Rattle.std.proofs.lemmas.Bool.{lt-ltb, cases_Bool, cases_lt}
 use Rattle.std.proofs.lemmas.Option.{get_or_from_slice_get}
 use Rattle.std.proofs.lemmas.List.Elements.{All-cons}
 use Rattle.std.proofs.lemmas.List.{length-map}
-use Rattle.law_model.specs.declared.script.Item.{Item}
-use Rattle.law_model.specs.declared.script.ItemKind.{ItemKind}
-use Rattle.law_model.specs.declared.script.ItemKind.TheVariants.{Frame, Add, Remove}
+use Rattle.law_model.specs.declared.script_types.Item.{Item}
+use Rattle.law_model.specs.declared.script_types.ItemKind.{ItemKind}
+use Rattle.law_model.specs.declared.script_types.ItemKind.TheVariants.{Frame, Add, Remove}
 use Rattle.law_model.specs.session.Leg.{Leg}
 use Rattle.law_model.specs.session.Scenario.{DueCommand, DueFrame, order_of, offer_of, orders_of, offers_of}
 use Rattle.law_model.specs.session.Counts.{due_of, dues_of, frame_dues, command_dues, Counts}
 use Rattle.law_model.specs.session.Valid.{IsItem, IsSound}
 use Rattle.law_line.proofs.ListLaws.{slice_get-inside}
 use Rattle.law_progress.proofs.MoveLaws.{rows-ticks}
-use Rattle.law_model.specs.declared.refusal.Refusal.{Refusal}
+use Rattle.law_model.specs.declared.item_refusals.Refusal.{Refusal}
 use Rattle.law_walk.specs.Walk.{walk_plan, CanWalk, IsWalked}
 use Rattle.law_walk.specs.Landed.{Numbered, is_client, landed_from, landed_items, refusal_at, is_accepted_frame}
 use Rattle.law_walk.specs.Landed.{totals_of}

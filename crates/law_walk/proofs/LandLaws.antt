@@ -6,11 +6,11 @@ use Rattle.std.proofs.lemmas.Bool.{leb-false, lt-leb, cases_Bool}
 use Rattle.std.proofs.lemmas.Option.{slice_get-map}
 use Rattle.std.proofs.lemmas.List.{take_at}
 use Rattle.std.specs.List.{flat_map}
-use Rattle.base_nibbles.proofs.LockLaws.{slice_get-append_seam}
-use Rattle.law_model.specs.declared.script.Item.{Item}
+use Rattle.check_nibbles.proofs.LockLaws.{slice_get-append_seam}
+use Rattle.law_model.specs.declared.script_types.Item.{Item}
 use Rattle.law_model.specs.session.Leg.{Leg}
-use Rattle.law_model.specs.declared.walk.Event.{Event}
-use Rattle.law_model.specs.declared.walk.Event.TheVariants.{Accept, Command, Tick, Carry, Back, Take}
+use Rattle.law_model.specs.declared.walk_events.Event.{Event}
+use Rattle.law_model.specs.declared.walk_events.Event.TheVariants.{Accept, Command, Tick, Carry, Back, Take}
 use Rattle.law_model.specs.session.Scenario.{DueCommand, DueFrame, order_of, offer_of, orders_of, offers_of, scenario_by}
 use Rattle.law_model.specs.session.Scenario.{lands_at, comes_at, orders_at, frames_at}
 use Rattle.law_model.specs.session.Counts.{Due, frame_due, command_due, dues_of, frame_dues, command_dues, LinePath}

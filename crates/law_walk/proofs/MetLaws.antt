@@ -9,18 +9,18 @@ use Rattle.std.proofs.lemmas.Option.{none-some, same_Some}
 use Rattle.std.proofs.lemmas.List.{length-replicate}
 use Rattle.std.proofs.lemmas.List.Elements.{All-nil, All-cons, All-replicate}
 use Rattle.std.proofs.lemmas.List.Sorted.{IsNonDecreasingBy-short}
-use Rattle.law_model.specs.declared.window.Window.{Window}
-use Rattle.law_model.specs.declared.window.Carried.TheVariants.{Whole, Fails}
-use Rattle.law_model.specs.declared.script.Item.{Item}
-use Rattle.law_model.specs.declared.script.ItemKind.TheVariants.{Frame, Add}
-use Rattle.law_model.specs.declared.table.Command.{Command}
-use Rattle.law_model.specs.declared.table.Command.TheVariants.{Add as add}
-use Rattle.law_model.specs.declared.table.Standing.TheVariants.{Add as adding}
+use Rattle.law_model.specs.declared.window_types.Window.{Window}
+use Rattle.law_model.specs.declared.window_types.Carried.TheVariants.{Whole, Fails}
+use Rattle.law_model.specs.declared.script_types.Item.{Item}
+use Rattle.law_model.specs.declared.script_types.ItemKind.TheVariants.{Frame, Add}
+use Rattle.law_model.specs.declared.lcas_states.Command.{Command}
+use Rattle.law_model.specs.declared.lcas_states.Command.TheVariants.{Add as add}
+use Rattle.law_model.specs.declared.lcas_states.Standing.TheVariants.{Add as adding}
 use Rattle.law_model.specs.session.Valid.{IsWithin, AreApart, HasFailures, IsNetwork, IsItem, IsSound}
 use Rattle.law_model.specs.session.Counts.{frame_dues, command_dues}
 use Rattle.law_model.specs.session.Plan.{FitsRing, FitsLag}
 use Rattle.law_model.specs.members.Damage.{carried, are_whole, AreWindows, slip_after}
-use Rattle.law_model.specs.declared.table.Member.{Member}
+use Rattle.law_model.specs.declared.lcas_states.Member.{Member}
 use Rattle.law_model.specs.source.Table.{member_of, keep, none_kept, admit, turned, take_out, exchange}
 use Rattle.law_model.specs.session.Scenario.{DueFrame, Scenario, scenario_by, offers_of, carried_by, is_read}
 use Rattle.law_model.specs.source.Source.{after, table_of}

@@ -2,8 +2,8 @@
 use Rattle.std.proofs.Common.{◌≡◌, ℕ, zero, suc, ◌+◌, ◌<◌, ◌≤◌, List, [], ◌∷◌, map, length, slice_get, slice_index_or}
 use Rattle.std.proofs.Common.{Some, refl, sym, ◌∙◌, ap, subst, arith}
 use Rattle.std.specs.List.{range_with_len}
-use Rattle.base_cells.specs.declared.Container.{Container}
-use Rattle.law_model.specs.declared.window.Window.{Window}
+use Rattle.member_cells.specs.declared.containers_and_cells.Container.{Container}
+use Rattle.law_model.specs.declared.window_types.Window.{Window}
 use Rattle.law_model.specs.session.Leg.{Leg}
 use Rattle.law_model.specs.session.Valid.{IsSound}
 use Rattle.law_model.specs.members.Damage.{carried, slip_of}
@@ -12,9 +12,9 @@ use Rattle.law_model.specs.session.Scenario.{Scenario, scenario_by}
 use Rattle.law_model.specs.source.Back.{session_cells}
 use Rattle.law_model.specs.session.Plan.{path_of, paths_of, greatest_slip}
 use Rattle.law_progress.specs.Progress.{IsPlan}
-use Rattle.law_progress.specs.Lines.{AreSentBy}
+use Rattle.law_progress.specs.AskedOfLines.{AreSentBy}
 use Rattle.law_progress.proofs.LineLaws.{can_run-plan}
-use Rattle.law_terminal.specs.Lines.{HasLines}
+use Rattle.law_terminal.specs.SessionLines.{HasLines}
 use Rattle.law_terminal.proofs.SentLaws.{containers-size}
 use Rattle.law_terminal.proofs.CellLaws.{is-line}
 use Rattle.law_walk.specs.Walk.{sent_on, sent_of, walk_plan, CanWalk}

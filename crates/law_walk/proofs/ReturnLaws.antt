@@ -8,7 +8,7 @@ use Rattle.std.proofs.lemmas.Bool.{leb-true, leb-false, ltb-true, ltb-false, eqb
 use Rattle.std.proofs.lemmas.List.{append-nil, take-append-drop, take_all}
 use Rattle.std.proofs.lemmas.List.FromFn.{length-map-range_with_len, map-range_with_len_more}
 use Rattle.std.proofs.lemmas.Option.{slice_get-map, slice_get_within}
-use Rattle.base_cells.specs.declared.Cell.{Cell}
+use Rattle.member_cells.specs.declared.containers_and_cells.Cell.{Cell}
 use Rattle.law_model.specs.session.Leg.{Leg}
 use Rattle.law_model.specs.members.Path.{cells}
 use Rattle.law_model.specs.members.Number.{verdict}
@@ -20,7 +20,7 @@ use Rattle.law_model.specs.session.Counts.{LineCounts, Counts, used_in}
 use Rattle.law_line.specs.StableRows.{IsLonger, AreDecidedAt}
 use Rattle.law_line.proofs.RowLaws.{returns_stay}
 use Rattle.law_progress.proofs.LineLaws.{is_path}
-use Rattle.law_terminal.specs.Lines.{ComesOfLine, ComeOfLines}
+use Rattle.law_terminal.specs.SessionLines.{ComesOfLine, ComeOfLines}
 use Rattle.law_terminal.specs.Course.{packet_by}
 use Rattle.law_terminal.proofs.SentLaws.{containers-size}
 use Rattle.law_terminal.proofs.ListLaws.{range-at}

@@ -4,9 +4,9 @@ use Rattle.std.proofs.Common.{slice_get, Some, refl, sym, ◌∙◌, ap, subst, 
 use Rattle.std.proofs.lemmas.List.{drop-append-le, length-drop, length-take}
 use Rattle.std.proofs.lemmas.List.FromFn.{take-map-range_with_len}
 use Rattle.std.proofs.lemmas.Option.{slice_get_within}
-use Rattle.base_cells.specs.declared.Container.{Container}
-use Rattle.base_cells.specs.declared.Cell.{Cell}
-use Rattle.base_nibbles.proofs.LockLaws.{slice_get-append}
+use Rattle.member_cells.specs.declared.containers_and_cells.Container.{Container}
+use Rattle.member_cells.specs.declared.containers_and_cells.Cell.{Cell}
+use Rattle.check_nibbles.proofs.LockLaws.{slice_get-append}
 use Rattle.law_model.specs.session.Leg.{Leg}
 use Rattle.law_model.specs.members.Path.{cells}
 use Rattle.law_model.specs.session.Scenario.{scenario_by, carried_by}

@@ -1,11 +1,11 @@
 -- What the source of a walk was told is the session's.
 use Rattle.std.proofs.Common.{◌≡◌, ℕ, suc, ◌-◌, ◌/◌, ◌<◌, ◌≤◌, List, [], ◌∷◌, fold, take, length, Option, option_map}
 use Rattle.std.proofs.Common.{refl, sym, ◌∙◌, ap, arith}
-use Rattle.law_model.specs.declared.script.Item.{Item}
-use Rattle.law_model.specs.declared.script.ItemKind.{ItemKind}
-use Rattle.law_model.specs.declared.script.ItemKind.TheVariants.{Frame, Add, Remove}
+use Rattle.law_model.specs.declared.script_types.Item.{Item}
+use Rattle.law_model.specs.declared.script_types.ItemKind.{ItemKind}
+use Rattle.law_model.specs.declared.script_types.ItemKind.TheVariants.{Frame, Add, Remove}
 use Rattle.law_model.specs.session.Leg.{Leg}
-use Rattle.law_model.specs.declared.table.Command.TheVariants.{Add as add, Remove as remove}
+use Rattle.law_model.specs.declared.lcas_states.Command.TheVariants.{Add as add, Remove as remove}
 use Rattle.law_model.specs.session.Scenario.{Scenario, DueCommand, DueFrame, order_of, offer_of, orders_of, offers_of}
 use Rattle.law_model.specs.session.Scenario.{scenario_by, steps_in, packets, orders_at, frames_at}
 use Rattle.law_model.specs.source.Table.{Told}
@@ -14,7 +14,7 @@ use Rattle.law_model.specs.source.Client.{Stream, frame_refusal, offered, stream
 use Rattle.law_model.specs.source.Back.{session_cells}
 use Rattle.law_model.specs.rows.Sent.{frame_of}
 use Rattle.law_model.specs.session.Counts.{Counts, used_in}
-use Rattle.law_model.specs.declared.refusal.Refusal.TheVariants.{Frame as frame_fault, Command as command_fault}
+use Rattle.law_model.specs.declared.item_refusals.Refusal.TheVariants.{Frame as frame_fault, Command as command_fault}
 use Rattle.law_session.proofs.SessionLaws.{Agree-first}
 use Rattle.law_terminal.proofs.CourseLaws.{session-agree}
 use Rattle.law_walk.specs.Walk.{CanWalk, IsWalked}

@@ -8,11 +8,11 @@ use Rattle.std.specs.List.{range_with_len}
 use Rattle.std.proofs.lemmas.List.{take-append-drop, take-append-le}
 use Rattle.std.proofs.lemmas.List.FromFn.{length-map-range_with_len, map-range_with_len_more}
 use Rattle.std.proofs.lemmas.Option.{slice_get-map, slice_get_within}
-use Rattle.base_cells.specs.declared.Container.{Container}
-use Rattle.base_cells.specs.declared.Cell.{Cell}
-use Rattle.law_model.specs.declared.window.Carried.{Carried}
+use Rattle.member_cells.specs.declared.containers_and_cells.Container.{Container}
+use Rattle.member_cells.specs.declared.containers_and_cells.Cell.{Cell}
+use Rattle.law_model.specs.declared.window_types.Carried.{Carried}
 use Rattle.law_model.specs.session.Leg.{Leg}
-use Rattle.law_model.specs.declared.walk.Event.{Event}
+use Rattle.law_model.specs.declared.walk_events.Event.{Event}
 use Rattle.law_model.specs.members.Path.{cells}
 use Rattle.law_model.specs.members.Number.{verdict}
 use Rattle.law_model.specs.session.Scenario.{Scenario, scenario_by, carried_by, packets_in, packets, steps_in}
@@ -33,7 +33,7 @@ use Rattle.law_progress.specs.Progress.{Each, LineFits, Fits}
 use Rattle.law_progress.proofs.LineLaws.{is_decided}
 use Rattle.law_progress.proofs.MoveLaws.{reached-fits}
 use Rattle.law_progress.proofs.ReachLaws.{run-none, Leads-then, Leads-drain}
-use Rattle.law_terminal.specs.Lines.{given, ComesOfLine, ComeOfLines}
+use Rattle.law_terminal.specs.SessionLines.{given, ComesOfLine, ComeOfLines}
 use Rattle.law_terminal.specs.Course.{back_of, told_of, IsCourse}
 use Rattle.law_terminal.proofs.SentLaws.{containers-size}
 use Rattle.law_terminal.proofs.ListLaws.{range-at}

@@ -2,10 +2,10 @@
 use Rattle.std.specs.Prelude.{◌≡◌, ◌⊎◌, ℕ, suc, ◌+◌, ◌-◌, ◌*◌, ◌/◌, ◌<◌, ◌≤◌, true, List, [], ◌∷◌, All, Option, Some}
 use Rattle.std.specs.Prelude.{None}
 use Rattle.std.specs.List.{flat_map}
-use Rattle.law_model.specs.declared.window.Window.{Window}
-use Rattle.law_model.specs.declared.script.Item.{Item}
-use Rattle.law_model.specs.declared.script.ItemKind.{ItemKind}
-use Rattle.law_model.specs.declared.script.ItemKind.TheVariants.{Frame, Add, Remove}
+use Rattle.law_model.specs.declared.window_types.Window.{Window}
+use Rattle.law_model.specs.declared.script_types.Item.{Item}
+use Rattle.law_model.specs.declared.script_types.ItemKind.{ItemKind}
+use Rattle.law_model.specs.declared.script_types.ItemKind.TheVariants.{Frame, Add, Remove}
 use Rattle.law_model.specs.session.Leg.{Leg}
 use Rattle.law_model.specs.frames.Piece.{Piece}
 use Rattle.law_model.specs.session.Scenario.{scenario_by}
@@ -14,7 +14,7 @@ use Rattle.law_model.specs.rows.SessionRows.{is_whole_row}
 use Rattle.law_model.specs.session.Counts.{Counts, bound, drain}
 use Rattle.law_model.specs.frames.Loss.{Extent, extents, TrueStarts}
 use Rattle.law_session.specs.Use.{IsInUse}
-use Rattle.law_model.specs.declared.refusal.Refusal.{Refusal}
+use Rattle.law_model.specs.declared.item_refusals.Refusal.{Refusal}
 use Rattle.law_walk.specs.Walk.{session_of, walk_plan}
 use Rattle.law_walk.specs.Delivered.{session_rows}
 use Rattle.law_walk.specs.Landed.{Numbered, refusal_at}

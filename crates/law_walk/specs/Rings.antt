@@ -1,10 +1,10 @@
 -- What the rings of a walk hold, by its counts.
 use Rattle.std.specs.Prelude.{ℕ, min, ◌<◌, List, map, take, drop, length, slice_index_or}
 use Rattle.std.specs.List.{range_with_len}
-use Rattle.base_cells.specs.declared.Container.{Container}
-use Rattle.base_cells.specs.declared.Cell.{Cell}
-use Rattle.base_cells.specs.declared.BackCell.{BackCell}
-use Rattle.law_model.specs.declared.packet.Packet.{Packet}
+use Rattle.member_cells.specs.declared.containers_and_cells.Container.{Container}
+use Rattle.member_cells.specs.declared.containers_and_cells.Cell.{Cell}
+use Rattle.member_cells.specs.declared.containers_and_cells.BackCell.{BackCell}
+use Rattle.law_model.specs.declared.control_packet.Packet.{Packet}
 use Rattle.law_model.specs.session.Leg.{Leg}
 use Rattle.law_model.specs.members.Path.{cells}
 use Rattle.law_model.specs.session.Scenario.{scenario_by, carried_by}

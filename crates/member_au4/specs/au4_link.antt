@@ -1,4 +1,4 @@
-pub mod Lines
+pub mod LinkTextLines
 pub mod Helps
 pub mod Link
 pub mod Vcs

@@ -1,4 +1,4 @@
 pub mod FailureWindowLaws
-pub mod LineCoreLaws
+pub mod PathDelayLaws
 pub mod H4MultiframeLaws
-pub mod LineReaderLaws
+pub mod CellNumbersLaws

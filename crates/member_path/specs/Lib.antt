@@ -1,4 +1,4 @@
 pub mod failure_window
-pub mod line_core
+pub mod path_delay
 pub mod h4_multiframe
-pub mod line_reader
+pub mod cell_numbers

@@ -6,9 +6,9 @@
 ghost use Rattle.std.specs.Prelude.{◌≡◌, ℕ, ◌+◌, ◌*◌, ◌%◌, ◌<◌, List, [], ◌∷◌, ◌++◌, length, Option, Some, None};
 ghost use Rattle.member_path.specs.declared.h4_multiframe.Place.{Place as PlaceData};
 ghost use Rattle.member_path.specs.h4_multiframe.Place.{IsPlace};
-ghost use Rattle.member_path.specs.h4_multiframe.Stands.{Stands};
+ghost use Rattle.member_path.specs.h4_multiframe.LockState.{LockStands};
 
-use base_nibbles::{join_nibbles, nibble_hi, nibble_lo};
+use check_nibbles::{join_nibbles, nibble_hi, nibble_lo};
 use std::marker::Model;
 
 /// The H4 octet of a frame: the nibble of its control packet in the upper half, and MFI1 in the lower half.
@@ -66,7 +66,7 @@ impl Model for MfiLock {
 }
 
 impl Default for MfiLock {
-    ghost is_default = { λ lock. Stands lock [] };
+    ghost is_default = { λ lock. LockStands lock [] };
 
     fn default() -> MfiLock {
         MfiLock::new()
@@ -76,7 +76,7 @@ impl Default for MfiLock {
 impl MfiLock {
     /// The lock of a line of which no cell has come.
     pub fn new() -> MfiLock
-        ensures { Stands result [] }
+        ensures { LockStands result [] }
     {
         MfiLock {
             state: State::Unlocked,
@@ -85,17 +85,17 @@ impl MfiLock {
 
     /// Takes a cell that is not good.
     pub fn fail(&mut self)
-        ensures { (cells : List (Option ℕ)) → Stands self.old cells →
-            Stands self.new (cells ++ None ∷ []) }
+        ensures { (cells : List (Option ℕ)) → LockStands self.old cells →
+            LockStands self.new (cells ++ None ∷ []) }
     {
         self.state = State::Unlocked;
     }
 
     /// Takes the H4 octet of a good cell.
     pub fn good(&mut self, h4: u8) -> Place
-        ensures stands { (cells : List (Option ℕ)) → Stands self.old cells →
-            Stands self.new (cells ++ Some h4 ∷ []) }
-        ensures place { (cells : List (Option ℕ)) → Stands self.old cells →
+        ensures stands { (cells : List (Option ℕ)) → LockStands self.old cells →
+            LockStands self.new (cells ++ Some h4 ∷ []) }
+        ensures place { (cells : List (Option ℕ)) → LockStands self.old cells →
             IsPlace (cells ++ Some h4 ∷ []) (length cells) result }
     {
         let place = place_of(self.state, h4);
@@ -106,7 +106,7 @@ impl MfiLock {
 
 /// What a good cell with this H4 octet is, after this state.
 fn place_of(state: State, h4: u8) -> Place
-    ensures { (cells : List (Option ℕ)) → Stands state cells →
+    ensures { (cells : List (Option ℕ)) → LockStands state cells →
         IsPlace (cells ++ Some h4 ∷ []) (length cells) result }
 {
     let mfi1 = nibble_lo(h4);
@@ -134,7 +134,7 @@ fn place_of(state: State, h4: u8) -> Place
 /// The state after a good cell with this H4 octet, from what the cell is.
 fn state_after(place: Place, h4: u8) -> State
     ensures { (cells : List (Option ℕ)) → IsPlace (cells ++ Some h4 ∷ []) (length cells) place →
-        Stands result (cells ++ Some h4 ∷ []) }
+        LockStands result (cells ++ Some h4 ∷ []) }
 {
     match place {
         Place::Locks(number) | Place::At(number) => State::Locked { number },

@@ -1,3 +1,3 @@
 pub mod LcasPacketLaws
-pub mod RealignCoreLaws
+pub mod RealignRowsLaws
 pub mod VcatInterleaveLaws

@@ -1,2 +1,2 @@
-pub mod realign_core
+pub mod realign_rows
 pub mod vcat_interleave

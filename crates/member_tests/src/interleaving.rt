@@ -1,7 +1,7 @@
 //! Rows there and back.
 ghost use Rattle.std.specs.Prelude.{◌≡◌, ℕ, ◌-◌, ◌*◌, ◌<◌, ◌≤◌, length, slice_index, IfSome};
 
-use base_cells::{Container, HeldContainer, PAYLOAD};
+use member_cells::{Container, HeldContainer, PAYLOAD};
 use member_rows::vcat_interleave::{gather, gather_places, spread, spread_places};
 use std::alloc::Global;
 

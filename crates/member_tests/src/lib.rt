@@ -4,16 +4,16 @@
 #![tactic(auto)]
 
 #[cfg(test)]
-mod cells;
+mod codes_and_h4_lock;
 #[cfg(test)]
-mod failures;
+mod failure_windows;
 #[cfg(test)]
-mod hand;
+mod cell_in_hand;
 #[cfg(test)]
 mod interleaving;
 #[cfg(test)]
-mod line;
+mod delayed_line;
 #[cfg(test)]
-mod reading;
+mod cell_numbering;
 #[cfg(test)]
 mod realignment;

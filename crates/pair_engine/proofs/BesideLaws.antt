@@ -1,6 +1,6 @@
 -- What is known of a way and the other one, and what a call that the other doesn't see leaves of that.
 use Rattle.std.proofs.Common.{◌≡◌, ℕ, ◌≤◌, sym, subst}
-use Rattle.law_model.specs.declared.script.Script.{Script}
+use Rattle.law_model.specs.declared.script_types.Script.{Script}
 use Rattle.law_model.specs.session.Scenario.{packets_in}
 use Rattle.law_model.specs.session.Counts.{used_in}
 use Rattle.terminal_group.specs.Inbox.{Inbox}

@@ -1,9 +1,9 @@
 -- A tick of both ways.
 use Rattle.std.proofs.Common.{◌≡◌, ℕ, ◌+◌, Option, None, refl, sym, ◌∙◌, ap, subst}
 use Rattle.std.specs.Option.{is_some}
-use Rattle.base_cells.specs.declared.BackCell.{BackCell}
-use Rattle.law_model.specs.declared.packet.Packet.{Packet}
-use Rattle.law_model.specs.declared.walk.Event.TheVariants.{Tick}
+use Rattle.member_cells.specs.declared.containers_and_cells.BackCell.{BackCell}
+use Rattle.law_model.specs.declared.control_packet.Packet.{Packet}
+use Rattle.law_model.specs.declared.walk_events.Event.TheVariants.{Tick}
 use Rattle.law_model.specs.session.Leg.{Leg}
 use Rattle.law_model.specs.session.Scenario.{packets_in}
 use Rattle.law_model.specs.session.Counts.{Counts}
@@ -11,16 +11,16 @@ use Rattle.terminal_source.specs.source_core.Terminal.{needed}
 use Rattle.law_walk.specs.Walk.{walk_plan}
 use Rattle.terminal_group.specs.Inbox.{cell_for, rest_for}
 use Rattle.terminal_group.specs.Source.{early_in, missing_in}
-use Rattle.law_model.specs.declared.walk.StallCause.{StallCause}
-use Rattle.law_pair.specs.declared.pair.Way.{Way}
+use Rattle.law_model.specs.declared.walk_events.StallCause.{StallCause}
+use Rattle.law_pair.specs.declared.pair_events.Way.{Way}
 use Rattle.law_pair.specs.Pair.{way_of}
 use Rattle.law_pair.specs.PairCounts.{tick_cause, tick_by, ticked}
 use Rattle.law_pair.specs.PairWalk.{pair_plan, IsPairWalked}
 use Rattle.law_pair.proofs.PairEndLaws.{pair-steps}
 use Rattle.law_pair.proofs.TickLaws.{IsFree, both-free}
-use Rattle.law_pair.specs.declared.pair.PairEvent.TheVariants.{Tick as Tick_both}
-use Rattle.walk_engine.specs.declared.walk_core.moved.Moved.TheVariants.{Yes}
-use Rattle.walk_engine.specs.walk_core.Parts.{Parts, Stands, StandsForSome}
+use Rattle.law_pair.specs.declared.pair_events.PairEvent.TheVariants.{Tick as Tick_both}
+use Rattle.walk_engine.specs.declared.walk_core.step_answers.Moved.TheVariants.{Yes}
+use Rattle.walk_engine.specs.walk_core.Parts.{Parts, WayStands, StandsForSome}
 use Rattle.walk_engine.specs.walk_core.Way.{Makes, CanTick}
 use Rattle.pair_engine.specs.declared.pair_way.PairWay.{PairWay}
 use Rattle.pair_engine.specs.Said.{tells_next, told_now, left_untold}
@@ -57,7 +57,7 @@ module _ (own other : PairWay) (free : AreFree own other) (core : Parts) (same :
   backs = packets_in own.core.sink.taken
 
   pub stands-for : StandsForSome core
-  stands-for = (leg, backs, subst (Stands leg backs) (sym same) free.beside.own_way.stands)
+  stands-for = (leg, backs, subst (WayStands leg backs) (sym same) free.beside.own_way.stands)
 
   pub early-for : early_in core.source ≡ None
   early-for = ap (λ (p : Parts). early_in p.source) same
@@ -68,7 +68,7 @@ module _ (own other : PairWay) (free : AreFree own other) (core : Parts) (same :
       ∙ cell-there own other free.beside free.own_free free.other_free
 
   pub has-ticked : (told : Option Packet) (cell : Option BackCell) (now : Parts) → told ≡ telling_own other →
-      ((leg : Leg) (backs : ℕ) → Stands leg backs core → CanTick leg backs core told cell →
+      ((leg : Leg) (backs : ℕ) → WayStands leg backs core → CanTick leg backs core told cell →
       Makes leg backs Tick core now Yes) →
       cell ≡ cell_for (is_some (needed core.source.core)) core.source.inbox.cells →
       now.source.inbox ≡ record core.source.inbox
@@ -85,7 +85,7 @@ module _ (own other : PairWay) (free : AreFree own other) (core : Parts) (same :
       let can = can-tick own other free.beside free.own_free free.other_free told cell is first_own in
       let made : Makes leg backs Tick own.core now Yes =
       subst (λ (p : Parts). Makes leg backs Tick p now Yes) same
-      (makes leg backs (subst (Stands leg backs) (sym same) free.beside.own_way.stands)
+      (makes leg backs (subst (WayStands leg backs) (sym same) free.beside.own_way.stands)
       (subst (λ (p : Parts). CanTick leg backs p told cell) (sym same) can)) in
       record {
         beside = tick-beside own other free.beside free.own_free free.other_free now Yes made at_own boxed_own

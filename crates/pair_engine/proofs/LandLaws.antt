@@ -2,26 +2,26 @@
 use Rattle.std.proofs.Common.{◌≡◌, ℕ, ◌+◌, ◌<◌, ◌≤◌, nat_lt, Bool, true, false, Option, Some, None, refl, sym, ◌∙◌, ap}
 use Rattle.std.proofs.Common.{subst, inl, inr}
 use Rattle.std.proofs.lemmas.Bool.{cases_Bool, lt-ltb, le-ltb}
-use Rattle.law_model.specs.declared.script.Script.{Script}
-use Rattle.law_model.specs.declared.walk.StallCause.{StallCause}
-use Rattle.law_model.specs.declared.walk.StallCause.TheVariants.{Done, NotDue}
+use Rattle.law_model.specs.declared.script_types.Script.{Script}
+use Rattle.law_model.specs.declared.walk_events.StallCause.{StallCause}
+use Rattle.law_model.specs.declared.walk_events.StallCause.TheVariants.{Done, NotDue}
 use Rattle.law_model.specs.session.Leg.{Leg}
 use Rattle.law_model.specs.session.Scenario.{packets_in}
 use Rattle.law_model.specs.session.Counts.{Due, Plan, Counts, Step, dues_of, land_due, step}
 use Rattle.law_model.specs.session.Counts.{frame_dues, command_dues}
 use Rattle.std.specs.List.Sorted.{IsNonDecreasing}
-use Rattle.law_model.specs.declared.refusal.Refusal.{Refusal}
+use Rattle.law_model.specs.declared.item_refusals.Refusal.{Refusal}
 use Rattle.law_walk.specs.Walk.{walk_plan}
 use Rattle.terminal_group.specs.Landed.{Landed}
 use Rattle.terminal_group.proofs.BareLaws.{bare-dues}
 use Rattle.law_pair.specs.Pair.{way_of}
 use Rattle.law_pair.specs.PairCounts.{left_after, first_due, land_first, land_item}
-use Rattle.walk_engine.specs.declared.walk_core.moved.Moved.TheVariants.{Stalled}
+use Rattle.walk_engine.specs.declared.walk_core.step_answers.Moved.TheVariants.{Stalled}
 use Rattle.walk_engine.specs.walk_core.Landing.{landing_of}
 use Rattle.walk_engine.specs.walk_core.Moved.{answer_by, refusal_in_event}
-use Rattle.walk_engine.specs.walk_core.Parts.{Parts, counts_of, Stands}
+use Rattle.walk_engine.specs.walk_core.Parts.{Parts, counts_of, WayStands}
 use Rattle.walk_engine.specs.walk_core.Way.{Makes}
-use Rattle.pair_engine.specs.declared.item.NextItem.{NextItem}
+use Rattle.pair_engine.specs.declared.next_items.NextItem.{NextItem}
 use Rattle.pair_engine.specs.declared.pair_way.PairWay.{PairWay}
 use Rattle.pair_engine.specs.Moved.{refusal_by, next_refusal}
 use Rattle.pair_engine.specs.Steps.{due_by, due_of_next, AreInOrder, Goes}
@@ -133,7 +133,7 @@ module _ (own : PairWay) (other : Script) (stands : StandsAs (way_of own.script 
       let refuses : next_refusal leg s ≡ refusal_in_event leg s (landing_of next.client) =
       ap (refusal_by leg s) (first-of ∙ ap due_of_next (sym some)) ∙ refusal-is leg s next.client next.due in
       record {
-        stands = subst (λ n. Stands leg (packets_in n) now) (sym rows) makes.stands;
+        stands = subst (λ n. WayStands leg (packets_in n) now) (sym rows) makes.stands;
         counts = ap (λ n. counts_of now (packets_in n)) rows ∙ makes.counts ∙ sym (ap (λ (x : Step). x.counts) is);
         moved = makes.moved
             ∙ ap (λ (cause : Option StallCause). answer_by cause (refusal_in_event leg s (landing_of next.client)))

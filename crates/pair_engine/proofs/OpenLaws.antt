@@ -1,7 +1,7 @@
 -- A way before any event.
 use Rattle.std.proofs.Common.{◌≡◌, ◌-◌, ◌*◌, [], map, refl, sym, ◌∙◌, ap, subst, arith}
 use Rattle.std.specs.List.{range_with_len}
-use Rattle.law_model.specs.declared.script.Script.{Script}
+use Rattle.law_model.specs.declared.script_types.Script.{Script}
 use Rattle.law_model.specs.session.Leg.{leg_of}
 use Rattle.law_model.specs.session.Scenario.{packets_in}
 use Rattle.law_model.specs.session.Counts.{Counts, begin, used_in}
@@ -15,7 +15,7 @@ use Rattle.law_pair.specs.PairWalk.{pair_plan, IsPairWalked}
 use Rattle.law_pair.proofs.PairEndLaws.{pair-begins}
 use Rattle.law_pair.proofs.WayLaws.{way-sound}
 use Rattle.walk_engine.specs.walk_core.Opened.{IsAlike}
-use Rattle.walk_engine.specs.walk_core.Parts.{Stands, counts_of}
+use Rattle.walk_engine.specs.walk_core.Parts.{WayStands, counts_of}
 use Rattle.pair_engine.specs.declared.pair_way.PairWay.{PairWay}
 use Rattle.pair_engine.specs.Said.{Said, heard_in}
 use Rattle.pair_engine.specs.Ways.{way_counts, pair_counts, IsNewWay, Meets, IsWayBeside, IsPairWalk}
@@ -62,8 +62,8 @@ module _ (script other : Script) (own : PairWay) (new : IsNewWay script own) whe
 
   pub new-beside : (beside : PairWay) → beside.script ≡ other → beside.core.sink.taken ≡ 0 → IsWayBeside beside own
   new-beside beside is none = record {
-    stands = subst (λ n. Stands (way_of own.script beside.script) n own.core) (sym no-packets)
-        (subst (λ (x : Script). Stands (way_of x beside.script) 0 own.core) (sym new.script_is)
+    stands = subst (λ n. WayStands (way_of own.script beside.script) n own.core) (sym no-packets)
+        (subst (λ (x : Script). WayStands (way_of x beside.script) 0 own.core) (sym new.script_is)
         (new.core.stands beside.script));
     meets = subst (λ (x : Script). Meets x beside.script own.core.sink.taken beside.core.sink.taken
         own.core.source.core.ticks own.said own.core.source.inbox) (sym new.script_is)

@@ -1,15 +1,15 @@
 -- What an event leaves of a pair.
 use Rattle.std.proofs.Common.{◌≡◌, ℕ, ◌<◌, length, Option, Some, None, option_map, refl, sym, ◌∙◌, ap, subst, arith}
-use Rattle.law_model.specs.declared.script.Script.{Script}
-use Rattle.law_model.specs.declared.walk.StallCause.{StallCause}
+use Rattle.law_model.specs.declared.script_types.Script.{Script}
+use Rattle.law_model.specs.declared.walk_events.StallCause.{StallCause}
 use Rattle.law_model.specs.session.Counts.{Counts, Step}
-use Rattle.law_model.specs.declared.refusal.Refusal.{Refusal}
+use Rattle.law_model.specs.declared.item_refusals.Refusal.{Refusal}
 use Rattle.law_walk.specs.Walk.{walk_plan}
-use Rattle.walk_engine.specs.declared.walk_core.moved.Moved.{Moved}
-use Rattle.law_pair.specs.declared.pair.Way.{Way}
-use Rattle.law_pair.specs.declared.pair.Way.TheVariants.{There, Back}
-use Rattle.law_pair.specs.declared.pair.PairEvent.{PairEvent}
-use Rattle.law_pair.specs.declared.pair.PairEvent.TheVariants.{Tick, Take}
+use Rattle.walk_engine.specs.declared.walk_core.step_answers.Moved.{Moved}
+use Rattle.law_pair.specs.declared.pair_events.Way.{Way}
+use Rattle.law_pair.specs.declared.pair_events.Way.TheVariants.{There, Back}
+use Rattle.law_pair.specs.declared.pair_events.PairEvent.{PairEvent}
+use Rattle.law_pair.specs.declared.pair_events.PairEvent.TheVariants.{Tick, Take}
 use Rattle.law_walk.proofs.PlanLaws.{has-paths, sound-walks}
 use Rattle.law_pair.proofs.WayLaws.{way-sound}
 use Rattle.law_pair.specs.Pair.{IsWay, IsPair, way_of}
@@ -17,8 +17,8 @@ use Rattle.law_pair.specs.PairCounts.{PairCounts, PairStep, plan_on, on_way, pai
 use Rattle.law_pair.specs.PairWalk.{pair_plan, IsPairWalked}
 use Rattle.law_pair.proofs.PairEndLaws.{pair-steps}
 use Rattle.pair_engine.specs.declared.pair_way.PairWay.{PairWay}
-use Rattle.pair_engine.specs.declared.moved.PairMoved.{PairMoved}
-use Rattle.pair_engine.specs.declared.moved.PairMoved.TheVariants.{Stalled}
+use Rattle.pair_engine.specs.declared.pair_answers.PairMoved.{PairMoved}
+use Rattle.pair_engine.specs.declared.pair_answers.PairMoved.TheVariants.{Stalled}
 use Rattle.pair_engine.specs.Moved.{Paired, plan_of, script_on, step_of, after, moved_on, moved_of, refusal_in, answer_by}
 use Rattle.pair_engine.specs.Steps.{Goes, IsQuiet, TakesRow}
 use Rattle.pair_engine.specs.Ways.{leg_beside, way_counts, pair_counts, IsPairWalk}

@@ -4,26 +4,26 @@ use Rattle.std.proofs.Common.{replicate}
 use Rattle.std.proofs.Common.{drop, Option, Some, None, option_map, refl, sym, ◌∙◌, ap, subst, arith, inl}
 use Rattle.std.proofs.Common.{inr, true, false}
 use Rattle.std.proofs.lemmas.Bool.{cases_Bool}
-use Rattle.law_model.specs.declared.walk.StallCause.{StallCause}
-use Rattle.law_model.specs.declared.walk.StallCause.TheVariants.{NotDue}
+use Rattle.law_model.specs.declared.walk_events.StallCause.{StallCause}
+use Rattle.law_model.specs.declared.walk_events.StallCause.TheVariants.{NotDue}
 use Rattle.law_model.specs.session.Counts.{Due, frame_due, command_due, frame_dues, command_dues, LinePath, LineCounts}
 use Rattle.law_model.specs.session.Counts.{Plan, Counts, pop_lines}
-use Rattle.law_model.specs.declared.script.Script.{Script}
-use Rattle.law_model.specs.declared.refusal.Refusal.{Refusal}
+use Rattle.law_model.specs.declared.script_types.Script.{Script}
+use Rattle.law_model.specs.declared.item_refusals.Refusal.{Refusal}
 use Rattle.law_pair.specs.Pair.{IsPair}
 use Rattle.law_pair.specs.PairWalk.{IsPairWalked}
 use Rattle.law_pair.proofs.PairPlanLaws.{has-pair-plan, there-taken, back-taken}
-use Rattle.pair_engine.specs.declared.moved.PairMoved.{PairMoved}
-use Rattle.pair_engine.specs.declared.moved.PairMoved.TheVariants.{Stalled}
+use Rattle.pair_engine.specs.declared.pair_answers.PairMoved.{PairMoved}
+use Rattle.pair_engine.specs.declared.pair_answers.PairMoved.TheVariants.{Stalled}
 use Rattle.pair_engine.specs.Moved.{Paired, plan_of, leg_on, with_counts, answer_by, GivesWay}
-use Rattle.base_io.specs.Start.{Start}
+use Rattle.octet_io.specs.Start.{Start}
 use Rattle.law_model.specs.session.Leg.{Leg}
 use Rattle.walk_engine.specs.walk_core.Moved.{GivesRows}
 use Rattle.walk_engine.proofs.WalkCoreLaws.RoundLaws.{gives-then}
-use Rattle.law_pair.specs.declared.pair.Way.{Way}
-use Rattle.law_pair.specs.declared.pair.Way.TheVariants.{There, Back}
-use Rattle.law_pair.specs.declared.pair.PairEvent.{PairEvent}
-use Rattle.law_pair.specs.declared.pair.PairEvent.TheVariants.{Item, Tick, Carry, Take}
+use Rattle.law_pair.specs.declared.pair_events.Way.{Way}
+use Rattle.law_pair.specs.declared.pair_events.Way.TheVariants.{There, Back}
+use Rattle.law_pair.specs.declared.pair_events.PairEvent.{PairEvent}
+use Rattle.law_pair.specs.declared.pair_events.PairEvent.TheVariants.{Item, Tick, Carry, Take}
 use Rattle.law_pair.specs.PairCounts.{PairPlan, PairCounts, plan_on, counts_on, pair_step, pair_run, carries_on}
 use Rattle.law_pair.specs.PairCounts.{pair_round, pair_drain, pair_bound, is_over, left_after, first_due, land_first}
 use Rattle.law_pair.specs.PairCounts.{land_item, take_said, take_one}

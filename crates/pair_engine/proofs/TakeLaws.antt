@@ -5,10 +5,10 @@ use Rattle.std.proofs.Common.{refl, sym, ◌∙◌, ap, subst, arith, inl, inr}
 use Rattle.std.specs.List.{range_with_len}
 use Rattle.std.proofs.lemmas.Bool.{cases_Bool, eqb-true, ltb-true, le-leb}
 use Rattle.std.proofs.lemmas.List.{append-nil, map-append, drop_all}
-use Rattle.base_cells.specs.declared.BackCell.{BackCell}
-use Rattle.law_model.specs.declared.packet.Packet.{Packet}
-use Rattle.law_model.specs.declared.script.Script.{Script}
-use Rattle.law_model.specs.declared.walk.StallCause.TheVariants.{Done, Waiting as Stall_waiting}
+use Rattle.member_cells.specs.declared.containers_and_cells.BackCell.{BackCell}
+use Rattle.law_model.specs.declared.control_packet.Packet.{Packet}
+use Rattle.law_model.specs.declared.script_types.Script.{Script}
+use Rattle.law_model.specs.declared.walk_events.StallCause.TheVariants.{Done, Waiting as Stall_waiting}
 use Rattle.law_model.specs.session.Leg.{Leg}
 use Rattle.law_model.specs.session.Scenario.{packets_in}
 use Rattle.law_model.specs.packets.Told.{told_by, told_in}
@@ -17,8 +17,8 @@ use Rattle.law_model.specs.rows.Rows.{governing, read_packets}
 use Rattle.law_model.specs.session.Counts.{Plan, Counts, LineCounts, Step, begin, in_return, is_back_full, pop_lines}
 use Rattle.law_model.specs.session.Counts.{take_popped, take_row, used_in}
 use Rattle.law_progress.proofs.ReachLaws.{Leads-then}
-use Rattle.terminal_sink.specs.declared.sink_core.sink.TakeAnswer.{TakeAnswer}
-use Rattle.terminal_sink.specs.declared.sink_core.sink.TakeAnswer.TheVariants.{Taken, Waiting}
+use Rattle.terminal_sink.specs.declared.sink_core.sink_terminal.TakeAnswer.{TakeAnswer}
+use Rattle.terminal_sink.specs.declared.sink_core.sink_terminal.TakeAnswer.TheVariants.{Taken, Waiting}
 use Rattle.terminal_sink.specs.sink_core.Given.{rows_taken}
 use Rattle.terminal_group.specs.Inbox.{Inbox, with_come}
 use Rattle.law_walk.specs.Walk.{walk_plan, IsWalked, popped_cells}
@@ -27,13 +27,13 @@ use Rattle.law_walk.specs.Delivered.{delivered_of}
 use Rattle.law_walk.proofs.EndLaws.{counts-within}
 use Rattle.law_walk.proofs.PlanLaws.{sound-walks}
 use Rattle.law_walk.proofs.ReturnLaws as return_laws
-use Rattle.base_io.specs.Start.{Start}
+use Rattle.octet_io.specs.Start.{Start}
 use Rattle.law_pair.specs.Pair.{way_of}
 use Rattle.law_pair.specs.PairCounts.{take_said, take_one}
 use Rattle.law_pair.proofs.LinkLaws.{reads-told}
 use Rattle.law_pair.proofs.OneWayLaws.{take-leads}
 use Rattle.walk_engine.specs.walk_core.Moved.{answer_by, delivered_since, GivesRows}
-use Rattle.walk_engine.specs.walk_core.Parts.{Parts, counts_of, line_counts, Stands}
+use Rattle.walk_engine.specs.walk_core.Parts.{Parts, counts_of, line_counts, WayStands}
 use Rattle.walk_engine.specs.walk_core.Take.{take_cause}
 use Rattle.walk_engine.specs.walk_core.Way.{take_moved, said_at, take_by, Takes}
 use Rattle.walk_engine.proofs.WalkCoreLaws.EventLaws.{stands-back}
@@ -186,7 +186,7 @@ module _ (own other : PairWay) (beside : AreBeside own other) (row : ℕ) (at_ro
   abbrev s : Counts
   s = way_counts own
 
-  abbrev is : Stands (way_of own.script other.script) (packets_in own.core.sink.taken) own.core
+  abbrev is : WayStands (way_of own.script other.script) (packets_in own.core.sink.taken) own.core
   is = beside.own_way.stands
 
   -- ---- all rows are taken
@@ -248,7 +248,7 @@ module _ (own other : PairWay) (beside : AreBeside own other) (row : ℕ) (at_ro
           own_script = refl;
           other_script = refl;
           own_way = record {
-            stands = subst (λ n. Stands leg (packets_in n) now) (sym rows-same) takes.makes.stands;
+            stands = subst (λ n. WayStands leg (packets_in n) now) (sym rows-same) takes.makes.stands;
             meets = meets-same other.script other.core.sink.taken own.script own.script own.core.sink.taken
                 now.sink.taken own.core.source.core.ticks now.source.core.ticks own.said own.said
                 own.core.source.inbox now.source.inbox refl refl same-ticks same-inbox rows-same
@@ -294,7 +294,7 @@ module _ (own other : PairWay) (beside : AreBeside own other) (row : ℕ) (at_ro
             ∙ ap (λ (x : Step). record x.counts { backs = packets_in (own.core.sink.taken + 1) }) both.0
             ∙ sym (ap (λ (x : Step). x.counts) both.1)
 
-        pub stands-next : Stands (way_of own.script other.script) (packets_in now.sink.taken) now
+        pub stands-next : WayStands (way_of own.script other.script) (packets_in now.sink.taken) now
         stands-next =
             stands-back leg (packets_in own.core.sink.taken) (packets_in now.sink.taken) now now.source.inbox
             takes.makes.stands

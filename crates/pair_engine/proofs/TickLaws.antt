@@ -4,9 +4,9 @@ use Rattle.std.proofs.Common.{if◌then◌else◌, Option, Some, None, option_ma
 use Rattle.std.proofs.Common.{inl, inr}
 use Rattle.std.specs.Option.{is_some}
 use Rattle.std.proofs.lemmas.Bool.{cases_Bool, cases_lt, eqb-true, leb-true, leb-false, eq-eqb, le-leb}
-use Rattle.base_cells.specs.declared.BackCell.{BackCell}
-use Rattle.law_model.specs.declared.packet.Packet.{Packet}
-use Rattle.law_model.specs.declared.walk.Event.TheVariants.{Tick}
+use Rattle.member_cells.specs.declared.containers_and_cells.BackCell.{BackCell}
+use Rattle.law_model.specs.declared.control_packet.Packet.{Packet}
+use Rattle.law_model.specs.declared.walk_events.Event.TheVariants.{Tick}
 use Rattle.law_model.specs.session.Leg.{Leg}
 use Rattle.law_model.specs.session.Scenario.{packets_in, scenario_by}
 use Rattle.law_model.specs.packets.Telling.{untold, telling_at, passed_on}
@@ -22,14 +22,14 @@ use Rattle.law_walk.proofs.PlanLaws.{sound-walks}
 use Rattle.law_walk.proofs.ReturnLaws as return_laws
 use Rattle.terminal_group.specs.Inbox.{Inbox, cell_for, rest_for}
 use Rattle.terminal_group.specs.Source.{early_in, missing_by, missing_in}
-use Rattle.terminal_group.specs.declared.source.EarlyCause.TheVariants.{Held}
+use Rattle.terminal_group.specs.declared.group_source.EarlyCause.TheVariants.{Held}
 use Rattle.law_pair.specs.Pair.{way_of}
 use Rattle.law_pair.specs.PairCounts.{is_unsaid, ticked}
 use Rattle.law_pair.proofs.HeardLaws as heard_laws
 use Rattle.law_pair.proofs.LinkLaws.{says-told}
 use Rattle.law_pair.proofs.TickLaws.{IsFree, free-ticks}
-use Rattle.walk_engine.specs.declared.walk_core.moved.Moved.{Moved}
-use Rattle.walk_engine.specs.walk_core.Parts.{Parts, counts_of, Stands}
+use Rattle.walk_engine.specs.declared.walk_core.step_answers.Moved.{Moved}
+use Rattle.walk_engine.specs.walk_core.Parts.{Parts, counts_of, WayStands}
 use Rattle.walk_engine.specs.walk_core.Way.{Makes, IsTold, CanTick}
 use Rattle.walk_engine.proofs.WalkCoreLaws.TickLaws.{early-is}
 use Rattle.pair_engine.specs.declared.pair_way.PairWay.{PairWay}
@@ -94,7 +94,7 @@ module _ (own other : PairWay) (beside : AreBeside own other)
   abbrev ticks : ℕ
   ticks = own.core.source.core.ticks
 
-  abbrev is : Stands (way_of own.script other.script) (packets_in own.core.sink.taken) own.core
+  abbrev is : WayStands (way_of own.script other.script) (packets_in own.core.sink.taken) own.core
   is = beside.own_way.stands
 
   can : CanWalk (way_of own.script other.script)
@@ -283,7 +283,7 @@ module _ (own other : PairWay) (beside : AreBeside own other)
       said = left_untold (tells_next own.script.config.lag own.core.source.core.ticks) own.said;
     })
     tick-beside = record {
-      stands = subst (λ n. Stands leg (packets_in n) now) (sym tick-rows) makes.stands;
+      stands = subst (λ n. WayStands leg (packets_in n) now) (sym tick-rows) makes.stands;
       meets = meets-same other.script other.core.sink.taken own.script own.script own.core.sink.taken
           now.sink.taken (own.core.source.core.ticks + 1) now.source.core.ticks
           (left_untold (tells_next own.script.config.lag own.core.source.core.ticks) own.said)

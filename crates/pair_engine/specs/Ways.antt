@@ -1,6 +1,6 @@
 -- What a pair holds, by its scripts and its counts.
 use Rattle.std.specs.Prelude.{◌≡◌, ℕ, ◌*◌, ◌≤◌, []}
-use Rattle.law_model.specs.declared.script.Script.{Script}
+use Rattle.law_model.specs.declared.script_types.Script.{Script}
 use Rattle.law_model.specs.session.Leg.{Leg}
 use Rattle.law_model.specs.session.Scenario.{packets_in}
 use Rattle.law_model.specs.session.Counts.{Counts, begin, used_in}
@@ -9,7 +9,7 @@ use Rattle.terminal_group.specs.Inbox.{Inbox, empty_inbox}
 use Rattle.law_pair.specs.Pair.{IsPair, way_of}
 use Rattle.law_pair.specs.PairCounts.{PairCounts}
 use Rattle.law_pair.specs.PairWalk.{IsPairWalked}
-use Rattle.walk_engine.specs.walk_core.Parts.{Parts, counts_of, Stands}
+use Rattle.walk_engine.specs.walk_core.Parts.{Parts, counts_of, WayStands}
 use Rattle.pair_engine.specs.declared.pair_way.PairWay.{PairWay}
 use Rattle.pair_engine.specs.Said.{Said, untold_packets, HasHeard}
 
@@ -26,12 +26,12 @@ pair_counts there back = record { there = way_counts there; back = way_counts ba
 
 -- it stands for a leg
 abbrev pub StandsAs : Leg → PairWay → Type 0
-StandsAs leg own = Stands leg (packets_in own.core.sink.taken) own.core
+StandsAs leg own = WayStands leg (packets_in own.core.sink.taken) own.core
 
 -- ---- before any event
 -- the direction of a script, whatever the other script is
 pub record IsNewCore (script : Script) (core : Parts) : Type 0 where
-  pub stands : (other : Script) → Stands (way_of script other) 0 core
+  pub stands : (other : Script) → WayStands (way_of script other) 0 core
   pub counts : (other : Script) → counts_of core 0 ≡ begin (walk_plan (way_of script other))
   pub inbox : core.source.inbox ≡ empty_inbox [] (2 * script.config.lag)
 

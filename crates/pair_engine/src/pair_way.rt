@@ -1,7 +1,7 @@
 //! One way of a pair: its direction with its script, and what was said of it.
 
 ghost use Rattle.std.specs.Prelude.{◌≡◌, ◌<◌, ◌≤◌, None, IfOk};
-ghost use Rattle.law_model.specs.declared.script.Script.{Script};
+ghost use Rattle.law_model.specs.declared.script_types.Script.{Script};
 ghost use Rattle.law_model.specs.session.Counts.{carry};
 ghost use Rattle.law_pair.specs.Pair.{IsWay, way_of};
 ghost use Rattle.law_pair.specs.PairCounts.{land_item, done_at, held_at, full_at, missing_at};
@@ -13,8 +13,8 @@ ghost use Rattle.pair_engine.specs.Said.{tells_next, told_now, left_untold};
 ghost use Rattle.pair_engine.specs.Steps.{Goes, IsQuiet};
 ghost use Rattle.pair_engine.specs.Ways.{StandsAs, way_counts, IsNewCore, IsNewWay};
 
-use crate::item::{item_at, landed, next_item};
-use crate::said::SaidRing;
+use crate::next_items::{item_at, landed, next_item};
+use crate::said_packets::SaidRing;
 use law_model::{Script, StallCause};
 use member_rows::lcas_packet::Packet;
 use std::alloc::{AllocError, Global};

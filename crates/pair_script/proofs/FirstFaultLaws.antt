@@ -8,16 +8,16 @@ use Rattle.text_lines.specs.Fields.{where_true}
 use Rattle.text_lines.specs.Language.{said_by}
 use Rattle.text_lines.specs.FirstFault.{IsFirstFault}
 use Rattle.text_lines.proofs.FirstFaultLaws.{first_fault}
-use Rattle.law_model.specs.declared.script.Config.{Config}
-use Rattle.law_model.specs.declared.script.Script.{Script}
-use Rattle.text_scripts.specs.declared.script_read.fault.ScriptFault.{ScriptFault}
-use Rattle.text_scripts.specs.declared.script_read.fault.ScriptFault.TheVariants as script
+use Rattle.law_model.specs.declared.script_types.Config.{Config}
+use Rattle.law_model.specs.declared.script_types.Script.{Script}
+use Rattle.text_scripts.specs.declared.script_read.script_fault.ScriptFault.{ScriptFault}
+use Rattle.text_scripts.specs.declared.script_read.script_fault.ScriptFault.TheVariants as script
 use Rattle.text_scripts.specs.script_read.Script.{config_fault}
 use Rattle.text_scripts.proofs.ScriptReadLaws.FirstFaultLaws.{no_line}
-use Rattle.pair_script.specs.declared.pair.PairFault.{PairFault}
-use Rattle.pair_script.specs.declared.pair.PairFault.TheVariants as fault
-use Rattle.pair_script.specs.declared.pair.ScriptPair.{ScriptPair}
-use Rattle.pair_script.specs.Lines.{Halves, HalfFault, of_script, no_division, nothing_said, pair_lines}
+use Rattle.pair_script.specs.declared.script_pair.PairFault.{PairFault}
+use Rattle.pair_script.specs.declared.script_pair.PairFault.TheVariants as fault
+use Rattle.pair_script.specs.declared.script_pair.ScriptPair.{ScriptPair}
+use Rattle.pair_script.specs.PairTextLines.{Halves, HalfFault, of_script, no_division, nothing_said, pair_lines}
 use Rattle.pair_script.specs.Pair.{fault_at, fit_fault, limits_fault, pair_in, pair_unless, pair_of_halves, pair_of}
 
 -- ---- the tests of scripts as a whole tell no line

@@ -8,21 +8,21 @@ use Rattle.std.specs.Str.Lines.{lines}
 use Rattle.text_lines.specs.Words.{words}
 use Rattle.text_lines.specs.Language.{said_from, said_by}
 use Rattle.text_lines.proofs.LanguageLaws.{line_faulty, line_sound, end_missing, end_sound}
-use Rattle.law_model.specs.declared.script.Script.{Script}
-use Rattle.text_scripts.specs.declared.script_read.draft.Draft.{Draft}
-use Rattle.text_scripts.specs.declared.script_read.fault.LineFault.{LineFault}
-use Rattle.text_scripts.specs.declared.script_read.fault.ScriptFault.{ScriptFault}
-use Rattle.text_scripts.specs.declared.script_read.fault.ScriptFault.TheVariants as script
+use Rattle.law_model.specs.declared.script_types.Script.{Script}
+use Rattle.text_scripts.specs.declared.script_read.script_draft.Draft.{Draft}
+use Rattle.text_scripts.specs.declared.script_read.script_fault.LineFault.{LineFault}
+use Rattle.text_scripts.specs.declared.script_read.script_fault.ScriptFault.{ScriptFault}
+use Rattle.text_scripts.specs.declared.script_read.script_fault.ScriptFault.TheVariants as script
 use Rattle.text_scripts.specs.script_read.Statements.{words_fault, words_said, after, at_first}
 use Rattle.text_scripts.specs.script_read.Script.{missing_line, script_in}
 use Rattle.text_scripts.specs.script_read.Pieces.{IsAt, IsToldAt, next_number, drafted}
-use Rattle.text_scripts.specs.declared.script_read.pieces.ScriptReader.{ScriptReader}
-use Rattle.pair_script.specs.declared.pair.PairFault.{PairFault}
-use Rattle.pair_script.specs.declared.pair.PairFault.TheVariants as fault
-use Rattle.pair_script.specs.declared.pair.ScriptPair.{ScriptPair}
-use Rattle.pair_script.specs.declared.reader.PairReader.{PairReader}
-use Rattle.pair_script.specs.Lines.{Halves, HalfFault, of_script, no_division, half_fault, half_after}
-use Rattle.pair_script.specs.Lines.{divides, divided, half_missing, pair_lines}
+use Rattle.text_scripts.specs.declared.script_read.script_reader.ScriptReader.{ScriptReader}
+use Rattle.pair_script.specs.declared.script_pair.PairFault.{PairFault}
+use Rattle.pair_script.specs.declared.script_pair.PairFault.TheVariants as fault
+use Rattle.pair_script.specs.declared.script_pair.ScriptPair.{ScriptPair}
+use Rattle.pair_script.specs.declared.pair_reader.PairReader.{PairReader}
+use Rattle.pair_script.specs.PairTextLines.{Halves, HalfFault, of_script, no_division, half_fault, half_after}
+use Rattle.pair_script.specs.PairTextLines.{divides, divided, half_missing, pair_lines}
 use Rattle.pair_script.specs.Pair.{pair_of_halves, pair_in, pair_unless, limits_fault}
 use Rattle.pair_script.specs.Pieces.{no_memory, line_at, halves_of, said_after, IsPairAt, IsPairToldAt}
 

@@ -1,14 +1,14 @@
 -- A reader of two scripts as any reader of a text in pieces.
 use Rattle.std.proofs.Common.{◌≡◌, ◌≢◌, ◌⊎◌, ℕ, List, length, length-append, refl, ap, inl, inr, Result, Ok, Err, arith}
-use Rattle.text_scripts.specs.declared.script_read.fault.ScriptFault.TheVariants.{Line, Slip, Spread, Lag, Memory}
-use Rattle.command_parts.specs.declared.stop.Stop.{Stop}
-use Rattle.command_parts.specs.declared.stop.Stop.TheVariants as stop
-use Rattle.command_parts.specs.Pieces.{StopsAt, Follows, HasRoom}
+use Rattle.text_scripts.specs.declared.script_read.script_fault.ScriptFault.TheVariants.{Line, Slip, Spread, Lag, Memory}
+use Rattle.command_parts.specs.declared.stop_and_status.Stop.{Stop}
+use Rattle.command_parts.specs.declared.stop_and_status.Stop.TheVariants as stop
+use Rattle.command_parts.specs.Pieces.{StopsAt, Follows, HasNumbersLeft}
 use Rattle.command_parts.proofs.StopLaws.{stops_as, stops_short}
-use Rattle.pair_script.specs.declared.pair.PairFault.{PairFault}
-use Rattle.pair_script.specs.declared.pair.PairFault.TheVariants as fault
-use Rattle.pair_script.specs.declared.pair.ScriptPair.{ScriptPair}
-use Rattle.pair_script.specs.declared.reader.PairReader.{PairReader}
+use Rattle.pair_script.specs.declared.script_pair.PairFault.{PairFault}
+use Rattle.pair_script.specs.declared.script_pair.PairFault.TheVariants as fault
+use Rattle.pair_script.specs.declared.script_pair.ScriptPair.{ScriptPair}
+use Rattle.pair_script.specs.declared.pair_reader.PairReader.{PairReader}
 use Rattle.pair_script.specs.Faults.{pair_why, pair_fault_text}
 use Rattle.pair_script.specs.Pieces.{no_memory, FollowsIn, HasPairRoom}
 use Rattle.pair_script.specs.Inputs.{pair_told, IsPairRefused, ReadsPair}
@@ -17,7 +17,7 @@ pub as_pair : (reader : PairReader) (rest all : List ℕ) → Follows ReadsPair 
     FollowsIn reader rest all
 as_pair reader rest all follows = record { text = follows.text; is = follows.is; stands = follows.reads.stands }
 
-pub room_for : (reader : PairReader) (rest : List ℕ) → HasRoom ReadsPair reader rest → HasPairRoom reader (length rest)
+pub room_for : (reader : PairReader) (rest : List ℕ) → HasNumbersLeft ReadsPair reader rest → HasPairRoom reader (length rest)
 room_for reader rest has =
     let it = has.follows in
     omega (arith, has.fits, it.reads.stands.count, ap (λ (t : List ℕ). length t) it.is, length-append it.text rest)

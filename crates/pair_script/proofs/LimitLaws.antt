@@ -6,13 +6,13 @@ use Rattle.std.specs.Option.{option_or}
 use Rattle.std.proofs.lemmas.Bool.{not-false, eqb-true, ltb-false}
 use Rattle.text_lines.specs.Fields.{where_true}
 use Rattle.text_lines.proofs.FieldLaws.{or_none, where_none, map_none}
-use Rattle.law_model.specs.declared.script.Script.{Script}
+use Rattle.law_model.specs.declared.script_types.Script.{Script}
 use Rattle.text_scripts.specs.script_read.Script.{config_fault}
 use Rattle.text_scripts.specs.script_read.Pieces.{IsUntested}
 use Rattle.law_pair.specs.Pair.{IsPair}
-use Rattle.pair_script.specs.declared.pair.PairFault.{PairFault}
-use Rattle.pair_script.specs.declared.pair.PairFault.TheVariants as fault
-use Rattle.pair_script.specs.declared.pair.ScriptPair.{ScriptPair}
+use Rattle.pair_script.specs.declared.script_pair.PairFault.{PairFault}
+use Rattle.pair_script.specs.declared.script_pair.PairFault.TheVariants as fault
+use Rattle.pair_script.specs.declared.script_pair.ScriptPair.{ScriptPair}
 use Rattle.pair_script.specs.Pair.{fit_fault, limits_fault}
 
 neither : (a b : Bool) → (a || b) ≡ false → (a ≡ false) × (b ≡ false)

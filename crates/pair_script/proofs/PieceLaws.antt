@@ -10,10 +10,10 @@ use Rattle.text_lines.specs.Cut.{Lacks}
 use Rattle.text_lines.specs.Words.{words}
 use Rattle.text_lines.specs.Language.{said_by}
 use Rattle.text_lines.proofs.TextLaws.{lines_last}
-use Rattle.pair_script.specs.declared.pair.PairFault.{PairFault}
-use Rattle.pair_script.specs.declared.pair.ScriptPair.{ScriptPair}
-use Rattle.pair_script.specs.declared.reader.PairReader.{PairReader}
-use Rattle.pair_script.specs.Lines.{half_fault, half_after, pair_lines}
+use Rattle.pair_script.specs.declared.script_pair.PairFault.{PairFault}
+use Rattle.pair_script.specs.declared.script_pair.ScriptPair.{ScriptPair}
+use Rattle.pair_script.specs.declared.pair_reader.PairReader.{PairReader}
+use Rattle.pair_script.specs.PairTextLines.{half_fault, half_after, pair_lines}
 use Rattle.pair_script.specs.Pair.{pair_of, pair_of_halves}
 use Rattle.pair_script.specs.Pieces.{no_memory, line_at, halves_of, said_after, IsPairAt, IsPairToldAt}
 use Rattle.pair_script.specs.Pieces.{StandsAt, FollowsIn}

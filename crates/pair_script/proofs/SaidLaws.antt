@@ -12,9 +12,9 @@ use Rattle.text_lines.specs.FirstFault.{AreSound}
 use Rattle.text_lines.proofs.FieldLaws.{or_none, where_none, map_none}
 use Rattle.text_lines.proofs.FirstFaultLaws.{all_said}
 use Rattle.text_lines.proofs.TextLaws.{lines_few}
-use Rattle.law_model.specs.declared.script.Script.{Script}
+use Rattle.law_model.specs.declared.script_types.Script.{Script}
 use Rattle.law_pair.specs.Pair.{IsPair}
-use Rattle.text_scripts.specs.declared.script_read.draft.Draft.{Draft}
+use Rattle.text_scripts.specs.declared.script_read.script_draft.Draft.{Draft}
 use Rattle.text_scripts.specs.script_read.Statements.{words_fault, words_said, after, at_first}
 use Rattle.text_scripts.specs.script_read.Drafts.{IsDraft}
 use Rattle.text_scripts.specs.script_read.Pieces.{IsUntested}
@@ -23,10 +23,10 @@ use Rattle.text_scripts.proofs.ScriptReadLaws.DraftLaws.{whole_config}
 use Rattle.text_scripts.proofs.ScriptReadLaws.FitLaws.{fits_words}
 use Rattle.text_scripts.proofs.ScriptReadLaws.GrowthLaws.{IsDraft-first, IsDraft-after, items_after}
 use Rattle.text_scripts.proofs.ScriptReadLaws.ValidLaws.{IsUntested-draft}
-use Rattle.pair_script.specs.declared.pair.PairFault.{PairFault}
-use Rattle.pair_script.specs.declared.pair.ScriptPair.{ScriptPair}
-use Rattle.pair_script.specs.Lines.{Halves, HalfFault, of_script, no_division, divides, divided, half_fault, half_after}
-use Rattle.pair_script.specs.Lines.{half_missing, nothing_said, pair_lines}
+use Rattle.pair_script.specs.declared.script_pair.PairFault.{PairFault}
+use Rattle.pair_script.specs.declared.script_pair.ScriptPair.{ScriptPair}
+use Rattle.pair_script.specs.PairTextLines.{Halves, HalfFault, of_script, no_division, divides, divided, half_fault, half_after}
+use Rattle.pair_script.specs.PairTextLines.{half_missing, nothing_said, pair_lines}
 use Rattle.pair_script.specs.Pair.{limits_fault, pair_in, pair_unless, pair_of_halves, pair_of}
 use Rattle.pair_script.proofs.HalfLaws.{divide_fault, divide_after, plain_fault, plain_after}
 use Rattle.pair_script.proofs.LimitLaws.{pair_fits}

@@ -1,11 +1,11 @@
 -- The notes on what is wrong with two scripts, and the status of each.
 use Rattle.std.specs.Prelude.{ℕ, List, ◌++◌, codes, decimal}
-use Rattle.text_lines.specs.declared.fault.LineKind.TheVariants.{Missing}
-use Rattle.command_parts.specs.declared.stop.Refusal.{Refusal}
-use Rattle.command_parts.specs.declared.stop.Refusal.TheVariants as why
+use Rattle.text_lines.specs.declared.field_fault.LineKind.TheVariants.{Missing}
+use Rattle.command_parts.specs.declared.stop_and_status.Refusal.{Refusal}
+use Rattle.command_parts.specs.declared.stop_and_status.Refusal.TheVariants as why
 use Rattle.command_parts.specs.Faults.{line_text, fault_text, why_of}
-use Rattle.pair_script.specs.declared.pair.PairFault.{PairFault}
-use Rattle.pair_script.specs.declared.pair.PairFault.TheVariants.{Script, Undivided, Lost, Events, Lag, Ticks}
+use Rattle.pair_script.specs.declared.script_pair.PairFault.{PairFault}
+use Rattle.pair_script.specs.declared.script_pair.PairFault.TheVariants.{Script, Undivided, Lost, Events, Lag, Ticks}
 
 -- what is said of how to write a text that no line divides
 abbrev pub division_help : List ℕ

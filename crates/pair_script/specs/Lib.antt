@@ -1,4 +1,4 @@
-pub mod Lines
+pub mod PairTextLines
 pub mod Pair
 pub mod Faults
 pub mod Pieces

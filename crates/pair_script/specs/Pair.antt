@@ -4,14 +4,14 @@ use Rattle.std.specs.Prelude.{unwrap_or}
 use Rattle.std.specs.Option.{option_or}
 use Rattle.text_lines.specs.Fields.{where_true}
 use Rattle.text_lines.specs.Language.{said_by}
-use Rattle.law_model.specs.declared.script.Script.{Script}
-use Rattle.text_scripts.specs.declared.script_read.fault.ScriptFault.TheVariants.{Line}
+use Rattle.law_model.specs.declared.script_types.Script.{Script}
+use Rattle.text_scripts.specs.declared.script_read.script_fault.ScriptFault.TheVariants.{Line}
 use Rattle.text_scripts.specs.script_read.Statements.{at_first}
 use Rattle.text_scripts.specs.script_read.Script.{script_in, config_fault}
-use Rattle.pair_script.specs.declared.pair.ScriptPair.{ScriptPair}
-use Rattle.pair_script.specs.declared.pair.PairFault.{PairFault}
-use Rattle.pair_script.specs.declared.pair.PairFault.TheVariants as fault
-use Rattle.pair_script.specs.Lines.{Halves, HalfFault, of_script, no_division, pair_lines}
+use Rattle.pair_script.specs.declared.script_pair.ScriptPair.{ScriptPair}
+use Rattle.pair_script.specs.declared.script_pair.PairFault.{PairFault}
+use Rattle.pair_script.specs.declared.script_pair.PairFault.TheVariants as fault
+use Rattle.pair_script.specs.PairTextLines.{Halves, HalfFault, of_script, no_division, pair_lines}
 
 -- ---- the tests of two scripts all of whose lines are right
 -- of both together: neither loses return packets by itself or has event lines, and lags and ticks are the same

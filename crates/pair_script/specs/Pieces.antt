@@ -2,13 +2,13 @@
 use Rattle.std.specs.Prelude.{◌≡◌, ℕ, ◌+◌, ◌≤◌, List, ◌++◌, length, Option, Some, IfSome, Result}
 use Rattle.std.specs.Str.Lines.{lines}
 use Rattle.text_lines.specs.Language.{said_from, said_by}
-use Rattle.text_scripts.specs.declared.script_read.fault.ScriptFault.TheVariants.{Memory}
+use Rattle.text_scripts.specs.declared.script_read.script_fault.ScriptFault.TheVariants.{Memory}
 use Rattle.text_scripts.specs.script_read.Pieces.{IsReader, IsUntested, next_number, drafted}
 use Rattle.law_model.specs.Limits.{longest_input}
-use Rattle.pair_script.specs.declared.pair.PairFault.{PairFault}
-use Rattle.pair_script.specs.declared.pair.PairFault.TheVariants.{Script}
-use Rattle.pair_script.specs.declared.reader.PairReader.{PairReader}
-use Rattle.pair_script.specs.Lines.{Halves, HalfFault, pair_lines}
+use Rattle.pair_script.specs.declared.script_pair.PairFault.{PairFault}
+use Rattle.pair_script.specs.declared.script_pair.PairFault.TheVariants.{Script}
+use Rattle.pair_script.specs.declared.pair_reader.PairReader.{PairReader}
+use Rattle.pair_script.specs.PairTextLines.{Halves, HalfFault, pair_lines}
 use Rattle.pair_script.specs.Pair.{fault_at}
 
 -- memory was short

@@ -6,14 +6,14 @@
 //! scripts says a pair.
 #![tactic(auto)]
 
-mod laws;
-mod limits;
-mod note;
-mod pair;
-mod read;
-mod reader;
+mod pair_script_laws;
+mod pair_limits;
+mod pair_fault_note;
+mod script_pair;
+mod read_pair_pieces;
+mod pair_reader;
 
-pub use laws::{fault_law, valid_law};
-pub use pair::{PairFault, ScriptPair};
-pub use read::read_pair;
-pub use reader::PairReader;
+pub use pair_script_laws::{fault_law, valid_law};
+pub use script_pair::{PairFault, ScriptPair};
+pub use read_pair_pieces::read_pair;
+pub use pair_reader::PairReader;

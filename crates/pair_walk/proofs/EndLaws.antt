@@ -3,17 +3,17 @@ use Rattle.std.proofs.Common.{◌≡◌, ℕ, ◌+◌, ◌-◌, ◌≤◌, Bool,
 use Rattle.std.proofs.Common.{Option, refl, sym, ◌∙◌, ap, subst, arith, append_assoc, append-nil, inl, inr, Result, Ok}
 use Rattle.std.proofs.Common.{Err, OnOk, OnErr}
 use Rattle.std.proofs.lemmas.Grind.{flat_map-append}
-use Rattle.base_io.specs.Start.{Start}
-use Rattle.base_io.specs.Transfer.{Appends}
-use Rattle.base_io.proofs.Parts.{AppendsPart-longer}
+use Rattle.octet_io.specs.Start.{Start}
+use Rattle.octet_io.specs.Transfer.{Appends}
+use Rattle.octet_io.proofs.Parts.{AppendsPart-longer}
 use Rattle.law_model.specs.session.Leg.{Leg}
 use Rattle.law_model.specs.rows.SessionStream.{rows_of}
 use Rattle.law_model.specs.frames.Segment.{segments_on}
 use Rattle.law_model.specs.frames.Run.{delineate_within}
 use Rattle.law_model.specs.frames.Hunt.{hunt_within}
 use Rattle.law_model.specs.session.Counts.{Counts}
-use Rattle.law_model.specs.declared.refusal.Refusal.{Refusal}
-use Rattle.law_model.specs.declared.totals.Totals.{Totals}
+use Rattle.law_model.specs.declared.item_refusals.Refusal.{Refusal}
+use Rattle.law_model.specs.declared.session_totals.Totals.{Totals}
 use Rattle.text_report.specs.Report.{got_text, got_texts, refused_texts, total_text}
 use Rattle.law_walk.specs.Delivered.{delivered_of}
 use Rattle.law_walk.specs.Landed.{refusals_among, refusals_of, totals_among, totals_of}
@@ -21,10 +21,10 @@ use Rattle.law_walk.specs.Promise.{numbered}
 use Rattle.law_walk.specs.Report.{report_of, final_report}
 use Rattle.law_walk.proofs.FrameLaws.{frames-grow}
 use Rattle.walk_engine.specs.walk_core.Moved.{delivered_since, GivesRows}
-use Rattle.text_got.specs.declared.got.GotLines.{GotLines}
+use Rattle.text_got.specs.declared.got_text.GotLines.{GotLines}
 use Rattle.text_got.specs.Told.{AppendsSome, GivesUp, HasText, has_failed, name_of, start_at}
-use Rattle.law_pair.specs.declared.pair.Way.{Way}
-use Rattle.law_pair.specs.declared.pair.Way.TheVariants.{There, Back}
+use Rattle.law_pair.specs.declared.pair_events.Way.{Way}
+use Rattle.law_pair.specs.declared.pair_events.Way.TheVariants.{There, Back}
 use Rattle.law_pair.specs.Pair.{IsPair}
 use Rattle.law_pair.specs.PairCounts.{PairCounts, counts_on, pair_begin}
 use Rattle.law_pair.specs.PairWalk.{pair_drained, IsPairWalked}

@@ -3,16 +3,16 @@
 //! the reports of the two ways tell.
 #![tactic(auto)]
 
-mod run;
+mod pair_report;
 
 ghost use Rattle.std.specs.Prelude.{◌≡◌, ℕ, ◌≤◌, List, length, Ok};
 ghost use Rattle.law_model.specs.Limits.{longest_input};
-ghost use Rattle.pair_script.specs.declared.pair.ScriptPair.{ScriptPair};
+ghost use Rattle.pair_script.specs.declared.script_pair.ScriptPair.{ScriptPair};
 ghost use Rattle.pair_script.specs.Pair.{pair_of};
 ghost use Rattle.pair_walk.specs.Text.{way_text};
 ghost use Rattle.pair_walk.specs.Headline.{IsPairHeadline};
 
-pub use run::write_pair;
+pub use pair_report::write_pair;
 
 /// Of each text of at most 67,108,864 octets that says two scripts, the report of the way there has the got lines of
 /// just those accepted frames of the first script that the rows carry whole and that aren't lost to a failure of its

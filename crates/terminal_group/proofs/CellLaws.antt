@@ -6,7 +6,7 @@ use Rattle.std.specs.Option.{is_some}
 use Rattle.std.proofs.lemmas.Bool.{cases_Bool}
 use Rattle.std.proofs.lemmas.List.{map-append, take-append-le, drop-append-le, length-append, length-map, drop-drop}
 use Rattle.std.proofs.lemmas.Option.{slice_get-map, slice_get_within}
-use Rattle.base_cells.specs.declared.BackCell.{BackCell}
+use Rattle.member_cells.specs.declared.containers_and_cells.BackCell.{BackCell}
 use Rattle.law_model.specs.packets.Told.{told_in}
 use Rattle.law_model.specs.session.Counts.{used_in}
 use Rattle.terminal_source.specs.source_core.Terminal.{needed_at}

@@ -5,12 +5,12 @@ use Rattle.std.proofs.Common.{refl, sym, ◌∙◌, ap, subst, arith}
 use Rattle.std.proofs.lemmas.List.{length-map, length-drop, get_or-drop}
 use Rattle.std.proofs.lemmas.Option.{slice_get-map, slice_get-get_or}
 use Rattle.law_line.proofs.ListLaws.{take-next}
-use Rattle.law_model.specs.declared.script.Item.{Item}
-use Rattle.law_model.specs.declared.script.ItemKind.{ItemKind}
-use Rattle.law_model.specs.declared.script.ItemKind.TheVariants.{Frame, Add, Remove}
+use Rattle.law_model.specs.declared.script_types.Item.{Item}
+use Rattle.law_model.specs.declared.script_types.ItemKind.{ItemKind}
+use Rattle.law_model.specs.declared.script_types.ItemKind.TheVariants.{Frame, Add, Remove}
 use Rattle.law_model.specs.session.Leg.{Leg}
-use Rattle.law_model.specs.declared.table.Command.{Command}
-use Rattle.law_model.specs.declared.table.Command.TheVariants.{Add as add, Remove as remove}
+use Rattle.law_model.specs.declared.lcas_states.Command.{Command}
+use Rattle.law_model.specs.declared.lcas_states.Command.TheVariants.{Add as add, Remove as remove}
 use Rattle.law_model.specs.session.Scenario.{DueCommand, DueFrame, order_of, orders_of, offers_of}
 use Rattle.law_model.specs.session.Scenario.{scenario_by, steps_in, lands_at, comes_at}
 use Rattle.law_model.specs.source.Source.{Source, asked_all, refusal}
@@ -20,10 +20,10 @@ use Rattle.law_model.specs.source.Journal.{with_items}
 use Rattle.law_model.specs.session.Counts.{Counts, dues_of, frame_dues, command_dues}
 use Rattle.law_model.specs.source.Table.{Told}
 use Rattle.law_session.proofs.AlikeLaws.{Alike, alike-after, alike-stream}
-use Rattle.law_model.specs.declared.refusal.Refusal.{Refusal}
-use Rattle.law_model.specs.declared.refusal.Refusal.TheVariants.{Frame as frame_refused, Command as command_refused}
+use Rattle.law_model.specs.declared.item_refusals.Refusal.{Refusal}
+use Rattle.law_model.specs.declared.item_refusals.Refusal.TheVariants.{Frame as frame_refused, Command as command_refused}
 use Rattle.terminal_source.specs.source_core.Terminal.{Terminal}
-use Rattle.terminal_source.specs.source_core.Given.{with_command, Stands as HasMade}
+use Rattle.terminal_source.specs.source_core.Given.{with_command, SourceStands as HasMade}
 use Rattle.terminal_source.proofs.SourceCoreLaws.LandedLaws.{alike-landed, first-alike}
 use Rattle.law_walk.specs.Landed.{Numbered, landed_items, landed_scenario, is_client, kind_refusal, source_met}
 use Rattle.law_walk.specs.Landed.{IsOfferAt, IsOrderAt}

@@ -2,9 +2,9 @@
 use Rattle.std.proofs.Common.{◌≡◌, ℕ, ◌<◌, ◌≤◌, nat_le, Bool, true, false, if◌then◌else◌, List, [], ◌∷◌, Option, Some}
 use Rattle.std.proofs.Common.{None, option_map, refl}
 use Rattle.std.proofs.lemmas.Bool.{leb-true, leb-false}
-use Rattle.base_cells.specs.declared.BackCell.{BackCell}
-use Rattle.terminal_group.specs.declared.source.EarlyCause.{EarlyCause}
-use Rattle.terminal_group.specs.declared.source.EarlyCause.TheVariants.{Done, Held}
+use Rattle.member_cells.specs.declared.containers_and_cells.BackCell.{BackCell}
+use Rattle.terminal_group.specs.declared.group_source.EarlyCause.{EarlyCause}
+use Rattle.terminal_group.specs.declared.group_source.EarlyCause.TheVariants.{Done, Held}
 use Rattle.terminal_group.specs.Source.{Source, held_in, early_in, missing_by}
 
 -- the first of the two causes

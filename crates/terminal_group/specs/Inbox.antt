@@ -3,8 +3,8 @@ use Rattle.std.specs.Prelude.{◌≡◌, ℕ, suc, ◌+◌, ◌≤◌, Bool, tru
 use Rattle.std.specs.Prelude.{drop, take, length, slice_get, if◌then◌else◌, Option, None}
 use Rattle.std.specs.List.{list_any}
 use Rattle.std.specs.Option.{is_some}
-use Rattle.base_cells.specs.declared.BackCell.{BackCell}
-use Rattle.base_cells.specs.declared.BackCell.TheVariants.{Lost}
+use Rattle.member_cells.specs.declared.containers_and_cells.BackCell.{BackCell}
+use Rattle.member_cells.specs.declared.containers_and_cells.BackCell.TheVariants.{Lost}
 use Rattle.law_model.specs.source.Table.{Told}
 use Rattle.law_model.specs.packets.Told.{told_in}
 use Rattle.law_model.specs.session.Counts.{used_in}

@@ -4,16 +4,16 @@
 //! frames go, and when an engine ticks, is not said here.
 #![tactic(auto)]
 
-mod inbox;
-mod item;
-mod items;
-mod landing;
-mod laws;
-mod source;
+mod return_inbox;
+mod item_ref;
+mod due_items;
+mod landed_items;
+mod group_laws;
+mod group_source;
 
-pub use inbox::Inbox;
-pub use item::{ItemRef, handed};
-pub use items::{held_item, next_command, next_frame};
-pub use landing::Landing;
-pub use laws::source_law;
-pub use source::{EarlyCause, GroupSource};
+pub use return_inbox::Inbox;
+pub use item_ref::{ItemRef, handed};
+pub use due_items::{held_item, next_command, next_frame};
+pub use landed_items::Landing;
+pub use group_laws::source_law;
+pub use group_source::{EarlyCause, GroupSource};

@@ -1,3 +1,3 @@
 pub mod LcasSinkLaws
-pub mod GfpMarkLaws
+pub mod MarkedDelineatorLaws
 pub mod SinkCoreLaws

@@ -1,3 +1,3 @@
 pub mod lcas_sink
-pub mod gfp_mark
+pub mod marked_delineator
 pub mod sink_core

@@ -7,9 +7,9 @@ ghost use Rattle.std.specs.Prelude.{◌≡◌, ℕ, ◌+◌, ◌*◌, ◌<◌, �
 ghost use Rattle.std.specs.Prelude.{Option};
 ghost use Rattle.law_model.specs.packets.ReturnPacket.{Row, leader, ack_by, is_member, says_at, status_of, mst_of};
 ghost use Rattle.law_model.specs.packets.ReturnPacket.{return_of, state_next, sink_state};
-ghost use Rattle.terminal_sink.specs.lcas_sink.Stands.{Stands, state_at, state_after};
+ghost use Rattle.terminal_sink.specs.lcas_sink.SinkStates.{SinkTableStands, state_at, state_after};
 
-use base_cells::Ctrl;
+use member_cells::Ctrl;
 use law_model::Packet;
 pub use law_model::SinkState;
 use std::marker::Model;
@@ -30,8 +30,8 @@ pub struct SinkTable {
 
 impl Model for SinkTable {
     ghost use Rattle.std.specs.Prelude.{◌≡◌, ◌≤◌, ℕ};
-    ghost use Rattle.law_model.specs.declared.table.SinkState.TheVariants.{Idle};
-    ghost use Rattle.terminal_sink.specs.lcas_sink.Stands.{Sink, state_at};
+    ghost use Rattle.law_model.specs.declared.lcas_states.SinkState.TheVariants.{Idle};
+    ghost use Rattle.terminal_sink.specs.lcas_sink.SinkStates.{Sink, state_at};
 
     ghost Value = { Sink };
 
@@ -47,7 +47,7 @@ impl SinkTable {
     pub fn new(lines: u8) -> SinkTable
         requires { lines ≤ 128 }
         ensures lines { result.lines ≡ lines }
-        ensures stands { Stands result [] }
+        ensures stands { SinkTableStands result [] }
     {
         SinkTable {
             lines,
@@ -65,13 +65,13 @@ impl SinkTable {
         requires lines { length row.now ≡ self.old.lines }
         ensures lines { self.new.lines ≡ self.old.lines }
         ensures taken { self.new.taken ≡ self.old.taken + 1 }
-        ensures stands { (rows : List Row) → Stands self.old rows →
-            Stands self.new (rows ++ row.now ∷ []) }
-        ensures packet { (rows : List Row) → Stands self.old rows →
+        ensures stands { (rows : List Row) → SinkTableStands self.old rows →
+            SinkTableStands self.new (rows ++ row.now ∷ []) }
+        ensures packet { (rows : List Row) → SinkTableStands self.old rows →
             result ≡ return_of (rows ++ row.now ∷ []) (length rows) }
     {
         self.ack = ack_after(self.ack, row);
-        take_row(&mut self.states, row);
+        take_packets(&mut self.states, row);
         let group = (self.taken % 16) as u8;
         self.taken += 1;
         Packet {
@@ -89,7 +89,7 @@ impl SinkTable {
     /// The state of a line: idle at first and after a packet that says IDLE; fine after another packet;
     /// failed where its packet could not be read, unless it is idle.
     pub fn state(&self, line: u8) -> SinkState
-        ensures { (rows : List Row) → Stands self.now rows → result ≡ sink_state rows line }
+        ensures { (rows : List Row) → SinkTableStands self.now rows → result ≡ sink_state rows line }
     {
         if usize::from(line) < LINES {
             self.states[usize::from(line)]
@@ -135,7 +135,7 @@ fn leader(row: &[Option<Packet>]) -> Option<Packet>
 }
 
 /// Goes on with the state of each line of a row.
-fn take_row(states: &mut [SinkState], row: &[Option<Packet>])
+fn take_packets(states: &mut [SinkState], row: &[Option<Packet>])
     requires { length row.now ≤ length states.old }
     ensures { (line : ℕ) → state_at states.new line ≡ state_after states.old row.now line }
 {

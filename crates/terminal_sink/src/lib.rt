@@ -1,16 +1,16 @@
 //! The sink terminal of a group (G.707, G.7041, G.7042): it takes the rows of its lines one by one, gives the
 //! frames that come through, and says the return packets. How rows are made of the cells of lines is in
-//! `member_rows`. Begin with `sink_core::SinkCore`; `lcas_sink` is what it tells the source, `gfp_mark` its
+//! `member_rows`. Begin with `sink_core::SinkCore`; `lcas_sink` is what it tells the source, `marked_delineator` its
 //! receiver.
 //!
 //! - `lcas_sink`: the sink's side of LCAS (G.7042): what it tells the source of the control packets that it
 //!   read.
-//! - `gfp_mark`: the receiver of a stream of GFP frames (G.7041) that also tells of each segment which place
+//! - `marked_delineator`: the receiver of a stream of GFP frames (G.7041) that also tells of each segment which place
 //!   was confirmed first in it: its mark.
 //! - `sink_core`: the sink terminal of a group: it takes the rows of its lines one by one, gives the frames
 //!   that come through, and says the return packets (G.707, G.7041, G.7042).
 #![tactic(auto)]
 
-pub mod gfp_mark;
+pub mod marked_delineator;
 pub mod lcas_sink;
 pub mod sink_core;

@@ -3,12 +3,12 @@
 #![tactic(auto)]
 
 #[cfg(test)]
-mod packets;
+mod control_packets;
 #[cfg(test)]
-mod sink;
+mod sink_groups;
 #[cfg(test)]
 mod sink_table;
 #[cfg(test)]
-mod source;
+mod source_terminal;
 #[cfg(test)]
 mod source_table;

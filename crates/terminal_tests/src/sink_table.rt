@@ -2,7 +2,7 @@
 
 ghost use Rattle.std.specs.Prelude.{◌≡◌, ◌+◌, ◌≤◌};
 
-use base_cells::Ctrl;
+use member_cells::Ctrl;
 use law_model::Packet;
 use terminal_sink::lcas_sink::{SinkState, SinkTable};
 

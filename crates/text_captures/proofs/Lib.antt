@@ -1,2 +1,2 @@
 pub mod CaptureFileLaws
-pub mod TraceCoreLaws
+pub mod PacketTraceLaws

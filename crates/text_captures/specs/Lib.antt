@@ -1,2 +1,2 @@
 pub mod capture_file
-pub mod trace_core
+pub mod packet_trace

@@ -1,8 +1,8 @@
 -- What is written so far of a text by a `LentGotLines`, whose block is lent.
 use Rattle.std.specs.Prelude.{◌≡◌, ℕ, List, Option}
-use Rattle.base_io.specs.Start.{Start}
+use Rattle.octet_io.specs.Start.{Start}
 use Rattle.text_got.specs.Told.{WritesOrWaits, seen, told_of}
-use Rattle.text_got.specs.declared.over.LentGotLines.{LentGotLines}
+use Rattle.text_got.specs.declared.lent_got_text.LentGotLines.{LentGotLines}
 
 -- by which reference it writes
 abbrev pub name_of : {K : Type 0} → LentGotLines K → ℕ

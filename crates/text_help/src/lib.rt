@@ -4,6 +4,6 @@
 //! output here. What a language alone has to say stands with its commands. Begin with `field_help`.
 #![tactic(auto)]
 
-mod help;
+mod field_helps;
 
-pub use help::{count_help, field_help, missing_help, number_help, order_help};
+pub use field_helps::{count_help, field_help, missing_help, number_help, order_help};

@@ -5,12 +5,12 @@ use Rattle.std.specs.Option.{option_or}
 use Rattle.std.specs.List.{list_any}
 use Rattle.hex.specs.Hex.{decode_of}
 use Rattle.hex.specs.declared.error.FromHexError.{FromHexError}
-use Rattle.text_lines.specs.declared.fault.LineKind.{LineKind}
-use Rattle.text_lines.specs.declared.fault.LineKind.TheVariants as kind
-use Rattle.text_lines.specs.declared.fault.FieldFault.{FieldFault}
-use Rattle.text_lines.specs.declared.fault.FieldFault.TheVariants.{Number, Hex, Range, Size, Name}
-use Rattle.text_lines.specs.declared.fault.FieldStop.{FieldStop}
-use Rattle.text_lines.specs.declared.fault.FieldStop.TheVariants as stop
+use Rattle.text_lines.specs.declared.field_fault.LineKind.{LineKind}
+use Rattle.text_lines.specs.declared.field_fault.LineKind.TheVariants as kind
+use Rattle.text_lines.specs.declared.field_fault.FieldFault.{FieldFault}
+use Rattle.text_lines.specs.declared.field_fault.FieldFault.TheVariants.{Number, Hex, Range, Size, Name}
+use Rattle.text_lines.specs.declared.field_fault.FieldStop.{FieldStop}
+use Rattle.text_lines.specs.declared.field_fault.FieldStop.TheVariants as stop
 use Rattle.text_lines.specs.Words.{is_number, number_of}
 
 -- a fault where a test finds one

@@ -4,13 +4,13 @@
 use Rattle.std.specs.Prelude.{ℕ, List, ◌++◌, codes, decimal}
 use Rattle.std.specs.List.{flat_map}
 use Rattle.hex.specs.Hex.{encode_lower}
-use Rattle.law_model.specs.declared.refusal.AcceptFault.{AcceptFault}
-use Rattle.law_model.specs.declared.refusal.AcceptFault.TheVariants.{Length, QueueFull}
-use Rattle.law_model.specs.declared.refusal.CommandFault.{CommandFault}
-use Rattle.law_model.specs.declared.refusal.CommandFault.TheVariants.{UnknownLine, AlreadyIn, NotIn, TooManyPending}
-use Rattle.law_model.specs.declared.refusal.Refusal.{Refusal}
-use Rattle.law_model.specs.declared.refusal.Refusal.TheVariants.{Frame, Command}
-use Rattle.law_model.specs.declared.totals.Totals.{Totals}
+use Rattle.law_model.specs.declared.item_refusals.AcceptFault.{AcceptFault}
+use Rattle.law_model.specs.declared.item_refusals.AcceptFault.TheVariants.{Length, QueueFull}
+use Rattle.law_model.specs.declared.item_refusals.CommandFault.{CommandFault}
+use Rattle.law_model.specs.declared.item_refusals.CommandFault.TheVariants.{UnknownLine, AlreadyIn, NotIn, TooManyPending}
+use Rattle.law_model.specs.declared.item_refusals.Refusal.{Refusal}
+use Rattle.law_model.specs.declared.item_refusals.Refusal.TheVariants.{Frame, Command}
+use Rattle.law_model.specs.declared.session_totals.Totals.{Totals}
 
 -- the line of a delivered frame
 abbrev pub got_text : List ℕ → List ℕ

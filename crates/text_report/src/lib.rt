@@ -2,12 +2,12 @@
 //! item, and one of totals.
 //!
 //! Each line is put together at the front of a slice that the caller gives, and nothing is written to an
-//! output here. Begin with `got_line`, `refused_line` and `total_line`; `LineCursor` puts any line together,
+//! output here. Begin with `got_line`, `refused_line` and `total_line`; `TextCursor` puts any line together,
 //! and is there for the texts of other crates too.
 #![tactic(auto)]
 
-mod line;
-mod report;
+mod text_cursor;
+mod report_text;
 
-pub use line::LineCursor;
-pub use report::{GOT_ROOM, REFUSED_ROOM, TOTAL_ROOM, got_line, refused_line, total_line};
+pub use text_cursor::TextCursor;
+pub use report_text::{GOT_ROOM, REFUSED_ROOM, TOTAL_ROOM, got_line, refused_line, total_line};

@@ -11,11 +11,11 @@ use Rattle.std.proofs.lemmas.List.Elements.{filter-append}
 use Rattle.std.proofs.lemmas.List.FromFn.{length-map-range_with_len, get_or-map-range_with_len, map-range_with_len_more}
 use Rattle.std.proofs.lemmas.List.FromFn.{fill_by_all}
 use Rattle.std.proofs.lemmas.Option.{slice_get_within, slice_get-get_or}
-use Rattle.base_nibbles.proofs.LockLaws.{slice_get-append, slice_get-append_seam}
-use Rattle.law_model.specs.declared.script.Item.{Item}
-use Rattle.law_model.specs.declared.script.ItemKind.{ItemKind}
-use Rattle.law_model.specs.declared.script.ItemKind.TheVariants.{Frame, Add, Remove}
-use Rattle.law_model.specs.declared.table.Command.TheVariants.{Add as add, Remove as remove}
+use Rattle.check_nibbles.proofs.LockLaws.{slice_get-append, slice_get-append_seam}
+use Rattle.law_model.specs.declared.script_types.Item.{Item}
+use Rattle.law_model.specs.declared.script_types.ItemKind.{ItemKind}
+use Rattle.law_model.specs.declared.script_types.ItemKind.TheVariants.{Frame, Add, Remove}
+use Rattle.law_model.specs.declared.lcas_states.Command.TheVariants.{Add as add, Remove as remove}
 use Rattle.law_model.specs.session.Scenario.{Scenario, DueCommand, DueFrame, order_of, offer_of, orders_of, offers_of}
 use Rattle.law_model.specs.session.Scenario.{steps_in, lands_at, comes_at}
 use Rattle.law_model.specs.source.Table.{Told}
@@ -25,9 +25,9 @@ use Rattle.law_model.specs.source.Course.{Course}
 use Rattle.law_model.specs.rows.Sent.{container_of, containers_of, frame_of}
 use Rattle.law_session.specs.Session.{AgreeBefore}
 use Rattle.law_session.proofs.AlikeLaws.{Alike, Alike-sooner, alike-after, alike-stream, alike-frame}
-use Rattle.law_model.specs.declared.refusal.Refusal.TheVariants.{Frame as frame_refused, Command as command_refused}
+use Rattle.law_model.specs.declared.item_refusals.Refusal.TheVariants.{Frame as frame_refused, Command as command_refused}
 use Rattle.terminal_source.specs.source_core.Terminal.{Terminal}
-use Rattle.terminal_source.specs.source_core.Given.{ComesAlike, has_come, Stands as HasMade}
+use Rattle.terminal_source.specs.source_core.Given.{ComesAlike, has_come, SourceStands as HasMade}
 use Rattle.terminal_source.proofs.SourceCoreLaws.LandedLaws.{alike-landed}
 use Rattle.law_walk.specs.Landed.{Numbered, kind_refusal}
 use Rattle.thread_group.specs.Journal.{Setting, journal_scenario, items_in, entry_of, IsLegal}

@@ -8,28 +8,28 @@ use Rattle.std.proofs.Props.{props}
 use Rattle.std.proofs.lemmas.Bool.{cases_Bool}
 use Rattle.std.proofs.lemmas.List.{take-take, get_or-drop, length-drop}
 use Rattle.std.proofs.lemmas.Option.{slice_get_within, slice_get-map, slice_get-get_or}
-use Rattle.base_cells.specs.declared.Container.{Container}
-use Rattle.base_cells.specs.declared.BackCell.{BackCell}
+use Rattle.member_cells.specs.declared.containers_and_cells.Container.{Container}
+use Rattle.member_cells.specs.declared.containers_and_cells.BackCell.{BackCell}
 use Rattle.law_model.specs.session.Leg.{Leg}
-use Rattle.law_model.specs.declared.script.Item.{Item}
+use Rattle.law_model.specs.declared.script_types.Item.{Item}
 use Rattle.law_model.specs.session.Scenario.{Scenario, DueCommand, DueFrame, scenario_by, orders_of, offers_of, steps_in}
 use Rattle.law_model.specs.source.Journal.{with_items}
 use Rattle.law_model.specs.rows.Sent.{container_of, containers_of}
 use Rattle.law_model.specs.session.Counts.{dues_of, frame_dues, command_dues, used_in}
 use Rattle.law_session.specs.Session.{AgreeBefore}
 use Rattle.law_session.proofs.AlikeLaws.{Alike}
-use Rattle.law_model.specs.declared.refusal.Refusal.{Refusal}
+use Rattle.law_model.specs.declared.item_refusals.Refusal.{Refusal}
 use Rattle.thread_rings.specs.Ends.{OutEnd}
 use Rattle.thread_rings.specs.Ends.{InEnd}
 use Rattle.thread_rings.specs.Ends.{out_passed, in_passed, SameIn}
 use Rattle.thread_rings.proofs.EndLaws.{out-then, in-then}
-use Rattle.terminal_source.specs.source_core.Given.{ComesAlike, Stands as HasMade}
+use Rattle.terminal_source.specs.source_core.Given.{ComesAlike, SourceStands as HasMade}
 use Rattle.terminal_source.proofs.SourceCoreLaws.LandedLaws.{alike-landed, first-alike}
 use Rattle.law_walk.specs.Landed.{Numbered, is_client, landed_from, landed_items, landed_scenario, refused_by}
 use Rattle.law_walk.proofs.LandLaws.{frame-dues, command-dues}
-use Rattle.thread_group.specs.declared.answer.TickAnswer.{TickAnswer}
-use Rattle.thread_group.specs.declared.answer.TickAnswer.TheVariants.{Ticked, Held, TxFull, BackMissing, Done}
-use Rattle.thread_group.specs.declared.group.GroupState.{GroupState}
+use Rattle.thread_group.specs.declared.group_answers.TickAnswer.{TickAnswer}
+use Rattle.thread_group.specs.declared.group_answers.TickAnswer.TheVariants.{Ticked, Held, TxFull, BackMissing, Done}
+use Rattle.thread_group.specs.declared.group_state.GroupState.{GroupState}
 use Rattle.thread_group.specs.Journal.{items_in}
 use Rattle.terminal_group.specs.Inbox.{told_from}
 use Rattle.thread_group.specs.Rings.{SameOuts, SameIns}

@@ -6,17 +6,17 @@ use Rattle.std.proofs.Math.Logic.{∥∥₁_elim}
 use Rattle.std.proofs.Props.{props}
 use Rattle.std.proofs.lemmas.Bool.Decides.{nat_tests}
 use Rattle.std.proofs.lemmas.List.{append-nil}
-use Rattle.law_model.specs.declared.script.ItemKind.{ItemKind}
+use Rattle.law_model.specs.declared.script_types.ItemKind.{ItemKind}
 use Rattle.law_model.specs.session.Scenario.{Scenario}
 use Rattle.law_model.specs.source.Table.{Told}
-use Rattle.law_model.specs.declared.refusal.Refusal.{Refusal}
-use Rattle.law_model.specs.declared.refusal.Refusal.TheVariants.{Frame as frame_refused, Command as command_refused}
+use Rattle.law_model.specs.declared.item_refusals.Refusal.{Refusal}
+use Rattle.law_model.specs.declared.item_refusals.Refusal.TheVariants.{Frame as frame_refused, Command as command_refused}
 use Rattle.terminal_source.specs.source_core.Terminal.{SameKind}
-use Rattle.terminal_source.specs.source_core.Given.{Stands as HasMade}
+use Rattle.terminal_source.specs.source_core.Given.{SourceStands as HasMade}
 use Rattle.law_walk.specs.Landed.{is_client, IsPlaced, refused_by}
-use Rattle.thread_group.specs.declared.answer.SubmitFault.{SubmitFault}
-use Rattle.thread_group.specs.declared.answer.SubmitFault.TheVariants.{NotNext, Early, JournalFull}
-use Rattle.thread_group.specs.declared.group.GroupState.{GroupState}
+use Rattle.thread_group.specs.declared.group_answers.SubmitFault.{SubmitFault}
+use Rattle.thread_group.specs.declared.group_answers.SubmitFault.TheVariants.{NotNext, Early, JournalFull}
+use Rattle.thread_group.specs.declared.group_state.GroupState.{GroupState}
 use Rattle.terminal_group.specs.Item.{size_of as octet_count}
 use Rattle.thread_group.specs.Answer.{fault_of, has_landed, refusal_told}
 use Rattle.thread_group.specs.Journal.{entry_of, fits}
@@ -25,14 +25,14 @@ use Rattle.terminal_group.specs.Landed.{due_at, HasPassed}
 use Rattle.terminal_group.specs.Source.{SameRest}
 use Rattle.terminal_group.specs.Lands.{met_by, with_kind}
 use Rattle.thread_group.specs.Parts.{setting_in}
-use Rattle.thread_group.specs.Group.{parts_of, Stands, SameScript, SameRings, items_of, frames_of, commands_of}
+use Rattle.thread_group.specs.Group.{parts_of, GroupStands, SameScript, SameRings, items_of, frames_of, commands_of}
 use Rattle.thread_group.specs.Group.{journal_of, slots_of, bytes_of, refusals_of, taken_of, source_of, ticks_of, next_of}
 use Rattle.thread_group.specs.Group.{refusal_of, is_number, fault_met, fault_in, counted_by, HasCounted, with_landed}
 use Rattle.thread_group.specs.Calls.{Submits}
 use Rattle.thread_group.proofs.AlikeLaws.{met-journal}
 use Rattle.terminal_group.proofs.LandingLaws.{next-due}
 
-pub stands-of : (g : GroupState) → Stands g
+pub stands-of : (g : GroupState) → GroupStands g
 stands-of g = record {
   legal = g.keeps.legal;
   made = g.keeps.made;

@@ -6,10 +6,10 @@ use Rattle.std.proofs.Math.Logic.{∥∥₁_map, ∥∥₁_elim}
 use Rattle.std.proofs.Props.{props}
 use Rattle.std.proofs.lemmas.List.{append-nil, length-replicate, length-take, length-drop, length-map, take-append-le}
 use Rattle.std.proofs.lemmas.Option.{slice_get_within}
-use Rattle.base_cells.specs.declared.Container.{Container}
-use Rattle.base_cells.specs.declared.BackCell.{BackCell}
-use Rattle.law_model.specs.declared.script.Item.{Item}
-use Rattle.law_model.specs.declared.script.ItemKind.{ItemKind}
+use Rattle.member_cells.specs.declared.containers_and_cells.Container.{Container}
+use Rattle.member_cells.specs.declared.containers_and_cells.BackCell.{BackCell}
+use Rattle.law_model.specs.declared.script_types.Item.{Item}
+use Rattle.law_model.specs.declared.script_types.ItemKind.{ItemKind}
 use Rattle.law_model.specs.session.Scenario.{Scenario, steps_in}
 use Rattle.law_model.specs.source.Table.{Told}
 use Rattle.law_model.specs.packets.Told.{told_in}
@@ -19,7 +19,7 @@ use Rattle.thread_rings.specs.Ends.{OutEnd}
 use Rattle.thread_rings.specs.Ends.{InEnd}
 use Rattle.thread_rings.specs.Ends.{out_passed, in_passed}
 use Rattle.terminal_source.specs.source_core.Terminal.{Terminal, SameKind, needed_at}
-use Rattle.terminal_source.specs.source_core.Given.{IsFresh, with_cell, Stands as HasMade}
+use Rattle.terminal_source.specs.source_core.Given.{IsFresh, with_cell, SourceStands as HasMade}
 use Rattle.law_walk.specs.Landed.{Numbered, kind_refusal, IsPlaced}
 use Rattle.law_walk.proofs.LandLaws.{ahead-next}
 use Rattle.thread_group.specs.Journal.{Journal, Setting, journal_scenario, items_in, entry_of, IsLegal}

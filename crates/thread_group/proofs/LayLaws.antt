@@ -2,8 +2,8 @@
 use Rattle.std.proofs.Common.{◌≡◌, ℕ, List, length, slice_get, Some, sym, ◌∙◌, ap, subst, arith}
 use Rattle.std.specs.Global.{Vec}
 use Rattle.std.proofs.lemmas.Option.{slice_get_within}
-use Rattle.base_cells.specs.declared.Container.{Container}
-use Rattle.base_cells.specs.declared.BackCell.{BackCell}
+use Rattle.member_cells.specs.declared.containers_and_cells.Container.{Container}
+use Rattle.member_cells.specs.declared.containers_and_cells.BackCell.{BackCell}
 use Rattle.law_model.specs.session.Leg.{Leg}
 use Rattle.law_model.specs.session.Scenario.{scenario_by}
 use Rattle.law_model.specs.rows.Sent.{containers_of}
@@ -11,9 +11,9 @@ use Rattle.law_model.specs.session.Counts.{used_in}
 use Rattle.thread_rings.specs.Ends.{OutEnd}
 use Rattle.thread_rings.specs.Ends.{InEnd}
 use Rattle.thread_rings.specs.Ends.{out_passed, in_passed, SameIn}
-use Rattle.terminal_source.specs.source_core.Given.{Stands as HasMade}
+use Rattle.terminal_source.specs.source_core.Given.{SourceStands as HasMade}
 use Rattle.law_walk.specs.Landed.{landed_items, landed_scenario}
-use Rattle.thread_group.specs.declared.group.GroupState.{GroupState}
+use Rattle.thread_group.specs.declared.group_state.GroupState.{GroupState}
 use Rattle.terminal_group.specs.Inbox.{told_taken, HasCome}
 use Rattle.thread_group.specs.Journal.{IsLegal}
 use Rattle.thread_group.specs.Parts.{Parts, parts, scenario_in, told_in_parts, AreRefused, Keeps}

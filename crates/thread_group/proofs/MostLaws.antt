@@ -2,10 +2,10 @@
 use Rattle.std.proofs.Common.{◌≡◌, ℕ, ◌+◌, ◌-◌, ◌≤◌, not, Bool, true, false, drop, length, refl, arith}
 use Rattle.std.proofs.lemmas.List.{length-drop}
 use Rattle.law_model.specs.session.Leg.{Leg}
-use Rattle.law_model.specs.declared.script.ItemKind.{ItemKind}
+use Rattle.law_model.specs.declared.script_types.ItemKind.{ItemKind}
 use Rattle.law_model.specs.session.Scenario.{offers_of, orders_of}
 use Rattle.law_walk.specs.Landed.{is_client}
-use Rattle.thread_group.specs.declared.group.GroupState.{GroupState}
+use Rattle.thread_group.specs.declared.group_state.GroupState.{GroupState}
 use Rattle.thread_group.specs.Group.{frames_of, commands_of, counted_by, HasCounted}
 use Rattle.thread_group.specs.Session.{HasLandedOf}
 

@@ -4,12 +4,12 @@ use Rattle.std.proofs.Common.{◌∙◌, ap, subst, arith, append_assoc}
 use Rattle.std.proofs.Math.Logic.{∥∥₁_map}
 use Rattle.std.proofs.lemmas.List.{append-nil, take-append-le, take_all, length-append}
 use Rattle.std.proofs.lemmas.List.Elements.{All-cons, All-append}
-use Rattle.law_model.specs.declared.script.Item.{Item}
-use Rattle.law_model.specs.declared.script.ItemKind.{ItemKind}
+use Rattle.law_model.specs.declared.script_types.Item.{Item}
+use Rattle.law_model.specs.declared.script_types.ItemKind.{ItemKind}
 use Rattle.law_model.specs.session.Scenario.{Scenario}
 use Rattle.law_model.specs.source.Table.{Told}
 use Rattle.law_session.proofs.AlikeLaws.{Alike}
-use Rattle.law_model.specs.declared.refusal.Refusal.{Refusal}
+use Rattle.law_model.specs.declared.item_refusals.Refusal.{Refusal}
 use Rattle.law_walk.specs.Landed.{Numbered, is_client, kind_refusal, IsPlaced}
 use Rattle.thread_group.specs.Journal.{items_in}
 use Rattle.terminal_group.specs.Landed.{Landed, next_number, due_at}

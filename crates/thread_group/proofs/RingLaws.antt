@@ -2,9 +2,9 @@
 use Rattle.std.proofs.Common.{◌≡◌, ℕ, zero, suc, ◌<◌, ◌≤◌, Bool, List, [], ◌∷◌, slice_get, slice_set, IsTrue, IsFalse}
 use Rattle.std.proofs.Common.{Some, inl, inr, refl, sym, ◌∙◌, ap, subst, arith}
 use Rattle.std.proofs.lemmas.Bool.{cases_Bool, cases_eq}
-use Rattle.base_io.specs.Faults.{one_more}
-use Rattle.base_cells.specs.declared.Container.{Container}
-use Rattle.member_rows.proofs.RealignCoreLaws.GatherLaws.{set-here, set-other, length-slice_set}
+use Rattle.octet_io.specs.Faults.{one_more}
+use Rattle.member_cells.specs.declared.containers_and_cells.Container.{Container}
+use Rattle.member_rows.proofs.RealignRowsLaws.GatherLaws.{set-here, set-other, length-slice_set}
 use Rattle.thread_rings.specs.Ends.{OutEnd}
 use Rattle.thread_rings.specs.Ends.{out_passed, out_free, out_misses, SameOut}
 use Rattle.thread_group.specs.Rings.{HasLooked, HaveLooked}

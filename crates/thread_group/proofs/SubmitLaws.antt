@@ -9,12 +9,12 @@ use Rattle.std.proofs.lemmas.Bool.{cases_Bool, ltb-false, eqb-true}
 use Rattle.std.proofs.lemmas.Bool.Decides.{nat_tests}
 use Rattle.std.proofs.lemmas.List.Elements.{All-cons, All-append}
 use Rattle.std.proofs.lemmas.Option.{slice_get_within}
-use Rattle.law_model.specs.declared.refusal.Refusal.{Refusal}
+use Rattle.law_model.specs.declared.item_refusals.Refusal.{Refusal}
 use Rattle.law_model.specs.session.Leg.{Leg}
 use Rattle.law_walk.specs.Landed.{Numbered, is_client, refused_by, IsPlaced}
-use Rattle.thread_group.specs.declared.answer.SubmitFault.{SubmitFault}
-use Rattle.thread_group.specs.declared.answer.SubmitFault.TheVariants.{NotNext, Early, Frame as Frame_fault}
-use Rattle.thread_group.specs.declared.answer.SubmitFault.TheVariants.{Command as Command_fault, JournalFull}
+use Rattle.thread_group.specs.declared.group_answers.SubmitFault.{SubmitFault}
+use Rattle.thread_group.specs.declared.group_answers.SubmitFault.TheVariants.{NotNext, Early, Frame as Frame_fault}
+use Rattle.thread_group.specs.declared.group_answers.SubmitFault.TheVariants.{Command as Command_fault, JournalFull}
 use Rattle.thread_group.specs.Answer.{fault_of, has_landed, is_full, refusal_told}
 use Rattle.thread_group.specs.Session.{refusal_by, refusals_by, accepted_frames_by, accepted_commands_by, AreItemsOf}
 use Rattle.thread_group.specs.Session.{IsBound}
@@ -23,25 +23,25 @@ use Rattle.law_walk.proofs.ReportLaws.{IsInserted, placed, one-more}
 use Rattle.std.proofs.lemmas.List.{length-drop}
 use Rattle.std.proofs.lemmas.List.Sums.{sum_by-drop_more}
 use Rattle.std.proofs.lemmas.Option.{slice_get-get_or, get_or_from_slice_get}
-use Rattle.law_model.specs.declared.script.Item.{Item}
-use Rattle.law_model.specs.declared.script.ItemKind.{ItemKind}
-use Rattle.law_model.specs.declared.script.ItemKind.TheVariants.{Frame, Add, Remove}
-use Rattle.law_model.specs.declared.table.Command.TheVariants.{Add as add, Remove as remove}
+use Rattle.law_model.specs.declared.script_types.Item.{Item}
+use Rattle.law_model.specs.declared.script_types.ItemKind.{ItemKind}
+use Rattle.law_model.specs.declared.script_types.ItemKind.TheVariants.{Frame, Add, Remove}
+use Rattle.law_model.specs.declared.lcas_states.Command.TheVariants.{Add as add, Remove as remove}
 use Rattle.law_model.specs.session.Scenario.{Scenario, DueCommand, DueFrame, order_of, offer_of, orders_of, offers_of}
 use Rattle.law_model.specs.session.Scenario.{scenario_by}
 use Rattle.law_model.specs.session.Counts.{Counts}
-use Rattle.law_model.specs.declared.refusal.Refusal.TheVariants.{Frame as frame_refused, Command as command_refused}
-use Rattle.terminal_source.specs.source_core.Given.{Stands as HasMade}
+use Rattle.law_model.specs.declared.item_refusals.Refusal.TheVariants.{Frame as frame_refused, Command as command_refused}
+use Rattle.terminal_source.specs.source_core.Given.{SourceStands as HasMade}
 use Rattle.law_walk.specs.Landed.{landed_items, landed_scenario, IsOfferAt}
 use Rattle.law_walk.specs.Landed.{IsOrderAt}
 use Rattle.law_walk.proofs.LandLaws.{offer-at, order-at}
-use Rattle.thread_group.specs.declared.group.GroupState.{GroupState}
+use Rattle.thread_group.specs.declared.group_state.GroupState.{GroupState}
 use Rattle.terminal_group.specs.Item.{size_of as octet_count}
 use Rattle.thread_group.specs.Journal.{entry_of, items_in, fits}
 use Rattle.std.specs.Global.{Vec}
 use Rattle.std.proofs.lemmas.List.{append-nil, map_push}
-use Rattle.base_cells.specs.declared.Container.{Container}
-use Rattle.base_cells.specs.declared.BackCell.{BackCell}
+use Rattle.member_cells.specs.declared.containers_and_cells.Container.{Container}
+use Rattle.member_cells.specs.declared.containers_and_cells.BackCell.{BackCell}
 use Rattle.thread_rings.specs.Ends.{OutEnd}
 use Rattle.thread_rings.specs.Ends.{InEnd}
 use Rattle.thread_rings.specs.Ends.{in_passed}
@@ -58,7 +58,7 @@ use Rattle.thread_group.specs.Group.{IsOf, HasCounted, counted_by, parts_of, ite
 use Rattle.thread_group.specs.Group.{taken_of}
 use Rattle.thread_group.specs.Group.{source_of, next_of, refusal_of, is_number, fault_met, fault_in, slots_of, bytes_of}
 use Rattle.thread_group.specs.Group.{journal_of, refusals_of, lag_of, lost_of, entries_by, with_landed, room_for}
-use Rattle.thread_group.specs.Session.{counts_of, IsItemOf, octets_in, HasRoom, HasLandedOf}
+use Rattle.thread_group.specs.Session.{counts_of, IsItemOf, octets_in, HasJournalRoom, HasLandedOf}
 use Rattle.terminal_group.proofs.LandingLaws.{all-left, all-right, placed-same}
 use Rattle.terminal_group.proofs.LandsLaws.{due-now, next-there, next-counts, offer-here, order-here, met-item, leaves}
 use Rattle.thread_group.proofs.GroupLaws.{refused-is, fault_by, met_in}
@@ -264,7 +264,7 @@ told-rest (Some (command_refused fault)) = refl
 -- ---- the journal has room
 room-first : (leg : Leg) (g : GroupState) (number : ℕ) (kind : ItemKind) → IsOf leg g →
     next_of g kind ≡ Some number → slice_get leg.items number ≡ Some (record { due = ticks_of g; kind = kind }) →
-    HasRoom leg g →
+    HasJournalRoom leg g →
     (0 < slots_of g) × (octet_count kind ≤ bytes_of g)
 room-first leg g number (Frame octets) of_script next here room =
     let offer : DueFrame = record { due = ticks_of g; frame = octets } in
@@ -296,7 +296,7 @@ room-first leg g number (Remove line) of_script next here room =
     (omega arith, omega arith)
 
 pub not-full : (leg : Leg) (g : GroupState) (number : ℕ) (kind : ItemKind) (answer : Option SubmitFault) →
-    IsOf leg g → HasRoom leg g → IsItemOf leg number kind → answer ≡ fault_in g number kind →
+    IsOf leg g → HasJournalRoom leg g → IsItemOf leg number kind → answer ≡ fault_in g number kind →
     is_full answer ≡ false
 not-full leg g number kind answer of_script room is_item is =
     elim (cases_Bool (is_full answer)) [

@@ -4,26 +4,26 @@ use Rattle.std.proofs.Common.{Some, None, inl, inr, refl, sym, ◌∙◌, ap, su
 use mathlib.Core.List.{IsPrefix}
 use Rattle.law_model.specs.session.Scenario.{Scenario}
 use Rattle.std.specs.Global.{Vec}
-use Rattle.base_cells.specs.declared.Container.{Container}
-use Rattle.base_cells.specs.declared.BackCell.{BackCell}
+use Rattle.member_cells.specs.declared.containers_and_cells.Container.{Container}
+use Rattle.member_cells.specs.declared.containers_and_cells.BackCell.{BackCell}
 use Rattle.thread_rings.specs.Ends.{OutEnd}
 use Rattle.thread_rings.specs.Ends.{InEnd}
 use Rattle.thread_rings.specs.Ends.{out_passed, in_passed, in_misses, SameIn}
 use Rattle.thread_rings.proofs.EndLaws.{out-then}
 use Rattle.terminal_source.specs.source_core.Terminal.{Terminal, needed}
-use Rattle.law_model.specs.declared.script.Item.{Item}
+use Rattle.law_model.specs.declared.script_types.Item.{Item}
 use Rattle.law_model.specs.session.Counts.{dues_of, used_in, held}
 use Rattle.law_model.specs.rows.Sent.{container_of}
 use Rattle.law_walk.specs.Landed.{Numbered}
-use Rattle.terminal_source.specs.source_core.Given.{Stands as HasMade}
-use Rattle.base_io.specs.Faults.{one_more}
+use Rattle.terminal_source.specs.source_core.Given.{SourceStands as HasMade}
+use Rattle.octet_io.specs.Faults.{one_more}
 use Rattle.std.proofs.lemmas.Option.{slice_get_within}
-use Rattle.thread_group.specs.declared.answer.TickAnswer.{TickAnswer}
-use Rattle.thread_group.specs.declared.answer.TickAnswer.TheVariants.{Ticked, Held, TxFull, BackMissing, Done}
-use Rattle.thread_group.specs.declared.group.GroupState.{GroupState}
+use Rattle.thread_group.specs.declared.group_answers.TickAnswer.{TickAnswer}
+use Rattle.thread_group.specs.declared.group_answers.TickAnswer.TheVariants.{Ticked, Held, TxFull, BackMissing, Done}
+use Rattle.thread_group.specs.declared.group_state.GroupState.{GroupState}
 use Rattle.thread_group.specs.Journal.{journal_scenario}
-use Rattle.terminal_group.specs.declared.source.EarlyCause.{EarlyCause}
-use Rattle.terminal_group.specs.declared.source.EarlyCause.TheVariants.{Done as Early_done, Held as Early_held}
+use Rattle.terminal_group.specs.declared.group_source.EarlyCause.{EarlyCause}
+use Rattle.terminal_group.specs.declared.group_source.EarlyCause.TheVariants.{Done as Early_done, Held as Early_held}
 use Rattle.terminal_group.specs.Inbox.{told_taken}
 use Rattle.terminal_group.specs.Source.{early_in}
 use Rattle.terminal_group.proofs.SourceLaws.{early-none, early-done, early-held}

@@ -1,13 +1,13 @@
 -- What it means that an item isn't accepted, and that no ring stops a tick.
 use Rattle.std.specs.Prelude.{Bool, true, false, Option, Some, None}
-use Rattle.law_model.specs.declared.refusal.Refusal.{Refusal}
-use Rattle.law_model.specs.declared.refusal.Refusal.TheVariants.{Frame as frame_refused, Command as command_refused}
-use Rattle.thread_group.specs.declared.answer.SubmitFault.{SubmitFault}
-use Rattle.thread_group.specs.declared.answer.SubmitFault.TheVariants.{NotNext, Early, Frame, Command, JournalFull}
-use Rattle.terminal_group.specs.declared.source.EarlyCause.{EarlyCause}
-use Rattle.terminal_group.specs.declared.source.EarlyCause.TheVariants.{Done as Early_done, Held as Early_held}
-use Rattle.thread_group.specs.declared.answer.TickAnswer.{TickAnswer}
-use Rattle.thread_group.specs.declared.answer.TickAnswer.TheVariants.{Held, Done}
+use Rattle.law_model.specs.declared.item_refusals.Refusal.{Refusal}
+use Rattle.law_model.specs.declared.item_refusals.Refusal.TheVariants.{Frame as frame_refused, Command as command_refused}
+use Rattle.thread_group.specs.declared.group_answers.SubmitFault.{SubmitFault}
+use Rattle.thread_group.specs.declared.group_answers.SubmitFault.TheVariants.{NotNext, Early, Frame, Command, JournalFull}
+use Rattle.terminal_group.specs.declared.group_source.EarlyCause.{EarlyCause}
+use Rattle.terminal_group.specs.declared.group_source.EarlyCause.TheVariants.{Done as Early_done, Held as Early_held}
+use Rattle.thread_group.specs.declared.group_answers.TickAnswer.{TickAnswer}
+use Rattle.thread_group.specs.declared.group_answers.TickAnswer.TheVariants.{Held, Done}
 
 -- the answer for an item that is refused
 abbrev pub fault_of : Refusal → SubmitFault

@@ -1,21 +1,21 @@
 -- What a call of a group does, as a whole.
 use Rattle.std.specs.Prelude.{◌≡◌, ◌≢◌, ℕ, ◌+◌, ◌<◌, ◌≤◌, ◌↔◌, true, false, if◌then◌else◌, List, ◌++◌, Option, Some}
 use mathlib.Core.List.{IsPrefix}
-use Rattle.law_model.specs.declared.script.ItemKind.{ItemKind}
+use Rattle.law_model.specs.declared.script_types.ItemKind.{ItemKind}
 use Rattle.law_model.specs.session.Scenario.{Scenario}
 use Rattle.law_model.specs.source.Table.{Told}
 use Rattle.thread_rings.specs.Ends.{in_passed, SameIn}
-use Rattle.terminal_source.specs.source_core.Given.{Stands as HasMade}
+use Rattle.terminal_source.specs.source_core.Given.{SourceStands as HasMade}
 use Rattle.law_walk.specs.Landed.{IsPlaced, refused_by}
-use Rattle.thread_group.specs.declared.answer.SubmitFault.{SubmitFault}
-use Rattle.thread_group.specs.declared.answer.TickAnswer.{TickAnswer}
-use Rattle.thread_group.specs.declared.answer.TickAnswer.TheVariants.{Ticked, Held, TxFull, BackMissing, Done}
+use Rattle.thread_group.specs.declared.group_answers.SubmitFault.{SubmitFault}
+use Rattle.thread_group.specs.declared.group_answers.TickAnswer.{TickAnswer}
+use Rattle.thread_group.specs.declared.group_answers.TickAnswer.TheVariants.{Ticked, Held, TxFull, BackMissing, Done}
 use Rattle.thread_group.specs.Answer.{has_landed, refusal_told}
 use Rattle.terminal_group.specs.Landed.{due_at}
 use Rattle.thread_group.specs.Rings.{SameOuts, IsFirstFull, HaveLooked}
-use Rattle.thread_group.specs.declared.group.GroupState.{GroupState}
+use Rattle.thread_group.specs.declared.group_state.GroupState.{GroupState}
 use Rattle.thread_group.specs.Group.{SameScript, inbox_of, ticks_of, total_of, journal_of, refusals_of, items_of}
-use Rattle.thread_group.specs.Group.{taken_of, source_of, replay_of, Stands, fault_in, entries_by, HasCounted, LeavesRoom}
+use Rattle.thread_group.specs.Group.{taken_of, source_of, replay_of, GroupStands, fault_in, entries_by, HasCounted, LeavesRoom}
 use Rattle.thread_group.specs.Group.{with_landed, SameRings, SameLanded, is_ticked, held_of, IsFreeToTick, AreMoved}
 use Rattle.thread_group.specs.Group.{IsMissing, ArePushedOf, NothingPushed}
 
@@ -34,7 +34,7 @@ pub record Submits (a b : GroupState) (number : ℕ) (kind : ItemKind) (answer :
   pub rings : SameRings a b
   pub made : (scenario : Scenario) (cells : List (Option Told)) → HasMade (source_of a) scenario cells →
       HasMade (source_of b) (with_landed scenario (ticks_of a) kind (has_landed answer)) cells
-  pub stands : Stands b
+  pub stands : GroupStands b
 
 -- a tick was tried
 pub record Ticks (a b : GroupState) (answer : TickAnswer) : Type 0 where
@@ -57,7 +57,7 @@ pub record Ticks (a b : GroupState) (answer : TickAnswer) : Type 0 where
       HasMade (source_of b) scenario (taken_of b)
   pub alike : (scenario : Scenario) → answer ≡ Ticked → HasMade (source_of a) scenario (taken_of a) →
       ArePushedOf scenario a b
-  pub stands : Stands b
+  pub stands : GroupStands b
 
 -- ---- the parts of a tick
 -- return cells were moved into the inbox

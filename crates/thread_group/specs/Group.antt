@@ -1,27 +1,27 @@
 -- What contracts say of a group.
 use Rattle.std.specs.Prelude.{◌≡◌, ◌⊎◌, ℕ, ◌+◌, ◌<◌, ◌==◌, not, nat_lt, Bool, true, false, if◌then◌else◌, List, [], ◌∷◌}
 use Rattle.std.specs.Prelude.{◌++◌, length, slice_get, Option, Some, None}
-use Rattle.base_io.specs.Faults.{one_more}
-use Rattle.base_cells.specs.declared.Container.{Container}
-use Rattle.base_cells.specs.declared.BackCell.{BackCell}
-use Rattle.law_model.specs.declared.script.Item.{Item}
-use Rattle.law_model.specs.declared.script.ItemKind.{ItemKind}
+use Rattle.octet_io.specs.Faults.{one_more}
+use Rattle.member_cells.specs.declared.containers_and_cells.Container.{Container}
+use Rattle.member_cells.specs.declared.containers_and_cells.BackCell.{BackCell}
+use Rattle.law_model.specs.declared.script_types.Item.{Item}
+use Rattle.law_model.specs.declared.script_types.ItemKind.{ItemKind}
 use Rattle.law_model.specs.session.Leg.{Leg}
 use Rattle.law_model.specs.session.Scenario.{Scenario, offers_of, orders_of}
 use Rattle.law_model.specs.source.Table.{Told}
 use Rattle.law_model.specs.rows.Sent.{container_of}
 use Rattle.law_model.specs.session.Counts.{dues_of, used_in, held}
-use Rattle.law_model.specs.declared.refusal.Refusal.{Refusal}
-use Rattle.law_model.specs.declared.totals.Totals.{Totals}
+use Rattle.law_model.specs.declared.item_refusals.Refusal.{Refusal}
+use Rattle.law_model.specs.declared.session_totals.Totals.{Totals}
 use Rattle.thread_rings.specs.Ends.{OutEnd}
 use Rattle.thread_rings.specs.Ends.{out_passed, in_passed, in_misses}
 use Rattle.terminal_source.specs.source_core.Terminal.{Terminal, needed}
-use Rattle.terminal_source.specs.source_core.Given.{Stands as HasMade}
+use Rattle.terminal_source.specs.source_core.Given.{SourceStands as HasMade}
 use Rattle.law_walk.specs.Landed.{Numbered, is_client, kind_refusal}
-use Rattle.thread_group.specs.declared.answer.SubmitFault.{SubmitFault}
-use Rattle.thread_group.specs.declared.answer.SubmitFault.TheVariants.{NotNext, Early, JournalFull}
-use Rattle.thread_group.specs.declared.answer.TickAnswer.{TickAnswer}
-use Rattle.thread_group.specs.declared.answer.TickAnswer.TheVariants.{Ticked, Held, TxFull, BackMissing, Done}
+use Rattle.thread_group.specs.declared.group_answers.SubmitFault.{SubmitFault}
+use Rattle.thread_group.specs.declared.group_answers.SubmitFault.TheVariants.{NotNext, Early, JournalFull}
+use Rattle.thread_group.specs.declared.group_answers.TickAnswer.{TickAnswer}
+use Rattle.thread_group.specs.declared.group_answers.TickAnswer.TheVariants.{Ticked, Held, TxFull, BackMissing, Done}
 use Rattle.terminal_group.specs.Item.{size_of as octet_count, bare_items}
 use Rattle.terminal_group.specs.Lands.{with_kind}
 use Rattle.terminal_group.specs.Source.{Source}
@@ -30,7 +30,7 @@ use Rattle.thread_group.specs.Journal.{entry_of, items_in, fits, IsLegal}
 use Rattle.terminal_group.specs.Landed.{next_number, due_at, AreAhead, AreBehind}
 use Rattle.thread_group.specs.Rings.{IsDrained, AreFree}
 use Rattle.thread_group.specs.Parts.{Parts, parts, scenario_in, told_in_parts, AreSent, AreDue, AreRefused}
-use Rattle.thread_group.specs.declared.group.GroupState.{GroupState}
+use Rattle.thread_group.specs.declared.group_state.GroupState.{GroupState}
 
 abbrev pub parts_of : GroupState → Parts
 parts_of g = parts g.source.core g.source.total g.source.landed g.journal g.source.inbox g.tx.items g.back
@@ -139,7 +139,7 @@ replay_of g = scenario_in (parts_of g)
 -- landed when it was due. Each item that was refused is one that the source refuses when it is due; nothing that is
 -- overdue is left, and
 -- nothing has landed before it was due
-pub record Stands (g : GroupState) : Type 0 where
+pub record GroupStands (g : GroupState) : Type 0 where
   pub legal : IsLegal (replay_of g) (taken_of g) (journal_of g)
   pub made : ∥ HasMade (source_of g) (replay_of g) (taken_of g) ∥₁
   pub sent : AreSent (replay_of g) (taken_of g) (ticks_of g) g.tx.items

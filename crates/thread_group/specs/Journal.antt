@@ -1,8 +1,8 @@
 -- The journal of what a group has accepted, and the session of that alone.
 use Rattle.std.specs.Prelude.{◌≡◌, ℕ, ◌&&◌, nat_lt, nat_le, Bool, List, [], map, take, replicate, slice_get, Option}
 use Rattle.std.specs.Prelude.{Some, None}
-use Rattle.law_model.specs.declared.script.Item.{Item}
-use Rattle.law_model.specs.declared.script.ItemKind.{ItemKind}
+use Rattle.law_model.specs.declared.script_types.Item.{Item}
+use Rattle.law_model.specs.declared.script_types.ItemKind.{ItemKind}
 use Rattle.law_model.specs.session.Scenario.{Scenario, offers_of, orders_of}
 use Rattle.law_model.specs.source.Table.{Told}
 use Rattle.law_walk.specs.Landed.{Numbered, kind_refusal}

@@ -2,9 +2,9 @@
 use Rattle.std.specs.Prelude.{◌≡◌, [], length}
 use Rattle.law_model.specs.session.Leg.{Leg}
 use Rattle.law_model.specs.session.Scenario.{Scenario}
-use Rattle.terminal_source.specs.source_core.Given.{IsFresh, Stands as HasMade}
-use Rattle.thread_group.specs.declared.opening.Opened.{Opened}
-use Rattle.thread_group.specs.declared.group.GroupState.{GroupState}
+use Rattle.terminal_source.specs.source_core.Given.{IsFresh, SourceStands as HasMade}
+use Rattle.thread_group.specs.declared.open_group.Opened.{Opened}
+use Rattle.thread_group.specs.declared.group_state.GroupState.{GroupState}
 use Rattle.terminal_group.specs.Source.{IsUnused}
 use Rattle.thread_group.specs.Group.{IsOf, lines_of, lag_of, size_of, ticks_of, frames_of, commands_of, journal_of}
 use Rattle.thread_group.specs.Group.{refusals_of, inbox_of, source_of}

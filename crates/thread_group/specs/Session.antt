@@ -2,23 +2,23 @@
 use Rattle.std.specs.Prelude.{◌≡◌, ℕ, ◌+◌, ◌≤◌, List, [], ◌∷◌, drop, length, slice_get, take, sum_by, Option, Some}
 use Rattle.std.specs.Prelude.{filter, not, ◌&&◌, is_none}
 use Rattle.std.specs.List.{flat_map}
-use Rattle.base_cells.specs.declared.Container.{Container}
-use Rattle.base_cells.specs.declared.BackCell.{BackCell}
+use Rattle.member_cells.specs.declared.containers_and_cells.Container.{Container}
+use Rattle.member_cells.specs.declared.containers_and_cells.BackCell.{BackCell}
 use Rattle.law_model.specs.session.Leg.{Leg}
-use Rattle.law_model.specs.declared.script.Item.{Item}
-use Rattle.law_model.specs.declared.script.ItemKind.{ItemKind}
+use Rattle.law_model.specs.declared.script_types.Item.{Item}
+use Rattle.law_model.specs.declared.script_types.ItemKind.{ItemKind}
 use Rattle.law_model.specs.session.Scenario.{DueFrame, scenario_by, offers_of, orders_of}
 use Rattle.law_model.specs.source.Table.{Told}
 use Rattle.law_model.specs.session.Counts.{Counts}
-use Rattle.law_model.specs.declared.refusal.Refusal.{Refusal}
+use Rattle.law_model.specs.declared.item_refusals.Refusal.{Refusal}
 use Rattle.thread_rings.specs.Ends.{OutEnd}
 use Rattle.thread_rings.specs.Ends.{InEnd}
-use Rattle.terminal_source.specs.source_core.Given.{Stands as HasMade}
+use Rattle.terminal_source.specs.source_core.Given.{SourceStands as HasMade}
 use Rattle.law_walk.specs.Landed.{Numbered, is_client, landed_items, landed_scenario, kind_refusal, refused_by}
 use Rattle.thread_group.specs.Journal.{items_in}
 use Rattle.thread_group.specs.Rings.{SameOuts, SameIns}
 use Rattle.thread_group.specs.Parts.{AreSent, ArePast}
-use Rattle.thread_group.specs.declared.group.GroupState.{GroupState}
+use Rattle.thread_group.specs.declared.group_state.GroupState.{GroupState}
 use Rattle.thread_group.specs.Group.{IsOf, ticks_of, frames_of, commands_of, journal_of, slots_of, bytes_of, refusals_of}
 use Rattle.thread_group.specs.Group.{taken_of, source_of}
 
@@ -67,7 +67,7 @@ AreItemsOf leg entries = (i : ℕ) (entry : Numbered) → slice_get entries i �
     slice_get leg.items entry.number ≡ Some entry.item
 
 -- there is room in the journal for all items that haven't landed
-pub record HasRoom (leg : Leg) (g : GroupState) : Type 0 where
+pub record HasJournalRoom (leg : Leg) (g : GroupState) : Type 0 where
   pub entries : length (drop (frames_of g) (offers_of leg.items)) + length
       (drop (commands_of g) (orders_of leg.items)) ≤ slots_of g
   pub octets : octets_in (drop (frames_of g) (offers_of leg.items)) ≤ bytes_of g
@@ -95,5 +95,5 @@ pub record IsBound (leg : Leg) (tx : List (OutEnd Container)) (back : List (InEn
   pub of_script : IsOf leg g
   pub sends : SameOuts tx g.tx.items
   pub returns : SameIns back (g.back ∷ [])
-  pub room : HasRoom leg g
+  pub room : HasJournalRoom leg g
   pub landed : HasLandedOf leg g

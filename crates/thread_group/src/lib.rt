@@ -5,13 +5,13 @@
 //! a group whose type says which session it belongs to.
 #![tactic(auto)]
 
-mod answer;
-mod bound;
-mod group;
-mod journal;
-mod opening;
-mod sends;
+mod group_answers;
+mod bound_group;
+mod group_state;
+mod item_journal;
+mod open_group;
+mod tick_rings;
 
-pub use answer::{SubmitFault, TickAnswer};
-pub use bound::{BoundGroup, Session};
-pub use group::GroupState;
+pub use group_answers::{SubmitFault, TickAnswer};
+pub use bound_group::{BoundGroup, Session};
+pub use group_state::GroupState;

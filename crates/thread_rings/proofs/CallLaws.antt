@@ -1,17 +1,17 @@
 -- The calls on the line of a worker, at first and after one more carry.
 use Rattle.std.proofs.Common.{◌≡◌, ℕ, ◌-◌, List, [], ◌∷◌, ◌++◌, refl, arith, nat_lt, false}
 use Rattle.std.proofs.lemmas.Bool.{le-ltb}
-use Rattle.base_cells.specs.declared.Container.{Container}
-use Rattle.law_model.specs.declared.window.Window.{Window}
+use Rattle.member_cells.specs.declared.containers_and_cells.Container.{Container}
+use Rattle.law_model.specs.declared.window_types.Window.{Window}
 use Rattle.law_model.specs.members.Path.{path}
-use Rattle.member_path.specs.line_core.Line.{Line, opened, and_push, and_flush, path_cells, Stands}
+use Rattle.member_path.specs.path_delay.Line.{Line, opened, and_push, and_flush, path_cells, DelayStands}
 use Rattle.thread_rings.specs.Calls.{calls_on, IsOpened}
 
-pub calls-pushed : (old new : Line) (xs : List Container) (x : Container) → Stands new (and_push (calls_on old xs) x) →
+pub calls-pushed : (old new : Line) (xs : List Container) (x : Container) → DelayStands new (and_push (calls_on old xs) x) →
     and_push (calls_on old xs) x ≡ calls_on new (xs ++ x ∷ [])
 calls-pushed old new xs x stands = rw (stands.delay, stands.windows, stands.total, stands.flushed) refl
 
-pub calls-flushed : (old new : Line) (xs : List Container) → Stands new (and_flush (calls_on old xs)) →
+pub calls-flushed : (old new : Line) (xs : List Container) → DelayStands new (and_flush (calls_on old xs)) →
     and_flush (calls_on old xs) ≡ calls_on new xs
 calls-flushed old new xs stands = rw (stands.delay, stands.windows, stands.total, stands.flushed) refl
 

@@ -2,7 +2,7 @@
 use Rattle.std.proofs.Common.{List, [], ◌++◌, refl, sym, ◌∙◌, ap, arith, append_assoc}
 use Rattle.std.proofs.lemmas.List.{append-nil}
 use mathlib.Core.List.{IsPrefix}
-use Rattle.thread_rings.specs.declared.worker.LineWorker.{LineWorker}
+use Rattle.thread_rings.specs.declared.line_worker.LineWorker.{LineWorker}
 use Rattle.thread_rings.specs.Worker.{SameWorker, IsLater}
 use Rattle.thread_rings.proofs.EndLaws.{in-then, out-then}
 

@@ -1,9 +1,9 @@
 -- A worker has noted what it sent: at once, after one more cell, and over more than one carry.
 use Rattle.std.proofs.Common.{◌≡◌, ℕ, ◌+◌, ◌≤◌, List, ◌++◌, length, refl, sym, ◌∙◌, ap, subst, arith, length-append}
-use Rattle.base_cells.specs.declared.Cell.{Cell}
+use Rattle.member_cells.specs.declared.containers_and_cells.Cell.{Cell}
 use Rattle.law_model.specs.members.Damage.{carried}
 use Rattle.thread_rings.specs.Ends.{in_passed, out_passed}
-use Rattle.thread_rings.specs.declared.worker.LineWorker.{LineWorker}
+use Rattle.thread_rings.specs.declared.line_worker.LineWorker.{LineWorker}
 use Rattle.thread_rings.specs.Alarms.{alarms_from, alarms_of_line}
 use Rattle.thread_rings.specs.Worker.{number_of, total_of, last_raised, HasNoted}
 use Rattle.thread_rings.proofs.AlarmLaws.{noted-more, cells-few}

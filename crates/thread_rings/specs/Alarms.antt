@@ -1,10 +1,10 @@
 -- The alarms of a line over the cells that it sent.
 use Rattle.std.specs.Prelude.{ℕ, suc, Bool, true, false, Option, Some, None, List, [], ◌∷◌, ◌++◌}
-use Rattle.base_cells.specs.declared.Cell.{Cell}
-use Rattle.base_cells.specs.declared.Cell.TheVariants.{Good, Fail, End}
-use Rattle.thread_rings.specs.declared.alarm.Alarm.{Alarm}
-use Rattle.thread_rings.specs.declared.alarm.AlarmKind.{AlarmKind}
-use Rattle.thread_rings.specs.declared.alarm.AlarmKind.TheVariants.{Fails, Returns, Ends}
+use Rattle.member_cells.specs.declared.containers_and_cells.Cell.{Cell}
+use Rattle.member_cells.specs.declared.containers_and_cells.Cell.TheVariants.{Good, Fail, End}
+use Rattle.thread_rings.specs.declared.alarm_kinds.Alarm.{Alarm}
+use Rattle.thread_rings.specs.declared.alarm_kinds.AlarmKind.{AlarmKind}
+use Rattle.thread_rings.specs.declared.alarm_kinds.AlarmKind.TheVariants.{Fails, Returns, Ends}
 
 -- the alarm of line m at place i that says this
 abbrev pub alarm_at : ℕ → ℕ → AlarmKind → Alarm

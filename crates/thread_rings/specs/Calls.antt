@@ -1,11 +1,11 @@
 -- The calls on the line of a worker.
 use Rattle.std.specs.Prelude.{◌≡◌, List, [], ◌∷◌, ◌++◌}
-use Rattle.base_cells.specs.declared.Container.{Container}
-use Rattle.base_cells.specs.declared.Cell.{Cell}
-use Rattle.member_path.specs.declared.line_core.carry.CarrySign.{CarrySign}
-use Rattle.member_path.specs.declared.line_core.carry.CarrySign.TheVariants.{Nothing, Good, Fail, End}
-use Rattle.member_path.specs.line_core.Carry.{carry_cells}
-use Rattle.member_path.specs.line_core.Line.{Line, Calls, opened, and_push, and_flush, path_cells, Stands, Counts}
+use Rattle.member_cells.specs.declared.containers_and_cells.Container.{Container}
+use Rattle.member_cells.specs.declared.containers_and_cells.Cell.{Cell}
+use Rattle.member_path.specs.declared.path_delay.carry_sign.CarrySign.{CarrySign}
+use Rattle.member_path.specs.declared.path_delay.carry_sign.CarrySign.TheVariants.{Nothing, Good, Fail, End}
+use Rattle.member_path.specs.path_delay.Carry.{carry_cells}
+use Rattle.member_path.specs.path_delay.Line.{Line, Calls, opened, and_push, and_flush, path_cells, DelayStands, Counts}
 
 -- the calls on a line that was given these containers
 abbrev pub calls_on : Line → List Container → Calls
@@ -19,7 +19,7 @@ calls_on line containers = record {
 
 -- nothing was pushed into the line
 abbrev pub IsOpened : Line → Type 0
-IsOpened line = Stands line (opened line.delay line.windows line.total)
+IsOpened line = DelayStands line (opened line.delay line.windows line.total)
 
 -- the cells that a carry gives, where a cell lies in the hand
 abbrev pub hand_cells : CarrySign → Cell → List Cell
@@ -32,8 +32,8 @@ hand_cells End cell = cell ∷ []
 pub record IsPushed (old new : Line) (container : Container) (carry : CarrySign) (hand : Cell) : Type 0 where
   pub place : Container
   pub given : hand_cells carry hand ≡ carry_cells carry place
-  pub stands : (calls : Calls) → Stands old calls → Stands new (and_push calls container)
-  pub cells : (calls : Calls) → Stands old calls →
+  pub stands : (calls : Calls) → DelayStands old calls → DelayStands new (and_push calls container)
+  pub cells : (calls : Calls) → DelayStands old calls →
       path_cells (and_push calls container) ≡ path_cells calls ++ carry_cells carry place
   pub counts : Counts old new 1 0
 
@@ -41,7 +41,7 @@ pub record IsPushed (old new : Line) (container : Container) (carry : CarrySign)
 pub record IsFlushed (old new : Line) (carry : CarrySign) (hand : Cell) : Type 0 where
   pub place : Container
   pub given : hand_cells carry hand ≡ carry_cells carry place
-  pub stands : (calls : Calls) → Stands old calls → Stands new (and_flush calls)
-  pub cells : (calls : Calls) → Stands old calls →
+  pub stands : (calls : Calls) → DelayStands old calls → DelayStands new (and_flush calls)
+  pub cells : (calls : Calls) → DelayStands old calls →
       path_cells (and_flush calls) ≡ path_cells calls ++ carry_cells carry place
   pub counts : Counts old new 0 1

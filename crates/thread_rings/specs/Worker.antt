@@ -1,12 +1,12 @@
 -- What a worker of a line has carried.
 use Rattle.std.specs.Prelude.{◌≡◌, ℕ, ◌+◌, ◌<◌, ◌≤◌, List, [], ◌++◌, length}
 use mathlib.Core.List.{IsPrefix}
-use Rattle.base_io.specs.Faults.{one_more}
-use Rattle.law_model.specs.declared.window.Window.{Window}
+use Rattle.octet_io.specs.Faults.{one_more}
+use Rattle.law_model.specs.declared.window_types.Window.{Window}
 use Rattle.thread_rings.specs.Ends.{out_passed, out_free, out_misses, in_passed, in_items, in_misses, SameOut, SameIn}
-use Rattle.thread_rings.specs.declared.alarm.Alarm.{Alarm}
+use Rattle.thread_rings.specs.declared.alarm_kinds.Alarm.{Alarm}
 use Rattle.thread_rings.specs.Alarms.{alarms_of_line}
-use Rattle.thread_rings.specs.declared.worker.LineWorker.{LineWorker}
+use Rattle.thread_rings.specs.declared.line_worker.LineWorker.{LineWorker}
 
 -- the number of the line
 abbrev pub number_of : LineWorker → ℕ

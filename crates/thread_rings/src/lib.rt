@@ -5,17 +5,17 @@
 //! are not started here. Begin with `RingOut` and `RingIn`, and then `LineWorker`.
 #![tactic(auto)]
 
-mod alarm;
-mod ends;
-mod gate;
-mod place;
-mod raised;
-mod rings;
-mod worker;
+mod alarm_kinds;
+mod ring_ends;
+mod burst_gate;
+mod ring_places;
+mod raised_alarms;
+mod new_rings;
+mod line_worker;
 
-pub use alarm::{Alarm, AlarmKind};
-pub use ends::{RingIn, RingOut};
-pub use gate::{Gate, OpenGate, Who};
-pub use place::{CellPlace, Placed};
-pub use rings::{LineEnds, back_ring, line_rings};
-pub use worker::{Burst, IdleCause, LineWorker};
+pub use alarm_kinds::{Alarm, AlarmKind};
+pub use ring_ends::{RingIn, RingOut};
+pub use burst_gate::{Gate, OpenGate, Who};
+pub use ring_places::{CellPlace, Placed};
+pub use new_rings::{LineEnds, back_ring, line_rings};
+pub use line_worker::{Burst, IdleCause, LineWorker};

@@ -1,4 +1,4 @@
-pub mod Lines
+pub mod ServedLines
 pub mod Flags
 pub mod Held
 pub mod Duty

@@ -5,22 +5,22 @@ use Rattle.std.proofs.lemmas.Bool.{cases_Bool}
 use Rattle.std.proofs.lemmas.Bool.Decides.{nat_tests}
 use Rattle.std.proofs.lemmas.List.{append-nil, length-map}
 use Rattle.std.proofs.lemmas.Option.{slice_get_within}
-use Rattle.base_cells.specs.declared.Cell.{Cell}
-use Rattle.base_cells.specs.declared.BackCell.{BackCell}
+use Rattle.member_cells.specs.declared.containers_and_cells.Cell.{Cell}
+use Rattle.member_cells.specs.declared.containers_and_cells.BackCell.{BackCell}
 use Rattle.law_model.specs.frames.Run.{delineate_within}
 use Rattle.law_model.specs.frames.Hunt.{hunt_within}
 use Rattle.law_model.specs.frames.Segment.{segments_on}
 use Rattle.law_line.specs.StableRows.{IsLonger, AreDecidedAt}
 use Rattle.law_line.proofs.ListLaws.{slice_get-inside}
-use Rattle.member_rows.specs.realign_core.Gather.{Gather, with_cell}
-use Rattle.member_rows.specs.realign_core.Gather.{Stands as Gathers}
+use Rattle.member_rows.specs.realign_rows.Gather.{Gather, with_cell}
+use Rattle.member_rows.specs.realign_rows.Gather.{GatherStands as Gathers}
 use Rattle.thread_rings.specs.Ends.{InEnd}
 use Rattle.thread_rings.specs.Ends.{OutEnd}
 use Rattle.thread_rings.specs.Ends.{in_passed, SameIn}
 use Rattle.thread_rings.proofs.EndLaws.{in-then, out-then}
-use Rattle.base_io.specs.Start.{Start}
+use Rattle.octet_io.specs.Start.{Start}
 use Rattle.terminal_sink.specs.sink_core.Given.{given_frames, added_frames, back_at}
-use Rattle.terminal_sink.specs.sink_core.Core.{Core, Stands}
+use Rattle.terminal_sink.specs.sink_core.Core.{Core, SinkStands}
 use Rattle.terminal_sink.proofs.SinkCoreLaws.LaterLaws.{stands-longer, frames-stay, back-stays, with_cell-longer, frames-grow}
 use Rattle.thread_sink.specs.Received.{received, popped, back_cells, backs, AreSameIns}
 use Rattle.thread_sink.specs.Parts.{Parts, parts, Keeps, Later, Gives}
@@ -169,7 +169,7 @@ keeps-cell was now core rx after back line took ends keeps =
     let longer = with_cell-longer (received rx) line took.cell in
     record {
       gathers = subst (Gathers now) (sym took.passed) (took.grew.gathers (received rx) keeps.gathers);
-      stands = subst (Stands core) (sym took.passed)
+      stands = subst (SinkStands core) (sym took.passed)
           (stands-longer core (received rx) (with_cell (received rx) line took.cell) longer keeps.stands);
       lines = took.grew.lines ∙ keeps.lines;
       rings = ends.count ∙ keeps.rings;

@@ -1,21 +1,21 @@
 -- The parts of a sink over rings, and what a step does to them.
 use Rattle.std.specs.Prelude.{◌≡◌, ℕ, ◌%◌, ◌<◌, ◌≤◌, ◌⊎◌, List, ◌++◌, length, Some, None}
-use Rattle.base_io.specs.Faults.{one_more}
-use Rattle.base_cells.specs.declared.Cell.{Cell}
-use Rattle.base_cells.specs.declared.BackCell.{BackCell}
+use Rattle.octet_io.specs.Faults.{one_more}
+use Rattle.member_cells.specs.declared.containers_and_cells.Cell.{Cell}
+use Rattle.member_cells.specs.declared.containers_and_cells.BackCell.{BackCell}
 use Rattle.law_model.specs.rows.Rows.{first_open}
 use Rattle.law_line.specs.StableRows.{IsLonger}
-use Rattle.member_rows.specs.realign_core.Gather.{Gather, line_count}
-use Rattle.member_rows.specs.realign_core.Gather.{Stands as Gathers}
-use Rattle.base_io.specs.Start.{Start}
-use Rattle.terminal_sink.specs.sink_core.Core.{Core, Stands}
+use Rattle.member_rows.specs.realign_rows.Gather.{Gather, line_count}
+use Rattle.member_rows.specs.realign_rows.Gather.{GatherStands as Gathers}
+use Rattle.octet_io.specs.Start.{Start}
+use Rattle.terminal_sink.specs.sink_core.Core.{Core, SinkStands}
 use Rattle.terminal_sink.specs.sink_core.Given.{added_frames}
 use Rattle.thread_rings.specs.Ends.{InEnd}
 use Rattle.thread_rings.specs.Ends.{OutEnd}
 use Rattle.thread_rings.specs.Ends.{out_passed, out_free, out_misses, SameOut}
-use Rattle.thread_sink.specs.declared.burst.SinkBurst.{SinkBurst}
-use Rattle.thread_sink.specs.declared.burst.SinkBurst.TheVariants.{Moved, Idle, Done}
-use Rattle.thread_sink.specs.declared.burst.SinkIdle.TheVariants.{Waiting, BackFull}
+use Rattle.thread_sink.specs.declared.burst_answers.SinkBurst.{SinkBurst}
+use Rattle.thread_sink.specs.declared.burst_answers.SinkBurst.TheVariants.{Moved, Idle, Done}
+use Rattle.thread_sink.specs.declared.burst_answers.SinkIdle.TheVariants.{Waiting, BackFull}
 use Rattle.thread_sink.specs.Received.{received, popped, backs, AreSameIns, Missed}
 
 -- the rows, the sink of them, the rings of the lines, and the return ring
@@ -32,7 +32,7 @@ parts rows core rx back = record { rows = rows; core = core; rx = rx; back = bac
 -- sent
 pub record Keeps (at : Parts) : Type 0 where
   pub gathers : Gathers at.rows (received at.rx)
-  pub stands : Stands at.core (received at.rx)
+  pub stands : SinkStands at.core (received at.rx)
   pub lines : line_count at.rows ≡ at.core.lines
   pub rings : length at.rx ≡ at.core.lines
   pub rows : at.rows.rows ≡ at.core.taken

@@ -1,7 +1,7 @@
 -- What a worker of the sink has received, taken and sent.
 use Rattle.std.specs.Prelude.{◌≡◌, ℕ, Bool, List}
-use Rattle.base_cells.specs.declared.Cell.{Cell}
-use Rattle.thread_sink.specs.declared.worker.SinkWorker.{SinkWorker}
+use Rattle.member_cells.specs.declared.containers_and_cells.Cell.{Cell}
+use Rattle.thread_sink.specs.declared.sink_worker.SinkWorker.{SinkWorker}
 use Rattle.thread_sink.specs.Received.{received}
 use Rattle.terminal_sink.specs.sink_core.Given.{given_frames}
 use Rattle.thread_sink.specs.Told.{count_of}
@@ -45,6 +45,6 @@ IsLater a b = (ticks_of b ≡ ticks_of a) × Later (parts_of a) (parts_of b)
 -- the worker stands where the cells that were popped have brought it: rows, frames and return packets are those of
 -- these cells, of which
 -- the return packets were sent, and the frames counted
-pub record Stands (worker : SinkWorker) : Type 0 where
+pub record SinkWorkerStands (worker : SinkWorker) : Type 0 where
   pub keeps : Keeps (parts_of worker)
   pub counted : got_of worker ≡ count_of (given_frames (size_of worker) (cells_of worker) (taken_of worker))

@@ -3,14 +3,14 @@
 #![tactic(auto)]
 
 #[cfg(test)]
-mod courses;
+mod walk_courses;
 #[cfg(test)]
-mod edge;
+mod octet_streams;
 #[cfg(test)]
-mod groups;
+mod group_state;
 #[cfg(test)]
-mod loads;
+mod made_loads;
 #[cfg(test)]
-mod scripts;
+mod script_statements;
 #[cfg(test)]
-mod walks;
+mod walk_events;

@@ -2,7 +2,7 @@
 //! of a group on threads.
 #![tactic(auto)]
 
-use base_io::{StdSink, StdSource};
+use octet_io::{StdSink, StdSource};
 use command_parts::{NO_MEMORY, given_words};
 use command_run::run_top;
 use std::process::ExitCode;

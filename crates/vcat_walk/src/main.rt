@@ -2,7 +2,7 @@
 //! commands on one thread.
 #![tactic(auto)]
 
-use base_io::{StdSink, StdSource};
+use octet_io::{StdSink, StdSource};
 use command_parts::{NO_MEMORY, given_words};
 use command_walk::walk_top;
 use std::process::ExitCode;

@@ -3,8 +3,8 @@
 //! Behind the last turn stand the places of the frames.
 ghost use Rattle.std.specs.Prelude.{◌≡◌, ◌<◌, List, replicate, IfOk, IfErr, OnOk};
 ghost use Rattle.std.specs.List.{flat_map};
-ghost use Rattle.law_model.specs.declared.script.Script.{Script};
-ghost use Rattle.law_model.specs.declared.walk.Event.{Event};
+ghost use Rattle.law_model.specs.declared.script_types.Script.{Script};
+ghost use Rattle.law_model.specs.declared.walk_events.Event.{Event};
 ghost use Rattle.law_model.specs.session.Leg.{leg_of};
 ghost use Rattle.law_model.specs.session.Valid.{IsValid, IsEvent};
 ghost use Rattle.law_model.specs.session.Counts.{begin, run, run_line, drain, bound};
@@ -16,11 +16,11 @@ ghost use Rattle.command_parts.specs.Scripts.{HasScript, script_answer};
 ghost use Rattle.command_parts.specs.Stops.{StopsReading};
 ghost use Rattle.command_walk.specs.Told.{events_of, IsTurn};
 ghost use Rattle.fate_walks.specs.walk_fates.Seen.{Sees};
-ghost use Rattle.fate_walks.specs.walk_fates.Lines.{SeesWalk};
+ghost use Rattle.fate_walks.specs.walk_fates.MadeWalk.{SeesWalk};
 
-use crate::turns::events::{Turn, silent_turn, turns_of};
-use crate::turns::ready::{LinesAndTicks, read_walk};
-use base_io::ByteSource;
+use crate::turns::trace_turns::{Turn, silent_turn, turns_of};
+use crate::turns::ready_walk::{LinesAndTicks, read_walk};
+use octet_io::ByteSource;
 use command_parts::Stop;
 use fate_walks::walk_fates::{SeenRows, SeenWalk, nothing_seen, place_frames, see_since};
 use law_model::EventLine;

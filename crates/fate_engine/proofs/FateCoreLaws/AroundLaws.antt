@@ -13,8 +13,8 @@ use Rattle.fate_engine.specs.fate_law.Spans.{Span, row_segment, row_segments_wit
 use Rattle.fate_engine.specs.fate_law.Spans.{later_segments}
 use Rattle.fate_engine.proofs.FateLaws.RowLaws.{with_row, next_segment, tail, segments-tail}
 use Rattle.fate_engine.proofs.FateLaws.SpanLaws.{span_tail, spans-tail}
-use Rattle.fate_engine.specs.declared.fate_core.segments.Around.{Around}
-use Rattle.fate_engine.specs.fate_core.Segments.{SegmentList, Stands, is_told, IsAround, AreInOrder, AreSegments}
+use Rattle.fate_engine.specs.declared.fate_core.row_segments.Around.{Around}
+use Rattle.fate_engine.specs.fate_core.Segments.{SegmentList, SegmentsStand, is_told, IsAround, AreInOrder, AreSegments}
 use Rattle.fate_engine.proofs.FateCoreLaws.ListLaws.{drop-end}
 use Rattle.fate_engine.proofs.FateCoreLaws.SegmentLaws.{later-kept, spoiled-same}
 
@@ -265,7 +265,7 @@ front-of (own ∷ ended) (suc i) segment there = let rest = front-of ended i seg
     (rest.0, rest.1, omega (arith, rest.2), rest.3)
 
 -- ---- what is told of a row
-module _ (kept : SegmentList) (rows : List StreamRow) (stands : Stands kept rows) (are : AreSegments kept) (r : ℕ)
+module _ (kept : SegmentList) (rows : List StreamRow) (stands : SegmentsStand kept rows) (are : AreSegments kept) (r : ℕ)
     (low : r < length rows) where
   abbrev told : List RowSegment
   told = if is_told kept then kept.last ∷ [] else []

@@ -18,7 +18,7 @@ use Rattle.fate_engine.specs.fate_law.SessionFates.{fate_at, fate_if}
 use Rattle.fate_engine.specs.fate_law.Ruler.{sides, ruler_of}
 use Rattle.fate_engine.proofs.FateLaws.RowLaws.{row-of_place}
 use Rattle.fate_engine.proofs.FateLaws.SpanLaws.{fate-rows}
-use Rattle.fate_engine.specs.declared.fate_core.segments.Around.{Around}
+use Rattle.fate_engine.specs.declared.fate_core.row_segments.Around.{Around}
 use Rattle.fate_engine.specs.fate_core.Segments.{IsAround}
 use Rattle.fate_engine.specs.fate_core.Around.{begins_from, settles, fate_by_mark, fate_around}
 use Rattle.fate_engine.specs.fate_core.Sides.{AreInOrder}

@@ -13,7 +13,7 @@ use Rattle.std.proofs.lemmas.Bool.{cases_lt, leb-true, leb-false, le-leb, lt-ltb
 use Rattle.law_model.specs.session.Scenario.{Scenario}
 use Rattle.law_model.specs.source.Table.{Told}
 use Rattle.law_model.specs.source.Client.{width, place_of}
-use Rattle.fate_engine.specs.declared.fate_core.packets.Packet.{Packet}
+use Rattle.fate_engine.specs.declared.fate_core.packet_rows.Packet.{Packet}
 use Rattle.fate_engine.specs.fate_core.Packets.{PacketList, ArePackets, packets_in, start_by, IsPacketList}
 
 -- ---- sums of lengths

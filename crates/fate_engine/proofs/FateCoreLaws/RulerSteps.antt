@@ -8,7 +8,7 @@ use Rattle.std.proofs.lemmas.Bool.{le-leb, lt-leb, leb-true, leb-false, lt-ltb, 
 use Rattle.std.proofs.lemmas.List.{length-map, map-append}
 use Rattle.std.proofs.lemmas.List.Elements.{All-cons}
 use Rattle.fate_engine.specs.fate_law.Ruler.{Ruler, ruled}
-use Rattle.fate_engine.specs.declared.fate_core.ruler.Piece.{Piece}
+use Rattle.fate_engine.specs.declared.fate_core.frame_ruler.Piece.{Piece}
 use Rattle.fate_engine.specs.fate_core.Sides.{side_of, ruler_in, with_begun, AreInOrder, IsBegun, IsRuler}
 
 -- ---- lists

@@ -16,7 +16,7 @@ use Rattle.fate_engine.specs.declared.fate_law.RowSegment.{RowSegment}
 use Rattle.fate_engine.specs.fate_law.Fates.{spoiled_from}
 use Rattle.fate_engine.specs.fate_law.Spans.{Span, Spans, span_by, spans_on, no_spans, row_segment, row_segments_with, row_segments}
 use Rattle.fate_engine.specs.fate_law.Spans.{has_row, later_segments}
-use Rattle.fate_engine.specs.fate_core.Segments.{SegmentList, Tells, ended_segments, last_segment, Stands, is_told, gone_on}
+use Rattle.fate_engine.specs.fate_core.Segments.{SegmentList, Tells, ended_segments, last_segment, SegmentsStand, is_told, gone_on}
 use Rattle.fate_engine.specs.fate_core.Segments.{broken_off, AreInOrder, AreSegments}
 
 -- ---- spans beside segments
@@ -204,7 +204,7 @@ spoiled-same t (row ∷ rows) r low high =
 
 -- ---- what is kept
 -- the later segments that have a row
-pub later-kept : (kept : SegmentList) (rows : List StreamRow) → Stands kept rows →
+pub later-kept : (kept : SegmentList) (rows : List StreamRow) → SegmentsStand kept rows →
     later_segments rows ≡ kept.ended ++ (if is_told kept then kept.last ∷ [] else [])
 later-kept kept rows stands = ap (λ l. filter has_row (drop 1 l)) (all-segments rows)
     ∙ by (ended_segments rows) stands.ended stands.broken
@@ -226,7 +226,7 @@ later-kept kept rows stands = ap (λ l. filter has_row (drop 1 l)) (all-segments
         own false is = rw is refl
 
 pub none-kept : (kept : SegmentList) → kept.rows ≡ 0 → kept.first ≡ 0 → kept.ended ≡ [] →
-    kept.last ≡ record { first = 0; end = 0; mark = None } → kept.base ≡ 0 → Stands kept []
+    kept.last ≡ record { first = 0; end = 0; mark = None } → kept.base ≡ 0 → SegmentsStand kept []
 unfolding spoiled_from spans_on segments_on row_segments_with hunt_within
 none-kept kept rows first ended last base = record {
   count = rows;
@@ -238,7 +238,7 @@ none-kept kept rows first ended last base = record {
 }
 
 -- with one more row
-module _ (kept : SegmentList) (rows : List StreamRow) (row : StreamRow) (stands : Stands kept rows)
+module _ (kept : SegmentList) (rows : List StreamRow) (row : StreamRow) (stands : SegmentsStand kept rows)
     (are : AreSegments kept) where
   broken-first : kept.first < kept.last.first → spoiled_from 0 rows < 0 + length rows
   broken-first low =
@@ -253,7 +253,7 @@ module _ (kept : SegmentList) (rows : List StreamRow) (row : StreamRow) (stands 
       omega (arith, goes, count, first)
 
   pub go-on : (end : ℕ) (confirmed : Option ℕ) → row.whole ≡ true → Tells (rows ++ row ∷ []) end confirmed →
-      Stands (gone_on kept confirmed) (rows ++ row ∷ [])
+      SegmentsStand (gone_on kept confirmed) (rows ++ row ∷ [])
   go-on end confirmed whole tells = record {
     count = (let all = length-append rows (row ∷ []) in let count = stands.count in omega (arith, all, count));
     first = by-first;
@@ -304,7 +304,7 @@ module _ (kept : SegmentList) (rows : List StreamRow) (row : StreamRow) (stands 
           ]
 
   pub break-off : (end : ℕ) (confirmed : Option ℕ) → row.whole ≡ false → Tells (rows ++ row ∷ []) end confirmed →
-      Stands (broken_off kept end) (rows ++ row ∷ [])
+      SegmentsStand (broken_off kept end) (rows ++ row ∷ [])
   break-off end confirmed cut tells = record {
     count = (let all = length-append rows (row ∷ []) in let count = stands.count in omega (arith, all, count));
     first = by-first;

@@ -7,9 +7,9 @@ use Rattle.std.specs.List.Sorted.{IsPartitionedBy, IsPartitionPoint}
 use Rattle.std.proofs.Math.Seq.{take-length}
 use Rattle.std.proofs.lemmas.Bool.{cases_lt, leb-true, leb-false, le-leb, lt-leb}
 use Rattle.std.proofs.lemmas.List.{length-drop}
-use Rattle.law_model.specs.declared.window.Window.{Window}
-use Rattle.law_model.specs.declared.window.Carried.{Carried}
-use Rattle.law_model.specs.declared.window.Carried.TheVariants.{Whole}
+use Rattle.law_model.specs.declared.window_types.Window.{Window}
+use Rattle.law_model.specs.declared.window_types.Carried.{Carried}
+use Rattle.law_model.specs.declared.window_types.Carried.TheVariants.{Whole}
 use Rattle.law_model.specs.members.Damage.{carried_in, carried, is_whole, are_whole, AreWindows}
 use Rattle.law_model.proofs.PathLaws.{carried-in, carried-before}
 use Rattle.member_path.proofs.FailureWindowLaws.WindowLaws.{carried-early, are-drop, carried-drop, ends-rise}

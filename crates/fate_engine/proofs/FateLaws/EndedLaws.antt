@@ -3,11 +3,11 @@ use Rattle.std.proofs.Common.{◌≡◌, ℕ, zero, suc, ◌<◌, ◌≤◌, ◌
 use Rattle.std.proofs.Common.{drop, All, Option, Some, None, slice_get, refl, sym, ◌∙◌, ap, subst, arith, inl, inr}
 use Rattle.std.specs.List.{flat_map}
 use Rattle.std.proofs.lemmas.Bool.{cases_Bool}
-use Rattle.law_model.specs.declared.script.ItemKind.{ItemKind}
-use Rattle.law_model.specs.declared.script.ItemKind.TheVariants.{Frame, Add, Remove}
+use Rattle.law_model.specs.declared.script_types.ItemKind.{ItemKind}
+use Rattle.law_model.specs.declared.script_types.ItemKind.TheVariants.{Frame, Add, Remove}
 use Rattle.law_model.specs.session.Leg.{Leg}
 use Rattle.law_model.specs.frames.Loss.{Extent}
-use Rattle.law_model.specs.declared.refusal.Refusal.{Refusal}
+use Rattle.law_model.specs.declared.item_refusals.Refusal.{Refusal}
 use Rattle.law_loss.proofs.FilterLaws.{filter-none}
 use Rattle.law_walk.specs.Landed.{Numbered, refusal_at}
 use Rattle.law_walk.specs.Promise.{frame_by}

@@ -7,9 +7,9 @@ use Rattle.std.specs.List.{flat_map}
 use Rattle.std.specs.List.Sorted.{IsNonDecreasingBy}
 use Rattle.std.proofs.lemmas.Bool.{cases_Bool, lt-ltb, le-ltb, ltb-false}
 use Rattle.std.proofs.lemmas.List.Concat.{flat_map-append}
-use Rattle.law_model.specs.declared.script.Item.{Item}
-use Rattle.law_model.specs.declared.script.ItemKind.{ItemKind}
-use Rattle.law_model.specs.declared.script.ItemKind.TheVariants.{Frame, Add, Remove}
+use Rattle.law_model.specs.declared.script_types.Item.{Item}
+use Rattle.law_model.specs.declared.script_types.ItemKind.{ItemKind}
+use Rattle.law_model.specs.declared.script_types.ItemKind.TheVariants.{Frame, Add, Remove}
 use Rattle.law_model.specs.session.Leg.{Leg}
 use Rattle.law_model.specs.session.Scenario.{Scenario, DueFrame, offer_of, offers_of, scenario_by}
 use Rattle.law_model.specs.source.Table.{Told}
@@ -20,7 +20,7 @@ use Rattle.law_model.specs.session.Valid.{IsSound}
 use Rattle.law_session.specs.Landing.{is_come}
 use Rattle.law_session.proofs.LandingLaws.{offers_land}
 use Rattle.law_loss.proofs.LawScriptLaws.ItemLaws.{offers_rise}
-use Rattle.law_model.specs.declared.refusal.Refusal.{Refusal}
+use Rattle.law_model.specs.declared.item_refusals.Refusal.{Refusal}
 use Rattle.law_walk.specs.Walk.{IsWalked}
 use Rattle.law_walk.specs.Landed.{Numbered, is_client, with_if, landed_from, landed_items, kind_refusal}
 use Rattle.law_walk.specs.Promise.{numbered, frame_by, accepted_frames}

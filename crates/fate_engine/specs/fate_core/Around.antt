@@ -6,7 +6,7 @@ use Rattle.fate_engine.specs.declared.fate_law.Fate.TheVariants.{Cut, Unconfirme
 use Rattle.law_model.specs.frames.Piece.{Piece}
 use Rattle.fate_engine.specs.declared.fate_law.RowSegment.{RowSegment}
 use Rattle.fate_engine.specs.fate_law.Marks.{is_true_mark}
-use Rattle.fate_engine.specs.declared.fate_core.segments.Around.{Around}
+use Rattle.fate_engine.specs.declared.fate_core.row_segments.Around.{Around}
 
 -- a piece begins at a place or later
 abbrev pub begins_from : ℕ → Option (ℕ × ℕ) → Bool

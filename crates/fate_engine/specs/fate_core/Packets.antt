@@ -4,7 +4,7 @@ use Rattle.std.specs.Prelude.{slice_index_or, []}
 use Rattle.law_model.specs.session.Scenario.{Scenario}
 use Rattle.law_model.specs.source.Table.{Told, active}
 use Rattle.law_model.specs.source.Source.{table_of}
-use Rattle.fate_engine.specs.declared.fate_core.packets.Packet.{Packet}
+use Rattle.fate_engine.specs.declared.fate_core.packet_rows.Packet.{Packet}
 
 -- the octets of payload that a line has in a row, and the active lines under each packet, in the order of the packets
 pub record PacketList : Type 0 where

@@ -7,7 +7,7 @@ use Rattle.law_model.specs.frames.Loss.{confirmed_in}
 use Rattle.fate_engine.specs.declared.fate_law.RowSegment.{RowSegment}
 use Rattle.fate_engine.specs.fate_law.Fates.{spoiled_after}
 use Rattle.fate_engine.specs.fate_law.Spans.{no_spans, spans_on, row_segment, row_segments_with, row_segments, mark_of_row, has_row}
-use Rattle.fate_engine.specs.declared.fate_core.segments.Around.{Around}
+use Rattle.fate_engine.specs.declared.fate_core.row_segments.Around.{Around}
 
 -- how many rows there are, and how many come before the first that isn't whole; the later segments that have ended and
 -- have a row, and the
@@ -36,7 +36,7 @@ abbrev pub last_segment : List StreamRow → RowSegment
 last_segment rows = row_segment (spans_on no_spans rows).last (segments_of rows).last
 
 -- what is kept is that of rows
-pub record Stands (kept : SegmentList) (rows : List StreamRow) : Type 0 where
+pub record SegmentsStand (kept : SegmentList) (rows : List StreamRow) : Type 0 where
   pub count : kept.rows ≡ length rows
   pub first : kept.first ≡ spoiled_after rows 0
   pub ended : kept.ended ≡ filter has_row (drop 1 (ended_segments rows))

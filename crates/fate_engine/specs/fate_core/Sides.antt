@@ -2,7 +2,7 @@
 use Rattle.std.specs.Prelude.{◌≡◌, ℕ, ◌+◌, ◌-◌, ◌%◌, ◌==◌, ◌&&◌, nat_le, ◌≤◌, ◌<◌, ◌^◌, Bool, List, [], ◌∷◌, ◌++◌, map}
 use Rattle.std.specs.Prelude.{take, drop, length, filter, nat_lt, All, Some, slice_get, slice_index_or}
 use Rattle.fate_engine.specs.fate_law.Ruler.{Ruler}
-use Rattle.fate_engine.specs.declared.fate_core.ruler.Piece.{Piece}
+use Rattle.fate_engine.specs.declared.fate_core.frame_ruler.Piece.{Piece}
 
 -- where the piece of a frame begins and ends
 abbrev pub side_of : Piece → ℕ × ℕ

@@ -2,7 +2,7 @@
 use Rattle.std.specs.Prelude.{◌+◌}
 use Rattle.fate_engine.specs.declared.fate_law.Fate.{Fate}
 use Rattle.fate_engine.specs.declared.fate_law.Fate.TheVariants.{Waits, Cut, Unconfirmed, Hunting, Unsettled, Got}
-use Rattle.fate_engine.specs.declared.fate_core.totals.FateTotals.{FateTotals}
+use Rattle.fate_engine.specs.declared.fate_core.fate_totals.FateTotals.{FateTotals}
 
 abbrev one_lost : FateTotals → FateTotals
 one_lost totals = record { got = totals.got; lost = totals.lost + 1; waits = totals.waits }

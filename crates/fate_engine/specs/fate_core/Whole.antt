@@ -1,6 +1,6 @@
 -- Containers of a line that are whole.
 use Rattle.std.specs.Prelude.{ℕ, Bool, List, [], slice_index_or}
-use Rattle.law_model.specs.declared.window.Window.{Window}
+use Rattle.law_model.specs.declared.window_types.Window.{Window}
 use Rattle.law_model.specs.members.Damage.{carried, are_whole}
 
 -- so many from a first one on

@@ -9,12 +9,12 @@ ghost use Rattle.fate_engine.specs.fate_law.Ruler.{ruler_of};
 ghost use Rattle.fate_engine.specs.fate_law.Marks.{are_true_marks};
 ghost use Rattle.fate_engine.specs.fate_law.SessionFates.{fate_at};
 ghost use Rattle.fate_engine.specs.fate_core.Packets.{ArePackets};
-ghost use Rattle.fate_engine.specs.fate_core.Segments.{Stands};
+ghost use Rattle.fate_engine.specs.fate_core.Segments.{SegmentsStand};
 ghost use Rattle.fate_engine.specs.fate_core.Around.{settles, fate_around, is_true_of};
 
-use crate::fate_core::packets::Packets;
-use crate::fate_core::ruler::Ruler;
-use crate::fate_core::segments::{Around, Segments};
+use crate::fate_core::packet_rows::Packets;
+use crate::fate_core::frame_ruler::Ruler;
+use crate::fate_core::row_segments::{Around, Segments};
 use crate::fate_law::{Fate, RowSegment};
 
 /// Whether the frame before a frame begins at a place or later.
@@ -64,7 +64,7 @@ pub fn fate(frame: usize, ruler: &Ruler, packets: &Packets, segments: &Segments)
     requires { segments.now.rows ≤ 16 * length packets.now.active + 24 }
     ensures { (scenario : Scenario) (cells : List (Option Told)) (stream : Stream) (rows : ℕ) →
         ArePackets scenario cells packets.now → ruler.now ≡ ruler_of stream →
-        Stands segments.now (rows_of scenario cells rows) →
+        SegmentsStand segments.now (rows_of scenario cells rows) →
         result ≡ fate_at stream.pieces (rows_of scenario cells rows) frame }
 {
     let Some((from, to)) = ruler.sides(frame) else {
@@ -85,7 +85,7 @@ pub fn fate(frame: usize, ruler: &Ruler, packets: &Packets, segments: &Segments)
 /// Whether a piece begins at each place that is confirmed first in a segment but the first.
 pub fn starts_true(ruler: &Ruler, segments: &Segments) -> bool
     ensures { (stream : Stream) (rows : List StreamRow) →
-        ruler.now ≡ ruler_of stream → Stands segments.now rows →
+        ruler.now ≡ ruler_of stream → SegmentsStand segments.now rows →
         result ≡ are_true_marks stream.pieces rows }
 {
     for i in 0..segments.later_count() {

@@ -5,19 +5,19 @@
 //! want of memory nothing changes. Begin with `fate`, and with the three that it asks: `Ruler`, `Packets` and
 //! `Segments`.
 
-mod cause;
+mod cause_of_row;
 mod frame_fate;
-mod packets;
-mod ruler;
-mod segments;
-mod spoiled;
-mod totals;
+mod packet_rows;
+mod frame_ruler;
+mod row_segments;
+mod spoiled_runs;
+mod fate_totals;
 
 pub use crate::fate_law::{Cause, Fate, RowSegment, SpoiledRun};
-pub use cause::row_cause;
+pub use cause_of_row::row_cause;
 pub use frame_fate::{fate, starts_true};
-pub use packets::Packets;
-pub use ruler::Ruler;
-pub use segments::{Around, Segments};
-pub use spoiled::SpoiledRuns;
-pub use totals::FateTotals;
+pub use packet_rows::Packets;
+pub use frame_ruler::Ruler;
+pub use row_segments::{Around, Segments};
+pub use spoiled_runs::SpoiledRuns;
+pub use fate_totals::FateTotals;

@@ -9,9 +9,9 @@ use Rattle.std.specs.Option.{option_map}
 use Rattle.std.proofs.lemmas.Bool.{cases_Bool}
 use Rattle.std.proofs.lemmas.List.Concat.{flat_map-append}
 use Rattle.std.proofs.lemmas.List.Elements.{All-nil, All-cons, All-head, All-tail, All-drop, All-filter, filter-append}
-use Rattle.law_model.specs.declared.script.Item.{Item}
-use Rattle.law_model.specs.declared.script.ItemKind.{ItemKind}
-use Rattle.law_model.specs.declared.script.ItemKind.TheVariants.{Frame, Add, Remove}
+use Rattle.law_model.specs.declared.script_types.Item.{Item}
+use Rattle.law_model.specs.declared.script_types.ItemKind.{ItemKind}
+use Rattle.law_model.specs.declared.script_types.ItemKind.TheVariants.{Frame, Add, Remove}
 use Rattle.law_model.specs.session.Leg.{Leg}
 use Rattle.law_model.specs.frames.Piece.{Piece, stream_of}
 use Rattle.law_model.specs.frames.Hunt.{Confirmed, hunt}
@@ -22,7 +22,7 @@ use Rattle.law_model.specs.session.Counts.{Counts}
 use Rattle.law_loss.proofs.CutLaws.{IsPart}
 use Rattle.law_loss.proofs.FoundLaws.{confirmed-within}
 use Rattle.law_loss.proofs.SessionStreamLaws.{pieces-begin, rows-octets, rows-length}
-use Rattle.law_model.specs.declared.refusal.Refusal.{Refusal}
+use Rattle.law_model.specs.declared.item_refusals.Refusal.{Refusal}
 use Rattle.law_walk.specs.Walk.{session_of}
 use Rattle.law_walk.specs.Delivered.{session_rows}
 use Rattle.law_walk.specs.Promise.{session_pieces}
@@ -39,18 +39,18 @@ use Rattle.fate_engine.specs.fate_law.Spans.{mark_of_row}
 use Rattle.fate_engine.specs.fate_law.SessionFates.{End, refused, accepted, Ended, ended_by, ended_then, ended_on, ended_of}
 use Rattle.fate_engine.specs.fate_law.SessionFates.{fate_at, is_refused, has_got, has_waited, count_of}
 use Rattle.fate_engine.specs.fate_law.FateText.{ended_text, fates_end}
-use Rattle.fate_engine.specs.fate_text.Lines.{last_text}
+use Rattle.fate_engine.specs.fate_text.FateWording.{last_text}
 use Rattle.fate_engine.proofs.FateLaws.MadeLaws.{session-made}
 use Rattle.fate_engine.proofs.FateLaws.MarkLaws.{parts-of}
 use Rattle.fate_engine.proofs.FateLaws.RulerLaws.{piece-front}
 use Rattle.fate_engine.proofs.FateCoreLaws.FateSteps.{rows-count, place-up, row-is}
-use Rattle.fate_walks.specs.declared.walk_frames.landed.LandedFrame.{LandedFrame}
+use Rattle.fate_walks.specs.declared.walk_frames.landed_cursor.LandedFrame.{LandedFrame}
 use Rattle.fate_walks.specs.walk_frames.Landed.{Cursor, frames_before_item, frames_left, IsAt, IsNext, IsPast}
 use Rattle.fate_walks.proofs.WalkFramesLaws.LandedFrameLaws.{take-one}
 use Rattle.fate_walks.proofs.WalkFramesLaws.NextLaws.{next-count}
-use Rattle.fate_walks.specs.declared.walk_fates.seen.SeenWalk.{SeenWalk}
-use Rattle.fate_walks.specs.declared.walk_fates.lines.EndedCount.{EndedCount}
-use Rattle.fate_walks.specs.walk_fates.Lines.{SeesWalk, Counted, fates_in, end_by, counted_end}
+use Rattle.fate_walks.specs.declared.walk_fates.seen_rows.SeenWalk.{SeenWalk}
+use Rattle.fate_walks.specs.declared.walk_fates.fates_report.EndedCount.{EndedCount}
+use Rattle.fate_walks.specs.walk_fates.MadeWalk.{SeesWalk, Counted, fates_in, end_by, counted_end}
 
 -- ---- texts one after another
 pub flat-next : {X : Type 0} (f : X → List ℕ) (xs : List X) (i : ℕ) (x : X) → slice_get xs i ≡ Some x →

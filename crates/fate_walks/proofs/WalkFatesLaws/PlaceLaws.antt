@@ -5,14 +5,14 @@ use Rattle.law_model.specs.session.Leg.{Leg}
 use Rattle.law_model.specs.session.Scenario.{DueFrame, scenario_by, offers_of}
 use Rattle.law_model.specs.session.Counts.{Counts}
 use Rattle.law_model.specs.session.Valid.{IsSound}
-use Rattle.law_model.specs.declared.refusal.Refusal.{Refusal}
+use Rattle.law_model.specs.declared.item_refusals.Refusal.{Refusal}
 use Rattle.law_walk.specs.Walk.{session_of, IsWalked}
 use Rattle.law_walk.proofs.PlanLaws.{sound-walks}
 use Rattle.law_walk.proofs.EndLaws.{counts-within}
 use Rattle.law_walk.proofs.CountLaws.{place-most}
 use Rattle.fate_engine.specs.fate_law.Ruler.{Ruler, new_ruler, ruler_of, ruled, with_waiting}
 use Rattle.fate_engine.proofs.FateLaws.RulerLaws.{reached-ruled}
-use Rattle.fate_walks.specs.declared.walk_frames.landed.LandedFrame.{LandedFrame}
+use Rattle.fate_walks.specs.declared.walk_frames.landed_cursor.LandedFrame.{LandedFrame}
 use Rattle.fate_walks.specs.walk_frames.Landed.{Cursor, IsAt, IsNext, frames_before_item}
 use Rattle.fate_walks.specs.walk_frames.Places.{place_in, stream_in, Between, IsEarly, IsLate}
 use Rattle.fate_walks.proofs.WalkFramesLaws.StreamLaws.{met-start, met-tick, met-end}

@@ -27,16 +27,16 @@ use Rattle.law_walk.specs.Delivered.{session_rows}
 use Rattle.law_walk.proofs.PlanLaws.{sound-walks}
 use Rattle.law_walk.proofs.EndLaws.{counts-within}
 use Rattle.law_walk.proofs.CountLaws.{place-most}
-use Rattle.terminal_sink.specs.gfp_mark.Marks.{first_place}
+use Rattle.terminal_sink.specs.marked_delineator.Marks.{first_place}
 use Rattle.fate_engine.specs.declared.fate_law.Cause.{Cause}
 use Rattle.fate_engine.specs.fate_law.Spoiled.{row_cause}
 use Rattle.fate_engine.proofs.FateLaws.CauseLaws.{cause-whole}
 use Rattle.fate_engine.specs.fate_core.Packets.{PacketList}
-use Rattle.fate_engine.specs.fate_core.Segments.{Stands, Tells}
+use Rattle.fate_engine.specs.fate_core.Segments.{SegmentsStand, Tells}
 use Rattle.fate_engine.specs.fate_core.Runs.{AreRuns}
 use Rattle.fate_walks.specs.walk_fates.Places.{Governs}
 use Rattle.fate_walks.specs.walk_fates.Seen.{Sees}
-use Rattle.fate_walks.specs.declared.walk_fates.seen.SeenRows.{SeenRows}
+use Rattle.fate_walks.specs.declared.walk_fates.seen_rows.SeenRows.{SeenRows}
 
 -- ---- bounds
 pub few-rows : (leg : Leg) (s : Counts) → IsSound leg → IsWalked leg s → (s.rows ≤ s.ticks) ×
@@ -190,23 +190,23 @@ unfolding rows_of
 no-rows leg = refl
 
 pub sees-nothing : (leg : Leg) (size : ℕ) (seen : SeenRows) → leg.config.size ≡ size →
-    seen.packets ≡ record { size = size; active = [] } → Stands seen.segments [] → AreRuns seen.runs [] →
+    seen.packets ≡ record { size = size; active = [] } → SegmentsStand seen.segments [] → AreRuns seen.runs [] →
     Sees leg 0 0 seen
 sees-nothing leg size seen is made segments runs = record {
   packets = nothing-governs leg size seen.packets is made;
-  segments = subst (Stands seen.segments) (sym (no-rows leg)) segments;
+  segments = subst (SegmentsStand seen.segments) (sym (no-rows leg)) segments;
   runs = runs;
 }
 
 -- ---- one row more
 pub one-row : (leg : Leg) (ticks row rows : ℕ) (seen : SeenRows) → row + 1 ≡ rows →
     Governs leg ticks seen.packets →
-    Stands seen.segments (session_rows leg row ++ row_of (scenario_by leg) (session_of leg) row ∷ []) →
+    SegmentsStand seen.segments (session_rows leg row ++ row_of (scenario_by leg) (session_of leg) row ∷ []) →
     AreRuns seen.runs (map (row_cause (scenario_by leg) (session_of leg)) (range_with_len 0 row) ++ row_cause
     (scenario_by leg) (session_of leg) row ∷ []) → Sees leg ticks rows seen
 one-row leg ticks row rows seen next packets segments runs = subst (λ n. Sees leg ticks n seen) next (record {
   packets = packets;
-  segments = subst (Stands seen.segments) (sym (rows-next leg row)) segments;
+  segments = subst (SegmentsStand seen.segments) (sym (rows-next leg row)) segments;
   runs = subst (AreRuns seen.runs) (sym (causes-next leg row)) runs;
 })
 

@@ -6,17 +6,17 @@ use Rattle.std.proofs.lemmas.Bool.{lt-ltb}
 use Rattle.std.proofs.lemmas.List.{take_all, drop_all}
 use Rattle.std.proofs.lemmas.List.Concat.{flat_map-append}
 use Rattle.std.proofs.lemmas.List.Elements.{All-nil, All-cons, All-append, All-weaker}
-use Rattle.law_model.specs.declared.script.Item.{Item}
-use Rattle.law_model.specs.declared.script.ItemKind.{ItemKind}
-use Rattle.law_model.specs.declared.script.ItemKind.TheVariants.{Frame, Add, Remove}
+use Rattle.law_model.specs.declared.script_types.Item.{Item}
+use Rattle.law_model.specs.declared.script_types.ItemKind.{ItemKind}
+use Rattle.law_model.specs.declared.script_types.ItemKind.TheVariants.{Frame, Add, Remove}
 use Rattle.law_model.specs.session.Leg.{Leg}
 use Rattle.law_model.specs.session.Scenario.{DueFrame, offer_of, offers_of}
 use Rattle.law_model.specs.session.Counts.{Counts}
-use Rattle.law_model.specs.declared.refusal.Refusal.{Refusal}
+use Rattle.law_model.specs.declared.item_refusals.Refusal.{Refusal}
 use Rattle.law_walk.proofs.LandLaws.{frame-waits}
 use Rattle.law_walk.specs.Landed.{Numbered, is_client, with_if, landed_from, refused_by, refusal_at, refusals_among}
 use Rattle.law_walk.specs.Landed.{refusals_of}
-use Rattle.fate_walks.specs.declared.walk_frames.landed.LandedFrame.{LandedFrame}
+use Rattle.fate_walks.specs.declared.walk_frames.landed_cursor.LandedFrame.{LandedFrame}
 use Rattle.fate_walks.specs.walk_frames.Landed.{Cursor, frames_before_item, frames_left, IsAt, IsNext, IsSkipped, IsPast}
 
 -- ---- lists

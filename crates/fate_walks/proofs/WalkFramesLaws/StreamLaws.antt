@@ -6,7 +6,7 @@ use Rattle.std.proofs.lemmas.Bool.Decides.{nat_tests}
 use Rattle.std.proofs.lemmas.List.{map-append}
 use Rattle.std.proofs.lemmas.List.Elements.{filter-append}
 use Rattle.std.proofs.lemmas.List.Sums.{fold-append}
-use Rattle.law_model.specs.declared.refusal.AcceptFault.{AcceptFault}
+use Rattle.law_model.specs.declared.item_refusals.AcceptFault.{AcceptFault}
 use Rattle.law_model.specs.session.Leg.{Leg}
 use Rattle.law_model.specs.session.Scenario.{scenario_by, Scenario, DueFrame, comes_at}
 use Rattle.law_model.specs.source.Table.{Told}

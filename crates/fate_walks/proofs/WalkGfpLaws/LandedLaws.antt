@@ -8,11 +8,11 @@ use Rattle.std.specs.List.{flat_map}
 use Rattle.std.proofs.lemmas.Bool.{cases_Bool, lt-leb, ltb-false}
 use Rattle.std.proofs.lemmas.List.{length-map}
 use Rattle.std.proofs.lemmas.List.Elements.{All-tail, All-weaker}
-use Rattle.law_model.specs.declared.script.Item.{Item}
-use Rattle.law_model.specs.declared.script.ItemKind.{ItemKind}
-use Rattle.law_model.specs.declared.script.ItemKind.TheVariants.{Frame, Add, Remove}
+use Rattle.law_model.specs.declared.script_types.Item.{Item}
+use Rattle.law_model.specs.declared.script_types.ItemKind.{ItemKind}
+use Rattle.law_model.specs.declared.script_types.ItemKind.TheVariants.{Frame, Add, Remove}
 use Rattle.law_model.specs.session.Leg.{Leg}
-use Rattle.law_model.specs.declared.refusal.AcceptFault.TheVariants.{Length, QueueFull}
+use Rattle.law_model.specs.declared.item_refusals.AcceptFault.TheVariants.{Length, QueueFull}
 use Rattle.law_model.specs.Limits.{shortest_frame, longest_frame, most_waiting}
 use Rattle.law_model.specs.frames.Piece.{Piece, stream_of}
 use Rattle.law_model.specs.session.Scenario.{Scenario, scenario_by}
@@ -27,8 +27,8 @@ use Rattle.law_loss.proofs.FilterLaws.{filter-none}
 use Rattle.law_loss.proofs.ExtentLaws.{IsBetween, extents-between, extents-append}
 use Rattle.law_loss.proofs.SessionLossLaws.{frames-extents}
 use Rattle.law_loss.proofs.SessionStreamLaws.{pieces-begin, rows-length}
-use Rattle.law_model.specs.declared.refusal.Refusal.{Refusal}
-use Rattle.law_model.specs.declared.refusal.Refusal.TheVariants.{Frame as frame_fault}
+use Rattle.law_model.specs.declared.item_refusals.Refusal.{Refusal}
+use Rattle.law_model.specs.declared.item_refusals.Refusal.TheVariants.{Frame as frame_fault}
 use Rattle.law_walk.specs.Walk.{session_of, IsWalked}
 use Rattle.law_walk.specs.Delivered.{session_rows}
 use Rattle.law_walk.specs.Landed.{Numbered, is_client, with_if, landed_from, landed_items, refusal_at}
@@ -38,7 +38,7 @@ use Rattle.law_walk.proofs.EndLaws.{counts-within}
 use Rattle.law_walk.proofs.PromiseLaws.{frames-known}
 use Rattle.fate_engine.proofs.FateLaws.EndedLaws.{accepts}
 use Rattle.fate_engine.proofs.FateLaws.LandedLaws.{landed-first, before-few}
-use Rattle.fate_walks.specs.declared.walk_frames.landed.LandedFrame.{LandedFrame}
+use Rattle.fate_walks.specs.declared.walk_frames.landed_cursor.LandedFrame.{LandedFrame}
 use Rattle.fate_walks.specs.walk_frames.Landed.{Cursor, frames_before_item, frames_left, IsAt, IsNext, IsPast}
 use Rattle.fate_walks.specs.walk_frames.Places.{stream_in}
 use Rattle.fate_walks.proofs.WalkFramesLaws.NextLaws.{next-count, next-refusal}

@@ -7,12 +7,12 @@ use Rattle.law_walk.specs.Walk.{session_of}
 use Rattle.law_walk.specs.Delivered.{session_rows}
 use Rattle.fate_engine.specs.fate_law.Spoiled.{row_cause}
 use Rattle.fate_engine.specs.fate_core.Runs.{AreRuns}
-use Rattle.fate_engine.specs.fate_core.Segments.{Stands}
+use Rattle.fate_engine.specs.fate_core.Segments.{SegmentsStand}
 use Rattle.fate_walks.specs.walk_fates.Places.{Governs}
-use Rattle.fate_walks.specs.declared.walk_fates.seen.SeenRows.{SeenRows}
+use Rattle.fate_walks.specs.declared.walk_fates.seen_rows.SeenRows.{SeenRows}
 
 -- the packets whose decision steps some ticks made, and the first rows of a leg's session
 pub record Sees (leg : Leg) (ticks rows : ℕ) (seen : SeenRows) : Type 0 where
   pub packets : Governs leg ticks seen.packets
-  pub segments : Stands seen.segments (session_rows leg rows)
+  pub segments : SegmentsStand seen.segments (session_rows leg rows)
   pub runs : AreRuns seen.runs (map (row_cause (scenario_by leg) (session_of leg)) (range_with_len 0 rows))

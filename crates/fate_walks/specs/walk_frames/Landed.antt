@@ -1,7 +1,7 @@
 -- The client's items that have landed in a walk, one after another, as clauses say it.
 use Rattle.std.specs.Prelude.{◌≡◌, ℕ, ◌+◌, ◌-◌, ◌≤◌, List, [], ◌∷◌, length, take, drop, Some, slice_get}
-use Rattle.law_model.specs.declared.script.Item.{Item}
-use Rattle.law_model.specs.declared.script.ItemKind.TheVariants.{Frame}
+use Rattle.law_model.specs.declared.script_types.Item.{Item}
+use Rattle.law_model.specs.declared.script_types.ItemKind.TheVariants.{Frame}
 use Rattle.law_model.specs.session.Leg.{Leg}
 use Rattle.law_model.specs.session.Scenario.{offers_of}
 use Rattle.law_model.specs.session.Counts.{Counts}
@@ -9,7 +9,7 @@ use Rattle.law_model.specs.session.Valid.{IsSound}
 use Rattle.law_walk.specs.Walk.{IsWalked}
 use Rattle.law_walk.specs.Landed.{Numbered, landed_from, refusal_at, refusals_among, refusals_of}
 use Rattle.fate_walks.specs.walk_frames.Places.{IsLate}
-use Rattle.fate_walks.specs.declared.walk_frames.landed.LandedFrame.{LandedFrame}
+use Rattle.fate_walks.specs.declared.walk_frames.landed_cursor.LandedFrame.{LandedFrame}
 
 -- a place among the items of a leg: the next item, the next refusal, and how many frames from there on have landed
 pub record Cursor : Type 0 where

@@ -3,10 +3,10 @@
 //! written (`write_fates`), or a prefix of it if a write fails. `accepted_fate` says what became of one frame.
 //! No turn is made here. Begin with `SeenWalk`.
 
-mod lines;
-mod places;
-mod seen;
+mod fates_report;
+mod frame_places;
+mod seen_rows;
 
-pub use lines::{accepted_fate, write_fates};
-pub use places::place_frames;
-pub use seen::{SeenRows, SeenWalk, is_step, nothing_seen, see_since};
+pub use fates_report::{accepted_fate, write_fates};
+pub use frame_places::place_frames;
+pub use seen_rows::{SeenRows, SeenWalk, is_step, nothing_seen, see_since};

@@ -3,15 +3,15 @@
 //! with `FrameCursor`; `stream_law` is a law of definitions alone.
 
 ghost use Rattle.std.specs.Prelude.{◌≡◌, ℕ, ◌+◌, ◌<◌, ◌≤◌, List, length, Some, None};
-ghost use Rattle.law_model.specs.declared.refusal.AcceptFault.{AcceptFault};
+ghost use Rattle.law_model.specs.declared.item_refusals.AcceptFault.{AcceptFault};
 ghost use Rattle.law_model.specs.session.Leg.{Leg};
 ghost use Rattle.law_model.specs.source.Client.{Stream, frame_refusal, offered, reached};
 ghost use Rattle.fate_engine.specs.fate_law.Ruler.{new_ruler, ruler_of, with_waiting};
 ghost use Rattle.fate_walks.specs.walk_frames.Places.{place_in, stream_in, Between};
 
-mod landed;
+mod landed_cursor;
 
-pub use landed::{FrameCursor, LandedFrame};
+pub use landed_cursor::{FrameCursor, LandedFrame};
 
 /// The stream of a leg, frame by frame and tick by tick, and its ruler.
 pub fn stream_law()

@@ -12,9 +12,9 @@ ghost use Rattle.text_captures.specs.capture_file.Written.{RowFrame};
 ghost use Rattle.text_captures.specs.capture_file.Gfp.{with_pattern, gfp_octets};
 ghost use Rattle.fate_walks.specs.walk_gfp.Carried.{carried_frames};
 
-mod records;
+mod gfp_records;
 
-pub use records::write_gfp;
+pub use gfp_records::write_gfp;
 
 /// The frames that rows carry are those whose pieces end by the place at which the rows end, in order and
 /// each once; and the GFP frame of a frame has the core header that the stream has at the place of its piece,

@@ -5,11 +5,11 @@ use Rattle.std.specs.Prelude.{if◌then◌else◌}
 use Rattle.std.specs.List.{flat_map}
 use Rattle.std.proofs.lemmas.Bool.{le-ltb}
 use Rattle.std.proofs.lemmas.List.Elements.{All-nil, All-cons, All-append, All-map, All-weaker}
-use Rattle.base_remainder.specs.Bits.{bits, number_behind}
-use Rattle.base_remainder.specs.Remainder.{add_front, divide}
-use Rattle.base_remainder.proofs.BitLaws.{number_below}
-use Rattle.base_hec16.specs.Hec.{hec_of, hec_bits}
-use Rattle.base_hec16.proofs.HecLaws.{length-hec_bits}
+use Rattle.check_remainder.specs.Bits.{bits, number_behind}
+use Rattle.check_remainder.specs.Remainder.{add_front, divide}
+use Rattle.check_remainder.proofs.BitLaws.{number_below}
+use Rattle.check_hec16.specs.Hec.{hec_of, hec_bits}
+use Rattle.check_hec16.proofs.HecLaws.{length-hec_bits}
 use Rattle.law_model.specs.frames.Piece.{with_header, scrambled_areas}
 use Rattle.gfp_model.specs.declared.linear_model.CidFault.{CidFault}
 use Rattle.gfp_model.specs.linear_model.Linear.{linear_header, extension_header, cid_field, cid_check, cid_fault}

@@ -8,14 +8,14 @@ use Rattle.text_lines.specs.Words.{words}
 use Rattle.text_lines.specs.Language.{said_from, said_by}
 use Rattle.text_lines.proofs.LanguageLaws.{line_faulty, line_sound, end_missing, end_sound}
 use Rattle.gfp_model.specs.declared.linear_model.Cut.{Cut}
-use Rattle.gfp_channels.specs.declared.channel_link.fault.LineFault.{LineFault}
-use Rattle.gfp_channels.specs.declared.channel_link.fault.LineFault.TheVariants.{Missing}
-use Rattle.gfp_channels.specs.declared.channel_link.fault.LineStop.{LineStop}
-use Rattle.gfp_channels.specs.declared.channel_link.fault.LineStop.TheVariants as stop
-use Rattle.gfp_channels.specs.declared.channel_link.draft.Draft.{Draft}
-use Rattle.gfp_channels.specs.declared.channel_link.draft.Statement.{Statement}
-use Rattle.gfp_channels.specs.declared.channel_link.draft.Statement.TheVariants as says
-use Rattle.gfp_channels.specs.channel_link.Lines.{awaited, words_fault, words_said, after, at_first, missing_line, plan_lines}
+use Rattle.gfp_channels.specs.declared.channel_link.channel_text_fault.LineFault.{LineFault}
+use Rattle.gfp_channels.specs.declared.channel_link.channel_text_fault.LineFault.TheVariants.{Missing}
+use Rattle.gfp_channels.specs.declared.channel_link.channel_text_fault.LineStop.{LineStop}
+use Rattle.gfp_channels.specs.declared.channel_link.channel_text_fault.LineStop.TheVariants as stop
+use Rattle.gfp_channels.specs.declared.channel_link.channel_draft.Draft.{Draft}
+use Rattle.gfp_channels.specs.declared.channel_link.channel_draft.Statement.{Statement}
+use Rattle.gfp_channels.specs.declared.channel_link.channel_draft.Statement.TheVariants as says
+use Rattle.gfp_channels.specs.channel_link.ChannelTextLines.{awaited, words_fault, words_said, after, at_first, missing_line, plan_lines}
 use Rattle.gfp_channels.specs.channel_link.Plan.{plan_of_draft, plan_of, AreCuts, IsOfOctets, IsPlanFault}
 use Rattle.gfp_channels.specs.channel_link.Drafts.{end_behind, stopped, IsDraft, IsLineStop, Fits}
 

@@ -8,12 +8,12 @@ use Rattle.std.proofs.lemmas.Bool.Decides.{nat_tests}
 use Rattle.text_lines.specs.Words.{word_at, is_skipped, number_at}
 use Rattle.text_lines.specs.Fields.{within, any, above, digits, where_true, fields_fault}
 use Rattle.text_lines.proofs.FieldLaws.{or_none, where_none, map_none, number_ok, digits_ok, one_field, two_fields}
-use Rattle.gfp_channels.specs.declared.channel_link.keyword.Keyword.{Keyword}
-use Rattle.gfp_channels.specs.declared.channel_link.keyword.Keyword.TheVariants as word
-use Rattle.gfp_channels.specs.declared.channel_link.fault.LineFault.TheVariants as wrong
-use Rattle.gfp_channels.specs.declared.channel_link.draft.Draft.{Draft}
-use Rattle.gfp_channels.specs.channel_link.Lines.{keyword_of, place, awaited, place_fault, fields, is_early, rest_fault}
-use Rattle.gfp_channels.specs.channel_link.Lines.{known_fault, words_fault, said, known_said, words_said}
+use Rattle.gfp_channels.specs.declared.channel_link.channel_keyword.Keyword.{Keyword}
+use Rattle.gfp_channels.specs.declared.channel_link.channel_keyword.Keyword.TheVariants as word
+use Rattle.gfp_channels.specs.declared.channel_link.channel_text_fault.LineFault.TheVariants as wrong
+use Rattle.gfp_channels.specs.declared.channel_link.channel_draft.Draft.{Draft}
+use Rattle.gfp_channels.specs.channel_link.ChannelTextLines.{keyword_of, place, awaited, place_fault, fields, is_early, rest_fault}
+use Rattle.gfp_channels.specs.channel_link.ChannelTextLines.{known_fault, words_fault, said, known_said, words_said}
 use Rattle.gfp_channels.specs.channel_link.Drafts.{IsPlaced, IsDraft, Fits}
 
 -- ---- the place of a line

@@ -3,8 +3,8 @@ use Rattle.std.proofs.Common.{◌≡◌, ℕ, ◌+◌, ◌≤◌, List, [], ◌�
 use Rattle.std.proofs.Common.{append_assoc, length-append}
 use Rattle.gfp_model.specs.declared.linear_model.ChannelFault.{ChannelFault}
 use Rattle.gfp_model.specs.linear_model.Channels.{Channels, channel_refusal, pushed}
-use Rattle.gfp_channels.specs.declared.channel_link.draft.Offer.{Offer}
-use Rattle.gfp_channels.specs.declared.channel_link.run.Refusal.{Refusal}
+use Rattle.gfp_channels.specs.declared.channel_link.channel_draft.Offer.{Offer}
+use Rattle.gfp_channels.specs.declared.channel_link.channel_run.Refusal.{Refusal}
 use Rattle.gfp_channels.specs.channel_link.Text.{after_offers, refusal_where, refusals}
 
 -- ---- one frame on

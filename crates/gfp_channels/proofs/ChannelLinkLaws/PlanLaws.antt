@@ -10,8 +10,8 @@ use Rattle.gfp_channels.specs.channel_law.Offers.{after_frames}
 use Rattle.gfp_channels.proofs.ChannelLaws.QueueLaws.{silent_sound}
 use Rattle.gfp_channels.proofs.ChannelLaws.OfferLaws.{AreOctets, waiting-all, after_sound}
 use Rattle.gfp_channels.proofs.ChannelLaws.ChannelLaws.{carried-take, delivered-all, delivered-kept}
-use Rattle.gfp_channels.specs.declared.channel_link.draft.Offer.{Offer}
-use Rattle.gfp_channels.specs.declared.channel_link.draft.ChannelPlan.{ChannelPlan}
+use Rattle.gfp_channels.specs.declared.channel_link.channel_draft.Offer.{Offer}
+use Rattle.gfp_channels.specs.declared.channel_link.channel_draft.ChannelPlan.{ChannelPlan}
 use Rattle.gfp_channels.specs.channel_link.Plan.{AreCuts, IsPlan}
 use Rattle.gfp_channels.specs.channel_link.Text.{after_offers}
 use Rattle.gfp_channels.specs.channel_link.Delivered.{plan_channels, HasTrueStarts, as_frame, accepted_by, carried_by}

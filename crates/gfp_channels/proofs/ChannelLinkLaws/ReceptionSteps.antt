@@ -2,15 +2,15 @@
 use Rattle.std.proofs.Common.{◌≡◌, ℕ, ◌+◌, ◌<◌, true, false, List, [], ◌∷◌, ◌++◌, length, get_or, Option}
 use Rattle.std.proofs.Common.{sym, ◌∙◌, ap, subst, arith, length-append}
 use Rattle.std.specs.List.{flat_map}
-use Rattle.base_io.specs.Start.{Start}
-use Rattle.text_got.specs.declared.got.GotLines.{GotLines}
+use Rattle.octet_io.specs.Start.{Start}
+use Rattle.text_got.specs.declared.got_text.GotLines.{GotLines}
 use Rattle.text_got.specs.Told.{HasText}
 use Rattle.law_model.specs.frames.Segment.{Segment}
 use Rattle.gfp_model.specs.declared.linear_model.Cut.{Cut}
 use Rattle.gfp_model.specs.linear_model.Linear.{ChannelFrame, LinearOutcome, frame_in, linear_outcomes}
 use Rattle.gfp_model.specs.linear_model.Stream.{cut_outcomes}
 use Rattle.gfp_channels.specs.gfp_linear.Delineator.{LinearReceiver, StandsIn}
-use Rattle.gfp_channels.specs.declared.channel_link.reception.Reception.{Reception}
+use Rattle.gfp_channels.specs.declared.channel_link.channel_reception.Reception.{Reception}
 use Rattle.gfp_channels.specs.channel_link.Plan.{AreCuts}
 use Rattle.gfp_channels.specs.channel_link.Text.{got_text}
 use Rattle.gfp_channels.specs.channel_link.Run.{Received, ReceivedIn, longer_by, open_segment, ended_outcomes, ended_by}

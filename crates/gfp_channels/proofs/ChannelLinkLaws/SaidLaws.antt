@@ -8,11 +8,11 @@ use Rattle.text_lines.specs.Language.{said_by}
 use Rattle.text_lines.specs.FirstFault.{AreSound}
 use Rattle.text_lines.proofs.FieldLaws.{where_none}
 use Rattle.text_lines.proofs.FirstFaultLaws.{all_said}
-use Rattle.gfp_channels.specs.declared.channel_link.fault.LineFault.{LineFault}
-use Rattle.gfp_channels.specs.declared.channel_link.fault.LineFault.TheVariants.{Missing}
-use Rattle.gfp_channels.specs.declared.channel_link.draft.Draft.{Draft}
-use Rattle.gfp_channels.specs.declared.channel_link.draft.ChannelPlan.{ChannelPlan}
-use Rattle.gfp_channels.specs.channel_link.Lines.{awaited, words_said, after, at_first, missing_line, plan_lines}
+use Rattle.gfp_channels.specs.declared.channel_link.channel_text_fault.LineFault.{LineFault}
+use Rattle.gfp_channels.specs.declared.channel_link.channel_text_fault.LineFault.TheVariants.{Missing}
+use Rattle.gfp_channels.specs.declared.channel_link.channel_draft.Draft.{Draft}
+use Rattle.gfp_channels.specs.declared.channel_link.channel_draft.ChannelPlan.{ChannelPlan}
+use Rattle.gfp_channels.specs.channel_link.ChannelTextLines.{awaited, words_said, after, at_first, missing_line, plan_lines}
 use Rattle.gfp_channels.specs.channel_link.Plan.{plan_in, plan_of_draft, plan_of, IsPlan}
 use Rattle.gfp_channels.specs.channel_link.Drafts.{IsDraft}
 use Rattle.gfp_channels.specs.channel_link.Text.{delivered, plan_text}

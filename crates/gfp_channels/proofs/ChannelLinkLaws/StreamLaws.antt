@@ -5,7 +5,7 @@ use Rattle.gfp_model.specs.linear_model.Channels.{Channels}
 use Rattle.gfp_model.specs.linear_model.Stream.{Shared, linear_stream, reached, unsent, stream_to}
 use Rattle.gfp_channels.specs.gfp_linear.Queue.{Queued}
 use Rattle.gfp_fill.specs.Areas.{Sender}
-use Rattle.gfp_channels.specs.gfp_linear.Filler.{Stands, HasWritten}
+use Rattle.gfp_channels.specs.gfp_linear.Filler.{LinearFillerStands, HasWritten}
 use Rattle.gfp_channels.proofs.GfpLinearLaws.ReachLaws.{reached-fewest}
 use Rattle.gfp_channels.proofs.GfpLinearLaws.StreamSteps.{long, written-both, written-none}
 
@@ -20,21 +20,21 @@ abbrev pub HasSent : Sender → Queued → Channels → ℕ → Type 0
 HasSent sender queue channels place = HasWritten sender queue (unsent channels) 0 (stream_to place channels)
 
 -- none
-pub sent-none : (sender : Sender) (queue : Queued) (channels : Channels) → Stands sender queue (unsent channels) 0
+pub sent-none : (sender : Sender) (queue : Queued) (channels : Channels) → LinearFillerStands sender queue (unsent channels) 0
     → HasSent sender queue channels 0
 sent-none sender queue channels stands = written-none sender queue (unsent channels) 0 stands
 
 -- and more
 pub sent-more : (s t : Sender) (queue rest : Queued) (channels : Channels) (place n : ℕ) (octets : List ℕ)
     → HasSent s queue channels place → length octets ≡ n
-    → Stands t rest (reached (place + n) (reached place (unsent channels))) (place + n)
+    → LinearFillerStands t rest (reached (place + n) (reached place (unsent channels))) (place + n)
     → octets ≡ take n (drop place (linear_stream (reached (place + n) (reached place (unsent channels))).pieces))
     → HasSent t rest channels (place + n) × (stream_to place channels ++ octets ≡ stream_to (place + n) channels)
 sent-more s t queue rest channels place n octets was count stands next =
     let first : List ℕ = stream_to place channels in
     let size : 0 + length first ≡ place = omega (arith, stream-long place channels) in
     let written : HasWritten t rest (reached place (unsent channels)) place octets = record {
-      stands = subst (λ k. Stands t rest (reached (place + k) (reached place (unsent channels))) (place + k))
+      stands = subst (λ k. LinearFillerStands t rest (reached (place + k) (reached place (unsent channels))) (place + k))
           (sym count) stands;
       next = subst (λ k. octets ≡ take k
           (drop place (linear_stream (reached (place + k) (reached place (unsent channels))).pieces)))
@@ -54,22 +54,22 @@ sent-more s t queue rest channels place n octets was count stands next =
 
 -- where they stand
 pub sent-stands : (s : Sender) (queue : Queued) (channels : Channels) (place : ℕ) → HasSent s queue channels place
-    → Stands s queue (reached place (unsent channels)) place
+    → LinearFillerStands s queue (reached place (unsent channels)) place
 sent-stands s queue channels place was =
     let size : 0 + length (stream_to place channels) ≡ place = omega (arith, stream-long place channels) in
-    subst (λ k. Stands s queue (reached k (unsent channels)) k) size was.stands
+    subst (λ k. LinearFillerStands s queue (reached k (unsent channels)) k) size was.stands
 
 -- a block more, of as many octets as a slice had
 pub sent-block : (s t : Sender) (queue rest : Queued) (channels : Channels) (place n room : ℕ) (octets : List ℕ)
     → HasSent s queue channels place → room ≡ n → length octets ≡ n
-    → ((shared : Shared) (at : ℕ) → Stands s queue shared at → Stands t rest (reached (at + room) shared) (at + room))
-    → ((shared : Shared) (at : ℕ) → Stands s queue shared at
+    → ((shared : Shared) (at : ℕ) → LinearFillerStands s queue shared at → LinearFillerStands t rest (reached (at + room) shared) (at + room))
+    → ((shared : Shared) (at : ℕ) → LinearFillerStands s queue shared at
     → octets ≡ take room (drop at (linear_stream (reached (at + room) shared).pieces)))
     → HasSent t rest channels (place + n) × (stream_to place channels ++ octets ≡ stream_to (place + n) channels)
 sent-block s t queue rest channels place n room octets was size count stands next =
     let shared : Shared = reached place (unsent channels) in
     let here = sent-stands s queue channels place was in
     sent-more s t queue rest channels place n octets was count
-    (subst (λ k. Stands t rest (reached (place + k) shared) (place + k)) size (stands shared place here))
+    (subst (λ k. LinearFillerStands t rest (reached (place + k) shared) (place + k)) size (stands shared place here))
     (subst (λ k. octets ≡ take k (drop place (linear_stream (reached (place + k) shared).pieces))) size
     (next shared place here))

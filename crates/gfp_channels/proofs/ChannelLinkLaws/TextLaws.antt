@@ -4,8 +4,8 @@ use Rattle.std.proofs.Common.{append_assoc, length-append}
 use Rattle.std.specs.List.{flat_map}
 use Rattle.std.proofs.lemmas.List.Concat.{flat_map-append}
 use Rattle.gfp_model.specs.linear_model.Linear.{LinearOutcome, ChannelFrame, frame_in}
-use Rattle.gfp_channels.specs.declared.channel_link.draft.ChannelPlan.{ChannelPlan}
-use Rattle.gfp_channels.specs.declared.channel_link.run.Refusal.{Refusal}
+use Rattle.gfp_channels.specs.declared.channel_link.channel_draft.ChannelPlan.{ChannelPlan}
+use Rattle.gfp_channels.specs.declared.channel_link.channel_run.Refusal.{Refusal}
 use Rattle.gfp_channels.specs.channel_link.Text.{got_text, refusal_text, counts_text, delivered, refused, plan_text}
 
 -- ---- outcomes more

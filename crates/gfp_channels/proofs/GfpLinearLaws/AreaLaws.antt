@@ -10,13 +10,13 @@ use Rattle.gfp_model.specs.declared.linear_model.CidFault.{CidFault}
 use Rattle.gfp_model.specs.declared.linear_model.LinearWhy.TheVariants.{TooLong, Extension}
 use Rattle.gfp_model.specs.linear_model.Linear.{LinearOutcome, delivery, dropping, by_extension, by_size, by_type, cid_fault}
 use Rattle.gfp_model.specs.linear_model.Linear.{linear_type_fault, linear_outcome, linear_outcomes}
-use Rattle.gfp_delineate.specs.declared.areas.AreaWhy.TheVariants.{TooLong as IsLong}
-use Rattle.gfp_delineate.specs.declared.areas.AreaStep.{AreaStep}
-use Rattle.gfp_delineate.specs.declared.areas.AreaStep.TheVariants.{Area}
+use Rattle.gfp_delineate.specs.declared.area_receiver.AreaWhy.TheVariants.{TooLong as IsLong}
+use Rattle.gfp_delineate.specs.declared.area_receiver.AreaStep.{AreaStep}
+use Rattle.gfp_delineate.specs.declared.area_receiver.AreaStep.TheVariants.{Area}
 use Rattle.gfp_delineate.specs.Areas.{AreaEnd, keeping, passing, end_of, ends_told, Progress, Adds}
 use Rattle.gfp_delineate.proofs.OutcomeLaws.{outcomes_more-map}
-use Rattle.gfp_channels.specs.declared.gfp_linear.delineator.LinearStep.{LinearStep}
-use Rattle.gfp_channels.specs.declared.gfp_linear.delineator.LinearStep.TheVariants.{Nothing, Frame, Dropped}
+use Rattle.gfp_channels.specs.declared.gfp_linear.linear_delineator.LinearStep.{LinearStep}
+use Rattle.gfp_channels.specs.declared.gfp_linear.linear_delineator.LinearStep.TheVariants.{Nothing, Frame, Dropped}
 use Rattle.gfp_channels.specs.gfp_linear.Delineator.{LinearReceiver, frame_of, IsFrame, outcomes_told, told_linear, linear_of_end}
 use Rattle.gfp_channels.specs.gfp_linear.Delineator.{StandsIn}
 use Rattle.law_model.specs.Limits.{longest_extended_area, longest_frame}

@@ -12,7 +12,7 @@ use Rattle.gfp_model.specs.linear_model.Stream.{one_more, reached, offered}
 use Rattle.gfp_fill.specs.Areas.{Sender, head_of, StandsIn, HasWrittenIn}
 use Rattle.gfp_fill.proofs.AreaSteps.{all_written, map-replicate, next-both}
 use Rattle.gfp_channels.specs.gfp_linear.Queue.{Queued}
-use Rattle.gfp_channels.specs.gfp_linear.Filler.{Stands, HasWritten}
+use Rattle.gfp_channels.specs.gfp_linear.Filler.{LinearFillerStands, HasWritten}
 use Rattle.gfp_channels.proofs.GfpLinearLaws.ReachLaws.{reaching-here, reached-next, reached-join, reached-fewest}
 
 -- a stream has as many octets as its pieces count
@@ -40,12 +40,12 @@ here_written sender queue shared place octets waits written =
     (reaching-here end end shared (omega (arith, written.stands.within, long shared.pieces))) waits written
 
 -- where all octets of the pieces are written, the place is at the end of the stream
-pub at_end : (sender : Sender) (queue : Queued) (shared : Shared) (place : ℕ) → Stands sender queue shared place →
+pub at_end : (sender : Sender) (queue : Queued) (shared : Shared) (place : ℕ) → LinearFillerStands sender queue shared place →
     queue.begun ≡ [] → StandsIn sender [] (map area_of shared.pieces) place
 at_end sender queue shared place stands begun =
     subst (λ left. StandsIn sender left (map area_of shared.pieces) place) begun stands.octets
 
-all_counted : (sender : Sender) (queue : Queued) (shared : Shared) (place : ℕ) → Stands sender queue shared place →
+all_counted : (sender : Sender) (queue : Queued) (shared : Shared) (place : ℕ) → LinearFillerStands sender queue shared place →
     queue.begun ≡ [] → head_of sender ≡ [] → place ≡ size shared.pieces
 all_counted sender queue shared place stands begun head =
     all_written sender (map area_of shared.pieces) place (at_end sender queue shared place stands begun) head
@@ -53,7 +53,7 @@ all_counted sender queue shared place stands begun head =
 
 -- headers of a frame whose turn it is
 pub client_written : (s t : Sender) (queue rest : Queued) (shared : Shared) (place cid : ℕ) (octets : List ℕ) →
-    Stands s queue shared place → head_of s ≡ [] → queue.begun ≡ [] → turn queue.channels ≡ Some cid
+    LinearFillerStands s queue shared place → head_of s ≡ [] → queue.begun ≡ [] → turn queue.channels ≡ Some cid
     → rest.begun ≡ oldest cid queue.channels → rest.channels ≡ served cid queue.channels → 0 < length octets
     → HasWrittenIn t rest.begun
     (map area_of shared.pieces ++ ((linear_header ++ extension_header cid) ++ rest.begun) ∷ []) place octets
@@ -94,7 +94,7 @@ reached-idles (suc n) place shared none within few =
 
 -- idles, where no frame waits
 pub idles_next : (s t : Sender) (queue : Queued) (shared : Shared) (place n : ℕ) (octets : List ℕ) →
-    Stands s queue shared place → head_of s ≡ [] → queue.begun ≡ [] → turn queue.channels ≡ None
+    LinearFillerStands s queue shared place → head_of s ≡ [] → queue.begun ≡ [] → turn queue.channels ≡ None
     → length octets ≤ 4 * n → 4 * n < length octets + 4
     → HasWrittenIn t [] (map area_of shared.pieces ++ replicate n []) place octets
     → HasWritten t queue shared place octets
@@ -144,7 +144,7 @@ written-both s t queue rest shared place first more one other =
     }
 
 -- nothing is written
-pub written-none : (s : Sender) (queue : Queued) (shared : Shared) (place : ℕ) → Stands s queue shared place →
+pub written-none : (s : Sender) (queue : Queued) (shared : Shared) (place : ℕ) → LinearFillerStands s queue shared place →
     HasWritten s queue shared place []
 written-none s queue shared place stands =
     let same : place + 0 ≡ place = omega arith in
@@ -153,7 +153,7 @@ written-none s queue shared place stands =
 -- ---- a frame is offered
 pub offered_stands : (cid : ℕ) (frame : List ℕ) (sender : Sender) (queue more : Queued) (shared : Shared) (place : ℕ) →
     more.begun ≡ queue.begun → more.channels ≡ pushed cid frame queue.channels →
-    Stands sender queue shared place → Stands sender more (offered cid frame shared) place
+    LinearFillerStands sender queue shared place → LinearFillerStands sender more (offered cid frame shared) place
 offered_stands cid frame sender queue more shared place begun channels stands = record {
   waits = channels ∙ ap (pushed cid frame) stands.waits;
   octets = subst (λ left. StandsIn sender left (map area_of shared.pieces) place) (sym begun) stands.octets;

@@ -9,8 +9,8 @@ use Rattle.gfp_model.specs.linear_model.Channels.{Channels, silent}
 use Rattle.gfp_model.specs.linear_model.Stream.{LinearPiece, unsent, reached, stream_to, cut_rows}
 use Rattle.gfp_channels.specs.channel_law.Kept.{as_pieces, frames_told, carried_of, kept_of}
 use Rattle.gfp_channels.specs.channel_law.Offers.{accepted_frames}
-use Rattle.gfp_channels.specs.declared.channel_link.draft.Offer.{Offer}
-use Rattle.gfp_channels.specs.declared.channel_link.draft.ChannelPlan.{ChannelPlan}
+use Rattle.gfp_channels.specs.declared.channel_link.channel_draft.Offer.{Offer}
+use Rattle.gfp_channels.specs.declared.channel_link.channel_draft.ChannelPlan.{ChannelPlan}
 use Rattle.gfp_channels.specs.channel_link.Text.{after_offers, delivered, refused, got_text, refusal_text, counts_text}
 
 -- the channels when the stream begins, its pieces, and its rows: those that arrive and those that are cut

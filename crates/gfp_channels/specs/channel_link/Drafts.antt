@@ -4,19 +4,19 @@ use Rattle.std.specs.Option.{option_or}
 use Rattle.std.specs.List.{fold}
 use Rattle.text_lines.specs.Words.{word_at}
 use Rattle.text_lines.specs.Fields.{where_true, number_fault}
-use Rattle.text_lines.specs.declared.fault.FieldStop.{FieldStop}
-use Rattle.text_lines.specs.declared.fault.FieldStop.TheVariants as field
+use Rattle.text_lines.specs.declared.field_fault.FieldStop.{FieldStop}
+use Rattle.text_lines.specs.declared.field_fault.FieldStop.TheVariants as field
 use Rattle.gfp_model.specs.declared.linear_model.Cut.{Cut}
-use Rattle.gfp_channels.specs.declared.channel_link.keyword.Keyword.{Keyword}
-use Rattle.gfp_channels.specs.declared.channel_link.fault.LineFault.{LineFault}
-use Rattle.gfp_channels.specs.declared.channel_link.fault.LineFault.TheVariants as wrong
-use Rattle.gfp_channels.specs.declared.channel_link.fault.LineStop.{LineStop}
-use Rattle.gfp_channels.specs.declared.channel_link.fault.LineStop.TheVariants as stop
-use Rattle.gfp_channels.specs.declared.channel_link.read.PlanFault.{PlanFault}
-use Rattle.gfp_channels.specs.declared.channel_link.read.PlanFault.TheVariants as whole
-use Rattle.gfp_channels.specs.declared.channel_link.draft.Statement.{Statement}
-use Rattle.gfp_channels.specs.declared.channel_link.draft.Statement.TheVariants as says
-use Rattle.gfp_channels.specs.declared.channel_link.draft.Draft.{Draft}
+use Rattle.gfp_channels.specs.declared.channel_link.channel_keyword.Keyword.{Keyword}
+use Rattle.gfp_channels.specs.declared.channel_link.channel_text_fault.LineFault.{LineFault}
+use Rattle.gfp_channels.specs.declared.channel_link.channel_text_fault.LineFault.TheVariants as wrong
+use Rattle.gfp_channels.specs.declared.channel_link.channel_text_fault.LineStop.{LineStop}
+use Rattle.gfp_channels.specs.declared.channel_link.channel_text_fault.LineStop.TheVariants as stop
+use Rattle.gfp_channels.specs.declared.channel_link.read_channel_text.PlanFault.{PlanFault}
+use Rattle.gfp_channels.specs.declared.channel_link.read_channel_text.PlanFault.TheVariants as whole
+use Rattle.gfp_channels.specs.declared.channel_link.channel_draft.Statement.{Statement}
+use Rattle.gfp_channels.specs.declared.channel_link.channel_draft.Statement.TheVariants as says
+use Rattle.gfp_channels.specs.declared.channel_link.channel_draft.Draft.{Draft}
 use Rattle.gfp_channels.specs.channel_link.Plan.{AreCuts, IsOfOctets}
 
 -- why a word wasn't read, as why its line wasn't

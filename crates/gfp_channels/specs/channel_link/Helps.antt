@@ -1,13 +1,13 @@
 -- The kinds of faulty lines of a text of channels, and what is said of how to write one.
 use Rattle.std.specs.Prelude.{List, ℕ, ◌++◌, codes, decimal}
-use Rattle.text_lines.specs.declared.fault.LineKind.{LineKind}
-use Rattle.text_lines.specs.declared.fault.LineKind.TheVariants as kind
+use Rattle.text_lines.specs.declared.field_fault.LineKind.{LineKind}
+use Rattle.text_lines.specs.declared.field_fault.LineKind.TheVariants as kind
 use Rattle.text_lines.specs.Fields.{field_kind}
 use Rattle.text_help.specs.Helps.{field_text, count_text, missing_text, order_text}
-use Rattle.gfp_channels.specs.declared.channel_link.keyword.Keyword.{Keyword}
-use Rattle.gfp_channels.specs.declared.channel_link.keyword.Keyword.TheVariants as word
-use Rattle.gfp_channels.specs.declared.channel_link.fault.LineFault.{LineFault}
-use Rattle.gfp_channels.specs.declared.channel_link.fault.LineFault.TheVariants.{First, Count, Field, Missing, Order, Overlap}
+use Rattle.gfp_channels.specs.declared.channel_link.channel_keyword.Keyword.{Keyword}
+use Rattle.gfp_channels.specs.declared.channel_link.channel_keyword.Keyword.TheVariants as word
+use Rattle.gfp_channels.specs.declared.channel_link.channel_text_fault.LineFault.{LineFault}
+use Rattle.gfp_channels.specs.declared.channel_link.channel_text_fault.LineFault.TheVariants.{First, Count, Field, Missing, Order, Overlap}
 
 abbrev pub kind_of : LineFault → LineKind
 kind_of First = kind.Word

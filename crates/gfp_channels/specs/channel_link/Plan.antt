@@ -2,13 +2,13 @@
 use Rattle.std.specs.Prelude.{◌≡◌, ⊤, ◌≤◌, ◌<◌, ◌^◌, ℕ, List, [], ◌∷◌, All, Result, Ok, Err}
 use Rattle.text_lines.specs.Language.{said_by}
 use Rattle.gfp_model.specs.declared.linear_model.Cut.{Cut}
-use Rattle.gfp_channels.specs.declared.channel_link.fault.LineFault.{LineFault}
-use Rattle.gfp_channels.specs.declared.channel_link.draft.Draft.{Draft}
-use Rattle.gfp_channels.specs.declared.channel_link.draft.Offer.{Offer}
-use Rattle.gfp_channels.specs.declared.channel_link.draft.ChannelPlan.{ChannelPlan}
-use Rattle.gfp_channels.specs.declared.channel_link.read.PlanFault.{PlanFault}
-use Rattle.gfp_channels.specs.declared.channel_link.read.PlanFault.TheVariants as fault
-use Rattle.gfp_channels.specs.channel_link.Lines.{plan_lines}
+use Rattle.gfp_channels.specs.declared.channel_link.channel_text_fault.LineFault.{LineFault}
+use Rattle.gfp_channels.specs.declared.channel_link.channel_draft.Draft.{Draft}
+use Rattle.gfp_channels.specs.declared.channel_link.channel_draft.Offer.{Offer}
+use Rattle.gfp_channels.specs.declared.channel_link.channel_draft.ChannelPlan.{ChannelPlan}
+use Rattle.gfp_channels.specs.declared.channel_link.read_channel_text.PlanFault.{PlanFault}
+use Rattle.gfp_channels.specs.declared.channel_link.read_channel_text.PlanFault.TheVariants as fault
+use Rattle.gfp_channels.specs.channel_link.ChannelTextLines.{plan_lines}
 
 abbrev pub plan_in : Draft → ChannelPlan
 plan_in d = record { channels = d.channels; octets = d.octets; offers = d.offers; cuts = d.cuts }

@@ -2,7 +2,7 @@
 use Rattle.std.specs.Prelude.{◌≡◌, ℕ, ◌+◌, ◌-◌, nat_le, Bool, true, false, List, [], ◌∷◌, ◌++◌, length, take, drop}
 use Rattle.std.specs.Prelude.{Option, if◌then◌else◌}
 use Rattle.std.specs.List.{flat_map}
-use Rattle.base_io.specs.Start.{Start}
+use Rattle.octet_io.specs.Start.{Start}
 use Rattle.text_got.specs.Told.{HasText}
 use Rattle.law_model.specs.frames.Segment.{Segment}
 use Rattle.gfp_model.specs.declared.linear_model.Cut.{Cut}
@@ -10,9 +10,9 @@ use Rattle.gfp_model.specs.linear_model.Linear.{LinearOutcome, frame_in, linear_
 use Rattle.gfp_model.specs.linear_model.Channels.{silent}
 use Rattle.gfp_channels.specs.gfp_linear.Queue.{Queued, unbegun}
 use Rattle.gfp_channels.specs.gfp_linear.Delineator.{LinearReceiver, StandsIn}
-use Rattle.gfp_channels.specs.declared.channel_link.draft.ChannelPlan.{ChannelPlan}
-use Rattle.gfp_channels.specs.declared.channel_link.run.Refusal.{Refusal}
-use Rattle.gfp_channels.specs.declared.channel_link.reception.Reception.{Reception}
+use Rattle.gfp_channels.specs.declared.channel_link.channel_draft.ChannelPlan.{ChannelPlan}
+use Rattle.gfp_channels.specs.declared.channel_link.channel_run.Refusal.{Refusal}
+use Rattle.gfp_channels.specs.declared.channel_link.channel_reception.Reception.{Reception}
 use Rattle.gfp_channels.specs.channel_link.Text.{after_offers, got_text, refused}
 
 -- ---- before the stream begins

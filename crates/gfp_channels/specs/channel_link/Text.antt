@@ -7,9 +7,9 @@ use Rattle.gfp_model.specs.declared.linear_model.ChannelFault.TheVariants.{Unkno
 use Rattle.gfp_model.specs.linear_model.Linear.{LinearOutcome, ChannelFrame, frame_in}
 use Rattle.gfp_model.specs.linear_model.Channels.{Channels, silent, channel_refusal, pushed}
 use Rattle.gfp_model.specs.linear_model.Stream.{stream_to, cut_outcomes}
-use Rattle.gfp_channels.specs.declared.channel_link.draft.Offer.{Offer}
-use Rattle.gfp_channels.specs.declared.channel_link.run.Refusal.{Refusal}
-use Rattle.gfp_channels.specs.declared.channel_link.draft.ChannelPlan.{ChannelPlan}
+use Rattle.gfp_channels.specs.declared.channel_link.channel_draft.Offer.{Offer}
+use Rattle.gfp_channels.specs.declared.channel_link.channel_run.Refusal.{Refusal}
+use Rattle.gfp_channels.specs.declared.channel_link.channel_draft.ChannelPlan.{ChannelPlan}
 
 -- ---- the frames that are offered
 -- the channels after offers

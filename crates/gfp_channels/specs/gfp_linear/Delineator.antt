@@ -5,11 +5,11 @@ use Rattle.std.specs.Option.{option_to_list}
 use Rattle.gfp_model.specs.declared.linear_model.LinearWhy.{LinearWhy}
 use Rattle.gfp_model.specs.declared.linear_model.LinearWhy.TheVariants.{Unsettled, TooLong}
 use Rattle.gfp_model.specs.linear_model.Linear.{LinearOutcome, delivery, dropping, by_type, linear_type_fault}
-use Rattle.gfp_delineate.specs.declared.areas.AreaWhy.{AreaWhy}
-use Rattle.gfp_delineate.specs.declared.areas.AreaWhy.TheVariants.{Unsettled as NotSettled, TooLong as IsLong}
+use Rattle.gfp_delineate.specs.declared.area_receiver.AreaWhy.{AreaWhy}
+use Rattle.gfp_delineate.specs.declared.area_receiver.AreaWhy.TheVariants.{Unsettled as NotSettled, TooLong as IsLong}
 use Rattle.gfp_delineate.specs.Areas.{AreaEnd, keeping, passing, Progress, IsAt}
-use Rattle.gfp_channels.specs.declared.gfp_linear.delineator.LinearStep.{LinearStep}
-use Rattle.gfp_channels.specs.declared.gfp_linear.delineator.LinearStep.TheVariants.{Nothing, Frame, Dropped}
+use Rattle.gfp_channels.specs.declared.gfp_linear.linear_delineator.LinearStep.{LinearStep}
+use Rattle.gfp_channels.specs.declared.gfp_linear.linear_delineator.LinearStep.TheVariants.{Nothing, Frame, Dropped}
 use Rattle.law_model.specs.Limits.{longest_extended_area}
 
 -- how far a receiver is, and whether the last octet that it was given completed the frame in the area that it keeps

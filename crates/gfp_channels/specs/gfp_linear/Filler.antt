@@ -6,7 +6,7 @@ use Rattle.gfp_channels.specs.gfp_linear.Queue.{Queued}
 
 -- of a stream, the octets before a place are written: what is left of its pieces are octets of headers, and then those
 -- of the frame that is being sent
-pub record Stands (sender : Sender) (queue : Queued) (shared : Shared) (place : ℕ) : Type 0 where
+pub record LinearFillerStands (sender : Sender) (queue : Queued) (shared : Shared) (place : ℕ) : Type 0 where
   pub waits : queue.channels ≡ shared.channels
   pub octets : StandsIn sender queue.begun (map area_of shared.pieces) place
 
@@ -17,10 +17,10 @@ AreNext shared place octets = octets ≡ take (length octets)
 
 -- what stands after octets of a stream that are the next ones
 pub record HasWritten (sender : Sender) (queue : Queued) (shared : Shared) (place : ℕ) (octets : List ℕ) : Type 0 where
-  pub stands : Stands sender queue (reached (place + length octets) shared) (place + length octets)
+  pub stands : LinearFillerStands sender queue (reached (place + length octets) shared) (place + length octets)
   pub next : AreNext shared place octets
 
 -- whatever stream stood before, its next octets are written
 abbrev pub Writes : Sender → Queued → Sender → Queued → List ℕ → Type 0
-Writes before queue after rest octets = (shared : Shared) (place : ℕ) → Stands before queue shared place →
+Writes before queue after rest octets = (shared : Shared) (place : ℕ) → LinearFillerStands before queue shared place →
     HasWritten after rest shared place octets

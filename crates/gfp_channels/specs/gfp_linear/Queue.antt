@@ -20,12 +20,12 @@ unbegun channels = record { channels = channels; begun = [] }
 
 -- ---- the buffers of one channel
 -- one that has room for any frame
-abbrev pub HasRoom : Vec ℕ Global → Type 0
-HasRoom buffer = longest_frame ≤ vec_capacity buffer
+abbrev pub HasFrameRoom : Vec ℕ Global → Type 0
+HasFrameRoom buffer = longest_frame ≤ vec_capacity buffer
 
 -- one that holds a frame
 abbrev pub HoldsFrame : Vec ℕ Global → Type 0
-HoldsFrame buffer = (vec_len buffer ≤ longest_frame) × HasRoom buffer
+HoldsFrame buffer = (vec_len buffer ≤ longest_frame) × HasFrameRoom buffer
 
 -- those with a frame and the spare ones are together as many as may wait
 pub record IsStore (waiting : VecDeque (Vec ℕ Global) Global) (spare : Vec (Vec ℕ Global) Global) : Type 0 where
@@ -33,7 +33,7 @@ pub record IsStore (waiting : VecDeque (Vec ℕ Global) Global) (spare : Vec (Ve
   pub places : most_of_channel ≤ deque_capacity waiting
   pub spares : most_of_channel ≤ vec_capacity spare
   pub frames : All HoldsFrame waiting.items
-  pub room : All HasRoom spare.items
+  pub room : All HasFrameRoom spare.items
 
 -- ---- the channels with a frame
 -- their numbers, by rising number, where the first queue has a number
@@ -64,7 +64,7 @@ pub record IsKept (queues : List (List (List ℕ))) (busy : Vec ℕ Global) (nex
   pub places : length queues ≤ vec_capacity busy
   pub round : next ≤ length queues
   pub written : sent ≤ vec_len begun
-  pub sending : HasRoom begun
+  pub sending : HasFrameRoom begun
 
 -- each number is above those before it
 unfoldable pub IsRising : List ℕ → Type 0

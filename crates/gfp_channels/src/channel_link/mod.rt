@@ -8,30 +8,30 @@
 ghost use Rattle.std.specs.Prelude.{◌≡◌, ◌↔◌, ℕ, List, [], length, take, Ok, Err};
 ghost use Rattle.std.specs.Str.Lines.{lines};
 ghost use Rattle.text_lines.specs.FirstFault.{IsFirstFault};
-ghost use Rattle.gfp_channels.specs.declared.channel_link.fault.LineFault.{LineFault};
-ghost use Rattle.gfp_channels.specs.channel_link.Lines.{at_first, plan_lines};
-ghost use Rattle.gfp_channels.specs.declared.channel_link.draft.ChannelPlan.{ChannelPlan};
+ghost use Rattle.gfp_channels.specs.declared.channel_link.channel_text_fault.LineFault.{LineFault};
+ghost use Rattle.gfp_channels.specs.channel_link.ChannelTextLines.{at_first, plan_lines};
+ghost use Rattle.gfp_channels.specs.declared.channel_link.channel_draft.ChannelPlan.{ChannelPlan};
 ghost use Rattle.gfp_channels.specs.channel_link.Plan.{plan_of, IsPlan};
 ghost use Rattle.gfp_channels.specs.channel_link.Text.{plan_text};
 ghost use Rattle.gfp_channels.specs.channel_link.Delivered.{HasTrueStarts, accepted_by, carried_by, kept_by, delivered_by};
 ghost use Rattle.gfp_channels.specs.channel_link.Delivered.{IsPlanReport};
 
-mod draft;
-mod fault;
-mod help;
-mod keyword;
-mod lines;
-mod read;
-mod reception;
-mod run;
-mod statement;
+mod channel_draft;
+mod channel_text_fault;
+mod channel_helps;
+mod channel_keyword;
+mod channel_report;
+mod read_channel_text;
+mod channel_reception;
+mod channel_run;
+mod channel_statement;
 
-pub use draft::{ChannelPlan, CutList, Offer, OfferList};
-pub use fault::LineFault;
-pub use help::plan_help;
-pub use keyword::Keyword;
-pub use read::{PlanFault, read_plan};
-pub use run::ChannelRun;
+pub use channel_draft::{ChannelPlan, CutList, Offer, OfferList};
+pub use channel_text_fault::LineFault;
+pub use channel_helps::plan_help;
+pub use channel_keyword::Keyword;
+pub use read_channel_text::{PlanFault, read_plan};
+pub use channel_run::ChannelRun;
 
 /// A text has the fault of a line exactly where that line is faulty after lines none of which is.
 pub fn fault_law()

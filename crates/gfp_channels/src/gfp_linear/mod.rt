@@ -8,17 +8,17 @@ ghost use Rattle.std.specs.Prelude.{◌≡◌, ◌<◌, ℕ, List, [], ◌∷◌
 ghost use Rattle.gfp_model.specs.linear_model.Linear.{linear_header, linear_outcome, dropping};
 ghost use Rattle.gfp_model.specs.linear_model.Stream.{Shared, reached, accepted_of};
 
-mod busy;
-mod channel;
-mod delineator;
-mod filler;
-mod queue;
+mod busy_channels;
+mod channel_queue;
+mod linear_delineator;
+mod linear_filler;
+mod linear_queue;
 
-pub use delineator::{LinearDelineator, LinearStep};
-pub use filler::LinearFiller;
+pub use linear_delineator::{LinearDelineator, LinearStep};
+pub use linear_filler::LinearFiller;
 pub use gfp_model::linear_model::{ChannelFault, CidFault, LinearWhy};
 pub use law_model::TypeFault;
-pub use queue::LinearQueue;
+pub use linear_queue::LinearQueue;
 
 /// Turns lose no frame of a channel and change their order nowhere: those that are begun, followed by those that wait,
 /// stay the same however far the stream is made.

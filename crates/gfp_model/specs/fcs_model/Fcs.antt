@@ -3,12 +3,12 @@
 use Rattle.std.specs.Prelude.{ℕ, ◌-◌, ◌/◌, ◌%◌, ◌^◌, ◌==◌, nat_lt, if◌then◌else◌, Bool, true, false, List, [], ◌∷◌}
 use Rattle.std.specs.Prelude.{◌++◌, length, take, drop, Option, Some, None}
 use Rattle.std.specs.Str.{bytes_eq}
-use Rattle.base_remainder.specs.Bits.{number, octet_bits}
-use Rattle.base_hec16.specs.Hec.{hec_of}
-use Rattle.base_crc32.specs.Crc32.{fcs_of}
-use Rattle.law_model.specs.declared.TypeFault.{TypeFault}
-use Rattle.law_model.specs.declared.TypeFault.TheVariants.{Check as WrongCheck, NotClient, PayloadFcs, Extension}
-use Rattle.law_model.specs.declared.TypeFault.TheVariants.{NotEthernet}
+use Rattle.check_remainder.specs.Bits.{number, octet_bits}
+use Rattle.check_hec16.specs.Hec.{hec_of}
+use Rattle.check_crc32.specs.Crc32.{fcs_of}
+use Rattle.law_model.specs.declared.frame_faults.TypeFault.{TypeFault}
+use Rattle.law_model.specs.declared.frame_faults.TypeFault.TheVariants.{Check as WrongCheck, NotClient, PayloadFcs, Extension}
+use Rattle.law_model.specs.declared.frame_faults.TypeFault.TheVariants.{NotEthernet}
 use Rattle.law_model.specs.frames.TypeHeader.{type_field, type_check}
 use Rattle.gfp_model.specs.declared.fcs_model.FcsWhy.{FcsWhy}
 use Rattle.gfp_model.specs.declared.fcs_model.FcsWhy.TheVariants.{Unsettled, TooLong, Header, Short, Fcs}

@@ -1,10 +1,10 @@
 -- G.7041, linear extension header: a client frame with the number of its channel, and what comes of its area.
 use Rattle.std.specs.Prelude.{ℕ, ◌+◌, ◌*◌, ◌/◌, ◌%◌, ◌^◌, ◌==◌, nat_lt, if◌then◌else◌, Bool, true, false, List, []}
 use Rattle.std.specs.Prelude.{◌∷◌, ◌++◌, length, take, drop, slice_index, Option, Some, None}
-use Rattle.base_hec16.specs.Hec.{hec_of}
-use Rattle.law_model.specs.declared.TypeFault.{TypeFault}
-use Rattle.law_model.specs.declared.TypeFault.TheVariants.{Check as WrongCheck, NotClient, PayloadFcs}
-use Rattle.law_model.specs.declared.TypeFault.TheVariants.{Extension as OtherExtension, NotEthernet}
+use Rattle.check_hec16.specs.Hec.{hec_of}
+use Rattle.law_model.specs.declared.frame_faults.TypeFault.{TypeFault}
+use Rattle.law_model.specs.declared.frame_faults.TypeFault.TheVariants.{Check as WrongCheck, NotClient, PayloadFcs}
+use Rattle.law_model.specs.declared.frame_faults.TypeFault.TheVariants.{Extension as OtherExtension, NotEthernet}
 use Rattle.law_model.specs.frames.TypeHeader.{type_field, type_check}
 use Rattle.law_model.specs.frames.Core.{head}
 use Rattle.law_model.specs.frames.Outcome.{outcomes_with}

@@ -9,24 +9,24 @@ use Rattle.std.proofs.lemmas.List.{take-append-drop, replicate-append-replicate}
 use Rattle.std.proofs.lemmas.List.Elements.{All-nil, All-cons, All-append}
 use Rattle.std.proofs.lemmas.Bool.{le-ltb, cases_lt}
 use Rattle.std.proofs.lemmas.Slice.Eq.{bytes_eq-Decides}
-use Rattle.base_remainder.specs.Bits.{octet_bits, xors}
-use Rattle.base_remainder.specs.Remainder.{divide, remainder}
-use Rattle.base_remainder.proofs.XorLaws.{xors-self, xors_twice}
-use Rattle.base_remainder.proofs.RemainderLaws.{length-remainder, divide_behind}
-use Rattle.base_remainder.proofs.OctetLaws.{length-octet_bits, octets_of_below}
-use Rattle.base_remainder.specs.Count.{count}
+use Rattle.check_remainder.specs.Bits.{octet_bits, xors}
+use Rattle.check_remainder.specs.Remainder.{divide, remainder}
+use Rattle.check_remainder.proofs.XorLaws.{xors-self, xors_twice}
+use Rattle.check_remainder.proofs.RemainderLaws.{length-remainder, divide_behind}
+use Rattle.check_remainder.proofs.OctetLaws.{length-octet_bits, octets_of_below}
+use Rattle.check_remainder.specs.Count.{count}
 use Rattle.gfp_model.specs.fcs_model.Flips.{flipped}
-use Rattle.base_crc32.specs.Crc32.{crc32, check_bits, fcs_of}
-use Rattle.base_crc32.proofs.CheckLaws.{length-crc32, length-check_bits, check_bits-xors, octet_bits-fcs_of, length-fcs_of}
+use Rattle.check_crc32.specs.Crc32.{crc32, check_bits, fcs_of}
+use Rattle.check_crc32.proofs.CheckLaws.{length-crc32, length-check_bits, check_bits-xors, octet_bits-fcs_of, length-fcs_of}
 use Rattle.gfp_model.specs.declared.fcs_model.FcsWhy.TheVariants.{Header}
 use Rattle.gfp_model.specs.fcs_model.Fcs.{fcs_header, fcs_area, FcsOutcome, delivery, dropping, by_check, by_type, fcs_type_fault}
 use Rattle.gfp_model.specs.fcs_model.Fcs.{fcs_outcome, frame_in}
 use Rattle.gfp_noise.specs.flip_law.Single.{IsOneOrTwo, one, two}
 use Rattle.gfp_noise.specs.flip_law.Flipped.{IsFrame}
-use Rattle.base_remainder.proofs.CountLaws.{count-zeros}
+use Rattle.check_remainder.proofs.CountLaws.{count-zeros}
 use Rattle.gfp_noise.proofs.FlipLaws.FlippedLaws.{length-flipped, flipped_below, octet_bits-flipped, flipped-append}
 use Rattle.gfp_noise.proofs.FlipLaws.TypeLaws.{fcs_header_right, fcs_type_fault-right}
-use Rattle.law_model.specs.declared.TypeFault.{TypeFault}
+use Rattle.law_model.specs.declared.frame_faults.TypeFault.{TypeFault}
 use Rattle.gfp_noise.proofs.FlipLaws.RegisterLaws.{something_left}
 use Rattle.law_model.specs.Limits.{longest_extended_area, longest_frame}
 

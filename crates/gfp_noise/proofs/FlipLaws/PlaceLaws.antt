@@ -8,10 +8,10 @@ use Rattle.std.proofs.lemmas.Bool.Decides.{nat_tests}
 use Rattle.std.proofs.lemmas.List.{append-nil, length-append, length-replicate, replicate-append-replicate}
 use Rattle.std.proofs.lemmas.List.Elements.{All-nil, All-cons, All-head, All-tail}
 use Rattle.std.proofs.lemmas.Nat.{xor_lt}
-use Rattle.base_remainder.specs.Bits.{bits, octets_of, xor, xors}
-use Rattle.base_remainder.proofs.XorLaws.{length_xors}
-use Rattle.base_remainder.proofs.BitLaws.{bits-xor}
-use Rattle.base_remainder.proofs.OctetLaws.{octets_of-octet_bits}
+use Rattle.check_remainder.specs.Bits.{bits, octets_of, xor, xors}
+use Rattle.check_remainder.proofs.XorLaws.{length_xors}
+use Rattle.check_remainder.proofs.BitLaws.{bits-xor}
+use Rattle.check_remainder.proofs.OctetLaws.{octets_of-octet_bits}
 use Rattle.gfp_model.specs.fcs_model.Flips.{flipped}
 use Rattle.gfp_model.specs.declared.fcs_model.Flip.{Flip}
 use Rattle.gfp_noise.specs.flip_law.Places.{at, LiesIn, IsRising, turned, one_of, flips_of}

@@ -4,16 +4,16 @@ use Rattle.std.proofs.Common.{◌≡◌, ℕ, zero, suc, ◌+◌, ◌-◌, ◌/�
 use Rattle.std.proofs.Common.{length, replicate, refl, sym, ◌∙◌, ap, subst, inl, inr, arith, append_assoc, le_of_eq}
 use Rattle.std.proofs.lemmas.List.{append-nil, length-append, length-replicate, replicate-append-replicate}
 use Rattle.std.proofs.lemmas.Bool.{cases_lt}
-use Rattle.base_remainder.specs.Bits.{bits, xor, xors}
-use Rattle.base_remainder.specs.Remainder.{add_front, divide}
-use Rattle.base_remainder.proofs.XorLaws.{xors-append}
-use Rattle.base_remainder.proofs.DivisionLaws.{length-add_front, add_front-append, divide-zeros, divide-add, divide-append}
-use Rattle.base_remainder.proofs.DivisionLaws.{length-divide}
-use Rattle.base_remainder.specs.Count.{count}
-use Rattle.base_crc32.specs.Crc32.{crc32}
-use Rattle.base_crc32.proofs.CheckLaws.{length-crc32}
+use Rattle.check_remainder.specs.Bits.{bits, xor, xors}
+use Rattle.check_remainder.specs.Remainder.{add_front, divide}
+use Rattle.check_remainder.proofs.XorLaws.{xors-append}
+use Rattle.check_remainder.proofs.DivisionLaws.{length-add_front, add_front-append, divide-zeros, divide-add, divide-append}
+use Rattle.check_remainder.proofs.DivisionLaws.{length-divide}
+use Rattle.check_remainder.specs.Count.{count}
+use Rattle.check_crc32.specs.Crc32.{crc32}
+use Rattle.check_crc32.proofs.CheckLaws.{length-crc32}
 use Rattle.gfp_noise.specs.flip_law.Single.{IsOneOrTwo, one, two}
-use Rattle.base_remainder.proofs.CountLaws.{count-append}
+use Rattle.check_remainder.proofs.CountLaws.{count-append}
 
 -- ---- a register with zeros behind it
 add_front_all : (front p : List Bool) → length front ≡ length p → add_front front p ≡ xors front p

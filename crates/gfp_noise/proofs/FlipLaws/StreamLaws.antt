@@ -6,7 +6,7 @@ use Rattle.std.specs.List.{flat_map}
 use Rattle.std.proofs.lemmas.List.{append-nil, length-append, length-replicate, length-take, length-drop, take_at}
 use Rattle.std.proofs.lemmas.List.{drop_at, take-append-drop}
 use Rattle.std.proofs.lemmas.List.Elements.{All-append, All-drop, All-head, All-nil, All-tail}
-use Rattle.base_remainder.specs.Bits.{octet_bits, octets_of, xors}
+use Rattle.check_remainder.specs.Bits.{octet_bits, octets_of, xors}
 use Rattle.law_model.specs.frames.Scramble.{descrambled, scrambled_octets, descrambled_octets}
 use Rattle.law_model.specs.frames.Core.{core_header, IsPli, head}
 use Rattle.law_model.specs.frames.Piece.{cut, with_header}
@@ -23,13 +23,13 @@ use Rattle.law_model.proofs.AreaLaws.{descrambled_behind-single}
 use Rattle.gfp_delineate.proofs.HuntLaws.{header-window, search-confirmed}
 use Rattle.gfp_delineate.proofs.RunLaws.{follow-few, follow-whole, delineate_from, delineate-open}
 use Rattle.gfp_delineate.proofs.FrontLaws.{header_at-core}
-use Rattle.base_remainder.specs.Count.{count}
+use Rattle.check_remainder.specs.Count.{count}
 use Rattle.gfp_model.specs.fcs_model.Flips.{flipped}
 use Rattle.gfp_model.specs.fcs_model.Near.{near}
 use Rattle.gfp_model.specs.fcs_model.Fcs.{fcs_area, fcs_outcome, frame_in}
 use Rattle.gfp_noise.specs.flip_law.Flipped.{fcs_stream, IsFrame, fcs_delivered, area_size, area_flips, flips_after, window}
 use Rattle.gfp_noise.specs.flip_law.Flipped.{AreFew, clear}
-use Rattle.base_remainder.proofs.CountLaws.{count-zeros, none_or_one}
+use Rattle.check_remainder.proofs.CountLaws.{count-zeros, none_or_one}
 use Rattle.gfp_noise.proofs.FlipLaws.FlippedLaws.{length-flipped, octet_bits-flipped, flipped-none, flipped-append}
 use Rattle.gfp_noise.proofs.FlipLaws.PlaceLaws.{length-flips_of, turned-flipped}
 use Rattle.gfp_model.specs.declared.fcs_model.Flip.{Flip}

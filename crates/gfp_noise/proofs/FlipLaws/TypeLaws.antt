@@ -3,10 +3,10 @@ use Rattle.std.proofs.Common.{◌≡◌, ℕ, ◌+◌, ◌*◌, ◌/◌, ◌%◌
 use Rattle.std.proofs.Common.{◌∷◌, length, All, Option, Some, None, refl, ◌∙◌, ap, ap₂, arith}
 use Rattle.std.proofs.lemmas.Bool.Decides.{nat_tests}
 use Rattle.std.proofs.lemmas.List.Elements.{All-head, All-tail}
-use Rattle.base_remainder.specs.Bits.{bits, number_behind}
-use Rattle.base_remainder.specs.Remainder.{add_front, divide}
-use Rattle.base_hec16.specs.Hec.{hec_of}
-use Rattle.law_model.specs.declared.TypeFault.{TypeFault}
+use Rattle.check_remainder.specs.Bits.{bits, number_behind}
+use Rattle.check_remainder.specs.Remainder.{add_front, divide}
+use Rattle.check_hec16.specs.Hec.{hec_of}
+use Rattle.law_model.specs.declared.frame_faults.TypeFault.{TypeFault}
 use Rattle.gfp_model.specs.fcs_model.Fcs.{fcs_header, fcs_field_fault, fcs_type_fault}
 
 pub fcs_header_right : fcs_type_fault fcs_header ≡ None

@@ -5,15 +5,15 @@ use Rattle.std.proofs.Common.{replicate, refl, sym, ◌∙◌, ap, ap₂, subst,
 use Rattle.std.proofs.lemmas.List.{length-append, length-replicate, length-drop, drop_at, drop-replicate}
 use Rattle.std.proofs.lemmas.List.{replicate-append-replicate}
 use Rattle.std.proofs.lemmas.Bool.{cases_lt}
-use Rattle.base_remainder.specs.Bits.{xors}
-use Rattle.base_remainder.proofs.XorLaws.{xors-zeros, xors-zeros_right, xors-append}
+use Rattle.check_remainder.specs.Bits.{xors}
+use Rattle.check_remainder.proofs.XorLaws.{xors-zeros, xors-zeros_right, xors-append}
 use Rattle.law_model.specs.frames.Scramble.{descrambled}
 use Rattle.law_model.proofs.ScrambleLaws.{xors-longer, descramble-append, length-descrambled}
-use Rattle.base_remainder.specs.Count.{count}
+use Rattle.check_remainder.specs.Count.{count}
 use Rattle.gfp_noise.specs.flip_law.Flipped.{window}
 use Rattle.gfp_noise.specs.flip_law.Single.{IsOneOrTwo, one, two}
-use Rattle.base_remainder.proofs.CountLaws.{OneAt, count_none, count_one}
-use Rattle.base_remainder.proofs.MedialLaws.{xors_medial}
+use Rattle.check_remainder.proofs.CountLaws.{OneAt, count_none, count_one}
+use Rattle.check_remainder.proofs.MedialLaws.{xors_medial}
 
 -- ---- descrambling is linear
 zeros_twice : (n : ℕ) → xors (replicate n false) (replicate n false) ≡ replicate n false

@@ -9,24 +9,24 @@ use Rattle.std.specs.Str.{bytes_eq}
 use Rattle.std.proofs.lemmas.Slice.Eq.{bytes_eq-Decides}
 use Rattle.std.proofs.lemmas.Bool.{le-leb, lt-leb, le-ltb, cases_lt}
 use Rattle.std.proofs.lemmas.List.{take_all}
-use Rattle.base_remainder.proofs.BitLaws.{number-bits}
-use Rattle.base_remainder.proofs.OctetLaws.{octet_bits-bytes_high_first}
-use Rattle.base_remainder.specs.Bits.{number}
-use Rattle.base_crc32.specs.Crc32.{fcs_of}
+use Rattle.check_remainder.proofs.BitLaws.{number-bits}
+use Rattle.check_remainder.proofs.OctetLaws.{octet_bits-bytes_high_first}
+use Rattle.check_remainder.specs.Bits.{number}
+use Rattle.check_crc32.specs.Crc32.{fcs_of}
 use Rattle.law_model.specs.frames.Core.{head}
 use Rattle.gfp_model.specs.declared.fcs_model.FcsWhy.TheVariants.{TooLong, Fcs}
 use Rattle.gfp_model.specs.fcs_model.Near.{near}
 use Rattle.gfp_model.specs.fcs_model.Fcs.{FcsOutcome, delivery, dropping, word_of, by_check, by_size, by_type, fcs_type_fault}
 use Rattle.gfp_model.specs.fcs_model.Fcs.{fcs_outcome}
-use Rattle.gfp_delineate.specs.declared.areas.AreaWhy.TheVariants.{TooLong as IsLong}
-use Rattle.gfp_delineate.specs.declared.areas.AreaStep.{AreaStep}
-use Rattle.gfp_delineate.specs.declared.areas.AreaStep.TheVariants.{Area}
+use Rattle.gfp_delineate.specs.declared.area_receiver.AreaWhy.TheVariants.{TooLong as IsLong}
+use Rattle.gfp_delineate.specs.declared.area_receiver.AreaStep.{AreaStep}
+use Rattle.gfp_delineate.specs.declared.area_receiver.AreaStep.TheVariants.{Area}
 use Rattle.gfp_delineate.specs.Areas.{AreaEnd, keeping, passing, end_of, ends_told, Progress, Adds}
 use Rattle.gfp_delineate.proofs.OutcomeLaws.{outcomes_more-map}
-use Rattle.gfp_noise.specs.declared.gfp_fcs.delineator.FcsStep.{FcsStep}
-use Rattle.gfp_noise.specs.declared.gfp_fcs.delineator.FcsStep.TheVariants.{Nothing, Frame, Dropped}
+use Rattle.gfp_noise.specs.declared.gfp_fcs.fcs_delineator.FcsStep.{FcsStep}
+use Rattle.gfp_noise.specs.declared.gfp_fcs.fcs_delineator.FcsStep.TheVariants.{Nothing, Frame, Dropped}
 use Rattle.gfp_noise.specs.gfp_fcs.Delineator.{FcsReceiver, fcs_outcomes, info_of, frame_of, outcomes_told, told_fcs, fcs_of_end}
-use Rattle.gfp_noise.specs.gfp_fcs.Delineator.{Stands}
+use Rattle.gfp_noise.specs.gfp_fcs.Delineator.{FcsReceiverStands}
 use Rattle.law_model.specs.Limits.{longest_extended_area, longest_frame}
 
 -- ---- a whole area
@@ -83,7 +83,7 @@ fcs_outcome-end false area = refl
 
 -- what more octets bring, of the areas that end with them
 pub outcomes-ends : (was : FcsReceiver) (octets more : List ℕ) (come : List AreaEnd) (told : List FcsOutcome) →
-    told ≡ map fcs_of_end come → Adds was.progress more come → Stands was octets →
+    told ≡ map fcs_of_end come → Adds was.progress more come → FcsReceiverStands was octets →
     fcs_outcomes (octets ++ more) ≡ fcs_outcomes octets ++ told
 outcomes-ends was octets more come told same adds stands =
     outcomes_more-map (end_of longest_extended_area) fcs_outcome fcs_of_end fcs_outcome-end head near

@@ -10,13 +10,13 @@ use Rattle.gfp_model.specs.declared.fcs_model.Flip.{Flip}
 use Rattle.gfp_noise.specs.flip_law.Places.{at, LiesIn, IsRising}
 use Rattle.gfp_noise.specs.flip_law.Flipped.{fcs_stream, IsFrame}
 use Rattle.gfp_noise.proofs.FlipLaws.StreamLaws.{sizes, length-fcs_stream}
-use Rattle.gfp_noise.specs.declared.noise_link.fault.LineFault.{LineFault}
-use Rattle.gfp_noise.specs.declared.noise_link.fault.LineStop.{LineStop}
-use Rattle.gfp_noise.specs.declared.noise_link.fault.LineStop.TheVariants as stop
-use Rattle.gfp_noise.specs.declared.noise_link.draft.Draft.{Draft}
-use Rattle.gfp_noise.specs.declared.noise_link.draft.Statement.{Statement}
-use Rattle.gfp_noise.specs.declared.noise_link.draft.Statement.TheVariants as says
-use Rattle.gfp_noise.specs.noise_link.Lines.{words_fault, words_said, after, at_first, noise_lines}
+use Rattle.gfp_noise.specs.declared.noise_link.noise_text_fault.LineFault.{LineFault}
+use Rattle.gfp_noise.specs.declared.noise_link.noise_text_fault.LineStop.{LineStop}
+use Rattle.gfp_noise.specs.declared.noise_link.noise_text_fault.LineStop.TheVariants as stop
+use Rattle.gfp_noise.specs.declared.noise_link.noise_draft.Draft.{Draft}
+use Rattle.gfp_noise.specs.declared.noise_link.noise_draft.Statement.{Statement}
+use Rattle.gfp_noise.specs.declared.noise_link.noise_draft.Statement.TheVariants as says
+use Rattle.gfp_noise.specs.noise_link.NoiseTextLines.{words_fault, words_said, after, at_first, noise_lines}
 use Rattle.gfp_noise.specs.noise_link.Noise.{noise_of_draft, noise_of, IsNoiseFault}
 use Rattle.law_model.specs.Limits.{longest_frame}
 use Rattle.gfp_noise.specs.noise_link.Drafts.{behind, stopped, IsDraft, IsLineStop, Fits}

@@ -14,14 +14,14 @@ use Rattle.text_lines.proofs.FirstFaultLaws.{all_said}
 use Rattle.text_report.specs.Report.{got_texts}
 use Rattle.gfp_noise.specs.flip_law.Places.{LiesIn}
 use Rattle.gfp_noise.specs.gfp_fcs.Delineator.{fcs_outcomes}
-use Rattle.gfp_noise.specs.declared.noise_link.keyword.Keyword.{Keyword}
-use Rattle.gfp_noise.specs.declared.noise_link.keyword.Keyword.TheVariants as word
-use Rattle.gfp_noise.specs.declared.noise_link.fault.LineFault.{LineFault}
-use Rattle.gfp_noise.specs.declared.noise_link.fault.LineFault.TheVariants as wrong
-use Rattle.gfp_noise.specs.declared.noise_link.draft.Draft.{Draft}
-use Rattle.gfp_noise.specs.declared.noise_link.draft.Noise.{Noise}
-use Rattle.gfp_noise.specs.noise_link.Lines.{keyword_of, place_fault, fields, is_early, not_rising, rest_fault, known_fault}
-use Rattle.gfp_noise.specs.noise_link.Lines.{words_fault, said, known_said, words_said, after, at_first, noise_lines}
+use Rattle.gfp_noise.specs.declared.noise_link.noise_keyword.Keyword.{Keyword}
+use Rattle.gfp_noise.specs.declared.noise_link.noise_keyword.Keyword.TheVariants as word
+use Rattle.gfp_noise.specs.declared.noise_link.noise_text_fault.LineFault.{LineFault}
+use Rattle.gfp_noise.specs.declared.noise_link.noise_text_fault.LineFault.TheVariants as wrong
+use Rattle.gfp_noise.specs.declared.noise_link.noise_draft.Draft.{Draft}
+use Rattle.gfp_noise.specs.declared.noise_link.noise_draft.Noise.{Noise}
+use Rattle.gfp_noise.specs.noise_link.NoiseTextLines.{keyword_of, place_fault, fields, is_early, not_rising, rest_fault, known_fault}
+use Rattle.gfp_noise.specs.noise_link.NoiseTextLines.{words_fault, said, known_said, words_said, after, at_first, noise_lines}
 use Rattle.gfp_noise.specs.noise_link.Noise.{noise_in, noise_of_draft, noise_of, IsNoise}
 use Rattle.gfp_noise.specs.noise_link.Drafts.{IsDraft, Fits}
 use Rattle.gfp_noise.specs.noise_link.Text.{received, causes, counts_text, noise_text, flip_bits, AreSingle, untouched_text}

@@ -7,7 +7,7 @@ use Rattle.text_report.specs.Report.{got_texts}
 use Rattle.law_model.specs.frames.Run.{delineate_within}
 use Rattle.law_model.specs.frames.Hunt.{hunt_within}
 use Rattle.gfp_noise.specs.gfp_fcs.Delineator.{fcs_outcomes}
-use Rattle.gfp_noise.specs.declared.noise_link.draft.Noise.{Noise}
+use Rattle.gfp_noise.specs.declared.noise_link.noise_draft.Noise.{Noise}
 use Rattle.gfp_noise.specs.noise_link.Text.{received, delivered, why_in, causes, counts_text, outcomes_text, noise_text}
 
 -- nothing comes of no octets

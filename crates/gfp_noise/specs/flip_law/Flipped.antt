@@ -5,7 +5,7 @@ use Rattle.std.specs.List.{flat_map}
 use Rattle.law_model.specs.frames.Core.{head}
 use Rattle.law_model.specs.frames.Piece.{areas_stream}
 use Rattle.law_model.specs.frames.Outcome.{outcomes_with}
-use Rattle.base_remainder.specs.Count.{count}
+use Rattle.check_remainder.specs.Count.{count}
 use Rattle.gfp_model.specs.fcs_model.Near.{near}
 use Rattle.gfp_model.specs.fcs_model.Fcs.{fcs_area, fcs_outcome, frame_in}
 use Rattle.law_model.specs.Limits.{longest_frame}

@@ -8,11 +8,11 @@ use Rattle.gfp_model.specs.declared.fcs_model.FcsWhy.{FcsWhy}
 use Rattle.gfp_model.specs.declared.fcs_model.FcsWhy.TheVariants.{Unsettled, TooLong}
 use Rattle.gfp_model.specs.fcs_model.Near.{near}
 use Rattle.gfp_model.specs.fcs_model.Fcs.{FcsOutcome, delivery, dropping, by_type, fcs_type_fault, fcs_outcome}
-use Rattle.gfp_delineate.specs.declared.areas.AreaWhy.{AreaWhy}
-use Rattle.gfp_delineate.specs.declared.areas.AreaWhy.TheVariants.{Unsettled as NotSettled, TooLong as IsLong}
+use Rattle.gfp_delineate.specs.declared.area_receiver.AreaWhy.{AreaWhy}
+use Rattle.gfp_delineate.specs.declared.area_receiver.AreaWhy.TheVariants.{Unsettled as NotSettled, TooLong as IsLong}
 use Rattle.gfp_delineate.specs.Areas.{AreaEnd, keeping, passing, Progress, IsAt}
-use Rattle.gfp_noise.specs.declared.gfp_fcs.delineator.FcsStep.{FcsStep}
-use Rattle.gfp_noise.specs.declared.gfp_fcs.delineator.FcsStep.TheVariants.{Nothing, Frame, Dropped}
+use Rattle.gfp_noise.specs.declared.gfp_fcs.fcs_delineator.FcsStep.{FcsStep}
+use Rattle.gfp_noise.specs.declared.gfp_fcs.fcs_delineator.FcsStep.TheVariants.{Nothing, Frame, Dropped}
 use Rattle.law_model.specs.Limits.{longest_extended_area}
 
 -- what comes of the client frames of a stream, all of which is one first segment. Headers are corrected in SYNC alone
@@ -52,5 +52,5 @@ fcs_of_end (keeping area) = by_type (fcs_type_fault (take 4 area)) area
 fcs_of_end (passing why) = dropping (why_of why)
 
 -- these octets of the stream have come
-abbrev pub Stands : FcsReceiver → List ℕ → Type 0
-Stands receiver octets = IsAt receiver.progress longest_extended_area true true octets
+abbrev pub FcsReceiverStands : FcsReceiver → List ℕ → Type 0
+FcsReceiverStands receiver octets = IsAt receiver.progress longest_extended_area true true octets

@@ -6,5 +6,5 @@ use Rattle.gfp_scramble.specs.Scrambler as scrambler
 use Rattle.gfp_model.specs.fcs_model.Fcs.{fcs_area}
 
 -- these frames were written: their areas were scrambled
-abbrev pub Stands : Scrambling → List (List ℕ) → Type 0
-Stands encoder frames = scrambler.Stands encoder (joined (map fcs_area frames))
+abbrev pub EncoderStands : Scrambling → List (List ℕ) → Type 0
+EncoderStands encoder frames = scrambler.ScramblerStands encoder (joined (map fcs_area frames))

@@ -1,20 +1,20 @@
 -- What a draft meets, and what a line may say that stands after those of a draft, as private clauses say it.
 use Rattle.std.specs.Prelude.{◌≡◌, ⊤, ℕ, ◌+◌, ◌<◌, ◌≤◌, List, [], length, All, Option, Some}
 use Rattle.std.specs.List.{fold}
-use Rattle.text_lines.specs.declared.fault.FieldStop.{FieldStop}
-use Rattle.text_lines.specs.declared.fault.FieldStop.TheVariants as field
+use Rattle.text_lines.specs.declared.field_fault.FieldStop.{FieldStop}
+use Rattle.text_lines.specs.declared.field_fault.FieldStop.TheVariants as field
 use Rattle.gfp_model.specs.declared.fcs_model.Flip.{Flip}
 use Rattle.gfp_noise.specs.flip_law.Places.{at, LiesIn, IsRising}
 use Rattle.gfp_noise.specs.flip_law.Flipped.{fcs_stream, IsFrame}
-use Rattle.gfp_noise.specs.declared.noise_link.fault.LineFault.{LineFault}
-use Rattle.gfp_noise.specs.declared.noise_link.fault.LineFault.TheVariants as wrong
-use Rattle.gfp_noise.specs.declared.noise_link.fault.LineStop.{LineStop}
-use Rattle.gfp_noise.specs.declared.noise_link.fault.LineStop.TheVariants as stop
-use Rattle.gfp_noise.specs.declared.noise_link.read.NoiseFault.{NoiseFault}
-use Rattle.gfp_noise.specs.declared.noise_link.read.NoiseFault.TheVariants as whole
-use Rattle.gfp_noise.specs.declared.noise_link.draft.Statement.{Statement}
-use Rattle.gfp_noise.specs.declared.noise_link.draft.Statement.TheVariants as says
-use Rattle.gfp_noise.specs.declared.noise_link.draft.Draft.{Draft}
+use Rattle.gfp_noise.specs.declared.noise_link.noise_text_fault.LineFault.{LineFault}
+use Rattle.gfp_noise.specs.declared.noise_link.noise_text_fault.LineFault.TheVariants as wrong
+use Rattle.gfp_noise.specs.declared.noise_link.noise_text_fault.LineStop.{LineStop}
+use Rattle.gfp_noise.specs.declared.noise_link.noise_text_fault.LineStop.TheVariants as stop
+use Rattle.gfp_noise.specs.declared.noise_link.read_noise_text.NoiseFault.{NoiseFault}
+use Rattle.gfp_noise.specs.declared.noise_link.read_noise_text.NoiseFault.TheVariants as whole
+use Rattle.gfp_noise.specs.declared.noise_link.noise_draft.Statement.{Statement}
+use Rattle.gfp_noise.specs.declared.noise_link.noise_draft.Statement.TheVariants as says
+use Rattle.gfp_noise.specs.declared.noise_link.noise_draft.Draft.{Draft}
 
 -- why a word wasn't read, as why its line wasn't
 abbrev pub lifted : FieldStop → LineStop

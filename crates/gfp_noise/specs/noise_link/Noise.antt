@@ -3,12 +3,12 @@ use Rattle.std.specs.Prelude.{◌≡◌, ⊤, ℕ, List, length, All, Result, Ok
 use Rattle.text_lines.specs.Language.{said_by}
 use Rattle.gfp_noise.specs.flip_law.Places.{LiesIn, IsRising}
 use Rattle.gfp_noise.specs.flip_law.Flipped.{fcs_stream, IsFrame}
-use Rattle.gfp_noise.specs.declared.noise_link.fault.LineFault.{LineFault}
-use Rattle.gfp_noise.specs.declared.noise_link.draft.Draft.{Draft}
-use Rattle.gfp_noise.specs.declared.noise_link.draft.Noise.{Noise}
-use Rattle.gfp_noise.specs.declared.noise_link.read.NoiseFault.{NoiseFault}
-use Rattle.gfp_noise.specs.declared.noise_link.read.NoiseFault.TheVariants as fault
-use Rattle.gfp_noise.specs.noise_link.Lines.{noise_lines}
+use Rattle.gfp_noise.specs.declared.noise_link.noise_text_fault.LineFault.{LineFault}
+use Rattle.gfp_noise.specs.declared.noise_link.noise_draft.Draft.{Draft}
+use Rattle.gfp_noise.specs.declared.noise_link.noise_draft.Noise.{Noise}
+use Rattle.gfp_noise.specs.declared.noise_link.read_noise_text.NoiseFault.{NoiseFault}
+use Rattle.gfp_noise.specs.declared.noise_link.read_noise_text.NoiseFault.TheVariants as fault
+use Rattle.gfp_noise.specs.noise_link.NoiseTextLines.{noise_lines}
 
 abbrev pub noise_in : Draft → Noise
 noise_in d = record { frames = d.frames; flips = d.flips }

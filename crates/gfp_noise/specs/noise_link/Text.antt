@@ -7,7 +7,7 @@ use Rattle.gfp_model.specs.fcs_model.Fcs.{FcsOutcome, delivery, dropping, frame_
 use Rattle.gfp_noise.specs.flip_law.Places.{turned, flips_of}
 use Rattle.gfp_noise.specs.flip_law.Flipped.{fcs_stream, AreFew, clear}
 use Rattle.gfp_noise.specs.gfp_fcs.Delineator.{fcs_outcomes}
-use Rattle.gfp_noise.specs.declared.noise_link.draft.Noise.{Noise}
+use Rattle.gfp_noise.specs.declared.noise_link.noise_draft.Noise.{Noise}
 
 -- the stream as it is received: that of the frames, with its bits turned over one after another
 unfoldable pub received : Noise → List ℕ

@@ -5,32 +5,32 @@
 //! says which frames are delivered if errors are single, and `text_law` what is then written of a text.
 
 ghost use Rattle.std.specs.Prelude.{◌≡◌, ◌↔◌, ℕ, List, Ok, Err};
-ghost use Rattle.gfp_noise.specs.declared.noise_link.draft.Noise.{Noise};
+ghost use Rattle.gfp_noise.specs.declared.noise_link.noise_draft.Noise.{Noise};
 ghost use Rattle.gfp_noise.specs.gfp_fcs.Delineator.{fcs_outcomes};
 ghost use Rattle.gfp_noise.specs.noise_link.Text.{received, delivered, untouched, AreSingle, noise_text, untouched_text};
 ghost use Rattle.std.specs.Str.Lines.{lines};
 ghost use Rattle.text_lines.specs.FirstFault.{IsFirstFault};
-ghost use Rattle.gfp_noise.specs.declared.noise_link.fault.LineFault.{LineFault};
-ghost use Rattle.gfp_noise.specs.noise_link.Lines.{at_first, noise_lines};
+ghost use Rattle.gfp_noise.specs.declared.noise_link.noise_text_fault.LineFault.{LineFault};
+ghost use Rattle.gfp_noise.specs.noise_link.NoiseTextLines.{at_first, noise_lines};
 ghost use Rattle.gfp_noise.specs.noise_link.Noise.{noise_of, IsNoise};
 
-mod draft;
-mod fault;
-mod help;
-mod keyword;
-mod lines;
-mod read;
-mod reception;
-mod run;
-mod statement;
-mod stream;
+mod noise_draft;
+mod noise_text_fault;
+mod noise_helps;
+mod noise_keyword;
+mod noise_end_text;
+mod read_noise_text;
+mod noise_reception;
+mod noise_run;
+mod noise_statement;
+mod noisy_stream;
 
-pub use draft::{FlipList, FrameList, Noise};
-pub use fault::LineFault;
-pub use help::noise_help;
-pub use keyword::Keyword;
-pub use read::{NoiseFault, read_noise};
-pub use run::NoiseRun;
+pub use noise_draft::{FlipList, FrameList, Noise};
+pub use noise_text_fault::LineFault;
+pub use noise_helps::noise_help;
+pub use noise_keyword::Keyword;
+pub use read_noise_text::{NoiseFault, read_noise};
+pub use noise_run::NoiseRun;
 
 /// A text has the fault of a line exactly where that line is faulty after lines none of which is.
 pub fn fault_law()

@@ -2,8 +2,8 @@
 use Rattle.std.specs.Prelude.{◌≡◌, ℕ, ◌^◌, ◌<◌, ◌≤◌, ◌⊎◌, ◌==◌, nat_le, ◌&&◌, ◌||◌, Bool, List, ◌++◌, take, Option}
 use Rattle.std.specs.Prelude.{Some, None, if◌then◌else◌}
 use Rattle.std.specs.Str.{bytes_eq}
-use Rattle.base_remainder.specs.Bits.{bits, number, octet_bits, octets_of, xors}
-use Rattle.base_hec16.specs.Hec.{hec_bits}
+use Rattle.check_remainder.specs.Bits.{bits, number, octet_bits, octets_of, xors}
+use Rattle.check_hec16.specs.Hec.{hec_bits}
 
 -- the core header of a PLI: two octets of PLI and two of cHEC, combined by exclusive or with B6 AB 31 E0
 unfoldable pub core_header : ℕ → List ℕ

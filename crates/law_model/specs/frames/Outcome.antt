@@ -8,9 +8,9 @@
 use Rattle.std.specs.Prelude.{ℕ, ◌+◌, ◌||◌, nat_le, nat_lt, Bool, true, false, List, [], ◌∷◌, ◌++◌, length, map, take}
 use Rattle.std.specs.Prelude.{drop, Option, Some, None, if◌then◌else◌}
 use Rattle.std.specs.List.{flat_map}
-use Rattle.law_model.specs.declared.Why.{Why}
-use Rattle.law_model.specs.declared.Why.TheVariants.{Unsettled, TooLong, Header}
-use Rattle.law_model.specs.declared.TypeFault.{TypeFault}
+use Rattle.law_model.specs.declared.frame_faults.Why.{Why}
+use Rattle.law_model.specs.declared.frame_faults.Why.TheVariants.{Unsettled, TooLong, Header}
+use Rattle.law_model.specs.declared.frame_faults.TypeFault.{TypeFault}
 use Rattle.law_model.specs.frames.Core.{head}
 use Rattle.law_model.specs.frames.Piece.{cut, joined}
 use Rattle.law_model.specs.frames.Scramble.{descrambled_octets}

@@ -2,7 +2,7 @@
 -- it.
 -- Bits before the list are 0, which is this project's own start.
 use Rattle.std.specs.Prelude.{◌≡◌, ℕ, Bool, false, List, [], ◌∷◌, ◌++◌, length, replicate, slice_index_or}
-use Rattle.base_remainder.specs.Bits.{octet_bits, octets_of, xor, xors}
+use Rattle.check_remainder.specs.Bits.{octet_bits, octets_of, xor, xors}
 
 -- the bit so many places before the end of a list
 abbrev pub back : ℕ → List Bool → Bool

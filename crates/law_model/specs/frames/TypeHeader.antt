@@ -2,9 +2,9 @@
 -- (8).
 use Rattle.std.specs.Prelude.{ℕ, ◌+◌, ◌*◌, ◌/◌, ◌%◌, ◌^◌, ◌==◌, List, [], ◌∷◌, slice_index, Option, Some, None}
 use Rattle.std.specs.Prelude.{if◌then◌else◌}
-use Rattle.base_hec16.specs.Hec.{hec_of}
-use Rattle.law_model.specs.declared.TypeFault.{TypeFault}
-use Rattle.law_model.specs.declared.TypeFault.TheVariants.{Check, NotClient, PayloadFcs, Extension, NotEthernet}
+use Rattle.check_hec16.specs.Hec.{hec_of}
+use Rattle.law_model.specs.declared.frame_faults.TypeFault.{TypeFault}
+use Rattle.law_model.specs.declared.frame_faults.TypeFault.TheVariants.{Check, NotClient, PayloadFcs, Extension, NotEthernet}
 
 -- the type header of an Ethernet frame
 abbrev pub type_header : List ℕ

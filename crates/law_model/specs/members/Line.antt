@@ -1,9 +1,9 @@
 -- What a line carries whose numbers are never in doubt, and what its cells ought to tell of them.
 use Rattle.std.specs.Prelude.{◌≡◌, ℕ, ◌+◌, ◌*◌, ◌/◌, ◌%◌, ◌<◌, List, map, take, drop, slice_get, Option, Some, None}
 use Rattle.std.specs.Prelude.{if◌then◌else◌}
-use Rattle.base_cells.specs.declared.Container.{Container}
-use Rattle.law_model.specs.declared.window.Window.{Window}
-use Rattle.law_model.specs.declared.window.Carried.{Carried}
+use Rattle.member_cells.specs.declared.containers_and_cells.Container.{Container}
+use Rattle.law_model.specs.declared.window_types.Window.{Window}
+use Rattle.law_model.specs.declared.window_types.Carried.{Carried}
 use Rattle.law_model.specs.members.Damage.{is_good, AreWindows, slip_of}
 
 -- the H4 of container n: MFI1 is n modulo 16, and the first two of a multiframe have the halves of MFI2

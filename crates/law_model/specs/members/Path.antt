@@ -1,10 +1,10 @@
 -- The path of a line: the cells that its carries give.
 use Rattle.std.specs.Prelude.{ℕ, suc, ◌-◌, nat_lt, List, [], ◌∷◌, ◌++◌, take, if◌then◌else◌}
-use Rattle.base_cells.specs.declared.Container.{Container}
-use Rattle.base_cells.specs.declared.Cell.{Cell}
-use Rattle.base_cells.specs.declared.Cell.TheVariants.{Good, Fail, End}
-use Rattle.law_model.specs.declared.window.Carried.{Carried}
-use Rattle.law_model.specs.declared.window.Carried.TheVariants.{Whole, Fails, Vanishes}
+use Rattle.member_cells.specs.declared.containers_and_cells.Container.{Container}
+use Rattle.member_cells.specs.declared.containers_and_cells.Cell.{Cell}
+use Rattle.member_cells.specs.declared.containers_and_cells.Cell.TheVariants.{Good, Fail, End}
+use Rattle.law_model.specs.declared.window_types.Carried.{Carried}
+use Rattle.law_model.specs.declared.window_types.Carried.TheVariants.{Whole, Fails, Vanishes}
 
 abbrev pub cells_of : Carried → Container → List Cell
 cells_of Whole container = Good container ∷ []

@@ -1,8 +1,8 @@
 -- The H4 octets of the cells of a line, as the lock on the multiframe sees them: none stands for a cell that is not
 -- good.
 use Rattle.std.specs.Prelude.{◌≡◌, ℕ, List, map, slice_get, Option, Some, None}
-use Rattle.base_cells.specs.declared.Cell.{Cell}
-use Rattle.base_cells.specs.declared.Cell.TheVariants.{Good, Fail, End}
+use Rattle.member_cells.specs.declared.containers_and_cells.Cell.{Cell}
+use Rattle.member_cells.specs.declared.containers_and_cells.Cell.TheVariants.{Good, Fail, End}
 
 abbrev pub sign_of : Cell → Option ℕ
 sign_of (Good container) = Some container.h4

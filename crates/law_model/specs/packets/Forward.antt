@@ -1,15 +1,15 @@
 -- G.7042, what the source tells of a line: its state, and the control packet that goes forward.
 use Rattle.std.specs.Prelude.{ℕ, ◌+◌, ◌%◌, ◌==◌, Bool, false, if◌then◌else◌, List, [], ◌∷◌, length, Option, Some, None}
 use Rattle.std.specs.List.{list_any}
-use Rattle.base_cells.specs.declared.Ctrl.{Ctrl}
-use Rattle.base_cells.specs.declared.Ctrl.TheVariants.{Add, Norm, Eos, Idle, Dnu}
-use Rattle.law_model.specs.declared.packet.Packet.{Packet}
-use Rattle.law_model.specs.declared.table.Standing.{Standing}
-use Rattle.law_model.specs.declared.table.Standing.TheVariants.{Add as adding, Norm as normal, Dnu as unused}
-use Rattle.law_model.specs.declared.table.Member.{Member}
-use Rattle.law_model.specs.declared.table.SourceState.{SourceState}
-use Rattle.law_model.specs.declared.table.SourceState.TheVariants.{Idle as idle, Add as in_add, Norm as in_norm}
-use Rattle.law_model.specs.declared.table.SourceState.TheVariants.{Dnu as in_dnu, Remove as in_remove}
+use Rattle.member_cells.specs.declared.control_word.Ctrl.{Ctrl}
+use Rattle.member_cells.specs.declared.control_word.Ctrl.TheVariants.{Add, Norm, Eos, Idle, Dnu}
+use Rattle.law_model.specs.declared.control_packet.Packet.{Packet}
+use Rattle.law_model.specs.declared.lcas_states.Standing.{Standing}
+use Rattle.law_model.specs.declared.lcas_states.Standing.TheVariants.{Add as adding, Norm as normal, Dnu as unused}
+use Rattle.law_model.specs.declared.lcas_states.Member.{Member}
+use Rattle.law_model.specs.declared.lcas_states.SourceState.{SourceState}
+use Rattle.law_model.specs.declared.lcas_states.SourceState.TheVariants.{Idle as idle, Add as in_add, Norm as in_norm}
+use Rattle.law_model.specs.declared.lcas_states.SourceState.TheVariants.{Dnu as in_dnu, Remove as in_remove}
 use Rattle.law_model.specs.source.Table.{Table, is_normal, active}
 use Rattle.law_model.specs.packets.GroupBit.{group_bit}
 

@@ -3,7 +3,7 @@
 use Rattle.std.specs.Prelude.{ℕ, zero, suc, ◌-◌, nat_lt, Bool, true, false, if◌then◌else◌, List, [], ◌∷◌, ◌++◌, length}
 use Rattle.std.specs.Prelude.{map, slice_index_or}
 use Rattle.std.specs.List.{range_with_len}
-use Rattle.base_remainder.specs.Bits.{xor}
+use Rattle.check_remainder.specs.Bits.{xor}
 
 -- the bit after those of all packets before: 1 in the first fifteen packets, and then the sum modulo 2 of the bits that
 -- stand

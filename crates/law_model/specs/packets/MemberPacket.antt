@@ -1,8 +1,8 @@
 -- The nibbles of a control packet of a line (G.7042): the upper halves of the H4 octets of sixteen numbers, where they
 -- are all whole.
 use Rattle.std.specs.Prelude.{ℕ, zero, suc, ◌+◌, ◌*◌, ◌/◌, List, [], ◌∷◌, ◌++◌, Option, Some, None}
-use Rattle.base_cells.specs.declared.Container.{Container}
-use Rattle.base_cells.specs.declared.Cell.{Cell}
+use Rattle.member_cells.specs.declared.containers_and_cells.Container.{Container}
+use Rattle.member_cells.specs.declared.containers_and_cells.Cell.{Cell}
 use Rattle.law_model.specs.members.Number.{verdict}
 
 -- the upper half of the H4 octet of a number, where it is whole

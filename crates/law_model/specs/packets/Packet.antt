@@ -6,12 +6,12 @@
 use Rattle.std.specs.Prelude.{ℕ, ◌+◌, ◌*◌, ◌/◌, ◌%◌, ◌<◌, ◌==◌, nat_lt, ◌&&◌, Bool, if◌then◌else◌, List, [], ◌∷◌, ◌++◌}
 use Rattle.std.specs.Prelude.{length, take, slice_index, Option, Some, None, Result, Ok, Err}
 use Rattle.std.specs.List.{list_all}
-use Rattle.base_nibbles.specs.Check.{crc8_of}
-use Rattle.base_cells.specs.declared.Ctrl.{Ctrl}
-use Rattle.base_cells.specs.Code.{code_of, ctrl_of}
-use Rattle.law_model.specs.declared.packet.Packet.{Packet}
-use Rattle.law_model.specs.declared.packet.PacketFault.{PacketFault}
-use Rattle.law_model.specs.declared.packet.PacketFault.TheVariants.{Crc, Ctrl as CtrlFault}
+use Rattle.check_nibbles.specs.Check.{crc8_of}
+use Rattle.member_cells.specs.declared.control_word.Ctrl.{Ctrl}
+use Rattle.member_cells.specs.Code.{code_of, ctrl_of}
+use Rattle.law_model.specs.declared.control_packet.Packet.{Packet}
+use Rattle.law_model.specs.declared.control_packet.PacketFault.{PacketFault}
+use Rattle.law_model.specs.declared.control_packet.PacketFault.TheVariants.{Crc, Ctrl as CtrlFault}
 
 -- ---- what is sent
 -- an octet in two nibbles

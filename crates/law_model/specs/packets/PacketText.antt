@@ -1,8 +1,8 @@
 -- How the parts of a control packet are printed.
 use Rattle.std.specs.Prelude.{ℕ, Bool, if◌then◌else◌, List, [], ◌∷◌, drop, codes}
 use Rattle.hex.specs.Hex.{encode_lower}
-use Rattle.base_cells.specs.declared.Ctrl.{Ctrl}
-use Rattle.base_cells.specs.declared.Ctrl.TheVariants.{Fixed, Add, Norm, Eos, Idle, Dnu}
+use Rattle.member_cells.specs.declared.control_word.Ctrl.{Ctrl}
+use Rattle.member_cells.specs.declared.control_word.Ctrl.TheVariants.{Fixed, Add, Norm, Eos, Idle, Dnu}
 
 -- a control word
 abbrev pub ctrl_text : Ctrl → List ℕ

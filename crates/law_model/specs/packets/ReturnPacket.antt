@@ -3,12 +3,12 @@
 use Rattle.std.specs.Prelude.{ℕ, ◌+◌, ◌*◌, ◌%◌, ◌==◌, ◌&&◌, not, Bool, true, false, if◌then◌else◌, List, [], ◌∷◌, map}
 use Rattle.std.specs.Prelude.{fold, take, slice_index_or, Option, Some, None}
 use Rattle.std.specs.List.{list_any, range_with_len}
-use Rattle.base_remainder.specs.Bits.{number}
-use Rattle.base_cells.specs.declared.Ctrl.{Ctrl}
-use Rattle.base_cells.specs.declared.Ctrl.TheVariants.{Fixed, Add, Norm, Eos, Idle, Dnu}
-use Rattle.law_model.specs.declared.packet.Packet.{Packet}
-use Rattle.law_model.specs.declared.table.SinkState.{SinkState}
-use Rattle.law_model.specs.declared.table.SinkState.TheVariants.{Idle as idle, Fine, Failed}
+use Rattle.check_remainder.specs.Bits.{number}
+use Rattle.member_cells.specs.declared.control_word.Ctrl.{Ctrl}
+use Rattle.member_cells.specs.declared.control_word.Ctrl.TheVariants.{Fixed, Add, Norm, Eos, Idle, Dnu}
+use Rattle.law_model.specs.declared.control_packet.Packet.{Packet}
+use Rattle.law_model.specs.declared.lcas_states.SinkState.{SinkState}
+use Rattle.law_model.specs.declared.lcas_states.SinkState.TheVariants.{Idle as idle, Fine, Failed}
 
 -- the packets that were read of one k, by line
 abbrev pub Row : Type 0

@@ -2,8 +2,8 @@
 -- that the terminal which sends them has to say of that way.
 use Rattle.std.specs.Prelude.{ℕ, ◌==◌, not, Bool, true, List, [], map, Option, Some, None, slice_index_or}
 use Rattle.std.specs.List.{range_with_len}
-use Rattle.base_remainder.specs.Bits.{number}
-use Rattle.law_model.specs.declared.packet.Packet.{Packet}
+use Rattle.check_remainder.specs.Bits.{number}
+use Rattle.law_model.specs.declared.control_packet.Packet.{Packet}
 use Rattle.law_model.specs.session.Scenario.{Scenario}
 use Rattle.law_model.specs.source.Table.{Told}
 use Rattle.law_model.specs.packets.Told.{told_by}

@@ -1,11 +1,11 @@
 -- G.7042, what a return cell tells the source: a return packet's acknowledgement (RS-Ack) and member status (MST).
 -- RS-Ack as an echo of the change bit is this project's own.
 use Rattle.std.specs.Prelude.{ℕ, not, Bool, List, map, Option, Some, None, option_map, Result, Ok, Err}
-use Rattle.base_remainder.specs.Bits.{bits}
-use Rattle.base_cells.specs.declared.BackCell.{BackCell}
-use Rattle.base_cells.specs.declared.BackCell.TheVariants.{Packet as Nibbles, Lost}
-use Rattle.law_model.specs.declared.packet.Packet.{Packet}
-use Rattle.law_model.specs.declared.packet.PacketFault.{PacketFault}
+use Rattle.check_remainder.specs.Bits.{bits}
+use Rattle.member_cells.specs.declared.containers_and_cells.BackCell.{BackCell}
+use Rattle.member_cells.specs.declared.containers_and_cells.BackCell.TheVariants.{Packet as Nibbles, Lost}
+use Rattle.law_model.specs.declared.control_packet.Packet.{Packet}
+use Rattle.law_model.specs.declared.control_packet.PacketFault.{PacketFault}
 use Rattle.law_model.specs.packets.Packet.{bit_nibble, read_of}
 use Rattle.law_model.specs.source.Table.{Told}
 

@@ -4,7 +4,7 @@
 use Rattle.std.specs.Prelude.{ℕ, ◌-◌, ◌/◌, ◌&&◌, nat_lt, Bool, true, if◌then◌else◌, List, map, length, Option, Some}
 use Rattle.std.specs.Prelude.{None}
 use Rattle.std.specs.List.{list_all, range_with_len}
-use Rattle.law_model.specs.declared.packet.Packet.{Packet}
+use Rattle.law_model.specs.declared.control_packet.Packet.{Packet}
 use Rattle.law_model.specs.members.Damage.{is_good}
 use Rattle.law_model.specs.session.Scenario.{Scenario, carried_by, is_read, is_heard}
 use Rattle.law_model.specs.source.Table.{Table, Told, active}

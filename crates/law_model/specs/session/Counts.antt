@@ -5,16 +5,16 @@ use Rattle.std.specs.Prelude.{ℕ, zero, suc, ◌+◌, ◌-◌, ◌*◌, ◌/◌
 use Rattle.std.specs.Prelude.{◌∷◌, ◌++◌, map, length, replicate, slice_get, slice_set, Option, Some, None}
 use Rattle.std.specs.Prelude.{if◌then◌else◌}
 use Rattle.std.specs.List.{flat_map}
-use Rattle.law_model.specs.declared.script.Item.{Item}
-use Rattle.law_model.specs.declared.script.ItemKind.{ItemKind}
-use Rattle.law_model.specs.declared.script.ItemKind.TheVariants.{Frame, Add, Remove}
-use Rattle.law_model.specs.declared.script.EventLine.{EventLine}
-use Rattle.law_model.specs.declared.script.EventLine.TheVariants as script_line
-use Rattle.law_model.specs.declared.walk.Event.{Event}
-use Rattle.law_model.specs.declared.walk.Event.TheVariants.{Accept, Command, Tick, Carry, Back, Take}
-use Rattle.law_model.specs.declared.walk.StallCause.{StallCause}
-use Rattle.law_model.specs.declared.walk.StallCause.TheVariants.{Done, NotDue, Held, TxFull, BackMissing, Empty}
-use Rattle.law_model.specs.declared.walk.StallCause.TheVariants.{RxFull, BackEmpty, BackFull, Waiting}
+use Rattle.law_model.specs.declared.script_types.Item.{Item}
+use Rattle.law_model.specs.declared.script_types.ItemKind.{ItemKind}
+use Rattle.law_model.specs.declared.script_types.ItemKind.TheVariants.{Frame, Add, Remove}
+use Rattle.law_model.specs.declared.script_types.EventLine.{EventLine}
+use Rattle.law_model.specs.declared.script_types.EventLine.TheVariants as script_line
+use Rattle.law_model.specs.declared.walk_events.Event.{Event}
+use Rattle.law_model.specs.declared.walk_events.Event.TheVariants.{Accept, Command, Tick, Carry, Back, Take}
+use Rattle.law_model.specs.declared.walk_events.StallCause.{StallCause}
+use Rattle.law_model.specs.declared.walk_events.StallCause.TheVariants.{Done, NotDue, Held, TxFull, BackMissing, Empty}
+use Rattle.law_model.specs.declared.walk_events.StallCause.TheVariants.{RxFull, BackEmpty, BackFull, Waiting}
 use Rattle.law_model.specs.session.Scenario.{packets_in, steps_in}
 
 -- ---- what a walk is given

@@ -1,11 +1,11 @@
 -- The walk in numbers of a script: its lines as paths, whose cells come of the containers that are sent.
 use Rattle.std.specs.Prelude.{ℕ, ◌+◌, ◌-◌, ◌*◌, ◌≤◌, max, min, List, [], ◌∷◌, map, length, take}
-use Rattle.base_cells.specs.declared.Container.{Container}
-use Rattle.base_cells.specs.declared.Cell.{Cell}
-use Rattle.law_model.specs.declared.window.Window.{Window}
-use Rattle.law_model.specs.declared.window.Carried.{Carried}
-use Rattle.law_model.specs.declared.script.Config.{Config}
-use Rattle.law_model.specs.declared.script.Item.{Item}
+use Rattle.member_cells.specs.declared.containers_and_cells.Container.{Container}
+use Rattle.member_cells.specs.declared.containers_and_cells.Cell.{Cell}
+use Rattle.law_model.specs.declared.window_types.Window.{Window}
+use Rattle.law_model.specs.declared.window_types.Carried.{Carried}
+use Rattle.law_model.specs.declared.script_types.Config.{Config}
+use Rattle.law_model.specs.declared.script_types.Item.{Item}
 use Rattle.law_model.specs.members.Damage.{carried, slip_of}
 use Rattle.law_model.specs.members.Path.{cells}
 use Rattle.law_model.specs.members.Number.{LineLock, unlocked, begun, locked, over, Reading, reading_of}

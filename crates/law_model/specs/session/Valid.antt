@@ -3,15 +3,15 @@
 -- project's own.
 use Rattle.std.specs.Prelude.{◌≡◌, ◌⊎◌, ℕ, ◌<◌, ◌≤◌, List, [], ◌∷◌, length, All}
 use Rattle.std.specs.List.Sorted.{IsNonDecreasing}
-use Rattle.law_model.specs.declared.window.Window.{Window}
-use Rattle.law_model.specs.declared.script.Config.{Config}
-use Rattle.law_model.specs.declared.script.Item.{Item}
-use Rattle.law_model.specs.declared.script.ItemKind.{ItemKind}
-use Rattle.law_model.specs.declared.script.ItemKind.TheVariants.{Frame, Add, Remove}
-use Rattle.law_model.specs.declared.script.EventLine.{EventLine}
-use Rattle.law_model.specs.declared.script.EventLine.TheVariants.{Client, Operator, Tick, Carry, Back, Take, Round}
-use Rattle.law_model.specs.declared.script.EventLine.TheVariants.{Drain}
-use Rattle.law_model.specs.declared.script.Script.{Script}
+use Rattle.law_model.specs.declared.window_types.Window.{Window}
+use Rattle.law_model.specs.declared.script_types.Config.{Config}
+use Rattle.law_model.specs.declared.script_types.Item.{Item}
+use Rattle.law_model.specs.declared.script_types.ItemKind.{ItemKind}
+use Rattle.law_model.specs.declared.script_types.ItemKind.TheVariants.{Frame, Add, Remove}
+use Rattle.law_model.specs.declared.script_types.EventLine.{EventLine}
+use Rattle.law_model.specs.declared.script_types.EventLine.TheVariants.{Client, Operator, Tick, Carry, Back, Take, Round}
+use Rattle.law_model.specs.declared.script_types.EventLine.TheVariants.{Drain}
+use Rattle.law_model.specs.declared.script_types.Script.{Script}
 use Rattle.law_model.specs.session.Leg.{Leg, leg_of}
 use Rattle.law_model.specs.members.Damage.{AreWindows}
 use Rattle.law_model.specs.session.Counts.{dues_of, frame_dues, command_dues}

@@ -1,8 +1,8 @@
 -- The client's frames in the stream of a session: which are accepted, and after which pieces a frame is made.
 use Rattle.std.specs.Prelude.{◌≡◌, ◌≤◌, ◌<◌, take, ℕ, zero, suc, ◌+◌, ◌-◌, ◌*◌, ◌/◌, nat_le, nat_lt, ◌||◌}
 use Rattle.std.specs.Prelude.{if◌then◌else◌, List, [], ◌∷◌, ◌++◌, fold, flat_map, sum_by, length, Option, Some, None}
-use Rattle.law_model.specs.declared.refusal.AcceptFault.{AcceptFault}
-use Rattle.law_model.specs.declared.refusal.AcceptFault.TheVariants.{Length, QueueFull}
+use Rattle.law_model.specs.declared.item_refusals.AcceptFault.{AcceptFault}
+use Rattle.law_model.specs.declared.item_refusals.AcceptFault.TheVariants.{Length, QueueFull}
 use Rattle.law_model.specs.frames.Piece.{Piece, idle, client, size_of}
 use Rattle.law_model.specs.session.Scenario.{Scenario, frames_at}
 use Rattle.law_model.specs.source.Table.{Told, active}

@@ -2,7 +2,7 @@
 -- that it takes.
 use Rattle.std.specs.Prelude.{ℕ, zero, suc, ◌+◌, ◌-◌, ◌%◌, nat_le, List, [], ◌∷◌, ◌++◌, map, fold, Option, Some, None}
 use Rattle.std.specs.Prelude.{slice_index_or, if◌then◌else◌}
-use Rattle.law_model.specs.declared.table.Command.{Command}
+use Rattle.law_model.specs.declared.lcas_states.Command.{Command}
 use Rattle.law_model.specs.session.Scenario.{Scenario, orders_at}
 use Rattle.law_model.specs.source.Table.{Told}
 use Rattle.law_model.specs.source.Source.{Source, opening, asked, decide}

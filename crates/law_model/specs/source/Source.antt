@@ -2,10 +2,10 @@
 -- it is lost.
 use Rattle.std.specs.Prelude.{ℕ, zero, suc, ◌-◌, ◌%◌, ◌&&◌, not, nat_le, Bool, true, false, if◌then◌else◌, List, []}
 use Rattle.std.specs.Prelude.{◌∷◌, ◌++◌, fold, length, Option, Some, None, slice_index_or, slice_set, replicate}
-use Rattle.law_model.specs.declared.refusal.CommandFault.{CommandFault}
-use Rattle.law_model.specs.declared.refusal.CommandFault.TheVariants.{UnknownLine, AlreadyIn, NotIn, TooManyPending}
-use Rattle.law_model.specs.declared.table.Command.{Command}
-use Rattle.law_model.specs.declared.table.Command.TheVariants.{Add as add, Remove as remove}
+use Rattle.law_model.specs.declared.item_refusals.CommandFault.{CommandFault}
+use Rattle.law_model.specs.declared.item_refusals.CommandFault.TheVariants.{UnknownLine, AlreadyIn, NotIn, TooManyPending}
+use Rattle.law_model.specs.declared.lcas_states.Command.{Command}
+use Rattle.law_model.specs.declared.lcas_states.Command.TheVariants.{Add as add, Remove as remove}
 use Rattle.law_model.specs.session.Scenario.{Scenario, orders_at}
 use Rattle.law_model.specs.source.Table.{Table, Told, kept_of, first_table, heard, told_on, carried_out, exchange}
 use Rattle.law_model.specs.source.Table.{exchanged}

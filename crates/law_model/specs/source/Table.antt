@@ -2,11 +2,11 @@
 -- out, and that RS-Ack echoes it, are this project's own.
 use Rattle.std.specs.Prelude.{ℕ, ◌+◌, ◌/◌, ◌%◌, ◌==◌, ◌&&◌, not, Bool, true, false, if◌then◌else◌, List, [], ◌∷◌, ◌++◌}
 use Rattle.std.specs.Prelude.{map, filter, Option, Some, None, option_map, slice_get, slice_index_or, replicate}
-use Rattle.law_model.specs.declared.table.Standing.{Standing}
-use Rattle.law_model.specs.declared.table.Standing.TheVariants.{Add as adding, Norm as normal, Dnu as unused}
-use Rattle.law_model.specs.declared.table.Member.{Member}
-use Rattle.law_model.specs.declared.table.Command.{Command}
-use Rattle.law_model.specs.declared.table.Command.TheVariants.{Add as add, Remove as remove}
+use Rattle.law_model.specs.declared.lcas_states.Standing.{Standing}
+use Rattle.law_model.specs.declared.lcas_states.Standing.TheVariants.{Add as adding, Norm as normal, Dnu as unused}
+use Rattle.law_model.specs.declared.lcas_states.Member.{Member}
+use Rattle.law_model.specs.declared.lcas_states.Command.{Command}
+use Rattle.law_model.specs.declared.lcas_states.Command.TheVariants.{Add as add, Remove as remove}
 
 abbrev pub member_of : ℕ → Standing → Member
 member_of line standing = record { line = line; standing = standing }

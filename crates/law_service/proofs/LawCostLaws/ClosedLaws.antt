@@ -2,8 +2,8 @@
 use Rattle.std.proofs.Common.{◌≡◌, ◌↔◌, ℕ, suc, ◌+◌, ◌-◌, ◌*◌, ◌/◌, ◌<◌, ◌≤◌, min, false, inl, inr, List, Option, Some}
 use Rattle.std.proofs.Common.{slice_get, sym, ◌∙◌, arith}
 use Rattle.std.proofs.lemmas.Bool.{cases_lt}
-use Rattle.law_model.specs.declared.window.Window.{Window}
-use Rattle.law_model.specs.declared.table.Standing.TheVariants.{Norm as normal}
+use Rattle.law_model.specs.declared.window_types.Window.{Window}
+use Rattle.law_model.specs.declared.lcas_states.Standing.TheVariants.{Norm as normal}
 use Rattle.law_model.specs.session.Leg.{Leg}
 use Rattle.law_model.specs.session.Scenario.{Scenario, scenario_by, packets}
 use Rattle.law_model.specs.source.Table.{Told}

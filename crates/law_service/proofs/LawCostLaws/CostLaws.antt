@@ -6,10 +6,10 @@ use Rattle.std.specs.List.{list_all, range_with_len}
 use Rattle.std.proofs.lemmas.Bool.{cases_Bool, cases_lt, le-ltb, lt-ltb, and_right, false_from_ne_true}
 use Rattle.std.proofs.lemmas.Option.{none-some, same_Some, slice_get_within}
 use Rattle.std.proofs.lemmas.List.{get_or_past, length-map}
-use Rattle.law_model.specs.declared.window.Window.{Window}
-use Rattle.law_model.specs.declared.table.Standing.TheVariants.{Add as adding, Norm as normal, Dnu as unused}
-use Rattle.law_model.specs.declared.table.Standing.{Standing}
-use Rattle.law_model.specs.declared.table.Member.{Member}
+use Rattle.law_model.specs.declared.window_types.Window.{Window}
+use Rattle.law_model.specs.declared.lcas_states.Standing.TheVariants.{Add as adding, Norm as normal, Dnu as unused}
+use Rattle.law_model.specs.declared.lcas_states.Standing.{Standing}
+use Rattle.law_model.specs.declared.lcas_states.Member.{Member}
 use Rattle.law_model.specs.session.Leg.{Leg}
 use Rattle.law_model.specs.members.Damage.{is_good}
 use Rattle.law_model.specs.session.Scenario.{Scenario, scenario_by, carried_by, is_read, is_heard, packets}

@@ -3,8 +3,8 @@ use Rattle.std.proofs.Common.{◌≡◌, ◌⊎◌, ℕ, zero, suc, ◌+◌, ◌
 use Rattle.std.proofs.Common.{true, false, if◌then◌else◌, inl, inr, List, [], ◌∷◌, length, get_or, ap, ap₂, subst}
 use Rattle.std.proofs.Common.{arith}
 use Rattle.std.proofs.lemmas.Bool.{le-leb, lt-ltb, cases_lt, and_parts}
-use Rattle.law_model.specs.declared.window.Window.{Window}
-use Rattle.law_model.specs.declared.window.Carried.TheVariants.{Whole, Fails, Vanishes}
+use Rattle.law_model.specs.declared.window_types.Window.{Window}
+use Rattle.law_model.specs.declared.window_types.Carried.TheVariants.{Whole, Fails, Vanishes}
 use Rattle.law_model.specs.members.Damage.{AreWindows, carried, carried_in, is_good, is_readable}
 use Rattle.law_session.proofs.DamageLaws.{readable-whole, good-whole}
 use Rattle.law_walk.specs.Promise.{IsClear, row_from}

@@ -4,11 +4,11 @@ use Rattle.std.proofs.Common.{All, Some, refl, sym, ◌∙◌, ap, arith, true, 
 use Rattle.std.proofs.lemmas.Option.{none-some, same_Some}
 use Rattle.std.proofs.lemmas.List.Elements.{All-nil, All-cons}
 use Rattle.std.proofs.lemmas.List.Sorted.{IsNonDecreasingBy-short}
-use Rattle.law_model.specs.declared.window.Window.{Window}
-use Rattle.law_model.specs.declared.script.ItemKind.TheVariants.{Add}
-use Rattle.law_model.specs.declared.table.Standing.TheVariants.{Add as adding, Norm as normal}
-use Rattle.law_model.specs.declared.table.Member.{Member}
-use Rattle.law_model.specs.declared.table.Command.TheVariants.{Add as add}
+use Rattle.law_model.specs.declared.window_types.Window.{Window}
+use Rattle.law_model.specs.declared.script_types.ItemKind.TheVariants.{Add}
+use Rattle.law_model.specs.declared.lcas_states.Standing.TheVariants.{Add as adding, Norm as normal}
+use Rattle.law_model.specs.declared.lcas_states.Member.{Member}
+use Rattle.law_model.specs.declared.lcas_states.Command.TheVariants.{Add as add}
 use Rattle.law_model.specs.session.Valid.{HasFailures, IsNetwork, IsItem, IsSound}
 use Rattle.law_model.specs.session.Counts.{frame_dues, command_dues}
 use Rattle.law_model.specs.members.Damage.{carried, are_whole, slip_after}

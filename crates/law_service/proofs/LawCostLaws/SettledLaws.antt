@@ -3,9 +3,9 @@ use Rattle.std.proofs.Common.{◌≡◌, ◌⊎◌, ℕ, zero, suc, ◌+◌, ◌
 use Rattle.std.proofs.Common.{false, if◌then◌else◌, inl, inr, List, [], ◌∷◌, map, filter, length, All, Option, Some}
 use Rattle.std.proofs.Common.{None, option_map, refl, sym, ◌∙◌, ap, subst, arith}
 use Rattle.std.proofs.lemmas.Bool.{le-ltb, lt-leb, and_left, and_right}
-use Rattle.law_model.specs.declared.table.Standing.TheVariants.{Add as adding}
-use Rattle.law_model.specs.declared.table.Member.{Member}
-use Rattle.law_model.specs.declared.table.Command.{Command}
+use Rattle.law_model.specs.declared.lcas_states.Standing.TheVariants.{Add as adding}
+use Rattle.law_model.specs.declared.lcas_states.Member.{Member}
+use Rattle.law_model.specs.declared.lcas_states.Command.{Command}
 use Rattle.law_model.specs.session.Leg.{Leg}
 use Rattle.law_model.specs.session.Scenario.{Scenario, DueCommand, scenario_by, orders_of, orders_at, lands_at}
 use Rattle.law_model.specs.source.Table.{member_of, kept_of, Table, Told, is_add, is_fail, heard, take_out, exchange}

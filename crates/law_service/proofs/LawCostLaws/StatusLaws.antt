@@ -4,14 +4,14 @@ use Rattle.std.proofs.Common.{if◌then◌else◌, inl, inr, List, [], ◌∷◌
 use Rattle.std.proofs.Common.{option_map, refl, sym, ◌∙◌, ap, subst, arith}
 use Rattle.std.proofs.lemmas.Bool.{cases_lt, eq-eqb, ne_eqb}
 use Rattle.std.proofs.lemmas.Option.{slice_get-map}
-use Rattle.law_model.specs.declared.table.Standing.{Standing}
-use Rattle.law_model.specs.declared.table.Standing.TheVariants.{Add as adding, Norm as normal, Dnu as unused}
-use Rattle.law_model.specs.declared.table.Member.{Member}
+use Rattle.law_model.specs.declared.lcas_states.Standing.{Standing}
+use Rattle.law_model.specs.declared.lcas_states.Standing.TheVariants.{Add as adding, Norm as normal, Dnu as unused}
+use Rattle.law_model.specs.declared.lcas_states.Member.{Member}
 use Rattle.law_model.specs.session.Scenario.{Scenario, is_read, is_heard}
 use Rattle.law_model.specs.source.Table.{member_of, kept_of, Table, Told, is_for, is_ok, is_fail, acknowledged_by}
 use Rattle.law_model.specs.source.Table.{heard, told_on, admit, exchange, exchanged}
-use Rattle.law_model.specs.declared.table.Command.{Command}
-use Rattle.law_model.specs.declared.table.Command.TheVariants.{Add as add, Remove as remove}
+use Rattle.law_model.specs.declared.lcas_states.Command.{Command}
+use Rattle.law_model.specs.declared.lcas_states.Command.TheVariants.{Add as add, Remove as remove}
 use Rattle.law_model.specs.source.Source.{Source, change_by, change, source_at, cell_at, told_at, table_of}
 use Rattle.law_model.specs.source.Back.{status_by, status, return_packet}
 use Rattle.law_session.specs.Feedback.{lines_of, table_before}

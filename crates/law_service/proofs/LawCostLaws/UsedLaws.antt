@@ -4,10 +4,10 @@ use Rattle.std.proofs.Common.{if◌then◌else◌, inl, inr, List, [], ◌∷◌
 use Rattle.std.proofs.Common.{sym, ◌∙◌, ap, subst, arith}
 use Rattle.std.proofs.lemmas.Bool.{eqb-true}
 use Rattle.std.proofs.lemmas.Option.{none-some, slice_get-map}
-use Rattle.law_model.specs.declared.table.Standing.TheVariants.{Norm as normal}
-use Rattle.law_model.specs.declared.table.Member.{Member}
-use Rattle.law_model.specs.declared.table.Command.{Command}
-use Rattle.law_model.specs.declared.table.Command.TheVariants.{Add as add, Remove as remove}
+use Rattle.law_model.specs.declared.lcas_states.Standing.TheVariants.{Norm as normal}
+use Rattle.law_model.specs.declared.lcas_states.Member.{Member}
+use Rattle.law_model.specs.declared.lcas_states.Command.{Command}
+use Rattle.law_model.specs.declared.lcas_states.Command.TheVariants.{Add as add, Remove as remove}
 use Rattle.law_model.specs.session.Scenario.{Scenario, is_read}
 use Rattle.law_model.specs.source.Table.{member_of, kept_of, Table, Told, is_add, is_adding, is_ok, is_fail, in_use}
 use Rattle.law_model.specs.source.Table.{acknowledged_by, heard, told_on, admit, exchange, exchanged}

@@ -1,8 +1,8 @@
 -- A worked stream by more and more of its rows, computed.
 use Rattle.std.proofs.Common.{refl}
-use Rattle.base_hec16.specs.Hec.{hec_of}
-use Rattle.base_remainder.specs.Bits.{bits, number_behind, octets_of, xors}
-use Rattle.base_remainder.specs.Remainder.{add_front, divide}
+use Rattle.check_hec16.specs.Hec.{hec_of}
+use Rattle.check_remainder.specs.Bits.{bits, number_behind, octets_of, xors}
+use Rattle.check_remainder.specs.Remainder.{add_front, divide}
 use Rattle.law_model.specs.frames.Core.{core_header, pli_of, head}
 use Rattle.law_model.specs.frames.Hunt.{header_with, hunt_within}
 use Rattle.law_model.specs.frames.Scramble.{scramble_on}

@@ -2,7 +2,7 @@
 use Rattle.std.specs.Prelude.{◌≡◌, ◌⊎◌, ℕ, ◌+◌, ◌-◌, ◌*◌, ◌/◌, ◌%◌, ◌<◌, ◌≤◌, min, not, filter, false, List, [], length}
 use Rattle.std.specs.Prelude.{slice_get, slice_index_or, Some, All, Contains}
 use Rattle.std.specs.List.{range_with_len}
-use Rattle.law_model.specs.declared.window.Window.{Window}
+use Rattle.law_model.specs.declared.window_types.Window.{Window}
 use Rattle.law_model.specs.session.Leg.{Leg}
 use Rattle.law_model.specs.session.Scenario.{scenario_by, is_lost, packets_in}
 use Rattle.law_model.specs.source.Table.{Table}

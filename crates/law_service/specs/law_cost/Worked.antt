@@ -1,7 +1,7 @@
 -- A worked leg whose costs are the greatest that there are.
 use Rattle.std.specs.Prelude.{ℕ, List, [], ◌∷◌, map}
-use Rattle.law_model.specs.declared.window.Window.{Window}
-use Rattle.law_model.specs.declared.script.ItemKind.TheVariants.{Add}
+use Rattle.law_model.specs.declared.window_types.Window.{Window}
+use Rattle.law_model.specs.declared.script_types.ItemKind.TheVariants.{Add}
 use Rattle.law_model.specs.session.Leg.{Leg}
 use Rattle.law_model.specs.source.Table.{active}
 use Rattle.law_walk.specs.Worked.{item, plain}

@@ -1,9 +1,9 @@
 -- A worked session, computed.
 use Rattle.std.proofs.Common.{◌<◌, [], ◌∷◌, refl, lit<, arith}
 use Rattle.std.proofs.lemmas.List.Elements.{All-nil, All-cons}
-use Rattle.base_remainder.specs.Bits.{bits, number_behind, octets_of, xors}
-use Rattle.base_remainder.specs.Remainder.{add_front, divide}
-use Rattle.base_nibbles.specs.Check.{crc8_of}
+use Rattle.check_remainder.specs.Bits.{bits, number_behind, octets_of, xors}
+use Rattle.check_remainder.specs.Remainder.{add_front, divide}
+use Rattle.check_nibbles.specs.Check.{crc8_of}
 use Rattle.law_model.specs.members.Damage.{carried, are_whole, AreWindows, slip_after, slip_of}
 use Rattle.law_model.specs.source.Table.{keep, none_kept, admit, turned, take_out, exchange}
 use Rattle.law_model.specs.source.Source.{after}

@@ -5,9 +5,9 @@ use Rattle.law_model.specs.members.Damage.{carried, are_whole}
 use Rattle.law_model.specs.source.Table.{keep, none_kept, admit, turned, take_out, exchange}
 use Rattle.law_model.specs.source.Source.{after}
 use Rattle.law_model.specs.source.Back.{said_before, cells_before}
-use Rattle.base_hec16.specs.Hec.{hec_of}
-use Rattle.base_remainder.specs.Bits.{bits, number_behind, octets_of, xors}
-use Rattle.base_remainder.specs.Remainder.{add_front, divide}
+use Rattle.check_hec16.specs.Hec.{hec_of}
+use Rattle.check_remainder.specs.Bits.{bits, number_behind, octets_of, xors}
+use Rattle.check_remainder.specs.Remainder.{add_front, divide}
 use Rattle.law_model.specs.frames.Core.{core_header, pli_of, head}
 use Rattle.law_model.specs.frames.Scramble.{scramble_on}
 use Rattle.law_model.specs.frames.TypeHeader.{type_fault}

@@ -6,14 +6,14 @@ use Rattle.std.specs.List.{fold}
 use Rattle.std.proofs.lemmas.Bool.Decides.{nat_tests}
 use Rattle.std.proofs.lemmas.List.{length-replicate}
 use Rattle.std.proofs.lemmas.List.Sums.{fold-append}
-use Rattle.member_au4.specs.declared.au4_pointer.Action.{Action}
-use Rattle.member_au4.specs.declared.au4_pointer.Action.TheVariants.{Keep, Up, Down, New}
-use Rattle.member_au4.specs.declared.au4_pointer.source.PointerFault.{PointerFault}
-use Rattle.member_au4.specs.declared.au4_pointer.source.PointerFault.TheVariants.{Range}
+use Rattle.member_au4.specs.declared.au4_pointer.au_frame.Action.{Action}
+use Rattle.member_au4.specs.declared.au4_pointer.au_frame.Action.TheVariants.{Keep, Up, Down, New}
+use Rattle.member_au4.specs.declared.au4_pointer.pointer_source.PointerFault.{PointerFault}
+use Rattle.member_au4.specs.declared.au4_pointer.pointer_source.PointerFault.TheVariants.{Range}
 use Rattle.member_au4.specs.au4_pointer.Word.{next_wait, new_wait, move_wait, too_soon, fault_after}
 use Rattle.member_au4.specs.au4_pointer.Sent.{AreAccepted}
 use Rattle.member_au4.proofs.Au4PointerLaws.LinkSteps.{accepted-more}
-use Rattle.member_au4.specs.au4_link.Lines.{least_next}
+use Rattle.member_au4.specs.au4_link.LinkTextLines.{least_next}
 use Rattle.member_au4.specs.au4_link.Drafts.{IsAct}
 
 -- ---- how long is to wait

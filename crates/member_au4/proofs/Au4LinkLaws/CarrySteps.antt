@@ -1,13 +1,13 @@
 -- What one frame does to numbered VC-4s and the lines of those that come.
 use Rattle.std.proofs.Common.{◌≡◌, ℕ, ◌<◌, ◌≤◌, List, length, Option, sym, ◌∙◌, ap, arith}
-use Rattle.base_io.specs.Start.{Start}
-use Rattle.member_au4.specs.declared.au4_pointer.Action.{Action}
+use Rattle.octet_io.specs.Start.{Start}
+use Rattle.member_au4.specs.declared.au4_pointer.au_frame.Action.{Action}
 use Rattle.member_au4.specs.au4_pointer.Part.{begun, part_after, whole}
 use Rattle.member_au4.specs.au4_pointer.Source as source
 use Rattle.member_au4.specs.au4_pointer.Sink as sink
 use Rattle.member_au4.specs.au4_pointer.Link.{Carries}
-use Rattle.member_au4.specs.declared.au4_link.feed.NumberedVcs.{NumberedVcs}
-use Rattle.member_au4.specs.declared.au4_link.lines.VcLines.{VcLines}
+use Rattle.member_au4.specs.declared.au4_link.numbered_vcs.NumberedVcs.{NumberedVcs}
+use Rattle.member_au4.specs.declared.au4_link.au4_report.VcTexts.{VcTexts}
 use Rattle.member_au4.specs.au4_link.Vcs.{first_vcs, IsFed}
 use Rattle.member_au4.specs.au4_link.Text.{cuts, back_of, end_text, counts_text, HasVcs}
 use Rattle.member_au4.proofs.Au4LinkLaws.CutLaws.{counted, begun-few}
@@ -15,7 +15,7 @@ use Rattle.member_au4.proofs.Au4LinkLaws.CutLaws.{counted, begun-few}
 abbrev pub feeds : NumberedVcs → Start → List (List ℕ) → Type 0
 feeds feed start vcs = IsFed feed.next vcs
 
-abbrev pub gives : {K : Type 0} → (K → Option (List ℕ)) → (K → ℕ) → VcLines K → Start → List (List ℕ) → Type 0
+abbrev pub gives : {K : Type 0} → (K → Option (List ℕ)) → (K → ℕ) → VcTexts K → Start → List (List ℕ) → Type 0
 gives written faults out start vcs = HasVcs written faults out.lines out.back start vcs
 
 -- what was asked of the feed are the first VC-4s, and the counts are those of the frames
@@ -27,7 +27,7 @@ pub record Counted (start : ℕ) (actions : List Action) (asked : List (List ℕ
   pub low : back ≤ next
 
 pub counted-by : {K : Type 0} (written : K → Option (List ℕ)) (faults : K → ℕ) (src : source.Source) (snk : sink.Sink)
-    (feed : NumberedVcs) (out : VcLines K) (behind to : Start) (start : ℕ) (actions : List Action)
+    (feed : NumberedVcs) (out : VcTexts K) (behind to : Start) (start : ℕ) (actions : List Action)
     (asked : List (List ℕ))
     → Carries feeds (gives written faults) src snk feed out behind to start actions asked → length actions ≤ 100000
     → Counted start actions asked feed.next out.back

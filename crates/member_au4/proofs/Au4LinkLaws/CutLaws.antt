@@ -3,8 +3,8 @@ use Rattle.std.proofs.Common.{◌≡◌, ℕ, ◌+◌, ◌*◌, ◌≤◌, List,
 use Rattle.std.proofs.Common.{append-nil}
 use Rattle.std.specs.List.{flat_map, fold}
 use Rattle.std.proofs.lemmas.List.{length-take-le, length-drop}
-use Rattle.member_au4.specs.declared.au4_pointer.Action.{Action}
-use Rattle.member_au4.specs.declared.au4_pointer.Action.TheVariants.{Keep, Up, Down, New}
+use Rattle.member_au4.specs.declared.au4_pointer.au_frame.Action.{Action}
+use Rattle.member_au4.specs.declared.au4_pointer.au_frame.Action.TheVariants.{Keep, Up, Down, New}
 use Rattle.member_au4.specs.au4_pointer.Part.{Part, begins, ends, begun, next_part, first_part, part_after, parts_from, ending}
 use Rattle.member_au4.specs.au4_pointer.Part.{whole}
 use Rattle.member_au4.proofs.Au4PointerLaws.WholeLaws.{begun-after}

@@ -4,18 +4,18 @@ use Rattle.std.proofs.Common.{sym, ◌∙◌, ap, arith, length-append}
 use Rattle.std.specs.Prelude.{None, Some, Ok, Err, nat_lt}
 use Rattle.std.proofs.lemmas.Bool.Decides.{nat_tests}
 use Rattle.std.proofs.lemmas.List.{length-replicate, replicate-append-replicate, append_assoc}
-use Rattle.member_au4.specs.declared.au4_link.fault.LineFault.{LineFault}
-use Rattle.member_au4.specs.declared.au4_link.fault.LineFault.TheVariants.{Missing}
+use Rattle.member_au4.specs.declared.au4_link.au4_text_fault.LineFault.{LineFault}
+use Rattle.member_au4.specs.declared.au4_link.au4_text_fault.LineFault.TheVariants.{Missing}
 use Rattle.text_lines.specs.Words.{words}
 use Rattle.text_lines.specs.Language.{said_from, said_by}
 use Rattle.text_lines.proofs.LanguageLaws.{line_faulty, line_sound, end_missing, end_sound}
-use Rattle.member_au4.specs.declared.au4_pointer.Action.{Action}
-use Rattle.member_au4.specs.declared.au4_pointer.Action.TheVariants.{Keep}
+use Rattle.member_au4.specs.declared.au4_pointer.au_frame.Action.{Action}
+use Rattle.member_au4.specs.declared.au4_pointer.au_frame.Action.TheVariants.{Keep}
 use Rattle.member_au4.proofs.Au4PointerLaws.LinkSteps.{accepted-more}
-use Rattle.member_au4.specs.declared.au4_link.draft.Draft.{Draft}
-use Rattle.member_au4.specs.declared.au4_link.draft.Statement.{Statement}
-use Rattle.member_au4.specs.declared.au4_link.draft.Statement.TheVariants as says
-use Rattle.member_au4.specs.au4_link.Lines.{awaited, words_fault, words_said, after, at_first, missing_line, link_lines}
+use Rattle.member_au4.specs.declared.au4_link.au4_draft.Draft.{Draft}
+use Rattle.member_au4.specs.declared.au4_link.au4_draft.Statement.{Statement}
+use Rattle.member_au4.specs.declared.au4_link.au4_draft.Statement.TheVariants as says
+use Rattle.member_au4.specs.au4_link.LinkTextLines.{awaited, words_fault, words_said, after, at_first, missing_line, link_lines}
 use Rattle.member_au4.specs.au4_link.Link.{link_in, link_of_draft, link_of, IsLink}
 use Rattle.member_au4.specs.au4_link.Drafts.{IsDraft, Fits}
 use Rattle.member_au4.proofs.Au4LinkLaws.AcceptLaws.{act-accepted, accepted-keeps, accepted-none}

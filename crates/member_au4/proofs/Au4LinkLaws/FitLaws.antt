@@ -8,13 +8,13 @@ use Rattle.std.proofs.lemmas.Bool.Decides.{nat_tests}
 use Rattle.text_lines.specs.Words.{word_at, is_skipped, number_at}
 use Rattle.text_lines.specs.Fields.{within, where_true, fields_fault}
 use Rattle.text_lines.proofs.FieldLaws.{or_none, where_none, map_none, number_ok, one_field, two_fields}
-use Rattle.member_au4.specs.declared.au4_pointer.Action.{Action}
-use Rattle.member_au4.specs.declared.au4_link.keyword.Keyword.{Keyword}
-use Rattle.member_au4.specs.declared.au4_link.keyword.Keyword.TheVariants as word
-use Rattle.member_au4.specs.declared.au4_link.fault.LineFault.TheVariants as wrong
-use Rattle.member_au4.specs.declared.au4_link.draft.Draft.{Draft}
-use Rattle.member_au4.specs.au4_link.Lines.{keyword_of, place, awaited, place_fault, fields, least_next, is_early, last_frame}
-use Rattle.member_au4.specs.au4_link.Lines.{rest_fault, known_fault, words_fault, said, known_said, words_said}
+use Rattle.member_au4.specs.declared.au4_pointer.au_frame.Action.{Action}
+use Rattle.member_au4.specs.declared.au4_link.au4_keyword.Keyword.{Keyword}
+use Rattle.member_au4.specs.declared.au4_link.au4_keyword.Keyword.TheVariants as word
+use Rattle.member_au4.specs.declared.au4_link.au4_text_fault.LineFault.TheVariants as wrong
+use Rattle.member_au4.specs.declared.au4_link.au4_draft.Draft.{Draft}
+use Rattle.member_au4.specs.au4_link.LinkTextLines.{keyword_of, place, awaited, place_fault, fields, least_next, is_early, last_frame}
+use Rattle.member_au4.specs.au4_link.LinkTextLines.{rest_fault, known_fault, words_fault, said, known_said, words_said}
 use Rattle.member_au4.specs.au4_link.Drafts.{IsPlaced, IsDraft, Fits}
 
 -- ---- the place of a line

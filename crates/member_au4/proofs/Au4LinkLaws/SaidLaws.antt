@@ -18,11 +18,11 @@ use Rattle.member_au4.specs.au4_pointer.Part.{AreVcs, begun, part_after, whole}
 use Rattle.member_au4.specs.au4_pointer.Sink.{given}
 use Rattle.member_au4.specs.au4_pointer.Sent.{sent, AreTaken}
 use Rattle.member_au4.proofs.Au4PointerLaws.FollowLaws.{all-whole, all-taken}
-use Rattle.member_au4.specs.declared.au4_link.fault.LineFault.{LineFault}
-use Rattle.member_au4.specs.declared.au4_link.fault.LineFault.TheVariants.{Missing}
-use Rattle.member_au4.specs.declared.au4_link.draft.Draft.{Draft}
-use Rattle.member_au4.specs.declared.au4_link.draft.Link.{Link}
-use Rattle.member_au4.specs.au4_link.Lines.{awaited, words_said, after, at_first, missing_line, link_lines}
+use Rattle.member_au4.specs.declared.au4_link.au4_text_fault.LineFault.{LineFault}
+use Rattle.member_au4.specs.declared.au4_link.au4_text_fault.LineFault.TheVariants.{Missing}
+use Rattle.member_au4.specs.declared.au4_link.au4_draft.Draft.{Draft}
+use Rattle.member_au4.specs.declared.au4_link.au4_draft.Link.{Link}
+use Rattle.member_au4.specs.au4_link.LinkTextLines.{awaited, words_said, after, at_first, missing_line, link_lines}
 use Rattle.member_au4.specs.au4_link.Link.{link_in, link_of_draft, link_of, IsLink}
 use Rattle.member_au4.specs.au4_link.Drafts.{IsDraft}
 use Rattle.member_au4.specs.au4_link.Vcs.{rising, vc_of, first_vcs}

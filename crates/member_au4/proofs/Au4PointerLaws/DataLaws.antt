@@ -1,7 +1,7 @@
 -- The data of the frames of a part, and how many VC-4s begin and end in it.
 use Rattle.std.proofs.Common.{◌≡◌, ℕ, ◌+◌, ◌*◌, ◌<◌, ◌≤◌, ◌↔◌, List, [], ◌∷◌, ◌++◌, map, take, refl, ◌∙◌, ap, arith}
-use Rattle.member_au4.specs.declared.au4_pointer.Action.{Action}
-use Rattle.member_au4.specs.declared.au4_pointer.Action.TheVariants.{Keep, Up, Down, New}
+use Rattle.member_au4.specs.declared.au4_pointer.au_frame.Action.{Action}
+use Rattle.member_au4.specs.declared.au4_pointer.au_frame.Action.TheVariants.{Keep, Up, Down, New}
 use Rattle.member_au4.specs.au4_pointer.Word.{next_value}
 use Rattle.member_au4.specs.au4_pointer.Part.{Part, begins, ends, next_part, first_part, parts_from, flow}
 use Rattle.member_au4.specs.au4_pointer.Source.{last_octets}

@@ -3,13 +3,13 @@ use Rattle.std.proofs.Common.{◌≡◌, ℕ, ◌-◌, ◌*◌, ◌/◌, ◌<◌
 use Rattle.std.proofs.Common.{refl, sym, ◌∙◌, ap, arith}
 use Rattle.std.specs.List.{concat}
 use Rattle.std.proofs.lemmas.List.{append-nil, drop_all}
-use Rattle.base_io.specs.Start.{Start}
-use Rattle.member_au4.specs.declared.au4_pointer.Action.{Action}
-use Rattle.member_au4.specs.declared.au4_pointer.AuFrame.{AuFrame}
-use Rattle.member_au4.specs.declared.au4_pointer.sink.PointerWordFault.{PointerWordFault}
+use Rattle.octet_io.specs.Start.{Start}
+use Rattle.member_au4.specs.declared.au4_pointer.au_frame.Action.{Action}
+use Rattle.member_au4.specs.declared.au4_pointer.au_frame.AuFrame.{AuFrame}
+use Rattle.member_au4.specs.declared.au4_pointer.pointer_sink.PointerWordFault.{PointerWordFault}
 use Rattle.member_au4.specs.au4_pointer.Word.{reading}
 use Rattle.member_au4.specs.au4_pointer.Sink.{pieces, given_by, told, receive, nothing, reception, given, added, data_of, Sink}
-use Rattle.member_au4.specs.au4_pointer.Sink.{Holds, Stands, Gives, due}
+use Rattle.member_au4.specs.au4_pointer.Sink.{Holds, PointerSinkStands, Gives, due}
 use Rattle.std.proofs.lemmas.List.Sums.{fold-append}
 use Rattle.member_au4.proofs.Au4PointerLaws.PieceLaws.{vcs-split, whole-pieces, few-left, all-pieces}
 use Rattle.member_au4.proofs.Au4PointerLaws.TakeSteps.{takes}
@@ -78,7 +78,7 @@ grows-as frames frame (Ok a) read =
     let r = reception frames in
     let was = holder r.value r.begin r.octets in
     let is = further (due was a) (data_of a frame) in
-    let s : Stands was frames = record { value = refl; holds = holds-any r.value r.begin r.octets } in
+    let s : PointerSinkStands was frames = record { value = refl; holds = holds-any r.value r.begin r.octets } in
     let t = takes free tt tt is (few-further (due was a) (data_of a frame)) was frames frame a s read
     (gives-any (due was a) (data_of a frame)) in
     t.grows ∙ ap (λ l. given frames ++ l) t.adds

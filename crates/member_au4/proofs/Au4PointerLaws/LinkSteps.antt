@@ -3,12 +3,12 @@ use Rattle.std.proofs.Common.{◌≡◌, ℕ, ◌≤◌, length, List, [], ◌�
 use Rattle.std.proofs.Common.{append_assoc}
 use Rattle.std.proofs.Math.Seq.{take-nil}
 use Rattle.std.proofs.lemmas.List.{same_from_push, length-append}
-use Rattle.base_io.specs.Start.{Start}
-use Rattle.member_au4.specs.declared.au4_pointer.Action.{Action}
-use Rattle.member_au4.specs.declared.au4_pointer.AuFrame.{AuFrame}
+use Rattle.octet_io.specs.Start.{Start}
+use Rattle.member_au4.specs.declared.au4_pointer.au_frame.Action.{Action}
+use Rattle.member_au4.specs.declared.au4_pointer.au_frame.AuFrame.{AuFrame}
 use Rattle.member_au4.specs.au4_pointer.Word.{fault_after}
 use Rattle.member_au4.specs.au4_pointer.Part.{whole, ends, first_part}
-use Rattle.member_au4.specs.au4_pointer.Source.{Source, Sends, Stands}
+use Rattle.member_au4.specs.au4_pointer.Source.{Source, Sends, PointerSourceStands}
 use Rattle.member_au4.specs.au4_pointer.Sink as sink
 use Rattle.member_au4.specs.au4_pointer.Sink.{given, added, word_fault}
 use Rattle.member_au4.specs.au4_pointer.Sent.{sent, AreAccepted}
@@ -44,7 +44,7 @@ module _ {F O : Type 0} (feeds : F → Start → List (List ℕ) → Type 0) (st
     (carries : Carries feeds stands was snk feed out behind to start actions asked) (a : Action) (frame : AuFrame)
     (ok : fault_after actions a ≡ None)
     (sends : Sends feeds was now feed asked_of a frame) where
-  after' : Stands now start (actions ++ a ∷ []) (asked ++ sends.vcs)
+  after' : PointerSourceStands now start (actions ++ a ∷ []) (asked ++ sends.vcs)
   after' = sends.now_stands start actions asked carries.sends
 
   accepted' : AreAccepted (actions ++ a ∷ [])
@@ -71,7 +71,7 @@ module _ {F O : Type 0} (feeds : F → Start → List (List ℕ) → Type 0) (st
       ∙ all-whole start (actions ++ a ∷ []) (asked ++ sends.vcs) carries.small accepted' (after').vcs
       (omega (arith, (after').count))
 
-  pub carried : (taken : sink.Sink) (given_to : O) → sink.Stands taken (sent start actions asked ++ frame ∷ [])
+  pub carried : (taken : sink.Sink) (given_to : O) → sink.PointerSinkStands taken (sent start actions asked ++ frame ∷ [])
       → ((t : Start) (vcs : List (List ℕ)) → stands out t vcs
       → stands given_to t (vcs ++ added (sent start actions asked) frame))
       → Carries feeds stands now taken asked_of given_to behind to start (actions ++ a ∷ []) (asked ++ sends.vcs)
@@ -79,7 +79,7 @@ module _ {F O : Type 0} (feeds : F → Start → List (List ℕ) → Type 0) (st
     small = carries.small;
     accepted = accepted';
     sends = after';
-    takes = subst (sink.Stands taken) (sym frames') holds;
+    takes = subst (sink.PointerSinkStands taken) (sym frames') holds;
     fed = sends.fed behind asked carries.fed;
     given = subst (stands given_to to) whole' (gives to (whole start actions asked) carries.given);
   }
@@ -93,7 +93,7 @@ none-whole start = ap (λ l. l ++ []) (take-nil (ends (first_part start)))
 
 pub first-carries : {F O : Type 0} (feeds : F → Start → List (List ℕ) → Type 0) (stands : O → Start → List (List ℕ)
     → Type 0) (was : Source) (snk : sink.Sink) (feed : F) (out : O) (behind to : Start)
-    (start : ℕ) → start ≤ 782 → Stands was start [] [] → sink.Stands snk [] → feeds feed behind [] → stands out to []
+    (start : ℕ) → start ≤ 782 → PointerSourceStands was start [] [] → sink.PointerSinkStands snk [] → feeds feed behind [] → stands out to []
     → Carries feeds stands was snk feed out behind to start [] []
 first-carries feeds stands was snk feed out behind to start small sends takes fed given = record {
   small = small;

@@ -5,8 +5,8 @@ use Rattle.std.specs.List.{concat}
 use Rattle.std.proofs.lemmas.List.{length-replicate, length-drop, drop-append-le, drop-drop, drop_at, take_at}
 use Rattle.std.proofs.lemmas.List.Folds.{concat-append}
 use Rattle.std.proofs.lemmas.List.Elements.{All-drop}
-use Rattle.member_au4.specs.declared.au4_pointer.Action.{Action}
-use Rattle.member_au4.specs.declared.au4_pointer.Action.TheVariants.{Keep, Up, Down, New}
+use Rattle.member_au4.specs.declared.au4_pointer.au_frame.Action.{Action}
+use Rattle.member_au4.specs.declared.au4_pointer.au_frame.Action.TheVariants.{Keep, Up, Down, New}
 use Rattle.member_au4.specs.au4_pointer.Part.{AreVcs, Part, octets_of, begins, begun, next_part, flow}
 use Rattle.member_au4.specs.au4_pointer.Source.{due, IsValid, last_octets}
 use Rattle.member_au4.proofs.Au4PointerLaws.ListLaws.{length-vcs}

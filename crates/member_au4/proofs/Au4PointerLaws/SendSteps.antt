@@ -3,11 +3,11 @@ use Rattle.std.proofs.Common.{◌≡◌, ℕ, ◌+◌, ◌-◌, ◌*◌, ◌/◌
 use Rattle.std.proofs.Common.{ap₂}
 use Rattle.std.specs.List.{concat}
 use Rattle.std.proofs.lemmas.List.Elements.{All-append}
-use Rattle.base_io.specs.Start.{Start}
-use Rattle.member_au4.specs.declared.au4_pointer.Action.{Action}
+use Rattle.octet_io.specs.Start.{Start}
+use Rattle.member_au4.specs.declared.au4_pointer.au_frame.Action.{Action}
 use Rattle.member_au4.specs.au4_pointer.Word.{next_value, next_wait, word_of, value_after}
 use Rattle.member_au4.specs.au4_pointer.Part.{Part, next_part, first_part, part_after, flow}
-use Rattle.member_au4.specs.au4_pointer.Source.{Source, was_sent, Stands, Sends, Writes, due, IsValid, h3_of, body_of, last_octets}
+use Rattle.member_au4.specs.au4_pointer.Source.{Source, was_sent, PointerSourceStands, Sends, Writes, due, IsValid, h3_of, body_of, last_octets}
 use Rattle.std.proofs.lemmas.List.Sums.{fold-append}
 use Rattle.member_au4.proofs.Au4PointerLaws.PartLaws.{Further, further}
 
@@ -18,7 +18,7 @@ sent-push (b ∷ actions) a = refl
 module _ {F : Type 0} (stands : F → Start → List (List ℕ) → Type 0) (was : Source) (before now : F) (a : Action)
     (rest h3 body : List ℕ) (valid : IsValid a)
     (writes : Writes stands before now a was.rest rest h3 body) where
-  step : (start : ℕ) (actions : List Action) (asked : List (List ℕ)) → Stands was start actions asked
+  step : (start : ℕ) (actions : List Action) (asked : List (List ℕ)) → PointerSourceStands was start actions asked
       → Further (next_part (part_after start actions) a) a (asked ++ writes.asks.vcs) writes.octets rest
   step start actions asked s =
       let part = part_after start actions in

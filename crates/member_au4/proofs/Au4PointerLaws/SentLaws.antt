@@ -4,8 +4,8 @@ use Rattle.std.proofs.Common.{replicate, refl, ◌∙◌, ap, ap₂, arith}
 use Rattle.std.specs.List.{concat, fold}
 use Rattle.std.proofs.lemmas.List.Sums.{fold-append}
 use Rattle.std.proofs.lemmas.List.{length-drop, drop-append-le, take-append-le}
-use Rattle.member_au4.specs.declared.au4_pointer.Action.{Action}
-use Rattle.member_au4.specs.declared.au4_pointer.Action.TheVariants.{Keep, Up, Down, New}
+use Rattle.member_au4.specs.declared.au4_pointer.au_frame.Action.{Action}
+use Rattle.member_au4.specs.declared.au4_pointer.au_frame.Action.TheVariants.{Keep, Up, Down, New}
 use Rattle.member_au4.specs.au4_pointer.Word.{next_value, next_wait, value_after, new_wait}
 use Rattle.member_au4.specs.au4_pointer.Part.{AreVcs, Part, octets_of, begun, next_part, first_part, part_after, flow}
 use Rattle.member_au4.specs.au4_pointer.Source.{framed, frame_in, frame_after}

@@ -6,13 +6,13 @@ use Rattle.std.proofs.lemmas.List.{drop_all, drop_at}
 use Rattle.std.proofs.lemmas.List.Folds.{concat-append}
 use Rattle.std.proofs.lemmas.List.Sums.{fold-append}
 use Rattle.std.proofs.lemmas.List.Elements.{All-append, All-nil}
-use Rattle.base_io.specs.Start.{Start}
-use Rattle.member_au4.specs.declared.au4_pointer.Action.{Action}
-use Rattle.member_au4.specs.declared.au4_pointer.Action.TheVariants.{Keep, Up, Down, New}
-use Rattle.member_au4.specs.declared.au4_pointer.AuFrame.{AuFrame}
+use Rattle.octet_io.specs.Start.{Start}
+use Rattle.member_au4.specs.declared.au4_pointer.au_frame.Action.{Action}
+use Rattle.member_au4.specs.declared.au4_pointer.au_frame.Action.TheVariants.{Keep, Up, Down, New}
+use Rattle.member_au4.specs.declared.au4_pointer.au_frame.AuFrame.{AuFrame}
 use Rattle.member_au4.specs.au4_pointer.Word.{reading}
 use Rattle.member_au4.specs.au4_pointer.Sink.{vcs_in, Reception, given_by, value_behind, told, receive, nothing, reception, given}
-use Rattle.member_au4.specs.au4_pointer.Sink.{added, data_of, Sink, Holds, Stands, Gives, due}
+use Rattle.member_au4.specs.au4_pointer.Sink.{added, data_of, Sink, Holds, PointerSinkStands, Gives, due}
 use Rattle.member_au4.proofs.Au4PointerLaws.ListLaws.{drop-both}
 use Rattle.member_au4.proofs.Au4PointerLaws.PieceLaws.{are-vcs, vcs-split}
 
@@ -91,12 +91,12 @@ module _ {O : Type 0} (stands : O → Start → List (List ℕ) → Type 0) (bef
   -- ---- frames
   pub record Takes (was : Sink) (frames : List AuFrame) (frame : AuFrame) (a : Action)
       (vcs : List (List ℕ)) : Type 0 where
-    pub now_stands : Stands (record { value = value_behind was.value a; lead = is.lead; kept = is.kept })
+    pub now_stands : PointerSinkStands (record { value = value_behind was.value a; lead = is.lead; kept = is.kept })
         (frames ++ frame ∷ [])
     pub adds : vcs ≡ added frames frame
     pub grows : given (frames ++ frame ∷ []) ≡ given frames ++ vcs
 
-  pub takes : (was : Sink) (frames : List AuFrame) (frame : AuFrame) (a : Action) → Stands was frames
+  pub takes : (was : Sink) (frames : List AuFrame) (frame : AuFrame) (a : Action) → PointerSinkStands was frames
       → reading was.value frame.word ≡ Ok a
       → (gives : Gives stands before now (due was a) is (data_of a frame)) → Takes was frames frame a gives.vcs
   takes was frames frame a s read gives =

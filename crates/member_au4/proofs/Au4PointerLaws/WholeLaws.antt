@@ -7,8 +7,8 @@ use Rattle.std.proofs.lemmas.List.{length-replicate, length-drop, length-take, l
 use Rattle.std.proofs.lemmas.List.{take-append-drop}
 use Rattle.std.proofs.lemmas.List.Folds.{concat-append}
 use Rattle.std.proofs.lemmas.List.Elements.{All-drop, All-take}
-use Rattle.member_au4.specs.declared.au4_pointer.Action.{Action}
-use Rattle.member_au4.specs.declared.au4_pointer.Action.TheVariants.{Keep, Up, Down, New}
+use Rattle.member_au4.specs.declared.au4_pointer.au_frame.Action.{Action}
+use Rattle.member_au4.specs.declared.au4_pointer.au_frame.Action.TheVariants.{Keep, Up, Down, New}
 use Rattle.member_au4.specs.au4_pointer.Part.{AreVcs, Part, begun, next_part, flow, ending}
 use Rattle.member_au4.specs.au4_pointer.Sink.{vcs_in}
 use Rattle.member_au4.proofs.Au4PointerLaws.ListLaws.{length-vcs}

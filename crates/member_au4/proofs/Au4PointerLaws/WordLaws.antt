@@ -5,11 +5,11 @@ use Rattle.std.proofs.lemmas.Bool.Decides.{nat_tests}
 use Rattle.std.proofs.lemmas.Nat.{xor_lt}
 use Rattle.std.proofs.lemmas.Nat.Bits.{bit_at_xor}
 use Rattle.std.specs.Int.{bit_at}
-use Rattle.member_au4.specs.declared.au4_pointer.Action.{Action}
-use Rattle.member_au4.specs.declared.au4_pointer.Action.TheVariants.{Keep, Up, Down, New}
-use Rattle.member_au4.specs.declared.au4_pointer.source.PointerFault.TheVariants.{Range}
-use Rattle.member_au4.specs.declared.au4_pointer.sink.PointerWordFault.{PointerWordFault}
-use Rattle.member_au4.specs.declared.au4_pointer.sink.PointerWordFault.TheVariants.{Flag, Range as OutOfRange, Unexpected}
+use Rattle.member_au4.specs.declared.au4_pointer.au_frame.Action.{Action}
+use Rattle.member_au4.specs.declared.au4_pointer.au_frame.Action.TheVariants.{Keep, Up, Down, New}
+use Rattle.member_au4.specs.declared.au4_pointer.pointer_source.PointerFault.TheVariants.{Range}
+use Rattle.member_au4.specs.declared.au4_pointer.pointer_sink.PointerWordFault.{PointerWordFault}
+use Rattle.member_au4.specs.declared.au4_pointer.pointer_sink.PointerWordFault.TheVariants.{Flag, Range as OutOfRange, Unexpected}
 use Rattle.member_au4.specs.au4_pointer.Word.{next_value, word_of, beginning, moving, reading, fault_after, too_soon, new_wait}
 use Rattle.member_au4.specs.au4_pointer.Source.{IsValid}
 

@@ -1,10 +1,10 @@
 -- What comes of numbered VC-4s over a link, by the frames that are sent and taken.
 use Rattle.std.specs.Prelude.{ℕ, List, ◌++◌, length}
-use Rattle.member_au4.specs.declared.au4_pointer.AuFrame.{AuFrame}
+use Rattle.member_au4.specs.declared.au4_pointer.au_frame.AuFrame.{AuFrame}
 use Rattle.member_au4.specs.au4_pointer.Part.{begun, part_after}
 use Rattle.member_au4.specs.au4_pointer.Sink.{given}
 use Rattle.member_au4.specs.au4_pointer.Sent.{sent}
-use Rattle.member_au4.specs.declared.au4_link.draft.Link.{Link}
+use Rattle.member_au4.specs.declared.au4_link.au4_draft.Link.{Link}
 use Rattle.member_au4.specs.au4_link.Vcs.{first_vcs}
 use Rattle.member_au4.specs.au4_link.Text.{vc_texts, end_text, cuts}
 

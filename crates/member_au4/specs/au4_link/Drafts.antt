@@ -3,16 +3,16 @@ use Rattle.std.specs.Prelude.{◌≡◌, ⊤, ℕ, ◌-◌, ◌==◌, ◌<◌, �
 use Rattle.std.specs.Option.{option_or}
 use Rattle.text_lines.specs.Words.{word_at, number_at}
 use Rattle.text_lines.specs.Fields.{within, where_true, number_fault, fields_fault}
-use Rattle.member_au4.specs.declared.au4_pointer.Action.{Action}
-use Rattle.member_au4.specs.declared.au4_pointer.Action.TheVariants.{Keep, Up, Down, New}
+use Rattle.member_au4.specs.declared.au4_pointer.au_frame.Action.{Action}
+use Rattle.member_au4.specs.declared.au4_pointer.au_frame.Action.TheVariants.{Keep, Up, Down, New}
 use Rattle.member_au4.specs.au4_pointer.Sent.{AreAccepted}
-use Rattle.member_au4.specs.declared.au4_link.draft.Statement.{Statement}
-use Rattle.member_au4.specs.declared.au4_link.draft.Statement.TheVariants as says
-use Rattle.member_au4.specs.declared.au4_link.draft.Draft.{Draft}
-use Rattle.member_au4.specs.declared.au4_link.keyword.Keyword.{Keyword}
-use Rattle.member_au4.specs.declared.au4_link.fault.LineFault.{LineFault}
-use Rattle.member_au4.specs.declared.au4_link.fault.LineFault.TheVariants as wrong
-use Rattle.member_au4.specs.au4_link.Lines.{least_next, last_frame}
+use Rattle.member_au4.specs.declared.au4_link.au4_draft.Statement.{Statement}
+use Rattle.member_au4.specs.declared.au4_link.au4_draft.Statement.TheVariants as says
+use Rattle.member_au4.specs.declared.au4_link.au4_draft.Draft.{Draft}
+use Rattle.member_au4.specs.declared.au4_link.au4_keyword.Keyword.{Keyword}
+use Rattle.member_au4.specs.declared.au4_link.au4_text_fault.LineFault.{LineFault}
+use Rattle.member_au4.specs.declared.au4_link.au4_text_fault.LineFault.TheVariants as wrong
+use Rattle.member_au4.specs.au4_link.LinkTextLines.{least_next, last_frame}
 
 -- the fault of the words of one number, and of a move
 abbrev pub one_fault : Keyword → ℕ → ℕ → List (List ℕ) → Option LineFault

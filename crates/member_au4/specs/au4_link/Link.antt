@@ -1,14 +1,14 @@
 -- The link that a text says, or its first fault.
 use Rattle.std.specs.Prelude.{◌≡◌, ⊤, ◌≤◌, ℕ, ◌-◌, List, ◌++◌, length, replicate, Result, Ok, Err}
-use Rattle.member_au4.specs.declared.au4_link.fault.LineFault.{LineFault}
+use Rattle.member_au4.specs.declared.au4_link.au4_text_fault.LineFault.{LineFault}
 use Rattle.text_lines.specs.Language.{said_by}
-use Rattle.member_au4.specs.declared.au4_pointer.Action.TheVariants.{Keep}
+use Rattle.member_au4.specs.declared.au4_pointer.au_frame.Action.TheVariants.{Keep}
 use Rattle.member_au4.specs.au4_pointer.Sent.{AreAccepted}
-use Rattle.member_au4.specs.declared.au4_link.draft.Draft.{Draft}
-use Rattle.member_au4.specs.declared.au4_link.draft.Link.{Link}
-use Rattle.member_au4.specs.declared.au4_link.read.LinkFault.{LinkFault}
-use Rattle.member_au4.specs.declared.au4_link.read.LinkFault.TheVariants as fault
-use Rattle.member_au4.specs.au4_link.Lines.{link_lines}
+use Rattle.member_au4.specs.declared.au4_link.au4_draft.Draft.{Draft}
+use Rattle.member_au4.specs.declared.au4_link.au4_draft.Link.{Link}
+use Rattle.member_au4.specs.declared.au4_link.read_au4_text.LinkFault.{LinkFault}
+use Rattle.member_au4.specs.declared.au4_link.read_au4_text.LinkFault.TheVariants as fault
+use Rattle.member_au4.specs.au4_link.LinkTextLines.{link_lines}
 
 -- the frames that no line names keep the value
 abbrev pub link_in : Draft → Link

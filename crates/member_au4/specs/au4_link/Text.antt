@@ -1,14 +1,14 @@
 -- What is written of a link that carries numbered VC-4s. This text is this project's own.
 use Rattle.std.specs.Prelude.{◌≡◌, ℕ, ◌+◌, ◌-◌, ◌<◌, List, [], ◌∷◌, ◌++◌, length, codes, decimal, Option}
 use Rattle.std.specs.List.{flat_map}
-use Rattle.base_io.specs.Start.{Start}
-use Rattle.text_got.specs.declared.got.GotLines.{GotLines}
+use Rattle.octet_io.specs.Start.{Start}
+use Rattle.text_got.specs.declared.got_text.GotLines.{GotLines}
 use Rattle.text_got.specs.Told.{HasText}
 use Rattle.member_au4.specs.au4_link.VcText.{vc_text}
-use Rattle.member_au4.specs.declared.au4_pointer.Action.{Action}
-use Rattle.member_au4.specs.declared.au4_pointer.Action.TheVariants.{Keep, Up, Down, New}
+use Rattle.member_au4.specs.declared.au4_pointer.au_frame.Action.{Action}
+use Rattle.member_au4.specs.declared.au4_pointer.au_frame.Action.TheVariants.{Keep, Up, Down, New}
 use Rattle.member_au4.specs.au4_pointer.Part.{Part, begins, ends, begun, next_part, first_part, part_after, whole}
-use Rattle.member_au4.specs.declared.au4_link.draft.Link.{Link}
+use Rattle.member_au4.specs.declared.au4_link.au4_draft.Link.{Link}
 use Rattle.member_au4.specs.au4_link.Vcs.{first_vcs}
 
 -- ---- VC-4s that are cut

@@ -1,7 +1,7 @@
 -- A source and a sink, from one to the other.
 use Rattle.std.specs.Prelude.{◌≤◌, ℕ, List}
-use Rattle.base_io.specs.Start.{Start}
-use Rattle.member_au4.specs.declared.au4_pointer.Action.{Action}
+use Rattle.octet_io.specs.Start.{Start}
+use Rattle.member_au4.specs.declared.au4_pointer.au_frame.Action.{Action}
 use Rattle.member_au4.specs.au4_pointer.Part.{whole}
 use Rattle.member_au4.specs.au4_pointer.Source as source
 use Rattle.member_au4.specs.au4_pointer.Sink as sink
@@ -14,8 +14,8 @@ pub record Carries {F O : Type 0} (feeds : F → Start → List (List ℕ) → T
     (behind to : Start) (start : ℕ) (actions : List Action) (asked : List (List ℕ)) : Type 0 where
   pub small : start ≤ 782
   pub accepted : AreAccepted actions
-  pub sends : source.Stands src start actions asked
-  pub takes : sink.Stands snk (sent start actions asked)
+  pub sends : source.PointerSourceStands src start actions asked
+  pub takes : sink.PointerSinkStands snk (sent start actions asked)
   pub fed : feeds feed behind asked
   pub given : stands out to (whole start actions asked)
 

@@ -1,8 +1,8 @@
 -- G.707, AU-4 pointers: the parts of a stream of VC-4s. A part is what is sent under pointers that only stay or move.
 use Rattle.std.specs.Prelude.{◌≡◌, ℕ, ◌+◌, ◌-◌, ◌*◌, ◌/◌, List, [], ◌∷◌, ◌++◌, length, take, drop, replicate, All}
 use Rattle.std.specs.List.{concat, flat_map, fold}
-use Rattle.member_au4.specs.declared.au4_pointer.Action.{Action}
-use Rattle.member_au4.specs.declared.au4_pointer.Action.TheVariants.{Keep, Up, Down, New}
+use Rattle.member_au4.specs.declared.au4_pointer.au_frame.Action.{Action}
+use Rattle.member_au4.specs.declared.au4_pointer.au_frame.Action.TheVariants.{Keep, Up, Down, New}
 
 -- each has the octets of a VC-4
 abbrev pub AreVcs : List (List ℕ) → Type 0

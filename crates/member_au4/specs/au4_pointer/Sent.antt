@@ -4,9 +4,9 @@ use Rattle.member_au4.specs.au4_pointer.Word.{next_value, fault_after}
 use Rattle.member_au4.specs.au4_pointer.Part.{Part, next_part, first_part, parts_from, flow}
 use Rattle.member_au4.specs.au4_pointer.Source.{frame_in}
 use Rattle.member_au4.specs.au4_pointer.Sink.{data_of, word_fault}
-use Rattle.member_au4.specs.declared.au4_pointer.Action.{Action}
-use Rattle.member_au4.specs.declared.au4_pointer.Action.TheVariants.{Keep, Up, Down, New}
-use Rattle.member_au4.specs.declared.au4_pointer.AuFrame.{AuFrame}
+use Rattle.member_au4.specs.declared.au4_pointer.au_frame.Action.{Action}
+use Rattle.member_au4.specs.declared.au4_pointer.au_frame.Action.TheVariants.{Keep, Up, Down, New}
+use Rattle.member_au4.specs.declared.au4_pointer.au_frame.AuFrame.{AuFrame}
 
 -- the frames of actions, from a value and a part on
 abbrev pub sent_from : ℕ → Part → List Action → List (List ℕ) → List AuFrame

@@ -3,13 +3,13 @@ use Rattle.std.specs.Prelude.{◌≡◌, ℕ, ◌-◌, ◌*◌, ◌/◌, ◌<◌
 use Rattle.std.specs.Prelude.{Some, None, Result, Ok, Err}
 use Rattle.std.specs.Result.{result_err}
 use Rattle.std.specs.List.{concat, fold}
-use Rattle.base_io.specs.Start.{Start}
+use Rattle.octet_io.specs.Start.{Start}
 use Rattle.member_au4.specs.au4_pointer.Word.{next_value, reading}
 use Rattle.member_au4.specs.au4_pointer.Part.{AreVcs}
-use Rattle.member_au4.specs.declared.au4_pointer.Action.{Action}
-use Rattle.member_au4.specs.declared.au4_pointer.Action.TheVariants.{Keep, Up, Down, New}
-use Rattle.member_au4.specs.declared.au4_pointer.AuFrame.{AuFrame}
-use Rattle.member_au4.specs.declared.au4_pointer.sink.PointerWordFault.{PointerWordFault}
+use Rattle.member_au4.specs.declared.au4_pointer.au_frame.Action.{Action}
+use Rattle.member_au4.specs.declared.au4_pointer.au_frame.Action.TheVariants.{Keep, Up, Down, New}
+use Rattle.member_au4.specs.declared.au4_pointer.au_frame.AuFrame.{AuFrame}
+use Rattle.member_au4.specs.declared.au4_pointer.pointer_sink.PointerWordFault.{PointerWordFault}
 
 -- ---- what frames tell
 -- the data of a frame
@@ -120,7 +120,7 @@ pub record Holds (lead : ℕ) (kept : List ℕ) (begin : ℕ) (octets : List ℕ
   pub split : drop (3 * begin) octets ≡ concat (vcs_in begin octets) ++ kept
 
 -- these frames were taken
-pub record Stands (sink : Sink) (frames : List AuFrame) : Type 0 where
+pub record PointerSinkStands (sink : Sink) (frames : List AuFrame) : Type 0 where
   pub value : sink.value ≡ (reception frames).value
   pub holds : Holds sink.lead sink.kept (reception frames).begin (reception frames).octets
 

@@ -2,12 +2,12 @@
 use Rattle.std.specs.Prelude.{◌≡◌, ℕ, ◌-◌, ◌*◌, ◌<◌, ◌≤◌, Bool, true, false, List, [], ◌∷◌, ◌++◌, length, take, drop}
 use Rattle.std.specs.Prelude.{replicate}
 use Rattle.std.specs.List.{concat}
-use Rattle.base_io.specs.Start.{Start}
+use Rattle.octet_io.specs.Start.{Start}
 use Rattle.member_au4.specs.au4_pointer.Word.{value_after, new_wait, word_of}
 use Rattle.member_au4.specs.au4_pointer.Part.{Part, AreVcs, octets_of, begun, next_part, part_after, flow}
-use Rattle.member_au4.specs.declared.au4_pointer.Action.{Action}
-use Rattle.member_au4.specs.declared.au4_pointer.Action.TheVariants.{Keep, Up, Down, New}
-use Rattle.member_au4.specs.declared.au4_pointer.AuFrame.{AuFrame}
+use Rattle.member_au4.specs.declared.au4_pointer.au_frame.Action.{Action}
+use Rattle.member_au4.specs.declared.au4_pointer.au_frame.Action.TheVariants.{Keep, Up, Down, New}
+use Rattle.member_au4.specs.declared.au4_pointer.au_frame.AuFrame.{AuFrame}
 
 -- a source: the value of the next frame, the frames to wait, whether a frame was sent, and the octets that are sent
 -- next, as far as it has them
@@ -23,7 +23,7 @@ was_sent [] = false
 was_sent (a ∷ more) = true
 
 -- these actions were sent from a start on, and these VC-4s were asked for: those that began, and no other
-pub record Stands (source : Source) (start : ℕ) (actions : List Action) (asked : List (List ℕ)) : Type 0 where
+pub record PointerSourceStands (source : Source) (start : ℕ) (actions : List Action) (asked : List (List ℕ)) : Type 0 where
   pub value : source.value ≡ value_after start actions
   pub wait : source.wait ≡ new_wait actions
   pub sent : source.sent ≡ was_sent actions
@@ -111,6 +111,6 @@ pub record Sends {F : Type 0} (stands : F → Start → List (List ℕ) → Type
   pub vcs : List (List ℕ)
   pub fed : (start : Start) (asked : List (List ℕ)) → stands before start asked → stands after start (asked ++ vcs)
   pub is : (start : ℕ) (actions : List Action) (asked : List (List ℕ)) →
-      Stands was start actions asked → frame ≡ frame_after start actions a (asked ++ vcs)
+      PointerSourceStands was start actions asked → frame ≡ frame_after start actions a (asked ++ vcs)
   pub now_stands : (start : ℕ) (actions : List Action) (asked : List (List ℕ)) →
-      Stands was start actions asked → Stands now start (actions ++ a ∷ []) (asked ++ vcs)
+      PointerSourceStands was start actions asked → PointerSourceStands now start (actions ++ a ∷ []) (asked ++ vcs)

@@ -2,12 +2,12 @@
 use Rattle.std.specs.Prelude.{ℕ, ◌+◌, ◌-◌, ◌/◌, ◌%◌, ◌==◌, nat_le, if◌then◌else◌, bit_xor, List, [], ◌∷◌, Option, Some}
 use Rattle.std.specs.Prelude.{None, Result, Ok, Err}
 use Rattle.std.specs.List.{fold}
-use Rattle.member_au4.specs.declared.au4_pointer.Action.{Action}
-use Rattle.member_au4.specs.declared.au4_pointer.Action.TheVariants.{Keep, Up, Down, New}
-use Rattle.member_au4.specs.declared.au4_pointer.source.PointerFault.{PointerFault}
-use Rattle.member_au4.specs.declared.au4_pointer.source.PointerFault.TheVariants.{Range, TooSoon}
-use Rattle.member_au4.specs.declared.au4_pointer.sink.PointerWordFault.{PointerWordFault}
-use Rattle.member_au4.specs.declared.au4_pointer.sink.PointerWordFault.TheVariants.{Flag, Range as OutOfRange, Unexpected}
+use Rattle.member_au4.specs.declared.au4_pointer.au_frame.Action.{Action}
+use Rattle.member_au4.specs.declared.au4_pointer.au_frame.Action.TheVariants.{Keep, Up, Down, New}
+use Rattle.member_au4.specs.declared.au4_pointer.pointer_source.PointerFault.{PointerFault}
+use Rattle.member_au4.specs.declared.au4_pointer.pointer_source.PointerFault.TheVariants.{Range, TooSoon}
+use Rattle.member_au4.specs.declared.au4_pointer.pointer_sink.PointerWordFault.{PointerWordFault}
+use Rattle.member_au4.specs.declared.au4_pointer.pointer_sink.PointerWordFault.TheVariants.{Flag, Range as OutOfRange, Unexpected}
 
 -- ---- what is sent
 -- the value behind a frame, from the one of the frame

@@ -1,7 +1,7 @@
 -- Worked actions.
 use Rattle.std.specs.Prelude.{ℕ, List, [], ◌∷◌}
-use Rattle.member_au4.specs.declared.au4_pointer.Action.{Action}
-use Rattle.member_au4.specs.declared.au4_pointer.Action.TheVariants.{Keep, New}
+use Rattle.member_au4.specs.declared.au4_pointer.au_frame.Action.{Action}
+use Rattle.member_au4.specs.declared.au4_pointer.au_frame.Action.TheVariants.{Keep, New}
 
 -- four frames, of which the third begins anew
 abbrev pub worked_actions : List Action

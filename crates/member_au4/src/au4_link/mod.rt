@@ -6,36 +6,36 @@
 
 ghost use Rattle.std.specs.Prelude.{◌≡◌, ◌↔◌, ℕ, List, length, Ok, Err};
 ghost use Rattle.std.specs.Str.Lines.{lines};
-ghost use Rattle.member_au4.specs.declared.au4_link.fault.LineFault.{LineFault};
+ghost use Rattle.member_au4.specs.declared.au4_link.au4_text_fault.LineFault.{LineFault};
 ghost use Rattle.text_lines.specs.FirstFault.{IsFirstFault};
-ghost use Rattle.member_au4.specs.au4_link.Lines.{at_first, link_lines};
+ghost use Rattle.member_au4.specs.au4_link.LinkTextLines.{at_first, link_lines};
 ghost use Rattle.member_au4.specs.au4_pointer.Part.{AreVcs, whole};
 ghost use Rattle.member_au4.specs.au4_pointer.Sink.{given};
 ghost use Rattle.member_au4.specs.au4_pointer.Sent.{AreTaken};
-ghost use Rattle.member_au4.specs.declared.au4_link.draft.Link.{Link};
+ghost use Rattle.member_au4.specs.declared.au4_link.au4_draft.Link.{Link};
 ghost use Rattle.member_au4.specs.au4_link.Vcs.{first_vcs};
 ghost use Rattle.member_au4.specs.au4_link.Text.{link_text};
 ghost use Rattle.member_au4.specs.au4_link.Carried.{link_vcs, link_frames, carried_text};
 ghost use Rattle.member_au4.specs.au4_link.Link.{link_of, IsLink};
 
-mod draft;
-mod fault;
-mod feed;
-mod help;
-mod keyword;
-mod lines;
-mod read;
-mod run;
-mod statement;
-mod vc;
+mod au4_draft;
+mod au4_text_fault;
+mod numbered_vcs;
+mod au4_helps;
+mod au4_keyword;
+mod au4_report;
+mod read_au4_text;
+mod au4_run;
+mod au4_statement;
+mod text_of_vc;
 
-pub use draft::{ActionList, Link};
-pub use fault::LineFault;
-pub use help::link_help;
-pub use keyword::Keyword;
-pub use read::{LinkFault, read_link};
-pub use run::write_link;
-pub use vc::vc_line;
+pub use au4_draft::{ActionList, Link};
+pub use au4_text_fault::LineFault;
+pub use au4_helps::link_help;
+pub use au4_keyword::Keyword;
+pub use read_au4_text::{LinkFault, read_link};
+pub use au4_run::write_link;
+pub use text_of_vc::vc_line;
 
 /// A text has the fault of a line exactly where that line is faulty after lines none of which is, or where no
 /// line is faulty and one that has to be there isn't.

@@ -4,7 +4,7 @@ use Rattle.std.proofs.Common.{[], ◌∷◌, ◌++◌, length, drop, slice_index
 use Rattle.std.specs.Prelude.{sum_by}
 use Rattle.std.proofs.lemmas.Bool.{cases_Bool, cases_lt}
 use Rattle.std.proofs.lemmas.List.{at_drop_more, at_drop_all}
-use Rattle.law_model.specs.declared.window.Window.{Window}
+use Rattle.law_model.specs.declared.window_types.Window.{Window}
 use Rattle.law_model.specs.members.Damage.{AreWindows, slip_after, slip_of}
 use Rattle.member_path.specs.failure_window.Near.{AreNear, IsRun}
 

@@ -1,8 +1,8 @@
 -- What a window at the front of a list does to a container.
 use Rattle.std.proofs.Common.{◌≡◌, ℕ, zero, suc, ◌<◌, ◌≤◌, List, [], ◌∷◌, length}
 use Rattle.std.proofs.Common.{drop, slice_get, slice_index_or, Some, None, refl, sym, ◌∙◌, ap, arith}
-use Rattle.law_model.specs.declared.window.Window.{Window}
-use Rattle.law_model.specs.declared.window.Carried.TheVariants.{Whole}
+use Rattle.law_model.specs.declared.window_types.Window.{Window}
+use Rattle.law_model.specs.declared.window_types.Carried.TheVariants.{Whole}
 use Rattle.law_model.specs.members.Damage.{carried_in, carried, AreWindows}
 use Rattle.law_model.proofs.PathLaws.{carried-in, carried-before, carried-after}
 use Rattle.member_path.specs.failure_window.Above.{IsFirstAbove}

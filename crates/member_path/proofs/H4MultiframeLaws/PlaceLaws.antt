@@ -2,16 +2,16 @@
 use Rattle.std.proofs.Common.{◌≡◌, ◌≢◌, ℕ, ◌+◌, ◌*◌, ◌/◌, ◌%◌, ◌<◌, List, [], ◌∷◌, ◌++◌, length, Option, Some}
 use Rattle.std.proofs.Common.{slice_get, refl, sym, ◌∙◌, ap, subst, arith}
 use Rattle.std.proofs.lemmas.List.{length-append}
-use Rattle.base_nibbles.specs.Lock.{HasMfi1, IsOutOfStep}
-use Rattle.base_nibbles.proofs.LockLaws.{slice_get-append, slice_get-append_seam, HasNumber-append, Locks-append}
-use Rattle.base_nibbles.proofs.LockLaws.{IsAt-append, IsOutOfStep-append, HasMfi1_before, HasMfi1_only, HasNumber_only}
-use Rattle.base_nibbles.proofs.LockLaws.{IsFirstStep_only, HasNumber-mfi1, Locks_next, IsAt_next, IsOutOfStep_next}
-use Rattle.base_nibbles.proofs.LockLaws.{IsOutOfStep_goes_on}
+use Rattle.check_nibbles.specs.Lock.{HasMfi1, IsOutOfStep}
+use Rattle.check_nibbles.proofs.LockLaws.{slice_get-append, slice_get-append_seam, HasNumber-append, Locks-append}
+use Rattle.check_nibbles.proofs.LockLaws.{IsAt-append, IsOutOfStep-append, HasMfi1_before, HasMfi1_only, HasNumber_only}
+use Rattle.check_nibbles.proofs.LockLaws.{IsFirstStep_only, HasNumber-mfi1, Locks_next, IsAt_next, IsOutOfStep_next}
+use Rattle.check_nibbles.proofs.LockLaws.{IsOutOfStep_goes_on}
 use Rattle.member_path.specs.declared.h4_multiframe.Place.{Place}
 use Rattle.member_path.specs.declared.h4_multiframe.Place.TheVariants.{Unknown, Locks as LocksAnswer, At}
 use Rattle.member_path.specs.declared.h4_multiframe.State.TheVariants.{Unlocked, Begun, Locked}
 use Rattle.member_path.specs.h4_multiframe.Place.{IsPlace}
-use Rattle.member_path.specs.h4_multiframe.Stands.{IsLast, Stands}
+use Rattle.member_path.specs.h4_multiframe.LockState.{IsLast, LockStands}
 
 -- ---- places
 -- a cell is one thing
@@ -55,7 +55,7 @@ inside cells place last = omega arith
 
 -- ---- what it is
 pub locks_place : (cells : List (Option ℕ)) (octet h4 : ℕ) → octet < 256 → h4 < 256 → h4 % 16 ≡ 1 →
-    Stands (Begun octet) cells →
+    LockStands (Begun octet) cells →
     IsPlace (cells ++ Some h4 ∷ []) (length cells) (LocksAnswer (16 * (16 * (octet / 16) + h4 / 16) + 1))
 locks_place cells octet h4 octet_small small first (place, last, out, here, zeroth) =
     let more = Some h4 ∷ [] in
@@ -65,7 +65,7 @@ locks_place cells octet h4 octet_small small first (place, last, out, here, zero
     (slice_get-append cells more place within ∙ here) zeroth (entry_after cells (Some h4) place last) first)
 
 pub at_place : (cells : List (Option ℕ)) (number h4 : ℕ) → h4 % 16 ≡ (number + 1) % 4096 % 16 →
-    Stands (Locked number) cells →
+    LockStands (Locked number) cells →
     IsPlace (cells ++ Some h4 ∷ []) (length cells) (At ((number + 1) % 4096))
 at_place cells number h4 next (place, last, has) =
     let more = Some h4 ∷ [] in
@@ -73,7 +73,7 @@ at_place cells number h4 next (place, last, has) =
     (IsAt_next (cells ++ more) place number (HasNumber-append cells more place number has)
     (h4, entry_after cells (Some h4) place last, next))
 
-pub unlocked_unknown : (cells : List (Option ℕ)) (h4 : ℕ) → Stands Unlocked cells →
+pub unlocked_unknown : (cells : List (Option ℕ)) (h4 : ℕ) → LockStands Unlocked cells →
     IsOutOfStep (cells ++ Some h4 ∷ []) (length cells)
 unlocked_unknown [] h4 stands = λ from step. let later = step.later in absurd (omega arith)
 unlocked_unknown (x ∷ xs) h4 stands =
@@ -86,7 +86,7 @@ unlocked_unknown (x ∷ xs) h4 stands =
     (IsOutOfStep_goes_on (cells ++ more) (length xs) (IsOutOfStep-append cells more (length xs) within known.0)
     (λ has. known.1 (HasMfi1_before cells more (length xs) 0 within has)))
 
-pub begun_unknown : (cells : List (Option ℕ)) (octet h4 : ℕ) → h4 % 16 ≢ 1 → Stands (Begun octet) cells →
+pub begun_unknown : (cells : List (Option ℕ)) (octet h4 : ℕ) → h4 % 16 ≢ 1 → LockStands (Begun octet) cells →
     IsOutOfStep (cells ++ Some h4 ∷ []) (length cells)
 begun_unknown cells octet h4 other (place, last, out, here, zeroth) =
     let more = Some h4 ∷ [] in
@@ -99,7 +99,7 @@ next_lower_half : (number : ℕ) → (number % 16 + 1) % 16 ≡ (number + 1) % 4
 next_lower_half number = omega arith
 
 pub locked_unknown : (cells : List (Option ℕ)) (number h4 : ℕ) → h4 % 16 ≢ (number + 1) % 4096 % 16 →
-    Stands (Locked number) cells →
+    LockStands (Locked number) cells →
     IsOutOfStep (cells ++ Some h4 ∷ []) (length cells)
 locked_unknown cells number h4 other (place, last, has) =
     let more = Some h4 ∷ [] in
@@ -110,7 +110,7 @@ locked_unknown cells number h4 other (place, last, has) =
 
 -- ---- what it leaves
 pub unlocked_after : (cells : List (Option ℕ)) (h4 : ℕ) → h4 % 16 ≢ 0 →
-    IsOutOfStep (cells ++ Some h4 ∷ []) (length cells) → Stands Unlocked (cells ++ Some h4 ∷ [])
+    IsOutOfStep (cells ++ Some h4 ∷ []) (length cells) → LockStands Unlocked (cells ++ Some h4 ∷ [])
 unlocked_after cells h4 other out place last =
     let more = Some h4 ∷ [] in
     let same = only_last cells (Some h4) place last in (

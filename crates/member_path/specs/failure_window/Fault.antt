@@ -1,8 +1,8 @@
 -- What is wrong with a list of windows: each is tested in its turn, and the first fault is told.
 use Rattle.std.specs.Prelude.{ℕ, suc, ◌-◌, nat_le, nat_lt, List, [], ◌∷◌, Option, Some, None, if◌then◌else◌}
-use Rattle.law_model.specs.declared.window.Window.{Window}
-use Rattle.member_path.specs.declared.failure_window.fault.WindowFault.{WindowFault}
-use Rattle.member_path.specs.declared.failure_window.fault.WindowFault.TheVariants.{Empty, Overlap, SlipTooLong}
+use Rattle.law_model.specs.declared.window_types.Window.{Window}
+use Rattle.member_path.specs.declared.failure_window.window_fault.WindowFault.{WindowFault}
+use Rattle.member_path.specs.declared.failure_window.window_fault.WindowFault.TheVariants.{Empty, Overlap, SlipTooLong}
 
 -- the first fault of window i, where the window before it ends at this container
 abbrev pub fault_of : ℕ → ℕ → Window → Option WindowFault

@@ -1,6 +1,6 @@
 -- Runs of windows each near the one before.
 use Rattle.std.specs.Prelude.{ℕ, ◌+◌, ◌<◌, List, [], ◌∷◌}
-use Rattle.law_model.specs.declared.window.Window.{Window}
+use Rattle.law_model.specs.declared.window_types.Window.{Window}
 
 -- windows each near the one before, where the first is near one that ends at this container: fewer than 17 containers
 -- lie between

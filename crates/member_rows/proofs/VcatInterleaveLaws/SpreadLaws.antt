@@ -7,9 +7,9 @@ use Rattle.std.specs.Box.{with_value}
 use Rattle.std.proofs.lemmas.Bool.{cases_eq, cases_lt}
 use Rattle.std.proofs.lemmas.List.{get_or-map, map-set, length-map, take_at, drop_at, take_all, drop_all, drop-drop}
 use Rattle.std.proofs.lemmas.List.{append-nil, take-append-drop}
-use Rattle.base_cells.specs.declared.Container.{Container}
+use Rattle.member_cells.specs.declared.containers_and_cells.Container.{Container}
 use Rattle.law_model.specs.rows.Interleave.{part_of}
-use Rattle.base_cells.specs.Held.{held}
+use Rattle.member_cells.specs.Held.{held}
 use Rattle.member_rows.specs.vcat_interleave.Members.{with_octets, AreLines}
 use Rattle.member_rows.specs.vcat_interleave.Spread.{SpreadsOver, AreDistinct}
 use Rattle.member_rows.proofs.VcatInterleaveLaws.PlaceLaws.{put_at}

@@ -1,6 +1,6 @@
 -- What spreading a row over the members of a group leaves.
 use Rattle.std.specs.Prelude.{◌≡◌, ◌≢◌, ℕ, ◌<◌, ◌≤◌, List, length, slice_index, slice_index_or}
-use Rattle.base_cells.specs.declared.Container.{Container}
+use Rattle.member_cells.specs.declared.containers_and_cells.Container.{Container}
 use Rattle.law_model.specs.rows.Interleave.{part_of}
 use Rattle.member_rows.specs.vcat_interleave.Members.{with_octets}
 

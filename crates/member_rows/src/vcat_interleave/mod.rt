@@ -4,12 +4,12 @@
 //! number of places; `spread` and `gather` do one member. `interleave_law` and `gather_law` say which octet
 //! goes to which member, and that the row comes back.
 
-mod gathering;
-mod laws;
-mod member;
-mod spreading;
-mod square;
+mod gather_members;
+mod interleave_laws;
+mod octets_of_member;
+mod spread_members;
+mod transpose_square;
 
-pub use gathering::{gather, gather_places};
-pub use laws::{gather_law, interleave_law};
-pub use spreading::{spread, spread_places};
+pub use gather_members::{gather, gather_places};
+pub use interleave_laws::{gather_law, interleave_law};
+pub use spread_members::{spread, spread_places};

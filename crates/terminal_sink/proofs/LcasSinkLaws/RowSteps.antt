@@ -7,13 +7,13 @@ use Rattle.std.proofs.Math.Seq.{get_or-append_seam}
 use Rattle.std.proofs.lemmas.Bool.Decides.{nat_tests}
 use Rattle.std.proofs.lemmas.List.{take_all, take-append-le, get_or_append_left, length-append, get_or-set_same}
 use Rattle.std.proofs.lemmas.List.{get_or-set_other}
-use Rattle.base_remainder.specs.Bits.{number_behind}
-use Rattle.base_cells.specs.declared.Ctrl.TheVariants.{Idle as idle_word}
-use Rattle.law_model.specs.declared.packet.Packet.{Packet}
-use Rattle.law_model.specs.declared.table.SinkState.{SinkState}
-use Rattle.law_model.specs.declared.table.SinkState.TheVariants.{Idle}
+use Rattle.check_remainder.specs.Bits.{number_behind}
+use Rattle.member_cells.specs.declared.control_word.Ctrl.TheVariants.{Idle as idle_word}
+use Rattle.law_model.specs.declared.control_packet.Packet.{Packet}
+use Rattle.law_model.specs.declared.lcas_states.SinkState.{SinkState}
+use Rattle.law_model.specs.declared.lcas_states.SinkState.TheVariants.{Idle}
 use Rattle.law_model.specs.packets.ReturnPacket.{Row, leader, ack_by, ack_of, status_of, mst_of, return_of, state_next}
-use Rattle.terminal_sink.specs.lcas_sink.Stands.{state_at, state_upto}
+use Rattle.terminal_sink.specs.lcas_sink.SinkStates.{state_at, state_upto}
 
 -- ---- the states
 test-true : (a b : ℕ) → a < b → nat_lt a b ≡ true

@@ -7,18 +7,18 @@ use Rattle.std.specs.List.{position_from}
 use Rattle.std.proofs.lemmas.Bool.{cases_Bool, cases_lt}
 use Rattle.std.proofs.lemmas.Bool.Decides.{nat_tests}
 use Rattle.std.proofs.lemmas.List.FromFn.{map-range_with_len_more, length-map-range_with_len}
-use Rattle.base_cells.specs.declared.Cell.{Cell}
-use Rattle.law_model.specs.declared.packet.Packet.{Packet}
+use Rattle.member_cells.specs.declared.containers_and_cells.Cell.{Cell}
+use Rattle.law_model.specs.declared.control_packet.Packet.{Packet}
 use Rattle.law_model.specs.packets.ReturnPacket.{return_of}
 use Rattle.law_model.specs.members.Number.{verdict}
 use Rattle.law_model.specs.rows.Rows.{read_packets, governing, active_of, row_at, first_open, return_at}
 use Rattle.law_line.specs.StableRows.{AreDecidedAt}
-use Rattle.member_rows.proofs.RealignCoreLaws.PacketLaws.{governing-same}
+use Rattle.member_rows.proofs.RealignRowsLaws.PacketLaws.{governing-same}
 use Rattle.std.proofs.lemmas.List.{nil_from_length}
 use Rattle.terminal_sink.specs.sink_core.Active.{carrying}
 use Rattle.terminal_sink.proofs.SinkCoreLaws.ActiveLaws.{active_from-fits}
 use Rattle.terminal_sink.specs.sink_core.Given.{row_in, received_rows, read_rows, packet_rows, back_at, answer_by, answer_at}
-use Rattle.terminal_sink.specs.declared.sink_core.sink.TakeAnswer.TheVariants.{Taken}
+use Rattle.terminal_sink.specs.declared.sink_core.sink_terminal.TakeAnswer.TheVariants.{Taken}
 
 -- ---- rows
 pub received-more : (size : ℕ) (cells : List (List Cell)) (n : ℕ) →

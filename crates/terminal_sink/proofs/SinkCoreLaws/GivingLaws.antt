@@ -9,14 +9,14 @@ use Rattle.law_model.specs.rows.Interleave.{octets_from}
 use Rattle.std.proofs.lemmas.List.Concat.{flat_map-append}
 use Rattle.law_model.specs.frames.Outcome.{outcomes}
 use Rattle.law_model.specs.frames.Delivery.{frame_in}
-use Rattle.gfp_delineate.specs.declared.Step.{Step}
-use Rattle.gfp_delineate.specs.declared.Step.TheVariants.{Nothing}
-use Rattle.terminal_sink.specs.gfp_mark.Marks.{Marked as Receiver, StandsIn, told_outcomes}
+use Rattle.gfp_delineate.specs.declared.delineator.Step.{Step}
+use Rattle.gfp_delineate.specs.declared.delineator.Step.TheVariants.{Nothing}
+use Rattle.terminal_sink.specs.marked_delineator.Marks.{Marked as Receiver, StandsIn, told_outcomes}
 use Rattle.gfp_delineate.proofs.Frames.{told, frames_told}
 use Rattle.law_loss.specs.Added.{frames_in, next_frames}
 use Rattle.law_loss.proofs.SegmentLaws.{next-none, next-more}
 use Rattle.law_loss.proofs.GrowLaws.{adds}
-use Rattle.terminal_sink.specs.gfp_mark.Marks.{Advances, Brings}
+use Rattle.terminal_sink.specs.marked_delineator.Marks.{Advances, Brings}
 use Rattle.terminal_sink.specs.sink_core.Receives.{IsKnown, Grows, Gives, IsIdle}
 use Rattle.law_model.specs.Limits.{longest_frame}
 

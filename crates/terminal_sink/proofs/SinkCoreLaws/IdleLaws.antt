@@ -6,7 +6,7 @@ use Rattle.std.proofs.lemmas.Nat.{div-add-mod'}
 use Rattle.law_model.specs.frames.Core.{core_header}
 use Rattle.law_model.specs.rows.Interleave.{octets_from}
 use Rattle.law_model.proofs.IdleLaws.{idle_header, core_header-idle}
-use Rattle.base_cells.specs.declared.Container.{Container}
+use Rattle.member_cells.specs.declared.containers_and_cells.Container.{Container}
 use Rattle.member_rows.specs.vcat_interleave.Members.{payload_at, payloads_of}
 use Rattle.member_rows.proofs.VcatInterleaveLaws.MemberLaws.{is-row}
 use Rattle.member_rows.proofs.VcatInterleaveLaws.RowLaws.{within-row}

@@ -6,7 +6,7 @@ use Rattle.std.proofs.lemmas.Bool.{cases_Bool}
 use Rattle.std.proofs.lemmas.Bool.Decides.{nat_tests}
 use Rattle.std.proofs.lemmas.List.{append-nil}
 use Rattle.std.proofs.lemmas.Option.{slice_get_within}
-use Rattle.base_cells.specs.declared.Cell.{Cell}
+use Rattle.member_cells.specs.declared.containers_and_cells.Cell.{Cell}
 use Rattle.law_model.specs.members.Number.{verdict}
 use Rattle.law_model.specs.rows.Rows.{read_packets, governing, active_of, row_at}
 use Rattle.law_model.specs.frames.Segment.{StreamRow, deliver}
@@ -15,11 +15,11 @@ use Rattle.law_line.proofs.ListLaws.{slice_get-inside, is-some}
 use Rattle.law_line.proofs.StableLaws.{verdict-stays}
 use Rattle.law_line.proofs.RowLaws.{map-same, nones-stay, read-stays, rows_stay, returns_stay}
 use Rattle.law_loss.proofs.GrowLaws.{deliver-grows}
-use Rattle.terminal_sink.specs.lcas_sink.Stands as sink_table
-use Rattle.member_rows.specs.realign_core.Gather.{with_cell}
+use Rattle.terminal_sink.specs.lcas_sink.SinkStates as sink_table
+use Rattle.member_rows.specs.realign_rows.Gather.{with_cell}
 use Rattle.terminal_sink.specs.sink_core.Given.{row_in, received_rows, given_frames, added_frames, read_rows, packet_rows, back_at}
 use Rattle.terminal_sink.specs.sink_core.Receives.{Receives}
-use Rattle.terminal_sink.specs.sink_core.Core.{Core, Stands}
+use Rattle.terminal_sink.specs.sink_core.Core.{Core, SinkStands}
 use Rattle.terminal_sink.proofs.SinkCoreLaws.GivenLaws.{received-more}
 use Rattle.law_model.specs.Limits.{longest_frame}
 
@@ -62,13 +62,13 @@ decided-stays t cells longer are decided m own here =
     let (told, said) = is-some (verdict before t) (decided m before was) in
     ap is_some (ap (λ own. verdict own t) same ∙ verdict-stays before more t told said)
 
-pub stands-longer : (core : Core) (cells longer : List (List Cell)) → IsLonger cells longer → Stands core cells →
-    Stands core longer
+pub stands-longer : (core : Core) (cells longer : List (List Cell)) → IsLonger cells longer → SinkStands core cells →
+    SinkStands core longer
 stands-longer core cells longer more stands = record {
   lines = more.size ∙ stands.lines;
   receives = subst (Receives core.receiver) (sym (received-stays core.size core.taken cells longer more stands.decided))
       stands.receives;
-  table = subst (sink_table.Stands core.table) (sym (packets-stay core.taken cells longer more stands.decided))
+  table = subst (sink_table.SinkTableStands core.table) (sym (packets-stay core.taken cells longer more stands.decided))
       stands.table;
   active = stands.active ∙ ap active_of (sym (governing-stays core.taken cells longer more stands.decided));
   decided = λ t low. decided-stays t cells longer more (stands.decided t low);

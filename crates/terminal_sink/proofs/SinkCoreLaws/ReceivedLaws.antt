@@ -4,10 +4,10 @@ use Rattle.std.proofs.Common.{subst, arith}
 use Rattle.std.specs.Prelude.{if◌then◌else◌}
 use Rattle.std.proofs.lemmas.Bool.Decides.{nat_tests}
 use Rattle.std.proofs.lemmas.List.{append-nil}
-use Rattle.base_cells.specs.declared.Cell.{Cell}
+use Rattle.member_cells.specs.declared.containers_and_cells.Cell.{Cell}
 use Rattle.law_model.specs.rows.Rows.{governing, row_under, row_at}
 use Rattle.law_model.specs.frames.Segment.{StreamRow, Segments, segments_of}
-use Rattle.terminal_sink.specs.gfp_mark.Marks.{Marked as Receiver, StandsIn}
+use Rattle.terminal_sink.specs.marked_delineator.Marks.{Marked as Receiver, StandsIn}
 use Rattle.law_loss.specs.Added.{added, whole_row, lost_row}
 use Rattle.law_loss.proofs.SegmentLaws.{segments_of-push, added-whole, added-lost}
 use Rattle.terminal_sink.specs.sink_core.Receives.{Receives, Grows, Gives}

@@ -1,11 +1,11 @@
 -- What a sink knows of the cells of its lines.
 use Rattle.std.specs.Prelude.{◌≡◌, ℕ, ◌<◌, List, length}
-use Rattle.base_cells.specs.declared.Cell.{Cell}
+use Rattle.member_cells.specs.declared.containers_and_cells.Cell.{Cell}
 use Rattle.law_model.specs.rows.Rows.{governing, active_of}
 use Rattle.law_line.specs.StableRows.{AreDecidedAt}
-use Rattle.terminal_sink.specs.gfp_mark.Marks.{Marked as Receiver}
-use Rattle.terminal_sink.specs.lcas_sink.Stands.{Sink}
-use Rattle.terminal_sink.specs.lcas_sink.Stands as sink_table
+use Rattle.terminal_sink.specs.marked_delineator.Marks.{Marked as Receiver}
+use Rattle.terminal_sink.specs.lcas_sink.SinkStates.{Sink}
+use Rattle.terminal_sink.specs.lcas_sink.SinkStates as sink_table
 use Rattle.terminal_sink.specs.sink_core.Given.{received_rows, read_rows, packet_rows}
 use Rattle.terminal_sink.specs.sink_core.Receives.{Receives}
 
@@ -21,9 +21,9 @@ pub record Core : Type 0 where
   pub active : List ℕ
 
 -- the rows that were taken were those of these cells, which may be more than were there then
-pub record Stands (core : Core) (cells : List (List Cell)) : Type 0 where
+pub record SinkStands (core : Core) (cells : List (List Cell)) : Type 0 where
   pub lines : length cells ≡ core.lines
   pub receives : Receives core.receiver (received_rows core.size cells core.taken)
-  pub table : sink_table.Stands core.table (read_rows cells (packet_rows core.taken))
+  pub table : sink_table.SinkTableStands core.table (read_rows cells (packet_rows core.taken))
   pub active : core.active ≡ active_of (governing cells core.taken)
   pub decided : (t : ℕ) → t < core.taken → AreDecidedAt cells t

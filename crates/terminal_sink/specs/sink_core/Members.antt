@@ -1,7 +1,7 @@
 -- The containers of the members of a row.
 use Rattle.std.specs.Prelude.{◌≡◌, ℕ, if◌then◌else◌, Bool, List, slice_get, Option, Some, None}
-use Rattle.base_cells.specs.declared.Container.{Container}
-use Rattle.base_cells.specs.declared.Cell.{Cell}
+use Rattle.member_cells.specs.declared.containers_and_cells.Container.{Container}
+use Rattle.member_cells.specs.declared.containers_and_cells.Cell.{Cell}
 use Rattle.law_model.specs.members.Number.{verdict}
 use Rattle.law_model.specs.rows.Interleave.{octets_from}
 use Rattle.member_rows.specs.vcat_interleave.Members.{payloads_of}

@@ -1,6 +1,6 @@
 -- What a receiver has got of rows.
 use Rattle.std.specs.Prelude.{◌≡◌, ℕ, Bool, List, [], ◌++◌}
-use Rattle.terminal_sink.specs.gfp_mark.Marks.{Marked as Receiver, StandsIn}
+use Rattle.terminal_sink.specs.marked_delineator.Marks.{Marked as Receiver, StandsIn}
 use Rattle.law_model.specs.frames.Segment.{StreamRow, segments_of}
 use Rattle.law_loss.specs.Added.{next_frames}
 use Rattle.law_model.specs.Limits.{longest_frame}

@@ -4,11 +4,11 @@
 //! more cells and more rows change, `session_sink_law` what is given in a session. How cells come to the lines,
 //! and where frames and return packets go, is not said here.
 
-mod active;
-mod laws;
-mod members;
-mod row;
-mod sink;
+mod active_lines;
+mod sink_laws;
+mod octets_of_row;
+mod whole_rows;
+mod sink_terminal;
 
-pub use laws::{session_sink_law, sink_law};
-pub use sink::{SinkCore, TakeAnswer};
+pub use sink_laws::{session_sink_law, sink_law};
+pub use sink_terminal::{SinkCore, TakeAnswer};

@@ -6,11 +6,11 @@ use Rattle.std.specs.List.{list_all}
 use Rattle.std.proofs.Math.Seq.{take-set-lt}
 use Rattle.std.proofs.lemmas.Bool.Decides.{nat_tests}
 use Rattle.std.proofs.lemmas.List.{length-map}
-use Rattle.law_model.specs.declared.table.Command.{Command}
-use Rattle.law_model.specs.declared.table.Command.TheVariants.{Add as add, Remove as remove}
-use Rattle.law_model.specs.declared.table.Member.{Member}
-use Rattle.law_model.specs.declared.refusal.CommandFault.{CommandFault}
-use Rattle.law_model.specs.declared.refusal.CommandFault.TheVariants.{UnknownLine}
+use Rattle.law_model.specs.declared.lcas_states.Command.{Command}
+use Rattle.law_model.specs.declared.lcas_states.Command.TheVariants.{Add as add, Remove as remove}
+use Rattle.law_model.specs.declared.lcas_states.Member.{Member}
+use Rattle.law_model.specs.declared.item_refusals.CommandFault.{CommandFault}
+use Rattle.law_model.specs.declared.item_refusals.CommandFault.TheVariants.{UnknownLine}
 use Rattle.law_model.specs.source.Table.{Table, Told, first_table, heard, told_on, exchange, exchanged, kept_of}
 use Rattle.law_model.specs.packets.Packet.{read_of}
 use Rattle.law_model.specs.packets.Told.{packet_read}

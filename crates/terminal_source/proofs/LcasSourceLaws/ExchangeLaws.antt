@@ -4,7 +4,7 @@ use Rattle.std.proofs.Common.{length, Option, Some, None, option_map, slice_inde
 use Rattle.std.proofs.Common.{add-one, arith}
 use Rattle.std.proofs.Math.Seq.{drop-cons, take-suc}
 use Rattle.std.proofs.lemmas.List.{drop_all, length-drop, get_or-drop, get_or_default}
-use Rattle.law_model.specs.declared.table.Member.{Member}
+use Rattle.law_model.specs.declared.lcas_states.Member.{Member}
 use Rattle.law_model.specs.source.Table.{is_adding, is_ok, take_out}
 use Rattle.terminal_source.specs.lcas_source.Exchange.{taken_out}
 

@@ -9,7 +9,7 @@ use Rattle.std.proofs.Math.Seq.{drop-cons, take-append_seam, drop-append_seam}
 use Rattle.std.proofs.lemmas.Bool.Decides.{nat_tests}
 use Rattle.std.proofs.lemmas.List.{drop_all, length-take, take-append-le, take-append-drop, drop-take}
 use Rattle.std.proofs.lemmas.List.Sums.{prefix_len_stops}
-use Rattle.law_model.specs.declared.table.Member.{Member}
+use Rattle.law_model.specs.declared.lcas_states.Member.{Member}
 use Rattle.law_model.specs.source.Table.{is_adding, is_fail, take_out, exchange}
 use Rattle.terminal_source.specs.lcas_source.Exchange.{taken_out}
 

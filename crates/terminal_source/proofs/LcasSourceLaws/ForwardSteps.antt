@@ -5,10 +5,10 @@ use Rattle.std.specs.List.{list_any}
 use Rattle.std.proofs.Math.Seq.{drop-cons}
 use Rattle.std.proofs.lemmas.Bool.Decides.{nat_tests}
 use Rattle.std.proofs.lemmas.List.{drop_all}
-use Rattle.base_cells.specs.declared.Ctrl.{Ctrl}
-use Rattle.base_cells.specs.declared.Ctrl.TheVariants.{Idle}
-use Rattle.law_model.specs.declared.packet.Packet.{Packet}
-use Rattle.law_model.specs.declared.table.Member.{Member}
+use Rattle.member_cells.specs.declared.control_word.Ctrl.{Ctrl}
+use Rattle.member_cells.specs.declared.control_word.Ctrl.TheVariants.{Idle}
+use Rattle.law_model.specs.declared.control_packet.Packet.{Packet}
+use Rattle.law_model.specs.declared.lcas_states.Member.{Member}
 use Rattle.law_model.specs.source.Table.{Table, is_normal, active}
 use Rattle.law_model.specs.packets.GroupBit.{bits_from}
 use Rattle.law_model.specs.packets.Forward.{forward_packet, ctrl_by, place_in, state_by, state_without, state_in}

@@ -4,8 +4,8 @@ use Rattle.std.proofs.Common.{[], ◌∷◌, ◌++◌, map, take, drop, length, 
 use Rattle.std.proofs.Common.{◌∙◌, ap, arith}
 use Rattle.std.proofs.lemmas.Bool.Decides.{nat_tests}
 use Rattle.std.proofs.lemmas.List.{length-map, length-take, length-drop, take-append-drop}
-use Rattle.base_remainder.specs.Bits.{bits}
-use Rattle.base_remainder.proofs.BitLaws.{length-bits}
+use Rattle.check_remainder.specs.Bits.{bits}
+use Rattle.check_remainder.proofs.BitLaws.{length-bits}
 use Rattle.law_model.specs.source.Table.{keep}
 use Rattle.law_model.specs.packets.Told.{oks_in}
 

@@ -3,7 +3,7 @@ use Rattle.std.proofs.Common.{◌≡◌, ℕ, zero, suc, ◌+◌, ◌-◌, ◌%�
 use Rattle.std.proofs.Common.{◌∷◌, ◌++◌, map, fold, length, Option, Some, None, slice_index_or, refl, sym, ◌∙◌, ap, ap₂}
 use Rattle.std.proofs.Common.{arith}
 use Rattle.std.proofs.lemmas.Bool.Decides.{nat_tests}
-use Rattle.law_model.specs.declared.table.Command.{Command}
+use Rattle.law_model.specs.declared.lcas_states.Command.{Command}
 use Rattle.law_model.specs.session.Scenario.{Scenario, orders_at}
 use Rattle.law_model.specs.source.Table.{Told}
 use Rattle.law_model.specs.source.Source.{opening, asked_all, decide, cell_at, after}

@@ -4,8 +4,8 @@ use Rattle.std.proofs.Common.{sym, ◌∙◌, ap, subst, arith}
 use Rattle.std.proofs.lemmas.Bool.{eqb-true, eqb-false}
 use Rattle.std.proofs.lemmas.List.FromFn.{length-map-range_with_len}
 use Rattle.std.proofs.Math.Nat.{mul-le-mul_left}
-use Rattle.base_cells.specs.declared.BackCell.{BackCell}
-use Rattle.law_model.specs.declared.table.Command.{Command}
+use Rattle.member_cells.specs.declared.containers_and_cells.BackCell.{BackCell}
+use Rattle.law_model.specs.declared.lcas_states.Command.{Command}
 use Rattle.law_model.specs.session.Scenario.{steps_in}
 use Rattle.law_model.specs.source.Table.{Told}
 use Rattle.law_model.specs.packets.Told.{told_in}

@@ -9,7 +9,7 @@ use Rattle.std.proofs.lemmas.Bool.{eqb-true, eqb-false, cases_lt, false≢true, 
 use Rattle.std.proofs.lemmas.List.{get_or-replicate, length-take-le, length-replicate}
 use Rattle.std.proofs.Math.ListN.{get_or-eq_default}
 use Rattle.std.proofs.lemmas.List.FromFn.{fill_by_all}
-use Rattle.base_cells.specs.declared.Container.{Container}
+use Rattle.member_cells.specs.declared.containers_and_cells.Container.{Container}
 use Rattle.law_model.specs.rows.Interleave.{part_of}
 use Rattle.law_model.specs.rows.Sent.{rank_of, payload_by}
 use Rattle.law_model.specs.frames.Piece.{Piece, stream_of}

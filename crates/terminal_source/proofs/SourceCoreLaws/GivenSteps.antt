@@ -7,7 +7,7 @@ use Rattle.std.proofs.lemmas.Bool.Decides.{nat_tests}
 use Rattle.std.proofs.lemmas.List.{map-append, append-nil}
 use Rattle.std.proofs.lemmas.List.Elements.{filter-append, All-append}
 use Rattle.std.proofs.lemmas.List.Sums.{fold-append}
-use Rattle.law_model.specs.declared.table.Command.{Command}
+use Rattle.law_model.specs.declared.lcas_states.Command.{Command}
 use Rattle.law_model.specs.session.Scenario.{Scenario, DueCommand, DueFrame, orders_at, frames_at, lands_at, comes_at}
 use Rattle.law_model.specs.session.Scenario.{steps_in}
 use Rattle.law_model.specs.source.Table.{Told}
@@ -16,10 +16,10 @@ use Rattle.law_model.specs.source.Course.{Course, called, asks}
 use Rattle.law_model.specs.source.Client.{Stream, offered, stream_before, place_of}
 use Rattle.gfp_fill.specs.Queue.{Held}
 use Rattle.gfp_fill.specs.Areas.{Sender}
-use Rattle.gfp_fill.specs.Stream.{Stands as HasWritten}
+use Rattle.gfp_fill.specs.Stream.{FillerStands as HasWritten}
 use Rattle.terminal_source.specs.source_core.Step.{terminal_of}
 use Rattle.terminal_source.specs.source_core.Given.{with_frame, with_command, with_told, stream_now, source_now, nibbles_after}
-use Rattle.terminal_source.specs.source_core.Given.{Stands}
+use Rattle.terminal_source.specs.source_core.Given.{SourceStands}
 use Rattle.law_session.proofs.AlikeLaws.{Alike, alike-after, alike-place, alike-stream, map-same}
 use Rattle.terminal_source.proofs.SourceCoreLaws.AlikeLaws.{alike-active, alike-nibbles}
 use Rattle.terminal_source.proofs.SourceCoreLaws.TellLaws.{next-length, next-here, next-before}
@@ -95,8 +95,8 @@ pub Stands-with_frame : (lag size ticks : ℕ) (queue after : Held) (sender : Se
     (nibbles : List (List ℕ)) (told : Told) (scenario : Scenario) (cells : List (Option Told)) (frame : List ℕ) →
     ((stream : Stream) (place : ℕ) → HasWritten sender queue stream place →
     HasWritten sender after (offered stream frame) place) →
-    Stands (terminal_of lag size ticks queue sender table active nibbles told) scenario cells →
-    Stands (terminal_of lag size ticks after sender table active nibbles told) (with_frame scenario ticks frame) cells
+    SourceStands (terminal_of lag size ticks queue sender table active nibbles told) scenario cells →
+    SourceStands (terminal_of lag size ticks after sender table active nibbles told) (with_frame scenario ticks frame) cells
 Stands-with_frame lag size ticks queue next sender table active nibbles told scenario cells frame pushes stands =
     let more = with_frame scenario ticks frame in
     let alike = with_frame-alike scenario cells ticks frame in
@@ -179,8 +179,8 @@ source-with scenario cells t command =
 pub Stands-with_command : (lag size ticks : ℕ) (queue : Held) (sender : Sender) (table next : Course) (active : List ℕ)
     (nibbles : List (List ℕ)) (told : Told) (scenario : Scenario) (cells : List (Option Told)) (command : Command) →
     next ≡ called table (asks command) →
-    Stands (terminal_of lag size ticks queue sender table active nibbles told) scenario cells →
-    Stands (terminal_of lag size ticks queue sender next active nibbles told)
+    SourceStands (terminal_of lag size ticks queue sender table active nibbles told) scenario cells →
+    SourceStands (terminal_of lag size ticks queue sender next active nibbles told)
     (with_command scenario ticks command) cells
 Stands-with_command lag size ticks queue sender table next active nibbles told scenario cells command is stands =
     let more = with_command scenario ticks command in
@@ -229,8 +229,8 @@ with_told-alike scenario cells t said = record {
 
 pub Stands-with_told : (lag size ticks : ℕ) (queue : Held) (sender : Sender) (table : Course) (active : List ℕ)
     (nibbles : List (List ℕ)) (told said : Told) (scenario : Scenario) (cells : List (Option Told)) →
-    Stands (terminal_of lag size ticks queue sender table active nibbles told) scenario cells →
-    Stands (terminal_of lag size ticks queue sender table active nibbles said)
+    SourceStands (terminal_of lag size ticks queue sender table active nibbles told) scenario cells →
+    SourceStands (terminal_of lag size ticks queue sender table active nibbles said)
     (with_told scenario (steps_in ticks) said) cells
 Stands-with_told lag size ticks queue sender table active nibbles told said scenario cells stands =
     let more = with_told scenario (steps_in ticks) said in

@@ -14,10 +14,10 @@ use Rattle.law_model.specs.source.Client.{offered, stream_before, place_of}
 use Rattle.law_session.proofs.PlanLaws.{opening-fits}
 use Rattle.gfp_fill.specs.Queue.{Held, unbegun}
 use Rattle.gfp_fill.specs.Areas.{Sender}
-use Rattle.gfp_fill.specs.Stream.{unsent, Stands as HasWritten}
+use Rattle.gfp_fill.specs.Stream.{unsent, FillerStands as HasWritten}
 use Rattle.terminal_source.specs.source_core.Step.{AreNibbles, AreMembers, terminal_of, IsTerminal}
 use Rattle.terminal_source.specs.source_core.Given.{IsFresh, stream_now, source_now, course_now, nibbles_after, nibbles_now, active_now}
-use Rattle.terminal_source.specs.source_core.Given.{Stands}
+use Rattle.terminal_source.specs.source_core.Given.{SourceStands}
 
 -- no line carries payload
 none-members : (lines : ℕ) → AreMembers lines []
@@ -102,7 +102,7 @@ pub Stands-new : (lag size lines : ℕ) (queue : Held) (sender : Sender) (table 
     (nibbles : List (List ℕ)) (told : Told) (scenario : Scenario) →
     queue ≡ unbegun [] → HasWritten sender (unbegun []) (unsent []) 0 → table ≡ begun lines → active ≡ [] →
     nibbles ≡ replicate lines (replicate 16 0) → told ≡ untold →
-    IsFresh scenario lines lag size → Stands (terminal_of lag size 0 queue sender table active nibbles told) scenario []
+    IsFresh scenario lines lag size → SourceStands (terminal_of lag size 0 queue sender table active nibbles told) scenario []
 Stands-new lag size lines queue sender table active nibbles told scenario is_queue written is_table none zeros silent
     fresh =
     record {

@@ -2,8 +2,8 @@
 use Rattle.std.proofs.Common.{◌≡◌, ◌<◌, ℕ, zero, suc, ◌%◌, ◌^◌, ◌==◌, not, Bool, true, false, List, [], ◌∷◌}
 use Rattle.std.proofs.Common.{map, length, slice_index_or, refl, sym, ◌∙◌, ap, arith}
 use Rattle.std.proofs.lemmas.List.FromFn.{fill_by_all}
-use Rattle.base_remainder.specs.Bits.{bits, number}
-use Rattle.base_remainder.proofs.BitLaws.{length-bits, number-bits}
+use Rattle.check_remainder.specs.Bits.{bits, number}
+use Rattle.check_remainder.proofs.BitLaws.{length-bits, number-bits}
 use Rattle.law_model.specs.packets.Packet.{bit_nibble}
 use Rattle.law_model.specs.source.Table.{Told}
 use Rattle.law_model.specs.packets.Told.{oks_in}

@@ -10,8 +10,8 @@ use Rattle.std.proofs.lemmas.Bool.Decides.{nat_tests}
 use Rattle.std.proofs.lemmas.List.{get_or_at, get_or_past, get_or-replicate, length-append}
 use Rattle.std.proofs.lemmas.List.Elements.{All-head, All-tail}
 use Rattle.std.proofs.lemmas.List.FromFn.{length-map-range_with_len, get_or-map-range_with_len, fill_by_all}
-use Rattle.base_cells.specs.declared.BackCell.{BackCell}
-use Rattle.base_cells.specs.declared.Container.{Container}
+use Rattle.member_cells.specs.declared.containers_and_cells.BackCell.{BackCell}
+use Rattle.member_cells.specs.declared.containers_and_cells.Container.{Container}
 use Rattle.law_model.specs.session.Scenario.{Scenario, DueCommand, DueFrame, orders_at, frames_at, lands_at, comes_at}
 use Rattle.law_model.specs.session.Scenario.{steps_in}
 use Rattle.law_model.specs.packets.Packet.{packet_nibbles}
@@ -29,11 +29,11 @@ use Rattle.law_session.proofs.FeedbackLaws.{asked_all-table}
 use Rattle.law_session.proofs.SessionLaws.{Agree, Agree-append}
 use Rattle.gfp_fill.specs.Queue.{Held}
 use Rattle.gfp_fill.specs.Areas.{Sender}
-use Rattle.gfp_fill.specs.Stream.{Stands as HasWritten}
+use Rattle.gfp_fill.specs.Stream.{FillerStands as HasWritten}
 use Rattle.terminal_source.specs.source_core.Terminal.{needed_at}
 use Rattle.terminal_source.specs.source_core.Frame.{container_by, containers_by}
 use Rattle.terminal_source.specs.source_core.Step.{is_step, table_by, active_by, nibbles_of, nibbles_by, left_by, terminal_of}
-use Rattle.terminal_source.specs.source_core.Given.{with_cell, stream_now, course_now, nibbles_after, nibbles_now, active_now, Stands}
+use Rattle.terminal_source.specs.source_core.Given.{with_cell, stream_now, course_now, nibbles_after, nibbles_now, active_now, SourceStands}
 use Rattle.law_session.proofs.AlikeLaws.{Alike, alike-after, alike-place, alike-stream, map-same}
 
 -- ---- whether a return cell is there
@@ -372,7 +372,7 @@ pub next-fields : (lag size t : ℕ) (queue : Held) (sender : Sender) (table nex
     (cells : List (Option Told)) →
     next ≡ table_by (is_step t) back table → members ≡ active_by (is_step t) table active →
     said ≡ nibbles_by (is_step t) next told nibbles → left ≡ left_by (is_step t) told → IsDue lag t back →
-    Stands (terminal_of lag size t queue sender table active nibbles told) scenario cells →
+    SourceStands (terminal_of lag size t queue sender table active nibbles told) scenario cells →
     NextFields scenario (with_cell cells back) t next members said left
 next-fields lag size t queue sender table next active members nibbles said told left back scenario cells is_next
     are_members are_said is_left due stands =
@@ -423,8 +423,8 @@ pub Stands-ticked : (lag size t : ℕ) (queue later : Held) (sender further : Se
     NextFields scenario (with_cell cells back) t next members said left → IsDue lag t back →
     ((stream : Stream) (place : ℕ) → HasWritten sender queue stream place →
     HasWritten further later (reached (place + size * length members) stream) (place + size * length members)) →
-    Stands (terminal_of lag size t queue sender table active nibbles told) scenario cells →
-    Stands (terminal_of lag size (t + 1) later further next members said left) scenario (with_cell cells back)
+    SourceStands (terminal_of lag size t queue sender table active nibbles told) scenario cells →
+    SourceStands (terminal_of lag size (t + 1) later further next members said left) scenario (with_cell cells back)
 Stands-ticked lag size t queue later sender further table next active members nibbles said told left back scenario
     cells fields due writes stands = record {
       lines = ap (λ (course : Course). course.lines) fields.table_is;

@@ -1,7 +1,7 @@
 -- The fields of a source's table: the course that they hold, and what is true of them.
 use Rattle.std.specs.Prelude.{ℕ, Bool, false, List, take, replicate, ◌≡◌, ◌-◌, ◌≤◌, []}
 use Rattle.arrayvec.specs.ArrayVec.{ArrayVec}
-use Rattle.law_model.specs.declared.table.Command.{Command}
+use Rattle.law_model.specs.declared.lcas_states.Command.{Command}
 use Rattle.law_model.specs.source.Table.{Table}
 use Rattle.law_model.specs.source.Course.{Course}
 use Rattle.law_model.specs.packets.GroupBit.{bits_from}

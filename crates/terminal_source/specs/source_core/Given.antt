@@ -2,8 +2,8 @@
 use Rattle.std.specs.Prelude.{◌≡◌, ◌≤◌, ◌<◌, ℕ, zero, suc, ◌+◌, ◌-◌, nat_lt, Bool, List, [], ◌∷◌, ◌++◌, map, filter}
 use Rattle.std.specs.Prelude.{fold, take, length, replicate, All, Option, Some, None}
 use Rattle.std.specs.List.{range_with_len}
-use Rattle.base_cells.specs.declared.BackCell.{BackCell}
-use Rattle.law_model.specs.declared.table.Command.{Command}
+use Rattle.member_cells.specs.declared.containers_and_cells.BackCell.{BackCell}
+use Rattle.law_model.specs.declared.lcas_states.Command.{Command}
 use Rattle.law_model.specs.session.Scenario.{Scenario, DueCommand, DueFrame, frames_at, steps_in}
 use Rattle.law_model.specs.source.Journal.{with_items}
 use Rattle.law_model.specs.packets.Packet.{packet_nibbles}
@@ -13,7 +13,7 @@ use Rattle.law_model.specs.source.Source.{Source, after, source_at}
 use Rattle.law_model.specs.source.Course.{Course}
 use Rattle.law_model.specs.packets.Telling.{untold, telling_at, sent_packet}
 use Rattle.law_model.specs.source.Client.{Stream, offered, stream_before, place_of}
-use Rattle.gfp_fill.specs.Stream.{Stands as HasWritten}
+use Rattle.gfp_fill.specs.Stream.{FillerStands as HasWritten}
 use Rattle.terminal_source.specs.source_core.Terminal.{Terminal}
 
 -- ---- what a call adds to a scenario
@@ -84,7 +84,7 @@ active_now scenario cells ticks = active (after scenario cells (steps_in ticks -
 
 -- a terminal was given the frames and the commands of this scenario, each after as many ticks as it is due, what its
 -- packets tell, up to those of the next decision step, and these return cells
-pub record Stands (core : Terminal) (scenario : Scenario) (cells : List (Option Told)) : Type 0 where
+pub record SourceStands (core : Terminal) (scenario : Scenario) (cells : List (Option Told)) : Type 0 where
   pub lines : core.lines ≡ length scenario.windows
   pub lag : core.lag ≡ scenario.lag
   pub size : core.size ≡ scenario.size

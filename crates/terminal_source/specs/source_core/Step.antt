@@ -2,7 +2,7 @@
 use Rattle.std.specs.Prelude.{◌≡◌, ◌<◌, ◌≤◌, ℕ, ◌-◌, ◌*◌, ◌%◌, ◌==◌, Bool, true, false, List, map, length, All, Option}
 use Rattle.std.specs.Prelude.{option_map}
 use Rattle.std.specs.List.{range_with_len}
-use Rattle.base_cells.specs.declared.BackCell.{BackCell}
+use Rattle.member_cells.specs.declared.containers_and_cells.BackCell.{BackCell}
 use Rattle.law_model.specs.packets.Packet.{packet_nibbles}
 use Rattle.law_model.specs.source.Table.{Told, active}
 use Rattle.law_model.specs.packets.Told.{told_in}

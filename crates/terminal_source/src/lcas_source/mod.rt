@@ -4,7 +4,7 @@
 //! which a line is added, removed, passed over and brought forward are this project's own.
 
 ghost use Rattle.std.specs.Prelude.{◌≡◌, ℕ, ◌+◌, ◌-◌, ◌<◌, [], ◌∷◌, ◌++◌, true, List, Option, length};
-ghost use Rattle.base_remainder.specs.Bits.{xor};
+ghost use Rattle.check_remainder.specs.Bits.{xor};
 ghost use Rattle.law_model.specs.session.Scenario.{Scenario};
 ghost use Rattle.law_model.specs.source.Table.{Told};
 ghost use Rattle.law_model.specs.source.Source.{after};
@@ -12,7 +12,7 @@ ghost use Rattle.law_model.specs.source.Course.{Call, called, course_of, calls_b
 ghost use Rattle.law_model.specs.packets.GroupBit.{group_bit};
 
 mod group_bits;
-mod line_table;
+mod member_table;
 mod source_table;
 
 pub use law_model::{CommandFault, SourceState};

@@ -4,8 +4,8 @@ ghost use Rattle.std.specs.Prelude.{◌≡◌, ℕ, ◌+◌, ◌-◌, ◌%◌, �
 ghost use Rattle.std.specs.Prelude.{nat_lt, option_map};
 ghost use Rattle.std.specs.Bool.{OnTrue};
 ghost use Rattle.std.specs.List.{list_all};
-ghost use Rattle.law_model.specs.declared.table.Command.{Command as CommandData};
-ghost use Rattle.law_model.specs.declared.table.Command.TheVariants.{Add as add, Remove as remove};
+ghost use Rattle.law_model.specs.declared.lcas_states.Command.{Command as CommandData};
+ghost use Rattle.law_model.specs.declared.lcas_states.Command.TheVariants.{Add as add, Remove as remove};
 ghost use Rattle.law_model.specs.source.Table.{heard, active};
 ghost use Rattle.law_model.specs.packets.Told.{packet_read, packet_in, told_in};
 ghost use Rattle.law_model.specs.packets.Packet.{read_of};
@@ -17,9 +17,9 @@ ghost use Rattle.law_model.specs.source.Accepted.{refusal_in};
 ghost use Rattle.terminal_source.specs.lcas_source.Fields.{none_planned, changed_by};
 
 use crate::lcas_source::group_bits::GroupBits;
-use crate::lcas_source::line_table::LineTable;
+use crate::lcas_source::member_table::LineTable;
 use arrayvec::ArrayVec;
-use base_cells::BackCell;
+use member_cells::BackCell;
 use law_model::{Command, CommandFault, SourceState};
 use member_rows::lcas_packet::{Packet, read};
 use std::marker::Model;

@@ -1,11 +1,11 @@
 -- What is known of records that were read one after another.
 use Rattle.std.proofs.Common.{◌≡◌, ℕ, ◌+◌, ◌*◌, ◌≤◌, List, [], ◌∷◌, ◌++◌, length, Some, refl, ◌∙◌, ap, arith}
-use Rattle.text_captures.specs.declared.capture_file.form.Form.{Form}
-use Rattle.text_captures.specs.declared.capture_file.form.RecordHead.{RecordHead}
-use Rattle.text_captures.specs.declared.capture_file.clock.Clock.{Clock}
+use Rattle.text_captures.specs.declared.capture_file.capture_form.Form.{Form}
+use Rattle.text_captures.specs.declared.capture_file.capture_form.RecordHead.{RecordHead}
+use Rattle.text_captures.specs.declared.capture_file.record_clock.Clock.{Clock}
 use Rattle.text_captures.specs.capture_file.Form.{Record, first_record}
 use Rattle.text_captures.specs.capture_file.Reading.{due_of}
-use Rattle.text_captures.specs.capture_file.Clock.{Stands}
+use Rattle.text_captures.specs.capture_file.Clock.{ClockStands}
 use Rattle.text_captures.proofs.CaptureFileLaws.RecordLaws.{HasCut, has-begun, has-next}
 use Rattle.text_captures.proofs.CaptureFileLaws.ReadingLaws.{AreSound}
 
@@ -13,9 +13,9 @@ use Rattle.text_captures.proofs.CaptureFileLaws.ReadingLaws.{AreSound}
 pub record HasRead (form : Form) (body rest : List ℕ) (clock : Clock) (before : List Record) : Type 0 where
   pub cut : HasCut form.order body rest before
   pub unit : clock.unit ≡ form.unit
-  pub stands : Stands clock before
+  pub stands : ClockStands clock before
 
-pub read-begun : (form : Form) (body : List ℕ) (clock : Clock) → clock.unit ≡ form.unit → Stands clock [] →
+pub read-begun : (form : Form) (body : List ℕ) (clock : Clock) → clock.unit ≡ form.unit → ClockStands clock [] →
     HasRead form body body clock []
 read-begun form body clock unit stands = record { cut = has-begun form.order body; unit = unit; stands = stands }
 
@@ -30,7 +30,7 @@ pub record HasChecked (form : Form) (body rest : List ℕ) (clock : Clock) (numb
 pub read-more : (form : Form) (body rest behind octets : List ℕ) (old new : Clock) (head : RecordHead)
     (before : List Record) → HasRead form body rest old before
     → first_record form.order rest ≡ Some (record { head = head; octets = octets }, behind) → new.unit ≡ old.unit
-    → ((b : List Record) (r : Record) → Stands old b → r.head ≡ head → Stands new (b ++ r ∷ []))
+    → ((b : List Record) (r : Record) → ClockStands old b → r.head ≡ head → ClockStands new (b ++ r ∷ []))
     → HasRead form body behind new (before ++ record { head = head; octets = octets } ∷ [])
 read-more form body rest behind octets old new head before read is unit stands = record {
   cut = has-next form.order body rest behind before (record { head = head; octets = octets }) is read.cut;

@@ -4,10 +4,10 @@ use Rattle.std.proofs.Common.{append-nil}
 use Rattle.std.specs.Int.{w16, to_be_bytes}
 use Rattle.std.specs.List.{flat_map}
 use Rattle.std.proofs.lemmas.List.Concat.{flat_map-append}
-use Rattle.base_remainder.specs.Bits.{bits, octet_bits, octets_of, xors}
-use Rattle.base_remainder.proofs.OctetLaws.{octet_bits-bytes_high_first}
-use Rattle.base_hec16.specs.Hec.{hec_of, hec_bits}
-use Rattle.base_hec16.proofs.HecLaws.{bits-hec_of}
+use Rattle.check_remainder.specs.Bits.{bits, octet_bits, octets_of, xors}
+use Rattle.check_remainder.proofs.OctetLaws.{octet_bits-bytes_high_first}
+use Rattle.check_hec16.specs.Hec.{hec_of, hec_bits}
+use Rattle.check_hec16.proofs.HecLaws.{bits-hec_of}
 use Rattle.law_model.specs.frames.Core.{core_header}
 use Rattle.law_model.specs.frames.Piece.{client, area_of}
 use Rattle.law_model.specs.frames.TypeHeader.{type_header}

@@ -4,7 +4,7 @@ use Rattle.std.proofs.Common.{◌∙◌, ap, arith, append-nil}
 use Rattle.std.proofs.Math.Seq.{take-add}
 use Rattle.std.proofs.lemmas.Grind.{flat_map-append}
 use Rattle.hex.specs.Hex.{encode_with, encode_lower, lower_digits}
-use Rattle.text_captures.specs.declared.capture_file.form.Form.{Form}
+use Rattle.text_captures.specs.declared.capture_file.capture_form.Form.{Form}
 use Rattle.text_captures.specs.capture_file.Form.{Record}
 use Rattle.text_captures.specs.capture_file.Reading.{due_of, client_frame, frames_behind}
 use Rattle.text_captures.specs.capture_file.Texts.{frame_text, frame_texts}

@@ -3,15 +3,15 @@ use Rattle.std.proofs.Common.{◌≡◌, ℕ, suc, ◌-◌, ◌/◌, ◌<◌, ma
 use Rattle.std.proofs.Common.{Err, refl, sym, ◌∙◌, ap, arith, append_assoc, append-nil}
 use Rattle.std.specs.Option.{unwrap_or}
 use Rattle.std.proofs.lemmas.List.{map-append}
-use Rattle.text_captures.specs.declared.capture_file.form.TimeUnit.{TimeUnit}
-use Rattle.text_captures.specs.declared.capture_file.form.Form.{Form}
-use Rattle.text_captures.specs.declared.capture_file.form.RecordFault.{RecordFault}
-use Rattle.text_captures.specs.declared.capture_file.form.RecordFault.TheVariants as wrong
-use Rattle.text_captures.specs.declared.capture_file.form.CaptureFault.TheVariants as fault
+use Rattle.text_captures.specs.declared.capture_file.capture_form.TimeUnit.{TimeUnit}
+use Rattle.text_captures.specs.declared.capture_file.capture_form.Form.{Form}
+use Rattle.text_captures.specs.declared.capture_file.capture_form.RecordFault.{RecordFault}
+use Rattle.text_captures.specs.declared.capture_file.capture_form.RecordFault.TheVariants as wrong
+use Rattle.text_captures.specs.declared.capture_file.capture_form.CaptureFault.TheVariants as fault
 use Rattle.text_captures.specs.capture_file.Form.{Record, records_of, rest_of}
 use Rattle.text_captures.specs.capture_file.Reading.{time_of, ticks_between, greatest, due_of, record_fault, faults_behind}
 use Rattle.text_captures.specs.capture_file.Reading.{frames_behind, client_frame, one_on, first_there, said_with, body_said}
-use Rattle.text_captures.specs.capture_file.Clock.{Stands}
+use Rattle.text_captures.specs.capture_file.Clock.{ClockStands}
 
 -- ---- due ticks
 max-assoc : (a b d : ℕ) → max a (max b d) ≡ max (max a b) d
@@ -28,7 +28,7 @@ greatest-more (m ∷ ns) n = ap (λ x. max m x) (greatest-more ns n) ∙ max-ass
 no-ticks : (t : ℕ) → 0 ≡ max (ticks_between t t) 0
 no-ticks t = let e : t - t ≡ 0 = omega arith in rw e refl
 
-pub stands-begun : (unit : TimeUnit) → Stands (record { unit = unit; first = None; due = 0 }) []
+pub stands-begun : (unit : TimeUnit) → ClockStands (record { unit = unit; first = None; due = 0 }) []
 unfolding greatest
 stands-begun unit = record { first = refl; due = refl }
 
@@ -36,8 +36,8 @@ stands-begun unit = record { first = refl; due = refl }
 pub stands-more : (unit : TimeUnit) (first : Option ℕ) (due time next : ℕ) (before : List Record) (r : Record) →
     time ≡ time_of unit r.head
     → next ≡ max due ((time - unwrap_or first time) / 125000) →
-    Stands (record { unit = unit; first = first; due = due }) before
-    → Stands (record { unit = unit; first = Some (unwrap_or first time); due = next }) (before ++ r ∷ [])
+    ClockStands (record { unit = unit; first = first; due = due }) before
+    → ClockStands (record { unit = unit; first = Some (unwrap_or first time); due = next }) (before ++ r ∷ [])
 unfolding greatest
 stands-more unit first due time next [] r at moves stands =
     let at_first : unwrap_or first time ≡ time = ap (λ o. unwrap_or o time) stands.first in record {

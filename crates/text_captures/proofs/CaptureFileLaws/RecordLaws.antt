@@ -7,8 +7,8 @@ use Rattle.std.specs.Option.{unwrap_or}
 use Rattle.std.proofs.lemmas.Bool.{le-leb, lt-leb, leb-true}
 use Rattle.std.proofs.lemmas.List.{length-drop}
 use Rattle.std.proofs.Math.Seq.{take-length}
-use Rattle.text_captures.specs.declared.capture_file.form.ByteOrder.{ByteOrder}
-use Rattle.text_captures.specs.declared.capture_file.form.RecordHead.{RecordHead}
+use Rattle.text_captures.specs.declared.capture_file.capture_form.ByteOrder.{ByteOrder}
+use Rattle.text_captures.specs.declared.capture_file.capture_form.RecordHead.{RecordHead}
 use Rattle.text_captures.specs.capture_file.Form.{number_at, Record, Cut, head_of, first_record, behind_record, cut_then, cut_in}
 use Rattle.text_captures.specs.capture_file.Form.{cut_of, records_of, rest_of}
 

@@ -6,10 +6,10 @@ use Rattle.std.proofs.lemmas.Bool.{eq-eqb, le-ltb}
 use Rattle.std.proofs.lemmas.List.{map-append, drop-drop}
 use Rattle.std.proofs.lemmas.Nat.{from_le_bytes-to_le_bytes_4}
 use Rattle.std.proofs.Math.Seq.{take-append_seam, drop-append_seam}
-use Rattle.text_captures.specs.declared.capture_file.form.ByteOrder.TheVariants.{LeastFirst}
-use Rattle.text_captures.specs.declared.capture_file.form.TimeUnit.TheVariants.{Microseconds}
-use Rattle.text_captures.specs.declared.capture_file.form.Form.{Form}
-use Rattle.text_captures.specs.declared.capture_file.form.RecordHead.{RecordHead}
+use Rattle.text_captures.specs.declared.capture_file.capture_form.ByteOrder.TheVariants.{LeastFirst}
+use Rattle.text_captures.specs.declared.capture_file.capture_form.TimeUnit.TheVariants.{Microseconds}
+use Rattle.text_captures.specs.declared.capture_file.capture_form.Form.{Form}
+use Rattle.text_captures.specs.declared.capture_file.capture_form.RecordHead.{RecordHead}
 use Rattle.text_captures.specs.capture_file.Form.{Record, Cut, head_of, first_record, behind_record, cut_of, form_of}
 use Rattle.text_captures.specs.capture_file.Reading.{time_of, ticks_between, ticks_in, due_of, record_fault, faults_behind}
 use Rattle.text_captures.specs.capture_file.Reading.{frames_behind, one_on, there_or, first_there, greatest, capture_said, said_by}

@@ -5,15 +5,15 @@ use Rattle.std.specs.Prelude.{ℕ, zero, suc, ◌+◌, ◌*◌, ◌/◌, ◌%◌
 use Rattle.std.specs.Prelude.{List, [], ◌∷◌, length, take, drop, slice_index, Option, Some, None, Result, Ok, Err}
 use Rattle.std.specs.Prelude.{if◌then◌else◌}
 use Rattle.std.specs.Int.{w16, w32, from_le_bytes, from_be_bytes}
-use Rattle.text_captures.specs.declared.capture_file.form.ByteOrder.{ByteOrder}
-use Rattle.text_captures.specs.declared.capture_file.form.ByteOrder.TheVariants.{LeastFirst, MostFirst}
-use Rattle.text_captures.specs.declared.capture_file.form.TimeUnit.{TimeUnit}
-use Rattle.text_captures.specs.declared.capture_file.form.TimeUnit.TheVariants.{Microseconds, Nanoseconds}
-use Rattle.text_captures.specs.declared.capture_file.form.Form.{Form}
-use Rattle.text_captures.specs.declared.capture_file.form.RecordHead.{RecordHead}
-use Rattle.text_captures.specs.declared.capture_file.form.HeadFault.{HeadFault}
-use Rattle.text_captures.specs.declared.capture_file.form.HeadFault.TheVariants.{PcapNg, Magic, Version, Link, Fcs}
-use Rattle.text_captures.specs.declared.capture_file.form.HeadFault.TheVariants as wrong
+use Rattle.text_captures.specs.declared.capture_file.capture_form.ByteOrder.{ByteOrder}
+use Rattle.text_captures.specs.declared.capture_file.capture_form.ByteOrder.TheVariants.{LeastFirst, MostFirst}
+use Rattle.text_captures.specs.declared.capture_file.capture_form.TimeUnit.{TimeUnit}
+use Rattle.text_captures.specs.declared.capture_file.capture_form.TimeUnit.TheVariants.{Microseconds, Nanoseconds}
+use Rattle.text_captures.specs.declared.capture_file.capture_form.Form.{Form}
+use Rattle.text_captures.specs.declared.capture_file.capture_form.RecordHead.{RecordHead}
+use Rattle.text_captures.specs.declared.capture_file.capture_form.HeadFault.{HeadFault}
+use Rattle.text_captures.specs.declared.capture_file.capture_form.HeadFault.TheVariants.{PcapNg, Magic, Version, Link, Fcs}
+use Rattle.text_captures.specs.declared.capture_file.capture_form.HeadFault.TheVariants as wrong
 
 -- ---- numbers
 -- those of two and of four octets at a place

@@ -3,8 +3,8 @@
 use Rattle.std.specs.Prelude.{ℕ, List, [], ◌∷◌, ◌++◌, length}
 use Rattle.std.specs.Int.{w16, to_be_bytes}
 use Rattle.std.specs.List.{flat_map}
-use Rattle.base_remainder.specs.Bits.{bits, octet_bits, octets_of, xors}
-use Rattle.base_hec16.specs.Hec.{hec_of}
+use Rattle.check_remainder.specs.Bits.{bits, octet_bits, octets_of, xors}
+use Rattle.check_hec16.specs.Hec.{hec_of}
 use Rattle.law_model.specs.frames.Piece.{client, area_of}
 use Rattle.text_captures.specs.capture_file.Written.{RowFrame, record_octets}
 

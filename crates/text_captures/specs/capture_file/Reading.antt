@@ -1,16 +1,16 @@
 -- What a capture says: frames of a client, each with the tick in which it is due; or the first that is wrong.
 use Rattle.std.specs.Prelude.{ℕ, ◌+◌, ◌-◌, ◌*◌, ◌/◌, ◌==◌, Bool, true, false, not, nat_lt, max, List, [], ◌∷◌, ◌++◌}
 use Rattle.std.specs.Prelude.{length, map, replicate, drop, Option, Some, None, Result, Ok, Err, if◌then◌else◌}
-use Rattle.base_crc32.specs.Crc32.{least_first, fcs_in}
-use Rattle.text_captures.specs.declared.capture_file.form.TimeUnit.{TimeUnit}
-use Rattle.text_captures.specs.declared.capture_file.form.TimeUnit.TheVariants.{Microseconds, Nanoseconds}
-use Rattle.text_captures.specs.declared.capture_file.form.Form.{Form}
-use Rattle.text_captures.specs.declared.capture_file.form.RecordHead.{RecordHead}
-use Rattle.text_captures.specs.declared.capture_file.form.HeadFault.{HeadFault}
-use Rattle.text_captures.specs.declared.capture_file.form.RecordFault.{RecordFault}
-use Rattle.text_captures.specs.declared.capture_file.form.RecordFault.TheVariants as wrong
-use Rattle.text_captures.specs.declared.capture_file.form.CaptureFault.{CaptureFault}
-use Rattle.text_captures.specs.declared.capture_file.form.CaptureFault.TheVariants as fault
+use Rattle.check_crc32.specs.Crc32.{least_first, fcs_in}
+use Rattle.text_captures.specs.declared.capture_file.capture_form.TimeUnit.{TimeUnit}
+use Rattle.text_captures.specs.declared.capture_file.capture_form.TimeUnit.TheVariants.{Microseconds, Nanoseconds}
+use Rattle.text_captures.specs.declared.capture_file.capture_form.Form.{Form}
+use Rattle.text_captures.specs.declared.capture_file.capture_form.RecordHead.{RecordHead}
+use Rattle.text_captures.specs.declared.capture_file.capture_form.HeadFault.{HeadFault}
+use Rattle.text_captures.specs.declared.capture_file.capture_form.RecordFault.{RecordFault}
+use Rattle.text_captures.specs.declared.capture_file.capture_form.RecordFault.TheVariants as wrong
+use Rattle.text_captures.specs.declared.capture_file.capture_form.CaptureFault.{CaptureFault}
+use Rattle.text_captures.specs.declared.capture_file.capture_form.CaptureFault.TheVariants as fault
 use Rattle.text_captures.specs.capture_file.Form.{Record, form_of, records_of, rest_of}
 
 -- ---- when a record's frame is due

@@ -4,12 +4,12 @@
 use Rattle.std.specs.Prelude.{ℕ, List, ◌++◌, codes, decimal}
 use Rattle.std.specs.List.{flat_map}
 use Rattle.hex.specs.Hex.{encode_lower}
-use Rattle.text_captures.specs.declared.capture_file.form.HeadFault.{HeadFault}
-use Rattle.text_captures.specs.declared.capture_file.form.HeadFault.TheVariants as head
-use Rattle.text_captures.specs.declared.capture_file.form.RecordFault.{RecordFault}
-use Rattle.text_captures.specs.declared.capture_file.form.RecordFault.TheVariants as wrong
-use Rattle.text_captures.specs.declared.capture_file.form.CaptureFault.{CaptureFault}
-use Rattle.text_captures.specs.declared.capture_file.form.CaptureFault.TheVariants.{Head, Record}
+use Rattle.text_captures.specs.declared.capture_file.capture_form.HeadFault.{HeadFault}
+use Rattle.text_captures.specs.declared.capture_file.capture_form.HeadFault.TheVariants as head
+use Rattle.text_captures.specs.declared.capture_file.capture_form.RecordFault.{RecordFault}
+use Rattle.text_captures.specs.declared.capture_file.capture_form.RecordFault.TheVariants as wrong
+use Rattle.text_captures.specs.declared.capture_file.capture_form.CaptureFault.{CaptureFault}
+use Rattle.text_captures.specs.declared.capture_file.capture_form.CaptureFault.TheVariants.{Head, Record}
 use Rattle.text_captures.specs.capture_file.Reading.{DueFrame}
 
 -- ---- frames

@@ -1,7 +1,7 @@
 //! GFP frames that hold client frames are written as the records of a capture.
 ghost use Rattle.std.specs.Prelude.{◌≡◌, ◌≤◌, ◌+◌, ℕ, List, [], ◌∷◌, ◌++◌, length, OnOk, OnErr};
-ghost use Rattle.base_io.specs.Start.{Start};
-ghost use Rattle.base_io.specs.Transfer.{Appends, AppendsPart};
+ghost use Rattle.octet_io.specs.Start.{Start};
+ghost use Rattle.octet_io.specs.Transfer.{Appends, AppendsPart};
 ghost use Rattle.law_model.specs.Limits.{longest_frame};
 ghost use Rattle.law_model.specs.frames.TypeHeader.{type_header};
 ghost use Rattle.text_got.specs.Told.{HasText, start_at};
@@ -10,8 +10,8 @@ ghost use Rattle.text_captures.specs.capture_file.Gfp.{plain_header, gfp_capture
 ghost use Rattle.text_captures.specs.capture_file.Out.{HasGfp, gfp_name_of};
 
 use crate::capture_file::capture_out::add_head;
-use base_hec16::hec;
-use base_io::{ByteSink, Failed};
+use check_hec16::hec;
+use octet_io::{ByteSink, Failed};
 use gfp_headers::type_bytes;
 use text_got::GotLines;
 

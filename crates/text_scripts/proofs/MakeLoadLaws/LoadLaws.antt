@@ -7,10 +7,10 @@ use Rattle.std.proofs.lemmas.List.{append-nil, append_assoc, length-append, leng
 use Rattle.std.proofs.lemmas.List.FromFn.{length-map-range_with_len, get_or-map-range_with_len, map-range_with_len_more}
 use Rattle.std.proofs.lemmas.Nat.{mod_below}
 use Rattle.std.proofs.lemmas.List.Elements.{All-cons, All-append, All-replicate}
-use Rattle.law_model.specs.declared.script.Item.{Item}
-use Rattle.law_model.specs.declared.script.ItemKind.TheVariants.{Frame, Add}
+use Rattle.law_model.specs.declared.script_types.Item.{Item}
+use Rattle.law_model.specs.declared.script_types.ItemKind.TheVariants.{Frame, Add}
 use Rattle.law_model.specs.session.Counts.{due_of, dues_of, frame_dues, command_dues}
-use Rattle.law_model.specs.declared.script.Script.{Script}
+use Rattle.law_model.specs.declared.script_types.Script.{Script}
 use Rattle.law_model.specs.members.Damage.{slip_after, AreWindows}
 use Rattle.law_model.specs.session.Plan.{greatest, greatest_slip}
 use Rattle.law_model.specs.session.Valid.{IsItem, HasFailures, HasLosses, AreApart, AreItems, IsValid}

@@ -10,13 +10,13 @@ use Rattle.std.proofs.Math.Nat.{div-lt_iff_lt-mul, mul-le-mul_left, lt_of_mul-lt
 use Rattle.std.proofs.lemmas.Grind.{div_ceil_times}
 use Rattle.hex.specs.Hex.{encode_lower, lower_digits}
 use Rattle.hex.proofs.HexLemmas.{length-encode_with}
-use Rattle.base_crc32.specs.Crc32.{least_first, ordered, fcs_of, fcs_in}
-use Rattle.base_crc32.proofs.CheckLaws.{length-fcs_of}
+use Rattle.check_crc32.specs.Crc32.{least_first, ordered, fcs_of, fcs_in}
+use Rattle.check_crc32.proofs.CheckLaws.{length-fcs_of}
 use Rattle.text_scripts.specs.make_load.Draws.{draws, after_draws, next}
 use Rattle.text_scripts.proofs.MakeLoadLaws.DrawLaws.{length-draws}
-use Rattle.text_scripts.specs.declared.rate_load.lines.RateLoad.{RateLoad}
-use Rattle.text_scripts.specs.rate_load.Lines.{IsRateLoad, due_of, count_of, head, content_of, frame_of, state_of, start_of, line_at}
-use Rattle.text_scripts.specs.rate_load.Lines.{lines_of}
+use Rattle.text_scripts.specs.declared.rate_load.rate_frames.RateLoad.{RateLoad}
+use Rattle.text_scripts.specs.rate_load.RateTexts.{IsRateLoad, due_of, count_of, head, content_of, frame_of, state_of, start_of, line_at}
+use Rattle.text_scripts.specs.rate_load.RateTexts.{lines_of}
 
 -- ---- draws
 after_draws-add : (a b state : ℕ) → after_draws (a + b) state ≡ after_draws b (after_draws a state)

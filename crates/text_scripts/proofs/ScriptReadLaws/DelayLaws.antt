@@ -3,11 +3,11 @@ use Rattle.std.proofs.Common.{◌≡◌, ℕ, ◌+◌, List, [], ◌∷◌, leng
 use Rattle.std.proofs.lemmas.Bool.Decides.{nat_tests}
 use Rattle.std.specs.Prelude.{Option, None, Some, replicate, option_map}
 use Rattle.std.specs.Option.{option_or}
-use Rattle.text_lines.specs.declared.fault.FieldFault.{FieldFault}
+use Rattle.text_lines.specs.declared.field_fault.FieldFault.{FieldFault}
 use Rattle.text_lines.specs.Words.{number_of}
 use Rattle.text_lines.specs.Fields.{fields_fault, number_fault, within}
-use Rattle.text_scripts.specs.declared.script_read.fault.LineFault.{LineFault}
-use Rattle.text_scripts.specs.declared.script_read.fault.LineFault.TheVariants.{Field}
+use Rattle.text_scripts.specs.declared.script_read.script_fault.LineFault.{LineFault}
+use Rattle.text_scripts.specs.declared.script_read.script_fault.LineFault.TheVariants.{Field}
 use Rattle.text_scripts.specs.script_read.Drafts.{delays_fault}
 
 -- the first fault of delays, of which the first is the word at a place

@@ -3,19 +3,19 @@ use Rattle.std.proofs.Common.{◌≡◌, ℕ, ◌+◌, ◌<◌, ◌≤◌, List,
 use Rattle.std.specs.Prelude.{Option, None, Some, Err, Result, nat_lt}
 use Rattle.std.proofs.lemmas.Bool.{cases_lt}
 use Rattle.std.proofs.lemmas.Bool.Decides.{nat_tests}
-use Rattle.text_scripts.specs.declared.script_read.fault.LineFault.{LineFault}
-use Rattle.text_scripts.specs.declared.script_read.fault.LineFault.TheVariants.{Missing}
-use Rattle.text_scripts.specs.declared.script_read.fault.LineStop.{LineStop}
-use Rattle.text_scripts.specs.declared.script_read.fault.LineStop.TheVariants as stop
+use Rattle.text_scripts.specs.declared.script_read.script_fault.LineFault.{LineFault}
+use Rattle.text_scripts.specs.declared.script_read.script_fault.LineFault.TheVariants.{Missing}
+use Rattle.text_scripts.specs.declared.script_read.script_fault.LineStop.{LineStop}
+use Rattle.text_scripts.specs.declared.script_read.script_fault.LineStop.TheVariants as stop
 use Rattle.text_lines.specs.Words.{words}
 use Rattle.text_scripts.specs.script_read.Lifted.{IsStop}
 use Rattle.text_lines.specs.Language.{said_from}
 use Rattle.text_lines.proofs.LanguageLaws.{line_faulty, line_sound}
-use Rattle.text_scripts.specs.declared.script_read.fault.ScriptFault.{ScriptFault}
-use Rattle.text_scripts.specs.declared.script_read.fault.ScriptFault.TheVariants as fault
-use Rattle.text_scripts.specs.declared.script_read.keyword.Keyword.{Keyword}
-use Rattle.text_scripts.specs.declared.script_read.draft.Draft.{Draft}
-use Rattle.text_scripts.specs.declared.script_read.draft.Statement.{Statement}
+use Rattle.text_scripts.specs.declared.script_read.script_fault.ScriptFault.{ScriptFault}
+use Rattle.text_scripts.specs.declared.script_read.script_fault.ScriptFault.TheVariants as fault
+use Rattle.text_scripts.specs.declared.script_read.script_keyword.Keyword.{Keyword}
+use Rattle.text_scripts.specs.declared.script_read.script_draft.Draft.{Draft}
+use Rattle.text_scripts.specs.declared.script_read.script_draft.Statement.{Statement}
 use Rattle.text_scripts.specs.script_read.Statements.{awaited, words_fault, words_said, after}
 use Rattle.text_scripts.specs.script_read.Drafts.{fault_at}
 use Rattle.text_scripts.specs.script_read.Pieces.{IsToldAt}

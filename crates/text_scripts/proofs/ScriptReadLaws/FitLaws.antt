@@ -8,17 +8,17 @@ use Rattle.std.specs.Option.{option_or}
 use Rattle.std.proofs.lemmas.Bool.{not-false, leb-false, ltb-false, eqb-true, and_parts, or_cases, cases_Bool, cases_lt}
 use Rattle.std.proofs.lemmas.Bool.Decides.{nat_tests}
 use Rattle.std.proofs.lemmas.List.Elements.{All-nil, All-cons}
-use Rattle.text_lines.specs.declared.fault.FieldFault.TheVariants.{Name}
-use Rattle.text_scripts.specs.declared.script_read.fault.LineFault.TheVariants as wrong
+use Rattle.text_lines.specs.declared.field_fault.FieldFault.TheVariants.{Name}
+use Rattle.text_scripts.specs.declared.script_read.script_fault.LineFault.TheVariants as wrong
 use Rattle.text_lines.specs.Words.{word_at, is_skipped, number_of, number_at}
 use Rattle.text_lines.specs.Fields.{within, any, above, digits, one_of, where_true, number_fault, name_fault}
 use Rattle.text_lines.specs.Fields.{fields_fault}
 use Rattle.text_lines.proofs.FieldLaws.{or_none, where_none, map_none, number_ok, digits_ok, one_field, two_fields}
 use Rattle.text_lines.proofs.FieldLaws.{four_fields}
 use Rattle.law_model.specs.session.Valid.{IsWithin, IsSize}
-use Rattle.text_scripts.specs.declared.script_read.keyword.Keyword.{Keyword}
-use Rattle.text_scripts.specs.declared.script_read.keyword.Keyword.TheVariants as word
-use Rattle.text_scripts.specs.declared.script_read.draft.Draft.{Draft}
+use Rattle.text_scripts.specs.declared.script_read.script_keyword.Keyword.{Keyword}
+use Rattle.text_scripts.specs.declared.script_read.script_keyword.Keyword.TheVariants as word
+use Rattle.text_scripts.specs.declared.script_read.script_draft.Draft.{Draft}
 use Rattle.text_scripts.specs.script_read.Statements.{keyword_of, place, awaited, part_of, place_fault, container_names, fields}
 use Rattle.text_scripts.specs.script_read.Statements.{size_of, windows_of, last_end, last_lost, is_full, is_early, full_fault}
 use Rattle.text_scripts.specs.script_read.Statements.{early_fault, rest_fault, known_fault, words_fault, said, known_said}

@@ -4,15 +4,15 @@ use Rattle.std.proofs.Common.{replicate, subst, All, inr}
 use Rattle.std.specs.List.Sorted.{IsNonDecreasing}
 use Rattle.std.proofs.lemmas.List.{length-append, length-set, length-replicate, append-nil}
 use Rattle.std.proofs.lemmas.List.Elements.{All-set, All-get_or, All-replicate}
-use Rattle.law_model.specs.declared.window.Window.{Window}
-use Rattle.law_model.specs.declared.script.Item.{Item}
-use Rattle.law_model.specs.declared.script.ItemKind.{ItemKind}
-use Rattle.law_model.specs.declared.script.ItemKind.TheVariants as item
-use Rattle.law_model.specs.declared.script.Config.{Config}
+use Rattle.law_model.specs.declared.window_types.Window.{Window}
+use Rattle.law_model.specs.declared.script_types.Item.{Item}
+use Rattle.law_model.specs.declared.script_types.ItemKind.{ItemKind}
+use Rattle.law_model.specs.declared.script_types.ItemKind.TheVariants as item
+use Rattle.law_model.specs.declared.script_types.Config.{Config}
 use Rattle.law_model.specs.session.Counts.{Due, command_due, due_of, dues_of, frame_dues, command_dues}
-use Rattle.text_scripts.specs.declared.script_read.draft.Draft.{Draft}
-use Rattle.text_scripts.specs.declared.script_read.draft.Statement.{Statement}
-use Rattle.text_scripts.specs.declared.script_read.draft.Statement.TheVariants as says
+use Rattle.text_scripts.specs.declared.script_read.script_draft.Draft.{Draft}
+use Rattle.text_scripts.specs.declared.script_read.script_draft.Statement.{Statement}
+use Rattle.text_scripts.specs.declared.script_read.script_draft.Statement.TheVariants as says
 use Rattle.text_scripts.specs.script_read.Statements.{windows_of, after, after_item, at_first}
 use Rattle.law_model.specs.session.Valid.{HasLosses, IsItem, AreItems, IsEvent, AreApart}
 use Rattle.text_scripts.specs.script_read.Drafts.{AreInOrder, AreFailures, HasConfig, IsDraft, IsNext, IsNextLost, Fits}

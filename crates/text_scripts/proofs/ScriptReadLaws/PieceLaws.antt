@@ -9,15 +9,15 @@ use Rattle.text_lines.specs.Words.{words}
 use Rattle.text_lines.specs.Language.{said_from, said_by}
 use Rattle.text_scripts.specs.script_read.Lifted.{IsStop}
 use Rattle.text_scripts.specs.script_read.Drafts.{fault_at}
-use Rattle.text_scripts.specs.declared.script_read.draft.Draft.{Draft}
-use Rattle.text_scripts.specs.declared.script_read.draft.Statement.{Statement}
-use Rattle.text_scripts.specs.declared.script_read.fault.LineStop.{LineStop}
-use Rattle.text_scripts.specs.declared.script_read.fault.ScriptFault.{ScriptFault}
-use Rattle.text_scripts.specs.declared.script_read.fault.ScriptFault.TheVariants as fault
+use Rattle.text_scripts.specs.declared.script_read.script_draft.Draft.{Draft}
+use Rattle.text_scripts.specs.declared.script_read.script_draft.Statement.{Statement}
+use Rattle.text_scripts.specs.declared.script_read.script_fault.LineStop.{LineStop}
+use Rattle.text_scripts.specs.declared.script_read.script_fault.ScriptFault.{ScriptFault}
+use Rattle.text_scripts.specs.declared.script_read.script_fault.ScriptFault.TheVariants as fault
 use Rattle.text_scripts.specs.script_read.Statements.{words_fault, words_said, after}
 use Rattle.text_scripts.specs.script_read.Script.{script_lines, script_of}
-use Rattle.text_scripts.specs.script_read.Pieces.{Stands, Follows}
-use Rattle.text_scripts.specs.declared.script_read.pieces.ScriptReader.{ScriptReader}
+use Rattle.text_scripts.specs.script_read.Pieces.{ReaderStands, Follows}
+use Rattle.text_scripts.specs.declared.script_read.script_reader.ScriptReader.{ScriptReader}
 use Rattle.text_scripts.proofs.ScriptReadLaws.DraftLaws.{line_said, lines_stop}
 
 -- what was read of a list, and what wasn't
@@ -92,7 +92,7 @@ piece_read text piece k n₀ n d₀ d stands read more =
 
 -- all of a text but a rest, of which some was read
 pub follows_on : (reader new : ScriptReader) (rest left all : List ℕ) (k : ℕ) (follows : Follows reader rest all) →
-    left ≡ drop k rest → Stands new (follows.text ++ take k rest) → Follows new left all
+    left ≡ drop k rest → ReaderStands new (follows.text ++ take k rest) → Follows new left all
 follows_on reader new rest left all k follows is stands = record {
   text = follows.text ++ take k rest;
   is = follows.is ∙ ap (λ (t : List ℕ). follows.text ++ t) (split rest left k is)

@@ -2,22 +2,22 @@
 use Rattle.std.specs.Prelude.{◌≡◌, ◌⊎◌, ⊤, ℕ, ◌-◌, ◌==◌, ◌<◌, ◌≤◌, not, nat_lt, List, [], ◌∷◌, length, replicate}
 use Rattle.std.specs.Prelude.{Option, option_map, All}
 use Rattle.std.specs.Option.{option_or}
-use Rattle.law_model.specs.declared.window.Window.{Window}
-use Rattle.law_model.specs.declared.script.Config.{Config}
-use Rattle.law_model.specs.declared.script.ItemKind.{ItemKind}
-use Rattle.law_model.specs.declared.script.ItemKind.TheVariants as item
+use Rattle.law_model.specs.declared.window_types.Window.{Window}
+use Rattle.law_model.specs.declared.script_types.Config.{Config}
+use Rattle.law_model.specs.declared.script_types.ItemKind.{ItemKind}
+use Rattle.law_model.specs.declared.script_types.ItemKind.TheVariants as item
 use Rattle.law_model.specs.session.Counts.{dues_of, frame_dues, command_dues}
-use Rattle.text_scripts.specs.declared.script_read.fault.LineFault.{LineFault}
-use Rattle.text_scripts.specs.declared.script_read.fault.LineFault.TheVariants as wrong
-use Rattle.text_scripts.specs.declared.script_read.fault.ScriptFault.{ScriptFault}
-use Rattle.text_scripts.specs.declared.script_read.fault.ScriptFault.TheVariants as fault
-use Rattle.text_scripts.specs.declared.script_read.fault.LineStop.{LineStop}
-use Rattle.text_scripts.specs.declared.script_read.fault.LineStop.TheVariants as stop
-use Rattle.text_scripts.specs.declared.script_read.keyword.Keyword.{Keyword}
-use Rattle.text_scripts.specs.declared.script_read.keyword.Keyword.TheVariants as word
-use Rattle.text_scripts.specs.declared.script_read.draft.Statement.{Statement}
-use Rattle.text_scripts.specs.declared.script_read.draft.Statement.TheVariants as says
-use Rattle.text_scripts.specs.declared.script_read.draft.Draft.{Draft}
+use Rattle.text_scripts.specs.declared.script_read.script_fault.LineFault.{LineFault}
+use Rattle.text_scripts.specs.declared.script_read.script_fault.LineFault.TheVariants as wrong
+use Rattle.text_scripts.specs.declared.script_read.script_fault.ScriptFault.{ScriptFault}
+use Rattle.text_scripts.specs.declared.script_read.script_fault.ScriptFault.TheVariants as fault
+use Rattle.text_scripts.specs.declared.script_read.script_fault.LineStop.{LineStop}
+use Rattle.text_scripts.specs.declared.script_read.script_fault.LineStop.TheVariants as stop
+use Rattle.text_scripts.specs.declared.script_read.script_keyword.Keyword.{Keyword}
+use Rattle.text_scripts.specs.declared.script_read.script_keyword.Keyword.TheVariants as word
+use Rattle.text_scripts.specs.declared.script_read.script_draft.Statement.{Statement}
+use Rattle.text_scripts.specs.declared.script_read.script_draft.Statement.TheVariants as says
+use Rattle.text_scripts.specs.declared.script_read.script_draft.Draft.{Draft}
 use Rattle.text_lines.specs.Words.{word_at, number_at}
 use Rattle.text_lines.specs.Fields.{where_true, within, number_fault, name_fault, fields_fault}
 use Rattle.text_scripts.specs.script_read.Statements.{container_names, windows_of, last_end, last_lost}

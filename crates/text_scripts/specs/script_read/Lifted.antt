@@ -1,11 +1,11 @@
 -- Why a word wasn't read, as why its line wasn't, in private clauses.
 use Rattle.std.specs.Prelude.{◌≡◌, ⊤, Option, Some}
-use Rattle.text_lines.specs.declared.fault.FieldStop.{FieldStop}
-use Rattle.text_lines.specs.declared.fault.FieldStop.TheVariants as word
-use Rattle.text_scripts.specs.declared.script_read.fault.LineFault.{LineFault}
-use Rattle.text_scripts.specs.declared.script_read.fault.LineFault.TheVariants.{Field}
-use Rattle.text_scripts.specs.declared.script_read.fault.LineStop.{LineStop}
-use Rattle.text_scripts.specs.declared.script_read.fault.LineStop.TheVariants as stop
+use Rattle.text_lines.specs.declared.field_fault.FieldStop.{FieldStop}
+use Rattle.text_lines.specs.declared.field_fault.FieldStop.TheVariants as word
+use Rattle.text_scripts.specs.declared.script_read.script_fault.LineFault.{LineFault}
+use Rattle.text_scripts.specs.declared.script_read.script_fault.LineFault.TheVariants.{Field}
+use Rattle.text_scripts.specs.declared.script_read.script_fault.LineStop.{LineStop}
+use Rattle.text_scripts.specs.declared.script_read.script_fault.LineStop.TheVariants as stop
 
 abbrev pub lifted : FieldStop → LineStop
 lifted (word.Fault fault) = stop.Fault (Field fault)

@@ -2,19 +2,19 @@
 use Rattle.std.specs.Prelude.{◌≡◌, ℕ, ◌+◌, ◌≤◌, List, ◌++◌, length, All, Option, Some, None}
 use Rattle.std.specs.Str.Lines.{lines}
 use Rattle.text_lines.specs.Language.{said_from, said_by}
-use Rattle.text_scripts.specs.declared.script_read.pieces.ScriptReader.{ScriptReader}
-use Rattle.text_scripts.specs.declared.script_read.draft.Draft.{Draft}
-use Rattle.text_scripts.specs.declared.script_read.fault.LineFault.{LineFault}
-use Rattle.text_scripts.specs.declared.script_read.fault.ScriptFault.{ScriptFault}
-use Rattle.text_scripts.specs.declared.script_read.fault.ScriptFault.TheVariants as fault
+use Rattle.text_scripts.specs.declared.script_read.script_reader.ScriptReader.{ScriptReader}
+use Rattle.text_scripts.specs.declared.script_read.script_draft.Draft.{Draft}
+use Rattle.text_scripts.specs.declared.script_read.script_fault.LineFault.{LineFault}
+use Rattle.text_scripts.specs.declared.script_read.script_fault.ScriptFault.{ScriptFault}
+use Rattle.text_scripts.specs.declared.script_read.script_fault.ScriptFault.TheVariants as fault
 use Rattle.text_scripts.specs.script_read.Script.{script_lines, config_fault}
 use Rattle.text_scripts.specs.script_read.Drafts.{AreFailures, IsDraft}
-use Rattle.law_model.specs.declared.script.Script.{Script}
+use Rattle.law_model.specs.declared.script_types.Script.{Script}
 use Rattle.law_model.specs.Limits.{longest_input}
 use Rattle.law_model.specs.session.Valid.{IsValid, HasFewLosses}
 
 -- it has read this text, which ends where a line does: whatever follows is read from there
-pub record Stands (reader : ScriptReader) (text : List ℕ) : Type 0 where
+pub record ReaderStands (reader : ScriptReader) (text : List ℕ) : Type 0 where
   pub said : (more : List ℕ) → said_by script_lines (text ++ more)
       ≡ said_from script_lines reader.number reader.draft (lines more)
   pub count : reader.number ≤ length text + 1
@@ -25,14 +25,14 @@ pub record IsReader (reader : ScriptReader) : Type 0 where
   pub few : length reader.draft.items + 1 ≤ reader.number
 
 -- so many octets may follow, by the number of lines that were read
-abbrev pub HasRoom : ScriptReader → ℕ → Type 0
-HasRoom reader n = reader.number + n ≤ longest_input + 1
+abbrev pub HasNumbersLeft : ScriptReader → ℕ → Type 0
+HasNumbersLeft reader n = reader.number + n ≤ longest_input + 1
 
 -- it has read all of a text but this rest
 pub record Follows (reader : ScriptReader) (rest all : List ℕ) : Type 0 where
   pub text : List ℕ
   pub is : all ≡ text ++ rest
-  pub stands : Stands reader text
+  pub stands : ReaderStands reader text
 
 -- ---- line by line
 -- the number of the line that it reads next, and what the lines before it say

@@ -1,18 +1,18 @@
 -- The script that a text says, or its first fault.
 use Rattle.std.specs.Prelude.{◌≡◌, ◌≤◌, ℕ, ◌+◌, ◌-◌, ◌/◌, nat_le, nat_lt, List, [], ◌∷◌, Option, Some, None, Result, Ok}
 use Rattle.std.specs.Prelude.{Err, if◌then◌else◌}
-use Rattle.text_scripts.specs.declared.script_read.fault.LineFault.{LineFault}
-use Rattle.text_scripts.specs.declared.script_read.fault.LineFault.TheVariants.{Missing}
+use Rattle.text_scripts.specs.declared.script_read.script_fault.LineFault.{LineFault}
+use Rattle.text_scripts.specs.declared.script_read.script_fault.LineFault.TheVariants.{Missing}
 use Rattle.text_lines.specs.Fields.{where_true}
 use Rattle.text_lines.specs.Language.{Language, said_by}
 use Rattle.text_lines.specs.FirstFault.{AreSound}
-use Rattle.law_model.specs.declared.window.Window.{Window}
-use Rattle.law_model.specs.declared.script.Config.{Config}
-use Rattle.law_model.specs.declared.script.Script.{Script}
+use Rattle.law_model.specs.declared.window_types.Window.{Window}
+use Rattle.law_model.specs.declared.script_types.Config.{Config}
+use Rattle.law_model.specs.declared.script_types.Script.{Script}
 use Rattle.law_model.specs.session.Plan.{greatest, least, greatest_slip}
-use Rattle.text_scripts.specs.declared.script_read.fault.ScriptFault.{ScriptFault}
-use Rattle.text_scripts.specs.declared.script_read.fault.ScriptFault.TheVariants as fault
-use Rattle.text_scripts.specs.declared.script_read.draft.Draft.{Draft}
+use Rattle.text_scripts.specs.declared.script_read.script_fault.ScriptFault.{ScriptFault}
+use Rattle.text_scripts.specs.declared.script_read.script_fault.ScriptFault.TheVariants as fault
+use Rattle.text_scripts.specs.declared.script_read.script_draft.Draft.{Draft}
 use Rattle.text_scripts.specs.script_read.Statements.{awaited, words_fault, words_said, after, at_first}
 
 -- ---- the tests of a script all of whose lines are right

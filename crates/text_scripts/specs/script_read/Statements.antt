@@ -3,22 +3,22 @@ use Rattle.std.specs.Prelude.{unwrap_or, ℕ, ◌-◌, ◌==◌, ◌&&◌, ◌||
 use Rattle.std.specs.Prelude.{◌++◌, length, map, replicate, Option, Some, None, option_map, slice_index_or, slice_set}
 use Rattle.std.specs.Prelude.{drop, codes, bytes_eq, if◌then◌else◌}
 use Rattle.std.specs.Option.{option_or}
-use Rattle.text_scripts.specs.declared.script_read.fault.LineFault.{LineFault}
-use Rattle.text_scripts.specs.declared.script_read.fault.LineFault.TheVariants as wrong
+use Rattle.text_scripts.specs.declared.script_read.script_fault.LineFault.{LineFault}
+use Rattle.text_scripts.specs.declared.script_read.script_fault.LineFault.TheVariants as wrong
 use Rattle.text_lines.specs.Words.{word_at, is_skipped, number_of, number_at, octets_of}
 use Rattle.text_lines.specs.Fields.{Field, within, any, above, digits, one_of, where_true, fields_fault}
-use Rattle.law_model.specs.declared.window.Window.{Window}
-use Rattle.law_model.specs.declared.script.Item.{Item}
-use Rattle.law_model.specs.declared.script.ItemKind.{ItemKind}
-use Rattle.law_model.specs.declared.script.ItemKind.TheVariants as item
-use Rattle.law_model.specs.declared.script.EventLine.TheVariants as event
-use Rattle.text_scripts.specs.declared.script_read.keyword.Keyword.{Keyword}
-use Rattle.text_scripts.specs.declared.script_read.keyword.Keyword.TheVariants as word
-use Rattle.text_scripts.specs.declared.script_read.keyword.Part.{Part}
-use Rattle.text_scripts.specs.declared.script_read.keyword.Part.TheVariants as part
-use Rattle.text_scripts.specs.declared.script_read.draft.Statement.{Statement}
-use Rattle.text_scripts.specs.declared.script_read.draft.Statement.TheVariants as says
-use Rattle.text_scripts.specs.declared.script_read.draft.Draft.{Draft}
+use Rattle.law_model.specs.declared.window_types.Window.{Window}
+use Rattle.law_model.specs.declared.script_types.Item.{Item}
+use Rattle.law_model.specs.declared.script_types.ItemKind.{ItemKind}
+use Rattle.law_model.specs.declared.script_types.ItemKind.TheVariants as item
+use Rattle.law_model.specs.declared.script_types.EventLine.TheVariants as event
+use Rattle.text_scripts.specs.declared.script_read.script_keyword.Keyword.{Keyword}
+use Rattle.text_scripts.specs.declared.script_read.script_keyword.Keyword.TheVariants as word
+use Rattle.text_scripts.specs.declared.script_read.script_keyword.Part.{Part}
+use Rattle.text_scripts.specs.declared.script_read.script_keyword.Part.TheVariants as part
+use Rattle.text_scripts.specs.declared.script_read.script_draft.Statement.{Statement}
+use Rattle.text_scripts.specs.declared.script_read.script_draft.Statement.TheVariants as says
+use Rattle.text_scripts.specs.declared.script_read.script_draft.Draft.{Draft}
 use Rattle.law_model.specs.Limits.{vc3_size, vc4_size}
 
 -- ---- the first word

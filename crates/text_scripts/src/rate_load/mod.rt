@@ -3,14 +3,14 @@
 //! `is_too_long` tells before whether a script may be that long. Nothing is run here. Begin with `RateLoad`.
 
 ghost use Rattle.std.specs.Prelude.{◌↔◌, ◌<◌, ℕ};
-ghost use Rattle.text_scripts.specs.declared.rate_load.lines.RateLoad.{RateLoad};
-ghost use Rattle.text_scripts.specs.rate_load.Lines.{IsRateLoad, due_of, count_of};
+ghost use Rattle.text_scripts.specs.declared.rate_load.rate_frames.RateLoad.{RateLoad};
+ghost use Rattle.text_scripts.specs.rate_load.RateTexts.{IsRateLoad, due_of, count_of};
 
-mod lines;
-mod text;
+mod rate_frames;
+mod write_rate_text;
 
-pub use lines::RateLoad;
-pub use text::{is_too_long, write_lines};
+pub use rate_frames::RateLoad;
+pub use write_rate_text::{is_too_long, write_lines};
 
 /// The frames that are counted are exactly those that are due before the end.
 pub fn due_law()

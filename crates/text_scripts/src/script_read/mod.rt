@@ -5,22 +5,22 @@
 //! `ScriptReader`, which takes a text in pieces; `read_script` reads one that is whole. `fault_law` says which
 //! texts are scripts, and `valid_law` that such a text says a script that can be walked.
 
-mod count;
-mod draft;
-mod fault;
-mod growth;
-mod items;
-mod keyword;
-mod laws;
-mod limits;
-mod network;
-mod pieces;
-mod script;
-mod statement;
+mod word_count_fault;
+mod script_draft;
+mod script_fault;
+mod grow_draft;
+mod read_item;
+mod script_keyword;
+mod script_laws;
+mod script_limits;
+mod read_network;
+mod script_reader;
+mod whole_script;
+mod script_statement;
 
-pub use fault::{LineFault, ScriptFault};
-pub use keyword::{Keyword, Part};
-pub use laws::{fault_law, valid_law};
-pub use limits::limit_fault;
-pub use pieces::ScriptReader;
-pub use script::read_script;
+pub use script_fault::{LineFault, ScriptFault};
+pub use script_keyword::{Keyword, Part};
+pub use script_laws::{fault_law, valid_law};
+pub use script_limits::limit_fault;
+pub use script_reader::ScriptReader;
+pub use whole_script::read_script;

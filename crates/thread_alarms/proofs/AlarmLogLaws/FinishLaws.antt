@@ -6,10 +6,10 @@ use Rattle.std.proofs.Common.{◌++◌, length, map, slice_get, Some, refl, sym,
 use Rattle.std.proofs.Common.{suc-mul}
 use Rattle.std.proofs.lemmas.List.{append-nil, nil_from_length}
 use native.Mathlib.Decide.{dec_le, ℕ_discrete}
-use Rattle.thread_rings.specs.declared.alarm.Alarm.{Alarm}
-use Rattle.thread_rings.specs.declared.alarm.AlarmKind.TheVariants.{Ends}
-use Rattle.thread_alarms.specs.declared.alarm_log.tagged.Tagged.{Tagged}
-use Rattle.thread_alarms.specs.declared.alarm_log.rule.Known.{Known}
+use Rattle.thread_rings.specs.declared.alarm_kinds.Alarm.{Alarm}
+use Rattle.thread_rings.specs.declared.alarm_kinds.AlarmKind.TheVariants.{Ends}
+use Rattle.thread_alarms.specs.declared.alarm_log.tagged_alarm.Tagged.{Tagged}
+use Rattle.thread_alarms.specs.declared.alarm_log.queue_rule.Known.{Known}
 use Rattle.thread_alarms.specs.alarm_log.Alarms.{through, alarms_of, of_line, in_row}
 use Rattle.thread_alarms.specs.alarm_log.Views.{IsNew, AreApart, AreBelow, AreHeard}
 use Rattle.thread_alarms.proofs.AlarmLogLaws.ListLaws.{test-true, test-false, through-own, through-other, line-append, without}

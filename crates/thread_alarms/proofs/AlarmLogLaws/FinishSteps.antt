@@ -1,10 +1,10 @@
 -- What the log knows once its posts were joined and its queue was found empty.
 use Rattle.std.proofs.Common.{◌≡◌, ℕ, ◌+◌, ◌≤◌, List, [], ◌++◌, length, map, slice_get, Some, ap, ◌∙◌, subst, arith}
-use Rattle.thread_alarms.specs.declared.alarm_log.tagged.Tagged.{Tagged}
-use Rattle.thread_alarms.specs.declared.alarm_log.post.AlarmPost.{AlarmPost}
-use Rattle.thread_alarms.specs.declared.alarm_log.rule.Known.{Known}
-use Rattle.thread_alarms.specs.declared.alarm_log.rule.View.{View}
-use Rattle.thread_alarms.specs.declared.alarm_log.rule.View.TheVariants.{Log}
+use Rattle.thread_alarms.specs.declared.alarm_log.tagged_alarm.Tagged.{Tagged}
+use Rattle.thread_alarms.specs.declared.alarm_log.alarm_post.AlarmPost.{AlarmPost}
+use Rattle.thread_alarms.specs.declared.alarm_log.queue_rule.Known.{Known}
+use Rattle.thread_alarms.specs.declared.alarm_log.queue_rule.View.{View}
+use Rattle.thread_alarms.specs.declared.alarm_log.queue_rule.View.TheVariants.{Log}
 use Rattle.thread_alarms.specs.alarm_log.Alarms.{through}
 use Rattle.thread_alarms.specs.alarm_log.Views.{heard_of, got_of, made_of, known_of, with_known, AreApart, AreBelow, AreHeard}
 use Rattle.thread_alarms.specs.alarm_log.Views.{IsHeard}

@@ -2,9 +2,9 @@
 use Rattle.std.proofs.Common.{◌≡◌, ◌⊎◌, inl, inr, ℕ, zero, suc, ◌≤◌, List, [], ◌∷◌, ◌++◌, length, map, slice_get, Some}
 use Rattle.std.proofs.Common.{refl, sym, ap, ◌∙◌, subst, append_assoc}
 use Rattle.std.proofs.lemmas.List.{append-nil}
-use Rattle.thread_alarms.specs.declared.alarm_log.rule.Known.{Known}
-use Rattle.thread_alarms.specs.declared.alarm_log.rule.View.{View}
-use Rattle.thread_alarms.specs.declared.alarm_log.rule.View.TheVariants.{Setting, Log, Post, Spent}
+use Rattle.thread_alarms.specs.declared.alarm_log.queue_rule.Known.{Known}
+use Rattle.thread_alarms.specs.declared.alarm_log.queue_rule.View.{View}
+use Rattle.thread_alarms.specs.declared.alarm_log.queue_rule.View.TheVariants.{Setting, Log, Post, Spent}
 use Rattle.thread_alarms.specs.alarm_log.Alarms.{through}
 use Rattle.thread_alarms.specs.alarm_log.Views.{heard_of, got_of, made_of, most_of, known_of, with_known, AreApart, AreBelow}
 use Rattle.thread_alarms.specs.alarm_log.Views.{AreHeard, IsHeard}

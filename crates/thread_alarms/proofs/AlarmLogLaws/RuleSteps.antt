@@ -7,12 +7,12 @@ use native.Mathlib.Decide.{dec_le, ℕ_discrete}
 use lib.ListN.{get_elem?}
 use Rattle.crossbeam_queue.specs.Fifo.{Pushes, Pops, Forks, Merges, Learns}
 use Rattle.crossbeam_queue.proofs.Lists.{at_set}
-use Rattle.thread_rings.specs.declared.alarm.Alarm.{Alarm}
-use Rattle.thread_alarms.specs.declared.alarm_log.tagged.Tagged.{Tagged}
-use Rattle.thread_alarms.specs.declared.alarm_log.rule.Known.{Known}
-use Rattle.thread_alarms.specs.declared.alarm_log.rule.Heard.{Heard}
-use Rattle.thread_alarms.specs.declared.alarm_log.rule.View.{View}
-use Rattle.thread_alarms.specs.declared.alarm_log.rule.View.TheVariants.{Setting, Log, Post, Spent}
+use Rattle.thread_rings.specs.declared.alarm_kinds.Alarm.{Alarm}
+use Rattle.thread_alarms.specs.declared.alarm_log.tagged_alarm.Tagged.{Tagged}
+use Rattle.thread_alarms.specs.declared.alarm_log.queue_rule.Known.{Known}
+use Rattle.thread_alarms.specs.declared.alarm_log.queue_rule.Heard.{Heard}
+use Rattle.thread_alarms.specs.declared.alarm_log.queue_rule.View.{View}
+use Rattle.thread_alarms.specs.declared.alarm_log.queue_rule.View.TheVariants.{Setting, Log, Post, Spent}
 use Rattle.thread_alarms.specs.alarm_log.Alarms.{through}
 use Rattle.thread_alarms.specs.alarm_log.Views.{nothing_heard, listening, and_made, new_post, and_put, and_got, and_known, got_of}
 use Rattle.thread_alarms.specs.alarm_log.Views.{made_of, most_of, IsNew, AreApart, AreBelow, AreHeard, IsHeard, IsHeld}

@@ -1,9 +1,9 @@
 -- What the log's pass knows after one alarm more.
 use Rattle.std.proofs.Common.{◌≡◌, ℕ, ◌*◌, ◌≤◌, ◌<◌, List, [], ◌∷◌, ◌++◌, length, sym, ap, ◌∙◌, arith, length-append}
-use Rattle.thread_rings.specs.declared.alarm.Alarm.{Alarm}
-use Rattle.thread_alarms.specs.declared.alarm_log.tagged.Tagged.{Tagged}
-use Rattle.thread_alarms.specs.declared.alarm_log.rule.View.{View}
-use Rattle.thread_alarms.specs.declared.alarm_log.rule.View.TheVariants.{Log}
+use Rattle.thread_rings.specs.declared.alarm_kinds.Alarm.{Alarm}
+use Rattle.thread_alarms.specs.declared.alarm_log.tagged_alarm.Tagged.{Tagged}
+use Rattle.thread_alarms.specs.declared.alarm_log.queue_rule.View.{View}
+use Rattle.thread_alarms.specs.declared.alarm_log.queue_rule.View.TheVariants.{Log}
 use Rattle.thread_alarms.specs.alarm_log.Alarms.{alarms_of}
 use Rattle.thread_alarms.specs.alarm_log.Views.{heard_of, got_of, made_of, most_of, known_of, and_got}
 use Rattle.thread_alarms.proofs.AlarmLogLaws.ListLaws.{alarms-append, alarms-length}

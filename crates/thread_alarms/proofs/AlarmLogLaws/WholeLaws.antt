@@ -7,9 +7,9 @@ use Rattle.std.proofs.lemmas.List.Sorted.{IsPermutation-middle, IsPermutation-ap
 use Rattle.std.proofs.lemmas.List.Sorted.{IsPermutation-append_right, IsPermutation-append_comm}
 use Rattle.std.specs.Prelude.{IsPermutation}
 use native.Mathlib.Decide.{ℕ_discrete}
-use Rattle.thread_rings.specs.declared.alarm.Alarm.{Alarm}
-use Rattle.thread_alarms.specs.declared.alarm_log.tagged.Tagged.{Tagged}
-use Rattle.thread_alarms.specs.declared.alarm_log.rule.Known.{Known}
+use Rattle.thread_rings.specs.declared.alarm_kinds.Alarm.{Alarm}
+use Rattle.thread_alarms.specs.declared.alarm_log.tagged_alarm.Tagged.{Tagged}
+use Rattle.thread_alarms.specs.declared.alarm_log.queue_rule.Known.{Known}
 use Rattle.thread_alarms.specs.alarm_log.Alarms.{through, alarms_of, in_row}
 use Rattle.thread_alarms.specs.alarm_log.Views.{IsNew, AreApart, AreHeard}
 use Rattle.thread_alarms.proofs.AlarmLogLaws.ListLaws.{through-own, through-other, without, without-own, without-other}

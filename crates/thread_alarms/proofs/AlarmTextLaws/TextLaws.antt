@@ -5,7 +5,7 @@ use Rattle.std.specs.List.{flat_map, range_with_len}
 use Rattle.std.proofs.Math.Seq.{take-suc}
 use Rattle.std.proofs.lemmas.Grind.{flat_map-append}
 use Rattle.std.proofs.lemmas.List.{append-nil, map-id}
-use Rattle.thread_rings.specs.declared.alarm.Alarm.{Alarm}
+use Rattle.thread_rings.specs.declared.alarm_kinds.Alarm.{Alarm}
 use Rattle.thread_alarms.specs.alarm_log.Alarms.{of_line}
 use Rattle.thread_alarms.proofs.AlarmLogLaws.ListLaws.{line-append}
 use Rattle.thread_alarms.specs.alarm_text.Text.{alarm_text, alarm_texts}

@@ -1,8 +1,8 @@
 -- Lists of alarms.
 use Rattle.std.specs.Prelude.{ℕ, ◌==◌, if◌then◌else◌, List, [], ◌∷◌, ◌++◌}
 use Rattle.std.specs.Global.{Vec}
-use Rattle.thread_rings.specs.declared.alarm.Alarm.{Alarm}
-use Rattle.thread_alarms.specs.declared.alarm_log.tagged.Tagged.{Tagged}
+use Rattle.thread_rings.specs.declared.alarm_kinds.Alarm.{Alarm}
+use Rattle.thread_alarms.specs.declared.alarm_log.tagged_alarm.Tagged.{Tagged}
 
 -- those that came through post number n, in order
 abbrev pub through : ℕ → List Tagged → List Alarm

@@ -5,10 +5,10 @@ use Rattle.std.specs.Vec.{vec_capacity}
 use Rattle.crossbeam_queue.specs.Passes.{Pass, view, IsPassOf}
 use Rattle.crossbeam_queue.specs.declared.array_queue.Doing.{Doing}
 use Rattle.crossbeam_queue.specs.declared.array_queue.Slotted.{Slotted}
-use Rattle.thread_rings.specs.declared.alarm.Alarm.{Alarm}
-use Rattle.thread_alarms.specs.declared.alarm_log.tagged.Tagged.{Tagged}
-use Rattle.thread_alarms.specs.declared.alarm_log.rule.View.{View}
-use Rattle.thread_alarms.specs.declared.alarm_log.rule.View.TheVariants.{Log}
+use Rattle.thread_rings.specs.declared.alarm_kinds.Alarm.{Alarm}
+use Rattle.thread_alarms.specs.declared.alarm_log.tagged_alarm.Tagged.{Tagged}
+use Rattle.thread_alarms.specs.declared.alarm_log.queue_rule.View.{View}
+use Rattle.thread_alarms.specs.declared.alarm_log.queue_rule.View.TheVariants.{Log}
 use Rattle.thread_alarms.specs.alarm_log.Alarms.{alarms_of}
 use Rattle.thread_alarms.specs.alarm_log.Views.{heard_of, got_of, made_of, most_of, known_of}
 

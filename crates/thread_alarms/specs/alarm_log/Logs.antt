@@ -1,11 +1,11 @@
 -- What is known of a log.
 use Rattle.std.specs.Prelude.{◌≡◌, ℕ, List, [], length, slice_get, Some}
 use Rattle.crossbeam_queue.specs.Passes.{view}
-use Rattle.thread_rings.specs.declared.alarm.Alarm.{Alarm}
-use Rattle.thread_alarms.specs.declared.alarm_log.tagged.Tagged.{Tagged}
-use Rattle.thread_alarms.specs.declared.alarm_log.post.AlarmPost.{AlarmPost}
-use Rattle.thread_alarms.specs.declared.alarm_log.log.AlarmLog.{AlarmLog}
-use Rattle.thread_alarms.specs.declared.alarm_log.log.AlarmList.{AlarmList}
+use Rattle.thread_rings.specs.declared.alarm_kinds.Alarm.{Alarm}
+use Rattle.thread_alarms.specs.declared.alarm_log.tagged_alarm.Tagged.{Tagged}
+use Rattle.thread_alarms.specs.declared.alarm_log.alarm_post.AlarmPost.{AlarmPost}
+use Rattle.thread_alarms.specs.declared.alarm_log.log_turns.AlarmLog.{AlarmLog}
+use Rattle.thread_alarms.specs.declared.alarm_log.log_turns.AlarmList.{AlarmList}
 use Rattle.thread_alarms.specs.alarm_log.Alarms.{of_line}
 use Rattle.thread_alarms.specs.alarm_log.Views.{IsHeard, made_of, most_of}
 use Rattle.thread_alarms.specs.alarm_log.Posts.{most_by, posted_by, IsFresh}

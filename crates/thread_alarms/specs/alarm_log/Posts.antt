@@ -2,9 +2,9 @@
 use Rattle.std.specs.Prelude.{◌≡◌, ℕ, List, [], ◌++◌}
 use Rattle.std.specs.Arc.{arc_value}
 use Rattle.crossbeam_queue.specs.Passes.{view, ruled_capacity}
-use Rattle.thread_rings.specs.declared.alarm.Alarm.{Alarm}
-use Rattle.thread_alarms.specs.declared.alarm_log.rule.Known.{Known}
-use Rattle.thread_alarms.specs.declared.alarm_log.post.AlarmPost.{AlarmPost}
+use Rattle.thread_rings.specs.declared.alarm_kinds.Alarm.{Alarm}
+use Rattle.thread_alarms.specs.declared.alarm_log.queue_rule.Known.{Known}
+use Rattle.thread_alarms.specs.declared.alarm_log.alarm_post.AlarmPost.{AlarmPost}
 use Rattle.thread_alarms.specs.alarm_log.Views.{put_of, posts_in}
 
 -- the number of the post

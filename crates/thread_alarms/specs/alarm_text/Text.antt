@@ -1,9 +1,9 @@
 -- The lines of text that alarms are told by. They are this project's own.
 use Rattle.std.specs.Prelude.{ℕ, List, ◌++◌, codes, decimal}
 use Rattle.std.specs.List.{flat_map, range_with_len}
-use Rattle.thread_rings.specs.declared.alarm.Alarm.{Alarm}
-use Rattle.thread_rings.specs.declared.alarm.AlarmKind.{AlarmKind}
-use Rattle.thread_rings.specs.declared.alarm.AlarmKind.TheVariants.{Fails, Returns, Ends}
+use Rattle.thread_rings.specs.declared.alarm_kinds.Alarm.{Alarm}
+use Rattle.thread_rings.specs.declared.alarm_kinds.AlarmKind.{AlarmKind}
+use Rattle.thread_rings.specs.declared.alarm_kinds.AlarmKind.TheVariants.{Fails, Returns, Ends}
 use Rattle.thread_alarms.specs.alarm_log.Alarms.{of_line}
 
 -- what an alarm says

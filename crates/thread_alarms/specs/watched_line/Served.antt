@@ -3,11 +3,11 @@ use Rattle.std.specs.Prelude.{◌≡◌, ℕ, ◌+◌, ◌*◌, ◌<◌, ◌≤�
 use Rattle.std.specs.Prelude.{option_to_list}
 use Rattle.std.specs.List.{AllZip}
 use Rattle.law_model.specs.members.Damage.{AreWindows}
-use Rattle.thread_rings.specs.declared.worker.LineWorker.{LineWorker}
+use Rattle.thread_rings.specs.declared.line_worker.LineWorker.{LineWorker}
 use Rattle.thread_rings.specs.Worker.{number_of, windows_of, total_of, raised_by, IsLater}
-use Rattle.thread_alarms.specs.declared.alarm_log.post.AlarmPost.{AlarmPost}
+use Rattle.thread_alarms.specs.declared.alarm_log.alarm_post.AlarmPost.{AlarmPost}
 use Rattle.thread_alarms.specs.alarm_log.Posts.{posted_by, most_by, SamePost}
-use Rattle.thread_alarms.specs.declared.watched_line.served.ServedLine.{ServedLine}
+use Rattle.thread_alarms.specs.declared.watched_line.served_line.ServedLine.{ServedLine}
 
 -- the worker of the line
 abbrev pub worker_of : ServedLine → LineWorker

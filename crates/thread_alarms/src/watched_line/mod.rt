@@ -3,8 +3,8 @@
 //! order and each once. It starts no thread, and what becomes of the alarms after the post is not its matter.
 //! Begin with `ServedLine`, and then `serve_lines` and `split_lines`.
 
-mod lines;
-mod served;
+mod serve_lines_watched;
+mod served_line;
 
-pub use lines::{serve_lines, split_lines};
-pub use served::ServedLine;
+pub use serve_lines_watched::{serve_lines, split_lines};
+pub use served_line::ServedLine;

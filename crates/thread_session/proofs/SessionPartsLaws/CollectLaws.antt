@@ -9,9 +9,9 @@ use Rattle.std.proofs.lemmas.List.{reverse-append}
 use Rattle.std.proofs.lemmas.Option.{slice_get_read, get_or_from_slice_get}
 use Rattle.std.specs.Global.{Vec}
 use Rattle.law_line.proofs.ListLaws.{slice_get-inside, take-next}
-use Rattle.thread_alarms.specs.declared.watched_line.served.ServedLine.{ServedLine}
+use Rattle.thread_alarms.specs.declared.watched_line.served_line.ServedLine.{ServedLine}
 use Rattle.thread_alarms.specs.watched_line.Served.{AreServedLater, IsServedLater, line_of}
-use Rattle.thread_session.specs.session_parts.Lines.{AreNumbered, AreBack, share_of}
+use Rattle.thread_session.specs.session_parts.ServedLines.{AreNumbered, AreBack, share_of}
 use Rattle.thread_session.proofs.SessionPartsLaws.DealLaws.{filter-last, zip-last, back-step}
 
 pub test-true : (a b : ℕ) → a ≡ b → (a == b) ≡ true

@@ -8,23 +8,23 @@ use Rattle.std.proofs.lemmas.Bool.{cases_Bool, cases_lt}
 use Rattle.std.proofs.lemmas.Bool.Decides.{nat_tests}
 use Rattle.std.proofs.lemmas.List.{append-nil, nil_from_length}
 use Rattle.std.proofs.lemmas.List.FromFn.{map-range_with_len_more}
-use Rattle.base_cells.specs.declared.Container.{Container}
-use Rattle.base_cells.specs.declared.Cell.{Cell}
-use Rattle.base_cells.specs.declared.Cell.TheVariants.{End}
-use Rattle.base_cells.specs.declared.BackCell.{BackCell}
-use Rattle.base_cells.specs.declared.BackCell.TheVariants.{Packet as Nibbles}
+use Rattle.member_cells.specs.declared.containers_and_cells.Container.{Container}
+use Rattle.member_cells.specs.declared.containers_and_cells.Cell.{Cell}
+use Rattle.member_cells.specs.declared.containers_and_cells.Cell.TheVariants.{End}
+use Rattle.member_cells.specs.declared.containers_and_cells.BackCell.{BackCell}
+use Rattle.member_cells.specs.declared.containers_and_cells.BackCell.TheVariants.{Packet as Nibbles}
 use Rattle.law_model.specs.packets.Packet.{packet_nibbles}
 use Rattle.law_model.specs.members.Damage.{carried}
 use Rattle.law_model.specs.members.Path.{cells}
 use Rattle.law_model.specs.rows.Rows.{return_at}
 use Rattle.law_model.specs.session.Scenario.{packets_in}
-use Rattle.member_path.proofs.LineCoreLaws.EndLaws.{end-open}
+use Rattle.member_path.proofs.PathDelayLaws.EndLaws.{end-open}
 use Rattle.law_walk.proofs.StepLaws.{packet-now}
 use Rattle.law_walk.proofs.ReturnLaws.{packets-next}
 use Rattle.terminal_sink.specs.sink_core.Given.{back_at}
 use Rattle.thread_sink.specs.Received.{back_cells, backs}
 use Rattle.thread_sink.proofs.PartsLaws.{backs-more, backs-none}
-use Rattle.thread_rings.specs.declared.worker.LineWorker.{LineWorker}
+use Rattle.thread_rings.specs.declared.line_worker.LineWorker.{LineWorker}
 use Rattle.thread_rings.specs.Ends.{out_passed, in_passed, in_items}
 
 -- ---- a line

@@ -5,8 +5,8 @@ use Rattle.std.proofs.Math.ListN.{set}
 use Rattle.std.proofs.lemmas.Bool.{cases_lt}
 use Rattle.std.proofs.lemmas.List.{length_push}
 use Rattle.std.proofs.lemmas.Option.{slice_get_within, slice_get-get_or}
-use Rattle.base_nibbles.proofs.LockLaws.{slice_get-append, slice_get-append_seam}
-use Rattle.thread_session.specs.declared.session_parts.flag.Flag.{Flag}
+use Rattle.check_nibbles.proofs.LockLaws.{slice_get-append, slice_get-append_seam}
+use Rattle.thread_session.specs.declared.session_parts.stop_flag.Flag.{Flag}
 use Rattle.thread_session.specs.declared.session_parts.line_thread.Held.{Held}
 use Rattle.thread_session.specs.session_parts.Flags.{flag_of}
 use Rattle.thread_session.specs.session_parts.Held.{IsToldBy, AreToldBy}

@@ -1,6 +1,6 @@
 -- A log is the same later.
 use Rattle.std.proofs.Common.{◌≡◌, Option, Some, None, refl, sym, ◌∙◌, subst}
-use Rattle.thread_alarms.specs.declared.alarm_log.log.AlarmLog.{AlarmLog}
+use Rattle.thread_alarms.specs.declared.alarm_log.log_turns.AlarmLog.{AlarmLog}
 use Rattle.thread_alarms.specs.alarm_log.Logs.{SameLog}
 use Rattle.thread_session.specs.session_parts.Duty.{IsLogLater}
 

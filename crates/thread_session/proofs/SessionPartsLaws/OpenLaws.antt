@@ -1,16 +1,16 @@
 -- One line more is opened.
 use Rattle.std.proofs.Common.{◌≡◌, ◌⊎◌, inl, inr, ℕ, zero, suc, ◌+◌, ◌<◌, List, [], ◌∷◌, ◌++◌, length, get_or}
 use Rattle.std.proofs.Common.{slice_get, slice_index_or, Some, None, refl, sym, ◌∙◌, ap, subst, arith, length-append}
-use Rattle.base_cells.specs.declared.Container.{Container}
-use Rattle.base_cells.specs.declared.Cell.{Cell}
-use Rattle.law_model.specs.declared.window.Window.{Window}
-use Rattle.law_model.specs.declared.script.Config.{Config}
-use Rattle.member_path.specs.line_core.Line.{Line, opened, Stands}
+use Rattle.member_cells.specs.declared.containers_and_cells.Container.{Container}
+use Rattle.member_cells.specs.declared.containers_and_cells.Cell.{Cell}
+use Rattle.law_model.specs.declared.window_types.Window.{Window}
+use Rattle.law_model.specs.declared.script_types.Config.{Config}
+use Rattle.member_path.specs.path_delay.Line.{Line, opened, DelayStands}
 use Rattle.thread_rings.specs.Ends.{OutEnd}
 use Rattle.thread_rings.specs.Ends.{InEnd}
 use Rattle.thread_rings.specs.Ends.{out_passed, in_passed, AreEnds}
 use Rattle.thread_rings.specs.Calls.{IsOpened}
-use Rattle.thread_rings.specs.declared.worker.LineWorker.{LineWorker}
+use Rattle.thread_rings.specs.declared.line_worker.LineWorker.{LineWorker}
 use Rattle.thread_session.specs.session_parts.Opened.{IsLineOf, AreOpened}
 
 pub get-last : {X : Type 0} (xs : List X) (x : X) (m : ℕ) (y : X) → slice_get (xs ++ x ∷ []) m ≡ Some y →
@@ -35,12 +35,12 @@ index-is [] m x d within is = absurd (omega arith)
 index-is (y ∷ xs) zero x d within is = is
 index-is (y ∷ xs) (suc m) x d within is = index-is xs m x d (omega arith) is
 
-pub opened-own : (line : Line) (delay total : ℕ) (windows : List Window) → Stands line (opened delay windows total) →
+pub opened-own : (line : Line) (delay total : ℕ) (windows : List Window) → DelayStands line (opened delay windows total) →
     IsOpened line
 opened-own line delay total windows stands =
     let same : opened line.delay line.windows line.total ≡ opened delay windows total =
     rw (stands.delay, stands.windows, stands.total) refl in
-    subst (Stands line) (sym same) stands
+    subst (DelayStands line) (sym same) stands
 
 pub none-opened : (config : Config) → AreOpened config 0 [] [] []
 none-opened config = record {

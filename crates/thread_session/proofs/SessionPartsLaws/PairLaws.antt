@@ -3,7 +3,7 @@ use Rattle.std.proofs.Common.{◌≡◌, inl, inr, ℕ, ◌+◌, ◌<◌, List, 
 use Rattle.std.proofs.Common.{refl, sym, ◌∙◌, ap, arith}
 use Rattle.std.proofs.Math.ListN.{set, length-set}
 use Rattle.std.proofs.lemmas.Option.{slice_get_read}
-use Rattle.member_rows.proofs.RealignCoreLaws.GatherLaws.{set-other}
+use Rattle.member_rows.proofs.RealignRowsLaws.GatherLaws.{set-other}
 use Rattle.thread_session.specs.session_parts.Laid.{PairsBelow}
 use Rattle.thread_session.proofs.SessionPartsLaws.DealLaws.{some-is, set-found}
 

@@ -1,16 +1,16 @@
 -- A sink that has run goes on for a burst.
 use Rattle.std.proofs.Common.{◌≡◌, ℕ, Bool, true, false, List, ◌++◌, Option, sym, ◌∙◌, ap, subst}
 use Rattle.std.proofs.lemmas.Grind.{flat_map-append}
-use Rattle.base_io.specs.Transfer.{AppendsPart}
-use Rattle.base_io.proofs.Parts.{Appends-then, AppendsPart-then, AppendsPart-longer}
+use Rattle.octet_io.specs.Transfer.{AppendsPart}
+use Rattle.octet_io.proofs.Parts.{Appends-then, AppendsPart-then, AppendsPart-longer}
 use Rattle.text_report.specs.Report.{got_text, got_texts}
 use Rattle.terminal_sink.specs.sink_core.Given.{given_frames, added_frames}
 use Rattle.text_got.specs.Told.{Seen, seen, known_of, faults_of}
 use Rattle.thread_sink.specs.Told.{Writes}
-use Rattle.thread_sink.specs.declared.worker.SinkWorker.{SinkWorker}
-use Rattle.thread_sink.specs.Worker.{Stands, IsLater, parts_of, cells_of, size_of, taken_of, has_failed}
+use Rattle.thread_sink.specs.declared.sink_worker.SinkWorker.{SinkWorker}
+use Rattle.thread_sink.specs.Worker.{SinkWorkerStands, IsLater, parts_of, cells_of, size_of, taken_of, has_failed}
 use Rattle.thread_sink.proofs.PartsLaws.{given-then, later-then}
-use Rattle.thread_alarms.specs.declared.alarm_log.log.AlarmLog.{AlarmLog}
+use Rattle.thread_alarms.specs.declared.alarm_log.log_turns.AlarmLog.{AlarmLog}
 use Rattle.thread_session.specs.session_parts.Duty.{Begun, HasRun, IsLogLater}
 
 abbrev Told : Bool → Seen → Seen → List ℕ → Type 0
@@ -50,7 +50,7 @@ module _ {K : Type 0} (written : K → Option (List ℕ)) (faults : K → ℕ) w
       (subst (λ (k : K). AppendsPart known_of faults_of first (seen_of k) (text ++ more)) (sym writes.1)
       (AppendsPart-longer known_of faults_of first (seen_of old) text more told))
 
-  pub run-then : (begun : Begun) (a b : SinkWorker) (old new : K) → Stands b → IsLater a b →
+  pub run-then : (begun : Begun) (a b : SinkWorker) (old new : K) → SinkWorkerStands b → IsLater a b →
       Writes written faults (has_failed a) (has_failed b) old new
       (got_texts (added_frames (size_of b) (cells_of b) (taken_of a) (taken_of b))) →
       HasRunTo begun a old → HasRunTo begun b new

@@ -4,12 +4,12 @@ use Rattle.std.proofs.Common.{Option, Some, None, refl, sym, ◌∙◌, ap, arit
 use Rattle.std.specs.Option.{option_map}
 use Rattle.std.proofs.lemmas.List.{length-map}
 use Rattle.std.proofs.lemmas.Option.{slice_get-map, slice_get_within}
-use Rattle.base_cells.specs.declared.Container.{Container}
-use Rattle.base_cells.specs.declared.Cell.{Cell}
-use Rattle.base_cells.specs.declared.BackCell.TheVariants.{Packet as Nibbles}
+use Rattle.member_cells.specs.declared.containers_and_cells.Container.{Container}
+use Rattle.member_cells.specs.declared.containers_and_cells.Cell.{Cell}
+use Rattle.member_cells.specs.declared.containers_and_cells.BackCell.TheVariants.{Packet as Nibbles}
 use Rattle.law_model.specs.packets.Packet.{packet_nibbles}
-use Rattle.law_model.specs.declared.window.Window.{Window}
-use Rattle.law_model.specs.declared.script.Script.{Script}
+use Rattle.law_model.specs.declared.window_types.Window.{Window}
+use Rattle.law_model.specs.declared.script_types.Script.{Script}
 use Rattle.law_model.specs.session.Leg.{leg_of}
 use Rattle.law_model.specs.session.Valid.{IsValid}
 use Rattle.law_model.specs.members.Damage.{carried}
@@ -21,7 +21,7 @@ use Rattle.law_model.specs.rows.Sent.{containers_of, container_of}
 use Rattle.law_model.specs.rows.Rows.{return_at}
 use Rattle.law_line.specs.StableRows.{AreDecidedAt}
 use Rattle.law_line.proofs.ListLaws.{slice_get-inside}
-use Rattle.law_terminal.specs.Lines.{given, ComesOfLine, ComeOfLines}
+use Rattle.law_terminal.specs.SessionLines.{given, ComesOfLine, ComeOfLines}
 use Rattle.law_terminal.specs.Course.{told_of, IsCourse}
 use Rattle.law_terminal.proofs.ListLaws.{same-range}
 use Rattle.law_terminal.proofs.SentLaws.{containers-size}
@@ -37,7 +37,7 @@ use Rattle.thread_sink.specs.Received.{received, backs}
 use Rattle.thread_rings.specs.Ends.{OutEnd}
 use Rattle.thread_rings.specs.Ends.{InEnd}
 use Rattle.thread_rings.specs.Ends.{out_passed, in_passed, in_items}
-use Rattle.thread_rings.specs.declared.worker.LineWorker.{LineWorker}
+use Rattle.thread_rings.specs.declared.line_worker.LineWorker.{LineWorker}
 use Rattle.thread_session.specs.session_parts.Session.{IsGathered, session_backs}
 use Rattle.thread_session.proofs.SessionPartsLaws.EndedLaws.{line-carried, whole-prefix, backs-are}
 

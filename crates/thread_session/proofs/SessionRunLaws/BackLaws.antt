@@ -1,8 +1,8 @@
 -- Workers that were dealt come back from the shares.
 use Rattle.std.proofs.Common.{ℕ, List, subst}
 use Rattle.std.specs.Global.{Vec}
-use Rattle.thread_alarms.specs.declared.watched_line.served.ServedLine.{ServedLine}
-use Rattle.thread_session.specs.session_parts.Lines.{AreDealt, AreBack, SharesLater}
+use Rattle.thread_alarms.specs.declared.watched_line.served_line.ServedLine.{ServedLine}
+use Rattle.thread_session.specs.session_parts.ServedLines.{AreDealt, AreBack, SharesLater}
 use Rattle.thread_alarms.specs.watched_line.Served.{AreServedLater}
 use Rattle.thread_session.proofs.SessionPartsLaws.DealLaws.{zip-at}
 

@@ -1,17 +1,17 @@
 -- A group before anything has moved is bound to its script; and the sink's worker is the script's.
 use Rattle.std.specs.Prelude.{IfOk}
 use Rattle.std.specs.Global.{Vec}
-use Rattle.thread_sink.specs.declared.worker.SinkWorker.{SinkWorker}
-use Rattle.thread_sink.specs.Worker.{Stands as SinkStands, lines_of as sink_lines, size_of as sink_size}
+use Rattle.thread_sink.specs.declared.sink_worker.SinkWorker.{SinkWorker}
+use Rattle.thread_sink.specs.Worker.{SinkWorkerStands as SinkStands, lines_of as sink_lines, size_of as sink_size}
 use Rattle.thread_sink.specs.Worker.{taken_of as rows_taken, ticks_of as rows_of, has_failed}
 use Rattle.law_model.specs.session.Valid.{IsValid}
 use Rattle.thread_session.specs.session_run.Session.{IsSinkOf}
 use Rattle.std.proofs.Common.{Result, Ok, Err, ◌≡◌, ℕ, suc, ◌+◌, ◌≤◌, true, false, if◌then◌else◌, List, [], ◌∷◌, take}
 use Rattle.std.proofs.Common.{drop, length, Some, refl, sym, ◌∙◌, ap, subst, arith}
-use Rattle.base_cells.specs.declared.BackCell.{BackCell}
-use Rattle.base_cells.specs.declared.Container.{Container}
-use Rattle.law_model.specs.declared.script.Item.{Item}
-use Rattle.law_model.specs.declared.script.Script.{Script}
+use Rattle.member_cells.specs.declared.containers_and_cells.BackCell.{BackCell}
+use Rattle.member_cells.specs.declared.containers_and_cells.Container.{Container}
+use Rattle.law_model.specs.declared.script_types.Item.{Item}
+use Rattle.law_model.specs.declared.script_types.Script.{Script}
 use Rattle.law_model.specs.session.Leg.{leg_of}
 use Rattle.law_model.specs.session.Scenario.{Scenario, scenario_of, offers_of, orders_of}
 use Rattle.law_model.specs.session.Counts.{used_in}
@@ -19,9 +19,9 @@ use Rattle.law_model.specs.rows.Sent.{containers_of}
 use Rattle.thread_rings.specs.Ends.{OutEnd}
 use Rattle.thread_rings.specs.Ends.{InEnd}
 use Rattle.thread_rings.specs.Ends.{in_passed, SameOut, SameIn}
-use Rattle.terminal_source.specs.source_core.Given.{IsFresh, Stands as HasMade}
+use Rattle.terminal_source.specs.source_core.Given.{IsFresh, SourceStands as HasMade}
 use Rattle.law_walk.specs.Landed.{Numbered, is_client, landed_from, landed_items, landed_scenario}
-use Rattle.thread_group.specs.declared.group.GroupState.{GroupState}
+use Rattle.thread_group.specs.declared.group_state.GroupState.{GroupState}
 use Rattle.terminal_group.specs.Inbox.{told_from}
 use Rattle.thread_group.specs.Journal.{items_in}
 use Rattle.thread_group.specs.Rings.{SameOuts, SameIns, AreUnused}
@@ -29,7 +29,7 @@ use Rattle.thread_group.specs.Parts.{ArePast}
 use Rattle.thread_group.specs.Group.{IsOf, lines_of, lag_of, size_of, lost_of, ticks_of, frames_of, commands_of}
 use Rattle.thread_group.specs.Group.{journal_of, slots_of, bytes_of, refusals_of, taken_of, source_of}
 use Rattle.thread_group.specs.Session.{counts_of, refusals_by, accepted_frames_by, accepted_commands_by, octets_in}
-use Rattle.thread_group.specs.Session.{AreItemsOf, HasRoom, HasLandedOf, IsBound}
+use Rattle.thread_group.specs.Session.{AreItemsOf, HasJournalRoom, HasLandedOf, IsBound}
 use Rattle.thread_group.proofs.EntryLaws.{all-kinds}
 
 -- ---- the same ends
@@ -69,7 +69,7 @@ module _ (script : Script) (g : GroupState) (of_script : IsOf (leg_of script) g)
       ap (λ n. take n (told_from (lost_of g) (in_passed g.back))) none
 
   pub room-begins : slots_of g ≡ length script.items → bytes_of g ≡ octets_in (offers_of script.items) →
-      HasRoom (leg_of script) g
+      HasJournalRoom (leg_of script) g
   room-begins slots bytes =
       let all = all-kinds script.items in
       record {
@@ -105,7 +105,7 @@ module _ (script : Script) (g : GroupState) (of_script : IsOf (leg_of script) g)
         })) ∣₁;
   }
 
-  pub bound-begins : HasRoom (leg_of script) g → HasLandedOf (leg_of script) g →
+  pub bound-begins : HasJournalRoom (leg_of script) g → HasLandedOf (leg_of script) g →
       IsBound (leg_of script) g.tx.items (g.back ∷ []) g
   bound-begins room landed = record {
     of_script = of_script;

@@ -3,10 +3,10 @@ use Rattle.std.proofs.Common.{◌≡◌, ℕ, ◌+◌, ◌*◌, ◌-◌, ◌/◌
 use Rattle.std.proofs.Common.{slice_get, Option, Some, is_none, sym, ◌∙◌, ap, subst, arith}
 use Rattle.std.specs.List.{range_with_len}
 use Rattle.std.proofs.lemmas.Option.{slice_get_within}
-use Rattle.base_cells.specs.declared.Container.{Container}
-use Rattle.base_cells.specs.declared.BackCell.TheVariants.{Packet as Nibbles}
+use Rattle.member_cells.specs.declared.containers_and_cells.Container.{Container}
+use Rattle.member_cells.specs.declared.containers_and_cells.BackCell.TheVariants.{Packet as Nibbles}
 use Rattle.law_model.specs.packets.Packet.{packet_nibbles}
-use Rattle.law_model.specs.declared.script.Script.{Script}
+use Rattle.law_model.specs.declared.script_types.Script.{Script}
 use Rattle.law_model.specs.session.Leg.{leg_of}
 use Rattle.law_model.specs.session.Valid.{IsValid}
 use Rattle.law_model.specs.members.Path.{cells}
@@ -18,12 +18,12 @@ use Rattle.law_model.specs.session.Counts.{Due, dues_of, used_in}
 use Rattle.law_session.specs.Session.{AgreeBefore}
 use Rattle.law_line.specs.StableRows.{AreDecidedAt}
 use Rattle.law_line.proofs.ListLaws.{slice_get-inside}
-use Rattle.law_terminal.specs.Lines.{ComeOfLines}
+use Rattle.law_terminal.specs.SessionLines.{ComeOfLines}
 use Rattle.law_terminal.specs.Course.{told_of, IsCourse}
 use Rattle.law_terminal.proofs.SentLaws.{containers-size}
 use Rattle.law_terminal.proofs.CourseLaws.{course-returns, session-agree}
-use Rattle.law_model.specs.declared.refusal.Refusal.{Refusal}
-use Rattle.law_model.specs.declared.totals.Totals.{Totals}
+use Rattle.law_model.specs.declared.item_refusals.Refusal.{Refusal}
+use Rattle.law_model.specs.declared.session_totals.Totals.{Totals}
 use Rattle.law_walk.specs.Walk.{sent_on}
 use Rattle.law_walk.specs.Rings.{delay_on, line_cells}
 use Rattle.law_walk.specs.Delivered.{delivered_of}
@@ -36,12 +36,12 @@ use Rattle.law_walk.proofs.EndLaws.{ended-landed}
 use Rattle.law_walk.proofs.CountLaws.{delivered-few}
 use Rattle.terminal_sink.specs.sink_core.Given.{given_frames}
 use Rattle.thread_sink.specs.Received.{backs}
-use Rattle.thread_sink.specs.declared.worker.SinkWorker.{SinkWorker}
+use Rattle.thread_sink.specs.declared.sink_worker.SinkWorker.{SinkWorker}
 use Rattle.thread_sink.specs.Told.{count_of}
 use Rattle.thread_sink.specs.Worker.{cells_of, size_of, taken_of as rows_taken}
 use Rattle.thread_rings.specs.Ends.{out_passed, in_passed, in_items}
-use Rattle.thread_rings.specs.declared.worker.LineWorker.{LineWorker}
-use Rattle.thread_group.specs.declared.group.GroupState.{GroupState}
+use Rattle.thread_rings.specs.declared.line_worker.LineWorker.{LineWorker}
+use Rattle.thread_group.specs.declared.group_state.GroupState.{GroupState}
 use Rattle.thread_group.specs.Group.{ticks_of, items_of, lag_of, frames_of, commands_of, journal_of, refusals_of}
 use Rattle.thread_group.specs.Group.{taken_of, totals_of}
 use Rattle.terminal_group.specs.Inbox.{told_taken}

@@ -2,23 +2,23 @@
 use Rattle.std.proofs.Common.{◌≡◌, ℕ, suc, ◌<◌, List, [], ◌∷◌, ◌++◌, map, length, slice_get, Some, refl, sym, ◌∙◌, ap}
 use Rattle.std.proofs.Common.{subst, arith}
 use Rattle.std.proofs.lemmas.Option.{slice_get_within}
-use Rattle.base_cells.specs.declared.Container.{Container}
-use Rattle.base_cells.specs.declared.Cell.{Cell}
-use Rattle.member_path.specs.line_core.Line.{Line}
+use Rattle.member_cells.specs.declared.containers_and_cells.Container.{Container}
+use Rattle.member_cells.specs.declared.containers_and_cells.Cell.{Cell}
+use Rattle.member_path.specs.path_delay.Line.{Line}
 use Rattle.law_line.proofs.ListLaws.{slice_get-inside}
 use Rattle.thread_rings.specs.Ends.{OutEnd}
 use Rattle.thread_rings.specs.Ends.{InEnd}
 use Rattle.thread_rings.specs.Ends.{out_passed, in_passed, in_items, AreEnds}
-use Rattle.thread_rings.specs.declared.worker.LineWorker.{LineWorker}
-use Rattle.member_rows.specs.realign_core.Gather.{Gather, line_count}
-use Rattle.member_rows.specs.realign_core.Gather.{Stands as Gathers}
+use Rattle.thread_rings.specs.declared.line_worker.LineWorker.{LineWorker}
+use Rattle.member_rows.specs.realign_rows.Gather.{Gather, line_count}
+use Rattle.member_rows.specs.realign_rows.Gather.{GatherStands as Gathers}
 use Rattle.terminal_sink.specs.sink_core.Core.{Core}
-use Rattle.terminal_sink.specs.sink_core.Core.{Stands as Takes}
+use Rattle.terminal_sink.specs.sink_core.Core.{SinkStands as Takes}
 use Rattle.terminal_sink.specs.sink_core.Given.{given_frames}
-use Rattle.thread_sink.specs.declared.worker.SinkWorker.{SinkWorker}
+use Rattle.thread_sink.specs.declared.sink_worker.SinkWorker.{SinkWorker}
 use Rattle.thread_sink.specs.Received.{received, backs}
 use Rattle.thread_sink.specs.Told.{count_of}
-use Rattle.thread_sink.specs.Worker.{Stands, cells_of, size_of, taken_of, got_of}
+use Rattle.thread_sink.specs.Worker.{SinkWorkerStands, cells_of, size_of, taken_of, got_of}
 use Rattle.thread_group.proofs.LayLaws.{AreStill}
 use Rattle.thread_session.specs.session_parts.Laid.{IsSendLaid, IsReceiveLaid, AreSendsLaid, AreReceivesLaid, AreSendEnds}
 use Rattle.thread_session.specs.session_parts.Laid.{AreReceiveEnds}
@@ -53,7 +53,7 @@ mid-receives tx tx' workers mid rx sends count ends m other into is at =
 -- a sink whose ends have passed the same stands as it stood
 pub stands-laid : (a b : SinkWorker) → b.rows ≡ a.rows → b.core ≡ a.core → got_of b ≡ got_of a →
     length b.rx.items ≡ length a.rx.items → cells_of b ≡ cells_of a →
-    out_passed b.back ≡ out_passed a.back → Stands a → Stands b
+    out_passed b.back ≡ out_passed a.back → SinkWorkerStands a → SinkWorkerStands b
 stands-laid a b rows core got count cells back stands =
     let k = stands.keeps in
     record {

@@ -3,12 +3,12 @@ use Rattle.std.proofs.Common.{◌≡◌, ℕ, zero, suc, ◌≤◌, inl, inr, Li
 use Rattle.std.proofs.Common.{refl, sym, ◌∙◌, ap, subst, arith}
 use Rattle.std.specs.Global.{Vec}
 use Rattle.std.specs.Vec.{vec_capacity}
-use Rattle.base_cells.specs.declared.Cell.{Cell}
+use Rattle.member_cells.specs.declared.containers_and_cells.Cell.{Cell}
 use Rattle.thread_rings.specs.Ends.{InEnd}
 use Rattle.thread_rings.specs.Ends.{in_passed}
 use Rattle.thread_sink.specs.Received.{received}
-use Rattle.thread_alarms.specs.declared.watched_line.served.ServedLine.{ServedLine}
-use Rattle.thread_session.specs.session_parts.Lines.{HaveRoom}
+use Rattle.thread_alarms.specs.declared.watched_line.served_line.ServedLine.{ServedLine}
+use Rattle.thread_session.specs.session_parts.ServedLines.{HaveRoom}
 use Rattle.thread_session.proofs.SessionPartsLaws.OpenLaws.{get-last}
 
 -- ---- one share more

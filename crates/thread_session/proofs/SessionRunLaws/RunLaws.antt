@@ -4,34 +4,34 @@ use Rattle.std.proofs.Common.{◌∙◌, ap, subst, arith}
 use Rattle.std.specs.Prelude.{Contains}
 use Rattle.std.proofs.lemmas.List.{nil_from_length}
 use Rattle.std.proofs.lemmas.Option.{slice_get_within}
-use Rattle.base_cells.specs.declared.Container.{Container}
-use Rattle.base_cells.specs.declared.Cell.TheVariants.{End}
-use Rattle.base_cells.specs.declared.BackCell.{BackCell}
-use Rattle.base_io.specs.Transfer.{Appends, AppendsPart}
-use Rattle.base_io.proofs.Parts.{Appends-none}
+use Rattle.member_cells.specs.declared.containers_and_cells.Container.{Container}
+use Rattle.member_cells.specs.declared.containers_and_cells.Cell.TheVariants.{End}
+use Rattle.member_cells.specs.declared.containers_and_cells.BackCell.{BackCell}
+use Rattle.octet_io.specs.Transfer.{Appends, AppendsPart}
+use Rattle.octet_io.proofs.Parts.{Appends-none}
 use Rattle.law_line.proofs.ListLaws.{slice_get-inside}
-use Rattle.law_model.specs.declared.script.Script.{Script}
+use Rattle.law_model.specs.declared.script_types.Script.{Script}
 use Rattle.law_model.specs.session.Leg.{leg_of}
 use Rattle.text_report.specs.Report.{got_texts}
 use Rattle.thread_rings.specs.Ends.{OutEnd}
 use Rattle.thread_rings.specs.Ends.{InEnd}
 use Rattle.thread_rings.specs.Ends.{AreEnds}
-use Rattle.thread_rings.specs.declared.worker.LineWorker.{LineWorker}
+use Rattle.thread_rings.specs.declared.line_worker.LineWorker.{LineWorker}
 use Rattle.thread_rings.specs.Worker.{IsLater}
 use Rattle.thread_rings.proofs.EndLaws.{ends-moved}
 use Rattle.terminal_sink.specs.sink_core.Given.{given_frames}
-use Rattle.thread_sink.specs.declared.worker.SinkWorker.{SinkWorker}
+use Rattle.thread_sink.specs.declared.sink_worker.SinkWorker.{SinkWorker}
 use Rattle.text_got.specs.Told.{Seen, seen, known_of, faults_of}
 use Rattle.thread_sink.specs.Told.{Writes}
-use Rattle.thread_sink.specs.Worker.{Stands, parts_of, cells_of, size_of, taken_of, has_failed, ticks_of as rows_of}
+use Rattle.thread_sink.specs.Worker.{SinkWorkerStands, parts_of, cells_of, size_of, taken_of, has_failed, ticks_of as rows_of}
 use Rattle.thread_sink.specs.Worker.{IsLater as IsSinkLater}
 use Rattle.thread_sink.proofs.PartsLaws.{later-refl, frames-none}
-use Rattle.thread_alarms.specs.declared.alarm_log.log.AlarmLog.{AlarmLog}
-use Rattle.thread_group.specs.declared.group.GroupState.{GroupState}
+use Rattle.thread_alarms.specs.declared.alarm_log.log_turns.AlarmLog.{AlarmLog}
+use Rattle.thread_group.specs.declared.group_state.GroupState.{GroupState}
 use Rattle.thread_group.specs.Group.{ticks_of, total_of}
 use Rattle.thread_group.specs.Session.{IsBound}
 use Rattle.thread_session.specs.session_parts.Duty.{Begun, HasRun}
-use Rattle.thread_session.specs.session_parts.Lines.{AreLater}
+use Rattle.thread_session.specs.session_parts.ServedLines.{AreLater}
 use Rattle.thread_session.specs.session_parts.Laid.{AreDone, AreSendEnds, AreReceiveEnds}
 use Rattle.thread_session.specs.session_parts.Opened.{IsLineOf}
 use Rattle.thread_session.proofs.SessionPartsLaws.RunLaws.{HasRunTo}
@@ -148,7 +148,7 @@ module _ (script : Script) (first : GroupState) (begun : List LineWorker) (taker
     (bound : IsBound (leg_of script) first.tx.items (first.back ∷ []) group) (later : AreLater begun lines)
     (after : IsSinkLater taker sink)
     (made : total_of group ≤ ticks_of group) (done : AreDone lines) (taken : taken_of sink ≡ rows_of sink)
-    (stands : Stands sink)
+    (stands : SinkWorkerStands sink)
     (group' : GroupState) (lines' : List LineWorker) (sink' : SinkWorker)
     (laid : AreLaid group lines sink group' lines' sink') where
   line-of : (m : ℕ) (worker : LineWorker) → slice_get lines' m ≡ Some worker → IsLineOf script.config m worker

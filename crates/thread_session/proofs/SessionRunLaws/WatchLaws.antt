@@ -8,38 +8,38 @@ use Rattle.std.proofs.lemmas.List.Elements.{All-nil, All-cons, All-append}
 use Rattle.std.proofs.lemmas.List.Sorted.{All-permutation}
 use Rattle.std.proofs.lemmas.Option.{slice_get_within}
 use Rattle.std.proofs.lemmas.Bool.Decides.{nat_tests}
-use Rattle.base_cells.specs.declared.Container.{Container}
-use Rattle.base_cells.specs.declared.Cell.{Cell}
-use Rattle.base_cells.specs.declared.Cell.TheVariants.{Good, Fail, End}
+use Rattle.member_cells.specs.declared.containers_and_cells.Container.{Container}
+use Rattle.member_cells.specs.declared.containers_and_cells.Cell.{Cell}
+use Rattle.member_cells.specs.declared.containers_and_cells.Cell.TheVariants.{Good, Fail, End}
 use Rattle.law_line.proofs.ListLaws.{slice_get-inside}
-use Rattle.law_model.specs.declared.script.Config.{Config}
-use Rattle.law_model.specs.declared.window.Window.{Window}
+use Rattle.law_model.specs.declared.script_types.Config.{Config}
+use Rattle.law_model.specs.declared.window_types.Window.{Window}
 use Rattle.law_model.specs.members.Damage.{AreWindows}
 use Rattle.law_model.specs.session.Valid.{IsNetwork}
 use Rattle.thread_rings.specs.Ends.{out_passed}
-use Rattle.thread_rings.specs.declared.worker.LineWorker.{LineWorker}
+use Rattle.thread_rings.specs.declared.line_worker.LineWorker.{LineWorker}
 use Rattle.thread_rings.specs.Ends.{OutEnd}
 use Rattle.thread_rings.specs.Ends.{InEnd}
-use Rattle.thread_rings.specs.declared.alarm.Alarm.{Alarm}
-use Rattle.thread_rings.specs.declared.alarm.AlarmKind.{AlarmKind}
-use Rattle.thread_rings.specs.declared.alarm.AlarmKind.TheVariants.{Fails, Returns, Ends}
+use Rattle.thread_rings.specs.declared.alarm_kinds.Alarm.{Alarm}
+use Rattle.thread_rings.specs.declared.alarm_kinds.AlarmKind.{AlarmKind}
+use Rattle.thread_rings.specs.declared.alarm_kinds.AlarmKind.TheVariants.{Fails, Returns, Ends}
 use Rattle.thread_rings.specs.Alarms.{alarm_at, alarms_from, alarms_of_line}
 use Rattle.thread_rings.specs.Worker.{number_of, IsLater}
-use Rattle.thread_sink.specs.declared.worker.SinkWorker.{SinkWorker}
-use Rattle.thread_group.specs.declared.group.GroupState.{GroupState}
-use Rattle.thread_alarms.specs.declared.alarm_log.log.AlarmLog.{AlarmLog}
-use Rattle.thread_alarms.specs.declared.alarm_log.post.AlarmPost.{AlarmPost}
+use Rattle.thread_sink.specs.declared.sink_worker.SinkWorker.{SinkWorker}
+use Rattle.thread_group.specs.declared.group_state.GroupState.{GroupState}
+use Rattle.thread_alarms.specs.declared.alarm_log.log_turns.AlarmLog.{AlarmLog}
+use Rattle.thread_alarms.specs.declared.alarm_log.alarm_post.AlarmPost.{AlarmPost}
 use Rattle.thread_alarms.specs.alarm_log.Alarms.{of_line, in_row}
 use Rattle.thread_alarms.specs.alarm_log.Logs.{IsMade, IsPostOf, SameLog, IsAlone}
 use Rattle.thread_alarms.specs.alarm_log.Posts.{posted_by, SamePost}
-use Rattle.thread_alarms.specs.declared.watched_line.served.ServedLine.{ServedLine}
+use Rattle.thread_alarms.specs.declared.watched_line.served_line.ServedLine.{ServedLine}
 use Rattle.thread_alarms.specs.watched_line.Served.{worker_of, IsServedLater, AreServedLater, AreWatchable, AreTold}
 use Rattle.thread_alarms.proofs.WatchedLineLaws.ServedLaws.{workers-later}
-use Rattle.thread_session.specs.session_parts.Lines.{AreLater, AreNumbered}
+use Rattle.thread_session.specs.session_parts.ServedLines.{AreLater, AreNumbered}
 use Rattle.thread_session.specs.session_parts.Laid.{AreDone, AreServedDone}
 use Rattle.thread_session.specs.session_parts.Opened.{AreOpened}
 use Rattle.thread_session.specs.session_parts.Session.{IsEnded}
-use Rattle.law_model.specs.declared.script.Script.{Script}
+use Rattle.law_model.specs.declared.script_types.Script.{Script}
 use Rattle.law_model.specs.session.Leg.{leg_of}
 use Rattle.law_walk.specs.Rings.{line_cells}
 use Rattle.thread_session.proofs.SessionPartsLaws.DealLaws.{some-is, zip-at}

@@ -4,10 +4,10 @@ use Rattle.text_report.specs.Report.{got_texts}
 use Rattle.terminal_sink.specs.sink_core.Given.{given_frames}
 use Rattle.text_got.specs.Told.{Seen, known_of, faults_of}
 use Rattle.thread_sink.specs.Told.{Writes}
-use Rattle.thread_sink.specs.declared.worker.SinkWorker.{SinkWorker}
-use Rattle.thread_alarms.specs.declared.alarm_log.log.AlarmLog.{AlarmLog}
+use Rattle.thread_sink.specs.declared.sink_worker.SinkWorker.{SinkWorker}
+use Rattle.thread_alarms.specs.declared.alarm_log.log_turns.AlarmLog.{AlarmLog}
 use Rattle.thread_alarms.specs.alarm_log.Logs.{SameLog}
-use Rattle.thread_sink.specs.Worker.{Stands, IsLater, cells_of, size_of, taken_of, has_failed}
+use Rattle.thread_sink.specs.Worker.{SinkWorkerStands, IsLater, cells_of, size_of, taken_of, has_failed}
 
 -- how a session began: what the sink had written and how many writes had failed; the name of the reference by which is
 -- written; its worker;
@@ -21,7 +21,7 @@ pub record Begun : Type 0 where
 -- the worker is later, and has written since then the lines of all frames that its rows give, or a prefix of them up to
 -- a write that failed
 pub record HasRun (begun : Begun) (sink : SinkWorker) (now : Seen) : Type 0 where
-  pub stands : Stands sink
+  pub stands : SinkWorkerStands sink
   pub later : IsLater begun.sink sink
   pub told : Writes known_of faults_of false (has_failed sink) begun.first now
       (got_texts (given_frames (size_of sink) (cells_of sink) (taken_of sink)))

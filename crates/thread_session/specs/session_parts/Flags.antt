@@ -1,9 +1,9 @@
 -- Flags by their numbers.
 use Rattle.std.specs.Prelude.{ℕ}
-use Rattle.thread_session.specs.declared.session_parts.flag.Flag.{Flag}
-use Rattle.thread_session.specs.declared.session_parts.flag.Heed.{Heed}
-use Rattle.thread_session.specs.declared.session_parts.flag.Comes.{Comes}
-use Rattle.thread_session.specs.declared.session_parts.flag.Stored.{Stored}
+use Rattle.thread_session.specs.declared.session_parts.stop_flag.Flag.{Flag}
+use Rattle.thread_session.specs.declared.session_parts.stop_flag.Heed.{Heed}
+use Rattle.thread_session.specs.declared.session_parts.stop_flag.Comes.{Comes}
+use Rattle.thread_session.specs.declared.session_parts.stop_flag.Stored.{Stored}
 
 -- which flag it is
 abbrev pub flag_of : Flag → ℕ

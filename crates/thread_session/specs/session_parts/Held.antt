@@ -2,10 +2,10 @@
 use Rattle.std.specs.Prelude.{◌≡◌, ℕ, List, slice_get, Some}
 use Rattle.std.specs.Global.{Vec}
 use Rattle.std.specs.List.{AllZip}
-use Rattle.thread_alarms.specs.declared.watched_line.served.ServedLine.{ServedLine}
+use Rattle.thread_alarms.specs.declared.watched_line.served_line.ServedLine.{ServedLine}
 use Rattle.thread_session.specs.declared.session_parts.line_thread.Held.{Held}
 use Rattle.thread_session.specs.declared.session_parts.line_thread.Held.TheVariants.{There, Here}
-use Rattle.thread_session.specs.declared.session_parts.flag.Flag.{Flag}
+use Rattle.thread_session.specs.declared.session_parts.stop_flag.Flag.{Flag}
 use Rattle.thread_session.specs.session_parts.Flags.{flag_of}
 use Rattle.thread_alarms.specs.watched_line.Served.{AreServedLater}
 

@@ -1,18 +1,18 @@
 -- The ends of all rings of a session, laid beside each other; and the session that a group belongs to.
 use Rattle.std.specs.Prelude.{◌≡◌, ℕ, List, [], ◌∷◌, ◌++◌, length, slice_get, Some}
-use Rattle.base_cells.specs.declared.Container.{Container}
-use Rattle.base_cells.specs.declared.Cell.{Cell}
-use Rattle.base_cells.specs.declared.BackCell.{BackCell}
-use Rattle.law_model.specs.declared.script.Script.{Script}
+use Rattle.member_cells.specs.declared.containers_and_cells.Container.{Container}
+use Rattle.member_cells.specs.declared.containers_and_cells.Cell.{Cell}
+use Rattle.member_cells.specs.declared.containers_and_cells.BackCell.{BackCell}
+use Rattle.law_model.specs.declared.script_types.Script.{Script}
 use Rattle.law_model.specs.session.Leg.{leg_of}
 use Rattle.thread_rings.specs.Ends.{OutEnd}
 use Rattle.thread_rings.specs.Ends.{InEnd}
 use Rattle.thread_rings.specs.Ends.{out_passed, in_passed, in_items, AreEnds}
-use Rattle.thread_rings.specs.declared.worker.LineWorker.{LineWorker}
+use Rattle.thread_rings.specs.declared.line_worker.LineWorker.{LineWorker}
 use Rattle.thread_rings.specs.Worker.{number_of, delay_of, windows_of, total_of}
-use Rattle.thread_sink.specs.declared.worker.SinkWorker.{SinkWorker}
-use Rattle.thread_sink.specs.Worker.{Stands, cells_of, lines_of, size_of, taken_of, has_failed, ticks_of as rows_of}
-use Rattle.thread_group.specs.declared.group.GroupState.{GroupState}
+use Rattle.thread_sink.specs.declared.sink_worker.SinkWorker.{SinkWorker}
+use Rattle.thread_sink.specs.Worker.{SinkWorkerStands, cells_of, lines_of, size_of, taken_of, has_failed, ticks_of as rows_of}
+use Rattle.thread_group.specs.declared.group_state.GroupState.{GroupState}
 use Rattle.thread_group.specs.Group.{ticks_of}
 use Rattle.thread_group.specs.Session.{IsBound}
 use Rattle.thread_session.specs.session_parts.Laid.{AreSendEnds, AreReceiveEnds}
@@ -61,4 +61,4 @@ pub record AreLaid (group : GroupState) (lines : List LineWorker) (sink : SinkWo
   pub rows : rows_of sink' ≡ rows_of sink
   pub taken : taken_of sink' ≡ taken_of sink
   pub failed : has_failed sink' ≡ has_failed sink
-  pub stands : Stands sink → Stands sink'
+  pub stands : SinkWorkerStands sink → SinkWorkerStands sink'

@@ -1,9 +1,9 @@
 -- Room that is taken before threads are started.
 use Rattle.std.specs.Prelude.{◌≡◌, ℕ, ◌<◌, ◌≤◌, [], vec_len}
 use Rattle.std.specs.Vec.{vec_capacity}
-use Rattle.thread_session.specs.session_parts.Lines.{HaveRoom}
-use Rattle.thread_session.specs.declared.session_run.room.Room.{Room}
-use Rattle.thread_session.specs.declared.session_run.room.Places.{Places}
+use Rattle.thread_session.specs.session_parts.ServedLines.{HaveRoom}
+use Rattle.thread_session.specs.declared.session_run.room_and_flags.Room.{Room}
+use Rattle.thread_session.specs.declared.session_run.room_and_flags.Places.{Places}
 
 -- room for so many lines, in so many shares
 pub record HasRoomFor (lines workers : ℕ) (room : Room) : Type 0 where

@@ -1,23 +1,23 @@
 -- A session of a script at its opening, and at its end.
 use Rattle.std.specs.Prelude.{◌≡◌, ℕ, ◌≤◌, List, [], ◌∷◌, ◌++◌, length, slice_get, Some, false}
-use Rattle.base_cells.specs.declared.Container.{Container}
-use Rattle.base_cells.specs.declared.Cell.{Cell}
-use Rattle.law_model.specs.declared.script.Script.{Script}
+use Rattle.member_cells.specs.declared.containers_and_cells.Container.{Container}
+use Rattle.member_cells.specs.declared.containers_and_cells.Cell.{Cell}
+use Rattle.law_model.specs.declared.script_types.Script.{Script}
 use Rattle.law_model.specs.session.Leg.{leg_of}
 use Rattle.law_model.specs.session.Scenario.{offers_of, orders_of}
-use Rattle.law_model.specs.declared.totals.Totals.{Totals}
+use Rattle.law_model.specs.declared.session_totals.Totals.{Totals}
 use Rattle.thread_rings.specs.Ends.{OutEnd}
 use Rattle.thread_rings.specs.Ends.{InEnd}
 use Rattle.thread_rings.specs.Ends.{out_passed, in_passed, in_items, AreEnds}
-use Rattle.thread_rings.specs.declared.worker.LineWorker.{LineWorker}
-use Rattle.thread_sink.specs.declared.worker.SinkWorker.{SinkWorker}
-use Rattle.thread_sink.specs.Worker.{Stands, lines_of, size_of, taken_of, has_failed, ticks_of as rows_of}
+use Rattle.thread_rings.specs.declared.line_worker.LineWorker.{LineWorker}
+use Rattle.thread_sink.specs.declared.sink_worker.SinkWorker.{SinkWorker}
+use Rattle.thread_sink.specs.Worker.{SinkWorkerStands, lines_of, size_of, taken_of, has_failed, ticks_of as rows_of}
 use Rattle.law_walk.specs.Landed.{refusals_among, totals_among}
 use Rattle.law_walk.specs.Promise.{numbered}
-use Rattle.thread_group.specs.declared.group.GroupState.{GroupState}
+use Rattle.thread_group.specs.declared.group_state.GroupState.{GroupState}
 use Rattle.thread_group.specs.Group.{IsOf, ticks_of, total_of, frames_of, commands_of, journal_of, refusals_of, totals_of}
 use Rattle.thread_group.specs.Session.{AreItemsOf, IsBound, HasLandedOf}
-use Rattle.thread_alarms.specs.declared.watched_line.served.ServedLine.{ServedLine}
+use Rattle.thread_alarms.specs.declared.watched_line.served_line.ServedLine.{ServedLine}
 use Rattle.thread_session.specs.session_parts.Laid.{AreDone, AreServedDone, AreSendEnds, AreReceiveEnds}
 use Rattle.thread_session.specs.session_parts.Opened.{IsLineOf, AreOpened}
 
@@ -29,7 +29,7 @@ pub record IsSinkOf (script : Script) (sink : SinkWorker) : Type 0 where
   pub rows : rows_of sink ≡ script.config.ticks
   pub taken : taken_of sink ≡ 0
   pub failed : has_failed sink ≡ false
-  pub stands : Stands sink
+  pub stands : SinkWorkerStands sink
 
 -- a group that is bound to the script, the workers of its lines and of its sink, with the ends of their rings; nothing
 -- has moved
@@ -68,7 +68,7 @@ pub record HasComeToEnd (script : Script) (group : GroupState) (workers : List L
       slice_get sink.rx.items m ≡ Some into →
       in_passed into ++ in_items into ≡ out_passed worker.producer
   pub returns : in_passed group.back ++ in_items group.back ≡ out_passed sink.back
-  pub stands : Stands sink
+  pub stands : SinkWorkerStands sink
   pub sink_lines : lines_of sink ≡ script.config.lines
   pub size : size_of sink ≡ script.config.size
   pub taken : taken_of sink ≡ script.config.ticks

@@ -1,14 +1,14 @@
 -- Who does what, and what has landed.
 use Rattle.std.specs.Prelude.{◌≡◌, ℕ, true, List, Some}
-use Rattle.base_cells.specs.declared.Container.{Container}
-use Rattle.base_cells.specs.declared.BackCell.{BackCell}
+use Rattle.member_cells.specs.declared.containers_and_cells.Container.{Container}
+use Rattle.member_cells.specs.declared.containers_and_cells.BackCell.{BackCell}
 use Rattle.law_model.specs.session.Leg.{Leg}
-use Rattle.law_model.specs.declared.script.ItemKind.{ItemKind}
-use Rattle.law_model.specs.declared.script.ItemKind.TheVariants.{Frame, Add, Remove}
-use Rattle.thread_rings.specs.declared.gate.Who.{Who}
-use Rattle.thread_rings.specs.declared.gate.Who.TheVariants.{Client, Operator}
+use Rattle.law_model.specs.declared.script_types.ItemKind.{ItemKind}
+use Rattle.law_model.specs.declared.script_types.ItemKind.TheVariants.{Frame, Add, Remove}
+use Rattle.thread_rings.specs.declared.burst_gate.Who.{Who}
+use Rattle.thread_rings.specs.declared.burst_gate.Who.TheVariants.{Client, Operator}
 use Rattle.thread_rings.specs.Ends.{OutEnd, InEnd}
-use Rattle.thread_group.specs.declared.group.GroupState.{GroupState}
+use Rattle.thread_group.specs.declared.group_state.GroupState.{GroupState}
 use Rattle.thread_group.specs.Group.{HasCounted, next_of}
 use Rattle.thread_group.specs.Session.{IsBound}
 

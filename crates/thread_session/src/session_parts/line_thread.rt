@@ -2,15 +2,15 @@
 ghost use Rattle.std.specs.Prelude.{◌≡◌, ℕ, ◌≤◌, List, [], length, vec_len};
 ghost use Rattle.std.specs.Global.{Vec};
 ghost use Rattle.std.specs.Vec.{vec_capacity};
-ghost use Rattle.thread_alarms.specs.declared.watched_line.served.ServedLine.{ServedLine};
+ghost use Rattle.thread_alarms.specs.declared.watched_line.served_line.ServedLine.{ServedLine};
 ghost use Rattle.thread_alarms.specs.watched_line.Served.{AreServedLater, IsServedLater};
-ghost use Rattle.thread_session.specs.session_parts.Lines.{SharesLater};
-ghost use Rattle.thread_session.specs.declared.session_parts.flag.Flag.{Flag as OwnFlag};
+ghost use Rattle.thread_session.specs.session_parts.ServedLines.{SharesLater};
+ghost use Rattle.thread_session.specs.declared.session_parts.stop_flag.Flag.{Flag as OwnFlag};
 ghost use Rattle.thread_session.specs.session_parts.Flags.{flag_of, heeded, stored_flag};
 ghost use Rattle.thread_session.specs.session_parts.Held.{IsHeldOf, AreHeldOf, IsToldBy, AreToldBy};
 
-use crate::session_parts::bell::Bell;
-use crate::session_parts::flag::{Flag, Heed, Stored};
+use crate::session_parts::thread_bell::Bell;
+use crate::session_parts::stop_flag::{Flag, Heed, Stored};
 use std::snapshot::Snapshot;
 use std::sync::{OnceToken, Wait};
 use std::thread::{Promise, PromisedHandle, Scope, Threads};

@@ -5,20 +5,20 @@
 //! their end, containers, cells, frames and return cells are the session's. A `Bell` has no clause: it only
 //! lets threads sleep.
 
-mod bell;
-mod duty;
-mod flag;
-mod laws;
-mod lay;
+mod thread_bell;
+mod sink_duty;
+mod stop_flag;
+mod session_laws;
+mod lay_ring_ends;
 mod line_thread;
-mod open;
-mod shares;
+mod opened_lines;
+mod line_shares;
 
-pub use bell::Bell;
-pub use duty::{Duty, SinkDuty, Turned};
-pub use flag::{Comes, Flag, Heed, Stored};
-pub use laws::{ended_law, gathered_law};
-pub use lay::{carry_all, lay_receives, lay_sends};
+pub use thread_bell::Bell;
+pub use sink_duty::{Duty, SinkDuty, Turned};
+pub use stop_flag::{Comes, Flag, Heed, Stored};
+pub use session_laws::{ended_law, gathered_law};
+pub use lay_ring_ends::{carry_all, lay_receives, lay_sends};
 pub use line_thread::{Held, Kept, serve_all_here, start_shares, take_all_back};
-pub use open::{OpenedLines, open_lines};
-pub use shares::{collect, deal};
+pub use opened_lines::{OpenedLines, open_lines};
+pub use line_shares::{collect, deal};

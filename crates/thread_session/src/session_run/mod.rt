@@ -4,15 +4,15 @@
 //! said. It promises nothing of when that is, nor that it ends. Begin with `run_session`, and with
 //! `run_watched` if alarms are wanted too.
 
-mod beside;
-mod finish;
-mod open;
-mod room;
-mod run;
-mod session;
-mod turns;
-mod watched;
+mod start_threads;
+mod finish_in_turn;
+mod open_ends;
+mod room_and_flags;
+mod plain_session;
+mod opened_session;
+mod group_turns;
+mod watched_session;
 
-pub use run::run_session;
-pub use session::Ended;
-pub use watched::run_watched;
+pub use plain_session::run_session;
+pub use opened_session::Ended;
+pub use watched_session::run_watched;

@@ -6,12 +6,12 @@ use Rattle.std.specs.List.{range_with_len}
 use Rattle.std.proofs.lemmas.List.{length-map}
 use Rattle.std.proofs.lemmas.List.FromFn.{length-range_with_len}
 use Rattle.std.proofs.lemmas.Bool.{cases_lt}
-use Rattle.base_cells.specs.declared.BackCell.{BackCell}
-use Rattle.base_cells.specs.declared.BackCell.TheVariants.{Packet as Nibbles, Lost}
+use Rattle.member_cells.specs.declared.containers_and_cells.BackCell.{BackCell}
+use Rattle.member_cells.specs.declared.containers_and_cells.BackCell.TheVariants.{Packet as Nibbles, Lost}
 use Rattle.law_model.specs.packets.Packet.{packet_nibbles}
 use Rattle.law_model.specs.session.Leg.{Leg}
-use Rattle.law_model.specs.declared.walk.Event.TheVariants.{Back}
-use Rattle.law_model.specs.declared.walk.StallCause.TheVariants.{BackEmpty}
+use Rattle.law_model.specs.declared.walk_events.Event.TheVariants.{Back}
+use Rattle.law_model.specs.declared.walk_events.StallCause.TheVariants.{BackEmpty}
 use Rattle.law_model.specs.session.Scenario.{scenario_by, is_lost, packets_in}
 use Rattle.law_model.specs.session.Counts.{Counts, Step, step, in_return, used_in, in_inbox}
 use Rattle.law_progress.proofs.MoveLaws.{inbox-fits}
@@ -22,10 +22,10 @@ use Rattle.law_walk.proofs.PlanLaws.{has-plan, sound-walks}
 use Rattle.law_walk.proofs.ReturnLaws as return_laws
 use Rattle.walk_engine.specs.walk_parts.Return.{Return, path_of, packet_cell, come, and_moved, moved_by}
 use Rattle.terminal_group.specs.Inbox.{Inbox, with_come, is_lost_in}
-use Rattle.walk_engine.specs.declared.walk_core.moved.StepNote.{StepNote}
-use Rattle.walk_engine.specs.declared.walk_core.moved.Moved.TheVariants.{Yes, Stalled}
+use Rattle.walk_engine.specs.declared.walk_core.step_answers.StepNote.{StepNote}
+use Rattle.walk_engine.specs.declared.walk_core.step_answers.Moved.TheVariants.{Yes, Stalled}
 use Rattle.walk_engine.specs.walk_core.Moved.{answer_by, moved_of, counts_after}
-use Rattle.law_model.specs.declared.packet.Packet.{Packet}
+use Rattle.law_model.specs.declared.control_packet.Packet.{Packet}
 use Rattle.walk_engine.specs.walk_core.Parts.{Parts, counts_of, HasBack, IsWalk}
 use Rattle.walk_engine.proofs.WalkCoreLaws.EventLaws.{walk-fits, walked-next, stands-back}
 

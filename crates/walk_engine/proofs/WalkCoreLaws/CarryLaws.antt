@@ -6,24 +6,24 @@ use Rattle.std.proofs.lemmas.List.{length-take, length-map}
 use Rattle.std.specs.Global.{Vec, Box}
 use Rattle.law_model.specs.rows.Sent.{container_of, frame_of}
 use Rattle.std.proofs.lemmas.Bool.{cases_lt, cases_Bool, cases_eq}
-use Rattle.base_cells.specs.declared.Container.{Container}
+use Rattle.member_cells.specs.declared.containers_and_cells.Container.{Container}
 use Rattle.law_model.specs.session.Leg.{Leg}
-use Rattle.law_model.specs.declared.walk.StallCause.{StallCause}
-use Rattle.law_model.specs.declared.walk.StallCause.TheVariants.{Done, Empty, RxFull}
+use Rattle.law_model.specs.declared.walk_events.StallCause.{StallCause}
+use Rattle.law_model.specs.declared.walk_events.StallCause.TheVariants.{Done, Empty, RxFull}
 use Rattle.law_model.specs.session.Scenario.{scenario_by, carried_by}
 use Rattle.law_model.specs.members.Path.{cells}
 use Rattle.law_model.specs.source.Back.{session_cells}
 use Rattle.std.specs.List.{range_with_len}
 use Rattle.circular_buffer.proofs.Places.{slice_get-set_other}
-use Rattle.member_rows.proofs.RealignCoreLaws.GatherLaws.{length-slice_set, set-here}
-use Rattle.member_rows.specs.realign_core.Gather.{Stands as Gathers}
-use Rattle.terminal_sink.specs.sink_core.Core.{Stands as HasTaken}
-use Rattle.law_model.specs.declared.walk.Event.TheVariants.{Carry}
+use Rattle.member_rows.proofs.RealignRowsLaws.GatherLaws.{length-slice_set, set-here}
+use Rattle.member_rows.specs.realign_rows.Gather.{GatherStands as Gathers}
+use Rattle.terminal_sink.specs.sink_core.Core.{SinkStands as HasTaken}
+use Rattle.law_model.specs.declared.walk_events.Event.TheVariants.{Carry}
 use Rattle.law_model.specs.session.Counts.{LinePath, LineCounts, Plan, Counts, Step, step, carry_at, carry_on, in_send}
 use Rattle.law_model.specs.session.Counts.{in_receive}
 use Rattle.law_terminal.proofs.SentLaws.{containers-size}
 use Rattle.law_terminal.proofs.ListLaws.{range-at}
-use Rattle.member_path.specs.line_core.Line.{and_push, and_flush, carries_of, path_cells, IsEnded}
+use Rattle.member_path.specs.path_delay.Line.{and_push, and_flush, carries_of, path_cells, IsEnded}
 use Rattle.law_walk.specs.Walk.{sent_on, walk_plan, CanWalk, counts_at, cells_on, popped_on, popped_cells}
 use Rattle.law_walk.proofs.PlanLaws.{line-path, sound-walks}
 use Rattle.law_walk.proofs.WalkLaws.{line-fits}
@@ -33,10 +33,10 @@ use Rattle.law_walk.specs.Rings.{delay_on, sent_at, taken_by, cells_by, send_by,
 use Rattle.law_walk.specs.Walk.{path_on}
 use Rattle.law_walk.proofs.RingLaws.{taken-cells, taken-next, receive-size}
 use Rattle.walk_engine.specs.walk_parts.Ringed.{Ringed, ring_of}
-use Rattle.walk_engine.specs.declared.walk_core.moved.Moved.TheVariants.{Yes, Stalled}
+use Rattle.walk_engine.specs.declared.walk_core.step_answers.Moved.TheVariants.{Yes, Stalled}
 use Rattle.walk_engine.specs.walk_core.Moved.{answer_by, moved_of, counts_after}
-use Rattle.walk_engine.specs.walk_core.Parts.{Parts, frame_in, HasSent, counts_of, calls_on, line_counts, HasLine, Stands}
-use Rattle.walk_engine.specs.walk_core.Carry.{carry_cause, CanCarry, HasRoom, IsSentOn, IsCarriedAt}
+use Rattle.walk_engine.specs.walk_core.Parts.{Parts, frame_in, HasSent, counts_of, calls_on, line_counts, HasLine, WayStands}
+use Rattle.walk_engine.specs.walk_core.Carry.{carry_cause, CanCarry, HasReceiveRoom, IsSentOn, IsCarriedAt}
 use Rattle.walk_engine.specs.walk_core.Waiting.{send_ring, receive_ring}
 use Rattle.walk_engine.proofs.WalkCoreLaws.EventLaws.{walk-fits, walked-next, source-stays, landed-stays}
 use Rattle.walk_engine.proofs.WalkCoreLaws.SendLaws.{sent-carried, counts-here, counts-of, waits-none, waits-some}
@@ -268,7 +268,7 @@ cells-same leg lines m line x e same =
     (λ k. ap (λ n. take n (cells_on (scenario_by leg) (delay_on leg k) k))
     (sym (popped-same lines m k line x e same))) (range_with_len 0 (length leg.config.windows))
 
-module _ (leg : Leg) (backs : ℕ) (parts : Parts) (is : Stands leg backs parts)
+module _ (leg : Leg) (backs : ℕ) (parts : Parts) (is : WayStands leg backs parts)
     (m : ℕ) (low : m < leg.config.lines) (line : Ringed) (there : slice_get parts.lines m ≡ Some line) where
   here : slice_get (counts_of parts backs).lines m ≡ Some (line_counts line)
   here = map-get line_counts parts.lines m line there
@@ -289,7 +289,7 @@ module _ (leg : Leg) (backs : ℕ) (parts : Parts) (is : Stands leg backs parts)
   pub line-has : HasLine leg m line
   line-has = is.lines.each m line there
 
-  pub line-room : HasRoom leg m line
+  pub line-room : HasReceiveRoom leg m line
   line-room =
       let fits = line-fits leg (counts_of parts backs) (sound-walks leg is.sound) is.walked m windows in
       let same = counts-here (counts_of parts backs).lines m (line_counts line) here in
@@ -351,7 +351,7 @@ module _ (leg : Leg) (backs : ℕ) (parts : Parts) (is : Stands leg backs parts)
     carry-moved = ap (λ o. answer_by o None) (sym (ap (λ (x : Step). x.cause) moves))
 
     module _ (sent : List (List Container)) (changed : IsCarriedAt (line.carried % 32) m parts.sent sent) where
-      pub carry-kept : Stands leg backs (record parts { lines = slice_set parts.lines m after; sent = sent })
+      pub carry-kept : WayStands leg backs (record parts { lines = slice_set parts.lines m after; sent = sent })
       carry-kept =
           let cells : popped_cells leg (counts_of parts backs).lines ≡ popped_cells leg
           (map line_counts (slice_set parts.lines m after)) =
@@ -389,9 +389,9 @@ module _ (leg : Leg) (backs : ℕ) (parts : Parts) (is : Stands leg backs parts)
           }
 
       -- by a number that is the line's
-      pub carry-kept_at : (k : ℕ) → k ≡ m → Stands leg backs
+      pub carry-kept_at : (k : ℕ) → k ≡ m → WayStands leg backs
           (record parts { lines = slice_set parts.lines k after; sent = sent })
-      carry-kept_at k same = subst (λ (j : ℕ). Stands leg backs
+      carry-kept_at k same = subst (λ (j : ℕ). WayStands leg backs
           (record parts { lines = slice_set parts.lines j after; sent = sent }))
           (sym same) carry-kept
 
@@ -422,7 +422,7 @@ pub is-sent : (leg : Leg) (ticks : ℕ) (counts : List LineCounts) (sent : List 
 is-sent leg ticks counts sent m x has own late some room low frame e =
     has.frames x m (frame_in frame) own late (some low) (room low) (map-get frame_in sent (x % 32) frame e)
 
-module _ (leg : Leg) (backs : ℕ) (parts : Parts) (is : Stands leg backs parts)
+module _ (leg : Leg) (backs : ℕ) (parts : Parts) (is : WayStands leg backs parts)
     (m : ℕ) (low : m < leg.config.lines) (line : Ringed) (there : slice_get parts.lines m ≡ Some line) where
   fits-line : LineFits leg.config.ticks leg.config.ring parts.source.core.ticks parts.sink.taken
       (path_on leg m) (line_counts line)

@@ -2,19 +2,19 @@
 use Rattle.std.proofs.Common.{◌≡◌, ℕ, ◌+◌, ◌%◌, ◌<◌, ◌≤◌, List, length, map, slice_get, slice_set, slice_index_or}
 use Rattle.std.proofs.Common.{Option, Some, None, sym, ◌∙◌, ap, subst, arith}
 use Rattle.std.specs.Global.{Vec, Box}
-use Rattle.base_cells.specs.declared.Container.{Container}
-use Rattle.law_model.specs.declared.walk.Event.TheVariants.{Carry}
-use Rattle.law_model.specs.declared.walk.StallCause.{StallCause}
+use Rattle.member_cells.specs.declared.containers_and_cells.Container.{Container}
+use Rattle.law_model.specs.declared.walk_events.Event.TheVariants.{Carry}
+use Rattle.law_model.specs.declared.walk_events.StallCause.{StallCause}
 use Rattle.law_model.specs.session.Leg.{Leg}
 use Rattle.law_walk.specs.Walk.{path_on}
 use Rattle.walk_engine.specs.walk_parts.Ringed.{Ringed, ring_of}
 use Rattle.terminal_group.proofs.ItemLaws.{at-index}
-use Rattle.walk_engine.specs.declared.walk_core.moved.Moved.TheVariants.{Yes, Stalled}
+use Rattle.walk_engine.specs.declared.walk_core.step_answers.Moved.TheVariants.{Yes, Stalled}
 use Rattle.walk_engine.specs.walk_core.Way.{Makes}
-use Rattle.law_model.specs.declared.packet.Packet.{Packet}
-use Rattle.walk_engine.specs.declared.walk_core.moved.StepNote.{StepNote}
-use Rattle.walk_engine.specs.walk_core.Parts.{Parts, frame_in, line_counts, HasLine, Stands, IsWalk}
-use Rattle.walk_engine.specs.walk_core.Carry.{carry_cause, CanCarry, HasRoom, IsSentOn, IsCarriedAt}
+use Rattle.law_model.specs.declared.control_packet.Packet.{Packet}
+use Rattle.walk_engine.specs.declared.walk_core.step_answers.StepNote.{StepNote}
+use Rattle.walk_engine.specs.walk_core.Parts.{Parts, frame_in, line_counts, HasLine, WayStands, IsWalk}
+use Rattle.walk_engine.specs.walk_core.Carry.{carry_cause, CanCarry, HasReceiveRoom, IsSentOn, IsCarriedAt}
 use Rattle.walk_engine.proofs.WalkCoreLaws.CarryLaws.{same-some, line-has, line-room, carry-stays, carry-kept_at, carry-counts_at}
 use Rattle.walk_engine.proofs.WalkCoreLaws.CarryLaws.{carry-moved, line-sent, room-left}
 
@@ -26,7 +26,7 @@ pub record IsOn (m : ℕ) (was line : Ringed) (before : List (Vec (Box Container
   pub popped : line.popped ≡ was.popped
   pub sent : IsCarriedAt (was.carried % 32) m (map frame_in before) after
 
-module _ (leg : Leg) (backs : ℕ) (parts : Parts) (is : Stands leg backs parts)
+module _ (leg : Leg) (backs : ℕ) (parts : Parts) (is : WayStands leg backs parts)
     (m k : ℕ) (at : k ≡ m) (inside : m < length parts.lines) where
   pub line-low : m < leg.config.lines
   line-low = let size = is.lines.size in omega (arith, inside, size)
@@ -37,7 +37,7 @@ module _ (leg : Leg) (backs : ℕ) (parts : Parts) (is : Stands leg backs parts)
 
   module _ (line : Ringed) (read : line ≡ slice_index_or parts.lines k line) (ticks : ℕ)
       (now : ticks ≡ parts.source.core.ticks) (found : Option StallCause)
-      (clause : (leg : Leg) → HasLine leg m line → HasRoom leg m line →
+      (clause : (leg : Leg) → HasLine leg m line → HasReceiveRoom leg m line →
       found ≡ carry_cause leg.config.ticks leg.config.ring ticks m (path_on leg m) (line_counts line))
     where
       cause-is : found
@@ -110,11 +110,11 @@ module _ (leg : Leg) (backs : ℕ) (parts : Parts) (is : Stands leg backs parts)
 
 -- a walk of which a line has carried, or stalled
 pub carried-walk : (leg : Leg) (parts now : Parts) (ring : List Packet) (last : Option StepNote) →
-    IsWalk leg parts ring last → Stands leg parts.source.inbox.come now →
+    IsWalk leg parts ring last → WayStands leg parts.source.inbox.come now →
     now ≡ record parts { sent = now.sent; lines = now.lines } → IsWalk leg now ring last
 carried-walk leg parts now ring last is stands rest =
     subst (λ (p : Parts). IsWalk leg p ring last) (sym rest) (record {
-      stands = subst (Stands leg parts.source.inbox.come) rest stands;
+      stands = subst (WayStands leg parts.source.inbox.come) rest stands;
       back = record { ring = is.back.ring; lost = is.back.lost; inbox = is.back.inbox; room = is.back.room };
       noted = is.noted;
     })

@@ -4,30 +4,30 @@ use Rattle.std.proofs.Common.{if◌then◌else◌, List, [], ◌∷◌, length, 
 use Rattle.std.proofs.Common.{inl, inr, refl, sym, ◌∙◌, ap, subst, arith}
 use Rattle.std.specs.Option.{is_some}
 use Rattle.std.specs.List.{range_with_len}
-use Rattle.base_cells.specs.declared.BackCell.{BackCell}
+use Rattle.member_cells.specs.declared.containers_and_cells.BackCell.{BackCell}
 use Rattle.law_walk.specs.Rings.{back_cell}
 use Rattle.law_model.specs.session.Counts.{used_in}
 use Rattle.std.proofs.lemmas.Bool.{cases_Bool, ltb-false, lt-ltb, le-ltb}
-use Rattle.law_model.specs.declared.script.Item.{Item}
-use Rattle.law_model.specs.declared.script.ItemKind.{ItemKind}
-use Rattle.law_model.specs.declared.script.ItemKind.TheVariants.{Frame, Add, Remove}
+use Rattle.law_model.specs.declared.script_types.Item.{Item}
+use Rattle.law_model.specs.declared.script_types.ItemKind.{ItemKind}
+use Rattle.law_model.specs.declared.script_types.ItemKind.TheVariants.{Frame, Add, Remove}
 use Rattle.law_model.specs.session.Leg.{Leg}
-use Rattle.law_model.specs.declared.table.Command.{Command}
-use Rattle.law_model.specs.declared.table.Command.TheVariants.{Add as add, Remove as remove}
-use Rattle.law_model.specs.declared.packet.Packet.{Packet}
-use Rattle.law_model.specs.declared.walk.StallCause.{StallCause}
-use Rattle.law_model.specs.declared.walk.StallCause.TheVariants.{NotDue, Done as Stall_done}
+use Rattle.law_model.specs.declared.lcas_states.Command.{Command}
+use Rattle.law_model.specs.declared.lcas_states.Command.TheVariants.{Add as add, Remove as remove}
+use Rattle.law_model.specs.declared.control_packet.Packet.{Packet}
+use Rattle.law_model.specs.declared.walk_events.StallCause.{StallCause}
+use Rattle.law_model.specs.declared.walk_events.StallCause.TheVariants.{NotDue, Done as Stall_done}
 use Rattle.law_model.specs.session.Scenario.{Scenario, DueCommand, DueFrame, order_of}
 use Rattle.law_model.specs.source.Source.{Source, refusal}
 use Rattle.law_model.specs.source.Client.{Stream, refusal_while, frame_refusal}
 use Rattle.law_model.specs.session.Counts.{Counts, step}
 use Rattle.law_model.specs.source.Course.{Course}
 use Rattle.law_model.specs.source.Table.{Told}
-use Rattle.law_model.specs.declared.refusal.Refusal.{Refusal}
-use Rattle.law_model.specs.declared.refusal.Refusal.TheVariants.{Frame as frame_fault, Command as command_fault}
-use Rattle.law_model.specs.declared.totals.Totals.{Totals}
+use Rattle.law_model.specs.declared.item_refusals.Refusal.{Refusal}
+use Rattle.law_model.specs.declared.item_refusals.Refusal.TheVariants.{Frame as frame_fault, Command as command_fault}
+use Rattle.law_model.specs.declared.session_totals.Totals.{Totals}
 use Rattle.terminal_source.specs.source_core.Terminal.{Terminal, SameKind}
-use Rattle.terminal_source.specs.source_core.Given.{Stands as HasMade}
+use Rattle.terminal_source.specs.source_core.Given.{SourceStands as HasMade}
 use Rattle.law_walk.specs.Step.{last_packet}
 use Rattle.law_walk.specs.Walk.{walk_plan, IsWalked}
 use Rattle.law_walk.specs.Landed.{Numbered, told_before, is_client, refusal_at, refused_by}
@@ -47,12 +47,12 @@ use Rattle.terminal_group.proofs.LandingLaws.{item-there, client-frame, operator
 use Rattle.terminal_group.proofs.LandsLaws.{place_by, numbered, counts_by, next_by, next-counts, next-place, bare-size}
 use Rattle.terminal_group.proofs.LandsLaws.{bare-due, next-there, offer-here, order-here, Leaves, leaves}
 use Rattle.walk_engine.specs.walk_parts.Return.{path_of}
-use Rattle.walk_engine.specs.declared.walk_core.moved.StepNote.{StepNote}
-use Rattle.walk_engine.specs.declared.walk_core.moved.Moved.TheVariants.{Stalled}
+use Rattle.walk_engine.specs.declared.walk_core.step_answers.StepNote.{StepNote}
+use Rattle.walk_engine.specs.declared.walk_core.step_answers.Moved.TheVariants.{Stalled}
 use Rattle.walk_engine.specs.walk_core.Landing.{stall_by, landing_of}
 use Rattle.walk_engine.specs.walk_core.Moved.{answer_by, moved_of, counts_after}
 use Rattle.walk_engine.specs.walk_core.Parts.{Parts, counts_of, note_of, HasSource, HasSent, HasBack, HasLanded, line_counts}
-use Rattle.walk_engine.specs.walk_core.Parts.{Stands, IsWalk, told_leg, told_scenario}
+use Rattle.walk_engine.specs.walk_core.Parts.{WayStands, IsWalk, told_leg, told_scenario}
 use Rattle.walk_engine.specs.walk_core.Way.{Makes, IsDue}
 use Rattle.walk_engine.proofs.WalkCoreLaws.EventLaws.{walked-next}
 use Rattle.walk_engine.proofs.WalkCoreLaws.ToldLaws.{told-source, told-stream}
@@ -73,7 +73,7 @@ abbrev pub tell_by : Bool → Option Refusal → Totals → Totals
 tell_by true = with_frame_told
 tell_by false = with_command_told
 
-module _ (leg : Leg) (backs : ℕ) (parts : Parts) (is : Stands leg backs parts) where
+module _ (leg : Leg) (backs : ℕ) (parts : Parts) (is : WayStands leg backs parts) where
   abbrev s : Counts
   s = counts_of parts backs
 
@@ -180,7 +180,7 @@ module _ (leg : Leg) (backs : ℕ) (parts : Parts) (is : Stands leg backs parts)
       HasMade now.core (with_kind (told_scenario leg (counts_of parts backs)) parts.source.core.ticks kind)
       (told_before leg parts.source.core.ticks) →
       now.core.ticks ≡ parts.source.core.ticks → SameKind now.core parts.source.core →
-      Stands leg backs (record parts { source = now })
+      WayStands leg backs (record parts { source = now })
   land-kept kind now total has walked told made ticks same =
       let next : Counts = counts_by (counts_of parts backs) now.landed in
       let e : next ≡ counts_of (record parts { source = now }) backs = ap (λ t. record next { ticks = t })
@@ -273,7 +273,7 @@ next-none place items e =
       | inr past ↦ ltb-false place (length items) past
     ]
 
-module _ (leg : Leg) (backs : ℕ) (parts : Parts) (is : Stands leg backs parts) (client : Bool) where
+module _ (leg : Leg) (backs : ℕ) (parts : Parts) (is : WayStands leg backs parts) (client : Bool) where
   cause-is : (step (walk_plan leg) (counts_of parts backs) (landing_of client)).cause
       ≡ stall_by parts.source.core.ticks (slice_get leg.items (place_by client parts.source.landed leg.items))
   cause-is = next-cause leg (counts_of parts backs) (next_by client (counts_of parts backs) parts.source.landed)
@@ -406,7 +406,7 @@ inbox_at leg ticks backs =
     map (back_cell leg) (range_with_len (used_in leg.config.lag ticks) (backs - used_in leg.config.lag ticks))
 
 pub landed-walk : (leg : Leg) (parts now : Parts) (ring : List Packet) (last : Option StepNote) →
-    IsWalk leg parts ring last → Stands leg parts.source.inbox.come now →
+    IsWalk leg parts ring last → WayStands leg parts.source.inbox.come now →
     now.source.core.ticks ≡ parts.source.core.ticks → now.source.inbox ≡ parts.source.inbox →
     now ≡ record parts { source = now.source } → IsWalk leg now ring last
 landed-walk leg parts now ring last is stands ticks inbox rest =
@@ -416,8 +416,8 @@ landed-walk leg parts now ring last is stands ticks inbox rest =
     let back : HasBack leg (counts_of parts parts.source.inbox.come) (path_of ring now.source.inbox) =
     subst (λ (i : Inbox). HasBack leg s (path_of ring i)) (sym inbox) is.back in
     subst (λ (p : Parts). IsWalk leg p ring last) (sym rest) (record {
-      stands = subst (λ n. Stands leg n whole) (sym come)
-          (subst (Stands leg parts.source.inbox.come) rest stands);
+      stands = subst (λ n. WayStands leg n whole) (sym come)
+          (subst (WayStands leg parts.source.inbox.come) rest stands);
       back = subst (λ n. HasBack leg (counts_of whole n) (path_of ring now.source.inbox)) (sym come)
           (record {
             ring = back.ring;

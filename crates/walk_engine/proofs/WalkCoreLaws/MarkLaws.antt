@@ -1,6 +1,6 @@
 -- The mark of the segment that goes on is that of the session's rows.
 use Rattle.std.proofs.Common.{◌≡◌, ℕ, ◌^◌, ◌<◌, List, map, length, Option, ◌∙◌, ap, arith}
-use Rattle.base_cells.specs.declared.Cell.{Cell}
+use Rattle.member_cells.specs.declared.containers_and_cells.Cell.{Cell}
 use Rattle.law_model.specs.session.Leg.{Leg}
 use Rattle.law_model.specs.session.Scenario.{Scenario, scenario_by}
 use Rattle.law_model.specs.source.Table.{Told}
@@ -15,13 +15,13 @@ use Rattle.law_walk.proofs.PlanLaws.{sound-walks}
 use Rattle.law_walk.proofs.EndLaws.{counts-within}
 use Rattle.law_walk.proofs.CountLaws.{place-most}
 use Rattle.law_walk.proofs.WalkLaws.{rows-are}
-use Rattle.terminal_sink.specs.sink_core.Core.{Stands as HasTaken}
+use Rattle.terminal_sink.specs.sink_core.Core.{SinkStands as HasTaken}
 use Rattle.terminal_sink.specs.sink_core.Given.{received_rows}
 use Rattle.terminal_sink.proofs.SinkCoreLaws.SessionLaws.{session-last}
-use Rattle.terminal_sink.specs.gfp_mark.Marks.{first_place}
-use Rattle.walk_engine.specs.walk_core.Parts.{Parts, counts_of, line_counts, Stands}
+use Rattle.terminal_sink.specs.marked_delineator.Marks.{first_place}
+use Rattle.walk_engine.specs.walk_core.Parts.{Parts, counts_of, line_counts, WayStands}
 
-pub mark-is : (leg : Leg) (backs : ℕ) (parts : Parts) (result : Option ℕ) → Stands leg backs parts →
+pub mark-is : (leg : Leg) (backs : ℕ) (parts : Parts) (result : Option ℕ) → WayStands leg backs parts →
     ((cells : List (List Cell)) → HasTaken parts.sink cells →
     length (segments_of (received_rows parts.sink.size cells parts.sink.taken)).last.octets < 2 ^ 64 →
     result ≡ first_place (segments_of (received_rows parts.sink.size cells parts.sink.taken)).last.octets) →

@@ -7,11 +7,11 @@ use Rattle.std.specs.Global.{Vec, Box}
 use Rattle.std.proofs.lemmas.Bool.{cases_Bool}
 use Rattle.std.proofs.lemmas.List.{length-map}
 use Rattle.std.proofs.lemmas.List.FromFn.{length-range_with_len}
-use Rattle.base_cells.specs.declared.Container.{Container}
-use Rattle.base_cells.specs.declared.Cell.{Cell}
-use Rattle.law_model.specs.declared.window.Window.{Window}
-use Rattle.law_model.specs.declared.script.Config.{Config}
-use Rattle.law_model.specs.declared.script.Item.{Item}
+use Rattle.member_cells.specs.declared.containers_and_cells.Container.{Container}
+use Rattle.member_cells.specs.declared.containers_and_cells.Cell.{Cell}
+use Rattle.law_model.specs.declared.window_types.Window.{Window}
+use Rattle.law_model.specs.declared.script_types.Config.{Config}
+use Rattle.law_model.specs.declared.script_types.Item.{Item}
 use Rattle.law_model.specs.session.Leg.{Leg}
 use Rattle.law_model.specs.session.Scenario.{scenario_by, offers_of, orders_of}
 use Rattle.law_model.specs.frames.Segment.{segments_on}
@@ -21,10 +21,10 @@ use Rattle.law_model.specs.frames.Hunt.{hunt_within}
 use Rattle.law_model.specs.source.Back.{cells_before}
 use Rattle.law_model.specs.session.Valid.{IsSound}
 use Rattle.law_model.specs.session.Counts.{LineCounts, Counts, begin, used_in, in_return, in_inbox}
-use Rattle.member_path.specs.line_core.Line.{opened}
-use Rattle.member_rows.specs.realign_core.Gather.{Gather, Stands as Gathers}
+use Rattle.member_path.specs.path_delay.Line.{opened}
+use Rattle.member_rows.specs.realign_rows.Gather.{Gather, GatherStands as Gathers}
 use Rattle.terminal_source.specs.source_core.Terminal.{Terminal}
-use Rattle.terminal_source.specs.source_core.Given.{Stands as HasMade}
+use Rattle.terminal_source.specs.source_core.Given.{SourceStands as HasMade}
 use Rattle.terminal_sink.specs.sink_core.Core.{Core}
 use Rattle.law_walk.specs.Walk.{walk_plan, IsWalked, sent_on, counts_at, cells_on, popped_on, popped_cells}
 use Rattle.law_walk.specs.Rings.{delay_on, back_cell, said_packet}
@@ -34,17 +34,17 @@ use Rattle.law_walk.specs.Delivered.{delivered_of}
 use Rattle.law_walk.specs.Step.{last_packet}
 use Rattle.law_walk.proofs.PlanLaws.{has-paths, sound-walks}
 use Rattle.law_walk.proofs.WalkLaws.{begins-walked}
-use Rattle.law_model.specs.declared.packet.Packet.{Packet}
+use Rattle.law_model.specs.declared.control_packet.Packet.{Packet}
 use Rattle.terminal_group.specs.Item.{bare_items}
 use Rattle.terminal_group.specs.Inbox.{Inbox, empty_inbox}
 use Rattle.terminal_group.specs.Landed.{Landed, none_landed}
 use Rattle.terminal_group.specs.Source.{IsUnusedCore}
 use Rattle.walk_engine.specs.walk_parts.Return.{path_of}
 use Rattle.walk_engine.specs.walk_parts.Ringed.{Ringed, ring_of, Has}
-use Rattle.walk_engine.specs.declared.walk_core.opening.Opened.{Opened}
+use Rattle.walk_engine.specs.declared.walk_core.open_way.Opened.{Opened}
 use Rattle.walk_engine.specs.walk_core.Opened.{IsOpened, AreOpened, AreRings, IsNewSink, IsNewGather, IsNew, IsAlike}
 use Rattle.walk_engine.specs.walk_core.Parts.{Parts, frame_in, HasSource, HasSent, HasLines, HasBack, HasLanded, counts_of}
-use Rattle.walk_engine.specs.walk_core.Parts.{line_counts, calls_on, note_of, told_scenario, Stands, IsWalk}
+use Rattle.walk_engine.specs.walk_core.Parts.{line_counts, calls_on, note_of, told_scenario, WayStands, IsWalk}
 
 -- ---- the lines
 get-last : {X : Type 0} (xs : List X) (x : X) (m : ℕ) (y : X) → slice_get (xs ++ x ∷ []) m ≡ Some y →
@@ -287,7 +287,7 @@ module _ (leg other : Leg) (all : Opened) (new : IsNew other all) (alike : IsAli
       ∙ length-range_with_len 0 (length leg.config.windows)
       ∙ sound.network.windows_each
 
-  pub new-stands : Stands leg 0 (opened_parts all)
+  pub new-stands : WayStands leg 0 (opened_parts all)
   new-stands = record {
     sound = sound;
     total = is.total;
@@ -331,14 +331,14 @@ module _ (leg other : Leg) (all : Opened) (new : IsNew other all) (alike : IsAli
   }
 
 -- ---- a walk, to which nothing has come
-pub new-walk : (leg : Leg) (parts : Parts) (ring : List Packet) → Stands leg 0 parts →
+pub new-walk : (leg : Leg) (parts : Parts) (ring : List Packet) → WayStands leg 0 parts →
     counts_of parts 0 ≡ begin (walk_plan leg) →
     parts.source.inbox ≡ empty_inbox leg.config.lost leg.config.lag → ring ≡ [] → IsWalk leg parts ring None
 new-walk leg parts ring stands begins empty none =
     let come : parts.source.inbox.come ≡ 0 = ap (λ (i : Inbox). i.come) empty in
     let ticks : parts.source.core.ticks ≡ 0 = ap (λ (s : Counts). s.ticks) begins in
     record {
-      stands = subst (λ n. Stands leg n parts) (sym come) stands;
+      stands = subst (λ n. WayStands leg n parts) (sym come) stands;
       back = subst (λ n. HasBack leg (counts_of parts n) (path_of ring parts.source.inbox)) (sym come)
           (subst (λ s. HasBack leg s (path_of ring parts.source.inbox)) (sym begins)
           (subst (λ (i : Inbox). HasBack leg (begin (walk_plan leg)) (path_of ring i)) (sym empty)

@@ -7,10 +7,10 @@ use Rattle.std.proofs.lemmas.Option.{slice_get_within}
 use Rattle.std.proofs.lemmas.Bool.{cases_Bool}
 use Rattle.std.proofs.lemmas.List.{append-nil}
 use Rattle.law_model.specs.session.Leg.{Leg}
-use Rattle.law_model.specs.declared.walk.Event.{Event}
-use Rattle.law_model.specs.declared.walk.Event.TheVariants.{Accept, Command, Tick, Carry, Back, Take}
-use Rattle.law_model.specs.declared.walk.StallCause.{StallCause}
-use Rattle.law_model.specs.declared.walk.StallCause.TheVariants.{NotDue, Done}
+use Rattle.law_model.specs.declared.walk_events.Event.{Event}
+use Rattle.law_model.specs.declared.walk_events.Event.TheVariants.{Accept, Command, Tick, Carry, Back, Take}
+use Rattle.law_model.specs.declared.walk_events.StallCause.{StallCause}
+use Rattle.law_model.specs.declared.walk_events.StallCause.TheVariants.{NotDue, Done}
 use Rattle.law_model.specs.session.Counts.{Due, frame_due, command_due, LinePath, LineCounts, Plan, Counts, Step, in_send}
 use Rattle.law_model.specs.session.Counts.{in_receive, in_return, held, full, is_missing, tick_full, tick_held, carry_at}
 use Rattle.law_model.specs.session.Counts.{pop_lines, take_popped, is_back_full, back, tick, take_row, land_due, frame_dues}
@@ -19,16 +19,16 @@ use Rattle.law_model.specs.session.Valid.{IsSound}
 use Rattle.law_progress.specs.Progress.{made}
 use Rattle.law_progress.proofs.MeasureLaws.{round-less, drain-round, drain-stop}
 use Rattle.law_progress.proofs.ReachLaws.{run-append}
-use Rattle.law_model.specs.declared.refusal.Refusal.{Refusal}
+use Rattle.law_model.specs.declared.item_refusals.Refusal.{Refusal}
 use Rattle.law_walk.specs.Walk.{walk_plan, IsWalked}
-use Rattle.base_io.specs.Start.{Start}
+use Rattle.octet_io.specs.Start.{Start}
 use Rattle.law_walk.proofs.PlanLaws.{has-plan, sound-walks}
 use Rattle.law_walk.specs.Delivered.{delivered_of}
 use Rattle.law_walk.proofs.FrameLaws.{frames-grow}
 use Rattle.walk_engine.specs.walk_core.Moved.{delivered_since, answer_by, moved_of, counts_after, refusal_in_event, GivesRows}
 use Rattle.walk_engine.specs.walk_core.Landing.{landing_of}
-use Rattle.walk_engine.specs.declared.walk_core.moved.Moved.{Moved}
-use Rattle.walk_engine.specs.declared.walk_core.moved.Moved.TheVariants.{Yes, Stalled, Refused}
+use Rattle.walk_engine.specs.declared.walk_core.step_answers.Moved.{Moved}
+use Rattle.walk_engine.specs.declared.walk_core.step_answers.Moved.TheVariants.{Yes, Stalled, Refused}
 use Rattle.walk_engine.proofs.WalkCoreLaws.EventLaws.{walk-fits}
 
 -- ---- each line once

@@ -17,12 +17,12 @@ use Rattle.law_terminal.proofs.SentLaws.{container-at}
 use Rattle.law_walk.specs.Rings.{send_by, sent_at}
 use Rattle.law_walk.proofs.RingLaws.{send-size}
 use Rattle.circular_buffer.proofs.Places.{slice_get-some, slice_get-set_same, slice_get-set_other}
-use Rattle.base_cells.specs.declared.Container.{Container}
+use Rattle.member_cells.specs.declared.containers_and_cells.Container.{Container}
 use Rattle.law_model.specs.session.Leg.{Leg}
 use Rattle.law_model.specs.session.Counts.{LineCounts}
 use Rattle.law_walk.specs.Walk.{sent_on, counts_at}
 use Rattle.walk_engine.specs.walk_parts.Ringed.{Ringed}
-use Rattle.member_rows.proofs.RealignCoreLaws.GatherLaws.{length-slice_set}
+use Rattle.member_rows.proofs.RealignRowsLaws.GatherLaws.{length-slice_set}
 use Rattle.walk_engine.specs.walk_core.Parts.{line_counts, frame_in, HasSent}
 use Rattle.walk_engine.specs.walk_core.Carry.{IsCarriedAt}
 

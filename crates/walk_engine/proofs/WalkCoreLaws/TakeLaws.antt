@@ -8,18 +8,18 @@ use Rattle.std.specs.List.{range_with_len}
 use Rattle.std.proofs.lemmas.Bool.{cases_Bool, cases_lt, cases_eq}
 use Rattle.std.proofs.lemmas.List.{length-map}
 use Rattle.std.proofs.lemmas.Option.{slice_get_within}
-use Rattle.base_cells.specs.declared.Container.{Container}
-use Rattle.base_cells.specs.declared.Cell.{Cell}
+use Rattle.member_cells.specs.declared.containers_and_cells.Container.{Container}
+use Rattle.member_cells.specs.declared.containers_and_cells.Cell.{Cell}
 use Rattle.law_model.specs.session.Leg.{Leg}
 use Rattle.law_model.specs.members.Path.{cells}
 use Rattle.law_model.specs.members.Number.{verdict}
 use Rattle.law_model.specs.session.Scenario.{scenario_by, carried_by}
 use Rattle.law_model.specs.session.Counts.{LinePath, LineCounts, Popped, pop, popped_line, pop_lines, with_line, in_receive}
-use Rattle.member_path.specs.line_core.Line.{path_cells}
+use Rattle.member_path.specs.path_delay.Line.{path_cells}
 use Rattle.law_terminal.proofs.ListLaws.{range-at}
 use Rattle.circular_buffer.proofs.Places.{slice_get-set_other}
-use Rattle.member_rows.proofs.RealignCoreLaws.GatherLaws.{length-slice_set, set-here}
-use Rattle.member_rows.specs.realign_core.Gather.{Gather, Stands as Gathers}
+use Rattle.member_rows.proofs.RealignRowsLaws.GatherLaws.{length-slice_set, set-here}
+use Rattle.member_rows.specs.realign_rows.Gather.{Gather, GatherStands as Gathers}
 use Rattle.law_walk.specs.Walk.{walk_plan, CanWalk, counts_at, popped_on, popped_cells}
 use Rattle.law_walk.specs.Rings.{delay_on, line_cells, AreDecidedBefore, taken_by, cells_by}
 use Rattle.law_walk.specs.Walk.{path_on}

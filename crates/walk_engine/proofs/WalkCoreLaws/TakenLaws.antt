@@ -8,12 +8,12 @@ use Rattle.std.proofs.lemmas.Bool.{cases_Bool, cases_lt, le-leb, lt-leb, leb-fal
 use Rattle.std.proofs.lemmas.List.{length-map, length-append, append-nil, take-append-drop, take-take}
 use Rattle.std.proofs.lemmas.List.FromFn.{length-map-range_with_len}
 use Rattle.std.proofs.lemmas.Option.{slice_get_within}
-use Rattle.base_cells.specs.declared.Cell.{Cell}
-use Rattle.law_model.specs.declared.packet.Packet.{Packet}
+use Rattle.member_cells.specs.declared.containers_and_cells.Cell.{Cell}
+use Rattle.law_model.specs.declared.control_packet.Packet.{Packet}
 use Rattle.law_model.specs.session.Leg.{Leg}
-use Rattle.law_model.specs.declared.walk.Event.TheVariants.{Take}
-use Rattle.law_model.specs.declared.walk.StallCause.{StallCause}
-use Rattle.law_model.specs.declared.walk.StallCause.TheVariants.{Done, BackFull, Waiting as Stall_waiting}
+use Rattle.law_model.specs.declared.walk_events.Event.TheVariants.{Take}
+use Rattle.law_model.specs.declared.walk_events.StallCause.{StallCause}
+use Rattle.law_model.specs.declared.walk_events.StallCause.TheVariants.{Done, BackFull, Waiting as Stall_waiting}
 use Rattle.law_model.specs.session.Scenario.{packets_in}
 use Rattle.law_model.specs.rows.Rows.{first_open, return_at}
 use Rattle.law_model.specs.session.Counts.{LinePath, LineCounts, Plan, Counts, Step, step, moved, stalled, pop, popped_line}
@@ -21,12 +21,12 @@ use Rattle.law_model.specs.session.Counts.{pop_lines, in_return, is_back_full, t
 use Rattle.law_progress.specs.Progress.{LineFits, Fits}
 use Rattle.law_terminal.proofs.ListLaws.{range-at}
 use Rattle.law_line.specs.StableRows.{IsLonger}
-use Rattle.member_rows.specs.realign_core.Gather.{Gather, line_count}
+use Rattle.member_rows.specs.realign_rows.Gather.{Gather, line_count}
 use Rattle.terminal_sink.specs.sink_core.Given.{row_in, added_frames, back_at, rows_taken}
-use Rattle.terminal_sink.specs.declared.sink_core.sink.TakeAnswer.{TakeAnswer}
-use Rattle.terminal_sink.specs.declared.sink_core.sink.TakeAnswer.TheVariants.{Taken, Waiting}
-use Rattle.terminal_sink.specs.sink_core.Core.{Core, Stands as HasTaken}
-use Rattle.base_io.specs.Start.{Start}
+use Rattle.terminal_sink.specs.declared.sink_core.sink_terminal.TakeAnswer.{TakeAnswer}
+use Rattle.terminal_sink.specs.declared.sink_core.sink_terminal.TakeAnswer.TheVariants.{Taken, Waiting}
+use Rattle.terminal_sink.specs.sink_core.Core.{Core, SinkStands as HasTaken}
+use Rattle.octet_io.specs.Start.{Start}
 use Rattle.terminal_sink.proofs.SinkCoreLaws.GivenLaws.{packet-ends, packet-of}
 use Rattle.terminal_sink.proofs.SinkCoreLaws.LaterLaws.{stands-longer}
 use Rattle.law_walk.specs.Walk.{walk_plan, CanWalk, IsWalked, counts_at, popped_on, popped_cells, path_on}
@@ -39,10 +39,10 @@ use Rattle.law_walk.proofs.ReturnLaws.{packet-said, packets-next, ring-says}
 use Rattle.law_walk.proofs.FrameLaws.{frames-received, frames-grow}
 use Rattle.walk_engine.specs.walk_parts.Return.{listed}
 use Rattle.walk_engine.specs.walk_parts.Ringed.{Ringed}
-use Rattle.walk_engine.specs.declared.walk_core.moved.StepNote.{StepNote}
-use Rattle.walk_engine.specs.declared.walk_core.moved.Moved.TheVariants.{Stalled}
+use Rattle.walk_engine.specs.declared.walk_core.step_answers.StepNote.{StepNote}
+use Rattle.walk_engine.specs.declared.walk_core.step_answers.Moved.TheVariants.{Stalled}
 use Rattle.walk_engine.specs.walk_core.Moved.{answer_by, moved_of, counts_after, delivered_since, GivesRows}
-use Rattle.walk_engine.specs.walk_core.Parts.{Parts, HasSent, counts_of, line_counts, Stands, IsWalk}
+use Rattle.walk_engine.specs.walk_core.Parts.{Parts, HasSent, counts_of, line_counts, WayStands, IsWalk}
 use Rattle.walk_engine.specs.walk_core.Way.{said_at, take_by, Takes}
 use Rattle.walk_engine.specs.walk_core.Take.{take_cause, CanPop, HasPopped, CanTake, HasRow}
 use Rattle.walk_engine.proofs.WalkCoreLaws.EventLaws.{walk-fits, walked-next, source-stays, landed-stays}
@@ -185,7 +185,7 @@ received : IsReceived row_in
 received = record { whole = λ octets. refl; lost = refl }
 
 -- ---- of one direction
-module _ (leg : Leg) (backs : ℕ) (parts : Parts) (is : Stands leg backs parts) where
+module _ (leg : Leg) (backs : ℕ) (parts : Parts) (is : WayStands leg backs parts) where
   abbrev was : Counts
   was = counts_of parts backs
 
@@ -485,9 +485,9 @@ module _ (leg : Leg) (parts : Parts) (ring : List Packet) (last : Option StepNot
           ≡ counts_after leg (counts_of parts parts.source.inbox.come) Take
       take-counts = ap (λ (p : Parts). counts_of now p.source.inbox.come) rest ∙ takes.makes.counts
 
-      stands-after : Stands leg parts.source.inbox.come
+      stands-after : WayStands leg parts.source.inbox.come
           (record parts { lines = now.lines; rows = now.rows; sink = now.sink; got = now.got })
-      stands-after = subst (Stands leg parts.source.inbox.come) rest takes.makes.stands
+      stands-after = subst (WayStands leg parts.source.inbox.come) rest takes.makes.stands
 
       pub waits-walk : (line : ℕ) → answer ≡ Waiting line → IsWalk leg now ring last
       waits-walk line e =

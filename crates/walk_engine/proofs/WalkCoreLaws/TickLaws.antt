@@ -10,13 +10,13 @@ use Rattle.std.proofs.lemmas.Bool.{cases_Bool, cases_lt, cases_eq, eqb-true, leb
 use Rattle.std.proofs.lemmas.List.{length-map}
 use Rattle.std.proofs.lemmas.List.FromFn.{length-range_with_len}
 use Rattle.circular_buffer.proofs.Places.{slice_get-set_other}
-use Rattle.member_rows.proofs.RealignCoreLaws.GatherLaws.{length-slice_set, set-here}
-use Rattle.base_cells.specs.declared.BackCell.{BackCell}
-use Rattle.base_cells.specs.declared.Container.{Container}
+use Rattle.member_rows.proofs.RealignRowsLaws.GatherLaws.{length-slice_set, set-here}
+use Rattle.member_cells.specs.declared.containers_and_cells.BackCell.{BackCell}
+use Rattle.member_cells.specs.declared.containers_and_cells.Container.{Container}
 use Rattle.law_model.specs.session.Leg.{Leg}
-use Rattle.law_model.specs.declared.walk.Event.TheVariants.{Tick}
-use Rattle.law_model.specs.declared.walk.StallCause.{StallCause}
-use Rattle.law_model.specs.declared.walk.StallCause.TheVariants.{Done, BackMissing}
+use Rattle.law_model.specs.declared.walk_events.Event.TheVariants.{Tick}
+use Rattle.law_model.specs.declared.walk_events.StallCause.{StallCause}
+use Rattle.law_model.specs.declared.walk_events.StallCause.TheVariants.{Done, BackMissing}
 use Rattle.law_model.specs.session.Scenario.{Scenario, scenario_by, steps_in}
 use Rattle.law_model.specs.source.Table.{Told}
 use Rattle.law_model.specs.packets.Telling.{untold}
@@ -27,7 +27,7 @@ use Rattle.law_model.specs.session.Counts.{LineCounts, Plan, Counts, Step, in_in
 use Rattle.law_model.specs.session.Counts.{tick, tick_held, tick_full, step}
 use Rattle.law_model.specs.source.Course.{Course}
 use Rattle.terminal_source.specs.source_core.Terminal.{needed, needed_at, SameKind}
-use Rattle.terminal_source.specs.source_core.Given.{with_cell, Stands as HasMade}
+use Rattle.terminal_source.specs.source_core.Given.{with_cell, SourceStands as HasMade}
 use Rattle.law_progress.specs.Progress.{ChangesNothing}
 use Rattle.law_progress.proofs.StallLaws.{stalled-same}
 use Rattle.law_walk.specs.Walk.{walk_plan, CanWalk, IsWalked, counts_at}
@@ -39,12 +39,12 @@ use Rattle.law_walk.proofs.WalkLaws.{line-fits}
 use Rattle.law_walk.proofs.SourceLaws.{told-frames}
 use Rattle.law_walk.proofs.StepLaws.{last-next, used-now, said-ends, table-now}
 use Rattle.law_walk.proofs.ReturnLaws as return_laws
-use Rattle.law_model.specs.declared.packet.Packet.{Packet}
+use Rattle.law_model.specs.declared.control_packet.Packet.{Packet}
 use Rattle.law_model.specs.session.Counts.{dues_of}
-use Rattle.law_model.specs.declared.walk.StallCause.TheVariants.{TxFull}
+use Rattle.law_model.specs.declared.walk_events.StallCause.TheVariants.{TxFull}
 use Rattle.std.proofs.lemmas.Bool.{eq-eqb}
-use Rattle.terminal_group.specs.declared.source.EarlyCause.{EarlyCause}
-use Rattle.terminal_group.specs.declared.source.EarlyCause.TheVariants.{Done as Early_done, Held as Early_held}
+use Rattle.terminal_group.specs.declared.group_source.EarlyCause.{EarlyCause}
+use Rattle.terminal_group.specs.declared.group_source.EarlyCause.TheVariants.{Done as Early_done, Held as Early_held}
 use Rattle.terminal_group.specs.Inbox.{Inbox, cell_for, rest_for}
 use Rattle.terminal_group.specs.Source.{Source, SameScript, early_in, held_in, missing_by, missing_in}
 use Rattle.terminal_sink.specs.sink_core.Core.{Core}
@@ -53,12 +53,12 @@ use Rattle.terminal_group.proofs.SourceLaws.{missing-some}
 use Rattle.walk_engine.specs.walk_parts.Return.{Return, path_of}
 use Rattle.walk_engine.specs.walk_core.Landing.{early_stall}
 use Rattle.walk_engine.specs.walk_parts.Ringed.{Ringed}
-use Rattle.walk_engine.specs.declared.walk_core.moved.StepNote.{StepNote}
-use Rattle.walk_engine.specs.declared.walk_core.moved.Moved.TheVariants.{Yes, Stalled}
+use Rattle.walk_engine.specs.declared.walk_core.step_answers.StepNote.{StepNote}
+use Rattle.walk_engine.specs.declared.walk_core.step_answers.Moved.TheVariants.{Yes, Stalled}
 use Rattle.walk_engine.specs.walk_core.Moved.{answer_by, moved_of, counts_after}
 use Rattle.terminal_group.specs.Landed.{Landed}
 use Rattle.walk_engine.specs.walk_core.Parts.{Parts, frame_in, HasSource, HasSent, HasBack, HasLanded, counts_of}
-use Rattle.walk_engine.specs.walk_core.Parts.{line_counts, note_of, told_scenario, Stands, IsWalk}
+use Rattle.walk_engine.specs.walk_core.Parts.{line_counts, note_of, told_scenario, WayStands, IsWalk}
 use Rattle.walk_engine.specs.walk_core.Way.{Makes, early_by, with_passed, CanTick}
 use Rattle.walk_engine.proofs.WalkCoreLaws.ToldLaws.{told-source, passed-made, passed-frame}
 use Rattle.walk_engine.proofs.WalkCoreLaws.EventLaws.{walk-fits, walked-next}
@@ -425,7 +425,7 @@ carried-at [] k d low = absurd (omega arith)
 carried-at (x ∷ xs) zero d low = refl
 carried-at (x ∷ xs) (suc k) d low = carried-at xs k d (omega arith)
 
-module _ (leg : Leg) (backs : ℕ) (parts : Parts) (is : Stands leg backs parts) where
+module _ (leg : Leg) (backs : ℕ) (parts : Parts) (is : WayStands leg backs parts) where
   pub lines-made : (lines : List Ringed) → lines ≡ parts.lines → (k : ℕ) (d : Ringed) → k < length lines →
       min (slice_index_or lines k d).carried leg.config.ticks ≤ parts.source.core.ticks
   lines-made lines same k d low =
@@ -648,7 +648,7 @@ module _ (leg : Leg) (parts : Parts) (ring : List Packet) (last : Option StepNot
       }
 
       -- the walk after the frame
-      module _ (now : Parts) (stands : Stands leg parts.source.inbox.come now)
+      module _ (now : Parts) (stands : WayStands leg parts.source.inbox.come now)
           (ticks : now.source.core.ticks ≡ parts.source.core.ticks + 1)
           (boxed : now.source.inbox ≡ record parts.source.inbox
           { cells = rest_for (is_some (needed parts.source.core)) parts.source.inbox.cells })
@@ -662,7 +662,7 @@ module _ (leg : Leg) (parts : Parts) (ring : List Packet) (last : Option StepNot
         tick-walk =
             let sunk : now.sink ≡ parts.sink = ap (λ (p : Parts). p.sink) rest in
             record {
-              stands = subst (λ n. Stands leg n now) (sym tick-come) stands;
+              stands = subst (λ n. WayStands leg n now) (sym tick-come) stands;
               back = subst (λ n. HasBack leg (counts_of now n) (path_of ring now.source.inbox)) (sym tick-come)
                   (subst (λ (i : Inbox). HasBack leg (counts_of now parts.source.inbox.come) (path_of ring i))
                   (sym boxed) (record {

@@ -12,11 +12,11 @@ use Rattle.law_model.specs.source.Source.{asked_all, source_at}
 use Rattle.law_model.specs.source.Client.{Stream, offered, place_of}
 use Rattle.law_model.specs.rows.Sent.{frame_of}
 use Rattle.law_model.specs.session.Counts.{Counts}
-use Rattle.law_model.specs.declared.packet.Packet.{Packet}
+use Rattle.law_model.specs.declared.control_packet.Packet.{Packet}
 use Rattle.law_session.proofs.AlikeLaws.{Alike, alike-after, alike-place, alike-stream, alike-frame, map-same}
-use Rattle.gfp_fill.specs.Stream.{Stands as HasWritten}
+use Rattle.gfp_fill.specs.Stream.{FillerStands as HasWritten}
 use Rattle.terminal_source.specs.source_core.Terminal.{Terminal}
-use Rattle.terminal_source.specs.source_core.Given.{told_next, stream_now, nibbles_after, Stands as HasMade}
+use Rattle.terminal_source.specs.source_core.Given.{told_next, stream_now, nibbles_after, SourceStands as HasMade}
 use Rattle.terminal_source.proofs.SourceCoreLaws.AlikeLaws.{alike-active, alike-nibbles}
 use Rattle.terminal_source.proofs.SourceCoreLaws.TellLaws.{next-here, next-before}
 use Rattle.law_walk.specs.Landed.{landed_scenario}

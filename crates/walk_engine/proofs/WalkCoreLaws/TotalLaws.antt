@@ -1,18 +1,18 @@
 -- The totals of one direction.
 use Rattle.std.proofs.Common.{◌≡◌, ℕ, ◌+◌, length, ◌∙◌, ap, arith}
 use Rattle.law_model.specs.session.Leg.{Leg}
-use Rattle.law_model.specs.declared.totals.Totals.{Totals}
+use Rattle.law_model.specs.declared.session_totals.Totals.{Totals}
 use Rattle.law_walk.specs.Landed.{totals_of}
 use Rattle.law_walk.specs.Delivered.{delivered_of}
 use Rattle.law_walk.proofs.CountLaws.{delivered-few}
-use Rattle.walk_engine.specs.walk_core.Parts.{Parts, counts_of, Stands}
+use Rattle.walk_engine.specs.walk_core.Parts.{Parts, counts_of, WayStands}
 use Rattle.walk_engine.proofs.WalkCoreLaws.EventLaws.{walk-fits}
 
 abbrev totals_with : ℕ → ℕ → ℕ → ℕ → ℕ → ℕ → Totals
 totals_with ticks taken frames commands refused got = record
     { ticks = ticks; taken = taken; frames = frames; commands = commands; refused = refused; got = got }
 
-module _ (leg : Leg) (backs : ℕ) (parts : Parts) (is : Stands leg backs parts) where
+module _ (leg : Leg) (backs : ℕ) (parts : Parts) (is : WayStands leg backs parts) where
   all-counted : parts.got ≡ length (delivered_of leg parts.sink.taken)
   all-counted =
       let most = delivered-few leg parts.sink.taken is.sound

@@ -7,10 +7,10 @@ use Rattle.std.proofs.lemmas.Option.{slice_get_within}
 use Rattle.circular_buffer.proofs.Places.{slice_get-set_same, slice_get-set_other}
 use Rattle.std.specs.List.{position_from}
 use Rattle.std.proofs.lemmas.Bool.{cases_Bool}
-use Rattle.base_cells.specs.declared.Cell.{Cell}
+use Rattle.member_cells.specs.declared.containers_and_cells.Cell.{Cell}
 use Rattle.law_model.specs.members.Number.{verdict}
 use Rattle.law_model.specs.rows.Rows.{first_open}
-use Rattle.member_rows.specs.realign_core.Gather.{with_cell}
+use Rattle.member_rows.specs.realign_rows.Gather.{with_cell}
 use Rattle.walk_engine.specs.walk_parts.Ringed.{popped_until, is_at}
 
 -- ---- the first place at which a test passes

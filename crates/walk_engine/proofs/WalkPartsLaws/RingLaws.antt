@@ -9,16 +9,16 @@ use Rattle.std.proofs.lemmas.Bool.{cases_lt}
 use Rattle.std.proofs.lemmas.Option.{slice_get-map}
 use Rattle.circular_buffer.proofs.Places.{slice_get-set_same, slice_get-set_other, slice_get-append_left}
 use Rattle.circular_buffer.proofs.Places.{slice_get-append_right}
-use Rattle.base_cells.specs.declared.Container.{Container}
-use Rattle.base_cells.specs.declared.Cell.{Cell}
-use Rattle.base_cells.specs.Held.{held}
-use Rattle.member_path.specs.declared.line_core.carry.CarrySign.{CarrySign}
-use Rattle.member_path.specs.declared.line_core.carry.CarrySign.TheVariants.{Nothing, Good, Fail, End}
-use Rattle.member_path.specs.line_core.Carry.{carry_cells}
-use Rattle.law_model.specs.declared.window.Window.{Window}
+use Rattle.member_cells.specs.declared.containers_and_cells.Container.{Container}
+use Rattle.member_cells.specs.declared.containers_and_cells.Cell.{Cell}
+use Rattle.member_cells.specs.Held.{held}
+use Rattle.member_path.specs.declared.path_delay.carry_sign.CarrySign.{CarrySign}
+use Rattle.member_path.specs.declared.path_delay.carry_sign.CarrySign.TheVariants.{Nothing, Good, Fail, End}
+use Rattle.member_path.specs.path_delay.Carry.{carry_cells}
+use Rattle.law_model.specs.declared.window_types.Window.{Window}
 use Rattle.law_model.specs.members.Path.{path}
-use Rattle.member_path.specs.line_core.Line.{Line, Calls, opened, carries_of, path_cells, Stands}
-use Rattle.member_rows.proofs.RealignCoreLaws.GatherLaws.{length-slice_set}
+use Rattle.member_path.specs.path_delay.Line.{Line, Calls, opened, carries_of, path_cells, DelayStands}
+use Rattle.member_rows.proofs.RealignRowsLaws.GatherLaws.{length-slice_set}
 use Rattle.terminal_group.proofs.ItemLaws.{at-index}
 use Rattle.walk_engine.specs.walk_parts.Ringed.{Ringed, cell_in, cell_at, with_sign, count_of, Has}
 
@@ -132,7 +132,7 @@ pub has-more : (line : Ringed) (core : Line) (calls more : Calls) (carry : Carry
     (signs : List CarrySign) (places : List Container) (count : ℕ) →
     Has line calls → 0 < length line.signs → length line.places ≡ length line.signs →
     line.given < line.popped + length line.signs →
-    Stands core more → carries_of more ≡ carries_of calls + 1 →
+    DelayStands core more → carries_of more ≡ carries_of calls + 1 →
     path_cells more ≡ path_cells calls ++ carry_cells carry place →
     signs ≡ with_sign carry (line.given % length line.signs) line.signs →
     places ≡ slice_set line.places (line.given % length line.signs) place → count ≡ count_of carry →
@@ -214,7 +214,7 @@ has-popped line calls place has more room = record {
 
 -- no carry
 pub has-none : (core : Line) (signs : List CarrySign) (places : List Container) (delay : ℕ) (windows : List Window)
-    (total : ℕ) → Stands core (opened delay windows total) →
+    (total : ℕ) → DelayStands core (opened delay windows total) →
     Has (record { core = core; signs = signs; places = places; carried = 0; given = 0; popped = 0 })
     (opened delay windows total)
 unfolding path

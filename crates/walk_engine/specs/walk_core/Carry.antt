@@ -2,14 +2,14 @@
 use Rattle.std.specs.Prelude.{◌≡◌, ◌≢◌, ◌<◌, ◌≤◌, ◌%◌, List, length, slice_get, ℕ, ◌+◌, nat_le, nat_lt, ◌&&◌}
 use Rattle.std.specs.Prelude.{if◌then◌else◌, Option, Some, None}
 use Rattle.std.specs.Global.{Vec, Box}
-use Rattle.base_cells.specs.declared.Container.{Container}
-use Rattle.base_cells.specs.Held.{held}
+use Rattle.member_cells.specs.declared.containers_and_cells.Container.{Container}
+use Rattle.member_cells.specs.Held.{held}
 use Rattle.law_model.specs.session.Leg.{Leg}
 use Rattle.law_walk.specs.Rings.{sent_at}
 use Rattle.law_walk.specs.Walk.{path_on}
 use Rattle.walk_engine.specs.walk_parts.Ringed.{Ringed, ring_of}
-use Rattle.law_model.specs.declared.walk.StallCause.{StallCause}
-use Rattle.law_model.specs.declared.walk.StallCause.TheVariants.{Done, Empty, RxFull}
+use Rattle.law_model.specs.declared.walk_events.StallCause.{StallCause}
+use Rattle.law_model.specs.declared.walk_events.StallCause.TheVariants.{Done, Empty, RxFull}
 use Rattle.law_model.specs.session.Counts.{LinePath, LineCounts, in_send, in_receive}
 
 -- the first cause, where there is one: of line m, whose ring holds so many cells, where the ticks are made
@@ -27,7 +27,7 @@ pub record CanCarry (line : Ringed) (ticks : ℕ) : Type 0 where
   pub room : line.given ≢ line.popped + ring_of line
 
 -- the cells that were popped were given, and the ring holds the others
-pub record HasRoom (leg : Leg) (m : ℕ) (line : Ringed) : Type 0 where
+pub record HasReceiveRoom (leg : Leg) (m : ℕ) (line : Ringed) : Type 0 where
   pub pops : line.popped ≤ (path_on leg m).given line.carried
   pub room : (path_on leg m).given line.carried ≤ line.popped + leg.config.ring
 

@@ -1,17 +1,17 @@
 -- What one direction of a group holds before any event.
 use Rattle.std.specs.Prelude.{◌≡◌, ℕ, List, [], length, replicate, slice_get, slice_index_or, All, Some}
 use Rattle.std.specs.Global.{Vec, Box}
-use Rattle.base_cells.specs.declared.Container.{Container}
-use Rattle.base_cells.specs.declared.Cell.{Cell}
-use Rattle.law_model.specs.declared.script.Config.{Config}
+use Rattle.member_cells.specs.declared.containers_and_cells.Container.{Container}
+use Rattle.member_cells.specs.declared.containers_and_cells.Cell.{Cell}
+use Rattle.law_model.specs.declared.script_types.Config.{Config}
 use Rattle.law_model.specs.session.Leg.{Leg}
 use Rattle.law_model.specs.session.Valid.{IsSound}
 use Rattle.terminal_group.specs.Source.{IsUnused}
-use Rattle.member_path.specs.line_core.Line.{opened}
-use Rattle.member_rows.specs.realign_core.Gather.{Gather, Stands as Gathers, line_count}
-use Rattle.terminal_sink.specs.sink_core.Core.{Core, Stands as HasTaken}
+use Rattle.member_path.specs.path_delay.Line.{opened}
+use Rattle.member_rows.specs.realign_rows.Gather.{Gather, GatherStands as Gathers, line_count}
+use Rattle.terminal_sink.specs.sink_core.Core.{Core, SinkStands as HasTaken}
 use Rattle.walk_engine.specs.walk_parts.Ringed.{Ringed, ring_of, Has}
-use Rattle.walk_engine.specs.declared.walk_core.opening.Opened.{Opened}
+use Rattle.walk_engine.specs.declared.walk_core.open_way.Opened.{Opened}
 
 -- line m was given its delay and its windows, and nothing was carried
 pub record IsOpened (config : Config) (m : ℕ) (line : Ringed) : Type 0 where

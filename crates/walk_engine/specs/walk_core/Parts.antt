@@ -2,17 +2,17 @@
 use Rattle.std.specs.Prelude.{◌≡◌, ℕ, ◌+◌, ◌-◌, ◌%◌, ◌<◌, ◌≤◌, min, List, [], map, length, take, slice_get}
 use Rattle.std.specs.Prelude.{slice_index_or, Option, Some, None}
 use Rattle.std.specs.Global.{Vec, Box}
-use Rattle.base_cells.specs.declared.Container.{Container}
+use Rattle.member_cells.specs.declared.containers_and_cells.Container.{Container}
 use Rattle.law_model.specs.session.Leg.{Leg}
 use Rattle.law_model.specs.session.Scenario.{Scenario, steps_in}
 use Rattle.law_model.specs.session.Valid.{IsSound}
 use Rattle.law_model.specs.session.Counts.{LineCounts, Counts}
-use Rattle.base_cells.specs.Held.{held}
-use Rattle.member_path.specs.line_core.Line.{Calls}
-use Rattle.member_rows.specs.realign_core.Gather.{Gather, Stands as Gathers, line_count}
+use Rattle.member_cells.specs.Held.{held}
+use Rattle.member_path.specs.path_delay.Line.{Calls}
+use Rattle.member_rows.specs.realign_rows.Gather.{Gather, GatherStands as Gathers, line_count}
 use Rattle.terminal_source.specs.source_core.Terminal.{Terminal}
-use Rattle.terminal_source.specs.source_core.Given.{Stands as HasMade}
-use Rattle.terminal_sink.specs.sink_core.Core.{Core, Stands as HasTaken}
+use Rattle.terminal_source.specs.source_core.Given.{SourceStands as HasMade}
+use Rattle.terminal_sink.specs.sink_core.Core.{Core, SinkStands as HasTaken}
 use Rattle.law_walk.specs.Walk.{IsWalked, counts_at, popped_cells}
 use Rattle.law_walk.specs.Rings.{sent_at, delay_on, taken_by, return_ring, inbox}
 use Rattle.law_walk.specs.Landed.{landed_scenario, told_before, refusals_of, totals_of}
@@ -21,10 +21,10 @@ use Rattle.law_walk.specs.Step.{last_packet, cell_taken}
 use Rattle.terminal_group.specs.Item.{bare_items}
 use Rattle.terminal_group.specs.Landed.{Landed}
 use Rattle.terminal_group.specs.Source.{Source}
-use Rattle.law_model.specs.declared.packet.Packet.{Packet}
+use Rattle.law_model.specs.declared.control_packet.Packet.{Packet}
 use Rattle.walk_engine.specs.walk_parts.Ringed.{Ringed, ring_of, Has}
 use Rattle.walk_engine.specs.walk_parts.Return.{Return, path_of}
-use Rattle.walk_engine.specs.declared.walk_core.moved.StepNote.{StepNote}
+use Rattle.walk_engine.specs.declared.walk_core.step_answers.StepNote.{StepNote}
 
 -- one direction without its way back: the source side; the frames of the send rings, that of number t at place t modulo
 -- 32; the lines; the gathered rows; the sink terminal; how many frames were delivered
@@ -126,7 +126,7 @@ note_of leg None = None
 note_of leg (Some packet) = Some (record { packet = packet; back = cell_taken leg packet })
 
 -- a direction of a leg that can be walked, after some events, of which so many have brought a return packet
-pub record Stands (leg : Leg) (backs : ℕ) (parts : Parts) : Type 0 where
+pub record WayStands (leg : Leg) (backs : ℕ) (parts : Parts) : Type 0 where
   pub sound : IsSound leg
   pub total : parts.source.total ≡ leg.config.ticks
   pub walked : IsWalked leg (counts_of parts backs)
@@ -139,10 +139,10 @@ pub record Stands (leg : Leg) (backs : ℕ) (parts : Parts) : Type 0 where
 
 -- it is one of some leg
 abbrev pub StandsForSome : Parts → Type 0
-StandsForSome parts = (leg : Leg) × (backs : ℕ) × Stands leg backs parts
+StandsForSome parts = (leg : Leg) × (backs : ℕ) × WayStands leg backs parts
 
 -- a walk: its direction, what has come to its inbox, and what is on its way there
 pub record IsWalk (leg : Leg) (parts : Parts) (ring : List Packet) (last : Option StepNote) : Type 0 where
-  pub stands : Stands leg parts.source.inbox.come parts
+  pub stands : WayStands leg parts.source.inbox.come parts
   pub back : HasBack leg (counts_of parts parts.source.inbox.come) (path_of ring parts.source.inbox)
   pub noted : last ≡ note_of leg (last_packet parts.source.core.ticks)

@@ -1,7 +1,7 @@
 -- What waits in the rings of a line of a walk.
 use Rattle.std.specs.Prelude.{ℕ, List}
-use Rattle.base_cells.specs.declared.Container.{Container}
-use Rattle.base_cells.specs.declared.Cell.{Cell}
+use Rattle.member_cells.specs.declared.containers_and_cells.Container.{Container}
+use Rattle.member_cells.specs.declared.containers_and_cells.Cell.{Cell}
 use Rattle.law_model.specs.session.Leg.{Leg}
 use Rattle.law_model.specs.session.Counts.{Counts}
 use Rattle.law_walk.specs.Walk.{counts_at}

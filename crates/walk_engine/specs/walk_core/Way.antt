@@ -1,36 +1,36 @@
 -- What the events of one direction answer, and what they leave of it.
 use Rattle.std.specs.Prelude.{◌≡◌, ◌≢◌, ℕ, ◌+◌, ◌/◌, ◌%◌, ◌==◌, ◌&&◌, ◌≤◌, nat_le, nat_lt, if◌then◌else◌, map}
 use Rattle.std.specs.Prelude.{slice_get, slice_index_or, Option, Some, None, option_map}
-use Rattle.base_cells.specs.declared.BackCell.{BackCell}
-use Rattle.law_model.specs.declared.script.Item.{Item}
-use Rattle.law_model.specs.declared.script.ItemKind.{ItemKind}
-use Rattle.law_model.specs.declared.packet.Packet.{Packet}
-use Rattle.law_model.specs.declared.walk.Event.{Event}
-use Rattle.law_model.specs.declared.walk.Event.TheVariants.{Tick, Take}
-use Rattle.law_model.specs.declared.walk.StallCause.TheVariants.{Waiting as Stall_waiting}
+use Rattle.member_cells.specs.declared.containers_and_cells.BackCell.{BackCell}
+use Rattle.law_model.specs.declared.script_types.Item.{Item}
+use Rattle.law_model.specs.declared.script_types.ItemKind.{ItemKind}
+use Rattle.law_model.specs.declared.control_packet.Packet.{Packet}
+use Rattle.law_model.specs.declared.walk_events.Event.{Event}
+use Rattle.law_model.specs.declared.walk_events.Event.TheVariants.{Tick, Take}
+use Rattle.law_model.specs.declared.walk_events.StallCause.TheVariants.{Waiting as Stall_waiting}
 use Rattle.law_model.specs.session.Leg.{Leg}
 use Rattle.law_model.specs.session.Scenario.{Scenario, packets_in}
 use Rattle.law_model.specs.packets.Told.{told_by}
 use Rattle.law_model.specs.packets.Telling.{untold, passed_on}
 use Rattle.law_model.specs.session.Counts.{Plan, Counts, held, pop_lines, step}
 use Rattle.terminal_source.specs.source_core.Given.{with_cell, with_told}
-use Rattle.terminal_sink.specs.declared.sink_core.sink.TakeAnswer.{TakeAnswer}
-use Rattle.terminal_sink.specs.declared.sink_core.sink.TakeAnswer.TheVariants.{Taken, Waiting}
+use Rattle.terminal_sink.specs.declared.sink_core.sink_terminal.TakeAnswer.{TakeAnswer}
+use Rattle.terminal_sink.specs.declared.sink_core.sink_terminal.TakeAnswer.TheVariants.{Taken, Waiting}
 use Rattle.terminal_sink.specs.sink_core.Given.{rows_taken}
 use Rattle.law_walk.specs.Walk.{walk_plan}
 use Rattle.law_walk.specs.Rings.{said_packet}
 use Rattle.law_walk.specs.Landed.{told_before}
-use Rattle.terminal_group.specs.declared.source.EarlyCause.{EarlyCause}
-use Rattle.terminal_group.specs.declared.source.EarlyCause.TheVariants.{Done, Held}
+use Rattle.terminal_group.specs.declared.group_source.EarlyCause.{EarlyCause}
+use Rattle.terminal_group.specs.declared.group_source.EarlyCause.TheVariants.{Done, Held}
 use Rattle.terminal_group.specs.Landed.{due_at}
-use Rattle.walk_engine.specs.declared.walk_core.moved.Moved.{Moved}
-use Rattle.walk_engine.specs.declared.walk_core.moved.Moved.TheVariants.{Yes, Stalled}
+use Rattle.walk_engine.specs.declared.walk_core.step_answers.Moved.{Moved}
+use Rattle.walk_engine.specs.declared.walk_core.step_answers.Moved.TheVariants.{Yes, Stalled}
 use Rattle.walk_engine.specs.walk_core.Moved.{moved_of, counts_after}
-use Rattle.walk_engine.specs.walk_core.Parts.{Parts, counts_of, line_counts, Stands}
+use Rattle.walk_engine.specs.walk_core.Parts.{Parts, counts_of, line_counts, WayStands}
 
 -- an event in a leg answers as its counts say, and leaves what they give
 pub record Makes (leg : Leg) (backs : ℕ) (event : Event) (was now : Parts) (answer : Moved) : Type 0 where
-  pub stands : Stands leg backs now
+  pub stands : WayStands leg backs now
   pub counts : counts_of now backs ≡ counts_after leg (counts_of was backs) event
   pub moved : answer ≡ moved_of leg (counts_of was backs) event
 

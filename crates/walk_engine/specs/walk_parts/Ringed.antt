@@ -1,14 +1,14 @@
 -- A line with its receive ring.
 use Rattle.std.specs.Prelude.{◌≡◌, ℕ, zero, suc, ◌+◌, ◌%◌, ◌<◌, ◌≤◌, Bool, false, ◌==◌, if◌then◌else◌, List, [], ◌∷◌}
 use Rattle.std.specs.Prelude.{length, take, slice_get, slice_set, Option, Some, None, is_none, IsSome}
-use Rattle.base_cells.specs.declared.Container.{Container}
-use Rattle.base_cells.specs.declared.Cell.{Cell}
-use Rattle.member_path.specs.declared.line_core.carry.CarrySign.{CarrySign}
-use Rattle.member_path.specs.declared.line_core.carry.CarrySign.TheVariants.{Nothing, Good, Fail, End}
-use Rattle.member_path.specs.line_core.Carry.{carry_cells}
-use Rattle.member_path.specs.line_core.Line.{Line, Calls, carries_of, path_cells, Stands}
+use Rattle.member_cells.specs.declared.containers_and_cells.Container.{Container}
+use Rattle.member_cells.specs.declared.containers_and_cells.Cell.{Cell}
+use Rattle.member_path.specs.declared.path_delay.carry_sign.CarrySign.{CarrySign}
+use Rattle.member_path.specs.declared.path_delay.carry_sign.CarrySign.TheVariants.{Nothing, Good, Fail, End}
+use Rattle.member_path.specs.path_delay.Carry.{carry_cells}
+use Rattle.member_path.specs.path_delay.Line.{Line, Calls, carries_of, path_cells, DelayStands}
 use Rattle.law_model.specs.members.Number.{verdict}
-use Rattle.member_rows.specs.realign_core.Gather.{Gather, Stands as Gathers}
+use Rattle.member_rows.specs.realign_rows.Gather.{Gather, GatherStands as Gathers}
 
 -- the line itself; the places of its ring, of each what a carry gave and its container; how many carries were made, and
 -- how many cells
@@ -49,7 +49,7 @@ count_of End = 1
 
 -- these calls have brought a line where it is, and its ring holds the cells that weren't popped
 pub record Has (line : Ringed) (calls : Calls) : Type 0 where
-  pub core : Stands line.core calls
+  pub core : DelayStands line.core calls
   pub carried : line.carried ≡ carries_of calls
   pub given : line.given ≡ length (path_cells calls)
   pub holds : (y : ℕ) (cell : Cell) → line.popped ≤ y → y < line.given → slice_get (path_cells calls) y ≡ Some cell →

@@ -6,15 +6,15 @@
 //! here and no report is written. Begin with `Walk`; the laws of what a walk gives stand in `law_walk`. All of
 //! it but the return path is a `WayCore`, of which a pair of sessions has two.
 
-mod counted;
-mod moved;
-mod opening;
-mod rings;
-mod rows;
+mod counted_frames;
+mod step_answers;
+mod open_way;
+mod send_rings;
+mod take_rows;
 mod walk;
-mod way;
+mod one_way;
 
 pub use law_model::{Event, StallCause};
-pub use moved::{Moved, StepNote};
+pub use step_answers::{Moved, StepNote};
 pub use walk::Walk;
-pub use way::WayCore;
+pub use one_way::WayCore;

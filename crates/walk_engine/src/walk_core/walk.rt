@@ -3,7 +3,7 @@
 ghost use Rattle.std.specs.Prelude.{◌≡◌, ◌/◌, ◌%◌, ◌==◌, ◌<◌, suc, if◌then◌else◌, [], ◌∷◌, length, replicate};
 ghost use Rattle.std.specs.Prelude.{slice_get, Some, None, IfOk, option_map};
 ghost use Rattle.std.specs.Option.{option_copied};
-ghost use Rattle.law_model.specs.declared.walk.Event.TheVariants.{Accept, Command, Tick, Carry, Back, Take};
+ghost use Rattle.law_model.specs.declared.walk_events.Event.TheVariants.{Accept, Command, Tick, Carry, Back, Take};
 ghost use Rattle.law_model.specs.session.Valid.{IsValid};
 ghost use Rattle.law_model.specs.session.Counts.{begin, step, run, round, drain, bound, carries_from};
 ghost use Rattle.law_model.specs.session.Scenario.{steps_in};
@@ -15,24 +15,24 @@ ghost use Rattle.walk_engine.specs.walk_core.Moved.{answer_by, counts_after, mov
 ghost use Rattle.law_model.specs.session.Leg.{leg_of};
 ghost use Rattle.law_walk.specs.Walk.{walk_plan, IsWalked};
 ghost use Rattle.walk_engine.specs.walk_core.Waiting.{send_ring, receive_ring};
-ghost use Rattle.member_path.specs.line_reader.Told.{cell_of};
-ghost use Rattle.law_model.specs.declared.script.Item.{Item};
+ghost use Rattle.member_path.specs.cell_numbers.Told.{cell_of};
+ghost use Rattle.law_model.specs.declared.script_types.Item.{Item};
 ghost use Rattle.terminal_group.specs.Item.{kind_of};
 ghost use Rattle.terminal_group.specs.Inbox.{empty_inbox};
 ghost use Rattle.walk_engine.specs.walk_core.Landing.{landing_of, early_stall};
-ghost use Rattle.walk_engine.specs.walk_core.Parts.{counts_of, note_of, Stands};
+ghost use Rattle.walk_engine.specs.walk_core.Parts.{counts_of, note_of, WayStands};
 ghost use Rattle.walk_engine.specs.walk_core.Take.{take_cause};
 ghost use Rattle.law_model.specs.frames.Segment.{segments_of};
 ghost use Rattle.law_walk.specs.Delivered.{session_rows};
-ghost use Rattle.terminal_sink.specs.gfp_mark.Marks.{first_place};
+ghost use Rattle.terminal_sink.specs.marked_delineator.Marks.{first_place};
 
-use crate::walk_core::moved::{Moved, StepNote};
-use crate::walk_core::rows::ends_packet;
-use crate::walk_core::way::WayCore;
+use crate::walk_core::step_answers::{Moved, StepNote};
+use crate::walk_core::take_rows::ends_packet;
+use crate::walk_core::one_way::WayCore;
 use crate::walk_parts::ReturnRing;
-use base_cells::{BackCell, Container};
+use member_cells::{BackCell, Container};
 use law_model::{Event, FrameOut, Refusal, Script, StallCause, Totals};
-use member_path::line_reader::CellRef;
+use member_path::cell_numbers::CellRef;
 use std::alloc::{AllocError, Global};
 use std::marker::Model;
 use terminal_group::{EarlyCause, ItemRef, handed};
@@ -226,7 +226,7 @@ impl Walk {
     /// A walk of a script before any event.
     fn begun(script: Script, way: WayCore, ring: ReturnRing) -> Walk
         requires script { IsValid script }
-        requires stands { Stands (leg_of script) 0 way }
+        requires stands { WayStands (leg_of script) 0 way }
         requires counts { counts_of way 0 ≡ begin (walk_plan (leg_of script)) }
         requires inbox { way.source.inbox ≡ empty_inbox script.config.lost script.config.lag }
         requires ring { ring ≡ [] }

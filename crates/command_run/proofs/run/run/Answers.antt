@@ -1,6 +1,6 @@
 -- A script is read, its session is run, and its report is written or a write fails.
 use Rattle.std.proofs.Common.{refl}
-use Rattle.law_model.specs.declared.script.Script.{Script}
+use Rattle.law_model.specs.declared.script_types.Script.{Script}
 use Rattle.law_model.specs.session.Leg.{leg_of}
 use Rattle.law_walk.specs.Report.{final_report}
 use Rattle.command_parts.specs.Task.{Answer, writes, reads}

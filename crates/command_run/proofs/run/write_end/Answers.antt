@@ -1,6 +1,6 @@
 -- What waits is the rest of the report.
 use Rattle.std.proofs.Common.{rules, refl, sym, ◌∙◌}
-use Rattle.law_model.specs.declared.script.Script.{Script}
+use Rattle.law_model.specs.declared.script_types.Script.{Script}
 use Rattle.text_got.specs.Told.{HasText, name_of, start_at}
 use Rattle.command_run.specs.Ended.{HasEnded, end_text}
 use Rattle.command_run.proofs.EndLaws.{end-written}

@@ -1,8 +1,8 @@
 -- A script is read, its session is run, and its report and its alarms are written or a write fails.
 use Rattle.std.proofs.Common.{inl, inr, refl, subst}
-use Rattle.law_model.specs.declared.script.Script.{Script}
+use Rattle.law_model.specs.declared.script_types.Script.{Script}
 use Rattle.law_model.specs.session.Leg.{leg_of}
-use Rattle.base_io.specs.Transfer.{Appends, AppendsPart}
+use Rattle.octet_io.specs.Transfer.{Appends, AppendsPart}
 use Rattle.law_walk.specs.Report.{final_report}
 use Rattle.thread_alarms.specs.alarm_log.Logs.{alarms_in}
 use Rattle.command_parts.specs.Task.{Answer, writes_both, reads}

@@ -1,6 +1,6 @@
 -- A row more; and all of them.
 use Rattle.std.proofs.Common.{◌+◌, drop, sym, ◌∙◌, ap}
-use Rattle.fate_service.specs.declared.rows.RowState.TheVariants.{Clear}
+use Rattle.fate_service.specs.declared.row_states.RowState.TheVariants.{Clear}
 use Rattle.fate_service.specs.Outages.{outages_on}
 use Rattle.fate_service.proofs.FoldLaws.{outages-next, outages-end}
 use Rattle.fate_service.proofs.outages.find_outages.Goals as goal

@@ -1,7 +1,7 @@
 -- A frame more is counted; and all of them.
 use Rattle.std.proofs.Common.{◌+◌, ◌<◌, false, not, drop, slice_index_or, sym, ◌∙◌, ap, arith}
-use Rattle.fate_service.specs.declared.landed.CarriedFrame.{CarriedFrame}
-use Rattle.fate_service.specs.declared.landed.Tally.{Tally}
+use Rattle.fate_service.specs.declared.landed_frames.CarriedFrame.{CarriedFrame}
+use Rattle.fate_service.specs.declared.landed_frames.Tally.{Tally}
 use Rattle.fate_service.specs.Outages.{lost_on}
 use Rattle.fate_service.proofs.FoldLaws.{lost-next, lost-end, tally-few}
 use Rattle.fate_service.proofs.outages.lost_of.Goals as goal

@@ -2,9 +2,9 @@
 use Rattle.std.proofs.Common.{◌≡◌, [], ◌∷◌, All, true, false, take, drop, Some, refl, subst, sym}
 use Rattle.std.specs.Prelude.{IfSome}
 use Rattle.std.proofs.lemmas.List.Elements.{All-nil, All-cons}
-use Rattle.base_hec16.specs.Hec.{hec_of}
-use Rattle.base_remainder.specs.Bits.{bits, number_behind, octets_of, xors}
-use Rattle.base_remainder.specs.Remainder.{add_front, divide}
+use Rattle.check_hec16.specs.Hec.{hec_of}
+use Rattle.check_remainder.specs.Bits.{bits, number_behind, octets_of, xors}
+use Rattle.check_remainder.specs.Remainder.{add_front, divide}
 use Rattle.law_model.specs.frames.Core.{core_header, pli_of, head}
 use Rattle.law_model.specs.frames.Hunt.{header_with, hunt_within}
 use Rattle.law_model.specs.frames.Scramble.{scramble_on}

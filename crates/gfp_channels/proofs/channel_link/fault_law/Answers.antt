@@ -2,10 +2,10 @@
 use Rattle.std.proofs.Common.{◌≡◌, ℕ, Ok, Err, Result, ap}
 use Rattle.text_lines.specs.Language.{said_by}
 use Rattle.text_lines.proofs.FirstFaultLaws.{first_fault}
-use Rattle.gfp_channels.specs.declared.channel_link.fault.LineFault.{LineFault}
-use Rattle.gfp_channels.specs.declared.channel_link.draft.Draft.{Draft}
-use Rattle.gfp_channels.specs.declared.channel_link.draft.ChannelPlan.{ChannelPlan}
-use Rattle.gfp_channels.specs.channel_link.Lines.{plan_lines}
+use Rattle.gfp_channels.specs.declared.channel_link.channel_text_fault.LineFault.{LineFault}
+use Rattle.gfp_channels.specs.declared.channel_link.channel_draft.Draft.{Draft}
+use Rattle.gfp_channels.specs.declared.channel_link.channel_draft.ChannelPlan.{ChannelPlan}
+use Rattle.gfp_channels.specs.channel_link.ChannelTextLines.{plan_lines}
 use Rattle.gfp_channels.specs.channel_link.Plan.{plan_in, plan_of_draft}
 use Rattle.gfp_channels.proofs.channel_link.fault_law.Goals as goal
 

@@ -5,7 +5,7 @@ use Rattle.std.specs.Prelude.{nat_le}
 use Rattle.std.proofs.lemmas.Bool.Decides.{nat_tests}
 use Rattle.std.proofs.lemmas.List.{length-append, length-replicate}
 use Rattle.std.proofs.lemmas.List.Elements.{All-replicate}
-use Rattle.base_remainder.specs.Count.{count}
+use Rattle.check_remainder.specs.Count.{count}
 use Rattle.gfp_noise.specs.flip_law.Flipped.{fcs_stream, IsFrame, area_flips, flips_after, window, AreFew, clear, worked_frames}
 use Rattle.gfp_noise.specs.flip_law.Flipped.{one_flip}
 use Rattle.gfp_noise.proofs.FlipLaws.StreamLaws.{sizes, length-fcs_stream, delivered-clear}

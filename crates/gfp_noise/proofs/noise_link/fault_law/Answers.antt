@@ -2,10 +2,10 @@
 use Rattle.std.proofs.Common.{◌≡◌, ℕ, Ok, Err, Result, ap}
 use Rattle.text_lines.specs.Language.{said_by}
 use Rattle.text_lines.proofs.FirstFaultLaws.{first_fault}
-use Rattle.gfp_noise.specs.declared.noise_link.fault.LineFault.{LineFault}
-use Rattle.gfp_noise.specs.declared.noise_link.draft.Draft.{Draft}
-use Rattle.gfp_noise.specs.declared.noise_link.draft.Noise.{Noise}
-use Rattle.gfp_noise.specs.noise_link.Lines.{noise_lines}
+use Rattle.gfp_noise.specs.declared.noise_link.noise_text_fault.LineFault.{LineFault}
+use Rattle.gfp_noise.specs.declared.noise_link.noise_draft.Draft.{Draft}
+use Rattle.gfp_noise.specs.declared.noise_link.noise_draft.Noise.{Noise}
+use Rattle.gfp_noise.specs.noise_link.NoiseTextLines.{noise_lines}
 use Rattle.gfp_noise.specs.noise_link.Noise.{noise_in, noise_of_draft}
 use Rattle.gfp_noise.proofs.noise_link.fault_law.Goals as goal
 

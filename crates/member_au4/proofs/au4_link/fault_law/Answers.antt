@@ -1,11 +1,11 @@
 -- The first fault of a text is that of its language.
 use Rattle.std.proofs.Common.{◌≡◌, ℕ, Ok, Err, Result, ap}
-use Rattle.member_au4.specs.declared.au4_link.fault.LineFault.{LineFault}
+use Rattle.member_au4.specs.declared.au4_link.au4_text_fault.LineFault.{LineFault}
 use Rattle.text_lines.specs.Language.{said_by}
 use Rattle.text_lines.proofs.FirstFaultLaws.{first_fault}
-use Rattle.member_au4.specs.declared.au4_link.draft.Draft.{Draft}
-use Rattle.member_au4.specs.declared.au4_link.draft.Link.{Link}
-use Rattle.member_au4.specs.au4_link.Lines.{link_lines}
+use Rattle.member_au4.specs.declared.au4_link.au4_draft.Draft.{Draft}
+use Rattle.member_au4.specs.declared.au4_link.au4_draft.Link.{Link}
+use Rattle.member_au4.specs.au4_link.LinkTextLines.{link_lines}
 use Rattle.member_au4.specs.au4_link.Link.{link_in, link_of_draft}
 use Rattle.member_au4.proofs.au4_link.fault_law.Goals as goal
 

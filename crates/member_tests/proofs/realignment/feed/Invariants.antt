@@ -1,6 +1,6 @@
 -- A cell changes neither how many lines there are nor how many rows were passed.
 use Rattle.std.proofs.Common.{◌≡◌}
-use Rattle.member_rows.specs.realign_core.Gather.{line_count}
+use Rattle.member_rows.specs.realign_rows.Gather.{line_count}
 use Rattle.member_tests.proofs.realignment.feed.Given as goal
 
 abbrev pub invariant-loop : goal.invariant-loop

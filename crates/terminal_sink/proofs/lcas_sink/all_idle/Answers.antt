@@ -1,5 +1,5 @@
 -- Each line of the array is idle, and so is what is read behind its end.
-use Rattle.law_model.specs.declared.table.SinkState.TheVariants.{Idle}
+use Rattle.law_model.specs.declared.lcas_states.SinkState.TheVariants.{Idle}
 use Rattle.terminal_sink.proofs.LcasSinkLaws.RowSteps.{replicate-at}
 use Rattle.terminal_sink.proofs.lcas_sink.all_idle.Goals as goal
 

@@ -1,7 +1,7 @@
 -- Turns, or a drain.
 use Rattle.std.proofs.Common.{sym, ◌∙◌, ap}
 use Rattle.std.proofs.lemmas.Result.{on_ok_weaker}
-use Rattle.law_model.specs.declared.script.EventLine.{EventLine}
+use Rattle.law_model.specs.declared.script_types.EventLine.{EventLine}
 use Rattle.law_model.specs.session.Leg.{leg_of}
 use Rattle.law_model.specs.session.Counts.{run_line}
 use Rattle.law_walk.specs.Walk.{walk_plan}

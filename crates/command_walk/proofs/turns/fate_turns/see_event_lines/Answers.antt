@@ -3,9 +3,9 @@ use Rattle.std.proofs.Common.{◌≡◌, take, length, get_or, refl, sym, ◌∙
 use Rattle.std.proofs.lemmas.Bool.{eqb-true}
 use Rattle.std.proofs.lemmas.List.{take_all}
 use Rattle.std.proofs.lemmas.Result.{on_ok_weaker}
-use Rattle.law_model.specs.declared.script.EventLine.{EventLine}
-use Rattle.law_model.specs.declared.script.EventLine.TheVariants.{Client}
-use Rattle.law_model.specs.declared.script.Script.{Script}
+use Rattle.law_model.specs.declared.script_types.EventLine.{EventLine}
+use Rattle.law_model.specs.declared.script_types.EventLine.TheVariants.{Client}
+use Rattle.law_model.specs.declared.script_types.Script.{Script}
 use Rattle.law_model.specs.session.Leg.{leg_of}
 use Rattle.law_model.specs.session.Counts.{Counts, begin, run_line, run_lines, walked, drain, bound}
 use Rattle.law_walk.specs.Walk.{walk_plan, IsWalked}

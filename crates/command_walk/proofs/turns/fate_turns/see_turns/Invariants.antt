@@ -1,7 +1,7 @@
 -- The turns so far are made and seen.
 use Rattle.std.proofs.Common.{◌≡◌, List, replicate}
 use Rattle.std.specs.List.{flat_map}
-use Rattle.law_model.specs.declared.walk.Event.{Event}
+use Rattle.law_model.specs.declared.walk_events.Event.{Event}
 use Rattle.law_model.specs.session.Leg.{leg_of}
 use Rattle.law_model.specs.session.Counts.{run}
 use Rattle.law_walk.specs.Walk.{walk_plan, IsWalked}

@@ -1,6 +1,6 @@
 -- The walk of a script is one of its lists of events, and what is seen of it and the places stand together.
 use Rattle.std.proofs.Common.{sym, ap, subst}
-use Rattle.law_model.specs.declared.script.Script.{Script}
+use Rattle.law_model.specs.declared.script_types.Script.{Script}
 use Rattle.law_model.specs.session.Leg.{leg_of}
 use Rattle.law_model.specs.session.Counts.{Counts}
 use Rattle.law_model.specs.session.Valid.{IsValid}

@@ -6,11 +6,11 @@ use Rattle.law_model.specs.frames.Segment.{StreamRow}
 use Rattle.fate_engine.specs.fate_law.Ruler.{ruler_of}
 use Rattle.fate_engine.specs.fate_law.Marks.{are_true_marks}
 use Rattle.fate_engine.specs.fate_law.Spans.{later_segments}
-use Rattle.fate_engine.specs.fate_core.Segments.{Stands}
+use Rattle.fate_engine.specs.fate_core.Segments.{SegmentsStand}
 use Rattle.fate_engine.proofs.FateCoreLaws.TrueLaws.{test}
 use Rattle.fate_engine.proofs.fate_core.frame_fate.starts_true.Given as goal
 
 abbrev pub invariant-loop-i : goal.invariant-loop-i
 invariant-loop-i l =
-    (stream : Stream) (rows : List StreamRow) → l.ruler ≡ ruler_of stream → Stands l.segments rows →
+    (stream : Stream) (rows : List StreamRow) → l.ruler ≡ ruler_of stream → SegmentsStand l.segments rows →
     list_all (test stream.pieces) (drop l.i (later_segments rows)) ≡ are_true_marks stream.pieces rows

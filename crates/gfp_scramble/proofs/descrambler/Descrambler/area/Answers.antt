@@ -2,7 +2,7 @@
 use Rattle.std.proofs.Common.{◌++◌, drop, subst, ap, sym, ◌∙◌, arith, append_assoc, length-append}
 use Rattle.law_model.specs.frames.Scramble.{descrambled_octets}
 use Rattle.law_model.proofs.ScrambledOctets.{length-descrambled_octets}
-use Rattle.gfp_scramble.specs.Descrambler.{Stands, unknown}
+use Rattle.gfp_scramble.specs.Descrambler.{DescramblerStands, unknown}
 use Rattle.gfp_scramble.proofs.SettlingLaws.{drop_alike}
 use Rattle.gfp_scramble.proofs.descrambler.Descrambler.area.Goals as goal
 
@@ -10,7 +10,7 @@ pub returns-clause-stands : goal.returns-clause-stands
 returns-clause-stands c settled octets stands =
     let front = c.split_at_mut-words.result.0.now in
     let back = c.split_at_mut-words.result.1.now in
-    subst (Stands c.octets.new.self settled)
+    subst (DescramblerStands c.octets.new.self settled)
     (append_assoc octets front back ∙ ap (λ l. octets ++ l) (sym c.split_at_mut-words.ensures.value))
     (c.octets.ensures.stands settled (octets ++ front) (c.words.ensures.stands settled octets stands))
 

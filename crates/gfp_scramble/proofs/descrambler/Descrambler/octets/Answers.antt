@@ -2,7 +2,7 @@
 use Rattle.std.proofs.Common.{◌++◌, take, subst, arith}
 use Rattle.law_model.specs.frames.Scramble.{descrambled_octets}
 use Rattle.law_model.proofs.ScrambledOctets.{length-descrambled_octets}
-use Rattle.gfp_scramble.specs.Descrambler.{Stands, unknown}
+use Rattle.gfp_scramble.specs.Descrambler.{DescramblerStands, unknown}
 use Rattle.gfp_scramble.proofs.AreaSteps.{back_more, given_more, front_more, front_all}
 use Rattle.gfp_scramble.proofs.descrambler.Descrambler.octets.Goals as goal
 
@@ -15,7 +15,7 @@ loop-octet-preserved c =
     let size = c.loop-octet.auto.area in
     let so_far = c.loop-octet.invariant in
     record {
-      stands = λ settled octets stands. subst (Stands c.byte.new.self settled)
+      stands = λ settled octets stands. subst (DescramblerStands c.byte.new.self settled)
           (given_more i was area fits size so_far.back octets)
           (c.byte.ensures.stands settled (octets ++ take i was) (so_far.stands settled octets stands));
       front = λ settled octets stands. front_more i was area fits size so_far.back

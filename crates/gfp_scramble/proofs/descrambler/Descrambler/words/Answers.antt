@@ -2,7 +2,7 @@
 use Rattle.std.proofs.Common.{◌++◌, ◌*◌, take, subst, arith}
 use Rattle.law_model.specs.frames.Scramble.{descrambled_octets}
 use Rattle.law_model.proofs.ScrambledOctets.{length-descrambled_octets}
-use Rattle.gfp_scramble.specs.Descrambler.{Stands, unknown}
+use Rattle.gfp_scramble.specs.Descrambler.{DescramblerStands, unknown}
 use Rattle.gfp_scramble.proofs.AreaSteps.{back_eight, given_eight, front_eight, front_all}
 use Rattle.gfp_scramble.proofs.descrambler.Descrambler.words.Goals as goal
 
@@ -17,7 +17,7 @@ loop-i-preserved c =
     let so_far = c.loop-i.invariant in
     let same = c.eight.auto.area in
     record {
-      stands = λ settled octets stands. subst (Stands c.eight.new.self settled)
+      stands = λ settled octets stands. subst (DescramblerStands c.eight.new.self settled)
           (given_eight i was area piece fits size so_far.back same octets)
           (c.eight.ensures.stands settled (octets ++ take (8 * i) was) (so_far.stands settled octets stands));
       front = λ settled octets stands. front_eight i was area piece fits size so_far.back same

@@ -2,7 +2,7 @@
 use Rattle.std.proofs.Common.{◌++◌, take, subst}
 use Rattle.law_model.specs.frames.Scramble.{scrambled_octets}
 use Rattle.law_model.proofs.ScrambledOctets.{length-scrambled_octets}
-use Rattle.gfp_scramble.specs.Scrambler.{Stands}
+use Rattle.gfp_scramble.specs.Scrambler.{ScramblerStands}
 use Rattle.gfp_scramble.proofs.AreaSteps.{back_more, given_more, front_more}
 use Rattle.gfp_scramble.proofs.scrambler.Scrambler.octets.Goals as goal
 
@@ -15,7 +15,7 @@ loop-octet-preserved c =
     let size = c.loop-octet.auto.area in
     let so_far = c.loop-octet.invariant in
     record {
-      stands = λ octets stands. subst (Stands c.byte.new.self) (given_more i was area fits size so_far.back octets)
+      stands = λ octets stands. subst (ScramblerStands c.byte.new.self) (given_more i was area fits size so_far.back octets)
           (c.byte.ensures.stands (octets ++ take i was) (so_far.stands octets stands));
       front = λ octets stands. front_more i was area fits size so_far.back 0 scrambled_octets length-scrambled_octets
           octets c.byte.result (so_far.front octets stands)

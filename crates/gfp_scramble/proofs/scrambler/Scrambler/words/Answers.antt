@@ -2,7 +2,7 @@
 use Rattle.std.proofs.Common.{◌++◌, ◌*◌, take, subst}
 use Rattle.law_model.specs.frames.Scramble.{scrambled_octets}
 use Rattle.law_model.proofs.ScrambledOctets.{length-scrambled_octets}
-use Rattle.gfp_scramble.specs.Scrambler.{Stands}
+use Rattle.gfp_scramble.specs.Scrambler.{ScramblerStands}
 use Rattle.gfp_scramble.proofs.AreaSteps.{back_eight, given_eight, front_eight}
 use Rattle.gfp_scramble.proofs.scrambler.Scrambler.words.Goals as goal
 
@@ -17,7 +17,7 @@ loop-i-preserved c =
     let so_far = c.loop-i.invariant in
     let same = c.eight.auto.area in
     record {
-      stands = λ octets stands. subst (Stands c.eight.new.self)
+      stands = λ octets stands. subst (ScramblerStands c.eight.new.self)
           (given_eight i was area piece fits size so_far.back same octets)
           (c.eight.ensures.stands (octets ++ take (8 * i) was) (so_far.stands octets stands));
       front = λ octets stands. front_eight i was area piece fits size so_far.back same 0 scrambled_octets

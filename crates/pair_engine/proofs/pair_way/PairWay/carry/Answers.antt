@@ -2,7 +2,7 @@
 use Rattle.std.proofs.Common.{sym, ◌∙◌, ap, subst}
 use Rattle.law_model.specs.session.Scenario.{packets_in}
 use Rattle.law_pair.specs.Pair.{way_of}
-use Rattle.walk_engine.specs.walk_core.Parts.{Parts, counts_of, Stands}
+use Rattle.walk_engine.specs.walk_core.Parts.{Parts, counts_of, WayStands}
 use Rattle.pair_engine.proofs.pair_way.PairWay.carry.Goals as goal
 
 pub returns-clause-goes : goal.returns-clause-goes
@@ -13,7 +13,7 @@ returns-clause-goes c other stands =
     let makes = e.makes leg (packets_in own.core.sink.taken) stands in
     let rows = ap (λ (p : Parts). packets_in p.sink.taken) e.rest in
     record {
-      stands = subst (λ n. Stands leg n c.carry.new.self) (sym rows) makes.stands;
+      stands = subst (λ n. WayStands leg n c.carry.new.self) (sym rows) makes.stands;
       counts = ap (counts_of c.carry.new.self) rows ∙ makes.counts;
       moved = c.carried.ensures ∙ makes.moved;
     }

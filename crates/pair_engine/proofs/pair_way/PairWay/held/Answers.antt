@@ -1,7 +1,7 @@
 -- An item is held, or none is.
 use Rattle.std.proofs.Common.{◌≡◌, ℕ, Option, option_map, sym, ◌∙◌, ap}
-use Rattle.law_model.specs.declared.script.Script.{Script}
-use Rattle.law_model.specs.declared.walk.StallCause.TheVariants.{Held}
+use Rattle.law_model.specs.declared.script_types.Script.{Script}
+use Rattle.law_model.specs.declared.walk_events.StallCause.TheVariants.{Held}
 use Rattle.law_model.specs.session.Counts.{dues_of, held}
 use Rattle.terminal_group.specs.Landed.{Landed}
 use Rattle.terminal_group.proofs.BareLaws.{bare-dues}

@@ -1,6 +1,6 @@
 -- Each field of the return packet is what the rows give with this one behind them.
 use Rattle.std.proofs.Common.{◌∙◌, ap}
-use Rattle.terminal_sink.specs.lcas_sink.Stands.{Sink}
+use Rattle.terminal_sink.specs.lcas_sink.SinkStates.{Sink}
 use Rattle.terminal_sink.proofs.LcasSinkLaws.RowSteps.{return-fields}
 use Rattle.terminal_sink.proofs.lcas_sink.SinkTable.packet_row.Goals as goal
 

@@ -2,7 +2,7 @@
 use Rattle.std.proofs.Common.{sym, subst, ap, length, arith}
 use Rattle.std.proofs.lemmas.List.{with_items_is}
 use Rattle.std.specs.Global.{Vec}
-use Rattle.thread_alarms.specs.declared.watched_line.served.ServedLine.{ServedLine}
+use Rattle.thread_alarms.specs.declared.watched_line.served_line.ServedLine.{ServedLine}
 use Rattle.thread_session.specs.declared.session_parts.line_thread.Held.{Held}
 use Rattle.thread_session.specs.session_parts.Held.{IsHeldOf, AreHeldOf, AreToldBy}
 use Rattle.thread_session.proofs.SessionPartsLaws.ZipLaws.{zip-set}

@@ -1,8 +1,8 @@
 -- What is held is held of the same workers, and looks at the same flags.
 use Rattle.std.proofs.Common.{List}
 use Rattle.std.specs.Global.{Vec}
-use Rattle.thread_alarms.specs.declared.watched_line.served.ServedLine.{ServedLine}
-use Rattle.thread_session.specs.declared.session_parts.flag.Flag.{Flag}
+use Rattle.thread_alarms.specs.declared.watched_line.served_line.ServedLine.{ServedLine}
+use Rattle.thread_session.specs.declared.session_parts.stop_flag.Flag.{Flag}
 use Rattle.thread_session.specs.session_parts.Held.{AreHeldOf, AreToldBy}
 use Rattle.thread_session.proofs.session_parts.line_thread.serve_all_here.Given as goal
 

@@ -1,7 +1,7 @@
 -- A burst leaves a worker later.
 use Rattle.std.proofs.Common.{sym, subst, ap, length, arith}
 use Rattle.std.proofs.lemmas.List.{with_items_is}
-use Rattle.thread_alarms.specs.declared.watched_line.served.ServedLine.{ServedLine}
+use Rattle.thread_alarms.specs.declared.watched_line.served_line.ServedLine.{ServedLine}
 use Rattle.thread_alarms.specs.watched_line.Served.{AreServedLater, IsServedLater}
 use Rattle.thread_alarms.proofs.WatchedLineLaws.ServedLaws.{served-refl, served-then}
 use Rattle.thread_session.proofs.SessionPartsLaws.ZipLaws.{zip-refl, zip-set}

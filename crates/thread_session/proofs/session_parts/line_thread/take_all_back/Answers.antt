@@ -5,9 +5,9 @@ use Rattle.std.proofs.lemmas.List.{append-nil, nil_from_length}
 use Rattle.std.proofs.lemmas.Option.{slice_get_read}
 use Rattle.std.specs.Global.{Vec}
 use Rattle.std.specs.Vec.Iter.{into_iter_items}
-use Rattle.thread_alarms.specs.declared.watched_line.served.ServedLine.{ServedLine}
+use Rattle.thread_alarms.specs.declared.watched_line.served_line.ServedLine.{ServedLine}
 use Rattle.thread_session.specs.declared.session_parts.line_thread.Held.{Held}
-use Rattle.thread_session.specs.session_parts.Lines.{SharesLater}
+use Rattle.thread_session.specs.session_parts.ServedLines.{SharesLater}
 use Rattle.thread_session.specs.session_parts.Held.{IsHeldOf, IsToldBy, AreHeldOf}
 use Rattle.thread_session.proofs.SessionPartsLaws.ZipLaws.{zip-first, zip-none}
 use Rattle.thread_session.proofs.session_parts.line_thread.take_all_back.Goals as goal

@@ -3,9 +3,9 @@ use Rattle.std.proofs.Common.{◌≡◌, ℕ, ◌+◌, List, ◌++◌, vec_len, 
 use Rattle.std.specs.Global.{Vec}
 use Rattle.std.specs.Vec.{vec_capacity}
 use Rattle.std.specs.Vec.Iter.{into_iter_items, into_iter_len}
-use Rattle.thread_alarms.specs.declared.watched_line.served.ServedLine.{ServedLine}
-use Rattle.thread_session.specs.session_parts.Lines.{SharesLater}
-use Rattle.thread_session.specs.declared.session_parts.flag.Flag.{Flag}
+use Rattle.thread_alarms.specs.declared.watched_line.served_line.ServedLine.{ServedLine}
+use Rattle.thread_session.specs.session_parts.ServedLines.{SharesLater}
+use Rattle.thread_session.specs.declared.session_parts.stop_flag.Flag.{Flag}
 use Rattle.thread_session.specs.declared.session_parts.line_thread.Held.{Held}
 use Rattle.thread_session.specs.session_parts.Flags.{flag_of}
 use Rattle.thread_session.specs.session_parts.Held.{AreHeldOf, IsToldBy}

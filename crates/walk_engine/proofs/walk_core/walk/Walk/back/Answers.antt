@@ -1,9 +1,9 @@
 -- The first return packet is the source's next return cell.
 use Rattle.std.proofs.Common.{◌≡◌, List, drop, sym, ◌∙◌, ap, subst}
-use Rattle.law_model.specs.declared.packet.Packet.{Packet}
-use Rattle.law_model.specs.declared.walk.Event.TheVariants.{Back}
-use Rattle.walk_engine.specs.declared.walk_core.moved.Moved.TheVariants.{Stalled}
-use Rattle.law_model.specs.declared.walk.StallCause.TheVariants.{BackEmpty}
+use Rattle.law_model.specs.declared.control_packet.Packet.{Packet}
+use Rattle.law_model.specs.declared.walk_events.Event.TheVariants.{Back}
+use Rattle.walk_engine.specs.declared.walk_core.step_answers.Moved.TheVariants.{Stalled}
+use Rattle.law_model.specs.declared.walk_events.StallCause.TheVariants.{BackEmpty}
 use Rattle.law_model.specs.session.Leg.{leg_of}
 use Rattle.walk_engine.specs.walk_parts.Return.{path_of}
 use Rattle.walk_engine.specs.walk_core.Parts.{Parts, counts_of, IsWalk}

@@ -1,6 +1,6 @@
 -- A line carries.
 use Rattle.std.proofs.Common.{◌∙◌, ap, arith}
-use Rattle.law_model.specs.declared.walk.Event.TheVariants.{Carry}
+use Rattle.law_model.specs.declared.walk_events.Event.TheVariants.{Carry}
 use Rattle.law_model.specs.session.Leg.{leg_of}
 use Rattle.walk_engine.specs.walk_core.Moved.{Walked, moved_of, counts_after}
 use Rattle.walk_engine.specs.walk_core.Parts.{Parts, counts_of}

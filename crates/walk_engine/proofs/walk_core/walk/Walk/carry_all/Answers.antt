@@ -1,7 +1,7 @@
 -- One line more.
 use Rattle.std.proofs.Common.{◌≡◌, ◌∙◌, [], ◌∷◌, length, ap, subst, arith}
-use Rattle.law_model.specs.declared.script.Script.{Script}
-use Rattle.law_model.specs.declared.walk.Event.TheVariants.{Back, Take, Carry}
+use Rattle.law_model.specs.declared.script_types.Script.{Script}
+use Rattle.law_model.specs.declared.walk_events.Event.TheVariants.{Back, Take, Carry}
 use Rattle.law_model.specs.session.Counts.{Counts, run}
 use Rattle.law_model.specs.session.Valid.{IsValid}
 use Rattle.law_model.specs.session.Leg.{leg_of}

@@ -1,6 +1,6 @@
 -- A round more, or all rows are taken.
 use Rattle.std.proofs.Common.{◌<◌, ◌≤◌, refl, sym, ◌∙◌, ap, subst, arith}
-use Rattle.law_model.specs.declared.script.Script.{Script}
+use Rattle.law_model.specs.declared.script_types.Script.{Script}
 use Rattle.law_model.specs.session.Counts.{Counts, run, round}
 use Rattle.law_model.specs.session.Valid.{IsValid}
 use Rattle.law_model.specs.session.Leg.{leg_of}

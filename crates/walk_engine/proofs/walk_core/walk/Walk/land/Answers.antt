@@ -1,11 +1,11 @@
 -- The next item of a kind lands, or stalls.
 use Rattle.std.proofs.Common.{◌≡◌, None, refl, sym, ◌∙◌, ap, subst, arith}
-use Rattle.law_model.specs.declared.walk.StallCause.TheVariants.{NotDue, Done as Stall_done}
+use Rattle.law_model.specs.declared.walk_events.StallCause.TheVariants.{NotDue, Done as Stall_done}
 use Rattle.law_model.specs.session.Leg.{leg_of}
 use Rattle.terminal_group.specs.Inbox.{Inbox}
 use Rattle.terminal_group.specs.Item.{kind_of}
 use Rattle.terminal_group.specs.Landed.{Landed, next_number, due_at}
-use Rattle.walk_engine.specs.declared.walk_core.moved.Moved.TheVariants.{Stalled}
+use Rattle.walk_engine.specs.declared.walk_core.step_answers.Moved.TheVariants.{Stalled}
 use Rattle.walk_engine.specs.walk_core.Landing.{landing_of}
 use Rattle.walk_engine.specs.walk_core.Moved.{Walked, answer_by, moved_of, counts_after}
 use Rattle.walk_engine.specs.walk_core.Parts.{counts_of}

@@ -1,6 +1,6 @@
 -- An item lands, or stalls.
 use Rattle.std.proofs.Common.{refl, sym, ◌∙◌, ap}
-use Rattle.law_model.specs.declared.script.Script.{Script}
+use Rattle.law_model.specs.declared.script_types.Script.{Script}
 use Rattle.walk_engine.specs.walk_core.Landing.{landing_of}
 use Rattle.law_model.specs.session.Counts.{Counts}
 use Rattle.law_model.specs.session.Leg.{leg_of}

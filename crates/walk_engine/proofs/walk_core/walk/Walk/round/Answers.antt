@@ -1,7 +1,7 @@
 -- A round by its parts, of which only the last takes a row.
 use Rattle.std.proofs.Common.{suc, sym, ◌∙◌, ap, subst, length, replicate, [], ◌∷◌}
-use Rattle.law_model.specs.declared.script.Script.{Script}
-use Rattle.law_model.specs.declared.walk.Event.TheVariants.{Command, Tick, Back, Take}
+use Rattle.law_model.specs.declared.script_types.Script.{Script}
+use Rattle.law_model.specs.declared.walk_events.Event.TheVariants.{Command, Tick, Back, Take}
 use Rattle.law_model.specs.session.Counts.{run, carries_from}
 use Rattle.law_model.specs.session.Leg.{leg_of}
 use Rattle.law_walk.specs.Walk.{walk_plan}

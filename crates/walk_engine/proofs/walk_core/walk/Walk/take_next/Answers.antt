@@ -1,6 +1,6 @@
 -- A row is taken, or the cells that were popped wait for more.
 use Rattle.std.proofs.Common.{◌+◌, ◌≤◌, length, sym, ◌∙◌, ap, subst}
-use Rattle.law_model.specs.declared.walk.Event.TheVariants.{Take}
+use Rattle.law_model.specs.declared.walk_events.Event.TheVariants.{Take}
 use Rattle.law_model.specs.session.Leg.{leg_of}
 use Rattle.walk_engine.specs.walk_parts.Return.{listed}
 use Rattle.walk_engine.specs.walk_core.Moved.{Walked, moved_of, counts_after, GivesRows}

@@ -1,6 +1,6 @@
 -- A row that isn't the last is taken, but where it ends a packet and the return ring is full.
 use Rattle.std.proofs.Common.{◌≡◌, Some, None, subst, inl, inr, arith}
-use Rattle.law_model.specs.declared.walk.StallCause.TheVariants.{BackFull}
+use Rattle.law_model.specs.declared.walk_events.StallCause.TheVariants.{BackFull}
 use Rattle.walk_engine.specs.walk_core.Moved.{Walked}
 use Rattle.walk_engine.specs.walk_core.Take.{take_cause}
 use Rattle.walk_engine.proofs.WalkCoreLaws.TakenLaws.{cause-full, cause-none}

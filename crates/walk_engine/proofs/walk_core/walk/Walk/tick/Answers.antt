@@ -1,6 +1,6 @@
 -- A tick is made.
 use Rattle.std.proofs.Common.{◌≡◌, ◌/◌, ◌%◌, ◌==◌, if◌then◌else◌, Some, refl, sym, ◌∙◌, ap, subst}
-use Rattle.law_model.specs.declared.walk.Event.TheVariants.{Tick}
+use Rattle.law_model.specs.declared.walk_events.Event.TheVariants.{Tick}
 use Rattle.law_model.specs.session.Counts.{step}
 use Rattle.law_model.specs.session.Leg.{leg_of}
 use Rattle.law_walk.specs.Walk.{walk_plan}

@@ -1,7 +1,7 @@
 -- The first cause of a stall of a tick.
 use Rattle.std.proofs.Common.{◌≡◌, Some, None, sym, ◌∙◌, ap, subst}
-use Rattle.law_model.specs.declared.walk.Event.TheVariants.{Tick}
-use Rattle.law_model.specs.declared.walk.StallCause.TheVariants.{TxFull, BackMissing}
+use Rattle.law_model.specs.declared.walk_events.Event.TheVariants.{Tick}
+use Rattle.law_model.specs.declared.walk_events.StallCause.TheVariants.{TxFull, BackMissing}
 use Rattle.law_model.specs.session.Counts.{step}
 use Rattle.law_model.specs.session.Leg.{leg_of}
 use Rattle.law_walk.specs.Walk.{walk_plan}

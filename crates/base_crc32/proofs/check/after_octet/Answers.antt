@@ -1,8 +1,0 @@
--- The entry of the lowest octet, with the octet that comes added, is added to the others.
-use Rattle.base_crc32.proofs.StandsLaws.{stands_octet}
-use Rattle.base_crc32.proofs.check.after_octet.Goals as goal
-
-pub returns : goal.returns
-returns c order octets are stands =
-    stands_octet order c.args.tables.now octets c.args.register c.args.octet c.ranges.register.fits c.ranges.octet.fits
-    are stands

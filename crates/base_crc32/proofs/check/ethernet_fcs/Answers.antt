@@ -1,7 +1,0 @@
--- The table of the least significant bit first is right.
-use Rattle.base_crc32.specs.Crc32.{least_first}
-use Rattle.base_crc32.proofs.TableLaws.{least_first_is}
-use Rattle.base_crc32.proofs.check.ethernet_fcs.Goals as goal
-
-pub returns : goal.returns
-returns c = c.inverted.ensures least_first c.args.octets.now (c.after_all.ensures least_first least_first_is)

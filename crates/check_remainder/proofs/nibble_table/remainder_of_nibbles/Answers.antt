@@ -1,0 +1,13 @@
+-- Nothing is left of no word.
+use Rattle.std.proofs.Common.{◌∙◌, ap, sym, false, replicate}
+use Rattle.std.proofs.lemmas.Nat.{pow_pos}
+use Rattle.check_remainder.proofs.BitLaws.{bits-zero}
+use Rattle.check_remainder.proofs.RemainderLaws.{remainder-nil}
+use Rattle.check_remainder.proofs.nibble_table.remainder_of_nibbles.Goals as goal
+
+pub loop-nibble-init : goal.loop-nibble-init
+loop-nibble-init g c = record {
+  within = pow_pos g.row.DEGREE;
+  remainder = λ lower size is_table. bits-zero g.row.DEGREE ∙ ap (λ n. replicate n false) (sym size)
+      ∙ sym (remainder-nil lower);
+}

@@ -1,0 +1,12 @@
+-- The lines of the refusals so far are written.
+use Rattle.std.proofs.Common.{ℕ, List, ◌++◌, take}
+use Rattle.octet_io.specs.Start.{Start}
+use Rattle.text_report.specs.Report.{refused_texts}
+use Rattle.text_got.specs.Told.{HasText}
+use Rattle.command_parts.proofs.report_end.write_refusals.Given as goal
+
+abbrev pub invariant-loop-item : goal.invariant-loop-item
+invariant-loop-item g l = (start : Start) (before : List ℕ) →
+    HasText g.K.ByteSink.written g.K.ByteSink.faults l.fn.got start before
+    → HasText g.K.ByteSink.written g.K.ByteSink.faults l.got start
+    (before ++ refused_texts (take l.item-index l.refusals))

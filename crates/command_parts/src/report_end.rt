@@ -1,0 +1,36 @@
+//! The end of a report, behind the lines of delivered frames.
+ghost use Rattle.std.specs.Prelude.{ℕ, List, ◌++◌};
+ghost use Rattle.text_report.specs.Report.{refused_texts, total_text};
+ghost use Rattle.octet_io.specs.Start.{Start};
+ghost use Rattle.text_got.specs.Told.{HasText};
+
+use octet_io::ByteSink;
+use law_model::{Refusal, Totals};
+use text_got::GotLines;
+use text_report::{REFUSED_ROOM, TOTAL_ROOM, refused_line, total_line};
+
+/// Writes the lines of refused items.
+fn write_refusals<K: ByteSink>(refusals: &[(u32, Refusal)], got: &mut GotLines<K>)
+    ensures { (start : Start) (before : List ℕ) →
+        HasText K.written K.faults got.old start before →
+        HasText K.written K.faults got.new start (before ++ refused_texts refusals.now) }
+{
+    let mut line = [0u8; REFUSED_ROOM];
+    for (item, why) in refusals {
+        let end = refused_line(*item, why, &mut line);
+        got.line(&line[..end]);
+    }
+}
+
+/// Writes what follows the lines of delivered frames: those of refused items, each with its number, and that of totals.
+pub fn write_rest<K: ByteSink>(refusals: &[(u32, Refusal)], totals: &Totals, got: &mut GotLines<K>)
+    ensures { (start : Start) (before : List ℕ) →
+        HasText K.written K.faults got.old start before →
+        HasText K.written K.faults got.new start
+        (before ++ refused_texts refusals.now ++ total_text totals.now) }
+{
+    write_refusals(refusals, got);
+    let mut line = [0u8; TOTAL_ROOM];
+    let end = total_line(totals, &mut line);
+    got.line(&line[..end]);
+}

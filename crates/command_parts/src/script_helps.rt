@@ -1,0 +1,161 @@
+//! What is said of how to write what a script has wrong. Each text is put together in a slice with room for it.
+ghost use Rattle.std.specs.Prelude.{◌≡◌, ◌≤◌, length, take};
+ghost use Rattle.command_parts.specs.Helps.{keyword_text, part_text, line_help_text, slip_help_text, spread_help_text};
+ghost use Rattle.command_parts.specs.Helps.{lag_help_text};
+ghost use Rattle.text_scripts.specs.declared.script_read.script_fault.LineFault.{LineFault};
+
+use text_help::{count_help, field_help, missing_help, number_help, order_help};
+use text_report::TextCursor;
+use text_scripts::script_read::{Keyword, LineFault, Part};
+
+/// The words that a line may begin with.
+const FIRST_WORDS: &[u8] =
+    b"a line begins with one of container, lines, delays, ring, lag, ticks, fail, lost, frame, add, remove, client, operator, tick, carry, back, take, round, drain";
+
+/// A keyword as scripts have it.
+fn keyword_word(keyword: Keyword) -> &'static [u8]
+    ensures word { result.now ≡ keyword_text keyword }
+    ensures short { length result.now ≤ 9 }
+{
+    match keyword {
+        Keyword::Container => b"container",
+        Keyword::Lines => b"lines",
+        Keyword::Delays => b"delays",
+        Keyword::Ring => b"ring",
+        Keyword::Lag => b"lag",
+        Keyword::Ticks => b"ticks",
+        Keyword::Fail => b"fail",
+        Keyword::Lost => b"lost",
+        Keyword::Frame => b"frame",
+        Keyword::Add => b"add",
+        Keyword::Remove => b"remove",
+        Keyword::Client => b"client",
+        Keyword::Operator => b"operator",
+        Keyword::Tick => b"tick",
+        Keyword::Carry => b"carry",
+        Keyword::Back => b"back",
+        Keyword::Take => b"take",
+        Keyword::Round => b"round",
+        Keyword::Drain => b"drain",
+    }
+}
+
+/// The lines of a part of a script.
+fn part_words(part: Part) -> &'static [u8]
+    ensures words { result.now ≡ part_text part }
+    ensures short { length result.now ≤ 21 }
+{
+    match part {
+        Part::Configuration => b"configuration",
+        Part::Windows => b"fail and lost",
+        Part::Items => b"frame, add and remove",
+        Part::Events => b"event lines",
+    }
+}
+
+/// Writes a text as it is.
+fn whole_help(text: &[u8], out: &mut [u8]) -> usize
+    requires short { length text.now ≤ 160 }
+    requires room { 160 ≤ length out.old }
+    ensures within { result ≤ 160 }
+    ensures text { take result out.new ≡ text.now }
+{
+    let mut line = TextCursor::new(out);
+    line.text(text);
+    line.end()
+}
+
+/// Writes that a line of the group has as many failures as it may.
+fn full_help(member: u8, out: &mut [u8]) -> usize
+    requires { 160 ≤ length out.old }
+    ensures within { result ≤ 160 }
+    ensures text { take result out.new ≡ line_help_text (LineFault.FullLine member) }
+{
+    let mut line = TextCursor::new(out);
+    line.text(b"line ");
+    line.decimal(member);
+    line.text(b" has 256 failures already");
+    line.end()
+}
+
+/// Writes how a line has to be that has this fault.
+pub(crate) fn line_help(fault: LineFault, out: &mut [u8]) -> usize
+    requires { 160 ≤ length out.old }
+    ensures within { result ≤ 160 }
+    ensures text { take result out.new ≡ line_help_text fault }
+{
+    match fault {
+        LineFault::First => whole_help(FIRST_WORDS, out),
+        LineFault::Count {
+            keyword,
+            takes,
+            follow,
+        } => count_help(keyword_word(keyword), takes, follow, out),
+        LineFault::Field(fault) => field_help(fault, out),
+        LineFault::Missing(keyword) => missing_help(keyword_word(keyword), out),
+        LineFault::Part { this, begun } => order_help(part_words(this), part_words(begun), out),
+        LineFault::FullLine { line } => full_help(line, out),
+        LineFault::FullPath => whole_help(b"there are 256 lost lines already", out),
+        LineFault::FailureBefore { end } => {
+            number_help(b"the failure before ends at ", u64::from(end), out)
+        }
+        LineFault::LossBefore { end } => {
+            number_help(b"the loss before ends at ", u64::from(end), out)
+        }
+        LineFault::FrameBefore { due } => {
+            number_help(b"the frame before is due at ", u64::from(due), out)
+        }
+        LineFault::CommandBefore { due } => {
+            number_help(b"the command before is due at ", u64::from(due), out)
+        }
+    }
+}
+
+/// Writes how long a failure with this slip has to be.
+pub(crate) fn slip_help(slip: u16, out: &mut [u8]) -> usize
+    requires { 160 ≤ length out.old }
+    ensures within { result ≤ 128 }
+    ensures text { take result out.new ≡ slip_help_text slip }
+{
+    let mut line = TextCursor::new(out);
+    line.text(b"a slip of ");
+    line.decimal(slip);
+    line.text(b" needs a failure of at least ");
+    line.decimal(u32::from(slip) + 1);
+    line.text(b" frames");
+    line.end()
+}
+
+/// Writes how many cells a ring has to hold.
+pub(crate) fn spread_help(slow: u16, fast: u16, slip: u32, out: &mut [u8]) -> usize
+    requires { 160 ≤ length out.old }
+    ensures within { result ≤ 128 }
+    ensures text { take result out.new ≡ spread_help_text slow fast slip }
+{
+    let mut line = TextCursor::new(out);
+    line.text(b"delays from ");
+    line.decimal(fast);
+    line.text(b" to ");
+    line.decimal(slow);
+    line.text(b" and slips of ");
+    line.decimal(slip);
+    line.text(b" need a ring of at least ");
+    line.decimal(u64::from(slow.saturating_sub(fast)) + u64::from(slip) + 1);
+    line.end()
+}
+
+/// Writes how great the lag has to be.
+pub(crate) fn lag_help(slow: u16, slip: u32, least: u32, out: &mut [u8]) -> usize
+    requires { 160 ≤ length out.old }
+    ensures within { result ≤ 128 }
+    ensures text { take result out.new ≡ lag_help_text slow slip least }
+{
+    let mut line = TextCursor::new(out);
+    line.text(b"a delay of ");
+    line.decimal(slow);
+    line.text(b" and slips of ");
+    line.decimal(slip);
+    line.text(b" need a lag of at least ");
+    line.decimal(least);
+    line.end()
+}

@@ -1,0 +1,177 @@
+//! Words, one by one, and the commands that they are.
+
+use crate::try_rows::words_of;
+use command_run::RunCommand;
+use command_walk::WalkCommand;
+use std::alloc::Global;
+use command_words::read_words;
+
+// Words with one space between them, and the command of the program of walks that they are.
+const WALKS: &str = "\
+    walk=> Walk\n\
+    trace=> Trace\n\
+    fates=> Fates\n\
+    service 1=> Service { interval: 1 }\n\
+    service 1000000=> Service { interval: 1000000 }\n\
+    service 000008=> Service { interval: 8 }\n\
+    service=> usage\n\
+    service 0=> usage\n\
+    service 1000001=> usage\n\
+    service 4294967297=> usage\n\
+    service x=> usage\n\
+    service 8 8=> usage\n\
+    service 1.5=> usage\n\
+    service -1=> usage\n\
+    SERVICE 8=> usage\n\
+    capture=> Capture\n\
+    gfp=> Gfp\n\
+    frames=> Frames\n\
+    decode=> Decode\n\
+    noise=> Noise\n\
+    noise x=> usage\n\
+    au4=> Au4\n\
+    au4 x=> usage\n\
+    channels=> Channels\n\
+    channels x=> usage\n\
+    pair=> Pair\n\
+    pair x=> usage\n\
+    make 1 1 1=> Make { number: 1, lines: 1, ticks: 1 }\n\
+    make 0 64 1000000=> Make { number: 0, lines: 64, ticks: 1000000 }\n\
+    make 18446744073709551615 1 1=> Make { number: 18446744073709551615, lines: 1, ticks: 1 }\n\
+    make 000000000000000000000000007 0008 0004000=> Make { number: 7, lines: 8, ticks: 4000 }\n\
+    make 18446744073709551616 1 1=> usage\n\
+    make 36893488147419103233 1 1=> usage\n\
+    make 1 0 1=> usage\n\
+    make 1 65 1=> usage\n\
+    make 1 257 1=> usage\n\
+    make 1 1 0=> usage\n\
+    make 1 1 1000001=> usage\n\
+    make 1 1 4294967297=> usage\n\
+    make +1 1 1=> usage\n\
+    make -1 1 1=> usage\n\
+    make 1 -1 1=> usage\n\
+    make 1 1 -1=> usage\n\
+    make -- 1 1 1=> usage\n\
+    make 1 1 1 --=> usage\n\
+    make --help=> usage\n\
+    make 1x 1 1=> usage\n\
+    make  1 1=> usage\n\
+    make 1 1=> usage\n\
+    make 1 1 1 1=> usage\n\
+    make=> usage\n\
+    stream 64 1 0 30 1=> Stream(RateLoad { octets: 64, mbits: 1, first: 0, end: 30, number: 1 })\n\
+    stream 9600 400000 999999 1000000 18446744073709551615=> Stream(RateLoad { octets: 9600, mbits: 400000, first: 999999, end: 1000000, number: 18446744073709551615 })\n\
+    stream 0064 01 0000000000003 4 0=> Stream(RateLoad { octets: 64, mbits: 1, first: 3, end: 4, number: 0 })\n\
+    stream 63 1 0 30 1=> usage\n\
+    stream 9601 1 0 30 1=> usage\n\
+    stream 65600 1 0 30 1=> usage\n\
+    stream 64 0 0 30 1=> usage\n\
+    stream 64 400001 0 30 1=> usage\n\
+    stream 64 1 30 30 1=> usage\n\
+    stream 64 1 31 30 1=> usage\n\
+    stream 64 1 0 1000001 1=> usage\n\
+    stream 64 1 1000000 1000000 1=> usage\n\
+    stream 64 1 0 4294967297 1=> usage\n\
+    stream 64 1 0 30 18446744073709551616=> usage\n\
+    stream 64 1 0 30=> usage\n\
+    stream 64 1 0 30 1 1=> usage\n\
+    stream 64 1 -1 30 1=> usage\n\
+    stream 64 1 0 30 x=> usage\n\
+    stream=> usage\n\
+    Walk=> usage\n\
+    walk x=> usage\n\
+    walk walk=> usage\n\
+    fates x=> usage\n\
+    capture x=> usage\n\
+    gfp x=> usage\n\
+    frames x=> usage\n\
+    walk --trace=> usage\n\
+    walk -h=> usage\n\
+    -- walk=> usage\n\
+    run 2=> usage\n\
+    -=> usage\n\
+    --=> usage\n\
+    -h=> usage\n\
+    --help=> usage\n\
+    --version=> usage\n\
+    -V=> usage\n\
+    help=> usage\n\
+    help walk=> usage\n\
+    => usage";
+
+// And the command of the program of runs.
+const RUNS: &str = "\
+    run 1=> Run { workers: 1 }\n\
+    run 0064=> Run { workers: 64 }\n\
+    watch 3=> Watch { workers: 3 }\n\
+    watch 65=> usage\n\
+    watch=> usage\n\
+    run 0=> usage\n\
+    run 65=> usage\n\
+    run 257=> usage\n\
+    run=> usage\n\
+    run 1 1=> usage\n\
+    run -1=> usage\n\
+    run +1=> usage\n\
+    run -- 1=> usage\n\
+    run --workers=1=> usage\n\
+    help run=> usage\n\
+    Run 1=> usage\n\
+    walk=> usage\n\
+    --help=> usage\n\
+    => usage";
+
+/// Whether the program of walks is told this by words.
+fn is_walk(alloc: Global, words: &[String], want: &str) -> bool {
+    let told = match read_words::<WalkCommand>(alloc, words) {
+        Ok(command) => format!(in alloc; "{command:?}"),
+        Err(fault) => format!(in alloc; "{fault}"),
+    };
+    match told {
+        Ok(told) => told.as_str() == want,
+        Err(_) => false,
+    }
+}
+
+/// And the program of runs.
+fn is_run(alloc: Global, words: &[String], want: &str) -> bool {
+    let told = match read_words::<RunCommand>(alloc, words) {
+        Ok(command) => format!(in alloc; "{command:?}"),
+        Err(fault) => format!(in alloc; "{fault}"),
+    };
+    match told {
+        Ok(told) => told.as_str() == want,
+        Err(_) => false,
+    }
+}
+
+/// Whether one of both programs is told what a row says.
+fn is_told(alloc: Global, row: &str, of_walks: bool) -> bool {
+    let (text, want) = row.split_once("=> ").unwrap_or((row, "a row"));
+    let words = words_of(alloc, text);
+    if of_walks {
+        is_walk(alloc, words.as_slice(), want)
+    } else {
+        is_run(alloc, words.as_slice(), want)
+    }
+}
+
+/// The first row of which something else is told.
+fn first_wrong(alloc: Global, rows: &'static str, of_walks: bool) -> Option<&'static str> {
+    for row in rows.lines() {
+        if !is_told(alloc, row, of_walks) {
+            return Some(row);
+        }
+    }
+    None
+}
+
+#[test]
+fn words_are_commands(rt: HostRuntime) {
+    let alloc = rt.alloc();
+    let wrong = [
+        first_wrong(alloc, WALKS, true),
+        first_wrong(alloc, RUNS, false),
+    ];
+    assert_eq!(rt; (wrong, is_walk(alloc, &[], "usage")), ([None; 2], true));
+}

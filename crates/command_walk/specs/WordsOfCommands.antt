@@ -1,0 +1,111 @@
+-- The program's commands: by which words, with which tasks, and which walk is handed back.
+use Rattle.std.specs.Prelude.{◌≡◌, ℕ, List, Option, Some, None, String, map, string_bytes, codes}
+use Rattle.std.specs.Option.{option_or}
+use Rattle.std.specs.declared.alloc.Global.{Global}
+use Rattle.text_scripts.specs.make_load.Load.{load}
+use Rattle.command_words.specs.Words.{taken_as}
+use Rattle.command_parts.specs.Task.{Task, none, reads, makes}
+use Rattle.command_parts.specs.Ends.{Lent}
+use Rattle.walk_engine.specs.walk_core.Moved.{Walked}
+use Rattle.command_walk.specs.declared.command_of_words.WalkCommand.{WalkCommand}
+use Rattle.command_walk.specs.declared.command_of_words.WalkCommand.TheVariants.{Walk, Trace, Fates, Capture, Gfp, Frames}
+use Rattle.command_walk.specs.declared.command_of_words.WalkCommand.TheVariants.{Decode, Noise, Au4, Channels, Pair, Make}
+use Rattle.command_walk.specs.declared.command_of_words.WalkCommand.TheVariants.{Service, Stream}
+use Rattle.command_walk.specs.commands.Walk.{walk_words, walk_answer}
+use Rattle.command_walk.specs.commands.Trace.{trace_words, trace_answer}
+use Rattle.command_walk.specs.commands.Capture.{capture_words, capture_answer}
+use Rattle.command_walk.specs.commands.Gfp.{gfp_words, gfp_answer}
+use Rattle.command_walk.specs.commands.Frames.{frames_words, frames_answer}
+use Rattle.command_walk.specs.commands.Fates.{fates_words, fates_answer}
+use Rattle.command_walk.specs.commands.Service.{service_words, service_answer}
+use Rattle.command_walk.specs.commands.Decode.{decode_words, decode_answer}
+use Rattle.command_walk.specs.commands.Noise.{noise_words, noise_answer}
+use Rattle.command_walk.specs.commands.Au4.{au4_words, au4_answer}
+use Rattle.command_walk.specs.commands.Channels.{channels_words, channels_answer}
+use Rattle.command_walk.specs.commands.Pair.{pair_words}
+use Rattle.pair_walk.specs.Text.{pair_reply}
+use Rattle.command_walk.specs.commands.Make.{make_words, make_answer}
+use Rattle.command_walk.specs.commands.Stream.{stream_words, stream_answer}
+use Rattle.command_walk.specs.Ended.{IsWalkOf, HandsScript}
+
+abbrev pub usage : List ℕ
+usage = codes "usage: vcat_walk walk, trace, fates, service INTERVAL, capture, gfp, frames, decode, noise, au4, channels, pair, make NUMBER LINES TICKS, or stream OCTETS MBITS FIRST END NUMBER\n"
+
+-- ---- a line for each command
+abbrev pub command_of : List (List ℕ) → Option WalkCommand
+command_of words =
+    option_or (option_or (option_or (option_or (option_or (option_or
+    (option_or (option_or (option_or (option_or (option_or (option_or (option_or (walk_words words)
+    (trace_words words))
+    (fates_words words))
+    (service_words words))
+    (capture_words words))
+    (gfp_words words))
+    (frames_words words))
+    (decode_words words))
+    (noise_words words))
+    (au4_words words))
+    (channels_words words))
+    (pair_words words))
+    (make_words words))
+    (stream_words words)
+
+abbrev pub task_at : WalkCommand → Task
+task_at Walk = reads walk_answer
+task_at Trace = reads trace_answer
+task_at Fates = reads fates_answer
+task_at (Service interval) = reads (service_answer interval)
+task_at Capture = reads capture_answer
+task_at Gfp = reads gfp_answer
+task_at Frames = reads frames_answer
+task_at Decode = reads decode_answer
+task_at Noise = reads noise_answer
+task_at Au4 = reads au4_answer
+task_at Channels = reads channels_answer
+task_at Pair = reads pair_reply
+task_at (Make number lines ticks) = makes (make_answer number lines ticks)
+task_at (Stream load) = makes (stream_answer load)
+
+abbrev pub HandsBack : {S : Type 0} → Lent S → Option Walked → WalkCommand → Type 0
+HandsBack source walk Walk = HandsScript source walk
+HandsBack source walk Trace = HandsScript source walk
+HandsBack source walk Fates = HandsScript source walk
+HandsBack source walk (Service interval) = HandsScript source walk
+HandsBack source walk Capture = HandsScript source walk
+HandsBack source walk Gfp = HandsScript source walk
+HandsBack source walk Frames = walk ≡ None
+HandsBack source walk Decode = walk ≡ None
+HandsBack source walk Noise = walk ≡ None
+HandsBack source walk Au4 = walk ≡ None
+HandsBack source walk Channels = walk ≡ None
+HandsBack source walk Pair = walk ≡ None
+HandsBack source walk (Make number lines ticks) = IsWalkOf (load number lines ticks) walk
+HandsBack source walk (Stream rate) = walk ≡ None
+
+-- they run the script that the input says, and write its report
+abbrev pub RunsScript : WalkCommand → Type 0
+RunsScript Walk = Unit {0}
+RunsScript Trace = Unit {0}
+RunsScript Fates = ⊥
+RunsScript (Service interval) = ⊥
+RunsScript Capture = ⊥
+RunsScript Gfp = ⊥
+RunsScript Frames = ⊥
+RunsScript Decode = ⊥
+RunsScript Noise = ⊥
+RunsScript Au4 = ⊥
+RunsScript Channels = ⊥
+RunsScript Pair = ⊥
+RunsScript (Make number lines ticks) = ⊥
+RunsScript (Stream rate) = ⊥
+
+-- ---- of the words of a command line
+abbrev pub command_in : List (String Global) → Option WalkCommand
+command_in words = taken_as command_of (map string_bytes words)
+
+abbrev pub task_for : Option WalkCommand → Task
+task_for None = none usage
+task_for (Some command) = task_at command
+
+abbrev pub task_of : List (String Global) → Task
+task_of words = task_for (command_in words)

@@ -1,0 +1,15 @@
+pub mod HexText
+pub mod Walk
+pub mod Trace
+pub mod Fates
+pub mod Capture
+pub mod Gfp
+pub mod Frames
+pub mod Decode
+pub mod Noise
+pub mod Au4
+pub mod Channels
+pub mod Pair
+pub mod Make
+pub mod Service
+pub mod Stream

@@ -1,0 +1,31 @@
+-- `channels`: frames of clients in a stream that they share by channel numbers, and of which octets don't arrive.
+use Rattle.std.specs.Prelude.{◌≡◌, ℕ, List, codes, Option, Some, None, Result, Ok, Err, if◌then◌else◌}
+use Rattle.gfp_channels.specs.declared.channel_link.channel_text_fault.LineFault.{LineFault}
+use Rattle.gfp_channels.specs.channel_link.Helps.{kind_of, help_of}
+use Rattle.gfp_channels.specs.declared.channel_link.channel_draft.ChannelPlan.{ChannelPlan}
+use Rattle.gfp_channels.specs.channel_link.Plan.{plan_of}
+use Rattle.gfp_channels.specs.channel_link.Text.{plan_text}
+use Rattle.gfp_channels.specs.channel_link.Delivered.{IsPlanReport}
+use Rattle.command_parts.specs.declared.stop_and_status.Refusal.TheVariants.{Line}
+use Rattle.command_parts.specs.Task.{Answer, writes, refuses}
+use Rattle.command_parts.specs.Faults.{line_text}
+use Rattle.command_walk.specs.declared.command_of_words.WalkCommand.{WalkCommand}
+use Rattle.command_walk.specs.declared.command_of_words.WalkCommand.TheVariants.{Channels}
+use Rattle.command_walk.specs.commands.Walk.{is_word}
+
+abbrev pub channels_words : List (List ℕ) → Option WalkCommand
+channels_words words = if is_word (codes "channels") words then Some Channels else None
+
+-- of the plan that a text says, or of its first faulty line
+abbrev pub shared : Result ChannelPlan (ℕ × LineFault) → Answer
+shared (Ok plan) = writes (plan_text plan)
+shared (Err at) = refuses Line (line_text at.0 (kind_of at.1) (help_of at.1))
+
+abbrev pub channels_answer : List ℕ → Answer
+channels_answer text = shared (plan_of text)
+
+-- what is written of a text is a report of a plan
+pub record TellsPlan (text : List ℕ) (plan : ChannelPlan) : Type 0 where
+  pub report : List ℕ
+  pub answers : channels_answer text ≡ writes report
+  pub is : IsPlanReport plan report

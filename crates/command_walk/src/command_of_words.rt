@@ -1,0 +1,65 @@
+//! The commands of the program, a line for each.
+
+use crate::commands::{
+    au4, capture, channels, decode, fates, frames, gfp, make, noise, pair, service, stream, trace,
+    walk,
+};
+use text_scripts::rate_load::RateLoad;
+use command_words::FromWords;
+
+/// What the program is told to do.
+#[derive(Clone, Copy, Debug, PartialEq, Eq)]
+pub enum WalkCommand {
+    /// `walk`: make the walk of a script.
+    Walk,
+    /// `trace`: the same, and write a line for each decision step.
+    Trace,
+    /// `fates`: make the walk of a script, and write what became of each frame.
+    Fates,
+    /// `service`: make the walk of a script, and write what it was worth to its client, by stretches of 1 to
+    /// 1,000,000 ticks.
+    Service { interval: u32 },
+    /// `capture`: make the walk of a script, and write a capture of the frames that it delivers.
+    Capture,
+    /// `gfp`: make the walk of a script, and write a capture of the GFP frames of its client.
+    Gfp,
+    /// `frames`: write the lines of a script for the frames of a capture.
+    Frames,
+    /// `decode`: write the control packets in H4 octets.
+    Decode,
+    /// `noise`: send frames with an FCS, and write those that get through with bits turned over.
+    Noise,
+    /// `au4`: carry numbered VC-4s over a link of AU-4 frames.
+    Au4,
+    /// `channels`: send frames of clients that share a stream by channel numbers, and write those that get through.
+    Channels,
+    /// `pair`: make the sessions of two scripts, which carry each other's return packets.
+    Pair,
+    /// `make`: make the walk of the load of a number, of 1 to 64 lines and 1 to 1,000,000 ticks.
+    Make { number: u64, lines: u8, ticks: u32 },
+    /// `stream`: write the script lines of a client that sends at a rate.
+    Stream(RateLoad),
+}
+
+impl FromWords for WalkCommand {
+    ghost use Rattle.command_walk.specs.WordsOfCommands.{command_of};
+
+    ghost named = { λ words. command_of words };
+
+    fn from_words(words: &[String]) -> Option<WalkCommand> {
+        walk::words(words)
+            .or(trace::words(words))
+            .or(fates::words(words))
+            .or(service::words(words))
+            .or(capture::words(words))
+            .or(gfp::words(words))
+            .or(frames::words(words))
+            .or(decode::words(words))
+            .or(noise::words(words))
+            .or(au4::words(words))
+            .or(channels::words(words))
+            .or(pair::words(words))
+            .or(make::words(words))
+            .or(stream::words(words))
+    }
+}

@@ -1,0 +1,191 @@
+//! `capture`: a script's walk is made, and the frames that it delivers are written as a capture.
+ghost use Rattle.std.specs.Prelude.{◌≡◌, ◌≢◌, ℕ, List, None, Ok, OnOk, OnErr, map, replicate, string_bytes};
+ghost use Rattle.std.specs.List.{flat_map};
+ghost use Rattle.octet_io.specs.Start.{Start};
+ghost use Rattle.octet_io.specs.Transfer.{Appends, AppendsPart};
+ghost use Rattle.law_model.specs.declared.script_types.Script.{Script};
+ghost use Rattle.law_model.specs.declared.walk_events.Event.{Event};
+ghost use Rattle.law_model.specs.session.Leg.{leg_of};
+ghost use Rattle.law_model.specs.session.Valid.{IsValid, IsEvent};
+ghost use Rattle.law_model.specs.session.Counts.{begin, run, run_line, drain, bound};
+ghost use Rattle.law_walk.specs.Walk.{walk_plan, IsWalked};
+ghost use Rattle.law_walk.specs.Delivered.{delivered_of};
+ghost use Rattle.law_headline.specs.Texts.{counts_in};
+ghost use Rattle.text_captures.specs.capture_file.Written.{RowFrame, due_frames};
+ghost use Rattle.text_captures.specs.capture_file.Reading.{capture_said};
+ghost use Rattle.command_parts.specs.Status.{HasRunAt};
+ghost use Rattle.command_parts.specs.Task.{reads};
+ghost use Rattle.command_parts.specs.Ends.{Ends, lent};
+ghost use Rattle.command_walk.specs.commands.Capture.{HasTaken, taken_frames, capture_octets, capture_words, capture_answer};
+ghost use Rattle.command_walk.specs.Told.{events_of, IsTurn};
+ghost use Rattle.command_walk.specs.Ended.{HandsScript};
+
+use crate::command_of_words::WalkCommand;
+use crate::walk_end::{WalkEnd, cut, done, stopped};
+use crate::turns::trace_turns::{Turn, make_turn, turns_of};
+use crate::turns::ready_walk::read_walk;
+use octet_io::{ByteSink, ByteSource, Failed, take_back};
+use law_model::EventLine;
+use std::alloc::Global;
+use text_captures::capture_file::CaptureOut;
+use walk_engine::walk_core::Walk;
+
+/// The words `capture`.
+pub fn words(words: &[String]) -> Option<WalkCommand>
+    ensures { result ≡ capture_words (map string_bytes words.now) }
+{
+    match words {
+        [word] if word.as_str() == "capture" => Some(WalkCommand::Capture),
+        _ => None,
+    }
+}
+
+/// Makes a turn. A row that it takes is the next one.
+fn capture_turn<K: ByteSink>(walk: &mut Walk, turn: Turn, out: &mut CaptureOut<K>)
+    requires { IsTurn (walk_plan (leg_of walk.old.script)) turn }
+    ensures script { walk.new.script ≡ walk.old.script }
+    ensures counts { let plan = walk_plan (leg_of walk.old.script) in
+        walk.new.counts ≡ run plan walk.old.counts (events_of plan turn) }
+    ensures taken { (start : Start) → HasTaken K.written K.faults out.old start walk.old →
+        HasTaken K.written K.faults out.new start walk.new }
+{
+    out.begin_row(walk.totals().taken);
+    make_turn(walk, turn, out);
+}
+
+/// Makes a turn a number of times.
+fn capture_turns<K: ByteSink>(walk: &mut Walk, turn: Turn, count: u32, out: &mut CaptureOut<K>)
+    requires { IsTurn (walk_plan (leg_of walk.old.script)) turn }
+    ensures script { walk.new.script ≡ walk.old.script }
+    ensures counts { let plan = walk_plan (leg_of walk.old.script) in
+        walk.new.counts ≡ run plan walk.old.counts
+        (flat_map (λ (tries : List Event). tries) (replicate count (events_of plan turn))) }
+    ensures taken { (start : Start) → HasTaken K.written K.faults out.old start walk.old →
+        HasTaken K.written K.faults out.new start walk.new }
+{
+    for _made in 0..count {
+        capture_turn(walk, turn, out);
+    }
+}
+
+/// Makes rounds until all rows are taken.
+fn capture_drain<K: ByteSink>(walk: &mut Walk, ticks: u32, out: &mut CaptureOut<K>)
+    requires valid { IsValid walk.old.script }
+    requires walked { IsWalked (leg_of walk.old.script) walk.old.counts }
+    requires ticks { ticks ≡ walk.old.script.config.ticks }
+    ensures script { walk.new.script ≡ walk.old.script }
+    ensures counts { let plan = walk_plan (leg_of walk.old.script) in
+        walk.new.counts ≡ drain (bound plan) plan walk.old.counts }
+    ensures taken { (start : Start) → HasTaken K.written K.faults out.old start walk.old →
+        HasTaken K.written K.faults out.new start walk.new }
+{
+    while walk.totals().taken < ticks {
+        capture_turn(walk, Turn::Round, out);
+    }
+}
+
+/// Makes what an event line says.
+fn capture_line<K: ByteSink>(walk: &mut Walk, line: EventLine, ticks: u32, out: &mut CaptureOut<K>)
+    requires valid { IsValid walk.old.script }
+    requires walked { IsWalked (leg_of walk.old.script) walk.old.counts }
+    requires event { IsEvent walk.old.script.config.lines line }
+    requires ticks { ticks ≡ walk.old.script.config.ticks }
+    ensures script { walk.new.script ≡ walk.old.script }
+    ensures counts { walk.new.counts
+        ≡ run_line (walk_plan (leg_of walk.old.script)) walk.old.counts line }
+    ensures taken { (start : Start) → HasTaken K.written K.faults out.old start walk.old →
+        HasTaken K.written K.faults out.new start walk.new }
+{
+    match turns_of(line) {
+        Some((turn, count)) => capture_turns(walk, turn, count, out),
+        None => capture_drain(walk, ticks, out),
+    }
+}
+
+/// Makes what the event lines of a walk's script say. Where there are none, it drains.
+fn capture_lines<K: ByteSink>(
+    walk: &mut Walk,
+    lines: &[EventLine],
+    ticks: u32,
+    out: &mut CaptureOut<K>,
+)
+    requires valid { IsValid walk.old.script }
+    requires events { lines.now ≡ walk.old.script.events }
+    requires begun { walk.old.counts ≡ begin (walk_plan (leg_of walk.old.script)) }
+    requires ticks { ticks ≡ walk.old.script.config.ticks }
+    ensures script { walk.new.script ≡ walk.old.script }
+    ensures counts { walk.new.counts ≡ counts_in walk.old.script }
+    ensures taken { (start : Start) → HasTaken K.written K.faults out.old start walk.old →
+        HasTaken K.written K.faults out.new start walk.new }
+{
+    if lines.is_empty() {
+        return capture_drain(walk, ticks, out);
+    }
+    for line in lines {
+        capture_line(walk, *line, ticks, out);
+    }
+}
+
+/// Makes a walk, and writes the capture of the frames that it delivers.
+fn write_capture<K: ByteSink>(
+    walk: &mut Walk,
+    lines: &[EventLine],
+    ticks: u32,
+    out: &mut K,
+) -> Result<(), Failed>
+    requires valid { IsValid walk.old.script }
+    requires events { lines.now ≡ walk.old.script.events }
+    requires begun { walk.old.counts ≡ begin (walk_plan (leg_of walk.old.script)) }
+    requires ticks { ticks ≡ walk.old.script.config.ticks }
+    ensures script { walk.new.script ≡ walk.old.script }
+    ensures counts { walk.new.counts ≡ counts_in walk.old.script }
+    ensures ok { OnOk result
+        (Appends K.written K.faults out.old out.new (capture_octets walk.old.script)) }
+    ensures err { OnErr result
+        (AppendsPart K.written K.faults out.old out.new (capture_octets walk.old.script)) }
+{
+    let mut capture = CaptureOut::new(out);
+    capture_lines(walk, lines, ticks, &mut capture);
+    let (back, end) = capture.finish();
+    take_back(back);
+    end
+}
+
+/// Reads a script, makes its walk and writes a capture of the frames that it delivers.
+pub fn capture<S: ByteSource, K: ByteSink, E: ByteSink>(
+    alloc: Global,
+    script: &mut S,
+    out: &mut K,
+    notes: &mut E,
+) -> WalkEnd
+    ensures ends { Ends (lent S.left S.faults script.old script.new)
+        (lent K.written K.faults out.old out.new) (lent E.written E.faults notes.old notes.new)
+        (reads capture_answer) result.status }
+    ensures handed { HasRunAt result.status →
+        HandsScript (lent S.left S.faults script.old script.new) result.walk }
+    ensures kept { result.status ≢ 0 → result.status ≢ 4 → result.walk ≡ None }
+{
+    let begun = match read_walk(alloc, script) {
+        Ok(begun) => begun,
+        Err(stop) => return stopped(stop, notes),
+    };
+    let mut walk = begun.walk;
+    match write_capture(&mut walk, begun.lines.as_slice(), begun.size.ticks, out) {
+        Ok(()) => done(Some(walk)),
+        Err(Failed) => cut(Some(walk), notes),
+    }
+}
+
+/// The frames of a capture are exactly those that the rows deliver, in order and each once.
+pub fn capture_law()
+    ensures { (script : Script) (rows : ℕ) →
+        map (λ (own : RowFrame). own.frame) (taken_frames script rows)
+        ≡ delivered_of (leg_of script) rows }
+{}
+
+/// The capture of a valid script's walk is read as the frames in it, each due as many ticks after the first
+/// one as the row that gave it comes after the row of that.
+pub fn capture_read_law()
+    ensures { (script : Script) → IsValid script → capture_said (capture_octets script)
+        ≡ Ok (due_frames (taken_frames script (counts_in script).rows)) }
+{}

@@ -1,0 +1,53 @@
+//! `pair`: the sessions of two scripts are made, which carry each other's return packets, and the report of each is
+//! written: that of the way there, and on `notes` that of the way back.
+ghost use Rattle.std.specs.Prelude.{◌≡◌, None, map, string_bytes};
+ghost use Rattle.command_parts.specs.Task.{reads};
+ghost use Rattle.command_parts.specs.Ends.{Ends, lent};
+ghost use Rattle.pair_walk.specs.Text.{pair_reply};
+ghost use Rattle.command_walk.specs.commands.Pair.{pair_words};
+
+use crate::command_of_words::WalkCommand;
+use crate::walk_end::{WalkEnd, cut, done, stopped};
+use octet_io::{ByteSink, ByteSource, Failed};
+use command_parts::Stop;
+use pair_engine::Pair;
+use pair_script::{ScriptPair, read_pair};
+use pair_walk::write_pair;
+use std::alloc::{AllocError, Global};
+
+/// The words `pair`.
+pub fn words(words: &[String]) -> Option<WalkCommand>
+    ensures { result ≡ pair_words (map string_bytes words.now) }
+{
+    match words {
+        [word] if word.as_str() == "pair" => Some(WalkCommand::Pair),
+        _ => None,
+    }
+}
+
+/// Reads two scripts, makes their pair and writes the report of each way. All memory is taken before the first octet is
+/// written. A write that fails, on `out` or on `notes`, is the last one but for the note on it.
+pub fn pair<S: ByteSource, K: ByteSink, E: ByteSink>(
+    alloc: Global,
+    script: &mut S,
+    out: &mut K,
+    notes: &mut E,
+) -> WalkEnd
+    ensures ends { Ends (lent S.left S.faults script.old script.new)
+        (lent K.written K.faults out.old out.new) (lent E.written E.faults notes.old notes.new)
+        (reads pair_reply) result.status }
+    ensures kept { result.walk ≡ None }
+{
+    let ScriptPair { there, back } = match read_pair(alloc, script) {
+        Ok(scripts) => scripts,
+        Err(stop) => return stopped(stop, notes),
+    };
+    let mut pair = match Pair::new(alloc, there, back) {
+        Ok(pair) => pair,
+        Err(AllocError) => return stopped(Stop::Memory, notes),
+    };
+    match write_pair(&mut pair, out, notes) {
+        Ok(()) => done(None),
+        Err(Failed) => cut(None, notes),
+    }
+}

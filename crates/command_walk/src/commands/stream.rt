@@ -1,0 +1,97 @@
+//! `stream`: the script lines of a client that sends at a rate are written.
+ghost use Rattle.std.specs.Prelude.{◌≡◌, None, map, string_bytes};
+ghost use Rattle.text_scripts.specs.rate_load.RateTexts.{IsRateLoad};
+ghost use Rattle.command_words.specs.Words.{number_in};
+ghost use Rattle.command_parts.specs.Task.{makes};
+ghost use Rattle.command_parts.specs.Ends.{Ends, lent, no_source};
+ghost use Rattle.command_walk.specs.commands.Stream.{ticks_of, rate_of, numbers_in, stream_words, stream_answer};
+ghost use Rattle.law_model.specs.Limits.{longest_frame};
+
+use crate::command_of_words::WalkCommand;
+use crate::walk_end::{WalkEnd, cut, done, stopped};
+use octet_io::{ByteSink, Failed};
+use command_parts::Stop;
+use law_model::LONGEST_FRAME;
+use text_scripts::rate_load::{RateLoad, is_too_long, write_lines};
+use command_words::number_within;
+
+/// The ticks of two words, the first of them before the second.
+fn ticks_of(first: &[u8], end: &[u8]) -> Option<(u32, u32)>
+    ensures { result ≡ ticks_of (number_in 0 1000000 first.now) (number_in 0 1000000 end.now) }
+{
+    let first = number_within(first, 0, 1_000_000)? as u32;
+    let end = number_within(end, 0, 1_000_000)? as u32;
+    if first < end {
+        Some((first, end))
+    } else {
+        None
+    }
+}
+
+/// The load of three words and two ticks.
+fn rate_of(
+    octets: &[u8],
+    mbits: &[u8],
+    ticks: Option<(u32, u32)>,
+    number: &[u8],
+) -> Option<WalkCommand>
+    ensures { result ≡ rate_of (number_in 64 longest_frame octets.now) (number_in 1 400000 mbits.now)
+        ticks (number_in 0 18446744073709551615 number.now) }
+{
+    let octets = number_within(octets, 64, LONGEST_FRAME as u64)? as u16;
+    let mbits = number_within(mbits, 1, 400_000)? as u32;
+    let (first, end) = ticks?;
+    let number = number_within(number, 0, u64::MAX)?;
+    Some(WalkCommand::Stream(RateLoad {
+        octets,
+        mbits,
+        first,
+        end,
+        number,
+    }))
+}
+
+/// The load of five words.
+fn numbers_in(words: &[String]) -> Option<WalkCommand>
+    ensures { result ≡ numbers_in (map string_bytes words.now) }
+{
+    match words {
+        [octets, mbits, first, end, number] => {
+            let ticks = ticks_of(first.as_bytes(), end.as_bytes());
+            rate_of(
+                octets.as_bytes(),
+                mbits.as_bytes(),
+                ticks,
+                number.as_bytes(),
+            )
+        }
+        _ => None,
+    }
+}
+
+/// The words `stream OCTETS MBITS FIRST END NUMBER`.
+pub fn words(words: &[String]) -> Option<WalkCommand>
+    ensures { result ≡ stream_words (map string_bytes words.now) }
+{
+    match words {
+        [word, numbers @ ..] if word.as_str() == "stream" => numbers_in(numbers),
+        _ => None,
+    }
+}
+
+/// Writes the lines of a load, where they have at most 67,108,864 octets.
+pub fn stream<K: ByteSink, E: ByteSink>(load: &RateLoad, out: &mut K, notes: &mut E) -> WalkEnd
+    requires { IsRateLoad load.now }
+    ensures ends { Ends no_source
+        (lent K.written K.faults out.old out.new) (lent E.written E.faults notes.old notes.new)
+        (makes (stream_answer load.now)) result.status }
+    ensures kept { result.walk ≡ None }
+{
+    if is_too_long(load) {
+        return stopped(Stop::TooLong, notes);
+    }
+    match write_lines(load, out) {
+        Ok(()) => done(None),
+        Err(Failed) => cut(None, notes),
+    }
+}

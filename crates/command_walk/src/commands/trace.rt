@@ -1,0 +1,50 @@
+//! `trace`: a script's walk is made, and what comes of it is written, with a line for each decision step on `notes`.
+ghost use Rattle.std.specs.Prelude.{◌≡◌, ◌≢◌, None, map, string_bytes};
+ghost use Rattle.command_parts.specs.Status.{HasRunAt};
+ghost use Rattle.command_parts.specs.Task.{reads};
+ghost use Rattle.command_parts.specs.Ends.{Ends, lent};
+ghost use Rattle.command_walk.specs.commands.Trace.{trace_words, trace_answer};
+ghost use Rattle.command_walk.specs.Ended.{HandsScript};
+
+use crate::command_of_words::WalkCommand;
+use crate::walk_end::{WalkEnd, cut, done, stopped};
+use crate::turns::trace_turns::write_trace;
+use crate::turns::ready_walk::read_walk;
+use octet_io::{ByteSink, ByteSource, Failed};
+use std::alloc::Global;
+
+/// The words `trace`.
+pub fn words(words: &[String]) -> Option<WalkCommand>
+    ensures { result ≡ trace_words (map string_bytes words.now) }
+{
+    match words {
+        [word] if word.as_str() == "trace" => Some(WalkCommand::Trace),
+        _ => None,
+    }
+}
+
+/// Reads a script, makes its walk and writes what comes of it and its trace. A write that fails, on `out` or
+/// on `notes`, is the last one but for the note on it; the walk goes on to its end.
+pub fn trace<S: ByteSource, K: ByteSink, E: ByteSink>(
+    alloc: Global,
+    script: &mut S,
+    out: &mut K,
+    notes: &mut E,
+) -> WalkEnd
+    ensures ends { Ends (lent S.left S.faults script.old script.new)
+        (lent K.written K.faults out.old out.new) (lent E.written E.faults notes.old notes.new)
+        (reads trace_answer) result.status }
+    ensures handed { HasRunAt result.status →
+        HandsScript (lent S.left S.faults script.old script.new) result.walk }
+    ensures kept { result.status ≢ 0 → result.status ≢ 4 → result.walk ≡ None }
+{
+    let begun = match read_walk(alloc, script) {
+        Ok(begun) => begun,
+        Err(stop) => return stopped(stop, notes),
+    };
+    let mut walk = begun.walk;
+    match write_trace(&mut walk, begun.lines.as_slice(), begun.size, out, notes) {
+        Ok(()) => done(Some(walk)),
+        Err(Failed) => cut(Some(walk), notes),
+    }
+}

@@ -1,0 +1,95 @@
+//! `walk`: a script's walk is made, and what comes of it is written.
+ghost use Rattle.std.specs.Prelude.{◌≡◌, ◌≢◌, None, OnOk, OnErr, map, string_bytes};
+ghost use Rattle.law_model.specs.session.Leg.{leg_of};
+ghost use Rattle.octet_io.specs.Transfer.{Appends, AppendsPart};
+ghost use Rattle.law_model.specs.session.Valid.{IsValid};
+ghost use Rattle.law_model.specs.session.Counts.{begin};
+ghost use Rattle.law_walk.specs.Walk.{walk_plan};
+ghost use Rattle.law_headline.specs.Texts.{counts_in, walk_text};
+ghost use Rattle.command_parts.specs.Status.{HasRunAt};
+ghost use Rattle.command_parts.specs.Task.{reads};
+ghost use Rattle.command_parts.specs.Ends.{Ends, lent};
+ghost use Rattle.command_walk.specs.commands.Walk.{walk_words, walk_answer};
+ghost use Rattle.command_walk.specs.Ended.{HandsScript};
+
+use crate::command_of_words::WalkCommand;
+use crate::walk_end::{WalkEnd, cut, done, stopped};
+use crate::turns::trace_turns::write_trace;
+use crate::turns::ready_walk::{LinesAndTicks, read_walk};
+use octet_io::{ByteSink, ByteSource, Failed};
+use law_model::EventLine;
+use std::alloc::Global;
+use walk_engine::walk_core::Walk;
+
+/// The words `walk`.
+pub fn words(words: &[String]) -> Option<WalkCommand>
+    ensures { result ≡ walk_words (map string_bytes words.now) }
+{
+    match words {
+        [word] if word.as_str() == "walk" => Some(WalkCommand::Walk),
+        _ => None,
+    }
+}
+
+/// Takes notes, and keeps none of them.
+#[derive(Drop)]
+struct Nowhere;
+
+impl ByteSink for Nowhere {
+    ghost use Rattle.std.specs.Prelude.{None};
+
+    ghost written = { λ nowhere. None };
+
+    ghost faults = { λ nowhere. 0 };
+
+    fn put(&mut self, piece: &[u8]) -> Result<usize, Failed> {
+        Ok(piece.len())
+    }
+}
+
+/// Makes a walk, and writes what comes of it.
+fn write_walk<K: ByteSink>(
+    walk: &mut Walk,
+    lines: &[EventLine],
+    size: LinesAndTicks,
+    out: &mut K,
+) -> Result<(), Failed>
+    requires valid { IsValid walk.old.script }
+    requires events { lines.now ≡ walk.old.script.events }
+    requires begun { walk.old.counts ≡ begin (walk_plan (leg_of walk.old.script)) }
+    requires lines { size.lines ≡ walk.old.script.config.lines }
+    requires ticks { size.ticks ≡ walk.old.script.config.ticks }
+    ensures script { walk.new.script ≡ walk.old.script }
+    ensures counts { walk.new.counts ≡ counts_in walk.old.script }
+    ensures ok { OnOk result
+        (Appends K.written K.faults out.old out.new (walk_text walk.old.script)) }
+    ensures err { OnErr result
+        (AppendsPart K.written K.faults out.old out.new (walk_text walk.old.script)) }
+{
+    write_trace(walk, lines, size, out, &mut Nowhere)
+}
+
+/// Reads a script, makes its walk and writes what comes of it.
+pub fn walk<S: ByteSource, K: ByteSink, E: ByteSink>(
+    alloc: Global,
+    script: &mut S,
+    out: &mut K,
+    notes: &mut E,
+) -> WalkEnd
+    ensures ends { Ends (lent S.left S.faults script.old script.new)
+        (lent K.written K.faults out.old out.new) (lent E.written E.faults notes.old notes.new)
+        (reads walk_answer) result.status }
+    ensures handed { HasRunAt result.status →
+        HandsScript (lent S.left S.faults script.old script.new) result.walk }
+    ensures kept { result.status ≢ 0 → result.status ≢ 4 → result.walk ≡ None }
+{
+    let begun = match read_walk(alloc, script) {
+        Ok(begun) => begun,
+        Err(stop) => return stopped(stop, notes),
+    };
+    let mut walk = begun.walk;
+    match write_walk(&mut walk, begun.lines.as_slice(), begun.size, out) {
+        Ok(()) => done(Some(walk)),
+        Err(Failed) => cut(Some(walk), notes),
+    }
+}

@@ -1,0 +1,8 @@
+-- The values of the one argument, by its row.
+use Rattle.std.proofs.Common.{codes, ◌∙◌}
+use Rattle.clap.proofs.WalkLemmas.{raw_values-rows}
+use Rattle.clap.specs.Words.{found_of}
+use Rattle.command_words.proofs.word_reading.values.Goals as goal
+
+pub returns : goal.returns
+returns c = c.get_strs.ensures ∙ raw_values-rows (found_of c.args.matches.now) (codes "word")

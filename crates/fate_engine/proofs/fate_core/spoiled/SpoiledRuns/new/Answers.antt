@@ -1,8 +1,0 @@
--- No row has come.
-use Rattle.std.proofs.Common.{refl}
-use Rattle.fate_engine.specs.fate_law.Spoiled.{spoiled_runs}
-use Rattle.fate_engine.proofs.fate_core.spoiled.SpoiledRuns.new.Goals as goal
-
-pub returns : goal.returns
-unfolding spoiled_runs
-returns c = record { count = refl; are = c.new.ensures.items }

@@ -1,0 +1,12 @@
+-- Nothing has landed.
+use Rattle.fate_service.specs.Frames.{waits_on}
+use Rattle.fate_service.proofs.landed_frames.LandedFrames.new.Goals as goal
+
+pub returns : goal.returns
+unfolding waits_on
+returns c = record {
+  offered = c.new.ensures.items;
+  accepted = c.new-2.ensures.items;
+  carried = c.new-3.ensures.items;
+  waits = c.none.ensures;
+}

@@ -1,9 +1,0 @@
--- Text by text.
-use Rattle.fate_service.proofs.LineTextLaws.{extends-then}
-use Rattle.fate_service.proofs.lines.add_stretch.Goals as goal
-
-pub returns-clause-text : goal.returns-clause-text
-returns-clause-text c =
-    extends-then (extends-then (extends-then (extends-then (extends-then
-    (extends-then c.add_came.ensures.text c.add_carried.ensures.text) c.add_room.ensures.text) c.text.ensures)
-    c.decimal.ensures.text) c.text-2.ensures) c.decimal-2.ensures.text

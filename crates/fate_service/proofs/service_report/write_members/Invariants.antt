@@ -1,0 +1,22 @@
+-- The runs so far are written.
+use Rattle.std.proofs.Common.{◌≡◌, ℕ, ◌-◌, ◌≤◌, List, ◌++◌, map, Option}
+use Rattle.std.specs.List.{flat_map, range_with_len}
+use Rattle.octet_io.specs.Start.{Start}
+use Rattle.text_got.specs.Told.{HasText}
+use Rattle.law_model.specs.session.Scenario.{Scenario}
+use Rattle.law_model.specs.source.Table.{Told}
+use Rattle.law_model.specs.source.Client.{width}
+use Rattle.fate_engine.specs.fate_core.Packets.{ArePackets}
+use Rattle.fate_service.specs.Members.{runs_on, runs_of}
+use Rattle.fate_service.specs.ServiceText.{members_text}
+use Rattle.fate_service.proofs.service_report.write_members.Given as goal
+
+abbrev pub invariant-loop-row : goal.invariant-loop-row
+invariant-loop-row g l =
+    (l.run.members ≤ 128) × (l.run.end ≡ l.row)
+    × ((scenario : Scenario) (cells : List (Option Told)) → ArePackets scenario cells l.packets → (done : List ℕ)
+    × (done ++ flat_map (members_text l.size)
+    (runs_on l.run (map (width scenario cells) (range_with_len l.row (l.rows - l.row))))
+    ≡ flat_map (members_text l.size) (runs_of (map (width scenario cells) (range_with_len 0 l.rows))))
+    × ((start : Start) (before : List ℕ) → HasText g.K.ByteSink.written g.K.ByteSink.faults l.fn.got start before →
+    HasText g.K.ByteSink.written g.K.ByteSink.faults l.got start (before ++ done)))

@@ -1,0 +1,21 @@
+-- The outages so far are written.
+use Rattle.std.proofs.Common.{◌≡◌, ℕ, List, ◌++◌, drop}
+use Rattle.octet_io.specs.Start.{Start}
+use Rattle.text_got.specs.Told.{HasText}
+use Rattle.law_model.specs.session.Leg.{leg_of}
+use Rattle.law_model.specs.session.Scenario.{scenario_by}
+use Rattle.law_walk.specs.Walk.{session_of}
+use Rattle.fate_engine.specs.fate_law.Spoiled.{row_cause}
+use Rattle.fate_engine.specs.fate_law.SessionFates.{ended_of}
+use Rattle.fate_service.specs.Frames.{carried_of}
+use Rattle.fate_service.specs.ServiceText.{outages_text}
+use Rattle.fate_service.proofs.service_report.write_outages.Given as goal
+
+abbrev pub invariant-loop-i : goal.invariant-loop-i
+invariant-loop-i g l = (done : List ℕ)
+    × (done ++ outages_text (row_cause (scenario_by (leg_of l.walk.script)) (session_of (leg_of l.walk.script)))
+    (carried_of (ended_of (leg_of l.walk.script) l.walk.counts)) l.walk.counts.rows (drop l.i l.survey.outages.items)
+    ≡ outages_text (row_cause (scenario_by (leg_of l.walk.script)) (session_of (leg_of l.walk.script)))
+    (carried_of (ended_of (leg_of l.walk.script) l.walk.counts)) l.walk.counts.rows l.survey.outages.items)
+    × ((start : Start) (before : List ℕ) → HasText g.K.ByteSink.written g.K.ByteSink.faults l.fn.got start before →
+    HasText g.K.ByteSink.written g.K.ByteSink.faults l.got start (before ++ done))

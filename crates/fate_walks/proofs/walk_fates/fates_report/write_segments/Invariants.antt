@@ -1,0 +1,17 @@
+-- The lines of the segments so far are written.
+use Rattle.std.proofs.Common.{ℕ, List, ◌++◌, take}
+use Rattle.std.specs.List.{flat_map}
+use Rattle.law_model.specs.session.Leg.{leg_of}
+use Rattle.octet_io.specs.Start.{Start}
+use Rattle.text_got.specs.Told.{HasText}
+use Rattle.law_walk.specs.Delivered.{session_rows}
+use Rattle.fate_engine.specs.fate_law.Spans.{later_segments}
+use Rattle.fate_walks.specs.walk_fates.MadeWalk.{segment_in}
+use Rattle.fate_walks.proofs.walk_fates.fates_report.write_segments.Given as goal
+
+abbrev pub invariant-loop-i : goal.invariant-loop-i
+invariant-loop-i g l = (start : Start) (before : List ℕ) →
+    HasText g.K.ByteSink.written g.K.ByteSink.faults l.fn.got start before →
+    HasText g.K.ByteSink.written g.K.ByteSink.faults l.got start
+    (before ++ flat_map (segment_in (leg_of l.walk.script) l.walk.counts.rows)
+    (take l.i (later_segments (session_rows (leg_of l.walk.script) l.walk.counts.rows))))

@@ -1,0 +1,25 @@
+-- The place is that of the session, whose octets are few.
+use Rattle.std.proofs.Common.{◌+◌, arith}
+use Rattle.law_model.specs.session.Leg.{leg_of}
+use Rattle.law_model.specs.session.Scenario.{scenario_of}
+use Rattle.law_walk.specs.Walk.{session_of}
+use Rattle.fate_walks.proofs.WalkFatesLaws.PlaceLaws.{few-ticks, place-few}
+use Rattle.fate_walks.proofs.walk_fates.frame_places.place_after.Goals as goal
+
+pub overflow_add-row : goal.overflow_add-row
+overflow_add-row c =
+    let few =
+    few-ticks (leg_of c.args.walk.now.script) c.args.walk.now.counts c.requires.valid.sound c.requires.walked in
+    let made = c.requires.made in
+    omega (arith, few.1, made)
+
+pub returns-clause-low : goal.returns-clause-low
+returns-clause-low c =
+    let few =
+    few-ticks (leg_of c.args.walk.now.script) c.args.walk.now.counts c.requires.valid.sound c.requires.walked in
+    let made = c.requires.made in
+    let is = c.place.ensures (scenario_of c.args.walk.now.script)
+    (session_of (leg_of c.args.walk.now.script)) c.requires.packets.are in
+    let low =
+    place-few (leg_of c.args.walk.now.script) (c.args.row + 1) c.requires.valid.sound (omega (arith, few.0, made)) in
+    omega (arith, is, low)

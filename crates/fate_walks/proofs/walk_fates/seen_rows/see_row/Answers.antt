@@ -1,0 +1,104 @@
+-- One row more.
+use Rattle.std.proofs.Common.{◌≡◌, ◌+◌, ◌≤◌, ◌∷◌, ◌++◌, [], Option, sym, ◌∙◌, ap, subst}
+use Rattle.std.proofs.Common.{arith}
+use Rattle.std.proofs.lemmas.Result.{on_ok_weaker}
+use Rattle.law_model.specs.declared.script_types.Script.{Script}
+use Rattle.law_model.specs.session.Leg.{leg_of}
+use Rattle.law_model.specs.session.Scenario.{scenario_of}
+use Rattle.law_model.specs.source.Client.{place_of}
+use Rattle.law_model.specs.rows.SessionStream.{row_of}
+use Rattle.fate_engine.specs.declared.fate_law.Cause.{Cause}
+use Rattle.fate_engine.specs.fate_law.Spoiled.{row_cause}
+use Rattle.fate_engine.specs.fate_core.Segments.{Tells}
+use Rattle.fate_engine.specs.fate_core.Runs.{AreRuns}
+use Rattle.std.proofs.Common.{map}
+use Rattle.std.specs.List.{range_with_len}
+use Rattle.law_walk.specs.Walk.{session_of}
+use Rattle.law_walk.specs.Delivered.{session_rows}
+use Rattle.fate_walks.proofs.WalkFatesLaws.SeenLaws.{few-rows, causes-size, rows-size, rows-next, row-tells}
+use Rattle.fate_walks.proofs.WalkFatesLaws.SeenLaws.{whole-cause, none-is, place-low, mark-low, one-row}
+use Rattle.fate_walks.proofs.walk_fates.seen_rows.see_row.Goals as goal
+
+pub row_cause-cause-requires-clause-governed : goal.row_cause-cause-requires-clause-governed
+row_cause-cause-requires-clause-governed c =
+    let few =
+    few-rows (leg_of c.args.walk.now.script) c.args.walk.now.counts c.requires.valid.sound c.requires.walked in
+    let last = c.requires.last in
+    omega (arith, few.0, c.requires.seen.packets.steps, last)
+
+pub row-requires : goal.row-requires
+row-requires c =
+    let few =
+    few-rows (leg_of c.args.walk.now.script) c.args.walk.now.counts c.requires.valid.sound c.requires.walked in
+    let last = c.requires.last in
+    let size = causes-size (leg_of c.args.walk.now.script) c.args.row in
+    omega (arith, few.0, few.2, last, size, c.requires.seen.runs.count)
+
+pub overflow_add-row : goal.overflow_add-row
+overflow_add-row c =
+    let few =
+    few-rows (leg_of c.args.walk.now.script) c.args.walk.now.counts c.requires.valid.sound c.requires.walked in
+    let last = c.requires.last in
+    omega (arith, few.0, few.2, last)
+
+pub place-end-requires : goal.place-end-requires
+place-end-requires c =
+    let few =
+    few-rows (leg_of c.args.walk.now.script) c.args.walk.now.counts c.requires.valid.sound c.requires.walked in
+    let last = c.requires.last in
+    omega (arith, few.0, c.requires.seen.packets.steps, last)
+
+pub row-requires-2-clause-rows : goal.row-requires-2-clause-rows
+row-requires-2-clause-rows c =
+    let few =
+    few-rows (leg_of c.args.walk.now.script) c.args.walk.now.counts c.requires.valid.sound c.requires.walked in
+    let last = c.requires.last in
+    let size = rows-size (leg_of c.args.walk.now.script) c.args.row in
+    omega (arith, few.0, few.2, last, size, c.requires.seen.segments.count)
+
+pub row-requires-2-clause-end : goal.row-requires-2-clause-end
+row-requires-2-clause-end c =
+    let script = c.args.walk.now.script in
+    let few = few-rows (leg_of script) c.args.walk.now.counts c.requires.valid.sound c.requires.walked in
+    let last = c.requires.last in
+    let low : c.args.row + 1 ≤ script.config.ticks = omega (arith, few.0, few.1, last) in
+    let is = c.place-end.ensures (scenario_of script) (session_of (leg_of script)) c.requires.seen.packets.are in
+    let most = place-low (leg_of script) (c.args.row + 1) c.requires.valid.sound low in
+    omega (arith, is, most)
+
+pub row-requires-2-clause-confirmed : goal.row-requires-2-clause-confirmed
+row-requires-2-clause-confirmed c =
+    let script = c.args.walk.now.script in
+    let few = few-rows (leg_of script) c.args.walk.now.counts c.requires.valid.sound c.requires.walked in
+    let low : c.args.walk.now.counts.rows ≤ script.config.ticks = omega (arith, few.0, few.1) in
+    mark-low (leg_of script) c.args.walk.now.counts.rows c.first_confirmed.result c.requires.valid.sound low
+    c.first_confirmed.ensures
+
+pub returns-clause-ok : goal.returns-clause-ok
+returns-clause-ok c =
+    let script : Script = c.args.walk.now.script in
+    let scenario = scenario_of script in
+    let cells = session_of (leg_of script) in
+    let row = c.args.row in
+    let causes = map (row_cause scenario cells) (range_with_len 0 row) in
+    let is : c.row_cause-cause.result ≡ row_cause scenario cells row =
+    c.row_cause-cause.ensures scenario cells
+    (ap (λ (s : Script). s.config.windows) (sym c.script.ensures.script)) c.requires.seen.packets.are in
+    let runs : AreRuns c.row.new.self (causes ++ row_cause scenario cells row ∷ []) =
+    subst (λ (cause : Option Cause). AreRuns c.row.new.self (causes ++ cause ∷ [])) is
+    (c.in_ok-row.ensures.ok causes c.requires.seen.runs) in
+    let ends : c.place-end.result ≡ place_of scenario cells c.args.walk.now.counts.rows =
+    c.place-end.ensures scenario cells c.requires.seen.packets.are ∙ ap (place_of scenario cells) c.requires.last in
+    let told : Tells (session_rows (leg_of script) (row + 1)) c.place-end.result c.first_confirmed.result =
+    row-tells (leg_of script) c.args.walk.now.counts
+    (row + 1) c.place-end.result c.first_confirmed.result c.requires.last ends
+    c.first_confirmed.ensures in
+    let whole = whole-cause (leg_of script) row c.row_cause-cause.result is
+    ∙ none-is c.row_cause-cause.result c.is_none.result c.is_none.ensures in
+    let stands =
+    c.row-2.ensures.ok (session_rows (leg_of script) row) (row_of scenario cells row) c.requires.seen.segments whole
+    (subst (λ rows. Tells rows c.place-end.result c.first_confirmed.result) (rows-next (leg_of script) row) told) in
+    on_ok_weaker c.row-2.result
+    (λ segments. one-row (leg_of script) c.args.walk.now.counts.ticks row c.args.walk.now.counts.rows
+    (record { packets = c.args.seen.now.packets; segments = c.row-2.new.self; runs = c.row.new.self }) c.requires.last
+    c.requires.seen.packets segments runs) stands

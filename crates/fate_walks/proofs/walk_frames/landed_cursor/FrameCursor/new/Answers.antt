@@ -1,0 +1,19 @@
+-- No item was passed.
+use Rattle.std.proofs.Common.{sym, ap, arith}
+use Rattle.law_model.specs.session.Leg.{leg_of}
+use Rattle.law_walk.specs.Landed.{landed_from, refusals_among}
+use Rattle.fate_walks.proofs.walk_frames.landed_cursor.FrameCursor.new.Goals as goal
+
+pub returns-clause-at : goal.returns-clause-at
+returns-clause-at c =
+    let script = c.args.walk.now.script in
+    let commands = c.args.walk.now.counts.commands in
+    record {
+      sound = c.requires.sound;
+      walked = c.requires.walked;
+      commands = commands;
+      within = omega arith;
+      left = omega (arith, c.landed_frames.ensures);
+      refusals = ap (λ frames. refusals_among (leg_of script) (landed_from frames commands 0 script.items))
+          (sym c.landed_frames.ensures);
+    }

@@ -1,0 +1,13 @@
+-- The lines so far were written.
+use Rattle.std.proofs.Common.{ℕ, List, ◌++◌, take}
+use Rattle.std.specs.List.{flat_map}
+use Rattle.octet_io.specs.Start.{Start}
+use Rattle.text_got.specs.Told.{HasText}
+use Rattle.gfp_channels.specs.channel_link.Text.{refusal_text}
+use Rattle.gfp_channels.proofs.channel_link.channel_run.write_refused.Given as goal
+
+abbrev pub invariant-loop-refusal : goal.invariant-loop-refusal
+invariant-loop-refusal g l =
+    (start : Start) (before : List ℕ) → HasText g.K.ByteSink.written g.K.ByteSink.faults l.fn.lines start before
+    → HasText g.K.ByteSink.written g.K.ByteSink.faults l.lines start
+    (before ++ flat_map refusal_text (take l.refusal-index l.refused))

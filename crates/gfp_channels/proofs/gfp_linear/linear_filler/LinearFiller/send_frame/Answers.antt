@@ -1,0 +1,26 @@
+-- Octets of the frame are scrambled where they were copied to.
+use Rattle.std.proofs.Common.{◌≡◌, List, ℕ, ◌++◌, take, drop, length, sym, ◌∙◌, ap₂, subst, arith}
+use Rattle.std.proofs.lemmas.List.{take_at, take-append-drop, length-take-le}
+use Rattle.gfp_fill.specs.Areas.{Sender, StandsIn, HasWrittenIn}
+use Rattle.gfp_channels.proofs.gfp_linear.linear_filler.LinearFiller.send_frame.Goals as goal
+
+pub returns-clause-writes : goal.returns-clause-writes
+returns-clause-writes c areas place stands =
+    let n = c.send-n.result in
+    let begun : List ℕ = c.args.waiting.now.begun in
+    let rest : List ℕ = c.send-n.new.self.begun in
+    let out = c.send-n.new.out in
+    let octets = c.send_octets.new.octets in
+    let both : begun ≡ take n out ++ rest =
+    sym (take-append-drop n begun) ∙ sym (ap₂ ◌++◌ c.send-n.ensures.octets c.send-n.ensures.rest) in
+    let here : StandsIn c.self.inside.sender (take n out ++ rest) areas place =
+    subst (λ left. StandsIn c.self.inside.sender left areas place) both
+    (subst (λ (s : Sender). StandsIn s begun areas place) (sym c.self.view_is) stands) in
+    let size : length octets ≡ n =
+    omega (
+      arith,
+      c.send_octets.auto.octets,
+      length-take-le n out (omega (arith, c.send-n.auto.out, c.send-n.ensures.count)),
+    ) in
+    subst (HasWrittenIn c.send_octets.new.self rest areas place) (sym (take_at octets (drop n out) n size))
+    (c.send_octets.ensures rest areas place here)

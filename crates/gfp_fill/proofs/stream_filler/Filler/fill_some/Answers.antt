@@ -1,0 +1,67 @@
+-- Each way in which octets are written is one step of the stream.
+use Rattle.std.proofs.Common.{◌≡◌, ℕ, ◌+◌, ◌/◌, List, [], ◌∷◌, ◌++◌, length, take, map, sym, ◌∙◌, ap, subst, arith}
+use Rattle.std.proofs.lemmas.List.{length-take-le}
+use Rattle.law_model.specs.frames.TypeHeader.{type_header}
+use Rattle.law_model.specs.frames.Piece.{area_of}
+use Rattle.gfp_fill.specs.Areas.{Sender, head_of, StandsIn}
+use Rattle.gfp_fill.proofs.AreaSteps.{none_of}
+use Rattle.gfp_fill.proofs.StreamSteps.{here_written, at_end, client_written, idles_next}
+use Rattle.gfp_fill.proofs.stream_filler.Filler.fill_some.Goals as goal
+
+pub returns-then-left-gt0-clause-writes : goal.returns-then-left-gt0-clause-writes
+returns-then-left-gt0-clause-writes c stream place stands =
+    let begun : List ℕ = c.args.waiting.now.begun in
+    let areas : List (List ℕ) = map area_of stream.pieces in
+    here_written c.send_headers.new.self c.args.waiting.now stream place _ stands.waits
+    (c.send_headers.ensures.writes begun areas place
+    (subst (λ (s : Sender). StandsIn s begun areas place) (sym c.self.view_is) stands.octets))
+
+pub returns-then-left-gt0-2-clause-writes : goal.returns-then-left-gt0-2-clause-writes
+returns-then-left-gt0-2-clause-writes c stream place stands =
+    here_written c.send_frame.new.self c.send_frame.new.waiting stream place _
+    (c.send_frame.ensures.waits ∙ stands.waits)
+    (c.send_frame.ensures.writes (map area_of stream.pieces) place stands.octets)
+
+pub returns-in-Some-clause-writes : goal.returns-in-Some-clause-writes
+returns-in-Some-clause-writes c stream place stands =
+    let s : Sender = c.args.self.now in
+    let queue = c.args.waiting.now in
+    let rest = c.begin.new.self in
+    let areas : List (List ℕ) = map area_of stream.pieces in
+    let sent = c.send_headers-in-Some.ensures in
+    let none : head_of s ≡ [] =
+    ap head_of (sym c.self.view_is) ∙ none_of (head_of c.self.inside.sender) (omega (arith, c.left.ensures)) in
+    let gone : queue.begun ≡ [] = none_of queue.begun (omega (arith, c.left-2.ensures)) in
+    let begun : StandsIn c.begin-in-Some.new.self rest.begun (areas ++ (type_header ++ rest.begun) ∷ []) place =
+    subst (λ front. StandsIn c.begin-in-Some.new.self rest.begun (areas ++ (front ++ rest.begun) ∷ []) place)
+    c.type_bytes.ensures
+    (c.begin-in-Some.ensures.begins rest.begun areas place (sym c.in-Some.ensures.long)
+    (subst (λ (t : Sender). StandsIn t [] areas place) (sym c.self.view_is) (at_end s queue stream place stands gone))) in
+    client_written s c.send_headers-in-Some.new.self queue rest stream place _ stands none gone c.in-Some.ensures.frame
+    (omega (
+      arith,
+      length-take-le c.send_headers-in-Some.result c.send_headers-in-Some.new.out
+          (omega (arith, sent.count, c.send_headers-in-Some.auto.out)),
+      sent.count,
+      c.begin-in-Some.ensures.some,
+      c.requires,
+    ))
+    (sent.writes rest.begun (areas ++ (type_header ++ rest.begun) ∷ []) place begun)
+
+pub returns-in-None-clause-writes : goal.returns-in-None-clause-writes
+returns-in-None-clause-writes c stream place stands =
+    let s : Sender = c.args.self.now in
+    let queue = c.args.waiting.now in
+    let areas : List (List ℕ) = map area_of stream.pieces in
+    let sent = c.send_idles.ensures in
+    let n = c.send_idles.result in
+    let none : head_of s ≡ [] =
+    ap head_of (sym c.self.view_is) ∙ none_of (head_of c.self.inside.sender) (omega (arith, c.left.ensures)) in
+    let gone : queue.begun ≡ [] = none_of queue.begun (omega (arith, c.left-2.ensures)) in
+    let size : length (take n c.send_idles.new.out) ≡ n =
+    length-take-le n c.send_idles.new.out (omega (arith, sent.within, c.send_idles.auto.out)) in
+    rw c.in-None.ensures.stays
+    (idles_next s c.send_idles.new.self queue stream place ((n + 3) / 4) _ stands none gone c.in-None.ensures.none
+    (omega (arith, size)) (omega (arith, size))
+    (sent.writes areas place
+    (subst (λ (t : Sender). StandsIn t [] areas place) (sym c.self.view_is) (at_end s queue stream place stands gone))))

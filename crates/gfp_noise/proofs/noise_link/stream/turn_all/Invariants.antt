@@ -1,8 +1,0 @@
--- The flips so far are done.
-use Rattle.std.proofs.Common.{◌≡◌, take}
-use Rattle.std.specs.List.{fold}
-use Rattle.gfp_noise.specs.flip_law.Places.{turned}
-use Rattle.gfp_noise.proofs.noise_link.stream.turn_all.Given as goal
-
-abbrev pub invariant-loop-flip : goal.invariant-loop-flip
-invariant-loop-flip l = l.stream ≡ fold turned l.fn.stream (take l.flip-index l.flips)

@@ -1,0 +1,27 @@
+//! The words that may begin a line.
+ghost use Rattle.std.specs.Prelude.{◌≡◌};
+ghost use Rattle.gfp_noise.specs.noise_link.NoiseTextLines.{keyword_of};
+
+/// The words that may begin a line, in the order of a text.
+#[derive(Clone, Copy, Debug, PartialEq, Eq)]
+pub enum Keyword {
+    /// A frame.
+    Frame,
+    /// A bit of the stream that is turned over.
+    Flip,
+}
+
+impl Keyword {
+    /// The keyword that a word is.
+    pub(super) fn of(word: &[u8]) -> Option<Keyword>
+        ensures { result ≡ keyword_of word.now }
+    {
+        if word == b"frame".as_slice() {
+            Some(Keyword::Frame)
+        } else if word == b"flip".as_slice() {
+            Some(Keyword::Flip)
+        } else {
+            None
+        }
+    }
+}

@@ -1,6 +1,0 @@
--- None was fed.
-use Rattle.member_au4.proofs.Au4LinkLaws.VcLaws.{fed_none}
-use Rattle.member_au4.proofs.au4_link.feed.NumberedVcs.new.Goals as goal
-
-pub returns : goal.returns
-returns c = fed_none

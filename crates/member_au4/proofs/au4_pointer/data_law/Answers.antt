@@ -1,6 +1,0 @@
--- What the frames of a part carry, one after another.
-use Rattle.member_au4.proofs.Au4PointerLaws.DataLaws.{all-data}
-use Rattle.member_au4.proofs.au4_pointer.data_law.Goals as goal
-
-pub returns : goal.returns
-returns c = all-data

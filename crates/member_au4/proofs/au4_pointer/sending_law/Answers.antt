@@ -1,6 +1,0 @@
--- One action more.
-use Rattle.member_au4.proofs.Au4PointerLaws.SentLaws.{sent-more}
-use Rattle.member_au4.proofs.au4_pointer.sending_law.Goals as goal
-
-pub returns : goal.returns
-returns c = sent-more

@@ -1,0 +1,12 @@
+-- Containers that are held in places and used again and again.
+use Rattle.std.specs.Prelude.{List, ℕ, map, replicate}
+use Rattle.std.specs.Global.{Box}
+use Rattle.member_cells.specs.declared.containers_and_cells.Container.{Container}
+
+-- what lies in some boxes
+abbrev pub held : List (Box Container) → List Container
+held boxes = map (λ (place : Box Container). place.value) boxes
+
+-- a container without payload
+abbrev pub blank : ℕ → Container
+blank h4 = record { h4 = h4; payload = replicate 2340 0 }

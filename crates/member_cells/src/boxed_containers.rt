@@ -1,0 +1,17 @@
+//! Boxes for containers.
+
+ghost use Rattle.std.specs.Prelude.{◌≡◌, length, IfOk};
+
+use crate::held_container::HeldContainer;
+use std::alloc::{AllocError, Global};
+
+/// So many boxes with a blank container each.
+pub fn blank_boxes(alloc: Global, count: usize) -> Result<Vec<Box<HeldContainer>>, AllocError>
+    ensures { IfOk result (λ boxes. length boxes.items ≡ count) }
+{
+    let mut boxes = Vec::with_capacity(alloc, count)?;
+    for _ in 0..count {
+        boxes.push(Box::new(alloc, HeldContainer::new())?)?;
+    }
+    Ok(boxes)
+}

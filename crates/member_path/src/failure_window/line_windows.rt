@@ -1,0 +1,149 @@
+//! A list of windows without a fault.
+ghost use Rattle.std.specs.Prelude.{◌≡◌, ◌+◌, ◌<◌, ◌≤◌, nat_lt, if◌then◌else◌, List, length, IfOk, IfSome, IfNone};
+ghost use Rattle.std.specs.Prelude.{IsOkUnless};
+ghost use Rattle.law_model.specs.declared.window_types.Window.{Window};
+ghost use Rattle.law_model.specs.members.Damage.{carried, carried_in, AreWindows, slip_of};
+ghost use Rattle.member_path.specs.failure_window.Above.{IsFirstAbove};
+ghost use Rattle.member_path.specs.failure_window.Fault.{window_fault};
+
+use crate::failure_window::window_fault::{WindowFault, first_fault};
+use law_model::{Carried, Window};
+use std::alloc::{AllocError, Global};
+use std::marker::Model;
+
+// Windows are near where fewer containers lie between them.
+const NEAR: u32 = 17;
+
+/// The failures of a line: its windows, in the order of their containers. A contract sees the list.
+#[derive(Drop)]
+pub struct Windows {
+    list: Vec<Window>,
+}
+
+impl Model for Windows {
+    ghost Value = { List Window };
+
+    ghost view = { λ windows. windows.list.items };
+
+    ghost invariant = { λ windows. AreWindows 0 windows.list.items };
+}
+
+impl Windows {
+    /// The windows of a list, at most 256, or its first fault. They are tested in their order, each for
+    /// Empty, then for Overlap, then for SlipTooLong; memory is asked for after that.
+    pub fn new(alloc: Global, list: &[Window]) -> Result<Windows, WindowFault>
+        requires { length list.now ≤ 256 }
+        ensures fault { IfSome (window_fault list.now) (λ fault. result ≡ Err fault) }
+        ensures no_fault { IfNone (window_fault list.now) (IsOkUnless result WindowFault.Memory) }
+        ensures value { IfOk result (λ windows. windows ≡ list.now) }
+    {
+        if let Some(fault) = first_fault(list) {
+            return Err(fault);
+        }
+        match copied(alloc, list) {
+            Ok(list) => Ok(Windows { list }),
+            Err(_) => Err(WindowFault::Memory),
+        }
+    }
+
+    /// What comes of container `n` on the line.
+    pub fn at(&self, n: u32) -> Carried
+        ensures { result ≡ carried self.now n }
+    {
+        carried_at(&self.list, n)
+    }
+
+    /// The slip of the line: the greatest number of containers that vanish over a run of windows each near
+    /// the one before.
+    pub fn slip(&self) -> u32
+        ensures slip { result ≡ slip_of self.now }
+        ensures apart { AreWindows 0 self.now }
+    {
+        greatest_slip(&self.list)
+    }
+}
+
+// What comes of a container: the first window that ends above it damages it, or none does.
+fn carried_at(list: &[Window], n: u32) -> Carried
+    requires { AreWindows 0 list.now }
+    ensures { result ≡ carried list.now n }
+{
+    let passed = list.partition_point(|window| window.end <= n);
+    carried_by_first(&list[passed..], n)
+}
+
+// What comes of a container that the first window, if any, or none at all damages.
+fn carried_by_first(list: &[Window], n: u32) -> Carried
+    requires { IsFirstAbove n list.now }
+    ensures { result ≡ carried list.now n }
+{
+    match list.first() {
+        Some(window) => {
+            if window.first <= n {
+                carried_in_window(window, n)
+            } else {
+                Carried::Whole
+            }
+        }
+        None => Carried::Whole,
+    }
+}
+
+/// The slip of windows that stand in order, apart, and give a sign each: the greatest sum of slips over a run
+/// of near ones.
+pub fn greatest_slip(list: &[Window]) -> u32
+    requires { AreWindows 0 list.now }
+    ensures { result ≡ slip_of list.now }
+{
+    let mut end = 0;
+    let mut run = 0;
+    let mut most = 0;
+    for window in list {
+        run = run_with(run, end, window);
+        most = run.max(most);
+        end = window.end;
+    }
+    most
+}
+
+// What comes of a container of a window.
+fn carried_in_window(window: &Window, n: u32) -> Carried
+    requires { n < window.now.end }
+    ensures { result ≡ carried_in window.now n }
+{
+    if window.end - n > u32::from(window.slip) {
+        Carried::Fails
+    } else {
+        Carried::Vanishes
+    }
+}
+
+// A list of one's own.
+fn copied(alloc: Global, list: &[Window]) -> Result<Vec<Window>, AllocError>
+    ensures { IfOk result (λ copy. copy.items ≡ list.now) }
+{
+    let mut copy = Vec::new(alloc);
+    copy.extend_from_slice(list)?;
+    Ok(copy)
+}
+
+// The sum of slips of the run that a window ends, after a run of this sum up to this end.
+fn run_with(run: u32, end: u32, window: &Window) -> u32
+    requires sum { run ≤ end }
+    requires apart { end ≤ window.now.first }
+    requires sign { window.now.slip + window.now.first < window.now.end }
+    ensures sum { result ≡ (if nat_lt window.now.first (end + 17)
+        then run + window.now.slip else window.now.slip) }
+    ensures within { result ≤ window.now.end }
+{
+    let Window {
+        first,
+        end: _next,
+        slip,
+    } = *window;
+    if first - end < NEAR {
+        run + u32::from(slip)
+    } else {
+        u32::from(slip)
+    }
+}

@@ -1,0 +1,147 @@
+//! A line with its delay and its windows.
+ghost use Rattle.std.specs.Prelude.{◌≡◌, ◌≢◌, ◌-◌, ◌<◌, ◌≤◌, ◌↔◌, ◌++◌, IfOk, IfSome, IfNone, IsTrue, Contains};
+ghost use Rattle.law_model.specs.members.Damage.{carried};
+ghost use Rattle.member_path.specs.path_delay.Carry.{carry_cells};
+ghost use Rattle.member_path.specs.path_delay.Line.{Line, IsLine, Calls, opened, and_push, and_flush, path_cells, DelayStands, Counts};
+ghost use Rattle.member_path.specs.path_delay.Line.{IsEnded};
+
+use crate::failure_window::Windows;
+use crate::path_delay::carry_sign::CarrySign;
+use crate::path_delay::delay_store::Store;
+use member_cells::{Cell, HeldContainer};
+use law_model::Carried;
+use std::alloc::{AllocError, Global};
+use std::marker::Model;
+
+/// A line: containers are pushed into it one by one, and after the last of them it is flushed. Each push and
+/// each flush is a carry, which gives a cell or nothing. Only the making of a line takes memory.
+#[derive(Drop)]
+pub struct LineCore {
+    windows: Windows,
+    store: Store,
+    delay: u16,
+    total: u32,
+    pushed: u32,
+    flushed: u32,
+}
+
+impl Model for LineCore {
+    ghost Value = { Line };
+
+    ghost view = { λ line. record {
+      delay = line.delay;
+      windows = line.windows;
+      total = line.total;
+      stored = line.store.items;
+      pushed = line.pushed;
+      flushed = line.flushed;
+    } };
+
+    ghost invariant = { λ line. IsLine line.store line.delay line.total line.pushed line.flushed };
+}
+
+impl LineCore {
+    /// A line with a delay in containers, and with room for as many; with its windows; and with the number of
+    /// containers that it will carry in all.
+    pub fn new(
+        alloc: Global,
+        delay: u16,
+        windows: Windows,
+        total: u32,
+    ) -> Result<LineCore, AllocError>
+        ensures { IfOk result (λ line. DelayStands line (opened delay windows total)) }
+    {
+        Ok(LineCore {
+            windows,
+            store: Store::new(alloc, delay, total)?,
+            delay,
+            total,
+            pushed: 0,
+            flushed: 0,
+        })
+    }
+
+    /// Carries a container on, and says what comes out. It takes the container's box, and leaves another one in
+    /// `container`. Where the cell is good, the box of its container lies in `out` afterwards; else the container
+    /// there stays as it was.
+    pub fn push(
+        &mut self,
+        container: &mut Box<HeldContainer>,
+        out: &mut Box<HeldContainer>,
+    ) -> CarrySign
+        requires { self.old.pushed < self.old.total }
+        ensures stands { (calls : Calls) → DelayStands self.old calls →
+            DelayStands self.new (and_push calls container.old.value) }
+        ensures cells { (calls : Calls) → DelayStands self.old calls →
+            path_cells (and_push calls container.old.value)
+            ≡ path_cells calls ++ carry_cells result out.new.value }
+        ensures kept { result ≢ CarrySign.Good → out.new.value ≡ out.old.value }
+        ensures counts { Counts self.old self.new 1 0 }
+    {
+        let fate = self.next_fate();
+        self.pushed += 1;
+        match fate {
+            Some(fate) => self.store.pass(fate, container, out),
+            None => {
+                self.store.keep(container);
+                CarrySign::Nothing
+            }
+        }
+    }
+
+    /// Makes a carry once all containers were pushed, and says what comes out. After the cell of the last
+    /// container one carry gives the end. Where the cell is good, the box of its container lies in `out`
+    /// afterwards; else the container there stays as it was.
+    pub fn flush(&mut self, out: &mut Box<HeldContainer>) -> CarrySign
+        requires pushed { self.old.pushed ≡ self.old.total }
+        requires runs { self.old.flushed ≤ self.old.delay }
+        ensures stands { (calls : Calls) → DelayStands self.old calls →
+            DelayStands self.new (and_flush calls) }
+        ensures cells { (calls : Calls) → DelayStands self.old calls →
+            path_cells (and_flush calls) ≡ path_cells calls ++ carry_cells result out.new.value }
+        ensures kept { result ≢ CarrySign.Good → out.new.value ≡ out.old.value }
+        ensures counts { Counts self.old self.new 0 1 }
+    {
+        let left = u32::from(self.delay) - self.flushed;
+        self.flushed += 1;
+        if left > self.total {
+            CarrySign::Nothing
+        } else if left == 0 {
+            CarrySign::End
+        } else {
+            let fate = self.windows.at(self.total - left);
+            self.store.let_go(fate, out)
+        }
+    }
+
+    /// What comes of the container that the next push lets go, once the delay is filled.
+    fn next_fate(&self) -> Option<Carried>
+        requires { self.now.pushed < self.now.total }
+        ensures filled { IfSome result (λ fate. (self.now.delay ≤ self.now.pushed)
+            × (fate ≡ carried self.now.windows (self.now.pushed - self.now.delay))) }
+        ensures filling { IfNone result (self.now.pushed < self.now.delay) }
+    {
+        if self.store.is_full() {
+            Some(self.windows.at(self.pushed - u32::from(self.delay)))
+        } else {
+            None
+        }
+    }
+
+    /// Whether all containers were pushed.
+    pub fn all_pushed(&self) -> bool
+        ensures all { IsTrue result ↔ (self.now.pushed ≡ self.now.total) }
+        ensures within { self.now.pushed ≤ self.now.total }
+    {
+        self.pushed == self.total
+    }
+
+    /// Whether the end was given.
+    pub fn ended(&self) -> bool
+        ensures ended { IsTrue result ↔ IsEnded self.now }
+        ensures given { (calls : Calls) → DelayStands self.now calls →
+            IsTrue result ↔ Contains (path_cells calls) Cell.End }
+    {
+        self.flushed > u32::from(self.delay)
+    }
+}

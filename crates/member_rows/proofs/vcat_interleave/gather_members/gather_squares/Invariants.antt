@@ -1,0 +1,10 @@
+-- The places up to here are written.
+use Rattle.std.proofs.Common.{◌≡◌, ◌*◌, take}
+use Rattle.member_cells.specs.Held.{held}
+use Rattle.law_model.specs.rows.Interleave.{octets_from}
+use Rattle.member_rows.specs.vcat_interleave.Members.{payloads_of}
+use Rattle.member_rows.proofs.vcat_interleave.gather_members.gather_squares.Given as goal
+
+abbrev pub invariant-loop-k : goal.invariant-loop-k
+invariant-loop-k l = take (l.k * 16 * l.x) l.out ≡ octets_from l.place (l.k * 16)
+    (payloads_of (held l.containers) l.active)

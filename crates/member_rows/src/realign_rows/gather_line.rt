@@ -1,0 +1,112 @@
+//! One line of a group.
+
+ghost use Rattle.std.specs.Prelude.{◌≡◌, ℕ, ◌+◌, ◌%◌, ◌<◌, List, [], ◌∷◌, ◌++◌, Some, IfSome};
+ghost use Rattle.member_cells.specs.declared.containers_and_cells.Container.{Container};
+ghost use Rattle.member_cells.specs.declared.containers_and_cells.Cell.{Cell};
+ghost use Rattle.law_model.specs.members.Number.{verdict};
+ghost use Rattle.law_model.specs.packets.MemberPacket.{upper_of};
+ghost use Rattle.member_path.specs.cell_numbers.Told.{cell_with, told_by};
+ghost use Rattle.member_path.specs.cell_numbers.Numbers.{IsOpen, is_open};
+ghost use Rattle.member_rows.specs.realign_rows.Begun.{packet_at};
+ghost use Rattle.member_rows.specs.realign_rows.Line.{LineStands};
+
+use crate::lcas_packet::Packet;
+use crate::realign_rows::packet_nibbles::PacketNibbles;
+use member_cells::{Container, HeldContainer};
+use check_nibbles::nibble_hi;
+use member_path::cell_numbers::{CellSign, LineNumbers, Verdict};
+use std::marker::Model;
+
+/// The numbers of a line, and the nibbles of its packets.
+#[derive(Drop)]
+pub(super) struct GatherLine {
+    numbers: LineNumbers,
+    nibbles: PacketNibbles,
+}
+
+impl Model for GatherLine {
+    ghost use Rattle.member_rows.specs.realign_rows.Line.{Line};
+
+    ghost Value = { Line };
+
+    ghost view = { λ line. record { numbers = line.numbers; begun = line.nibbles } };
+}
+
+impl GatherLine {
+    /// A line of which no cell has come.
+    pub(super) fn new() -> GatherLine
+        ensures stands { (place : Container) → LineStands result place [] 0 }
+        ensures open { IsOpen result.numbers }
+    {
+        GatherLine {
+            numbers: LineNumbers::new(),
+            nibbles: PacketNibbles::new(),
+        }
+    }
+
+    /// Takes the next cell of a line whose next number isn't decided, and changes the boxes where the container
+    /// of a good cell is whole.
+    pub(super) fn cell(
+        &mut self,
+        sign: CellSign,
+        container: &mut Box<HeldContainer>,
+        place: &mut Box<HeldContainer>,
+    )
+        requires open { IsOpen self.old.numbers }
+        ensures stands { (own : List Cell) (t : ℕ) → LineStands self.old place.old.value own t →
+            LineStands self.new place.new.value
+            (own ++ cell_with sign container.old.value ∷ []) t }
+    {
+        self.numbers.cell(sign, container, place);
+    }
+
+    /// Whether the next number isn't decided.
+    pub(super) fn is_open(&self) -> bool
+        ensures { result ≡ is_open self.now.numbers }
+    {
+        self.numbers.is_open()
+    }
+
+    /// What is said of the next number, which is decided.
+    pub(super) fn verdict<'a>(&self, place: &'a Container) -> Verdict<'a>
+        requires decided { IsOpen self.now.numbers → ⊥ }
+        ensures told { (own : List Cell) (t : ℕ) → LineStands self.now place.now own t →
+            verdict own t ≡ Some (told_by result) }
+    {
+        match self.numbers.verdict(place) {
+            Some(verdict) => verdict,
+            None => unreachable!(),
+        }
+    }
+
+    /// Passes the next number, which is decided, and is number `j` of a packet.
+    pub(super) fn pass(&mut self, place: &Container, j: usize)
+        requires decided { IsOpen self.old.numbers → ⊥ }
+        requires place { j < 16 }
+        ensures stands { (own : List Cell) (t : ℕ) → LineStands self.old place.now own t →
+            j ≡ (t + 8) % 16 → LineStands self.new place.now own (t + 1) }
+    {
+        let upper = upper_half(self.verdict(place));
+        self.nibbles.take(j, upper);
+        self.numbers.next();
+    }
+
+    /// The packet of the line whose last number was passed just now, if it is one.
+    pub(super) fn packet(&self) -> Option<Packet>
+        ensures { (place : Container) (own : List Cell) (t : ℕ) → LineStands self.now place own t →
+            t % 16 ≡ 8 → result ≡ packet_at own t }
+    {
+        self.nibbles.packet()
+    }
+}
+
+/// The upper half of the H4 of a number, where it is whole.
+fn upper_half(verdict: Verdict<'_>) -> Option<u8>
+    ensures value { result ≡ upper_of (Some (told_by verdict.entry)) }
+    ensures below { IfSome result (λ nibble. nibble < 16) }
+{
+    match verdict {
+        Verdict::Whole(container) => Some(nibble_hi(container.h4)),
+        Verdict::Bad => None,
+    }
+}

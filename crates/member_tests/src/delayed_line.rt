@@ -1,0 +1,121 @@
+//! Worked rows of carries.
+ghost use Rattle.std.specs.Prelude.{◌≤◌, length};
+
+use crate::cell_in_hand::new_box;
+use member_cells::{Container, HeldContainer, PAYLOAD};
+use member_path::failure_window::Window;
+use member_path::path_delay::{CarrySign, LineCore, Windows};
+use std::alloc::Global;
+
+// A container that tells its number.
+fn container(n: u8) -> Container {
+    Container {
+        h4: n,
+        payload: [n; PAYLOAD],
+    }
+}
+
+// The digit of a container.
+fn digit(found: &Container) -> u8 {
+    if *found == container(found.h4) {
+        found.h4
+    } else {
+        b'?'
+    }
+}
+
+// A line of so many containers.
+fn line(alloc: Global, delay: u16, windows: &[Window], total: u32) -> Option<LineCore>
+    requires { length windows.now ≤ 256 }
+{
+    let windows = Windows::new(alloc, windows).ok()?;
+    LineCore::new(alloc, delay, windows, total).ok()
+}
+
+// The carry of a line that comes next, with the container in `next` where one is to come, or `None` after the end.
+fn carry(
+    line: &mut LineCore,
+    next: &mut Box<HeldContainer>,
+    out: &mut Box<HeldContainer>,
+) -> Option<CarrySign> {
+    if !line.all_pushed() {
+        Some(line.push(next, out))
+    } else if !line.ended() {
+        Some(line.flush(out))
+    } else {
+        None
+    }
+}
+
+// The letter of a carry: the digit of its container, or a letter.
+fn letter(carry: Option<CarrySign>, out: &Container) -> u8 {
+    match carry {
+        None => b'-',
+        Some(CarrySign::Nothing) => b'.',
+        Some(CarrySign::Fail) => b'F',
+        Some(CarrySign::End) => b'E',
+        Some(CarrySign::Good) => digit(out),
+    }
+}
+
+// The letters of seven carries, where the containers are numbered by digits.
+fn letters(alloc: Global, line: Option<LineCore>) -> Option<[u8; 7]> {
+    let mut line = line?;
+    let mut next = new_box(alloc)?;
+    let mut out = new_box(alloc)?;
+    let mut seen = *b"0123456";
+    for letter_of in &mut seen {
+        next.put(&container(*letter_of));
+        let carry = carry(&mut line, &mut next, &mut out);
+        *letter_of = letter(carry, out.container());
+    }
+    Some(seen)
+}
+
+#[test]
+fn a_delay_is_filled_and_flushed(rt: HostRuntime) {
+    let line = line(rt.alloc(), 2, &[], 3);
+    assert_eq!(rt; letters(rt.alloc(), line), Some(*b"..012E-"));
+}
+
+#[test]
+fn a_window_fails_and_slips(rt: HostRuntime) {
+    let window = Window {
+        first: 1,
+        end: 3,
+        slip: 1,
+    };
+    let line = line(rt.alloc(), 0, &[window], 4);
+    assert_eq!(rt; letters(rt.alloc(), line), Some(*b"0F.3E--"));
+}
+
+// Six carries, and the digits of the containers that lie in the box for a good cell's after each.
+fn carries(alloc: Global, line: Option<LineCore>) -> Option<([Option<CarrySign>; 6], [u8; 6])> {
+    let mut line = line?;
+    let mut next = new_box(alloc)?;
+    let mut out = new_box(alloc)?;
+    out.put(&container(b'9'));
+    let mut carries = [None; 6];
+    let mut digits = [0; 6];
+    for (carry_of, found) in carries.iter_mut().zip(&mut digits) {
+        next.put(&container(b'7'));
+        *carry_of = carry(&mut line, &mut next, &mut out);
+        *found = digit(out.container());
+    }
+    Some((carries, digits))
+}
+
+#[test]
+fn a_delay_may_be_longer_than_the_line(rt: HostRuntime) {
+    let line = line(rt.alloc(), 3, &[], 1);
+    let nothing = Some(CarrySign::Nothing);
+    let wanted = [
+        nothing,
+        nothing,
+        nothing,
+        Some(CarrySign::Good),
+        Some(CarrySign::End),
+        None,
+    ];
+    assert_eq!(rt; carries(rt.alloc(), line), Some((wanted, *b"999777")));
+}

@@ -1,0 +1,73 @@
+-- A row of a way is tried.
+use Rattle.std.proofs.Common.{sym, ◌∙◌, ap, subst}
+use Rattle.law_pair.specs.declared.pair_events.PairEvent.TheVariants.{Take}
+use Rattle.law_pair.specs.declared.pair_events.Way.TheVariants.{There, Back}
+use Rattle.law_pair.specs.PairCounts.{counts_on}
+use Rattle.walk_engine.specs.walk_core.Moved.{GivesRows}
+use Rattle.pair_engine.specs.Moved.{Paired, after, leg_on, moved_on, moved_of}
+use Rattle.pair_engine.proofs.BesideLaws.{there-beside, back-beside}
+use Rattle.pair_engine.proofs.PairLaws.{take-there, take-back}
+use Rattle.pair_engine.proofs.both_ways.Pair.take.Goals as goal
+
+pub take_way_row-requires : goal.take_way_row-requires
+take_way_row-requires g c = there-beside c.self.inside.there c.self.inside.back c.self.invariant
+
+pub invariant_of-self : goal.invariant_of-self
+invariant_of-self g c =
+    let f = c.self.inside in
+    (take-there f.there f.back c.take_way_row.new.own c.take_way_row.new.other
+    c.take_way_row.result c.self.invariant c.take_way_row.ensures.takes).walk
+
+pub returns-in-There-clause-pair : goal.returns-in-There-clause-pair
+returns-in-There-clause-pair g c =
+    let f = c.self.inside in
+    (take-there f.there f.back c.take_way_row.new.own c.take_way_row.new.other
+    c.take_way_row.result c.self.invariant c.take_way_row.ensures.takes).pair
+    ∙ ap (λ (p : Paired). after p (Take There)) c.self.view_is
+    ∙ ap (λ w. after c.args.self.now (Take w)) (sym c.in-There.is)
+
+pub returns-in-There-clause-moved : goal.returns-in-There-clause-moved
+returns-in-There-clause-moved g c =
+    let f = c.self.inside in
+    c.moved_on.ensures ∙ ap (λ w. moved_on w c.take_way_row.result) c.in-There.is
+    ∙ (take-there f.there f.back c.take_way_row.new.own c.take_way_row.new.other
+    c.take_way_row.result c.self.invariant c.take_way_row.ensures.takes).moved
+    ∙ ap (λ (p : Paired). moved_of p (Take There)) c.self.view_is
+    ∙ ap (λ w. moved_of c.args.self.now (Take w)) (sym c.in-There.is)
+
+pub returns-in-There-clause-gives_there : goal.returns-in-There-clause-gives_there
+returns-in-There-clause-gives_there g c =
+    subst (λ (p : Paired). GivesRows g.F.FrameOut.stands_for c.args.there.now c.take_way_row.new.out (leg_on p There)
+    (counts_on p.counts There).rows c.take_way_row.new.own.core.sink.taken) c.self.view_is c.take_way_row.ensures.gives
+
+pub take_way_row-requires-in-Back : goal.take_way_row-requires-in-Back
+take_way_row-requires-in-Back g c = back-beside c.self.inside.there c.self.inside.back c.self.invariant
+
+pub invariant_of-self-in-Back : goal.invariant_of-self-in-Back
+invariant_of-self-in-Back g c =
+    let f = c.self.inside in
+    (take-back f.there f.back c.take_way_row-in-Back.new.other c.take_way_row-in-Back.new.own
+    c.take_way_row-in-Back.result c.self.invariant c.take_way_row-in-Back.ensures.takes).walk
+
+pub returns-in-Back-clause-pair : goal.returns-in-Back-clause-pair
+returns-in-Back-clause-pair g c =
+    let f = c.self.inside in
+    (take-back f.there f.back c.take_way_row-in-Back.new.other c.take_way_row-in-Back.new.own
+    c.take_way_row-in-Back.result c.self.invariant c.take_way_row-in-Back.ensures.takes).pair
+    ∙ ap (λ (p : Paired). after p (Take Back)) c.self.view_is
+    ∙ ap (λ w. after c.args.self.now (Take w)) (sym c.in-Back.is)
+
+pub returns-in-Back-clause-moved : goal.returns-in-Back-clause-moved
+returns-in-Back-clause-moved g c =
+    let f = c.self.inside in
+    c.moved_on-in-Back.ensures ∙ ap (λ w. moved_on w c.take_way_row-in-Back.result) c.in-Back.is
+    ∙ (take-back f.there f.back c.take_way_row-in-Back.new.other c.take_way_row-in-Back.new.own
+    c.take_way_row-in-Back.result c.self.invariant c.take_way_row-in-Back.ensures.takes).moved
+    ∙ ap (λ (p : Paired). moved_of p (Take Back)) c.self.view_is
+    ∙ ap (λ w. moved_of c.args.self.now (Take w)) (sym c.in-Back.is)
+
+pub returns-in-Back-clause-gives_back : goal.returns-in-Back-clause-gives_back
+returns-in-Back-clause-gives_back g c =
+    subst (λ (p : Paired). GivesRows g.G.FrameOut.stands_for c.args.back.now c.take_way_row-in-Back.new.out (leg_on p Back)
+    (counts_on p.counts Back).rows c.take_way_row-in-Back.new.own.core.sink.taken) c.self.view_is
+    c.take_way_row-in-Back.ensures.gives

@@ -1,0 +1,96 @@
+-- A round more, or all rows are taken, or a write has failed.
+use Rattle.std.proofs.Common.{refl, sym, ◌∙◌, ap, subst, arith}
+use Rattle.law_pair.specs.declared.pair_events.Way.TheVariants.{There, Back}
+use Rattle.law_pair.specs.Pair.{IsPair}
+use Rattle.law_pair.specs.PairCounts.{PairPlan, is_over, pair_bound}
+use Rattle.law_pair.proofs.PairEndLaws.{pair-stops}
+use Rattle.pair_engine.specs.Moved.{Paired, leg_on, plan_of, with_counts}
+use Rattle.pair_engine.proofs.RoundLaws.{keeps, same-plan, round-more, gives-more}
+use Rattle.pair_engine.proofs.TakeLaws.{gives-none}
+use Rattle.pair_walk.proofs.RoundLaws.{more-then}
+use Rattle.pair_walk.proofs.pair_report.write_rounds.Goals as goal
+
+pub loop-pair-init : goal.loop-pair-init
+loop-pair-init g c = record {
+  pair = refl;
+  left = refl;
+  rises = record { there = omega arith; back = omega arith };
+  few = λ few. few;
+  gives_there = gives-none g.F.FrameOut.stands_for c.args.there.now (leg_on c.args.pair.now There) _;
+  gives_back = gives-none g.G.FrameOut.stands_for c.args.back.now (leg_on c.args.pair.now Back) _;
+  there = c.requires.there;
+  back = c.requires.back;
+}
+
+-- ---- a write has failed
+pub returns-then-write_round-clause-scripts : goal.returns-then-write_round-clause-scripts
+returns-then-write_round-clause-scripts g c =
+    keeps c.args.pair.now c.loop-pair.pair c.write_round.new.pair _ c.loop-pair.invariant.pair
+    c.write_round.ensures.scripts
+
+pub returns-then-write_round-clause-fits : goal.returns-then-write_round-clause-fits
+returns-then-write_round-clause-fits g c =
+    subst (λ (p : Paired). IsPair p.there p.back) c.loop-pair.invariant.pair c.is_over.ensures.fits
+
+pub returns-then-write_round-clause-few : goal.returns-then-write_round-clause-few
+returns-then-write_round-clause-few g c few = c.write_round.ensures.few (c.loop-pair.invariant.few few)
+
+pub returns-then-write_round-clause-gives_there : goal.returns-then-write_round-clause-gives_there
+returns-then-write_round-clause-gives_there g c =
+    let inv = c.loop-pair.invariant in
+    gives-more g.F.FrameOut.stands_for c.args.there.now c.loop-pair.there c.write_round.new.there There c.args.pair.now
+    c.loop-pair.pair c.write_round.new.pair inv.pair inv.rises.there c.write_round.ensures.rises.there inv.gives_there
+    c.write_round.ensures.gives_there
+
+pub returns-then-write_round-clause-gives_back : goal.returns-then-write_round-clause-gives_back
+returns-then-write_round-clause-gives_back g c =
+    let inv = c.loop-pair.invariant in
+    gives-more g.G.FrameOut.stands_for c.args.back.now c.loop-pair.back c.write_round.new.back Back c.args.pair.now
+    c.loop-pair.pair c.write_round.new.pair inv.pair inv.rises.back c.write_round.ensures.rises.back inv.gives_back
+    c.write_round.ensures.gives_back
+
+-- ---- a round more
+pub loop-pair-smaller : goal.loop-pair-smaller
+loop-pair-smaller g c =
+    (round-more c.args.pair.now c.loop-pair.pair c.write_round.new.pair c.loop-pair.invariant.pair
+    c.is_over.ensures.fits c.is_over.ensures.walked (sym c.is_over.ensures.over ∙ c.loop-pair-test.true)
+    (c.if-write_round.ensures.counts refl)).0
+
+pub loop-pair-preserved : goal.loop-pair-preserved
+loop-pair-preserved g c =
+    let inv = c.loop-pair.invariant in
+    let s0 = c.args.pair.now in
+    let s1 = c.loop-pair.pair in
+    let s2 = c.write_round.new.pair in
+    let more = c.write_round.ensures.rises in
+    record {
+      pair = keeps s0 s1 s2 _ inv.pair c.write_round.ensures.scripts;
+      left = (round-more s0 s1 s2 inv.pair c.is_over.ensures.fits c.is_over.ensures.walked
+          (sym c.is_over.ensures.over ∙ c.loop-pair-test.true) (c.if-write_round.ensures.counts refl)).1 ∙ inv.left;
+      rises = more-then s0 s1 s2 inv.rises more;
+      few = λ few. c.write_round.ensures.few (inv.few few);
+      gives_there = gives-more g.F.FrameOut.stands_for c.args.there.now c.loop-pair.there c.write_round.new.there There
+          s0 s1 s2 inv.pair inv.rises.there more.there inv.gives_there c.write_round.ensures.gives_there;
+      gives_back = gives-more g.G.FrameOut.stands_for c.args.back.now c.loop-pair.back c.write_round.new.back Back s0 s1
+          s2 inv.pair inv.rises.back more.back inv.gives_back c.write_round.ensures.gives_back;
+      there = c.if-write_round.ensures.failed.0;
+      back = c.if-write_round.ensures.failed.1;
+    }
+
+-- ---- all rows are taken
+pub returns-clause-drained : goal.returns-clause-drained
+returns-clause-drained g c whole =
+    let inv = c.loop-pair.invariant in
+    let s0 = c.args.pair.now in
+    let s1 = c.loop-pair.pair in
+    let plan = plan_of s0 in
+    let shut = ap (λ (p : PairPlan). is_over p s1.counts) (sym (same-plan s0 s1 inv.pair))
+    ∙ sym c.is_over.ensures.over ∙ c.loop-pair-test.false in
+    inv.pair ∙ ap (with_counts s0) (sym (pair-stops plan s1.counts (pair_bound plan) shut) ∙ inv.left)
+
+pub returns-clause-fits : goal.returns-clause-fits
+returns-clause-fits g c =
+    subst (λ (p : Paired). IsPair p.there p.back) c.loop-pair.invariant.pair c.is_over.ensures.fits
+
+pub returns-clause-few : goal.returns-clause-few
+returns-clause-few g c few = c.loop-pair.invariant.few few

@@ -1,0 +1,272 @@
+//! The source side of a group: its terminal, what has landed, and the inbox.
+
+ghost use Rattle.std.specs.Prelude.{◌≡◌, ◌+◌, ◌<◌, ◌≤◌, if◌then◌else◌, List, Option, None, Some, length};
+ghost use Rattle.std.specs.Prelude.{IsSome, IfOk};
+ghost use Rattle.std.specs.Option.{is_some};
+ghost use Rattle.member_cells.specs.Held.{held};
+ghost use Rattle.law_model.specs.session.Leg.{leg_of};
+ghost use Rattle.law_model.specs.session.Scenario.{Scenario, steps_in};
+ghost use Rattle.law_model.specs.source.Table.{Told};
+ghost use Rattle.law_model.specs.packets.Told.{told_by};
+ghost use Rattle.law_model.specs.rows.Sent.{frame_of};
+ghost use Rattle.law_model.specs.session.Valid.{IsValid};
+ghost use Rattle.terminal_source.specs.source_core.Terminal.{SameKind, needed};
+ghost use Rattle.terminal_source.specs.source_core.Given.{with_cell, with_told, SourceStands as HasMade};
+ghost use Rattle.law_walk.specs.Landed.{is_client, IsPlaced, refused_by};
+ghost use Rattle.terminal_group.specs.Item.{kind_of};
+ghost use Rattle.terminal_group.specs.Lands.{met_by, with_kind};
+ghost use Rattle.terminal_group.specs.Landed.{next_number, HasPassed};
+ghost use Rattle.terminal_group.specs.Inbox.{with_come, cell_for, rest_for};
+ghost use Rattle.terminal_group.specs.Source.{IsUnused, SameRest, SameScript, early_in, missing_in};
+
+use crate::return_inbox::Inbox;
+use crate::item_ref::ItemRef;
+use crate::landed_items::Landing;
+use member_cells::{BackCell, HeldContainer};
+use law_model::{Item, Refusal, Script};
+use std::alloc::{AllocError, Global};
+use std::marker::Model;
+use terminal_source::lcas_source::SourceTable;
+use terminal_source::source_core::{Command, Packet, SourceCore};
+
+/// Why a source makes no frame, before any ring is looked at.
+#[derive(Clone, Copy, Debug, PartialEq, Eq)]
+pub enum EarlyCause {
+    /// All frames are made.
+    Done,
+    /// The least item that is due now and hasn't landed.
+    Held {
+        /// Its number.
+        item: u32,
+    },
+}
+
+/// The source side of a group. It takes the client's frames and the operator's commands in the order of its
+/// items, each kind by itself, and makes a frame at each tick; what is due at a tick lands before it. Only
+/// its making takes memory.
+#[derive(Drop)]
+pub struct GroupSource {
+    core: SourceCore,
+    /// How many ticks there are.
+    total: u32,
+    landing: Landing,
+    inbox: Inbox,
+}
+
+impl Model for GroupSource {
+    ghost use Rattle.std.specs.Prelude.{◌≤◌};
+    ghost use Rattle.terminal_group.specs.Source.{Source};
+
+    ghost Value = { Source };
+
+    ghost view = { λ s. record { core = s.core; total = s.total; landed = s.landing; inbox = s.inbox } };
+
+    ghost invariant = { λ s. s.total ≤ 1000000 };
+}
+
+impl GroupSource {
+    /// The source side of a script, of which nothing has landed.
+    pub fn new(alloc: Global, script: &Script) -> Result<GroupSource, AllocError>
+        requires { IsValid script.now }
+        ensures { IfOk result (λ source. IsUnused (leg_of script.now) source) }
+    {
+        Ok(GroupSource {
+            inbox: Inbox::new(alloc, lost_of(script), script.config.lag)?,
+            landing: Landing::new(alloc, items_of(script))?,
+            core: SourceCore::new(
+                alloc,
+                script.config.lines,
+                script.config.lag,
+                script.config.size,
+            )?,
+            total: script.config.ticks,
+        })
+    }
+
+    /// How many ticks were made.
+    pub fn ticks(&self) -> u32
+        ensures { result ≡ self.now.core.ticks }
+    {
+        self.core.ticks()
+    }
+
+    /// How many ticks there are.
+    pub fn total_ticks(&self) -> u32
+        ensures { result ≡ self.now.total }
+    {
+        self.total
+    }
+
+    /// The table of the lines.
+    pub fn table(&self) -> &SourceTable
+        ensures table { result.now ≡ self.now.core.table }
+        ensures steps { result.now.steps ≡ steps_in self.now.core.ticks }
+    {
+        self.core.table()
+    }
+
+    /// What has landed.
+    pub fn landing(&self) -> &Landing
+        ensures { result.now ≡ self.now.landed }
+    {
+        &self.landing
+    }
+
+    /// The inbox.
+    pub fn inbox(&self) -> &Inbox
+        ensures { result.now ≡ self.now.inbox }
+    {
+        &self.inbox
+    }
+
+    /// Takes a return cell that has come, or its loss where a return window holds it.
+    pub fn put(&mut self, cell: BackCell)
+        requires room { length self.old.inbox.cells < self.old.inbox.room }
+        requires few { self.old.inbox.come < 4294967295 }
+        ensures { self.new ≡ record self.old { inbox = with_come self.old.inbox cell } }
+    {
+        self.inbox.put(cell);
+    }
+
+    /// Why the source would refuse an item now, where it would.
+    pub fn refusal(&self, item: ItemRef) -> Option<Refusal>
+        ensures { result ≡ met_by self.now.core (kind_of item.entry) }
+    {
+        match item {
+            ItemRef::Frame(octets) => self.core.frame_refusal(octets).map(Refusal::Frame),
+            ItemRef::Add(line) => self
+                .core
+                .command_refusal(Command::Add(line))
+                .map(Refusal::Command),
+            ItemRef::Remove(line) => self
+                .core
+                .command_refusal(Command::Remove(line))
+                .map(Refusal::Command),
+        }
+    }
+
+    /// Lands an item, which is the next of its kind and has this number. Answers why it is refused, where it
+    /// is; then the terminal is as it was.
+    pub fn land(&mut self, number: u32, item: ItemRef) -> Option<Refusal>
+        requires { next_number self.old.landed (is_client (kind_of item)) ≡ Some number }
+        ensures met { result ≡ met_by self.old.core (kind_of item.entry) }
+        ensures unchanged { IsSome result → self.new.core ≡ self.old.core }
+        ensures made { (scenario : Scenario) (cells : List (Option Told)) →
+            HasMade self.old.core scenario cells →
+            HasMade self.new.core (with_kind scenario self.old.core.ticks (kind_of item.entry)) cells }
+        ensures ticks { self.new.core.ticks ≡ self.old.core.ticks }
+        ensures kind { SameKind self.new.core self.old.core }
+        ensures passed { HasPassed self.old.landed self.new.landed
+            (is_client (kind_of item.entry)) (is_some result) }
+        ensures placed { IsPlaced number (refused_by number result)
+            self.old.landed.refusals self.new.landed.refusals }
+        ensures rest { SameRest self.old self.new }
+    {
+        let why = give(&mut self.core, item);
+        self.landing.land(item.is_frame(), number, why);
+        why
+    }
+
+    /// Why no frame is made, before any ring is looked at.
+    pub fn early_cause(&self) -> Option<EarlyCause>
+        ensures { result ≡ early_in self.now }
+    {
+        let ticks = self.core.ticks();
+        if ticks >= self.total {
+            return Some(EarlyCause::Done);
+        }
+        match self.landing.held(ticks) {
+            Some(item) => Some(EarlyCause::Held { item }),
+            None => None,
+        }
+    }
+
+    /// The return cell that the next frame needs, where the inbox holds none.
+    pub fn missing(&self) -> Option<u32>
+        ensures { result ≡ missing_in self.now }
+    {
+        match self.core.needs_back() {
+            Some(packet) if self.inbox.is_empty() => Some(packet),
+            _ => None,
+        }
+    }
+
+    /// Has the packets of the next decision step pass on a return packet that is said of the other way of a
+    /// pair. Where the call isn't made between two steps they tell nothing, and where it is made again the last
+    /// one counts.
+    pub fn tell(&mut self, packet: Packet)
+        ensures made { (scenario : Scenario) (cells : List (Option Told)) →
+            HasMade self.old.core scenario cells →
+            HasMade self.new.core
+            (with_told scenario (steps_in self.old.core.ticks) (told_by packet)) cells }
+        ensures ticks { self.new.core.ticks ≡ self.old.core.ticks }
+        ensures kind { SameKind self.new.core self.old.core }
+        ensures rest { self.new ≡ record self.old { core = self.new.core } }
+    {
+        self.core.tell(packet);
+    }
+
+    /// Makes the next frame, a container for each line, and takes the return cell that it needs, where it needs one.
+    pub fn make(&mut self, frame: &mut Vec<Box<HeldContainer>>) -> Option<BackCell>
+        requires places { length frame.old.items ≡ self.old.core.lines }
+        requires early { early_in self.old ≡ None }
+        requires cell { missing_in self.old ≡ None }
+        ensures cell { result ≡ cell_for (is_some (needed self.old.core)) self.old.inbox.cells }
+        ensures inbox { self.new.inbox ≡ record self.old.inbox {
+          cells = rest_for (is_some (needed self.old.core)) self.old.inbox.cells;
+        } }
+        ensures made { (scenario : Scenario) (cells : List (Option Told)) →
+            HasMade self.old.core scenario cells →
+            HasMade self.new.core scenario (with_cell cells result) }
+        ensures frame { (scenario : Scenario) (cells : List (Option Told)) →
+            HasMade self.old.core scenario cells →
+            held frame.new.items ≡ frame_of scenario (with_cell cells result) self.old.core.ticks }
+        ensures places { length frame.new.items ≡ length frame.old.items }
+        ensures ticks { self.new.core.ticks ≡ self.old.core.ticks + 1 }
+        ensures kind { SameKind self.new.core self.old.core }
+        ensures rest { SameScript self.old self.new }
+    {
+        let cell = take_needed(&mut self.inbox, self.core.needs_back().is_some());
+        self.core.tick(cell, frame);
+        cell
+    }
+}
+
+/// The items of a script.
+fn items_of(script: &Script) -> &[Item]
+    ensures { result.now ≡ script.now.items }
+{
+    &script.items.0
+}
+
+/// The return windows of a script.
+fn lost_of(script: &Script) -> &[(u32, u32)]
+    ensures { result.now ≡ script.now.config.lost }
+{
+    &script.config.lost.0
+}
+
+/// Gives an item to a terminal, and answers why it is refused, where it is. Then nothing changes.
+fn give(core: &mut SourceCore, item: ItemRef) -> Option<Refusal>
+    ensures met { result ≡ met_by core.old (kind_of item.entry) }
+    ensures unchanged { IsSome result → core.new ≡ core.old }
+    ensures stands { (scenario : Scenario) (cells : List (Option Told)) →
+        HasMade core.old scenario cells →
+        HasMade core.new (with_kind scenario core.old.ticks (kind_of item.entry)) cells }
+    ensures ticks { core.new.ticks ≡ core.old.ticks }
+    ensures kind { SameKind core.new core.old }
+{
+    match item {
+        ItemRef::Frame(octets) => core.accept(octets).err().map(Refusal::Frame),
+        ItemRef::Add(line) => core.add(line).err().map(Refusal::Command),
+        ItemRef::Remove(line) => core.remove(line).err().map(Refusal::Command),
+    }
+}
+
+/// Gives the first return cell of the inbox, where it is needed.
+fn take_needed(inbox: &mut Inbox, needed: bool) -> Option<BackCell>
+    ensures cell { result ≡ cell_for needed inbox.old.cells }
+    ensures rest { inbox.new ≡ record inbox.old { cells = rest_for needed inbox.old.cells } }
+{
+    if needed { inbox.take() } else { None }
+}

@@ -1,7 +1,0 @@
--- The members so far have the octets of idle frames.
-use Rattle.base_cells.specs.Held.{held}
-use Rattle.terminal_sink.proofs.SinkCoreLaws.IdleLaws.{AreDealt}
-use Rattle.terminal_sink.proofs.sink_core.members.are_idle.Given as goal
-
-abbrev pub invariant-loop-rank : goal.invariant-loop-rank
-invariant-loop-rank l = AreDealt l.have l.place l.places l.rank (held l.containers) l.active

@@ -1,0 +1,15 @@
+-- No row was taken.
+use Rattle.std.proofs.Common.{sym, ◌∙◌, arith}
+use Rattle.law_model.specs.frames.Segment.{segments_on}
+use Rattle.terminal_sink.proofs.SinkCoreLaws.GivenLaws.{active-none}
+use Rattle.terminal_sink.proofs.sink_core.sink_terminal.SinkCore.new.Goals as goal
+
+pub returns-clause-stands : goal.returns-clause-stands
+unfolding segments_on
+returns-clause-stands c cells size = record {
+  lines = size;
+  receives = c.in_ok-new.ensures;
+  table = c.new-2.ensures.stands;
+  active = c.in_ok-with_capacity.ensures.items ∙ sym (active-none cells);
+  decided = λ t low. absurd (omega arith);
+}

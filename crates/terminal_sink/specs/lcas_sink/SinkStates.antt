@@ -1,0 +1,30 @@
+-- What a sink's table knows after rows of packets.
+use Rattle.std.specs.Prelude.{◌≡◌, ℕ, Bool, List, length, nat_lt, if◌then◌else◌, None, slice_index_or}
+use Rattle.law_model.specs.declared.lcas_states.SinkState.{SinkState}
+use Rattle.law_model.specs.declared.lcas_states.SinkState.TheVariants.{Idle}
+use Rattle.law_model.specs.packets.ReturnPacket.{Row, ack_of, state_next, sink_state}
+
+-- how many lines there are; how many rows were taken; the change bit to acknowledge; the state of each line
+pub record Sink : Type 0 where
+  pub lines : ℕ
+  pub taken : ℕ
+  pub ack : Bool
+  pub states : List SinkState
+
+-- the state of a line, which is idle where there is no such line
+abbrev pub state_at : List SinkState → ℕ → SinkState
+state_at states line = slice_index_or states line Idle
+
+-- these rows were taken
+pub record SinkTableStands (sink : Sink) (rows : List Row) : Type 0 where
+  pub taken : sink.taken ≡ length rows
+  pub ack : sink.ack ≡ ack_of rows
+  pub states : (line : ℕ) → state_at sink.states line ≡ sink_state rows line
+
+-- the state of a line after the packets of the first lines of a row
+abbrev pub state_upto : ℕ → List SinkState → Row → ℕ → SinkState
+state_upto count states row line =
+    if nat_lt line count then state_next (state_at states line) (slice_index_or row line None) else state_at states line
+
+abbrev pub state_after : List SinkState → Row → ℕ → SinkState
+state_after states row line = state_upto (length row) states row line

@@ -1,0 +1,52 @@
+//! What more cells and more rows change of what a sink gives, and what it gives in a session.
+
+ghost use Rattle.std.specs.Prelude.{◌≡◌, ◌≢◌, ℕ, ◌+◌, ◌*◌, ◌<◌, ◌≤◌, List, ◌++◌, length, Option, Some, None};
+ghost use Rattle.law_model.specs.rows.Rows.{return_at};
+ghost use Rattle.member_cells.specs.declared.containers_and_cells.Cell.{Cell};
+ghost use Rattle.law_model.specs.session.Scenario.{Scenario};
+ghost use Rattle.law_model.specs.source.Table.{Told};
+ghost use Rattle.law_model.specs.frames.Segment.{segments_of, deliver};
+ghost use Rattle.law_model.specs.rows.SessionStream.{rows_of};
+ghost use Rattle.law_line.specs.StableRows.{IsLonger, AreDecidedAt};
+ghost use Rattle.member_rows.specs.realign_rows.Gather.{with_cell};
+ghost use Rattle.terminal_sink.specs.sink_core.Given.{received_rows, given_frames, added_frames, back_at};
+ghost use Rattle.terminal_sink.specs.sink_core.Core.{Core, SinkStands};
+ghost use Rattle.terminal_sink.specs.sink_core.Session.{AreSessionRows, TellRows};
+ghost use Rattle.law_model.specs.Limits.{longest_frame};
+
+/// What was taken stays taken where more cells come, and more rows give more frames and change none of those
+/// before. Return packet k is made at row 16 k + 23.
+pub fn sink_law()
+    ensures stands { (core : Core) (cells longer : List (List Cell)) → IsLonger cells longer →
+        SinkStands core cells → SinkStands core longer }
+    ensures frames { (size taken : ℕ) (cells longer : List (List Cell)) → IsLonger cells longer →
+        ((t : ℕ) → t < taken → AreDecidedAt cells t) →
+        given_frames size longer taken ≡ given_frames size cells taken }
+    ensures back { (t : ℕ) (cells longer : List (List Cell)) → IsLonger cells longer →
+        AreDecidedAt cells t → back_at longer t ≡ back_at cells t }
+    ensures there { (cells : List (List Cell)) (k : ℕ) →
+        back_at cells (16 * k + 23) ≡ Some (return_at cells k) }
+    ensures elsewhere { (cells : List (List Cell)) (t : ℕ) → ((k : ℕ) → t ≢ 16 * k + 23) →
+        back_at cells t ≡ None }
+    ensures added { (size before taken : ℕ) (cells : List (List Cell)) → before ≤ taken →
+        given_frames size cells taken
+        ≡ given_frames size cells before ++ added_frames size cells before taken }
+    ensures cell { (cells : List (List Cell)) (line : ℕ) (cell : Cell) →
+        IsLonger cells (with_cell cells line cell) }
+{}
+
+/// Where the first rows that the cells give are those of a session, the frames given are those that it
+/// delivers in these rows. They are where the cells tell the packets that could be read and the containers
+/// that are good, and these were dealt the octets of the stream.
+pub fn session_sink_law()
+    ensures frames { (scenario : Scenario) (returns : List (Option Told)) (cells : List (List Cell))
+        (n : ℕ) → AreSessionRows scenario returns cells n →
+        given_frames scenario.size cells n ≡ deliver longest_frame (rows_of scenario returns n) }
+    ensures last { (scenario : Scenario) (returns : List (Option Told)) (cells : List (List Cell))
+        (n : ℕ) → AreSessionRows scenario returns cells n →
+        (segments_of (received_rows scenario.size cells n)).last.octets
+        ≡ (segments_of (rows_of scenario returns n)).last.octets }
+    ensures rows { (scenario : Scenario) (returns : List (Option Told)) (cells : List (List Cell))
+        (n : ℕ) → length scenario.windows ≤ 128 → TellRows scenario returns cells n →
+        AreSessionRows scenario returns cells n }
+{}

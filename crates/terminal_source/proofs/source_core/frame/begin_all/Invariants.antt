@@ -1,7 +1,0 @@
--- The lines up to here are begun.
-use Rattle.base_cells.specs.Held.{held}
-use Rattle.terminal_source.specs.source_core.Frame.{AreBegun}
-use Rattle.terminal_source.proofs.source_core.frame.begin_all.Given as goal
-
-abbrev pub invariant-loop-line : goal.invariant-loop-line
-invariant-loop-line l = AreBegun l.ticks l.nibbles l.active l.size l.line (held l.out)

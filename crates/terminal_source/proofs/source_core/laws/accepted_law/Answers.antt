@@ -1,6 +1,0 @@
--- What was accepted leads to the same tables and streams.
-use Rattle.law_session.proofs.AlikeLaws.{replayed-frame}
-use Rattle.terminal_source.proofs.source_core.laws.accepted_law.Goals as goal
-
-pub returns : goal.returns
-returns c scenario cells t u low = replayed-frame scenario cells t u low

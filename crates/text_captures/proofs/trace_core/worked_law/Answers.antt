@@ -1,9 +1,0 @@
--- Both texts are computed.
-use Rattle.text_captures.proofs.TraceCoreLaws.WorkedLaws.{are_read, is_refused}
-use Rattle.text_captures.proofs.trace_core.worked_law.Goals as goal
-
-pub returns-clause-read : goal.returns-clause-read
-returns-clause-read c = are_read
-
-pub returns-clause-refused : goal.returns-clause-refused
-returns-clause-refused c = is_refused

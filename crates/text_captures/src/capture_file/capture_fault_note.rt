@@ -1,0 +1,69 @@
+//! The note on the first fault of a capture.
+ghost use Rattle.std.specs.Prelude.{◌≡◌, ◌≤◌, ◌+◌, length, take};
+ghost use Rattle.text_report.specs.TextCursor.{Extends, HasTextRoom};
+ghost use Rattle.text_captures.specs.capture_file.Texts.{head_fault_text, record_fault_text, fault_text};
+
+use crate::capture_file::capture_form::{CaptureFault, HeadFault, RecordFault};
+use text_report::TextCursor;
+
+/// Adds what is wrong with a head.
+fn add_head_fault(line: &mut TextCursor, fault: HeadFault)
+    requires { HasTextRoom line.old 32 }
+    ensures text { Extends line.old line.new (head_fault_text fault) }
+    ensures end { line.new.at ≤ line.old.at + 32 }
+{
+    match fault {
+        HeadFault::Cut => line.text(b"cut"),
+        HeadFault::PcapNg => line.text(b"pcapng"),
+        HeadFault::Magic => line.text(b"magic"),
+        HeadFault::Version => line.text(b"version"),
+        HeadFault::Link { link } => {
+            line.text(b"link ");
+            line.decimal(link);
+        }
+        HeadFault::Fcs { octets } => {
+            line.text(b"fcs ");
+            line.decimal(octets);
+        }
+    }
+}
+
+/// Adds what is wrong with a record.
+fn add_record_fault(line: &mut TextCursor, fault: RecordFault)
+    requires { HasTextRoom line.old 32 }
+    ensures text { Extends line.old line.new (record_fault_text fault) }
+    ensures end { line.new.at ≤ line.old.at + 32 }
+{
+    match fault {
+        RecordFault::Cut => line.text(b"cut"),
+        RecordFault::Snapped => line.text(b"snapped"),
+        RecordFault::Length { octets } => {
+            line.text(b"length ");
+            line.decimal(octets);
+        }
+        RecordFault::Late => line.text(b"late"),
+    }
+}
+
+/// Writes the note on a fault.
+pub fn fault_note(fault: CaptureFault, out: &mut [u8]) -> usize
+    requires { 128 ≤ length out.old }
+    ensures within { result ≤ 128 }
+    ensures line { take result out.new ≡ fault_text fault }
+{
+    let mut line = TextCursor::new(out);
+    match fault {
+        CaptureFault::Head(fault) => {
+            line.text(b"fault: head: ");
+            add_head_fault(&mut line, fault);
+        }
+        CaptureFault::Record { number, fault } => {
+            line.text(b"fault: record ");
+            line.decimal(number);
+            line.text(b": ");
+            add_record_fault(&mut line, fault);
+        }
+    }
+    line.text(b"\n");
+    line.end()
+}

@@ -1,0 +1,106 @@
+//! The script of a load.
+ghost use Rattle.std.specs.Prelude.{◌≡◌, ◌≤◌, ◌++◌, [], IfOk, OnOk, replicate};
+ghost use Rattle.law_model.specs.session.Valid.{IsValid, IsWithin};
+ghost use Rattle.text_scripts.specs.make_load.Load.{frame_of, after_frame, additions, frames, frame_count, load};
+
+use crate::make_load::load_draws::Draws;
+use law_model::{
+    Config, EventList, Item, ItemKind, ItemList, LostList, Octets, Script, WindowList, WindowLists,
+};
+use std::alloc::{AllocError, Global};
+
+// A frame: its length, and its octets.
+fn frame(alloc: Global, draws: &mut Draws) -> Result<Octets, AllocError>
+    ensures octets { IfOk result (λ octets. octets ≡ frame_of draws.old.state) }
+    ensures state { OnOk result (draws.new.state ≡ after_frame draws.old.state) }
+{
+    let count = 64 + draws.below(1455) as usize;
+    draws.octets(alloc, count)
+}
+
+// The addition of each line.
+#[tactic(auto, using(crate::proofs::MakeLoadLaws::LoadLaws::additions_next))]
+fn add_lines(alloc: Global, lines: u8) -> Result<Vec<Item>, AllocError>
+    ensures { IfOk result (λ items. items.items ≡ additions lines) }
+{
+    let mut items = Vec::new(alloc);
+    for line in 0..lines {
+        items.push(Item {
+            due: 0,
+            kind: ItemKind::Add(line),
+        })?;
+    }
+    Ok(items)
+}
+
+// Appends a frame for each eight ticks that are begun.
+#[tactic(auto, using(crate::proofs::MakeLoadLaws::LoadLaws::frames_next, crate::proofs::MakeLoadLaws::LoadLaws::frames_end))]
+fn add_frames(
+    alloc: Global,
+    items: &mut Vec<Item>,
+    ticks: u32,
+    draws: &mut Draws,
+) -> Result<(), AllocError>
+    requires { ticks ≤ 1000000 }
+    ensures { OnOk result
+        (items.new.items ≡ items.old.items ++ frames (frame_count ticks) 0 draws.old.state) }
+{
+    for k in 0..ticks.div_ceil(8) {
+        let octets = frame(alloc, draws)?;
+        items.push(Item {
+            due: 8 * k,
+            kind: ItemKind::Frame(octets),
+        })?;
+    }
+    Ok(())
+}
+
+// No windows for a number of lines.
+fn no_windows(alloc: Global, lines: u8) -> Result<WindowLists, AllocError>
+    ensures { IfOk result (λ lists. lists ≡ replicate lines []) }
+{
+    let mut lists = Vec::with_capacity(alloc, usize::from(lines))?;
+    for _ in 0..lines {
+        lists.push(WindowList(Vec::new(alloc)))?;
+    }
+    Ok(WindowLists(lists))
+}
+
+// The script that is drawn from a number.
+fn draw(alloc: Global, number: u64, lines: u8, ticks: u32) -> Result<Script, AllocError>
+    requires { ticks ≤ 1000000 }
+    ensures { IfOk result (λ script. script ≡ load number lines ticks) }
+{
+    let mut draws = Draws::new(number);
+    let delays = draws.delays(alloc, lines)?;
+    let windows = no_windows(alloc, lines)?;
+    let mut items = add_lines(alloc, lines)?;
+    add_frames(alloc, &mut items, ticks, &mut draws)?;
+    Ok(Script {
+        config: Config {
+            lines,
+            delays,
+            windows,
+            lost: LostList(Vec::new(alloc)),
+            ring: 64,
+            lag: 4,
+            ticks,
+            size: 2340,
+        },
+        items: ItemList(items),
+        events: EventList(Vec::new(alloc)),
+    })
+}
+
+/// The script that is drawn from a number, for 1 to 64 lines and 1 to 1,000,000 ticks: VC-4, rings of 64
+/// cells, a lag of 4 packets, no failures and no event lines. Each line has a delay of up to 40 frames and is
+/// added at once. A frame of 64 to 1,518 octets is due at each eighth tick from 0 on.
+#[tactic(auto, using(crate::proofs::MakeLoadLaws::LoadLaws::is_valid))]
+pub fn make(alloc: Global, number: u64, lines: u8, ticks: u32) -> Result<Script, AllocError>
+    requires lines { IsWithin 1 64 lines }
+    requires ticks { IsWithin 1 1000000 ticks }
+    ensures load { IfOk result (λ script. script ≡ load number lines ticks) }
+    ensures valid { IfOk result IsValid }
+{
+    draw(alloc, number, lines, ticks)
+}

@@ -1,0 +1,113 @@
+//! What a line adds to a draft.
+ghost use Rattle.std.specs.Prelude.{◌≡◌, ◌<◌, ◌∷◌, ◌++◌, [], length, IfOk, OnOk, slice_index_or, slice_set};
+ghost use Rattle.std.specs.Prelude.{replicate};
+ghost use Rattle.text_scripts.specs.script_read.Statements.{after, after_item, at_first};
+ghost use Rattle.text_scripts.specs.script_read.Drafts.{IsDraft, Fits};
+
+use crate::script_read::script_draft::{Draft, Statement};
+use law_model::{
+    Config, Delays, EventList, Item, ItemKind, ItemList, LostList, Window, WindowList, WindowLists,
+};
+use std::alloc::{AllocError, Global};
+
+// No windows for a number of lines.
+fn no_windows(alloc: Global, lines: u8) -> Result<WindowLists, AllocError>
+    ensures { IfOk result (λ lists. lists ≡ replicate lines []) }
+{
+    let mut lists = Vec::with_capacity(alloc, usize::from(lines))?;
+    for _ in 0..lines {
+        lists.push(WindowList(Vec::new(alloc)))?;
+    }
+    Ok(WindowLists(lists))
+}
+
+// Appends a window to those of a line.
+fn add_window(lists: &mut WindowLists, m: u8, window: Window) -> Result<(), AllocError>
+    requires { m < length lists.old }
+    ensures { OnOk result
+        (lists.new ≡ slice_set lists.old m (slice_index_or lists.old m [] ++ window ∷ [])) }
+{
+    let list = &mut lists.0[usize::from(m)];
+    list.0.push(window)?;
+    Ok(())
+}
+
+/// What no line says.
+pub(super) fn no_lines(alloc: Global) -> Draft
+    ensures { result ≡ at_first }
+{
+    Draft {
+        next: 0,
+        config: Config {
+            lines: 0,
+            delays: Delays(Vec::new(alloc)),
+            windows: WindowLists(Vec::new(alloc)),
+            lost: LostList(Vec::new(alloc)),
+            ring: 0,
+            lag: 0,
+            ticks: 0,
+            size: 2340,
+        },
+        items: ItemList(Vec::new(alloc)),
+        events: EventList(Vec::new(alloc)),
+        frame_due: 0,
+        command_due: 0,
+    }
+}
+
+// Adds an item.
+fn add_item(draft: &mut Draft, item: Item) -> Result<(), AllocError>
+    ensures { OnOk result (draft.new ≡ after_item draft.old item item.kind) }
+{
+    match item.kind {
+        ItemKind::Frame(_) => draft.frame_due = item.due,
+        ItemKind::Add(_) | ItemKind::Remove(_) => draft.command_due = item.due,
+    }
+    draft.next = 7;
+    draft.items.0.push(item)?;
+    Ok(())
+}
+
+/// Adds what a line says.
+pub(super) fn add(alloc: Global, draft: &mut Draft, said: Statement) -> Result<(), AllocError>
+    requires config { IsDraft draft.old }
+    requires fits { Fits draft.old said }
+    ensures { OnOk result (draft.new ≡ after draft.old said) }
+{
+    match said {
+        Statement::Nothing => {}
+        Statement::Container(size) => {
+            draft.config.size = size;
+            draft.next = 1;
+        }
+        Statement::Lines(lines) => {
+            draft.config.windows = no_windows(alloc, lines)?;
+            draft.config.lines = lines;
+            draft.next = 2;
+        }
+        Statement::Delays(delays) => {
+            draft.config.delays = delays;
+            draft.next = 3;
+        }
+        Statement::Ring(ring) => {
+            draft.config.ring = ring;
+            draft.next = 4;
+        }
+        Statement::Lag(lag) => {
+            draft.config.lag = lag;
+            draft.next = 5;
+        }
+        Statement::Ticks(ticks) => {
+            draft.config.ticks = ticks;
+            draft.next = 6;
+        }
+        Statement::Fail(m, window) => add_window(&mut draft.config.windows, m, window)?,
+        Statement::Lost(first, end) => draft.config.lost.0.push((first, end))?,
+        Statement::Item(item) => add_item(draft, item)?,
+        Statement::Event(event) => {
+            draft.next = 8;
+            draft.events.0.push(event)?;
+        }
+    }
+    Ok(())
+}

@@ -1,0 +1,89 @@
+//! The words of items and of event lines that name a line.
+ghost use Rattle.std.specs.Prelude.{◌≡◌, ◌≤◌, ◌<◌, IfOk, IfErr, None, Some};
+ghost use Rattle.text_lines.specs.Words.{words, number_at};
+ghost use Rattle.text_scripts.specs.script_read.Lifted.{IsStop};
+ghost use Rattle.text_scripts.specs.script_read.Statements.{rest_fault, said};
+ghost use Rattle.law_model.specs.session.Valid.{IsWithin, IsItem};
+ghost use Rattle.text_scripts.specs.script_read.Drafts.{IsDraft, last_due, command_fault};
+
+use crate::script_read::word_count_fault::count_fault;
+use crate::script_read::script_draft::{Draft, Statement};
+use crate::script_read::script_fault::{LineFault, LineStop};
+use crate::script_read::script_keyword::Keyword;
+use law_model::{EventLine, Item, ItemKind, Octets};
+use std::alloc::Global;
+use text_lines::{number_within, octets_within, two_words};
+
+/// A frame, and when it is due.
+pub(super) fn read_frame(alloc: Global, draft: &Draft, rest: &[u8]) -> Result<Item, LineStop>
+    requires stands { 6 ≤ draft.now.next }
+    requires config { IsDraft draft.now }
+    ensures ok { IfOk result (λ item. (rest_fault draft.now Keyword.Frame (words rest.now) ≡ None)
+        × (Statement.Item item ≡ said Keyword.Frame (words rest.now))) }
+    ensures fits { IfOk result (λ item. IsItem draft.now.config.ticks item) }
+    ensures order { IfOk result (λ item. last_due draft.now item.kind ≤ item.due) }
+    ensures err { IfErr result (λ stop.
+        IsStop stop (rest_fault draft.now Keyword.Frame (words rest.now))) }
+{
+    let Some((due, digits)) = two_words(rest) else {
+        return Err(LineStop::Fault(count_fault(Keyword::Frame, 2, rest)));
+    };
+    let due = number_within(due, 2, 0, u64::from(draft.config.ticks) - 1)? as u32;
+    let octets = octets_within(alloc, digits, 3, 1, 65_535)?;
+    if due < draft.frame_due {
+        return Err(LineStop::Fault(LineFault::FrameBefore {
+            due: draft.frame_due,
+        }));
+    }
+    Ok(Item {
+        due,
+        kind: ItemKind::Frame(Octets(octets)),
+    })
+}
+
+/// When a command is due, and the line that it names.
+pub(super) fn read_due_line(
+    draft: &Draft,
+    keyword: Keyword,
+    rest: &[u8],
+) -> Result<(u32, u8), LineFault>
+    requires stands { 6 ≤ draft.now.next }
+    requires config { IsDraft draft.now }
+    ensures ok { IfOk result (λ read. (command_fault draft.now keyword (words rest.now) ≡ None)
+        × (read.0 ≡ number_at 0 (words rest.now)) × (read.1 ≡ number_at 1 (words rest.now))) }
+    ensures fits { IfOk result (λ read. (read.0 < draft.now.config.ticks) × (read.1 ≤ 255)) }
+    ensures order { IfOk result (λ read. draft.now.command_due ≤ read.0) }
+    ensures err { IfErr result (λ fault.
+        command_fault draft.now keyword (words rest.now) ≡ Some fault) }
+{
+    let Some((due, line)) = two_words(rest) else {
+        return Err(count_fault(keyword, 2, rest));
+    };
+    let due = number_within(due, 2, 0, u64::from(draft.config.ticks) - 1)? as u32;
+    let line = number_within(line, 3, 0, 255)? as u8;
+    if due < draft.command_due {
+        return Err(LineFault::CommandBefore {
+            due: draft.command_due,
+        });
+    }
+    Ok((due, line))
+}
+
+/// A line that carries, and how often it tries.
+pub(super) fn read_carry(draft: &Draft, rest: &[u8]) -> Result<(u8, u32), LineFault>
+    requires stands { 6 ≤ draft.now.next }
+    requires config { IsDraft draft.now }
+    ensures ok { IfOk result (λ read. (rest_fault draft.now Keyword.Carry (words rest.now) ≡ None)
+        × (Statement.Event (EventLine.Carry read.0 read.1) ≡ said Keyword.Carry (words rest.now))) }
+    ensures fits { IfOk result (λ read.
+        (read.0 < draft.now.config.lines) × IsWithin 1 1000000 read.1) }
+    ensures err { IfErr result (λ fault.
+        rest_fault draft.now Keyword.Carry (words rest.now) ≡ Some fault) }
+{
+    let Some((line, count)) = two_words(rest) else {
+        return Err(count_fault(Keyword::Carry, 2, rest));
+    };
+    let m = number_within(line, 2, 0, u64::from(draft.config.lines) - 1)? as u8;
+    let count = number_within(count, 3, 1, 1_000_000)? as u32;
+    Ok((m, count))
+}

@@ -1,0 +1,147 @@
+//! The words of the lines that say what the network is: delays, the container, windows of lines and of the return path.
+ghost use Rattle.std.specs.Prelude.{◌≡◌, ◌≤◌, ◌<◌, length, IfOk, IfErr, None, Some, slice_index_or, [], map, All};
+ghost use Rattle.text_lines.specs.Words.{words, word_at, number_of};
+ghost use Rattle.text_scripts.specs.script_read.Lifted.{IsStop};
+ghost use Rattle.text_scripts.specs.script_read.Statements.{rest_fault, said, last_end, last_lost, size_of};
+ghost use Rattle.law_model.specs.session.Valid.{IsSize};
+ghost use Rattle.text_scripts.specs.script_read.Drafts.{IsDraft, IsNext, IsNextLost, container_fault, delays_fault};
+
+use crate::script_read::word_count_fault::count_fault;
+use crate::script_read::script_draft::{Draft, Statement};
+use crate::script_read::script_fault::{LineFault, LineStop};
+use crate::script_read::script_keyword::Keyword;
+use law_model::{Delays, LostList, Window, WindowList, WindowLists};
+use std::alloc::Global;
+use text_lines::{
+    FieldFault, count_words, four_words, next_word, number_within, one_word, two_words,
+};
+
+/// The payload octets of the container that a line names.
+pub(super) fn read_container(rest: &[u8]) -> Result<u16, LineFault>
+    ensures ok { IfOk result (λ size. (container_fault (words rest.now) ≡ None)
+        × (size_of (word_at 0 (words rest.now)) ≡ Some size)) }
+    ensures fits { IfOk result IsSize }
+    ensures err { IfErr result (λ fault. container_fault (words rest.now) ≡ Some fault) }
+{
+    let Some(word) = one_word(rest) else {
+        return Err(count_fault(Keyword::Container, 1, rest));
+    };
+    if word == b"vc3".as_slice() {
+        Ok(756)
+    } else if word == b"vc4".as_slice() {
+        Ok(2340)
+    } else {
+        Err(LineFault::Field(FieldFault::Name { word: 2 }))
+    }
+}
+
+/// The delays of a number of lines.
+pub(super) fn read_delays(alloc: Global, rest: &[u8], lines: u8) -> Result<Delays, LineStop>
+    ensures ok { IfOk result (λ delays. (delays_fault lines (words rest.now) ≡ None)
+        × (delays ≡ map number_of (words rest.now))) }
+    ensures fits { IfOk result (λ delays.
+        (length delays ≡ lines) × All (λ n. n ≤ 2047) delays) }
+    ensures err { IfErr result (λ stop. IsStop stop (delays_fault lines (words rest.now))) }
+{
+    if count_words(rest) != usize::from(lines) {
+        return Err(LineStop::Fault(count_fault(Keyword::Delays, u64::from(lines), rest)));
+    }
+    let mut delays = Vec::with_capacity(alloc, usize::from(lines))?;
+    let mut further = rest;
+    while let Some((word, later)) = next_word(further) {
+        further = later;
+        let delay = match number_within(word, delays.len() as u64 + 2, 0, 2047) {
+            Ok(delay) => delay as u16,
+            Err(fault) => return Err(LineStop::Fault(LineFault::Field(fault))),
+        };
+        delays.push(delay)?;
+    }
+    Ok(Delays(delays))
+}
+
+// The windows of a line.
+fn windows_at(lists: &WindowLists, m: u8) -> &WindowList
+    requires { m < length lists.now }
+    ensures { result.now ≡ slice_index_or lists.now m [] }
+{
+    &lists.0[usize::from(m)]
+}
+
+// The end of the last of some windows.
+fn last_end_of(list: &WindowList) -> u32
+    ensures { result ≡ last_end list.now }
+{
+    match list.0.last() {
+        Some(window) => window.end,
+        None => 0,
+    }
+}
+
+// The end of the last of some return windows.
+fn last_lost_of(list: &LostList) -> u32
+    ensures { result ≡ last_lost list.now }
+{
+    match list.0.last() {
+        Some(window) => window.1,
+        None => 0,
+    }
+}
+
+/// A window, and the line that has it.
+pub(super) fn read_fail(draft: &Draft, rest: &[u8]) -> Result<(u8, Window), LineFault>
+    requires stands { 6 ≤ draft.now.next }
+    requires config { IsDraft draft.now }
+    ensures ok { IfOk result (λ read. (rest_fault draft.now Keyword.Fail (words rest.now) ≡ None)
+        × (Statement.Fail read.0 read.1 ≡ said Keyword.Fail (words rest.now))) }
+    ensures fits { IfOk result (λ read. IsNext draft.now read.0 read.1) }
+    ensures err { IfErr result (λ fault.
+        rest_fault draft.now Keyword.Fail (words rest.now) ≡ Some fault) }
+{
+    let Some((line, first, end, slip)) = four_words(rest) else {
+        return Err(count_fault(Keyword::Fail, 4, rest));
+    };
+    let m = number_within(line, 2, 0, u64::from(draft.config.lines) - 1)? as u8;
+    let first = number_within(first, 3, 0, 9_999_999_999)?;
+    let end = number_within(end, 4, first + 1, u64::from(draft.config.ticks))?;
+    let slip = number_within(slip, 5, 0, 2047)?;
+    let windows = windows_at(&draft.config.windows, m);
+    if windows.0.len() >= 256 {
+        return Err(LineFault::FullLine { line: m });
+    }
+    let end_before = last_end_of(windows);
+    if first < u64::from(end_before) {
+        return Err(LineFault::FailureBefore { end: end_before });
+    }
+    Ok((
+        m,
+        Window {
+            first: first as u32,
+            end: end as u32,
+            slip: slip as u16,
+        },
+    ))
+}
+
+/// A return window.
+pub(super) fn read_lost(draft: &Draft, rest: &[u8]) -> Result<(u32, u32), LineFault>
+    ensures ok { IfOk result (λ read. (rest_fault draft.now Keyword.Lost (words rest.now) ≡ None)
+        × (Statement.Lost read.0 read.1 ≡ said Keyword.Lost (words rest.now))) }
+    ensures fits { IfOk result (λ read. IsNextLost draft.now read.0 read.1) }
+    ensures err { IfErr result (λ fault.
+        rest_fault draft.now Keyword.Lost (words rest.now) ≡ Some fault) }
+{
+    let Some((first, end)) = two_words(rest) else {
+        return Err(count_fault(Keyword::Lost, 2, rest));
+    };
+    let first = number_within(first, 2, 0, 9_999_999_999)?;
+    let end = number_within(end, 3, first + 1, 62_500)?;
+    let lost = &draft.config.lost;
+    if lost.0.len() >= 256 {
+        return Err(LineFault::FullPath);
+    }
+    let end_before = last_lost_of(lost);
+    if first < u64::from(end_before) {
+        return Err(LineFault::LossBefore { end: end_before });
+    }
+    Ok((first as u32, end as u32))
+}

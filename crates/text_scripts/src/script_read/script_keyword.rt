@@ -1,0 +1,204 @@
+//! The words that may begin a line, and the place of each in the order of a script.
+ghost use Rattle.std.specs.Prelude.{◌≡◌, IfErr, OnOk, None, Some};
+ghost use Rattle.text_scripts.specs.script_read.Statements.{keyword_of, item_keyword, event_keyword, place, awaited, part_of};
+ghost use Rattle.text_scripts.specs.script_read.Statements.{place_fault};
+ghost use Rattle.text_scripts.specs.script_read.Drafts.{IsPlaced};
+
+use crate::script_read::script_fault::LineFault;
+
+/// The words that may begin a line, in the order of a script.
+#[derive(Clone, Copy, Debug, PartialEq, Eq)]
+pub enum Keyword {
+    /// The container of the group.
+    Container,
+    /// The number of lines.
+    Lines,
+    /// The delay of each line.
+    Delays,
+    /// The size of a receive ring.
+    Ring,
+    /// The lag.
+    Lag,
+    /// The number of ticks.
+    Ticks,
+    /// A window of a line.
+    Fail,
+    /// A return window.
+    Lost,
+    /// A frame.
+    Frame,
+    /// The addition of a line.
+    Add,
+    /// The removal of a line.
+    Remove,
+    /// Frames land.
+    Client,
+    /// Commands land.
+    Operator,
+    /// Ticks are made.
+    Tick,
+    /// A line carries.
+    Carry,
+    /// Return packets come.
+    Back,
+    /// Rows are taken.
+    Take,
+    /// Rounds are made.
+    Round,
+    /// Rounds are made until all rows are taken.
+    Drain,
+}
+
+impl Keyword {
+    /// The keyword that a word is.
+    pub(super) fn of(word: &[u8]) -> Option<Keyword>
+        ensures { result ≡ keyword_of word.now }
+    {
+        if word == b"container".as_slice() {
+            Some(Keyword::Container)
+        } else if word == b"lines".as_slice() {
+            Some(Keyword::Lines)
+        } else if word == b"delays".as_slice() {
+            Some(Keyword::Delays)
+        } else if word == b"ring".as_slice() {
+            Some(Keyword::Ring)
+        } else if word == b"lag".as_slice() {
+            Some(Keyword::Lag)
+        } else if word == b"ticks".as_slice() {
+            Some(Keyword::Ticks)
+        } else {
+            Keyword::of_item(word)
+        }
+    }
+
+    /// The keyword of a window, an item or an event line that a word is.
+    fn of_item(word: &[u8]) -> Option<Keyword>
+        ensures { result ≡ item_keyword word.now }
+    {
+        if word == b"fail".as_slice() {
+            Some(Keyword::Fail)
+        } else if word == b"lost".as_slice() {
+            Some(Keyword::Lost)
+        } else if word == b"frame".as_slice() {
+            Some(Keyword::Frame)
+        } else if word == b"add".as_slice() {
+            Some(Keyword::Add)
+        } else if word == b"remove".as_slice() {
+            Some(Keyword::Remove)
+        } else {
+            Keyword::of_event(word)
+        }
+    }
+
+    /// The keyword of an event line that a word is.
+    fn of_event(word: &[u8]) -> Option<Keyword>
+        ensures { result ≡ event_keyword word.now }
+    {
+        if word == b"client".as_slice() {
+            Some(Keyword::Client)
+        } else if word == b"operator".as_slice() {
+            Some(Keyword::Operator)
+        } else if word == b"tick".as_slice() {
+            Some(Keyword::Tick)
+        } else if word == b"carry".as_slice() {
+            Some(Keyword::Carry)
+        } else if word == b"back".as_slice() {
+            Some(Keyword::Back)
+        } else if word == b"take".as_slice() {
+            Some(Keyword::Take)
+        } else if word == b"round".as_slice() {
+            Some(Keyword::Round)
+        } else if word == b"drain".as_slice() {
+            Some(Keyword::Drain)
+        } else {
+            None
+        }
+    }
+
+    /// Its place: 0 to 5 are the lines of the configuration, 6 is that of windows, 7 of items, 8 of event lines.
+    pub(super) fn place(self) -> u8
+        ensures { result ≡ place self }
+    {
+        match self {
+            Keyword::Container => 0,
+            Keyword::Lines => 1,
+            Keyword::Delays => 2,
+            Keyword::Ring => 3,
+            Keyword::Lag => 4,
+            Keyword::Ticks => 5,
+            Keyword::Fail | Keyword::Lost => 6,
+            Keyword::Frame | Keyword::Add | Keyword::Remove => 7,
+            Keyword::Client
+            | Keyword::Operator
+            | Keyword::Tick
+            | Keyword::Carry
+            | Keyword::Back
+            | Keyword::Take
+            | Keyword::Round
+            | Keyword::Drain => 8,
+        }
+    }
+}
+
+/// The parts of a script, in their order.
+#[derive(Clone, Copy, Debug, PartialEq, Eq)]
+pub enum Part {
+    /// The configuration.
+    Configuration,
+    /// Failures of lines, and losses of the return path.
+    Windows,
+    /// Frames and commands.
+    Items,
+    /// Event lines.
+    Events,
+}
+
+/// The line of the configuration that has to stand where `next` is the next place.
+pub(super) fn awaited(next: u8) -> Keyword
+    ensures { result ≡ awaited next }
+{
+    if next <= 1 {
+        Keyword::Lines
+    } else if next == 2 {
+        Keyword::Delays
+    } else if next == 3 {
+        Keyword::Ring
+    } else if next == 4 {
+        Keyword::Lag
+    } else {
+        Keyword::Ticks
+    }
+}
+
+/// The part of a place.
+fn part_of(at: u8) -> Part
+    ensures { result ≡ part_of at }
+{
+    if at <= 5 {
+        Part::Configuration
+    } else if at == 6 {
+        Part::Windows
+    } else if at == 7 {
+        Part::Items
+    } else {
+        Part::Events
+    }
+}
+
+/// Tests whether a line of the place `at` may stand where `next` is the next place.
+pub(super) fn check_place(next: u8, at: u8) -> Result<(), LineFault>
+    ensures ok { OnOk result (place_fault next at ≡ None) }
+    ensures err { IfErr result (λ fault. place_fault next at ≡ Some fault) }
+    ensures stands { OnOk result (IsPlaced next at) }
+{
+    if next < 6 && at != next && !(next == 0 && at == 1) {
+        return Err(LineFault::Missing(awaited(next)));
+    }
+    if at < next {
+        return Err(LineFault::Part {
+            this: part_of(at),
+            begun: part_of(next),
+        });
+    }
+    Ok(())
+}

@@ -1,0 +1,31 @@
+//! What the definition of the language means, apart from how it computes.
+ghost use Rattle.std.specs.Prelude.{◌≡◌, ◌↔◌, ◌≤◌, ℕ, List, length, Ok, Err};
+ghost use Rattle.std.specs.Str.Lines.{lines};
+ghost use Rattle.law_model.specs.declared.script_types.Script.{Script};
+ghost use Rattle.law_model.specs.session.Valid.{IsValid, HasFewLosses};
+ghost use Rattle.text_lines.specs.FirstFault.{IsFirstFault};
+ghost use Rattle.text_scripts.specs.declared.script_read.script_fault.LineFault.{LineFault};
+ghost use Rattle.text_scripts.specs.declared.script_read.script_fault.ScriptFault.TheVariants.{Line};
+ghost use Rattle.text_scripts.specs.script_read.Statements.{at_first};
+ghost use Rattle.text_scripts.specs.script_read.Script.{script_of, script_lines, IsScriptOf};
+ghost use Rattle.law_model.specs.Limits.{longest_input};
+
+/// A text has the fault of a line exactly where that line is faulty after lines none of which is, or where no
+/// line is faulty and the configuration isn't whole at the end. It is a script exactly where no line is
+/// faulty, the configuration is whole, and slips, spread and lag have no fault.
+pub fn fault_law()
+    ensures line { (text : List ℕ) (number : ℕ) (fault : LineFault) →
+        (script_of text ≡ Err (Line number fault))
+        ↔ IsFirstFault script_lines 1 at_first (lines text) number fault }
+    ensures script { (text : List ℕ) (script : Script) →
+        (script_of text ≡ Ok script) ↔ IsScriptOf (lines text) script }
+{}
+
+/// A text of at most 67,108,864 octets that is a script says one that can be walked: its numbers are in their
+/// ranges, its windows and items in order, and its rings and lag fit. It has at most 256 return windows.
+pub fn valid_law()
+    ensures valid { (text : List ℕ) (script : Script) → length text ≤ longest_input →
+        script_of text ≡ Ok script → IsValid script }
+    ensures few_lost { (text : List ℕ) (script : Script) → script_of text ≡ Ok script →
+        HasFewLosses script }
+{}

@@ -1,7 +1,0 @@
--- The words so far are copied.
-use Rattle.std.proofs.Common.{◌≡◌, map, take}
-use Rattle.std.specs.Prelude.{string_bytes}
-use Rattle.text_words.proofs.reading.words_of.Given as goal
-
-abbrev pub invariant-loop-value : goal.invariant-loop-value
-invariant-loop-value l = map string_bytes l.words.items ≡ map (λ value. value.now) (take l.value-index l.values)

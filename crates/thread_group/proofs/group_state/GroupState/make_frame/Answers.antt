@@ -1,0 +1,95 @@
+-- A frame was made, and pushed.
+use Rattle.std.proofs.Common.{◌∙◌, ℕ, List, ap, sym, refl, subst, arith}
+use Rattle.std.specs.Global.{Box}
+use Rattle.std.proofs.lemmas.List.{length-map}
+use Rattle.member_cells.specs.declared.containers_and_cells.Container.{Container}
+use Rattle.member_cells.specs.declared.containers_and_cells.BackCell.{BackCell}
+use Rattle.member_cells.specs.Held.{held}
+use Rattle.thread_rings.specs.Ends.{OutEnd}
+use Rattle.thread_rings.specs.Ends.{InEnd}
+use Rattle.terminal_source.specs.source_core.Given.{SourceStands as HasMade}
+use Rattle.terminal_group.specs.Landed.{Landed}
+use Rattle.terminal_group.specs.Source.{Source, SameScript}
+use Rattle.terminal_group.proofs.CellLaws.{cell-there}
+use Rattle.terminal_group.proofs.SourceLaws.{early-none}
+use Rattle.thread_group.specs.Journal.{Journal}
+use Rattle.thread_group.specs.Parts.{parts, Keeps}
+use Rattle.thread_group.proofs.KeepLaws.{made-by, keeps-made, pushed-made, own-pushed, same-ends, told-made}
+use Rattle.thread_group.proofs.group_state.GroupState.make_frame.Goals as goal
+
+pub make-taken-requires-clause-places : goal.make-taken-requires-clause-places
+make-taken-requires-clause-places c = c.args.self.now.keeps.places
+
+pub push_frame-requires-clause-places : goal.push_frame-requires-clause-places
+push_frame-requires-clause-places c =
+    let same = c.make-taken.ensures.places in
+    let places = c.args.self.now.keeps.places in
+    let rings = c.args.self.now.keeps.rings in
+    omega arith
+
+pub push_frame-requires-clause-free : goal.push_frame-requires-clause-free
+push_frame-requires-clause-free c = c.requires.free
+
+-- what has landed is as it was
+rested : (was now : Source) (journal : Journal) (tx : List (OutEnd Container)) (back : InEnd BackCell) (size : ℕ) →
+    SameScript was now →
+    Keeps (parts now.core was.total was.landed journal now.inbox tx back) size →
+    Keeps (parts now.core now.total now.landed journal now.inbox tx back) size
+rested was now journal tx back size same keeps =
+    subst (λ n. Keeps (parts now.core n now.landed journal now.inbox tx back) size) (sym same.total)
+    (subst (λ (l : Landed). Keeps (parts now.core was.total l journal now.inbox tx back) size) (sym same.landed) keeps)
+
+pub invariant_of-self : goal.invariant_of-self
+invariant_of-self c =
+    let g = c.args.self.now in
+    let e = c.make-taken.ensures in
+    let (left, none) = early-none g.source c.requires.early in
+    let made = made-by _ _ c.make-taken.new.self.core c.make-taken.new.self.inbox c.push_frame.new.tx.items
+    c.make-taken.result (held c.make-taken.new.frame.items) _ g.keeps refl (cell-there _ _ c.requires.cell)
+    e.cell e.inbox e.made e.frame e.ticks
+    e.kind c.push_frame.ensures.pushed in
+    let kept = keeps-made _ _ _ _ _ _ _ g.keeps made left none in
+    record {
+      keeps = subst (Keeps _) (sym (c.push_frame.ensures.places ∙ e.places))
+          (rested g.source c.make-taken.new.self g.journal c.push_frame.new.tx.items g.back _ e.rest kept);
+    }
+
+pub returns : goal.returns
+returns c =
+    let g = c.args.self.now in
+    let e = c.make-taken.ensures in
+    let k = g.keeps in
+    let made = made-by _ _ c.make-taken.new.self.core c.make-taken.new.self.inbox c.push_frame.new.tx.items
+    c.make-taken.result (held c.make-taken.new.frame.items) _ k refl (cell-there _ _ c.requires.cell)
+    e.cell e.inbox e.made e.frame e.ticks
+    e.kind c.push_frame.ensures.pushed in
+    let places = e.places in
+    let first = k.places in
+    let rings = k.rings in
+    let long = length-map c.make-taken.new.frame.items (λ (b : Box Container). b.value) in
+    record {
+      script = record {
+        lines = e.kind.lines;
+        lag = e.kind.lag;
+        size = e.kind.size;
+        total = e.rest.total;
+        lost =
+            made.lost;
+        items = ap (λ (l : Landed). l.items) e.rest.landed;
+      };
+      landed = record {
+        frames = ap (λ (l : Landed). l.frames) e.rest.landed;
+        commands = ap (λ (l : Landed). l.commands) e.rest.landed;
+        journal = refl;
+        slots = refl;
+        bytes = refl;
+        refusals = ap (λ (l : Landed). l.refusals) e.rest.landed;
+      };
+      ticks = e.ticks;
+      sends = same-ends (held c.make-taken.new.frame.items) _ _ (omega (arith, long)) c.push_frame.ensures.pushed;
+      back = refl;
+      made = λ scenario has. subst (HasMade c.make-taken.new.self.core scenario) (sym (told-made _ _ _ _ _ _ _ k made))
+          (e.made scenario _ has);
+      pushed = λ scenario has m old new was is. pushed-made _ _ _ _ _ _ _ k made scenario has m old new was is;
+      own = λ m old new was is. own-pushed _ _ _ _ _ _ _ k made m old new was is;
+    }

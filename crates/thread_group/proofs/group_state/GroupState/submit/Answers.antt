@@ -1,0 +1,94 @@
+-- Why an item hasn't landed; where it has, all is said of the landing.
+use Rattle.std.proofs.Common.{◌≡◌, ℕ, not, Bool, true, false, eqb, Option, Some, None, refl, sym, ◌∙◌, ap, arith}
+use Rattle.std.specs.Option.{option_eq}
+use Rattle.std.proofs.lemmas.Bool.{eqb-true}
+use Rattle.std.proofs.Common.{eq-eqb}
+use Rattle.thread_group.specs.declared.group_answers.SubmitFault.TheVariants.{NotNext, Early, JournalFull}
+use Rattle.terminal_group.specs.Item.{kind_of}
+use Rattle.terminal_group.specs.Landed.{Landed, next_number, due_at}
+use Rattle.thread_group.proofs.GroupLaws.{submits-none, asked-next, asked-early, asked-full, room-found}
+use Rattle.thread_group.proofs.group_state.GroupState.submit.Goals as goal
+
+not-true : (b : Bool) → true ≡ not b → b ≡ false
+not-true true e = absurd cc
+not-true false e = refl
+
+not-false : (b : Bool) → false ≡ not b → b ≡ true
+not-false true e = refl
+not-false false e = absurd cc
+
+is-some : (x : Option ℕ) (n : ℕ) → option_eq eqb x (Some n) ≡ true → x ≡ Some n
+is-some None n e = absurd cc
+is-some (Some m) n e = ap Some (eqb-true m n e)
+
+is-other : (x : Option ℕ) (n : ℕ) → option_eq eqb x (Some n) ≡ false → x ≡ Some n → ⊥
+is-other None n e same = absurd cc
+is-other (Some m) n e same = let equal : m ≡ n = cc in let yes = eq-eqb m n equal in
+    let f : true ≡ false = sym yes ∙ e in absurd cc
+
+pub returns-then-ne : goal.returns-then-ne
+returns-then-ne c =
+    let g = c.args.self.now in
+    let kind = kind_of c.args.item in
+    let next = c.next-next.ensures ∙ ap (λ (l : Landed). next_number l c.is_frame.result) c.landing.ensures
+    ∙ ap (next_number g.source.landed) c.is_frame.ensures in
+    let other = is-other c.next-next.result c.args.number (not-true _ (sym c.if-ne.true ∙ c.ne.ensures)) in
+    submits-none g c.args.number kind (NotNext c.next-next.result) refl
+    (ap (λ (n : Option ℕ). Some (NotNext n)) next ∙ asked-next g c.args.number kind (λ e. other (next ∙ e)))
+
+pub due-requires : goal.due-requires
+due-requires c =
+    let g = c.args.self.now in
+    ap (λ (l : Landed). next_number l c.is_frame-2.result) c.landing-2.ensures
+    ∙ ap (next_number g.source.landed) c.is_frame-2.ensures
+    ∙ sym (c.next-next.ensures ∙ ap (λ (l : Landed). next_number l c.is_frame.result) c.landing.ensures
+    ∙ ap (next_number g.source.landed) c.is_frame.ensures)
+    ∙ is-some c.next-next.result c.args.number (not-false _ (sym c.if-ne.false ∙ c.ne.ensures))
+
+pub returns-then-now-due : goal.returns-then-now-due
+returns-then-now-due c =
+    let g = c.args.self.now in
+    let kind = kind_of c.args.item in
+    let next = sym (c.next-next.ensures ∙ ap (λ (l : Landed). next_number l c.is_frame.result) c.landing.ensures
+    ∙ ap (next_number g.source.landed) c.is_frame.ensures)
+    ∙ is-some c.next-next.result c.args.number (not-false _ (sym c.if-ne.false ∙ c.ne.ensures)) in
+    let low = c.if-now-due.true in
+    let now = c.ticks-now.ensures in
+    let due = c.due.ensures ∙ ap (λ (l : Landed). due_at l.items c.args.number) c.landing-2.ensures in
+    submits-none g c.args.number kind (Early c.ticks-now.result) refl
+    (ap (λ n. Some (Early n)) now ∙ asked-early g c.args.number kind next (omega arith))
+
+pub returns-then-not-finds_room : goal.returns-then-not-finds_room
+returns-then-not-finds_room c =
+    let g = c.args.self.now in
+    let kind = kind_of c.args.item in
+    let next = sym (c.next-next.ensures ∙ ap (λ (l : Landed). next_number l c.is_frame.result) c.landing.ensures
+    ∙ ap (next_number g.source.landed) c.is_frame.ensures)
+    ∙ is-some c.next-next.result c.args.number (not-false _ (sym c.if-ne.false ∙ c.ne.ensures)) in
+    let low = c.if-now-due.false in
+    let now = c.ticks-now.ensures in
+    let due = c.due.ensures ∙ ap (λ (l : Landed). due_at l.items c.args.number) c.landing-2.ensures in
+    submits-none g c.args.number kind (JournalFull c.slots-entries.result c.bytes-bytes.result) refl
+    (ap (λ n. Some (JournalFull n c.bytes-bytes.result)) c.slots-entries.ensures
+    ∙ ap (λ n. Some (JournalFull g.journal.slots n)) c.bytes-bytes.ensures
+    ∙ asked-full g c.args.number kind next (omega arith) (sym c.finds_room.ensures ∙ c.if-not-finds_room.true))
+
+pub land-requires-clause-next : goal.land-requires-clause-next
+land-requires-clause-next c =
+    let g = c.args.self.now in
+    sym (c.next-next.ensures ∙ ap (λ (l : Landed). next_number l c.is_frame.result) c.landing.ensures
+    ∙ ap (next_number g.source.landed) c.is_frame.ensures)
+    ∙ is-some c.next-next.result c.args.number (not-false _ (sym c.if-ne.false ∙ c.ne.ensures))
+
+pub land-requires-clause-due : goal.land-requires-clause-due
+land-requires-clause-due c =
+    let low = c.if-now-due.false in
+    let now = c.ticks-now.ensures in
+    let due = c.due.ensures ∙ ap (λ (l : Landed). due_at l.items c.args.number) c.landing-2.ensures in
+    omega arith
+
+pub land-requires-clause-room : goal.land-requires-clause-room
+land-requires-clause-room c = room-found _ _ (sym c.finds_room.ensures ∙ c.if-not-finds_room.false)
+
+pub returns : goal.returns
+returns c = c.land.ensures

@@ -1,0 +1,14 @@
+-- A slot of each line so far is free, and the others are as they were.
+use Rattle.std.proofs.Common.{◌≡◌, ℕ, ◌<◌, ◌≤◌, slice_get, Some}
+use Rattle.member_cells.specs.declared.containers_and_cells.Container.{Container}
+use Rattle.thread_rings.specs.Ends.{OutEnd}
+use Rattle.thread_rings.specs.Ends.{out_free}
+use Rattle.thread_group.specs.Rings.{HaveLooked}
+use Rattle.thread_group.proofs.tick_rings.first_full.Given as goal
+
+abbrev pub invariant-loop-m : goal.invariant-loop-m
+invariant-loop-m l = record {
+  looked : HaveLooked l.fn.tx.items l.tx.items;
+  free : (k : ℕ) (out : OutEnd Container) → k < l.m → slice_get l.tx.items k ≡ Some out → 0 < out_free out;
+  rest : (k : ℕ) → l.m ≤ k → slice_get l.tx.items k ≡ slice_get l.fn.tx.items k;
+}

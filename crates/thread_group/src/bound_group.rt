@@ -1,0 +1,96 @@
+//! A group whose type says which session it belongs to.
+
+ghost use Rattle.std.specs.Prelude.{◌≡◌};
+ghost use Rattle.law_model.specs.session.Leg.{leg_of};
+ghost use Rattle.thread_group.specs.Session.{IsBound};
+
+use crate::group_answers::{SubmitFault, TickAnswer};
+use crate::group_state::GroupState;
+use std::marker::{Brand, PhantomData};
+use terminal_group::ItemRef;
+
+/// Which session it is: its script, and the ends of the rings of its group as they were made. Each call of
+/// the function that makes the lock picks them.
+pub trait Session: Send + Sync {
+    ghost use Rattle.std.specs.Prelude.{List};
+    ghost use Rattle.member_cells.specs.declared.containers_and_cells.Container.{Container};
+    ghost use Rattle.member_cells.specs.declared.containers_and_cells.BackCell.{BackCell};
+    ghost use Rattle.law_model.specs.declared.script_types.Script.{Script};
+    ghost use Rattle.thread_rings.specs.Ends.{OutEnd};
+    ghost use Rattle.thread_rings.specs.Ends.{InEnd};
+
+    ghost script: { Script };
+
+    ghost tx: { List (OutEnd Container) };
+
+    ghost back: { List (InEnd BackCell) };
+}
+
+impl Session for Brand {
+    ghost use Rattle.std.specs.Prelude.{[]};
+
+    ghost script = { record {
+      config = record { lines = 0; delays = []; windows = []; lost = []; ring = 0; lag = 0; ticks = 0; size = 0 };
+      items = [];
+      events = [];
+    } };
+
+    ghost tx = { [] };
+
+    ghost back = { [] };
+}
+
+/// The value behind a group's lock: a group that belongs to the session `Y`.
+#[derive(Drop)]
+pub struct BoundGroup<Y: Session> {
+    state: GroupState,
+    of: PhantomData<Y>,
+    ghost bound: { IsBound (leg_of Y.script) Y.tx Y.back state },
+}
+
+impl<Y: Session> BoundGroup<Y> {
+    ghost use Rattle.std.specs.Prelude.{◌≡◌, false};
+    ghost use Rattle.law_model.specs.source.Accepted.{refusal_in};
+    ghost use Rattle.terminal_group.specs.Item.{kind_of};
+    ghost use Rattle.thread_group.specs.Answer.{is_full};
+    ghost use Rattle.thread_group.specs.Calls.{Submits, Ticks};
+    ghost use Rattle.thread_group.specs.Session.{IsItemOf};
+
+    /// Binds a group to its session.
+    pub fn new(state: GroupState) -> BoundGroup<Y>
+        requires { IsBound (leg_of Y.script) Y.tx Y.back state }
+        ensures { result.state ≡ state }
+    {
+        BoundGroup {
+            state,
+            of: PhantomData,
+        }
+    }
+
+    /// Lands an item, which is the one of this number in the session's script, as `GroupState::submit` does.
+    /// The journal has room for it.
+    pub fn submit(&mut self, number: u32, item: ItemRef) -> Result<(), SubmitFault>
+        requires { IsItemOf (leg_of Y.script) number (kind_of item) }
+        ensures submits { Submits self.old.state self.new.state number (kind_of item.entry)
+            (refusal_in result) }
+        ensures room { is_full (refusal_in result) ≡ false }
+    {
+        self.state.submit(number, item)
+    }
+
+    /// Moves return cells, and makes the next frame where it can, as `GroupState::tick` does.
+    pub fn tick(&mut self) -> TickAnswer
+        ensures { Ticks self.old.state self.new.state result }
+    {
+        self.state.tick()
+    }
+
+    /// Gives back the group.
+    pub fn into_state(self) -> GroupState
+        ensures same { result ≡ self.state }
+        ensures bound { IsBound (leg_of Y.script) Y.tx Y.back result }
+    {
+        let BoundGroup { state, of: _ } = self;
+        state
+    }
+}

@@ -1,0 +1,234 @@
+//! A group: its source, the ends of its rings, what has landed, and the journal of what was accepted.
+
+ghost use Rattle.std.specs.Prelude.{◌≡◌, ◌<◌, if◌then◌else◌, Option, None, length};
+ghost use Rattle.std.specs.Prelude.{IsSome, IfOk};
+ghost use Rattle.law_model.specs.session.Leg.{leg_of};
+ghost use Rattle.law_model.specs.session.Scenario.{Scenario};
+ghost use Rattle.terminal_source.specs.source_core.Given.{SourceStands as HasMade};
+ghost use Rattle.terminal_group.specs.Item.{kind_of};
+ghost use Rattle.terminal_group.specs.Source.{early_in, missing_in};
+ghost use Rattle.thread_group.specs.Parts.{parts, Keeps};
+
+use crate::group_answers::{SubmitFault, TickAnswer, refused, stopped};
+use crate::item_journal::Journal;
+use crate::open_group::{Opened, open};
+use crate::tick_rings::{first_full, push_frame, take_cells};
+use member_cells::{BackCell, Container, HeldContainer};
+use law_model::{Refusal, Script, Totals};
+use std::alloc::{AllocError, Global};
+use terminal_group::{GroupSource, ItemRef};
+use thread_rings::{RingIn, RingOut};
+
+/// A group. It takes the client's frames and the operator's commands in the order of its script, each kind by
+/// itself, and makes a frame at each tick; what is due at a tick lands before it. Only its making takes
+/// memory.
+#[derive(Drop)]
+pub struct GroupState {
+    source: GroupSource,
+    journal: Journal,
+    /// Boxes for the containers of a frame.
+    frame: Vec<Box<HeldContainer>>,
+    /// Where it pushes the containers of each line.
+    pub tx: Vec<RingOut<Container>>,
+    /// Where it pops return cells.
+    pub back: RingIn<BackCell>,
+    ghost keeps: { Keeps
+        (parts source.core source.total source.landed journal source.inbox tx.items back)
+        (length frame.items) },
+}
+
+impl GroupState {
+    ghost use Rattle.std.specs.Prelude.{◌≡◌, ◌≢◌, ◌<◌, ◌≤◌, ◌||◌, true, [], length, Some, None, IsSome, IfOk};
+    ghost use Rattle.std.specs.Prelude.{MatchOption};
+    ghost use Rattle.std.specs.Option.{is_some};
+    ghost use Rattle.law_model.specs.session.Valid.{IsValid};
+    ghost use Rattle.law_model.specs.source.Accepted.{refusal_in};
+    ghost use Rattle.thread_rings.specs.Ends.{in_passed};
+    ghost use Rattle.terminal_source.specs.source_core.Given.{IsFresh};
+    ghost use Rattle.thread_group.specs.Journal.{fits};
+    ghost use Rattle.terminal_group.specs.Landed.{due_at};
+    ghost use Rattle.thread_group.specs.Rings.{AreUnused, AreFree, IsFirstFull};
+    ghost use Rattle.thread_group.specs.Group.{parts_of, side_of, lines_of, lag_of, size_of, IsOf, ticks_of, total_of};
+    ghost use Rattle.thread_group.specs.Group.{items_of, frames_of, commands_of, journal_of, slots_of, bytes_of};
+    ghost use Rattle.thread_group.specs.Group.{refusals_of, inbox_of, source_of, totals_of, next_of, refusal_of, held_of};
+    ghost use Rattle.thread_group.specs.Opened.{IsOpened, IsBegun};
+    ghost use Rattle.thread_group.specs.Calls.{Submits, Ticks, Comes, Looks, Makes};
+
+    /// A group of a script, over a fresh send ring for each line and a fresh return ring, with room for so
+    /// many entries of the journal and so many octets of frames.
+    pub fn new(
+        alloc: Global,
+        script: &Script,
+        entries: u32,
+        bytes: u64,
+        tx: Vec<RingOut<Container>>,
+        back: RingIn<BackCell>,
+    ) -> Result<GroupState, AllocError>
+        requires script { IsValid script.now }
+        requires rings { length tx.items ≡ script.now.config.lines }
+        requires sends { AreUnused tx.items }
+        requires returns { in_passed back ≡ [] }
+        ensures script { IfOk result (λ g. IsOf (leg_of script.now) g) }
+        ensures ticks { IfOk result (λ g. ticks_of g ≡ 0) }
+        ensures landed { IfOk result (λ g. (frames_of g ≡ 0) × (commands_of g ≡ 0)) }
+        ensures journal { IfOk result (λ g. journal_of g ≡ []) }
+        ensures room { IfOk result (λ g. (slots_of g ≡ entries) × (bytes_of g ≡ bytes)) }
+        ensures refusals { IfOk result (λ g. refusals_of g ≡ []) }
+        ensures inbox { IfOk result (λ g. inbox_of g ≡ []) }
+        ensures ends { IfOk result (λ g. (g.tx ≡ tx) × (g.back ≡ back)) }
+        ensures made { IfOk result (λ g. (scenario : Scenario) →
+            IsFresh scenario (lines_of g) (lag_of g) (size_of g) →
+            HasMade (source_of g) scenario []) }
+    {
+        let opened = open(alloc, script, entries, bytes)?;
+        Ok(GroupState::from_opened(script, opened, tx, back))
+    }
+
+    /// What came of it so far, in numbers. Rows and delivered frames are counted elsewhere.
+    pub fn totals(&self) -> Totals
+        ensures { result ≡ totals_of self.now }
+    {
+        Totals {
+            ticks: self.source.ticks(),
+            taken: 0,
+            frames: self.journal.frames(),
+            commands: self.journal.commands(),
+            refused: self.source.landing().all_refused(),
+            got: 0,
+        }
+    }
+
+    /// The items that were refused, in the order of the script.
+    pub fn refusals(&self) -> &[(u32, Refusal)]
+        ensures { result.now ≡ refusals_of self.now }
+    {
+        self.source.landing().refusals()
+    }
+
+    /// Lands an item, of this number in the script. Of each kind, the client's frames and the operator's
+    /// commands, the next one lands, once it is due. One that the source refuses has landed, and its refusal
+    /// is kept; the journal needs room only for one that the source takes. Each other fault changes nothing.
+    pub fn submit(&mut self, number: u32, item: ItemRef) -> Result<(), SubmitFault>
+        ensures { Submits self.old self.new number (kind_of item.entry) (refusal_in result) }
+    {
+        let next = self.source.landing().next(item.is_frame());
+        if next != Some(number) {
+            return Err(SubmitFault::NotNext { next });
+        }
+        let now = self.source.ticks();
+        if now < self.source.landing().due(item.is_frame(), number) {
+            return Err(SubmitFault::Early { now });
+        }
+        if !self.finds_room(item) {
+            let entries = self.journal.slots();
+            let bytes = self.journal.bytes();
+            return Err(SubmitFault::JournalFull { entries, bytes });
+        }
+        self.land(number, item)
+    }
+
+    /// Moves return cells into the inbox, until a look finds none or the inbox is full. Then it makes the
+    /// next frame, a container for each line, where ticks are left, no item that is due waits, each send ring
+    /// has a slot, and the return cell is there that the tick needs, if it needs one. The first of these that
+    /// fails is told, and then nothing is made.
+    pub fn tick(&mut self) -> TickAnswer
+        ensures { Ticks self.old self.new result }
+    {
+        self.come();
+        if let Some(cause) = self.source.early_cause() {
+            return stopped(cause);
+        }
+        if let Some(line) = self.look() {
+            return TickAnswer::TxFull { line };
+        }
+        if let Some(packet) = self.source.missing() {
+            return TickAnswer::BackMissing { packet };
+        }
+        self.make_frame();
+        TickAnswer::Ticked
+    }
+
+    /// A group over what was opened of a script, and over fresh rings.
+    fn from_opened(
+        script: &Script,
+        opened: Opened,
+        tx: Vec<RingOut<Container>>,
+        back: RingIn<BackCell>,
+    ) -> GroupState
+        requires script { IsValid script.now }
+        requires rings { length tx.items ≡ script.now.config.lines }
+        requires sends { AreUnused tx.items }
+        requires returns { in_passed back ≡ [] }
+        requires opened { IsOpened (leg_of script.now) opened }
+        ensures begun { IsBegun (leg_of script.now) result }
+        ensures room { (slots_of result ≡ opened.journal.slots)
+            × (bytes_of result ≡ opened.journal.bytes) }
+        ensures ends { (result.tx ≡ tx) × (result.back ≡ back) }
+    {
+        let Opened {
+            source,
+            journal,
+            frame,
+        } = opened;
+        GroupState {
+            source,
+            journal,
+            frame,
+            tx,
+            back,
+        }
+    }
+
+    /// Whether the journal has room for an item that is due. It needs none for one that the source refuses.
+    fn finds_room(&self, item: ItemRef) -> bool
+        ensures { result ≡ (is_some (refusal_of self.now (kind_of item.entry))
+            || fits (parts_of self.now).journal (kind_of item.entry)) }
+    {
+        self.source.refusal(item).is_some() || self.journal.has_room(item)
+    }
+
+    /// Lands an item that is the next of its kind and is due. The journal has room for it, where the source takes it.
+    fn land(&mut self, number: u32, item: ItemRef) -> Result<(), SubmitFault>
+        requires next { next_of self.old (kind_of item) ≡ Some number }
+        requires due { due_at (items_of self.old) number ≤ ticks_of self.old }
+        requires room { refusal_of self.old (kind_of item) ≡ None →
+            fits (parts_of self.old).journal (kind_of item) ≡ true }
+        ensures { Submits self.old self.new number (kind_of item.entry) (refusal_in result) }
+    {
+        match self.source.land(number, item) {
+            Some(why) => Err(refused(why)),
+            None => {
+                self.journal.push(number, self.source.ticks(), item);
+                Ok(())
+            }
+        }
+    }
+
+    /// Moves return cells into the inbox.
+    fn come(&mut self)
+        ensures { Comes self.old self.new }
+    {
+        take_cells(&mut self.source, &mut self.back);
+    }
+
+    /// Looks for a slot in each send ring, up to the first that has none.
+    fn look(&mut self) -> Option<u8>
+        ensures looks { Looks self.old self.new }
+        ensures full { MatchOption result (AreFree self.new.tx.items)
+            (λ line. IsFirstFull self.old.tx.items self.new.tx.items line) }
+        ensures side { side_of self.new ≡ side_of self.old }
+    {
+        first_full(&mut self.tx)
+    }
+
+    /// Makes the next frame, for which the send rings have slots and the return cell is there that it needs.
+    fn make_frame(&mut self)
+        requires early { early_in (side_of self.old) ≡ None }
+        requires cell { missing_in (side_of self.old) ≡ None }
+        requires free { AreFree self.old.tx.items }
+        ensures { Makes self.old self.new }
+    {
+        let _taken = self.source.make(&mut self.frame);
+        push_frame(&mut self.tx, &mut self.frame);
+    }
+}

@@ -1,9 +1,0 @@
--- Lines that have come to their end.
-use Rattle.thread_session.proofs.SessionPartsLaws.SessionLaws.{line-ended, all-come}
-use Rattle.thread_session.proofs.session_parts.laws.gathered_law.Goals as goal
-
-pub returns-clause-lines : goal.returns-clause-lines
-returns-clause-lines c = line-ended
-
-pub returns-clause-come : goal.returns-clause-come
-returns-clause-come c = all-come

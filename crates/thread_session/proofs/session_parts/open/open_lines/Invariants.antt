@@ -1,6 +1,0 @@
--- The first lines are opened.
-use Rattle.thread_session.specs.session_parts.Opened.{AreOpened}
-use Rattle.thread_session.proofs.session_parts.open.open_lines.Given as goal
-
-abbrev pub invariant-loop-line : goal.invariant-loop-line
-invariant-loop-line l = AreOpened l.config l.line l.tx.items l.workers.items l.rx.items

@@ -1,0 +1,23 @@
+-- What the group answers to the item is what it answers to its kind.
+use Rattle.std.proofs.Common.{sym, ◌∙◌, subst}
+use Rattle.law_model.specs.session.Leg.{leg_of}
+use Rattle.law_model.specs.source.Accepted.{refusal_in}
+use Rattle.thread_group.specs.Calls.{Submits}
+use Rattle.thread_group.specs.Group.{HasCounted}
+use Rattle.thread_session.proofs.SessionRunLaws.LandLaws.{has-landed}
+use Rattle.thread_session.proofs.session_run.group_turns.hand_in.Goals as goal
+
+pub returns : goal.returns
+returns g c =
+    let old = c.args.group.now in
+    let new = c.submit.new.self in
+    let kind = c.args.kind.now in
+    let answer = refusal_in c.submit.result in
+    let call : Submits old.state new.state c.args.number kind answer =
+    subst (λ k. Submits old.state new.state c.args.number k answer) c.as_handed.ensures c.submit.ensures.submits in
+    record {
+      counted = subst (HasCounted old.state new.state kind) (sym c.has_landed.ensures) call.landed;
+      landed = λ yes.
+          has-landed (leg_of g.Y.Session.script) g.Y.Session.tx g.Y.Session.back old.state new.state c.args.number kind
+          answer old.bound call (sym c.has_landed.ensures ∙ yes);
+    }

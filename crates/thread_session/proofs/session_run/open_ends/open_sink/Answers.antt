@@ -1,0 +1,8 @@
+-- The worker is the script's.
+use Rattle.thread_session.proofs.SessionRunLaws.BeginLaws.{sink-opened}
+use Rattle.thread_session.proofs.session_run.open_ends.open_sink.Goals as goal
+
+pub returns-clause-sink : goal.returns-clause-sink
+returns-clause-sink c =
+    let e = c.new.ensures in
+    sink-opened c.args.script.now c.requires.script c.new.result e.lines e.size e.ticks e.taken e.failed e.stands

@@ -1,0 +1,151 @@
+//! The opening of a session: all of its memory is taken here.
+ghost use Rattle.std.specs.Prelude.{◌≡◌, ◌<◌, ◌≤◌, IfOk, All, [], ◌∷◌, length, replicate, vec_len};
+ghost use Rattle.law_model.specs.session.Scenario.{offers_of};
+ghost use Rattle.law_model.specs.declared.script_types.Item.{Item};
+ghost use Rattle.law_model.specs.session.Leg.{leg_of};
+ghost use Rattle.law_model.specs.session.Valid.{IsValid, IsKind};
+ghost use Rattle.thread_rings.specs.Ends.{AreEnds, out_passed, in_passed};
+ghost use Rattle.thread_sink.specs.Received.{received};
+ghost use Rattle.thread_group.specs.Rings.{AreUnused};
+ghost use Rattle.thread_group.specs.Session.{octets_in, IsBound};
+ghost use Rattle.thread_session.specs.session_run.Room.{HasRoomFor, HasPlacesFor};
+ghost use Rattle.thread_session.specs.session_run.Session.{IsOpen, IsSinkOf};
+ghost use Rattle.law_model.specs.Limits.{longest_input};
+
+use crate::session_parts::open_lines;
+use crate::session_run::room_and_flags::{Flags, Places, Room};
+use member_cells::{BackCell, Cell, Container};
+use law_model::{Item, ItemKind, Script};
+use std::alloc::{AllocError, Global};
+use thread_group::GroupState;
+use thread_rings::{LineWorker, RingIn, RingOut, back_ring};
+use thread_sink::SinkWorker;
+
+/// A session before anything has moved.
+#[derive(Drop)]
+pub(super) struct Opened {
+    pub(super) group: GroupState,
+    pub(super) lines: Vec<LineWorker>,
+    pub(super) sink: SinkWorker,
+    pub(super) flags: Flags,
+    pub(super) room: Room,
+    pub(super) places: Places,
+}
+
+/// The octets of an item's frame.
+fn octets(item: &Item) -> u64
+    ensures { result ≡ octets_in (offers_of (item.now ∷ [])) }
+{
+    match &item.kind {
+        ItemKind::Frame(octets) => octets.0.len() as u64,
+        ItemKind::Add(_) | ItemKind::Remove(_) => 0,
+    }
+}
+
+/// The octets of all frames of a script.
+fn all_octets(items: &[Item]) -> u64
+    requires few { length items.now ≤ longest_input }
+    requires each { All (λ (item : Item). IsKind item.kind) items.now }
+    ensures { result ≡ octets_in (offers_of items.now) }
+{
+    items.iter().map(octets).sum()
+}
+
+/// The items of a script.
+pub(super) fn items_of(script: &Script) -> &[Item]
+    ensures { result.now ≡ script.now.items }
+{
+    &script.items.0
+}
+
+/// A group of a script over fresh rings, with room in its journal for all items.
+fn open_group(
+    alloc: Global,
+    script: &Script,
+    tx: Vec<RingOut<Container>>,
+    back: RingIn<BackCell>,
+) -> Result<GroupState, AllocError>
+    requires script { IsValid script.now }
+    requires rings { length tx.items ≡ script.now.config.lines }
+    requires sends { AreUnused tx.items }
+    requires returns { in_passed back ≡ [] }
+    ensures bound { IfOk result (λ g. IsBound (leg_of script.now) g.tx.items (g.back ∷ []) g) }
+    ensures ends { IfOk result (λ g. (g.tx ≡ tx) × (g.back ≡ back)) }
+{
+    let items = items_of(script);
+    GroupState::new(
+        alloc,
+        script,
+        items.len() as u32,
+        all_octets(items),
+        tx,
+        back,
+    )
+}
+
+/// The worker of the sink of a script over fresh rings.
+fn open_sink(
+    alloc: Global,
+    script: &Script,
+    rx: Vec<RingIn<Cell>>,
+    back: RingOut<BackCell>,
+) -> Result<SinkWorker, AllocError>
+    requires script { IsValid script.now }
+    requires rings { length rx.items ≡ script.now.config.lines }
+    requires fresh { received rx.items ≡ replicate script.now.config.lines [] }
+    requires back { out_passed back ≡ [] }
+    ensures sink { IfOk result (λ sink. IsSinkOf script.now sink) }
+    ensures ends { IfOk result (λ sink. (sink.rx ≡ rx) × (sink.back ≡ back)) }
+{
+    let config = &script.config;
+    SinkWorker::new(alloc, config.lines, config.ticks, config.size, rx, back)
+}
+
+/// The group and the worker of the sink of a script, over fresh rings, with the return ring between them.
+fn open_ends(
+    alloc: Global,
+    script: &Script,
+    tx: Vec<RingOut<Container>>,
+    rx: Vec<RingIn<Cell>>,
+) -> Result<(GroupState, SinkWorker), AllocError>
+    requires script { IsValid script.now }
+    requires sends { length tx.items ≡ script.now.config.lines }
+    requires unused { AreUnused tx.items }
+    requires receives { length rx.items ≡ script.now.config.lines }
+    requires fresh { received rx.items ≡ replicate script.now.config.lines [] }
+    ensures bound { IfOk result
+        (λ e. IsBound (leg_of script.now) e.0.tx.items (e.0.back ∷ []) e.0) }
+    ensures sink { IfOk result (λ e. IsSinkOf script.now e.1) }
+    ensures returns { IfOk result (λ e. AreEnds e.1.back e.0.back) }
+    ensures ends { IfOk result (λ e. (e.0.tx ≡ tx) × (e.1.rx ≡ rx)) }
+{
+    let (back, back_in) = back_ring(alloc)?;
+    let group = open_group(alloc, script, tx, back_in)?;
+    let sink = open_sink(alloc, script, rx, back)?;
+    Ok((group, sink))
+}
+
+/// Opens a session of a script for this number of line threads. What has the most parts is opened last, so
+/// that little is let go where memory is short.
+pub(super) fn open(alloc: Global, script: &Script, workers: u8) -> Result<Opened, AllocError>
+    requires script { IsValid script.now }
+    requires some { 0 < workers }
+    ensures open { IfOk result (λ o. IsOpen script.now o.group o.lines.items o.sink) }
+    ensures room { IfOk result (λ o.
+        HasRoomFor (vec_len o.lines) (vec_len o.flags.lines) o.room) }
+    ensures places { IfOk result (λ o. HasPlacesFor (vec_len o.lines) o.places) }
+{
+    let flags = Flags::new(alloc, workers)?;
+    let room = Room::new(alloc, script.config.lines, workers)?;
+    let places = Places::new(alloc, script.config.lines)?;
+    let lines = open_lines(alloc, &script.config)?;
+    let (group, sink) = open_ends(alloc, script, lines.tx, lines.rx)?;
+    Ok(Opened {
+        group,
+        lines: lines.workers,
+        sink,
+        flags,
+        room,
+        places,
+    })
+}

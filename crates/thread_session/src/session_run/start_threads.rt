@@ -1,0 +1,225 @@
+//! All threads of a session beside each other.
+ghost use Rattle.std.specs.Prelude.{◌≡◌, ◌≤◌, List, [], length, vec_len, IfSome, IsTrue};
+ghost use Rattle.std.specs.Global.{Vec};
+ghost use Rattle.std.specs.Vec.{vec_capacity};
+ghost use Rattle.thread_alarms.specs.declared.watched_line.served_line.ServedLine.{ServedLine};
+ghost use Rattle.thread_session.specs.session_parts.Duty.{Begun};
+ghost use Rattle.thread_session.specs.declared.session_parts.stop_flag.Flag.{Flag as OwnFlag};
+ghost use Rattle.thread_session.specs.session_parts.Flags.{flag_of, heeded, comes_by};
+ghost use Rattle.thread_session.specs.session_parts.Held.{AreHeldOf, AreToldBy};
+ghost use Rattle.thread_session.specs.session_parts.ServedLines.{SharesLater, AreNumbered};
+ghost use Rattle.thread_alarms.specs.watched_line.Served.{AreServedLater};
+ghost use Rattle.thread_session.specs.session_run.Room.{HasRoomFor};
+
+use crate::session_parts::{
+    Bell, Comes, Duty, Flag, Held, Turned, collect, deal, serve_all_here, start_shares,
+    take_all_back,
+};
+use crate::session_run::room_and_flags::{Flags, Room};
+use crate::session_run::group_turns::{land_all, tick_all};
+use law_model::Item;
+use std::sync::{Mutex, OnceToken, Wait};
+use std::thread;
+use std::thread::{PromisedHandle, Scope, Threads};
+use thread_alarms::watched_line::ServedLine;
+use thread_group::{BoundGroup, Session};
+use thread_rings::{Gate, Who};
+
+/// A thread that comes back with evidence that its flag was stored.
+type Child<'s> = PromisedHandle<OnceToken<'s, ()>, Comes>;
+
+/// Starts a thread that lands the items that this one brings; none where it can't be started.
+fn start_landing<'s, 'e, Y: Session, R: Wait + Sync, G: Gate>(
+    scope: &'s Scope<'s, &'e ()>,
+    rt: &'s R,
+    gate: &'s G,
+    lock: &'s Mutex<BoundGroup<Y>>,
+    flag: &'s Flag,
+    source: &'s Bell,
+    who: Who,
+    items: &'s [Item],
+) -> Option<Child<'s>>
+    requires { items.now ≡ Y.script.items }
+    ensures { IfSome result (λ child. comes_by child.promise ≡ flag_of flag.now) }
+{
+    let stop = flag.heed();
+    let work = move || -> OnceToken<'_, ()>
+        requires { items.now ≡ Y.script.items }
+        ensures { result.of ≡ heeded stop.entry }
+    { land_all::<Y, R, G>(rt, gate, lock, stop, source, who, items) };
+    scope.spawn_with(Comes::by(flag), work).ok()
+}
+
+/// Starts the thread of the source; none where it can't be started.
+fn start_source<'s, 'e, Y: Session, R: Wait + Sync, G: Gate>(
+    scope: &'s Scope<'s, &'e ()>,
+    rt: &'s R,
+    gate: &'s G,
+    lock: &'s Mutex<BoundGroup<Y>>,
+    flags: &'s Flags,
+    items: &'s [Item],
+) -> Option<Child<'s>>
+    ensures { IfSome result (λ child. comes_by child.promise ≡ flag_of flags.now.source) }
+{
+    let stop = flags.source.heed();
+    let work = move || -> OnceToken<'_, ()>
+        ensures { result.of ≡ heeded stop.entry }
+    { tick_all::<Y, R, G>(rt, gate, lock, stop, flags, items) };
+    scope.spawn_with(Comes::by(&flags.source), work).ok()
+}
+
+/// Waits until a thread has ended, where it was started, with the evidence that its flag is stored.
+fn join_started<'s, R: Threads>(rt: &R, child: Option<Child<'s>>, stored: &OnceToken<'s, ()>)
+    requires { IfSome child (λ child. comes_by child.promise ≡ stored.now.of) }
+{
+    if let Some(child) = child {
+        child.join(rt).agrees(stored);
+    }
+}
+
+/// Does a duty until nothing is left of it, and before each turn what has no thread. Not at all where this
+/// isn't wanted. A turn that finds nothing to do comes after all that has no thread has gone on, and so then
+/// others are waited for.
+fn attend<R: Wait, G: Gate, D: Duty>(
+    rt: &R,
+    gate: &G,
+    flags: &Flags,
+    wanted: bool,
+    duty: D,
+    held: Vec<Held>,
+) -> (D, Vec<Held>)
+    ensures duty { (begun : Begun) → D.stands_for duty begun → D.stands_for result.0 begun }
+    ensures over { IsTrue wanted → D.is_over result.0 }
+    ensures told { (flags : List OwnFlag) → AreToldBy flags held.items →
+        AreToldBy flags result.1.items }
+    ensures held { (shares : List (Vec ServedLine)) → AreHeldOf shares held.items →
+        AreHeldOf shares result.1.items }
+{
+    let mut duty = duty;
+    let mut held = held;
+    if !wanted {
+        return (duty, held);
+    }
+    for _ in rt.forever() {
+        flags.sink.note();
+        serve_all_here(rt, &mut held, gate);
+        gate.pass(Who::Sink);
+        match duty.turn() {
+            Turned::Over => return (duty, held),
+            Turned::Moved => {
+                gate.moved(Who::Sink);
+                flags.ring_around_sink();
+            }
+            Turned::Waits => flags.sink.wait(rt),
+        }
+    }
+    unreachable!()
+}
+
+/// Runs the client, the operator, the source and the shares of the lines on threads, and the duty here. Where
+/// one of the first three can't be started, the others are stopped at once.
+fn shares_beside<'x, Y: Session, R: Threads + Wait + Sync, G: Gate, D: Duty>(
+    rt: &'x R,
+    gate: &'x G,
+    lock: &'x Mutex<BoundGroup<Y>>,
+    flags: &'x Flags,
+    items: &'x [Item],
+    shares: Vec<Vec<ServedLine>>,
+    held_room: Vec<Held>,
+    back_room: Vec<Vec<ServedLine>>,
+    duty: D,
+) -> (Vec<Vec<ServedLine>>, D)
+    requires items { items.now ≡ Y.script.items }
+    requires flags { vec_len shares ≤ vec_len flags.now.lines }
+    requires held { (held_room.items ≡ []) × (vec_len shares ≤ vec_capacity held_room) }
+    requires back { (back_room.items ≡ []) × (vec_len shares ≤ vec_capacity back_room) }
+    ensures shares { SharesLater shares.items result.0.items }
+    ensures duty { (begun : Begun) → D.stands_for duty begun → D.stands_for result.1 begun }
+{
+    let lines = flags.lines.as_slice();
+    thread::scope(
+        thread::scope_env(),
+        rt,
+        |scope| -> (Vec<Vec<ServedLine>>, D)
+            requires items { items.now ≡ Y.script.items }
+            requires flags { vec_len shares ≤ length lines.now }
+            requires held { (held_room.items ≡ []) × (vec_len shares ≤ vec_capacity held_room) }
+            requires back { (back_room.items ≡ []) × (vec_len shares ≤ vec_capacity back_room) }
+            ensures shares { SharesLater shares.items result.0.items }
+            ensures duty { (begun : Begun) → D.stands_for duty begun →
+                D.stands_for result.1 begun }
+        {
+            let client = start_landing::<Y, R, G>(
+                scope,
+                rt,
+                gate,
+                lock,
+                &flags.client,
+                &flags.source.bell,
+                Who::Client,
+                items,
+            );
+            let operator = start_landing::<Y, R, G>(
+                scope,
+                rt,
+                gate,
+                lock,
+                &flags.operator,
+                &flags.source.bell,
+                Who::Operator,
+                items,
+            );
+            let source = start_source::<Y, R, G>(scope, rt, gate, lock, flags, items);
+            let held = start_shares(
+                scope,
+                rt,
+                gate,
+                lines,
+                &flags.source.bell,
+                &flags.sink,
+                shares,
+                held_room,
+            );
+            let started = client.is_some() && operator.is_some() && source.is_some();
+            let (duty, held) = attend(rt, gate, flags, started, duty, held);
+            flags.store_all(rt);
+            let back = take_all_back(rt, lines, held, back_room);
+            join_started(rt, client, &flags.client.store(rt));
+            join_started(rt, operator, &flags.operator.store(rt));
+            join_started(rt, source, &flags.source.store(rt));
+            (back, duty)
+        },
+    )
+}
+
+/// Runs the client, the operator, the source and all lines on threads, and the duty here, as long as there is
+/// something left of it.
+pub(super) fn lines_beside<Y: Session, R: Threads + Wait + Sync, G: Gate, D: Duty>(
+    rt: &R,
+    gate: &G,
+    lock: &Mutex<BoundGroup<Y>>,
+    flags: &Flags,
+    items: &[Item],
+    lines: Vec<ServedLine>,
+    room: Room,
+    duty: D,
+) -> (Vec<ServedLine>, D)
+    requires items { items.now ≡ Y.script.items }
+    requires numbers { AreNumbered 0 lines.items }
+    requires room { HasRoomFor (vec_len lines) (vec_len flags.now.lines) room }
+    ensures lines { AreServedLater lines.items result.0.items }
+    ensures duty { (begun : Begun) → D.stands_for duty begun → D.stands_for result.1 begun }
+{
+    let Room {
+        shares,
+        held,
+        back,
+        lines: place,
+    } = room;
+    let count = lines.len();
+    let shares = deal(lines, shares);
+    let (shares, duty) = shares_beside::<Y, R, G, D>(
+        rt, gate, lock, flags, items, shares, held, back, duty,
+    );
+    (collect(shares, count, place), duty)
+}

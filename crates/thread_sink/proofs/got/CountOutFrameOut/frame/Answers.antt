@@ -1,8 +1,0 @@
--- One frame more is counted.
-use Rattle.thread_sink.proofs.ToldLaws.{count-more}
-use Rattle.thread_sink.proofs.got.CountOutFrameOut.frame.Goals as goal
-
-pub returns : goal.returns
-returns c start frames stands =
-    count-more frames c.args._frame.now c.args.self.now.count c.saturating_add-self.result stands
-    c.saturating_add-self.ensures

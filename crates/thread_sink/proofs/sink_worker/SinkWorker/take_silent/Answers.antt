@@ -1,0 +1,26 @@
+-- The frames are counted.
+use Rattle.std.proofs.Common.{[], refl}
+use Rattle.terminal_sink.specs.sink_core.Given.{given_frames, added_frames}
+use Rattle.thread_sink.specs.Received.{received}
+use Rattle.thread_sink.specs.Parts.{parts}
+use Rattle.thread_sink.specs.Worker.{parts_of}
+use Rattle.thread_sink.proofs.ToldLaws.{counts-then}
+use Rattle.thread_sink.proofs.PartsLaws.{given-then}
+use Rattle.thread_sink.proofs.sink_worker.SinkWorker.take_silent.Goals as goal
+
+pub returns-clause-stands : goal.returns-clause-stands
+returns-clause-stands c stands =
+    let old = c.args.self.now in
+    let was = parts_of old in
+    let now = parts c.take_rows-first.new.rows c.take_rows-first.new.core c.take_rows-first.new.rx.items
+    c.take_rows-first.new.back in
+    let counted = c.take_rows-first.ensures.gives stands.keeps (record { octets = []; faults = 0; name = 0 }) [] refl in
+    record {
+      keeps = c.take_rows-first.ensures.keeps stands.keeps;
+      counted = counts-then (given_frames was.core.size (received was.rx) was.core.taken)
+          (added_frames now.core.size (received now.rx) was.core.taken now.core.taken)
+          (given_frames now.core.size (received now.rx) now.core.taken) old.got c.take_rows-first.new.out.count
+          c.saturating_add-self.result
+          (given-then was now stands.keeps c.take_rows-first.ensures.later) stands.counted counted
+          c.saturating_add-self.ensures;
+    }

@@ -1,6 +1,0 @@
--- The lines so far are those that were opened.
-use Rattle.walk_engine.specs.walk_core.Opened.{AreOpened}
-use Rattle.walk_engine.proofs.walk_core.opening.new_lines.Given as goal
-
-abbrev pub invariant-loop-m : goal.invariant-loop-m
-invariant-loop-m l = AreOpened l.config l.m l.lines.items

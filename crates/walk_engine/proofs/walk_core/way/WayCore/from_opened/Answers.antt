@@ -1,9 +1,0 @@
--- Nothing has landed, was sent, or was taken.
-use Rattle.walk_engine.proofs.WalkCoreLaws.OpenLaws.{new-counts, new-stands}
-use Rattle.walk_engine.proofs.walk_core.way.WayCore.from_opened.Goals as goal
-
-pub returns-clause-stands : goal.returns-clause-stands
-returns-clause-stands c leg other new alike = new-stands leg other c.args.opened new alike
-
-pub returns-clause-counts : goal.returns-clause-counts
-returns-clause-counts c leg other new alike = new-counts leg other c.args.opened new alike

@@ -1,0 +1,354 @@
+//! One direction of a group without its way back, call by call.
+
+ghost use Rattle.std.specs.Prelude.{◌≡◌, ℕ, ◌+◌, ◌<◌, List, length, map, slice_get, Option, Some, None, IfOk};
+ghost use Rattle.std.specs.Prelude.{option_map};
+ghost use Rattle.std.specs.Option.{option_copied, is_some};
+ghost use Rattle.member_cells.specs.declared.containers_and_cells.Container.{Container};
+ghost use Rattle.law_model.specs.declared.walk_events.Event.TheVariants.{Tick, Carry};
+ghost use Rattle.law_model.specs.session.Counts.{begin, full, step};
+ghost use Rattle.law_model.specs.session.Leg.{Leg, leg_of};
+ghost use Rattle.law_model.specs.rows.Rows.{governing};
+ghost use Rattle.law_model.specs.session.Scenario.{Scenario, steps_in};
+ghost use Rattle.law_model.specs.frames.Segment.{segments_of};
+ghost use Rattle.law_model.specs.source.Table.{Told};
+ghost use Rattle.law_model.specs.session.Valid.{IsValid};
+ghost use Rattle.terminal_source.specs.source_core.Given.{SourceStands as HasMade};
+ghost use Rattle.terminal_source.specs.source_core.Terminal.{needed, SameKind};
+ghost use Rattle.member_path.specs.cell_numbers.Told.{cell_of};
+ghost use Rattle.terminal_sink.specs.marked_delineator.Marks.{first_place};
+ghost use Rattle.law_walk.specs.Delivered.{session_rows};
+ghost use Rattle.law_walk.specs.Landed.{is_client, totals_of};
+ghost use Rattle.law_walk.specs.Walk.{walk_plan, popped_cells};
+ghost use Rattle.terminal_group.specs.Inbox.{empty_inbox, with_come, cell_for, rest_for};
+ghost use Rattle.terminal_group.specs.Item.{kind_of};
+ghost use Rattle.terminal_group.specs.Landed.{next_number};
+ghost use Rattle.terminal_group.specs.Source.{early_in, missing_in};
+ghost use Rattle.walk_engine.specs.walk_core.Landing.{landing_of};
+ghost use Rattle.walk_engine.specs.walk_core.Moved.{answer_by, GivesRows};
+ghost use Rattle.walk_engine.specs.declared.walk_core.step_answers.Moved.TheVariants.{Yes};
+ghost use Rattle.walk_engine.specs.walk_core.Opened.{IsNew, IsAlike};
+ghost use Rattle.walk_engine.specs.walk_core.Parts.{counts_of, line_counts, WayStands, StandsForSome};
+ghost use Rattle.walk_engine.specs.walk_core.Take.{take_cause};
+ghost use Rattle.walk_engine.specs.walk_core.Waiting.{send_ring, receive_ring};
+ghost use Rattle.walk_engine.specs.walk_core.Way.{Makes, IsDue, early_by, with_passed, CanTick, Takes};
+
+use crate::walk_core::open_way::{Ends, Opened, Paths, SENDS, open};
+use crate::walk_core::send_rings::{carry_on, carry_stall, first_full, frame_at, next_place};
+use crate::walk_core::take_rows::{pop_lines, take_counted_row};
+use crate::walk_parts::WalkLine;
+use member_cells::{BackCell, Container, HeldContainer};
+use law_model::{FrameOut, Refusal, Script, StallCause, Totals};
+use member_path::cell_numbers::CellRef;
+use member_rows::lcas_packet::Packet;
+use member_rows::realign_rows::RowGather;
+use std::alloc::{AllocError, Global};
+use std::marker::Model;
+use terminal_group::{EarlyCause, GroupSource, ItemRef, Landing};
+use terminal_sink::sink_core::{SinkCore, TakeAnswer};
+use terminal_source::lcas_source::SourceTable;
+
+/// One direction of a group without its way back: its source side, its lines with their rings, and its sink
+/// side. Who calls it says which item lands, and brings the return cells. What its calls do is said of each
+/// leg and each number of return packets for which it stands. Only its making takes memory.
+pub struct WayCore {
+    source: GroupSource,
+    /// The send rings of all lines: each place holds the containers of a frame, of a number modulo 32, each
+    /// until its line carried it.
+    sent: Vec<Vec<Box<HeldContainer>>>,
+    lines: Vec<WalkLine>,
+    rows: RowGather,
+    sink: SinkCore,
+    /// How many frames were delivered.
+    got: u64,
+}
+
+/// A call of its own, so that a function which drops one doesn't go through its parts.
+impl Drop for WayCore {
+    fn drop(self) {
+        let WayCore {
+            source: _,
+            sent: _,
+            lines: _,
+            rows: _,
+            sink: _,
+            got: _,
+        } = self;
+    }
+}
+
+impl Model for WayCore {
+    ghost use Rattle.walk_engine.specs.walk_core.Parts.{Parts, sent_frames};
+
+    ghost Value = { Parts };
+
+    ghost view = { λ w. record {
+      source = w.source;
+      sent = sent_frames w.sent;
+      lines = w.lines.items;
+      rows = w.rows;
+      sink = w.sink;
+      got = w.got;
+    } };
+}
+
+impl WayCore {
+    /// Makes room for the direction of a script, before any event. It may also be one whose return packets
+    /// are lost in some other way, and whose packets tell something.
+    pub fn new(alloc: Global, script: &Script) -> Result<WayCore, AllocError>
+        requires { IsValid script.now }
+        ensures stands { IfOk result (λ way. (leg : Leg) → IsAlike leg (leg_of script.now) →
+            WayStands leg 0 way) }
+        ensures counts { IfOk result (λ way. (leg : Leg) → IsAlike leg (leg_of script.now) →
+            counts_of way 0 ≡ begin (walk_plan leg)) }
+        ensures inbox { IfOk result (λ way. way.source.inbox
+            ≡ empty_inbox script.now.config.lost script.now.config.lag) }
+    {
+        let opened = open(alloc, script)?;
+        Ok(WayCore::from_opened(opened))
+    }
+
+    /// How many ticks were made.
+    pub fn ticks(&self) -> u32
+        ensures { result ≡ self.now.source.core.ticks }
+    {
+        self.source.ticks()
+    }
+
+    /// How many rows were taken.
+    pub fn taken(&self) -> u32
+        ensures { result ≡ self.now.sink.taken }
+    {
+        self.sink.taken()
+    }
+
+    /// What has landed.
+    pub fn landing(&self) -> &Landing
+        ensures { result.now ≡ self.now.source.landed }
+    {
+        self.source.landing()
+    }
+
+    /// The table of the lines.
+    pub fn table(&self) -> &SourceTable
+        ensures table { result.now ≡ self.now.source.core.table }
+        ensures steps { result.now.steps ≡ steps_in self.now.source.core.ticks }
+    {
+        self.source.table()
+    }
+
+    /// The packets that were read with the last packet row that was taken, by line. A line has none where it
+    /// had no packet that can be read.
+    pub fn packets(&self) -> &[Option<Packet>]
+        ensures { (leg : Leg) (backs : ℕ) → WayStands leg backs self.now → result.now
+            ≡ governing (popped_cells leg (map line_counts self.now.lines)) self.now.sink.taken }
+    {
+        self.rows.packets()
+    }
+
+    /// What came of it so far, in numbers.
+    pub fn totals(&self) -> Totals
+        ensures { (leg : Leg) (backs : ℕ) → WayStands leg backs self.now →
+            result ≡ totals_of leg (counts_of self.now backs) }
+    {
+        Totals {
+            ticks: self.source.ticks(),
+            taken: self.sink.taken(),
+            frames: self.source.landing().accepted(true),
+            commands: self.source.landing().accepted(false),
+            refused: self.source.landing().all_refused(),
+            got: self.got,
+        }
+    }
+
+    /// The place that is confirmed first in the segment that goes on with the next row, counted from its first octet.
+    pub fn first_confirmed(&self) -> Option<u64>
+        ensures { (leg : Leg) (backs : ℕ) → WayStands leg backs self.now → result
+            ≡ first_place (segments_of (session_rows leg self.now.sink.taken)).last.octets }
+    {
+        self.sink.first_confirmed()
+    }
+
+    /// The container at a place of the send ring of a line, from the oldest on, or `None` beyond the last one
+    /// that waits there.
+    pub fn send_ring(&self, line: u8, place: u32) -> Option<&Container>
+        requires line { line < length self.now.lines }
+        requires stands { StandsForSome self.now }
+        ensures { (leg : Leg) (backs : ℕ) → WayStands leg backs self.now → option_copied result
+            ≡ slice_get (send_ring leg (counts_of self.now backs) line) place }
+    {
+        let m = usize::from(line);
+        match frame_at(
+            &self.lines[m],
+            self.source.total_ticks(),
+            self.source.ticks(),
+            place,
+        ) {
+            Some(t) => Some(self.sent[t as usize % SENDS][m].container()),
+            None => None,
+        }
+    }
+
+    /// The cell at a place of the receive ring of a line, from the oldest on, or `None` beyond the last one
+    /// that waits there.
+    pub fn receive_ring(&self, line: u8, place: u32) -> Option<CellRef<'_>>
+        requires { line < length self.now.lines }
+        ensures { (leg : Leg) (backs : ℕ) → WayStands leg backs self.now → option_map cell_of result
+            ≡ slice_get (receive_ring leg (counts_of self.now backs) line) place }
+    {
+        self.lines[usize::from(line)].waiting(place)
+    }
+
+    /// Lands an item, which is the next of its kind and has this number. Answers why it is refused, where it
+    /// is.
+    pub fn land(&mut self, number: u32, item: ItemRef) -> Option<Refusal>
+        requires { next_number self.old.source.landed (is_client (kind_of item)) ≡ Some number }
+        ensures makes { (leg : Leg) (backs : ℕ) → WayStands leg backs self.old →
+            IsDue leg self.old number (kind_of item.entry) →
+            Makes leg backs (landing_of (is_client (kind_of item.entry)))
+            self.old self.new (answer_by None result) }
+        ensures ticks { self.new.source.core.ticks ≡ self.old.source.core.ticks }
+        ensures inbox { self.new.source.inbox ≡ self.old.source.inbox }
+        ensures rest { self.new ≡ record self.old { source = self.new.source } }
+    {
+        self.source.land(number, item)
+    }
+
+    /// Why no frame is made, before the send rings are looked at.
+    pub fn early_cause(&self) -> Option<EarlyCause>
+        ensures exact { result ≡ early_in self.now.source }
+        ensures cause { (leg : Leg) (backs : ℕ) → WayStands leg backs self.now →
+            result ≡ early_by (walk_plan leg) (counts_of self.now backs) }
+    {
+        self.source.early_cause()
+    }
+
+    /// The first line whose send ring holds as many containers as it may.
+    pub fn first_full(&self) -> Option<u8>
+        requires { StandsForSome self.now }
+        ensures { (leg : Leg) (backs : ℕ) → WayStands leg backs self.now → result
+            ≡ full leg.config.ticks self.now.source.core.ticks 0 (map line_counts self.now.lines) }
+    {
+        first_full(&self.lines, self.source.total_ticks(), self.source.ticks())
+    }
+
+    /// The return cell that the next frame needs, where none has come.
+    pub fn missing(&self) -> Option<u32>
+        ensures { result ≡ missing_in self.now.source }
+    {
+        self.source.missing()
+    }
+
+    /// Takes a return cell that has come, or its loss where a return window holds it.
+    pub fn put(&mut self, cell: BackCell)
+        requires room { length self.old.source.inbox.cells < self.old.source.inbox.room }
+        requires few { self.old.source.inbox.come < 4294967295 }
+        ensures { self.new ≡ record self.old {
+          source = record self.old.source
+              { inbox = with_come self.old.source.inbox cell };
+        } }
+    {
+        self.source.put(cell);
+    }
+
+    /// Makes the next frame. Where it makes a decision step, its packets pass on `told`, a return packet of the
+    /// other way of a pair; without one they tell nothing. Answers the return cell that it took.
+    pub fn make(&mut self, told: Option<Packet>) -> Option<BackCell>
+        requires stands { StandsForSome self.old }
+        requires early { early_in self.old.source ≡ None }
+        requires cell { missing_in self.old.source ≡ None }
+        ensures makes { (leg : Leg) (backs : ℕ) → WayStands leg backs self.old →
+            CanTick leg backs self.old told result → Makes leg backs Tick self.old self.new Yes }
+        ensures cell { result
+            ≡ cell_for (is_some (needed self.old.source.core)) self.old.source.inbox.cells }
+        ensures inbox { self.new.source.inbox ≡ record self.old.source.inbox {
+          cells = rest_for (is_some (needed self.old.source.core)) self.old.source.inbox.cells;
+        } }
+        ensures ticks { self.new.source.core.ticks ≡ self.old.source.core.ticks + 1 }
+        ensures rest { self.new
+            ≡ record self.old { source = self.new.source; sent = self.new.sent } }
+    {
+        let ticks = self.source.ticks();
+        let place = next_place(&mut self.sent, &self.lines, ticks);
+        pass_on(&mut self.source, told);
+        self.source.make(&mut self.sent[place])
+    }
+
+    /// Makes a carry of a line. Answers why it carries nothing, where it doesn't; then nothing changes.
+    pub fn carry(&mut self, line: u8) -> Option<StallCause>
+        requires line { line < length self.old.lines }
+        requires stands { StandsForSome self.old }
+        ensures makes { (leg : Leg) (backs : ℕ) → WayStands leg backs self.old →
+            Makes leg backs (Carry line) self.old self.new (answer_by result None) }
+        ensures rest { self.new ≡ record self.old { sent = self.new.sent; lines = self.new.lines } }
+    {
+        let m = usize::from(line);
+        match carry_stall(&self.lines[m], line, self.source.ticks()) {
+            Some(cause) => Some(cause),
+            None => {
+                carry_on(&mut self.lines[m], m, &mut self.sent);
+                None
+            }
+        }
+    }
+
+    /// Pops the cells of the next row, and takes it where the lines decide it. Frames that it delivers are
+    /// given to `out`.
+    pub fn take<F: FrameOut>(&mut self, out: &mut F) -> TakeAnswer
+        requires { StandsForSome self.old }
+        ensures takes { (leg : Leg) (backs : ℕ) → WayStands leg backs self.old →
+            None ≡ take_cause leg.config.ticks (counts_of self.old backs) →
+            Takes leg backs self.old self.new result }
+        ensures gives { (leg : Leg) (backs : ℕ) → WayStands leg backs self.old →
+            None ≡ take_cause leg.config.ticks (counts_of self.old backs) →
+            GivesRows F.stands_for out.old out.new leg self.old.sink.taken self.new.sink.taken }
+        ensures rest { self.new ≡ record self.old {
+          lines = self.new.lines;
+          rows = self.new.rows;
+          sink = self.new.sink;
+          got = self.new.got;
+        } }
+    {
+        if let Some(line) = pop_lines(&mut self.lines, &mut self.rows) {
+            return TakeAnswer::Waiting { line };
+        }
+        let (back, got) = take_counted_row(&mut self.sink, &mut self.rows, self.got, out);
+        self.got = got;
+        TakeAnswer::Taken { back }
+    }
+
+    /// A direction before any event, of what was opened for it.
+    fn from_opened(opened: Opened) -> WayCore
+        ensures stands { (leg : Leg) (other : Leg) → IsNew other opened → IsAlike leg other →
+            WayStands leg 0 result }
+        ensures counts { (leg : Leg) (other : Leg) → IsNew other opened → IsAlike leg other →
+            counts_of result 0 ≡ begin (walk_plan leg) }
+        ensures source { result.source ≡ opened.ends.source }
+    {
+        let Opened { paths, rows, ends } = opened;
+        let Ends { source, sink } = ends;
+        let Paths { sent, lines } = paths;
+        WayCore {
+            source,
+            sent,
+            lines,
+            rows,
+            sink,
+            got: 0,
+        }
+    }
+}
+
+/// Has the packets of the next decision step pass on a return packet, where there is one.
+fn pass_on(source: &mut GroupSource, told: Option<Packet>)
+    ensures made { (scenario : Scenario) (cells : List (Option Told)) →
+        HasMade source.old.core scenario cells →
+        HasMade source.new.core
+        (with_passed scenario (steps_in source.old.core.ticks) told) cells }
+    ensures ticks { source.new.core.ticks ≡ source.old.core.ticks }
+    ensures kind { SameKind source.new.core source.old.core }
+    ensures rest { source.new ≡ record source.old { core = source.new.core } }
+{
+    if let Some(packet) = told {
+        source.tell(packet);
+    }
+}

@@ -1,0 +1,74 @@
+//! The sink's side of a walk: cells are popped until the lines decide a row, and the row is taken.
+
+ghost use Rattle.std.specs.Prelude.{◌≡◌, ℕ, ◌+◌, ◌%◌, ◌==◌, ◌&&◌, nat_le, ◌<◌, ◌≤◌, ◌++◌, List, length, min};
+ghost use Rattle.law_model.specs.session.Leg.{Leg};
+ghost use Rattle.octet_io.specs.Start.{Start};
+ghost use Rattle.walk_engine.specs.walk_core.Take.{CanPop, HasPopped, CanTake, HasRow};
+ghost use Rattle.terminal_sink.specs.sink_core.Given.{added_frames};
+ghost use Rattle.member_cells.specs.declared.containers_and_cells.Cell.{Cell};
+ghost use Rattle.member_rows.specs.realign_rows.Gather.{line_count};
+
+use crate::walk_core::counted_frames::CountedOut;
+use crate::walk_parts::WalkLine;
+use octet_io::take_back;
+use law_model::FrameOut;
+use member_rows::lcas_packet::Packet;
+use member_rows::realign_rows::RowGather;
+use terminal_sink::sink_core::{SinkCore, TakeAnswer};
+
+/// The first row that ends a packet.
+const FIRST_END: u32 = 23;
+
+/// Whether a row ends a packet.
+pub(super) fn ends_packet(row: u32) -> bool
+    ensures { result ≡ (nat_le 23 row && row % 16 == 7) }
+{
+    row >= FIRST_END && row % 16 == 7
+}
+
+/// Pops cells line by line until each decides the next row, or up to the first line that doesn't.
+pub(super) fn pop_lines(lines: &mut Vec<WalkLine>, rows: &mut RowGather) -> Option<u8>
+    requires few { length lines.old.items ≤ 128 }
+    ensures pops { (leg : Leg) → CanPop leg lines.old.items rows.old →
+        HasPopped leg lines.old.items lines.new.items rows.new result }
+    ensures lines { line_count rows.new ≡ line_count rows.old }
+    ensures rows { rows.new.rows ≡ rows.old.rows }
+{
+    for m in 0..lines.len() {
+        if !lines[m].pop_into(rows, m as u8) {
+            return Some(m as u8);
+        }
+    }
+    None
+}
+
+/// Takes the next row, which is decided on each line. Answers its return packet, where one ends with it, and
+/// how many frames were counted, after `got` before.
+pub(super) fn take_counted_row<F: FrameOut>(
+    sink: &mut SinkCore,
+    rows: &mut RowGather,
+    got: u64,
+    out: &mut F,
+) -> (Option<Packet>, u64)
+    requires lines { line_count rows.old ≡ sink.old.lines }
+    requires rows { rows.old.rows ≡ sink.old.taken }
+    requires few { sink.old.taken < 4294967295 }
+    ensures takes { (cells : List (List Cell)) → CanTake cells sink.old rows.old →
+        HasRow cells sink.old sink.new rows.new result.0 }
+    ensures counted { (cells : List (List Cell)) → CanTake cells sink.old rows.old → result.1
+        ≡ min (got + length (added_frames sink.old.size cells sink.old.taken sink.new.taken))
+        18446744073709551615 }
+    ensures gives { (cells : List (List Cell)) → CanTake cells sink.old rows.old →
+        (start : Start) (given : List (List ℕ)) → F.stands_for out.old start given →
+        F.stands_for out.new start
+        (given ++ added_frames sink.old.size cells sink.old.taken sink.new.taken) }
+{
+    let mut counted = CountedOut::new(out, got);
+    let answer = sink.take(rows, &mut counted);
+    let CountedOut { out: back, got } = counted;
+    take_back(back);
+    match answer {
+        TakeAnswer::Taken { back } => (back, got),
+        TakeAnswer::Waiting { .. } => (None, got),
+    }
+}

@@ -1,0 +1,257 @@
+//! A line of a walk with its receive ring.
+
+ghost use Rattle.std.specs.Prelude.{◌≡◌, ◌≢◌, ℕ, ◌+◌, ◌-◌, ◌<◌, ◌≤◌, ◌↔◌, [], ◌∷◌, true, List, length, drop, slice_get};
+ghost use Rattle.std.specs.Prelude.{slice_set, IfOk, IsTrue, is_some, option_map};
+ghost use Rattle.member_cells.specs.declared.containers_and_cells.Container.{Container};
+ghost use Rattle.member_cells.specs.declared.containers_and_cells.Cell.{Cell};
+ghost use Rattle.member_path.specs.path_delay.Carry.{carry_cells};
+ghost use Rattle.member_path.specs.path_delay.Line.{Calls, opened, and_push, and_flush, path_cells, IsEnded};
+ghost use Rattle.member_path.specs.cell_numbers.Told.{cell_with, cell_of};
+ghost use Rattle.law_model.specs.members.Damage.{AreWindows};
+ghost use Rattle.law_model.specs.members.Number.{verdict};
+ghost use Rattle.member_rows.specs.realign_rows.Gather.{GatherStands as Gathers, line_count, IsOpenAt};
+ghost use Rattle.law_model.specs.rows.Rows.{first_open};
+ghost use Rattle.walk_engine.specs.walk_parts.Ringed.{Ringed, ring_of, Has, popped_cells, IsNext, IsPopped, popped_until};
+ghost use Rattle.walk_engine.specs.walk_parts.Ringed.{leaves_open, with_sign, count_of, is_at};
+
+use member_cells::{Container, HeldContainer, blank_boxes};
+use member_path::failure_window::{Window, Windows};
+use member_path::path_delay::{CarrySign, LineCore};
+use member_path::cell_numbers::{CellRef, CellSign};
+use member_rows::realign_rows::{RowAnswer, RowGather};
+use std::alloc::{AllocError, Global};
+use std::marker::Model;
+
+/// A line with its receive ring: the cells that it gave and that weren't popped. Only its making takes
+/// memory, and a container is copied nowhere on its way into the line, through it and out of the ring.
+#[derive(Drop)]
+pub struct WalkLine {
+    core: LineCore,
+    /// What carries gave: that of cell `y` at place `y` modulo the size of the ring.
+    signs: Vec<CarrySign>,
+    /// The containers of those that are good, each in a box that it may come from the line and go into a row in.
+    places: Vec<Box<HeldContainer>>,
+    /// How many carries were made.
+    carried: u32,
+    /// How many cells came out.
+    given: u32,
+    /// How many of them were popped.
+    popped: u32,
+}
+
+impl Model for WalkLine {
+    ghost use Rattle.member_cells.specs.Held.{held};
+    ghost use Rattle.walk_engine.specs.walk_parts.Ringed.{Ringed, IsRinged};
+
+    ghost Value = { Ringed };
+
+    ghost view = { λ line. record { core = line.core; signs = line.signs.items; places = held line.places.items; carried = line.carried; given = line.given; popped = line.popped } };
+
+    ghost invariant = { λ line. IsRinged (record { core = line.core; signs = line.signs.items; places = held line.places.items; carried = line.carried; given = line.given; popped = line.popped }) };
+}
+
+impl WalkLine {
+    /// A line with a delay in containers, its windows, and the number of containers that it will carry, whose
+    /// ring holds `ring` cells.
+    pub fn new(
+        alloc: Global,
+        delay: u16,
+        windows: &[Window],
+        total: u32,
+        ring: u16,
+    ) -> Result<WalkLine, AllocError>
+        requires delay { delay ≤ 2047 }
+        requires few { length windows.now ≤ 256 }
+        requires apart { AreWindows 0 windows.now }
+        requires total { total ≤ 1000000 }
+        requires ring { 1 ≤ ring }
+        ensures has { IfOk result (λ line. Has line (opened delay windows.now total)) }
+        ensures ring { IfOk result (λ line. ring_of line ≡ ring) }
+        ensures popped { IfOk result (λ line. line.popped ≡ 0) }
+    {
+        let Ok(windows) = Windows::new(alloc, windows) else {
+            return Err(AllocError);
+        };
+        Ok(WalkLine {
+            core: LineCore::new(alloc, delay, windows, total)?,
+            signs: vec![in alloc; CarrySign::Nothing; usize::from(ring)]?,
+            places: blank_boxes(alloc, usize::from(ring))?,
+            carried: 0,
+            given: 0,
+            popped: 0,
+        })
+    }
+
+    /// How many carries were made.
+    pub fn carried(&self) -> u32
+        ensures { result ≡ self.now.carried }
+    {
+        self.carried
+    }
+
+    /// Whether all containers were pushed.
+    pub fn all_pushed(&self) -> bool
+        ensures all { IsTrue result ↔ (self.now.core.pushed ≡ self.now.core.total) }
+        ensures within { self.now.core.pushed ≤ self.now.core.total }
+    {
+        self.core.all_pushed()
+    }
+
+    /// Whether the end was given.
+    pub fn ended(&self) -> bool
+        ensures { IsTrue result ↔ IsEnded self.now.core }
+    {
+        self.core.ended()
+    }
+
+    /// Whether the receive ring holds as many cells as it may.
+    pub fn is_full(&self) -> bool
+        ensures full { IsTrue result ↔ (self.now.given ≡ self.now.popped + ring_of self.now) }
+        ensures within { self.now.given ≤ self.now.popped + ring_of self.now }
+    {
+        (self.given - self.popped) as usize == self.signs.len()
+    }
+
+    /// The cell at a place of the receive ring, from the oldest on, or `None` beyond the last one that waits.
+    pub fn waiting(&self, place: u32) -> Option<CellRef<'_>>
+        ensures { (calls : Calls) → Has self.now calls → option_map cell_of result
+            ≡ slice_get (drop self.now.popped (path_cells calls)) place }
+    {
+        if place >= self.given - self.popped {
+            return None;
+        }
+        let slot = (self.popped + place) as usize % self.signs.len();
+        Some(cell_at(self.signs[slot], self.places[slot].container()))
+    }
+
+    /// Carries a container on, and keeps the cell that comes out, if any. It takes the container's box, and
+    /// leaves another one.
+    pub fn push(&mut self, container: &mut Box<HeldContainer>)
+        requires left { self.old.core.pushed < self.old.core.total }
+        requires room { self.old.given < self.old.popped + ring_of self.old }
+        ensures has { (calls : Calls) → Has self.old calls →
+            Has self.new (and_push calls container.old.value) }
+        ensures ring { ring_of self.new ≡ ring_of self.old }
+        ensures carried { self.new.carried ≡ self.old.carried + 1 }
+        ensures popped { self.new.popped ≡ self.old.popped }
+    {
+        let size = self.signs.len();
+        let slot = self.given as usize % size;
+        exchange(
+            &mut self.places,
+            slot,
+            (self.popped as usize + size - 1) % size,
+        );
+        let carry = self.core.push(container, &mut self.places[slot]);
+        self.carried += 1;
+        self.given += keep(&mut self.signs, slot, carry);
+    }
+
+    /// Makes a carry after the last container, and keeps the cell that comes out, if any.
+    pub fn flush(&mut self)
+        requires pushed { self.old.core.pushed ≡ self.old.core.total }
+        requires runs { self.old.core.flushed ≤ self.old.core.delay }
+        requires room { self.old.given < self.old.popped + ring_of self.old }
+        ensures has { (calls : Calls) → Has self.old calls → Has self.new (and_flush calls) }
+        ensures ring { ring_of self.new ≡ ring_of self.old }
+        ensures carried { self.new.carried ≡ self.old.carried + 1 }
+        ensures popped { self.new.popped ≡ self.old.popped }
+    {
+        let slot = self.given as usize % self.signs.len();
+        let carry = self.core.flush(&mut self.places[slot]);
+        self.carried += 1;
+        self.given += keep(&mut self.signs, slot, carry);
+    }
+
+    /// Pops cells of line number `line` into `rows` until it decides the next row, or its ring is empty.
+    /// Answers whether it does. What then lies in the places of the cells that were popped says nothing.
+    pub fn pop_into(&mut self, rows: &mut RowGather, line: u8) -> bool
+        ensures popped { (calls : Calls) (cells : List (List Cell)) →
+            IsNext self.old calls rows.old cells line →
+            self.new.popped ≡ popped_until (self.old.given - self.old.popped)
+            (λ y. leaves_open (path_cells calls) rows.old.rows y) self.old.popped }
+        ensures decides { (calls : Calls) (cells : List (List Cell)) →
+            IsNext self.old calls rows.old cells line →
+            result ≡ is_some (verdict (popped_cells self.new calls) rows.old.rows) }
+        ensures has { (calls : Calls) → Has self.old calls → Has self.new calls }
+        ensures gathers { (calls : Calls) (cells : List (List Cell)) →
+            IsNext self.old calls rows.old cells line →
+            Gathers rows.new (slice_set cells line (popped_cells self.new calls)) }
+        ensures others { IsPopped self.old self.new }
+        ensures lines { line_count rows.new ≡ line_count rows.old }
+        ensures rows { rows.new.rows ≡ rows.old.rows }
+    {
+        while self.popped < self.given {
+            if !waits_for(rows, line) {
+                return true;
+            }
+            let slot = self.popped as usize % self.signs.len();
+            let sign = sign_of(self.signs[slot]);
+            rows.offer(line, sign, &mut self.places[slot]);
+            self.popped += 1;
+        }
+        !waits_for(rows, line)
+    }
+}
+
+/// Changes the boxes of two places for each other. A place that is to be filled gets the box that was emptied
+/// last, since this lies nearest in the caches of the processor.
+fn exchange(places: &mut Vec<Box<HeldContainer>>, a: usize, b: usize)
+    requires first { a < length places.old.items }
+    requires second { b < length places.old.items }
+    ensures size { length places.new.items ≡ length places.old.items }
+    ensures others { (k : ℕ) → k ≢ a → k ≢ b →
+        slice_get places.new.items k ≡ slice_get places.old.items k }
+{
+    places.swap(a, b);
+}
+
+/// Puts what a carry gave at its place, where it gave a cell. Answers how many cells it gave.
+fn keep(signs: &mut Vec<CarrySign>, slot: usize, carry: CarrySign) -> u32
+    requires { slot < length signs.old.items }
+    ensures signs { signs.new.items ≡ with_sign carry slot signs.old.items }
+    ensures count { result ≡ count_of carry }
+{
+    match carry {
+        CarrySign::Nothing => 0,
+        CarrySign::Good | CarrySign::Fail | CarrySign::End => {
+            signs[slot] = carry;
+            1
+        }
+    }
+}
+
+/// Whether a line is the first one that doesn't decide the next row.
+fn waits_for(rows: &RowGather, line: u8) -> bool
+    ensures waits { (cells : List (List Cell)) → Gathers rows.now cells →
+        result ≡ is_at line (first_open cells rows.now.rows) }
+    ensures allows { result ≡ true → (line < line_count rows.now) × IsOpenAt rows.now line }
+{
+    match rows.row() {
+        RowAnswer::Row => false,
+        RowAnswer::Waiting { line: least } => least == line,
+    }
+}
+
+/// The cell that a carry gave, whose container lies in this place.
+fn cell_at(carry: CarrySign, place: &Container) -> CellRef<'_>
+    ensures { (cell : Cell) → carry_cells carry place.now ≡ cell ∷ [] → cell_of result ≡ cell }
+{
+    match carry {
+        CarrySign::Good => CellRef::Good(place),
+        CarrySign::End => CellRef::End,
+        CarrySign::Fail | CarrySign::Nothing => CellRef::Fail,
+    }
+}
+
+/// The sign of the cell that a carry gave.
+fn sign_of(carry: CarrySign) -> CellSign
+    ensures { (place : Container) (cell : Cell) → carry_cells carry place ≡ cell ∷ [] →
+        cell_with result place ≡ cell }
+{
+    match carry {
+        CarrySign::Good => CellSign::Good,
+        CarrySign::End => CellSign::End,
+        CarrySign::Fail | CarrySign::Nothing => CellSign::Fail,
+    }
+}
