@@ -3,8 +3,8 @@
 //! a remainder, and by what it differs after bit errors. Where a check stands in a frame is not said here.
 #![tactic(auto)]
 
-mod frame_check;
 mod crc32_tables;
+mod frame_check;
 
 ghost use Rattle.std.specs.Prelude.{◌≡◌, ◌<◌, ◌≤◌, ℕ, Bool, true, List, [], ◌∷◌, length, replicate, All};
 ghost use Rattle.check_remainder.specs.Bits.{xors};

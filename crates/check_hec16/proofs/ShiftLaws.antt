@@ -1,10 +1,9 @@
 -- The check octet by octet, with no table: what an octet leaves is made by shifts.
 use Rattle.std.proofs.Common.{◌≡◌, ℕ, ◌*◌, ◌/◌, ◌%◌, ◌<◌, List, [], ◌∷◌, ◌++◌, map, bit_xor, get_or, slice_index, w16}
-use Rattle.std.proofs.Common.{refl, sym, ◌∙◌, ap, arith}
+use Rattle.std.proofs.Common.{refl, sym, ◌∙◌, ap, arith, append-nil}
 use Rattle.std.specs.List.{range_with_len}
 use Rattle.std.proofs.lemmas.List.FromFn.{get_or-map-range_with_len}
 use Rattle.std.specs.Int.{to_be_bytes}
-use Rattle.std.proofs.lemmas.List.{append-nil}
 use Rattle.check_remainder.proofs.OctetLaws.{octet_bits-bytes_high_first}
 use Rattle.check_remainder.specs.Bits.{bits, octet_bits}
 use Rattle.check_remainder.specs.Remainder.{remainder, add_front, divide}

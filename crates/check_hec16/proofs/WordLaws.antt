@@ -4,7 +4,7 @@ use Rattle.std.proofs.Common.{◌≡◌, ◌≢◌, ℕ, zero, suc, ◌-◌, ◌
 use Rattle.std.proofs.Common.{if◌then◌else◌, List, [], ◌∷◌, ◌++◌, length, replicate, take, refl, sym, ◌∙◌}
 use Rattle.std.proofs.Common.{ap, ap₂, subst, inl, inr, arith, le_of_eq}
 use Rattle.std.proofs.lemmas.List.{length-append, length-replicate, take_at}
-use Rattle.std.proofs.lemmas.Bool.Decides.{nat_tests}
+use Rattle.std.proofs.lemmas.Bool.{and_parts, eqb-true}
 use Rattle.check_remainder.specs.Bits.{bits, number_behind, number, xors}
 use Rattle.check_remainder.specs.Count.{count}
 use Rattle.check_remainder.specs.Remainder.{add_front, divide}
@@ -40,15 +40,11 @@ unfoldable pub all_below : ℕ → (ℕ → Bool) → Bool
 all_below zero f = true
 all_below (suc n) f = f n && all_below n f
 
-both : (a b : Bool) → (a && b) ≡ true → (a ≡ true) × (b ≡ true)
-both true b e = (refl, e)
-both false b e = absurd cc
-
 pub all_below_at : (n : ℕ) (f : ℕ → Bool) (k : ℕ) → all_below n f ≡ true → k < n → f k ≡ true
 unfolding all_below
 all_below_at zero f k e h = absurd (omega arith)
 all_below_at (suc n) f k e h =
-    let t = both (f n) (all_below n f) e in
+    let t = and_parts (f n) (all_below n f) e in
     elim (last_or_before n k h) [
       | inl same ↦ subst (λ m. f m ≡ true)
           (sym same) t.0
@@ -69,16 +65,13 @@ past : place_of (replicate 32 false) ≡ 32
 unfolding place_of place_in lefts left bits divide add_front number_behind
 past = refl
 
-pub nat_eq_tells : (a b : ℕ) → (a == b) ≡ true → a ≡ b
-nat_eq_tells a b h = grind (arith, nat_tests)
-
 -- two bits that leave the same are the same
 same_place : (j k : ℕ) → j < 32 → k < 32 → left (bit_at j) ≡ left (bit_at k) → j ≡ k
 unfolding place_of
 same_place j k p q e =
-    let one : place_of (bit_at j) ≡ j = nat_eq_tells (place_of (bit_at j)) j
+    let one : place_of (bit_at j) ≡ j = eqb-true (place_of (bit_at j)) j
     (all_below_at 32 (λ k. place_of (bit_at k) == k) j computed p) in
-    let two : place_of (bit_at k) ≡ k = nat_eq_tells (place_of (bit_at k)) k
+    let two : place_of (bit_at k) ≡ k = eqb-true (place_of (bit_at k)) k
     (all_below_at 32 (λ k. place_of (bit_at k) == k) k computed q) in
     sym one ∙ ap (λ l. place_in lefts (number l)) e ∙ two
 
@@ -86,7 +79,7 @@ same_place j k p q e =
 something_left : (k : ℕ) → k < 32 → left (bit_at k) ≢ left (replicate 32 false)
 unfolding place_of
 something_left k h e =
-    let one : place_of (bit_at k) ≡ k = nat_eq_tells (place_of (bit_at k)) k
+    let one : place_of (bit_at k) ≡ k = eqb-true (place_of (bit_at k)) k
     (all_below_at 32 (λ k. place_of (bit_at k) == k) k computed h) in
     let other : k ≡ 32 = sym one ∙ ap (λ l. place_in lefts (number l)) e ∙ past in
     omega arith

@@ -1,7 +1,6 @@
 -- Cells in step: more cells after a cell change nothing of it, and how one cell follows from the cell before it.
 use Rattle.std.proofs.Common.{◌≡◌, ℕ, zero, suc, ◌+◌, ◌-◌, ◌*◌, ◌/◌, ◌%◌, ◌<◌, ◌≤◌, inl, inr, List, [], ◌∷◌, ◌++◌}
-use Rattle.std.proofs.Common.{length, Option, Some, slice_get, refl, sym, ◌∙◌, ap, subst, arith}
-use Rattle.std.proofs.Math.Nat.{eq-or-lt_of_le}
+use Rattle.std.proofs.Common.{length, Option, Some, slice_get, refl, sym, ◌∙◌, ap, subst, arith, eq-or-lt_of_le}
 use Rattle.std.proofs.lemmas.Bool.{cases_order}
 use Rattle.std.proofs.lemmas.Option.{slice_get_within}
 use Rattle.check_nibbles.specs.Lock.{HasMfi1, IsInStep, IsFirstStep, IsOutOfStep, HasMfi2, Locks, IsAt, HasNumber}

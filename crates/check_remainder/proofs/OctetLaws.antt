@@ -1,11 +1,10 @@
 -- Octets and their bits.
 use Rattle.std.proofs.Common.{◌≡◌, ℕ, zero, suc, ◌+◌, ◌*◌, ◌/◌, ◌%◌, ◌^◌, ◌<◌, ◌≤◌, Bool, List, [], ◌∷◌, ◌++◌, length}
-use Rattle.std.proofs.Common.{take, drop, All, refl, sym, ◌∙◌, ap, ap₂, arith, suc-add, zero-add, div-one}
-use Rattle.std.proofs.Common.{pow-suc, mod-eq_of_lt, pow_mono, lt_of_lt_of_le}
-use Rattle.std.proofs.lemmas.List.{length-append, length-take, length-drop, take_at, drop_at, take-append-drop}
+use Rattle.std.proofs.Common.{take, drop, All, refl, sym, ◌∙◌, ap, ap₂, arith, suc-add, zero-add, div-one, pow-suc}
+use Rattle.std.proofs.Common.{mod-eq_of_lt, pow_mono, lt_of_lt_of_le, length-append, length-take, length-drop, take_at}
+use Rattle.std.proofs.Common.{drop_at, take-append-drop, pow-add}
 use Rattle.std.proofs.lemmas.List.{take-append-le, drop-append-le}
 use Rattle.std.specs.Int.{byte_at, bytes_high_first}
-use Rattle.std.proofs.lemmas.Nat.{pow-add}
 use Rattle.std.proofs.lemmas.List.Elements.{All-nil, All-cons, All-head, All-tail}
 use Rattle.std.proofs.lemmas.List.Concat.{flat_map-append}
 use Rattle.check_remainder.specs.Bits.{bits, number, octet_bits, octets_of}

@@ -1,7 +1,6 @@
 -- Numbers, octets and bits. The most significant bit is always the first.
 use Rattle.std.specs.Prelude.{ℕ, zero, suc, ◌+◌, ◌*◌, ◌/◌, ◌%◌, ◌==◌, Bool, true, false, not, if◌then◌else◌, List, []}
-use Rattle.std.specs.Prelude.{◌∷◌, ◌++◌, take, drop}
-use Rattle.std.specs.List.{flat_map}
+use Rattle.std.specs.Prelude.{◌∷◌, ◌++◌, take, drop, flat_map}
 
 -- a number in k bits
 unfoldable pub bits : ℕ → ℕ → List Bool

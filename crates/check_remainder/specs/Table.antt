@@ -1,6 +1,5 @@
 -- Division nibble by nibble, with a table of what each nibble leaves.
-use Rattle.std.specs.Prelude.{◌≡◌, ℕ, ◌<◌, Bool, List, length, slice_index}
-use Rattle.std.specs.List.{flat_map}
+use Rattle.std.specs.Prelude.{◌≡◌, ℕ, ◌<◌, Bool, List, length, slice_index, flat_map}
 use Rattle.check_remainder.specs.Bits.{bits}
 use Rattle.check_remainder.specs.Remainder.{remainder}
 

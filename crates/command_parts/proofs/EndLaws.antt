@@ -2,16 +2,15 @@
 use Rattle.std.proofs.Common.{◌≡◌, ◌≢◌, ◌⊎◌, ℕ, ◌<◌, ◌≤◌, List, ◌++◌, length, Option, Some, None, IfSome, IsTrue, refl}
 use Rattle.std.proofs.Common.{sym, ◌∙◌, ap, subst, inl, inr, arith, codes, append-nil}
 use Rattle.std.specs.Io.KnownBytes.{prepend_known, IsAtEnd}
-use Rattle.octet_io.specs.Faults.{one_more}
+use Rattle.law_model.specs.Common.{one_more}
+use Rattle.command_parts.specs.Common.{Answer, Task, writes, writes_both, refuses, exceeds, none, reads, makes}
+use Rattle.command_parts.specs.Common.{IsCommand, Reads, IsGood, IsQuiet, IsQuietTask, refused_status, Lent, Kept}
+use Rattle.command_parts.specs.Common.{Quiet, FailedOnce, IsTold, HasRead, IsLong, Meets, WritesAll, WritesPart, until}
+use Rattle.command_parts.specs.Common.{since, IsDone, IsNoCommand, IsUnread, IsCut, IsRefused, IsShort, IsTooLong}
+use Rattle.command_parts.specs.Common.{IsBeyond, Ends, done, no_command, unread, cut, refused, short, too_long, beyond}
+use Rattle.command_parts.specs.Common.{is_status, HasReadAt, Rises}
 use Rattle.command_parts.specs.declared.stop_and_status.Refusal.{Refusal}
 use Rattle.command_parts.specs.declared.stop_and_status.Refusal.TheVariants.{Line, Limit}
-use Rattle.command_parts.specs.Task.{Answer, Task, writes, writes_both, refuses, exceeds, none, reads, makes, IsCommand}
-use Rattle.command_parts.specs.Task.{Reads, IsGood, IsQuiet, IsQuietTask, refused_status}
-use Rattle.command_parts.specs.Ends.{Lent, Kept, Quiet, FailedOnce, IsTold, HasRead, IsLong, Meets, WritesAll}
-use Rattle.command_parts.specs.Ends.{WritesPart, until, since, IsDone, IsNoCommand, IsUnread, IsCut, IsRefused, IsShort}
-use Rattle.command_parts.specs.Ends.{IsTooLong, IsBeyond, Ends, done, no_command, unread, cut, refused, short, too_long}
-use Rattle.command_parts.specs.Ends.{beyond}
-use Rattle.command_parts.specs.Status.{is_status, HasReadAt, Rises}
 
 -- ---- the text that was read is the one that the source tells, where it tells it
 same-text : (old new : Option (List ℕ)) (text own : List ℕ) → old ≡ prepend_known text new → IsAtEnd new →

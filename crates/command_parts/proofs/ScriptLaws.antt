@@ -2,8 +2,8 @@
 use Rattle.std.proofs.Common.{ℕ, List, length, length-append, ap, arith}
 use Rattle.text_scripts.specs.declared.script_read.script_reader.ScriptReader.{ScriptReader}
 use Rattle.text_scripts.specs.script_read.Pieces as script
-use Rattle.command_parts.specs.Pieces.{Follows, HasNumbersLeft}
-use Rattle.command_parts.specs.Scripts.{ReadsScript}
+use Rattle.command_parts.specs.Pieces.{HasNumbersLeft}
+use Rattle.command_parts.specs.Common.{Follows, ReadsScript}
 
 pub as_script : (reader : ScriptReader) (rest all : List ℕ) → Follows ReadsScript reader rest all →
     script.Follows reader rest all

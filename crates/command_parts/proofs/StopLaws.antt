@@ -1,23 +1,19 @@
 -- Each exit of a command is one of the ends.
-use Rattle.std.proofs.Common.{◌≡◌, ◌≢◌, ◌⊎◌, ℕ, List, Result, Ok, Err, refl, sym, ◌∙◌, ap, ap₂, subst, inl, inr}
-use Rattle.std.proofs.Common.{arith}
+use Rattle.std.proofs.Common.{◌≡◌, ◌≢◌, ◌⊎◌, ℕ, List, Result, Ok, Err, refl, sym, ◌∙◌, ap, ap₂, subst, inl, inr, arith}
 use Rattle.law_model.specs.declared.script_types.Script.{Script}
 use Rattle.text_scripts.specs.declared.script_read.script_fault.ScriptFault.{ScriptFault}
 use Rattle.text_scripts.specs.declared.script_read.script_fault.ScriptFault.TheVariants.{Line, Slip, Spread, Lag}
 use Rattle.text_scripts.specs.declared.script_read.script_fault.ScriptFault.TheVariants as fault
+use Rattle.command_parts.specs.Common.{Answer, Task, refuses, exceeds, none, reads, makes, IsCommand, Lent, Kept}
+use Rattle.command_parts.specs.Common.{IsTold, HasRead, Meets, WritesAll, WritesPart, until, since, Ends, no_source}
+use Rattle.command_parts.specs.Common.{done, no_command, cut, refused, unread, short, too_long, beyond, why_of}
+use Rattle.command_parts.specs.Common.{fault_text, IsRefusedFor, HasRunAt, HasScript, told_of, answer_of, script_answer}
+use Rattle.command_parts.specs.Common.{StopsReading, IsRefusedAs, note_of, status_at, StopsAt}
 use Rattle.command_parts.specs.declared.stop_and_status.Stop.{Stop}
 use Rattle.command_parts.specs.declared.stop_and_status.Stop.TheVariants.{Read, TooLong, Refused, Write, Memory}
-use Rattle.command_parts.specs.Task.{Answer, Task, refuses, exceeds, none, reads, makes, IsCommand}
-use Rattle.command_parts.specs.Ends.{Lent, Kept, IsTold, HasRead, Meets, WritesAll, WritesPart, until, since}
-use Rattle.command_parts.specs.Ends.{Ends, no_source, done, no_command, cut, refused, unread, short, too_long, beyond}
-use Rattle.command_parts.specs.Faults.{why_of, fault_text, IsRefusedFor}
 use Rattle.command_parts.specs.declared.stop_and_status.Fault.{Fault}
 use Rattle.command_parts.specs.declared.stop_and_status.Refusal.{Refusal}
-use Rattle.command_parts.specs.Status.{HasRunAt}
 use Rattle.command_parts.proofs.EndLaws.{refused-within}
-use Rattle.command_parts.specs.Scripts.{HasScript, told_of, answer_of, script_answer}
-use Rattle.command_parts.specs.Stops.{StopsReading, IsRefusedAs, note_of, status_at}
-use Rattle.command_parts.specs.Pieces.{StopsAt}
 
 -- ---- why a text says nothing
 -- a cause with its note

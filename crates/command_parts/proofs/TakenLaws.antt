@@ -1,18 +1,14 @@
 -- A text that a source gives piece by piece.
-use Rattle.std.proofs.Common.{◌≡◌, ℕ, ◌+◌, ◌<◌, List, [], ◌++◌, length, length-append, append_assoc, arith}
-use Rattle.std.proofs.Common.{Option, None, Some, Result, refl, sym, ap, ◌∙◌}
-use Rattle.std.specs.Prelude.{IfSome}
+use Rattle.std.proofs.Common.{◌≡◌, ℕ, ◌+◌, ◌<◌, List, [], ◌++◌, length, length-append, append_assoc, arith, Option}
+use Rattle.std.proofs.Common.{None, Some, Result, refl, sym, ap, ◌∙◌, IfSome}
 use Rattle.std.specs.Io.KnownBytes.{prepend_known, IsAtEnd}
-use Rattle.octet_io.specs.Faults.{one_more}
-use Rattle.law_model.specs.Limits.{longest_input}
+use Rattle.law_model.specs.Common.{one_more, longest_input}
+use Rattle.command_parts.specs.Common.{Answer, Lent, lent, HasRead, StopsReading, StopsFor, StopsTaking, IsTaken}
+use Rattle.command_parts.specs.Common.{answer_told, StopsAt, Follows}
 use Rattle.command_parts.specs.declared.stop_and_status.Refusal.{Refusal}
 use Rattle.command_parts.specs.declared.stop_and_status.Stop.{Stop}
 use Rattle.command_parts.specs.declared.stop_and_status.Stop.TheVariants.{Read, TooLong, Refused, Write, Memory}
-use Rattle.command_parts.specs.Task.{Answer}
-use Rattle.command_parts.specs.Ends.{Lent, lent, HasRead}
-use Rattle.command_parts.specs.Stops.{StopsReading, StopsFor, StopsTaking}
-use Rattle.command_parts.specs.Scripts.{IsTaken}
-use Rattle.command_parts.specs.Pieces.{answer_told, StopsAt, Follows, HasNumbersLeft}
+use Rattle.command_parts.specs.Pieces.{HasNumbersLeft}
 
 prepended : (all piece : List ℕ) (known : Option (List ℕ)) →
     prepend_known all (prepend_known piece known) ≡ prepend_known (all ++ piece) known

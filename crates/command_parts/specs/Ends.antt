@@ -1,12 +1,10 @@
 -- How a task ended, by its exit status.
 use Rattle.std.specs.Prelude.{◌≡◌, ◌⊎◌, ℕ, ◌<◌, ◌≤◌, List, length, Option, None, IfSome, codes}
-use Rattle.octet_io.specs.Faults.{one_more}
-use Rattle.octet_io.specs.Transfer.{GivesAll, Appends, AppendsPart, Tells}
+use Rattle.law_model.specs.Common.{one_more, GivesAll, Appends, AppendsPart, Tells, longest_input}
 use Rattle.text_got.specs.Told.{AppendsSome}
 use Rattle.command_parts.specs.declared.stop_and_status.Refusal.{Refusal}
 use Rattle.command_parts.specs.Task.{Answer, Task, writes, writes_both, refuses, exceeds, none, reads, makes, IsCommand}
 use Rattle.command_parts.specs.Task.{Reads, refused_status}
-use Rattle.law_model.specs.Limits.{longest_input}
 
 -- ---- the source and the two sinks
 -- what was lent to a call: before it, after it, what it tells of its octets, where it tells them, and its count of

@@ -6,3 +6,4 @@ pub mod Faults
 pub mod Scripts
 pub mod Status
 pub mod Pieces
+pub mod Common

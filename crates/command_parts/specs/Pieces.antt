@@ -1,6 +1,6 @@
 -- A text that comes in pieces, and what it says.
 use Rattle.std.specs.Prelude.{◌≡◌, ℕ, ◌≤◌, List, ◌++◌, length, Ok, Err, Result}
-use Rattle.law_model.specs.Limits.{longest_input}
+use Rattle.law_model.specs.Common.{longest_input}
 use Rattle.command_parts.specs.declared.stop_and_status.Refusal.{Refusal}
 use Rattle.command_parts.specs.declared.stop_and_status.Stop.{Stop}
 use Rattle.command_parts.specs.declared.stop_and_status.Stop.TheVariants.{Read, TooLong, Refused, Write, Memory}

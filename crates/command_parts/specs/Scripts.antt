@@ -1,7 +1,7 @@
 -- Commands that run the script which their input says.
 use Rattle.std.specs.Prelude.{◌≡◌, ℕ, ◌+◌, List, length, Option, Ok, Err, Result}
 use Rattle.std.specs.Io.KnownBytes.{prepend_known}
-use Rattle.law_model.specs.Limits.{longest_input}
+use Rattle.law_model.specs.Common.{longest_input}
 use Rattle.law_model.specs.declared.script_types.Script.{Script}
 use Rattle.text_scripts.specs.declared.script_read.script_fault.ScriptFault.{ScriptFault}
 use Rattle.text_scripts.specs.declared.script_read.script_reader.ScriptReader.{ScriptReader}

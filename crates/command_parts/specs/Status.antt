@@ -1,6 +1,6 @@
 -- The statuses with which a program ends.
 use Rattle.std.specs.Prelude.{◌≡◌, ◌⊎◌, ℕ, ◌≤◌, ◌==◌, ◌||◌, Bool}
-use Rattle.octet_io.specs.Faults.{one_more}
+use Rattle.law_model.specs.Common.{one_more}
 
 -- those that there are
 abbrev pub is_status : ℕ → Bool

@@ -7,7 +7,7 @@ ghost use Rattle.command_parts.specs.Task.{IsQuietTask, refused_status};
 ghost use Rattle.command_parts.specs.Ends.{Lent, Kept, Quiet, FailedOnce, IsTold, IsLong, Meets, WritesAll, WritesPart};
 ghost use Rattle.command_parts.specs.Ends.{until, since, Ends};
 ghost use Rattle.command_parts.specs.Status.{is_status, HasReadAt, Rises};
-ghost use Rattle.law_model.specs.Limits.{longest_input};
+ghost use Rattle.law_model.specs.Common.{longest_input};
 
 /// What an end says of any task: which statuses there are, what was read and written, which faults were
 /// counted, and what was told.

@@ -6,21 +6,21 @@
 //! lines; and no clause says that `given_words` gives the words of the command line.
 #![tactic(auto)]
 
-mod script_helps;
-mod whole_input;
 mod end_laws;
 mod fault_notes;
 mod piece_reader;
+mod program_words;
 mod report_end;
+mod script_helps;
 mod script_pieces;
 mod stop_and_status;
-mod program_words;
+mod whole_input;
 
-pub use whole_input::{MOST, read_input};
 pub use end_laws::{end_law, input_law, made_law};
 pub use fault_notes::{line_fault, stop_of};
 pub use piece_reader::{PieceReader, read_pieces};
+pub use program_words::{NO_MEMORY, given_words};
 pub use report_end::write_rest;
 pub use script_pieces::read_whole_script;
 pub use stop_and_status::{Fault, Refusal, Stop, tell, tell_usage};
-pub use program_words::{NO_MEMORY, given_words};
+pub use whole_input::{MOST, read_input};

@@ -6,10 +6,10 @@ ghost use Rattle.command_parts.specs.Stops.{StopsReading, StopsFor};
 ghost use Rattle.command_parts.specs.Scripts.{IsTaken};
 ghost use Rattle.command_parts.specs.Pieces.{answer_told, StopsAt, Follows, HasNumbersLeft};
 
-use crate::whole_input::{MOST, skip_rest, take_some};
 use crate::stop_and_status::Stop;
-use octet_io::ByteSource;
+use crate::whole_input::{MOST, skip_rest, take_some};
 use memchr::memchr;
+use octet_io::ByteSource;
 use std::alloc::Global;
 
 /// The octets of an input that are asked for at once.

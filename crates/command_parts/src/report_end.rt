@@ -1,11 +1,11 @@
 //! The end of a report, behind the lines of delivered frames.
 ghost use Rattle.std.specs.Prelude.{ℕ, List, ◌++◌};
 ghost use Rattle.text_report.specs.Report.{refused_texts, total_text};
-ghost use Rattle.octet_io.specs.Start.{Start};
+ghost use Rattle.law_model.specs.Common.{Start};
 ghost use Rattle.text_got.specs.Told.{HasText};
 
-use octet_io::ByteSink;
 use law_model::{Refusal, Totals};
+use octet_io::ByteSink;
 use text_got::GotLines;
 use text_report::{REFUSED_ROOM, TOTAL_ROOM, refused_line, total_line};
 

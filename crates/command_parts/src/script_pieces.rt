@@ -1,7 +1,7 @@
 //! The script that an input says.
 ghost use Rattle.std.specs.Prelude.{IfOk, IfErr};
+ghost use Rattle.law_model.specs.Common.{IsValid};
 ghost use Rattle.law_model.specs.declared.script_types.Script.{Script};
-ghost use Rattle.law_model.specs.session.Valid.{IsValid};
 ghost use Rattle.command_parts.specs.Task.{Answer};
 ghost use Rattle.command_parts.specs.Ends.{lent};
 ghost use Rattle.command_parts.specs.Stops.{StopsReading};
@@ -10,14 +10,14 @@ ghost use Rattle.command_parts.specs.Scripts.{HasScript, script_answer};
 use crate::fault_notes::stop_of;
 use crate::piece_reader::{PieceReader, read_pieces};
 use crate::stop_and_status::Stop;
-use octet_io::ByteSource;
 use law_model::Script;
+use octet_io::ByteSource;
 use std::alloc::Global;
 use text_scripts::script_read::ScriptReader;
 
 impl PieceReader for ScriptReader {
     ghost use Rattle.text_scripts.specs.script_read.Script.{script_of};
-    ghost use Rattle.law_model.specs.session.Valid.{IsValid};
+    ghost use Rattle.law_model.specs.Common.{IsValid};
     ghost use Rattle.command_parts.specs.Scripts.{told_of, ReadsScript};
 
     type Said = Script;

@@ -1,6 +1,6 @@
 //! Why a command stopped, its exit status, and the note on it.
 ghost use Rattle.std.specs.Prelude.{◌≡◌, ◌≤◌, length};
-ghost use Rattle.octet_io.specs.Transfer.{Tells};
+ghost use Rattle.law_model.specs.Common.{Tells};
 ghost use Rattle.command_parts.specs.Task.{refused_status};
 ghost use Rattle.command_parts.specs.Stops.{status_at, note_of};
 

@@ -1,11 +1,10 @@
 //! Inputs are read whole before anything is written.
 ghost use Rattle.std.specs.Prelude.{◌≡◌, ◌<◌, ◌≤◌, ℕ, List, ◌++◌, length, vec_len, IfOk, IfErr};
 ghost use Rattle.std.specs.Io.KnownBytes.{prepend_known, IsAtEnd};
-ghost use Rattle.octet_io.specs.Transfer.{GivesAll};
+ghost use Rattle.law_model.specs.Common.{GivesAll, longest_input};
 ghost use Rattle.command_parts.specs.Task.{Answer};
 ghost use Rattle.command_parts.specs.Ends.{lent, HasRead};
 ghost use Rattle.command_parts.specs.Stops.{StopsReading, StopsTaking};
-ghost use Rattle.law_model.specs.Limits.{longest_input};
 
 use crate::stop_and_status::Stop;
 use octet_io::{ByteSource, Failed, ReadEnd, read_all};

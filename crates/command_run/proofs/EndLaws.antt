@@ -1,27 +1,20 @@
 -- What a session that has ended writes, and what is handed back.
 use Rattle.std.proofs.Common.{◌≡◌, ◌≤◌, ℕ, List, [], ◌++◌, length, Option, IfSome, Result, Ok, Err, refl}
 use Rattle.std.proofs.Common.{sym, subst, append_assoc}
-use Rattle.octet_io.specs.Transfer.{Appends, AppendsPart}
-use Rattle.octet_io.proofs.Parts.{Appends-then, AppendsPart-then, AppendsPart-longer}
+use Rattle.law_model.specs.Common.{Appends, AppendsPart, leg_of, Start}
 use Rattle.law_model.specs.declared.script_types.Script.{Script}
-use Rattle.law_model.specs.session.Leg.{leg_of}
-use Rattle.text_scripts.specs.script_read.Script.{script_of}
 use Rattle.law_model.specs.declared.item_refusals.Refusal.{Refusal}
 use Rattle.law_model.specs.declared.session_totals.Totals.{Totals}
+use Rattle.octet_io.proofs.Parts.{Appends-then, AppendsPart-then, AppendsPart-longer}
+use Rattle.text_scripts.specs.script_read.Script.{script_of}
 use Rattle.text_report.specs.Report.{got_texts, refused_texts, total_text}
-use Rattle.octet_io.specs.Start.{Start}
-use Rattle.law_walk.specs.Delivered.{delivered_of}
-use Rattle.law_walk.specs.Landed.{refusals_among, totals_among}
-use Rattle.law_walk.specs.Promise.{numbered}
-use Rattle.law_walk.specs.Report.{final_report}
+use Rattle.law_walk.specs.Common.{delivered_of, refusals_among, totals_among, numbered, final_report}
 use Rattle.text_got.specs.declared.got_text.GotLines.{GotLines}
 use Rattle.text_got.specs.Told.{HasText}
 use Rattle.text_scripts.specs.declared.script_read.script_fault.ScriptFault.{ScriptFault}
 use Rattle.law_headline.specs.Headline.{IsRunHeadline}
 use Rattle.law_headline.proofs.HeadlineLaws.{run_headline}
-use Rattle.command_parts.specs.Task.{Answer, reads}
-use Rattle.command_parts.specs.Ends.{Lent, Takes, WritesAll, Ends}
-use Rattle.command_parts.specs.Scripts.{answer_of, script_answer}
+use Rattle.command_parts.specs.Common.{Answer, reads, Lent, Takes, WritesAll, Ends, answer_of, script_answer}
 use Rattle.command_parts.proofs.EndLaws.{is-done, known-text}
 use Rattle.command_run.specs.Ended.{end_text}
 

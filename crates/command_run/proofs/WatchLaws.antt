@@ -1,19 +1,17 @@
 -- The alarms of a session as text, and what is written of it where a write fails.
 use Rattle.std.proofs.Common.{◌≡◌, ℕ, zero, suc, ◌+◌, ◌<◌, List, [], ◌++◌, Option, refl, sym, ◌∙◌, ap, ap₂, subst}
-use Rattle.std.proofs.Common.{arith}
-use Rattle.std.specs.List.{flat_map, range_with_len}
-use Rattle.std.proofs.lemmas.List.{append-nil}
-use Rattle.octet_io.specs.Transfer.{Appends}
+use Rattle.std.proofs.Common.{arith, flat_map, append-nil}
+use Rattle.std.specs.List.{range_with_len}
+use Rattle.law_model.proofs.ListLaws.{texts-more}
+use Rattle.law_model.specs.Common.{Appends, leg_of}
+use Rattle.law_model.specs.declared.script_types.Script.{Script}
 use Rattle.octet_io.proofs.Parts.{Appends-none}
 use Rattle.text_got.specs.Told.{AppendsSome}
-use Rattle.law_model.specs.declared.script_types.Script.{Script}
-use Rattle.law_model.specs.session.Leg.{leg_of}
 use Rattle.thread_rings.specs.declared.alarm_kinds.Alarm.{Alarm}
 use Rattle.thread_rings.specs.Alarms.{alarms_of_line}
 use Rattle.thread_alarms.specs.alarm_log.Alarms.{of_line}
 use Rattle.thread_alarms.specs.alarm_text.Text.{alarm_texts, lines_text}
-use Rattle.thread_alarms.proofs.AlarmTextLaws.TextLaws.{texts_more}
-use Rattle.law_walk.specs.Rings.{line_cells}
+use Rattle.law_walk.specs.Common.{line_cells}
 use Rattle.command_run.specs.Watch.{alarms_text}
 
 texts-same : (f g : ℕ → List ℕ) (n : ℕ) → ((m : ℕ) → m < n → f m ≡ g m) →
@@ -23,7 +21,7 @@ texts-same f g (suc n) same =
     let more : n + 1 ≡ suc n = omega arith in
     let rest = texts-same f g n (λ m low. same m (omega (arith, low))) in
     subst (λ k. flat_map f (range_with_len 0 k) ≡ flat_map g (range_with_len 0 k)) more
-    (texts_more f n ∙ ap₂ (λ a b. a ++ b) rest (same n (omega arith)) ∙ sym (texts_more g n))
+    (texts-more f n ∙ ap₂ (λ a b. a ++ b) rest (same n (omega arith)) ∙ sym (texts-more g n))
 
 pub told-text : (script : Script) (list : List Alarm) →
     ((m : ℕ) → m < script.config.lines → of_line m list ≡ alarms_of_line m (line_cells (leg_of script) m)) →

@@ -1,14 +1,12 @@
 -- The session that is handed back, and the end of its report.
 use Rattle.std.specs.Prelude.{ℕ, List, ◌++◌, Option, Some, None}
+use Rattle.law_model.specs.Common.{leg_of}
 use Rattle.law_model.specs.declared.script_types.Script.{Script}
-use Rattle.law_model.specs.session.Leg.{leg_of}
 use Rattle.text_report.specs.Report.{refused_texts, total_text}
-use Rattle.law_walk.specs.Landed.{refusals_among, totals_among}
-use Rattle.law_walk.specs.Promise.{numbered}
+use Rattle.law_walk.specs.Common.{refusals_among, totals_among, numbered}
 use Rattle.thread_session.specs.session_parts.Session.{IsEnded}
 use Rattle.thread_session.specs.declared.session_run.opened_session.Ended.{Ended}
-use Rattle.command_parts.specs.Ends.{Lent}
-use Rattle.command_parts.specs.Scripts.{HasScript}
+use Rattle.command_parts.specs.Common.{Lent, HasScript}
 use Rattle.thread_session.specs.session_run.Session.{IsGroupEnded}
 
 -- the session is that of the script: both ends of each ring say so, and so does the group

@@ -1,11 +1,10 @@
 -- `run`: a script's session, and its report.
 use Rattle.std.specs.Prelude.{ℕ, ◌==◌, ◌&&◌, List, [], length, bytes_eq, slice_index_or, codes, Option, Some, None}
 use Rattle.std.specs.Prelude.{if◌then◌else◌}
-use Rattle.law_model.specs.session.Leg.{leg_of}
-use Rattle.law_walk.specs.Report.{final_report}
+use Rattle.law_model.specs.Common.{leg_of}
+use Rattle.law_walk.specs.Common.{final_report}
 use Rattle.command_words.specs.Words.{number_in}
-use Rattle.command_parts.specs.Task.{Answer, writes}
-use Rattle.command_parts.specs.Scripts.{script_answer}
+use Rattle.command_parts.specs.Common.{Answer, writes, script_answer}
 use Rattle.command_run.specs.declared.command_of_words.RunCommand.{RunCommand}
 use Rattle.command_run.specs.declared.command_of_words.RunCommand.TheVariants.{Run}
 

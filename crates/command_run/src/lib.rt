@@ -5,8 +5,8 @@
 #![tactic(auto)]
 
 mod command_of_words;
-mod run_end;
 mod run;
+mod run_end;
 mod top_call;
 mod watch;
 

@@ -1,27 +1,23 @@
 //! `run`: a script's session is run, and what came of it is written.
 ghost use Rattle.std.specs.Prelude.{◌≡◌, ◌≢◌, ◌≤◌, None, OnOk, OnErr, map, string_bytes};
-ghost use Rattle.octet_io.specs.Transfer.{Appends, AppendsPart};
+ghost use Rattle.law_model.specs.Common.{Appends, AppendsPart, leg_of};
 ghost use Rattle.law_model.specs.declared.script_types.Script.{Script};
-ghost use Rattle.law_model.specs.session.Leg.{leg_of};
-ghost use Rattle.law_walk.specs.Landed.{totals_among};
-ghost use Rattle.law_walk.specs.Promise.{numbered};
+ghost use Rattle.law_walk.specs.Common.{totals_among, numbered};
 ghost use Rattle.command_words.specs.Words.{number_in};
-ghost use Rattle.command_parts.specs.Status.{HasRunAt};
-ghost use Rattle.command_parts.specs.Task.{reads};
-ghost use Rattle.command_parts.specs.Ends.{Ends, lent};
+ghost use Rattle.command_parts.specs.Common.{HasRunAt, reads, Ends, lent};
 ghost use Rattle.command_run.specs.Run.{run_of, run_words, run_answer};
 ghost use Rattle.command_run.specs.Ended.{HasEnded, HandsSession, end_text};
 
 use crate::command_of_words::RunCommand;
 use crate::run_end::{RunEnd, cut, done, stopped};
-use octet_io::{ByteSink, ByteSource, Failed, take_back};
 use command_parts::{Stop, read_whole_script, write_rest};
+use command_words::number_within;
 use law_model::Totals;
+use octet_io::{ByteSink, ByteSource, Failed, take_back};
 use std::alloc::Global;
 use std::sync::Wait;
 use std::thread::Threads;
 use text_got::GotLines;
-use command_words::number_within;
 use thread_rings::Gate;
 use thread_session::session_run::{Ended, run_session};
 

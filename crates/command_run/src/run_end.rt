@@ -1,10 +1,10 @@
 //! How a command ends.
 ghost use Rattle.std.specs.Prelude.{◌≡◌, Some, None, codes};
-ghost use Rattle.octet_io.specs.Transfer.{Tells};
-ghost use Rattle.command_parts.specs.Stops.{status_at, note_of};
+ghost use Rattle.law_model.specs.Common.{Tells};
+ghost use Rattle.command_parts.specs.Common.{status_at, note_of};
 
-use octet_io::ByteSink;
 use command_parts::{Stop, tell};
+use octet_io::ByteSink;
 use thread_session::session_run::Ended;
 
 /// How a call of the program ended.

@@ -1,22 +1,21 @@
 //! The program as a call: words, an input and two outputs in, a status and a session out.
 ghost use Rattle.std.specs.Prelude.{◌≡◌, ◌≢◌, ℕ, List, IfSome, None};
-ghost use Rattle.octet_io.specs.Transfer.{Appends, Tells};
+ghost use Rattle.law_model.specs.Common.{Appends, Tells};
 ghost use Rattle.law_headline.specs.Headline.{IsRunHeadline};
-ghost use Rattle.command_parts.specs.Status.{HasRunAt};
-ghost use Rattle.command_parts.specs.Ends.{Ends, lent};
+ghost use Rattle.command_parts.specs.Common.{HasRunAt, Ends, lent};
 ghost use Rattle.command_run.specs.Commands.{task_of, usage};
 ghost use Rattle.command_run.specs.Ended.{HandsSession};
 
 use crate::command_of_words::RunCommand;
-use crate::run_end::{RunEnd, stopped};
 use crate::run::run;
+use crate::run_end::{RunEnd, stopped};
 use crate::watch::watch;
-use octet_io::{ByteSink, ByteSource};
 use command_parts::{Stop, tell_usage};
+use command_words::{WordFault, read_words};
+use octet_io::{ByteSink, ByteSource};
 use std::alloc::Global;
 use std::sync::Wait;
 use std::thread::Threads;
-use command_words::{WordFault, read_words};
 use thread_rings::Gate;
 
 /// Runs the command that the words say. `run WORKERS` reads a script and runs its session, the client, the

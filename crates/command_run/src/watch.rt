@@ -1,25 +1,23 @@
 //! `watch`: a script's session is run, and what came of it is written, with the alarms of its lines on `notes`.
 ghost use Rattle.std.specs.Prelude.{◌≡◌, ◌≢◌, ◌≤◌, ◌<◌, None, OnOk, OnErr, map, string_bytes};
-ghost use Rattle.octet_io.specs.Transfer.{Appends, AppendsPart};
+ghost use Rattle.law_model.specs.Common.{Appends, AppendsPart};
 ghost use Rattle.command_words.specs.Words.{number_in};
 ghost use Rattle.thread_alarms.specs.alarm_log.Logs.{alarms_in};
 ghost use Rattle.thread_alarms.specs.alarm_text.Text.{lines_text};
-ghost use Rattle.command_parts.specs.Status.{HasRunAt};
-ghost use Rattle.command_parts.specs.Task.{reads};
-ghost use Rattle.command_parts.specs.Ends.{Ends, lent};
+ghost use Rattle.command_parts.specs.Common.{HasRunAt, reads, Ends, lent};
 ghost use Rattle.command_run.specs.Watch.{watch_of, watch_words, watch_answer};
 ghost use Rattle.command_run.specs.Ended.{HandsSession};
 
 use crate::command_of_words::RunCommand;
-use crate::run_end::{RunEnd, cut, done, stopped};
 use crate::run::write_end;
-use octet_io::{ByteSink, ByteSource, Failed, take_back};
+use crate::run_end::{RunEnd, cut, done, stopped};
 use command_parts::{Stop, read_whole_script};
+use command_words::number_within;
+use octet_io::{ByteSink, ByteSource, Failed, take_back};
 use std::alloc::Global;
 use std::sync::Wait;
 use std::thread::Threads;
 use text_got::GotLines;
-use command_words::number_within;
 use thread_alarms::alarm_log::AlarmList;
 use thread_alarms::alarm_text::write_alarms;
 use thread_rings::Gate;

@@ -4,23 +4,23 @@
 #![tactic(auto)]
 
 #[cfg(test)]
-mod gate_door;
+mod au4_command;
 #[cfg(test)]
 mod beginnings_of_script;
+#[cfg(test)]
+mod channels_command;
+#[cfg(test)]
+mod gate_door;
 #[cfg(test)]
 mod noise_command;
 #[cfg(test)]
 mod pair_command;
 #[cfg(test)]
-mod au4_command;
-#[cfg(test)]
-mod try_rows;
-#[cfg(test)]
 mod run_and_watch;
 #[cfg(test)]
 mod script_rows;
 #[cfg(test)]
-mod channels_command;
+mod try_rows;
 #[cfg(test)]
 mod walk_commands;
 #[cfg(test)]

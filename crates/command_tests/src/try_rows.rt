@@ -6,9 +6,9 @@
 //! an answer for any rest. Nothing here stops at want of memory: a text that is cut by it is another than the wanted one.
 
 use crate::gate_door::Door;
-use octet_io::{MemSink, MemSource};
 use command_run::run_top;
 use command_walk::walk_top;
+use octet_io::{MemSink, MemSource};
 use std::alloc::{AllocError, Global};
 use std::sync::Wait;
 use std::thread::Threads;

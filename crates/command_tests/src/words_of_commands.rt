@@ -3,8 +3,8 @@
 use crate::try_rows::words_of;
 use command_run::RunCommand;
 use command_walk::WalkCommand;
-use std::alloc::Global;
 use command_words::read_words;
+use std::alloc::Global;
 
 // Words with one space between them, and the command of the program of walks that they are.
 const WALKS: &str = "\

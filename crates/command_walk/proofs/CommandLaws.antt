@@ -7,18 +7,14 @@ use Rattle.std.specs.declared.alloc.Global.{Global}
 use Rattle.std.proofs.lemmas.Bool.{cases_Bool, and_parts, leb-true, ltb-true}
 use Rattle.text_lines.specs.Words.{number_of}
 use Rattle.command_words.specs.Words.{is_number, number_in, are_plain}
-use Rattle.law_model.specs.session.Valid.{IsWithin}
+use Rattle.law_model.specs.Common.{IsWithin, longest_frame}
 use Rattle.text_scripts.specs.rate_load.RateTexts.{IsRateLoad}
-use Rattle.command_parts.specs.Task.{Answer, Task, none, makes, IsCommand}
-use Rattle.command_parts.specs.Ends.{Lent, Kept, IsTold, Ends, no_source, no_command}
-use Rattle.command_parts.specs.Stops.{note_of}
-use Rattle.command_parts.specs.Status.{HasRunAt}
+use Rattle.command_parts.specs.Common.{Answer, Task, none, makes, IsCommand, Lent, Kept, IsTold, Ends, no_source}
+use Rattle.command_parts.specs.Common.{no_command, note_of, HasRunAt}
 use Rattle.command_parts.specs.declared.stop_and_status.Stop.TheVariants.{Memory}
 use Rattle.command_parts.proofs.StopLaws.{made-beside, ends-no-memory}
 use Rattle.command_walk.specs.declared.command_of_words.WalkCommand.{WalkCommand}
-use Rattle.command_walk.specs.declared.command_of_words.WalkCommand.TheVariants.{Walk, Trace, Fates, Capture, Gfp, Frames}
-use Rattle.command_walk.specs.declared.command_of_words.WalkCommand.TheVariants.{Decode, Noise, Au4, Channels, Pair, Make}
-use Rattle.command_walk.specs.declared.command_of_words.WalkCommand.TheVariants.{Service, Stream}
+use Rattle.command_walk.specs.declared.command_of_words.WalkCommand.TheVariants.{Walk, Trace, Fates, Capture, Gfp, Frames, Decode, Noise, Au4, Channels, Pair, Make, Service, Stream}
 use Rattle.command_walk.specs.commands.Walk.{word_at, is_word, walk_words}
 use Rattle.command_walk.specs.commands.Trace.{trace_words}
 use Rattle.command_walk.specs.commands.Fates.{fates_words}
@@ -34,7 +30,6 @@ use Rattle.command_walk.specs.commands.Pair.{pair_words}
 use Rattle.command_walk.specs.commands.Make.{load_of, make_words}
 use Rattle.command_walk.specs.commands.Stream.{ticks_of, rate_of, numbers_in, stream_words}
 use Rattle.command_walk.specs.WordsOfCommands.{command_of, task_at, command_in, task_for, task_of, usage}
-use Rattle.law_model.specs.Limits.{longest_frame}
 
 -- ---- numbers
 -- the numbers of a command are within their bounds

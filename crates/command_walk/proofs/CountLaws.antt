@@ -1,17 +1,15 @@
 -- How far an event, a round and the event lines of a script move the counts of a walk.
 use Rattle.std.proofs.Common.{◌≡◌, ℕ, zero, suc, ◌+◌, ◌<◌, ◌≤◌, ◌&&◌, nat_le, nat_lt, inl, inr, List, [], ◌∷◌, ◌++◌}
-use Rattle.std.proofs.Common.{length, replicate, take, slice_get, get_or, Option, Some, None, refl, ◌∙◌, ap, arith}
-use Rattle.std.specs.List.{flat_map}
+use Rattle.std.proofs.Common.{length, replicate, take, slice_get, Option, Some, None, refl, ◌∙◌, ap, arith}
 use Rattle.std.proofs.lemmas.Bool.{cases_Bool}
+use Rattle.law_model.specs.Common.{LinePath, LineCounts, Plan, Counts, in_send, in_receive, in_return, held, full}
+use Rattle.law_model.specs.Common.{is_missing, tick_full, tick_held, tick, carry_at, pop_lines, take_popped, take_row}
+use Rattle.law_model.specs.Common.{is_back_full, land_due, frame_dues, command_dues, step, run, carries_from, round}
+use Rattle.law_model.specs.Common.{begin, bound, drain, run_line, run_lines, walked}
 use Rattle.law_model.specs.declared.script_types.EventLine.{EventLine}
-use Rattle.law_model.specs.declared.script_types.EventLine.TheVariants.{Client, Operator, Round, Drain}
-use Rattle.law_model.specs.declared.script_types.EventLine.TheVariants as line
 use Rattle.law_model.specs.declared.walk_events.Event.{Event}
-use Rattle.law_model.specs.declared.walk_events.Event.TheVariants.{Accept, Command, Tick, Carry, Back, Take}
-use Rattle.law_model.specs.session.Counts.{LinePath, LineCounts, Plan, Counts, in_send, in_receive, in_return, held, full}
-use Rattle.law_model.specs.session.Counts.{is_missing, tick_full, tick_held, tick, carry_at, back, pop_lines, take_popped}
-use Rattle.law_model.specs.session.Counts.{take_row, is_back_full, land_due, frame_dues, command_dues, step, run}
-use Rattle.law_model.specs.session.Counts.{carries_from, round, begin, bound, drain, run_line, run_lines, walked}
+use Rattle.law_model.specs.declared.walk_events.Event.TheVariants.{Accept, Tick, Carry, Back, Take, Command}
+use Rattle.law_model.specs.session.Counts.{back}
 use Rattle.law_progress.proofs.ReachLaws.{run-append}
 
 -- the same rows and ticks
@@ -149,43 +147,6 @@ run-rises plan s (event ∷ events) =
     rises-then s (step plan s event).counts (run plan (step plan s event).counts events) (step-moves plan s event).rises
     (run-rises plan (step plan s event).counts events)
 
--- one try more
-pub replicate-last : {X : Type 0} (k : ℕ) (x : X) → replicate (k + 1) x ≡ replicate k x ++ x ∷ []
-replicate-last zero x = refl
-replicate-last (suc k) x = ap (λ n. replicate n x) (let e : suc k + 1 ≡ suc (k + 1) = omega arith in e)
-    ∙ ap (λ l. x ∷ l) (replicate-last k x)
-
--- one round more
-abbrev all-of : List (List Event) → List Event
-all-of tries = flat_map (λ (events : List Event). events) tries
-
-pub drain-rises : (k : ℕ) (plan : Plan) (s : Counts) → Rises s (drain k plan s)
-unfolding drain
-drain-rises zero plan s = rises s s (same s)
-drain-rises (suc k) plan s =
-    elim (cases_Bool (nat_le plan.ticks s.rows)) [
-      | inl h ↦ rw h (rises s s (same s))
-      | inr h ↦ rw h (rises-then s (run plan s (round plan)) (drain k plan (run plan s (round plan)))
-          (run-rises plan s (round plan)) (drain-rises k plan (run plan s (round plan))))
-    ]
-
-pub line-rises : (plan : Plan) (s : Counts) (line : EventLine) → Rises s (run_line plan s line)
-line-rises plan s (Client n) = run-rises plan s (replicate n Accept)
-line-rises plan s (Operator n) = run-rises plan s (replicate n Command)
-line-rises plan s (line.Tick n) = run-rises plan s (replicate n Tick)
-line-rises plan s (line.Carry m n) = run-rises plan s (replicate n (Carry m))
-line-rises plan s (line.Back n) = run-rises plan s (replicate n Back)
-line-rises plan s (line.Take n) = run-rises plan s (replicate n Take)
-line-rises plan s (Round n) = run-rises plan s (all-of (replicate n (round plan)))
-line-rises plan s Drain = drain-rises (bound plan) plan s
-
-pub lines-rises : (plan : Plan) (s : Counts) (lines : List EventLine) → Rises s (run_lines plan s lines)
-unfolding run_lines
-lines-rises plan s [] = rises s s (same s)
-lines-rises plan s (line ∷ lines) =
-    rises-then s (run_line plan s line) (run_lines plan (run_line plan s line) lines) (line-rises plan s line)
-    (lines-rises plan (run_line plan s line) lines)
-
 -- ---- event lines, one by one
 lines-append : (plan : Plan) (s : Counts) (xs ys : List EventLine) →
     run_lines plan s (xs ++ ys) ≡ run_lines plan (run_lines plan s xs) ys
@@ -268,9 +229,3 @@ round-moves plan s =
       most = omega (arith, end, is_a, is_b, is_t);
       one = omega (arith, rows, row_last, row_a, row_b, row_t);
     }
-
--- the item at a place within a list
-pub there : {X : Type 0} (xs : List X) (k : ℕ) (d : X) → k < length xs → slice_get xs k ≡ Some (get_or xs k d)
-there [] k d low = absurd (omega arith)
-there (x ∷ xs) zero d low = refl
-there (x ∷ xs) (suc k) d low = there xs k d (omega arith)

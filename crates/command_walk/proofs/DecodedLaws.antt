@@ -3,12 +3,12 @@ use Rattle.std.proofs.Common.{◌≡◌, ℕ, ◌+◌, ◌<◌, ◌≤◌, List,
 use Rattle.std.proofs.Common.{refl, sym, ap, ◌∙◌, subst, arith, append-nil, length-append, take-append-drop}
 use Rattle.std.proofs.lemmas.List.{take_more, take_all}
 use Rattle.std.proofs.lemmas.List.Concat.{flat_map-append}
-use Rattle.octet_io.specs.Transfer.{Appends, AppendsPart}
-use Rattle.octet_io.proofs.Parts.{Appends-none, Appends-then, AppendsPart-then, AppendsPart-longer}
+use Rattle.law_model.specs.Common.{Appends, AppendsPart, Found, packets_on, found_text, found_texts, end_text}
+use Rattle.law_model.specs.Common.{decoded_text}
 use Rattle.law_model.specs.declared.control_packet.Packet.{Packet}
 use Rattle.law_model.specs.declared.control_packet.PacketFault.{PacketFault}
-use Rattle.law_model.specs.packets.Decode.{Found, packets_on, packets_in}
-use Rattle.law_model.specs.packets.DecodeText.{found_text, found_texts, end_text, decoded_text}
+use Rattle.octet_io.proofs.Parts.{Appends-none, Appends-then, AppendsPart-then, AppendsPart-longer}
+use Rattle.law_model.specs.packets.Decode.{packets_in}
 use Rattle.text_captures.proofs.PacketTraceLaws.WordingLaws.{packets_stay}
 use Rattle.command_walk.specs.Written.{HasLines, HasLinesPart}
 

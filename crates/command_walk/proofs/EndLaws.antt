@@ -1,24 +1,18 @@
 -- How a traced walk ends: its text and its trace are written, or prefixes of them.
 use Rattle.std.proofs.Common.{◌≡◌, ℕ, false, not, List, [], ◌++◌, Option, sym, ◌∙◌, ap, subst, arith}
-use Rattle.octet_io.specs.Transfer.{Appends}
-use Rattle.octet_io.proofs.Parts.{Appends-none}
+use Rattle.walk_engine.proofs.WalkCoreLaws.OpenLaws.{none-delivered}
+use Rattle.law_model.specs.Common.{Appends, leg_of, Counts, begin, Start}
 use Rattle.law_model.specs.declared.script_types.Script.{Script}
-use Rattle.law_model.specs.session.Leg.{leg_of}
-use Rattle.law_model.specs.session.Counts.{Counts, begin}
+use Rattle.octet_io.proofs.Parts.{Appends-none}
 use Rattle.text_report.specs.Report.{got_texts, refused_texts, total_text}
-use Rattle.octet_io.specs.Start.{Start}
 use Rattle.text_got.specs.declared.got_text.GotLines.{GotLines}
 use Rattle.text_got.specs.Told.{GivesUp, HasText, has_failed, name_of, start_at}
-use Rattle.law_walk.specs.Walk.{walk_plan}
-use Rattle.law_walk.specs.Delivered.{delivered_of}
-use Rattle.law_walk.specs.Landed.{refusals_of, totals_of}
-use Rattle.law_walk.specs.Report.{report_of}
-use Rattle.walk_engine.specs.walk_core.Moved.{Walked}
+use Rattle.law_walk.specs.Common.{walk_plan, delivered_of, refusals_of, totals_of, report_of}
+use Rattle.walk_engine.specs.Common.{Walked}
 use Rattle.command_walk.specs.Ended.{StopsBoth}
 use Rattle.law_headline.specs.Texts.{counts_in, walk_text}
 use Rattle.command_walk.specs.commands.Trace.{decisions_text, trace_text}
 use Rattle.command_walk.specs.Told.{TellsAll, TellsPart}
-use Rattle.command_walk.proofs.MakeLaws.{none-delivered}
 use Rattle.command_walk.proofs.TraceLaws.{stops-both, walk-given_up}
 
 module _ {K E : Type 0} (k_written : K → Option (List ℕ)) (k_faults : K → ℕ) (e_written : E → Option (List ℕ))
@@ -39,7 +33,7 @@ module _ {K E : Type 0} (k_written : K → Option (List ℕ)) (k_faults : K → 
       let Q : List ℕ → Type 0 = λ text. Appends e_written e_faults first first text in
       let none : got_texts (delivered_of (leg_of walk.script) walk.counts.rows) ≡ [] =
       ap (λ (s : Counts). got_texts (delivered_of (leg_of walk.script) s.rows)) begun
-      ∙ ap got_texts (none-delivered walk.script) in
+      ∙ ap got_texts (none-delivered (leg_of walk.script)) in
       let quiet : decisions_text walk.script walk.counts.ticks ≡ [] =
       ap (λ (s : Counts). decisions_text walk.script s.ticks) begun in
       record {

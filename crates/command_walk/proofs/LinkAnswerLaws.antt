@@ -1,7 +1,6 @@
 -- What is written of a text that says a link, frames and flips, or a plan.
-use Rattle.std.proofs.Common.{◌≡◌, ℕ, List, ◌∙◌, ap}
-use Rattle.std.specs.Prelude.{Ok}
-use Rattle.command_parts.specs.Task.{writes}
+use Rattle.std.proofs.Common.{◌≡◌, ℕ, List, ◌∙◌, ap, Ok}
+use Rattle.command_parts.specs.Common.{writes}
 use Rattle.member_au4.specs.declared.au4_link.au4_draft.Link.{Link}
 use Rattle.member_au4.specs.au4_link.Link.{link_of}
 use Rattle.member_au4.specs.au4_link.Carried.{carried_text}

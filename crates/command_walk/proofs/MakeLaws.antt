@@ -1,27 +1,17 @@
 -- Frames whose octets are counted and added up.
-use Rattle.std.proofs.Common.{◌≡◌, ℕ, ◌+◌, ◌*◌, ◌≤◌, min, List, [], ◌∷◌, ◌++◌, sum, length, take, drop, refl, ◌∙◌, ap}
-use Rattle.std.proofs.Common.{arith, length-append}
+use Rattle.std.proofs.Common.{◌≡◌, ℕ, ◌+◌, ◌*◌, ◌≤◌, min, List, [], ◌∷◌, ◌++◌, sum, length, take, refl, ◌∙◌, ap, arith}
+use Rattle.std.proofs.Common.{length-append, length-take-le}
 use Rattle.std.proofs.lemmas.List.Sums.{sum_by_push}
-use Rattle.std.proofs.lemmas.List.{length-take-le}
 use borrow.Rule.Slice.PartMut.{put_mid, post_of}
+use Rattle.law_model.specs.Common.{leg_of, Counts, begin, drain, bound, IsValid, longest_frame}
 use Rattle.law_model.specs.declared.script_types.Script.{Script}
-use Rattle.law_model.specs.session.Leg.{leg_of}
-use Rattle.law_model.specs.session.Counts.{Counts, begin, drain, bound}
-use Rattle.law_model.specs.session.Valid.{IsValid}
-use Rattle.law_model.specs.rows.SessionStream.{rows_of}
-use Rattle.law_model.specs.frames.Segment.{segments_on}
-use Rattle.law_model.specs.frames.Run.{delineate_within}
-use Rattle.law_model.specs.frames.Hunt.{hunt_within}
 use Rattle.law_model.specs.declared.session_totals.Totals.{Totals}
 use Rattle.text_scripts.specs.make_load.Load.{load}
-use Rattle.law_walk.specs.Walk.{walk_plan}
-use Rattle.law_walk.specs.Landed.{totals_of}
-use Rattle.law_walk.specs.Delivered.{delivered_of}
+use Rattle.law_walk.specs.Common.{walk_plan, totals_of, delivered_of}
 use Rattle.law_walk.proofs.CountLaws.{delivered-few}
-use Rattle.walk_engine.specs.walk_core.Moved.{Walked, delivered_since}
+use Rattle.walk_engine.specs.Common.{Walked}
 use Rattle.command_walk.specs.commands.Make.{octet_count, octet_sum, lines_text, make_text, HasSummed}
 use Rattle.law_headline.specs.Texts.{counts_in}
-use Rattle.law_model.specs.Limits.{longest_frame}
 
 pub summed-none : HasSummed 0 0 []
 summed-none = record { octets = refl; total = refl; few = omega arith; small = omega arith }
@@ -45,20 +35,6 @@ summed-next octets total size add more_octets more_total frames frame so short i
       few = omega (arith, was_few, count, long, short);
       small = omega (arith, was_small, all, long, short, small, is_add);
     }
-
--- no frame is delivered of no row
-drop-none : {X : Type 0} (xs : List X) → drop 0 xs ≡ xs
-drop-none [] = refl
-drop-none (x ∷ xs) = refl
-
-pub none-delivered : (script : Script) → delivered_of (leg_of script) 0 ≡ []
-unfolding rows_of segments_on delineate_within hunt_within
-none-delivered script = refl
-
-pub since-begin : (script : Script) (rows : ℕ) → delivered_since (leg_of script) 0 rows
-    ≡ delivered_of (leg_of script) rows
-since-begin script rows = ap (λ (frames : List (List ℕ)). drop (length frames) (delivered_of (leg_of script) rows))
-    (none-delivered script) ∙ drop-none (delivered_of (leg_of script) rows)
 
 -- the sums of what a valid script delivers are told exactly
 module _ (script : Script) (rows octets total : ℕ) (valid : IsValid script) (low : rows ≤ script.config.ticks)

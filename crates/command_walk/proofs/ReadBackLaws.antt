@@ -1,29 +1,21 @@
 -- The capture of a script's walk is read as the frames in it: rows don't fall, and no frame is long.
-use Rattle.std.proofs.Common.{◌≡◌, ℕ, zero, suc, ◌+◌, ◌≤◌, Bool, true, false, List, [], ◌∷◌, ◌++◌, length}
-use Rattle.std.proofs.Common.{take}
-use Rattle.std.proofs.Common.{drop, All, Option, Some, None, Ok, sym, subst, arith, inl, inr, length-drop}
-use Rattle.std.specs.Prelude.{nat_lt}
-use Rattle.std.specs.List.{flat_map}
-use Rattle.std.proofs.lemmas.Bool.{cases_Bool, ltb-false}
+use Rattle.std.proofs.Common.{◌≡◌, ℕ, zero, suc, ◌+◌, ◌≤◌, Bool, true, false, List, [], ◌∷◌, ◌++◌, length, take, drop}
+use Rattle.std.proofs.Common.{All, Option, Some, None, Ok, sym, subst, arith, inl, inr, length-drop, nat_lt, flat_map}
+use Rattle.std.proofs.Common.{ltb-false}
+use Rattle.std.proofs.lemmas.Bool.{cases_Bool}
 use Rattle.std.proofs.lemmas.List.Concat.{flat_map-append}
 use Rattle.std.proofs.lemmas.List.Elements.{All-nil, All-cons, All-head, All-tail, All-append, All-drop, All-weaker}
+use Rattle.law_model.specs.Common.{leg_of, longest_frame, type_fault, head, Outcome, outcome_by, client_outcome}
+use Rattle.law_model.specs.Common.{is_settled, area_outcomes, outcomes_after, outcomes_after_with, descrambled_areas}
+use Rattle.law_model.specs.Common.{run_outcomes, Run, runs_with, Segment, segments, segment_frames, IsValid}
 use Rattle.law_model.specs.declared.script_types.Script.{Script}
 use Rattle.law_model.specs.declared.frame_faults.TypeFault.{TypeFault}
-use Rattle.law_model.specs.session.Leg.{leg_of}
-use Rattle.law_model.specs.Limits.{longest_frame}
-use Rattle.law_model.specs.frames.TypeHeader.{type_fault}
 use Rattle.law_model.specs.frames.Delivery.{frame_in}
-use Rattle.law_model.specs.frames.Core.{head}
-use Rattle.law_model.specs.frames.Outcome.{Outcome, outcome_by, client_outcome, is_settled, area_outcomes, outcomes_after}
-use Rattle.law_model.specs.frames.Outcome.{outcomes_after_with, descrambled_areas, run_outcomes}
-use Rattle.law_model.specs.frames.Run.{Run, runs_with}
-use Rattle.law_model.specs.frames.Segment.{Segment, segments, segment_frames}
-use Rattle.law_model.specs.session.Valid.{IsValid}
-use Rattle.law_walk.specs.Delivered.{session_rows, delivered_of}
+use Rattle.law_walk.specs.Common.{session_rows, delivered_of}
 use Rattle.law_walk.proofs.PlanLaws.{sound-walks}
 use Rattle.law_walk.proofs.EndLaws.{counts-within}
 use Rattle.law_headline.specs.Texts.{counts_in}
-use Rattle.walk_engine.specs.walk_core.Moved.{delivered_since}
+use Rattle.walk_engine.specs.Common.{delivered_since}
 use Rattle.text_captures.specs.capture_file.Written.{RowFrame, AreRising, due_frames}
 use Rattle.text_captures.specs.capture_file.Reading.{capture_said}
 use Rattle.text_captures.specs.capture_file.Out.{at_row}

@@ -1,18 +1,15 @@
 -- How the rooms of the commands end.
 use Rattle.std.proofs.Common.{◌≡◌, ◌≤◌, ℕ, List, length, Option, Some, IfSome, Result, Ok, Err, refl, sym, ◌∙◌, ap}
 use Rattle.std.proofs.Common.{subst, inl, inr, arith}
-use Rattle.octet_io.specs.Transfer.{AppendsPart}
+use Rattle.law_model.specs.Common.{AppendsPart, Counts}
 use Rattle.law_model.specs.declared.script_types.Script.{Script}
-use Rattle.law_model.specs.session.Counts.{Counts}
 use Rattle.text_scripts.specs.declared.script_read.script_fault.ScriptFault.{ScriptFault}
 use Rattle.text_scripts.specs.script_read.Script.{script_of}
 use Rattle.law_headline.specs.Texts.{counts_in, walk_text}
 use Rattle.law_headline.specs.Headline.{IsWalkHeadline}
 use Rattle.law_headline.proofs.HeadlineLaws.{walk_headline}
-use Rattle.walk_engine.specs.walk_core.Moved.{Walked}
-use Rattle.command_parts.specs.Task.{Answer, reads}
-use Rattle.command_parts.specs.Ends.{Lent, Takes, WritesAll, Ends}
-use Rattle.command_parts.specs.Scripts.{HasScript, answer_of, script_answer}
+use Rattle.walk_engine.specs.Common.{Walked}
+use Rattle.command_parts.specs.Common.{Answer, reads, Lent, Takes, WritesAll, Ends, HasScript, answer_of, script_answer}
 use Rattle.command_parts.proofs.EndLaws.{is-done, known-text}
 use Rattle.pair_script.specs.declared.script_pair.PairFault.{PairFault}
 use Rattle.pair_script.specs.declared.script_pair.ScriptPair.{ScriptPair}

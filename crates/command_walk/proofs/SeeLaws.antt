@@ -1,12 +1,11 @@
 -- What stands of a walk after a turn, where its script is kept.
 use Rattle.std.proofs.Common.{◌≡◌, List, [], ◌∷◌, sym, subst}
+use Rattle.law_model.specs.Common.{leg_of, Counts, run, run_lines, walked}
 use Rattle.law_model.specs.declared.script_types.Script.{Script}
 use Rattle.law_model.specs.declared.walk_events.Event.{Event}
 use Rattle.law_model.specs.declared.script_types.EventLine.{EventLine}
 use Rattle.law_model.specs.declared.script_types.EventLine.TheVariants.{Drain}
-use Rattle.law_model.specs.session.Leg.{leg_of}
-use Rattle.law_model.specs.session.Counts.{Counts, run, run_lines, walked}
-use Rattle.law_walk.specs.Walk.{walk_plan, IsWalked}
+use Rattle.law_walk.specs.Common.{walk_plan, IsWalked}
 use Rattle.law_headline.specs.Texts.{counts_in}
 use Rattle.command_walk.proofs.TraceLaws.{turn-walked, lines-walked}
 

@@ -1,31 +1,22 @@
 -- What `walk` writes of a text of which `fates` says that each start was true.
-use Rattle.std.proofs.Common.{◌≡◌, ℕ, ◌≤◌, Bool, true, false, List, [], ◌∷◌, ◌++◌, length, refl, sym, ◌∙◌, ap, append_assoc, arith}
-use Rattle.std.specs.Prelude.{Result, Ok, Err, codes, decimal, ◌-◌, ◌+◌, reverse, slice_index_or}
-use Rattle.std.specs.List.{flat_map}
+use Rattle.std.proofs.Common.{◌≡◌, ℕ, ◌≤◌, Bool, true, false, List, [], ◌++◌, length, refl, sym, ◌∙◌, ap, append_assoc}
+use Rattle.std.proofs.Common.{arith, Result, Ok, Err, codes, decimal, ◌-◌, ◌+◌, reverse, slice_index_or, flat_map}
 use Rattle.std.proofs.lemmas.List.{reverse-append}
+use Rattle.law_model.specs.Common.{Counts, Leg, leg_of, scenario_by}
 use Rattle.law_model.specs.declared.script_types.Script.{Script}
-use Rattle.law_model.specs.session.Counts.{Counts}
-use Rattle.law_model.specs.session.Leg.{Leg, leg_of}
-use Rattle.law_model.specs.session.Scenario.{scenario_by}
 use Rattle.law_progress.proofs.ReachLaws.{walked-reached}
-use Rattle.law_walk.specs.Walk.{walk_plan, session_of}
-use Rattle.law_walk.specs.Delivered.{session_rows}
-use Rattle.law_walk.specs.Promise.{session_pieces, ConfirmsTrue}
-use Rattle.law_walk.specs.Report.{final_report}
+use Rattle.law_walk.specs.Common.{walk_plan, session_of, session_rows, session_pieces, ConfirmsTrue, final_report}
 use Rattle.text_scripts.specs.declared.script_read.script_fault.ScriptFault.{ScriptFault}
 use Rattle.text_scripts.specs.script_read.Script.{script_of}
 use Rattle.text_scripts.proofs.ScriptReadLaws.ReadLaws.{valid_text}
 use Rattle.law_headline.specs.Texts.{counts_in, walk_text}
 use Rattle.law_headline.specs.Headline.{IsRunReport}
 use Rattle.law_headline.proofs.HeadlineLaws.{walk_report, run_report}
-use Rattle.fate_engine.specs.fate_law.Marks.{are_true_marks}
-use Rattle.fate_engine.specs.fate_law.Spoiled.{spoiled_of}
-use Rattle.fate_engine.specs.fate_law.Spans.{later_segments}
-use Rattle.fate_engine.specs.fate_law.SessionFates.{Ended, ended_of, is_refused, has_got, has_waited, count_of}
-use Rattle.fate_engine.specs.fate_law.FateText.{spoiled_text, segment_text, ended_text, truth_text, fates_end, fates_text}
+use Rattle.fate_engine.specs.Common.{are_true_marks, spoiled_of, later_segments, Ended, ended_of, is_refused, has_got}
+use Rattle.fate_engine.specs.Common.{has_waited, count_of, spoiled_text, segment_text, ended_text, fates_end}
+use Rattle.fate_engine.specs.Common.{fates_text}
 use Rattle.fate_engine.proofs.FateLaws.FateLaws.{starts-decided}
-use Rattle.command_parts.specs.Task.{Answer, writes}
-use Rattle.command_parts.specs.Scripts.{answer_of}
+use Rattle.command_parts.specs.Common.{Answer, writes, answer_of}
 use Rattle.command_walk.specs.commands.Fates.{fates_answer, EndsTrue, WalksTrue}
 
 -- ---- how a text ends

@@ -5,21 +5,18 @@ use Rattle.std.specs.List.{flat_map, range_with_len}
 use Rattle.std.proofs.lemmas.List.{map-append}
 use Rattle.std.proofs.lemmas.List.Concat.{flat_map-append}
 use Rattle.std.proofs.lemmas.List.FromFn.{map-range_with_len_more}
-use Rattle.octet_io.specs.Start.{Start}
+use Rattle.pair_walk.proofs.EndLaws.{since}
+use Rattle.walk_engine.proofs.WalkCoreLaws.OpenLaws.{none-delivered}
+use Rattle.law_model.specs.Common.{Start, leg_of, Counts, begin}
 use Rattle.law_model.specs.declared.script_types.Script.{Script}
-use Rattle.law_model.specs.session.Leg.{leg_of}
-use Rattle.law_model.specs.session.Counts.{Counts, begin}
-use Rattle.law_walk.specs.Walk.{walk_plan}
-use Rattle.law_walk.specs.Delivered.{delivered_of}
-use Rattle.walk_engine.specs.walk_core.Moved.{Walked, delivered_since, GivesRows}
+use Rattle.law_walk.specs.Common.{walk_plan, delivered_of}
+use Rattle.walk_engine.specs.Common.{Walked, delivered_since, GivesRows}
 use Rattle.walk_engine.proofs.WalkCoreLaws.RoundLaws.{since-none}
 use Rattle.text_captures.specs.capture_file.Written.{RowFrame}
 use Rattle.text_captures.specs.declared.capture_file.capture_out.CaptureOut.{CaptureOut}
 use Rattle.text_captures.specs.capture_file.Out.{HasCapture, AddsRow, at_row}
 use Rattle.text_captures.proofs.CaptureFileLaws.OutLaws.{row-more}
 use Rattle.command_walk.specs.commands.Capture.{frames_of_row, taken_frames, HasTaken}
-use Rattle.command_walk.proofs.MakeLaws.{none-delivered}
-use Rattle.command_walk.proofs.TraceLaws.{since}
 
 pub taken-none : (script : Script) → taken_frames script 0 ≡ []
 unfolding taken_frames
@@ -64,7 +61,8 @@ frames-at row (frame ∷ frames) = ap (λ l. frame ∷ l) (frames-at row frames)
 
 pub taken-delivered : (script : Script) (rows : ℕ) →
     map (λ (own : RowFrame). own.frame) (taken_frames script rows) ≡ delivered_of (leg_of script) rows
-taken-delivered script zero = ap (map (λ (own : RowFrame). own.frame)) (taken-none script) ∙ sym (none-delivered script)
+taken-delivered script zero = ap (map (λ (own : RowFrame). own.frame)) (taken-none script)
+    ∙ sym (none-delivered (leg_of script))
 taken-delivered script (suc rows) =
     let e : suc rows ≡ rows + 1 = omega arith in
     ap (λ n. map (λ (own : RowFrame). own.frame) (taken_frames script n)) e
@@ -73,7 +71,7 @@ taken-delivered script (suc rows) =
     ∙ ap (λ l. l ++ map (λ (own : RowFrame). own.frame) (frames_of_row script rows)) (taken-delivered script rows)
     ∙ ap (λ l. delivered_of (leg_of script) rows ++ l)
     (frames-at rows (delivered_since (leg_of script) rows (rows + 1)))
-    ∙ since script rows (rows + 1) (omega arith) ∙ ap (delivered_of (leg_of script)) (sym e)
+    ∙ since (leg_of script) rows (rows + 1) (omega arith) ∙ ap (delivered_of (leg_of script)) (sym e)
 
 -- ---- a capture that is written
 module _ {K : Type 0} (written : K → Option (List ℕ)) (faults : K → ℕ) where

@@ -2,13 +2,12 @@
 -- sink tells of its
 -- octets, where it tells them, and its count of faults.
 use Rattle.std.specs.Prelude.{◌≡◌, ◌⊎◌, ℕ, List, Option, Some}
-use Rattle.octet_io.specs.Transfer.{AppendsPart}
+use Rattle.law_model.specs.Common.{AppendsPart}
 use Rattle.law_model.specs.declared.script_types.Script.{Script}
 use Rattle.law_headline.specs.Texts.{counts_in}
-use Rattle.walk_engine.specs.walk_core.Moved.{Walked}
+use Rattle.walk_engine.specs.Common.{Walked}
 use Rattle.text_got.specs.Told.{AppendsSome}
-use Rattle.command_parts.specs.Ends.{Lent}
-use Rattle.command_parts.specs.Scripts.{HasScript}
+use Rattle.command_parts.specs.Common.{Lent, HasScript}
 
 -- the walk of a script, with the counts of its events
 abbrev pub IsWalkOf : Script → Option Walked → Type 0

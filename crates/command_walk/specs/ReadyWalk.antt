@@ -1,10 +1,8 @@
 -- A walk before any event, with what a command reads of its script beside it.
 use Rattle.std.specs.Prelude.{◌≡◌}
+use Rattle.law_model.specs.Common.{leg_of, IsValid, begin}
 use Rattle.law_model.specs.declared.script_types.Script.{Script}
-use Rattle.law_model.specs.session.Leg.{leg_of}
-use Rattle.law_model.specs.session.Valid.{IsValid}
-use Rattle.law_model.specs.session.Counts.{begin}
-use Rattle.law_walk.specs.Walk.{walk_plan}
+use Rattle.law_walk.specs.Common.{walk_plan}
 use Rattle.command_walk.specs.declared.turns.ready_walk.ReadyWalk.{ReadyWalk}
 
 pub record IsBegun (own : Script) (begun : ReadyWalk) : Type 0 where

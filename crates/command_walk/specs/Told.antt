@@ -1,14 +1,11 @@
 -- A walk that is traced: its turns, and what is told of it so far, as private clauses say it.
 use Rattle.std.specs.Prelude.{◌≡◌, ℕ, ◌≤◌, Bool, true, false, not, List, [], ◌∷◌, Option}
-use Rattle.octet_io.specs.Transfer.{Appends}
+use Rattle.law_model.specs.Common.{Appends, leg_of, Plan, round, Start}
 use Rattle.law_model.specs.declared.walk_events.Event.{Event}
-use Rattle.law_model.specs.session.Leg.{leg_of}
-use Rattle.law_model.specs.session.Counts.{Plan, round}
 use Rattle.law_progress.specs.Progress.{HasLine}
-use Rattle.octet_io.specs.Start.{Start}
 use Rattle.text_got.specs.Told.{GivesUp}
-use Rattle.law_walk.specs.Delivered.{delivered_of}
-use Rattle.walk_engine.specs.walk_core.Moved.{Walked}
+use Rattle.law_walk.specs.Common.{delivered_of}
+use Rattle.walk_engine.specs.Common.{Walked}
 use Rattle.command_walk.specs.commands.Trace.{decisions_text}
 use Rattle.command_walk.specs.declared.turns.trace_turns.Turn.{Turn}
 use Rattle.command_walk.specs.declared.turns.trace_turns.Turn.TheVariants.{Try, Round}

@@ -4,9 +4,8 @@ use Rattle.std.specs.Option.{option_or}
 use Rattle.std.specs.declared.alloc.Global.{Global}
 use Rattle.text_scripts.specs.make_load.Load.{load}
 use Rattle.command_words.specs.Words.{taken_as}
-use Rattle.command_parts.specs.Task.{Task, none, reads, makes}
-use Rattle.command_parts.specs.Ends.{Lent}
-use Rattle.walk_engine.specs.walk_core.Moved.{Walked}
+use Rattle.command_parts.specs.Common.{Task, none, reads, makes, Lent}
+use Rattle.walk_engine.specs.Common.{Walked}
 use Rattle.command_walk.specs.declared.command_of_words.WalkCommand.{WalkCommand}
 use Rattle.command_walk.specs.declared.command_of_words.WalkCommand.TheVariants.{Walk, Trace, Fates, Capture, Gfp, Frames}
 use Rattle.command_walk.specs.declared.command_of_words.WalkCommand.TheVariants.{Decode, Noise, Au4, Channels, Pair, Make}

@@ -2,9 +2,8 @@
 -- the sink before the
 -- first line, and `now` is the sink as it is.
 use Rattle.std.specs.Prelude.{◌≡◌, ℕ, List, length, Option}
-use Rattle.octet_io.specs.Transfer.{Appends, AppendsPart}
+use Rattle.law_model.specs.Common.{Appends, AppendsPart, found_texts}
 use Rattle.law_model.specs.packets.Decode.{packets_in}
-use Rattle.law_model.specs.packets.DecodeText.{found_texts}
 
 -- the lines of the packets in these octets are written, and `packets` is their number
 pub record HasLines {K : Type 0} (written : K → Option (List ℕ)) (faults : K → ℕ) (octets : List ℕ) (start now : K)

@@ -4,8 +4,8 @@ use crate::commands::{
     au4, capture, channels, decode, fates, frames, gfp, make, noise, pair, service, stream, trace,
     walk,
 };
-use text_scripts::rate_load::RateLoad;
 use command_words::FromWords;
+use text_scripts::rate_load::RateLoad;
 
 /// What the program is told to do.
 #[derive(Clone, Copy, Debug, PartialEq, Eq)]

@@ -1,10 +1,9 @@
 //! The octets that lines of hexadecimal digits say.
 ghost use Rattle.std.specs.Prelude.{◌≡◌, ℕ, ◌≤◌, ◌+◌, ◌*◌, ◌/◌, ◌++◌, List, length, vec_len, Ok, Err, Some, None, IfOk};
-ghost use Rattle.std.specs.Prelude.{OnOk, OnErr};
-ghost use Rattle.std.specs.Vec.{vec_capacity};
+ghost use Rattle.std.specs.Prelude.{OnOk, OnErr, vec_capacity};
 ghost use Rattle.text_lines.specs.Words.{words};
 ghost use Rattle.command_walk.specs.commands.HexText.{hex_text_of, line_octets};
-ghost use Rattle.law_model.specs.Limits.{longest_input};
+ghost use Rattle.law_model.specs.Common.{longest_input};
 
 use std::alloc::Global;
 use text_hex::{NotHex, decode_into};

@@ -11,17 +11,17 @@
 #![tactic(auto)]
 
 mod command_of_words;
-mod walk_end;
-mod hex_text;
 mod commands;
+mod hex_text;
 mod top_call;
 mod turns;
+mod walk_end;
 
 pub use command_of_words::WalkCommand;
-pub use walk_end::WalkEnd;
 pub use commands::au4::au4_law;
 pub use commands::capture::{capture_law, capture_read_law};
 pub use commands::channels::channels_law;
 pub use commands::fates::starts_law;
 pub use commands::noise::noise_law;
 pub use top_call::walk_top;
+pub use walk_end::WalkEnd;

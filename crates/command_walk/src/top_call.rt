@@ -1,15 +1,13 @@
 //! The program as a call: words, an input and two outputs in, a status and a walk out.
 ghost use Rattle.std.specs.Prelude.{◌≡◌, ◌≢◌, List, ℕ, IfSome, Some, None};
-ghost use Rattle.octet_io.specs.Transfer.{Appends, Tells};
+ghost use Rattle.law_model.specs.Common.{Appends, Tells};
 ghost use Rattle.law_headline.specs.Headline.{IsWalkHeadline};
-ghost use Rattle.command_parts.specs.Status.{HasRunAt};
-ghost use Rattle.command_parts.specs.Ends.{Ends, lent};
+ghost use Rattle.command_parts.specs.Common.{HasRunAt, Ends, lent};
 ghost use Rattle.command_walk.specs.declared.command_of_words.WalkCommand.TheVariants.{Pair};
 ghost use Rattle.command_walk.specs.commands.Pair.{TellsPair};
 ghost use Rattle.command_walk.specs.WordsOfCommands.{command_in, task_of, usage, HandsBack, RunsScript};
 
 use crate::command_of_words::WalkCommand;
-use crate::walk_end::{WalkEnd, stopped};
 use crate::commands::au4::au4;
 use crate::commands::capture::capture;
 use crate::commands::channels::channels;
@@ -24,10 +22,11 @@ use crate::commands::service::service;
 use crate::commands::stream::stream;
 use crate::commands::trace::trace;
 use crate::commands::walk::walk;
-use octet_io::{ByteSink, ByteSource};
+use crate::walk_end::{WalkEnd, stopped};
 use command_parts::{Stop, tell_usage};
-use std::alloc::Global;
 use command_words::{WordFault, read_words};
+use octet_io::{ByteSink, ByteSource};
+use std::alloc::Global;
 
 /// Runs the command that the words say. `walk` reads a script, makes its walk and writes on `out` the got
 /// lines of the frames that it delivers, the lines of refused items, and the line of totals; without event

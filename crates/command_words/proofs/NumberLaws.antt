@@ -1,9 +1,8 @@
 -- Numbers that are too large before their last digit.
 use Rattle.std.proofs.Common.{◌≡◌, ℕ, ◌+◌, ◌-◌, ◌*◌, ◌<◌, ◌≤◌, List, [], ◌∷◌, length, slice_index_or, drop, sym, arith}
-use Rattle.std.proofs.Common.{refl, Bool, true, false, nat_le, ◌&&◌, if◌then◌else◌, ap}
-use Rattle.std.specs.Prelude.{Some, None}
+use Rattle.std.proofs.Common.{refl, Bool, true, false, nat_le, ◌&&◌, if◌then◌else◌, ap, Some, None}
 use Rattle.std.proofs.lemmas.List.{at_drop_more}
-use Rattle.std.proofs.lemmas.Bool.Decides.{nat_tests}
+use Rattle.std.proofs.lemmas.Bool.{lt-leb}
 use Rattle.text_lines.specs.Words.{number_after, number_of}
 use Rattle.command_words.specs.Words.{is_number, number_in}
 
@@ -11,9 +10,6 @@ use Rattle.command_words.specs.Words.{is_number, number_in}
 grows : (n : ℕ) (w : List ℕ) → n ≤ number_after n w
 grows n [] = omega arith
 grows n (c ∷ w) = let more = grows (10 * n + (c - 48)) w in omega (arith, more)
-
-above : (most n : ℕ) → most < n → nat_le n most ≡ false
-above most n less = grind (arith, nat_tests)
 
 no_and : (a b c : Bool) → c ≡ false → (a && (b && c)) ≡ false
 no_and true true c is = is
@@ -28,4 +24,4 @@ too_large least most n next i d w value within is less =
     let large : most < number_of w = omega (arith, value, step, grown, is, less) in
     ap (λ (b : Bool). if b then Some (number_of w) else None)
     (sym (no_and (is_number w) (nat_le least (number_of w)) (nat_le (number_of w) most)
-    (above most (number_of w) large)))
+    (lt-leb (number_of w) most large)))

@@ -1,8 +1,7 @@
 -- The parser takes plain words, and its matches say them.
 use Rattle.std.proofs.Common.{◌≡◌, ◌==◌, ◌&&◌, ◌<◌, ◌∙◌, ℕ, List, [], ◌∷◌, Bool, true, false, refl, sym}
 use Rattle.std.proofs.Common.{arith, length, nat_le}
-use Rattle.std.proofs.lemmas.Bool.{and_parts, false≢true, not-true}
-use Rattle.std.proofs.lemmas.Bool.Decides.{nat_tests}
+use Rattle.std.proofs.lemmas.Bool.{and_parts, false≢true, not-true, lt-leb}
 use Rattle.std.specs.List.{list_all}
 use Rattle.clap.specs.Words.{Text, is_simple, matches_of, takes}
 use Rattle.clap.proofs.OnLiterals.{clap_on_literals}
@@ -67,12 +66,9 @@ no-middle : (a b c : Bool) → b ≡ false → (a && (b && c)) ≡ false
 no-middle true b c is = rw is refl
 no-middle false b c is = refl
 
-above : (most n : ℕ) → most < n → nat_le n most ≡ false
-above most n less = grind (arith, nat_tests)
-
 too-many : (words : List Text) → 6 < length words → are_plain words ≡ false
 too-many words many = no-middle (nat_le 1 (length words)) (nat_le (length words) 6) (list_all is_plain words)
-    (above 6 (length words) many)
+    (lt-leb (length words) 6 many)
 
 read-one : (w0 : Text) → Begins w0 → Reads (w0 ∷ [])
 read-one w0 b0 =

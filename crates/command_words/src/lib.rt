@@ -3,8 +3,8 @@
 //! is run here. Begin with `read_words`: it gives the command or the usage, and else only want of memory.
 #![tactic(auto)]
 
-mod number_word;
 mod clap_parser;
+mod number_word;
 mod plain_words;
 mod word_reading;
 

@@ -1,4 +1,3 @@
-pub mod ListLaws
 pub mod WholeLaws
 pub mod PlaceLaws
 pub mod RunLaws

@@ -6,30 +6,20 @@
 ghost use Rattle.std.specs.Prelude.{◌≡◌, ℕ, ◌<◌, ◌≤◌, ◌↔◌, ◌-◌, ◌&&◌, nat_lt, not, true, false, List, [], ◌∷◌, ◌++◌};
 ghost use Rattle.std.specs.Prelude.{map, length, All, Option, None};
 ghost use Rattle.std.specs.List.{list_any};
-ghost use Rattle.law_model.specs.frames.Piece.{Piece, idle, stream_of};
-ghost use Rattle.law_model.specs.frames.Segment.{StreamRow, segments, deliver, octets_of_rows};
-ghost use Rattle.law_model.specs.frames.Loss.{Extent, extents, is_carried, lies_in, is_frame_lost, TrueStarts};
-ghost use Rattle.law_model.specs.frames.Loss.{frames_kept};
+ghost use Rattle.law_model.specs.Common.{Piece, idle, stream_of, StreamRow, segments, deliver, octets_of_rows, Extent};
+ghost use Rattle.law_model.specs.Common.{extents, is_carried, lies_in, is_frame_lost, TrueStarts, frames_kept, Stream};
+ghost use Rattle.law_model.specs.Common.{reached, stream_before, rows_of, Leg, Counts, Scenario, is_whole_row, Told};
+ghost use Rattle.law_model.specs.Common.{IsSound};
 ghost use Rattle.law_loss.specs.Carried.{CarriesStream, IsSentPiece};
 ghost use Rattle.fate_engine.specs.fate_law.Fates.{HasPlace, row_at, spoiled_after, fate_of, is_got, frames_got};
 ghost use Rattle.fate_engine.specs.fate_law.Marks.{is_piece_at, are_true_marks};
 ghost use Rattle.fate_engine.specs.fate_law.Ruler.{ruler_of, ruled};
-ghost use Rattle.law_model.specs.source.Client.{Stream, reached, stream_before};
-ghost use Rattle.law_model.specs.rows.SessionStream.{rows_of};
 ghost use Rattle.law_loss.specs.Worked.{worked_pieces, worked_rows};
 ghost use Rattle.fate_engine.specs.fate_law.Spans.{later_segments, fate_by_rows};
 ghost use Rattle.fate_engine.specs.fate_law.Worked.{worked_fates, worked_segments, worked_causes, worked_runs, worked_ruler};
 ghost use Rattle.fate_engine.specs.fate_law.SessionFates.{fate_at, ended_of, got_frames};
 ghost use Rattle.fate_engine.specs.fate_law.Spoiled.{row_cause, spoiled_runs};
-ghost use Rattle.law_model.specs.session.Leg.{Leg};
-ghost use Rattle.law_model.specs.session.Counts.{Counts};
-ghost use Rattle.law_model.specs.session.Scenario.{Scenario};
-ghost use Rattle.law_model.specs.rows.SessionRows.{is_whole_row};
-ghost use Rattle.law_model.specs.source.Table.{Told};
-ghost use Rattle.law_model.specs.session.Valid.{IsSound};
-ghost use Rattle.law_walk.specs.Walk.{IsWalked};
-ghost use Rattle.law_walk.specs.Delivered.{session_rows, delivered_of};
-ghost use Rattle.law_walk.specs.Promise.{session_pieces, ConfirmsTrue};
+ghost use Rattle.law_walk.specs.Common.{IsWalked, session_rows, delivered_of, session_pieces, ConfirmsTrue};
 
 /// What became of an accepted frame, by the rows in which its piece begins and ends.
 #[derive(Clone, Copy, Debug, PartialEq, Eq)]

@@ -4,16 +4,14 @@ use Rattle.std.proofs.Common.{Option, Some, None, All, ap, inl, inr}
 use Rattle.std.proofs.lemmas.List.Elements.{All-nil, All-cons, All-head, All-tail}
 use Rattle.std.proofs.lemmas.Bool.{cases_Bool}
 use Rattle.std.proofs.lemmas.List.{length-map}
+use Rattle.law_model.specs.Common.{Leg, Counts, IsItem, IsSound}
 use Rattle.law_model.specs.declared.item_refusals.Refusal.{Refusal}
 use Rattle.law_model.specs.declared.script_types.Item.{Item}
 use Rattle.law_model.specs.declared.script_types.ItemKind.{ItemKind}
 use Rattle.law_model.specs.declared.script_types.ItemKind.TheVariants.{Frame, Add, Remove}
-use Rattle.law_model.specs.session.Leg.{Leg}
-use Rattle.law_model.specs.session.Counts.{Counts}
-use Rattle.law_model.specs.session.Valid.{IsItem, IsSound}
-use Rattle.law_walk.specs.Landed.{Numbered, is_client, with_if, landed_from, landed_items, refusal_at}
+use Rattle.law_walk.specs.Common.{Numbered, is_client, with_if, landed_from, landed_items, refusal_at}
+use Rattle.fate_engine.specs.Common.{refused, accepted, Ended, ended_by, ended_then, ended_on, ended_of}
 use Rattle.fate_engine.specs.declared.fate_law.Fate.{Fate}
-use Rattle.fate_engine.specs.fate_law.SessionFates.{refused, accepted, Ended, ended_by, ended_then, ended_on, ended_of}
 use Rattle.fate_walks.specs.walk_fates.MadeWalk.{fates_in}
 use Rattle.fate_service.specs.declared.landed_frames.OfferedFrame.{OfferedFrame}
 use Rattle.fate_service.specs.declared.landed_frames.LandedFrames.{LandedFrames}

@@ -1,8 +1,7 @@
 -- How many frames have a delay of at most so many ticks, and the least number that meets a test.
-use Rattle.std.proofs.Common.{◌≡◌, ℕ, zero, suc, ◌+◌, ◌<◌, ◌≤◌, ◌&&◌, nat_le, Bool, true, false, List, [], ◌∷◌}
-use Rattle.std.proofs.Common.{◌∙◌, ap, arith, inl, inr}
-use Rattle.std.specs.Prelude.{if◌then◌else◌}
-use Rattle.std.proofs.lemmas.Bool.{cases_lt, cases_Bool, le-leb, lt-leb}
+use Rattle.std.proofs.Common.{◌≡◌, ℕ, zero, suc, ◌+◌, ◌<◌, ◌≤◌, ◌&&◌, nat_le, Bool, true, false, List, [], ◌∷◌, ◌∙◌, ap}
+use Rattle.std.proofs.Common.{arith, inl, inr, if◌then◌else◌, le-leb}
+use Rattle.std.proofs.lemmas.Bool.{cases_lt, cases_Bool, lt-leb}
 use Rattle.fate_service.specs.declared.landed_frames.CarriedFrame.{CarriedFrame}
 use Rattle.fate_service.specs.Stretches.{delay_of}
 use Rattle.fate_service.specs.Delays.{within_on, least_from}

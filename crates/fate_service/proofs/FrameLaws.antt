@@ -1,25 +1,24 @@
 -- The columns of frames that have landed, frame by frame.
-use Rattle.std.proofs.Common.{◌≡◌, ℕ, ◌+◌, ◌*◌, ◌≤◌, ◌<◌, Bool, true, false, List, [], ◌∷◌, ◌++◌, length, take, drop}
-use Rattle.std.proofs.Common.{Option, Some, None, refl, sym, ◌∙◌, ap, subst, arith, append-nil, append_assoc}
-use Rattle.std.proofs.Common.{length-append, length-take}
+use Rattle.std.proofs.Common.{◌≡◌, ℕ, ◌+◌, ◌*◌, ◌≤◌, ◌<◌, List, [], ◌∷◌, ◌++◌, length, take, drop, Option, Some, None}
+use Rattle.std.proofs.Common.{refl, sym, ◌∙◌, ap, subst, arith, append-nil, append_assoc, length-append, length-take}
 use Rattle.std.proofs.lemmas.List.{map-append}
 use Rattle.std.proofs.lemmas.List.Concat.{flat_map-append}
+use Rattle.fate_service.proofs.FoldLaws.{tally-few}
+use Rattle.law_model.specs.Common.{Leg, Counts}
 use Rattle.law_model.specs.declared.item_refusals.Refusal.{Refusal}
-use Rattle.law_model.specs.session.Leg.{Leg}
-use Rattle.law_model.specs.session.Counts.{Counts}
+use Rattle.fate_engine.specs.Common.{End, refused, accepted, Ended, ended_on, ended_of, has_waited}
 use Rattle.fate_engine.specs.declared.fate_law.Fate.{Fate}
-use Rattle.fate_engine.specs.fate_law.SessionFates.{End, refused, accepted, Ended, ended_on, ended_of, has_waited}
 use Rattle.fate_walks.specs.declared.walk_frames.landed_cursor.LandedFrame.{LandedFrame}
 use Rattle.fate_walks.specs.walk_frames.Landed.{Cursor, frames_before_item, frames_left, IsAt, IsNext, IsPast}
 use Rattle.fate_walks.specs.walk_fates.MadeWalk.{fates_in, end_by}
 use Rattle.fate_walks.proofs.WalkFramesLaws.NextLaws.{next-count}
 use Rattle.fate_walks.proofs.WalkFatesLaws.LineLaws.{accepted_by, ended_frame, next-ended, commands-none, offers-few}
-use Rattle.law_walk.specs.Landed.{landed_from}
+use Rattle.law_walk.specs.Common.{landed_from}
 use Rattle.fate_service.specs.declared.landed_frames.Tally.{Tally}
 use Rattle.fate_service.specs.declared.landed_frames.CarriedFrame.{CarriedFrame}
 use Rattle.fate_service.specs.declared.landed_frames.LandedFrames.{LandedFrames}
-use Rattle.fate_service.specs.Frames.{no_frames, with_frame_if, offered_frame, due_if, accepted_of}
-use Rattle.fate_service.specs.Frames.{carried_end, listed, carried_of, waits_on, AreLanded, TakesFrame}
+use Rattle.fate_service.specs.Frames.{no_frames, with_frame_if, offered_frame, due_if, accepted_of, carried_end, listed}
+use Rattle.fate_service.specs.Frames.{carried_of, waits_on, AreLanded, TakesFrame}
 
 waits-more : (tally : Tally) (all : List Ended) (e : Ended) →
     waits_on tally (all ++ e ∷ []) ≡ with_frame_if (has_waited e.end) (waits_on tally all) (length e.frame)
@@ -79,11 +78,6 @@ taken-begun leg s cursor landed at first none =
           ∙ ap (ended_on leg (fates_in leg s.rows) (frames_left leg cursor)) (sym (ap length none.accepted));
     }
 
-few-more : (b : Bool) (tally : Tally) (octets n : ℕ) → tally.frames ≤ n → tally.octets ≤ 65536 * n → octets < 65536 →
-    ((with_frame_if b tally octets).frames ≤ n + 1) × ((with_frame_if b tally octets).octets ≤ 65536 * (n + 1))
-few-more true tally octets n few low small = (omega (arith, few), omega (arith, low, small))
-few-more false tally octets n few low small = (omega (arith, few), omega (arith, low))
-
 accepted-size : (leg : Leg) (fate : ℕ → Fate) (why : Option Refusal) (i due : ℕ) (before after : List ℕ) →
     after ≡ before ++ due_if due (end_by fate why i) → length after ≡ accepted_by leg fate why (length before)
 accepted-size leg fate None i due before after is =
@@ -102,7 +96,7 @@ taken-next leg s was now old new done found next small come at takes =
     let i : ℕ = length old.accepted.items in
     let own : Ended = ended_frame leg fate found next.octets i in
     let size = length-append done (own ∷ []) in
-    let waits = few-more (has_waited own.end) old.waits found.length (length done) come.waits come.octets small in
+    let waits = tally-few (has_waited own.end) old.waits found.length (length done) come.waits come.octets small in
     let frames = ap (λ (t : Tally). t.frames) takes.waits in
     let octets = ap (λ (t : Tally). t.octets) takes.waits in
     record {

@@ -8,3 +8,4 @@ pub mod CountLaws
 pub mod StateLaws
 pub mod TextLaws
 pub mod LineTextLaws
+pub mod ServiceLawLaws

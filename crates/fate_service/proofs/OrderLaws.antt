@@ -1,37 +1,30 @@
 -- The frames of a walk lie in the order of their due ticks, and those that the rows carry in that of their rows.
 use Rattle.std.proofs.Common.{◌≡◌, ℕ, zero, suc, ◌+◌, ◌-◌, ◌<◌, ◌≤◌, Bool, true, false, nat_lt, nat_le, List, [], ◌∷◌}
-use Rattle.std.proofs.Common.{◌++◌, length, get_or, Option, Some, None, slice_get, refl, sym, subst, arith}
-use Rattle.std.proofs.Common.{inl, inr}
+use Rattle.std.proofs.Common.{◌++◌, length, get_or, Option, Some, None, slice_get, refl, sym, subst, arith, inl, inr}
+use Rattle.std.proofs.Common.{drop, lt-ltb, le-ltb}
 use Rattle.std.specs.List.Sorted.{IsNonDecreasing, IsNonDecreasingBy}
+use Rattle.law_model.specs.Common.{Leg, Counts, Due, dues_of, due_of, frame_dues, IsSound, Piece, StreamRow}
+use Rattle.law_model.specs.Common.{octets_of_rows, Extent, extents, size}
 use Rattle.law_model.specs.declared.item_refusals.Refusal.{Refusal}
 use Rattle.law_model.specs.declared.script_types.Item.{Item}
 use Rattle.law_model.specs.declared.script_types.ItemKind.{ItemKind}
 use Rattle.law_model.specs.declared.script_types.ItemKind.TheVariants.{Frame, Add, Remove}
-use Rattle.law_model.specs.session.Leg.{Leg}
-use Rattle.law_model.specs.session.Counts.{Counts, Due, dues_of, due_of, frame_dues}
-use Rattle.law_model.specs.session.Valid.{IsSound}
-use Rattle.std.proofs.Common.{take, drop, length-append}
 use Rattle.std.specs.List.{list_any}
-use Rattle.std.proofs.lemmas.Bool.{cases_Bool, cases_lt, lt-ltb, le-ltb, lt-leb}
-use Rattle.law_model.specs.frames.Piece.{Piece}
-use Rattle.law_model.specs.frames.Segment.{StreamRow, octets_of_rows}
-use Rattle.law_model.specs.frames.Loss.{Extent, extents}
-use Rattle.law_model.specs.source.Client.{size}
-use Rattle.law_walk.specs.Delivered.{session_rows}
-use Rattle.law_walk.specs.Promise.{session_pieces}
-use Rattle.fate_engine.specs.fate_law.Fates.{place_at, row_at, spoiled_from, spoiled_after, is_settled_by, fate_after}
-use Rattle.fate_engine.specs.fate_law.Fates.{fate_of}
-use Rattle.fate_engine.specs.fate_law.Spans.{row_segments, mark_of_row, fate_by_rows}
-use Rattle.fate_engine.specs.fate_law.Ruler.{sides}
+use Rattle.std.proofs.lemmas.Bool.{cases_Bool, cases_lt, lt-leb}
+use Rattle.fate_engine.proofs.FateCoreLaws.FateSteps.{place-grows}
+use Rattle.law_model.proofs.ListLaws.{rest-in_order}
+use Rattle.law_walk.specs.Common.{session_rows, session_pieces, Numbered, is_client, with_if, landed_from, landed_items}
+use Rattle.law_walk.specs.Common.{refusal_at}
+use Rattle.fate_engine.specs.Common.{row_at, spoiled_from, spoiled_after, is_settled_by, fate_after, fate_of}
+use Rattle.fate_engine.specs.Common.{row_segments, mark_of_row, fate_by_rows, sides, End, refused, accepted, Ended}
+use Rattle.fate_engine.specs.Common.{ended_then, ended_on, ended_of, fate_if, fate_at}
+use Rattle.fate_engine.specs.declared.fate_law.Fate.{Fate}
 use Rattle.fate_engine.specs.fate_core.Sides.{AreInOrder}
 use Rattle.fate_engine.proofs.FateLaws.RowLaws.{row-of_place}
 use Rattle.fate_engine.proofs.FateLaws.SpanLaws.{fate-rows}
 use Rattle.fate_engine.proofs.FateCoreLaws.PieceLaws.{order-of}
-use Rattle.law_walk.specs.Landed.{Numbered, is_client, with_if, landed_from, landed_items, refusal_at}
 use Rattle.fate_walks.specs.walk_fates.MadeWalk.{fates_in}
 use Rattle.fate_walks.proofs.WalkFatesLaws.LineLaws.{with-skips, landed-client, landed-other}
-use Rattle.fate_engine.specs.declared.fate_law.Fate.{Fate}
-use Rattle.fate_engine.specs.fate_law.SessionFates.{End, refused, accepted, Ended, ended_then, ended_on, ended_of, fate_if, fate_at}
 use Rattle.fate_service.specs.declared.landed_frames.OfferedFrame.{OfferedFrame}
 use Rattle.fate_service.specs.declared.landed_frames.CarriedFrame.{CarriedFrame}
 use Rattle.fate_service.specs.Frames.{offered_of, due_if, accepted_of, carried_if, listed, carried_of}
@@ -67,16 +60,13 @@ rises-ordered key from (x ∷ xs) rises (suc i) zero d low within = absurd (omeg
 rises-ordered key from (x ∷ xs) rises (suc i) (suc j) d low within =
     rises-ordered key (key x) xs rises.1 i j d (omega (arith, low)) (omega (arith, within))
 
-ordered-tail : (x : ℕ) (xs : List ℕ) → IsNonDecreasing (x ∷ xs) → IsNonDecreasing xs
-ordered-tail x xs order i j d low within = order (suc i) (suc j) d (omega (arith, low)) (omega (arith, within))
-
 ordered-rises : (from : ℕ) (xs : List ℕ) → IsNonDecreasing xs →
     ((d : ℕ) → 0 < length xs → from ≤ get_or xs 0 d) → Rises (λ n. n) from xs
 unfolding Rises
 ordered-rises from [] order first = tt
 ordered-rises from (x ∷ xs) order first = (
   first 0 (omega arith),
-  ordered-rises x xs (ordered-tail x xs order) (λ d some. order 0 1 d (omega arith) (omega (arith, some))),
+  ordered-rises x xs (rest-in_order x xs order) (λ d some. order 0 1 d (omega arith) (omega (arith, some))),
 )
 
 -- ---- due ticks
@@ -245,17 +235,7 @@ module _ (fate : ℕ → Fate) where
         (λ low m high. chain-on items low m high)
 
 -- ---- places and rows
-place-up : (rows : List StreamRow) (j k : ℕ) → j ≤ k → place_at rows j ≤ place_at rows k
-place-up rows zero k low = omega arith
-place-up rows (suc j) zero low = absurd (omega (arith, low))
-place-up [] (suc j) (suc k) low = omega arith
-place-up (row ∷ rows) (suc j) (suc k) low =
-    let rest = place-up rows j k (omega (arith, low)) in
-    let one = length-append row.octets (octets_of_rows (take j rows)) in
-    let two = length-append row.octets (octets_of_rows (take k rows)) in
-    omega (arith, rest, one, two)
-
-row-order : (rows : List StreamRow) (p q : ℕ) → p ≤ q → q < length (octets_of_rows rows) →
+pub row-order : (rows : List StreamRow) (p q : ℕ) → p ≤ q → q < length (octets_of_rows rows) →
     row_at rows p ≤ row_at rows q
 row-order rows p q low within =
     elim (cases_lt (row_at rows q) (row_at rows p)) [
@@ -263,7 +243,7 @@ row-order rows p q low within =
       | inl less ↦
           let one = (row-of_place rows p (omega (arith, low, within))).from in
           let two = (row-of_place rows q within).below in
-          let up = place-up rows (suc (row_at rows q)) (row_at rows p) (omega (arith, less)) in
+          let up = place-grows rows (suc (row_at rows q)) (row_at rows p) (omega (arith, less)) in
           absurd (omega (arith, one, two, up, low))
     ]
 
@@ -278,7 +258,7 @@ spoiled-up t (row ∷ rows) =
 
 -- ---- the rows of a frame
 module _ (pieces : List Piece) (rows : List StreamRow) where
-  abbrev HasRows : Extent → Option CarriedFrame → Type 0
+  abbrev pub HasRows : Extent → Option CarriedFrame → Type 0
   HasRows e None = Unit {0}
   HasRows e (Some frame) = (e.to ≤ length (octets_of_rows rows)) × (row_at rows e.from ≤ frame.at) ×
       (frame.at ≤ frame.last) × (frame.last ≤ row_at rows (e.to - 1))
@@ -316,7 +296,7 @@ module _ (pieces : List Piece) (rows : List StreamRow) where
               (fits, spoiled-up r (drop r rows), cut, omega arith)
         ]
 
-  fate-has : (e : Extent) (due octets : ℕ) → e.from < e.to → HasRows e (carried_if due octets (fate_of pieces rows e))
+  pub fate-has : (e : Extent) (due octets : ℕ) → e.from < e.to → HasRows e (carried_if due octets (fate_of pieces rows e))
   fate-has e due octets some =
       elim (cases_lt (length (octets_of_rows rows)) e.to) [
         | inl late ↦ rw (lt-leb e.to (length (octets_of_rows rows)) late) tt
@@ -326,7 +306,7 @@ module _ (pieces : List Piece) (rows : List StreamRow) where
             (row-order rows e.from (e.to - 1) (omega (arith, some)) (omega (arith, some, fits))))
       ]
 
-side-behind : (from : ℕ) (all : List Extent) (end k : ℕ) (e : Extent) → AreInOrder from (sides all) end →
+pub side-behind : (from : ℕ) (all : List Extent) (end k : ℕ) (e : Extent) → AreInOrder from (sides all) end →
     slice_get all k ≡ Some e → (from ≤ e.from) × (e.from < e.to)
 unfolding AreInOrder
 side-behind from [] end k e are there = absurd cc
@@ -336,7 +316,7 @@ side-behind from (x ∷ all) end (suc k) e are there =
     let rest = side-behind x.to all end k e are.2 there in
     ((let a = are.0 in let b = are.1 in let c = rest.0 in omega (arith, a, b, c)), rest.1)
 
-sides-apart : (from : ℕ) (all : List Extent) (end i j : ℕ) (a b : Extent) → AreInOrder from (sides all) end →
+pub sides-apart : (from : ℕ) (all : List Extent) (end i j : ℕ) (a b : Extent) → AreInOrder from (sides all) end →
     i < j → slice_get all i ≡ Some a → slice_get all j ≡ Some b → a.to ≤ b.from
 unfolding AreInOrder
 sides-apart from [] end i j a b are less here there = absurd cc

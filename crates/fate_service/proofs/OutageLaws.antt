@@ -4,10 +4,8 @@ use Rattle.std.proofs.Common.{slice_index_or, slice_set, refl, sym, ◌∙◌, a
 use Rattle.std.proofs.lemmas.Bool.{cases_Bool, eqb-true}
 use Rattle.std.proofs.lemmas.List.Elements.{All-nil, All-cons, All-head, All-tail}
 use Rattle.std.proofs.lemmas.List.FromFn.{length-map-range_with_len}
-use Rattle.law_model.specs.session.Leg.{Leg}
-use Rattle.law_model.specs.session.Scenario.{scenario_by}
-use Rattle.law_walk.specs.Walk.{session_of}
-use Rattle.law_walk.specs.Delivered.{session_rows}
+use Rattle.law_model.specs.Common.{Leg, scenario_by}
+use Rattle.law_walk.specs.Common.{session_of, session_rows}
 use Rattle.fate_engine.proofs.FateCoreLaws.FateSteps.{rows-count}
 use Rattle.fate_service.specs.declared.outages.Outage.{Outage}
 use Rattle.fate_service.specs.declared.row_states.RowState.{RowState}

@@ -3,15 +3,9 @@ use Rattle.std.proofs.Common.{◌≡◌, ℕ, zero, suc, ◌+◌, ◌*◌, ◌<�
 use Rattle.std.proofs.Common.{Option, Some, None, refl, ◌∙◌, ap, arith, IfSome}
 use Rattle.std.specs.List.{range_with_len}
 use Rattle.std.proofs.lemmas.Bool.{le-leb, lt-leb}
-use Rattle.law_model.specs.frames.Segment.{StreamRow, octets_of_rows}
-use Rattle.law_model.specs.session.Leg.{Leg}
-use Rattle.law_model.specs.session.Counts.{Counts}
-use Rattle.law_model.specs.session.Scenario.{scenario_by}
-use Rattle.law_model.specs.source.Client.{place_of}
-use Rattle.law_walk.specs.Walk.{session_of}
-use Rattle.law_walk.specs.Delivered.{session_rows}
-use Rattle.fate_engine.specs.fate_law.Fates.{row_at, spoiled_after}
-use Rattle.fate_engine.specs.fate_law.Spans.{row_segments, mark_of_row}
+use Rattle.law_model.specs.Common.{StreamRow, octets_of_rows, Leg, Counts, scenario_by, place_of}
+use Rattle.law_walk.specs.Common.{session_of, session_rows}
+use Rattle.fate_engine.specs.Common.{row_at, spoiled_after, row_segments, mark_of_row}
 use Rattle.fate_engine.proofs.FateCoreLaws.FateSteps.{place-up, row-is}
 use Rattle.law_loss.proofs.SessionStreamLaws.{rows-length}
 use Rattle.fate_walks.specs.declared.walk_fates.seen_rows.SeenWalk.{SeenWalk}

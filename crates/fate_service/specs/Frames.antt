@@ -1,9 +1,9 @@
 -- The client's frames that have landed, in the columns that sums need. These sums are this project's own.
 use Rattle.std.specs.Prelude.{◌≡◌, ℕ, ◌+◌, Bool, true, false, List, [], ◌∷◌, ◌++◌, length, map, Option, Some, None}
 use Rattle.std.specs.List.{flat_map}
+use Rattle.fate_engine.specs.Common.{End, refused, accepted, Ended, is_refused, has_waited}
 use Rattle.fate_engine.specs.declared.fate_law.Fate.{Fate}
 use Rattle.fate_engine.specs.declared.fate_law.Fate.TheVariants.{Waits, Cut, Unconfirmed, Hunting, Unsettled, Got}
-use Rattle.fate_engine.specs.fate_law.SessionFates.{End, refused, accepted, Ended, is_refused, has_waited}
 use Rattle.fate_service.specs.declared.landed_frames.Tally.{Tally}
 use Rattle.fate_service.specs.declared.landed_frames.OfferedFrame.{OfferedFrame}
 use Rattle.fate_service.specs.declared.landed_frames.CarriedFrame.{CarriedFrame}

@@ -6,3 +6,4 @@ pub mod Delays
 pub mod Members
 pub mod ServiceText
 pub mod Surveyed
+pub mod service_law

@@ -2,9 +2,8 @@
 use Rattle.std.specs.Prelude.{ℕ, ◌+◌, nat_le, nat_lt, if◌then◌else◌, Bool, true, false, List, [], ◌∷◌, length, map}
 use Rattle.std.specs.Prelude.{Option, Some, None}
 use Rattle.std.specs.List.{range_with_len}
-use Rattle.law_model.specs.frames.Segment.{StreamRow}
-use Rattle.fate_engine.specs.fate_law.Fates.{row_at, spoiled_after}
-use Rattle.fate_engine.specs.fate_law.Spans.{row_segments, mark_of_row}
+use Rattle.law_model.specs.Common.{StreamRow}
+use Rattle.fate_engine.specs.Common.{row_at, spoiled_after, row_segments, mark_of_row}
 use Rattle.fate_service.specs.declared.row_states.RowState.{RowState}
 use Rattle.fate_service.specs.declared.row_states.RowState.TheVariants.{Clear, Hunting, Spoiled}
 

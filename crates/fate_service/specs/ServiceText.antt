@@ -2,19 +2,10 @@
 -- one for each stretch, one of delays, and one of all ticks. These texts are this project's own.
 use Rattle.std.specs.Prelude.{ℕ, ◌*◌, List, [], ◌∷◌, ◌++◌, length, map, Option, Some, None, codes, decimal}
 use Rattle.std.specs.List.{flat_map, range_with_len}
-use Rattle.law_model.specs.session.Leg.{Leg}
-use Rattle.law_model.specs.session.Counts.{Counts}
-use Rattle.law_model.specs.session.Scenario.{scenario_by}
-use Rattle.law_model.specs.source.Client.{width, place_of, stream_before}
-use Rattle.law_walk.specs.Walk.{session_of}
-use Rattle.law_walk.specs.Delivered.{session_rows}
-use Rattle.law_walk.specs.Promise.{session_pieces}
+use Rattle.law_model.specs.Common.{Leg, Counts, scenario_by, width, place_of, stream_before}
+use Rattle.law_walk.specs.Common.{session_of, session_rows, session_pieces}
+use Rattle.fate_engine.specs.Common.{ruler_of, are_true_marks, row_cause, ended_of, cause_text, truth_text}
 use Rattle.fate_engine.specs.declared.fate_law.Cause.{Cause}
-use Rattle.fate_engine.specs.fate_law.Ruler.{ruler_of}
-use Rattle.fate_engine.specs.fate_law.Marks.{are_true_marks}
-use Rattle.fate_engine.specs.fate_law.Spoiled.{row_cause}
-use Rattle.fate_engine.specs.fate_law.SessionFates.{ended_of}
-use Rattle.fate_engine.specs.fate_law.FateText.{cause_text, truth_text}
 use Rattle.fate_service.specs.declared.landed_frames.Tally.{Tally}
 use Rattle.fate_service.specs.declared.landed_frames.CarriedFrame.{CarriedFrame}
 use Rattle.fate_service.specs.declared.width_run.WidthRun.{WidthRun}

@@ -2,7 +2,7 @@
 -- that are carried in the row of their last octet.
 use Rattle.std.specs.Prelude.{ℕ, zero, suc, ◌+◌, ◌-◌, nat_le, nat_lt, ◌&&◌, if◌then◌else◌, min, max, Bool}
 use Rattle.std.specs.Prelude.{List, [], ◌∷◌, length, filter, take, drop}
-use Rattle.fate_engine.specs.fate_core.Sides.{begun_before}
+use Rattle.fate_engine.specs.Common.{begun_before}
 use Rattle.fate_service.specs.declared.landed_frames.OfferedFrame.{OfferedFrame}
 use Rattle.fate_service.specs.declared.landed_frames.CarriedFrame.{CarriedFrame}
 use Rattle.fate_service.specs.declared.row_states.RowState.{RowState}

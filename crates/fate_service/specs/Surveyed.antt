@@ -1,9 +1,8 @@
 -- What was found of a walk, and how its lines go on, as private clauses say it.
 use Rattle.std.specs.Prelude.{◌≡◌, ℕ, ◌+◌, ◌==◌, if◌then◌else◌, List, []}
-use Rattle.law_model.specs.session.Leg.{Leg}
-use Rattle.law_model.specs.session.Counts.{Counts}
-use Rattle.law_walk.specs.Delivered.{session_rows}
-use Rattle.fate_engine.specs.fate_law.SessionFates.{ended_of}
+use Rattle.law_model.specs.Common.{Leg, Counts}
+use Rattle.law_walk.specs.Common.{session_rows}
+use Rattle.fate_engine.specs.Common.{ended_of}
 use Rattle.fate_service.specs.declared.width_run.WidthRun.{WidthRun}
 use Rattle.fate_service.specs.declared.service_report.Survey.{Survey}
 use Rattle.fate_service.specs.Frames.{AreLanded}

@@ -1,7 +1,7 @@
 //! The client's frames that have landed in a walk, in the columns that the sums need.
-ghost use Rattle.std.specs.Prelude.{◌≡◌, ℕ, ◌+◌, ◌^◌, ◌<◌, ◌≤◌, [], ◌∷◌, ◌++◌, List, length, OnOk, IfOk};
-ghost use Rattle.law_model.specs.session.Leg.{leg_of};
-ghost use Rattle.fate_engine.specs.fate_law.SessionFates.{accepted, does_wait, ended_of};
+ghost use Rattle.std.specs.Prelude.{◌≡◌, ◌+◌, ◌^◌, ◌<◌, ◌≤◌, [], ◌∷◌, ◌++◌, length, OnOk, IfOk};
+ghost use Rattle.law_model.specs.Common.{leg_of};
+ghost use Rattle.fate_engine.specs.Common.{accepted, does_wait, ended_of};
 ghost use Rattle.fate_walks.specs.walk_fates.MadeWalk.{SeesWalk, fates_in, end_by};
 ghost use Rattle.fate_service.specs.Frames.{no_frames, with_frame, with_frame_if, carried_by, carried_if, listed, is_none, AreLanded, TakesFrame};
 

@@ -3,22 +3,24 @@
 //! capacity, the queue and the delay. No turn is made here: it is all worked out from a walk that was seen,
 //! and what became of a frame is asked of `fate_walks`. Begin with `write_service`.
 //!
-//! - `landed`: the client's frames that have landed, in the columns that the sums need.
-//! - `rows`: what each taken row is: whole, whole and not yet of use, or not whole.
+//! - `landed_frames`: the client's frames that have landed, in the columns that the sums need.
+//! - `row_states`: what each taken row is: whole, whole and not yet of use, or not whole.
 //! - `outages`: the longest runs of rows that are of no use, and the frames that are lost in each.
-//! - `stretch`: the counts from one tick to another.
-//! - `delays`: the delays that so many frames don't exceed.
-//! - `lines`: the lines of the text.
-//! - `service`: what is found of a walk, and the text that is written of it.
+//! - `stretch_counts`: the counts from one tick to another.
+//! - `frame_delays`: the delays that so many frames don't exceed.
+//! - `service_text`: the lines of the text.
+//! - `service_report`: what is found of a walk, and the text that is written of it.
+//! - `service_law`: the laws of the text: what adds up, and what an outage is.
 #![tactic(auto)]
 
 mod frame_delays;
 mod landed_frames;
-mod service_text;
-mod width_run;
 mod outages;
 mod row_states;
 mod service_report;
+pub mod service_law;
+mod service_text;
 mod stretch_counts;
+mod width_run;
 
 pub use service_report::{Survey, survey_walk, write_service};

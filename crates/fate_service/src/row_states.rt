@@ -1,9 +1,7 @@
 //! What each taken row is.
 ghost use Rattle.std.specs.Prelude.{◌≡◌, ◌<◌, length, IfOk, IfSome};
-ghost use Rattle.law_model.specs.frames.Segment.{octets_of_rows};
-ghost use Rattle.law_model.specs.session.Leg.{Leg};
-ghost use Rattle.law_model.specs.session.Counts.{Counts};
-ghost use Rattle.law_walk.specs.Delivered.{session_rows};
+ghost use Rattle.law_model.specs.Common.{octets_of_rows, Leg, Counts};
+ghost use Rattle.law_walk.specs.Common.{session_rows};
 ghost use Rattle.fate_walks.specs.walk_fates.MadeWalk.{SeesWalk};
 ghost use Rattle.fate_service.specs.RowStates.{state_by_mark, state_of, states_of, is_dark, dark_among};
 

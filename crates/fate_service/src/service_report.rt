@@ -1,19 +1,12 @@
 //! What is found of a walk that was seen, and the text that is written of it.
-ghost use Rattle.std.specs.Prelude.{◌≡◌, ℕ, ◌+◌, ◌*◌, ◌<◌, ◌≤◌, ◌++◌, List, length, map, drop, Option};
+ghost use Rattle.std.specs.Prelude.{◌≡◌, ℕ, ◌+◌, ◌*◌, ◌<◌, ◌≤◌, ◌++◌, List, length, map, Option};
 ghost use Rattle.std.specs.Prelude.{All, IfOk, OnOk, OnErr};
 ghost use Rattle.std.specs.List.{flat_map, range_with_len};
-ghost use Rattle.octet_io.specs.Start.{Start};
-ghost use Rattle.octet_io.specs.Transfer.{Appends, AppendsPart};
+ghost use Rattle.law_model.specs.Common.{Start, Appends, AppendsPart, leg_of, Scenario, scenario_by, IsWithin, Told};
+ghost use Rattle.law_model.specs.Common.{width};
 ghost use Rattle.text_got.specs.Told.{HasText};
-ghost use Rattle.law_model.specs.session.Leg.{leg_of};
-ghost use Rattle.law_model.specs.session.Scenario.{Scenario, scenario_by};
-ghost use Rattle.law_model.specs.session.Valid.{IsWithin};
-ghost use Rattle.law_model.specs.source.Table.{Told};
-ghost use Rattle.law_model.specs.source.Client.{width};
-ghost use Rattle.law_walk.specs.Walk.{session_of};
-ghost use Rattle.fate_engine.specs.fate_core.Packets.{ArePackets};
-ghost use Rattle.fate_engine.specs.fate_law.Spoiled.{row_cause as cause_of};
-ghost use Rattle.fate_engine.specs.fate_law.SessionFates.{ended_of};
+ghost use Rattle.law_walk.specs.Common.{session_of};
+ghost use Rattle.fate_engine.specs.Common.{ArePackets, row_cause as cause_of, ended_of};
 ghost use Rattle.fate_walks.specs.walk_fates.MadeWalk.{SeesWalk};
 ghost use Rattle.fate_service.specs.declared.landed_frames.OfferedFrame.{OfferedFrame as OfferedData};
 ghost use Rattle.fate_service.specs.Frames.{carried_of};
@@ -23,20 +16,20 @@ ghost use Rattle.fate_service.specs.Members.{runs_of};
 ghost use Rattle.fate_service.specs.Delays.{delays_of};
 ghost use Rattle.fate_service.specs.Surveyed.{IsSurveyed, next_run, run_text};
 ghost use Rattle.fate_service.specs.ServiceText.{members_text, outage_text, outages_text, stretch_text, stretches_text, delays_text};
-ghost use Rattle.fate_service.specs.ServiceText.{known_of, told_of, ends_of, last_text, service_text};
+ghost use Rattle.fate_service.specs.ServiceText.{known_of, ends_of, last_text, service_text};
 
 use crate::frame_delays::find_delays;
 use crate::landed_frames::{LandedFrames, OfferedFrame, land_frames};
+use crate::outages::{Outage, find_outages, losses};
+use crate::row_states::{RowState, row_states};
 use crate::service_text::{
     Ends, ROOM, delays_line, members_line, outage_line, service_line, stretch_line,
 };
-use crate::width_run::WidthRun;
-use crate::outages::{Outage, find_outages, losses};
-use crate::row_states::{RowState, row_states};
 use crate::stretch_counts::count_stretch;
-use octet_io::{ByteSink, Failed, take_back};
+use crate::width_run::WidthRun;
 use fate_engine::fate_core::{Packets, row_cause, starts_true};
 use fate_walks::walk_fates::SeenWalk;
+use octet_io::{ByteSink, Failed, take_back};
 use std::alloc::{AllocError, Global};
 use text_got::GotLines;
 use walk_engine::walk_core::Walk;

@@ -8,9 +8,9 @@ ghost use Rattle.fate_service.specs.ServiceText.{stretch_text, delays_text, ends
 
 use crate::frame_delays::Delays;
 use crate::landed_frames::Tally;
-use crate::width_run::WidthRun;
 use crate::outages::Outage;
 use crate::stretch_counts::{Came, Ended, Peak, Stretch};
+use crate::width_run::WidthRun;
 use fate_engine::fate_core::Cause;
 use fate_engine::fate_text::{add_cause, truth};
 use text_report::TextCursor;

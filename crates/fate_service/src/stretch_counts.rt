@@ -1,14 +1,10 @@
 //! The counts from one tick to another.
 
-ghost use Rattle.std.specs.Prelude.{◌≡◌, ℕ, ◌+◌, ◌*◌, ◌^◌, ◌<◌, ◌≤◌, length, List, Option};
+ghost use Rattle.std.specs.Prelude.{◌≡◌, ◌+◌, ◌*◌, ◌^◌, ◌<◌, ◌≤◌, length, List, Option};
 ghost use Rattle.std.specs.List.Sorted.{IsNonDecreasing, IsNonDecreasingBy};
-ghost use Rattle.law_model.specs.session.Leg.{leg_of};
-ghost use Rattle.law_model.specs.session.Scenario.{Scenario};
-ghost use Rattle.law_model.specs.source.Table.{Told};
-ghost use Rattle.law_model.specs.source.Client.{place_of};
-ghost use Rattle.law_walk.specs.Delivered.{session_rows};
-ghost use Rattle.fate_engine.specs.fate_core.Packets.{ArePackets};
-ghost use Rattle.fate_engine.specs.fate_law.SessionFates.{ended_of as frames_of};
+ghost use Rattle.law_model.specs.Common.{leg_of, Scenario, Told, place_of};
+ghost use Rattle.law_walk.specs.Common.{session_rows};
+ghost use Rattle.fate_engine.specs.Common.{ArePackets, ended_of as frames_of};
 ghost use Rattle.fate_walks.specs.walk_fates.MadeWalk.{SeesWalk};
 ghost use Rattle.fate_service.specs.declared.landed_frames.OfferedFrame.{OfferedFrame as OfferedData};
 ghost use Rattle.fate_service.specs.declared.landed_frames.CarriedFrame.{CarriedFrame as CarriedData};

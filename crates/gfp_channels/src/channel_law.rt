@@ -4,7 +4,7 @@
 //! kind.
 
 ghost use Rattle.std.specs.Prelude.{◌≡◌, ℕ, ◌<◌, ◌≤◌, ◌^◌, List, [], ◌∷◌, ◌++◌, length, take, drop, All};
-ghost use Rattle.law_model.specs.frames.Loss.{TrueStarts};
+ghost use Rattle.law_model.specs.Common.{TrueStarts};
 ghost use Rattle.gfp_model.specs.declared.linear_model.Cut.{Cut};
 ghost use Rattle.gfp_model.specs.linear_model.Linear.{ChannelFrame};
 ghost use Rattle.gfp_model.specs.linear_model.Channels.{Channels, silent, waiting_of, channel_refusal};

@@ -2,12 +2,10 @@
 use Rattle.std.proofs.Common.{◌≡◌, ℕ, ◌+◌, ◌-◌, ◌<◌, ◌≤◌, Bool, true, false, List, [], ◌∷◌, ◌++◌, length, drop}
 use Rattle.std.proofs.Common.{inl, inr, Option, Some, sym, ◌∙◌, ap, subst, arith, append_assoc, length-append}
 use Rattle.std.proofs.lemmas.List.{append-nil, drop-append-le, drop-drop}
+use Rattle.law_model.proofs.CutLaws.{joined-push}
 use Rattle.gfp_scramble.specs.Descrambler.{Descrambling, IsKnown, unknown, Continues, DescramblesTo}
 use Rattle.gfp_scramble.specs.Descrambler as descrambler
-use Rattle.law_model.specs.frames.Core.{head}
-use Rattle.law_model.specs.frames.Scramble.{descrambled_octets}
-use Rattle.law_model.specs.frames.Piece.{joined}
-use Rattle.law_model.specs.frames.Run.{Run}
+use Rattle.law_model.specs.Common.{head, descrambled_octets, joined, Run}
 use Rattle.law_model.proofs.ScrambledOctets.{length-descrambled_octets}
 use Rattle.law_model.proofs.AreaLaws.{length-descrambled_single}
 use Rattle.gfp_delineate.specs.declared.area_receiver.AreaWhy.{AreaWhy}
@@ -20,7 +18,6 @@ use Rattle.gfp_delineate.proofs.StandingLaws.{Becomes-area, Leaves-longer, Leave
 use Rattle.gfp_delineate.proofs.Known.{ends_with, ends-area, nothing, window-none}
 use Rattle.gfp_delineate.proofs.Taking.{Takes, Taken, Takes-in, Adds-in}
 use Rattle.gfp_delineate.proofs.RunSteps.{to-header, to-area, to-passing, area_ends-fitting, ends_with-push}
-use Rattle.gfp_delineate.proofs.RunSteps.{joined-push}
 
 -- with another descrambler and another area
 abbrev pub holding : Progress → Phase → Descrambling → List ℕ → Progress

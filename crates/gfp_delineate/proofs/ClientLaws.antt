@@ -1,11 +1,8 @@
 -- Ethernet frames in the areas that end.
-use Rattle.std.proofs.Common.{◌≡◌, ℕ, ◌+◌, ◌≤◌, Bool, true, false, List, ◌++◌, length, map, take, drop, Some}
-use Rattle.std.proofs.Common.{refl, sym, ◌∙◌, ap, subst, arith}
-use Rattle.std.specs.Prelude.{nat_lt, if◌then◌else◌, ◌↔◌, IsTrue, IfSome}
-use Rattle.law_model.specs.frames.Core.{head}
-use Rattle.law_model.specs.frames.TypeHeader.{type_fault}
+use Rattle.std.proofs.Common.{◌≡◌, ℕ, ◌+◌, ◌≤◌, Bool, true, false, List, ◌++◌, length, map, take, drop, Some, refl, sym}
+use Rattle.std.proofs.Common.{◌∙◌, ap, subst, arith, nat_lt, if◌then◌else◌, ◌↔◌, IsTrue, IfSome}
+use Rattle.law_model.specs.Common.{head, type_fault, Outcome, dropping, outcome_by, client_outcome, outcomes}
 use Rattle.law_model.specs.declared.frame_faults.Why.TheVariants.{TooLong}
-use Rattle.law_model.specs.frames.Outcome.{Outcome, dropping, outcome_by, client_outcome, outcomes}
 use Rattle.gfp_delineate.specs.declared.area_receiver.AreaWhy.TheVariants.{TooLong as IsLong}
 use Rattle.gfp_delineate.specs.declared.area_receiver.AreaStep.{AreaStep}
 use Rattle.gfp_delineate.specs.declared.area_receiver.AreaStep.TheVariants.{Area}

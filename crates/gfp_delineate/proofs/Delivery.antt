@@ -1,27 +1,19 @@
 -- The frames that are delivered of each front of a stream are those whose piece ends in it.
 use Rattle.std.proofs.Common.{◌≡◌, ℕ, ◌+◌, ◌-◌, ◌<◌, ◌≤◌, true, false, List, [], ◌∷◌, ◌++◌, length, map, filter}
 use Rattle.std.proofs.Common.{replicate, take, drop, All, inl, inr, Some, None, refl, sym, ◌∙◌, ap, ap₂, subst, arith}
-use Rattle.std.proofs.Common.{length-append, length-take}
-use Rattle.std.specs.Prelude.{nat_le}
-use Rattle.std.specs.List.{flat_map}
-use Rattle.std.proofs.lemmas.List.{drop_at, append-nil, map-append}
+use Rattle.std.proofs.Common.{length-append, length-take, nat_le, flat_map, drop_at, append-nil, le-leb, le-ltb}
+use Rattle.std.proofs.lemmas.List.{map-append}
 use Rattle.std.proofs.lemmas.List.Elements.{All-nil, All-cons, All-head, All-tail, All-append, All-map, All-replicate}
 use Rattle.std.proofs.lemmas.List.Elements.{All-weaker, filter-append}
 use Rattle.std.proofs.lemmas.List.Concat.{flat_map-append}
-use Rattle.std.proofs.lemmas.Bool.{le-leb, lt-leb, le-ltb, cases_lt}
-use Rattle.check_remainder.specs.Bits.{bits, number_behind}
-use Rattle.check_remainder.specs.Remainder.{add_front, divide}
-use Rattle.check_hec16.specs.Hec.{hec_of}
-use Rattle.law_model.specs.frames.Core.{core_header, IsPli}
-use Rattle.law_model.specs.frames.TypeHeader.{type_header, type_fault}
-use Rattle.law_model.specs.frames.Piece.{Piece, idle, client, area_of, cut, with_header, scrambled_areas, stream_of}
-use Rattle.law_model.specs.frames.Piece.{size_of, frame_ends, frames_by, opening}
-use Rattle.law_model.specs.frames.Core.{head}
-use Rattle.law_model.specs.frames.Hunt.{header_at}
-use Rattle.law_model.specs.frames.Run.{Followed, run_then, runs, delineate}
-use Rattle.law_model.specs.frames.Outcome.{outcome_of, outcomes_after, outcomes_after_with, run_outcomes}
-use Rattle.law_model.specs.frames.Outcome.{descrambled_areas}
-use Rattle.law_model.specs.frames.Delivery.{frame_in, delivered}
+use Rattle.std.proofs.lemmas.Bool.{lt-leb, cases_lt}
+use Rattle.law_model.specs.Common.{bits, number_behind, add_front, divide, hec_of, core_header, IsPli, type_header}
+use Rattle.law_model.specs.Common.{type_fault, Piece, idle, client, area_of, cut, with_header, scrambled_areas}
+use Rattle.law_model.specs.Common.{stream_of, size_of, frame_ends, frames_by, head, header_at, Followed, run_then, runs}
+use Rattle.law_model.specs.Common.{delineate, outcome_of, outcomes_after, outcomes_after_with, run_outcomes}
+use Rattle.law_model.specs.Common.{descrambled_areas, delivered}
+use Rattle.law_model.specs.frames.Piece.{opening}
+use Rattle.law_model.specs.frames.Delivery.{frame_in}
 use Rattle.law_model.proofs.CoreLaws.{length-core_header}
 use Rattle.law_model.proofs.AreaLaws.{map-length-scrambled_areas}
 use Rattle.gfp_delineate.specs.Receiver.{IsClientFrame}
@@ -35,7 +27,7 @@ idle_fits : IsPli 0
 idle_fits = (omega arith, inl refl)
 
 -- where the two are whole, a run begins with the second
-runs-idles : (place : ℕ) (pieces : List (List ℕ)) → 8 ≤ place → All (λ area. IsPli (length area)) pieces →
+pub runs-idles : (place : ℕ) (pieces : List (List ℕ)) → 8 ≤ place → All (λ area. IsPli (length area)) pieces →
     runs true (take place (flat_map with_header ([] ∷ [] ∷ pieces)))
     ≡ record { settled = true; areas = whole_areas (place - 4) ([] ∷ pieces) } ∷ []
 runs-idles place pieces long all =
@@ -69,7 +61,7 @@ runs-idles place pieces long all =
         ∙ ap (λ n. header ++ take (count - n) octets) four
 
 -- where they are not, there is none
-runs-few : (place : ℕ) (octets : List ℕ) → place < 8 → runs true (take place (with_header [] ++ octets)) ≡ []
+pub runs-few : (place : ℕ) (octets : List ℕ) → place < 8 → runs true (take place (with_header [] ++ octets)) ≡ []
 runs-few place octets few = ap (λ found. found.runs)
     (delineate-open head head true (take place (with_header [] ++ octets))
     ∙ ap (delineate_from head head) (elim (cases_lt place 4) [
@@ -87,7 +79,7 @@ runs-few place octets few = ap (λ found. found.runs)
     ]))
 
 -- ---- the frames in whole areas
-type_header_right : type_fault type_header ≡ None
+pub type_header_right : type_fault type_header ≡ None
 unfolding type_fault hec_of bits divide add_front number_behind
 type_header_right = refl
 

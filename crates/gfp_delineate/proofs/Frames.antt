@@ -1,11 +1,9 @@
 -- The frames that an answer tells.
 use Rattle.std.proofs.Common.{◌≡◌, ℕ, ◌+◌, ◌≤◌, Bool, true, false, List, [], length, map, drop, inl, inr, Option, Some}
-use Rattle.std.proofs.Common.{None, refl, sym, ap, arith, length-drop}
-use Rattle.std.specs.Prelude.{◌↔◌, IfSome, IsTrue}
-use Rattle.std.specs.List.{flat_map}
-use Rattle.std.specs.Option.{option_to_list}
-use Rattle.std.proofs.lemmas.Bool.{le-leb, lt-leb, cases_lt}
-use Rattle.law_model.specs.frames.Outcome.{delivery}
+use Rattle.std.proofs.Common.{None, refl, sym, ap, arith, length-drop, ◌↔◌, IfSome, IsTrue, flat_map, option_to_list}
+use Rattle.std.proofs.Common.{le-leb}
+use Rattle.std.proofs.lemmas.Bool.{lt-leb, cases_lt}
+use Rattle.law_model.specs.Common.{delivery}
 use Rattle.law_model.specs.frames.Delivery.{frame_in}
 use Rattle.gfp_delineate.specs.declared.delineator.Step.{Step}
 use Rattle.gfp_delineate.specs.declared.delineator.Step.TheVariants.{Nothing, Frame, Dropped}

@@ -1,18 +1,11 @@
 -- The areas in a front of a stream of whole pieces.
 use Rattle.std.proofs.Common.{◌≡◌, ℕ, zero, suc, ◌+◌, ◌-◌, ◌<◌, ◌≤◌, List, [], ◌∷◌, ◌++◌, length, take, drop, All, inl}
 use Rattle.std.proofs.Common.{inr, Some, None, refl, sym, ◌∙◌, ap, ap₂, arith, append_assoc, length-append, length-take}
-use Rattle.std.specs.Prelude.{nat_le, if◌then◌else◌}
-use Rattle.std.specs.List.{flat_map}
-use Rattle.std.proofs.lemmas.List.{take_at, drop_at, append-nil}
+use Rattle.std.proofs.Common.{nat_le, if◌then◌else◌, flat_map, take_at, drop_at, append-nil, le-leb}
 use Rattle.std.proofs.lemmas.List.Elements.{All-nil, All-cons, All-head, All-tail}
-use Rattle.std.proofs.lemmas.Bool.{le-leb, lt-leb, cases_lt}
-use Rattle.law_model.specs.frames.Scramble.{scrambled_octets}
-use Rattle.law_model.specs.frames.Core.{core_header, IsPli}
-use Rattle.law_model.specs.frames.Piece.{cut, with_header, scrambled_areas}
-use Rattle.law_model.specs.frames.Core.{head}
-use Rattle.law_model.specs.frames.Hunt.{header_at}
-use Rattle.law_model.specs.frames.Run.{area_then, no_area, follow_with}
-use Rattle.law_model.specs.frames.Outcome.{descrambled_areas}
+use Rattle.std.proofs.lemmas.Bool.{lt-leb, cases_lt}
+use Rattle.law_model.specs.Common.{scrambled_octets, core_header, IsPli, cut, with_header, scrambled_areas, head}
+use Rattle.law_model.specs.Common.{header_at, area_then, no_area, follow_with, descrambled_areas}
 use Rattle.law_model.proofs.CoreLaws.{length-core_header, head-core_header}
 use Rattle.law_model.proofs.AreaLaws.{scrambled_behind, scrambled_behind-append, scrambled_behind-single}
 use Rattle.law_model.proofs.AreaLaws.{length-scrambled_single, descrambled_areas-scrambled_areas}

@@ -1,15 +1,11 @@
 -- A header that confirms, or one in SYNC, is whole.
 use Rattle.std.proofs.Common.{◌≡◌, ℕ, zero, suc, ◌+◌, ◌-◌, ◌<◌, ◌≤◌, Bool, true, false, List, [], ◌∷◌, ◌++◌, length}
 use Rattle.std.proofs.Common.{drop, inl, inr, Some, None, refl, sym, ◌∙◌, ap, subst, arith, append_assoc, length-append}
-use Rattle.std.proofs.Common.{length-drop}
-use Rattle.std.specs.Prelude.{◌⊎◌}
-use Rattle.std.proofs.lemmas.List.{append-nil}
+use Rattle.std.proofs.Common.{length-drop, ◌⊎◌, append-nil}
 use Rattle.gfp_scramble.specs.Descrambler.{Descrambling}
 use Rattle.gfp_scramble.specs.Descrambler as descrambler
 use Rattle.gfp_delineate.specs.declared.area_receiver.AreaWhy.TheVariants.{Unsettled, TooLong}
-use Rattle.law_model.specs.frames.Core.{head}
-use Rattle.law_model.specs.frames.Piece.{joined}
-use Rattle.law_model.specs.frames.Run.{Run}
+use Rattle.law_model.specs.Common.{head, joined, Run}
 use Rattle.law_model.proofs.CoreLaws.{head-core_header}
 use Rattle.gfp_delineate.specs.declared.area_receiver.Phase.TheVariants.{Hunt, PresyncHeader, SyncHeader, SyncArea, SyncPassing}
 use Rattle.gfp_delineate.specs.LeftOpen.{searching, running, Leaves}
@@ -18,8 +14,8 @@ use Rattle.gfp_delineate.proofs.ReaderLaws.{reader-head}
 use Rattle.gfp_delineate.proofs.StandingLaws.{Becomes-refused, Becomes-confirmed, Becomes-lost, Leaves-longer}
 use Rattle.gfp_delineate.proofs.StandingLaws.{Leaves-becomes, Leaves-goes_on}
 use Rattle.gfp_delineate.proofs.OutcomeLaws.{run_outcomes-none, outcomes_of-push}
-use Rattle.gfp_delineate.proofs.Known.{ends_of, ends_with, ends-presync, ends-header, length-shifted}
-use Rattle.gfp_delineate.proofs.Known.{window-few, window-none}
+use Rattle.gfp_delineate.proofs.Known.{ends_of, ends_with, ends-presync, ends-header, length-shifted, window-few}
+use Rattle.gfp_delineate.proofs.Known.{window-none}
 use Rattle.gfp_delineate.proofs.Taking.{Takes, Taken, Takes-in, Takes-none, Takes-then}
 use Rattle.law_model.proofs.IdleLaws.{idle_header, idles, core_header-idle, idles-suc}
 use Rattle.gfp_delineate.proofs.SearchSteps.{in_phase, shifted, to-hunt}

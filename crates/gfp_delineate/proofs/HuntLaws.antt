@@ -3,10 +3,9 @@
 -- many steps it may take.
 use Rattle.std.proofs.Common.{◌≡◌, ℕ, zero, suc, ◌+◌, ◌-◌, ◌<◌, ◌≤◌, Bool, true, List, [], ◌∷◌, ◌++◌, length, drop}
 use Rattle.std.proofs.Common.{Option, Some, None, refl, sym, ◌∙◌, ap, inl, inr, arith, length-append, length-drop}
-use Rattle.std.proofs.Common.{zero-add}
-use Rattle.std.proofs.lemmas.List.{take_at}
-use Rattle.std.proofs.lemmas.Bool.{le-leb, lt-leb, cases_lt}
-use Rattle.law_model.specs.frames.Hunt.{Confirmed, header_with, confirm_by, confirm_with, hunt_by, hunt_within, hunt_with}
+use Rattle.std.proofs.Common.{zero-add, take_at, le-leb}
+use Rattle.std.proofs.lemmas.Bool.{lt-leb, cases_lt}
+use Rattle.law_model.specs.Common.{Confirmed, header_with, confirm_by, confirm_with, hunt_by, hunt_within, hunt_with}
 
 -- a view of what is confirmed, but for its place
 abbrev pub viewed : {X : Type 0} → (Bool → List ℕ → X) → Option Confirmed → Option X

@@ -1,8 +1,7 @@
 -- Idle frames that go on from a place in a header, to the same place in the header behind them.
 use Rattle.std.proofs.Common.{◌≡◌, ℕ, zero, suc, ◌-◌, ◌<◌, List, [], ◌++◌, take, drop, inl, refl, sym, ◌∙◌, ap, subst}
-use Rattle.std.proofs.Common.{arith}
-use Rattle.std.proofs.lemmas.List.{append-nil, take-append-drop}
-use Rattle.law_model.specs.frames.Core.{head}
+use Rattle.std.proofs.Common.{arith, append-nil, take-append-drop}
+use Rattle.law_model.specs.Common.{head}
 use Rattle.law_model.proofs.CoreLaws.{head-core_header}
 use Rattle.law_model.proofs.IdleLaws.{idle_header, core_header-idle}
 use Rattle.gfp_delineate.specs.declared.area_receiver.Phase.TheVariants.{SyncHeader}

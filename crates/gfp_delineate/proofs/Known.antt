@@ -1,11 +1,9 @@
 -- What a receiver knows in each phase, seen in outcomes and in the state SYNC.
 use Rattle.std.proofs.Common.{◌≡◌, ℕ, ◌+◌, ◌-◌, ◌<◌, Bool, true, false, List, [], ◌∷◌, ◌++◌, length, drop, Some, sym}
-use Rattle.std.proofs.Common.{◌∙◌, ap, subst, arith, length-append, length-drop}
-use Rattle.std.specs.List.{flat_map}
-use Rattle.std.proofs.lemmas.List.{append-nil, drop-append-le, drop-drop, drop_all}
+use Rattle.std.proofs.Common.{◌∙◌, ap, subst, arith, length-append, length-drop, flat_map, append-nil, drop-drop}
+use Rattle.std.proofs.lemmas.List.{drop-append-le, drop_all}
 use Rattle.gfp_scramble.specs.Descrambler as descrambler
-use Rattle.law_model.specs.frames.Core.{head}
-use Rattle.law_model.specs.frames.Run.{Run}
+use Rattle.law_model.specs.Common.{head, Run}
 use Rattle.gfp_delineate.specs.declared.area_receiver.Phase.{Phase}
 use Rattle.gfp_delineate.specs.declared.area_receiver.Phase.TheVariants.{Hunt, PresyncArea, PresyncHeader, SyncHeader, SyncArea}
 use Rattle.gfp_delineate.specs.declared.area_receiver.Phase.TheVariants.{SyncPassing}

@@ -1,14 +1,10 @@
 -- The laws of outcomes, with any outcome of an area: what one more area of a run adds, and what one more run adds.
-use Rattle.std.proofs.Common.{◌≡◌, ℕ, ◌+◌, Bool, List, [], ◌∷◌, ◌++◌, length, map, drop, sum, refl, sym, ◌∙◌, ap}
-use Rattle.std.proofs.Common.{ap₂, arith, append_assoc, Option}
-use Rattle.std.specs.List.{flat_map}
-use Rattle.std.proofs.lemmas.List.{append-nil, map-append}
+use Rattle.std.proofs.Common.{◌≡◌, ℕ, ◌+◌, Bool, List, [], ◌∷◌, ◌++◌, length, map, drop, sum, refl, sym, ◌∙◌, ap, ap₂}
+use Rattle.std.proofs.Common.{arith, append_assoc, Option, flat_map, append-nil}
+use Rattle.std.proofs.lemmas.List.{map-append}
 use Rattle.std.proofs.lemmas.List.Concat.{flat_map-append}
-use Rattle.law_model.specs.frames.Scramble.{descrambled_octets}
-use Rattle.law_model.specs.frames.Piece.{cut, joined}
-use Rattle.law_model.specs.frames.Run.{Run, runs_with}
-use Rattle.law_model.specs.frames.Outcome.{area_outcomes, is_settled, outcomes_after_with, descrambled_areas}
-use Rattle.law_model.specs.frames.Outcome.{run_outcomes_with, outcomes_with}
+use Rattle.law_model.specs.Common.{descrambled_octets, cut, joined, Run, runs_with, area_outcomes, is_settled}
+use Rattle.law_model.specs.Common.{outcomes_after_with, descrambled_areas, run_outcomes_with, outcomes_with}
 use Rattle.law_model.proofs.CutLaws.{sum-cons, length-joined}
 use Rattle.law_model.proofs.AreaLaws.{map-length-descrambled_areas, descrambled_areas-push}
 

@@ -1,6 +1,6 @@
 -- The readers of headers.
 use Rattle.std.proofs.Common.{◌≡◌, ℕ, Bool, true, false, List, Some}
-use Rattle.law_model.specs.frames.Core.{head}
+use Rattle.law_model.specs.Common.{head}
 use Rattle.gfp_delineate.specs.Areas.{reader}
 use Rattle.gfp_delineate.proofs.TurnLaws.{near-head}
 

@@ -3,9 +3,9 @@ use Rattle.std.proofs.Common.{◌≡◌, ℕ, zero, suc, ◌+◌, ◌<◌, ◌�
 use Rattle.std.proofs.Common.{drop, Option, Some, None, refl, sym, ◌∙◌, ap, inl, inr, arith, length-drop}
 use Rattle.std.specs.Prelude.{IfSome}
 use Rattle.std.proofs.lemmas.Bool.{le-leb, lt-leb, cases_lt}
-use Rattle.law_model.specs.frames.Hunt.{Confirmed, header_with, confirm_by, confirm_with, hunt_by, hunt_within, hunt_with}
-use Rattle.law_model.specs.frames.Run.{Followed, area_then, no_area, follow_by, follow_within, follow_with, Run}
-use Rattle.law_model.specs.frames.Run.{Delineated, no_run, run_then, delineate_by, delineate_within, delineate_with}
+use Rattle.law_model.specs.Common.{Confirmed, header_with, confirm_by, confirm_with, hunt_by, hunt_within, hunt_with}
+use Rattle.law_model.specs.Common.{Followed, area_then, no_area, follow_by, follow_within, follow_with, Run, Delineated}
+use Rattle.law_model.specs.Common.{no_run, run_then, delineate_by, delineate_within, delineate_with}
 use Rattle.gfp_delineate.proofs.HuntLaws.{no_header, viewed, search, search_octets-same}
 
 -- ---- a run
@@ -129,10 +129,6 @@ module _ (read : List ℕ → Option ℕ) where
       hunt_by-shorter (header_with read octets) r p octets (hunt_within read k) (hunt_within-shorter k)
 
 -- ---- a segment
-pub not-not : (b : Bool) → not (not b) ≡ b
-not-not true = refl
-not-not false = refl
-
 module _ (seek follow : List ℕ → Option ℕ) where
   -- what is found from the place on that a search found
   abbrev pub delineate_from : Option (Bool × List ℕ) → Delineated

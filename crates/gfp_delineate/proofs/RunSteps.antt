@@ -6,13 +6,9 @@ use Rattle.std.proofs.lemmas.List.{append-nil, drop_all}
 use Rattle.std.proofs.lemmas.Bool.{cases_lt, lt-ltb, le-ltb, le-leb, lt-leb}
 use Rattle.gfp_scramble.specs.Descrambler.{Descrambling, IsKnown}
 use Rattle.gfp_scramble.specs.Descrambler as descrambler
-use Rattle.law_model.specs.frames.Core.{head}
-use Rattle.law_model.specs.frames.Scramble.{descrambled_octets}
-use Rattle.law_model.specs.frames.Piece.{joined}
-use Rattle.law_model.specs.frames.Run.{Run}
-use Rattle.law_model.specs.frames.Outcome.{is_settled}
+use Rattle.law_model.specs.Common.{head, descrambled_octets, joined, Run, is_settled}
 use Rattle.law_model.proofs.ScrambledOctets.{length-descrambled_octets}
-use Rattle.law_model.proofs.CutLaws.{joined-append}
+use Rattle.law_model.proofs.CutLaws.{joined-push}
 use Rattle.law_model.proofs.AreaLaws.{length-descrambled_single}
 use Rattle.gfp_delineate.specs.declared.area_receiver.AreaWhy.{AreaWhy}
 use Rattle.gfp_delineate.specs.declared.area_receiver.AreaWhy.TheVariants.{Unsettled, TooLong}
@@ -174,9 +170,6 @@ ends_with-push longest ended settled before area come outcome =
     ∙ ap (λ l. ends_of longest ended ++ l)
     (ap (λ l. run_ends longest (record { settled = settled; areas = before }) ++ l) (sym outcome)
     ∙ sym (run_outcomes-push (end_of longest) settled before area))
-
-pub joined-push : (before : List (List ℕ)) (area : List ℕ) → joined (before ++ area ∷ []) ≡ joined before ++ area
-joined-push before area = joined-append before (area ∷ []) ∙ ap (λ l. joined before ++ l) (append-nil area)
 
 -- ---- a header that is whole
 -- whether a descrambler knows the octets that come

@@ -1,17 +1,15 @@
 -- More octets in HUNT or in PRESYNC, where no run begins.
 use Rattle.std.proofs.Common.{◌≡◌, ℕ, ◌+◌, ◌-◌, ◌<◌, ◌≤◌, Bool, List, [], ◌∷◌, ◌++◌, length, drop, Some, None, sym, ◌∙◌}
-use Rattle.std.proofs.Common.{refl, ap, subst, arith, append_assoc, length-append, length-drop}
-use Rattle.std.proofs.lemmas.List.{append-nil}
-use Rattle.law_model.specs.frames.Core.{head}
-use Rattle.law_model.specs.frames.Run.{Run}
+use Rattle.std.proofs.Common.{refl, ap, subst, arith, append_assoc, length-append, length-drop, append-nil}
+use Rattle.law_model.specs.Common.{head, Run}
 use Rattle.gfp_delineate.specs.declared.area_receiver.Phase.{Phase}
 use Rattle.gfp_delineate.specs.declared.area_receiver.Phase.TheVariants.{Hunt, PresyncArea, PresyncHeader}
 use Rattle.gfp_delineate.specs.LeftOpen.{searching, Leaves}
 use Rattle.gfp_delineate.specs.Areas.{ends, reader, Progress, Searches, Headed, IsIn, InHunt, InPresyncArea}
 use Rattle.gfp_delineate.specs.Areas.{InPresyncHeader}
 use Rattle.gfp_delineate.proofs.StandingLaws.{Becomes-on, Leaves-longer, Leaves-goes_on}
-use Rattle.gfp_delineate.proofs.Known.{ends_of, ends-hunt, ends-presync, nothing, length-shifted}
-use Rattle.gfp_delineate.proofs.Known.{window-more, window-whole, window-none}
+use Rattle.gfp_delineate.proofs.Known.{ends_of, ends-hunt, ends-presync, nothing, length-shifted, window-more}
+use Rattle.gfp_delineate.proofs.Known.{window-whole, window-none}
 use Rattle.gfp_delineate.proofs.Taking.{Takes, Taken, Takes-in}
 
 -- in another phase, and with one more octet in the window

@@ -1,10 +1,9 @@
 -- Of many octets, a descrambler keeps what the last six of them are.
 use Rattle.std.proofs.Common.{◌≡◌, ℕ, ◌+◌, ◌-◌, ◌*◌, ◌≤◌, min, Bool, true, false, List, [], ◌++◌, length, take, drop}
-use Rattle.std.proofs.Common.{sym, ◌∙◌, ap, arith, append_assoc, length-append, length-drop}
-use Rattle.std.specs.Prelude.{if◌then◌else◌}
-use Rattle.std.proofs.lemmas.List.{take-append-drop}
+use Rattle.std.proofs.Common.{sym, ◌∙◌, ap, arith, append_assoc, length-append, length-drop, if◌then◌else◌}
+use Rattle.std.proofs.Common.{take-append-drop}
 use Rattle.std.proofs.Math.Seq.{drop-append-add}
-use Rattle.check_remainder.specs.Bits.{octet_bits}
+use Rattle.law_model.specs.Common.{octet_bits}
 use Rattle.check_remainder.proofs.OctetLaws.{octet_bits-append, length-octet_bits}
 use Rattle.gfp_scramble.specs.Descrambler.{Descrambling, DescramblerStands, Continues}
 

@@ -2,13 +2,13 @@
 use Rattle.std.proofs.Common.{◌≡◌, ℕ, ◌+◌, ◌<◌, ◌≤◌, Bool, true, false, not, List, [], ◌∷◌, ◌++◌, length, take, drop}
 use Rattle.std.proofs.Common.{Option, Some, None, refl, sym, ◌∙◌, ap, ap₂, arith, append_assoc, length-append}
 use Rattle.std.proofs.lemmas.List.{take_at, drop_at, append-nil, drop-append-le}
-use Rattle.law_model.specs.frames.Hunt.{header_with}
-use Rattle.law_model.specs.frames.Run.{Followed, area_then, no_area, follow_with, Run, Delineated, run_then, runs_then}
-use Rattle.law_model.specs.frames.Run.{delineate_with}
+use Rattle.law_model.proofs.ListLaws.{not-not}
+use Rattle.law_model.specs.Common.{header_with, Followed, area_then, no_area, follow_with, Run, Delineated, run_then}
+use Rattle.law_model.specs.Common.{runs_then, delineate_with}
 use Rattle.gfp_delineate.specs.LeftOpen.{LeftOpen, searching, running, found_with, Leaves}
 use Rattle.gfp_delineate.proofs.HuntLaws.{header-window, search, search-on, search-few, search-short, search-refused}
 use Rattle.gfp_delineate.proofs.HuntLaws.{search-confirmed}
-use Rattle.gfp_delineate.proofs.RunLaws.{not-not, follow-few, follow-lost, follow-part, follow-whole, delineate_from}
+use Rattle.gfp_delineate.proofs.RunLaws.{follow-few, follow-lost, follow-part, follow-whole, delineate_from}
 use Rattle.gfp_delineate.proofs.RunLaws.{delineate-open, sync-same}
 
 -- ---- what is found after runs

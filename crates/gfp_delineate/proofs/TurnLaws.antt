@@ -1,13 +1,11 @@
 -- Four octets with one bit turned over, and the header that such a turn gives.
-use Rattle.std.proofs.Common.{◌≡◌, ℕ, suc, ◌+◌, ◌-◌, ◌*◌, ◌/◌, ◌^◌, ◌<◌, Bool, true, false, List, ◌∷◌, ◌++◌}
-use Rattle.std.proofs.Common.{replicate, Some, None, bit_xor, refl, sym, ◌∙◌, ap, ap₂, arith, w32}
+use Rattle.std.proofs.Common.{◌≡◌, ℕ, suc, ◌+◌, ◌-◌, ◌*◌, ◌/◌, ◌^◌, ◌<◌, Bool, true, false, List, ◌∷◌, ◌++◌, replicate}
+use Rattle.std.proofs.Common.{Some, None, bit_xor, refl, sym, ◌∙◌, ap, ap₂, arith, w32, pow-suc, pow_pos}
 use Rattle.std.specs.Int.{to_be_bytes}
-use Rattle.std.proofs.Math.Nat.{div-eq_of_lt, div_self, pow-suc}
-use Rattle.std.proofs.lemmas.Nat.{pow_pos}
-use Rattle.check_remainder.specs.Bits.{bits, octets_of, xors}
+use Rattle.std.proofs.Math.Nat.{div-eq_of_lt, div_self}
+use Rattle.law_model.specs.Common.{bits, octets_of, xors, head}
 use Rattle.check_remainder.proofs.BitLaws.{bits-add, bits_low, bits-xor, bits-zero}
 use Rattle.check_remainder.proofs.OctetLaws.{octets_of-octet_bits, octet_bits-bytes_high_first, bytes_high_first_below}
-use Rattle.law_model.specs.frames.Core.{head}
 use Rattle.gfp_model.specs.fcs_model.Flips.{flipped}
 use Rattle.gfp_model.specs.fcs_model.Near.{or_else, turned_below, near}
 

@@ -4,11 +4,8 @@ use Rattle.std.specs.Prelude.{◌≡◌, ℕ, ◌+◌, ◌-◌, ◌<◌, ◌≤�
 use Rattle.std.specs.Prelude.{Option, Some, None, if◌then◌else◌}
 use Rattle.gfp_scramble.specs.Descrambler.{Descrambling, IsKnown}
 use Rattle.gfp_scramble.specs.Descrambler as descrambler
-use Rattle.law_model.specs.frames.Core.{head}
-use Rattle.law_model.specs.frames.Scramble.{descrambled_octets}
-use Rattle.law_model.specs.frames.Piece.{joined}
-use Rattle.law_model.specs.frames.Run.{Run, delineate_with}
-use Rattle.law_model.specs.frames.Outcome.{area_outcomes, run_outcomes_with, outcomes_with}
+use Rattle.law_model.specs.Common.{head, descrambled_octets, joined, Run, delineate_with, area_outcomes}
+use Rattle.law_model.specs.Common.{run_outcomes_with, outcomes_with}
 use Rattle.gfp_model.specs.fcs_model.Near.{near}
 use Rattle.gfp_delineate.specs.declared.area_receiver.AreaWhy.{AreaWhy}
 use Rattle.gfp_delineate.specs.declared.area_receiver.AreaWhy.TheVariants.{Unsettled, TooLong}

@@ -1,6 +1,6 @@
 -- G.7041, frame delineation: what the octets of a segment leave open, with any readers of headers.
 use Rattle.std.specs.Prelude.{◌≡◌, ℕ, Bool, false, List, ◌++◌, Option}
-use Rattle.law_model.specs.frames.Run.{Run, Delineated, follow_with, run_then, runs_then, delineate_with}
+use Rattle.law_model.specs.Common.{Run, Delineated, follow_with, run_then, runs_then, delineate_with}
 
 -- HUNT and PRESYNC: a search goes on in the last octets, and the run that it finds is settled or not. SYNC: a run that
 -- is settled

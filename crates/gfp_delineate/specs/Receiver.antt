@@ -1,11 +1,9 @@
 -- G.7041, frame delineation: what a receiver of Ethernet frames knows of the octets of a segment that have come.
 use Rattle.std.specs.Prelude.{◌≡◌, ℕ, ◌+◌, ◌^◌, ◌<◌, ◌≤◌, ◌&&◌, nat_le, Bool, true, false, List, [], ◌∷◌, ◌++◌, length}
-use Rattle.std.specs.Prelude.{map, take, drop, All, Option, Some, None, if◌then◌else◌}
-use Rattle.std.specs.Option.{option_to_list}
+use Rattle.std.specs.Prelude.{map, take, drop, All, Option, Some, None, if◌then◌else◌, option_to_list}
+use Rattle.law_model.specs.Common.{type_fault, Outcome, delivery, dropping, outcome_by, outcomes}
 use Rattle.law_model.specs.declared.frame_faults.Why.{Why}
 use Rattle.law_model.specs.declared.frame_faults.Why.TheVariants.{Unsettled, TooLong}
-use Rattle.law_model.specs.frames.TypeHeader.{type_fault}
-use Rattle.law_model.specs.frames.Outcome.{Outcome, delivery, dropping, outcome_by, outcomes}
 use Rattle.gfp_delineate.specs.declared.area_receiver.AreaWhy.{AreaWhy}
 use Rattle.gfp_delineate.specs.declared.area_receiver.AreaWhy.TheVariants.{Unsettled as NotSettled, TooLong as IsLong}
 use Rattle.gfp_delineate.specs.declared.delineator.Step.{Step}

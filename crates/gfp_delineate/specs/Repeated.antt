@@ -1,7 +1,6 @@
 -- Octets again and again.
 use Rattle.std.specs.Prelude.{ℕ, List, ◌++◌, take, drop, replicate}
-use Rattle.law_model.specs.frames.Core.{core_header}
-use Rattle.law_model.specs.frames.Piece.{joined}
+use Rattle.law_model.specs.Common.{core_header, joined}
 
 abbrev pub repeated : ℕ → List ℕ → List ℕ
 repeated count octets = joined (replicate count octets)

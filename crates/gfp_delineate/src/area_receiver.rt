@@ -2,7 +2,7 @@
 
 ghost use Rattle.std.specs.Prelude.{◌≡◌, ◌≢◌, ℕ, ◌-◌, ◌<◌, ◌≤◌, Bool, true, false, List, [], ◌∷◌, length, take};
 ghost use Rattle.std.specs.Prelude.{IfOk, IfSome, IfNone, Some};
-ghost use Rattle.law_model.specs.frames.Core.{core_header};
+ghost use Rattle.law_model.specs.Common.{core_header};
 ghost use Rattle.gfp_delineate.specs.Repeated.{idles_from};
 ghost use Rattle.gfp_delineate.specs.Areas.{IsAt, Goes, Adds, ends_told, header_begun_in, is_sync_by};
 

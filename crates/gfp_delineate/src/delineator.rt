@@ -1,19 +1,15 @@
 //! The receiver of a stream of GFP frames: which frame an octet completes, or why one is dropped.
 ghost use Rattle.std.specs.Prelude.{◌≡◌, ◌≢◌, ℕ, ◌+◌, ◌-◌, ◌<◌, ◌≤◌, ◌↔◌, Bool, true, false, List, [], ◌∷◌};
 ghost use Rattle.std.specs.Prelude.{length, map, take, drop, All, IfOk, IfSome, IfNone, IsSome, IsTrue};
-ghost use Rattle.law_model.specs.frames.Core.{core_header};
-ghost use Rattle.law_model.specs.frames.Piece.{stream_of, opening, frames_by};
-ghost use Rattle.law_model.specs.frames.Run.{is_sync};
-ghost use Rattle.law_model.specs.frames.TypeHeader.{type_fault};
-ghost use Rattle.law_model.specs.frames.Outcome.{outcome_by};
-ghost use Rattle.law_model.specs.frames.Delivery.{delivered};
+ghost use Rattle.law_model.specs.Common.{core_header, stream_of, frames_by, is_sync, type_fault, outcome_by, delivered};
+ghost use Rattle.law_model.specs.frames.Piece.{opening};
 ghost use Rattle.gfp_delineate.specs.Repeated.{idles_from};
 ghost use Rattle.gfp_delineate.specs.Receiver.{most, StandsIn, Advances, Brings, frame_of, header_begun, told_outcomes};
 ghost use Rattle.gfp_delineate.specs.Areas.{ends_told};
 ghost use Rattle.gfp_delineate.specs.Receiver.{IsClientFrame, outcomes_told, client_of};
 
+use crate::area_octets::first_four;
 use crate::area_receiver::{AreaReceiver, AreaStep, AreaWhy};
-use crate::idle_runs::first_four;
 use gfp_headers::read_type;
 use law_model::Why;
 use std::alloc::{AllocError, Global};

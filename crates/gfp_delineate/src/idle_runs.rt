@@ -1,24 +1,15 @@
-//! Octets of a piece that are taken in one go.
-
+//! Idle frames, and words that come again, which a piece begins with: they are taken in one go.
 ghost use Rattle.std.specs.Prelude.{◌≡◌, ◌≢◌, ℕ, ◌+◌, ◌-◌, ◌*◌, ◌<◌, ◌≤◌, true, ◌∷◌, [], ◌++◌, length, take, drop};
-ghost use Rattle.std.specs.Prelude.{replicate, vec_len};
-ghost use Rattle.std.specs.Vec.{vec_capacity};
+ghost use Rattle.std.specs.Prelude.{replicate, flat_map};
 ghost use Rattle.std.specs.Int.{to_le_bytes, w64};
-ghost use Rattle.gfp_scramble.specs.Descrambler.{Continues, DescramblesTo};
-ghost use Rattle.std.specs.List.{flat_map};
-ghost use Rattle.law_model.specs.frames.Piece.{with_header};
+ghost use Rattle.law_model.specs.Common.{with_header};
 ghost use Rattle.gfp_delineate.specs.Repeated.{repeated};
-
-use gfp_scramble::Descrambler;
 
 /// The core header of an idle frame.
 const IDLE: [u8; 4] = [0xb6, 0xab, 0x31, 0xe0];
 
 /// Two of them as a word, whose first octet is the least significant.
 const TWO_IDLES: u64 = 0xe031_abb6_e031_abb6;
-
-/// The octets that settle a descrambler.
-const SETTLING: usize = 6;
 
 /// The number of idle headers that a piece begins with.
 #[inline]
@@ -145,58 +136,4 @@ pub fn begins_idle(window: &[u8; 4], have: u8) -> bool
 {
     let have = usize::from(have);
     &window[4 - have..] == &IDLE[..have]
-}
-
-/// The first four octets.
-#[inline]
-pub fn first_four(octets: &[u8]) -> [u8; 4]
-    requires { 4 ≤ length octets.now }
-    ensures { result ≡ take 4 octets.now }
-{
-    [octets[0], octets[1], octets[2], octets[3]]
-}
-
-/// Keeps more octets of an area, descrambled.
-#[inline]
-pub fn keep(area: &mut Vec<u8>, descrambler: &mut Descrambler, piece: &[u8])
-    requires { vec_len area.old + length piece.now ≤ vec_capacity area.old }
-    ensures front { take (vec_len area.old) area.new.items ≡ area.old.items }
-    ensures len { vec_len area.new ≡ vec_len area.old + length piece.now }
-    ensures capacity { vec_capacity area.old ≤ vec_capacity area.new }
-    ensures stands { Continues descrambler.old descrambler.new piece.now }
-    ensures kept { DescramblesTo descrambler.old piece.now (drop (vec_len area.old) area.new.items) }
-{
-    if let [octet] = piece {
-        area.push_reserved(descrambler.byte(*octet));
-        return;
-    }
-    let old = area.len();
-    match area.extend_from_slice(piece) {
-        Ok(()) => {}
-        Err(_) => unreachable!(),
-    }
-    descrambler.area(&mut area[old..]);
-}
-
-/// Passes over octets of an area that is dropped. Of many, the descrambler needs the last ones alone.
-#[inline]
-pub fn pass_over(descrambler: &mut Descrambler, piece: &[u8])
-    ensures { Continues descrambler.old descrambler.new piece.now }
-{
-    if piece.len() <= SETTLING {
-        settle(descrambler, piece);
-    } else {
-        descrambler.forget();
-        settle(descrambler, &piece[piece.len() - SETTLING..]);
-    }
-}
-
-/// Gives octets to a descrambler and lets go what they are.
-#[inline]
-fn settle(descrambler: &mut Descrambler, piece: &[u8])
-    ensures { Continues descrambler.old descrambler.new piece.now }
-{
-    for octet in piece {
-        let _ = descrambler.byte(*octet);
-    }
 }

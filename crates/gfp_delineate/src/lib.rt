@@ -10,13 +10,15 @@
 //! Receivers of other kinds of frames stand on it too, with readers of headers of their own.
 #![tactic(auto)]
 
-mod delineator;
+mod area_octets;
 mod area_receiver;
 mod corrected_header;
+mod delineator;
 mod idle_runs;
 mod receiver_steps;
 
+pub use crate::area_octets::first_four;
 pub use crate::area_receiver::{AreaReceiver, AreaStep, AreaWhy};
-pub use crate::idle_runs::{first_four, word_run};
-pub use law_model::{TypeFault, Why};
+pub use crate::idle_runs::word_run;
 pub use delineator::{Delineator, Step, delivery_law};
+pub use law_model::{TypeFault, Why};

@@ -1,13 +1,11 @@
 -- What one step of a sender does to what stands over areas, and how steps follow one another on a stream.
 use Rattle.std.proofs.Common.{◌≡◌, ℕ, zero, suc, ◌+◌, ◌≤◌, List, [], ◌∷◌, ◌++◌, length, map, take, drop, refl}
 use Rattle.std.proofs.Common.{replicate, sym, ap, ap₂, subst, ◌∙◌, arith, append_assoc, length-append, length-take-le}
-use Rattle.std.proofs.Common.{length-drop}
-use Rattle.std.proofs.Math.Seq.{take-add, take-append-add}
-use Rattle.std.proofs.lemmas.List.{append-nil, take_at, drop_at, take_all, drop_all, take-append-drop, take-append-le}
-use Rattle.std.proofs.lemmas.List.{drop-append-le, drop-drop}
-use Rattle.law_model.specs.frames.Scramble.{scrambled_octets}
-use Rattle.law_model.specs.frames.Core.{core_header}
-use Rattle.law_model.specs.frames.Piece.{cut, joined, with_header, areas_stream}
+use Rattle.std.proofs.Common.{length-drop, take-add, append-nil, take_at, drop_at, take_all, take-append-drop}
+use Rattle.std.proofs.Common.{drop-drop}
+use Rattle.std.proofs.lemmas.List.{drop_all, take-append-le, drop-append-le}
+use Rattle.law_model.proofs.ListLaws.{within-append}
+use Rattle.law_model.specs.Common.{scrambled_octets, core_header, cut, joined, with_header, areas_stream}
 use Rattle.law_model.proofs.CoreLaws.{length-core_header}
 use Rattle.law_model.proofs.CutLaws.{joined-append, joined-push}
 use Rattle.law_model.proofs.ScrambledOctets.{length-scrambled_octets, scrambled_octets-append}
@@ -196,13 +194,6 @@ idles_written n s areas place stands head =
     })
 
 -- ---- steps, one after another
--- octets in the first part of a list
-within-append : (n k : ℕ) (octets more : List ℕ) → n + k ≤ length octets →
-    take k (drop n (octets ++ more)) ≡ take k (drop n octets)
-within-append n k octets more within =
-    ap (take k) (drop-append-le n octets more (omega arith))
-    ∙ take-append-le k (drop n octets) more (omega (arith, length-drop n octets))
-
 -- on a stream of which more is begun as a place is reached: in parts or at once, behind what was begun before
 module _ {Stream : Type 0} (octets_of : Stream → List ℕ) (reached : ℕ → Stream → Stream)
     (join : (sooner later : ℕ) (stream : Stream) → sooner ≤ later →
@@ -242,16 +233,3 @@ module _ {Stream : Type 0} (octets_of : Stream → List ℕ) (reached : ℕ → 
       let cut : take (a + b) (drop place octets) ≡ take a (drop place octets) ++ take b (drop (place + a) octets) =
       take-add a b (drop place octets) ∙ ap (λ l. take a (drop place octets) ++ take b l) (drop-drop a place octets) in
       rw (count, size) (ap₂ ◌++◌ front back ∙ sym cut)
-
--- what stands in the first part of a slice after a part of it was written
-pub take-written : (at n : ℕ) (out part back : List ℕ) → at ≤ length out → n ≤ length part →
-    take (at + n) (take at out ++ (part ++ back)) ≡ take at out ++ take n part
-take-written at n out part back within some =
-    let front = length-take-le at out within in
-    ap (λ k. take (k + n) (take at out ++ (part ++ back))) (sym front) ∙ take-append-add (take at out) (part ++ back) n
-    ∙ ap (λ octets. take at out ++ octets) (take-append-le n part back some)
-
--- octets of which there are none
-pub none_of : (octets : List ℕ) → length octets ≡ 0 → octets ≡ []
-none_of [] e = refl
-none_of (o ∷ octets) e = absurd (omega (arith, e))

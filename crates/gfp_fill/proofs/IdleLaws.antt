@@ -1,11 +1,7 @@
 -- Idle frames, one after another.
 use Rattle.std.proofs.Common.{◌≡◌, ℕ, zero, suc, ◌+◌, ◌-◌, ◌*◌, ◌/◌, ◌%◌, List, [], ◌∷◌, ◌++◌, length, take, refl, sym}
-use Rattle.std.proofs.Common.{◌∙◌, ap, ap₂, arith, append_assoc, length-append}
-use Rattle.std.proofs.lemmas.List.{append-nil, take_at}
-use Rattle.check_remainder.specs.Bits.{octets_of}
-use Rattle.law_model.specs.frames.Scramble.{scrambled_octets}
-use Rattle.law_model.specs.frames.Core.{core_header}
-use Rattle.law_model.specs.frames.Piece.{areas_stream, cut}
+use Rattle.std.proofs.Common.{◌∙◌, ap, ap₂, arith, append_assoc, length-append, append-nil, take_at}
+use Rattle.law_model.specs.Common.{octets_of, scrambled_octets, core_header, areas_stream, cut}
 use Rattle.law_model.proofs.CoreLaws.{length-core_header}
 use Rattle.law_model.proofs.IdleLaws.{idle_header, core_header-idle, idles, idles-suc}
 

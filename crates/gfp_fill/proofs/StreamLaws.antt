@@ -1,10 +1,11 @@
 -- Laws of the pieces that come next: how they follow one another, and what their stream keeps.
 use Rattle.std.proofs.Common.{◌≡◌, ℕ, zero, suc, ◌+◌, ◌-◌, ◌≤◌, List, [], ◌∷◌, ◌++◌, length, map, take, drop, replicate}
 use Rattle.std.proofs.Common.{refl, sym, ap, ap₂, ◌∙◌, arith, append_assoc}
-use Rattle.std.proofs.lemmas.List.{append-nil, drop_all, replicate-append-replicate, take_all, take-append-le}
-use Rattle.law_model.specs.frames.Piece.{Piece, idle, client, area_of, joined, stream_of, opening}
+use Rattle.std.proofs.lemmas.List.{append-nil, drop_all, take_all, take-append-le}
+use Rattle.law_model.specs.frames.Piece.{opening}
+use Rattle.law_model.specs.Common.{Piece, idle, client, area_of, joined, stream_of, Stream}
 use Rattle.law_model.proofs.StreamLaws.{stream_behind, stream_of-append}
-use Rattle.law_model.specs.source.Client.{Stream, begun}
+use Rattle.law_model.specs.source.Client.{begun}
 use Rattle.gfp_fill.specs.Stream.{next_pieces, unsent}
 
 -- where none waits there are idles
@@ -21,23 +22,6 @@ next_pieces-cons : (n : ℕ) (frame : List ℕ) (waiting : List (List ℕ)) →
 next_pieces-cons n frame waiting =
     ap (λ k. client frame ∷ map client (take n waiting) ++ replicate k idle)
     (let e : suc n - suc (length waiting) ≡ n - length waiting = omega arith in e)
-
--- further pieces come after those before them
-pub next_pieces-add : (n k : ℕ) (waiting : List (List ℕ)) →
-    next_pieces (n + k) waiting ≡ next_pieces n waiting ++ next_pieces k (drop n waiting)
-next_pieces-add zero k waiting =
-    let none = next_pieces-zero waiting in
-    let sum : 0 + k ≡ k = omega arith in
-    cc
-next_pieces-add (suc n) k [] =
-    let idles = replicate-append-replicate (suc n) k idle in
-    cc (next_pieces-nil (suc n + k), next_pieces-nil (suc n), next_pieces-nil k)
-next_pieces-add (suc n) k (frame ∷ waiting) =
-    let sum : suc n + k ≡ suc (n + k) = omega arith in
-    let rest = next_pieces-add n k waiting in
-    ap (λ m. next_pieces m (frame ∷ waiting)) sum ∙ next_pieces-cons (n + k) frame waiting
-    ∙ ap (λ ps. client frame ∷ ps) rest
-    ∙ ap (λ ps. ps ++ next_pieces k (drop n waiting)) (sym (next_pieces-cons n frame waiting))
 
 -- all frames that wait, and then so many idles
 next_pieces-all : (waiting : List (List ℕ)) (idles : ℕ) →

@@ -3,9 +3,8 @@ use Rattle.std.proofs.Common.{◌≡◌, ℕ, zero, suc, ◌+◌, ◌*◌, ◌<�
 use Rattle.std.proofs.Common.{sym, ap, ap₂, subst, ◌∙◌, arith, append_assoc, length-append}
 use Rattle.std.proofs.lemmas.List.{append-nil, map-append}
 use Rattle.std.proofs.lemmas.List.Sums.{sum-map, sum_by-append}
-use Rattle.law_model.specs.frames.TypeHeader.{type_header}
-use Rattle.law_model.specs.frames.Piece.{Piece, idle, client, area_of, joined, size_of, stream_of}
-use Rattle.law_model.specs.source.Client.{size, Stream, next_by, reached}
+use Rattle.law_model.specs.Common.{type_header, Piece, idle, client, area_of, joined, size_of, stream_of, size, Stream}
+use Rattle.law_model.specs.Common.{next_by, reached}
 use Rattle.law_model.proofs.StreamLaws.{stream_behind, stream_of-append, length-stream_of}
 use Rattle.law_model.proofs.ReachLaws.{reaching-here, reached-next, reached-join, reached-fewest}
 use Rattle.gfp_fill.specs.Areas.{Sender, head_of, StandsIn, HasWrittenIn}

@@ -1,8 +1,7 @@
 -- G.7041, frame multiplexing: which octets of a stream of payload areas a sender has written. What is in an area is no
 -- matter here.
 use Rattle.std.specs.Prelude.{◌≡◌, ℕ, ◌+◌, ◌≤◌, List, ◌++◌, length, take, drop}
-use Rattle.law_model.specs.frames.Scramble.{scrambled_octets}
-use Rattle.law_model.specs.frames.Piece.{joined, areas_stream}
+use Rattle.law_model.specs.Common.{scrambled_octets, joined, areas_stream}
 use Rattle.gfp_scramble.specs.Scrambler.{Scrambling, ScramblerStands as HasScrambled}
 
 -- what a sender knows: octets of which the last are the headers begun last, how many of them are written or aren't

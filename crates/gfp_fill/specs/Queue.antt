@@ -1,6 +1,6 @@
 -- Which frames are accepted, how many may wait, and what a queue holds. The limits are this project's own.
 use Rattle.std.specs.Prelude.{ℕ, ◌<◌, ◌≤◌, ◌⊎◌, List, []}
-use Rattle.law_model.specs.Limits.{shortest_frame, longest_frame}
+use Rattle.law_model.specs.Common.{shortest_frame, longest_frame}
 
 -- a length that is accepted
 abbrev pub IsFrameLength : ℕ → Type 0

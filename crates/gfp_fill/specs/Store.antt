@@ -1,13 +1,12 @@
 -- How the frames are kept: buffers with a frame that waits, spare ones, and the one of the frame that is being sent.
 -- The first two
 -- are together as many as may wait, and each has room for any frame.
-use Rattle.std.specs.Prelude.{◌≡◌, ℕ, ◌+◌, ◌≤◌, Vec, All, vec_len}
-use Rattle.std.specs.Vec.{vec_capacity}
+use Rattle.std.specs.Prelude.{◌≡◌, ℕ, ◌+◌, ◌≤◌, Vec, All, vec_len, vec_capacity}
 use Rattle.std.specs.VecDeque.{deque_len, deque_capacity}
 use Rattle.std.specs.declared.alloc.Global.{Global}
 use Rattle.std.specs.declared.collections.VecDeque.{VecDeque}
 use Rattle.gfp_fill.specs.Queue.{IsFrameLength}
-use Rattle.law_model.specs.Limits.{longest_frame, most_waiting}
+use Rattle.law_model.specs.Common.{longest_frame, most_waiting}
 
 -- a buffer that has room for any frame
 abbrev pub HasFrameRoom : Vec ℕ Global → Type 0

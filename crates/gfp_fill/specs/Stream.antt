@@ -1,7 +1,6 @@
 -- G.7041, frame multiplexing: which octets of the client's stream a filler and its queue have written.
 use Rattle.std.specs.Prelude.{◌≡◌, ℕ, ◌+◌, ◌-◌, List, [], ◌∷◌, ◌++◌, length, map, take, drop, replicate}
-use Rattle.law_model.specs.frames.Piece.{Piece, idle, client, area_of, stream_of}
-use Rattle.law_model.specs.source.Client.{Stream, reached}
+use Rattle.law_model.specs.Common.{Piece, idle, client, area_of, stream_of, Stream, reached}
 use Rattle.gfp_fill.specs.Areas.{Sender, StandsIn}
 use Rattle.gfp_fill.specs.Queue.{Held}
 

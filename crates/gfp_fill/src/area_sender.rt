@@ -1,9 +1,8 @@
 //! The stream of payload areas, octet by octet, and idle frames between them.
 
 ghost use Rattle.std.specs.Prelude.{◌≡◌, ℕ, ◌+◌, ◌*◌, ◌/◌, ◌^◌, ◌<◌, ◌≤◌, List, [], ◌∷◌, ◌++◌, length, min, take};
-ghost use Rattle.std.specs.Prelude.{replicate};
-ghost use Rattle.std.specs.List.{flat_map};
-ghost use Rattle.law_model.specs.frames.Piece.{with_header};
+ghost use Rattle.std.specs.Prelude.{replicate, flat_map};
+ghost use Rattle.law_model.specs.Common.{with_header};
 ghost use Rattle.gfp_fill.specs.Areas.{head_of, StandsIn, HasWrittenIn};
 
 use crate::copy_octets::{copy_some, put};

@@ -1,15 +1,13 @@
 //! The frames that wait, in buffers that are taken once.
 
-ghost use Rattle.std.specs.Prelude.{◌≡◌, ℕ, ◌+◌, ◌<◌, ◌≤◌, ◌↔◌, [], ◌∷◌, ◌++◌, length, min, take, drop, IsOk};
-ghost use Rattle.std.specs.Prelude.{IfOk, OnOk, OnErr, IfSome, IfNone, vec_len};
+ghost use Rattle.std.specs.Prelude.{◌≡◌, ℕ, ◌+◌, ◌<◌, ◌≤◌, ◌↔◌, [], ◌∷◌, ◌++◌, length, min, take, drop, IsOk, IfOk};
+ghost use Rattle.std.specs.Prelude.{OnOk, OnErr, IfSome, IfNone, vec_len, vec_capacity};
 ghost use Rattle.std.specs.Result.{result_err};
-ghost use Rattle.std.specs.Vec.{vec_capacity};
 ghost use Rattle.std.specs.VecDeque.{deque_len, deque_capacity};
-ghost use Rattle.law_model.specs.source.Client.{Stream, refusal_while, offered};
+ghost use Rattle.law_model.specs.Common.{Stream, refusal_while, offered, longest_frame, most_waiting};
 ghost use Rattle.gfp_fill.specs.Queue.{IsFrameLength, IsOtherLength, unbegun};
 ghost use Rattle.gfp_fill.specs.Areas.{Sender};
 ghost use Rattle.gfp_fill.specs.Stream.{FillerStands};
-ghost use Rattle.law_model.specs.Limits.{longest_frame, most_waiting};
 
 use crate::copy_octets::copy_some;
 use law_model::{AcceptFault, LONGEST_FRAME};

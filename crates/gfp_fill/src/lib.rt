@@ -9,22 +9,23 @@
 #![tactic(auto)]
 
 ghost use Rattle.std.specs.Prelude.{◌≡◌, ℕ, ◌+◌, ◌≤◌, List, [], ◌++◌, length, take, drop};
-ghost use Rattle.law_model.specs.frames.Piece.{Piece, stream_of, opening};
-ghost use Rattle.law_model.specs.source.Client.{size, Stream, offered, begun, reached, IsFewest};
+ghost use Rattle.law_model.specs.frames.Piece.{opening};
+ghost use Rattle.law_model.specs.Common.{Piece, stream_of, size, Stream, offered, reached, IsFewest};
+ghost use Rattle.law_model.specs.source.Client.{begun};
 ghost use Rattle.gfp_fill.specs.Areas.{Sender};
 ghost use Rattle.gfp_fill.specs.Queue.{Held};
 ghost use Rattle.gfp_fill.specs.Stream.{next_pieces, unsent, FillerStands};
 
 mod area_sender;
-mod stream_filler;
 mod copy_octets;
 mod frame_queue;
+mod stream_filler;
 
 pub use area_sender::AreaSender;
-pub use stream_filler::Filler;
-pub use law_model::AcceptFault;
 pub use copy_octets::copy_some;
 pub use frame_queue::{FrameQueue, MAX_WAITING, MIN_FRAME};
+pub use law_model::AcceptFault;
+pub use stream_filler::Filler;
 
 /// The pieces of a stream that reaches a place are the fewest, a place can be reached in parts, and octets
 /// that are written stand in each longer stream. Where all frames wait from the start, the pieces are those

@@ -1,8 +1,7 @@
 //! The stream of GFP frames, octet by octet.
 
 ghost use Rattle.std.specs.Prelude.{◌≡◌, ℕ, ◌+◌, ◌<◌, ◌≤◌, List, [], length, min, take, drop};
-ghost use Rattle.law_model.specs.frames.Piece.{stream_of};
-ghost use Rattle.law_model.specs.source.Client.{Stream, reached};
+ghost use Rattle.law_model.specs.Common.{stream_of, Stream, reached};
 ghost use Rattle.gfp_fill.specs.Areas.{head_of, StandsIn, HasWrittenIn};
 ghost use Rattle.gfp_fill.specs.Queue.{unbegun};
 ghost use Rattle.gfp_fill.specs.Stream.{unsent, FillerStands, Writes};

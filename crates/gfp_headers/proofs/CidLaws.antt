@@ -1,8 +1,6 @@
 -- What the octets of an extension header say.
-use Rattle.std.proofs.Common.{◌≡◌, ◌≢◌, ℕ, List, Some, None, sym, ◌∙◌, ap, ap₂, eq-eqb}
-use Rattle.std.specs.Prelude.{if◌then◌else◌}
-use Rattle.std.proofs.lemmas.Bool.{ne_eqb}
-use Rattle.check_hec16.specs.Hec.{hec_of}
+use Rattle.std.proofs.Common.{◌≡◌, ◌≢◌, ℕ, List, Some, None, sym, ◌∙◌, ap, ap₂, eq-eqb, if◌then◌else◌, ne_eqb}
+use Rattle.law_model.specs.Common.{hec_of}
 use Rattle.gfp_model.specs.declared.linear_model.CidFault.{CidFault}
 use Rattle.gfp_model.specs.linear_model.Linear.{cid_field, cid_check, cid_fault}
 

@@ -1,15 +1,11 @@
 -- What the octets of a type header say, and which of them is that of an Ethernet frame with a PFI and an EXI.
-use Rattle.std.proofs.Common.{◌≡◌, ◌≢◌, ℕ, ◌+◌, ◌*◌, ◌/◌, ◌%◌, ◌^◌, ◌<◌, ◌≤◌, Bool, true, false, List, [], ◌∷◌}
-use Rattle.std.proofs.Common.{length, Some}
-use Rattle.std.proofs.Common.{None, get_or, refl, sym, ◌∙◌, ap, ap₂, arith, eq-eqb}
-use Rattle.std.specs.Prelude.{if◌then◌else◌, ◌==◌}
-use Rattle.std.proofs.lemmas.Bool.{ne_eqb, eqb-true}
-use Rattle.check_remainder.specs.Bits.{bits, number_behind}
-use Rattle.check_remainder.specs.Remainder.{add_front, divide}
-use Rattle.check_hec16.specs.Hec.{hec_of}
+use Rattle.std.proofs.Common.{◌≡◌, ◌≢◌, ℕ, ◌+◌, ◌*◌, ◌/◌, ◌%◌, ◌^◌, ◌<◌, ◌≤◌, Bool, true, false, List, [], ◌∷◌, length}
+use Rattle.std.proofs.Common.{Some, None, get_or, refl, sym, ◌∙◌, ap, ap₂, arith, eq-eqb, if◌then◌else◌, ◌==◌, ne_eqb}
+use Rattle.std.proofs.Common.{eqb-true}
+use Rattle.law_model.specs.Common.{bits, number_behind, add_front, divide, hec_of, type_header, type_field, type_check}
+use Rattle.law_model.specs.Common.{type_fault}
 use Rattle.law_model.specs.declared.frame_faults.TypeFault.{TypeFault}
 use Rattle.law_model.specs.declared.frame_faults.TypeFault.TheVariants.{Check}
-use Rattle.law_model.specs.frames.TypeHeader.{type_header, type_field, type_check, type_fault}
 use Rattle.gfp_model.specs.fcs_model.Fcs.{fcs_header, fcs_type_fault}
 use Rattle.gfp_model.specs.linear_model.Linear.{linear_header, linear_type_fault}
 use Rattle.gfp_headers.specs.TypeField.{field_with, header_with, field_fault_with, type_fault_with}

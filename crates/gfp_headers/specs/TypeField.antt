@@ -1,9 +1,8 @@
 -- Type headers of Ethernet frames with any PFI and EXI: what all kinds of such frames have in common.
 use Rattle.std.specs.Prelude.{ℕ, ◌+◌, ◌*◌, ◌/◌, ◌%◌, ◌^◌, ◌==◌, List, [], ◌∷◌, Option, Some, None, if◌then◌else◌}
-use Rattle.check_hec16.specs.Hec.{hec_of}
+use Rattle.law_model.specs.Common.{hec_of, type_field, type_check}
 use Rattle.law_model.specs.declared.frame_faults.TypeFault.{TypeFault}
 use Rattle.law_model.specs.declared.frame_faults.TypeFault.TheVariants.{Check, NotClient, PayloadFcs, Extension, NotEthernet}
-use Rattle.law_model.specs.frames.TypeHeader.{type_field, type_check}
 
 -- the type field with a PFI and an EXI: PTI is 0 and UPI 1
 abbrev pub field_with : ℕ → ℕ → ℕ

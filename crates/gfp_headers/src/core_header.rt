@@ -1,8 +1,7 @@
 //! The core header, written and read as one word of 32 bits.
 
 ghost use Rattle.std.specs.Prelude.{◌≡◌, ◌≢◌, ◌↔◌, ℕ, IfSome, IfNone, IsTrue};
-ghost use Rattle.check_hec16.specs.Hec.{hec_of};
-ghost use Rattle.law_model.specs.frames.Core.{core_header, head, IsPli};
+ghost use Rattle.law_model.specs.Common.{hec_of, core_header, head, IsPli};
 
 use check_hec16::{hec, hec_ok};
 

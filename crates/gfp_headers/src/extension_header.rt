@@ -1,7 +1,7 @@
 //! The linear extension header: the number of a channel, a spare octet, and their check.
 
 ghost use Rattle.std.specs.Prelude.{◌≡◌, ◌≢◌, ◌↔◌, MatchOption, IsErr, slice_index};
-ghost use Rattle.check_hec16.specs.Hec.{hec_of};
+ghost use Rattle.law_model.specs.Common.{hec_of};
 ghost use Rattle.gfp_model.specs.linear_model.Linear.{extension_header, cid_field, cid_check, cid_fault};
 
 use crate::type_header::word;

@@ -7,13 +7,13 @@
 //! `specs/linear_model/Linear.antt`.
 #![tactic(auto)]
 
-mod extension_header;
 mod core_header;
+mod extension_header;
 mod type_header;
 
+pub use core_header::{core_bytes, read_core};
 pub use extension_header::{extension_bytes, read_cid};
 pub use gfp_model::linear_model::CidFault;
-pub use core_header::{core_bytes, read_core};
 pub use law_model::TypeFault;
 pub use type_header::{
     read_type, read_type_fcs, read_type_linear, type_bytes, type_bytes_fcs, type_bytes_linear,

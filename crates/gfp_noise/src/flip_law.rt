@@ -5,21 +5,17 @@
 
 ghost use Rattle.std.specs.Prelude.{◌==◌, slice_index_or, ◌≡◌, ◌≢◌, ◌↔◌, ◌<◌, ℕ, ◌+◌, ◌*◌, ◌≤◌, ◌++◌, Bool, false};
 ghost use Rattle.std.specs.Prelude.{List, [], true, length, take, drop, replicate, All, Some, None};
-ghost use Rattle.law_model.specs.frames.Core.{core_header, IsPli, pli_of};
-ghost use Rattle.check_remainder.specs.Count.{count};
+ghost use Rattle.law_model.specs.Common.{core_header, IsPli, pli_of, count, IsFixed, descrambled, xors};
 ghost use Rattle.gfp_model.specs.fcs_model.Flips.{flipped};
 ghost use Rattle.std.specs.List.{fold, list_any};
 ghost use Rattle.gfp_model.specs.declared.fcs_model.Flip.{Flip};
 ghost use Rattle.gfp_noise.specs.flip_law.Places.{at, LiesIn, IsRising, turned, flips_of};
-ghost use Rattle.check_hec16.specs.Fixed.{IsFixed};
 ghost use Rattle.gfp_model.specs.fcs_model.Near.{near, IsNear, check_of};
 ghost use Rattle.check_crc32.specs.Crc32.{fcs_of};
 ghost use Rattle.gfp_model.specs.fcs_model.Fcs.{fcs_header, fcs_type_fault, fcs_area, delivery, fcs_outcome, frame_in};
 ghost use Rattle.gfp_noise.specs.flip_law.Single.{IsOneOrTwo};
 ghost use Rattle.gfp_noise.specs.flip_law.Flipped.{worked_frames, one_flip, fcs_stream, IsFrame, fcs_delivered, window, AreFew};
 ghost use Rattle.gfp_noise.specs.flip_law.Flipped.{clear};
-ghost use Rattle.law_model.specs.frames.Scramble.{descrambled};
-ghost use Rattle.check_remainder.specs.Bits.{xors};
 
 /// Four octets are read as a header exactly where they differ from it in at most one bit.
 pub fn near_law()

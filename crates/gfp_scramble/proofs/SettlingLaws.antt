@@ -3,9 +3,8 @@ use Rattle.std.proofs.Common.{◌≡◌, ℕ, zero, suc, ◌+◌, ◌*◌, Bool,
 use Rattle.std.proofs.Common.{replicate, refl, sym, ◌∙◌, ap, ap₂, arith, append_assoc, length-append}
 use Rattle.std.proofs.lemmas.List.{length-replicate, drop-append-le}
 use Rattle.std.proofs.Math.Seq.{drop-append-add}
-use Rattle.check_remainder.specs.Bits.{octet_bits, octets_of}
+use Rattle.law_model.specs.Common.{octet_bits, octets_of, descrambled_octets}
 use Rattle.check_remainder.proofs.OctetLaws.{octet_bits-append, octet_bits-octets_of, length-octets_of}
-use Rattle.law_model.specs.frames.Scramble.{descrambled_octets}
 use Rattle.law_model.proofs.ScrambledOctets.{length-descrambled_octets, descrambled_octets-behind}
 use Rattle.gfp_scramble.specs.Descrambler.{DescramblerStands, unknown}
 

@@ -6,12 +6,11 @@ use Rattle.std.proofs.Common.{replicate, bit_xor, refl, sym, ◌∙◌, ap, ap�
 use Rattle.std.specs.Int.{bytes_high_first}
 use Rattle.std.specs.Int.Bits.{xor_zero_r}
 use Rattle.std.proofs.lemmas.List.{drop_at, length-append}
-use Rattle.std.proofs.lemmas.Nat.{shr-shr, shr_high, shr_split, xor_shr, xor_block, xor_lt, pow_pos}
-use Rattle.check_remainder.specs.Bits.{bits, octets_of, xors}
+use Rattle.std.proofs.lemmas.Nat.{shr-shr, shr_high, shr_split, xor_shr, xor_block, xor_lt, pow_pos, shr_below}
+use Rattle.law_model.specs.Common.{bits, octets_of, xors, scramble_on}
 use Rattle.check_remainder.proofs.BitLaws.{length-bits, bits-add, bits_low, bits-mod, bits-xor}
 use Rattle.check_remainder.proofs.OctetLaws.{octets_of-append, octets_of-octet_bits, bytes_high_first_below}
 use Rattle.check_remainder.proofs.OctetLaws.{octet_bits-bytes_high_first}
-use Rattle.law_model.specs.frames.Scramble.{scramble_on}
 use Rattle.law_model.proofs.ScrambleLaws.{scramble_on-append, scramble_on-short, xors-longer, descramble}
 use Rattle.law_model.proofs.ScrambleLaws.{descramble-append}
 use Rattle.gfp_scramble.proofs.RegisterLaws.{window, window-append}
@@ -19,15 +18,6 @@ use Rattle.gfp_scramble.proofs.RegisterLaws.{window, window-append}
 -- nothing is left above the bits
 nothing_above : (k x : ℕ) → x < 2 ^ k → x / 2 ^ k ≡ 0
 nothing_above k x h = (let e : x ≡ 0 * 2 ^ k + x = omega arith in ap (λ m. m / 2 ^ k) e) ∙ shr_high 0 k x h
-
--- a word below 2 ^ (n + a) without its lower a bits
-upper_below : (n a w : ℕ) → w < 2 ^ (n + a) → w / 2 ^ a < 2 ^ n
-upper_below n a w h =
-    let none : w / 2 ^ a / 2 ^ n ≡ 0 = shr-shr w a n ∙ (let e : a + n ≡ n + a = omega arith in ap (λ k. w / 2 ^ k) e)
-    ∙ nothing_above (n + a) w h in
-    let all : 0 * 2 ^ n + w / 2 ^ a % 2 ^ n ≡ w / 2 ^ a = ap (λ m. m * 2 ^ n + w / 2 ^ a % 2 ^ n) (sym none)
-    ∙ shr_split (w / 2 ^ a) n in
-    omega (arith, all, pow_pos n)
 
 -- a word with its bits in the other order of the parts
 parts : (a n w : ℕ) → bits (n + a) w ≡ bits a (w / 2 ^ n) ++ bits n w
@@ -51,8 +41,8 @@ pub word_descrambled : (a n r w : ℕ) (s : List Bool) → w < 2 ^ (n + a) → b
 word_descrambled a n r w s h stands =
     let upper = w / 2 ^ n in
     let all = bits (n + a) w in
-    let below : upper < 2 ^ a = upper_below a n w
-    (let e : 2 ^ (n + a) ≡ 2 ^ (a + n) = ap (λ k. 2 ^ k) (omega arith) in rw e at h) in
+    let below : upper < 2 ^ a =
+        shr_below w a n (let e : 2 ^ (n + a) ≡ 2 ^ (a + n) = ap (λ k. 2 ^ k) (omega arith) in rw e at h) in
     let back : bits (n + a) (r * 2 ^ a + upper) ≡ bits n r ++ bits a upper =
     bits-add n a (r * 2 ^ a + upper) ∙ ap₂ ◌++◌ (ap (bits n) (shr_high r a upper below)) (bits_low a r upper) in
     descramble-append n s all
@@ -89,7 +79,7 @@ module _ (a b r w : ℕ) (small : r < 2 ^ (a + b)) (h : w < 2 ^ (a + b + a)) whe
   t_top = sym (shr-shr t a b) ∙ ap (λ m. m / 2 ^ b) t_upper
 
   x_below : x < 2 ^ (a + b)
-  x_below = xor_lt (a + b) (w / 2 ^ a) r (upper_below (a + b) a w h) small
+  x_below = xor_lt (a + b) (w / 2 ^ a) r (shr_below w (a + b) a h) small
 
   v_upper : v / 2 ^ a ≡ x
   v_upper =

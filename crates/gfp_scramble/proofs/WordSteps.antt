@@ -1,12 +1,9 @@
 -- A word through the scrambler and the descrambler, as octets.
 use Rattle.std.proofs.Common.{◌≡◌, ℕ, ◌+◌, ◌*◌, ◌/◌, ◌%◌, ◌^◌, ◌<◌, ◌≤◌, min, Bool, true, false, List, [], ◌++◌, length}
-use Rattle.std.proofs.Common.{drop, replicate, bit_xor, refl, sym, ◌∙◌, ap, arith}
-use Rattle.std.specs.Prelude.{if◌then◌else◌}
+use Rattle.std.proofs.Common.{drop, replicate, bit_xor, refl, sym, ◌∙◌, ap, arith, if◌then◌else◌, length-append}
 use Rattle.std.specs.Int.{bytes_high_first}
-use Rattle.std.proofs.lemmas.List.{length-append}
-use Rattle.check_remainder.specs.Bits.{bits, octet_bits}
+use Rattle.law_model.specs.Common.{bits, octet_bits, scrambled, scrambled_octets, descrambled, descrambled_octets}
 use Rattle.check_remainder.proofs.OctetLaws.{octet_bits-append, length-octet_bits, octet_bits-bytes_high_first}
-use Rattle.law_model.specs.frames.Scramble.{scrambled, scrambled_octets, descrambled, descrambled_octets}
 use Rattle.law_model.proofs.ScrambleLaws.{scramble_on-append, length-scrambled, length-descrambled}
 use Rattle.gfp_scramble.specs.Scrambler.{ScramblerStands}
 use Rattle.gfp_scramble.specs.Descrambler.{DescramblerStands as StandsBack}

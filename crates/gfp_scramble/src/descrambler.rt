@@ -21,7 +21,7 @@ pub struct Descrambler {
 
 impl Model for Descrambler {
     ghost use Rattle.std.specs.Prelude.{◌^◌, ◌<◌, ◌≤◌};
-    ghost use Rattle.check_remainder.specs.Bits.{bits, number};
+    ghost use Rattle.law_model.specs.Common.{bits, number};
     ghost use Rattle.gfp_scramble.specs.Descrambler.{Descrambling};
     ghost use Rattle.std.proofs.Common.{◌∙◌, ap, mod-eq_of_lt};
     ghost use Rattle.check_remainder.proofs.BitLaws.{number-bits};

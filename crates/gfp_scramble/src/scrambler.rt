@@ -16,7 +16,7 @@ pub struct Scrambler {
 
 impl Model for Scrambler {
     ghost use Rattle.std.specs.Prelude.{◌^◌, ◌<◌};
-    ghost use Rattle.check_remainder.specs.Bits.{bits, number};
+    ghost use Rattle.law_model.specs.Common.{bits, number};
     ghost use Rattle.gfp_scramble.specs.Scrambler.{Scrambling};
     ghost use Rattle.std.specs.Prelude.{◌≡◌, ◌*◌, ◌/◌};
     ghost use Rattle.std.proofs.Common.{◌∙◌, ap, mod-eq_of_lt};

@@ -1,17 +1,11 @@
 -- The headline of a script's text. What walks and runs write of it is here to be cited by the commands.
-use Rattle.std.proofs.Common.{◌≡◌, ℕ, ◌≤◌, List, [], length, ap, ◌∙◌, subst, arith, inr}
-use Rattle.std.specs.Prelude.{Ok}
+use Rattle.std.proofs.Common.{◌≡◌, ℕ, ◌≤◌, List, [], length, ap, ◌∙◌, subst, arith, inr, Ok}
+use Rattle.law_model.specs.Common.{begin, walked, IsValid, leg_of}
 use Rattle.law_model.specs.declared.script_types.Script.{Script}
-use Rattle.law_model.specs.session.Counts.{begin, walked}
-use Rattle.law_model.specs.session.Valid.{IsValid}
-use Rattle.law_model.specs.session.Leg.{leg_of}
 use Rattle.text_scripts.specs.script_read.Script.{script_of}
 use Rattle.text_scripts.proofs.ScriptReadLaws.ReadLaws.{valid_text}
 use Rattle.law_progress.proofs.ReachLaws.{walked-reached}
-use Rattle.law_walk.specs.Walk.{walk_plan}
-use Rattle.law_walk.specs.Landed.{landed_items}
-use Rattle.law_walk.specs.Promise.{numbered, ConfirmsTrue}
-use Rattle.law_walk.specs.Report.{report_of, final_report}
+use Rattle.law_walk.specs.Common.{walk_plan, landed_items, numbered, ConfirmsTrue, report_of, final_report}
 use Rattle.law_walk.proofs.PlanLaws.{sound-walks}
 use Rattle.law_walk.proofs.WalkLaws.{begins-walked}
 use Rattle.law_walk.proofs.PromiseLaws.{drain-ends}

@@ -1,15 +1,9 @@
 -- The frames that a report tells, as they are picked out of those of the stream.
 use Rattle.std.proofs.Common.{◌≡◌, ◌⊎◌, ℕ, ◌+◌, ◌<◌, ◌≤◌, Bool, true, false, not, List, ◌++◌, length, filter}
-use Rattle.std.proofs.Common.{slice_index_or, All, refl, sym, ◌∙◌, ap, arith, inl, inr}
-use Rattle.std.specs.Prelude.{◌&&◌, ◌||◌}
-use Rattle.std.proofs.lemmas.Bool.{cases_Bool, and_parts, not-true, leb-true, le-leb}
-use Rattle.law_model.specs.session.Leg.{Leg}
-use Rattle.law_model.specs.session.Scenario.{Scenario, scenario_by}
-use Rattle.law_model.specs.source.Back.{session_cells}
-use Rattle.law_model.specs.frames.Segment.{StreamRow, Segment, segments, octets_of_rows}
-use Rattle.law_model.specs.rows.SessionStream.{rows_of}
-use Rattle.law_model.specs.frames.Loss.{Extent, is_carried, lies_in, is_frame_lost}
-use Rattle.law_model.specs.session.Valid.{IsSound}
+use Rattle.std.proofs.Common.{slice_index_or, All, refl, sym, ◌∙◌, ap, arith, inl, inr, ◌&&◌, ◌||◌, leb-true, le-leb}
+use Rattle.std.proofs.lemmas.Bool.{cases_Bool, and_parts, not-true}
+use Rattle.law_model.specs.Common.{Leg, Scenario, scenario_by, session_cells, StreamRow, Segment, segments}
+use Rattle.law_model.specs.Common.{octets_of_rows, rows_of, Extent, is_carried, lies_in, is_frame_lost, IsSound}
 use Rattle.text_report.specs.Report.{got_texts, refused_texts, total_text}
 use Rattle.law_loss.specs.Carried.{IsUndamaged}
 use Rattle.law_loss.proofs.CutLaws.{Stands-all}
@@ -18,11 +12,8 @@ use Rattle.law_loss.proofs.ExtentLaws.{extents-between}
 use Rattle.law_loss.proofs.SessionStreamLaws.{rows-length}
 use Rattle.law_loss.proofs.WholeLaws.{IsWhole, only_segment}
 use Rattle.law_loss.proofs.SessionLossLaws.{undamaged-whole, rows-whole}
-use Rattle.law_walk.specs.Delivered.{session_rows}
-use Rattle.law_walk.specs.Landed.{Numbered, refusals_among, totals_among}
-use Rattle.law_walk.specs.Promise.{session_pieces, session_extents, place_after, HasNoFailure, AreWholeBefore}
-use Rattle.law_walk.specs.Promise.{ConfirmsTrue}
-use Rattle.law_walk.specs.Report.{report_among}
+use Rattle.law_walk.specs.Common.{session_rows, Numbered, refusals_among, totals_among, session_pieces, session_extents}
+use Rattle.law_walk.specs.Common.{place_after, HasNoFailure, AreWholeBefore, ConfirmsTrue, report_among}
 use Rattle.law_walk.proofs.PlanLaws.{sound-walks}
 use Rattle.law_walk.proofs.PromiseLaws.{frames-kept, frames-known}
 use Rattle.law_walk.proofs.WholeLaws.{whole-starts}

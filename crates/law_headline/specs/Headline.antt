@@ -1,15 +1,12 @@
 -- The headline: what the report of a session tells, in the words of whoever wrote its script.
-use Rattle.std.specs.Prelude.{◌≡◌, ◌↔◌, ◌⊎◌, ℕ, ◌≤◌, Bool, true, List, ◌++◌, map, filter, All, Option, Ok}
+use Rattle.std.specs.Prelude.{◌≡◌, ◌↔◌, ◌⊎◌, ℕ, ◌≤◌, Bool, true, List, ◌++◌, map, filter, All, Ok}
+use Rattle.law_model.specs.Common.{Leg, leg_of, segments, Extent, Lost}
 use Rattle.law_model.specs.declared.script_types.Script.{Script}
-use Rattle.law_model.specs.session.Leg.{Leg, leg_of}
-use Rattle.law_model.specs.frames.Segment.{segments}
-use Rattle.law_model.specs.frames.Loss.{Extent, Lost}
 use Rattle.text_report.specs.Report.{got_texts, refused_texts, total_text}
 use Rattle.text_scripts.specs.script_read.Script.{script_of}
-use Rattle.law_walk.specs.Delivered.{session_rows}
-use Rattle.law_walk.specs.Landed.{Numbered, landed_items, refusals_among, totals_among}
-use Rattle.law_walk.specs.Promise.{numbered, accepted_frames, session_extents, session_waiting, place_after}
-use Rattle.law_walk.specs.Promise.{HasNoFailure, ConfirmsTrue}
+use Rattle.law_walk.specs.Common.{session_rows, Numbered, landed_items, refusals_among, totals_among, numbered}
+use Rattle.law_walk.specs.Common.{accepted_frames, session_extents, session_waiting, place_after, HasNoFailure}
+use Rattle.law_walk.specs.Common.{ConfirmsTrue}
 use Rattle.law_headline.specs.Texts.{counts_in}
 
 -- ---- which frames

@@ -1,10 +1,8 @@
 -- What `walk` writes of a script.
 use Rattle.std.specs.Prelude.{List, ℕ}
+use Rattle.law_model.specs.Common.{Counts, walked, leg_of}
 use Rattle.law_model.specs.declared.script_types.Script.{Script}
-use Rattle.law_model.specs.session.Counts.{Counts, walked}
-use Rattle.law_model.specs.session.Leg.{leg_of}
-use Rattle.law_walk.specs.Walk.{walk_plan}
-use Rattle.law_walk.specs.Report.{report_of}
+use Rattle.law_walk.specs.Common.{walk_plan, report_of}
 
 -- the counts of a script's walk: those of its event lines, or of a drain where there are none
 abbrev pub counts_in : Script → Counts

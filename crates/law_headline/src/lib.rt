@@ -3,13 +3,12 @@
 #![tactic(auto)]
 
 ghost use Rattle.std.specs.Prelude.{◌≡◌, ℕ, ◌≤◌, List, [], length, Ok};
+ghost use Rattle.law_model.specs.Common.{longest_input, leg_of};
 ghost use Rattle.law_model.specs.declared.script_types.Script.{Script};
 ghost use Rattle.text_scripts.specs.script_read.Script.{script_of};
-ghost use Rattle.law_walk.specs.Report.{final_report};
+ghost use Rattle.law_walk.specs.Common.{final_report};
 ghost use Rattle.law_headline.specs.Texts.{walk_text};
 ghost use Rattle.law_headline.specs.Headline.{IsWalkHeadline, IsRunHeadline};
-ghost use Rattle.law_model.specs.Limits.{longest_input};
-ghost use Rattle.law_model.specs.session.Leg.{leg_of};
 
 /// Of each text of at most 67,108,864 octets that is a script, `walk` writes the got lines of just those
 /// accepted frames that the taken rows carry whole and that aren't lost to a failure, in item order and each

@@ -2,31 +2,27 @@
 use Rattle.std.proofs.Common.{◌≡◌, ℕ, zero, suc, ◌+◌, ◌-◌, ◌*◌, ◌%◌, ◌<◌, ◌≤◌, ◌==◌, nat_lt, inl, inr, List, [], ◌∷◌}
 use Rattle.std.proofs.Common.{◌++◌, length, take, drop, replicate, slice_get, Option, Some, None, refl, sym, ◌∙◌, ap}
 use Rattle.std.proofs.Common.{subst, arith, length-append, length-take}
-use Rattle.law_line.proofs.ListLaws.{take-next, append_one, cut-at, slice_get-none, slice_get-after, slice_get-take}
+use Rattle.law_model.proofs.ListLaws.{take-next, append_one, cut-at, slice_get-none, slice_get-after, slice_get-take}
 use Rattle.std.proofs.lemmas.Bool.{cases_lt, cases_Bool}
 use Rattle.std.proofs.lemmas.List.{append-nil, length-map, map-append, length-replicate, length-take-le, take_all}
 use Rattle.std.proofs.lemmas.List.{take-append-drop, take-append-le, take-take}
 use Rattle.std.proofs.lemmas.Option.{slice_get_within}
-use Rattle.member_cells.specs.declared.containers_and_cells.Container.{Container}
-use Rattle.member_cells.specs.declared.containers_and_cells.Cell.{Cell}
-use Rattle.member_cells.specs.declared.containers_and_cells.Cell.TheVariants.{Good, Fail, End}
-use Rattle.check_nibbles.specs.Lock.{IsFirstStep, IsOutOfStep, HasMfi2, Locks, IsAt}
+use Rattle.law_model.specs.Common.{Container, Cell, Good, Fail, End, IsFirstStep, IsOutOfStep, HasMfi2, Locks, IsAt}
+use Rattle.law_model.specs.Common.{LineLock, unlocked, locked, over, Sight, unknown, locks, at, sight_of, ahead}
+use Rattle.law_model.specs.Common.{verdicts_by, Reading, read_at, read_on, reading_of, sign_of, signs_of, HasNoEnd}
+use Rattle.law_model.specs.Common.{IsLine, cells_of, path}
+use Rattle.law_model.specs.declared.window_types.Window.{Window}
+use Rattle.law_model.specs.declared.window_types.Carried.{Carried}
+use Rattle.law_model.specs.declared.window_types.Carried.TheVariants.{Whole, Fails, Vanishes}
 use Rattle.check_nibbles.proofs.LockLaws.{slice_get-append, slice_get-append_seam, HasMfi2-append, HasMfi2_only, Locks-append}
 use Rattle.check_nibbles.proofs.LockLaws.{IsAt-append, IsOutOfStep-append, IsFirstStep_only, IsInStep-inside, IsInStep_before}
 use Rattle.check_nibbles.proofs.LockLaws.{IsInStep-append}
-use Rattle.law_model.specs.members.Number.{LineLock, unlocked, begun, locked, over, Sight, unknown, locks, at, sight_of}
-use Rattle.law_model.specs.members.Number.{ahead, verdicts_by, Reading, read_at, read_on, reading_of}
-use Rattle.law_model.specs.members.Sign.{sign_of, signs_of, HasNoEnd}
-use Rattle.law_model.specs.members.Line.{IsLine}
+use Rattle.law_model.specs.members.Number.{begun}
 use Rattle.law_line.specs.Wording.{IsLeast, IsCount, IsWholeAt, dec_of}
 use Rattle.law_line.specs.Numbering.{IsCellOf, AreAt}
-use Rattle.law_model.specs.declared.window_types.Window.{Window}
 use Rattle.law_line.proofs.SightLaws.{LockStands, IsSight, sight-is, stands-after, stands-fail, stands-none}
 use Rattle.law_line.proofs.RunLaws.{read_on-append, cut-path, are_in_step}
-use Rattle.law_model.specs.declared.window_types.Carried.{Carried}
-use Rattle.law_model.specs.declared.window_types.Carried.TheVariants.{Whole, Fails, Vanishes}
 use Rattle.law_model.specs.members.Damage.{carried}
-use Rattle.law_model.specs.members.Path.{cells_of, path}
 use Rattle.law_line.proofs.StableLaws.{extends}
 
 -- a cell and those before it
@@ -426,7 +422,7 @@ path-at windows containers i line is =
     record { container = c; cell = here; sent = rw dec there; whole = rw dec whole; before = rw dec same }
 
 -- over the cells of the first containers, and End
-IsAt_before : (signs more : List (Option ℕ)) (i : ℕ) → i < length signs → IsAt (signs ++ more) i → IsAt signs i
+pub IsAt_before : (signs more : List (Option ℕ)) (i : ℕ) → i < length signs → IsAt (signs ++ more) i → IsAt signs i
 IsAt_before signs more i within is = (
   is.0,
   record {

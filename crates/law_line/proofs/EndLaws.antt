@@ -1,15 +1,11 @@
 -- Which numbers are decided, and what End decides.
 use Rattle.std.proofs.Common.{◌≡◌, ℕ, List, [], ◌∷◌, ◌++◌, length, slice_get, Option, Some, None, refl, sym, ◌∙◌, ap}
-use Rattle.std.proofs.Common.{arith}
-use Rattle.law_line.proofs.ListLaws.{none-beyond}
-use Rattle.std.proofs.lemmas.List.{take_all}
+use Rattle.std.proofs.Common.{arith, take_all}
+use Rattle.law_model.proofs.ListLaws.{none-beyond}
 use Rattle.std.proofs.lemmas.Option.{slice_get_past}
-use Rattle.member_cells.specs.declared.containers_and_cells.Container.{Container}
-use Rattle.member_cells.specs.declared.containers_and_cells.Cell.{Cell}
-use Rattle.member_cells.specs.declared.containers_and_cells.Cell.TheVariants.{End}
-use Rattle.law_model.specs.members.Number.{LineLock, unlocked, begun, locked, over, Reading, read_at, read_on, reading_of}
-use Rattle.law_model.specs.members.Number.{verdict_over, verdict_or, verdict}
-use Rattle.law_model.specs.members.Sign.{signs_of, HasNoEnd}
+use Rattle.law_model.specs.Common.{Container, Cell, End, LineLock, unlocked, locked, over, Reading, read_at, read_on}
+use Rattle.law_model.specs.Common.{reading_of, verdict_over, verdict_or, verdict, signs_of, HasNoEnd}
+use Rattle.law_model.specs.members.Number.{begun}
 use Rattle.law_line.specs.Wording.{dec_of, AreWhole, AreDecided, EndDecides}
 use Rattle.law_line.proofs.SightLaws.{LockStands}
 use Rattle.law_line.proofs.RunLaws.{read_on-append}

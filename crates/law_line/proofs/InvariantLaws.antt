@@ -1,17 +1,13 @@
 -- The numbers of the cells of a line are those of its containers.
 use Rattle.std.proofs.Common.{◌≡◌, ℕ, zero, suc, ◌+◌, ◌*◌, ◌/◌, ◌%◌, ◌<◌, ◌≤◌, ◌==◌, nat_le, true, false, inl, inr}
 use Rattle.std.proofs.Common.{List, [], ◌∷◌, ◌++◌, length, replicate, slice_get, Option, Some, None, refl, sym, ◌∙◌, ap}
-use Rattle.std.proofs.Common.{subst, arith, length-append, append_assoc}
-use Rattle.std.proofs.lemmas.Bool.{cases_eq, eq-eqb, eqb-true, eqb-false, cases_Bool, leb-true}
-use Rattle.std.proofs.lemmas.List.{append-nil}
-use Rattle.member_cells.specs.declared.containers_and_cells.Container.{Container}
-use Rattle.member_cells.specs.declared.containers_and_cells.Cell.TheVariants.{Good, Fail}
+use Rattle.std.proofs.Common.{subst, arith, length-append, append_assoc, eq-eqb, eqb-true, leb-true, append-nil}
+use Rattle.std.proofs.lemmas.Bool.{cases_eq, eqb-false, cases_Bool}
+use Rattle.law_model.specs.Common.{Container, Good, Fail, is_whole, HasPlace, expected, LineLock, unlocked, locked}
+use Rattle.law_model.specs.Common.{over, unknown, locks, at, ahead, Reading, read_good, read_at}
 use Rattle.law_model.specs.declared.window_types.Carried.{Carried}
 use Rattle.law_model.specs.declared.window_types.Carried.TheVariants.{Whole, Fails, Vanishes}
-use Rattle.law_model.specs.members.Damage.{is_whole}
-use Rattle.law_model.specs.members.Line.{HasPlace, expected}
-use Rattle.law_model.specs.members.Number.{LineLock, unlocked, begun, locked, over, unknown, locks, at, ahead, Reading}
-use Rattle.law_model.specs.members.Number.{read_good, read_at}
+use Rattle.law_model.specs.members.Number.{begun}
 use Rattle.law_line.proofs.GoodLaws.{IsLocked, IsGood, IsGood-is_good, not_good, IsGood-locked, IsLocked-last}
 use Rattle.law_line.proofs.GoodLaws.{IsLocked-before, IsLocked-earlier, IsLocked-two, IsLocked-steady, steady, lost}
 use Rattle.law_line.proofs.GoodLaws.{vanished}

@@ -1,4 +1,3 @@
-pub mod ListLaws
 pub mod GoodLaws
 pub mod InvariantLaws
 pub mod WindowLaws

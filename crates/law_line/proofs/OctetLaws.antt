@@ -2,17 +2,13 @@
 use Rattle.std.proofs.Common.{◌≡◌, ◌⊎◌, ℕ, zero, suc, ◌+◌, ◌*◌, ◌/◌, ◌<◌, ◌≤◌, true, false, if◌then◌else◌, inl, inr}
 use Rattle.std.proofs.Common.{List, [], ◌∷◌, ◌++◌, map, length, take, drop, slice_get, Option, Some, None, refl, sym}
 use Rattle.std.proofs.Common.{◌∙◌, ap, subst, arith}
-use Rattle.law_line.proofs.ListLaws.{take-next, slice_get-drop, slice_get-inside, is-some}
+use Rattle.law_model.proofs.ListLaws.{take-next, slice_get-drop, slice_get-inside, is-some}
 use Rattle.std.proofs.lemmas.Bool.{cases_eq, cases_Bool}
 use Rattle.std.proofs.lemmas.List.{map-append}
-use Rattle.member_cells.specs.declared.containers_and_cells.Container.{Container}
-use Rattle.member_cells.specs.declared.containers_and_cells.Cell.{Cell}
+use Rattle.law_model.specs.Common.{Container, Cell, is_good, is_readable, cells, verdict, expected, upper_of, with_last}
+use Rattle.law_model.specs.Common.{uppers}
 use Rattle.law_model.specs.declared.window_types.Carried.{Carried}
-use Rattle.law_model.specs.members.Damage.{carried, is_good, is_readable}
-use Rattle.law_model.specs.members.Path.{cells}
-use Rattle.law_model.specs.members.Number.{verdict}
-use Rattle.law_model.specs.members.Line.{expected}
-use Rattle.law_model.specs.packets.MemberPacket.{upper_of, with_last, uppers}
+use Rattle.law_model.specs.members.Damage.{carried}
 use Rattle.law_line.specs.Numbering.{AreReadable}
 use Rattle.law_line.specs.Stable.{OctetsStay}
 use Rattle.law_line.proofs.GoodLaws.{readable-good, good-readable}

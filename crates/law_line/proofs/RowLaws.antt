@@ -1,26 +1,20 @@
 -- Packets and rows that are decided: which packets are read, and that more cells change nothing.
-use Rattle.std.proofs.Common.{◌≡◌, ℕ, zero, suc, ◌+◌, ◌-◌, ◌*◌, ◌/◌, ◌<◌, ◌≤◌, nat_lt, Bool, true, false, inl, inr}
-use Rattle.std.proofs.Common.{List, [], ◌∷◌, ◌++◌, map, length, slice_get, Option, Some, None, refl, sym, ◌∙◌, ap, ap₂}
-use Rattle.std.proofs.Common.{arith}
-use Rattle.std.specs.Prelude.{IsSome, if◌then◌else◌, ◌==◌}
-use Rattle.std.specs.List.{range_with_len}
-use Rattle.std.specs.Option.{option_map}
-use Rattle.std.proofs.lemmas.Bool.{cases_Bool, ltb-false}
+use Rattle.std.proofs.Common.{◌≡◌, ℕ, suc, ◌+◌, ◌-◌, ◌*◌, ◌/◌, ◌≤◌, nat_lt, Bool, true, false, inl, inr, List, [], ◌∷◌}
+use Rattle.std.proofs.Common.{◌++◌, map, length, slice_get, Option, Some, None, refl, sym, ◌∙◌, ap, ap₂, arith, IsSome}
+use Rattle.std.proofs.Common.{if◌then◌else◌, ◌==◌, option_map, ltb-false}
+use Rattle.std.proofs.lemmas.Bool.{cases_Bool}
 use Rattle.std.proofs.lemmas.Option.{slice_get_past}
-use Rattle.member_cells.specs.declared.containers_and_cells.Container.{Container}
-use Rattle.member_cells.specs.declared.containers_and_cells.Cell.{Cell}
+use Rattle.law_model.specs.Common.{Container, Cell, LineLock, reading_of, verdict_over, verdict_or, verdict}
+use Rattle.law_model.specs.Common.{read_packet, read_packets, governing, active_of, container_in, container_on}
+use Rattle.law_model.specs.Common.{with_first, containers_at, carried_row, row_under, leader, return_of, is_readable}
+use Rattle.law_model.specs.Common.{sent_nibbles, read_of}
 use Rattle.law_model.specs.declared.control_packet.Packet.{Packet}
-use Rattle.law_model.specs.members.Number.{LineLock, reading_of, verdict_over, verdict_or, verdict}
-use Rattle.law_model.specs.rows.Rows.{packet_in, read_packet, read_packets, governing, active_of, container_in}
-use Rattle.law_model.specs.rows.Rows.{container_on, with_first, containers_at, carried_row, row_by, row_under}
-use Rattle.law_model.specs.packets.ReturnPacket.{leader, return_of}
-use Rattle.law_model.specs.members.Damage.{carried, is_readable}
-use Rattle.law_model.specs.members.Line.{sent_nibbles}
-use Rattle.law_model.specs.packets.Packet.{read_of}
+use Rattle.law_model.specs.rows.Rows.{packet_in, row_by}
+use Rattle.law_model.specs.members.Damage.{carried}
 use Rattle.std.specs.Result.{result_ok}
 use Rattle.law_line.specs.Numbering.{line_cells, AreRead}
 use Rattle.law_line.specs.StableRows.{IsLonger, AreDecidedAt, PacketsStay, GoverningStay, RowsStay, ReturnsStay}
-use Rattle.law_line.proofs.ListLaws.{none-beyond, is-some}
+use Rattle.law_model.proofs.ListLaws.{none-beyond, is-some, map-same_range}
 use Rattle.law_line.proofs.StableLaws.{verdict-stays}
 use Rattle.law_line.proofs.OctetLaws.{octets_stay, are_readable}
 
@@ -129,14 +123,8 @@ rows_stay size cells longer t are decided =
     ]
 
 -- ---- return packets
-pub map-same : {X : Type 0} (f g : ℕ → X) (from count : ℕ) → ((j : ℕ) → j < from + count → f j ≡ g j) →
-    map f (range_with_len from count) ≡ map g (range_with_len from count)
-map-same f g from zero same = refl
-map-same f g from (suc count) same =
-    ap₂ (λ x xs. x ∷ xs) (same from (omega arith)) (map-same f g (from + 1) count (λ j low. same j (omega arith)))
-
 pub returns_stay : ReturnsStay
 returns_stay cells longer k are decided =
     ap (λ rows. return_of rows k)
-    (map-same (read_packets longer) (read_packets cells) 0 (k + 1)
+    (map-same_range (read_packets longer) (read_packets cells) 0 (k + 1)
     (λ j low. read-stays cells longer j are (decided-before cells (16 * j + 23) (16 * k + 23) (omega arith) decided)))

@@ -1,22 +1,19 @@
 -- The cells of a line, read to their end.
 use Rattle.std.proofs.Common.{◌≡◌, ℕ, zero, suc, ◌+◌, ◌-◌, ◌<◌, min, nat_lt, inl, inr, List, [], ◌∷◌, ◌++◌, length}
 use Rattle.std.proofs.Common.{take, slice_get, Option, Some, None, refl, sym, ◌∙◌, ap, subst, arith, length-take}
-use Rattle.law_line.proofs.ListLaws.{slice_get-take}
+use Rattle.law_model.proofs.ListLaws.{slice_get-take}
 use Rattle.std.proofs.lemmas.Bool.{cases_lt, cases_eq, cases_Bool, ltb-true}
 use Rattle.std.proofs.lemmas.List.{append-nil}
 use Rattle.std.proofs.lemmas.Option.{slice_get_within, slice_get_past}
-use Rattle.member_cells.specs.declared.containers_and_cells.Container.{Container}
-use Rattle.member_cells.specs.declared.containers_and_cells.Cell.{Cell}
-use Rattle.member_cells.specs.declared.containers_and_cells.Cell.TheVariants.{Good, End}
-use Rattle.check_nibbles.proofs.LockLaws.{slice_get-append, slice_get-append_seam}
+use Rattle.law_model.specs.Common.{Container, Cell, Good, End, cells_of, path, LineLock, unlocked, locked, over}
+use Rattle.law_model.specs.Common.{Reading, read_at, read_on, reading_of, verdict_over, verdict_in, verdict, AreSent}
+use Rattle.law_model.specs.Common.{IsLine, expected}
 use Rattle.law_model.specs.declared.window_types.Window.{Window}
 use Rattle.law_model.specs.declared.window_types.Carried.{Carried}
 use Rattle.law_model.specs.declared.window_types.Carried.TheVariants.{Whole, Fails, Vanishes}
+use Rattle.check_nibbles.proofs.LockLaws.{slice_get-append, slice_get-append_seam}
 use Rattle.law_model.specs.members.Damage.{carried}
-use Rattle.law_model.specs.members.Path.{cells_of, path}
-use Rattle.law_model.specs.members.Number.{LineLock, unlocked, begun, locked, over, Reading, read_at, read_on, reading_of}
-use Rattle.law_model.specs.members.Number.{verdict_over, verdict_in, verdict}
-use Rattle.law_model.specs.members.Line.{AreSent, IsLine, expected}
+use Rattle.law_model.specs.members.Number.{begun}
 use Rattle.law_line.specs.Numbering.{AreNumbered, AreInStep, AreExpected}
 use Rattle.law_line.proofs.InvariantLaws.{upto, length-upto, Carries, Fits, HasRead, reads-none, expected-bad}
 use Rattle.law_line.proofs.InvariantLaws.{step-fails, step-vanishes, step-whole}

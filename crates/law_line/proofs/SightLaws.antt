@@ -2,12 +2,12 @@
 use Rattle.std.proofs.Common.{◌≡◌, ◌≢◌, ℕ, ◌+◌, ◌-◌, ◌*◌, ◌/◌, ◌%◌, ◌<◌, ◌==◌, inl, inr, List, [], ◌∷◌, ◌++◌, length}
 use Rattle.std.proofs.Common.{slice_get, Option, Some, None, refl, sym, ◌∙◌, subst, arith, length-append}
 use Rattle.std.proofs.lemmas.Bool.{eqb-true, eqb-false, cases_Bool}
-use Rattle.check_nibbles.specs.Lock.{HasMfi1, IsInStep, IsFirstStep, IsOutOfStep, HasMfi2, Locks, IsAt}
+use Rattle.law_model.specs.Common.{HasMfi1, IsInStep, IsFirstStep, IsOutOfStep, HasMfi2, Locks, IsAt, LineLock}
+use Rattle.law_model.specs.Common.{unlocked, locked, over, Sight, unknown, locks, at, sight_of, lock_after}
 use Rattle.check_nibbles.proofs.LockLaws.{slice_get-append, slice_get-append_seam, IsFirstStep-append, IsFirstStep_longer}
 use Rattle.check_nibbles.proofs.LockLaws.{IsOutOfStep-append, HasMfi1-append, HasMfi1_before, HasMfi1_only, IsInStep_two}
 use Rattle.check_nibbles.proofs.LockLaws.{IsInStep_shorter, IsOutOfStep_next, IsOutOfStep_goes_on}
-use Rattle.law_model.specs.members.Number.{LineLock, unlocked, begun, locked, over, Sight, unknown, locks, at, sight_of}
-use Rattle.law_model.specs.members.Number.{lock_after}
+use Rattle.law_model.specs.members.Number.{begun}
 
 abbrev pub IsLast : List (Option ℕ) → ℕ → Type 0
 IsLast signs place = place + 1 ≡ length signs

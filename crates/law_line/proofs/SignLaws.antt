@@ -1,13 +1,12 @@
 -- What is computed of each cell of a line, against its wording.
 use Rattle.std.proofs.Common.{◌≡◌, ℕ, zero, suc, ◌+◌, ◌*◌, ◌<◌, List, [], ◌∷◌, ◌++◌, length, Option, Some, None}
 use Rattle.std.proofs.Common.{slice_get, refl, sym, ◌∙◌, ap, subst, arith, length-append}
-use Rattle.check_nibbles.specs.Lock.{HasMfi2}
+use Rattle.law_model.specs.Common.{HasMfi2, LineLock, unlocked, Sight, unknown, locks, at, sight_of, sight_by, lock_by}
+use Rattle.law_model.specs.Common.{sights_on, sights}
 use Rattle.check_nibbles.proofs.LockLaws.{slice_get-append_seam, IsFirstStep_only, IsInStep-inside, HasMfi2_only}
 use Rattle.std.proofs.lemmas.Option.{slice_get_within}
-use Rattle.law_model.specs.members.Number.{LineLock, unlocked, Sight, unknown, locks, at, sight_of}
-use Rattle.law_model.specs.members.Sight.{sight_by, lock_by, sights_on, sights}
 use Rattle.law_line.specs.Sights.{AreAtSights, AreLockingSights, AreUnknownSights}
-use Rattle.law_line.proofs.ListLaws.{slice_get-inside, append_one}
+use Rattle.law_model.proofs.ListLaws.{slice_get-inside, append_one}
 use Rattle.law_line.proofs.SightLaws.{LockStands, IsSight, sight-is, stands-after, stands-fail, stands-none}
 use Rattle.law_line.proofs.CountLaws.{IsSight-append, out-here}
 

@@ -1,18 +1,16 @@
 -- More cells change no verdict, and more carries no cell.
 use Rattle.std.proofs.Common.{◌≡◌, ℕ, ◌+◌, ◌-◌, ◌<◌, ◌≤◌, nat_lt, true, inl, inr, List, [], ◌∷◌, ◌++◌, length}
 use Rattle.std.proofs.Common.{take, slice_get, Option, Some, None, refl, sym, ◌∙◌, ap, subst, arith, append_assoc}
-use Rattle.law_line.proofs.ListLaws.{take-part}
+use Rattle.law_model.proofs.ListLaws.{take-part}
 use Rattle.std.proofs.lemmas.Bool.{cases_Bool, ltb-true}
 use Rattle.std.proofs.lemmas.List.{append-nil, take_all}
 use Rattle.std.proofs.lemmas.Option.{slice_get_within}
-use Rattle.member_cells.specs.declared.containers_and_cells.Container.{Container}
-use Rattle.member_cells.specs.declared.containers_and_cells.Cell.{Cell}
-use Rattle.member_cells.specs.declared.containers_and_cells.Cell.TheVariants.{Good, Fail, End}
-use Rattle.check_nibbles.proofs.LockLaws.{slice_get-append}
+use Rattle.law_model.specs.Common.{Container, Cell, Good, Fail, End, path, end_of, cells, LineLock, unlocked, locked}
+use Rattle.law_model.specs.Common.{over, sight_of, verdicts_by, Reading, read_at, read_on, reading_of, verdict_over}
+use Rattle.law_model.specs.Common.{verdict_or, verdict_in, verdict}
 use Rattle.law_model.specs.declared.window_types.Carried.{Carried}
-use Rattle.law_model.specs.members.Path.{path, end_of, cells}
-use Rattle.law_model.specs.members.Number.{LineLock, unlocked, begun, locked, over, sight_of, verdicts_by, Reading, read_at}
-use Rattle.law_model.specs.members.Number.{read_on, reading_of, verdict_over, verdict_or, verdict_in, verdict}
+use Rattle.check_nibbles.proofs.LockLaws.{slice_get-append}
+use Rattle.law_model.specs.members.Number.{begun}
 use Rattle.law_model.proofs.PathLaws.{path-append}
 use Rattle.law_line.proofs.RunLaws.{read_on-append}
 

@@ -2,10 +2,11 @@
 use Rattle.std.proofs.Common.{◌≡◌, ℕ, zero, suc, ◌+◌, ◌-◌, ◌<◌, ◌≤◌, nat_le, nat_lt, Bool, true, false, ◌⊎◌}
 use Rattle.std.proofs.Common.{if◌then◌else◌, inl, inr, List, [], ◌∷◌, refl, sym, ◌∙◌, subst, arith}
 use Rattle.std.proofs.lemmas.Bool.{cases_lt, cases_Bool}
+use Rattle.law_model.specs.Common.{carried_in, is_whole, AreWindows, slip_after, slip_of}
 use Rattle.law_model.specs.declared.window_types.Window.{Window}
 use Rattle.law_model.specs.declared.window_types.Carried.{Carried}
 use Rattle.law_model.specs.declared.window_types.Carried.TheVariants.{Whole, Fails, Vanishes}
-use Rattle.law_model.specs.members.Damage.{carried_in, carried, is_whole, AreWindows, slip_after, slip_of}
+use Rattle.law_model.specs.members.Damage.{carried}
 use Rattle.law_model.proofs.PathLaws.{carried-in, carried-before, carried-after}
 use Rattle.law_line.proofs.GoodLaws.{steady, lost, vanished}
 
@@ -144,13 +145,13 @@ window-lost carries window (suc j) each within sign =
           omega (arith, before, lose, one, late)
     ])
 
-run-most : (run end : ℕ) (windows : List Window) → run ≤ slip_after run end windows
+pub run-most : (run end : ℕ) (windows : List Window) → run ≤ slip_after run end windows
 unfolding slip_after
 run-most run end [] = omega arith
 run-most run end (window ∷ windows) = omega arith
 
 -- before the first of them no window damages
-carried-early : (from : ℕ) (windows : List Window) (n : ℕ) → AreWindows from windows → n < from →
+pub carried-early : (from : ℕ) (windows : List Window) (n : ℕ) → AreWindows from windows → n < from →
     carried windows n ≡ Whole
 unfolding AreWindows carried
 carried-early from [] n are before = refl

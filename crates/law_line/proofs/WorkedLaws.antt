@@ -1,11 +1,8 @@
 -- The worked lines.
 use Rattle.std.proofs.Common.{◌≡◌, ℕ, zero, suc, ◌+◌, ◌%◌, inl, inr, slice_get, Some, refl, ◌∙◌, ap, arith}
 use Rattle.std.proofs.lemmas.Bool.{cases_eq, eq-eqb, ne_eqb}
-use Rattle.member_cells.specs.declared.containers_and_cells.Container.{Container}
-use Rattle.law_model.specs.members.Damage.{carried, slip_after, AreWindows}
-use Rattle.law_model.specs.members.Path.{path}
-use Rattle.law_model.specs.members.Number.{read_on}
-use Rattle.law_model.specs.members.Line.{HasPlace, AreSent}
+use Rattle.law_model.specs.Common.{Container, slip_after, AreWindows, path, read_on, HasPlace, AreSent}
+use Rattle.law_model.specs.members.Damage.{carried}
 use Rattle.law_line.specs.Worked.{container, containers, window, two_windows, three_windows, IsMet, AreSummed}
 use Rattle.law_line.specs.Worked.{AreSeventeen}
 

@@ -2,21 +2,12 @@
 use Rattle.std.specs.Prelude.{◌≡◌, ◌↔◌, true, ℕ, ◌+◌, ◌*◌, ◌%◌, ◌<◌, ◌≤◌, List, ◌∷◌, ◌++◌, length, take, slice_get}
 use Rattle.std.specs.Prelude.{Option, Some, None, IsSome, if◌then◌else◌}
 use Rattle.std.specs.Result.{result_ok}
-use Rattle.member_cells.specs.declared.containers_and_cells.Container.{Container}
-use Rattle.member_cells.specs.declared.containers_and_cells.Cell.{Cell}
-use Rattle.member_cells.specs.declared.containers_and_cells.Cell.TheVariants.{Good}
-use Rattle.check_nibbles.specs.Lock.{IsAt}
+use Rattle.law_model.specs.Common.{Container, Cell, Good, IsAt, is_good, is_readable, path, cells, locked, reading_of}
+use Rattle.law_model.specs.Common.{verdict, signs_of, IsLine, expected, sent_nibbles, nibbles_of, read_of, read_packet}
 use Rattle.law_model.specs.declared.window_types.Window.{Window}
 use Rattle.law_model.specs.declared.window_types.Carried.{Carried}
 use Rattle.law_model.specs.declared.window_types.Carried.TheVariants.{Whole}
-use Rattle.law_model.specs.members.Damage.{carried, is_good, is_readable}
-use Rattle.law_model.specs.members.Path.{path, cells}
-use Rattle.law_model.specs.members.Number.{locked, reading_of, verdict}
-use Rattle.law_model.specs.members.Sign.{signs_of}
-use Rattle.law_model.specs.members.Line.{IsLine, expected, sent_nibbles}
-use Rattle.law_model.specs.packets.MemberPacket.{nibbles_of}
-use Rattle.law_model.specs.packets.Packet.{read_of}
-use Rattle.law_model.specs.rows.Rows.{read_packet}
+use Rattle.law_model.specs.members.Damage.{carried}
 use Rattle.law_line.specs.Wording.{dec_of}
 
 -- the cells of i carries of a line all of whose containers are known

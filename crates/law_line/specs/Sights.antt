@@ -1,8 +1,6 @@
 -- What is computed of each cell of a line is what is worded of it by the cells in step, and nothing else is.
 use Rattle.std.specs.Prelude.{◌≡◌, ℕ, ◌+◌, ◌*◌, ◌<◌, ◌↔◌, List, length, Option, Some, slice_get}
-use Rattle.check_nibbles.specs.Lock.{IsOutOfStep, HasMfi2, Locks, IsAt}
-use Rattle.law_model.specs.members.Number.{unknown, locks, at}
-use Rattle.law_model.specs.members.Sight.{sights}
+use Rattle.law_model.specs.Common.{IsOutOfStep, HasMfi2, Locks, IsAt, unknown, locks, at, sights}
 
 -- a cell comes while the line is locked
 abbrev pub AreAtSights : Type 0

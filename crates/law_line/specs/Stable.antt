@@ -1,11 +1,7 @@
 -- What is decided stays decided: more cells, and more carries, change nothing of it.
 use Rattle.std.specs.Prelude.{◌≡◌, ℕ, ◌+◌, ◌<◌, ◌≤◌, List, ◌++◌, length, Option, Some, IsSome}
-use Rattle.member_cells.specs.declared.containers_and_cells.Container.{Container}
-use Rattle.member_cells.specs.declared.containers_and_cells.Cell.{Cell}
+use Rattle.law_model.specs.Common.{Container, Cell, cells, verdict, uppers}
 use Rattle.law_model.specs.declared.window_types.Carried.{Carried}
-use Rattle.law_model.specs.members.Path.{cells}
-use Rattle.law_model.specs.members.Number.{verdict}
-use Rattle.law_model.specs.packets.MemberPacket.{uppers}
 
 -- more cells change no verdict
 abbrev pub VerdictsStay : Type 0

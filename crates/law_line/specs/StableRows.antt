@@ -1,8 +1,6 @@
 -- What is decided of the rows of a group stays decided.
 use Rattle.std.specs.Prelude.{◌≡◌, ℕ, ◌+◌, ◌*◌, List, ◌++◌, length, slice_get, Some, IsSome}
-use Rattle.member_cells.specs.declared.containers_and_cells.Cell.{Cell}
-use Rattle.law_model.specs.members.Number.{verdict}
-use Rattle.law_model.specs.rows.Rows.{read_packet, governing, row_at, return_at}
+use Rattle.law_model.specs.Common.{Cell, verdict, read_packet, governing, row_at, return_at}
 
 -- each line has its cells, and maybe more after them
 pub record IsLonger (cells longer : List (List Cell)) : Type 0 where

@@ -1,12 +1,8 @@
 -- The numbers of cells as they are worded: over any list of cells none of which is End, by the cells in step.
 use Rattle.std.specs.Prelude.{◌≡◌, ℕ, ◌+◌, ◌*◌, ◌%◌, ◌<◌, ◌≤◌, ◌↔◌, List, ◌∷◌, ◌++◌, length, take, slice_get, Some}
 use Rattle.std.specs.Prelude.{None}
-use Rattle.check_nibbles.specs.Lock.{IsOutOfStep, HasMfi2, Locks, IsAt}
-use Rattle.member_cells.specs.declared.containers_and_cells.Container.{Container}
-use Rattle.member_cells.specs.declared.containers_and_cells.Cell.{Cell}
-use Rattle.member_cells.specs.declared.containers_and_cells.Cell.TheVariants.{Good, End}
-use Rattle.law_model.specs.members.Number.{reading_of, verdict_or, verdict}
-use Rattle.law_model.specs.members.Sign.{signs_of, HasNoEnd}
+use Rattle.law_model.specs.Common.{IsOutOfStep, HasMfi2, Locks, IsAt, Container, Cell, Good, End, reading_of}
+use Rattle.law_model.specs.Common.{verdict_or, verdict, signs_of, HasNoEnd}
 
 -- the least number of at least d that equals r modulo 4096
 pub record IsLeast (d r n : ℕ) : Type 0 where

@@ -1,11 +1,9 @@
 -- Lines for which the law holds, and lines just outside it.
 use Rattle.std.specs.Prelude.{◌≡◌, ℕ, zero, suc, ◌+◌, ◌*◌, ◌/◌, ◌%◌, ◌==◌, List, [], ◌∷◌, Some, if◌then◌else◌}
-use Rattle.member_cells.specs.declared.containers_and_cells.Container.{Container}
+use Rattle.law_model.specs.Common.{Container, slip_of, path, locked, reading_of, verdict, IsLine}
 use Rattle.law_model.specs.declared.window_types.Window.{Window}
-use Rattle.law_model.specs.members.Damage.{carried, slip_of}
-use Rattle.law_model.specs.members.Path.{path}
-use Rattle.law_model.specs.members.Number.{begun, locked, reading_of, verdict}
-use Rattle.law_model.specs.members.Line.{IsLine}
+use Rattle.law_model.specs.members.Damage.{carried}
+use Rattle.law_model.specs.members.Number.{begun}
 
 -- an empty container whose H4 says its place
 unfoldable pub container : ℕ → Container

@@ -1,22 +1,17 @@
 -- A segment that begins at the place of a piece: what is confirmed first in it is the place of the next one.
 use Rattle.std.proofs.Common.{◌≡◌, ◌⊎◌, ℕ, zero, suc, ◌+◌, ◌-◌, ◌<◌, ◌≤◌, Bool, true, false, List, [], ◌∷◌, ◌++◌}
 use Rattle.std.proofs.Common.{length, map, take, drop, All, Option, Some, None, slice_index_or, refl, sym, ◌∙◌, ap}
-use Rattle.std.proofs.Common.{subst, inl, inr, arith, append_assoc, length-append, length-take}
-use Rattle.std.specs.Prelude.{IfSome, option_map}
-use Rattle.std.specs.List.{flat_map}
-use Rattle.std.proofs.lemmas.Bool.{le-leb, lt-leb, cases_lt}
-use Rattle.std.proofs.lemmas.List.{drop_at}
+use Rattle.std.proofs.Common.{subst, inl, inr, arith, append_assoc, length-append, length-take, IfSome, option_map}
+use Rattle.std.proofs.Common.{flat_map, le-leb, drop_at}
+use Rattle.std.proofs.lemmas.Bool.{lt-leb, cases_lt}
 use Rattle.std.proofs.lemmas.List.Elements.{All-nil, All-cons, All-head, All-tail, All-append, All-map, All-weaker}
-use Rattle.law_model.specs.frames.Core.{head, core_header, IsPli}
-use Rattle.law_model.specs.frames.Piece.{Piece, area_of, joined, with_header, stream_of}
-use Rattle.law_model.specs.frames.Hunt.{Confirmed, header_at, confirm_with, hunt_within, hunt}
-use Rattle.law_model.specs.frames.Segment.{Segment, Segments, row_by, segments_on, segments_of, segments, octets_of_rows}
-use Rattle.law_model.specs.frames.Loss.{confirmed_in, IsPlaceOfPiece, TrueStarts}
-use Rattle.law_model.specs.session.Scenario.{Scenario}
-use Rattle.law_model.specs.source.Table.{Told}
-use Rattle.law_model.specs.source.Client.{place_of, stream_before}
-use Rattle.law_model.specs.rows.SessionRows.{is_whole_row}
-use Rattle.law_model.specs.rows.SessionStream.{row_of, rows_of}
+use Rattle.law_model.proofs.ListLaws.{drop-part, within-append, All-after}
+use Rattle.law_model.specs.Common.{head, core_header, IsPli, Piece, area_of, joined, with_header, stream_of, Confirmed}
+use Rattle.law_model.specs.Common.{header_at, confirm_with, hunt_within, hunt, Segment, Segments, segments_on}
+use Rattle.law_model.specs.Common.{segments_of, segments, octets_of_rows, confirmed_in, IsPlaceOfPiece, TrueStarts}
+use Rattle.law_model.specs.Common.{Scenario, Told, place_of, stream_before, is_whole_row, rows_of, longest_frame}
+use Rattle.law_model.specs.frames.Segment.{row_by}
+use Rattle.law_model.specs.rows.SessionStream.{row_of}
 use Rattle.law_model.proofs.CoreLaws.{length-core_header}
 use Rattle.law_model.proofs.AreaLaws.{scrambled_behind, map-length-scrambled_behind}
 use Rattle.law_model.proofs.StreamLaws.{length-with_header, stream_behind, stream_of-append, length-stream_behind}
@@ -24,14 +19,12 @@ use Rattle.gfp_delineate.proofs.FrontLaws.{take-append, header_at-core}
 use Rattle.gfp_delineate.proofs.HuntLaws.{no_header}
 use Rattle.gfp_delineate.proofs.Delivery.{IsSendable, IsPli-area_of, fits-scrambled}
 use Rattle.law_loss.specs.Carried.{AreOctets, IsSentPiece}
-use Rattle.law_loss.proofs.FoundLaws.{drop-part}
 use Rattle.law_loss.proofs.OutcomeGrowth.{hunt_within-few}
-use Rattle.law_loss.proofs.KeptLaws.{part_of_stream, All-after, sendable_of}
+use Rattle.law_loss.proofs.KeptLaws.{sendable_of}
 use Rattle.law_loss.proofs.CutLaws.{IsPart, Stands-all}
 use Rattle.law_loss.proofs.SegmentLaws.{segments_of-push}
 use Rattle.law_loss.proofs.SessionStreamLaws.{rows-carry, rows-length}
 use Rattle.law_loss.proofs.SessionLossLaws.{pieces-sent}
-use Rattle.law_model.specs.Limits.{longest_frame}
 
 abbrev IsFit : List ℕ → Type 0
 IsFit area = IsPli (length area)
@@ -234,7 +227,7 @@ rows-part scenario cells rows n low segment part =
     let sent : List ℕ = octets_of_rows (rows_of scenario cells rows) in
     let carry = rows-carry scenario cells rows n low in
     part.octets
-    ∙ sym (part_of_stream sent carry.rest segment.base (length segment.octets) part.fits)
+    ∙ sym (within-append segment.base (length segment.octets) sent carry.rest part.fits)
     ∙ ap (λ l. take (length segment.octets) (drop segment.base l)) (sym carry.stream)
 
 all-parts : (scenario : Scenario) (cells : List (Option Told)) (rows : ℕ) →

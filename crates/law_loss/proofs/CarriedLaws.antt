@@ -1,8 +1,7 @@
 -- One more row adds its octets.
-use Rattle.std.proofs.Common.{◌≡◌, List, [], ◌∷◌, ◌++◌, ◌∙◌, ap}
-use Rattle.std.proofs.lemmas.List.{append-nil}
+use Rattle.std.proofs.Common.{◌≡◌, List, [], ◌∷◌, ◌++◌, ◌∙◌, ap, append-nil}
 use Rattle.std.proofs.lemmas.List.Concat.{flat_map-append}
-use Rattle.law_model.specs.frames.Segment.{StreamRow, octets_of_rows}
+use Rattle.law_model.specs.Common.{StreamRow, octets_of_rows}
 
 pub octets-push : (rows : List StreamRow) (row : StreamRow) →
     octets_of_rows (rows ++ row ∷ []) ≡ octets_of_rows rows ++ row.octets

@@ -1,12 +1,11 @@
 -- The segments of rows are parts of the octets of the rows, one after the other.
 use Rattle.std.proofs.Common.{◌≡◌, ℕ, ◌+◌, ◌≤◌, Bool, true, false, List, [], ◌∷◌, ◌++◌, length, take, drop, All, refl}
-use Rattle.std.proofs.Common.{sym, ◌∙◌, ap, ap₂, arith, length-append, length-drop}
-use Rattle.std.proofs.lemmas.List.{drop-drop, drop_at, take_at}
-use Rattle.std.proofs.Math.Seq.{take-add}
+use Rattle.std.proofs.Common.{sym, ◌∙◌, ap, ap₂, arith, length-append, length-drop, drop-drop, drop_at, take_at}
+use Rattle.std.proofs.Common.{take-add}
 use Rattle.std.proofs.lemmas.List.Elements.{All-nil, All-cons, All-append}
-use Rattle.law_model.specs.frames.Segment.{StreamRow, Segment, Segments, longer, broken, row_by, segments_on, segments_of}
-use Rattle.law_model.specs.frames.Segment.{segments}
-use Rattle.law_model.specs.frames.Segment.{octets_of_rows}
+use Rattle.law_model.specs.frames.Segment.{row_by}
+use Rattle.law_model.specs.Common.{StreamRow, Segment, Segments, longer, broken, segments_on, segments_of, segments}
+use Rattle.law_model.specs.Common.{octets_of_rows}
 
 -- a part of the octets that were sent
 pub record IsPart (sent : List ℕ) (segment : Segment) : Type 0 where

@@ -3,10 +3,10 @@ use Rattle.std.proofs.Common.{◌≡◌, ℕ, ◌+◌, ◌<◌, ◌≤◌, List,
 use Rattle.std.proofs.Common.{arith, inl, inr}
 use Rattle.std.proofs.lemmas.Bool.{le-leb, lt-leb, cases_lt}
 use Rattle.std.proofs.lemmas.List.Elements.{All-nil, All-cons, All-weaker}
-use Rattle.law_model.specs.frames.Piece.{Piece, idle, client, size_of, stream_of, frame_ends, cut}
+use Rattle.law_model.specs.Common.{Piece, idle, client, size_of, stream_of, frame_ends, cut, Extent, extents}
+use Rattle.law_model.specs.Common.{is_carried}
 use Rattle.law_model.proofs.StreamLaws.{length-stream_of-cons}
 use Rattle.gfp_delineate.proofs.Delivery.{ended}
-use Rattle.law_model.specs.frames.Loss.{Extent, extents, is_carried}
 
 -- the frames that end by a place
 abbrev pub frames_to : ℕ → List Extent → List (List ℕ)
@@ -24,7 +24,7 @@ frames_ended place start (client frame ∷ pieces) = elim (cases_lt place (start
       (ap (λ l. frame ∷ l) (frames_ended place (start + size_of (client frame)) pieces))
 ]
 
-no_octets : length (stream_of []) ≡ 0
+pub no_octets : length (stream_of []) ≡ 0
 unfolding cut
 no_octets = refl
 

@@ -1,13 +1,10 @@
 -- What is found in a search that a refused header went before.
-use Rattle.std.proofs.Common.{◌≡◌, ℕ, zero, suc, ◌+◌, ◌-◌, ◌≤◌, Bool, true, false, not, List, [], ◌∷◌, length, take}
-use Rattle.std.proofs.Common.{drop, Option, Some, None, refl, sym, ◌∙◌, ap, ap₂, inl, inr, arith, length-drop}
-use Rattle.std.proofs.Common.{length-take}
-use Rattle.std.specs.Prelude.{IfSome}
-use Rattle.std.proofs.lemmas.List.{drop-drop, drop-take, drop_all}
-use Rattle.std.proofs.lemmas.Bool.{le-leb, lt-leb, cases_lt}
-use Rattle.law_model.specs.frames.Core.{head}
-use Rattle.law_model.specs.frames.Hunt.{Confirmed, header_at, confirm_by, confirm_with, hunt_by, hunt_within, hunt}
-use Rattle.law_model.specs.frames.Run.{areas, after_run, Run, Delineated, run_then, delineate, runs}
+use Rattle.std.proofs.Common.{◌≡◌, ℕ, zero, suc, ◌+◌, ◌-◌, ◌≤◌, Bool, true, false, not, List, [], ◌∷◌, length, drop}
+use Rattle.std.proofs.Common.{Option, Some, None, refl, ◌∙◌, ap, ap₂, inl, inr, arith, length-drop, IfSome, drop-drop}
+use Rattle.std.proofs.Common.{le-leb}
+use Rattle.std.proofs.lemmas.Bool.{lt-leb, cases_lt}
+use Rattle.law_model.specs.Common.{head, Confirmed, header_at, confirm_by, confirm_with, hunt_by, hunt_within, hunt}
+use Rattle.law_model.specs.Common.{areas, after_run, Run, Delineated, run_then, delineate, runs}
 use Rattle.gfp_delineate.proofs.HuntLaws.{viewed, search}
 use Rattle.gfp_delineate.proofs.RunLaws.{delineate_from, delineate-open}
 
@@ -122,13 +119,3 @@ confirmed-within octets confirmed is =
     within (hunt true 0 octets) octets (hunt_within-found (length octets) 0 octets) confirmed is
 
 -- ---- the rest of a part
-pub drop-part : (k n : ℕ) (xs : List ℕ) → drop k (take n xs) ≡ take (n - k) (drop k xs)
-drop-part k n xs = elim (cases_lt n k) [
-  | inl past ↦ (
-      let none : drop k (take n xs) ≡ [] = drop_all k (take n xs) (omega (arith, length-take n xs, past)) in
-      let zero_left : n - k ≡ 0 = omega (arith, past) in
-      none ∙ ap (λ count. take count (drop k xs)) (sym zero_left))
-  | inr within ↦ (
-      let all : k + (n - k) ≡ n = omega (arith, within) in
-      ap (λ count. drop k (take count xs)) (sym all) ∙ drop-take k (n - k) xs)
-]

@@ -6,10 +6,8 @@ use Rattle.std.specs.List.{list_any}
 use Rattle.std.proofs.lemmas.Bool.{le-leb, lt-leb, le-ltb, lt-ltb}
 use Rattle.std.proofs.lemmas.List.Folds.{list_any_none, list_any-append}
 use Rattle.std.proofs.lemmas.List.Elements.{All-nil, All-cons, All-append, All-weaker, filter-append}
-use Rattle.law_model.specs.frames.Piece.{Piece, idle, client, size_of, stream_of}
-use Rattle.law_model.specs.frames.Segment.{Segment}
-use Rattle.law_model.specs.frames.Loss.{Extent, extents, is_carried, lies_in, confirmed_in, missed_after, is_missed}
-use Rattle.law_model.specs.frames.Loss.{is_given}
+use Rattle.law_model.specs.Common.{Piece, idle, client, size_of, stream_of, Segment, Extent, extents, is_carried}
+use Rattle.law_model.specs.Common.{lies_in, confirmed_in, missed_after, is_missed, is_given}
 use Rattle.law_loss.proofs.FilterLaws.{and_false, and_true, or_true, filter-skip, filter-none, filter-same}
 use Rattle.law_loss.proofs.ExtentLaws.{IsBetween, extents-between, extents-append, extents_after_first}
 

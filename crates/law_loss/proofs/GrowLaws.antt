@@ -1,12 +1,9 @@
 -- More rows add frames, and change none of those before.
 use Rattle.std.proofs.Common.{◌≡◌, ℕ, Bool, true, false, List, [], ◌∷◌, ◌++◌, length, drop, refl, sym, ◌∙◌, ap}
-use Rattle.std.proofs.Common.{append_assoc}
-use Rattle.std.specs.List.{flat_map}
-use Rattle.std.proofs.lemmas.List.{append-nil, drop_at}
+use Rattle.std.proofs.Common.{append_assoc, flat_map, append-nil, drop_at}
 use Rattle.std.proofs.lemmas.List.Concat.{flat_map-append}
-use Rattle.law_model.specs.frames.Outcome.{outcomes}
+use Rattle.law_model.specs.Common.{outcomes, StreamRow, segments_of, deliver}
 use Rattle.law_model.specs.frames.Delivery.{frame_in}
-use Rattle.law_model.specs.frames.Segment.{StreamRow, segments_of, deliver}
 use Rattle.law_loss.specs.Added.{frames_in, added, whole_row}
 use Rattle.law_loss.proofs.SegmentLaws.{Adds, deliver-lost, grows-whole}
 use Rattle.law_loss.proofs.OutcomeGrowth.{outcomes_grow}

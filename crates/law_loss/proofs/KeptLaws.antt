@@ -2,24 +2,18 @@
 -- frames.
 use Rattle.std.proofs.Common.{◌≡◌, ℕ, ◌+◌, ◌<◌, ◌≤◌, Bool, true, false, not, List, [], ◌∷◌, ◌++◌, length, map, filter}
 use Rattle.std.proofs.Common.{take, drop, All, Option, Some, None, refl, sym, ◌∙◌, ap, ap₂, subst, arith, inl, inr}
-use Rattle.std.proofs.Common.{length-drop, length-append}
-use Rattle.std.specs.Prelude.{nat_le, ◌&&◌, ◌||◌, IfSome}
-use Rattle.std.specs.List.{list_any, flat_map}
-use Rattle.std.specs.Option.{option_map}
-use Rattle.std.proofs.lemmas.Bool.{cases_Bool, leb-true, le-leb, le-ltb}
-use Rattle.std.proofs.lemmas.List.{map-append, take-append-le, drop-append-le}
+use Rattle.std.proofs.Common.{length-append, nat_le, ◌&&◌, ◌||◌, IfSome, flat_map, option_map, leb-true, le-leb, le-ltb}
+use Rattle.std.specs.List.{list_any}
+use Rattle.std.proofs.lemmas.Bool.{cases_Bool}
+use Rattle.std.proofs.lemmas.List.{map-append}
 use Rattle.std.proofs.lemmas.List.Concat.{flat_map-append}
 use Rattle.std.proofs.lemmas.List.Elements.{All-nil, All-cons, All-head, All-tail, All-append, All-weaker}
-use Rattle.check_remainder.specs.Bits.{bits, number_behind}
-use Rattle.check_remainder.specs.Remainder.{add_front, divide}
-use Rattle.check_hec16.specs.Hec.{hec_of}
-use Rattle.law_model.specs.frames.TypeHeader.{type_header, type_fault}
-use Rattle.law_model.specs.frames.Piece.{Piece, idle, client, area_of, size_of, stream_of, with_header, scrambled_areas}
-use Rattle.law_model.specs.frames.Hunt.{Confirmed, hunt}
-use Rattle.gfp_delineate.proofs.Delivery.{IsSendable}
-use Rattle.law_model.specs.frames.Segment.{StreamRow, Segment, segments_of, segments, deliver, octets_of_rows}
-use Rattle.law_model.specs.frames.Loss.{Extent, extents, is_carried, lies_in, confirmed_in, is_given, is_frame_lost}
-use Rattle.law_model.specs.frames.Loss.{IsPlaceOfPiece, StartsTrue, TrueStarts, frames_kept}
+use Rattle.law_model.proofs.ListLaws.{within-append, All-front, All-after}
+use Rattle.law_model.specs.Common.{type_header, Piece, idle, client, area_of, size_of, stream_of, with_header}
+use Rattle.law_model.specs.Common.{scrambled_areas, Confirmed, hunt, StreamRow, Segment, segments_of, segments, deliver}
+use Rattle.law_model.specs.Common.{octets_of_rows, Extent, extents, is_carried, lies_in, confirmed_in, is_given}
+use Rattle.law_model.specs.Common.{is_frame_lost, IsPlaceOfPiece, StartsTrue, TrueStarts, frames_kept}
+use Rattle.gfp_delineate.proofs.Delivery.{IsSendable, type_header_right}
 use Rattle.law_loss.specs.Carried.{CarriesStream, IsSentPiece}
 use Rattle.law_loss.specs.Kind.{Kind, IsKind, area_in, stream_in, IsPieceIn, told_in, segment_told, rows_told, Carries}
 use Rattle.law_loss.specs.Kind.{plain_kind}
@@ -76,7 +70,7 @@ and_left : (a b : Bool) → (a && b) ≡ true → a ≡ true
 and_left true b h = refl
 and_left false b h = h
 
-and_right : (a b : Bool) → (a && b) ≡ true → b ≡ true
+pub and_right : (a b : Bool) → (a && b) ≡ true → b ≡ true
 and_right true b h = h
 and_right false b h = absurd (let e : false ≡ true = h in cc)
 
@@ -134,21 +128,6 @@ given_by_all all pieces low (segment ∷ further) order =
     (λ e is. given_upper all e segment is) (λ e is. any_lower all e high further order.1 is) 0 pieces)
 
 -- ---- one segment
-pub part_of_stream : (sent rest : List ℕ) (base count : ℕ) → base + count ≤ length sent →
-    take count (drop base (sent ++ rest)) ≡ take count (drop base sent)
-part_of_stream sent rest base count fits =
-    ap (take count) (drop-append-le base sent rest (omega (arith, fits)))
-    ∙ take-append-le count (drop base sent) rest (omega (arith, length-drop base sent, fits))
-
-pub All-front : {X : Type 0} (P : X → Type 0) (xs ys : List X) → All P (xs ++ ys) → All P xs
-All-front P [] ys all = All-nil P
-All-front P (x ∷ xs) ys all = All-cons P x xs (All-head P x (xs ++ ys) all)
-    (All-front P xs ys (All-tail P x (xs ++ ys) all))
-
-pub All-after : {X : Type 0} (P : X → Type 0) (xs ys : List X) → All P (xs ++ ys) → All P ys
-All-after P [] ys all = all
-All-after P (x ∷ xs) ys all = All-after P xs ys (All-tail P x (xs ++ ys) all)
-
 pub sendable_of : (longest : ℕ) (piece : Piece) → IsSentPiece longest piece → IsSendable longest piece
 sendable_of longest idle sent = tt
 sendable_of longest (client frame) sent = record { size = sent.most; octets = sent.octets }
@@ -249,7 +228,7 @@ module _ {X Y : Type 0} (kind : Kind X Y) (sound : IsKind kind) (pieces : List P
       StartsTrue piece_list segment → segment_told kind segment ≡ read_of (given segment)
   segment_given segment arrived rest carried is starts =
       let octets : segment.octets ≡ take (length segment.octets) (drop segment.base stream) =
-      is.octets ∙ sym (part_of_stream arrived rest segment.base (length segment.octets) is.fits)
+      is.octets ∙ sym (within-append segment.base (length segment.octets) arrived rest is.fits)
       ∙ ap (λ l. take (length segment.octets) (drop segment.base l)) (sym carried) in
       elim (cases_Bool segment.first) [
         | inl first ↦ first_given segment first (is.first first) octets
@@ -277,10 +256,6 @@ module _ {X Y : Type 0} (kind : Kind X Y) (sound : IsKind kind) (pieces : List P
       ∙ ap read_of (given-kept piece_list rows)
 
 -- ---- Ethernet frames are a kind
-type_header_right : type_fault type_header ≡ None
-unfolding type_fault hec_of bits divide add_front number_behind
-type_header_right = refl
-
 pub plain-sound : (longest : ℕ) → IsKind (plain_kind longest)
 plain-sound longest =
     let below : ℕ → Type 0 = λ o. o < 256 in

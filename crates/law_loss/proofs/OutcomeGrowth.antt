@@ -1,17 +1,12 @@
 -- What comes of octets stays where more octets come.
 use Rattle.std.proofs.Common.{not, map, sum, ap₂, append_assoc, sym, false, take, ◌≡◌, ℕ, zero, suc, ◌+◌, ◌-◌, ◌<◌, ◌≤◌}
 use Rattle.std.proofs.Common.{Bool, true, List, [], ◌∷◌, ◌++◌, length, drop, Option, Some, None, refl, ◌∙◌, ap, arith}
-use Rattle.std.proofs.Common.{inl, inr, length-append, length-drop}
-use Rattle.std.proofs.lemmas.Bool.{le-leb, lt-leb, cases_lt}
-use Rattle.std.proofs.lemmas.List.{append-nil, drop-append-le, take-append-le}
-use Rattle.law_model.specs.frames.Hunt.{Confirmed, header_with, header_at, confirm_by, confirm_with, hunt_by, hunt_within}
-use Rattle.law_model.specs.frames.Hunt.{hunt}
-use Rattle.law_model.specs.frames.Core.{head}
-use Rattle.std.specs.List.{flat_map}
-use Rattle.law_model.specs.frames.Piece.{joined}
-use Rattle.law_model.specs.frames.Run.{Run, Followed, no_area, follow_with, areas, after_run, runs}
-use Rattle.law_model.specs.frames.Outcome.{Outcome, client_outcome, outcomes_after, descrambled_areas, run_outcomes}
-use Rattle.law_model.specs.frames.Outcome.{outcomes}
+use Rattle.std.proofs.Common.{inl, inr, length-append, length-drop, le-leb, append-nil, flat_map}
+use Rattle.std.proofs.lemmas.Bool.{lt-leb, cases_lt}
+use Rattle.std.proofs.lemmas.List.{drop-append-le, take-append-le}
+use Rattle.law_model.specs.Common.{Confirmed, header_with, header_at, confirm_by, confirm_with, hunt_by, hunt_within}
+use Rattle.law_model.specs.Common.{hunt, head, joined, Run, Followed, no_area, follow_with, areas, after_run, runs}
+use Rattle.law_model.specs.Common.{Outcome, client_outcome, outcomes_after, descrambled_areas, run_outcomes, outcomes}
 use Rattle.law_model.proofs.AreaLaws.{descrambled_behind, descrambled_areas-append}
 use Rattle.gfp_delineate.proofs.HuntLaws.{no_header, viewed, search}
 use Rattle.gfp_delineate.proofs.RunLaws.{follow-few, follow-lost, follow-part, follow-whole}
@@ -30,7 +25,7 @@ FollowsIn-wider : (more : List ℕ) (n m : ℕ) (found other : Option Confirmed)
 FollowsIn-wider more n m None other le follows = tt
 FollowsIn-wider more n m (Some found) other le follows = (follows.0, omega (arith, le, follows.1))
 
-header_at-longer : (octets more : List ℕ) → 4 ≤ length octets → header_at (octets ++ more) ≡ header_at octets
+pub header_at-longer : (octets more : List ℕ) → 4 ≤ length octets → header_at (octets ++ more) ≡ header_at octets
 unfolding header_with
 header_at-longer octets more long =
     rw (

@@ -2,8 +2,7 @@
 use Rattle.std.proofs.Common.{◌≡◌, ℕ, suc, ◌+◌, false, List, [], ◌∷◌, length, map, take, refl, ◌∙◌, ap, arith, inl, inr}
 use Rattle.std.proofs.lemmas.Bool.{le-leb, lt-leb, cases_lt}
 use Rattle.std.proofs.lemmas.List.Elements.{All-weaker}
-use Rattle.law_model.specs.frames.Piece.{Piece, idle, client, size_of, stream_of}
-use Rattle.law_model.specs.frames.Loss.{Extent, extents, is_carried}
+use Rattle.law_model.specs.Common.{Piece, idle, client, size_of, stream_of, Extent, extents, is_carried}
 use Rattle.law_loss.proofs.FilterLaws.{filter-skip, filter-keep, filter-none}
 use Rattle.law_loss.proofs.ExtentLaws.{IsBetween, extents-between, frames_to}
 

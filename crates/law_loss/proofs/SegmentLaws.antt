@@ -1,14 +1,12 @@
 -- What a row adds.
 use Rattle.std.proofs.Common.{◌≡◌, ℕ, ◌+◌, Bool, false, List, [], ◌∷◌, ◌++◌, length, drop, refl, sym, ◌∙◌, ap, ap₂}
-use Rattle.std.proofs.Common.{arith, append_assoc, length-append}
-use Rattle.std.specs.List.{flat_map}
-use Rattle.std.proofs.lemmas.List.{append-nil, drop_at, drop_all}
+use Rattle.std.proofs.Common.{arith, append_assoc, length-append, flat_map, append-nil, drop_at}
+use Rattle.std.proofs.lemmas.List.{drop_all}
 use Rattle.std.proofs.lemmas.List.Concat.{flat_map-append}
 use Rattle.std.proofs.Math.Seq.{drop-append-add}
-use Rattle.law_model.specs.frames.Hunt.{hunt_within}
-use Rattle.law_model.specs.frames.Run.{delineate_within}
-use Rattle.law_model.specs.frames.Segment.{StreamRow, Segment, Segments, row_by, segments_on, segments_of, segment_frames}
-use Rattle.law_model.specs.frames.Segment.{deliver}
+use Rattle.law_model.specs.Common.{hunt_within, delineate_within, StreamRow, Segment, Segments, segments_on}
+use Rattle.law_model.specs.Common.{segments_of, segment_frames, deliver}
+use Rattle.law_model.specs.frames.Segment.{row_by}
 use Rattle.law_loss.specs.Added.{frames_in, next_frames, added, whole_row, lost_row}
 
 -- ---- more octets of a segment

@@ -6,27 +6,23 @@ use Rattle.std.proofs.Common.{slice_index_or, refl, sym, ◌∙◌, ap, ap₂, s
 use Rattle.std.specs.List.{list_any, list_all}
 use Rattle.std.proofs.lemmas.Bool.{cases_Bool, or_parts, ltb-false, le-leb}
 use Rattle.std.proofs.lemmas.List.Elements.{All-nil, All-cons, All-head, All-tail, All-append, All-filter}
+use Rattle.law_model.proofs.ListLaws.{All-front}
+use Rattle.law_model.specs.Common.{Piece, idle, client, size_of, frames_by, are_whole, is_good, is_readable, DueFrame}
+use Rattle.law_model.specs.Common.{Scenario, comes_at, carried_by, is_read, is_heard, Told, active, table_of, Stream}
+use Rattle.law_model.specs.Common.{frame_refusal, offered, place_of, stream_before, frames_in, accepted_offers}
+use Rattle.law_model.specs.Common.{offers_before, frames_before, is_whole_row, deliver, extents, TrueStarts}
+use Rattle.law_model.specs.Common.{frames_kept, rows_of, longest_frame}
 use Rattle.law_model.specs.declared.item_refusals.AcceptFault.TheVariants.{Length}
 use Rattle.law_model.specs.declared.window_types.Window.{Window}
-use Rattle.law_model.specs.frames.Piece.{Piece, idle, client, size_of, frames_by}
-use Rattle.law_model.specs.members.Damage.{carried, are_whole, is_good, is_readable}
-use Rattle.law_model.specs.session.Scenario.{DueFrame, Scenario, comes_at, carried_by, is_read, is_heard}
-use Rattle.law_model.specs.source.Table.{Told, active}
-use Rattle.law_model.specs.source.Source.{table_of}
-use Rattle.law_model.specs.source.Client.{Stream, frame_refusal, offered, place_of, stream_before, frames_in}
-use Rattle.law_model.specs.source.Journal.{accepted_offers, offers_before, frames_before}
-use Rattle.law_model.specs.rows.SessionRows.{is_whole_row}
-use Rattle.law_model.specs.frames.Segment.{deliver}
-use Rattle.law_model.specs.frames.Loss.{extents, TrueStarts, frames_kept}
-use Rattle.law_model.specs.rows.SessionStream.{row_of, rows_of}
+use Rattle.law_model.specs.members.Damage.{carried}
+use Rattle.law_model.specs.rows.SessionStream.{row_of}
 use Rattle.law_session.proofs.ClientLaws.{stream_before-frames}
 use Rattle.law_loss.specs.Carried.{CarriesStream, IsSentFrame, IsSentPiece, AreOctets, IsUndamaged}
-use Rattle.law_loss.proofs.KeptLaws.{deliver-kept, All-front}
+use Rattle.law_loss.proofs.KeptLaws.{deliver-kept}
 use Rattle.law_loss.proofs.WholeLaws.{IsWhole, deliver-whole}
 use Rattle.law_loss.proofs.ExtentLaws.{frames_ended}
 use Rattle.law_loss.proofs.PrefixLaws.{all_frames, frames_to-first}
 use Rattle.law_loss.proofs.SessionStreamLaws.{pieces-open, rows-carry, rows-length, All-accepted}
-use Rattle.law_model.specs.Limits.{longest_frame}
 
 -- ---- accepted frames may be sent
 abbrev pub IsOffered : DueFrame → Type 0
@@ -141,7 +137,7 @@ heard-none (windows ∷ lists) k some none =
     ap (λ b. b || list_any (λ found. is_readable (carried found) k) lists)
     (read-none windows k (All-head IsEmpty windows lists none))
 
-all-true : (test : ℕ → Bool) (xs : List ℕ) → ((x : ℕ) → test x ≡ true) → list_all test xs ≡ true
+pub all-true : (test : ℕ → Bool) (xs : List ℕ) → ((x : ℕ) → test x ≡ true) → list_all test xs ≡ true
 all-true test [] each = refl
 all-true test (x ∷ xs) each = rw (each x, all-true test xs each) refl
 

@@ -1,22 +1,16 @@
 -- The rows of a session carry the first octets of its stream, whose client frames are accepted ones.
 use Rattle.std.proofs.Common.{◌≡◌, ℕ, zero, suc, ◌+◌, ◌-◌, ◌*◌, ◌<◌, ◌≤◌, List, [], ◌∷◌, ◌++◌, map, length, take, drop}
-use Rattle.std.proofs.Common.{All, Option, Some, None, refl, sym, ◌∙◌, ap, subst, arith}
-use Rattle.std.proofs.lemmas.List.{append_assoc, append-nil, take-append-drop, length-take-le}
+use Rattle.std.proofs.Common.{All, Option, Some, None, refl, sym, ◌∙◌, ap, subst, arith, append_assoc, append-nil}
+use Rattle.std.proofs.Common.{take-append-drop, length-take-le, take-add}
 use Rattle.std.proofs.lemmas.List.Elements.{All-nil, All-cons, All-head, All-tail}
-use Rattle.std.proofs.Math.Seq.{take-add}
-use Rattle.law_model.specs.frames.Piece.{Piece, idle, area_of, joined, stream_of}
-use Rattle.law_model.specs.session.Scenario.{Scenario}
-use Rattle.law_model.specs.source.Table.{Told}
-use Rattle.law_model.specs.source.Accepted.{kept_by, accepted_of}
-use Rattle.law_model.specs.source.Client.{width, place_of, stream_before}
-use Rattle.law_model.specs.frames.Segment.{octets_of_rows}
-use Rattle.law_model.specs.frames.Payload.{payload_of}
-use Rattle.law_model.specs.rows.SessionStream.{row_of, rows_of}
+use Rattle.law_model.proofs.ListLaws.{within-append}
+use Rattle.law_model.specs.Common.{Piece, idle, area_of, joined, stream_of, Scenario, Told, kept_by, accepted_of, width}
+use Rattle.law_model.specs.Common.{place_of, stream_before, octets_of_rows, payload_of, rows_of}
+use Rattle.law_model.specs.rows.SessionStream.{row_of}
 use Rattle.law_model.proofs.StreamLaws.{stream_of-append, stream_behind}
 use Rattle.law_session.proofs.ClientLaws.{stream-reaches, stream_before-fewest}
 use Rattle.law_loss.specs.Carried.{CarriesStream}
 use Rattle.law_loss.proofs.CarriedLaws.{octets-push}
-use Rattle.law_loss.proofs.KeptLaws.{part_of_stream}
 
 -- ---- the pieces of a later frame begin with those of an earlier one
 abbrev pub Begins : List Piece → List Piece → Type 0
@@ -72,7 +66,7 @@ payload-part scenario cells t n low =
     let whole = stream-begins (stream_before scenario cells (suc t)).pieces (stream_before scenario cells n).pieces
     (pieces-begin scenario cells (suc t) n (omega arith)) in
     let reaches = stream-reaches scenario cells (suc t) in
-    sym (part_of_stream front whole.0 (place_of scenario cells t) (scenario.size * width scenario cells t) reaches)
+    sym (within-append (place_of scenario cells t) (scenario.size * width scenario cells t) front whole.0 reaches)
     ∙ ap (λ octets. take (scenario.size * width scenario cells t) (drop (place_of scenario cells t) octets))
     (sym whole.1)
 

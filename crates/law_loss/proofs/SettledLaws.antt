@@ -1,20 +1,17 @@
 -- What comes of a run that begins in the middle of a stream: its first client frame settles the descrambler.
 use Rattle.std.proofs.Common.{◌≡◌, ℕ, ◌+◌, ◌-◌, ◌<◌, ◌≤◌, true, false, List, [], ◌∷◌, ◌++◌, length, map, drop, All}
-use Rattle.std.proofs.Common.{refl, sym, ◌∙◌, ap, ap₂, arith, append_assoc}
-use Rattle.std.specs.List.{flat_map}
-use Rattle.std.proofs.lemmas.List.{append-nil, length-append, drop-drop, drop_at}
-use Rattle.std.proofs.lemmas.List.Elements.{All-nil, All-append, All-head, All-tail}
+use Rattle.std.proofs.Common.{refl, sym, ◌∙◌, ap, ap₂, arith, append_assoc, flat_map, append-nil, length-append}
+use Rattle.std.proofs.Common.{drop-drop, drop_at, le-leb}
+use Rattle.std.proofs.lemmas.List.Elements.{All-append}
 use Rattle.std.proofs.lemmas.List.Concat.{flat_map-append}
-use Rattle.std.proofs.lemmas.Bool.{le-leb}
-use Rattle.law_model.specs.frames.Scramble.{scrambled_octets, descrambled_octets}
-use Rattle.law_model.specs.frames.Piece.{cut, joined}
-use Rattle.law_model.specs.frames.Outcome.{area_outcomes, outcomes_after_with, descrambled_areas}
+use Rattle.law_model.specs.Common.{scrambled_octets, descrambled_octets, cut, joined, area_outcomes}
+use Rattle.law_model.specs.Common.{outcomes_after_with, descrambled_areas}
 use Rattle.law_model.proofs.ScrambledOctets.{length-scrambled_octets, scrambled_octets-append}
 use Rattle.law_model.proofs.ScrambledOctets.{descrambled_octets-scrambled_octets, descrambled_octets-behind}
 use Rattle.law_model.proofs.CutLaws.{cut-joined}
 use Rattle.law_model.proofs.AreaLaws.{scrambled_behind, descrambled_behind, map-length-scrambled_behind}
 use Rattle.law_model.proofs.AreaLaws.{joined-scrambled_behind, length-scrambled_single, descrambled_areas-append}
-use Rattle.law_model.proofs.AreaLaws.{descrambled_behind-single, length-descrambled_single}
+use Rattle.law_model.proofs.AreaLaws.{descrambled_behind-single, length-descrambled_single, joined_below}
 use Rattle.gfp_delineate.proofs.FrontLaws.{scrambled_behind-cons}
 use Rattle.law_loss.specs.Kind.{Kind, IsKind}
 
@@ -56,12 +53,6 @@ module _ (before area rest : List ℕ) (six : 6 ≤ length area) (below : All (�
         ∙ drop_at (before ++ area) rest (length (before ++ area)) refl
 
 -- ---- the same of areas
-pub joined_below : (areas : List (List ℕ)) → All (All (λ o. o < 256)) areas → All (λ o. o < 256) (joined areas)
-joined_below [] h = All-nil (λ o. o < 256)
-joined_below (area ∷ areas) h =
-    All-append (λ o. o < 256) area (joined areas) (All-head (All (λ o. o < 256)) area areas h)
-    (joined_below areas (All-tail (All (λ o. o < 256)) area areas h))
-
 pub descrambled_behind-settled : (before area : List ℕ) (rest : List (List ℕ)) → 6 ≤ length area →
     All (λ o. o < 256) (before ++ area) → All (All (λ o. o < 256)) rest →
     descrambled_behind (drop (length before) (scrambled_octets (before ++ area)))

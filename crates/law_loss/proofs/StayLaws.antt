@@ -1,6 +1,6 @@
 -- What is confirmed first stays where more octets come.
 use Rattle.std.proofs.Common.{◌≡◌, ℕ, Bool, List, ◌++◌, length, Option, Some, None, ◌∙◌, ap, arith}
-use Rattle.law_model.specs.frames.Hunt.{Confirmed, hunt}
+use Rattle.law_model.specs.Common.{Confirmed, hunt}
 use Rattle.law_loss.proofs.OutcomeGrowth.{FollowsIn, hunt_within-longer}
 
 -- a confirmed place with more octets behind it

@@ -1,32 +1,26 @@
 -- What is told of a run is what is read of the contents whose piece ends in it.
 use Rattle.std.proofs.Common.{◌≡◌, ℕ, ◌+◌, ◌-◌, ◌<◌, ◌≤◌, true, false, List, [], ◌∷◌, ◌++◌, length, map, take, drop}
-use Rattle.std.proofs.Common.{All}
-use Rattle.std.proofs.Common.{Some, None, refl, sym, ◌∙◌, ap, ap₂, arith, inl, inr, length-append, length-take}
-use Rattle.std.specs.List.{flat_map}
-use Rattle.std.proofs.lemmas.Bool.{le-leb, lt-leb, cases_lt}
-use Rattle.std.proofs.lemmas.List.{append-nil, drop_at, drop-drop}
+use Rattle.std.proofs.Common.{All, Some, None, refl, sym, ◌∙◌, ap, ap₂, arith, inl, inr, length-append, flat_map}
+use Rattle.std.proofs.Common.{le-leb, append-nil, drop_at, drop-drop}
+use Rattle.std.proofs.lemmas.Bool.{lt-leb, cases_lt}
 use Rattle.std.proofs.lemmas.List.Concat.{flat_map-append}
 use Rattle.std.proofs.lemmas.List.Elements.{All-cons, All-head, All-tail, All-append}
-use Rattle.law_model.specs.frames.Core.{core_header, head, IsPli}
-use Rattle.law_model.specs.frames.Piece.{Piece, idle, client, cut, joined, with_header, stream_of, size_of}
-use Rattle.law_model.specs.frames.Piece.{scrambled_areas}
-use Rattle.law_model.specs.frames.Hunt.{Confirmed, hunt, header_at}
-use Rattle.law_model.specs.frames.Run.{Followed, areas, after_run, runs}
-use Rattle.law_model.specs.frames.Outcome.{area_outcomes, outcomes_after_with, run_outcomes_with}
-use Rattle.law_model.specs.frames.Outcome.{descrambled_areas}
-use Rattle.law_model.proofs.CoreLaws.{length-core_header}
+use Rattle.law_model.proofs.ListLaws.{drop-part}
+use Rattle.law_model.specs.Common.{IsPli, Piece, idle, client, cut, joined, with_header, stream_of}
+use Rattle.law_model.specs.Common.{size_of, scrambled_areas, Confirmed, hunt, areas, after_run}
+use Rattle.law_model.specs.Common.{runs, area_outcomes, outcomes_after_with, run_outcomes_with, descrambled_areas}
+use Rattle.law_model.specs.Common.{extents}
 use Rattle.law_model.proofs.AreaLaws.{scrambled_behind, map-length-scrambled_behind, map-length-scrambled_areas}
-use Rattle.gfp_delineate.proofs.HuntLaws.{search-few, search-short, search-confirmed}
-use Rattle.gfp_delineate.proofs.FrontLaws.{take-append, header_at-core, whole_areas, follow-front, All-whole_areas}
+use Rattle.law_model.proofs.AreaLaws.{joined_below}
+use Rattle.gfp_delineate.proofs.FrontLaws.{whole_areas, follow-front, All-whole_areas}
 use Rattle.gfp_delineate.proofs.FrontLaws.{whole_areas-scrambled_behind, descrambled-whole_areas}
-use Rattle.gfp_delineate.proofs.Delivery.{fits-scrambled}
-use Rattle.law_model.specs.frames.Loss.{extents}
-use Rattle.law_loss.proofs.FoundLaws.{runs_after, runs_of_search, runs-search, runs-confirmed, runs-none, drop-part}
+use Rattle.gfp_delineate.proofs.Delivery.{fits-scrambled, runs-few, runs-idles}
+use Rattle.law_loss.proofs.FoundLaws.{runs_after, runs-confirmed, runs-none}
 use Rattle.law_loss.proofs.ExtentLaws.{frames_to, extents_after_first}
 use Rattle.law_loss.specs.Kind.{Kind, IsKind, area_in, stream_in, IsContent, IsPieceIn, told_in}
-use Rattle.law_loss.proofs.KindStreamLaws.{idle_fits, stream_behind, stream-append, length-area, length-stream, plis}
+use Rattle.law_loss.proofs.KindStreamLaws.{stream_behind, stream-append, length-area, length-stream, plis}
 use Rattle.law_loss.proofs.KindStreamLaws.{areas_below}
-use Rattle.law_loss.proofs.SettledLaws.{joined_below, outcomes-idle, told-settled}
+use Rattle.law_loss.proofs.SettledLaws.{outcomes-idle, told-settled}
 
 -- ---- places
 -- nothing ends by a place at which the first of pieces isn't whole
@@ -58,57 +52,6 @@ whole-long : (count : ℕ) (area : List ℕ) (more : List (List ℕ)) → 4 + le
     whole_areas count (area ∷ more) ≡ area ∷ whole_areas (count - (4 + length area)) more
 unfolding whole_areas
 whole-long count area more long = rw (le-leb (4 + length area) count long) refl
-
--- ---- runs
-take-idle : (count : ℕ) (octets : List ℕ) → 4 ≤ count →
-    take count (with_header [] ++ octets) ≡ core_header 0 ++ take (count - 4) octets
-take-idle count octets long =
-    let header : List ℕ = core_header 0 in
-    let four : length header ≡ 4 = length-core_header 0 in
-    ap (λ l. take count (l ++ octets)) (append-nil header)
-    ∙ take-append count header octets (omega arith)
-    ∙ ap (λ n. header ++ take (count - n) octets) four
-
--- where two idles are whole, a run begins with the second
-runs-idles : (place : ℕ) (pieces : List (List ℕ)) → 8 ≤ place → All (λ area. IsPli (length area)) pieces →
-    runs true (take place (flat_map with_header ([] ∷ [] ∷ pieces)))
-    ≡ record { settled = true; areas = whole_areas (place - 4) ([] ∷ pieces) } ∷ []
-runs-idles place pieces long all =
-    let header : List ℕ = core_header 0 in
-    let four : length header ≡ 4 = length-core_header 0 in
-    let rest : List ℕ = take (place - 4) (flat_map with_header ([] ∷ pieces)) in
-    let more : List ℕ = take (place - 4 - 4) (flat_map with_header pieces) in
-    let fits : All (λ area. IsPli (length area)) ([] ∷ pieces) =
-    All-cons (λ area. IsPli (length area)) [] pieces idle_fits all in
-    let front : take place (flat_map with_header ([] ∷ [] ∷ pieces)) ≡ header ++ rest =
-    take-idle place (flat_map with_header ([] ∷ pieces)) (omega (arith, long)) in
-    let next : rest ≡ header ++ more = take-idle (place - 4) (flat_map with_header pieces) (omega (arith, long)) in
-    let after : drop (4 + 0) (header ++ rest) ≡ rest = drop_at header rest 4 four in
-    ap (runs true) front
-    ∙ runs-search true (header ++ rest)
-    ∙ ap runs_of_search
-    (search-confirmed head false (header ++ rest) 0 0 (header_at-core 0 rest idle_fits)
-    (ap header_at (after ∙ next) ∙ header_at-core 0 more idle_fits)
-    ∙ ap (λ octets. Some (false, octets)) after)
-    ∙ ap (λ (found : Followed). record { settled = true; areas = found.areas } ∷ runs_after found.after)
-    (follow-front (place - 4) ([] ∷ pieces) fits)
-
--- where they are not, there is none
-runs-few : (place : ℕ) (octets : List ℕ) → place < 8 → runs true (take place (with_header [] ++ octets)) ≡ []
-runs-few place octets few =
-    runs-search true (take place (with_header [] ++ octets))
-    ∙ ap runs_of_search (elim (cases_lt place 4) [
-      | inl none ↦ search-few head false (take place (with_header [] ++ octets))
-          (omega (arith, length-take place (with_header [] ++ octets), none))
-      | inr long ↦ (
-          let header : List ℕ = core_header 0 in
-          let four : length header ≡ 4 = length-core_header 0 in
-          let front : take place (with_header [] ++ octets) ≡ header ++ take (place - 4) octets =
-          take-idle place octets long in
-          search-short head false (take place (with_header [] ++ octets)) 0
-          (ap header_at front ∙ header_at-core 0 (take (place - 4) octets) idle_fits)
-          (omega (arith, length-take place (with_header [] ++ octets), few)))
-    ])
 
 module _ {X Y : Type 0} (kind : Kind X Y) (sound : IsKind kind) where
   -- ---- a settled run

@@ -1,27 +1,19 @@
 -- The ways in which a frame is lost are those of the definition.
-use Rattle.std.proofs.Common.{◌≡◌, ℕ, zero, suc, get_or, ◌+◌, ◌<◌, ◌≤◌, ◌⊎◌, Bool, true, false, not, List, [], ◌∷◌}
+use Rattle.std.proofs.Common.{◌≡◌, ℕ, suc, ◌+◌, ◌<◌, ◌≤◌, ◌⊎◌, Bool, true, false, not, List, [], ◌∷◌}
 use Rattle.std.proofs.Common.{length, All, Option, Some, None, refl, sym, ◌∙◌, ap, ap₂, arith, inl, inr}
 use Rattle.std.specs.Prelude.{nat_le, ◌&&◌, ◌||◌}
 use Rattle.std.specs.List.{list_any, Contains}
 use Rattle.std.proofs.lemmas.Bool.{cases_Bool, cases_lt, le-leb, lt-leb, lt-ltb}
 use Rattle.std.proofs.lemmas.List.Folds.{list_any_none}
 use Rattle.std.proofs.lemmas.List.Elements.{All-weaker, All-nil, All-cons, All-head, All-tail}
-use Rattle.law_model.specs.frames.Segment.{Segment}
-use Rattle.law_model.specs.frames.Loss.{Extent, lies_in, confirmed_in, missed_after, is_missed, is_given, is_frame_lost}
-use Rattle.law_model.specs.frames.Loss.{Lost, cut_off, unconfirmed, too_early, unsettled, LiesLater, LiesConfirmed}
+use Rattle.law_model.proofs.ListLaws.{contains-parts}
+use Rattle.law_model.specs.Common.{Segment, Extent, lies_in, confirmed_in, missed_after, is_missed, is_given}
+use Rattle.law_model.specs.Common.{is_frame_lost, Lost, cut_off, unconfirmed, too_early, unsettled, LiesLater}
+use Rattle.law_model.specs.Common.{LiesConfirmed}
 use Rattle.law_loss.proofs.FilterLaws.{and_false}
 use Rattle.law_loss.proofs.GivenLaws.{is_between, not_between}
 use Rattle.law_loss.proofs.KeptLaws.{any_lower, given_upper, lies_upper, lies_lower}
 use Rattle.law_loss.proofs.CutLaws.{InOrder}
-
-Contains-at : (first : Segment) (further : List Segment) (segment : Segment) (i : ℕ) → i < length (first ∷ further) →
-    get_or (first ∷ further) i segment ≡ segment → (first ≡ segment) ⊎ Contains further segment
-Contains-at first further segment zero within is = inl is
-Contains-at first further segment (suc i) within is = inr (i, omega (arith, within), is)
-
-Contains-cases : (first : Segment) (further : List Segment) (segment : Segment) → Contains (first ∷ further) segment →
-    (first ≡ segment) ⊎ Contains further segment
-Contains-cases first further segment among = Contains-at first further segment among.0 among.1 among.2
 
 module _ (all : List Extent) (e : Extent) where
   -- ---- where no segment gives a frame
@@ -119,7 +111,7 @@ module _ (all : List Extent) (e : Extent) where
   Contains-lower : (low : ℕ) (segments : List Segment) (segment : Segment) → InOrder low segments →
       Contains segments segment → low ≤ segment.base
   Contains-lower low [] segment order among = absurd (omega (arith, among.1))
-  Contains-lower low (first ∷ further) segment order among = elim (Contains-cases first further segment among) [
+  Contains-lower low (first ∷ further) segment order among = elim (contains-parts first further segment among) [
     | inl is ↦ omega (arith, order.0, ap (λ (s : Segment). s.base) is)
     | inr rest ↦ omega (arith, order.0, Contains-lower (first.base + length first.octets) further segment order.1 rest)
   ]
@@ -130,7 +122,7 @@ module _ (all : List Extent) (e : Extent) where
   only_one low [] segment some order among lies none = refl
   only_one low (first ∷ further) segment some order among lies none =
       let high : ℕ = first.base + length first.octets in
-      elim (Contains-cases first further segment among) [
+      elim (contains-parts first further segment among) [
         | inl is ↦ (
             let upper : e.to ≤ high = lies_upper first e (ap (λ s. lies_in s e) is ∙ lies) in
             ap (λ b. b || list_any (is_given all e) further) (ap (is_given all e) is ∙ none)

@@ -1,13 +1,10 @@
 -- Where each row is whole there is one segment.
 use Rattle.std.proofs.Common.{◌≡◌, ℕ, ◌≤◌, true, List, [], ◌∷◌, ◌++◌, length, take, All, refl, sym, ◌∙◌, ap}
-use Rattle.std.proofs.Common.{append_assoc}
-use Rattle.std.specs.List.{flat_map}
-use Rattle.std.proofs.lemmas.List.{append-nil, take_at}
+use Rattle.std.proofs.Common.{append_assoc, flat_map, append-nil, take_at}
 use Rattle.std.proofs.lemmas.List.Elements.{All-head, All-tail}
-use Rattle.law_model.specs.frames.Piece.{Piece, idle, frames_by}
-use Rattle.law_model.specs.frames.Segment.{StreamRow, Segments, no_rows, longer, row_by, segments_on, segments}
-use Rattle.law_model.specs.frames.Segment.{deliver, octets_of_rows}
-use Rattle.law_model.specs.frames.Loss.{extents}
+use Rattle.law_model.specs.Common.{Piece, idle, frames_by, StreamRow, Segments, no_rows, longer, segments_on, segments}
+use Rattle.law_model.specs.Common.{deliver, octets_of_rows, extents}
+use Rattle.law_model.specs.frames.Segment.{row_by}
 use Rattle.law_loss.specs.Carried.{CarriesStream, IsSentPiece}
 use Rattle.law_loss.specs.Kind.{Kind, IsKind, stream_in, IsPieceIn, told_in, segment_told, rows_told, Carries}
 use Rattle.law_loss.specs.Kind.{plain_kind}

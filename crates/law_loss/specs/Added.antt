@@ -1,9 +1,7 @@
 -- The frames that more octets of a segment, or one more row, add.
-use Rattle.std.specs.Prelude.{ℕ, Bool, true, false, List, [], ◌∷◌, ◌++◌, length, drop}
-use Rattle.std.specs.List.{flat_map}
-use Rattle.law_model.specs.frames.Outcome.{outcomes}
+use Rattle.std.specs.Prelude.{ℕ, Bool, true, false, List, [], ◌∷◌, ◌++◌, length, drop, flat_map}
+use Rattle.law_model.specs.Common.{outcomes, StreamRow, deliver}
 use Rattle.law_model.specs.frames.Delivery.{frame_in}
-use Rattle.law_model.specs.frames.Segment.{StreamRow, deliver}
 
 -- the frames of octets of a segment
 abbrev pub frames_in : ℕ → Bool → List ℕ → List (List ℕ)

@@ -1,8 +1,6 @@
 -- What is asked of a stream and of the rows that carry it.
 use Rattle.std.specs.Prelude.{◌≡◌, ℕ, ◌<◌, ◌≤◌, ◌^◌, List, [], ◌++◌, length, All}
-use Rattle.law_model.specs.frames.Piece.{Piece, idle, client, stream_of}
-use Rattle.law_model.specs.session.Scenario.{DueFrame, Scenario}
-use Rattle.law_model.specs.frames.Segment.{StreamRow, octets_of_rows}
+use Rattle.law_model.specs.Common.{Piece, idle, client, stream_of, DueFrame, Scenario, StreamRow, octets_of_rows}
 
 -- rows carry the first octets of the stream of pieces
 pub record CarriesStream (rows : List StreamRow) (pieces : List Piece) : Type 0 where

@@ -1,13 +1,9 @@
 -- A kind of frames on a stream, by what stands in an area behind a type header and what a receiver tells of it. To
 -- make the kind a setting of the law of losses is this project's own.
-use Rattle.std.specs.Prelude.{◌≡◌, ℕ, ◌<◌, ◌≤◌, ◌^◌, Bool, true, false, List, [], ◌∷◌, ◌++◌, length, map, All}
-use Rattle.std.specs.List.{flat_map}
-use Rattle.law_model.specs.frames.Core.{head}
-use Rattle.law_model.specs.frames.Piece.{Piece, idle, client, areas_stream}
-use Rattle.law_model.specs.frames.TypeHeader.{type_header}
-use Rattle.law_model.specs.frames.Outcome.{Outcome, client_outcome, outcomes_with}
+use Rattle.std.specs.Prelude.{◌≡◌, ℕ, ◌<◌, ◌≤◌, ◌^◌, Bool, true, false, List, [], ◌∷◌, ◌++◌, length, map, All, flat_map}
+use Rattle.law_model.specs.Common.{head, Piece, idle, client, areas_stream, type_header, Outcome, client_outcome}
+use Rattle.law_model.specs.Common.{outcomes_with, StreamRow, Segment, segments, octets_of_rows}
 use Rattle.law_model.specs.frames.Delivery.{frame_in}
-use Rattle.law_model.specs.frames.Segment.{StreamRow, Segment, segments, octets_of_rows}
 
 -- the type header; what comes of an area by whether the descrambler is settled; what that tells; and what is told of
 -- the content behind the type header where the frame comes through

@@ -1,8 +1,6 @@
 -- A worked stream with two rows that aren't whole.
 use Rattle.std.specs.Prelude.{ℕ, ◌+◌, Bool, true, false, List, [], ◌∷◌, map, length, take, drop, Option, Some, None}
-use Rattle.law_model.specs.frames.Piece.{Piece, idle, client, stream_of}
-use Rattle.law_model.specs.frames.Segment.{StreamRow, Segment}
-use Rattle.law_model.specs.frames.Loss.{Extent}
+use Rattle.law_model.specs.Common.{Piece, idle, client, stream_of, StreamRow, Segment, Extent}
 
 abbrev pub kept_frame : List ℕ
 kept_frame = 7 ∷ 8 ∷ []

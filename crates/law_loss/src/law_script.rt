@@ -1,9 +1,7 @@
 //! What the laws of a session and of delivery ask of a scenario, that of a sound leg has: limits, orders and
 //! octets. There is no code here. What a walk asks is in `law_walk`: its `plan_law`. Begin at `read_law`.
 
-ghost use Rattle.law_model.specs.session.Leg.{Leg};
-ghost use Rattle.law_model.specs.session.Valid.{IsSound};
-ghost use Rattle.law_model.specs.session.Scenario.{scenario_by, orders_of, offers_of};
+ghost use Rattle.law_model.specs.Common.{Leg, IsSound, scenario_by, orders_of, offers_of};
 ghost use Rattle.law_session.specs.Landing.{AreOrdersInOrder, AreOffersInOrder};
 ghost use Rattle.law_session.specs.Use.{HasLimits};
 ghost use Rattle.law_loss.specs.Carried.{AreOctets};

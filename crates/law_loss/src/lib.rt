@@ -10,21 +10,13 @@ pub mod law_script;
 
 ghost use Rattle.std.specs.Prelude.{◌≡◌, ℕ, suc, ◌≤◌, ◌<◌, ◌↔◌, Bool, true, false, List, [], ◌∷◌, ◌++◌, length, map};
 ghost use Rattle.std.specs.Prelude.{take, drop, All, Option, Some};
-ghost use Rattle.law_model.specs.frames.Hunt.{Confirmed, hunt};
-ghost use Rattle.law_model.specs.frames.Piece.{Piece, idle, frames_by};
-ghost use Rattle.law_model.specs.session.Scenario.{Scenario};
-ghost use Rattle.law_model.specs.source.Table.{Told};
-ghost use Rattle.law_model.specs.source.Client.{place_of, stream_before};
-ghost use Rattle.law_model.specs.source.Journal.{frames_before};
-ghost use Rattle.law_model.specs.rows.SessionRows.{is_whole_row};
-ghost use Rattle.law_model.specs.frames.Segment.{StreamRow, segments, deliver, octets_of_rows};
-ghost use Rattle.law_model.specs.frames.Loss.{Extent, extents, confirmed_in, Lost, is_frame_lost, IsPlaceOfPiece};
-ghost use Rattle.law_model.specs.frames.Loss.{TrueStarts, frames_kept};
-ghost use Rattle.law_model.specs.rows.SessionStream.{rows_of};
+ghost use Rattle.law_model.specs.Common.{Confirmed, hunt, Piece, idle, frames_by, Scenario, Told, place_of};
+ghost use Rattle.law_model.specs.Common.{stream_before, frames_before, is_whole_row, StreamRow, segments, deliver};
+ghost use Rattle.law_model.specs.Common.{octets_of_rows, Extent, extents, confirmed_in, Lost, is_frame_lost};
+ghost use Rattle.law_model.specs.Common.{IsPlaceOfPiece, TrueStarts, frames_kept, rows_of, longest_frame};
 ghost use Rattle.law_loss.specs.Carried.{CarriesStream, IsSentPiece, AreOctets, IsUndamaged};
 ghost use Rattle.law_loss.specs.Worked.{worked_pieces, worked_rows, kept_frame, places_of, ends_of, worked_places};
 ghost use Rattle.law_loss.specs.Worked.{worked_ends, worked_confirmed, worked_lost};
-ghost use Rattle.law_model.specs.Limits.{longest_frame};
 
 /// Where each place that is confirmed first after a break is that of a piece, the frames delivered are those
 /// that the rows carry and that aren't lost: nothing is altered or invented.

@@ -1,17 +1,15 @@
 -- The laws of areas that are scrambled or descrambled as one list.
 use Rattle.std.proofs.Common.{◌≡◌, ℕ, ◌<◌, ◌≤◌, List, [], ◌∷◌, ◌++◌, length, map, take, drop, sum, All, sym, ◌∙◌, ap}
-use Rattle.std.proofs.Common.{ap₂, arith, append_assoc}
-use Rattle.std.proofs.lemmas.List.{append-nil, length-append, length-map, length-drop, map-append, take_all}
-use Rattle.std.proofs.lemmas.List.{drop-append-le}
+use Rattle.std.proofs.Common.{ap₂, arith, append_assoc, append-nil, length-append, length-drop, take_all}
+use Rattle.std.proofs.lemmas.List.{length-map, map-append, drop-append-le}
 use Rattle.std.proofs.lemmas.List.Elements.{All-nil, All-append, All-head, All-tail}
-use Rattle.law_model.specs.frames.Scramble.{scrambled_octets, descrambled_octets}
-use Rattle.law_model.specs.frames.Piece.{cut, joined, scrambled_areas}
-use Rattle.law_model.specs.frames.Outcome.{descrambled_areas}
+use Rattle.law_model.specs.Common.{scrambled_octets, descrambled_octets, cut, joined, scrambled_areas}
+use Rattle.law_model.specs.Common.{descrambled_areas}
 use Rattle.law_model.proofs.ScrambledOctets.{length-scrambled_octets, scrambled_octets-append}
 use Rattle.law_model.proofs.ScrambledOctets.{length-descrambled_octets, descrambled_octets-append}
 use Rattle.law_model.proofs.ScrambledOctets.{descrambled_octets-scrambled_octets}
-use Rattle.law_model.proofs.CutLaws.{joined-append, length-joined, length-cut, cut_parts, map-length-cut}
-use Rattle.law_model.proofs.CutLaws.{joined-cut, cut-joined}
+use Rattle.law_model.proofs.CutLaws.{joined-append, length-joined, length-cut, cut_parts, map-length-cut, joined-cut}
+use Rattle.law_model.proofs.CutLaws.{cut-joined}
 
 -- areas of which octets are made as one list, behind octets of earlier areas
 abbrev pub made_behind : (List ℕ → List ℕ) → List ℕ → List (List ℕ) → List (List ℕ)
@@ -167,7 +165,7 @@ descrambled_areas-push areas area =
     ∙ ap (λ l. descrambled_areas areas ++ l) (descrambled_behind-single (joined areas) area)
 
 -- ---- areas that are scrambled and then descrambled
-joined_below : (areas : List (List ℕ)) → All (All (λ o. o < 256)) areas → All (λ o. o < 256) (joined areas)
+pub joined_below : (areas : List (List ℕ)) → All (All (λ o. o < 256)) areas → All (λ o. o < 256) (joined areas)
 joined_below [] h = All-nil (λ o. o < 256)
 joined_below (area ∷ areas) h =
     All-append (λ o. o < 256) area (joined areas) (All-head (All (λ o. o < 256)) area areas h)

@@ -1,17 +1,14 @@
 -- A core header and its PLI determine each other.
 use Rattle.std.proofs.Common.{◌≡◌, ℕ, ◌^◌, ◌<◌, ◌≤◌, ◌⊎◌, ◌&&◌, Bool, true, false, List, ◌++◌, length, take, All, Some}
 use Rattle.std.proofs.Common.{None, if◌then◌else◌, refl, sym, ◌∙◌, ap, ap₂, subst, arith, mod-eq_of_lt, lt_of_lt_of_le}
-use Rattle.std.proofs.Common.{le_of_eq, pow_mono}
-use Rattle.std.specs.Str.{bytes_eq}
+use Rattle.std.proofs.Common.{le_of_eq, pow_mono, bytes_eq, take_at}
 use Rattle.std.proofs.lemmas.Bool.Decides.{nat_tests}
-use Rattle.std.proofs.lemmas.List.{take_at}
 use Rattle.std.proofs.lemmas.Slice.Eq.{bytes_eq-Decides}
-use Rattle.check_remainder.specs.Bits.{bits, number, octet_bits, octets_of, xors}
+use Rattle.law_model.specs.Common.{bits, number, octet_bits, octets_of, xors, hec_bits, core_header, IsPli, is_pli}
+use Rattle.law_model.specs.Common.{pli_of, head}
 use Rattle.check_remainder.proofs.XorLaws.{length-xors, length_xors, xors-append, xors_twice}
 use Rattle.check_remainder.proofs.BitLaws.{length-bits, bits-add, bits_low, number-bits, number_below}
 use Rattle.check_remainder.proofs.OctetLaws.{length-octets_of, octets_of_below, octet_bits-octets_of, octets_of-append}
-use Rattle.check_hec16.specs.Hec.{hec_bits}
-use Rattle.law_model.specs.frames.Core.{core_header, IsPli, is_pli, pli_of, head}
 
 pub length-core_header : (pli : ℕ) → length (core_header pli) ≡ 4
 unfolding core_header

@@ -1,12 +1,7 @@
 -- Headers of idle frames, one after another.
 use Rattle.std.proofs.Common.{◌≡◌, ℕ, zero, suc, ◌+◌, List, [], ◌∷◌, ◌++◌, replicate, refl, sym, ◌∙◌, ap, arith}
-use Rattle.std.proofs.Common.{append_assoc}
-use Rattle.std.specs.List.{flat_map}
-use Rattle.std.proofs.lemmas.List.{append-nil}
-use Rattle.check_remainder.specs.Bits.{bits, number_behind, octets_of, xors}
-use Rattle.check_remainder.specs.Remainder.{add_front, divide}
-use Rattle.law_model.specs.frames.Core.{core_header}
-use Rattle.law_model.specs.frames.Piece.{with_header}
+use Rattle.std.proofs.Common.{append_assoc, flat_map, append-nil}
+use Rattle.law_model.specs.Common.{bits, number_behind, octets_of, xors, add_front, divide, core_header, with_header}
 
 -- the core header of an idle frame, as it is sent
 abbrev pub idle_header : List ℕ

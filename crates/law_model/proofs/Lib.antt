@@ -1,3 +1,4 @@
+pub mod ListLaws
 pub mod ScrambleLaws
 pub mod ScrambledOctets
 pub mod CutLaws

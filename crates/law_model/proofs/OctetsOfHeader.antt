@@ -5,14 +5,12 @@ use Rattle.std.specs.Int.{to_be_bytes}
 use Rattle.std.specs.Int.Bits.{xor_assoc, xor_self, xor_zero_r}
 use Rattle.std.proofs.lemmas.List.{length-append, take_at, drop_at}
 use Rattle.std.proofs.lemmas.Nat.{shr_high, shr_split, xor_lt}
-use Rattle.check_remainder.specs.Bits.{bits, octet_bits, octets_of, xors}
+use Rattle.law_model.specs.Common.{bits, octet_bits, octets_of, xors, hec_bits, hec_of, core_header, IsPli, head}
 use Rattle.check_remainder.proofs.XorLaws.{length_xors, xors_comm, xors_twice}
 use Rattle.check_remainder.proofs.BitLaws.{length-bits, bits-add, bits_low, bits-xor, same_from_bits}
 use Rattle.check_remainder.proofs.OctetLaws.{octet_bits-octets_of, octets_of-octet_bits, octet_bits-bytes_high_first}
 use Rattle.check_remainder.proofs.OctetLaws.{bytes_high_first_below}
-use Rattle.check_hec16.specs.Hec.{hec_bits, hec_of}
 use Rattle.check_hec16.proofs.HecLaws.{length-hec_bits, bits-hec_of, hec_of-from_bits}
-use Rattle.law_model.specs.frames.Core.{core_header, IsPli, head}
 use Rattle.law_model.proofs.CoreLaws.{core_header-head, IsPli-head}
 
 -- the octets of a word of two halves, under a mask

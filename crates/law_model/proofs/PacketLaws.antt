@@ -2,21 +2,17 @@
 -- else.
 use Rattle.std.proofs.Common.{◌≡◌, ◌≢◌, ℕ, zero, suc, ◌+◌, ◌*◌, ◌/◌, ◌%◌, ◌<◌, ◌==◌, nat_lt, Bool, true, false, inl}
 use Rattle.std.proofs.Common.{inr, List, [], ◌∷◌, ◌++◌, length, slice_index, All, Option, Some, None, Ok, Err, refl}
-use Rattle.std.proofs.Common.{sym, ◌∙◌, ap, subst, arith, lit<}
+use Rattle.std.proofs.Common.{sym, ◌∙◌, ap, subst, arith, lit<, eqb-true, eq-eqb, ne_eqb, ltb-true, lt-ltb}
 use Rattle.std.specs.List.{list_all}
-use Rattle.std.proofs.lemmas.Bool.{and_parts, and_from, and_left, and_right, eqb-true, eq-eqb, ne_eqb, ltb-true, lt-ltb}
-use Rattle.std.proofs.lemmas.Bool.{cases_Bool, cases_eq}
+use Rattle.std.proofs.lemmas.Bool.{and_parts, and_from, and_left, and_right, cases_Bool, cases_eq}
 use Rattle.std.proofs.lemmas.List.Elements.{All-nil, All-cons, All-append, All-head, All-tail}
-use Rattle.check_nibbles.specs.Check.{crc8_of}
-use Rattle.check_nibbles.proofs.CheckLaws.{crc8_of_below}
-use Rattle.member_cells.specs.declared.control_word.Ctrl.{Ctrl}
-use Rattle.member_cells.specs.Code.{code_of, ctrl_of}
-use Rattle.member_cells.proofs.CodeLaws.{code_of_below, ctrl_of-code_of, ctrl_of-some}
+use Rattle.law_model.specs.Common.{crc8_of, Ctrl, code_of, ctrl_of, octet_nibbles, bit_nibble, IsPacket}
+use Rattle.law_model.specs.Common.{covered_nibbles, packet_nibbles, octet_at, said_check, found_check, said_code}
+use Rattle.law_model.specs.Common.{packet_of, cleared_nibbles, are_nibbles, read_by, read_of}
 use Rattle.law_model.specs.declared.control_packet.Packet.{Packet}
 use Rattle.law_model.specs.declared.control_packet.PacketFault.TheVariants.{Crc}
-use Rattle.law_model.specs.packets.Packet.{octet_nibbles, bit_nibble, IsPacket, covered_nibbles, packet_nibbles, octet_at}
-use Rattle.law_model.specs.packets.Packet.{said_check, found_check, said_code, packet_of, cleared_nibbles, are_nibbles}
-use Rattle.law_model.specs.packets.Packet.{read_by, read_of}
+use Rattle.check_nibbles.proofs.CheckLaws.{crc8_of_below}
+use Rattle.member_cells.proofs.CodeLaws.{code_of_below, ctrl_of-code_of, ctrl_of-some}
 
 abbrev pub AreNibbles : List ℕ → Type 0
 AreNibbles nibbles = All (λ nibble. nibble < 16) nibbles
@@ -52,7 +48,7 @@ octet_nibbles_below o h =
     let P : ℕ → Type 0 = λ nibble. nibble < 16 in
     All-cons P (o / 16) (o % 16 ∷ []) (high_below o h) (All-cons P (o % 16) [] (low_below o) (All-nil P))
 
-halves : (octet hi lo : ℕ) → lo < 16 → octet ≡ 16 * hi + lo → (octet / 16 ≡ hi) × (octet % 16 ≡ lo)
+pub halves : (octet hi lo : ℕ) → lo < 16 → octet ≡ 16 * hi + lo → (octet / 16 ≡ hi) × (octet % 16 ≡ lo)
 halves octet hi lo h e = (omega arith, omega arith)
 
 nibble_at_below : (nibbles : List ℕ) (place : ℕ) → AreNibbles nibbles → slice_index nibbles place < 16

@@ -1,11 +1,10 @@
 -- What a window at the front of a list does to a container, and the cells of a path that goes on.
 use Rattle.std.proofs.Common.{◌≡◌, ℕ, suc, ◌+◌, ◌<◌, ◌≤◌, ◌&&◌, nat_le, nat_lt, true, false, List, [], ◌∷◌, ◌++◌}
 use Rattle.std.proofs.Common.{length, refl, sym, ◌∙◌, ap, arith, append_assoc}
-use Rattle.member_cells.specs.declared.containers_and_cells.Container.{Container}
+use Rattle.law_model.specs.Common.{Container, carried_in, cells_of, path}
 use Rattle.law_model.specs.declared.window_types.Window.{Window}
 use Rattle.law_model.specs.declared.window_types.Carried.{Carried}
-use Rattle.law_model.specs.members.Damage.{carried_in, carried}
-use Rattle.law_model.specs.members.Path.{cells_of, path}
+use Rattle.law_model.specs.members.Damage.{carried}
 
 pub carried-in : (window : Window) (windows : List Window) (n : ℕ) → window.first ≤ n → n < window.end →
     carried (window ∷ windows) n ≡ carried_in window n

@@ -1,12 +1,12 @@
 -- Reaching a place of the stream: which pieces are begun, that they are the fewest, and that a place can be reached in
 -- parts.
 use Rattle.std.proofs.Common.{◌≡◌, ℕ, zero, suc, ◌+◌, ◌≤◌, ◌<◌, subst, nat_le, true, false, if◌then◌else◌, List, []}
-use Rattle.std.proofs.Common.{◌∷◌, ◌++◌, take, length, refl, sym, ◌∙◌, ap, arith}
+use Rattle.std.proofs.Common.{◌∷◌, ◌++◌, take, length, refl, sym, ◌∙◌, arith}
 use Rattle.std.proofs.lemmas.List.Sums.{sum_by-append}
-use Rattle.std.proofs.lemmas.List.{append_assoc, append-nil, append_cancel_left}
+use Rattle.std.proofs.lemmas.List.{append_assoc, append-nil}
 use Rattle.std.proofs.lemmas.Bool.{leb-true, leb-false}
-use Rattle.law_model.specs.frames.Piece.{Piece, idle, client, size_of}
-use Rattle.law_model.specs.source.Client.{size, Stream, next_by, reaching, reached, begun, IsFewest}
+use Rattle.law_model.specs.Common.{Piece, idle, client, size_of, size, Stream, next_by, reaching, reached, IsFewest}
+use Rattle.law_model.specs.source.Client.{begun}
 
 -- ---- each piece has four octets at least
 size-piece : (piece : Piece) → 4 ≤ size (piece ∷ [])
@@ -166,56 +166,7 @@ reached-fewest place stream =
       fewest = follows.fewest;
     }
 
--- ---- and no other number of pieces is the least
-begun-follows : (n : ℕ) (stream : Stream) → (more : List Piece) ×
-    (((begun n stream).pieces ≡ stream.pieces ++ more) × (length more ≡ n))
-unfolding begun
-begun-follows zero stream = ([], (sym (append-nil stream.pieces), refl))
-begun-follows (suc n) stream =
-    let rest = begun-follows n (next_by stream.waiting stream.pieces) in (
-      piece_of stream.waiting ∷ rest.0,
-      (
-        rest.1.0 ∙ ap (λ pieces. pieces ++ rest.0) (next_by-piece stream.waiting stream.pieces)
-            ∙ append_assoc stream.pieces (piece_of stream.waiting ∷ []) rest.0,
-        ap suc rest.1.1,
-      ),
-    )
-
--- the first of at least one piece was needed, and the others after it are the fewest
-fewest-first : (before : List Piece) (piece : Piece) (more : List Piece) (place : ℕ) (after : List Piece) →
-    after ≡ before ++ piece ∷ more → IsFewest before place after →
-    (size before < place) × IsFewest (before ++ piece ∷ []) place after
-fewest-first before piece more place after is fewest =
-    let same : fewest.more ≡ piece ∷ more =
-    append_cancel_left before fewest.more (piece ∷ more) (sym fewest.follow ∙ is) in
-    let each : (n : ℕ) → n < length (piece ∷ more) → size (before ++ take n (piece ∷ more)) < place =
-    subst (λ (l : List Piece). (n : ℕ) → n < length l → size (before ++ take n l) < place) same fewest.fewest in (
-      (let none : before ++ [] ≡ before = append-nil before in rw none at (each 0 (omega arith))),
-      record {
-        more = more;
-        follow = is ∙ sym (append_assoc before (piece ∷ []) more);
-        reach = fewest.reach;
-        fewest = λ n h. let e = append_assoc before (piece ∷ []) (take n more) in rw e (each (suc n) (omega arith));
-      },
-    )
-
-pub reached-only : (n place : ℕ) (stream : Stream) → IsFewest stream.pieces place (begun n stream).pieces →
-    begun n stream ≡ reached place stream
-unfolding begun
-reached-only zero place stream fewest = sym (reaching-here place place stream fewest.reach)
-reached-only (suc n) place stream fewest =
-    let next = next_by stream.waiting stream.pieces in
-    let rest = begun-follows n next in
-    let piece = piece_of stream.waiting in
-    let is : (begun n next).pieces ≡ stream.pieces ++ piece ∷ rest.0 =
-    rest.1.0 ∙ ap (λ pieces. pieces ++ rest.0) (next_by-piece stream.waiting stream.pieces)
-    ∙ append_assoc stream.pieces (piece ∷ []) rest.0 in
-    let first = fewest-first stream.pieces piece rest.0 place (begun n next).pieces is fewest in
-    reached-only n place next (subst (λ pieces. IsFewest pieces place (begun n next).pieces)
-    (sym (next_by-piece stream.waiting stream.pieces)) first.1)
-    ∙ sym (reached-next place stream first.0)
-
--- some number of them is
+-- ---- they are so many more
 reaching-begun : (steps place : ℕ) (stream : Stream) → (n : ℕ) × (reaching steps place stream ≡ begun n stream)
 unfolding reaching begun
 reaching-begun zero place stream = (0, refl)

@@ -3,9 +3,9 @@ use Rattle.std.proofs.Common.{◌≡◌, ℕ, zero, suc, ◌+◌, ◌<◌, ◌�
 use Rattle.std.proofs.Common.{replicate, get_or, refl, sym, ◌∙◌, ap, ap₂, arith, append_assoc, zero-add}
 use Rattle.std.proofs.lemmas.List.{append-nil, length-append, length-replicate, length-drop, take_all, take_at, drop_at}
 use Rattle.std.proofs.lemmas.List.{take-take, take-append-drop, drop-append-le, drop_more, drop-drop}
-use Rattle.check_remainder.specs.Bits.{xor, xors}
+use Rattle.law_model.specs.Common.{xor, xors, scramble_on, IsScrambled, scrambled, descrambled}
 use Rattle.check_remainder.proofs.XorLaws.{length-xors, xors_twice_right, take-xors, drop-xors}
-use Rattle.law_model.specs.frames.Scramble.{back, scramble_on, IsScrambled, scrambled, descrambled}
+use Rattle.law_model.specs.frames.Scramble.{back}
 
 -- ---- exclusive or of lists, one of which is longer
 pub xors-longer : (xs ys zs : List Bool) → length xs ≤ length ys → xors xs (ys ++ zs) ≡ xors xs ys

@@ -1,14 +1,11 @@
 -- The laws of scrambling and descrambling octets.
 use Rattle.std.proofs.Common.{◌≡◌, ℕ, zero, suc, ◌+◌, ◌-◌, ◌*◌, ◌<◌, List, ◌++◌, length, take, drop, All, sym, ◌∙◌, ap}
-use Rattle.std.proofs.Common.{ap₂, arith}
-use Rattle.std.specs.Prelude.{Bool}
-use Rattle.std.proofs.lemmas.List.{length-append, take-append-drop, take_at, drop-drop}
-use Rattle.check_remainder.specs.Bits.{octet_bits, octets_of}
+use Rattle.std.proofs.Common.{ap₂, arith, Bool, length-append, take-append-drop, take_at, drop-drop}
+use Rattle.law_model.specs.Common.{octet_bits, octets_of, scrambled, descrambled, scrambled_octets, descrambled_octets}
 use Rattle.check_remainder.proofs.OctetLaws.{octet_bits-append, length-octet_bits, length-octets_of, octets_of_below}
 use Rattle.check_remainder.proofs.OctetLaws.{octets_of-octet_bits, octet_bits-octets_of, octets_of-append}
-use Rattle.law_model.specs.frames.Scramble.{scrambled, descrambled, scrambled_octets, descrambled_octets}
-use Rattle.law_model.proofs.ScrambleLaws.{length-scrambled, scrambled-append, descrambled-scrambled}
-use Rattle.law_model.proofs.ScrambleLaws.{length-descrambled, descrambled-append, descrambled-behind}
+use Rattle.law_model.proofs.ScrambleLaws.{length-scrambled, scrambled-append, descrambled-scrambled, length-descrambled}
+use Rattle.law_model.proofs.ScrambleLaws.{descrambled-append, descrambled-behind}
 
 -- ---- scrambled octets
 pub length-scrambled_octets : (xs : List ℕ) → length (scrambled_octets xs) ≡ length xs

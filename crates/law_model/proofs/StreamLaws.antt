@@ -1,13 +1,11 @@
 -- The laws of the stream of areas, and of that of pieces, whose areas they are.
 use Rattle.std.proofs.Common.{◌≡◌, ℕ, ◌+◌, ◌*◌, ◌<◌, List, [], ◌∷◌, ◌++◌, length, map, take, drop, sum, All, refl, ◌∙◌}
-use Rattle.std.proofs.Common.{ap, arith}
-use Rattle.std.specs.List.{flat_map}
-use Rattle.std.proofs.lemmas.List.{append-nil, length-append, map-append}
+use Rattle.std.proofs.Common.{ap, arith, flat_map, append-nil, length-append}
+use Rattle.std.proofs.lemmas.List.{map-append}
 use Rattle.std.proofs.lemmas.List.Concat.{flat_map-append}
 use Rattle.std.proofs.lemmas.List.Elements.{All-nil, All-cons, All-head, All-tail, All-append, All-take, All-drop}
-use Rattle.law_model.specs.frames.Scramble.{scrambled_octets}
-use Rattle.law_model.specs.frames.Core.{core_header}
-use Rattle.law_model.specs.frames.Piece.{Piece, area_of, cut, joined, with_header, areas_stream, stream_of, size_of}
+use Rattle.law_model.specs.Common.{scrambled_octets, core_header, Piece, area_of, cut, joined, with_header}
+use Rattle.law_model.specs.Common.{areas_stream, stream_of, size_of}
 use Rattle.law_model.proofs.CoreLaws.{length-core_header, core_header_below}
 use Rattle.law_model.proofs.ScrambledOctets.{scrambled_octets_below}
 use Rattle.law_model.proofs.CutLaws.{sum-cons}

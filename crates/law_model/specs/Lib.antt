@@ -5,3 +5,4 @@ pub mod members
 pub mod rows
 pub mod source
 pub mod session
+pub mod Common

@@ -3,8 +3,8 @@
 ghost use Rattle.std.specs.Prelude.{◌≡◌, ◌<◌, All};
 ghost use Rattle.law_model.specs.packets.Packet.{covered_nibbles, packet_nibbles};
 
-use member_cells::Ctrl;
 use check_nibbles::{crc8, nibble_hi, nibble_lo};
+use member_cells::Ctrl;
 
 /// A control packet, forward or return (G.7042). Its layout in nibbles is this project's own.
 #[derive(Clone, Copy, Debug, PartialEq, Eq)]

@@ -2,3 +2,6 @@
 
 /// The octets of the longest frame that is accepted, from its destination address to its FCS.
 pub const LONGEST_FRAME: usize = 9_600;
+
+/// The most lines of a group.
+pub const MOST_LINES: usize = 128;

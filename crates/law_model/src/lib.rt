@@ -4,24 +4,27 @@
 //! lemmas of headers, areas, scrambling, streams, packets and paths that the proofs of other crates use.
 #![tactic(auto)]
 
+mod control_packet;
 mod frame_faults;
 mod frame_limits;
 mod frame_out;
-mod control_packet;
 mod item_refusals;
-mod script_types;
 mod lcas_states;
+mod script_types;
 mod session_totals;
 mod walk_events;
 mod window_types;
 
-pub use frame_limits::LONGEST_FRAME;
-pub use frame_out::FrameOut;
 pub use control_packet::{Packet, PacketFault};
+pub use frame_faults::{TypeFault, Why};
+pub use frame_limits::{LONGEST_FRAME, MOST_LINES};
+pub use frame_out::FrameOut;
 pub use item_refusals::{AcceptFault, CommandFault, Refusal};
-pub use script_types::{Config, Delays, EventLine, EventList, Item, ItemKind, ItemList, LostList, Octets, Script, WindowList, WindowLists};
 pub use lcas_states::{Command, Member, SinkState, SourceState, Standing};
+pub use script_types::{
+    Config, Delays, EventLine, EventList, Item, ItemKind, ItemList, LostList, Octets, Script,
+    WindowList, WindowLists,
+};
 pub use session_totals::Totals;
 pub use walk_events::{Event, StallCause};
 pub use window_types::{Carried, Window};
-pub use frame_faults::{TypeFault, Why};

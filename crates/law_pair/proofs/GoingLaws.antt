@@ -1,21 +1,18 @@
 -- A pair goes on: after any list of its events each way is where a walk of it can be, and its ticks and return packets
 -- are as they should be.
-use Rattle.std.proofs.Common.{◌≡◌, ℕ, ◌+◌, ◌≤◌, List, [], ◌∷◌, Option, Some, None}
-use Rattle.std.proofs.Common.{refl, sym, ◌∙◌, ap, subst, arith}
+use Rattle.std.proofs.Common.{◌≡◌, ℕ, ◌+◌, ◌≤◌, List, [], ◌∷◌, Option, Some, None, refl, sym, ◌∙◌, ap, subst, arith}
+use Rattle.law_model.specs.Common.{Plan, Counts, Step, run, begin}
 use Rattle.law_model.specs.declared.walk_events.StallCause.{StallCause}
 use Rattle.law_model.specs.declared.walk_events.Event.TheVariants as walk
 use Rattle.law_model.specs.session.Scenario.{packets_in}
-use Rattle.law_model.specs.session.Counts.{Plan, Counts, Step, run, begin}
 use Rattle.law_progress.specs.Progress.{IsReached}
 use Rattle.law_progress.proofs.ReachLaws.{Leads, Leads-then, run-none}
+use Rattle.law_pair.specs.Common.{PairPlan, PairCounts, plan_on, counts_on, with_counts, tick_cause, tick_by, ticked}
+use Rattle.law_pair.specs.Common.{pair_step, pair_run, pair_begin, with_lag, IsPairPlan, IsPairReached}
 use Rattle.law_pair.specs.declared.pair_events.Way.{Way}
 use Rattle.law_pair.specs.declared.pair_events.Way.TheVariants.{There, Back}
 use Rattle.law_pair.specs.declared.pair_events.PairEvent.{PairEvent}
 use Rattle.law_pair.specs.declared.pair_events.PairEvent.TheVariants.{Item, Tick, Carry, Take}
-use Rattle.law_pair.specs.PairCounts.{PairPlan, PairCounts, plan_on, counts_on, with_counts, tick_cause, tick_by}
-use Rattle.law_pair.specs.PairCounts.{ticked}
-use Rattle.law_pair.specs.PairCounts.{pair_step, pair_run, pair_begin}
-use Rattle.law_pair.specs.PairProgress.{with_lag, IsPairPlan, IsPairReached}
 use Rattle.law_pair.proofs.OneWayLaws.{HasSaid, OneWay, AreInOrder, item-leads, carry-leads, take-leads}
 use Rattle.law_pair.proofs.TickLaws.{IsFree, free-ticks, both-free}
 

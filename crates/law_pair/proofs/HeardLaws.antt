@@ -3,24 +3,17 @@ use Rattle.std.proofs.Common.{◌≡◌, ℕ, zero, suc, ◌+◌, ◌<◌, ◌||
 use Rattle.std.proofs.Common.{if◌then◌else◌, List, [], ◌∷◌, ◌++◌, map, length, replicate, slice_index_or, Option, Some}
 use Rattle.std.proofs.Common.{None, option_map, refl, sym, ◌∙◌, ap, arith}
 use Rattle.std.specs.List.{list_any, range_with_len}
-use Rattle.std.proofs.lemmas.List.{length-map}
 use Rattle.std.proofs.lemmas.List.FromFn.{get_or-map-range_with_len}
-use Rattle.check_remainder.specs.Bits.{bits, number}
-use Rattle.check_remainder.proofs.BitLaws.{bits-number}
+use Rattle.law_row.proofs.ReturnLaws.{oks_in-number}
+use Rattle.law_model.specs.Common.{Scenario, scenario_by, scenario_of, is_read, is_heard, Told, table_of}
+use Rattle.law_model.specs.Common.{forward_packet, oks_in, told_by, untold, telling_at, mst_by, telling, sent_packet}
+use Rattle.law_model.specs.Common.{said, return_packet, return_cell, session_cells, leader, packet_if, packets_of}
 use Rattle.law_model.specs.declared.control_packet.Packet.{Packet}
 use Rattle.law_model.specs.declared.script_types.Script.{Script}
 use Rattle.law_model.proofs.PacketLaws.{bit_nibble-bit}
-use Rattle.law_model.specs.session.Scenario.{Scenario, packets_in, scenario_by, scenario_of, is_read, is_heard}
-use Rattle.law_model.specs.source.Table.{Told}
-use Rattle.law_model.specs.source.Source.{table_of}
-use Rattle.law_model.specs.packets.Forward.{forward_packet}
-use Rattle.law_model.specs.packets.Told.{oks_in, told_by}
-use Rattle.law_model.specs.packets.Telling.{untold, telling_at, mst_by, telling, sent_packet}
-use Rattle.law_model.specs.source.Back.{said, return_packet, return_cell, session_cells}
-use Rattle.law_model.specs.packets.ReturnPacket.{leader}
-use Rattle.law_model.specs.rows.SessionRows.{packet_if, packets_of}
+use Rattle.law_model.specs.session.Scenario.{packets_in}
 use Rattle.law_row.proofs.WholeLaws.{heard-any}
-use Rattle.law_pair.specs.Pair.{way_telling, said_of, way_tells, way_of}
+use Rattle.law_pair.specs.Common.{way_telling, said_of, way_tells, way_of}
 use Rattle.law_pair.proofs.TellingLaws.{telling-packet, telling-cells}
 use Rattle.law_pair.proofs.WayLaws.{way-lost}
 
@@ -64,16 +57,6 @@ told-said script other k low =
     ∙ said-way other script k
 
 -- ---- what a packet tells that tells a return packet
-not_not : (bs : List Bool) → map not (map not bs) ≡ bs
-not_not [] = refl
-not_not (true ∷ bs) = ap (λ rest. true ∷ rest) (not_not bs)
-not_not (false ∷ bs) = ap (λ rest. false ∷ rest) (not_not bs)
-
-oks_in-number : (oks : List Bool) → length oks ≡ 8 → oks_in (number (map not oks)) ≡ oks
-oks_in-number oks eight =
-    ap (λ k. map not (bits k (number (map not oks)))) (sym (length-map oks not ∙ eight))
-    ∙ ap (map not) (bits-number (map not oks)) ∙ not_not oks
-
 abbrev told_as : ℕ → List Bool → Told
 told_as ack oks = record { rs_ack = ack; oks = oks }
 

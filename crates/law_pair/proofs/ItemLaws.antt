@@ -3,14 +3,13 @@ use Rattle.std.proofs.Common.{◌≡◌, ℕ, zero, suc, ◌≤◌, nat_lt, inl,
 use Rattle.std.proofs.Common.{Option, Some, None, refl, ap, arith}
 use Rattle.std.specs.List.Sorted.{IsNonDecreasing}
 use Rattle.std.proofs.lemmas.Bool.{ltb-true, ltb-false, cases_Bool}
-use Rattle.law_model.specs.session.Counts.{Due, frame_due, command_due, frame_dues, command_dues}
+use Rattle.std.proofs.lemmas.Option.{same_Some}
+use Rattle.law_model.proofs.ListLaws.{rest-in_order}
+use Rattle.law_model.specs.Common.{Due, frame_due, command_due, frame_dues, command_dues}
 use Rattle.law_progress.proofs.MoveLaws.{Lands}
-use Rattle.law_pair.specs.PairCounts.{left_after, tick_of, sooner, first_due}
+use Rattle.law_pair.specs.Common.{left_after, tick_of, sooner, first_due}
 
 -- ---- the first of each kind
-rest-in_order : (due : ℕ) (dues : List ℕ) → IsNonDecreasing (due ∷ dues) → IsNonDecreasing dues
-rest-in_order due dues order i j d low high = order (suc i) (suc j) d (omega arith) (omega arith)
-
 -- where some due tick of the rest is no later than a tick, the first isn't either
 first-lands : (ticks due : ℕ) (dues : List ℕ) → IsNonDecreasing (due ∷ dues) → Lands ticks dues zero → due ≤ ticks
 first-lands ticks due [] order lands = absurd (let e : None ≡ Some lands.0 = lands.1 in cc)
@@ -22,9 +21,6 @@ first-lands ticks due (next ∷ dues) order lands =
     omega arith
 
 -- ---- the one that is due first
-some-same : (item due : Due) → Some item ≡ Some due → item ≡ due
-some-same item due e = cc
-
 -- where the one of its kind is due first, it is no later than a later one
 kind-first : (kind : ℕ → Due) (first due : ℕ) (dues : List ℕ) (found : Option Due) →
     ((n : ℕ) → tick_of (kind n) ≡ n) → IsNonDecreasing (first ∷ dues) →
@@ -67,14 +63,14 @@ frame-lands zero b due (frame_due first ∷ items) order e =
       refl,
       kind-first (λ n. frame_due n) first due (frame_dues items) left (λ n. refl) order
           (λ f. frame-lands zero b due items (rest-in_order first (frame_dues items) order) f)
-          (some-same (sooner (frame_due first) left) (frame_due due) e),
+          (same_Some (sooner (frame_due first) left) (frame_due due) e),
     )
 frame-lands (suc a) b due (frame_due first ∷ items) order e =
     frame-lands a b due items (rest-in_order first (frame_dues items) order) e
 frame-lands a zero due (command_due first ∷ items) order e =
     let left = first_due (left_after a zero items) in
     kind-later (command_due first) (frame_due due) (frame_dues items) a due left (command-other first due)
-    (λ f. frame-lands a zero due items order f) (some-same (sooner (command_due first) left) (frame_due due) e)
+    (λ f. frame-lands a zero due items order f) (same_Some (sooner (command_due first) left) (frame_due due) e)
 frame-lands a (suc b) due (command_due first ∷ items) order e = frame-lands a b due items order e
 
 pub command-lands : (a b due : ℕ) (items : List Due) → IsNonDecreasing (command_dues items) →
@@ -84,7 +80,7 @@ command-lands a b due [] order e = absurd cc
 command-lands zero b due (frame_due first ∷ items) order e =
     let left = first_due (left_after zero b items) in
     kind-later (frame_due first) (command_due due) (command_dues items) b due left (frame-other first due)
-    (λ f. command-lands zero b due items order f) (some-same (sooner (frame_due first) left) (command_due due) e)
+    (λ f. command-lands zero b due items order f) (same_Some (sooner (frame_due first) left) (command_due due) e)
 command-lands (suc a) b due (frame_due first ∷ items) order e = command-lands a b due items order e
 command-lands a zero due (command_due first ∷ items) order e =
     let left = first_due (left_after a zero items) in (
@@ -92,7 +88,7 @@ command-lands a zero due (command_due first ∷ items) order e =
       refl,
       kind-first (λ n. command_due n) first due (command_dues items) left (λ n. refl) order
           (λ f. command-lands a zero due items (rest-in_order first (command_dues items) order) f)
-          (some-same (sooner (command_due first) left) (command_due due) e),
+          (same_Some (sooner (command_due first) left) (command_due due) e),
     )
 command-lands a (suc b) due (command_due first ∷ items) order e =
     command-lands a b due items (rest-in_order first (command_dues items) order) e

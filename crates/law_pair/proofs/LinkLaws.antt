@@ -1,23 +1,18 @@
 -- Where the two ways of a pair meet: what the sink of one says and what is read in the packets of the other, by the
 -- cells that were popped.
 use Rattle.std.proofs.Common.{◌≡◌, ℕ, ◌+◌, ◌*◌, ◌<◌, option_map, sym, ◌∙◌, ap, arith}
+use Rattle.law_model.specs.Common.{Leg, scenario_by, told_by, telling_at, return_cell, leader, read_packets, return_at}
+use Rattle.law_model.specs.Common.{Counts}
 use Rattle.law_model.specs.declared.script_types.Script.{Script}
-use Rattle.law_model.specs.session.Leg.{Leg}
-use Rattle.law_model.specs.session.Scenario.{packets_in, scenario_by}
-use Rattle.law_model.specs.packets.Told.{told_by}
-use Rattle.law_model.specs.packets.Telling.{telling_at}
-use Rattle.law_model.specs.source.Back.{return_cell}
-use Rattle.law_model.specs.packets.ReturnPacket.{leader}
-use Rattle.law_model.specs.rows.Rows.{read_packets, return_at}
-use Rattle.law_model.specs.session.Counts.{Counts}
+use Rattle.law_model.specs.session.Scenario.{packets_in}
 use Rattle.law_row.specs.Received.{HasPackets}
 use Rattle.law_row.proofs.ReturnLaws as returned
 use Rattle.law_terminal.proofs.CellLaws.{has-packets}
-use Rattle.law_walk.specs.Walk.{session_of, CanWalk, IsWalked, popped_cells}
+use Rattle.law_walk.specs.Common.{session_of, CanWalk, IsWalked, popped_cells}
 use Rattle.law_walk.proofs.PlanLaws.{has-lines, sound-walks}
 use Rattle.law_walk.proofs.WalkLaws.{cells-come, cells-decide}
 use Rattle.law_walk.proofs.EndLaws.{counts-within}
-use Rattle.law_pair.specs.Pair.{IsWay, way_of}
+use Rattle.law_pair.specs.Common.{IsWay, way_of}
 use Rattle.law_pair.proofs.WayLaws.{way-sound}
 use Rattle.law_pair.proofs.HeardLaws.{told-said, way-cells}
 

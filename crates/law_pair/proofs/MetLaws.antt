@@ -2,15 +2,13 @@
 use Rattle.std.proofs.Common.{◌≡◌, ℕ, ◌<◌, ◌≤◌, List, [], ◌∷◌, length, replicate, inl, refl, arith}
 use Rattle.std.proofs.lemmas.List.Elements.{All-nil, All-cons, All-replicate}
 use Rattle.std.proofs.lemmas.List.Sorted.{IsNonDecreasingBy-short}
+use Rattle.law_model.specs.Common.{AreWindows, slip_after, AreApart, HasFailures, IsNetwork, IsItem, AreItems, IsEvent}
+use Rattle.law_model.specs.Common.{frame_dues, command_dues}
 use Rattle.law_model.specs.declared.window_types.Window.{Window}
 use Rattle.law_model.specs.declared.script_types.Item.{Item}
 use Rattle.law_model.specs.declared.script_types.ItemKind.TheVariants.{Frame, Add}
-use Rattle.law_model.specs.members.Damage.{AreWindows, slip_after}
-use Rattle.law_model.specs.session.Valid.{AreApart, HasFailures, IsNetwork, IsItem, AreItems, IsEvent}
-use Rattle.law_model.specs.session.Counts.{frame_dues, command_dues}
-use Rattle.law_walk.specs.Worked.{item, plain}
-use Rattle.law_pair.specs.Pair.{IsWay, IsPair}
-use Rattle.law_pair.specs.Worked.{worked_script, worked_there, worked_back, failing_back}
+use Rattle.law_walk.specs.Common.{item, plain}
+use Rattle.law_pair.specs.Common.{IsWay, IsPair, worked_script, worked_there, worked_back, failing_back}
 
 abbrev one : Window
 one = record { first = 16; «end» = 17; slip = 0 }

@@ -5,18 +5,18 @@ use Rattle.std.proofs.Common.{true, false, inl, inr, List, [], ◌∷◌, slice_
 use Rattle.std.proofs.Common.{arith}
 use Rattle.std.specs.List.Sorted.{IsNonDecreasing}
 use Rattle.std.proofs.lemmas.Bool.{ltb-false, cases_Bool, cases_lt}
-use Rattle.law_model.specs.declared.walk_events.Event.TheVariants.{Accept, Command, Carry, Back, Take}
+use Rattle.law_model.specs.declared.walk_events.Event.TheVariants.{Command, Accept, Carry, Back, Take}
+use Rattle.law_model.specs.Common.{Due, frame_due, command_due, frame_dues, command_dues, LinePath, LineCounts, Plan}
+use Rattle.law_model.specs.Common.{Counts, Step, in_send, in_receive, in_return, moved, stalled, land_due, accept}
+use Rattle.law_model.specs.Common.{command, carry_on, carry_at, carry, pop_lines, take_popped, is_back_full, take_row}
+use Rattle.law_model.specs.Common.{run}
 use Rattle.law_model.specs.declared.walk_events.StallCause.TheVariants.{NotDue, BackEmpty}
 use Rattle.law_model.specs.session.Scenario.{packets_in}
-use Rattle.law_model.specs.session.Counts.{Due, frame_due, command_due, frame_dues, command_dues, LinePath, LineCounts}
-use Rattle.law_model.specs.session.Counts.{Plan, Counts, Step, in_send, in_receive, in_return, moved, stalled, land_due}
-use Rattle.law_model.specs.session.Counts.{accept, command, carry_on, carry_at, carry, back, pop_lines, take_popped}
-use Rattle.law_model.specs.session.Counts.{is_back_full, take_row, run}
+use Rattle.law_model.specs.session.Counts.{back}
 use Rattle.law_progress.specs.Progress.{sum_lines, made}
 use Rattle.law_progress.proofs.MoveLaws.{Lands}
 use Rattle.law_progress.proofs.ReachLaws.{Leads, run-none}
-use Rattle.law_pair.specs.PairCounts.{left_after, tick_of, first_due, landed, land_first, land_item, take_said}
-use Rattle.law_pair.specs.PairCounts.{take_one}
+use Rattle.law_pair.specs.Common.{left_after, tick_of, first_due, landed, land_first, land_item, take_said, take_one}
 use Rattle.law_pair.proofs.ItemLaws.{frame-lands, command-lands, IsDueBy, frame-due, command-due}
 
 -- what is counted of a way but its ticks and return packets

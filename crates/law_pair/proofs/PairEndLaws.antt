@@ -1,32 +1,29 @@
 -- Rounds of a pair end, within a bound.
 use Rattle.law_pair.proofs.TickLaws.{IsFree, both-free}
+use Rattle.law_pair.specs.Common.{tick_cause, tick_by, PairPlan, PairCounts, plan_on, counts_on, pair_step, pair_run}
+use Rattle.law_pair.specs.Common.{pair_begin, pair_round, is_over, pair_drain, pair_bound, with_lag, IsPairPlan}
+use Rattle.law_pair.specs.Common.{IsPairReached, IsOpen, SomePairProgress}
 use Rattle.law_pair.specs.declared.pair_events.PairEvent.TheVariants.{Tick}
-use Rattle.law_progress.proofs.MoveLaws.{inbox-fits}
-use Rattle.law_model.specs.session.Scenario.{packets_in}
-use Rattle.law_model.specs.declared.walk_events.StallCause.{StallCause}
-use Rattle.std.proofs.Common.{◌-◌, ◌/◌, ◌%◌, ◌==◌, Option, Some, None}
-use Rattle.std.proofs.Common.{◌≡◌, ℕ, zero, suc, ◌+◌, ◌*◌, ◌<◌, ◌≤◌, nat_le, true, false, inl, inr, List, []}
-use Rattle.std.proofs.Common.{◌∷◌, ◌++◌, length, refl, sym, ◌∙◌, ap, subst, arith}
-use Rattle.std.proofs.lemmas.Bool.{le-leb, eq-eqb}
-use Rattle.std.proofs.lemmas.Bool.{leb-true, leb-false, cases_Bool, and_parts}
-use Rattle.law_model.specs.session.Counts.{used_in}
-use Rattle.law_model.specs.session.Counts.{Due, frame_due, command_due, frame_dues, command_dues, LinePath, LineCounts}
-use Rattle.law_model.specs.session.Counts.{Plan, Counts, sum_delays}
-use Rattle.law_progress.specs.Progress.{IsSound, LineFits}
-use Rattle.law_progress.proofs.EachLaws.{each-map, each-with, sum-bounded}
 use Rattle.law_pair.specs.declared.pair_events.Way.{Way}
 use Rattle.law_pair.specs.declared.pair_events.Way.TheVariants.{There, Back}
 use Rattle.law_pair.specs.declared.pair_events.PairEvent.{PairEvent}
-use Rattle.law_pair.specs.PairCounts.{tick_cause, tick_by}
-use Rattle.law_pair.specs.PairCounts.{PairPlan, PairCounts, plan_on, counts_on, pair_step, pair_run, pair_begin}
-use Rattle.law_pair.specs.PairCounts.{pair_round, is_over, pair_drain, pair_bound}
-use Rattle.law_pair.specs.PairProgress.{with_lag, IsPairPlan, IsPairReached, IsOpen, SomePairProgress}
+use Rattle.law_progress.proofs.MoveLaws.{inbox-fits}
+use Rattle.law_model.specs.session.Scenario.{packets_in}
+use Rattle.law_model.specs.Common.{used_in, Due, frame_due, command_due, frame_dues, command_dues, LinePath, LineCounts}
+use Rattle.law_model.specs.Common.{Plan, Counts, sum_delays}
+use Rattle.law_model.specs.declared.walk_events.StallCause.{StallCause}
+use Rattle.std.proofs.Common.{◌-◌, ◌/◌, ◌%◌, ◌==◌, Option, Some, None, ◌≡◌, ℕ, zero, suc, ◌+◌, ◌*◌, ◌<◌, ◌≤◌, nat_le}
+use Rattle.std.proofs.Common.{true, false, inl, inr, List, [], ◌∷◌, ◌++◌, length, refl, sym, ◌∙◌, ap, subst, arith}
+use Rattle.std.proofs.Common.{le-leb, eq-eqb, leb-true, leb-false}
+use Rattle.std.proofs.lemmas.Bool.{cases_Bool, and_parts}
+use Rattle.law_progress.specs.Progress.{IsSound, LineFits}
+use Rattle.law_progress.proofs.EachLaws.{each-map, each-with, sum-bounded}
 use Rattle.law_pair.proofs.OneWayLaws.{way_made}
 use Rattle.law_pair.proofs.GoingLaws.{IsGoing, can-go-near, step-goes, run-goes, goes-near}
 use Rattle.law_pair.proofs.PairMoveLaws.{pair_made, Walks, walks-fits, In, IsNear, is-near, step-grows, some-found}
 
 -- ---- what is counted of a way is bounded
-kinds : (items : List Due) → length (frame_dues items) + length (command_dues items) ≡ length items
+pub kinds : (items : List Due) → length (frame_dues items) + length (command_dues items) ≡ length items
 unfolding frame_dues command_dues
 kinds [] = refl
 kinds (frame_due due ∷ items) = let rest = kinds items in omega (arith, rest)
@@ -247,7 +244,7 @@ pair-moves pair s is reached open_ =
     (found.event, found.line, found.progress)
 
 -- ---- what a drain leads to
-run-append : (pair : PairPlan) (s : PairCounts) (xs ys : List PairEvent) →
+pub run-append : (pair : PairPlan) (s : PairCounts) (xs ys : List PairEvent) →
     pair_run pair s (xs ++ ys) ≡ pair_run pair (pair_run pair s xs) ys
 unfolding pair_run
 run-append pair s [] ys = refl

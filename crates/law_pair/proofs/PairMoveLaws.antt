@@ -1,25 +1,23 @@
 -- Some event of a pair moves where rows are left.
 use Rattle.std.proofs.Common.{◌≡◌, ◌⊎◌, ℕ, zero, suc, ◌+◌, ◌<◌, inl, inr, List, [], ◌∷◌, ◌++◌, length, replicate}
-use Rattle.std.proofs.Common.{sum_by}
-use Rattle.std.proofs.Common.{Option, Some, None, option_map, refl, sym, ◌∙◌, ap, subst, arith}
-use Rattle.std.proofs.lemmas.Bool.{leb-false}
+use Rattle.std.proofs.Common.{sum_by, Option, Some, None, option_map, refl, sym, ◌∙◌, ap, subst, arith, leb-false}
+use Rattle.law_model.specs.Common.{LinePath, Plan, Counts, LineCounts, carry, tick, step}
 use Rattle.law_model.specs.declared.walk_events.Event.{Event}
-use Rattle.law_model.specs.declared.walk_events.Event.TheVariants as walk
 use Rattle.law_model.specs.declared.walk_events.StallCause.{StallCause}
-use Rattle.law_model.specs.session.Counts.{LinePath, Plan, Counts, LineCounts, carry, tick, step}
+use Rattle.law_model.specs.declared.walk_events.Event.TheVariants as walk
 use Rattle.law_progress.specs.Progress.{IsPlan, IsReached, LineFits, Fits, made, HasLine, cells_popped, IsProgress}
 use Rattle.law_progress.proofs.EachLaws.{each-map}
 use Rattle.law_progress.proofs.StepLaws.{carry-kept}
 use Rattle.law_progress.proofs.TakeLaws.{take-kept}
 use Rattle.law_progress.proofs.StallLaws.{is_progress}
 use Rattle.law_progress.proofs.MoveLaws.{rows-ticks, reached-fits, reached-moves}
+use Rattle.law_pair.specs.Common.{PairPlan, PairCounts, plan_on, counts_on, with_counts, land_item, take_one}
+use Rattle.law_pair.specs.Common.{tick_cause, tick_by, pair_step, carries_on, pair_round, with_lag, IsPairPlan}
+use Rattle.law_pair.specs.Common.{HasWayLine, IsPairProgress, IsOpen}
 use Rattle.law_pair.specs.declared.pair_events.Way.{Way}
 use Rattle.law_pair.specs.declared.pair_events.Way.TheVariants.{There, Back}
 use Rattle.law_pair.specs.declared.pair_events.PairEvent.{PairEvent}
 use Rattle.law_pair.specs.declared.pair_events.PairEvent.TheVariants.{Item, Tick, Carry, Take}
-use Rattle.law_pair.specs.PairCounts.{PairPlan, PairCounts, plan_on, counts_on, with_counts, land_item, take_one}
-use Rattle.law_pair.specs.PairCounts.{tick_cause, tick_by, pair_step, carries_on, pair_round}
-use Rattle.law_pair.specs.PairProgress.{with_lag, IsPairPlan, HasWayLine, IsPairProgress, IsOpen}
 use Rattle.law_pair.proofs.OneWayLaws.{way_made, HasSaid, OneWay, Grows, item-leads, item-grows, accept-moves}
 use Rattle.law_pair.proofs.OneWayLaws.{command-moves, carry-leads, carry-more, take-leads, take-as, back-none}
 use Rattle.law_pair.proofs.TickLaws.{IsFree, tick-free, free-both}

@@ -1,67 +1,27 @@
 -- The plan of a pair of scripts, and what its ways deliver.
-use Rattle.std.proofs.Common.{◌≡◌, ℕ, zero, suc, ◌+◌, ◌<◌, List, [], ◌∷◌, map, length, slice_get, slice_index_or}
-use Rattle.std.proofs.Common.{Some, refl, sym, ◌∙◌, ap, subst, arith}
-use Rattle.std.specs.List.{range_with_len}
-use Rattle.member_cells.specs.declared.containers_and_cells.Container.{Container}
-use Rattle.law_model.specs.declared.window_types.Window.{Window}
+use Rattle.std.proofs.Common.{◌≡◌, ℕ, ◌+◌, List, [], sym, ◌∙◌, ap, subst, arith}
+use Rattle.law_model.specs.Common.{Leg, Counts, IsSound, IsLine, Scenario, scenario_by, Told, deliver, rows_of}
+use Rattle.law_model.specs.Common.{session_cells, longest_frame}
 use Rattle.law_model.specs.declared.script_types.Config.{Config}
 use Rattle.law_model.specs.declared.script_types.Script.{Script}
-use Rattle.law_model.specs.session.Leg.{Leg}
-use Rattle.law_model.specs.session.Counts.{Counts}
-use Rattle.law_model.specs.session.Valid.{IsSound}
-use Rattle.law_model.specs.members.Line.{IsLine}
-use Rattle.law_model.specs.session.Scenario.{Scenario, scenario_by, packets_in}
-use Rattle.law_model.specs.source.Table.{Told}
-use Rattle.law_model.specs.frames.Segment.{deliver}
-use Rattle.law_model.specs.rows.SessionStream.{rows_of}
-use Rattle.law_model.specs.source.Back.{session_cells}
-use Rattle.law_model.specs.Limits.{longest_frame}
+use Rattle.law_model.specs.session.Scenario.{packets_in}
 use Rattle.law_progress.specs.Progress.{IsPlan}
-use Rattle.law_progress.specs.AskedOfLines.{AreSentBy}
 use Rattle.law_progress.proofs.LineLaws.{can_run-plan}
 use Rattle.law_terminal.proofs.SentLaws.{containers-size}
 use Rattle.law_terminal.proofs.CellLaws.{is-line}
-use Rattle.law_walk.specs.Walk.{sent_on, sent_of, walk_plan, CanWalk, IsWalked}
-use Rattle.law_walk.specs.Delivered.{delivered_of}
-use Rattle.law_walk.specs.Landed.{landed_items}
-use Rattle.law_walk.specs.Report.{report_among, report_of, final_report}
+use Rattle.law_walk.specs.Common.{sent_on, sent_of, walk_plan, CanWalk, IsWalked, delivered_of, landed_items}
+use Rattle.law_walk.specs.Common.{report_among, report_of, final_report}
 use Rattle.law_walk.proofs.EndLaws.{ticks-made, items-landed}
-use Rattle.law_walk.proofs.PlanLaws.{has-lines, sound-walks}
+use Rattle.law_walk.proofs.PlanLaws.{has-lines, sound-walks, sent-by, own-at}
+use Rattle.law_pair.specs.Common.{IsWay, IsPair, way_config, way_telling, way_tells, way_of, PairCounts, pair_bound}
+use Rattle.law_pair.specs.Common.{with_lag, IsPairPlan, pair_plan, pair_drained, IsPairWalked}
 use Rattle.law_pair.specs.declared.pair_events.Way.TheVariants.{There, Back}
-use Rattle.law_pair.specs.Pair.{IsWay, IsPair, way_config, way_telling, way_tells, way_of}
-use Rattle.law_pair.specs.PairCounts.{PairCounts, pair_bound}
-use Rattle.law_pair.specs.PairProgress.{with_lag, IsPairPlan}
-use Rattle.law_pair.specs.PairWalk.{pair_plan, pair_drained, IsPairWalked}
 use Rattle.law_pair.proofs.TellingLaws.{telling-cells, telling-rows}
 use Rattle.law_pair.proofs.WayLaws.{way-sound}
 use Rattle.law_pair.proofs.GoingLaws.{pair-walks}
 use Rattle.law_pair.proofs.PairEndLaws.{pair-ends, pair-drains}
 
 -- ---- what the lines of a way are sent
-sent-by : (total : ℕ) (sent : ℕ → List Container) (lists : List (List Window)) (delays : List ℕ) (from : ℕ) →
-    length delays ≡ length lists →
-    ((m : ℕ) (own : List Window) → slice_get lists m ≡ Some own → IsLine own (sent (from + m))) →
-    ((m : ℕ) → length (sent m) ≡ total) →
-    AreSentBy total lists delays (map sent (range_with_len from (length lists)))
-unfolding AreSentBy
-sent-by total sent [] [] from size line long = tt
-sent-by total sent [] (delay ∷ delays) from size line long = absurd (omega arith)
-sent-by total sent (windows ∷ lists) [] from size line long = absurd (omega arith)
-sent-by total sent (windows ∷ lists) (delay ∷ delays) from size line long = (
-  subst (λ m. IsLine windows (sent m)) (let e : from + 0 ≡ from = omega arith in e) (line 0 windows refl),
-  long from,
-  sent-by total sent lists delays (from + 1) (omega arith)
-      (λ m own here. subst (λ k. IsLine own (sent k)) (let e : from + suc m ≡ from + 1 + m = omega arith in e)
-      (line (suc m) own here)) long,
-)
-
-own-at : (lists : List (List Window)) (m : ℕ) (own : List Window) → slice_get lists m ≡ Some own → (m < length lists) ×
-    (slice_index_or lists m [] ≡ own)
-own-at [] m own here = absurd cc
-own-at (windows ∷ lists) zero own here = (omega arith, cc)
-own-at (windows ∷ lists) (suc m) own here = let rest = own-at lists m own here in
-    (let low = rest.0 in omega arith, rest.1)
-
 abbrev near_config : Script → Script → Config
 near_config script other = record (way_config script other) { lag = script.config.lag }
 

@@ -1,18 +1,17 @@
 -- A stall of a pair changes nothing, but that a Take keeps the cells which it popped.
 use Rattle.std.proofs.Common.{◌≡◌, ◌⊎◌, ℕ, nat_le, nat_lt, inl, inr, List, Option, Some, None, option_map, refl, ap}
 use Rattle.std.proofs.lemmas.Bool.{cases_Bool}
+use Rattle.law_model.specs.Common.{Due, LineCounts, Plan, Counts, Step, carry, pop_lines}
 use Rattle.law_model.specs.declared.walk_events.StallCause.{StallCause}
 use Rattle.law_model.specs.declared.walk_events.Event.TheVariants as walk
-use Rattle.law_model.specs.session.Counts.{Due, LineCounts, Plan, Counts, Step, carry, pop_lines}
 use Rattle.law_progress.proofs.StallLaws.{stalled-same}
+use Rattle.law_pair.specs.Common.{PairPlan, PairCounts, plan_on, counts_on, with_counts, left_after, tick_of, first_due}
+use Rattle.law_pair.specs.Common.{land_first, land_item, tick_cause, tick_by, take_said, take_one, pair_step}
+use Rattle.law_pair.specs.Common.{with_lines, IsStill}
 use Rattle.law_pair.specs.declared.pair_events.Way.{Way}
 use Rattle.law_pair.specs.declared.pair_events.Way.TheVariants.{There, Back}
 use Rattle.law_pair.specs.declared.pair_events.PairEvent.{PairEvent}
 use Rattle.law_pair.specs.declared.pair_events.PairEvent.TheVariants.{Item, Tick, Carry, Take}
-use Rattle.law_pair.specs.PairCounts.{PairPlan, PairCounts, plan_on, counts_on, with_counts, left_after, tick_of}
-use Rattle.law_pair.specs.PairCounts.{first_due, land_first, land_item, tick_cause, tick_by, take_said, take_one}
-use Rattle.law_pair.specs.PairCounts.{pair_step}
-use Rattle.law_pair.specs.PairProgress.{with_lines, IsStill}
 
 -- ---- one way
 abbrev Stays : Counts → Step → Type 0

@@ -2,19 +2,13 @@
 use Rattle.std.proofs.Common.{◌≡◌, ℕ, zero, suc, ◌+◌, ◌-◌, ◌*◌, ◌/◌, ◌%◌, nat_lt, ◌&&◌, true, if◌then◌else◌, List, []}
 use Rattle.std.proofs.Common.{◌∷◌, ◌++◌, map, length, take, drop, slice_get, Option, Some, None, refl, ◌∙◌, ap}
 use Rattle.std.specs.List.{list_all}
-use Rattle.law_model.specs.session.Scenario.{Scenario, orders_at, carried_by, is_read, is_heard, is_lost}
-use Rattle.law_model.specs.members.Damage.{is_good}
-use Rattle.law_model.specs.frames.Piece.{stream_of}
-use Rattle.law_model.specs.source.Table.{Table, Told, active}
-use Rattle.law_model.specs.source.Source.{Source, asked_all, decide, cell_at, after, table_of}
-use Rattle.law_model.specs.source.Back.{said_before, status_by, return_packet, return_cell, cells_before}
-use Rattle.law_model.specs.source.Client.{Stream, width, place_of, stream_before}
-use Rattle.law_model.specs.frames.Payload.{payload_of}
-use Rattle.law_model.specs.rows.Sent.{active_at, payload_on, container_of}
-use Rattle.law_model.specs.rows.SessionRows.{is_whole_row}
-use Rattle.law_model.specs.rows.SessionStream.{rows_of}
+use Rattle.law_model.specs.Common.{Scenario, orders_at, carried_by, is_read, is_heard, is_lost, is_good, stream_of}
+use Rattle.law_model.specs.Common.{Table, Told, active, Source, asked_all, decide, cell_at, after, table_of}
+use Rattle.law_model.specs.Common.{said_before, status_by, return_packet, return_cell, cells_before, Stream, width}
+use Rattle.law_model.specs.Common.{place_of, stream_before, payload_of, active_at, payload_on, container_of}
+use Rattle.law_model.specs.Common.{is_whole_row, rows_of}
 use Rattle.law_session.proofs.ClientLaws.{SameTables, width-same, place_of-same, stream_before-same}
-use Rattle.law_pair.specs.Telling.{telling_of}
+use Rattle.law_pair.specs.Common.{telling_of}
 
 module _ (scenario : Scenario) (tells : List Told) where
   abbrev other : Scenario

@@ -1,15 +1,15 @@
 -- The tick of a pair: it moves exactly where it stalls in neither way, and then a walk of each way ticks.
-use Rattle.std.proofs.Common.{◌≡◌, ℕ, ◌+◌, ◌-◌, ◌*◌, ◌/◌, ◌%◌, ◌≤◌, ◌==◌, ◌&&◌, nat_le, Bool}
-use Rattle.std.proofs.Common.{true, false, inl, inr, Option, Some, None, refl, ◌∙◌, ap, arith}
-use Rattle.std.proofs.Common.{option_map, if◌then◌else◌}
-use Rattle.std.proofs.lemmas.Bool.{leb-true, cases_Bool, eqb-true, and_parts}
+use Rattle.std.proofs.Common.{◌≡◌, ℕ, ◌+◌, ◌-◌, ◌*◌, ◌/◌, ◌%◌, ◌≤◌, ◌==◌, ◌&&◌, nat_le, Bool, true, false, inl, inr}
+use Rattle.std.proofs.Common.{Option, Some, None, refl, ◌∙◌, ap, arith, if◌then◌else◌, leb-true, eqb-true}
+use Rattle.std.proofs.lemmas.Bool.{cases_Bool, and_parts}
+use Rattle.law_model.proofs.ListLaws.{map-none}
+use Rattle.law_model.specs.Common.{Plan, Counts, moved, stalled, in_inbox, held, full, is_missing, tick_full, tick_held}
+use Rattle.law_model.specs.Common.{tick}
 use Rattle.law_model.specs.declared.walk_events.StallCause.{StallCause}
 use Rattle.law_model.specs.declared.walk_events.StallCause.TheVariants.{Done, Held, TxFull, BackMissing}
-use Rattle.law_model.specs.session.Counts.{Plan, Counts, moved, stalled, in_inbox, held, full, is_missing, tick_full}
-use Rattle.law_model.specs.session.Counts.{tick_held, tick}
+use Rattle.law_pair.specs.Common.{PairPlan, PairCounts, is_unsaid, done_at, held_at, full_at, missing_at, first_way}
+use Rattle.law_pair.specs.Common.{or_else, tick_cause, ticked}
 use Rattle.law_pair.specs.declared.pair_events.Way.{Way}
-use Rattle.law_pair.specs.PairCounts.{PairPlan, PairCounts, is_unsaid, done_at, held_at, full_at, missing_at, first_way}
-use Rattle.law_pair.specs.PairCounts.{or_else, tick_cause, ticked}
 use Rattle.law_pair.proofs.OneWayLaws.{HasSaid}
 
 -- nothing stalls a tick in one way
@@ -110,10 +110,6 @@ way-none None None e = (refl, refl)
 if-none : (b : Bool) (cause : StallCause) → (if b then Some cause else None) ≡ None → b ≡ false
 if-none true cause e = absurd cc
 if-none false cause e = refl
-
-map-none : (cause : ℕ → StallCause) (found : Option ℕ) → option_map cause found ≡ None → found ≡ None
-map-none cause (Some n) e = absurd cc
-map-none cause None e = refl
 
 pub both-free : (pair : PairPlan) (s : PairCounts) → tick_cause pair s ≡ None →
     IsFree pair.there pair.lag s.there × IsFree pair.back pair.lag s.back

@@ -4,11 +4,10 @@ use Rattle.std.proofs.Common.{List, map, filter, All, refl, sym, ◌∙◌, ap, 
 use Rattle.std.specs.List.{list_any, range_with_len}
 use Rattle.std.proofs.lemmas.Bool.{cases_Bool, cases_lt, le-leb, lt-ltb}
 use Rattle.std.proofs.lemmas.List.Elements.{All-nil, All-cons}
+use Rattle.law_model.specs.Common.{scenario_by, is_lost, AreApart, IsSound, greatest, greatest_slip}
 use Rattle.law_model.specs.declared.script_types.Script.{Script}
-use Rattle.law_model.specs.session.Scenario.{packets_in, scenario_by, is_lost}
-use Rattle.law_model.specs.session.Valid.{AreApart, IsSound}
-use Rattle.law_model.specs.session.Plan.{greatest, greatest_slip}
-use Rattle.law_pair.specs.Pair.{IsWay, IsPair, is_unheard, way_of}
+use Rattle.law_model.specs.session.Scenario.{packets_in}
+use Rattle.law_pair.specs.Common.{IsWay, IsPair, is_unheard, way_of}
 
 -- ---- a window of one packet for each of a test
 abbrev windows_of : (ℕ → Bool) → ℕ → ℕ → List (ℕ × ℕ)

@@ -5,3 +5,4 @@ pub mod PairProgress
 pub mod PairWalk
 pub mod Worked
 pub mod WorkedCounts
+pub mod Common

@@ -3,14 +3,11 @@
 -- session by itself: what it needs of the other way are the windows of that way's lines, and what is said there.
 use Rattle.std.specs.Prelude.{◌≡◌, ℕ, ◌+◌, ◌*◌, ◌≤◌, not, Bool, List, [], ◌++◌, map, filter, replicate}
 use Rattle.std.specs.List.{range_with_len}
+use Rattle.law_model.specs.Common.{Leg, is_heard, scenario_by, scenario_of, Told, return_packet, session_cells, untold}
+use Rattle.law_model.specs.Common.{IsValid}
 use Rattle.law_model.specs.declared.script_types.Config.{Config}
 use Rattle.law_model.specs.declared.script_types.Script.{Script}
-use Rattle.law_model.specs.session.Leg.{Leg}
-use Rattle.law_model.specs.session.Scenario.{packets_in, is_heard, scenario_by, scenario_of}
-use Rattle.law_model.specs.source.Table.{Told}
-use Rattle.law_model.specs.source.Back.{return_packet, session_cells}
-use Rattle.law_model.specs.packets.Telling.{untold}
-use Rattle.law_model.specs.session.Valid.{IsValid}
+use Rattle.law_model.specs.session.Scenario.{packets_in}
 
 -- ---- what two scripts have to meet
 -- no return packet of a script is lost by itself, and it says nothing of the order of events

@@ -3,11 +3,11 @@
 -- packet that carries it.
 use Rattle.std.specs.Prelude.{ℕ, zero, suc, ◌+◌, ◌-◌, ◌*◌, ◌/◌, ◌%◌, ◌&&◌, ◌==◌, nat_le, nat_lt, Bool, List, []}
 use Rattle.std.specs.Prelude.{◌∷◌, ◌++◌, length, replicate, Option, Some, None, option_map, if◌then◌else◌}
+use Rattle.law_model.specs.Common.{LinePath, Due, frame_due, command_due, Plan, LineCounts, Counts, Step, moved}
+use Rattle.law_model.specs.Common.{stalled, land_due, held, full, carry, pop_lines, begin, sum_delays}
 use Rattle.law_model.specs.declared.walk_events.StallCause.{StallCause}
 use Rattle.law_model.specs.declared.walk_events.StallCause.TheVariants.{Done, Held, TxFull, BackMissing, Waiting}
 use Rattle.law_model.specs.session.Scenario.{packets_in}
-use Rattle.law_model.specs.session.Counts.{LinePath, Due, frame_due, command_due, Plan, LineCounts, Counts, Step, moved}
-use Rattle.law_model.specs.session.Counts.{stalled, land_due, held, full, carry, pop_lines, begin, sum_delays}
 use Rattle.law_pair.specs.declared.pair_events.Way.{Way}
 use Rattle.law_pair.specs.declared.pair_events.Way.TheVariants.{There, Back}
 use Rattle.law_pair.specs.declared.pair_events.PairEvent.{PairEvent}

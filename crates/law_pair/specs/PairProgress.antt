@@ -1,6 +1,6 @@
 -- What is asked of a pair in numbers so that it is never stuck, and what progress is.
 use Rattle.std.specs.Prelude.{◌≡◌, ◌⊎◌, ℕ, ◌<◌, ◌≤◌, List, length, None}
-use Rattle.law_model.specs.session.Counts.{LineCounts, Plan, Counts}
+use Rattle.law_model.specs.Common.{LineCounts, Plan, Counts}
 use Rattle.law_progress.specs.Progress.{IsPlan, cells_popped}
 use Rattle.law_pair.specs.declared.pair_events.Way.{Way}
 use Rattle.law_pair.specs.declared.pair_events.PairEvent.{PairEvent}

@@ -1,6 +1,6 @@
 -- The walk of a pair of scripts.
 use Rattle.law_model.specs.declared.script_types.Script.{Script}
-use Rattle.law_walk.specs.Walk.{walk_plan}
+use Rattle.law_walk.specs.Common.{walk_plan}
 use Rattle.law_pair.specs.Pair.{way_of}
 use Rattle.law_pair.specs.PairCounts.{PairPlan, PairCounts, pair_drain, pair_bound}
 use Rattle.law_pair.specs.PairProgress.{IsPairReached}

@@ -1,12 +1,11 @@
 -- Worked pairs: which return packets are lost, what the packets tell, and a frame that is delivered.
 use Rattle.std.specs.Prelude.{ℕ, true, false, List, [], ◌∷◌, replicate}
+use Rattle.law_model.specs.Common.{Told, untold}
 use Rattle.law_model.specs.declared.window_types.Window.{Window}
 use Rattle.law_model.specs.declared.script_types.Script.{Script}
 use Rattle.law_model.specs.declared.script_types.Item.{Item}
 use Rattle.law_model.specs.declared.script_types.ItemKind.TheVariants.{Frame, Add}
-use Rattle.law_model.specs.source.Table.{Told}
-use Rattle.law_model.specs.packets.Telling.{untold}
-use Rattle.law_walk.specs.Worked.{item, plain}
+use Rattle.law_walk.specs.Common.{item, plain}
 
 -- one line, which is added at once, 100 ticks, and a lag of one packet
 abbrev pub worked_script : List (List Window) → List Item → Script

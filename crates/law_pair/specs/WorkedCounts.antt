@@ -1,8 +1,7 @@
 -- Worked pairs in numbers: why events stall, and what a drain leads to.
-use Rattle.std.specs.Prelude.{List, [], ◌∷◌, ◌++◌, replicate, Option}
-use Rattle.std.specs.List.{flat_map}
+use Rattle.std.specs.Prelude.{List, [], ◌∷◌, ◌++◌, replicate, Option, flat_map}
+use Rattle.law_model.specs.Common.{Due}
 use Rattle.law_model.specs.declared.walk_events.StallCause.{StallCause}
-use Rattle.law_model.specs.session.Counts.{Due}
 use Rattle.law_progress.specs.Worked.{one_line, all_done}
 use Rattle.law_pair.specs.declared.pair_events.Way.{Way}
 use Rattle.law_pair.specs.declared.pair_events.Way.TheVariants.{There}

@@ -1,7 +1,7 @@
 -- Lists of lines beside their paths.
 use Rattle.std.proofs.Common.{◌≡◌, ℕ, zero, suc, ◌+◌, ◌*◌, ◌<◌, ◌≤◌, List, [], ◌∷◌, length, slice_get, slice_set, Some}
 use Rattle.std.proofs.Common.{ap, subst, arith}
-use Rattle.law_model.specs.session.Counts.{LinePath, LineCounts, sum_delays}
+use Rattle.law_model.specs.Common.{LinePath, LineCounts, sum_delays}
 use Rattle.law_progress.specs.Progress.{AllPaths, Each, sum_lines}
 
 pub each-map : (P Q : LinePath → LineCounts → Type 0) (paths : List LinePath) (lines : List LineCounts) →

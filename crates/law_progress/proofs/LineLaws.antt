@@ -1,28 +1,23 @@
 -- A line with failures is a path in numbers, and a script that passes the tests of the rings is a plan.
-use Rattle.std.proofs.Common.{◌≡◌, ℕ, zero, suc, ◌+◌, ◌-◌, ◌<◌, ◌≤◌, min, true, false, inl, inr, List, [], ◌∷◌, ◌++◌}
-use Rattle.std.proofs.Common.{length, take, slice_get, Option, Some, None, IsSome, refl, sym, ◌∙◌, ap, subst, arith}
+use Rattle.std.proofs.Common.{◌≡◌, ℕ, zero, suc, ◌+◌, ◌-◌, ◌<◌, ◌≤◌, min, inl, inr, List, [], ◌∷◌, ◌++◌}
+use Rattle.std.proofs.Common.{length, take, slice_get, Option, Some, None, refl, sym, ◌∙◌, ap, subst, arith}
 use Rattle.std.proofs.Common.{length-append, length-take}
 use Rattle.std.proofs.lemmas.Bool.{cases_lt, le-ltb, lt-ltb}
 use Rattle.std.proofs.lemmas.List.{append-nil, take-append-le, take_all, take-take}
 use Rattle.std.proofs.Math.Seq.{take-length}
 use Rattle.std.proofs.lemmas.Option.{slice_get_within}
-use Rattle.member_cells.specs.declared.containers_and_cells.Container.{Container}
-use Rattle.member_cells.specs.declared.containers_and_cells.Cell.{Cell}
-use Rattle.member_cells.specs.declared.containers_and_cells.Cell.TheVariants.{End}
+use Rattle.law_model.specs.Common.{Container, Cell, End, slip_of, cells_of, path, cells, LineLock, unlocked, locked}
+use Rattle.law_model.specs.Common.{over, Reading, reading_of, verdict_or, verdict_in, verdict, IsLine, expected}
+use Rattle.law_model.specs.Common.{LinePath, decided_by, decided_in, all_cells, path_of, paths_of, plan_of, greatest}
+use Rattle.law_model.specs.Common.{least_or, least, greatest_slip}
 use Rattle.law_model.specs.declared.window_types.Window.{Window}
 use Rattle.law_model.specs.declared.window_types.Carried.{Carried}
 use Rattle.law_model.specs.declared.window_types.Carried.TheVariants.{Whole, Fails, Vanishes}
 use Rattle.law_model.specs.declared.script_types.Config.{Config}
 use Rattle.law_model.specs.declared.script_types.Item.{Item}
-use Rattle.law_model.specs.members.Damage.{carried, slip_of}
-use Rattle.law_model.specs.members.Path.{cells_of, path, cells}
-use Rattle.law_model.specs.members.Number.{LineLock, unlocked, begun, locked, over, Reading, reading_of, verdict_or}
-use Rattle.law_model.specs.members.Number.{verdict_in, verdict}
-use Rattle.law_model.specs.members.Line.{IsLine, expected}
-use Rattle.law_model.specs.session.Counts.{LinePath}
-use Rattle.law_model.specs.session.Plan.{decided_by, decided_in, all_cells, path_of, paths_of, plan_of, greatest, least_or}
-use Rattle.law_model.specs.session.Plan.{least, greatest_slip}
-use Rattle.law_line.proofs.ListLaws.{slice_get-inside, take-part}
+use Rattle.law_model.specs.members.Damage.{carried}
+use Rattle.law_model.specs.members.Number.{begun}
+use Rattle.law_model.proofs.ListLaws.{slice_get-inside, take-part, is-some}
 use Rattle.law_line.proofs.InvariantLaws.{length-upto}
 use Rattle.law_line.proofs.InvariantLaws as invariant
 use Rattle.law_line.proofs.WindowLaws.{lost-slip_of}
@@ -95,15 +90,11 @@ decided-some total t (begun octet) verdicts told h e = decided-open verdicts t (
 decided-some total t (locked mfi1) verdicts told h e = decided-open verdicts t (slice_get verdicts t) told refl e
 decided-some total t over verdicts told h e = h
 
-some-told : {X : Type 0} (v : Option X) → IsSome v → (told : X) × (v ≡ Some told)
-some-told (Some told) h = (told, refl)
-some-told None h = absurd (let e : false ≡ true = h in cc)
-
 pub is_decided : (carries : ℕ → Carried) (containers : List Container) (delay y t : ℕ) → t < length containers →
     IsDecided carries delay containers y t
 is_decided carries containers delay y t h =
     let reading : Reading = reading_of (take y (all_cells carries delay containers)) in (
-      λ some. let (told, e) = some-told (verdict_in reading t) some in
+      λ some. let (told, e) = is-some (verdict_in reading t) some in
           decided-some (length containers) t reading.lock reading.verdicts told h e,
       λ d. let (told, e) = some-decided (length containers) t reading.lock reading.verdicts h d in rw e refl,
     )
@@ -343,7 +334,7 @@ wider ticks slip more path h is = record {
 }
 
 -- the least of more numbers is no greater
-least-first : (n : ℕ) (ns : List ℕ) → least_or n ns ≤ n
+pub least-first : (n : ℕ) (ns : List ℕ) → least_or n ns ≤ n
 least-first n [] = omega arith
 least-first n (m ∷ ns) = omega arith
 

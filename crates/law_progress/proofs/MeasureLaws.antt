@@ -1,6 +1,6 @@
 -- What a loop over rounds needs: each round with rows left makes more, and leaves what all rounds give as it is.
 use Rattle.std.proofs.Common.{◌≡◌, ℕ, zero, suc, ◌-◌, ◌<◌, ◌≤◌, nat_le, true, refl, arith}
-use Rattle.law_model.specs.session.Counts.{Plan, Counts, run, round, drain, bound}
+use Rattle.law_model.specs.Common.{Plan, Counts, run, round, drain, bound}
 use Rattle.law_progress.specs.Progress.{IsPlan, Fits, made}
 use Rattle.law_progress.proofs.MoveLaws.{run-fits, bounded, round-rises, drain-turn}
 

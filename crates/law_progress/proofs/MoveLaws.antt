@@ -4,12 +4,13 @@ use Rattle.std.proofs.Common.{◌++◌, length, replicate, slice_get, Some, None
 use Rattle.std.proofs.lemmas.Bool.{leb-true, leb-false, cases_Bool, cases_lt}
 use Rattle.std.specs.List.Sorted.{IsNonDecreasing}
 use Rattle.std.proofs.lemmas.Option.{slice_get_within, same_Some}
+use Rattle.law_model.proofs.ListLaws.{rest-in_order}
+use Rattle.law_model.specs.Common.{Due, frame_due, command_due, frame_dues, command_dues, bound, LinePath, LineCounts}
+use Rattle.law_model.specs.Common.{Plan, Counts, in_send, in_inbox, held, full, step, run, begin, carries_from, round}
+use Rattle.law_model.specs.Common.{drain}
 use Rattle.law_model.specs.declared.walk_events.Event.{Event}
-use Rattle.law_model.specs.declared.walk_events.Event.TheVariants.{Accept, Command, Tick, Carry, Back, Take}
+use Rattle.law_model.specs.declared.walk_events.Event.TheVariants.{Accept, Tick, Carry, Back, Take, Command}
 use Rattle.law_model.specs.session.Scenario.{packets_in}
-use Rattle.law_model.specs.session.Counts.{Due, frame_due, command_due, frame_dues, command_dues, bound, LinePath}
-use Rattle.law_model.specs.session.Counts.{LineCounts, Plan, Counts, in_send, in_inbox, held, full, step, run, begin}
-use Rattle.law_model.specs.session.Counts.{carries_from, round, drain}
 use Rattle.law_progress.specs.Progress.{IsSound, IsPlanOf, IsPlan, AllPaths, Each, LineFits, Fits, made, HasLine}
 use Rattle.law_progress.specs.Progress.{IsReached}
 use Rattle.law_progress.proofs.EachLaws.{each-map, each-with, each-at, each-some, sum-bounded}
@@ -138,9 +139,6 @@ module _ (slow fast slip : ℕ) (plan : Plan) (is : IsPlanOf slow fast slip plan
 -- ---- an item that holds a tick can land
 abbrev pub Lands : ℕ → List ℕ → ℕ → Type 0
 Lands ticks dues a = (due : ℕ) × (slice_get dues a ≡ Some due) × (due ≤ ticks)
-
-rest-in_order : (due : ℕ) (dues : List ℕ) → IsNonDecreasing (due ∷ dues) → IsNonDecreasing dues
-rest-in_order due dues order i j d low high = order (suc i) (suc j) d (omega arith) (omega arith)
 
 -- where the first isn't due, no later one is
 none_lands : (ticks due : ℕ) (dues : List ℕ) → IsNonDecreasing (due ∷ dues) → ticks < due → Lands ticks dues zero → ⊥

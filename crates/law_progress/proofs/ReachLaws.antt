@@ -1,13 +1,12 @@
 -- What is reached by events, by event lines and by drains.
 use Rattle.std.proofs.Common.{◌≡◌, ℕ, zero, suc, ◌<◌, nat_le, inl, inr, List, [], ◌∷◌, ◌++◌, replicate, refl, sym, ◌∙◌}
-use Rattle.std.proofs.Common.{ap}
-use Rattle.std.specs.List.{flat_map}
+use Rattle.std.proofs.Common.{ap, flat_map}
 use Rattle.std.proofs.lemmas.Bool.{cases_Bool}
+use Rattle.law_model.specs.Common.{Plan, Counts, step, run, begin, round, drain, bound, run_line, run_lines, walked}
 use Rattle.law_model.specs.declared.script_types.EventLine.{EventLine}
-use Rattle.law_model.specs.declared.script_types.EventLine.TheVariants as script_line
 use Rattle.law_model.specs.declared.walk_events.Event.{Event}
-use Rattle.law_model.specs.declared.walk_events.Event.TheVariants.{Accept, Command, Tick, Carry, Back, Take}
-use Rattle.law_model.specs.session.Counts.{Plan, Counts, step, run, begin, round, drain, bound, run_line, run_lines, walked}
+use Rattle.law_model.specs.declared.walk_events.Event.TheVariants.{Accept, Tick, Carry, Back, Take, Command}
+use Rattle.law_model.specs.declared.script_types.EventLine.TheVariants as script_line
 use Rattle.law_progress.specs.Progress.{IsPlan, LineFits, IsReached, SomeProgress}
 use Rattle.law_progress.proofs.EachLaws.{each-map}
 use Rattle.law_progress.proofs.MoveLaws.{reached-fits, reached-moves}

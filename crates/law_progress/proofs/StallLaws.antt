@@ -4,13 +4,14 @@ use Rattle.std.proofs.Common.{◌≡◌, ◌⊎◌, ℕ, suc, ◌+◌, ◌<◌, 
 use Rattle.std.proofs.Common.{Some, None, slice_get, refl, ◌∙◌, ap, arith}
 use Rattle.std.proofs.lemmas.Bool.{cases_Bool}
 use Rattle.std.proofs.lemmas.List.Sums.{sum_by-cons}
+use Rattle.law_model.specs.Common.{frame_dues, command_dues, LinePath, LineCounts, Plan, Counts, Step, land_due, held}
+use Rattle.law_model.specs.Common.{full, is_missing, tick_full, tick_held, tick, in_send, in_receive, carry_on}
+use Rattle.law_model.specs.Common.{carry_at, in_return, popped_line, pop_lines, take_popped, is_back_full, take_row}
+use Rattle.law_model.specs.Common.{step}
 use Rattle.law_model.specs.declared.walk_events.Event.{Event}
-use Rattle.law_model.specs.declared.walk_events.Event.TheVariants.{Accept, Command, Tick, Carry, Back, Take}
+use Rattle.law_model.specs.declared.walk_events.Event.TheVariants.{Accept, Tick, Carry, Back, Take, Command}
 use Rattle.law_model.specs.declared.walk_events.StallCause.{StallCause}
-use Rattle.law_model.specs.session.Counts.{frame_dues, command_dues, LinePath, LineCounts, Plan, Counts, Step, land_due}
-use Rattle.law_model.specs.session.Counts.{held, full, is_missing, tick_full, tick_held, tick, in_send, in_receive}
-use Rattle.law_model.specs.session.Counts.{carry_on, carry_at, in_return, back, popped_line, pop_lines, take_popped}
-use Rattle.law_model.specs.session.Counts.{is_back_full, take_row, step}
+use Rattle.law_model.specs.session.Counts.{back}
 use Rattle.law_progress.specs.Progress.{Each, sum_lines, made, ChangesNothing, IsProgress}
 
 -- ---- each event but Take moves, or changes nothing

@@ -5,9 +5,10 @@ use Rattle.std.proofs.Common.{subst, arith}
 use Rattle.std.proofs.lemmas.Bool.{leb-true, leb-false, ltb-true, ltb-false, cases_Bool, cases_lt, eqb-true, and_parts}
 use Rattle.std.proofs.lemmas.Option.{slice_get_within}
 use Rattle.law_model.specs.session.Scenario.{packets_in}
-use Rattle.law_model.specs.session.Counts.{frame_dues, command_dues, LinePath, LineCounts, Plan, Counts, in_send}
-use Rattle.law_model.specs.session.Counts.{in_receive, in_return, in_inbox, used_in, land_due, accept, command, held, full}
-use Rattle.law_model.specs.session.Counts.{is_missing, tick_full, tick_held, tick, carry_on, carry_at, carry, back}
+use Rattle.law_model.specs.Common.{frame_dues, command_dues, LinePath, LineCounts, Plan, Counts, in_send, in_receive}
+use Rattle.law_model.specs.Common.{in_return, in_inbox, used_in, land_due, accept, command, held, full, is_missing}
+use Rattle.law_model.specs.Common.{tick_full, tick_held, tick, carry_on, carry_at, carry}
+use Rattle.law_model.specs.session.Counts.{back}
 use Rattle.law_progress.specs.Progress.{IsPath, IsSound, IsPlanOf, Each, LineFits, Fits, made}
 use Rattle.law_progress.proofs.EachLaws.{each-with, each-at, each-set, sum-set}
 

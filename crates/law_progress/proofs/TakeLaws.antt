@@ -3,8 +3,8 @@ use Rattle.std.proofs.Common.{◌≡◌, ℕ, zero, suc, ◌+◌, ◌-◌, ◌%�
 use Rattle.std.proofs.Common.{inr, List, [], ◌∷◌, slice_get, Option, Some, None, refl, sym, ◌∙◌, ap, subst, arith}
 use Rattle.std.proofs.lemmas.Bool.{leb-true, leb-false, cases_Bool, cases_lt, cases_eq, and_parts}
 use Rattle.law_model.specs.session.Scenario.{packets_in}
-use Rattle.law_model.specs.session.Counts.{LinePath, LineCounts, Plan, Counts, in_receive, in_return, pop, popped_line}
-use Rattle.law_model.specs.session.Counts.{Popped, pop_lines, take_popped, is_back_full, take_row}
+use Rattle.law_model.specs.Common.{LinePath, LineCounts, Plan, Counts, in_receive, in_return, pop, popped_line, Popped}
+use Rattle.law_model.specs.Common.{pop_lines, take_popped, is_back_full, take_row}
 use Rattle.law_progress.specs.Progress.{IsSound, IsPlanOf, AllPaths, Each, LineFits, Fits, sum_lines}
 use Rattle.law_progress.proofs.StepLaws.{Kept}
 

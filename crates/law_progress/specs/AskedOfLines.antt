@@ -1,15 +1,12 @@
 -- What is asked of a script and of the containers that its lines are sent, so that its walk is never stuck.
 use Rattle.std.specs.Prelude.{◌≡◌, ◌↔◌, ℕ, ◌<◌, ◌≤◌, List, [], ◌∷◌, length, take, IsSome}
 use Rattle.std.specs.List.Sorted.{IsNonDecreasing}
-use Rattle.member_cells.specs.declared.containers_and_cells.Container.{Container}
+use Rattle.law_model.specs.Common.{Container, verdict, IsLine, frame_dues, command_dues, dues_of, all_cells, path_of}
+use Rattle.law_model.specs.Common.{FitsRing, FitsLag}
 use Rattle.law_model.specs.declared.window_types.Window.{Window}
 use Rattle.law_model.specs.declared.window_types.Carried.{Carried}
 use Rattle.law_model.specs.declared.script_types.Config.{Config}
 use Rattle.law_model.specs.declared.script_types.Item.{Item}
-use Rattle.law_model.specs.members.Number.{verdict}
-use Rattle.law_model.specs.members.Line.{IsLine}
-use Rattle.law_model.specs.session.Counts.{frame_dues, command_dues, dues_of}
-use Rattle.law_model.specs.session.Plan.{all_cells, path_of, FitsRing, FitsLag}
 
 -- the numbers below those decided have a verdict by the first y cells, and no others
 abbrev pub IsDecided : (ℕ → Carried) → ℕ → List Container → ℕ → ℕ → Type 0

@@ -3,11 +3,11 @@
 use Rattle.std.specs.Prelude.{◌≡◌, ◌⊎◌, ℕ, suc, ◌+◌, ◌-◌, ◌*◌, ◌<◌, ◌≤◌, min, List, [], ◌∷◌, length, sum_by, Option}
 use Rattle.std.specs.Prelude.{Some, None, IfSome}
 use Rattle.std.specs.List.Sorted.{IsNonDecreasing}
+use Rattle.law_model.specs.Common.{frame_dues, command_dues, LinePath, Plan, LineCounts, Counts, used_in, step, run}
+use Rattle.law_model.specs.Common.{begin}
 use Rattle.law_model.specs.declared.walk_events.Event.{Event}
-use Rattle.law_model.specs.declared.walk_events.Event.TheVariants.{Accept, Command, Tick, Carry, Back, Take}
+use Rattle.law_model.specs.declared.walk_events.Event.TheVariants.{Accept, Tick, Carry, Back, Take, Command}
 use Rattle.law_model.specs.session.Scenario.{packets_in}
-use Rattle.law_model.specs.session.Counts.{frame_dues, command_dues, LinePath, Plan, LineCounts, Counts, used_in, step, run}
-use Rattle.law_model.specs.session.Counts.{begin}
 
 -- ---- what is asked of a plan
 -- a line that has some slip: its cells are never further after its containers than the slip, beyond the delay

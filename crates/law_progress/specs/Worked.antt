@@ -1,9 +1,9 @@
 -- Worked walks, computed.
 use Rattle.std.specs.Prelude.{ℕ, ◌+◌, ◌-◌, min, List, [], ◌∷◌, ◌++◌, replicate, Option}
+use Rattle.law_model.specs.Common.{LinePath, Due, frame_due, command_due, Plan, Counts, step, run, begin}
 use Rattle.law_model.specs.declared.walk_events.Event.{Event}
 use Rattle.law_model.specs.declared.walk_events.Event.TheVariants.{Tick, Carry}
 use Rattle.law_model.specs.declared.walk_events.StallCause.{StallCause}
-use Rattle.law_model.specs.session.Counts.{LinePath, Due, frame_due, command_due, Plan, Counts, step, run, begin}
 
 -- a line that never fails
 abbrev pub fine : ℕ → ℕ → LinePath

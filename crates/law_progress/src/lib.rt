@@ -4,7 +4,8 @@
 #![tactic(auto)]
 
 ghost use Rattle.std.specs.Prelude.{◌≡◌, ℕ, ◌<◌, ◌≤◌, [], List, length, replicate, Some};
-ghost use Rattle.member_cells.specs.declared.containers_and_cells.Container.{Container};
+ghost use Rattle.law_model.specs.Common.{Container, slip_of, IsLine, Plan, Counts, in_inbox, step, drain, bound};
+ghost use Rattle.law_model.specs.Common.{walked, path_of, plan_of};
 ghost use Rattle.law_model.specs.declared.window_types.Window.{Window};
 ghost use Rattle.law_model.specs.declared.window_types.Carried.{Carried};
 ghost use Rattle.law_model.specs.declared.script_types.Config.{Config};
@@ -13,12 +14,8 @@ ghost use Rattle.law_model.specs.declared.script_types.EventLine.{EventLine};
 ghost use Rattle.law_model.specs.declared.walk_events.Event.{Event};
 ghost use Rattle.law_model.specs.declared.walk_events.Event.TheVariants.{Accept, Tick, Carry, Back, Take};
 ghost use Rattle.law_model.specs.declared.walk_events.StallCause.{StallCause};
-ghost use Rattle.law_model.specs.declared.walk_events.StallCause.TheVariants.{NotDue, Held, TxFull, BackMissing, RxFull};
-ghost use Rattle.law_model.specs.declared.walk_events.StallCause.TheVariants.{BackEmpty, Waiting};
-ghost use Rattle.law_model.specs.members.Damage.{carried, slip_of};
-ghost use Rattle.law_model.specs.members.Line.{IsLine};
-ghost use Rattle.law_model.specs.session.Counts.{Plan, Counts, in_inbox, step, drain, bound, walked};
-ghost use Rattle.law_model.specs.session.Plan.{path_of, plan_of};
+ghost use Rattle.law_model.specs.declared.walk_events.StallCause.TheVariants.{NotDue, Held, TxFull, BackMissing, RxFull, BackEmpty, Waiting};
+ghost use Rattle.law_model.specs.members.Damage.{carried};
 ghost use Rattle.law_progress.specs.Progress.{IsPath, IsPlan, Fits, IsReached, ChangesNothing, SomeProgress};
 ghost use Rattle.law_progress.specs.AskedOfLines.{IsDecided, CanRun};
 ghost use Rattle.law_progress.specs.Worked.{one_line, two_items, cause_after, one_carried, all_done};

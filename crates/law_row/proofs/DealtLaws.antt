@@ -6,14 +6,8 @@ use Rattle.std.specs.List.{range_with_len}
 use Rattle.std.proofs.lemmas.Bool.{cases_Bool, ltb-false}
 use Rattle.std.proofs.lemmas.List.{length-map, nil_from_length}
 use Rattle.std.proofs.lemmas.List.FromFn.{fill_by_all}
-use Rattle.member_cells.specs.declared.containers_and_cells.Container.{Container}
-use Rattle.law_model.specs.rows.Interleave.{octets_at, octets_from}
-use Rattle.law_model.specs.rows.Rows.{carried_row}
-use Rattle.law_model.specs.session.Scenario.{Scenario}
-use Rattle.law_model.specs.source.Table.{Told, active}
-use Rattle.law_model.specs.source.Source.{table_of}
-use Rattle.law_model.specs.source.Client.{width}
-use Rattle.law_model.specs.frames.Payload.{payload_of}
+use Rattle.law_model.specs.Common.{Container, octets_at, octets_from, carried_row, Scenario, Told, active, table_of}
+use Rattle.law_model.specs.Common.{width, payload_of}
 use Rattle.law_session.proofs.ClientLaws.{payload-length}
 use Rattle.law_row.specs.Received.{AreDealt, IsDealtRow, row_octets}
 

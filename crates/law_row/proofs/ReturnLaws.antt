@@ -7,27 +7,19 @@ use Rattle.std.proofs.lemmas.Bool.{cases_lt}
 use Rattle.std.proofs.lemmas.List.{length-map}
 use Rattle.std.proofs.lemmas.List.Sums.{fold_push}
 use Rattle.std.proofs.lemmas.List.FromFn.{take-map-range_with_len, get_or-map-range_with_len, map-range_with_len_more}
-use Rattle.check_remainder.specs.Bits.{bits, number}
-use Rattle.check_remainder.proofs.BitLaws.{bits-number, number_below}
-use Rattle.member_cells.specs.declared.containers_and_cells.Cell.{Cell}
-use Rattle.member_cells.specs.declared.containers_and_cells.BackCell.TheVariants.{Packet as Nibbles}
+use Rattle.law_model.proofs.ListLaws.{map-same_range}
+use Rattle.law_model.specs.Common.{bits, number, Cell, bit_nibble, IsPacket, packet_nibbles, Scenario, is_read}
+use Rattle.law_model.specs.Common.{is_heard, Told, is_normal, table_of, ctrl_by, telling_at, sent_packet, said_before}
+use Rattle.law_model.specs.Common.{said, status_by, status, return_packet, Row, leader, ack_by, ack_of, is_member}
+use Rattle.law_model.specs.Common.{says_at, status_of, mst_of, return_of, oks_in, told_by, packet_read, told_in}
+use Rattle.law_model.specs.Common.{read_packets, has, return_at, packet_if, packets_of}
 use Rattle.law_model.specs.declared.control_packet.Packet.{Packet}
-use Rattle.law_model.specs.packets.Packet.{bit_nibble, IsPacket, packet_nibbles}
-use Rattle.law_model.proofs.PacketLaws.{read_of-packet_nibbles, bit_nibble-bit}
-use Rattle.law_model.specs.session.Scenario.{Scenario, is_read, is_heard}
 use Rattle.law_model.specs.declared.lcas_states.Standing.{Standing}
-use Rattle.law_model.specs.declared.lcas_states.Standing.TheVariants.{Add as adding, Norm as normal, Dnu as unused}
 use Rattle.law_model.specs.declared.lcas_states.Member.{Member}
-use Rattle.law_model.specs.source.Table.{Told, is_normal}
-use Rattle.law_model.specs.source.Source.{table_of}
-use Rattle.law_model.specs.packets.Forward.{ctrl_by}
-use Rattle.law_model.specs.packets.Telling.{telling_at, sent_packet}
-use Rattle.law_model.specs.source.Back.{said_before, said, status_by, status, return_packet}
-use Rattle.law_model.specs.packets.ReturnPacket.{Row, leader, ack_by, ack_of, is_member, says_at, status_of, mst_of}
-use Rattle.law_model.specs.packets.ReturnPacket.{return_of}
-use Rattle.law_model.specs.packets.Told.{oks_in, told_by, packet_read, told_in}
-use Rattle.law_model.specs.rows.Rows.{read_packets, has, return_at}
-use Rattle.law_model.specs.rows.SessionRows.{packet_if, packets_of}
+use Rattle.check_remainder.proofs.BitLaws.{bits-number, number_below}
+use Rattle.member_cells.specs.declared.containers_and_cells.BackCell.TheVariants.{Packet as Nibbles}
+use Rattle.law_model.proofs.PacketLaws.{read_of-packet_nibbles, bit_nibble-bit}
+use Rattle.law_model.specs.declared.lcas_states.Standing.TheVariants.{Add as adding, Norm as normal, Dnu as unused}
 use Rattle.law_session.specs.Feedback.{lines_of}
 use Rattle.law_session.proofs.PlanLaws.{times, IsBelow}
 use Rattle.law_row.specs.Received.{HasPackets}
@@ -164,12 +156,12 @@ ack-said scenario returns (suc k) =
     ]
 
 -- ---- what the packet tells
-not_not : (bs : List Bool) → map not (map not bs) ≡ bs
+pub not_not : (bs : List Bool) → map not (map not bs) ≡ bs
 not_not [] = refl
 not_not (true ∷ bs) = ap (λ rest. true ∷ rest) (not_not bs)
 not_not (false ∷ bs) = ap (λ rest. false ∷ rest) (not_not bs)
 
-oks_in-number : (oks : List Bool) → length oks ≡ 8 → oks_in (number (map not oks)) ≡ oks
+pub oks_in-number : (oks : List Bool) → length oks ≡ 8 → oks_in (number (map not oks)) ≡ oks
 oks_in-number oks eight =
     ap (λ k. map not (bits k (number (map not oks)))) (sym (length-map oks not ∙ eight))
     ∙ ap (map not) (bits-number (map not oks)) ∙ not_not oks
@@ -177,12 +169,6 @@ oks_in-number oks eight =
 map-same : {X Y : Type 0} (f g : X → Y) (xs : List X) → ((x : X) → f x ≡ g x) → map f xs ≡ map g xs
 map-same f g [] same = refl
 map-same f g (x ∷ xs) same = ap₂ (λ y ys. y ∷ ys) (same x) (map-same f g xs same)
-
-rows-same : {X : Type 0} (f g : ℕ → X) (from count : ℕ) → ((j : ℕ) → j < from + count → f j ≡ g j) →
-    map f (range_with_len from count) ≡ map g (range_with_len from count)
-rows-same f g from zero same = refl
-rows-same f g from (suc count) same =
-    ap₂ (λ x xs. x ∷ xs) (same from (omega arith)) (rows-same f g (from + 1) count (λ j low. same j (omega arith)))
 
 range-shift : {X : Type 0} (g : ℕ → X) (a b n : ℕ) →
     map (λ r. g (a + r)) (range_with_len b n) ≡ map g (range_with_len (a + b) n)
@@ -219,7 +205,7 @@ told-said scenario returns cells k has_packets =
     let rows = map packets (range_with_len 0 (k + 1)) in
     let e : k + 1 ≡ suc k = omega arith in
     ap (λ read. told_by (return_of read k))
-    (rows-same (read_packets cells) packets 0 (k + 1) (λ j low. has_packets j (omega arith)))
+    (map-same_range (read_packets cells) packets 0 (k + 1) (λ j low. has_packets j (omega arith)))
     ∙ ap (λ read. told_with (ack_of read) (slice_index_or rows k []) k)
     (take-map-range_with_len packets 0 (k + 1) (k + 1) (omega arith))
     ∙ ap (λ row. told_with (ack_of rows) row k)

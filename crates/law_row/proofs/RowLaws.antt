@@ -4,20 +4,15 @@ use Rattle.std.proofs.Common.{◌≡◌, ℕ, zero, suc, ◌+◌, ◌%◌, ◌<�
 use Rattle.std.proofs.Common.{inr, List, [], ◌∷◌, ◌++◌, map, filter, length, Option, Some, refl, sym, ◌∙◌, ap, arith}
 use Rattle.std.specs.List.{list_any, list_all, range_with_len}
 use Rattle.std.proofs.lemmas.Bool.{cases_lt, eq-eqb, eqb-true, eqb-false, ne_eqb, and_parts}
-use Rattle.member_cells.specs.declared.control_word.Ctrl.{Ctrl}
-use Rattle.member_cells.specs.declared.control_word.Ctrl.TheVariants.{Idle}
+use Rattle.law_model.proofs.ListLaws.{filter-few}
+use Rattle.law_model.specs.Common.{Ctrl, Told, is_norm, is_normal, Scenario, planned_of, after, table_of, group_bit}
+use Rattle.law_model.specs.Common.{LineFields, ctrl_by, place_in, mst_by, is_carrying, has, lines_at, active_from}
+use Rattle.law_model.specs.Common.{active_of, packet_if, packets_from}
 use Rattle.law_model.specs.declared.control_packet.Packet.{Packet}
 use Rattle.law_model.specs.declared.lcas_states.Standing.{Standing}
-use Rattle.law_model.specs.declared.lcas_states.Standing.TheVariants.{Add as adding, Norm as normal, Dnu as unused}
 use Rattle.law_model.specs.declared.lcas_states.Member.{Member}
-use Rattle.law_model.specs.source.Table.{Told, is_norm, is_normal}
-use Rattle.law_model.specs.session.Scenario.{Scenario}
-use Rattle.law_model.specs.source.Source.{planned_of, after, table_of}
-use Rattle.law_model.specs.packets.GroupBit.{group_bit}
-use Rattle.law_model.specs.packets.Forward.{LineFields, ctrl_by, place_in}
-use Rattle.law_model.specs.packets.Telling.{mst_by}
-use Rattle.law_model.specs.rows.Rows.{is_carrying, has, lines_at, active_from, active_of}
-use Rattle.law_model.specs.rows.SessionRows.{packet_if, packets_from}
+use Rattle.member_cells.specs.declared.control_word.Ctrl.TheVariants.{Idle}
+use Rattle.law_model.specs.declared.lcas_states.Standing.TheVariants.{Add as adding, Norm as normal, Dnu as unused}
 use Rattle.law_session.specs.Feedback.{lines_of}
 use Rattle.law_session.proofs.PlanLaws.{one, times, IsBelow, one-self, IsPlan-once, Fits-after, order-length}
 
@@ -277,13 +272,6 @@ active_from-order (member ∷ order) lines sq told chg k act (suc count) readabl
     ∙ first-carrying member order readable
 
 -- ---- the count
-filter-least : (r : ℕ → Bool) (xs : List ℕ) → length (filter r xs) ≤ length xs
-filter-least r [] = omega arith
-filter-least r (x ∷ xs) =
-    let rest = filter-least r xs in
-    elim (r x) as (λ b. length (if b then x ∷ filter r xs else filter r xs) ≤ suc (length xs))
-    [ true ↦ omega arith | false ↦ omega arith ]
-
 exchanged_and : (a b c : Bool) → (a && (b && c)) ≡ (b && (a && c))
 exchanged_and true true c = refl
 exchanged_and true false c = refl
@@ -310,7 +298,7 @@ count-all r g (x ∷ xs) =
           ∙ exchanged_and (length (filter r xs) == length xs) (g x) (list_all g (filter r xs))
           ∙ ap (λ b. g x && b) (count-all r g xs)
       | false ↦
-          let least = filter-least r xs in
+          let least = filter-few r xs in
           ap (λ b. b && list_all g (filter r xs)) (ne_eqb (length (filter r xs)) (suc (length xs)) (λ e. omega arith))
     ]
 

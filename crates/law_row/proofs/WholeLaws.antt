@@ -4,20 +4,15 @@ use Rattle.std.proofs.Common.{if◌then◌else◌, inl, inr, List, [], ◌∷◌
 use Rattle.std.proofs.Common.{option_map, slice_get, slice_index_or, refl, ◌∙◌, ap, ap₂, arith}
 use Rattle.std.specs.List.{list_any, list_all, range_with_len}
 use Rattle.std.proofs.lemmas.Bool.{cases_Bool, ltb-false}
-use Rattle.member_cells.specs.declared.containers_and_cells.Container.{Container}
-use Rattle.member_cells.specs.declared.containers_and_cells.Cell.{Cell}
+use Rattle.law_model.specs.Common.{Container, Cell, is_good, is_readable, Scenario, carried_by, is_read, is_heard, Told}
+use Rattle.law_model.specs.Common.{is_norm, is_normal, active, table_of, telling_at, sent_packet, leader, active_of}
+use Rattle.law_model.specs.Common.{container_on, with_first, containers_at, carried_row, row_under, row_at, packet_if}
+use Rattle.law_model.specs.Common.{packets_of, is_whole_under, is_whole_row}
 use Rattle.law_model.specs.declared.window_types.Window.{Window}
 use Rattle.law_model.specs.declared.control_packet.Packet.{Packet}
-use Rattle.law_model.specs.members.Damage.{is_good, is_readable, carried}
-use Rattle.law_model.specs.session.Scenario.{Scenario, carried_by, is_read, is_heard}
 use Rattle.law_model.specs.declared.lcas_states.Member.{Member}
-use Rattle.law_model.specs.source.Table.{Told, is_norm, is_normal, active}
-use Rattle.law_model.specs.source.Source.{table_of}
-use Rattle.law_model.specs.packets.Telling.{telling_at, sent_packet}
-use Rattle.law_model.specs.packets.ReturnPacket.{leader}
-use Rattle.law_model.specs.rows.Rows.{active_of, container_on, with_first, containers_at, carried_row, row_by, row_under}
-use Rattle.law_model.specs.rows.Rows.{row_at}
-use Rattle.law_model.specs.rows.SessionRows.{packet_if, packets_of, is_whole_under, is_whole_row}
+use Rattle.law_model.specs.members.Damage.{carried}
+use Rattle.law_model.specs.rows.Rows.{row_by}
 use Rattle.law_session.specs.Feedback.{lines_of}
 use Rattle.law_session.proofs.PlanLaws.{times, IsBelow}
 use Rattle.law_row.specs.Received.{TellsRow, row_octets}

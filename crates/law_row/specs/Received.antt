@@ -1,15 +1,8 @@
 -- What a sink has got of the lines of a session, and what it makes of it.
 use Rattle.std.specs.Prelude.{◌≡◌, ℕ, ◌+◌, ◌-◌, ◌*◌, ◌/◌, ◌<◌, ◌≤◌, nat_lt, if◌then◌else◌, List, [], map, length}
 use Rattle.std.specs.Prelude.{slice_get, slice_index, Option, Some, None}
-use Rattle.member_cells.specs.declared.containers_and_cells.Container.{Container}
-use Rattle.member_cells.specs.declared.containers_and_cells.Cell.{Cell}
-use Rattle.law_model.specs.members.Damage.{is_good}
-use Rattle.law_model.specs.session.Scenario.{Scenario, carried_by}
-use Rattle.law_model.specs.source.Table.{Told, active}
-use Rattle.law_model.specs.source.Source.{table_of}
-use Rattle.law_model.specs.rows.Rows.{read_packets, container_on, carried_row}
-use Rattle.law_model.specs.rows.SessionRows.{packets_of}
-use Rattle.law_model.specs.frames.Payload.{payload_of}
+use Rattle.law_model.specs.Common.{Container, Cell, is_good, Scenario, carried_by, Told, active, table_of, read_packets}
+use Rattle.law_model.specs.Common.{container_on, carried_row, packets_of, payload_of}
 
 -- of packets up to packet k those are read that can be
 abbrev pub HasPackets : Scenario → List (Option Told) → List (List Cell) → ℕ → Type 0

@@ -1,13 +1,8 @@
 -- Worked rows, computed: five lines, of which lines 3, 0, 2 and 1 have SQ 0 to 3 in NORM, DNU, NORM and ADD, and line 4
 -- is IDLE.
 use Rattle.std.specs.Prelude.{ℕ, ◌==◌, not, Bool, true, List, [], ◌∷◌, map, None}
-use Rattle.member_cells.specs.declared.control_word.Ctrl.{Ctrl}
+use Rattle.law_model.specs.Common.{Ctrl, member_of, Table, none_kept, forward_packet, untold, active_of, packets_from}
 use Rattle.law_model.specs.declared.lcas_states.Standing.TheVariants.{Add as adding, Norm as normal, Dnu as unused}
-use Rattle.law_model.specs.source.Table.{member_of, Table, none_kept}
-use Rattle.law_model.specs.packets.Forward.{forward_packet}
-use Rattle.law_model.specs.packets.Telling.{untold}
-use Rattle.law_model.specs.rows.Rows.{active_of}
-use Rattle.law_model.specs.rows.SessionRows.{packets_from}
 
 abbrev pub five : Table
 five = record {

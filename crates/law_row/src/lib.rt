@@ -7,19 +7,11 @@ ghost use Rattle.std.specs.Prelude.{◌≡◌, ℕ, ◌*◌, ◌≤◌, Bool, tr
 ghost use Rattle.std.specs.Prelude.{Some, None};
 ghost use Rattle.std.specs.List.{list_all, range_with_len};
 ghost use Rattle.member_cells.specs.declared.containers_and_cells.BackCell.TheVariants.{Packet as Nibbles};
-ghost use Rattle.member_cells.specs.declared.containers_and_cells.Cell.{Cell};
-ghost use Rattle.member_cells.specs.declared.containers_and_cells.Container.{Container};
-ghost use Rattle.member_cells.specs.declared.control_word.Ctrl.TheVariants.{Add, Norm, Eos, Idle, Dnu};
+ghost use Rattle.law_model.specs.Common.{Cell, Container, Eos, IsPacket, packet_nibbles, Scenario, Told, active};
+ghost use Rattle.law_model.specs.Common.{table_of, return_packet, told_by, told_in, active_of, row_at, return_at};
+ghost use Rattle.law_model.specs.Common.{carried_row, packets_from, is_whole_row, payload_of};
 ghost use Rattle.law_model.specs.declared.control_packet.Packet.{Packet};
-ghost use Rattle.law_model.specs.packets.Packet.{IsPacket, packet_nibbles};
-ghost use Rattle.law_model.specs.session.Scenario.{Scenario};
-ghost use Rattle.law_model.specs.source.Table.{Told, active};
-ghost use Rattle.law_model.specs.source.Source.{table_of};
-ghost use Rattle.law_model.specs.source.Back.{return_packet};
-ghost use Rattle.law_model.specs.packets.Told.{told_by, told_in};
-ghost use Rattle.law_model.specs.rows.Rows.{active_of, row_at, return_at, carried_row};
-ghost use Rattle.law_model.specs.rows.SessionRows.{packets_from, is_whole_row};
-ghost use Rattle.law_model.specs.frames.Payload.{payload_of};
+ghost use Rattle.member_cells.specs.declared.control_word.Ctrl.TheVariants.{Add, Norm, Idle, Dnu};
 ghost use Rattle.law_row.specs.Received.{HasPackets, TellsRow, row_octets, AreDealt, IsDealtRow};
 ghost use Rattle.law_row.specs.Worked.{sent, active_read, all_but};
 

@@ -9,20 +9,13 @@ use Rattle.std.proofs.lemmas.Option.{none-some, same_Some, slice_get-get_or}
 use Rattle.std.proofs.lemmas.List.{append-nil, map-append}
 use Rattle.std.proofs.lemmas.List.Elements.{All-nil, All-cons, All-append, filter-append, filter_passes}
 use Rattle.std.proofs.lemmas.List.Sums.{sum_by-append, sum_by-cons}
+use Rattle.law_model.proofs.ListLaws.{All-front, All-after}
+use Rattle.law_model.specs.Common.{Piece, idle, client, size_of, Extent, shortest_frame, longest_frame, most_waiting}
+use Rattle.law_model.specs.Common.{Leg, DueFrame, Scenario, scenario_by, comes_at, frames_at, IsWithin, size, Stream}
+use Rattle.law_model.specs.Common.{frame_refusal, offered_by, offered, next_by, reaching, place_of, stream_before, Told}
 use Rattle.law_model.specs.declared.item_refusals.AcceptFault.{AcceptFault}
-use Rattle.law_model.specs.frames.Piece.{Piece, idle, client, size_of}
-use Rattle.law_model.specs.frames.Loss.{Extent}
-use Rattle.law_model.specs.Limits.{shortest_frame, longest_frame, most_waiting}
-use Rattle.law_model.specs.session.Leg.{Leg}
-use Rattle.law_model.specs.session.Scenario.{DueFrame, Scenario, scenario_by, comes_at, frames_at}
-use Rattle.law_model.specs.session.Valid.{IsWithin}
-use Rattle.law_model.specs.source.Client.{size, Stream, frame_refusal, offered_by, offered, next_by, reaching, place_of}
-use Rattle.law_model.specs.source.Client.{stream_before}
-use Rattle.law_model.specs.source.Table.{Told}
 use Rattle.law_session.proofs.ClientLaws.{stream_before-reaches, offered_all-pieces}
-use Rattle.law_walk.specs.Promise.{session_extents, place_after}
-use Rattle.law_walk.specs.Landed.{Numbered, IsOfferAt, stream_met, refusal_at}
-use Rattle.law_walk.specs.Walk.{session_of}
+use Rattle.law_walk.specs.Common.{session_extents, place_after, Numbered, IsOfferAt, stream_met, refusal_at, session_of}
 use Rattle.law_walk.proofs.LandLaws.{offer-at}
 use Rattle.law_walk.proofs.SourceLaws.{offer-refusal}
 use Rattle.law_model.specs.declared.item_refusals.Refusal.TheVariants.{Frame as frame_fault}
@@ -124,16 +117,6 @@ long-size least (frame ∷ frames) long =
     let sum = sum_by-cons size_of (client frame) (map client frames) in
     let product = suc-mul (length frames) (least + 8) in
     omega arith
-
--- what holds of each of two parts holds of each part
-all-front : {X : Type 0} (P : X → Type 0) (xs ys : List X) → All P (xs ++ ys) → All P xs
-all-front P [] ys each = All-nil P
-all-front P (x ∷ xs) ys each =
-    All-cons P x xs (each 0 x (omega arith)) (all-front P xs ys (λ k d inside. each (suc k) d (omega arith)))
-
-all-behind : {X : Type 0} (P : X → Type 0) (xs ys : List X) → All P (xs ++ ys) → All P ys
-all-behind P [] ys each = each
-all-behind P (x ∷ xs) ys each = all-behind P xs ys (λ k d inside. each (suc k) d (omega arith))
 
 -- ---- which of the frames that land are refused
 refusal-none : (frame : List ℕ) (stream : Stream) → IsWithin shortest_frame longest_frame (length frame) →
@@ -262,10 +245,10 @@ module _ (bucket : Bucket) (leg : Leg) (from members : ℕ) (keeps : KeepsTo buc
       let stream = fold offered (before t) front in
       let each = subst (All (λ (frame : List ℕ). IsWithin bucket.shortest longest_frame (length frame))) parts
       (keeps.lengths t low high) in
-      let own = all-behind (λ (frame : List ℕ). IsWithin bucket.shortest longest_frame (length frame)) front
+      let own = All-after (λ (frame : List ℕ). IsWithin bucket.shortest longest_frame (length frame)) front
       (frame ∷ more) each 0 frame (omega arith) in
       let long = offers-long bucket.shortest front (before t)
-      (λ k d inside. (all-front (λ (frame : List ℕ). IsWithin bucket.shortest longest_frame (length frame)) front
+      (λ k d inside. (All-front (λ (frame : List ℕ). IsWithin bucket.shortest longest_frame (length frame)) front
       (frame ∷ more) each k d inside).0) (is-long t low (omega arith)) in
       let takes = long-size bucket.shortest stream.waiting long in
       let fits = bound t front (frame ∷ more) low high parts in

@@ -1,12 +1,12 @@
 -- The lines of a walk by the clock: each carries once in a round, and has the cells of the row that is taken.
-use Rattle.std.proofs.Common.{◌≡◌, ℕ, zero, suc, ◌+◌, ◌-◌, ◌<◌, ◌≤◌, min, nat_le, nat_lt, ◌&&◌, false, inl, inr, List, []}
-use Rattle.std.proofs.Common.{◌∷◌, ◌++◌, length, slice_get, slice_set, Some, None, refl, sym, ◌∙◌, ap, ap₂, subst}
-use Rattle.std.proofs.Common.{arith, append_assoc, length-append}
-use Rattle.std.proofs.lemmas.Bool.{cases_Bool, cases_lt, leb-false, lt-leb, lt-ltb, le-ltb}
-use Rattle.std.proofs.lemmas.List.{append-nil}
+use Rattle.std.proofs.Common.{◌≡◌, ℕ, zero, suc, ◌+◌, ◌-◌, ◌<◌, ◌≤◌, min, nat_le, nat_lt, ◌&&◌, false, inl, inr, List}
+use Rattle.std.proofs.Common.{[], ◌∷◌, ◌++◌, length, slice_get, slice_set, Some, None, refl, sym, ◌∙◌, ap, ap₂, subst}
+use Rattle.std.proofs.Common.{arith, append_assoc, length-append, leb-false, lt-ltb, le-ltb, append-nil}
+use Rattle.std.proofs.lemmas.Bool.{cases_Bool, cases_lt, lt-leb}
+use Rattle.law_model.proofs.ListLaws.{slice_get-append_seam}
+use Rattle.law_model.specs.Common.{LinePath, LineCounts, Plan, Counts, in_send, in_receive, full, carry_on, carry_at}
+use Rattle.law_model.specs.Common.{pop, popped_line, pop_lines, step, run, carries_from}
 use Rattle.law_model.specs.declared.walk_events.Event.TheVariants.{Carry, Back, Take}
-use Rattle.law_model.specs.session.Counts.{LinePath, LineCounts, Plan, Counts, in_send, in_receive, full, carry_on, carry_at}
-use Rattle.law_model.specs.session.Counts.{pop, popped_line, pop_lines, step, run, carries_from}
 use Rattle.law_loss.proofs.FilterLaws.{and_false}
 use Rattle.law_progress.specs.Progress.{IsSound, IsPlanOf, Each}
 
@@ -36,16 +36,6 @@ each-push P [] [] path line each new = (new, tt)
 each-push P [] (other ∷ lines) path line each new = absurd each
 each-push P (first ∷ paths) [] path line each new = absurd each
 each-push P (first ∷ paths) (other ∷ lines) path line each new = (each.0, each-push P paths lines path line each.1 new)
-
-path-seam : (front : List LinePath) (path : LinePath) (back : List LinePath) →
-    slice_get (front ++ path ∷ back) (length front) ≡ Some path
-path-seam [] path back = refl
-path-seam (first ∷ front) path back = path-seam front path back
-
-line-seam : (front : List LineCounts) (line : LineCounts) (back : List LineCounts) →
-    slice_get (front ++ line ∷ back) (length front) ≡ Some line
-line-seam [] line back = refl
-line-seam (first ∷ front) line back = line-seam front line back
 
 set-seam : (front : List LineCounts) (line new : LineCounts) (back : List LineCounts) →
     slice_set (front ++ line ∷ back) (length front) new ≡ front ++ new ∷ back
@@ -133,8 +123,9 @@ module _ (plan : Plan) (slow fast count : ℕ) (is : IsPlanOf slow fast 0 plan) 
       let (next, new, moved) = carry-one (length done) path line front back size waits.0 in
       let lines : List LineCounts = front ++ line ∷ back in
       let p : slice_get plan.paths (length done) ≡ Some path =
-      ap (λ paths. slice_get paths (length done)) parts ∙ path-seam done path todo in
-      let l : slice_get lines (length done) ≡ Some line = ap (slice_get lines) (sym size) ∙ line-seam front line back in
+      ap (λ paths. slice_get paths (length done)) parts ∙ slice_get-append_seam done path todo in
+      let l : slice_get lines (length done) ≡ Some line = ap (slice_get lines) (sym size)
+          ∙ slice_get-append_seam front line back in
       let here : (step plan (of_lines s lines) (Carry (length done))).counts ≡ of_lines s (front ++ next ∷ back) =
       ap₂ (λ p l. (carry_at plan (of_lines s lines) (length done) p l).counts) p l ∙ moved in
       let longer : length (done ++ path ∷ []) ≡ suc (length done) = omega (arith, length-append done (path ∷ [])) in

@@ -3,11 +3,12 @@ use Rattle.std.proofs.Common.{◌≡◌, ℕ, zero, suc, ◌+◌, ◌-◌, ◌*�
 use Rattle.std.proofs.Common.{inl, inr, List, [], ◌∷◌, ◌++◌, length, replicate, Option, Some, None, refl, sym}
 use Rattle.std.proofs.Common.{◌∙◌, ap, subst, arith}
 use Rattle.std.proofs.lemmas.Bool.{cases_Bool, cases_lt, le-leb, lt-leb, leb-true, eqb-true}
+use Rattle.law_model.specs.Common.{Due, frame_due, command_due, frame_dues, command_dues, LinePath, LineCounts, Plan}
+use Rattle.law_model.specs.Common.{Counts, in_return, in_inbox, is_missing, pop_lines, take_popped, is_back_full}
+use Rattle.law_model.specs.Common.{take_row, step, run, begin, carries_from, round, drain, bound}
 use Rattle.law_model.specs.declared.walk_events.Event.{Event}
-use Rattle.law_model.specs.declared.walk_events.Event.TheVariants.{Accept, Command, Tick, Back, Take}
-use Rattle.law_model.specs.session.Counts.{Due, frame_due, command_due, frame_dues, command_dues, LinePath, LineCounts, Plan}
-use Rattle.law_model.specs.session.Counts.{Counts, in_return, in_inbox, is_missing, back, pop_lines, take_popped, is_back_full}
-use Rattle.law_model.specs.session.Counts.{take_row, step, run, begin, carries_from, round, drain, bound}
+use Rattle.law_model.specs.declared.walk_events.Event.TheVariants.{Accept, Tick, Back, Take, Command}
+use Rattle.law_model.specs.session.Counts.{back}
 use Rattle.law_model.specs.session.Scenario.{packets_in}
 use Rattle.law_loss.proofs.FilterLaws.{and_false}
 use Rattle.law_progress.specs.Progress.{IsSound, Each, LineFits, Fits}

@@ -3,19 +3,15 @@ use Rattle.std.proofs.Common.{◌≡◌, ℕ, zero, suc, ◌+◌, ◌<◌, ◌�
 use Rattle.std.proofs.Common.{Some, inl, inr, refl, sym, ◌∙◌, subst, arith}
 use Rattle.std.proofs.lemmas.Bool.{cases_lt}
 use Rattle.std.proofs.lemmas.Option.{slice_get_within, same_Some}
+use Rattle.law_model.specs.Common.{slip_of, LinePath, Leg, path_of, greatest, least, least_or, Scenario, scenario_by}
+use Rattle.law_model.specs.Common.{IsSound, session_cells}
 use Rattle.law_model.specs.declared.window_types.Window.{Window}
-use Rattle.law_model.specs.members.Damage.{carried, slip_of}
-use Rattle.law_model.specs.session.Counts.{LinePath}
-use Rattle.law_model.specs.session.Leg.{Leg}
-use Rattle.law_model.specs.session.Plan.{path_of, greatest, least, least_or}
-use Rattle.law_model.specs.session.Scenario.{Scenario, scenario_by}
-use Rattle.law_model.specs.session.Valid.{IsSound}
-use Rattle.law_model.specs.source.Back.{session_cells}
+use Rattle.law_model.specs.members.Damage.{carried}
 use Rattle.law_progress.specs.Progress.{IsPath, AllPaths, IsSound as IsSoundPath, IsPlanOf}
-use Rattle.law_progress.proofs.LineLaws.{is_path}
+use Rattle.law_progress.proofs.LineLaws.{is_path, least-first}
 use Rattle.law_terminal.proofs.CellLaws.{is-line}
 use Rattle.law_terminal.proofs.SentLaws.{containers-size}
-use Rattle.law_walk.specs.Walk.{sent_on, walk_plan, CanWalk}
+use Rattle.law_walk.specs.Common.{sent_on, walk_plan, CanWalk}
 use Rattle.law_walk.proofs.PlanLaws.{has-lines, has-plan, has-paths, line-path, sound-walks}
 use Rattle.law_service.specs.Clock.{after_rounds, HasDelay, KeepsTime, HasNoSlip, LagsEnough}
 use Rattle.law_service.specs.Twins.{whole_walk}
@@ -26,10 +22,6 @@ at-most : (ns : List ℕ) (m d : ℕ) → m < length ns → slice_index_or ns m 
 at-most [] m d inside = absurd (omega (arith, inside))
 at-most (n ∷ ns) zero d inside = omega arith
 at-most (n ∷ ns) (suc m) d inside = let rest = at-most ns m d (omega (arith, inside)) in omega (arith, rest)
-
-least-first : (n : ℕ) (ns : List ℕ) → least_or n ns ≤ n
-least-first n [] = omega arith
-least-first n (m ∷ ns) = omega arith
 
 least-at : (n : ℕ) (ns : List ℕ) (m d : ℕ) → m < length (n ∷ ns) → least_or n ns ≤ slice_index_or (n ∷ ns) m d
 least-at n ns zero d inside = least-first n ns

@@ -1,12 +1,11 @@
 -- Where a search finds nothing in octets, a place that it finds with more octets behind them has fewer than four of the
 -- first ones from there on.
-use Rattle.std.proofs.Common.{◌≡◌, ℕ, zero, suc, ◌+◌, ◌-◌, ◌<◌, ◌≤◌, Bool, true, List, ◌++◌, length}
-use Rattle.std.proofs.Common.{drop, Option, Some, None, inl, inr, ap, arith, length-append, length-drop}
-use Rattle.std.specs.Prelude.{IfSome}
-use Rattle.std.proofs.lemmas.Bool.{le-leb, lt-leb, cases_lt}
-use Rattle.std.proofs.lemmas.List.{drop-append-le, take-append-le}
-use Rattle.law_model.specs.frames.Core.{head}
-use Rattle.law_model.specs.frames.Hunt.{Confirmed, header_with, header_at, confirm_by, confirm_with, hunt_by, hunt_within}
+use Rattle.std.proofs.Common.{◌≡◌, ℕ, zero, suc, ◌+◌, ◌-◌, ◌<◌, ◌≤◌, Bool, true, List, ◌++◌, length, drop, Option, Some}
+use Rattle.std.proofs.Common.{None, inl, inr, arith, length-append, length-drop, IfSome, le-leb}
+use Rattle.std.proofs.lemmas.Bool.{lt-leb, cases_lt}
+use Rattle.std.proofs.lemmas.List.{drop-append-le}
+use Rattle.law_loss.proofs.OutcomeGrowth.{header_at-longer}
+use Rattle.law_model.specs.Common.{head, Confirmed, header_at, confirm_by, confirm_with, hunt_by, hunt_within}
 
 -- ---- what is found comes no sooner than the search begins
 abbrev pub AtLeast : ℕ → Option Confirmed → Type 0
@@ -53,15 +52,6 @@ behind-low : (end p : ℕ) (found : Option Confirmed) → end < p + 4 → AtLeas
 behind-low end p None near at = tt
 behind-low end p (Some c) near at = omega (arith, near, at)
 
-header_at-more : (octets more : List ℕ) → 4 ≤ length octets → header_at (octets ++ more) ≡ header_at octets
-unfolding header_with
-header_at-more octets more long =
-    rw (
-      le-leb 4 (length octets) long,
-      le-leb 4 (length (octets ++ more)) (omega (arith, length-append octets more, long)),
-    )
-    (ap head (take-append-le 4 octets more long))
-
 module _ (more : List ℕ) (end : ℕ) where
   abbrev Agree : ℕ → (Bool → ℕ → List ℕ → Option Confirmed) → (Bool → ℕ → List ℕ → Option Confirmed) → Type 0
   Agree n f g = (r : Bool) (p : ℕ) (octets : List ℕ) → length octets < n → p + length octets ≡ end →
@@ -88,7 +78,7 @@ module _ (more : List ℕ) (end : ℕ) where
         rw (le-leb 4 (length octets) long) at none in
         rw (
           le-leb 4 (length (octets ++ more)) (omega (arith, length-append octets more, long)),
-          header_at-more octets more long,
+          header_at-longer octets more long,
         )
         (confirm_by-behind (header_at octets) n r p octets f g long within to agree here)
   ]
@@ -126,7 +116,7 @@ module _ (more : List ℕ) (end : ℕ) where
     | inl few ↦ behind-low end p (hunt_within head (suc m) r p (octets ++ more)) (omega (arith, few, to))
         (hunt_within-low (suc m) r p (octets ++ more))
     | inr long ↦
-        rw (header_at-more octets more long)
+        rw (header_at-longer octets more long)
         (hunt_by-behind (header_at octets) (length octets) r p octets (hunt_within head k) (hunt_within head m)
         (hunt_within-low m) long (omega arith) to
         (λ r p less fewer ends nothing. hunt_within-behind k m r p less (omega (arith, enough, fewer))

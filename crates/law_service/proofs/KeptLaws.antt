@@ -1,24 +1,20 @@
 -- More rows take nothing back of what became of frames.
 use Rattle.std.proofs.Common.{◌≡◌, ℕ, zero, suc, ◌+◌, ◌-◌, ◌<◌, ◌≤◌, Bool, true, false, List, [], ◌∷◌, ◌++◌, length}
 use Rattle.std.proofs.Common.{drop, Option, Some, None, slice_get, inl, inr, refl, sym, ◌∙◌, ap, ap₂, subst, arith}
-use Rattle.std.proofs.Common.{append_assoc, length-append, length-drop}
-use Rattle.std.specs.Prelude.{nat_le, ◌&&◌, ◌||◌, if◌then◌else◌, IfSome}
-use Rattle.std.specs.Option.{option_map}
-use Rattle.std.proofs.lemmas.Bool.{cases_Bool, cases_lt, le-leb, lt-leb, lt-ltb, le-ltb, leb-true}
-use Rattle.std.proofs.lemmas.List.{append-nil, drop-append-le}
+use Rattle.std.proofs.Common.{append_assoc, length-append, length-drop, nat_le, ◌&&◌, ◌||◌, if◌then◌else◌, IfSome}
+use Rattle.std.proofs.Common.{option_map, le-leb, lt-ltb, le-ltb, leb-true, append-nil}
+use Rattle.std.proofs.lemmas.Bool.{cases_Bool, cases_lt, lt-leb}
+use Rattle.std.proofs.lemmas.List.{drop-append-le}
 use Rattle.std.proofs.lemmas.List.Concat.{flat_map-append}
-use Rattle.law_model.specs.frames.Hunt.{Confirmed, hunt}
-use Rattle.law_model.specs.frames.Loss.{Extent, extents, is_carried, lies_in, confirmed_in}
-use Rattle.law_model.specs.frames.Piece.{Piece, idle, client, size_of}
-use Rattle.law_model.specs.frames.Segment.{StreamRow, Segment, segments, octets_of_rows}
+use Rattle.law_model.specs.Common.{Confirmed, hunt, Extent, extents, is_carried, lies_in, confirmed_in, Piece, idle}
+use Rattle.law_model.specs.Common.{client, size_of, StreamRow, Segment, segments, octets_of_rows}
 use Rattle.law_loss.proofs.StayLaws.{confirmed-stays}
+use Rattle.fate_engine.specs.Common.{row_from, row_at, spoiled_from, spoiled_after, fate_after, fate_in, fate_among}
+use Rattle.fate_engine.specs.Common.{fate_of, fate_if, fate_at}
 use Rattle.fate_engine.specs.declared.fate_law.Fate.{Fate}
 use Rattle.fate_engine.specs.declared.fate_law.Fate.TheVariants.{Waits, Cut, Unconfirmed, Hunting, Unsettled, Got}
-use Rattle.fate_engine.specs.fate_law.Fates.{row_from, row_at, spoiled_from, spoiled_after, fate_after}
-use Rattle.fate_engine.specs.fate_law.Fates.{fate_in, fate_among, fate_of}
-use Rattle.fate_engine.specs.fate_law.SessionFates.{fate_if, fate_at}
-use Rattle.fate_engine.proofs.FateLaws.RowLaws.{end_of, with_row, next_segment, tail, segments-tail, size-more, lies_among}
-use Rattle.fate_engine.proofs.FateLaws.RowLaws.{lies, tail-before, cut-row}
+use Rattle.fate_engine.proofs.FateLaws.RowLaws.{end_of, with_row, next_segment, tail, segments-tail, size-more}
+use Rattle.fate_engine.proofs.FateLaws.RowLaws.{lies_among, lies, tail-before, cut-row}
 use Rattle.law_service.specs.Kept.{Keeps}
 use Rattle.law_service.proofs.HuntLaws.{Behind, hunt_within-behind}
 

@@ -5,9 +5,9 @@ use Rattle.std.specs.Prelude.{if◌then◌else◌}
 use Rattle.std.specs.List.Sorted.{IsNonDecreasing}
 use Rattle.std.proofs.lemmas.Bool.{cases_Bool, cases_lt, lt-leb, lt-ltb, le-ltb}
 use Rattle.std.proofs.lemmas.Option.{slice_get_within, slice_get_cases, get_or_from_slice_get, same_Some}
-use Rattle.law_model.specs.declared.walk_events.Event.TheVariants.{Accept, Command}
-use Rattle.law_model.specs.session.Counts.{Due, frame_due, command_due, frame_dues, command_dues, Plan, Counts, land_due, held}
-use Rattle.law_model.specs.session.Counts.{accept, command, run}
+use Rattle.law_model.specs.declared.walk_events.Event.TheVariants.{Command, Accept}
+use Rattle.law_model.specs.Common.{Due, frame_due, command_due, frame_dues, command_dues, Plan, Counts, land_due, held}
+use Rattle.law_model.specs.Common.{accept, command, run}
 
 -- ---- how many have landed after some tries
 abbrev try_land : ℕ → ℕ → Option ℕ → ℕ

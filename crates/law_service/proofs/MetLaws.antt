@@ -6,20 +6,15 @@ use Rattle.std.proofs.lemmas.Bool.{cases_lt}
 use Rattle.std.proofs.lemmas.List.{length-replicate}
 use Rattle.std.proofs.lemmas.List.Elements.{All-nil, All-cons, All-replicate}
 use Rattle.std.proofs.lemmas.List.Sorted.{IsNonDecreasingBy-short, IsNonDecreasingBy-push}
+use Rattle.law_model.specs.Common.{idle, are_whole, slip_of, slip_after, frame_dues, command_dues, Scenario}
+use Rattle.law_model.specs.Common.{scenario_by, frames_at, IsWithin, HasFailures, IsItem, IsNetwork, IsSound}
+use Rattle.law_model.specs.Common.{said_before, cells_before, size, Stream, reaching, place_of, stream_before, width}
+use Rattle.law_model.specs.Common.{after, keep, none_kept, admit, turned, take_out, exchange}
 use Rattle.law_model.specs.declared.script_types.Item.{Item}
-use Rattle.law_model.specs.declared.script_types.ItemKind.TheVariants.{Frame, Add}
-use Rattle.law_model.specs.frames.Piece.{idle}
 use Rattle.law_model.specs.declared.window_types.Window.{Window}
-use Rattle.law_model.specs.members.Damage.{carried, are_whole, slip_of, slip_after}
-use Rattle.law_model.specs.session.Counts.{frame_dues, command_dues}
-use Rattle.law_model.specs.session.Scenario.{Scenario, scenario_by, frames_at}
-use Rattle.law_model.specs.session.Valid.{IsWithin, HasFailures, IsItem, IsNetwork, IsSound}
-use Rattle.law_model.specs.source.Back.{said_before, cells_before}
-use Rattle.law_model.specs.source.Client.{size, Stream, reaching, place_of, stream_before, width}
-use Rattle.law_model.specs.source.Source.{after}
-use Rattle.law_model.specs.source.Table.{keep, none_kept, admit, turned, take_out, exchange}
-use Rattle.law_walk.specs.Walk.{session_of}
-use Rattle.law_walk.specs.Worked.{item, plain, failing_leg}
+use Rattle.law_model.specs.declared.script_types.ItemKind.TheVariants.{Frame, Add}
+use Rattle.law_model.specs.members.Damage.{carried}
+use Rattle.law_walk.specs.Common.{session_of, item, plain, failing_leg}
 use Rattle.law_walk.proofs.MetLaws.{equal-rise, one_failure, no_failure, plain_network, failing-sound}
 use Rattle.law_service.specs.Bucket.{arrivals, arrivals_in, KeepsTo}
 use Rattle.law_service.specs.Clock.{HasNoSlip, timed_windows, timed_leg}

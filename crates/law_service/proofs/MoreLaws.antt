@@ -1,18 +1,11 @@
 -- More rows of a walk take nothing back.
 use Rattle.std.proofs.Common.{◌≡◌, ℕ, zero, suc, ◌+◌, ◌-◌, ◌≤◌, List, [], ◌∷◌, ◌++◌, Option, sym, ◌∙◌, ap, subst, arith}
-use Rattle.std.proofs.Common.{append_assoc}
-use Rattle.std.proofs.lemmas.List.{append-nil}
+use Rattle.std.proofs.Common.{append_assoc, append-nil}
+use Rattle.law_model.specs.Common.{StreamRow, rows_of, Counts, run, Leg, Scenario, scenario_by, Told}
 use Rattle.law_model.specs.declared.walk_events.Event.{Event}
-use Rattle.law_model.specs.frames.Segment.{StreamRow}
-use Rattle.law_model.specs.rows.SessionStream.{row_of, rows_of}
-use Rattle.law_model.specs.session.Counts.{Counts, run}
-use Rattle.law_model.specs.session.Leg.{Leg}
-use Rattle.law_model.specs.session.Scenario.{Scenario, scenario_by}
-use Rattle.law_model.specs.source.Table.{Told}
-use Rattle.law_walk.specs.Delivered.{session_rows}
-use Rattle.law_walk.specs.Promise.{session_pieces}
-use Rattle.law_walk.specs.Walk.{session_of, walk_plan}
-use Rattle.fate_engine.specs.fate_law.SessionFates.{fate_at}
+use Rattle.law_model.specs.rows.SessionStream.{row_of}
+use Rattle.law_walk.specs.Common.{session_rows, session_pieces, session_of, walk_plan}
+use Rattle.fate_engine.specs.Common.{fate_at}
 use Rattle.law_service.specs.Kept.{Keeps}
 use Rattle.law_service.proofs.KeptLaws.{number-keeps}
 use Rattle.law_service.proofs.TurnLaws.{run-rows}

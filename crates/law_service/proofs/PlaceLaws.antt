@@ -7,20 +7,14 @@ use Rattle.std.proofs.lemmas.Option.{none-some, slice_get-map, get_or_from_slice
 use Rattle.std.proofs.lemmas.List.{append_assoc, append-nil, map-append, length-map}
 use Rattle.std.proofs.lemmas.List.Elements.{All-nil, All-cons, All-append, filter_passes}
 use Rattle.std.proofs.lemmas.List.Sums.{sum_by-append, sum_by-cons}
+use Rattle.law_model.specs.Common.{Piece, idle, client, size_of, frame_ends, Extent, extents, Leg, DueFrame, Scenario}
+use Rattle.law_model.specs.Common.{scenario_by, comes_at, frames_at, IsSound, kept_by, size, Stream, frame_refusal}
+use Rattle.law_model.specs.Common.{offered_by, offered, next_by, reaching, place_of, stream_before, accepted_offers}
+use Rattle.law_model.specs.Common.{offers_before, Told}
 use Rattle.law_model.specs.declared.item_refusals.AcceptFault.{AcceptFault}
-use Rattle.law_model.specs.frames.Piece.{Piece, idle, client, size_of, frame_ends}
-use Rattle.law_model.specs.frames.Loss.{Extent, extents}
-use Rattle.law_model.specs.session.Leg.{Leg}
-use Rattle.law_model.specs.session.Scenario.{DueFrame, Scenario, scenario_by, comes_at, frames_at}
-use Rattle.law_model.specs.session.Valid.{IsSound}
-use Rattle.law_model.specs.source.Accepted.{kept_by}
-use Rattle.law_model.specs.source.Client.{size, Stream, frame_refusal, offered_by, offered, next_by, reaching, place_of}
-use Rattle.law_model.specs.source.Client.{stream_before}
-use Rattle.law_model.specs.source.Journal.{accepted_offers, offers_before}
-use Rattle.law_model.specs.source.Table.{Told}
 use Rattle.law_session.proofs.ClientLaws.{stream_before-reaches}
-use Rattle.law_walk.specs.Promise.{accepted_frames, session_extents, session_pieces, session_waiting, place_after}
-use Rattle.law_walk.specs.Walk.{session_of}
+use Rattle.law_walk.specs.Common.{accepted_frames, session_extents, session_pieces, session_waiting, place_after}
+use Rattle.law_walk.specs.Common.{session_of}
 use Rattle.law_walk.proofs.AcceptedLaws.{frames-accepted}
 use Rattle.law_service.specs.Place.{filled, Placed, placed_by, placed_offers, placed_before, placed_frames}
 

@@ -1,5 +1,5 @@
 -- Events that are tried again and again take all rows.
-use Rattle.std.proofs.Common.{◌≡◌, ℕ, zero, suc, ◌+◌, ◌*◌, ◌<◌, ◌≤◌, nat_le, nat_lt, ◌&&◌, ◌⊎◌, inl, inr, List, [], ◌∷◌}
+use Rattle.std.proofs.Common.{◌≡◌, ℕ, zero, suc, ◌+◌, ◌*◌, ◌<◌, ◌≤◌, nat_le, nat_lt, ◌&&◌, inl, inr, List, [], ◌∷◌}
 use Rattle.std.proofs.Common.{map, sum, ◌++◌, All, Contains, length, slice_get, Option, Some, None, refl, sym, ◌∙◌, ap}
 use Rattle.std.proofs.Common.{subst, arith}
 use Rattle.std.specs.List.{range_with_len}
@@ -7,38 +7,29 @@ use Rattle.std.proofs.lemmas.Bool.{cases_Bool, cases_lt}
 use Rattle.std.proofs.lemmas.List.{length-map}
 use Rattle.std.proofs.lemmas.List.Elements.{All-head, All-tail}
 use Rattle.std.proofs.lemmas.List.Sums.{sum_by-cons}
-use Rattle.member_cells.specs.declared.containers_and_cells.Container.{Container}
+use Rattle.law_model.proofs.ListLaws.{contains-parts}
+use Rattle.law_model.specs.Common.{Container, frame_dues, command_dues, LinePath, LineCounts, Plan, Counts, in_send}
+use Rattle.law_model.specs.Common.{in_receive, in_return, land_due, is_missing, tick_full, tick_held, held, full}
+use Rattle.law_model.specs.Common.{carry_at, pop_lines, take_popped, is_back_full, step, run, round, bound, due_of}
+use Rattle.law_model.specs.Common.{dues_of, sum_delays, Leg, paths_of, scenario_by, IsSound}
 use Rattle.law_model.specs.declared.script_types.Item.{Item}
 use Rattle.law_model.specs.declared.walk_events.Event.{Event}
-use Rattle.law_model.specs.declared.walk_events.Event.TheVariants.{Accept, Command, Tick, Carry, Back, Take}
+use Rattle.law_model.specs.declared.walk_events.Event.TheVariants.{Accept, Tick, Carry, Back, Take, Command}
 use Rattle.law_model.specs.declared.window_types.Window.{Window}
-use Rattle.law_model.specs.session.Counts.{frame_dues, command_dues, LinePath, LineCounts, Plan, Counts, in_send}
-use Rattle.law_model.specs.session.Counts.{in_receive, in_return, land_due, is_missing, tick_full, tick_held, held}
-use Rattle.law_model.specs.session.Counts.{full, carry_at, pop_lines, take_popped, is_back_full, step, run, round}
-use Rattle.law_model.specs.session.Counts.{bound, due_of, dues_of, sum_delays}
-use Rattle.law_model.specs.session.Leg.{Leg}
-use Rattle.law_model.specs.session.Plan.{paths_of}
-use Rattle.law_model.specs.session.Scenario.{packets_in, scenario_by}
-use Rattle.law_model.specs.session.Valid.{IsSound}
+use Rattle.law_model.specs.session.Scenario.{packets_in}
 use Rattle.law_progress.specs.Progress.{IsPlanOf, IsPlan, Fits, made, IsReached}
 use Rattle.law_progress.proofs.StepLaws.{Kept, NotLanded, accept-kept, command-kept, back-kept, TickWhy, tick-kept}
 use Rattle.law_progress.proofs.StepLaws.{NoCarry, carry-kept}
 use Rattle.law_progress.proofs.TakeLaws.{TakeWhy, take-kept}
 use Rattle.law_progress.proofs.MoveLaws.{Either, run-fits, bounded, round-rises, some_moves, reached-fits}
 use Rattle.law_progress.proofs.ReachLaws.{run-append}
-use Rattle.law_walk.specs.Walk.{IsWalked, sent_on, walk_plan}
+use Rattle.law_walk.specs.Common.{IsWalked, sent_on, walk_plan}
 use Rattle.law_walk.proofs.PlanLaws.{has-paths, has-plan, sound-walks}
 use Rattle.law_service.specs.Turns.{TriesEach, in_turn, walked_plan, backwards}
 
 -- ---- an event changes nothing, or adds to the counts and keeps their bounds
 either : (plan : Plan) (s next : Counts) (Why : Type 0) → Kept plan s Why next → Either plan s next
 either plan s next Why kept = elim kept [ inl same ↦ inl same.0 | inr more ↦ inr more ]
-
--- an event is the first of a list, or one of the others
-contains-parts : (first : Event) (events : List Event) (event : Event) → Contains (first ∷ events) event →
-    (first ≡ event) ⊎ Contains events event
-contains-parts first events event (zero, inside, is) = inl is
-contains-parts first events event (suc k, inside, is) = inr (k, omega arith, is)
 
 -- ---- rows are never given back
 abbrev NoFewer : Counts → Counts → Type 0

@@ -1,29 +1,19 @@
 -- What is written of a leg depends on neither delays nor rings.
-use Rattle.std.proofs.Common.{◌≡◌, ℕ, suc, List, [], ◌∷◌, ◌++◌, refl, sym, ◌∙◌, ap, Option, Some, None}
-use Rattle.std.specs.List.{flat_map}
+use Rattle.std.proofs.Common.{◌≡◌, ℕ, suc, List, [], ◌∷◌, ◌++◌, refl, sym, ◌∙◌, ap, Option, Some, None, flat_map}
+use Rattle.law_model.specs.Common.{Counts, begin, Leg, scenario_by, IsSound}
 use Rattle.law_model.specs.declared.script_types.ItemKind.{ItemKind}
-use Rattle.law_model.specs.declared.script_types.ItemKind.TheVariants.{Frame, Add, Remove}
-use Rattle.law_model.specs.session.Counts.{Counts, begin}
-use Rattle.law_model.specs.session.Leg.{Leg}
-use Rattle.law_model.specs.session.Scenario.{scenario_by}
-use Rattle.law_model.specs.session.Valid.{IsSound}
 use Rattle.law_model.specs.declared.item_refusals.Refusal.{Refusal}
-use Rattle.law_walk.specs.Delivered.{session_rows}
-use Rattle.law_walk.specs.Landed.{Numbered, landed_items, refusal_at}
-use Rattle.law_walk.specs.Promise.{numbered, session_pieces}
-use Rattle.law_walk.specs.Report.{report_of}
-use Rattle.law_walk.specs.Walk.{session_of, walk_plan}
+use Rattle.law_model.specs.declared.script_types.ItemKind.TheVariants.{Frame, Add, Remove}
+use Rattle.law_walk.specs.Common.{session_rows, Numbered, landed_items, refusal_at, numbered, session_pieces, report_of}
+use Rattle.law_walk.specs.Common.{session_of, walk_plan}
 use Rattle.law_walk.proofs.EndLaws.{drained-ticks, drained-landed, drained-report}
 use Rattle.law_walk.proofs.PlanLaws.{sound-walks}
 use Rattle.law_walk.proofs.PromiseLaws.{drain-ends}
 use Rattle.law_walk.proofs.WalkLaws.{begins-walked}
+use Rattle.fate_engine.specs.Common.{spoiled_text, segment_text, ended_text, fates_end, fates_text, are_true_marks}
+use Rattle.fate_engine.specs.Common.{refused, accepted, Ended, ended_by, fate_at, ended_then, ended_on, ended_among}
+use Rattle.fate_engine.specs.Common.{later_segments, spoiled_of}
 use Rattle.fate_engine.specs.declared.fate_law.Fate.{Fate}
-use Rattle.fate_engine.specs.fate_law.FateText.{spoiled_text, segment_text, ended_text, fates_end, fates_text}
-use Rattle.fate_engine.specs.fate_law.Marks.{are_true_marks}
-use Rattle.fate_engine.specs.fate_law.SessionFates.{refused, accepted, Ended, ended_by, fate_at, ended_then, ended_on}
-use Rattle.fate_engine.specs.fate_law.SessionFates.{ended_among}
-use Rattle.fate_engine.specs.fate_law.Spans.{later_segments}
-use Rattle.fate_engine.specs.fate_law.Spoiled.{spoiled_of}
 use Rattle.law_service.specs.Twins.{with_delays, whole_walk}
 
 pub twin-report : (leg : Leg) (delays : List ℕ) (ring : ℕ) → IsSound leg → IsSound (with_delays leg delays ring) →
@@ -67,7 +57,7 @@ then-same fate item (Some why) (Add line) i one other same = same i
 then-same fate item None (Remove line) i one other same = same i
 then-same fate item (Some why) (Remove line) i one other same = same i
 
-ended-same : (leg : Leg) (delays : List ℕ) (ring : ℕ) (fate : ℕ → Fate) (items : List Numbered) (i : ℕ) →
+pub ended-same : (leg : Leg) (delays : List ℕ) (ring : ℕ) (fate : ℕ → Fate) (items : List Numbered) (i : ℕ) →
     ended_on (with_delays leg delays ring) fate items i ≡ ended_on leg fate items i
 unfolding ended_on
 ended-same leg delays ring fate [] i = refl

@@ -1,16 +1,9 @@
 -- A client that keeps to a bucket, while some members at least carry payload.
 use Rattle.std.specs.Prelude.{◌≡◌, ℕ, zero, suc, ◌+◌, ◌*◌, ◌<◌, ◌≤◌, List, [], fold, map, length, slice_get, All}
 use Rattle.std.specs.Prelude.{Option, Some}
-use Rattle.law_model.specs.frames.Loss.{Extent}
-use Rattle.law_model.specs.frames.Piece.{client}
-use Rattle.law_model.specs.Limits.{shortest_frame, longest_frame, most_waiting}
-use Rattle.law_model.specs.session.Leg.{Leg}
-use Rattle.law_model.specs.session.Scenario.{Scenario, scenario_by, frames_at}
-use Rattle.law_model.specs.session.Valid.{IsWithin}
-use Rattle.law_model.specs.source.Client.{size, Stream, offered, stream_before, width}
-use Rattle.law_model.specs.source.Table.{Told}
-use Rattle.law_walk.specs.Promise.{session_extents, place_after}
-use Rattle.law_walk.specs.Walk.{session_of}
+use Rattle.law_model.specs.Common.{Extent, client, shortest_frame, longest_frame, most_waiting, Leg, Scenario}
+use Rattle.law_model.specs.Common.{scenario_by, frames_at, IsWithin, size, Stream, offered, stream_before, width, Told}
+use Rattle.law_walk.specs.Common.{session_extents, place_after, session_of}
 
 -- the octets on the stream of the frames that land before frame t is made, and not sooner
 abbrev pub arrivals : Scenario → ℕ → ℕ

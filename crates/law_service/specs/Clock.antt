@@ -1,13 +1,11 @@
 -- A walk by the clock: each round makes one tick and takes one row.
 use Rattle.std.specs.Prelude.{◌≡◌, ℕ, zero, suc, ◌+◌, ◌*◌, ◌≤◌, List, [], ◌∷◌, map, slice_get, All, Some}
+use Rattle.law_model.specs.Common.{slip_of, frame_due, command_due, LinePath, Plan, Counts, run, begin, round, Leg}
+use Rattle.law_model.specs.Common.{greatest}
 use Rattle.law_model.specs.declared.window_types.Window.{Window}
-use Rattle.law_model.specs.members.Damage.{slip_of}
-use Rattle.law_model.specs.session.Counts.{frame_due, command_due, LinePath, Plan, Counts, run, begin, round}
-use Rattle.law_model.specs.session.Leg.{Leg}
-use Rattle.law_model.specs.session.Plan.{greatest}
 use Rattle.law_progress.specs.Progress.{IsPlanOf}
 use Rattle.law_progress.specs.Worked.{fine}
-use Rattle.law_walk.specs.Worked.{plain, failing_items}
+use Rattle.law_walk.specs.Common.{plain, failing_items}
 use Rattle.law_service.specs.Twins.{with_delays}
 
 -- the counts after some rounds from the start

@@ -1,12 +1,10 @@
 -- What became of frames by some rows, and by more of them.
 use Rattle.std.specs.Prelude.{ℕ, ◌≡◌, ◌⊎◌, List, [], ◌∷◌, ◌++◌, map, take, drop, true}
-use Rattle.law_model.specs.frames.Loss.{extents}
-use Rattle.law_model.specs.frames.Piece.{stream_of}
-use Rattle.law_model.specs.frames.Segment.{StreamRow}
+use Rattle.law_model.specs.Common.{extents, stream_of, StreamRow}
 use Rattle.law_loss.specs.Worked.{worked_pieces, worked_rows}
+use Rattle.fate_engine.specs.Common.{fate_of}
 use Rattle.fate_engine.specs.declared.fate_law.Fate.{Fate}
 use Rattle.fate_engine.specs.declared.fate_law.Fate.TheVariants.{Waits, Cut, Unconfirmed, Hunting, Unsettled, Got}
-use Rattle.fate_engine.specs.fate_law.Fates.{fate_of}
 
 -- a fate is the same by more rows, with the same rows of its frame; but a frame that waits may come to any, and one
 -- in whose segment nothing was confirmed may begin before the place that is confirmed there by now

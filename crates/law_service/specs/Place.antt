@@ -1,12 +1,8 @@
 -- Where the frames of a client end on the stream, told as they land.
 use Rattle.std.specs.Prelude.{ℕ, zero, suc, ◌+◌, List, [], ◌∷◌, ◌++◌, map, filter, Option}
-use Rattle.law_model.specs.frames.Piece.{client, size_of}
-use Rattle.law_model.specs.session.Leg.{Leg}
-use Rattle.law_model.specs.session.Scenario.{DueFrame, Scenario, scenario_by, comes_at}
-use Rattle.law_model.specs.source.Accepted.{kept_by}
-use Rattle.law_model.specs.source.Client.{size, Stream, frame_refusal, offered, stream_before}
-use Rattle.law_model.specs.source.Table.{Told}
-use Rattle.law_walk.specs.Walk.{session_of}
+use Rattle.law_model.specs.Common.{client, size_of, Leg, DueFrame, Scenario, scenario_by, comes_at, kept_by, size}
+use Rattle.law_model.specs.Common.{Stream, frame_refusal, offered, stream_before, Told}
+use Rattle.law_walk.specs.Common.{session_of}
 
 -- the place at which a stream ends once the frames that wait are begun, with no idle among them
 abbrev pub filled : Stream → ℕ

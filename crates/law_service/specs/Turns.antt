@@ -1,9 +1,8 @@
 -- Events that are tried again and again.
-use Rattle.std.specs.Prelude.{ℕ, List, [], ◌∷◌, Contains, replicate}
-use Rattle.std.specs.List.{flat_map}
+use Rattle.std.specs.Prelude.{ℕ, List, [], ◌∷◌, Contains, replicate, flat_map}
+use Rattle.law_model.specs.Common.{Plan, Counts, run, begin}
 use Rattle.law_model.specs.declared.walk_events.Event.{Event}
-use Rattle.law_model.specs.declared.walk_events.Event.TheVariants.{Accept, Command, Tick, Carry, Back, Take}
-use Rattle.law_model.specs.session.Counts.{Plan, Counts, run, begin}
+use Rattle.law_model.specs.declared.walk_events.Event.TheVariants.{Accept, Tick, Carry, Back, Take, Command}
 use Rattle.law_progress.specs.Progress.{HasLine}
 use Rattle.law_progress.specs.Worked.{one_line, two_items}
 

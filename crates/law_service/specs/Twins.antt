@@ -1,9 +1,7 @@
 -- Legs that differ in the delays of their lines and in the room of their rings alone.
 use Rattle.std.specs.Prelude.{ℕ, List}
-use Rattle.law_model.specs.session.Counts.{Counts, begin}
-use Rattle.law_model.specs.session.Leg.{Leg}
-use Rattle.law_walk.specs.Promise.{drained}
-use Rattle.law_walk.specs.Walk.{walk_plan}
+use Rattle.law_model.specs.Common.{Counts, begin, Leg}
+use Rattle.law_walk.specs.Common.{drained, walk_plan}
 
 -- a leg with other delays, and with rings of other room
 abbrev pub with_delays : Leg → List ℕ → ℕ → Leg

@@ -1,12 +1,9 @@
 -- Worked legs of the service that a client gets.
 use Rattle.std.specs.Prelude.{ℕ, List, [], ◌∷◌, map, replicate}
+use Rattle.law_model.specs.Common.{Leg, scenario_by}
 use Rattle.law_model.specs.declared.script_types.Item.{Item}
 use Rattle.law_model.specs.declared.script_types.ItemKind.TheVariants.{Frame, Add}
-use Rattle.law_model.specs.session.Leg.{Leg}
-use Rattle.law_model.specs.session.Scenario.{scenario_by}
-use Rattle.law_walk.specs.Promise.{place_after}
-use Rattle.law_walk.specs.Walk.{session_of}
-use Rattle.law_walk.specs.Worked.{item, plain}
+use Rattle.law_walk.specs.Common.{place_after, session_of, item, plain}
 use Rattle.law_service.specs.Bucket.{Bucket, stream_at}
 use Rattle.law_service.specs.Place.{filled, Placed, placed_frames}
 

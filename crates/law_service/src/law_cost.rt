@@ -5,24 +5,18 @@
 
 ghost use Rattle.std.specs.Prelude.{◌≡◌, ◌↔◌, ℕ, ◌+◌, ◌-◌, ◌*◌, ◌/◌, ◌%◌, ◌<◌, ◌≤◌, min, true, false, Some, slice_get};
 ghost use Rattle.std.specs.Prelude.{[], ◌∷◌};
-ghost use Rattle.law_model.specs.session.Leg.{Leg};
-ghost use Rattle.law_model.specs.session.Valid.{IsSound};
+ghost use Rattle.law_model.specs.Common.{Leg, IsSound, scenario_by, is_read, member_of, table_of, is_whole_row};
+ghost use Rattle.law_model.specs.declared.window_types.Window.{Window};
 ghost use Rattle.law_model.specs.declared.lcas_states.Standing.TheVariants.{Add, Norm};
-ghost use Rattle.law_model.specs.session.Scenario.{scenario_by, is_read};
-ghost use Rattle.law_model.specs.source.Table.{member_of};
-ghost use Rattle.law_model.specs.source.Source.{table_of};
-ghost use Rattle.law_model.specs.rows.SessionRows.{is_whole_row};
 ghost use Rattle.law_session.specs.Feedback.{lines_of};
 ghost use Rattle.law_session.specs.Use.{IsInUse};
-ghost use Rattle.law_walk.specs.Walk.{session_of};
-ghost use Rattle.law_model.specs.declared.window_types.Window.{Window};
+ghost use Rattle.law_walk.specs.Common.{session_of, whole_rows};
 ghost use Rattle.law_service.specs.law_cost.Cost.{windows_of, StaysClear, FailsBy, FailsOnce, IsSpared, IsSparedFor, cost_end};
 ghost use Rattle.law_service.specs.law_cost.Cost.{FailTogether, first_hit, governing_table, table_at, HasSq, Spoils, IsSpoiled};
 ghost use Rattle.law_service.specs.law_cost.Cost.{spoiled_rows};
 ghost use Rattle.law_service.specs.law_cost.Closed.{WereUsed, IsHit};
 ghost use Rattle.law_service.specs.law_cost.Settled.{IsSettled, MakesNoChange};
 ghost use Rattle.law_service.specs.law_cost.Worked.{costly_leg, used_in_rows};
-ghost use Rattle.law_walk.specs.Worked.{whole_rows};
 
 /// Which rows failures cost, if each line fails once at most and one line doesn't fail: however long a line
 /// is down, none but the 256 rows and the lag from its begin on; and if it is down shortly, none beyond 39

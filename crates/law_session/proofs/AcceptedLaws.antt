@@ -1,7 +1,7 @@
 -- What is refused leaves the state as it is, so that what was accepted is accepted again by itself.
 use Rattle.std.proofs.Common.{◌≡◌, true, Bool, List, [], ◌∷◌, fold, Option, Some, None, refl, sym, ◌∙◌, ap}
 use Rattle.std.specs.Bool.{⊤}
-use Rattle.law_model.specs.source.Accepted.{kept_by, accepted_of}
+use Rattle.law_model.specs.Common.{kept_by, accepted_of}
 
 -- what is refused changes nothing
 abbrev pub LeavesRefused : {S X W : Type 0} → (X → S → Option W) → (S → X → S) → Type 0

@@ -1,17 +1,15 @@
 -- How soon a line that was added is in use.
 use Rattle.std.proofs.Common.{◌≡◌, ℕ, suc, ◌+◌, ◌-◌, ◌%◌, ◌<◌, ◌≤◌, Bool, true, false, if◌then◌else◌, inl, List, []}
-use Rattle.std.proofs.Common.{◌∷◌, ◌++◌, length, Option, Some, None, slice_get, slice_index_or, refl, ◌∙◌, ap, arith}
+use Rattle.std.proofs.Common.{◌∷◌, length, Option, Some, None, slice_index_or, refl, ◌∙◌, ap, arith}
 use Rattle.std.proofs.lemmas.Option.{none-some, same_Some}
+use Rattle.law_model.proofs.ListLaws.{slice_get-append_seam}
+use Rattle.law_model.specs.Common.{Scenario, member_of, Table, Told, carried_out, Source, change_by, change, cell_at}
+use Rattle.law_model.specs.Common.{source_at, told_at, first_of, table_of, return_packet, cells_before}
 use Rattle.law_model.specs.declared.lcas_states.Command.{Command}
 use Rattle.law_model.specs.declared.lcas_states.Command.TheVariants.{Add as add}
-use Rattle.law_model.specs.session.Scenario.{Scenario}
 use Rattle.law_model.specs.declared.lcas_states.Standing.TheVariants.{Add as adding}
-use Rattle.law_model.specs.declared.lcas_states.Member.{Member}
-use Rattle.law_model.specs.source.Table.{member_of, Table, Told, carried_out}
-use Rattle.law_model.specs.source.Source.{Source, change_by, change, cell_at, source_at, told_at, first_of, carried}
-use Rattle.law_model.specs.source.Source.{table_of}
+use Rattle.law_model.specs.source.Source.{carried}
 use Rattle.law_session.specs.Use.{IsAdded, IsUsedBefore, AddsAlone, AllCome, AllRead}
-use Rattle.law_model.specs.source.Back.{return_packet, cells_before}
 use Rattle.law_session.specs.Feedback.{table_before}
 use Rattle.law_session.proofs.TableLaws.{heard-count}
 use Rattle.law_session.proofs.SessionLaws.{session-cell, session-law}
@@ -59,10 +57,6 @@ cell-comes scenario n first count k lag whole come from near =
     session-cell scenario n k lag (omega arith) ∙ (rw lost refl)
 
 -- ---- an ADD line that was just added
-pub seam : (order : List Member) (member : Member) → slice_get (order ++ member ∷ []) (length order) ≡ Some member
-seam [] member = refl
-seam (first ∷ order) member = seam order member
-
 pub Waits-added : (scenario : Scenario) (cells : List (Option Told)) (good : ℕ → Bool) (first line : ℕ) →
     0 < scenario.lag → carried scenario cells first ≡ Some (add line) →
     Waits scenario cells good first (length (told_at scenario cells first).order) line (suc first)
@@ -73,7 +67,7 @@ Waits-added scenario cells good first line lag e =
     table_of-carried scenario cells first (add line) e in
     record {
       count = refl;
-      here = rw after (seam table.order (member_of line adding));
+      here = rw after (slice_get-append_seam table.order (member_of line adding) []);
       adds = λ s l low h. h;
       fine = λ s l low h. inl (rw after (none_kept-at s));
       tells = λ s l k low h from near group. absurd (omega arith);

@@ -2,21 +2,12 @@
 -- cells, and what the packets tell.
 use Rattle.std.proofs.Common.{◌≡◌, ◌≤◌, ◌<◌, ℕ, zero, suc, ◌+◌, ◌-◌, ◌*◌, ◌/◌, ◌%◌, nat_lt, true, false, if◌then◌else◌}
 use Rattle.std.proofs.Common.{List, [], ◌∷◌, map, fold, length, take, drop, slice_index, replicate, Option, refl, ◌∙◌}
-use Rattle.std.proofs.Common.{ap, arith}
+use Rattle.std.proofs.Common.{ap, arith, ltb-false}
 use Rattle.std.specs.List.{range_with_len}
-use Rattle.std.proofs.lemmas.Bool.{ltb-false}
-use Rattle.member_cells.specs.declared.containers_and_cells.Container.{Container}
-use Rattle.law_model.specs.session.Scenario.{Scenario, orders_at, frames_at, steps_in}
-use Rattle.law_model.specs.packets.Packet.{packet_nibbles}
-use Rattle.law_model.specs.frames.Piece.{stream_of}
-use Rattle.law_model.specs.source.Table.{Told, active}
-use Rattle.law_model.specs.source.Source.{asked_all, decide, cell_at, after, table_of}
-use Rattle.law_model.specs.packets.Forward.{forward_packet}
-use Rattle.law_model.specs.packets.Telling.{telling, telling_at, sent_packet}
-use Rattle.law_model.specs.source.Client.{Stream, offered, width, stream_before, place_of}
-use Rattle.law_model.specs.frames.Payload.{payload_of}
-use Rattle.law_model.specs.rows.Sent.{active_at, payload_on, nibble_at, container_of, frame_of}
-use Rattle.law_model.specs.source.Journal.{replayed}
+use Rattle.law_model.specs.Common.{Container, Scenario, orders_at, frames_at, steps_in, packet_nibbles, stream_of, Told}
+use Rattle.law_model.specs.Common.{active, asked_all, decide, cell_at, after, table_of, forward_packet, telling}
+use Rattle.law_model.specs.Common.{telling_at, sent_packet, Stream, offered, width, stream_before, place_of, payload_of}
+use Rattle.law_model.specs.Common.{active_at, payload_on, nibble_at, container_of, frame_of, replayed}
 use Rattle.law_session.proofs.JournalLaws.{after-replayed, stream-replayed}
 use Rattle.law_session.proofs.ClientLaws.{SameTables, width-same, place_of-same, stream_before-same}
 

@@ -7,17 +7,13 @@ use Rattle.std.proofs.lemmas.Grind.{flat_map-append}
 use Rattle.std.proofs.lemmas.List.{append_assoc, append-nil, map-append, length-drop, length-take-le}
 use Rattle.std.proofs.lemmas.List.Sums.{sum-map}
 use Rattle.std.proofs.lemmas.Bool.{ltb-false}
+use Rattle.law_model.specs.Common.{DueFrame, Scenario, comes_at, frames_at, Told, active, after, table_of, Piece, idle}
+use Rattle.law_model.specs.Common.{client, size_of, stream_of, payload_of, kept_by, size, Stream, frame_refusal}
+use Rattle.law_model.specs.Common.{offered_by, next_by, reaching, reached, offered, width, place_of, stream_before}
+use Rattle.law_model.specs.Common.{frames_in, IsFewest, accepted_offers, offers_before, frames_before}
 use Rattle.law_model.specs.declared.item_refusals.AcceptFault.{AcceptFault}
-use Rattle.law_model.specs.session.Scenario.{DueFrame, Scenario, comes_at, frames_at}
-use Rattle.law_model.specs.source.Table.{Told, active}
-use Rattle.law_model.specs.source.Source.{after, table_of}
-use Rattle.law_model.specs.frames.Piece.{Piece, idle, client, size_of, stream_of}
-use Rattle.law_model.specs.frames.Payload.{payload_of}
 use Rattle.law_model.proofs.StreamLaws.{length-stream_of}
-use Rattle.law_model.specs.source.Accepted.{kept_by}
-use Rattle.law_model.specs.source.Client.{size, Stream, frame_refusal, offered_by, next_by, reaching, reached, offered}
-use Rattle.law_model.specs.source.Client.{width, place_of, stream_before, frame_in, frames_in, IsFewest}
-use Rattle.law_model.specs.source.Journal.{accepted_offers, offers_before, frames_before}
+use Rattle.law_model.specs.source.Client.{frame_in}
 use Rattle.law_model.proofs.ReachLaws.{reaching-reaches, reached-fewest}
 use Rattle.law_session.proofs.SessionLaws.{Agree, Agree-sooner, after-agree}
 
@@ -162,7 +158,7 @@ offered_all-pieces [] stream = refl
 offered_all-pieces (frame ∷ frames) stream = offered_all-pieces frames (offered stream frame)
     ∙ offered-pieces (frame_refusal frame stream) frame stream
 
-stream_before-next : (scenario : Scenario) (cells : List (Option Told)) (t : ℕ) →
+pub stream_before-next : (scenario : Scenario) (cells : List (Option Told)) (t : ℕ) →
     stream_before scenario cells (suc t) ≡ reached (place_of scenario cells (suc t))
     (fold offered (stream_before scenario cells t) (frames_at scenario t))
 unfolding stream_before

@@ -3,11 +3,11 @@ use Rattle.std.proofs.Common.{◌≡◌, ◌↔◌, ℕ, zero, suc, ◌+◌, ◌
 use Rattle.std.proofs.Common.{◌∷◌, length, slice_index_or, refl, sym, subst, arith}
 use Rattle.std.specs.List.{list_any}
 use Rattle.std.proofs.lemmas.Bool.{leb-true, le-leb, and_parts, and_from}
+use Rattle.law_model.specs.Common.{is_whole, are_whole, lock_of, is_good, is_readable, Scenario, is_read, is_heard}
 use Rattle.law_model.specs.declared.window_types.Window.{Window}
 use Rattle.law_model.specs.declared.window_types.Carried.{Carried}
 use Rattle.law_model.specs.declared.window_types.Carried.TheVariants.{Whole, Fails, Vanishes}
-use Rattle.law_model.specs.members.Damage.{carried, is_whole, are_whole, lock_of, is_good, is_readable}
-use Rattle.law_model.specs.session.Scenario.{Scenario, is_read, is_heard}
+use Rattle.law_model.specs.members.Damage.{carried}
 use Rattle.law_line.proofs.GoodLaws.{are_whole-each, each-are_whole}
 use Rattle.law_session.specs.Session.{AreWhole}
 

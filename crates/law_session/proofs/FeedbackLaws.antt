@@ -2,15 +2,12 @@
 -- has.
 use Rattle.std.proofs.Common.{◌≡◌, ◌↔◌, ℕ, zero, suc, ◌+◌, ◌-◌, ◌%◌, ◌<◌, ◌≤◌, ◌==◌, nat_le, true, false, if◌then◌else◌}
 use Rattle.std.proofs.Common.{List, [], ◌∷◌, length, Option, Some, None, slice_index_or, refl, sym, ◌∙◌, ap, subst}
-use Rattle.std.proofs.Common.{arith}
+use Rattle.std.proofs.Common.{arith, leb-true, eqb-true}
 use Rattle.std.proofs.lemmas.Option.{none-some}
-use Rattle.std.proofs.lemmas.Bool.{leb-true, eqb-true}
+use Rattle.law_model.specs.Common.{Scenario, orders_at, is_heard, Table, Told, Source, asked, asked_by, asked_all}
+use Rattle.law_model.specs.Common.{refusal, after, cell_at, table_of, said_before, said, return_packet}
 use Rattle.law_model.specs.declared.lcas_states.Command.{Command}
-use Rattle.law_model.specs.session.Scenario.{Scenario, orders_at, is_heard}
 use Rattle.law_model.specs.declared.item_refusals.CommandFault.{CommandFault}
-use Rattle.law_model.specs.source.Table.{Table, Told}
-use Rattle.law_model.specs.source.Source.{Source, asked, asked_by, asked_all, refusal, after, cell_at, table_of}
-use Rattle.law_model.specs.source.Back.{said_before, said, return_packet}
 use Rattle.law_session.specs.Feedback.{lines_of, table_before}
 use Rattle.law_session.proofs.TableLaws.{Goes, Goes-decide, confirmed, confirmed_by}
 

@@ -2,12 +2,10 @@
 use Rattle.std.proofs.Common.{◌≡◌, ℕ, zero, suc, ◌-◌, ◌%◌, ◌<◌, ◌≤◌, List, ◌++◌, map, filter, fold, length, Option}
 use Rattle.std.proofs.Common.{refl, sym, ◌∙◌, ap, arith}
 use Rattle.std.proofs.lemmas.List.Folds.{fold-map}
-use Rattle.law_model.specs.session.Scenario.{DueCommand, DueFrame, Scenario, steps_in, orders_at, lands_at, comes_at}
-use Rattle.law_model.specs.source.Table.{Told}
-use Rattle.law_model.specs.source.Source.{Source, refusal, asked, asked_by, asked_all, decide, cell_at, after}
-use Rattle.law_model.specs.source.Client.{Stream, frame_refusal, offered, offered_by, stream_before}
-use Rattle.law_model.specs.source.Journal.{accepted_orders, accepted_offers, orders_before, offers_before, with_items}
-use Rattle.law_model.specs.source.Journal.{replayed}
+use Rattle.law_model.specs.Common.{DueCommand, DueFrame, Scenario, steps_in, orders_at, lands_at, comes_at, Told}
+use Rattle.law_model.specs.Common.{Source, refusal, asked, asked_by, asked_all, decide, cell_at, after, Stream}
+use Rattle.law_model.specs.Common.{frame_refusal, offered, offered_by, stream_before, accepted_orders, accepted_offers}
+use Rattle.law_model.specs.Common.{orders_before, offers_before, with_items, replayed}
 use Rattle.law_session.proofs.AcceptedLaws.{LeavesRefused, fold-accepted_of, accepted_of-again, Passes-accepted_of}
 use Rattle.law_session.proofs.LandingLaws.{Passes-filter, Grows, filter-there, lands_apart, comes_apart}
 use Rattle.law_session.proofs.ClientLaws.{stream_before-same}

@@ -2,16 +2,14 @@
 -- SQ.
 use Rattle.std.proofs.Common.{◌≡◌, ℕ, zero, suc, ◌+◌, ◌-◌, ◌/◌, ◌%◌, ◌<◌, ◌≤◌, ◌==◌, Bool, true, false, if◌then◌else◌}
 use Rattle.std.proofs.Common.{List, length, slice_index_or, [], ◌∷◌, Option, Some, None, slice_get, refl, sym, ◌∙◌, ap}
-use Rattle.std.proofs.Common.{subst, arith}
+use Rattle.std.proofs.Common.{subst, arith, eqb-true}
 use Rattle.std.proofs.lemmas.Option.{same_Some}
-use Rattle.std.proofs.lemmas.Bool.{eqb-true}
+use Rattle.law_model.specs.Common.{Scenario, is_lost, kept_of, keep, Table, Told, acknowledged_by, heard, told_on}
+use Rattle.law_model.specs.Common.{exchange, exchanged, Source, change_by, change, after, cell_at, source_at, told_at}
+use Rattle.law_model.specs.Common.{said, status, return_packet}
 use Rattle.law_model.specs.declared.lcas_states.Command.{Command}
-use Rattle.law_model.specs.declared.lcas_states.Command.TheVariants.{Add as add, Remove as remove}
-use Rattle.law_model.specs.session.Scenario.{Scenario, is_lost}
 use Rattle.law_model.specs.declared.lcas_states.Member.{Member}
-use Rattle.law_model.specs.source.Table.{kept_of, keep, Table, Told, acknowledged_by, heard, told_on, exchange, exchanged}
-use Rattle.law_model.specs.source.Source.{Source, change_by, change, after, cell_at, source_at, told_at}
-use Rattle.law_model.specs.source.Back.{said, status, return_packet}
+use Rattle.law_model.specs.declared.lcas_states.Command.TheVariants.{Add as add, Remove as remove}
 use Rattle.law_session.specs.Feedback.{WasSaid, table_before}
 use Rattle.law_session.proofs.TableLaws.{heard-count}
 use Rattle.law_session.proofs.FeedbackLaws.{IsSession, known, says_count, cell-taken, same_lines_since}

@@ -1,13 +1,13 @@
 -- Lists that grow by what lands at each step.
 use Rattle.std.proofs.Common.{◌≡◌, ◌≤◌, ◌<◌, ℕ, zero, suc, true, false, if◌then◌else◌, Bool, inl, inr, List, [], ◌∷◌}
-use Rattle.std.proofs.Common.{◌++◌, filter, refl, sym, ◌∙◌, ap, arith}
+use Rattle.std.proofs.Common.{◌++◌, filter, refl, sym, ◌∙◌, ap, arith, append-nil}
 use Rattle.std.specs.Bool.{⊤}
 use Rattle.std.specs.List.Sorted.{IsNonDecreasingBy}
 use Rattle.std.proofs.lemmas.Bool.{cases_lt, cases_Bool}
 use Rattle.std.proofs.lemmas.Bool.Decides.{nat_tests}
 use Rattle.std.proofs.lemmas.List.Elements.{filter-append}
-use Rattle.std.proofs.lemmas.List.{append-nil}
-use Rattle.law_model.specs.session.Scenario.{DueCommand, DueFrame, lands_at, comes_at}
+use Rattle.law_model.proofs.ListLaws.{rest-sorted}
+use Rattle.law_model.specs.Common.{DueCommand, DueFrame, lands_at, comes_at}
 use Rattle.law_session.specs.Landing.{landed, AreOrdersInOrder, AreOffersInOrder, is_landed, is_come}
 use Rattle.law_session.proofs.AcceptedLaws.{Passes}
 
@@ -68,14 +68,10 @@ abbrev pub IsFrom : {X : Type 0} → (X → ℕ) → ℕ → List X → Type 0
 IsFrom due from [] = ⊤
 IsFrom due from (x ∷ xs) = (from ≤ due x) × IsFrom due (due x) xs
 
-IsFrom-rest : {X : Type 0} (due : X → ℕ) (x : X) (xs : List X) → IsNonDecreasingBy due (x ∷ xs) →
-    IsNonDecreasingBy due xs
-IsFrom-rest due x xs sorted i j d low high = sorted (suc i) (suc j) d (omega arith) (omega arith)
-
 IsFrom-first : {X : Type 0} (due : X → ℕ) (x : X) (xs : List X) → IsNonDecreasingBy due (x ∷ xs) → IsFrom due (due x) xs
 IsFrom-first due x [] sorted = tt
 IsFrom-first due x (y ∷ xs) sorted =
-    (sorted zero (suc zero) x (omega arith) (omega arith), IsFrom-first due y xs (IsFrom-rest due x (y ∷ xs) sorted))
+    (sorted zero (suc zero) x (omega arith) (omega arith), IsFrom-first due y xs (rest-sorted due x (y ∷ xs) sorted))
 
 IsFrom-start : {X : Type 0} (due : X → ℕ) (xs : List X) → IsNonDecreasingBy due xs → IsFrom due zero xs
 IsFrom-start due [] sorted = tt

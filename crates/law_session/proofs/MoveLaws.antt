@@ -6,16 +6,15 @@ use Rattle.std.proofs.lemmas.Option.{slice_get_within}
 use Rattle.std.proofs.Math.Nat.{eq-or-lt_of_le}
 use Rattle.std.proofs.lemmas.List.{length-map, length-append}
 use Rattle.std.proofs.lemmas.Bool.{eqb-true, eqb-false}
+use Rattle.law_model.specs.Common.{Scenario, is_read, kept_of, member_of, Table, Told, is_ok, is_fail, admit, told_on}
+use Rattle.law_model.specs.Common.{carried_out, exchange, exchanged, Source, change_by, change, source_at, told_at}
+use Rattle.law_model.specs.Common.{first_of, table_of, cells_before}
 use Rattle.law_model.specs.declared.lcas_states.Command.{Command}
-use Rattle.law_model.specs.declared.lcas_states.Command.TheVariants.{Add as add}
-use Rattle.law_model.specs.session.Scenario.{Scenario, is_read}
-use Rattle.law_model.specs.declared.lcas_states.Standing.TheVariants.{Add as adding}
 use Rattle.law_model.specs.declared.lcas_states.Member.{Member}
-use Rattle.law_model.specs.source.Table.{kept_of, member_of, Table, Told, is_ok, is_fail, admit, told_on, carried_out}
-use Rattle.law_model.specs.source.Table.{exchange, exchanged}
-use Rattle.law_model.specs.source.Source.{Source, change_by, change, source_at, told_at, first_of, carried, table_of}
+use Rattle.law_model.specs.declared.lcas_states.Command.TheVariants.{Add as add}
+use Rattle.law_model.specs.declared.lcas_states.Standing.TheVariants.{Add as adding}
+use Rattle.law_model.specs.source.Source.{carried}
 use Rattle.law_session.specs.Use.{IsInUse, IsUsedBefore, AddsAlone, AllCome, AllRead, NoneRead}
-use Rattle.law_model.specs.source.Back.{cells_before}
 use Rattle.law_session.specs.Feedback.{lines_of, table_before}
 use Rattle.law_session.proofs.TableLaws.{told_on-lines}
 use Rattle.law_session.proofs.SessionLaws.{session-law}

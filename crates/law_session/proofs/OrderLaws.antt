@@ -5,11 +5,12 @@ use Rattle.std.proofs.Common.{arith}
 use Rattle.std.specs.Bool.{⊤}
 use Rattle.std.proofs.lemmas.Option.{none-some, same_Some}
 use Rattle.std.proofs.lemmas.Bool.{and_parts}
+use Rattle.law_model.specs.Common.{member_of, is_adding, is_ok, is_fail, in_use, admit, turn, turned, take_out}
+use Rattle.law_model.specs.Common.{exchange}
 use Rattle.law_model.specs.declared.lcas_states.Standing.{Standing}
-use Rattle.law_model.specs.declared.lcas_states.Standing.TheVariants.{Add as adding, Norm as normal, Dnu as unused}
 use Rattle.law_model.specs.declared.lcas_states.Member.{Member}
-use Rattle.law_model.specs.source.Table.{member_of, is_add, is_adding, is_ok, is_fail, in_use, admit, turn, turned}
-use Rattle.law_model.specs.source.Table.{take_out, exchange}
+use Rattle.law_model.specs.declared.lcas_states.Standing.TheVariants.{Add as adding, Norm as normal, Dnu as unused}
+use Rattle.law_model.specs.source.Table.{is_add}
 
 -- ---- the members of an order
 abbrev pub Has : List Member → ℕ → ℕ → Standing → Type 0

@@ -6,20 +6,20 @@ use Rattle.std.specs.Bool.{⊤}
 use Rattle.std.proofs.lemmas.Bool.{cases_lt, leb-false, eqb-true, eq-eqb, eqb-false}
 use Rattle.std.proofs.lemmas.List.{length-append, length-replicate, map-append, length-map, length-set, get_or-set_same}
 use Rattle.std.proofs.lemmas.List.{get_or-set_other}
+use Rattle.law_model.proofs.ListLaws.{replicate-at}
+use Rattle.law_model.specs.Common.{Scenario, orders_at, kept_of, member_of, Table, Told, is_adding, is_ok, is_fail}
+use Rattle.law_model.specs.Common.{heard, told_on, changed, carried_out, take_out, exchange, exchanged, Source}
+use Rattle.law_model.specs.Common.{planned_of, accepted, line_of, refusal, asked, asked_by, asked_all, change_by}
+use Rattle.law_model.specs.Common.{change, decide, cell_at, after}
 use Rattle.law_model.specs.declared.lcas_states.Command.{Command}
-use Rattle.law_model.specs.declared.lcas_states.Command.TheVariants.{Add as add, Remove as remove}
-use Rattle.law_model.specs.session.Scenario.{Scenario, orders_at}
 use Rattle.law_model.specs.declared.item_refusals.CommandFault.{CommandFault}
 use Rattle.law_model.specs.declared.item_refusals.CommandFault.TheVariants.{UnknownLine, AlreadyIn, NotIn, TooManyPending}
-use Rattle.law_model.specs.declared.lcas_states.Standing.TheVariants.{Add as adding}
 use Rattle.law_model.specs.declared.lcas_states.Member.{Member}
-use Rattle.law_model.specs.source.Table.{kept_of, member_of, Table, Told, is_adding, is_ok, is_fail, heard, told_on}
-use Rattle.law_model.specs.source.Table.{changed, carried_out, take_out, exchange, exchanged}
-use Rattle.law_model.specs.source.Source.{Source, planned_of, accepted, opening, line_of, is_add, refusal, asked, asked_by}
-use Rattle.law_model.specs.source.Source.{asked_all, change_by, change, decide, cell_at, after}
+use Rattle.law_model.specs.declared.lcas_states.Command.TheVariants.{Add as add, Remove as remove}
+use Rattle.law_model.specs.declared.lcas_states.Standing.TheVariants.{Add as adding}
+use Rattle.law_model.specs.source.Source.{opening, is_add}
 use Rattle.law_session.specs.Feedback.{lines_of}
 use Rattle.law_session.proofs.TableLaws.{told_on-lines, heard-order}
-use Rattle.law_session.proofs.StatusLaws.{replicate-at}
 use Rattle.law_session.proofs.OrderLaws.{exchange_on}
 
 -- how often a number stands in a list
@@ -176,7 +176,7 @@ IsPlan-same lines f g (remove line ∷ commands) planned same plan = (
       (with_line-same line 0 f g same) plan.2,
 )
 
-flag_most : (b : Bool) → (if b then 1 else 0) ≤ 1
+pub flag_most : (b : Bool) → (if b then 1 else 0) ≤ 1
 flag_most true = omega arith
 flag_most false = omega arith
 
@@ -247,7 +247,7 @@ refusal_by lines unknown adds planned full =
     else if full then Some (TooManyPending 64)
     else None
 
-some_refusal : (fault : CommandFault) → Some fault ≡ None → ⊥
+pub some_refusal : (fault : CommandFault) → Some fault ≡ None → ⊥
 some_refusal fault e = cc
 
 meets_flags : (lines : ℕ) (unknown adds planned full : Bool) → refusal_by lines unknown adds planned full ≡ None →

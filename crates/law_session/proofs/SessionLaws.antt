@@ -7,10 +7,8 @@ use Rattle.std.proofs.lemmas.Bool.{cases_lt, leb-true}
 use Rattle.std.proofs.lemmas.List.{get_or_append_left, get_or_at, get_or_past, get_or-take, take_at, length-append}
 use Rattle.std.proofs.lemmas.List.{append_assoc, append-nil}
 use Rattle.std.proofs.lemmas.Option.{none-some, same_Some}
-use Rattle.law_model.specs.session.Scenario.{Scenario, orders_at, is_heard, is_lost}
-use Rattle.law_model.specs.source.Table.{Told}
-use Rattle.law_model.specs.source.Source.{asked_all, decide, after, cell_at, table_of}
-use Rattle.law_model.specs.source.Back.{said_before, status_by, return_packet, return_cell, cells_before}
+use Rattle.law_model.specs.Common.{Scenario, orders_at, is_heard, is_lost, Told, asked_all, decide, after, cell_at}
+use Rattle.law_model.specs.Common.{table_of, said_before, status_by, return_packet, return_cell, cells_before}
 use Rattle.law_session.proofs.FeedbackLaws.{IsSession}
 
 -- ---- steps that take the same cells

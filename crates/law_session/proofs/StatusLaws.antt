@@ -1,23 +1,18 @@
 -- The statuses that are kept, as a list by SQ: there are always 128 of them.
 use Rattle.std.proofs.Common.{◌≡◌, ℕ, zero, suc, ◌+◌, ◌-◌, ◌/◌, ◌%◌, ◌<◌, ◌==◌, Bool, true, false, if◌then◌else◌, List}
-use Rattle.std.proofs.Common.{[], ◌∷◌, length, replicate, Option, Some, None, slice_get, slice_index_or, refl, sym, ◌∙◌}
+use Rattle.std.proofs.Common.{[], ◌∷◌, length, Option, Some, None, slice_get, slice_index_or, refl, sym, ◌∙◌}
 use Rattle.std.proofs.Common.{ap, subst, arith}
 use Rattle.std.proofs.lemmas.Option.{none-some}
 use Rattle.std.proofs.lemmas.List.{length-replicate}
+use Rattle.law_model.proofs.ListLaws.{replicate-at}
+use Rattle.law_model.specs.Common.{Scenario, orders_at, Table, Told, kept_of, is_for, keep, none_kept, acknowledged_by}
+use Rattle.law_model.specs.Common.{heard, told_on, exchange, exchanged, Source, change_by, change, asked_all, cell_at}
+use Rattle.law_model.specs.Common.{after}
 use Rattle.law_model.specs.declared.lcas_states.Command.{Command}
-use Rattle.law_model.specs.declared.lcas_states.Command.TheVariants.{Add as add, Remove as remove}
-use Rattle.law_model.specs.session.Scenario.{Scenario, orders_at}
 use Rattle.law_model.specs.declared.lcas_states.Member.{Member}
-use Rattle.law_model.specs.source.Table.{Table, Told, kept_of, is_for, keep, none_kept, acknowledged_by, heard, told_on}
-use Rattle.law_model.specs.source.Table.{exchange, exchanged}
-use Rattle.law_model.specs.source.Source.{Source, change_by, change, asked_all, cell_at, after}
+use Rattle.law_model.specs.declared.lcas_states.Command.TheVariants.{Add as add, Remove as remove}
 use Rattle.law_session.specs.Feedback.{table_before}
 use Rattle.law_session.proofs.FeedbackLaws.{asked_all-table}
-
-pub replicate-at : {X : Type 0} (n : ℕ) (x : X) (k : ℕ) → slice_index_or (replicate n x) k x ≡ x
-replicate-at zero x k = refl
-replicate-at (suc n) x zero = refl
-replicate-at (suc n) x (suc k) = replicate-at n x k
 
 pub none_kept-at : (sq : ℕ) → slice_index_or none_kept sq None ≡ None
 unfolding none_kept

@@ -1,12 +1,12 @@
 -- What a decision step does to the count of changes and to the lines of the order.
 use Rattle.std.proofs.Common.{◌≡◌, ℕ, ◌+◌, ◌-◌, ◌≤◌, not, Bool, true, false, if◌then◌else◌, List, [], ◌∷◌, Option, Some}
 use Rattle.std.proofs.Common.{None, refl, ◌∙◌, ap, subst, arith}
+use Rattle.law_model.specs.Common.{kept_of, Table, Told, is_adding, is_ok, in_use, is_for, acknowledged_by, heard}
+use Rattle.law_model.specs.Common.{admit, turned, told_on, changed, exchange, exchanged, Source, change_by, change}
+use Rattle.law_model.specs.Common.{decide}
 use Rattle.law_model.specs.declared.lcas_states.Command.{Command}
-use Rattle.law_model.specs.declared.lcas_states.Command.TheVariants.{Add as add, Remove as remove}
 use Rattle.law_model.specs.declared.lcas_states.Member.{Member}
-use Rattle.law_model.specs.source.Table.{kept_of, Table, Told, is_adding, is_ok, in_use, is_for, acknowledged_by, heard}
-use Rattle.law_model.specs.source.Table.{admit, turned, told_on, changed, exchange, exchanged}
-use Rattle.law_model.specs.source.Source.{Source, change_by, change, decide}
+use Rattle.law_model.specs.declared.lcas_states.Command.TheVariants.{Add as add, Remove as remove}
 use Rattle.law_session.specs.Feedback.{lines_of}
 
 -- the count of the last change that is acknowledged

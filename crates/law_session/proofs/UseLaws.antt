@@ -4,16 +4,15 @@ use Rattle.std.proofs.Common.{if◌then◌else◌, inl, inr, List, [], ◌∷◌
 use Rattle.std.proofs.Common.{slice_index_or, option_map, refl, sym, ◌∙◌, ap, subst, arith}
 use Rattle.std.proofs.lemmas.Bool.{cases_lt, eqb-true, eq-eqb, eqb-false, le-leb}
 use Rattle.std.proofs.lemmas.Option.{none-some, slice_get-map}
+use Rattle.law_model.specs.Common.{Scenario, orders_at, is_read, is_heard, kept_of, member_of, Table, Told, is_ok}
+use Rattle.law_model.specs.Common.{is_fail, is_for, acknowledged_by, heard, admit, told_on, changed, exchange}
+use Rattle.law_model.specs.Common.{exchanged, Source, change_by, change, after, cell_at, source_at, told_at, first_of}
+use Rattle.law_model.specs.Common.{table_of, said_before, said, status_by, status, return_packet}
 use Rattle.law_model.specs.declared.lcas_states.Command.{Command}
-use Rattle.law_model.specs.session.Scenario.{Scenario, orders_at, is_read, is_heard}
-use Rattle.law_model.specs.declared.lcas_states.Standing.TheVariants.{Add as adding, Norm as normal}
 use Rattle.law_model.specs.declared.lcas_states.Member.{Member}
-use Rattle.law_model.specs.source.Table.{kept_of, member_of, Table, Told, is_ok, is_fail, is_for, acknowledged_by, heard}
-use Rattle.law_model.specs.source.Table.{admit, told_on, changed, exchange, exchanged}
-use Rattle.law_model.specs.source.Source.{Source, change_by, change, after, cell_at, source_at, told_at, first_of, carried}
-use Rattle.law_model.specs.source.Source.{table_of}
+use Rattle.law_model.specs.declared.lcas_states.Standing.TheVariants.{Add as adding, Norm as normal}
+use Rattle.law_model.specs.source.Source.{carried}
 use Rattle.law_session.specs.Use.{IsInUse, IsUsedBefore}
-use Rattle.law_model.specs.source.Back.{said_before, said, status_by, status, return_packet}
 use Rattle.law_session.specs.Feedback.{lines_of, table_before}
 use Rattle.law_session.proofs.FeedbackLaws.{IsSession, asked_all-table, rises, stays, said-count, known, says_count}
 use Rattle.law_session.proofs.FeedbackLaws.{cell-taken}
@@ -294,7 +293,7 @@ pub not_fail : (ok : Bool) (kept : Option Bool) → MaySay ok kept → ok ≡ tr
 not_fail ok kept (inl none) good = rw none refl
 not_fail ok kept (inr says) good = rw (says, good) refl
 
-told_on-adding : (table : Table) (sq line : ℕ) → Has (told_on table).order sq line adding →
+pub told_on-adding : (table : Table) (sq line : ℕ) → Has (told_on table).order sq line adding →
     Has table.order sq line adding
 told_on-adding table sq line has =
     admit-adding (kept_of table) 0 table.order sq line
@@ -432,9 +431,6 @@ step-on scenario cells good first sq line i fair right waits near none =
       | inr used ↦ using (used_at scenario cells sq line i none used)
     ]
 
-no_order : (order : List Member) → None ≡ Some order → ⊥
-no_order order e = cc
-
 -- none are exchanged where each ADD line up to the line is good
 abbrev pub AllGood : Scenario → List (Option Told) → (ℕ → Bool) → ℕ → ℕ → Type 0
 AllGood scenario cells good first sq = (s l : ℕ) → s ≤ sq → Has (table_of scenario cells first).order s l adding →
@@ -448,7 +444,7 @@ no_exchange scenario cells good first sq line i table after all waits moves =
     (λ s l low h. let e : 0 + s ≡ s = omega arith in
     rw e (not_fail (good l) ((kept_of table) s) (waits.fine s l low h) (all s l low (waits.adds s l low h)))) waits.here
     in
-    no_order moves.order (sym none ∙ moves.found)
+    none-some moves.order (sym none ∙ moves.found)
 
 -- the last step: each status is known
 pub known-last : (scenario : Scenario) (cells : List (Option Told)) (good : ℕ → Bool) (first sq line i s l : ℕ) →

@@ -1,20 +1,19 @@
 -- How soon an added line is in use, in a whole session.
 use Rattle.std.proofs.Common.{◌≡◌, ℕ, zero, suc, ◌+◌, ◌*◌, ◌<◌, ◌≤◌, inl, inr, List, [], ◌∷◌, length, Option, Some}
-use Rattle.std.proofs.Common.{None, slice_get, option_map, ◌∙◌, ap, arith}
+use Rattle.std.proofs.Common.{None, slice_get, option_map, ◌∙◌, ap, arith, length-append}
 use Rattle.std.proofs.lemmas.Bool.{cases_lt}
 use Rattle.std.proofs.lemmas.Option.{slice_get_within, none-some, slice_get-map}
-use Rattle.std.proofs.lemmas.List.{length-append}
+use Rattle.law_model.proofs.ListLaws.{slice_get-append_seam}
 use Rattle.law_model.specs.declared.lcas_states.Command.TheVariants.{Add as add}
-use Rattle.law_model.specs.session.Scenario.{Scenario, packets}
+use Rattle.law_model.specs.Common.{Scenario, packets, member_of, Told, carried_out, after, told_at, table_of}
+use Rattle.law_model.specs.Common.{session_cells}
 use Rattle.law_model.specs.declared.lcas_states.Standing.TheVariants.{Add as adding}
-use Rattle.law_model.specs.source.Table.{member_of, Told, carried_out}
-use Rattle.law_model.specs.source.Source.{after, told_at, carried, table_of}
-use Rattle.law_model.specs.source.Back.{session_cells}
+use Rattle.law_model.specs.source.Source.{carried}
 use Rattle.law_session.specs.Feedback.{lines_of}
 use Rattle.law_session.specs.Use.{IsUsedBy, AddsUndamaged, AddsAmongSilent}
 use Rattle.law_session.proofs.OrderLaws.{Has}
 use Rattle.law_session.proofs.PlanLaws.{one, times, one-self, Fits-after, order-length}
-use Rattle.law_session.proofs.AddLaws.{table_of-carried, seam, added}
+use Rattle.law_session.proofs.AddLaws.{table_of-carried, added}
 use Rattle.law_session.proofs.MoveLaws.{brought}
 
 times-some : (xs : List ℕ) (s x : ℕ) → slice_get xs s ≡ Some x → 1 ≤ times xs x
@@ -57,7 +56,7 @@ is_added : (scenario : Scenario) (cells : List (Option Told)) (first line : ℕ)
 is_added scenario cells first line e =
     let after : table_of scenario cells first ≡ carried_out (add line) (told_at scenario cells first) =
     table_of-carried scenario cells first (add line) e in
-    rw after (seam (told_at scenario cells first).order (member_of line adding))
+    rw after (slice_get-append_seam (told_at scenario cells first).order (member_of line adding) [])
 
 pub undamaged : (scenario : Scenario) (first line : ℕ) → AddsUndamaged scenario first line →
     IsUsedBy scenario line first (first + 15 + scenario.lag)

@@ -1,10 +1,7 @@
 -- G.7042, what the source may conclude from a return packet.
 use Rattle.std.specs.Prelude.{◌≡◌, ℕ, ◌+◌, ◌%◌, ◌<◌, ◌≤◌, Bool, false, List, map, Option, Some, None, slice_index_or}
-use Rattle.law_model.specs.session.Scenario.{Scenario, is_lost}
+use Rattle.law_model.specs.Common.{Scenario, is_lost, Table, Told, after, table_of, said, status, return_packet}
 use Rattle.law_model.specs.declared.lcas_states.Member.{Member}
-use Rattle.law_model.specs.source.Table.{Table, Told}
-use Rattle.law_model.specs.source.Source.{after, table_of}
-use Rattle.law_model.specs.source.Back.{said, status, return_packet}
 
 -- the lines of an order, by SQ
 abbrev pub lines_of : List Member → List ℕ

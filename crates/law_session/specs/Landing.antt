@@ -1,7 +1,7 @@
 -- What lands step by step.
 use Rattle.std.specs.Prelude.{ℕ, zero, suc, ◌+◌, ◌*◌, nat_le, nat_lt, Bool, List, [], ◌++◌, filter}
 use Rattle.std.specs.List.Sorted.{IsNonDecreasingBy}
-use Rattle.law_model.specs.session.Scenario.{DueCommand, DueFrame}
+use Rattle.law_model.specs.Common.{DueCommand, DueFrame}
 
 -- what lands in steps 0 to n - 1, each in the step that its test names
 unfoldable pub landed : {X : Type 0} → (ℕ → X → Bool) → List X → ℕ → List X

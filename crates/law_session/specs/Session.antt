@@ -1,10 +1,8 @@
 -- What is said of the return cells of a session, and of the containers of a line.
 use Rattle.std.specs.Prelude.{◌≡◌, ℕ, ◌<◌, ◌≤◌, List, take, Option, None, slice_index_or}
+use Rattle.law_model.specs.Common.{Scenario, Told, return_cell, cells_before}
 use Rattle.law_model.specs.declared.window_types.Carried.{Carried}
 use Rattle.law_model.specs.declared.window_types.Carried.TheVariants.{Whole}
-use Rattle.law_model.specs.session.Scenario.{Scenario}
-use Rattle.law_model.specs.source.Table.{Told}
-use Rattle.law_model.specs.source.Back.{return_cell, cells_before}
 
 -- of the first n return cells, cell k is the one that the tables say which these cells lead to
 abbrev pub IsReturned : Scenario → ℕ → ℕ → Type 0

@@ -1,12 +1,10 @@
 -- G.7042: when a line that was added carries payload.
 use Rattle.std.specs.Prelude.{◌≡◌, ℕ, ◌+◌, ◌*◌, ◌<◌, ◌≤◌, true, false, List, Option, Some, length, slice_get}
+use Rattle.law_model.specs.Common.{Scenario, is_read, is_lost, member_of, Table, Told, table_of, session_cells}
 use Rattle.law_model.specs.declared.lcas_states.Command.{Command}
 use Rattle.law_model.specs.declared.lcas_states.Command.TheVariants.{Add as add}
-use Rattle.law_model.specs.session.Scenario.{Scenario, is_read, is_lost}
 use Rattle.law_model.specs.declared.lcas_states.Standing.TheVariants.{Norm as normal, Add as adding}
-use Rattle.law_model.specs.source.Table.{member_of, Table, Told}
-use Rattle.law_model.specs.source.Source.{carried, table_of}
-use Rattle.law_model.specs.source.Back.{session_cells}
+use Rattle.law_model.specs.source.Source.{carried}
 
 -- a line is in NORM
 abbrev pub IsInUse : Table → ℕ → Type 0

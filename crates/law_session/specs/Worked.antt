@@ -1,15 +1,11 @@
 -- Worked sessions, computed.
 use Rattle.std.specs.Prelude.{ℕ, ◌%◌, List, [], ◌∷◌, map, Option, Some, None}
+use Rattle.law_model.specs.Common.{DueCommand, Scenario, member_of, table_of, session_cells, vc4_size}
 use Rattle.law_model.specs.declared.window_types.Window.{Window}
 use Rattle.law_model.specs.declared.lcas_states.Command.{Command}
-use Rattle.law_model.specs.declared.lcas_states.Command.TheVariants.{Add as add, Remove as remove}
-use Rattle.law_model.specs.session.Scenario.{DueCommand, Scenario}
-use Rattle.law_model.specs.declared.lcas_states.Standing.TheVariants.{Add as adding, Norm as normal, Dnu as unused}
 use Rattle.law_model.specs.declared.lcas_states.Member.{Member}
-use Rattle.law_model.specs.source.Table.{member_of}
-use Rattle.law_model.specs.source.Source.{table_of}
-use Rattle.law_model.specs.source.Back.{session_cells}
-use Rattle.law_model.specs.Limits.{vc4_size}
+use Rattle.law_model.specs.declared.lcas_states.Command.TheVariants.{Add as add, Remove as remove}
+use Rattle.law_model.specs.declared.lcas_states.Standing.TheVariants.{Add as adding, Norm as normal, Dnu as unused}
 
 abbrev pub order : ℕ → Command → DueCommand
 order due command = record { due = due; command = command }

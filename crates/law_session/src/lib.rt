@@ -6,16 +6,11 @@
 
 ghost use Rattle.std.specs.Prelude.{◌≡◌, ◌↔◌, ◌<◌, ◌≤◌, ◌++◌, ◌+◌, ◌-◌, ◌*◌, ◌/◌, ℕ, Bool, true, List, Option, Some};
 ghost use Rattle.std.specs.Prelude.{take, filter, suc, length};
+ghost use Rattle.law_model.specs.Common.{is_good, is_readable, Scenario, DueCommand, DueFrame, steps_in, is_read};
+ghost use Rattle.law_model.specs.Common.{is_heard, lands_at, comes_at, kept_of, Told, after, table_of, told_at};
+ghost use Rattle.law_model.specs.Common.{cells_before, size, width, place_of, stream_before, frames_in, IsFewest};
+ghost use Rattle.law_model.specs.Common.{payload_of, orders_before, offers_before, frames_before, replayed};
 ghost use Rattle.law_model.specs.declared.window_types.Carried.{Carried};
-ghost use Rattle.law_model.specs.members.Damage.{is_good, is_readable};
-ghost use Rattle.law_model.specs.session.Scenario.{Scenario, DueCommand, DueFrame, steps_in, is_read, is_heard, lands_at};
-ghost use Rattle.law_model.specs.session.Scenario.{comes_at};
-ghost use Rattle.law_model.specs.source.Table.{kept_of, Told};
-ghost use Rattle.law_model.specs.source.Source.{after, table_of, told_at};
-ghost use Rattle.law_model.specs.source.Back.{cells_before};
-ghost use Rattle.law_model.specs.source.Client.{size, width, place_of, stream_before, frames_in, IsFewest};
-ghost use Rattle.law_model.specs.frames.Payload.{payload_of};
-ghost use Rattle.law_model.specs.source.Journal.{orders_before, offers_before, frames_before, replayed};
 ghost use Rattle.law_session.specs.Session.{IsReturned, AgreeBefore, AreWhole};
 ghost use Rattle.law_session.specs.Feedback.{Takes, Acknowledges, TellsOf, SameLines, WasSaid};
 ghost use Rattle.law_session.specs.Use.{IsUsedBy, AddsUndamaged, AddsAmongSilent};

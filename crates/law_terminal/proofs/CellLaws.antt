@@ -1,33 +1,23 @@
 -- What has come of the lines of a session: their containers where those are good, and their packets where those can be
 -- read.
-use Rattle.std.specs.Prelude.{IsSome}
-use Rattle.std.proofs.Common.{◌≡◌, ℕ, suc, ◌+◌, ◌-◌, ◌*◌, ◌/◌, ◌<◌, ◌≤◌, min, Bool, true, false, if◌then◌else◌, inl}
-use Rattle.std.proofs.Common.{inr, List, [], ◌∷◌, ◌++◌, map, length, slice_get, slice_index_or, Option, Some, None}
+use Rattle.std.proofs.Common.{IsSome, ◌≡◌, ℕ, suc, ◌+◌, ◌-◌, ◌*◌, ◌/◌, ◌<◌, ◌≤◌, min, Bool, true, false, if◌then◌else◌}
+use Rattle.std.proofs.Common.{inl, inr, List, [], ◌∷◌, ◌++◌, map, length, slice_get, slice_index_or, Option, Some, None}
 use Rattle.std.proofs.Common.{refl, sym, ◌∙◌, ap, ap₂, subst, arith}
 use Rattle.std.specs.List.{range_with_len}
 use Rattle.std.specs.Result.{result_ok}
 use Rattle.std.proofs.lemmas.Bool.{cases_lt}
 use Rattle.std.proofs.lemmas.List.FromFn.{take-map-range_with_len}
 use Rattle.std.proofs.lemmas.Option.{slice_get_within}
-use Rattle.member_cells.specs.declared.containers_and_cells.Container.{Container}
-use Rattle.member_cells.specs.declared.containers_and_cells.Cell.{Cell}
+use Rattle.law_model.specs.Common.{Container, Cell, is_good, path, end_of, cells, verdict, IsLine, sent_nibbles}
+use Rattle.law_model.specs.Common.{packet_nibbles, read_of, Scenario, carried_by, is_read, Told, sent_packet}
+use Rattle.law_model.specs.Common.{container_of, containers_of, read_packet, read_packets, container_in, container_on}
+use Rattle.law_model.specs.Common.{packet_if, packets_of}
 use Rattle.law_model.specs.declared.window_types.Window.{Window}
 use Rattle.law_model.specs.declared.control_packet.Packet.{Packet}
-use Rattle.law_model.specs.members.Damage.{is_good}
-use Rattle.law_model.specs.members.Path.{path, end_of, cells}
-use Rattle.law_model.specs.members.Number.{verdict}
-use Rattle.law_model.specs.members.Line.{IsLine, sent_nibbles}
-use Rattle.law_model.specs.packets.Packet.{packet_nibbles, read_of}
 use Rattle.law_model.proofs.PacketLaws.{read_of-packet_nibbles}
-use Rattle.law_model.specs.session.Scenario.{Scenario, carried_by, is_read}
-use Rattle.law_model.specs.source.Table.{Told}
-use Rattle.law_model.specs.packets.Telling.{sent_packet}
-use Rattle.law_model.specs.rows.Sent.{container_of, containers_of}
-use Rattle.law_model.specs.rows.Rows.{read_packet, read_packets, container_in, container_on}
-use Rattle.law_model.specs.rows.SessionRows.{packet_if, packets_of}
 use Rattle.law_line.specs.Numbering.{line_cells}
 use Rattle.law_line.specs.StableRows.{AreDecidedAt}
-use Rattle.law_line.proofs.ListLaws.{is-some, slice_get-inside}
+use Rattle.law_model.proofs.ListLaws.{is-some, slice_get-inside}
 use Rattle.law_line.proofs.RunLaws.{are_numbered}
 use Rattle.law_line.proofs.StableLaws.{verdict-stays}
 use Rattle.law_line.proofs.RowLaws.{earlier, packets_stay, are_read}

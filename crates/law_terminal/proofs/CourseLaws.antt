@@ -1,18 +1,12 @@
 -- Return cells that the sink made of what came, told to the source which made what came, are those of the session.
 use Rattle.std.proofs.Common.{◌≡◌, ℕ, zero, suc, ◌+◌, ◌-◌, ◌*◌, ◌/◌, ◌<◌, ◌≤◌, List, [], ◌∷◌, ◌++◌, take, length}
-use Rattle.std.proofs.Common.{slice_get, Option, Some, option_map, refl, sym, ◌∙◌, ap, arith}
+use Rattle.std.proofs.Common.{slice_get, Option, Some, option_map, refl, sym, ◌∙◌, ap, arith, take_all, take-take}
 use Rattle.std.specs.List.{range_with_len}
 use Rattle.std.proofs.lemmas.List.FromFn.{length-map-range_with_len}
-use Rattle.std.proofs.lemmas.List.{take_all, take-take}
 use Rattle.std.proofs.lemmas.Option.{slice_get-map}
-use Rattle.member_cells.specs.declared.containers_and_cells.Cell.{Cell}
-use Rattle.law_model.specs.members.Path.{cells}
-use Rattle.law_model.specs.session.Scenario.{Scenario, carried_by, packets, steps_in}
-use Rattle.law_model.specs.source.Table.{Told}
-use Rattle.law_model.specs.packets.Told.{told_in}
-use Rattle.law_model.specs.source.Back.{return_cell, cells_before, session_cells}
-use Rattle.law_model.specs.rows.Sent.{container_of}
-use Rattle.law_line.proofs.ListLaws.{take-next}
+use Rattle.law_model.specs.Common.{Cell, cells, Scenario, carried_by, packets, steps_in, Told, told_in, return_cell}
+use Rattle.law_model.specs.Common.{cells_before, session_cells, container_of}
+use Rattle.law_model.proofs.ListLaws.{take-next}
 use Rattle.law_session.specs.Session.{AgreeBefore}
 use Rattle.law_session.proofs.SessionLaws.{return_cell-agree, Agree-take, cells_before-prefix}
 use Rattle.law_terminal.specs.SessionLines.{HasLines, ComesOfLine, ComeOfLines}

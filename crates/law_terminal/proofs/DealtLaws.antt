@@ -5,20 +5,11 @@ use Rattle.std.proofs.Common.{slice_get, slice_index, Option, Some, None, refl, 
 use Rattle.std.specs.List.{position_from}
 use Rattle.std.proofs.lemmas.Bool.{cases_Bool, ltb-false, eq-eqb, ne_eqb}
 use Rattle.std.proofs.lemmas.List.{length-map, length-replicate, get_or_append_left}
-use Rattle.member_cells.specs.declared.containers_and_cells.Container.{Container}
-use Rattle.member_rows.proofs.VcatInterleaveLaws.RowLaws.{length-part_of, get-part_of}
+use Rattle.law_model.specs.Common.{Container, Scenario, Told, is_norm, is_normal, active, table_of, width, place_of}
+use Rattle.law_model.specs.Common.{stream_before, part_of, payload_of, stream_of, forward_packet, telling, telling_at}
+use Rattle.law_model.specs.Common.{packet_nibbles, active_at, rank_of, payload_by, payload_on, nibble_at, container_of}
 use Rattle.law_model.specs.declared.lcas_states.Member.{Member}
-use Rattle.law_model.specs.session.Scenario.{Scenario}
-use Rattle.law_model.specs.source.Table.{Told, is_norm, is_normal, active}
-use Rattle.law_model.specs.source.Source.{table_of}
-use Rattle.law_model.specs.source.Client.{width, place_of, stream_before}
-use Rattle.law_model.specs.rows.Interleave.{part_of}
-use Rattle.law_model.specs.frames.Payload.{payload_of}
-use Rattle.law_model.specs.frames.Piece.{stream_of}
-use Rattle.law_model.specs.packets.Forward.{forward_packet}
-use Rattle.law_model.specs.packets.Telling.{telling, telling_at}
-use Rattle.law_model.specs.packets.Packet.{packet_nibbles}
-use Rattle.law_model.specs.rows.Sent.{active_at, rank_of, payload_by, payload_on, nibble_at, container_of}
+use Rattle.member_rows.proofs.VcatInterleaveLaws.RowLaws.{length-part_of, get-part_of}
 use Rattle.law_session.specs.Feedback.{lines_of}
 use Rattle.law_session.specs.Session.{AgreeBefore}
 use Rattle.law_session.proofs.PlanLaws.{one, times, one-self}

@@ -1,23 +1,16 @@
 -- What each event of a session leaves of its course.
-use Rattle.std.specs.Prelude.{IsSome}
-use Rattle.std.proofs.Common.{◌≡◌, ℕ, zero, suc, ◌+◌, ◌*◌, ◌<◌, ◌≤◌, min, nat_lt, false, if◌then◌else◌, inl, inr, List}
-use Rattle.std.proofs.Common.{[], ◌∷◌, ◌++◌, take, drop, length, replicate, slice_get, Option, Some, refl, sym, ◌∙◌, ap}
-use Rattle.std.proofs.Common.{subst, arith}
+use Rattle.std.proofs.Common.{IsSome, ◌≡◌, ℕ, zero, suc, ◌+◌, ◌*◌, ◌<◌, ◌≤◌, min, nat_lt, false, if◌then◌else◌, inl}
+use Rattle.std.proofs.Common.{inr, List, [], ◌∷◌, ◌++◌, take, drop, length, replicate, slice_get, Option, Some, refl}
+use Rattle.std.proofs.Common.{sym, ◌∙◌, ap, subst, arith, take-append-drop}
 use Rattle.std.proofs.lemmas.Bool.{cases_eq}
-use Rattle.std.proofs.lemmas.List.{length-replicate, take-append-drop}
+use Rattle.std.proofs.lemmas.List.{length-replicate}
 use Rattle.std.proofs.lemmas.List.FromFn.{take-map-range_with_len}
 use Rattle.std.proofs.lemmas.Option.{slice_get_within}
-use Rattle.member_cells.specs.declared.containers_and_cells.Cell.{Cell}
-use Rattle.member_cells.specs.declared.containers_and_cells.Cell.TheVariants.{End}
+use Rattle.law_model.specs.Common.{Cell, End, packet_nibbles, path, verdict, Scenario, is_lost, packets, steps_in, Told}
+use Rattle.law_model.specs.Common.{told_in}
 use Rattle.member_cells.specs.declared.containers_and_cells.BackCell.TheVariants.{Packet as Nibbles, Lost}
-use Rattle.law_model.specs.packets.Packet.{packet_nibbles}
-use Rattle.law_model.specs.members.Path.{path}
-use Rattle.law_model.specs.members.Number.{verdict}
-use Rattle.law_model.specs.session.Scenario.{Scenario, is_lost, packets, steps_in}
-use Rattle.law_model.specs.source.Table.{Told}
-use Rattle.law_model.specs.packets.Told.{told_in}
 use Rattle.law_line.specs.StableRows.{IsLonger, AreDecidedAt}
-use Rattle.law_line.proofs.ListLaws.{is-some, slice_get-inside}
+use Rattle.law_model.proofs.ListLaws.{is-some, slice_get-inside}
 use Rattle.law_line.proofs.StableLaws.{verdict-stays}
 use Rattle.law_line.proofs.RowLaws.{returns_stay}
 use Rattle.law_session.specs.Session.{AgreeBefore}

@@ -1,16 +1,9 @@
 -- A course by the session's own return cells.
 use Rattle.std.proofs.Common.{◌≡◌, ℕ, suc, ◌+◌, ◌-◌, ◌*◌, ◌/◌, ◌<◌, ◌≤◌, if◌then◌else◌, List, [], ◌∷◌, ◌++◌, take}
 use Rattle.std.proofs.Common.{length, Some, None, sym, ◌∙◌, ap, arith}
-use Rattle.member_cells.specs.declared.containers_and_cells.Cell.{Cell}
-use Rattle.law_model.specs.session.Scenario.{Scenario, packets, steps_in}
-use Rattle.law_model.specs.packets.Told.{told_in}
-use Rattle.law_model.specs.source.Source.{after}
-use Rattle.law_model.specs.source.Client.{stream_before}
-use Rattle.law_model.specs.source.Back.{return_cell, cells_before, session_cells}
-use Rattle.law_model.specs.frames.Payload.{payload_of}
-use Rattle.law_model.specs.rows.Rows.{row_at, return_at}
-use Rattle.law_model.specs.rows.SessionRows.{is_whole_row}
-use Rattle.law_model.specs.rows.Sent.{container_of, frame_of}
+use Rattle.law_model.specs.Common.{Cell, Scenario, packets, steps_in, told_in, after, stream_before, return_cell}
+use Rattle.law_model.specs.Common.{cells_before, session_cells, payload_of, row_at, return_at, is_whole_row}
+use Rattle.law_model.specs.Common.{container_of, frame_of}
 use Rattle.law_line.specs.StableRows.{AreDecidedAt}
 use Rattle.law_session.specs.Session.{AgreeBefore}
 use Rattle.law_session.proofs.SessionLaws.{Agree, Agree-first, after-agree, return_cell-agree, Agree-take}

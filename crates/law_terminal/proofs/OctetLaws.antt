@@ -1,18 +1,12 @@
 -- The octets of a payload are octets.
-use Rattle.std.specs.Prelude.{All}
-use Rattle.std.proofs.Common.{ℕ, zero, suc, ◌-◌, ◌*◌, ◌<◌, inl, inr, List, drop, replicate, length, slice_index, Option}
-use Rattle.std.proofs.Common.{Some, None, lit<}
+use Rattle.std.proofs.Common.{All, ℕ, zero, suc, ◌-◌, ◌*◌, ◌<◌, inl, inr, List, drop, replicate, length, slice_index}
+use Rattle.std.proofs.Common.{Option, Some, None, lit<}
 use Rattle.std.proofs.lemmas.Bool.{cases_lt}
 use Rattle.std.proofs.lemmas.List.{get_or_past}
 use Rattle.std.proofs.lemmas.List.Elements.{All-nil, All-cons, All-append, All-take, All-drop, All-replicate}
-use Rattle.law_model.specs.frames.Piece.{stream_of}
+use Rattle.law_model.specs.Common.{stream_of, Scenario, Told, width, place_of, stream_before, part_of, payload_of}
+use Rattle.law_model.specs.Common.{active_at, rank_of, payload_by, container_of}
 use Rattle.law_model.proofs.StreamLaws.{stream_of_below}
-use Rattle.law_model.specs.session.Scenario.{Scenario}
-use Rattle.law_model.specs.source.Table.{Told}
-use Rattle.law_model.specs.source.Client.{width, place_of, stream_before}
-use Rattle.law_model.specs.rows.Interleave.{part_of}
-use Rattle.law_model.specs.frames.Payload.{payload_of}
-use Rattle.law_model.specs.rows.Sent.{active_at, rank_of, payload_by, container_of}
 
 abbrev AreOctets : List ℕ → Type 0
 AreOctets octets = All (λ o. o < 256) octets

@@ -1,18 +1,10 @@
 -- The rows and return packets that a sink makes of what has come, by the session.
 use Rattle.std.proofs.Common.{◌≡◌, ℕ, ◌+◌, ◌*◌, ◌<◌, Bool, true, false, if◌then◌else◌, List, Option, Some, None, refl}
 use Rattle.std.proofs.Common.{◌∙◌, ap, arith}
-use Rattle.member_cells.specs.declared.containers_and_cells.Cell.{Cell}
+use Rattle.law_model.specs.Common.{Cell, packet_nibbles, Scenario, is_lost, told_in, return_packet, return_cell, Told}
+use Rattle.law_model.specs.Common.{payload_of, return_of, read_packets, row_at, return_at, packets_of, is_whole_row}
+use Rattle.law_model.specs.Common.{container_of}
 use Rattle.member_cells.specs.declared.containers_and_cells.BackCell.TheVariants.{Packet as Nibbles, Lost}
-use Rattle.law_model.specs.packets.Packet.{packet_nibbles}
-use Rattle.law_model.specs.session.Scenario.{Scenario, is_lost}
-use Rattle.law_model.specs.packets.Told.{told_in}
-use Rattle.law_model.specs.source.Back.{return_packet, return_cell}
-use Rattle.law_model.specs.source.Table.{Told}
-use Rattle.law_model.specs.frames.Payload.{payload_of}
-use Rattle.law_model.specs.packets.ReturnPacket.{return_of}
-use Rattle.law_model.specs.rows.Rows.{read_packets, row_at, return_at}
-use Rattle.law_model.specs.rows.SessionRows.{packets_of, is_whole_row}
-use Rattle.law_model.specs.rows.Sent.{container_of}
 use Rattle.law_line.specs.StableRows.{AreDecidedAt}
 use Rattle.law_row.proofs.WholeLaws.{row-whole}
 use Rattle.law_row.proofs.DealtLaws.{row-payload}

@@ -8,18 +8,13 @@ use Rattle.std.proofs.lemmas.Bool.{cases_Bool, ltb-true, ltb-false}
 use Rattle.std.proofs.lemmas.List.{length-map, drop-map}
 use Rattle.std.proofs.lemmas.List.FromFn.{length-range_with_len, take-map-range_with_len, fill_by_all}
 use Rattle.std.proofs.lemmas.Option.{slice_get-map, slice_get_within}
+use Rattle.law_model.proofs.ListLaws.{filter-few}
 use Rattle.check_remainder.proofs.BitLaws.{number_below}
-use Rattle.member_cells.specs.declared.containers_and_cells.Container.{Container}
+use Rattle.law_model.specs.Common.{Container, IsPacket, packet_nibbles, Scenario, Told, is_normal, table_of, ctrl_by}
+use Rattle.law_model.specs.Common.{place_in, telling_at, mst_by, sent_packet, HasPlace, AreSent, sent_nibbles}
+use Rattle.law_model.specs.Common.{nibble_in, nibble_at, container_of, containers_of}
 use Rattle.law_model.specs.declared.lcas_states.Member.{Member}
-use Rattle.law_model.specs.packets.Packet.{IsPacket, packet_nibbles}
-use Rattle.law_model.proofs.PacketLaws.{length-packet_nibbles, packet_nibbles_below}
-use Rattle.law_model.specs.session.Scenario.{Scenario}
-use Rattle.law_model.specs.source.Table.{Told, is_normal}
-use Rattle.law_model.specs.source.Source.{table_of}
-use Rattle.law_model.specs.packets.Forward.{ctrl_by, place_in}
-use Rattle.law_model.specs.packets.Telling.{telling_at, mst_by, sent_packet}
-use Rattle.law_model.specs.members.Line.{HasPlace, AreSent, sent_nibbles}
-use Rattle.law_model.specs.rows.Sent.{nibble_in, nibble_at, container_of, containers_of}
+use Rattle.law_model.proofs.PacketLaws.{length-packet_nibbles, packet_nibbles_below, halves}
 use Rattle.law_session.proofs.PlanLaws.{order-length}
 use Rattle.law_terminal.proofs.ListLaws.{range-at, drop-range, map-part}
 
@@ -36,16 +31,6 @@ place-sq (member ∷ order) sq line fits =
       | false ↦ rest
     ]
 
-normal-least : (order : List Member) → length (filter is_normal order) ≤ length order
-normal-least [] = omega arith
-normal-least (member ∷ order) =
-    let rest = normal-least order in
-    elim (is_normal member) as (λ b. length (if b then member ∷ filter is_normal order else filter is_normal order) ≤
-    suc (length order)) [
-      | true ↦ omega arith
-      | false ↦ omega arith
-    ]
-
 mst-below : (oks : List Bool) → mst_by oks < 256
 mst-below oks = number_below (map (λ place. not (slice_index_or oks place true)) (range_with_len 0 8))
 
@@ -54,7 +39,7 @@ pub sent-packet : (scenario : Scenario) (returns : List (Option Told)) (line k :
 sent-packet scenario returns line k limit =
     let order = (table_of scenario returns k).order in
     let most = order-length scenario returns (suc k) in
-    let least = normal-least order in
+    let least = filter-few is_normal order in
     let count = length-map (filter is_normal order) (λ (member : Member). member.line) in
     record {
       mst = mst-below (telling_at scenario k).oks;
@@ -64,10 +49,6 @@ sent-packet scenario returns line k limit =
     }
 
 -- ---- the place of a container
--- an octet of two halves
-halved : (hi lo octet : ℕ) → lo < 16 → octet ≡ 16 * hi + lo → (octet / 16 ≡ hi) × (octet % 16 ≡ lo)
-halved hi lo octet low e = (omega arith, omega arith)
-
 module _ (scenario : Scenario) (returns : List (Option Told)) (limit : length scenario.windows ≤ 128) (line : ℕ) where
   nibble-small : (k place : ℕ) → place < 16 → nibble_in scenario returns line k place < 16
   nibble-small k place low =
@@ -106,7 +87,7 @@ module _ (scenario : Scenario) (returns : List (Option Told)) (limit : length sc
   place-of t =
       let nibble : ℕ = nibble_at scenario returns line t in
       let below = nibble-below t in
-      let parts = halved nibble (t % 16) (16 * nibble + t % 16) (omega arith) refl in
+      let parts = halves (16 * nibble + t % 16) nibble (t % 16) (omega arith) refl in
       record {
         small = omega arith;
         mfi1 = parts.1;
@@ -167,7 +148,7 @@ packet-nibbles scenario returns line frames k limit inside =
     each i low =
         let t : ℕ = 16 * k + 8 + i in
         let nibble : ℕ = nibble_at scenario returns line t in
-        let parts = halved nibble (t % 16) (16 * nibble + t % 16) (omega arith) refl in
+        let parts = halves (16 * nibble + t % 16) nibble (t % 16) (omega arith) refl in
         let late : nat_lt t 8 ≡ false = grind (arith, (let e : 8 ≤ t = omega arith in e)) in
         let number : (t - 8) / 16 ≡ k = omega arith in
         let place : (t - 8) % 16 ≡ i = omega arith in

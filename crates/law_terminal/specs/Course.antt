@@ -1,17 +1,10 @@
 -- A session as far as it has come, with the return path.
 use Rattle.std.specs.Prelude.{ℕ, ◌+◌, ◌*◌, ◌<◌, ◌≤◌, if◌then◌else◌, List, map, Option}
 use Rattle.std.specs.List.{range_with_len}
-use Rattle.member_cells.specs.declared.containers_and_cells.Cell.{Cell}
-use Rattle.member_cells.specs.declared.containers_and_cells.BackCell.{BackCell}
-use Rattle.member_cells.specs.declared.containers_and_cells.BackCell.TheVariants.{Packet as Nibbles, Lost}
+use Rattle.law_model.specs.Common.{Cell, BackCell, packet_nibbles, Scenario, is_lost, packets, steps_in, Told, told_in}
+use Rattle.law_model.specs.Common.{return_of, return_at, packets_of}
 use Rattle.law_model.specs.declared.control_packet.Packet.{Packet}
-use Rattle.law_model.specs.packets.Packet.{packet_nibbles}
-use Rattle.law_model.specs.session.Scenario.{Scenario, is_lost, packets, steps_in}
-use Rattle.law_model.specs.source.Table.{Told}
-use Rattle.law_model.specs.packets.Told.{told_in}
-use Rattle.law_model.specs.packets.ReturnPacket.{return_of}
-use Rattle.law_model.specs.rows.Rows.{return_at}
-use Rattle.law_model.specs.rows.SessionRows.{packets_of}
+use Rattle.member_cells.specs.declared.containers_and_cells.BackCell.TheVariants.{Packet as Nibbles, Lost}
 use Rattle.law_line.specs.StableRows.{AreDecidedAt}
 use Rattle.law_terminal.specs.SessionLines.{ComeOfLines}
 

@@ -1,11 +1,6 @@
 -- What is asked of the lines of a session, and what has come of them.
 use Rattle.std.specs.Prelude.{◌≡◌, ℕ, ◌<◌, ◌≤◌, min, List, ◌++◌, length, slice_get, Option, Some, All}
-use Rattle.member_cells.specs.declared.containers_and_cells.Cell.{Cell}
-use Rattle.law_model.specs.members.Damage.{AreWindows, slip_of}
-use Rattle.law_model.specs.members.Path.{cells}
-use Rattle.law_model.specs.session.Scenario.{Scenario, carried_by}
-use Rattle.law_model.specs.source.Table.{Told}
-use Rattle.law_model.specs.rows.Sent.{containers_of}
+use Rattle.law_model.specs.Common.{Cell, AreWindows, slip_of, cells, Scenario, carried_by, Told, containers_of}
 
 -- at most 128 lines, the windows of each in order and apart, with a slip below the numbers that are sent
 pub record HasLines (scenario : Scenario) : Type 0 where

@@ -1,12 +1,8 @@
 -- A worked session, computed: two lines without failures, which are both added at tick 0, and a lag of two packets.
 use Rattle.std.specs.Prelude.{ℕ, ◌+◌, ◌*◌, ◌%◌, true, false, List, [], ◌∷◌, map, take, Option, Some}
 use Rattle.std.specs.List.{range_with_len}
-use Rattle.member_cells.specs.declared.containers_and_cells.Cell.{Cell}
+use Rattle.law_model.specs.Common.{Cell, Scenario, Told, session_cells, payload_on, nibble_at}
 use Rattle.law_model.specs.declared.lcas_states.Command.TheVariants.{Add as add}
-use Rattle.law_model.specs.session.Scenario.{Scenario}
-use Rattle.law_model.specs.source.Table.{Told}
-use Rattle.law_model.specs.source.Back.{session_cells}
-use Rattle.law_model.specs.rows.Sent.{payload_on, nibble_at}
 use Rattle.law_session.specs.Worked.{order, scenario_for}
 use Rattle.law_terminal.specs.SessionLines.{given}
 

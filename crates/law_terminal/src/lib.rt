@@ -7,20 +7,10 @@
 
 ghost use Rattle.std.specs.Prelude.{◌≡◌, ℕ, suc, ◌+◌, ◌-◌, ◌*◌, ◌/◌, ◌<◌, ◌≤◌, min, if◌then◌else◌, All, [], ◌∷◌, ◌++◌};
 ghost use Rattle.std.specs.Prelude.{List, length, take, replicate, Option, Some, None};
-ghost use Rattle.member_cells.specs.declared.containers_and_cells.Cell.{Cell};
-ghost use Rattle.law_model.specs.session.Scenario.{Scenario, packets, steps_in};
-ghost use Rattle.law_model.specs.source.Table.{Told};
-ghost use Rattle.law_model.specs.packets.Told.{told_in};
-ghost use Rattle.law_model.specs.source.Source.{after};
-ghost use Rattle.law_model.specs.source.Back.{return_cell, cells_before, session_cells};
-ghost use Rattle.law_model.specs.packets.Packet.{IsPacket, packet_nibbles};
-ghost use Rattle.law_model.specs.source.Client.{stream_before};
-ghost use Rattle.law_model.specs.frames.Payload.{payload_of};
-ghost use Rattle.law_model.specs.packets.Telling.{sent_packet};
-ghost use Rattle.law_model.specs.members.Line.{AreSent, sent_nibbles};
-ghost use Rattle.law_model.specs.rows.Rows.{row_at, return_at};
-ghost use Rattle.law_model.specs.rows.SessionRows.{is_whole_row};
-ghost use Rattle.law_model.specs.rows.Sent.{container_of, containers_of, frame_of};
+ghost use Rattle.law_model.specs.Common.{Cell, Scenario, packets, steps_in, Told, told_in, after, return_cell};
+ghost use Rattle.law_model.specs.Common.{cells_before, session_cells, IsPacket, packet_nibbles, stream_before};
+ghost use Rattle.law_model.specs.Common.{payload_of, sent_packet, AreSent, sent_nibbles, row_at, return_at};
+ghost use Rattle.law_model.specs.Common.{is_whole_row, container_of, containers_of, frame_of, vc4_size};
 ghost use Rattle.law_line.specs.StableRows.{IsLonger, AreDecidedAt};
 ghost use Rattle.law_session.specs.Session.{AgreeBefore};
 ghost use Rattle.law_row.specs.Received.{HasPackets, TellsRow, IsDealtRow};
@@ -28,7 +18,6 @@ ghost use Rattle.law_terminal.specs.SessionLines.{HasLines, given, ComesOfLine, 
 ghost use Rattle.law_terminal.specs.Course.{back_of, packet_by, told_of, IsCourse};
 ghost use Rattle.law_terminal.specs.Worked.{two_lines, h4_from, no_packet, first_added, first_in_use, second_added};
 ghost use Rattle.law_terminal.specs.Worked.{first_told, first_cells, dealt};
-ghost use Rattle.law_model.specs.Limits.{vc4_size};
 
 /// The containers that the source makes, whatever it was told. Their H4 octets say their numbers, and the
 /// nibbles of each packet stand in them in their order; their payload is that of a VC-4 in length, in octets,

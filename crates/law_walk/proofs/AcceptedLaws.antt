@@ -1,33 +1,26 @@
 -- The frames that a session accepts are those of the items that aren't refused.
 use Rattle.std.proofs.Common.{◌≡◌, ℕ, zero, suc, ◌<◌, ◌≤◌, true, false, inl, inr, List, [], ◌∷◌, ◌++◌, map, filter}
 use Rattle.std.proofs.Common.{fold, take, length, All, Option, Some, None, option_map, refl, sym, ◌∙◌, ap, ap₂, arith}
-use Rattle.std.proofs.Common.{append_assoc, length-append}
-use Rattle.std.specs.List.{flat_map}
+use Rattle.std.proofs.Common.{append_assoc, length-append, flat_map, append-nil, take_at}
 use Rattle.std.proofs.lemmas.Bool.{cases_Bool}
 use Rattle.std.proofs.lemmas.Bool.Decides.{nat_tests}
-use Rattle.std.proofs.lemmas.List.{append-nil, map-append, take_at}
+use Rattle.std.proofs.lemmas.List.{map-append}
 use Rattle.std.proofs.lemmas.List.Concat.{flat_map-append}
 use Rattle.std.proofs.lemmas.List.Elements.{filter-append, filter_passes}
 use Rattle.std.proofs.lemmas.List.Sums.{fold-append}
+use Rattle.law_model.specs.Common.{Leg, kept_by, Scenario, DueFrame, offer_of, offers_of, scenario_by, comes_at, Told}
+use Rattle.law_model.specs.Common.{session_cells, Stream, frame_refusal, offered, stream_before, accepted_offers}
+use Rattle.law_model.specs.Common.{offers_before, frames_before, IsItem, IsSound}
 use Rattle.law_model.specs.declared.item_refusals.AcceptFault.{AcceptFault}
 use Rattle.law_model.specs.declared.script_types.Item.{Item}
 use Rattle.law_model.specs.declared.script_types.ItemKind.{ItemKind}
+use Rattle.law_model.specs.declared.item_refusals.Refusal.{Refusal}
 use Rattle.law_model.specs.declared.script_types.ItemKind.TheVariants.{Frame, Add, Remove}
-use Rattle.law_model.specs.session.Leg.{Leg}
-use Rattle.law_model.specs.source.Accepted.{kept_by}
-use Rattle.law_model.specs.session.Scenario.{Scenario, DueFrame, offer_of, offers_of, scenario_by, comes_at}
-use Rattle.law_model.specs.source.Table.{Told}
-use Rattle.law_model.specs.source.Back.{session_cells}
-use Rattle.law_model.specs.source.Client.{Stream, frame_refusal, offered, stream_before}
-use Rattle.law_model.specs.source.Journal.{accepted_offers, offers_before, frames_before}
-use Rattle.law_model.specs.session.Valid.{IsItem, IsSound}
 use Rattle.law_session.specs.Landing.{landed, is_come}
 use Rattle.law_session.proofs.LandingLaws.{comes_apart, offers_land}
-use Rattle.law_model.specs.declared.item_refusals.Refusal.{Refusal}
 use Rattle.law_model.specs.declared.item_refusals.Refusal.TheVariants.{Frame as frame_fault}
 use Rattle.law_loss.proofs.FilterLaws.{filter-skip, filter-keep}
-use Rattle.law_walk.specs.Landed.{Numbered, stream_met, kind_refusal, refusal_at}
-use Rattle.law_walk.specs.Promise.{numbered, frame_by, accepted_frames}
+use Rattle.law_walk.specs.Common.{Numbered, stream_met, kind_refusal, refusal_at, numbered, frame_by, accepted_frames}
 use Rattle.law_loss.proofs.LawScriptLaws.ItemLaws.{offers_rise}
 
 -- ---- offers one after another

@@ -1,37 +1,24 @@
 -- How many frames rows can give: no more than they have octets.
-use Rattle.std.specs.Prelude.{IfSome}
-use Rattle.std.proofs.Common.{◌≡◌, ℕ, zero, suc, ◌+◌, ◌-◌, ◌*◌, ◌/◌, ◌≤◌, nat_le, nat_lt, Bool, true, false, not}
-use Rattle.std.proofs.Common.{if◌then◌else◌, inl, inr, List, [], ◌∷◌, map, filter, drop, length, sum_by, Option, Some}
-use Rattle.std.proofs.Common.{None, arith, length-append, length-drop}
-use Rattle.std.specs.List.{flat_map}
-use Rattle.std.proofs.Math.Nat.{mul-le-mul_left, mul-le-mul_right}
-use Rattle.std.proofs.lemmas.Bool.{leb-true, cases_Bool}
+use Rattle.std.proofs.Common.{IfSome, ◌≡◌, ℕ, zero, suc, ◌+◌, ◌-◌, ◌*◌, ◌/◌, ◌≤◌, nat_le, nat_lt, Bool, true, false}
+use Rattle.std.proofs.Common.{not, if◌then◌else◌, inl, inr, List, [], ◌∷◌, map, filter, drop, length, sum_by, Option}
+use Rattle.std.proofs.Common.{Some, None, arith, length-append, length-drop, flat_map, mul-le-mul_left}
+use Rattle.std.proofs.Common.{mul-le-mul_right, leb-true}
+use Rattle.std.proofs.lemmas.Bool.{cases_Bool}
 use Rattle.std.proofs.lemmas.List.{length-map}
 use Rattle.std.proofs.lemmas.List.Sums.{sum_by-cons, sum_by-append, length-filter, count_by-le-length}
-use Rattle.law_model.specs.session.Leg.{Leg}
-use Rattle.law_model.specs.frames.Core.{head}
-use Rattle.law_model.specs.frames.Piece.{joined}
-use Rattle.law_model.specs.frames.Scramble.{descrambled_octets}
-use Rattle.law_model.specs.frames.Hunt.{header_with, Confirmed, confirm_by, confirm_with, hunt_by, hunt_within, hunt_with}
-use Rattle.law_model.specs.frames.Run.{Followed, follow_by, follow_within, follow_with, Run, Delineated, run_then}
-use Rattle.law_model.specs.frames.Run.{delineate_by, delineate_within, delineate}
-use Rattle.law_model.specs.frames.Outcome.{Outcome, delivery, dropping, client_outcome, outcomes_after_with}
-use Rattle.law_model.specs.frames.Outcome.{descrambled_areas, run_outcomes_with, outcomes}
+use Rattle.law_model.specs.Common.{Leg, head, joined, descrambled_octets, header_with, Confirmed, confirm_by}
+use Rattle.law_model.specs.Common.{confirm_with, hunt_by, hunt_within, hunt_with, Followed, follow_by, follow_within}
+use Rattle.law_model.specs.Common.{follow_with, Run, Delineated, run_then, delineate_by, delineate_within, delineate}
+use Rattle.law_model.specs.Common.{Outcome, delivery, dropping, client_outcome, outcomes_after_with, descrambled_areas}
+use Rattle.law_model.specs.Common.{run_outcomes_with, outcomes, StreamRow, Segment, Segments, segments_on, segments_of}
+use Rattle.law_model.specs.Common.{segments, segment_frames, deliver, octets_of_rows, Scenario, scenario_by, Told}
+use Rattle.law_model.specs.Common.{is_normal, table_of, session_cells, width, place_of, rows_of, IsSound, longest_frame}
 use Rattle.law_model.specs.frames.Delivery.{frame_in}
-use Rattle.law_model.specs.frames.Segment.{StreamRow, Segment, Segments, row_by, segments_on, segments_of, segments}
-use Rattle.law_model.specs.frames.Segment.{segment_frames, deliver, octets_of_rows}
-use Rattle.law_model.specs.session.Scenario.{Scenario, scenario_by}
-use Rattle.law_model.specs.source.Table.{Told, is_normal}
-use Rattle.law_model.specs.source.Source.{table_of}
-use Rattle.law_model.specs.source.Back.{session_cells}
-use Rattle.law_model.specs.source.Client.{width, place_of}
-use Rattle.law_model.specs.rows.SessionStream.{rows_of}
-use Rattle.law_model.specs.session.Valid.{IsSound}
+use Rattle.law_model.specs.frames.Segment.{row_by}
 use Rattle.law_model.proofs.CutLaws.{length-cut}
 use Rattle.law_session.proofs.PlanLaws.{order-length}
 use Rattle.law_loss.proofs.SessionStreamLaws.{rows-length}
-use Rattle.law_walk.specs.Delivered.{delivered_of}
-use Rattle.law_model.specs.Limits.{longest_frame}
+use Rattle.law_walk.specs.Common.{delivered_of}
 
 -- ---- a search goes on in fewer octets
 abbrev Shorter : List ℕ → Option Confirmed → Type 0

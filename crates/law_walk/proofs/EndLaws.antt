@@ -1,27 +1,22 @@
 -- A walk whose rows are all taken has made all ticks, and all items have landed.
 use Rattle.std.proofs.Common.{◌≡◌, ℕ, suc, ◌-◌, ◌<◌, ◌≤◌, nat_lt, ◌&&◌, true, inl, inr, if◌then◌else◌, List, [], ◌∷◌}
 use Rattle.std.proofs.Common.{filter, length, slice_get, All, Option, Some, None, is_none, refl, ◌∙◌, ap, subst, arith}
-use Rattle.std.proofs.Common.{length-append}
-use Rattle.std.specs.List.{flat_map}
-use Rattle.std.proofs.lemmas.Bool.{lt-ltb, cases_Bool, cases_lt}
+use Rattle.std.proofs.Common.{length-append, flat_map, lt-ltb}
+use Rattle.std.proofs.lemmas.Bool.{cases_Bool, cases_lt}
 use Rattle.std.proofs.lemmas.Option.{get_or_from_slice_get}
 use Rattle.std.proofs.lemmas.List.Elements.{All-cons}
 use Rattle.std.proofs.lemmas.List.{length-map}
+use Rattle.law_model.specs.Common.{Leg, DueCommand, DueFrame, order_of, offer_of, orders_of, offers_of, due_of, dues_of}
+use Rattle.law_model.specs.Common.{frame_dues, command_dues, Counts, IsItem, IsSound}
 use Rattle.law_model.specs.declared.script_types.Item.{Item}
 use Rattle.law_model.specs.declared.script_types.ItemKind.{ItemKind}
-use Rattle.law_model.specs.declared.script_types.ItemKind.TheVariants.{Frame, Add, Remove}
-use Rattle.law_model.specs.session.Leg.{Leg}
-use Rattle.law_model.specs.session.Scenario.{DueCommand, DueFrame, order_of, offer_of, orders_of, offers_of}
-use Rattle.law_model.specs.session.Counts.{due_of, dues_of, frame_dues, command_dues, Counts}
-use Rattle.law_model.specs.session.Valid.{IsItem, IsSound}
-use Rattle.law_line.proofs.ListLaws.{slice_get-inside}
-use Rattle.law_progress.proofs.MoveLaws.{rows-ticks}
 use Rattle.law_model.specs.declared.item_refusals.Refusal.{Refusal}
-use Rattle.law_walk.specs.Walk.{walk_plan, CanWalk, IsWalked}
-use Rattle.law_walk.specs.Landed.{Numbered, is_client, landed_from, landed_items, refusal_at, is_accepted_frame}
-use Rattle.law_walk.specs.Landed.{totals_of}
-use Rattle.law_walk.specs.Report.{report_among, report_of, final_report}
-use Rattle.law_walk.specs.Promise.{numbered, frame_by, accepted_frames, drained}
+use Rattle.law_model.specs.declared.script_types.ItemKind.TheVariants.{Frame, Add, Remove}
+use Rattle.law_model.proofs.ListLaws.{slice_get-inside}
+use Rattle.law_progress.proofs.MoveLaws.{rows-ticks}
+use Rattle.law_walk.specs.Common.{walk_plan, CanWalk, IsWalked, Numbered, is_client, landed_from, landed_items}
+use Rattle.law_walk.specs.Common.{refusal_at, is_accepted_frame, totals_of, report_among, report_of, final_report}
+use Rattle.law_walk.specs.Common.{numbered, frame_by, accepted_frames, drained}
 use Rattle.law_walk.proofs.PlanLaws.{has-plan, sound-walks}
 use Rattle.law_walk.proofs.WalkLaws.{fits, drains-walked}
 use Rattle.law_walk.proofs.LandLaws.{Ahead, frame-dues, command-dues, walked-ahead}

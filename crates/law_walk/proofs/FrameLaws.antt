@@ -4,23 +4,14 @@ use Rattle.std.proofs.Common.{drop, length, Option, Some, None, refl, sym, â—Œâˆ
 use Rattle.std.specs.List.{range_with_len}
 use Rattle.std.proofs.lemmas.List.{append-nil}
 use Rattle.std.proofs.lemmas.List.FromFn.{map-range_with_len_more}
-use Rattle.law_model.specs.session.Leg.{Leg}
-use Rattle.law_model.specs.session.Scenario.{Scenario, scenario_by}
-use Rattle.law_model.specs.source.Table.{Told}
-use Rattle.law_model.specs.source.Back.{session_cells}
-use Rattle.law_model.specs.frames.Payload.{payload_of}
-use Rattle.law_model.specs.rows.Rows.{row_at}
-use Rattle.law_model.specs.rows.SessionRows.{is_whole_row}
-use Rattle.law_model.specs.frames.Segment.{StreamRow, Segments, segments_of, deliver}
-use Rattle.law_model.specs.rows.SessionStream.{row_of, rows_of}
-use Rattle.law_model.specs.session.Counts.{Counts}
+use Rattle.law_model.specs.Common.{Leg, Scenario, scenario_by, Told, session_cells, payload_of, row_at, is_whole_row}
+use Rattle.law_model.specs.Common.{StreamRow, Segments, segments_of, deliver, rows_of, Counts, longest_frame}
+use Rattle.law_model.specs.rows.SessionStream.{row_of}
 use Rattle.law_loss.specs.Added.{added, next_frames, whole_row, lost_row}
 use Rattle.law_loss.proofs.SegmentLaws.{segments_of-push, deliver-lost, added-whole, grows-whole}
 use Rattle.law_loss.proofs.GrowLaws.{adds, deliver-grows}
-use Rattle.law_walk.specs.Walk.{CanWalk, IsWalked, popped_cells}
-use Rattle.law_walk.specs.Delivered.{session_rows, delivered_of, IsReceived}
+use Rattle.law_walk.specs.Common.{CanWalk, IsWalked, popped_cells, session_rows, delivered_of, IsReceived}
 use Rattle.law_walk.proofs.WalkLaws.{rows-are}
-use Rattle.law_model.specs.Limits.{longest_frame}
 
 -- rows give the same frames, and their last segments have the same octets
 record SameFrames (a b : List StreamRow) : Type 0 where

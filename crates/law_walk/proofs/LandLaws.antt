@@ -1,26 +1,22 @@
 -- Which items have landed after any list of events.
 use Rattle.std.proofs.Common.{◌≡◌, ℕ, zero, suc, ◌+◌, ◌*◌, ◌<◌, ◌≤◌, ◌&&◌, nat_le, nat_lt, Bool, false, inl, inr, List}
 use Rattle.std.proofs.Common.{[], ◌∷◌, ◌++◌, map, filter, take, length, slice_get, Option, Some, None, option_map, refl}
-use Rattle.std.proofs.Common.{sym, ◌∙◌, ap, subst, arith, append_assoc}
-use Rattle.std.proofs.lemmas.Bool.{leb-false, lt-leb, cases_Bool}
+use Rattle.std.proofs.Common.{sym, ◌∙◌, ap, subst, arith, append_assoc, leb-false, take_at, flat_map}
+use Rattle.std.proofs.lemmas.Bool.{lt-leb, cases_Bool}
 use Rattle.std.proofs.lemmas.Option.{slice_get-map}
-use Rattle.std.proofs.lemmas.List.{take_at}
-use Rattle.std.specs.List.{flat_map}
 use Rattle.check_nibbles.proofs.LockLaws.{slice_get-append_seam}
+use Rattle.law_model.specs.Common.{Leg, DueCommand, DueFrame, order_of, offer_of, orders_of, offers_of, scenario_by}
+use Rattle.law_model.specs.Common.{lands_at, comes_at, orders_at, frames_at, Due, frame_due, command_due, dues_of}
+use Rattle.law_model.specs.Common.{frame_dues, command_dues, LinePath, LineCounts, Plan, Counts, land_due, held, full}
+use Rattle.law_model.specs.Common.{is_missing, tick_full, tick_held, tick, in_send, in_receive, carry_on, carry_at}
+use Rattle.law_model.specs.Common.{in_return, take_popped, pop_lines, is_back_full, take_row, step, run, begin}
 use Rattle.law_model.specs.declared.script_types.Item.{Item}
-use Rattle.law_model.specs.session.Leg.{Leg}
 use Rattle.law_model.specs.declared.walk_events.Event.{Event}
-use Rattle.law_model.specs.declared.walk_events.Event.TheVariants.{Accept, Command, Tick, Carry, Back, Take}
-use Rattle.law_model.specs.session.Scenario.{DueCommand, DueFrame, order_of, offer_of, orders_of, offers_of, scenario_by}
-use Rattle.law_model.specs.session.Scenario.{lands_at, comes_at, orders_at, frames_at}
-use Rattle.law_model.specs.session.Counts.{Due, frame_due, command_due, dues_of, frame_dues, command_dues, LinePath}
-use Rattle.law_model.specs.session.Counts.{LineCounts, Plan, Counts, land_due, held, full, is_missing, tick_full, tick_held}
-use Rattle.law_model.specs.session.Counts.{tick, in_send, in_receive, carry_on, carry_at, in_return, back, take_popped}
-use Rattle.law_model.specs.session.Counts.{pop_lines, is_back_full, take_row, step, run, begin}
+use Rattle.law_model.specs.declared.walk_events.Event.TheVariants.{Accept, Tick, Carry, Back, Take, Command}
+use Rattle.law_model.specs.session.Counts.{back}
 use Rattle.law_loss.proofs.FilterLaws.{and_false, filter-skip}
 use Rattle.law_loss.proofs.LawScriptLaws.ItemLaws.{order_dues, offer_dues}
-use Rattle.law_walk.specs.Walk.{walk_plan, IsWalked}
-use Rattle.law_walk.specs.Landed.{Numbered, landed_scenario, IsOfferAt, IsOrderAt}
+use Rattle.law_walk.specs.Common.{walk_plan, IsWalked, Numbered, landed_scenario, IsOfferAt, IsOrderAt}
 
 -- ---- what hasn't landed isn't due before the ticks that were made
 pub record Ahead (items : List Due) (ticks frames commands : ℕ) : Type 0 where

@@ -9,27 +9,25 @@ use Rattle.std.proofs.lemmas.Option.{none-some, same_Some}
 use Rattle.std.proofs.lemmas.List.{length-replicate}
 use Rattle.std.proofs.lemmas.List.Elements.{All-nil, All-cons, All-replicate}
 use Rattle.std.proofs.lemmas.List.Sorted.{IsNonDecreasingBy-short}
+use Rattle.law_model.specs.Common.{IsWithin, AreApart, HasFailures, IsNetwork, IsItem, IsSound, frame_dues}
+use Rattle.law_model.specs.Common.{command_dues, FitsRing, FitsLag, are_whole, AreWindows, slip_after, member_of, keep}
+use Rattle.law_model.specs.Common.{none_kept, admit, turned, take_out, exchange, DueFrame, Scenario, scenario_by}
+use Rattle.law_model.specs.Common.{offers_of, carried_by, is_read, after, table_of, said_before, cells_before}
+use Rattle.law_model.specs.Common.{session_cells}
 use Rattle.law_model.specs.declared.window_types.Window.{Window}
 use Rattle.law_model.specs.declared.window_types.Carried.TheVariants.{Whole, Fails}
 use Rattle.law_model.specs.declared.script_types.Item.{Item}
-use Rattle.law_model.specs.declared.script_types.ItemKind.TheVariants.{Frame, Add}
 use Rattle.law_model.specs.declared.lcas_states.Command.{Command}
+use Rattle.law_model.specs.declared.lcas_states.Member.{Member}
+use Rattle.law_model.specs.declared.script_types.ItemKind.TheVariants.{Frame, Add}
 use Rattle.law_model.specs.declared.lcas_states.Command.TheVariants.{Add as add}
 use Rattle.law_model.specs.declared.lcas_states.Standing.TheVariants.{Add as adding}
-use Rattle.law_model.specs.session.Valid.{IsWithin, AreApart, HasFailures, IsNetwork, IsItem, IsSound}
-use Rattle.law_model.specs.session.Counts.{frame_dues, command_dues}
-use Rattle.law_model.specs.session.Plan.{FitsRing, FitsLag}
-use Rattle.law_model.specs.members.Damage.{carried, are_whole, AreWindows, slip_after}
-use Rattle.law_model.specs.declared.lcas_states.Member.{Member}
-use Rattle.law_model.specs.source.Table.{member_of, keep, none_kept, admit, turned, take_out, exchange}
-use Rattle.law_model.specs.session.Scenario.{DueFrame, Scenario, scenario_by, offers_of, carried_by, is_read}
-use Rattle.law_model.specs.source.Source.{after, table_of}
+use Rattle.law_model.specs.members.Damage.{carried}
 use Rattle.law_model.specs.source.Source.{carried as carried_out}
-use Rattle.law_model.specs.source.Back.{said_before, cells_before, session_cells}
 use Rattle.law_session.specs.Use.{AddsUndamaged, AddsAmongSilent}
 use Rattle.law_session.proofs.DamageLaws.{readable-whole}
-use Rattle.law_walk.specs.Promise.{IsClear, row_from, ConfirmsTrue}
-use Rattle.law_walk.specs.Worked.{item, plain, failing_windows, failing_leg, silent_windows, silent_leg}
+use Rattle.law_walk.specs.Common.{IsClear, row_from, ConfirmsTrue, item, plain, failing_windows, failing_leg}
+use Rattle.law_walk.specs.Common.{silent_windows, silent_leg}
 use Rattle.law_walk.proofs.WholeLaws.{clear-whole, row-whole}
 use Rattle.law_walk.proofs.QuietLaws.{quiet-true}
 

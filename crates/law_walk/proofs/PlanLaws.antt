@@ -2,22 +2,17 @@
 use Rattle.std.proofs.Common.{◌≡◌, ℕ, zero, suc, ◌+◌, ◌<◌, ◌≤◌, List, [], ◌∷◌, map, length, slice_get, slice_index_or}
 use Rattle.std.proofs.Common.{Some, refl, sym, ◌∙◌, ap, subst, arith}
 use Rattle.std.specs.List.{range_with_len}
-use Rattle.member_cells.specs.declared.containers_and_cells.Container.{Container}
+use Rattle.law_model.specs.Common.{Container, Leg, IsSound, slip_of, IsLine, Scenario, scenario_by, session_cells}
+use Rattle.law_model.specs.Common.{path_of, paths_of, greatest_slip}
 use Rattle.law_model.specs.declared.window_types.Window.{Window}
-use Rattle.law_model.specs.session.Leg.{Leg}
-use Rattle.law_model.specs.session.Valid.{IsSound}
-use Rattle.law_model.specs.members.Damage.{carried, slip_of}
-use Rattle.law_model.specs.members.Line.{IsLine}
-use Rattle.law_model.specs.session.Scenario.{Scenario, scenario_by}
-use Rattle.law_model.specs.source.Back.{session_cells}
-use Rattle.law_model.specs.session.Plan.{path_of, paths_of, greatest_slip}
+use Rattle.law_model.specs.members.Damage.{carried}
 use Rattle.law_progress.specs.Progress.{IsPlan}
 use Rattle.law_progress.specs.AskedOfLines.{AreSentBy}
 use Rattle.law_progress.proofs.LineLaws.{can_run-plan}
 use Rattle.law_terminal.specs.SessionLines.{HasLines}
 use Rattle.law_terminal.proofs.SentLaws.{containers-size}
 use Rattle.law_terminal.proofs.CellLaws.{is-line}
-use Rattle.law_walk.specs.Walk.{sent_on, sent_of, walk_plan, CanWalk}
+use Rattle.law_walk.specs.Common.{sent_on, sent_of, walk_plan, CanWalk}
 
 -- ---- lines
 slip-least : (lists : List (List Window)) (line : ℕ) (d : List Window) → line < length lists →
@@ -37,7 +32,7 @@ has-lines leg can =
     }
 
 -- ---- the plan
-sent-by : (total : ℕ) (sent : ℕ → List Container) (lists : List (List Window)) (delays : List ℕ) (from : ℕ) →
+pub sent-by : (total : ℕ) (sent : ℕ → List Container) (lists : List (List Window)) (delays : List ℕ) (from : ℕ) →
     length delays ≡ length lists →
     ((m : ℕ) (own : List Window) → slice_get lists m ≡ Some own → IsLine own (sent (from + m))) →
     ((m : ℕ) → length (sent m) ≡ total) →
@@ -54,8 +49,8 @@ sent-by total sent (windows ∷ lists) (delay ∷ delays) from size line long = 
       (line (suc m) own here)) long,
 )
 
-own-at : (lists : List (List Window)) (m : ℕ) (own : List Window) → slice_get lists m ≡ Some own → (m < length lists) ×
-    (slice_index_or lists m [] ≡ own)
+pub own-at : (lists : List (List Window)) (m : ℕ) (own : List Window) → slice_get lists m ≡ Some own →
+    (m < length lists) × (slice_index_or lists m [] ≡ own)
 own-at [] m own here = absurd cc
 own-at (windows ∷ lists) zero own here = (omega arith, cc)
 own-at (windows ∷ lists) (suc m) own here = let rest = own-at lists m own here in

@@ -1,24 +1,17 @@
 -- What is promised of a leg.
 use Rattle.std.proofs.Common.{◌≡◌, ℕ, suc, ◌+◌, ◌*◌, ◌≤◌, ◌++◌, map, take, length, ◌∙◌, ap, subst, arith}
-use Rattle.law_model.specs.session.Leg.{Leg}
-use Rattle.law_model.specs.frames.Piece.{frames_by}
-use Rattle.law_model.specs.session.Scenario.{scenario_by, steps_in}
-use Rattle.law_model.specs.source.Source.{after}
-use Rattle.law_model.specs.source.Back.{session_cells}
-use Rattle.law_model.specs.session.Counts.{Counts}
-use Rattle.law_model.specs.frames.Loss.{Extent, frames_kept}
+use Rattle.law_model.specs.Common.{Leg, frames_by, scenario_by, steps_in, after, session_cells, Counts, Extent}
+use Rattle.law_model.specs.Common.{frames_kept, IsSound}
 use Rattle.law_session.specs.Use.{IsInUse, IsUsedBy, AddsUndamaged, AddsAmongSilent}
 use Rattle.law_session.proofs.UseTheorems.{undamaged, among_silent}
 use Rattle.law_progress.proofs.MoveLaws.{reached-ends}
 use Rattle.law_loss.specs.Carried.{IsUndamaged}
 use Rattle.law_loss.proofs.SessionLossLaws.{session-kept, session-hitless, session-prefix, frames-extents}
 use Rattle.law_session.proofs.ClientLaws.{stream_before-frames}
-use Rattle.law_model.specs.session.Valid.{IsSound}
 use Rattle.law_loss.proofs.LawScriptLaws.ItemLaws.{are_octets}
-use Rattle.law_walk.specs.Walk.{walk_plan, CanWalk, IsWalked}
-use Rattle.law_walk.specs.Delivered.{session_rows, delivered_of}
-use Rattle.law_walk.specs.Promise.{accepted_frames, session_pieces, session_extents, session_waiting, place_after}
-use Rattle.law_walk.specs.Promise.{HasNoFailure, ConfirmsTrue, drained, InUseBy}
+use Rattle.law_walk.specs.Common.{walk_plan, CanWalk, IsWalked, session_rows, delivered_of, accepted_frames}
+use Rattle.law_walk.specs.Common.{session_pieces, session_extents, session_waiting, place_after, HasNoFailure}
+use Rattle.law_walk.specs.Common.{ConfirmsTrue, drained, InUseBy}
 use Rattle.law_walk.proofs.PlanLaws.{has-plan, sound-walks}
 use Rattle.law_walk.proofs.AcceptedLaws.{frames-accepted}
 

@@ -5,22 +5,16 @@ use Rattle.std.proofs.Common.{◌≡◌, ℕ, zero, suc, ◌+◌, ◌*◌, ◌<�
 use Rattle.std.proofs.Common.{map, filter, length, All, Option, refl, sym, ◌∙◌, ap, ap₂, subst, arith, append_assoc}
 use Rattle.std.proofs.lemmas.Bool.{lt-leb, cases_lt}
 use Rattle.std.proofs.lemmas.List.Elements.{All-head, All-tail}
-use Rattle.law_model.specs.session.Leg.{Leg}
-use Rattle.law_model.specs.frames.Piece.{Piece, idle, client, cut, stream_of}
-use Rattle.law_model.specs.session.Scenario.{DueFrame, Scenario, scenario_by, offers_of, comes_at}
-use Rattle.law_model.specs.source.Table.{Told}
-use Rattle.law_model.specs.source.Client.{frames_in, width, place_of, stream_before}
-use Rattle.law_model.specs.source.Journal.{accepted_offers, offers_before}
-use Rattle.law_model.specs.source.Back.{session_cells}
-use Rattle.law_model.specs.rows.SessionRows.{is_whole_row}
-use Rattle.law_model.specs.frames.Loss.{IsPlaceOfPiece}
-use Rattle.law_model.specs.session.Valid.{IsSize, IsSound}
+use Rattle.law_loss.proofs.ExtentLaws.{no_octets}
+use Rattle.law_model.specs.Common.{Leg, Piece, idle, client, stream_of, DueFrame, Scenario, scenario_by, offers_of}
+use Rattle.law_model.specs.Common.{comes_at, Told, frames_in, width, place_of, stream_before, accepted_offers}
+use Rattle.law_model.specs.Common.{offers_before, session_cells, is_whole_row, IsPlaceOfPiece, IsSize, IsSound}
 use Rattle.law_model.proofs.StreamLaws.{length-stream_of-cons}
 use Rattle.law_session.proofs.ClientLaws.{stream-reaches, stream_before-frames}
 use Rattle.law_loss.proofs.SessionStreamLaws.{pieces-begin}
 use Rattle.law_loss.proofs.AlignedLaws.{aligned-starts}
 use Rattle.law_loss.proofs.LawScriptLaws.ItemLaws.{are_octets}
-use Rattle.law_walk.specs.Promise.{session_pieces, place_after, ConfirmsTrue}
+use Rattle.law_walk.specs.Common.{session_pieces, place_after, ConfirmsTrue}
 
 -- ---- rows that end at the place of a piece
 pub aligned-true : (leg : Leg) (rows : ℕ) → IsSound leg → rows ≤ leg.config.ticks →
@@ -62,10 +56,6 @@ module _ (scenario : Scenario) (cells : List (Option Told)) (from : ℕ)
       front-none : (front back : List (List ℕ)) → front ++ back ≡ [] → front ≡ []
       front-none [] back none = refl
       front-none (frame ∷ front) back none = absurd cc
-
-no_octets : length (stream_of []) ≡ 0
-unfolding cut
-no_octets = refl
 
 -- among idles each fourth octet is the place of one
 idle-place : (n : ℕ) (pieces : List Piece) → frames_in pieces ≡ [] → 4 * n ≤ length (stream_of pieces) →

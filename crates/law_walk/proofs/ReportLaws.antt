@@ -2,23 +2,19 @@
 use Rattle.std.proofs.Common.{◌≡◌, ℕ, zero, suc, ◌+◌, ◌-◌, ◌<◌, ◌≤◌, nat_lt, ◌&&◌, not, Bool, true, false}
 use Rattle.std.proofs.Common.{if◌then◌else◌, inl, inr, List, [], ◌∷◌, ◌++◌, filter, take, length, slice_get, All}
 use Rattle.std.proofs.Common.{Option, Some, None, is_none, refl, sym, ◌∙◌, ap, subst, arith, append_assoc}
-use Rattle.std.proofs.Common.{length-append}
+use Rattle.std.proofs.Common.{length-append, flat_map}
 use Rattle.std.proofs.lemmas.Bool.{cases_Bool}
 use Rattle.std.proofs.lemmas.List.Concat.{flat_map-append}
 use Rattle.std.proofs.lemmas.List.Elements.{All-cons, All-append, filter-append}
-use Rattle.std.specs.List.{flat_map}
+use Rattle.law_model.specs.Common.{Leg, DueCommand, DueFrame, order_of, offer_of, orders_of, offers_of, Counts}
 use Rattle.law_model.specs.declared.script_types.Item.{Item}
 use Rattle.law_model.specs.declared.script_types.ItemKind.{ItemKind}
-use Rattle.law_model.specs.declared.script_types.ItemKind.TheVariants.{Frame, Add, Remove}
-use Rattle.law_model.specs.session.Leg.{Leg}
-use Rattle.law_model.specs.session.Scenario.{DueCommand, DueFrame, order_of, offer_of, orders_of, offers_of}
-use Rattle.law_model.specs.session.Counts.{Counts}
 use Rattle.law_model.specs.declared.item_refusals.Refusal.{Refusal}
 use Rattle.law_model.specs.declared.session_totals.Totals.{Totals}
-use Rattle.law_walk.specs.Delivered.{delivered_of}
-use Rattle.law_walk.specs.Landed.{Numbered, is_client, with_if, landed_from, landed_items, IsOfferAt, IsOrderAt}
-use Rattle.law_walk.specs.Landed.{refusal_at, refused_by, refusals_among, refusals_of, IsPlaced, is_accepted_frame}
-use Rattle.law_walk.specs.Landed.{is_accepted_command, totals_of, with_frame_told, with_command_told}
+use Rattle.law_model.specs.declared.script_types.ItemKind.TheVariants.{Frame, Add, Remove}
+use Rattle.law_walk.specs.Common.{delivered_of, Numbered, is_client, with_if, landed_from, landed_items, IsOfferAt}
+use Rattle.law_walk.specs.Common.{IsOrderAt, refusal_at, refused_by, refusals_among, refusals_of, IsPlaced}
+use Rattle.law_walk.specs.Common.{is_accepted_frame, is_accepted_command, totals_of, with_frame_told, with_command_told}
 
 -- ---- an item among those that have landed
 pub record IsInserted (item : Numbered) (was now : List Numbered) : Type 0 where

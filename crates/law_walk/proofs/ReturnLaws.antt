@@ -1,22 +1,16 @@
 -- The return path of a walk.
-use Rattle.std.specs.Prelude.{IsSome}
-use Rattle.std.proofs.Common.{◌≡◌, ℕ, suc, ◌+◌, ◌-◌, ◌*◌, ◌/◌, ◌%◌, ◌==◌, ◌<◌, ◌≤◌, ◌&&◌, nat_le, nat_lt, if◌then◌else◌}
-use Rattle.std.proofs.Common.{false, inl, inr, List, [], ◌∷◌, ◌++◌, map, drop, length, slice_get, slice_index_or, Some}
-use Rattle.std.proofs.Common.{option_map, refl, sym, ◌∙◌, ap, subst, arith}
+use Rattle.std.proofs.Common.{IsSome, ◌≡◌, ℕ, suc, ◌+◌, ◌-◌, ◌*◌, ◌/◌, ◌%◌, ◌==◌, ◌<◌, ◌≤◌, ◌&&◌, nat_le, nat_lt}
+use Rattle.std.proofs.Common.{if◌then◌else◌, inl, inr, List, [], ◌∷◌, ◌++◌, map, drop, length, slice_get}
+use Rattle.std.proofs.Common.{slice_index_or, Some, option_map, refl, sym, ◌∙◌, ap, subst, arith, leb-true, leb-false}
+use Rattle.std.proofs.Common.{ltb-true, ltb-false, eqb-true, append-nil, take-append-drop, take_all}
 use Rattle.std.specs.List.{range_with_len}
-use Rattle.std.proofs.lemmas.Bool.{leb-true, leb-false, ltb-true, ltb-false, eqb-true, cases_Bool, cases_lt}
-use Rattle.std.proofs.lemmas.List.{append-nil, take-append-drop, take_all}
+use Rattle.std.proofs.lemmas.Bool.{cases_Bool, cases_lt, eqb-false}
 use Rattle.std.proofs.lemmas.List.FromFn.{length-map-range_with_len, map-range_with_len_more}
 use Rattle.std.proofs.lemmas.Option.{slice_get-map, slice_get_within}
-use Rattle.member_cells.specs.declared.containers_and_cells.Cell.{Cell}
-use Rattle.law_model.specs.session.Leg.{Leg}
-use Rattle.law_model.specs.members.Path.{cells}
-use Rattle.law_model.specs.members.Number.{verdict}
-use Rattle.law_model.specs.session.Scenario.{scenario_by, carried_by, packets_in}
-use Rattle.law_model.specs.packets.Told.{told_in}
-use Rattle.law_model.specs.source.Back.{return_cell, cells_before, session_cells}
-use Rattle.law_model.specs.rows.Rows.{return_at}
-use Rattle.law_model.specs.session.Counts.{LineCounts, Counts, used_in}
+use Rattle.law_model.proofs.ListLaws.{at-range}
+use Rattle.law_model.specs.Common.{Cell, Leg, cells, verdict, scenario_by, carried_by, told_in, return_cell}
+use Rattle.law_model.specs.Common.{cells_before, session_cells, return_at, LineCounts, Counts, used_in}
+use Rattle.law_model.specs.session.Scenario.{packets_in}
 use Rattle.law_line.specs.StableRows.{IsLonger, AreDecidedAt}
 use Rattle.law_line.proofs.RowLaws.{returns_stay}
 use Rattle.law_progress.proofs.LineLaws.{is_path}
@@ -27,8 +21,8 @@ use Rattle.law_terminal.proofs.ListLaws.{range-at}
 use Rattle.law_terminal.proofs.RowLaws.{back-told, packet-told}
 use Rattle.law_terminal.proofs.CellLaws.{is-line}
 use Rattle.law_terminal.proofs.LoopLaws.{next-cell}
-use Rattle.law_walk.specs.Walk.{sent_on, CanWalk, IsWalked, counts_at, popped_on, popped_cells, path_on}
-use Rattle.law_walk.specs.Rings.{delay_on, line_cells, all_lines, said_packet, back_cell, return_ring, inbox}
+use Rattle.law_walk.specs.Common.{sent_on, CanWalk, IsWalked, counts_at, popped_on, popped_cells, path_on, delay_on}
+use Rattle.law_walk.specs.Common.{line_cells, all_lines, said_packet, back_cell, return_ring, inbox}
 use Rattle.law_walk.proofs.PlanLaws.{has-lines}
 use Rattle.law_walk.proofs.WalkLaws.{cells-decide}
 use Rattle.law_walk.proofs.WaitLaws.{popped-decides}
@@ -45,11 +39,6 @@ line-at f n line own here =
     ∙ ap (option_map f) (range-at 0 n line low ∙ ap Some (let e : 0 + line ≡ line = omega arith in e)) in
     (low, cc)
 
-at-line : (f : ℕ → List Cell) (n line : ℕ) → line < n → slice_get (map f (range_with_len 0 n)) line ≡ Some (f line)
-at-line f n line low =
-    slice_get-map f (range_with_len 0 n) line
-    ∙ ap (option_map f) (range-at 0 n line low ∙ ap Some (let e : 0 + line ≡ line = omega arith in e))
-
 pub all-longer : (leg : Leg) (lines : List LineCounts) → IsLonger (popped_cells leg lines) (all_lines leg)
 all-longer leg lines =
     let n : ℕ = length leg.config.windows in
@@ -60,7 +49,7 @@ all-longer leg lines =
           let (low, same) = line-at (popped_on leg lines) n line own here in
           let y : ℕ = (counts_at lines line).popped in (
             drop y (line_cells leg line),
-            at-line (line_cells leg) n line low
+            at-range (line_cells leg) n line low
                 ∙ ap Some (sym (take-append-drop y (line_cells leg line))
                 ∙ ap (λ l. l ++ drop y (line_cells leg line)) same),
           );
@@ -146,9 +135,6 @@ packet-said leg s k can walked low =
     (cells-decide leg s can walked (16 * k + 23) low))
 
 -- ---- numbers
-pub not-equal : (a b : ℕ) → (a == b) ≡ false → a ≡ b → ⊥
-not-equal a b e = grind (arith, e)
-
 pub packets-next : (t : ℕ) → packets_in (t + 1) ≡ packets_in t + (if nat_lt 22 t && t % 16 == 7 then 1 else 0)
 packets-next t =
     elim (cases_Bool (nat_lt 22 t)) [
@@ -156,7 +142,7 @@ packets-next t =
       | inl late ↦ let h = ltb-true 22 t late in elim (cases_Bool (t % 16 == 7)) [
         | inl place ↦ let g = eqb-true (t % 16) 7 place in rw (late, place) (omega (arith, h, g))
         | inr other ↦
-            let g = not-equal (t % 16) 7 other in
+            let g = eqb-false (t % 16) 7 other in
             rw (late, other) (elim (cases_lt (t % 16) 7) [
               | inl less ↦ omega (arith, h, less)
               | inr more ↦ elim (cases_lt 7 (t % 16)) [
@@ -176,7 +162,7 @@ used-next lag t =
         | inr early ↦ let h = leb-false lag (t / 16) early in rw (place, early) (omega (arith, h, g))
       ]
       | inr other ↦
-          let g = not-equal (t % 16) 8 other in
+          let g = eqb-false (t % 16) 8 other in
           rw other (elim (cases_lt (t % 16) 8) [
             | inl less ↦ omega (arith, less)
             | inr more ↦ elim (cases_lt 8 (t % 16)) [

@@ -1,34 +1,23 @@
 -- The rings of a line by its numbers.
-use Rattle.std.proofs.Common.{◌≡◌, ℕ, zero, suc, ◌+◌, ◌-◌, ◌<◌, ◌≤◌, min, List, [], ◌∷◌, ◌++◌, take, drop, length}
+use Rattle.std.proofs.Common.{◌≡◌, ℕ, suc, ◌+◌, ◌-◌, ◌<◌, ◌≤◌, min, List, [], ◌∷◌, ◌++◌, take, drop, length}
 use Rattle.std.proofs.Common.{slice_get, Some, refl, sym, ◌∙◌, ap, subst, arith}
 use Rattle.std.proofs.lemmas.List.{drop-append-le, length-drop, length-take}
 use Rattle.std.proofs.lemmas.List.FromFn.{take-map-range_with_len}
 use Rattle.std.proofs.lemmas.Option.{slice_get_within}
-use Rattle.member_cells.specs.declared.containers_and_cells.Container.{Container}
-use Rattle.member_cells.specs.declared.containers_and_cells.Cell.{Cell}
+use Rattle.law_model.specs.Common.{Container, Cell, Leg, cells, scenario_by, carried_by, session_cells, container_of}
+use Rattle.law_model.specs.Common.{containers_of, LinePath, LineCounts, Counts}
 use Rattle.check_nibbles.proofs.LockLaws.{slice_get-append}
-use Rattle.law_model.specs.session.Leg.{Leg}
-use Rattle.law_model.specs.members.Path.{cells}
-use Rattle.law_model.specs.session.Scenario.{scenario_by, carried_by}
-use Rattle.law_model.specs.source.Back.{session_cells}
-use Rattle.law_model.specs.rows.Sent.{container_of, containers_of}
-use Rattle.law_model.specs.session.Counts.{LinePath, LineCounts, Counts}
-use Rattle.law_line.proofs.ListLaws.{slice_get-drop, take-next}
+use Rattle.law_model.proofs.ListLaws.{slice_get-drop, take-next, drop-next}
 use Rattle.law_line.proofs.StableLaws.{cells-part}
 use Rattle.law_progress.specs.Progress.{Each}
 use Rattle.law_terminal.proofs.SentLaws.{container-at, containers-size}
 use Rattle.law_terminal.proofs.CellLaws.{given-whole}
-use Rattle.law_walk.specs.Walk.{sent_on, walk_plan, CanWalk, IsWalked, path_on}
-use Rattle.law_walk.specs.Rings.{delay_on, line_cells, sent_at, taken_by, cells_by, send_by, receive_by}
+use Rattle.law_walk.specs.Common.{sent_on, walk_plan, CanWalk, IsWalked, path_on, delay_on, line_cells, sent_at}
+use Rattle.law_walk.specs.Common.{taken_by, cells_by, send_by, receive_by}
 use Rattle.law_walk.proofs.PlanLaws.{has-paths}
 use Rattle.law_walk.proofs.WalkLaws.{fits}
 
 -- ---- lists
-drop-next : {X : Type 0} (xs : List X) (i : ℕ) (x : X) → slice_get xs i ≡ Some x → drop i xs ≡ x ∷ drop (suc i) xs
-drop-next [] i x e = absurd cc
-drop-next (y ∷ ys) zero x e = ap (λ y. y ∷ ys) cc
-drop-next (y ∷ ys) (suc i) x e = drop-next ys i x e
-
 tail-same : {X : Type 0} (x : X) (xs ys : List X) → x ∷ xs ≡ x ∷ ys → xs ≡ ys
 tail-same x xs ys e = ap (drop 1) e
 

@@ -1,25 +1,19 @@
 -- What the source of a walk was told is the session's.
 use Rattle.std.proofs.Common.{◌≡◌, ℕ, suc, ◌-◌, ◌/◌, ◌<◌, ◌≤◌, List, [], ◌∷◌, fold, take, length, Option, option_map}
 use Rattle.std.proofs.Common.{refl, sym, ◌∙◌, ap, arith}
+use Rattle.law_model.specs.Common.{Leg, Scenario, DueCommand, DueFrame, order_of, offer_of, orders_of, offers_of}
+use Rattle.law_model.specs.Common.{scenario_by, steps_in, packets, orders_at, frames_at, Told, Source, asked_all}
+use Rattle.law_model.specs.Common.{refusal, after, source_at, Stream, frame_refusal, offered, stream_before}
+use Rattle.law_model.specs.Common.{session_cells, frame_of, Counts, used_in}
 use Rattle.law_model.specs.declared.script_types.Item.{Item}
 use Rattle.law_model.specs.declared.script_types.ItemKind.{ItemKind}
 use Rattle.law_model.specs.declared.script_types.ItemKind.TheVariants.{Frame, Add, Remove}
-use Rattle.law_model.specs.session.Leg.{Leg}
 use Rattle.law_model.specs.declared.lcas_states.Command.TheVariants.{Add as add, Remove as remove}
-use Rattle.law_model.specs.session.Scenario.{Scenario, DueCommand, DueFrame, order_of, offer_of, orders_of, offers_of}
-use Rattle.law_model.specs.session.Scenario.{scenario_by, steps_in, packets, orders_at, frames_at}
-use Rattle.law_model.specs.source.Table.{Told}
-use Rattle.law_model.specs.source.Source.{Source, asked_all, refusal, after, source_at}
-use Rattle.law_model.specs.source.Client.{Stream, frame_refusal, offered, stream_before}
-use Rattle.law_model.specs.source.Back.{session_cells}
-use Rattle.law_model.specs.rows.Sent.{frame_of}
-use Rattle.law_model.specs.session.Counts.{Counts, used_in}
 use Rattle.law_model.specs.declared.item_refusals.Refusal.TheVariants.{Frame as frame_fault, Command as command_fault}
 use Rattle.law_session.proofs.SessionLaws.{Agree-first}
 use Rattle.law_terminal.proofs.CourseLaws.{session-agree}
-use Rattle.law_walk.specs.Walk.{CanWalk, IsWalked}
-use Rattle.law_walk.specs.Landed.{Numbered, landed_scenario, told_before, IsOfferAt, IsOrderAt, stream_met, source_met}
-use Rattle.law_walk.specs.Landed.{kind_refusal, refusal_at}
+use Rattle.law_walk.specs.Common.{CanWalk, IsWalked, Numbered, landed_scenario, told_before, IsOfferAt, IsOrderAt}
+use Rattle.law_walk.specs.Common.{stream_met, source_met, kind_refusal, refusal_at}
 use Rattle.law_walk.proofs.WalkLaws.{fits}
 use Rattle.law_walk.proofs.LandLaws.{frame-waits, command-waits, frames-landed, orders-landed, offer-at, order-at}
 use Rattle.law_session.proofs.AlikeLaws.{Alike, Alike-sooner, alike-after, alike-stream, alike-frame}

@@ -1,17 +1,12 @@
 -- The last decision step of a walk.
 use Rattle.std.proofs.Common.{◌≡◌, ℕ, suc, ◌+◌, ◌-◌, ◌*◌, ◌/◌, ◌%◌, ◌==◌, ◌<◌, ◌≤◌, nat_lt, if◌then◌else◌, true, inl}
 use Rattle.std.proofs.Common.{inr, Some, refl, ◌∙◌, ap, arith}
-use Rattle.std.proofs.lemmas.Bool.{eqb-true, lt-ltb, cases_Bool, cases_lt}
-use Rattle.law_model.specs.session.Leg.{Leg}
-use Rattle.law_model.specs.session.Scenario.{steps_in, packets_in, orders_at}
-use Rattle.law_model.specs.source.Source.{Source, after, source_at}
-use Rattle.law_model.specs.session.Counts.{Counts, used_in}
+use Rattle.std.proofs.lemmas.Bool.{eqb-true, lt-ltb, cases_Bool, cases_lt, eqb-false}
+use Rattle.law_model.specs.Common.{Leg, steps_in, orders_at, Source, after, source_at, Counts, used_in}
+use Rattle.law_model.specs.session.Scenario.{packets_in}
 use Rattle.law_session.proofs.FeedbackLaws.{asked_all-table}
-use Rattle.law_walk.specs.Walk.{CanWalk, IsWalked}
-use Rattle.law_walk.specs.Landed.{landed_scenario, told_before}
-use Rattle.law_walk.specs.Step.{last_packet, table_in}
+use Rattle.law_walk.specs.Common.{CanWalk, IsWalked, landed_scenario, told_before, last_packet, table_in}
 use Rattle.law_walk.proofs.WalkLaws.{fits}
-use Rattle.law_walk.proofs.ReturnLaws.{not-equal}
 use Rattle.law_walk.proofs.SourceLaws.{told-tables}
 
 pub last-next : (t : ℕ) → last_packet (t + 1) ≡ (if t % 16 == 8 then Some (t / 16) else last_packet t)
@@ -24,7 +19,7 @@ last-next t =
           let less : suc (t / 16) - 1 ≡ t / 16 = omega arith in
           rw (place, n, some, less) refl
       | inr other ↦
-          let g = not-equal (t % 16) 8 other in
+          let g = eqb-false (t % 16) 8 other in
           let n : steps_in (t + 1) ≡ steps_in t =
           elim (cases_lt (t % 16) 8) [
             | inl less ↦ omega (arith, less)
@@ -42,7 +37,7 @@ used-now lag t place late = omega arith
 pub packet-now : (t : ℕ) → 22 < t → t % 16 ≡ 7 → (t - 23) / 16 ≡ packets_in t
 packet-now t late place = omega arith
 
-ends : (rows backs k : ℕ) → backs ≤ (rows - 8) / 16 → k < backs → 16 * k + 23 < rows
+pub ends : (rows backs k : ℕ) → backs ≤ (rows - 8) / 16 → k < backs → 16 * k + 23 < rows
 ends rows backs k most low = omega arith
 
 pub said-ends : (leg : Leg) (s : Counts) (k : ℕ) → CanWalk leg → IsWalked leg s → k < s.backs →

@@ -1,23 +1,17 @@
 -- For which line a Take waits.
-use Rattle.std.specs.Prelude.{IsSome, ◌↔◌}
-use Rattle.std.proofs.Common.{◌≡◌, ℕ, zero, suc, ◌+◌, ◌<◌, ◌≤◌, nat_le, Bool, true, false, inl, inr, List, [], ◌∷◌, map}
-use Rattle.std.proofs.Common.{take, length, slice_get, slice_index_or, Option, Some, None, is_none, refl, sym, ◌∙◌, ap}
-use Rattle.std.proofs.Common.{ap₂, subst, arith}
+use Rattle.std.proofs.Common.{IsSome, ◌↔◌, ◌≡◌, ℕ, zero, suc, ◌+◌, ◌<◌, ◌≤◌, nat_le, Bool, true, false, inl, inr, List}
+use Rattle.std.proofs.Common.{[], ◌∷◌, map, take, length, slice_get, slice_index_or, Option, Some, None, is_none, refl}
+use Rattle.std.proofs.Common.{sym, ◌∙◌, ap, ap₂, subst, arith, leb-true, leb-false}
 use Rattle.std.specs.List.{range_with_len, position_from}
-use Rattle.std.proofs.lemmas.Bool.{leb-true, leb-false, cases_Bool, cases_lt}
-use Rattle.std.proofs.lemmas.Option.{slice_get_within}
-use Rattle.member_cells.specs.declared.containers_and_cells.Container.{Container}
-use Rattle.member_cells.specs.declared.containers_and_cells.Cell.{Cell}
-use Rattle.law_model.specs.session.Leg.{Leg}
-use Rattle.law_model.specs.members.Number.{verdict}
-use Rattle.law_model.specs.session.Scenario.{scenario_by, carried_by}
-use Rattle.law_model.specs.source.Back.{session_cells}
-use Rattle.law_model.specs.rows.Rows.{first_open}
-use Rattle.law_model.specs.session.Counts.{LinePath, LineCounts, popped_line, pop_lines}
+use Rattle.std.proofs.lemmas.Bool.{cases_Bool, cases_lt}
+use Rattle.std.proofs.lemmas.Option.{slice_get_within, same_Some}
+use Rattle.law_model.proofs.ListLaws.{some-none}
+use Rattle.law_model.specs.Common.{Container, Cell, Leg, verdict, scenario_by, carried_by, session_cells, first_open}
+use Rattle.law_model.specs.Common.{LinePath, LineCounts, popped_line, pop_lines}
 use Rattle.law_progress.proofs.LineLaws.{is_decided}
 use Rattle.law_terminal.proofs.SentLaws.{containers-size}
-use Rattle.law_walk.specs.Walk.{sent_on, walk_plan, CanWalk, counts_at, popped_on, popped_cells, path_on}
-use Rattle.law_walk.specs.Rings.{delay_on, line_cells, AreDecidedBefore}
+use Rattle.law_walk.specs.Common.{sent_on, walk_plan, CanWalk, counts_at, popped_on, popped_cells, path_on, delay_on}
+use Rattle.law_walk.specs.Common.{line_cells, AreDecidedBefore}
 use Rattle.law_walk.proofs.PlanLaws.{has-paths, line-path}
 
 pub popped-decides : (leg : Leg) (line y t : ℕ) → t < leg.config.ticks →
@@ -68,10 +62,6 @@ is-open : (v : Option (Option Container)) → (IsSome v → ⊥) → is_none v �
 is-open None h = refl
 is-open (Some told) h = absurd (h refl)
 
-is-told : (v : Option (Option Container)) → IsSome v → is_none v ≡ false
-is-told (Some told) h = refl
-is-told None h = absurd (let e : false ≡ true = h in cc)
-
 abbrev is_open : ℕ → List Cell → Bool
 is_open t own = is_none (verdict own t)
 
@@ -95,7 +85,7 @@ first-waits t all m (path ∷ paths) (line ∷ lines) size decide =
       | inr e ↦
           let past : t < path.decided y = leb-false (path.decided y) t e in
           let told : is_none (verdict (take (popped_line path t line).popped (all m)) t) ≡ false =
-          is-told (verdict (take y (all m)) t) ((decide.0 y).1 past) in
+          some-none (verdict (take y (all m)) t) ((decide.0 y).1 past) in
           rw (e, told) (ap (λ k. position_from (is_open t) k
           (cells_from all (suc m) (pop_lines t (suc m) paths lines).lines)) next
           ∙ first-waits t all (suc m) paths lines (omega arith) decide.1)
@@ -126,9 +116,6 @@ pop-size t m (path ∷ paths) (line ∷ lines) size =
       | inr e ↦ rw e (ap suc (pop-size t (suc m) paths lines (omega arith)))
     ]
 
-some-same : (a b : LinePath) → Some a ≡ Some b → a ≡ b
-some-same a b e = cc
-
 pub take-waits : (leg : Leg) (lines : List LineCounts) (t : ℕ) → CanWalk leg →
     length lines ≡ length leg.config.windows → t < leg.config.ticks →
     first_open (popped_cells leg (pop_lines t 0 (walk_plan leg).paths lines).lines) t ≡
@@ -142,7 +129,7 @@ take-waits leg lines t can size low =
     (decide-from t (line_cells leg) 0 paths (λ k path there y.
     let inside = slice_get_within paths k path there in
     let same : path_on leg k ≡ path =
-    some-same (path_on leg k) path (sym (line-path leg can k (omega arith)) ∙ there) in
+    same_Some (path_on leg k) path (sym (line-path leg can k (omega arith)) ∙ there) in
     let e : 0 + k ≡ k = omega arith in
     subst (λ i. IsSome (verdict (take y (line_cells leg i)) t) ↔ (t < path.decided y)) (sym e)
     (subst (λ p. IsSome (verdict (take y (line_cells leg k)) t) ↔ (t < p.decided y)) same
@@ -153,7 +140,7 @@ told-line : (leg : Leg) (lines : List LineCounts) (i t : ℕ) → t < leg.config
     t < (path_on leg i).decided (counts_at lines i).popped →
     is_none (verdict (popped_on leg lines i) t) ≡ false
 told-line leg lines i t low past =
-    is-told (verdict (popped_on leg lines i) t) ((popped-decides leg i (counts_at lines i).popped t low).1 past)
+    some-none (verdict (popped_on leg lines i) t) ((popped-decides leg i (counts_at lines i).popped t low).1 past)
 
 position-at : (test : List Cell → Bool) (f : ℕ → List Cell) (from n m : ℕ) → m < n →
     ((i : ℕ) → i < m → test (f (from + i)) ≡ false) → test (f (from + m)) ≡ true →

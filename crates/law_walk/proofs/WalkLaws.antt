@@ -8,25 +8,13 @@ use Rattle.std.specs.List.{range_with_len}
 use Rattle.std.proofs.lemmas.List.{take-append-drop, take-append-le}
 use Rattle.std.proofs.lemmas.List.FromFn.{length-map-range_with_len, map-range_with_len_more}
 use Rattle.std.proofs.lemmas.Option.{slice_get-map, slice_get_within}
-use Rattle.member_cells.specs.declared.containers_and_cells.Container.{Container}
-use Rattle.member_cells.specs.declared.containers_and_cells.Cell.{Cell}
+use Rattle.law_model.specs.Common.{Container, Cell, Leg, cells, verdict, Scenario, scenario_by, carried_by, packets}
+use Rattle.law_model.specs.Common.{steps_in, Told, told_in, after, stream_before, cells_before, session_cells}
+use Rattle.law_model.specs.Common.{payload_of, row_at, is_whole_row, frame_of, LinePath, LineCounts, Counts, step, run}
+use Rattle.law_model.specs.Common.{begin, drain, all_cells, path_of}
 use Rattle.law_model.specs.declared.window_types.Carried.{Carried}
-use Rattle.law_model.specs.session.Leg.{Leg}
 use Rattle.law_model.specs.declared.walk_events.Event.{Event}
-use Rattle.law_model.specs.members.Path.{cells}
-use Rattle.law_model.specs.members.Number.{verdict}
-use Rattle.law_model.specs.session.Scenario.{Scenario, scenario_by, carried_by, packets_in, packets, steps_in}
-use Rattle.law_model.specs.source.Table.{Told}
-use Rattle.law_model.specs.packets.Told.{told_in}
-use Rattle.law_model.specs.source.Source.{after}
-use Rattle.law_model.specs.source.Client.{stream_before}
-use Rattle.law_model.specs.source.Back.{cells_before, session_cells}
-use Rattle.law_model.specs.frames.Payload.{payload_of}
-use Rattle.law_model.specs.rows.Rows.{row_at}
-use Rattle.law_model.specs.rows.SessionRows.{is_whole_row}
-use Rattle.law_model.specs.rows.Sent.{frame_of}
-use Rattle.law_model.specs.session.Counts.{LinePath, LineCounts, Counts, step, run, begin, drain}
-use Rattle.law_model.specs.session.Plan.{all_cells, path_of}
+use Rattle.law_model.specs.session.Scenario.{packets_in}
 use Rattle.law_line.specs.StableRows.{AreDecidedAt}
 use Rattle.law_line.proofs.StableLaws.{cells-part}
 use Rattle.law_progress.specs.Progress.{Each, LineFits, Fits}
@@ -41,8 +29,8 @@ use Rattle.law_terminal.proofs.CellLaws.{given-whole}
 use Rattle.law_terminal.proofs.RowLaws.{row-told}
 use Rattle.law_terminal.proofs.CourseLaws.{session-agree, come-same}
 use Rattle.law_terminal.proofs.LoopLaws.{frame-same, source-same, stream-same, next-cell}
-use Rattle.law_walk.specs.Walk.{sent_on, walk_plan, CanWalk, IsWalked, counts_at, cells_on, popped_on, popped_cells}
-use Rattle.law_walk.specs.Walk.{path_on}
+use Rattle.law_walk.specs.Common.{sent_on, walk_plan, CanWalk, IsWalked, counts_at, cells_on, popped_on, popped_cells}
+use Rattle.law_walk.specs.Common.{path_on}
 use Rattle.law_walk.proofs.PlanLaws.{has-lines, has-plan, line-path}
 
 each-there : (P : LinePath → LineCounts → Type 0) (paths : List LinePath) (lines : List LineCounts) (m : ℕ)
@@ -66,7 +54,7 @@ first-given carries delay containers x y low fits =
     ap (take y) e ∙ take-append-le y (cells carries delay (length containers) containers x) more fits
 
 -- ---- a line that doesn't decide a row
-open-or : (v : Option (Option Container)) (d t : ℕ) → (IsSome v ↔ (t < d)) → is_none v ≡ nat_le d t
+pub open-or : (v : Option (Option Container)) (d t : ℕ) → (IsSome v ↔ (t < d)) → is_none v ≡ nat_le d t
 open-or None d t same = elim (cases_lt t d) [
   | inl low ↦ absurd (let e : false ≡ true = same.1 low in cc)
   | inr high ↦ sym (le-leb d t high)

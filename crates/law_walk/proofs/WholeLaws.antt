@@ -1,37 +1,27 @@
 -- Which rows are whole, and what is delivered while they are.
-use Rattle.std.proofs.Common.{◌≡◌, ℕ, suc, ◌+◌, ◌-◌, ◌*◌, ◌/◌, ◌<◌, ◌≤◌, nat_le, nat_lt, ◌&&◌, Bool, true, false, inl}
+use Rattle.std.proofs.Common.{◌≡◌, ℕ, suc, ◌+◌, ◌-◌, ◌*◌, ◌/◌, ◌<◌, ◌≤◌, nat_le, nat_lt, ◌&&◌, true, false, inl}
 use Rattle.std.proofs.Common.{inr, List, [], ◌∷◌, length, slice_index_or, All, Option, refl, sym, ◌∙◌, ap, ap₂, subst}
 use Rattle.std.proofs.Common.{arith}
-use Rattle.std.specs.List.{list_all}
 use Rattle.std.proofs.lemmas.Bool.{lt-leb, ltb-false, cases_Bool, cases_lt}
 use Rattle.std.proofs.lemmas.List.{get_or_past}
 use Rattle.std.proofs.lemmas.List.Elements.{All-nil, All-cons}
+use Rattle.law_model.specs.Common.{Leg, is_good, Piece, idle, frames_by, Scenario, scenario_by, carried_by, is_read}
+use Rattle.law_model.specs.Common.{is_heard, Told, active, table_of, session_cells, is_whole_row, Segment}
+use Rattle.law_model.specs.Common.{octets_of_rows, StartsTrue, rows_of, IsSound, longest_frame}
 use Rattle.law_model.specs.declared.window_types.Window.{Window}
 use Rattle.law_model.specs.declared.window_types.Carried.{Carried}
 use Rattle.law_model.specs.declared.window_types.Carried.TheVariants.{Whole}
-use Rattle.law_model.specs.session.Leg.{Leg}
-use Rattle.law_model.specs.members.Damage.{carried, is_good}
-use Rattle.law_model.specs.frames.Piece.{Piece, idle, frames_by}
-use Rattle.law_model.specs.session.Scenario.{Scenario, scenario_by, carried_by, is_read, is_heard}
-use Rattle.law_model.specs.source.Table.{Told, active}
-use Rattle.law_model.specs.source.Source.{table_of}
-use Rattle.law_model.specs.source.Back.{session_cells}
-use Rattle.law_model.specs.rows.SessionRows.{is_whole_row}
-use Rattle.law_model.specs.frames.Segment.{Segment, octets_of_rows}
-use Rattle.law_model.specs.frames.Loss.{StartsTrue}
-use Rattle.law_model.specs.rows.SessionStream.{rows_of}
-use Rattle.law_model.specs.session.Valid.{IsSound}
+use Rattle.law_model.specs.members.Damage.{carried}
 use Rattle.law_session.specs.Session.{AreWhole}
 use Rattle.law_session.proofs.DamageLaws.{readable-whole, good-whole, heard-line}
 use Rattle.law_loss.specs.Carried.{CarriesStream, IsSentPiece}
 use Rattle.law_loss.proofs.FilterLaws.{and_false}
-use Rattle.law_loss.proofs.SessionLossLaws.{pieces-sent, rows-whole}
+use Rattle.law_loss.proofs.SessionLossLaws.{pieces-sent, rows-whole, all-true}
 use Rattle.law_loss.proofs.SessionStreamLaws.{pieces-open, rows-carry, rows-length}
 use Rattle.law_loss.proofs.WholeLaws.{only_segment, deliver-whole}
 use Rattle.law_loss.proofs.LawScriptLaws.ItemLaws.{are_octets}
-use Rattle.law_walk.specs.Delivered.{delivered_of}
-use Rattle.law_walk.specs.Promise.{session_pieces, place_after, IsClear, row_from, AreWholeBefore, ConfirmsTrue}
-use Rattle.law_model.specs.Limits.{longest_frame}
+use Rattle.law_walk.specs.Common.{delivered_of, session_pieces, place_after, IsClear, row_from, AreWholeBefore}
+use Rattle.law_walk.specs.Common.{ConfirmsTrue}
 
 -- ---- one line
 clear-carried : (windows : List Window) (from end n : ℕ) → IsClear windows from end → from ≤ n → n < end →
@@ -54,10 +44,6 @@ pub clear-whole : (windows : List Window) (from end : ℕ) → IsClear windows f
 clear-whole windows from end clear n low high = clear-carried windows from end n clear low high
 
 -- ---- a row
-all-true : (test : ℕ → Bool) (xs : List ℕ) → ((x : ℕ) → test x ≡ true) → list_all test xs ≡ true
-all-true test [] each = refl
-all-true test (x ∷ xs) each = rw (each x, all-true test xs each) refl
-
 sooner-whole : (carries : ℕ → Carried) (a from b end : ℕ) → a ≤ from → end ≤ b → AreWhole carries a b →
     AreWhole carries from end
 sooner-whole carries a from b end low high whole n above below = whole n (omega arith) (omega arith)

@@ -1,12 +1,8 @@
 -- The frames that the rows of a leg's session give.
 use Rattle.std.specs.Prelude.{◌≡◌, ℕ, false, List, Option, Some, None}
-use Rattle.law_model.specs.session.Leg.{Leg}
-use Rattle.law_model.specs.session.Scenario.{scenario_by}
-use Rattle.law_model.specs.frames.Segment.{StreamRow, deliver}
-use Rattle.law_model.specs.rows.SessionStream.{rows_of}
+use Rattle.law_model.specs.Common.{Leg, scenario_by, StreamRow, deliver, rows_of, longest_frame}
 use Rattle.law_loss.specs.Added.{whole_row}
 use Rattle.law_walk.specs.Walk.{session_of}
-use Rattle.law_model.specs.Limits.{longest_frame}
 
 -- the first rows
 abbrev pub session_rows : Leg → ℕ → List StreamRow

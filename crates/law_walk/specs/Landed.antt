@@ -2,23 +2,17 @@
 -- that.
 use Rattle.std.specs.Prelude.{◌≡◌, ℕ, suc, ◌+◌, ◌-◌, ◌<◌, ◌&&◌, not, nat_lt, Bool, true, false, if◌then◌else◌, List, []}
 use Rattle.std.specs.Prelude.{◌∷◌, ◌++◌, map, filter, fold, length, take, slice_get, All, Option, Some, None}
-use Rattle.std.specs.Prelude.{option_map, is_none}
-use Rattle.std.specs.List.{flat_map}
+use Rattle.std.specs.Prelude.{option_map, is_none, flat_map}
+use Rattle.law_model.specs.Common.{Leg, DueCommand, DueFrame, Scenario, order_of, offer_of, orders_of, offers_of}
+use Rattle.law_model.specs.Common.{scenario_by, steps_in, lands_at, comes_at, with_items, Told, Source, after}
+use Rattle.law_model.specs.Common.{asked_all, refusal, Stream, frame_refusal, offered, stream_before, Counts, used_in}
 use Rattle.law_model.specs.declared.script_types.Item.{Item}
 use Rattle.law_model.specs.declared.script_types.ItemKind.{ItemKind}
-use Rattle.law_model.specs.declared.script_types.ItemKind.TheVariants.{Frame, Add, Remove}
-use Rattle.law_model.specs.session.Leg.{Leg}
-use Rattle.law_model.specs.declared.lcas_states.Command.TheVariants.{Add as add, Remove as remove}
-use Rattle.law_model.specs.session.Scenario.{DueCommand, DueFrame, Scenario, order_of, offer_of, orders_of, offers_of}
-use Rattle.law_model.specs.session.Scenario.{scenario_by, steps_in, lands_at, comes_at}
-use Rattle.law_model.specs.source.Journal.{with_items}
-use Rattle.law_model.specs.source.Table.{Told}
-use Rattle.law_model.specs.source.Source.{Source, after, asked_all, refusal}
-use Rattle.law_model.specs.source.Client.{Stream, frame_refusal, offered, stream_before}
-use Rattle.law_model.specs.session.Counts.{Counts, used_in}
 use Rattle.law_model.specs.declared.item_refusals.Refusal.{Refusal}
-use Rattle.law_model.specs.declared.item_refusals.Refusal.TheVariants.{Frame as frame_fault, Command as command_fault}
 use Rattle.law_model.specs.declared.session_totals.Totals.{Totals}
+use Rattle.law_model.specs.declared.script_types.ItemKind.TheVariants.{Frame, Add, Remove}
+use Rattle.law_model.specs.declared.lcas_states.Command.TheVariants.{Add as add, Remove as remove}
+use Rattle.law_model.specs.declared.item_refusals.Refusal.TheVariants.{Frame as frame_fault, Command as command_fault}
 use Rattle.law_walk.specs.Walk.{session_of, told_first}
 use Rattle.law_walk.specs.Delivered.{delivered_of}
 

@@ -6,3 +6,4 @@ pub mod Step
 pub mod Promise
 pub mod Report
 pub mod Worked
+pub mod Common

@@ -1,20 +1,14 @@
 -- What is promised of a leg, in the words of whoever wrote it.
 use Rattle.std.specs.Prelude.{◌≡◌, ◌⊎◌, ℕ, suc, ◌+◌, ◌-◌, ◌*◌, ◌/◌, ◌<◌, ◌≤◌, true, List, [], ◌∷◌, All, Option, Some}
-use Rattle.std.specs.Prelude.{None}
-use Rattle.std.specs.List.{flat_map}
+use Rattle.std.specs.Prelude.{None, flat_map}
+use Rattle.law_model.specs.Common.{Leg, Piece, scenario_by, place_of, stream_before, is_whole_row, Counts, bound, drain}
+use Rattle.law_model.specs.Common.{Extent, extents, TrueStarts}
 use Rattle.law_model.specs.declared.window_types.Window.{Window}
 use Rattle.law_model.specs.declared.script_types.Item.{Item}
 use Rattle.law_model.specs.declared.script_types.ItemKind.{ItemKind}
-use Rattle.law_model.specs.declared.script_types.ItemKind.TheVariants.{Frame, Add, Remove}
-use Rattle.law_model.specs.session.Leg.{Leg}
-use Rattle.law_model.specs.frames.Piece.{Piece}
-use Rattle.law_model.specs.session.Scenario.{scenario_by}
-use Rattle.law_model.specs.source.Client.{place_of, stream_before}
-use Rattle.law_model.specs.rows.SessionRows.{is_whole_row}
-use Rattle.law_model.specs.session.Counts.{Counts, bound, drain}
-use Rattle.law_model.specs.frames.Loss.{Extent, extents, TrueStarts}
-use Rattle.law_session.specs.Use.{IsInUse}
 use Rattle.law_model.specs.declared.item_refusals.Refusal.{Refusal}
+use Rattle.law_model.specs.declared.script_types.ItemKind.TheVariants.{Frame, Add, Remove}
+use Rattle.law_session.specs.Use.{IsInUse}
 use Rattle.law_walk.specs.Walk.{session_of, walk_plan}
 use Rattle.law_walk.specs.Delivered.{session_rows}
 use Rattle.law_walk.specs.Landed.{Numbered, refusal_at}

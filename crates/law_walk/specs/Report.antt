@@ -1,8 +1,7 @@
 -- The report of a walk: a line for each frame that was delivered, one for each item that was refused, and a line of
 -- totals.
 use Rattle.std.specs.Prelude.{ℕ, List, ◌++◌}
-use Rattle.law_model.specs.session.Leg.{Leg}
-use Rattle.law_model.specs.session.Counts.{Counts}
+use Rattle.law_model.specs.Common.{Leg, Counts}
 use Rattle.text_report.specs.Report.{got_texts, refused_texts, total_text}
 use Rattle.law_walk.specs.Delivered.{delivered_of}
 use Rattle.law_walk.specs.Landed.{Numbered, landed_items, refusals_among, totals_among}

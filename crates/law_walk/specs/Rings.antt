@@ -1,16 +1,9 @@
 -- What the rings of a walk hold, by its counts.
 use Rattle.std.specs.Prelude.{ℕ, min, ◌<◌, List, map, take, drop, length, slice_index_or}
 use Rattle.std.specs.List.{range_with_len}
-use Rattle.member_cells.specs.declared.containers_and_cells.Container.{Container}
-use Rattle.member_cells.specs.declared.containers_and_cells.Cell.{Cell}
-use Rattle.member_cells.specs.declared.containers_and_cells.BackCell.{BackCell}
+use Rattle.law_model.specs.Common.{Container, Cell, BackCell, Leg, cells, scenario_by, carried_by, container_of}
+use Rattle.law_model.specs.Common.{return_at, LineCounts, Counts, in_return, used_in, in_inbox}
 use Rattle.law_model.specs.declared.control_packet.Packet.{Packet}
-use Rattle.law_model.specs.session.Leg.{Leg}
-use Rattle.law_model.specs.members.Path.{cells}
-use Rattle.law_model.specs.session.Scenario.{scenario_by, carried_by}
-use Rattle.law_model.specs.rows.Sent.{container_of}
-use Rattle.law_model.specs.rows.Rows.{return_at}
-use Rattle.law_model.specs.session.Counts.{LineCounts, Counts, in_return, used_in, in_inbox}
 use Rattle.law_terminal.specs.Course.{back_of}
 use Rattle.law_walk.specs.Walk.{session_of, sent_on, walk_plan, counts_at, cells_on, path_on}
 

@@ -1,10 +1,6 @@
 -- The last decision step of a walk.
 use Rattle.std.specs.Prelude.{ℕ, ◌-◌, nat_lt, nat_le, if◌then◌else◌, Option, Some, None}
-use Rattle.member_cells.specs.declared.containers_and_cells.BackCell.{BackCell}
-use Rattle.law_model.specs.session.Leg.{Leg}
-use Rattle.law_model.specs.session.Scenario.{scenario_by, steps_in}
-use Rattle.law_model.specs.source.Table.{Table}
-use Rattle.law_model.specs.source.Source.{after}
+use Rattle.law_model.specs.Common.{BackCell, Leg, scenario_by, steps_in, Table, after}
 use Rattle.law_walk.specs.Walk.{session_of}
 use Rattle.law_walk.specs.Rings.{back_cell}
 

@@ -2,16 +2,9 @@
 use Rattle.std.specs.Prelude.{◌≡◌, ℕ, ◌<◌, ◌≤◌, List, map, take, length, slice_index_or, All, Option}
 use Rattle.std.specs.List.{range_with_len}
 use Rattle.std.specs.List.Sorted.{IsNonDecreasing}
-use Rattle.member_cells.specs.declared.containers_and_cells.Container.{Container}
-use Rattle.member_cells.specs.declared.containers_and_cells.Cell.{Cell}
-use Rattle.law_model.specs.session.Leg.{Leg}
-use Rattle.law_model.specs.members.Damage.{AreWindows}
-use Rattle.law_model.specs.session.Scenario.{Scenario, scenario_by, carried_by}
-use Rattle.law_model.specs.source.Table.{Told}
-use Rattle.law_model.specs.source.Back.{cells_before, session_cells}
-use Rattle.law_model.specs.rows.Sent.{containers_of}
-use Rattle.law_model.specs.session.Counts.{LinePath, Plan, LineCounts, Counts, frame_dues, command_dues, dues_of}
-use Rattle.law_model.specs.session.Plan.{all_cells, path_of, plan_of, FitsRing, FitsLag}
+use Rattle.law_model.specs.Common.{Container, Cell, Leg, AreWindows, Scenario, scenario_by, carried_by, Told}
+use Rattle.law_model.specs.Common.{cells_before, session_cells, containers_of, LinePath, Plan, LineCounts, Counts}
+use Rattle.law_model.specs.Common.{frame_dues, command_dues, dues_of, all_cells, path_of, plan_of, FitsRing, FitsLag}
 use Rattle.law_progress.specs.Progress.{IsReached}
 
 -- ---- the session of a leg

@@ -1,22 +1,18 @@
 -- Worked legs: what is refused, what is accepted, and what is counted.
 use Rattle.std.specs.Prelude.{ℕ, Bool, true, false, List, [], ◌∷◌, ◌++◌, map, length, replicate, codes}
 use Rattle.std.specs.List.{range_with_len}
+use Rattle.law_model.specs.Common.{Leg, scenario_by, is_whole_row, Counts, vc3_size}
 use Rattle.law_model.specs.declared.item_refusals.AcceptFault.TheVariants.{Length}
 use Rattle.law_model.specs.declared.item_refusals.CommandFault.TheVariants.{UnknownLine, AlreadyIn, NotIn}
 use Rattle.law_model.specs.declared.window_types.Window.{Window}
 use Rattle.law_model.specs.declared.script_types.Config.{Config}
 use Rattle.law_model.specs.declared.script_types.Item.{Item}
 use Rattle.law_model.specs.declared.script_types.ItemKind.{ItemKind}
-use Rattle.law_model.specs.declared.script_types.ItemKind.TheVariants.{Frame, Add, Remove}
-use Rattle.law_model.specs.session.Leg.{Leg}
-use Rattle.law_model.specs.session.Scenario.{scenario_by}
-use Rattle.law_model.specs.rows.SessionRows.{is_whole_row}
-use Rattle.law_model.specs.session.Counts.{Counts}
 use Rattle.law_model.specs.declared.item_refusals.Refusal.{Refusal}
-use Rattle.law_model.specs.declared.item_refusals.Refusal.TheVariants.{Frame as frame_fault, Command as command_fault}
 use Rattle.law_model.specs.declared.session_totals.Totals.{Totals}
+use Rattle.law_model.specs.declared.script_types.ItemKind.TheVariants.{Frame, Add, Remove}
+use Rattle.law_model.specs.declared.item_refusals.Refusal.TheVariants.{Frame as frame_fault, Command as command_fault}
 use Rattle.law_walk.specs.Walk.{session_of}
-use Rattle.law_model.specs.Limits.{vc3_size}
 
 abbrev pub item : ℕ → ItemKind → Item
 item due kind = record { due = due; kind = kind }

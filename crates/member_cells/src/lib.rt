@@ -4,13 +4,12 @@
 //! line, is not said here.
 #![tactic(auto)]
 
+mod boxed_containers;
 mod containers_and_cells;
 mod control_word;
-mod boxed_containers;
 mod held_container;
 
 pub use boxed_containers::blank_boxes;
-pub use held_container::HeldContainer;
-
-pub use control_word::Ctrl;
 pub use containers_and_cells::{BackCell, Cell, Container, PAYLOAD, payload_law};
+pub use control_word::Ctrl;
+pub use held_container::HeldContainer;

@@ -12,7 +12,7 @@
 //!   whether it is whole, and then its container.
 #![tactic(auto)]
 
+pub mod cell_numbers;
 pub mod failure_window;
 pub mod h4_multiframe;
 pub mod path_delay;
-pub mod cell_numbers;

@@ -3,13 +3,12 @@
 //! a packet among the H4 octets of a line is not said here.
 
 ghost use Rattle.std.specs.Prelude.{◌≡◌, ◌≢◌, ℕ, ◌%◌, ◌==◌, ◌<◌, ◌↔◌, List, length, All, IsOk, IsSome, IfOk, None};
-ghost use Rattle.member_cells.specs.Code.{ctrl_of};
-ghost use Rattle.law_model.specs.packets.Packet.{IsPacket, packet_nibbles, covered_nibbles, octet_at, bit_at, said_check};
-ghost use Rattle.law_model.specs.packets.Packet.{found_check, said_code, packet_of, cleared_nibbles, read_of};
+ghost use Rattle.law_model.specs.Common.{ctrl_of, IsPacket, packet_nibbles, covered_nibbles, octet_at, bit_at};
+ghost use Rattle.law_model.specs.Common.{said_check, found_check, said_code, packet_of, cleared_nibbles, read_of};
 
-use member_cells::Ctrl;
 use check_nibbles::{crc8, join_nibbles};
 pub use law_model::{Packet, PacketFault};
+use member_cells::Ctrl;
 
 /// Reads sixteen nibbles. The reserved nibbles and the upper bits of those that hold one bit are covered by
 /// the check and otherwise ignored.

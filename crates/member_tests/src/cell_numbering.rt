@@ -2,8 +2,8 @@
 
 use crate::cell_in_hand::{new_box, put};
 use member_cells::{Cell, Container, HeldContainer, PAYLOAD};
-use member_path::h4_multiframe::h4;
 use member_path::cell_numbers::{LineNumbers, Verdict};
+use member_path::h4_multiframe::h4;
 use std::alloc::Global;
 
 /// A line of which the containers `first` to `end - 1` are damaged, the last `slip` of them without a sign.

@@ -1,7 +1,7 @@
 //! Nibbles and their check, the codes of control words, and the places of cells.
 
-use member_cells::Ctrl;
 use check_nibbles::{crc8, join_nibbles, nibble_hi, nibble_lo};
+use member_cells::Ctrl;
 use member_path::h4_multiframe::{MfiLock, Place, h4};
 
 #[test]

@@ -3,8 +3,9 @@ ghost use Rattle.std.specs.Prelude.{◌≤◌, length};
 
 use crate::cell_in_hand::new_box;
 use member_cells::{Container, HeldContainer, PAYLOAD};
+use member_path::cell_numbers::CellSign;
 use member_path::failure_window::Window;
-use member_path::path_delay::{CarrySign, LineCore, Windows};
+use member_path::path_delay::{LineCore, Windows};
 use std::alloc::Global;
 
 // A container that tells its number.
@@ -32,12 +33,15 @@ fn line(alloc: Global, delay: u16, windows: &[Window], total: u32) -> Option<Lin
     LineCore::new(alloc, delay, windows, total).ok()
 }
 
+// What a carry gives: the sign of a cell, or none.
+type Carry = Option<CellSign>;
+
 // The carry of a line that comes next, with the container in `next` where one is to come, or `None` after the end.
 fn carry(
     line: &mut LineCore,
     next: &mut Box<HeldContainer>,
     out: &mut Box<HeldContainer>,
-) -> Option<CarrySign> {
+) -> Option<Carry> {
     if !line.all_pushed() {
         Some(line.push(next, out))
     } else if !line.ended() {
@@ -48,13 +52,13 @@ fn carry(
 }
 
 // The letter of a carry: the digit of its container, or a letter.
-fn letter(carry: Option<CarrySign>, out: &Container) -> u8 {
+fn letter(carry: Option<Carry>, out: &Container) -> u8 {
     match carry {
         None => b'-',
-        Some(CarrySign::Nothing) => b'.',
-        Some(CarrySign::Fail) => b'F',
-        Some(CarrySign::End) => b'E',
-        Some(CarrySign::Good) => digit(out),
+        Some(None) => b'.',
+        Some(Some(CellSign::Fail)) => b'F',
+        Some(Some(CellSign::End)) => b'E',
+        Some(Some(CellSign::Good)) => digit(out),
     }
 }
 
@@ -90,7 +94,7 @@ fn a_window_fails_and_slips(rt: HostRuntime) {
 }
 
 // Six carries, and the digits of the containers that lie in the box for a good cell's after each.
-fn carries(alloc: Global, line: Option<LineCore>) -> Option<([Option<CarrySign>; 6], [u8; 6])> {
+fn carries(alloc: Global, line: Option<LineCore>) -> Option<([Option<Carry>; 6], [u8; 6])> {
     let mut line = line?;
     let mut next = new_box(alloc)?;
     let mut out = new_box(alloc)?;
@@ -108,13 +112,13 @@ fn carries(alloc: Global, line: Option<LineCore>) -> Option<([Option<CarrySign>;
 #[test]
 fn a_delay_may_be_longer_than_the_line(rt: HostRuntime) {
     let line = line(rt.alloc(), 3, &[], 1);
-    let nothing = Some(CarrySign::Nothing);
+    let nothing = Some(None);
     let wanted = [
         nothing,
         nothing,
         nothing,
-        Some(CarrySign::Good),
-        Some(CarrySign::End),
+        Some(Some(CellSign::Good)),
+        Some(Some(CellSign::End)),
         None,
     ];
     assert_eq!(rt; carries(rt.alloc(), line), Some((wanted, *b"999777")));

@@ -4,16 +4,16 @@
 #![tactic(auto)]
 
 #[cfg(test)]
-mod codes_and_h4_lock;
-#[cfg(test)]
-mod failure_windows;
-#[cfg(test)]
 mod cell_in_hand;
 #[cfg(test)]
-mod interleaving;
+mod cell_numbering;
+#[cfg(test)]
+mod codes_and_h4_lock;
 #[cfg(test)]
 mod delayed_line;
 #[cfg(test)]
-mod cell_numbering;
+mod failure_windows;
+#[cfg(test)]
+mod interleaving;
 #[cfg(test)]
 mod realignment;

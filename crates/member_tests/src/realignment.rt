@@ -7,12 +7,12 @@ ghost use Rattle.member_rows.specs.realign_rows.Gather.{line_count, AreDecided};
 
 use crate::cell_in_hand::{new_box, put};
 use member_cells::{Cell, Container, Ctrl, HeldContainer, PAYLOAD};
-use member_path::h4_multiframe::h4;
 use member_path::cell_numbers::Verdict;
+use member_path::h4_multiframe::h4;
 use member_rows::lcas_packet::Packet;
 use member_rows::realign_rows::{RowAnswer, RowGather};
-use std::alloc::Global;
 use rows_of_paths::{Cells, Path, cell_rows, cells_of, path_of, path_rows};
+use std::alloc::Global;
 
 /// What the packets of the worked lines say, but for the number of the multiframe.
 const PACKET: Packet = Packet {

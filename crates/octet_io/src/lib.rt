@@ -7,11 +7,11 @@
 #![tactic(auto)]
 
 mod memory_streams;
-mod standard_streams;
-mod source_and_sink;
 mod read_and_put_all;
+mod source_and_sink;
+mod standard_streams;
 
 pub use memory_streams::{MemSink, MemSource};
-pub use standard_streams::{StdSink, StdSource};
-pub use source_and_sink::{ByteSink, ByteSource, Failed};
 pub use read_and_put_all::{ReadEnd, put_all, read_all, take_back};
+pub use source_and_sink::{ByteSink, ByteSource, Failed};
+pub use standard_streams::{StdSink, StdSource};

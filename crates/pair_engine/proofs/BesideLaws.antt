@@ -1,13 +1,10 @@
 -- What is known of a way and the other one, and what a call that the other doesn't see leaves of that.
 use Rattle.std.proofs.Common.{◌≡◌, ℕ, ◌≤◌, sym, subst}
+use Rattle.law_model.specs.Common.{used_in}
 use Rattle.law_model.specs.declared.script_types.Script.{Script}
 use Rattle.law_model.specs.session.Scenario.{packets_in}
-use Rattle.law_model.specs.session.Counts.{used_in}
 use Rattle.terminal_group.specs.Inbox.{Inbox}
-use Rattle.law_pair.specs.Pair.{way_of}
-use Rattle.law_pair.specs.PairCounts.{PairPlan, PairCounts}
-use Rattle.law_pair.specs.PairProgress.{with_lag}
-use Rattle.law_pair.specs.PairWalk.{pair_plan}
+use Rattle.law_pair.specs.Common.{way_of, PairPlan, PairCounts, with_lag, pair_plan}
 use Rattle.law_pair.proofs.GoingLaws.{goes-near}
 use Rattle.law_pair.proofs.PairMoveLaws.{IsNear, is-near, walks-fits}
 use Rattle.law_pair.proofs.PairPlanLaws.{has-pair-plan}

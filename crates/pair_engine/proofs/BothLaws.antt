@@ -1,27 +1,22 @@
 -- A tick of both ways.
-use Rattle.std.proofs.Common.{◌≡◌, ℕ, ◌+◌, Option, None, refl, sym, ◌∙◌, ap, subst}
-use Rattle.std.specs.Option.{is_some}
-use Rattle.member_cells.specs.declared.containers_and_cells.BackCell.{BackCell}
+use Rattle.std.proofs.Common.{◌≡◌, ℕ, ◌+◌, Option, None, refl, sym, ◌∙◌, ap, subst, is_some}
+use Rattle.law_model.specs.Common.{BackCell, Leg, Counts}
 use Rattle.law_model.specs.declared.control_packet.Packet.{Packet}
 use Rattle.law_model.specs.declared.walk_events.Event.TheVariants.{Tick}
-use Rattle.law_model.specs.session.Leg.{Leg}
+use Rattle.law_model.specs.declared.walk_events.StallCause.{StallCause}
 use Rattle.law_model.specs.session.Scenario.{packets_in}
-use Rattle.law_model.specs.session.Counts.{Counts}
 use Rattle.terminal_source.specs.source_core.Terminal.{needed}
-use Rattle.law_walk.specs.Walk.{walk_plan}
+use Rattle.law_walk.specs.Common.{walk_plan}
 use Rattle.terminal_group.specs.Inbox.{cell_for, rest_for}
 use Rattle.terminal_group.specs.Source.{early_in, missing_in}
-use Rattle.law_model.specs.declared.walk_events.StallCause.{StallCause}
+use Rattle.law_pair.specs.Common.{way_of, tick_cause, tick_by, ticked, pair_plan, IsPairWalked}
 use Rattle.law_pair.specs.declared.pair_events.Way.{Way}
-use Rattle.law_pair.specs.Pair.{way_of}
-use Rattle.law_pair.specs.PairCounts.{tick_cause, tick_by, ticked}
-use Rattle.law_pair.specs.PairWalk.{pair_plan, IsPairWalked}
+use Rattle.law_pair.specs.declared.pair_events.PairEvent.TheVariants.{Tick as Tick_both}
 use Rattle.law_pair.proofs.PairEndLaws.{pair-steps}
 use Rattle.law_pair.proofs.TickLaws.{IsFree, both-free}
-use Rattle.law_pair.specs.declared.pair_events.PairEvent.TheVariants.{Tick as Tick_both}
+use Rattle.walk_engine.specs.Common.{Parts, StandsForSome, Makes, CanTick}
 use Rattle.walk_engine.specs.declared.walk_core.step_answers.Moved.TheVariants.{Yes}
-use Rattle.walk_engine.specs.walk_core.Parts.{Parts, WayStands, StandsForSome}
-use Rattle.walk_engine.specs.walk_core.Way.{Makes, CanTick}
+use Rattle.walk_engine.specs.walk_core.Parts.{WayStands}
 use Rattle.pair_engine.specs.declared.pair_way.PairWay.{PairWay}
 use Rattle.pair_engine.specs.Said.{tells_next, told_now, left_untold}
 use Rattle.pair_engine.specs.Ways.{way_counts, pair_counts, IsWayBeside, IsPairWalk, AreBeside}

@@ -2,9 +2,9 @@
 use Rattle.std.proofs.Common.{◌≡◌, Option, Some, None, option_map, refl, sym, ◌∙◌, ap}
 use Rattle.law_model.specs.declared.walk_events.StallCause.{StallCause}
 use Rattle.law_model.specs.declared.item_refusals.Refusal.{Refusal}
-use Rattle.walk_engine.specs.walk_core.Moved.{answer_by as way_answer}
+use Rattle.walk_engine.specs.Common.{answer_by as way_answer}
+use Rattle.law_pair.specs.Common.{or_else}
 use Rattle.law_pair.specs.declared.pair_events.Way.{Way}
-use Rattle.law_pair.specs.PairCounts.{or_else}
 use Rattle.pair_engine.specs.Moved.{moved_on, answer_by}
 
 -- the answer of one way, as that of the pair

@@ -1,24 +1,17 @@
 -- What waits to be told of a way, and what its source heard: over a tick, and over a row.
-use Rattle.std.proofs.Common.{◌≡◌, ℕ, ◌+◌, ◌-◌, ◌*◌, ◌%◌, ◌==◌, ◌<◌, nat_le, true}
-use Rattle.std.proofs.Common.{if◌then◌else◌, List, [], ◌∷◌, ◌++◌, length, map, drop, slice_get, Option, Some, None}
-use Rattle.std.proofs.Common.{refl, sym, ◌∙◌, ap, arith, inl, inr}
-use Rattle.std.specs.Option.{is_some}
+use Rattle.std.proofs.Common.{◌≡◌, ℕ, ◌+◌, ◌-◌, ◌*◌, ◌%◌, ◌==◌, ◌<◌, nat_le, true, if◌then◌else◌, List, [], ◌∷◌, ◌++◌}
+use Rattle.std.proofs.Common.{length, map, drop, slice_get, Option, Some, None, refl, sym, ◌∙◌, ap, arith, inl, inr}
+use Rattle.std.proofs.Common.{is_some, eqb-true, leb-true, leb-false}
 use Rattle.std.specs.List.{range_with_len}
-use Rattle.std.proofs.lemmas.Bool.{cases_Bool, eqb-true, leb-true, leb-false}
+use Rattle.std.proofs.lemmas.Bool.{cases_Bool}
 use Rattle.std.proofs.lemmas.List.{length-map}
 use Rattle.std.proofs.lemmas.List.FromFn.{length-range_with_len}
-use Rattle.member_cells.specs.declared.containers_and_cells.BackCell.{BackCell}
+use Rattle.law_model.specs.Common.{BackCell, Leg, told_in, scenario_by, cells_before, Counts, used_in}
 use Rattle.law_model.specs.declared.control_packet.Packet.{Packet}
-use Rattle.law_model.specs.session.Leg.{Leg}
-use Rattle.law_model.specs.packets.Told.{told_in}
-use Rattle.law_model.specs.session.Scenario.{scenario_by, packets_in}
-use Rattle.law_model.specs.source.Back.{cells_before}
-use Rattle.law_model.specs.session.Counts.{Counts, used_in}
+use Rattle.law_model.specs.session.Scenario.{packets_in}
 use Rattle.terminal_source.specs.source_core.Terminal.{needed_at}
 use Rattle.terminal_source.specs.source_core.Given.{with_cell}
-use Rattle.law_walk.specs.Walk.{CanWalk}
-use Rattle.law_walk.specs.Rings.{said_packet, back_cell}
-use Rattle.law_walk.specs.Landed.{told_before}
+use Rattle.law_walk.specs.Common.{CanWalk, said_packet, back_cell, told_before}
 use Rattle.law_walk.proofs.ReturnLaws as return_laws
 use Rattle.terminal_group.specs.Inbox.{cell_for, rest_for}
 use Rattle.terminal_group.specs.Source.{missing_by}

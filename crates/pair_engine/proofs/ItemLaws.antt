@@ -4,14 +4,15 @@ use Rattle.std.proofs.Common.{◌≡◌, ℕ, zero, suc, ◌==◌, ◌&&◌, ◌
 use Rattle.std.proofs.Common.{List, [], ◌∷◌, length, slice_get, Option, Some, None, refl, sym, ◌∙◌, ap, arith, inl, inr}
 use Rattle.std.specs.List.Sorted.{IsNonDecreasing}
 use Rattle.std.proofs.lemmas.Bool.{cases_Bool, ltb-true, ltb-false, eqb-true}
+use Rattle.law_model.specs.Common.{Due, frame_due, command_due, frame_dues, command_dues, dues_of}
 use Rattle.law_model.specs.declared.script_types.Item.{Item}
 use Rattle.law_model.specs.declared.script_types.ItemKind.{ItemKind}
 use Rattle.law_model.specs.declared.script_types.ItemKind.TheVariants.{Frame, Add, Remove}
-use Rattle.law_model.specs.session.Counts.{Due, frame_due, command_due, frame_dues, command_dues, dues_of}
 use Rattle.terminal_group.specs.Place.{is_frame, is_command, place_of}
 use Rattle.terminal_group.specs.Landed.{Landed, next_place, there_at, due_at}
-use Rattle.law_pair.specs.PairCounts.{left_after, sooner, first_due}
+use Rattle.law_pair.specs.Common.{left_after, sooner, first_due}
 use Rattle.std.specs.Prelude.{option_map, IfSome}
+use Rattle.law_model.proofs.ListLaws.{rest-in_order}
 use Rattle.pair_engine.specs.declared.next_items.NextItem.{NextItem}
 use Rattle.pair_engine.specs.Steps.{due_by, due_of_next, found_by, next_in, AreInOrder}
 
@@ -212,9 +213,6 @@ unfolding found_of
 command-found k [] at e = absurd cc
 command-found k (item ∷ items) at e =
     command-here k item.due item.kind items at (λ j x is. command-found j items x is) e
-
-rest-in_order : (due : ℕ) (dues : List ℕ) → IsNonDecreasing (due ∷ dues) → IsNonDecreasing dues
-rest-in_order due dues order i j d low high = order (suc i) (suc j) d (omega (arith, low)) (omega (arith, high))
 
 first-low : (due later : ℕ) (dues : List ℕ) → IsNonDecreasing (due ∷ dues) → slice_get dues 0 ≡ Some later →
     due ≤ later

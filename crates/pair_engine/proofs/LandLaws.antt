@@ -1,26 +1,21 @@
 -- The next item of a way lands, or stalls.
 use Rattle.std.proofs.Common.{◌≡◌, ℕ, ◌+◌, ◌<◌, ◌≤◌, nat_lt, Bool, true, false, Option, Some, None, refl, sym, ◌∙◌, ap}
-use Rattle.std.proofs.Common.{subst, inl, inr}
-use Rattle.std.proofs.lemmas.Bool.{cases_Bool, lt-ltb, le-ltb}
+use Rattle.std.proofs.Common.{subst, lt-ltb, le-ltb}
+use Rattle.law_model.specs.Common.{Leg, Due, Plan, Counts, Step, dues_of, step, frame_dues, command_dues}
 use Rattle.law_model.specs.declared.script_types.Script.{Script}
 use Rattle.law_model.specs.declared.walk_events.StallCause.{StallCause}
 use Rattle.law_model.specs.declared.walk_events.StallCause.TheVariants.{Done, NotDue}
-use Rattle.law_model.specs.session.Leg.{Leg}
-use Rattle.law_model.specs.session.Scenario.{packets_in}
-use Rattle.law_model.specs.session.Counts.{Due, Plan, Counts, Step, dues_of, land_due, step}
-use Rattle.law_model.specs.session.Counts.{frame_dues, command_dues}
-use Rattle.std.specs.List.Sorted.{IsNonDecreasing}
 use Rattle.law_model.specs.declared.item_refusals.Refusal.{Refusal}
-use Rattle.law_walk.specs.Walk.{walk_plan}
+use Rattle.law_model.specs.session.Scenario.{packets_in}
+use Rattle.std.specs.List.Sorted.{IsNonDecreasing}
+use Rattle.walk_engine.proofs.WalkCoreLaws.LandLaws.{land-moves}
+use Rattle.law_walk.specs.Common.{walk_plan}
 use Rattle.terminal_group.specs.Landed.{Landed}
 use Rattle.terminal_group.proofs.BareLaws.{bare-dues}
-use Rattle.law_pair.specs.Pair.{way_of}
-use Rattle.law_pair.specs.PairCounts.{left_after, first_due, land_first, land_item}
+use Rattle.law_pair.specs.Common.{way_of, left_after, first_due, land_first, land_item}
+use Rattle.walk_engine.specs.Common.{landing_of, answer_by, refusal_in_event, Parts, counts_of, Makes}
 use Rattle.walk_engine.specs.declared.walk_core.step_answers.Moved.TheVariants.{Stalled}
-use Rattle.walk_engine.specs.walk_core.Landing.{landing_of}
-use Rattle.walk_engine.specs.walk_core.Moved.{answer_by, refusal_in_event}
-use Rattle.walk_engine.specs.walk_core.Parts.{Parts, counts_of, WayStands}
-use Rattle.walk_engine.specs.walk_core.Way.{Makes}
+use Rattle.walk_engine.specs.walk_core.Parts.{WayStands}
 use Rattle.pair_engine.specs.declared.next_items.NextItem.{NextItem}
 use Rattle.pair_engine.specs.declared.pair_way.PairWay.{PairWay}
 use Rattle.pair_engine.specs.Moved.{refusal_by, next_refusal}
@@ -33,15 +28,6 @@ first-early : (s : Counts) (client : Bool) (due : ℕ) → s.ticks < due →
 first-early s true due low = let early : nat_lt s.ticks due ≡ true = lt-ltb s.ticks due low in rw early refl
 first-early s false due low = let early : nat_lt s.ticks due ≡ true = lt-ltb s.ticks due low in rw early refl
 
-landed-counts : (ticks : ℕ) (found : Option ℕ) (s next : Counts) → (land_due ticks found s next).cause ≡ None →
-    (land_due ticks found s next).counts ≡ next
-landed-counts ticks None s next e = absurd cc
-landed-counts ticks (Some due) s next e =
-    elim (cases_Bool (nat_lt ticks due)) [
-      | inl early ↦ absurd (let f : Some (NotDue due) ≡ None = rw early at e in cc)
-      | inr late ↦ rw late refl
-    ]
-
 -- the item that is due first lands as the next of its kind does in a walk
 first-lands : (plan : Plan) (s : Counts) (client : Bool) (due : ℕ) → due ≤ s.ticks →
     (step plan s (landing_of client)).cause ≡ None →
@@ -51,11 +37,11 @@ first-lands : (plan : Plan) (s : Counts) (client : Bool) (due : ℕ) → due ≤
     })
 first-lands plan s true due low e =
     let late : nat_lt s.ticks due ≡ false = le-ltb s.ticks due low in
-    rw late (ap (λ (c : Counts). record { counts = c; cause = None }) (sym (landed-counts s.ticks _ s
+    rw late (ap (λ (c : Counts). record { counts = c; cause = None }) (sym (land-moves s.ticks _ s
     (record s { frames = s.frames + 1 }) e)))
 first-lands plan s false due low e =
     let late : nat_lt s.ticks due ≡ false = le-ltb s.ticks due low in
-    rw late (ap (λ (c : Counts). record { counts = c; cause = None }) (sym (landed-counts s.ticks _ s
+    rw late (ap (λ (c : Counts). record { counts = c; cause = None }) (sym (land-moves s.ticks _ s
     (record s { commands = s.commands + 1 }) e)))
 
 refusal-is : (leg : Leg) (s : Counts) (client : Bool) (due : ℕ) →

@@ -1,21 +1,16 @@
 -- A way before any event.
 use Rattle.std.proofs.Common.{◌≡◌, ◌-◌, ◌*◌, [], map, refl, sym, ◌∙◌, ap, subst, arith}
 use Rattle.std.specs.List.{range_with_len}
+use Rattle.law_model.specs.Common.{leg_of, Counts, begin, used_in, told_in}
 use Rattle.law_model.specs.declared.script_types.Script.{Script}
-use Rattle.law_model.specs.session.Leg.{leg_of}
 use Rattle.law_model.specs.session.Scenario.{packets_in}
-use Rattle.law_model.specs.session.Counts.{Counts, begin, used_in}
 use Rattle.terminal_group.specs.Inbox.{Inbox, empty_inbox}
-use Rattle.law_model.specs.packets.Told.{told_in}
-use Rattle.law_walk.specs.Rings.{said_packet, back_cell}
-use Rattle.law_walk.specs.Walk.{walk_plan}
-use Rattle.law_pair.specs.Pair.{IsWay, IsPair, way_of}
-use Rattle.law_pair.specs.PairCounts.{pair_begin}
-use Rattle.law_pair.specs.PairWalk.{pair_plan, IsPairWalked}
+use Rattle.law_walk.specs.Common.{said_packet, back_cell, walk_plan}
+use Rattle.law_pair.specs.Common.{IsWay, IsPair, way_of, pair_begin, pair_plan, IsPairWalked}
 use Rattle.law_pair.proofs.PairEndLaws.{pair-begins}
 use Rattle.law_pair.proofs.WayLaws.{way-sound}
-use Rattle.walk_engine.specs.walk_core.Opened.{IsAlike}
-use Rattle.walk_engine.specs.walk_core.Parts.{WayStands, counts_of}
+use Rattle.walk_engine.specs.Common.{IsAlike, counts_of}
+use Rattle.walk_engine.specs.walk_core.Parts.{WayStands}
 use Rattle.pair_engine.specs.declared.pair_way.PairWay.{PairWay}
 use Rattle.pair_engine.specs.Said.{Said, heard_in}
 use Rattle.pair_engine.specs.Ways.{way_counts, pair_counts, IsNewWay, Meets, IsWayBeside, IsPairWalk}

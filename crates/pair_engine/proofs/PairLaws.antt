@@ -1,24 +1,22 @@
 -- What an event leaves of a pair.
-use Rattle.std.proofs.Common.{◌≡◌, ℕ, ◌<◌, length, Option, Some, None, option_map, refl, sym, ◌∙◌, ap, subst, arith}
+use Rattle.std.proofs.Common.{◌≡◌, ℕ, ◌<◌, length, Option, None, option_map, refl, sym, ◌∙◌, ap, subst, arith}
+use Rattle.law_model.specs.Common.{Counts, Step}
 use Rattle.law_model.specs.declared.script_types.Script.{Script}
 use Rattle.law_model.specs.declared.walk_events.StallCause.{StallCause}
-use Rattle.law_model.specs.session.Counts.{Counts, Step}
 use Rattle.law_model.specs.declared.item_refusals.Refusal.{Refusal}
-use Rattle.law_walk.specs.Walk.{walk_plan}
+use Rattle.law_walk.specs.Common.{walk_plan}
 use Rattle.walk_engine.specs.declared.walk_core.step_answers.Moved.{Moved}
+use Rattle.law_pair.specs.Common.{IsWay, IsPair, way_of, PairCounts, PairStep, plan_on, on_way, pair_step, take_one}
+use Rattle.law_pair.specs.Common.{pair_plan, IsPairWalked}
 use Rattle.law_pair.specs.declared.pair_events.Way.{Way}
 use Rattle.law_pair.specs.declared.pair_events.Way.TheVariants.{There, Back}
 use Rattle.law_pair.specs.declared.pair_events.PairEvent.{PairEvent}
-use Rattle.law_pair.specs.declared.pair_events.PairEvent.TheVariants.{Tick, Take}
+use Rattle.law_pair.specs.declared.pair_events.PairEvent.TheVariants.{Take}
 use Rattle.law_walk.proofs.PlanLaws.{has-paths, sound-walks}
 use Rattle.law_pair.proofs.WayLaws.{way-sound}
-use Rattle.law_pair.specs.Pair.{IsWay, IsPair, way_of}
-use Rattle.law_pair.specs.PairCounts.{PairCounts, PairStep, plan_on, on_way, pair_step, take_one, tick_cause, tick_by}
-use Rattle.law_pair.specs.PairWalk.{pair_plan, IsPairWalked}
 use Rattle.law_pair.proofs.PairEndLaws.{pair-steps}
 use Rattle.pair_engine.specs.declared.pair_way.PairWay.{PairWay}
 use Rattle.pair_engine.specs.declared.pair_answers.PairMoved.{PairMoved}
-use Rattle.pair_engine.specs.declared.pair_answers.PairMoved.TheVariants.{Stalled}
 use Rattle.pair_engine.specs.Moved.{Paired, plan_of, script_on, step_of, after, moved_on, moved_of, refusal_in, answer_by}
 use Rattle.pair_engine.specs.Steps.{Goes, IsQuiet, TakesRow}
 use Rattle.pair_engine.specs.Ways.{leg_beside, way_counts, pair_counts, IsPairWalk}
@@ -157,21 +155,6 @@ take-back there back there_now back_now answer walk takes =
       pair = paired-is there back there_now back_now _ takes.other_script takes.own_script counts;
       moved = ap (moved_on Back) takes.moved ∙ answer-on Back next.cause None;
     }
-
--- ---- a tick of both
-pub tick-stays : (there back : PairWay) (cause : Way × StallCause) → IsPairWalk there back →
-    tick_cause (pair_plan there.script back.script) (pair_counts there back) ≡ Some cause →
-    Follows there back there back Tick (Stalled cause.0 cause.1)
-tick-stays there back cause walk is = record {
-  walk = walk;
-  pair = ap (λ (found : Option (Way × StallCause)). record {
-    there = there.script;
-    back = back.script;
-    counts = (tick_by found (pair_counts there back)).counts;
-  }) (sym is);
-  moved = sym (ap (λ (found : Option (Way × StallCause)). answer_by (tick_by found (pair_counts there back)).cause None)
-      is);
-}
 
 -- ---- there is a path for each line
 pub paths-size : (script other : Script) → IsWay script →

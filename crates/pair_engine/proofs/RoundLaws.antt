@@ -1,44 +1,34 @@
 -- Rounds of a pair: items land until they stall, each line is tried once, and so for the rest.
 use Rattle.std.proofs.Common.{◌≡◌, ℕ, zero, suc, ◌+◌, ◌-◌, ◌<◌, ◌≤◌, nat_le, nat_lt, List, [], ◌∷◌, ◌++◌, length}
-use Rattle.std.proofs.Common.{replicate}
-use Rattle.std.proofs.Common.{drop, Option, Some, None, option_map, refl, sym, ◌∙◌, ap, subst, arith, inl}
+use Rattle.std.proofs.Common.{replicate, drop, Option, Some, None, option_map, refl, sym, ◌∙◌, ap, subst, arith, inl}
 use Rattle.std.proofs.Common.{inr, true, false}
 use Rattle.std.proofs.lemmas.Bool.{cases_Bool}
+use Rattle.std.proofs.lemmas.List.{drop_all}
+use Rattle.law_model.proofs.ListLaws.{map-none}
+use Rattle.law_model.specs.Common.{Due, frame_due, command_due, LinePath, LineCounts, Plan, Counts, pop_lines, Start}
+use Rattle.law_model.specs.Common.{Leg}
 use Rattle.law_model.specs.declared.walk_events.StallCause.{StallCause}
 use Rattle.law_model.specs.declared.walk_events.StallCause.TheVariants.{NotDue}
-use Rattle.law_model.specs.session.Counts.{Due, frame_due, command_due, frame_dues, command_dues, LinePath, LineCounts}
-use Rattle.law_model.specs.session.Counts.{Plan, Counts, pop_lines}
 use Rattle.law_model.specs.declared.script_types.Script.{Script}
 use Rattle.law_model.specs.declared.item_refusals.Refusal.{Refusal}
-use Rattle.law_pair.specs.Pair.{IsPair}
-use Rattle.law_pair.specs.PairWalk.{IsPairWalked}
-use Rattle.law_pair.proofs.PairPlanLaws.{has-pair-plan, there-taken, back-taken}
-use Rattle.pair_engine.specs.declared.pair_answers.PairMoved.{PairMoved}
-use Rattle.pair_engine.specs.declared.pair_answers.PairMoved.TheVariants.{Stalled}
-use Rattle.pair_engine.specs.Moved.{Paired, plan_of, leg_on, with_counts, answer_by, GivesWay}
-use Rattle.octet_io.specs.Start.{Start}
-use Rattle.law_model.specs.session.Leg.{Leg}
-use Rattle.walk_engine.specs.walk_core.Moved.{GivesRows}
-use Rattle.walk_engine.proofs.WalkCoreLaws.RoundLaws.{gives-then}
+use Rattle.law_pair.specs.Common.{IsPair, IsPairWalked, PairPlan, PairCounts, plan_on, counts_on, pair_step, pair_run}
+use Rattle.law_pair.specs.Common.{carries_on, pair_round, pair_drain, pair_bound, is_over, left_after, first_due}
+use Rattle.law_pair.specs.Common.{land_first, land_item, take_said, take_one, with_lag, IsPairPlan, IsPairReached}
 use Rattle.law_pair.specs.declared.pair_events.Way.{Way}
 use Rattle.law_pair.specs.declared.pair_events.Way.TheVariants.{There, Back}
 use Rattle.law_pair.specs.declared.pair_events.PairEvent.{PairEvent}
 use Rattle.law_pair.specs.declared.pair_events.PairEvent.TheVariants.{Item, Tick, Carry, Take}
-use Rattle.law_pair.specs.PairCounts.{PairPlan, PairCounts, plan_on, counts_on, pair_step, pair_run, carries_on}
-use Rattle.law_pair.specs.PairCounts.{pair_round, pair_drain, pair_bound, is_over, left_after, first_due, land_first}
-use Rattle.law_pair.specs.PairCounts.{land_item, take_said, take_one}
-use Rattle.law_pair.specs.PairProgress.{with_lag, IsPairPlan, IsPairReached}
+use Rattle.law_pair.proofs.PairPlanLaws.{has-pair-plan, there-taken, back-taken}
+use Rattle.pair_engine.specs.declared.pair_answers.PairMoved.{PairMoved}
+use Rattle.pair_engine.specs.declared.pair_answers.PairMoved.TheVariants.{Stalled}
+use Rattle.pair_engine.specs.Moved.{Paired, plan_of, leg_on, with_counts, answer_by, GivesWay}
+use Rattle.walk_engine.specs.Common.{GivesRows}
+use Rattle.walk_engine.proofs.WalkCoreLaws.RoundLaws.{gives-then, drop-next, replicate-add}
 use Rattle.law_pair.proofs.GoingLaws.{goes-near}
 use Rattle.law_pair.proofs.PairMoveLaws.{pair_made, is-near, walks-fits}
-use Rattle.law_pair.proofs.PairEndLaws.{pair-round-less, pair-turns, pair-stops}
+use Rattle.law_pair.proofs.PairEndLaws.{pair-round-less, pair-turns, pair-stops, run-append, kinds}
 
 -- ---- events one after another
-pub run-append : (pair : PairPlan) (s : PairCounts) (xs ys : List PairEvent) →
-    pair_run pair s (xs ++ ys) ≡ pair_run pair (pair_run pair s xs) ys
-unfolding pair_run
-run-append pair s [] ys = refl
-run-append pair s (x ∷ xs) ys = run-append pair (pair_step pair s x).counts xs ys
-
 pub run-one : (pair : PairPlan) (s : PairCounts) (event : PairEvent) (events : List PairEvent) →
     pair_run pair s (event ∷ events) ≡ pair_run pair (pair_step pair s event).counts events
 unfolding pair_run
@@ -49,17 +39,6 @@ unfolding pair_run
 run-none pair s = refl
 
 -- ---- each line once
-drop-next : {X : Type 0} (xs : List X) (m : ℕ) → m < length xs → (x : X) × (drop m xs ≡ x ∷ drop (suc m) xs)
-drop-next [] m h = absurd (omega (arith, h))
-drop-next (x ∷ xs) zero h = (x, refl)
-drop-next (x ∷ xs) (suc m) h = drop-next xs m (omega (arith, h))
-
-drop-all : {X : Type 0} (xs : List X) (m : ℕ) → length xs ≤ m → drop m xs ≡ []
-drop-all [] zero h = refl
-drop-all [] (suc m) h = refl
-drop-all (x ∷ xs) zero h = absurd (omega (arith, h))
-drop-all (x ∷ xs) (suc m) h = drop-all xs m (omega (arith, h))
-
 pub carry-next : (pair : PairPlan) (way : Way) (s : PairCounts) (paths : List LinePath) (m : ℕ) → m < length paths →
     pair_run pair s (carries_on way m (drop m paths))
     ≡ pair_run pair (pair_step pair s (Carry way m)).counts (carries_on way (m + 1) (drop (m + 1) paths))
@@ -73,7 +52,7 @@ carry-next pair way s paths m h =
 pub carry-last : (pair : PairPlan) (way : Way) (s : PairCounts) (paths : List LinePath) (m : ℕ) → length paths ≤ m →
     pair_run pair s (carries_on way m (drop m paths)) ≡ s
 unfolding pair_run carries_on
-carry-last pair way s paths m h = ap (λ xs. pair_run pair s (carries_on way m xs)) (drop-all paths m h)
+carry-last pair way s paths m h = ap (λ xs. pair_run pair s (carries_on way m xs)) (drop_all m paths h)
 
 -- ---- a round
 pub round-run : (pair : PairPlan) (s items_there items_back ticked lines_there lines_back : PairCounts) →
@@ -100,11 +79,6 @@ round-run pair s items_there items_back ticked lines_there lines_back a b c d e 
     ∙ sym (run-append pair s (replicate (suc (length pair.there.items)) (Item There)) rest)
 
 -- ---- items land until they stall
-replicate-add : {X : Type 0} (a b : ℕ) (x : X) → replicate (a + b) x ≡ replicate a x ++ replicate b x
-replicate-add zero b x = ap (λ n. replicate n x) (let e : 0 + b ≡ b = omega arith in e)
-replicate-add (suc a) b x = ap (λ n. replicate n x) (let e : suc a + b ≡ suc (a + b) = omega arith in e)
-    ∙ ap (λ l. x ∷ l) (replicate-add a b x)
-
 run-same : (pair : PairPlan) (s : PairCounts) (event : PairEvent) (k : ℕ) → (pair_step pair s event).counts ≡ s →
     pair_run pair s (replicate k event) ≡ s
 unfolding pair_run
@@ -124,12 +98,6 @@ Landed pair way start s =
 
 pub landed-none : (pair : PairPlan) (way : Way) (start : PairCounts) → Landed pair way start start
 landed-none pair way start = (0, sym (run-none pair start), omega arith)
-
-kinds : (items : List Due) → length (frame_dues items) + length (command_dues items) ≡ length items
-unfolding frame_dues command_dues
-kinds [] = refl
-kinds (frame_due due ∷ items) = let rest = kinds items in omega (arith, rest)
-kinds (command_due due ∷ items) = let rest = kinds items in omega (arith, rest)
 
 pub few-landed : (pair : PairPlan) (s : PairCounts) (way : Way) → IsPairPlan pair → IsPairReached pair s →
     landed_on s way ≤ items_on pair way
@@ -177,11 +145,6 @@ first-stalls s (Some (command_due due)) cause e =
       | inr late ↦ absurd (let f : None ≡ Some cause = rw late at e in cc)
     ]
 
-no-cause : (way : Way) (found : Option StallCause) →
-    option_map {U = Way × StallCause} (λ (cause : StallCause). (way, cause)) found ≡ None → found ≡ None
-no-cause way None e = refl
-no-cause way (Some cause) e = absurd cc
-
 some-cause : (way : Way) (found : Option StallCause) (cause : Way × StallCause) →
     option_map {U = Way × StallCause} (λ (cause : StallCause). (way, cause)) found ≡ Some cause →
     (own : StallCause) × (found ≡ Some own)
@@ -192,10 +155,10 @@ item-lands : (pair : PairPlan) (s : PairCounts) (way : Way) → (pair_step pair 
     landed_on (pair_step pair s (Item way)).counts way ≡ landed_on s way + 1
 item-lands pair s There e =
     first-lands s.there (first_due (left_after s.there.frames s.there.commands pair.there.items))
-    (no-cause There (land_item pair.there s.there).cause e)
+    (map-none (λ (cause : StallCause). (There, cause)) (land_item pair.there s.there).cause e)
 item-lands pair s Back e =
     first-lands s.back (first_due (left_after s.back.frames s.back.commands pair.back.items))
-    (no-cause Back (land_item pair.back s.back).cause e)
+    (map-none (λ (cause : StallCause). (Back, cause)) (land_item pair.back s.back).cause e)
 
 item-stalls : (pair : PairPlan) (s : PairCounts) (way : Way) (cause : Way × StallCause) →
     (pair_step pair s (Item way)).cause ≡ Some cause → (pair_step pair s (Item way)).counts ≡ s

@@ -5,37 +5,28 @@ use Rattle.std.proofs.Common.{refl, sym, ◌∙◌, ap, subst, arith, inl, inr}
 use Rattle.std.specs.List.{range_with_len}
 use Rattle.std.proofs.lemmas.Bool.{cases_Bool, eqb-true, ltb-true, le-leb}
 use Rattle.std.proofs.lemmas.List.{append-nil, map-append, drop_all}
-use Rattle.member_cells.specs.declared.containers_and_cells.BackCell.{BackCell}
+use Rattle.law_model.specs.Common.{BackCell, Leg, told_by, told_in, leader, governing, read_packets, Plan, Counts}
+use Rattle.law_model.specs.Common.{LineCounts, Step, begin, in_return, is_back_full, pop_lines, take_popped, take_row}
+use Rattle.law_model.specs.Common.{used_in, Start}
 use Rattle.law_model.specs.declared.control_packet.Packet.{Packet}
 use Rattle.law_model.specs.declared.script_types.Script.{Script}
 use Rattle.law_model.specs.declared.walk_events.StallCause.TheVariants.{Done, Waiting as Stall_waiting}
-use Rattle.law_model.specs.session.Leg.{Leg}
 use Rattle.law_model.specs.session.Scenario.{packets_in}
-use Rattle.law_model.specs.packets.Told.{told_by, told_in}
-use Rattle.law_model.specs.packets.ReturnPacket.{leader}
-use Rattle.law_model.specs.rows.Rows.{governing, read_packets}
-use Rattle.law_model.specs.session.Counts.{Plan, Counts, LineCounts, Step, begin, in_return, is_back_full, pop_lines}
-use Rattle.law_model.specs.session.Counts.{take_popped, take_row, used_in}
 use Rattle.law_progress.proofs.ReachLaws.{Leads-then}
 use Rattle.terminal_sink.specs.declared.sink_core.sink_terminal.TakeAnswer.{TakeAnswer}
 use Rattle.terminal_sink.specs.declared.sink_core.sink_terminal.TakeAnswer.TheVariants.{Taken, Waiting}
 use Rattle.terminal_sink.specs.sink_core.Given.{rows_taken}
 use Rattle.terminal_group.specs.Inbox.{Inbox, with_come}
-use Rattle.law_walk.specs.Walk.{walk_plan, IsWalked, popped_cells}
-use Rattle.law_walk.specs.Rings.{said_packet, back_cell}
-use Rattle.law_walk.specs.Delivered.{delivered_of}
+use Rattle.law_walk.specs.Common.{walk_plan, IsWalked, popped_cells, said_packet, back_cell, delivered_of}
 use Rattle.law_walk.proofs.EndLaws.{counts-within}
 use Rattle.law_walk.proofs.PlanLaws.{sound-walks}
 use Rattle.law_walk.proofs.ReturnLaws as return_laws
-use Rattle.octet_io.specs.Start.{Start}
-use Rattle.law_pair.specs.Pair.{way_of}
-use Rattle.law_pair.specs.PairCounts.{take_said, take_one}
+use Rattle.law_pair.specs.Common.{way_of, take_said, take_one}
 use Rattle.law_pair.proofs.LinkLaws.{reads-told}
 use Rattle.law_pair.proofs.OneWayLaws.{take-leads}
-use Rattle.walk_engine.specs.walk_core.Moved.{answer_by, delivered_since, GivesRows}
-use Rattle.walk_engine.specs.walk_core.Parts.{Parts, counts_of, line_counts, WayStands}
-use Rattle.walk_engine.specs.walk_core.Take.{take_cause}
-use Rattle.walk_engine.specs.walk_core.Way.{take_moved, said_at, take_by, Takes}
+use Rattle.walk_engine.specs.Common.{answer_by, delivered_since, GivesRows, Parts, counts_of, line_counts, take_cause}
+use Rattle.walk_engine.specs.Common.{take_moved, said_at, take_by, Takes}
+use Rattle.walk_engine.specs.walk_core.Parts.{WayStands}
 use Rattle.walk_engine.proofs.WalkCoreLaws.EventLaws.{stands-back}
 use Rattle.pair_engine.specs.declared.pair_way.PairWay.{PairWay}
 use Rattle.pair_engine.specs.Said.{Said, untold_packets, heard_cells}

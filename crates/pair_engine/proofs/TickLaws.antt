@@ -1,36 +1,29 @@
 -- A tick of both ways, as one of them sees it.
 use Rattle.std.proofs.Common.{◌≡◌, ℕ, ◌+◌, ◌-◌, ◌*◌, ◌/◌, ◌%◌, ◌==◌, ◌&&◌, ◌<◌, ◌≤◌, nat_le, true, false, Bool}
-use Rattle.std.proofs.Common.{if◌then◌else◌, Option, Some, None, option_map, refl, sym, ◌∙◌, ap, subst, arith}
-use Rattle.std.proofs.Common.{inl, inr}
-use Rattle.std.specs.Option.{is_some}
-use Rattle.std.proofs.lemmas.Bool.{cases_Bool, cases_lt, eqb-true, leb-true, leb-false, eq-eqb, le-leb}
-use Rattle.member_cells.specs.declared.containers_and_cells.BackCell.{BackCell}
+use Rattle.std.proofs.Common.{if◌then◌else◌, Option, Some, None, option_map, refl, sym, ◌∙◌, ap, subst, arith, inl, inr}
+use Rattle.std.proofs.Common.{is_some, eqb-true, leb-true, leb-false, eq-eqb, le-leb}
+use Rattle.std.proofs.lemmas.Bool.{cases_Bool, cases_lt}
+use Rattle.law_model.specs.Common.{BackCell, Leg, scenario_by, untold, telling_at, passed_on, told_by, Counts, Step}
+use Rattle.law_model.specs.Common.{moved, step, used_in}
 use Rattle.law_model.specs.declared.control_packet.Packet.{Packet}
 use Rattle.law_model.specs.declared.walk_events.Event.TheVariants.{Tick}
-use Rattle.law_model.specs.session.Leg.{Leg}
-use Rattle.law_model.specs.session.Scenario.{packets_in, scenario_by}
-use Rattle.law_model.specs.packets.Telling.{untold, telling_at, passed_on}
-use Rattle.law_model.specs.packets.Told.{told_by}
-use Rattle.law_model.specs.session.Counts.{Counts, Step, moved, step, used_in}
+use Rattle.law_model.specs.session.Scenario.{packets_in}
 use Rattle.terminal_source.specs.source_core.Terminal.{needed, needed_at}
 use Rattle.terminal_source.specs.source_core.Given.{with_cell}
-use Rattle.law_walk.specs.Landed.{told_before}
-use Rattle.law_walk.specs.Walk.{walk_plan, CanWalk}
-use Rattle.law_walk.specs.Rings.{said_packet}
+use Rattle.law_walk.specs.Common.{told_before, walk_plan, CanWalk, said_packet}
 use Rattle.law_walk.proofs.EndLaws.{counts-within}
 use Rattle.law_walk.proofs.PlanLaws.{sound-walks}
 use Rattle.law_walk.proofs.ReturnLaws as return_laws
 use Rattle.terminal_group.specs.Inbox.{Inbox, cell_for, rest_for}
 use Rattle.terminal_group.specs.Source.{early_in, missing_by, missing_in}
 use Rattle.terminal_group.specs.declared.group_source.EarlyCause.TheVariants.{Held}
-use Rattle.law_pair.specs.Pair.{way_of}
-use Rattle.law_pair.specs.PairCounts.{is_unsaid, ticked}
+use Rattle.law_pair.specs.Common.{way_of, is_unsaid, ticked}
 use Rattle.law_pair.proofs.HeardLaws as heard_laws
 use Rattle.law_pair.proofs.LinkLaws.{says-told}
 use Rattle.law_pair.proofs.TickLaws.{IsFree, free-ticks}
+use Rattle.walk_engine.specs.Common.{Parts, counts_of, Makes, IsTold, CanTick}
 use Rattle.walk_engine.specs.declared.walk_core.step_answers.Moved.{Moved}
-use Rattle.walk_engine.specs.walk_core.Parts.{Parts, counts_of, WayStands}
-use Rattle.walk_engine.specs.walk_core.Way.{Makes, IsTold, CanTick}
+use Rattle.walk_engine.specs.walk_core.Parts.{WayStands}
 use Rattle.walk_engine.proofs.WalkCoreLaws.TickLaws.{early-is}
 use Rattle.pair_engine.specs.declared.pair_way.PairWay.{PairWay}
 use Rattle.pair_engine.specs.Said.{Said, tells_next, told_now, left_untold, untold_packets}

@@ -1,23 +1,20 @@
 -- What an event of a pair answers, what it leaves, and which frames it gives.
 use Rattle.std.specs.Prelude.{◌≡◌, ◌≤◌, ℕ, List, Option, Some, None}
+use Rattle.law_model.specs.Common.{Leg, Due, frame_due, command_due, Counts, dues_of, Start}
 use Rattle.law_model.specs.declared.script_types.Script.{Script}
 use Rattle.law_model.specs.declared.walk_events.Event.{Event}
 use Rattle.law_model.specs.declared.walk_events.Event.TheVariants.{Accept, Command}
 use Rattle.law_model.specs.declared.walk_events.StallCause.{StallCause}
-use Rattle.law_model.specs.session.Leg.{Leg}
-use Rattle.law_model.specs.session.Counts.{Due, frame_due, command_due, Counts, dues_of}
 use Rattle.law_model.specs.declared.item_refusals.Refusal.{Refusal}
-use Rattle.octet_io.specs.Start.{Start}
+use Rattle.law_pair.specs.Common.{way_of, PairPlan, PairCounts, PairStep, counts_on, left_after, first_due, pair_step}
+use Rattle.law_pair.specs.Common.{pair_plan}
 use Rattle.law_pair.specs.declared.pair_events.Way.{Way}
 use Rattle.law_pair.specs.declared.pair_events.Way.TheVariants.{There, Back}
 use Rattle.law_pair.specs.declared.pair_events.PairEvent.{PairEvent}
 use Rattle.law_pair.specs.declared.pair_events.PairEvent.TheVariants.{Item, Tick, Carry, Take}
-use Rattle.law_pair.specs.Pair.{way_of}
-use Rattle.law_pair.specs.PairCounts.{PairPlan, PairCounts, PairStep, counts_on, left_after, first_due, pair_step}
-use Rattle.law_pair.specs.PairWalk.{pair_plan}
+use Rattle.walk_engine.specs.Common.{refusal_in_event, GivesRows}
 use Rattle.walk_engine.specs.declared.walk_core.step_answers.Moved.{Moved}
 use Rattle.walk_engine.specs.declared.walk_core.step_answers.Moved.TheVariants.{Yes, Stalled, Refused}
-use Rattle.walk_engine.specs.walk_core.Moved.{refusal_in_event, GivesRows}
 use Rattle.pair_engine.specs.declared.pair_answers.PairMoved.{PairMoved}
 use Rattle.pair_engine.specs.declared.pair_answers.PairMoved.TheVariants.{Yes as yes, Stalled as stalled, Refused as refused}
 

@@ -2,13 +2,10 @@
 use Rattle.std.specs.Prelude.{◌≡◌, ℕ, ◌+◌, ◌-◌, ◌*◌, ◌%◌, ◌==◌, ◌&&◌, nat_le, if◌then◌else◌, Bool, List, [], map}
 use Rattle.std.specs.Prelude.{drop, slice_get, Option, None}
 use Rattle.std.specs.List.{range_with_len}
-use Rattle.member_cells.specs.declared.containers_and_cells.BackCell.{BackCell}
+use Rattle.law_model.specs.Common.{BackCell, Leg, told_in, used_in}
 use Rattle.law_model.specs.declared.control_packet.Packet.{Packet}
-use Rattle.law_model.specs.session.Leg.{Leg}
 use Rattle.law_model.specs.session.Scenario.{packets_in}
-use Rattle.law_model.specs.packets.Told.{told_in}
-use Rattle.law_model.specs.session.Counts.{used_in}
-use Rattle.law_walk.specs.Rings.{said_packet, back_cell}
+use Rattle.law_walk.specs.Common.{said_packet, back_cell}
 use Rattle.terminal_group.specs.Inbox.{Inbox}
 
 -- ---- what is told

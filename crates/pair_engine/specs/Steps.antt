@@ -2,15 +2,14 @@
 use Rattle.std.specs.Prelude.{◌≡◌, ℕ, ◌+◌, ◌%◌, ◌==◌, ◌&&◌, nat_lt, if◌then◌else◌, Bool, true, List, Option, Some, None}
 use Rattle.std.specs.Prelude.{option_map}
 use Rattle.std.specs.List.Sorted.{IsNonDecreasing}
+use Rattle.law_model.specs.Common.{Leg, Due, Step, frame_due, command_due, frame_dues, command_dues, dues_of}
 use Rattle.law_model.specs.declared.script_types.Item.{Item}
-use Rattle.law_model.specs.session.Leg.{Leg}
-use Rattle.law_model.specs.session.Counts.{Due, Step, frame_due, command_due, frame_dues, command_dues, dues_of}
-use Rattle.terminal_group.specs.Landed.{Landed, next_number, due_at}
 use Rattle.law_model.specs.declared.item_refusals.Refusal.{Refusal}
-use Rattle.law_walk.specs.Walk.{walk_plan}
+use Rattle.terminal_group.specs.Landed.{Landed, next_number, due_at}
+use Rattle.law_walk.specs.Common.{walk_plan}
+use Rattle.walk_engine.specs.Common.{answer_by}
 use Rattle.walk_engine.specs.declared.walk_core.step_answers.Moved.{Moved}
-use Rattle.walk_engine.specs.walk_core.Moved.{answer_by}
-use Rattle.law_pair.specs.PairCounts.{take_one}
+use Rattle.law_pair.specs.Common.{take_one}
 use Rattle.pair_engine.specs.declared.next_items.NextItem.{NextItem}
 use Rattle.pair_engine.specs.declared.pair_way.PairWay.{PairWay}
 use Rattle.pair_engine.specs.Ways.{leg_beside, way_counts, StandsAs, IsWayBeside, AreBeside}

@@ -1,15 +1,13 @@
 -- What a pair holds, by its scripts and its counts.
 use Rattle.std.specs.Prelude.{◌≡◌, ℕ, ◌*◌, ◌≤◌, []}
+use Rattle.law_model.specs.Common.{Leg, Counts, begin, used_in}
 use Rattle.law_model.specs.declared.script_types.Script.{Script}
-use Rattle.law_model.specs.session.Leg.{Leg}
 use Rattle.law_model.specs.session.Scenario.{packets_in}
-use Rattle.law_model.specs.session.Counts.{Counts, begin, used_in}
-use Rattle.law_walk.specs.Walk.{walk_plan}
+use Rattle.law_walk.specs.Common.{walk_plan}
 use Rattle.terminal_group.specs.Inbox.{Inbox, empty_inbox}
-use Rattle.law_pair.specs.Pair.{IsPair, way_of}
-use Rattle.law_pair.specs.PairCounts.{PairCounts}
-use Rattle.law_pair.specs.PairWalk.{IsPairWalked}
-use Rattle.walk_engine.specs.walk_core.Parts.{Parts, counts_of, WayStands}
+use Rattle.law_pair.specs.Common.{IsPair, way_of, PairCounts, IsPairWalked}
+use Rattle.walk_engine.specs.walk_core.Parts.{WayStands}
+use Rattle.walk_engine.specs.Common.{Parts, counts_of}
 use Rattle.pair_engine.specs.declared.pair_way.PairWay.{PairWay}
 use Rattle.pair_engine.specs.Said.{Said, untold_packets, HasHeard}
 

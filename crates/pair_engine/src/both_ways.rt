@@ -1,13 +1,11 @@
 //! A pair of sessions, event by event.
 
 ghost use Rattle.std.specs.Prelude.{◌≡◌, ◌<◌, suc, [], ◌∷◌, length, replicate, IfOk};
-ghost use Rattle.law_walk.specs.Landed.{refusals_of, totals_of};
+ghost use Rattle.law_walk.specs.Common.{refusals_of, totals_of};
+ghost use Rattle.law_pair.specs.Common.{IsPair, carries_on, counts_on, is_over, plan_on, pair_begin, pair_round};
+ghost use Rattle.law_pair.specs.Common.{pair_run, HasWayLine, pair_plan, pair_drained, IsPairWalked};
 ghost use Rattle.law_pair.specs.declared.pair_events.Way.TheVariants.{There as THERE, Back as BACK};
 ghost use Rattle.law_pair.specs.declared.pair_events.PairEvent.TheVariants.{Item, Tick, Carry, Take};
-ghost use Rattle.law_pair.specs.Pair.{IsPair};
-ghost use Rattle.law_pair.specs.PairCounts.{carries_on, counts_on, is_over, plan_on, pair_begin, pair_round, pair_run};
-ghost use Rattle.law_pair.specs.PairProgress.{HasWayLine};
-ghost use Rattle.law_pair.specs.PairWalk.{pair_plan, pair_drained, IsPairWalked};
 ghost use Rattle.pair_engine.specs.Moved.{after, leg_on, moved_of, plan_of, script_on, with_counts, GivesWay};
 ghost use Rattle.pair_engine.specs.Moved.{SameRows, MoreRows};
 ghost use Rattle.pair_engine.specs.Ways.{IsNewWay};

@@ -7,13 +7,13 @@
 //! stands in `law_pair`, and each of its ways is a `WayCore`.
 #![tactic(auto)]
 
+mod both_ways;
 mod next_items;
 mod pair_answers;
-mod both_ways;
 mod pair_way;
 mod said_packets;
 mod ways_meet;
 
+pub use both_ways::Pair;
 pub use law_pair::{PairEvent, Way};
 pub use pair_answers::PairMoved;
-pub use both_ways::Pair;

@@ -2,12 +2,12 @@
 
 ghost use Rattle.std.specs.Prelude.{◌≡◌, ◌<◌, ◌==◌, ◌&&◌, ◌||◌, nat_lt, if◌then◌else◌, length, slice_get, Some, None};
 ghost use Rattle.std.specs.Prelude.{IfSome};
+ghost use Rattle.law_model.specs.Common.{dues_of};
 ghost use Rattle.law_model.specs.declared.script_types.Item.{Item};
-ghost use Rattle.law_model.specs.session.Counts.{dues_of};
-ghost use Rattle.law_pair.specs.PairCounts.{left_after, first_due};
+ghost use Rattle.law_pair.specs.Common.{left_after, first_due};
 ghost use Rattle.terminal_group.specs.Item.{kind_of};
 ghost use Rattle.terminal_group.specs.Landed.{next_number, due_at};
-ghost use Rattle.walk_engine.specs.walk_core.Moved.{answer_by};
+ghost use Rattle.walk_engine.specs.Common.{answer_by};
 ghost use Rattle.pair_engine.specs.Steps.{due_of_next, found_by, next_in, AreInOrder};
 
 use law_model::{Refusal, Script};

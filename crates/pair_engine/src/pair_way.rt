@@ -1,13 +1,11 @@
 //! One way of a pair: its direction with its script, and what was said of it.
 
 ghost use Rattle.std.specs.Prelude.{◌≡◌, ◌<◌, ◌≤◌, None, IfOk};
+ghost use Rattle.law_model.specs.Common.{carry};
 ghost use Rattle.law_model.specs.declared.script_types.Script.{Script};
-ghost use Rattle.law_model.specs.session.Counts.{carry};
-ghost use Rattle.law_pair.specs.Pair.{IsWay, way_of};
-ghost use Rattle.law_pair.specs.PairCounts.{land_item, done_at, held_at, full_at, missing_at};
-ghost use Rattle.law_walk.specs.Walk.{walk_plan};
-ghost use Rattle.walk_engine.specs.walk_core.Moved.{answer_by};
-ghost use Rattle.walk_engine.specs.walk_core.Parts.{StandsForSome};
+ghost use Rattle.law_pair.specs.Common.{IsWay, way_of, land_item, done_at, held_at, full_at, missing_at};
+ghost use Rattle.law_walk.specs.Common.{walk_plan};
+ghost use Rattle.walk_engine.specs.Common.{answer_by, StandsForSome};
 ghost use Rattle.pair_engine.specs.Moved.{next_refusal};
 ghost use Rattle.pair_engine.specs.Said.{tells_next, told_now, left_untold};
 ghost use Rattle.pair_engine.specs.Steps.{Goes, IsQuiet};

@@ -1,19 +1,17 @@
 //! Where the two ways meet: a tick of both, and a row of one of them, whose packets the other one hears.
 
 ghost use Rattle.std.specs.Prelude.{◌≡◌, Some, None, option_map};
-ghost use Rattle.law_model.specs.packets.ReturnPacket.{leader};
-ghost use Rattle.law_model.specs.packets.Told.{told_by, told_in};
-ghost use Rattle.walk_engine.specs.walk_core.Moved.{GivesRows};
-ghost use Rattle.law_pair.specs.PairCounts.{first_way, tick_by, tick_cause};
-ghost use Rattle.law_pair.specs.PairWalk.{pair_plan};
+ghost use Rattle.law_model.specs.Common.{leader, told_by, told_in};
+ghost use Rattle.walk_engine.specs.Common.{GivesRows};
+ghost use Rattle.law_pair.specs.Common.{first_way, tick_by, tick_cause, pair_plan};
 ghost use Rattle.pair_engine.specs.declared.pair_way.PairWay.{PairWay};
 ghost use Rattle.pair_engine.specs.Steps.{TakesRow, EndsPacket, Hears};
 ghost use Rattle.pair_engine.specs.Ways.{AreBeside, IsPairWalk, leg_beside, pair_counts};
 
 use crate::pair_way::PairWay;
-use member_cells::BackCell;
 use law_model::{FrameOut, StallCause};
 use law_pair::Way;
+use member_cells::BackCell;
 use member_rows::lcas_packet::Packet;
 use terminal_sink::sink_core::TakeAnswer;
 use walk_engine::walk_core::Moved;
@@ -66,7 +64,11 @@ pub(crate) fn tick_both(there: &mut PairWay, back: &mut PairWay)
 
 /// Takes the next row of a way, where its lines decide it. What is said then waits to be told by the other way; and
 /// where a packet row ends with it, the source of the other way hears what its packets tell.
-pub(crate) fn take_way_row<F: FrameOut>(own: &mut PairWay, other: &mut PairWay, out: &mut F) -> Moved
+pub(crate) fn take_way_row<F: FrameOut>(
+    own: &mut PairWay,
+    other: &mut PairWay,
+    out: &mut F,
+) -> Moved
     requires { AreBeside own.old other.old }
     ensures takes { TakesRow own.old other.old own.new other.new result }
     ensures gives { GivesRows F.stands_for out.old out.new (leg_beside own.old other.old)

@@ -1,7 +1,6 @@
 -- The first fault of a text of two scripts is that of its language.
-use Rattle.std.proofs.Common.{◌≡◌, ◌↔◌, ℕ, Bool, true, false, not, nat_lt, ◌||◌, ◌==◌, length, List, ap, ap₂, sym}
-use Rattle.std.proofs.Common.{◌∙◌, refl}
-use Rattle.std.specs.Prelude.{Option, None, Some, Result, Ok, Err, option_map}
+use Rattle.std.proofs.Common.{◌≡◌, ◌↔◌, ℕ, Bool, true, false, not, nat_lt, ◌||◌, ◌==◌, length, List, ap, ap₂, sym, ◌∙◌}
+use Rattle.std.proofs.Common.{refl, Option, None, Some, Result, Ok, Err, option_map}
 use Rattle.std.specs.Option.{option_or}
 use Rattle.std.specs.Str.Lines.{lines}
 use Rattle.text_lines.specs.Fields.{where_true}

@@ -1,7 +1,6 @@
 -- The lines of two scripts, one line on and at the end.
-use Rattle.std.proofs.Common.{◌≡◌, ◌⊎◌, ℕ, ◌+◌, Bool, true, false, List, [], ◌∷◌, ap, ap₂, sym}
-use Rattle.std.proofs.Common.{◌∙◌, refl, inl, inr, if◌then◌else◌}
-use Rattle.std.specs.Prelude.{Option, None, Some, Result, Ok, Err, IfOk, IfErr, option_map, is_none}
+use Rattle.std.proofs.Common.{◌≡◌, ◌⊎◌, ℕ, ◌+◌, Bool, true, false, List, [], ◌∷◌, ap, ap₂, sym, ◌∙◌, refl, inl, inr}
+use Rattle.std.proofs.Common.{if◌then◌else◌, Option, None, Some, Result, Ok, Err, IfOk, IfErr, option_map, is_none}
 use Rattle.text_lines.specs.Fields.{where_true}
 use Rattle.std.specs.Option.{option_or}
 use Rattle.std.specs.Str.Lines.{lines}
@@ -21,8 +20,8 @@ use Rattle.pair_script.specs.declared.script_pair.PairFault.{PairFault}
 use Rattle.pair_script.specs.declared.script_pair.PairFault.TheVariants as fault
 use Rattle.pair_script.specs.declared.script_pair.ScriptPair.{ScriptPair}
 use Rattle.pair_script.specs.declared.pair_reader.PairReader.{PairReader}
-use Rattle.pair_script.specs.PairTextLines.{Halves, HalfFault, of_script, no_division, half_fault, half_after}
-use Rattle.pair_script.specs.PairTextLines.{divides, divided, half_missing, pair_lines}
+use Rattle.pair_script.specs.PairTextLines.{Halves, HalfFault, of_script, no_division, half_fault, half_after, divides, divided}
+use Rattle.pair_script.specs.PairTextLines.{half_missing, pair_lines}
 use Rattle.pair_script.specs.Pair.{pair_of_halves, pair_in, pair_unless, limits_fault}
 use Rattle.pair_script.specs.Pieces.{no_memory, line_at, halves_of, said_after, IsPairAt, IsPairToldAt}
 

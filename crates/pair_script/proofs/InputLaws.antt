@@ -1,9 +1,10 @@
 -- A reader of two scripts as any reader of a text in pieces.
 use Rattle.std.proofs.Common.{◌≡◌, ◌≢◌, ◌⊎◌, ℕ, List, length, length-append, refl, ap, inl, inr, Result, Ok, Err, arith}
 use Rattle.text_scripts.specs.declared.script_read.script_fault.ScriptFault.TheVariants.{Line, Slip, Spread, Lag, Memory}
+use Rattle.command_parts.specs.Common.{StopsAt, Follows}
 use Rattle.command_parts.specs.declared.stop_and_status.Stop.{Stop}
 use Rattle.command_parts.specs.declared.stop_and_status.Stop.TheVariants as stop
-use Rattle.command_parts.specs.Pieces.{StopsAt, Follows, HasNumbersLeft}
+use Rattle.command_parts.specs.Pieces.{HasNumbersLeft}
 use Rattle.command_parts.proofs.StopLaws.{stops_as, stops_short}
 use Rattle.pair_script.specs.declared.script_pair.PairFault.{PairFault}
 use Rattle.pair_script.specs.declared.script_pair.PairFault.TheVariants as fault

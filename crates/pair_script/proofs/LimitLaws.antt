@@ -1,23 +1,18 @@
 -- Two scripts that pass all tests make a pair.
-use Rattle.std.proofs.Common.{◌≡◌, ◌≤◌, ℕ, ◌||◌, Bool, true, false, not, nat_lt, ◌==◌, List, [], ◌∷◌, length, arith}
-use Rattle.std.proofs.Common.{refl}
-use Rattle.std.specs.Prelude.{Option, None, option_map}
+use Rattle.std.proofs.Common.{◌≡◌, ◌≤◌, ℕ, ◌||◌, false, not, nat_lt, ◌==◌, List, [], ◌∷◌, length, arith, refl, Option}
+use Rattle.std.proofs.Common.{None, option_map, eqb-true, ltb-false}
 use Rattle.std.specs.Option.{option_or}
-use Rattle.std.proofs.lemmas.Bool.{not-false, eqb-true, ltb-false}
+use Rattle.std.proofs.lemmas.Bool.{not-false, or_parts}
 use Rattle.text_lines.specs.Fields.{where_true}
 use Rattle.text_lines.proofs.FieldLaws.{or_none, where_none, map_none}
 use Rattle.law_model.specs.declared.script_types.Script.{Script}
 use Rattle.text_scripts.specs.script_read.Script.{config_fault}
 use Rattle.text_scripts.specs.script_read.Pieces.{IsUntested}
-use Rattle.law_pair.specs.Pair.{IsPair}
+use Rattle.law_pair.specs.Common.{IsPair}
 use Rattle.pair_script.specs.declared.script_pair.PairFault.{PairFault}
 use Rattle.pair_script.specs.declared.script_pair.PairFault.TheVariants as fault
 use Rattle.pair_script.specs.declared.script_pair.ScriptPair.{ScriptPair}
 use Rattle.pair_script.specs.Pair.{fit_fault, limits_fault}
-
-neither : (a b : Bool) → (a || b) ≡ false → (a ≡ false) × (b ≡ false)
-neither true b is = absurd cc
-neither false b is = (refl, is)
 
 empty : {X : Type 0} (xs : List X) → nat_lt 0 (length xs) ≡ false → xs ≡ []
 empty [] none = refl
@@ -25,9 +20,6 @@ empty (x ∷ xs) none = absurd (omega (arith, ltb-false 0 (length (x ∷ xs)) no
 
 same : (n m : ℕ) → not (n == m) ≡ false → n ≡ m
 same n m is = eqb-true n m (not-false (n == m) is)
-
-few : (n most : ℕ) → nat_lt most n ≡ false → n ≤ most
-few n most is = ltb-false most n is
 
 -- both together
 record Fits (there back : Script) : Type 0 where
@@ -60,17 +52,17 @@ fitting there back none =
     (option_or (events_found there back) (option_or (lag_found there back) (ticks_found there back))) none in
     let events = or_none (events_found there back) (option_or (lag_found there back) (ticks_found there back)) lost.1 in
     let lag = or_none (lag_found there back) (ticks_found there back) events.1 in
-    let no_lost = neither (nat_lt 0 (length there.config.lost)) (nat_lt 0 (length back.config.lost))
+    let no_lost = or_parts (nat_lt 0 (length there.config.lost)) (nat_lt 0 (length back.config.lost))
     (where_none (nat_lt 0 (length there.config.lost) || nat_lt 0 (length back.config.lost)) fault.Lost lost.0) in
-    let no_events = neither (nat_lt 0 (length there.events)) (nat_lt 0 (length back.events))
+    let no_events = or_parts (nat_lt 0 (length there.events)) (nat_lt 0 (length back.events))
     (where_none (nat_lt 0 (length there.events) || nat_lt 0 (length back.events)) fault.Events events.0) in
-    let lags = neither (not (there.config.lag == back.config.lag)) (nat_lt 256 there.config.lag)
+    let lags = or_parts (not (there.config.lag == back.config.lag)) (nat_lt 256 there.config.lag)
     (where_none (not (there.config.lag == back.config.lag) || nat_lt 256 there.config.lag)
     (fault.Lag there.config.lag back.config.lag) lag.0) in
     record {
       lost = (empty there.config.lost no_lost.0, empty back.config.lost no_lost.1);
       events = (empty there.events no_events.0, empty back.events no_events.1);
-      lag = (same there.config.lag back.config.lag lags.0, few there.config.lag 256 lags.1);
+      lag = (same there.config.lag back.config.lag lags.0, ltb-false 256 there.config.lag lags.1);
       ticks = same there.config.ticks back.config.ticks
           (where_none (not (there.config.ticks == back.config.ticks))
           (fault.Ticks there.config.ticks back.config.ticks) lag.1);

@@ -1,11 +1,9 @@
 -- A piece of a text is read line by line.
 use Rattle.std.proofs.Common.{◌≡◌, ◌⊎◌, ℕ, ◌+◌, ◌-◌, ◌<◌, ◌≤◌, List, [], ◌∷◌, ◌++◌, length, take, drop, inl, inr, ap}
-use Rattle.std.proofs.Common.{sym, ◌∙◌, arith, append_assoc, take-append-drop, length-append, length-take, length-drop}
-use Rattle.std.proofs.Common.{refl}
-use Rattle.std.proofs.Math.Seq.{take-add}
-use Rattle.std.proofs.lemmas.List.{drop-drop, take_all, append-nil}
-use Rattle.std.specs.Prelude.{None, Result, Err}
+use Rattle.std.proofs.Common.{sym, ◌∙◌, arith, append_assoc, length-append, length-take, length-drop, refl, take-add}
+use Rattle.std.proofs.Common.{drop-drop, take_all, append-nil, None, Result, Err}
 use Rattle.std.specs.Str.Lines.{lines}
+use Rattle.text_scripts.proofs.ScriptReadLaws.PieceLaws.{split}
 use Rattle.text_lines.specs.Cut.{Lacks}
 use Rattle.text_lines.specs.Words.{words}
 use Rattle.text_lines.specs.Language.{said_by}
@@ -15,13 +13,9 @@ use Rattle.pair_script.specs.declared.script_pair.ScriptPair.{ScriptPair}
 use Rattle.pair_script.specs.declared.pair_reader.PairReader.{PairReader}
 use Rattle.pair_script.specs.PairTextLines.{half_fault, half_after, pair_lines}
 use Rattle.pair_script.specs.Pair.{pair_of, pair_of_halves}
-use Rattle.pair_script.specs.Pieces.{no_memory, line_at, halves_of, said_after, IsPairAt, IsPairToldAt}
-use Rattle.pair_script.specs.Pieces.{StandsAt, FollowsIn}
+use Rattle.pair_script.specs.Pieces.{no_memory, line_at, halves_of, said_after, IsPairAt, IsPairToldAt, StandsAt}
+use Rattle.pair_script.specs.Pieces.{FollowsIn}
 use Rattle.pair_script.proofs.HalfLaws.{one_more, one_fails}
-
--- what was read of a list, and what wasn't
-split : (xs ys : List ℕ) (k : ℕ) → ys ≡ drop k xs → xs ≡ take k xs ++ ys
-split xs ys k is = sym (take-append-drop k xs) ∙ ap (λ (t : List ℕ). take k xs ++ t) (sym is)
 
 -- a piece, what is left of it before a line was read, and after it
 module _ (piece rest later : List ℕ) (within : length rest ≤ length piece) (shorter : length later < length rest)
@@ -84,11 +78,6 @@ rest_said first reader piece last k is read = ap (said_after first) (split piece
 
 pub tail_is : (xs : List ℕ) (k n : ℕ) → length xs - k ≤ n → take n (drop k xs) ≡ drop k xs
 tail_is xs k n within = take_all n (drop k xs) (omega (arith, within, length-drop k xs))
-
--- it is nothing
-pub nothing : (xs : List ℕ) → length xs ≡ 0 → xs ≡ []
-nothing [] none = refl
-nothing (x ∷ xs) none = absurd (omega (arith, none))
 
 -- or a line without an end
 pub last_line : (last : List ℕ) → Lacks 10 last → 0 < length last → lines last ≡ last ∷ lines []

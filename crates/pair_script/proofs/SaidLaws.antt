@@ -1,8 +1,6 @@
 -- What lines without a fault say is two scripts that make a pair.
-use Rattle.std.proofs.Common.{◌≡◌, ℕ, ◌+◌, ◌≤◌, Bool, true, false, List, [], ◌∷◌, length, refl, sym, ◌∙◌, ap, arith}
-use Rattle.std.proofs.Common.{subst, inl, inr}
-use Rattle.std.specs.Prelude.{Option, None, Some, IfSome, Result, Ok, Err, option_map, is_none, unwrap_or}
-use Rattle.std.specs.Option.{option_or}
+use Rattle.std.proofs.Common.{◌≡◌, ℕ, ◌+◌, ◌≤◌, false, List, [], ◌∷◌, length, refl, sym, ◌∙◌, arith, subst, inl, inr}
+use Rattle.std.proofs.Common.{Option, None, Some, IfSome, Result, Ok, Err, option_map, is_none, unwrap_or}
 use Rattle.std.specs.Str.Lines.{lines}
 use Rattle.std.proofs.lemmas.Bool.{cases_Bool}
 use Rattle.text_lines.specs.Words.{words}
@@ -13,9 +11,8 @@ use Rattle.text_lines.proofs.FieldLaws.{or_none, where_none, map_none}
 use Rattle.text_lines.proofs.FirstFaultLaws.{all_said}
 use Rattle.text_lines.proofs.TextLaws.{lines_few}
 use Rattle.law_model.specs.declared.script_types.Script.{Script}
-use Rattle.law_pair.specs.Pair.{IsPair}
-use Rattle.text_scripts.specs.declared.script_read.script_draft.Draft.{Draft}
-use Rattle.text_scripts.specs.script_read.Statements.{words_fault, words_said, after, at_first}
+use Rattle.law_pair.specs.Common.{IsPair}
+use Rattle.text_scripts.specs.script_read.Statements.{words_fault, words_said, at_first}
 use Rattle.text_scripts.specs.script_read.Drafts.{IsDraft}
 use Rattle.text_scripts.specs.script_read.Pieces.{IsUntested}
 use Rattle.text_scripts.specs.script_read.Script.{missing_line, script_in}
@@ -25,7 +22,7 @@ use Rattle.text_scripts.proofs.ScriptReadLaws.GrowthLaws.{IsDraft-first, IsDraft
 use Rattle.text_scripts.proofs.ScriptReadLaws.ValidLaws.{IsUntested-draft}
 use Rattle.pair_script.specs.declared.script_pair.PairFault.{PairFault}
 use Rattle.pair_script.specs.declared.script_pair.ScriptPair.{ScriptPair}
-use Rattle.pair_script.specs.PairTextLines.{Halves, HalfFault, of_script, no_division, divides, divided, half_fault, half_after}
+use Rattle.pair_script.specs.PairTextLines.{Halves, HalfFault, of_script, no_division, divides, half_fault, half_after}
 use Rattle.pair_script.specs.PairTextLines.{half_missing, nothing_said, pair_lines}
 use Rattle.pair_script.specs.Pair.{limits_fault, pair_in, pair_unless, pair_of_halves, pair_of}
 use Rattle.pair_script.proofs.HalfLaws.{divide_fault, divide_after, plain_fault, plain_after}

@@ -1,9 +1,9 @@
 -- The notes on what is wrong with two scripts, and the status of each.
 use Rattle.std.specs.Prelude.{ℕ, List, ◌++◌, codes, decimal}
 use Rattle.text_lines.specs.declared.field_fault.LineKind.TheVariants.{Missing}
+use Rattle.command_parts.specs.Common.{line_text, fault_text, why_of}
 use Rattle.command_parts.specs.declared.stop_and_status.Refusal.{Refusal}
 use Rattle.command_parts.specs.declared.stop_and_status.Refusal.TheVariants as why
-use Rattle.command_parts.specs.Faults.{line_text, fault_text, why_of}
 use Rattle.pair_script.specs.declared.script_pair.PairFault.{PairFault}
 use Rattle.pair_script.specs.declared.script_pair.PairFault.TheVariants.{Script, Undivided, Lost, Events, Lag, Ticks}
 

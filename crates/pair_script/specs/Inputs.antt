@@ -1,11 +1,8 @@
 -- Commands that run the two scripts which their input says.
 use Rattle.std.specs.Prelude.{◌≡◌, List, ℕ, Ok, Err, Result}
+use Rattle.command_parts.specs.Common.{Answer, Lent, HasRead, IsRefusedAs, answer_told}
 use Rattle.command_parts.specs.declared.stop_and_status.Refusal.{Refusal}
 use Rattle.command_parts.specs.declared.stop_and_status.Stop.{Stop}
-use Rattle.command_parts.specs.Task.{Answer}
-use Rattle.command_parts.specs.Ends.{Lent, HasRead}
-use Rattle.command_parts.specs.Stops.{IsRefusedAs}
-use Rattle.command_parts.specs.Pieces.{answer_told}
 use Rattle.pair_script.specs.declared.script_pair.ScriptPair.{ScriptPair}
 use Rattle.pair_script.specs.declared.script_pair.PairFault.{PairFault}
 use Rattle.pair_script.specs.declared.pair_reader.PairReader.{PairReader}

@@ -4,7 +4,7 @@ use Rattle.std.specs.Str.Lines.{lines}
 use Rattle.text_lines.specs.Language.{said_from, said_by}
 use Rattle.text_scripts.specs.declared.script_read.script_fault.ScriptFault.TheVariants.{Memory}
 use Rattle.text_scripts.specs.script_read.Pieces.{IsReader, IsUntested, next_number, drafted}
-use Rattle.law_model.specs.Limits.{longest_input}
+use Rattle.law_model.specs.Common.{longest_input}
 use Rattle.pair_script.specs.declared.script_pair.PairFault.{PairFault}
 use Rattle.pair_script.specs.declared.script_pair.PairFault.TheVariants.{Script}
 use Rattle.pair_script.specs.declared.pair_reader.PairReader.{PairReader}

@@ -6,14 +6,14 @@
 //! scripts says a pair.
 #![tactic(auto)]
 
-mod pair_script_laws;
-mod pair_limits;
 mod pair_fault_note;
-mod script_pair;
-mod read_pair_pieces;
+mod pair_limits;
 mod pair_reader;
+mod pair_script_laws;
+mod read_pair_pieces;
+mod script_pair;
 
-pub use pair_script_laws::{fault_law, valid_law};
-pub use script_pair::{PairFault, ScriptPair};
-pub use read_pair_pieces::read_pair;
 pub use pair_reader::PairReader;
+pub use pair_script_laws::{fault_law, valid_law};
+pub use read_pair_pieces::read_pair;
+pub use script_pair::{PairFault, ScriptPair};

@@ -1,21 +1,19 @@
 //! The two scripts that an input says.
 ghost use Rattle.std.specs.Prelude.{IfOk, IfErr};
-ghost use Rattle.command_parts.specs.Task.{Answer};
-ghost use Rattle.command_parts.specs.Ends.{lent};
-ghost use Rattle.command_parts.specs.Stops.{StopsReading};
-ghost use Rattle.law_pair.specs.Pair.{IsPair};
+ghost use Rattle.command_parts.specs.Common.{Answer, lent, StopsReading};
+ghost use Rattle.law_pair.specs.Common.{IsPair};
 ghost use Rattle.pair_script.specs.declared.script_pair.ScriptPair.{ScriptPair};
 ghost use Rattle.pair_script.specs.Inputs.{HasPair, pair_answer};
 
 use crate::pair_fault_note::stop_of_pair;
-use crate::script_pair::ScriptPair;
 use crate::pair_reader::PairReader;
-use octet_io::ByteSource;
+use crate::script_pair::ScriptPair;
 use command_parts::{PieceReader, Stop, read_pieces};
+use octet_io::ByteSource;
 use std::alloc::Global;
 
 impl PieceReader for PairReader {
-    ghost use Rattle.law_pair.specs.Pair.{IsPair};
+    ghost use Rattle.law_pair.specs.Common.{IsPair};
     ghost use Rattle.pair_script.specs.Pair.{pair_of};
     ghost use Rattle.pair_script.specs.Inputs.{pair_told, ReadsPair};
 

@@ -1,44 +1,32 @@
 -- How a pair's reports end: all of them is written, or a part.
-use Rattle.std.proofs.Common.{◌≡◌, ℕ, ◌+◌, ◌-◌, ◌≤◌, Bool, true, false, not, List, [], ◌∷◌, ◌++◌, drop, length}
-use Rattle.std.proofs.Common.{Option, refl, sym, ◌∙◌, ap, subst, arith, append_assoc, append-nil, inl, inr, Result, Ok}
-use Rattle.std.proofs.Common.{Err, OnOk, OnErr}
+use Rattle.std.proofs.Common.{◌≡◌, ℕ, ◌+◌, ◌-◌, ◌≤◌, Bool, true, false, not, List, [], ◌++◌, drop, length, Option, sym}
+use Rattle.std.proofs.Common.{◌∙◌, ap, subst, arith, append_assoc, append-nil, inl, inr, Result, Ok, Err, OnOk, OnErr}
 use Rattle.std.proofs.lemmas.Grind.{flat_map-append}
-use Rattle.octet_io.specs.Start.{Start}
-use Rattle.octet_io.specs.Transfer.{Appends}
-use Rattle.octet_io.proofs.Parts.{AppendsPart-longer}
-use Rattle.law_model.specs.session.Leg.{Leg}
-use Rattle.law_model.specs.rows.SessionStream.{rows_of}
-use Rattle.law_model.specs.frames.Segment.{segments_on}
-use Rattle.law_model.specs.frames.Run.{delineate_within}
-use Rattle.law_model.specs.frames.Hunt.{hunt_within}
-use Rattle.law_model.specs.session.Counts.{Counts}
+use Rattle.walk_engine.proofs.WalkCoreLaws.OpenLaws.{none-delivered, drop-none}
+use Rattle.law_model.specs.Common.{Start, Appends, Leg, Counts}
 use Rattle.law_model.specs.declared.item_refusals.Refusal.{Refusal}
 use Rattle.law_model.specs.declared.session_totals.Totals.{Totals}
+use Rattle.octet_io.proofs.Parts.{AppendsPart-longer}
 use Rattle.text_report.specs.Report.{got_text, got_texts, refused_texts, total_text}
-use Rattle.law_walk.specs.Delivered.{delivered_of}
-use Rattle.law_walk.specs.Landed.{refusals_among, refusals_of, totals_among, totals_of}
-use Rattle.law_walk.specs.Promise.{numbered}
-use Rattle.law_walk.specs.Report.{report_of, final_report}
+use Rattle.law_walk.specs.Common.{delivered_of, refusals_among, refusals_of, totals_among, totals_of, numbered}
+use Rattle.law_walk.specs.Common.{report_of, final_report}
 use Rattle.law_walk.proofs.FrameLaws.{frames-grow}
-use Rattle.walk_engine.specs.walk_core.Moved.{delivered_since, GivesRows}
+use Rattle.walk_engine.specs.Common.{delivered_since, GivesRows}
 use Rattle.text_got.specs.declared.got_text.GotLines.{GotLines}
 use Rattle.text_got.specs.Told.{AppendsSome, GivesUp, HasText, has_failed, name_of, start_at}
+use Rattle.law_pair.specs.Common.{IsPair, PairCounts, counts_on, pair_begin, pair_drained, IsPairWalked}
 use Rattle.law_pair.specs.declared.pair_events.Way.{Way}
 use Rattle.law_pair.specs.declared.pair_events.Way.TheVariants.{There, Back}
-use Rattle.law_pair.specs.Pair.{IsPair}
-use Rattle.law_pair.specs.PairCounts.{PairCounts, counts_on, pair_begin}
-use Rattle.law_pair.specs.PairWalk.{pair_drained, IsPairWalked}
 use Rattle.law_pair.proofs.PairEndLaws.{pair-begins}
 use Rattle.law_pair.proofs.PairPlanLaws.{there-report, back-report}
 use Rattle.pair_engine.specs.Moved.{Paired, leg_on, plan_of, with_counts, GivesWay}
 use Rattle.pair_walk.specs.Rounds.{FewRows}
 use Rattle.pair_walk.specs.Text.{way_text}
 use Rattle.pair_walk.proofs.RoundLaws.{leg-same}
-use Rattle.command_parts.specs.Ends.{Lent, WritesPart}
-use Rattle.command_parts.specs.Task.{writes_both}
+use Rattle.command_parts.specs.Common.{Lent, WritesPart, writes_both}
 
 -- ---- a text that is given up
-given_up-longer : {K : Type 0} (failed : Bool) (written : K → Option (List ℕ)) (faults : K → ℕ) (old new : K)
+pub given_up-longer : {K : Type 0} (failed : Bool) (written : K → Option (List ℕ)) (faults : K → ℕ) (old new : K)
     (text more : List ℕ)
     → GivesUp failed written faults old new text → GivesUp failed written faults old new (text ++ more)
 given_up-longer true written faults old new text more stops = AppendsPart-longer written faults old new text more stops
@@ -56,19 +44,11 @@ appends-all written faults old new text all =
     record { part = text; rest = []; prefix = append-nil text; appended = all.appended; quiet = all.quiet }
 
 -- ---- the frames of a leg
-none-delivered : (leg : Leg) → delivered_of leg 0 ≡ []
-unfolding rows_of segments_on delineate_within hunt_within
-none-delivered leg = refl
-
-drop-none : {X : Type 0} (xs : List X) → drop 0 xs ≡ xs
-drop-none [] = refl
-drop-none (x ∷ xs) = refl
-
-since-begin : (leg : Leg) (rows : ℕ) → delivered_since leg 0 rows ≡ delivered_of leg rows
+pub since-begin : (leg : Leg) (rows : ℕ) → delivered_since leg 0 rows ≡ delivered_of leg rows
 since-begin leg rows = ap (λ (frames : List (List ℕ)). drop (length frames) (delivered_of leg rows))
     (none-delivered leg) ∙ drop-none (delivered_of leg rows)
 
-since : (leg : Leg) (a b : ℕ) → a ≤ b → delivered_of leg a ++ delivered_since leg a b ≡ delivered_of leg b
+pub since : (leg : Leg) (a b : ℕ) → a ≤ b → delivered_of leg a ++ delivered_since leg a b ≡ delivered_of leg b
 since leg a b low =
     let e : a + (b - a) ≡ b = omega (arith, low) in
     ap (λ n. delivered_of leg a ++ delivered_since leg a n) (sym e) ∙ sym (frames-grow leg a (b - a))

@@ -1,9 +1,8 @@
 -- The headline of a text of two scripts. What a pair writes of it is here to be cited by the command.
-use Rattle.std.proofs.Common.{◌≡◌, ℕ, ◌≤◌, List, length, arith}
-use Rattle.std.specs.Prelude.{Ok}
+use Rattle.std.proofs.Common.{◌≡◌, ℕ, ◌≤◌, List, length, arith, Ok}
 use Rattle.law_model.specs.declared.script_types.Script.{Script}
-use Rattle.law_walk.specs.Promise.{numbered}
-use Rattle.law_pair.specs.Pair.{IsWay, way_of}
+use Rattle.law_walk.specs.Common.{numbered}
+use Rattle.law_pair.specs.Common.{IsWay, way_of}
 use Rattle.law_pair.proofs.WayLaws.{way-sound}
 use Rattle.law_headline.proofs.ReportLaws.{is_headline}
 use Rattle.pair_script.specs.declared.script_pair.ScriptPair.{ScriptPair}

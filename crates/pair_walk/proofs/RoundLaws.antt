@@ -2,14 +2,12 @@
 use Rattle.std.proofs.Common.{◌≡◌, ℕ, ◌<◌, ◌≤◌, nat_le, List, Option, Some, None, sym, ap, subst, arith}
 use Rattle.std.proofs.Common.{inl, inr}
 use Rattle.std.proofs.lemmas.Bool.{cases_Bool, leb-false}
-use Rattle.octet_io.specs.Start.{Start}
-use Rattle.law_model.specs.session.Counts.{LineCounts, Plan, Counts, pop_lines}
-use Rattle.law_model.specs.session.Leg.{Leg}
+use Rattle.law_model.specs.Common.{Start, LineCounts, Plan, Counts, pop_lines, Leg}
+use Rattle.law_pair.specs.Common.{counts_on, take_said, take_one}
 use Rattle.law_pair.specs.declared.pair_events.Way.{Way}
 use Rattle.law_pair.specs.declared.pair_events.Way.TheVariants.{There, Back}
 use Rattle.law_pair.specs.declared.pair_events.PairEvent.TheVariants.{Take}
-use Rattle.law_pair.specs.PairCounts.{counts_on, take_said, take_one}
-use Rattle.walk_engine.specs.walk_core.Moved.{GivesRows}
+use Rattle.walk_engine.specs.Common.{GivesRows}
 use Rattle.pair_engine.specs.Moved.{Paired, after, leg_on, plan_of, with_counts, GivesWay, SameRows, MoreRows}
 use Rattle.pair_engine.proofs.RoundLaws.{take-rise}
 use Rattle.pair_engine.proofs.TakeLaws.{gives-none}

@@ -1,8 +1,8 @@
 -- The headline of a pair: what the reports of its two ways tell, in the words of whoever wrote the two scripts.
 use Rattle.std.specs.Prelude.{◌≡◌, ℕ, List, Ok}
 use Rattle.law_model.specs.declared.script_types.Script.{Script}
-use Rattle.law_walk.specs.Promise.{numbered}
-use Rattle.law_pair.specs.Pair.{way_of}
+use Rattle.law_walk.specs.Common.{numbered}
+use Rattle.law_pair.specs.Common.{way_of}
 use Rattle.law_headline.specs.Headline.{IsHeadline}
 use Rattle.pair_script.specs.declared.script_pair.ScriptPair.{ScriptPair}
 use Rattle.pair_script.specs.Pair.{pair_of}

@@ -1,9 +1,9 @@
 -- What the command `pair` writes of two scripts: on `out` the report of the way there, on notes that of the way back.
 use Rattle.std.specs.Prelude.{ℕ, List}
 use Rattle.law_model.specs.declared.script_types.Script.{Script}
-use Rattle.law_walk.specs.Report.{final_report}
-use Rattle.law_pair.specs.Pair.{way_of}
-use Rattle.command_parts.specs.Task.{Answer, writes_both}
+use Rattle.law_walk.specs.Common.{final_report}
+use Rattle.law_pair.specs.Common.{way_of}
+use Rattle.command_parts.specs.Common.{Answer, writes_both}
 use Rattle.pair_script.specs.declared.script_pair.ScriptPair.{ScriptPair}
 use Rattle.pair_script.specs.Inputs.{pair_answer}
 

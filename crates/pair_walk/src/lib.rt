@@ -6,7 +6,7 @@
 mod pair_report;
 
 ghost use Rattle.std.specs.Prelude.{◌≡◌, ℕ, ◌≤◌, List, length, Ok};
-ghost use Rattle.law_model.specs.Limits.{longest_input};
+ghost use Rattle.law_model.specs.Common.{longest_input};
 ghost use Rattle.pair_script.specs.declared.script_pair.ScriptPair.{ScriptPair};
 ghost use Rattle.pair_script.specs.Pair.{pair_of};
 ghost use Rattle.pair_walk.specs.Text.{way_text};

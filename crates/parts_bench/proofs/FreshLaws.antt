@@ -2,8 +2,7 @@
 use Rattle.std.proofs.Common.{◌≡◌, ℕ, ◌+◌, List, [], ◌∷◌, ◌++◌, length, replicate, sym, ◌∙◌, ap, ap₂}
 use Rattle.std.proofs.lemmas.List.{map-append, length-map, length-replicate, replicate-append-replicate}
 use Rattle.member_cells.specs.declared.containers_and_cells.Cell.{Cell}
-use Rattle.thread_rings.specs.Ends.{InEnd}
-use Rattle.thread_rings.specs.Ends.{in_passed}
+use Rattle.thread_rings.specs.Ends.{InEnd, in_passed}
 use Rattle.thread_sink.specs.Received.{received}
 
 pub one_more : (ends : List (InEnd Cell)) (end : InEnd Cell) (n : ℕ) → received ends ≡ replicate n [] →

@@ -2,15 +2,15 @@
 //! through and a sum, and never a time. `all` does a little of everything. Begin with `Way`.
 #![tactic(auto)]
 
-mod random_draws;
+mod drawn_texts;
 mod fill_and_delineate;
-mod sink_feed;
 mod line_worker_speed;
+mod random_draws;
 mod script_reading;
-mod spread_and_gather;
+mod sink_feed;
 mod sink_worker_speed;
 mod source_speed;
-mod drawn_texts;
+mod spread_and_gather;
 
 use std::alloc::Global;
 use std::{env, io};

@@ -3,8 +3,8 @@
 ghost use Rattle.std.specs.Prelude.{◌<◌, ◌≤◌};
 
 use crate::Done;
-use member_cells::{Cell, Container, Ctrl, PAYLOAD};
 use gfp_fill::{Filler, FrameQueue};
+use member_cells::{Cell, Container, Ctrl, PAYLOAD};
 use member_path::h4_multiframe::h4;
 use member_rows::lcas_packet::Packet;
 use member_rows::vcat_interleave::spread;

@@ -6,16 +6,16 @@
 #[cfg(test)]
 mod alarm_queue;
 #[cfg(test)]
+mod au4_pointers;
+#[cfg(test)]
 mod counting_gate;
 #[cfg(test)]
-mod line_inbox_items;
+mod h4_decoder;
 #[cfg(test)]
-mod au4_pointers;
+mod hex_and_report_text;
+#[cfg(test)]
+mod line_inbox_items;
 #[cfg(test)]
 mod line_worker_bursts;
 #[cfg(test)]
 mod sink_worker_bursts;
-#[cfg(test)]
-mod hex_and_report_text;
-#[cfg(test)]
-mod h4_decoder;

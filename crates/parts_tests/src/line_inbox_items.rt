@@ -2,8 +2,8 @@
 
 ghost use Rattle.std.specs.Prelude.{◌≡◌, length, IfSome};
 
-use member_cells::{BackCell, Container, Ctrl, HeldContainer, PAYLOAD};
 use law_model::{Item, ItemKind, Octets};
+use member_cells::{BackCell, Container, Ctrl, HeldContainer, PAYLOAD};
 use member_path::failure_window::Window;
 use member_rows::lcas_packet::Packet;
 use member_rows::realign_rows::{RowAnswer, RowGather};

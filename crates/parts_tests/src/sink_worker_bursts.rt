@@ -4,13 +4,13 @@ ghost use Rattle.thread_rings.specs.Ends.{in_passed};
 ghost use Rattle.thread_sink.specs.Received.{received};
 
 use crate::counting_gate::Counter;
-use member_cells::{Cell, Container, Ctrl, PAYLOAD};
-use octet_io::MemSink;
 use gfp_fill::{Filler, FrameQueue};
+use member_cells::{Cell, Container, Ctrl, PAYLOAD};
 use member_path::h4_multiframe::h4;
 use member_path::path_delay::{LineCore, Windows};
 use member_rows::lcas_packet::Packet;
 use member_rows::vcat_interleave::spread;
+use octet_io::MemSink;
 use std::alloc::Global;
 use thread_rings::{LineEnds, LineWorker, OpenGate, RingIn, RingOut, Who, back_ring, line_rings};
 use thread_sink::{SinkBurst, SinkIdle, SinkWorker};

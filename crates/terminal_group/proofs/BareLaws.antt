@@ -1,9 +1,9 @@
 -- Items without the octets of frames land as those with them.
 use Rattle.std.proofs.Common.{◌≡◌, ℕ, zero, suc, Bool, if◌then◌else◌, List, [], ◌∷◌, refl, ◌∙◌, ap}
+use Rattle.law_model.specs.Common.{due_of, dues_of}
 use Rattle.law_model.specs.declared.script_types.Item.{Item}
 use Rattle.law_model.specs.declared.script_types.ItemKind.{ItemKind}
 use Rattle.law_model.specs.declared.script_types.ItemKind.TheVariants.{Frame, Add, Remove}
-use Rattle.law_model.specs.session.Counts.{due_of, dues_of}
 use Rattle.terminal_group.specs.Place.{is_frame, is_command, place_of}
 use Rattle.terminal_group.specs.Item.{bare_kind, bare_items}
 

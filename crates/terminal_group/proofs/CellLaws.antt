@@ -1,21 +1,17 @@
 -- Return cells that have come, and those that decision steps have taken.
 use Rattle.std.proofs.Common.{◌≡◌, ℕ, suc, ◌+◌, ◌/◌, ◌%◌, ◌==◌, ◌<◌, ◌≤◌, nat_le, true, false, List, [], ◌∷◌, ◌++◌, map}
 use Rattle.std.proofs.Common.{take, drop, length, slice_get, Option, Some, None, option_map, refl, sym, ◌∙◌, ap, subst}
-use Rattle.std.proofs.Common.{arith, inl, inr}
-use Rattle.std.specs.Option.{is_some}
+use Rattle.std.proofs.Common.{arith, inl, inr, is_some, length-append, drop-drop}
 use Rattle.std.proofs.lemmas.Bool.{cases_Bool}
-use Rattle.std.proofs.lemmas.List.{map-append, take-append-le, drop-append-le, length-append, length-map, drop-drop}
+use Rattle.std.proofs.lemmas.List.{map-append, take-append-le, drop-append-le, length-map}
 use Rattle.std.proofs.lemmas.Option.{slice_get-map, slice_get_within}
-use Rattle.member_cells.specs.declared.containers_and_cells.BackCell.{BackCell}
-use Rattle.law_model.specs.packets.Told.{told_in}
-use Rattle.law_model.specs.session.Counts.{used_in}
+use Rattle.law_model.specs.Common.{BackCell, told_in, used_in}
 use Rattle.terminal_source.specs.source_core.Terminal.{needed_at}
-use Rattle.law_line.proofs.ListLaws.{slice_get-drop, take-next}
+use Rattle.law_model.proofs.ListLaws.{slice_get-drop, take-next, slice_get-inside}
 use Rattle.law_walk.proofs.ReturnLaws.{used-next}
 use Rattle.terminal_group.specs.Source.{missing_by}
-use Rattle.terminal_group.specs.Inbox.{is_lost_in}
-use Rattle.terminal_group.specs.Inbox.{Inbox, come_by, come_from, told_from, told_taken, with_come, cell_for, rest_for}
-use Rattle.terminal_group.specs.Inbox.{HasCome, Takes}
+use Rattle.terminal_group.specs.Inbox.{is_lost_in, Inbox, come_by, come_from, told_from, told_taken, with_come}
+use Rattle.terminal_group.specs.Inbox.{cell_for, rest_for, HasCome, Takes}
 
 pub come-append : (lost : List (ℕ × ℕ)) (k : ℕ) (xs ys : List BackCell) →
     come_from lost k (xs ++ ys) ≡ come_from lost k xs ++ come_from lost (k + length xs) ys
@@ -76,9 +72,6 @@ first-cell : (used : ℕ) (cells : List BackCell) (cell : BackCell) → slice_ge
 first-cell used cells cell e = ap (slice_get cells) (let same : used ≡ used + 0 = omega arith in same)
     ∙ sym (slice_get-drop cells used 0) ∙ e
 
-drop-one : {X : Type 0} (n : ℕ) (xs : List X) → drop 1 (drop n xs) ≡ drop (n + 1) xs
-drop-one n xs = drop-drop 1 n xs
-
 takes-some : (inbox : Inbox) (received : List BackCell) (lag ticks : ℕ) (cell : BackCell) →
     HasCome inbox received (used_in lag ticks) →
     slice_get inbox.cells 0 ≡ Some cell → used_in lag (ticks + 1) ≡ used_in lag ticks + 1 →
@@ -97,7 +90,7 @@ takes-some inbox received lag ticks cell has there more needs =
       come = record {
         come = has.come;
         within = omega arith;
-        cells = ap (drop 1) has.cells ∙ drop-one (used_in lag ticks) all ∙ ap (λ n. drop n all) (sym more);
+        cells = ap (drop 1) has.cells ∙ drop-drop 1 (used_in lag ticks) all ∙ ap (λ n. drop n all) (sym more);
       };
       told = ap (λ n. take n (map told_in all)) (more ∙ suc_is)
           ∙ take-next (map told_in all) (used_in lag ticks) (told_in cell) same;
@@ -112,10 +105,6 @@ takes-none inbox received lag ticks has same needs = record {
   told = ap (λ n. take n (told_from inbox.lost received)) same;
   some = sym needs;
 }
-
-head-there : (cells : List BackCell) → 0 < length cells → (one : BackCell) × (slice_get cells 0 ≡ Some one)
-head-there [] low = absurd (omega arith)
-head-there (one ∷ cells) low = (one, refl)
 
 -- the tick takes one exactly where it needs one
 pub takes : (inbox next : Inbox) (received : List BackCell) (lag ticks : ℕ) (cell : Option BackCell) →
@@ -148,7 +137,7 @@ takes inbox next received lag ticks cell has there first left =
     some : used_in lag (ticks + 1) ≡ used_in lag ticks + 1 → is_some (needed_at lag ticks) ≡ true →
         Takes inbox next received lag ticks cell
     some more needs =
-        let (one, e) = head-there inbox.cells (there needs) in
+        let (one, e) = slice_get-inside inbox.cells 0 (there needs) in
         subst (λ (i : Inbox). Takes inbox i received lag ticks cell)
         (sym (left ∙ ap (λ b. record inbox { cells = rest_for b inbox.cells }) needs))
         (subst (λ (c : Option BackCell). Takes inbox (record inbox { cells = drop 1 inbox.cells }) received lag ticks c)

@@ -1,32 +1,23 @@
 -- Where the next items stand, and which of them is held.
 use Rattle.std.proofs.Common.{◌≡◌, ◌⊎◌, ℕ, zero, suc, ◌+◌, ◌<◌, ◌≤◌, ◌&&◌, ◌||◌, not, nat_le, nat_lt, Bool, true, false}
-use Rattle.std.proofs.Common.{List, [], ◌∷◌, length, drop, slice_get, slice_index_or, Option, Some, None, refl, sym}
+use Rattle.std.proofs.Common.{List, [], ◌∷◌, length, drop, slice_get, Option, Some, None, refl, sym}
 use Rattle.std.proofs.Common.{◌∙◌, ap, subst, arith, inl, inr, if◌then◌else◌}
 use Rattle.std.specs.List.Sorted.{IsNonDecreasing}
 use Rattle.std.proofs.lemmas.Bool.{cases_lt}
+use Rattle.std.proofs.lemmas.List.{drop_all}
+use Rattle.law_model.proofs.ListLaws.{drop-next, rest-in_order}
+use Rattle.law_model.specs.Common.{Due, frame_due, command_due, due_of, dues_of, frame_dues, command_dues, held}
 use Rattle.law_model.specs.declared.script_types.Item.{Item}
 use Rattle.law_model.specs.declared.script_types.ItemKind.{ItemKind}
 use Rattle.law_model.specs.declared.script_types.ItemKind.TheVariants.{Frame, Add, Remove}
-use Rattle.law_model.specs.session.Counts.{Due, frame_due, command_due, due_of, dues_of, frame_dues, command_dues, held}
 use Rattle.terminal_group.specs.Place.{is_frame, is_command, place_of, due_by, least_held}
-
-drop-at : {X : Type 0} (xs : List X) (i : ℕ) (x : X) → slice_get xs i ≡ Some x → drop i xs ≡ x ∷ drop (suc i) xs
-drop-at [] i x e = absurd cc
-drop-at (y ∷ ys) zero x e = ap (λ y. y ∷ ys) cc
-drop-at (y ∷ ys) (suc i) x e = drop-at ys i x e
-
-drop-past : {X : Type 0} (xs : List X) (i : ℕ) → length xs ≤ i → drop i xs ≡ []
-drop-past [] zero h = refl
-drop-past [] (suc i) h = refl
-drop-past (x ∷ xs) zero h = absurd (omega arith)
-drop-past (x ∷ xs) (suc i) h = drop-past xs i (omega arith)
 
 -- the item at a place is of the kind, or is passed
 pub place-here : (is : ItemKind → Bool) (items : List Item) (i : ℕ) (item : Item) → slice_get items i ≡ Some item →
     is item.kind ≡ true → i + place_of is 0 (drop i items) ≡ i
 unfolding place_of
 place-here is items i item e here =
-    ap (λ xs. i + place_of is 0 xs) (drop-at items i item e) ∙ rw here (let f : i + 0 ≡ i = omega arith in f)
+    ap (λ xs. i + place_of is 0 xs) (drop-next items i item e) ∙ rw here (let f : i + 0 ≡ i = omega arith in f)
 
 pub place-passed : (is : ItemKind → Bool) (items : List Item) (i : ℕ) (item : Item) → slice_get items i ≡ Some item →
     is item.kind ≡ false →
@@ -38,25 +29,15 @@ place-passed is items i item e other =
     ap (λ xs. (i + 1) + place_of is 0 xs) up
     ∙ (let g : (i + 1) + place_of is 0 (drop (suc i) items) ≡ i + suc (place_of is 0 (drop (suc i) items)) =
     omega arith in g)
-    ∙ sym (ap (λ xs. i + place_of is 0 xs) (drop-at items i item e) ∙ rw other refl)
+    ∙ sym (ap (λ xs. i + place_of is 0 xs) (drop-next items i item e) ∙ rw other refl)
 
 pub place-none : (is : ItemKind → Bool) (items : List Item) (i : ℕ) → length items ≤ i →
     i + place_of is 0 (drop i items) ≡ i
 unfolding place_of
-place-none is items i past = ap (λ xs. i + place_of is 0 xs) (drop-past items i past)
+place-none is items i past = ap (λ xs. i + place_of is 0 xs) (drop_all i items past)
     ∙ (let f : i + 0 ≡ i = omega arith in f)
 
--- what stands at a place that was read
-pub at-index : {X : Type 0} (xs : List X) (i : ℕ) (x : X) → i < length xs → x ≡ slice_index_or xs i x →
-    slice_get xs i ≡ Some x
-at-index [] i x h e = absurd (omega arith)
-at-index (y ∷ ys) zero x h e = ap Some (sym e)
-at-index (y ∷ ys) (suc i) x h e = at-index ys i x (omega arith) e
-
 -- ---- the least item that is held
-rest-in_order : (due : ℕ) (dues : List ℕ) → IsNonDecreasing (due ∷ dues) → IsNonDecreasing dues
-rest-in_order due dues order i j d low high = order (suc i) (suc j) d (omega arith) (omega arith)
-
 first-least : (due next : ℕ) (dues : List ℕ) → IsNonDecreasing (due ∷ next ∷ dues) → due ≤ next
 first-least due next dues order = order zero (suc zero) due (omega arith) (omega arith)
 

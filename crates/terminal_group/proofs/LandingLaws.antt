@@ -1,19 +1,19 @@
 -- What has landed of some items, and the refusals among them.
 use Rattle.std.proofs.Common.{◌≡◌, ℕ, zero, suc, ◌+◌, ◌<◌, ◌≤◌, nat_lt, not, Bool, true, false, List, [], ◌∷◌, ◌++◌}
 use Rattle.std.proofs.Common.{length, take, drop, slice_get, get_or, if◌then◌else◌, All, Some, None, option_map, inl}
-use Rattle.std.proofs.Common.{inr, refl, sym, ◌∙◌, ap, subst, arith, append_assoc}
-use Rattle.std.proofs.lemmas.Bool.{cases_Bool, cases_lt, ltb-true}
-use Rattle.std.proofs.lemmas.List.{get_or_append_left, get_or-append-add, length-append}
+use Rattle.std.proofs.Common.{inr, refl, sym, ◌∙◌, ap, subst, arith, append_assoc, ltb-true, length-append}
+use Rattle.std.proofs.lemmas.Bool.{cases_Bool, cases_lt}
 use Rattle.std.proofs.lemmas.List.Elements.{All-cons, All-append, All-head, All-tail}
+use Rattle.law_model.specs.Common.{due_of, dues_of, frame_dues, command_dues}
 use Rattle.law_model.specs.declared.script_types.Item.{Item}
 use Rattle.law_model.specs.declared.script_types.ItemKind.{ItemKind}
-use Rattle.law_model.specs.declared.script_types.ItemKind.TheVariants.{Frame, Add, Remove}
-use Rattle.law_model.specs.session.Counts.{due_of, dues_of, frame_dues, command_dues}
 use Rattle.law_model.specs.declared.item_refusals.Refusal.{Refusal}
-use Rattle.law_walk.specs.Landed.{is_client, IsPlaced}
+use Rattle.law_model.specs.declared.script_types.ItemKind.TheVariants.{Frame, Add, Remove}
+use Rattle.law_walk.specs.Common.{is_client, IsPlaced}
 use Rattle.terminal_group.specs.Place.{is_frame, is_command, place_of}
 use Rattle.terminal_group.proofs.PlaceLaws.{place-next, place-found, due_found, frame-due, command-due}
 use Rattle.std.specs.List.Sorted.{IsNonDecreasing}
+use Rattle.law_model.proofs.ListLaws.{All-front, All-after, slice_get-inside}
 use Rattle.terminal_group.specs.Landed.{Landed, none_landed, next_place, next_number, landed_of, refused_of, due_in}
 use Rattle.terminal_group.specs.Landed.{due_at, AreBefore, AreAfter, AreInOrder, AreOthers, AreOfLanded, IsLanded}
 use Rattle.terminal_group.specs.Landed.{AreAhead, AreBehind}
@@ -162,16 +162,6 @@ fewer-all landed true fewer frames commands = omega arith
 fewer-all landed false fewer frames commands = omega arith
 
 -- ---- refusals in order
-pub all-left : {X : Type 0} (P : X → Type 0) (xs ys : List X) → All P (xs ++ ys) → All P xs
-all-left P xs ys all k d inside =
-    let long = length-append xs ys in
-    subst P (get_or_append_left xs ys d k inside) (all k d (omega arith))
-
-pub all-right : {X : Type 0} (P : X → Type 0) (xs ys : List X) → All P (xs ++ ys) → All P ys
-all-right P xs ys all k d inside =
-    let long = length-append xs ys in
-    subst P (get_or-append-add xs ys k d) (all (length xs + k) d (omega arith))
-
 pub order-put : (number : ℕ) (why : Refusal) (front back : List (ℕ × Refusal)) → AreInOrder (front ++ back) →
     AreBefore number front → AreAfter number back →
     AreInOrder (front ++ (number, why) ∷ back)
@@ -179,10 +169,10 @@ unfolding AreInOrder
 order-put number why [] back order before after = (after, order)
 order-put number why (first ∷ front) back order before after =
     let After = λ (refused : ℕ × Refusal). first.0 < refused.0 in (
-      All-append After front ((number, why) ∷ back) (all-left After front back order.0)
+      All-append After front ((number, why) ∷ back) (All-front After front back order.0)
           (All-cons After (number, why) back
           (All-head (λ (refused : ℕ × Refusal). refused.0 < number) first front before)
-          (all-right After front back order.0)),
+          (All-after After front back order.0)),
       order-put number why front back order.1
           (All-tail (λ (refused : ℕ × Refusal). refused.0 < number) first front before) after,
     )
@@ -231,8 +221,8 @@ refusal-landed landed frame command space client number frames commands why now 
           placed.after);
       of_landed = subst (All Landed_of) (sym same)
           (All-append Landed_of placed.front ((number, why) ∷ placed.back)
-          (all-left Landed_of placed.front placed.back all)
-          (All-cons Landed_of (number, why) placed.back passed (all-right Landed_of placed.front placed.back all)));
+          (All-front Landed_of placed.front placed.back all)
+          (All-cons Landed_of (number, why) placed.back passed (All-after Landed_of placed.front placed.back all)));
       refused = (let was = is.refused in
           let one = one-of client frames commands landed.refused_frames landed.refused_commands more most in
           omega arith);
@@ -379,18 +369,13 @@ placed-same number put was now other one two =
     one.is_so ∙ ap (λ l. l ++ put ++ one.back) a ∙ ap (λ l. two.front ++ put ++ l) b ∙ sym two.is_so
 
 -- ---- the next item of a kind
-pub item-there : (items : List Item) (i : ℕ) → i < length items → (item : Item) × (slice_get items i ≡ Some item)
-item-there [] i low = absurd (omega arith)
-item-there (item ∷ items) zero low = (item, refl)
-item-there (item ∷ items) (suc i) low = item-there items i (omega arith)
-
 -- the next item isn't refused yet: it has no refusal, and there is room for one; `view` is what is kept
 pub fresh-next : (view landed : Landed) (frame command space : ℕ) (client : Bool) → view ≡ landed →
     IsLanded view frame command space → next_place landed client < length landed.items →
     AreOthers (next_place landed client) view.refusals
 fresh-next view landed frame command space client same kept there =
     let is : IsLanded landed frame command space = subst (λ (l : Landed). IsLanded l frame command space) same kept in
-    let (item, here) = item-there landed.items (next_place landed client) there in
+    let (item, here) = slice_get-inside landed.items (next_place landed client) there in
     record {
       order = kept.order;
       other = subst (λ (l : Landed).
@@ -437,7 +422,7 @@ pub next-due : (landed : Landed) (client : Bool) (number ticks : ℕ) → next_n
     ticks ≤ due_at landed.items number
 next-due landed client number ticks e ahead =
     let (at, there) = number-there landed client number e in
-    let (item, here) = item-there landed.items number there in
+    let (item, here) = slice_get-inside landed.items number there in
     let late = by_kind client at item here in
     let same : due_at landed.items number ≡ item.due = ap due_in here in
     omega arith
@@ -461,7 +446,7 @@ pub behind-next : (landed : Landed) (client : Bool) (number ticks : ℕ) → nex
     (landed.commands + (if client then 0 else 1))
 behind-next landed client number ticks e low behind =
     let (at, there) = number-there landed client number e in
-    let (item, here) = item-there landed.items number there in
+    let (item, here) = slice_get-inside landed.items number there in
     let same : due_at landed.items number ≡ item.due = ap due_in here in
     by_kind client at item here (omega arith)
   where

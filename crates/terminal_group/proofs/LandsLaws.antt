@@ -4,29 +4,24 @@ use Rattle.std.proofs.Common.{map, filter, fold, take, drop, length, slice_get, 
 use Rattle.std.proofs.Common.{refl, sym, ◌∙◌, ap, subst, arith}
 use Rattle.std.proofs.lemmas.List.{length-map, length-drop, get_or-drop}
 use Rattle.std.proofs.lemmas.Option.{slice_get-map, slice_get-get_or}
-use Rattle.law_line.proofs.ListLaws.{take-next}
+use Rattle.law_model.proofs.ListLaws.{take-next, slice_get-inside}
+use Rattle.law_model.specs.Common.{Leg, DueCommand, DueFrame, order_of, orders_of, offers_of, scenario_by, steps_in}
+use Rattle.law_model.specs.Common.{lands_at, comes_at, Source, asked_all, refusal, Stream, stream_before, frame_refusal}
+use Rattle.law_model.specs.Common.{refusal_while, offered, Course, with_items, Counts, dues_of, frame_dues}
+use Rattle.law_model.specs.Common.{command_dues, Told}
 use Rattle.law_model.specs.declared.script_types.Item.{Item}
 use Rattle.law_model.specs.declared.script_types.ItemKind.{ItemKind}
-use Rattle.law_model.specs.declared.script_types.ItemKind.TheVariants.{Frame, Add, Remove}
-use Rattle.law_model.specs.session.Leg.{Leg}
 use Rattle.law_model.specs.declared.lcas_states.Command.{Command}
-use Rattle.law_model.specs.declared.lcas_states.Command.TheVariants.{Add as add, Remove as remove}
-use Rattle.law_model.specs.session.Scenario.{DueCommand, DueFrame, order_of, orders_of, offers_of}
-use Rattle.law_model.specs.session.Scenario.{scenario_by, steps_in, lands_at, comes_at}
-use Rattle.law_model.specs.source.Source.{Source, asked_all, refusal}
-use Rattle.law_model.specs.source.Client.{Stream, stream_before, frame_refusal, refusal_while, offered}
-use Rattle.law_model.specs.source.Course.{Course}
-use Rattle.law_model.specs.source.Journal.{with_items}
-use Rattle.law_model.specs.session.Counts.{Counts, dues_of, frame_dues, command_dues}
-use Rattle.law_model.specs.source.Table.{Told}
-use Rattle.law_session.proofs.AlikeLaws.{Alike, alike-after, alike-stream}
 use Rattle.law_model.specs.declared.item_refusals.Refusal.{Refusal}
+use Rattle.law_model.specs.declared.script_types.ItemKind.TheVariants.{Frame, Add, Remove}
+use Rattle.law_model.specs.declared.lcas_states.Command.TheVariants.{Add as add, Remove as remove}
+use Rattle.law_session.proofs.AlikeLaws.{Alike, alike-after, alike-stream}
 use Rattle.law_model.specs.declared.item_refusals.Refusal.TheVariants.{Frame as frame_refused, Command as command_refused}
 use Rattle.terminal_source.specs.source_core.Terminal.{Terminal}
 use Rattle.terminal_source.specs.source_core.Given.{with_command, SourceStands as HasMade}
 use Rattle.terminal_source.proofs.SourceCoreLaws.LandedLaws.{alike-landed, first-alike}
-use Rattle.law_walk.specs.Landed.{Numbered, landed_items, landed_scenario, is_client, kind_refusal, source_met}
-use Rattle.law_walk.specs.Landed.{IsOfferAt, IsOrderAt}
+use Rattle.law_walk.specs.Common.{Numbered, landed_items, landed_scenario, is_client, kind_refusal, source_met}
+use Rattle.law_walk.specs.Common.{IsOfferAt, IsOrderAt}
 use Rattle.law_walk.proofs.LandLaws.{frame-dues, command-dues, offer-at, order-at}
 use Rattle.law_walk.proofs.ReportLaws.{IsInserted, landed-frame, landed-command}
 use Rattle.terminal_group.specs.Item.{bare, bare_items}
@@ -34,7 +29,7 @@ use Rattle.terminal_group.specs.Place.{is_frame, is_command, place_of}
 use Rattle.terminal_group.specs.Landed.{Landed, next_place, next_number, landed_of, due_in, due_at, AreAhead}
 use Rattle.terminal_group.specs.Lands.{met_by, with_kind}
 use Rattle.terminal_group.proofs.PlaceLaws.{count_of, place-found, offers-size, orders-size}
-use Rattle.terminal_group.proofs.LandingLaws.{number-there, item-there, next-due}
+use Rattle.terminal_group.proofs.LandingLaws.{number-there, next-due}
 use Rattle.terminal_group.proofs.BareLaws.{bare-dues, bare-place, frame-blind, command-blind}
 
 -- which items a frame, or a command, is among; the place of the next one
@@ -99,7 +94,7 @@ module _ (items : List Item) (landed : Landed) (bared : landed.items ≡ bare_it
       ((item : Item) → slice_get items number ≡ Some item → kind ≡ item.kind) →
       slice_get items number ≡ Some (record { due = ticks; kind = kind })
   due-now client number ticks kind next due ahead is_item =
-      let (item, found) = item-there items number (next-there client number next).1 in
+      let (item, found) = slice_get-inside items number (next-there client number next).1 in
       let when = bare-due number item found in
       let late = next-due landed client number ticks next ahead in
       let now : item.due ≡ ticks = omega (arith, due, when, late) in

@@ -1,12 +1,11 @@
 -- Where the next item of a kind stands, how many of its kind are before it, and when it is due.
-use Rattle.std.proofs.Common.{◌≡◌, ℕ, zero, suc, ◌+◌, ◌<◌, ◌≤◌, Bool, true, if◌then◌else◌, List, [], ◌∷◌, ◌++◌, length}
+use Rattle.std.proofs.Common.{◌≡◌, ℕ, zero, suc, ◌+◌, ◌<◌, Bool, true, if◌then◌else◌, List, [], ◌∷◌, ◌++◌, length}
 use Rattle.std.proofs.Common.{take, drop, slice_get, Option, Some, option_map, inl, inr, refl, sym, ◌∙◌, ap, arith}
 use Rattle.std.proofs.lemmas.Bool.{cases_Bool}
+use Rattle.law_model.specs.Common.{order_of, offer_of, orders_of, offers_of, due_of, dues_of, frame_dues, command_dues}
 use Rattle.law_model.specs.declared.script_types.Item.{Item}
 use Rattle.law_model.specs.declared.script_types.ItemKind.{ItemKind}
 use Rattle.law_model.specs.declared.script_types.ItemKind.TheVariants.{Frame, Add, Remove}
-use Rattle.law_model.specs.session.Scenario.{order_of, offer_of, orders_of, offers_of}
-use Rattle.law_model.specs.session.Counts.{due_of, dues_of, frame_dues, command_dues}
 use Rattle.terminal_group.specs.Place.{is_frame, is_command, place_of}
 
 -- ---- the next place is the first after this one
@@ -49,13 +48,6 @@ place-next is items k i at there =
 unfoldable pub count_of : (ItemKind → Bool) → List Item → ℕ
 count_of is [] = 0
 count_of is (item ∷ items) = if is item.kind then suc (count_of is items) else count_of is items
-
-pub count-few : (is : ItemKind → Bool) (items : List Item) → count_of is items ≤ length items
-unfolding count_of
-count-few is [] = omega arith
-count-few is (item ∷ items) =
-    let rest = count-few is items in
-    elim (cases_Bool (is item.kind)) [ inl e ↦ rw e (omega (arith, rest)) | inr e ↦ rw e (omega (arith, rest)) ]
 
 -- the item at the place of number k is of the kind, and so many are before it
 pub place-found : (is : ItemKind → Bool) (items : List Item) (k : ℕ) (item : Item) →

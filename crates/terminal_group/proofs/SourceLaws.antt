@@ -1,8 +1,7 @@
 -- Why a source makes no frame, and what stands where it may.
 use Rattle.std.proofs.Common.{◌≡◌, ℕ, ◌<◌, ◌≤◌, nat_le, Bool, true, false, if◌then◌else◌, List, [], ◌∷◌, Option, Some}
-use Rattle.std.proofs.Common.{None, option_map, refl}
-use Rattle.std.proofs.lemmas.Bool.{leb-true, leb-false}
-use Rattle.member_cells.specs.declared.containers_and_cells.BackCell.{BackCell}
+use Rattle.std.proofs.Common.{None, option_map, refl, leb-true, leb-false}
+use Rattle.law_model.specs.Common.{BackCell}
 use Rattle.terminal_group.specs.declared.group_source.EarlyCause.{EarlyCause}
 use Rattle.terminal_group.specs.declared.group_source.EarlyCause.TheVariants.{Done, Held}
 use Rattle.terminal_group.specs.Source.{Source, held_in, early_in, missing_by}

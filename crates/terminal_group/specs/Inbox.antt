@@ -1,13 +1,9 @@
 -- The return cells that come to the source of a group.
 use Rattle.std.specs.Prelude.{◌≡◌, ℕ, suc, ◌+◌, ◌≤◌, Bool, true, false, List, [], ◌∷◌, ◌++◌, ◌&&◌, nat_le, nat_lt, map}
-use Rattle.std.specs.Prelude.{drop, take, length, slice_get, if◌then◌else◌, Option, None}
+use Rattle.std.specs.Prelude.{drop, take, length, slice_get, if◌then◌else◌, Option, None, is_some}
 use Rattle.std.specs.List.{list_any}
-use Rattle.std.specs.Option.{is_some}
-use Rattle.member_cells.specs.declared.containers_and_cells.BackCell.{BackCell}
+use Rattle.law_model.specs.Common.{BackCell, Told, told_in, used_in}
 use Rattle.member_cells.specs.declared.containers_and_cells.BackCell.TheVariants.{Lost}
-use Rattle.law_model.specs.source.Table.{Told}
-use Rattle.law_model.specs.packets.Told.{told_in}
-use Rattle.law_model.specs.session.Counts.{used_in}
 use Rattle.terminal_source.specs.source_core.Terminal.{needed_at}
 use Rattle.terminal_source.specs.source_core.Given.{with_cell}
 

@@ -4,8 +4,7 @@ use Rattle.law_model.specs.declared.script_types.Item.{Item}
 use Rattle.law_model.specs.declared.script_types.ItemKind.{ItemKind}
 use Rattle.law_model.specs.declared.script_types.ItemKind.TheVariants.{Frame, Add, Remove}
 use Rattle.terminal_group.specs.declared.item_ref.ItemRef.{ItemRef}
-use Rattle.terminal_group.specs.declared.item_ref.ItemRef.TheVariants.{Frame as frame_ref, Add as add_ref}
-use Rattle.terminal_group.specs.declared.item_ref.ItemRef.TheVariants.{Remove as remove_ref}
+use Rattle.terminal_group.specs.declared.item_ref.ItemRef.TheVariants.{Frame as frame_ref, Add as add_ref, Remove as remove_ref}
 
 -- what it is
 abbrev pub kind_of : ItemRef → ItemKind

@@ -2,12 +2,11 @@
 use Rattle.std.specs.Prelude.{◌≡◌, ℕ, ◌+◌, ◌<◌, ◌≤◌, nat_lt, ◌&&◌, not, Bool, true, false, if◌then◌else◌, List, [], ◌∷◌}
 use Rattle.std.specs.Prelude.{length, slice_get, All, Option, Some, None}
 use Rattle.std.specs.List.Sorted.{IsNonDecreasing}
+use Rattle.law_model.specs.Common.{Due, dues_of, frame_dues, command_dues, longest_input}
 use Rattle.law_model.specs.declared.script_types.Item.{Item}
-use Rattle.law_model.specs.session.Counts.{Due, dues_of, frame_dues, command_dues}
 use Rattle.law_model.specs.declared.item_refusals.Refusal.{Refusal}
-use Rattle.law_walk.specs.Landed.{is_client}
+use Rattle.law_walk.specs.Common.{is_client}
 use Rattle.terminal_group.specs.Place.{is_frame, is_command, place_of}
-use Rattle.law_model.specs.Limits.{longest_input}
 
 -- the items, without the octets of frames; how many frames and commands have landed, and how many of each were refused;
 -- the items that were refused, in their order,

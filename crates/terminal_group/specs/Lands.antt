@@ -1,12 +1,10 @@
 -- An item that is given to a source.
 use Rattle.std.specs.Prelude.{ℕ, Option, option_map}
+use Rattle.law_model.specs.Common.{Scenario, refusal, refusal_while}
 use Rattle.law_model.specs.declared.script_types.ItemKind.{ItemKind}
+use Rattle.law_model.specs.declared.item_refusals.Refusal.{Refusal}
 use Rattle.law_model.specs.declared.script_types.ItemKind.TheVariants.{Frame, Add, Remove}
 use Rattle.law_model.specs.declared.lcas_states.Command.TheVariants.{Add as add, Remove as remove}
-use Rattle.law_model.specs.session.Scenario.{Scenario}
-use Rattle.law_model.specs.source.Source.{refusal}
-use Rattle.law_model.specs.source.Client.{refusal_while}
-use Rattle.law_model.specs.declared.item_refusals.Refusal.{Refusal}
 use Rattle.law_model.specs.declared.item_refusals.Refusal.TheVariants.{Frame as frame_refused, Command as command_refused}
 use Rattle.terminal_source.specs.source_core.Terminal.{Terminal}
 use Rattle.terminal_source.specs.source_core.Given.{with_frame, with_command}

@@ -1,10 +1,7 @@
 -- The source side of a group.
 use Rattle.std.specs.Prelude.{◌≡◌, ℕ, nat_le, if◌then◌else◌, List, [], ◌∷◌, Option, Some, None, option_map}
-use Rattle.member_cells.specs.declared.containers_and_cells.BackCell.{BackCell}
+use Rattle.law_model.specs.Common.{BackCell, Leg, Scenario, dues_of, held}
 use Rattle.law_model.specs.declared.script_types.Config.{Config}
-use Rattle.law_model.specs.session.Leg.{Leg}
-use Rattle.law_model.specs.session.Scenario.{Scenario}
-use Rattle.law_model.specs.session.Counts.{dues_of, held}
 use Rattle.terminal_source.specs.source_core.Terminal.{Terminal, needed}
 use Rattle.terminal_source.specs.source_core.Given.{IsFresh, SourceStands as HasMade}
 use Rattle.terminal_group.specs.declared.group_source.EarlyCause.{EarlyCause}

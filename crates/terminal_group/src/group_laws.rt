@@ -1,12 +1,10 @@
 //! Laws of what lands and of what comes, over the definitions alone.
 
-ghost use Rattle.std.specs.Prelude.{◌≡◌, ℕ, ◌≤◌, [], ◌∷◌, ◌++◌, List, Option, None, length};
-ghost use Rattle.std.specs.Option.{is_some};
-ghost use Rattle.member_cells.specs.declared.containers_and_cells.BackCell.{BackCell};
-ghost use Rattle.law_model.specs.session.Counts.{used_in};
-ghost use Rattle.terminal_source.specs.source_core.Terminal.{needed_at};
+ghost use Rattle.std.specs.Prelude.{◌≡◌, ℕ, ◌≤◌, [], ◌∷◌, ◌++◌, List, Option, None, length, is_some};
+ghost use Rattle.law_model.specs.Common.{BackCell, used_in};
 ghost use Rattle.law_model.specs.declared.item_refusals.Refusal.{Refusal};
-ghost use Rattle.law_walk.specs.Landed.{IsPlaced};
+ghost use Rattle.terminal_source.specs.source_core.Terminal.{needed_at};
+ghost use Rattle.law_walk.specs.Common.{IsPlaced};
 ghost use Rattle.terminal_group.specs.Inbox.{Inbox, told_taken, with_come, cell_for, rest_for, HasCome, Takes};
 ghost use Rattle.terminal_group.specs.Source.{missing_by};
 

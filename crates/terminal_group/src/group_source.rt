@@ -1,29 +1,23 @@
 //! The source side of a group: its terminal, what has landed, and the inbox.
 
-ghost use Rattle.std.specs.Prelude.{◌≡◌, ◌+◌, ◌<◌, ◌≤◌, if◌then◌else◌, List, Option, None, Some, length};
-ghost use Rattle.std.specs.Prelude.{IsSome, IfOk};
-ghost use Rattle.std.specs.Option.{is_some};
+ghost use Rattle.std.specs.Prelude.{◌≡◌, ◌+◌, ◌<◌, ◌≤◌, List, Option, None, Some, length, IsSome, IfOk};
+ghost use Rattle.std.specs.Prelude.{is_some};
 ghost use Rattle.member_cells.specs.Held.{held};
-ghost use Rattle.law_model.specs.session.Leg.{leg_of};
-ghost use Rattle.law_model.specs.session.Scenario.{Scenario, steps_in};
-ghost use Rattle.law_model.specs.source.Table.{Told};
-ghost use Rattle.law_model.specs.packets.Told.{told_by};
-ghost use Rattle.law_model.specs.rows.Sent.{frame_of};
-ghost use Rattle.law_model.specs.session.Valid.{IsValid};
+ghost use Rattle.law_model.specs.Common.{leg_of, Scenario, steps_in, Told, told_by, frame_of, IsValid};
 ghost use Rattle.terminal_source.specs.source_core.Terminal.{SameKind, needed};
 ghost use Rattle.terminal_source.specs.source_core.Given.{with_cell, with_told, SourceStands as HasMade};
-ghost use Rattle.law_walk.specs.Landed.{is_client, IsPlaced, refused_by};
+ghost use Rattle.law_walk.specs.Common.{is_client, IsPlaced, refused_by};
 ghost use Rattle.terminal_group.specs.Item.{kind_of};
 ghost use Rattle.terminal_group.specs.Lands.{met_by, with_kind};
 ghost use Rattle.terminal_group.specs.Landed.{next_number, HasPassed};
 ghost use Rattle.terminal_group.specs.Inbox.{with_come, cell_for, rest_for};
 ghost use Rattle.terminal_group.specs.Source.{IsUnused, SameRest, SameScript, early_in, missing_in};
 
-use crate::return_inbox::Inbox;
 use crate::item_ref::ItemRef;
 use crate::landed_items::Landing;
-use member_cells::{BackCell, HeldContainer};
+use crate::return_inbox::Inbox;
 use law_model::{Item, Refusal, Script};
+use member_cells::{BackCell, HeldContainer};
 use std::alloc::{AllocError, Global};
 use std::marker::Model;
 use terminal_source::lcas_source::SourceTable;

@@ -29,7 +29,7 @@ pub fn handed(kind: &ItemKind) -> ItemRef<'_>
 
 impl ItemRef<'_> {
     ghost use Rattle.std.specs.Prelude.{◌≡◌, if◌then◌else◌};
-    ghost use Rattle.law_walk.specs.Landed.{is_client};
+    ghost use Rattle.law_walk.specs.Common.{is_client};
     ghost use Rattle.terminal_group.specs.Item.{kind_of, size_of};
 
     /// Whether it is the client's.

@@ -1,13 +1,11 @@
 //! What lands next in a group, and what was refused.
 
 ghost use Rattle.std.specs.Prelude.{◌≡◌, ◌<◌, ◌≤◌, ◌+◌, if◌then◌else◌, [], ◌∷◌, length, take, drop, Some, IfOk};
-ghost use Rattle.std.specs.Option.{is_some};
+ghost use Rattle.std.specs.Prelude.{is_some, vec_capacity};
 ghost use Rattle.std.specs.List.Sorted.{IsNonDecreasing};
-ghost use Rattle.std.specs.Vec.{vec_capacity};
-ghost use Rattle.law_model.specs.session.Counts.{dues_of, frame_dues, command_dues, held};
-ghost use Rattle.law_model.specs.Limits.{longest_input};
+ghost use Rattle.law_model.specs.Common.{dues_of, frame_dues, command_dues, held, longest_input};
 ghost use Rattle.terminal_group.specs.Item.{bare, bare_items};
-ghost use Rattle.law_walk.specs.Landed.{IsPlaced, refused_by};
+ghost use Rattle.law_walk.specs.Common.{IsPlaced, refused_by};
 ghost use Rattle.terminal_group.specs.Landed.{none_landed, next_place, next_number, due_at, landed_of, refused_of};
 ghost use Rattle.terminal_group.specs.Landed.{HasPassed, AreOthers, AreBefore, AreAfter};
 

@@ -4,16 +4,16 @@
 //! frames go, and when an engine ticks, is not said here.
 #![tactic(auto)]
 
-mod return_inbox;
-mod item_ref;
 mod due_items;
-mod landed_items;
 mod group_laws;
 mod group_source;
+mod item_ref;
+mod landed_items;
+mod return_inbox;
 
-pub use return_inbox::Inbox;
-pub use item_ref::{ItemRef, handed};
 pub use due_items::{held_item, next_command, next_frame};
-pub use landed_items::Landing;
 pub use group_laws::source_law;
 pub use group_source::{EarlyCause, GroupSource};
+pub use item_ref::{ItemRef, handed};
+pub use landed_items::Landing;
+pub use return_inbox::Inbox;

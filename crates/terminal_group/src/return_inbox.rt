@@ -3,8 +3,8 @@
 ghost use Rattle.std.specs.Prelude.{◌≡◌, ◌<◌, ◌≤◌, ◌+◌, ◌↔◌, [], length, drop, slice_get, IfOk, IsTrue};
 ghost use Rattle.terminal_group.specs.Inbox.{is_lost_in, empty_inbox, with_come};
 
-use member_cells::BackCell;
 use circular_buffer::HeapCircularBuffer;
+use member_cells::BackCell;
 use std::alloc::{AllocError, Global};
 use std::marker::Model;
 

@@ -5,17 +5,14 @@
 
 ghost use Rattle.std.specs.Prelude.{◌≡◌, ℕ, ◌+◌, ◌*◌, ◌<◌, ◌≤◌, [], ◌∷◌, ◌++◌, List, length, not, if◌then◌else◌};
 ghost use Rattle.std.specs.Prelude.{Option};
-ghost use Rattle.law_model.specs.packets.ReturnPacket.{Row, leader, ack_by, is_member, says_at, status_of, mst_of};
-ghost use Rattle.law_model.specs.packets.ReturnPacket.{return_of, state_next, sink_state};
+ghost use Rattle.law_model.specs.Common.{Row, leader, ack_by, is_member, says_at, status_of, mst_of, return_of};
+ghost use Rattle.law_model.specs.Common.{state_next, sink_state};
 ghost use Rattle.terminal_sink.specs.lcas_sink.SinkStates.{SinkTableStands, state_at, state_after};
 
-use member_cells::Ctrl;
-use law_model::Packet;
+use law_model::{MOST_LINES, Packet};
 pub use law_model::SinkState;
+use member_cells::Ctrl;
 use std::marker::Model;
-
-/// The most lines of a group.
-const LINES: usize = 128;
 
 /// What a sink knows of the lines of a group after some rows of control packets (G.7042).
 #[derive(Clone, Copy)]
@@ -25,7 +22,7 @@ pub struct SinkTable {
     taken: u32,
     /// The change bit of the last packet that led a row.
     ack: bool,
-    states: [SinkState; LINES],
+    states: [SinkState; MOST_LINES],
 }
 
 impl Model for SinkTable {
@@ -91,7 +88,7 @@ impl SinkTable {
     pub fn state(&self, line: u8) -> SinkState
         ensures { (rows : List Row) → SinkTableStands self.now rows → result ≡ sink_state rows line }
     {
-        if usize::from(line) < LINES {
+        if usize::from(line) < MOST_LINES {
             self.states[usize::from(line)]
         } else {
             SinkState::Idle
@@ -106,10 +103,10 @@ pub fn rows_law()
 {}
 
 /// No line is a member.
-fn all_idle() -> [SinkState; LINES]
+fn all_idle() -> [SinkState; MOST_LINES]
     ensures { (line : ℕ) → state_at result line ≡ SinkState.Idle }
 {
-    [SinkState::Idle; LINES]
+    [SinkState::Idle; MOST_LINES]
 }
 
 /// The change bit to acknowledge after a row.

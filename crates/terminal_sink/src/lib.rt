@@ -11,6 +11,6 @@
 //!   that come through, and says the return packets (G.707, G.7041, G.7042).
 #![tactic(auto)]
 
-pub mod marked_delineator;
 pub mod lcas_sink;
+pub mod marked_delineator;
 pub mod sink_core;

@@ -7,9 +7,7 @@
 
 ghost use Rattle.std.specs.Prelude.{◌≡◌, ◌≢◌, ℕ, ◌+◌, ◌-◌, ◌^◌, ◌<◌, ◌≤◌, ◌↔◌, Bool, true, false, List, [], ◌∷◌, ◌++◌};
 ghost use Rattle.std.specs.Prelude.{length, take, Option, Some, None, IfOk, IfSome, IfNone, IsSome};
-ghost use Rattle.law_model.specs.frames.Core.{core_header};
-ghost use Rattle.law_model.specs.frames.Hunt.{Confirmed, hunt};
-ghost use Rattle.law_model.specs.frames.Run.{is_sync};
+ghost use Rattle.law_model.specs.Common.{core_header, Confirmed, hunt, is_sync};
 ghost use Rattle.gfp_delineate.specs.Receiver.{most};
 ghost use Rattle.gfp_delineate.specs.Repeated.{idles_from};
 ghost use Rattle.terminal_sink.specs.marked_delineator.Marks.{first_place, next_mark, is_hunting, StandsIn, Advances, Brings, frame_of};

@@ -9,6 +9,6 @@ mod sink_groups;
 #[cfg(test)]
 mod sink_table;
 #[cfg(test)]
-mod source_terminal;
-#[cfg(test)]
 mod source_table;
+#[cfg(test)]
+mod source_terminal;

@@ -1,21 +1,21 @@
 //! Worked groups: which frames come through, and which return packets are said.
 
-mod kept_frames;
 mod group_rows;
+mod kept_frames;
 
 ghost use Rattle.std.specs.Prelude.{◌≡◌, ◌<◌, IfSome};
 ghost use Rattle.member_rows.specs.realign_rows.Gather.{line_count, IsOpenAt};
 
-use member_cells::{Cell, Container, Ctrl, HeldContainer, PAYLOAD};
 use gfp_headers::{core_bytes, type_bytes};
 use gfp_scramble::Scrambler;
+use group_rows::{Case, Said, case_of, case_rows, number};
 use kept_frames::KeptFrames;
-use member_path::h4_multiframe::h4;
+use member_cells::{Cell, Container, Ctrl, HeldContainer, PAYLOAD};
 use member_path::cell_numbers::CellSign;
+use member_path::h4_multiframe::h4;
 use member_rows::lcas_packet::Packet;
 use member_rows::realign_rows::RowGather;
 use std::alloc::{AllocError, Global};
-use group_rows::{Case, Said, case_of, case_rows, number};
 use terminal_sink::sink_core::{SinkCore, TakeAnswer};
 
 /// Octet `j` of frame `number`.

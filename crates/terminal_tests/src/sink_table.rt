@@ -2,8 +2,8 @@
 
 ghost use Rattle.std.specs.Prelude.{◌≡◌, ◌+◌, ◌≤◌};
 
-use member_cells::Ctrl;
 use law_model::Packet;
+use member_cells::Ctrl;
 use terminal_sink::lcas_sink::{SinkState, SinkTable};
 
 const IDLE: Packet = Packet {

@@ -2,8 +2,8 @@
 
 ghost use Rattle.std.specs.Prelude.{◌≡◌, ◌<◌};
 
-use member_cells::{BackCell, Ctrl};
 use law_model::Command;
+use member_cells::{BackCell, Ctrl};
 use member_rows::lcas_packet::Packet;
 use terminal_source::lcas_source::{CommandFault, SourceState, SourceTable};
 

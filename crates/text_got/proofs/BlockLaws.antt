@@ -4,7 +4,7 @@ use Rattle.std.proofs.Common.{append-nil}
 use Rattle.std.proofs.Math.Seq.{take-append-add}
 use Rattle.std.proofs.lemmas.List.{take-append-le, length-take-le}
 use borrow.Rule.Slice.PartMut.{put_mid, post_of}
-use Rattle.octet_io.specs.Transfer.{Appends}
+use Rattle.law_model.specs.Common.{Appends}
 use Rattle.octet_io.proofs.Parts.{Appends-none, Appends-then}
 use Rattle.text_got.specs.Told.{Holds}
 

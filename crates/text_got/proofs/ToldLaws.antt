@@ -1,7 +1,6 @@
 -- What is told of a text, as it grows.
-use Rattle.std.proofs.Common.{◌≡◌, ℕ, Bool, true, false, List, [], ◌∷◌, ◌++◌, Option, sym, ◌∙◌, ap}
+use Rattle.std.proofs.Common.{◌≡◌, ℕ, Bool, true, false, List, [], ◌∷◌, ◌++◌, Option, sym, ◌∙◌, ap, append-nil}
 use Rattle.std.proofs.lemmas.Grind.{flat_map-append}
-use Rattle.std.proofs.lemmas.List.{append-nil}
 use Rattle.octet_io.proofs.Parts.{AppendsPart-longer}
 use Rattle.text_report.specs.Report.{got_text, got_texts}
 use Rattle.text_got.specs.Told.{Holds, Seen, seen, known_of, faults_of, WritesOrWaits}

@@ -1,6 +1,6 @@
 -- What is written so far of a text by a `LentGotLines`, whose block is lent.
 use Rattle.std.specs.Prelude.{◌≡◌, ℕ, List, Option}
-use Rattle.octet_io.specs.Start.{Start}
+use Rattle.law_model.specs.Common.{Start}
 use Rattle.text_got.specs.Told.{WritesOrWaits, seen, told_of}
 use Rattle.text_got.specs.declared.lent_got_text.LentGotLines.{LentGotLines}
 

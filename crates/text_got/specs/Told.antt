@@ -3,8 +3,7 @@
 -- sink as it is.
 use Rattle.std.specs.Prelude.{◌≡◌, ℕ, Bool, true, false, List, [], ◌∷◌, ◌++◌, Option, Some, None}
 use Rattle.std.specs.Io.KnownBytes.{append_known}
-use Rattle.octet_io.specs.Transfer.{Appends, AppendsPart}
-use Rattle.octet_io.specs.Start.{Start}
+use Rattle.law_model.specs.Common.{Appends, AppendsPart, Start}
 use Rattle.text_got.specs.declared.got_text.GotLines.{GotLines}
 
 -- of a text, a prefix is appended to the sink, and the rest waits in a block

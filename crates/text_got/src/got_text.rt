@@ -1,13 +1,11 @@
 //! Frames are written as lines of text.
 ghost use Rattle.std.specs.Prelude.{◌≡◌, ◌≤◌, ℕ, Bool, List, [], ◌++◌, length, false, OnOk, OnErr};
-ghost use Rattle.octet_io.specs.Transfer.{Appends, AppendsPart};
-ghost use Rattle.octet_io.specs.Start.{Start};
+ghost use Rattle.law_model.specs.Common.{Appends, AppendsPart, Start, longest_got_line};
 ghost use Rattle.text_got.specs.Told.{HasText, GivesUp, name_of, has_failed, start_at};
-ghost use Rattle.law_model.specs.Limits.{longest_got_line};
 
 use crate::text_block::TextBlock;
-use octet_io::{ByteSink, Failed};
 use law_model::FrameOut;
+use octet_io::{ByteSink, Failed};
 
 /// Frames go out on something that may fail.
 pub trait MayFail: FrameOut {

@@ -1,12 +1,12 @@
 //! Frames are written as lines of text, which wait in a block that is lent.
 ghost use Rattle.std.specs.Prelude.{◌≡◌, ℕ, List, [], OnOk, OnErr};
-ghost use Rattle.octet_io.specs.Transfer.{Appends, AppendsPart};
+ghost use Rattle.law_model.specs.Common.{Appends, AppendsPart};
 ghost use Rattle.text_got.specs.Told.{start_at};
 ghost use Rattle.text_got.specs.Over.{HasText, name_of};
 
 use crate::text_block::TextBlock;
-use octet_io::{ByteSink, Failed};
 use law_model::FrameOut;
+use octet_io::{ByteSink, Failed};
 
 /// Writes the line of each frame that it is given. After a write that failed it writes nothing more.
 pub struct LentGotLines<'a, K> {

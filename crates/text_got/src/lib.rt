@@ -4,10 +4,10 @@
 //! who writes often. What a line says is in `text_report`.
 #![tactic(auto)]
 
-mod text_block;
 mod got_text;
 mod lent_got_text;
+mod text_block;
 
-pub use text_block::TextBlock;
 pub use got_text::{GotLines, MayFail};
 pub use lent_got_text::LentGotLines;
+pub use text_block::TextBlock;

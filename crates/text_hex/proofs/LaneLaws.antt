@@ -1,28 +1,18 @@
 -- Lanes of vectors that were computed lane by lane.
-use Rattle.std.proofs.Common.{◌≡◌, ◌⊎◌, inl, inr, ℕ, zero, suc, ◌+◌, ◌*◌, ◌<◌, ◌≤◌, ◌%◌, ◌^◌, List, [], ◌∷◌}
-use Rattle.std.proofs.Common.{Bool, true, false, cond, map, length, get_or, replicate, nat_eq, nat_lt, ltb}
-use Rattle.std.proofs.Common.{Option, Some, None}
-use Rattle.std.proofs.Common.{if◌then◌else◌, refl, sym, ap, ◌∙◌, arith, bit_or, Fits, w8}
+use Rattle.std.proofs.Common.{◌≡◌, ◌⊎◌, inl, inr, ℕ, zero, suc, ◌+◌, ◌*◌, ◌<◌, ◌≤◌, ◌%◌, ◌^◌, List, [], ◌∷◌, Bool, true}
+use Rattle.std.proofs.Common.{false, cond, map, length, get_or, replicate, nat_eq, nat_lt, ltb, Option, Some, None}
+use Rattle.std.proofs.Common.{if◌then◌else◌, refl, sym, ap, ◌∙◌, arith, bit_or, Fits, w8, ltb-true, ltb-false}
 use Rattle.std.proofs.lemmas.Bool.Decides.{nat_tests}
 use Rattle.std.specs.List.{range_with_len}
 use Rattle.std.proofs.lemmas.Simd.{length-zip2, get_or-zip2, get_or-replicate, map-map, mask_l-mod, Each1-get_or}
 use Rattle.std.proofs.lemmas.List.{length-map, get_or-map}
 use Rattle.std.proofs.lemmas.List.FromFn.{get_or-map-range_with_len}
-use Rattle.std.proofs.lemmas.Bool.{cases_lt, ltb-true, ltb-false, agree_below, agree_below_at}
+use Rattle.std.proofs.lemmas.Bool.{cases_lt, agree_below, agree_below_at}
 use Rattle.std.proofs.lemmas.Nat.{le_or_l, le_or_r, or_lt}
 use Rattle.hex.specs.Hex.{hex_digit_value, is_hex_digit}
 use lib.Lanes.{zip2, sel_l, top, mask_l, Each1}
 
 -- ---- from one vector
--- an operation on two vectors that were computed from v
-joined_maps : (h : ℕ → ℕ → ℕ) (f g : ℕ → ℕ) (v : List ℕ) → zip2 h (map f v) (map g v) ≡ map (λ x. h (f x) (g x)) v
-joined_maps h f g [] = refl
-joined_maps h f g (x ∷ v) = ap (λ (l : List ℕ). h (f x) (g x) ∷ l) (joined_maps h f g v)
-
-pub joined : (h : ℕ → ℕ → ℕ) (f g : ℕ → ℕ) (v : List ℕ) {a b : List ℕ} → a ≡ map f v → b ≡ map g v →
-    zip2 h a b ≡ map (λ x. h (f x) (g x)) v
-joined h f g v {a} {b} first second = (λ i. zip2 h (first i) (second i)) ∙ joined_maps h f g v
-
 -- a choice between two by a comparison of two
 chosen_maps : (h : ℕ → ℕ → ℕ) (f g p q : ℕ → ℕ) (v : List ℕ) →
     sel_l (map (top 7) (zip2 h (map f v) (map g v))) (map p v) (map q v)
@@ -36,14 +26,6 @@ pub chosen : (h : ℕ → ℕ → ℕ) (f g p q : ℕ → ℕ) (v : List ℕ) {a
     sel_l (map (top 7) (zip2 h a b)) c d ≡ map (λ x. cond (top 7 (h (f x) (g x))) (p x) (q x)) v
 chosen h f g p q v {a} {b} {c} {d} one two three four =
     (λ i. sel_l (map (top 7) (zip2 h (one i) (two i))) (three i) (four i)) ∙ chosen_maps h f g p q v
-
--- a splat
-splat_long : (v : List ℕ) (y : ℕ) → replicate (length v) y ≡ map (λ _. y) v
-splat_long [] y = refl
-splat_long (x ∷ v) y = ap (λ (l : List ℕ). y ∷ l) (splat_long v y)
-
-pub splat : (v : List ℕ) (n y : ℕ) → length v ≡ n → replicate n y ≡ map (λ _. y) v
-splat v n y long = ap (λ (k : ℕ). replicate k y) (sym long) ∙ splat_long v y
 
 -- the values of digits and of no others are below sixteen, by a table of all characters
 lane_tells : (f : ℕ → ℕ) (v w : List ℕ) → w ≡ map f v →

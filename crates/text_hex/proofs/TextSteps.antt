@@ -1,14 +1,13 @@
 -- A pair of digits, and one that holds another character.
-use Rattle.std.proofs.Common.{◌≡◌, ◌≢◌, ℕ, ◌+◌, ◌-◌, ◌*◌, ◌/◌, ◌%◌, ◌<◌, ◌≤◌, ◌&&◌, Bool, true, false, List, []}
-use Rattle.std.proofs.Common.{◌++◌, length}
-use Rattle.std.proofs.Common.{map, take, drop, get_or, slice_index, slice_set, Some, Ok, refl, sym, ap, ap₂, ◌∙◌, arith}
-use Rattle.std.proofs.Common.{zero, suc, inl, inr, subst, length-take}
+use Rattle.std.proofs.Common.{◌≡◌, ◌≢◌, ℕ, ◌+◌, ◌-◌, ◌*◌, ◌/◌, ◌%◌, ◌<◌, ◌≤◌, ◌&&◌, Bool, true, false, List, [], ◌++◌}
+use Rattle.std.proofs.Common.{length, map, take, drop, get_or, slice_index, slice_set, Some, Ok, refl, sym, ap, ap₂}
+use Rattle.std.proofs.Common.{◌∙◌, arith, zero, suc, inl, inr, subst, length-take, take-add, append-nil, length-append}
+use Rattle.std.proofs.Common.{length-drop, take_at, drop-drop, get_or-take, get_or-drop, get_or-set_same}
+use Rattle.std.proofs.Common.{get_or-set_other}
 use borrow.Rule.Slice.PartMut.{put_mid}
 use Rattle.std.specs.List.{range_with_len}
-use Rattle.std.proofs.Math.Seq.{take-add}
 use Rattle.std.proofs.lemmas.Bool.{and_parts, cases_lt}
-use Rattle.std.proofs.lemmas.List.{append-nil, length-append, length-drop, take_at, drop_all, drop-drop, get_or-take}
-use Rattle.std.proofs.lemmas.List.{get_or-drop, get_or-append_right, get_or-set_same, get_or-set_other, set-get_or}
+use Rattle.std.proofs.lemmas.List.{drop_all, get_or-append_right, set-get_or}
 use Rattle.std.proofs.lemmas.Slice.{take-put_mid, take-put_mid_below}
 use Rattle.std.proofs.lemmas.List.FromFn.{get_or-map-range_with_len}
 use Rattle.hex.specs.Hex.{decode_of, decode_pairs, pair_value, hex_digit_value, is_hex_digit}

@@ -1,8 +1,7 @@
 //! Text to octets.
 
-ghost use Rattle.std.specs.Prelude.{◌≡◌, ◌≢◌, ℕ, ◌+◌, ◌*◌, ◌/◌, ◌%◌, ◌<◌, ◌≤◌, List, ◌++◌, length, true, false};
-ghost use Rattle.std.specs.Prelude.{Result, Ok, Some, OnOk, OnErr, vec_len, slice_index};
-ghost use Rattle.std.specs.Vec.{vec_capacity};
+ghost use Rattle.std.specs.Prelude.{◌≡◌, ◌≢◌, ℕ, ◌+◌, ◌*◌, ◌/◌, ◌%◌, ◌<◌, ◌≤◌, List, ◌++◌, length, true, false, Result};
+ghost use Rattle.std.specs.Prelude.{Ok, Some, OnOk, OnErr, vec_len, slice_index, vec_capacity};
 ghost use Rattle.hex.specs.Hex.{decode_of, hex_digit_value, is_hex_digit};
 
 use crate::digits::{are_digits, is_digit, value, values};

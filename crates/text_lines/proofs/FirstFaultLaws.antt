@@ -1,7 +1,6 @@
 -- The fault that a text is told to have is that of its first faulty line; what a text says is said by sound lines.
 use Rattle.std.proofs.Common.{◌≡◌, ◌↔◌, ℕ, ◌+◌, List, [], ◌∷◌, ◌++◌, length, ap, sym, ◌∙◌, arith, refl, inl, inr}
-use Rattle.std.proofs.Common.{append-nil}
-use Rattle.std.specs.Prelude.{Option, None, Some, Result, Ok, Err}
+use Rattle.std.proofs.Common.{append-nil, Option, None, Some, Result, Ok, Err}
 use Rattle.std.specs.Str.Lines.{lines}
 use Rattle.text_lines.specs.Words.{words}
 use Rattle.text_lines.specs.Language.{Language, said_from, said_by, unless_fault}

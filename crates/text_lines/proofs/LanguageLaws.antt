@@ -1,6 +1,5 @@
 -- What lines say, one line on and at the end.
-use Rattle.std.proofs.Common.{◌≡◌, ℕ, ◌+◌, List, [], ◌∷◌, ap, sym, ◌∙◌}
-use Rattle.std.specs.Prelude.{Option, None, Some, Ok, Err}
+use Rattle.std.proofs.Common.{◌≡◌, ℕ, ◌+◌, List, [], ◌∷◌, ap, sym, ◌∙◌, Option, None, Some, Ok, Err}
 use Rattle.text_lines.specs.Words.{words}
 use Rattle.text_lines.specs.Language.{Language, said_from, unless_fault}
 

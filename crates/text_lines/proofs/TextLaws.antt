@@ -4,26 +4,20 @@ use Rattle.std.proofs.Common.{slice_index_or, take, drop, All, false, ◌+◌, �
 use Rattle.std.specs.List.{slice_split, onto_first}
 use Rattle.std.specs.Str.Lines.{lines, lines_of_parts, strip_carriage_return}
 use Rattle.std.proofs.lemmas.List.{take_all, take_at, drop_at, length-append, append_assoc, length-drop, length-take-le}
+use Rattle.std.proofs.lemmas.List.{nil_from_length}
 use Rattle.std.proofs.lemmas.List.Splits.{slice_split_none, slice_split_at, slice_split-cons_yes, length-slice_split}
-use Rattle.std.proofs.lemmas.Bool.{cases_Bool}
+use Rattle.std.proofs.lemmas.Bool.{cases_Bool, ne_eqb}
 use Rattle.std.proofs.lemmas.Bool.Decides.{nat_tests}
 use Rattle.text_lines.specs.Cut.{Lacks}
 use Rattle.text_lines.specs.Words.{words}
 
-other : (c o : ℕ) → c ≢ o → (c == o) ≡ false
-other c o differs = grind (arith, nat_tests)
-
 none_in : (o : ℕ) (text : List ℕ) → Lacks o text → All (λ c. (c == o) ≡ false) text
-none_in o text lacks i d within = other _ o (lacks i d within)
-
-nothing : (text : List ℕ) → length text ≡ 0 → text ≡ []
-nothing [] none = refl
-nothing (c ∷ text) none = absurd (omega arith)
+none_in o text lacks i d within = ne_eqb _ o (lacks i d within)
 
 -- what is left after the end of a text
 pub end_is_empty : (text : List ℕ) (n : ℕ) → n ≡ 0 → take n (drop (length text) text) ≡ []
 end_is_empty text n none =
-    nothing _ (omega (arith, none, length-drop (length text) text, length-take-le n (drop (length text) text)))
+    nil_from_length _ (omega (arith, none, length-drop (length text) text, length-take-le n (drop (length text) text)))
 
 parts_more : (part : List ℕ) (parts : List (List ℕ)) → 0 < length parts
     → lines_of_parts (part ∷ parts) ≡ strip_carriage_return part ∷ lines_of_parts parts
@@ -129,7 +123,7 @@ words_last line text n none same some lacks =
     (sym words_none ∙ ap (λ (t : List ℕ). words t) (sym (end_is_empty text n none)))
 
 pub words_nothing : (line text : List ℕ) → words text ≡ words line → length text ≡ 0 → words line ≡ []
-words_nothing line text same none = sym same ∙ ap (λ (t : List ℕ). words t) (nothing text none) ∙ words_none
+words_nothing line text same none = sym same ∙ ap (λ (t : List ℕ). words t) (nil_from_length text none) ∙ words_none
 
 -- ---- how many lines
 last_part : (part : List ℕ) → length (lines_of_parts (part ∷ [])) ≤ 1

@@ -9,8 +9,9 @@ mod field_fault;
 mod read_fields;
 mod split_text;
 mod split_words;
-
 pub use field_fault::{FieldFault, FieldStop, LineKind};
 pub use read_fields::{number_within, octets_within};
 pub use split_text::{next_line, next_whole_line};
-pub use split_words::{count_words, first_word, four_words, next_word, one_word, three_words, two_words};
+pub use split_words::{
+    count_words, first_word, four_words, next_word, one_word, three_words, two_words,
+};

@@ -1,16 +1,15 @@
 -- The text of a session's report: a line for each frame that is delivered, a line for each item that is refused, and a
 -- line of totals.
 -- Each line ends with LF, and numbers are in decimal digits without leading zeros. These texts are this project's own.
-use Rattle.std.specs.Prelude.{ℕ, List, ◌++◌, codes, decimal}
-use Rattle.std.specs.List.{flat_map}
+use Rattle.std.specs.Prelude.{ℕ, List, ◌++◌, codes, decimal, flat_map}
 use Rattle.hex.specs.Hex.{encode_lower}
 use Rattle.law_model.specs.declared.item_refusals.AcceptFault.{AcceptFault}
 use Rattle.law_model.specs.declared.item_refusals.AcceptFault.TheVariants.{Length, QueueFull}
 use Rattle.law_model.specs.declared.item_refusals.CommandFault.{CommandFault}
 use Rattle.law_model.specs.declared.item_refusals.CommandFault.TheVariants.{UnknownLine, AlreadyIn, NotIn, TooManyPending}
 use Rattle.law_model.specs.declared.item_refusals.Refusal.{Refusal}
-use Rattle.law_model.specs.declared.item_refusals.Refusal.TheVariants.{Frame, Command}
 use Rattle.law_model.specs.declared.session_totals.Totals.{Totals}
+use Rattle.law_model.specs.declared.item_refusals.Refusal.TheVariants.{Frame, Command}
 
 -- the line of a delivered frame
 abbrev pub got_text : List ℕ → List ℕ

@@ -6,8 +6,8 @@
 //! and is there for the texts of other crates too.
 #![tactic(auto)]
 
-mod text_cursor;
 mod report_text;
+mod text_cursor;
 
-pub use text_cursor::TextCursor;
 pub use report_text::{GOT_ROOM, REFUSED_ROOM, TOTAL_ROOM, got_line, refused_line, total_line};
+pub use text_cursor::TextCursor;

@@ -1,35 +1,30 @@
 -- What a longer journal and more return cells leave as it was, and what they add.
-use Rattle.std.proofs.Common.{◌≡◌, ℕ, suc, ◌+◌, ◌-◌, ◌<◌, ◌≤◌, nat_lt, Bool, false, if◌then◌else◌, List, [], ◌∷◌, ◌++◌}
+use Rattle.std.proofs.Common.{◌≡◌, ℕ, suc, ◌+◌, ◌-◌, ◌<◌, ◌≤◌, Bool, false, if◌then◌else◌, List, [], ◌∷◌, ◌++◌}
 use Rattle.std.proofs.Common.{map, filter, fold, take, length, replicate, slice_get, Option, Some, None, option_map}
 use Rattle.std.proofs.Common.{refl, sym, ◌∙◌, ap, subst, arith, inl, inr}
-use Rattle.std.specs.List.{range_with_len}
-use Rattle.std.proofs.lemmas.Bool.{cases_lt}
-use Rattle.std.proofs.lemmas.Bool.Decides.{nat_tests}
+use Rattle.std.proofs.lemmas.Bool.{cases_lt, le-ltb}
 use Rattle.std.proofs.lemmas.List.{append-nil, map_push, take-append-le, take_at, length_push}
 use Rattle.std.proofs.lemmas.List.Concat.{flat_map-append}
 use Rattle.std.proofs.lemmas.List.Elements.{filter-append}
 use Rattle.std.proofs.lemmas.List.FromFn.{length-map-range_with_len, get_or-map-range_with_len, map-range_with_len_more}
 use Rattle.std.proofs.lemmas.List.FromFn.{fill_by_all}
-use Rattle.std.proofs.lemmas.Option.{slice_get_within, slice_get-get_or}
+use Rattle.std.proofs.lemmas.Option.{slice_get_within}
+use Rattle.law_model.proofs.ListLaws.{at-range}
 use Rattle.check_nibbles.proofs.LockLaws.{slice_get-append, slice_get-append_seam}
+use Rattle.law_model.specs.Common.{Scenario, DueCommand, DueFrame, order_of, offer_of, orders_of, offers_of, steps_in}
+use Rattle.law_model.specs.Common.{lands_at, comes_at, Told, Source, asked_all, refusal, after, Stream, frame_refusal}
+use Rattle.law_model.specs.Common.{refusal_while, offered, Course, container_of, containers_of, frame_of}
 use Rattle.law_model.specs.declared.script_types.Item.{Item}
 use Rattle.law_model.specs.declared.script_types.ItemKind.{ItemKind}
 use Rattle.law_model.specs.declared.script_types.ItemKind.TheVariants.{Frame, Add, Remove}
 use Rattle.law_model.specs.declared.lcas_states.Command.TheVariants.{Add as add, Remove as remove}
-use Rattle.law_model.specs.session.Scenario.{Scenario, DueCommand, DueFrame, order_of, offer_of, orders_of, offers_of}
-use Rattle.law_model.specs.session.Scenario.{steps_in, lands_at, comes_at}
-use Rattle.law_model.specs.source.Table.{Told}
-use Rattle.law_model.specs.source.Source.{Source, asked_all, refusal, after}
-use Rattle.law_model.specs.source.Client.{Stream, frame_refusal, refusal_while, offered}
-use Rattle.law_model.specs.source.Course.{Course}
-use Rattle.law_model.specs.rows.Sent.{container_of, containers_of, frame_of}
 use Rattle.law_session.specs.Session.{AgreeBefore}
 use Rattle.law_session.proofs.AlikeLaws.{Alike, Alike-sooner, alike-after, alike-stream, alike-frame}
 use Rattle.law_model.specs.declared.item_refusals.Refusal.TheVariants.{Frame as frame_refused, Command as command_refused}
 use Rattle.terminal_source.specs.source_core.Terminal.{Terminal}
 use Rattle.terminal_source.specs.source_core.Given.{ComesAlike, has_come, SourceStands as HasMade}
 use Rattle.terminal_source.proofs.SourceCoreLaws.LandedLaws.{alike-landed}
-use Rattle.law_walk.specs.Landed.{Numbered, kind_refusal}
+use Rattle.law_walk.specs.Common.{Numbered, kind_refusal}
 use Rattle.thread_group.specs.Journal.{Setting, journal_scenario, items_in, entry_of, IsLegal}
 use Rattle.terminal_group.specs.Lands.{met_by, with_kind}
 
@@ -86,9 +81,6 @@ not-yet p xs x late =
     sym (append-nil (filter p xs)) ∙ ap (λ l. filter p xs ++ l) (sym (ap (λ b. if b then x ∷ [] else []) late))
     ∙ sym (filter-append p xs (x ∷ []))
 
-late-test : (t due : ℕ) → t ≤ due → nat_lt due t ≡ false
-late-test t due late = grind (arith, nat_tests, late)
-
 -- an item that lands now changes nothing of what came before
 pub comes-kind : (scenario : Scenario) (ticks : ℕ) (kind : ItemKind) →
     ComesAlike scenario (with_kind scenario ticks kind) ticks
@@ -97,7 +89,7 @@ comes-kind scenario ticks (Frame octets) = record {
   lag = refl;
   size = refl;
   offers = not-yet (λ (offer : DueFrame). has_come ticks offer.due) scenario.offers
-      (record { due = ticks; frame = octets }) (late-test ticks ticks (omega arith));
+      (record { due = ticks; frame = octets }) (le-ltb ticks ticks (omega arith));
   orders = refl;
   tells = λ k low. refl;
 }
@@ -107,7 +99,7 @@ comes-kind scenario ticks (Add line) = record {
   size = refl;
   offers = refl;
   orders = not-yet (λ (order : DueCommand). has_come ticks order.due) scenario.orders
-      (record { due = ticks; command = add line }) (late-test ticks ticks (omega arith));
+      (record { due = ticks; command = add line }) (le-ltb ticks ticks (omega arith));
   tells = λ k low. refl;
 }
 comes-kind scenario ticks (Remove line) = record {
@@ -116,7 +108,7 @@ comes-kind scenario ticks (Remove line) = record {
   size = refl;
   offers = refl;
   orders = not-yet (λ (order : DueCommand). has_come ticks order.due) scenario.orders
-      (record { due = ticks; command = remove line }) (late-test ticks ticks (omega arith));
+      (record { due = ticks; command = remove line }) (le-ltb ticks ticks (omega arith));
   tells = λ k low. refl;
 }
 
@@ -217,12 +209,6 @@ legal-push scenario cells entries entry legal none =
     (take_at entries (entry ∷ []) (length entries) refl) ∙ none)
 
 -- ---- what was sent stays
-at-range : {X : Type 0} (f : ℕ → X) (n m : ℕ) → m < n → slice_get (map f (range_with_len 0 n)) m ≡ Some (f m)
-at-range f n m low =
-    let long = length-map-range_with_len f 0 n in
-    slice_get-get_or (map f (range_with_len 0 n)) m (f m) (omega arith)
-    ∙ ap Some (get_or-map-range_with_len f 0 n m m (f m) low (omega arith))
-
 pub container-in : (scenario : Scenario) (cells : List (Option Told)) (m t : ℕ) → m < length scenario.windows →
     slice_get (frame_of scenario cells t) m ≡ Some (container_of scenario cells m t)
 container-in scenario cells m t low =

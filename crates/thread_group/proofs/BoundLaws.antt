@@ -1,31 +1,25 @@
 -- A tick leaves a group bound to its session.
 use Rattle.std.proofs.Common.{◌≡◌, ℕ, zero, suc, ◌+◌, ◌-◌, ◌≤◌, Bool, true, false, if◌then◌else◌, not, ◌&&◌, List, []}
 use Rattle.std.proofs.Common.{◌∷◌, ◌++◌, filter, take, drop, length, slice_get, get_or, All, Option, Some, is_none}
-use Rattle.std.proofs.Common.{option_map, inl, inr, refl, sym, ◌∙◌, ap, subst, arith}
-use Rattle.std.specs.List.{flat_map}
+use Rattle.std.proofs.Common.{option_map, inl, inr, refl, sym, ◌∙◌, ap, subst, arith, flat_map, take-take, get_or-drop}
+use Rattle.std.proofs.Common.{length-drop}
 use Rattle.std.proofs.Math.Logic.{∥∥₁_map, ∥∥₁_elim}
 use Rattle.std.proofs.Props.{props}
 use Rattle.std.proofs.lemmas.Bool.{cases_Bool}
-use Rattle.std.proofs.lemmas.List.{take-take, get_or-drop, length-drop}
 use Rattle.std.proofs.lemmas.Option.{slice_get_within, slice_get-map, slice_get-get_or}
-use Rattle.member_cells.specs.declared.containers_and_cells.Container.{Container}
-use Rattle.member_cells.specs.declared.containers_and_cells.BackCell.{BackCell}
-use Rattle.law_model.specs.session.Leg.{Leg}
+use Rattle.law_model.proofs.ListLaws.{slice_get-inside}
+use Rattle.law_model.specs.Common.{Container, BackCell, Leg, Scenario, DueCommand, DueFrame, scenario_by, orders_of}
+use Rattle.law_model.specs.Common.{offers_of, steps_in, with_items, container_of, containers_of, dues_of, frame_dues}
+use Rattle.law_model.specs.Common.{command_dues, used_in}
 use Rattle.law_model.specs.declared.script_types.Item.{Item}
-use Rattle.law_model.specs.session.Scenario.{Scenario, DueCommand, DueFrame, scenario_by, orders_of, offers_of, steps_in}
-use Rattle.law_model.specs.source.Journal.{with_items}
-use Rattle.law_model.specs.rows.Sent.{container_of, containers_of}
-use Rattle.law_model.specs.session.Counts.{dues_of, frame_dues, command_dues, used_in}
+use Rattle.law_model.specs.declared.item_refusals.Refusal.{Refusal}
 use Rattle.law_session.specs.Session.{AgreeBefore}
 use Rattle.law_session.proofs.AlikeLaws.{Alike}
-use Rattle.law_model.specs.declared.item_refusals.Refusal.{Refusal}
-use Rattle.thread_rings.specs.Ends.{OutEnd}
-use Rattle.thread_rings.specs.Ends.{InEnd}
-use Rattle.thread_rings.specs.Ends.{out_passed, in_passed, SameIn}
+use Rattle.thread_rings.specs.Ends.{OutEnd, InEnd, out_passed, in_passed, SameIn}
 use Rattle.thread_rings.proofs.EndLaws.{out-then, in-then}
 use Rattle.terminal_source.specs.source_core.Given.{ComesAlike, SourceStands as HasMade}
 use Rattle.terminal_source.proofs.SourceCoreLaws.LandedLaws.{alike-landed, first-alike}
-use Rattle.law_walk.specs.Landed.{Numbered, is_client, landed_from, landed_items, landed_scenario, refused_by}
+use Rattle.law_walk.specs.Common.{Numbered, is_client, landed_from, landed_items, landed_scenario, refused_by}
 use Rattle.law_walk.proofs.LandLaws.{frame-dues, command-dues}
 use Rattle.thread_group.specs.declared.group_answers.TickAnswer.{TickAnswer}
 use Rattle.thread_group.specs.declared.group_answers.TickAnswer.TheVariants.{Ticked, Held, TxFull, BackMissing, Done}
@@ -42,7 +36,6 @@ use Rattle.thread_group.specs.Session.{octets_in, AreItemsOf, HasLandedOf, IsBou
 use Rattle.terminal_group.proofs.BareLaws.{bare-dues}
 use Rattle.terminal_group.proofs.CellLaws.{taken-more}
 use Rattle.thread_group.proofs.AlikeLaws.{alike-cells, refusal-alike, container-alike, sent-alike, sent-next}
-use Rattle.thread_group.proofs.KeepLaws.{there-at}
 
 -- ---- lists of items by which something is the same
 pub same-each : {Y : Type 0} (f g : Numbered → List Y) (items : List Numbered) →
@@ -76,7 +69,7 @@ outs-then a b d s t = record {
   each = λ m old new was is.
       let inside = slice_get_within a m old was in
       let count = s.count in
-      let (mid, there) = there-at b m (omega arith) in
+      let (mid, there) = slice_get-inside b m (omega arith) in
       out-then old mid new (s.each m old mid was there) (t.each m mid new there is);
 }
 
@@ -189,7 +182,7 @@ module _ (leg : Leg) (a b : GroupState) (answer : TickAnswer) (of_script : IsOf 
   sent-still none m new there =
       let inside = slice_get_within b.tx.items m new there in
       let count = call.sends.count in
-      let (old, was) = there-at a.tx.items m (omega arith) in
+      let (old, was) = slice_get-inside a.tx.items m (omega arith) in
       let ticks : ticks_of b ≡ ticks_of a = call.ticks ∙ ap (λ b_. ticks_of a + (if b_ then 1 else 0)) none
       ∙ (let e : ticks_of a + 0 ≡ ticks_of a = omega arith in e) in
       call.rest (λ e. absurd (let f : false ≡ true = sym none ∙ ap is_ticked e in cc)) m old new was there
@@ -200,7 +193,7 @@ module _ (leg : Leg) (a b : GroupState) (answer : TickAnswer) (of_script : IsOf 
   sent-on went m new there =
       let inside = slice_get_within b.tx.items m new there in
       let count = call.sends.count in
-      let (old, was) = there-at a.tx.items m (omega arith) in
+      let (old, was) = slice_get-inside a.tx.items m (omega arith) in
       let rings = a.keeps.rings in
       let lines = windows in
       let ticks : ticks_of b ≡ ticks_of a + 1 = call.ticks ∙ ap (λ b_. ticks_of a + (if b_ then 1 else 0)) went in

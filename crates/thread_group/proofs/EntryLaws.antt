@@ -1,18 +1,16 @@
 -- One more entry of a journal.
 use Rattle.std.proofs.Common.{◌≡◌, ℕ, ◌+◌, ◌-◌, ◌≤◌, if◌then◌else◌, List, [], ◌∷◌, ◌++◌, drop, take, length, All, refl}
-use Rattle.std.proofs.Common.{sym, ◌∙◌, ap, arith}
-use Rattle.std.proofs.lemmas.List.{take-append-le, drop-append-le, length-drop, length-append, length-map, map_push}
-use Rattle.std.proofs.lemmas.List.{length_push}
+use Rattle.std.proofs.Common.{sym, ◌∙◌, ap, arith, length-drop, length-append}
+use Rattle.std.proofs.lemmas.List.{take-append-le, drop-append-le, length-map, map_push, length_push}
 use Rattle.std.proofs.lemmas.List.Elements.{All-tail, All-push}
+use Rattle.law_model.specs.Common.{offer_of, order_of, offers_of, orders_of}
 use Rattle.law_model.specs.declared.script_types.Item.{Item}
 use Rattle.law_model.specs.declared.script_types.ItemKind.{ItemKind}
 use Rattle.law_model.specs.declared.script_types.ItemKind.TheVariants.{Frame, Add, Remove}
-use Rattle.law_model.specs.session.Scenario.{offer_of, order_of, offers_of, orders_of}
-use Rattle.law_walk.specs.Landed.{Numbered, is_client}
+use Rattle.law_walk.specs.Common.{Numbered, is_client}
 use Rattle.law_walk.proofs.ReportLaws.{offers-size}
 use Rattle.thread_group.specs.declared.item_journal.Entered.{Entered}
-use Rattle.thread_group.specs.declared.item_journal.Entered.TheVariants.{Frame as frame_entered, Add as add_entered}
-use Rattle.thread_group.specs.declared.item_journal.Entered.TheVariants.{Remove as remove_entered}
+use Rattle.thread_group.specs.declared.item_journal.Entered.TheVariants.{Frame as frame_entered, Add as add_entered, Remove as remove_entered}
 use Rattle.thread_group.specs.declared.item_journal.Entry.{Entry}
 use Rattle.thread_group.specs.Journal.{items_in, entry_of}
 use Rattle.thread_group.specs.Entries.{kind_in, entry_in, entries_in, IsThere, AreEntries}

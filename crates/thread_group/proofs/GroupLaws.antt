@@ -1,19 +1,17 @@
 -- What contracts say of a group, by its parts.
 use Rattle.std.proofs.Common.{◌≡◌, ℕ, ◌+◌, ◌<◌, ◌≤◌, nat_lt, nat_le, not, ◌&&◌, ◌||◌, Bool, true, false, if◌then◌else◌}
 use Rattle.std.proofs.Common.{List, [], ◌∷◌, ◌++◌, Option, Some, None, option_map, refl, sym, ◌∙◌, ap, subst, arith}
-use Rattle.std.specs.Option.{is_some}
+use Rattle.std.proofs.Common.{is_some, append-nil, le-ltb, lt-ltb}
 use Rattle.std.proofs.Math.Logic.{∥∥₁_elim}
 use Rattle.std.proofs.Props.{props}
 use Rattle.std.proofs.lemmas.Bool.Decides.{nat_tests}
-use Rattle.std.proofs.lemmas.List.{append-nil}
+use Rattle.law_model.specs.Common.{Scenario, Told}
 use Rattle.law_model.specs.declared.script_types.ItemKind.{ItemKind}
-use Rattle.law_model.specs.session.Scenario.{Scenario}
-use Rattle.law_model.specs.source.Table.{Told}
 use Rattle.law_model.specs.declared.item_refusals.Refusal.{Refusal}
 use Rattle.law_model.specs.declared.item_refusals.Refusal.TheVariants.{Frame as frame_refused, Command as command_refused}
 use Rattle.terminal_source.specs.source_core.Terminal.{SameKind}
 use Rattle.terminal_source.specs.source_core.Given.{SourceStands as HasMade}
-use Rattle.law_walk.specs.Landed.{is_client, IsPlaced, refused_by}
+use Rattle.law_walk.specs.Common.{is_client, IsPlaced, refused_by}
 use Rattle.thread_group.specs.declared.group_answers.SubmitFault.{SubmitFault}
 use Rattle.thread_group.specs.declared.group_answers.SubmitFault.TheVariants.{NotNext, Early, JournalFull}
 use Rattle.thread_group.specs.declared.group_state.GroupState.{GroupState}
@@ -26,8 +24,9 @@ use Rattle.terminal_group.specs.Source.{SameRest}
 use Rattle.terminal_group.specs.Lands.{met_by, with_kind}
 use Rattle.thread_group.specs.Parts.{setting_in}
 use Rattle.thread_group.specs.Group.{parts_of, GroupStands, SameScript, SameRings, items_of, frames_of, commands_of}
-use Rattle.thread_group.specs.Group.{journal_of, slots_of, bytes_of, refusals_of, taken_of, source_of, ticks_of, next_of}
-use Rattle.thread_group.specs.Group.{refusal_of, is_number, fault_met, fault_in, counted_by, HasCounted, with_landed}
+use Rattle.thread_group.specs.Group.{journal_of, slots_of, bytes_of, refusals_of, taken_of, source_of, ticks_of}
+use Rattle.thread_group.specs.Group.{next_of, refusal_of, is_number, fault_met, fault_in, counted_by, HasCounted}
+use Rattle.thread_group.specs.Group.{with_landed}
 use Rattle.thread_group.specs.Calls.{Submits}
 use Rattle.thread_group.proofs.AlikeLaws.{met-journal}
 use Rattle.terminal_group.proofs.LandingLaws.{next-due}
@@ -57,12 +56,6 @@ fault_by next number ticks due rest =
 same-number : (number : ℕ) → is_number (Some number) number ≡ true
 same-number number = grind (arith, nat_tests)
 
-not-early : (ticks due : ℕ) → due ≤ ticks → nat_lt ticks due ≡ false
-not-early ticks due low = grind (arith, nat_tests, low)
-
-is-early : (ticks due : ℕ) → ticks < due → nat_lt ticks due ≡ true
-is-early ticks due low = grind (arith, nat_tests, low)
-
 other-number : (next : Option ℕ) (number : ℕ) → (next ≡ Some number → ⊥) → is_number next number ≡ false
 other-number None number other = refl
 other-number (Some n) number other = grind (arith, nat_tests, (λ (e : n ≡ number). other (ap Some e)))
@@ -75,13 +68,13 @@ fault-early : (next : Option ℕ) (number ticks due : ℕ) (rest : Option Submit
     Some (Early ticks) ≡ fault_by next number ticks due rest
 fault-early next number ticks due rest is low =
     subst (λ n. Some (Early ticks) ≡ fault_by n number ticks due rest) (sym is)
-    (rw (same-number number, is-early ticks due low) refl)
+    (rw (same-number number, lt-ltb ticks due low) refl)
 
 fault-rest : (next : Option ℕ) (number ticks due : ℕ) (rest : Option SubmitFault) → next ≡ Some number → due ≤ ticks →
     rest ≡ fault_by next number ticks due rest
 fault-rest next number ticks due rest is low =
     subst (λ n. rest ≡ fault_by n number ticks due rest) (sym is)
-    (rw (same-number number, not-early ticks due low) refl)
+    (rw (same-number number, le-ltb ticks due low) refl)
 
 -- the source is asked first, and then the journal
 source-first : (why : Option Refusal) (fits : Bool) (slots bytes : ℕ) → (why ≡ None → fits ≡ true) →

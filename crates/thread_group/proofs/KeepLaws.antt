@@ -1,44 +1,33 @@
 -- What each step leaves true of the parts of a group.
-use Rattle.std.specs.Option.{is_some}
-use Rattle.std.proofs.Common.{◌≡◌, Bool, true, false, ℕ, zero, suc, ◌+◌, ◌-◌, ◌<◌, ◌≤◌, List, [], ◌∷◌, ◌++◌, take, drop}
-use Rattle.std.proofs.Common.{length, slice_get, Option, Some, None, refl, sym, ◌∙◌, ap, subst, arith}
+use Rattle.std.proofs.Common.{is_some, ◌≡◌, Bool, true, false, ℕ, ◌+◌, ◌-◌, ◌<◌, ◌≤◌, List, [], ◌∷◌, ◌++◌, take, drop}
+use Rattle.std.proofs.Common.{length, slice_get, Option, Some, None, refl, sym, ◌∙◌, ap, subst, arith, append-nil}
+use Rattle.std.proofs.Common.{length-take, length-drop}
 use Rattle.std.proofs.Math.Logic.{∥∥₁_map, ∥∥₁_elim}
 use Rattle.std.proofs.Props.{props}
-use Rattle.std.proofs.lemmas.List.{append-nil, length-replicate, length-take, length-drop, length-map, take-append-le}
+use Rattle.std.proofs.lemmas.List.{length-replicate, length-map, take-append-le}
 use Rattle.std.proofs.lemmas.Option.{slice_get_within}
-use Rattle.member_cells.specs.declared.containers_and_cells.Container.{Container}
-use Rattle.member_cells.specs.declared.containers_and_cells.BackCell.{BackCell}
+use Rattle.law_model.proofs.ListLaws.{slice_get-inside}
+use Rattle.law_model.specs.Common.{Container, BackCell, Scenario, steps_in, Told, told_in, container_of, containers_of}
+use Rattle.law_model.specs.Common.{frame_of, dues_of, frame_dues, command_dues, used_in, held}
 use Rattle.law_model.specs.declared.script_types.Item.{Item}
 use Rattle.law_model.specs.declared.script_types.ItemKind.{ItemKind}
-use Rattle.law_model.specs.session.Scenario.{Scenario, steps_in}
-use Rattle.law_model.specs.source.Table.{Told}
-use Rattle.law_model.specs.packets.Told.{told_in}
-use Rattle.law_model.specs.rows.Sent.{container_of, containers_of, frame_of}
-use Rattle.law_model.specs.session.Counts.{dues_of, frame_dues, command_dues, used_in, held}
-use Rattle.thread_rings.specs.Ends.{OutEnd}
-use Rattle.thread_rings.specs.Ends.{InEnd}
-use Rattle.thread_rings.specs.Ends.{out_passed, in_passed}
+use Rattle.thread_rings.specs.Ends.{OutEnd, InEnd, out_passed, in_passed}
 use Rattle.terminal_source.specs.source_core.Terminal.{Terminal, SameKind, needed_at}
 use Rattle.terminal_source.specs.source_core.Given.{IsFresh, with_cell, SourceStands as HasMade}
-use Rattle.law_walk.specs.Landed.{Numbered, kind_refusal, IsPlaced}
+use Rattle.law_walk.specs.Common.{Numbered, kind_refusal, IsPlaced}
 use Rattle.law_walk.proofs.LandLaws.{ahead-next}
 use Rattle.thread_group.specs.Journal.{Journal, Setting, journal_scenario, items_in, entry_of, IsLegal}
 use Rattle.terminal_group.specs.Landed.{Landed, due_at, AreAhead, AreBehind}
 use Rattle.terminal_group.specs.Lands.{with_kind}
-use Rattle.terminal_group.specs.Inbox.{Inbox, empty_inbox, come_from, told_from, told_taken, HasCome, cell_for, rest_for}
-use Rattle.terminal_group.specs.Inbox.{Takes}
+use Rattle.terminal_group.specs.Inbox.{Inbox, empty_inbox, come_from, told_from, told_taken, HasCome, cell_for}
+use Rattle.terminal_group.specs.Inbox.{rest_for, Takes}
 use Rattle.thread_group.specs.Rings.{AreUnused, SameOuts, HaveLooked, ArePushed, HasMoved}
-use Rattle.thread_group.specs.Parts.{Parts, setting_in, scenario_in, told_in_parts, AreSent, AreDue, ArePast, AreRefused}
-use Rattle.thread_group.specs.Parts.{Keeps}
+use Rattle.thread_group.specs.Parts.{Parts, setting_in, scenario_in, told_in_parts, AreSent, AreDue, ArePast}
+use Rattle.thread_group.specs.Parts.{AreRefused, Keeps}
 use Rattle.thread_group.proofs.RefusedLaws.{refused-on, none-refused}
 use Rattle.terminal_group.proofs.CellLaws.{come-length, taken-more, takes}
 use Rattle.thread_group.proofs.AlikeLaws.{journal-push, alike-kind, alike-cells, refusal-alike, legal-alike, push-cases}
 use Rattle.thread_group.proofs.AlikeLaws.{legal-push, container-in, sent-alike, sent-next}
-
-pub there-at : {X : Type 0} (xs : List X) (m : ℕ) → m < length xs → (x : X) × (slice_get xs m ≡ Some x)
-there-at [] m low = absurd (omega arith)
-there-at (x ∷ xs) zero low = (x, refl)
-there-at (x ∷ xs) (suc m) low = there-at xs m (omega arith)
 
 -- ---- nothing has come of a group
 pub keeps-begin : (at : Parts) (size : ℕ) → at.total ≤ 1000000 → at.source.ticks ≡ 0 → at.source.lines ≤ 128 →
@@ -322,7 +311,7 @@ keeps-looked at size tx k looked = record {
   sent = λ m out there.
       let inside = slice_get_within tx m out there in
       let count = looked.count in
-      let (old, was) = there-at at.tx m (omega arith) in
+      let (old, was) = slice_get-inside at.tx m (omega arith) in
       (looked.each m old out was there).passed ∙ k.sent m old was;
   legal = k.legal;
   due = k.due;
@@ -429,7 +418,7 @@ module _ (at : Parts) (size : ℕ) (source : Terminal) (inbox : Inbox) (tx : Lis
         sent = λ m new there.
             let inside = slice_get_within tx m new there in
             let count = made.pushed.count in
-            let (old, was) = there-at at.tx m (omega arith) in
+            let (old, was) = slice_get-inside at.tx m (omega arith) in
             own-pushed m old new was there
             ∙ ap (λ (l : List Container). l ++ container_of one (told_in_parts next) m at.source.ticks ∷ [])
             (k.sent m old was ∙ sent-alike one (told_in_parts at) one cells at.source.ticks m alike
@@ -520,6 +509,6 @@ same-ends frame a b long pushed = record {
   count = pushed.count;
   each = λ m old new was is.
       let inside = slice_get_within a m old was in
-      let (container, there) = there-at frame m (omega arith) in
+      let (container, there) = slice_get-inside frame m (omega arith) in
       (pushed.each m container old new there was is).same;
 }

@@ -2,17 +2,11 @@
 use Rattle.std.proofs.Common.{◌≡◌, ℕ, List, length, slice_get, Some, sym, ◌∙◌, ap, subst, arith}
 use Rattle.std.specs.Global.{Vec}
 use Rattle.std.proofs.lemmas.Option.{slice_get_within}
-use Rattle.member_cells.specs.declared.containers_and_cells.Container.{Container}
-use Rattle.member_cells.specs.declared.containers_and_cells.BackCell.{BackCell}
-use Rattle.law_model.specs.session.Leg.{Leg}
-use Rattle.law_model.specs.session.Scenario.{scenario_by}
-use Rattle.law_model.specs.rows.Sent.{containers_of}
-use Rattle.law_model.specs.session.Counts.{used_in}
-use Rattle.thread_rings.specs.Ends.{OutEnd}
-use Rattle.thread_rings.specs.Ends.{InEnd}
-use Rattle.thread_rings.specs.Ends.{out_passed, in_passed, SameIn}
+use Rattle.law_model.proofs.ListLaws.{slice_get-inside}
+use Rattle.law_model.specs.Common.{Container, BackCell, Leg, scenario_by, containers_of, used_in}
+use Rattle.thread_rings.specs.Ends.{OutEnd, InEnd, out_passed, in_passed, SameIn}
 use Rattle.terminal_source.specs.source_core.Given.{SourceStands as HasMade}
-use Rattle.law_walk.specs.Landed.{landed_items, landed_scenario}
+use Rattle.law_walk.specs.Common.{landed_items, landed_scenario}
 use Rattle.thread_group.specs.declared.group_state.GroupState.{GroupState}
 use Rattle.terminal_group.specs.Inbox.{told_taken, HasCome}
 use Rattle.thread_group.specs.Journal.{IsLegal}
@@ -21,7 +15,6 @@ use Rattle.thread_group.specs.Group.{ticks_of, lag_of, lost_of, source_of, taken
 use Rattle.thread_group.specs.Rings.{SameOuts}
 use Rattle.thread_group.specs.Session.{counts_of, refusals_by, accepted_frames_by, accepted_commands_by, HasLandedOf}
 use Rattle.thread_group.specs.Session.{IsBound}
-use Rattle.thread_group.proofs.KeepLaws.{there-at}
 use Rattle.thread_group.proofs.BoundLaws.{outs-then, ins-then}
 
 -- the same ends of send rings, through which nothing has passed since
@@ -49,7 +42,7 @@ keeps-laid at size tx back k still popped =
       made = subst (λ cells. ∥ HasMade at.source (scenario_in at) cells ∥₁) (sym told) k.made;
       sent = λ m out there.
           let inside = slice_get_within tx m out there in
-          let (old, was) = there-at at.tx m (omega (arith, inside, still.same.count)) in
+          let (old, was) = slice_get-inside at.tx m (omega (arith, inside, still.same.count)) in
           still.passed m old out was there ∙ k.sent m old was
           ∙ ap (λ cells. containers_of (scenario_in at) cells m at.source.ticks) (sym told);
       legal = subst (λ cells. IsLegal (scenario_in at) cells at.journal.entries) (sym told) k.legal;
@@ -81,7 +74,7 @@ module _ (leg : Leg) (g : GroupState) (tx : Vec (OutEnd Container)) (back : InEn
         (accepted_commands_by leg cells (landed_items leg (counts_of g)))) (sym told);
     sent = λ m out there.
         let inside = slice_get_within tx.items m out there in
-        let (old, was) = there-at g.tx.items m (omega (arith, inside, still.same.count)) in
+        let (old, was) = slice_get-inside g.tx.items m (omega (arith, inside, still.same.count)) in
         still.passed m old out was there ∙ has.sent m old was
         ∙ ap (λ cells. containers_of (scenario_by leg) cells m (ticks_of g)) (sym told);
     made = subst (λ cells. ∥ HasMade (source_of g) (landed_scenario leg (counts_of g)) cells ∥₁) (sym told) has.made;

@@ -1,10 +1,8 @@
 -- No more lands of a leg than there is.
-use Rattle.std.proofs.Common.{◌≡◌, ℕ, ◌+◌, ◌-◌, ◌≤◌, not, Bool, true, false, drop, length, refl, arith}
-use Rattle.std.proofs.lemmas.List.{length-drop}
-use Rattle.law_model.specs.session.Leg.{Leg}
+use Rattle.std.proofs.Common.{◌≡◌, ℕ, ◌+◌, ◌-◌, ◌≤◌, not, Bool, true, false, drop, length, refl, arith, length-drop}
+use Rattle.law_model.specs.Common.{Leg, offers_of, orders_of}
 use Rattle.law_model.specs.declared.script_types.ItemKind.{ItemKind}
-use Rattle.law_model.specs.session.Scenario.{offers_of, orders_of}
-use Rattle.law_walk.specs.Landed.{is_client}
+use Rattle.law_walk.specs.Common.{is_client}
 use Rattle.thread_group.specs.declared.group_state.GroupState.{GroupState}
 use Rattle.thread_group.specs.Group.{frames_of, commands_of, counted_by, HasCounted}
 use Rattle.thread_group.specs.Session.{HasLandedOf}

@@ -4,18 +4,18 @@ use Rattle.std.proofs.Common.{◌∙◌, ap, subst, arith, append_assoc}
 use Rattle.std.proofs.Math.Logic.{∥∥₁_map}
 use Rattle.std.proofs.lemmas.List.{append-nil, take-append-le, take_all, length-append}
 use Rattle.std.proofs.lemmas.List.Elements.{All-cons, All-append}
+use Rattle.law_model.proofs.ListLaws.{All-front, All-after}
+use Rattle.law_model.specs.Common.{Scenario, Told}
 use Rattle.law_model.specs.declared.script_types.Item.{Item}
 use Rattle.law_model.specs.declared.script_types.ItemKind.{ItemKind}
-use Rattle.law_model.specs.session.Scenario.{Scenario}
-use Rattle.law_model.specs.source.Table.{Told}
-use Rattle.law_session.proofs.AlikeLaws.{Alike}
 use Rattle.law_model.specs.declared.item_refusals.Refusal.{Refusal}
-use Rattle.law_walk.specs.Landed.{Numbered, is_client, kind_refusal, IsPlaced}
+use Rattle.law_session.proofs.AlikeLaws.{Alike}
+use Rattle.law_walk.specs.Common.{Numbered, is_client, kind_refusal, IsPlaced}
 use Rattle.thread_group.specs.Journal.{items_in}
 use Rattle.terminal_group.specs.Landed.{Landed, next_number, due_at}
 use Rattle.thread_group.specs.Parts.{IsRefused, AreRefused}
 use Rattle.thread_group.proofs.AlikeLaws.{refusal-alike}
-use Rattle.terminal_group.proofs.LandingLaws.{all-left, all-right, number-there, next-kind}
+use Rattle.terminal_group.proofs.LandingLaws.{number-there, next-kind}
 
 -- sessions that are alike up to some ticks refuse the same, whatever is entered later
 pub refused-on : (one : Scenario) (a : List (Option Told)) (other : Scenario) (b : List (Option Told)) (t now : ℕ)
@@ -52,8 +52,8 @@ refused-put scenario cells ticks items entries number why was now placed low is 
     ∙ append_assoc placed.front own placed.back in
     let old : All Refused (placed.front ++ placed.back) = subst (All Refused) placed.was_so all in
     subst (All Refused) (sym same)
-    (All-append Refused placed.front ((number, why) ∷ placed.back) (all-left Refused placed.front placed.back old)
-    (All-cons Refused (number, why) placed.back (low, ∣ is ∣₁) (all-right Refused placed.front placed.back old)))
+    (All-append Refused placed.front ((number, why) ∷ placed.back) (All-front Refused placed.front placed.back old)
+    (All-cons Refused (number, why) placed.back (low, ∣ is ∣₁) (All-after Refused placed.front placed.back old)))
 
 -- where none is, they are as they were
 pub none-refused : (number : ℕ) (was now : List (ℕ × Refusal)) → IsPlaced number [] was now → now ≡ was

@@ -1,12 +1,10 @@
 -- Looks at the ends of send rings, and pushes into them.
 use Rattle.std.proofs.Common.{◌≡◌, ℕ, zero, suc, ◌<◌, ◌≤◌, Bool, List, [], ◌∷◌, slice_get, slice_set, IsTrue, IsFalse}
-use Rattle.std.proofs.Common.{Some, inl, inr, refl, sym, ◌∙◌, ap, subst, arith}
+use Rattle.std.proofs.Common.{Some, inl, inr, refl, sym, ◌∙◌, ap, subst, arith, length-set}
 use Rattle.std.proofs.lemmas.Bool.{cases_Bool, cases_eq}
-use Rattle.octet_io.specs.Faults.{one_more}
-use Rattle.member_cells.specs.declared.containers_and_cells.Container.{Container}
-use Rattle.member_rows.proofs.RealignRowsLaws.GatherLaws.{set-here, set-other, length-slice_set}
-use Rattle.thread_rings.specs.Ends.{OutEnd}
-use Rattle.thread_rings.specs.Ends.{out_passed, out_free, out_misses, SameOut}
+use Rattle.law_model.specs.Common.{one_more, Container}
+use Rattle.member_rows.proofs.RealignRowsLaws.GatherLaws.{set-here, set-other}
+use Rattle.thread_rings.specs.Ends.{OutEnd, out_passed, out_free, out_misses, SameOut}
 use Rattle.thread_group.specs.Rings.{HasLooked, HaveLooked}
 
 pub set-there : {X : Type 0} (xs : List X) (m : ℕ) (x y : X) → slice_get xs m ≡ Some y →
@@ -47,6 +45,6 @@ each-set R a b m old new was is each k x y here there =
 pub looked-set : (a b : List (OutEnd Container)) (m : ℕ) (old new : OutEnd Container) → slice_get a m ≡ Some old →
     HasLooked old new → HaveLooked a b → HaveLooked a (slice_set b m new)
 looked-set a b m old new was is looked = record {
-  count = length-slice_set b m new ∙ looked.count;
+  count = length-set b m new ∙ looked.count;
   each = each-set HasLooked a b m old new was is looked.each;
 }

@@ -1,50 +1,40 @@
 -- An item that lands leaves a group bound to its session.
-use Rattle.std.proofs.Common.{◌≡◌, ℕ, ◌+◌, ◌-◌, ◌<◌, ◌≤◌, nat_lt, nat_le, not, ◌&&◌, Bool, true, false}
-use Rattle.std.proofs.Common.{if◌then◌else◌, List, [], ◌∷◌, ◌++◌, drop, length, slice_get}
-use Rattle.std.proofs.Common.{get_or, All, Option, Some, None, is_none, option_map, inl, inr, refl, sym, ◌∙◌, ap, subst}
-use Rattle.std.proofs.Common.{arith, length-append}
+use Rattle.std.proofs.Common.{◌≡◌, ℕ, ◌+◌, ◌-◌, ◌<◌, ◌≤◌, nat_lt, nat_le, not, ◌&&◌, Bool, true, false, if◌then◌else◌}
+use Rattle.std.proofs.Common.{List, [], ◌∷◌, ◌++◌, drop, length, slice_get, get_or, All, Option, Some, None, is_none}
+use Rattle.std.proofs.Common.{option_map, inl, inr, refl, sym, ◌∙◌, ap, subst, arith, length-append, ltb-false}
+use Rattle.std.proofs.Common.{eqb-true, length-drop, append-nil}
 use Rattle.std.proofs.Math.Logic.{∥∥₁_map, ∥∥₁_elim}
 use Rattle.std.proofs.Props.{props}
-use Rattle.std.proofs.lemmas.Bool.{cases_Bool, ltb-false, eqb-true}
+use Rattle.std.proofs.lemmas.Bool.{cases_Bool}
 use Rattle.std.proofs.lemmas.Bool.Decides.{nat_tests}
 use Rattle.std.proofs.lemmas.List.Elements.{All-cons, All-append}
-use Rattle.std.proofs.lemmas.Option.{slice_get_within}
+use Rattle.std.proofs.lemmas.Option.{slice_get_within, slice_get-get_or, get_or_from_slice_get}
+use Rattle.law_model.specs.Common.{Leg, Told, Scenario, DueCommand, DueFrame, order_of, offer_of, orders_of, offers_of}
+use Rattle.law_model.specs.Common.{scenario_by, Counts, Container, BackCell}
 use Rattle.law_model.specs.declared.item_refusals.Refusal.{Refusal}
-use Rattle.law_model.specs.session.Leg.{Leg}
-use Rattle.law_walk.specs.Landed.{Numbered, is_client, refused_by, IsPlaced}
-use Rattle.thread_group.specs.declared.group_answers.SubmitFault.{SubmitFault}
-use Rattle.thread_group.specs.declared.group_answers.SubmitFault.TheVariants.{NotNext, Early, Frame as Frame_fault}
-use Rattle.thread_group.specs.declared.group_answers.SubmitFault.TheVariants.{Command as Command_fault, JournalFull}
-use Rattle.thread_group.specs.Answer.{fault_of, has_landed, is_full, refusal_told}
-use Rattle.thread_group.specs.Session.{refusal_by, refusals_by, accepted_frames_by, accepted_commands_by, AreItemsOf}
-use Rattle.thread_group.specs.Session.{IsBound}
-use Rattle.law_model.specs.source.Table.{Told}
-use Rattle.law_walk.proofs.ReportLaws.{IsInserted, placed, one-more}
-use Rattle.std.proofs.lemmas.List.{length-drop}
-use Rattle.std.proofs.lemmas.List.Sums.{sum_by-drop_more}
-use Rattle.std.proofs.lemmas.Option.{slice_get-get_or, get_or_from_slice_get}
 use Rattle.law_model.specs.declared.script_types.Item.{Item}
 use Rattle.law_model.specs.declared.script_types.ItemKind.{ItemKind}
+use Rattle.law_walk.specs.Common.{Numbered, is_client, refused_by, IsPlaced, landed_items, landed_scenario, IsOfferAt}
+use Rattle.law_walk.specs.Common.{IsOrderAt}
+use Rattle.thread_group.specs.declared.group_answers.SubmitFault.{SubmitFault}
+use Rattle.thread_group.specs.declared.group_answers.SubmitFault.TheVariants.{NotNext, Early, Frame as Frame_fault, Command as Command_fault, JournalFull}
+use Rattle.thread_group.specs.Answer.{fault_of, has_landed, is_full, refusal_told}
+use Rattle.thread_group.specs.Session.{refusal_by, refusals_by, accepted_frames_by, accepted_commands_by, AreItemsOf}
+use Rattle.thread_group.specs.Session.{IsBound, counts_of, IsItemOf, octets_in, HasJournalRoom, HasLandedOf}
+use Rattle.law_walk.proofs.ReportLaws.{IsInserted, placed, one-more}
+use Rattle.std.proofs.lemmas.List.Sums.{sum_by-drop_more}
 use Rattle.law_model.specs.declared.script_types.ItemKind.TheVariants.{Frame, Add, Remove}
 use Rattle.law_model.specs.declared.lcas_states.Command.TheVariants.{Add as add, Remove as remove}
-use Rattle.law_model.specs.session.Scenario.{Scenario, DueCommand, DueFrame, order_of, offer_of, orders_of, offers_of}
-use Rattle.law_model.specs.session.Scenario.{scenario_by}
-use Rattle.law_model.specs.session.Counts.{Counts}
 use Rattle.law_model.specs.declared.item_refusals.Refusal.TheVariants.{Frame as frame_refused, Command as command_refused}
 use Rattle.terminal_source.specs.source_core.Given.{SourceStands as HasMade}
-use Rattle.law_walk.specs.Landed.{landed_items, landed_scenario, IsOfferAt}
-use Rattle.law_walk.specs.Landed.{IsOrderAt}
 use Rattle.law_walk.proofs.LandLaws.{offer-at, order-at}
 use Rattle.thread_group.specs.declared.group_state.GroupState.{GroupState}
 use Rattle.terminal_group.specs.Item.{size_of as octet_count}
 use Rattle.thread_group.specs.Journal.{entry_of, items_in, fits}
 use Rattle.std.specs.Global.{Vec}
-use Rattle.std.proofs.lemmas.List.{append-nil, map_push}
-use Rattle.member_cells.specs.declared.containers_and_cells.Container.{Container}
-use Rattle.member_cells.specs.declared.containers_and_cells.BackCell.{BackCell}
-use Rattle.thread_rings.specs.Ends.{OutEnd}
-use Rattle.thread_rings.specs.Ends.{InEnd}
-use Rattle.thread_rings.specs.Ends.{in_passed}
+use Rattle.std.proofs.lemmas.List.{map_push}
+use Rattle.law_model.proofs.ListLaws.{All-front, All-after}
+use Rattle.thread_rings.specs.Ends.{OutEnd, InEnd, in_passed}
 use Rattle.terminal_group.specs.Inbox.{told_taken}
 use Rattle.thread_group.specs.Rings.{SameOuts, SameIns}
 use Rattle.thread_group.specs.Parts.{AreSent, ArePast}
@@ -55,11 +45,10 @@ use Rattle.thread_group.proofs.MostLaws.{most-next}
 use Rattle.terminal_group.specs.Landed.{next_number, due_at}
 use Rattle.terminal_group.specs.Lands.{with_kind}
 use Rattle.thread_group.specs.Group.{IsOf, HasCounted, counted_by, parts_of, items_of, ticks_of, frames_of, commands_of}
-use Rattle.thread_group.specs.Group.{taken_of}
-use Rattle.thread_group.specs.Group.{source_of, next_of, refusal_of, is_number, fault_met, fault_in, slots_of, bytes_of}
-use Rattle.thread_group.specs.Group.{journal_of, refusals_of, lag_of, lost_of, entries_by, with_landed, room_for}
-use Rattle.thread_group.specs.Session.{counts_of, IsItemOf, octets_in, HasJournalRoom, HasLandedOf}
-use Rattle.terminal_group.proofs.LandingLaws.{all-left, all-right, placed-same}
+use Rattle.thread_group.specs.Group.{taken_of, source_of, next_of, refusal_of, is_number, fault_met, fault_in, slots_of}
+use Rattle.thread_group.specs.Group.{bytes_of, journal_of, refusals_of, lag_of, lost_of, entries_by, with_landed}
+use Rattle.thread_group.specs.Group.{room_for}
+use Rattle.terminal_group.proofs.LandingLaws.{placed-same}
 use Rattle.terminal_group.proofs.LandsLaws.{due-now, next-there, next-counts, offer-here, order-here, met-item, leaves}
 use Rattle.thread_group.proofs.GroupLaws.{refused-is, fault_by, met_in}
 
@@ -69,8 +58,8 @@ pub inserted-all : (P : Numbered → Type 0) (item : Numbered) (was now : List N
 inserted-all P item was now put all here =
     let parts : All P (put.front ++ put.back) = subst (All P) put.was_so all in
     subst (All P) (sym put.is_so)
-    (All-append P put.front (item ∷ put.back) (all-left P put.front put.back parts)
-    (All-cons P item put.back here (all-right P put.front put.back parts)))
+    (All-append P put.front (item ∷ put.back) (All-front P put.front put.back parts)
+    (All-cons P item put.back here (All-after P put.front put.back parts)))
 
 -- ---- the item that lands
 -- it is the leg's, and is due

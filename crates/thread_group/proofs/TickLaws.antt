@@ -2,22 +2,16 @@
 use Rattle.std.proofs.Common.{◌≡◌, ◌≢◌, ◌⊎◌, ℕ, ◌+◌, ◌<◌, ◌≤◌, ◌↔◌, false, if◌then◌else◌, List, [], ◌∷◌, ◌++◌, length}
 use Rattle.std.proofs.Common.{Some, None, inl, inr, refl, sym, ◌∙◌, ap, subst, arith}
 use mathlib.Core.List.{IsPrefix}
-use Rattle.law_model.specs.session.Scenario.{Scenario}
+use Rattle.law_model.specs.Common.{Scenario, Container, BackCell, dues_of, used_in, held, container_of, one_more}
+use Rattle.law_model.specs.declared.script_types.Item.{Item}
 use Rattle.std.specs.Global.{Vec}
-use Rattle.member_cells.specs.declared.containers_and_cells.Container.{Container}
-use Rattle.member_cells.specs.declared.containers_and_cells.BackCell.{BackCell}
-use Rattle.thread_rings.specs.Ends.{OutEnd}
-use Rattle.thread_rings.specs.Ends.{InEnd}
-use Rattle.thread_rings.specs.Ends.{out_passed, in_passed, in_misses, SameIn}
+use Rattle.thread_rings.specs.Ends.{OutEnd, InEnd, out_passed, in_passed, in_misses, SameIn}
 use Rattle.thread_rings.proofs.EndLaws.{out-then}
 use Rattle.terminal_source.specs.source_core.Terminal.{Terminal, needed}
-use Rattle.law_model.specs.declared.script_types.Item.{Item}
-use Rattle.law_model.specs.session.Counts.{dues_of, used_in, held}
-use Rattle.law_model.specs.rows.Sent.{container_of}
-use Rattle.law_walk.specs.Landed.{Numbered}
+use Rattle.law_walk.specs.Common.{Numbered}
 use Rattle.terminal_source.specs.source_core.Given.{SourceStands as HasMade}
-use Rattle.octet_io.specs.Faults.{one_more}
 use Rattle.std.proofs.lemmas.Option.{slice_get_within}
+use Rattle.law_model.proofs.ListLaws.{slice_get-inside}
 use Rattle.thread_group.specs.declared.group_answers.TickAnswer.{TickAnswer}
 use Rattle.thread_group.specs.declared.group_answers.TickAnswer.TheVariants.{Ticked, Held, TxFull, BackMissing, Done}
 use Rattle.thread_group.specs.declared.group_state.GroupState.{GroupState}
@@ -34,7 +28,7 @@ use Rattle.thread_group.specs.Group.{lag_of, size_of, SameScript, SameLanded, ti
 use Rattle.thread_group.specs.Group.{inbox_of, held_of, replay_of, is_ticked, IsFreeToTick, AreMoved, IsMissing}
 use Rattle.thread_group.specs.Group.{ArePushedOf}
 use Rattle.thread_group.specs.Calls.{Ticks, Comes, Looks, Makes}
-use Rattle.thread_group.proofs.KeepLaws.{there-at, empty-come}
+use Rattle.thread_group.proofs.KeepLaws.{empty-come}
 use Rattle.thread_group.proofs.GroupLaws.{stands-of}
 
 -- ---- one part of a tick after the other
@@ -314,7 +308,7 @@ ticks-ticked a b d g comes looks makes free =
     after scenario rests ticks pushed m old new was is =
         let inside = slice_get_within a.tx.items m old was in
         let count = rests.looked.count in
-        let (mid, there) = there-at d.tx.items m (omega arith) in
+        let (mid, there) = slice_get-inside d.tx.items m (omega arith) in
         pushed m mid new there is
         ∙ ap (λ l. l ++ container_of scenario (taken_of g) m (ticks_of d) ∷ [])
         (rests.looked.each m old mid was there).passed
@@ -329,6 +323,6 @@ ticks-ticked a b d g comes looks makes free =
       each = λ m old new was is.
           let inside = slice_get_within a.tx.items m old was in
           let count = rests.looked.count in
-          let (mid, there) = there-at d.tx.items m (omega arith) in
+          let (mid, there) = slice_get-inside d.tx.items m (omega arith) in
           out-then old mid new (rests.looked.each m old mid was there).same (makes.sends.each m mid new there is);
     }

@@ -1,12 +1,11 @@
 -- What a call of a group does, as a whole.
 use Rattle.std.specs.Prelude.{◌≡◌, ◌≢◌, ℕ, ◌+◌, ◌<◌, ◌≤◌, ◌↔◌, true, false, if◌then◌else◌, List, ◌++◌, Option, Some}
 use mathlib.Core.List.{IsPrefix}
+use Rattle.law_model.specs.Common.{Scenario, Told}
 use Rattle.law_model.specs.declared.script_types.ItemKind.{ItemKind}
-use Rattle.law_model.specs.session.Scenario.{Scenario}
-use Rattle.law_model.specs.source.Table.{Told}
 use Rattle.thread_rings.specs.Ends.{in_passed, SameIn}
 use Rattle.terminal_source.specs.source_core.Given.{SourceStands as HasMade}
-use Rattle.law_walk.specs.Landed.{IsPlaced, refused_by}
+use Rattle.law_walk.specs.Common.{IsPlaced, refused_by}
 use Rattle.thread_group.specs.declared.group_answers.SubmitFault.{SubmitFault}
 use Rattle.thread_group.specs.declared.group_answers.TickAnswer.{TickAnswer}
 use Rattle.thread_group.specs.declared.group_answers.TickAnswer.TheVariants.{Ticked, Held, TxFull, BackMissing, Done}

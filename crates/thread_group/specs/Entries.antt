@@ -1,12 +1,11 @@
 -- How a journal is kept: entries of a fixed size, and the octets of all frames one behind the other.
 use Rattle.std.specs.Prelude.{◌≡◌, ℕ, ◌+◌, ◌≤◌, List, map, length, All, slice_range}
+use Rattle.law_model.specs.Common.{offers_of}
 use Rattle.law_model.specs.declared.script_types.ItemKind.{ItemKind}
 use Rattle.law_model.specs.declared.script_types.ItemKind.TheVariants.{Frame, Add, Remove}
-use Rattle.law_model.specs.session.Scenario.{offers_of}
-use Rattle.law_walk.specs.Landed.{Numbered}
+use Rattle.law_walk.specs.Common.{Numbered}
 use Rattle.thread_group.specs.declared.item_journal.Entered.{Entered}
-use Rattle.thread_group.specs.declared.item_journal.Entered.TheVariants.{Frame as frame_entered, Add as add_entered}
-use Rattle.thread_group.specs.declared.item_journal.Entered.TheVariants.{Remove as remove_entered}
+use Rattle.thread_group.specs.declared.item_journal.Entered.TheVariants.{Frame as frame_entered, Add as add_entered, Remove as remove_entered}
 use Rattle.thread_group.specs.declared.item_journal.Entry.{Entry}
 use Rattle.thread_group.specs.Journal.{entry_of, items_in}
 

@@ -1,23 +1,16 @@
 -- What contracts say of a group.
 use Rattle.std.specs.Prelude.{◌≡◌, ◌⊎◌, ℕ, ◌+◌, ◌<◌, ◌==◌, not, nat_lt, Bool, true, false, if◌then◌else◌, List, [], ◌∷◌}
 use Rattle.std.specs.Prelude.{◌++◌, length, slice_get, Option, Some, None}
-use Rattle.octet_io.specs.Faults.{one_more}
-use Rattle.member_cells.specs.declared.containers_and_cells.Container.{Container}
-use Rattle.member_cells.specs.declared.containers_and_cells.BackCell.{BackCell}
+use Rattle.law_model.specs.Common.{one_more, Container, BackCell, Leg, Scenario, offers_of, orders_of, Told}
+use Rattle.law_model.specs.Common.{container_of, dues_of, used_in, held}
 use Rattle.law_model.specs.declared.script_types.Item.{Item}
 use Rattle.law_model.specs.declared.script_types.ItemKind.{ItemKind}
-use Rattle.law_model.specs.session.Leg.{Leg}
-use Rattle.law_model.specs.session.Scenario.{Scenario, offers_of, orders_of}
-use Rattle.law_model.specs.source.Table.{Told}
-use Rattle.law_model.specs.rows.Sent.{container_of}
-use Rattle.law_model.specs.session.Counts.{dues_of, used_in, held}
 use Rattle.law_model.specs.declared.item_refusals.Refusal.{Refusal}
 use Rattle.law_model.specs.declared.session_totals.Totals.{Totals}
-use Rattle.thread_rings.specs.Ends.{OutEnd}
-use Rattle.thread_rings.specs.Ends.{out_passed, in_passed, in_misses}
+use Rattle.thread_rings.specs.Ends.{OutEnd, out_passed, in_passed, in_misses}
 use Rattle.terminal_source.specs.source_core.Terminal.{Terminal, needed}
 use Rattle.terminal_source.specs.source_core.Given.{SourceStands as HasMade}
-use Rattle.law_walk.specs.Landed.{Numbered, is_client, kind_refusal}
+use Rattle.law_walk.specs.Common.{Numbered, is_client, kind_refusal}
 use Rattle.thread_group.specs.declared.group_answers.SubmitFault.{SubmitFault}
 use Rattle.thread_group.specs.declared.group_answers.SubmitFault.TheVariants.{NotNext, Early, JournalFull}
 use Rattle.thread_group.specs.declared.group_answers.TickAnswer.{TickAnswer}

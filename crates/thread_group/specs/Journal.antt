@@ -1,11 +1,10 @@
 -- The journal of what a group has accepted, and the session of that alone.
 use Rattle.std.specs.Prelude.{◌≡◌, ℕ, ◌&&◌, nat_lt, nat_le, Bool, List, [], map, take, replicate, slice_get, Option}
 use Rattle.std.specs.Prelude.{Some, None}
+use Rattle.law_model.specs.Common.{Scenario, offers_of, orders_of, Told}
 use Rattle.law_model.specs.declared.script_types.Item.{Item}
 use Rattle.law_model.specs.declared.script_types.ItemKind.{ItemKind}
-use Rattle.law_model.specs.session.Scenario.{Scenario, offers_of, orders_of}
-use Rattle.law_model.specs.source.Table.{Told}
-use Rattle.law_walk.specs.Landed.{Numbered, kind_refusal}
+use Rattle.law_walk.specs.Common.{Numbered, kind_refusal}
 use Rattle.terminal_group.specs.Item.{size_of}
 
 -- an accepted item, with the number of ticks made when it landed

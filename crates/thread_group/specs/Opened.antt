@@ -1,7 +1,6 @@
 -- What a group begins with.
 use Rattle.std.specs.Prelude.{◌≡◌, [], length}
-use Rattle.law_model.specs.session.Leg.{Leg}
-use Rattle.law_model.specs.session.Scenario.{Scenario}
+use Rattle.law_model.specs.Common.{Leg, Scenario}
 use Rattle.terminal_source.specs.source_core.Given.{IsFresh, SourceStands as HasMade}
 use Rattle.thread_group.specs.declared.open_group.Opened.{Opened}
 use Rattle.thread_group.specs.declared.group_state.GroupState.{GroupState}

@@ -1,20 +1,13 @@
 -- The parts of a group, and what is true of them whenever the lock is free.
 use Rattle.std.specs.Prelude.{◌≡◌, ℕ, ◌+◌, ◌≤◌, List, length, take, slice_get, All, Option, Some}
-use Rattle.member_cells.specs.declared.containers_and_cells.Container.{Container}
-use Rattle.member_cells.specs.declared.containers_and_cells.BackCell.{BackCell}
+use Rattle.law_model.specs.Common.{Container, BackCell, Scenario, Told, containers_of, dues_of, used_in}
 use Rattle.law_model.specs.declared.script_types.Item.{Item}
 use Rattle.law_model.specs.declared.script_types.ItemKind.{ItemKind}
-use Rattle.law_model.specs.session.Scenario.{Scenario}
-use Rattle.law_model.specs.source.Table.{Told}
-use Rattle.law_model.specs.rows.Sent.{containers_of}
-use Rattle.law_model.specs.session.Counts.{dues_of, used_in}
-use Rattle.thread_rings.specs.Ends.{OutEnd}
-use Rattle.thread_rings.specs.Ends.{InEnd}
-use Rattle.thread_rings.specs.Ends.{out_passed, in_passed}
+use Rattle.law_model.specs.declared.item_refusals.Refusal.{Refusal}
+use Rattle.thread_rings.specs.Ends.{OutEnd, InEnd, out_passed, in_passed}
 use Rattle.terminal_source.specs.source_core.Terminal.{Terminal}
 use Rattle.terminal_source.specs.source_core.Given.{SourceStands as HasMade}
-use Rattle.law_walk.specs.Landed.{Numbered, is_client, kind_refusal}
-use Rattle.law_model.specs.declared.item_refusals.Refusal.{Refusal}
+use Rattle.law_walk.specs.Common.{Numbered, is_client, kind_refusal}
 use Rattle.thread_group.specs.Journal.{Journal, Setting, journal_scenario, items_in, IsLegal}
 use Rattle.terminal_group.specs.Landed.{Landed, due_at, AreAhead, AreBehind}
 use Rattle.terminal_group.specs.Inbox.{Inbox, told_taken, HasCome}

@@ -1,12 +1,9 @@
 -- What a tick does to the ends of the rings of a group.
 use Rattle.std.specs.Prelude.{◌≡◌, ◌⊎◌, ℕ, ◌<◌, ◌≤◌, List, [], ◌∷◌, ◌++◌, length, slice_get, Some}
 use mathlib.Core.List.{IsPrefix}
-use Rattle.octet_io.specs.Faults.{one_more}
-use Rattle.member_cells.specs.declared.containers_and_cells.Container.{Container}
-use Rattle.member_cells.specs.declared.containers_and_cells.BackCell.{BackCell}
-use Rattle.thread_rings.specs.Ends.{OutEnd}
-use Rattle.thread_rings.specs.Ends.{InEnd}
-use Rattle.thread_rings.specs.Ends.{out_passed, out_free, out_misses, in_passed, in_items, in_misses, SameOut, SameIn}
+use Rattle.law_model.specs.Common.{one_more, Container, BackCell}
+use Rattle.thread_rings.specs.Ends.{OutEnd, InEnd, out_passed, out_free, out_misses, in_passed, in_items, in_misses}
+use Rattle.thread_rings.specs.Ends.{SameOut, SameIn}
 use Rattle.terminal_group.specs.Inbox.{Inbox, HasCome}
 
 -- ---- lists of ends, by place

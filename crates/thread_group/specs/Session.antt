@@ -1,26 +1,19 @@
 -- A group of a leg over its rings: what is known of it whenever the lock is free.
 use Rattle.std.specs.Prelude.{◌≡◌, ℕ, ◌+◌, ◌≤◌, List, [], ◌∷◌, drop, length, slice_get, take, sum_by, Option, Some}
-use Rattle.std.specs.Prelude.{filter, not, ◌&&◌, is_none}
-use Rattle.std.specs.List.{flat_map}
-use Rattle.member_cells.specs.declared.containers_and_cells.Container.{Container}
-use Rattle.member_cells.specs.declared.containers_and_cells.BackCell.{BackCell}
-use Rattle.law_model.specs.session.Leg.{Leg}
+use Rattle.std.specs.Prelude.{filter, not, ◌&&◌, is_none, flat_map}
+use Rattle.law_model.specs.Common.{Container, BackCell, Leg, DueFrame, scenario_by, offers_of, orders_of, Told, Counts}
 use Rattle.law_model.specs.declared.script_types.Item.{Item}
 use Rattle.law_model.specs.declared.script_types.ItemKind.{ItemKind}
-use Rattle.law_model.specs.session.Scenario.{DueFrame, scenario_by, offers_of, orders_of}
-use Rattle.law_model.specs.source.Table.{Told}
-use Rattle.law_model.specs.session.Counts.{Counts}
 use Rattle.law_model.specs.declared.item_refusals.Refusal.{Refusal}
-use Rattle.thread_rings.specs.Ends.{OutEnd}
-use Rattle.thread_rings.specs.Ends.{InEnd}
+use Rattle.thread_rings.specs.Ends.{OutEnd, InEnd}
 use Rattle.terminal_source.specs.source_core.Given.{SourceStands as HasMade}
-use Rattle.law_walk.specs.Landed.{Numbered, is_client, landed_items, landed_scenario, kind_refusal, refused_by}
+use Rattle.law_walk.specs.Common.{Numbered, is_client, landed_items, landed_scenario, kind_refusal, refused_by}
 use Rattle.thread_group.specs.Journal.{items_in}
 use Rattle.thread_group.specs.Rings.{SameOuts, SameIns}
 use Rattle.thread_group.specs.Parts.{AreSent, ArePast}
 use Rattle.thread_group.specs.declared.group_state.GroupState.{GroupState}
-use Rattle.thread_group.specs.Group.{IsOf, ticks_of, frames_of, commands_of, journal_of, slots_of, bytes_of, refusals_of}
-use Rattle.thread_group.specs.Group.{taken_of, source_of}
+use Rattle.thread_group.specs.Group.{IsOf, ticks_of, frames_of, commands_of, journal_of, slots_of, bytes_of}
+use Rattle.thread_group.specs.Group.{refusals_of, taken_of, source_of}
 
 -- how many ticks were made and items have landed
 abbrev pub counts_of : GroupState → Counts

@@ -1,7 +1,7 @@
 //! A group whose type says which session it belongs to.
 
 ghost use Rattle.std.specs.Prelude.{◌≡◌};
-ghost use Rattle.law_model.specs.session.Leg.{leg_of};
+ghost use Rattle.law_model.specs.Common.{leg_of};
 ghost use Rattle.thread_group.specs.Session.{IsBound};
 
 use crate::group_answers::{SubmitFault, TickAnswer};
@@ -13,8 +13,7 @@ use terminal_group::ItemRef;
 /// the function that makes the lock picks them.
 pub trait Session: Send + Sync {
     ghost use Rattle.std.specs.Prelude.{List};
-    ghost use Rattle.member_cells.specs.declared.containers_and_cells.Container.{Container};
-    ghost use Rattle.member_cells.specs.declared.containers_and_cells.BackCell.{BackCell};
+    ghost use Rattle.law_model.specs.Common.{Container, BackCell};
     ghost use Rattle.law_model.specs.declared.script_types.Script.{Script};
     ghost use Rattle.thread_rings.specs.Ends.{OutEnd};
     ghost use Rattle.thread_rings.specs.Ends.{InEnd};
@@ -50,7 +49,7 @@ pub struct BoundGroup<Y: Session> {
 
 impl<Y: Session> BoundGroup<Y> {
     ghost use Rattle.std.specs.Prelude.{◌≡◌, false};
-    ghost use Rattle.law_model.specs.source.Accepted.{refusal_in};
+    ghost use Rattle.law_model.specs.Common.{refusal_in};
     ghost use Rattle.terminal_group.specs.Item.{kind_of};
     ghost use Rattle.thread_group.specs.Answer.{is_full};
     ghost use Rattle.thread_group.specs.Calls.{Submits, Ticks};

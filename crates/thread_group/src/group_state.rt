@@ -1,9 +1,7 @@
 //! A group: its source, the ends of its rings, what has landed, and the journal of what was accepted.
 
-ghost use Rattle.std.specs.Prelude.{◌≡◌, ◌<◌, if◌then◌else◌, Option, None, length};
-ghost use Rattle.std.specs.Prelude.{IsSome, IfOk};
-ghost use Rattle.law_model.specs.session.Leg.{leg_of};
-ghost use Rattle.law_model.specs.session.Scenario.{Scenario};
+ghost use Rattle.std.specs.Prelude.{◌≡◌, ◌<◌, Option, None, length, IfOk};
+ghost use Rattle.law_model.specs.Common.{leg_of, Scenario};
 ghost use Rattle.terminal_source.specs.source_core.Given.{SourceStands as HasMade};
 ghost use Rattle.terminal_group.specs.Item.{kind_of};
 ghost use Rattle.terminal_group.specs.Source.{early_in, missing_in};
@@ -13,8 +11,8 @@ use crate::group_answers::{SubmitFault, TickAnswer, refused, stopped};
 use crate::item_journal::Journal;
 use crate::open_group::{Opened, open};
 use crate::tick_rings::{first_full, push_frame, take_cells};
-use member_cells::{BackCell, Container, HeldContainer};
 use law_model::{Refusal, Script, Totals};
+use member_cells::{BackCell, Container, HeldContainer};
 use std::alloc::{AllocError, Global};
 use terminal_group::{GroupSource, ItemRef};
 use thread_rings::{RingIn, RingOut};
@@ -38,19 +36,18 @@ pub struct GroupState {
 }
 
 impl GroupState {
-    ghost use Rattle.std.specs.Prelude.{◌≡◌, ◌≢◌, ◌<◌, ◌≤◌, ◌||◌, true, [], length, Some, None, IsSome, IfOk};
+    ghost use Rattle.std.specs.Prelude.{◌≡◌, ◌<◌, ◌≤◌, ◌||◌, true, [], length, Some, None, IfOk};
     ghost use Rattle.std.specs.Prelude.{MatchOption};
     ghost use Rattle.std.specs.Option.{is_some};
-    ghost use Rattle.law_model.specs.session.Valid.{IsValid};
-    ghost use Rattle.law_model.specs.source.Accepted.{refusal_in};
+    ghost use Rattle.law_model.specs.Common.{IsValid, refusal_in};
     ghost use Rattle.thread_rings.specs.Ends.{in_passed};
     ghost use Rattle.terminal_source.specs.source_core.Given.{IsFresh};
     ghost use Rattle.thread_group.specs.Journal.{fits};
     ghost use Rattle.terminal_group.specs.Landed.{due_at};
     ghost use Rattle.thread_group.specs.Rings.{AreUnused, AreFree, IsFirstFull};
-    ghost use Rattle.thread_group.specs.Group.{parts_of, side_of, lines_of, lag_of, size_of, IsOf, ticks_of, total_of};
+    ghost use Rattle.thread_group.specs.Group.{parts_of, side_of, lines_of, lag_of, size_of, IsOf, ticks_of};
     ghost use Rattle.thread_group.specs.Group.{items_of, frames_of, commands_of, journal_of, slots_of, bytes_of};
-    ghost use Rattle.thread_group.specs.Group.{refusals_of, inbox_of, source_of, totals_of, next_of, refusal_of, held_of};
+    ghost use Rattle.thread_group.specs.Group.{refusals_of, inbox_of, source_of, totals_of, next_of, refusal_of};
     ghost use Rattle.thread_group.specs.Opened.{IsOpened, IsBegun};
     ghost use Rattle.thread_group.specs.Calls.{Submits, Ticks, Comes, Looks, Makes};
 

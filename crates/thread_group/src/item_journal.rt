@@ -1,8 +1,7 @@
 //! The journal of what a group has accepted.
 
-ghost use Rattle.std.specs.Prelude.{◌≡◌, ◌+◌, ◌≤◌, ◌<◌, [], ◌∷◌, ◌++◌, length, IfOk};
-ghost use Rattle.law_model.specs.session.Scenario.{offers_of, orders_of};
-ghost use Rattle.std.specs.Vec.{vec_capacity};
+ghost use Rattle.std.specs.Prelude.{◌≡◌, ◌+◌, ◌≤◌, ◌<◌, [], ◌∷◌, ◌++◌, length, IfOk, vec_capacity};
+ghost use Rattle.law_model.specs.Common.{offers_of, orders_of};
 ghost use Rattle.terminal_group.specs.Item.{kind_of, size_of, octets_of};
 ghost use Rattle.thread_group.specs.Journal.{items_in, entry_of, fits};
 ghost use Rattle.thread_group.specs.Entries.{kind_in, IsThere};

@@ -5,13 +5,13 @@
 //! a group whose type says which session it belongs to.
 #![tactic(auto)]
 
-mod group_answers;
 mod bound_group;
+mod group_answers;
 mod group_state;
 mod item_journal;
 mod open_group;
 mod tick_rings;
 
-pub use group_answers::{SubmitFault, TickAnswer};
 pub use bound_group::{BoundGroup, Session};
+pub use group_answers::{SubmitFault, TickAnswer};
 pub use group_state::GroupState;

@@ -1,13 +1,12 @@
 //! What a group begins with, but its ends of the rings.
 
 ghost use Rattle.std.specs.Prelude.{◌≡◌, IfOk};
-ghost use Rattle.law_model.specs.session.Leg.{leg_of};
-ghost use Rattle.law_model.specs.session.Valid.{IsValid};
+ghost use Rattle.law_model.specs.Common.{leg_of, IsValid};
 ghost use Rattle.thread_group.specs.Opened.{IsOpened};
 
 use crate::item_journal::Journal;
-use member_cells::{HeldContainer, blank_boxes};
 use law_model::Script;
+use member_cells::{HeldContainer, blank_boxes};
 use std::alloc::{AllocError, Global};
 use terminal_group::GroupSource;
 

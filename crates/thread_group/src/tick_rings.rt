@@ -1,7 +1,7 @@
 //! What a tick does to the ends of the rings of a group.
 
 ghost use Rattle.std.specs.Prelude.{◌≡◌, ◌⊎◌, ◌<◌, ◌≤◌, ◌+◌, length, MatchOption};
-ghost use Rattle.member_cells.specs.declared.containers_and_cells.Container.{Container};
+ghost use Rattle.law_model.specs.Common.{Container};
 ghost use Rattle.member_cells.specs.Held.{held};
 ghost use Rattle.thread_group.specs.Rings.{AreFree, IsFirstFull, HaveLooked, ArePushed, IsDrained, HasMoved};
 

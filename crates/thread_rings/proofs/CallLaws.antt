@@ -1,9 +1,7 @@
 -- The calls on the line of a worker, at first and after one more carry.
-use Rattle.std.proofs.Common.{◌≡◌, ℕ, ◌-◌, List, [], ◌∷◌, ◌++◌, refl, arith, nat_lt, false}
-use Rattle.std.proofs.lemmas.Bool.{le-ltb}
-use Rattle.member_cells.specs.declared.containers_and_cells.Container.{Container}
+use Rattle.std.proofs.Common.{◌≡◌, ℕ, ◌-◌, List, [], ◌∷◌, ◌++◌, refl, arith, nat_lt, false, le-ltb}
+use Rattle.law_model.specs.Common.{Container, path}
 use Rattle.law_model.specs.declared.window_types.Window.{Window}
-use Rattle.law_model.specs.members.Path.{path}
 use Rattle.member_path.specs.path_delay.Line.{Line, opened, and_push, and_flush, path_cells, DelayStands}
 use Rattle.thread_rings.specs.Calls.{calls_on, IsOpened}
 

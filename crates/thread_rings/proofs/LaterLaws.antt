@@ -1,6 +1,5 @@
 -- A worker is later than itself, and later than what it was later than.
-use Rattle.std.proofs.Common.{List, [], ◌++◌, refl, sym, ◌∙◌, ap, arith, append_assoc}
-use Rattle.std.proofs.lemmas.List.{append-nil}
+use Rattle.std.proofs.Common.{List, [], ◌++◌, refl, sym, ◌∙◌, ap, arith, append_assoc, append-nil}
 use mathlib.Core.List.{IsPrefix}
 use Rattle.thread_rings.specs.declared.line_worker.LineWorker.{LineWorker}
 use Rattle.thread_rings.specs.Worker.{SameWorker, IsLater}

@@ -1,6 +1,6 @@
 -- A worker has noted what it sent: at once, after one more cell, and over more than one carry.
 use Rattle.std.proofs.Common.{◌≡◌, ℕ, ◌+◌, ◌≤◌, List, ◌++◌, length, refl, sym, ◌∙◌, ap, subst, arith, length-append}
-use Rattle.member_cells.specs.declared.containers_and_cells.Cell.{Cell}
+use Rattle.law_model.specs.Common.{Cell}
 use Rattle.law_model.specs.members.Damage.{carried}
 use Rattle.thread_rings.specs.Ends.{in_passed, out_passed}
 use Rattle.thread_rings.specs.declared.line_worker.LineWorker.{LineWorker}

@@ -1,7 +1,6 @@
 -- The alarms of a line over the cells that it sent.
 use Rattle.std.specs.Prelude.{ℕ, suc, Bool, true, false, Option, Some, None, List, [], ◌∷◌, ◌++◌}
-use Rattle.member_cells.specs.declared.containers_and_cells.Cell.{Cell}
-use Rattle.member_cells.specs.declared.containers_and_cells.Cell.TheVariants.{Good, Fail, End}
+use Rattle.law_model.specs.Common.{Cell, Good, Fail, End}
 use Rattle.thread_rings.specs.declared.alarm_kinds.Alarm.{Alarm}
 use Rattle.thread_rings.specs.declared.alarm_kinds.AlarmKind.{AlarmKind}
 use Rattle.thread_rings.specs.declared.alarm_kinds.AlarmKind.TheVariants.{Fails, Returns, Ends}

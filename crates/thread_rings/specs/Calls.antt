@@ -1,9 +1,7 @@
 -- The calls on the line of a worker.
-use Rattle.std.specs.Prelude.{◌≡◌, List, [], ◌∷◌, ◌++◌}
-use Rattle.member_cells.specs.declared.containers_and_cells.Container.{Container}
-use Rattle.member_cells.specs.declared.containers_and_cells.Cell.{Cell}
-use Rattle.member_path.specs.declared.path_delay.carry_sign.CarrySign.{CarrySign}
-use Rattle.member_path.specs.declared.path_delay.carry_sign.CarrySign.TheVariants.{Nothing, Good, Fail, End}
+use Rattle.std.specs.Prelude.{◌≡◌, List, [], ◌∷◌, ◌++◌, Option, Some, None}
+use Rattle.law_model.specs.Common.{Container, Cell}
+use Rattle.member_path.specs.declared.cell_numbers.signs_and_verdicts.CellSign.{CellSign}
 use Rattle.member_path.specs.path_delay.Carry.{carry_cells}
 use Rattle.member_path.specs.path_delay.Line.{Line, Calls, opened, and_push, and_flush, path_cells, DelayStands, Counts}
 
@@ -22,14 +20,12 @@ abbrev pub IsOpened : Line → Type 0
 IsOpened line = DelayStands line (opened line.delay line.windows line.total)
 
 -- the cells that a carry gives, where a cell lies in the hand
-abbrev pub hand_cells : CarrySign → Cell → List Cell
-hand_cells Nothing cell = []
-hand_cells Good cell = cell ∷ []
-hand_cells Fail cell = cell ∷ []
-hand_cells End cell = cell ∷ []
+abbrev pub hand_cells : Option CellSign → Cell → List Cell
+hand_cells None cell = []
+hand_cells (Some sign) cell = cell ∷ []
 
 -- a container was pushed into a line, and what came out lies in the hand
-pub record IsPushed (old new : Line) (container : Container) (carry : CarrySign) (hand : Cell) : Type 0 where
+pub record IsPushed (old new : Line) (container : Container) (carry : Option CellSign) (hand : Cell) : Type 0 where
   pub place : Container
   pub given : hand_cells carry hand ≡ carry_cells carry place
   pub stands : (calls : Calls) → DelayStands old calls → DelayStands new (and_push calls container)
@@ -38,7 +34,7 @@ pub record IsPushed (old new : Line) (container : Container) (carry : CarrySign)
   pub counts : Counts old new 1 0
 
 -- a line was flushed, and what came out lies in the hand
-pub record IsFlushed (old new : Line) (carry : CarrySign) (hand : Cell) : Type 0 where
+pub record IsFlushed (old new : Line) (carry : Option CellSign) (hand : Cell) : Type 0 where
   pub place : Container
   pub given : hand_cells carry hand ≡ carry_cells carry place
   pub stands : (calls : Calls) → DelayStands old calls → DelayStands new (and_flush calls)

@@ -1,7 +1,7 @@
 -- What a worker of a line has carried.
 use Rattle.std.specs.Prelude.{◌≡◌, ℕ, ◌+◌, ◌<◌, ◌≤◌, List, [], ◌++◌, length}
 use mathlib.Core.List.{IsPrefix}
-use Rattle.octet_io.specs.Faults.{one_more}
+use Rattle.law_model.specs.Common.{one_more}
 use Rattle.law_model.specs.declared.window_types.Window.{Window}
 use Rattle.thread_rings.specs.Ends.{out_passed, out_free, out_misses, in_passed, in_items, in_misses, SameOut, SameIn}
 use Rattle.thread_rings.specs.declared.alarm_kinds.Alarm.{Alarm}

@@ -6,16 +6,16 @@
 #![tactic(auto)]
 
 mod alarm_kinds;
-mod ring_ends;
 mod burst_gate;
-mod ring_places;
-mod raised_alarms;
-mod new_rings;
 mod line_worker;
+mod new_rings;
+mod raised_alarms;
+mod ring_ends;
+mod ring_places;
 
 pub use alarm_kinds::{Alarm, AlarmKind};
-pub use ring_ends::{RingIn, RingOut};
 pub use burst_gate::{Gate, OpenGate, Who};
-pub use ring_places::{CellPlace, Placed};
-pub use new_rings::{LineEnds, back_ring, line_rings};
 pub use line_worker::{Burst, IdleCause, LineWorker};
+pub use new_rings::{LineEnds, back_ring, line_rings};
+pub use ring_ends::{RingIn, RingOut};
+pub use ring_places::{CellPlace, Placed};

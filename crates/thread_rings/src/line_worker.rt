@@ -1,21 +1,19 @@
 //! A worker that carries the containers of a line from ring to ring.
 ghost use Rattle.std.specs.Prelude.{◌≡◌, ◌≢◌, ◌+◌, ◌<◌, ◌≤◌, ◌++◌, [], length, min, false};
-ghost use Rattle.member_cells.specs.declared.containers_and_cells.Container.{Container};
+ghost use Rattle.law_model.specs.Common.{Container};
 ghost use Rattle.member_path.specs.path_delay.Line.{DelayStands, path_cells};
-ghost use Rattle.member_path.specs.path_delay.Carry.{carry_cells};
-ghost use Rattle.member_path.specs.cell_numbers.Told.{cell_with};
 ghost use Rattle.thread_rings.specs.Ends.{out_passed, out_free, out_misses, out_hand, in_passed};
 ghost use Rattle.thread_rings.specs.Ends.{in_hand, SameOut};
 ghost use Rattle.thread_rings.specs.Calls.{calls_on, hand_cells, IsPushed, IsFlushed};
 ghost use Rattle.thread_rings.specs.Alarms.{failed_after};
 
 use crate::alarm_kinds::Alarm;
-use crate::ring_ends::{RingIn, RingOut};
 use crate::burst_gate::{Gate, Who};
 use crate::raised_alarms::Raised;
+use crate::ring_ends::{RingIn, RingOut};
 use member_cells::{Cell, Container};
-use member_path::path_delay::{CarrySign, LineCore};
 use member_path::cell_numbers::CellSign;
+use member_path::path_delay::LineCore;
 
 /// The most carries of a burst.
 const CARRIES: u32 = 16;
@@ -65,9 +63,8 @@ pub struct LineWorker {
 
 impl LineWorker {
     ghost use Rattle.std.specs.Prelude.{◌≡◌, ◌≢◌, ◌+◌, ◌<◌, ◌≤◌, ◌↔◌, ◌++◌, [], length, Contains};
-    ghost use Rattle.member_cells.specs.declared.containers_and_cells.Cell.{Cell};
+    ghost use Rattle.law_model.specs.Common.{Cell, cells};
     ghost use Rattle.law_model.specs.members.Damage.{carried};
-    ghost use Rattle.law_model.specs.members.Path.{cells};
     ghost use Rattle.thread_rings.specs.Ends.{out_passed, in_passed};
     ghost use Rattle.thread_rings.specs.Calls.{IsOpened};
     ghost use Rattle.thread_rings.specs.Worker.{number_of, delay_of, windows_of, total_of, flushes_of, carries_of};
@@ -232,51 +229,46 @@ impl LineWorker {
 
 /// Pushes the container in the hand of one end into the line, and leaves the cell that comes out, if any, in the
 /// hand of the other.
-fn push_hand(core: &mut LineCore, from: &mut RingIn<Container>, to: &mut RingOut<Cell>) -> CarrySign
+fn push_hand(
+    core: &mut LineCore,
+    from: &mut RingIn<Container>,
+    to: &mut RingOut<Cell>,
+) -> Option<CellSign>
     requires { core.old.pushed < core.old.total }
     ensures pushed { IsPushed core.old core.new (in_hand from.old) result (out_hand to.new) }
     ensures from { from.new ≡ record from.old { hand = in_hand from.new } }
     ensures to { to.new ≡ record to.old { hand = out_hand to.new } }
 {
     let carry = core.push(&mut from.hand, &mut to.hand.container);
-    to.hand.sign = sign_of(carry);
+    if let Some(sign) = carry {
+        to.hand.sign = sign;
+    }
     carry
 }
 
 /// Flushes the line, and leaves the cell that comes out, if any, in the hand of the end.
-fn flush_hand(core: &mut LineCore, to: &mut RingOut<Cell>) -> CarrySign
+fn flush_hand(core: &mut LineCore, to: &mut RingOut<Cell>) -> Option<CellSign>
     requires pushed { core.old.pushed ≡ core.old.total }
     requires runs { core.old.flushed ≤ core.old.delay }
     ensures flushed { IsFlushed core.old core.new result (out_hand to.new) }
     ensures to { to.new ≡ record to.old { hand = out_hand to.new } }
 {
     let carry = core.flush(&mut to.hand.container);
-    to.hand.sign = sign_of(carry);
+    if let Some(sign) = carry {
+        to.hand.sign = sign;
+    }
     carry
 }
 
 /// Pushes the cell of a carry, if it gave one: that in the hand.
-fn send(producer: &mut RingOut<Cell>, carry: CarrySign)
+fn send(producer: &mut RingOut<Cell>, carry: Option<CellSign>)
     requires { 0 < out_free producer.old }
     ensures sent { out_passed producer.new
         ≡ out_passed producer.old ++ hand_cells carry (out_hand producer.old) }
     ensures same { SameOut producer.old producer.new }
     ensures quiet { out_misses producer.new ≡ out_misses producer.old }
 {
-    match carry {
-        CarrySign::Nothing => {}
-        CarrySign::Good | CarrySign::Fail | CarrySign::End => producer.push_hand(),
-    }
-}
-
-/// The sign of the cell that a carry gave, if it gave one.
-fn sign_of(carry: CarrySign) -> CellSign
-    ensures { (place : Container) → hand_cells carry (cell_with result place)
-        ≡ carry_cells carry place }
-{
-    match carry {
-        CarrySign::Good => CellSign::Good,
-        CarrySign::End => CellSign::End,
-        CarrySign::Fail | CarrySign::Nothing => CellSign::Fail,
+    if carry.is_some() {
+        producer.push_hand();
     }
 }

@@ -1,12 +1,12 @@
 //! What the cells of a line raise, one after another.
 ghost use Rattle.std.specs.Prelude.{◌≡◌, ℕ, ◌+◌, ◌<◌, ◌≤◌, ◌++◌, [], length, min};
-ghost use Rattle.member_cells.specs.declared.containers_and_cells.Container.{Container};
+ghost use Rattle.law_model.specs.Common.{Container};
 ghost use Rattle.member_path.specs.path_delay.Carry.{carry_cells};
 ghost use Rattle.thread_rings.specs.Alarms.{alarms_from, alarm_if, failed_after};
 
 use crate::alarm_kinds::{Alarm, AlarmKind};
 use arrayvec::ArrayVec;
-use member_path::path_delay::CarrySign;
+use member_path::cell_numbers::CellSign;
 
 /// The alarms of a burst so far, and what those of the next cell depend on.
 #[derive(Drop)]
@@ -20,43 +20,43 @@ pub(crate) struct Raised {
 }
 
 /// What the cell of a carry says.
-fn says(carry: CarrySign, failed: bool) -> Option<AlarmKind>
+fn says(carry: Option<CellSign>, failed: bool) -> Option<AlarmKind>
     ensures { (m i : ℕ) (container : Container) →
         alarms_from m i failed (carry_cells carry container) ≡ alarm_if m i result }
 {
     match carry {
-        CarrySign::Nothing => None,
-        CarrySign::Good => failed.then_some(AlarmKind::Returns),
-        CarrySign::Fail => (!failed).then_some(AlarmKind::Fails),
-        CarrySign::End => Some(AlarmKind::Ends),
+        None => None,
+        Some(CellSign::Good) => failed.then_some(AlarmKind::Returns),
+        Some(CellSign::Fail) => (!failed).then_some(AlarmKind::Fails),
+        Some(CellSign::End) => Some(AlarmKind::Ends),
     }
 }
 
 /// Whether the last cell is the sign of a failure, after that of a carry.
-fn fails_after(carry: CarrySign, failed: bool) -> bool
+fn fails_after(carry: Option<CellSign>, failed: bool) -> bool
     ensures { (container : Container) → result ≡ failed_after failed (carry_cells carry container) }
 {
     match carry {
-        CarrySign::Nothing => failed,
-        CarrySign::Fail => true,
-        CarrySign::Good | CarrySign::End => false,
+        None => failed,
+        Some(CellSign::Fail) => true,
+        Some(CellSign::Good | CellSign::End) => false,
     }
 }
 
 /// The place of the next cell, after that of a carry.
-fn next_place(carry: CarrySign, place: u32) -> u32
+fn next_place(carry: Option<CellSign>, place: u32) -> u32
     ensures { (container : Container) →
         result ≡ min (place + length (carry_cells carry container)) 4294967295 }
 {
     match carry {
-        CarrySign::Nothing => place,
-        CarrySign::Good | CarrySign::Fail | CarrySign::End => place.saturating_add(1),
+        None => place,
+        Some(_) => place.saturating_add(1),
     }
 }
 
 impl Raised {
     ghost use Rattle.std.specs.Prelude.{◌≡◌, ◌+◌, ◌<◌, ◌≤◌, ◌++◌, [], length, min, false};
-    ghost use Rattle.member_cells.specs.declared.containers_and_cells.Container.{Container};
+    ghost use Rattle.law_model.specs.Common.{Container};
     ghost use Rattle.member_path.specs.path_delay.Carry.{carry_cells};
     ghost use Rattle.thread_rings.specs.Alarms.{alarms_from, failed_after};
 
@@ -83,7 +83,7 @@ impl Raised {
     }
 
     /// Takes note of the cell of a carry, if it gave one.
-    pub(crate) fn note(&mut self, line: u8, carry: CarrySign)
+    pub(crate) fn note(&mut self, line: u8, carry: Option<CellSign>)
         requires { length self.old.alarms.items < 16 }
         ensures failed { (container : Container) →
             self.new.failed ≡ failed_after self.old.failed (carry_cells carry container) }

@@ -1,10 +1,9 @@
 //! The two ends of a ring. Nothing else touches the ring.
 ghost use Rattle.std.specs.Prelude.{◌≡◌, ◌+◌, ◌<◌, ◌≤◌, ◌↔◌, [], ◌∷◌, ◌++◌, length, IsTrue, IsFalse, IfOk};
 ghost use mathlib.Core.List.{IsPrefix};
-ghost use Rattle.octet_io.specs.Faults.{one_more};
-ghost use Rattle.thread_rings.specs.Ends.{out_passed, out_free, out_misses, out_hand};
-ghost use Rattle.thread_rings.specs.Ends.{in_passed, in_items, in_misses, in_hand};
-ghost use Rattle.thread_rings.specs.Ends.{AreEnds, SameOut, SameIn, AreFresh, AreSpare};
+ghost use Rattle.law_model.specs.Common.{one_more};
+ghost use Rattle.thread_rings.specs.Ends.{out_passed, out_free, out_misses, out_hand, in_passed, in_items, in_misses};
+ghost use Rattle.thread_rings.specs.Ends.{in_hand, AreEnds, SameOut, SameIn, AreFresh, AreSpare};
 
 use crate::ring_places::Placed;
 use rtrb::{Consumer, Producer, RingBuffer};

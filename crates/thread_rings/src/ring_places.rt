@@ -26,7 +26,7 @@ pub trait Placed: Copy {
 
 impl Placed for Container {
     ghost use Rattle.std.specs.Global.{Box};
-    ghost use Rattle.member_cells.specs.declared.containers_and_cells.Container.{Container};
+    ghost use Rattle.law_model.specs.Common.{Container};
 
     type Place = Box<HeldContainer>;
 
@@ -90,7 +90,7 @@ impl Placed for Cell {
 }
 
 impl Placed for BackCell {
-    ghost use Rattle.member_cells.specs.declared.containers_and_cells.BackCell.{BackCell};
+    ghost use Rattle.law_model.specs.Common.{BackCell};
 
     type Place = BackCell;
 

@@ -1,27 +1,20 @@
 -- What a step changes, and what several steps change.
-use Rattle.std.proofs.Common.{◌≡◌, ℕ, zero, suc, ◌+◌, ◌%◌, ◌<◌, ◌≤◌, ◌==◌, nat_lt, inl, inr, List, [], ◌∷◌, ◌++◌}
-use Rattle.std.proofs.Common.{length, Some, refl, sym, ◌∙◌, ap, ap₂, subst, arith, append_assoc}
+use Rattle.std.proofs.Common.{◌≡◌, ℕ, zero, suc, ◌+◌, ◌%◌, ◌<◌, ◌≤◌, ◌==◌, nat_lt, inl, inr, List, [], ◌++◌, length}
+use Rattle.std.proofs.Common.{Some, refl, sym, ◌∙◌, ap, ap₂, subst, arith, append_assoc, append-nil}
 use Rattle.std.proofs.lemmas.Bool.{cases_Bool}
 use Rattle.std.proofs.lemmas.Bool.Decides.{nat_tests}
-use Rattle.std.proofs.lemmas.List.{append-nil, length-map}
+use Rattle.std.proofs.lemmas.List.{length-map, append_cancel_left}
 use Rattle.std.proofs.lemmas.Option.{slice_get_within}
-use Rattle.member_cells.specs.declared.containers_and_cells.Cell.{Cell}
-use Rattle.member_cells.specs.declared.containers_and_cells.BackCell.{BackCell}
-use Rattle.law_model.specs.frames.Run.{delineate_within}
-use Rattle.law_model.specs.frames.Hunt.{hunt_within}
-use Rattle.law_model.specs.frames.Segment.{segments_on}
+use Rattle.law_model.specs.Common.{Cell, BackCell, delineate_within, hunt_within, segments_on, Start}
 use Rattle.law_line.specs.StableRows.{IsLonger, AreDecidedAt}
-use Rattle.law_line.proofs.ListLaws.{slice_get-inside}
-use Rattle.member_rows.specs.realign_rows.Gather.{Gather, with_cell}
-use Rattle.member_rows.specs.realign_rows.Gather.{GatherStands as Gathers}
-use Rattle.thread_rings.specs.Ends.{InEnd}
-use Rattle.thread_rings.specs.Ends.{OutEnd}
-use Rattle.thread_rings.specs.Ends.{in_passed, SameIn}
+use Rattle.law_model.proofs.ListLaws.{slice_get-inside}
+use Rattle.member_rows.specs.realign_rows.Gather.{Gather, with_cell, GatherStands as Gathers}
+use Rattle.thread_rings.specs.Ends.{InEnd, OutEnd, in_passed, SameIn}
 use Rattle.thread_rings.proofs.EndLaws.{in-then, out-then}
-use Rattle.octet_io.specs.Start.{Start}
 use Rattle.terminal_sink.specs.sink_core.Given.{given_frames, added_frames, back_at}
 use Rattle.terminal_sink.specs.sink_core.Core.{Core, SinkStands}
-use Rattle.terminal_sink.proofs.SinkCoreLaws.LaterLaws.{stands-longer, frames-stay, back-stays, with_cell-longer, frames-grow}
+use Rattle.terminal_sink.proofs.SinkCoreLaws.LaterLaws.{stands-longer, frames-stay, back-stays, with_cell-longer}
+use Rattle.terminal_sink.proofs.SinkCoreLaws.LaterLaws.{frames-grow}
 use Rattle.thread_sink.specs.Received.{received, popped, back_cells, backs, AreSameIns}
 use Rattle.thread_sink.specs.Parts.{Parts, parts, Keeps, Later, Gives}
 use Rattle.thread_sink.specs.Step.{TookCell}
@@ -78,15 +71,11 @@ unfolding backs
 backs-more cells t next is = let e : next ≡ suc t = omega (arith, is) in ap (backs cells) e
 
 -- ---- frames of some rows, and then of more
-cancel : {X : Type 0} (xs ys zs : List X) → xs ++ ys ≡ xs ++ zs → ys ≡ zs
-cancel [] ys zs e = e
-cancel (x ∷ xs) ys zs e = cancel xs ys zs (let rest : xs ++ ys ≡ xs ++ zs = cc in rest)
-
 added-then : (size : ℕ) (cells longer : List (List Cell)) (a b c : ℕ) → a ≤ b → b ≤ c → IsLonger cells longer →
     ((t : ℕ) → t < b → AreDecidedAt cells t) →
     added_frames size cells a b ++ added_frames size longer b c ≡ added_frames size longer a c
 added-then size cells longer a b c low high more decided =
-    cancel (given_frames size longer a) (added_frames size cells a b ++ added_frames size longer b c)
+    append_cancel_left (given_frames size longer a) (added_frames size cells a b ++ added_frames size longer b c)
     (added_frames size longer a c)
     (sym (append_assoc (given_frames size longer a) (added_frames size cells a b) (added_frames size longer b c))
     ∙ ap (λ l. (l ++ added_frames size cells a b) ++ added_frames size longer b c)

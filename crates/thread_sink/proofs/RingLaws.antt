@@ -1,7 +1,7 @@
 -- One of the rings of the lines is touched.
 use Rattle.std.proofs.Common.{◌≡◌, ℕ, zero, suc, ◌+◌, ◌<◌, List, [], ◌∷◌, ◌++◌, length, map, get_or, slice_set}
 use Rattle.std.proofs.Common.{slice_get, Some, refl, sym, ◌∙◌, ap, subst, arith, length-append}
-use Rattle.member_cells.specs.declared.containers_and_cells.Cell.{Cell}
+use Rattle.law_model.specs.Common.{Cell}
 use Rattle.member_rows.specs.realign_rows.Gather.{with_cell}
 use Rattle.thread_sink.specs.Received.{popped}
 

@@ -1,7 +1,7 @@
 -- Frames are counted, and their lines told.
 use Rattle.std.proofs.Common.{◌≡◌, ℕ, ◌+◌, ◌-◌, ◌^◌, min, List, [], ◌∷◌, ◌++◌, length, Option, Result, Ok, Err, OnOk}
 use Rattle.std.proofs.Common.{OnErr, is_err, false, ap, arith, length-append}
-use Rattle.octet_io.specs.Transfer.{Appends, AppendsPart}
+use Rattle.law_model.specs.Common.{Appends, AppendsPart}
 use Rattle.thread_sink.specs.Told.{count_of, Writes}
 
 pub count-more : (frames : List (List ℕ)) (frame : List ℕ) (count next : ℕ) → count ≡ count_of frames →

@@ -1,18 +1,11 @@
 -- The parts of a sink over rings, and what a step does to them.
 use Rattle.std.specs.Prelude.{◌≡◌, ℕ, ◌%◌, ◌<◌, ◌≤◌, ◌⊎◌, List, ◌++◌, length, Some, None}
-use Rattle.octet_io.specs.Faults.{one_more}
-use Rattle.member_cells.specs.declared.containers_and_cells.Cell.{Cell}
-use Rattle.member_cells.specs.declared.containers_and_cells.BackCell.{BackCell}
-use Rattle.law_model.specs.rows.Rows.{first_open}
+use Rattle.law_model.specs.Common.{one_more, Cell, BackCell, first_open, Start}
 use Rattle.law_line.specs.StableRows.{IsLonger}
-use Rattle.member_rows.specs.realign_rows.Gather.{Gather, line_count}
-use Rattle.member_rows.specs.realign_rows.Gather.{GatherStands as Gathers}
-use Rattle.octet_io.specs.Start.{Start}
+use Rattle.member_rows.specs.realign_rows.Gather.{Gather, line_count, GatherStands as Gathers}
 use Rattle.terminal_sink.specs.sink_core.Core.{Core, SinkStands}
 use Rattle.terminal_sink.specs.sink_core.Given.{added_frames}
-use Rattle.thread_rings.specs.Ends.{InEnd}
-use Rattle.thread_rings.specs.Ends.{OutEnd}
-use Rattle.thread_rings.specs.Ends.{out_passed, out_free, out_misses, SameOut}
+use Rattle.thread_rings.specs.Ends.{InEnd, OutEnd, out_passed, out_free, out_misses, SameOut}
 use Rattle.thread_sink.specs.declared.burst_answers.SinkBurst.{SinkBurst}
 use Rattle.thread_sink.specs.declared.burst_answers.SinkBurst.TheVariants.{Moved, Idle, Done}
 use Rattle.thread_sink.specs.declared.burst_answers.SinkIdle.TheVariants.{Waiting, BackFull}

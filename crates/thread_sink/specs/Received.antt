@@ -1,13 +1,9 @@
 -- What a sink has received by the rings of its lines, and the return cells that it sends.
 use Rattle.std.specs.Prelude.{◌≡◌, ℕ, zero, suc, ◌+◌, List, [], ◌∷◌, ◌++◌, length, map, slice_get, Option, Some, None}
-use Rattle.octet_io.specs.Faults.{one_more}
-use Rattle.member_cells.specs.declared.containers_and_cells.Cell.{Cell}
-use Rattle.member_cells.specs.declared.containers_and_cells.BackCell.{BackCell}
-use Rattle.member_cells.specs.declared.containers_and_cells.BackCell.TheVariants.{Packet as PacketCell}
+use Rattle.law_model.specs.Common.{one_more, Cell, BackCell, packet_nibbles}
 use Rattle.law_model.specs.declared.control_packet.Packet.{Packet}
-use Rattle.law_model.specs.packets.Packet.{packet_nibbles}
-use Rattle.thread_rings.specs.Ends.{InEnd}
-use Rattle.thread_rings.specs.Ends.{in_passed, in_items, in_misses, SameIn}
+use Rattle.member_cells.specs.declared.containers_and_cells.BackCell.TheVariants.{Packet as PacketCell}
+use Rattle.thread_rings.specs.Ends.{InEnd, in_passed, in_items, in_misses, SameIn}
 use Rattle.terminal_sink.specs.sink_core.Given.{back_at}
 
 -- the cells of each line that were popped

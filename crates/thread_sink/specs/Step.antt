@@ -1,11 +1,9 @@
 -- What a step does to the ring of a line, and what it sends back.
 use Rattle.std.specs.Prelude.{◌≡◌, ℕ, List, [], ◌∷◌, ◌++◌, Option, None}
-use Rattle.member_cells.specs.declared.containers_and_cells.Cell.{Cell}
+use Rattle.law_model.specs.Common.{Cell}
 use Rattle.law_model.specs.declared.control_packet.Packet.{Packet}
-use Rattle.member_rows.specs.realign_rows.Gather.{Gather, line_count, with_cell}
-use Rattle.member_rows.specs.realign_rows.Gather.{GatherStands as Gathers}
-use Rattle.thread_rings.specs.Ends.{InEnd}
-use Rattle.thread_rings.specs.Ends.{in_passed}
+use Rattle.member_rows.specs.realign_rows.Gather.{Gather, line_count, with_cell, GatherStands as Gathers}
+use Rattle.thread_rings.specs.Ends.{InEnd, in_passed}
 use Rattle.terminal_sink.specs.declared.sink_core.sink_terminal.TakeAnswer.{TakeAnswer}
 use Rattle.terminal_sink.specs.declared.sink_core.sink_terminal.TakeAnswer.TheVariants.{Taken, Waiting}
 use Rattle.thread_sink.specs.Received.{received}

@@ -1,6 +1,6 @@
 -- What was written of the lines of frames.
 use Rattle.std.specs.Prelude.{◌≡◌, ℕ, ◌-◌, ◌^◌, min, Bool, true, false, List, length, Option}
-use Rattle.octet_io.specs.Transfer.{Appends, AppendsPart}
+use Rattle.law_model.specs.Common.{Appends, AppendsPart}
 
 -- a count of frames, which stops at 2^64 - 1
 abbrev pub count_of : List (List ℕ) → ℕ

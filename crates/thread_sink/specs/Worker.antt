@@ -1,6 +1,6 @@
 -- What a worker of the sink has received, taken and sent.
 use Rattle.std.specs.Prelude.{◌≡◌, ℕ, Bool, List}
-use Rattle.member_cells.specs.declared.containers_and_cells.Cell.{Cell}
+use Rattle.law_model.specs.Common.{Cell}
 use Rattle.thread_sink.specs.declared.sink_worker.SinkWorker.{SinkWorker}
 use Rattle.thread_sink.specs.Received.{received}
 use Rattle.terminal_sink.specs.sink_core.Given.{given_frames}

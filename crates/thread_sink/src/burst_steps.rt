@@ -5,8 +5,8 @@ ghost use Rattle.thread_sink.specs.Parts.{parts, Keeps, Later, Does, Gives};
 
 use crate::burst_answers::SinkBurst;
 use crate::sink_step::step;
-use member_cells::{BackCell, Cell};
 use law_model::FrameOut;
+use member_cells::{BackCell, Cell};
 use member_rows::realign_rows::RowGather;
 use terminal_sink::sink_core::SinkCore;
 use thread_rings::{CellPlace, RingIn, RingOut};

@@ -1,7 +1,7 @@
 //! Frames are counted, and written as lines of text.
 
-use octet_io::ByteSink;
 use law_model::FrameOut;
+use octet_io::ByteSink;
 use text_got::LentGotLines;
 
 /// Counts the frames that it is given, and writes none.

@@ -6,8 +6,8 @@
 #![tactic(auto)]
 
 mod burst_answers;
-mod frame_counts;
 mod burst_steps;
+mod frame_counts;
 mod sink_step;
 mod sink_worker;
 

@@ -1,18 +1,15 @@
 //! One step of the sink: a cell is popped, or a row taken.
-ghost use Rattle.std.specs.Prelude.{◌≡◌, ◌+◌, ◌%◌, ◌<◌, ◌≤◌, ◌≢◌, ◌++◌, [], length, Some, None, IsTrue};
-ghost use Rattle.std.specs.Prelude.{IsFalse};
-ghost use Rattle.law_model.specs.rows.Rows.{first_open};
+ghost use Rattle.std.specs.Prelude.{◌≡◌, ◌+◌, ◌%◌, ◌<◌, ◌≤◌, ◌≢◌, ◌++◌, [], length, Some, None, IsTrue, IsFalse};
+ghost use Rattle.law_model.specs.Common.{first_open, one_more};
 ghost use Rattle.member_rows.specs.realign_rows.Gather.{line_count, IsOpenAt};
-ghost use Rattle.thread_rings.specs.Ends.{out_passed, out_free, in_passed, in_items, in_misses, SameIn};
-ghost use Rattle.thread_rings.specs.Ends.{SameOut};
-ghost use Rattle.octet_io.specs.Faults.{one_more};
+ghost use Rattle.thread_rings.specs.Ends.{out_passed, out_free, in_passed, in_items, in_misses, SameIn, SameOut};
 ghost use Rattle.thread_sink.specs.Received.{received, back_cells, AreSameIns, Missed};
 ghost use Rattle.thread_sink.specs.Parts.{parts, Keeps, Later, IsFull, Does, Gives};
 ghost use Rattle.thread_sink.specs.Step.{PoppedCell, TookCell, packet_in};
 
 use crate::burst_answers::{SinkBurst, SinkIdle};
-use member_cells::{BackCell, Cell};
 use law_model::FrameOut;
+use member_cells::{BackCell, Cell};
 use member_rows::lcas_packet::Packet;
 use member_rows::realign_rows::{RowAnswer, RowGather};
 use terminal_sink::sink_core::{SinkCore, TakeAnswer};

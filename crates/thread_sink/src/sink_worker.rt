@@ -3,11 +3,11 @@ ghost use Rattle.std.specs.Prelude.{◌≡◌, ◌≤◌, length};
 ghost use Rattle.member_rows.specs.realign_rows.Gather.{line_count};
 
 use crate::burst_answers::SinkBurst;
-use crate::frame_counts::{CountOut, ToldOut};
 use crate::burst_steps::take_rows;
+use crate::frame_counts::{CountOut, ToldOut};
 use member_cells::{BackCell, Cell};
-use octet_io::{ByteSink, take_back};
 use member_rows::realign_rows::RowGather;
+use octet_io::{ByteSink, take_back};
 use std::alloc::{AllocError, Global};
 use terminal_sink::sink_core::SinkCore;
 use text_got::{LentGotLines, TextBlock};
@@ -36,8 +36,8 @@ pub struct SinkWorker {
 }
 
 impl SinkWorker {
-    ghost use Rattle.std.specs.Prelude.{◌≡◌, ◌≢◌, ◌+◌, ◌<◌, ◌≤◌, ◌↔◌, ◌⊎◌, [], replicate, length, true, false, IfOk};
-    ghost use Rattle.law_model.specs.session.Valid.{IsSize};
+    ghost use Rattle.std.specs.Prelude.{◌≡◌, ◌≢◌, ◌+◌, ◌<◌, ◌≤◌, ◌↔◌, [], replicate, length, false, IfOk};
+    ghost use Rattle.law_model.specs.Common.{IsSize};
     ghost use Rattle.thread_rings.specs.Ends.{out_passed};
     ghost use Rattle.text_report.specs.Report.{got_texts};
     ghost use Rattle.terminal_sink.specs.sink_core.Given.{given_frames, added_frames};

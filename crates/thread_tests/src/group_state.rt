@@ -1,11 +1,11 @@
 //! A small script by hand, over real rings.
 ghost use Rattle.std.specs.Prelude.{◌≡◌, length, IfOk};
-ghost use Rattle.law_model.specs.session.Valid.{IsValid};
+ghost use Rattle.law_model.specs.Common.{IsValid};
 ghost use Rattle.thread_group.specs.Rings.{AreUnused};
 
 use crate::script_statements::read;
-use member_cells::{BackCell, Container};
 use law_model::{Refusal, Script, Totals};
+use member_cells::{BackCell, Container};
 use std::alloc::{AllocError, Global};
 use terminal_group::ItemRef;
 use terminal_source::source_core::{AcceptFault, CommandFault};

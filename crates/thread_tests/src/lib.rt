@@ -3,14 +3,14 @@
 #![tactic(auto)]
 
 #[cfg(test)]
-mod walk_courses;
-#[cfg(test)]
-mod octet_streams;
-#[cfg(test)]
 mod group_state;
 #[cfg(test)]
 mod made_loads;
 #[cfg(test)]
+mod octet_streams;
+#[cfg(test)]
 mod script_statements;
+#[cfg(test)]
+mod walk_courses;
 #[cfg(test)]
 mod walk_events;

@@ -1,7 +1,7 @@
 //! Texts of many lines, and what each line of a script says. What faults are told of is among the rows of
 //! `command_tests`.
 ghost use Rattle.std.specs.Prelude.{IfOk};
-ghost use Rattle.law_model.specs.session.Valid.{IsValid};
+ghost use Rattle.law_model.specs.Common.{IsValid};
 
 use law_model::{EventLine, Item, ItemKind, Script, Window, WindowList};
 use std::alloc::Global;

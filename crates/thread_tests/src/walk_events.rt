@@ -1,9 +1,9 @@
 //! Walks by single events. Walks of whole scripts are among the rows of `command_tests`.
 ghost use Rattle.std.specs.Prelude.{◌≡◌};
-ghost use Rattle.law_model.specs.session.Valid.{IsValid};
+ghost use Rattle.law_model.specs.Common.{IsValid};
 
-use crate::walk_courses::{Answer, course};
 use crate::script_statements::read;
+use crate::walk_courses::{Answer, course};
 use law_model::{FrameOut, SourceState};
 use std::alloc::Global;
 use walk_engine::walk_core::{Event, Moved, Walk};

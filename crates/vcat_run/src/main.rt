@@ -2,9 +2,9 @@
 //! of a group on threads.
 #![tactic(auto)]
 
-use octet_io::{StdSink, StdSource};
 use command_parts::{NO_MEMORY, given_words};
 use command_run::run_top;
+use octet_io::{StdSink, StdSource};
 use std::process::ExitCode;
 use thread_rings::OpenGate;
 

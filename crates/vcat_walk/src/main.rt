@@ -2,9 +2,9 @@
 //! commands on one thread.
 #![tactic(auto)]
 
-use octet_io::{StdSink, StdSource};
 use command_parts::{NO_MEMORY, given_words};
 use command_walk::walk_top;
+use octet_io::{StdSink, StdSource};
 use std::process::ExitCode;
 
 fn main(rt: HostRuntime) -> ExitCode {

@@ -1,2 +1,3 @@
 pub mod walk_parts
 pub mod walk_core
+pub mod Common

@@ -5,9 +5,8 @@ use Rattle.member_au4.specs.au4_link.Helps.{kind_of, help_of}
 use Rattle.member_au4.specs.declared.au4_link.au4_draft.Link.{Link}
 use Rattle.member_au4.specs.au4_link.Link.{link_of}
 use Rattle.member_au4.specs.au4_link.Text.{link_text}
+use Rattle.command_parts.specs.Common.{Answer, writes, refuses, line_text}
 use Rattle.command_parts.specs.declared.stop_and_status.Refusal.TheVariants.{Line}
-use Rattle.command_parts.specs.Task.{Answer, writes, refuses}
-use Rattle.command_parts.specs.Faults.{line_text}
 use Rattle.command_walk.specs.declared.command_of_words.WalkCommand.{WalkCommand}
 use Rattle.command_walk.specs.declared.command_of_words.WalkCommand.TheVariants.{Au4}
 use Rattle.command_walk.specs.commands.Walk.{is_word}

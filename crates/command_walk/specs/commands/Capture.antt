@@ -1,16 +1,14 @@
 -- `capture`: a script's walk, and the capture of the frames that it delivers.
 use Rattle.std.specs.Prelude.{ℕ, ◌+◌, List, codes, Option, Some, None, if◌then◌else◌}
 use Rattle.std.specs.List.{flat_map, range_with_len}
-use Rattle.octet_io.specs.Start.{Start}
+use Rattle.law_model.specs.Common.{Start, leg_of}
 use Rattle.law_model.specs.declared.script_types.Script.{Script}
-use Rattle.law_model.specs.session.Leg.{leg_of}
 use Rattle.law_headline.specs.Texts.{counts_in}
-use Rattle.walk_engine.specs.walk_core.Moved.{Walked, delivered_since}
+use Rattle.walk_engine.specs.Common.{Walked, delivered_since}
 use Rattle.text_captures.specs.capture_file.Written.{RowFrame, ethernet_capture}
 use Rattle.text_captures.specs.declared.capture_file.capture_out.CaptureOut.{CaptureOut}
 use Rattle.text_captures.specs.capture_file.Out.{HasCapture, at_row}
-use Rattle.command_parts.specs.Task.{Answer, writes}
-use Rattle.command_parts.specs.Scripts.{script_answer}
+use Rattle.command_parts.specs.Common.{Answer, writes, script_answer}
 use Rattle.command_walk.specs.declared.command_of_words.WalkCommand.{WalkCommand}
 use Rattle.command_walk.specs.declared.command_of_words.WalkCommand.TheVariants.{Capture}
 use Rattle.command_walk.specs.commands.Walk.{is_word}

@@ -6,9 +6,8 @@ use Rattle.gfp_channels.specs.declared.channel_link.channel_draft.ChannelPlan.{C
 use Rattle.gfp_channels.specs.channel_link.Plan.{plan_of}
 use Rattle.gfp_channels.specs.channel_link.Text.{plan_text}
 use Rattle.gfp_channels.specs.channel_link.Delivered.{IsPlanReport}
+use Rattle.command_parts.specs.Common.{Answer, writes, refuses, line_text}
 use Rattle.command_parts.specs.declared.stop_and_status.Refusal.TheVariants.{Line}
-use Rattle.command_parts.specs.Task.{Answer, writes, refuses}
-use Rattle.command_parts.specs.Faults.{line_text}
 use Rattle.command_walk.specs.declared.command_of_words.WalkCommand.{WalkCommand}
 use Rattle.command_walk.specs.declared.command_of_words.WalkCommand.TheVariants.{Channels}
 use Rattle.command_walk.specs.commands.Walk.{is_word}

@@ -1,11 +1,10 @@
 -- `fates`: a script's walk, and what became of each of its frames.
 use Rattle.std.specs.Prelude.{◌≡◌, ℕ, List, ◌++◌, codes, Option, Some, None, if◌then◌else◌}
-use Rattle.law_model.specs.session.Leg.{leg_of}
-use Rattle.fate_engine.specs.fate_law.FateText.{fates_text}
+use Rattle.law_model.specs.Common.{leg_of}
+use Rattle.fate_engine.specs.Common.{fates_text}
 use Rattle.law_headline.specs.Texts.{counts_in}
 use Rattle.law_headline.specs.Headline.{IsWalkReport}
-use Rattle.command_parts.specs.Task.{Answer, writes}
-use Rattle.command_parts.specs.Scripts.{script_answer}
+use Rattle.command_parts.specs.Common.{Answer, writes, script_answer}
 use Rattle.command_walk.specs.declared.command_of_words.WalkCommand.{WalkCommand}
 use Rattle.command_walk.specs.declared.command_of_words.WalkCommand.TheVariants.{Fates}
 use Rattle.command_walk.specs.commands.Walk.{is_word, walk_answer}

@@ -3,8 +3,8 @@ use Rattle.std.specs.Prelude.{ℕ, List, codes, Option, Some, None, Result, Ok, 
 use Rattle.text_captures.specs.declared.capture_file.capture_form.CaptureFault.{CaptureFault}
 use Rattle.text_captures.specs.capture_file.Reading.{DueFrame, capture_said}
 use Rattle.text_captures.specs.capture_file.Texts.{frame_texts, fault_text}
+use Rattle.command_parts.specs.Common.{Answer, writes, refuses}
 use Rattle.command_parts.specs.declared.stop_and_status.Refusal.TheVariants.{Line}
-use Rattle.command_parts.specs.Task.{Answer, writes, refuses}
 use Rattle.command_walk.specs.declared.command_of_words.WalkCommand.{WalkCommand}
 use Rattle.command_walk.specs.declared.command_of_words.WalkCommand.TheVariants.{Frames}
 use Rattle.command_walk.specs.commands.Walk.{is_word}

@@ -5,9 +5,8 @@ use Rattle.gfp_noise.specs.noise_link.Helps.{kind_of, help_of}
 use Rattle.gfp_noise.specs.declared.noise_link.noise_draft.Noise.{Noise as Noises}
 use Rattle.gfp_noise.specs.noise_link.Noise.{noise_of}
 use Rattle.gfp_noise.specs.noise_link.Text.{noise_text}
+use Rattle.command_parts.specs.Common.{Answer, writes, refuses, line_text}
 use Rattle.command_parts.specs.declared.stop_and_status.Refusal.TheVariants.{Line}
-use Rattle.command_parts.specs.Task.{Answer, writes, refuses}
-use Rattle.command_parts.specs.Faults.{line_text}
 use Rattle.command_walk.specs.declared.command_of_words.WalkCommand.{WalkCommand}
 use Rattle.command_walk.specs.declared.command_of_words.WalkCommand.TheVariants.{Noise}
 use Rattle.command_walk.specs.commands.Walk.{is_word}

@@ -1,7 +1,7 @@
 -- `pair`: two scripts, and the report of each way of their pair.
 use Rattle.std.specs.Prelude.{ℕ, List, codes, Option, Some, None, if◌then◌else◌}
 use Rattle.pair_walk.specs.Headline.{IsPairHeadline}
-use Rattle.command_parts.specs.Ends.{Lent, Takes}
+use Rattle.command_parts.specs.Common.{Lent, Takes}
 use Rattle.command_walk.specs.declared.command_of_words.WalkCommand.{WalkCommand}
 use Rattle.command_walk.specs.declared.command_of_words.WalkCommand.TheVariants.{Pair}
 use Rattle.command_walk.specs.commands.Walk.{is_word}

@@ -1,11 +1,11 @@
 -- `stream`: the script lines of a client that sends at a rate.
 use Rattle.std.specs.Prelude.{ℕ, ◌==◌, ◌&&◌, nat_le, nat_lt, List, length, drop, codes, bytes_eq, Option, Some, None}
 use Rattle.std.specs.Prelude.{if◌then◌else◌}
-use Rattle.law_model.specs.Limits.{longest_input, longest_frame}
+use Rattle.law_model.specs.Common.{longest_input, longest_frame}
 use Rattle.text_scripts.specs.declared.rate_load.rate_frames.RateLoad.{RateLoad}
 use Rattle.text_scripts.specs.rate_load.RateTexts.{rate_text}
 use Rattle.command_words.specs.Words.{number_in}
-use Rattle.command_parts.specs.Task.{Answer, writes, exceeds}
+use Rattle.command_parts.specs.Common.{Answer, writes, exceeds}
 use Rattle.command_walk.specs.declared.command_of_words.WalkCommand.{WalkCommand}
 use Rattle.command_walk.specs.declared.command_of_words.WalkCommand.TheVariants.{Stream}
 use Rattle.command_walk.specs.commands.Walk.{word_at}

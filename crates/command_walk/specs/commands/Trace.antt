@@ -1,14 +1,12 @@
 -- `trace`: a walk, and a line for each of its decision steps.
 use Rattle.std.specs.Prelude.{ℕ, ◌+◌, ◌*◌, List, codes, Option, Some, None, if◌then◌else◌}
 use Rattle.std.specs.List.{flat_map, range_with_len}
+use Rattle.law_model.specs.Common.{leg_of, steps_in}
 use Rattle.law_model.specs.declared.script_types.Script.{Script}
-use Rattle.law_model.specs.session.Leg.{leg_of}
-use Rattle.law_model.specs.session.Scenario.{steps_in}
-use Rattle.law_walk.specs.Step.{cell_taken, table_in}
+use Rattle.law_walk.specs.Common.{cell_taken, table_in}
 use Rattle.law_headline.specs.Texts.{counts_in, walk_text}
 use Rattle.text_captures.specs.packet_trace.StepText.{step_text}
-use Rattle.command_parts.specs.Task.{Answer, writes_both}
-use Rattle.command_parts.specs.Scripts.{script_answer}
+use Rattle.command_parts.specs.Common.{Answer, writes_both, script_answer}
 use Rattle.command_walk.specs.declared.command_of_words.WalkCommand.{WalkCommand}
 use Rattle.command_walk.specs.declared.command_of_words.WalkCommand.TheVariants.{Trace}
 use Rattle.command_walk.specs.commands.Walk.{is_word}

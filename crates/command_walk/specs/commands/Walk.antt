@@ -2,8 +2,7 @@
 use Rattle.std.specs.Prelude.{ℕ, ◌==◌, ◌&&◌, List, length, bytes_eq, slice_index_or, [], codes, Bool, Option, Some}
 use Rattle.std.specs.Prelude.{None, if◌then◌else◌}
 use Rattle.law_headline.specs.Texts.{walk_text}
-use Rattle.command_parts.specs.Task.{Answer, writes}
-use Rattle.command_parts.specs.Scripts.{script_answer}
+use Rattle.command_parts.specs.Common.{Answer, writes, script_answer}
 use Rattle.command_walk.specs.declared.command_of_words.WalkCommand.{WalkCommand}
 use Rattle.command_walk.specs.declared.command_of_words.WalkCommand.TheVariants.{Walk}
 

@@ -1,8 +1,6 @@
 //! `au4`: numbered VC-4s are carried over a link of AU-4 frames, and a line is written of each that comes whole.
 ghost use Rattle.std.specs.Prelude.{◌≡◌, ℕ, List, Ok, None, map, string_bytes};
-ghost use Rattle.command_parts.specs.Task.{reads, writes};
-ghost use Rattle.command_parts.specs.Ends.{Ends, lent};
-ghost use Rattle.command_parts.specs.Faults.{line_text};
+ghost use Rattle.command_parts.specs.Common.{reads, writes, Ends, lent, line_text};
 ghost use Rattle.member_au4.specs.declared.au4_link.au4_draft.Link.{Link};
 ghost use Rattle.member_au4.specs.au4_link.Link.{link_of};
 ghost use Rattle.member_au4.specs.au4_link.Carried.{carried_text};
@@ -11,9 +9,9 @@ ghost use Rattle.command_walk.specs.commands.Au4.{au4_words, au4_answer};
 
 use crate::command_of_words::WalkCommand;
 use crate::walk_end::{WalkEnd, cut, done, stopped};
-use octet_io::{ByteSink, ByteSource, Failed};
 use command_parts::{Fault, Refusal, Stop, line_fault, read_input};
 use member_au4::au4_link::{LineFault, LinkFault, link_help, read_link, write_link};
+use octet_io::{ByteSink, ByteSource, Failed};
 use std::alloc::Global;
 
 /// Room for what is said of how to write a line.

@@ -1,31 +1,25 @@
 //! `capture`: a script's walk is made, and the frames that it delivers are written as a capture.
 ghost use Rattle.std.specs.Prelude.{◌≡◌, ◌≢◌, ℕ, List, None, Ok, OnOk, OnErr, map, replicate, string_bytes};
 ghost use Rattle.std.specs.List.{flat_map};
-ghost use Rattle.octet_io.specs.Start.{Start};
-ghost use Rattle.octet_io.specs.Transfer.{Appends, AppendsPart};
+ghost use Rattle.law_model.specs.Common.{Start, Appends, AppendsPart, leg_of, IsValid, IsEvent, begin, run, run_line};
+ghost use Rattle.law_model.specs.Common.{drain, bound};
 ghost use Rattle.law_model.specs.declared.script_types.Script.{Script};
 ghost use Rattle.law_model.specs.declared.walk_events.Event.{Event};
-ghost use Rattle.law_model.specs.session.Leg.{leg_of};
-ghost use Rattle.law_model.specs.session.Valid.{IsValid, IsEvent};
-ghost use Rattle.law_model.specs.session.Counts.{begin, run, run_line, drain, bound};
-ghost use Rattle.law_walk.specs.Walk.{walk_plan, IsWalked};
-ghost use Rattle.law_walk.specs.Delivered.{delivered_of};
+ghost use Rattle.law_walk.specs.Common.{walk_plan, IsWalked, delivered_of};
 ghost use Rattle.law_headline.specs.Texts.{counts_in};
 ghost use Rattle.text_captures.specs.capture_file.Written.{RowFrame, due_frames};
 ghost use Rattle.text_captures.specs.capture_file.Reading.{capture_said};
-ghost use Rattle.command_parts.specs.Status.{HasRunAt};
-ghost use Rattle.command_parts.specs.Task.{reads};
-ghost use Rattle.command_parts.specs.Ends.{Ends, lent};
+ghost use Rattle.command_parts.specs.Common.{HasRunAt, reads, Ends, lent};
 ghost use Rattle.command_walk.specs.commands.Capture.{HasTaken, taken_frames, capture_octets, capture_words, capture_answer};
 ghost use Rattle.command_walk.specs.Told.{events_of, IsTurn};
 ghost use Rattle.command_walk.specs.Ended.{HandsScript};
 
 use crate::command_of_words::WalkCommand;
-use crate::walk_end::{WalkEnd, cut, done, stopped};
-use crate::turns::trace_turns::{Turn, make_turn, turns_of};
 use crate::turns::ready_walk::read_walk;
-use octet_io::{ByteSink, ByteSource, Failed, take_back};
+use crate::turns::trace_turns::{Turn, make_turn, turns_of};
+use crate::walk_end::{WalkEnd, cut, done, stopped};
 use law_model::EventLine;
+use octet_io::{ByteSink, ByteSource, Failed, take_back};
 use std::alloc::Global;
 use text_captures::capture_file::CaptureOut;
 use walk_engine::walk_core::Walk;

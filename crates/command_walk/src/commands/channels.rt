@@ -1,9 +1,7 @@
 //! `channels`: frames of clients share a stream by channel numbers, octets of it don't arrive, and the frames that get
 //! through are written.
 ghost use Rattle.std.specs.Prelude.{◌≡◌, ℕ, List, Ok, None, map, string_bytes};
-ghost use Rattle.command_parts.specs.Task.{reads};
-ghost use Rattle.command_parts.specs.Ends.{Ends, lent};
-ghost use Rattle.command_parts.specs.Faults.{line_text};
+ghost use Rattle.command_parts.specs.Common.{reads, Ends, lent, line_text};
 ghost use Rattle.gfp_channels.specs.declared.channel_link.channel_draft.ChannelPlan.{ChannelPlan};
 ghost use Rattle.gfp_channels.specs.channel_link.Plan.{plan_of};
 ghost use Rattle.gfp_channels.specs.channel_link.Helps.{kind_of, help_of};
@@ -11,9 +9,9 @@ ghost use Rattle.command_walk.specs.commands.Channels.{channels_words, channels_
 
 use crate::command_of_words::WalkCommand;
 use crate::walk_end::{WalkEnd, cut, done, stopped};
-use octet_io::{ByteSink, ByteSource, Failed};
 use command_parts::{Fault, Refusal, Stop, line_fault, read_input};
 use gfp_channels::channel_link::{ChannelRun, LineFault, PlanFault, plan_help, read_plan};
+use octet_io::{ByteSink, ByteSource, Failed};
 use std::alloc::Global;
 
 /// Room for what is said of how to write a line.

@@ -1,19 +1,17 @@
 //! `decode`: the packets in the H4 octets of a line are found, and a line is written of each.
 ghost use Rattle.std.specs.Prelude.{◌≡◌, ℕ, ◌+◌, ◌<◌, ◌≤◌, List, [], ◌∷◌, ◌++◌, length, None, IfOk, OnOk, OnErr, map};
 ghost use Rattle.std.specs.Prelude.{string_bytes};
-ghost use Rattle.octet_io.specs.Transfer.{Appends, AppendsPart};
-ghost use Rattle.law_model.specs.packets.DecodeText.{decoded_text};
+ghost use Rattle.law_model.specs.Common.{Appends, AppendsPart, decoded_text};
 ghost use Rattle.text_captures.specs.packet_trace.Decoder.{DecoderStands};
-ghost use Rattle.command_parts.specs.Task.{reads};
-ghost use Rattle.command_parts.specs.Ends.{Ends, lent};
+ghost use Rattle.command_parts.specs.Common.{reads, Ends, lent};
 ghost use Rattle.command_walk.specs.commands.Decode.{decode_words, decode_answer};
 ghost use Rattle.command_walk.specs.Written.{HasLines, HasLinesPart};
 
 use crate::command_of_words::WalkCommand;
-use crate::walk_end::{WalkEnd, cut, done, stopped};
 use crate::hex_text::{HexTextFault, read_octets};
-use octet_io::{ByteSink, ByteSource, Failed, put_all};
+use crate::walk_end::{WalkEnd, cut, done, stopped};
 use command_parts::{Stop, line_fault, read_input};
+use octet_io::{ByteSink, ByteSource, Failed, put_all};
 use std::alloc::Global;
 use text_captures::packet_trace::{FOUND_ROOM, H4Decoder, end_line, found_line};
 use text_lines::LineKind;

@@ -1,23 +1,20 @@
 //! `fates`: a script's walk is made, and what became of each of its frames is written, with the rows that
 //! were spoiled and what was confirmed after each break.
 ghost use Rattle.std.specs.Prelude.{◌≡◌, ◌≢◌, ◌≤◌, ℕ, List, [], length, Ok, None, map, string_bytes};
+ghost use Rattle.law_model.specs.Common.{leg_of, longest_input};
 ghost use Rattle.law_model.specs.declared.script_types.Script.{Script};
-ghost use Rattle.law_model.specs.session.Leg.{leg_of};
-ghost use Rattle.law_walk.specs.Report.{final_report};
+ghost use Rattle.law_walk.specs.Common.{final_report};
 ghost use Rattle.text_scripts.specs.script_read.Script.{script_of};
 ghost use Rattle.law_headline.specs.Headline.{IsRunReport};
-ghost use Rattle.law_model.specs.Limits.{longest_input};
-ghost use Rattle.command_parts.specs.Status.{HasRunAt};
-ghost use Rattle.command_parts.specs.Task.{reads, writes};
-ghost use Rattle.command_parts.specs.Ends.{Ends, lent};
+ghost use Rattle.command_parts.specs.Common.{HasRunAt, reads, writes, Ends, lent};
 ghost use Rattle.command_walk.specs.commands.Fates.{fates_words, fates_answer, EndsTrue, WalksTrue};
 ghost use Rattle.command_walk.specs.Ended.{HandsScript};
 
 use crate::command_of_words::WalkCommand;
-use crate::walk_end::{WalkEnd, cut, done, stopped};
 use crate::turns::fate_turns::see_script;
-use octet_io::{ByteSink, ByteSource, Failed};
+use crate::walk_end::{WalkEnd, cut, done, stopped};
 use fate_walks::walk_fates::write_fates;
+use octet_io::{ByteSink, ByteSource, Failed};
 use std::alloc::Global;
 
 /// The words `fates`.

@@ -1,14 +1,13 @@
 //! `frames`: a capture is read, and the line of a script is written of each frame in it.
 ghost use Rattle.std.specs.Prelude.{◌≡◌, None, map, string_bytes};
 ghost use Rattle.text_captures.specs.capture_file.Texts.{fault_text};
-ghost use Rattle.command_parts.specs.Task.{reads};
-ghost use Rattle.command_parts.specs.Ends.{Ends, lent};
+ghost use Rattle.command_parts.specs.Common.{reads, Ends, lent};
 ghost use Rattle.command_walk.specs.commands.Frames.{frames_words, frames_answer};
 
 use crate::command_of_words::WalkCommand;
 use crate::walk_end::{WalkEnd, cut, done, stopped};
-use octet_io::{ByteSink, ByteSource, Failed};
 use command_parts::{Fault, Refusal, Stop, read_input};
+use octet_io::{ByteSink, ByteSource, Failed};
 use std::alloc::Global;
 use text_captures::capture_file::{CaptureFault, fault_note, read_capture, write_frames};
 

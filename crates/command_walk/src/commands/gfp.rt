@@ -1,16 +1,14 @@
 //! `gfp`: a script's walk is made, and the GFP frames of its client are written as a capture, as the source sent them.
 ghost use Rattle.std.specs.Prelude.{◌≡◌, ◌≢◌, None, map, string_bytes};
-ghost use Rattle.command_parts.specs.Status.{HasRunAt};
-ghost use Rattle.command_parts.specs.Task.{reads};
-ghost use Rattle.command_parts.specs.Ends.{Ends, lent};
+ghost use Rattle.command_parts.specs.Common.{HasRunAt, reads, Ends, lent};
 ghost use Rattle.command_walk.specs.commands.Gfp.{gfp_words, gfp_answer};
 ghost use Rattle.command_walk.specs.Ended.{HandsScript};
 
 use crate::command_of_words::WalkCommand;
-use crate::walk_end::{WalkEnd, cut, done, stopped};
 use crate::turns::fate_turns::see_script;
-use octet_io::{ByteSink, ByteSource, Failed};
+use crate::walk_end::{WalkEnd, cut, done, stopped};
 use fate_walks::walk_gfp::write_gfp;
+use octet_io::{ByteSink, ByteSource, Failed};
 use std::alloc::Global;
 
 /// The words `gfp`.

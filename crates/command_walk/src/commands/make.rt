@@ -1,29 +1,23 @@
 //! `make`: a load from a number is run, and what came of it is written in three lines.
 ghost use Rattle.std.specs.Prelude.{◌≡◌, ◌≢◌, ◌≤◌, ◌*◌, length, take, sum, None, OnOk, OnErr, map, string_bytes};
-ghost use Rattle.law_model.specs.session.Leg.{leg_of};
-ghost use Rattle.octet_io.specs.Transfer.{Appends, AppendsPart};
-ghost use Rattle.law_model.specs.session.Valid.{IsValid, IsWithin};
-ghost use Rattle.law_model.specs.session.Counts.{begin, drain, bound};
+ghost use Rattle.law_model.specs.Common.{leg_of, Appends, AppendsPart, IsValid, IsWithin, begin, drain, bound};
+ghost use Rattle.law_model.specs.Common.{longest_frame};
 ghost use Rattle.text_scripts.specs.make_load.Load.{load};
-ghost use Rattle.law_walk.specs.Walk.{walk_plan};
-ghost use Rattle.law_walk.specs.Delivered.{delivered_of};
-ghost use Rattle.command_parts.specs.Status.{HasRunAt};
-ghost use Rattle.command_parts.specs.Task.{makes};
-ghost use Rattle.command_parts.specs.Ends.{Ends, lent, no_source};
+ghost use Rattle.law_walk.specs.Common.{walk_plan, delivered_of};
+ghost use Rattle.command_parts.specs.Common.{HasRunAt, makes, Ends, lent, no_source};
 ghost use Rattle.command_walk.specs.Ended.{IsWalkOf};
 ghost use Rattle.command_walk.specs.commands.Make.{octet_count, octet_sum, made_text, sum_text, lines_text, load_of, make_words};
 ghost use Rattle.command_walk.specs.commands.Make.{make_answer};
 ghost use Rattle.command_words.specs.Words.{number_in};
-ghost use Rattle.law_model.specs.Limits.{longest_frame};
 
 use crate::command_of_words::WalkCommand;
 use crate::walk_end::{WalkEnd, cut, done, stopped};
-use octet_io::{ByteSink, Failed, put_all};
 use command_parts::Stop;
+use command_words::number_within;
 use law_model::{FrameOut, Totals};
+use octet_io::{ByteSink, Failed, put_all};
 use std::alloc::Global;
 use text_report::{TextCursor, total_line};
-use command_words::number_within;
 use walk_engine::walk_core::Walk;
 
 /// The load of three numbers.

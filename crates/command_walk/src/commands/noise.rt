@@ -1,9 +1,7 @@
 //! `noise`: frames with an FCS are sent, bits of their stream are turned over, and the frames that get
 //! through are written.
 ghost use Rattle.std.specs.Prelude.{◌≡◌, ℕ, List, Ok, None, map, string_bytes};
-ghost use Rattle.command_parts.specs.Task.{reads, writes};
-ghost use Rattle.command_parts.specs.Ends.{Ends, lent};
-ghost use Rattle.command_parts.specs.Faults.{line_text};
+ghost use Rattle.command_parts.specs.Common.{reads, writes, Ends, lent, line_text};
 ghost use Rattle.gfp_noise.specs.declared.noise_link.noise_draft.Noise.{Noise};
 ghost use Rattle.gfp_noise.specs.noise_link.Noise.{noise_of};
 ghost use Rattle.gfp_noise.specs.noise_link.Text.{AreSingle, untouched_text};
@@ -12,9 +10,9 @@ ghost use Rattle.command_walk.specs.commands.Noise.{noise_words, noise_answer};
 
 use crate::command_of_words::WalkCommand;
 use crate::walk_end::{WalkEnd, cut, done, stopped};
-use octet_io::{ByteSink, ByteSource, Failed};
 use command_parts::{Fault, Refusal, Stop, line_fault, read_input};
 use gfp_noise::noise_link::{LineFault, NoiseFault, NoiseRun, noise_help, read_noise};
+use octet_io::{ByteSink, ByteSource, Failed};
 use std::alloc::Global;
 
 /// Room for what is said of how to write a line.

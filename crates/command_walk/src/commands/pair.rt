@@ -1,15 +1,14 @@
 //! `pair`: the sessions of two scripts are made, which carry each other's return packets, and the report of each is
 //! written: that of the way there, and on `notes` that of the way back.
 ghost use Rattle.std.specs.Prelude.{◌≡◌, None, map, string_bytes};
-ghost use Rattle.command_parts.specs.Task.{reads};
-ghost use Rattle.command_parts.specs.Ends.{Ends, lent};
+ghost use Rattle.command_parts.specs.Common.{reads, Ends, lent};
 ghost use Rattle.pair_walk.specs.Text.{pair_reply};
 ghost use Rattle.command_walk.specs.commands.Pair.{pair_words};
 
 use crate::command_of_words::WalkCommand;
 use crate::walk_end::{WalkEnd, cut, done, stopped};
-use octet_io::{ByteSink, ByteSource, Failed};
 use command_parts::Stop;
+use octet_io::{ByteSink, ByteSource, Failed};
 use pair_engine::Pair;
 use pair_script::{ScriptPair, read_pair};
 use pair_walk::write_pair;

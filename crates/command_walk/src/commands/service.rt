@@ -1,22 +1,20 @@
 //! `service`: a script's walk is made, and what it was worth to its client is written: the members that carried
 //! payload, the outages with what they cost, and throughput, capacity, queue and delay by stretches of ticks.
 ghost use Rattle.std.specs.Prelude.{◌≡◌, ◌≢◌, None, map, string_bytes};
-ghost use Rattle.law_model.specs.session.Valid.{IsWithin};
+ghost use Rattle.law_model.specs.Common.{IsWithin};
 ghost use Rattle.command_words.specs.Words.{number_in};
-ghost use Rattle.command_parts.specs.Status.{HasRunAt};
-ghost use Rattle.command_parts.specs.Task.{reads};
-ghost use Rattle.command_parts.specs.Ends.{Ends, lent};
+ghost use Rattle.command_parts.specs.Common.{HasRunAt, reads, Ends, lent};
 ghost use Rattle.command_walk.specs.commands.Service.{interval_of, service_words, service_answer};
 ghost use Rattle.command_walk.specs.Ended.{HandsScript};
 
 use crate::command_of_words::WalkCommand;
-use crate::walk_end::{WalkEnd, cut, done, stopped};
 use crate::turns::fate_turns::see_script;
-use octet_io::{ByteSink, ByteSource, Failed};
+use crate::walk_end::{WalkEnd, cut, done, stopped};
 use command_parts::Stop;
-use fate_service::{survey_walk, write_service};
-use std::alloc::{AllocError, Global};
 use command_words::number_within;
+use fate_service::{survey_walk, write_service};
+use octet_io::{ByteSink, ByteSource, Failed};
+use std::alloc::{AllocError, Global};
 
 /// The command by the number of ticks of a stretch.
 fn interval_of(word: &[u8]) -> Option<WalkCommand>

@@ -2,18 +2,17 @@
 ghost use Rattle.std.specs.Prelude.{◌≡◌, None, map, string_bytes};
 ghost use Rattle.text_scripts.specs.rate_load.RateTexts.{IsRateLoad};
 ghost use Rattle.command_words.specs.Words.{number_in};
-ghost use Rattle.command_parts.specs.Task.{makes};
-ghost use Rattle.command_parts.specs.Ends.{Ends, lent, no_source};
+ghost use Rattle.command_parts.specs.Common.{makes, Ends, lent, no_source};
 ghost use Rattle.command_walk.specs.commands.Stream.{ticks_of, rate_of, numbers_in, stream_words, stream_answer};
-ghost use Rattle.law_model.specs.Limits.{longest_frame};
+ghost use Rattle.law_model.specs.Common.{longest_frame};
 
 use crate::command_of_words::WalkCommand;
 use crate::walk_end::{WalkEnd, cut, done, stopped};
-use octet_io::{ByteSink, Failed};
 use command_parts::Stop;
-use law_model::LONGEST_FRAME;
-use text_scripts::rate_load::{RateLoad, is_too_long, write_lines};
 use command_words::number_within;
+use law_model::LONGEST_FRAME;
+use octet_io::{ByteSink, Failed};
+use text_scripts::rate_load::{RateLoad, is_too_long, write_lines};
 
 /// The ticks of two words, the first of them before the second.
 fn ticks_of(first: &[u8], end: &[u8]) -> Option<(u32, u32)>

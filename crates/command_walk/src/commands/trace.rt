@@ -1,15 +1,13 @@
 //! `trace`: a script's walk is made, and what comes of it is written, with a line for each decision step on `notes`.
 ghost use Rattle.std.specs.Prelude.{◌≡◌, ◌≢◌, None, map, string_bytes};
-ghost use Rattle.command_parts.specs.Status.{HasRunAt};
-ghost use Rattle.command_parts.specs.Task.{reads};
-ghost use Rattle.command_parts.specs.Ends.{Ends, lent};
+ghost use Rattle.command_parts.specs.Common.{HasRunAt, reads, Ends, lent};
 ghost use Rattle.command_walk.specs.commands.Trace.{trace_words, trace_answer};
 ghost use Rattle.command_walk.specs.Ended.{HandsScript};
 
 use crate::command_of_words::WalkCommand;
-use crate::walk_end::{WalkEnd, cut, done, stopped};
-use crate::turns::trace_turns::write_trace;
 use crate::turns::ready_walk::read_walk;
+use crate::turns::trace_turns::write_trace;
+use crate::walk_end::{WalkEnd, cut, done, stopped};
 use octet_io::{ByteSink, ByteSource, Failed};
 use std::alloc::Global;
 

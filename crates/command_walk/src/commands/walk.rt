@@ -1,23 +1,18 @@
 //! `walk`: a script's walk is made, and what comes of it is written.
 ghost use Rattle.std.specs.Prelude.{◌≡◌, ◌≢◌, None, OnOk, OnErr, map, string_bytes};
-ghost use Rattle.law_model.specs.session.Leg.{leg_of};
-ghost use Rattle.octet_io.specs.Transfer.{Appends, AppendsPart};
-ghost use Rattle.law_model.specs.session.Valid.{IsValid};
-ghost use Rattle.law_model.specs.session.Counts.{begin};
-ghost use Rattle.law_walk.specs.Walk.{walk_plan};
+ghost use Rattle.law_model.specs.Common.{leg_of, Appends, AppendsPart, IsValid, begin};
+ghost use Rattle.law_walk.specs.Common.{walk_plan};
 ghost use Rattle.law_headline.specs.Texts.{counts_in, walk_text};
-ghost use Rattle.command_parts.specs.Status.{HasRunAt};
-ghost use Rattle.command_parts.specs.Task.{reads};
-ghost use Rattle.command_parts.specs.Ends.{Ends, lent};
+ghost use Rattle.command_parts.specs.Common.{HasRunAt, reads, Ends, lent};
 ghost use Rattle.command_walk.specs.commands.Walk.{walk_words, walk_answer};
 ghost use Rattle.command_walk.specs.Ended.{HandsScript};
 
 use crate::command_of_words::WalkCommand;
-use crate::walk_end::{WalkEnd, cut, done, stopped};
-use crate::turns::trace_turns::write_trace;
 use crate::turns::ready_walk::{LinesAndTicks, read_walk};
-use octet_io::{ByteSink, ByteSource, Failed};
+use crate::turns::trace_turns::write_trace;
+use crate::walk_end::{WalkEnd, cut, done, stopped};
 use law_model::EventLine;
+use octet_io::{ByteSink, ByteSource, Failed};
 use std::alloc::Global;
 use walk_engine::walk_core::Walk;
 

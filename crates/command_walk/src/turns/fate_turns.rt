@@ -1,29 +1,23 @@
 //! A walk is made turn by turn, and after each turn it is seen which lines carry payload under the packet
 //! that was begun, whether the row that was taken is whole and why not, and what is confirmed after it.
 //! Behind the last turn stand the places of the frames.
-ghost use Rattle.std.specs.Prelude.{◌≡◌, ◌<◌, List, replicate, IfOk, IfErr, OnOk};
-ghost use Rattle.std.specs.List.{flat_map};
+ghost use Rattle.std.specs.Prelude.{◌≡◌, ◌<◌, List, replicate, IfOk, IfErr, OnOk, flat_map};
+ghost use Rattle.law_model.specs.Common.{leg_of, IsValid, IsEvent, begin, run, run_line, drain, bound};
 ghost use Rattle.law_model.specs.declared.script_types.Script.{Script};
 ghost use Rattle.law_model.specs.declared.walk_events.Event.{Event};
-ghost use Rattle.law_model.specs.session.Leg.{leg_of};
-ghost use Rattle.law_model.specs.session.Valid.{IsValid, IsEvent};
-ghost use Rattle.law_model.specs.session.Counts.{begin, run, run_line, drain, bound};
-ghost use Rattle.law_walk.specs.Walk.{walk_plan, IsWalked};
+ghost use Rattle.law_walk.specs.Common.{walk_plan, IsWalked};
 ghost use Rattle.law_headline.specs.Texts.{counts_in};
-ghost use Rattle.command_parts.specs.Task.{Answer};
-ghost use Rattle.command_parts.specs.Ends.{lent};
-ghost use Rattle.command_parts.specs.Scripts.{HasScript, script_answer};
-ghost use Rattle.command_parts.specs.Stops.{StopsReading};
+ghost use Rattle.command_parts.specs.Common.{Answer, lent, HasScript, script_answer, StopsReading};
 ghost use Rattle.command_walk.specs.Told.{events_of, IsTurn};
 ghost use Rattle.fate_walks.specs.walk_fates.Seen.{Sees};
 ghost use Rattle.fate_walks.specs.walk_fates.MadeWalk.{SeesWalk};
 
-use crate::turns::trace_turns::{Turn, silent_turn, turns_of};
 use crate::turns::ready_walk::{LinesAndTicks, read_walk};
-use octet_io::ByteSource;
+use crate::turns::trace_turns::{Turn, silent_turn, turns_of};
 use command_parts::Stop;
 use fate_walks::walk_fates::{SeenRows, SeenWalk, nothing_seen, place_frames, see_since};
 use law_model::EventLine;
+use octet_io::ByteSource;
 use std::alloc::{AllocError, Global};
 use walk_engine::walk_core::Walk;
 

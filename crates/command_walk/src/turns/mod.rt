@@ -1,5 +1,5 @@
 //! Turns of a walk, made one after another while somebody looks on.
 
-pub(super) mod trace_turns;
 pub(super) mod fate_turns;
 pub(super) mod ready_walk;
+pub(super) mod trace_turns;

@@ -1,16 +1,13 @@
 //! A script as a command reads it, and its walk before any event.
 ghost use Rattle.std.specs.Prelude.{IfOk, IfErr};
+ghost use Rattle.law_model.specs.Common.{IsValid};
 ghost use Rattle.law_model.specs.declared.script_types.Script.{Script};
-ghost use Rattle.law_model.specs.session.Valid.{IsValid};
-ghost use Rattle.command_parts.specs.Task.{Answer};
-ghost use Rattle.command_parts.specs.Ends.{lent};
-ghost use Rattle.command_parts.specs.Scripts.{HasScript, script_answer};
-ghost use Rattle.command_parts.specs.Stops.{StopsReading};
+ghost use Rattle.command_parts.specs.Common.{Answer, lent, HasScript, script_answer, StopsReading};
 ghost use Rattle.command_walk.specs.ReadyWalk.{IsBegun};
 
-use octet_io::ByteSource;
 use command_parts::{Stop, read_whole_script};
 use law_model::{EventLine, Script};
+use octet_io::ByteSource;
 use std::alloc::{AllocError, Global};
 use walk_engine::walk_core::Walk;
 

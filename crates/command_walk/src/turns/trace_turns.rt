@@ -1,30 +1,23 @@
 //! What the event lines of a script say is made, and what comes of it is written: the lines of delivered
 //! frames, of refused items and of totals, and after each decision step its line on `notes`.
-ghost use Rattle.std.specs.Prelude.{◌≡◌, ◌+◌, ◌-◌, ◌≤◌, ◌<◌, ℕ, List, ◌++◌, length, replicate, false, IfSome};
-ghost use Rattle.std.specs.Prelude.{IfNone, OnOk, OnErr};
-ghost use Rattle.std.specs.List.{flat_map};
-ghost use Rattle.octet_io.specs.Transfer.{Appends, AppendsPart};
+ghost use Rattle.std.specs.Prelude.{◌≡◌, ◌+◌, ◌-◌, ◌≤◌, ◌<◌, ℕ, List, ◌++◌, length, replicate, false, IfSome, IfNone};
+ghost use Rattle.std.specs.Prelude.{OnOk, OnErr, flat_map};
+ghost use Rattle.law_model.specs.Common.{Appends, AppendsPart, leg_of, IsValid, IsEvent, steps_in, Plan, Counts, begin};
+ghost use Rattle.law_model.specs.Common.{run, run_line, drain, bound, Start};
 ghost use Rattle.law_model.specs.declared.walk_events.Event.{Event};
-ghost use Rattle.law_model.specs.session.Leg.{leg_of};
-ghost use Rattle.law_model.specs.session.Valid.{IsValid, IsEvent};
-ghost use Rattle.law_model.specs.session.Scenario.{steps_in};
-ghost use Rattle.law_model.specs.session.Counts.{Plan, Counts, begin, run, run_line, drain, bound};
-ghost use Rattle.octet_io.specs.Start.{Start};
-ghost use Rattle.law_walk.specs.Walk.{walk_plan, IsWalked};
-ghost use Rattle.law_walk.specs.Landed.{refusals_of, totals_of};
+ghost use Rattle.law_walk.specs.Common.{walk_plan, IsWalked, refusals_of, totals_of, delivered_of};
 ghost use Rattle.text_report.specs.Report.{refused_texts, total_text};
 ghost use Rattle.text_got.specs.Told.{HasText};
-ghost use Rattle.law_walk.specs.Delivered.{delivered_of};
-ghost use Rattle.walk_engine.specs.walk_core.Moved.{GivesRows};
+ghost use Rattle.walk_engine.specs.Common.{GivesRows};
 ghost use Rattle.command_walk.specs.Ended.{StopsBoth};
 ghost use Rattle.law_headline.specs.Texts.{counts_in, walk_text};
 ghost use Rattle.command_walk.specs.commands.Trace.{decision_text, decisions_text, trace_text};
 ghost use Rattle.command_walk.specs.Told.{events_of, IsTurn, IsTold};
 
 use crate::turns::ready_walk::LinesAndTicks;
-use octet_io::{ByteSink, Failed, put_all, take_back};
 use fate_walks::walk_fates::is_step;
 use law_model::{Event, EventLine, FrameOut};
+use octet_io::{ByteSink, Failed, put_all, take_back};
 use text_captures::packet_trace::{TRACE_ROOM, trace_line};
 use text_got::{GotLines, MayFail};
 use walk_engine::walk_core::Walk;

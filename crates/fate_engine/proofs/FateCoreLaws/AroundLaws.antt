@@ -1,21 +1,19 @@
 -- Where a row lies among segments.
 use Rattle.std.proofs.Common.{◌≡◌, ℕ, zero, suc, ◌+◌, ◌-◌, ◌<◌, ◌≤◌, ◌&&◌, Bool, true, false, nat_le, nat_lt, List, []}
 use Rattle.std.proofs.Common.{◌∷◌, ◌++◌, length, filter, drop, slice_get, slice_index_or, Some, None, refl, sym, ◌∙◌}
-use Rattle.std.proofs.Common.{ap, ap₂, subst, arith, inl, inr}
-use Rattle.std.specs.Prelude.{if◌then◌else◌, max}
+use Rattle.std.proofs.Common.{ap, ap₂, subst, arith, inl, inr, if◌then◌else◌, max, lt-ltb, le-ltb, le-leb, ltb-true}
+use Rattle.std.proofs.Common.{ltb-false, leb-true, leb-false}
 use Rattle.std.specs.List.Sorted.{IsPartitionedBy, IsPartitionPoint}
-use Rattle.std.proofs.lemmas.Bool.{cases_Bool, cases_lt, lt-ltb, le-ltb, le-leb, lt-leb, ltb-true, ltb-false, leb-true}
-use Rattle.std.proofs.lemmas.Bool.{leb-false}
-use Rattle.law_model.specs.frames.Segment.{StreamRow, Segment, segments}
+use Rattle.std.proofs.lemmas.Bool.{cases_Bool, cases_lt, lt-leb}
+use Rattle.std.proofs.lemmas.List.{drop_all}
+use Rattle.law_model.specs.Common.{StreamRow, Segment, segments}
+use Rattle.fate_engine.specs.Common.{spoiled_from, spoiled_after, Span, row_segment, row_segments_with, row_segments}
+use Rattle.fate_engine.specs.Common.{has_row, mark_of_row, later_segments, SegmentList, is_told, IsAround, AreSegments}
 use Rattle.fate_engine.specs.declared.fate_law.RowSegment.{RowSegment}
-use Rattle.fate_engine.specs.fate_law.Fates.{spoiled_from, spoiled_after}
-use Rattle.fate_engine.specs.fate_law.Spans.{Span, row_segment, row_segments_with, row_segments, has_row, mark_of_row}
-use Rattle.fate_engine.specs.fate_law.Spans.{later_segments}
+use Rattle.fate_engine.specs.declared.fate_core.row_segments.Around.{Around}
 use Rattle.fate_engine.proofs.FateLaws.RowLaws.{with_row, next_segment, tail, segments-tail}
 use Rattle.fate_engine.proofs.FateLaws.SpanLaws.{span_tail, spans-tail}
-use Rattle.fate_engine.specs.declared.fate_core.row_segments.Around.{Around}
-use Rattle.fate_engine.specs.fate_core.Segments.{SegmentList, SegmentsStand, is_told, IsAround, AreInOrder, AreSegments}
-use Rattle.fate_engine.proofs.FateCoreLaws.ListLaws.{drop-end}
+use Rattle.fate_engine.specs.fate_core.Segments.{SegmentsStand, AreInOrder}
 use Rattle.fate_engine.proofs.FateCoreLaws.SegmentLaws.{later-kept, spoiled-same}
 
 -- ---- a look at segments
@@ -329,7 +327,7 @@ module _ (kept : SegmentList) (rows : List StreamRow) (stands : SegmentsStand ke
       ∙ look-more kept.ended (kept.last ∷ []) r (length kept.ended)
       (λ k d before within. let e = ends-low 0 kept.ended kept.last.first k d are.order within in
       omega (arith, e.1, from))
-      ∙ ap (λ l. look (l ++ kept.last ∷ []) r) (drop-end kept.ended (length kept.ended) (omega arith))
+      ∙ ap (λ l. look (l ++ kept.last ∷ []) r) (drop_all (length kept.ended) kept.ended (omega arith))
       ∙ rw (lt-ltb r kept.last.end below, le-leb kept.last.first r from) refl))
 
   pub in-ended : (i : ℕ) (segment : RowSegment) → kept.first ≤ r → Passed kept.ended r i →

@@ -1,26 +1,21 @@
 -- The fate of a frame by what is kept of frames, packets and segments.
 use Rattle.std.proofs.Common.{◌≡◌, ℕ, zero, suc, ◌+◌, ◌-◌, ◌<◌, ◌≤◌, ◌&&◌, ◌||◌, Bool, true, false, nat_le, nat_lt}
-use Rattle.std.proofs.Common.{List, [], ◌∷◌, ◌++◌, length, take, slice_get, Option, Some, None, refl, sym, ◌∙◌, ap, ap₂}
+use Rattle.std.proofs.Common.{List, [], ◌∷◌, length, take, slice_get, Option, Some, None, refl, sym, ◌∙◌, ap, ap₂}
 use Rattle.std.proofs.Common.{subst, arith, inl, inr, length-append}
 use Rattle.std.specs.List.{list_any}
 use Rattle.std.proofs.lemmas.Bool.{cases_lt, lt-ltb, le-ltb, le-leb, lt-leb}
-use Rattle.law_model.specs.session.Scenario.{Scenario}
-use Rattle.law_model.specs.source.Table.{Told}
-use Rattle.law_model.specs.source.Client.{size, Stream, place_of}
-use Rattle.law_model.specs.frames.Segment.{StreamRow, octets_of_rows}
-use Rattle.law_model.specs.rows.SessionStream.{row_of, rows_of}
-use Rattle.law_model.specs.frames.Loss.{Extent, extents, is_carried}
+use Rattle.std.proofs.lemmas.List.{take-append-le}
+use Rattle.law_model.specs.Common.{Scenario, Told, size, Stream, place_of, StreamRow, octets_of_rows, rows_of, Extent}
+use Rattle.law_model.specs.Common.{extents, is_carried}
+use Rattle.law_model.specs.rows.SessionStream.{row_of}
 use Rattle.law_loss.proofs.SessionStreamLaws.{rows-length}
+use Rattle.fate_engine.specs.Common.{place_at, row_at, spoiled_after, is_settled_by, fate_after, fate_of, row_segments}
+use Rattle.fate_engine.specs.Common.{mark_of_row, fate_by_rows, fate_at, fate_if, sides, ruler_of, IsAround}
+use Rattle.fate_engine.specs.Common.{begins_from, settles, fate_by_mark, fate_around}
 use Rattle.fate_engine.specs.declared.fate_law.Fate.TheVariants.{Waits}
-use Rattle.fate_engine.specs.fate_law.Fates.{place_at, row_at, spoiled_after, is_settled_by, fate_after, fate_of}
-use Rattle.fate_engine.specs.fate_law.Spans.{row_segments, mark_of_row, fate_by_rows}
-use Rattle.fate_engine.specs.fate_law.SessionFates.{fate_at, fate_if}
-use Rattle.fate_engine.specs.fate_law.Ruler.{sides, ruler_of}
+use Rattle.fate_engine.specs.declared.fate_core.row_segments.Around.{Around}
 use Rattle.fate_engine.proofs.FateLaws.RowLaws.{row-of_place}
 use Rattle.fate_engine.proofs.FateLaws.SpanLaws.{fate-rows}
-use Rattle.fate_engine.specs.declared.fate_core.row_segments.Around.{Around}
-use Rattle.fate_engine.specs.fate_core.Segments.{IsAround}
-use Rattle.fate_engine.specs.fate_core.Around.{begins_from, settles, fate_by_mark, fate_around}
 use Rattle.fate_engine.specs.fate_core.Sides.{AreInOrder}
 use Rattle.fate_engine.proofs.FateCoreLaws.PieceLaws.{order-of}
 
@@ -143,12 +138,7 @@ take-all : {X : Type 0} (xs : List X) → take (length xs) xs ≡ xs
 take-all [] = refl
 take-all (x ∷ xs) = ap (λ l. x ∷ l) (take-all xs)
 
-take-front : {X : Type 0} (xs ys : List X) (k : ℕ) → k ≤ length xs → take k (xs ++ ys) ≡ take k xs
-take-front xs ys zero low = refl
-take-front [] ys (suc k) low = absurd (omega arith)
-take-front (x ∷ xs) ys (suc k) low = ap (λ l. x ∷ l) (take-front xs ys k (omega arith))
-
-place-grows : (rows : List StreamRow) (j k : ℕ) → j ≤ k → place_at rows j ≤ place_at rows k
+pub place-grows : (rows : List StreamRow) (j k : ℕ) → j ≤ k → place_at rows j ≤ place_at rows k
 place-grows rows zero k low = omega arith
 place-grows [] (suc j) zero low = absurd (omega arith)
 place-grows [] (suc j) (suc k) low = omega arith
@@ -177,7 +167,7 @@ module _ (scenario : Scenario) (cells : List (Option Told)) where
             (let e = rows-count (suc n) in omega (arith, e, all)) in
             ap (λ k. take k (rows_of scenario cells (suc n))) same ∙ take-all (rows_of scenario cells (suc n))
             ∙ ap (rows_of scenario cells) (let e : suc n ≡ k = omega arith in e))
-        | inr front ↦ take-front (rows_of scenario cells n) (row_of scenario cells n ∷ []) k
+        | inr front ↦ take-append-le k (rows_of scenario cells n) (row_of scenario cells n ∷ [])
             (let e = rows-count n in omega (arith, e, front)) ∙ take-rows n k front
       ]
 

@@ -1,18 +1,13 @@
 -- Which places are those of pieces, by the sides of frames.
 use Rattle.std.proofs.Common.{◌≡◌, ℕ, zero, suc, ◌+◌, ◌-◌, ◌%◌, ◌<◌, ◌≤◌, ◌==◌, ◌&&◌, ◌||◌, Bool, true, false, nat_lt}
 use Rattle.std.proofs.Common.{List, [], ◌∷◌, length, slice_get, slice_index_or, Some, refl, sym, ◌∙◌, ap, ap₂, subst}
-use Rattle.std.proofs.Common.{arith, inl, inr}
-use Rattle.std.specs.Prelude.{if◌then◌else◌}
+use Rattle.std.proofs.Common.{arith, inl, inr, if◌then◌else◌, lt-ltb, le-ltb, le-leb, eq-eqb, ne_eqb, zero-add}
 use Rattle.std.specs.List.{list_any}
-use Rattle.std.proofs.lemmas.Bool.{cases_lt, lt-ltb, le-ltb, le-leb, lt-leb, eq-eqb, ne_eqb}
+use Rattle.std.proofs.lemmas.Bool.{cases_lt, lt-leb}
 use Rattle.std.proofs.lemmas.List.Sums.{sum_by-append}
-use Rattle.std.proofs.Common.{zero-add}
-use Rattle.law_model.specs.frames.Piece.{Piece, idle, client, size_of}
-use Rattle.law_model.specs.source.Client.{size, Stream}
-use Rattle.law_model.specs.frames.Loss.{extents}
-use Rattle.fate_engine.specs.fate_law.Marks.{places, is_piece_at}
-use Rattle.fate_engine.specs.fate_law.Ruler.{sides, ruler_of}
-use Rattle.fate_engine.specs.fate_core.Sides.{AreInOrder, is_fourth}
+use Rattle.law_model.specs.Common.{Piece, idle, client, size_of, size, Stream, extents}
+use Rattle.fate_engine.specs.Common.{places, is_piece_at, sides, ruler_of, is_fourth}
+use Rattle.fate_engine.specs.fate_core.Sides.{AreInOrder}
 
 -- ---- by sides
 unfoldable pub piece_in : ℕ → List (ℕ × ℕ) → ℕ → ℕ → Bool

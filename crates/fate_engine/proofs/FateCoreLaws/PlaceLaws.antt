@@ -1,37 +1,32 @@
 -- The places at which rows begin, by the packets that govern them.
 use Rattle.std.proofs.Common.{◌≡◌, ℕ, zero, suc, ◌+◌, ◌-◌, ◌*◌, ◌/◌, ◌^◌, ◌<◌, ◌≤◌, ◌⊎◌, nat_le, nat_lt, true, false}
 use Rattle.std.proofs.Common.{List, [], ◌∷◌, ◌++◌, length, map, take, All, Option, Some, slice_get, slice_index_or}
-use Rattle.std.proofs.Common.{refl, sym, ◌∙◌, ap, ap₂, subst, arith, inl, inr, length-append}
-use Rattle.std.specs.Prelude.{sum_by}
+use Rattle.std.proofs.Common.{refl, sym, ◌∙◌, ap, ap₂, subst, arith, inl, inr, length-append, sum_by, mul-le-mul_left}
+use Rattle.std.proofs.Common.{mul-le-mul_right, leb-true, leb-false, le-leb, lt-ltb, le-ltb}
 use Rattle.std.specs.List.Sorted.{IsPartitionedBy, IsPartitionPoint}
-use Rattle.std.proofs.Math.Nat.{mul-le-mul_left, mul-le-mul_right}
-use Rattle.std.proofs.Common.{zero-add}
-use Rattle.std.proofs.lemmas.List.Sums.{sum_by-append}
+use Rattle.std.proofs.lemmas.List.Sums.{sum_by-cons}
 use Rattle.std.proofs.lemmas.List.{length-map, map-append}
 use Rattle.std.proofs.lemmas.List.Elements.{All-nil, All-cons, All-append}
-use Rattle.std.proofs.lemmas.Bool.{cases_lt, leb-true, leb-false, le-leb, lt-ltb, le-ltb}
-use Rattle.law_model.specs.session.Scenario.{Scenario}
-use Rattle.law_model.specs.source.Table.{Told}
-use Rattle.law_model.specs.source.Client.{width, place_of}
+use Rattle.std.proofs.lemmas.Bool.{cases_lt}
+use Rattle.law_model.proofs.ListLaws.{at-index, slice_get-append_seam}
+use Rattle.law_model.specs.Common.{Scenario, Told, width, place_of}
+use Rattle.fate_engine.specs.Common.{PacketList, ArePackets, packets_in, start_by, IsPacketList}
 use Rattle.fate_engine.specs.declared.fate_core.packet_rows.Packet.{Packet}
-use Rattle.fate_engine.specs.fate_core.Packets.{PacketList, ArePackets, packets_in, start_by, IsPacketList}
 
 -- ---- sums of lengths
-cons-sum : (x : List ℕ) (xs : List (List ℕ)) → sum_by length (x ∷ xs) ≡ length x + sum_by length xs
-cons-sum x xs = sum_by-append length (x ∷ []) xs ∙ ap (λ n. n + sum_by length xs) (zero-add (length x))
-
 pub sum-next : (xs : List (List ℕ)) (k : ℕ) → k < length xs →
     sum_by length (take (suc k) xs) ≡ sum_by length (take k xs) + length (slice_index_or xs k [])
 sum-next [] k low = absurd (omega arith)
 sum-next (x ∷ xs) zero low =
-    let one : sum_by length (take (suc zero) (x ∷ xs)) ≡ length x + 0 = cons-sum x [] in
+    let one : sum_by length (take (suc zero) (x ∷ xs)) ≡ length x + 0 = sum_by-cons length x [] in
     let none : sum_by length (take zero (x ∷ xs)) ≡ 0 = refl in
     omega (arith, one, none)
 sum-next (x ∷ xs) (suc k) low =
     let rest = sum-next xs k (omega arith) in
     let more : sum_by length (take (suc (suc k)) (x ∷ xs)) ≡ length x + sum_by length (take (suc k) xs) =
-    cons-sum x (take (suc k) xs) in
-    let less : sum_by length (take (suc k) (x ∷ xs)) ≡ length x + sum_by length (take k xs) = cons-sum x (take k xs) in
+    sum_by-cons length x (take (suc k) xs) in
+    let less : sum_by length (take (suc k) (x ∷ xs)) ≡ length x + sum_by length (take k xs) =
+        sum_by-cons length x (take k xs) in
     let own : slice_index_or (x ∷ xs) (suc k) [] ≡ slice_index_or xs k [] = refl in
     omega (arith, rest, more, less, ap length own)
 
@@ -41,7 +36,8 @@ sum-few [] (suc k) few = omega arith
 sum-few (x ∷ xs) (suc k) few =
     let rest = sum-few xs k (λ i d inside. few (suc i) d (omega arith)) in
     let own = few zero x (omega arith) in
-    let all : sum_by length (take (suc k) (x ∷ xs)) ≡ length x + sum_by length (take k xs) = cons-sum x (take k xs) in
+    let all : sum_by length (take (suc k) (x ∷ xs)) ≡ length x + sum_by length (take k xs) =
+        sum_by-cons length x (take k xs) in
     omega (arith, rest, own, all)
 
 -- ---- where the rows of packets begin
@@ -145,12 +141,6 @@ module _ (scenario : Scenario) (cells : List (Option Told)) where
         omega (arith, row, first)
 
 -- ---- over the fields
-pub get-at : {X : Type 0} (xs : List X) (k : ℕ) (x : X) → k < length xs → x ≡ slice_index_or xs k x →
-    slice_get xs k ≡ Some x
-get-at [] k x low is = absurd (omega arith)
-get-at (own ∷ xs) zero x low is = ap Some (sym is)
-get-at (own ∷ xs) (suc k) x low is = get-at xs k x (omega arith) is
-
 pub lines-at : (packets : List Packet) (k : ℕ) (packet : Packet) → slice_get packets k ≡ Some packet →
     slice_index_or (map (λ (p : Packet). p.lines.items) packets) k [] ≡ packet.lines.items
 lines-at [] zero packet there = absurd cc
@@ -311,7 +301,7 @@ pub found : (size : ℕ) (list : List Packet) (end : ℕ) → IsPacketList size 
 found size list end is packets view k packet w place within is-at wide from below =
     let few = ap (λ (p : PacketList). length p.active) view in
     let there : slice_get list k ≡ Some packet =
-    get-at list k packet (let all = actives-length size list end is in omega (arith, all, few, within)) is-at in
+    at-index list k packet (let all = actives-length size list end is in omega (arith, all, few, within)) is-at in
     let start = is.starts k packet there in
     let own : w ≡ size * length packet.lines.items = wide
     ∙ ap (λ (p : PacketList). p.size * length packet.lines.items) (sym view) in
@@ -358,10 +348,6 @@ start-front size list packet k low =
     (take-front (packets_in size list).active packet.lines.items k
     (let e = length-map list (λ (p : Packet). p.lines.items) in omega (arith, e, low)))
 
-last-get : (xs : List Packet) (x : Packet) → slice_get (xs ++ x ∷ []) (length xs) ≡ Some x
-last-get [] x = refl
-last-get (own ∷ xs) x = last-get xs x
-
 pub pushed : (size : ℕ) (list : List Packet) (end : ℕ) (packet : Packet) (next : ℕ) → IsPacketList size list end →
     length list < 65536 → length packet.lines.items ≤ 128 →
     packet.start ≡ end → next ≡ end + size * length packet.lines.items * 16 →
@@ -396,6 +382,6 @@ pushed size list end packet next is few own start ends = record {
         let front = start-front size list packet (length list) (omega arith) in
         let own-lines : size * length (slice_index_or all (length list) []) ≡ size * length packet.lines.items =
         ap (λ (l : List ℕ). size * length l)
-        (lines-at (list ++ packet ∷ []) (length list) packet (last-get list packet)) in
+        (lines-at (list ++ packet ∷ []) (length list) packet (slice_get-append_seam list packet [])) in
         let before = is.ends in
         omega (arith, ends, step, front, own-lines, before) ∙ ap (start_by size all) (sym count)

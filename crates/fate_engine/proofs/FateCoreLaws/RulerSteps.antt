@@ -5,34 +5,13 @@ use Rattle.std.proofs.Common.{◌++◌, length, map, take, drop, slice_get, slic
 use Rattle.std.proofs.Common.{◌∙◌, ap, ap₂, subst, arith}
 use Rattle.std.specs.List.Sorted.{IsPartitionedBy, IsPartitionPoint}
 use Rattle.std.proofs.lemmas.Bool.{le-leb, lt-leb, leb-true, leb-false, lt-ltb, ltb-true}
-use Rattle.std.proofs.lemmas.List.{length-map, map-append}
+use Rattle.std.proofs.lemmas.List.{length-map, map-append, take_more_set, length-set, get_or-map}
 use Rattle.std.proofs.lemmas.List.Elements.{All-cons}
-use Rattle.fate_engine.specs.fate_law.Ruler.{Ruler, ruled}
+use Rattle.fate_engine.specs.Common.{Ruler, ruled, side_of, ruler_in, with_begun, IsBegun, IsRuler}
 use Rattle.fate_engine.specs.declared.fate_core.frame_ruler.Piece.{Piece}
-use Rattle.fate_engine.specs.fate_core.Sides.{side_of, ruler_in, with_begun, AreInOrder, IsBegun, IsRuler}
+use Rattle.fate_engine.specs.fate_core.Sides.{AreInOrder}
 
 -- ---- lists
-take-set : {X : Type 0} (xs : List X) (i : ℕ) (x : X) → i < length xs →
-    take (i + 1) (slice_set xs i x) ≡ take i xs ++ x ∷ []
-take-set [] i x low = absurd (omega arith)
-take-set (own ∷ xs) zero x low = refl
-take-set (own ∷ xs) (suc i) x low =
-    ap (λ n. take n (own ∷ slice_set xs i x)) (let e : suc i + 1 ≡ suc (i + 1) = omega arith in e)
-    ∙ ap (λ l. own ∷ l) (take-set xs i x (omega arith))
-
-drop-set : {X : Type 0} (xs : List X) (i : ℕ) (x : X) → i < length xs →
-    drop (i + 1) (slice_set xs i x) ≡ drop (i + 1) xs
-drop-set [] i x low = absurd (omega arith)
-drop-set (own ∷ xs) zero x low = refl
-drop-set (own ∷ xs) (suc i) x low =
-    ap (λ n. drop n (own ∷ slice_set xs i x)) (let e : suc i + 1 ≡ suc (i + 1) = omega arith in e)
-    ∙ drop-set xs i x (omega arith)
-    ∙ ap (λ n. drop n (own ∷ xs)) (let e : suc (i + 1) ≡ suc i + 1 = omega arith in e)
-
-set-length : {X : Type 0} (xs : List X) (i : ℕ) (x : X) → length (slice_set xs i x) ≡ length xs
-set-length [] i x = refl
-set-length (own ∷ xs) zero x = refl
-set-length (own ∷ xs) (suc i) x = ap suc (set-length xs i x)
 
 set-short : (xs : List Piece) (i : ℕ) (x : Piece) → x.length < 2 ^ 16 → All (λ (p : Piece). p.length < 2 ^ 16) xs →
     All (λ (p : Piece). p.length < 2 ^ 16) (slice_set xs i x)
@@ -75,10 +54,11 @@ pub begins : (frames : List Piece) (begun end : ℕ) (piece : Piece) → IsRuler
     end < 2 ^ 63 → piece.from ≡ end → piece.length < 2 ^ 16 →
     IsRuler (slice_set frames begun piece) (begun + 1) (end + (8 + piece.length))
 begins frames begun end piece is low below from short = record {
-  within = (let same = set-length frames begun piece in omega (arith, same, low));
+  within = (let same = length-set frames begun piece in omega (arith, same, low));
   short = set-short frames begun piece short is.short;
   order = subst (λ l. AreInOrder 0 l (end + (8 + piece.length)))
-      (sym (ap (map side_of) (take-set frames begun piece low) ∙ map-append side_of (take begun frames) (piece ∷ [])
+      (sym
+          (ap (map side_of) (take_more_set frames begun piece low) ∙ map-append side_of (take begun frames) (piece ∷ [])
       ∙ ap (λ n. map side_of (take begun frames) ++ (n, n + (8 + piece.length)) ∷ []) from))
       (order-push 0 (map side_of (take begun frames)) end (end + (8 + piece.length)) is.order (omega arith));
   low = omega (arith, below, short);
@@ -100,13 +80,6 @@ fewer ruler some = by ruler.end ruler.sent ruler.waiting some
         length (with_begun (record { end = end; sent = sent; waiting = waiting })).waiting < length waiting
     by end sent [] some = absurd (omega (arith, some))
     by end sent (n ∷ waiting) some = omega arith
-
-pub none-waits : (frames : List Piece) (begun end : ℕ) → length frames ≤ begun →
-    (ruler_in frames begun end).waiting ≡ []
-none-waits [] zero end high = refl
-none-waits [] (suc begun) end high = refl
-none-waits (frame ∷ frames) zero end high = absurd (omega arith)
-none-waits (frame ∷ frames) (suc begun) end high = none-waits frames begun end (omega (arith, high))
 
 -- ---- the place is reached
 pub ruled-there : (place : ℕ) (ruler : Ruler) → place ≤ ruler.end →
@@ -188,25 +161,13 @@ sides-rise from (side ∷ list) end (suc i) (suc j) d are before within =
     let rest = sides-rise side.1 list end i j d are.2 (omega arith) (omega arith) in let a = are.0 in let b = are.1 in
     (omega (arith, rest.0, a, b), rest.1)
 
-map-at : (frames : List Piece) (k : ℕ) (d : Piece) → k < length frames →
-    slice_index_or (map side_of frames) k (side_of d) ≡ side_of (slice_index_or frames k d)
-map-at [] k d low = absurd (omega arith)
-map-at (own ∷ frames) zero d low = refl
-map-at (own ∷ frames) (suc k) d low = map-at frames k d (omega arith)
-
-map-any : (frames : List Piece) (k : ℕ) (d : Piece) (e : ℕ × ℕ) → k < length frames →
-    slice_index_or (map side_of frames) k e ≡ side_of (slice_index_or frames k d)
-map-any [] k d e low = absurd (omega arith)
-map-any (own ∷ frames) zero d e low = refl
-map-any (own ∷ frames) (suc k) d e low = map-any frames k d e (omega arith)
-
 pub parted : (frames : List Piece) (end place : ℕ) → AreInOrder 0 (map side_of frames) end →
     IsPartitionedBy (λ (p : Piece). nat_le p.from place) frames
 parted frames end place are i j d before within passed =
     let count = length-map frames side_of in
     let rise = (sides-rise 0 (map side_of frames) end i j (side_of d) are before (omega (arith, within, count))).1 in
-    let one = ap (λ (s : ℕ × ℕ). s.0) (map-at frames i d (omega (arith, before, within))) in
-    let other = ap (λ (s : ℕ × ℕ). s.0) (map-at frames j d within) in
+    let one = ap (λ (s : ℕ × ℕ). s.0) (get_or-map side_of frames i d (side_of d) (omega (arith, before, within))) in
+    let other = ap (λ (s : ℕ × ℕ). s.0) (get_or-map side_of frames j d (side_of d) within) in
     let low = leb-true (slice_index_or frames j d).from place passed in
     le-leb (slice_index_or frames i d).from place (omega (arith, rise, one, other, low))
 
@@ -220,7 +181,7 @@ above frames place i point k e from within =
     by [] none low = absurd (omega (arith, ap length none, low))
     by (x ∷ xs) some low =
         let high = leb-false (slice_index_or frames k x).from place (point.1 k x from low) in
-        let same = ap (λ (s : ℕ × ℕ). s.0) (map-any frames k x e low) in
+        let same = ap (λ (s : ℕ × ℕ). s.0) (get_or-map side_of frames k x e low) in
         omega (arith, high, same)
 
 map-get : (frames : List Piece) (k : ℕ) (side : ℕ × ℕ) → slice_get (map side_of frames) k ≡ Some side →
@@ -250,8 +211,8 @@ pub parted-before : (frames : List Piece) (end place : ℕ) → AreInOrder 0 (ma
 parted-before frames end place are i j d before within passed =
     let count = length-map frames side_of in
     let rise = (sides-rise 0 (map side_of frames) end i j (side_of d) are before (omega (arith, within, count))).1 in
-    let one = ap (λ (s : ℕ × ℕ). s.0) (map-at frames i d (omega (arith, before, within))) in
-    let other = ap (λ (s : ℕ × ℕ). s.0) (map-at frames j d within) in
+    let one = ap (λ (s : ℕ × ℕ). s.0) (get_or-map side_of frames i d (side_of d) (omega (arith, before, within))) in
+    let other = ap (λ (s : ℕ × ℕ). s.0) (get_or-map side_of frames j d (side_of d) within) in
     let low = ltb-true (slice_index_or frames j d).from place passed in
     lt-ltb (slice_index_or frames i d).from place (omega (arith, rise, one, other, low))
 

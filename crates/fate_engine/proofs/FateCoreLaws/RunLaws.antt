@@ -1,13 +1,13 @@
 -- One more row behind runs of rows that aren't whole.
-use Rattle.std.proofs.Common.{◌≡◌, ℕ, zero, suc, ◌+◌, ◌&&◌, ◌==◌, Bool, true, false, List, [], ◌∷◌, ◌++◌, length}
+use Rattle.std.proofs.Common.{◌≡◌, ℕ, zero, suc, ◌+◌, ◌&&◌, ◌==◌, true, false, List, [], ◌∷◌, ◌++◌, length}
 use Rattle.std.proofs.Common.{slice_index_or, slice_set, Option, Some, None, refl, sym, ◌∙◌, ap, ap₂, arith, inl, inr}
 use Rattle.std.proofs.Common.{length-append}
 use Rattle.std.proofs.lemmas.Bool.{cases_Bool, eqb-true}
+use Rattle.law_loss.proofs.KeptLaws.{and_right}
+use Rattle.fate_engine.specs.Common.{same_cause, spoiled_then, spoiled_runs, RunList, AreRuns, with_row}
 use Rattle.fate_engine.specs.declared.fate_law.Cause.{Cause}
-use Rattle.fate_engine.specs.declared.fate_law.Cause.TheVariants.{Packet, PacketOf, Container}
+use Rattle.fate_engine.specs.declared.fate_law.Cause.TheVariants.{PacketOf, Container, Packet}
 use Rattle.fate_engine.specs.declared.fate_law.SpoiledRun.{SpoiledRun}
-use Rattle.fate_engine.specs.fate_law.Spoiled.{same_cause, spoiled_then, spoiled_runs}
-use Rattle.fate_engine.specs.fate_core.Runs.{RunList, AreRuns, with_row}
 
 -- a row that is whole adds nothing
 abbrev pub with_row_of : ℕ → Option Cause → List SpoiledRun → List SpoiledRun
@@ -16,10 +16,6 @@ with_row_of row (Some cause) runs = with_row row cause runs
 
 eqb-sym : (a b : ℕ) → (a == b) ≡ (b == a)
 eqb-sym a b = grind arith
-
-pub and_second : (a b : Bool) → (a && b) ≡ true → b ≡ true
-and_second true b is = is
-and_second false b is = absurd (let e : false ≡ true = is in cc)
 
 same-is : (a b : Cause) → same_cause a b ≡ true → a ≡ b
 same-is Packet Packet is = refl
@@ -45,7 +41,7 @@ module _ (t n : ℕ) (first cause : Cause) where
   then-none-yet =
       elim (cases_Bool (n == suc t && same_cause first cause)) [
         | inl meets ↦ (
-            let same : first ≡ cause = same-is first cause (and_second (n == suc t) (same_cause first cause) meets) in
+            let same : first ≡ cause = same-is first cause (and_right (n == suc t) (same_cause first cause) meets) in
             let other : (suc t == n && same_cause first cause) ≡ true =
             ap (λ b. b && same_cause first cause) (eqb-sym (suc t) n) ∙ meets in
             rw (meets, other) (ap (λ c. record { first = t; end = suc n; cause = c } ∷ []) (sym same)))

@@ -1,23 +1,20 @@
 -- The segments of rows and one more.
 use Rattle.std.proofs.Common.{◌≡◌, ℕ, suc, ◌+◌, ◌-◌, ◌<◌, ◌≤◌, Bool, true, false, nat_le, nat_lt, List, [], ◌∷◌, ◌++◌}
 use Rattle.std.proofs.Common.{length, filter, drop, Option, None, option_map, refl, sym, ◌∙◌, ap, ap₂, subst, arith}
-use Rattle.std.proofs.Common.{inl, inr, length-append}
-use Rattle.std.specs.Prelude.{if◌then◌else◌}
-use Rattle.std.proofs.lemmas.Bool.{cases_Bool, cases_lt, lt-ltb, le-ltb, le-leb, lt-leb}
-use Rattle.std.proofs.lemmas.List.{append-nil}
+use Rattle.std.proofs.Common.{inl, inr, length-append, if◌then◌else◌, lt-ltb, le-ltb, le-leb, append-nil}
+use Rattle.std.proofs.lemmas.Bool.{cases_Bool, cases_lt, lt-leb}
 use Rattle.std.proofs.lemmas.List.Elements.{filter-append}
-use Rattle.law_model.specs.frames.Hunt.{hunt_within}
-use Rattle.law_model.specs.frames.Segment.{StreamRow, Segment, Segments, row_by, segments_on, segments_of, segments}
-use Rattle.law_model.specs.frames.Segment.{octets_of_rows}
-use Rattle.law_model.specs.frames.Loss.{confirmed_in}
+use Rattle.law_model.specs.Common.{hunt_within, StreamRow, Segment, Segments, segments_on, segments_of, segments}
+use Rattle.law_model.specs.Common.{octets_of_rows, confirmed_in}
+use Rattle.law_model.specs.frames.Segment.{row_by}
 use Rattle.law_loss.proofs.CutLaws.{Stands-all}
 use Rattle.law_loss.proofs.SegmentLaws.{segments_of-push}
+use Rattle.fate_engine.specs.Common.{spoiled_from, Span, Spans, span_by, spans_on, no_spans, row_segment}
+use Rattle.fate_engine.specs.Common.{row_segments_with, row_segments, has_row, later_segments, SegmentList, Tells}
+use Rattle.fate_engine.specs.Common.{ended_segments, last_segment, is_told, gone_on, broken_off, AreSegments}
 use Rattle.fate_engine.specs.declared.fate_law.RowSegment.{RowSegment}
-use Rattle.fate_engine.specs.fate_law.Fates.{spoiled_from}
-use Rattle.fate_engine.specs.fate_law.Spans.{Span, Spans, span_by, spans_on, no_spans, row_segment, row_segments_with, row_segments}
-use Rattle.fate_engine.specs.fate_law.Spans.{has_row, later_segments}
-use Rattle.fate_engine.specs.fate_core.Segments.{SegmentList, Tells, ended_segments, last_segment, SegmentsStand, is_told, gone_on}
-use Rattle.fate_engine.specs.fate_core.Segments.{broken_off, AreInOrder, AreSegments}
+use Rattle.fate_engine.specs.fate_core.Segments.{SegmentsStand}
+use Rattle.fate_engine.specs.fate_core.Segments.{AreInOrder}
 
 -- ---- spans beside segments
 spans-push : (come : Spans) (rows : List StreamRow) (row : StreamRow) →
@@ -147,16 +144,6 @@ module _ (rows : List StreamRow) (row : StreamRow) where
       omega (arith, ends, none)
 
 -- ---- the first row that isn't whole
-pub spoiled-within : (t : ℕ) (rows : List StreamRow) → (t ≤ spoiled_from t rows) ×
-    (spoiled_from t rows ≤ t + length rows)
-unfolding spoiled_from
-spoiled-within t [] = (omega arith, omega arith)
-spoiled-within t (row ∷ rows) =
-    let rest = spoiled-within (suc t) rows in
-    elim (cases_Bool row.whole) [
-      | inl whole ↦ rw whole (omega (arith, rest.0), omega (arith, rest.1))
-      | inr cut ↦ rw cut (omega arith, omega arith)
-    ]
 
 spoiled-push : (t : ℕ) (rows : List StreamRow) (row : StreamRow) → spoiled_from t rows < t + length rows →
     spoiled_from t (rows ++ row ∷ []) ≡ spoiled_from t rows

@@ -3,17 +3,13 @@ use Rattle.std.proofs.Common.{◌≡◌, ℕ, zero, suc, ◌+◌, ◌≤◌, ◌
 use Rattle.std.proofs.Common.{slice_get, refl, sym, ◌∙◌, ap, ap₂, arith, inl, inr}
 use Rattle.std.specs.List.{list_all}
 use Rattle.std.proofs.lemmas.Bool.{cases_Bool, lt-ltb}
-use Rattle.law_model.specs.frames.Hunt.{hunt_within}
-use Rattle.law_model.specs.frames.Piece.{Piece}
-use Rattle.law_model.specs.frames.Segment.{StreamRow, Segment}
-use Rattle.law_model.specs.frames.Loss.{confirmed_in}
+use Rattle.std.proofs.lemmas.List.{drop_all}
+use Rattle.law_model.specs.Common.{hunt_within, Piece, StreamRow, Segment, confirmed_in}
+use Rattle.fate_engine.specs.Common.{is_true_mark, has_true_mark, are_true_marks, Span, row_segment, row_segments_with}
+use Rattle.fate_engine.specs.Common.{has_row, later_segments, is_true_of}
 use Rattle.fate_engine.specs.declared.fate_law.RowSegment.{RowSegment}
-use Rattle.fate_engine.specs.fate_law.Marks.{is_true_mark, has_true_mark, are_true_marks}
-use Rattle.fate_engine.specs.fate_law.Spans.{Span, row_segment, row_segments_with, has_row, later_segments}
 use Rattle.fate_engine.proofs.FateLaws.RowLaws.{with_row, next_segment, tail, segments-tail}
 use Rattle.fate_engine.proofs.FateLaws.SpanLaws.{span_tail}
-use Rattle.fate_engine.specs.fate_core.Around.{is_true_of}
-use Rattle.fate_engine.proofs.FateCoreLaws.ListLaws.{drop-end}
 use Rattle.fate_engine.proofs.FateCoreLaws.AroundLaws.{from_here, from-start, start, no_span}
 
 module _ (pieces : List Piece) where
@@ -80,7 +76,7 @@ module _ (pieces : List Piece) where
   pub test-at : (list : List RowSegment) (i : ℕ) →
       list_all test (drop i list) ≡ (is_true_of pieces (slice_get list i) && list_all test (drop (i + 1) list))
   test-at [] zero = refl
-  test-at [] (suc i) = sym (ap (list_all test) (drop-end [] (suc i + 1) (omega arith)))
+  test-at [] (suc i) = sym (ap (list_all test) (drop_all (suc i + 1) [] (omega arith)))
   test-at (segment ∷ list) zero = refl
   test-at (segment ∷ list) (suc i) = test-at list i
       ∙ ap (λ n. is_true_of pieces (slice_get list i) && list_all test (drop n (segment ∷ list)))

@@ -1,20 +1,20 @@
 -- The first window that ends above a container says whether those from it on are whole.
 use Rattle.std.proofs.Common.{◌≡◌, ℕ, zero, suc, ◌+◌, ◌-◌, ◌<◌, ◌≤◌, ◌&&◌, nat_le, true, false, List, [], ◌∷◌, length}
 use Rattle.std.proofs.Common.{take, drop, slice_get, slice_index_or, Some, None, refl, sym, ◌∙◌, ap, subst, arith, inl}
-use Rattle.std.proofs.Common.{inr}
-use Rattle.std.specs.Prelude.{max}
+use Rattle.std.proofs.Common.{inr, max, leb-true, leb-false, le-leb}
 use Rattle.std.specs.List.Sorted.{IsPartitionedBy, IsPartitionPoint}
-use Rattle.std.proofs.Math.Seq.{take-length}
-use Rattle.std.proofs.lemmas.Bool.{cases_lt, leb-true, leb-false, le-leb, lt-leb}
-use Rattle.std.proofs.lemmas.List.{length-drop}
+use Rattle.std.proofs.lemmas.Bool.{cases_lt, lt-leb}
+use Rattle.std.proofs.lemmas.List.{take_rest}
+use Rattle.law_line.proofs.WindowLaws.{carried-early}
+use Rattle.law_model.specs.Common.{carried_in, is_whole, are_whole, AreWindows}
 use Rattle.law_model.specs.declared.window_types.Window.{Window}
 use Rattle.law_model.specs.declared.window_types.Carried.{Carried}
 use Rattle.law_model.specs.declared.window_types.Carried.TheVariants.{Whole}
-use Rattle.law_model.specs.members.Damage.{carried_in, carried, is_whole, are_whole, AreWindows}
+use Rattle.law_model.specs.members.Damage.{carried}
 use Rattle.law_model.proofs.PathLaws.{carried-in, carried-before}
-use Rattle.member_path.proofs.FailureWindowLaws.WindowLaws.{carried-early, are-drop, carried-drop, ends-rise}
+use Rattle.member_path.proofs.FailureWindowLaws.WindowLaws.{are-drop, carried-drop, ends-rise}
 use Rattle.law_loss.proofs.FilterLaws.{and_false}
-use Rattle.fate_engine.specs.fate_core.Whole.{whole_in}
+use Rattle.fate_engine.specs.Common.{whole_in}
 
 -- ---- containers one by one
 whole-all : (carries : ℕ → Carried) (from count : ℕ) → ((n : ℕ) → from ≤ n → n < from + count → carries n ≡ Whole) →
@@ -96,9 +96,6 @@ parted list n are i j d before within ended =
 abbrev pub Parts : List Window → ℕ → ℕ → Type 0
 Parts list n i = IsPartitionPoint (λ window. nat_le window.end n ≡ true) (λ window. nat_le window.end n ≡ false) list i
 
-rest : (list : List Window) (i : ℕ) → take (length list - i) (drop i list) ≡ drop i list
-rest list i = ap (λ n. take n (drop i list)) (sym (length-drop i list)) ∙ take-length (drop i list)
-
 over : (list : List Window) (from count i : ℕ) → Parts list from i →
     whole_in list from count ≡ whole_in (drop i list) from count
 over list from count i point =
@@ -127,7 +124,7 @@ pub some-tells : (list : List Window) (from count i : ℕ) (window : Window) →
     Some window ≡ slice_get (take (length list - i) (drop i list)) 0 →
     nat_le (from + count) window.first ≡ whole_in list from count
 some-tells list from count i window are some point there =
-    let here : Some window ≡ slice_get (drop i list) 0 = there ∙ ap (λ l. slice_get l 0) (rest list i) in
+    let here : Some window ≡ slice_get (drop i list) 0 = there ∙ ap (λ l. slice_get l 0) (take_rest list i) in
     let left = are-drop 0 list i are in
     sym (over list from count i point
     ∙ first-tells left.0 (drop i list) from count window left.1 here (front-above list from i window point here)
@@ -137,4 +134,4 @@ pub nothing-tells : (list : List Window) (from count i : ℕ) → Parts list fro
     None ≡ slice_get (take (length list - i) (drop i list)) 0 → true ≡ whole_in list from count
 nothing-tells list from count i point there =
     sym (over list from count i point
-    ∙ none-tells (drop i list) from count (there ∙ ap (λ l. slice_get l 0) (rest list i)))
+    ∙ none-tells (drop i list) from count (there ∙ ap (λ l. slice_get l 0) (take_rest list i)))

@@ -3,13 +3,10 @@ use Rattle.std.proofs.Common.{◌≡◌, ℕ, ◌-◌, Bool, true, false, List, 
 use Rattle.std.specs.Prelude.{◌/◌, ◌&&◌, nat_lt}
 use Rattle.std.specs.List.{list_all}
 use Rattle.std.proofs.lemmas.Bool.{cases_Bool}
-use Rattle.law_model.specs.members.Damage.{is_good}
-use Rattle.law_model.specs.session.Scenario.{Scenario, carried_by, is_read, is_heard}
-use Rattle.law_model.specs.source.Table.{Told, active}
-use Rattle.law_model.specs.source.Source.{table_of}
-use Rattle.law_model.specs.rows.SessionRows.{is_whole_under, is_whole_row}
+use Rattle.law_model.specs.Common.{is_good, Scenario, carried_by, is_read, is_heard, Told, active, table_of}
+use Rattle.law_model.specs.Common.{is_whole_under, is_whole_row}
+use Rattle.fate_engine.specs.Common.{least_failing, lesser, packet_cause, cause_under, row_cause}
 use Rattle.fate_engine.specs.declared.fate_law.Cause.{Cause}
-use Rattle.fate_engine.specs.fate_law.Spoiled.{least_failing, lesser, packet_cause, cause_under, row_cause}
 
 -- a cause is found exactly where a test isn't passed
 record Agree (cause : Option Cause) (whole : Bool) : Type 0 where

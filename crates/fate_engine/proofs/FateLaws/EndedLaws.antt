@@ -3,17 +3,14 @@ use Rattle.std.proofs.Common.{◌≡◌, ℕ, zero, suc, ◌<◌, ◌≤◌, ◌
 use Rattle.std.proofs.Common.{drop, All, Option, Some, None, slice_get, refl, sym, ◌∙◌, ap, subst, arith, inl, inr}
 use Rattle.std.specs.List.{flat_map}
 use Rattle.std.proofs.lemmas.Bool.{cases_Bool}
+use Rattle.law_model.specs.Common.{Leg, Extent}
 use Rattle.law_model.specs.declared.script_types.ItemKind.{ItemKind}
-use Rattle.law_model.specs.declared.script_types.ItemKind.TheVariants.{Frame, Add, Remove}
-use Rattle.law_model.specs.session.Leg.{Leg}
-use Rattle.law_model.specs.frames.Loss.{Extent}
 use Rattle.law_model.specs.declared.item_refusals.Refusal.{Refusal}
+use Rattle.law_model.specs.declared.script_types.ItemKind.TheVariants.{Frame, Add, Remove}
 use Rattle.law_loss.proofs.FilterLaws.{filter-none}
-use Rattle.law_walk.specs.Landed.{Numbered, refusal_at}
-use Rattle.law_walk.specs.Promise.{frame_by}
+use Rattle.law_walk.specs.Common.{Numbered, refusal_at, frame_by}
+use Rattle.fate_engine.specs.Common.{is_got, accepted, Ended, ended_by, fate_if, ended_then, ended_on, got_frames}
 use Rattle.fate_engine.specs.declared.fate_law.Fate.{Fate}
-use Rattle.fate_engine.specs.fate_law.Fates.{is_got}
-use Rattle.fate_engine.specs.fate_law.SessionFates.{accepted, Ended, ended_by, fate_if, ended_then, ended_on, got_frames}
 
 abbrev pub frames_of : List Extent → List (List ℕ)
 frames_of extents = map (λ (e : Extent). e.frame) extents

@@ -1,36 +1,24 @@
 -- After a walk, the frames whose fate is got are those that are delivered, where all marks are true.
 use Rattle.std.proofs.Common.{◌≡◌, ℕ, zero, suc, ◌+◌, ◌<◌, ◌≤◌, true, false, List, [], ◌∷◌, ◌++◌, length, drop, All}
-use Rattle.std.proofs.Common.{Option, refl, sym, ◌∙◌, ap, subst, arith, length-append}
+use Rattle.std.proofs.Common.{Option, refl, sym, ◌∙◌, ap, subst, arith, length-append, flat_map}
 use Rattle.std.proofs.lemmas.List.{length-map}
 use Rattle.std.proofs.lemmas.Bool.{lt-leb}
 use Rattle.std.proofs.lemmas.List.Elements.{All-tail, All-weaker}
-use Rattle.std.specs.List.{flat_map}
-use Rattle.law_model.specs.session.Leg.{Leg}
-use Rattle.law_model.specs.frames.Piece.{Piece, stream_of}
-use Rattle.law_model.specs.session.Scenario.{Scenario, scenario_by}
-use Rattle.law_model.specs.source.Table.{Told}
-use Rattle.law_model.specs.source.Back.{session_cells}
-use Rattle.law_model.specs.source.Client.{place_of, stream_before, frames_in}
-use Rattle.law_model.specs.session.Counts.{Counts}
-use Rattle.law_model.specs.frames.Segment.{octets_of_rows}
-use Rattle.law_model.specs.frames.Loss.{Extent, extents, is_carried}
-use Rattle.law_model.specs.session.Valid.{IsSound}
+use Rattle.law_model.specs.Common.{Leg, Piece, stream_of, Scenario, scenario_by, Told, session_cells, place_of}
+use Rattle.law_model.specs.Common.{stream_before, frames_in, Counts, octets_of_rows, Extent, extents, is_carried}
+use Rattle.law_model.specs.Common.{IsSound}
 use Rattle.law_session.proofs.ClientLaws.{stream-reaches, stream_before-frames}
 use Rattle.law_loss.specs.Carried.{CarriesStream}
 use Rattle.law_loss.proofs.ExtentLaws.{IsBetween, extents-between, extents-append}
 use Rattle.law_loss.proofs.SessionLossLaws.{frames-extents}
 use Rattle.law_loss.proofs.SessionStreamLaws.{pieces-begin, rows-carry, rows-length}
-use Rattle.law_walk.specs.Walk.{IsWalked}
-use Rattle.law_walk.specs.Delivered.{session_rows, delivered_of}
-use Rattle.law_walk.specs.Landed.{landed_items}
-use Rattle.law_walk.specs.Promise.{session_pieces, session_extents, session_waiting, ConfirmsTrue}
+use Rattle.law_walk.specs.Common.{IsWalked, session_rows, delivered_of, landed_items, session_pieces, session_extents}
+use Rattle.law_walk.specs.Common.{session_waiting, ConfirmsTrue}
 use Rattle.law_walk.proofs.PlanLaws.{sound-walks}
 use Rattle.law_walk.proofs.EndLaws.{counts-within}
 use Rattle.law_walk.proofs.PromiseLaws.{frames-kept, frames-known}
-use Rattle.fate_engine.specs.fate_law.Fates.{fate_of, is_got}
+use Rattle.fate_engine.specs.Common.{fate_of, is_got, are_true_marks, ended_of, got_frames}
 use Rattle.fate_engine.specs.declared.fate_law.Fate.{Fate}
-use Rattle.fate_engine.specs.fate_law.Marks.{are_true_marks}
-use Rattle.fate_engine.specs.fate_law.SessionFates.{ended_of, got_frames}
 use Rattle.fate_engine.proofs.FateLaws.GotLaws.{got-kept}
 use Rattle.fate_engine.proofs.FateLaws.MarkLaws.{marks-starts, starts-marks}
 use Rattle.fate_engine.proofs.FateLaws.EndedLaws.{accepts, NotGot, Fits, got-ended}

@@ -1,23 +1,20 @@
 -- A frame is got exactly where the rows carry it and it isn't lost.
 use Rattle.std.proofs.Common.{◌≡◌, ℕ, ◌+◌, ◌-◌, ◌<◌, Bool, true, false, not, List, [], ◌∷◌, length, map, Option, Some}
-use Rattle.std.proofs.Common.{None, refl, sym, ◌∙◌, ap, arith, inl, inr}
-use Rattle.std.specs.Prelude.{nat_le, ◌&&◌, ◌||◌}
+use Rattle.std.proofs.Common.{None, refl, sym, ◌∙◌, ap, arith, inl, inr, nat_le, ◌&&◌, ◌||◌}
 use Rattle.std.specs.List.{list_any}
 use Rattle.std.proofs.lemmas.Bool.{cases_Bool}
-use Rattle.law_model.specs.frames.Piece.{Piece}
-use Rattle.law_model.specs.frames.Segment.{StreamRow, Segment, segments, octets_of_rows}
-use Rattle.law_model.specs.frames.Loss.{Extent, extents, is_carried, lies_in, confirmed_in, missed_after, is_missed}
-use Rattle.law_model.specs.frames.Loss.{is_given, is_frame_lost, frames_kept}
+use Rattle.law_model.specs.Common.{Piece, StreamRow, Segment, segments, octets_of_rows, Extent, extents, is_carried}
+use Rattle.law_model.specs.Common.{lies_in, confirmed_in, missed_after, is_missed, is_given, is_frame_lost, frames_kept}
+use Rattle.law_model.specs.Common.{stream_of}
 use Rattle.law_loss.proofs.FilterLaws.{filter-same}
 use Rattle.law_loss.proofs.ExtentLaws.{IsBetween, extents-between}
 use Rattle.law_loss.proofs.CutLaws.{InOrder, Stands-all}
 use Rattle.law_loss.proofs.KeptLaws.{any_lower, lies_upper}
 use Rattle.std.proofs.lemmas.List.Elements.{All-weaker}
-use Rattle.law_model.specs.frames.Piece.{stream_of}
+use Rattle.fate_engine.specs.Common.{row_at, spoiled_after, is_settled_by, fate_after, fate_in, fate_among}
+use Rattle.fate_engine.specs.Common.{carried_fate, fate_of, is_got, frames_got}
 use Rattle.fate_engine.specs.declared.fate_law.Fate.{Fate}
 use Rattle.fate_engine.specs.declared.fate_law.Fate.TheVariants.{Cut}
-use Rattle.fate_engine.specs.fate_law.Fates.{row_at, spoiled_after, is_settled_by, fate_after, fate_in, fate_among, carried_fate}
-use Rattle.fate_engine.specs.fate_law.Fates.{fate_of, is_got, frames_got}
 
 module _ (all : List Extent) (e : Extent) (r q : ℕ) where
   after-got : (found : Option ℕ) → is_got (fate_after found all e r q) ≡ not (missed_after found all e)

@@ -1,29 +1,22 @@
 -- Of the frames that the rows of a walk carry, each is one of an item that has landed.
 use Rattle.std.proofs.Common.{◌≡◌, ℕ, zero, suc, ◌-◌, ◌≤◌, Bool, true, false, List, [], ◌∷◌, ◌++◌, length, filter, take}
 use Rattle.std.proofs.Common.{drop, Option, refl, sym, ◌∙◌, ap, ap₂, arith, inl, inr, append_assoc, length-append}
-use Rattle.std.proofs.lemmas.List.{append-nil, take_at, take-append-drop}
-use Rattle.std.specs.Prelude.{nat_lt}
-use Rattle.std.specs.List.{flat_map}
+use Rattle.std.proofs.Common.{append-nil, take_at, take-append-drop, nat_lt, flat_map, lt-ltb, le-ltb, ltb-false}
 use Rattle.std.specs.List.Sorted.{IsNonDecreasingBy}
-use Rattle.std.proofs.lemmas.Bool.{cases_Bool, lt-ltb, le-ltb, ltb-false}
+use Rattle.std.proofs.lemmas.Bool.{cases_Bool}
 use Rattle.std.proofs.lemmas.List.Concat.{flat_map-append}
+use Rattle.law_model.proofs.ListLaws.{rest-sorted, filter-few, take-few}
+use Rattle.law_model.specs.Common.{Leg, Scenario, DueFrame, offer_of, offers_of, scenario_by, Told, session_cells}
+use Rattle.law_model.specs.Common.{Counts, frames_before, IsSound}
 use Rattle.law_model.specs.declared.script_types.Item.{Item}
 use Rattle.law_model.specs.declared.script_types.ItemKind.{ItemKind}
+use Rattle.law_model.specs.declared.item_refusals.Refusal.{Refusal}
 use Rattle.law_model.specs.declared.script_types.ItemKind.TheVariants.{Frame, Add, Remove}
-use Rattle.law_model.specs.session.Leg.{Leg}
-use Rattle.law_model.specs.session.Scenario.{Scenario, DueFrame, offer_of, offers_of, scenario_by}
-use Rattle.law_model.specs.source.Table.{Told}
-use Rattle.law_model.specs.source.Back.{session_cells}
-use Rattle.law_model.specs.session.Counts.{Counts}
-use Rattle.law_model.specs.source.Journal.{frames_before}
-use Rattle.law_model.specs.session.Valid.{IsSound}
 use Rattle.law_session.specs.Landing.{is_come}
 use Rattle.law_session.proofs.LandingLaws.{offers_land}
 use Rattle.law_loss.proofs.LawScriptLaws.ItemLaws.{offers_rise}
-use Rattle.law_model.specs.declared.item_refusals.Refusal.{Refusal}
-use Rattle.law_walk.specs.Walk.{IsWalked}
-use Rattle.law_walk.specs.Landed.{Numbered, is_client, with_if, landed_from, landed_items, kind_refusal}
-use Rattle.law_walk.specs.Promise.{numbered, frame_by, accepted_frames}
+use Rattle.law_walk.specs.Common.{IsWalked, Numbered, is_client, with_if, landed_from, landed_items, kind_refusal}
+use Rattle.law_walk.specs.Common.{numbered, frame_by, accepted_frames}
 use Rattle.law_walk.proofs.LandLaws.{frame-waits, filter-first}
 use Rattle.law_loss.proofs.FilterLaws.{filter-skip}
 use Rattle.law_walk.proofs.AcceptedLaws.{judged, judged-append, landed-judged, kind-judged, items-judged, no-frame-add}
@@ -137,12 +130,6 @@ module _ (leg : Leg) where
       )
 
 -- ---- offers that come before a tick are the first ones
-due_of : DueFrame → ℕ
-due_of offer = offer.due
-
-sorted-rest : (x : DueFrame) (xs : List DueFrame) → IsNonDecreasingBy (λ (offer : DueFrame). offer.due) (x ∷ xs) →
-    IsNonDecreasingBy (λ (offer : DueFrame). offer.due) xs
-sorted-rest x xs sorted i j d low high = sorted (suc i) (suc j) d (omega arith) (omega arith)
 
 late-rest : (t : ℕ) (x : DueFrame) (xs : List DueFrame) → IsNonDecreasingBy (λ (offer : DueFrame). offer.due) (x ∷ xs) →
     t ≤ x.due → filter (is_come t) xs ≡ []
@@ -150,27 +137,18 @@ late-rest t x [] sorted late = refl
 late-rest t x (y ∷ xs) sorted late =
     let next : x.due ≤ y.due = sorted zero (suc zero) x (omega arith) (omega arith) in
     let later : t ≤ y.due = omega (arith, late, next) in
-    filter-skip (is_come t) y xs (le-ltb y.due t later) ∙ late-rest t y xs (sorted-rest x (y ∷ xs) sorted) later
+    filter-skip (is_come t) y xs (le-ltb y.due t later)
+        ∙ late-rest t y xs (rest-sorted (λ (offer : DueFrame). offer.due) x (y ∷ xs) sorted) later
 
 come-first : (t : ℕ) (xs : List DueFrame) → IsNonDecreasingBy (λ (offer : DueFrame). offer.due) xs →
     (more : List DueFrame) × (xs ≡ filter (is_come t) xs ++ more)
 come-first t [] sorted = ([], refl)
 come-first t (x ∷ xs) sorted =
     elim (cases_Bool (is_come t x)) [
-      | inl come ↦ (let rest = come-first t xs (sorted-rest x xs sorted) in (rest.0, rw come (ap (λ l. x ∷ l) rest.1)))
+      | inl come ↦ (let rest = come-first t xs (rest-sorted (λ (offer : DueFrame). offer.due) x xs sorted) in
+          (rest.0, rw come (ap (λ l. x ∷ l) rest.1)))
       | inr late ↦ (x ∷ xs, (let none = late-rest t x xs sorted (ltb-false x.due t late) in rw (late, none) refl))
     ]
-
-filter-few : {X : Type 0} (p : X → Bool) (xs : List X) → length (filter p xs) ≤ length xs
-filter-few p [] = omega arith
-filter-few p (x ∷ xs) =
-    let rest = filter-few p xs in
-    elim (cases_Bool (p x)) [ inl e ↦ rw e (omega (arith, rest)) | inr e ↦ rw e (omega (arith, rest)) ]
-
-take-few : {X : Type 0} (a : ℕ) (xs : List X) → length (take a xs) ≤ a
-take-few zero xs = omega arith
-take-few (suc a) [] = omega arith
-take-few (suc a) (x ∷ xs) = let rest = take-few a xs in omega (arith, rest)
 
 take-over : {X : Type 0} (a : ℕ) (front more : List X) → length front ≤ a → (rest : List X) ×
     (take a (front ++ more) ≡ front ++ rest)

@@ -6,19 +6,14 @@ use Rattle.std.specs.Prelude.{nat_le, ◌&&◌, ◌||◌, if◌then◌else◌}
 use Rattle.std.specs.List.{list_any}
 use Rattle.std.proofs.lemmas.Bool.{cases_Bool, lt-leb, le-ltb, leb-true}
 use Rattle.std.proofs.lemmas.List.Elements.{All-head, All-tail}
-use Rattle.law_model.specs.frames.Piece.{Piece, stream_of}
-use Rattle.law_model.specs.session.Scenario.{Scenario}
-use Rattle.law_model.specs.source.Table.{Told}
-use Rattle.law_model.specs.source.Client.{stream_before}
-use Rattle.law_model.specs.frames.Segment.{StreamRow, Segment, segments, octets_of_rows}
-use Rattle.law_model.specs.rows.SessionStream.{rows_of}
-use Rattle.law_model.specs.frames.Loss.{Extent, extents, is_carried, lies_in, confirmed_in}
+use Rattle.law_model.specs.Common.{Piece, stream_of, Scenario, Told, stream_before, StreamRow, Segment, segments}
+use Rattle.law_model.specs.Common.{octets_of_rows, rows_of, Extent, extents, is_carried, lies_in, confirmed_in}
 use Rattle.law_loss.proofs.ExtentLaws.{IsBetween, extents-between, extents-append}
 use Rattle.law_loss.proofs.SessionStreamLaws.{pieces-begin, rows-carry}
+use Rattle.fate_engine.specs.Common.{row_at, spoiled_after, is_settled_by, fate_after, fate_in, fate_among, fate_of}
+use Rattle.fate_engine.specs.Common.{fate_if, fate_at}
 use Rattle.fate_engine.specs.declared.fate_law.Fate.{Fate}
 use Rattle.fate_engine.specs.declared.fate_law.Fate.TheVariants.{Waits, Cut}
-use Rattle.fate_engine.specs.fate_law.Fates.{row_at, spoiled_after, is_settled_by, fate_after, fate_in, fate_among, fate_of}
-use Rattle.fate_engine.specs.fate_law.SessionFates.{fate_if, fate_at}
 
 -- ---- frames behind a frame don't settle it
 behind : (m : ℕ) (e : Extent) (low high : ℕ) (others : List Extent) → All (IsBetween low high) others → e.from ≤ low →

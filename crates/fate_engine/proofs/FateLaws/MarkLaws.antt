@@ -1,28 +1,21 @@
 -- That all marks are true is decided.
 use Rattle.std.proofs.Common.{◌≡◌, ℕ, ◌+◌, ◌<◌, ◌≤◌, Bool, true, false, List, [], ◌∷◌, ◌++◌, length, All, Option, Some}
-use Rattle.std.proofs.Common.{None, refl, sym, ◌∙◌, ap, ap₂, arith, inl, inr, length-append}
-use Rattle.std.specs.Prelude.{◌==◌, ◌&&◌, ◌||◌, IfSome}
+use Rattle.std.proofs.Common.{None, refl, sym, ◌∙◌, ap, ap₂, arith, inl, inr, length-append, ◌==◌, ◌&&◌, ◌||◌, IfSome}
+use Rattle.std.proofs.Common.{option_map, eqb-true, eq-eqb, append-nil}
 use Rattle.std.specs.List.{list_any, list_all}
-use Rattle.std.specs.Option.{option_map}
-use Rattle.std.proofs.lemmas.Bool.{cases_Bool, eqb-true, eq-eqb}
-use Rattle.std.proofs.lemmas.List.{append-nil}
+use Rattle.std.proofs.lemmas.Bool.{cases_Bool}
 use Rattle.std.proofs.lemmas.List.Elements.{All-nil, All-cons, All-head, All-tail, All-append}
-use Rattle.law_model.specs.frames.Piece.{Piece, size_of, cut, stream_of}
-use Rattle.law_model.specs.frames.Hunt.{Confirmed, hunt}
-use Rattle.law_model.specs.frames.Segment.{StreamRow, Segment, segments_of, segments, octets_of_rows}
-use Rattle.law_model.specs.frames.Loss.{confirmed_in, IsPlaceOfPiece, StartsTrue, TrueStarts}
+use Rattle.law_loss.proofs.ExtentLaws.{no_octets}
+use Rattle.law_model.specs.Common.{Piece, size_of, stream_of, Confirmed, hunt, StreamRow, Segment, segments_of}
+use Rattle.law_model.specs.Common.{segments, octets_of_rows, confirmed_in, IsPlaceOfPiece, StartsTrue, TrueStarts}
 use Rattle.law_model.proofs.StreamLaws.{length-stream_of-cons}
 use Rattle.law_loss.specs.Carried.{CarriesStream}
 use Rattle.law_loss.proofs.FilterLaws.{or_true}
 use Rattle.law_loss.proofs.FoundLaws.{confirmed-within}
 use Rattle.law_loss.proofs.CutLaws.{IsPart, Stands-all}
-use Rattle.fate_engine.specs.fate_law.Marks.{places, is_piece_at, is_true_mark, has_true_mark, are_true_marks}
+use Rattle.fate_engine.specs.Common.{places, is_piece_at, is_true_mark, has_true_mark, are_true_marks}
 
 -- ---- places of pieces
-no_octets : length (stream_of []) ≡ 0
-unfolding cut
-no_octets = refl
-
 -- a part of pieces that ends at a place
 abbrev EndsAt : ℕ → List Piece → ℕ → Type 0
 EndsAt start pieces place = (front : List Piece) × (more : List Piece) × (pieces ≡ front ++ more) ×

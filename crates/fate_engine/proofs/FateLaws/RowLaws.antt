@@ -1,15 +1,13 @@
 -- Rows and places: which row has a place, and that a frame lies in a segment exactly where all its rows are whole.
 use Rattle.std.proofs.Common.{◌≡◌, ℕ, zero, suc, ◌+◌, ◌-◌, ◌<◌, ◌≤◌, ◌⊎◌, Bool, true, false, List, [], ◌∷◌, ◌++◌}
 use Rattle.std.proofs.Common.{length, take, drop, refl, sym, ◌∙◌, ap, ap₂, subst, arith, inl, inr, append_assoc}
-use Rattle.std.proofs.Common.{length-append}
-use Rattle.std.specs.Prelude.{nat_le, nat_lt, ◌&&◌, ◌||◌, if◌then◌else◌}
+use Rattle.std.proofs.Common.{length-append, nat_le, nat_lt, ◌&&◌, ◌||◌, if◌then◌else◌, le-leb, lt-ltb, le-ltb}
 use Rattle.std.specs.List.{list_any}
-use Rattle.std.proofs.lemmas.Bool.{cases_Bool, cases_lt, le-leb, lt-leb, lt-ltb, le-ltb}
-use Rattle.law_model.specs.frames.Segment.{StreamRow, Segment, Segments, longer, broken, segments_on, segments}
-use Rattle.law_model.specs.frames.Segment.{octets_of_rows}
-use Rattle.law_model.specs.frames.Loss.{Extent, lies_in}
+use Rattle.std.proofs.lemmas.Bool.{cases_Bool, cases_lt, lt-leb}
+use Rattle.law_model.specs.Common.{StreamRow, Segment, Segments, longer, broken, segments_on, segments, octets_of_rows}
+use Rattle.law_model.specs.Common.{Extent, lies_in}
 use Rattle.law_loss.proofs.FilterLaws.{and_false}
-use Rattle.fate_engine.specs.fate_law.Fates.{HasPlace, row_from, row_at, spoiled_from, spoiled_after}
+use Rattle.fate_engine.specs.Common.{HasPlace, row_from, row_at, spoiled_from, spoiled_after}
 
 -- ---- the row of a place
 pub row-low : (t : ℕ) (rows : List StreamRow) (place : ℕ) → t ≤ row_from t rows place

@@ -8,13 +8,11 @@ use Rattle.std.specs.List.{list_any}
 use Rattle.std.proofs.lemmas.Bool.{cases_lt, le-leb, lt-leb, ne_eqb}
 use Rattle.std.proofs.lemmas.List.{map-append, append-nil}
 use Rattle.std.proofs.lemmas.List.Sums.{sum-map, sum_by-append}
-use Rattle.law_model.specs.frames.Piece.{Piece, idle, client, size_of, stream_of}
-use Rattle.law_model.specs.source.Client.{size, Stream, reaching, reached}
-use Rattle.law_model.specs.frames.Loss.{Extent, extents}
+use Rattle.law_model.specs.Common.{Piece, idle, client, size_of, stream_of, size, Stream, reaching, reached, Extent}
+use Rattle.law_model.specs.Common.{extents}
 use Rattle.law_model.proofs.StreamLaws.{length-stream_of, length-stream_of-cons}
 use Rattle.law_loss.proofs.ExtentLaws.{extents-append}
-use Rattle.fate_engine.specs.fate_law.Marks.{places, is_piece_at}
-use Rattle.fate_engine.specs.fate_law.Ruler.{sides, ruler_of, idles_to, ruled}
+use Rattle.fate_engine.specs.Common.{places, is_piece_at, sides, ruler_of, idles_to, ruled}
 
 long : (pieces : List Piece) → length (stream_of pieces) ≡ size pieces
 long pieces = length-stream_of pieces ∙ sum-map size_of pieces

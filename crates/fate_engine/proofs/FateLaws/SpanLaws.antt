@@ -3,15 +3,13 @@ use Rattle.std.proofs.Common.{◌≡◌, ℕ, suc, ◌+◌, ◌-◌, ◌<◌, �
 use Rattle.std.proofs.Common.{Option, refl, sym, ◌∙◌, ap, ap₂, arith, inl, inr, append_assoc, length-append}
 use Rattle.std.specs.Prelude.{nat_lt, ◌||◌, if◌then◌else◌}
 use Rattle.std.proofs.lemmas.Bool.{cases_Bool, cases_lt, le-leb, lt-ltb, le-ltb}
-use Rattle.law_model.specs.frames.Piece.{Piece}
-use Rattle.law_model.specs.frames.Segment.{StreamRow, Segment, segments, octets_of_rows}
-use Rattle.law_model.specs.frames.Loss.{Extent, extents, lies_in, confirmed_in}
+use Rattle.law_model.specs.Common.{Piece, StreamRow, Segment, segments, octets_of_rows, Extent, extents, lies_in}
+use Rattle.law_model.specs.Common.{confirmed_in}
+use Rattle.fate_engine.specs.Common.{row_from, row_at, spoiled_from, spoiled_after, fate_after, fate_in, fate_among}
+use Rattle.fate_engine.specs.Common.{fate_of, Span, Spans, span_by, spans_on, row_segments_with, row_segments}
+use Rattle.fate_engine.specs.Common.{mark_of_row, fate_by_rows}
 use Rattle.fate_engine.specs.declared.fate_law.Fate.{Fate}
 use Rattle.fate_engine.specs.declared.fate_law.Fate.TheVariants.{Waits, Cut, Got}
-use Rattle.fate_engine.specs.fate_law.Fates.{row_from, row_at, spoiled_from, spoiled_after, fate_after, fate_in, fate_among}
-use Rattle.fate_engine.specs.fate_law.Fates.{fate_of}
-use Rattle.fate_engine.specs.fate_law.Spans.{Span, Spans, span_by, spans_on, row_segments_with, row_segments, mark_of_row}
-use Rattle.fate_engine.specs.fate_law.Spans.{fate_by_rows}
 use Rattle.fate_engine.proofs.FateLaws.RowLaws.{row-low, end_of, with_row, next_segment, tail, segments-tail, size-more, lies_among}
 use Rattle.fate_engine.proofs.FateLaws.RowLaws.{tail-before, too_long, from-first, from-next, lies-rows}
 
@@ -151,14 +149,6 @@ module _ (e : Extent) (all : List Extent) (other : Fate) (r q : ℕ) where
       either own fate mark spoiled (inr later) = later.0
 
 -- ---- the fate by rows
-grown-first : (rows : List StreamRow) (last : Segment) → (grown rows last).first ≡ last.first
-unfolding grown
-grown-first [] last = refl
-grown-first (row ∷ rows) last =
-    elim (cases_Bool row.whole) [
-      | inl whole ↦ rw whole (grown-first rows (with_row last row.octets))
-      | inr lost ↦ rw lost refl
-    ]
 
 none-among : (e : Extent) (all : List Extent) (other : Fate) (r q : ℕ) (among : List Segment) →
     lies_among e among ≡ false → fate_among other among all e r q ≡ other

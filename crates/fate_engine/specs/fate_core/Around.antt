@@ -3,7 +3,7 @@ use Rattle.std.specs.Prelude.{ℕ, zero, suc, nat_le, nat_lt, if◌then◌else�
 use Rattle.std.specs.Prelude.{slice_get}
 use Rattle.fate_engine.specs.declared.fate_law.Fate.{Fate}
 use Rattle.fate_engine.specs.declared.fate_law.Fate.TheVariants.{Cut, Unconfirmed, Hunting, Unsettled, Got}
-use Rattle.law_model.specs.frames.Piece.{Piece}
+use Rattle.law_model.specs.Common.{Piece}
 use Rattle.fate_engine.specs.declared.fate_law.RowSegment.{RowSegment}
 use Rattle.fate_engine.specs.fate_law.Marks.{is_true_mark}
 use Rattle.fate_engine.specs.declared.fate_core.row_segments.Around.{Around}

@@ -1,9 +1,7 @@
 -- What is kept of the packets of a group.
 use Rattle.std.specs.Prelude.{◌≡◌, ℕ, ◌*◌, ◌≤◌, ◌<◌, ◌^◌, List, map, length, take, sum_by, All, Option, Some, slice_get}
 use Rattle.std.specs.Prelude.{slice_index_or, []}
-use Rattle.law_model.specs.session.Scenario.{Scenario}
-use Rattle.law_model.specs.source.Table.{Told, active}
-use Rattle.law_model.specs.source.Source.{table_of}
+use Rattle.law_model.specs.Common.{Scenario, Told, active, table_of}
 use Rattle.fate_engine.specs.declared.fate_core.packet_rows.Packet.{Packet}
 
 -- the octets of payload that a line has in a row, and the active lines under each packet, in the order of the packets

@@ -2,8 +2,7 @@
 use Rattle.std.specs.Prelude.{◌≡◌, ℕ, ◌+◌, ◌≤◌, ◌<◌, ◌^◌, ◌&&◌, nat_le, nat_lt, if◌then◌else◌, Bool, List, [], ◌∷◌}
 use Rattle.std.specs.Prelude.{◌++◌, length, filter, drop, Option, None}
 use Rattle.std.specs.Option.{option_map}
-use Rattle.law_model.specs.frames.Segment.{StreamRow, segments_of, octets_of_rows}
-use Rattle.law_model.specs.frames.Loss.{confirmed_in}
+use Rattle.law_model.specs.Common.{StreamRow, segments_of, octets_of_rows, confirmed_in}
 use Rattle.fate_engine.specs.declared.fate_law.RowSegment.{RowSegment}
 use Rattle.fate_engine.specs.fate_law.Fates.{spoiled_after}
 use Rattle.fate_engine.specs.fate_law.Spans.{no_spans, spans_on, row_segment, row_segments_with, row_segments, mark_of_row, has_row}

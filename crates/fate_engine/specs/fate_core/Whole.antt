@@ -1,7 +1,8 @@
 -- Containers of a line that are whole.
 use Rattle.std.specs.Prelude.{ℕ, Bool, List, [], slice_index_or}
+use Rattle.law_model.specs.Common.{are_whole}
 use Rattle.law_model.specs.declared.window_types.Window.{Window}
-use Rattle.law_model.specs.members.Damage.{carried, are_whole}
+use Rattle.law_model.specs.members.Damage.{carried}
 
 -- so many from a first one on
 abbrev pub whole_in : List Window → ℕ → ℕ → Bool

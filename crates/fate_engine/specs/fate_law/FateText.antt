@@ -3,15 +3,9 @@
 -- item that has landed, and a line of totals. These texts are this project's own.
 use Rattle.std.specs.Prelude.{ℕ, ◌-◌, ◌+◌, Bool, true, false, List, ◌++◌, length, Option, Some, None, codes, decimal}
 use Rattle.std.specs.List.{flat_map}
-use Rattle.law_model.specs.session.Leg.{Leg}
-use Rattle.law_model.specs.frames.Piece.{Piece}
-use Rattle.law_model.specs.session.Scenario.{scenario_by}
-use Rattle.law_model.specs.frames.Segment.{StreamRow}
-use Rattle.law_model.specs.session.Counts.{Counts}
+use Rattle.law_model.specs.Common.{Leg, Piece, scenario_by, StreamRow, Counts}
 use Rattle.text_report.specs.Report.{refusal_text}
-use Rattle.law_walk.specs.Walk.{session_of}
-use Rattle.law_walk.specs.Delivered.{session_rows}
-use Rattle.law_walk.specs.Promise.{session_pieces}
+use Rattle.law_walk.specs.Common.{session_of, session_rows, session_pieces}
 use Rattle.fate_engine.specs.declared.fate_law.Cause.{Cause}
 use Rattle.fate_engine.specs.declared.fate_law.Cause.TheVariants.{Packet, PacketOf, Container}
 use Rattle.fate_engine.specs.declared.fate_law.Fate.{Fate}

@@ -4,9 +4,8 @@
 use Rattle.std.specs.Prelude.{ℕ, suc, ◌-◌, ◌≤◌, ◌<◌, take, nat_le, nat_lt, ◌&&◌, Bool, true, false, if◌then◌else◌, List}
 use Rattle.std.specs.Prelude.{[], ◌∷◌, length, map, filter, drop, Option, Some, None}
 use Rattle.std.specs.List.{list_any}
-use Rattle.law_model.specs.frames.Piece.{Piece}
-use Rattle.law_model.specs.frames.Segment.{StreamRow, Segment, segments, octets_of_rows}
-use Rattle.law_model.specs.frames.Loss.{Extent, extents, is_carried, lies_in, confirmed_in}
+use Rattle.law_model.specs.Common.{Piece, StreamRow, Segment, segments, octets_of_rows, Extent, extents, is_carried}
+use Rattle.law_model.specs.Common.{lies_in, confirmed_in}
 use Rattle.fate_engine.specs.declared.fate_law.Fate.{Fate}
 use Rattle.fate_engine.specs.declared.fate_law.Fate.TheVariants.{Waits, Cut, Unconfirmed, Hunting, Unsettled, Got}
 

@@ -2,9 +2,7 @@
 -- begins there.
 use Rattle.std.specs.Prelude.{ℕ, ◌+◌, ◌==◌, ◌||◌, Bool, true, List, [], ◌∷◌, Option, Some, None}
 use Rattle.std.specs.List.{list_any, list_all}
-use Rattle.law_model.specs.frames.Piece.{Piece, size_of}
-use Rattle.law_model.specs.frames.Segment.{StreamRow, Segment, segments}
-use Rattle.law_model.specs.frames.Loss.{confirmed_in}
+use Rattle.law_model.specs.Common.{Piece, size_of, StreamRow, Segment, segments, confirmed_in}
 
 -- the places at which pieces begin, where the first of them begins at a place
 unfoldable pub places : ℕ → List Piece → List ℕ

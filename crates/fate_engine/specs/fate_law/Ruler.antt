@@ -1,7 +1,6 @@
 -- The places of the client frames of a stream, by lengths alone.
 use Rattle.std.specs.Prelude.{ℕ, ◌+◌, ◌-◌, ◌*◌, ◌/◌, nat_le, if◌then◌else◌, List, [], ◌∷◌, ◌++◌, map, length}
-use Rattle.law_model.specs.source.Client.{size, Stream}
-use Rattle.law_model.specs.frames.Loss.{Extent, extents}
+use Rattle.law_model.specs.Common.{size, Stream, Extent, extents}
 
 -- the place at which the pieces end; of each client frame among them where its piece begins and ends; the lengths of
 -- the frames that wait

@@ -1,17 +1,11 @@
 -- What became of each client item of a leg that has landed.
 use Rattle.std.specs.Prelude.{ℕ, suc, Bool, true, false, List, [], ◌∷◌, length, map, filter, Option, Some, None}
 use Rattle.std.specs.Prelude.{slice_get}
+use Rattle.law_model.specs.Common.{Leg, Piece, StreamRow, Extent, extents, Counts}
 use Rattle.law_model.specs.declared.script_types.ItemKind.{ItemKind}
-use Rattle.law_model.specs.declared.script_types.ItemKind.TheVariants.{Frame, Add, Remove}
-use Rattle.law_model.specs.session.Leg.{Leg}
-use Rattle.law_model.specs.frames.Piece.{Piece}
-use Rattle.law_model.specs.frames.Segment.{StreamRow}
-use Rattle.law_model.specs.frames.Loss.{Extent, extents}
-use Rattle.law_model.specs.session.Counts.{Counts}
 use Rattle.law_model.specs.declared.item_refusals.Refusal.{Refusal}
-use Rattle.law_walk.specs.Delivered.{session_rows}
-use Rattle.law_walk.specs.Landed.{Numbered, landed_items, refusal_at}
-use Rattle.law_walk.specs.Promise.{session_pieces}
+use Rattle.law_model.specs.declared.script_types.ItemKind.TheVariants.{Frame, Add, Remove}
+use Rattle.law_walk.specs.Common.{session_rows, Numbered, landed_items, refusal_at, session_pieces}
 use Rattle.fate_engine.specs.declared.fate_law.Fate.{Fate}
 use Rattle.fate_engine.specs.declared.fate_law.Fate.TheVariants.{Waits, Cut, Unconfirmed, Hunting, Unsettled, Got}
 use Rattle.fate_engine.specs.fate_law.Fates.{fate_of, is_got}

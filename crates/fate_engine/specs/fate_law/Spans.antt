@@ -1,8 +1,7 @@
 -- The rows of the segments of a stream, and their marks.
 use Rattle.std.specs.Prelude.{ℕ, suc, nat_lt, Bool, true, false, List, [], ◌∷◌, ◌++◌, filter, drop, if◌then◌else◌}
 use Rattle.std.specs.Prelude.{Option, None}
-use Rattle.law_model.specs.frames.Segment.{StreamRow, Segment, segments}
-use Rattle.law_model.specs.frames.Loss.{Extent, confirmed_in}
+use Rattle.law_model.specs.Common.{StreamRow, Segment, segments, Extent, confirmed_in}
 use Rattle.fate_engine.specs.declared.fate_law.Fate.{Fate}
 use Rattle.fate_engine.specs.declared.fate_law.Fate.TheVariants.{Cut, Got}
 use Rattle.fate_engine.specs.declared.fate_law.RowSegment.{RowSegment}

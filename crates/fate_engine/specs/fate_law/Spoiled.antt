@@ -2,10 +2,7 @@
 use Rattle.std.specs.Prelude.{ℕ, suc, ◌-◌, ◌/◌, ◌==◌, ◌&&◌, nat_lt, min, Bool, true, false, if◌then◌else◌, List, []}
 use Rattle.std.specs.Prelude.{◌∷◌, map, Option, Some, None}
 use Rattle.std.specs.List.{range_with_len}
-use Rattle.law_model.specs.members.Damage.{is_good}
-use Rattle.law_model.specs.session.Scenario.{Scenario, carried_by, is_read, is_heard}
-use Rattle.law_model.specs.source.Table.{Told, active}
-use Rattle.law_model.specs.source.Source.{table_of}
+use Rattle.law_model.specs.Common.{is_good, Scenario, carried_by, is_read, is_heard, Told, active, table_of}
 use Rattle.fate_engine.specs.declared.fate_law.Cause.{Cause}
 use Rattle.fate_engine.specs.declared.fate_law.SpoiledRun.{SpoiledRun}
 use Rattle.fate_engine.specs.declared.fate_law.Cause.TheVariants.{Packet, PacketOf, Container}

@@ -1,9 +1,7 @@
 //! Why a row isn't whole.
 ghost use Rattle.std.specs.Prelude.{◌≡◌, ◌+◌, ◌*◌, ◌^◌, ◌<◌, ◌≤◌, length, List, All, Option};
 ghost use Rattle.std.specs.List.{list_any};
-ghost use Rattle.law_model.specs.members.Damage.{AreWindows};
-ghost use Rattle.law_model.specs.session.Scenario.{Scenario};
-ghost use Rattle.law_model.specs.source.Table.{Told};
+ghost use Rattle.law_model.specs.Common.{AreWindows, Scenario, Told};
 ghost use Rattle.fate_engine.specs.fate_law.Spoiled.{row_cause as cause_of, lesser as lesser_of, least_failing};
 ghost use Rattle.fate_engine.specs.fate_core.Whole.{whole_in, whole_on};
 ghost use Rattle.fate_engine.specs.fate_core.Packets.{ArePackets};

@@ -1,10 +1,6 @@
 //! What became of an accepted frame, and whether all that is confirmed after breaks is true.
 ghost use Rattle.std.specs.Prelude.{◌≡◌, ℕ, ◌+◌, ◌*◌, ◌≤◌, length, List, Option};
-ghost use Rattle.law_model.specs.session.Scenario.{Scenario};
-ghost use Rattle.law_model.specs.source.Table.{Told};
-ghost use Rattle.law_model.specs.source.Client.{Stream};
-ghost use Rattle.law_model.specs.frames.Segment.{StreamRow};
-ghost use Rattle.law_model.specs.rows.SessionStream.{rows_of};
+ghost use Rattle.law_model.specs.Common.{Scenario, Told, Stream, StreamRow, rows_of};
 ghost use Rattle.fate_engine.specs.fate_law.Ruler.{ruler_of};
 ghost use Rattle.fate_engine.specs.fate_law.Marks.{are_true_marks};
 ghost use Rattle.fate_engine.specs.fate_law.SessionFates.{fate_at};
@@ -12,8 +8,8 @@ ghost use Rattle.fate_engine.specs.fate_core.Packets.{ArePackets};
 ghost use Rattle.fate_engine.specs.fate_core.Segments.{SegmentsStand};
 ghost use Rattle.fate_engine.specs.fate_core.Around.{settles, fate_around, is_true_of};
 
-use crate::fate_core::packet_rows::Packets;
 use crate::fate_core::frame_ruler::Ruler;
+use crate::fate_core::packet_rows::Packets;
 use crate::fate_core::row_segments::{Around, Segments};
 use crate::fate_law::{Fate, RowSegment};
 

@@ -1,7 +1,6 @@
 //! The places at which the pieces of accepted frames begin and end, by lengths alone.
-ghost use Rattle.std.specs.Prelude.{◌≡◌, ◌+◌, ◌^◌, ◌==◌, ◌||◌, ◌<◌, [], length, OnOk, OnErr};
-ghost use Rattle.std.specs.Prelude.{slice_get, IfSome};
-ghost use Rattle.law_model.specs.source.Client.{Stream};
+ghost use Rattle.std.specs.Prelude.{◌≡◌, ◌+◌, ◌^◌, ◌==◌, ◌||◌, ◌<◌, [], length, OnOk, OnErr, slice_get, IfSome};
+ghost use Rattle.law_model.specs.Common.{Stream};
 ghost use Rattle.fate_engine.specs.fate_law.Ruler.{new_ruler, ruler_of, ruled, with_waiting};
 ghost use Rattle.fate_engine.specs.fate_law.Marks.{is_piece_at};
 ghost use Rattle.fate_engine.specs.fate_core.Sides.{with_begun, is_fourth, IsBegun, begun_before};

@@ -6,18 +6,18 @@
 //! `Segments`.
 
 mod cause_of_row;
+mod fate_totals;
 mod frame_fate;
-mod packet_rows;
 mod frame_ruler;
+mod packet_rows;
 mod row_segments;
 mod spoiled_runs;
-mod fate_totals;
 
 pub use crate::fate_law::{Cause, Fate, RowSegment, SpoiledRun};
 pub use cause_of_row::row_cause;
+pub use fate_totals::FateTotals;
 pub use frame_fate::{fate, starts_true};
-pub use packet_rows::Packets;
 pub use frame_ruler::Ruler;
+pub use packet_rows::Packets;
 pub use row_segments::{Around, Segments};
 pub use spoiled_runs::SpoiledRuns;
-pub use fate_totals::FateTotals;

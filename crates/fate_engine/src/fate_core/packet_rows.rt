@@ -1,13 +1,11 @@
 //! The rows that control packets govern: which lines carry payload in them, and where in the stream they begin.
 ghost use Rattle.std.specs.Prelude.{◌≡◌, suc, ◌+◌, ◌-◌, ◌*◌, ◌/◌, ◌≤◌, ◌<◌, [], ◌∷◌, ◌++◌, length, List, OnOk};
 ghost use Rattle.std.specs.Prelude.{OnErr, IfSome, IfNone, Option};
-ghost use Rattle.law_model.specs.session.Scenario.{Scenario};
-ghost use Rattle.law_model.specs.source.Table.{Told, active};
-ghost use Rattle.law_model.specs.source.Source.{table_of};
-ghost use Rattle.law_model.specs.source.Client.{place_of, width};
+ghost use Rattle.law_model.specs.Common.{Scenario, Told, active, table_of, place_of, width};
 ghost use Rattle.fate_engine.specs.fate_core.Packets.{ArePackets, start_by};
 
 use arrayvec::ArrayVec;
+use law_model::MOST_LINES;
 use std::alloc::{AllocError, Global};
 use std::marker::Model;
 
@@ -24,7 +22,7 @@ const MOST: usize = 65536;
 #[derive(Drop)]
 struct Packet {
     /// The lines that carry payload in its rows.
-    lines: ArrayVec<u8, 128>,
+    lines: ArrayVec<u8, MOST_LINES>,
     /// The place of the stream at which its rows begin.
     start: u64,
 }
@@ -64,7 +62,7 @@ impl Packets {
 
     /// Takes the active lines under the next packet, as the decision step of that packet leaves them. Where
     /// memory is short nothing changes.
-    pub fn push(&mut self, active: ArrayVec<u8, 128>) -> Result<(), AllocError>
+    pub fn push(&mut self, active: ArrayVec<u8, MOST_LINES>) -> Result<(), AllocError>
         requires { length self.old.active < 65536 }
         ensures ok { OnOk result (self.new
             ≡ record { size = self.old.size; active = self.old.active ++ active.items ∷ [] }) }

@@ -2,7 +2,7 @@
 ghost use Rattle.std.specs.Prelude.{◌≡◌, ◌+◌, ◌^◌, ◌<◌, [], ◌∷◌, ◌++◌, length, List, OnOk, OnErr, slice_get};
 ghost use Rattle.std.specs.Prelude.{Option, None, false};
 ghost use Rattle.std.specs.Option.{ForSome};
-ghost use Rattle.law_model.specs.frames.Segment.{StreamRow};
+ghost use Rattle.law_model.specs.Common.{StreamRow};
 ghost use Rattle.fate_engine.specs.fate_law.Spans.{later_segments};
 ghost use Rattle.fate_engine.specs.fate_core.Segments.{SegmentsStand, Tells, IsAround, is_told, gone_on, broken_off};
 

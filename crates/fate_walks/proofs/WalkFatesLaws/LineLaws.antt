@@ -1,52 +1,39 @@
 -- How the lines of fates are put together, and what is known of the places that they tell of.
-use Rattle.std.proofs.Common.{◌≡◌, ℕ, zero, suc, ◌+◌, ◌-◌, ◌*◌, ◌<◌, ◌≤◌, ◌&&◌, ◌||◌, nat_lt, Bool, true, false, List}
-use Rattle.std.proofs.Common.{[], ◌∷◌, ◌++◌, length, filter, take, drop, get_or, All, Option, Some, None, slice_get}
-use Rattle.std.proofs.Common.{refl, sym, ◌∙◌, ap, ap₂, subst, arith, inl, inr, append-nil, append_assoc, length-append}
-use Rattle.std.proofs.Common.{length-take}
-use Rattle.std.specs.Prelude.{if◌then◌else◌}
-use Rattle.std.specs.List.{flat_map, list_all, Contains}
-use Rattle.std.specs.Option.{option_map}
+use Rattle.std.proofs.Common.{◌≡◌, ℕ, suc, ◌+◌, ◌-◌, ◌*◌, ◌<◌, ◌≤◌, ◌&&◌, ◌||◌, nat_lt, Bool, true, false, List}
+use Rattle.std.proofs.Common.{[], ◌∷◌, ◌++◌, length, filter, take, drop, All, Option, Some, None, slice_get, refl, sym}
+use Rattle.std.proofs.Common.{◌∙◌, ap, ap₂, subst, arith, inl, inr, append-nil, append_assoc, length-append}
+use Rattle.std.proofs.Common.{length-take, if◌then◌else◌, flat_map, Contains, option_map}
+use Rattle.std.specs.List.{list_all}
 use Rattle.std.proofs.lemmas.Bool.{cases_Bool}
 use Rattle.std.proofs.lemmas.List.Concat.{flat_map-append}
 use Rattle.std.proofs.lemmas.List.Elements.{All-nil, All-cons, All-head, All-tail, All-drop, All-filter, filter-append}
+use Rattle.law_model.proofs.ListLaws.{take-one}
+use Rattle.law_model.specs.Common.{Leg, Piece, stream_of, Confirmed, hunt, scenario_by, offer_of, offers_of, StreamRow}
+use Rattle.law_model.specs.Common.{Segment, segments, octets_of_rows, place_of, stream_before, Counts}
 use Rattle.law_model.specs.declared.script_types.Item.{Item}
 use Rattle.law_model.specs.declared.script_types.ItemKind.{ItemKind}
+use Rattle.law_model.specs.declared.item_refusals.Refusal.{Refusal}
 use Rattle.law_model.specs.declared.script_types.ItemKind.TheVariants.{Frame, Add, Remove}
-use Rattle.law_model.specs.session.Leg.{Leg}
-use Rattle.law_model.specs.frames.Piece.{Piece, stream_of}
-use Rattle.law_model.specs.frames.Hunt.{Confirmed, hunt}
-use Rattle.law_model.specs.session.Scenario.{scenario_by, offer_of, offers_of}
-use Rattle.law_model.specs.frames.Segment.{StreamRow, Segment, segments, octets_of_rows}
-use Rattle.law_model.specs.source.Client.{place_of, stream_before}
-use Rattle.law_model.specs.session.Counts.{Counts}
 use Rattle.law_loss.proofs.CutLaws.{IsPart}
 use Rattle.law_loss.proofs.FoundLaws.{confirmed-within}
 use Rattle.law_loss.proofs.SessionStreamLaws.{pieces-begin, rows-octets, rows-length}
-use Rattle.law_model.specs.declared.item_refusals.Refusal.{Refusal}
-use Rattle.law_walk.specs.Walk.{session_of}
-use Rattle.law_walk.specs.Delivered.{session_rows}
-use Rattle.law_walk.specs.Promise.{session_pieces}
-use Rattle.law_walk.specs.Landed.{Numbered, is_client, with_if, landed_from, refusal_at}
+use Rattle.law_walk.specs.Common.{session_of, session_rows, session_pieces, Numbered, is_client, with_if, landed_from}
+use Rattle.law_walk.specs.Common.{refusal_at}
 use Rattle.law_walk.proofs.PlanLaws.{sound-walks}
 use Rattle.law_walk.proofs.EndLaws.{counts-within}
+use Rattle.fate_engine.specs.Common.{row_at, is_piece_at, is_true_mark, has_true_mark, are_true_marks, Span, spans}
+use Rattle.fate_engine.specs.Common.{row_segment, row_segments_with, row_segments, has_row, later_segments, mark_of_row}
+use Rattle.fate_engine.specs.Common.{End, refused, accepted, Ended, ended_by, ended_then, ended_on, ended_of, fate_at}
+use Rattle.fate_engine.specs.Common.{is_refused, has_got, has_waited, count_of, ended_text, fates_end, last_text}
 use Rattle.fate_engine.specs.declared.fate_law.Fate.{Fate}
 use Rattle.fate_engine.specs.declared.fate_law.Fate.TheVariants.{Waits, Cut, Unconfirmed, Hunting, Unsettled, Got}
 use Rattle.fate_engine.specs.declared.fate_law.RowSegment.{RowSegment}
-use Rattle.fate_engine.specs.fate_law.Fates.{row_at}
-use Rattle.fate_engine.specs.fate_law.Marks.{is_piece_at, is_true_mark, has_true_mark, are_true_marks}
-use Rattle.fate_engine.specs.fate_law.Spans.{Span, spans, row_segment, row_segments_with, row_segments, has_row, later_segments}
-use Rattle.fate_engine.specs.fate_law.Spans.{mark_of_row}
-use Rattle.fate_engine.specs.fate_law.SessionFates.{End, refused, accepted, Ended, ended_by, ended_then, ended_on, ended_of}
-use Rattle.fate_engine.specs.fate_law.SessionFates.{fate_at, is_refused, has_got, has_waited, count_of}
-use Rattle.fate_engine.specs.fate_law.FateText.{ended_text, fates_end}
-use Rattle.fate_engine.specs.fate_text.FateWording.{last_text}
 use Rattle.fate_engine.proofs.FateLaws.MadeLaws.{session-made}
 use Rattle.fate_engine.proofs.FateLaws.MarkLaws.{parts-of}
 use Rattle.fate_engine.proofs.FateLaws.RulerLaws.{piece-front}
 use Rattle.fate_engine.proofs.FateCoreLaws.FateSteps.{rows-count, place-up, row-is}
 use Rattle.fate_walks.specs.declared.walk_frames.landed_cursor.LandedFrame.{LandedFrame}
 use Rattle.fate_walks.specs.walk_frames.Landed.{Cursor, frames_before_item, frames_left, IsAt, IsNext, IsPast}
-use Rattle.fate_walks.proofs.WalkFramesLaws.LandedFrameLaws.{take-one}
 use Rattle.fate_walks.proofs.WalkFramesLaws.NextLaws.{next-count}
 use Rattle.fate_walks.specs.declared.walk_fates.seen_rows.SeenWalk.{SeenWalk}
 use Rattle.fate_walks.specs.declared.walk_fates.fates_report.EndedCount.{EndedCount}
@@ -58,28 +45,12 @@ pub flat-next : {X : Type 0} (f : X → List ℕ) (xs : List X) (i : ℕ) (x : X
 flat-next f xs i x there = ap (flat_map f) (take-one xs i x there) ∙ flat_map-append f (take i xs) (x ∷ [])
     ∙ ap (λ l. flat_map f (take i xs) ++ l) (append-nil (f x))
 
-pub get-some : {X : Type 0} (xs : List X) (i : ℕ) (d : X) → i < length xs → slice_get xs i ≡ Some (get_or xs i d)
-get-some [] i d low = absurd (omega arith)
-get-some (y ∷ xs) zero d low = refl
-get-some (y ∷ xs) (suc i) d low = get-some xs i d (omega (arith, low))
-
 pub text-next : {X : Type 0} (f : X → List ℕ) (xs : List X) (i : ℕ) (x : X) (before text : List ℕ) →
     slice_get xs i ≡ Some x → text ≡ f x →
     before ++ flat_map f (take i xs) ++ text ≡ before ++ flat_map f (take (i + 1) xs)
 text-next f xs i x before text there is =
     append_assoc before (flat_map f (take i xs)) text
     ∙ ap (λ l. before ++ l) (ap (λ l. flat_map f (take i xs) ++ l) is ∙ sym (flat-next f xs i x there))
-
-pub some-there : {X : Type 0} (xs : List X) (i : ℕ) → i < length xs → (x : X) × (slice_get xs i ≡ Some x)
-some-there [] i low = absurd (omega arith)
-some-there (y ∷ xs) zero low = (y, refl)
-some-there (y ∷ xs) (suc i) low = some-there xs i (omega (arith, low))
-
-pub get-contains : {X : Type 0} (xs : List X) (i : ℕ) (x : X) → slice_get xs i ≡ Some x → Contains xs x
-get-contains [] i x there = absurd cc
-get-contains (y ∷ xs) zero x there = (0, omega arith, (let e : y ≡ x = cc in e))
-get-contains (y ∷ xs) (suc i) x there = let rest = get-contains xs i x there in
-    (suc rest.0, (let low = rest.1 in omega (arith, low)), rest.2)
 
 -- ---- the marks of later segments
 abbrev MarkLow : ℕ → RowSegment → Type 0

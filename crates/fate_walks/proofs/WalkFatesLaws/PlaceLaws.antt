@@ -1,16 +1,14 @@
 -- The ruler of a walk, tick by tick and frame by frame.
-use Rattle.std.proofs.Common.{◌≡◌, ℕ, zero, suc, ◌+◌, ◌-◌, ◌^◌, ◌<◌, ◌≤◌, true, false, List, [], ◌∷◌, length, Option}
+use Rattle.std.proofs.Common.{◌≡◌, ℕ, ◌+◌, ◌-◌, ◌^◌, ◌<◌, ◌≤◌, true, false, length, Option}
 use Rattle.std.proofs.Common.{Some, None, is_some, slice_get, refl, sym, ◌∙◌, ap, subst, arith}
-use Rattle.law_model.specs.session.Leg.{Leg}
-use Rattle.law_model.specs.session.Scenario.{DueFrame, scenario_by, offers_of}
-use Rattle.law_model.specs.session.Counts.{Counts}
-use Rattle.law_model.specs.session.Valid.{IsSound}
+use Rattle.std.proofs.lemmas.Option.{slice_get_within}
+use Rattle.law_model.specs.Common.{Leg, DueFrame, scenario_by, offers_of, Counts, IsSound}
 use Rattle.law_model.specs.declared.item_refusals.Refusal.{Refusal}
-use Rattle.law_walk.specs.Walk.{session_of, IsWalked}
+use Rattle.law_walk.specs.Common.{session_of, IsWalked}
 use Rattle.law_walk.proofs.PlanLaws.{sound-walks}
 use Rattle.law_walk.proofs.EndLaws.{counts-within}
 use Rattle.law_walk.proofs.CountLaws.{place-most}
-use Rattle.fate_engine.specs.fate_law.Ruler.{Ruler, new_ruler, ruler_of, ruled, with_waiting}
+use Rattle.fate_engine.specs.Common.{Ruler, new_ruler, ruler_of, ruled, with_waiting}
 use Rattle.fate_engine.proofs.FateLaws.RulerLaws.{reached-ruled}
 use Rattle.fate_walks.specs.declared.walk_frames.landed_cursor.LandedFrame.{LandedFrame}
 use Rattle.fate_walks.specs.walk_frames.Landed.{Cursor, IsAt, IsNext, frames_before_item}
@@ -52,11 +50,6 @@ none-of (Some why) is = absurd (let e : true ≡ false = is in cc)
 pub some-of : (refusal : Option Refusal) → is_some refusal ≡ true → (why : Refusal) × (refusal ≡ Some why)
 some-of None is = absurd (let e : false ≡ true = is in cc)
 some-of (Some why) is = (why, refl)
-
-inside : (xs : List DueFrame) (k : ℕ) (x : DueFrame) → slice_get xs k ≡ Some x → k < length xs
-inside [] k x there = absurd cc
-inside (y ∷ xs) zero x there = omega arith
-inside (y ∷ xs) (suc k) x there = let rest = inside xs k x there in omega (arith, rest)
 
 -- a frame that isn't due before a tick: none from there on is
 pub next-waits : (leg : Leg) (was now : Cursor) (found : LandedFrame) (ticks : ℕ) → IsSound leg →
@@ -103,7 +96,7 @@ module _ (leg : Leg) (s : Counts) (ruler : Ruler) (was now : Cursor) (ticks : �
   pub next-fewer : length (offers_of leg.items) - frames_before_item leg now.item < length
       (offers_of leg.items) - frames_before_item leg was.item
   next-fewer =
-      let there = inside (offers_of leg.items) count (own leg was now found next)
+      let there = slice_get_within (offers_of leg.items) count (own leg was now found next)
       (next-offer leg was now found next) in
       let more = next-count leg was now found next in
       omega (arith, there, more)

@@ -1,39 +1,26 @@
 -- What is seen of a walk: one packet more, and one row more.
 use Rattle.std.proofs.Common.{◌≡◌, ℕ, zero, suc, ◌+◌, ◌^◌, ◌<◌, ◌≤◌, Bool, true, false, List, [], ◌∷◌, ◌++◌, map}
-use Rattle.std.proofs.Common.{length, All, Option, Some, None, is_none, is_some, not, slice_index_or, refl, sym, ◌∙◌}
+use Rattle.std.proofs.Common.{length, Option, Some, None, is_none, is_some, not, slice_index_or, refl, sym, ◌∙◌}
 use Rattle.std.proofs.Common.{ap, subst, arith, inl, inr, length-append}
 use Rattle.std.specs.List.{range_with_len}
 use Rattle.std.specs.Option.{option_map, ForSome}
 use Rattle.std.proofs.lemmas.Bool.{cases_Bool, cases_lt}
 use Rattle.std.proofs.lemmas.List.FromFn.{map-range_with_len_more, length-map-range_with_len}
-use Rattle.law_model.specs.session.Leg.{Leg}
-use Rattle.law_model.specs.session.Scenario.{scenario_by, steps_in}
-use Rattle.law_model.specs.source.Table.{Table, active}
-use Rattle.law_model.specs.source.Source.{after, table_of}
-use Rattle.law_model.specs.members.Damage.{AreWindows}
-use Rattle.law_model.specs.frames.Hunt.{Confirmed, hunt}
-use Rattle.law_model.specs.frames.Segment.{segments_of, octets_of_rows}
-use Rattle.law_model.specs.rows.SessionRows.{is_whole_row}
-use Rattle.law_model.specs.rows.SessionStream.{rows_of, row_of}
-use Rattle.law_model.specs.source.Client.{place_of}
-use Rattle.law_model.specs.session.Counts.{Counts}
-use Rattle.law_model.specs.session.Valid.{IsSound}
+use Rattle.law_model.specs.Common.{Leg, scenario_by, steps_in, Table, active, after, table_of, Confirmed, hunt}
+use Rattle.law_model.specs.Common.{segments_of, octets_of_rows, is_whole_row, rows_of, place_of, Counts, IsSound}
+use Rattle.law_model.specs.rows.SessionStream.{row_of}
 use Rattle.law_loss.proofs.CutLaws.{Stands-all}
 use Rattle.law_loss.proofs.FoundLaws.{confirmed-within}
 use Rattle.law_loss.proofs.SessionStreamLaws.{rows-length}
-use Rattle.law_walk.specs.Walk.{session_of, IsWalked}
-use Rattle.law_walk.specs.Step.{table_in}
-use Rattle.law_walk.specs.Delivered.{session_rows}
+use Rattle.law_walk.specs.Common.{session_of, IsWalked, table_in, session_rows}
 use Rattle.law_walk.proofs.PlanLaws.{sound-walks}
 use Rattle.law_walk.proofs.EndLaws.{counts-within}
 use Rattle.law_walk.proofs.CountLaws.{place-most}
 use Rattle.terminal_sink.specs.marked_delineator.Marks.{first_place}
+use Rattle.fate_engine.specs.Common.{row_cause, PacketList, Tells, AreRuns}
 use Rattle.fate_engine.specs.declared.fate_law.Cause.{Cause}
-use Rattle.fate_engine.specs.fate_law.Spoiled.{row_cause}
 use Rattle.fate_engine.proofs.FateLaws.CauseLaws.{cause-whole}
-use Rattle.fate_engine.specs.fate_core.Packets.{PacketList}
-use Rattle.fate_engine.specs.fate_core.Segments.{SegmentsStand, Tells}
-use Rattle.fate_engine.specs.fate_core.Runs.{AreRuns}
+use Rattle.fate_engine.specs.fate_core.Segments.{SegmentsStand}
 use Rattle.fate_walks.specs.walk_fates.Places.{Governs}
 use Rattle.fate_walks.specs.walk_fates.Seen.{Sees}
 use Rattle.fate_walks.specs.declared.walk_fates.seen_rows.SeenRows.{SeenRows}
@@ -45,9 +32,6 @@ few-rows leg s sound walked =
     let within = counts-within leg s (sound-walks leg sound) walked in
     let most = sound.network.ticks.1 in
     (within.0, within.1, omega (arith, within.1, most))
-
-pub windows-apart : (leg : Leg) → IsSound leg → All (AreWindows 0) leg.config.windows
-windows-apart leg sound k d low = (sound.network.windows k d low).apart
 
 -- ---- packets
 list-next : (f : ℕ → List ℕ) (all : List (List ℕ)) (last : List ℕ) (n : ℕ) → length all ≡ n →

@@ -6,17 +6,17 @@ use Rattle.std.proofs.lemmas.Bool.{lt-ltb}
 use Rattle.std.proofs.lemmas.List.{take_all, drop_all}
 use Rattle.std.proofs.lemmas.List.Concat.{flat_map-append}
 use Rattle.std.proofs.lemmas.List.Elements.{All-nil, All-cons, All-append, All-weaker}
+use Rattle.std.proofs.lemmas.Option.{slice_get-get_or, slice_get_within}
+use Rattle.walk_engine.proofs.WalkCoreLaws.OpenLaws.{none-landed}
+use Rattle.law_model.proofs.ListLaws.{take-one}
+use Rattle.law_model.specs.Common.{Leg, offer_of, offers_of, Counts}
 use Rattle.law_model.specs.declared.script_types.Item.{Item}
 use Rattle.law_model.specs.declared.script_types.ItemKind.{ItemKind}
-use Rattle.law_model.specs.declared.script_types.ItemKind.TheVariants.{Frame, Add, Remove}
-use Rattle.law_model.specs.session.Leg.{Leg}
-use Rattle.law_model.specs.session.Scenario.{DueFrame, offer_of, offers_of}
-use Rattle.law_model.specs.session.Counts.{Counts}
 use Rattle.law_model.specs.declared.item_refusals.Refusal.{Refusal}
+use Rattle.law_model.specs.declared.script_types.ItemKind.TheVariants.{Frame, Add, Remove}
 use Rattle.law_walk.proofs.LandLaws.{frame-waits}
-use Rattle.law_walk.specs.Landed.{Numbered, is_client, with_if, landed_from, refused_by, refusal_at, refusals_among}
-use Rattle.law_walk.specs.Landed.{refusals_of}
-use Rattle.fate_walks.specs.declared.walk_frames.landed_cursor.LandedFrame.{LandedFrame}
+use Rattle.law_walk.specs.Common.{Numbered, is_client, with_if, landed_from, refused_by, refusal_at, refusals_among}
+use Rattle.law_walk.specs.Common.{refusals_of}
 use Rattle.fate_walks.specs.walk_frames.Landed.{Cursor, frames_before_item, frames_left, IsAt, IsNext, IsSkipped, IsPast}
 
 -- ---- lists
@@ -25,13 +25,6 @@ drop-one [] i x there = absurd cc
 drop-one (y ∷ xs) zero x there = ap (λ z. z ∷ xs) (let e : y ≡ x = cc in e)
 drop-one (y ∷ xs) (suc i) x there = drop-one xs i x there
     ∙ ap (λ n. x ∷ drop n (y ∷ xs)) (let e : suc (i + 1) ≡ suc i + 1 = omega arith in e)
-
-pub take-one : {X : Type 0} (xs : List X) (i : ℕ) (x : X) → slice_get xs i ≡ Some x →
-    take (i + 1) xs ≡ take i xs ++ x ∷ []
-take-one [] i x there = absurd cc
-take-one (y ∷ xs) zero x there = ap (λ z. z ∷ []) (let e : y ≡ x = cc in e)
-take-one (y ∷ xs) (suc i) x there = ap (λ n. take n (y ∷ xs)) (let e : suc i + 1 ≡ suc (i + 1) = omega arith in e)
-    ∙ ap (λ l. y ∷ l) (take-one xs i x there)
 
 pub offers-next : (items : List Item) (i : ℕ) (item : Item) → slice_get items i ≡ Some item →
     offers_of (take (i + 1) items) ≡ offers_of (take i items) ++ offer_of item.due item.kind
@@ -178,11 +171,6 @@ found-refusal refusals r item x there own (Some why) later is far =
     let tail : drop (r + 1) refusals ≡ later = cc in
     (ap (λ (refused : ℕ × Refusal). Some refused.1) head, tail)
 
-get-there : (xs : List Item) (k : ℕ) (d : Item) → k < length xs → slice_get xs k ≡ Some (get_or xs k d)
-get-there [] k d low = absurd (omega arith)
-get-there (x ∷ xs) zero d low = refl
-get-there (x ∷ xs) (suc k) d low = get-there xs k d (omega (arith, low))
-
 -- ---- what a pass makes of a cursor
 module _ (leg : Leg) (s : Counts) (cursor : Cursor) (at : IsAt leg s cursor) (some : 0 < cursor.left)
     (low : cursor.item < length leg.items)
@@ -195,7 +183,8 @@ module _ (leg : Leg) (s : Counts) (cursor : Cursor) (at : IsAt leg s cursor) (so
     All (λ (refused : ℕ × Refusal). i < refused.0) later →
     (result ≡ why) × (drop r refusals ≡ later)) where
   there : slice_get leg.items cursor.item ≡ Some item
-  there = get-there leg.items cursor.item item low ∙ ap Some (sym (item-is ∙ ap₂ (λ l n. get_or l n item) are here))
+  there = slice_get-get_or leg.items cursor.item item low
+      ∙ ap Some (sym (item-is ∙ ap₂ (λ l n. get_or l n item) are here))
 
   found : (why : Option Refusal) (later : List (ℕ × Refusal)) →
       drop cursor.refusal (refusals_of leg s) ≡ refused_by cursor.item why ++ later →
@@ -307,20 +296,6 @@ module _ (leg : Leg) (s : Counts) (cursor : Cursor) (at : IsAt leg s cursor) (so
   skipped now other is = (skip-at now other is, skip-past now other is)
 
 -- ---- the end
-same-either : (client : Bool) (xs : List Numbered) → (if client then xs else xs) ≡ xs
-same-either true xs = refl
-same-either false xs = refl
-
-ended-none : (i : ℕ) (items : List Item) → landed_from 0 0 i items ≡ []
-unfolding landed_from
-ended-none i [] = refl
-ended-none i (item ∷ items) = same-either (is_client item.kind) (landed_from 0 0 (suc i) items)
-    ∙ ended-none (suc i) items
-
-get-within : (xs : List DueFrame) (k : ℕ) (x : DueFrame) → slice_get xs k ≡ Some x → k < length xs
-get-within [] k x there = absurd cc
-get-within (y ∷ xs) zero x there = omega arith
-get-within (y ∷ xs) (suc k) x there = let low = get-within xs k x there in omega (arith, low)
 
 nothing : (a i : ℕ) → landed_from a 0 i [] ≡ []
 unfolding landed_from
@@ -330,7 +305,7 @@ pub past-end : (leg : Leg) (s : Counts) (cursor : Cursor) → IsAt leg s cursor 
     (cursor.left ≡ 0) ⊎ (length leg.items ≤ cursor.item) → IsPast leg s cursor
 past-end leg s cursor at (inl none) = record {
   none = ap (λ a. landed_from a 0 cursor.item (drop cursor.item leg.items)) none
-      ∙ ended-none cursor.item (drop cursor.item leg.items);
+      ∙ none-landed (drop cursor.item leg.items) cursor.item;
   late = λ j offer far there. frame-waits leg s j offer at.walked
       (let left = at.left in omega (arith, left, none, far)) there;
 }
@@ -341,7 +316,7 @@ past-end leg s cursor at (inr past) =
       none = ap (landed_from cursor.left 0 cursor.item) no ∙ nothing cursor.left cursor.item;
       late = λ j offer far there. absurd
           (let size = ap (λ items. length (offers_of items)) all in
-          let low = get-within (offers_of leg.items) j offer there in omega (arith, size, low, far));
+          let low = slice_get_within (offers_of leg.items) j offer there in omega (arith, size, low, far));
     }
 
 pub past-before : (leg : Leg) (s : Counts) (was now : Cursor) → IsSkipped leg was now → IsPast leg s now →
@@ -349,21 +324,6 @@ pub past-before : (leg : Leg) (s : Counts) (was now : Cursor) → IsSkipped leg 
 past-before leg s was now skipped past = record {
   none = skipped.rest ∙ past.none;
   late = λ j offer far there. past.late j offer (let before = skipped.before in omega (arith, before, far)) there;
-}
-
-pub next-more : (leg : Leg) (was between now : Cursor) (frame : LandedFrame) → IsSkipped leg was between →
-    IsNext leg between now frame → IsNext leg was now frame
-next-more leg was between now frame one next = record {
-  item = next.item;
-  octets = next.octets;
-  there = next.there;
-  kind = next.kind;
-  due = next.due;
-  length_is = next.length_is;
-  refusal = next.refusal;
-  before = next.before ∙ one.before;
-  after = next.after;
-  rest = one.rest ∙ next.rest;
 }
 
 pub get-refusal : (xs : List (ℕ × Refusal)) (k : ℕ) (x : ℕ × Refusal) → k < length xs →

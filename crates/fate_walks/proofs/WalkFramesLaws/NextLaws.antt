@@ -1,23 +1,19 @@
 -- What the next frame that has landed does to the stream.
-use Rattle.std.proofs.Common.{◌≡◌, ℕ, zero, suc, ◌+◌, ◌<◌, ◌≤◌, List, [], ◌∷◌, length, take, get_or, Option, Some}
-use Rattle.std.proofs.Common.{None, option_map, slice_get, refl, sym, ◌∙◌, ap, ap₂, arith}
-use Rattle.std.proofs.Common.{length-append}
+use Rattle.std.proofs.Common.{◌≡◌, ℕ, zero, suc, ◌+◌, ◌<◌, ◌≤◌, List, [], ◌∷◌, length, take, get_or, Option, Some, None}
+use Rattle.std.proofs.Common.{option_map, slice_get, refl, sym, ◌∙◌, ap, ap₂, arith, length-append}
+use Rattle.law_model.proofs.ListLaws.{take-one}
+use Rattle.law_model.specs.Common.{Leg, DueFrame, scenario_by, offer_of, offers_of, frame_refusal, offered, IsSound}
 use Rattle.law_model.specs.declared.item_refusals.AcceptFault.{AcceptFault}
-use Rattle.law_model.specs.session.Leg.{Leg}
-use Rattle.law_model.specs.session.Scenario.{DueFrame, scenario_by, offer_of, offers_of}
-use Rattle.law_model.specs.source.Client.{frame_refusal, offered}
-use Rattle.law_model.specs.session.Valid.{IsSound}
-use Rattle.law_loss.proofs.LawScriptLaws.ItemLaws.{offers_rise}
 use Rattle.law_model.specs.declared.item_refusals.Refusal.{Refusal}
+use Rattle.law_loss.proofs.LawScriptLaws.ItemLaws.{offers_rise}
 use Rattle.law_model.specs.declared.item_refusals.Refusal.TheVariants.{Frame as frame_fault}
-use Rattle.law_walk.specs.Walk.{session_of}
-use Rattle.law_walk.specs.Landed.{stream_met, kind_refusal}
+use Rattle.law_walk.specs.Common.{session_of, stream_met, kind_refusal}
 use Rattle.law_walk.proofs.LandLaws.{offer-at}
-use Rattle.fate_engine.specs.fate_law.Ruler.{ruler_of, with_waiting}
+use Rattle.fate_engine.specs.Common.{ruler_of, with_waiting}
 use Rattle.fate_walks.specs.declared.walk_frames.landed_cursor.LandedFrame.{LandedFrame}
 use Rattle.fate_walks.specs.walk_frames.Landed.{Cursor, frames_before_item, IsNext}
 use Rattle.fate_walks.specs.walk_frames.Places.{stream_in, Between, IsEarly, IsLate}
-use Rattle.fate_walks.proofs.WalkFramesLaws.LandedFrameLaws.{offers-next, take-one}
+use Rattle.fate_walks.proofs.WalkFramesLaws.LandedFrameLaws.{offers-next}
 use Rattle.fate_walks.proofs.WalkFramesLaws.StreamLaws.{met-next, ruler-refused, ruler-accepted}
 
 get-inside : (xs : List DueFrame) (k : ℕ) (x : DueFrame) → slice_get xs k ≡ Some x → (k < length xs) ×

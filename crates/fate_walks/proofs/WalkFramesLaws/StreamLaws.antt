@@ -1,21 +1,16 @@
 -- The stream of a walk is ruled frame by frame, and tick by tick.
-use Rattle.std.proofs.Common.{◌≡◌, ℕ, zero, suc, ◌+◌, ◌<◌, ◌≤◌, Bool, true, false, List, [], ◌∷◌, ◌++◌}
-use Rattle.std.proofs.Common.{map, filter, fold, take, length, Option, Some, None, slice_get, refl, sym}
-use Rattle.std.proofs.Common.{◌∙◌, ap, arith}
+use Rattle.std.proofs.Common.{◌≡◌, ℕ, zero, suc, ◌+◌, ◌<◌, ◌≤◌, Bool, true, false, List, [], ◌∷◌, ◌++◌, map, filter}
+use Rattle.std.proofs.Common.{fold, take, length, Option, Some, None, slice_get, refl, sym, ◌∙◌, ap, arith}
 use Rattle.std.proofs.lemmas.Bool.Decides.{nat_tests}
 use Rattle.std.proofs.lemmas.List.{map-append}
 use Rattle.std.proofs.lemmas.List.Elements.{filter-append}
 use Rattle.std.proofs.lemmas.List.Sums.{fold-append}
+use Rattle.law_model.specs.Common.{Leg, scenario_by, Scenario, DueFrame, comes_at, Told, extents, Stream, frame_refusal}
+use Rattle.law_model.specs.Common.{offered_by, offered, reached, place_of, stream_before}
 use Rattle.law_model.specs.declared.item_refusals.AcceptFault.{AcceptFault}
-use Rattle.law_model.specs.session.Leg.{Leg}
-use Rattle.law_model.specs.session.Scenario.{scenario_by, Scenario, DueFrame, comes_at}
-use Rattle.law_model.specs.source.Table.{Told}
-use Rattle.law_model.specs.frames.Loss.{extents}
-use Rattle.law_model.specs.source.Client.{Stream, frame_refusal, offered_by, offered, reached, place_of, stream_before}
-use Rattle.law_walk.specs.Walk.{session_of}
-use Rattle.law_walk.specs.Landed.{stream_met}
+use Rattle.law_walk.specs.Common.{session_of, stream_met}
 use Rattle.law_walk.proofs.LandLaws.{filter-first}
-use Rattle.fate_engine.specs.fate_law.Ruler.{new_ruler, ruler_of, with_waiting}
+use Rattle.fate_engine.specs.Common.{new_ruler, ruler_of, with_waiting}
 use Rattle.fate_walks.specs.walk_frames.Places.{place_in, stream_in, Between}
 
 -- ---- a frame

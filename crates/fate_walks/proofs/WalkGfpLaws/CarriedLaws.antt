@@ -1,22 +1,18 @@
 -- The frames that rows carry: by their fates, and one after another.
-use Rattle.std.proofs.Common.{◌≡◌, ℕ, zero, suc, ◌+◌, ◌-◌, Bool, true, false, List, [], ◌∷◌, ◌++◌, length}
-use Rattle.std.proofs.Common.{map}
-use Rattle.std.proofs.Common.{filter, take, drop, Option, Some, None, slice_get, refl, sym, ◌∙◌, ap, arith}
-use Rattle.std.proofs.Common.{inl, inr, append-nil}
-use Rattle.std.specs.Prelude.{nat_le}
+use Rattle.std.proofs.Common.{◌≡◌, ℕ, zero, suc, ◌+◌, ◌-◌, Bool, true, false, List, [], ◌∷◌, ◌++◌, length, map, filter}
+use Rattle.std.proofs.Common.{take, drop, Option, Some, None, slice_get, refl, sym, ◌∙◌, ap, arith, inl, inr}
+use Rattle.std.proofs.Common.{append-nil, nat_le, take-append-drop}
 use Rattle.std.specs.List.{list_any}
 use Rattle.std.proofs.lemmas.Bool.{cases_Bool}
-use Rattle.std.proofs.lemmas.List.{map-append, take-append-drop}
+use Rattle.std.proofs.lemmas.List.{map-append}
 use Rattle.std.proofs.lemmas.List.Elements.{filter-append}
-use Rattle.law_model.specs.frames.Piece.{Piece}
-use Rattle.law_model.specs.frames.Segment.{StreamRow, Segment, segments, octets_of_rows}
-use Rattle.law_model.specs.frames.Loss.{Extent, extents, is_carried, lies_in, confirmed_in}
+use Rattle.law_model.proofs.ListLaws.{take-one}
+use Rattle.law_model.specs.Common.{Piece, StreamRow, Segment, segments, octets_of_rows, Extent, extents, is_carried}
+use Rattle.law_model.specs.Common.{lies_in, confirmed_in}
+use Rattle.fate_engine.specs.Common.{row_at, spoiled_after, is_settled_by, fate_after, fate_in, fate_among}
+use Rattle.fate_engine.specs.Common.{carried_fate, fate_of, fate_at, fate_if}
 use Rattle.fate_engine.specs.declared.fate_law.Fate.{Fate}
 use Rattle.fate_engine.specs.declared.fate_law.Fate.TheVariants.{Cut}
-use Rattle.fate_engine.specs.fate_law.Fates.{row_at, spoiled_after, is_settled_by, fate_after, fate_in, fate_among, carried_fate}
-use Rattle.fate_engine.specs.fate_law.Fates.{fate_of}
-use Rattle.fate_engine.specs.fate_law.SessionFates.{fate_at, fate_if}
-use Rattle.fate_walks.proofs.WalkFramesLaws.LandedFrameLaws.{take-one}
 use Rattle.fate_walks.specs.walk_gfp.Carried.{with_last_row, carried_among}
 use Rattle.fate_walks.specs.walk_gfp.Records.{last_row, frame_if}
 

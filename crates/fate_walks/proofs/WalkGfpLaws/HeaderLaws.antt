@@ -1,19 +1,14 @@
 -- The carried frames are those of the pieces, and the stream has the core header of each.
 use Rattle.std.proofs.Common.{◌≡◌, ℕ, ◌+◌, List, [], ◌∷◌, ◌++◌, length, map, filter, take, drop, All, refl, sym, ◌∙◌}
-use Rattle.std.proofs.Common.{ap}
-use Rattle.std.proofs.Common.{subst, arith, append_assoc}
-use Rattle.std.specs.List.{flat_map, Contains}
+use Rattle.std.proofs.Common.{ap, subst, arith, append_assoc, flat_map, Contains}
 use Rattle.std.proofs.lemmas.List.Elements.{All-nil, All-cons, All-weaker}
 use Rattle.std.proofs.Math.Seq.{take-append_seam, drop-append_seam}
-use Rattle.law_model.specs.frames.Core.{core_header}
-use Rattle.law_model.specs.frames.Piece.{Piece, idle, client, size_of, area_of, joined, with_header, stream_of, frames_by}
-use Rattle.law_model.specs.frames.Piece.{cut}
-use Rattle.law_model.specs.frames.Segment.{StreamRow, octets_of_rows}
-use Rattle.law_model.specs.frames.Loss.{Extent, extents, is_carried}
+use Rattle.law_model.specs.Common.{core_header, Piece, idle, client, size_of, area_of, joined, with_header, stream_of}
+use Rattle.law_model.specs.Common.{frames_by, StreamRow, octets_of_rows, Extent, extents, is_carried}
 use Rattle.law_model.proofs.CoreLaws.{length-core_header}
 use Rattle.law_model.proofs.AreaLaws.{scrambled_behind, map-length-scrambled_behind}
 use Rattle.law_model.proofs.StreamLaws.{stream_behind, stream_of-append, length-stream_of-cons}
-use Rattle.law_loss.proofs.ExtentLaws.{frames_ended}
+use Rattle.law_loss.proofs.ExtentLaws.{frames_ended, no_octets}
 use Rattle.text_captures.specs.capture_file.Written.{RowFrame}
 use Rattle.text_captures.specs.capture_file.Gfp.{with_pattern, gfp_octets}
 use Rattle.text_captures.proofs.CaptureFileLaws.GfpLaws.{pattern-on}
@@ -38,10 +33,6 @@ record HasPiece (start : ℕ) (pieces : List Piece) (e : Extent) : Type 0 where
   pub parts : pieces ≡ front ++ client e.frame ∷ more
   pub from : e.from ≡ start + length (stream_of front)
 
-no-octets : length (stream_of []) ≡ 0
-unfolding cut
-no-octets = refl
-
 behind : (start : ℕ) (piece : Piece) (pieces : List Piece) (e : Extent) → HasPiece (start + size_of piece) pieces e →
     HasPiece start (piece ∷ pieces) e
 behind start piece pieces e is = record {
@@ -61,7 +52,7 @@ all-pieces start (client frame ∷ pieces) =
     let own : Extent = record { from = start; to = start + size_of (client frame); frame = frame } in
     let rest = extents (start + size_of (client frame)) pieces in
     All-cons (HasPiece start (client frame ∷ pieces)) own rest
-    (record { front = []; more = pieces; parts = refl; from = omega (arith, no-octets) })
+    (record { front = []; more = pieces; parts = refl; from = omega (arith, no_octets) })
     (All-weaker (HasPiece (start + size_of (client frame)) pieces) (HasPiece start (client frame ∷ pieces))
     (behind start (client frame) pieces) rest (all-pieces (start + size_of (client frame)) pieces))
 

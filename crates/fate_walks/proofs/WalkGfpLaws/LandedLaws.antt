@@ -1,38 +1,28 @@
 -- The accepted frames among the items that have landed, one after another, and how many of them rows can carry.
 use Rattle.std.proofs.Common.{◌≡◌, ℕ, zero, suc, ◌+◌, ◌-◌, ◌<◌, ◌≤◌, Bool, true, false, List, [], ◌∷◌, ◌++◌, length}
-use Rattle.std.proofs.Common.{map}
-use Rattle.std.proofs.Common.{filter, take, drop, All, Option, Some, None, slice_get, refl, sym, ◌∙◌, ap, ap₂, subst}
-use Rattle.std.proofs.Common.{arith, inl, inr, append-nil, append_assoc, length-append, length-take, option_map}
-use Rattle.std.specs.Prelude.{nat_lt, nat_le, ◌||◌, if◌then◌else◌}
-use Rattle.std.specs.List.{flat_map}
-use Rattle.std.proofs.lemmas.Bool.{cases_Bool, lt-leb, ltb-false}
+use Rattle.std.proofs.Common.{map, filter, take, drop, All, Option, Some, None, slice_get, refl, sym, ◌∙◌, ap, ap₂}
+use Rattle.std.proofs.Common.{subst, arith, inl, inr, append-nil, append_assoc, length-append, length-take, option_map}
+use Rattle.std.proofs.Common.{nat_lt, nat_le, ◌||◌, if◌then◌else◌, flat_map, ltb-false}
+use Rattle.std.proofs.lemmas.Bool.{cases_Bool, lt-leb}
 use Rattle.std.proofs.lemmas.List.{length-map}
 use Rattle.std.proofs.lemmas.List.Elements.{All-tail, All-weaker}
+use Rattle.law_model.proofs.ListLaws.{slice_get-append_seam}
+use Rattle.law_model.specs.Common.{Leg, shortest_frame, longest_frame, most_waiting, Piece, stream_of, Scenario}
+use Rattle.law_model.specs.Common.{scenario_by, Told, place_of, stream_before, frames_in, refusal_while, Counts}
+use Rattle.law_model.specs.Common.{octets_of_rows, Extent, extents, is_carried, IsSound}
 use Rattle.law_model.specs.declared.script_types.Item.{Item}
 use Rattle.law_model.specs.declared.script_types.ItemKind.{ItemKind}
-use Rattle.law_model.specs.declared.script_types.ItemKind.TheVariants.{Frame, Add, Remove}
-use Rattle.law_model.specs.session.Leg.{Leg}
 use Rattle.law_model.specs.declared.item_refusals.AcceptFault.TheVariants.{Length, QueueFull}
-use Rattle.law_model.specs.Limits.{shortest_frame, longest_frame, most_waiting}
-use Rattle.law_model.specs.frames.Piece.{Piece, stream_of}
-use Rattle.law_model.specs.session.Scenario.{Scenario, scenario_by}
-use Rattle.law_model.specs.source.Table.{Told}
-use Rattle.law_model.specs.source.Client.{place_of, stream_before, frames_in, refusal_while}
-use Rattle.law_model.specs.session.Counts.{Counts}
-use Rattle.law_model.specs.frames.Segment.{octets_of_rows}
-use Rattle.law_model.specs.frames.Loss.{Extent, extents, is_carried}
-use Rattle.law_model.specs.session.Valid.{IsSound}
+use Rattle.law_model.specs.declared.item_refusals.Refusal.{Refusal}
+use Rattle.law_model.specs.declared.script_types.ItemKind.TheVariants.{Frame, Add, Remove}
 use Rattle.law_session.proofs.ClientLaws.{stream-reaches, stream_before-frames}
 use Rattle.law_loss.proofs.FilterLaws.{filter-none}
 use Rattle.law_loss.proofs.ExtentLaws.{IsBetween, extents-between, extents-append}
 use Rattle.law_loss.proofs.SessionLossLaws.{frames-extents}
 use Rattle.law_loss.proofs.SessionStreamLaws.{pieces-begin, rows-length}
-use Rattle.law_model.specs.declared.item_refusals.Refusal.{Refusal}
 use Rattle.law_model.specs.declared.item_refusals.Refusal.TheVariants.{Frame as frame_fault}
-use Rattle.law_walk.specs.Walk.{session_of, IsWalked}
-use Rattle.law_walk.specs.Delivered.{session_rows}
-use Rattle.law_walk.specs.Landed.{Numbered, is_client, with_if, landed_from, landed_items, refusal_at}
-use Rattle.law_walk.specs.Promise.{frame_by, session_extents, session_waiting}
+use Rattle.law_walk.specs.Common.{session_of, IsWalked, session_rows, Numbered, is_client, with_if, landed_from}
+use Rattle.law_walk.specs.Common.{landed_items, refusal_at, frame_by, session_extents, session_waiting}
 use Rattle.law_walk.proofs.PlanLaws.{sound-walks}
 use Rattle.law_walk.proofs.EndLaws.{counts-within}
 use Rattle.law_walk.proofs.PromiseLaws.{frames-known}
@@ -56,11 +46,6 @@ frame-at [] more (suc i) e there = absurd cc
 frame-at (x ∷ all) more zero e there = ap (λ (y : Extent). Some y.frame) (let same : x ≡ e = cc in same)
 frame-at (x ∷ all) more (suc i) e there = frame-at all more i e there
 
-get-behind : (done : List (List ℕ)) (frame : List ℕ) (more : List (List ℕ)) →
-    slice_get (done ++ frame ∷ more) (length done) ≡ Some frame
-get-behind [] frame more = refl
-get-behind (d ∷ done) frame more = get-behind done frame more
-
 module _ (leg : Leg) (s : Counts) (sound : IsSound leg) where
   known : (later : List (List ℕ)) ×
       (map (λ (e : Extent). e.frame) (session_extents leg) ++ session_waiting leg ≡ landed_accepted leg s ++
@@ -75,7 +60,7 @@ module _ (leg : Leg) (s : Counts) (sound : IsSound leg) where
       sym (frame-at (session_extents leg) (session_waiting leg) (length done) e there)
       ∙ ap (λ l. slice_get l (length done))
       (all.1 ∙ ap (λ l. l ++ all.0) parts ∙ append_assoc done (frame ∷ more) all.0)
-      ∙ get-behind done frame (more ++ all.0) in
+      ∙ slice_get-append_seam done frame (more ++ all.0) in
       cc
 
 -- ---- the frames behind them aren't carried

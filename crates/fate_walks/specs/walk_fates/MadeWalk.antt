@@ -1,18 +1,12 @@
 -- What is known of a walk that was made, and what its items came to, as private clauses say it.
 use Rattle.std.specs.Prelude.{◌≡◌, ℕ, ◌+◌, List, length, Option, Some, None}
-use Rattle.law_model.specs.session.Leg.{Leg}
-use Rattle.law_model.specs.session.Counts.{Counts}
-use Rattle.law_model.specs.session.Valid.{IsSound}
-use Rattle.law_walk.specs.Walk.{IsWalked}
-use Rattle.law_walk.specs.Delivered.{session_rows}
-use Rattle.law_walk.specs.Promise.{session_pieces}
-use Rattle.fate_engine.specs.declared.fate_law.RowSegment.{RowSegment}
+use Rattle.law_model.specs.Common.{Leg, Counts, IsSound}
 use Rattle.law_model.specs.declared.item_refusals.Refusal.{Refusal}
+use Rattle.law_walk.specs.Common.{IsWalked, session_rows, session_pieces}
+use Rattle.fate_engine.specs.Common.{End, refused, accepted, Ended, fate_at, is_refused, has_got, has_waited, count_of}
+use Rattle.fate_engine.specs.Common.{segment_text, counted}
+use Rattle.fate_engine.specs.declared.fate_law.RowSegment.{RowSegment}
 use Rattle.fate_engine.specs.declared.fate_law.Fate.{Fate}
-use Rattle.fate_engine.specs.fate_law.SessionFates.{End, refused, accepted, Ended, fate_at, is_refused, has_got, has_waited}
-use Rattle.fate_engine.specs.fate_law.SessionFates.{count_of}
-use Rattle.fate_engine.specs.fate_law.FateText.{segment_text}
-use Rattle.fate_engine.specs.fate_core.Totals.{counted}
 use Rattle.fate_walks.specs.walk_fates.Places.{Rules}
 use Rattle.fate_walks.specs.walk_fates.Seen.{Sees}
 use Rattle.fate_walks.specs.declared.walk_fates.seen_rows.SeenWalk.{SeenWalk}

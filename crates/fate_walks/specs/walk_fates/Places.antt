@@ -1,11 +1,8 @@
 -- The packets of a walk and the places of its frames, as private clauses say it.
 use Rattle.std.specs.Prelude.{◌≡◌, ℕ, length}
-use Rattle.law_model.specs.session.Leg.{Leg}
-use Rattle.law_model.specs.session.Scenario.{scenario_by, steps_in}
-use Rattle.law_model.specs.source.Client.{stream_before}
-use Rattle.law_walk.specs.Walk.{session_of}
-use Rattle.fate_engine.specs.fate_law.Ruler.{Ruler, ruler_of}
-use Rattle.fate_engine.specs.fate_core.Packets.{PacketList, ArePackets}
+use Rattle.law_model.specs.Common.{Leg, scenario_by, steps_in, stream_before}
+use Rattle.law_walk.specs.Common.{session_of}
+use Rattle.fate_engine.specs.Common.{Ruler, ruler_of, PacketList, ArePackets}
 
 -- the packets are those whose decision steps some ticks made
 pub record Governs (leg : Leg) (ticks : ℕ) (packets : PacketList) : Type 0 where

@@ -1,12 +1,9 @@
 -- What is seen of a walk turn by turn, as private clauses say it.
 use Rattle.std.specs.Prelude.{ℕ, map}
 use Rattle.std.specs.List.{range_with_len}
-use Rattle.law_model.specs.session.Leg.{Leg}
-use Rattle.law_model.specs.session.Scenario.{scenario_by}
-use Rattle.law_walk.specs.Walk.{session_of}
-use Rattle.law_walk.specs.Delivered.{session_rows}
-use Rattle.fate_engine.specs.fate_law.Spoiled.{row_cause}
-use Rattle.fate_engine.specs.fate_core.Runs.{AreRuns}
+use Rattle.law_model.specs.Common.{Leg, scenario_by}
+use Rattle.law_walk.specs.Common.{session_of, session_rows}
+use Rattle.fate_engine.specs.Common.{row_cause, AreRuns}
 use Rattle.fate_engine.specs.fate_core.Segments.{SegmentsStand}
 use Rattle.fate_walks.specs.walk_fates.Places.{Governs}
 use Rattle.fate_walks.specs.declared.walk_fates.seen_rows.SeenRows.{SeenRows}

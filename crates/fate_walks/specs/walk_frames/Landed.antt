@@ -1,13 +1,9 @@
 -- The client's items that have landed in a walk, one after another, as clauses say it.
 use Rattle.std.specs.Prelude.{◌≡◌, ℕ, ◌+◌, ◌-◌, ◌≤◌, List, [], ◌∷◌, length, take, drop, Some, slice_get}
+use Rattle.law_model.specs.Common.{Leg, offers_of, Counts, IsSound}
 use Rattle.law_model.specs.declared.script_types.Item.{Item}
 use Rattle.law_model.specs.declared.script_types.ItemKind.TheVariants.{Frame}
-use Rattle.law_model.specs.session.Leg.{Leg}
-use Rattle.law_model.specs.session.Scenario.{offers_of}
-use Rattle.law_model.specs.session.Counts.{Counts}
-use Rattle.law_model.specs.session.Valid.{IsSound}
-use Rattle.law_walk.specs.Walk.{IsWalked}
-use Rattle.law_walk.specs.Landed.{Numbered, landed_from, refusal_at, refusals_among, refusals_of}
+use Rattle.law_walk.specs.Common.{IsWalked, Numbered, landed_from, refusal_at, refusals_among, refusals_of}
 use Rattle.fate_walks.specs.walk_frames.Places.{IsLate}
 use Rattle.fate_walks.specs.declared.walk_frames.landed_cursor.LandedFrame.{LandedFrame}
 

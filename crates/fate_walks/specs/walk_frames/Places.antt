@@ -1,10 +1,7 @@
 -- The stream of a leg in a number of ticks, after its first frames.
 use Rattle.std.specs.Prelude.{◌≡◌, ℕ, ◌≤◌, ◌<◌, take, Some, slice_get}
-use Rattle.law_model.specs.session.Leg.{Leg}
-use Rattle.law_model.specs.session.Scenario.{DueFrame, scenario_by, offers_of}
-use Rattle.law_model.specs.source.Client.{Stream, place_of}
-use Rattle.law_walk.specs.Walk.{session_of}
-use Rattle.law_walk.specs.Landed.{stream_met}
+use Rattle.law_model.specs.Common.{Leg, DueFrame, scenario_by, offers_of, Stream, place_of}
+use Rattle.law_walk.specs.Common.{session_of, stream_met}
 
 -- the place of the stream at which a row begins
 abbrev pub place_in : Leg → ℕ → ℕ

@@ -1,13 +1,8 @@
 -- The client frames that taken rows carry, as `gfp` writes them.
 use Rattle.std.specs.Prelude.{ℕ, ◌-◌, List, length, map, filter}
-use Rattle.law_model.specs.session.Leg.{Leg}
-use Rattle.law_model.specs.frames.Piece.{Piece}
-use Rattle.law_model.specs.frames.Segment.{StreamRow, octets_of_rows}
-use Rattle.law_model.specs.frames.Loss.{Extent, extents, is_carried}
-use Rattle.law_model.specs.session.Counts.{Counts}
-use Rattle.law_walk.specs.Delivered.{session_rows}
-use Rattle.law_walk.specs.Promise.{session_pieces}
-use Rattle.fate_engine.specs.fate_law.Fates.{row_at}
+use Rattle.law_model.specs.Common.{Leg, Piece, StreamRow, octets_of_rows, Extent, extents, is_carried, Counts}
+use Rattle.law_walk.specs.Common.{session_rows, session_pieces}
+use Rattle.fate_engine.specs.Common.{row_at}
 use Rattle.text_captures.specs.capture_file.Written.{RowFrame}
 use Rattle.text_captures.specs.capture_file.Gfp.{gfp_capture}
 

@@ -1,29 +1,23 @@
 //! The text of fates: a line for each run of spoiled rows, each segment but the first, and each client item
 //! that landed, and one of totals.
-ghost use Rattle.std.specs.Prelude.{◌≡◌, ℕ, ◌+◌, ◌<◌, ◌++◌, List, Contains, slice_get, OnOk, OnErr};
-ghost use Rattle.std.specs.List.{flat_map};
-ghost use Rattle.law_model.specs.session.Leg.{leg_of};
-ghost use Rattle.octet_io.specs.Start.{Start};
-ghost use Rattle.octet_io.specs.Transfer.{Appends, AppendsPart};
+ghost use Rattle.std.specs.Prelude.{◌≡◌, ℕ, ◌+◌, ◌<◌, ◌++◌, List, Contains, slice_get, OnOk, OnErr, flat_map};
+ghost use Rattle.law_model.specs.Common.{leg_of, Start, Appends, AppendsPart};
 ghost use Rattle.text_got.specs.Told.{HasText};
+ghost use Rattle.fate_engine.specs.Common.{are_true_marks, Ended, ended_of, refused, accepted, later_segments};
+ghost use Rattle.fate_engine.specs.Common.{spoiled_text, mark_text, ended_text, fates_end, fates_text, told_text};
+ghost use Rattle.fate_engine.specs.Common.{item_text};
 ghost use Rattle.fate_engine.specs.declared.fate_law.RowSegment.{RowSegment as RowSegmentData};
-ghost use Rattle.fate_engine.specs.fate_law.Marks.{are_true_marks};
-ghost use Rattle.fate_engine.specs.fate_law.SessionFates.{Ended, ended_of, refused, accepted};
-ghost use Rattle.fate_engine.specs.fate_law.Spans.{later_segments};
-ghost use Rattle.fate_engine.specs.fate_law.FateText.{spoiled_text, mark_text, ended_text, fates_end, fates_text};
-ghost use Rattle.law_walk.specs.Delivered.{session_rows};
-ghost use Rattle.law_walk.specs.Promise.{session_pieces};
+ghost use Rattle.law_walk.specs.Common.{session_rows, session_pieces};
 ghost use Rattle.fate_walks.specs.walk_fates.MadeWalk.{SeesWalk, Counted, segment_in, fates_in, end_by, counted_end};
-ghost use Rattle.fate_engine.specs.fate_text.FateWording.{told_text, item_text};
 
 use crate::walk_fates::seen_rows::SeenWalk;
 use crate::walk_frames::{FrameCursor, LandedFrame};
-use octet_io::{ByteSink, Failed, take_back};
 use fate_engine::fate_core::{Fate, FateTotals, RowSegment, SpoiledRun, fate, starts_true};
 use fate_engine::fate_text::{
     ROOM, Tally, ToldMark, fate_line, fates_line, refused_line, segment_line, spoiled_line,
 };
 use law_model::Refusal;
+use octet_io::{ByteSink, Failed, take_back};
 use text_got::GotLines;
 use walk_engine::walk_core::Walk;
 

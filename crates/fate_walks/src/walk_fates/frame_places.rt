@@ -1,10 +1,9 @@
 //! Where the pieces of a walk's accepted frames lie, which is known once the walk was made: by when they
 //! landed, and by how far the stream was made in each tick.
 ghost use Rattle.std.specs.Prelude.{◌≡◌, ℕ, ◌+◌, ◌^◌, ◌≤◌, ◌<◌, IfOk, IfSome, IfNone};
-ghost use Rattle.law_model.specs.session.Leg.{leg_of};
-ghost use Rattle.law_model.specs.session.Valid.{IsValid};
-ghost use Rattle.law_walk.specs.Walk.{IsWalked};
-ghost use Rattle.fate_engine.specs.fate_law.Ruler.{ruler_of};
+ghost use Rattle.law_model.specs.Common.{leg_of, IsValid};
+ghost use Rattle.law_walk.specs.Common.{IsWalked};
+ghost use Rattle.fate_engine.specs.Common.{ruler_of};
 ghost use Rattle.fate_walks.specs.walk_frames.Landed.{IsAt, IsNext, frames_before_item};
 ghost use Rattle.fate_walks.specs.walk_frames.Places.{stream_in, place_in, Between, IsLate};
 ghost use Rattle.fate_walks.specs.walk_fates.Places.{Governs, Rules};

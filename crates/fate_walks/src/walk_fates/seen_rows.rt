@@ -2,10 +2,8 @@
 //! the row that was taken is whole and why not, and what is confirmed after it.
 ghost use Rattle.std.specs.Prelude.{◌≡◌, ◌+◌, ◌≤◌, OnOk, OnErr};
 ghost use Rattle.std.specs.Bool.{OnTrue, OnFalse};
-ghost use Rattle.law_model.specs.session.Leg.{Leg, leg_of};
-ghost use Rattle.law_model.specs.session.Scenario.{steps_in};
-ghost use Rattle.law_model.specs.session.Valid.{IsValid};
-ghost use Rattle.law_walk.specs.Walk.{IsWalked};
+ghost use Rattle.law_model.specs.Common.{Leg, leg_of, steps_in, IsValid};
+ghost use Rattle.law_walk.specs.Common.{IsWalked};
 ghost use Rattle.fate_walks.specs.walk_fates.Seen.{Sees};
 
 use fate_engine::fate_core::{Packets, Ruler, Segments, SpoiledRuns, row_cause};

@@ -1,11 +1,9 @@
 //! The client's items that have landed in a walk, one after another in item order, each with why it is
 //! refused where it is.
 ghost use Rattle.std.specs.Prelude.{◌≡◌, ℕ, ◌+◌, ◌<◌, List, ◌++◌, length, drop, All, Option, IfSome, IfNone};
-ghost use Rattle.law_model.specs.session.Leg.{leg_of};
+ghost use Rattle.law_model.specs.Common.{leg_of, IsSound};
 ghost use Rattle.law_model.specs.declared.item_refusals.Refusal.{Refusal as RefusalData};
-ghost use Rattle.law_model.specs.session.Valid.{IsSound};
-ghost use Rattle.law_walk.specs.Walk.{IsWalked};
-ghost use Rattle.law_walk.specs.Landed.{refused_by};
+ghost use Rattle.law_walk.specs.Common.{IsWalked, refused_by};
 ghost use Rattle.fate_walks.specs.walk_frames.Landed.{IsAt, IsNext, IsPast, IsSkipped};
 
 use law_model::{Item, ItemKind, Refusal};

@@ -3,10 +3,9 @@
 //! with `FrameCursor`; `stream_law` is a law of definitions alone.
 
 ghost use Rattle.std.specs.Prelude.{◌≡◌, ℕ, ◌+◌, ◌<◌, ◌≤◌, List, length, Some, None};
+ghost use Rattle.law_model.specs.Common.{Leg, Stream, frame_refusal, offered, reached};
 ghost use Rattle.law_model.specs.declared.item_refusals.AcceptFault.{AcceptFault};
-ghost use Rattle.law_model.specs.session.Leg.{Leg};
-ghost use Rattle.law_model.specs.source.Client.{Stream, frame_refusal, offered, reached};
-ghost use Rattle.fate_engine.specs.fate_law.Ruler.{new_ruler, ruler_of, with_waiting};
+ghost use Rattle.fate_engine.specs.Common.{new_ruler, ruler_of, with_waiting};
 ghost use Rattle.fate_walks.specs.walk_frames.Places.{place_in, stream_in, Between};
 
 mod landed_cursor;

@@ -1,13 +1,9 @@
 //! The records of a capture of GFP frames, frame by frame.
 ghost use Rattle.std.specs.Prelude.{◌≡◌, ◌≤◌, ℕ, List, [], ◌++◌, length, Some, slice_get, OnOk, OnErr};
-ghost use Rattle.octet_io.specs.Start.{Start};
-ghost use Rattle.octet_io.specs.Transfer.{Appends, AppendsPart};
+ghost use Rattle.law_model.specs.Common.{Start, Appends, AppendsPart, leg_of, longest_frame};
 ghost use Rattle.law_model.specs.declared.script_types.Item.{Item as ItemData};
 ghost use Rattle.law_model.specs.declared.script_types.ItemKind.TheVariants.{Frame};
-ghost use Rattle.law_model.specs.session.Leg.{leg_of};
-ghost use Rattle.law_model.specs.Limits.{longest_frame};
-ghost use Rattle.law_walk.specs.Delivered.{session_rows};
-ghost use Rattle.law_walk.specs.Promise.{session_pieces};
+ghost use Rattle.law_walk.specs.Common.{session_rows, session_pieces};
 ghost use Rattle.text_captures.specs.capture_file.Written.{RowFrame};
 ghost use Rattle.text_captures.specs.capture_file.Out.{HasGfp};
 ghost use Rattle.fate_walks.specs.walk_fates.MadeWalk.{SeesWalk, fates_in};
@@ -16,9 +12,9 @@ ghost use Rattle.fate_walks.specs.walk_gfp.Records.{last_row, frame_if};
 
 use crate::walk_fates::{SeenWalk, accepted_fate};
 use crate::walk_frames::FrameCursor;
-use octet_io::{ByteSink, Failed, take_back};
 use fate_engine::fate_core::Fate;
 use law_model::ItemKind;
+use octet_io::{ByteSink, Failed, take_back};
 use text_captures::capture_file::GfpOut;
 use walk_engine::walk_core::Walk;
 

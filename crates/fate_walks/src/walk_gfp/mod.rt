@@ -3,11 +3,8 @@
 //! made here, and no frame is copied. Begin with `write_gfp`; `carried_law` says which frames these are, and
 //! that their headers are the stream's.
 
-ghost use Rattle.std.specs.Prelude.{◌≡◌, List, map, length, take, drop};
-ghost use Rattle.std.specs.List.{Contains};
-ghost use Rattle.law_model.specs.frames.Piece.{Piece, frames_by, stream_of};
-ghost use Rattle.law_model.specs.frames.Segment.{StreamRow, octets_of_rows};
-ghost use Rattle.law_model.specs.frames.Loss.{Extent, extents};
+ghost use Rattle.std.specs.Prelude.{◌≡◌, List, map, length, take, drop, Contains};
+ghost use Rattle.law_model.specs.Common.{Piece, frames_by, stream_of, StreamRow, octets_of_rows, Extent, extents};
 ghost use Rattle.text_captures.specs.capture_file.Written.{RowFrame};
 ghost use Rattle.text_captures.specs.capture_file.Gfp.{with_pattern, gfp_octets};
 ghost use Rattle.fate_walks.specs.walk_gfp.Carried.{carried_frames};

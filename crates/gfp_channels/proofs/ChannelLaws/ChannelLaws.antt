@@ -1,20 +1,14 @@
 -- What is delivered of each channel, with cuts and without.
-use Rattle.std.proofs.Common.{◌≡◌, ℕ, ◌+◌, List, [], ◌∷◌, ◌++◌, length, take, drop, All, refl}
-use Rattle.std.proofs.Common.{sym}
-use Rattle.std.proofs.Common.{◌∙◌, ap, subst, arith}
-use Rattle.std.specs.List.{flat_map}
-use Rattle.std.proofs.lemmas.List.{append_assoc, take-append-drop, take_at, length-take-le}
+use Rattle.std.proofs.Common.{◌≡◌, ℕ, ◌+◌, List, [], ◌∷◌, ◌++◌, length, take, drop, All, refl, sym, ◌∙◌, ap, subst}
+use Rattle.std.proofs.Common.{arith, flat_map, append_assoc, take-append-drop, take_at, length-take-le}
 use Rattle.std.proofs.lemmas.List.Concat.{flat_map-append}
 use Rattle.std.proofs.lemmas.List.Elements.{All-tail}
-use Rattle.law_model.specs.frames.Piece.{size_of, client as with_content}
-use Rattle.law_model.specs.frames.Segment.{StreamRow, Segment, segments}
-use Rattle.law_model.specs.frames.Loss.{extents, TrueStarts}
+use Rattle.law_model.specs.Common.{size_of, client as with_content, StreamRow, Segment, segments, extents, TrueStarts}
 use Rattle.gfp_model.specs.declared.linear_model.Cut.{Cut}
 use Rattle.gfp_model.specs.linear_model.Linear.{extension_header, ChannelFrame, frame_in}
 use Rattle.gfp_model.specs.linear_model.Channels.{Channels, waiting_of}
 use Rattle.gfp_model.specs.linear_model.Stream.{LinearPiece, idle, client, linear_stream, Shared, unsent, reached}
-use Rattle.gfp_model.specs.linear_model.Stream.{frames_of}
-use Rattle.gfp_model.specs.linear_model.Stream.{stream_to, cut_rows, segment_outcomes}
+use Rattle.gfp_model.specs.linear_model.Stream.{frames_of, stream_to, cut_rows, segment_outcomes}
 use Rattle.gfp_channels.proofs.GfpLinearLaws.ReachLaws.{reached-fewest}
 use Rattle.gfp_channels.proofs.GfpLinearLaws.StreamSteps.{long}
 use Rattle.gfp_channels.proofs.GfpLinearLaws.TurnLaws.{reached-keeps}
@@ -22,8 +16,7 @@ use Rattle.law_loss.proofs.ExtentLaws.{frames_to}
 use Rattle.law_loss.proofs.PrefixLaws.{all_frames, frames_to-first}
 use Rattle.law_loss.specs.Kind.{stream_in, IsPieceIn, segment_told, Carries}
 use Rattle.gfp_channels.specs.channel_law.Kept.{AreSound, linear_kind, as_pieces, read_content, frame_with, frames_told}
-use Rattle.gfp_channels.specs.channel_law.Kept.{content_frames}
-use Rattle.gfp_channels.specs.channel_law.Kept.{carried_of, kept_of, delivered_of, AreOrdered}
+use Rattle.gfp_channels.specs.channel_law.Kept.{content_frames, carried_of, kept_of, delivered_of, AreOrdered}
 use Rattle.gfp_channels.proofs.ChannelLaws.ContentLaws.{linear-sound, stream-pieces, IsSent, pieces_sent}
 use Rattle.gfp_channels.proofs.ChannelLaws.QueueLaws.{reached_sent, unsent_may}
 use Rattle.gfp_channels.proofs.ChannelLaws.CutLaws.{none-ordered, cut-octets, all-whole}

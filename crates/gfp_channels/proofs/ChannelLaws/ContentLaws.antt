@@ -1,24 +1,18 @@
 -- Frames with a linear extension header are a kind of frames: each comes through as it is sent, with its channel.
-use Rattle.std.proofs.Common.{◌≡◌, ℕ, ◌+◌, ◌*◌, ◌/◌, ◌%◌, ◌^◌, ◌<◌, ◌≤◌, true, List, [], ◌∷◌, ◌++◌, length, map}
-use Rattle.std.proofs.Common.{All, Some, None, refl, sym, ◌∙◌, ap, ap₂, arith, eq-eqb, length-append}
-use Rattle.std.specs.Prelude.{if◌then◌else◌}
-use Rattle.std.specs.List.{flat_map}
-use Rattle.std.proofs.lemmas.Bool.{le-ltb}
+use Rattle.std.proofs.Common.{◌≡◌, ℕ, ◌+◌, ◌*◌, ◌/◌, ◌%◌, ◌^◌, ◌<◌, ◌≤◌, true, List, [], ◌∷◌, ◌++◌, length, map, All}
+use Rattle.std.proofs.Common.{Some, None, refl, sym, ◌∙◌, ap, ap₂, arith, eq-eqb, length-append, if◌then◌else◌}
+use Rattle.std.proofs.Common.{flat_map, le-ltb}
 use Rattle.std.proofs.lemmas.List.Elements.{All-nil, All-cons, All-append, All-map, All-weaker}
-use Rattle.check_remainder.specs.Bits.{bits, number_behind}
-use Rattle.check_remainder.specs.Remainder.{add_front, divide}
+use Rattle.law_model.specs.Common.{bits, number_behind, add_front, divide, hec_of, hec_bits, with_header}
+use Rattle.law_model.specs.Common.{scrambled_areas, longest_extended_area, longest_frame}
 use Rattle.check_remainder.proofs.BitLaws.{number_below}
-use Rattle.check_hec16.specs.Hec.{hec_of, hec_bits}
 use Rattle.check_hec16.proofs.HecLaws.{length-hec_bits}
-use Rattle.law_model.specs.frames.Piece.{with_header, scrambled_areas}
 use Rattle.gfp_model.specs.declared.linear_model.CidFault.{CidFault}
 use Rattle.gfp_model.specs.linear_model.Linear.{linear_header, extension_header, cid_field, cid_check, cid_fault}
-use Rattle.gfp_model.specs.linear_model.Linear.{linear_type_fault}
-use Rattle.gfp_model.specs.linear_model.Linear.{linear_outcome, frame_in, linear_area}
+use Rattle.gfp_model.specs.linear_model.Linear.{linear_type_fault, linear_outcome, frame_in, linear_area}
 use Rattle.gfp_model.specs.linear_model.Stream.{LinearPiece, idle, client, area_of, linear_stream}
 use Rattle.law_loss.specs.Kind.{IsKind, area_in, stream_in, IsContent, IsPieceIn}
 use Rattle.gfp_channels.specs.channel_law.Kept.{IsChannelFrame, read_content, linear_kind, as_piece, as_pieces}
-use Rattle.law_model.specs.Limits.{longest_extended_area, longest_frame}
 
 -- ---- the headers
 linear_header_right : linear_type_fault linear_header ≡ None

@@ -1,10 +1,8 @@
 -- Octets with cuts are the octets of rows, and where there is no cut they are one whole row.
-use Rattle.std.proofs.Common.{◌≡◌, ℕ, ◌+◌, ◌-◌, true, List, [], ◌∷◌, ◌++◌, take, drop, All, refl, sym}
-use Rattle.std.proofs.Common.{◌∙◌}
-use Rattle.std.proofs.Common.{ap, arith}
-use Rattle.std.proofs.lemmas.List.{append-nil, take-append-drop, drop-drop}
+use Rattle.std.proofs.Common.{◌≡◌, ℕ, ◌+◌, ◌-◌, true, List, [], ◌∷◌, ◌++◌, take, drop, All, refl, sym, ◌∙◌, ap, arith}
+use Rattle.std.proofs.Common.{append-nil, take-append-drop, drop-drop}
 use Rattle.std.proofs.lemmas.List.Elements.{All-nil, All-cons}
-use Rattle.law_model.specs.frames.Segment.{StreamRow, octets_of_rows}
+use Rattle.law_model.specs.Common.{StreamRow, octets_of_rows}
 use Rattle.gfp_model.specs.declared.linear_model.Cut.{Cut}
 use Rattle.gfp_model.specs.linear_model.Stream.{cut_rows}
 use Rattle.gfp_channels.specs.channel_law.Kept.{AreOrdered}
@@ -27,10 +25,6 @@ cut-octets place (cut ∷ cuts) octets ordered =
     ∙ ap (λ n. drop n octets) (sym both) ∙ sym (drop-drop gone front octets))
     ∙ ap (λ l. take front octets ++ l) (take-append-drop gone after)
     ∙ take-append-drop front octets
-
-pub no-cuts : (octets : List ℕ) → cut_rows 0 [] octets ≡ record { whole = true; octets = octets } ∷ []
-unfolding cut_rows
-no-cuts octets = refl
 
 pub all-whole : (octets : List ℕ) → All (λ (row : StreamRow). row.whole ≡ true) (cut_rows 0 [] octets)
 unfolding cut_rows

@@ -1,22 +1,21 @@
 -- What is accepted may be sent, and so may each piece that turns begin; and what an answer depends on.
-use Rattle.std.proofs.Common.{◌≡◌, ℕ, zero, suc, ◌<◌, ◌≤◌, true, false, List, [], ◌∷◌, ◌++◌, length}
-use Rattle.std.proofs.Common.{drop, All, Option, Some, None, refl, ap, ap₂, arith, inl, inr}
-use Rattle.std.specs.Prelude.{IfSome, nat_le, nat_lt, ◌||◌, if◌then◌else◌, slice_index_or}
-use Rattle.std.proofs.lemmas.Bool.{cases_lt, le-leb, lt-leb, le-ltb, lt-ltb}
+use Rattle.std.proofs.Common.{◌≡◌, ℕ, zero, suc, ◌<◌, ◌≤◌, true, false, List, [], ◌∷◌, ◌++◌, length, drop, All, Option}
+use Rattle.std.proofs.Common.{Some, None, refl, ap, ap₂, arith, inl, inr, IfSome, nat_le, nat_lt, ◌||◌, if◌then◌else◌}
+use Rattle.std.proofs.Common.{slice_index_or, le-leb, le-ltb, lt-ltb}
+use Rattle.std.proofs.lemmas.Bool.{cases_lt, lt-leb}
 use Rattle.std.proofs.lemmas.List.Elements.{All-nil, All-cons, All-head, All-tail, All-append, All-drop, All-get_or}
 use Rattle.std.proofs.lemmas.List.Elements.{All-replicate}
 use Rattle.std.proofs.lemmas.List.{length-replicate}
 use Rattle.gfp_model.specs.declared.linear_model.ChannelFault.{ChannelFault}
 use Rattle.gfp_model.specs.declared.linear_model.ChannelFault.TheVariants.{Unknown, Length, QueueFull}
 use Rattle.gfp_model.specs.linear_model.Channels.{Channels, silent, turn, waiting_of, with_queue, oldest}
-use Rattle.gfp_model.specs.linear_model.Channels.{channel_refusal}
-use Rattle.gfp_model.specs.linear_model.Channels.{pushed_by, pushed}
+use Rattle.gfp_model.specs.linear_model.Channels.{channel_refusal, pushed_by, pushed}
 use Rattle.gfp_model.specs.linear_model.Stream.{idle, client, size, Shared, unsent, next_by, one_more, reaching}
 use Rattle.gfp_model.specs.linear_model.Stream.{reached}
 use Rattle.gfp_channels.proofs.GfpLinearLaws.TurnLaws.{IsBusy, turn-busy}
 use Rattle.gfp_channels.specs.channel_law.Kept.{IsChannelFrame, AreSound}
 use Rattle.gfp_channels.proofs.ChannelLaws.ContentLaws.{IsSent}
-use Rattle.law_model.specs.Limits.{longest_frame}
+use Rattle.law_model.specs.Common.{longest_frame}
 
 -- ---- one queue is another one
 length-with_queue : (cid : ℕ) (queue : List (List ℕ)) (queues : List (List (List ℕ))) →

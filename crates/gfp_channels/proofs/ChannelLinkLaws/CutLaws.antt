@@ -1,14 +1,12 @@
 -- The segments between the cuts of a stream, octet by octet.
-use Rattle.std.proofs.Common.{◌≡◌, ℕ, suc, ◌+◌, ◌-◌, ◌<◌, ◌≤◌, nat_le, true, false, Bool, List, [], ◌∷◌}
-use Rattle.std.proofs.Common.{◌++◌, length, take, drop, get_or, refl, sym, ◌∙◌, ap, ap₂, subst, arith}
-use Rattle.std.proofs.Common.{append_assoc, append-nil}
-use Rattle.std.proofs.lemmas.Bool.{le-leb, lt-leb, leb-true, leb-false}
-use Rattle.std.proofs.lemmas.List.{take_all, drop_all, take-append-le, drop-append-le, length-append, length-drop}
+use Rattle.std.proofs.Common.{◌≡◌, ℕ, suc, ◌+◌, ◌-◌, ◌<◌, ◌≤◌, nat_le, true, false, Bool, List, [], ◌∷◌, ◌++◌, length}
+use Rattle.std.proofs.Common.{take, drop, get_or, refl, sym, ◌∙◌, ap, ap₂, subst, arith, append_assoc, append-nil}
+use Rattle.std.proofs.Common.{le-leb, leb-true, leb-false, take_all, length-drop, flat_map}
+use Rattle.std.proofs.lemmas.Bool.{lt-leb}
+use Rattle.std.proofs.lemmas.List.{drop_all, take-append-le, drop-append-le, length_push}
 use Rattle.std.proofs.lemmas.List.Concat.{flat_map-append}
-use Rattle.std.specs.List.{flat_map}
-use Rattle.law_model.specs.frames.Hunt.{hunt_within}
-use Rattle.law_model.specs.frames.Run.{delineate_within}
-use Rattle.law_model.specs.frames.Segment.{Segment, Segments, broken, longer, no_rows, segments_on}
+use Rattle.law_model.specs.Common.{hunt_within, delineate_within, Segment, Segments, broken, longer, no_rows}
+use Rattle.law_model.specs.Common.{segments_on}
 use Rattle.gfp_model.specs.declared.linear_model.Cut.{Cut}
 use Rattle.gfp_model.specs.linear_model.Linear.{LinearOutcome, linear_outcomes}
 use Rattle.gfp_model.specs.linear_model.Stream.{cut_rows, cut_outcomes, segment_outcomes}
@@ -80,16 +78,13 @@ pub record Arrives (place : ℕ) (first : Bool) (cuts : List Cut) (octets : List
   pub ended : ended_outcomes place first cuts (octets ++ o ∷ []) ≡ ended_outcomes place first cuts octets
   pub count : ended_by (place + length octets + 1) cuts ≡ ended_by (place + length octets) cuts
 
-longer-size : (octets : List ℕ) (o : ℕ) → length (octets ++ o ∷ []) ≡ length octets + 1
-longer-size octets o = length-append octets (o ∷ [])
-
 -- before the next cut
 arrives-before : (place most : ℕ) (first : Bool) (cut : Cut) (cuts : List Cut) (octets : List ℕ) (o : ℕ)
     → AreCuts place most (cut ∷ cuts) → place + length octets < cut.first
     → Arrives place first (cut ∷ cuts) octets o
 unfolding AreCuts
 arrives-before place most first cut cuts octets o are less =
-    let size = longer-size octets o in
+    let size = length_push octets o in
     let some = are.1 in
     record {
       goes_on = open-before place first cut cuts (octets ++ o ∷ []) (omega (arith, size, less))
@@ -106,7 +101,7 @@ arrives-behind : (place most : ℕ) (first : Bool) (cut : Cut) (cuts : List Cut)
     → Arrives cut.end false cuts (drop (cut.end - place) octets) o → Arrives place first (cut ∷ cuts) octets o
 unfolding AreCuts
 arrives-behind place most first cut cuts octets o are more arrives =
-    let size = longer-size octets o in
+    let size = length_push octets o in
     let low = are.0 in
     let some = are.1 in
     let skip : ℕ = cut.end - place in
@@ -233,7 +228,7 @@ skips-here : (place most : ℕ) (first : Bool) (cut : Cut) (cuts : List Cut) (oc
     → Skips place first (cut ∷ cuts) cut octets o
 unfolding AreCuts
 skips-here place most first cut cuts octets o are begins ends =
-    let size = longer-size octets o in
+    let size = length_push octets o in
     let low = are.0 in
     let some = are.1 in
     let at : ℕ = cut.first - place in
@@ -271,7 +266,7 @@ skips-behind : (place most : ℕ) (first : Bool) (cut : Cut) (cuts : List Cut) (
     → Skips cut.end false cuts c (drop (cut.end - place) octets) o → Skips place first (cut ∷ cuts) c octets o
 unfolding AreCuts
 skips-behind place most first cut cuts c octets o are more skips =
-    let size = longer-size octets o in
+    let size = length_push octets o in
     let low = are.0 in
     let some = are.1 in
     let at : ℕ = cut.first - place in

@@ -1,6 +1,5 @@
 -- What is delivered of each channel of a plan, by the laws of channels.
-use Rattle.std.proofs.Common.{◌≡◌, ℕ, List, [], ◌∷◌, length, map, take, refl, sym, ◌∙◌, ap, subst}
-use Rattle.std.proofs.Common.{arith}
+use Rattle.std.proofs.Common.{◌≡◌, ℕ, List, [], ◌∷◌, length, map, take, refl, sym, ◌∙◌, ap, subst, arith}
 use Rattle.std.proofs.lemmas.List.Elements.{All-map}
 use Rattle.gfp_model.specs.declared.linear_model.Cut.{Cut}
 use Rattle.gfp_model.specs.linear_model.Channels.{Channels, silent, waiting_of, pushed}

@@ -1,11 +1,9 @@
 -- What one octet does to what was received.
-use Rattle.std.proofs.Common.{◌≡◌, ℕ, ◌+◌, ◌<◌, true, false, List, [], ◌∷◌, ◌++◌, length, get_or, Option}
-use Rattle.std.proofs.Common.{sym, ◌∙◌, ap, subst, arith, length-append}
-use Rattle.std.specs.List.{flat_map}
-use Rattle.octet_io.specs.Start.{Start}
+use Rattle.std.proofs.Common.{◌≡◌, ℕ, ◌+◌, ◌<◌, true, false, List, [], ◌∷◌, ◌++◌, length, get_or, Option, sym, ◌∙◌, ap}
+use Rattle.std.proofs.Common.{subst, arith, length-append, flat_map}
+use Rattle.law_model.specs.Common.{Start, Segment}
 use Rattle.text_got.specs.declared.got_text.GotLines.{GotLines}
 use Rattle.text_got.specs.Told.{HasText}
-use Rattle.law_model.specs.frames.Segment.{Segment}
 use Rattle.gfp_model.specs.declared.linear_model.Cut.{Cut}
 use Rattle.gfp_model.specs.linear_model.Linear.{ChannelFrame, LinearOutcome, frame_in, linear_outcomes}
 use Rattle.gfp_model.specs.linear_model.Stream.{cut_outcomes}
@@ -14,8 +12,8 @@ use Rattle.gfp_channels.specs.declared.channel_link.channel_reception.Reception.
 use Rattle.gfp_channels.specs.channel_link.Plan.{AreCuts}
 use Rattle.gfp_channels.specs.channel_link.Text.{got_text}
 use Rattle.gfp_channels.specs.channel_link.Run.{Received, ReceivedIn, longer_by, open_segment, ended_outcomes, ended_by}
-use Rattle.gfp_channels.proofs.ChannelLinkLaws.CutLaws.{none-come, count-none, ended-none, open-none, arrives, skips, Skips, come_of}
-use Rattle.gfp_channels.proofs.ChannelLinkLaws.CutLaws.{come-all, come-none}
+use Rattle.gfp_channels.proofs.ChannelLinkLaws.CutLaws.{none-come, count-none, ended-none, open-none, arrives, skips}
+use Rattle.gfp_channels.proofs.ChannelLinkLaws.CutLaws.{Skips, come_of, come-all, come-none}
 use Rattle.gfp_channels.proofs.ChannelLinkLaws.TextLaws.{frames-same}
 
 -- nothing was sent

@@ -1,8 +1,6 @@
 -- What lines without a fault say is a plan of channels.
-use Rattle.std.proofs.Common.{◌≡◌, ℕ, ◌≤◌, List, [], ◌∷◌, refl, subst, arith, nat_lt}
-use Rattle.std.specs.Prelude.{None, Result, Ok, Err}
+use Rattle.std.proofs.Common.{◌≡◌, ℕ, List, [], ◌∷◌, refl, subst, arith, nat_lt, None, Result, Ok, Err, ltb-false}
 use Rattle.std.specs.Str.Lines.{lines}
-use Rattle.std.proofs.lemmas.Bool.{ltb-false}
 use Rattle.text_lines.specs.Words.{words}
 use Rattle.text_lines.specs.Language.{said_by}
 use Rattle.text_lines.specs.FirstFault.{AreSound}

@@ -1,7 +1,6 @@
 -- The text of what was received.
-use Rattle.std.proofs.Common.{◌≡◌, ℕ, ◌+◌, ◌-◌, List, [], ◌∷◌, ◌++◌, length, sym, ◌∙◌, ap, append-nil}
-use Rattle.std.proofs.Common.{append_assoc, length-append}
-use Rattle.std.specs.List.{flat_map}
+use Rattle.std.proofs.Common.{◌≡◌, ℕ, ◌+◌, ◌-◌, List, [], ◌∷◌, ◌++◌, length, sym, ◌∙◌, ap, append-nil, append_assoc}
+use Rattle.std.proofs.Common.{flat_map}
 use Rattle.std.proofs.lemmas.List.Concat.{flat_map-append}
 use Rattle.gfp_model.specs.linear_model.Linear.{LinearOutcome, ChannelFrame, frame_in}
 use Rattle.gfp_channels.specs.declared.channel_link.channel_draft.ChannelPlan.{ChannelPlan}
@@ -28,10 +27,6 @@ pub texts-more : (frames : List ChannelFrame) (frame : ChannelFrame)
 texts-more frames frame =
     flat_map-append got_text frames (frame ∷ [])
     ∙ ap (λ l. flat_map got_text frames ++ l) (append-nil (got_text frame))
-
-pub length-more : {A : Type 0} (before all : List A) (x : A) (n : ℕ) → all ≡ before ++ x ∷ [] → n ≡ length before
-    → n + 1 ≡ length all
-length-more before all x n e is = ap (λ m. m + 1) is ∙ sym (ap length e ∙ length-append before (x ∷ []))
 
 -- ---- all lines
 pub text-is : (plan : ChannelPlan) (frames : List ChannelFrame) (refusals : List Refusal) (line : List ℕ) (a b c : ℕ)

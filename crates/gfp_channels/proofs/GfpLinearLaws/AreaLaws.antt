@@ -1,15 +1,14 @@
 -- What comes of an area, by its size and its extension header, and by how it ended.
-use Rattle.std.proofs.Common.{◌≡◌, ℕ, ◌-◌, ◌≤◌, Bool, true, false, List, ◌++◌, length, map, take, drop}
-use Rattle.std.proofs.Common.{Some, None, Option, inl, inr, refl, sym, ◌∙◌, ap, subst, arith, length-drop}
-use Rattle.std.specs.Prelude.{nat_lt, if◌then◌else◌, ◌↔◌, IsTrue, IfSome, slice_index, Result, Ok, Err, MatchOption}
-use Rattle.std.specs.Option.{option_to_list}
-use Rattle.std.proofs.lemmas.Bool.{le-leb, lt-leb, le-ltb, cases_lt}
-use Rattle.std.proofs.lemmas.List.{take_all}
-use Rattle.law_model.specs.frames.Core.{head}
+use Rattle.std.proofs.Common.{◌≡◌, ℕ, ◌-◌, ◌≤◌, Bool, true, false, List, ◌++◌, length, map, take, drop, Some, None}
+use Rattle.std.proofs.Common.{Option, inl, inr, refl, sym, ◌∙◌, ap, subst, arith, length-drop, nat_lt, if◌then◌else◌}
+use Rattle.std.proofs.Common.{◌↔◌, IsTrue, IfSome, slice_index, Result, Ok, Err, MatchOption, option_to_list, le-leb}
+use Rattle.std.proofs.Common.{le-ltb, take_all}
+use Rattle.std.proofs.lemmas.Bool.{lt-leb, cases_lt}
+use Rattle.law_model.specs.Common.{head, longest_extended_area, longest_frame}
 use Rattle.gfp_model.specs.declared.linear_model.CidFault.{CidFault}
 use Rattle.gfp_model.specs.declared.linear_model.LinearWhy.TheVariants.{TooLong, Extension}
-use Rattle.gfp_model.specs.linear_model.Linear.{LinearOutcome, delivery, dropping, by_extension, by_size, by_type, cid_fault}
-use Rattle.gfp_model.specs.linear_model.Linear.{linear_type_fault, linear_outcome, linear_outcomes}
+use Rattle.gfp_model.specs.linear_model.Linear.{LinearOutcome, delivery, dropping, by_extension, by_size, by_type}
+use Rattle.gfp_model.specs.linear_model.Linear.{cid_fault, linear_type_fault, linear_outcome, linear_outcomes}
 use Rattle.gfp_delineate.specs.declared.area_receiver.AreaWhy.TheVariants.{TooLong as IsLong}
 use Rattle.gfp_delineate.specs.declared.area_receiver.AreaStep.{AreaStep}
 use Rattle.gfp_delineate.specs.declared.area_receiver.AreaStep.TheVariants.{Area}
@@ -17,9 +16,8 @@ use Rattle.gfp_delineate.specs.Areas.{AreaEnd, keeping, passing, end_of, ends_to
 use Rattle.gfp_delineate.proofs.OutcomeLaws.{outcomes_more-map}
 use Rattle.gfp_channels.specs.declared.gfp_linear.linear_delineator.LinearStep.{LinearStep}
 use Rattle.gfp_channels.specs.declared.gfp_linear.linear_delineator.LinearStep.TheVariants.{Nothing, Frame, Dropped}
-use Rattle.gfp_channels.specs.gfp_linear.Delineator.{LinearReceiver, frame_of, IsFrame, outcomes_told, told_linear, linear_of_end}
-use Rattle.gfp_channels.specs.gfp_linear.Delineator.{StandsIn}
-use Rattle.law_model.specs.Limits.{longest_extended_area, longest_frame}
+use Rattle.gfp_channels.specs.gfp_linear.Delineator.{LinearReceiver, frame_of, IsFrame, outcomes_told, told_linear}
+use Rattle.gfp_channels.specs.gfp_linear.Delineator.{linear_of_end, StandsIn}
 
 -- ---- a whole area
 -- the four octets behind the type header

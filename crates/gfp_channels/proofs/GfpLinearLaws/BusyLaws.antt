@@ -1,17 +1,15 @@
 -- The numbers of the channels with a frame: how a turn is found among them, and what one more frame or one less does.
 use Rattle.std.proofs.Common.{◌≡◌, ◌≢◌, ℕ, zero, suc, ◌+◌, ◌-◌, ◌<◌, ◌≤◌, List, [], ◌∷◌, ◌++◌, length, take, drop, All}
-use Rattle.std.proofs.Common.{Bool, true, false, ◌↔◌}
-use Rattle.std.proofs.Common.{Some, None, refl, sym, ◌∙◌, ap, ap₂, subst, arith, append_assoc, append-nil}
-use Rattle.std.proofs.Common.{length-take-le}
-use Rattle.std.proofs.Common.{length-append, length-take, length-drop}
-use Rattle.std.specs.Prelude.{slice_index_or, slice_set, insert, remove, replicate}
-use Rattle.std.proofs.lemmas.Bool.{le-leb, lt-leb, le-ltb}
-use Rattle.std.proofs.lemmas.List.{take-append-drop, take_at, drop_at, get_or_default}
+use Rattle.std.proofs.Common.{Bool, true, false, ◌↔◌, Some, None, refl, sym, ◌∙◌, ap, ap₂, subst, arith, append_assoc}
+use Rattle.std.proofs.Common.{append-nil, length-take-le, length-append, length-take, length-drop, slice_index_or}
+use Rattle.std.proofs.Common.{slice_set, insert, remove, replicate, le-leb, le-ltb, take-append-drop, take_at, drop_at}
+use Rattle.std.proofs.lemmas.Bool.{lt-leb}
+use Rattle.std.proofs.lemmas.List.{get_or_default}
 use Rattle.std.proofs.lemmas.List.Elements.{All-nil, All-cons, All-head, All-tail, All-weaker, All-get_or}
 use Rattle.gfp_model.specs.linear_model.Channels.{Channels, turn, first_busy, or_else, with_queue, waiting_of}
 use Rattle.gfp_model.specs.linear_model.Channels.{channel_refusal, pushed_by, pushed, served}
 use Rattle.gfp_channels.specs.gfp_linear.Queue.{busy_from, first_from, first_of, turn_among, IsRising}
-use Rattle.law_model.specs.Limits.{longest_frame}
+use Rattle.law_model.specs.Common.{longest_frame}
 
 -- ---- in parts
 one_of : List (List ℕ) → ℕ → List ℕ

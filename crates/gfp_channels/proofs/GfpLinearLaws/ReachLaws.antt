@@ -1,13 +1,12 @@
 -- Reaching a place of the stream: which pieces are begun, that they are the fewest, and that a place can be reached in
 -- parts.
 use Rattle.std.proofs.Common.{◌≡◌, ℕ, zero, suc, ◌+◌, ◌≤◌, ◌<◌, subst, nat_le, true, false, if◌then◌else◌, List, []}
-use Rattle.std.proofs.Common.{Option, Some, None, ◌∷◌, ◌++◌, take, length, refl, sym, ◌∙◌, arith}
+use Rattle.std.proofs.Common.{Option, Some, None, ◌∷◌, ◌++◌, take, length, refl, sym, ◌∙◌, arith, append_assoc}
+use Rattle.std.proofs.Common.{append-nil, leb-true, leb-false}
 use Rattle.std.proofs.lemmas.List.Sums.{sum_by-append}
-use Rattle.std.proofs.lemmas.List.{append_assoc, append-nil}
-use Rattle.std.proofs.lemmas.Bool.{leb-true, leb-false}
 use Rattle.gfp_model.specs.linear_model.Channels.{Channels, turn, oldest}
-use Rattle.gfp_model.specs.linear_model.Stream.{LinearPiece, idle, client, size_of, size, Shared, next_by, one_more, reaching}
-use Rattle.gfp_model.specs.linear_model.Stream.{reached, IsFewest}
+use Rattle.gfp_model.specs.linear_model.Stream.{LinearPiece, idle, client, size_of, size, Shared, next_by, one_more}
+use Rattle.gfp_model.specs.linear_model.Stream.{reaching, reached, IsFewest}
 
 -- ---- each piece has four octets at least
 size-piece : (piece : LinearPiece) → 4 ≤ size (piece ∷ [])

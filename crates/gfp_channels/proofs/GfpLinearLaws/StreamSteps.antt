@@ -3,7 +3,7 @@ use Rattle.std.proofs.Common.{◌≡◌, ℕ, zero, suc, ◌+◌, ◌*◌, ◌<�
 use Rattle.std.proofs.Common.{Option, Some, None, sym, ap, subst, ◌∙◌, arith, append_assoc, length-append}
 use Rattle.std.proofs.lemmas.List.{append-nil, map-append}
 use Rattle.std.proofs.lemmas.List.Sums.{sum-map, sum_by-append}
-use Rattle.law_model.specs.frames.Piece.{joined}
+use Rattle.law_model.specs.Common.{joined}
 use Rattle.law_model.proofs.StreamLaws.{areas_behind, pieces_behind-append, length-pieces_behind}
 use Rattle.gfp_model.specs.linear_model.Linear.{linear_header, extension_header, linear_area}
 use Rattle.gfp_model.specs.linear_model.Channels.{turn, oldest, served, pushed}

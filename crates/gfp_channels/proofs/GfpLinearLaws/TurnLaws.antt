@@ -1,15 +1,12 @@
 -- What turns do to the frames of one channel: those that are begun and those that wait are together the same, in order.
 use Rattle.std.proofs.Common.{◌≡◌, ◌≢◌, eq-eqb, ℕ, zero, suc, ◌+◌, ◌-◌, ◌<◌, ◌≤◌, true, false, List, [], ◌∷◌, ◌++◌}
-use Rattle.std.proofs.Common.{length}
-use Rattle.std.proofs.Common.{take, drop, Option, Some, None, refl, sym, ◌∙◌, ap, ap₂, subst, arith, append_assoc}
-use Rattle.std.proofs.Common.{append-nil, nat_le, if◌then◌else◌, length-drop, length-take}
-use Rattle.std.specs.Prelude.{slice_index_or, IfSome, ◌==◌}
-use Rattle.std.proofs.lemmas.Bool.{eqb-true}
-use Rattle.std.proofs.lemmas.List.{get_or-take, get_or-drop}
+use Rattle.std.proofs.Common.{length, take, drop, Option, Some, None, refl, sym, ◌∙◌, ap, ap₂, subst, arith}
+use Rattle.std.proofs.Common.{append_assoc, append-nil, nat_le, if◌then◌else◌, length-drop, length-take, slice_index_or}
+use Rattle.std.proofs.Common.{IfSome, ◌==◌, eqb-true, get_or-take, get_or-drop}
 use Rattle.std.proofs.lemmas.List.Concat.{flat_map-append}
 use Rattle.gfp_model.specs.linear_model.Channels.{Channels, turn, first_busy, or_else, waiting_of, with_queue, oldest}
-use Rattle.gfp_model.specs.linear_model.Stream.{LinearPiece, idle, client, size, Shared, next_by, one_more, reaching, reached}
-use Rattle.gfp_model.specs.linear_model.Stream.{of_channel, frames_of, accepted_of}
+use Rattle.gfp_model.specs.linear_model.Stream.{LinearPiece, idle, client, size, Shared, next_by, one_more, reaching}
+use Rattle.gfp_model.specs.linear_model.Stream.{reached, of_channel, frames_of, accepted_of}
 
 -- ---- whose turn it is has a frame
 abbrev pub Has : ℕ → List (List (List ℕ)) → ℕ → Type 0

@@ -1,19 +1,15 @@
 -- Of each channel: the frames that a stream carries, those of them that arrive where octets don't, and those that are
 -- delivered.
-use Rattle.std.specs.Prelude.{ℕ, ◌<◌, ◌≤◌, ◌^◌, ◌==◌, if◌then◌else◌, List, [], ◌∷◌, ◌++◌, length, map, filter}
-use Rattle.std.specs.Prelude.{drop, All}
-use Rattle.std.specs.Prelude.{slice_index}
-use Rattle.std.specs.List.{flat_map}
-use Rattle.law_model.specs.frames.Piece.{Piece, idle as no_frame, client as with_content}
-use Rattle.law_model.specs.frames.Segment.{StreamRow}
-use Rattle.law_model.specs.frames.Loss.{Extent, extents, is_carried, frames_kept}
+use Rattle.std.specs.Prelude.{ℕ, ◌<◌, ◌≤◌, ◌^◌, ◌==◌, if◌then◌else◌, List, [], ◌∷◌, ◌++◌, length, map, filter, drop}
+use Rattle.std.specs.Prelude.{All, slice_index, flat_map}
+use Rattle.law_model.specs.Common.{Piece, idle as no_frame, client as with_content, StreamRow, Extent, extents}
+use Rattle.law_model.specs.Common.{is_carried, frames_kept, longest_frame}
 use Rattle.gfp_model.specs.declared.linear_model.Cut.{Cut}
-use Rattle.gfp_model.specs.linear_model.Linear.{linear_header, extension_header, LinearOutcome, linear_outcome, ChannelFrame}
-use Rattle.gfp_model.specs.linear_model.Linear.{frame_in}
+use Rattle.gfp_model.specs.linear_model.Linear.{linear_header, extension_header, LinearOutcome, linear_outcome}
+use Rattle.gfp_model.specs.linear_model.Linear.{ChannelFrame, frame_in}
 use Rattle.gfp_model.specs.linear_model.Channels.{Channels}
 use Rattle.gfp_model.specs.linear_model.Stream.{LinearPiece, idle, client, cut_outcomes}
 use Rattle.law_loss.specs.Kind.{Kind}
-use Rattle.law_model.specs.Limits.{longest_frame}
 
 -- ---- channels of which each frame may be sent
 pub record IsChannelFrame (frame : List ℕ) : Type 0 where

@@ -1,6 +1,6 @@
 -- A worked stream of two channels with a cut.
 use Rattle.std.specs.Prelude.{ℕ, List, [], ◌∷◌, replicate}
-use Rattle.law_model.specs.frames.Segment.{StreamRow}
+use Rattle.law_model.specs.Common.{StreamRow}
 use Rattle.gfp_model.specs.declared.linear_model.Cut.{Cut}
 use Rattle.gfp_model.specs.linear_model.Channels.{Channels}
 use Rattle.gfp_model.specs.linear_model.Stream.{LinearPiece, idle, client, stream_to, cut_rows}

@@ -1,9 +1,7 @@
 -- Of each channel of a plan: the frames that it accepted, those that its stream carries, those of them that arrive, and
 -- those that are delivered.
-use Rattle.std.specs.Prelude.{◌≡◌, ℕ, ◌-◌, List, [], ◌++◌, length, map}
-use Rattle.std.specs.List.{flat_map}
-use Rattle.law_model.specs.frames.Segment.{StreamRow}
-use Rattle.law_model.specs.frames.Loss.{TrueStarts}
+use Rattle.std.specs.Prelude.{◌≡◌, ℕ, ◌-◌, List, [], ◌++◌, length, map, flat_map}
+use Rattle.law_model.specs.Common.{StreamRow, TrueStarts}
 use Rattle.gfp_model.specs.linear_model.Linear.{ChannelFrame}
 use Rattle.gfp_model.specs.linear_model.Channels.{Channels, silent}
 use Rattle.gfp_model.specs.linear_model.Stream.{LinearPiece, unsent, reached, stream_to, cut_rows}

@@ -1,7 +1,6 @@
 -- What a draft meets, and what a line may say that stands after those of a draft, as private clauses say it.
-use Rattle.std.specs.Prelude.{◌≡◌, ⊤, ℕ, ◌==◌, ◌<◌, ◌≤◌, not, List, [], length, All, Option, Some, option_map}
+use Rattle.std.specs.Prelude.{◌≡◌, ⊤, ℕ, ◌==◌, ◌<◌, ◌≤◌, not, List, [], length, All, Option, Some, option_map, fold}
 use Rattle.std.specs.Option.{option_or}
-use Rattle.std.specs.List.{fold}
 use Rattle.text_lines.specs.Words.{word_at}
 use Rattle.text_lines.specs.Fields.{where_true, number_fault}
 use Rattle.text_lines.specs.declared.field_fault.FieldStop.{FieldStop}

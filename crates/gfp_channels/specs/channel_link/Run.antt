@@ -1,10 +1,8 @@
 -- What a run has in hand, and what was received so far, as private clauses say it.
 use Rattle.std.specs.Prelude.{◌≡◌, ℕ, ◌+◌, ◌-◌, nat_le, Bool, true, false, List, [], ◌∷◌, ◌++◌, length, take, drop}
-use Rattle.std.specs.Prelude.{Option, if◌then◌else◌}
-use Rattle.std.specs.List.{flat_map}
-use Rattle.octet_io.specs.Start.{Start}
+use Rattle.std.specs.Prelude.{Option, if◌then◌else◌, flat_map}
+use Rattle.law_model.specs.Common.{Start, Segment}
 use Rattle.text_got.specs.Told.{HasText}
-use Rattle.law_model.specs.frames.Segment.{Segment}
 use Rattle.gfp_model.specs.declared.linear_model.Cut.{Cut}
 use Rattle.gfp_model.specs.linear_model.Linear.{LinearOutcome, frame_in, linear_outcomes}
 use Rattle.gfp_model.specs.linear_model.Channels.{silent}

@@ -1,6 +1,5 @@
 -- What is written of channels whose stream is received with its cuts. This text is this project's own.
-use Rattle.std.specs.Prelude.{ℕ, ◌+◌, ◌-◌, List, [], ◌∷◌, ◌++◌, length, codes, decimal, Option, Some, None}
-use Rattle.std.specs.List.{flat_map}
+use Rattle.std.specs.Prelude.{ℕ, ◌+◌, ◌-◌, List, [], ◌∷◌, ◌++◌, length, codes, decimal, Option, Some, None, flat_map}
 use Rattle.hex.specs.Hex.{encode_lower}
 use Rattle.gfp_model.specs.declared.linear_model.ChannelFault.{ChannelFault}
 use Rattle.gfp_model.specs.declared.linear_model.ChannelFault.TheVariants.{Unknown, Length, QueueFull}

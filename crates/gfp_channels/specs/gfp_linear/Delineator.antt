@@ -1,7 +1,6 @@
 -- What a receiver of frames with channel numbers knows of the octets of a segment that have come.
-use Rattle.std.specs.Prelude.{ℕ, ⊤, ◌&&◌, nat_le, Bool, false, List, [], ◌∷◌, length, map, take, drop, Option}
-use Rattle.std.specs.Prelude.{Some, None, if◌then◌else◌}
-use Rattle.std.specs.Option.{option_to_list}
+use Rattle.std.specs.Prelude.{ℕ, ⊤, ◌&&◌, nat_le, Bool, false, List, [], ◌∷◌, length, map, take, drop, Option, Some}
+use Rattle.std.specs.Prelude.{None, if◌then◌else◌, option_to_list}
 use Rattle.gfp_model.specs.declared.linear_model.LinearWhy.{LinearWhy}
 use Rattle.gfp_model.specs.declared.linear_model.LinearWhy.TheVariants.{Unsettled, TooLong}
 use Rattle.gfp_model.specs.linear_model.Linear.{LinearOutcome, delivery, dropping, by_type, linear_type_fault}
@@ -10,7 +9,7 @@ use Rattle.gfp_delineate.specs.declared.area_receiver.AreaWhy.TheVariants.{Unset
 use Rattle.gfp_delineate.specs.Areas.{AreaEnd, keeping, passing, Progress, IsAt}
 use Rattle.gfp_channels.specs.declared.gfp_linear.linear_delineator.LinearStep.{LinearStep}
 use Rattle.gfp_channels.specs.declared.gfp_linear.linear_delineator.LinearStep.TheVariants.{Nothing, Frame, Dropped}
-use Rattle.law_model.specs.Limits.{longest_extended_area}
+use Rattle.law_model.specs.Common.{longest_extended_area}
 
 -- how far a receiver is, and whether the last octet that it was given completed the frame in the area that it keeps
 pub record LinearReceiver : Type 0 where

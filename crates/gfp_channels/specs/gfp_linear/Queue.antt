@@ -1,12 +1,10 @@
 -- What a queue of channels holds, and how it keeps it.
 use Rattle.std.specs.Prelude.{◌≡◌, ℕ, ◌+◌, ◌<◌, ◌≤◌, List, [], ◌∷◌, nat_le, Vec, All, vec_len, length, Option, Some}
-use Rattle.std.specs.Prelude.{None}
-use Rattle.std.specs.Prelude.{if◌then◌else◌, ⊤}
-use Rattle.std.specs.Vec.{vec_capacity}
+use Rattle.std.specs.Prelude.{None, if◌then◌else◌, ⊤, vec_capacity}
 use Rattle.std.specs.VecDeque.{deque_len, deque_capacity}
 use Rattle.std.specs.declared.alloc.Global.{Global}
 use Rattle.std.specs.declared.collections.VecDeque.{VecDeque}
-use Rattle.law_model.specs.Limits.{longest_frame}
+use Rattle.law_model.specs.Common.{longest_frame}
 use Rattle.gfp_model.specs.linear_model.Channels.{Channels, most_of_channel, or_else}
 
 -- the frames that wait, and the octets of the frame that is being sent which aren't written yet

@@ -3,8 +3,8 @@ ghost use Rattle.std.specs.Prelude.{◌≡◌, ◌≤◌, length, take};
 ghost use Rattle.gfp_channels.specs.declared.channel_link.channel_text_fault.LineFault.{LineFault};
 ghost use Rattle.gfp_channels.specs.channel_link.Helps.{keyword_text, help_of};
 
-use crate::channel_link::channel_text_fault::LineFault;
 use crate::channel_link::channel_keyword::Keyword;
+use crate::channel_link::channel_text_fault::LineFault;
 use text_help::{count_help, field_help, missing_help, number_help, order_help};
 use text_report::TextCursor;
 

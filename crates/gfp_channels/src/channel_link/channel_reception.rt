@@ -1,9 +1,7 @@
 //! The receiver of a stream with its cuts, and the lines of the frames that it delivers.
 ghost use Rattle.std.specs.Prelude.{◌≡◌, ℕ, ◌+◌, ◌<◌, ◌≤◌, List, [], ◌∷◌, ◌++◌, length};
-ghost use Rattle.octet_io.specs.Start.{Start};
+ghost use Rattle.law_model.specs.Common.{Start, longest_frame, Segment};
 ghost use Rattle.text_got.specs.Told.{HasText};
-ghost use Rattle.law_model.specs.Limits.{longest_frame};
-ghost use Rattle.law_model.specs.frames.Segment.{Segment};
 ghost use Rattle.gfp_model.specs.linear_model.Linear.{LinearOutcome};
 ghost use Rattle.gfp_channels.specs.channel_link.Plan.{AreCuts};
 ghost use Rattle.gfp_channels.specs.channel_link.Text.{got_text};
@@ -11,8 +9,8 @@ ghost use Rattle.gfp_channels.specs.channel_link.Run.{Received, ReceivedIn, long
 
 use crate::channel_link::channel_report::{FRAME_ROOM, LINE_ROOM, got_head, got_tail};
 use crate::gfp_linear::{LinearDelineator, LinearStep};
-use octet_io::ByteSink;
 use gfp_model::linear_model::Cut;
+use octet_io::ByteSink;
 use text_got::GotLines;
 
 /// What octets came to so far.

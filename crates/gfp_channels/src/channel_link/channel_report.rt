@@ -1,6 +1,6 @@
 //! The lines of what came of a plan.
 ghost use Rattle.std.specs.Prelude.{◌≡◌, ◌+◌, ◌*◌, ◌≤◌, length, take};
-ghost use Rattle.law_model.specs.Limits.{longest_frame};
+ghost use Rattle.law_model.specs.Common.{longest_frame};
 ghost use Rattle.gfp_channels.specs.channel_link.Text.{got_front, frame_end, refused_text, counts_text};
 
 use gfp_model::linear_model::ChannelFault;

@@ -1,8 +1,6 @@
 //! The frames of a plan are offered, their stream is made and received with its cuts, and what comes of it is written.
-ghost use Rattle.std.specs.Prelude.{◌≡◌, ◌≤◌, ℕ, List, [], ◌++◌, IfOk, OnOk, OnErr};
-ghost use Rattle.std.specs.List.{flat_map};
-ghost use Rattle.octet_io.specs.Start.{Start};
-ghost use Rattle.octet_io.specs.Transfer.{Appends, AppendsPart};
+ghost use Rattle.std.specs.Prelude.{◌≡◌, ◌≤◌, ℕ, List, [], ◌++◌, IfOk, OnOk, OnErr, flat_map};
+ghost use Rattle.law_model.specs.Common.{Start, Appends, AppendsPart};
 ghost use Rattle.text_got.specs.Told.{HasText};
 ghost use Rattle.gfp_model.specs.linear_model.Stream.{stream_to};
 ghost use Rattle.gfp_channels.specs.gfp_linear.Queue.{unbegun};
@@ -11,11 +9,11 @@ ghost use Rattle.gfp_channels.specs.channel_link.Text.{after_offers, plan_text, 
 ghost use Rattle.gfp_channels.specs.channel_link.Run.{IsReady, Received};
 
 use crate::channel_link::channel_draft::{ChannelPlan, Offer};
-use crate::channel_link::channel_report::{Counts, LINE_ROOM, end_line, refused_line};
 use crate::channel_link::channel_reception::{Reception, send_all};
+use crate::channel_link::channel_report::{Counts, LINE_ROOM, end_line, refused_line};
 use crate::gfp_linear::{LinearDelineator, LinearFiller, LinearQueue};
-use octet_io::{ByteSink, Failed, take_back};
 use gfp_model::linear_model::{ChannelFault, Cut};
+use octet_io::{ByteSink, Failed, take_back};
 use std::alloc::{AllocError, Global};
 use std::marker::Model;
 use text_got::GotLines;

@@ -6,8 +6,8 @@ ghost use Rattle.gfp_channels.specs.channel_link.Plan.{IsOfOctets};
 ghost use Rattle.gfp_channels.specs.channel_link.Drafts.{IsDraft, IsLineStop, IsPlaced, Fits, one_fault};
 
 use crate::channel_link::channel_draft::{Draft, Offer, Statement};
-use crate::channel_link::channel_text_fault::{LineFault, LineStop};
 use crate::channel_link::channel_keyword::{Keyword, check_place};
+use crate::channel_link::channel_text_fault::{LineFault, LineStop};
 use gfp_model::linear_model::Cut;
 use law_model::Octets;
 use std::alloc::Global;

@@ -17,21 +17,21 @@ ghost use Rattle.gfp_channels.specs.channel_link.Delivered.{HasTrueStarts, accep
 ghost use Rattle.gfp_channels.specs.channel_link.Delivered.{IsPlanReport};
 
 mod channel_draft;
-mod channel_text_fault;
 mod channel_helps;
 mod channel_keyword;
-mod channel_report;
-mod read_channel_text;
 mod channel_reception;
+mod channel_report;
 mod channel_run;
 mod channel_statement;
+mod channel_text_fault;
+mod read_channel_text;
 
 pub use channel_draft::{ChannelPlan, CutList, Offer, OfferList};
-pub use channel_text_fault::LineFault;
 pub use channel_helps::plan_help;
 pub use channel_keyword::Keyword;
-pub use read_channel_text::{PlanFault, read_plan};
 pub use channel_run::ChannelRun;
+pub use channel_text_fault::LineFault;
+pub use read_channel_text::{PlanFault, read_plan};
 
 /// A text has the fault of a line exactly where that line is faulty after lines none of which is.
 pub fn fault_law()

@@ -1,15 +1,15 @@
 //! The reader of a whole text.
 ghost use Rattle.std.specs.Prelude.{◌≡◌, ◌≤◌, length, IfOk, IfErr, OnOk, Ok, Err};
 ghost use Rattle.text_lines.specs.Language.{said_by};
-ghost use Rattle.law_model.specs.Limits.{longest_input};
+ghost use Rattle.law_model.specs.Common.{longest_input};
 ghost use Rattle.gfp_channels.specs.channel_link.ChannelTextLines.{at_first, after, plan_lines};
 ghost use Rattle.gfp_channels.specs.channel_link.Plan.{plan_of, IsPlan, IsPlanFault};
 ghost use Rattle.gfp_channels.specs.channel_link.Drafts.{IsDraft, Fits, stopped};
 
 use crate::channel_link::channel_draft::{ChannelPlan, CutList, Draft, OfferList, Statement};
-use crate::channel_link::channel_text_fault::{LineFault, LineStop};
 use crate::channel_link::channel_keyword::{Keyword, awaited_at};
 use crate::channel_link::channel_statement::read_line;
+use crate::channel_link::channel_text_fault::{LineFault, LineStop};
 use std::alloc::{AllocError, Global};
 use text_lines::next_line;
 

@@ -1,8 +1,7 @@
 //! The channels with a frame, by rising number: whose turn it is costs as much as the number of these has digits,
 //! however many channels are silent.
 
-ghost use Rattle.std.specs.Prelude.{◌≡◌, ◌≤◌, ◌<◌, All, length, take, drop, insert, vec_len};
-ghost use Rattle.std.specs.Vec.{vec_capacity};
+ghost use Rattle.std.specs.Prelude.{◌≡◌, ◌≤◌, ◌<◌, All, length, take, drop, insert, vec_len, vec_capacity};
 ghost use Rattle.gfp_channels.specs.gfp_linear.Queue.{IsRising};
 
 /// How many of rising numbers are below another one.

@@ -1,11 +1,10 @@
 //! The frames that wait of one channel, in buffers that are taken once.
 
-ghost use Rattle.std.specs.Prelude.{◌≡◌, ◌+◌, ◌<◌, ◌≤◌, ◌↔◌, false, [], ◌∷◌, ◌++◌, length, IfOk, IsTrue};
+ghost use Rattle.std.specs.Prelude.{◌≡◌, ◌+◌, ◌<◌, ◌≤◌, ◌↔◌, false, [], ◌∷◌, ◌++◌, length, IfOk, IsTrue, IfSome};
+ghost use Rattle.std.specs.Prelude.{IfNone, vec_len, vec_capacity};
 ghost use Rattle.std.specs.Bool.{OnTrue};
-ghost use Rattle.std.specs.Prelude.{IfSome, IfNone, vec_len};
-ghost use Rattle.std.specs.Vec.{vec_capacity};
 ghost use Rattle.std.specs.VecDeque.{deque_len, deque_capacity};
-ghost use Rattle.law_model.specs.Limits.{longest_frame};
+ghost use Rattle.law_model.specs.Common.{longest_frame};
 ghost use Rattle.gfp_model.specs.linear_model.Channels.{most_of_channel};
 ghost use Rattle.gfp_channels.specs.gfp_linear.Queue.{HasFrameRoom};
 

@@ -3,7 +3,7 @@
 ghost use Rattle.std.specs.Prelude.{◌≡◌, ℕ, ◌+◌, ◌<◌, ◌≤◌, length, min, take, drop, IfOk, OnErr};
 ghost use Rattle.std.specs.Prelude.{IfSome, IfNone, Some, None, slice_index_or};
 ghost use Rattle.std.specs.Result.{result_err};
-ghost use Rattle.law_model.specs.Limits.{longest_frame};
+ghost use Rattle.law_model.specs.Common.{longest_frame};
 ghost use Rattle.gfp_model.specs.linear_model.Channels.{silent, turn, served, oldest, pushed, channel_refusal};
 ghost use Rattle.gfp_model.specs.linear_model.Stream.{Shared, offered};
 ghost use Rattle.gfp_channels.specs.gfp_linear.Queue.{unbegun, busy_from};

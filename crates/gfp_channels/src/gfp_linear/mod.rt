@@ -14,10 +14,10 @@ mod linear_delineator;
 mod linear_filler;
 mod linear_queue;
 
-pub use linear_delineator::{LinearDelineator, LinearStep};
-pub use linear_filler::LinearFiller;
 pub use gfp_model::linear_model::{ChannelFault, CidFault, LinearWhy};
 pub use law_model::TypeFault;
+pub use linear_delineator::{LinearDelineator, LinearStep};
+pub use linear_filler::LinearFiller;
 pub use linear_queue::LinearQueue;
 
 /// Turns lose no frame of a channel and change their order nowhere: those that are begun, followed by those that wait,

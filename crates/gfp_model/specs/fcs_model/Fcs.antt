@@ -1,18 +1,13 @@
 -- A client frame with a frame check sequence (FCS) behind it, and what comes of its area. Where the FCS stands and
 -- the order of its bits are this project's own.
 use Rattle.std.specs.Prelude.{ℕ, ◌-◌, ◌/◌, ◌%◌, ◌^◌, ◌==◌, nat_lt, if◌then◌else◌, Bool, true, false, List, [], ◌∷◌}
-use Rattle.std.specs.Prelude.{◌++◌, length, take, drop, Option, Some, None}
-use Rattle.std.specs.Str.{bytes_eq}
-use Rattle.check_remainder.specs.Bits.{number, octet_bits}
-use Rattle.check_hec16.specs.Hec.{hec_of}
-use Rattle.check_crc32.specs.Crc32.{fcs_of}
+use Rattle.std.specs.Prelude.{◌++◌, length, take, drop, Option, Some, None, bytes_eq}
+use Rattle.law_model.specs.Common.{number, octet_bits, hec_of, type_field, type_check, longest_extended_area}
 use Rattle.law_model.specs.declared.frame_faults.TypeFault.{TypeFault}
-use Rattle.law_model.specs.declared.frame_faults.TypeFault.TheVariants.{Check as WrongCheck, NotClient, PayloadFcs, Extension}
-use Rattle.law_model.specs.declared.frame_faults.TypeFault.TheVariants.{NotEthernet}
-use Rattle.law_model.specs.frames.TypeHeader.{type_field, type_check}
+use Rattle.law_model.specs.declared.frame_faults.TypeFault.TheVariants.{Check as WrongCheck, NotClient, PayloadFcs, Extension, NotEthernet}
+use Rattle.check_crc32.specs.Crc32.{fcs_of}
 use Rattle.gfp_model.specs.declared.fcs_model.FcsWhy.{FcsWhy}
 use Rattle.gfp_model.specs.declared.fcs_model.FcsWhy.TheVariants.{Unsettled, TooLong, Header, Short, Fcs}
-use Rattle.law_model.specs.Limits.{longest_extended_area}
 
 -- the type header of a client frame with an FCS
 abbrev pub fcs_header : List ℕ

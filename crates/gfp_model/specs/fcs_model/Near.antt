@@ -1,9 +1,7 @@
 -- The core header from which four octets differ in at most one bit.
 use Rattle.std.specs.Prelude.{◌≡◌, ℕ, zero, suc, ◌≤◌, length, drop, Bool, List, Option, Some, None}
-use Rattle.check_remainder.specs.Bits.{bits, number, octet_bits, xors}
+use Rattle.law_model.specs.Common.{bits, number, octet_bits, xors, core_header, IsPli, head, count}
 use Rattle.check_hec16.specs.Fixed.{bit_at}
-use Rattle.law_model.specs.frames.Core.{core_header, IsPli, head}
-use Rattle.check_remainder.specs.Count.{count}
 use Rattle.gfp_model.specs.fcs_model.Flips.{flipped}
 
 abbrev pub or_else : Option ℕ → Option ℕ → Option ℕ

@@ -2,7 +2,7 @@
 -- channel may wait, is this project's own.
 use Rattle.std.specs.Prelude.{ℕ, zero, suc, ◌+◌, nat_le, nat_lt, ◌||◌, if◌then◌else◌, List, [], ◌∷◌, ◌++◌, length}
 use Rattle.std.specs.Prelude.{take, drop, replicate, slice_index_or, Option, Some, None}
-use Rattle.law_model.specs.Limits.{shortest_frame, longest_frame}
+use Rattle.law_model.specs.Common.{shortest_frame, longest_frame}
 use Rattle.gfp_model.specs.declared.linear_model.ChannelFault.{ChannelFault}
 use Rattle.gfp_model.specs.declared.linear_model.ChannelFault.TheVariants.{Unknown, Length, QueueFull}
 

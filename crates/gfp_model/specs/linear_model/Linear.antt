@@ -1,17 +1,12 @@
 -- G.7041, linear extension header: a client frame with the number of its channel, and what comes of its area.
 use Rattle.std.specs.Prelude.{ℕ, ◌+◌, ◌*◌, ◌/◌, ◌%◌, ◌^◌, ◌==◌, nat_lt, if◌then◌else◌, Bool, true, false, List, []}
 use Rattle.std.specs.Prelude.{◌∷◌, ◌++◌, length, take, drop, slice_index, Option, Some, None}
-use Rattle.check_hec16.specs.Hec.{hec_of}
+use Rattle.law_model.specs.Common.{hec_of, type_field, type_check, head, outcomes_with, longest_extended_area}
 use Rattle.law_model.specs.declared.frame_faults.TypeFault.{TypeFault}
-use Rattle.law_model.specs.declared.frame_faults.TypeFault.TheVariants.{Check as WrongCheck, NotClient, PayloadFcs}
-use Rattle.law_model.specs.declared.frame_faults.TypeFault.TheVariants.{Extension as OtherExtension, NotEthernet}
-use Rattle.law_model.specs.frames.TypeHeader.{type_field, type_check}
-use Rattle.law_model.specs.frames.Core.{head}
-use Rattle.law_model.specs.frames.Outcome.{outcomes_with}
+use Rattle.law_model.specs.declared.frame_faults.TypeFault.TheVariants.{Check as WrongCheck, NotClient, PayloadFcs, Extension as OtherExtension, NotEthernet}
 use Rattle.gfp_model.specs.declared.linear_model.CidFault.{CidFault}
 use Rattle.gfp_model.specs.declared.linear_model.LinearWhy.{LinearWhy}
 use Rattle.gfp_model.specs.declared.linear_model.LinearWhy.TheVariants.{Unsettled, TooLong, Header, Short, Extension}
-use Rattle.law_model.specs.Limits.{longest_extended_area}
 
 -- ---- the headers in an area
 -- the type header of a client frame with a linear extension header

@@ -1,10 +1,8 @@
 -- The stream of channels: after two idles the frames in turn, and idles where none waits; and what comes of it where
 -- octets don't arrive.
 use Rattle.std.specs.Prelude.{◌≡◌, ℕ, zero, suc, ◌+◌, ◌-◌, ◌<◌, ◌≤◌, ◌==◌, nat_le, if◌then◌else◌, true, false, List, []}
-use Rattle.std.specs.Prelude.{◌∷◌, ◌++◌, length, map, take, drop, sum_by, Option, Some, None}
-use Rattle.std.specs.List.{flat_map}
-use Rattle.law_model.specs.frames.Piece.{areas_stream}
-use Rattle.law_model.specs.frames.Segment.{StreamRow, Segment, segments}
+use Rattle.std.specs.Prelude.{◌∷◌, ◌++◌, length, map, take, drop, sum_by, Option, Some, None, flat_map}
+use Rattle.law_model.specs.Common.{areas_stream, StreamRow, Segment, segments}
 use Rattle.gfp_model.specs.declared.linear_model.Cut.{Cut}
 use Rattle.gfp_model.specs.linear_model.Linear.{linear_area, LinearOutcome, linear_outcomes}
 use Rattle.gfp_model.specs.linear_model.Channels.{Channels, waiting_of, turn, oldest, served, pushed}

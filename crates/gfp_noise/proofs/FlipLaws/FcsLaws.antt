@@ -9,12 +9,11 @@ use Rattle.std.proofs.lemmas.List.{take-append-drop, replicate-append-replicate}
 use Rattle.std.proofs.lemmas.List.Elements.{All-nil, All-cons, All-append}
 use Rattle.std.proofs.lemmas.Bool.{le-ltb, cases_lt}
 use Rattle.std.proofs.lemmas.Slice.Eq.{bytes_eq-Decides}
-use Rattle.check_remainder.specs.Bits.{octet_bits, xors}
-use Rattle.check_remainder.specs.Remainder.{divide, remainder}
+use Rattle.law_model.specs.Common.{octet_bits, xors, divide, remainder, count, longest_extended_area, longest_frame}
+use Rattle.law_model.specs.declared.frame_faults.TypeFault.{TypeFault}
 use Rattle.check_remainder.proofs.XorLaws.{xors-self, xors_twice}
 use Rattle.check_remainder.proofs.RemainderLaws.{length-remainder, divide_behind}
 use Rattle.check_remainder.proofs.OctetLaws.{length-octet_bits, octets_of_below}
-use Rattle.check_remainder.specs.Count.{count}
 use Rattle.gfp_model.specs.fcs_model.Flips.{flipped}
 use Rattle.check_crc32.specs.Crc32.{crc32, check_bits, fcs_of}
 use Rattle.check_crc32.proofs.CheckLaws.{length-crc32, length-check_bits, check_bits-xors, octet_bits-fcs_of, length-fcs_of}
@@ -26,9 +25,7 @@ use Rattle.gfp_noise.specs.flip_law.Flipped.{IsFrame}
 use Rattle.check_remainder.proofs.CountLaws.{count-zeros}
 use Rattle.gfp_noise.proofs.FlipLaws.FlippedLaws.{length-flipped, flipped_below, octet_bits-flipped, flipped-append}
 use Rattle.gfp_noise.proofs.FlipLaws.TypeLaws.{fcs_header_right, fcs_type_fault-right}
-use Rattle.law_model.specs.declared.frame_faults.TypeFault.{TypeFault}
 use Rattle.gfp_noise.proofs.FlipLaws.RegisterLaws.{something_left}
-use Rattle.law_model.specs.Limits.{longest_extended_area, longest_frame}
 
 -- ---- the FCS of flipped octets
 none_in_zeros : (bs : List Bool) (n : ℕ) → bs ≡ replicate n false → count bs ≡ 0

@@ -1,8 +1,7 @@
 -- Octets of which bits are turned over.
 use Rattle.std.proofs.Common.{◌≡◌, ℕ, ◌*◌, ◌<◌, Bool, false, List, ◌++◌, length, replicate, All, sym, ◌∙◌, ap, ap₂}
-use Rattle.std.proofs.Common.{le_of_eq}
-use Rattle.std.proofs.lemmas.List.{length-append}
-use Rattle.check_remainder.specs.Bits.{octet_bits, octets_of, xors}
+use Rattle.std.proofs.Common.{le_of_eq, length-append}
+use Rattle.law_model.specs.Common.{octet_bits, octets_of, xors}
 use Rattle.check_remainder.proofs.XorLaws.{length_xors, xors_assoc, xors-zeros_right, xors-append}
 use Rattle.check_remainder.proofs.OctetLaws.{octet_bits-append, length-octet_bits, length-octets_of, octets_of_below}
 use Rattle.check_remainder.proofs.OctetLaws.{octets_of-octet_bits, octet_bits-octets_of, octets_of-append}

@@ -5,17 +5,16 @@ use Rattle.std.proofs.Common.{take, drop, All, Option, Some, None, refl, sym, �
 use Rattle.std.proofs.Common.{le_of_eq}
 use Rattle.std.proofs.lemmas.List.{length-replicate, length-take, length-drop, take-append-drop}
 use Rattle.std.specs.Prelude.{◌↔◌}
-use Rattle.check_remainder.specs.Bits.{bits, number, octet_bits, octets_of, xors}
+use Rattle.law_model.specs.Common.{bits, number, octet_bits, octets_of, xors, core_header, IsPli, pli_of, head, count}
+use Rattle.law_model.specs.Common.{IsFixed}
 use Rattle.check_remainder.proofs.XorLaws.{length_xors, xors_assoc, xors-self, xors-zeros, xors_twice, xors-append}
 use Rattle.check_remainder.proofs.BitLaws.{length-bits, bits-add, bits_low, bits-number}
 use Rattle.check_remainder.proofs.OctetLaws.{octet_bits-append, length-octet_bits, octets_of-octet_bits, octet_bits-octets_of}
-use Rattle.law_model.specs.frames.Core.{core_header, IsPli, pli_of, head}
 use Rattle.law_model.proofs.CoreLaws.{length-core_header, core_header_below, head-core_header, core_header-head}
 use Rattle.law_model.proofs.CoreLaws.{IsPli-head}
-use Rattle.check_remainder.specs.Count.{count}
 use Rattle.gfp_model.specs.fcs_model.Flips.{flipped}
 use Rattle.gfp_model.specs.fcs_model.Near.{or_else, turned_below, near, IsNear, check_of}
-use Rattle.check_hec16.specs.Fixed.{bit_at, IsFixed}
+use Rattle.check_hec16.specs.Fixed.{bit_at}
 use Rattle.check_hec16.proofs.WordLaws.{at_most_one, length-bit_at, count-bit_at, with_check, length-with_check, none_differ}
 use Rattle.check_hec16.proofs.WordLaws.{one_differs, two_differ, length-both}
 use Rattle.check_remainder.proofs.CountLaws.{count-zeros}

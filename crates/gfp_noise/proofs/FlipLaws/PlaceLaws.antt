@@ -8,7 +8,9 @@ use Rattle.std.proofs.lemmas.Bool.Decides.{nat_tests}
 use Rattle.std.proofs.lemmas.List.{append-nil, length-append, length-replicate, replicate-append-replicate}
 use Rattle.std.proofs.lemmas.List.Elements.{All-nil, All-cons, All-head, All-tail}
 use Rattle.std.proofs.lemmas.Nat.{xor_lt}
-use Rattle.check_remainder.specs.Bits.{bits, octets_of, xor, xors}
+use Rattle.std.proofs.lemmas.Bool.{eq-eqb, ne_eqb}
+use Rattle.law_model.proofs.ListLaws.{replicate-at}
+use Rattle.law_model.specs.Common.{bits, octets_of, xor, xors}
 use Rattle.check_remainder.proofs.XorLaws.{length_xors}
 use Rattle.check_remainder.proofs.BitLaws.{bits-xor}
 use Rattle.check_remainder.proofs.OctetLaws.{octets_of-octet_bits}
@@ -63,7 +65,7 @@ one_octet o bit below h =
     ∙ octets_of-octet_bits (bit_xor o mask ∷ [])
     (All-cons (λ o. o < 256) (bit_xor o mask) [] result (All-nil (λ o. o < 256)))
 
-zeros_in_parts : (m n all : ℕ) → all ≡ m + n → replicate all false ≡ replicate m false ++ replicate n false
+pub zeros_in_parts : (m n all : ℕ) → all ≡ m + n → replicate all false ≡ replicate m false ++ replicate n false
 zeros_in_parts m n all e = ap (λ k. replicate k false) e ∙ sym (replicate-append-replicate m n false)
 
 -- ---- one flip of octets
@@ -148,18 +150,13 @@ get_or-xors (x ∷ a) [] i e = absurd (omega arith)
 get_or-xors (x ∷ a) (y ∷ b) zero e = refl
 get_or-xors (x ∷ a) (y ∷ b) (suc i) e = get_or-xors a b i (omega arith)
 
-get_or-zeros : (n i : ℕ) → get_or (replicate n false) i false ≡ false
-get_or-zeros zero i = refl
-get_or-zeros (suc n) zero = refl
-get_or-zeros (suc n) (suc i) = get_or-zeros n i
-
 get_or-here : (k m : ℕ) → get_or (replicate k false ++ true ∷ replicate m false) k false ≡ true
 get_or-here zero m = refl
 get_or-here (suc k) m = get_or-here k m
 
 get_or-elsewhere : (k m i : ℕ) → k ≢ i → get_or (replicate k false ++ true ∷ replicate m false) i false ≡ false
 get_or-elsewhere zero m zero h = absurd (h refl)
-get_or-elsewhere zero m (suc i) h = get_or-zeros m i
+get_or-elsewhere zero m (suc i) h = replicate-at m false i
 get_or-elsewhere (suc k) m zero h = refl
 get_or-elsewhere (suc k) m (suc i) h = get_or-elsewhere k m i (λ e. h (ap suc e))
 
@@ -174,19 +171,13 @@ none_below least i (flip ∷ flips) rising h =
     differ : (a b : ℕ) → b < a → (a == b) ≡ false
     differ a b h = grind (arith, nat_tests)
 
-equal_test : (a b : ℕ) → a ≡ b → (a == b) ≡ true
-equal_test a b e = grind (arith, nat_tests)
-
-differ_test : (a b : ℕ) → a ≢ b → (a == b) ≡ false
-differ_test a b e = grind (arith, nat_tests)
-
 same_or_not : (a b : ℕ) → (a ≡ b) ⊎ (a ≢ b)
 same_or_not a b = grind (arith, nat_tests)
 
 pub get_or-flips_of : (n i least : ℕ) (flips : List Flip) → All (LiesIn n) flips → IsRising least flips
     → get_or (flips_of n flips) i false ≡ list_any (λ flip. at flip == i) flips
 unfolding flips_of IsRising
-get_or-flips_of n i least [] lie rising = get_or-zeros (8 * n) i
+get_or-flips_of n i least [] lie rising = replicate-at (8 * n) false i
 get_or-flips_of n i least (flip ∷ flips) lie rising =
     let after : All (LiesIn n) flips = All-tail (LiesIn n) flip flips lie in
     let more = get_or-flips_of n i (at flip + 1) flips after rising.1 in
@@ -198,6 +189,6 @@ get_or-flips_of n i least (flip ∷ flips) lie rising =
           let none : list_any (λ flip. at flip == i) flips ≡ false = none_below (at flip + 1) i flips rising.1
           (omega (arith, same)) in
           ap₂ xor (ap (λ i. get_or (one_of n flip) i false) (sym same) ∙ get_or-here (at flip) left) (more ∙ none)
-          ∙ rw (equal_test (at flip) i same) refl)
-      | inr other ↦ ap₂ xor (get_or-elsewhere (at flip) left i other) more ∙ rw (differ_test (at flip) i other) refl
+          ∙ rw (eq-eqb (at flip) i same) refl)
+      | inr other ↦ ap₂ xor (get_or-elsewhere (at flip) left i other) more ∙ rw (ne_eqb (at flip) i other) refl
     ]

@@ -2,14 +2,13 @@
 -- that are 43 places apart, leave something.
 use Rattle.std.proofs.Common.{◌≡◌, ℕ, zero, suc, ◌+◌, ◌-◌, ◌/◌, ◌<◌, ◌≤◌, Bool, true, false, List, [], ◌∷◌, ◌++◌}
 use Rattle.std.proofs.Common.{length, replicate, refl, sym, ◌∙◌, ap, subst, inl, inr, arith, append_assoc, le_of_eq}
-use Rattle.std.proofs.lemmas.List.{append-nil, length-append, length-replicate, replicate-append-replicate}
+use Rattle.std.proofs.lemmas.List.{append-nil, length-append, length-replicate}
 use Rattle.std.proofs.lemmas.Bool.{cases_lt}
-use Rattle.check_remainder.specs.Bits.{bits, xor, xors}
-use Rattle.check_remainder.specs.Remainder.{add_front, divide}
+use Rattle.gfp_noise.proofs.FlipLaws.PlaceLaws.{zeros_in_parts}
+use Rattle.law_model.specs.Common.{bits, xor, xors, add_front, divide, count}
 use Rattle.check_remainder.proofs.XorLaws.{xors-append}
 use Rattle.check_remainder.proofs.DivisionLaws.{length-add_front, add_front-append, divide-zeros, divide-add, divide-append}
 use Rattle.check_remainder.proofs.DivisionLaws.{length-divide}
-use Rattle.check_remainder.specs.Count.{count}
 use Rattle.check_crc32.specs.Crc32.{crc32}
 use Rattle.check_crc32.proofs.CheckLaws.{length-crc32}
 use Rattle.gfp_noise.specs.flip_law.Single.{IsOneOrTwo, one, two}
@@ -101,9 +100,6 @@ two_bits = true ∷ (replicate 42 false ++ (true ∷ []))
 two_bits-leave : count (divide 12 crc32 two_bits) ≡ 12
 unfolding two_bits count divide add_front bits
 two_bits-leave = refl
-
-zeros_in_parts : (m n all : ℕ) → all ≡ m + n → replicate all false ≡ replicate m false ++ replicate n false
-zeros_in_parts m n all e = ap (λ k. replicate k false) e ∙ sym (replicate-append-replicate m n false)
 
 -- a bit in the check alone
 late : (n a b : ℕ) → n ≤ a → 0 < count (divide n crc32 (replicate a false ++ true ∷ replicate b false))

@@ -1,18 +1,14 @@
 -- The flipped stream: its one run has all areas, and each is delivered exactly where its window is clear.
 use Rattle.std.proofs.Common.{◌≡◌, ℕ, ◌+◌, ◌*◌, ◌<◌, ◌≤◌, ◌==◌, Bool, true, false, if◌then◌else◌, List, [], ◌∷◌, ◌++◌}
 use Rattle.std.proofs.Common.{length, map, take, drop, replicate, All, Some, None, refl, sym, ◌∙◌, ap, ap₂, subst, inl}
-use Rattle.std.proofs.Common.{inr, arith, append_assoc}
-use Rattle.std.specs.List.{flat_map}
-use Rattle.std.proofs.lemmas.List.{append-nil, length-append, length-replicate, length-take, length-drop, take_at}
-use Rattle.std.proofs.lemmas.List.{drop_at, take-append-drop}
+use Rattle.std.proofs.Common.{inr, arith, append_assoc, flat_map, append-nil, length-append, length-take, length-drop}
+use Rattle.std.proofs.Common.{take_at, drop_at, take-append-drop, fold}
+use Rattle.std.proofs.lemmas.List.{length-replicate}
 use Rattle.std.proofs.lemmas.List.Elements.{All-append, All-drop, All-head, All-nil, All-tail}
-use Rattle.check_remainder.specs.Bits.{octet_bits, octets_of, xors}
-use Rattle.law_model.specs.frames.Scramble.{descrambled, scrambled_octets, descrambled_octets}
-use Rattle.law_model.specs.frames.Core.{core_header, IsPli, head}
-use Rattle.law_model.specs.frames.Piece.{cut, with_header}
-use Rattle.law_model.specs.frames.Hunt.{header_at}
-use Rattle.law_model.specs.frames.Run.{Followed, area_then, follow_with, run_then, delineate_with, runs_with}
-use Rattle.law_model.specs.frames.Outcome.{area_outcomes, outcomes_after_with, descrambled_areas, run_outcomes_with}
+use Rattle.law_model.specs.Common.{octet_bits, octets_of, xors, descrambled, scrambled_octets, descrambled_octets}
+use Rattle.law_model.specs.Common.{core_header, IsPli, head, cut, with_header, header_at, Followed, area_then}
+use Rattle.law_model.specs.Common.{follow_with, run_then, delineate_with, runs_with, area_outcomes, outcomes_after_with}
+use Rattle.law_model.specs.Common.{descrambled_areas, run_outcomes_with, count}
 use Rattle.law_model.proofs.CoreLaws.{length-core_header, core_header_below}
 use Rattle.law_model.proofs.ScrambleLaws.{descrambled-scrambled, length-descrambled, descrambled-append}
 use Rattle.law_model.proofs.ScrambledOctets.{length-scrambled_octets, octet_bits-scrambled_octets}
@@ -23,18 +19,16 @@ use Rattle.law_model.proofs.AreaLaws.{descrambled_behind-single}
 use Rattle.gfp_delineate.proofs.HuntLaws.{header-window, search-confirmed}
 use Rattle.gfp_delineate.proofs.RunLaws.{follow-few, follow-whole, delineate_from, delineate-open}
 use Rattle.gfp_delineate.proofs.FrontLaws.{header_at-core}
-use Rattle.check_remainder.specs.Count.{count}
 use Rattle.gfp_model.specs.fcs_model.Flips.{flipped}
 use Rattle.gfp_model.specs.fcs_model.Near.{near}
 use Rattle.gfp_model.specs.fcs_model.Fcs.{fcs_area, fcs_outcome, frame_in}
-use Rattle.gfp_noise.specs.flip_law.Flipped.{fcs_stream, IsFrame, fcs_delivered, area_size, area_flips, flips_after, window}
-use Rattle.gfp_noise.specs.flip_law.Flipped.{AreFew, clear}
+use Rattle.gfp_noise.specs.flip_law.Flipped.{fcs_stream, IsFrame, fcs_delivered, area_size, area_flips, flips_after}
+use Rattle.gfp_noise.specs.flip_law.Flipped.{window, AreFew, clear}
 use Rattle.check_remainder.proofs.CountLaws.{count-zeros, none_or_one}
 use Rattle.gfp_noise.proofs.FlipLaws.FlippedLaws.{length-flipped, octet_bits-flipped, flipped-none, flipped-append}
 use Rattle.gfp_noise.proofs.FlipLaws.PlaceLaws.{length-flips_of, turned-flipped}
 use Rattle.gfp_model.specs.declared.fcs_model.Flip.{Flip}
 use Rattle.gfp_noise.specs.flip_law.Places.{LiesIn, turned, flips_of}
-use Rattle.std.specs.List.{fold}
 use Rattle.gfp_noise.proofs.FlipLaws.NearLaws.{near-flipped}
 use Rattle.gfp_noise.proofs.FlipLaws.WindowLaws.{descrambled-xors, left_in-area_none, left_in-area_one}
 use Rattle.gfp_noise.proofs.FlipLaws.FcsLaws.{fcs_area_below, length-fcs_area, fcs_area-delivered, fcs_area-dropped}

@@ -3,13 +3,11 @@
 use Rattle.std.proofs.Common.{◌≡◌, ℕ, zero, suc, ◌+◌, ◌-◌, ◌<◌, ◌≤◌, Bool, true, false, List, ◌∷◌, ◌++◌, length, drop}
 use Rattle.std.proofs.Common.{replicate, refl, sym, ◌∙◌, ap, ap₂, subst, inl, inr, arith, append_assoc, le_of_eq}
 use Rattle.std.proofs.lemmas.List.{length-append, length-replicate, length-drop, drop_at, drop-replicate}
-use Rattle.std.proofs.lemmas.List.{replicate-append-replicate}
 use Rattle.std.proofs.lemmas.Bool.{cases_lt}
-use Rattle.check_remainder.specs.Bits.{xors}
+use Rattle.gfp_noise.proofs.FlipLaws.PlaceLaws.{zeros_in_parts}
+use Rattle.law_model.specs.Common.{xors, descrambled, count}
 use Rattle.check_remainder.proofs.XorLaws.{xors-zeros, xors-zeros_right, xors-append}
-use Rattle.law_model.specs.frames.Scramble.{descrambled}
 use Rattle.law_model.proofs.ScrambleLaws.{xors-longer, descramble-append, length-descrambled}
-use Rattle.check_remainder.specs.Count.{count}
 use Rattle.gfp_noise.specs.flip_law.Flipped.{window}
 use Rattle.gfp_noise.specs.flip_law.Single.{IsOneOrTwo, one, two}
 use Rattle.check_remainder.proofs.CountLaws.{OneAt, count_none, count_one}
@@ -38,9 +36,6 @@ zeros_cut : (n : ℕ) (front rest : List Bool) → length front ≡ n → xors (
 zeros_cut n front rest e =
     xors-longer (replicate n false) front rest (le_of_eq (length-replicate n false ∙ sym e))
     ∙ xors-zeros n front (le_of_eq e)
-
-zeros_in_parts : (m n all : ℕ) → all ≡ m + n → replicate all false ≡ replicate m false ++ replicate n false
-zeros_in_parts m n all e = ap (λ k. replicate k false) e ∙ sym (replicate-append-replicate m n false)
 
 drop-one : (n k m : ℕ) → k < n → drop n (replicate k false ++ true ∷ replicate m false) ≡ replicate
     (m - (n - (k + 1))) false

@@ -1,23 +1,19 @@
 -- What comes of an area, by its size and its FCS, and by how it ended.
-use Rattle.std.proofs.Common.{◌≡◌, ◌≢◌, ℕ, ◌-◌, ◌^◌, ◌<◌, ◌≤◌, Bool, true, false, List, ◌++◌, length, map}
-use Rattle.std.proofs.Common.{take, drop, Some, inl, inr, refl, sym, ◌∙◌, ap, ap₂, subst, arith, w32}
-use Rattle.std.proofs.Common.{mod-eq_of_lt, length-drop, length-take}
-use Rattle.std.specs.Prelude.{nat_lt, if◌then◌else◌, ◌↔◌, IsTrue, IfSome}
-use Rattle.std.specs.Option.{option_to_list}
+use Rattle.std.proofs.Common.{◌≡◌, ◌≢◌, ℕ, ◌-◌, ◌^◌, ◌<◌, ◌≤◌, Bool, true, false, List, ◌++◌, length, map, take, drop}
+use Rattle.std.proofs.Common.{Some, inl, inr, refl, sym, ◌∙◌, ap, ap₂, subst, arith, w32, mod-eq_of_lt, length-drop}
+use Rattle.std.proofs.Common.{length-take, nat_lt, if◌then◌else◌, ◌↔◌, IsTrue, IfSome, option_to_list, bytes_eq, le-leb}
+use Rattle.std.proofs.Common.{le-ltb, take_all}
 use Rattle.std.specs.Int.{to_be_bytes}
-use Rattle.std.specs.Str.{bytes_eq}
 use Rattle.std.proofs.lemmas.Slice.Eq.{bytes_eq-Decides}
-use Rattle.std.proofs.lemmas.Bool.{le-leb, lt-leb, le-ltb, cases_lt}
-use Rattle.std.proofs.lemmas.List.{take_all}
+use Rattle.std.proofs.lemmas.Bool.{lt-leb, cases_lt}
 use Rattle.check_remainder.proofs.BitLaws.{number-bits}
 use Rattle.check_remainder.proofs.OctetLaws.{octet_bits-bytes_high_first}
-use Rattle.check_remainder.specs.Bits.{number}
+use Rattle.law_model.specs.Common.{number, head, longest_extended_area, longest_frame}
 use Rattle.check_crc32.specs.Crc32.{fcs_of}
-use Rattle.law_model.specs.frames.Core.{head}
 use Rattle.gfp_model.specs.declared.fcs_model.FcsWhy.TheVariants.{TooLong, Fcs}
 use Rattle.gfp_model.specs.fcs_model.Near.{near}
-use Rattle.gfp_model.specs.fcs_model.Fcs.{FcsOutcome, delivery, dropping, word_of, by_check, by_size, by_type, fcs_type_fault}
-use Rattle.gfp_model.specs.fcs_model.Fcs.{fcs_outcome}
+use Rattle.gfp_model.specs.fcs_model.Fcs.{FcsOutcome, delivery, dropping, word_of, by_check, by_size, by_type}
+use Rattle.gfp_model.specs.fcs_model.Fcs.{fcs_type_fault, fcs_outcome}
 use Rattle.gfp_delineate.specs.declared.area_receiver.AreaWhy.TheVariants.{TooLong as IsLong}
 use Rattle.gfp_delineate.specs.declared.area_receiver.AreaStep.{AreaStep}
 use Rattle.gfp_delineate.specs.declared.area_receiver.AreaStep.TheVariants.{Area}
@@ -25,9 +21,8 @@ use Rattle.gfp_delineate.specs.Areas.{AreaEnd, keeping, passing, end_of, ends_to
 use Rattle.gfp_delineate.proofs.OutcomeLaws.{outcomes_more-map}
 use Rattle.gfp_noise.specs.declared.gfp_fcs.fcs_delineator.FcsStep.{FcsStep}
 use Rattle.gfp_noise.specs.declared.gfp_fcs.fcs_delineator.FcsStep.TheVariants.{Nothing, Frame, Dropped}
-use Rattle.gfp_noise.specs.gfp_fcs.Delineator.{FcsReceiver, fcs_outcomes, info_of, frame_of, outcomes_told, told_fcs, fcs_of_end}
-use Rattle.gfp_noise.specs.gfp_fcs.Delineator.{FcsReceiverStands}
-use Rattle.law_model.specs.Limits.{longest_extended_area, longest_frame}
+use Rattle.gfp_noise.specs.gfp_fcs.Delineator.{FcsReceiver, fcs_outcomes, info_of, frame_of, outcomes_told, told_fcs}
+use Rattle.gfp_noise.specs.gfp_fcs.Delineator.{fcs_of_end, FcsReceiverStands}
 
 -- ---- a whole area
 -- the number of four octets

@@ -2,9 +2,7 @@
 use Rattle.std.proofs.Common.{◌≡◌, ℕ, ◌+◌, List, [], ◌∷◌, ◌++◌, length, map, take, drop, sym, ◌∙◌, ap, ap₂, arith}
 use Rattle.std.proofs.Common.{append_assoc, length-append}
 use Rattle.std.proofs.lemmas.List.{map-append, take_at, drop_at}
-use Rattle.law_model.specs.frames.Core.{core_header}
-use Rattle.law_model.specs.frames.Piece.{joined, areas_stream}
-use Rattle.law_model.specs.frames.Scramble.{scrambled_octets}
+use Rattle.law_model.specs.Common.{core_header, joined, areas_stream, scrambled_octets}
 use Rattle.law_model.proofs.StreamLaws.{areas_stream-push}
 use Rattle.law_model.proofs.ScrambledOctets.{length-scrambled_octets}
 use Rattle.gfp_model.specs.fcs_model.Fcs.{fcs_area}

@@ -18,7 +18,7 @@ use Rattle.gfp_noise.specs.declared.noise_link.noise_draft.Statement.{Statement}
 use Rattle.gfp_noise.specs.declared.noise_link.noise_draft.Statement.TheVariants as says
 use Rattle.gfp_noise.specs.noise_link.NoiseTextLines.{words_fault, words_said, after, at_first, noise_lines}
 use Rattle.gfp_noise.specs.noise_link.Noise.{noise_of_draft, noise_of, IsNoiseFault}
-use Rattle.law_model.specs.Limits.{longest_frame}
+use Rattle.law_model.specs.Common.{longest_frame}
 use Rattle.gfp_noise.specs.noise_link.Drafts.{behind, stopped, IsDraft, IsLineStop, Fits}
 
 -- ---- the text

@@ -1,7 +1,6 @@
 -- The stream of no frames.
 use Rattle.std.proofs.Common.{◌≡◌, ℕ, List, [], ◌++◌, ◌∙◌, ap, ap₂, append-nil}
-use Rattle.law_model.specs.frames.Core.{core_header}
-use Rattle.law_model.specs.frames.Piece.{cut}
+use Rattle.law_model.specs.Common.{core_header, cut}
 use Rattle.gfp_noise.specs.flip_law.Flipped.{fcs_stream}
 
 -- it is two idles

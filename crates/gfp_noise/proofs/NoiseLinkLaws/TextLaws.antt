@@ -1,11 +1,10 @@
 -- The text of what was received.
-use Rattle.std.proofs.Common.{◌≡◌, ℕ, ◌+◌, List, [], ◌∷◌, ◌++◌, length, refl, sym, ◌∙◌, ap, append-nil, length-append}
+use Rattle.std.proofs.Common.{◌≡◌, ℕ, ◌+◌, List, [], ◌∷◌, ◌++◌, length, refl, ◌∙◌, ap, append-nil}
 use Rattle.std.proofs.lemmas.List.Concat.{flat_map-append}
 use Rattle.gfp_model.specs.declared.fcs_model.FcsWhy.{FcsWhy}
 use Rattle.gfp_model.specs.fcs_model.Fcs.{FcsOutcome, delivery, dropping, frame_in}
 use Rattle.text_report.specs.Report.{got_texts}
-use Rattle.law_model.specs.frames.Run.{delineate_within}
-use Rattle.law_model.specs.frames.Hunt.{hunt_within}
+use Rattle.law_model.specs.Common.{delineate_within, hunt_within}
 use Rattle.gfp_noise.specs.gfp_fcs.Delineator.{fcs_outcomes}
 use Rattle.gfp_noise.specs.declared.noise_link.noise_draft.Noise.{Noise}
 use Rattle.gfp_noise.specs.noise_link.Text.{received, delivered, why_in, causes, counts_text, outcomes_text, noise_text}
@@ -48,7 +47,3 @@ delivered-drop outcomes all why e =
 pub causes-drop : (outcomes all : List FcsOutcome) (why : FcsWhy) → all ≡ outcomes ++ dropping why ∷ []
     → causes all ≡ causes outcomes ++ why ∷ []
 causes-drop outcomes all why e = ap causes e ∙ flat_map-append why_in outcomes (dropping why ∷ [])
-
-pub length-more : {A : Type 0} (before all : List A) (x : A) (n : ℕ) → all ≡ before ++ x ∷ [] → n ≡ length before
-    → n + 1 ≡ length all
-length-more before all x n e is = ap (λ m. m + 1) is ∙ sym (ap length e ∙ length-append before (x ∷ []))

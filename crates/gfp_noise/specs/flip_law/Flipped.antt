@@ -1,14 +1,9 @@
 -- A stream of frames with FCS of which bits are turned over: the frames that get through.
 use Rattle.std.specs.Prelude.{ℕ, ◌+◌, ◌-◌, ◌*◌, ◌<◌, ◌≤◌, ◌==◌, if◌then◌else◌, Bool, true, false, List, [], ◌∷◌, ◌++◌}
-use Rattle.std.specs.Prelude.{length, map, take, drop, replicate, All}
-use Rattle.std.specs.List.{flat_map}
-use Rattle.law_model.specs.frames.Core.{head}
-use Rattle.law_model.specs.frames.Piece.{areas_stream}
-use Rattle.law_model.specs.frames.Outcome.{outcomes_with}
-use Rattle.check_remainder.specs.Count.{count}
+use Rattle.std.specs.Prelude.{length, map, take, drop, replicate, All, flat_map}
+use Rattle.law_model.specs.Common.{head, areas_stream, outcomes_with, count, longest_frame}
 use Rattle.gfp_model.specs.fcs_model.Near.{near}
 use Rattle.gfp_model.specs.fcs_model.Fcs.{fcs_area, fcs_outcome, frame_in}
-use Rattle.law_model.specs.Limits.{longest_frame}
 
 -- two idles, and then the frames
 abbrev pub fcs_stream : List (List ℕ) → List ℕ

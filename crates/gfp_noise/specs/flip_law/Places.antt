@@ -1,7 +1,7 @@
 -- Flips, each told by the place of an octet and of a bit in it.
 use Rattle.std.specs.Prelude.{ℕ, ◌+◌, ◌-◌, ◌*◌, ◌^◌, ◌<◌, ◌≤◌, Bool, true, false, List, [], ◌∷◌, ◌++◌, replicate}
 use Rattle.std.specs.Prelude.{slice_index, slice_set, bit_xor}
-use Rattle.check_remainder.specs.Bits.{xors}
+use Rattle.law_model.specs.Common.{xors}
 use Rattle.gfp_model.specs.declared.fcs_model.Flip.{Flip}
 
 -- the place of its bit in all

@@ -1,9 +1,7 @@
 -- What a receiver of frames with an FCS knows of the octets of a stream that have come.
-use Rattle.std.specs.Prelude.{ℕ, ◌-◌, ◌&&◌, nat_le, Bool, true, List, [], ◌∷◌, length, map, take, drop, Option}
-use Rattle.std.specs.Prelude.{Some, None, if◌then◌else◌}
-use Rattle.std.specs.Option.{option_to_list}
-use Rattle.law_model.specs.frames.Core.{head}
-use Rattle.law_model.specs.frames.Outcome.{outcomes_with}
+use Rattle.std.specs.Prelude.{ℕ, ◌-◌, ◌&&◌, nat_le, Bool, true, List, [], ◌∷◌, length, map, take, drop, Option, Some}
+use Rattle.std.specs.Prelude.{None, if◌then◌else◌, option_to_list}
+use Rattle.law_model.specs.Common.{head, outcomes_with, longest_extended_area}
 use Rattle.gfp_model.specs.declared.fcs_model.FcsWhy.{FcsWhy}
 use Rattle.gfp_model.specs.declared.fcs_model.FcsWhy.TheVariants.{Unsettled, TooLong}
 use Rattle.gfp_model.specs.fcs_model.Near.{near}
@@ -13,7 +11,6 @@ use Rattle.gfp_delineate.specs.declared.area_receiver.AreaWhy.TheVariants.{Unset
 use Rattle.gfp_delineate.specs.Areas.{AreaEnd, keeping, passing, Progress, IsAt}
 use Rattle.gfp_noise.specs.declared.gfp_fcs.fcs_delineator.FcsStep.{FcsStep}
 use Rattle.gfp_noise.specs.declared.gfp_fcs.fcs_delineator.FcsStep.TheVariants.{Nothing, Frame, Dropped}
-use Rattle.law_model.specs.Limits.{longest_extended_area}
 
 -- what comes of the client frames of a stream, all of which is one first segment. Headers are corrected in SYNC alone
 abbrev pub fcs_outcomes : List ℕ → List FcsOutcome

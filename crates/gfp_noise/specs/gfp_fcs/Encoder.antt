@@ -1,6 +1,6 @@
 -- What an encoder of frames with an FCS has written.
 use Rattle.std.specs.Prelude.{ℕ, List, map}
-use Rattle.law_model.specs.frames.Piece.{joined}
+use Rattle.law_model.specs.Common.{joined}
 use Rattle.gfp_scramble.specs.Scrambler.{Scrambling}
 use Rattle.gfp_scramble.specs.Scrambler as scrambler
 use Rattle.gfp_model.specs.fcs_model.Fcs.{fcs_area}

@@ -1,6 +1,5 @@
 -- What a draft meets, and what a line may say that stands after those of a draft, as private clauses say it.
-use Rattle.std.specs.Prelude.{◌≡◌, ⊤, ℕ, ◌+◌, ◌<◌, ◌≤◌, List, [], length, All, Option, Some}
-use Rattle.std.specs.List.{fold}
+use Rattle.std.specs.Prelude.{◌≡◌, ⊤, ℕ, ◌+◌, ◌<◌, ◌≤◌, List, [], length, All, Option, Some, fold}
 use Rattle.text_lines.specs.declared.field_fault.FieldStop.{FieldStop}
 use Rattle.text_lines.specs.declared.field_fault.FieldStop.TheVariants as field
 use Rattle.gfp_model.specs.declared.fcs_model.Flip.{Flip}

@@ -16,7 +16,7 @@ use Rattle.gfp_noise.specs.declared.noise_link.noise_text_fault.LineFault.TheVar
 use Rattle.gfp_noise.specs.declared.noise_link.noise_draft.Statement.{Statement}
 use Rattle.gfp_noise.specs.declared.noise_link.noise_draft.Statement.TheVariants as says
 use Rattle.gfp_noise.specs.declared.noise_link.noise_draft.Draft.{Draft}
-use Rattle.law_model.specs.Limits.{longest_frame}
+use Rattle.law_model.specs.Common.{longest_frame}
 
 -- ---- the first word
 -- the words that may begin a line

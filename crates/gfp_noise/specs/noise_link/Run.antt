@@ -1,6 +1,6 @@
 -- What was received so far, as private clauses say it.
 use Rattle.std.specs.Prelude.{◌≡◌, ℕ, List, length, Option}
-use Rattle.octet_io.specs.Start.{Start}
+use Rattle.law_model.specs.Common.{Start}
 use Rattle.text_report.specs.Report.{got_texts}
 use Rattle.text_got.specs.Told.{HasText}
 use Rattle.gfp_noise.specs.gfp_fcs.Delineator.{fcs_outcomes}

@@ -1,9 +1,9 @@
 //! The receiver of a stream of frames with an FCS. In SYNC it corrects core headers with one wrong bit.
 
-ghost use Rattle.std.specs.Prelude.{◌≡◌, ◌≢◌, ℕ, ◌<◌, ◌≤◌, ◌↔◌, List, [], ◌∷◌, ◌++◌, length, map, take};
+ghost use Rattle.std.specs.Prelude.{◌≡◌, ℕ, ◌<◌, ◌≤◌, ◌↔◌, List, [], ◌∷◌, ◌++◌, length, map, take};
 ghost use Rattle.std.specs.Prelude.{IfOk, IfSome, IsSome, IsTrue, Some};
 ghost use Rattle.std.specs.Int.{to_be_bytes, w32};
-ghost use Rattle.law_model.specs.Limits.{longest_frame};
+ghost use Rattle.law_model.specs.Common.{longest_frame};
 ghost use Rattle.gfp_delineate.specs.Areas.{ends_told};
 ghost use Rattle.gfp_model.specs.fcs_model.Fcs.{fcs_type_fault, by_size, by_type};
 ghost use Rattle.gfp_noise.specs.gfp_fcs.Delineator.{FcsReceiverStands, fcs_outcomes, frame_of, info_of, outcomes_told, told_fcs};

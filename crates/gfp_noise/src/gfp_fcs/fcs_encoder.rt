@@ -1,6 +1,6 @@
 //! The stream of frames with an FCS, frame by frame.
 ghost use Rattle.std.specs.Prelude.{◌≡◌, ℕ, ◌+◌, ◌≤◌, List, [], ◌∷◌, ◌++◌, length, take};
-ghost use Rattle.law_model.specs.Limits.{longest_frame};
+ghost use Rattle.law_model.specs.Common.{longest_frame};
 ghost use Rattle.gfp_model.specs.fcs_model.Fcs.{fcs_area};
 ghost use Rattle.gfp_noise.specs.flip_law.Flipped.{fcs_stream};
 ghost use Rattle.gfp_noise.specs.gfp_fcs.Encoder.{EncoderStands};

@@ -7,15 +7,15 @@
 ghost use Rattle.std.specs.Prelude.{◌≡◌, ◌<◌, ℕ, List, ◌∷◌, ◌++◌, length, replicate, true, false};
 ghost use Rattle.gfp_model.specs.fcs_model.Fcs.{fcs_header, fcs_outcome, dropping};
 
-mod payload_fcs;
 mod fcs_delineator;
 mod fcs_encoder;
+mod payload_fcs;
 
-pub use payload_fcs::fcs;
 pub use fcs_delineator::{FcsDelineator, FcsStep};
 pub use fcs_encoder::FcsEncoder;
 pub use gfp_model::fcs_model::FcsWhy;
 pub use law_model::TypeFault;
+pub use payload_fcs::fcs;
 
 /// Worked: what each cause tells of an area.
 pub fn cause_law()

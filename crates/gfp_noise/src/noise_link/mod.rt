@@ -15,22 +15,22 @@ ghost use Rattle.gfp_noise.specs.noise_link.NoiseTextLines.{at_first, noise_line
 ghost use Rattle.gfp_noise.specs.noise_link.Noise.{noise_of, IsNoise};
 
 mod noise_draft;
-mod noise_text_fault;
+mod noise_end_text;
 mod noise_helps;
 mod noise_keyword;
-mod noise_end_text;
-mod read_noise_text;
 mod noise_reception;
 mod noise_run;
 mod noise_statement;
+mod noise_text_fault;
 mod noisy_stream;
+mod read_noise_text;
 
 pub use noise_draft::{FlipList, FrameList, Noise};
-pub use noise_text_fault::LineFault;
 pub use noise_helps::noise_help;
 pub use noise_keyword::Keyword;
-pub use read_noise_text::{NoiseFault, read_noise};
 pub use noise_run::NoiseRun;
+pub use noise_text_fault::LineFault;
+pub use read_noise_text::{NoiseFault, read_noise};
 
 /// A text has the fault of a line exactly where that line is faulty after lines none of which is.
 pub fn fault_law()

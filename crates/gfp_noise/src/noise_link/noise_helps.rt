@@ -3,8 +3,8 @@ ghost use Rattle.std.specs.Prelude.{◌≡◌, ◌≤◌, length, take};
 ghost use Rattle.gfp_noise.specs.declared.noise_link.noise_text_fault.LineFault.{LineFault};
 ghost use Rattle.gfp_noise.specs.noise_link.Helps.{keyword_text, help_of};
 
-use crate::noise_link::noise_text_fault::LineFault;
 use crate::noise_link::noise_keyword::Keyword;
+use crate::noise_link::noise_text_fault::LineFault;
 use text_help::{count_help, field_help, order_help};
 use text_report::TextCursor;
 

@@ -1,11 +1,11 @@
 //! The receiver of a stream, and the lines of the frames that it delivers.
 ghost use Rattle.std.specs.Prelude.{◌≡◌, ℕ, ◌+◌, ◌<◌, ◌≤◌, List, [], ◌∷◌, ◌++◌};
-ghost use Rattle.octet_io.specs.Start.{Start};
+ghost use Rattle.law_model.specs.Common.{Start};
 ghost use Rattle.gfp_noise.specs.noise_link.Run.{Received};
 
 use crate::gfp_fcs::{FcsDelineator, FcsStep};
-use octet_io::ByteSink;
 use law_model::FrameOut;
+use octet_io::ByteSink;
 use text_got::GotLines;
 
 /// What octets came to so far.

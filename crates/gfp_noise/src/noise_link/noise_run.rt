@@ -1,6 +1,6 @@
 //! The stream of frames is received with its flips, and what comes of it is written.
 ghost use Rattle.std.specs.Prelude.{◌≡◌, IfOk, OnOk, OnErr};
-ghost use Rattle.octet_io.specs.Transfer.{Appends, AppendsPart};
+ghost use Rattle.law_model.specs.Common.{Appends, AppendsPart};
 ghost use Rattle.gfp_noise.specs.noise_link.Noise.{IsNoise};
 ghost use Rattle.gfp_noise.specs.noise_link.Text.{received, noise_text};
 

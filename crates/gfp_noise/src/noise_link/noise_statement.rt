@@ -7,8 +7,8 @@ ghost use Rattle.gfp_noise.specs.noise_link.NoiseTextLines.{flip_said, frame_sai
 ghost use Rattle.gfp_noise.specs.noise_link.Drafts.{IsDraft, IsLineStop, Fits};
 
 use crate::noise_link::noise_draft::{Draft, Statement};
-use crate::noise_link::noise_text_fault::{LineFault, LineStop};
 use crate::noise_link::noise_keyword::Keyword;
+use crate::noise_link::noise_text_fault::{LineFault, LineStop};
 use gfp_model::fcs_model::Flip;
 use law_model::{LONGEST_FRAME, Octets};
 use std::alloc::Global;

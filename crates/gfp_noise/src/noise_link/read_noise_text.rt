@@ -1,14 +1,14 @@
 //! The reader of a whole text.
 ghost use Rattle.std.specs.Prelude.{◌≡◌, ◌≤◌, length, IfOk, IfErr, OnOk, Ok, Err};
 ghost use Rattle.text_lines.specs.Language.{said_by};
-ghost use Rattle.law_model.specs.Limits.{longest_input};
+ghost use Rattle.law_model.specs.Common.{longest_input};
 ghost use Rattle.gfp_noise.specs.noise_link.NoiseTextLines.{at_first, after, noise_lines};
 ghost use Rattle.gfp_noise.specs.noise_link.Noise.{noise_of, IsNoise, IsNoiseFault};
 ghost use Rattle.gfp_noise.specs.noise_link.Drafts.{IsDraft, Fits, stopped};
 
 use crate::noise_link::noise_draft::{Draft, FlipList, FrameList, Noise, Statement};
-use crate::noise_link::noise_text_fault::{LineFault, LineStop};
 use crate::noise_link::noise_statement::read_line;
+use crate::noise_link::noise_text_fault::{LineFault, LineStop};
 use std::alloc::{AllocError, Global};
 use text_lines::next_line;
 

@@ -4,13 +4,11 @@ use Rattle.std.proofs.Common.{refl, arith, All}
 use Rattle.std.specs.List.Sorted.{IsNonDecreasing, IsNonDecreasingBy}
 use Rattle.std.proofs.lemmas.List.{length-map, get_or-map}
 use Rattle.std.proofs.lemmas.List.Elements.{All-append, All-cons}
+use Rattle.law_model.specs.Common.{Leg, DueCommand, DueFrame, order_of, offer_of, orders_of, offers_of, scenario_by}
+use Rattle.law_model.specs.Common.{due_of, dues_of, frame_dues, command_dues, IsKind, IsItem, IsSound}
 use Rattle.law_model.specs.declared.script_types.Item.{Item}
 use Rattle.law_model.specs.declared.script_types.ItemKind.{ItemKind}
 use Rattle.law_model.specs.declared.script_types.ItemKind.TheVariants.{Frame, Add, Remove}
-use Rattle.law_model.specs.session.Leg.{Leg}
-use Rattle.law_model.specs.session.Scenario.{DueCommand, DueFrame, order_of, offer_of, orders_of, offers_of, scenario_by}
-use Rattle.law_model.specs.session.Counts.{due_of, dues_of, frame_dues, command_dues}
-use Rattle.law_model.specs.session.Valid.{IsKind, IsItem, IsSound}
 use Rattle.law_loss.specs.Carried.{AreOctets}
 
 -- ---- due ticks

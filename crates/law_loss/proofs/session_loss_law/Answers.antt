@@ -1,6 +1,6 @@
 -- Losses in a session.
 use Rattle.std.proofs.Common.{◌++◌, ◌∙◌, ap, arith}
-use Rattle.law_model.specs.source.Client.{stream_before}
+use Rattle.law_model.specs.Common.{stream_before}
 use Rattle.law_session.proofs.ClientLaws.{stream_before-frames}
 use Rattle.law_loss.proofs.SessionStreamLaws.{rows-carry, rows-length}
 use Rattle.law_loss.proofs.SessionLossLaws.{frames-extents, session-kept}

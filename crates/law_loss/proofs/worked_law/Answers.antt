@@ -1,19 +1,10 @@
 -- A worked stream, computed.
-use Rattle.std.proofs.Common.{◌≡◌, [], ◌∷◌, All, true, false, take, drop, Some, None, refl, subst, sym}
-use Rattle.std.specs.Prelude.{IfSome}
+use Rattle.std.proofs.Common.{◌≡◌, [], ◌∷◌, All, true, false, take, drop, Some, None, refl, subst, sym, IfSome}
 use Rattle.std.proofs.lemmas.List.Elements.{All-nil, All-cons}
-use Rattle.check_hec16.specs.Hec.{hec_of}
-use Rattle.check_remainder.specs.Bits.{bits, number_behind, octets_of, xors}
-use Rattle.check_remainder.specs.Remainder.{add_front, divide}
-use Rattle.law_model.specs.frames.Core.{core_header, pli_of, head}
-use Rattle.law_model.specs.frames.Hunt.{header_with, hunt_within}
-use Rattle.law_model.specs.frames.Scramble.{scramble_on}
-use Rattle.law_model.specs.frames.TypeHeader.{type_fault}
-use Rattle.law_model.specs.frames.Piece.{idle, client, cut}
-use Rattle.law_model.specs.frames.Run.{follow_within, delineate_within}
-use Rattle.law_model.specs.frames.Outcome.{outcomes_after_with}
-use Rattle.law_model.specs.frames.Segment.{Segment, segments_on, segments}
-use Rattle.law_model.specs.frames.Loss.{extents, confirmed_in, IsPlaceOfPiece, StartsTrue}
+use Rattle.law_model.specs.Common.{hec_of, bits, number_behind, octets_of, xors, add_front, divide, core_header, pli_of}
+use Rattle.law_model.specs.Common.{head, header_with, hunt_within, scramble_on, type_fault, idle, client, cut}
+use Rattle.law_model.specs.Common.{follow_within, delineate_within, outcomes_after_with, Segment, segments_on, segments}
+use Rattle.law_model.specs.Common.{extents, confirmed_in, IsPlaceOfPiece, StartsTrue}
 use Rattle.law_loss.specs.Worked.{worked_pieces, worked_stream, worked_rows, kept_frame}
 use Rattle.law_loss.proofs.worked_law.Goals as goal
 

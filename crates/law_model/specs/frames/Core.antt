@@ -1,7 +1,6 @@
 -- G.7041, core header: the payload length indicator (PLI) and its check (cHEC), as they are sent.
 use Rattle.std.specs.Prelude.{◌≡◌, ℕ, ◌^◌, ◌<◌, ◌≤◌, ◌⊎◌, ◌==◌, nat_le, ◌&&◌, ◌||◌, Bool, List, ◌++◌, take, Option}
-use Rattle.std.specs.Prelude.{Some, None, if◌then◌else◌}
-use Rattle.std.specs.Str.{bytes_eq}
+use Rattle.std.specs.Prelude.{Some, None, if◌then◌else◌, bytes_eq}
 use Rattle.check_remainder.specs.Bits.{bits, number, octet_bits, octets_of, xors}
 use Rattle.check_hec16.specs.Hec.{hec_bits}
 

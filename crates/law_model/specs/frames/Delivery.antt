@@ -1,6 +1,5 @@
 -- G.7041, frame delineation: the frames that a receiver gives.
-use Rattle.std.specs.Prelude.{ℕ, true, List, [], ◌∷◌}
-use Rattle.std.specs.List.{flat_map}
+use Rattle.std.specs.Prelude.{ℕ, true, List, [], ◌∷◌, flat_map}
 use Rattle.law_model.specs.frames.Outcome.{Outcome, delivery, dropping, outcomes}
 
 -- the frame of an outcome, where there is one

@@ -1,9 +1,8 @@
 -- Which frames are lost with rows that aren't whole: by four cases, over the places at which the pieces of the stream
 -- begin and end.
 use Rattle.std.specs.Prelude.{◌≡◌, ℕ, ◌+◌, ◌≤◌, nat_le, nat_lt, ◌&&◌, not, Bool, true, false, List, [], ◌∷◌, ◌++◌}
-use Rattle.std.specs.Prelude.{length, map, filter, All, Option, Some, None, IfSome, ◌<◌, ◌⊎◌}
-use Rattle.std.specs.List.{list_any, Contains}
-use Rattle.std.specs.Option.{option_map}
+use Rattle.std.specs.Prelude.{length, map, filter, All, Option, Some, None, IfSome, ◌<◌, ◌⊎◌, Contains, option_map}
+use Rattle.std.specs.List.{list_any}
 use Rattle.law_model.specs.frames.Piece.{Piece, idle, client, size_of, stream_of}
 use Rattle.law_model.specs.frames.Hunt.{hunt}
 use Rattle.law_model.specs.frames.Segment.{StreamRow, Segment, segments, octets_of_rows}

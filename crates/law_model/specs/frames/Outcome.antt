@@ -6,8 +6,7 @@
 -- from its
 -- descrambled octets. Those without it are for Ethernet frames of at most a number of octets, `longest`.
 use Rattle.std.specs.Prelude.{ℕ, ◌+◌, ◌||◌, nat_le, nat_lt, Bool, true, false, List, [], ◌∷◌, ◌++◌, length, map, take}
-use Rattle.std.specs.Prelude.{drop, Option, Some, None, if◌then◌else◌}
-use Rattle.std.specs.List.{flat_map}
+use Rattle.std.specs.Prelude.{drop, Option, Some, None, if◌then◌else◌, flat_map}
 use Rattle.law_model.specs.declared.frame_faults.Why.{Why}
 use Rattle.law_model.specs.declared.frame_faults.Why.TheVariants.{Unsettled, TooLong, Header}
 use Rattle.law_model.specs.declared.frame_faults.TypeFault.{TypeFault}

@@ -1,6 +1,5 @@
 -- G.7041, frame-mapped GFP: a stream is made of idle frames and client frames, here called pieces.
-use Rattle.std.specs.Prelude.{ℕ, ◌+◌, nat_le, List, [], ◌∷◌, ◌++◌, length, map, filter, replicate, take, drop}
-use Rattle.std.specs.List.{flat_map}
+use Rattle.std.specs.Prelude.{ℕ, ◌+◌, nat_le, List, [], ◌∷◌, ◌++◌, length, map, filter, replicate, take, drop, flat_map}
 use Rattle.law_model.specs.frames.Scramble.{scrambled_octets}
 use Rattle.law_model.specs.frames.Core.{core_header}
 use Rattle.law_model.specs.frames.TypeHeader.{type_header}

@@ -1,8 +1,7 @@
 -- G.7041 over the rows of a group: the segments of a stream that comes in rows, which are the longest runs of whole
 -- rows, and the
 -- frames that they give. That a row which isn't whole breaks the stream is this project's own.
-use Rattle.std.specs.Prelude.{ℕ, ◌+◌, Bool, true, false, List, [], ◌∷◌, ◌++◌, length}
-use Rattle.std.specs.List.{flat_map}
+use Rattle.std.specs.Prelude.{ℕ, ◌+◌, Bool, true, false, List, [], ◌∷◌, ◌++◌, length, flat_map}
 use Rattle.law_model.specs.frames.Outcome.{outcomes}
 use Rattle.law_model.specs.frames.Delivery.{frame_in}
 

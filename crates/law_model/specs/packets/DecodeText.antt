@@ -1,6 +1,5 @@
 -- What is written of the H4 octets of a line: a line of text for each control packet, and a last line.
-use Rattle.std.specs.Prelude.{ℕ, List, ◌++◌, length, Result, Ok, Err, codes, decimal}
-use Rattle.std.specs.List.{flat_map}
+use Rattle.std.specs.Prelude.{ℕ, List, ◌++◌, length, Result, Ok, Err, codes, decimal, flat_map}
 use Rattle.law_model.specs.declared.control_packet.Packet.{Packet}
 use Rattle.law_model.specs.declared.control_packet.PacketFault.{PacketFault}
 use Rattle.law_model.specs.declared.control_packet.PacketFault.TheVariants.{Crc, Ctrl as CtrlFault}

@@ -4,9 +4,8 @@
 -- that a packet
 -- says (ACT) is this project's own.
 use Rattle.std.specs.Prelude.{ℕ, zero, suc, ◌+◌, ◌-◌, ◌/◌, ◌==◌, nat_lt, ◌&&◌, Bool, true, false, if◌then◌else◌, List}
-use Rattle.std.specs.Prelude.{[], ◌∷◌, ◌++◌, map, length, slice_get, Option, Some, None, is_none}
+use Rattle.std.specs.Prelude.{[], ◌∷◌, ◌++◌, map, length, slice_get, Option, Some, None, is_none, option_map}
 use Rattle.std.specs.List.{range_with_len, position_from}
-use Rattle.std.specs.Option.{option_map}
 use Rattle.std.specs.Result.{result_ok}
 use Rattle.member_cells.specs.declared.containers_and_cells.Container.{Container}
 use Rattle.member_cells.specs.declared.containers_and_cells.Cell.{Cell}

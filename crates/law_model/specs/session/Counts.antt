@@ -3,8 +3,7 @@
 -- numbers alone: how many cells its carries give, and how many rows its cells decide.
 use Rattle.std.specs.Prelude.{ℕ, zero, suc, ◌+◌, ◌-◌, ◌*◌, ◌/◌, ◌%◌, ◌&&◌, ◌==◌, nat_le, nat_lt, min, Bool, List, []}
 use Rattle.std.specs.Prelude.{◌∷◌, ◌++◌, map, length, replicate, slice_get, slice_set, Option, Some, None}
-use Rattle.std.specs.Prelude.{if◌then◌else◌}
-use Rattle.std.specs.List.{flat_map}
+use Rattle.std.specs.Prelude.{if◌then◌else◌, flat_map}
 use Rattle.law_model.specs.declared.script_types.Item.{Item}
 use Rattle.law_model.specs.declared.script_types.ItemKind.{ItemKind}
 use Rattle.law_model.specs.declared.script_types.ItemKind.TheVariants.{Frame, Add, Remove}
@@ -13,8 +12,8 @@ use Rattle.law_model.specs.declared.script_types.EventLine.TheVariants as script
 use Rattle.law_model.specs.declared.walk_events.Event.{Event}
 use Rattle.law_model.specs.declared.walk_events.Event.TheVariants.{Accept, Command, Tick, Carry, Back, Take}
 use Rattle.law_model.specs.declared.walk_events.StallCause.{StallCause}
-use Rattle.law_model.specs.declared.walk_events.StallCause.TheVariants.{Done, NotDue, Held, TxFull, BackMissing, Empty}
-use Rattle.law_model.specs.declared.walk_events.StallCause.TheVariants.{RxFull, BackEmpty, BackFull, Waiting}
+use Rattle.law_model.specs.declared.walk_events.StallCause.TheVariants.{Done, NotDue, Held, TxFull, BackMissing, Empty, RxFull}
+use Rattle.law_model.specs.declared.walk_events.StallCause.TheVariants.{BackEmpty, BackFull, Waiting}
 use Rattle.law_model.specs.session.Scenario.{packets_in, steps_in}
 
 -- ---- what a walk is given

@@ -1,7 +1,7 @@
 -- Worked pairs in numbers, computed.
 use Rattle.std.proofs.Common.{refl}
-use Rattle.law_model.specs.session.Counts.{frame_dues, command_dues, held, full, pop, pop_lines, sum_delays}
-use Rattle.law_pair.specs.PairCounts.{left_after, first_due, pair_run, carries_on, pair_drain}
+use Rattle.law_model.specs.Common.{frame_dues, command_dues, held, full, pop, pop_lines, sum_delays}
+use Rattle.law_pair.specs.Common.{left_after, first_due, pair_run, carries_on, pair_drain}
 use Rattle.law_pair.proofs.counts_law.Goals as goal
 
 pub returns-clause-missing_there : goal.returns-clause-missing_there

@@ -1,8 +1,7 @@
 -- A pair in numbers.
 use Rattle.law_pair.proofs.GoingLaws.{pair-walks, pair-said, pair-together}
-use Rattle.law_pair.proofs.PairEndLaws.{pair-moves, pair-ends, pair-drains}
-use Rattle.law_pair.proofs.PairEndLaws.{pair-begins, pair-steps, pair-waits, pair-told}
-use Rattle.law_pair.proofs.PairEndLaws.{pair-turns, pair-stops}
+use Rattle.law_pair.proofs.PairEndLaws.{pair-moves, pair-ends, pair-drains, pair-begins, pair-steps, pair-waits}
+use Rattle.law_pair.proofs.PairEndLaws.{pair-told, pair-turns, pair-stops}
 use Rattle.law_pair.proofs.PairStallLaws.{pair-stalled}
 use Rattle.law_pair.proofs.pair_law.Goals as goal
 

@@ -1,8 +1,8 @@
 -- Worked walks, computed.
 use Rattle.std.proofs.Common.{ℕ, [], ◌∷◌, refl, arith}
 use Rattle.std.proofs.lemmas.List.Sorted.{IsNonDecreasingBy-short}
-use Rattle.law_model.specs.session.Counts.{frame_dues, command_dues, held, full, pop, pop_lines, run, carries_from, drain}
-use Rattle.law_model.specs.session.Counts.{sum_delays}
+use Rattle.law_model.specs.Common.{frame_dues, command_dues, held, full, pop, pop_lines, run, carries_from, drain}
+use Rattle.law_model.specs.Common.{sum_delays}
 use Rattle.law_progress.specs.Progress.{IsPath, AllPaths, IsPlanOf}
 use Rattle.law_progress.specs.Worked.{fine, one_line, two_items}
 use Rattle.law_progress.proofs.worked_law.Goals as goal

@@ -1,8 +1,6 @@
 -- Worked rows, computed.
 use Rattle.std.proofs.Common.{refl}
-use Rattle.law_model.specs.source.Table.{none_kept}
-use Rattle.law_model.specs.packets.Forward.{place_in}
-use Rattle.law_model.specs.rows.Rows.{active_from}
+use Rattle.law_model.specs.Common.{none_kept, place_in, active_from}
 use Rattle.law_row.proofs.worked_law.Goals as goal
 
 pub returns-clause-sent : goal.returns-clause-sent

@@ -2,18 +2,13 @@
 use Rattle.std.proofs.Common.{◌≡◌, ◌↔◌, ℕ, suc, ◌+◌, ◌-◌, ◌*◌, ◌/◌, ◌<◌, ◌≤◌, min, false, inl, inr, List, Option, Some}
 use Rattle.std.proofs.Common.{slice_get, sym, ◌∙◌, arith}
 use Rattle.std.proofs.lemmas.Bool.{cases_lt}
+use Rattle.law_model.specs.Common.{Leg, Scenario, scenario_by, packets, Told, table_of, is_whole_row, IsSound}
 use Rattle.law_model.specs.declared.window_types.Window.{Window}
 use Rattle.law_model.specs.declared.lcas_states.Standing.TheVariants.{Norm as normal}
-use Rattle.law_model.specs.session.Leg.{Leg}
-use Rattle.law_model.specs.session.Scenario.{Scenario, scenario_by, packets}
-use Rattle.law_model.specs.source.Table.{Told}
-use Rattle.law_model.specs.source.Source.{table_of}
-use Rattle.law_model.specs.rows.SessionRows.{is_whole_row}
-use Rattle.law_model.specs.session.Valid.{IsSound}
 use Rattle.law_session.specs.Feedback.{lines_of, table_before}
 use Rattle.law_session.proofs.OrderLaws.{Has}
 use Rattle.law_session.proofs.SessionLaws.{session-law}
-use Rattle.law_walk.specs.Walk.{session_of}
+use Rattle.law_walk.specs.Common.{session_of}
 use Rattle.law_service.specs.law_cost.Cost.{windows_of, FailsBy, FailsOnce, FailTogether, Spoils, first_hit}
 use Rattle.law_service.specs.law_cost.Closed.{first_told, WasUsed, WereUsed, IsHit}
 use Rattle.law_service.proofs.LawCostLaws.StatusLaws.{Has-in_lines, count-before}

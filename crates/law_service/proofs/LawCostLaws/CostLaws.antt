@@ -6,25 +6,19 @@ use Rattle.std.specs.List.{list_all, range_with_len}
 use Rattle.std.proofs.lemmas.Bool.{cases_Bool, cases_lt, le-ltb, lt-ltb, and_right, false_from_ne_true}
 use Rattle.std.proofs.lemmas.Option.{none-some, same_Some, slice_get_within}
 use Rattle.std.proofs.lemmas.List.{get_or_past, length-map}
+use Rattle.law_model.specs.Common.{Leg, is_good, Scenario, scenario_by, carried_by, is_read, is_heard, packets}
+use Rattle.law_model.specs.Common.{member_of, Told, is_norm, is_normal, active, after, table_of, is_whole_row, IsSound}
 use Rattle.law_model.specs.declared.window_types.Window.{Window}
-use Rattle.law_model.specs.declared.lcas_states.Standing.TheVariants.{Add as adding, Norm as normal, Dnu as unused}
 use Rattle.law_model.specs.declared.lcas_states.Standing.{Standing}
 use Rattle.law_model.specs.declared.lcas_states.Member.{Member}
-use Rattle.law_model.specs.session.Leg.{Leg}
-use Rattle.law_model.specs.members.Damage.{is_good}
-use Rattle.law_model.specs.session.Scenario.{Scenario, scenario_by, carried_by, is_read, is_heard, packets}
-use Rattle.law_model.specs.source.Table.{member_of, Told, is_norm, is_normal, active}
-use Rattle.law_model.specs.source.Source.{after, table_of}
-use Rattle.law_model.specs.rows.SessionRows.{is_whole_row}
-use Rattle.law_model.specs.session.Valid.{IsSound}
+use Rattle.law_model.specs.declared.lcas_states.Standing.TheVariants.{Add as adding, Norm as normal, Dnu as unused}
 use Rattle.law_session.specs.Feedback.{lines_of, table_before}
 use Rattle.law_session.specs.Use.{IsInUse}
 use Rattle.law_session.proofs.DamageLaws.{heard-line}
 use Rattle.law_session.proofs.OrderLaws.{Has}
 use Rattle.law_session.proofs.PlanLaws.{order-length}
 use Rattle.law_session.proofs.SessionLaws.{session-cell}
-use Rattle.law_walk.specs.Walk.{session_of}
-use Rattle.law_walk.specs.Promise.{IsClear, row_from}
+use Rattle.law_walk.specs.Common.{session_of, IsClear, row_from}
 use Rattle.law_service.specs.law_cost.Cost.{windows_of, FailsBy, StaysClear, first_hit, FailsOnce, IsSpared, IsSparedFor, cost_end}
 use Rattle.law_service.specs.law_cost.Cost.{FailTogether, HasSq, end_packet, Spoils, IsSpoiled, spoiled_rows}
 use Rattle.law_service.proofs.LawCostLaws.StatusLaws.{IsQuiet, Has-in_lines, last-said, norm-read, read-stands}

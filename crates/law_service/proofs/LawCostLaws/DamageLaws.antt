@@ -3,11 +3,12 @@ use Rattle.std.proofs.Common.{◌≡◌, ◌⊎◌, ℕ, zero, suc, ◌+◌, ◌
 use Rattle.std.proofs.Common.{true, false, if◌then◌else◌, inl, inr, List, [], ◌∷◌, length, get_or, ap, ap₂, subst}
 use Rattle.std.proofs.Common.{arith}
 use Rattle.std.proofs.lemmas.Bool.{le-leb, lt-ltb, cases_lt, and_parts}
+use Rattle.law_model.specs.Common.{AreWindows, carried_in, is_good, is_readable}
 use Rattle.law_model.specs.declared.window_types.Window.{Window}
 use Rattle.law_model.specs.declared.window_types.Carried.TheVariants.{Whole, Fails, Vanishes}
-use Rattle.law_model.specs.members.Damage.{AreWindows, carried, carried_in, is_good, is_readable}
+use Rattle.law_model.specs.members.Damage.{carried}
 use Rattle.law_session.proofs.DamageLaws.{readable-whole, good-whole}
-use Rattle.law_walk.specs.Promise.{IsClear, row_from}
+use Rattle.law_walk.specs.Common.{IsClear, row_from}
 use Rattle.law_walk.proofs.WholeLaws.{clear-whole}
 use Rattle.law_service.specs.law_cost.Cost.{FailsBy, first_hit, end_packet, Spoils}
 

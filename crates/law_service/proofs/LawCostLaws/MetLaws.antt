@@ -4,26 +4,21 @@ use Rattle.std.proofs.Common.{All, Some, refl, sym, ◌∙◌, ap, arith, true, 
 use Rattle.std.proofs.lemmas.Option.{none-some, same_Some}
 use Rattle.std.proofs.lemmas.List.Elements.{All-nil, All-cons}
 use Rattle.std.proofs.lemmas.List.Sorted.{IsNonDecreasingBy-short}
+use Rattle.law_model.specs.Common.{HasFailures, IsNetwork, IsItem, IsSound, frame_dues, command_dues, are_whole}
+use Rattle.law_model.specs.Common.{slip_after, member_of, keep, none_kept, admit, turned, take_out, exchange}
+use Rattle.law_model.specs.Common.{DueCommand, scenario_by, orders_of, is_read, after, said_before, cells_before}
 use Rattle.law_model.specs.declared.window_types.Window.{Window}
+use Rattle.law_model.specs.declared.lcas_states.Member.{Member}
 use Rattle.law_model.specs.declared.script_types.ItemKind.TheVariants.{Add}
 use Rattle.law_model.specs.declared.lcas_states.Standing.TheVariants.{Add as adding, Norm as normal}
-use Rattle.law_model.specs.declared.lcas_states.Member.{Member}
 use Rattle.law_model.specs.declared.lcas_states.Command.TheVariants.{Add as add}
-use Rattle.law_model.specs.session.Valid.{HasFailures, IsNetwork, IsItem, IsSound}
-use Rattle.law_model.specs.session.Counts.{frame_dues, command_dues}
-use Rattle.law_model.specs.members.Damage.{carried, are_whole, slip_after}
-use Rattle.law_model.specs.source.Table.{member_of, keep, none_kept, admit, turned, take_out, exchange}
-use Rattle.law_model.specs.session.Scenario.{DueCommand, scenario_by, orders_of, is_read}
-use Rattle.law_model.specs.source.Source.{after}
-use Rattle.law_model.specs.source.Back.{said_before, cells_before}
+use Rattle.law_model.specs.members.Damage.{carried}
 use Rattle.law_session.specs.Feedback.{lines_of}
-use Rattle.law_walk.specs.Walk.{session_of}
-use Rattle.law_walk.specs.Worked.{item, plain}
+use Rattle.law_walk.specs.Common.{session_of, item, plain, IsClear}
 use Rattle.law_walk.proofs.MetLaws.{equal-rise, no_failure, one_failure, plain_network}
 use Rattle.law_service.specs.law_cost.Cost.{windows_of, FailsBy, StaysClear, FailsOnce, FailTogether, table_at, HasSq}
 use Rattle.law_service.specs.law_cost.Settled.{IsSettled}
 use Rattle.law_service.specs.law_cost.Closed.{WasUsed, WereUsed}
-use Rattle.law_walk.specs.Promise.{IsClear}
 use Rattle.law_service.proofs.LawCostLaws.DamageLaws.{clear-read}
 use Rattle.law_service.specs.law_cost.Worked.{costly_window, costly_windows, costly_leg}
 use Rattle.law_service.proofs.LawCostLaws.SettledLaws.{settled-still}

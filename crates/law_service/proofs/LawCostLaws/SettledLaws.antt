@@ -4,24 +4,21 @@ use Rattle.std.proofs.Common.{false, if◌then◌else◌, inl, inr, List, [], �
 use Rattle.std.proofs.Common.{None, option_map, refl, sym, ◌∙◌, ap, subst, arith}
 use Rattle.std.proofs.lemmas.Bool.{le-ltb, lt-leb, and_left, and_right}
 use Rattle.law_model.specs.declared.lcas_states.Standing.TheVariants.{Add as adding}
+use Rattle.law_model.specs.Common.{Leg, Scenario, DueCommand, scenario_by, orders_of, orders_at, lands_at, member_of}
+use Rattle.law_model.specs.Common.{kept_of, Table, Told, is_fail, heard, take_out, exchange, exchanged, Source}
+use Rattle.law_model.specs.Common.{change_by, change, asked_all, after, cell_at, source_at, told_at, table_of, first_of}
 use Rattle.law_model.specs.declared.lcas_states.Member.{Member}
 use Rattle.law_model.specs.declared.lcas_states.Command.{Command}
-use Rattle.law_model.specs.session.Leg.{Leg}
-use Rattle.law_model.specs.session.Scenario.{Scenario, DueCommand, scenario_by, orders_of, orders_at, lands_at}
-use Rattle.law_model.specs.source.Table.{member_of, kept_of, Table, Told, is_add, is_fail, heard, take_out, exchange}
-use Rattle.law_model.specs.source.Table.{exchanged}
-use Rattle.law_model.specs.source.Source.{Source, change_by, change, asked_all, after, cell_at, source_at, told_at}
-use Rattle.law_model.specs.source.Source.{table_of, first_of}
+use Rattle.law_model.specs.source.Table.{is_add}
 use Rattle.std.proofs.lemmas.Option.{none-some}
 use Rattle.law_session.specs.Feedback.{table_before}
 use Rattle.law_session.proofs.OrderLaws.{Has, adding_of}
 use Rattle.law_session.proofs.TableLaws.{heard-order}
-use Rattle.law_session.proofs.UseLaws.{after-change, told_at-table}
+use Rattle.law_session.proofs.UseLaws.{after-change, told_at-table, told_on-adding}
 use Rattle.law_session.proofs.AddLaws.{told_at-count}
-use Rattle.law_walk.specs.Walk.{session_of}
+use Rattle.law_walk.specs.Common.{session_of}
 use Rattle.law_service.specs.law_cost.Cost.{first_hit, table_at}
 use Rattle.law_service.specs.law_cost.Settled.{IsSettled, MakesNoChange}
-use Rattle.law_service.proofs.LawCostLaws.TurnLaws.{told_on-adding}
 
 -- ---- no line in ADD, no exchange
 exchange-idle : (kept : ℕ → Option Bool) (base : ℕ) (order : List Member) →

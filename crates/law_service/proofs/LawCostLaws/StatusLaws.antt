@@ -4,24 +4,22 @@ use Rattle.std.proofs.Common.{if◌then◌else◌, inl, inr, List, [], ◌∷◌
 use Rattle.std.proofs.Common.{option_map, refl, sym, ◌∙◌, ap, subst, arith}
 use Rattle.std.proofs.lemmas.Bool.{cases_lt, eq-eqb, ne_eqb}
 use Rattle.std.proofs.lemmas.Option.{slice_get-map}
+use Rattle.law_model.specs.Common.{Scenario, is_read, is_heard, member_of, kept_of, Table, Told, is_for, is_ok, is_fail}
+use Rattle.law_model.specs.Common.{acknowledged_by, heard, told_on, admit, exchange, exchanged, Source, change_by}
+use Rattle.law_model.specs.Common.{change, source_at, cell_at, told_at, table_of, status_by, status, return_packet}
 use Rattle.law_model.specs.declared.lcas_states.Standing.{Standing}
-use Rattle.law_model.specs.declared.lcas_states.Standing.TheVariants.{Add as adding, Norm as normal, Dnu as unused}
 use Rattle.law_model.specs.declared.lcas_states.Member.{Member}
-use Rattle.law_model.specs.session.Scenario.{Scenario, is_read, is_heard}
-use Rattle.law_model.specs.source.Table.{member_of, kept_of, Table, Told, is_for, is_ok, is_fail, acknowledged_by}
-use Rattle.law_model.specs.source.Table.{heard, told_on, admit, exchange, exchanged}
 use Rattle.law_model.specs.declared.lcas_states.Command.{Command}
+use Rattle.law_model.specs.declared.lcas_states.Standing.TheVariants.{Add as adding, Norm as normal, Dnu as unused}
 use Rattle.law_model.specs.declared.lcas_states.Command.TheVariants.{Add as add, Remove as remove}
-use Rattle.law_model.specs.source.Source.{Source, change_by, change, source_at, cell_at, told_at, table_of}
-use Rattle.law_model.specs.source.Back.{status_by, status, return_packet}
 use Rattle.law_session.specs.Feedback.{lines_of, table_before}
 use Rattle.law_session.proofs.TableLaws.{heard-order}
 use Rattle.law_session.proofs.FeedbackLaws.{stays}
 use Rattle.law_session.proofs.StatusLaws.{keep-at, full-after}
 use Rattle.law_session.proofs.OrderLaws.{Has, Known, IsThere, turned-adding, exchange-there_plain}
 use Rattle.law_session.proofs.UseLaws.{told_at-table, after-change, heard-for, found_line, cell_at-taken, said-heard}
-use Rattle.law_session.proofs.UseLaws.{kept-is}
-use Rattle.law_service.proofs.LawCostLaws.TurnLaws.{same-told, told_on-norm, told_on-dnu, told_on-adding}
+use Rattle.law_session.proofs.UseLaws.{kept-is, told_on-adding}
+use Rattle.law_service.proofs.LawCostLaws.TurnLaws.{same-told, told_on-norm, told_on-dnu}
 
 -- from step first to step last no change is made, and each packet from packet first on comes back that these steps take
 pub record IsQuiet (scenario : Scenario) (cells : List (Option Told)) (first last : ℕ) : Type 0 where

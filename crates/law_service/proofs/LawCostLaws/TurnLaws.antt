@@ -2,17 +2,15 @@
 use Rattle.std.proofs.Common.{◌≡◌, ℕ, ◌+◌, Bool, true, false, if◌then◌else◌, List, [], ◌∷◌, Option, Some, None}
 use Rattle.std.proofs.Common.{slice_get, option_map, refl, sym, ◌∙◌, ap, arith}
 use Rattle.std.proofs.lemmas.Option.{none-some}
+use Rattle.law_model.specs.Common.{Scenario, member_of, kept_of, Table, Told, admit, turn, told_on, exchange, exchanged}
+use Rattle.law_model.specs.Common.{Source, change_by, change, source_at, told_at, table_of}
 use Rattle.law_model.specs.declared.lcas_states.Standing.{Standing}
-use Rattle.law_model.specs.declared.lcas_states.Standing.TheVariants.{Add as adding, Norm as normal, Dnu as unused}
 use Rattle.law_model.specs.declared.lcas_states.Member.{Member}
 use Rattle.law_model.specs.declared.lcas_states.Command.{Command}
+use Rattle.law_model.specs.declared.lcas_states.Standing.TheVariants.{Add as adding, Norm as normal, Dnu as unused}
 use Rattle.law_model.specs.declared.lcas_states.Command.TheVariants.{Add as add, Remove as remove}
-use Rattle.law_model.specs.session.Scenario.{Scenario}
-use Rattle.law_model.specs.source.Table.{member_of, kept_of, Table, Told, admit, turn, told_on, exchange, exchanged}
-use Rattle.law_model.specs.source.Source.{Source, change_by, change, source_at, told_at, table_of}
 use Rattle.law_session.specs.Feedback.{table_before}
-use Rattle.law_session.proofs.OrderLaws.{Has, Has-standing, turned_member, slice_get-turned, admit-adding}
-use Rattle.law_session.proofs.OrderLaws.{turned-adding}
+use Rattle.law_session.proofs.OrderLaws.{Has, Has-standing, turned_member, slice_get-turned}
 use Rattle.law_session.proofs.UseLaws.{after-change}
 use Rattle.law_session.proofs.AddLaws.{told_at-count}
 
@@ -96,9 +94,3 @@ pub told_on-dnu : (table : Table) (sq line : ℕ) → Has (told_on table).order 
     kept_of table sq ≡ Some true → ⊥
 told_on-dnu table sq line has e =
     found-dnu (slice_get (admit (kept_of table) 0 table.order) sq) line (sym (turned-at table sq true e) ∙ has)
-
-pub told_on-adding : (table : Table) (sq line : ℕ) → Has (told_on table).order sq line adding →
-    Has table.order sq line adding
-told_on-adding table sq line has =
-    admit-adding (kept_of table) 0 table.order sq line
-    (turned-adding (kept_of table) 0 (admit (kept_of table) 0 table.order) sq line has)

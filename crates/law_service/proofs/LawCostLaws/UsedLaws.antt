@@ -1,18 +1,16 @@
 -- How long a line stays in use while nothing tells the source of its failure.
 use Rattle.std.proofs.Common.{◌≡◌, ◌⊎◌, ℕ, zero, suc, ◌+◌, ◌-◌, ◌/◌, ◌%◌, ◌<◌, ◌≤◌, ◌==◌, not, Bool, true, false}
 use Rattle.std.proofs.Common.{if◌then◌else◌, inl, inr, List, [], ◌∷◌, Option, Some, None, slice_get, option_map, refl}
-use Rattle.std.proofs.Common.{sym, ◌∙◌, ap, subst, arith}
-use Rattle.std.proofs.lemmas.Bool.{eqb-true}
+use Rattle.std.proofs.Common.{sym, ◌∙◌, ap, subst, arith, eqb-true}
 use Rattle.std.proofs.lemmas.Option.{none-some, slice_get-map}
 use Rattle.law_model.specs.declared.lcas_states.Standing.TheVariants.{Norm as normal}
+use Rattle.law_model.specs.Common.{Scenario, is_read, member_of, kept_of, Table, Told, is_adding, is_ok, is_fail}
+use Rattle.law_model.specs.Common.{in_use, acknowledged_by, heard, told_on, admit, exchange, exchanged, Source}
+use Rattle.law_model.specs.Common.{change_by, change, after, cell_at, source_at, told_at, table_of, status_by, status}
 use Rattle.law_model.specs.declared.lcas_states.Member.{Member}
 use Rattle.law_model.specs.declared.lcas_states.Command.{Command}
 use Rattle.law_model.specs.declared.lcas_states.Command.TheVariants.{Add as add, Remove as remove}
-use Rattle.law_model.specs.session.Scenario.{Scenario, is_read}
-use Rattle.law_model.specs.source.Table.{member_of, kept_of, Table, Told, is_add, is_adding, is_ok, is_fail, in_use}
-use Rattle.law_model.specs.source.Table.{acknowledged_by, heard, told_on, admit, exchange, exchanged}
-use Rattle.law_model.specs.source.Source.{Source, change_by, change, after, cell_at, source_at, told_at, table_of}
-use Rattle.law_model.specs.source.Back.{status_by, status}
+use Rattle.law_model.specs.source.Table.{is_add}
 use Rattle.law_session.specs.Feedback.{table_before}
 use Rattle.law_session.proofs.TableLaws.{heard-order}
 use Rattle.law_session.proofs.OrderLaws.{Has, Has-standing, turned-normal}

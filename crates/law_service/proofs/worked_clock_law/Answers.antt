@@ -1,7 +1,7 @@
 -- Worked walks by the clock, computed.
 use Rattle.std.proofs.Common.{ℕ, [], ◌∷◌, refl, arith}
 use Rattle.std.proofs.lemmas.List.Sorted.{IsNonDecreasingBy-short, IsNonDecreasingBy-push}
-use Rattle.law_model.specs.session.Counts.{frame_dues, command_dues, held, full, pop, pop_lines, run, carries_from}
+use Rattle.law_model.specs.Common.{frame_dues, command_dues, held, full, pop, pop_lines, run, carries_from}
 use Rattle.law_progress.specs.Progress.{IsPath, AllPaths, IsPlanOf}
 use Rattle.law_progress.specs.Worked.{fine}
 use Rattle.law_service.specs.Clock.{after_rounds, two_lines}

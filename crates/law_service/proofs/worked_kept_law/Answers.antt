@@ -1,16 +1,9 @@
 -- A worked stream by more and more of its rows, computed.
 use Rattle.std.proofs.Common.{refl}
-use Rattle.check_hec16.specs.Hec.{hec_of}
-use Rattle.check_remainder.specs.Bits.{bits, number_behind, octets_of, xors}
-use Rattle.check_remainder.specs.Remainder.{add_front, divide}
-use Rattle.law_model.specs.frames.Core.{core_header, pli_of, head}
-use Rattle.law_model.specs.frames.Hunt.{header_with, hunt_within}
-use Rattle.law_model.specs.frames.Scramble.{scramble_on}
-use Rattle.law_model.specs.frames.Piece.{cut}
-use Rattle.law_model.specs.frames.Segment.{segments_on}
-use Rattle.law_model.specs.frames.Loss.{extents}
+use Rattle.law_model.specs.Common.{hec_of, bits, number_behind, octets_of, xors, add_front, divide, core_header, pli_of}
+use Rattle.law_model.specs.Common.{head, header_with, hunt_within, scramble_on, cut, segments_on, extents}
 use Rattle.law_loss.specs.Worked.{worked_stream, worked_rows}
-use Rattle.fate_engine.specs.fate_law.Fates.{row_from, spoiled_from, fate_among}
+use Rattle.fate_engine.specs.Common.{row_from, spoiled_from, fate_among}
 use Rattle.law_service.proofs.worked_kept_law.Goals as goal
 
 pub returns-clause-first : goal.returns-clause-first

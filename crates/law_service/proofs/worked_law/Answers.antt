@@ -1,11 +1,8 @@
 -- Worked legs, computed.
 use Rattle.std.proofs.Common.{refl}
-use Rattle.law_model.specs.frames.Loss.{extents}
-use Rattle.law_model.specs.members.Damage.{carried, are_whole}
-use Rattle.law_model.specs.source.Back.{said_before, cells_before}
-use Rattle.law_model.specs.source.Client.{reaching, place_of, stream_before}
-use Rattle.law_model.specs.source.Source.{after}
-use Rattle.law_model.specs.source.Table.{keep, none_kept, admit, turned, take_out, exchange}
+use Rattle.law_model.specs.Common.{extents, are_whole, said_before, cells_before, reaching, place_of, stream_before}
+use Rattle.law_model.specs.Common.{after, keep, none_kept, admit, turned, take_out, exchange}
+use Rattle.law_model.specs.members.Damage.{carried}
 use Rattle.law_service.specs.Place.{placed_before}
 use Rattle.law_service.proofs.worked_law.Goals as goal
 

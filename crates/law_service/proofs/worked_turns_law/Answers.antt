@@ -1,6 +1,6 @@
 -- Worked turns, computed.
 use Rattle.std.proofs.Common.{refl}
-use Rattle.law_model.specs.session.Counts.{frame_dues, command_dues, held, full, pop, pop_lines, run, sum_delays}
+use Rattle.law_model.specs.Common.{frame_dues, command_dues, held, full, pop, pop_lines, run, sum_delays}
 use Rattle.law_service.proofs.TurnLaws.{backwards-tries}
 use Rattle.law_service.proofs.worked_turns_law.Goals as goal
 

@@ -1,10 +1,8 @@
 -- The rows that failures spoil, in numbers, if the lines that fail were in use before.
 use Rattle.std.specs.Prelude.{◌≡◌, ℕ, ◌+◌, ◌-◌, ◌*◌, ◌/◌, ◌%◌, ◌<◌, ◌≤◌, true, slice_get, Some}
+use Rattle.law_model.specs.Common.{Leg, scenario_by, is_read, member_of}
 use Rattle.law_model.specs.declared.window_types.Window.{Window}
 use Rattle.law_model.specs.declared.lcas_states.Standing.TheVariants.{Norm as normal}
-use Rattle.law_model.specs.session.Leg.{Leg}
-use Rattle.law_model.specs.session.Scenario.{scenario_by, is_read}
-use Rattle.law_model.specs.source.Table.{member_of}
 use Rattle.law_session.specs.Feedback.{lines_of}
 use Rattle.law_service.specs.law_cost.Cost.{windows_of, FailsBy, first_hit, table_at, Spoils}
 

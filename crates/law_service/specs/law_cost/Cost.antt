@@ -2,16 +2,12 @@
 use Rattle.std.specs.Prelude.{◌≡◌, ◌⊎◌, ℕ, ◌+◌, ◌-◌, ◌*◌, ◌/◌, ◌%◌, ◌<◌, ◌≤◌, min, not, filter, false, List, [], length}
 use Rattle.std.specs.Prelude.{slice_get, slice_index_or, Some, All, Contains}
 use Rattle.std.specs.List.{range_with_len}
+use Rattle.law_model.specs.Common.{Leg, scenario_by, is_lost, Table, table_of, is_whole_row}
 use Rattle.law_model.specs.declared.window_types.Window.{Window}
-use Rattle.law_model.specs.session.Leg.{Leg}
-use Rattle.law_model.specs.session.Scenario.{scenario_by, is_lost, packets_in}
-use Rattle.law_model.specs.source.Table.{Table}
-use Rattle.law_model.specs.source.Source.{table_of}
-use Rattle.law_model.specs.rows.SessionRows.{is_whole_row}
+use Rattle.law_model.specs.session.Scenario.{packets_in}
 use Rattle.law_session.specs.Feedback.{lines_of, table_before}
 use Rattle.law_session.specs.Use.{IsInUse}
-use Rattle.law_walk.specs.Walk.{session_of}
-use Rattle.law_walk.specs.Promise.{IsClear}
+use Rattle.law_walk.specs.Common.{session_of, IsClear}
 
 -- the windows of a line. A line that isn't configured has none
 abbrev pub windows_of : Leg → ℕ → List Window

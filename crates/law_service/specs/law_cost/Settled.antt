@@ -1,11 +1,9 @@
 -- When no change is made.
 use Rattle.std.specs.Prelude.{◌≡◌, ◌⊎◌, ℕ, ◌+◌, ◌*◌, ◌≤◌, [], All, None}
-use Rattle.law_model.specs.session.Leg.{Leg}
-use Rattle.law_model.specs.session.Scenario.{DueCommand, scenario_by, orders_of}
-use Rattle.law_model.specs.source.Table.{kept_of, exchange}
-use Rattle.law_model.specs.source.Source.{after, told_at, carried}
+use Rattle.law_model.specs.Common.{Leg, DueCommand, scenario_by, orders_of, kept_of, exchange, after, told_at}
+use Rattle.law_model.specs.source.Source.{carried}
 use Rattle.law_session.specs.Use.{IsAdded}
-use Rattle.law_walk.specs.Walk.{session_of}
+use Rattle.law_walk.specs.Common.{session_of}
 use Rattle.law_service.specs.law_cost.Cost.{first_hit, table_at}
 
 -- before the first step that is made when a failure can have begun no command waits and no line is in ADD; and no

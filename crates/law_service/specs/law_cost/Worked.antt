@@ -1,10 +1,9 @@
 -- A worked leg whose costs are the greatest that there are.
 use Rattle.std.specs.Prelude.{ℕ, List, [], ◌∷◌, map}
+use Rattle.law_model.specs.Common.{Leg, active}
 use Rattle.law_model.specs.declared.window_types.Window.{Window}
 use Rattle.law_model.specs.declared.script_types.ItemKind.TheVariants.{Add}
-use Rattle.law_model.specs.session.Leg.{Leg}
-use Rattle.law_model.specs.source.Table.{active}
-use Rattle.law_walk.specs.Worked.{item, plain}
+use Rattle.law_walk.specs.Common.{item, plain}
 use Rattle.law_service.specs.law_cost.Cost.{governing_table}
 
 -- containers 536 to 1024 fail, of which the last three vanish

@@ -1,5 +1,5 @@
 -- What a return packet tells of.
-use Rattle.law_model.specs.source.Back.{cells_before}
+use Rattle.law_model.specs.Common.{cells_before}
 use Rattle.law_session.proofs.SessionLaws.{session-law, session-kept}
 use Rattle.law_session.proofs.FeedbackLaws.{feedback, same_lines}
 use Rattle.law_session.proofs.KeptLaws.{acts_on}

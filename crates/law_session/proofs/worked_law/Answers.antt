@@ -1,9 +1,8 @@
 -- Worked sessions, computed.
 use Rattle.std.proofs.Common.{refl}
-use Rattle.law_model.specs.members.Damage.{carried, are_whole}
-use Rattle.law_model.specs.source.Table.{keep, none_kept, admit, turned, take_out, exchange}
-use Rattle.law_model.specs.source.Source.{after}
-use Rattle.law_model.specs.source.Back.{said_before, cells_before}
+use Rattle.law_model.specs.members.Damage.{carried}
+use Rattle.law_model.specs.Common.{are_whole, keep, none_kept, admit, turned, take_out, exchange, after, said_before}
+use Rattle.law_model.specs.Common.{cells_before}
 use Rattle.law_session.proofs.worked_law.Goals as goal
 
 pub returns-clause-three_lines : goal.returns-clause-three_lines

@@ -1,23 +1,11 @@
 -- A worked session, computed.
 use Rattle.std.proofs.Common.{◌<◌, [], ◌∷◌, refl, lit<, arith}
 use Rattle.std.proofs.lemmas.List.Elements.{All-nil, All-cons}
-use Rattle.check_remainder.specs.Bits.{bits, number_behind, octets_of, xors}
-use Rattle.check_remainder.specs.Remainder.{add_front, divide}
-use Rattle.check_nibbles.specs.Check.{crc8_of}
-use Rattle.law_model.specs.members.Damage.{carried, are_whole, AreWindows, slip_after, slip_of}
-use Rattle.law_model.specs.source.Table.{keep, none_kept, admit, turned, take_out, exchange}
-use Rattle.law_model.specs.source.Source.{after}
-use Rattle.law_model.specs.source.Back.{said_before, cells_before}
-use Rattle.law_model.specs.packets.Forward.{place_in}
-use Rattle.law_model.specs.packets.GroupBit.{group_bits, group_bit}
-use Rattle.law_model.specs.source.Client.{reaching, place_of, stream_before}
-use Rattle.law_model.specs.frames.Piece.{cut}
-use Rattle.law_model.specs.frames.Scramble.{scramble_on}
-use Rattle.law_model.specs.rows.Interleave.{part_of}
-use Rattle.law_model.specs.members.Path.{path}
-use Rattle.law_model.specs.members.Number.{read_on}
-use Rattle.law_model.specs.packets.MemberPacket.{uppers}
-use Rattle.law_model.specs.packets.Packet.{read_of}
+use Rattle.law_model.specs.Common.{bits, number_behind, octets_of, xors, add_front, divide, crc8_of, are_whole}
+use Rattle.law_model.specs.Common.{AreWindows, slip_after, slip_of, keep, none_kept, admit, turned, take_out, exchange}
+use Rattle.law_model.specs.Common.{after, said_before, cells_before, place_in, group_bits, group_bit, reaching}
+use Rattle.law_model.specs.Common.{place_of, stream_before, cut, scramble_on, part_of, path, read_on, uppers, read_of}
+use Rattle.law_model.specs.members.Damage.{carried}
 use Rattle.law_terminal.proofs.worked_law.Goals as goal
 
 pub returns-clause-zeros : goal.returns-clause-zeros

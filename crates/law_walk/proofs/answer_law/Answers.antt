@@ -1,7 +1,6 @@
 -- What a return packet answers.
 use Rattle.std.proofs.Common.{◌<◌, arith}
-use Rattle.law_model.specs.session.Scenario.{Scenario, scenario_by, packets}
-use Rattle.law_model.specs.source.Back.{session_cells}
+use Rattle.law_model.specs.Common.{Scenario, scenario_by, packets, session_cells}
 use Rattle.law_session.proofs.SessionLaws.{session-law, session-kept}
 use Rattle.law_session.proofs.FeedbackLaws.{feedback, same_lines}
 use Rattle.law_session.proofs.KeptLaws.{acts_on}

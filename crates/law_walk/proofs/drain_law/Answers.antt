@@ -1,7 +1,7 @@
 -- A walk is never stuck.
 use Rattle.law_progress.proofs.MoveLaws.{inbox-fits}
 use Rattle.law_progress.proofs.ReachLaws.{reached-progress}
-use Rattle.law_walk.specs.Walk.{walk_plan}
+use Rattle.law_walk.specs.Common.{walk_plan}
 use Rattle.law_walk.proofs.PlanLaws.{has-plan}
 use Rattle.law_walk.proofs.PromiseLaws.{drain-ends}
 use Rattle.law_walk.proofs.EndLaws.{counts-within, drained-ticks, drained-landed, drained-accepted, drained-report}

@@ -1,12 +1,10 @@
 -- With failures.
 use Rattle.std.proofs.Common.{slice_index_or, arith}
-use Rattle.law_model.specs.frames.Segment.{segments}
-use Rattle.law_model.specs.frames.Loss.{Extent}
+use Rattle.law_model.specs.Common.{segments, Extent}
 use Rattle.law_loss.proofs.CutLaws.{Stands-all}
 use Rattle.law_loss.proofs.WayLaws.{way_of, lost_of}
 use Rattle.law_loss.proofs.ExtentLaws.{extents-between}
-use Rattle.law_walk.specs.Delivered.{session_rows}
-use Rattle.law_walk.specs.Promise.{session_pieces, session_extents}
+use Rattle.law_walk.specs.Common.{session_rows, session_pieces, session_extents}
 use Rattle.law_walk.proofs.PlanLaws.{sound-walks}
 use Rattle.law_walk.proofs.EndLaws.{counts-within}
 use Rattle.law_walk.proofs.PromiseLaws.{frames-kept, frames-known}

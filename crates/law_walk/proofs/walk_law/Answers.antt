@@ -1,6 +1,6 @@
 -- A walk is a course of the session.
 use Rattle.law_progress.proofs.ReachLaws.{walked-reached}
-use Rattle.law_walk.specs.Walk.{walk_plan}
+use Rattle.law_walk.specs.Common.{walk_plan}
 use Rattle.law_walk.proofs.WalkLaws.{begins-walked, steps-walked, drains-walked, is-course, sources-are, streams-are}
 use Rattle.law_walk.proofs.WalkLaws.{frames-are, cells-come, cells-decide, rows-are, backs-are}
 use Rattle.law_walk.proofs.walk_law.Goals as goal

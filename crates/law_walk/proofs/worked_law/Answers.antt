@@ -1,25 +1,13 @@
 -- Worked legs, computed.
 use Rattle.std.proofs.Common.{refl}
 use Rattle.std.specs.Fmt.{digits}
-use Rattle.law_model.specs.members.Damage.{carried, are_whole}
-use Rattle.law_model.specs.source.Table.{keep, none_kept, admit, turned, take_out, exchange}
-use Rattle.law_model.specs.source.Source.{after}
-use Rattle.law_model.specs.source.Back.{said_before, cells_before}
-use Rattle.check_hec16.specs.Hec.{hec_of}
-use Rattle.check_remainder.specs.Bits.{bits, number_behind, octets_of, xors}
-use Rattle.check_remainder.specs.Remainder.{add_front, divide}
-use Rattle.law_model.specs.frames.Core.{core_header, pli_of, head}
-use Rattle.law_model.specs.frames.Scramble.{scramble_on}
-use Rattle.law_model.specs.frames.TypeHeader.{type_fault}
-use Rattle.law_model.specs.frames.Piece.{cut}
-use Rattle.law_model.specs.frames.Outcome.{outcomes_after_with}
-use Rattle.law_model.specs.source.Client.{reaching, place_of, stream_before}
-use Rattle.law_model.specs.frames.Hunt.{header_with, hunt_within}
-use Rattle.law_model.specs.frames.Run.{follow_within, delineate_within}
-use Rattle.law_model.specs.frames.Segment.{segments_on}
-use Rattle.law_model.specs.rows.SessionStream.{rows_of}
-use Rattle.law_walk.specs.Landed.{landed_from}
-use Rattle.law_walk.specs.Promise.{numbered}
+use Rattle.law_model.specs.members.Damage.{carried}
+use Rattle.law_model.specs.Common.{are_whole, keep, none_kept, admit, turned, take_out, exchange, after, said_before}
+use Rattle.law_model.specs.Common.{cells_before, hec_of, bits, number_behind, octets_of, xors, add_front, divide}
+use Rattle.law_model.specs.Common.{core_header, pli_of, head, scramble_on, type_fault, cut, outcomes_after_with}
+use Rattle.law_model.specs.Common.{reaching, place_of, stream_before, header_with, hunt_within, follow_within}
+use Rattle.law_model.specs.Common.{delineate_within, segments_on, rows_of}
+use Rattle.law_walk.specs.Common.{landed_from, numbered}
 use Rattle.law_walk.proofs.worked_law.Goals as goal
 
 pub returns-clause-first_refusals : goal.returns-clause-first_refusals

@@ -1,6 +1,6 @@
 -- What one frame does to numbered VC-4s and the lines of those that come.
 use Rattle.std.proofs.Common.{◌≡◌, ℕ, ◌<◌, ◌≤◌, List, length, Option, sym, ◌∙◌, ap, arith}
-use Rattle.octet_io.specs.Start.{Start}
+use Rattle.law_model.specs.Common.{Start}
 use Rattle.member_au4.specs.declared.au4_pointer.au_frame.Action.{Action}
 use Rattle.member_au4.specs.au4_pointer.Part.{begun, part_after, whole}
 use Rattle.member_au4.specs.au4_pointer.Source as source

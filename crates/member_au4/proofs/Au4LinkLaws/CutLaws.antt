@@ -1,12 +1,10 @@
 -- All VC-4s that begin come whole, are cut, or are in progress at the end.
 use Rattle.std.proofs.Common.{◌≡◌, ℕ, ◌+◌, ◌*◌, ◌≤◌, List, [], ◌∷◌, ◌++◌, length, drop, ◌∙◌, ap, arith, length-append}
-use Rattle.std.proofs.Common.{append-nil}
-use Rattle.std.specs.List.{flat_map, fold}
-use Rattle.std.proofs.lemmas.List.{length-take-le, length-drop}
+use Rattle.std.proofs.Common.{append-nil, flat_map, fold, length-take-le, length-drop}
 use Rattle.member_au4.specs.declared.au4_pointer.au_frame.Action.{Action}
 use Rattle.member_au4.specs.declared.au4_pointer.au_frame.Action.TheVariants.{Keep, Up, Down, New}
-use Rattle.member_au4.specs.au4_pointer.Part.{Part, begins, ends, begun, next_part, first_part, part_after, parts_from, ending}
-use Rattle.member_au4.specs.au4_pointer.Part.{whole}
+use Rattle.member_au4.specs.au4_pointer.Part.{Part, begins, ends, begun, next_part, first_part, part_after, parts_from}
+use Rattle.member_au4.specs.au4_pointer.Part.{ending, whole}
 use Rattle.member_au4.proofs.Au4PointerLaws.WholeLaws.{begun-after}
 use Rattle.member_au4.specs.au4_link.Text.{in_progress, cut_by, cuts_from, cuts, cut_after}
 

@@ -1,9 +1,8 @@
 -- The lines of a text, one line on and at the end; what a draft meets, the draft after one more line meets as well.
 use Rattle.std.proofs.Common.{◌≡◌, ℕ, ◌+◌, ◌-◌, ◌<◌, ◌≤◌, true, false, List, [], ◌∷◌, ◌++◌, length, replicate, refl}
-use Rattle.std.proofs.Common.{sym, ◌∙◌, ap, arith, length-append}
-use Rattle.std.specs.Prelude.{None, Some, Ok, Err, nat_lt}
+use Rattle.std.proofs.Common.{sym, ◌∙◌, ap, arith, length-append, None, Some, Ok, Err, nat_lt, append_assoc}
 use Rattle.std.proofs.lemmas.Bool.Decides.{nat_tests}
-use Rattle.std.proofs.lemmas.List.{length-replicate, replicate-append-replicate, append_assoc}
+use Rattle.std.proofs.lemmas.List.{length-replicate, replicate-append-replicate}
 use Rattle.member_au4.specs.declared.au4_link.au4_text_fault.LineFault.{LineFault}
 use Rattle.member_au4.specs.declared.au4_link.au4_text_fault.LineFault.TheVariants.{Missing}
 use Rattle.text_lines.specs.Words.{words}

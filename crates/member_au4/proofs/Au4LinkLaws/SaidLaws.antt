@@ -1,11 +1,9 @@
 -- What lines without a fault say is a link, and what comes of numbered VC-4s over it.
-use Rattle.std.proofs.Common.{◌≡◌, ℕ, zero, suc, ◌+◌, ◌≤◌, List, [], ◌∷◌, ◌++◌, length, map, All, refl, sym, ◌∙◌, ap}
-use Rattle.std.proofs.Common.{subst, arith, true, false, Bool, nat_lt, length-append}
-use Rattle.std.specs.Prelude.{None, Result, Ok, Err}
+use Rattle.std.proofs.Common.{◌≡◌, ℕ, zero, suc, ◌+◌, ◌≤◌, List, [], ◌∷◌, ◌++◌, length, map, refl, sym, ◌∙◌, ap, subst}
+use Rattle.std.proofs.Common.{arith, nat_lt, length-append, None, Result, Ok, Err, w64, ltb-false}
 use Rattle.std.specs.List.{range_with_len}
-use Rattle.std.specs.Int.{w64, to_be_bytes}
+use Rattle.std.specs.Int.{to_be_bytes}
 use Rattle.std.specs.Str.Lines.{lines}
-use Rattle.std.proofs.lemmas.Bool.{ltb-false}
 use Rattle.std.proofs.lemmas.List.{length-map}
 use Rattle.std.proofs.lemmas.List.FromFn.{length-range_with_len}
 use Rattle.std.proofs.lemmas.List.Elements.{All-nil, All-cons}
@@ -16,7 +14,7 @@ use Rattle.text_lines.proofs.FieldLaws.{where_none}
 use Rattle.text_lines.proofs.FirstFaultLaws.{all_said}
 use Rattle.member_au4.specs.au4_pointer.Part.{AreVcs, begun, part_after, whole}
 use Rattle.member_au4.specs.au4_pointer.Sink.{given}
-use Rattle.member_au4.specs.au4_pointer.Sent.{sent, AreTaken}
+use Rattle.member_au4.specs.au4_pointer.Sent.{AreTaken}
 use Rattle.member_au4.proofs.Au4PointerLaws.FollowLaws.{all-whole, all-taken}
 use Rattle.member_au4.specs.declared.au4_link.au4_text_fault.LineFault.{LineFault}
 use Rattle.member_au4.specs.declared.au4_link.au4_text_fault.LineFault.TheVariants.{Missing}

@@ -4,8 +4,8 @@ use Rattle.std.proofs.Common.{sym, ◌∙◌, arith, length-append}
 use Rattle.std.proofs.lemmas.List.{take_rest, append-nil, drop_all, drop_at, take-append-drop, length-take-le}
 use Rattle.std.proofs.lemmas.List.{length-set, length-drop}
 use Rattle.std.proofs.lemmas.Slice.{take-put_mid_below}
+use Rattle.law_model.proofs.ListLaws.{take-written}
 use borrow.Rule.Slice.PartMut.{mid_of, put_mid}
-use Rattle.member_au4.proofs.Au4PointerLaws.ListLaws.{take-written}
 
 -- all that is behind a place
 pub rest-of : (at : ℕ) (vc : List ℕ) → length vc ≡ 2349 → mid_of at (2349 - at) vc ≡ drop at vc

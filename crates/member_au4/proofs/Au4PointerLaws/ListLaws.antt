@@ -1,9 +1,7 @@
 -- Laws of lists.
-use Rattle.std.proofs.Common.{◌≡◌, ℕ, zero, suc, ◌+◌, ◌-◌, ◌*◌, ◌≤◌, List, [], ◌∷◌, ◌++◌, length, take, drop, refl, sym}
+use Rattle.std.proofs.Common.{◌≡◌, ℕ, zero, suc, ◌+◌, ◌-◌, ◌*◌, List, [], ◌∷◌, ◌++◌, length, drop, refl}
 use Rattle.std.proofs.Common.{◌∙◌, ap, arith, length-append}
 use Rattle.std.specs.List.{concat}
-use Rattle.std.proofs.lemmas.List.{length-take-le, take_rest, take-append-le}
-use Rattle.std.proofs.Math.Seq.{take-add, take-append-add}
 use Rattle.std.proofs.lemmas.List.Elements.{All-head, All-tail}
 use Rattle.member_au4.specs.au4_pointer.Part.{AreVcs}
 
@@ -23,17 +21,3 @@ length-vcs (vc ∷ vcs) all = length-append vc (concat vcs) ∙ (let e : length 
       All-head (λ vc. length vc ≡ 2349) vc vcs all,
       length-vcs vcs (All-tail (λ vc. length vc ≡ 2349) vc vcs all),
     ) in e)
-
--- what is written at a place and on
-pub take-written : (at n : ℕ) (out part back : List ℕ) → at ≤ length out → n ≤ length part
-    → take (at + n) (take at out ++ (part ++ back)) ≡ take at out ++ take n part
-take-written at n out part back within some =
-    let front = length-take-le at out within in
-    ap (λ k. take (k + n) (take at out ++ (part ++ back))) (sym front)
-    ∙ take-append-add (take at out) (part ++ back) n
-    ∙ ap (λ octets. take at out ++ octets) (take-append-le n part back some)
-
--- the first octets, and then the first of those behind
-pub take-further : (at n : ℕ) (octets : List ℕ) → take (at + n) octets ≡ take at octets
-    ++ take n (take (length octets - at) (drop at octets))
-take-further at n octets = take-add at n octets ∙ ap (λ l. take at octets ++ take n l) (sym (take_rest octets at))

@@ -1,25 +1,19 @@
 -- The VC-4s that are whole in a part are those that end in it.
-use Rattle.std.proofs.Common.{◌≡◌, ℕ, zero, suc, ◌+◌, ◌-◌, ◌*◌, ◌/◌, ◌<◌, ◌≤◌, List, [], ◌∷◌, ◌++◌, length, take, drop}
+use Rattle.std.proofs.Common.{◌≡◌, ℕ, ◌+◌, ◌-◌, ◌*◌, ◌/◌, ◌<◌, ◌≤◌, List, [], ◌∷◌, ◌++◌, length, take, drop}
 use Rattle.std.proofs.Common.{replicate, sym, ◌∙◌, ap, ap₂, arith}
 use Rattle.std.specs.List.{concat, fold}
-use Rattle.std.proofs.Math.Seq.{take-nil, take-append-add}
+use Rattle.std.proofs.Math.Seq.{take-append-add}
 use Rattle.std.proofs.lemmas.List.{length-replicate, length-drop, length-take, length-take-le, drop_at}
 use Rattle.std.proofs.lemmas.List.{take-append-drop}
 use Rattle.std.proofs.lemmas.List.Folds.{concat-append}
 use Rattle.std.proofs.lemmas.List.Elements.{All-drop, All-take}
+use Rattle.law_model.proofs.ListLaws.{drop-part}
 use Rattle.member_au4.specs.declared.au4_pointer.au_frame.Action.{Action}
 use Rattle.member_au4.specs.declared.au4_pointer.au_frame.Action.TheVariants.{Keep, Up, Down, New}
 use Rattle.member_au4.specs.au4_pointer.Part.{AreVcs, Part, begun, next_part, flow, ending}
 use Rattle.member_au4.specs.au4_pointer.Sink.{vcs_in}
 use Rattle.member_au4.proofs.Au4PointerLaws.ListLaws.{length-vcs}
 use Rattle.member_au4.proofs.Au4PointerLaws.PieceLaws.{vcs-split}
-
-drop-of-take : {X : Type 0} → (k n : ℕ) (l : List X) → drop k (take n l) ≡ take (n - k) (drop k l)
-drop-of-take zero n l = ap (λ m. take m l) (let e : n ≡ n - 0 = omega arith in e)
-drop-of-take (suc k) zero l = ap (λ m. take m (drop (suc k) l)) (let e : 0 ≡ 0 - suc k = omega arith in e)
-drop-of-take (suc k) (suc n) [] = sym (take-nil (suc n - suc k))
-drop-of-take (suc k) (suc n) (x ∷ l) = drop-of-take k n l ∙ ap (λ m. take m (drop k l))
-    (let e : n - k ≡ suc n - suc k = omega arith in e)
 
 -- the first octets of VC-4s
 first-octets : (vcs : List (List ℕ)) (m : ℕ) → AreVcs vcs → m / 2349 ≤ length vcs
@@ -47,7 +41,7 @@ part-given part vcs are enough =
     let fits : m / 2349 ≤ length due = omega (arith, length-drop part.first vcs, enough) in
     let they = All-drop (λ v. length v ≡ 2349) part.first vcs are in
     let split : drop lead (take part.size (flow part vcs)) ≡ concat (ending vcs part) ++ kept =
-    drop-of-take lead part.size (flow part vcs) ∙ ap (take m)
+    drop-part lead part.size (flow part vcs) ∙ ap (take m)
     (drop_at zeros (concat due) lead (length-replicate {A = ℕ} lead 0)) ∙ first-octets due m they fits in
     let few : length kept < 2349 =
     omega (arith, length-take (m - 2349 * (m / 2349)) (concat (drop (m / 2349) due))) in

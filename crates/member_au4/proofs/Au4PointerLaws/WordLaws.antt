@@ -5,6 +5,7 @@ use Rattle.std.proofs.lemmas.Bool.Decides.{nat_tests}
 use Rattle.std.proofs.lemmas.Nat.{xor_lt}
 use Rattle.std.proofs.lemmas.Nat.Bits.{bit_at_xor}
 use Rattle.std.specs.Int.{bit_at}
+use Rattle.std.proofs.lemmas.Bool.{eq-eqb, ne_eqb, le-leb}
 use Rattle.member_au4.specs.declared.au4_pointer.au_frame.Action.{Action}
 use Rattle.member_au4.specs.declared.au4_pointer.au_frame.Action.TheVariants.{Keep, Up, Down, New}
 use Rattle.member_au4.specs.declared.au4_pointer.pointer_source.PointerFault.TheVariants.{Range}
@@ -47,68 +48,59 @@ choose b x y e = ap (λ c. if c then x else y) e
 pass : {X : Type 0} (b : Bool) (x y : X) → b ≡ false → (if b then x else y) ≡ y
 pass b x y e = ap (λ c. if c then x else y) e
 
-same-yes : (a b : ℕ) → a ≡ b → (a == b) ≡ true
-same-yes a b e = grind (arith, nat_tests, e)
-
-same-no : (a b : ℕ) → a ≢ b → (a == b) ≡ false
-same-no a b e = grind (arith, nat_tests, e)
-
-le-yes : (a b : ℕ) → a ≤ b → nat_le a b ≡ true
-le-yes a b e = grind (arith, nat_tests, e)
-
 module _ (value word : ℕ) where
   keep-read : word % 1024 ≡ value → moving value word ≡ Ok Keep
   keep-read e =
       choose (word % 1024 == value) (Ok Keep) (if word % 1024 == bit_xor value 682 then Ok Up else
       (if word % 1024 == bit_xor value 341 then Ok Down else Err (Unexpected (word % 1024))))
-      (same-yes (word % 1024) value e)
+      (eq-eqb (word % 1024) value e)
 
   up-read : word % 1024 ≡ bit_xor value 682 → moving value word ≡ Ok Up
   up-read e =
       let last : Result Action PointerWordFault = if word % 1024 == bit_xor value 341 then Ok Down else Err
       (Unexpected (word % 1024)) in
       pass (word % 1024 == value) (Ok Keep) (if word % 1024 == bit_xor value 682 then Ok Up else last)
-      (same-no (word % 1024) value (λ h. up-other value (sym e ∙ h)))
-      ∙ choose (word % 1024 == bit_xor value 682) (Ok Up) last (same-yes (word % 1024) (bit_xor value 682) e)
+      (ne_eqb (word % 1024) value (λ h. up-other value (sym e ∙ h)))
+      ∙ choose (word % 1024 == bit_xor value 682) (Ok Up) last (eq-eqb (word % 1024) (bit_xor value 682) e)
 
   down-read : word % 1024 ≡ bit_xor value 341 → moving value word ≡ Ok Down
   down-read e =
       let last : Result Action PointerWordFault = if word % 1024 == bit_xor value 341 then Ok Down else Err
       (Unexpected (word % 1024)) in
       pass (word % 1024 == value) (Ok Keep) (if word % 1024 == bit_xor value 682 then Ok Up else last)
-      (same-no (word % 1024) value (λ h. down-other value (sym e ∙ h)))
+      (ne_eqb (word % 1024) value (λ h. down-other value (sym e ∙ h)))
       ∙ pass (word % 1024 == bit_xor value 682) (Ok Up) last
-      (same-no (word % 1024) (bit_xor value 682) (λ h. down-up value (sym e ∙ h)))
+      (ne_eqb (word % 1024) (bit_xor value 682) (λ h. down-up value (sym e ∙ h)))
       ∙ choose (word % 1024 == bit_xor value 341) (Ok Down) (Err (Unexpected (word % 1024)))
-      (same-yes (word % 1024) (bit_xor value 341) e)
+      (eq-eqb (word % 1024) (bit_xor value 341) e)
 
   new-read : word % 1024 ≡ value → value ≤ 782 → beginning word ≡ Ok (New value)
   new-read e h =
       choose (nat_le (word % 1024) 782) (Ok (New (word % 1024))) (Err (OutOfRange (word % 1024)))
-      (le-yes (word % 1024) 782 (omega (arith, e, h)))
+      (le-leb (word % 1024) 782 (omega (arith, e, h)))
       ∙ ap (λ v. Ok (New v)) e
 
   stays : word / 4096 ≡ 6 → reading (Some value) word ≡ moving value word
   stays e = choose (word / 4096 == 6) (moving value word) (if word / 4096 == 9 then beginning word else Err
-      (Flag (word / 4096))) (same-yes (word / 4096) 6 e)
+      (Flag (word / 4096))) (eq-eqb (word / 4096) 6 e)
 
 first-read : (word : ℕ) → word / 4096 ≡ 6 → reading None word ≡ beginning word
 first-read word e = choose (word / 4096 == 6) (beginning word)
-    (if word / 4096 == 9 then beginning word else Err (Flag (word / 4096))) (same-yes (word / 4096) 6 e)
+    (if word / 4096 == 9 then beginning word else Err (Flag (word / 4096))) (eq-eqb (word / 4096) 6 e)
 
 new-some : (value word : ℕ) → word / 4096 ≡ 9 → reading (Some value) word ≡ beginning word
 new-some value word e =
     let last : Result Action PointerWordFault = if word / 4096 == 9 then beginning word else Err
     (Flag (word / 4096)) in
-    pass (word / 4096 == 6) (moving value word) last (same-no (word / 4096) 6 (λ h. omega (arith, h, e)))
-    ∙ choose (word / 4096 == 9) (beginning word) (Err (Flag (word / 4096))) (same-yes (word / 4096) 9 e)
+    pass (word / 4096 == 6) (moving value word) last (ne_eqb (word / 4096) 6 (λ h. omega (arith, h, e)))
+    ∙ choose (word / 4096 == 9) (beginning word) (Err (Flag (word / 4096))) (eq-eqb (word / 4096) 9 e)
 
 new-none : (word : ℕ) → word / 4096 ≡ 9 → reading None word ≡ beginning word
 new-none word e =
     let last : Result Action PointerWordFault = if word / 4096 == 9 then beginning word else Err
     (Flag (word / 4096)) in
-    pass (word / 4096 == 6) (beginning word) last (same-no (word / 4096) 6 (λ h. omega (arith, h, e)))
-    ∙ choose (word / 4096 == 9) (beginning word) (Err (Flag (word / 4096))) (same-yes (word / 4096) 9 e)
+    pass (word / 4096 == 6) (beginning word) last (ne_eqb (word / 4096) 6 (λ h. omega (arith, h, e)))
+    ∙ choose (word / 4096 == 9) (beginning word) (Err (Flag (word / 4096))) (eq-eqb (word / 4096) 9 e)
 
 upper : (x : ℕ) → x < 1024 → (26624 + x) / 4096 ≡ 6
 upper x h = omega (arith, h)

@@ -1,7 +1,6 @@
 -- What is written of a link that carries numbered VC-4s. This text is this project's own.
-use Rattle.std.specs.Prelude.{◌≡◌, ℕ, ◌+◌, ◌-◌, ◌<◌, List, [], ◌∷◌, ◌++◌, length, codes, decimal, Option}
-use Rattle.std.specs.List.{flat_map}
-use Rattle.octet_io.specs.Start.{Start}
+use Rattle.std.specs.Prelude.{◌≡◌, ℕ, ◌+◌, ◌-◌, ◌<◌, List, [], ◌∷◌, ◌++◌, length, codes, decimal, Option, flat_map}
+use Rattle.law_model.specs.Common.{Start}
 use Rattle.text_got.specs.declared.got_text.GotLines.{GotLines}
 use Rattle.text_got.specs.Told.{HasText}
 use Rattle.member_au4.specs.au4_link.VcText.{vc_text}

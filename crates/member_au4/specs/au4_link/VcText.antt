@@ -1,6 +1,5 @@
 -- What is written of a VC-4. This text is this project's own.
-use Rattle.std.specs.Prelude.{ℕ, List, ◌++◌, take, codes, decimal}
-use Rattle.std.specs.List.{sum}
+use Rattle.std.specs.Prelude.{ℕ, List, ◌++◌, take, codes, decimal, sum}
 use Rattle.std.specs.Int.{w64, from_be_bytes}
 
 -- a VC-4: its first eight octets as a number, the first one highest, and the sum of all its octets

@@ -1,6 +1,6 @@
 -- A source and a sink, from one to the other.
 use Rattle.std.specs.Prelude.{◌≤◌, ℕ, List}
-use Rattle.octet_io.specs.Start.{Start}
+use Rattle.law_model.specs.Common.{Start}
 use Rattle.member_au4.specs.declared.au4_pointer.au_frame.Action.{Action}
 use Rattle.member_au4.specs.au4_pointer.Part.{whole}
 use Rattle.member_au4.specs.au4_pointer.Source as source

@@ -2,7 +2,7 @@
 use Rattle.std.specs.Prelude.{◌≡◌, ℕ, ◌-◌, ◌*◌, ◌<◌, ◌≤◌, Bool, true, false, List, [], ◌∷◌, ◌++◌, length, take, drop}
 use Rattle.std.specs.Prelude.{replicate}
 use Rattle.std.specs.List.{concat}
-use Rattle.octet_io.specs.Start.{Start}
+use Rattle.law_model.specs.Common.{Start}
 use Rattle.member_au4.specs.au4_pointer.Word.{value_after, new_wait, word_of}
 use Rattle.member_au4.specs.au4_pointer.Part.{Part, AreVcs, octets_of, begun, next_part, part_after, flow}
 use Rattle.member_au4.specs.declared.au4_pointer.au_frame.Action.{Action}

@@ -3,8 +3,8 @@ ghost use Rattle.std.specs.Prelude.{◌≡◌, ◌≤◌, length, take};
 ghost use Rattle.member_au4.specs.declared.au4_link.au4_text_fault.LineFault.{LineFault};
 ghost use Rattle.member_au4.specs.au4_link.Helps.{keyword_text, help_of};
 
-use crate::au4_link::au4_text_fault::LineFault;
 use crate::au4_link::au4_keyword::Keyword;
+use crate::au4_link::au4_text_fault::LineFault;
 use text_help::{count_help, field_help, missing_help, order_help};
 use text_report::TextCursor;
 

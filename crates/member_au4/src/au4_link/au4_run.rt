@@ -1,14 +1,13 @@
 //! The frames of a link, from a source to a sink, and what comes of them.
 ghost use Rattle.std.specs.Prelude.{◌≡◌, ◌≤◌, [], length, OnOk, OnErr};
-ghost use Rattle.octet_io.specs.Start.{Start};
-ghost use Rattle.octet_io.specs.Transfer.{Appends, AppendsPart};
+ghost use Rattle.law_model.specs.Common.{Start, Appends, AppendsPart};
 ghost use Rattle.member_au4.specs.au4_link.Link.{IsLink};
 ghost use Rattle.member_au4.specs.au4_pointer.Sent.{AreAccepted};
 ghost use Rattle.member_au4.specs.au4_link.Text.{back_of, cut_after, end_text, counts_text, text_of, link_text, HasVcs};
 
 use crate::au4_link::au4_draft::Link;
-use crate::au4_link::numbered_vcs::NumberedVcs;
 use crate::au4_link::au4_report::{Counts, END_ROOM, VcTexts, end_line};
+use crate::au4_link::numbered_vcs::NumberedVcs;
 use crate::au4_pointer::{Action, AuFrame, PointerSink, PointerSource, VC, relay};
 use octet_io::{ByteSink, Failed, take_back};
 use text_got::GotLines;

@@ -5,8 +5,8 @@ ghost use Rattle.member_au4.specs.au4_link.LinkTextLines.{place, rest_fault, sai
 ghost use Rattle.member_au4.specs.au4_link.Drafts.{IsDraft, IsPlaced, Fits, one_fault, move_fault};
 
 use crate::au4_link::au4_draft::{ActionList, Draft, Statement};
-use crate::au4_link::au4_text_fault::LineFault;
 use crate::au4_link::au4_keyword::{Keyword, check_place};
+use crate::au4_link::au4_text_fault::LineFault;
 use crate::au4_pointer::Action;
 use text_lines::{count_words, first_word, number_within, one_word, two_words};
 

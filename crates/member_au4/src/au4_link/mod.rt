@@ -19,22 +19,22 @@ ghost use Rattle.member_au4.specs.au4_link.Carried.{link_vcs, link_frames, carri
 ghost use Rattle.member_au4.specs.au4_link.Link.{link_of, IsLink};
 
 mod au4_draft;
-mod au4_text_fault;
-mod numbered_vcs;
 mod au4_helps;
 mod au4_keyword;
 mod au4_report;
-mod read_au4_text;
 mod au4_run;
 mod au4_statement;
+mod au4_text_fault;
+mod numbered_vcs;
+mod read_au4_text;
 mod text_of_vc;
 
 pub use au4_draft::{ActionList, Link};
-pub use au4_text_fault::LineFault;
 pub use au4_helps::link_help;
 pub use au4_keyword::Keyword;
-pub use read_au4_text::{LinkFault, read_link};
 pub use au4_run::write_link;
+pub use au4_text_fault::LineFault;
+pub use read_au4_text::{LinkFault, read_link};
 pub use text_of_vc::vc_line;
 
 /// A text has the fault of a line exactly where that line is faulty after lines none of which is, or where no

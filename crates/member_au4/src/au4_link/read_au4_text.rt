@@ -2,16 +2,16 @@
 ghost use Rattle.std.specs.Prelude.{◌≡◌, ◌≤◌, ◌-◌, ◌++◌, ◌∷◌, [], length, vec_len, replicate, IfOk, IfErr, OnOk, Ok};
 ghost use Rattle.std.specs.Prelude.{Err};
 ghost use Rattle.text_lines.specs.Language.{said_by};
-ghost use Rattle.law_model.specs.Limits.{longest_input};
+ghost use Rattle.law_model.specs.Common.{longest_input};
 ghost use Rattle.member_au4.specs.declared.au4_pointer.au_frame.Action.TheVariants.{Keep};
 ghost use Rattle.member_au4.specs.au4_link.LinkTextLines.{at_first, after, link_lines};
 ghost use Rattle.member_au4.specs.au4_link.Link.{link_in, link_of, IsLink, IsLinkFault};
 ghost use Rattle.member_au4.specs.au4_link.Drafts.{IsDraft, Fits};
 
 use crate::au4_link::au4_draft::{ActionList, Draft, Link, Statement};
-use crate::au4_link::au4_text_fault::LineFault;
 use crate::au4_link::au4_keyword::{Keyword, awaited_at, keyword_of_action};
 use crate::au4_link::au4_statement::read_line;
+use crate::au4_link::au4_text_fault::LineFault;
 use crate::au4_pointer::Action;
 use std::alloc::{AllocError, Global};
 use text_lines::next_line;

@@ -1,6 +1,5 @@
 //! The line of a VC-4, put together in a slice with room for it.
-ghost use Rattle.std.specs.Prelude.{◌≡◌, ◌≤◌, length, take};
-ghost use Rattle.std.specs.List.{sum};
+ghost use Rattle.std.specs.Prelude.{◌≡◌, ◌≤◌, length, take, sum};
 ghost use Rattle.std.specs.Int.{w64, from_be_bytes};
 ghost use Rattle.member_au4.specs.au4_link.VcText.{vc_text};
 

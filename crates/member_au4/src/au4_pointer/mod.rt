@@ -4,16 +4,18 @@
 //! sends, `place_law` and `wait_law` the rules of pointers, and `relay` is both in one call. No call takes
 //! memory. Groups of lines and text are not here.
 
-mod pointer_laws;
 mod au_frame;
-mod pointer_relay;
 mod part_octets;
+mod pointer_laws;
+mod pointer_relay;
 mod pointer_sink;
 mod pointer_source;
 
+pub use au_frame::{Action, AuFrame, VC};
+pub use pointer_laws::{
+    count_law, data_law, growing_law, place_law, pointer_law, refused_law, sending_law, wait_law,
+    worked_law,
+};
 pub use pointer_relay::relay;
 pub use pointer_sink::{PointerSink, PointerWordFault, VcOut};
 pub use pointer_source::{PointerFault, PointerSource, VcFeed};
-
-pub use au_frame::{Action, AuFrame, VC};
-pub use pointer_laws::{count_law, data_law, growing_law, place_law, pointer_law, refused_law, sending_law, wait_law, worked_law};

@@ -8,8 +8,8 @@ ghost use Rattle.member_au4.specs.au4_pointer.Source.{frame_after};
 ghost use Rattle.member_au4.specs.au4_pointer.Sent.{sent, datas_from, datas, AreAccepted, AreTaken};
 ghost use Rattle.member_au4.specs.au4_pointer.Worked.{worked_actions, worked_vcs};
 
-use crate::au4_pointer::pointer_sink::PointerWordFault;
 use crate::au4_pointer::au_frame::{Action, AuFrame};
+use crate::au4_pointer::pointer_sink::PointerWordFault;
 
 /// Of all that a source sends, a sink refuses nothing and gives exactly the VC-4s that end in their part, in order and
 /// each once.

@@ -2,7 +2,7 @@
 
 ghost use Rattle.std.specs.Prelude.{◌≡◌, ℕ, List, [], ◌∷◌, ◌++◌, OnOk, OnErr};
 ghost use Rattle.std.specs.Result.{result_err};
-ghost use Rattle.octet_io.specs.Start.{Start};
+ghost use Rattle.law_model.specs.Common.{Start};
 ghost use Rattle.member_au4.specs.au4_pointer.Word.{fault_after};
 ghost use Rattle.member_au4.specs.au4_pointer.Link.{Carries, IsLinked};
 

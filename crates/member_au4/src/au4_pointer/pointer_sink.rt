@@ -3,7 +3,7 @@
 ghost use Rattle.std.specs.Prelude.{◌≡◌, ℕ, ◌+◌, ◌-◌, ◌<◌, ◌≤◌, List, [], ◌∷◌, ◌++◌, length, take, drop, Option, None};
 ghost use Rattle.std.specs.Prelude.{OnErr};
 ghost use Rattle.std.specs.Result.{result_err};
-ghost use Rattle.octet_io.specs.Start.{Start};
+ghost use Rattle.law_model.specs.Common.{Start};
 ghost use Rattle.member_au4.specs.au4_pointer.Word.{reading, moving, beginning};
 ghost use Rattle.member_au4.specs.au4_pointer.Sink.{PointerSinkStands, Gives, due, data_of, value_behind, word_fault, added};
 

@@ -3,7 +3,7 @@
 ghost use Rattle.std.specs.Prelude.{◌≡◌, ℕ, ◌+◌, ◌-◌, ◌*◌, ◌<◌, ◌≤◌, List, [], ◌∷◌, ◌++◌, length, take, drop};
 ghost use Rattle.std.specs.Prelude.{replicate, OnOk, OnErr, IfNone};
 ghost use Rattle.std.specs.Result.{result_err};
-ghost use Rattle.octet_io.specs.Start.{Start};
+ghost use Rattle.law_model.specs.Common.{Start};
 ghost use Rattle.member_au4.specs.au4_pointer.Word.{word_of, next_value, next_wait, move_wait, too_soon, fault_after};
 ghost use Rattle.member_au4.specs.au4_pointer.Source.{PointerSourceStands, Asks, Refills, Writes, Sends, IsValid};
 

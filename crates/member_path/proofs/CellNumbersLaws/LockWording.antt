@@ -2,17 +2,13 @@
 use Rattle.std.proofs.Common.{◌≡◌, ℕ, zero, suc, ◌+◌, ◌-◌, ◌*◌, ◌%◌, List, [], ◌∷◌, ◌++◌, length, replicate, Option}
 use Rattle.std.proofs.Common.{Some, None, refl, ◌∙◌, ap, subst, arith}
 use Rattle.std.proofs.lemmas.List.{map-append}
-use Rattle.check_nibbles.specs.Lock.{HasMfi2}
+use Rattle.law_model.specs.Common.{HasMfi2, Container, Cell, Good, Fail, End, unlocked, Sight, unknown, locks, at}
+use Rattle.law_model.specs.Common.{sight_of, ahead, verdicts_by, Reading, read_at, read_on, reading_of, sign_of}
+use Rattle.law_model.specs.Common.{signs_of, HasNoEnd}
 use Rattle.check_nibbles.proofs.LockLaws.{HasMfi2_only, IsFirstStep_only}
-use Rattle.member_cells.specs.declared.containers_and_cells.Container.{Container}
-use Rattle.member_cells.specs.declared.containers_and_cells.Cell.{Cell}
-use Rattle.member_cells.specs.declared.containers_and_cells.Cell.TheVariants.{Good, Fail, End}
 use Rattle.member_path.specs.declared.h4_multiframe.Place.{Place}
 use Rattle.member_path.specs.declared.h4_multiframe.Place.TheVariants.{Unknown, Locks as LocksAnswer, At}
 use Rattle.member_path.specs.h4_multiframe.Place.{IsPlace}
-use Rattle.law_model.specs.members.Number.{unlocked, Sight, unknown, locks, at, sight_of, ahead, verdicts_by, Reading}
-use Rattle.law_model.specs.members.Number.{read_at, read_on, reading_of}
-use Rattle.law_model.specs.members.Sign.{sign_of, signs_of, HasNoEnd}
 use Rattle.law_line.proofs.SightLaws.{IsSight, sight-is}
 use Rattle.law_line.proofs.RunLaws.{read_on-append}
 use Rattle.law_line.proofs.CountLaws.{stands-of, good-verdicts, fail-verdicts}

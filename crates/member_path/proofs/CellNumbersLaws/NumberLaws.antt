@@ -1,32 +1,21 @@
 -- What is kept of the numbers of a line after a cell, and after a number that is passed.
 use Rattle.std.proofs.Common.{◌≡◌, ℕ, zero, suc, ◌+◌, ◌-◌, ◌%◌, ◌<◌, Bool, true, false, inl, inr, List, [], ◌∷◌, ◌++◌}
 use Rattle.std.proofs.Common.{length, replicate, slice_get, Option, Some, None, refl, sym, ◌∙◌, ap, subst, arith}
-use Rattle.std.proofs.Common.{length-append}
-use Rattle.std.specs.Prelude.{IsSome, is_none, ◌==◌, ◌&&◌, not}
-use Rattle.std.proofs.lemmas.Bool.{cases_Bool, and_parts, eqb-true, not-true}
-use Rattle.std.proofs.lemmas.List.{append-nil}
+use Rattle.std.proofs.Common.{length-append, IsSome, is_none, ◌==◌, ◌&&◌, not, eqb-true, true≢false, append-nil}
+use Rattle.std.proofs.lemmas.Bool.{cases_Bool, and_parts, not-true, false≢true}
 use Rattle.std.proofs.lemmas.Option.{slice_get_past}
 use Rattle.check_nibbles.proofs.LockLaws.{slice_get-append_seam}
-use Rattle.member_cells.specs.declared.containers_and_cells.Container.{Container}
-use Rattle.member_cells.specs.declared.containers_and_cells.Cell.{Cell}
-use Rattle.member_cells.specs.declared.containers_and_cells.Cell.TheVariants.{Good, Fail, End}
+use Rattle.law_model.specs.Common.{Container, Cell, Good, Fail, End, ahead, read_on, reading_of, verdict_or, verdict}
+use Rattle.law_model.specs.Common.{signs_of, HasNoEnd}
 use Rattle.member_path.specs.declared.h4_multiframe.MfiLock.{MfiLock}
 use Rattle.member_path.specs.declared.h4_multiframe.Place.{Place}
 use Rattle.member_path.specs.declared.h4_multiframe.Place.TheVariants.{Unknown, Locks, At}
 use Rattle.member_path.specs.h4_multiframe.Place.{IsPlace}
 use Rattle.member_path.specs.h4_multiframe.LockState.{LockStands}
-use Rattle.law_model.specs.members.Number.{ahead, read_on, reading_of, verdict_or, verdict}
-use Rattle.law_model.specs.members.Sign.{signs_of, HasNoEnd}
-use Rattle.law_line.proofs.ListLaws.{append_one, slice_get-inside}
+use Rattle.law_model.proofs.ListLaws.{append_one, slice_get-inside}
 use Rattle.law_line.proofs.EndLaws.{verdict-open, end-reading}
 use Rattle.member_path.specs.cell_numbers.Numbers.{Numbers, IsOpen, is_open, last_of, left_of, NumbersStand}
 use Rattle.member_path.proofs.CellNumbersLaws.LockWording.{verdicts_for, signs-next, no_end-next, good-next, fail-next}
-
-false-true : false ≡ true → ⊥
-false-true e = cc
-
-true-false : true ≡ false → ⊥
-true-false e = cc
 
 nonempty : {X : Type 0} (x : X) (xs : List X) → x ∷ xs ≡ [] → ⊥
 nonempty x xs e = cc
@@ -65,7 +54,7 @@ Stands-none lock place is = record {
   passed = [];
   verdicts = refl;
   runs = λ e. (λ i e. absurd cc, is, refl);
-  over = λ e. absurd (false-true e);
+  over = λ e. absurd (false≢true e);
 }
 
 module _ (numbers now : Numbers) (place : Container) (cells : List Cell) (t : ℕ) (same : numbers ≡ now)
@@ -97,7 +86,7 @@ module _ (numbers now : Numbers) (place : Container) (cells : List Cell) (t : �
       subst (LockStands lock') (sym (signs-next cells (Good c))) (lock (signs_of cells) all.lock),
       all.size,
     );
-    over = λ e. absurd (false-true (sym opened.ended ∙ e));
+    over = λ e. absurd (false≢true (sym opened.ended ∙ e));
   }
 
   pub Stands-fail : (lock' : MfiLock) →
@@ -114,7 +103,7 @@ module _ (numbers now : Numbers) (place : Container) (cells : List Cell) (t : �
       subst (LockStands lock') (sym (signs-next cells Fail)) (lock (signs_of cells) all.lock),
       all.size,
     );
-    over = λ e. absurd (false-true (sym opened.ended ∙ e));
+    over = λ e. absurd (false≢true (sym opened.ended ∙ e));
   }
 
   pub Stands-end : NumbersStand (record numbers { ended = true }) place (cells ++ End ∷ []) t
@@ -126,7 +115,7 @@ module _ (numbers now : Numbers) (place : Container) (cells : List Cell) (t : �
         passed = (reading_of cells).verdicts;
         verdicts = ap (λ r. r.verdicts) now ∙ sym (append-nil (reading_of cells).verdicts)
             ∙ ap (λ l. (reading_of cells).verdicts ++ l) (sym none);
-        runs = λ e. absurd (true-false e);
+        runs = λ e. absurd (true≢false e);
         over = λ e. (ap (λ r. r.lock) now, none, omega (arith, all.size));
       }
 
@@ -267,7 +256,7 @@ open-verdict numbers place cells t stands =
     elim (cases_Bool (is_open numbers)) [
       | inl test ↦ test ∙ sym (ap is_none (says-nothing numbers place cells t (test-open numbers test) stands))
       | inr test ↦
-          let shut : IsOpen numbers → ⊥ = λ is. false-true (sym test ∙ open-test numbers is) in
+          let shut : IsOpen numbers → ⊥ = λ is. false≢true (sym test ∙ open-test numbers is) in
           let some = says-something numbers.lock numbers.next t numbers.bad numbers.whole numbers.ended place cells shut
           stands in
           test ∙ sym (ap not some)

@@ -3,9 +3,10 @@ use Rattle.std.proofs.Common.{◌≡◌, ℕ, zero, suc, ◌+◌, ◌-◌, ◌<�
 use Rattle.std.proofs.Common.{if◌then◌else◌, inl, inr, List, [], ◌∷◌, length, slice_index_or, refl, ◌∙◌, arith}
 use Rattle.std.specs.Prelude.{Contains}
 use Rattle.std.proofs.lemmas.Bool.{cases_Bool}
+use Rattle.law_model.specs.Common.{is_damaged, carried_in, AreWindows}
 use Rattle.law_model.specs.declared.window_types.Window.{Window}
 use Rattle.law_model.specs.declared.window_types.Carried.TheVariants.{Whole, Fails, Vanishes}
-use Rattle.law_model.specs.members.Damage.{is_damaged, carried_in, carried, AreWindows}
+use Rattle.law_model.specs.members.Damage.{carried}
 use Rattle.law_model.proofs.PathLaws.{carried-in, carried-after}
 
 broken : (b : Bool) → (if b then Fails else Vanishes) ≡ Whole → ⊥

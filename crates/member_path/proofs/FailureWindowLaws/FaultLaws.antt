@@ -3,8 +3,8 @@ use Rattle.std.proofs.Common.{◌≡◌, ℕ, suc, ◌+◌, ◌-◌, ◌<◌, �
 use Rattle.std.proofs.Common.{length, drop, slice_index_or, Option, Some, None, refl, ◌∙◌, ap, arith}
 use Rattle.std.proofs.lemmas.Bool.{cases_lt}
 use Rattle.std.proofs.lemmas.List.{at_drop_more, at_drop_all}
+use Rattle.law_model.specs.Common.{AreWindows}
 use Rattle.law_model.specs.declared.window_types.Window.{Window}
-use Rattle.law_model.specs.members.Damage.{AreWindows}
 use Rattle.member_path.specs.declared.failure_window.window_fault.WindowFault.{WindowFault}
 use Rattle.member_path.specs.declared.failure_window.window_fault.WindowFault.TheVariants.{Empty, Overlap, SlipTooLong}
 use Rattle.member_path.specs.failure_window.Fault.{fault_of, fault_or, fault_from}

@@ -1,11 +1,11 @@
 -- Sums of slips over runs of windows each near the one before.
 use Rattle.std.proofs.Common.{◌≡◌, ℕ, ◌+◌, ◌<◌, ◌≤◌, max, nat_lt, Bool, true, false, if◌then◌else◌, ◌⊎◌, inl, inr, List}
-use Rattle.std.proofs.Common.{[], ◌∷◌, ◌++◌, length, drop, slice_index_or, fold, refl, sym, ◌∙◌, ap, arith}
-use Rattle.std.specs.Prelude.{sum_by}
+use Rattle.std.proofs.Common.{[], ◌∷◌, ◌++◌, length, drop, slice_index_or, fold, refl, sym, ◌∙◌, ap, arith, sum_by}
 use Rattle.std.proofs.lemmas.Bool.{cases_Bool, cases_lt}
 use Rattle.std.proofs.lemmas.List.{at_drop_more, at_drop_all}
+use Rattle.law_line.proofs.WindowLaws.{run-most}
+use Rattle.law_model.specs.Common.{AreWindows, slip_after, slip_of}
 use Rattle.law_model.specs.declared.window_types.Window.{Window}
-use Rattle.law_model.specs.members.Damage.{AreWindows, slip_after, slip_of}
 use Rattle.member_path.specs.failure_window.Near.{AreNear, IsRun}
 
 -- the sum of the slips of windows, after a sum so far
@@ -19,11 +19,6 @@ run_with run end window = if nat_lt window.first (end + 17) then run + window.sl
 sum-grows : (a b : ℕ) (windows : List Window) → a ≤ b → sum_after a windows ≤ sum_after b windows
 sum-grows a b [] less = less
 sum-grows a b (window ∷ windows) less = sum-grows (a + window.slip) (b + window.slip) windows (omega arith)
-
-pub run-most : (run end : ℕ) (windows : List Window) → run ≤ slip_after run end windows
-unfolding slip_after
-run-most run end [] = omega arith
-run-most run end (window ∷ windows) = omega arith
 
 later-most : (run end : ℕ) (window : Window) (windows : List Window) →
     slip_after (run_with run end window) window.end windows ≤ slip_after run end (window ∷ windows)

@@ -1,21 +1,13 @@
 -- What a window at the front of a list does to a container.
 use Rattle.std.proofs.Common.{◌≡◌, ℕ, zero, suc, ◌<◌, ◌≤◌, List, [], ◌∷◌, length}
 use Rattle.std.proofs.Common.{drop, slice_get, slice_index_or, Some, None, refl, sym, ◌∙◌, ap, arith}
+use Rattle.law_line.proofs.WindowLaws.{carried-early}
+use Rattle.law_model.specs.Common.{carried_in, AreWindows}
 use Rattle.law_model.specs.declared.window_types.Window.{Window}
 use Rattle.law_model.specs.declared.window_types.Carried.TheVariants.{Whole}
-use Rattle.law_model.specs.members.Damage.{carried_in, carried, AreWindows}
+use Rattle.law_model.specs.members.Damage.{carried}
 use Rattle.law_model.proofs.PathLaws.{carried-in, carried-before, carried-after}
 use Rattle.member_path.specs.failure_window.Above.{IsFirstAbove}
-
--- no window that begins later damages it
-pub carried-early : (from : ℕ) (windows : List Window) (n : ℕ) → AreWindows from windows → n < from →
-    carried windows n ≡ Whole
-unfolding AreWindows carried
-carried-early from [] n are before = refl
-carried-early from (window ∷ windows) n are before =
-    let first = are.0 in
-    let sign = are.1 in
-    carried-before window windows n (omega arith) ∙ carried-early window.end windows n are.2 (omega arith)
 
 -- the windows after the first ones begin after the end of the last of these
 pub are-drop : (from : ℕ) (windows : List Window) (i : ℕ) → AreWindows from windows → (end : ℕ) ×

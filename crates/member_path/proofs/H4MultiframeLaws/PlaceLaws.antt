@@ -1,8 +1,7 @@
 -- What a good cell is after those that the lock has seen, and what it leaves.
 use Rattle.std.proofs.Common.{◌≡◌, ◌≢◌, ℕ, ◌+◌, ◌*◌, ◌/◌, ◌%◌, ◌<◌, List, [], ◌∷◌, ◌++◌, length, Option, Some}
-use Rattle.std.proofs.Common.{slice_get, refl, sym, ◌∙◌, ap, subst, arith}
-use Rattle.std.proofs.lemmas.List.{length-append}
-use Rattle.check_nibbles.specs.Lock.{HasMfi1, IsOutOfStep}
+use Rattle.std.proofs.Common.{slice_get, refl, sym, ◌∙◌, ap, subst, arith, length-append}
+use Rattle.law_model.specs.Common.{HasMfi1, IsOutOfStep}
 use Rattle.check_nibbles.proofs.LockLaws.{slice_get-append, slice_get-append_seam, HasNumber-append, Locks-append}
 use Rattle.check_nibbles.proofs.LockLaws.{IsAt-append, IsOutOfStep-append, HasMfi1_before, HasMfi1_only, HasNumber_only}
 use Rattle.check_nibbles.proofs.LockLaws.{IsFirstStep_only, HasNumber-mfi1, Locks_next, IsAt_next, IsOutOfStep_next}

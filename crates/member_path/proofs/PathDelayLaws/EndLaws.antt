@@ -1,15 +1,10 @@
 -- End is among the cells of a path exactly where its carry was made.
 use Rattle.std.proofs.Common.{◌≡◌, ℕ, zero, suc, ◌-◌, ◌<◌, ◌≤◌, List, [], ◌∷◌, ◌++◌, length, take, get_or}
-use Rattle.std.proofs.Common.{slice_index_or, refl, ◌∙◌, ap, arith, length-append}
-use Rattle.std.specs.Prelude.{Contains}
-use Rattle.std.proofs.lemmas.Bool.{le-ltb, lt-ltb}
-use Rattle.std.proofs.lemmas.List.{append-nil, get_or-append_right}
-use Rattle.member_cells.specs.declared.containers_and_cells.Container.{Container}
-use Rattle.member_cells.specs.declared.containers_and_cells.Cell.{Cell}
-use Rattle.member_cells.specs.declared.containers_and_cells.Cell.TheVariants.{End}
+use Rattle.std.proofs.Common.{slice_index_or, refl, ◌∙◌, ap, arith, length-append, Contains, le-ltb, lt-ltb, append-nil}
+use Rattle.std.proofs.lemmas.List.{get_or-append_right}
+use Rattle.law_model.specs.Common.{Container, Cell, End, cells_of, path, cells}
 use Rattle.law_model.specs.declared.window_types.Carried.{Carried}
 use Rattle.law_model.specs.declared.window_types.Carried.TheVariants.{Whole, Fails, Vanishes}
-use Rattle.law_model.specs.members.Path.{cells_of, path, cells}
 
 -- no cell of these is End
 NoEnd : List Cell → Type 0

@@ -1,23 +1,16 @@
 -- What a carry adds to the cells of a path.
-use Rattle.std.proofs.Common.{◌≡◌, ℕ, zero, suc, ◌+◌, ◌-◌, ◌<◌, ◌≤◌, min, List, [], ◌∷◌, ◌++◌, length, take, slice_get}
-use Rattle.std.proofs.Common.{Some, sym, ◌∙◌, ap, arith, length-take}
-use Rattle.std.proofs.lemmas.Bool.{le-ltb}
-use Rattle.std.proofs.lemmas.List.{append-nil}
+use Rattle.std.proofs.Common.{◌≡◌, ℕ, suc, ◌+◌, ◌-◌, ◌<◌, ◌≤◌, min, List, [], ◌∷◌, ◌++◌, length, take, slice_get, Some}
+use Rattle.std.proofs.Common.{sym, ◌∙◌, ap, arith, length-take, le-ltb, append-nil}
 use Rattle.std.proofs.lemmas.Option.{slice_get_within}
-use Rattle.member_cells.specs.declared.containers_and_cells.Container.{Container}
+use Rattle.law_model.proofs.ListLaws.{take-next}
+use Rattle.law_model.specs.Common.{Container, cells_of, path, cells}
 use Rattle.law_model.specs.declared.window_types.Carried.{Carried}
-use Rattle.law_model.specs.members.Path.{cells_of, path, cells}
 use Rattle.law_model.proofs.PathLaws.{path-append}
 
 path-one : (carries : ℕ → Carried) (n : ℕ) (container : Container) →
     path carries n (container ∷ []) ≡ cells_of (carries n) container
 unfolding path
 path-one carries n container = append-nil (cells_of (carries n) container)
-
-take-next : {X : Type 0} (xs : List X) (i : ℕ) (x : X) → slice_get xs i ≡ Some x → take (suc i) xs ≡ take i xs ++ x ∷ []
-take-next [] i x e = absurd cc
-take-next (y ∷ ys) zero x e = ap (λ y. y ∷ []) cc
-take-next (y ∷ ys) (suc i) x e = ap (λ l. y ∷ l) (take-next ys i x e)
 
 -- what comes of a container
 pub cells-next : (carries : ℕ → Carried) (delay total : ℕ) (containers : List Container) (i : ℕ)

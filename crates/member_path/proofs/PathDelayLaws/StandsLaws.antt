@@ -3,11 +3,9 @@ use Rattle.std.proofs.Common.{◌≡◌, ℕ, zero, suc, ◌+◌, ◌-◌, ◌<�
 use Rattle.std.proofs.Common.{refl, sym, ◌∙◌, ap, ap₂, arith, length-append}
 use Rattle.std.proofs.lemmas.List.{drop-append-le, take-append-le}
 use Rattle.circular_buffer.proofs.Places.{slice_get-drop, slice_get-some}
-use Rattle.member_cells.specs.declared.containers_and_cells.Container.{Container}
-use Rattle.member_cells.specs.declared.containers_and_cells.Cell.{Cell}
+use Rattle.law_model.specs.Common.{Container, Cell, cells_of, path, end_of, cells}
 use Rattle.law_model.specs.declared.window_types.Carried.{Carried}
 use Rattle.law_model.specs.members.Damage.{carried}
-use Rattle.law_model.specs.members.Path.{cells_of, path, end_of, cells}
 use Rattle.member_path.specs.path_delay.Line.{Line, Calls, and_push, and_flush, carries_of, path_cells, DelayStands}
 use Rattle.member_path.proofs.PathDelayLaws.PathLaws.{cells-next}
 

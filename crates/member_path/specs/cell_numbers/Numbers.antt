@@ -1,12 +1,9 @@
 -- What is kept of the numbers of a line.
 use Rattle.std.specs.Prelude.{◌≡◌, ℕ, ◌%◌, ◌≤◌, ◌==◌, ◌&&◌, not, Bool, true, false, List, [], ◌∷◌, ◌++◌, length}
 use Rattle.std.specs.Prelude.{replicate, Option, Some, None}
-use Rattle.member_cells.specs.declared.containers_and_cells.Container.{Container}
-use Rattle.member_cells.specs.declared.containers_and_cells.Cell.{Cell}
+use Rattle.law_model.specs.Common.{Container, Cell, over, reading_of, signs_of, HasNoEnd}
 use Rattle.member_path.specs.declared.h4_multiframe.MfiLock.{MfiLock}
 use Rattle.member_path.specs.h4_multiframe.LockState.{LockStands}
-use Rattle.law_model.specs.members.Number.{over, reading_of}
-use Rattle.law_model.specs.members.Sign.{signs_of, HasNoEnd}
 
 -- the lock of the line; the next number, modulo 4096; what is decided and was not passed: a count of bad numbers, and
 -- then one that is

@@ -1,8 +1,6 @@
 -- Cells whose containers lie elsewhere, and verdicts, as the definitions have them.
 use Rattle.std.specs.Prelude.{Option, Some, None}
-use Rattle.member_cells.specs.declared.containers_and_cells.Container.{Container}
-use Rattle.member_cells.specs.declared.containers_and_cells.Cell.{Cell}
-use Rattle.member_cells.specs.declared.containers_and_cells.Cell.TheVariants.{Good, Fail, End}
+use Rattle.law_model.specs.Common.{Container, Cell, Good, Fail, End}
 use Rattle.member_path.specs.declared.cell_numbers.signs_and_verdicts.CellRef.{CellRef}
 use Rattle.member_path.specs.declared.cell_numbers.signs_and_verdicts.CellRef.TheVariants.{Good as GoodRef, Fail as FailRef, End as EndRef}
 use Rattle.member_path.specs.declared.cell_numbers.signs_and_verdicts.CellSign.{CellSign}

@@ -1,7 +1,7 @@
 -- The windows that are left once those below a container are passed.
 use Rattle.std.specs.Prelude.{ℕ, ◌<◌, List, [], ◌∷◌}
+use Rattle.law_model.specs.Common.{AreWindows}
 use Rattle.law_model.specs.declared.window_types.Window.{Window}
-use Rattle.law_model.specs.members.Damage.{AreWindows}
 
 -- the first window ends above container n, and all others begin at its end or later
 unfoldable pub IsFirstAbove : ℕ → List Window → Type 0

@@ -1,6 +1,6 @@
 -- G.707, multiframe alignment: what the lock of a line knows after a list of cells.
 use Rattle.std.specs.Prelude.{◌≡◌, ℕ, ◌+◌, ◌%◌, List, length, Option, Some, slice_get}
-use Rattle.check_nibbles.specs.Lock.{HasMfi1, IsOutOfStep, HasNumber}
+use Rattle.law_model.specs.Common.{HasMfi1, IsOutOfStep, HasNumber}
 use Rattle.member_path.specs.declared.h4_multiframe.State.{State}
 use Rattle.member_path.specs.declared.h4_multiframe.State.TheVariants.{Unlocked, Begun, Locked}
 

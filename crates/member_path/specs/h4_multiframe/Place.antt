@@ -1,6 +1,6 @@
 -- G.707, multiframe alignment: what a place of a list of H4 octets is.
 use Rattle.std.specs.Prelude.{ℕ, List, Option}
-use Rattle.check_nibbles.specs.Lock.{IsOutOfStep, Locks, IsAt, HasNumber}
+use Rattle.law_model.specs.Common.{IsOutOfStep, Locks, IsAt, HasNumber}
 use Rattle.member_path.specs.declared.h4_multiframe.Place.{Place}
 use Rattle.member_path.specs.declared.h4_multiframe.Place.TheVariants.{Unknown, Locks as LocksAnswer, At}
 

@@ -1,22 +1,19 @@
 -- The cells that a carry gives.
-use Rattle.std.specs.Prelude.{List, [], ◌∷◌}
-use Rattle.member_cells.specs.declared.containers_and_cells.Container.{Container}
-use Rattle.member_cells.specs.declared.containers_and_cells.Cell.{Cell}
-use Rattle.member_cells.specs.declared.containers_and_cells.Cell.TheVariants.{Good as GoodCell, Fail as FailCell, End as EndCell}
+use Rattle.std.specs.Prelude.{List, [], ◌∷◌, Option, Some, None}
+use Rattle.law_model.specs.Common.{Container, Cell}
 use Rattle.law_model.specs.declared.window_types.Carried.{Carried}
 use Rattle.law_model.specs.declared.window_types.Carried.TheVariants.{Whole, Fails, Vanishes}
-use Rattle.member_path.specs.declared.path_delay.carry_sign.CarrySign.{CarrySign}
-use Rattle.member_path.specs.declared.path_delay.carry_sign.CarrySign.TheVariants.{Nothing, Good, Fail, End}
+use Rattle.member_path.specs.declared.cell_numbers.signs_and_verdicts.CellSign.{CellSign}
+use Rattle.member_path.specs.declared.cell_numbers.signs_and_verdicts.CellSign.TheVariants.{Good, Fail}
+use Rattle.member_path.specs.cell_numbers.Told.{cell_with}
 
 -- where the container of a good cell lies in this place
-abbrev pub carry_cells : CarrySign → Container → List Cell
-carry_cells Nothing place = []
-carry_cells Good place = GoodCell place ∷ []
-carry_cells Fail place = FailCell ∷ []
-carry_cells End place = EndCell ∷ []
+abbrev pub carry_cells : Option CellSign → Container → List Cell
+carry_cells None place = []
+carry_cells (Some sign) place = cell_with sign place ∷ []
 
 -- by what comes of a container
-abbrev pub carry_for : Carried → CarrySign
-carry_for Whole = Good
-carry_for Fails = Fail
-carry_for Vanishes = Nothing
+abbrev pub carry_for : Carried → Option CellSign
+carry_for Whole = Some Good
+carry_for Fails = Some Fail
+carry_for Vanishes = None

@@ -2,14 +2,12 @@
 
 ghost use Rattle.std.specs.Prelude.{◌≡◌, ℕ, ◌+◌, ◌<◌, List, [], ◌∷◌, ◌++◌, Option, IfSome, IfNone, IsTrue, IsFalse};
 ghost use Rattle.std.specs.Prelude.{◌↔◌, option_map};
-ghost use Rattle.member_cells.specs.declared.containers_and_cells.Container.{Container};
-ghost use Rattle.member_cells.specs.declared.containers_and_cells.Cell.{Cell};
-ghost use Rattle.law_model.specs.members.Number.{ahead, verdict};
+ghost use Rattle.law_model.specs.Common.{Container, Cell, ahead, verdict};
 ghost use Rattle.member_path.specs.cell_numbers.Told.{cell_with, told_by};
 ghost use Rattle.member_path.specs.cell_numbers.Numbers.{IsOpen, is_open, NumbersStand};
 
-use crate::h4_multiframe::{MfiLock, Place};
 use crate::cell_numbers::{CellSign, Verdict};
+use crate::h4_multiframe::{MfiLock, Place};
 use member_cells::{Container, HeldContainer};
 use std::marker::Model;
 use std::mem;

@@ -3,8 +3,8 @@
 //! which keeps no container: its user has a place for that of a whole number. How numbers are decided is this
 //! project's own: `law_line` says that they are right.
 
-mod signs_and_verdicts;
 mod line_numbers;
+mod signs_and_verdicts;
 
 pub use line_numbers::LineNumbers;
 pub use signs_and_verdicts::{CellRef, CellSign, Verdict};

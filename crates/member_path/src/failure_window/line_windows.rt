@@ -1,8 +1,9 @@
 //! A list of windows without a fault.
 ghost use Rattle.std.specs.Prelude.{◌≡◌, ◌+◌, ◌<◌, ◌≤◌, nat_lt, if◌then◌else◌, List, length, IfOk, IfSome, IfNone};
 ghost use Rattle.std.specs.Prelude.{IsOkUnless};
+ghost use Rattle.law_model.specs.Common.{carried_in, AreWindows, slip_of};
 ghost use Rattle.law_model.specs.declared.window_types.Window.{Window};
-ghost use Rattle.law_model.specs.members.Damage.{carried, carried_in, AreWindows, slip_of};
+ghost use Rattle.law_model.specs.members.Damage.{carried};
 ghost use Rattle.member_path.specs.failure_window.Above.{IsFirstAbove};
 ghost use Rattle.member_path.specs.failure_window.Fault.{window_fault};
 

@@ -3,11 +3,11 @@
 //! far the numbers of the line may fall back at most. Nothing is carried here: that is `path_delay`. Begin with
 //! `Windows`; `fault_law`, `damage_law` and `slip_law` say it in full.
 
+mod line_windows;
 mod window_fault;
 mod window_laws;
-mod line_windows;
 
-pub use window_fault::WindowFault;
 pub use law_model::{Carried, Window};
-pub use window_laws::{damage_law, fault_law, slip_law};
 pub use line_windows::{Windows, greatest_slip};
+pub use window_fault::WindowFault;
+pub use window_laws::{damage_law, fault_law, slip_law};

@@ -1,7 +1,8 @@
 //! What the definitions of windows mean, apart from how they are computed.
 ghost use Rattle.std.specs.Prelude.{◌≡◌, ◌↔◌, ℕ, ◌-◌, ◌<◌, ◌≤◌, false, List, ◌++◌, Contains, sum_by, None};
+ghost use Rattle.law_model.specs.Common.{is_damaged, AreWindows, slip_of};
 ghost use Rattle.law_model.specs.declared.window_types.Window.{Window};
-ghost use Rattle.law_model.specs.members.Damage.{is_damaged, carried, AreWindows, slip_of};
+ghost use Rattle.law_model.specs.members.Damage.{carried};
 ghost use Rattle.member_path.specs.failure_window.Fault.{window_fault};
 ghost use Rattle.member_path.specs.failure_window.Near.{IsRun};
 

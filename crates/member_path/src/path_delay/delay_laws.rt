@@ -1,8 +1,7 @@
 //! What the cells of a path are, carry by carry.
 ghost use Rattle.std.specs.Prelude.{◌≡◌, ℕ, suc, ◌+◌, ◌-◌, ◌<◌, ◌≤◌, List, [], ◌∷◌, ◌++◌, length, slice_get, Some};
-ghost use Rattle.member_cells.specs.declared.containers_and_cells.Container.{Container};
+ghost use Rattle.law_model.specs.Common.{Container, cells_of, cells};
 ghost use Rattle.law_model.specs.declared.window_types.Carried.{Carried};
-ghost use Rattle.law_model.specs.members.Path.{cells_of, cells};
 
 use member_cells::Cell;
 

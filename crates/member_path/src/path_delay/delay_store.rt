@@ -1,15 +1,14 @@
 //! The containers on their way, oldest first, and what comes of the oldest.
 ghost use Rattle.std.specs.Prelude.{◌≡◌, ◌≢◌, ◌+◌, ◌-◌, ◌<◌, ◌==◌, min, [], ◌∷◌, ◌++◌, length, drop, slice_get};
 ghost use Rattle.std.specs.Prelude.{Some, IfOk};
-ghost use Rattle.member_cells.specs.declared.containers_and_cells.Container.{Container};
-ghost use Rattle.law_model.specs.members.Path.{cells_of};
+ghost use Rattle.law_model.specs.Common.{Container, cells_of};
 ghost use Rattle.member_path.specs.path_delay.Carry.{carry_cells, carry_for};
 ghost use Rattle.member_path.specs.path_delay.Line.{stored};
 
-use crate::path_delay::carry_sign::CarrySign;
-use member_cells::{HeldContainer, blank_boxes};
+use crate::cell_numbers::CellSign;
 use circular_buffer::HeapCircularBuffer;
 use law_model::Carried;
+use member_cells::{HeldContainer, blank_boxes};
 use std::alloc::{AllocError, Global};
 use std::marker::Model;
 use std::mem;
@@ -99,12 +98,12 @@ impl Store {
 
     /// Takes the oldest container out of the store, and gives its box where it comes whole. The box that is left
     /// over is let go.
-    pub(super) fn let_go(&mut self, fate: Carried, out: &mut Box<HeldContainer>) -> CarrySign
+    pub(super) fn let_go(&mut self, fate: Carried, out: &mut Box<HeldContainer>) -> Option<CellSign>
         requires { 0 < length self.old.items }
         ensures store { self.new ≡ stored (drop 1 self.old.items) self.old.capacity self.old.spare }
         ensures cells { (x : Container) → slice_get self.old.items 0 ≡ Some x →
             carry_cells result out.new.value ≡ cells_of fate x }
-        ensures kept { result ≢ CarrySign.Good → out.new.value ≡ out.old.value }
+        ensures kept { result ≢ Some CellSign.Good → out.new.value ≡ out.old.value }
     {
         let mut oldest = self.take_oldest();
         change(fate, &mut oldest, out)
@@ -118,14 +117,14 @@ impl Store {
         fate: Carried,
         container: &mut Box<HeldContainer>,
         out: &mut Box<HeldContainer>,
-    ) -> CarrySign
+    ) -> Option<CellSign>
         requires { length self.old.items ≡ self.old.capacity }
         ensures store { self.new ≡ stored (drop 1 (self.old.items ++ container.old.value ∷ []))
             self.old.capacity self.old.spare }
         ensures cells { (x : Container) →
             slice_get (self.old.items ++ container.old.value ∷ []) 0 ≡ Some x →
             carry_cells result out.new.value ≡ cells_of fate x }
-        ensures kept { result ≢ CarrySign.Good → out.new.value ≡ out.old.value }
+        ensures kept { result ≢ Some CellSign.Good → out.new.value ≡ out.old.value }
     {
         if self.is_empty() {
             return change(fate, container, out);
@@ -139,9 +138,13 @@ impl Store {
 }
 
 /// What comes of a container in a box, which changes places with the other where it comes whole.
-fn change(fate: Carried, place: &mut Box<HeldContainer>, out: &mut Box<HeldContainer>) -> CarrySign
+fn change(
+    fate: Carried,
+    place: &mut Box<HeldContainer>,
+    out: &mut Box<HeldContainer>,
+) -> Option<CellSign>
     ensures cells { carry_cells result out.new.value ≡ cells_of fate place.old.value }
-    ensures kept { result ≢ CarrySign.Good → out.new.value ≡ out.old.value }
+    ensures kept { result ≢ Some CellSign.Good → out.new.value ≡ out.old.value }
 {
     if let Carried::Whole = fate {
         mem::swap(place, out);
@@ -149,13 +152,13 @@ fn change(fate: Carried, place: &mut Box<HeldContainer>, out: &mut Box<HeldConta
     carry_of(fate)
 }
 
-/// What a carry gives, by what comes of its container.
-fn carry_of(fate: Carried) -> CarrySign
+/// The cell that a carry gives, if any, by what comes of its container.
+fn carry_of(fate: Carried) -> Option<CellSign>
     ensures { result ≡ carry_for fate }
 {
     match fate {
-        Carried::Whole => CarrySign::Good,
-        Carried::Fails => CarrySign::Fail,
-        Carried::Vanishes => CarrySign::Nothing,
+        Carried::Whole => Some(CellSign::Good),
+        Carried::Fails => Some(CellSign::Fail),
+        Carried::Vanishes => None,
     }
 }

@@ -1,15 +1,16 @@
 //! A line with its delay and its windows.
-ghost use Rattle.std.specs.Prelude.{◌≡◌, ◌≢◌, ◌-◌, ◌<◌, ◌≤◌, ◌↔◌, ◌++◌, IfOk, IfSome, IfNone, IsTrue, Contains};
+ghost use Rattle.std.specs.Prelude.{◌≡◌, ◌≢◌, ◌-◌, ◌<◌, ◌≤◌, ◌↔◌, ◌++◌, IfOk, Some, IfSome, IfNone, IsTrue};
+ghost use Rattle.std.specs.Prelude.{Contains};
 ghost use Rattle.law_model.specs.members.Damage.{carried};
 ghost use Rattle.member_path.specs.path_delay.Carry.{carry_cells};
 ghost use Rattle.member_path.specs.path_delay.Line.{Line, IsLine, Calls, opened, and_push, and_flush, path_cells, DelayStands, Counts};
 ghost use Rattle.member_path.specs.path_delay.Line.{IsEnded};
 
+use crate::cell_numbers::CellSign;
 use crate::failure_window::Windows;
-use crate::path_delay::carry_sign::CarrySign;
 use crate::path_delay::delay_store::Store;
-use member_cells::{Cell, HeldContainer};
 use law_model::Carried;
+use member_cells::{Cell, HeldContainer};
 use std::alloc::{AllocError, Global};
 use std::marker::Model;
 
@@ -61,21 +62,21 @@ impl LineCore {
         })
     }
 
-    /// Carries a container on, and says what comes out. It takes the container's box, and leaves another one in
+    /// Carries a container on, and gives the sign of the cell that comes out, or `None`. It takes the container's box, and leaves another one in
     /// `container`. Where the cell is good, the box of its container lies in `out` afterwards; else the container
     /// there stays as it was.
     pub fn push(
         &mut self,
         container: &mut Box<HeldContainer>,
         out: &mut Box<HeldContainer>,
-    ) -> CarrySign
+    ) -> Option<CellSign>
         requires { self.old.pushed < self.old.total }
         ensures stands { (calls : Calls) → DelayStands self.old calls →
             DelayStands self.new (and_push calls container.old.value) }
         ensures cells { (calls : Calls) → DelayStands self.old calls →
             path_cells (and_push calls container.old.value)
             ≡ path_cells calls ++ carry_cells result out.new.value }
-        ensures kept { result ≢ CarrySign.Good → out.new.value ≡ out.old.value }
+        ensures kept { result ≢ Some CellSign.Good → out.new.value ≡ out.old.value }
         ensures counts { Counts self.old self.new 1 0 }
     {
         let fate = self.next_fate();
@@ -84,30 +85,30 @@ impl LineCore {
             Some(fate) => self.store.pass(fate, container, out),
             None => {
                 self.store.keep(container);
-                CarrySign::Nothing
+                None
             }
         }
     }
 
-    /// Makes a carry once all containers were pushed, and says what comes out. After the cell of the last
+    /// Makes a carry once all containers were pushed, and gives the sign of the cell that comes out, or `None`. After the cell of the last
     /// container one carry gives the end. Where the cell is good, the box of its container lies in `out`
     /// afterwards; else the container there stays as it was.
-    pub fn flush(&mut self, out: &mut Box<HeldContainer>) -> CarrySign
+    pub fn flush(&mut self, out: &mut Box<HeldContainer>) -> Option<CellSign>
         requires pushed { self.old.pushed ≡ self.old.total }
         requires runs { self.old.flushed ≤ self.old.delay }
         ensures stands { (calls : Calls) → DelayStands self.old calls →
             DelayStands self.new (and_flush calls) }
         ensures cells { (calls : Calls) → DelayStands self.old calls →
             path_cells (and_flush calls) ≡ path_cells calls ++ carry_cells result out.new.value }
-        ensures kept { result ≢ CarrySign.Good → out.new.value ≡ out.old.value }
+        ensures kept { result ≢ Some CellSign.Good → out.new.value ≡ out.old.value }
         ensures counts { Counts self.old self.new 0 1 }
     {
         let left = u32::from(self.delay) - self.flushed;
         self.flushed += 1;
         if left > self.total {
-            CarrySign::Nothing
+            None
         } else if left == 0 {
-            CarrySign::End
+            Some(CellSign::End)
         } else {
             let fate = self.windows.at(self.total - left);
             self.store.let_go(fate, out)

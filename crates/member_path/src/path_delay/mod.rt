@@ -1,14 +1,12 @@
 //! The path of a member: a line that carries container after container with a delay, and fails in the windows
-//! that are declared for it. What it gives is, carry by carry, the list of cells of its path. It makes no
+//! that are declared for it. What it gives is, carry by carry, the list of cells of its path: each carry gives the sign of a cell, or none. It makes no
 //! containers and numbers none: the source does the one, `cell_numbers` the other. Begin with `LineCore`;
 //! `carry_law` says what each carry gives.
 
-mod carry_sign;
 mod delay_laws;
-mod delayed_line;
 mod delay_store;
+mod delayed_line;
 
 pub use crate::failure_window::Windows;
-pub use carry_sign::CarrySign;
 pub use delay_laws::carry_law;
 pub use delayed_line::LineCore;

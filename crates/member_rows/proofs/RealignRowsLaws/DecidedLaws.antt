@@ -1,13 +1,10 @@
 -- How many lines are decided before the first one that is not.
 use Rattle.std.proofs.Common.{◌≡◌, ℕ, zero, suc, ◌+◌, ◌<◌, ◌≤◌, true, false, inl, inr, List, [], ◌∷◌, length, drop}
-use Rattle.std.proofs.Common.{slice_get, slice_set, Some, None, refl, sym, ◌∙◌, ap, arith}
-use Rattle.std.specs.Prelude.{is_none}
+use Rattle.std.proofs.Common.{slice_get, slice_set, Some, None, refl, sym, ◌∙◌, ap, arith, is_none}
 use Rattle.std.specs.List.{position_from}
-use Rattle.std.proofs.lemmas.Bool.{cases_Bool, cases_lt}
+use Rattle.std.proofs.lemmas.Bool.{cases_Bool, cases_lt, false≢true}
 use Rattle.std.proofs.lemmas.Option.{slice_get_within}
-use Rattle.member_cells.specs.declared.containers_and_cells.Container.{Container}
-use Rattle.member_cells.specs.declared.containers_and_cells.Cell.{Cell}
-use Rattle.law_model.specs.members.Number.{verdict}
+use Rattle.law_model.specs.Common.{Container, Cell, verdict}
 use Rattle.member_path.specs.cell_numbers.Numbers.{IsOpen, is_open}
 use Rattle.member_path.proofs.CellNumbersLaws.NumberLaws.{open-test, open-verdict}
 use Rattle.member_rows.specs.realign_rows.Line.{Line, LineStands}
@@ -46,21 +43,11 @@ decided-here (x ∷ lines) line e =
       | inr shut ↦ decided-here lines line (rw shut at e)
     ]
 
--- where all are decided, each is
-false-true : false ≡ true → ⊥
-false-true e = cc
-
 pub decided-shut : (lines : List Line) (m : ℕ) (line : Line) → decided_lines lines ≡ length lines →
     slice_get lines m ≡ Some line → IsOpen line.numbers → ⊥
 decided-shut lines m line all here open' =
     let within = slice_get_within lines m line here in
-    false-true (sym (decided-before lines m line (omega arith) here) ∙ open-test line.numbers open')
-
--- one after the other
-pub drop-at : {X : Type 0} (xs : List X) (i : ℕ) (x : X) → slice_get xs i ≡ Some x → drop i xs ≡ x ∷ drop (suc i) xs
-drop-at [] i x e = absurd cc
-drop-at (y ∷ ys) zero x e = ap (λ y. y ∷ ys) (let same : y ≡ x = cc in same)
-drop-at (y ∷ ys) (suc i) x e = drop-at ys i x e
+    false≢true (sym (decided-before lines m line (omega arith) here) ∙ open-test line.numbers open')
 
 -- ---- a line that has changed
 pub decided-split : (lines : List Line) (m : ℕ) → m ≤ decided_lines lines →
@@ -106,7 +93,7 @@ pub decided-kept : (lines : List Line) (m : ℕ) (line before : Line) → (m ≡
     decided_lines lines ≡ decided_lines (slice_set lines m line)
 decided-kept lines m line before other here open' =
     elim (cases_lt m (decided_lines lines)) [
-      | inl low ↦ absurd (false-true (sym (decided-before lines m before low here) ∙ open-test before.numbers open'))
+      | inl low ↦ absurd (false≢true (sym (decided-before lines m before low here) ∙ open-test before.numbers open'))
       | inr high ↦ sym (decided-set-later lines m line (omega arith))
     ]
 

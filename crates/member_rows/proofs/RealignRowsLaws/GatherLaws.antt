@@ -5,16 +5,13 @@ use Rattle.std.proofs.lemmas.Bool.{cases_eq, cases_lt}
 use Rattle.check_nibbles.proofs.LockLaws.{slice_get-append}
 use Rattle.std.specs.Prelude.{option_map}
 use Rattle.std.specs.Global.{Box}
-use Rattle.std.proofs.lemmas.List.{length-replicate, map-set}
+use Rattle.std.proofs.lemmas.List.{length-replicate, map-set, length-set}
 use Rattle.std.proofs.lemmas.Option.{slice_get_within, slice_get-map}
-use Rattle.member_cells.specs.declared.containers_and_cells.Container.{Container}
-use Rattle.member_cells.specs.declared.containers_and_cells.Cell.{Cell}
-use Rattle.member_cells.specs.Held.{held}
+use Rattle.law_model.specs.Common.{Container, Cell, verdict, first_open}
 use Rattle.law_model.specs.declared.control_packet.Packet.{Packet}
-use Rattle.law_model.specs.members.Number.{verdict}
-use Rattle.law_model.specs.rows.Rows.{first_open}
+use Rattle.member_cells.specs.Held.{held}
 use Rattle.member_path.specs.cell_numbers.Numbers.{IsOpen}
-use Rattle.law_line.proofs.ListLaws.{slice_get-inside}
+use Rattle.law_model.proofs.ListLaws.{slice_get-inside}
 use Rattle.member_path.proofs.CellNumbersLaws.NumberLaws.{open-test, passed-decided, whole-place}
 use Rattle.member_rows.specs.realign_rows.Begun.{packet_at}
 use Rattle.member_rows.specs.realign_rows.Line.{Line, LineStands}
@@ -124,11 +121,6 @@ set-other (z ∷ xs) zero (suc k) x other = refl
 set-other (z ∷ xs) (suc m) zero x other = refl
 set-other (z ∷ xs) (suc m) (suc k) x other = set-other xs m k x (λ e. other (ap suc e))
 
-pub length-slice_set : {X : Type 0} (xs : List X) (m : ℕ) (x : X) → length (slice_set xs m x) ≡ length xs
-length-slice_set [] m x = refl
-length-slice_set (z ∷ xs) zero x = refl
-length-slice_set (z ∷ xs) (suc m) x = ap suc (length-slice_set xs m x)
-
 pub offered_stands : (lines : List Line) (places : List Container) (packets : List (Option Packet)) (rows m : ℕ)
     (before after : Line) (place place' : Container) (cell : Cell) (cells : List (List Cell)) →
     slice_get lines m ≡ Some before → slice_get places m ≡ Some place →
@@ -142,7 +134,7 @@ pub offered_stands : (lines : List Line) (places : List Container) (packets : Li
           rows;
     }) (with_cell cells m cell)
 offered_stands lines places packets rows m before after place place' cell cells was lay next stands = record {
-  size = length-slice_set lines m after ∙ stands.size ∙ sym (length-with_cell cells m cell);
+  size = length-set lines m after ∙ stands.size ∙ sym (length-with_cell cells m cell);
   each = λ k line there own here at_place told.
       elim (cases_eq k m) [
         | inl same ↦
@@ -192,7 +184,7 @@ pub passed_more : (m j : ℕ) (places : List Container) (old new : List Line) (b
     ((own : List Cell) (t : ℕ) → LineStands before here own t → j ≡ (t + 8) % 16 → LineStands after here own (t + 1)) →
     ArePassed (m + 1) j places old (slice_set new m after)
 passed_more m j places old new before after here are at_line at_here next = record {
-  size = length-slice_set new m after ∙ are.size;
+  size = length-set new m after ∙ are.size;
   passed = λ k was is place low at_old at_new at_place.
       elim (cases_eq k m) [
         | inl same ↦
@@ -217,7 +209,7 @@ pub read_more : (m : ℕ) (lines : List Line) (packets : List (Option Packet)) (
     packet ≡ packet_at own t) →
     AreRead (m + 1) lines (slice_set packets m packet)
 read_more m lines packets line packet are here is = record {
-  size = length-slice_set packets m packet ∙ are.size;
+  size = length-set packets m packet ∙ are.size;
   read = λ k own p low at_line at_packet.
       elim (cases_eq k m) [
         | inl same ↦

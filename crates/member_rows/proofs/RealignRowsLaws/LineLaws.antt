@@ -1,7 +1,6 @@
 -- What is kept of a line, one cell later.
 use Rattle.std.proofs.Common.{ℕ, ◌+◌, ◌*◌, List, ◌++◌, ◌∙◌, arith}
-use Rattle.member_cells.specs.declared.containers_and_cells.Container.{Container}
-use Rattle.member_cells.specs.declared.containers_and_cells.Cell.{Cell}
+use Rattle.law_model.specs.Common.{Container, Cell}
 use Rattle.member_path.specs.cell_numbers.Numbers.{Numbers, NumbersStand}
 use Rattle.member_path.proofs.CellNumbersLaws.NumberLaws.{passed-decided}
 use Rattle.law_line.proofs.OctetLaws.{octets_stay}

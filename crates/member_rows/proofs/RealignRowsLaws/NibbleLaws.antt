@@ -1,14 +1,10 @@
 -- The nibbles of a packet, one number later.
 use Rattle.std.proofs.Common.{◌≡◌, ℕ, zero, suc, ◌+◌, ◌-◌, ◌*◌, ◌/◌, ◌%◌, ◌<◌, ◌≤◌, ◌==◌, nat_lt, inl, inr, Bool, true}
 use Rattle.std.proofs.Common.{false, if◌then◌else◌, List, [], ◌∷◌, ◌++◌, length, take, slice_set, Option, Some, None}
-use Rattle.std.proofs.Common.{refl, sym, ◌∙◌, ap, subst, arith}
-use Rattle.std.specs.Prelude.{◌||◌}
-use Rattle.std.proofs.lemmas.Bool.{ne_eqb, cases_Bool, ltb-true, ltb-false}
-use Rattle.std.proofs.lemmas.List.{take_all}
-use Rattle.std.proofs.Math.Seq.{take-suc-set}
-use Rattle.member_cells.specs.declared.containers_and_cells.Cell.{Cell}
-use Rattle.law_model.specs.members.Number.{verdict}
-use Rattle.law_model.specs.packets.MemberPacket.{upper_of, with_last, uppers}
+use Rattle.std.proofs.Common.{refl, sym, ◌∙◌, ap, subst, arith, ◌||◌, ne_eqb, ltb-true, ltb-false, take_all}
+use Rattle.std.proofs.Common.{take-suc-set}
+use Rattle.std.proofs.lemmas.Bool.{cases_Bool}
+use Rattle.law_model.specs.Common.{Cell, verdict, upper_of, with_last, uppers}
 use Rattle.law_model.specs.rows.Rows.{packet_in}
 use Rattle.member_rows.specs.realign_rows.Begun.{HasNibbles, packet_at}
 

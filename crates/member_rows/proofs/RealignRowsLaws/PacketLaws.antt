@@ -1,14 +1,10 @@
 -- The packets that govern the next row, one cell or one row later.
 use Rattle.std.proofs.Common.{◌≡◌, ℕ, zero, suc, ◌+◌, ◌-◌, ◌*◌, ◌/◌, ◌%◌, ◌<◌, nat_lt, true, false, inl, inr, List, []}
 use Rattle.std.proofs.Common.{◌∷◌, ◌++◌, map, length, replicate, slice_get, Option, Some, None, refl, sym, ◌∙◌, ap, ap₂}
-use Rattle.std.proofs.Common.{arith}
-use Rattle.std.specs.Prelude.{IsSome}
-use Rattle.std.proofs.lemmas.Bool.{cases_Bool, ltb-true, ltb-false, lt-ltb, le-ltb}
-use Rattle.member_cells.specs.declared.containers_and_cells.Container.{Container}
-use Rattle.member_cells.specs.declared.containers_and_cells.Cell.{Cell}
+use Rattle.std.proofs.Common.{arith, IsSome, ltb-true, ltb-false, lt-ltb, le-ltb}
+use Rattle.std.proofs.lemmas.Bool.{cases_Bool}
+use Rattle.law_model.specs.Common.{Container, Cell, verdict, read_packet, read_packets, governing}
 use Rattle.law_model.specs.declared.control_packet.Packet.{Packet}
-use Rattle.law_model.specs.members.Number.{verdict}
-use Rattle.law_model.specs.rows.Rows.{read_packet, read_packets, governing}
 use Rattle.law_line.proofs.RowLaws.{packets_stay}
 use Rattle.member_rows.specs.realign_rows.Begun.{packet_at}
 use Rattle.member_rows.specs.realign_rows.Line.{Line}

@@ -2,8 +2,7 @@
 use Rattle.std.proofs.Common.{◌≡◌, ℕ, zero, suc, ◌+◌, ◌-◌, ◌*◌, ◌<◌, ◌≤◌, List, ◌++◌, length, slice_index, sym, ◌∙◌, ap}
 use Rattle.std.proofs.Common.{ap₂, arith}
 use Rattle.std.proofs.lemmas.List.{length-map}
-use Rattle.member_cells.specs.declared.containers_and_cells.Container.{Container}
-use Rattle.law_model.specs.rows.Interleave.{octets_from}
+use Rattle.law_model.specs.Common.{Container, octets_from}
 use Rattle.member_rows.specs.vcat_interleave.Square.{octet_at}
 use Rattle.member_rows.specs.vcat_interleave.Members.{payload_at, payloads_of}
 use Rattle.member_rows.proofs.VcatInterleaveLaws.RowLaws.{is-octets_from, octets_from-add}

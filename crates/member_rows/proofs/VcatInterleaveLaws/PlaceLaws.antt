@@ -1,9 +1,7 @@
 -- Octets that are put at a place, and the places of squares in a row.
 use Rattle.std.proofs.Common.{◌≡◌, ℕ, ◌+◌, ◌-◌, ◌*◌, ◌<◌, ◌≤◌, ◌⊎◌, inl, inr, min, List, ◌++◌, length, take, drop}
-use Rattle.std.proofs.Common.{slice_index, refl, sym, ap, ◌∙◌, arith, length-take}
-use Rattle.std.proofs.Math.Seq.{take-append-add}
-use Rattle.std.proofs.lemmas.List.{length-take-le, take-append-le, get_or_append_left, get_or-append_right, get_or-take}
-use Rattle.std.proofs.lemmas.List.{get_or-drop}
+use Rattle.std.proofs.Common.{slice_index, refl, ap, ◌∙◌, arith, length-take, get_or-take, get_or-drop}
+use Rattle.std.proofs.lemmas.List.{get_or_append_left, get_or-append_right}
 use Rattle.std.proofs.lemmas.Bool.{cases_order}
 use Rattle.std.proofs.lemmas.Nat.{mul-le}
 
@@ -72,11 +70,3 @@ pub done-within : (done squares k x : ℕ) → done ≡ k * 16 → k < squares �
 done-within done squares k x is more =
     let most : (k + 1) * 16 ≤ squares * 16 = omega arith in
     omega (arith, mul-le ((k + 1) * 16) x (squares * 16) x most (omega arith), ap (λ n. n * x) is)
-
--- what stands in the front of a row and in the front of what is put behind it
-pub take-behind : (a m : ℕ) (row octets rest : List ℕ) → a ≤ length row → m ≤ length octets →
-    take (a + m) (take a row ++ (octets ++ rest)) ≡ take a row ++ take m octets
-take-behind a m row octets rest within fits =
-    ap (λ n. take (n + m) (take a row ++ (octets ++ rest))) (sym (length-take-le a row within))
-    ∙ take-append-add (take a row) (octets ++ rest) m
-    ∙ ap (λ l. take a row ++ l) (take-append-le m octets rest fits)

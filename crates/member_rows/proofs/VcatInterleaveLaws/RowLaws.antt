@@ -1,16 +1,16 @@
 -- Rows and their parts, octet by octet.
 use Rattle.std.proofs.Common.{◌≡◌, ◌≢◌, ℕ, zero, suc, ◌+◌, ◌-◌, ◌*◌, ◌/◌, ◌%◌, ◌<◌, ◌≤◌, inl, inr, min, List, [], ◌∷◌}
 use Rattle.std.proofs.Common.{◌++◌, length, take, drop, slice_index, slice_index_or, refl, sym, ◌∙◌, ap, ap₂, arith}
-use Rattle.std.proofs.Common.{length-append, length-take, append_assoc}
-use Rattle.std.specs.Prelude.{Contains, All}
+use Rattle.std.proofs.Common.{length-append, length-take, append_assoc, Contains, All, get_or-drop, get_or-take}
+use Rattle.std.proofs.Common.{drop-drop, div-add-mod'}
 use Rattle.std.specs.List.{range_with_len}
-use Rattle.std.proofs.lemmas.List.{get_or-map, get_or-drop, get_or-take, get_or_append_left, get_or-append_right}
-use Rattle.std.proofs.lemmas.List.{drop-drop, length-map}
+use Rattle.std.proofs.lemmas.List.{get_or-map, get_or_append_left, get_or-append_right, length-map}
 use Rattle.std.proofs.lemmas.List.FromFn.{get_or-map-range_with_len, length-range_with_len}
 use Rattle.std.proofs.lemmas.Bool.{cases_eq}
 use Rattle.std.proofs.lemmas.Grind.{same_number_lists}
-use Rattle.std.proofs.lemmas.Nat.{mul-le, mod-mul-add, div-mul-add, div_below, div-add-mod'}
-use Rattle.law_model.specs.rows.Interleave.{part_of, parts_of, octets_at, octets_from, row_of}
+use Rattle.std.proofs.lemmas.Nat.{mul-le, mod-mul-add, div-mul-add, div_below}
+use Rattle.law_model.specs.rows.Interleave.{row_of}
+use Rattle.law_model.specs.Common.{part_of, parts_of, octets_at, octets_from}
 use Rattle.member_rows.specs.vcat_interleave.Square.{octet_at}
 use Rattle.member_rows.specs.vcat_interleave.Gathered.{GathersAll}
 

@@ -1,14 +1,13 @@
 -- Octets put into payloads one after the other, and rows spread over members step by step.
-use Rattle.std.proofs.Common.{◌≡◌, ◌≢◌, ℕ, suc, ◌+◌, ◌*◌, ◌<◌, ◌≤◌, inl, inr, min, List, [], ◌++◌, length, take, drop}
+use Rattle.std.proofs.Common.{◌≡◌, ◌≢◌, ℕ, suc, ◌+◌, ◌*◌, ◌<◌, ◌≤◌, inl, inr, List, [], ◌++◌, length, take, drop}
 use Rattle.std.proofs.Common.{slice_index, slice_index_or, slice_set, refl, sym, ◌∙◌, ap, ap₂, subst, arith}
 use Rattle.std.proofs.Common.{append_assoc, length-append, length-take, get_or-set_other, get_or-set_same, length-set}
 use Rattle.std.specs.Global.{Box}
 use Rattle.std.specs.Box.{with_value}
 use Rattle.std.proofs.lemmas.Bool.{cases_eq, cases_lt}
 use Rattle.std.proofs.lemmas.List.{get_or-map, map-set, length-map, take_at, drop_at, take_all, drop_all, drop-drop}
-use Rattle.std.proofs.lemmas.List.{append-nil, take-append-drop}
-use Rattle.member_cells.specs.declared.containers_and_cells.Container.{Container}
-use Rattle.law_model.specs.rows.Interleave.{part_of}
+use Rattle.std.proofs.lemmas.List.{append-nil, take-append-drop, length-take-le}
+use Rattle.law_model.specs.Common.{Container, part_of}
 use Rattle.member_cells.specs.Held.{held}
 use Rattle.member_rows.specs.vcat_interleave.Members.{with_octets, AreLines}
 use Rattle.member_rows.specs.vcat_interleave.Spread.{SpreadsOver, AreDistinct}
@@ -16,10 +15,6 @@ use Rattle.member_rows.proofs.VcatInterleaveLaws.PlaceLaws.{put_at}
 use Rattle.member_rows.proofs.VcatInterleaveLaws.RowLaws.{part_of-add, length-part_of}
 
 -- ---- octets put at a place
-front-size : (place : ℕ) (payload : List ℕ) → place ≤ length payload → length (take place payload) ≡ place
-front-size place payload within = length-take place payload
-    ∙ (let e : min place (length payload) ≡ place = omega arith in e)
-
 -- what is put stands from its place on
 drop-put : (place : ℕ) (octets payload : List ℕ) (n : ℕ) → place ≤ length payload →
     drop (place + (length octets + n)) (put_at place octets payload) ≡ drop (place + (length octets + n)) payload
@@ -27,7 +22,7 @@ drop-put place octets payload n within =
     let back : List ℕ = drop (place + length octets) payload in
     sym (drop-drop (length octets + n) place (put_at place octets payload))
     ∙ ap (drop (length octets + n))
-    (drop_at (take place payload) (octets ++ back) place (front-size place payload within))
+    (drop_at (take place payload) (octets ++ back) place (length-take-le place payload within))
     ∙ sym (drop-drop n (length octets) (octets ++ back))
     ∙ ap (drop n) (drop_at octets back (length octets) refl)
     ∙ drop-drop n (place + length octets) payload
@@ -40,7 +35,7 @@ more-within place xs ys payload within =
     let front : List ℕ = take place payload in
     let rest : List ℕ = drop (place + (length xs + length ys)) payload in
     let size : length (front ++ xs) ≡ place + length xs =
-    omega (arith, length-append front xs, front-size place payload within) in
+    omega (arith, length-append front xs, length-take-le place payload within) in
     ap₂ (λ a b. a ++ (ys ++ b))
     (ap (take (place + length xs)) (sym (append_assoc front xs (drop (place + length xs) payload)))
     ∙ take_at (front ++ xs) (drop (place + length xs) payload) (place + length xs) size)

@@ -1,10 +1,8 @@
 -- The nibbles of a packet of a line that has begun.
 use Rattle.std.specs.Prelude.{◌≡◌, ℕ, ◌+◌, ◌-◌, ◌*◌, ◌/◌, ◌<◌, ◌≤◌, nat_lt, Bool, false, List, take, Option, Some, None}
 use Rattle.std.specs.Prelude.{if◌then◌else◌}
-use Rattle.member_cells.specs.declared.containers_and_cells.Cell.{Cell}
+use Rattle.law_model.specs.Common.{Cell, uppers, read_packet}
 use Rattle.law_model.specs.declared.control_packet.Packet.{Packet}
-use Rattle.law_model.specs.packets.MemberPacket.{uppers}
-use Rattle.law_model.specs.rows.Rows.{read_packet}
 
 -- the nibbles so far, and whether the numbers so far are all whole
 pub record Begun : Type 0 where

@@ -1,10 +1,8 @@
 -- What is kept of all lines of a group.
 use Rattle.std.specs.Prelude.{◌≡◌, ℕ, zero, suc, ◌<◌, nat_lt, if◌then◌else◌, List, [], ◌∷◌, ◌++◌, length, slice_get}
 use Rattle.std.specs.Prelude.{Option, Some, None}
-use Rattle.member_cells.specs.declared.containers_and_cells.Container.{Container}
-use Rattle.member_cells.specs.declared.containers_and_cells.Cell.{Cell}
+use Rattle.law_model.specs.Common.{Container, Cell, governing}
 use Rattle.law_model.specs.declared.control_packet.Packet.{Packet}
-use Rattle.law_model.specs.rows.Rows.{governing}
 use Rattle.member_path.specs.cell_numbers.Numbers.{IsOpen, is_open}
 use Rattle.member_rows.specs.declared.realign_rows.RowAnswer.{RowAnswer}
 use Rattle.member_rows.specs.declared.realign_rows.RowAnswer.TheVariants.{Row, Waiting}

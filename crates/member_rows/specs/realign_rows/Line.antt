@@ -1,7 +1,6 @@
 -- What is kept of one line.
 use Rattle.std.specs.Prelude.{ℕ, List}
-use Rattle.member_cells.specs.declared.containers_and_cells.Container.{Container}
-use Rattle.member_cells.specs.declared.containers_and_cells.Cell.{Cell}
+use Rattle.law_model.specs.Common.{Container, Cell}
 use Rattle.member_path.specs.cell_numbers.Numbers.{Numbers, NumbersStand}
 use Rattle.member_rows.specs.realign_rows.Begun.{Begun, HasNibbles}
 

@@ -1,7 +1,6 @@
 -- What is done for one line after the other.
 use Rattle.std.specs.Prelude.{◌≡◌, ℕ, ◌+◌, ◌%◌, ◌<◌, ◌≤◌, List, [], length, slice_get, Option, Some}
-use Rattle.member_cells.specs.declared.containers_and_cells.Container.{Container}
-use Rattle.member_cells.specs.declared.containers_and_cells.Cell.{Cell}
+use Rattle.law_model.specs.Common.{Container, Cell}
 use Rattle.law_model.specs.declared.control_packet.Packet.{Packet}
 use Rattle.member_path.specs.cell_numbers.Numbers.{IsOpen}
 use Rattle.member_rows.specs.realign_rows.Begun.{packet_at}

@@ -1,6 +1,6 @@
 -- What gathering the members of a row one by one leaves.
 use Rattle.std.specs.Prelude.{◌≡◌, ◌≢◌, ℕ, ◌+◌, ◌*◌, ◌%◌, ◌<◌, List, [], ◌∷◌, length, slice_index}
-use Rattle.law_model.specs.rows.Interleave.{part_of}
+use Rattle.law_model.specs.Common.{part_of}
 
 -- a part is gathered into a row: it stands at the places of its rank, and all others stay
 pub record Gathers (rank x places : ℕ) (part before after : List ℕ) : Type 0 where

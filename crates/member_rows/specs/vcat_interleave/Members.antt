@@ -1,7 +1,7 @@
 -- The payloads of the members of a group, where the lines hold one container each.
 use Rattle.std.specs.Prelude.{ℕ, ◌+◌, ◌<◌, List, [], ◌++◌, map, length, take, drop, slice_get, slice_index, Option}
 use Rattle.std.specs.Prelude.{Some, None}
-use Rattle.member_cells.specs.declared.containers_and_cells.Container.{Container}
+use Rattle.law_model.specs.Common.{Container}
 
 abbrev pub payload_or : Option Container → List ℕ
 payload_or (Some container) = container.payload

@@ -1,7 +1,6 @@
 -- What spreading a row over the members of a group leaves.
 use Rattle.std.specs.Prelude.{◌≡◌, ◌≢◌, ℕ, ◌<◌, ◌≤◌, List, length, slice_index, slice_index_or}
-use Rattle.member_cells.specs.declared.containers_and_cells.Container.{Container}
-use Rattle.law_model.specs.rows.Interleave.{part_of}
+use Rattle.law_model.specs.Common.{Container, part_of}
 use Rattle.member_rows.specs.vcat_interleave.Members.{with_octets}
 
 -- a row is spread over the members of the ranks from one on and below another: each of them has its part at these

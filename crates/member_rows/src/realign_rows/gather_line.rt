@@ -1,10 +1,7 @@
 //! One line of a group.
 
 ghost use Rattle.std.specs.Prelude.{◌≡◌, ℕ, ◌+◌, ◌%◌, ◌<◌, List, [], ◌∷◌, ◌++◌, Some, IfSome};
-ghost use Rattle.member_cells.specs.declared.containers_and_cells.Container.{Container};
-ghost use Rattle.member_cells.specs.declared.containers_and_cells.Cell.{Cell};
-ghost use Rattle.law_model.specs.members.Number.{verdict};
-ghost use Rattle.law_model.specs.packets.MemberPacket.{upper_of};
+ghost use Rattle.law_model.specs.Common.{Container, Cell, verdict, upper_of};
 ghost use Rattle.member_path.specs.cell_numbers.Told.{cell_with, told_by};
 ghost use Rattle.member_path.specs.cell_numbers.Numbers.{IsOpen, is_open};
 ghost use Rattle.member_rows.specs.realign_rows.Begun.{packet_at};
@@ -12,8 +9,8 @@ ghost use Rattle.member_rows.specs.realign_rows.Line.{LineStands};
 
 use crate::lcas_packet::Packet;
 use crate::realign_rows::packet_nibbles::PacketNibbles;
-use member_cells::{Container, HeldContainer};
 use check_nibbles::nibble_hi;
+use member_cells::{Container, HeldContainer};
 use member_path::cell_numbers::{CellSign, LineNumbers, Verdict};
 use std::marker::Model;
 

@@ -2,9 +2,9 @@
 //! lines carry (G.707, G.7042). A row comes exactly if each line decides it, and else the least line is told
 //! that doesn't. Whether a row is whole, and what it gives, is not said here. Begin with `RowGather`.
 
-mod row_gather;
 mod gather_line;
 mod packet_nibbles;
+mod row_gather;
 
 pub use row_gather::RowGather;
 

@@ -1,9 +1,7 @@
 //! The nibbles of a control packet of a line, number by number.
 
 ghost use Rattle.std.specs.Prelude.{◌≡◌, ◌==◌, ◌||◌, ℕ, ◌+◌, ◌%◌, ◌<◌, List, IfSome};
-ghost use Rattle.member_cells.specs.declared.containers_and_cells.Cell.{Cell};
-ghost use Rattle.law_model.specs.members.Number.{verdict};
-ghost use Rattle.law_model.specs.packets.MemberPacket.{upper_of};
+ghost use Rattle.law_model.specs.Common.{Cell, verdict, upper_of};
 ghost use Rattle.member_rows.specs.realign_rows.Begun.{HasNibbles, packet_at};
 
 use crate::lcas_packet::{Packet, read};
@@ -21,7 +19,7 @@ pub(super) struct PacketNibbles {
 }
 
 impl Model for PacketNibbles {
-    ghost use Rattle.std.specs.Prelude.{◌≡◌, ◌<◌, length, All};
+    ghost use Rattle.std.specs.Prelude.{◌≡◌, ◌<◌, All};
     ghost use Rattle.member_rows.specs.realign_rows.Begun.{Begun};
 
     ghost Value = { Begun };

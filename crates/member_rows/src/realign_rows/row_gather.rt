@@ -2,11 +2,8 @@
 
 ghost use Rattle.std.specs.Prelude.{◌≡◌, ℕ, ◌+◌, ◌%◌, ◌<◌, ◌≤◌, List, [], length, replicate, slice_get, slice_set};
 ghost use Rattle.std.specs.Prelude.{Some, None, IfOk};
-ghost use Rattle.member_cells.specs.declared.containers_and_cells.Container.{Container};
-ghost use Rattle.member_cells.specs.declared.containers_and_cells.Cell.{Cell};
+ghost use Rattle.law_model.specs.Common.{Container, Cell, verdict, governing, first_open};
 ghost use Rattle.member_cells.specs.Held.{held};
-ghost use Rattle.law_model.specs.members.Number.{verdict};
-ghost use Rattle.law_model.specs.rows.Rows.{governing, first_open};
 ghost use Rattle.member_path.specs.cell_numbers.Told.{cell_with, told_by};
 ghost use Rattle.member_path.specs.cell_numbers.Numbers.{IsOpen};
 ghost use Rattle.member_rows.specs.realign_rows.Line.{Line};

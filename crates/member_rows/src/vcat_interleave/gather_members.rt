@@ -2,10 +2,9 @@
 ghost use Rattle.std.specs.Prelude.{◌≡◌, ◌≢◌, ℕ, [], ◌+◌, ◌*◌, ◌%◌, ◌<◌, ◌≤◌, ◌⊎◌, length, take, slice_index};
 ghost use Rattle.std.specs.Prelude.{slice_index_or};
 ghost use Rattle.member_cells.specs.Held.{held};
-ghost use Rattle.law_model.specs.rows.Interleave.{octets_from};
+ghost use Rattle.law_model.specs.Common.{octets_from, vc4_size};
 ghost use Rattle.member_rows.specs.vcat_interleave.Square.{octet_at};
 ghost use Rattle.member_rows.specs.vcat_interleave.Members.{payloads_of, AreLines};
-ghost use Rattle.law_model.specs.Limits.{vc4_size};
 
 use crate::vcat_interleave::octets_of_member::{put_pairs, put_rank};
 use crate::vcat_interleave::transpose_square::{

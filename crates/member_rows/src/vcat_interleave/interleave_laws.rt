@@ -1,7 +1,8 @@
 //! What the definitions of rows and parts mean, and that gathering undoes spreading.
 ghost use Rattle.std.specs.Prelude.{◌≡◌, ℕ, ◌+◌, ◌*◌, ◌/◌, ◌%◌, ◌<◌, ◌≤◌, List, [], ◌++◌, length, take, slice_index};
 ghost use Rattle.std.specs.Prelude.{slice_index_or, Contains, All};
-ghost use Rattle.law_model.specs.rows.Interleave.{part_of, parts_of, octets_from, row_of};
+ghost use Rattle.law_model.specs.rows.Interleave.{row_of};
+ghost use Rattle.law_model.specs.Common.{part_of, parts_of, octets_from};
 ghost use Rattle.member_rows.specs.vcat_interleave.Gathered.{GathersAll};
 
 /// Octet `i` of a row goes to the member of rank `i mod x`, place `i div x`. The row of the parts of a row is

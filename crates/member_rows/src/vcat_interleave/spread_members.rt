@@ -1,14 +1,12 @@
 //! A row is spread over the members of a group.
 ghost use Rattle.std.specs.Prelude.{◌≡◌, ◌≢◌, ℕ, ◌+◌, ◌-◌, ◌*◌, ◌/◌, ◌<◌, ◌≤◌, ◌++◌, length, take, drop};
 ghost use Rattle.std.specs.Prelude.{true, replicate, slice_index, slice_index_or, slice_set};
-ghost use Rattle.member_cells.specs.declared.containers_and_cells.Container.{Container};
-ghost use Rattle.law_model.specs.rows.Interleave.{part_of};
+ghost use Rattle.law_model.specs.Common.{Container, part_of, vc4_size};
 ghost use Rattle.member_rows.specs.vcat_interleave.Again.{ComesAgain};
 ghost use Rattle.member_rows.specs.vcat_interleave.Square.{octet_at, overhang};
 ghost use Rattle.member_cells.specs.Held.{held};
 ghost use Rattle.member_rows.specs.vcat_interleave.Members.{AreLines, with_octets};
 ghost use Rattle.member_rows.specs.vcat_interleave.Spread.{SpreadsOver, Spreads, AreDistinct};
-ghost use Rattle.law_model.specs.Limits.{vc4_size};
 
 use crate::vcat_interleave::octets_of_member::{comes_again, take_part, take_rank};
 use crate::vcat_interleave::transpose_square::{SIDE, octets_of, put_octets, squares_over, turned};

@@ -1,36 +1,27 @@
 -- A row is taken packet by packet, and what is told of it.
-use Rattle.std.proofs.Common.{◌≡◌, ℕ, zero, suc, ◌+◌, ◌-◌, ◌*◌, ◌^◌, ◌%◌, ◌<◌, ◌≤◌, ◌==◌, nat_lt, not, Bool, true}
-use Rattle.std.proofs.Common.{false, if◌then◌else◌, List, [], ◌∷◌, ◌++◌, map, fold, take, length, replicate, None}
-use Rattle.std.proofs.Common.{slice_index_or, slice_set, refl, sym, ◌∙◌, ap, ap₂, pow-suc, arith}
+use Rattle.std.proofs.Common.{◌≡◌, ℕ, suc, ◌+◌, ◌-◌, ◌*◌, ◌^◌, ◌%◌, ◌<◌, ◌≤◌, ◌==◌, nat_lt, not, Bool, true, false}
+use Rattle.std.proofs.Common.{if◌then◌else◌, List, [], ◌∷◌, ◌++◌, map, take, length, None, slice_index_or, slice_set}
+use Rattle.std.proofs.Common.{refl, sym, ◌∙◌, ap, ap₂, pow-suc, arith, take_all, length-append, get_or-set_same}
+use Rattle.std.proofs.Common.{get_or-set_other, lt-ltb, le-ltb, eq-eqb}
 use Rattle.std.specs.List.{range_with_len}
 use Rattle.std.proofs.Math.Seq.{get_or-append_seam}
 use Rattle.std.proofs.lemmas.Bool.Decides.{nat_tests}
-use Rattle.std.proofs.lemmas.List.{take_all, take-append-le, get_or_append_left, length-append, get_or-set_same}
-use Rattle.std.proofs.lemmas.List.{get_or-set_other}
-use Rattle.check_remainder.specs.Bits.{number_behind}
-use Rattle.member_cells.specs.declared.control_word.Ctrl.TheVariants.{Idle as idle_word}
+use Rattle.std.proofs.lemmas.List.{take-append-le, get_or_append_left}
+use Rattle.std.proofs.lemmas.List.Sums.{fold-append}
+use Rattle.law_model.specs.Common.{number_behind, Row, leader, ack_by, ack_of, status_of, mst_of, return_of, state_next}
 use Rattle.law_model.specs.declared.control_packet.Packet.{Packet}
 use Rattle.law_model.specs.declared.lcas_states.SinkState.{SinkState}
+use Rattle.member_cells.specs.declared.control_word.Ctrl.TheVariants.{Idle as idle_word}
 use Rattle.law_model.specs.declared.lcas_states.SinkState.TheVariants.{Idle}
-use Rattle.law_model.specs.packets.ReturnPacket.{Row, leader, ack_by, ack_of, status_of, mst_of, return_of, state_next}
 use Rattle.terminal_sink.specs.lcas_sink.SinkStates.{state_at, state_upto}
 
 -- ---- the states
-test-true : (a b : ℕ) → a < b → nat_lt a b ≡ true
-test-true a b h = grind (arith, nat_tests)
-
-test-false : (a b : ℕ) → b ≤ a → nat_lt a b ≡ false
-test-false a b h = grind (arith, nat_tests)
-
-same-test : (a b : ℕ) → a ≡ b → (a == b) ≡ true
-same-test a b e = grind (arith, nat_tests, e)
-
 -- a test of numbers where it turns
 test-step : (line i : ℕ) → (line ≡ i → ⊥) → nat_lt line i ≡ nat_lt line (i + 1)
 test-step line i other =
     elim (nat_lt line i) as (λ b. nat_lt line i ≡ b → b ≡ nat_lt line (i + 1)) [
-      | true ↦ λ e. let h : line < i = grind (arith, nat_tests, e) in sym (test-true line (i + 1) (omega arith))
-      | false ↦ λ e. let h : i ≤ line = grind (arith, nat_tests, e) in sym (test-false line (i + 1) (omega arith))
+      | true ↦ λ e. let h : line < i = grind (arith, nat_tests, e) in sym (lt-ltb line (i + 1) (omega arith))
+      | false ↦ λ e. let h : i ≤ line = grind (arith, nat_tests, e) in sym (le-ltb line (i + 1) (omega arith))
     ] refl
 
 pub upto-more : (states old : List SinkState) (row : Row) (i : ℕ) (next seen : SinkState) → i < length states →
@@ -52,25 +43,20 @@ upto-more states old row i next seen inside is_seen is_next so_far line =
           state_at (slice_set states i next) line ≡ state_upto (i + 1) old row line) [
             | true ↦ λ same_test.
                 let same : line ≡ i = grind (arith, nat_tests, same_test) in
-                let here = test-true i (i + 1) (omega arith) in
-                let before = test-false i i (omega arith) in
+                let here = lt-ltb i (i + 1) (omega arith) in
+                let before = le-ltb i i (omega arith) in
                 rw (same, here) (get_or-set_same states i next Idle inside ∙ is_next
                 ∙ ap (λ state. state_next state (slice_index_or row i None)) (is_seen ∙ so_far i
                 ∙ ap (λ b. if b then state_next (state_at old i) (slice_index_or row i None) else state_at old i)
                 before))
             | false ↦ λ other_test.
                 let other : line ≡ i → ⊥ = λ same. absurd
-                (let f : true ≡ false = sym (same-test line i same) ∙ other_test in cc) in
+                (let f : true ≡ false = sym (eq-eqb line i same) ∙ other_test in cc) in
                 get_or-set_other states i line next Idle other ∙ so_far line
                 ∙ ap (λ b. if b then state_next (state_at old line) (slice_index_or row line None) else state_at old
                 line) (test-step line i other)
           ] refl
     ] refl
-
-pub replicate-at : {X : Type 0} (n : ℕ) (x : X) (k : ℕ) → slice_index_or (replicate n x) k x ≡ x
-replicate-at zero x k = refl
-replicate-at (suc n) x zero = refl
-replicate-at (suc n) x (suc k) = replicate-at n x k
 
 -- ---- member status
 pub status-first : (row : Row) (first : ℕ) →
@@ -123,11 +109,6 @@ status-last row first place n all value =
     (map (λ sq. not (status_of row sq)) (range_with_len (first + place) count))) (sym none) ∙ value
 
 -- ---- one more row
-fold-append : {A B : Type 0} (f : B → A → B) (start : B) (xs ys : List A) →
-    fold f start (xs ++ ys) ≡ fold f (fold f start xs) ys
-fold-append f start [] ys = refl
-fold-append f start (x ∷ xs) ys = fold-append f (f start x) xs ys
-
 ack-more : (rows : List Row) (row : Row) → ack_of (rows ++ row ∷ []) ≡ ack_by (ack_of rows) (leader row)
 ack-more rows row = fold-append (λ ack row. ack_by ack (leader row)) false rows (row ∷ [])
 

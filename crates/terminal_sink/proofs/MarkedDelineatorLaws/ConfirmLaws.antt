@@ -1,18 +1,15 @@
 -- The place that is confirmed first is the one at which the state SYNC begins: four octets before.
 use Rattle.std.proofs.Common.{◌≡◌, ℕ, zero, suc, ◌+◌, ◌-◌, ◌≤◌, Bool, true, false, List, [], ◌∷◌, ◌++◌, length, take}
 use Rattle.std.proofs.Common.{drop, Option, Some, None, refl, sym, ◌∙◌, ap, subst, arith, inl, inr, length-append}
-use Rattle.std.proofs.Common.{length-drop, length-take}
-use Rattle.std.specs.Prelude.{IfSome}
-use Rattle.std.proofs.lemmas.Bool.{le-leb, lt-leb, cases_lt}
-use Rattle.std.proofs.lemmas.List.{append-nil, take_at, take_all, take-take}
-use Rattle.law_model.specs.frames.Core.{head}
-use Rattle.law_model.specs.frames.Hunt.{Confirmed, header_with, header_at, confirm_by, confirm_with, hunt_by, hunt_within}
-use Rattle.law_model.specs.frames.Hunt.{hunt}
-use Rattle.law_model.specs.frames.Run.{Followed, Run, Delineated, follow_with, run_then, delineate_with, is_sync}
+use Rattle.std.proofs.Common.{length-drop, length-take, IfSome, le-leb, append-nil, take_at, take_all, take-take}
+use Rattle.std.proofs.lemmas.Bool.{lt-leb, cases_lt}
+use Rattle.law_model.proofs.ListLaws.{drop-part}
+use Rattle.law_model.specs.Common.{head, Confirmed, header_with, header_at, confirm_by, confirm_with, hunt_by}
+use Rattle.law_model.specs.Common.{hunt_within, hunt, Followed, Run, Delineated, follow_with, run_then, delineate_with}
+use Rattle.law_model.specs.Common.{is_sync}
 use Rattle.gfp_delineate.proofs.HuntLaws.{viewed}
 use Rattle.gfp_delineate.proofs.RunLaws.{follow-few, follow-part, follow-whole, delineate_from, delineate-open}
 use Rattle.law_loss.proofs.OutcomeGrowth.{FollowsIn, hunt_within-longer}
-use Rattle.law_loss.proofs.FoundLaws.{drop-part}
 
 -- ---- what is found
 -- from a place on, within these octets, and there a header stands

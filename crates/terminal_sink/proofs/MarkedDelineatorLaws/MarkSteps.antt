@@ -1,11 +1,8 @@
 -- Marks with more octets.
 use Rattle.std.proofs.Common.{◌≡◌, ℕ, ◌-◌, ◌^◌, ◌⊎◌, zero, suc, inl, inr, take, nat_lt, Bool, true, false, List, []}
 use Rattle.std.proofs.Common.{◌∷◌, ◌++◌, length, Option, Some, None, refl, sym, ◌∙◌, ap, subst, arith, length-append}
-use Rattle.std.specs.Option.{option_map}
-use Rattle.std.proofs.lemmas.Bool.{lt-ltb}
-use Rattle.std.proofs.lemmas.List.{append-nil}
-use Rattle.law_model.specs.frames.Hunt.{Confirmed, hunt, hunt_within}
-use Rattle.law_model.specs.frames.Run.{is_sync}
+use Rattle.std.proofs.Common.{option_map, lt-ltb, append-nil}
+use Rattle.law_model.specs.Common.{Confirmed, hunt, hunt_within, is_sync}
 use Rattle.law_loss.proofs.OutcomeGrowth.{FollowsIn, hunt_within-longer}
 use Rattle.terminal_sink.specs.declared.marked_delineator.Mark.{Mark}
 use Rattle.terminal_sink.specs.declared.marked_delineator.Mark.TheVariants.{Hunting, Confirms}

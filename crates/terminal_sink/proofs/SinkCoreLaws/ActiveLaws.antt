@@ -5,8 +5,8 @@ use Rattle.std.proofs.Common.{inl, inr, append_assoc}
 use Rattle.std.proofs.lemmas.Bool.{cases_Bool}
 use Rattle.std.proofs.lemmas.Bool.Decides.{nat_tests}
 use Rattle.std.proofs.lemmas.List.{append-nil, length-append, nil_from_length, drop_more}
+use Rattle.law_model.specs.Common.{is_carrying, has, lines_at, active_from, active_of}
 use Rattle.law_model.specs.declared.control_packet.Packet.{Packet}
-use Rattle.law_model.specs.rows.Rows.{is_carrying, has, lines_at, active_from, active_of}
 use Rattle.member_rows.specs.vcat_interleave.Members.{AreLines}
 use Rattle.terminal_sink.specs.sink_core.Active.{carries, carrying}
 

@@ -7,11 +7,9 @@ use Rattle.std.specs.List.{position_from}
 use Rattle.std.proofs.lemmas.Bool.{cases_Bool, cases_lt}
 use Rattle.std.proofs.lemmas.Bool.Decides.{nat_tests}
 use Rattle.std.proofs.lemmas.List.FromFn.{map-range_with_len_more, length-map-range_with_len}
-use Rattle.member_cells.specs.declared.containers_and_cells.Cell.{Cell}
+use Rattle.law_model.specs.Common.{Cell, return_of, verdict, read_packets, governing, active_of, row_at, first_open}
+use Rattle.law_model.specs.Common.{return_at}
 use Rattle.law_model.specs.declared.control_packet.Packet.{Packet}
-use Rattle.law_model.specs.packets.ReturnPacket.{return_of}
-use Rattle.law_model.specs.members.Number.{verdict}
-use Rattle.law_model.specs.rows.Rows.{read_packets, governing, active_of, row_at, first_open, return_at}
 use Rattle.law_line.specs.StableRows.{AreDecidedAt}
 use Rattle.member_rows.proofs.RealignRowsLaws.PacketLaws.{governing-same}
 use Rattle.std.proofs.lemmas.List.{nil_from_length}

@@ -1,24 +1,20 @@
 -- Octets that a receiver gets one after the other, and the frames that they add.
-use Rattle.std.proofs.Common.{◌≡◌, ℕ, zero, suc, inl, inr, slice_index, ◌≤◌, ◌∷◌, ◌+◌, ◌-◌, arith, take-add, take_all}
-use Rattle.std.proofs.Common.{length-drop, Bool, List, [], ◌++◌, length, take, drop, refl, sym, ◌∙◌, ap, subst}
-use Rattle.std.proofs.Common.{append_assoc}
-use Rattle.std.specs.List.{flat_map}
+use Rattle.std.proofs.Common.{◌≡◌, ℕ, zero, suc, inl, inr, slice_index, ◌≤◌, ◌∷◌, ◌+◌, ◌-◌, arith, take_all, Bool, List}
+use Rattle.std.proofs.Common.{[], ◌++◌, length, take, drop, refl, sym, ◌∙◌, ap, subst, append_assoc, flat_map}
+use Rattle.std.proofs.Common.{append-nil, drop_at}
 use Rattle.std.proofs.lemmas.Bool.{cases_lt}
-use Rattle.std.proofs.lemmas.List.{append-nil, drop_at, drop_more}
-use Rattle.law_model.specs.rows.Interleave.{octets_from}
+use Rattle.std.proofs.lemmas.List.{drop_more}
+use Rattle.law_model.specs.Common.{octets_from, outcomes, longest_frame}
 use Rattle.std.proofs.lemmas.List.Concat.{flat_map-append}
-use Rattle.law_model.specs.frames.Outcome.{outcomes}
 use Rattle.law_model.specs.frames.Delivery.{frame_in}
 use Rattle.gfp_delineate.specs.declared.delineator.Step.{Step}
 use Rattle.gfp_delineate.specs.declared.delineator.Step.TheVariants.{Nothing}
-use Rattle.terminal_sink.specs.marked_delineator.Marks.{Marked as Receiver, StandsIn, told_outcomes}
+use Rattle.terminal_sink.specs.marked_delineator.Marks.{Marked as Receiver, StandsIn, told_outcomes, Advances, Brings}
 use Rattle.gfp_delineate.proofs.Frames.{told, frames_told}
 use Rattle.law_loss.specs.Added.{frames_in, next_frames}
 use Rattle.law_loss.proofs.SegmentLaws.{next-none, next-more}
 use Rattle.law_loss.proofs.GrowLaws.{adds}
-use Rattle.terminal_sink.specs.marked_delineator.Marks.{Advances, Brings}
 use Rattle.terminal_sink.specs.sink_core.Receives.{IsKnown, Grows, Gives, IsIdle}
-use Rattle.law_model.specs.Limits.{longest_frame}
 
 pub known-grows : (was now : Receiver) (more : List ℕ) → IsKnown was → Grows was now more → IsKnown now
 known-grows was now more (first, octets, stands) grows = (first, octets ++ more, grows first octets stands)
@@ -79,14 +75,6 @@ pub idle-gives : {A : Type 0} (stands : A → List (List ℕ) → Type 0) (recei
     IsIdle receiver more → Gives stands receiver more out out
 idle-gives stands receiver more out idle first octets has frames before =
     subst (stands out) (sym (append-nil frames) ∙ ap (λ l. frames ++ l) (sym (idle first octets has).1)) before
-
--- octets that follow a first part, of what is left after it
-pub take-further : (at n : ℕ) (piece : List ℕ) →
-    take (at + n) piece ≡ take at piece ++ take n (take (length piece - at) (drop at piece))
-take-further at n piece =
-    take-add at n piece
-    ∙ ap (λ l. take at piece ++ take n l)
-    (sym (take_all (length piece - at) (drop at piece) (let size = length-drop at piece in omega arith)))
 
 -- ---- the octets of one member
 pub octets_from-single : (place n : ℕ) (payload : List ℕ) → place + n ≤ length payload →

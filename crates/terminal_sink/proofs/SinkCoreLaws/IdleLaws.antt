@@ -1,12 +1,9 @@
 -- Idle frames that are dealt to members.
 use Rattle.std.proofs.Common.{◌≡◌, ℕ, zero, suc, ◌+◌, ◌-◌, ◌*◌, ◌/◌, ◌%◌, ◌<◌, List, [], ◌∷◌, ◌++◌, length, take, drop}
-use Rattle.std.proofs.Common.{slice_index, refl, sym, ◌∙◌, ap, ap₂, arith, length-append}
+use Rattle.std.proofs.Common.{slice_index, refl, sym, ◌∙◌, ap, ap₂, arith, length-append, div-add-mod'}
 use Rattle.std.proofs.lemmas.List.{get_or_append_left, get_or-append_right, get_or-map}
-use Rattle.std.proofs.lemmas.Nat.{div-add-mod'}
-use Rattle.law_model.specs.frames.Core.{core_header}
-use Rattle.law_model.specs.rows.Interleave.{octets_from}
+use Rattle.law_model.specs.Common.{core_header, octets_from, Container}
 use Rattle.law_model.proofs.IdleLaws.{idle_header, core_header-idle}
-use Rattle.member_cells.specs.declared.containers_and_cells.Container.{Container}
 use Rattle.member_rows.specs.vcat_interleave.Members.{payload_at, payloads_of}
 use Rattle.member_rows.proofs.VcatInterleaveLaws.MemberLaws.{is-row}
 use Rattle.member_rows.proofs.VcatInterleaveLaws.RowLaws.{within-row}

@@ -6,14 +6,12 @@ use Rattle.std.proofs.lemmas.Bool.{cases_Bool}
 use Rattle.std.proofs.lemmas.Bool.Decides.{nat_tests}
 use Rattle.std.proofs.lemmas.List.{append-nil}
 use Rattle.std.proofs.lemmas.Option.{slice_get_within}
-use Rattle.member_cells.specs.declared.containers_and_cells.Cell.{Cell}
-use Rattle.law_model.specs.members.Number.{verdict}
-use Rattle.law_model.specs.rows.Rows.{read_packets, governing, active_of, row_at}
-use Rattle.law_model.specs.frames.Segment.{StreamRow, deliver}
+use Rattle.law_model.specs.Common.{Cell, verdict, read_packets, governing, active_of, row_at, StreamRow, deliver}
+use Rattle.law_model.specs.Common.{longest_frame}
 use Rattle.law_line.specs.StableRows.{IsLonger, AreDecidedAt}
-use Rattle.law_line.proofs.ListLaws.{slice_get-inside, is-some}
+use Rattle.law_model.proofs.ListLaws.{slice_get-inside, is-some, map-same_range}
 use Rattle.law_line.proofs.StableLaws.{verdict-stays}
-use Rattle.law_line.proofs.RowLaws.{map-same, nones-stay, read-stays, rows_stay, returns_stay}
+use Rattle.law_line.proofs.RowLaws.{nones-stay, read-stays, rows_stay, returns_stay}
 use Rattle.law_loss.proofs.GrowLaws.{deliver-grows}
 use Rattle.terminal_sink.specs.lcas_sink.SinkStates as sink_table
 use Rattle.member_rows.specs.realign_rows.Gather.{with_cell}
@@ -21,7 +19,6 @@ use Rattle.terminal_sink.specs.sink_core.Given.{row_in, received_rows, given_fra
 use Rattle.terminal_sink.specs.sink_core.Receives.{Receives}
 use Rattle.terminal_sink.specs.sink_core.Core.{Core, SinkStands}
 use Rattle.terminal_sink.proofs.SinkCoreLaws.GivenLaws.{received-more}
-use Rattle.law_model.specs.Limits.{longest_frame}
 
 -- ---- more cells
 abbrev AreDecidedTo : List (List Cell) → ℕ → Type 0
@@ -30,13 +27,13 @@ AreDecidedTo cells taken = (t : ℕ) → t < taken → AreDecidedAt cells t
 received-stays : (size taken : ℕ) (cells longer : List (List Cell)) → IsLonger cells longer → AreDecidedTo cells taken →
     received_rows size longer taken ≡ received_rows size cells taken
 received-stays size taken cells longer more decided =
-    map-same (λ t. row_in (row_at size longer t)) (λ t. row_in (row_at size cells t)) 0 taken
+    map-same_range (λ t. row_in (row_at size longer t)) (λ t. row_in (row_at size cells t)) 0 taken
     (λ t low. ap row_in (rows_stay size cells longer t more (decided t (omega arith))))
 
 packets-stay : (taken : ℕ) (cells longer : List (List Cell)) → IsLonger cells longer → AreDecidedTo cells taken →
     read_rows longer (packet_rows taken) ≡ read_rows cells (packet_rows taken)
 packets-stay taken cells longer more decided =
-    map-same (read_packets longer) (read_packets cells) 0 (packet_rows taken)
+    map-same_range (read_packets longer) (read_packets cells) 0 (packet_rows taken)
     (λ k low. read-stays cells longer k more (decided (16 * k + 23) (omega arith)))
 
 -- what governs the row after those that are decided

@@ -1,17 +1,12 @@
 -- One row more, whole or not.
 use Rattle.std.proofs.Common.{◌≡◌, ℕ, ◌<◌, ◌≤◌, nat_lt, true, false, List, [], ◌∷◌, ◌++◌, Some, refl, sym, ◌∙◌, ap}
-use Rattle.std.proofs.Common.{subst, arith}
-use Rattle.std.specs.Prelude.{if◌then◌else◌}
+use Rattle.std.proofs.Common.{subst, arith, if◌then◌else◌, append-nil}
 use Rattle.std.proofs.lemmas.Bool.Decides.{nat_tests}
-use Rattle.std.proofs.lemmas.List.{append-nil}
-use Rattle.member_cells.specs.declared.containers_and_cells.Cell.{Cell}
-use Rattle.law_model.specs.rows.Rows.{governing, row_under, row_at}
-use Rattle.law_model.specs.frames.Segment.{StreamRow, Segments, segments_of}
+use Rattle.law_model.specs.Common.{Cell, governing, row_under, row_at, StreamRow, Segments, segments_of, longest_frame}
 use Rattle.terminal_sink.specs.marked_delineator.Marks.{Marked as Receiver, StandsIn}
 use Rattle.law_loss.specs.Added.{added, whole_row, lost_row}
 use Rattle.law_loss.proofs.SegmentLaws.{segments_of-push, added-whole, added-lost}
 use Rattle.terminal_sink.specs.sink_core.Receives.{Receives, Grows, Gives}
-use Rattle.law_model.specs.Limits.{longest_frame}
 
 pub receives-whole : (was now : Receiver) (come : List StreamRow) (octets : List ℕ) → Grows was now octets →
     Receives was come → Receives now (come ++ whole_row octets ∷ [])

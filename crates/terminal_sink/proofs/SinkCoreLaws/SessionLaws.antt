@@ -1,15 +1,9 @@
 -- The frames of rows whose whole ones are those of a session.
 use Rattle.std.proofs.Common.{◌≡◌, ℕ, zero, suc, ◌+◌, ◌≤◌, Bool, true, false, List, [], ◌∷◌, ◌++◌, length, Option, Some}
-use Rattle.std.proofs.Common.{None, refl, sym, ◌∙◌, ap, ap₂, subst, arith}
-use Rattle.std.specs.Prelude.{if◌then◌else◌}
-use Rattle.member_cells.specs.declared.containers_and_cells.Cell.{Cell}
-use Rattle.law_model.specs.session.Scenario.{Scenario}
-use Rattle.law_model.specs.source.Table.{Told}
-use Rattle.law_model.specs.rows.SessionRows.{is_whole_row}
-use Rattle.law_model.specs.frames.Payload.{payload_of}
-use Rattle.law_model.specs.rows.Rows.{row_at}
-use Rattle.law_model.specs.frames.Segment.{StreamRow, Segments, segments_of, deliver}
-use Rattle.law_model.specs.rows.SessionStream.{row_of, rows_of}
+use Rattle.std.proofs.Common.{None, refl, sym, ◌∙◌, ap, ap₂, subst, arith, if◌then◌else◌}
+use Rattle.law_model.specs.Common.{Cell, Scenario, Told, is_whole_row, payload_of, row_at, StreamRow, Segments}
+use Rattle.law_model.specs.Common.{segments_of, deliver, rows_of, longest_frame}
+use Rattle.law_model.specs.rows.SessionStream.{row_of}
 use Rattle.law_row.proofs.WholeLaws.{row-whole}
 use Rattle.law_row.proofs.DealtLaws.{row-payload}
 use Rattle.law_loss.specs.Added.{next_frames, whole_row, lost_row}
@@ -18,7 +12,6 @@ use Rattle.law_loss.proofs.GrowLaws.{adds}
 use Rattle.terminal_sink.specs.sink_core.Given.{row_in, received_rows, given_frames}
 use Rattle.terminal_sink.specs.sink_core.Session.{AreSessionRows, TellRows}
 use Rattle.terminal_sink.proofs.SinkCoreLaws.GivenLaws.{received-more}
-use Rattle.law_model.specs.Limits.{longest_frame}
 
 -- rows give the same frames, and so they do with more rows
 pub record Agree (some' other : List StreamRow) : Type 0 where

@@ -1,19 +1,13 @@
 -- Rows that are whole by their packets and the containers of their lines.
 use Rattle.std.proofs.Common.{◌≡◌, ℕ, ◌<◌, ◌==◌, ◌&&◌, Bool, false, List, [], ◌∷◌, map, length, slice_get, Option, Some}
-use Rattle.std.proofs.Common.{None, refl, sym, ◌∙◌, ap, ap₂, inl, inr}
-use Rattle.std.specs.Prelude.{is_some}
-use Rattle.std.specs.Option.{option_map}
+use Rattle.std.proofs.Common.{None, refl, sym, ◌∙◌, ap, ap₂, inl, inr, is_some, option_map}
 use Rattle.std.proofs.lemmas.Bool.{cases_Bool}
 use Rattle.std.proofs.lemmas.Option.{slice_get-map}
-use Rattle.member_cells.specs.declared.containers_and_cells.Container.{Container}
-use Rattle.member_cells.specs.declared.containers_and_cells.Cell.{Cell}
+use Rattle.law_model.specs.Common.{Container, Cell, leader, verdict, octets_from, active_of, container_in, container_on}
+use Rattle.law_model.specs.Common.{with_first, containers_at, carried_row, row_under}
 use Rattle.law_model.specs.declared.control_packet.Packet.{Packet}
-use Rattle.law_model.specs.packets.ReturnPacket.{leader}
-use Rattle.law_model.specs.members.Number.{verdict}
-use Rattle.law_model.specs.rows.Interleave.{octets_from}
-use Rattle.law_model.specs.rows.Rows.{active_of, container_in, container_on, with_first, containers_at, carried_row}
-use Rattle.law_model.specs.rows.Rows.{row_by, row_under}
-use Rattle.law_line.proofs.ListLaws.{slice_get-inside}
+use Rattle.law_model.specs.rows.Rows.{row_by}
+use Rattle.law_model.proofs.ListLaws.{slice_get-inside}
 use Rattle.member_rows.specs.vcat_interleave.Members.{payload_or, payloads_of}
 use Rattle.terminal_sink.specs.sink_core.Active.{act_of}
 use Rattle.terminal_sink.specs.sink_core.Members.{Hold, octets_if}

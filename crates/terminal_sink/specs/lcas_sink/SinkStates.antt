@@ -1,8 +1,8 @@
 -- What a sink's table knows after rows of packets.
 use Rattle.std.specs.Prelude.{◌≡◌, ℕ, Bool, List, length, nat_lt, if◌then◌else◌, None, slice_index_or}
+use Rattle.law_model.specs.Common.{Row, ack_of, state_next, sink_state}
 use Rattle.law_model.specs.declared.lcas_states.SinkState.{SinkState}
 use Rattle.law_model.specs.declared.lcas_states.SinkState.TheVariants.{Idle}
-use Rattle.law_model.specs.packets.ReturnPacket.{Row, ack_of, state_next, sink_state}
 
 -- how many lines there are; how many rows were taken; the change bit to acknowledge; the state of each line
 pub record Sink : Type 0 where

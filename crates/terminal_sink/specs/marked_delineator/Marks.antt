@@ -1,10 +1,8 @@
 -- The mark of a segment: how many of its octets have come while nothing is confirmed, or the place that was confirmed
 -- first.
 use Rattle.std.specs.Prelude.{◌≡◌, ℕ, ◌+◌, ◌-◌, ◌^◌, ◌<◌, nat_lt, if◌then◌else◌, Bool, true, false, List, ◌++◌, length}
-use Rattle.std.specs.Prelude.{Option, Some, None}
-use Rattle.std.specs.Option.{option_map}
-use Rattle.law_model.specs.frames.Hunt.{Confirmed, hunt}
-use Rattle.law_model.specs.frames.Outcome.{Outcome, outcomes}
+use Rattle.std.specs.Prelude.{Option, Some, None, option_map}
+use Rattle.law_model.specs.Common.{Confirmed, hunt, Outcome, outcomes}
 use Rattle.gfp_delineate.specs.declared.delineator.Step.{Step}
 use Rattle.gfp_delineate.specs.Receiver.{Receiver}
 use Rattle.gfp_delineate.specs.Receiver as receiver

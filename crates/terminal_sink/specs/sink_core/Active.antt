@@ -1,7 +1,7 @@
 -- How many lines carry payload by the packets that are read.
 use Rattle.std.specs.Prelude.{ℕ, ◌+◌, Bool, false, if◌then◌else◌, List, [], ◌∷◌, Option, Some, None}
+use Rattle.law_model.specs.Common.{is_carrying}
 use Rattle.law_model.specs.declared.control_packet.Packet.{Packet}
-use Rattle.law_model.specs.rows.Rows.{is_carrying}
 
 -- a packet says that its line carries payload
 abbrev pub carries : Option Packet → Bool

@@ -1,7 +1,6 @@
 -- What a sink knows of the cells of its lines.
 use Rattle.std.specs.Prelude.{◌≡◌, ℕ, ◌<◌, List, length}
-use Rattle.member_cells.specs.declared.containers_and_cells.Cell.{Cell}
-use Rattle.law_model.specs.rows.Rows.{governing, active_of}
+use Rattle.law_model.specs.Common.{Cell, governing, active_of}
 use Rattle.law_line.specs.StableRows.{AreDecidedAt}
 use Rattle.terminal_sink.specs.marked_delineator.Marks.{Marked as Receiver}
 use Rattle.terminal_sink.specs.lcas_sink.SinkStates.{Sink}

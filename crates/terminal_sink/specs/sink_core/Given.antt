@@ -2,16 +2,13 @@
 use Rattle.std.specs.Prelude.{◌≡◌, ℕ, ◌-◌, ◌/◌, ◌%◌, ◌==◌, ◌&&◌, ◌<◌, nat_lt, if◌then◌else◌, List, [], map, length}
 use Rattle.std.specs.Prelude.{drop, Option, Some, None}
 use Rattle.std.specs.List.{range_with_len}
-use Rattle.member_cells.specs.declared.containers_and_cells.Cell.{Cell}
+use Rattle.law_model.specs.Common.{Cell, Row, read_packets, row_at, first_open, return_at, StreamRow, deliver}
+use Rattle.law_model.specs.Common.{longest_frame}
 use Rattle.law_model.specs.declared.control_packet.Packet.{Packet}
-use Rattle.law_model.specs.packets.ReturnPacket.{Row}
-use Rattle.law_model.specs.rows.Rows.{read_packets, row_at, first_open, return_at}
-use Rattle.law_model.specs.frames.Segment.{StreamRow, deliver}
 use Rattle.member_rows.specs.realign_rows.Gather.{Gather, line_count, IsOpenAt, AreDecided}
 use Rattle.law_loss.specs.Added.{whole_row, lost_row}
 use Rattle.terminal_sink.specs.declared.sink_core.sink_terminal.TakeAnswer.{TakeAnswer}
 use Rattle.terminal_sink.specs.declared.sink_core.sink_terminal.TakeAnswer.TheVariants.{Taken, Waiting}
-use Rattle.law_model.specs.Limits.{longest_frame}
 
 -- ---- rows and frames
 -- a row, where it is whole with these octets. What was sent in a row that isn't whole is not known

@@ -1,9 +1,6 @@
 -- The containers of the members of a row.
 use Rattle.std.specs.Prelude.{◌≡◌, ℕ, if◌then◌else◌, Bool, List, slice_get, Option, Some, None}
-use Rattle.member_cells.specs.declared.containers_and_cells.Container.{Container}
-use Rattle.member_cells.specs.declared.containers_and_cells.Cell.{Cell}
-use Rattle.law_model.specs.members.Number.{verdict}
-use Rattle.law_model.specs.rows.Interleave.{octets_from}
+use Rattle.law_model.specs.Common.{Container, Cell, verdict, octets_from}
 use Rattle.member_rows.specs.vcat_interleave.Members.{payloads_of}
 
 -- the container of each line whose number t is whole stands at the place of its line

@@ -1,9 +1,8 @@
 -- What a receiver has got of rows.
 use Rattle.std.specs.Prelude.{◌≡◌, ℕ, Bool, List, [], ◌++◌}
 use Rattle.terminal_sink.specs.marked_delineator.Marks.{Marked as Receiver, StandsIn}
-use Rattle.law_model.specs.frames.Segment.{StreamRow, segments_of}
+use Rattle.law_model.specs.Common.{StreamRow, segments_of, longest_frame}
 use Rattle.law_loss.specs.Added.{next_frames}
-use Rattle.law_model.specs.Limits.{longest_frame}
 
 -- it has some octets of some segment
 abbrev pub IsKnown : Receiver → Type 0

@@ -1,12 +1,6 @@
 -- What the lines of a session tell a sink.
 use Rattle.std.specs.Prelude.{◌≡◌, ℕ, ◌<◌, if◌then◌else◌, List, Option, Some, None}
-use Rattle.member_cells.specs.declared.containers_and_cells.Container.{Container}
-use Rattle.member_cells.specs.declared.containers_and_cells.Cell.{Cell}
-use Rattle.law_model.specs.session.Scenario.{Scenario}
-use Rattle.law_model.specs.source.Table.{Told}
-use Rattle.law_model.specs.rows.SessionRows.{is_whole_row}
-use Rattle.law_model.specs.frames.Payload.{payload_of}
-use Rattle.law_model.specs.rows.Rows.{row_at}
+use Rattle.law_model.specs.Common.{Container, Cell, Scenario, Told, is_whole_row, payload_of, row_at}
 use Rattle.law_row.specs.Received.{TellsRow, IsDealtRow}
 
 -- the first rows that the cells give are those of the session: whole where these are, and with their octets

@@ -1,9 +1,7 @@
 //! The lines that carry payload, by the packets that are read.
 
-ghost use Rattle.std.specs.Prelude.{◌≡◌, ◌+◌, ◌≤◌, ◌++◌, length, vec_len};
-ghost use Rattle.std.specs.Vec.{vec_capacity};
-ghost use Rattle.law_model.specs.packets.ReturnPacket.{leader};
-ghost use Rattle.law_model.specs.rows.Rows.{is_carrying, has, lines_at, active_of};
+ghost use Rattle.std.specs.Prelude.{◌≡◌, ◌+◌, ◌≤◌, ◌++◌, length, vec_len, vec_capacity};
+ghost use Rattle.law_model.specs.Common.{leader, is_carrying, has, lines_at, active_of};
 ghost use Rattle.terminal_sink.specs.sink_core.Active.{carries, carrying, act_of};
 
 use member_cells::Ctrl;

@@ -5,10 +5,10 @@
 //! and where frames and return packets go, is not said here.
 
 mod active_lines;
-mod sink_laws;
 mod octets_of_row;
-mod whole_rows;
+mod sink_laws;
 mod sink_terminal;
+mod whole_rows;
 
 pub use sink_laws::{session_sink_law, sink_law};
-pub use sink_terminal::{SinkCore, TakeAnswer};
+pub use sink_terminal::{SinkCore, TakeAnswer, ends_packet};

@@ -1,23 +1,19 @@
 //! The octets of the members of a row, given to a receiver, and the frames that they complete.
 
 ghost use Rattle.std.specs.Prelude.{◌≡◌, ℕ, ◌+◌, ◌*◌, ◌/◌, ◌%◌, ◌<◌, ◌≤◌, Bool, true, false, List, [], ◌++◌, length};
-ghost use Rattle.std.specs.Prelude.{take, drop, slice_index, IfSome, IsSome};
+ghost use Rattle.std.specs.Prelude.{take, drop, slice_index, IfSome, IsSome, option_to_list};
 ghost use Rattle.std.specs.Int.{to_le_bytes, w64};
-ghost use Rattle.std.specs.Option.{option_to_list};
 ghost use Rattle.member_cells.specs.Held.{held};
 ghost use Rattle.terminal_sink.specs.marked_delineator.Marks.{frame_of, StandsIn};
 ghost use Rattle.gfp_delineate.specs.Repeated.{idles_from};
-ghost use Rattle.law_model.specs.frames.Core.{core_header};
-ghost use Rattle.law_model.specs.rows.Interleave.{octets_from};
+ghost use Rattle.law_model.specs.Common.{core_header, octets_from, Start, longest_frame, vc4_size};
 ghost use Rattle.member_rows.specs.vcat_interleave.Members.{payload_at, payloads_of, AreLines};
-ghost use Rattle.octet_io.specs.Start.{Start};
 ghost use Rattle.terminal_sink.specs.sink_core.Receives.{IsKnown, Grows, Gives, IsIdle};
-ghost use Rattle.law_model.specs.Limits.{longest_frame, vc4_size};
 
 use crate::marked_delineator::MarkedDelineator;
-use member_cells::{HeldContainer, PAYLOAD};
 use gfp_delineate::{Step, word_run};
 use law_model::FrameOut;
+use member_cells::{HeldContainer, PAYLOAD};
 use member_rows::vcat_interleave::gather_places;
 
 /// The octets of a block.

@@ -1,18 +1,12 @@
 //! What more cells and more rows change of what a sink gives, and what it gives in a session.
 
 ghost use Rattle.std.specs.Prelude.{◌≡◌, ◌≢◌, ℕ, ◌+◌, ◌*◌, ◌<◌, ◌≤◌, List, ◌++◌, length, Option, Some, None};
-ghost use Rattle.law_model.specs.rows.Rows.{return_at};
-ghost use Rattle.member_cells.specs.declared.containers_and_cells.Cell.{Cell};
-ghost use Rattle.law_model.specs.session.Scenario.{Scenario};
-ghost use Rattle.law_model.specs.source.Table.{Told};
-ghost use Rattle.law_model.specs.frames.Segment.{segments_of, deliver};
-ghost use Rattle.law_model.specs.rows.SessionStream.{rows_of};
+ghost use Rattle.law_model.specs.Common.{return_at, Cell, Scenario, Told, segments_of, deliver, rows_of, longest_frame};
 ghost use Rattle.law_line.specs.StableRows.{IsLonger, AreDecidedAt};
 ghost use Rattle.member_rows.specs.realign_rows.Gather.{with_cell};
 ghost use Rattle.terminal_sink.specs.sink_core.Given.{received_rows, given_frames, added_frames, back_at};
 ghost use Rattle.terminal_sink.specs.sink_core.Core.{Core, SinkStands};
 ghost use Rattle.terminal_sink.specs.sink_core.Session.{AreSessionRows, TellRows};
-ghost use Rattle.law_model.specs.Limits.{longest_frame};
 
 /// What was taken stays taken where more cells come, and more rows give more frames and change none of those
 /// before. Return packet k is made at row 16 k + 23.

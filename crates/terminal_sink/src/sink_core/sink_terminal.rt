@@ -2,26 +2,22 @@
 
 ghost use Rattle.std.specs.Prelude.{◌≡◌, ℕ, ◌+◌, ◌^◌, ◌%◌, ◌<◌, ◌≤◌, ◌==◌, ◌&&◌, ◌↔◌, nat_lt, List, ◌++◌, length};
 ghost use Rattle.std.specs.Prelude.{IfOk, IsSome, IsTrue};
-ghost use Rattle.member_cells.specs.declared.containers_and_cells.Cell.{Cell};
+ghost use Rattle.law_model.specs.Common.{Cell, Start, governing, active_of, IsSize, segments_of};
 ghost use Rattle.member_rows.specs.realign_rows.Gather.{GatherStands as Gathers, line_count, open_line};
-ghost use Rattle.octet_io.specs.Start.{Start};
 ghost use Rattle.std.specs.Vec.{vec_capacity};
-ghost use Rattle.law_model.specs.rows.Rows.{governing, active_of};
 ghost use Rattle.member_rows.specs.vcat_interleave.Members.{AreLines};
 ghost use Rattle.terminal_sink.specs.lcas_sink.SinkStates.{SinkTableStands as HasTold};
 ghost use Rattle.terminal_sink.specs.sink_core.Given.{answer_at, added_frames, back_at, received_rows, read_rows, packet_rows};
 ghost use Rattle.terminal_sink.specs.sink_core.Given.{rows_taken, waiting_for, back_of, IsPacketEnd, IsWaiting, Allows};
 ghost use Rattle.terminal_sink.specs.sink_core.Core.{SinkStands};
-ghost use Rattle.law_model.specs.session.Valid.{IsSize};
-ghost use Rattle.law_model.specs.frames.Segment.{segments_of};
 ghost use Rattle.terminal_sink.specs.marked_delineator.Marks.{first_place};
 
-use crate::marked_delineator::MarkedDelineator;
 use crate::lcas_sink::SinkTable;
+use crate::marked_delineator::MarkedDelineator;
 use crate::sink_core::active_lines::find_active;
 use crate::sink_core::octets_of_row::BLOCK;
 use crate::sink_core::whole_rows::{FIRST_ROW, take_row};
-use law_model::{FrameOut, LONGEST_FRAME};
+use law_model::{FrameOut, LONGEST_FRAME, MOST_LINES};
 use member_rows::lcas_packet::Packet;
 use member_rows::realign_rows::{RowAnswer, RowGather};
 use std::alloc::{AllocError, Global};
@@ -29,9 +25,6 @@ use std::marker::Model;
 
 /// The greatest frame that is given, in octets.
 const LONGEST: u16 = LONGEST_FRAME as u16;
-
-/// The most lines of a group.
-const LINES: usize = 128;
 
 /// Whether a row was taken.
 #[derive(Clone, Copy, Debug, PartialEq, Eq)]
@@ -65,7 +58,7 @@ pub struct SinkCore {
 impl Model for SinkCore {
     ghost use Rattle.std.specs.Prelude.{◌≡◌, ◌≤◌, length};
     ghost use Rattle.std.specs.Vec.{vec_capacity};
-    ghost use Rattle.law_model.specs.Limits.{vc4_size};
+    ghost use Rattle.law_model.specs.Common.{vc4_size};
     ghost use Rattle.member_rows.specs.vcat_interleave.Members.{AreLines};
     ghost use Rattle.terminal_sink.specs.sink_core.Receives.{IsKnown};
     ghost use Rattle.terminal_sink.specs.sink_core.Given.{packet_rows};
@@ -105,7 +98,7 @@ impl SinkCore {
             taken: 0,
             delineator: MarkedDelineator::new(alloc, LONGEST)?,
             table: SinkTable::new(lines),
-            active: Vec::with_capacity(alloc, LINES)?,
+            active: Vec::with_capacity(alloc, MOST_LINES)?,
             block: vec![in alloc; 0; BLOCK]?,
         })
     }
@@ -177,7 +170,7 @@ impl SinkCore {
 }
 
 /// Whether a packet ends with row `t`.
-fn ends_packet(t: u32) -> bool
+pub fn ends_packet(t: u32) -> bool
     ensures value { result ≡ (nat_lt 22 t && t % 16 == 7) }
     ensures end { IsTrue result ↔ IsPacketEnd t }
 {

@@ -1,18 +1,14 @@
 //! A row, whole or not.
 
 ghost use Rattle.std.specs.Prelude.{◌≡◌, ℕ, ◌≤◌, List, [], ◌∷◌, ◌++◌, length, is_some};
-ghost use Rattle.member_cells.specs.declared.containers_and_cells.Cell.{Cell};
-ghost use Rattle.member_cells.specs.declared.containers_and_cells.Container.{Container};
-ghost use Rattle.law_model.specs.rows.Rows.{governing, active_of, containers_at, row_under, row_at};
-ghost use Rattle.law_model.specs.frames.Segment.{StreamRow};
+ghost use Rattle.law_model.specs.Common.{Cell, Container, governing, active_of, containers_at, row_under, row_at};
+ghost use Rattle.law_model.specs.Common.{StreamRow, Start, longest_frame, vc4_size};
 ghost use Rattle.law_loss.specs.Added.{added};
 ghost use Rattle.member_rows.specs.vcat_interleave.Members.{AreLines};
 ghost use Rattle.member_rows.specs.realign_rows.Gather.{GatherStands, line_count, AreDecided};
 ghost use Rattle.terminal_sink.specs.sink_core.Members.{Hold, octets_if};
-ghost use Rattle.octet_io.specs.Start.{Start};
 ghost use Rattle.terminal_sink.specs.sink_core.Given.{row_in};
 ghost use Rattle.terminal_sink.specs.sink_core.Receives.{IsKnown, Receives};
-ghost use Rattle.law_model.specs.Limits.{longest_frame, vc4_size};
 
 use crate::marked_delineator::MarkedDelineator;
 use crate::sink_core::active_lines::leading_act;

@@ -1,37 +1,29 @@
 -- What commands and decision steps make of the fields of a source's table.
-use Rattle.std.proofs.Common.{◌≡◌, ℕ, zero, suc, ◌+◌, ◌-◌, ◌%◌, ◌<◌, ◌≤◌, ◌==◌, ◌&&◌, nat_le, nat_lt, Bool, true, false}
+use Rattle.std.proofs.Common.{◌≡◌, ℕ, ◌+◌, ◌-◌, ◌%◌, ◌<◌, ◌≤◌, ◌==◌, nat_le, nat_lt, Bool, true, false}
 use Rattle.std.proofs.Common.{if◌then◌else◌, List, [], ◌∷◌, ◌++◌, length, take, slice_set, replicate, Option, Some}
 use Rattle.std.proofs.Common.{None, refl, sym, ◌∙◌, ap, subst, arith}
 use Rattle.std.specs.List.{list_all}
 use Rattle.std.proofs.Math.Seq.{take-set-lt}
-use Rattle.std.proofs.lemmas.Bool.Decides.{nat_tests}
-use Rattle.std.proofs.lemmas.List.{length-map}
+use Rattle.std.proofs.lemmas.List.{length-map, take-replicate}
+use Rattle.std.proofs.lemmas.Bool.{leb-false, and_right}
+use Rattle.law_model.specs.Common.{Table, Told, first_table, heard, told_on, exchange, exchanged, kept_of, read_of}
+use Rattle.law_model.specs.Common.{packet_read, bits_from, Source, line_of, refusal, asked, asked_by, change, change_by}
+use Rattle.law_model.specs.Common.{decide, Course, count_of}
 use Rattle.law_model.specs.declared.lcas_states.Command.{Command}
-use Rattle.law_model.specs.declared.lcas_states.Command.TheVariants.{Add as add, Remove as remove}
 use Rattle.law_model.specs.declared.lcas_states.Member.{Member}
-use Rattle.law_model.specs.declared.item_refusals.CommandFault.{CommandFault}
 use Rattle.law_model.specs.declared.item_refusals.CommandFault.TheVariants.{UnknownLine}
-use Rattle.law_model.specs.source.Table.{Table, Told, first_table, heard, told_on, exchange, exchanged, kept_of}
-use Rattle.law_model.specs.packets.Packet.{read_of}
-use Rattle.law_model.specs.packets.Told.{packet_read}
-use Rattle.law_model.specs.packets.GroupBit.{bits_from}
-use Rattle.law_model.specs.source.Source.{Source, opening, line_of, is_add, refusal, asked, asked_by, change, change_by}
-use Rattle.law_model.specs.source.Source.{decide}
-use Rattle.law_model.specs.source.Course.{Course, begun, count_of}
+use Rattle.law_model.specs.declared.lcas_states.Command.TheVariants.{Add as add, Remove as remove}
+use Rattle.law_model.specs.source.Source.{opening, is_add}
+use Rattle.law_model.specs.source.Course.{begun}
 use Rattle.law_session.specs.Feedback.{lines_of}
 use Rattle.law_session.proofs.TableLaws.{told_on-lines, heard-order, heard-count}
-use Rattle.law_session.proofs.PlanLaws.{Fits, opening-fits, Fits-asked, Fits-decide, Fits-room}
+use Rattle.law_session.proofs.PlanLaws.{Fits, opening-fits, Fits-asked, Fits-decide, Fits-room, some_refusal}
 use Rattle.terminal_source.specs.lcas_source.Fields.{none_planned, IsTable, changed_by}
 
 -- ---- before the first call
-take-none : (n m : ℕ) → n ≤ m → take n (replicate m false) ≡ replicate n false
-take-none zero m h = refl
-take-none (suc n) zero h = absurd (omega arith)
-take-none (suc n) (suc m) h = ap (λ rest. false ∷ rest) (take-none n m (omega arith))
-
 none-planned : (lines : ℕ) → lines ≤ 128 → take lines none_planned ≡ replicate lines false
 unfolding none_planned
-none-planned lines h = take-none lines 128 h
+none-planned lines h = take-replicate lines 128 false h
 
 opening-fields : (lines : ℕ) (table : Table) (planned : List Bool) (waiting : List Command) → lines ≤ 128 →
     table ≡ first_table → planned ≡ none_planned → waiting ≡ [] →
@@ -65,18 +57,12 @@ IsTable-new course lines group is few bits =
     subst (λ course. IsTable course group) (sym is) (IsTable-begun lines group few bits)
 
 -- ---- a command
-some-none : (fault : CommandFault) → Some fault ≡ None → ⊥
-some-none fault e = cc
-
-lt-of_test : (a b : ℕ) → nat_le a b ≡ false → b < a
-lt-of_test a b e = grind (arith, nat_tests, e)
-
 inside-of_accepted : (lines : ℕ) (command : Command) (source : Source) → refusal lines command source ≡ None →
     line_of command < lines
 inside-of_accepted lines command source e =
     elim (nat_le lines (line_of command)) as (λ b. nat_le lines (line_of command) ≡ b → line_of command < lines) [
-      | true ↦ λ test. absurd (some-none (UnknownLine lines) (rw test at e))
-      | false ↦ λ test. lt-of_test lines (line_of command) test
+      | true ↦ λ test. absurd (some_refusal (UnknownLine lines) (rw test at e))
+      | false ↦ λ test. leb-false lines (line_of command) test
     ] refl
 
 asked-accepted : (lines : ℕ) (command : Command) (table : Table) (planned : List Bool) (waiting : List Command) →
@@ -242,13 +228,9 @@ IsTable-decided course group bits told cell after e next is =
     }
 
 -- ---- a return cell
-both-false : (a b : Bool) → b ≡ false → (a && b) ≡ false
-both-false true b e = e
-both-false false b e = refl
-
 pub packet_read-none : (nibbles : List ℕ) → list_all (λ nibble. nat_lt nibble 16) nibbles ≡ false →
     packet_read (read_of nibbles) ≡ None
 unfolding read_of
 packet_read-none nibbles e =
-    let test = both-false (length nibbles == 16) (list_all (λ nibble. nat_lt nibble 16) nibbles) e in
+    let test = and_right (length nibbles == 16) (list_all (λ nibble. nat_lt nibble 16) nibbles) e in
     rw test refl

@@ -1,11 +1,10 @@
 -- An exchange as it is made: the first line in ADD is looked for, and then the first later one that has OK.
 use Rattle.std.proofs.Common.{◌≡◌, ℕ, suc, ◌+◌, ◌-◌, ◌<◌, ◌≤◌, ◌&&◌, Bool, true, false, List, [], ◌∷◌, ◌++◌, take, drop}
 use Rattle.std.proofs.Common.{length, Option, Some, None, option_map, slice_index_or, refl, sym, ◌∙◌, ap, append_assoc}
-use Rattle.std.proofs.Common.{add-one, arith}
-use Rattle.std.proofs.Math.Seq.{drop-cons, take-suc}
-use Rattle.std.proofs.lemmas.List.{drop_all, length-drop, get_or-drop, get_or_default}
+use Rattle.std.proofs.Common.{add-one, arith, drop-cons, take-suc, length-drop, get_or-drop}
+use Rattle.std.proofs.lemmas.List.{drop_all, get_or_default}
+use Rattle.law_model.specs.Common.{is_adding, is_ok, take_out}
 use Rattle.law_model.specs.declared.lcas_states.Member.{Member}
-use Rattle.law_model.specs.source.Table.{is_adding, is_ok, take_out}
 use Rattle.terminal_source.specs.lcas_source.Exchange.{taken_out}
 
 -- what is taken out, with a front that it stands behind

@@ -2,15 +2,15 @@
 -- taken out.
 use Rattle.std.proofs.Common.{◌≡◌, ℕ, suc, ◌+◌, ◌-◌, ◌<◌, ◌≤◌, not, Bool, true, false, cond, nat_lt, List, [], ◌∷◌}
 use Rattle.std.proofs.Common.{◌++◌, take, drop, length, min, Option, Some, None, option_map, position, slice_index_or}
-use Rattle.std.proofs.Common.{refl, sym, ◌∙◌, ap, subst, append_assoc, add-one, arith}
+use Rattle.std.proofs.Common.{refl, sym, ◌∙◌, ap, subst, append_assoc, arith}
 use Rattle.std.specs.Prelude.{insert, remove}
 use Rattle.std.specs.List.{prefix_len}
-use Rattle.std.proofs.Math.Seq.{drop-cons, take-append_seam, drop-append_seam}
-use Rattle.std.proofs.lemmas.Bool.Decides.{nat_tests}
-use Rattle.std.proofs.lemmas.List.{drop_all, length-take, take-append-le, take-append-drop, drop-take}
+use Rattle.std.proofs.Math.Seq.{take-append_seam, drop-append_seam}
+use Rattle.std.proofs.lemmas.List.{drop_all, length-take, take-append-le, take-append-drop, drop-take, drop_more}
 use Rattle.std.proofs.lemmas.List.Sums.{prefix_len_stops}
+use Rattle.std.proofs.lemmas.Bool.{not-true, not-false, ltb-true, ltb-false}
+use Rattle.law_model.specs.Common.{is_adding, is_fail, take_out, exchange}
 use Rattle.law_model.specs.declared.lcas_states.Member.{Member}
-use Rattle.law_model.specs.source.Table.{is_adding, is_fail, take_out, exchange}
 use Rattle.terminal_source.specs.lcas_source.Exchange.{taken_out}
 
 abbrev pub is_other : Member → Bool
@@ -28,14 +28,6 @@ after_front-more member front (Some found) = refl
 after_front-nothing : (found : Option (List Member)) → found ≡ after_front [] found
 after_front-nothing None = refl
 after_front-nothing (Some found) = refl
-
-not_not : (b : Bool) → not b ≡ true → b ≡ false
-not_not true e = sym e
-not_not false e = refl
-
-not_false : (b : Bool) → not b ≡ false → b ≡ true
-not_false true e = refl
-not_false false e = sym e
 
 exchange-pass : (kept : ℕ → Option Bool) (sq : ℕ) (member : Member) (order : List Member) → is_adding member ≡ false →
     exchange kept sq (member ∷ order) ≡ option_map (λ rest. member ∷ rest) (exchange kept (sq + 1) order)
@@ -72,7 +64,7 @@ exchange-front kept base (member ∷ order) =
           let n = prefix_len is_other order in
           let one : 1 + n ≡ suc n = omega arith in
           let place : base + suc n ≡ base + 1 + n = omega arith in
-          rw (one, place) (exchange-pass kept base member order (not_not (is_adding member) e)
+          rw (one, place) (exchange-pass kept base member order (not-true (is_adding member) e)
           ∙ ap (option_map (λ rest. member ∷ rest)) (exchange-front kept (base + 1) order)
           ∙ after_front-more member (take n order) (exchange kept (base + 1 + n) (drop n order)))
       | false ↦ λ e. let here : base + 0 ≡ base = omega arith in
@@ -89,12 +81,6 @@ abbrev pub Finds : (ℕ → Option Bool) → List Member → Option ℕ → Type
 Finds kept order None = exchange kept 0 order ≡ None
 Finds kept order (Some first) = IsFirstAdding kept order first
 
-lt-of_test : (a b : ℕ) → nat_lt a b ≡ true → a < b
-lt-of_test a b e = grind (arith, nat_tests, e)
-
-le-of_test : (a b : ℕ) → nat_lt a b ≡ false → b ≤ a
-le-of_test a b e = grind (arith, nat_tests, e)
-
 position-finds : (kept : ℕ → Option Bool) (order : List Member) → Finds kept order (position is_adding order)
 position-finds kept order =
     let n = prefix_len is_other order in
@@ -103,28 +89,24 @@ position-finds kept order =
     rw zero_first at (exchange-front kept 0 order) in
     elim (nat_lt n (length order)) as (λ b. nat_lt n (length order) ≡ b → Finds kept order (cond b (Some n) None)) [
       | true ↦ λ e.
-          let inside = lt-of_test n (length order) e in
+          let inside = ltb-true n (length order) e in
           record {
             inside = inside;
-            adds = λ member. not_false _ (prefix_len_stops is_other order member inside);
+            adds = λ member. not-false _ (prefix_len_stops is_other order member inside);
             front = front;
           }
       | false ↦ λ e.
-          let all = le-of_test n (length order) e in
+          let all = ltb-false n (length order) e in
           front ∙ ap (after_front (take n order)) (ap (exchange kept n) (drop_all n order all) ∙ exchange-none kept n)
     ] refl
 
 -- ---- what comes of it
-rest-at : (order : List Member) (first : ℕ) (member : Member) → first < length order →
-    drop first order ≡ slice_index_or order first member ∷ drop (first + 1) order
-rest-at order first member inside = rw add-one (drop-cons order first member inside)
-
 pub finds-no_fail : (kept : ℕ → Option Bool) (order : List Member) (first : ℕ) (member : Member) →
     IsFirstAdding kept order first → is_fail (kept first) ≡ false →
     exchange kept 0 order ≡ None
 finds-no_fail kept order first member finds known =
     finds.front ∙ ap (after_front (take first order))
-    (ap (exchange kept first) (rest-at order first member finds.inside)
+    (ap (exchange kept first) (drop_more order first member finds.inside)
     ∙ exchange-not kept first _ _ (finds.adds member) known)
 
 exchange-found : (kept : ℕ → Option Bool) (order : List Member) (first : ℕ) (member : Member)
@@ -135,7 +117,7 @@ exchange-found : (kept : ℕ → Option Bool) (order : List Member) (first : ℕ
     (option_map (λ found. found.0 ∷ slice_index_or order first member ∷ found.1) found)
 exchange-found kept order first member found finds fails found_is =
     finds.front ∙ ap (after_front (take first order))
-    (ap (exchange kept first) (rest-at order first member finds.inside)
+    (ap (exchange kept first) (drop_more order first member finds.inside)
     ∙ exchange-here kept first _ _ (finds.adds member) fails
     ∙ ap (option_map (λ found. found.0 ∷ slice_index_or order first member ∷ found.1)) found_is)
 
@@ -166,7 +148,7 @@ moved order first later member before inside =
     ∙ ap (take first) (take-append-drop later order) in
     let rest : drop first (take later order) ≡ x ∷ middle =
     ap (λ n. drop first (take n order)) (sym whole) ∙ drop-take first (later - first) order
-    ∙ ap (take (later - first)) (rest-at order first member (omega arith))
+    ∙ ap (take (later - first)) (drop_more order first member (omega arith))
     ∙ ap (λ n. take n (x ∷ drop (first + 1) order)) steps in
     let before_it : take later order ≡ take first order ++ x ∷ middle =
     sym (take-append-drop first (take later order)) ∙ ap (λ f. f ++ drop first (take later order)) front

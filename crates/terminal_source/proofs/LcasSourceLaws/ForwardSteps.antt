@@ -1,28 +1,14 @@
 -- A line is looked for in the order, place by place.
 use Rattle.std.proofs.Common.{◌≡◌, ℕ, ◌+◌, ◌-◌, ◌%◌, ◌<◌, ◌≤◌, ◌==◌, Bool, true, false, List, ◌∷◌, drop, length, Option}
-use Rattle.std.proofs.Common.{slice_index_or, refl, ◌∙◌, ap, add-one, arith}
+use Rattle.std.proofs.Common.{slice_index_or, refl, ◌∙◌, ap, arith, eq-eqb, ne_eqb}
 use Rattle.std.specs.List.{list_any}
-use Rattle.std.proofs.Math.Seq.{drop-cons}
-use Rattle.std.proofs.lemmas.Bool.Decides.{nat_tests}
-use Rattle.std.proofs.lemmas.List.{drop_all}
-use Rattle.member_cells.specs.declared.control_word.Ctrl.{Ctrl}
-use Rattle.member_cells.specs.declared.control_word.Ctrl.TheVariants.{Idle}
+use Rattle.std.proofs.lemmas.List.{drop_all, drop_more}
+use Rattle.law_model.specs.Common.{Ctrl, Table, is_normal, active, bits_from, forward_packet, ctrl_by, place_in}
+use Rattle.law_model.specs.Common.{state_by, state_without, state_in}
 use Rattle.law_model.specs.declared.control_packet.Packet.{Packet}
 use Rattle.law_model.specs.declared.lcas_states.Member.{Member}
-use Rattle.law_model.specs.source.Table.{Table, is_normal, active}
-use Rattle.law_model.specs.packets.GroupBit.{bits_from}
-use Rattle.law_model.specs.packets.Forward.{forward_packet, ctrl_by, place_in, state_by, state_without, state_in}
+use Rattle.member_cells.specs.declared.control_word.Ctrl.TheVariants.{Idle}
 use Rattle.terminal_source.proofs.LcasSourceLaws.GroupBitLaws.{bits_from-first}
-
-same-test : (a b : ℕ) → a ≡ b → (a == b) ≡ true
-same-test a b e = grind (arith, nat_tests, e)
-
-other-test : (a b : ℕ) → (a ≡ b → ⊥) → (a == b) ≡ false
-other-test a b e = grind (arith, nat_tests, e)
-
-rest-at : (order : List Member) (i : ℕ) (member : Member) → i < length order →
-    drop i order ≡ slice_index_or order i member ∷ drop (i + 1) order
-rest-at order i member inside = rw add-one (drop-cons order i member inside)
 
 place-here : (member : Member) (order : List Member) (sq line : ℕ) → (member.line == line) ≡ true →
     place_in (member ∷ order) sq line ≡ record { ctrl = ctrl_by member.standing (list_any is_normal order); sq = sq }
@@ -43,15 +29,15 @@ pub place-found : (order : List Member) (i line : ℕ) (member : Member) → i <
           i;
     }
 place-found order i line member inside e =
-    ap (λ rest. place_in rest i line) (rest-at order i member inside)
-    ∙ place-here _ (drop (i + 1) order) i line (same-test _ line e)
+    ap (λ rest. place_in rest i line) (drop_more order i member inside)
+    ∙ place-here _ (drop (i + 1) order) i line (eq-eqb _ line e)
 
 pub place-next : (order : List Member) (i line : ℕ) (member : Member) → i < length order →
     ((slice_index_or order i member).line ≡ line → ⊥) →
     place_in (drop i order) i line ≡ place_in (drop (i + 1) order) (i + 1) line
 place-next order i line member inside other =
-    ap (λ rest. place_in rest i line) (rest-at order i member inside)
-    ∙ place-other _ (drop (i + 1) order) i line (other-test _ line other)
+    ap (λ rest. place_in rest i line) (drop_more order i member inside)
+    ∙ place-other _ (drop (i + 1) order) i line (ne_eqb _ line other)
 
 pub place-none : (order : List Member) (i line : ℕ) → length order ≤ i →
     place_in (drop i order) i line ≡ record { ctrl = Idle; sq = 255 }
@@ -72,15 +58,15 @@ pub state-found : (order : List Member) (leaving : Option ℕ) (i line : ℕ) (m
     (slice_index_or order i member).line ≡ line →
     state_in (drop i order) leaving line ≡ state_by (slice_index_or order i member).standing
 state-found order leaving i line member inside e =
-    ap (λ rest. state_in rest leaving line) (rest-at order i member inside)
-    ∙ state-here _ (drop (i + 1) order) leaving line (same-test _ line e)
+    ap (λ rest. state_in rest leaving line) (drop_more order i member inside)
+    ∙ state-here _ (drop (i + 1) order) leaving line (eq-eqb _ line e)
 
 pub state-next : (order : List Member) (leaving : Option ℕ) (i line : ℕ) (member : Member) → i < length order →
     ((slice_index_or order i member).line ≡ line → ⊥) →
     state_in (drop i order) leaving line ≡ state_in (drop (i + 1) order) leaving line
 state-next order leaving i line member inside other =
-    ap (λ rest. state_in rest leaving line) (rest-at order i member inside)
-    ∙ state-other _ (drop (i + 1) order) leaving line (other-test _ line other)
+    ap (λ rest. state_in rest leaving line) (drop_more order i member inside)
+    ∙ state-other _ (drop (i + 1) order) leaving line (ne_eqb _ line other)
 
 pub state-none : (order : List Member) (leaving : Option ℕ) (i line : ℕ) → length order ≤ i →
     state_in (drop i order) leaving line ≡ state_without leaving line

@@ -1,8 +1,7 @@
 -- A list that is rewritten from its front on, place by place, as a recursion that counts the places along gives it.
 use Rattle.std.proofs.Common.{◌≡◌, ℕ, ◌+◌, ◌<◌, ◌≤◌, List, [], ◌∷◌, ◌++◌, length, take, drop, slice_index_or, slice_set}
-use Rattle.std.proofs.Common.{sym, ◌∙◌, ap, append_assoc, add-one, arith}
-use Rattle.std.proofs.Math.Seq.{drop-cons}
-use Rattle.std.proofs.lemmas.List.{take_more_set, drop-set-lt, drop_all, take-append-drop}
+use Rattle.std.proofs.Common.{sym, ◌∙◌, ap, append_assoc, add-one, arith, drop-cons, drop-set-lt, take-append-drop}
+use Rattle.std.proofs.lemmas.List.{take_more_set, drop_all}
 
 -- so far the front is rewritten, and the recursion would rewrite the rest
 abbrev pub IsRewriting : {X : Type 0} → (ℕ → List X → List X) → ℕ → List X → List X → Type 0

@@ -1,19 +1,10 @@
 -- The statuses that a return packet says, as an array is written: eight entries are replaced.
-use Rattle.std.proofs.Common.{◌≡◌, ℕ, ◌+◌, ◌*◌, ◌/◌, ◌%◌, ◌<◌, ◌≤◌, ◌==◌, not, Bool, true, false, if◌then◌else◌, List}
-use Rattle.std.proofs.Common.{[], ◌∷◌, ◌++◌, map, take, drop, length, Option, Some, slice_get, zero, suc, refl, sym}
-use Rattle.std.proofs.Common.{◌∙◌, ap, arith}
-use Rattle.std.proofs.lemmas.Bool.Decides.{nat_tests}
-use Rattle.std.proofs.lemmas.List.{length-map, length-take, length-drop, take-append-drop}
-use Rattle.check_remainder.specs.Bits.{bits}
+use Rattle.std.proofs.Common.{◌≡◌, ℕ, ◌+◌, ◌*◌, ◌/◌, ◌%◌, ◌<◌, ◌≤◌, ◌==◌, not, Bool, if◌then◌else◌, List, [], ◌∷◌, ◌++◌}
+use Rattle.std.proofs.Common.{map, take, drop, length, Option, Some, slice_get, zero, suc, refl, sym, ◌∙◌, ap, arith}
+use Rattle.std.proofs.Common.{length-take, length-drop, take-append-drop, eq-eqb, ne_eqb}
+use Rattle.std.proofs.lemmas.List.{length-map, drop_all}
+use Rattle.law_model.specs.Common.{bits, keep, oks_in}
 use Rattle.check_remainder.proofs.BitLaws.{length-bits}
-use Rattle.law_model.specs.source.Table.{keep}
-use Rattle.law_model.specs.packets.Told.{oks_in}
-
-same-test : (a b : ℕ) → a ≡ b → (a == b) ≡ true
-same-test a b e = grind (arith, nat_tests, e)
-
-other-test : (a b : ℕ) → (a ≡ b → ⊥) → (a == b) ≡ false
-other-test a b e = grind (arith, nat_tests, e)
 
 -- entries of other groups stay
 keep-below : (group : ℕ) (oks : List Bool) (base : ℕ) (xs : List (Option Bool)) → base + length xs ≤ 8 * group →
@@ -21,7 +12,7 @@ keep-below : (group : ℕ) (oks : List Bool) (base : ℕ) (xs : List (Option Boo
 unfolding keep
 keep-below group oks base [] h = refl
 keep-below group oks base (x ∷ xs) h =
-    let no_test = other-test (base / 8) group (λ e. omega arith) in
+    let no_test = ne_eqb (base / 8) group (λ e. omega arith) in
     rw no_test (ap (λ rest. x ∷ rest) (keep-below group oks (base + 1) xs (omega arith)))
 
 keep-above : (group : ℕ) (oks : List Bool) (base : ℕ) (xs : List (Option Bool)) → 8 * group + 8 ≤ base →
@@ -29,7 +20,7 @@ keep-above : (group : ℕ) (oks : List Bool) (base : ℕ) (xs : List (Option Boo
 unfolding keep
 keep-above group oks base [] h = refl
 keep-above group oks base (x ∷ xs) h =
-    let no_test = other-test (base / 8) group (λ e. omega arith) in
+    let no_test = ne_eqb (base / 8) group (λ e. omega arith) in
     rw no_test (ap (λ rest. x ∷ rest) (keep-above group oks (base + 1) xs (omega arith)))
 
 keep-append : (group : ℕ) (oks : List Bool) (base : ℕ) (xs ys : List (Option Bool)) →
@@ -51,19 +42,13 @@ drop-step (o ∷ oks) (suc i) h =
     let e : suc i + 1 ≡ suc (i + 1) = omega arith in
     (rest.0, rest.1, rw e rest.2)
 
-drop-all : (oks : List Bool) (i : ℕ) → length oks ≤ i → drop i oks ≡ []
-drop-all [] zero h = refl
-drop-all [] (suc i) h = refl
-drop-all (o ∷ oks) zero h = absurd (omega arith)
-drop-all (o ∷ oks) (suc i) h = drop-all oks i (omega arith)
-
 -- those of the group are replaced
 keep-run : (group : ℕ) (oks : List Bool) (i base : ℕ) (xs : List (Option Bool)) → length oks ≡ 8 → i + length xs ≡ 8 →
     base ≡ 8 * group + i → keep group oks base xs ≡ map Some (drop i oks)
 unfolding keep
-keep-run group oks i base [] eight all at = rw (drop-all oks i (omega arith)) refl
+keep-run group oks i base [] eight all at = rw (drop_all i oks (omega arith)) refl
 keep-run group oks i base (x ∷ xs) eight all at =
-    let test = same-test (base / 8) group (omega arith) in
+    let test = eq-eqb (base / 8) group (omega arith) in
     let place : base % 8 ≡ i = omega arith in
     let step = drop-step oks i (omega arith) in
     let rest = keep-run group oks (i + 1) (base + 1) xs eight (omega arith) (omega arith) in

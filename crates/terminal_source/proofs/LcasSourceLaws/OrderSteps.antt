@@ -1,7 +1,7 @@
 -- What a step does with the first line of an order.
 use Rattle.std.proofs.Common.{◌≡◌, ℕ, ◌+◌, Bool, true, false, List, [], ◌∷◌, Option, refl}
+use Rattle.law_model.specs.Common.{is_adding, is_ok, in_use, admit, turn, turned}
 use Rattle.law_model.specs.declared.lcas_states.Member.{Member}
-use Rattle.law_model.specs.source.Table.{is_adding, is_ok, in_use, admit, turn, turned}
 
 -- a line that is not in ADD stays, and the first one in ADD becomes NORM where it has OK; else all stay
 pub admit-other : (kept : ℕ → Option Bool) (sq : ℕ) (member : Member) (order : List Member) → is_adding member ≡ false →

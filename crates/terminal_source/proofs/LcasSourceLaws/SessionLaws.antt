@@ -1,19 +1,13 @@
 -- The course of the calls that a scenario makes.
-use Rattle.std.proofs.Common.{◌≡◌, ℕ, zero, suc, ◌+◌, ◌-◌, ◌%◌, ◌<◌, ◌≤◌, nat_le, true, false, if◌then◌else◌, List, []}
-use Rattle.std.proofs.Common.{◌∷◌, ◌++◌, map, fold, length, Option, Some, None, slice_index_or, refl, sym, ◌∙◌, ap, ap₂}
-use Rattle.std.proofs.Common.{arith}
-use Rattle.std.proofs.lemmas.Bool.Decides.{nat_tests}
+use Rattle.std.proofs.Common.{◌≡◌, ℕ, zero, suc, ◌+◌, ◌-◌, ◌%◌, nat_le, true, false, if◌then◌else◌, List, [], ◌∷◌, ◌++◌}
+use Rattle.std.proofs.Common.{map, fold, length, Option, Some, None, slice_index_or, refl, sym, ◌∙◌, ap, ap₂, arith}
+use Rattle.std.proofs.Common.{leb-false, leb-true}
+use Rattle.std.proofs.lemmas.List.Sums.{fold-append}
+use Rattle.law_model.specs.Common.{Scenario, orders_at, Told, asked_all, decide, cell_at, after, asks, decides, Course}
+use Rattle.law_model.specs.Common.{said_by, count_of, called, course_of, given_at, calls_before}
 use Rattle.law_model.specs.declared.lcas_states.Command.{Command}
-use Rattle.law_model.specs.session.Scenario.{Scenario, orders_at}
-use Rattle.law_model.specs.source.Table.{Told}
-use Rattle.law_model.specs.source.Source.{opening, asked_all, decide, cell_at, after}
-use Rattle.law_model.specs.source.Course.{asks, decides, Course, begun, said_by, count_of, called, course_of, given_at}
-use Rattle.law_model.specs.source.Course.{calls_before}
-
-pub fold-append : {A B : Type 0} (f : B → A → B) (start : B) (xs ys : List A) →
-    fold f start (xs ++ ys) ≡ fold f (fold f start xs) ys
-fold-append f start [] ys = refl
-fold-append f start (x ∷ xs) ys = fold-append f (f start x) xs ys
+use Rattle.law_model.specs.source.Source.{opening}
+use Rattle.law_model.specs.source.Course.{begun}
 
 -- commands, one after the other
 asked-course : (commands : List Command) (course : Course) →
@@ -26,12 +20,6 @@ asked-course : (commands : List Command) (course : Course) →
     }
 asked-course [] course = refl
 asked-course (command ∷ commands) course = asked-course commands (called course (asks command))
-
-lt-of_test : (a b : ℕ) → nat_le a b ≡ false → b < a
-lt-of_test a b e = grind (arith, nat_tests, e)
-
-le-of_test : (a b : ℕ) → nat_le a b ≡ true → a ≤ b
-le-of_test a b e = grind (arith, nat_tests, e)
 
 given-said : (scenario : Scenario) (cells : List (Option Told)) (j : ℕ) →
     said_by (given_at scenario cells j) ≡ cell_at scenario cells j
@@ -46,8 +34,8 @@ given-count scenario cells j =
     elim (nat_le scenario.lag j) as (λ b. nat_le scenario.lag j ≡ b →
     j - scenario.lag + count_of (if b then Some (slice_index_or cells (j - scenario.lag) None) else None)
     ≡ suc j - scenario.lag) [
-      | true ↦ λ e. let h = le-of_test scenario.lag j e in omega arith
-      | false ↦ λ e. let h = lt-of_test scenario.lag j e in omega arith
+      | true ↦ λ e. let h = leb-true scenario.lag j e in omega arith
+      | false ↦ λ e. let h = leb-false scenario.lag j e in omega arith
     ] refl
 
 abbrev pub session_course : Scenario → List (Option Told) → ℕ → Course

@@ -1,11 +1,7 @@
 -- What a terminal holds of two sessions that are alike so far.
 use Rattle.std.proofs.Common.{◌≡◌, ◌≤◌, ℕ, zero, suc, ◌-◌, List, Option, refl, ◌∙◌, ap, arith}
-use Rattle.law_model.specs.session.Scenario.{Scenario, steps_in}
-use Rattle.law_model.specs.packets.Packet.{packet_nibbles}
-use Rattle.law_model.specs.source.Table.{Told, active}
-use Rattle.law_model.specs.source.Source.{table_of}
-use Rattle.law_model.specs.packets.Forward.{forward_packet}
-use Rattle.law_model.specs.packets.Telling.{telling, telling_at}
+use Rattle.law_model.specs.Common.{Scenario, steps_in, packet_nibbles, Told, active, table_of, forward_packet, telling}
+use Rattle.law_model.specs.Common.{telling_at}
 use Rattle.law_session.proofs.AlikeLaws.{Alike, alike-after}
 use Rattle.terminal_source.specs.source_core.Given.{nibbles_after, active_now}
 

@@ -1,15 +1,10 @@
 -- How the octets of a frame are dealt to the lines that carry payload.
-use Rattle.std.proofs.Common.{◌≡◌, ◌≤◌, ◌<◌, ℕ, ◌+◌, ◌-◌, ◌*◌, ◌/◌, ◌%◌, nat_lt, false, if◌then◌else◌, inl, inr, List}
+use Rattle.std.proofs.Common.{◌≡◌, ◌<◌, ℕ, ◌+◌, ◌-◌, ◌*◌, ◌/◌, ◌%◌, if◌then◌else◌, inl, inr, List}
 use Rattle.std.proofs.Common.{[], length, replicate, slice_index, Option, Some, None, refl, sym, ◌∙◌, ap, subst, arith}
-use Rattle.std.proofs.lemmas.Bool.{cases_lt, lt-ltb}
-use Rattle.std.proofs.lemmas.Bool.Decides.{nat_tests}
+use Rattle.std.proofs.lemmas.Bool.{cases_lt, lt-ltb, le-ltb}
 use Rattle.std.proofs.lemmas.List.{get_or_append_left}
-use Rattle.law_model.specs.session.Scenario.{Scenario}
-use Rattle.law_model.specs.source.Table.{Told, active}
-use Rattle.law_model.specs.source.Source.{after, table_of}
-use Rattle.law_model.specs.rows.Interleave.{part_of}
-use Rattle.law_model.specs.frames.Payload.{payload_of}
-use Rattle.law_model.specs.rows.Sent.{rank_of, payload_by, payload_on, active_at}
+use Rattle.law_model.specs.Common.{Scenario, Told, active, after, table_of, part_of, payload_of, rank_of, payload_by}
+use Rattle.law_model.specs.Common.{payload_on, active_at}
 use Rattle.law_session.proofs.PlanLaws.{Fits-after}
 use Rattle.law_session.proofs.ClientLaws.{payload-length}
 use Rattle.member_rows.specs.vcat_interleave.Spread.{AreDistinct}
@@ -20,16 +15,13 @@ use Rattle.terminal_source.proofs.SourceCoreLaws.MemberLaws.{active-members}
 use Rattle.terminal_source.proofs.SourceCoreLaws.FrameLaws.{IsRank, rank_of-is}
 use Rattle.terminal_source.proofs.SourceCoreLaws.TickSteps.{active-at, width-at}
 
-not-below : (t n : ℕ) → n ≤ t → nat_lt t n ≡ false
-not-below t n high = grind (arith, nat_tests, high)
-
 pub governed : (scenario : Scenario) (cells : List (Option Told)) (k i : ℕ) → i < 16 →
     active_at scenario cells (16 * k + 24 + i) ≡ active (table_of scenario cells k)
 governed scenario cells k i low =
     let t = 16 * k + 24 + i in
     let same : (16 * k + 24 + i - 24) / 16 ≡ k = omega arith in
     ap (λ b. if b then [] else active (table_of scenario cells ((16 * k + 24 + i - 24) / 16)))
-    (not-below (16 * k + 24 + i) 24 (omega arith))
+    (le-ltb (16 * k + 24 + i) 24 (omega arith))
     ∙ ap (λ k. active (table_of scenario cells k)) same
 
 pub none-before : (scenario : Scenario) (cells : List (Option Told)) (t : ℕ) → t < 24 → active_at scenario cells t ≡ []

@@ -1,20 +1,15 @@
 -- What is true of a terminal's fields, call by call.
 use Rattle.std.proofs.Common.{◌≡◌, ℕ, ◌+◌, ◌*◌, ◌%◌, ◌≤◌, Bool, true, false, List, length, Option, option_map, refl}
-use Rattle.std.proofs.Common.{sym, ◌∙◌, ap, subst, arith}
-use Rattle.std.proofs.lemmas.Bool.{eqb-true, eqb-false}
+use Rattle.std.proofs.Common.{sym, ◌∙◌, ap, subst, arith, eqb-true, mul-le-mul_left}
+use Rattle.std.proofs.lemmas.Bool.{eqb-false}
 use Rattle.std.proofs.lemmas.List.FromFn.{length-map-range_with_len}
-use Rattle.std.proofs.Math.Nat.{mul-le-mul_left}
-use Rattle.member_cells.specs.declared.containers_and_cells.BackCell.{BackCell}
+use Rattle.law_model.specs.Common.{BackCell, steps_in, Told, told_in, Course, asks, called, said_by}
 use Rattle.law_model.specs.declared.lcas_states.Command.{Command}
-use Rattle.law_model.specs.session.Scenario.{steps_in}
-use Rattle.law_model.specs.source.Table.{Told}
-use Rattle.law_model.specs.packets.Told.{told_in}
-use Rattle.law_model.specs.source.Course.{Course, asks, called, said_by}
 use Rattle.law_session.proofs.PlanLaws.{Fits, Fits-asked, Fits-decide}
 use Rattle.gfp_fill.specs.Queue.{Held}
 use Rattle.gfp_fill.specs.Areas.{Sender}
-use Rattle.terminal_source.specs.source_core.Step.{is_step, table_by, active_by, nibbles_by, AreNibbles, AreMembers, terminal_of}
-use Rattle.terminal_source.specs.source_core.Step.{IsTerminal}
+use Rattle.terminal_source.specs.source_core.Step.{is_step, table_by, active_by, nibbles_by, AreNibbles, AreMembers}
+use Rattle.terminal_source.specs.source_core.Step.{terminal_of, IsTerminal}
 use Rattle.terminal_source.proofs.SourceCoreLaws.MemberLaws.{active-members}
 
 -- a command

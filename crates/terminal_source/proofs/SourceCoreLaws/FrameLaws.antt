@@ -2,18 +2,13 @@
 use Rattle.std.proofs.Common.{◌≡◌, ◌≢◌, ℕ, zero, suc, ◌+◌, ◌-◌, ◌*◌, ◌<◌, ◌≤◌, inl, inr, ◌==◌, Bool, true, false}
 use Rattle.std.proofs.Common.{if◌then◌else◌, List, [], ◌∷◌, ◌++◌, take, drop, length, replicate, slice_index}
 use Rattle.std.proofs.Common.{slice_index_or, slice_set, Option, Some, None, refl, sym, ◌∙◌, ap, ap₂, subst, arith}
-use Rattle.std.proofs.Common.{length-drop}
-use Rattle.std.specs.Option.{is_some}
+use Rattle.std.proofs.Common.{length-drop, is_some, eqb-true, length-take-le}
 use Rattle.std.specs.List.{position_from}
-use Rattle.std.proofs.lemmas.Bool.{eqb-true, eqb-false, cases_lt, false≢true, false_from_ne_true}
-use Rattle.std.proofs.lemmas.List.{get_or-replicate, length-take-le, length-replicate}
+use Rattle.std.proofs.lemmas.Bool.{eqb-false, cases_lt, false≢true, false_from_ne_true}
+use Rattle.std.proofs.lemmas.List.{get_or-replicate, length-replicate}
 use Rattle.std.proofs.Math.ListN.{get_or-eq_default}
 use Rattle.std.proofs.lemmas.List.FromFn.{fill_by_all}
-use Rattle.member_cells.specs.declared.containers_and_cells.Container.{Container}
-use Rattle.law_model.specs.rows.Interleave.{part_of}
-use Rattle.law_model.specs.rows.Sent.{rank_of, payload_by}
-use Rattle.law_model.specs.frames.Piece.{Piece, stream_of}
-use Rattle.law_model.specs.source.Client.{size}
+use Rattle.law_model.specs.Common.{Container, part_of, rank_of, payload_by, Piece, stream_of, size}
 use Rattle.member_rows.specs.vcat_interleave.Members.{AreLines, with_octets}
 use Rattle.member_rows.specs.vcat_interleave.Spread.{SpreadsOver, Spreads, AreDistinct}
 use Rattle.member_rows.proofs.VcatInterleaveLaws.RowLaws.{length-part_of, is-part_of}

@@ -7,13 +7,10 @@ use Rattle.std.proofs.lemmas.Bool.Decides.{nat_tests}
 use Rattle.std.proofs.lemmas.List.{map-append, append-nil}
 use Rattle.std.proofs.lemmas.List.Elements.{filter-append, All-append}
 use Rattle.std.proofs.lemmas.List.Sums.{fold-append}
+use Rattle.law_model.specs.Common.{Scenario, DueCommand, DueFrame, orders_at, frames_at, lands_at, comes_at, steps_in}
+use Rattle.law_model.specs.Common.{Told, asked, asked_all, after, Course, called, asks, Stream, offered, stream_before}
+use Rattle.law_model.specs.Common.{place_of}
 use Rattle.law_model.specs.declared.lcas_states.Command.{Command}
-use Rattle.law_model.specs.session.Scenario.{Scenario, DueCommand, DueFrame, orders_at, frames_at, lands_at, comes_at}
-use Rattle.law_model.specs.session.Scenario.{steps_in}
-use Rattle.law_model.specs.source.Table.{Told}
-use Rattle.law_model.specs.source.Source.{asked, asked_all, after}
-use Rattle.law_model.specs.source.Course.{Course, called, asks}
-use Rattle.law_model.specs.source.Client.{Stream, offered, stream_before, place_of}
 use Rattle.gfp_fill.specs.Queue.{Held}
 use Rattle.gfp_fill.specs.Areas.{Sender}
 use Rattle.gfp_fill.specs.Stream.{FillerStands as HasWritten}

@@ -1,13 +1,10 @@
 -- What lands later changes nothing of what was sent before.
 use Rattle.std.proofs.Common.{◌≡◌, ◌≤◌, ◌<◌, ℕ, ◌+◌, ◌-◌, ◌*◌, ◌&&◌, nat_le, nat_lt, true, false, Bool, if◌then◌else◌}
 use Rattle.std.proofs.Common.{List, [], ◌∷◌, ◌++◌, map, filter, take, drop, All, Option, None, slice_index_or, refl}
-use Rattle.std.proofs.Common.{sym, ◌∙◌, ap, arith}
+use Rattle.std.proofs.Common.{sym, ◌∙◌, ap, arith, append-nil, take-append-drop, le-ltb}
 use Rattle.std.proofs.lemmas.Bool.Decides.{nat_tests}
-use Rattle.std.proofs.lemmas.List.{append-nil, take-append-drop}
 use Rattle.std.proofs.lemmas.List.Elements.{filter-append}
-use Rattle.law_model.specs.session.Scenario.{Scenario, DueCommand, DueFrame, lands_at, comes_at, steps_in}
-use Rattle.law_model.specs.source.Table.{Told}
-use Rattle.law_model.specs.source.Source.{cell_at}
+use Rattle.law_model.specs.Common.{Scenario, DueCommand, DueFrame, lands_at, comes_at, steps_in, Told, cell_at}
 use Rattle.law_session.specs.Session.{AgreeBefore}
 use Rattle.law_session.proofs.SessionLaws.{Agree-first}
 use Rattle.terminal_source.specs.source_core.Given.{has_come, first_items, ComesAlike}
@@ -69,9 +66,6 @@ prefix-alike all n xs none =
     ∙ ap (λ rest. filter all (take n xs) ++ rest) (sym (filter-none all (drop n xs) none))
     ∙ sym (filter-append all (take n xs) (drop n xs)) ∙ ap (filter all) (take-append-drop n xs)
 
-not-come : (t due : ℕ) → t ≤ due → nat_lt due t ≡ false
-not-come t due late = grind (arith, nat_tests, late)
-
 pub first-alike : (scenario : Scenario) (n m t : ℕ) →
     All (λ (order : DueCommand). t ≤ order.due) (drop n scenario.orders) →
     All (λ (offer : DueFrame). t ≤ offer.due) (drop m scenario.offers) →
@@ -81,8 +75,8 @@ first-alike scenario n m t orders offers = record {
   lag = refl;
   size = refl;
   offers = prefix-alike (λ (offer : DueFrame). has_come t offer.due) m scenario.offers
-      (λ k d low. not-come t (slice_index_or (drop m scenario.offers) k d).due (offers k d low));
+      (λ k d low. le-ltb (slice_index_or (drop m scenario.offers) k d).due t (offers k d low));
   orders = prefix-alike (λ (order : DueCommand). has_come t order.due) n scenario.orders
-      (λ k d low. not-come t (slice_index_or (drop n scenario.orders) k d).due (orders k d low));
+      (λ k d low. le-ltb (slice_index_or (drop n scenario.orders) k d).due t (orders k d low));
   tells = λ k low. refl;
 }

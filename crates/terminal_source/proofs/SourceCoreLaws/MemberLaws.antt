@@ -2,9 +2,8 @@
 use Rattle.std.proofs.Common.{◌≡◌, ℕ, zero, suc, ◌+◌, ◌<◌, ◌≤◌, true, false, if◌then◌else◌, inl, inr, List, [], ◌∷◌}
 use Rattle.std.proofs.Common.{map, filter, length, slice_index, subst, arith}
 use Rattle.std.proofs.lemmas.Bool.{cases_lt}
+use Rattle.law_model.specs.Common.{is_normal, active, Source, planned_of}
 use Rattle.law_model.specs.declared.lcas_states.Member.{Member}
-use Rattle.law_model.specs.source.Table.{is_normal, active}
-use Rattle.law_model.specs.source.Source.{Source, planned_of}
 use Rattle.law_session.specs.Feedback.{lines_of}
 use Rattle.law_session.proofs.PlanLaws.{one, one-self, times, IsBelow, IsPlan-once, Fits, Fits-size}
 use Rattle.member_rows.specs.vcat_interleave.Members.{AreLines}

@@ -4,13 +4,10 @@ use Rattle.std.proofs.Common.{slice_index_or, sym, ◌∙◌, ap, subst, arith}
 use Rattle.std.proofs.lemmas.List.{length-replicate, get_or-replicate}
 use Rattle.std.proofs.lemmas.List.Elements.{All-replicate}
 use Rattle.std.proofs.lemmas.List.FromFn.{fill_by_all}
-use Rattle.law_model.specs.session.Scenario.{Scenario, DueCommand, DueFrame, orders_at, frames_at, lands_at, comes_at}
-use Rattle.law_model.specs.session.Scenario.{steps_in}
-use Rattle.law_model.specs.source.Table.{Told, active}
-use Rattle.law_model.specs.packets.Telling.{untold}
-use Rattle.law_model.specs.source.Source.{opening, asked_all, after}
-use Rattle.law_model.specs.source.Course.{Course, begun}
-use Rattle.law_model.specs.source.Client.{offered, stream_before, place_of}
+use Rattle.law_model.specs.Common.{Scenario, DueCommand, DueFrame, orders_at, frames_at, lands_at, comes_at, steps_in}
+use Rattle.law_model.specs.Common.{Told, active, untold, asked_all, after, Course, offered, stream_before, place_of}
+use Rattle.law_model.specs.source.Source.{opening}
+use Rattle.law_model.specs.source.Course.{begun}
 use Rattle.law_session.proofs.PlanLaws.{opening-fits}
 use Rattle.gfp_fill.specs.Queue.{Held, unbegun}
 use Rattle.gfp_fill.specs.Areas.{Sender}

@@ -2,22 +2,15 @@
 use Rattle.std.proofs.Common.{◌≡◌, ◌<◌, ℕ, zero, suc, ◌%◌, ◌^◌, ◌==◌, not, Bool, true, false, List, [], ◌∷◌}
 use Rattle.std.proofs.Common.{map, length, slice_index_or, refl, sym, ◌∙◌, ap, arith}
 use Rattle.std.proofs.lemmas.List.FromFn.{fill_by_all}
-use Rattle.check_remainder.specs.Bits.{bits, number}
+use Rattle.law_model.proofs.ListLaws.{not-not}
+use Rattle.law_model.specs.Common.{bits, number, bit_nibble, Told, oks_in, untold, mst_by}
 use Rattle.check_remainder.proofs.BitLaws.{length-bits, number-bits}
-use Rattle.law_model.specs.packets.Packet.{bit_nibble}
-use Rattle.law_model.specs.source.Table.{Told}
-use Rattle.law_model.specs.packets.Told.{oks_in}
-use Rattle.law_model.specs.packets.Telling.{untold, mst_by}
 use Rattle.terminal_source.specs.source_core.Given.{told_next}
 
 -- ---- a return packet that is passed on
-not_twice : (b : Bool) → not (not b) ≡ b
-not_twice true = refl
-not_twice false = refl
-
 not-at : (bs : List Bool) (place : ℕ) → slice_index_or bs place false ≡ not (slice_index_or (map not bs) place true)
 not-at [] place = refl
-not-at (b ∷ bs) zero = sym (not_twice b)
+not-at (b ∷ bs) zero = sym (not-not b)
 not-at (b ∷ bs) (suc place) = not-at bs place
 
 -- member status goes on as it came

@@ -10,21 +10,13 @@ use Rattle.std.proofs.lemmas.Bool.Decides.{nat_tests}
 use Rattle.std.proofs.lemmas.List.{get_or_at, get_or_past, get_or-replicate, length-append}
 use Rattle.std.proofs.lemmas.List.Elements.{All-head, All-tail}
 use Rattle.std.proofs.lemmas.List.FromFn.{length-map-range_with_len, get_or-map-range_with_len, fill_by_all}
-use Rattle.member_cells.specs.declared.containers_and_cells.BackCell.{BackCell}
-use Rattle.member_cells.specs.declared.containers_and_cells.Container.{Container}
-use Rattle.law_model.specs.session.Scenario.{Scenario, DueCommand, DueFrame, orders_at, frames_at, lands_at, comes_at}
-use Rattle.law_model.specs.session.Scenario.{steps_in}
-use Rattle.law_model.specs.packets.Packet.{packet_nibbles}
-use Rattle.law_model.specs.frames.Piece.{stream_of}
-use Rattle.law_model.specs.source.Table.{Told, active}
-use Rattle.law_model.specs.packets.Told.{told_in}
-use Rattle.law_model.specs.source.Source.{Source, asked_all, decide, cell_at, after, source_at, table_of}
-use Rattle.law_model.specs.source.Course.{Course, called, decides, said_by, count_of}
-use Rattle.law_model.specs.packets.Forward.{forward_packet}
-use Rattle.law_model.specs.packets.Telling.{untold, telling_at, telling}
-use Rattle.law_model.specs.source.Client.{Stream, offered, reached, width, stream_before, place_of}
-use Rattle.law_model.specs.frames.Payload.{payload_of}
-use Rattle.law_model.specs.rows.Sent.{active_at, payload_on, nibble_in, nibble_at, container_of, frame_of}
+use Rattle.law_session.proofs.ClientLaws.{stream_before-next}
+use Rattle.law_model.specs.Common.{BackCell, Container, Scenario, DueCommand, DueFrame, orders_at, frames_at, lands_at}
+use Rattle.law_model.specs.Common.{comes_at, steps_in, packet_nibbles, stream_of, Told, active, told_in, Source}
+use Rattle.law_model.specs.Common.{asked_all, decide, cell_at, after, source_at, table_of, Course, called, decides}
+use Rattle.law_model.specs.Common.{said_by, count_of, forward_packet, untold, telling_at, telling, Stream, offered}
+use Rattle.law_model.specs.Common.{reached, width, stream_before, place_of, payload_of, active_at, payload_on}
+use Rattle.law_model.specs.Common.{nibble_in, nibble_at, container_of, frame_of}
 use Rattle.law_session.proofs.FeedbackLaws.{asked_all-table}
 use Rattle.law_session.proofs.SessionLaws.{Agree, Agree-append}
 use Rattle.gfp_fill.specs.Queue.{Held}
@@ -319,12 +311,6 @@ place-next : (scenario : Scenario) (cells : List (Option Told)) (t : ℕ) →
 unfolding place_of
 place-next scenario cells t = refl
 
-stream-next : (scenario : Scenario) (cells : List (Option Told)) (t : ℕ) →
-    stream_before scenario cells (suc t) ≡ reached (place_of scenario cells (suc t))
-    (fold offered (stream_before scenario cells t) (frames_at scenario t))
-unfolding stream_before
-stream-next scenario cells t = refl
-
 -- the place after the tick
 pub place-ticked : (scenario : Scenario) (cells : List (Option Told)) (back : Option BackCell) (t size : ℕ)
     (lines : List ℕ) → length cells ≡ steps_in t - scenario.lag → size ≡ scenario.size →
@@ -349,7 +335,7 @@ stream-ticked scenario cells back t place told is =
     ap (λ n. reached n (stream_now scenario cells t)) is
     ∙ ap (λ stream. reached (place_of scenario more (suc t)) (fold offered stream (frames_at scenario t)))
     (sym (alike-stream scenario more scenario cells t (tick-alike scenario cells back t told)))
-    ∙ sym (stream-next scenario more t)
+    ∙ sym (stream_before-next scenario more t)
 
 pub stream-now : (scenario : Scenario) (cells : List (Option Told)) (t : ℕ) →
     All (λ (offer : DueFrame). offer.due ≤ t) scenario.offers →

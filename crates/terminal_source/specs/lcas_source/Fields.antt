@@ -1,11 +1,8 @@
 -- The fields of a source's table: the course that they hold, and what is true of them.
 use Rattle.std.specs.Prelude.{ℕ, Bool, false, List, take, replicate, ◌≡◌, ◌-◌, ◌≤◌, []}
 use Rattle.arrayvec.specs.ArrayVec.{ArrayVec}
+use Rattle.law_model.specs.Common.{Table, Course, bits_from, Source, change}
 use Rattle.law_model.specs.declared.lcas_states.Command.{Command}
-use Rattle.law_model.specs.source.Table.{Table}
-use Rattle.law_model.specs.source.Course.{Course}
-use Rattle.law_model.specs.packets.GroupBit.{bits_from}
-use Rattle.law_model.specs.source.Source.{Source, change}
 use Rattle.law_session.proofs.PlanLaws.{Fits}
 
 abbrev pub course_in : ℕ → Table → List Bool → ArrayVec Command → ℕ → ℕ → Course

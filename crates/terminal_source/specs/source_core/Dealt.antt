@@ -1,9 +1,6 @@
 -- How the octets of a frame are dealt to the lines.
 use Rattle.std.specs.Prelude.{◌≡◌, ◌<◌, ℕ, ◌/◌, ◌%◌, List, length, slice_index, Option}
-use Rattle.law_model.specs.session.Scenario.{Scenario}
-use Rattle.law_model.specs.source.Table.{Told}
-use Rattle.law_model.specs.frames.Payload.{payload_of}
-use Rattle.law_model.specs.rows.Sent.{active_at, container_of}
+use Rattle.law_model.specs.Common.{Scenario, Told, payload_of, active_at, container_of}
 
 -- octet i of a frame is carried by the line of rank i mod x, at place i div x, where x lines carry payload
 abbrev pub carrier_of : Scenario → List (Option Told) → ℕ → ℕ → ℕ

@@ -1,11 +1,8 @@
 -- The containers of one frame, from what a terminal holds.
 use Rattle.std.specs.Prelude.{◌≡◌, ◌<◌, ℕ, ◌+◌, ◌-◌, ◌*◌, ◌%◌, Bool, if◌then◌else◌, List, [], map, drop, replicate}
-use Rattle.std.specs.Prelude.{slice_index, slice_index_or}
-use Rattle.std.specs.Option.{is_some}
+use Rattle.std.specs.Prelude.{slice_index, slice_index_or, is_some}
 use Rattle.std.specs.List.{range_with_len}
-use Rattle.member_cells.specs.declared.containers_and_cells.Container.{Container}
-use Rattle.law_model.specs.rows.Sent.{rank_of, payload_on}
-use Rattle.law_model.specs.Limits.{vc4_size}
+use Rattle.law_model.specs.Common.{Container, rank_of, payload_on, vc4_size}
 
 -- H4 in frame t, where these are the nibbles of the line's packet, which begins in a frame of number 8 modulo 16
 abbrev pub h4_by : ℕ → List ℕ → ℕ

@@ -2,17 +2,10 @@
 use Rattle.std.specs.Prelude.{◌≡◌, ◌≤◌, ◌<◌, ℕ, zero, suc, ◌+◌, ◌-◌, nat_lt, Bool, List, [], ◌∷◌, ◌++◌, map, filter}
 use Rattle.std.specs.Prelude.{fold, take, length, replicate, All, Option, Some, None}
 use Rattle.std.specs.List.{range_with_len}
-use Rattle.member_cells.specs.declared.containers_and_cells.BackCell.{BackCell}
+use Rattle.law_model.specs.Common.{BackCell, Scenario, DueCommand, DueFrame, frames_at, steps_in, with_items}
+use Rattle.law_model.specs.Common.{packet_nibbles, Told, active, told_in, Source, after, source_at, Course, untold}
+use Rattle.law_model.specs.Common.{telling_at, sent_packet, Stream, offered, stream_before, place_of}
 use Rattle.law_model.specs.declared.lcas_states.Command.{Command}
-use Rattle.law_model.specs.session.Scenario.{Scenario, DueCommand, DueFrame, frames_at, steps_in}
-use Rattle.law_model.specs.source.Journal.{with_items}
-use Rattle.law_model.specs.packets.Packet.{packet_nibbles}
-use Rattle.law_model.specs.source.Table.{Told, active}
-use Rattle.law_model.specs.packets.Told.{told_in}
-use Rattle.law_model.specs.source.Source.{Source, after, source_at}
-use Rattle.law_model.specs.source.Course.{Course}
-use Rattle.law_model.specs.packets.Telling.{untold, telling_at, sent_packet}
-use Rattle.law_model.specs.source.Client.{Stream, offered, stream_before, place_of}
 use Rattle.gfp_fill.specs.Stream.{FillerStands as HasWritten}
 use Rattle.terminal_source.specs.source_core.Terminal.{Terminal}
 

@@ -2,21 +2,14 @@
 use Rattle.std.specs.Prelude.{◌≡◌, ◌<◌, ◌≤◌, ℕ, ◌-◌, ◌*◌, ◌%◌, ◌==◌, Bool, true, false, List, map, length, All, Option}
 use Rattle.std.specs.Prelude.{option_map}
 use Rattle.std.specs.List.{range_with_len}
-use Rattle.member_cells.specs.declared.containers_and_cells.BackCell.{BackCell}
-use Rattle.law_model.specs.packets.Packet.{packet_nibbles}
-use Rattle.law_model.specs.source.Table.{Told, active}
-use Rattle.law_model.specs.packets.Told.{told_in}
-use Rattle.law_model.specs.session.Scenario.{steps_in}
-use Rattle.law_model.specs.source.Course.{Course, called, decides}
-use Rattle.law_model.specs.packets.Forward.{forward_packet}
-use Rattle.law_model.specs.packets.Telling.{untold, telling}
+use Rattle.law_model.specs.Common.{BackCell, packet_nibbles, Told, active, told_in, steps_in, Course, called, decides}
+use Rattle.law_model.specs.Common.{forward_packet, untold, telling, vc4_size}
 use Rattle.law_session.proofs.PlanLaws.{Fits}
 use Rattle.gfp_fill.specs.Queue.{Held}
 use Rattle.gfp_fill.specs.Areas.{Sender}
 use Rattle.member_rows.specs.vcat_interleave.Members.{AreLines}
 use Rattle.member_rows.specs.vcat_interleave.Spread.{AreDistinct}
 use Rattle.terminal_source.specs.source_core.Terminal.{Terminal}
-use Rattle.law_model.specs.Limits.{vc4_size}
 
 -- a decision step is made in the tick of frame t
 abbrev pub is_step : ℕ → Bool

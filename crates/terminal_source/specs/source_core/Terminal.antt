@@ -1,7 +1,6 @@
 -- What a source terminal holds.
 use Rattle.std.specs.Prelude.{◌≡◌, ℕ, ◌-◌, ◌/◌, ◌%◌, ◌==◌, ◌&&◌, nat_le, if◌then◌else◌, List, Option, Some, None}
-use Rattle.law_model.specs.source.Table.{Told}
-use Rattle.law_model.specs.source.Course.{Course}
+use Rattle.law_model.specs.Common.{Told, Course}
 use Rattle.gfp_fill.specs.Queue.{Held}
 use Rattle.gfp_fill.specs.Areas.{Sender}
 

@@ -1,8 +1,7 @@
 //! The bits of a group (GID), packet by packet.
 
 ghost use Rattle.std.specs.Prelude.{◌≡◌, ◌∷◌, [], ◌++◌, false, drop, slice_index_or};
-ghost use Rattle.check_remainder.specs.Bits.{xor};
-ghost use Rattle.law_model.specs.packets.GroupBit.{bits_from};
+ghost use Rattle.law_model.specs.Common.{xor, bits_from};
 
 use std::marker::Model;
 
@@ -15,7 +14,7 @@ pub struct GroupBits {
 
 impl Model for GroupBits {
     ghost use Rattle.std.specs.Prelude.{List, Bool, ◌<◌, ◌^◌};
-    ghost use Rattle.check_remainder.specs.Bits.{bits, number};
+    ghost use Rattle.law_model.specs.Common.{bits, number};
     ghost use Rattle.std.proofs.Common.{◌∙◌, ap, mod-eq_of_lt};
     ghost use Rattle.check_remainder.proofs.BitLaws.{number-bits};
 

@@ -4,29 +4,25 @@ ghost use Rattle.std.specs.Prelude.{◌≡◌, ◌+◌, ◌/◌, ◌%◌, ◌^�
 ghost use Rattle.std.specs.Prelude.{drop, position, Some, None, IfSome, IfNone};
 ghost use Rattle.std.specs.List.{list_any};
 ghost use Rattle.std.specs.Bool.{OnTrue, OnFalse};
+ghost use Rattle.law_model.specs.Common.{is_adding, is_normal, is_ok, is_fail, admit, turn, turned, take_out, exchange};
+ghost use Rattle.law_model.specs.Common.{kept_in, keep, none_kept, oks_in, place_in, ctrl_by, state_by, state_without};
+ghost use Rattle.law_model.specs.Common.{state_in};
 ghost use Rattle.law_model.specs.declared.lcas_states.Member.{Member};
-ghost use Rattle.law_model.specs.source.Table.{is_adding, is_normal, is_ok, is_fail, admit, turn, turned, take_out};
-ghost use Rattle.law_model.specs.source.Table.{exchange, kept_in, keep, none_kept};
-ghost use Rattle.law_model.specs.packets.Told.{oks_in};
-ghost use Rattle.law_model.specs.packets.Forward.{place_in, ctrl_by, state_by, state_without, state_in};
 ghost use Rattle.terminal_source.specs.lcas_source.Exchange.{taken_out};
 
 use arrayvec::ArrayVec;
+use law_model::{MOST_LINES, Member, SourceState, Standing};
 use member_cells::Ctrl;
-use law_model::{Member, SourceState, Standing};
 use member_rows::lcas_packet::Packet;
 use std::marker::Model;
 
-/// The most lines of a group, and the most sequence numbers.
-const LINES: usize = 128;
-
 /// The statuses of the sequence numbers: OK, FAIL, or none where it is not known.
-type Statuses = [Option<bool>; LINES];
+type Statuses = [Option<bool>; MOST_LINES];
 
 /// The lines that have a sequence number, in its order, and what is known of the last change.
 #[derive(Drop)]
 pub struct LineTable {
-    members: ArrayVec<Member, LINES>,
+    members: ArrayVec<Member, MOST_LINES>,
     leaving: Option<u8>,
     changes: u32,
     acknowledged: bool,
@@ -34,7 +30,7 @@ pub struct LineTable {
 }
 
 impl Model for LineTable {
-    ghost use Rattle.law_model.specs.source.Table.{Table};
+    ghost use Rattle.law_model.specs.Common.{Table};
 
     ghost Value = { Table };
 
@@ -48,13 +44,9 @@ impl Model for LineTable {
 }
 
 impl LineTable {
-    ghost use Rattle.law_model.specs.declared.lcas_states.Command.{Command};
+    ghost use Rattle.law_model.specs.Common.{first_table, changed, heard, told_on, carried_out, exchange, exchanged};
+    ghost use Rattle.law_model.specs.Common.{kept_of, told_by, active, place_in, state_of};
     ghost use Rattle.law_model.specs.declared.lcas_states.Command.TheVariants.{Add as add, Remove as remove};
-    ghost use Rattle.law_model.specs.source.Table.{first_table, changed, heard, told_on, carried_out, exchange, exchanged};
-    ghost use Rattle.law_model.specs.source.Table.{kept_of};
-    ghost use Rattle.law_model.specs.packets.Told.{told_by};
-    ghost use Rattle.law_model.specs.source.Table.{active};
-    ghost use Rattle.law_model.specs.packets.Forward.{place_in, state_of};
 
     /// The table before the first step.
     pub fn new() -> LineTable
@@ -152,7 +144,7 @@ impl LineTable {
     }
 
     /// The lines that carry payload, in the order of their sequence numbers.
-    pub fn active(&self) -> ArrayVec<u8, LINES>
+    pub fn active(&self) -> ArrayVec<u8, MOST_LINES>
         ensures { result.items ≡ active self.now }
     {
         active(&self.members)
@@ -252,7 +244,7 @@ fn active_count(members: &[Member]) -> u8
 }
 
 /// The lines in NORM.
-fn active(members: &[Member]) -> ArrayVec<u8, LINES>
+fn active(members: &[Member]) -> ArrayVec<u8, MOST_LINES>
     requires { length members.now ≤ 128 }
     ensures { result.items ≡ map (λ member. member.line) (filter is_normal members.now) }
 {
@@ -273,7 +265,7 @@ fn is_normal(member: &Member) -> bool
 }
 
 /// Takes a line out of the order.
-fn take_out(members: &mut ArrayVec<Member, LINES>, line: u8)
+fn take_out(members: &mut ArrayVec<Member, MOST_LINES>, line: u8)
     ensures { members.new.items ≡ filter (λ member. not (member.line == line)) members.old.items }
 {
     members.retain(|member| member.line != line);
@@ -283,7 +275,7 @@ fn take_out(members: &mut ArrayVec<Member, LINES>, line: u8)
 fn unknown() -> Statuses
     ensures { result ≡ none_kept }
 {
-    [None; LINES]
+    [None; MOST_LINES]
 }
 
 /// Whether a line is in ADD.
@@ -377,7 +369,7 @@ fn status_at(mst: u8, bit: u32) -> Option<bool>
 
 /// Where the first line in ADD has FAIL and a later one has OK, the first such later line is taken out and
 /// put before it. Says whether there was such a line.
-fn exchange(members: &mut ArrayVec<Member, LINES>, statuses: &Statuses) -> bool
+fn exchange(members: &mut ArrayVec<Member, MOST_LINES>, statuses: &Statuses) -> bool
     ensures made { OnTrue result (exchange (kept_in statuses.now) 0 members.old.items
         ≡ Some members.new.items) }
     ensures none { OnFalse result (exchange (kept_in statuses.now) 0 members.old.items ≡ None) }

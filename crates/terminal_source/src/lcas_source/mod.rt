@@ -4,12 +4,7 @@
 //! which a line is added, removed, passed over and brought forward are this project's own.
 
 ghost use Rattle.std.specs.Prelude.{◌≡◌, ℕ, ◌+◌, ◌-◌, ◌<◌, [], ◌∷◌, ◌++◌, true, List, Option, length};
-ghost use Rattle.check_remainder.specs.Bits.{xor};
-ghost use Rattle.law_model.specs.session.Scenario.{Scenario};
-ghost use Rattle.law_model.specs.source.Table.{Told};
-ghost use Rattle.law_model.specs.source.Source.{after};
-ghost use Rattle.law_model.specs.source.Course.{Call, called, course_of, calls_before};
-ghost use Rattle.law_model.specs.packets.GroupBit.{group_bit};
+ghost use Rattle.law_model.specs.Common.{xor, Scenario, Told, after, Call, called, course_of, calls_before, group_bit};
 
 mod group_bits;
 mod member_table;

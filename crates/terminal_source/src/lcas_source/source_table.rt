@@ -4,23 +4,20 @@ ghost use Rattle.std.specs.Prelude.{◌≡◌, ℕ, ◌+◌, ◌-◌, ◌%◌, �
 ghost use Rattle.std.specs.Prelude.{nat_lt, option_map};
 ghost use Rattle.std.specs.Bool.{OnTrue};
 ghost use Rattle.std.specs.List.{list_all};
+ghost use Rattle.law_model.specs.Common.{heard, active, packet_read, told_in, read_of, bits_from, refusal, line_of};
+ghost use Rattle.law_model.specs.Common.{asks, decides, called, course_of, said_by, count_of, forward_packet, state_of};
+ghost use Rattle.law_model.specs.Common.{refusal_in};
 ghost use Rattle.law_model.specs.declared.lcas_states.Command.{Command as CommandData};
 ghost use Rattle.law_model.specs.declared.lcas_states.Command.TheVariants.{Add as add, Remove as remove};
-ghost use Rattle.law_model.specs.source.Table.{heard, active};
-ghost use Rattle.law_model.specs.packets.Told.{packet_read, packet_in, told_in};
-ghost use Rattle.law_model.specs.packets.Packet.{read_of};
-ghost use Rattle.law_model.specs.packets.GroupBit.{bits_from};
-ghost use Rattle.law_model.specs.source.Source.{refusal, line_of, is_add};
-ghost use Rattle.law_model.specs.source.Course.{asks, decides, called, course_of, said_by, count_of};
-ghost use Rattle.law_model.specs.packets.Forward.{forward_packet, state_of};
-ghost use Rattle.law_model.specs.source.Accepted.{refusal_in};
+ghost use Rattle.law_model.specs.packets.Told.{packet_in};
+ghost use Rattle.law_model.specs.source.Source.{is_add};
 ghost use Rattle.terminal_source.specs.lcas_source.Fields.{none_planned, changed_by};
 
 use crate::lcas_source::group_bits::GroupBits;
 use crate::lcas_source::member_table::LineTable;
 use arrayvec::ArrayVec;
+use law_model::{Command, CommandFault, MOST_LINES, SourceState};
 use member_cells::BackCell;
-use law_model::{Command, CommandFault, SourceState};
 use member_rows::lcas_packet::{Packet, read};
 use std::marker::Model;
 
@@ -34,7 +31,7 @@ pub struct SourceTable {
     lines: u8,
     table: LineTable,
     /// Which lines accepted commands have added and not removed.
-    planned: [bool; 128],
+    planned: [bool; MOST_LINES],
     /// The accepted commands that aren't carried out, the oldest first.
     pending: ArrayVec<Command, PENDING>,
     /// How many return cells were taken.
@@ -46,7 +43,7 @@ pub struct SourceTable {
 }
 
 impl Model for SourceTable {
-    ghost use Rattle.law_model.specs.source.Course.{Course};
+    ghost use Rattle.law_model.specs.Common.{Course};
     ghost use Rattle.terminal_source.specs.lcas_source.Fields.{course_in, IsTable};
 
     ghost Value = { Course };
@@ -123,7 +120,7 @@ impl SourceTable {
     }
 
     /// The lines that carry payload, by sequence number.
-    pub fn active(&self) -> ArrayVec<u8, 128>
+    pub fn active(&self) -> ArrayVec<u8, MOST_LINES>
         ensures { result.items ≡ active self.now.source.table }
     {
         self.table.active()
@@ -189,10 +186,10 @@ fn is_add(command: Command) -> bool
 }
 
 /// No line is planned.
-fn none_planned() -> [bool; 128]
+fn none_planned() -> [bool; MOST_LINES]
     ensures { result ≡ none_planned }
 {
-    [false; 128]
+    [false; MOST_LINES]
 }
 
 /// Takes a return cell, if there is one, and counts it.

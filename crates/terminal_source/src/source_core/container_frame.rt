@@ -2,24 +2,20 @@
 
 ghost use Rattle.std.specs.Prelude.{◌≡◌, ℕ, ◌+◌, ◌-◌, ◌*◌, ◌<◌, ◌≤◌, if◌then◌else◌, All, false, length, take};
 ghost use Rattle.std.specs.Prelude.{drop, replicate, slice_index_or};
-ghost use Rattle.law_model.specs.frames.Piece.{stream_of};
-ghost use Rattle.law_model.specs.source.Client.{Stream, reached};
+ghost use Rattle.law_model.specs.Common.{stream_of, Stream, reached, vc4_size};
 ghost use Rattle.gfp_fill.specs.Stream.{FillerStands};
 ghost use Rattle.member_cells.specs.Held.{held};
 ghost use Rattle.member_rows.specs.vcat_interleave.Members.{AreLines, with_octets};
 ghost use Rattle.member_rows.specs.vcat_interleave.Spread.{Spreads};
 ghost use Rattle.terminal_source.specs.source_core.Frame.{h4_by, carries, IsBegun, AreBegun};
 ghost use Rattle.terminal_source.specs.source_core.Step.{AreMembers, AreNibbles};
-ghost use Rattle.law_model.specs.Limits.{vc4_size};
 
 use crate::source_core::packets_of_step::NIBBLES;
-use member_cells::{Container, HeldContainer};
 use gfp_fill::{Filler, FrameQueue};
+use law_model::MOST_LINES;
+use member_cells::{Container, HeldContainer};
 use member_path::h4_multiframe::h4;
 use member_rows::vcat_interleave::spread_places;
-
-/// The most lines of a group.
-const LINES: usize = 128;
 
 /// Writes H4 of all lines, by the nibbles of their packets, and zeros where no octet of the stream is carried.
 pub(super) fn begin_all(
@@ -44,11 +40,11 @@ pub(super) fn begin_all(
 }
 
 /// Which lines carry payload.
-fn carriers(active: &[u8]) -> [bool; LINES]
+fn carriers(active: &[u8]) -> [bool; MOST_LINES]
     requires lines { AreLines 128 active.now }
     ensures { (line : ℕ) → line < 128 → slice_index_or result line false ≡ carries active.now line }
 {
-    let mut carry = [false; LINES];
+    let mut carry = [false; MOST_LINES];
     for rank in 0..active.len() {
         carry[usize::from(active[rank])] = true;
     }

@@ -6,13 +6,13 @@
 //! needs which return cell; `membership_law`: which rows a change of members governs.
 
 mod container_frame;
-mod source_laws;
 mod packets_of_step;
+mod source_laws;
 mod source_terminal;
 
 pub use crate::lcas_source::CommandFault;
 pub use gfp_fill::AcceptFault;
 pub use law_model::Command;
-pub use source_laws::{accepted_law, landed_law, membership_law, needed_law};
 pub use member_rows::lcas_packet::Packet;
+pub use source_laws::{accepted_law, landed_law, membership_law, needed_law};
 pub use source_terminal::SourceCore;

@@ -1,13 +1,13 @@
 //! A decision step, and what the lines send until the next one.
 
 ghost use Rattle.std.specs.Prelude.{◌≡◌, ◌<◌, ◌≤◌, All, IfOk, length, replicate};
-ghost use Rattle.law_model.specs.packets.Packet.{packet_nibbles};
-ghost use Rattle.law_model.specs.packets.Telling.{telling, passed_on};
+ghost use Rattle.law_model.specs.Common.{packet_nibbles, telling, passed_on};
 ghost use Rattle.terminal_source.specs.source_core.Step.{is_step, table_by, active_by, nibbles_of, nibbles_by, left_by, AreNibbles};
 
 use crate::lcas_source::SourceTable;
 use arrayvec::ArrayVec;
 use member_cells::BackCell;
+use law_model::MOST_LINES;
 use member_rows::lcas_packet::Packet;
 use std::alloc::{AllocError, Global};
 
@@ -22,7 +22,7 @@ pub(super) fn take_step(
     back: Option<BackCell>,
     told: &mut Option<Packet>,
     table: &mut SourceTable,
-    active: &mut ArrayVec<u8, 128>,
+    active: &mut ArrayVec<u8, MOST_LINES>,
     nibbles: &mut [[u8; NIBBLES]],
 )
     requires few { table.old.steps < 4294967295 }

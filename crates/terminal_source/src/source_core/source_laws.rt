@@ -2,19 +2,13 @@
 
 ghost use Rattle.std.specs.Prelude.{◌≡◌, ◌↔◌, ◌<◌, ◌≤◌, ◌+◌, ◌-◌, ◌*◌, ℕ, [], List, Option, Some, None, All, drop};
 ghost use Rattle.std.specs.Prelude.{length, replicate};
-ghost use Rattle.law_model.specs.session.Scenario.{Scenario, steps_in};
-ghost use Rattle.law_model.specs.source.Table.{Told, active};
-ghost use Rattle.law_model.specs.source.Source.{after, table_of};
-ghost use Rattle.law_model.specs.source.Client.{stream_before};
-ghost use Rattle.law_model.specs.frames.Payload.{payload_of};
-ghost use Rattle.law_model.specs.source.Journal.{replayed};
-ghost use Rattle.law_model.specs.rows.Sent.{rank_of, active_at, container_of, frame_of};
+ghost use Rattle.law_model.specs.Common.{Scenario, steps_in, Told, active, after, table_of, stream_before, payload_of};
+ghost use Rattle.law_model.specs.Common.{replayed, rank_of, active_at, container_of, frame_of, vc4_size};
 ghost use Rattle.law_session.specs.Session.{AgreeBefore};
 ghost use Rattle.member_rows.specs.vcat_interleave.Spread.{AreDistinct};
 ghost use Rattle.terminal_source.specs.source_core.Terminal.{needed_at};
 ghost use Rattle.terminal_source.specs.source_core.Given.{ComesAlike, first_items};
 ghost use Rattle.terminal_source.specs.source_core.Dealt.{IsDealt};
-ghost use Rattle.law_model.specs.Limits.{vc4_size};
 
 /// What lands later, and return cells that come later, change nothing of what was sent before: so what a
 /// terminal makes of the items that have landed is what the definitions say of the whole session.

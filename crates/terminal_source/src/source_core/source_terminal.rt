@@ -2,25 +2,19 @@
 
 ghost use Rattle.std.specs.Prelude.{◌≡◌, ◌+◌, ◌<◌, ◌≤◌, ◌↔◌, [], List, Option, IfOk, OnErr, IsSome, length};
 ghost use Rattle.law_model.specs.declared.lcas_states.Command.TheVariants.{Add as add, Remove as remove};
-ghost use Rattle.law_model.specs.session.Scenario.{Scenario, steps_in};
-ghost use Rattle.law_model.specs.source.Table.{Told};
-ghost use Rattle.law_model.specs.packets.Told.{told_by};
-ghost use Rattle.law_model.specs.source.Source.{refusal};
-ghost use Rattle.law_model.specs.source.Client.{refusal_while};
-ghost use Rattle.law_model.specs.source.Accepted.{refusal_in};
-ghost use Rattle.law_model.specs.rows.Sent.{frame_of};
+ghost use Rattle.law_model.specs.Common.{Scenario, steps_in, Told, told_by, refusal, refusal_while, refusal_in};
+ghost use Rattle.law_model.specs.Common.{frame_of, vc4_size};
 ghost use Rattle.member_cells.specs.Held.{held};
 ghost use Rattle.terminal_source.specs.source_core.Terminal.{needed, SameKind};
 ghost use Rattle.terminal_source.specs.source_core.Given.{with_frame, with_command, with_cell, with_told, IsFresh, SourceStands};
-ghost use Rattle.law_model.specs.Limits.{vc4_size};
 
 use crate::lcas_source::{CommandFault, SourceTable};
 use crate::source_core::container_frame::{begin_all, fill_all};
 use crate::source_core::packets_of_step::{NIBBLES, no_packets, take_step};
 use arrayvec::ArrayVec;
-use member_cells::{BackCell, HeldContainer};
 use gfp_fill::{AcceptFault, Filler, FrameQueue};
-use law_model::Command;
+use law_model::{Command, MOST_LINES};
+use member_cells::{BackCell, HeldContainer};
 use member_rows::lcas_packet::Packet;
 use std::alloc::{AllocError, Global};
 use std::marker::Model;
@@ -41,7 +35,7 @@ pub struct SourceCore {
     /// How many frames were made.
     ticks: u32,
     /// The lines that carry payload.
-    active: ArrayVec<u8, 128>,
+    active: ArrayVec<u8, MOST_LINES>,
     /// The nibbles of the packet of each line.
     nibbles: Vec<[u8; NIBBLES]>,
     /// The return packet that the packets of the next decision step pass on.
@@ -52,7 +46,7 @@ pub struct SourceCore {
 
 impl Model for SourceCore {
     ghost use Rattle.std.specs.Prelude.{length};
-    ghost use Rattle.law_model.specs.packets.Telling.{passed_on};
+    ghost use Rattle.law_model.specs.Common.{passed_on};
     ghost use Rattle.terminal_source.specs.source_core.Terminal.{Terminal};
     ghost use Rattle.terminal_source.specs.source_core.Step.{terminal_of, IsTerminal};
 

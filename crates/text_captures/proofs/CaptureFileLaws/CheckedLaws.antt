@@ -1,5 +1,5 @@
 -- What is known of records that were read one after another.
-use Rattle.std.proofs.Common.{◌≡◌, ℕ, ◌+◌, ◌*◌, ◌≤◌, List, [], ◌∷◌, ◌++◌, length, Some, refl, ◌∙◌, ap, arith}
+use Rattle.std.proofs.Common.{◌≡◌, ℕ, ◌+◌, ◌*◌, ◌≤◌, List, [], ◌∷◌, ◌++◌, length, Some, refl, ◌∙◌, ap}
 use Rattle.text_captures.specs.declared.capture_file.capture_form.Form.{Form}
 use Rattle.text_captures.specs.declared.capture_file.capture_form.RecordHead.{RecordHead}
 use Rattle.text_captures.specs.declared.capture_file.record_clock.Clock.{Clock}
@@ -41,7 +41,3 @@ read-more form body rest behind octets old new head before read is unit stands =
 pub due-is : (form : Form) (body rest : List ℕ) (clock : Clock) (before : List Record) →
     HasRead form body rest clock before → clock.due ≡ due_of form.unit before
 due-is form body rest clock before read = read.stands.due ∙ ap (λ unit. due_of unit before) read.unit
-
-pub no-octets : (octets : List ℕ) → length octets ≡ 0 → octets ≡ []
-no-octets [] none = refl
-no-octets (o ∷ octets) none = absurd (omega (arith, none))

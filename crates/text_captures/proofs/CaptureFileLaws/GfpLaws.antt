@@ -4,13 +4,10 @@ use Rattle.std.proofs.Common.{append-nil}
 use Rattle.std.specs.Int.{w16, to_be_bytes}
 use Rattle.std.specs.List.{flat_map}
 use Rattle.std.proofs.lemmas.List.Concat.{flat_map-append}
-use Rattle.check_remainder.specs.Bits.{bits, octet_bits, octets_of, xors}
+use Rattle.law_model.specs.Common.{bits, octet_bits, octets_of, xors, hec_of, hec_bits, core_header, client, area_of}
+use Rattle.law_model.specs.Common.{type_header}
 use Rattle.check_remainder.proofs.OctetLaws.{octet_bits-bytes_high_first}
-use Rattle.check_hec16.specs.Hec.{hec_of, hec_bits}
 use Rattle.check_hec16.proofs.HecLaws.{bits-hec_of}
-use Rattle.law_model.specs.frames.Core.{core_header}
-use Rattle.law_model.specs.frames.Piece.{client, area_of}
-use Rattle.law_model.specs.frames.TypeHeader.{type_header}
 use Rattle.text_captures.specs.capture_file.Written.{RowFrame, record_head}
 use Rattle.text_captures.specs.capture_file.Gfp.{plain_header, with_pattern, gfp_octets, gfp_record, gfp_head, gfp_capture}
 

@@ -4,7 +4,7 @@ use Rattle.std.proofs.Common.{append_assoc, append-nil}
 use Rattle.std.proofs.Math.Seq.{take-append_seam, drop-append_seam}
 use Rattle.std.proofs.lemmas.Grind.{flat_map-append}
 use Rattle.std.proofs.lemmas.List.{map-append}
-use Rattle.octet_io.specs.Start.{Start}
+use Rattle.law_model.specs.Common.{Start}
 use Rattle.text_got.specs.Told.{HasText}
 use Rattle.text_captures.specs.capture_file.Written.{RowFrame, record_head, record_octets, records_octets, ethernet_head}
 use Rattle.text_captures.specs.capture_file.Written.{ethernet_capture}

@@ -25,9 +25,6 @@ unfolding greatest
 greatest-more [] n = max-zero n
 greatest-more (m ∷ ns) n = ap (λ x. max m x) (greatest-more ns n) ∙ max-assoc m (greatest ns) n
 
-no-ticks : (t : ℕ) → 0 ≡ max (ticks_between t t) 0
-no-ticks t = let e : t - t ≡ 0 = omega arith in rw e refl
-
 pub stands-begun : (unit : TimeUnit) → ClockStands (record { unit = unit; first = None; due = 0 }) []
 unfolding greatest
 stands-begun unit = record { first = refl; due = refl }

@@ -1,16 +1,12 @@
 -- How octets are cut into records.
 use Rattle.std.proofs.Common.{◌≡◌, ℕ, zero, suc, ◌+◌, ◌-◌, ◌<◌, ◌≤◌, Bool, true, false, List, [], ◌∷◌, ◌++◌, length}
 use Rattle.std.proofs.Common.{take, drop, Option, Some, None, if◌then◌else◌, refl, sym, ◌∙◌, ap, subst, arith}
-use Rattle.std.proofs.Common.{append_assoc, append-nil}
-use Rattle.std.specs.Prelude.{nat_le}
-use Rattle.std.specs.Option.{unwrap_or}
-use Rattle.std.proofs.lemmas.Bool.{le-leb, lt-leb, leb-true}
-use Rattle.std.proofs.lemmas.List.{length-drop}
-use Rattle.std.proofs.Math.Seq.{take-length}
+use Rattle.std.proofs.Common.{append_assoc, append-nil, nat_le, unwrap_or, le-leb, leb-true, length-drop}
+use Rattle.std.proofs.lemmas.Bool.{lt-leb}
 use Rattle.text_captures.specs.declared.capture_file.capture_form.ByteOrder.{ByteOrder}
 use Rattle.text_captures.specs.declared.capture_file.capture_form.RecordHead.{RecordHead}
-use Rattle.text_captures.specs.capture_file.Form.{number_at, Record, Cut, head_of, first_record, behind_record, cut_then, cut_in}
-use Rattle.text_captures.specs.capture_file.Form.{cut_of, records_of, rest_of}
+use Rattle.text_captures.specs.capture_file.Form.{number_at, Record, Cut, head_of, first_record, behind_record}
+use Rattle.text_captures.specs.capture_file.Form.{cut_then, cut_in, cut_of, records_of, rest_of}
 
 -- ---- the first record
 pub record-there : (order : ByteOrder) (octets found rest : List ℕ) (head : RecordHead) → head ≡ head_of order octets →
@@ -121,5 +117,3 @@ has-ended order body rest before none has =
     )
 
 -- ---- what a slice has from a place on
-pub rest-whole : (k : ℕ) (octets : List ℕ) → take (length octets - k) (drop k octets) ≡ drop k octets
-rest-whole k octets = ap (λ n. take n (drop k octets)) (sym (length-drop k octets)) ∙ take-length (drop k octets)

@@ -7,10 +7,9 @@ use Rattle.std.proofs.Math.Bool.{and_assoc, and-true}
 use Rattle.std.proofs.lemmas.Bool.{cases_Bool, cases_lt, and_parts, and_cases, and_from, and_left, and_right, eqb-true}
 use Rattle.std.proofs.lemmas.Bool.{ne_eqb, lt-ltb, le-ltb, ltb-true, ltb-false, le-leb, lt-leb}
 use Rattle.std.proofs.lemmas.List.{append-nil, length-append, length-map, map-append, take_all, take-append-le}
-use Rattle.law_model.specs.members.Number.{LineLock, locked, Sight, unknown, locks, at, sight_of, lock_after}
-use Rattle.law_model.specs.members.Sight.{lock_by, sights_on}
-use Rattle.law_model.specs.packets.Packet.{read_of}
-use Rattle.law_model.specs.packets.Decode.{good_cells, is_at, is_front, upper_halves, Found, packet_here, packets_on}
+use Rattle.law_model.specs.Common.{LineLock, locked, Sight, unknown, locks, at, sight_of, lock_after, lock_by}
+use Rattle.law_model.specs.Common.{sights_on, read_of, good_cells, is_at, is_front, upper_halves, Found, packet_here}
+use Rattle.law_model.specs.Common.{packets_on}
 use Rattle.text_captures.specs.packet_trace.Decoder.{begun_on}
 
 -- what is known of the line after octets

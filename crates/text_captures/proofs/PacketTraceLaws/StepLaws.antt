@@ -10,13 +10,12 @@ use Rattle.member_path.specs.declared.h4_multiframe.Place.{Place}
 use Rattle.member_path.specs.declared.h4_multiframe.Place.TheVariants.{Unknown, Locks as LocksAnswer, At}
 use Rattle.member_path.specs.h4_multiframe.Place.{IsPlace}
 use Rattle.member_path.specs.h4_multiframe.LockState.{LockStands}
+use Rattle.law_model.specs.Common.{LineLock, unlocked, Sight, unknown, locks, at, sight_of, lock_by, read_of, Found}
+use Rattle.law_model.specs.Common.{good_cells, is_at}
 use Rattle.law_model.specs.declared.control_packet.Packet.{Packet}
 use Rattle.law_model.specs.declared.control_packet.PacketFault.{PacketFault}
-use Rattle.law_model.specs.members.Number.{LineLock, unlocked, Sight, unknown, locks, at, sight_of}
-use Rattle.law_model.specs.members.Sight.{lock_by}
-use Rattle.law_model.specs.packets.Packet.{read_of}
-use Rattle.law_model.specs.packets.Decode.{Found, good_cells, is_at, packets_in}
-use Rattle.law_line.proofs.ListLaws.{append_one}
+use Rattle.law_model.specs.packets.Decode.{packets_in}
+use Rattle.law_model.proofs.ListLaws.{append_one}
 use Rattle.law_line.proofs.SightLaws.{LockStands as SightStands, IsSight, sight-is, stands-none}
 use Rattle.law_line.proofs.SignLaws.{stands-next}
 use Rattle.text_captures.specs.packet_trace.Decoder.{Decoding, DecoderStands}

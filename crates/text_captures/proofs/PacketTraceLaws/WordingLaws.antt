@@ -1,22 +1,18 @@
 -- The packets that are computed of octets are those that are worded, and no others are.
 use Rattle.std.proofs.Common.{◌≡◌, ℕ, zero, suc, ◌+◌, ◌%◌, ◌<◌, ◌≤◌, ◌==◌, nat_le, Bool, true, inl, inr, List, [], ◌∷◌}
 use Rattle.std.proofs.Common.{◌++◌, length, take, drop, slice_index, slice_get, Option, Some, refl, sym, ◌∙◌, ap, subst}
-use Rattle.std.proofs.Common.{arith, append_assoc, length-take}
+use Rattle.std.proofs.Common.{arith, append_assoc, length-take, eq-or-lt_of_le, eqb-true, eq-eqb, leb-true, le-leb}
+use Rattle.std.proofs.Common.{append-nil, length-append, take-append-drop}
 use Rattle.std.specs.List.{list_all}
-use Rattle.std.proofs.Math.Nat.{eq-or-lt_of_le}
 use Rattle.std.proofs.Math.Seq.{drop-append_seam}
 use Rattle.std.proofs.lemmas.Option.{slice_get_within}
-use Rattle.std.proofs.lemmas.Bool.{cases_Bool, both_ways, cases_order, and_parts, and_from, eqb-true, eq-eqb, leb-true}
-use Rattle.std.proofs.lemmas.Bool.{le-leb}
-use Rattle.std.proofs.lemmas.List.{append-nil, length-append, take-append-drop}
-use Rattle.check_nibbles.specs.Lock.{IsAt}
-use Rattle.check_nibbles.proofs.LockLaws.{IsInStep-append, IsInStep_before, IsInStep-inside, IsAt-append}
-use Rattle.law_model.specs.members.Number.{LineLock, unlocked, at, sight_of}
-use Rattle.law_model.specs.members.Sight.{sights_on, lock_by}
-use Rattle.law_model.specs.packets.Packet.{read_of}
-use Rattle.law_model.specs.packets.Decode.{good_cells, is_at, is_front, begins_packet, front_nibbles, Found, packet_here}
-use Rattle.law_model.specs.packets.Decode.{packets_on, packets_in}
-use Rattle.law_line.proofs.ListLaws.{append_one, slice_get-inside}
+use Rattle.std.proofs.lemmas.Bool.{cases_Bool, both_ways, cases_order, and_parts, and_from}
+use Rattle.law_line.proofs.CountLaws.{IsAt_before}
+use Rattle.law_model.specs.Common.{IsAt, LineLock, unlocked, at, sight_of, sights_on, lock_by, read_of, good_cells}
+use Rattle.law_model.specs.Common.{is_at, is_front, begins_packet, front_nibbles, Found, packet_here, packets_on}
+use Rattle.check_nibbles.proofs.LockLaws.{IsInStep-inside, IsAt-append}
+use Rattle.law_model.specs.packets.Decode.{packets_in}
+use Rattle.law_model.proofs.ListLaws.{append_one, slice_get-inside}
 use Rattle.law_line.proofs.SightLaws.{LockStands as SightStands, IsSight}
 use Rattle.law_line.proofs.SignLaws.{sights-each, IsSight_only, length-sights_on}
 use Rattle.text_captures.specs.packet_trace.Wording.{HasPacketAt, AreFound, AreWorded, AreOnly, PacketsStay}
@@ -34,17 +30,6 @@ slice_index-append (x ∷ before) rest k =
 IsAt_inside : (octets : List ℕ) (place : ℕ) → IsAt (good_cells octets) place → place < length octets
 IsAt_inside octets place is =
     subst (λ n. place < n) (length-good_cells octets) (IsInStep-inside (good_cells octets) is.0 place is.1.in_step)
-
-IsAt_before : (cells more : List (Option ℕ)) (place : ℕ) → place < length cells → IsAt (cells ++ more) place →
-    IsAt cells place
-IsAt_before cells more place inside is = (
-  is.0,
-  record {
-    in_step = IsInStep_before cells more is.0 place inside is.1.in_step;
-    first = λ k before step. is.1.first k before (IsInStep-append cells more k place step);
-  },
-  is.2,
-)
 
 -- ---- each element of a list passes a test
 all-true : {X : Type 0} (p : X → Bool) (xs : List X) → list_all p xs ≡ true → (k : ℕ) (x : X) →

@@ -2,13 +2,8 @@
 use Rattle.std.proofs.Common.{refl}
 use Rattle.std.specs.Fmt.{digits}
 use Rattle.hex.specs.Hex.{encode_with}
-use Rattle.check_remainder.specs.Bits.{bits, number_behind}
-use Rattle.check_remainder.specs.Remainder.{add_front, divide}
-use Rattle.check_nibbles.specs.Check.{crc8_of}
-use Rattle.law_model.specs.members.Sight.{sights_on}
-use Rattle.law_model.specs.packets.Packet.{read_of}
-use Rattle.law_model.specs.packets.Decode.{packets_on}
-use Rattle.law_model.specs.packets.DecodeText.{decoded_text}
+use Rattle.law_model.specs.Common.{bits, number_behind, add_front, divide, crc8_of, sights_on, read_of, packets_on}
+use Rattle.law_model.specs.Common.{decoded_text}
 use Rattle.text_captures.specs.packet_trace.Worked.{AreRead, IsRefused}
 
 pub are_read : AreRead

@@ -1,11 +1,8 @@
 -- A capture of GFP frames that hold client frames, for link type 171: G.7041's frames with the core header as it is
 -- before B6 AB 31 E0 is put on it, and with the payload area as it is before scrambling.
-use Rattle.std.specs.Prelude.{ℕ, List, [], ◌∷◌, ◌++◌, length}
+use Rattle.std.specs.Prelude.{ℕ, List, [], ◌∷◌, ◌++◌, length, flat_map}
 use Rattle.std.specs.Int.{w16, to_be_bytes}
-use Rattle.std.specs.List.{flat_map}
-use Rattle.check_remainder.specs.Bits.{bits, octet_bits, octets_of, xors}
-use Rattle.check_hec16.specs.Hec.{hec_of}
-use Rattle.law_model.specs.frames.Piece.{client, area_of}
+use Rattle.law_model.specs.Common.{bits, octet_bits, octets_of, xors, hec_of, client, area_of}
 use Rattle.text_captures.specs.capture_file.Written.{RowFrame, record_octets}
 
 -- the head of one

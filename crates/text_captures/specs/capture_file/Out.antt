@@ -1,6 +1,6 @@
 -- What is written so far of a capture by a `CaptureOut`, or by a `GfpOut`. `written` and `faults` are a sink's.
 use Rattle.std.specs.Prelude.{◌≡◌, ℕ, List, ◌∷◌, ◌++◌, length, take, drop, map, slice_index, Option}
-use Rattle.octet_io.specs.Start.{Start}
+use Rattle.law_model.specs.Common.{Start}
 use Rattle.text_got.specs.Told.{HasText}
 use Rattle.text_captures.specs.capture_file.Written.{RowFrame, records_octets, ethernet_capture}
 use Rattle.text_captures.specs.capture_file.Gfp.{gfp_capture}

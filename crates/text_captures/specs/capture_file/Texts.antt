@@ -1,8 +1,7 @@
 -- What is written of a capture: the lines of its frames, as a script has them, or a note on its first fault. These
 -- texts are this
 -- project's own.
-use Rattle.std.specs.Prelude.{ℕ, List, ◌++◌, codes, decimal}
-use Rattle.std.specs.List.{flat_map}
+use Rattle.std.specs.Prelude.{ℕ, List, ◌++◌, codes, decimal, flat_map}
 use Rattle.hex.specs.Hex.{encode_lower}
 use Rattle.text_captures.specs.declared.capture_file.capture_form.HeadFault.{HeadFault}
 use Rattle.text_captures.specs.declared.capture_file.capture_form.HeadFault.TheVariants as head

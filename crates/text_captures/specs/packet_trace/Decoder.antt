@@ -2,9 +2,7 @@
 use Rattle.std.specs.Prelude.{◌≡◌, ℕ, nat_lt, ◌&&◌, if◌then◌else◌, List, [], ◌∷◌, length, take, Some}
 use Rattle.member_path.specs.declared.h4_multiframe.MfiLock.{MfiLock}
 use Rattle.member_path.specs.h4_multiframe.LockState.{LockStands}
-use Rattle.law_model.specs.members.Number.{LineLock, unlocked}
-use Rattle.law_model.specs.members.Sight.{lock_by}
-use Rattle.law_model.specs.packets.Decode.{good_cells, is_front, upper_halves}
+use Rattle.law_model.specs.Common.{LineLock, unlocked, lock_by, good_cells, is_front, upper_halves}
 
 -- how many octets were given, the lock of the line, and sixteen nibbles of which the first `begun` are those of a
 -- packet that has

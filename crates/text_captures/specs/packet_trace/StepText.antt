@@ -3,11 +3,8 @@
 -- code and SQ. This text is this project's own.
 use Rattle.std.specs.Prelude.{ℕ, ◌%◌, ◌==◌, List, ◌++◌, length, slice_index_or, Option, Some, None, codes, decimal}
 use Rattle.std.specs.List.{flat_map, range_with_len}
-use Rattle.member_cells.specs.declared.containers_and_cells.BackCell.{BackCell}
+use Rattle.law_model.specs.Common.{BackCell, ctrl_text, bit_text, nibble_text, Table, active, LineFields, place_in}
 use Rattle.member_cells.specs.declared.containers_and_cells.BackCell.TheVariants.{Packet, Lost}
-use Rattle.law_model.specs.packets.PacketText.{ctrl_text, bit_text, nibble_text}
-use Rattle.law_model.specs.source.Table.{Table, active}
-use Rattle.law_model.specs.packets.Forward.{LineFields, place_in}
 
 -- the nibble of a return packet at a place
 abbrev pub nibble_at : List ℕ → ℕ → ℕ

@@ -1,8 +1,7 @@
 -- The control packets among octets as they are worded, by the cells that come while the line is locked.
 use Rattle.std.specs.Prelude.{◌≡◌, ℕ, ◌+◌, ◌%◌, ◌<◌, ◌≤◌, List, [], ◌∷◌, ◌++◌, drop, slice_index}
-use Rattle.check_nibbles.specs.Lock.{IsAt}
-use Rattle.law_model.specs.packets.Packet.{read_of}
-use Rattle.law_model.specs.packets.Decode.{good_cells, front_nibbles, Found, packets_in}
+use Rattle.law_model.specs.Common.{IsAt, read_of, good_cells, front_nibbles, Found}
+use Rattle.law_model.specs.packets.Decode.{packets_in}
 
 -- a packet stands at a place: its first octet has MFI1 8, and each of its sixteen octets comes while the line is locked
 pub record HasPacketAt (octets : List ℕ) (place : ℕ) : Type 0 where

@@ -1,7 +1,7 @@
 -- What is decoded of forty octets: a line that locks at the second one carries two packets, or one and one whose check
 -- is wrong.
 use Rattle.std.specs.Prelude.{◌≡◌, ℕ, List, [], ◌∷◌, ◌++◌, codes}
-use Rattle.law_model.specs.packets.DecodeText.{decoded_text}
+use Rattle.law_model.specs.Common.{decoded_text}
 
 -- thirty-nine octets of a line
 abbrev pub first_octets : List ℕ

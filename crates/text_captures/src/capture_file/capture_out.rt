@@ -1,14 +1,13 @@
 //! Delivered frames are written as the records of a capture.
 ghost use Rattle.std.specs.Prelude.{◌≡◌, ◌<◌, ◌+◌, ◌*◌, ◌/◌, ◌%◌, ℕ, List, [], ◌++◌, OnOk, OnErr};
 ghost use Rattle.std.specs.Int.{to_le_bytes};
-ghost use Rattle.octet_io.specs.Start.{Start};
-ghost use Rattle.octet_io.specs.Transfer.{Appends, AppendsPart};
+ghost use Rattle.law_model.specs.Common.{Start, Appends, AppendsPart};
 ghost use Rattle.text_got.specs.Told.{HasText, start_at};
 ghost use Rattle.text_captures.specs.capture_file.Written.{RowFrame, record_head, ethernet_capture};
 ghost use Rattle.text_captures.specs.capture_file.Out.{HasCapture, name_of, row_at};
 
-use octet_io::{ByteSink, Failed};
 use law_model::FrameOut;
+use octet_io::{ByteSink, Failed};
 use text_got::GotLines;
 
 /// The head of a capture of Ethernet frames that end with an FCS.

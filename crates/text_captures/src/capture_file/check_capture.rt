@@ -3,10 +3,10 @@ ghost use Rattle.std.specs.Prelude.{◌≡◌, drop, Ok, Err, IfOk, IfErr};
 ghost use Rattle.text_captures.specs.capture_file.Form.{form_of};
 ghost use Rattle.text_captures.specs.capture_file.Reading.{frames_of, body_said, capture_said};
 
-use crate::capture_file::record_clock::Clock;
 use crate::capture_file::capture_form::{CaptureFault, Form, RecordFault};
 use crate::capture_file::capture_head::read_head;
 use crate::capture_file::capture_record::{next_record, record_fault};
+use crate::capture_file::record_clock::Clock;
 
 /// Whether the octets behind a head are sound records; else the first fault.
 fn check_records(form: Form, body: &[u8]) -> Result<(), CaptureFault>

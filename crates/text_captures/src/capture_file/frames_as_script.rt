@@ -1,17 +1,15 @@
 //! The frames of a capture as lines of a script.
-ghost use Rattle.std.specs.Prelude.{◌≡◌, ◌≤◌, ◌+◌, ◌*◌, ℕ, List, ◌++◌, length, take, drop, replicate, Ok};
-ghost use Rattle.std.specs.Prelude.{OnOk, OnErr};
+ghost use Rattle.std.specs.Prelude.{◌≡◌, ◌≤◌, ◌+◌, ◌*◌, ℕ, List, ◌++◌, length, take, drop, replicate, Ok, OnOk, OnErr};
 ghost use Rattle.hex.specs.Hex.{encode_lower};
-ghost use Rattle.octet_io.specs.Start.{Start};
-ghost use Rattle.octet_io.specs.Transfer.{Appends, AppendsPart};
+ghost use Rattle.law_model.specs.Common.{Start, Appends, AppendsPart};
 ghost use Rattle.text_got.specs.Told.{HasText};
 ghost use Rattle.text_captures.specs.capture_file.Form.{form_of};
 ghost use Rattle.text_captures.specs.capture_file.Reading.{filled_up, client_frame, with_fcs, frames_of};
 ghost use Rattle.text_captures.specs.capture_file.Texts.{line_start, frame_text, frame_texts};
 
-use crate::capture_file::record_clock::Clock;
 use crate::capture_file::capture_form::Form;
 use crate::capture_file::capture_record::next_record;
+use crate::capture_file::record_clock::Clock;
 use check_crc32::ethernet_fcs;
 use octet_io::{ByteSink, Failed, take_back};
 use text_got::GotLines;

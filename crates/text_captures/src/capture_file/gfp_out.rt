@@ -1,9 +1,6 @@
 //! GFP frames that hold client frames are written as the records of a capture.
 ghost use Rattle.std.specs.Prelude.{◌≡◌, ◌≤◌, ◌+◌, ℕ, List, [], ◌∷◌, ◌++◌, length, OnOk, OnErr};
-ghost use Rattle.octet_io.specs.Start.{Start};
-ghost use Rattle.octet_io.specs.Transfer.{Appends, AppendsPart};
-ghost use Rattle.law_model.specs.Limits.{longest_frame};
-ghost use Rattle.law_model.specs.frames.TypeHeader.{type_header};
+ghost use Rattle.law_model.specs.Common.{Start, Appends, AppendsPart, longest_frame, type_header};
 ghost use Rattle.text_got.specs.Told.{HasText, start_at};
 ghost use Rattle.text_captures.specs.capture_file.Written.{RowFrame};
 ghost use Rattle.text_captures.specs.capture_file.Gfp.{plain_header, gfp_capture};
@@ -11,8 +8,8 @@ ghost use Rattle.text_captures.specs.capture_file.Out.{HasGfp, gfp_name_of};
 
 use crate::capture_file::capture_out::add_head;
 use check_hec16::hec;
-use octet_io::{ByteSink, Failed};
 use gfp_headers::type_bytes;
+use octet_io::{ByteSink, Failed};
 use text_got::GotLines;
 
 /// The head of a capture of GFP frames.

@@ -6,30 +6,31 @@
 //! `gfp_law`: what a GFP frame is in a core header and an area.
 
 ghost use Rattle.std.specs.Prelude.{◌≡◌, ℕ, List, [], ◌∷◌, ◌++◌, length, take, drop, Ok, Err};
-ghost use Rattle.law_model.specs.frames.Core.{core_header};
-ghost use Rattle.law_model.specs.frames.Piece.{client, area_of};
+ghost use Rattle.law_model.specs.Common.{core_header, client, area_of};
 ghost use Rattle.text_captures.specs.declared.capture_file.capture_form.CaptureFault.{CaptureFault};
 ghost use Rattle.text_captures.specs.declared.capture_file.capture_form.RecordFault.{RecordFault};
 ghost use Rattle.text_captures.specs.capture_file.Reading.{capture_said};
 ghost use Rattle.text_captures.specs.capture_file.Written.{RowFrame, ethernet_capture, AreRising, due_frames, two_frames};
 ghost use Rattle.text_captures.specs.capture_file.Gfp.{plain_header, with_pattern, gfp_octets};
 
-mod capture_out;
-mod check_capture;
-mod record_clock;
-mod capture_form;
-mod gfp_out;
-mod capture_head;
-mod frames_as_script;
 mod capture_fault_note;
+mod capture_form;
+mod capture_head;
+mod capture_out;
 mod capture_record;
+mod check_capture;
+mod frames_as_script;
+mod gfp_out;
+mod record_clock;
 
+pub use capture_fault_note::fault_note;
+pub use capture_form::{
+    ByteOrder, CaptureFault, Form, HeadFault, RecordFault, RecordHead, TimeUnit,
+};
 pub use capture_out::CaptureOut;
 pub use check_capture::read_capture;
-pub use capture_form::{ByteOrder, CaptureFault, Form, HeadFault, RecordFault, RecordHead, TimeUnit};
-pub use gfp_out::GfpOut;
 pub use frames_as_script::write_frames;
-pub use capture_fault_note::fault_note;
+pub use gfp_out::GfpOut;
 
 /// A capture that is written of frames whose rows don't fall is read as the frames in it: each is due as many
 /// ticks after the first one as its row comes after the row of that.

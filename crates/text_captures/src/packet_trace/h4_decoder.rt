@@ -1,6 +1,5 @@
 //! The control packets in the H4 octets of a line, octet by octet.
-ghost use Rattle.std.specs.Prelude.{◌≡◌, ℕ, ◌+◌, ◌<◌, List, [], ◌∷◌, ◌++◌};
-ghost use Rattle.std.specs.Option.{option_to_list};
+ghost use Rattle.std.specs.Prelude.{◌≡◌, ℕ, ◌+◌, ◌<◌, List, [], ◌∷◌, ◌++◌, option_to_list};
 ghost use Rattle.law_model.specs.packets.Decode.{packets_in};
 ghost use Rattle.text_captures.specs.packet_trace.Decoder.{DecoderStands};
 ghost use Rattle.text_captures.specs.packet_trace.Wording.{AreWorded, AreOnly, PacketsStay};

@@ -6,5 +6,5 @@
 mod h4_decoder;
 mod packet_text;
 
-pub use packet_text::{FOUND_ROOM, TRACE_ROOM, end_line, found_line, trace_line};
 pub use h4_decoder::{H4Decoder, packets_law, worked_law};
+pub use packet_text::{FOUND_ROOM, TRACE_ROOM, end_line, found_line, trace_line};

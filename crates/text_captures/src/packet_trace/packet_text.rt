@@ -1,9 +1,7 @@
 //! The lines of a decoding and of a trace, each put together in a slice with room for it. Each answers its length.
 ghost use Rattle.std.specs.Prelude.{◌≡◌, ◌+◌, ◌*◌, ◌%◌, ◌==◌, ◌≤◌, ◌<◌, length, take, Ok, Err};
 ghost use Rattle.text_report.specs.TextCursor.{Extends, HasTextRoom};
-ghost use Rattle.law_model.specs.packets.DecodeText.{found_text, end_text};
-ghost use Rattle.law_model.specs.packets.PacketText.{ctrl_text, bit_text, nibble_text};
-ghost use Rattle.law_model.specs.packets.Forward.{place_in};
+ghost use Rattle.law_model.specs.Common.{found_text, end_text, ctrl_text, bit_text, nibble_text, place_in};
 ghost use Rattle.text_captures.specs.packet_trace.StepText.{back_text, place_text, place_texts, step_text};
 
 use member_cells::{BackCell, Ctrl};

@@ -1,7 +1,6 @@
 -- Draws one on, and their bounds.
 use Rattle.std.proofs.Common.{◌≡◌, ℕ, zero, suc, ◌+◌, ◌-◌, ◌/◌, ◌<◌, ◌≤◌, ◌^◌, List, [], ◌∷◌, ◌++◌, length, ap, sym}
-use Rattle.std.proofs.Common.{◌∙◌, arith, refl, All}
-use Rattle.std.proofs.lemmas.List.{append-nil, append_assoc}
+use Rattle.std.proofs.Common.{◌∙◌, arith, refl, All, append-nil, append_assoc}
 use Rattle.std.proofs.lemmas.List.Elements.{All-cons}
 use Rattle.std.proofs.lemmas.Nat.{mod_below}
 use Rattle.text_scripts.specs.make_load.Draws.{next, drawn, draws, after_draws}

@@ -7,13 +7,11 @@ use Rattle.std.proofs.lemmas.List.{append-nil, append_assoc, length-append, leng
 use Rattle.std.proofs.lemmas.List.FromFn.{length-map-range_with_len, get_or-map-range_with_len, map-range_with_len_more}
 use Rattle.std.proofs.lemmas.Nat.{mod_below}
 use Rattle.std.proofs.lemmas.List.Elements.{All-cons, All-append, All-replicate}
+use Rattle.law_model.specs.Common.{due_of, dues_of, frame_dues, command_dues, slip_after, AreWindows, greatest}
+use Rattle.law_model.specs.Common.{greatest_slip, IsItem, HasFailures, HasLosses, AreApart, AreItems, IsValid}
 use Rattle.law_model.specs.declared.script_types.Item.{Item}
-use Rattle.law_model.specs.declared.script_types.ItemKind.TheVariants.{Frame, Add}
-use Rattle.law_model.specs.session.Counts.{due_of, dues_of, frame_dues, command_dues}
 use Rattle.law_model.specs.declared.script_types.Script.{Script}
-use Rattle.law_model.specs.members.Damage.{slip_after, AreWindows}
-use Rattle.law_model.specs.session.Plan.{greatest, greatest_slip}
-use Rattle.law_model.specs.session.Valid.{IsItem, HasFailures, HasLosses, AreApart, AreItems, IsValid}
+use Rattle.law_model.specs.declared.script_types.ItemKind.TheVariants.{Frame, Add}
 use Rattle.text_scripts.proofs.ScriptReadLaws.RowLaws.{All-none, rising-none, frames-append, commands-append}
 use Rattle.text_scripts.specs.make_load.Draws.{next, drawn, draws, after_draws}
 use Rattle.text_scripts.specs.make_load.Load.{length_of, frame_of, after_frame, addition, additions, frames, frame_count, load}

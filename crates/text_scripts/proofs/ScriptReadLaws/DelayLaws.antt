@@ -1,7 +1,6 @@
 -- The faults of delays, word by word.
-use Rattle.std.proofs.Common.{◌≡◌, ℕ, ◌+◌, List, [], ◌∷◌, length, refl, ap, ◌∙◌, subst, arith, ◌==◌, true}
-use Rattle.std.proofs.lemmas.Bool.Decides.{nat_tests}
-use Rattle.std.specs.Prelude.{Option, None, Some, replicate, option_map}
+use Rattle.std.proofs.Common.{◌≡◌, ℕ, ◌+◌, List, [], ◌∷◌, length, refl, ap, ◌∙◌, subst, arith, Option, None, Some}
+use Rattle.std.proofs.Common.{replicate, option_map, eq-eqb}
 use Rattle.std.specs.Option.{option_or}
 use Rattle.text_lines.specs.declared.field_fault.FieldFault.{FieldFault}
 use Rattle.text_lines.specs.Words.{number_of}
@@ -24,13 +23,10 @@ delays_as_fields at before [] = refl
 delays_as_fields at before (w ∷ ws) =
     ap (λ (f : Option FieldFault). option_or (number_fault at 0 2047 w) f) (delays_as_fields (at + 1) (number_of w) ws)
 
-counted : (n m : ℕ) → n ≡ m → (n == m) ≡ true
-counted n m same = grind (arith, nat_tests)
-
 pub delays_said : (n : ℕ) (ws : List (List ℕ)) → length ws ≡ n → delays_fault n ws ≡ line_faults 2 ws
 delays_said n ws count =
     subst (λ (k : ℕ). delays_fault k ws ≡ line_faults 2 ws) count
-    (rw (counted (length ws) (length ws) refl)
+    (rw (eq-eqb (length ws) (length ws) refl)
     (ap (λ (f : Option FieldFault). option_map Field f) (delays_as_fields 2 0 ws)))
 
 pub delay_fails : (at place : ℕ) (ws more : List (List ℕ)) (w : List ℕ) (fault : FieldFault) → ws ≡ w ∷ more →

@@ -1,8 +1,7 @@
 -- The lines of a script, one line on and at the end.
-use Rattle.std.proofs.Common.{◌≡◌, ℕ, ◌+◌, ◌<◌, ◌≤◌, List, ◌∷◌, ap, sym, ◌∙◌, arith, refl, true, false, inl, inr, ◌⊎◌}
-use Rattle.std.specs.Prelude.{Option, None, Some, Err, Result, nat_lt}
-use Rattle.std.proofs.lemmas.Bool.{cases_lt}
-use Rattle.std.proofs.lemmas.Bool.Decides.{nat_tests}
+use Rattle.std.proofs.Common.{◌≡◌, ℕ, ◌+◌, ◌<◌, ◌≤◌, List, ◌∷◌, ap, sym, ◌∙◌, refl, inl, inr, ◌⊎◌}
+use Rattle.std.specs.Prelude.{Option, None, Some, Err, Result}
+use Rattle.std.proofs.lemmas.Bool.{cases_lt, lt-ltb, le-ltb}
 use Rattle.text_scripts.specs.declared.script_read.script_fault.LineFault.{LineFault}
 use Rattle.text_scripts.specs.declared.script_read.script_fault.LineFault.TheVariants.{Missing}
 use Rattle.text_scripts.specs.declared.script_read.script_fault.LineStop.{LineStop}
@@ -54,17 +53,11 @@ lines_stop whole n d all l ls (stop.Fault kind) f same is first fails =
 lines_stop whole n d all l ls stop.Memory f same is first fails = inl is
 
 -- ---- after the last line
-below : (n : ℕ) → n < 6 → nat_lt n 6 ≡ true
-below n less = grind (arith, nat_tests)
-
-not_below : (n : ℕ) → 6 ≤ n → nat_lt n 6 ≡ false
-not_below n least = grind (arith, nat_tests)
-
 pub config_missing : (d : Draft) → d.next < 6 → missing_line d ≡ Some (Missing (awaited d.next))
-config_missing d less = rw (below d.next less) refl
+config_missing d less = rw (lt-ltb d.next 6 less) refl
 
 pub config_whole : (d : Draft) → 6 ≤ d.next → missing_line d ≡ None
-config_whole d least = rw (not_below d.next least) refl
+config_whole d least = rw (le-ltb d.next 6 least) refl
 
 pub whole_config : (d : Draft) → missing_line d ≡ None → 6 ≤ d.next
 whole_config d none =

@@ -1,24 +1,23 @@
 -- The first fault of a text, and the script that one without a fault says.
 use Rattle.std.proofs.Common.{◌≡◌, ◌↔◌, ℕ, ◌+◌, ◌-◌, nat_le, Bool, true, false, List, [], ◌∷◌, ap, ap₂, sym, ◌∙◌, refl}
-use Rattle.std.proofs.Common.{inl, inr}
-use Rattle.std.specs.Prelude.{Option, None, Some, Result, Ok, Err}
+use Rattle.std.proofs.Common.{inl, inr, Option, None, Some, Result, Ok, Err}
 use Rattle.std.specs.Str.Lines.{lines}
 use Rattle.std.proofs.lemmas.Bool.{cases_Bool}
 use Rattle.text_scripts.specs.declared.script_read.script_fault.LineFault.{LineFault}
 use Rattle.text_lines.specs.Language.{said_by}
 use Rattle.text_lines.specs.FirstFault.{IsFirstFault}
 use Rattle.text_lines.proofs.FirstFaultLaws.{first_fault, all_said}
+use Rattle.law_model.specs.Common.{greatest, least, greatest_slip}
 use Rattle.law_model.specs.declared.window_types.Window.{Window}
 use Rattle.law_model.specs.declared.script_types.Config.{Config}
 use Rattle.law_model.specs.declared.script_types.Script.{Script}
-use Rattle.law_model.specs.session.Plan.{greatest, least, greatest_slip}
 use Rattle.text_scripts.specs.declared.script_read.script_fault.ScriptFault.{ScriptFault}
 use Rattle.text_scripts.specs.declared.script_read.script_fault.ScriptFault.TheVariants as fault
 use Rattle.text_scripts.specs.declared.script_read.script_draft.Draft.{Draft}
 use Rattle.text_scripts.specs.script_read.Statements.{at_first}
-use Rattle.text_scripts.specs.script_read.Script.{script_lines, fault_or, windows_fault, slip_fault, spread_fault, least_lag}
-use Rattle.text_scripts.specs.script_read.Script.{lag_fault, config_fault, script_in, script_unless, script_of_draft, script_of}
-use Rattle.text_scripts.specs.script_read.Script.{IsScriptOf}
+use Rattle.text_scripts.specs.script_read.Script.{script_lines, fault_or, windows_fault, slip_fault, spread_fault}
+use Rattle.text_scripts.specs.script_read.Script.{least_lag, lag_fault, config_fault, script_in, script_unless}
+use Rattle.text_scripts.specs.script_read.Script.{script_of_draft, script_of, IsScriptOf}
 use Rattle.text_scripts.proofs.ScriptReadLaws.DraftLaws.{line_told, config_whole, whole_config}
 
 -- ---- the tests of a configuration tell no line

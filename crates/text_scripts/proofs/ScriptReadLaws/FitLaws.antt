@@ -15,7 +15,7 @@ use Rattle.text_lines.specs.Fields.{within, any, above, digits, one_of, where_tr
 use Rattle.text_lines.specs.Fields.{fields_fault}
 use Rattle.text_lines.proofs.FieldLaws.{or_none, where_none, map_none, number_ok, digits_ok, one_field, two_fields}
 use Rattle.text_lines.proofs.FieldLaws.{four_fields}
-use Rattle.law_model.specs.session.Valid.{IsWithin, IsSize}
+use Rattle.law_model.specs.Common.{IsWithin, IsSize}
 use Rattle.text_scripts.specs.declared.script_read.script_keyword.Keyword.{Keyword}
 use Rattle.text_scripts.specs.declared.script_read.script_keyword.Keyword.TheVariants as word
 use Rattle.text_scripts.specs.declared.script_read.script_draft.Draft.{Draft}

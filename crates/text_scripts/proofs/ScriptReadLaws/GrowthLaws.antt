@@ -3,20 +3,20 @@ use Rattle.std.proofs.Common.{◌≡◌, ℕ, ◌+◌, ◌<◌, ◌≤◌, List,
 use Rattle.std.proofs.Common.{replicate, subst, All, inr}
 use Rattle.std.specs.List.Sorted.{IsNonDecreasing}
 use Rattle.std.proofs.lemmas.List.{length-append, length-set, length-replicate, append-nil}
-use Rattle.std.proofs.lemmas.List.Elements.{All-set, All-get_or, All-replicate}
+use Rattle.std.proofs.lemmas.List.Elements.{All-set, All-get_or, All-replicate, All-push}
+use Rattle.law_model.specs.Common.{Due, command_due, due_of, dues_of, frame_dues, command_dues, HasLosses, IsItem}
+use Rattle.law_model.specs.Common.{AreItems, IsEvent, AreApart}
 use Rattle.law_model.specs.declared.window_types.Window.{Window}
 use Rattle.law_model.specs.declared.script_types.Item.{Item}
 use Rattle.law_model.specs.declared.script_types.ItemKind.{ItemKind}
-use Rattle.law_model.specs.declared.script_types.ItemKind.TheVariants as item
 use Rattle.law_model.specs.declared.script_types.Config.{Config}
-use Rattle.law_model.specs.session.Counts.{Due, command_due, due_of, dues_of, frame_dues, command_dues}
+use Rattle.law_model.specs.declared.script_types.ItemKind.TheVariants as item
 use Rattle.text_scripts.specs.declared.script_read.script_draft.Draft.{Draft}
 use Rattle.text_scripts.specs.declared.script_read.script_draft.Statement.{Statement}
 use Rattle.text_scripts.specs.declared.script_read.script_draft.Statement.TheVariants as says
 use Rattle.text_scripts.specs.script_read.Statements.{windows_of, after, after_item, at_first}
-use Rattle.law_model.specs.session.Valid.{HasLosses, IsItem, AreItems, IsEvent, AreApart}
 use Rattle.text_scripts.specs.script_read.Drafts.{AreInOrder, AreFailures, HasConfig, IsDraft, IsNext, IsNextLost, Fits}
-use Rattle.text_scripts.proofs.ScriptReadLaws.RowLaws.{All-none, All-one, rising-none, rising-one, most-one, most-up, frames-one}
+use Rattle.text_scripts.proofs.ScriptReadLaws.RowLaws.{All-none, rising-none, rising-one, most-one, most-up, frames-one}
 use Rattle.text_scripts.proofs.ScriptReadLaws.RowLaws.{commands-one, order-one, apart-one}
 
 no_windows : (ticks : ℕ) → AreFailures ticks []
@@ -63,8 +63,8 @@ one_window : (d : Draft) (m : ℕ) (window : Window) → AreFailures d.config.ti
 one_window d m window are next = record {
   few = (let room = next.room in omega (arith, room, length-append (windows_of d m) (window ∷ [])));
   order = order-one (windows_of d m) window are.order next.order next.some;
-  ends = All-one (λ (w : Window). w.end ≤ d.config.ticks) (windows_of d m) window are.ends next.ends;
-  slips = All-one (λ (w : Window). w.slip ≤ 2047) (windows_of d m) window are.slips next.slips;
+  ends = All-push (λ (w : Window). w.end ≤ d.config.ticks) (windows_of d m) window are.ends next.ends;
+  slips = All-push (λ (w : Window). w.slip ≤ 2047) (windows_of d m) window are.slips next.slips;
 }
 
 config_fail : (d : Draft) (m : ℕ) (window : Window) → HasConfig d.next d.config → d.next ≡ 6 → IsNext d m window
@@ -93,7 +93,7 @@ one_loss : (d : Draft) (first end : ℕ) → HasLosses d.config.lost → IsNextL
     → HasLosses (d.config.lost ++ (first, end) ∷ [])
 one_loss d first end has next = record {
   apart = apart-one d.config.lost (first, end) has.apart next.order next.some;
-  ends = All-one (λ (w : ℕ × ℕ). w.1 ≤ 62500) d.config.lost (first, end) has.ends next.ends;
+  ends = All-push (λ (w : ℕ × ℕ). w.1 ≤ 62500) d.config.lost (first, end) has.ends next.ends;
 }
 
 config_lost : (d : Draft) (first end : ℕ) → HasConfig d.next d.config → d.next ≡ 6 → IsNextLost d first end
@@ -152,7 +152,7 @@ unfolding frame_dues command_dues
 one_frame ticks due items octets are most is =
     let it : Item = record { due = due; kind = item.Frame octets } in
     record {
-      each = All-one (IsItem ticks) items it are.each is;
+      each = All-push (IsItem ticks) items it are.each is;
       frames = subst IsNonDecreasing (sym (frames-one items it))
           (rising-one (frame_dues (dues_of items)) due are.frames most);
       commands = subst IsNonDecreasing
@@ -183,7 +183,7 @@ one_command : (ticks : ℕ) (items : List Item) (it : Item) → due_of it.due it
     AreItems ticks items
     → All (λ n. n ≤ it.due) (command_dues (dues_of items)) → IsItem ticks it → AreItems ticks (items ++ it ∷ [])
 one_command ticks items it kind are most is = record {
-  each = All-one (IsItem ticks) items it are.each is;
+  each = All-push (IsItem ticks) items it are.each is;
   frames = subst IsNonDecreasing (sym (frames-command items it kind)) are.frames;
   commands = subst IsNonDecreasing (sym (commands-command items it kind))
       (rising-one (command_dues (dues_of items)) it.due are.commands most);
@@ -364,7 +364,7 @@ IsDraft-after d (says.Event e) is fits = record {
   frame_due = is.frame_due;
   command_due = is.command_due;
   no_events = λ at. absurd (omega (arith, at));
-  events = All-one (IsEvent d.config.lines) d.events e is.events fits.1;
+  events = All-push (IsEvent d.config.lines) d.events e is.events fits.1;
 }
 
 added : (d : Draft) (it : Item) (kind : ItemKind) → length (after_item d it kind).items ≤ length d.items + 1

@@ -2,7 +2,7 @@
 use Rattle.std.proofs.Common.{◌≡◌, ℕ, ◌+◌, ◌<◌, List, [], ◌∷◌, length, drop, slice_index_or, min, ap, sym, ◌∙◌, arith}
 use Rattle.std.proofs.Common.{refl}
 use Rattle.std.proofs.lemmas.List.{at_drop_more}
-use Rattle.law_model.specs.session.Plan.{least_or}
+use Rattle.law_model.specs.Common.{least_or}
 
 least_of_two : (n m : ℕ) (ns : List ℕ) → least_or (min n m) ns ≡ min n (least_or m ns)
 least_of_two n m [] = refl

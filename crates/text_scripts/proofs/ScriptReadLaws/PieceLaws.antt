@@ -1,9 +1,6 @@
 -- A piece of a text is read line by line.
 use Rattle.std.proofs.Common.{◌≡◌, ◌⊎◌, ℕ, ◌+◌, ◌-◌, ◌<◌, ◌≤◌, List, ◌∷◌, ◌++◌, length, take, drop, inl, inr, ap, sym}
-use Rattle.std.proofs.Common.{◌∙◌, arith, append_assoc, take-append-drop}
-use Rattle.std.proofs.Math.Seq.{take-add}
-use Rattle.std.proofs.lemmas.List.{drop-drop}
-use Rattle.std.specs.Prelude.{None, Err}
+use Rattle.std.proofs.Common.{◌∙◌, arith, append_assoc, take-append-drop, take-add, drop-drop, None, Err}
 use Rattle.std.specs.Str.Lines.{lines}
 use Rattle.text_lines.specs.Words.{words}
 use Rattle.text_lines.specs.Language.{said_from, said_by}
@@ -21,7 +18,7 @@ use Rattle.text_scripts.specs.declared.script_read.script_reader.ScriptReader.{S
 use Rattle.text_scripts.proofs.ScriptReadLaws.DraftLaws.{line_said, lines_stop}
 
 -- what was read of a list, and what wasn't
-split : (xs ys : List ℕ) (k : ℕ) → ys ≡ drop k xs → xs ≡ take k xs ++ ys
+pub split : (xs ys : List ℕ) (k : ℕ) → ys ≡ drop k xs → xs ≡ take k xs ++ ys
 split xs ys k is = sym (take-append-drop k xs) ∙ ap (λ (t : List ℕ). take k xs ++ t) (sym is)
 
 -- a piece, what is left of it before a line was read, and after it

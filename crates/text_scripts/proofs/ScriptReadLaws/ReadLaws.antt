@@ -1,9 +1,8 @@
 -- What lines without a fault say is a draft.
-use Rattle.std.proofs.Common.{◌≡◌, ℕ, ◌+◌, ◌≤◌, List, [], ◌∷◌, length, sym, arith, subst}
-use Rattle.std.specs.Prelude.{Ok}
+use Rattle.std.proofs.Common.{◌≡◌, ℕ, ◌+◌, ◌≤◌, List, [], ◌∷◌, length, sym, arith, subst, Ok}
 use Rattle.std.specs.Str.Lines.{lines}
+use Rattle.law_model.specs.Common.{IsValid, HasFewLosses}
 use Rattle.law_model.specs.declared.script_types.Script.{Script}
-use Rattle.law_model.specs.session.Valid.{IsValid, HasFewLosses}
 use Rattle.text_scripts.specs.declared.script_read.script_draft.Draft.{Draft}
 use Rattle.text_lines.specs.Words.{words}
 use Rattle.text_lines.specs.FirstFault.{AreSound}

@@ -3,20 +3,16 @@ use Rattle.std.proofs.Common.{◌≡◌, ℕ, zero, suc, ◌+◌, ◌-◌, ◌<�
 use Rattle.std.proofs.Common.{refl, slice_index_or, All, inl, inr}
 use Rattle.std.specs.List.Sorted.{IsNonDecreasing}
 use Rattle.std.proofs.lemmas.List.{length-append, map-append, get_or_append_left, get_or-append_right}
-use Rattle.std.proofs.lemmas.List.Elements.{All-append, All-cons}
+use Rattle.std.proofs.lemmas.List.Elements.{All-push}
 use Rattle.std.proofs.lemmas.Bool.{cases_lt}
+use Rattle.law_model.specs.Common.{Due, frame_due, command_due, due_of, dues_of, frame_dues, command_dues, AreApart}
 use Rattle.law_model.specs.declared.window_types.Window.{Window}
 use Rattle.law_model.specs.declared.script_types.Item.{Item}
-use Rattle.law_model.specs.session.Counts.{Due, frame_due, command_due, due_of, dues_of, frame_dues, command_dues}
 use Rattle.text_scripts.specs.script_read.Statements.{last_end, last_lost}
-use Rattle.law_model.specs.session.Valid.{AreApart}
 use Rattle.text_scripts.specs.script_read.Drafts.{AreInOrder}
 
 pub All-none : {X : Type 0} (P : X → Type 0) → All P []
 All-none P i d within = absurd (omega (arith, within))
-
-pub All-one : {X : Type 0} (P : X → Type 0) (xs : List X) (x : X) → All P xs → P x → All P (xs ++ x ∷ [])
-All-one P xs x all is = All-append P xs (x ∷ []) all (All-cons P x [] is (All-none P))
 
 -- ---- numbers that never fall
 pub rising-none : IsNonDecreasing []
@@ -45,7 +41,7 @@ rising-one ns n rise most i j d before within =
 
 pub most-one : (ns : List ℕ) (old n : ℕ) → All (λ m. m ≤ old) ns → old ≤ n → All (λ m. m ≤ n) (ns ++ n ∷ [])
 most-one ns old n most less =
-    All-one (λ m. m ≤ n) ns n (λ i d within. let m = most i d within in omega (arith, m, less)) (omega arith)
+    All-push (λ m. m ≤ n) ns n (λ i d within. let m = most i d within in omega (arith, m, less)) (omega arith)
 
 pub most-up : (ns : List ℕ) (old n : ℕ) → All (λ m. m ≤ old) ns → old ≤ n → All (λ m. m ≤ n) ns
 most-up ns old n most less i d within = let m = most i d within in omega (arith, m, less)

@@ -1,19 +1,16 @@
 -- A draft that passes the tests is a script that meets all that is said of one.
 use Rattle.std.proofs.Common.{◌≡◌, ℕ, zero, suc, ◌+◌, ◌-◌, ◌<◌, ◌≤◌, nat_le, Bool, true, false, List, [], ◌∷◌, length}
-use Rattle.std.proofs.Common.{ap, sym, ◌∙◌, arith, refl, All, inl, inr, if◌then◌else◌}
-use Rattle.std.specs.Prelude.{Option, None, Some}
+use Rattle.std.proofs.Common.{ap, sym, ◌∙◌, arith, refl, All, inl, inr, if◌then◌else◌, Option, None, Some}
 use Rattle.std.proofs.lemmas.Bool.{cases_Bool}
 use Rattle.std.proofs.lemmas.Bool.Decides.{nat_tests}
+use Rattle.law_model.specs.Common.{AreWindows, FitsRing, FitsLag, greatest, least, greatest_slip, HasFailures, IsValid}
 use Rattle.law_model.specs.declared.window_types.Window.{Window}
 use Rattle.law_model.specs.declared.script_types.Config.{Config}
-use Rattle.law_model.specs.members.Damage.{AreWindows}
-use Rattle.law_model.specs.session.Plan.{FitsRing, FitsLag, greatest, least, greatest_slip}
 use Rattle.text_scripts.specs.declared.script_read.script_fault.ScriptFault.{ScriptFault}
 use Rattle.text_scripts.specs.declared.script_read.script_fault.ScriptFault.TheVariants as fault
 use Rattle.text_scripts.specs.declared.script_read.script_draft.Draft.{Draft}
-use Rattle.text_scripts.specs.script_read.Script.{fault_or, windows_fault, slip_fault, spread_fault, least_lag, lag_fault}
-use Rattle.text_scripts.specs.script_read.Script.{config_fault, script_in}
-use Rattle.law_model.specs.session.Valid.{HasFailures, IsValid}
+use Rattle.text_scripts.specs.script_read.Script.{fault_or, windows_fault, slip_fault, spread_fault, least_lag}
+use Rattle.text_scripts.specs.script_read.Script.{lag_fault, config_fault, script_in}
 use Rattle.text_scripts.specs.script_read.Drafts.{AreInOrder, AreFailures, IsDraft}
 use Rattle.text_scripts.specs.script_read.Pieces.{IsUntested}
 

@@ -1,12 +1,12 @@
 -- The script of a load, drawn from a number.
 use Rattle.std.specs.Prelude.{ℕ, zero, suc, ◌+◌, ◌/◌, List, [], ◌∷◌, ◌++◌, map, replicate}
 use Rattle.std.specs.List.{range_with_len}
+use Rattle.law_model.specs.Common.{vc4_size}
 use Rattle.law_model.specs.declared.script_types.Config.{Config}
 use Rattle.law_model.specs.declared.script_types.Item.{Item}
-use Rattle.law_model.specs.declared.script_types.ItemKind.TheVariants.{Frame, Add}
 use Rattle.law_model.specs.declared.script_types.Script.{Script}
+use Rattle.law_model.specs.declared.script_types.ItemKind.TheVariants.{Frame, Add}
 use Rattle.text_scripts.specs.make_load.Draws.{next, drawn, draws, after_draws}
-use Rattle.law_model.specs.Limits.{vc4_size}
 
 -- ---- a frame
 -- its length is drawn first, and then its octets

@@ -7,7 +7,7 @@ use Rattle.hex.specs.Hex.{encode_lower}
 use Rattle.check_crc32.specs.Crc32.{least_first, fcs_in}
 use Rattle.text_scripts.specs.make_load.Draws.{draws, after_draws}
 use Rattle.text_scripts.specs.declared.rate_load.rate_frames.RateLoad.{RateLoad}
-use Rattle.law_model.specs.Limits.{longest_frame}
+use Rattle.law_model.specs.Common.{longest_frame}
 
 pub record IsRateLoad (load : RateLoad) : Type 0 where
   pub least : 64 ≤ load.octets

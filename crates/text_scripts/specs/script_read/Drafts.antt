@@ -2,11 +2,12 @@
 use Rattle.std.specs.Prelude.{◌≡◌, ◌⊎◌, ⊤, ℕ, ◌-◌, ◌==◌, ◌<◌, ◌≤◌, not, nat_lt, List, [], ◌∷◌, length, replicate}
 use Rattle.std.specs.Prelude.{Option, option_map, All}
 use Rattle.std.specs.Option.{option_or}
+use Rattle.law_model.specs.Common.{dues_of, frame_dues, command_dues, IsWithin, HasLosses, IsSize, IsItem, AreItems}
+use Rattle.law_model.specs.Common.{IsEvent}
 use Rattle.law_model.specs.declared.window_types.Window.{Window}
 use Rattle.law_model.specs.declared.script_types.Config.{Config}
 use Rattle.law_model.specs.declared.script_types.ItemKind.{ItemKind}
 use Rattle.law_model.specs.declared.script_types.ItemKind.TheVariants as item
-use Rattle.law_model.specs.session.Counts.{dues_of, frame_dues, command_dues}
 use Rattle.text_scripts.specs.declared.script_read.script_fault.LineFault.{LineFault}
 use Rattle.text_scripts.specs.declared.script_read.script_fault.LineFault.TheVariants as wrong
 use Rattle.text_scripts.specs.declared.script_read.script_fault.ScriptFault.{ScriptFault}
@@ -21,7 +22,6 @@ use Rattle.text_scripts.specs.declared.script_read.script_draft.Draft.{Draft}
 use Rattle.text_lines.specs.Words.{word_at, number_at}
 use Rattle.text_lines.specs.Fields.{where_true, within, number_fault, name_fault, fields_fault}
 use Rattle.text_scripts.specs.script_read.Statements.{container_names, windows_of, last_end, last_lost}
-use Rattle.law_model.specs.session.Valid.{IsWithin, HasLosses, IsSize, IsItem, AreItems, IsEvent}
 
 -- ---- faults
 -- the fault of line n, which wasn't read

@@ -9,9 +9,8 @@ use Rattle.text_scripts.specs.declared.script_read.script_fault.ScriptFault.{Scr
 use Rattle.text_scripts.specs.declared.script_read.script_fault.ScriptFault.TheVariants as fault
 use Rattle.text_scripts.specs.script_read.Script.{script_lines, config_fault}
 use Rattle.text_scripts.specs.script_read.Drafts.{AreFailures, IsDraft}
+use Rattle.law_model.specs.Common.{longest_input, IsValid, HasFewLosses}
 use Rattle.law_model.specs.declared.script_types.Script.{Script}
-use Rattle.law_model.specs.Limits.{longest_input}
-use Rattle.law_model.specs.session.Valid.{IsValid, HasFewLosses}
 
 -- it has read this text, which ends where a line does: whatever follows is read from there
 pub record ReaderStands (reader : ScriptReader) (text : List ℕ) : Type 0 where

@@ -6,10 +6,10 @@ use Rattle.text_scripts.specs.declared.script_read.script_fault.LineFault.TheVar
 use Rattle.text_lines.specs.Fields.{where_true}
 use Rattle.text_lines.specs.Language.{Language, said_by}
 use Rattle.text_lines.specs.FirstFault.{AreSound}
+use Rattle.law_model.specs.Common.{greatest, least, greatest_slip}
 use Rattle.law_model.specs.declared.window_types.Window.{Window}
 use Rattle.law_model.specs.declared.script_types.Config.{Config}
 use Rattle.law_model.specs.declared.script_types.Script.{Script}
-use Rattle.law_model.specs.session.Plan.{greatest, least, greatest_slip}
 use Rattle.text_scripts.specs.declared.script_read.script_fault.ScriptFault.{ScriptFault}
 use Rattle.text_scripts.specs.declared.script_read.script_fault.ScriptFault.TheVariants as fault
 use Rattle.text_scripts.specs.declared.script_read.script_draft.Draft.{Draft}

@@ -7,6 +7,7 @@ use Rattle.text_scripts.specs.declared.script_read.script_fault.LineFault.{LineF
 use Rattle.text_scripts.specs.declared.script_read.script_fault.LineFault.TheVariants as wrong
 use Rattle.text_lines.specs.Words.{word_at, is_skipped, number_of, number_at, octets_of}
 use Rattle.text_lines.specs.Fields.{Field, within, any, above, digits, one_of, where_true, fields_fault}
+use Rattle.law_model.specs.Common.{vc3_size, vc4_size}
 use Rattle.law_model.specs.declared.window_types.Window.{Window}
 use Rattle.law_model.specs.declared.script_types.Item.{Item}
 use Rattle.law_model.specs.declared.script_types.ItemKind.{ItemKind}
@@ -19,7 +20,6 @@ use Rattle.text_scripts.specs.declared.script_read.script_keyword.Part.TheVarian
 use Rattle.text_scripts.specs.declared.script_read.script_draft.Statement.{Statement}
 use Rattle.text_scripts.specs.declared.script_read.script_draft.Statement.TheVariants as says
 use Rattle.text_scripts.specs.declared.script_read.script_draft.Draft.{Draft}
-use Rattle.law_model.specs.Limits.{vc3_size, vc4_size}
 
 -- ---- the first word
 -- the words that may begin an event line

@@ -1,6 +1,6 @@
 //! The script of a load.
 ghost use Rattle.std.specs.Prelude.{◌≡◌, ◌≤◌, ◌++◌, [], IfOk, OnOk, replicate};
-ghost use Rattle.law_model.specs.session.Valid.{IsValid, IsWithin};
+ghost use Rattle.law_model.specs.Common.{IsValid, IsWithin};
 ghost use Rattle.text_scripts.specs.make_load.Load.{frame_of, after_frame, additions, frames, frame_count, load};
 
 use crate::make_load::load_draws::Draws;

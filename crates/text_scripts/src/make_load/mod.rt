@@ -2,8 +2,8 @@
 //! each eight ticks, whose length and octets are drawn. The same number gives the same script, which meets
 //! `IsValid` as one that was read does. Nothing is run here. Begin with `make`.
 
-mod load_draws;
 mod drawn_script;
+mod load_draws;
 
-pub use load_draws::Draws;
 pub use drawn_script::make;
+pub use load_draws::Draws;

@@ -1,13 +1,12 @@
 //! The text of all lines.
 ghost use Rattle.std.specs.Prelude.{◌≡◌, ◌<◌, ◌↔◌, ◌≤◌, ◌+◌, length, OnOk, OnErr, IsTrue};
-ghost use Rattle.octet_io.specs.Transfer.{Appends, AppendsPart};
-ghost use Rattle.law_model.specs.Limits.{longest_input};
+ghost use Rattle.law_model.specs.Common.{Appends, AppendsPart, longest_input};
 ghost use Rattle.text_scripts.specs.rate_load.RateTexts.{IsRateLoad, state_of, line_at, rate_text, most_frames};
 
 use crate::make_load::Draws;
 use crate::rate_load::rate_frames::{RateLoad, count_of, fill_frame, frame_line, line_start};
-use octet_io::{ByteSink, Failed, put_all};
 use law_model::LONGEST_FRAME;
+use octet_io::{ByteSink, Failed, put_all};
 
 /// The most octets of a text that can be read again.
 const LONGEST: u64 = 67_108_864;

@@ -1,6 +1,5 @@
 //! What a line adds to a draft.
-ghost use Rattle.std.specs.Prelude.{◌≡◌, ◌<◌, ◌∷◌, ◌++◌, [], length, IfOk, OnOk, slice_index_or, slice_set};
-ghost use Rattle.std.specs.Prelude.{replicate};
+ghost use Rattle.std.specs.Prelude.{◌≡◌, ◌<◌, ◌∷◌, ◌++◌, [], length, IfOk, OnOk, slice_index_or, slice_set, replicate};
 ghost use Rattle.text_scripts.specs.script_read.Statements.{after, after_item, at_first};
 ghost use Rattle.text_scripts.specs.script_read.Drafts.{IsDraft, Fits};
 

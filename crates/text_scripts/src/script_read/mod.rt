@@ -5,18 +5,18 @@
 //! `ScriptReader`, which takes a text in pieces; `read_script` reads one that is whole. `fault_law` says which
 //! texts are scripts, and `valid_law` that such a text says a script that can be walked.
 
-mod word_count_fault;
-mod script_draft;
-mod script_fault;
 mod grow_draft;
 mod read_item;
+mod read_network;
+mod script_draft;
+mod script_fault;
 mod script_keyword;
 mod script_laws;
 mod script_limits;
-mod read_network;
 mod script_reader;
-mod whole_script;
 mod script_statement;
+mod whole_script;
+mod word_count_fault;
 
 pub use script_fault::{LineFault, ScriptFault};
 pub use script_keyword::{Keyword, Part};

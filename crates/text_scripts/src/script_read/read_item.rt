@@ -3,13 +3,13 @@ ghost use Rattle.std.specs.Prelude.{◌≡◌, ◌≤◌, ◌<◌, IfOk, IfErr, 
 ghost use Rattle.text_lines.specs.Words.{words, number_at};
 ghost use Rattle.text_scripts.specs.script_read.Lifted.{IsStop};
 ghost use Rattle.text_scripts.specs.script_read.Statements.{rest_fault, said};
-ghost use Rattle.law_model.specs.session.Valid.{IsWithin, IsItem};
+ghost use Rattle.law_model.specs.Common.{IsWithin, IsItem};
 ghost use Rattle.text_scripts.specs.script_read.Drafts.{IsDraft, last_due, command_fault};
 
-use crate::script_read::word_count_fault::count_fault;
 use crate::script_read::script_draft::{Draft, Statement};
 use crate::script_read::script_fault::{LineFault, LineStop};
 use crate::script_read::script_keyword::Keyword;
+use crate::script_read::word_count_fault::count_fault;
 use law_model::{EventLine, Item, ItemKind, Octets};
 use std::alloc::Global;
 use text_lines::{number_within, octets_within, two_words};

@@ -3,13 +3,13 @@ ghost use Rattle.std.specs.Prelude.{◌≡◌, ◌≤◌, ◌<◌, length, IfOk,
 ghost use Rattle.text_lines.specs.Words.{words, word_at, number_of};
 ghost use Rattle.text_scripts.specs.script_read.Lifted.{IsStop};
 ghost use Rattle.text_scripts.specs.script_read.Statements.{rest_fault, said, last_end, last_lost, size_of};
-ghost use Rattle.law_model.specs.session.Valid.{IsSize};
+ghost use Rattle.law_model.specs.Common.{IsSize};
 ghost use Rattle.text_scripts.specs.script_read.Drafts.{IsDraft, IsNext, IsNextLost, container_fault, delays_fault};
 
-use crate::script_read::word_count_fault::count_fault;
 use crate::script_read::script_draft::{Draft, Statement};
 use crate::script_read::script_fault::{LineFault, LineStop};
 use crate::script_read::script_keyword::Keyword;
+use crate::script_read::word_count_fault::count_fault;
 use law_model::{Delays, LostList, Window, WindowList, WindowLists};
 use std::alloc::Global;
 use text_lines::{

@@ -1,14 +1,13 @@
 //! What the definition of the language means, apart from how it computes.
 ghost use Rattle.std.specs.Prelude.{◌≡◌, ◌↔◌, ◌≤◌, ℕ, List, length, Ok, Err};
 ghost use Rattle.std.specs.Str.Lines.{lines};
+ghost use Rattle.law_model.specs.Common.{IsValid, HasFewLosses, longest_input};
 ghost use Rattle.law_model.specs.declared.script_types.Script.{Script};
-ghost use Rattle.law_model.specs.session.Valid.{IsValid, HasFewLosses};
 ghost use Rattle.text_lines.specs.FirstFault.{IsFirstFault};
 ghost use Rattle.text_scripts.specs.declared.script_read.script_fault.LineFault.{LineFault};
 ghost use Rattle.text_scripts.specs.declared.script_read.script_fault.ScriptFault.TheVariants.{Line};
 ghost use Rattle.text_scripts.specs.script_read.Statements.{at_first};
 ghost use Rattle.text_scripts.specs.script_read.Script.{script_of, script_lines, IsScriptOf};
-ghost use Rattle.law_model.specs.Limits.{longest_input};
 
 /// A text has the fault of a line exactly where that line is faulty after lines none of which is, or where no
 /// line is faulty and the configuration isn't whole at the end. It is a script exactly where no line is

@@ -8,12 +8,11 @@ ghost use Rattle.text_scripts.specs.script_read.Script.{script_of, script_of_dra
 ghost use Rattle.text_scripts.specs.script_read.Pieces.{ReaderStands, HasNumbersLeft, IsReader, Follows, next_number, drafted, IsAt, IsToldAt};
 ghost use Rattle.text_scripts.specs.script_read.Pieces.{IsUntested};
 ghost use Rattle.text_scripts.specs.script_read.Drafts.{IsDraft, fault_at};
-ghost use Rattle.law_model.specs.session.Valid.{IsValid, HasFewLosses};
-ghost use Rattle.law_model.specs.Limits.{longest_input};
+ghost use Rattle.law_model.specs.Common.{IsValid, HasFewLosses, longest_input};
 
+use crate::script_read::grow_draft::{add, no_lines};
 use crate::script_read::script_draft::Draft;
 use crate::script_read::script_fault::{LineFault, LineStop, ScriptFault};
-use crate::script_read::grow_draft::{add, no_lines};
 use crate::script_read::script_keyword::awaited;
 use crate::script_read::script_limits::fault_of_config;
 use crate::script_read::script_statement::read_line;

@@ -5,14 +5,14 @@ ghost use Rattle.text_scripts.specs.script_read.Lifted.{IsStop};
 ghost use Rattle.text_scripts.specs.script_read.Statements.{place, rest_fault, words_fault, words_said, said};
 ghost use Rattle.text_scripts.specs.declared.script_read.script_draft.Statement.TheVariants as says;
 ghost use Rattle.text_scripts.specs.script_read.Drafts.{IsDraft, IsPlaced, Fits, one_fault};
-ghost use Rattle.law_model.specs.session.Valid.{IsCount};
+ghost use Rattle.law_model.specs.Common.{IsCount};
 
-use crate::script_read::word_count_fault::count_fault;
+use crate::script_read::read_item::{read_carry, read_due_line, read_frame};
+use crate::script_read::read_network::{read_container, read_delays, read_fail, read_lost};
 use crate::script_read::script_draft::{Draft, Statement};
 use crate::script_read::script_fault::{LineFault, LineStop};
-use crate::script_read::read_item::{read_carry, read_due_line, read_frame};
 use crate::script_read::script_keyword::{Keyword, check_place};
-use crate::script_read::read_network::{read_container, read_delays, read_fail, read_lost};
+use crate::script_read::word_count_fault::count_fault;
 use law_model::{EventLine, Item, ItemKind};
 use std::alloc::Global;
 use text_lines::{first_word, next_word, number_within, one_word};

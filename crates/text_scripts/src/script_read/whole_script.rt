@@ -1,8 +1,7 @@
 //! The reader of a whole text.
 ghost use Rattle.std.specs.Prelude.{◌≡◌, ◌⊎◌, ◌≤◌, length, IfOk, IfErr, Ok, Err};
 ghost use Rattle.text_scripts.specs.script_read.Script.{script_of};
-ghost use Rattle.law_model.specs.session.Valid.{IsValid, HasFewLosses};
-ghost use Rattle.law_model.specs.Limits.{longest_input};
+ghost use Rattle.law_model.specs.Common.{IsValid, HasFewLosses, longest_input};
 
 use crate::script_read::script_fault::ScriptFault;
 use crate::script_read::script_reader::ScriptReader;

@@ -2,17 +2,14 @@
 use Rattle.std.proofs.Common.{◌≡◌, ℕ, suc, ◌+◌, ◌*◌, ◌<◌, ◌≤◌, ◌-◌, nat_lt, Bool, true, false, if◌then◌else◌, List, []}
 use Rattle.std.proofs.Common.{◌∷◌, ◌++◌, length, take, refl, sym, ap, ◌∙◌, arith, append_assoc, length-append}
 use Rattle.std.proofs.lemmas.List.{append-nil}
+use Rattle.law_line.proofs.WindowLaws.{carried-early}
 use native.Mathlib.Decide.{dec_le}
-use Rattle.member_cells.specs.declared.containers_and_cells.Container.{Container}
-use Rattle.member_cells.specs.declared.containers_and_cells.Cell.{Cell}
-use Rattle.member_cells.specs.declared.containers_and_cells.Cell.TheVariants.{Good, Fail, End}
+use Rattle.law_model.specs.Common.{Container, Cell, Good, Fail, End, carried_in, AreWindows, cells_of, path, end_of}
 use Rattle.law_model.specs.declared.window_types.Window.{Window}
 use Rattle.law_model.specs.declared.window_types.Carried.{Carried}
 use Rattle.law_model.specs.declared.window_types.Carried.TheVariants.{Whole, Fails, Vanishes}
-use Rattle.law_model.specs.members.Damage.{carried_in, carried, AreWindows}
-use Rattle.law_model.specs.members.Path.{cells_of, path, end_of}
+use Rattle.law_model.specs.members.Damage.{carried}
 use Rattle.law_model.proofs.PathLaws.{carried-in, carried-after}
-use Rattle.member_path.proofs.FailureWindowLaws.WindowLaws.{carried-early}
 use Rattle.thread_rings.specs.declared.alarm_kinds.Alarm.{Alarm}
 use Rattle.thread_rings.specs.declared.alarm_kinds.AlarmKind.TheVariants.{Ends}
 use Rattle.thread_rings.specs.Alarms.{alarm_at, return_of, failure_of, alarms_from, alarms_of_line}

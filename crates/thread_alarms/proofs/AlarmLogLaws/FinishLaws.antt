@@ -3,8 +3,8 @@
 -- a number, what was put and what is kept.
 use Rattle.std.proofs.Common.{◌≡◌, ◌≢◌, ◌⊎◌, inl, inr, ℕ, zero, suc, ◌+◌, ◌*◌, ◌==◌, ◌≤◌, if◌then◌else◌, List, [], ◌∷◌}
 use Rattle.std.proofs.Common.{◌++◌, length, map, slice_get, Some, refl, sym, ap, ap₂, ◌∙◌, subst, arith, length-append}
-use Rattle.std.proofs.Common.{suc-mul}
-use Rattle.std.proofs.lemmas.List.{append-nil, nil_from_length}
+use Rattle.std.proofs.Common.{suc-mul, append-nil, eq-eqb, ne_eqb}
+use Rattle.std.proofs.lemmas.List.{nil_from_length}
 use native.Mathlib.Decide.{dec_le, ℕ_discrete}
 use Rattle.thread_rings.specs.declared.alarm_kinds.Alarm.{Alarm}
 use Rattle.thread_rings.specs.declared.alarm_kinds.AlarmKind.TheVariants.{Ends}
@@ -12,15 +12,15 @@ use Rattle.thread_alarms.specs.declared.alarm_log.tagged_alarm.Tagged.{Tagged}
 use Rattle.thread_alarms.specs.declared.alarm_log.queue_rule.Known.{Known}
 use Rattle.thread_alarms.specs.alarm_log.Alarms.{through, alarms_of, of_line, in_row}
 use Rattle.thread_alarms.specs.alarm_log.Views.{IsNew, AreApart, AreBelow, AreHeard}
-use Rattle.thread_alarms.proofs.AlarmLogLaws.ListLaws.{test-true, test-false, through-own, through-other, line-append, without}
-use Rattle.thread_alarms.proofs.AlarmLogLaws.ListLaws.{without-same, without-rest, parts-length, through-none, room-less}
+use Rattle.thread_alarms.proofs.AlarmLogLaws.ListLaws.{through-own, through-other, line-append, without, without-same}
+use Rattle.thread_alarms.proofs.AlarmLogLaws.ListLaws.{without-rest, parts-length, through-none, room-less}
 
 -- ---- the alarms of a line
 line-own : (m : ℕ) (a : Alarm) (l : List Alarm) → a.line ≡ m → of_line m (a ∷ l) ≡ a ∷ of_line m l
-line-own m a l e = ap (λ b. if b then a ∷ of_line m l else of_line m l) (test-true a.line m e)
+line-own m a l e = ap (λ b. if b then a ∷ of_line m l else of_line m l) (eq-eqb a.line m e)
 
 line-other : (m : ℕ) (a : Alarm) (l : List Alarm) → a.line ≢ m → of_line m (a ∷ l) ≡ of_line m l
-line-other m a l e = ap (λ b. if b then a ∷ of_line m l else of_line m l) (test-false a.line m e)
+line-other m a l e = ap (λ b. if b then a ∷ of_line m l else of_line m l) (ne_eqb a.line m e)
 
 -- where there is none, the first is not one, and there is none in the rest
 line-none : (m : ℕ) (a : Alarm) (l : List Alarm) → of_line m (a ∷ l) ≡ [] → (a.line ≢ m) × (of_line m l ≡ [])
@@ -139,10 +139,10 @@ module _ {P : Type 0} (from : P → ℕ) (put kept : P → List Alarm) where
   put_sizes (q ∷ qs) = length (put q) + put_sizes qs
 
   size-own : (n : ℕ) (q : P) (qs : List P) → from q ≡ n → put_size n (q ∷ qs) ≡ length (put q)
-  size-own n q qs e = ap (λ b. if b then length (put q) else put_size n qs) (test-true (from q) n e)
+  size-own n q qs e = ap (λ b. if b then length (put q) else put_size n qs) (eq-eqb (from q) n e)
 
   size-other : (n : ℕ) (q : P) (qs : List P) → from q ≢ n → put_size n (q ∷ qs) ≡ put_size n qs
-  size-other n q qs e = ap (λ b. if b then length (put q) else put_size n qs) (test-false (from q) n e)
+  size-other n q qs e = ap (λ b. if b then length (put q) else put_size n qs) (ne_eqb (from q) n e)
 
   heard-size : (xs : List Tagged) (posts : List P) (n : ℕ) → AreHeard xs (map known posts)
       → (NotAmong n posts → through n xs ≡ []) → length (through n xs) ≤ put_size n posts

@@ -1,19 +1,12 @@
 -- What the log's pass knows after posts were joined, and lists of which one moved.
 use Rattle.std.proofs.Common.{◌≡◌, ◌⊎◌, inl, inr, ℕ, zero, suc, ◌≤◌, List, [], ◌∷◌, ◌++◌, length, map, slice_get, Some}
-use Rattle.std.proofs.Common.{refl, sym, ap, ◌∙◌, subst, append_assoc}
-use Rattle.std.proofs.lemmas.List.{append-nil}
+use Rattle.std.proofs.Common.{refl, sym, ap, ◌∙◌, subst, append_assoc, append-nil}
 use Rattle.thread_alarms.specs.declared.alarm_log.queue_rule.Known.{Known}
 use Rattle.thread_alarms.specs.declared.alarm_log.queue_rule.View.{View}
 use Rattle.thread_alarms.specs.declared.alarm_log.queue_rule.View.TheVariants.{Setting, Log, Post, Spent}
 use Rattle.thread_alarms.specs.alarm_log.Alarms.{through}
-use Rattle.thread_alarms.specs.alarm_log.Views.{heard_of, got_of, made_of, most_of, known_of, with_known, AreApart, AreBelow}
-use Rattle.thread_alarms.specs.alarm_log.Views.{AreHeard, IsHeard}
-
-pub with-none : (v : View) → with_known v [] ≡ v
-with-none (Log h) = ap (λ l. Log (record h { known = l })) (append-nil h.known)
-with-none (Setting n most posts) = refl
-with-none (Post n most posts put) = refl
-with-none Spent = refl
+use Rattle.thread_alarms.specs.alarm_log.Views.{heard_of, got_of, made_of, most_of, known_of, with_known, AreApart}
+use Rattle.thread_alarms.specs.alarm_log.Views.{AreBelow, AreHeard, IsHeard}
 
 pub with-then : (v : View) (ks ls : List Known) → with_known (with_known v ks) ls ≡ with_known v (ks ++ ls)
 with-then (Log h) ks ls = ap (λ l. Log (record h { known = l })) (append_assoc h.known ks ls)

@@ -1,33 +1,26 @@
 -- Laws of lists of alarms, by post and by line.
 use Rattle.std.proofs.Common.{◌≡◌, ◌≢◌, ℕ, zero, suc, ◌+◌, ◌*◌, ◌==◌, ◌<◌, ◌≤◌, Bool, true, false, if◌then◌else◌, List}
-use Rattle.std.proofs.Common.{[], ◌∷◌, ◌++◌, length, refl, sym, ap, ◌∙◌, subst, arith, suc-mul}
-use Rattle.std.proofs.lemmas.Bool.Decides.{nat_tests}
+use Rattle.std.proofs.Common.{[], ◌∷◌, ◌++◌, length, refl, sym, ap, ◌∙◌, subst, arith, suc-mul, eq-eqb, ne_eqb}
 use native.Mathlib.Decide.{ℕ_discrete}
 use Rattle.thread_rings.specs.declared.alarm_kinds.Alarm.{Alarm}
 use Rattle.thread_alarms.specs.declared.alarm_log.tagged_alarm.Tagged.{Tagged}
 use Rattle.thread_alarms.specs.alarm_log.Alarms.{through, alarms_of, of_line}
-
-pub test-true : (a b : ℕ) → a ≡ b → (a == b) ≡ true
-test-true a b e = grind (arith, nat_tests, e)
-
-pub test-false : (a b : ℕ) → a ≢ b → (a == b) ≡ false
-test-false a b e = grind (arith, nat_tests, e)
 
 -- one value changed of a function on numbers
 abbrev pub at_key : {A : Type 0} → ℕ → A → (ℕ → A) → ℕ → A
 at_key n a f p = if p == n then a else f p
 
 pub at_key-same : {A : Type 0} (n : ℕ) (a : A) (f : ℕ → A) (p : ℕ) → p ≡ n → at_key n a f p ≡ a
-at_key-same n a f p e = ap (λ b. if b then a else f p) (test-true p n e)
+at_key-same n a f p e = ap (λ b. if b then a else f p) (eq-eqb p n e)
 
 pub at_key-other : {A : Type 0} (n : ℕ) (a : A) (f : ℕ → A) (p : ℕ) → p ≢ n → at_key n a f p ≡ f p
-at_key-other n a f p e = ap (λ b. if b then a else f p) (test-false p n e)
+at_key-other n a f p e = ap (λ b. if b then a else f p) (ne_eqb p n e)
 
 pub through-own : (n : ℕ) (x : Tagged) (xs : List Tagged) → x.from ≡ n → through n (x ∷ xs) ≡ x.alarm ∷ through n xs
-through-own n x xs e = ap (λ b. if b then x.alarm ∷ through n xs else through n xs) (test-true x.from n e)
+through-own n x xs e = ap (λ b. if b then x.alarm ∷ through n xs else through n xs) (eq-eqb x.from n e)
 
 pub through-other : (n : ℕ) (x : Tagged) (xs : List Tagged) → x.from ≢ n → through n (x ∷ xs) ≡ through n xs
-through-other n x xs e = ap (λ b. if b then x.alarm ∷ through n xs else through n xs) (test-false x.from n e)
+through-other n x xs e = ap (λ b. if b then x.alarm ∷ through n xs else through n xs) (ne_eqb x.from n e)
 
 through-joins-by : (b : Bool) (a : Alarm) (l m : List Alarm)
     → (if b then a ∷ (l ++ m) else (l ++ m)) ≡ (if b then a ∷ l else l) ++ m
@@ -60,10 +53,10 @@ without n [] = []
 without n (x ∷ xs) = if x.from == n then without n xs else x ∷ without n xs
 
 pub without-own : (n : ℕ) (x : Tagged) (xs : List Tagged) → x.from ≡ n → without n (x ∷ xs) ≡ without n xs
-without-own n x xs e = ap (λ b. if b then without n xs else x ∷ without n xs) (test-true x.from n e)
+without-own n x xs e = ap (λ b. if b then without n xs else x ∷ without n xs) (eq-eqb x.from n e)
 
 pub without-other : (n : ℕ) (x : Tagged) (xs : List Tagged) → x.from ≢ n → without n (x ∷ xs) ≡ x ∷ without n xs
-without-other n x xs e = ap (λ b. if b then without n xs else x ∷ without n xs) (test-false x.from n e)
+without-other n x xs e = ap (λ b. if b then without n xs else x ∷ without n xs) (ne_eqb x.from n e)
 
 pub parts-length : (n : ℕ) (xs : List Tagged) → length xs ≡ length (through n xs) + length (without n xs)
 parts-length n [] = refl

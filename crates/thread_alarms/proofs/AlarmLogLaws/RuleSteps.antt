@@ -1,7 +1,7 @@
 -- Each step keeps the rule of the queue.
 use Rattle.std.proofs.Common.{◌≡◌, ◌≢◌, ◌⊎◌, inl, inr, ℕ, zero, suc, ◌+◌, ◌*◌, ◌<◌, ◌≤◌, List, [], ◌∷◌, ◌++◌, length}
 use Rattle.std.proofs.Common.{set, refl, sym, ap, ap₂, ◌∙◌, subst, arith, append_assoc, length-append}
-use Rattle.std.proofs.lemmas.List.{append-nil, nil_from_length}
+use Rattle.std.proofs.lemmas.List.{append-nil, nil_from_length, length-set}
 use mathlib.Core.Option.{Option, some, none, some-injective, some-ne-none}
 use native.Mathlib.Decide.{dec_le, ℕ_discrete}
 use lib.ListN.{get_elem?}
@@ -38,11 +38,6 @@ only a b (suc j) e = absurd (some-ne-none b (sym e))
 only-set : (a b w : View) (j : ℕ) → get_elem? (a ∷ []) j ≡ some b → set (a ∷ []) j w ≡ w ∷ []
 only-set a b w zero e = refl
 only-set a b w (suc j) e = absurd (some-ne-none b (sym e))
-
-set-length : (l : List View) (j : ℕ) (w : View) → length (set l j w) ≡ length l
-set-length [] j w = refl
-set-length (x ∷ xs) zero w = refl
-set-length (x ∷ xs) (suc j) w = ap suc (set-length xs j w)
 
 abbrev count_in : View → ℕ
 count_in (Setting n most posts) = n
@@ -214,7 +209,7 @@ forks-log pass h fresh below items views holds at = elim holds [
                 (λ n e. at_key-other h.made (some (length views)) d.seat n (apart j n e) ∙ e) (d.fits j u is)
           ]
           | inr (last, is) ↦ subst (λ (y : ℕ × View). Fits d.reader d.most d.posts seat' d.sent d.got y.0 y.1)
-              (λ i. (sym (last ∙ set-length views pass left) i, is i)) (
+              (λ i. (sym (last ∙ length-set views pass left) i, is i)) (
                 at_key-same h.made (some (length views)) d.seat h.made refl,
                 sym (mine.3 h.made (omega arith)).1,
                 mine.2,

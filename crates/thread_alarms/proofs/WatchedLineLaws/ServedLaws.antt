@@ -1,8 +1,7 @@
 -- Lines that are served are later than themselves, and than what they were later than; and what is so of their workers
 -- and posts.
 use Rattle.std.proofs.Common.{◌≡◌, ℕ, zero, suc, ◌≤◌, List, [], ◌∷◌, ◌++◌, map, length, slice_get, Option, Some, None}
-use Rattle.std.proofs.Common.{refl, sym, ◌∙◌, ap, subst, arith}
-use Rattle.std.specs.Prelude.{◌+◌, option_to_list, MatchOption}
+use Rattle.std.proofs.Common.{refl, sym, ◌∙◌, ap, subst, arith, ◌+◌, option_to_list, MatchOption}
 use Rattle.std.specs.List.{AllZip}
 use Rattle.thread_rings.specs.declared.line_worker.LineWorker.{LineWorker}
 use Rattle.thread_rings.specs.Worker.{raised_by, IsLater}
@@ -10,8 +9,8 @@ use Rattle.thread_rings.proofs.LaterLaws.{later-refl, later-then}
 use Rattle.thread_alarms.specs.declared.alarm_log.alarm_post.AlarmPost.{AlarmPost}
 use Rattle.thread_alarms.specs.alarm_log.Posts.{posted_by, SamePost}
 use Rattle.thread_alarms.specs.declared.watched_line.served_line.ServedLine.{ServedLine}
-use Rattle.thread_alarms.specs.watched_line.Served.{worker_of, post_of, posts_of, IsPostLater, IsServedLater, AreServedLater, AreTold}
-use Rattle.thread_alarms.specs.watched_line.Served.{MayWatch, AreWatchable}
+use Rattle.thread_alarms.specs.watched_line.Served.{worker_of, post_of, posts_of, IsPostLater, IsServedLater}
+use Rattle.thread_alarms.specs.watched_line.Served.{AreServedLater, AreTold, MayWatch, AreWatchable}
 
 pub post-refl : (a : AlarmPost) → SamePost a a
 post-refl a = record { number = refl; most = refl; log = refl; posts = refl; room = refl }
@@ -69,11 +68,6 @@ posts-later (a ∷ as_) (b ∷ bs) later =
     posts-front (post_of a) (post_of b) (posts_of as_) (posts_of bs) later.0.post (posts-later as_ bs later.1)
 
 -- ---- one line more
-pub workers-more : (lines : List ServedLine) (line : ServedLine) →
-    map worker_of (lines ++ line ∷ []) ≡ map worker_of lines ++ worker_of line ∷ []
-workers-more [] line = refl
-workers-more (x ∷ lines) line = ap (λ l. worker_of x ∷ l) (workers-more lines line)
-
 grouped : (a : Option AlarmPost) (xs ys : List AlarmPost) →
     option_to_list a ++ (xs ++ ys) ≡ (option_to_list a ++ xs) ++ ys
 grouped None xs ys = refl

@@ -1,7 +1,6 @@
 -- What holds between the queue of a log, its pass and its list.
-use Rattle.std.specs.Prelude.{◌≡◌, ◌*◌, ◌≤◌, Option}
+use Rattle.std.specs.Prelude.{◌≡◌, ◌*◌, ◌≤◌, Option, vec_capacity}
 use Rattle.std.specs.Global.{Vec}
-use Rattle.std.specs.Vec.{vec_capacity}
 use Rattle.crossbeam_queue.specs.Passes.{Pass, view, IsPassOf}
 use Rattle.crossbeam_queue.specs.declared.array_queue.Doing.{Doing}
 use Rattle.crossbeam_queue.specs.declared.array_queue.Slotted.{Slotted}

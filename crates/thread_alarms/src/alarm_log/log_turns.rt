@@ -1,13 +1,12 @@
 //! The log, which one thread turns, and its list.
-ghost use Rattle.std.specs.Prelude.{◌≡◌, ◌≤◌, [], vec_len};
-ghost use Rattle.std.specs.Vec.{vec_capacity};
+ghost use Rattle.std.specs.Prelude.{◌≡◌, ◌≤◌, [], vec_len, vec_capacity};
 ghost use Rattle.std.specs.Arc.{arc_value};
 ghost use Rattle.crossbeam_queue.specs.Passes.{view};
 ghost use Rattle.thread_alarms.specs.alarm_log.Views.{made_of, known_of};
 ghost use Rattle.thread_alarms.specs.alarm_log.Listens.{Listens};
 
-use crate::alarm_log::join_posts::{append_all, join_all};
 use crate::alarm_log::alarm_post::AlarmPost;
+use crate::alarm_log::join_posts::{append_all, join_all};
 use crate::alarm_log::queue_rule::{AlarmQueue, View};
 use crate::alarm_log::tagged_alarm::Tagged;
 use crate::alarm_log::take_alarms::{drain, take};

@@ -3,14 +3,14 @@
 //! log has all that were posted, in order. Threads are not started here, and from what alarms come is not said.
 //! Begin with `make_log`, and then `AlarmPost::post`, `AlarmLog::turn` and `AlarmLog::finish`.
 
+mod alarm_post;
 mod join_posts;
 mod log_turns;
 mod open_log;
-mod alarm_post;
 mod queue_rule;
 mod tagged_alarm;
 mod take_alarms;
 
+pub use alarm_post::{AlarmPost, Posted};
 pub use log_turns::{AlarmList, AlarmLog, Turn};
 pub use open_log::make_log;
-pub use alarm_post::{AlarmPost, Posted};

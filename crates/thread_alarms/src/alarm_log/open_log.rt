@@ -8,8 +8,8 @@ ghost use Rattle.thread_alarms.specs.alarm_log.Views.{made_first, nothing_heard}
 ghost use Rattle.thread_alarms.specs.alarm_log.Posts.{IsFresh};
 ghost use Rattle.thread_alarms.specs.alarm_log.Logs.{IsMade};
 
-use crate::alarm_log::log_turns::AlarmLog;
 use crate::alarm_log::alarm_post::AlarmPost;
+use crate::alarm_log::log_turns::AlarmLog;
 use crate::alarm_log::queue_rule::{AlarmQueue, Limit, Listen, Opens, View};
 use crate::alarm_log::tagged_alarm::Tagged;
 use crossbeam_queue::Pass;

@@ -1,7 +1,6 @@
 //! The steps of the log on its queue.
-ghost use Rattle.std.specs.Prelude.{◌≡◌, ◌+◌, List, [], ◌++◌, IsTrue, IsFalse, length};
+ghost use Rattle.std.specs.Prelude.{◌≡◌, ◌+◌, List, [], ◌++◌, IsTrue, IsFalse, length, vec_capacity};
 ghost use Rattle.thread_rings.specs.declared.alarm_kinds.Alarm.{Alarm};
-ghost use Rattle.std.specs.Vec.{vec_capacity};
 ghost use Rattle.crossbeam_queue.specs.Passes.{view};
 ghost use Rattle.crossbeam_queue.specs.Fifo.{Held};
 ghost use Rattle.thread_alarms.specs.alarm_log.Views.{IsHeard};

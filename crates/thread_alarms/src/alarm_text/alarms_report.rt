@@ -1,6 +1,6 @@
 //! The lines of alarms are written, those of the first line of the group first.
 ghost use Rattle.std.specs.Prelude.{ℕ, List, [], ◌∷◌, ◌++◌};
-ghost use Rattle.octet_io.specs.Start.{Start};
+ghost use Rattle.law_model.specs.Common.{Start};
 ghost use Rattle.text_got.specs.Told.{HasText};
 ghost use Rattle.thread_alarms.specs.alarm_log.Alarms.{of_line};
 ghost use Rattle.thread_alarms.specs.alarm_text.Text.{alarm_texts, lines_text};

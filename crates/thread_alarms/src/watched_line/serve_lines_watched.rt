@@ -1,6 +1,5 @@
 //! The lines of a session, with their posts, and both apart again.
-ghost use Rattle.std.specs.Prelude.{◌≡◌, ◌≤◌, [], map, vec_len};
-ghost use Rattle.std.specs.Vec.{vec_capacity};
+ghost use Rattle.std.specs.Prelude.{◌≡◌, ◌≤◌, [], map, vec_len, vec_capacity};
 ghost use Rattle.thread_alarms.specs.watched_line.Served.{worker_of, posts_of, AreWatchable, AreTold};
 
 use crate::alarm_log::AlarmPost;

@@ -1,8 +1,7 @@
 //! A line that is served.
 ghost use Rattle.std.specs.Prelude.{◌≡◌, ℕ, ◌+◌, ◌<◌, ◌≤◌, ◌++◌, List, length, Some};
-ghost use Rattle.member_cells.specs.declared.containers_and_cells.Container.{Container};
+ghost use Rattle.law_model.specs.Common.{Container, cells};
 ghost use Rattle.law_model.specs.members.Damage.{carried};
-ghost use Rattle.law_model.specs.members.Path.{cells};
 ghost use Rattle.thread_rings.specs.Alarms.{alarms_of_line};
 ghost use Rattle.thread_rings.specs.Worker.{number_of, delay_of, windows_of, total_of, raised_by};
 ghost use Rattle.thread_alarms.specs.declared.alarm_log.alarm_post.AlarmPost.{AlarmPost as Through};
@@ -37,7 +36,7 @@ fn post_all<R: Wait>(rt: &R, post: &mut AlarmPost, alarms: &[Alarm])
 
 impl ServedLine {
     ghost use Rattle.std.specs.Prelude.{◌≡◌, ◌<◌, ◌↔◌, Some, Contains};
-    ghost use Rattle.member_cells.specs.declared.containers_and_cells.Cell.{Cell};
+    ghost use Rattle.law_model.specs.Common.{Cell};
     ghost use Rattle.thread_alarms.specs.declared.alarm_log.alarm_post.AlarmPost.{AlarmPost as Through};
     ghost use Rattle.thread_rings.specs.Ends.{out_passed};
     ghost use Rattle.thread_rings.specs.Worker.{carries_of, WasEmpty, WasFull};

@@ -1,24 +1,14 @@
 -- The last worker of a share is that of the next line, last line first.
-use Rattle.std.proofs.Common.{◌≡◌, ℕ, suc, ◌%◌, ◌==◌, ◌<◌, true, false, List, [], ◌∷◌, ◌++◌, length, get_or, take, drop}
-use Rattle.std.proofs.Common.{refl, sym, ◌∙◌, ap, subst, arith}
-use Rattle.std.specs.Prelude.{reverse}
-use Rattle.std.proofs.Math.ListN.{set}
-use Rattle.std.proofs.Math.Seq.{drop-cons}
-use Rattle.std.proofs.lemmas.Bool.Decides.{nat_tests}
+use Rattle.std.proofs.Common.{◌≡◌, ℕ, suc, ◌%◌, ◌==◌, ◌<◌, true, List, [], ◌∷◌, ◌++◌, length, get_or, take, drop, refl}
+use Rattle.std.proofs.Common.{sym, ◌∙◌, ap, subst, arith, reverse, set, drop-cons, eq-eqb, ne_eqb}
 use Rattle.std.proofs.lemmas.List.{reverse-append}
 use Rattle.std.proofs.lemmas.Option.{slice_get_read, get_or_from_slice_get}
 use Rattle.std.specs.Global.{Vec}
-use Rattle.law_line.proofs.ListLaws.{slice_get-inside, take-next}
+use Rattle.law_model.proofs.ListLaws.{slice_get-inside, take-next}
 use Rattle.thread_alarms.specs.declared.watched_line.served_line.ServedLine.{ServedLine}
 use Rattle.thread_alarms.specs.watched_line.Served.{AreServedLater, IsServedLater, line_of}
 use Rattle.thread_session.specs.session_parts.ServedLines.{AreNumbered, AreBack, share_of}
 use Rattle.thread_session.proofs.SessionPartsLaws.DealLaws.{filter-last, zip-last, back-step}
-
-pub test-true : (a b : ℕ) → a ≡ b → (a == b) ≡ true
-test-true a b e = grind (arith, nat_tests, e)
-
-pub test-false : (a b : ℕ) → (a ≡ b → ⊥) → (a == b) ≡ false
-test-false a b e = grind (arith, nat_tests, e)
 
 -- a share gave its last worker, and the lines took it
 abbrev pub Moves : Vec ServedLine → Vec ServedLine → List ServedLine → List ServedLine → Type 0
@@ -36,7 +26,7 @@ taken-back workers m n place shares own now lines after within numbers is inside
     let number : line_of x ≡ m = let h = numbers m x found in omega (arith, h) in
     let more : take (suc m) workers ≡ take m workers ++ x ∷ [] = take-next workers m x found in
     let test : (line_of x % n == place) ≡ true =
-    test-true (line_of x % n) place (ap (λ (k : ℕ). k % n) number ∙ sym is) in
+    eq-eqb (line_of x % n) place (ap (λ (k : ℕ). k % n) number ∙ sym is) in
     let back : AreBack (take m workers ++ x ∷ []) n shares = subst (λ l. AreBack l n shares) more had.0 in
     let mine : AreServedLater (share_of n place (take m workers) ++ x ∷ []) own.items =
     subst (λ l. AreServedLater l own.items)
@@ -51,7 +41,7 @@ taken-back workers m n place shares own now lines after within numbers is inside
       back-step (λ (share : Vec ServedLine). share.items) (λ w (worker : ServedLine). line_of worker % n == w)
           IsServedLater shares place now (take m workers) x inside
           (subst (AreServedLater (share_of n place (take m workers))) (sym moved.0) all)
-          (λ w other. test-false (line_of x % n) w (λ e. other (sym e ∙ ap (λ (k : ℕ). k % n) number ∙ sym is)))
+          (λ w other. ne_eqb (line_of x % n) w (λ e. other (sym e ∙ ap (λ (k : ℕ). k % n) number ∙ sym is)))
           back,
       subst (λ l. AreServedLater l (reverse after)) (sym first)
           (subst (AreServedLater (x ∷ drop (suc m) workers)) (sym turned) (one, had.1)),

@@ -1,22 +1,15 @@
 -- A line that has come to its end carried all its containers, and what a sink sends of its rows.
 use Rattle.std.proofs.Common.{◌≡◌, inl, inr, ℕ, zero, suc, ◌+◌, ◌-◌, ◌%◌, ◌==◌, ◌&&◌, ◌<◌, ◌≤◌, nat_lt, Bool}
 use Rattle.std.proofs.Common.{if◌then◌else◌, List, [], ◌∷◌, ◌++◌, length, map, refl, sym, ◌∙◌, ap, subst, arith}
-use Rattle.std.proofs.Common.{length-append}
-use Rattle.std.specs.Prelude.{Contains}
+use Rattle.std.proofs.Common.{length-append, Contains, append-nil}
 use Rattle.std.specs.List.{range_with_len}
 use Rattle.std.proofs.lemmas.Bool.{cases_Bool, cases_lt}
 use Rattle.std.proofs.lemmas.Bool.Decides.{nat_tests}
-use Rattle.std.proofs.lemmas.List.{append-nil, nil_from_length}
+use Rattle.std.proofs.lemmas.List.{nil_from_length}
 use Rattle.std.proofs.lemmas.List.FromFn.{map-range_with_len_more}
-use Rattle.member_cells.specs.declared.containers_and_cells.Container.{Container}
-use Rattle.member_cells.specs.declared.containers_and_cells.Cell.{Cell}
-use Rattle.member_cells.specs.declared.containers_and_cells.Cell.TheVariants.{End}
-use Rattle.member_cells.specs.declared.containers_and_cells.BackCell.{BackCell}
+use Rattle.law_model.specs.Common.{Container, Cell, End, BackCell, packet_nibbles, cells, return_at}
 use Rattle.member_cells.specs.declared.containers_and_cells.BackCell.TheVariants.{Packet as Nibbles}
-use Rattle.law_model.specs.packets.Packet.{packet_nibbles}
 use Rattle.law_model.specs.members.Damage.{carried}
-use Rattle.law_model.specs.members.Path.{cells}
-use Rattle.law_model.specs.rows.Rows.{return_at}
 use Rattle.law_model.specs.session.Scenario.{packets_in}
 use Rattle.member_path.proofs.PathDelayLaws.EndLaws.{end-open}
 use Rattle.law_walk.proofs.StepLaws.{packet-now}

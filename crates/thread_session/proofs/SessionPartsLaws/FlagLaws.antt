@@ -1,7 +1,6 @@
 -- Each thread that serves a share looks at the flag of its place.
 use Rattle.std.proofs.Common.{◌≡◌, ℕ, ◌<◌, List, [], ◌∷◌, ◌++◌, length, get_or, slice_get, Some, inl, inr, sym, ◌∙◌, ap}
-use Rattle.std.proofs.Common.{subst, arith}
-use Rattle.std.proofs.Math.ListN.{set}
+use Rattle.std.proofs.Common.{subst, arith, set}
 use Rattle.std.proofs.lemmas.Bool.{cases_lt}
 use Rattle.std.proofs.lemmas.List.{length_push}
 use Rattle.std.proofs.lemmas.Option.{slice_get_within, slice_get-get_or}
@@ -11,10 +10,6 @@ use Rattle.thread_session.specs.declared.session_parts.line_thread.Held.{Held}
 use Rattle.thread_session.specs.session_parts.Flags.{flag_of}
 use Rattle.thread_session.specs.session_parts.Held.{IsToldBy, AreToldBy}
 use Rattle.thread_session.proofs.SessionPartsLaws.DealLaws.{set-found}
-
-pub told-none : (flags : List Flag) (held : List Held) → held ≡ [] → AreToldBy flags held
-told-none flags held none w flag one is there =
-    absurd (let inside = slice_get_within held w one there in let size = ap length none in omega arith)
 
 -- one more
 pub told-push : (flags : List Flag) (held : List Held) (flag : Flag) (one : Held) →

@@ -1,11 +1,8 @@
 -- A log is the same later.
-use Rattle.std.proofs.Common.{◌≡◌, Option, Some, None, refl, sym, ◌∙◌, subst}
+use Rattle.std.proofs.Common.{◌≡◌, Option, Some, None, refl, sym, subst}
+use Rattle.thread_alarms.proofs.AlarmLogLaws.LogLaws.{same-then}
 use Rattle.thread_alarms.specs.declared.alarm_log.log_turns.AlarmLog.{AlarmLog}
-use Rattle.thread_alarms.specs.alarm_log.Logs.{SameLog}
 use Rattle.thread_session.specs.session_parts.Duty.{IsLogLater}
-
-same-then : (a b c : AlarmLog) → SameLog a b → SameLog b c → SameLog a c
-same-then a b c s t = record { queue = t.queue ∙ s.queue; posts = t.posts ∙ s.posts; most = t.most ∙ s.most }
 
 pub log-then : (a b c : Option AlarmLog) → IsLogLater a b → IsLogLater b c → IsLogLater a c
 log-then None None None s t = tt

@@ -1,39 +1,21 @@
 -- One line more is opened.
-use Rattle.std.proofs.Common.{◌≡◌, ◌⊎◌, inl, inr, ℕ, zero, suc, ◌+◌, ◌<◌, List, [], ◌∷◌, ◌++◌, length, get_or}
-use Rattle.std.proofs.Common.{slice_get, slice_index_or, Some, None, refl, sym, ◌∙◌, ap, subst, arith, length-append}
-use Rattle.member_cells.specs.declared.containers_and_cells.Container.{Container}
-use Rattle.member_cells.specs.declared.containers_and_cells.Cell.{Cell}
+use Rattle.std.proofs.Common.{◌≡◌, inl, inr, ℕ, zero, suc, ◌+◌, List, [], ◌∷◌, ◌++◌, length, slice_get, Some, None}
+use Rattle.std.proofs.Common.{refl, sym, ◌∙◌, ap, subst, arith, length-append}
+use Rattle.law_model.proofs.ListLaws.{get-last}
+use Rattle.law_model.specs.Common.{Container, Cell}
 use Rattle.law_model.specs.declared.window_types.Window.{Window}
 use Rattle.law_model.specs.declared.script_types.Config.{Config}
 use Rattle.member_path.specs.path_delay.Line.{Line, opened, DelayStands}
-use Rattle.thread_rings.specs.Ends.{OutEnd}
-use Rattle.thread_rings.specs.Ends.{InEnd}
-use Rattle.thread_rings.specs.Ends.{out_passed, in_passed, AreEnds}
+use Rattle.thread_rings.specs.Ends.{OutEnd, InEnd, out_passed, in_passed, AreEnds}
 use Rattle.thread_rings.specs.Calls.{IsOpened}
 use Rattle.thread_rings.specs.declared.line_worker.LineWorker.{LineWorker}
 use Rattle.thread_session.specs.session_parts.Opened.{IsLineOf, AreOpened}
-
-pub get-last : {X : Type 0} (xs : List X) (x : X) (m : ℕ) (y : X) → slice_get (xs ++ x ∷ []) m ≡ Some y →
-    (slice_get xs m ≡ Some y) ⊎ ((m ≡ length xs) × (y ≡ x))
-get-last [] x zero y e = inr (refl, let h : y ≡ x = cc in h)
-get-last [] x (suc m) y e = absurd cc
-get-last (z ∷ xs) x zero y e = inl e
-get-last (z ∷ xs) x (suc m) y e = elim (get-last xs x m y e) [
-  | inl there ↦ inl there
-  | inr last ↦ inr (ap suc last.0, last.1)
-]
 
 beyond : {X : Type 0} (xs : List X) (m n : ℕ) (y : X) → slice_get xs m ≡ Some y → m ≡ n → length xs ≡ n → ⊥
 beyond [] m n y there at size = absurd (let h : None ≡ Some y = there in cc)
 beyond (x ∷ xs) zero n y there at size = omega (arith, at, size)
 beyond (x ∷ xs) (suc m) zero y there at size = omega (arith, at)
 beyond (x ∷ xs) (suc m) (suc n) y there at size = beyond xs m n y there (omega (arith, at)) (omega (arith, size))
-
-pub index-is : {X : Type 0} (xs : List X) (m : ℕ) (x d : X) → m < length xs → x ≡ get_or xs m x →
-    x ≡ slice_index_or xs m d
-index-is [] m x d within is = absurd (omega arith)
-index-is (y ∷ xs) zero x d within is = is
-index-is (y ∷ xs) (suc m) x d within is = index-is xs m x d (omega arith) is
 
 pub opened-own : (line : Line) (delay total : ℕ) (windows : List Window) → DelayStands line (opened delay windows total) →
     IsOpened line

@@ -1,7 +1,6 @@
 -- One pair more of two lists is laid beside each other.
-use Rattle.std.proofs.Common.{◌≡◌, inl, inr, ℕ, ◌+◌, ◌<◌, List, length, get_or, slice_get, Some}
-use Rattle.std.proofs.Common.{refl, sym, ◌∙◌, ap, arith}
-use Rattle.std.proofs.Math.ListN.{set, length-set}
+use Rattle.std.proofs.Common.{◌≡◌, inl, inr, ℕ, ◌+◌, ◌<◌, List, length, get_or, slice_get, Some, refl, sym, ◌∙◌, ap}
+use Rattle.std.proofs.Common.{arith, set, length-set}
 use Rattle.std.proofs.lemmas.Option.{slice_get_read}
 use Rattle.member_rows.proofs.RealignRowsLaws.GatherLaws.{set-other}
 use Rattle.thread_session.specs.session_parts.Laid.{PairsBelow}

@@ -1,7 +1,7 @@
 -- A sink that has run goes on for a burst.
 use Rattle.std.proofs.Common.{◌≡◌, ℕ, Bool, true, false, List, ◌++◌, Option, sym, ◌∙◌, ap, subst}
 use Rattle.std.proofs.lemmas.Grind.{flat_map-append}
-use Rattle.octet_io.specs.Transfer.{AppendsPart}
+use Rattle.law_model.specs.Common.{AppendsPart}
 use Rattle.octet_io.proofs.Parts.{Appends-then, AppendsPart-then, AppendsPart-longer}
 use Rattle.text_report.specs.Report.{got_text, got_texts}
 use Rattle.terminal_sink.specs.sink_core.Given.{given_frames, added_frames}

@@ -1,42 +1,29 @@
 -- What the ends of all rings say is the session of the script.
 use Rattle.std.proofs.Common.{◌≡◌, ℕ, ◌+◌, ◌*◌, ◌-◌, ◌/◌, ◌<◌, List, [], ◌++◌, length, slice_get, slice_index_or}
-use Rattle.std.proofs.Common.{Option, Some, None, refl, sym, ◌∙◌, ap, arith}
-use Rattle.std.specs.Option.{option_map}
+use Rattle.std.proofs.Common.{Option, Some, None, refl, sym, ◌∙◌, ap, arith, option_map}
 use Rattle.std.proofs.lemmas.List.{length-map}
 use Rattle.std.proofs.lemmas.Option.{slice_get-map, slice_get_within}
-use Rattle.member_cells.specs.declared.containers_and_cells.Container.{Container}
-use Rattle.member_cells.specs.declared.containers_and_cells.Cell.{Cell}
-use Rattle.member_cells.specs.declared.containers_and_cells.BackCell.TheVariants.{Packet as Nibbles}
-use Rattle.law_model.specs.packets.Packet.{packet_nibbles}
+use Rattle.law_model.specs.Common.{Container, Cell, packet_nibbles, leg_of, IsValid, cells, scenario_of, Told}
+use Rattle.law_model.specs.Common.{session_cells, containers_of, container_of, return_at}
 use Rattle.law_model.specs.declared.window_types.Window.{Window}
 use Rattle.law_model.specs.declared.script_types.Script.{Script}
-use Rattle.law_model.specs.session.Leg.{leg_of}
-use Rattle.law_model.specs.session.Valid.{IsValid}
+use Rattle.member_cells.specs.declared.containers_and_cells.BackCell.TheVariants.{Packet as Nibbles}
 use Rattle.law_model.specs.members.Damage.{carried}
-use Rattle.law_model.specs.members.Path.{cells}
-use Rattle.law_model.specs.session.Scenario.{scenario_of, packets_in}
-use Rattle.law_model.specs.source.Table.{Told}
-use Rattle.law_model.specs.source.Back.{session_cells}
-use Rattle.law_model.specs.rows.Sent.{containers_of, container_of}
-use Rattle.law_model.specs.rows.Rows.{return_at}
+use Rattle.law_model.specs.session.Scenario.{packets_in}
 use Rattle.law_line.specs.StableRows.{AreDecidedAt}
-use Rattle.law_line.proofs.ListLaws.{slice_get-inside}
+use Rattle.law_model.proofs.ListLaws.{slice_get-inside}
 use Rattle.law_terminal.specs.SessionLines.{given, ComesOfLine, ComeOfLines}
 use Rattle.law_terminal.specs.Course.{told_of, IsCourse}
 use Rattle.law_terminal.proofs.ListLaws.{same-range}
 use Rattle.law_terminal.proofs.SentLaws.{containers-size}
 use Rattle.law_terminal.proofs.LoopLaws.{course-containers, course-rows, course-packet}
-use Rattle.law_walk.specs.Walk.{CanWalk, sent_on}
-use Rattle.law_walk.specs.Rings.{delay_on, said_packet}
-use Rattle.law_walk.specs.Delivered.{delivered_of}
+use Rattle.law_walk.specs.Common.{CanWalk, sent_on, delay_on, said_packet, delivered_of}
 use Rattle.law_walk.proofs.PlanLaws.{has-lines, sound-walks}
 use Rattle.law_walk.proofs.ReturnLaws.{packet-is}
 use Rattle.terminal_sink.specs.sink_core.Given.{given_frames}
 use Rattle.terminal_sink.proofs.SinkCoreLaws.SessionLaws.{session-frames}
 use Rattle.thread_sink.specs.Received.{received, backs}
-use Rattle.thread_rings.specs.Ends.{OutEnd}
-use Rattle.thread_rings.specs.Ends.{InEnd}
-use Rattle.thread_rings.specs.Ends.{out_passed, in_passed, in_items}
+use Rattle.thread_rings.specs.Ends.{OutEnd, InEnd, out_passed, in_passed, in_items}
 use Rattle.thread_rings.specs.declared.line_worker.LineWorker.{LineWorker}
 use Rattle.thread_session.specs.session_parts.Session.{IsGathered, session_backs}
 use Rattle.thread_session.proofs.SessionPartsLaws.EndedLaws.{line-carried, whole-prefix, backs-are}

@@ -1,6 +1,5 @@
 -- Two lists beside each other.
-use Rattle.std.proofs.Common.{◌≡◌, ℕ, zero, suc, ◌<◌, List, [], ◌∷◌, length, get_or, refl, ap, arith}
-use Rattle.std.proofs.Math.ListN.{set}
+use Rattle.std.proofs.Common.{◌≡◌, ℕ, zero, suc, ◌<◌, List, [], ◌∷◌, length, get_or, refl, ap, arith, set}
 use Rattle.std.specs.List.{AllZip}
 
 module _ {A : Type 0} (R : A → A → Type 0) where

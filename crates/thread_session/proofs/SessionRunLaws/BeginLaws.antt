@@ -1,26 +1,19 @@
 -- A group before anything has moved is bound to its script; and the sink's worker is the script's.
-use Rattle.std.specs.Prelude.{IfOk}
+use Rattle.std.proofs.Common.{IfOk, Result, Ok, Err, ◌≡◌, ℕ, suc, ◌+◌, ◌≤◌, true, false, if◌then◌else◌, List, [], ◌∷◌}
+use Rattle.std.proofs.Common.{take, drop, length, refl, sym, ◌∙◌, ap, subst, arith}
 use Rattle.std.specs.Global.{Vec}
 use Rattle.thread_sink.specs.declared.sink_worker.SinkWorker.{SinkWorker}
 use Rattle.thread_sink.specs.Worker.{SinkWorkerStands as SinkStands, lines_of as sink_lines, size_of as sink_size}
 use Rattle.thread_sink.specs.Worker.{taken_of as rows_taken, ticks_of as rows_of, has_failed}
-use Rattle.law_model.specs.session.Valid.{IsValid}
-use Rattle.thread_session.specs.session_run.Session.{IsSinkOf}
-use Rattle.std.proofs.Common.{Result, Ok, Err, ◌≡◌, ℕ, suc, ◌+◌, ◌≤◌, true, false, if◌then◌else◌, List, [], ◌∷◌, take}
-use Rattle.std.proofs.Common.{drop, length, Some, refl, sym, ◌∙◌, ap, subst, arith}
-use Rattle.member_cells.specs.declared.containers_and_cells.BackCell.{BackCell}
-use Rattle.member_cells.specs.declared.containers_and_cells.Container.{Container}
+use Rattle.law_model.specs.Common.{IsValid, BackCell, Container, leg_of, Scenario, scenario_of, offers_of, orders_of}
+use Rattle.law_model.specs.Common.{used_in, containers_of}
 use Rattle.law_model.specs.declared.script_types.Item.{Item}
 use Rattle.law_model.specs.declared.script_types.Script.{Script}
-use Rattle.law_model.specs.session.Leg.{leg_of}
-use Rattle.law_model.specs.session.Scenario.{Scenario, scenario_of, offers_of, orders_of}
-use Rattle.law_model.specs.session.Counts.{used_in}
-use Rattle.law_model.specs.rows.Sent.{containers_of}
-use Rattle.thread_rings.specs.Ends.{OutEnd}
-use Rattle.thread_rings.specs.Ends.{InEnd}
-use Rattle.thread_rings.specs.Ends.{in_passed, SameOut, SameIn}
+use Rattle.thread_session.specs.session_run.Session.{IsSinkOf}
+use Rattle.std.proofs.lemmas.Option.{same_Some}
+use Rattle.thread_rings.specs.Ends.{OutEnd, InEnd, in_passed, SameOut, SameIn}
 use Rattle.terminal_source.specs.source_core.Given.{IsFresh, SourceStands as HasMade}
-use Rattle.law_walk.specs.Landed.{Numbered, is_client, landed_from, landed_items, landed_scenario}
+use Rattle.law_walk.specs.Common.{Numbered, is_client, landed_from, landed_items, landed_scenario}
 use Rattle.thread_group.specs.declared.group_state.GroupState.{GroupState}
 use Rattle.terminal_group.specs.Inbox.{told_from}
 use Rattle.thread_group.specs.Journal.{items_in}
@@ -33,19 +26,16 @@ use Rattle.thread_group.specs.Session.{AreItemsOf, HasJournalRoom, HasLandedOf, 
 use Rattle.thread_group.proofs.EntryLaws.{all-kinds}
 
 -- ---- the same ends
-some-is : {X : Type 0} (x y : X) → Some x ≡ Some y → x ≡ y
-some-is x y e = cc
-
 pub outs-self : {T : Type 0} (ends : List (OutEnd T)) → SameOuts ends ends
 outs-self ends = record {
   count = refl;
-  each = λ m old new was is. subst (SameOut old) (some-is old new (sym was ∙ is)) (refl, refl, refl);
+  each = λ m old new was is. subst (SameOut old) (same_Some old new (sym was ∙ is)) (refl, refl, refl);
 }
 
 pub ins-self : {T : Type 0} (ends : List (InEnd T)) → SameIns ends ends
 ins-self ends = record {
   count = refl;
-  each = λ m old new was is. subst (SameIn old) (some-is old new (sym was ∙ is)) (refl, refl, refl);
+  each = λ m old new was is. subst (SameIn old) (same_Some old new (sym was ∙ is)) (refl, refl, refl);
 }
 
 -- ---- nothing has landed

@@ -1,35 +1,26 @@
 -- A session that has come to its end has ended as its script says.
-use Rattle.std.proofs.Common.{◌≡◌, ℕ, ◌+◌, ◌*◌, ◌-◌, ◌/◌, ◌<◌, ◌≤◌, not, ◌&&◌, List, ◌++◌, map, filter, take, length}
+use Rattle.std.proofs.Common.{◌≡◌, ℕ, ◌+◌, ◌*◌, ◌-◌, ◌<◌, ◌≤◌, not, ◌&&◌, List, ◌++◌, map, filter, take, length}
 use Rattle.std.proofs.Common.{slice_get, Option, Some, is_none, sym, ◌∙◌, ap, subst, arith}
 use Rattle.std.specs.List.{range_with_len}
 use Rattle.std.proofs.lemmas.Option.{slice_get_within}
-use Rattle.member_cells.specs.declared.containers_and_cells.Container.{Container}
-use Rattle.member_cells.specs.declared.containers_and_cells.BackCell.TheVariants.{Packet as Nibbles}
-use Rattle.law_model.specs.packets.Packet.{packet_nibbles}
+use Rattle.law_walk.proofs.StepLaws.{ends}
+use Rattle.law_model.specs.Common.{Container, packet_nibbles, leg_of, IsValid, cells, scenario_of, carried_by, steps_in}
+use Rattle.law_model.specs.Common.{offers_of, orders_of, session_cells, containers_of, return_at, Due, dues_of, used_in}
 use Rattle.law_model.specs.declared.script_types.Script.{Script}
-use Rattle.law_model.specs.session.Leg.{leg_of}
-use Rattle.law_model.specs.session.Valid.{IsValid}
-use Rattle.law_model.specs.members.Path.{cells}
-use Rattle.law_model.specs.session.Scenario.{scenario_of, carried_by, packets_in, steps_in, offers_of, orders_of}
-use Rattle.law_model.specs.source.Back.{session_cells}
-use Rattle.law_model.specs.rows.Sent.{containers_of}
-use Rattle.law_model.specs.rows.Rows.{return_at}
-use Rattle.law_model.specs.session.Counts.{Due, dues_of, used_in}
+use Rattle.law_model.specs.declared.item_refusals.Refusal.{Refusal}
+use Rattle.law_model.specs.declared.session_totals.Totals.{Totals}
+use Rattle.member_cells.specs.declared.containers_and_cells.BackCell.TheVariants.{Packet as Nibbles}
+use Rattle.law_model.specs.session.Scenario.{packets_in}
 use Rattle.law_session.specs.Session.{AgreeBefore}
 use Rattle.law_line.specs.StableRows.{AreDecidedAt}
-use Rattle.law_line.proofs.ListLaws.{slice_get-inside}
+use Rattle.law_model.proofs.ListLaws.{slice_get-inside}
 use Rattle.law_terminal.specs.SessionLines.{ComeOfLines}
 use Rattle.law_terminal.specs.Course.{told_of, IsCourse}
 use Rattle.law_terminal.proofs.SentLaws.{containers-size}
 use Rattle.law_terminal.proofs.CourseLaws.{course-returns, session-agree}
-use Rattle.law_model.specs.declared.item_refusals.Refusal.{Refusal}
-use Rattle.law_model.specs.declared.session_totals.Totals.{Totals}
-use Rattle.law_walk.specs.Walk.{sent_on}
-use Rattle.law_walk.specs.Rings.{delay_on, line_cells}
-use Rattle.law_walk.specs.Delivered.{delivered_of}
-use Rattle.law_walk.specs.Landed.{Numbered, is_client, landed_items, refusal_at, refused_by, is_accepted_frame}
-use Rattle.law_walk.specs.Landed.{is_accepted_command, refusals_among}
-use Rattle.law_walk.specs.Promise.{numbered}
+use Rattle.law_walk.specs.Common.{sent_on, delay_on, line_cells, delivered_of, Numbered, is_client, landed_items}
+use Rattle.law_walk.specs.Common.{refusal_at, refused_by, is_accepted_frame, is_accepted_command, refusals_among}
+use Rattle.law_walk.specs.Common.{numbered}
 use Rattle.law_walk.proofs.PlanLaws.{has-lines, sound-walks}
 use Rattle.law_walk.proofs.LandLaws.{Ahead}
 use Rattle.law_walk.proofs.EndLaws.{ended-landed}
@@ -55,9 +46,6 @@ use Rattle.thread_session.proofs.SessionPartsLaws.EndedLaws.{backs-are}
 use Rattle.thread_session.proofs.SessionPartsLaws.SessionLaws.{line-ended, all-come, made-session, frames-session, backs-session}
 use Rattle.thread_session.specs.session_run.Session.{HasComeToEnd, group_totals, IsGroupEnded}
 use Rattle.thread_session.proofs.SessionRunLaws.ToldLaws.{told-first, few-taken}
-
-packet-row : (ticks used k : ℕ) → used ≤ (ticks - 8) / 16 → k < used → 16 * k + 23 < ticks
-packet-row ticks used k most low = omega (arith, most, low)
 
 abbrev totals_by : ℕ → ℕ → ℕ → ℕ → Totals
 totals_by ticks frames commands refused =
@@ -120,7 +108,7 @@ module _ (script : Script) (valid : IsValid script) (group : GroupState) (worker
     come = subst (λ returns. ComeOfLines (scenario_of script) returns script.config.ticks (cells_of sink)) told
         (all-come script (taken_of group) group.tx.items workers sink.rx.items gathered windows);
     decided = λ k low. decided (16 * k + 23)
-        (packet-row script.config.ticks (used_in script.config.lag script.config.ticks) k most low);
+        (ends script.config.ticks (used_in script.config.lag script.config.ticks) k most low);
   }
 
   -- ---- the rings

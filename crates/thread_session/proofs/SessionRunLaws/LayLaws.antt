@@ -2,26 +2,21 @@
 use Rattle.std.proofs.Common.{◌≡◌, ℕ, suc, ◌<◌, List, [], ◌∷◌, ◌++◌, map, length, slice_get, Some, refl, sym, ◌∙◌, ap}
 use Rattle.std.proofs.Common.{subst, arith}
 use Rattle.std.proofs.lemmas.Option.{slice_get_within}
-use Rattle.member_cells.specs.declared.containers_and_cells.Container.{Container}
-use Rattle.member_cells.specs.declared.containers_and_cells.Cell.{Cell}
+use Rattle.law_model.specs.Common.{Container, Cell}
 use Rattle.member_path.specs.path_delay.Line.{Line}
-use Rattle.law_line.proofs.ListLaws.{slice_get-inside}
-use Rattle.thread_rings.specs.Ends.{OutEnd}
-use Rattle.thread_rings.specs.Ends.{InEnd}
-use Rattle.thread_rings.specs.Ends.{out_passed, in_passed, in_items, AreEnds}
+use Rattle.law_model.proofs.ListLaws.{slice_get-inside}
+use Rattle.thread_rings.specs.Ends.{OutEnd, InEnd, out_passed, in_passed, in_items, AreEnds}
 use Rattle.thread_rings.specs.declared.line_worker.LineWorker.{LineWorker}
-use Rattle.member_rows.specs.realign_rows.Gather.{Gather, line_count}
-use Rattle.member_rows.specs.realign_rows.Gather.{GatherStands as Gathers}
-use Rattle.terminal_sink.specs.sink_core.Core.{Core}
-use Rattle.terminal_sink.specs.sink_core.Core.{SinkStands as Takes}
+use Rattle.member_rows.specs.realign_rows.Gather.{Gather, line_count, GatherStands as Gathers}
+use Rattle.terminal_sink.specs.sink_core.Core.{Core, SinkStands as Takes}
 use Rattle.terminal_sink.specs.sink_core.Given.{given_frames}
 use Rattle.thread_sink.specs.declared.sink_worker.SinkWorker.{SinkWorker}
 use Rattle.thread_sink.specs.Received.{received, backs}
 use Rattle.thread_sink.specs.Told.{count_of}
 use Rattle.thread_sink.specs.Worker.{SinkWorkerStands, cells_of, size_of, taken_of, got_of}
 use Rattle.thread_group.proofs.LayLaws.{AreStill}
-use Rattle.thread_session.specs.session_parts.Laid.{IsSendLaid, IsReceiveLaid, AreSendsLaid, AreReceivesLaid, AreSendEnds}
-use Rattle.thread_session.specs.session_parts.Laid.{AreReceiveEnds}
+use Rattle.thread_session.specs.session_parts.Laid.{IsSendLaid, IsReceiveLaid, AreSendsLaid, AreReceivesLaid}
+use Rattle.thread_session.specs.session_parts.Laid.{AreSendEnds, AreReceiveEnds}
 use Rattle.thread_session.specs.session_run.Beside.{HasLookedLine}
 
 -- ends that have passed the same, by place

@@ -1,15 +1,13 @@
 -- Shares that are empty and have room, and rings through which nothing has passed.
 use Rattle.std.proofs.Common.{◌≡◌, ℕ, zero, suc, ◌≤◌, inl, inr, List, [], ◌∷◌, ◌++◌, length, replicate, slice_get, Some}
-use Rattle.std.proofs.Common.{refl, sym, ◌∙◌, ap, subst, arith}
+use Rattle.std.proofs.Common.{refl, sym, ◌∙◌, ap, subst, arith, vec_capacity}
 use Rattle.std.specs.Global.{Vec}
-use Rattle.std.specs.Vec.{vec_capacity}
-use Rattle.member_cells.specs.declared.containers_and_cells.Cell.{Cell}
-use Rattle.thread_rings.specs.Ends.{InEnd}
-use Rattle.thread_rings.specs.Ends.{in_passed}
+use Rattle.law_model.proofs.ListLaws.{get-last}
+use Rattle.law_model.specs.Common.{Cell}
+use Rattle.thread_rings.specs.Ends.{InEnd, in_passed}
 use Rattle.thread_sink.specs.Received.{received}
 use Rattle.thread_alarms.specs.declared.watched_line.served_line.ServedLine.{ServedLine}
 use Rattle.thread_session.specs.session_parts.ServedLines.{HaveRoom}
-use Rattle.thread_session.proofs.SessionPartsLaws.OpenLaws.{get-last}
 
 -- ---- one share more
 pub room-none : (most : ℕ) → HaveRoom most []

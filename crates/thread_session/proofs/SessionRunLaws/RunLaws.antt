@@ -1,21 +1,14 @@
 -- What has come of a session that was opened, once all have done what they had to do.
 use Rattle.std.proofs.Common.{◌≡◌, ℕ, ◌≤◌, Bool, true, false, List, [], ◌∷◌, length, slice_get, Option, Some, refl, sym}
-use Rattle.std.proofs.Common.{◌∙◌, ap, subst, arith}
-use Rattle.std.specs.Prelude.{Contains}
+use Rattle.std.proofs.Common.{◌∙◌, ap, subst, arith, Contains}
 use Rattle.std.proofs.lemmas.List.{nil_from_length}
 use Rattle.std.proofs.lemmas.Option.{slice_get_within}
-use Rattle.member_cells.specs.declared.containers_and_cells.Container.{Container}
-use Rattle.member_cells.specs.declared.containers_and_cells.Cell.TheVariants.{End}
-use Rattle.member_cells.specs.declared.containers_and_cells.BackCell.{BackCell}
-use Rattle.octet_io.specs.Transfer.{Appends, AppendsPart}
-use Rattle.octet_io.proofs.Parts.{Appends-none}
-use Rattle.law_line.proofs.ListLaws.{slice_get-inside}
+use Rattle.law_model.specs.Common.{Container, End, BackCell, Appends, AppendsPart, leg_of}
 use Rattle.law_model.specs.declared.script_types.Script.{Script}
-use Rattle.law_model.specs.session.Leg.{leg_of}
+use Rattle.octet_io.proofs.Parts.{Appends-none}
+use Rattle.law_model.proofs.ListLaws.{slice_get-inside}
 use Rattle.text_report.specs.Report.{got_texts}
-use Rattle.thread_rings.specs.Ends.{OutEnd}
-use Rattle.thread_rings.specs.Ends.{InEnd}
-use Rattle.thread_rings.specs.Ends.{AreEnds}
+use Rattle.thread_rings.specs.Ends.{OutEnd, InEnd, AreEnds}
 use Rattle.thread_rings.specs.declared.line_worker.LineWorker.{LineWorker}
 use Rattle.thread_rings.specs.Worker.{IsLater}
 use Rattle.thread_rings.proofs.EndLaws.{ends-moved}

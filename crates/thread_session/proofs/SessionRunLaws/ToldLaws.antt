@@ -4,14 +4,8 @@ use Rattle.std.proofs.Common.{ap, arith, length-append}
 use Rattle.std.specs.List.{range_with_len}
 use Rattle.std.proofs.lemmas.Bool.{cases_Bool}
 use Rattle.std.proofs.lemmas.List.FromFn.{length-map-range_with_len, take-map-range_with_len}
-use Rattle.member_cells.specs.declared.containers_and_cells.Cell.{Cell}
-use Rattle.member_cells.specs.declared.containers_and_cells.BackCell.{BackCell}
+use Rattle.law_model.specs.Common.{Cell, BackCell, packet_nibbles, Scenario, is_lost, told_in, return_at, used_in}
 use Rattle.member_cells.specs.declared.containers_and_cells.BackCell.TheVariants.{Packet as Nibbles}
-use Rattle.law_model.specs.packets.Packet.{packet_nibbles}
-use Rattle.law_model.specs.session.Scenario.{Scenario, is_lost}
-use Rattle.law_model.specs.packets.Told.{told_in}
-use Rattle.law_model.specs.rows.Rows.{return_at}
-use Rattle.law_model.specs.session.Counts.{used_in}
 use Rattle.law_terminal.specs.Course.{back_of, told_of}
 use Rattle.law_terminal.proofs.ListLaws.{same-range}
 use Rattle.terminal_group.specs.Inbox.{come_by, come_from, told_taken}

@@ -1,25 +1,19 @@
 -- Lines that are served with their posts, from the opening of a session to its end.
-use Rattle.std.proofs.Common.{◌≡◌, ℕ, zero, suc, ◌<◌, ◌≤◌, ◌==◌, Bool, true, false, List, [], ◌∷◌, ◌++◌, map}
-use Rattle.std.proofs.Common.{length, vec_len, slice_get, Some, refl, sym, ◌∙◌, ap, ap₂, subst, arith}
-use Rattle.std.specs.Prelude.{Contains, All, IsPermutation}
+use Rattle.std.proofs.Common.{◌≡◌, ℕ, zero, suc, ◌<◌, ◌≤◌, Bool, true, false, List, [], ◌∷◌, ◌++◌, map, length, vec_len}
+use Rattle.std.proofs.Common.{slice_get, Some, refl, sym, ◌∙◌, ap, ap₂, subst, arith, Contains, All, IsPermutation}
+use Rattle.std.proofs.Common.{eq-eqb, ne_eqb}
 use Rattle.std.specs.List.{AllZip}
 use Rattle.std.specs.Global.{Vec}
 use Rattle.std.proofs.lemmas.List.Elements.{All-nil, All-cons, All-append}
 use Rattle.std.proofs.lemmas.List.Sorted.{All-permutation}
 use Rattle.std.proofs.lemmas.Option.{slice_get_within}
-use Rattle.std.proofs.lemmas.Bool.Decides.{nat_tests}
-use Rattle.member_cells.specs.declared.containers_and_cells.Container.{Container}
-use Rattle.member_cells.specs.declared.containers_and_cells.Cell.{Cell}
-use Rattle.member_cells.specs.declared.containers_and_cells.Cell.TheVariants.{Good, Fail, End}
-use Rattle.law_line.proofs.ListLaws.{slice_get-inside}
+use Rattle.law_model.specs.Common.{Container, Cell, Good, Fail, End, AreWindows, IsNetwork, leg_of}
 use Rattle.law_model.specs.declared.script_types.Config.{Config}
 use Rattle.law_model.specs.declared.window_types.Window.{Window}
-use Rattle.law_model.specs.members.Damage.{AreWindows}
-use Rattle.law_model.specs.session.Valid.{IsNetwork}
-use Rattle.thread_rings.specs.Ends.{out_passed}
+use Rattle.law_model.specs.declared.script_types.Script.{Script}
+use Rattle.law_model.proofs.ListLaws.{slice_get-inside}
+use Rattle.thread_rings.specs.Ends.{out_passed, OutEnd, InEnd}
 use Rattle.thread_rings.specs.declared.line_worker.LineWorker.{LineWorker}
-use Rattle.thread_rings.specs.Ends.{OutEnd}
-use Rattle.thread_rings.specs.Ends.{InEnd}
 use Rattle.thread_rings.specs.declared.alarm_kinds.Alarm.{Alarm}
 use Rattle.thread_rings.specs.declared.alarm_kinds.AlarmKind.{AlarmKind}
 use Rattle.thread_rings.specs.declared.alarm_kinds.AlarmKind.TheVariants.{Fails, Returns, Ends}
@@ -39,9 +33,7 @@ use Rattle.thread_session.specs.session_parts.ServedLines.{AreLater, AreNumbered
 use Rattle.thread_session.specs.session_parts.Laid.{AreDone, AreServedDone}
 use Rattle.thread_session.specs.session_parts.Opened.{AreOpened}
 use Rattle.thread_session.specs.session_parts.Session.{IsEnded}
-use Rattle.law_model.specs.declared.script_types.Script.{Script}
-use Rattle.law_model.specs.session.Leg.{leg_of}
-use Rattle.law_walk.specs.Rings.{line_cells}
+use Rattle.law_walk.specs.Common.{line_cells}
 use Rattle.thread_session.proofs.SessionPartsLaws.DealLaws.{some-is, zip-at}
 use Rattle.thread_session.proofs.SessionPartsLaws.ZipLaws.{zip-length}
 use Rattle.thread_session.specs.session_run.Beside.{AreLaid}
@@ -146,19 +138,13 @@ still-posts log after posts through n made same later i post there =
     let own = made.one_log i old was in
     record { queue = grew.log ∙ own.queue ∙ sym same.queue; most = grew.most ∙ own.most ∙ sym same.most }
 
-test-true : (a b : ℕ) → a ≡ b → (a == b) ≡ true
-test-true a b e = grind (arith, nat_tests, e)
-
-test-false : (a b : ℕ) → (a ≡ b → ⊥) → (a == b) ≡ false
-test-false a b e = grind (arith, nat_tests, e)
-
 of-own : (m i : ℕ) (what : AlarmKind) (rest : List Alarm) →
     of_line m (alarm_at m i what ∷ rest) ≡ alarm_at m i what ∷ of_line m rest
-of-own m i what rest = let test = test-true m m refl in rw test refl
+of-own m i what rest = let test = eq-eqb m m refl in rw test refl
 
 of-other : (m k i : ℕ) (what : AlarmKind) (rest : List Alarm) → (k ≡ m → ⊥) →
     of_line m (alarm_at k i what ∷ rest) ≡ of_line m rest
-of-other m k i what rest other = let test = test-false k m other in rw test refl
+of-other m k i what rest other = let test = ne_eqb k m other in rw test refl
 
 -- the alarms of a line are all its own
 own-from : (m i : ℕ) (failed : Bool) (sent : List Cell) →

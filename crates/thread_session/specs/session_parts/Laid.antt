@@ -1,11 +1,7 @@
 -- The two ends of the rings of all lines, laid beside each other, and lines that have come to their end.
 use Rattle.std.specs.Prelude.{◌≡◌, ℕ, ◌<◌, ◌≤◌, List, ◌++◌, length, slice_get, Some, Contains}
-use Rattle.member_cells.specs.declared.containers_and_cells.Container.{Container}
-use Rattle.member_cells.specs.declared.containers_and_cells.Cell.{Cell}
-use Rattle.member_cells.specs.declared.containers_and_cells.Cell.TheVariants.{End}
-use Rattle.thread_rings.specs.Ends.{OutEnd}
-use Rattle.thread_rings.specs.Ends.{InEnd}
-use Rattle.thread_rings.specs.Ends.{out_passed, in_passed, in_items, AreEnds, SameOut, SameIn}
+use Rattle.law_model.specs.Common.{Container, Cell, End}
+use Rattle.thread_rings.specs.Ends.{OutEnd, InEnd, out_passed, in_passed, in_items, AreEnds, SameOut, SameIn}
 use Rattle.thread_rings.specs.declared.line_worker.LineWorker.{LineWorker}
 use Rattle.thread_alarms.specs.declared.watched_line.served_line.ServedLine.{ServedLine}
 use Rattle.thread_alarms.specs.watched_line.Served.{worker_of}

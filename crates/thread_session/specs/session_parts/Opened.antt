@@ -1,11 +1,8 @@
 -- The lines of a session before anything has moved.
 use Rattle.std.specs.Prelude.{◌≡◌, ℕ, List, [], length, slice_get, slice_index_or, Some}
-use Rattle.member_cells.specs.declared.containers_and_cells.Container.{Container}
-use Rattle.member_cells.specs.declared.containers_and_cells.Cell.{Cell}
+use Rattle.law_model.specs.Common.{Container, Cell}
 use Rattle.law_model.specs.declared.script_types.Config.{Config}
-use Rattle.thread_rings.specs.Ends.{OutEnd}
-use Rattle.thread_rings.specs.Ends.{InEnd}
-use Rattle.thread_rings.specs.Ends.{out_passed, in_passed}
+use Rattle.thread_rings.specs.Ends.{OutEnd, InEnd, out_passed, in_passed}
 use Rattle.thread_rings.specs.declared.line_worker.LineWorker.{LineWorker}
 use Rattle.thread_rings.specs.Worker.{number_of, delay_of, windows_of, total_of}
 use Rattle.thread_session.specs.session_parts.Laid.{AreSendEnds, AreReceiveEnds}

@@ -1,23 +1,13 @@
 -- A session that has ended, by the lists that its rings have passed.
 use Rattle.std.specs.Prelude.{◌≡◌, ℕ, ◌<◌, List, ◌++◌, map, length, slice_get, Option, Some}
 use Rattle.std.specs.List.{range_with_len}
-use Rattle.member_cells.specs.declared.containers_and_cells.Container.{Container}
-use Rattle.member_cells.specs.declared.containers_and_cells.Cell.{Cell}
-use Rattle.member_cells.specs.declared.containers_and_cells.BackCell.{BackCell}
-use Rattle.member_cells.specs.declared.containers_and_cells.BackCell.TheVariants.{Packet as Nibbles}
-use Rattle.law_model.specs.packets.Packet.{packet_nibbles}
+use Rattle.law_model.specs.Common.{Container, Cell, BackCell, packet_nibbles, leg_of, scenario_of, Told, containers_of}
 use Rattle.law_model.specs.declared.script_types.Script.{Script}
-use Rattle.law_model.specs.session.Leg.{leg_of}
-use Rattle.law_model.specs.session.Scenario.{scenario_of, packets_in}
-use Rattle.law_model.specs.source.Table.{Told}
-use Rattle.law_model.specs.rows.Sent.{containers_of}
+use Rattle.member_cells.specs.declared.containers_and_cells.BackCell.TheVariants.{Packet as Nibbles}
+use Rattle.law_model.specs.session.Scenario.{packets_in}
 use Rattle.law_line.specs.StableRows.{AreDecidedAt}
-use Rattle.law_walk.specs.Walk.{sent_on}
-use Rattle.law_walk.specs.Rings.{line_cells, said_packet}
-use Rattle.law_walk.specs.Delivered.{delivered_of}
-use Rattle.thread_rings.specs.Ends.{OutEnd}
-use Rattle.thread_rings.specs.Ends.{InEnd}
-use Rattle.thread_rings.specs.Ends.{out_passed, in_passed, in_items, AreEnds}
+use Rattle.law_walk.specs.Common.{sent_on, line_cells, said_packet, delivered_of}
+use Rattle.thread_rings.specs.Ends.{OutEnd, InEnd, out_passed, in_passed, in_items, AreEnds}
 use Rattle.thread_rings.specs.declared.line_worker.LineWorker.{LineWorker}
 use Rattle.thread_sink.specs.declared.sink_worker.SinkWorker.{SinkWorker}
 use Rattle.thread_sink.specs.Worker.{cells_of, taken_of, got_of}

@@ -1,13 +1,8 @@
 -- The ends of all rings of a session, laid beside each other; and the session that a group belongs to.
 use Rattle.std.specs.Prelude.{◌≡◌, ℕ, List, [], ◌∷◌, ◌++◌, length, slice_get, Some}
-use Rattle.member_cells.specs.declared.containers_and_cells.Container.{Container}
-use Rattle.member_cells.specs.declared.containers_and_cells.Cell.{Cell}
-use Rattle.member_cells.specs.declared.containers_and_cells.BackCell.{BackCell}
+use Rattle.law_model.specs.Common.{Container, Cell, BackCell, leg_of}
 use Rattle.law_model.specs.declared.script_types.Script.{Script}
-use Rattle.law_model.specs.session.Leg.{leg_of}
-use Rattle.thread_rings.specs.Ends.{OutEnd}
-use Rattle.thread_rings.specs.Ends.{InEnd}
-use Rattle.thread_rings.specs.Ends.{out_passed, in_passed, in_items, AreEnds}
+use Rattle.thread_rings.specs.Ends.{OutEnd, InEnd, out_passed, in_passed, in_items, AreEnds}
 use Rattle.thread_rings.specs.declared.line_worker.LineWorker.{LineWorker}
 use Rattle.thread_rings.specs.Worker.{number_of, delay_of, windows_of, total_of}
 use Rattle.thread_sink.specs.declared.sink_worker.SinkWorker.{SinkWorker}

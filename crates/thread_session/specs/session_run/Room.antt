@@ -1,6 +1,5 @@
 -- Room that is taken before threads are started.
-use Rattle.std.specs.Prelude.{◌≡◌, ℕ, ◌<◌, ◌≤◌, [], vec_len}
-use Rattle.std.specs.Vec.{vec_capacity}
+use Rattle.std.specs.Prelude.{◌≡◌, ℕ, ◌<◌, ◌≤◌, [], vec_len, vec_capacity}
 use Rattle.thread_session.specs.session_parts.ServedLines.{HaveRoom}
 use Rattle.thread_session.specs.declared.session_run.room_and_flags.Room.{Room}
 use Rattle.thread_session.specs.declared.session_run.room_and_flags.Places.{Places}

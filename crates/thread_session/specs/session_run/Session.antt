@@ -1,21 +1,16 @@
 -- A session of a script at its opening, and at its end.
 use Rattle.std.specs.Prelude.{◌≡◌, ℕ, ◌≤◌, List, [], ◌∷◌, ◌++◌, length, slice_get, Some, false}
-use Rattle.member_cells.specs.declared.containers_and_cells.Container.{Container}
-use Rattle.member_cells.specs.declared.containers_and_cells.Cell.{Cell}
+use Rattle.law_model.specs.Common.{Container, Cell, leg_of, offers_of, orders_of}
 use Rattle.law_model.specs.declared.script_types.Script.{Script}
-use Rattle.law_model.specs.session.Leg.{leg_of}
-use Rattle.law_model.specs.session.Scenario.{offers_of, orders_of}
 use Rattle.law_model.specs.declared.session_totals.Totals.{Totals}
-use Rattle.thread_rings.specs.Ends.{OutEnd}
-use Rattle.thread_rings.specs.Ends.{InEnd}
-use Rattle.thread_rings.specs.Ends.{out_passed, in_passed, in_items, AreEnds}
+use Rattle.thread_rings.specs.Ends.{OutEnd, InEnd, out_passed, in_passed, in_items, AreEnds}
 use Rattle.thread_rings.specs.declared.line_worker.LineWorker.{LineWorker}
 use Rattle.thread_sink.specs.declared.sink_worker.SinkWorker.{SinkWorker}
 use Rattle.thread_sink.specs.Worker.{SinkWorkerStands, lines_of, size_of, taken_of, has_failed, ticks_of as rows_of}
-use Rattle.law_walk.specs.Landed.{refusals_among, totals_among}
-use Rattle.law_walk.specs.Promise.{numbered}
+use Rattle.law_walk.specs.Common.{refusals_among, totals_among, numbered}
 use Rattle.thread_group.specs.declared.group_state.GroupState.{GroupState}
-use Rattle.thread_group.specs.Group.{IsOf, ticks_of, total_of, frames_of, commands_of, journal_of, refusals_of, totals_of}
+use Rattle.thread_group.specs.Group.{IsOf, ticks_of, total_of, frames_of, commands_of, journal_of, refusals_of}
+use Rattle.thread_group.specs.Group.{totals_of}
 use Rattle.thread_group.specs.Session.{AreItemsOf, IsBound, HasLandedOf}
 use Rattle.thread_alarms.specs.declared.watched_line.served_line.ServedLine.{ServedLine}
 use Rattle.thread_session.specs.session_parts.Laid.{AreDone, AreServedDone, AreSendEnds, AreReceiveEnds}

@@ -1,8 +1,6 @@
 -- Who does what, and what has landed.
 use Rattle.std.specs.Prelude.{◌≡◌, ℕ, true, List, Some}
-use Rattle.member_cells.specs.declared.containers_and_cells.Container.{Container}
-use Rattle.member_cells.specs.declared.containers_and_cells.BackCell.{BackCell}
-use Rattle.law_model.specs.session.Leg.{Leg}
+use Rattle.law_model.specs.Common.{Container, BackCell, Leg}
 use Rattle.law_model.specs.declared.script_types.ItemKind.{ItemKind}
 use Rattle.law_model.specs.declared.script_types.ItemKind.TheVariants.{Frame, Add, Remove}
 use Rattle.thread_rings.specs.declared.burst_gate.Who.{Who}

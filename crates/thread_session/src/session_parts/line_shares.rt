@@ -1,6 +1,5 @@
 //! The workers of lines are dealt to shares, one for each line thread, and come back in their order.
-ghost use Rattle.std.specs.Prelude.{◌≡◌, ◌+◌, ◌<◌, ◌≤◌, List, [], ◌∷◌, ◌++◌, length, vec_len};
-ghost use Rattle.std.specs.Vec.{vec_capacity};
+ghost use Rattle.std.specs.Prelude.{◌≡◌, ◌+◌, ◌<◌, ◌≤◌, List, [], ◌∷◌, ◌++◌, length, vec_len, vec_capacity};
 ghost use Rattle.thread_alarms.specs.declared.watched_line.served_line.ServedLine.{ServedLine};
 ghost use Rattle.thread_session.specs.session_parts.ServedLines.{AreNumbered, AreDealt, AreBack, HaveRoom};
 ghost use Rattle.thread_alarms.specs.watched_line.Served.{AreServedLater};

@@ -1,7 +1,6 @@
 //! Line threads: each serves the workers of a share burst by burst, until its flag tells it to give them back.
-ghost use Rattle.std.specs.Prelude.{◌≡◌, ℕ, ◌≤◌, List, [], length, vec_len};
+ghost use Rattle.std.specs.Prelude.{◌≡◌, ℕ, ◌≤◌, List, [], length, vec_len, vec_capacity};
 ghost use Rattle.std.specs.Global.{Vec};
-ghost use Rattle.std.specs.Vec.{vec_capacity};
 ghost use Rattle.thread_alarms.specs.declared.watched_line.served_line.ServedLine.{ServedLine};
 ghost use Rattle.thread_alarms.specs.watched_line.Served.{AreServedLater, IsServedLater};
 ghost use Rattle.thread_session.specs.session_parts.ServedLines.{SharesLater};
@@ -9,8 +8,8 @@ ghost use Rattle.thread_session.specs.declared.session_parts.stop_flag.Flag.{Fla
 ghost use Rattle.thread_session.specs.session_parts.Flags.{flag_of, heeded, stored_flag};
 ghost use Rattle.thread_session.specs.session_parts.Held.{IsHeldOf, AreHeldOf, IsToldBy, AreToldBy};
 
-use crate::session_parts::thread_bell::Bell;
 use crate::session_parts::stop_flag::{Flag, Heed, Stored};
+use crate::session_parts::thread_bell::Bell;
 use std::snapshot::Snapshot;
 use std::sync::{OnceToken, Wait};
 use std::thread::{Promise, PromisedHandle, Scope, Threads};

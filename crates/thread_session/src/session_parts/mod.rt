@@ -5,20 +5,20 @@
 //! their end, containers, cells, frames and return cells are the session's. A `Bell` has no clause: it only
 //! lets threads sleep.
 
-mod thread_bell;
-mod sink_duty;
-mod stop_flag;
-mod session_laws;
 mod lay_ring_ends;
+mod line_shares;
 mod line_thread;
 mod opened_lines;
-mod line_shares;
+mod session_laws;
+mod sink_duty;
+mod stop_flag;
+mod thread_bell;
 
-pub use thread_bell::Bell;
-pub use sink_duty::{Duty, SinkDuty, Turned};
-pub use stop_flag::{Comes, Flag, Heed, Stored};
-pub use session_laws::{ended_law, gathered_law};
 pub use lay_ring_ends::{carry_all, lay_receives, lay_sends};
+pub use line_shares::{collect, deal};
 pub use line_thread::{Held, Kept, serve_all_here, start_shares, take_all_back};
 pub use opened_lines::{OpenedLines, open_lines};
-pub use line_shares::{collect, deal};
+pub use session_laws::{ended_law, gathered_law};
+pub use sink_duty::{Duty, SinkDuty, Turned};
+pub use stop_flag::{Comes, Flag, Heed, Stored};
+pub use thread_bell::Bell;

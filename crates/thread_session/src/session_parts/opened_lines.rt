@@ -1,11 +1,11 @@
 //! The lines of a session are opened.
 ghost use Rattle.std.specs.Prelude.{◌<◌, [], slice_index_or, IfOk};
 ghost use Rattle.member_path.specs.path_delay.Line.{DelayStands, opened};
-ghost use Rattle.law_model.specs.session.Valid.{IsNetwork};
+ghost use Rattle.law_model.specs.Common.{IsNetwork};
 ghost use Rattle.thread_session.specs.session_parts.Opened.{AreOpened};
 
-use member_cells::{Cell, Container};
 use law_model::Config;
+use member_cells::{Cell, Container};
 use member_path::path_delay::{LineCore, Windows};
 use std::alloc::{AllocError, Global};
 use thread_rings::{LineWorker, RingIn, RingOut, line_rings};

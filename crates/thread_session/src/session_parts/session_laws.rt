@@ -1,24 +1,14 @@
 //! What the ends of all rings say of a session that has ended.
 ghost use Rattle.std.specs.Prelude.{◌≡◌, ℕ, ◌+◌, ◌<◌, List, slice_get, length, Option, Some};
-ghost use Rattle.member_cells.specs.declared.containers_and_cells.Container.{Container};
-ghost use Rattle.member_cells.specs.declared.containers_and_cells.Cell.{Cell};
+ghost use Rattle.law_model.specs.Common.{Container, Cell, leg_of, IsValid, scenario_of, Told, containers_of};
 ghost use Rattle.law_model.specs.declared.script_types.Script.{Script};
-ghost use Rattle.law_model.specs.session.Leg.{leg_of};
-ghost use Rattle.law_model.specs.session.Valid.{IsValid};
-ghost use Rattle.law_model.specs.session.Scenario.{scenario_of};
-ghost use Rattle.law_model.specs.source.Table.{Told};
-ghost use Rattle.law_model.specs.rows.Sent.{containers_of};
 ghost use Rattle.law_line.specs.StableRows.{AreDecidedAt};
 ghost use Rattle.law_terminal.specs.SessionLines.{given, ComeOfLines};
 ghost use Rattle.law_terminal.specs.Course.{told_of, IsCourse};
-ghost use Rattle.law_walk.specs.Walk.{sent_on};
-ghost use Rattle.law_walk.specs.Rings.{delay_on};
-ghost use Rattle.law_walk.specs.Delivered.{delivered_of};
+ghost use Rattle.law_walk.specs.Common.{sent_on, delay_on, delivered_of};
 ghost use Rattle.terminal_sink.specs.sink_core.Given.{given_frames};
 ghost use Rattle.thread_sink.specs.Received.{received, backs};
-ghost use Rattle.thread_rings.specs.Ends.{OutEnd};
-ghost use Rattle.thread_rings.specs.Ends.{InEnd};
-ghost use Rattle.thread_rings.specs.Ends.{out_passed, in_passed};
+ghost use Rattle.thread_rings.specs.Ends.{OutEnd, InEnd, out_passed, in_passed};
 ghost use Rattle.thread_rings.specs.declared.line_worker.LineWorker.{LineWorker};
 ghost use Rattle.thread_session.specs.session_parts.Session.{IsGathered, session_backs};
 

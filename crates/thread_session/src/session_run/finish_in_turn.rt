@@ -8,8 +8,8 @@ ghost use Rattle.thread_session.specs.session_run.Session.{IsAllDone};
 
 use crate::session_parts::carry_all;
 use crate::session_run::group_turns::{hand_in, who_brings};
-use octet_io::ByteSink;
 use law_model::Item;
+use octet_io::ByteSink;
 use std::sync::Wait;
 use thread_alarms::watched_line::ServedLine;
 use thread_group::{BoundGroup, Session, TickAnswer};

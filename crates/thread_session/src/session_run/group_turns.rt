@@ -1,8 +1,6 @@
 //! The turns at the group: each takes the lock, makes one call of the group and gives the lock back.
 ghost use Rattle.std.specs.Prelude.{◌≡◌, true, IfSome, IfNone};
-ghost use Rattle.law_model.specs.session.Leg.{leg_of};
-ghost use Rattle.law_model.specs.source.Accepted.{refusal_in};
-ghost use Rattle.terminal_group.specs.Item.{kind_of};
+ghost use Rattle.law_model.specs.Common.{leg_of, refusal_in};
 ghost use Rattle.thread_group.specs.Answer.{has_landed};
 ghost use Rattle.thread_group.specs.Group.{HasCounted};
 ghost use Rattle.thread_group.specs.Session.{IsItemOf};
@@ -13,23 +11,12 @@ use crate::session_parts::{Bell, Heed};
 use crate::session_run::room_and_flags::Flags;
 use law_model::{Item, ItemKind};
 use std::sync::{Mutex, OnceToken, Wait};
-use terminal_group::ItemRef;
+use terminal_group::handed;
 use thread_group::{BoundGroup, Session, SubmitFault, TickAnswer};
 use thread_rings::{Gate, Who};
 
 /// So many frames are made before the lines are rung for, as long as the source can go on.
 const FRAMES: u32 = 8;
-
-/// An item as it is handed in.
-fn as_handed(kind: &ItemKind) -> ItemRef<'_>
-    ensures { kind_of result ≡ kind.now }
-{
-    match kind {
-        ItemKind::Frame(octets) => ItemRef::Frame(octets.0.as_slice()),
-        ItemKind::Add(line) => ItemRef::Add(*line),
-        ItemKind::Remove(line) => ItemRef::Remove(*line),
-    }
-}
 
 /// Who brings an item of this kind.
 pub(super) fn who_brings(kind: &ItemKind) -> Who
@@ -64,7 +51,7 @@ pub(super) fn hand_in<Y: Session>(group: &mut BoundGroup<Y>, number: u32, kind: 
     ensures counted { HasCounted group.old.state group.new.state kind.now result }
     ensures landed { result ≡ true → HasLanded (leg_of Y.script) Y.tx Y.back number kind.now }
 {
-    has_landed(group.submit(number, as_handed(kind)))
+    has_landed(group.submit(number, handed(kind)))
 }
 
 /// Lands an item once it is due. Where the flag is stored first it doesn't land, and the evidence is given

@@ -4,15 +4,15 @@
 //! said. It promises nothing of when that is, nor that it ends. Begin with `run_session`, and with
 //! `run_watched` if alarms are wanted too.
 
-mod start_threads;
 mod finish_in_turn;
-mod open_ends;
-mod room_and_flags;
-mod plain_session;
-mod opened_session;
 mod group_turns;
+mod open_ends;
+mod opened_session;
+mod plain_session;
+mod room_and_flags;
+mod start_threads;
 mod watched_session;
 
-pub use plain_session::run_session;
 pub use opened_session::Ended;
+pub use plain_session::run_session;
 pub use watched_session::run_watched;

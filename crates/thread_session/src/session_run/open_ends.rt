@@ -1,21 +1,18 @@
 //! The opening of a session: all of its memory is taken here.
 ghost use Rattle.std.specs.Prelude.{◌≡◌, ◌<◌, ◌≤◌, IfOk, All, [], ◌∷◌, length, replicate, vec_len};
-ghost use Rattle.law_model.specs.session.Scenario.{offers_of};
+ghost use Rattle.law_model.specs.Common.{offers_of, leg_of, IsValid, IsKind, longest_input};
 ghost use Rattle.law_model.specs.declared.script_types.Item.{Item};
-ghost use Rattle.law_model.specs.session.Leg.{leg_of};
-ghost use Rattle.law_model.specs.session.Valid.{IsValid, IsKind};
 ghost use Rattle.thread_rings.specs.Ends.{AreEnds, out_passed, in_passed};
 ghost use Rattle.thread_sink.specs.Received.{received};
 ghost use Rattle.thread_group.specs.Rings.{AreUnused};
 ghost use Rattle.thread_group.specs.Session.{octets_in, IsBound};
 ghost use Rattle.thread_session.specs.session_run.Room.{HasRoomFor, HasPlacesFor};
 ghost use Rattle.thread_session.specs.session_run.Session.{IsOpen, IsSinkOf};
-ghost use Rattle.law_model.specs.Limits.{longest_input};
 
 use crate::session_parts::open_lines;
 use crate::session_run::room_and_flags::{Flags, Places, Room};
-use member_cells::{BackCell, Cell, Container};
 use law_model::{Item, ItemKind, Script};
+use member_cells::{BackCell, Cell, Container};
 use std::alloc::{AllocError, Global};
 use thread_group::GroupState;
 use thread_rings::{LineWorker, RingIn, RingOut, back_ring};

@@ -1,5 +1,5 @@
 //! A session from its opening to its end.
-ghost use Rattle.std.specs.Prelude.{◌≡◌, ◌≤◌, List, length, false, vec_len};
+ghost use Rattle.std.specs.Prelude.{◌≡◌, ◌≤◌, length, false, vec_len};
 ghost use Rattle.law_model.specs.declared.script_types.Script.{Script};
 ghost use Rattle.thread_rings.specs.Ends.{AreEnds};
 ghost use Rattle.text_report.specs.Report.{got_texts};
@@ -16,12 +16,12 @@ ghost use Rattle.thread_session.specs.session_run.Session.{IsOpen, HasComeToEnd}
 ghost use Rattle.thread_session.specs.session_run.Beside.{AreLaid, IsSessionOf};
 
 use crate::session_parts::{SinkDuty, lay_receives, lay_sends};
-use crate::session_run::start_threads::lines_beside;
 use crate::session_run::finish_in_turn::finish;
 use crate::session_run::open_ends::{Opened, items_of};
 use crate::session_run::room_and_flags::Places;
-use octet_io::{ByteSink, take_back};
+use crate::session_run::start_threads::lines_beside;
 use law_model::Script;
+use octet_io::{ByteSink, take_back};
 use std::sync::{Mutex, Wait};
 use std::thread::Threads;
 use thread_alarms::alarm_log::{AlarmLog, AlarmPost};

@@ -1,18 +1,16 @@
 //! The call that runs a session.
 ghost use Rattle.std.specs.Prelude.{◌≡◌, ◌≤◌, true, false, IfOk, IfErr};
-ghost use Rattle.law_model.specs.session.Leg.{leg_of};
-ghost use Rattle.octet_io.specs.Transfer.{Appends, AppendsPart};
+ghost use Rattle.law_model.specs.Common.{leg_of, Appends, AppendsPart, IsValid};
 ghost use Rattle.text_report.specs.Report.{got_texts};
-ghost use Rattle.law_model.specs.session.Valid.{IsValid};
 ghost use Rattle.thread_sink.specs.Worker.{has_failed};
-ghost use Rattle.law_walk.specs.Delivered.{delivered_of};
+ghost use Rattle.law_walk.specs.Common.{delivered_of};
 ghost use Rattle.thread_session.specs.session_parts.Session.{IsEnded};
 ghost use Rattle.thread_session.specs.session_run.Session.{IsGroupEnded};
 
 use crate::session_run::open_ends::open;
 use crate::session_run::opened_session::{Ended, run_opened};
-use octet_io::ByteSink;
 use law_model::Script;
+use octet_io::ByteSink;
 use std::alloc::{AllocError, Global};
 use std::marker::Brand;
 use std::sync::Wait;

@@ -1,7 +1,6 @@
 //! All threads of a session beside each other.
-ghost use Rattle.std.specs.Prelude.{◌≡◌, ◌≤◌, List, [], length, vec_len, IfSome, IsTrue};
+ghost use Rattle.std.specs.Prelude.{◌≡◌, ◌≤◌, List, [], length, vec_len, IfSome, IsTrue, vec_capacity};
 ghost use Rattle.std.specs.Global.{Vec};
-ghost use Rattle.std.specs.Vec.{vec_capacity};
 ghost use Rattle.thread_alarms.specs.declared.watched_line.served_line.ServedLine.{ServedLine};
 ghost use Rattle.thread_session.specs.session_parts.Duty.{Begun};
 ghost use Rattle.thread_session.specs.declared.session_parts.stop_flag.Flag.{Flag as OwnFlag};
@@ -15,8 +14,8 @@ use crate::session_parts::{
     Bell, Comes, Duty, Flag, Held, Turned, collect, deal, serve_all_here, start_shares,
     take_all_back,
 };
-use crate::session_run::room_and_flags::{Flags, Room};
 use crate::session_run::group_turns::{land_all, tick_all};
+use crate::session_run::room_and_flags::{Flags, Room};
 use law_model::Item;
 use std::sync::{Mutex, OnceToken, Wait};
 use std::thread;

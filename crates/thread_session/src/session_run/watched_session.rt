@@ -1,23 +1,20 @@
 //! The call that runs a session of which each line is watched.
 ghost use Rattle.std.specs.Prelude.{◌≡◌, ℕ, ◌<◌, ◌≤◌, true, false, All, IfOk, IfErr};
-ghost use Rattle.law_model.specs.session.Leg.{leg_of};
-ghost use Rattle.octet_io.specs.Transfer.{Appends, AppendsPart};
+ghost use Rattle.law_model.specs.Common.{leg_of, Appends, AppendsPart, IsValid};
 ghost use Rattle.text_report.specs.Report.{got_texts};
-ghost use Rattle.law_model.specs.session.Valid.{IsValid};
 ghost use Rattle.thread_rings.specs.declared.alarm_kinds.Alarm.{Alarm};
 ghost use Rattle.thread_rings.specs.Alarms.{alarms_of_line};
 ghost use Rattle.thread_alarms.specs.alarm_log.Alarms.{of_line};
 ghost use Rattle.thread_alarms.specs.alarm_log.Logs.{alarms_in};
 ghost use Rattle.thread_sink.specs.Worker.{has_failed};
-ghost use Rattle.law_walk.specs.Delivered.{delivered_of};
-ghost use Rattle.law_walk.specs.Rings.{line_cells};
+ghost use Rattle.law_walk.specs.Common.{delivered_of, line_cells};
 ghost use Rattle.thread_session.specs.session_parts.Session.{IsEnded};
 ghost use Rattle.thread_session.specs.session_run.Session.{IsGroupEnded};
 
 use crate::session_run::open_ends::open;
 use crate::session_run::opened_session::{Ended, Left, run_opened};
-use octet_io::ByteSink;
 use law_model::Script;
+use octet_io::ByteSink;
 use std::alloc::{AllocError, Global};
 use std::marker::Brand;
 use std::sync::Wait;

@@ -1,32 +1,26 @@
 -- A return packet comes to the source.
-use Rattle.std.proofs.Common.{◌≡◌, ℕ, ◌+◌, ◌<◌, nat_le, true, false, Bool, List, [], ◌∷◌, ◌++◌, length}
-use Rattle.std.proofs.Common.{drop, slice_get, Option, Some, option_map}
-use Rattle.std.proofs.Common.{None, refl, sym, ◌∙◌, ap, subst, arith, inl, inr, if◌then◌else◌}
+use Rattle.std.proofs.Common.{◌≡◌, ℕ, ◌+◌, ◌<◌, nat_le, true, false, Bool, List, [], ◌∷◌, ◌++◌, length, drop, slice_get}
+use Rattle.std.proofs.Common.{Option, Some, option_map, None, refl, sym, ◌∙◌, ap, subst, arith, inl, inr, if◌then◌else◌}
 use Rattle.std.specs.List.{range_with_len}
 use Rattle.std.proofs.lemmas.List.{length-map}
 use Rattle.std.proofs.lemmas.List.FromFn.{length-range_with_len}
 use Rattle.std.proofs.lemmas.Bool.{cases_lt}
-use Rattle.member_cells.specs.declared.containers_and_cells.BackCell.{BackCell}
-use Rattle.member_cells.specs.declared.containers_and_cells.BackCell.TheVariants.{Packet as Nibbles, Lost}
-use Rattle.law_model.specs.packets.Packet.{packet_nibbles}
-use Rattle.law_model.specs.session.Leg.{Leg}
+use Rattle.law_model.specs.Common.{BackCell, packet_nibbles, Leg, scenario_by, is_lost, Counts, Step, step, in_return}
+use Rattle.law_model.specs.Common.{used_in, in_inbox, IsSound}
 use Rattle.law_model.specs.declared.walk_events.Event.TheVariants.{Back}
 use Rattle.law_model.specs.declared.walk_events.StallCause.TheVariants.{BackEmpty}
-use Rattle.law_model.specs.session.Scenario.{scenario_by, is_lost, packets_in}
-use Rattle.law_model.specs.session.Counts.{Counts, Step, step, in_return, used_in, in_inbox}
+use Rattle.law_model.specs.declared.control_packet.Packet.{Packet}
+use Rattle.member_cells.specs.declared.containers_and_cells.BackCell.TheVariants.{Packet as Nibbles, Lost}
+use Rattle.law_model.specs.session.Scenario.{packets_in}
 use Rattle.law_progress.proofs.MoveLaws.{inbox-fits}
-use Rattle.law_model.specs.session.Valid.{IsSound}
-use Rattle.law_walk.specs.Walk.{walk_plan, IsWalked}
-use Rattle.law_walk.specs.Rings.{said_packet, back_cell, return_ring, inbox}
+use Rattle.law_walk.specs.Common.{walk_plan, IsWalked, said_packet, back_cell, return_ring, inbox}
 use Rattle.law_walk.proofs.PlanLaws.{has-plan, sound-walks}
 use Rattle.law_walk.proofs.ReturnLaws as return_laws
-use Rattle.walk_engine.specs.walk_parts.Return.{Return, path_of, packet_cell, come, and_moved, moved_by}
-use Rattle.terminal_group.specs.Inbox.{Inbox, with_come, is_lost_in}
+use Rattle.walk_engine.specs.Common.{Return, path_of, packet_cell, come, and_moved, moved_by, answer_by, moved_of}
+use Rattle.walk_engine.specs.Common.{counts_after, Parts, counts_of, HasBack, IsWalk}
 use Rattle.walk_engine.specs.declared.walk_core.step_answers.StepNote.{StepNote}
 use Rattle.walk_engine.specs.declared.walk_core.step_answers.Moved.TheVariants.{Yes, Stalled}
-use Rattle.walk_engine.specs.walk_core.Moved.{answer_by, moved_of, counts_after}
-use Rattle.law_model.specs.declared.control_packet.Packet.{Packet}
-use Rattle.walk_engine.specs.walk_core.Parts.{Parts, counts_of, HasBack, IsWalk}
+use Rattle.terminal_group.specs.Inbox.{Inbox, with_come, is_lost_in}
 use Rattle.walk_engine.proofs.WalkCoreLaws.EventLaws.{walk-fits, walked-next, stands-back}
 
 pub ring-size : (leg : Leg) (s : Counts) → length (return_ring leg s) ≡ in_return s

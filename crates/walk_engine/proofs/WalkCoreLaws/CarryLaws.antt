@@ -2,42 +2,36 @@
 use Rattle.std.proofs.Common.{◌≡◌, ℕ, zero, suc, ◌+◌, ◌-◌, ◌%◌, ◌<◌, ◌≤◌, ◌&&◌, min, nat_le, nat_lt, true, false, List}
 use Rattle.std.proofs.Common.{[], ◌∷◌, length, take, drop, map, slice_get, slice_set, Option, Some, None, refl, sym}
 use Rattle.std.proofs.Common.{◌∙◌, ap, subst, arith, inl, inr}
-use Rattle.std.proofs.lemmas.List.{length-take, length-map}
+use Rattle.std.proofs.lemmas.List.{length-take, length-map, length-set, map-set}
 use Rattle.std.specs.Global.{Vec, Box}
-use Rattle.law_model.specs.rows.Sent.{container_of, frame_of}
-use Rattle.std.proofs.lemmas.Bool.{cases_lt, cases_Bool, cases_eq}
-use Rattle.member_cells.specs.declared.containers_and_cells.Container.{Container}
-use Rattle.law_model.specs.session.Leg.{Leg}
+use Rattle.law_model.specs.Common.{container_of, frame_of, Container, Leg, scenario_by, carried_by, cells}
+use Rattle.law_model.specs.Common.{session_cells, LinePath, LineCounts, Plan, Counts, Step, step, carry_at, carry_on}
+use Rattle.law_model.specs.Common.{in_send, in_receive}
 use Rattle.law_model.specs.declared.walk_events.StallCause.{StallCause}
 use Rattle.law_model.specs.declared.walk_events.StallCause.TheVariants.{Done, Empty, RxFull}
-use Rattle.law_model.specs.session.Scenario.{scenario_by, carried_by}
-use Rattle.law_model.specs.members.Path.{cells}
-use Rattle.law_model.specs.source.Back.{session_cells}
+use Rattle.law_model.specs.declared.walk_events.Event.TheVariants.{Carry}
+use Rattle.std.proofs.lemmas.Bool.{cases_lt, cases_Bool, cases_eq, lt-leb, lt-ltb, le-ltb}
 use Rattle.std.specs.List.{range_with_len}
 use Rattle.circular_buffer.proofs.Places.{slice_get-set_other}
-use Rattle.member_rows.proofs.RealignRowsLaws.GatherLaws.{length-slice_set, set-here}
+use Rattle.member_rows.proofs.RealignRowsLaws.GatherLaws.{set-here}
 use Rattle.member_rows.specs.realign_rows.Gather.{GatherStands as Gathers}
 use Rattle.terminal_sink.specs.sink_core.Core.{SinkStands as HasTaken}
-use Rattle.law_model.specs.declared.walk_events.Event.TheVariants.{Carry}
-use Rattle.law_model.specs.session.Counts.{LinePath, LineCounts, Plan, Counts, Step, step, carry_at, carry_on, in_send}
-use Rattle.law_model.specs.session.Counts.{in_receive}
 use Rattle.law_terminal.proofs.SentLaws.{containers-size}
 use Rattle.law_terminal.proofs.ListLaws.{range-at}
 use Rattle.member_path.specs.path_delay.Line.{and_push, and_flush, carries_of, path_cells, IsEnded}
-use Rattle.law_walk.specs.Walk.{sent_on, walk_plan, CanWalk, counts_at, cells_on, popped_on, popped_cells}
+use Rattle.law_walk.specs.Common.{sent_on, walk_plan, CanWalk, counts_at, cells_on, popped_on, popped_cells, delay_on}
+use Rattle.law_walk.specs.Common.{sent_at, taken_by, cells_by, send_by, receive_by, path_on}
 use Rattle.law_walk.proofs.PlanLaws.{line-path, sound-walks}
 use Rattle.law_walk.proofs.WalkLaws.{line-fits}
 use Rattle.law_progress.specs.Progress.{LineFits}
 use Rattle.law_session.proofs.AlikeLaws.{map-same}
-use Rattle.law_walk.specs.Rings.{delay_on, sent_at, taken_by, cells_by, send_by, receive_by}
-use Rattle.law_walk.specs.Walk.{path_on}
 use Rattle.law_walk.proofs.RingLaws.{taken-cells, taken-next, receive-size}
-use Rattle.walk_engine.specs.walk_parts.Ringed.{Ringed, ring_of}
+use Rattle.walk_engine.specs.Common.{Ringed, ring_of, answer_by, moved_of, counts_after, Parts, frame_in, HasSent}
+use Rattle.walk_engine.specs.Common.{counts_of, calls_on, line_counts, HasLine, carry_cause, CanCarry, IsSentOn}
+use Rattle.walk_engine.specs.Common.{IsCarriedAt, send_ring, receive_ring}
 use Rattle.walk_engine.specs.declared.walk_core.step_answers.Moved.TheVariants.{Yes, Stalled}
-use Rattle.walk_engine.specs.walk_core.Moved.{answer_by, moved_of, counts_after}
-use Rattle.walk_engine.specs.walk_core.Parts.{Parts, frame_in, HasSent, counts_of, calls_on, line_counts, HasLine, WayStands}
-use Rattle.walk_engine.specs.walk_core.Carry.{carry_cause, CanCarry, HasReceiveRoom, IsSentOn, IsCarriedAt}
-use Rattle.walk_engine.specs.walk_core.Waiting.{send_ring, receive_ring}
+use Rattle.walk_engine.specs.walk_core.Parts.{WayStands}
+use Rattle.walk_engine.specs.walk_core.Carry.{HasReceiveRoom}
 use Rattle.walk_engine.proofs.WalkCoreLaws.EventLaws.{walk-fits, walked-next, source-stays, landed-stays}
 use Rattle.walk_engine.proofs.WalkCoreLaws.SendLaws.{sent-carried, counts-here, counts-of, waits-none, waits-some}
 
@@ -62,21 +56,9 @@ cells-are leg m x =
     (carries leg m x)
     ∙ taken-cells leg m x
 
-le-no : (n : ℕ) → 0 < n → nat_le n 0 ≡ false
-le-no n some = grind (arith, some)
-
-pub same-some : {X : Type 0} (x y : X) → Some x ≡ Some y → x ≡ y
-same-some x y e = cc
-
 pub below : (a b : ℕ) → a ≤ b → (a ≡ b → ⊥) → a < b
 below a b within apart = elim (cases_lt a b)
     [ inl low ↦ low | inr high ↦ absurd (apart (let e : a ≡ b = omega (arith, within, high) in e)) ]
-
-lt-yes : (a b : ℕ) → a < b → nat_lt a b ≡ true
-lt-yes a b low = grind (arith, low)
-
-lt-no : (a b : ℕ) → b ≤ a → nat_lt a b ≡ false
-lt-no a b low = grind (arith, low)
 
 pub numbers : (leg : Leg) (m : ℕ) (line : Ringed) → HasLine leg m line → AreNumbers leg m line
 numbers leg m line has = record {
@@ -141,11 +123,11 @@ module _ (leg : Leg) (m ticks : ℕ) (line : Ringed) (has : HasLine leg m line)
       let a = n.pushed in let b = n.total in
       elim (cases_lt line.carried leg.config.ticks) [
         | inl left ↦ elim (cases_lt line.carried ticks) [
-          | inl more ↦ (let e = le-no (ticks - min line.carried leg.config.ticks) (omega (arith, left, more)) in
-              let f = lt-yes line.carried leg.config.ticks left in rw (f, e) refl)
+          | inl more ↦ (let e = lt-leb (ticks - min line.carried leg.config.ticks) 0 (omega (arith, left, more)) in
+              let f = lt-ltb line.carried leg.config.ticks left in rw (f, e) refl)
           | inr dry ↦ absurd (not_dry (omega (arith, left, a, b)) dry)
         ]
-        | inr all ↦ (let e = lt-no line.carried leg.config.ticks all in rw e refl)
+        | inr all ↦ (let e = le-ltb line.carried leg.config.ticks all in rw e refl)
       ]
 
   pub cause-full : (IsEnded line.core → ⊥) → ((line.core.pushed < line.core.total) → ticks ≤ line.carried → ⊥) →
@@ -245,12 +227,6 @@ frame-at leg m x inside =
     (range-at 0 (length leg.config.windows) m inside ∙ ap Some (let e : 0 + m ≡ m = omega arith in e))
 
 -- ---- of a walk
-pub map-set : {X Y : Type 0} (f : X → Y) (xs : List X) (m : ℕ) (x : X) →
-    map f (slice_set xs m x) ≡ slice_set (map f xs) m (f x)
-map-set f [] m x = refl
-map-set f (y ∷ xs) zero x = refl
-map-set f (y ∷ xs) (suc m) x = ap (λ rest. f y ∷ rest) (map-set f xs m x)
-
 popped-same : (lines : List LineCounts) (m k : ℕ) (line : LineCounts) (x : LineCounts) →
     slice_get lines m ≡ Some line → x.popped ≡ line.popped →
     (counts_at (slice_set lines m x) k).popped ≡ (counts_at lines k).popped
@@ -367,7 +343,7 @@ module _ (leg : Leg) (backs : ℕ) (parts : Parts) (is : WayStands leg backs par
                 (record { carried = line.carried + 1; popped = line.popped }) parts.sent sent
                 is.sent here refl line-send changed);
             lines = record {
-              size = length-slice_set parts.lines m after ∙ is.lines.size;
+              size = length-set parts.lines m after ∙ is.lines.size;
               each = λ k other e. elim (cases_eq k m) [
                 | inl same ↦ subst (λ (l : Ringed). HasLine leg k l)
                     (sym (set-here parts.lines m after other

@@ -2,20 +2,20 @@
 use Rattle.std.proofs.Common.{◌≡◌, ℕ, ◌+◌, ◌%◌, ◌<◌, ◌≤◌, List, length, map, slice_get, slice_set, slice_index_or}
 use Rattle.std.proofs.Common.{Option, Some, None, sym, ◌∙◌, ap, subst, arith}
 use Rattle.std.specs.Global.{Vec, Box}
-use Rattle.member_cells.specs.declared.containers_and_cells.Container.{Container}
+use Rattle.std.proofs.lemmas.Option.{same_Some}
+use Rattle.law_model.proofs.ListLaws.{at-index}
+use Rattle.law_model.specs.Common.{Container, Leg}
 use Rattle.law_model.specs.declared.walk_events.Event.TheVariants.{Carry}
 use Rattle.law_model.specs.declared.walk_events.StallCause.{StallCause}
-use Rattle.law_model.specs.session.Leg.{Leg}
-use Rattle.law_walk.specs.Walk.{path_on}
-use Rattle.walk_engine.specs.walk_parts.Ringed.{Ringed, ring_of}
-use Rattle.terminal_group.proofs.ItemLaws.{at-index}
-use Rattle.walk_engine.specs.declared.walk_core.step_answers.Moved.TheVariants.{Yes, Stalled}
-use Rattle.walk_engine.specs.walk_core.Way.{Makes}
 use Rattle.law_model.specs.declared.control_packet.Packet.{Packet}
+use Rattle.law_walk.specs.Common.{path_on}
+use Rattle.walk_engine.specs.Common.{Ringed, ring_of, Makes, Parts, frame_in, line_counts, HasLine, IsWalk, carry_cause}
+use Rattle.walk_engine.specs.Common.{CanCarry, IsSentOn, IsCarriedAt}
+use Rattle.walk_engine.specs.declared.walk_core.step_answers.Moved.TheVariants.{Yes, Stalled}
 use Rattle.walk_engine.specs.declared.walk_core.step_answers.StepNote.{StepNote}
-use Rattle.walk_engine.specs.walk_core.Parts.{Parts, frame_in, line_counts, HasLine, WayStands, IsWalk}
-use Rattle.walk_engine.specs.walk_core.Carry.{carry_cause, CanCarry, HasReceiveRoom, IsSentOn, IsCarriedAt}
-use Rattle.walk_engine.proofs.WalkCoreLaws.CarryLaws.{same-some, line-has, line-room, carry-stays, carry-kept_at, carry-counts_at}
+use Rattle.walk_engine.specs.walk_core.Parts.{WayStands}
+use Rattle.walk_engine.specs.walk_core.Carry.{HasReceiveRoom}
+use Rattle.walk_engine.proofs.WalkCoreLaws.CarryLaws.{line-has, line-room, carry-stays, carry-kept_at, carry-counts_at}
 use Rattle.walk_engine.proofs.WalkCoreLaws.CarryLaws.{carry-moved, line-sent, room-left}
 
 -- a line that has carried one container more, of the send rings as they were and as they are
@@ -59,7 +59,7 @@ module _ (leg : Leg) (backs : ℕ) (parts : Parts) (is : WayStands leg backs par
       module _ (none : found ≡ None) (can : CanCarry line ticks) (own : Ringed)
           (own_read : own ≡ slice_index_or parts.lines k own) where
         own-is : own ≡ line
-        own-is = same-some own line (sym (line-there own own_read) ∙ line-there line read)
+        own-is = same_Some own line (sym (line-there own own_read) ∙ line-there line read)
 
         own-can : CanCarry own parts.source.core.ticks
         own-can = subst (λ l. CanCarry l parts.source.core.ticks) (sym own-is) (subst (CanCarry line) now can)

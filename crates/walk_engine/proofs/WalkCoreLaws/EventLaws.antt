@@ -1,22 +1,20 @@
 -- What each event leaves of a walk's counts.
 use Rattle.std.proofs.Common.{◌≡◌, ℕ, List, [], ◌∷◌, ◌++◌, Option, Some, refl, sym, ◌∙◌, ap}
+use Rattle.law_model.specs.Common.{Leg, LineCounts, Counts, run, begin, IsSound}
 use Rattle.law_model.specs.declared.walk_events.Event.{Event}
-use Rattle.law_model.specs.session.Leg.{Leg}
 use Rattle.law_model.specs.declared.walk_events.StallCause.{StallCause}
-use Rattle.law_model.specs.session.Counts.{LineCounts, Counts, run, begin}
-use Rattle.law_model.specs.session.Valid.{IsSound}
+use Rattle.law_model.specs.declared.item_refusals.Refusal.{Refusal}
 use Rattle.law_progress.specs.Progress.{Fits}
 use Rattle.law_progress.proofs.MoveLaws.{reached-fits}
 use Rattle.law_progress.proofs.ReachLaws.{run-append}
-use Rattle.law_model.specs.declared.item_refusals.Refusal.{Refusal}
-use Rattle.law_walk.specs.Walk.{walk_plan, IsWalked}
+use Rattle.law_walk.specs.Common.{walk_plan, IsWalked}
 use Rattle.law_walk.proofs.PlanLaws.{has-plan, sound-walks}
 use Rattle.terminal_group.specs.Landed.{Landed}
 use Rattle.terminal_source.specs.source_core.Terminal.{Terminal}
-use Rattle.walk_engine.specs.walk_core.Moved.{answer_by, counts_after}
-use Rattle.terminal_group.specs.Inbox.{Inbox}
-use Rattle.walk_engine.specs.walk_core.Parts.{Parts, counts_of, HasSource, HasLanded, WayStands}
+use Rattle.walk_engine.specs.Common.{answer_by, counts_after, Parts, counts_of, HasSource, HasLanded}
 use Rattle.walk_engine.specs.declared.walk_core.step_answers.Moved.TheVariants.{Stalled}
+use Rattle.terminal_group.specs.Inbox.{Inbox}
+use Rattle.walk_engine.specs.walk_core.Parts.{WayStands}
 
 pub walked-next : (leg : Leg) (s next : Counts) (event : Event) → IsWalked leg s →
     next ≡ counts_after leg s event → IsWalked leg next

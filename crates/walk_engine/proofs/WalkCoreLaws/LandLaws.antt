@@ -2,22 +2,19 @@
 use Rattle.std.proofs.Common.{◌≡◌, ℕ, ◌+◌, nat_lt, slice_get, Option, Some, None, option_map, inl, inr, refl, sym, ◌∙◌}
 use Rattle.std.proofs.Common.{ap}
 use Rattle.std.proofs.lemmas.Bool.{cases_Bool}
+use Rattle.law_model.specs.Common.{Leg, Counts, Step, land_due, step}
 use Rattle.law_model.specs.declared.script_types.Item.{Item}
-use Rattle.law_model.specs.session.Leg.{Leg}
 use Rattle.law_model.specs.declared.walk_events.Event.{Event}
 use Rattle.law_model.specs.declared.walk_events.Event.TheVariants.{Accept, Command}
 use Rattle.law_model.specs.declared.walk_events.StallCause.{StallCause}
 use Rattle.law_model.specs.declared.walk_events.StallCause.TheVariants.{NotDue}
-use Rattle.law_model.specs.session.Counts.{Counts, Step, land_due, step}
-use Rattle.law_walk.specs.Walk.{walk_plan}
+use Rattle.law_model.specs.declared.item_refusals.Refusal.{Refusal}
+use Rattle.law_walk.specs.Common.{walk_plan, refusal_at}
 use Rattle.terminal_group.specs.Place.{is_frame, is_command, place_of}
 use Rattle.terminal_group.proofs.PlaceLaws.{due_found, frame-due, command-due}
-use Rattle.law_model.specs.declared.item_refusals.Refusal.{Refusal}
-use Rattle.law_walk.specs.Landed.{refusal_at}
-use Rattle.walk_engine.specs.walk_core.Landing.{stall_by}
+use Rattle.walk_engine.specs.Common.{stall_by, answer_by, refusal_of_item, refusal_in_event, moved_of, counts_after}
 use Rattle.walk_engine.specs.declared.walk_core.step_answers.Moved.{Moved}
 use Rattle.walk_engine.specs.declared.walk_core.step_answers.Moved.TheVariants.{Stalled}
-use Rattle.walk_engine.specs.walk_core.Moved.{answer_by, refusal_of_item, refusal_in_event, moved_of, counts_after}
 use Rattle.walk_engine.proofs.WalkCoreLaws.EventLaws.{stalled-moved}
 
 -- ---- why the next item doesn't land
@@ -34,7 +31,7 @@ land-stays ticks (Some due) s next cause e =
     elim (cases_Bool (nat_lt ticks due))
     [ inl late ↦ rw late refl | inr now ↦ absurd (let f : None ≡ Some cause = rw now at e in cc) ]
 
-land-moves : (ticks : ℕ) (due : Option ℕ) (s next : Counts) → (land_due ticks due s next).cause ≡ None →
+pub land-moves : (ticks : ℕ) (due : Option ℕ) (s next : Counts) → (land_due ticks due s next).cause ≡ None →
     (land_due ticks due s next).counts ≡ next
 land-moves ticks None s next e = absurd cc
 land-moves ticks (Some due) s next e =

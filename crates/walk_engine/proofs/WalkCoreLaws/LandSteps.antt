@@ -1,38 +1,29 @@
 -- What an item that lands leaves of one direction, and of a walk.
-use Rattle.std.proofs.Common.{◌≡◌, ℕ, zero, suc, ◌+◌, ◌-◌, ◌<◌, ◌≤◌, ◌&&◌, not, nat_lt, Bool, true, false}
-use Rattle.std.proofs.Common.{if◌then◌else◌, List, [], ◌∷◌, length, map, slice_get, Option, Some, None, option_map}
-use Rattle.std.proofs.Common.{inl, inr, refl, sym, ◌∙◌, ap, subst, arith}
-use Rattle.std.specs.Option.{is_some}
+use Rattle.std.proofs.Common.{◌≡◌, ℕ, ◌+◌, ◌-◌, ◌<◌, ◌≤◌, ◌&&◌, not, nat_lt, Bool, true, false, if◌then◌else◌, List, []}
+use Rattle.std.proofs.Common.{◌∷◌, length, map, slice_get, Option, Some, None, option_map, inl, inr, refl, sym, ◌∙◌, ap}
+use Rattle.std.proofs.Common.{subst, arith, is_some, ltb-false, lt-ltb, le-ltb}
 use Rattle.std.specs.List.{range_with_len}
-use Rattle.member_cells.specs.declared.containers_and_cells.BackCell.{BackCell}
-use Rattle.law_walk.specs.Rings.{back_cell}
-use Rattle.law_model.specs.session.Counts.{used_in}
-use Rattle.std.proofs.lemmas.Bool.{cases_Bool, ltb-false, lt-ltb, le-ltb}
+use Rattle.law_model.specs.Common.{BackCell, used_in, Leg, Scenario, DueCommand, DueFrame, order_of, Source, refusal}
+use Rattle.law_model.specs.Common.{Stream, refusal_while, frame_refusal, Counts, step, Course, Told}
 use Rattle.law_model.specs.declared.script_types.Item.{Item}
 use Rattle.law_model.specs.declared.script_types.ItemKind.{ItemKind}
-use Rattle.law_model.specs.declared.script_types.ItemKind.TheVariants.{Frame, Add, Remove}
-use Rattle.law_model.specs.session.Leg.{Leg}
 use Rattle.law_model.specs.declared.lcas_states.Command.{Command}
-use Rattle.law_model.specs.declared.lcas_states.Command.TheVariants.{Add as add, Remove as remove}
 use Rattle.law_model.specs.declared.control_packet.Packet.{Packet}
 use Rattle.law_model.specs.declared.walk_events.StallCause.{StallCause}
 use Rattle.law_model.specs.declared.walk_events.StallCause.TheVariants.{NotDue, Done as Stall_done}
-use Rattle.law_model.specs.session.Scenario.{Scenario, DueCommand, DueFrame, order_of}
-use Rattle.law_model.specs.source.Source.{Source, refusal}
-use Rattle.law_model.specs.source.Client.{Stream, refusal_while, frame_refusal}
-use Rattle.law_model.specs.session.Counts.{Counts, step}
-use Rattle.law_model.specs.source.Course.{Course}
-use Rattle.law_model.specs.source.Table.{Told}
 use Rattle.law_model.specs.declared.item_refusals.Refusal.{Refusal}
-use Rattle.law_model.specs.declared.item_refusals.Refusal.TheVariants.{Frame as frame_fault, Command as command_fault}
 use Rattle.law_model.specs.declared.session_totals.Totals.{Totals}
+use Rattle.law_walk.specs.Common.{back_cell, last_packet, walk_plan, IsWalked, Numbered, told_before, is_client}
+use Rattle.law_walk.specs.Common.{refusal_at, refused_by, refusals_of, IsPlaced, totals_of, with_frame_told}
+use Rattle.law_walk.specs.Common.{with_command_told}
+use Rattle.std.proofs.lemmas.Bool.{cases_Bool}
+use Rattle.std.proofs.lemmas.Option.{slice_get_past}
+use Rattle.law_model.proofs.ListLaws.{slice_get-inside}
+use Rattle.law_model.specs.declared.script_types.ItemKind.TheVariants.{Frame, Add, Remove}
+use Rattle.law_model.specs.declared.lcas_states.Command.TheVariants.{Add as add, Remove as remove}
+use Rattle.law_model.specs.declared.item_refusals.Refusal.TheVariants.{Frame as frame_fault, Command as command_fault}
 use Rattle.terminal_source.specs.source_core.Terminal.{Terminal, SameKind}
 use Rattle.terminal_source.specs.source_core.Given.{SourceStands as HasMade}
-use Rattle.law_walk.specs.Step.{last_packet}
-use Rattle.law_walk.specs.Walk.{walk_plan, IsWalked}
-use Rattle.law_walk.specs.Landed.{Numbered, told_before, is_client, refusal_at, refused_by}
-use Rattle.law_walk.specs.Landed.{refusals_of}
-use Rattle.law_walk.specs.Landed.{IsPlaced, totals_of, with_frame_told, with_command_told}
 use Rattle.law_walk.proofs.PlanLaws.{sound-walks}
 use Rattle.law_walk.proofs.LandLaws.{frame-waits, command-waits, offer-at, order-at}
 use Rattle.law_walk.proofs.SourceLaws.{meets-stream, meets-source}
@@ -43,20 +34,19 @@ use Rattle.terminal_group.specs.Lands.{met_by, with_kind}
 use Rattle.terminal_group.specs.Place.{is_frame, is_command}
 use Rattle.terminal_group.specs.Source.{Source as Source_side, SameRest}
 use Rattle.terminal_group.proofs.PlaceLaws.{place-found}
-use Rattle.terminal_group.proofs.LandingLaws.{item-there, client-frame, operator-command, placed-same}
+use Rattle.terminal_group.proofs.LandingLaws.{client-frame, operator-command, placed-same}
 use Rattle.terminal_group.proofs.LandsLaws.{place_by, numbered, counts_by, next_by, next-counts, next-place, bare-size}
 use Rattle.terminal_group.proofs.LandsLaws.{bare-due, next-there, offer-here, order-here, Leaves, leaves}
-use Rattle.walk_engine.specs.walk_parts.Return.{path_of}
+use Rattle.walk_engine.specs.Common.{path_of, stall_by, landing_of, answer_by, moved_of, counts_after, Parts, counts_of}
+use Rattle.walk_engine.specs.Common.{note_of, HasSource, HasSent, HasBack, HasLanded, line_counts, IsWalk, told_leg}
+use Rattle.walk_engine.specs.Common.{told_scenario, Makes, IsDue}
 use Rattle.walk_engine.specs.declared.walk_core.step_answers.StepNote.{StepNote}
 use Rattle.walk_engine.specs.declared.walk_core.step_answers.Moved.TheVariants.{Stalled}
-use Rattle.walk_engine.specs.walk_core.Landing.{stall_by, landing_of}
-use Rattle.walk_engine.specs.walk_core.Moved.{answer_by, moved_of, counts_after}
-use Rattle.walk_engine.specs.walk_core.Parts.{Parts, counts_of, note_of, HasSource, HasSent, HasBack, HasLanded, line_counts}
-use Rattle.walk_engine.specs.walk_core.Parts.{WayStands, IsWalk, told_leg, told_scenario}
-use Rattle.walk_engine.specs.walk_core.Way.{Makes, IsDue}
+use Rattle.walk_engine.specs.walk_core.Parts.{WayStands}
 use Rattle.walk_engine.proofs.WalkCoreLaws.EventLaws.{walked-next}
 use Rattle.walk_engine.proofs.WalkCoreLaws.ToldLaws.{told-source, told-stream}
-use Rattle.walk_engine.proofs.WalkCoreLaws.LandLaws.{IsNext, frame-next, command-next, answer_of, next-cause, next-stays, next-moves}
+use Rattle.walk_engine.proofs.WalkCoreLaws.LandLaws.{IsNext, frame-next, command-next, answer_of, next-cause}
+use Rattle.walk_engine.proofs.WalkCoreLaws.LandLaws.{next-stays, next-moves}
 
 -- ---- an item that lands, in numbers
 pub record Lands (leg : Leg) (s next : Counts) (source : Terminal) (i : ℕ) (item : Item)
@@ -261,11 +251,6 @@ pub record HasTaken (was now : Source_side) (number : ℕ) (kind : ItemKind) (wh
   pub placed : IsPlaced number (refused_by number why) was.landed.refusals now.landed.refusals
   pub rest : SameRest was now
 
-none-there : {X : Type 0} (xs : List X) (i : ℕ) → length xs ≤ i → slice_get xs i ≡ None
-none-there [] i low = refl
-none-there (x ∷ xs) zero low = absurd (omega arith)
-none-there (x ∷ xs) (suc i) low = none-there xs i (omega arith)
-
 next-none : (place : ℕ) (items : List Item) → there_at place items ≡ None → length items ≤ place
 next-none place items e =
     elim (cases_Bool (nat_lt place (length items))) [
@@ -287,7 +272,7 @@ module _ (leg : Leg) (backs : ℕ) (parts : Parts) (is : WayStands leg backs par
       let place = next-place leg.items parts.source.landed is.landed.items client in
       let size = bare-size leg.items parts.source.landed is.landed.items in
       cause-is ∙ ap (stall_by parts.source.core.ticks)
-      (none-there leg.items (place_by client parts.source.landed leg.items) (omega arith))
+      (slice_get_past leg.items (place_by client parts.source.landed leg.items) (omega arith))
 
   pub number-in : (number : ℕ) → next_number parts.source.landed client ≡ Some number →
       (number ≡ place_by client parts.source.landed leg.items) × (number < length leg.items)
@@ -298,7 +283,7 @@ module _ (leg : Leg) (backs : ℕ) (parts : Parts) (is : WayStands leg backs par
       × (due_at parts.source.landed.items number ≡ item.due)
   found-at number e =
       let (at, low) = number-in number e in
-      let (item, here) = item-there leg.items number low in (
+      let (item, here) = slice_get-inside leg.items number low in (
         item,
         ap (slice_get leg.items) (sym at)
             ∙ here,

@@ -1,16 +1,9 @@
 -- The mark of the segment that goes on is that of the session's rows.
 use Rattle.std.proofs.Common.{◌≡◌, ℕ, ◌^◌, ◌<◌, List, map, length, Option, ◌∙◌, ap, arith}
-use Rattle.member_cells.specs.declared.containers_and_cells.Cell.{Cell}
-use Rattle.law_model.specs.session.Leg.{Leg}
-use Rattle.law_model.specs.session.Scenario.{Scenario, scenario_by}
-use Rattle.law_model.specs.source.Table.{Told}
-use Rattle.law_model.specs.source.Back.{session_cells}
-use Rattle.law_model.specs.frames.Segment.{segments_of}
-use Rattle.law_model.specs.rows.SessionStream.{rows_of}
+use Rattle.law_model.specs.Common.{Cell, Leg, Scenario, scenario_by, Told, session_cells, segments_of, rows_of}
 use Rattle.law_loss.proofs.CutLaws.{Stands-all}
 use Rattle.law_loss.proofs.SessionStreamLaws.{rows-length}
-use Rattle.law_walk.specs.Walk.{popped_cells}
-use Rattle.law_walk.specs.Delivered.{session_rows}
+use Rattle.law_walk.specs.Common.{popped_cells, session_rows}
 use Rattle.law_walk.proofs.PlanLaws.{sound-walks}
 use Rattle.law_walk.proofs.EndLaws.{counts-within}
 use Rattle.law_walk.proofs.CountLaws.{place-most}
@@ -19,7 +12,8 @@ use Rattle.terminal_sink.specs.sink_core.Core.{SinkStands as HasTaken}
 use Rattle.terminal_sink.specs.sink_core.Given.{received_rows}
 use Rattle.terminal_sink.proofs.SinkCoreLaws.SessionLaws.{session-last}
 use Rattle.terminal_sink.specs.marked_delineator.Marks.{first_place}
-use Rattle.walk_engine.specs.walk_core.Parts.{Parts, counts_of, line_counts, WayStands}
+use Rattle.walk_engine.specs.walk_core.Parts.{WayStands}
+use Rattle.walk_engine.specs.Common.{Parts, counts_of, line_counts}
 
 pub mark-is : (leg : Leg) (backs : ℕ) (parts : Parts) (result : Option ℕ) → WayStands leg backs parts →
     ((cells : List (List Cell)) → HasTaken parts.sink cells →

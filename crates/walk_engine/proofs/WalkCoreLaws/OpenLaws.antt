@@ -1,73 +1,47 @@
 -- One direction, and a walk, of which no event was made.
-use Rattle.std.proofs.Common.{◌≡◌, ◌⊎◌, ℕ, zero, suc, ◌+◌, ◌-◌, ◌<◌, min, List, [], ◌∷◌, ◌++◌, All, length, take}
+use Rattle.std.proofs.Common.{◌≡◌, ℕ, zero, suc, ◌+◌, ◌-◌, min, List, [], ◌∷◌, ◌++◌, All, length, take}
 use Rattle.std.proofs.Common.{drop, map, filter, replicate, slice_get, slice_index_or, Some, None, refl, sym, ◌∙◌, ap}
 use Rattle.std.proofs.Common.{subst, arith, inl, inr}
 use Rattle.std.specs.List.{range_with_len, flat_map}
 use Rattle.std.specs.Global.{Vec, Box}
 use Rattle.std.proofs.lemmas.Bool.{cases_Bool}
-use Rattle.std.proofs.lemmas.List.{length-map}
+use Rattle.std.proofs.lemmas.List.{length-map, length_push}
 use Rattle.std.proofs.lemmas.List.FromFn.{length-range_with_len}
-use Rattle.member_cells.specs.declared.containers_and_cells.Container.{Container}
-use Rattle.member_cells.specs.declared.containers_and_cells.Cell.{Cell}
+use Rattle.law_model.proofs.ListLaws.{get-last}
+use Rattle.law_model.specs.Common.{Container, Cell, Leg, scenario_by, offers_of, orders_of, segments_on, rows_of}
+use Rattle.law_model.specs.Common.{delineate_within, hunt_within, cells_before, IsSound, LineCounts, Counts, begin}
+use Rattle.law_model.specs.Common.{used_in, in_return, in_inbox}
 use Rattle.law_model.specs.declared.window_types.Window.{Window}
 use Rattle.law_model.specs.declared.script_types.Config.{Config}
 use Rattle.law_model.specs.declared.script_types.Item.{Item}
-use Rattle.law_model.specs.session.Leg.{Leg}
-use Rattle.law_model.specs.session.Scenario.{scenario_by, offers_of, orders_of}
-use Rattle.law_model.specs.frames.Segment.{segments_on}
-use Rattle.law_model.specs.rows.SessionStream.{rows_of}
-use Rattle.law_model.specs.frames.Run.{delineate_within}
-use Rattle.law_model.specs.frames.Hunt.{hunt_within}
-use Rattle.law_model.specs.source.Back.{cells_before}
-use Rattle.law_model.specs.session.Valid.{IsSound}
-use Rattle.law_model.specs.session.Counts.{LineCounts, Counts, begin, used_in, in_return, in_inbox}
+use Rattle.law_model.specs.declared.control_packet.Packet.{Packet}
 use Rattle.member_path.specs.path_delay.Line.{opened}
 use Rattle.member_rows.specs.realign_rows.Gather.{Gather, GatherStands as Gathers}
 use Rattle.terminal_source.specs.source_core.Terminal.{Terminal}
 use Rattle.terminal_source.specs.source_core.Given.{SourceStands as HasMade}
 use Rattle.terminal_sink.specs.sink_core.Core.{Core}
-use Rattle.law_walk.specs.Walk.{walk_plan, IsWalked, sent_on, counts_at, cells_on, popped_on, popped_cells}
-use Rattle.law_walk.specs.Rings.{delay_on, back_cell, said_packet}
-use Rattle.law_walk.specs.Landed.{Numbered, landed_from, is_client, told_before, refused_by}
-use Rattle.law_walk.specs.Landed.{refusal_at, is_accepted_frame, is_accepted_command}
-use Rattle.law_walk.specs.Delivered.{delivered_of}
-use Rattle.law_walk.specs.Step.{last_packet}
+use Rattle.law_walk.specs.Common.{walk_plan, IsWalked, sent_on, counts_at, cells_on, popped_on, popped_cells, delay_on}
+use Rattle.law_walk.specs.Common.{back_cell, said_packet, Numbered, landed_from, is_client, told_before, refused_by}
+use Rattle.law_walk.specs.Common.{refusal_at, is_accepted_frame, is_accepted_command, delivered_of, last_packet}
 use Rattle.law_walk.proofs.PlanLaws.{has-paths, sound-walks}
 use Rattle.law_walk.proofs.WalkLaws.{begins-walked}
-use Rattle.law_model.specs.declared.control_packet.Packet.{Packet}
 use Rattle.terminal_group.specs.Item.{bare_items}
 use Rattle.terminal_group.specs.Inbox.{Inbox, empty_inbox}
 use Rattle.terminal_group.specs.Landed.{Landed, none_landed}
 use Rattle.terminal_group.specs.Source.{IsUnusedCore}
-use Rattle.walk_engine.specs.walk_parts.Return.{path_of}
-use Rattle.walk_engine.specs.walk_parts.Ringed.{Ringed, ring_of, Has}
+use Rattle.walk_engine.specs.Common.{path_of, Ringed, ring_of, Has, IsOpened, AreOpened, AreRings, IsNewSink}
+use Rattle.walk_engine.specs.Common.{IsNewGather, IsNew, IsAlike, Parts, frame_in, HasSource, HasSent, HasLines}
+use Rattle.walk_engine.specs.Common.{HasBack, HasLanded, counts_of, line_counts, calls_on, note_of, told_scenario}
+use Rattle.walk_engine.specs.Common.{IsWalk}
 use Rattle.walk_engine.specs.declared.walk_core.open_way.Opened.{Opened}
-use Rattle.walk_engine.specs.walk_core.Opened.{IsOpened, AreOpened, AreRings, IsNewSink, IsNewGather, IsNew, IsAlike}
-use Rattle.walk_engine.specs.walk_core.Parts.{Parts, frame_in, HasSource, HasSent, HasLines, HasBack, HasLanded, counts_of}
-use Rattle.walk_engine.specs.walk_core.Parts.{line_counts, calls_on, note_of, told_scenario, WayStands, IsWalk}
+use Rattle.walk_engine.specs.walk_core.Parts.{WayStands}
 
 -- ---- the lines
-get-last : {X : Type 0} (xs : List X) (x : X) (m : ℕ) (y : X) → slice_get (xs ++ x ∷ []) m ≡ Some y →
-    (slice_get xs m ≡ Some y) ⊎ ((m ≡ length xs) × (y ≡ x))
-get-last [] x zero y e = inr (refl, let h : y ≡ x = cc in h)
-get-last [] x (suc m) y e = absurd cc
-get-last (z ∷ xs) x zero y e = inl e
-get-last (z ∷ xs) x (suc m) y e = elim (get-last xs x m y e) [
-  | inl there ↦ inl there
-  | inr last ↦ inr (ap suc last.0, last.1)
-]
-
-size-more : {X : Type 0} (xs : List X) (x : X) → length (xs ++ x ∷ []) ≡ length xs + 1
-size-more [] x = refl
-size-more (y ∷ xs) x = let e = size-more xs x in omega (arith, e)
-
-pub none-opened : (config : Config) → AreOpened config 0 []
-none-opened config = record { size = refl; each = λ m line e. absurd cc }
 
 pub opened-more : (config : Config) (n : ℕ) (lines : List Ringed) (line : Ringed) → AreOpened config n lines →
     IsOpened config n line → AreOpened config (n + 1) (lines ++ line ∷ [])
 opened-more config n lines line are is = record {
-  size = size-more lines line ∙ ap (λ k. k + 1) are.size;
+  size = length_push lines line ∙ ap (λ k. k + 1) are.size;
   each = λ m other e. elim (get-last lines line m other e) [
     | inl there ↦ are.each m other there
     | inr last ↦ subst (IsOpened config m) (sym last.1)
@@ -132,7 +106,7 @@ cells-none leg n =
     ∙ ap (λ k. replicate k []) (length-range_with_len 0 (length leg.config.windows))
 
 -- ---- nothing has landed
-none-landed : (items : List Item) (i : ℕ) → landed_from 0 0 i items ≡ []
+pub none-landed : (items : List Item) (i : ℕ) → landed_from 0 0 i items ≡ []
 unfolding landed_from
 none-landed [] i = refl
 none-landed (item ∷ items) i =
@@ -165,7 +139,7 @@ none-told : (leg : Leg) → told_before leg 0 ≡ []
 unfolding cells_before
 none-told leg = ap (cells_before (scenario_by leg)) (let e : used_in leg.config.lag 0 ≡ 0 = omega arith in e)
 
-none-delivered : (leg : Leg) → delivered_of leg 0 ≡ []
+pub none-delivered : (leg : Leg) → delivered_of leg 0 ≡ []
 unfolding rows_of segments_on delineate_within hunt_within
 none-delivered leg = refl
 
@@ -173,7 +147,7 @@ take-none : {X : Type 0} (xs : List X) → take 0 xs ≡ []
 take-none [] = refl
 take-none (x ∷ xs) = refl
 
-drop-none : {X : Type 0} (xs : List X) → drop 0 xs ≡ xs
+pub drop-none : {X : Type 0} (xs : List X) → drop 0 xs ≡ xs
 drop-none [] = refl
 drop-none (x ∷ xs) = refl
 
@@ -372,9 +346,3 @@ opened-at config m line delay windows total a b d has size popped = record {
   ring = size;
   popped = popped;
 }
-
-pub index-is : {X : Type 0} (xs : List X) (m : ℕ) (x d : X) → m < length xs → x ≡ slice_index_or xs m x →
-    x ≡ slice_index_or xs m d
-index-is [] m x d low e = absurd (omega (arith, low))
-index-is (y ∷ xs) zero x d low e = e
-index-is (y ∷ xs) (suc m) x d low e = index-is xs m x d (omega (arith, low)) e

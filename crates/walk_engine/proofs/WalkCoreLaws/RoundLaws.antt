@@ -5,43 +5,34 @@ use Rattle.std.proofs.Common.{◌++◌, length, replicate, drop, slice_get, Opti
 use Rattle.std.proofs.Common.{arith, append_assoc}
 use Rattle.std.proofs.lemmas.Option.{slice_get_within}
 use Rattle.std.proofs.lemmas.Bool.{cases_Bool}
-use Rattle.std.proofs.lemmas.List.{append-nil}
-use Rattle.law_model.specs.session.Leg.{Leg}
+use Rattle.std.proofs.lemmas.List.{append-nil, drop_all}
+use Rattle.law_model.specs.Common.{Leg, Due, frame_due, command_due, LinePath, LineCounts, Plan, Counts, Step, in_send}
+use Rattle.law_model.specs.Common.{in_receive, in_return, held, full, is_missing, tick_full, tick_held, carry_at}
+use Rattle.law_model.specs.Common.{pop_lines, take_popped, is_back_full, tick, take_row, land_due, frame_dues}
+use Rattle.law_model.specs.Common.{command_dues, step, run, carries_from, round, drain, bound, IsSound, Start}
 use Rattle.law_model.specs.declared.walk_events.Event.{Event}
-use Rattle.law_model.specs.declared.walk_events.Event.TheVariants.{Accept, Command, Tick, Carry, Back, Take}
+use Rattle.law_model.specs.declared.walk_events.Event.TheVariants.{Accept, Tick, Carry, Back, Take, Command}
 use Rattle.law_model.specs.declared.walk_events.StallCause.{StallCause}
 use Rattle.law_model.specs.declared.walk_events.StallCause.TheVariants.{NotDue, Done}
-use Rattle.law_model.specs.session.Counts.{Due, frame_due, command_due, LinePath, LineCounts, Plan, Counts, Step, in_send}
-use Rattle.law_model.specs.session.Counts.{in_receive, in_return, held, full, is_missing, tick_full, tick_held, carry_at}
-use Rattle.law_model.specs.session.Counts.{pop_lines, take_popped, is_back_full, back, tick, take_row, land_due, frame_dues}
-use Rattle.law_model.specs.session.Counts.{command_dues, step, run, carries_from, round, drain, bound}
-use Rattle.law_model.specs.session.Valid.{IsSound}
+use Rattle.law_model.specs.declared.item_refusals.Refusal.{Refusal}
+use Rattle.law_model.specs.session.Counts.{back}
 use Rattle.law_progress.specs.Progress.{made}
 use Rattle.law_progress.proofs.MeasureLaws.{round-less, drain-round, drain-stop}
 use Rattle.law_progress.proofs.ReachLaws.{run-append}
-use Rattle.law_model.specs.declared.item_refusals.Refusal.{Refusal}
-use Rattle.law_walk.specs.Walk.{walk_plan, IsWalked}
-use Rattle.octet_io.specs.Start.{Start}
+use Rattle.law_walk.specs.Common.{walk_plan, IsWalked, delivered_of}
 use Rattle.law_walk.proofs.PlanLaws.{has-plan, sound-walks}
-use Rattle.law_walk.specs.Delivered.{delivered_of}
 use Rattle.law_walk.proofs.FrameLaws.{frames-grow}
-use Rattle.walk_engine.specs.walk_core.Moved.{delivered_since, answer_by, moved_of, counts_after, refusal_in_event, GivesRows}
-use Rattle.walk_engine.specs.walk_core.Landing.{landing_of}
+use Rattle.walk_engine.specs.Common.{delivered_since, answer_by, moved_of, counts_after, refusal_in_event, GivesRows}
+use Rattle.walk_engine.specs.Common.{landing_of}
 use Rattle.walk_engine.specs.declared.walk_core.step_answers.Moved.{Moved}
 use Rattle.walk_engine.specs.declared.walk_core.step_answers.Moved.TheVariants.{Yes, Stalled, Refused}
 use Rattle.walk_engine.proofs.WalkCoreLaws.EventLaws.{walk-fits}
 
 -- ---- each line once
-drop-next : {X : Type 0} (xs : List X) (m : ℕ) → m < length xs → (x : X) × (drop m xs ≡ x ∷ drop (suc m) xs)
+pub drop-next : {X : Type 0} (xs : List X) (m : ℕ) → m < length xs → (x : X) × (drop m xs ≡ x ∷ drop (suc m) xs)
 drop-next [] m h = absurd (omega arith)
 drop-next (x ∷ xs) zero h = (x, refl)
 drop-next (x ∷ xs) (suc m) h = drop-next xs m (omega arith)
-
-drop-all : {X : Type 0} (xs : List X) (m : ℕ) → length xs ≤ m → drop m xs ≡ []
-drop-all [] zero h = refl
-drop-all [] (suc m) h = refl
-drop-all (x ∷ xs) zero h = absurd (omega arith)
-drop-all (x ∷ xs) (suc m) h = drop-all xs m (omega arith)
 
 carry-next : (plan : Plan) (s : Counts) (paths : List LinePath) (m : ℕ) → m < length paths →
     run plan s (carries_from m (drop m paths)) ≡ run plan (step plan s (Carry m)).counts
@@ -52,10 +43,10 @@ carry-next plan s paths m h = let (x, e) = drop-next paths m h in rw e refl
 carry-last : (plan : Plan) (s : Counts) (paths : List LinePath) (m : ℕ) → length paths ≤ m →
     run plan s (carries_from m (drop m paths)) ≡ run plan s (Back ∷ Take ∷ [])
 unfolding carries_from
-carry-last plan s paths m h = rw (drop-all paths m h) refl
+carry-last plan s paths m h = rw (drop_all m paths h) refl
 
 -- ---- items land until they stall
-replicate-add : {X : Type 0} (a b : ℕ) (x : X) → replicate (a + b) x ≡ replicate a x ++ replicate b x
+pub replicate-add : {X : Type 0} (a b : ℕ) (x : X) → replicate (a + b) x ≡ replicate a x ++ replicate b x
 replicate-add zero b x = ap (λ n. replicate n x) (let e : 0 + b ≡ b = omega arith in e)
 replicate-add (suc a) b x = ap (λ n. replicate n x) (let e : suc a + b ≡ suc (a + b) = omega arith in e)
     ∙ ap (λ l. x ∷ l) (replicate-add a b x)

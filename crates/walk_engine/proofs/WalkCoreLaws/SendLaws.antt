@@ -1,30 +1,20 @@
 -- What the send rings hold while lines carry, and where the places of two frames change their containers.
 use Rattle.std.proofs.Common.{◌≡◌, ◌≢◌, ℕ, zero, suc, ◌+◌, ◌-◌, ◌%◌, min, take, None, ◌<◌, ◌≤◌, List, [], ◌∷◌, map}
 use Rattle.std.proofs.Common.{length, slice_get, slice_set, slice_index_or, Some, refl, sym, ◌∙◌, ap, subst, arith, inl}
-use Rattle.std.proofs.Common.{inr}
-use Rattle.std.specs.List.{swap}
+use Rattle.std.proofs.Common.{inr, swap, length-set, option_map}
 use Rattle.std.specs.Global.{Vec, Box}
 use Rattle.std.proofs.lemmas.Bool.{cases_eq}
 use Rattle.std.proofs.lemmas.List.{length-map, map-set}
-use Rattle.std.specs.Prelude.{option_map}
-use Rattle.std.proofs.lemmas.Option.{get_or_from_slice_get, slice_get_within, slice_get_past, slice_get-map}
+use Rattle.std.proofs.lemmas.Option.{get_or_from_slice_get, slice_get_within, slice_get_past, slice_get-map, same_Some}
 use Rattle.std.proofs.lemmas.List.FromFn.{take-map-range_with_len}
-use Rattle.law_line.proofs.ListLaws.{slice_get-drop}
-use Rattle.law_model.specs.session.Scenario.{Scenario, scenario_by}
-use Rattle.law_model.specs.source.Back.{session_cells}
-use Rattle.law_model.specs.rows.Sent.{container_of}
+use Rattle.std.proofs.lemmas.List.Edits.{length-swap}
+use Rattle.law_model.proofs.ListLaws.{slice_get-drop}
+use Rattle.law_model.specs.Common.{Scenario, scenario_by, session_cells, container_of, Container, Leg, LineCounts}
 use Rattle.law_terminal.proofs.SentLaws.{container-at}
-use Rattle.law_walk.specs.Rings.{send_by, sent_at}
+use Rattle.law_walk.specs.Common.{send_by, sent_at, sent_on, counts_at}
 use Rattle.law_walk.proofs.RingLaws.{send-size}
 use Rattle.circular_buffer.proofs.Places.{slice_get-some, slice_get-set_same, slice_get-set_other}
-use Rattle.member_cells.specs.declared.containers_and_cells.Container.{Container}
-use Rattle.law_model.specs.session.Leg.{Leg}
-use Rattle.law_model.specs.session.Counts.{LineCounts}
-use Rattle.law_walk.specs.Walk.{sent_on, counts_at}
-use Rattle.walk_engine.specs.walk_parts.Ringed.{Ringed}
-use Rattle.member_rows.proofs.RealignRowsLaws.GatherLaws.{length-slice_set}
-use Rattle.walk_engine.specs.walk_core.Parts.{line_counts, frame_in, HasSent}
-use Rattle.walk_engine.specs.walk_core.Carry.{IsCarriedAt}
+use Rattle.walk_engine.specs.Common.{Ringed, line_counts, frame_in, HasSent, IsCarriedAt}
 
 -- ---- what waits in the send ring of a line
 pub waits-none : (leg : Leg) (m n x k : ℕ) → n ≤ leg.config.ticks → n - min x leg.config.ticks ≤ k →
@@ -100,9 +90,6 @@ sent-carried leg ticks m counts line more sent after has there one few changed =
       same ∙ has.frames t k found.0 inside (omega (arith, grown, late)) low high found.1;
 }
 
-one-frame : (frame other : List Container) → Some frame ≡ Some other → frame ≡ other
-one-frame frame other e = cc
-
 -- a frame of which the box of a line is another one, and frames of which none is
 pub changed-at : (sent : List (Vec (Box Container))) (place m : ℕ) (row other : Vec (Box Container))
     (container : Box Container) → slice_get sent place ≡ Some row →
@@ -110,14 +97,14 @@ pub changed-at : (sent : List (Vec (Box Container))) (place m : ℕ) (row other 
     IsCarriedAt place m (map frame_in sent) (map frame_in (slice_set sent place other))
 changed-at sent place m row other container there put = record {
   places =
-      length-map (slice_set sent place other) frame_in ∙ length-slice_set sent place other
+      length-map (slice_set sent place other) frame_in ∙ length-set sent place other
       ∙ sym (length-map sent frame_in);
   lines = λ k frame told. elim (cases_eq k place) [
     | inl same ↦ (
       frame_in row,
       slice_get-map frame_in sent k ∙ ap (λ j. option_map frame_in (slice_get sent j)) same
           ∙ ap (option_map frame_in) there,
-      ap length (is k frame same told) ∙ length-slice_set (frame_in row) m container.value,
+      ap length (is k frame same told) ∙ length-set (frame_in row) m container.value,
       λ line apart. ap (λ xs. slice_get xs line) (is k frame same told)
           ∙ slice_get-set_other (frame_in row) m line container.value (apart same),
     )
@@ -137,19 +124,13 @@ changed-at sent place m row other container there put = record {
       let now = sym told ∙ slice_get-map frame_in (slice_set sent place other) k
       ∙ ap (λ j. option_map frame_in (slice_get (slice_set sent place other) j)) same
       ∙ ap (option_map frame_in) (slice_get-set_same sent place other (slice_get_within sent place row there)) in
-      one-frame frame (frame_in other) now ∙ ap (map (λ (b : Box Container). b.value)) put
+      same_Some frame (frame_in other) now ∙ ap (map (λ (b : Box Container). b.value)) put
       ∙ map-set (λ (b : Box Container). b.value) row.items m container
 
 pub unchanged-at : (place m : ℕ) (sent : List (List Container)) → IsCarriedAt place m sent sent
 unchanged-at place m sent = record { places = refl; lines = λ k frame told. (frame, told, refl, λ line apart. refl) }
 
 -- ---- two places that change their containers
-pub length-swap : {X : Type 0} (xs : List X) (a b : ℕ) → length (swap xs a b) ≡ length xs
-length-swap [] a b = refl
-length-swap (d ∷ ys) a b =
-    length-slice_set (slice_set (d ∷ ys) a (slice_index_or (d ∷ ys) b d)) b (slice_index_or (d ∷ ys) a d)
-    ∙ length-slice_set (d ∷ ys) a (slice_index_or (d ∷ ys) b d)
-
 set-from : {X : Type 0} (xs ys : List X) (a b k : ℕ) (d x : X) → length ys ≡ length xs → a < length xs →
     b < length xs → slice_get (slice_set ys b (slice_index_or xs a d)) k ≡ Some x →
     (k ≢ b → (j : ℕ) × (slice_get xs j ≡ Some x)) → (j : ℕ) × (slice_get xs j ≡ Some x)
@@ -171,7 +152,7 @@ swap-from : {X : Type 0} (xs : List X) (a b k : ℕ) (x : X) → a < length xs �
 swap-from [] a b k x low under told = absurd (omega (arith, low))
 swap-from (d ∷ ys) a b k x low under told =
     let first : List _ = slice_set (d ∷ ys) a (slice_index_or (d ∷ ys) b d) in
-    set-from (d ∷ ys) first a b k d x (length-slice_set (d ∷ ys) a (slice_index_or (d ∷ ys) b d)) low under told
+    set-from (d ∷ ys) first a b k d x (length-set (d ∷ ys) a (slice_index_or (d ∷ ys) b d)) low under told
     (λ apart. let told' = sym (slice_get-set_other first b k (slice_index_or (d ∷ ys) a d) apart) ∙ told in
     set-from (d ∷ ys) (d ∷ ys) b a k d x refl under low told'
     (λ other. (k, sym (slice_get-set_other (d ∷ ys) a k (slice_index_or (d ∷ ys) b d) other) ∙ told')))

@@ -1,36 +1,28 @@
 -- What a Take pops, by the counts.
-use Rattle.std.specs.Prelude.{IsSome, ◌↔◌, is_some}
-use Rattle.std.proofs.Common.{◌≡◌, ℕ, zero, suc, ◌+◌, ◌-◌, ◌<◌, ◌≤◌, nat_le, Bool, true, false, inl, inr, List, [], ◌∷◌}
-use Rattle.std.proofs.Common.{map, take, length, slice_get, slice_set, Option, Some, None, is_none, refl, sym, ◌∙◌, ap}
-use Rattle.std.proofs.Common.{ap₂, subst, arith}
-use Rattle.std.specs.Prelude.{if◌then◌else◌}
+use Rattle.std.proofs.Common.{IsSome, ◌↔◌, is_some, ◌≡◌, ℕ, zero, suc, ◌+◌, ◌-◌, ◌<◌, ◌≤◌, nat_le, Bool, true, false}
+use Rattle.std.proofs.Common.{inl, inr, List, [], ◌∷◌, map, take, length, slice_get, slice_set, Option, Some, None}
+use Rattle.std.proofs.Common.{is_none, refl, sym, ◌∙◌, ap, ap₂, subst, arith, if◌then◌else◌, le-leb, length-set}
 use Rattle.std.specs.List.{range_with_len}
-use Rattle.std.proofs.lemmas.Bool.{cases_Bool, cases_lt, cases_eq}
-use Rattle.std.proofs.lemmas.List.{length-map}
-use Rattle.std.proofs.lemmas.Option.{slice_get_within}
-use Rattle.member_cells.specs.declared.containers_and_cells.Container.{Container}
-use Rattle.member_cells.specs.declared.containers_and_cells.Cell.{Cell}
-use Rattle.law_model.specs.session.Leg.{Leg}
-use Rattle.law_model.specs.members.Path.{cells}
-use Rattle.law_model.specs.members.Number.{verdict}
-use Rattle.law_model.specs.session.Scenario.{scenario_by, carried_by}
-use Rattle.law_model.specs.session.Counts.{LinePath, LineCounts, Popped, pop, popped_line, pop_lines, with_line, in_receive}
+use Rattle.std.proofs.lemmas.Bool.{cases_Bool, cases_lt, cases_eq, lt-leb}
+use Rattle.std.proofs.lemmas.List.{length-map, map-set}
+use Rattle.std.proofs.lemmas.Option.{slice_get_within, same_Some}
+use Rattle.walk_engine.proofs.WalkCoreLaws.SendLaws.{counts-here}
+use Rattle.law_model.specs.Common.{Container, Cell, Leg, cells, verdict, scenario_by, carried_by, LinePath, LineCounts}
+use Rattle.law_model.specs.Common.{Popped, pop, popped_line, pop_lines, with_line, in_receive}
 use Rattle.member_path.specs.path_delay.Line.{path_cells}
 use Rattle.law_terminal.proofs.ListLaws.{range-at}
 use Rattle.circular_buffer.proofs.Places.{slice_get-set_other}
-use Rattle.member_rows.proofs.RealignRowsLaws.GatherLaws.{length-slice_set, set-here}
+use Rattle.member_rows.proofs.RealignRowsLaws.GatherLaws.{set-here}
 use Rattle.member_rows.specs.realign_rows.Gather.{Gather, GatherStands as Gathers}
-use Rattle.law_walk.specs.Walk.{walk_plan, CanWalk, counts_at, popped_on, popped_cells}
-use Rattle.law_walk.specs.Rings.{delay_on, line_cells, AreDecidedBefore, taken_by, cells_by}
-use Rattle.law_walk.specs.Walk.{path_on}
+use Rattle.law_walk.specs.Common.{walk_plan, CanWalk, counts_at, popped_on, popped_cells, path_on, delay_on, line_cells}
+use Rattle.law_walk.specs.Common.{AreDecidedBefore, taken_by, cells_by}
 use Rattle.law_walk.proofs.PlanLaws.{has-paths, line-path}
 use Rattle.law_walk.proofs.RingLaws.{taken-cells}
-use Rattle.law_walk.proofs.WalkLaws.{line-first}
+use Rattle.law_walk.proofs.WalkLaws.{line-first, open-or}
 use Rattle.law_walk.proofs.WaitLaws.{popped-decides}
-use Rattle.walk_engine.specs.walk_parts.Ringed.{Ringed, Has, IsNext, IsPopped, popped_until, leaves_open, popped_cells as own_cells}
-use Rattle.walk_engine.specs.walk_core.Parts.{calls_on, line_counts, HasLine}
-use Rattle.walk_engine.specs.walk_core.Take.{CanPop, HasPopped}
-use Rattle.walk_engine.proofs.WalkCoreLaws.CarryLaws.{carries, numbers, map-get, map-set}
+use Rattle.walk_engine.specs.Common.{Ringed, Has, IsNext, IsPopped, popped_until, leaves_open}
+use Rattle.walk_engine.specs.Common.{popped_cells as own_cells, calls_on, line_counts, HasLine, CanPop, HasPopped}
+use Rattle.walk_engine.proofs.WalkCoreLaws.CarryLaws.{carries, numbers, map-get}
 
 -- the first cells of all that a line gives are those that some carries give, where these give as many
 first-cells : (leg : Leg) (line x y : ℕ) → x ≤ leg.config.ticks + delay_on leg line + 1 →
@@ -39,16 +31,10 @@ first-cells : (leg : Leg) (line x y : ℕ) → x ≤ leg.config.ticks + delay_on
 first-cells leg line x y low inside = line-first leg line x y low inside
 
 -- ---- the counts of lines that are popped
-at-most : (a b : ℕ) → a ≤ b → nat_le a b ≡ true
-at-most a b low = grind (arith, low)
-
-over : (a b : ℕ) → b < a → nat_le a b ≡ false
-over a b low = grind (arith, low)
-
 pop-shut : (k : ℕ) (path : LinePath) (t y : ℕ) → t < path.decided y → pop k path t y ≡ y
 unfolding pop
 pop-shut zero path t y past = refl
-pop-shut (suc k) path t y past = rw (over (path.decided y) t past) refl
+pop-shut (suc k) path t y past = rw (lt-leb (path.decided y) t past) refl
 
 -- what was popped isn't popped again
 pop-again : (k : ℕ) (path : LinePath) (t y : ℕ) → pop (y + k - pop k path t y) path t (pop k path t y) ≡ pop k path t y
@@ -56,8 +42,8 @@ unfolding pop
 pop-again zero path t y = ap (λ n. pop n path t y) (let e : y + 0 - y ≡ 0 = omega arith in e)
 pop-again (suc k) path t y =
     elim (cases_lt t (path.decided y)) [
-      | inl past ↦ rw (over (path.decided y) t past) (pop-shut (y + suc k - y) path t y past)
-      | inr open' ↦ rw (at-most (path.decided y) t open')
+      | inl past ↦ rw (lt-leb (path.decided y) t past) (pop-shut (y + suc k - y) path t y past)
+      | inr open' ↦ rw (le-leb (path.decided y) t open')
           (ap (λ n. pop (n - pop k path t (suc y)) path t (pop k path t (suc y)))
           (let e : y + suc k ≡ suc y + k = omega arith in e) ∙ pop-again k path t (suc y))
     ]
@@ -90,11 +76,11 @@ turn t k path paths lines line =
 
 turn-past : (t k : ℕ) (path : LinePath) (paths : List LinePath) (lines : List LineCounts) (line : LineCounts) →
     t < path.decided line.popped → turn t k path paths lines line ≡ with_line line (pop_lines t (suc k) paths lines)
-turn-past t k path paths lines line past = let e = over (path.decided line.popped) t past in rw e refl
+turn-past t k path paths lines line past = let e = lt-leb (path.decided line.popped) t past in rw e refl
 
 turn-open : (t k : ℕ) (path : LinePath) (paths : List LinePath) (lines : List LineCounts) (line : LineCounts) →
     path.decided line.popped ≤ t → turn t k path paths lines line ≡ record { lines = line ∷ lines; waiting = Some k }
-turn-open t k path paths lines line open' = let e = at-most (path.decided line.popped) t open' in rw e refl
+turn-open t k path paths lines line open' = let e = le-leb (path.decided line.popped) t open' in rw e refl
 
 shut-first : (t k : ℕ) (path : LinePath) (paths : List LinePath) (line : LineCounts) (lines : List LineCounts) →
     t < path.decided line.popped →
@@ -206,14 +192,6 @@ cells-set leg lines m x low inside =
     (set-beside lines m k x (λ same. apart (same ∙ sym e))))
 
 -- ---- a line that is popped
-to-none : (v : Option (Option Container)) (decided t : ℕ) → (IsSome v ↔ (t < decided)) → is_none v ≡ nat_le decided t
-to-none None decided t same =
-    elim (cases_lt t decided) [
-      | inl past ↦ absurd (let e : false ≡ true = same.1 past in cc)
-      | inr open' ↦ sym (at-most decided t open')
-    ]
-to-none (Some told) decided t same = sym (over decided t (same.0 refl))
-
 to-some : (v : Option (Option Container)) → is_some v ≡ true → IsSome v
 to-some (Some told) e = refl
 to-some None e = absurd (let f : false ≡ true = e in cc)
@@ -239,12 +217,6 @@ until-pops given (suc k) is_open path t y low same =
     ap₂ (λ b z. if b then z else y) (same y (omega (arith, low)))
     (until-pops given k is_open path t (suc y) (omega (arith, low)) same)
 
-pub counts-at : (lines : List LineCounts) (m : ℕ) (line : LineCounts) → slice_get lines m ≡ Some line →
-    counts_at lines m ≡ line
-counts-at [] m line e = absurd cc
-counts-at (x ∷ lines) zero line e = cc
-counts-at (x ∷ lines) (suc m) line e = counts-at lines m line e
-
 -- the lines before line m were popped, and decide the next row
 pub record Popping (leg : Leg) (was now : List Ringed) (rows : Gather) (m : ℕ) : Type 0 where
   pub can : CanPop leg now rows
@@ -256,16 +228,13 @@ pub popping-none : (leg : Leg) (lines : List Ringed) (rows : Gather) → CanPop 
     Popping leg lines lines rows 0
 popping-none leg lines rows can = record { can = can; before = λ i low. absurd (omega (arith, low)); same = refl }
 
-some-path : (a b : LinePath) → Some a ≡ Some b → a ≡ b
-some-path a b e = cc
-
 ahead-of : (leg : Leg) → CanWalk leg → (t m : ℕ) (lines : List LineCounts) →
     AreDecidedBefore leg lines m t → Ahead t (walk_plan leg).paths lines m
 ahead-of leg can t m lines before i path low e =
     let count = has-paths leg can in
     let inside = slice_get_within (walk_plan leg).paths i path e in
     let same : path_on leg i ≡ path =
-    some-path (path_on leg i) path (sym (line-path leg can i (omega (arith, inside, count))) ∙ e) in
+    same_Some (path_on leg i) path (sym (line-path leg can i (omega (arith, inside, count))) ∙ e) in
     subst (λ (p : LinePath). t < p.decided (counts_at lines i).popped) same (before i low)
 
 -- all lines decide the next row
@@ -316,7 +285,7 @@ module _ (leg : Leg) (was now : List Ringed) (rows : Gather) (m : ℕ) (has : Po
       ((path_on leg m).decided y) rows.rows
   open-is y low =
       ap (λ own. is_none (verdict own rows.rows)) (first y low)
-      ∙ to-none (verdict (take y (line_cells leg m)) rows.rows) ((path_on leg m).decided y) rows.rows
+      ∙ open-or (verdict (take y (line_cells leg m)) rows.rows) ((path_on leg m).decided y) rows.rows
       (popped-decides leg m y rows.rows has.can.row)
 
   pub is-next : IsNext line (calls_on leg m line.carried) rows (popped_cells leg (map line_counts now)) m
@@ -326,7 +295,7 @@ module _ (leg : Leg) (was now : List Ringed) (rows : Gather) (m : ℕ) (has : Po
     own = map-get (popped_on leg (map line_counts now)) (range_with_len 0 (length leg.config.windows)) m m
         (range-at 0 (length leg.config.windows) m inside ∙ ap Some (let e : 0 + m ≡ m = omega arith in e))
         ∙ ap Some (ap (λ (l : LineCounts). take l.popped (line_cells leg m))
-        (counts-at (map line_counts now) m (line_counts line) here) ∙ sym (first line.popped pops-low));
+        (counts-here (map line_counts now) m (line_counts line) here) ∙ sym (first line.popped pops-low));
     before = λ i other low e.
         let within = inside in
         let near : i < length leg.config.windows = omega (arith, low, within) in
@@ -381,7 +350,7 @@ module _ (leg : Leg) (was now : List Ringed) (rows : Gather) (m : ℕ) (has : Po
     popped-can = record {
       can = has.can.can;
       lines = record {
-        size = length-slice_set now m after ∙ has.can.lines.size;
+        size = length-set now m after ∙ has.can.lines.size;
         each = λ k other e. elim (cases_eq k m) [
           | inl same ↦ subst (HasLine leg k)
               (sym (set-here now m after other (subst (λ j. slice_get (slice_set now m after) j ≡ Some other) same e)))
@@ -389,7 +358,7 @@ module _ (leg : Leg) (was now : List Ringed) (rows : Gather) (m : ℕ) (has : Po
           | inr apart ↦ has.can.lines.each k other (sym (slice_get-set_other now m k after apart) ∙ e)
         ];
       };
-      size = length-slice_set now m after ∙ has.can.size;
+      size = length-set now m after ∙ has.can.size;
       pops = λ k other e. elim (cases_eq k m) [
         | inl same ↦ subst (λ (l : Ringed). l.popped ≤ l.given)
             (sym (set-here now m after other (subst (λ j. slice_get (slice_set now m after) j ≡ Some other) same e)))

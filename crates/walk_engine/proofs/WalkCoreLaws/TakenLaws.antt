@@ -7,17 +7,15 @@ use Rattle.std.specs.List.{range_with_len}
 use Rattle.std.proofs.lemmas.Bool.{cases_Bool, cases_lt, le-leb, lt-leb, leb-false}
 use Rattle.std.proofs.lemmas.List.{length-map, length-append, append-nil, take-append-drop, take-take}
 use Rattle.std.proofs.lemmas.List.FromFn.{length-map-range_with_len}
-use Rattle.std.proofs.lemmas.Option.{slice_get_within}
-use Rattle.member_cells.specs.declared.containers_and_cells.Cell.{Cell}
+use Rattle.std.proofs.lemmas.Option.{slice_get_within, same_Some}
+use Rattle.law_model.specs.Common.{Cell, Leg, first_open, return_at, LinePath, LineCounts, Plan, Counts, Step, step}
+use Rattle.law_model.specs.Common.{moved, stalled, pop, popped_line, pop_lines, in_return, is_back_full, take_popped}
+use Rattle.law_model.specs.Common.{take_row, Start}
 use Rattle.law_model.specs.declared.control_packet.Packet.{Packet}
-use Rattle.law_model.specs.session.Leg.{Leg}
 use Rattle.law_model.specs.declared.walk_events.Event.TheVariants.{Take}
 use Rattle.law_model.specs.declared.walk_events.StallCause.{StallCause}
 use Rattle.law_model.specs.declared.walk_events.StallCause.TheVariants.{Done, BackFull, Waiting as Stall_waiting}
 use Rattle.law_model.specs.session.Scenario.{packets_in}
-use Rattle.law_model.specs.rows.Rows.{first_open, return_at}
-use Rattle.law_model.specs.session.Counts.{LinePath, LineCounts, Plan, Counts, Step, step, moved, stalled, pop, popped_line}
-use Rattle.law_model.specs.session.Counts.{pop_lines, in_return, is_back_full, take_popped, take_row}
 use Rattle.law_progress.specs.Progress.{LineFits, Fits}
 use Rattle.law_terminal.proofs.ListLaws.{range-at}
 use Rattle.law_line.specs.StableRows.{IsLonger}
@@ -26,30 +24,25 @@ use Rattle.terminal_sink.specs.sink_core.Given.{row_in, added_frames, back_at, r
 use Rattle.terminal_sink.specs.declared.sink_core.sink_terminal.TakeAnswer.{TakeAnswer}
 use Rattle.terminal_sink.specs.declared.sink_core.sink_terminal.TakeAnswer.TheVariants.{Taken, Waiting}
 use Rattle.terminal_sink.specs.sink_core.Core.{Core, SinkStands as HasTaken}
-use Rattle.octet_io.specs.Start.{Start}
 use Rattle.terminal_sink.proofs.SinkCoreLaws.GivenLaws.{packet-ends, packet-of}
 use Rattle.terminal_sink.proofs.SinkCoreLaws.LaterLaws.{stands-longer}
-use Rattle.law_walk.specs.Walk.{walk_plan, CanWalk, IsWalked, counts_at, popped_on, popped_cells, path_on}
-use Rattle.law_walk.specs.Rings.{line_cells, said_packet, return_ring}
-use Rattle.law_walk.specs.Delivered.{delivered_of, IsReceived}
+use Rattle.law_walk.specs.Common.{walk_plan, CanWalk, IsWalked, counts_at, popped_on, popped_cells, path_on, line_cells}
+use Rattle.law_walk.specs.Common.{said_packet, return_ring, delivered_of, IsReceived}
 use Rattle.law_walk.proofs.PlanLaws.{sound-walks}
 use Rattle.law_walk.proofs.WalkLaws.{line-fits}
 use Rattle.law_walk.proofs.WaitLaws.{take-waits}
 use Rattle.law_walk.proofs.ReturnLaws.{packet-said, packets-next, ring-says}
 use Rattle.law_walk.proofs.FrameLaws.{frames-received, frames-grow}
-use Rattle.walk_engine.specs.walk_parts.Return.{listed}
-use Rattle.walk_engine.specs.walk_parts.Ringed.{Ringed}
+use Rattle.walk_engine.specs.Common.{listed, Ringed, answer_by, moved_of, counts_after, delivered_since, GivesRows}
+use Rattle.walk_engine.specs.Common.{Parts, HasSent, counts_of, line_counts, IsWalk, said_at, take_by, Takes}
+use Rattle.walk_engine.specs.Common.{take_cause, CanPop, HasPopped, CanTake, HasRow}
 use Rattle.walk_engine.specs.declared.walk_core.step_answers.StepNote.{StepNote}
 use Rattle.walk_engine.specs.declared.walk_core.step_answers.Moved.TheVariants.{Stalled}
-use Rattle.walk_engine.specs.walk_core.Moved.{answer_by, moved_of, counts_after, delivered_since, GivesRows}
-use Rattle.walk_engine.specs.walk_core.Parts.{Parts, HasSent, counts_of, line_counts, WayStands, IsWalk}
-use Rattle.walk_engine.specs.walk_core.Way.{said_at, take_by, Takes}
-use Rattle.walk_engine.specs.walk_core.Take.{take_cause, CanPop, HasPopped, CanTake, HasRow}
+use Rattle.walk_engine.specs.walk_core.Parts.{WayStands}
 use Rattle.walk_engine.proofs.WalkCoreLaws.EventLaws.{walk-fits, walked-next, source-stays, landed-stays}
-use Rattle.walk_engine.proofs.WalkCoreLaws.SendLaws.{sent-later}
+use Rattle.walk_engine.proofs.WalkCoreLaws.SendLaws.{sent-later, counts-here}
 use Rattle.walk_engine.proofs.WalkCoreLaws.BackLaws.{ring-size}
-use Rattle.walk_engine.proofs.WalkCoreLaws.CarryLaws.{numbers, map-get, same-some}
-use Rattle.walk_engine.proofs.WalkCoreLaws.TakeLaws.{counts-at}
+use Rattle.walk_engine.proofs.WalkCoreLaws.CarryLaws.{numbers, map-get}
 
 -- ---- what is popped is more, and what is carried the same
 pop-more : (k : ℕ) (path : LinePath) (t y : ℕ) → y ≤ pop k path t y
@@ -108,7 +101,7 @@ cells-longer leg before after more = record {
       let size = length-map-range_with_len (popped_on leg before) 0 (length leg.config.windows) in
       let within = slice_get_within (popped_cells leg before) m own here in
       let at = range-at 0 n m (omega (arith, size, within)) ∙ ap Some (let e : 0 + m ≡ m = omega arith in e) in
-      let is : take y all ≡ own = same-some (popped_on leg before m) own
+      let is : take y all ≡ own = same_Some (popped_on leg before m) own
       (sym (map-get (popped_on leg before) (range_with_len 0 n) m m at) ∙ here) in (
         drop y (take z all),
         map-get (popped_on leg after) (range_with_len 0 n) m m at
@@ -123,10 +116,10 @@ cause-stalls : (plan : Plan) (s : Counts) (cause : StallCause) → Some cause �
 cause-stalls plan s cause e =
     elim (cases_Bool (nat_le plan.ticks s.rows)) [
       | inl done ↦ rw done (ap (stalled s)
-          (let f : Some cause ≡ Some Done = rw done at e in sym (same-some cause Done f)))
+          (let f : Some cause ≡ Some Done = rw done at e in sym (same_Some cause Done f)))
       | inr left ↦ elim (cases_Bool (is_back_full s)) [
         | inl full ↦ rw (left, full) (ap (stalled s)
-            (let f : Some cause ≡ Some BackFull = rw (left, full) at e in sym (same-some cause BackFull f)))
+            (let f : Some cause ≡ Some BackFull = rw (left, full) at e in sym (same_Some cause BackFull f)))
         | inr room ↦ absurd (let f : Some cause ≡ None = rw (left, room) at e in cc)
       ]
     ]
@@ -206,7 +199,7 @@ module _ (leg : Leg) (backs : ℕ) (parts : Parts) (is : WayStands leg backs par
       let size = is.lines.size in
       let windows = is.sound.network.windows_each in
       subst (LineFits leg.config.ticks leg.config.ring parts.source.core.ticks parts.sink.taken (path_on leg m))
-      (counts-at (map line_counts parts.lines) m (line_counts line) (map-get line_counts parts.lines m line there))
+      (counts-here (map line_counts parts.lines) m (line_counts line) (map-get line_counts parts.lines m line there))
       (line-fits leg was can is.walked m (omega (arith, low, size, windows)))
 
   module _ (none : None ≡ take_cause leg.config.ticks (counts_of parts backs)) where

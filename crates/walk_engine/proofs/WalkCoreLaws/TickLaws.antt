@@ -2,47 +2,34 @@
 use Rattle.std.proofs.Common.{◌≡◌, ℕ, zero, suc, ◌+◌, ◌-◌, ◌*◌, ◌/◌, ◌%◌, ◌==◌, ◌&&◌, ◌<◌, ◌≤◌, min, nat_le, true}
 use Rattle.std.proofs.Common.{false, if◌then◌else◌, List, [], ◌∷◌, length, drop, map, slice_get, slice_set}
 use Rattle.std.proofs.Common.{slice_index_or, Option, Some, None, refl, sym, ◌∙◌, ap, subst, arith, inl, inr, Bool}
-use Rattle.std.proofs.Common.{option_map}
-use Rattle.std.specs.Option.{is_some}
+use Rattle.std.proofs.Common.{option_map, is_some, eqb-true, leb-true, leb-false, length-set, eq-eqb, le-leb}
 use Rattle.std.specs.List.{range_with_len}
 use Rattle.std.specs.Global.{Vec, Box}
-use Rattle.std.proofs.lemmas.Bool.{cases_Bool, cases_lt, cases_eq, eqb-true, leb-true, leb-false}
-use Rattle.std.proofs.lemmas.List.{length-map}
+use Rattle.std.proofs.lemmas.Bool.{cases_Bool, cases_lt, cases_eq, eqb-false, lt-leb}
+use Rattle.std.proofs.lemmas.List.{length-map, map-set, drop_all}
 use Rattle.std.proofs.lemmas.List.FromFn.{length-range_with_len}
 use Rattle.circular_buffer.proofs.Places.{slice_get-set_other}
-use Rattle.member_rows.proofs.RealignRowsLaws.GatherLaws.{length-slice_set, set-here}
-use Rattle.member_cells.specs.declared.containers_and_cells.BackCell.{BackCell}
-use Rattle.member_cells.specs.declared.containers_and_cells.Container.{Container}
-use Rattle.law_model.specs.session.Leg.{Leg}
+use Rattle.member_rows.proofs.RealignRowsLaws.GatherLaws.{set-here}
+use Rattle.law_model.specs.Common.{BackCell, Container, Leg, Scenario, scenario_by, steps_in, Told, untold}
+use Rattle.law_model.specs.Common.{Source as Session_source, source_at, session_cells, cells_before, container_of}
+use Rattle.law_model.specs.Common.{frame_of, LineCounts, Plan, Counts, Step, in_inbox, used_in, held, full, is_missing}
+use Rattle.law_model.specs.Common.{moved, tick, tick_held, tick_full, step, Course, dues_of}
 use Rattle.law_model.specs.declared.walk_events.Event.TheVariants.{Tick}
 use Rattle.law_model.specs.declared.walk_events.StallCause.{StallCause}
-use Rattle.law_model.specs.declared.walk_events.StallCause.TheVariants.{Done, BackMissing}
-use Rattle.law_model.specs.session.Scenario.{Scenario, scenario_by, steps_in}
-use Rattle.law_model.specs.source.Table.{Told}
-use Rattle.law_model.specs.packets.Telling.{untold}
-use Rattle.law_model.specs.source.Source.{Source as Session_source, source_at}
-use Rattle.law_model.specs.source.Back.{session_cells, cells_before}
-use Rattle.law_model.specs.rows.Sent.{container_of, frame_of}
-use Rattle.law_model.specs.session.Counts.{LineCounts, Plan, Counts, Step, in_inbox, used_in, held, full, is_missing, moved}
-use Rattle.law_model.specs.session.Counts.{tick, tick_held, tick_full, step}
-use Rattle.law_model.specs.source.Course.{Course}
+use Rattle.law_model.specs.declared.walk_events.StallCause.TheVariants.{Done, BackMissing, TxFull}
+use Rattle.law_model.specs.declared.control_packet.Packet.{Packet}
 use Rattle.terminal_source.specs.source_core.Terminal.{needed, needed_at, SameKind}
 use Rattle.terminal_source.specs.source_core.Given.{with_cell, SourceStands as HasMade}
 use Rattle.law_progress.specs.Progress.{ChangesNothing}
 use Rattle.law_progress.proofs.StallLaws.{stalled-same}
-use Rattle.law_walk.specs.Walk.{walk_plan, CanWalk, IsWalked, counts_at}
-use Rattle.law_walk.specs.Rings.{sent_at, back_cell, return_ring, inbox}
-use Rattle.law_walk.specs.Landed.{landed_scenario, told_before}
-use Rattle.law_walk.specs.Step.{last_packet, cell_taken, table_in}
+use Rattle.law_walk.specs.Common.{walk_plan, CanWalk, IsWalked, counts_at, sent_at, back_cell, return_ring, inbox}
+use Rattle.law_walk.specs.Common.{landed_scenario, told_before, last_packet, cell_taken, table_in}
 use Rattle.law_walk.proofs.PlanLaws.{sound-walks}
 use Rattle.law_walk.proofs.WalkLaws.{line-fits}
 use Rattle.law_walk.proofs.SourceLaws.{told-frames}
 use Rattle.law_walk.proofs.StepLaws.{last-next, used-now, said-ends, table-now}
 use Rattle.law_walk.proofs.ReturnLaws as return_laws
-use Rattle.law_model.specs.declared.control_packet.Packet.{Packet}
-use Rattle.law_model.specs.session.Counts.{dues_of}
-use Rattle.law_model.specs.declared.walk_events.StallCause.TheVariants.{TxFull}
-use Rattle.std.proofs.lemmas.Bool.{eq-eqb}
+use Rattle.law_model.proofs.ListLaws.{drop-next}
 use Rattle.terminal_group.specs.declared.group_source.EarlyCause.{EarlyCause}
 use Rattle.terminal_group.specs.declared.group_source.EarlyCause.TheVariants.{Done as Early_done, Held as Early_held}
 use Rattle.terminal_group.specs.Inbox.{Inbox, cell_for, rest_for}
@@ -50,43 +37,23 @@ use Rattle.terminal_group.specs.Source.{Source, SameScript, early_in, held_in, m
 use Rattle.terminal_sink.specs.sink_core.Core.{Core}
 use Rattle.terminal_group.proofs.BareLaws.{bare-dues}
 use Rattle.terminal_group.proofs.SourceLaws.{missing-some}
-use Rattle.walk_engine.specs.walk_parts.Return.{Return, path_of}
-use Rattle.walk_engine.specs.walk_core.Landing.{early_stall}
-use Rattle.walk_engine.specs.walk_parts.Ringed.{Ringed}
+use Rattle.walk_engine.specs.Common.{Return, path_of, early_stall, Ringed, answer_by, moved_of, counts_after, Parts}
+use Rattle.walk_engine.specs.Common.{frame_in, HasSource, HasSent, HasBack, HasLanded, counts_of, line_counts, note_of}
+use Rattle.walk_engine.specs.Common.{told_scenario, IsWalk, Makes, early_by, with_passed, CanTick}
 use Rattle.walk_engine.specs.declared.walk_core.step_answers.StepNote.{StepNote}
 use Rattle.walk_engine.specs.declared.walk_core.step_answers.Moved.TheVariants.{Yes, Stalled}
-use Rattle.walk_engine.specs.walk_core.Moved.{answer_by, moved_of, counts_after}
 use Rattle.terminal_group.specs.Landed.{Landed}
-use Rattle.walk_engine.specs.walk_core.Parts.{Parts, frame_in, HasSource, HasSent, HasBack, HasLanded, counts_of}
-use Rattle.walk_engine.specs.walk_core.Parts.{line_counts, note_of, told_scenario, WayStands, IsWalk}
-use Rattle.walk_engine.specs.walk_core.Way.{Makes, early_by, with_passed, CanTick}
+use Rattle.walk_engine.specs.walk_core.Parts.{WayStands}
 use Rattle.walk_engine.proofs.WalkCoreLaws.ToldLaws.{told-source, passed-made, passed-frame}
 use Rattle.walk_engine.proofs.WalkCoreLaws.EventLaws.{walk-fits, walked-next}
-use Rattle.walk_engine.proofs.WalkCoreLaws.CarryLaws.{map-set, frame-at}
-
-drop-at : {X : Type 0} (xs : List X) (i : ℕ) (x : X) → slice_get xs i ≡ Some x → drop i xs ≡ x ∷ drop (suc i) xs
-drop-at [] i x e = absurd cc
-drop-at (y ∷ ys) zero x e = ap (λ y. y ∷ ys) cc
-drop-at (y ∷ ys) (suc i) x e = drop-at ys i x e
-
-drop-past : {X : Type 0} (xs : List X) (i : ℕ) → length xs ≤ i → drop i xs ≡ []
-drop-past [] zero h = refl
-drop-past [] (suc i) h = refl
-drop-past (x ∷ xs) zero h = absurd (omega arith)
-drop-past (x ∷ xs) (suc i) h = drop-past xs i (omega arith)
-
-le-yes : (a b : ℕ) → a ≤ b → nat_le a b ≡ true
-le-yes a b low = grind (arith, low)
-
-le-no : (a b : ℕ) → b < a → nat_le a b ≡ false
-le-no a b low = grind (arith, low)
+use Rattle.walk_engine.proofs.WalkCoreLaws.CarryLaws.{frame-at}
 
 pub full-here : (total ticks : ℕ) (lines : List Ringed) (m : ℕ) (line : Ringed) → slice_get lines m ≡ Some line →
     32 ≤ ticks - min line.carried total → full total ticks m (map line_counts (drop m lines)) ≡ Some m
 unfolding full
 full-here total ticks lines m line there high =
-    ap (λ xs. full total ticks m (map line_counts xs)) (drop-at lines m line there)
-    ∙ rw (le-yes 32 (ticks - min line.carried total) high) refl
+    ap (λ xs. full total ticks m (map line_counts xs)) (drop-next lines m line there)
+    ∙ rw (le-leb 32 (ticks - min line.carried total) high) refl
 
 pub full-next : (total ticks : ℕ) (lines : List Ringed) (m : ℕ) (line : Ringed) → slice_get lines m ≡ Some line →
     ticks - min line.carried total < 32 →
@@ -95,13 +62,13 @@ pub full-next : (total ticks : ℕ) (lines : List Ringed) (m : ℕ) (line : Ring
 unfolding full
 full-next total ticks lines m line there low =
     ap (λ k. full total ticks k (map line_counts (drop k lines))) (let e : m + 1 ≡ suc m = omega arith in e)
-    ∙ sym (ap (λ xs. full total ticks m (map line_counts xs)) (drop-at lines m line there)
-    ∙ rw (le-no 32 (ticks - min line.carried total) low) refl)
+    ∙ sym (ap (λ xs. full total ticks m (map line_counts xs)) (drop-next lines m line there)
+    ∙ rw (lt-leb 32 (ticks - min line.carried total) low) refl)
 
 pub full-none : (total ticks : ℕ) (lines : List Ringed) (m : ℕ) → length lines ≤ m →
     full total ticks m (map line_counts (drop m lines)) ≡ None
 unfolding full
-full-none total ticks lines m past = ap (λ xs. full total ticks m (map line_counts xs)) (drop-past lines m past)
+full-none total ticks lines m past = ap (λ xs. full total ticks m (map line_counts xs)) (drop_all m lines past)
 
 -- ---- the cause of a stall
 missing-here : (plan : Plan) (s : Counts) (packet : ℕ) → s.ticks < plan.ticks →
@@ -116,10 +83,10 @@ missing-here plan s packet low none_held none_full need none =
             let number : Some (s.ticks / 16 - plan.lag) ≡ Some packet = rw (place, late) at need in
             let at = eqb-true (s.ticks % 16) 8 place in
             let since = leb-true plan.lag (s.ticks / 16) late in
-            let a : nat_le plan.ticks s.ticks ≡ false = le-no plan.ticks s.ticks low in
+            let a : nat_le plan.ticks s.ticks ≡ false = lt-leb plan.ticks s.ticks low in
             let b : nat_le (16 * plan.lag + 8) s.ticks ≡ true =
-            le-yes (16 * plan.lag + 8) s.ticks (omega (arith, at, since)) in
-            let d : nat_le (in_inbox plan s) 0 ≡ true = le-yes (in_inbox plan s) 0 (omega (arith, none)) in
+            le-leb (16 * plan.lag + 8) s.ticks (omega (arith, at, since)) in
+            let d : nat_le (in_inbox plan s) 0 ≡ true = le-leb (in_inbox plan s) 0 (omega (arith, none)) in
             rw (a, none_held, none_full, b, place, d)
             (ap (λ (k : ℕ). Some (BackMissing k)) (let e : s.ticks / 16 - plan.lag ≡ packet = cc in e))
       ]
@@ -191,7 +158,7 @@ not-missing plan s cells size none =
           let empty : in_inbox plan s ≤ 0 = grind (arith, misses) in
           let place : s.ticks % 16 == 8 ≡ true = eq-eqb (s.ticks % 16) 8 at in
           let late : nat_le plan.lag (s.ticks / 16) ≡ true =
-          le-yes plan.lag (s.ticks / 16) (omega (arith, at, since)) in
+          le-leb plan.lag (s.ticks / 16) (omega (arith, at, since)) in
           let need : needed_at plan.lag s.ticks ≡ Some (s.ticks / 16 - plan.lag) = rw (place, late) refl in
           absurd (missing-none (s.ticks / 16 - plan.lag) cells (let h = empty in let e = size in omega arith)
           (ap (λ n. missing_by n cells) (sym need) ∙ none))
@@ -219,7 +186,7 @@ cell-there : (lag ticks backs : ℕ) → ticks % 16 == 8 ≡ true → lag ≤ ti
     used_in lag ticks < backs
 cell-there lag ticks backs place since e =
     let at = eqb-true (ticks % 16) 8 place in
-    let late : nat_le (16 * lag + 8) ticks ≡ true = le-yes (16 * lag + 8) ticks (omega (arith, at, since)) in
+    let late : nat_le (16 * lag + 8) ticks ≡ true = le-leb (16 * lag + 8) ticks (omega (arith, at, since)) in
     let some : nat_le (backs - used_in lag ticks) 0 ≡ false = rw (late, place) at e in
     let h = leb-false (backs - used_in lag ticks) 0 some in
     omega (arith, h)
@@ -282,7 +249,7 @@ taken leg s back path cell can walked rows has there first left =
       | inr other ↦ taken-none leg s back path cell has
           (return_laws.used-next lag s.ticks
           ∙ rw other (let e : used_in lag s.ticks + 0 ≡ used_in lag s.ticks = omega arith in e)) (rw other refl)
-          (λ place. absurd (return_laws.not-equal (s.ticks % 16) 8 other place)) (rw other at first) (rw other at left)
+          (λ place. absurd (eqb-false (s.ticks % 16) 8 other place)) (rw other at first) (rw other at left)
       | inl place ↦ elim (cases_Bool (nat_le lag (s.ticks / 16))) [
         | inl late ↦ taken-some leg s back path cell can walked rows has there place late
             (rw (place, late) at first) (rw (place, late) at left)
@@ -310,7 +277,7 @@ sent-more : (leg : Leg) (ticks : ℕ) (counts : List LineCounts) (sent : List (L
     frame ≡ frame_of (scenario_by leg) (session_cells (scenario_by leg)) ticks →
     length frame ≡ leg.config.lines → HasSent leg (ticks + 1) counts (slice_set sent (ticks % 32) frame)
 sent-more leg ticks counts sent frame has is long = record {
-  places = length-slice_set sent (ticks % 32) frame ∙ has.places;
+  places = length-set sent (ticks % 32) frame ∙ has.places;
   lines = λ k other e. elim (cases_eq k (ticks % 32)) [
     | inl same ↦ ap length (set-here sent (ticks % 32) frame other
         (sym (ap (slice_get (slice_set sent (ticks % 32) frame)) same) ∙ e)) ∙ long

@@ -3,15 +3,10 @@ use Rattle.std.proofs.Common.{◌≡◌, ◌≢◌, ◌<◌, ◌≤◌, ℕ, zer
 use Rattle.std.proofs.Common.{take, slice_index_or, Option, Some, None, inl, inr, refl, sym, ◌∙◌, ap, subst, arith}
 use Rattle.std.specs.List.{range_with_len}
 use Rattle.std.proofs.lemmas.Bool.{cases_lt, cases_eq}
-use Rattle.law_model.specs.session.Leg.{Leg}
-use Rattle.law_model.specs.session.Scenario.{Scenario, orders_at, frames_at, steps_in}
-use Rattle.law_model.specs.source.Table.{Told}
-use Rattle.law_model.specs.packets.Told.{told_by}
-use Rattle.law_model.specs.packets.Telling.{untold, telling_at, passed_on}
-use Rattle.law_model.specs.source.Source.{asked_all, source_at}
-use Rattle.law_model.specs.source.Client.{Stream, offered, place_of}
-use Rattle.law_model.specs.rows.Sent.{frame_of}
-use Rattle.law_model.specs.session.Counts.{Counts}
+use Rattle.std.proofs.lemmas.List.{get_or-take}
+use Rattle.law_model.proofs.ListLaws.{take-few}
+use Rattle.law_model.specs.Common.{Leg, Scenario, orders_at, frames_at, steps_in, Told, told_by, untold, telling_at}
+use Rattle.law_model.specs.Common.{passed_on, asked_all, source_at, Stream, offered, place_of, frame_of, Counts}
 use Rattle.law_model.specs.declared.control_packet.Packet.{Packet}
 use Rattle.law_session.proofs.AlikeLaws.{Alike, alike-after, alike-place, alike-stream, alike-frame, map-same}
 use Rattle.gfp_fill.specs.Stream.{FillerStands as HasWritten}
@@ -19,28 +14,15 @@ use Rattle.terminal_source.specs.source_core.Terminal.{Terminal}
 use Rattle.terminal_source.specs.source_core.Given.{told_next, stream_now, nibbles_after, SourceStands as HasMade}
 use Rattle.terminal_source.proofs.SourceCoreLaws.AlikeLaws.{alike-active, alike-nibbles}
 use Rattle.terminal_source.proofs.SourceCoreLaws.TellLaws.{next-here, next-before}
-use Rattle.law_walk.specs.Landed.{landed_scenario}
-use Rattle.walk_engine.specs.walk_core.Parts.{told_scenario}
-use Rattle.walk_engine.specs.walk_core.Way.{with_passed, IsTold}
+use Rattle.law_walk.specs.Common.{landed_scenario}
+use Rattle.walk_engine.specs.Common.{told_scenario, with_passed, IsTold}
 
 -- ---- the first of what is told
-first-before : (n : ℕ) (tells : List Told) (k : ℕ) → k < n →
-    slice_index_or (take n tells) k untold ≡ slice_index_or tells k untold
-first-before zero tells k low = absurd (omega arith)
-first-before (suc n) [] k low = refl
-first-before (suc n) (told ∷ tells) zero low = refl
-first-before (suc n) (told ∷ tells) (suc k) low = first-before n tells k (omega (arith, low))
-
 first-past : (n : ℕ) (tells : List Told) (k : ℕ) → n ≤ k → slice_index_or (take n tells) k untold ≡ untold
 first-past zero tells k past = refl
 first-past (suc n) [] k past = refl
 first-past (suc n) (told ∷ tells) zero past = absurd (omega (arith, past))
 first-past (suc n) (told ∷ tells) (suc k) past = first-past n tells k (omega (arith, past))
-
-first-few : (n : ℕ) (tells : List Told) → length (take n tells) ≤ n
-first-few zero tells = omega arith
-first-few (suc n) [] = omega arith
-first-few (suc n) (told ∷ tells) = let few = first-few n tells in omega (arith, few)
 
 -- what is told next is the last
 alone-past : (n : ℕ) (told : Told) (k : ℕ) → n < k → slice_index_or (told_next n told []) k untold ≡ untold
@@ -116,7 +98,7 @@ module _ (leg : Leg) (s : Counts) (cells : List (Option Told)) where
     orders = λ j low. refl;
     cells = λ j low. refl;
     offers = λ u low. refl;
-    tells = λ k low. first-before (steps_in s.ticks) leg.tells k low;
+    tells = λ k low. get_or-take (steps_in s.ticks) leg.tells k untold low;
   }
 
   pub told-source : source_at (told_scenario leg s) cells (steps_in s.ticks)
@@ -144,7 +126,7 @@ passed-at : (leg : Leg) (s : Counts) (n : ℕ) (told : Option Packet) → n ≡ 
 passed-at leg s n told steps is k =
     elim (cases_lt n k) [
       | inl past ↦ first-past (n + 1) leg.tells k (omega (arith, past)) ∙ sym (past-is told past)
-      | inr most ↦ first-before (n + 1) leg.tells k (omega (arith, most)) ∙ elim (cases_eq k n) [
+      | inr most ↦ get_or-take (n + 1) leg.tells k untold (omega (arith, most)) ∙ elim (cases_eq k n) [
         | inl last ↦ ap (λ i. slice_index_or leg.tells i untold) last ∙ sym is ∙ sym (last-is told)
             ∙ ap (telling_at (with_passed (told_scenario leg s) n told)) (sym last)
         | inr other ↦ sym (low-is told (omega (arith, most, other)))
@@ -156,9 +138,9 @@ passed-at leg s n told steps is k =
 
     low-is : (told : Option Packet) → k < n →
         telling_at (with_passed (told_scenario leg s) n told) k ≡ slice_index_or leg.tells k untold
-    low-is None low = first-is k ∙ first-before n leg.tells k low
+    low-is None low = first-is k ∙ get_or-take n leg.tells k untold low
     low-is (Some packet) low = next-before n k (told_by packet) (take (steps_in s.ticks) leg.tells) low
-        ∙ first-is k ∙ first-before n leg.tells k low
+        ∙ first-is k ∙ get_or-take n leg.tells k untold low
 
     last-is : (told : Option Packet) → telling_at (with_passed (told_scenario leg s) n told) n ≡ passed_on told
     last-is None = first-is n ∙ first-past n leg.tells n (omega arith)
@@ -197,7 +179,7 @@ module _ (leg : Leg) (s : Counts) (told : Option Packet) (is : IsTold leg s.tick
       (passed-rest (told_scenario leg s) (steps_in s.ticks) told (take (steps_in (s.ticks + 1)) leg.tells))
       (retold core (with_passed (told_scenario leg s) (steps_in s.ticks) told)
       (take (steps_in (s.ticks + 1)) leg.tells) cells made
-      (let few = first-few (steps_in (s.ticks + 1)) leg.tells in
+      (let few = take-few (steps_in (s.ticks + 1)) leg.tells in
       let same : steps_in core.ticks ≡ steps_in (s.ticks + 1) = ap steps_in ticks in
       omega (arith, few, same))
       (λ k low. passed-tells k))
@@ -214,7 +196,7 @@ module _ (leg : Leg) (s : Counts) (told : Option Packet) (is : IsTold leg s.tick
     orders = λ j low. refl;
     cells = λ j low. refl;
     offers = λ u low. refl;
-    tells = λ k low. sym (same k) ∙ first-before (steps_in (s.ticks + 1)) leg.tells k (omega (arith, low));
+    tells = λ k low. sym (same k) ∙ get_or-take (steps_in (s.ticks + 1)) leg.tells k untold (omega (arith, low));
   }
   passed-alike cells (Some packet) same = record {
     lines = refl;
@@ -223,7 +205,7 @@ module _ (leg : Leg) (s : Counts) (told : Option Packet) (is : IsTold leg s.tick
     orders = λ j low. refl;
     cells = λ j low. refl;
     offers = λ u low. refl;
-    tells = λ k low. sym (same k) ∙ first-before (steps_in (s.ticks + 1)) leg.tells k (omega (arith, low));
+    tells = λ k low. sym (same k) ∙ get_or-take (steps_in (s.ticks + 1)) leg.tells k untold (omega (arith, low));
   }
 
   pub passed-frame : (cells : List (Option Told)) →

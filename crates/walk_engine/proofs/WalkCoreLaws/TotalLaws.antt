@@ -1,11 +1,11 @@
 -- The totals of one direction.
 use Rattle.std.proofs.Common.{◌≡◌, ℕ, ◌+◌, length, ◌∙◌, ap, arith}
-use Rattle.law_model.specs.session.Leg.{Leg}
+use Rattle.law_model.specs.Common.{Leg}
 use Rattle.law_model.specs.declared.session_totals.Totals.{Totals}
-use Rattle.law_walk.specs.Landed.{totals_of}
-use Rattle.law_walk.specs.Delivered.{delivered_of}
+use Rattle.law_walk.specs.Common.{totals_of, delivered_of}
 use Rattle.law_walk.proofs.CountLaws.{delivered-few}
-use Rattle.walk_engine.specs.walk_core.Parts.{Parts, counts_of, WayStands}
+use Rattle.walk_engine.specs.walk_core.Parts.{WayStands}
+use Rattle.walk_engine.specs.Common.{Parts, counts_of}
 use Rattle.walk_engine.proofs.WalkCoreLaws.EventLaws.{walk-fits}
 
 abbrev totals_with : ℕ → ℕ → ℕ → ℕ → ℕ → ℕ → Totals

@@ -1,15 +1,13 @@
 -- What an event makes of one direction, where it was read in another way; and a source side that was told something.
-use Rattle.std.proofs.Common.{◌≡◌, ℕ, Option, ◌∙◌, ap, subst}
-use Rattle.std.specs.Option.{is_some}
+use Rattle.std.proofs.Common.{◌≡◌, ℕ, Option, ◌∙◌, ap, subst, is_some}
+use Rattle.law_model.specs.Common.{Leg}
 use Rattle.law_model.specs.declared.walk_events.Event.{Event}
-use Rattle.law_model.specs.session.Leg.{Leg}
 use Rattle.terminal_sink.specs.declared.sink_core.sink_terminal.TakeAnswer.{TakeAnswer}
 use Rattle.terminal_source.specs.source_core.Terminal.{SameKind, needed, needed_at}
 use Rattle.terminal_group.specs.Inbox.{Inbox, cell_for, rest_for}
 use Rattle.terminal_group.specs.Source.{Source, early_in, missing_by, missing_in}
+use Rattle.walk_engine.specs.Common.{Parts, Makes, Takes}
 use Rattle.walk_engine.specs.declared.walk_core.step_answers.Moved.{Moved}
-use Rattle.walk_engine.specs.walk_core.Parts.{Parts}
-use Rattle.walk_engine.specs.walk_core.Way.{Makes, Takes}
 
 pub makes-from : (leg : Leg) (backs : ℕ) (event : Event) (was old now : Parts) (answer : Moved) → was ≡ old →
     Makes leg backs event was now answer → Makes leg backs event old now answer

@@ -1,17 +1,15 @@
 -- What comes of popping cells of a line until it decides a row.
 use Rattle.std.proofs.Common.{◌≡◌, ℕ, zero, suc, ◌+◌, ◌-◌, ◌<◌, ◌≤◌, ◌==◌, Bool, true, false, List, [], ◌∷◌, ◌++◌}
-use Rattle.std.proofs.Common.{length, take, slice_get, slice_set, Option, Some, None, refl, sym, ◌∙◌, ap, arith, inl}
-use Rattle.std.proofs.Common.{inr}
-use Rattle.std.specs.Prelude.{is_none, is_some, IsSome, not}
+use Rattle.std.proofs.Common.{length, slice_get, slice_set, Option, Some, None, refl, sym, ◌∙◌, ap, arith, inl, inr}
+use Rattle.std.proofs.Common.{is_none, is_some, IsSome, not}
 use Rattle.std.proofs.lemmas.Option.{slice_get_within}
 use Rattle.circular_buffer.proofs.Places.{slice_get-set_same, slice_get-set_other}
 use Rattle.std.specs.List.{position_from}
 use Rattle.std.proofs.lemmas.Bool.{cases_Bool}
-use Rattle.member_cells.specs.declared.containers_and_cells.Cell.{Cell}
-use Rattle.law_model.specs.members.Number.{verdict}
-use Rattle.law_model.specs.rows.Rows.{first_open}
+use Rattle.law_model.proofs.ListLaws.{some-none}
+use Rattle.law_model.specs.Common.{Cell, verdict, first_open}
 use Rattle.member_rows.specs.realign_rows.Gather.{with_cell}
-use Rattle.walk_engine.specs.walk_parts.Ringed.{popped_until, is_at}
+use Rattle.walk_engine.specs.Common.{popped_until, is_at}
 
 -- ---- the first place at which a test passes
 position-low : {X : Type 0} (test : X → Bool) (xs : List X) (i k : ℕ) → k < i →
@@ -39,10 +37,6 @@ position-at test (y ∷ xs) i (suc m) x there earlier =
     rw (fails, up) (position-at test xs (i + 1) m x there (λ k z low e. earlier (suc k) z (omega (arith, low)) e))
 
 -- ---- a line whose cells are put in place of those before
-some-none : {X : Type 0} (o : Option X) → IsSome o → is_none o ≡ false
-some-none None is = sym is
-some-none (Some x) is = refl
-
 pub none-some : {X : Type 0} (o : Option X) (b : Bool) → b ≡ is_none o → not b ≡ is_some o
 none-some None b e = rw e refl
 none-some (Some x) b e = rw e refl
@@ -69,15 +63,6 @@ pub set-same : {X : Type 0} (xs : List X) (m : ℕ) (x : X) → slice_get xs m �
 set-same [] m x e = absurd cc
 set-same (y ∷ xs) zero x e = ap (λ z. z ∷ xs) (let h : x ≡ y = cc in h)
 set-same (y ∷ xs) (suc m) x e = ap (λ rest. y ∷ rest) (set-same xs m x e)
-
-take-suc : {X : Type 0} (xs : List X) (n : ℕ) (x : X) → slice_get xs n ≡ Some x → take (suc n) xs ≡ take n xs ++ x ∷ []
-take-suc [] n x e = absurd cc
-take-suc (y ∷ xs) zero x e = ap (λ z. z ∷ []) (let h : y ≡ x = cc in h)
-take-suc (y ∷ xs) (suc n) x e = ap (λ rest. y ∷ rest) (take-suc xs n x e)
-
-pub take-next : {X : Type 0} (xs : List X) (n : ℕ) (x : X) → slice_get xs n ≡ Some x →
-    take (n + 1) xs ≡ take n xs ++ x ∷ []
-take-next xs n x e = ap (λ k. take k xs) (let h : n + 1 ≡ suc n = omega arith in h) ∙ take-suc xs n x e
 
 -- ---- how many were popped
 pub until-shut : (k : ℕ) (is_open : ℕ → Bool) (y : ℕ) → is_open y ≡ false → popped_until k is_open y ≡ y

@@ -1,26 +1,22 @@
 -- What a receive ring holds after a carry.
 use Rattle.std.proofs.Common.{◌≡◌, ◌≢◌, ℕ, ◌+◌, ◌-◌, ◌%◌, ◌<◌, ◌≤◌, nat_lt, false, List, [], ◌∷◌, ◌++◌, length}
-use Rattle.std.proofs.Common.{slice_get, slice_set, slice_index_or, Some, refl, sym, ◌∙◌, ap, arith, inl, inr}
-use Rattle.std.proofs.Common.{length-append}
-use Rattle.std.proofs.Math.Nat.{mod-add-mod, mod-eq_of_lt, add-mod_right, mod-lt}
+use Rattle.std.proofs.Common.{slice_get, slice_set, slice_index_or, Option, Some, None, refl, sym, ◌∙◌, ap, arith, inl, inr}
+use Rattle.std.proofs.Common.{length-append, mod-eq_of_lt, mod-lt, option_map, length-set}
+use Rattle.std.proofs.Math.Nat.{mod-add-mod, add-mod_right}
 use Rattle.std.specs.Global.{Box}
-use Rattle.std.specs.Prelude.{option_map}
 use Rattle.std.proofs.lemmas.Bool.{cases_lt}
 use Rattle.std.proofs.lemmas.Option.{slice_get-map}
+use Rattle.law_model.proofs.ListLaws.{at-index}
 use Rattle.circular_buffer.proofs.Places.{slice_get-set_same, slice_get-set_other, slice_get-append_left}
 use Rattle.circular_buffer.proofs.Places.{slice_get-append_right}
-use Rattle.member_cells.specs.declared.containers_and_cells.Container.{Container}
-use Rattle.member_cells.specs.declared.containers_and_cells.Cell.{Cell}
-use Rattle.member_cells.specs.Held.{held}
-use Rattle.member_path.specs.declared.path_delay.carry_sign.CarrySign.{CarrySign}
-use Rattle.member_path.specs.declared.path_delay.carry_sign.CarrySign.TheVariants.{Nothing, Good, Fail, End}
-use Rattle.member_path.specs.path_delay.Carry.{carry_cells}
+use Rattle.law_model.specs.Common.{Container, Cell, path}
 use Rattle.law_model.specs.declared.window_types.Window.{Window}
-use Rattle.law_model.specs.members.Path.{path}
+use Rattle.member_cells.specs.Held.{held}
+use Rattle.member_path.specs.declared.cell_numbers.signs_and_verdicts.CellSign.{CellSign}
+use Rattle.member_path.specs.path_delay.Carry.{carry_cells}
+use Rattle.member_path.specs.cell_numbers.Told.{cell_with}
 use Rattle.member_path.specs.path_delay.Line.{Line, Calls, opened, carries_of, path_cells, DelayStands}
-use Rattle.member_rows.proofs.RealignRowsLaws.GatherLaws.{length-slice_set}
-use Rattle.terminal_group.proofs.ItemLaws.{at-index}
-use Rattle.walk_engine.specs.walk_parts.Ringed.{Ringed, cell_in, cell_at, with_sign, count_of, Has}
+use Rattle.walk_engine.specs.Common.{Ringed, cell_in, cell_at, with_sign, count_of, Has}
 
 -- two numbers less than r apart differ modulo r
 mod-apart : (r y d : ℕ) → 0 < d → d < r → (y + d) % r ≡ y % r → ⊥
@@ -43,27 +39,21 @@ slot-apart r y given popped low under room same =
     mod-apart r y (given - y) (omega (arith, under)) (omega (arith, low, under, room))
     (sym (ap (λ n. n % r) e) ∙ sym same)
 
-pub length-with_sign : (carry : CarrySign) (slot : ℕ) (signs : List CarrySign) →
+pub length-with_sign : (carry : Option CellSign) (slot : ℕ) (signs : List CellSign) →
     length (with_sign carry slot signs) ≡ length signs
-length-with_sign Nothing slot signs = refl
-length-with_sign Good slot signs = length-slice_set signs slot Good
-length-with_sign Fail slot signs = length-slice_set signs slot Fail
-length-with_sign End slot signs = length-slice_set signs slot End
+length-with_sign None slot signs = refl
+length-with_sign (Some sign) slot signs = length-set signs slot sign
 
-sign-other : (carry : CarrySign) (slot k : ℕ) (signs : List CarrySign) → k ≢ slot →
+sign-other : (carry : Option CellSign) (slot k : ℕ) (signs : List CellSign) → k ≢ slot →
     slice_get (with_sign carry slot signs) k ≡ slice_get signs k
-sign-other Nothing slot k signs apart = refl
-sign-other Good slot k signs apart = slice_get-set_other signs slot k Good apart
-sign-other Fail slot k signs apart = slice_get-set_other signs slot k Fail apart
-sign-other End slot k signs apart = slice_get-set_other signs slot k End apart
+sign-other None slot k signs apart = refl
+sign-other (Some sign) slot k signs apart = slice_get-set_other signs slot k sign apart
 
-pub length-carry : (carry : CarrySign) (place : Container) → length (carry_cells carry place) ≡ count_of carry
-length-carry Nothing place = refl
-length-carry Good place = refl
-length-carry Fail place = refl
-length-carry End place = refl
+pub length-carry : (carry : Option CellSign) (place : Container) → length (carry_cells carry place) ≡ count_of carry
+length-carry None place = refl
+length-carry (Some sign) place = refl
 
-module _ (signs : List CarrySign) (places : List Container) (given popped : ℕ) (path : List Cell) (place : Container)
+module _ (signs : List CellSign) (places : List Container) (given popped : ℕ) (path : List Cell) (place : Container)
     (some : 0 < length signs) (beside : length places ≡ length signs) (room : given < popped + length signs)
     (is : given ≡ length path)
     (holds : (y : ℕ) (cell : Cell) → popped ≤ y → y < given → slice_get path y ≡ Some cell →
@@ -71,7 +61,7 @@ module _ (signs : List CarrySign) (places : List Container) (given popped : ℕ)
   abbrev pub slot : ℕ
   slot = given % length signs
 
-  earlier : (carry : CarrySign) (y : ℕ) (cell : Cell) → popped ≤ y → y < given →
+  earlier : (carry : Option CellSign) (y : ℕ) (cell : Cell) → popped ≤ y → y < given →
       slice_get (path ++ carry_cells carry place) y ≡ Some cell →
       cell_at (with_sign carry slot signs) (slice_set places slot place) y ≡ cell ∷ []
   earlier carry y cell low under told =
@@ -86,50 +76,40 @@ module _ (signs : List CarrySign) (places : List Container) (given popped : ℕ)
       ∙ holds y cell low under (sym (slice_get-append_left path (carry_cells carry place) y (omega (arith, under, is)))
       ∙ told)
 
-  last : (carry : CarrySign) (y : ℕ) → y ≡ given → with_sign carry slot signs ≡ slice_set signs slot carry →
-      cell_at (with_sign carry slot signs) (slice_set places slot place) y ≡ carry_cells carry place
-  last carry y same put =
-      let size = length-with_sign carry slot signs in
+  last : (sign : CellSign) (y : ℕ) → y ≡ given →
+      cell_at (slice_set signs slot sign) (slice_set places slot place) y ≡ cell_with sign place ∷ []
+  last sign y same =
+      let size = length-slice_set signs slot sign in
       let low : slot < length signs = mod-lt given some in
-      ap (λ n. cell_in (slice_get (with_sign carry slot signs) (y % n))
+      ap (λ n. cell_in (slice_get (slice_set signs slot sign) (y % n))
       (slice_get (slice_set places slot place) (y % n))) size
-      ∙ ap (λ k. cell_in (slice_get (with_sign carry slot signs) (k % length signs))
+      ∙ ap (λ k. cell_in (slice_get (slice_set signs slot sign) (k % length signs))
       (slice_get (slice_set places slot place) (k % length signs))) same
-      ∙ ap (λ s. cell_in (slice_get s slot) (slice_get (slice_set places slot place) slot)) put
-      ∙ ap (λ s. cell_in s (slice_get (slice_set places slot place) slot)) (slice_get-set_same signs slot carry low)
-      ∙ ap (λ p. cell_in (Some carry) p) (slice_get-set_same places slot place (omega (arith, low, beside)))
+      ∙ ap (λ s. cell_in s (slice_get (slice_set places slot place) slot)) (slice_get-set_same signs slot sign low)
+      ∙ ap (λ p. cell_in (Some sign) p) (slice_get-set_same places slot place (omega (arith, low, beside)))
 
-  told-last : (carry : CarrySign) (y : ℕ) (cell : Cell) (one : Cell) → y ≡ given → carry_cells carry place ≡ one ∷ [] →
-      slice_get (path ++ carry_cells carry place) y ≡ Some cell → one ≡ cell
-  told-last carry y cell one same e told =
-      let h : slice_get (path ++ carry_cells carry place) y ≡ slice_get (carry_cells carry place) 0 =
-      slice_get-append_right path (carry_cells carry place) y 0 (omega (arith, same, is)) in
-      let f : Some one ≡ Some cell = sym (ap (λ xs. slice_get xs 0) e) ∙ sym h ∙ told in
+  told-last : (one cell : Cell) (y : ℕ) → y ≡ given → slice_get (path ++ one ∷ []) y ≡ Some cell → one ≡ cell
+  told-last one cell y same told =
+      let h : slice_get (path ++ one ∷ []) y ≡ Some one = slice_get-append_right path (one ∷ []) y 0
+      (omega (arith, same, is)) in
+      let f : Some one ≡ Some cell = sym h ∙ told in
       cc
 
-  after : (carry : CarrySign) (one : Cell) → carry_cells carry place ≡ one ∷ [] →
-      with_sign carry slot signs ≡ slice_set signs slot carry → (y : ℕ) (cell : Cell) → popped ≤ y → y < given + 1 →
+  pub kept-holds : (carry : Option CellSign) (y : ℕ) (cell : Cell) → popped ≤ y → y < given + count_of carry →
       slice_get (path ++ carry_cells carry place) y ≡ Some cell →
       cell_at (with_sign carry slot signs) (slice_set places slot place) y ≡ cell ∷ []
-  after carry one e put y cell low under told =
+  kept-holds None y cell low under told = earlier None y cell low (omega (arith, under)) told
+  kept-holds (Some sign) y cell low under told =
       elim (cases_lt y given) [
-        | inl before ↦ earlier carry y cell low before told
+        | inl before ↦ earlier (Some sign) y cell low before told
         | inr here ↦ (
             let same : y ≡ given = omega (arith, here, under) in
-            last carry y same put ∙ e ∙ ap (λ x. x ∷ []) (told-last carry y cell one same e told))
+            last sign y same ∙ ap (λ x. x ∷ []) (told-last (cell_with sign place) cell y same told))
       ]
 
-  pub kept-holds : (carry : CarrySign) (y : ℕ) (cell : Cell) → popped ≤ y → y < given + count_of carry →
-      slice_get (path ++ carry_cells carry place) y ≡ Some cell →
-      cell_at (with_sign carry slot signs) (slice_set places slot place) y ≡ cell ∷ []
-  kept-holds Nothing y cell low under told = earlier Nothing y cell low (omega (arith, under)) told
-  kept-holds Good y cell low under told = after Good (Cell.Good place) refl refl y cell low under told
-  kept-holds Fail y cell low under told = after Fail Cell.Fail refl refl y cell low under told
-  kept-holds End y cell low under told = after End Cell.End refl refl y cell low under told
-
 -- a carry more
-pub has-more : (line : Ringed) (core : Line) (calls more : Calls) (carry : CarrySign) (place : Container)
-    (signs : List CarrySign) (places : List Container) (count : ℕ) →
+pub has-more : (line : Ringed) (core : Line) (calls more : Calls) (carry : Option CellSign) (place : Container)
+    (signs : List CellSign) (places : List Container) (count : ℕ) →
     Has line calls → 0 < length line.signs → length line.places ≡ length line.signs →
     line.given < line.popped + length line.signs →
     DelayStands core more → carries_of more ≡ carries_of calls + 1 →
@@ -213,7 +193,7 @@ has-popped line calls place has more room = record {
 }
 
 -- no carry
-pub has-none : (core : Line) (signs : List CarrySign) (places : List Container) (delay : ℕ) (windows : List Window)
+pub has-none : (core : Line) (signs : List CellSign) (places : List Container) (delay : ℕ) (windows : List Window)
     (total : ℕ) → DelayStands core (opened delay windows total) →
     Has (record { core = core; signs = signs; places = places; carried = 0; given = 0; popped = 0 })
     (opened delay windows total)
@@ -230,10 +210,10 @@ has-none core signs places delay windows total stands = record {
         rw (e, f) refl
 
 -- a cell that is read where it lies
-pub cell-read : (signs : List CarrySign) (boxes : List (Box Container)) (y len : ℕ) (sign : CarrySign)
+pub cell-read : (signs : List CellSign) (boxes : List (Box Container)) (y len : ℕ) (sign : CellSign)
     (place : Box Container) → 0 < length signs → length boxes ≡ length signs → len ≡ length signs →
     sign ≡ slice_index_or signs (y % len) sign → place ≡ slice_index_or boxes (y % len) place →
-    cell_at signs (held boxes) y ≡ carry_cells sign place.value
+    cell_at signs (held boxes) y ≡ cell_with sign place.value ∷ []
 cell-read signs boxes y len sign place some beside size at put =
     let low : y % length signs < length signs = mod-lt y some in
     let one = at-index signs (y % length signs) sign low (at ∙ ap (λ n. slice_index_or signs (y % n) sign) size) in

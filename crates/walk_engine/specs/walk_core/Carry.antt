@@ -2,15 +2,12 @@
 use Rattle.std.specs.Prelude.{◌≡◌, ◌≢◌, ◌<◌, ◌≤◌, ◌%◌, List, length, slice_get, ℕ, ◌+◌, nat_le, nat_lt, ◌&&◌}
 use Rattle.std.specs.Prelude.{if◌then◌else◌, Option, Some, None}
 use Rattle.std.specs.Global.{Vec, Box}
-use Rattle.member_cells.specs.declared.containers_and_cells.Container.{Container}
-use Rattle.member_cells.specs.Held.{held}
-use Rattle.law_model.specs.session.Leg.{Leg}
-use Rattle.law_walk.specs.Rings.{sent_at}
-use Rattle.law_walk.specs.Walk.{path_on}
-use Rattle.walk_engine.specs.walk_parts.Ringed.{Ringed, ring_of}
+use Rattle.law_model.specs.Common.{Container, Leg, LinePath, LineCounts, in_send, in_receive}
 use Rattle.law_model.specs.declared.walk_events.StallCause.{StallCause}
 use Rattle.law_model.specs.declared.walk_events.StallCause.TheVariants.{Done, Empty, RxFull}
-use Rattle.law_model.specs.session.Counts.{LinePath, LineCounts, in_send, in_receive}
+use Rattle.member_cells.specs.Held.{held}
+use Rattle.law_walk.specs.Common.{sent_at, path_on}
+use Rattle.walk_engine.specs.walk_parts.Ringed.{Ringed, ring_of}
 
 -- the first cause, where there is one: of line m, whose ring holds so many cells, where the ticks are made
 abbrev pub carry_cause : ℕ → ℕ → ℕ → ℕ → LinePath → LineCounts → Option StallCause

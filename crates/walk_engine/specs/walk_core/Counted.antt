@@ -1,6 +1,6 @@
 -- Frames that are counted on their way to another place.
 use Rattle.std.specs.Prelude.{◌≡◌, ℕ, ◌+◌, min, List, [], ◌∷◌, length}
-use Rattle.octet_io.specs.Start.{Start}
+use Rattle.law_model.specs.Common.{Start}
 
 -- a start of frames of which the count is told: how many had been counted before. It has no octets
 abbrev pub counting : ℕ → ℕ → Start

@@ -3,10 +3,10 @@ use Rattle.std.specs.Prelude.{ℕ, nat_lt, Bool, true, false, if◌then◌else�
 use Rattle.law_model.specs.declared.script_types.Item.{Item}
 use Rattle.law_model.specs.declared.walk_events.StallCause.{StallCause}
 use Rattle.law_model.specs.declared.walk_events.StallCause.TheVariants.{Done, NotDue, Held}
-use Rattle.terminal_group.specs.declared.group_source.EarlyCause.{EarlyCause}
-use Rattle.terminal_group.specs.declared.group_source.EarlyCause.TheVariants.{Done as Early_done, Held as Early_held}
 use Rattle.law_model.specs.declared.walk_events.Event.{Event}
 use Rattle.law_model.specs.declared.walk_events.Event.TheVariants.{Accept, Command}
+use Rattle.terminal_group.specs.declared.group_source.EarlyCause.{EarlyCause}
+use Rattle.terminal_group.specs.declared.group_source.EarlyCause.TheVariants.{Done as Early_done, Held as Early_held}
 
 -- why the next item of a kind, where there is one, doesn't land
 abbrev pub stall_by : ℕ → Option Item → Option StallCause

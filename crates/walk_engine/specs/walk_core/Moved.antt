@@ -1,17 +1,13 @@
 -- What an event of a walk answers, and which frames it gives.
 use Rattle.std.specs.Prelude.{ℕ, List, ◌++◌, length, drop, slice_get, Option, Some, None}
+use Rattle.law_model.specs.Common.{Leg, Counts, step, Start}
 use Rattle.law_model.specs.declared.script_types.Item.{Item}
 use Rattle.law_model.specs.declared.script_types.Script.{Script}
-use Rattle.law_model.specs.session.Leg.{Leg}
 use Rattle.law_model.specs.declared.walk_events.Event.{Event}
-use Rattle.law_model.specs.declared.walk_events.Event.TheVariants.{Accept, Command, Tick, Carry, Back, Take}
+use Rattle.law_model.specs.declared.walk_events.Event.TheVariants.{Accept, Tick, Carry, Back, Take, Command}
 use Rattle.law_model.specs.declared.walk_events.StallCause.{StallCause}
-use Rattle.law_model.specs.session.Counts.{Counts, step}
 use Rattle.law_model.specs.declared.item_refusals.Refusal.{Refusal}
-use Rattle.law_walk.specs.Walk.{walk_plan}
-use Rattle.law_walk.specs.Landed.{refusal_at}
-use Rattle.law_walk.specs.Delivered.{delivered_of}
-use Rattle.octet_io.specs.Start.{Start}
+use Rattle.law_walk.specs.Common.{walk_plan, refusal_at, delivered_of}
 use Rattle.terminal_group.specs.Place.{is_frame, is_command, place_of}
 use Rattle.walk_engine.specs.declared.walk_core.step_answers.Moved.{Moved}
 use Rattle.walk_engine.specs.declared.walk_core.step_answers.Moved.TheVariants.{Yes, Stalled, Refused}

@@ -1,11 +1,8 @@
 -- What one direction of a group holds before any event.
 use Rattle.std.specs.Prelude.{◌≡◌, ℕ, List, [], length, replicate, slice_get, slice_index_or, All, Some}
 use Rattle.std.specs.Global.{Vec, Box}
-use Rattle.member_cells.specs.declared.containers_and_cells.Container.{Container}
-use Rattle.member_cells.specs.declared.containers_and_cells.Cell.{Cell}
+use Rattle.law_model.specs.Common.{Container, Cell, Leg, IsSound}
 use Rattle.law_model.specs.declared.script_types.Config.{Config}
-use Rattle.law_model.specs.session.Leg.{Leg}
-use Rattle.law_model.specs.session.Valid.{IsSound}
 use Rattle.terminal_group.specs.Source.{IsUnused}
 use Rattle.member_path.specs.path_delay.Line.{opened}
 use Rattle.member_rows.specs.realign_rows.Gather.{Gather, GatherStands as Gathers, line_count}

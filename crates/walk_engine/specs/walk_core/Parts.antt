@@ -2,26 +2,20 @@
 use Rattle.std.specs.Prelude.{◌≡◌, ℕ, ◌+◌, ◌-◌, ◌%◌, ◌<◌, ◌≤◌, min, List, [], map, length, take, slice_get}
 use Rattle.std.specs.Prelude.{slice_index_or, Option, Some, None}
 use Rattle.std.specs.Global.{Vec, Box}
-use Rattle.member_cells.specs.declared.containers_and_cells.Container.{Container}
-use Rattle.law_model.specs.session.Leg.{Leg}
-use Rattle.law_model.specs.session.Scenario.{Scenario, steps_in}
-use Rattle.law_model.specs.session.Valid.{IsSound}
-use Rattle.law_model.specs.session.Counts.{LineCounts, Counts}
+use Rattle.law_model.specs.Common.{Container, Leg, Scenario, steps_in, IsSound, LineCounts, Counts}
+use Rattle.law_model.specs.declared.control_packet.Packet.{Packet}
 use Rattle.member_cells.specs.Held.{held}
 use Rattle.member_path.specs.path_delay.Line.{Calls}
 use Rattle.member_rows.specs.realign_rows.Gather.{Gather, GatherStands as Gathers, line_count}
 use Rattle.terminal_source.specs.source_core.Terminal.{Terminal}
 use Rattle.terminal_source.specs.source_core.Given.{SourceStands as HasMade}
 use Rattle.terminal_sink.specs.sink_core.Core.{Core, SinkStands as HasTaken}
-use Rattle.law_walk.specs.Walk.{IsWalked, counts_at, popped_cells}
-use Rattle.law_walk.specs.Rings.{sent_at, delay_on, taken_by, return_ring, inbox}
-use Rattle.law_walk.specs.Landed.{landed_scenario, told_before, refusals_of, totals_of}
-use Rattle.law_walk.specs.Delivered.{delivered_of}
-use Rattle.law_walk.specs.Step.{last_packet, cell_taken}
+use Rattle.law_walk.specs.Common.{IsWalked, counts_at, popped_cells, sent_at, delay_on, taken_by, return_ring, inbox}
+use Rattle.law_walk.specs.Common.{landed_scenario, told_before, refusals_of, totals_of, delivered_of, last_packet}
+use Rattle.law_walk.specs.Common.{cell_taken}
 use Rattle.terminal_group.specs.Item.{bare_items}
 use Rattle.terminal_group.specs.Landed.{Landed}
 use Rattle.terminal_group.specs.Source.{Source}
-use Rattle.law_model.specs.declared.control_packet.Packet.{Packet}
 use Rattle.walk_engine.specs.walk_parts.Ringed.{Ringed, ring_of, Has}
 use Rattle.walk_engine.specs.walk_parts.Return.{Return, path_of}
 use Rattle.walk_engine.specs.declared.walk_core.step_answers.StepNote.{StepNote}

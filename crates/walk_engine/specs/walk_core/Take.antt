@@ -1,18 +1,14 @@
 -- Why a Take pops nothing, and what it pops.
 use Rattle.std.specs.Prelude.{◌≡◌, ℕ, ◌+◌, ◌<◌, ◌≤◌, nat_le, if◌then◌else◌, List, map, length, slice_get, Option, Some}
 use Rattle.std.specs.Prelude.{None}
-use Rattle.member_cells.specs.declared.containers_and_cells.Cell.{Cell}
-use Rattle.law_model.specs.session.Leg.{Leg}
+use Rattle.law_model.specs.Common.{Cell, Leg, first_open, Counts, is_back_full, pop_lines}
 use Rattle.law_model.specs.declared.control_packet.Packet.{Packet}
 use Rattle.law_model.specs.declared.walk_events.StallCause.{StallCause}
 use Rattle.law_model.specs.declared.walk_events.StallCause.TheVariants.{Done, BackFull}
-use Rattle.law_model.specs.rows.Rows.{first_open}
-use Rattle.law_model.specs.session.Counts.{Counts, is_back_full, pop_lines}
 use Rattle.member_rows.specs.realign_rows.Gather.{Gather, GatherStands as Gathers, line_count}
 use Rattle.terminal_sink.specs.sink_core.Given.{back_at}
 use Rattle.terminal_sink.specs.sink_core.Core.{Core, SinkStands as HasTaken}
-use Rattle.law_walk.specs.Walk.{walk_plan, CanWalk, popped_cells}
-use Rattle.law_walk.specs.Rings.{delay_on}
+use Rattle.law_walk.specs.Common.{walk_plan, CanWalk, popped_cells, delay_on}
 use Rattle.walk_engine.specs.walk_parts.Ringed.{Ringed}
 use Rattle.walk_engine.specs.walk_core.Parts.{line_counts, HasLines}
 

@@ -1,11 +1,7 @@
 -- What waits in the rings of a line of a walk.
 use Rattle.std.specs.Prelude.{ℕ, List}
-use Rattle.member_cells.specs.declared.containers_and_cells.Container.{Container}
-use Rattle.member_cells.specs.declared.containers_and_cells.Cell.{Cell}
-use Rattle.law_model.specs.session.Leg.{Leg}
-use Rattle.law_model.specs.session.Counts.{Counts}
-use Rattle.law_walk.specs.Walk.{counts_at}
-use Rattle.law_walk.specs.Rings.{send_by, receive_by}
+use Rattle.law_model.specs.Common.{Container, Cell, Leg, Counts}
+use Rattle.law_walk.specs.Common.{counts_at, send_by, receive_by}
 
 -- the session's containers on a line that were made, and that it hasn't carried
 abbrev pub send_ring : Leg → Counts → ℕ → List Container

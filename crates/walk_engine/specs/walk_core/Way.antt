@@ -1,25 +1,20 @@
 -- What the events of one direction answer, and what they leave of it.
 use Rattle.std.specs.Prelude.{◌≡◌, ◌≢◌, ℕ, ◌+◌, ◌/◌, ◌%◌, ◌==◌, ◌&&◌, ◌≤◌, nat_le, nat_lt, if◌then◌else◌, map}
 use Rattle.std.specs.Prelude.{slice_get, slice_index_or, Option, Some, None, option_map}
-use Rattle.member_cells.specs.declared.containers_and_cells.BackCell.{BackCell}
+use Rattle.law_model.specs.Common.{BackCell, Leg, Scenario, told_by, untold, passed_on, Plan, Counts, held, pop_lines}
+use Rattle.law_model.specs.Common.{step}
 use Rattle.law_model.specs.declared.script_types.Item.{Item}
 use Rattle.law_model.specs.declared.script_types.ItemKind.{ItemKind}
 use Rattle.law_model.specs.declared.control_packet.Packet.{Packet}
 use Rattle.law_model.specs.declared.walk_events.Event.{Event}
 use Rattle.law_model.specs.declared.walk_events.Event.TheVariants.{Tick, Take}
 use Rattle.law_model.specs.declared.walk_events.StallCause.TheVariants.{Waiting as Stall_waiting}
-use Rattle.law_model.specs.session.Leg.{Leg}
-use Rattle.law_model.specs.session.Scenario.{Scenario, packets_in}
-use Rattle.law_model.specs.packets.Told.{told_by}
-use Rattle.law_model.specs.packets.Telling.{untold, passed_on}
-use Rattle.law_model.specs.session.Counts.{Plan, Counts, held, pop_lines, step}
+use Rattle.law_model.specs.session.Scenario.{packets_in}
 use Rattle.terminal_source.specs.source_core.Given.{with_cell, with_told}
 use Rattle.terminal_sink.specs.declared.sink_core.sink_terminal.TakeAnswer.{TakeAnswer}
 use Rattle.terminal_sink.specs.declared.sink_core.sink_terminal.TakeAnswer.TheVariants.{Taken, Waiting}
 use Rattle.terminal_sink.specs.sink_core.Given.{rows_taken}
-use Rattle.law_walk.specs.Walk.{walk_plan}
-use Rattle.law_walk.specs.Rings.{said_packet}
-use Rattle.law_walk.specs.Landed.{told_before}
+use Rattle.law_walk.specs.Common.{walk_plan, said_packet, told_before}
 use Rattle.terminal_group.specs.declared.group_source.EarlyCause.{EarlyCause}
 use Rattle.terminal_group.specs.declared.group_source.EarlyCause.TheVariants.{Done, Held}
 use Rattle.terminal_group.specs.Landed.{due_at}

@@ -1,9 +1,8 @@
 -- The return path of a walk.
 use Rattle.std.specs.Prelude.{ℕ, ◌+◌, Bool, List, [], ◌∷◌, ◌++◌, Option, Some, None}
-use Rattle.member_cells.specs.declared.containers_and_cells.BackCell.{BackCell}
-use Rattle.member_cells.specs.declared.containers_and_cells.BackCell.TheVariants.{Packet as Nibbles}
+use Rattle.law_model.specs.Common.{BackCell, packet_nibbles}
 use Rattle.law_model.specs.declared.control_packet.Packet.{Packet}
-use Rattle.law_model.specs.packets.Packet.{packet_nibbles}
+use Rattle.member_cells.specs.declared.containers_and_cells.BackCell.TheVariants.{Packet as Nibbles}
 use Rattle.terminal_group.specs.Inbox.{Inbox, is_lost_in, come_by}
 
 -- the return packets that haven't come, oldest first; the return windows; the return cells that have come and weren't

@@ -1,21 +1,18 @@
 -- A line with its receive ring.
 use Rattle.std.specs.Prelude.{◌≡◌, ℕ, zero, suc, ◌+◌, ◌%◌, ◌<◌, ◌≤◌, Bool, false, ◌==◌, if◌then◌else◌, List, [], ◌∷◌}
 use Rattle.std.specs.Prelude.{length, take, slice_get, slice_set, Option, Some, None, is_none, IsSome}
-use Rattle.member_cells.specs.declared.containers_and_cells.Container.{Container}
-use Rattle.member_cells.specs.declared.containers_and_cells.Cell.{Cell}
-use Rattle.member_path.specs.declared.path_delay.carry_sign.CarrySign.{CarrySign}
-use Rattle.member_path.specs.declared.path_delay.carry_sign.CarrySign.TheVariants.{Nothing, Good, Fail, End}
-use Rattle.member_path.specs.path_delay.Carry.{carry_cells}
+use Rattle.law_model.specs.Common.{Container, Cell, verdict}
+use Rattle.member_path.specs.declared.cell_numbers.signs_and_verdicts.CellSign.{CellSign}
+use Rattle.member_path.specs.cell_numbers.Told.{cell_with}
 use Rattle.member_path.specs.path_delay.Line.{Line, Calls, carries_of, path_cells, DelayStands}
-use Rattle.law_model.specs.members.Number.{verdict}
 use Rattle.member_rows.specs.realign_rows.Gather.{Gather, GatherStands as Gathers}
 
--- the line itself; the places of its ring, of each what a carry gave and its container; how many carries were made, and
+-- the line itself; the places of its ring, of each the sign of its cell and its container; how many carries were made, and
 -- how many cells
 -- were given and popped
 pub record Ringed : Type 0 where
   pub core : Line
-  pub signs : List CarrySign
+  pub signs : List CellSign
   pub places : List Container
   pub carried : ℕ
   pub given : ℕ
@@ -25,27 +22,23 @@ pub record Ringed : Type 0 where
 abbrev pub ring_of : Ringed → ℕ
 ring_of line = length line.signs
 
-abbrev pub cell_in : Option CarrySign → Option Container → List Cell
+abbrev pub cell_in : Option CellSign → Option Container → List Cell
 cell_in None place = []
 cell_in (Some sign) None = []
-cell_in (Some sign) (Some place) = carry_cells sign place
+cell_in (Some sign) (Some place) = cell_with sign place ∷ []
 
 -- the cell of number y, where the ring holds it
-abbrev pub cell_at : List CarrySign → List Container → ℕ → List Cell
+abbrev pub cell_at : List CellSign → List Container → ℕ → List Cell
 cell_at signs places y = cell_in (slice_get signs (y % length signs)) (slice_get places (y % length signs))
 
--- what a ring has after a carry, whose sign is put at a place where it gave a cell, and how many cells it gave
-abbrev pub with_sign : CarrySign → ℕ → List CarrySign → List CarrySign
-with_sign Nothing slot signs = signs
-with_sign Good slot signs = slice_set signs slot Good
-with_sign Fail slot signs = slice_set signs slot Fail
-with_sign End slot signs = slice_set signs slot End
+-- what a ring has after a carry: the sign of the cell that it gave, if any, is put at a place; and how many cells it gave
+abbrev pub with_sign : Option CellSign → ℕ → List CellSign → List CellSign
+with_sign None slot signs = signs
+with_sign (Some sign) slot signs = slice_set signs slot sign
 
-abbrev pub count_of : CarrySign → ℕ
-count_of Nothing = 0
-count_of Good = 1
-count_of Fail = 1
-count_of End = 1
+abbrev pub count_of : Option CellSign → ℕ
+count_of None = 0
+count_of (Some sign) = 1
 
 -- these calls have brought a line where it is, and its ring holds the cells that weren't popped
 pub record Has (line : Ringed) (calls : Calls) : Type 0 where

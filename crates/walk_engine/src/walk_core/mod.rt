@@ -7,14 +7,14 @@
 //! it but the return path is a `WayCore`, of which a pair of sessions has two.
 
 mod counted_frames;
-mod step_answers;
+mod one_way;
 mod open_way;
 mod send_rings;
+mod step_answers;
 mod take_rows;
 mod walk;
-mod one_way;
 
 pub use law_model::{Event, StallCause};
+pub use one_way::WayCore;
 pub use step_answers::{Moved, StepNote};
 pub use walk::Walk;
-pub use one_way::WayCore;

@@ -1,24 +1,15 @@
 //! One direction of a group without its way back, call by call.
 
 ghost use Rattle.std.specs.Prelude.{◌≡◌, ℕ, ◌+◌, ◌<◌, List, length, map, slice_get, Option, Some, None, IfOk};
-ghost use Rattle.std.specs.Prelude.{option_map};
-ghost use Rattle.std.specs.Option.{option_copied, is_some};
-ghost use Rattle.member_cells.specs.declared.containers_and_cells.Container.{Container};
+ghost use Rattle.std.specs.Prelude.{option_map, option_copied, is_some};
+ghost use Rattle.law_model.specs.Common.{Container, begin, full, Leg, leg_of, governing, Scenario, steps_in};
+ghost use Rattle.law_model.specs.Common.{segments_of, Told, IsValid};
 ghost use Rattle.law_model.specs.declared.walk_events.Event.TheVariants.{Tick, Carry};
-ghost use Rattle.law_model.specs.session.Counts.{begin, full, step};
-ghost use Rattle.law_model.specs.session.Leg.{Leg, leg_of};
-ghost use Rattle.law_model.specs.rows.Rows.{governing};
-ghost use Rattle.law_model.specs.session.Scenario.{Scenario, steps_in};
-ghost use Rattle.law_model.specs.frames.Segment.{segments_of};
-ghost use Rattle.law_model.specs.source.Table.{Told};
-ghost use Rattle.law_model.specs.session.Valid.{IsValid};
 ghost use Rattle.terminal_source.specs.source_core.Given.{SourceStands as HasMade};
 ghost use Rattle.terminal_source.specs.source_core.Terminal.{needed, SameKind};
 ghost use Rattle.member_path.specs.cell_numbers.Told.{cell_of};
 ghost use Rattle.terminal_sink.specs.marked_delineator.Marks.{first_place};
-ghost use Rattle.law_walk.specs.Delivered.{session_rows};
-ghost use Rattle.law_walk.specs.Landed.{is_client, totals_of};
-ghost use Rattle.law_walk.specs.Walk.{walk_plan, popped_cells};
+ghost use Rattle.law_walk.specs.Common.{session_rows, is_client, totals_of, walk_plan, popped_cells};
 ghost use Rattle.terminal_group.specs.Inbox.{empty_inbox, with_come, cell_for, rest_for};
 ghost use Rattle.terminal_group.specs.Item.{kind_of};
 ghost use Rattle.terminal_group.specs.Landed.{next_number};
@@ -36,8 +27,8 @@ use crate::walk_core::open_way::{Ends, Opened, Paths, SENDS, open};
 use crate::walk_core::send_rings::{carry_on, carry_stall, first_full, frame_at, next_place};
 use crate::walk_core::take_rows::{pop_lines, take_counted_row};
 use crate::walk_parts::WalkLine;
-use member_cells::{BackCell, Container, HeldContainer};
 use law_model::{FrameOut, Refusal, Script, StallCause, Totals};
+use member_cells::{BackCell, Container, HeldContainer};
 use member_path::cell_numbers::CellRef;
 use member_rows::lcas_packet::Packet;
 use member_rows::realign_rows::RowGather;

@@ -2,15 +2,13 @@
 
 ghost use Rattle.std.specs.Prelude.{◌≡◌, length, All, IfOk};
 ghost use Rattle.std.specs.Global.{Vec, Box};
-ghost use Rattle.member_cells.specs.declared.containers_and_cells.Container.{Container};
-ghost use Rattle.law_model.specs.session.Valid.{IsValid, IsNetwork};
-ghost use Rattle.law_model.specs.session.Leg.{leg_of};
+ghost use Rattle.law_model.specs.Common.{Container, IsValid, IsNetwork, leg_of};
 ghost use Rattle.terminal_group.specs.Source.{IsUnused};
 ghost use Rattle.walk_engine.specs.walk_core.Opened.{AreOpened, AreRings, IsNewSink, IsNew};
 
 use crate::walk_parts::WalkLine;
-use member_cells::{HeldContainer, blank_boxes};
 use law_model::{Config, Script};
+use member_cells::{HeldContainer, blank_boxes};
 use member_rows::realign_rows::RowGather;
 use std::alloc::{AllocError, Global};
 use terminal_group::GroupSource;

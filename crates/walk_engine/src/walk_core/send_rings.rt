@@ -3,18 +3,16 @@
 ghost use Rattle.std.specs.Prelude.{◌≡◌, ℕ, true, false, ◌+◌, ◌%◌, ◌<◌, ◌≤◌, length, map, min, All, slice_get};
 ghost use Rattle.std.specs.Prelude.{Some, None, IfSome, IfNone};
 ghost use Rattle.std.specs.Global.{Vec, Box};
-ghost use Rattle.member_cells.specs.declared.containers_and_cells.Container.{Container};
-ghost use Rattle.law_model.specs.session.Counts.{full, in_send};
-ghost use Rattle.law_model.specs.session.Leg.{Leg};
-ghost use Rattle.law_walk.specs.Walk.{path_on};
+ghost use Rattle.law_model.specs.Common.{Container, full, in_send, Leg};
+ghost use Rattle.law_walk.specs.Common.{path_on};
 ghost use Rattle.walk_engine.specs.walk_parts.Ringed.{Ringed, ring_of};
 ghost use Rattle.walk_engine.specs.walk_core.Carry.{carry_cause, CanCarry, IsSentOn, IsCarriedAt, HasReceiveRoom};
 ghost use Rattle.walk_engine.specs.walk_core.Parts.{line_counts, sent_frames, HasSent, HasLine as HasLineOn};
 
 use crate::walk_core::open_way::SENDS;
 use crate::walk_parts::WalkLine;
-use member_cells::HeldContainer;
 use law_model::StallCause;
+use member_cells::HeldContainer;
 
 /// The place of the next frame. It gets the containers of the frame before where each line has carried that,
 /// since these lie nearest in the caches of the processor.

@@ -1,7 +1,7 @@
 //! What a step of a walk answers, and what is noted of a decision step.
 
-use member_cells::BackCell;
 use law_model::{Refusal, StallCause};
+use member_cells::BackCell;
 
 /// What a step of a walk gave.
 #[derive(Clone, Copy, Debug, PartialEq, Eq)]

@@ -1,30 +1,18 @@
 //! The sink's side of a walk: cells are popped until the lines decide a row, and the row is taken.
 
-ghost use Rattle.std.specs.Prelude.{◌≡◌, ℕ, ◌+◌, ◌%◌, ◌==◌, ◌&&◌, nat_le, ◌<◌, ◌≤◌, ◌++◌, List, length, min};
-ghost use Rattle.law_model.specs.session.Leg.{Leg};
-ghost use Rattle.octet_io.specs.Start.{Start};
+ghost use Rattle.std.specs.Prelude.{◌≡◌, ℕ, ◌+◌, ◌<◌, ◌≤◌, ◌++◌, List, length, min};
+ghost use Rattle.law_model.specs.Common.{Leg, Start, Cell};
 ghost use Rattle.walk_engine.specs.walk_core.Take.{CanPop, HasPopped, CanTake, HasRow};
 ghost use Rattle.terminal_sink.specs.sink_core.Given.{added_frames};
-ghost use Rattle.member_cells.specs.declared.containers_and_cells.Cell.{Cell};
 ghost use Rattle.member_rows.specs.realign_rows.Gather.{line_count};
 
 use crate::walk_core::counted_frames::CountedOut;
 use crate::walk_parts::WalkLine;
-use octet_io::take_back;
 use law_model::FrameOut;
 use member_rows::lcas_packet::Packet;
 use member_rows::realign_rows::RowGather;
+use octet_io::take_back;
 use terminal_sink::sink_core::{SinkCore, TakeAnswer};
-
-/// The first row that ends a packet.
-const FIRST_END: u32 = 23;
-
-/// Whether a row ends a packet.
-pub(super) fn ends_packet(row: u32) -> bool
-    ensures { result ≡ (nat_le 23 row && row % 16 == 7) }
-{
-    row >= FIRST_END && row % 16 == 7
-}
 
 /// Pops cells line by line until each decides the next row, or up to the first line that doesn't.
 pub(super) fn pop_lines(lines: &mut Vec<WalkLine>, rows: &mut RowGather) -> Option<u8>

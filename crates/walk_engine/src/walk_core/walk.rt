@@ -1,42 +1,34 @@
 //! A walk of a script, event by event.
 
 ghost use Rattle.std.specs.Prelude.{◌≡◌, ◌/◌, ◌%◌, ◌==◌, ◌<◌, suc, if◌then◌else◌, [], ◌∷◌, length, replicate};
-ghost use Rattle.std.specs.Prelude.{slice_get, Some, None, IfOk, option_map};
-ghost use Rattle.std.specs.Option.{option_copied};
-ghost use Rattle.law_model.specs.declared.walk_events.Event.TheVariants.{Accept, Command, Tick, Carry, Back, Take};
-ghost use Rattle.law_model.specs.session.Valid.{IsValid};
-ghost use Rattle.law_model.specs.session.Counts.{begin, step, run, round, drain, bound, carries_from};
-ghost use Rattle.law_model.specs.session.Scenario.{steps_in};
-ghost use Rattle.law_model.specs.source.Source.{source_at};
+ghost use Rattle.std.specs.Prelude.{slice_get, Some, None, IfOk, option_map, option_copied};
+ghost use Rattle.law_model.specs.declared.walk_events.Event.TheVariants.{Command, Accept, Tick, Carry, Back, Take};
+ghost use Rattle.law_model.specs.Common.{IsValid, begin, step, run, round, drain, bound, carries_from, steps_in};
+ghost use Rattle.law_model.specs.Common.{source_at, leg_of, segments_of};
+ghost use Rattle.law_model.specs.declared.script_types.Item.{Item};
 ghost use Rattle.law_progress.specs.Progress.{HasLine};
-ghost use Rattle.law_walk.specs.Landed.{landed_scenario, told_before, refusals_of, totals_of};
-ghost use Rattle.law_walk.specs.Step.{last_packet, table_in};
+ghost use Rattle.law_walk.specs.Common.{landed_scenario, told_before, refusals_of, totals_of, last_packet, table_in};
+ghost use Rattle.law_walk.specs.Common.{walk_plan, IsWalked, session_rows};
 ghost use Rattle.walk_engine.specs.walk_core.Moved.{answer_by, counts_after, moved_of, GivesRows};
-ghost use Rattle.law_model.specs.session.Leg.{leg_of};
-ghost use Rattle.law_walk.specs.Walk.{walk_plan, IsWalked};
 ghost use Rattle.walk_engine.specs.walk_core.Waiting.{send_ring, receive_ring};
 ghost use Rattle.member_path.specs.cell_numbers.Told.{cell_of};
-ghost use Rattle.law_model.specs.declared.script_types.Item.{Item};
 ghost use Rattle.terminal_group.specs.Item.{kind_of};
 ghost use Rattle.terminal_group.specs.Inbox.{empty_inbox};
 ghost use Rattle.walk_engine.specs.walk_core.Landing.{landing_of, early_stall};
 ghost use Rattle.walk_engine.specs.walk_core.Parts.{counts_of, note_of, WayStands};
 ghost use Rattle.walk_engine.specs.walk_core.Take.{take_cause};
-ghost use Rattle.law_model.specs.frames.Segment.{segments_of};
-ghost use Rattle.law_walk.specs.Delivered.{session_rows};
 ghost use Rattle.terminal_sink.specs.marked_delineator.Marks.{first_place};
 
-use crate::walk_core::step_answers::{Moved, StepNote};
-use crate::walk_core::take_rows::ends_packet;
 use crate::walk_core::one_way::WayCore;
+use crate::walk_core::step_answers::{Moved, StepNote};
 use crate::walk_parts::ReturnRing;
-use member_cells::{BackCell, Container};
 use law_model::{Event, FrameOut, Refusal, Script, StallCause, Totals};
+use member_cells::{BackCell, Container};
 use member_path::cell_numbers::CellRef;
 use std::alloc::{AllocError, Global};
 use std::marker::Model;
 use terminal_group::{EarlyCause, ItemRef, handed};
-use terminal_sink::sink_core::TakeAnswer;
+use terminal_sink::sink_core::{TakeAnswer, ends_packet};
 use terminal_source::lcas_source::SourceTable;
 
 /// A walk of a script.
@@ -62,8 +54,7 @@ impl Drop for Walk {
 }
 
 impl Model for Walk {
-    ghost use Rattle.law_model.specs.session.Leg.{leg_of};
-    ghost use Rattle.law_model.specs.session.Valid.{IsValid};
+    ghost use Rattle.law_model.specs.Common.{leg_of, IsValid};
     ghost use Rattle.walk_engine.specs.walk_core.Moved.{Walked};
     ghost use Rattle.walk_engine.specs.walk_core.Parts.{counts_of, IsWalk};
 

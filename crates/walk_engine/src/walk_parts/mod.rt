@@ -2,8 +2,8 @@
 //! ring. Begin with `WalkLine`, whose ring holds the cells of the path that weren't popped, and with
 //! `ReturnRing`. In which order events come, and what the terminals make of it, is not said here.
 
-mod walk_line;
 mod return_ring;
+mod walk_line;
 
-pub use walk_line::WalkLine;
 pub use return_ring::ReturnRing;
+pub use walk_line::WalkLine;

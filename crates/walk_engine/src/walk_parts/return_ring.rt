@@ -3,8 +3,8 @@
 ghost use Rattle.std.specs.Prelude.{◌≡◌, ◌+◌, ◌≤◌, ◌↔◌, [], ◌++◌, length, drop, slice_get, option_map, IfOk, IsTrue};
 ghost use Rattle.walk_engine.specs.walk_parts.Return.{listed, packet_cell};
 
-use member_cells::BackCell;
 use circular_buffer::HeapCircularBuffer;
+use member_cells::BackCell;
 use member_rows::lcas_packet::Packet;
 use std::alloc::{AllocError, Global};
 use std::marker::Model;

@@ -1,23 +1,18 @@
 //! A line of a walk with its receive ring.
 
-ghost use Rattle.std.specs.Prelude.{◌≡◌, ◌≢◌, ℕ, ◌+◌, ◌-◌, ◌<◌, ◌≤◌, ◌↔◌, [], ◌∷◌, true, List, length, drop, slice_get};
+ghost use Rattle.std.specs.Prelude.{◌≡◌, ◌≢◌, ℕ, ◌+◌, ◌-◌, ◌<◌, ◌≤◌, ◌↔◌, true, List, length, drop, slice_get};
 ghost use Rattle.std.specs.Prelude.{slice_set, IfOk, IsTrue, is_some, option_map};
-ghost use Rattle.member_cells.specs.declared.containers_and_cells.Container.{Container};
-ghost use Rattle.member_cells.specs.declared.containers_and_cells.Cell.{Cell};
-ghost use Rattle.member_path.specs.path_delay.Carry.{carry_cells};
+ghost use Rattle.law_model.specs.Common.{Container, Cell, AreWindows, verdict, first_open};
 ghost use Rattle.member_path.specs.path_delay.Line.{Calls, opened, and_push, and_flush, path_cells, IsEnded};
 ghost use Rattle.member_path.specs.cell_numbers.Told.{cell_with, cell_of};
-ghost use Rattle.law_model.specs.members.Damage.{AreWindows};
-ghost use Rattle.law_model.specs.members.Number.{verdict};
 ghost use Rattle.member_rows.specs.realign_rows.Gather.{GatherStands as Gathers, line_count, IsOpenAt};
-ghost use Rattle.law_model.specs.rows.Rows.{first_open};
 ghost use Rattle.walk_engine.specs.walk_parts.Ringed.{Ringed, ring_of, Has, popped_cells, IsNext, IsPopped, popped_until};
 ghost use Rattle.walk_engine.specs.walk_parts.Ringed.{leaves_open, with_sign, count_of, is_at};
 
 use member_cells::{Container, HeldContainer, blank_boxes};
-use member_path::failure_window::{Window, Windows};
-use member_path::path_delay::{CarrySign, LineCore};
 use member_path::cell_numbers::{CellRef, CellSign};
+use member_path::failure_window::{Window, Windows};
+use member_path::path_delay::LineCore;
 use member_rows::realign_rows::{RowAnswer, RowGather};
 use std::alloc::{AllocError, Global};
 use std::marker::Model;
@@ -27,8 +22,8 @@ use std::marker::Model;
 #[derive(Drop)]
 pub struct WalkLine {
     core: LineCore,
-    /// What carries gave: that of cell `y` at place `y` modulo the size of the ring.
-    signs: Vec<CarrySign>,
+    /// Which cells carries gave: cell `y` at place `y` modulo the size of the ring.
+    signs: Vec<CellSign>,
     /// The containers of those that are good, each in a box that it may come from the line and go into a row in.
     places: Vec<Box<HeldContainer>>,
     /// How many carries were made.
@@ -74,7 +69,7 @@ impl WalkLine {
         };
         Ok(WalkLine {
             core: LineCore::new(alloc, delay, windows, total)?,
-            signs: vec![in alloc; CarrySign::Nothing; usize::from(ring)]?,
+            signs: vec![in alloc; CellSign::Fail; usize::from(ring)]?,
             places: blank_boxes(alloc, usize::from(ring))?,
             carried: 0,
             given: 0,
@@ -186,8 +181,7 @@ impl WalkLine {
                 return true;
             }
             let slot = self.popped as usize % self.signs.len();
-            let sign = sign_of(self.signs[slot]);
-            rows.offer(line, sign, &mut self.places[slot]);
+            rows.offer(line, self.signs[slot], &mut self.places[slot]);
             self.popped += 1;
         }
         !waits_for(rows, line)
@@ -206,16 +200,16 @@ fn exchange(places: &mut Vec<Box<HeldContainer>>, a: usize, b: usize)
     places.swap(a, b);
 }
 
-/// Puts what a carry gave at its place, where it gave a cell. Answers how many cells it gave.
-fn keep(signs: &mut Vec<CarrySign>, slot: usize, carry: CarrySign) -> u32
+/// Puts the sign of the cell that a carry gave, if any, at its place. Answers how many cells it gave.
+fn keep(signs: &mut Vec<CellSign>, slot: usize, carry: Option<CellSign>) -> u32
     requires { slot < length signs.old.items }
     ensures signs { signs.new.items ≡ with_sign carry slot signs.old.items }
     ensures count { result ≡ count_of carry }
 {
     match carry {
-        CarrySign::Nothing => 0,
-        CarrySign::Good | CarrySign::Fail | CarrySign::End => {
-            signs[slot] = carry;
+        None => 0,
+        Some(sign) => {
+            signs[slot] = sign;
             1
         }
     }
@@ -233,25 +227,13 @@ fn waits_for(rows: &RowGather, line: u8) -> bool
     }
 }
 
-/// The cell that a carry gave, whose container lies in this place.
-fn cell_at(carry: CarrySign, place: &Container) -> CellRef<'_>
-    ensures { (cell : Cell) → carry_cells carry place.now ≡ cell ∷ [] → cell_of result ≡ cell }
+/// The cell of a sign, where its container lies in this place.
+fn cell_at(sign: CellSign, place: &Container) -> CellRef<'_>
+    ensures { cell_of result ≡ cell_with sign place.now }
 {
-    match carry {
-        CarrySign::Good => CellRef::Good(place),
-        CarrySign::End => CellRef::End,
-        CarrySign::Fail | CarrySign::Nothing => CellRef::Fail,
-    }
-}
-
-/// The sign of the cell that a carry gave.
-fn sign_of(carry: CarrySign) -> CellSign
-    ensures { (place : Container) (cell : Cell) → carry_cells carry place ≡ cell ∷ [] →
-        cell_with result place ≡ cell }
-{
-    match carry {
-        CarrySign::Good => CellSign::Good,
-        CarrySign::End => CellSign::End,
-        CarrySign::Fail | CarrySign::Nothing => CellSign::Fail,
+    match sign {
+        CellSign::Good => CellRef::Good(place),
+        CellSign::Fail => CellRef::Fail,
+        CellSign::End => CellRef::End,
     }
 }

@@ -1,7 +1,6 @@
 -- The entries of the eight octets of the word, with the register added to it.
-use Rattle.std.proofs.Common.{bit_xor, subst, sym, ap, ◌∙◌}
-use Rattle.std.specs.Int.{to_le_bytes, w64}
-use Rattle.std.specs.Prelude.{◌++◌}
+use Rattle.std.proofs.Common.{bit_xor, subst, sym, ap, ◌∙◌, w64, ◌++◌}
+use Rattle.std.specs.Int.{to_le_bytes}
 use Rattle.check_crc32.specs.Register.{RegisterStands}
 use Rattle.check_crc32.proofs.RegisterLaws.{entries_of}
 use Rattle.check_crc32.proofs.StandsLaws.{stands_word}

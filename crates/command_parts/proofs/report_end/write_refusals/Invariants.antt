@@ -1,6 +1,6 @@
 -- The lines of the refusals so far are written.
 use Rattle.std.proofs.Common.{ℕ, List, ◌++◌, take}
-use Rattle.octet_io.specs.Start.{Start}
+use Rattle.law_model.specs.Common.{Start}
 use Rattle.text_report.specs.Report.{refused_texts}
 use Rattle.text_got.specs.Told.{HasText}
 use Rattle.command_parts.proofs.report_end.write_refusals.Given as goal

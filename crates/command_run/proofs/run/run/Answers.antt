@@ -1,10 +1,9 @@
 -- A script is read, its session is run, and its report is written or a write fails.
 use Rattle.std.proofs.Common.{refl}
+use Rattle.law_model.specs.Common.{leg_of}
 use Rattle.law_model.specs.declared.script_types.Script.{Script}
-use Rattle.law_model.specs.session.Leg.{leg_of}
-use Rattle.law_walk.specs.Report.{final_report}
-use Rattle.command_parts.specs.Task.{Answer, writes, reads}
-use Rattle.command_parts.specs.Ends.{lent}
+use Rattle.law_walk.specs.Common.{final_report}
+use Rattle.command_parts.specs.Common.{Answer, writes, reads, lent}
 use Rattle.command_parts.proofs.StopLaws.{ends-stopped, ends-done, ends-cut, meets-script, stops-not-run}
 use Rattle.command_run.specs.Run.{run_answer}
 use Rattle.command_run.proofs.EndLaws.{run-all, run-got, run-cut}

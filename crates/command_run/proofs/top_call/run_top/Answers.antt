@@ -1,9 +1,8 @@
 -- What stands in a clause by the command.
 use Rattle.std.proofs.Common.{◌≡◌, Some, sym, ap, subst, rules}
-use Rattle.law_model.specs.session.Leg.{leg_of}
-use Rattle.law_walk.specs.Report.{final_report}
-use Rattle.command_parts.specs.Task.{Task, writes, writes_both}
-use Rattle.command_parts.specs.Ends.{Ends, lent}
+use Rattle.law_model.specs.Common.{leg_of}
+use Rattle.law_walk.specs.Common.{final_report}
+use Rattle.command_parts.specs.Common.{Task, writes, writes_both, Ends, lent}
 use Rattle.command_run.specs.declared.command_of_words.RunCommand.TheVariants.{Run, Watch}
 use Rattle.command_run.specs.Watch.{alarms_text}
 use Rattle.command_run.specs.Commands.{command_in, task_for}

@@ -1,12 +1,10 @@
 -- A script is read, its session is run, and its report and its alarms are written or a write fails.
 use Rattle.std.proofs.Common.{inl, inr, refl, subst}
+use Rattle.law_model.specs.Common.{leg_of, Appends, AppendsPart}
 use Rattle.law_model.specs.declared.script_types.Script.{Script}
-use Rattle.law_model.specs.session.Leg.{leg_of}
-use Rattle.octet_io.specs.Transfer.{Appends, AppendsPart}
-use Rattle.law_walk.specs.Report.{final_report}
+use Rattle.law_walk.specs.Common.{final_report}
 use Rattle.thread_alarms.specs.alarm_log.Logs.{alarms_in}
-use Rattle.command_parts.specs.Task.{Answer, writes_both, reads}
-use Rattle.command_parts.specs.Ends.{lent}
+use Rattle.command_parts.specs.Common.{Answer, writes_both, reads, lent}
 use Rattle.command_parts.proofs.StopLaws.{ends-stopped, ends-done, ends-cut, meets-script, stops-not-run}
 use Rattle.command_run.specs.Watch.{alarms_text, watch_answer}
 use Rattle.command_run.proofs.EndLaws.{run-all, run-got, run-cut}

@@ -1,7 +1,6 @@
 -- What the lines read so far say; the rest of the text is read from there.
 use Rattle.std.specs.Str.Lines.{lines}
-use Rattle.std.specs.Vec.{vec_capacity}
-use Rattle.std.proofs.Common.{◌≡◌, ◌/◌, ◌+◌, ◌*◌, ◌≤◌, length, vec_len}
+use Rattle.std.proofs.Common.{vec_capacity, ◌≡◌, ◌/◌, ◌+◌, ◌*◌, ◌≤◌, length, vec_len}
 use Rattle.text_lines.specs.Language.{said_from, said_by}
 use Rattle.command_walk.specs.commands.HexText.{hex_lines}
 use Rattle.command_walk.proofs.hex_text.read_octets.Given as goal

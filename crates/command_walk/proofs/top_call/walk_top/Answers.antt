@@ -1,8 +1,7 @@
 -- What stands in a clause by the command.
 use Rattle.std.proofs.Common.{rules, Err, refl, ap, arith}
 use Rattle.law_headline.specs.Texts.{walk_text}
-use Rattle.command_parts.specs.Task.{writes, writes_both}
-use Rattle.command_parts.specs.Ends.{lent}
+use Rattle.command_parts.specs.Common.{writes, writes_both, lent}
 use Rattle.command_walk.specs.declared.command_of_words.WalkCommand.TheVariants.{Walk, Trace, Fates, Capture, Gfp, Make, Stream}
 use Rattle.command_walk.specs.declared.command_of_words.WalkCommand.TheVariants.{Service}
 use Rattle.command_walk.specs.commands.Trace.{trace_text}

@@ -1,6 +1,5 @@
 -- What the parser says of plain words.
-use Rattle.std.proofs.Common.{◌∙◌, ap, map}
-use Rattle.std.specs.Prelude.{string_bytes}
+use Rattle.std.proofs.Common.{◌∙◌, ap, map, string_bytes}
 use Rattle.std.proofs.lemmas.Result.{IfErr-weaker, IfOk-weaker}
 use Rattle.clap.specs.Words.{App, is_simple, matches_of, takes}
 use Rattle.command_words.specs.Parser.{words_in}

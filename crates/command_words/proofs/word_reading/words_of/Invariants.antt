@@ -1,6 +1,5 @@
 -- The words so far are copied.
-use Rattle.std.proofs.Common.{◌≡◌, map, take}
-use Rattle.std.specs.Prelude.{string_bytes}
+use Rattle.std.proofs.Common.{◌≡◌, map, take, string_bytes}
 use Rattle.command_words.proofs.word_reading.words_of.Given as goal
 
 abbrev pub invariant-loop-value : goal.invariant-loop-value

@@ -1,6 +1,6 @@
 -- The frames that are got.
 use Rattle.std.proofs.Common.{◌∷◌, ◌∙◌, sym}
-use Rattle.law_model.specs.frames.Piece.{idle}
+use Rattle.law_model.specs.Common.{idle}
 use Rattle.law_loss.proofs.KeptLaws.{deliver-kept}
 use Rattle.fate_engine.proofs.FateLaws.GotLaws.{got-each, got-kept}
 use Rattle.fate_engine.proofs.FateLaws.MarkLaws.{marks-starts}

@@ -1,20 +1,10 @@
 -- Worked streams, computed.
 use Rattle.std.proofs.Common.{refl}
-use Rattle.check_hec16.specs.Hec.{hec_of}
-use Rattle.check_remainder.specs.Bits.{bits, number_behind, octets_of, xors}
-use Rattle.check_remainder.specs.Remainder.{add_front, divide}
-use Rattle.law_model.specs.frames.Core.{core_header, pli_of, head}
-use Rattle.law_model.specs.frames.Hunt.{header_with, hunt_within}
-use Rattle.law_model.specs.frames.Scramble.{scramble_on}
-use Rattle.law_model.specs.frames.Piece.{cut}
-use Rattle.law_model.specs.frames.Segment.{segments_on}
-use Rattle.law_model.specs.frames.Loss.{extents}
+use Rattle.law_model.specs.Common.{hec_of, bits, number_behind, octets_of, xors, add_front, divide, core_header, pli_of}
+use Rattle.law_model.specs.Common.{head, header_with, hunt_within, scramble_on, cut, segments_on, extents}
 use Rattle.law_loss.specs.Worked.{worked_stream, worked_rows}
-use Rattle.fate_engine.specs.fate_law.Fates.{row_from, spoiled_from, fate_among}
-use Rattle.fate_engine.specs.fate_law.Marks.{places}
-use Rattle.fate_engine.specs.fate_law.Spans.{spans_on, row_segments_with}
-use Rattle.fate_engine.specs.fate_law.Spoiled.{spoiled_runs}
-use Rattle.fate_engine.specs.fate_law.Ruler.{ruled}
+use Rattle.fate_engine.specs.Common.{row_from, spoiled_from, fate_among, places, spans_on, row_segments_with}
+use Rattle.fate_engine.specs.Common.{spoiled_runs, ruled}
 use Rattle.fate_engine.proofs.fate_law.worked_law.Goals as goal
 
 pub returns-clause-fates : goal.returns-clause-fates

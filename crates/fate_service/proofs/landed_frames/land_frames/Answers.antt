@@ -1,8 +1,8 @@
 -- A frame more is taken; and all of them.
 use Rattle.std.proofs.Common.{◌<◌, [], ◌∷◌, ◌++◌, length, ap, subst, arith}
 use Rattle.std.proofs.lemmas.List.{length-map}
-use Rattle.law_model.specs.session.Leg.{leg_of}
-use Rattle.fate_engine.specs.fate_law.SessionFates.{Ended}
+use Rattle.law_model.specs.Common.{leg_of}
+use Rattle.fate_engine.specs.Common.{Ended}
 use Rattle.fate_walks.specs.walk_fates.MadeWalk.{fates_in}
 use Rattle.fate_walks.proofs.WalkFatesLaws.LineLaws.{ended_frame}
 use Rattle.fate_service.specs.Frames.{offered_frame, AreLanded}

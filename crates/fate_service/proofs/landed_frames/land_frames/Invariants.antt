@@ -1,7 +1,7 @@
 -- The frames so far are taken.
 use Rattle.std.proofs.Common.{List, length}
-use Rattle.law_model.specs.session.Leg.{leg_of}
-use Rattle.fate_engine.specs.fate_law.SessionFates.{Ended}
+use Rattle.law_model.specs.Common.{leg_of}
+use Rattle.fate_engine.specs.Common.{Ended}
 use Rattle.fate_walks.specs.walk_frames.Landed.{frames_left}
 use Rattle.fate_service.proofs.FrameLaws.{FramesTaken}
 use Rattle.fate_service.proofs.landed_frames.land_frames.Given as goal

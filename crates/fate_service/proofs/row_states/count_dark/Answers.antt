@@ -1,6 +1,5 @@
 -- A row more is counted; and all of them.
-use Rattle.std.proofs.Common.{◌≡◌, ◌+◌, true, false, drop, slice_index_or, sym, ◌∙◌, ap, arith}
-use Rattle.std.specs.Prelude.{if◌then◌else◌}
+use Rattle.std.proofs.Common.{◌≡◌, ◌+◌, true, false, drop, slice_index_or, sym, ◌∙◌, ap, arith, if◌then◌else◌}
 use Rattle.fate_service.specs.declared.row_states.RowState.TheVariants.{Clear}
 use Rattle.fate_service.specs.RowStates.{is_dark, dark_on}
 use Rattle.fate_service.proofs.FoldLaws.{dark-next, dark-end}

@@ -1,12 +1,9 @@
 -- By where the row lies.
-use Rattle.std.proofs.Common.{◌<◌, length, sym, ◌∙◌, ap, subst, arith, IfSome}
-use Rattle.law_model.specs.frames.Segment.{octets_of_rows}
-use Rattle.law_model.specs.session.Scenario.{scenario_by}
-use Rattle.law_walk.specs.Walk.{session_of}
-use Rattle.law_walk.specs.Delivered.{session_rows}
-use Rattle.fate_engine.specs.fate_law.Fates.{spoiled_after}
+use Rattle.std.proofs.Common.{◌<◌, length, sym, ◌∙◌, ap, subst, arith, IfSome, ltb-false}
+use Rattle.law_model.specs.Common.{octets_of_rows, scenario_by}
+use Rattle.law_walk.specs.Common.{session_of, session_rows}
+use Rattle.fate_engine.specs.Common.{spoiled_after}
 use Rattle.fate_engine.proofs.FateCoreLaws.FateSteps.{rows-count}
-use Rattle.std.proofs.lemmas.Bool.{ltb-false}
 use Rattle.fate_service.specs.RowStates.{state_by_mark}
 use Rattle.fate_service.proofs.StateLaws.{state-spoiled, state-first, state-later, mark-low-if}
 use Rattle.fate_service.proofs.row_states.row_state.Goals as goal

@@ -1,9 +1,8 @@
 -- A row more.
 use Rattle.std.proofs.Common.{◌≡◌, ◌<◌, ◌∷◌, ◌++◌, [], map, ◌+◌, ◌∙◌, ap, ap₂, arith}
 use Rattle.std.specs.List.{range_with_len}
-use Rattle.law_model.specs.session.Scenario.{scenario_by}
-use Rattle.law_walk.specs.Walk.{session_of}
-use Rattle.law_walk.specs.Delivered.{session_rows}
+use Rattle.law_model.specs.Common.{scenario_by}
+use Rattle.law_walk.specs.Common.{session_of, session_rows}
 use Rattle.fate_engine.proofs.FateCoreLaws.FateSteps.{rows-count}
 use Rattle.fate_service.specs.RowStates.{state_of}
 use Rattle.fate_service.proofs.StateLaws.{range-push}

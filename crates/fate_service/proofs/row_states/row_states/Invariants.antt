@@ -1,9 +1,8 @@
 -- The rows so far.
 use Rattle.std.proofs.Common.{◌≡◌, map}
 use Rattle.std.specs.List.{range_with_len}
-use Rattle.law_model.specs.session.Leg.{Leg}
-use Rattle.law_model.specs.session.Counts.{Counts}
-use Rattle.law_walk.specs.Delivered.{session_rows}
+use Rattle.law_model.specs.Common.{Leg, Counts}
+use Rattle.law_walk.specs.Common.{session_rows}
 use Rattle.fate_walks.specs.walk_fates.MadeWalk.{SeesWalk}
 use Rattle.fate_service.specs.RowStates.{state_of}
 use Rattle.fate_service.proofs.row_states.row_states.Given as goal

@@ -1,9 +1,7 @@
 -- The row of the mark is found.
 use Rattle.std.proofs.Common.{◌<◌, length, sym, ◌∙◌, ap, subst, arith, IfSome}
-use Rattle.law_model.specs.frames.Segment.{octets_of_rows}
-use Rattle.law_model.specs.session.Scenario.{scenario_by}
-use Rattle.law_walk.specs.Walk.{session_of}
-use Rattle.law_walk.specs.Delivered.{session_rows}
+use Rattle.law_model.specs.Common.{octets_of_rows, scenario_by}
+use Rattle.law_walk.specs.Common.{session_of, session_rows}
 use Rattle.fate_service.specs.RowStates.{state_by_mark}
 use Rattle.fate_service.proofs.StateLaws.{place-reached, place-row, mark-clear, mark-hunting}
 use Rattle.fate_service.proofs.row_states.state_by_mark.Goals as goal

@@ -1,6 +1,6 @@
 -- What is found is that of the walk.
 use Rattle.std.proofs.Common.{length, ◌∙◌, ap, arith}
-use Rattle.law_model.specs.session.Leg.{leg_of}
+use Rattle.law_model.specs.Common.{leg_of}
 use Rattle.fate_walks.proofs.WalkFatesLaws.LineLaws.{within}
 use Rattle.fate_service.specs.Outages.{outages_of}
 use Rattle.fate_service.proofs.OutageLaws.{states-count}

@@ -1,12 +1,9 @@
 -- The columns are those of the walk.
 use Rattle.std.proofs.Common.{◌≡◌, ◌++◌, length, vec_len, ◌∙◌, ap, ap₂, subst, arith}
 use Rattle.text_got.specs.Told.{HasText}
+use Rattle.law_model.specs.Common.{leg_of, scenario_by, stream_before}
 use Rattle.law_model.specs.declared.session_totals.Totals.{Totals}
-use Rattle.law_model.specs.session.Leg.{leg_of}
-use Rattle.law_model.specs.session.Scenario.{scenario_by}
-use Rattle.law_model.specs.source.Client.{stream_before}
-use Rattle.law_walk.specs.Walk.{session_of}
-use Rattle.law_walk.specs.Delivered.{session_rows}
+use Rattle.law_walk.specs.Common.{session_of, session_rows}
 use Rattle.fate_walks.proofs.WalkFatesLaws.LineLaws.{starts-are}
 use Rattle.fate_service.specs.ServiceText.{ends_of, last_text}
 use Rattle.fate_service.proofs.TextLaws.{same-ends}

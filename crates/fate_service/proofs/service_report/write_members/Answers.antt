@@ -3,7 +3,7 @@ use Rattle.std.proofs.Common.{◌≡◌, ℕ, zero, suc, ◌+◌, ◌-◌, ◌<�
 use Rattle.std.proofs.Common.{append-nil, append_assoc}
 use Rattle.std.specs.List.{flat_map, range_with_len}
 use Rattle.text_got.specs.Told.{HasText}
-use Rattle.law_model.specs.source.Client.{width}
+use Rattle.law_model.specs.Common.{width}
 use Rattle.fate_service.specs.declared.width_run.WidthRun.{WidthRun}
 use Rattle.fate_service.specs.Members.{runs_on, runs_of}
 use Rattle.fate_service.specs.Surveyed.{next_run, run_text}

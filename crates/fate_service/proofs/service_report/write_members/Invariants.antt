@@ -1,12 +1,9 @@
 -- The runs so far are written.
 use Rattle.std.proofs.Common.{◌≡◌, ℕ, ◌-◌, ◌≤◌, List, ◌++◌, map, Option}
 use Rattle.std.specs.List.{flat_map, range_with_len}
-use Rattle.octet_io.specs.Start.{Start}
+use Rattle.law_model.specs.Common.{Start, Scenario, Told, width}
 use Rattle.text_got.specs.Told.{HasText}
-use Rattle.law_model.specs.session.Scenario.{Scenario}
-use Rattle.law_model.specs.source.Table.{Told}
-use Rattle.law_model.specs.source.Client.{width}
-use Rattle.fate_engine.specs.fate_core.Packets.{ArePackets}
+use Rattle.fate_engine.specs.Common.{ArePackets}
 use Rattle.fate_service.specs.Members.{runs_on, runs_of}
 use Rattle.fate_service.specs.ServiceText.{members_text}
 use Rattle.fate_service.proofs.service_report.write_members.Given as goal

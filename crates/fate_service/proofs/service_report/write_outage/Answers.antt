@@ -1,7 +1,7 @@
 -- The frames lie in the order of the rows that decide, and the row is governed.
 use Rattle.std.proofs.Common.{length, sym, ◌∙◌, ap, subst, arith}
 use Rattle.std.specs.List.Sorted.{IsNonDecreasingBy}
-use Rattle.law_model.specs.session.Leg.{leg_of}
+use Rattle.law_model.specs.Common.{leg_of}
 use Rattle.fate_walks.proofs.WalkFatesLaws.LineLaws.{reach}
 use Rattle.fate_service.specs.declared.landed_frames.CarriedFrame.{CarriedFrame}
 use Rattle.fate_service.proofs.CountLaws.{carried-count}

@@ -1,12 +1,9 @@
 -- The outages so far are written.
 use Rattle.std.proofs.Common.{◌≡◌, ℕ, List, ◌++◌, drop}
-use Rattle.octet_io.specs.Start.{Start}
+use Rattle.law_model.specs.Common.{Start, leg_of, scenario_by}
 use Rattle.text_got.specs.Told.{HasText}
-use Rattle.law_model.specs.session.Leg.{leg_of}
-use Rattle.law_model.specs.session.Scenario.{scenario_by}
-use Rattle.law_walk.specs.Walk.{session_of}
-use Rattle.fate_engine.specs.fate_law.Spoiled.{row_cause}
-use Rattle.fate_engine.specs.fate_law.SessionFates.{ended_of}
+use Rattle.law_walk.specs.Common.{session_of}
+use Rattle.fate_engine.specs.Common.{row_cause, ended_of}
 use Rattle.fate_service.specs.Frames.{carried_of}
 use Rattle.fate_service.specs.ServiceText.{outages_text}
 use Rattle.fate_service.proofs.service_report.write_outages.Given as goal

@@ -1,17 +1,12 @@
 -- The lines are written, or a part of them up to a write that failed.
 use Rattle.std.proofs.Common.{rules, ◌≡◌, ℕ, List, [], All, map, sym, ◌∙◌, ap, ap₂, subst, OnOk, OnErr, arith}
 use Rattle.std.specs.List.{flat_map, range_with_len}
-use Rattle.octet_io.specs.Start.{Start}
-use Rattle.octet_io.specs.Transfer.{Appends, AppendsPart}
-use Rattle.text_got.specs.Told.{HasText, name_of, start_at}
+use Rattle.law_model.specs.Common.{Start, Appends, AppendsPart, leg_of, scenario_by, width}
 use Rattle.law_model.specs.declared.script_types.Script.{Script}
 use Rattle.law_model.specs.declared.session_totals.Totals.{Totals}
-use Rattle.law_model.specs.session.Leg.{leg_of}
-use Rattle.law_model.specs.session.Scenario.{scenario_by}
-use Rattle.law_model.specs.source.Client.{width}
-use Rattle.law_walk.specs.Walk.{session_of}
-use Rattle.fate_engine.specs.fate_law.Spoiled.{row_cause}
-use Rattle.fate_engine.specs.fate_law.SessionFates.{ended_of}
+use Rattle.text_got.specs.Told.{HasText, name_of, start_at}
+use Rattle.law_walk.specs.Common.{session_of}
+use Rattle.fate_engine.specs.Common.{row_cause, ended_of}
 use Rattle.fate_walks.proofs.WalkFatesLaws.LineLaws.{within, reach}
 use Rattle.fate_service.specs.Delays.{delays_of}
 use Rattle.fate_service.specs.Frames.{carried_of}

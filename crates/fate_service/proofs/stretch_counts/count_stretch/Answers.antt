@@ -1,12 +1,10 @@
 -- Column by column.
 use Rattle.std.proofs.Common.{length, sym, ◌∙◌, ap, ap₂, subst, arith}
 use Rattle.std.specs.List.Sorted.{IsNonDecreasing, IsNonDecreasingBy}
+use Rattle.law_model.specs.Common.{leg_of, scenario_by, place_of}
 use Rattle.law_model.specs.declared.session_totals.Totals.{Totals}
-use Rattle.law_model.specs.session.Leg.{leg_of}
-use Rattle.law_model.specs.session.Scenario.{scenario_by}
-use Rattle.law_model.specs.source.Client.{place_of}
-use Rattle.law_walk.specs.Walk.{session_of}
-use Rattle.fate_engine.specs.fate_law.Ruler.{Ruler}
+use Rattle.law_walk.specs.Common.{session_of}
+use Rattle.fate_engine.specs.Common.{Ruler}
 use Rattle.fate_walks.proofs.WalkFatesLaws.LineLaws.{within, reach}
 use Rattle.fate_service.specs.declared.landed_frames.OfferedFrame.{OfferedFrame}
 use Rattle.fate_service.specs.declared.landed_frames.CarriedFrame.{CarriedFrame}

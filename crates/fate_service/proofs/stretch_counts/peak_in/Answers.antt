@@ -1,6 +1,6 @@
 -- A tick more; and all of them.
 use Rattle.std.proofs.Common.{◌≡◌, ℕ, ◌+◌, ◌-◌, sym, ◌∙◌, ap}
-use Rattle.law_model.specs.source.Client.{place_of}
+use Rattle.law_model.specs.Common.{place_of}
 use Rattle.fate_service.specs.Stretches.{queue_at, queue_in, higher, peak_on}
 use Rattle.fate_service.proofs.FoldLaws.{peak-next, peak-end}
 use Rattle.fate_service.proofs.stretch_counts.peak_in.Goals as goal

@@ -1,9 +1,7 @@
 -- The greatest queue so far.
 use Rattle.std.proofs.Common.{◌≡◌, ◌-◌, List, Option}
-use Rattle.law_model.specs.session.Scenario.{Scenario}
-use Rattle.law_model.specs.source.Table.{Told}
-use Rattle.law_model.specs.source.Client.{place_of}
-use Rattle.fate_engine.specs.fate_core.Packets.{ArePackets}
+use Rattle.law_model.specs.Common.{Scenario, Told, place_of}
+use Rattle.fate_engine.specs.Common.{ArePackets}
 use Rattle.fate_service.specs.Stretches.{queue_in, peak_on, peak_in}
 use Rattle.fate_service.proofs.stretch_counts.peak_in.Given as goal
 

@@ -1,18 +1,10 @@
 -- A worked stream, computed.
-use Rattle.std.proofs.Common.{◌≡◌, [], ◌∷◌, All, true, false, take, drop, Some, refl, subst, sym}
-use Rattle.std.specs.Prelude.{IfSome}
+use Rattle.std.proofs.Common.{◌≡◌, [], ◌∷◌, All, true, false, take, drop, Some, refl, subst, sym, IfSome}
 use Rattle.std.proofs.lemmas.List.Elements.{All-nil, All-cons}
-use Rattle.check_hec16.specs.Hec.{hec_of}
-use Rattle.check_remainder.specs.Bits.{bits, number_behind, octets_of, xors}
-use Rattle.check_remainder.specs.Remainder.{add_front, divide}
-use Rattle.law_model.specs.frames.Core.{core_header, pli_of, head}
-use Rattle.law_model.specs.frames.Hunt.{header_with, hunt_within}
-use Rattle.law_model.specs.frames.Scramble.{scramble_on}
-use Rattle.law_model.specs.frames.Piece.{cut}
-use Rattle.law_model.specs.frames.Run.{follow_within, delineate_within}
-use Rattle.law_model.specs.frames.Outcome.{outcomes_after_with}
-use Rattle.law_model.specs.frames.Segment.{Segment, segments_on, segments}
-use Rattle.law_model.specs.frames.Loss.{extents, confirmed_in, IsPlaceOfPiece, StartsTrue}
+use Rattle.law_model.specs.Common.{hec_of, bits, number_behind, octets_of, xors, add_front, divide, core_header, pli_of}
+use Rattle.law_model.specs.Common.{head, header_with, hunt_within, scramble_on, cut, follow_within, delineate_within}
+use Rattle.law_model.specs.Common.{outcomes_after_with, Segment, segments_on, segments, extents, confirmed_in}
+use Rattle.law_model.specs.Common.{IsPlaceOfPiece, StartsTrue}
 use Rattle.gfp_model.specs.linear_model.Linear.{linear_type_fault, cid_fault}
 use Rattle.gfp_model.specs.linear_model.Channels.{first_busy, with_queue}
 use Rattle.gfp_model.specs.linear_model.Stream.{idle, client, reaching, cut_rows}

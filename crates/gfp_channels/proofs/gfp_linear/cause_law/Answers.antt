@@ -1,10 +1,6 @@
 -- What each cause tells is computed.
-use Rattle.std.proofs.Common.{◌≡◌, true, length, refl}
-use Rattle.std.specs.Prelude.{nat_lt}
-use Rattle.std.proofs.lemmas.Bool.{lt-ltb}
-use Rattle.check_hec16.specs.Hec.{hec_of}
-use Rattle.check_remainder.specs.Bits.{number_behind, bits}
-use Rattle.check_remainder.specs.Remainder.{divide, add_front}
+use Rattle.std.proofs.Common.{◌≡◌, true, length, refl, nat_lt, lt-ltb}
+use Rattle.law_model.specs.Common.{hec_of, number_behind, bits, divide, add_front}
 use Rattle.gfp_model.specs.linear_model.Linear.{linear_type_fault, cid_fault}
 use Rattle.gfp_channels.proofs.gfp_linear.cause_law.Goals as goal
 

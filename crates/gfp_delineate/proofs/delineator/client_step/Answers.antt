@@ -1,9 +1,7 @@
 -- What reading a type header answers is its fault, or that it has none.
-use Rattle.std.proofs.Common.{◌≡◌, [], ◌∷◌, Option, Some, None, refl, sym, ◌∙◌, ap}
-use Rattle.std.specs.Prelude.{Result, Ok, Err, MatchOption}
+use Rattle.std.proofs.Common.{◌≡◌, [], ◌∷◌, Option, Some, None, refl, sym, ◌∙◌, ap, Result, Ok, Err, MatchOption}
+use Rattle.law_model.specs.Common.{type_fault, outcome_by}
 use Rattle.law_model.specs.declared.frame_faults.TypeFault.{TypeFault}
-use Rattle.law_model.specs.frames.TypeHeader.{type_fault}
-use Rattle.law_model.specs.frames.Outcome.{outcome_by}
 use Rattle.gfp_delineate.proofs.delineator.client_step.Goals as goal
 
 -- what the answer of reading a type header says of it

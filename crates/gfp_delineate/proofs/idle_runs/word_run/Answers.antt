@@ -1,9 +1,7 @@
 -- The words of the blocks, and those behind them.
 use Rattle.std.proofs.Common.{◌≡◌, ℕ, List, ◌+◌, ◌-◌, ◌*◌, ◌++◌, length, take, drop, sym, ap, ap₂, ◌∙◌, arith}
-use Rattle.std.proofs.Common.{length-drop}
-use Rattle.std.specs.Int.{to_le_bytes, w64}
-use Rattle.std.proofs.Math.Seq.{take-add}
-use Rattle.std.proofs.lemmas.List.{take_all}
+use Rattle.std.proofs.Common.{length-drop, w64, take-add, take_all}
+use Rattle.std.specs.Int.{to_le_bytes}
 use Rattle.gfp_delineate.proofs.Repeating.{repeated-add}
 use Rattle.gfp_delineate.proofs.idle_runs.word_run.Goals as goal
 

@@ -1,6 +1,5 @@
 -- Sixteen more idles, and at last those that are left.
-use Rattle.std.proofs.Common.{◌≡◌, ℕ, ◌+◌, ◌*◌, ◌/◌, ◌%◌, take, length, ap, ◌∙◌, subst, arith}
-use Rattle.std.proofs.lemmas.List.{length-take-le}
+use Rattle.std.proofs.Common.{◌≡◌, ℕ, ◌+◌, ◌*◌, ◌/◌, ◌%◌, take, length, ap, ◌∙◌, subst, arith, length-take-le}
 use Rattle.law_model.proofs.IdleLaws.{idles}
 use Rattle.gfp_fill.proofs.IdleLaws.{repeated, idles-sixteen, idles-rest}
 use Rattle.gfp_fill.proofs.area_sender.put_idles.Goals as goal

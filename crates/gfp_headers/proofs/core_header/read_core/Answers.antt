@@ -1,7 +1,7 @@
 -- The PLI that is read is that of the octets, so where it gives no header, none does.
 use Rattle.std.proofs.Common.{sym, ap, ◌∙◌}
 use Rattle.std.proofs.lemmas.Nat.{be_bytes_4}
-use Rattle.law_model.specs.frames.Core.{head}
+use Rattle.law_model.specs.Common.{head}
 use Rattle.law_model.proofs.CoreLaws.{head-core_header}
 use Rattle.law_model.proofs.OctetsOfHeader.{header_read, no_other, no_head}
 use Rattle.gfp_headers.proofs.core_header.read_core.Goals as goal

@@ -1,13 +1,12 @@
 -- Worked flips, by the law of flips: its premises and the frames that get through are computed.
 use Rattle.std.proofs.Common.{◌≡◌, ℕ, ◌+◌, ◌-◌, ◌*◌, ◌<◌, ◌≤◌, ◌&&◌, Bool, true, false, List, [], ◌∷◌, ◌++◌, length}
-use Rattle.std.proofs.Common.{take, drop, replicate, All, refl, arith}
-use Rattle.std.specs.Prelude.{nat_le}
-use Rattle.std.proofs.lemmas.Bool.Decides.{nat_tests}
-use Rattle.std.proofs.lemmas.List.{length-append, length-replicate}
+use Rattle.std.proofs.Common.{take, drop, replicate, All, refl, arith, nat_le, length-append, leb-true}
+use Rattle.std.proofs.lemmas.List.{length-replicate}
 use Rattle.std.proofs.lemmas.List.Elements.{All-replicate}
-use Rattle.check_remainder.specs.Count.{count}
-use Rattle.gfp_noise.specs.flip_law.Flipped.{fcs_stream, IsFrame, area_flips, flips_after, window, AreFew, clear, worked_frames}
-use Rattle.gfp_noise.specs.flip_law.Flipped.{one_flip}
+use Rattle.std.proofs.lemmas.Bool.{and_parts}
+use Rattle.law_model.specs.Common.{count}
+use Rattle.gfp_noise.specs.flip_law.Flipped.{fcs_stream, IsFrame, area_flips, flips_after, window, AreFew, clear}
+use Rattle.gfp_noise.specs.flip_law.Flipped.{worked_frames, one_flip}
 use Rattle.gfp_noise.proofs.FlipLaws.StreamLaws.{sizes, length-fcs_stream, delivered-clear}
 use Rattle.gfp_noise.proofs.flip_law.worked_law.Goals as goal
 
@@ -18,22 +17,15 @@ are_few before flips (frame ∷ frames) =
     nat_le (count (take 32 flips)) 1 && (nat_le (count (window before (area_flips flips frame))) 1
     && are_few (before ++ area_flips flips frame) (flips_after flips frame) frames)
 
-both : (a b : Bool) → (a && b) ≡ true → (a ≡ true) × (b ≡ true)
-both true b e = (refl, e)
-both false b e = absurd cc
-
-at_most : (a b : ℕ) → nat_le a b ≡ true → a ≤ b
-at_most a b e = grind (arith, nat_tests)
-
 AreFew-tested : (before flips : List Bool) (frames : List (List ℕ)) → are_few before flips frames ≡ true
     → AreFew before flips frames
 unfolding are_few AreFew
 AreFew-tested before flips [] e = tt
 AreFew-tested before flips (frame ∷ frames) e =
-    let one = both (nat_le (count (take 32 flips)) 1) _ e in
-    let more = both (nat_le (count (window before (area_flips flips frame))) 1) _ one.1 in (
-      at_most _ 1 one.0,
-      at_most _ 1 more.0,
+    let one = and_parts (nat_le (count (take 32 flips)) 1) _ e in
+    let more = and_parts (nat_le (count (window before (area_flips flips frame))) 1) _ one.1 in (
+      leb-true _ 1 one.0,
+      leb-true _ 1 more.0,
       AreFew-tested (before ++ area_flips flips frame)
           (flips_after flips frame) frames more.1,
     )

@@ -1,10 +1,6 @@
 -- What each cause tells is computed.
-use Rattle.std.proofs.Common.{◌≡◌, true, length, refl}
-use Rattle.std.specs.Prelude.{nat_lt}
-use Rattle.std.proofs.lemmas.Bool.{lt-ltb}
-use Rattle.check_hec16.specs.Hec.{hec_of}
-use Rattle.check_remainder.specs.Bits.{number_behind, bits, octets_of, xors}
-use Rattle.check_remainder.specs.Remainder.{divide, add_front}
+use Rattle.std.proofs.Common.{◌≡◌, true, length, refl, nat_lt, lt-ltb}
+use Rattle.law_model.specs.Common.{hec_of, number_behind, bits, octets_of, xors, divide, add_front}
 use Rattle.check_crc32.specs.Crc32.{rest_of, check_bits}
 use Rattle.gfp_model.specs.fcs_model.Fcs.{fcs_type_fault}
 use Rattle.gfp_noise.proofs.gfp_fcs.cause_law.Goals as goal

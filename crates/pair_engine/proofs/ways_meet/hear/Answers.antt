@@ -1,7 +1,7 @@
 -- What is read is the session's return cell; the first packets tell none.
 use Rattle.std.proofs.Common.{arith}
 use Rattle.law_model.specs.session.Scenario.{packets_in}
-use Rattle.law_pair.specs.Pair.{way_of}
+use Rattle.law_pair.specs.Common.{way_of}
 use Rattle.pair_engine.proofs.TakeLaws.{put-room, hears-late, hears-early}
 use Rattle.pair_engine.proofs.ways_meet.hear.Goals as goal
 

@@ -1,7 +1,7 @@
 -- All rows are taken, or the next one waits, or it is taken, and maybe heard.
 use Rattle.std.proofs.Common.{◌≡◌, ◌<◌, List, [], ◌∷◌, ◌++◌, sym, ◌∙◌, ap, subst, arith}
+use Rattle.law_model.specs.Common.{Counts}
 use Rattle.law_model.specs.declared.control_packet.Packet.{Packet}
-use Rattle.law_model.specs.session.Counts.{Counts}
 use Rattle.walk_engine.specs.declared.walk_core.step_answers.Moved.TheVariants.{Yes}
 use Rattle.pair_engine.specs.Said.{Said}
 use Rattle.pair_engine.specs.Steps.{TakesRow}

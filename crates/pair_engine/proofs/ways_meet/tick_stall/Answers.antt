@@ -1,6 +1,6 @@
 -- The causes, one after another.
 use Rattle.std.proofs.Common.{sym, ◌∙◌, ap, ap₂}
-use Rattle.law_pair.specs.PairCounts.{first_way, missing_at}
+use Rattle.law_pair.specs.Common.{first_way, missing_at}
 use Rattle.pair_engine.specs.declared.pair_way.PairWay.{PairWay}
 use Rattle.pair_engine.specs.Ways.{way_counts}
 use Rattle.pair_engine.proofs.CauseLaws.{cause-here, cause-later}

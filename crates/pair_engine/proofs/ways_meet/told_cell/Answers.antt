@@ -1,9 +1,8 @@
 -- What is sent of a packet is read back.
 use Rattle.std.proofs.Common.{◌∙◌, ap, arith}
 use Rattle.member_cells.specs.declared.containers_and_cells.BackCell.TheVariants.{Packet as Nibbles}
+use Rattle.law_model.specs.Common.{IsPacket, told_in}
 use Rattle.law_model.specs.declared.control_packet.Packet.{Packet}
-use Rattle.law_model.specs.packets.Packet.{IsPacket}
-use Rattle.law_model.specs.packets.Told.{told_in}
 use Rattle.law_row.proofs.ReturnLaws.{told_in-nibbles}
 use Rattle.pair_engine.proofs.ways_meet.told_cell.Goals as goal
 

@@ -1,7 +1,7 @@
 -- What follows the lines of frames is written.
 use Rattle.std.proofs.Common.{◌∙◌}
-use Rattle.law_walk.specs.Report.{report_of}
-use Rattle.law_pair.specs.PairCounts.{counts_on}
+use Rattle.law_walk.specs.Common.{report_of}
+use Rattle.law_pair.specs.Common.{counts_on}
 use Rattle.pair_engine.specs.Moved.{leg_on}
 use Rattle.pair_walk.proofs.EndLaws.{rest-lines}
 use Rattle.pair_walk.proofs.pair_report.end_way.Goals as goal

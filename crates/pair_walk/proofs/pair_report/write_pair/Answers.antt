@@ -1,13 +1,12 @@
 -- All is written, or a part up to the first write that fails.
 use Rattle.std.proofs.Common.{rules, refl, sym, ◌∙◌, subst, inl, inr, false, not, OnOk, OnErr}
 use Rattle.std.proofs.lemmas.Result.{on_ok_weaker, on_err_weaker}
-use Rattle.octet_io.specs.Transfer.{Appends, AppendsPart}
+use Rattle.law_model.specs.Common.{Appends, AppendsPart}
 use Rattle.text_got.specs.Told.{AppendsSome, GivesUp, has_failed}
-use Rattle.law_walk.specs.Report.{report_of}
-use Rattle.command_parts.specs.Ends.{lent, WritesAll, WritesPart}
-use Rattle.command_parts.specs.Task.{writes_both}
+use Rattle.law_walk.specs.Common.{report_of}
+use Rattle.command_parts.specs.Common.{lent, WritesAll, WritesPart, writes_both}
+use Rattle.law_pair.specs.Common.{counts_on}
 use Rattle.law_pair.specs.declared.pair_events.Way.TheVariants.{There, Back}
-use Rattle.law_pair.specs.PairCounts.{counts_on}
 use Rattle.pair_engine.specs.Moved.{leg_on}
 use Rattle.pair_walk.specs.Text.{way_text}
 use Rattle.pair_walk.proofs.EndLaws.{appends-all, begun-few, ended-there, ended-back, same-name, way-lines}

@@ -1,8 +1,8 @@
 -- The row of the way there, and that of the way back where no write has failed.
 use Rattle.std.proofs.Common.{refl, ◌∙◌, ap}
+use Rattle.law_pair.specs.Common.{PairPlan, pair_step}
 use Rattle.law_pair.specs.declared.pair_events.Way.TheVariants.{There, Back}
 use Rattle.law_pair.specs.declared.pair_events.PairEvent.TheVariants.{Take}
-use Rattle.law_pair.specs.PairCounts.{PairPlan, pair_step}
 use Rattle.pair_engine.specs.Moved.{Paired, plan_of, with_counts}
 use Rattle.pair_engine.proofs.RoundLaws.{keeps, same-plan, round-rows}
 use Rattle.pair_walk.proofs.RoundLaws.{few-same, few-take, more-take, same-more, more-then, there-still, back-still}

@@ -1,8 +1,7 @@
 -- A round more, or all rows are taken, or a write has failed.
 use Rattle.std.proofs.Common.{refl, sym, ◌∙◌, ap, subst, arith}
+use Rattle.law_pair.specs.Common.{IsPair, PairPlan, is_over, pair_bound}
 use Rattle.law_pair.specs.declared.pair_events.Way.TheVariants.{There, Back}
-use Rattle.law_pair.specs.Pair.{IsPair}
-use Rattle.law_pair.specs.PairCounts.{PairPlan, is_over, pair_bound}
 use Rattle.law_pair.proofs.PairEndLaws.{pair-stops}
 use Rattle.pair_engine.specs.Moved.{Paired, leg_on, plan_of, with_counts}
 use Rattle.pair_engine.proofs.RoundLaws.{keeps, same-plan, round-more, gives-more}

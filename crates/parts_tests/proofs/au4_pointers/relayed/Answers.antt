@@ -1,6 +1,6 @@
 -- Nothing was sent yet.
 use Rattle.std.proofs.Common.{[], arith}
-use Rattle.octet_io.specs.Start.{Start}
+use Rattle.law_model.specs.Common.{Start}
 use Rattle.member_au4.proofs.Au4PointerLaws.LinkSteps.{first-carries}
 use Rattle.parts_tests.proofs.au4_pointers.relayed.Goals as goal
 

@@ -1,11 +1,8 @@
 -- The refusal is inserted at its place.
 use Rattle.std.proofs.Common.{◌≡◌, ℕ, List, [], ◌∷◌, take, drop, if◌then◌else◌, Bool, true, sym, ◌∙◌, ap, subst}
-use Rattle.std.proofs.Common.{append_assoc, rules}
-use Rattle.std.specs.Result.{is_ok}
-use Rattle.std.specs.List.{insert}
-use Rattle.std.proofs.lemmas.List.{take-append-drop}
+use Rattle.std.proofs.Common.{append_assoc, rules, is_ok, insert, take-append-drop}
 use Rattle.law_model.specs.declared.item_refusals.Refusal.{Refusal}
-use Rattle.law_walk.specs.Landed.{IsPlaced}
+use Rattle.law_walk.specs.Common.{IsPlaced}
 use Rattle.terminal_group.specs.Landed.{AreBefore, AreAfter}
 use Rattle.terminal_group.proofs.landed_items.refuse.Goals as goal
 

@@ -1,8 +1,7 @@
 -- The bits so far, with the statuses that are left behind them, are the octet.
 use Rattle.std.proofs.Common.{◌≡◌, ◌+◌, ◌-◌, ◌<◌, ◌^◌, map, not}
 use Rattle.std.specs.List.{range_with_len}
-use Rattle.check_remainder.specs.Bits.{number_behind}
-use Rattle.law_model.specs.packets.ReturnPacket.{status_of, mst_of}
+use Rattle.law_model.specs.Common.{number_behind, status_of, mst_of}
 use Rattle.terminal_sink.proofs.lcas_sink.member_status.Given as goal
 
 abbrev pub invariant-loop-place : goal.invariant-loop-place

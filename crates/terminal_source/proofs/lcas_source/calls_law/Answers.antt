@@ -1,7 +1,8 @@
 -- A list with one call more is one more step of the fold over it.
 use Rattle.std.proofs.Common.{[], ◌∷◌}
-use Rattle.law_model.specs.source.Course.{begun, called}
-use Rattle.terminal_source.proofs.LcasSourceLaws.SessionLaws.{fold-append}
+use Rattle.std.proofs.lemmas.List.Sums.{fold-append}
+use Rattle.law_model.specs.source.Course.{begun}
+use Rattle.law_model.specs.Common.{called}
 use Rattle.terminal_source.proofs.lcas_source.calls_law.Goals as goal
 
 pub returns : goal.returns

@@ -1,9 +1,6 @@
 -- PLI and its check have four octets; the rest is computed.
 use Rattle.std.proofs.Common.{refl, length}
-use Rattle.check_remainder.specs.Bits.{bits, number_behind}
-use Rattle.check_remainder.specs.Remainder.{add_front, divide}
-use Rattle.check_hec16.specs.Hec.{hec_of}
-use Rattle.law_model.specs.frames.Piece.{client, area_of}
+use Rattle.law_model.specs.Common.{bits, number_behind, add_front, divide, hec_of, client, area_of}
 use Rattle.text_captures.proofs.CaptureFileLaws.GfpLaws.{pattern-on}
 use Rattle.text_captures.proofs.capture_file.gfp_law.Goals as goal
 

@@ -1,6 +1,5 @@
 -- The octets that were decoded stand after those before.
-use Rattle.std.proofs.Common.{◌≡◌, ◌+◌, ◌-◌, ◌/◌, ◌++◌, length, take, replicate, sym, ap, ◌∙◌, arith}
-use Rattle.std.proofs.lemmas.List.{take_all}
+use Rattle.std.proofs.Common.{◌≡◌, ◌+◌, ◌-◌, ◌/◌, ◌++◌, length, take, replicate, sym, ap, ◌∙◌, arith, take_all}
 use Rattle.text_hex.proofs.TextSteps.{written_after}
 use Rattle.text_hex.proofs.decoding.decode_into.Goals as goal
 

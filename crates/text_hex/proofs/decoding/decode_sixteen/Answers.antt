@@ -1,6 +1,5 @@
 -- The octets of sixteen pairs, or a character that is no digit.
-use Rattle.std.proofs.Common.{◌≡◌, inl, inr, ℕ, ◌+◌, ◌*◌, ◌/◌, ◌%◌, ◌<◌, List, slice_index, Some}
-use Rattle.std.proofs.Common.{sym, ap, ◌∙◌, arith}
+use Rattle.std.proofs.Common.{◌≡◌, inl, inr, ℕ, ◌+◌, ◌*◌, ◌/◌, ◌%◌, ◌<◌, List, slice_index, Some, sym, ap, ◌∙◌, arith}
 use Rattle.std.proofs.lemmas.Simd.{put_chunk_whole}
 use Rattle.hex.specs.Hex.{hex_digit_value, is_hex_digit}
 use Rattle.text_hex.proofs.LaneLaws.{digit_from, other_from}

@@ -1,6 +1,5 @@
 -- The digits of a table, by place.
-use Rattle.std.proofs.Common.{◌≡◌, ℕ, ◌+◌, ◌*◌, ◌/◌, ◌<◌, List, slice_index, refl, ◌∙◌, ap, arith}
-use Rattle.std.specs.Int.{w8}
+use Rattle.std.proofs.Common.{◌≡◌, ℕ, ◌+◌, ◌*◌, ◌/◌, ◌<◌, List, slice_index, refl, ◌∙◌, ap, arith, w8}
 use Rattle.std.proofs.lemmas.Bool.{lt-leb}
 use Rattle.std.proofs.lemmas.Simd.{SwzOk-from_below, Each1-from_get_or, get_or-swz_l, length-swz_l}
 use Rattle.hex.specs.Hex.{lower_digits}

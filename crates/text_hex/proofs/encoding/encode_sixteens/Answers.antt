@@ -1,8 +1,6 @@
 -- Sixteen octets more are written.
 use Rattle.std.proofs.Common.{◌≡◌, ℕ, ◌+◌, ◌-◌, ◌*◌, List, ◌++◌, length, take, drop, refl, sym, ◌∙◌, ap, ap₂, arith}
-use Rattle.std.proofs.Common.{length-take, length-drop}
-use Rattle.std.proofs.Math.Seq.{take-add}
-use Rattle.std.proofs.lemmas.List.{take_all}
+use Rattle.std.proofs.Common.{length-take, length-drop, take-add, take_all}
 use Rattle.std.proofs.lemmas.Slice.{take-put_mid}
 use Rattle.hex.specs.Hex.{encode_with, encode_lower, lower_digits}
 use Rattle.text_hex.proofs.SixteenLaws.{encode-append}

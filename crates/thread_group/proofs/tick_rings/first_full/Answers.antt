@@ -2,10 +2,9 @@
 use Rattle.std.proofs.Common.{◌≡◌, ◌<◌, length, slice_get, slice_set, inl, inr, refl, sym, ◌∙◌, ap, subst, arith}
 use Rattle.std.proofs.lemmas.Bool.{cases_eq}
 use Rattle.std.proofs.lemmas.Option.{slice_get_read, slice_get_within}
-use Rattle.member_cells.specs.declared.containers_and_cells.Container.{Container}
+use Rattle.law_model.specs.Common.{Container}
 use Rattle.member_rows.proofs.RealignRowsLaws.GatherLaws.{set-here, set-other}
-use Rattle.thread_rings.specs.Ends.{OutEnd}
-use Rattle.thread_rings.specs.Ends.{out_free}
+use Rattle.thread_rings.specs.Ends.{OutEnd, out_free}
 use Rattle.thread_group.proofs.RingLaws.{set-there, has-looked, looked-set}
 use Rattle.thread_group.proofs.tick_rings.first_full.Goals as goal
 

@@ -1,8 +1,7 @@
 -- A slot of each line so far is free, and the others are as they were.
 use Rattle.std.proofs.Common.{◌≡◌, ℕ, ◌<◌, ◌≤◌, slice_get, Some}
-use Rattle.member_cells.specs.declared.containers_and_cells.Container.{Container}
-use Rattle.thread_rings.specs.Ends.{OutEnd}
-use Rattle.thread_rings.specs.Ends.{out_free}
+use Rattle.law_model.specs.Common.{Container}
+use Rattle.thread_rings.specs.Ends.{OutEnd, out_free}
 use Rattle.thread_group.specs.Rings.{HaveLooked}
 use Rattle.thread_group.proofs.tick_rings.first_full.Given as goal
 

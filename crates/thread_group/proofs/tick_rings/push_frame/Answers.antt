@@ -1,15 +1,13 @@
 -- One more line was pushed its container, and the place of that in the frame has another box.
 use Rattle.std.proofs.Common.{◌≡◌, [], ◌∷◌, ◌++◌, length, slice_get, slice_set, Some, inl, inr, refl, sym, ◌∙◌, ap}
-use Rattle.std.proofs.Common.{subst, arith}
+use Rattle.std.proofs.Common.{subst, arith, option_map, length-set}
 use Rattle.std.proofs.lemmas.Bool.{cases_eq}
 use Rattle.std.proofs.lemmas.Option.{slice_get_read, slice_get_within, slice_get-map}
-use Rattle.std.specs.Option.{option_map}
 use Rattle.std.specs.Global.{Box}
-use Rattle.member_cells.specs.declared.containers_and_cells.Container.{Container}
+use Rattle.law_model.specs.Common.{Container}
 use Rattle.member_cells.specs.Held.{held}
-use Rattle.member_rows.proofs.RealignRowsLaws.GatherLaws.{set-here, set-other, length-slice_set}
-use Rattle.thread_rings.specs.Ends.{OutEnd}
-use Rattle.thread_rings.specs.Ends.{out_passed}
+use Rattle.member_rows.proofs.RealignRowsLaws.GatherLaws.{set-here, set-other}
+use Rattle.thread_rings.specs.Ends.{OutEnd, out_passed}
 use Rattle.thread_group.specs.Rings.{IsPushed}
 use Rattle.thread_group.proofs.tick_rings.push_frame.Goals as goal
 
@@ -24,8 +22,8 @@ loop-m-preserved c =
     c.index_mut-in-loop-m.ensures.value in
     let e = c.push_place.ensures in
     record {
-      count = length-slice_set i.tx.items i.m is ∙ i.invariant.count;
-      places = length-slice_set i.frame.items i.m c.push_place.new.place ∙ i.invariant.places;
+      count = length-set i.tx.items i.m is ∙ i.invariant.count;
+      places = length-set i.frame.items i.m c.push_place.new.place ∙ i.invariant.places;
       boxes = λ k low. set-other i.frame.items i.m k c.push_place.new.place
           (λ (same : k ≡ i.m). let h : ⊥ = omega arith in h) ∙ i.invariant.boxes k (omega arith);
       each = λ k container old new low frame here there. elim (cases_eq k i.m) [

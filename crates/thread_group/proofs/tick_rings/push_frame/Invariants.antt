@@ -1,6 +1,6 @@
 -- The lines so far were pushed their containers, and the others are as they were.
 use Rattle.std.proofs.Common.{◌≡◌, ℕ, ◌<◌, ◌≤◌, length, slice_get, Some}
-use Rattle.member_cells.specs.declared.containers_and_cells.Container.{Container}
+use Rattle.law_model.specs.Common.{Container}
 use Rattle.member_cells.specs.Held.{held}
 use Rattle.thread_rings.specs.Ends.{OutEnd}
 use Rattle.thread_group.specs.Rings.{IsPushed}

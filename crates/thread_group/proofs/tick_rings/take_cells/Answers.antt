@@ -2,13 +2,10 @@
 use Rattle.std.proofs.Common.{◌≡◌, ◌+◌, ◌<◌, List, [], ◌∷◌, ◌++◌, length, inl, inr, refl, sym, ◌∙◌, ap, subst, arith}
 use Rattle.std.proofs.Common.{append_assoc}
 use Rattle.std.proofs.lemmas.List.{length_push}
-use Rattle.octet_io.specs.Faults.{one_more}
-use Rattle.member_cells.specs.declared.containers_and_cells.BackCell.{BackCell}
-use Rattle.thread_rings.specs.Ends.{InEnd}
-use Rattle.thread_rings.specs.Ends.{in_passed, SameIn}
+use Rattle.law_model.specs.Common.{one_more, BackCell}
+use Rattle.thread_rings.specs.Ends.{InEnd, in_passed, SameIn}
 use Rattle.thread_rings.proofs.EndLaws.{in-then}
-use Rattle.terminal_group.specs.Inbox.{is_lost_in}
-use Rattle.terminal_group.specs.Inbox.{Inbox, come_by, with_come, HasCome}
+use Rattle.terminal_group.specs.Inbox.{is_lost_in, Inbox, come_by, with_come, HasCome}
 use Rattle.terminal_group.specs.Source.{Source}
 use Rattle.thread_group.specs.Rings.{HasMoved}
 use Rattle.terminal_group.proofs.CellLaws.{come-put}

@@ -1,10 +1,9 @@
 -- Cell by cell.
-use Rattle.std.proofs.Common.{◌≡◌, ℕ, Bool, true, false, [], ◌∷◌, not, refl, sym, ◌∙◌, ap}
+use Rattle.std.proofs.Common.{◌≡◌, ℕ, Option, Bool, true, false, [], ◌∷◌, not, refl, sym, ◌∙◌, ap}
 use Rattle.std.specs.Bool.{then_some}
-use Rattle.member_cells.specs.declared.containers_and_cells.Container.{Container}
-use Rattle.member_cells.specs.declared.containers_and_cells.Cell.TheVariants.{Good, Fail}
+use Rattle.law_model.specs.Common.{Container, Good, Fail}
 use Rattle.member_path.specs.path_delay.Carry.{carry_cells}
-use Rattle.member_path.specs.declared.path_delay.carry_sign.CarrySign.{CarrySign}
+use Rattle.member_path.specs.declared.cell_numbers.signs_and_verdicts.CellSign.{CellSign}
 use Rattle.thread_rings.specs.declared.alarm_kinds.AlarmKind.TheVariants.{Fails, Returns}
 use Rattle.thread_rings.specs.Alarms.{alarms_from, alarm_if}
 use Rattle.thread_rings.proofs.raised_alarms.says.Goals as goal
@@ -20,14 +19,14 @@ unfolding alarms_from
 fail-says m i true = refl
 fail-says m i false = refl
 
-of-carry : (m i : ℕ) (failed : Bool) (container : Container) (carry known : CarrySign) → carry ≡ known →
+of-carry : (m i : ℕ) (failed : Bool) (container : Container) (carry known : Option CellSign) → carry ≡ known →
     alarms_from m i failed (carry_cells carry container) ≡ alarms_from m i failed (carry_cells known container)
 of-carry m i failed container carry known is =
-    ap (λ (one : CarrySign). alarms_from m i failed (carry_cells one container)) is
+    ap (λ (one : Option CellSign). alarms_from m i failed (carry_cells one container)) is
 
-pub returns-in-Nothing : goal.returns-in-Nothing
+pub returns-in-None : goal.returns-in-None
 unfolding alarms_from
-returns-in-Nothing c m i container = of-carry m i c.args.failed container _ _ c.in-Nothing.is
+returns-in-None c m i container = of-carry m i c.args.failed container _ _ c.in-None.is
 
 pub returns-in-Good : goal.returns-in-Good
 returns-in-Good c m i container = of-carry m i c.args.failed container _ _ c.in-Good.is

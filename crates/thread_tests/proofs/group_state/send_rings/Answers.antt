@@ -1,18 +1,13 @@
 -- One more end through which nothing has passed.
-use Rattle.std.proofs.Common.{rules, ◌≡◌, zero, suc, ◌+◌, List, [], ◌∷◌, ◌++◌, length, Some, sym, subst}
-use Rattle.std.proofs.Common.{arith}
-use Rattle.std.proofs.lemmas.List.{length-append}
-use Rattle.thread_rings.specs.Ends.{OutEnd}
-use Rattle.thread_rings.specs.Ends.{out_passed}
+use Rattle.std.proofs.Common.{rules, ◌≡◌, zero, suc, ◌+◌, List, [], ◌∷◌, ◌++◌, length, sym, subst, arith, length-append}
+use Rattle.std.proofs.lemmas.Option.{same_Some}
+use Rattle.thread_rings.specs.Ends.{OutEnd, out_passed}
 use Rattle.thread_group.specs.Rings.{AreUnused}
 use Rattle.thread_tests.proofs.group_state.send_rings.Goals as goal
 
-same-some : {X : Type 0} (x y : X) → Some x ≡ Some y → x ≡ y
-same-some x y e = cc
-
 unused-more : {T : Type 0} (ends : List (OutEnd T)) (end : OutEnd T) → AreUnused ends → out_passed end ≡ [] →
     AreUnused (ends ++ end ∷ [])
-unused-more [] end none fresh zero out is = subst (λ o. out_passed o ≡ []) (same-some end out is) fresh
+unused-more [] end none fresh zero out is = subst (λ o. out_passed o ≡ []) (same_Some end out is) fresh
 unused-more [] end none fresh (suc m) out is = absurd cc
 unused-more (first ∷ ends) end none fresh zero out is = none zero out is
 unused-more (first ∷ ends) end none fresh (suc m) out is = unused-more ends end (λ k. none (suc k)) fresh m out is

@@ -1,7 +1,7 @@
 -- A line of a valid script has a path.
 use Rattle.std.proofs.Common.{◌<◌, length, ◌∙◌, arith}
-use Rattle.law_model.specs.session.Leg.{leg_of}
-use Rattle.law_walk.specs.Walk.{walk_plan}
+use Rattle.law_model.specs.Common.{leg_of}
+use Rattle.law_walk.specs.Common.{walk_plan}
 use Rattle.law_walk.proofs.PlanLaws.{has-paths, sound-walks}
 use Rattle.thread_tests.proofs.walk_events.make.Goals as goal
 

@@ -1,6 +1,6 @@
 -- The script stays valid, and has as many lines.
 use Rattle.std.proofs.Common.{◌≡◌}
-use Rattle.law_model.specs.session.Valid.{IsValid}
+use Rattle.law_model.specs.Common.{IsValid}
 use Rattle.thread_tests.proofs.walk_events.makes.Given as goal
 
 abbrev pub invariant-loop-event : goal.invariant-loop-event

@@ -1,7 +1,7 @@
 -- What the reader of scripts says at the end, in the words of any reader.
 use Rattle.std.proofs.Common.{◌∙◌, ap, inl, inr}
 use Rattle.text_scripts.specs.script_read.Script.{script_of}
-use Rattle.command_parts.specs.Scripts.{told_of}
+use Rattle.command_parts.specs.Common.{told_of}
 use Rattle.command_parts.proofs.ScriptLaws.{room_for}
 use Rattle.command_parts.proofs.StopLaws.{stops_script}
 use Rattle.command_parts.proofs.script_pieces.ScriptReaderPieceReader.read_end.Goals as goal

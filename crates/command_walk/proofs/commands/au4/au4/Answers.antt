@@ -1,10 +1,8 @@
 -- The input is read, and says a link or doesn't.
 use Rattle.std.proofs.Common.{refl, sym, ap, ◌∙◌}
+use Rattle.command_parts.specs.Common.{writes, reads, lent, line_text}
 use Rattle.command_parts.specs.declared.stop_and_status.Refusal.TheVariants.{Line}
 use Rattle.command_parts.specs.declared.stop_and_status.Stop.TheVariants.{Refused}
-use Rattle.command_parts.specs.Task.{writes, reads}
-use Rattle.command_parts.specs.Ends.{lent}
-use Rattle.command_parts.specs.Faults.{line_text}
 use Rattle.command_parts.proofs.StopLaws.{ends-stopped, ends-done, ends-cut, refused-line}
 use Rattle.member_au4.specs.au4_link.Helps.{kind_of, help_of}
 use Rattle.member_au4.specs.au4_link.Text.{link_text}

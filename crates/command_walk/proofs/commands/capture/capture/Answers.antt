@@ -1,8 +1,7 @@
 -- A script is read, its walk is made, and the capture is written or a write fails.
 use Rattle.std.proofs.Common.{refl}
 use Rattle.law_model.specs.declared.script_types.Script.{Script}
-use Rattle.command_parts.specs.Task.{Answer, writes, reads}
-use Rattle.command_parts.specs.Ends.{lent}
+use Rattle.command_parts.specs.Common.{Answer, writes, reads, lent}
 use Rattle.command_parts.proofs.StopLaws.{ends-stopped, ends-done, ends-cut, meets-script, stops-not-run}
 use Rattle.command_walk.specs.commands.Capture.{capture_octets, capture_answer}
 use Rattle.command_walk.proofs.RoomLaws.{hands-script}

@@ -1,16 +1,13 @@
 -- One event line more.
-use Rattle.std.proofs.Common.{◌≡◌, take, length, get_or, refl, sym, ◌∙◌, ap, subst}
-use Rattle.std.proofs.lemmas.Bool.{eqb-true}
-use Rattle.std.proofs.lemmas.List.{take_all}
+use Rattle.std.proofs.Common.{◌≡◌, take, length, get_or, refl, sym, ◌∙◌, ap, subst, eqb-true, take_all}
+use Rattle.std.proofs.lemmas.Option.{slice_get-get_or}
+use Rattle.law_model.specs.Common.{leg_of, Counts, begin, run_line, run_lines, walked, drain, bound}
 use Rattle.law_model.specs.declared.script_types.EventLine.{EventLine}
 use Rattle.law_model.specs.declared.script_types.EventLine.TheVariants.{Client}
 use Rattle.law_model.specs.declared.script_types.Script.{Script}
-use Rattle.law_model.specs.session.Leg.{leg_of}
-use Rattle.law_model.specs.session.Counts.{Counts, begin, run_line, run_lines, walked, drain, bound}
-use Rattle.law_walk.specs.Walk.{walk_plan, IsWalked}
+use Rattle.law_walk.specs.Common.{walk_plan, IsWalked}
 use Rattle.law_walk.proofs.WalkLaws.{begins-walked}
 use Rattle.command_walk.proofs.CountLaws.{lines-last, lines-some, lines-no}
-use Rattle.command_walk.proofs.CountLaws.{there}
 use Rattle.command_walk.proofs.TraceLaws.{lines-start, lines-walked, some-lines}
 use Rattle.command_walk.proofs.commands.capture.capture_lines.Goals as goal
 
@@ -61,7 +58,7 @@ loop-line-preserved g c =
       counts = c.capture_line.ensures.counts
           ∙ ap (λ (s : Script). run_line (walk_plan (leg_of s)) c.loop-line.walk.counts line) inv.script
           ∙ ap (λ (s : Counts). run_line plan s line) inv.counts
-          ∙ sym (lines-last plan (begin plan) lines k line (there lines k (Client 0) c.loop-line-test.true));
+          ∙ sym (lines-last plan (begin plan) lines k line (slice_get-get_or lines k (Client 0) c.loop-line-test.true));
       taken = λ start has. c.capture_line.ensures.taken start (inv.taken start has);
     }
 

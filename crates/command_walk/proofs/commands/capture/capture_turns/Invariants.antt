@@ -1,11 +1,8 @@
 -- The turns so far are made.
-use Rattle.std.proofs.Common.{◌≡◌, List, replicate}
-use Rattle.std.specs.List.{flat_map}
+use Rattle.std.proofs.Common.{◌≡◌, List, replicate, flat_map}
+use Rattle.law_model.specs.Common.{leg_of, run, Start}
 use Rattle.law_model.specs.declared.walk_events.Event.{Event}
-use Rattle.law_model.specs.session.Leg.{leg_of}
-use Rattle.law_model.specs.session.Counts.{run}
-use Rattle.octet_io.specs.Start.{Start}
-use Rattle.law_walk.specs.Walk.{walk_plan}
+use Rattle.law_walk.specs.Common.{walk_plan}
 use Rattle.command_walk.specs.Told.{events_of}
 use Rattle.command_walk.specs.commands.Capture.{HasTaken}
 use Rattle.command_walk.proofs.commands.capture.capture_turns.Given as goal

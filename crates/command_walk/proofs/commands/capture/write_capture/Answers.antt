@@ -1,7 +1,6 @@
 -- The capture is written, or a part of it up to a write that failed.
 use Rattle.std.proofs.Common.{rules, refl, sym, ◌∙◌, ap, subst}
-use Rattle.law_model.specs.session.Counts.{Counts}
-use Rattle.octet_io.specs.Start.{Start}
+use Rattle.law_model.specs.Common.{Counts, Start}
 use Rattle.text_got.specs.Told.{start_at}
 use Rattle.law_headline.specs.Texts.{counts_in}
 use Rattle.text_captures.specs.capture_file.Out.{HasCapture, name_of}

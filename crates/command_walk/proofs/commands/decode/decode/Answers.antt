@@ -1,12 +1,10 @@
 -- The input is read, and is lines of hexadecimal digits or isn't.
 use Rattle.std.proofs.Common.{rules, refl, sym, ap, ◌∙◌}
-use Rattle.law_model.specs.packets.DecodeText.{decoded_text}
+use Rattle.law_model.specs.Common.{decoded_text}
 use Rattle.text_lines.specs.declared.field_fault.LineKind.TheVariants.{Hex}
+use Rattle.command_parts.specs.Common.{writes, reads, lent, line_text}
 use Rattle.command_parts.specs.declared.stop_and_status.Refusal.TheVariants.{Line}
 use Rattle.command_parts.specs.declared.stop_and_status.Stop.TheVariants.{Refused}
-use Rattle.command_parts.specs.Task.{writes, reads}
-use Rattle.command_parts.specs.Ends.{lent}
-use Rattle.command_parts.specs.Faults.{line_text}
 use Rattle.command_parts.proofs.StopLaws.{ends-stopped, ends-done, ends-cut, refused-line}
 use Rattle.command_walk.specs.commands.Decode.{decoded, decode_help, decode_answer}
 use Rattle.command_walk.proofs.commands.decode.decode.Goals as goal

@@ -2,10 +2,9 @@
 use Rattle.std.proofs.Common.{refl, sym, ap, ◌∙◌, drop}
 use Rattle.text_captures.specs.capture_file.Reading.{frames_of}
 use Rattle.text_captures.specs.capture_file.Texts.{frame_texts, fault_text}
+use Rattle.command_parts.specs.Common.{writes, reads, lent}
 use Rattle.command_parts.specs.declared.stop_and_status.Refusal.TheVariants.{Line}
 use Rattle.command_parts.specs.declared.stop_and_status.Stop.TheVariants.{Refused}
-use Rattle.command_parts.specs.Task.{writes, reads}
-use Rattle.command_parts.specs.Ends.{lent}
 use Rattle.command_parts.proofs.StopLaws.{ends-stopped, ends-done, ends-cut, refused-line}
 use Rattle.command_walk.specs.commands.Frames.{frames_said, frames_answer}
 use Rattle.command_walk.proofs.commands.frames.frames.Goals as goal

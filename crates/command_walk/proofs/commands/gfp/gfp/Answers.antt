@@ -1,11 +1,9 @@
 -- A script is read, its walk is made and seen, and the capture is written or a write fails.
 use Rattle.std.proofs.Common.{ℕ, List, refl, ap, subst}
-use Rattle.octet_io.specs.Transfer.{Appends, AppendsPart}
+use Rattle.law_model.specs.Common.{Appends, AppendsPart, leg_of}
 use Rattle.law_model.specs.declared.script_types.Script.{Script}
-use Rattle.law_model.specs.session.Leg.{leg_of}
 use Rattle.law_headline.specs.Texts.{counts_in}
-use Rattle.command_parts.specs.Task.{Answer, writes, reads}
-use Rattle.command_parts.specs.Ends.{lent}
+use Rattle.command_parts.specs.Common.{Answer, writes, reads, lent}
 use Rattle.command_parts.proofs.StopLaws.{ends-stopped, ends-done, ends-cut, meets-script, stops-not-run}
 use Rattle.fate_walks.specs.walk_gfp.Carried.{sent_capture}
 use Rattle.command_walk.specs.commands.Gfp.{gfp_answer}

@@ -1,11 +1,11 @@
 -- All rows are summed up.
 use Rattle.std.proofs.Common.{[], sym, ◌∙◌, ap, subst, arith}
-use Rattle.law_model.specs.session.Leg.{leg_of}
-use Rattle.law_model.specs.session.Counts.{Counts}
-use Rattle.law_walk.specs.Delivered.{delivered_of}
-use Rattle.walk_engine.specs.walk_core.Moved.{delivered_since}
+use Rattle.pair_walk.proofs.EndLaws.{since-begin}
+use Rattle.law_model.specs.Common.{leg_of, Counts}
+use Rattle.law_walk.specs.Common.{delivered_of}
+use Rattle.walk_engine.specs.Common.{delivered_since}
 use Rattle.command_walk.specs.commands.Make.{octet_count, octet_sum, HasSummed}
-use Rattle.command_walk.proofs.MakeLaws.{summed-none, since-begin, count-exact, sum-exact}
+use Rattle.command_walk.proofs.MakeLaws.{summed-none, count-exact, sum-exact}
 use Rattle.command_walk.proofs.commands.make.drain_sums.Goals as goal
 
 pub returns-clause-octets : goal.returns-clause-octets
@@ -14,7 +14,7 @@ returns-clause-octets c =
     let ticks = script.config.ticks in
     let so = subst (HasSummed c.drain.new.out.octets c.drain.new.out.total)
     (ap (λ rows. delivered_since (leg_of script) rows ticks) (ap (λ (s : Counts). s.rows) c.requires.begun)
-    ∙ since-begin script ticks)
+    ∙ since-begin (leg_of script) ticks)
     (c.drain.ensures.gives (record { octets = []; faults = 0; name = 0 }) [] summed-none) in
     count-exact script ticks c.drain.new.out.octets c.drain.new.out.total c.requires.valid (omega arith) so
     ∙ ap (λ n. octet_count (delivered_of (leg_of script) n)) (sym c.drain.ensures.all)
@@ -25,7 +25,7 @@ returns-clause-total c =
     let ticks = script.config.ticks in
     let so = subst (HasSummed c.drain.new.out.octets c.drain.new.out.total)
     (ap (λ rows. delivered_since (leg_of script) rows ticks) (ap (λ (s : Counts). s.rows) c.requires.begun)
-    ∙ since-begin script ticks)
+    ∙ since-begin (leg_of script) ticks)
     (c.drain.ensures.gives (record { octets = []; faults = 0; name = 0 }) [] summed-none) in
     sum-exact script ticks c.drain.new.out.octets c.drain.new.out.total c.requires.valid (omega arith) so
     ∙ ap (λ n. octet_sum (delivered_of (leg_of script) n)) (sym c.drain.ensures.all)

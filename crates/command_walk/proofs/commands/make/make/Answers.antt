@@ -1,12 +1,9 @@
 -- The walk of the load drains, and its lines are written or a write fails.
 use Rattle.std.proofs.Common.{ℕ, List, refl, sym, ◌∙◌, ap, subst}
-use Rattle.octet_io.specs.Transfer.{Appends, AppendsPart}
+use Rattle.law_model.specs.Common.{Appends, AppendsPart, leg_of, begin}
 use Rattle.law_model.specs.declared.script_types.Script.{Script}
-use Rattle.law_model.specs.session.Leg.{leg_of}
-use Rattle.law_model.specs.session.Counts.{begin}
-use Rattle.law_walk.specs.Walk.{walk_plan}
-use Rattle.command_parts.specs.Task.{writes, makes}
-use Rattle.command_parts.specs.Ends.{lent, no_source}
+use Rattle.law_walk.specs.Common.{walk_plan}
+use Rattle.command_parts.specs.Common.{writes, makes, lent, no_source}
 use Rattle.command_parts.proofs.StopLaws.{ends-done, ends-cut}
 use Rattle.command_walk.specs.commands.Make.{make_text, make_answer}
 use Rattle.command_walk.proofs.MakeLaws.{lines-are}

@@ -2,7 +2,7 @@
 use Rattle.std.proofs.Common.{rules, ◌+◌, ◌-◌, ◌++◌, ℕ, List, sym, subst}
 use Rattle.std.proofs.lemmas.Result.{on_ok_weaker, on_err_weaker}
 use borrow.Rule.Slice.PartMut.{put_mid}
-use Rattle.octet_io.specs.Transfer.{Appends, AppendsPart}
+use Rattle.law_model.specs.Common.{Appends, AppendsPart}
 use Rattle.text_report.specs.Report.{total_text}
 use Rattle.text_got.proofs.BlockLaws.{front_added}
 use Rattle.command_walk.specs.commands.Make.{made_text}

@@ -1,10 +1,8 @@
 -- The input is read, and says frames and flips or doesn't.
 use Rattle.std.proofs.Common.{refl, sym, ap, ◌∙◌}
+use Rattle.command_parts.specs.Common.{writes, reads, lent, line_text}
 use Rattle.command_parts.specs.declared.stop_and_status.Refusal.TheVariants.{Line}
 use Rattle.command_parts.specs.declared.stop_and_status.Stop.TheVariants.{Refused}
-use Rattle.command_parts.specs.Task.{writes, reads}
-use Rattle.command_parts.specs.Ends.{lent}
-use Rattle.command_parts.specs.Faults.{line_text}
 use Rattle.command_parts.proofs.StopLaws.{ends-stopped, ends-done, ends-cut, refused-line}
 use Rattle.gfp_noise.specs.noise_link.Helps.{kind_of, help_of}
 use Rattle.gfp_noise.specs.noise_link.Text.{noise_text}

@@ -1,11 +1,9 @@
 -- The input is read, and says two scripts that go together or doesn't.
 use Rattle.std.proofs.Common.{◌≡◌, refl, sym, ap, ap₂, ◌∙◌}
 use Rattle.law_model.specs.declared.script_types.Script.{Script}
-use Rattle.law_pair.specs.PairCounts.{pair_begin}
-use Rattle.law_pair.specs.PairWalk.{pair_plan}
+use Rattle.law_pair.specs.Common.{pair_begin, pair_plan}
+use Rattle.command_parts.specs.Common.{Answer, writes_both, reads, Lent, Meets, lent}
 use Rattle.command_parts.specs.declared.stop_and_status.Stop.TheVariants.{Memory}
-use Rattle.command_parts.specs.Task.{Answer, writes_both, reads}
-use Rattle.command_parts.specs.Ends.{Lent, Meets, lent}
 use Rattle.command_parts.proofs.StopLaws.{ends-stopped, ends-done, ends-cut}
 use Rattle.pair_script.specs.declared.script_pair.ScriptPair.{ScriptPair}
 use Rattle.pair_script.specs.Inputs.{HasPair, pair_answer_of}

@@ -1,13 +1,11 @@
 -- A script is read, its walk is made and seen, what it was worth is found, and it is written or a write fails.
 use Rattle.std.proofs.Common.{ℕ, List, refl, ap, subst}
-use Rattle.octet_io.specs.Transfer.{Appends, AppendsPart}
+use Rattle.law_model.specs.Common.{Appends, AppendsPart, leg_of}
 use Rattle.law_model.specs.declared.script_types.Script.{Script}
-use Rattle.law_model.specs.session.Leg.{leg_of}
 use Rattle.law_headline.specs.Texts.{counts_in}
 use Rattle.fate_service.specs.ServiceText.{service_text}
+use Rattle.command_parts.specs.Common.{Answer, writes, reads, lent}
 use Rattle.command_parts.specs.declared.stop_and_status.Stop.TheVariants.{Memory}
-use Rattle.command_parts.specs.Task.{Answer, writes, reads}
-use Rattle.command_parts.specs.Ends.{lent}
 use Rattle.command_parts.proofs.StopLaws.{ends-stopped, ends-done, ends-cut, meets-script, stops-not-run}
 use Rattle.command_walk.specs.commands.Service.{service_answer}
 use Rattle.command_walk.proofs.commands.service.service.Goals as goal

@@ -2,11 +2,9 @@
 use Rattle.std.proofs.Common.{refl}
 use Rattle.law_model.specs.declared.script_types.Script.{Script}
 use Rattle.law_headline.specs.Texts.{walk_text}
-use Rattle.command_walk.specs.commands.Trace.{trace_text}
-use Rattle.command_parts.specs.Task.{Answer, writes_both, reads}
-use Rattle.command_parts.specs.Ends.{lent}
+use Rattle.command_walk.specs.commands.Trace.{trace_text, trace_answer}
+use Rattle.command_parts.specs.Common.{Answer, writes_both, reads, lent}
 use Rattle.command_parts.proofs.StopLaws.{ends-stopped, ends-done, ends-cut, meets-script, stops-not-run}
-use Rattle.command_walk.specs.commands.Trace.{trace_answer}
 use Rattle.command_walk.proofs.RoomLaws.{hands-script}
 use Rattle.command_walk.proofs.commands.trace.trace.Goals as goal
 

@@ -2,8 +2,7 @@
 use Rattle.std.proofs.Common.{refl}
 use Rattle.law_model.specs.declared.script_types.Script.{Script}
 use Rattle.law_headline.specs.Texts.{walk_text}
-use Rattle.command_parts.specs.Task.{Answer, writes, reads}
-use Rattle.command_parts.specs.Ends.{lent}
+use Rattle.command_parts.specs.Common.{Answer, writes, reads, lent}
 use Rattle.command_parts.proofs.StopLaws.{ends-stopped, ends-done, ends-cut, meets-script, stops-not-run}
 use Rattle.command_walk.specs.commands.Walk.{walk_answer}
 use Rattle.command_walk.proofs.RoomLaws.{hands-script}

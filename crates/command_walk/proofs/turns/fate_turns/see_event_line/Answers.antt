@@ -1,10 +1,9 @@
 -- Turns, or a drain.
 use Rattle.std.proofs.Common.{sym, ◌∙◌, ap}
 use Rattle.std.proofs.lemmas.Result.{on_ok_weaker}
+use Rattle.law_model.specs.Common.{leg_of, run_line}
 use Rattle.law_model.specs.declared.script_types.EventLine.{EventLine}
-use Rattle.law_model.specs.session.Leg.{leg_of}
-use Rattle.law_model.specs.session.Counts.{run_line}
-use Rattle.law_walk.specs.Walk.{walk_plan}
+use Rattle.law_walk.specs.Common.{walk_plan}
 use Rattle.command_walk.proofs.TraceLaws.{paths-many}
 use Rattle.command_walk.proofs.turns.fate_turns.see_event_line.Goals as goal
 

@@ -1,8 +1,7 @@
 -- The lines so far are made and seen.
 use Rattle.std.proofs.Common.{◌≡◌, take}
-use Rattle.law_model.specs.session.Leg.{leg_of}
-use Rattle.law_model.specs.session.Counts.{begin, run_lines}
-use Rattle.law_walk.specs.Walk.{walk_plan}
+use Rattle.law_model.specs.Common.{leg_of, begin, run_lines}
+use Rattle.law_walk.specs.Common.{walk_plan}
 use Rattle.fate_walks.specs.walk_fates.Seen.{Sees}
 use Rattle.command_walk.proofs.turns.fate_turns.see_event_lines.Given as goal
 

@@ -1,12 +1,9 @@
 -- One turn more.
-use Rattle.std.proofs.Common.{◌≡◌, List, replicate, refl, sym, ◌∙◌, ap, subst, arith}
-use Rattle.std.specs.List.{flat_map}
+use Rattle.std.proofs.Common.{◌≡◌, List, replicate, refl, sym, ◌∙◌, ap, subst, arith, flat_map}
+use Rattle.law_model.specs.Common.{leg_of, Counts, run, IsValid}
 use Rattle.law_model.specs.declared.script_types.Script.{Script}
 use Rattle.law_model.specs.declared.walk_events.Event.{Event}
-use Rattle.law_model.specs.session.Leg.{leg_of}
-use Rattle.law_model.specs.session.Counts.{Counts, run}
-use Rattle.law_model.specs.session.Valid.{IsValid}
-use Rattle.law_walk.specs.Walk.{walk_plan}
+use Rattle.law_walk.specs.Common.{walk_plan}
 use Rattle.command_walk.specs.Told.{events_of, IsTurn}
 use Rattle.command_walk.proofs.TraceLaws.{turns-none, turns-last}
 use Rattle.command_walk.proofs.SeeLaws.{walked-on}

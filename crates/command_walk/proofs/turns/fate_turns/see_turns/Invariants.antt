@@ -1,10 +1,8 @@
 -- The turns so far are made and seen.
-use Rattle.std.proofs.Common.{◌≡◌, List, replicate}
-use Rattle.std.specs.List.{flat_map}
+use Rattle.std.proofs.Common.{◌≡◌, List, replicate, flat_map}
+use Rattle.law_model.specs.Common.{leg_of, run}
 use Rattle.law_model.specs.declared.walk_events.Event.{Event}
-use Rattle.law_model.specs.session.Leg.{leg_of}
-use Rattle.law_model.specs.session.Counts.{run}
-use Rattle.law_walk.specs.Walk.{walk_plan, IsWalked}
+use Rattle.law_walk.specs.Common.{walk_plan, IsWalked}
 use Rattle.command_walk.specs.Told.{events_of}
 use Rattle.fate_walks.specs.walk_fates.Seen.{Sees}
 use Rattle.command_walk.proofs.turns.fate_turns.see_turns.Given as goal

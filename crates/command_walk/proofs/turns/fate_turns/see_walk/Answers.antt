@@ -1,11 +1,9 @@
 -- The walk of a script is one of its lists of events, and what is seen of it and the places stand together.
 use Rattle.std.proofs.Common.{sym, ap, subst}
+use Rattle.law_model.specs.Common.{leg_of, Counts, IsValid}
 use Rattle.law_model.specs.declared.script_types.Script.{Script}
-use Rattle.law_model.specs.session.Leg.{leg_of}
-use Rattle.law_model.specs.session.Counts.{Counts}
-use Rattle.law_model.specs.session.Valid.{IsValid}
 use Rattle.law_headline.specs.Texts.{counts_in}
-use Rattle.law_walk.specs.Walk.{IsWalked}
+use Rattle.law_walk.specs.Common.{IsWalked}
 use Rattle.fate_walks.specs.walk_fates.Seen.{Sees}
 use Rattle.command_walk.proofs.SeeLaws.{counts-walked}
 use Rattle.command_walk.proofs.turns.fate_turns.see_walk.Goals as goal

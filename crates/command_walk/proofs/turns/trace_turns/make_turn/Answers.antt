@@ -1,8 +1,7 @@
 -- An event or a round, as the walk tells.
 use Rattle.std.proofs.Common.{◌≡◌, sym, ◌∙◌, subst}
-use Rattle.law_model.specs.session.Leg.{leg_of}
-use Rattle.law_model.specs.session.Counts.{run}
-use Rattle.law_walk.specs.Walk.{walk_plan}
+use Rattle.law_model.specs.Common.{leg_of, run}
+use Rattle.law_walk.specs.Common.{walk_plan}
 use Rattle.command_walk.specs.Told.{events_of}
 use Rattle.command_walk.specs.declared.turns.trace_turns.Turn.{Turn}
 use Rattle.command_walk.proofs.TraceLaws.{run-one, event-moves, all-moves}

@@ -1,7 +1,7 @@
 -- The last step is noted, and its line written.
 use Rattle.std.proofs.Common.{ℕ, List, ◌∙◌, subst}
 use Rattle.std.proofs.lemmas.Result.{on_ok_weaker, on_err_weaker}
-use Rattle.octet_io.specs.Transfer.{Appends, AppendsPart}
+use Rattle.law_model.specs.Common.{Appends, AppendsPart}
 use Rattle.command_walk.proofs.TraceLaws.{last-line}
 use Rattle.command_walk.proofs.turns.trace_turns.tell_step.Goals as goal
 

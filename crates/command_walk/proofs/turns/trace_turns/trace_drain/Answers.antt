@@ -1,10 +1,9 @@
 -- A round more, or all rows are taken.
 use Rattle.std.proofs.Common.{◌<◌, ◌≤◌, refl, sym, ◌∙◌, ap, arith}
+use Rattle.law_model.specs.Common.{leg_of, Counts, run, round}
 use Rattle.law_model.specs.declared.script_types.Script.{Script}
-use Rattle.law_model.specs.session.Leg.{leg_of}
-use Rattle.law_model.specs.session.Counts.{Counts, run, round}
 use Rattle.law_model.specs.declared.session_totals.Totals.{Totals}
-use Rattle.law_walk.specs.Walk.{walk_plan}
+use Rattle.law_walk.specs.Common.{walk_plan}
 use Rattle.walk_engine.proofs.WalkCoreLaws.RoundLaws.{round-turn, drained-end}
 use Rattle.command_walk.proofs.TraceLaws.{turn-walked}
 use Rattle.command_walk.proofs.turns.trace_turns.trace_drain.Goals as goal

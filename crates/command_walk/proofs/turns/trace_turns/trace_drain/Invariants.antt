@@ -1,10 +1,8 @@
 -- The rounds that are left give what all of them give.
 use Rattle.std.proofs.Common.{◌≡◌, ◌-◌}
-use Rattle.law_model.specs.session.Leg.{leg_of}
-use Rattle.law_model.specs.session.Counts.{drain, bound}
+use Rattle.law_model.specs.Common.{leg_of, drain, bound, Start}
 use Rattle.law_progress.specs.Progress.{made}
-use Rattle.octet_io.specs.Start.{Start}
-use Rattle.law_walk.specs.Walk.{walk_plan, IsWalked}
+use Rattle.law_walk.specs.Common.{walk_plan, IsWalked}
 use Rattle.command_walk.specs.Told.{IsTold}
 use Rattle.command_walk.proofs.turns.trace_turns.trace_drain.Given as goal
 

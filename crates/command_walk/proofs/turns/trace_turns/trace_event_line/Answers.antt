@@ -1,9 +1,8 @@
 -- Turns, or a drain.
 use Rattle.std.proofs.Common.{sym, ◌∙◌, ap, arith}
+use Rattle.law_model.specs.Common.{leg_of, run_line}
 use Rattle.law_model.specs.declared.script_types.EventLine.{EventLine}
-use Rattle.law_model.specs.session.Leg.{leg_of}
-use Rattle.law_model.specs.session.Counts.{run_line}
-use Rattle.law_walk.specs.Walk.{walk_plan}
+use Rattle.law_walk.specs.Common.{walk_plan}
 use Rattle.command_walk.proofs.TraceLaws.{paths-many}
 use Rattle.command_walk.proofs.turns.trace_turns.trace_event_line.Goals as goal
 

@@ -1,9 +1,7 @@
 -- The lines so far are made and told.
 use Rattle.std.proofs.Common.{◌≡◌, false, take}
-use Rattle.law_model.specs.session.Leg.{leg_of}
-use Rattle.law_model.specs.session.Counts.{begin, run_lines}
-use Rattle.octet_io.specs.Start.{Start}
-use Rattle.law_walk.specs.Walk.{walk_plan}
+use Rattle.law_model.specs.Common.{leg_of, begin, run_lines, Start}
+use Rattle.law_walk.specs.Common.{walk_plan}
 use Rattle.command_walk.specs.Told.{IsTold}
 use Rattle.command_walk.proofs.turns.trace_turns.trace_event_lines.Given as goal
 

@@ -1,8 +1,8 @@
 -- Each line but a drain is a number of turns.
 use Rattle.std.proofs.Common.{◌∙◌, ap}
+use Rattle.law_model.specs.Common.{run, run_line}
 use Rattle.law_model.specs.declared.script_types.EventLine.{EventLine}
-use Rattle.law_model.specs.declared.walk_events.Event.TheVariants.{Accept, Command, Tick, Carry, Back, Take}
-use Rattle.law_model.specs.session.Counts.{run, run_line}
+use Rattle.law_model.specs.declared.walk_events.Event.TheVariants.{Accept, Tick, Carry, Back, Take, Command}
 use Rattle.command_walk.proofs.TraceLaws.{tries-flat}
 use Rattle.command_walk.proofs.turns.trace_turns.turns_of.Goals as goal
 

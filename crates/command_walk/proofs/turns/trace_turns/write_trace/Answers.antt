@@ -1,16 +1,15 @@
 -- The walk is traced to its end, or up to the first write that fails.
 use Rattle.std.proofs.Common.{◌≡◌, rules, inl, sym, ◌∙◌, OnErr}
 use Rattle.std.proofs.lemmas.Result.{on_err_weaker}
-use Rattle.law_model.specs.session.Leg.{leg_of}
-use Rattle.octet_io.specs.Transfer.{Appends}
+use Rattle.pair_walk.proofs.EndLaws.{appends-all}
+use Rattle.law_model.specs.Common.{leg_of, Appends, Start}
 use Rattle.text_report.specs.Report.{got_texts}
-use Rattle.octet_io.specs.Start.{Start}
 use Rattle.text_got.specs.Told.{HasText, name_of, start_at}
-use Rattle.law_walk.specs.Delivered.{delivered_of}
+use Rattle.law_walk.specs.Common.{delivered_of}
 use Rattle.command_walk.specs.Ended.{StopsBoth}
 use Rattle.law_headline.specs.Texts.{walk_text}
 use Rattle.command_walk.specs.commands.Trace.{trace_text}
-use Rattle.command_walk.proofs.TraceLaws.{appends-all, on-ok}
+use Rattle.command_walk.proofs.TraceLaws.{on-ok}
 use Rattle.command_walk.proofs.EndLaws.{begun-told, part-told, whole-told, trace-told}
 use Rattle.command_walk.proofs.turns.trace_turns.write_trace.Given as given
 use Rattle.command_walk.proofs.turns.trace_turns.write_trace.Goals as goal

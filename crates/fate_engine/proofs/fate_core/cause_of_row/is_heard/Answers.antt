@@ -1,8 +1,8 @@
 -- The lines up to one that has such a packet.
-use Rattle.std.proofs.Common.{◌≡◌, ◌+◌, ◌*◌, ◌||◌, false, drop, sym, ◌∙◌, ap}
+use Rattle.std.proofs.Common.{◌≡◌, ◌+◌, ◌*◌, ◌||◌, ◌∷◌, false, drop, sym, ◌∙◌, ap}
 use Rattle.std.specs.List.{list_any}
-use Rattle.fate_engine.specs.fate_core.Whole.{whole_in}
-use Rattle.fate_engine.proofs.FateCoreLaws.ListLaws.{drop-next}
+use Rattle.std.proofs.lemmas.List.{drop_more}
+use Rattle.fate_engine.specs.Common.{whole_in}
 use Rattle.fate_engine.proofs.fate_core.cause_of_row.is_heard.Goals as goal
 
 pub loop-list-init : goal.loop-list-init
@@ -17,6 +17,7 @@ loop-list-preserved c =
     ap (λ list. whole_in list (16 * c.args.packet) 24) (sym (c.deref.ensures.value ∙ c.list.view_is))
     ∙ sym c.are_whole.ensures ∙ c.if-are_whole.false in
     sym (ap (list_any (λ list. whole_in list (16 * c.args.packet) 24))
-    (drop-next items i c.list-item.result c.loop-list-test.true c.list-item.is)
+    (drop_more items i c.list-item.result c.loop-list-test.true
+    ∙ ap (λ own. own ∷ drop (i + 1) items) (sym c.list-item.is))
     ∙ ap (λ b. b || list_any (λ list. whole_in list (16 * c.args.packet) 24) (drop (i + 1) items)) item)
     ∙ c.loop-list.invariant

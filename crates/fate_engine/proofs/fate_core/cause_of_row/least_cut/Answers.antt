@@ -1,10 +1,8 @@
 -- Line by line from the last one on.
 use Rattle.std.proofs.Common.{◌≡◌, ℕ, ◌+◌, ◌-◌, ◌<◌, ◌≤◌, List, ◌∷◌, Bool, true, false, length, drop, Option, Some}
-use Rattle.std.proofs.Common.{slice_index_or, sym, ◌∙◌, ap, arith}
-use Rattle.std.specs.Prelude.{if◌then◌else◌}
-use Rattle.fate_engine.specs.fate_law.Spoiled.{lesser, least_failing}
-use Rattle.fate_engine.specs.fate_core.Whole.{whole_on}
-use Rattle.fate_engine.proofs.FateCoreLaws.ListLaws.{drop-or, drop-end}
+use Rattle.std.proofs.Common.{slice_index_or, sym, ◌∙◌, ap, arith, if◌then◌else◌}
+use Rattle.std.proofs.lemmas.List.{drop_more, drop_all}
+use Rattle.fate_engine.specs.Common.{lesser, least_failing, whole_on}
 use Rattle.fate_engine.proofs.fate_core.cause_of_row.least_cut.Goals as goal
 
 -- one line more
@@ -14,13 +12,13 @@ step : (passes : ℕ → Bool) (lines : List ℕ) (i : ℕ) → 0 < i → i ≤ 
     (lesser (slice_index_or lines (i - 1) 0) (least_failing passes (drop i lines))))
 unfolding least_failing
 step passes lines i some within =
-    ap (least_failing passes) (drop-or lines (i - 1) 0 (omega arith)
+    ap (least_failing passes) (drop_more lines (i - 1) 0 (omega arith)
     ∙ ap (λ n. slice_index_or lines (i - 1) 0 ∷ drop n lines) (let e : i - 1 + 1 ≡ i = omega arith in e))
 
 pub loop-i-init : goal.loop-i-init
 unfolding least_failing
 loop-i-init c = ap (least_failing (whole_on c.args.windows.now c.args.from c.args.count))
-    (sym (drop-end c.args.lines.now (length c.args.lines.now) (omega arith)))
+    (sym (drop_all (length c.args.lines.now) c.args.lines.now (omega arith)))
 
 pub loop-i-preserved : goal.loop-i-preserved
 loop-i-preserved c =

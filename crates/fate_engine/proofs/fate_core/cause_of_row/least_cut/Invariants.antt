@@ -1,7 +1,6 @@
 -- The least of the lines from some place on.
 use Rattle.std.proofs.Common.{◌≡◌, drop}
-use Rattle.fate_engine.specs.fate_law.Spoiled.{least_failing}
-use Rattle.fate_engine.specs.fate_core.Whole.{whole_on}
+use Rattle.fate_engine.specs.Common.{least_failing, whole_on}
 use Rattle.fate_engine.proofs.fate_core.cause_of_row.least_cut.Given as goal
 
 abbrev pub invariant-loop-i : goal.invariant-loop-i

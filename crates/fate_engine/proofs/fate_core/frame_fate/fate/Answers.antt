@@ -1,8 +1,7 @@
 -- The fate by the rows of the frame's first octet and of its last.
 use Rattle.std.proofs.Common.{◌≡◌, ◌+◌, ◌*◌, length, slice_get, ◌∙◌, ap, arith}
-use Rattle.law_model.specs.source.Client.{place_of}
-use Rattle.law_model.specs.rows.SessionStream.{rows_of}
-use Rattle.fate_engine.specs.fate_core.Around.{settles, fate_around}
+use Rattle.law_model.specs.Common.{place_of, rows_of}
+use Rattle.fate_engine.specs.Common.{settles, fate_around}
 use Rattle.fate_engine.proofs.FateCoreLaws.FateSteps.{rows-count, place-up, late-waits, carried-fate}
 use Rattle.fate_engine.proofs.fate_core.frame_fate.fate.Goals as goal
 

@@ -1,9 +1,8 @@
 -- Mark by mark.
 use Rattle.std.proofs.Common.{◌≡◌, ◌+◌, ◌≤◌, ◌&&◌, true, false, length, drop, slice_get, sym, ◌∙◌, ap, arith}
 use Rattle.std.specs.List.{list_all}
-use Rattle.fate_engine.specs.fate_law.Spans.{later_segments}
-use Rattle.fate_engine.specs.fate_core.Around.{is_true_of}
-use Rattle.fate_engine.proofs.FateCoreLaws.ListLaws.{drop-end}
+use Rattle.std.proofs.lemmas.List.{drop_all}
+use Rattle.fate_engine.specs.Common.{later_segments, is_true_of}
 use Rattle.fate_engine.proofs.FateCoreLaws.TrueLaws.{test, marks-later, test-at}
 use Rattle.fate_engine.proofs.fate_core.frame_fate.starts_true.Goals as goal
 
@@ -32,5 +31,5 @@ pub returns : goal.returns
 returns c = λ stream rows is stands.
     let count = c.later_count-i-end.ensures rows stands in
     let all : length (later_segments rows) ≤ c.loop-i.i = omega (arith, count, c.loop-i-test.false) in
-    sym (ap (list_all (test stream.pieces)) (drop-end (later_segments rows) c.loop-i.i all))
+    sym (ap (list_all (test stream.pieces)) (drop_all c.loop-i.i (later_segments rows) all))
     ∙ c.loop-i.invariant stream rows is stands

@@ -1,11 +1,8 @@
 -- The marks before are true.
 use Rattle.std.proofs.Common.{◌≡◌, List, drop}
 use Rattle.std.specs.List.{list_all}
-use Rattle.law_model.specs.source.Client.{Stream}
-use Rattle.law_model.specs.frames.Segment.{StreamRow}
-use Rattle.fate_engine.specs.fate_law.Ruler.{ruler_of}
-use Rattle.fate_engine.specs.fate_law.Marks.{are_true_marks}
-use Rattle.fate_engine.specs.fate_law.Spans.{later_segments}
+use Rattle.law_model.specs.Common.{Stream, StreamRow}
+use Rattle.fate_engine.specs.Common.{ruler_of, are_true_marks, later_segments}
 use Rattle.fate_engine.specs.fate_core.Segments.{SegmentsStand}
 use Rattle.fate_engine.proofs.FateCoreLaws.TrueLaws.{test}
 use Rattle.fate_engine.proofs.fate_core.frame_fate.starts_true.Given as goal

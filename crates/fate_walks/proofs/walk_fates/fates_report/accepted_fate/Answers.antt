@@ -1,8 +1,6 @@
 -- The pieces of the ticks made tell it.
-use Rattle.law_model.specs.session.Leg.{leg_of}
-use Rattle.law_model.specs.session.Scenario.{scenario_of}
-use Rattle.law_model.specs.source.Client.{stream_before}
-use Rattle.law_walk.specs.Walk.{session_of}
+use Rattle.law_model.specs.Common.{leg_of, scenario_of, stream_before}
+use Rattle.law_walk.specs.Common.{session_of}
 use Rattle.fate_walks.proofs.WalkFatesLaws.LineLaws.{kept-rows, fate-is}
 use Rattle.fate_walks.proofs.walk_fates.fates_report.accepted_fate.Goals as goal
 

@@ -1,14 +1,8 @@
 -- The row of a mark is found, and whether a piece begins there.
 use Rattle.std.proofs.Common.{sym, ap, ◌∙◌, Some}
-use Rattle.law_model.specs.session.Leg.{leg_of}
-use Rattle.law_model.specs.source.Client.{stream_before}
-use Rattle.law_model.specs.session.Scenario.{scenario_of}
-use Rattle.law_walk.specs.Walk.{session_of}
-use Rattle.law_walk.specs.Delivered.{session_rows}
-use Rattle.law_walk.specs.Promise.{session_pieces}
-use Rattle.fate_engine.specs.fate_law.Marks.{is_piece_at}
-use Rattle.fate_engine.specs.fate_law.FateText.{mark_text}
-use Rattle.fate_engine.specs.fate_text.FateWording.{told_text}
+use Rattle.law_model.specs.Common.{leg_of, stream_before, scenario_of}
+use Rattle.law_walk.specs.Common.{session_of, session_rows, session_pieces}
+use Rattle.fate_engine.specs.Common.{is_piece_at, mark_text, told_text}
 use Rattle.fate_walks.proofs.WalkFatesLaws.LineLaws.{not-beyond, mark-piece, mark-row}
 use Rattle.fate_walks.proofs.walk_fates.fates_report.told_mark.Goals as goal
 

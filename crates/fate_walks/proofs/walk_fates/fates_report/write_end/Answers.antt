@@ -1,14 +1,11 @@
 -- The numbers of the last line are those of the items.
 use Rattle.std.proofs.Common.{◌++◌, ◌∙◌, ap, subst}
-use Rattle.law_model.specs.session.Leg.{leg_of}
-use Rattle.text_got.specs.Told.{HasText}
-use Rattle.law_model.specs.session.Scenario.{scenario_of}
-use Rattle.law_model.specs.source.Client.{stream_before}
+use Rattle.law_model.specs.Common.{leg_of, scenario_of, stream_before}
 use Rattle.law_model.specs.declared.session_totals.Totals.{Totals}
-use Rattle.law_walk.specs.Walk.{session_of}
-use Rattle.law_walk.specs.Delivered.{session_rows}
+use Rattle.text_got.specs.Told.{HasText}
+use Rattle.law_walk.specs.Common.{session_of, session_rows}
+use Rattle.fate_engine.specs.Common.{last_text}
 use Rattle.fate_engine.specs.declared.fate_text.fates_as_text.Tally.{Tally}
-use Rattle.fate_engine.specs.fate_text.FateWording.{last_text}
 use Rattle.fate_walks.proofs.WalkFatesLaws.LineLaws.{starts-are, end-text}
 use Rattle.fate_walks.proofs.walk_fates.fates_report.write_end.Goals as goal
 

@@ -1,16 +1,11 @@
 -- The lines are written, or a part of them up to a write that failed.
 use Rattle.std.proofs.Common.{rules, ℕ, List, [], map, sym, ◌∙◌, subst, OnOk, OnErr}
 use Rattle.std.specs.List.{flat_map, range_with_len}
-use Rattle.law_model.specs.session.Leg.{leg_of}
-use Rattle.octet_io.specs.Start.{Start}
-use Rattle.octet_io.specs.Transfer.{Appends, AppendsPart}
+use Rattle.law_model.specs.Common.{leg_of, Start, Appends, AppendsPart, scenario_of}
 use Rattle.text_got.specs.Told.{HasText, name_of, start_at}
-use Rattle.law_model.specs.session.Scenario.{scenario_of}
-use Rattle.law_walk.specs.Walk.{session_of}
+use Rattle.law_walk.specs.Common.{session_of}
+use Rattle.fate_engine.specs.Common.{row_cause, ended_of, spoiled_text, fates_text}
 use Rattle.fate_engine.specs.declared.fate_law.SpoiledRun.{SpoiledRun}
-use Rattle.fate_engine.specs.fate_law.Spoiled.{row_cause}
-use Rattle.fate_engine.specs.fate_law.SessionFates.{ended_of}
-use Rattle.fate_engine.specs.fate_law.FateText.{spoiled_text, fates_text}
 use Rattle.fate_walks.proofs.walk_fates.fates_report.write_fates.Goals as goal
 
 pub returns : goal.returns

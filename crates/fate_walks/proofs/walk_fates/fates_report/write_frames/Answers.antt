@@ -1,10 +1,9 @@
 -- A line more; and all of them.
 use Rattle.std.proofs.Common.{[], ◌∷◌, ◌++◌, refl, sym, ap, subst, append-nil}
 use Rattle.std.specs.List.{flat_map}
-use Rattle.law_model.specs.session.Leg.{leg_of}
+use Rattle.law_model.specs.Common.{leg_of}
 use Rattle.text_got.specs.Told.{HasText}
-use Rattle.fate_engine.specs.fate_law.SessionFates.{Ended}
-use Rattle.fate_engine.specs.fate_law.FateText.{ended_text}
+use Rattle.fate_engine.specs.Common.{Ended, ended_text}
 use Rattle.fate_walks.specs.walk_fates.MadeWalk.{Counted, fates_in}
 use Rattle.fate_walks.proofs.WalkFatesLaws.LineLaws.{ended_frame, frames-begun, frames-next, frames-few, frames-past, texts-next}
 use Rattle.fate_walks.proofs.walk_fates.fates_report.write_frames.Goals as goal

@@ -1,11 +1,8 @@
 -- The lines of the items so far are written, and they are counted.
-use Rattle.std.proofs.Common.{ℕ, List, ◌++◌, length}
-use Rattle.std.specs.List.{flat_map}
-use Rattle.law_model.specs.session.Leg.{leg_of}
-use Rattle.octet_io.specs.Start.{Start}
+use Rattle.std.proofs.Common.{ℕ, List, ◌++◌, length, flat_map}
+use Rattle.law_model.specs.Common.{leg_of, Start}
 use Rattle.text_got.specs.Told.{HasText}
-use Rattle.fate_engine.specs.fate_law.SessionFates.{Ended}
-use Rattle.fate_engine.specs.fate_law.FateText.{ended_text}
+use Rattle.fate_engine.specs.Common.{Ended, ended_text}
 use Rattle.fate_walks.specs.walk_frames.Landed.{frames_left}
 use Rattle.fate_walks.proofs.WalkFatesLaws.LineLaws.{FramesDone}
 use Rattle.fate_walks.proofs.walk_fates.fates_report.write_frames.Given as goal

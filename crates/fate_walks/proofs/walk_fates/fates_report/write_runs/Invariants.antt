@@ -1,9 +1,8 @@
 -- The lines of the runs so far are written.
-use Rattle.std.proofs.Common.{ℕ, List, ◌++◌, take}
-use Rattle.std.specs.List.{flat_map}
-use Rattle.octet_io.specs.Start.{Start}
+use Rattle.std.proofs.Common.{ℕ, List, ◌++◌, take, flat_map}
+use Rattle.law_model.specs.Common.{Start}
 use Rattle.text_got.specs.Told.{HasText}
-use Rattle.fate_engine.specs.fate_law.FateText.{spoiled_text}
+use Rattle.fate_engine.specs.Common.{spoiled_text}
 use Rattle.fate_walks.proofs.walk_fates.fates_report.write_runs.Given as goal
 
 abbrev pub invariant-loop-run : goal.invariant-loop-run

@@ -1,13 +1,12 @@
 -- A line more; and all of them.
-use Rattle.std.proofs.Common.{◌<◌, ◌≤◌, ◌++◌, length, take, refl, ap, subst, arith}
-use Rattle.std.specs.List.{flat_map}
-use Rattle.std.proofs.lemmas.List.{take_all}
-use Rattle.law_model.specs.session.Leg.{leg_of}
+use Rattle.std.proofs.Common.{◌<◌, ◌≤◌, ◌++◌, length, take, refl, ap, subst, arith, flat_map, take_all}
+use Rattle.law_model.proofs.ListLaws.{slice_get-inside}
+use Rattle.law_model.specs.Common.{leg_of}
 use Rattle.text_got.specs.Told.{HasText}
-use Rattle.law_walk.specs.Delivered.{session_rows}
-use Rattle.fate_engine.specs.fate_law.Spans.{later_segments}
+use Rattle.law_walk.specs.Common.{session_rows}
+use Rattle.fate_engine.specs.Common.{later_segments}
 use Rattle.fate_walks.specs.walk_fates.MadeWalk.{segment_in}
-use Rattle.fate_walks.proofs.WalkFatesLaws.LineLaws.{some-there, text-next}
+use Rattle.fate_walks.proofs.WalkFatesLaws.LineLaws.{text-next}
 use Rattle.fate_walks.proofs.walk_fates.fates_report.write_segments.Goals as goal
 
 pub loop-i-preserved : goal.loop-i-preserved
@@ -18,7 +17,7 @@ loop-i-preserved g c = λ start before has.
     let i = c.loop-i.i in
     let count = c.later_count-i-end.ensures (session_rows (leg_of script) rows) c.requires.rows.segments in
     let low : i < length all = omega (arith, count, c.loop-i-test.true) in
-    let own = some-there all i low in
+    let own = slice_get-inside all i low in
     subst (HasText g.K.ByteSink.written g.K.ByteSink.faults c.write_segment.new.got start)
     (text-next (segment_in (leg_of script) rows) all i own.0 before (segment_in (leg_of script) rows own.0) own.1 refl)
     (c.write_segment.ensures own.0 own.1 start (before ++ flat_map (segment_in (leg_of script) rows) (take i all))

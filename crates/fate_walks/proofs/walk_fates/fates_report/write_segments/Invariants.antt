@@ -1,11 +1,9 @@
 -- The lines of the segments so far are written.
-use Rattle.std.proofs.Common.{ℕ, List, ◌++◌, take}
-use Rattle.std.specs.List.{flat_map}
-use Rattle.law_model.specs.session.Leg.{leg_of}
-use Rattle.octet_io.specs.Start.{Start}
+use Rattle.std.proofs.Common.{ℕ, List, ◌++◌, take, flat_map}
+use Rattle.law_model.specs.Common.{leg_of, Start}
 use Rattle.text_got.specs.Told.{HasText}
-use Rattle.law_walk.specs.Delivered.{session_rows}
-use Rattle.fate_engine.specs.fate_law.Spans.{later_segments}
+use Rattle.law_walk.specs.Common.{session_rows}
+use Rattle.fate_engine.specs.Common.{later_segments}
 use Rattle.fate_walks.specs.walk_fates.MadeWalk.{segment_in}
 use Rattle.fate_walks.proofs.walk_fates.fates_report.write_segments.Given as goal
 

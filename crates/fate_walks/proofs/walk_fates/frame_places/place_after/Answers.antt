@@ -1,8 +1,7 @@
 -- The place is that of the session, whose octets are few.
 use Rattle.std.proofs.Common.{◌+◌, arith}
-use Rattle.law_model.specs.session.Leg.{leg_of}
-use Rattle.law_model.specs.session.Scenario.{scenario_of}
-use Rattle.law_walk.specs.Walk.{session_of}
+use Rattle.law_model.specs.Common.{leg_of, scenario_of}
+use Rattle.law_walk.specs.Common.{session_of}
 use Rattle.fate_walks.proofs.WalkFatesLaws.PlaceLaws.{few-ticks, place-few}
 use Rattle.fate_walks.proofs.walk_fates.frame_places.place_after.Goals as goal
 

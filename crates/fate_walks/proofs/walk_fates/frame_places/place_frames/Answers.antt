@@ -1,8 +1,8 @@
 -- Frame by frame the stream is ruled, and then up to the last tick.
 use Rattle.std.proofs.Common.{◌≡◌, ℕ, not, ◌∙◌, ap, subst}
-use Rattle.law_model.specs.session.Leg.{leg_of}
+use Rattle.law_model.specs.Common.{leg_of}
 use Rattle.law_model.specs.declared.session_totals.Totals.{Totals}
-use Rattle.fate_engine.specs.fate_law.Ruler.{ruler_of}
+use Rattle.fate_engine.specs.Common.{ruler_of}
 use Rattle.fate_walks.specs.walk_frames.Places.{Between, stream_in}
 use Rattle.fate_walks.proofs.WalkFatesLaws.PlaceLaws.{none-of, some-of, ruled-first, next-due, next-fewer, ruled-refused}
 use Rattle.fate_walks.proofs.WalkFatesLaws.PlaceLaws.{ruled-accepted, ruled-end}

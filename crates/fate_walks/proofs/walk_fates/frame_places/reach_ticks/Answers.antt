@@ -1,7 +1,7 @@
 -- Each tick makes the stream up to the place at which its row ends.
 use Rattle.std.proofs.Common.{◌≡◌, ◌≤◌, ap, ◌∙◌, arith}
-use Rattle.law_model.specs.session.Leg.{leg_of}
-use Rattle.fate_engine.specs.fate_law.Ruler.{ruler_of}
+use Rattle.law_model.specs.Common.{leg_of}
+use Rattle.fate_engine.specs.Common.{ruler_of}
 use Rattle.fate_walks.specs.walk_frames.Places.{stream_in}
 use Rattle.fate_walks.proofs.WalkFatesLaws.PlaceLaws.{reach-tick}
 use Rattle.fate_walks.proofs.walk_fates.frame_places.reach_ticks.Goals as goal

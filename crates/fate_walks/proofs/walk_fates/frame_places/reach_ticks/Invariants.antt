@@ -1,7 +1,7 @@
 -- The stream is made by the ticks so far.
 use Rattle.std.proofs.Common.{◌≡◌, ℕ}
-use Rattle.law_model.specs.session.Leg.{leg_of}
-use Rattle.fate_engine.specs.fate_law.Ruler.{ruler_of}
+use Rattle.law_model.specs.Common.{leg_of}
+use Rattle.fate_engine.specs.Common.{ruler_of}
 use Rattle.fate_walks.specs.walk_frames.Places.{stream_in, Between}
 use Rattle.fate_walks.proofs.walk_fates.frame_places.reach_ticks.Given as goal
 

@@ -1,20 +1,13 @@
 -- One row more.
-use Rattle.std.proofs.Common.{◌≡◌, ◌+◌, ◌≤◌, ◌∷◌, ◌++◌, [], Option, sym, ◌∙◌, ap, subst}
-use Rattle.std.proofs.Common.{arith}
+use Rattle.std.proofs.Common.{◌≡◌, ◌+◌, ◌≤◌, ◌∷◌, ◌++◌, [], Option, sym, ◌∙◌, ap, subst, arith, map}
 use Rattle.std.proofs.lemmas.Result.{on_ok_weaker}
+use Rattle.law_model.specs.Common.{leg_of, scenario_of, place_of}
 use Rattle.law_model.specs.declared.script_types.Script.{Script}
-use Rattle.law_model.specs.session.Leg.{leg_of}
-use Rattle.law_model.specs.session.Scenario.{scenario_of}
-use Rattle.law_model.specs.source.Client.{place_of}
 use Rattle.law_model.specs.rows.SessionStream.{row_of}
+use Rattle.fate_engine.specs.Common.{row_cause, Tells, AreRuns}
 use Rattle.fate_engine.specs.declared.fate_law.Cause.{Cause}
-use Rattle.fate_engine.specs.fate_law.Spoiled.{row_cause}
-use Rattle.fate_engine.specs.fate_core.Segments.{Tells}
-use Rattle.fate_engine.specs.fate_core.Runs.{AreRuns}
-use Rattle.std.proofs.Common.{map}
 use Rattle.std.specs.List.{range_with_len}
-use Rattle.law_walk.specs.Walk.{session_of}
-use Rattle.law_walk.specs.Delivered.{session_rows}
+use Rattle.law_walk.specs.Common.{session_of, session_rows}
 use Rattle.fate_walks.proofs.WalkFatesLaws.SeenLaws.{few-rows, causes-size, rows-size, rows-next, row-tells}
 use Rattle.fate_walks.proofs.WalkFatesLaws.SeenLaws.{whole-cause, none-is, place-low, mark-low, one-row}
 use Rattle.fate_walks.proofs.walk_fates.seen_rows.see_row.Goals as goal

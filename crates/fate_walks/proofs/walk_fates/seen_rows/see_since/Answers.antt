@@ -1,8 +1,6 @@
 -- One packet more, and one row more.
 use Rattle.std.proofs.Common.{◌≡◌, sym, ◌∙◌, ap, subst, arith}
-use Rattle.law_model.specs.session.Leg.{leg_of}
-use Rattle.law_model.specs.session.Scenario.{steps_in}
-use Rattle.law_model.specs.source.Table.{active}
+use Rattle.law_model.specs.Common.{leg_of, steps_in, active}
 use Rattle.law_model.specs.declared.session_totals.Totals.{Totals}
 use Rattle.std.proofs.lemmas.Result.{on_err_weaker}
 use Rattle.fate_walks.specs.declared.walk_fates.seen_rows.SeenRows.{SeenRows}

@@ -1,9 +1,7 @@
 -- A frame more; and all of them.
 use Rattle.std.proofs.Common.{◌+◌, ◌≤◌, ℕ, List, length, take, not, refl, sym, ◌∙◌, ap, subst, arith}
-use Rattle.law_model.specs.session.Leg.{leg_of}
-use Rattle.law_model.specs.Limits.{longest_frame}
-use Rattle.law_walk.specs.Delivered.{session_rows}
-use Rattle.law_walk.specs.Promise.{session_pieces, session_extents}
+use Rattle.law_model.specs.Common.{leg_of, longest_frame}
+use Rattle.law_walk.specs.Common.{session_rows, session_pieces, session_extents}
 use Rattle.text_captures.specs.capture_file.Out.{HasGfp}
 use Rattle.fate_walks.proofs.WalkFatesLaws.PlaceLaws.{none-of, some-of}
 use Rattle.fate_walks.specs.walk_gfp.Carried.{carried_among}

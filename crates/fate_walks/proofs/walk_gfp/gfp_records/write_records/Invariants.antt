@@ -1,9 +1,7 @@
 -- The records of the frames so far are written.
 use Rattle.std.proofs.Common.{[], length, take}
-use Rattle.law_model.specs.session.Leg.{leg_of}
-use Rattle.octet_io.specs.Start.{Start}
-use Rattle.law_walk.specs.Delivered.{session_rows}
-use Rattle.law_walk.specs.Promise.{session_extents}
+use Rattle.law_model.specs.Common.{leg_of, Start}
+use Rattle.law_walk.specs.Common.{session_rows, session_extents}
 use Rattle.text_captures.specs.capture_file.Out.{HasGfp}
 use Rattle.fate_walks.specs.walk_frames.Landed.{frames_left}
 use Rattle.fate_walks.specs.walk_gfp.Carried.{carried_among}

@@ -1,6 +1,6 @@
 -- An octet of a cut, and one that arrives.
 use Rattle.std.proofs.Common.{◌≡◌, ◌+◌, ◌<◌, false, true, List, [], length, get_or, sym, ◌∙◌, ap, subst, arith}
-use Rattle.law_model.specs.frames.Segment.{Segment}
+use Rattle.law_model.specs.Common.{Segment}
 use Rattle.gfp_model.specs.declared.linear_model.Cut.{Cut}
 use Rattle.gfp_channels.specs.gfp_linear.Delineator.{StandsIn}
 use Rattle.gfp_channels.specs.declared.channel_link.channel_reception.Reception.{Reception}

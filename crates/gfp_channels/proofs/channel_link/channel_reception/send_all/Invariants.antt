@@ -1,6 +1,6 @@
 -- The octets so far were sent.
 use Rattle.std.proofs.Common.{◌≡◌, ◌+◌, ◌≤◌, ℕ, List, ◌++◌, take}
-use Rattle.octet_io.specs.Start.{Start}
+use Rattle.law_model.specs.Common.{Start}
 use Rattle.gfp_channels.specs.channel_link.Run.{Received}
 use Rattle.gfp_channels.proofs.channel_link.channel_reception.send_all.Given as goal
 

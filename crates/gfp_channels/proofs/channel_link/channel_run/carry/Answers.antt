@@ -1,7 +1,6 @@
 -- Nothing was made, and a block more was.
-use Rattle.std.proofs.Common.{◌≡◌, ℕ, ◌+◌, ◌-◌, ◌≤◌, ◌++◌, length, take, drop, refl, sym, ◌∙◌, ap, subst}
-use Rattle.std.proofs.Common.{arith, length-append, length-drop, length-take-le}
-use Rattle.std.proofs.lemmas.List.{take_at}
+use Rattle.std.proofs.Common.{◌≡◌, ℕ, ◌+◌, ◌-◌, ◌≤◌, ◌++◌, length, take, drop, refl, sym, ◌∙◌, ap, subst, arith}
+use Rattle.std.proofs.Common.{length-append, length-drop, length-take-le, take_at}
 use Rattle.gfp_model.specs.linear_model.Channels.{Channels}
 use Rattle.gfp_model.specs.linear_model.Stream.{stream_to, unsent}
 use Rattle.gfp_channels.specs.gfp_linear.Queue.{Queued}

@@ -1,6 +1,6 @@
 -- What was made of the stream was received.
 use Rattle.std.proofs.Common.{◌≡◌, ◌-◌, ◌≤◌, [], length}
-use Rattle.octet_io.specs.Start.{Start}
+use Rattle.law_model.specs.Common.{Start}
 use Rattle.gfp_model.specs.linear_model.Stream.{stream_to}
 use Rattle.gfp_channels.specs.channel_link.Run.{Received}
 use Rattle.gfp_channels.proofs.ChannelLinkLaws.StreamLaws.{HasSent}

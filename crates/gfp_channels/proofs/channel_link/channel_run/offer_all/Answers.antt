@@ -1,6 +1,5 @@
 -- A frame more is offered, and all are.
-use Rattle.std.proofs.Common.{◌≡◌, ℕ, ◌+◌, List, ◌∷◌, ◌++◌, drop, refl, sym, ◌∙◌, ap, append-nil}
-use Rattle.std.specs.Prelude.{Some, None, Vec}
+use Rattle.std.proofs.Common.{◌≡◌, ℕ, ◌+◌, List, ◌∷◌, ◌++◌, drop, refl, sym, ◌∙◌, ap, append-nil, Some, None, Vec}
 use Rattle.std.specs.declared.alloc.Global.{Global}
 use Rattle.std.proofs.lemmas.List.{drop_more, drop_all}
 use Rattle.std.specs.Result.{result_err}

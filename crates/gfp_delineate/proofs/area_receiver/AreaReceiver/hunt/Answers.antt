@@ -1,6 +1,6 @@
 -- Fewer than four octets; at the fourth, no header, that of an idle, or one with an area.
 use Rattle.std.proofs.Common.{◌+◌, ◌<◌, Some, ◌∙◌, ap, arith}
-use Rattle.law_model.specs.frames.Core.{head}
+use Rattle.law_model.specs.Common.{head}
 use Rattle.gfp_delineate.specs.declared.area_receiver.Phase.TheVariants.{Hunt, PresyncArea, PresyncHeader}
 use Rattle.gfp_delineate.proofs.Taking.{seen, read-window}
 use Rattle.gfp_delineate.proofs.SearchSteps.{shifted, Takes-hunt-part, Takes-hunt-none, Takes-hunt-idle}

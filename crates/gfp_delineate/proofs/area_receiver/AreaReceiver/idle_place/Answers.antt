@@ -1,10 +1,9 @@
 -- The octets of a header in the window are the first ones of an idle's, or they aren't.
-use Rattle.std.proofs.Common.{true, false, Some, ◌≡◌, ◌-◌, ◌<◌, ℕ, take, drop, sym, ◌∙◌, ap, subst}
-use Rattle.std.specs.Prelude.{vec_len}
+use Rattle.std.proofs.Common.{true, false, Some, ◌≡◌, ◌-◌, ◌<◌, ℕ, take, drop, sym, ◌∙◌, ap, subst, vec_len}
 use Rattle.gfp_delineate.specs.declared.area_receiver.Phase.TheVariants.{SyncHeader}
 use Rattle.gfp_delineate.specs.Areas.{Progress, IsWithin, header_begun_in}
 use Rattle.law_model.proofs.IdleLaws.{idle_header, core_header-idle}
-use Rattle.law_model.specs.frames.Core.{core_header}
+use Rattle.law_model.specs.Common.{core_header}
 use Rattle.gfp_delineate.proofs.Taking.{told}
 use Rattle.gfp_delineate.proofs.IdleSteps.{Takes-idles_from}
 use Rattle.gfp_delineate.proofs.area_receiver.AreaReceiver.idle_place.Goals as goal

@@ -1,8 +1,6 @@
 -- Octets go on with the area, or complete it; before its last octet no area ends.
-use Rattle.std.proofs.Common.{◌≡◌, ◌-◌, ◌<◌, ℕ, List, [], ◌∷◌, ◌++◌, length, take, drop, refl, sym, ◌∙◌, ap}
-use Rattle.std.proofs.Common.{subst, arith, length-take}
-use Rattle.std.specs.Prelude.{vec_len}
-use Rattle.std.proofs.lemmas.List.{take_all, take-append-drop, length-take-le}
+use Rattle.std.proofs.Common.{◌≡◌, ◌-◌, ◌<◌, ℕ, List, [], ◌∷◌, ◌++◌, length, take, drop, refl, sym, ◌∙◌, ap, subst}
+use Rattle.std.proofs.Common.{arith, length-take, vec_len, take_all, take-append-drop, length-take-le}
 use Rattle.gfp_delineate.specs.declared.area_receiver.Phase.TheVariants.{SyncHeader, SyncArea}
 use Rattle.gfp_delineate.specs.Areas.{keeping, Progress, IsWithin}
 use Rattle.gfp_delineate.proofs.Taking.{Takes, seen}

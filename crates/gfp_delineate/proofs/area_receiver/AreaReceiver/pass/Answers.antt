@@ -1,7 +1,6 @@
 -- The area that is dropped goes on, or ends; before its last octet no area ends.
-use Rattle.std.proofs.Common.{◌-◌, ◌<◌, ℕ, List, length, take, ◌∙◌, ap, subst, arith, length-take}
-use Rattle.std.specs.Prelude.{vec_len}
-use Rattle.std.proofs.lemmas.List.{take_all, length-take-le}
+use Rattle.std.proofs.Common.{◌-◌, ◌<◌, ℕ, List, length, take, ◌∙◌, ap, subst, arith, length-take, vec_len, take_all}
+use Rattle.std.proofs.Common.{length-take-le}
 use Rattle.gfp_scramble.specs.Descrambler.{Continues}
 use Rattle.gfp_delineate.specs.declared.area_receiver.Phase.TheVariants.{SyncHeader, SyncPassing}
 use Rattle.gfp_delineate.specs.Areas.{Progress, IsWithin}

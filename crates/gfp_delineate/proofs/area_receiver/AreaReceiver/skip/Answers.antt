@@ -1,6 +1,5 @@
 -- Octets of the area after the header that was found, or all that are left of it.
-use Rattle.std.proofs.Common.{◌-◌, ℕ, List, length, take, ◌∙◌, arith}
-use Rattle.std.proofs.lemmas.List.{take_all, length-take-le}
+use Rattle.std.proofs.Common.{◌-◌, ℕ, List, length, take, ◌∙◌, arith, take_all, length-take-le}
 use Rattle.gfp_delineate.specs.declared.area_receiver.Phase.TheVariants.{PresyncArea, PresyncHeader}
 use Rattle.gfp_delineate.proofs.Taking.{seen}
 use Rattle.gfp_delineate.proofs.SearchSteps.{in_phase, Takes-skip-part, Takes-skip-last}

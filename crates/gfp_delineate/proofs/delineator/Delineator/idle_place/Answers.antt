@@ -1,6 +1,5 @@
 -- Idles that end no area bring no outcome.
-use Rattle.std.proofs.Common.{ℕ, [], false, Option, Some, None, refl, subst}
-use Rattle.std.specs.Prelude.{IfSome}
+use Rattle.std.proofs.Common.{ℕ, [], false, Option, Some, None, refl, subst, IfSome}
 use Rattle.gfp_delineate.specs.Repeated.{idles_from}
 use Rattle.gfp_delineate.specs.Areas.{Goes, Adds}
 use Rattle.gfp_delineate.specs.Receiver.{Receiver, area_limit, Advances, Brings}

@@ -2,7 +2,7 @@
 use Rattle.std.proofs.Common.{◌≡◌, ℕ, ◌+◌, ◌-◌, ◌≤◌, List, ◌++◌, length, take, drop, sym, ◌∙◌, ap, subst, arith}
 use Rattle.std.proofs.Common.{append_assoc, length-append, length-take-le, length-drop}
 use Rattle.std.proofs.lemmas.List.{append-nil, take_at, drop_at, take_all, drop_all}
-use Rattle.law_model.specs.frames.Core.{core_header}
+use Rattle.law_model.specs.Common.{core_header}
 use Rattle.law_model.proofs.CoreLaws.{length-core_header}
 use Rattle.gfp_scramble.specs.Scrambler.{Continues, ScramblesTo}
 use Rattle.gfp_fill.specs.Areas.{Sender}

@@ -1,10 +1,8 @@
 -- A buffer for each turn so far, each with room for a frame, and room for all of them.
-use Rattle.std.proofs.Common.{◌≡◌, ◌≤◌, vec_len}
-use Rattle.std.specs.List.{All}
-use Rattle.std.specs.Vec.{vec_capacity}
+use Rattle.std.proofs.Common.{◌≡◌, ◌≤◌, vec_len, All, vec_capacity}
 use Rattle.gfp_fill.specs.Store.{HasFrameRoom}
 use Rattle.gfp_fill.proofs.frame_queue.FrameQueue.new.Given as goal
-use Rattle.law_model.specs.Limits.{most_waiting}
+use Rattle.law_model.specs.Common.{most_waiting}
 
 abbrev pub invariant-loop : goal.invariant-loop
 invariant-loop l = record {

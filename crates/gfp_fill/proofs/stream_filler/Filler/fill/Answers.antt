@@ -1,8 +1,8 @@
 -- What is written first, and then what is written in the loop's next turn, are the next octets.
 use Rattle.std.proofs.Common.{take, arith, length, ◌+◌}
-use Rattle.gfp_fill.proofs.AreaSteps.{take-written}
+use Rattle.law_model.proofs.ListLaws.{take-written}
 use Rattle.gfp_fill.proofs.StreamSteps.{written-none, written-both}
-use Rattle.law_model.specs.source.Client.{reached}
+use Rattle.law_model.specs.Common.{reached}
 use Rattle.gfp_fill.proofs.stream_filler.Filler.fill.Goals as goal
 
 pub loop-filled-init : goal.loop-filled-init

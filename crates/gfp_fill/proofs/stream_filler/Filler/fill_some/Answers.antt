@@ -1,10 +1,8 @@
 -- Each way in which octets are written is one step of the stream.
 use Rattle.std.proofs.Common.{◌≡◌, ℕ, ◌+◌, ◌/◌, List, [], ◌∷◌, ◌++◌, length, take, map, sym, ◌∙◌, ap, subst, arith}
-use Rattle.std.proofs.lemmas.List.{length-take-le}
-use Rattle.law_model.specs.frames.TypeHeader.{type_header}
-use Rattle.law_model.specs.frames.Piece.{area_of}
+use Rattle.std.proofs.lemmas.List.{length-take-le, nil_from_length}
+use Rattle.law_model.specs.Common.{type_header, area_of}
 use Rattle.gfp_fill.specs.Areas.{Sender, head_of, StandsIn}
-use Rattle.gfp_fill.proofs.AreaSteps.{none_of}
 use Rattle.gfp_fill.proofs.StreamSteps.{here_written, at_end, client_written, idles_next}
 use Rattle.gfp_fill.proofs.stream_filler.Filler.fill_some.Goals as goal
 
@@ -30,8 +28,8 @@ returns-in-Some-clause-writes c stream place stands =
     let areas : List (List ℕ) = map area_of stream.pieces in
     let sent = c.send_headers-in-Some.ensures in
     let none : head_of s ≡ [] =
-    ap head_of (sym c.self.view_is) ∙ none_of (head_of c.self.inside.sender) (omega (arith, c.left.ensures)) in
-    let gone : queue.begun ≡ [] = none_of queue.begun (omega (arith, c.left-2.ensures)) in
+    ap head_of (sym c.self.view_is) ∙ nil_from_length (head_of c.self.inside.sender) (omega (arith, c.left.ensures)) in
+    let gone : queue.begun ≡ [] = nil_from_length queue.begun (omega (arith, c.left-2.ensures)) in
     let begun : StandsIn c.begin-in-Some.new.self rest.begun (areas ++ (type_header ++ rest.begun) ∷ []) place =
     subst (λ front. StandsIn c.begin-in-Some.new.self rest.begun (areas ++ (front ++ rest.begun) ∷ []) place)
     c.type_bytes.ensures
@@ -56,8 +54,8 @@ returns-in-None-clause-writes c stream place stands =
     let sent = c.send_idles.ensures in
     let n = c.send_idles.result in
     let none : head_of s ≡ [] =
-    ap head_of (sym c.self.view_is) ∙ none_of (head_of c.self.inside.sender) (omega (arith, c.left.ensures)) in
-    let gone : queue.begun ≡ [] = none_of queue.begun (omega (arith, c.left-2.ensures)) in
+    ap head_of (sym c.self.view_is) ∙ nil_from_length (head_of c.self.inside.sender) (omega (arith, c.left.ensures)) in
+    let gone : queue.begun ≡ [] = nil_from_length queue.begun (omega (arith, c.left-2.ensures)) in
     let size : length (take n c.send_idles.new.out) ≡ n =
     length-take-le n c.send_idles.new.out (omega (arith, sent.within, c.send_idles.auto.out)) in
     rw c.in-None.ensures.stays

@@ -1,6 +1,6 @@
 -- The octets so far were received.
 use Rattle.std.proofs.Common.{◌+◌, ◌≤◌, [], take}
-use Rattle.octet_io.specs.Start.{Start}
+use Rattle.law_model.specs.Common.{Start}
 use Rattle.gfp_noise.specs.noise_link.Run.{Received}
 use Rattle.gfp_noise.proofs.noise_link.noise_reception.receive_all.Given as goal
 

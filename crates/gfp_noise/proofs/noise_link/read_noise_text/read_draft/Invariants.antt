@@ -5,7 +5,7 @@ use Rattle.std.specs.Str.Lines.{lines}
 use Rattle.text_lines.specs.Language.{said_from, said_by}
 use Rattle.gfp_noise.specs.noise_link.NoiseTextLines.{noise_lines}
 use Rattle.gfp_noise.specs.noise_link.Drafts.{IsDraft}
-use Rattle.law_model.specs.Limits.{longest_frame}
+use Rattle.law_model.specs.Common.{longest_frame}
 use Rattle.gfp_noise.proofs.noise_link.read_noise_text.read_draft.Given as goal
 
 abbrev pub invariant-loop-line : goal.invariant-loop-line

@@ -1,6 +1,6 @@
 -- The octets are those of the word.
 use Rattle.std.proofs.Common.{◌++◌, drop, ap, sym, ◌∙◌}
-use Rattle.law_model.specs.frames.Scramble.{descrambled_octets}
+use Rattle.law_model.specs.Common.{descrambled_octets}
 use Rattle.gfp_scramble.specs.Descrambler.{unknown}
 use Rattle.gfp_scramble.proofs.descrambler.Descrambler.eight.Goals as goal
 

@@ -1,6 +1,6 @@
 -- One octet more is descrambled.
 use Rattle.std.proofs.Common.{◌++◌, take, subst, arith}
-use Rattle.law_model.specs.frames.Scramble.{descrambled_octets}
+use Rattle.law_model.specs.Common.{descrambled_octets}
 use Rattle.law_model.proofs.ScrambledOctets.{length-descrambled_octets}
 use Rattle.gfp_scramble.specs.Descrambler.{DescramblerStands, unknown}
 use Rattle.gfp_scramble.proofs.AreaSteps.{back_more, given_more, front_more, front_all}

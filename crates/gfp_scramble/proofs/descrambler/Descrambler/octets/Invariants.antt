@@ -1,6 +1,6 @@
 -- Up to the octet that comes next, the area is descrambled, and from there on it is as it was.
 use Rattle.std.proofs.Common.{◌≡◌, ℕ, Bool, List, ◌++◌, take, drop}
-use Rattle.law_model.specs.frames.Scramble.{descrambled_octets}
+use Rattle.law_model.specs.Common.{descrambled_octets}
 use Rattle.gfp_scramble.specs.Descrambler.{DescramblerStands, unknown}
 use Rattle.gfp_scramble.proofs.descrambler.Descrambler.octets.Given as goal
 

@@ -1,6 +1,6 @@
 -- One octet more is scrambled.
 use Rattle.std.proofs.Common.{◌++◌, take, subst}
-use Rattle.law_model.specs.frames.Scramble.{scrambled_octets}
+use Rattle.law_model.specs.Common.{scrambled_octets}
 use Rattle.law_model.proofs.ScrambledOctets.{length-scrambled_octets}
 use Rattle.gfp_scramble.specs.Scrambler.{ScramblerStands}
 use Rattle.gfp_scramble.proofs.AreaSteps.{back_more, given_more, front_more}

@@ -1,6 +1,6 @@
 -- Eight octets more are scrambled.
 use Rattle.std.proofs.Common.{◌++◌, ◌*◌, take, subst}
-use Rattle.law_model.specs.frames.Scramble.{scrambled_octets}
+use Rattle.law_model.specs.Common.{scrambled_octets}
 use Rattle.law_model.proofs.ScrambledOctets.{length-scrambled_octets}
 use Rattle.gfp_scramble.specs.Scrambler.{ScramblerStands}
 use Rattle.gfp_scramble.proofs.AreaSteps.{back_eight, given_eight, front_eight}

@@ -1,6 +1,6 @@
 -- Up to the word that comes next, the area is scrambled, and from there on it is as it was.
 use Rattle.std.proofs.Common.{◌≡◌, ℕ, ◌*◌, List, ◌++◌, take, drop}
-use Rattle.law_model.specs.frames.Scramble.{scrambled_octets}
+use Rattle.law_model.specs.Common.{scrambled_octets}
 use Rattle.gfp_scramble.specs.Scrambler.{ScramblerStands}
 use Rattle.gfp_scramble.proofs.scrambler.Scrambler.words.Given as goal
 

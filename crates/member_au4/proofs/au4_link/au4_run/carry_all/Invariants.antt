@@ -1,6 +1,6 @@
 -- All frames so far were sent and taken.
 use Rattle.std.proofs.Common.{◌≡◌, [], take}
-use Rattle.octet_io.specs.Start.{Start}
+use Rattle.law_model.specs.Common.{Start}
 use Rattle.member_au4.specs.au4_pointer.Link.{Carries}
 use Rattle.member_au4.specs.au4_link.Vcs.{first_vcs}
 use Rattle.member_au4.specs.au4_link.Text.{cuts, HasVcs}

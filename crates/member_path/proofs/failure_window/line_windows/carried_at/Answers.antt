@@ -1,19 +1,15 @@
 -- The search ends at the first window that ends above the container.
 use Rattle.std.proofs.Common.{rules, ◌≡◌, ◌-◌, ◌≤◌, nat_le, true, false, ℕ, List, length, take, drop, slice_index_or}
-use Rattle.std.proofs.Common.{sym, ◌∙◌, ap, arith}
+use Rattle.std.proofs.Common.{sym, ◌∙◌, arith, leb-true, leb-false, le-leb}
 use Rattle.std.specs.List.Sorted.{IsPartitionedBy, IsPartitionPoint}
-use Rattle.std.proofs.Math.Seq.{take-length}
-use Rattle.std.proofs.lemmas.Bool.{leb-true, leb-false, le-leb}
-use Rattle.std.proofs.lemmas.List.{length-drop}
+use Rattle.std.proofs.lemmas.List.{take_rest}
 use Rattle.std.proofs.lemmas.Fn.{always_returns_same}
+use Rattle.law_model.specs.Common.{AreWindows}
 use Rattle.law_model.specs.declared.window_types.Window.{Window}
 use Rattle.member_path.specs.failure_window.Above.{IsFirstAbove}
-use Rattle.law_model.specs.members.Damage.{AreWindows, carried}
+use Rattle.law_model.specs.members.Damage.{carried}
 use Rattle.member_path.proofs.FailureWindowLaws.WindowLaws.{carried-drop, ends-rise, first-above}
 use Rattle.member_path.proofs.failure_window.line_windows.carried_at.Goals as goal
-
-rest : (list : List Window) (i : ℕ) → take (length list - i) (drop i list) ≡ drop i list
-rest list i = ap (λ n. take n (drop i list)) (sym (length-drop i list)) ∙ take-length (drop i list)
 
 parted : (list : List Window) (n : ℕ) → AreWindows 0 list → IsPartitionedBy (λ window. nat_le window.end n) list
 parted list n are i j d before within ended =
@@ -27,7 +23,7 @@ split : (list : List Window) (n i : ℕ) → AreWindows 0 list → i ≤ length 
     IsFirstAbove n (take (length list - i) (drop i list)) ×
     (carried (take (length list - i) (drop i list)) n ≡ carried list n)
 split list n i are within point =
-    rw (rest list i) (
+    rw (take_rest list i) (
       first-above 0 list n i are within
           (λ k d from below. leb-false (slice_index_or list k d).end n (point.1 k d from below)),
       sym (carried-drop list n i (λ k d below inside. leb-true (slice_index_or list k d).end n

@@ -1,9 +1,8 @@
 -- One more line has passed its number.
-use Rattle.std.proofs.Common.{◌<◌, length, Some, sym, ◌∙◌, ap, arith}
-use Rattle.std.specs.Prelude.{option_map}
+use Rattle.std.proofs.Common.{◌<◌, length, Some, sym, ◌∙◌, ap, arith, option_map}
 use Rattle.std.specs.Global.{Box}
 use Rattle.std.proofs.lemmas.Option.{slice_get-get_or, slice_get-map}
-use Rattle.member_cells.specs.declared.containers_and_cells.Container.{Container}
+use Rattle.law_model.specs.Common.{Container}
 use Rattle.member_cells.specs.Held.{held}
 use Rattle.member_rows.proofs.RealignRowsLaws.DecidedLaws.{decided-shut}
 use Rattle.member_rows.proofs.RealignRowsLaws.GatherLaws.{passed_more}

@@ -1,12 +1,12 @@
 -- One more square of places goes on where those before it end.
 use Rattle.std.proofs.Common.{◌≡◌, ℕ, ◌+◌, ◌-◌, ◌*◌, ◌≤◌, take, drop, length, ◌++◌, refl, sym, ap, ap₂, ◌∙◌, arith}
-use Rattle.std.proofs.Common.{length-drop}
-use Rattle.std.proofs.lemmas.List.{length-take-le}
+use Rattle.std.proofs.Common.{length-drop, length-take-le}
+use Rattle.law_model.proofs.ListLaws.{take-written}
 use Rattle.member_cells.specs.Held.{held}
-use Rattle.law_model.specs.rows.Interleave.{octets_from}
+use Rattle.law_model.specs.Common.{octets_from}
 use Rattle.member_rows.specs.vcat_interleave.Members.{payloads_of}
 use Rattle.member_rows.proofs.VcatInterleaveLaws.RowLaws.{octets_from-add, octets_from-none}
-use Rattle.member_rows.proofs.VcatInterleaveLaws.PlaceLaws.{done-within, take-behind}
+use Rattle.member_rows.proofs.VcatInterleaveLaws.PlaceLaws.{done-within}
 use Rattle.member_rows.proofs.vcat_interleave.gather_members.gather_few.Goals as goal
 
 pub loop-k-init : goal.loop-k-init
@@ -31,7 +31,7 @@ loop-k-preserved c =
     length-take-le rest (drop (done * x) row) (omega (arith, length-drop (done * x) row)) in e) in
     let next : (c.loop-k.k + 1) * 16 * x ≡ done * x + 16 * x = omega arith in
     ap (λ n. take n (take (done * x) row ++ (piece ++ drop rest (drop (done * x) row)))) next
-    ∙ take-behind (done * x) (16 * x) row piece (drop rest (drop (done * x) row)) (omega (arith, reach, few))
+    ∙ take-written (done * x) (16 * x) row piece (drop rest (drop (done * x) row)) (omega (arith, reach, few))
     (omega (arith, reach, few, size))
     ∙ ap₂ (λ a b. a ++ b) c.loop-k.invariant c.gather_square.ensures
     ∙ sym (octets_from-add c.args.place done 16 parts)

@@ -1,6 +1,5 @@
 -- The octets of the square, as far as members are there.
-use Rattle.std.proofs.Common.{◌≡◌, ◌+◌, ◌*◌, take, length, ap, ◌∙◌, arith}
-use Rattle.std.proofs.lemmas.List.{get_or-take, length-take-le}
+use Rattle.std.proofs.Common.{◌≡◌, ◌+◌, ◌*◌, take, length, ap, ◌∙◌, arith, get_or-take, length-take-le}
 use Rattle.member_cells.specs.Held.{held}
 use Rattle.member_rows.specs.vcat_interleave.Square.{octet_at}
 use Rattle.member_rows.specs.vcat_interleave.Members.{payloads_of}

@@ -2,7 +2,7 @@
 use Rattle.std.proofs.Common.{◌≡◌, ◌+◌, ◌-◌, ◌*◌, take, length, ◌++◌, refl, sym, ap, ap₂, ◌∙◌, arith}
 use Rattle.std.proofs.lemmas.Slice.{take-put_mid}
 use Rattle.member_cells.specs.Held.{held}
-use Rattle.law_model.specs.rows.Interleave.{octets_from}
+use Rattle.law_model.specs.Common.{octets_from}
 use Rattle.member_rows.specs.vcat_interleave.Members.{payloads_of}
 use Rattle.member_rows.proofs.VcatInterleaveLaws.RowLaws.{octets_from-add, octets_from-none, length-octets_from}
 use Rattle.member_rows.proofs.VcatInterleaveLaws.PlaceLaws.{done-within}

@@ -1,7 +1,7 @@
 -- The octets stand at the places of the rank, and those of sixteen places come again.
 use Rattle.std.proofs.Common.{◌≡◌, ◌+◌, ◌-◌, ◌*◌, ◌%◌, inl, inr, length, slice_index, ap, ◌∙◌, arith}
 use Rattle.std.proofs.lemmas.Bool.{cases_lt}
-use Rattle.law_model.specs.rows.Interleave.{part_of}
+use Rattle.law_model.specs.Common.{part_of}
 use Rattle.member_rows.proofs.VcatInterleaveLaws.RowLaws.{is-part_of, within-row}
 use Rattle.member_rows.proofs.vcat_interleave.octets_of_member.take_again.Goals as goal
 

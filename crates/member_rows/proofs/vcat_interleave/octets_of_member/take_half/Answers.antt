@@ -1,7 +1,7 @@
 -- The octets stand at the places of the rank, sixteen more at a time.
 use Rattle.std.proofs.Common.{◌≡◌, ◌+◌, ◌-◌, ◌*◌, inl, inr, slice_index, sym, ap, ◌∙◌, arith}
 use Rattle.std.proofs.lemmas.Bool.{cases_lt}
-use Rattle.law_model.specs.rows.Interleave.{part_of}
+use Rattle.law_model.specs.Common.{part_of}
 use Rattle.member_rows.proofs.VcatInterleaveLaws.RowLaws.{is-part_of}
 use Rattle.member_rows.proofs.vcat_interleave.octets_of_member.take_half.Goals as goal
 

@@ -1,6 +1,6 @@
 -- One rank of the square more has its part: its column has the octets that it carries.
 use Rattle.std.proofs.Common.{◌≡◌, [], ◌+◌, ◌<◌, suc, length, slice_index_or, subst, ap, ◌∙◌, arith}
-use Rattle.law_model.specs.rows.Interleave.{part_of}
+use Rattle.law_model.specs.Common.{part_of}
 use Rattle.member_cells.specs.Held.{held}
 use Rattle.member_rows.specs.vcat_interleave.Spread.{SpreadsOver}
 use Rattle.member_rows.proofs.VcatInterleaveLaws.RowLaws.{is-part_of}

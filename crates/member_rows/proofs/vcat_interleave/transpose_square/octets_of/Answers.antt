@@ -1,6 +1,5 @@
 -- A vector has the octets of the slice that it was read from.
-use Rattle.std.proofs.Common.{◌≡◌, ◌+◌, ◌-◌, take, drop, get_or, ap, ◌∙◌, arith}
-use Rattle.std.proofs.lemmas.List.{get_or-take, get_or-drop}
+use Rattle.std.proofs.Common.{◌≡◌, ◌+◌, ◌-◌, take, drop, get_or, ap, ◌∙◌, arith, get_or-take, get_or-drop}
 use Rattle.std.proofs.lemmas.Simd.{get_or-chunk}
 use Rattle.member_rows.proofs.vcat_interleave.transpose_square.octets_of.Goals as goal
 

@@ -1,6 +1,5 @@
 -- Sixteen octets stand in the place of sixteen others.
-use Rattle.std.proofs.Common.{◌+◌, ◌++◌, inl, inr, take, drop, slice_index, ap, ap₂, ◌∙◌, sym, arith}
-use Rattle.std.proofs.lemmas.List.{drop-drop}
+use Rattle.std.proofs.Common.{◌+◌, ◌++◌, inl, inr, take, drop, slice_index, ap, ap₂, ◌∙◌, sym, arith, drop-drop}
 use Rattle.std.proofs.lemmas.Simd.{put_chunk_whole}
 use Rattle.member_rows.proofs.VcatInterleaveLaws.PlaceLaws.{put-placed, put-before, put-after}
 use Rattle.member_rows.proofs.vcat_interleave.transpose_square.put_octets.Goals as goal

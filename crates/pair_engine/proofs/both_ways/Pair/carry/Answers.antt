@@ -1,11 +1,11 @@
 -- A line of a way carries.
 use Rattle.std.proofs.Common.{◌<◌, length, None, refl, sym, ◌∙◌, ap, subst}
-use Rattle.law_model.specs.session.Counts.{carry}
-use Rattle.law_walk.specs.Walk.{walk_plan}
+use Rattle.law_model.specs.Common.{carry}
+use Rattle.law_walk.specs.Common.{walk_plan}
+use Rattle.law_pair.specs.Common.{plan_on}
 use Rattle.law_pair.specs.declared.pair_events.PairEvent.TheVariants.{Carry}
 use Rattle.law_pair.specs.declared.pair_events.Way.TheVariants.{There, Back}
 use Rattle.pair_engine.specs.Moved.{Paired, plan_of, after, moved_on, moved_of}
-use Rattle.law_pair.specs.PairCounts.{plan_on}
 use Rattle.pair_engine.specs.Ways.{leg_beside, way_counts}
 use Rattle.pair_engine.proofs.PairLaws.{paired, line-in, there-follows, back-follows}
 use Rattle.pair_engine.proofs.both_ways.Pair.carry.Goals as goal

@@ -1,7 +1,7 @@
 -- One line more.
 use Rattle.std.proofs.Common.{◌+◌, ◌<◌, length, drop, refl, sym, ◌∙◌, ap, subst, arith}
+use Rattle.law_pair.specs.Common.{PairPlan, PairCounts, plan_on, pair_step, pair_run, carries_on}
 use Rattle.law_pair.specs.declared.pair_events.PairEvent.TheVariants.{Carry}
-use Rattle.law_pair.specs.PairCounts.{PairPlan, PairCounts, plan_on, pair_step, pair_run, carries_on}
 use Rattle.pair_engine.specs.Moved.{Paired, plan_of, with_counts}
 use Rattle.pair_engine.proofs.RoundLaws.{carry-next, carry-last, keeps, same-plan}
 use Rattle.pair_engine.proofs.both_ways.Pair.carry_all.Goals as goal

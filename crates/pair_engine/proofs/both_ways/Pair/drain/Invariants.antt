@@ -1,8 +1,7 @@
 -- The rounds that are left give what all of them give.
 use Rattle.std.proofs.Common.{◌≡◌, ◌≤◌, ◌-◌}
+use Rattle.law_pair.specs.Common.{pair_bound, pair_drained}
 use Rattle.law_pair.specs.declared.pair_events.Way.TheVariants.{There, Back}
-use Rattle.law_pair.specs.PairCounts.{pair_bound}
-use Rattle.law_pair.specs.PairWalk.{pair_drained}
 use Rattle.law_pair.proofs.PairMoveLaws.{pair_made}
 use Rattle.pair_engine.specs.Moved.{plan_of, with_counts, GivesWay}
 use Rattle.pair_engine.proofs.both_ways.Pair.drain.Given as goal

@@ -1,6 +1,6 @@
 -- Some list of events led here.
 use Rattle.std.proofs.Common.{subst}
-use Rattle.law_pair.specs.PairWalk.{IsPairWalked}
+use Rattle.law_pair.specs.Common.{IsPairWalked}
 use Rattle.pair_engine.specs.Moved.{Paired}
 use Rattle.pair_engine.proofs.both_ways.Pair.is_over.Goals as goal
 

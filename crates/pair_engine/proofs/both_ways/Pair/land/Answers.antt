@@ -1,9 +1,9 @@
 -- The next item of a way lands, or stalls.
 use Rattle.std.proofs.Common.{refl, sym, ◌∙◌, ap}
-use Rattle.law_pair.specs.PairCounts.{land_item}
-use Rattle.law_walk.specs.Walk.{walk_plan}
+use Rattle.law_pair.specs.Common.{land_item}
 use Rattle.law_pair.specs.declared.pair_events.PairEvent.TheVariants.{Item}
 use Rattle.law_pair.specs.declared.pair_events.Way.TheVariants.{There, Back}
+use Rattle.law_walk.specs.Common.{walk_plan}
 use Rattle.pair_engine.specs.Moved.{Paired, after, moved_on, moved_of, next_refusal}
 use Rattle.pair_engine.specs.Ways.{leg_beside, way_counts}
 use Rattle.pair_engine.proofs.PairLaws.{there-follows, back-follows}

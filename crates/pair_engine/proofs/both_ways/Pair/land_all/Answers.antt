@@ -1,7 +1,7 @@
 -- Items land until one stalls.
 use Rattle.std.proofs.Common.{refl, sym, ◌∙◌, ap}
+use Rattle.law_pair.specs.Common.{PairPlan, pair_step}
 use Rattle.law_pair.specs.declared.pair_events.PairEvent.TheVariants.{Item}
-use Rattle.law_pair.specs.PairCounts.{PairPlan, pair_step}
 use Rattle.pair_engine.specs.Moved.{Paired, plan_of, with_counts}
 use Rattle.pair_engine.proofs.RoundLaws.{landed-none, keeps, same-plan, few-in, item-turn, item-end, moved-none}
 use Rattle.pair_engine.proofs.RoundLaws.{stalled-some}

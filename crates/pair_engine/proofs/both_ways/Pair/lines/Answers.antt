@@ -1,7 +1,7 @@
 -- There is a path for each line.
 use Rattle.std.proofs.Common.{length, sym, ◌∙◌, ap}
+use Rattle.law_pair.specs.Common.{plan_on}
 use Rattle.law_pair.specs.declared.pair_events.Way.TheVariants.{There, Back}
-use Rattle.law_pair.specs.PairCounts.{plan_on}
 use Rattle.pair_engine.specs.Moved.{Paired, plan_of}
 use Rattle.pair_engine.proofs.PairLaws.{paths-size}
 use Rattle.pair_engine.proofs.both_ways.Pair.lines.Goals as goal

@@ -1,8 +1,7 @@
 -- Both ways are before any event.
 use Rattle.std.proofs.Common.{◌∙◌, ap}
 use Rattle.law_model.specs.declared.script_types.Script.{Script}
-use Rattle.law_pair.specs.PairCounts.{pair_begin}
-use Rattle.law_pair.specs.PairWalk.{pair_plan}
+use Rattle.law_pair.specs.Common.{pair_begin, pair_plan}
 use Rattle.pair_engine.proofs.both_ways.Pair.new.Goals as goal
 
 pub returns-clause-counts : goal.returns-clause-counts

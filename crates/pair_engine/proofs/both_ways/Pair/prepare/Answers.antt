@@ -1,8 +1,8 @@
 -- A round but for its rows.
 use Rattle.std.proofs.Common.{suc, length, replicate, refl, ◌∙◌, ap}
+use Rattle.law_pair.specs.Common.{PairPlan, pair_step, pair_run, carries_on}
 use Rattle.law_pair.specs.declared.pair_events.Way.TheVariants.{There, Back}
 use Rattle.law_pair.specs.declared.pair_events.PairEvent.TheVariants.{Item, Tick}
-use Rattle.law_pair.specs.PairCounts.{PairPlan, pair_step, pair_run, carries_on}
 use Rattle.pair_engine.specs.Moved.{Paired, plan_of}
 use Rattle.pair_engine.proofs.RoundLaws.{round-run, keeps, same-plan}
 use Rattle.pair_engine.proofs.both_ways.Pair.prepare.Goals as goal

@@ -1,9 +1,9 @@
 -- What has landed of a way is what its counts say.
 use Rattle.std.proofs.Common.{sym, ◌∙◌, ap}
-use Rattle.law_walk.specs.Landed.{refusals_of}
+use Rattle.law_walk.specs.Common.{refusals_of}
 use Rattle.terminal_group.specs.Landed.{Landed}
+use Rattle.law_pair.specs.Common.{counts_on}
 use Rattle.law_pair.specs.declared.pair_events.Way.TheVariants.{There, Back}
-use Rattle.law_pair.specs.PairCounts.{counts_on}
 use Rattle.pair_engine.specs.Moved.{Paired, leg_on}
 use Rattle.pair_engine.proofs.both_ways.Pair.refusals.Goals as goal
 

@@ -1,9 +1,9 @@
 -- A row of a way is tried.
 use Rattle.std.proofs.Common.{sym, ◌∙◌, ap, subst}
+use Rattle.law_pair.specs.Common.{counts_on}
 use Rattle.law_pair.specs.declared.pair_events.PairEvent.TheVariants.{Take}
 use Rattle.law_pair.specs.declared.pair_events.Way.TheVariants.{There, Back}
-use Rattle.law_pair.specs.PairCounts.{counts_on}
-use Rattle.walk_engine.specs.walk_core.Moved.{GivesRows}
+use Rattle.walk_engine.specs.Common.{GivesRows}
 use Rattle.pair_engine.specs.Moved.{Paired, after, leg_on, moved_on, moved_of}
 use Rattle.pair_engine.proofs.BesideLaws.{there-beside, back-beside}
 use Rattle.pair_engine.proofs.PairLaws.{take-there, take-back}

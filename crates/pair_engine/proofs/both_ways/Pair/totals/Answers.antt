@@ -1,9 +1,9 @@
 -- What was counted of a way is what its leg and its counts say.
 use Rattle.std.proofs.Common.{sym, ◌∙◌, ap}
 use Rattle.law_model.specs.session.Scenario.{packets_in}
-use Rattle.law_walk.specs.Landed.{totals_of}
+use Rattle.law_walk.specs.Common.{totals_of}
+use Rattle.law_pair.specs.Common.{counts_on}
 use Rattle.law_pair.specs.declared.pair_events.Way.TheVariants.{There, Back}
-use Rattle.law_pair.specs.PairCounts.{counts_on}
 use Rattle.pair_engine.specs.Moved.{Paired, leg_on}
 use Rattle.pair_engine.specs.Ways.{leg_beside}
 use Rattle.pair_engine.proofs.both_ways.Pair.totals.Goals as goal

@@ -1,8 +1,9 @@
 -- A line carries.
 use Rattle.std.proofs.Common.{sym, ◌∙◌, ap, subst}
 use Rattle.law_model.specs.session.Scenario.{packets_in}
-use Rattle.law_pair.specs.Pair.{way_of}
-use Rattle.walk_engine.specs.walk_core.Parts.{Parts, counts_of, WayStands}
+use Rattle.law_pair.specs.Common.{way_of}
+use Rattle.walk_engine.specs.walk_core.Parts.{WayStands}
+use Rattle.walk_engine.specs.Common.{Parts, counts_of}
 use Rattle.pair_engine.proofs.pair_way.PairWay.carry.Goals as goal
 
 pub returns-clause-goes : goal.returns-clause-goes

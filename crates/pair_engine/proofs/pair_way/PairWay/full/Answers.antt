@@ -2,7 +2,7 @@
 use Rattle.std.proofs.Common.{option_map, sym, ◌∙◌, ap}
 use Rattle.law_model.specs.declared.walk_events.StallCause.TheVariants.{TxFull}
 use Rattle.law_model.specs.session.Scenario.{packets_in}
-use Rattle.law_pair.specs.Pair.{way_of}
+use Rattle.law_pair.specs.Common.{way_of}
 use Rattle.pair_engine.proofs.pair_way.PairWay.full.Goals as goal
 
 pub returns-in-Some : goal.returns-in-Some

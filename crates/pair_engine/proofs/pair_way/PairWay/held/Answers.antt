@@ -1,11 +1,11 @@
 -- An item is held, or none is.
 use Rattle.std.proofs.Common.{◌≡◌, ℕ, Option, option_map, sym, ◌∙◌, ap}
+use Rattle.law_model.specs.Common.{dues_of, held}
 use Rattle.law_model.specs.declared.script_types.Script.{Script}
 use Rattle.law_model.specs.declared.walk_events.StallCause.TheVariants.{Held}
-use Rattle.law_model.specs.session.Counts.{dues_of, held}
 use Rattle.terminal_group.specs.Landed.{Landed}
 use Rattle.terminal_group.proofs.BareLaws.{bare-dues}
-use Rattle.law_pair.specs.Pair.{way_of}
+use Rattle.law_pair.specs.Common.{way_of}
 use Rattle.pair_engine.specs.declared.pair_way.PairWay.{PairWay}
 use Rattle.pair_engine.specs.Ways.{StandsAs}
 use Rattle.pair_engine.proofs.pair_way.PairWay.held.Goals as goal

@@ -3,11 +3,8 @@ use Rattle.std.proofs.Common.{◌≤◌, None, refl, sym, ◌∙◌, ap, subst, 
 use Rattle.law_model.specs.session.Scenario.{packets_in}
 use Rattle.terminal_group.specs.Item.{kind_of}
 use Rattle.terminal_group.specs.Landed.{Landed, next_number, due_at}
-use Rattle.law_pair.specs.Pair.{way_of}
-use Rattle.walk_engine.specs.walk_core.Landing.{landing_of}
-use Rattle.walk_engine.specs.walk_core.Moved.{answer_by}
-use Rattle.walk_engine.specs.walk_core.Parts.{Parts}
-use Rattle.walk_engine.specs.walk_core.Way.{Makes}
+use Rattle.law_pair.specs.Common.{way_of}
+use Rattle.walk_engine.specs.Common.{landing_of, answer_by, Parts, Makes}
 use Rattle.walk_engine.proofs.WalkCoreLaws.LandSteps.{number-in, land-kind, land-due}
 use Rattle.pair_engine.proofs.LandLaws.{goes-none, goes-early, goes-landed}
 use Rattle.pair_engine.proofs.pair_way.PairWay.land.Goals as goal

@@ -1,6 +1,5 @@
 -- Both scripts are whole, or something is missing.
-use Rattle.std.proofs.Common.{subst}
-use Rattle.std.specs.Prelude.{Option, IfSome}
+use Rattle.std.proofs.Common.{subst, Option, IfSome}
 use Rattle.law_model.specs.declared.script_types.Script.{Script}
 use Rattle.text_scripts.specs.script_read.Pieces.{IsUntested}
 use Rattle.pair_script.specs.Pieces.{line_at, halves_of}

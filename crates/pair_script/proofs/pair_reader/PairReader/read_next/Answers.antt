@@ -1,6 +1,5 @@
 -- The line divides, or it is one of a script.
-use Rattle.std.proofs.Common.{◌∙◌, List, ℕ, ap, sym, inr}
-use Rattle.std.specs.Prelude.{option_map}
+use Rattle.std.proofs.Common.{◌∙◌, List, ℕ, ap, sym, inr, option_map}
 use Rattle.text_lines.specs.Words.{words}
 use Rattle.pair_script.specs.PairTextLines.{Halves, of_script}
 use Rattle.pair_script.specs.Pieces.{line_at, halves_of}

@@ -1,15 +1,16 @@
 -- Nothing is left, or one line.
 use Rattle.std.proofs.Common.{◌≡◌, ◌<◌, [], length, ap, arith}
 use Rattle.std.proofs.lemmas.Bool.Decides.{nat_tests}
+use Rattle.std.proofs.lemmas.List.{nil_from_length}
 use Rattle.pair_script.specs.Pieces.{said_after}
 use Rattle.pair_script.proofs.HalfLaws.{one_more, if_ok, if_both, if_err}
-use Rattle.pair_script.proofs.PieceLaws.{nothing, last_line, last_fails}
+use Rattle.pair_script.proofs.PieceLaws.{last_line, last_fails}
 use Rattle.pair_script.proofs.pair_reader.PairReader.read_tail.Goals as goal
 
 pub returns-then-is_empty-clause-said : goal.returns-then-is_empty-clause-said
 returns-then-is_empty-clause-said c =
     let none : length c.args.last.now ≡ 0 = grind (arith, nat_tests, c.if-is_empty.ensures) in
-    ap (said_after c.args.self) (nothing c.args.last.now none)
+    ap (said_after c.args.self) (nil_from_length c.args.last.now none)
 
 pub returns-clause-room : goal.returns-clause-room
 returns-clause-room c =

@@ -1,7 +1,6 @@
 -- The item is given to the terminal, and passed.
-use Rattle.std.proofs.Common.{◌∙◌, ap, subst}
-use Rattle.std.specs.Option.{is_some}
-use Rattle.law_walk.specs.Landed.{is_client}
+use Rattle.std.proofs.Common.{◌∙◌, ap, subst, is_some}
+use Rattle.law_walk.specs.Common.{is_client}
 use Rattle.terminal_group.specs.Item.{kind_of}
 use Rattle.terminal_group.specs.Landed.{next_number, HasPassed}
 use Rattle.terminal_group.specs.Source.{Source}

@@ -1,6 +1,5 @@
 -- A frame was made of the cell that it needs.
-use Rattle.std.proofs.Common.{◌≡◌, None, sym, ◌∙◌, ap, arith}
-use Rattle.std.specs.Option.{is_some}
+use Rattle.std.proofs.Common.{◌≡◌, None, sym, ◌∙◌, ap, arith, is_some}
 use Rattle.terminal_source.specs.source_core.Terminal.{needed}
 use Rattle.terminal_group.specs.Inbox.{cell_for}
 use Rattle.terminal_group.specs.Source.{Source, early_in, missing_by, missing_in}

@@ -1,7 +1,7 @@
 -- Nothing has come yet.
 use Rattle.std.proofs.Common.{refl, sym, ◌∙◌, ap, subst}
 use Rattle.std.specs.List.Sorted.{IsNonDecreasing}
-use Rattle.law_model.specs.session.Counts.{dues_of, frame_dues, command_dues}
+use Rattle.law_model.specs.Common.{dues_of, frame_dues, command_dues}
 use Rattle.terminal_group.specs.Item.{bare_items}
 use Rattle.terminal_group.specs.Landed.{none_landed}
 use Rattle.terminal_group.specs.Inbox.{empty_inbox}

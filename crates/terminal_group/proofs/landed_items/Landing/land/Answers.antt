@@ -1,11 +1,9 @@
 -- The next item has landed, and its refusal is put in its place.
 use Rattle.std.proofs.Common.{◌≡◌, ℕ, ◌+◌, ◌<◌, Bool, List, [], slice_get, Option, None, Some, sym, ◌∙◌, ap, subst}
-use Rattle.std.proofs.Common.{arith, false, true, if◌then◌else◌, not}
-use Rattle.std.specs.Option.{is_some}
-use Rattle.std.specs.Vec.{vec_capacity}
+use Rattle.std.proofs.Common.{arith, false, true, if◌then◌else◌, not, is_some, vec_capacity}
 use Rattle.law_model.specs.declared.script_types.Item.{Item}
 use Rattle.law_model.specs.declared.item_refusals.Refusal.{Refusal}
-use Rattle.law_walk.specs.Landed.{is_client, IsPlaced, refused_by}
+use Rattle.law_walk.specs.Common.{is_client, IsPlaced, refused_by}
 use Rattle.terminal_group.specs.Landed.{Landed, next_place, landed_of, refused_of, HasPassed, AreOthers}
 use Rattle.terminal_group.proofs.LandingLaws.{all-dues, one-low, fewer-all, number-there, next-kind, none-put}
 use Rattle.terminal_group.proofs.LandingLaws.{refusal-landed, wider}

@@ -1,9 +1,8 @@
 -- Nothing has landed yet.
-use Rattle.std.proofs.Common.{◌≡◌, ℕ, ◌+◌, List, length, sym, ◌∙◌, ap, subst, arith}
+use Rattle.std.proofs.Common.{◌≡◌, ℕ, ◌+◌, List, length, sym, ◌∙◌, ap, subst, arith, vec_capacity}
 use Rattle.std.specs.List.Sorted.{IsNonDecreasing}
-use Rattle.std.specs.Vec.{vec_capacity}
 use Rattle.std.proofs.lemmas.List.{length-map}
-use Rattle.law_model.specs.session.Counts.{dues_of, frame_dues, command_dues}
+use Rattle.law_model.specs.Common.{dues_of, frame_dues, command_dues}
 use Rattle.law_model.specs.declared.item_refusals.Refusal.{Refusal}
 use Rattle.terminal_group.specs.Item.{bare}
 use Rattle.terminal_group.specs.Place.{is_frame, is_command, place_of}

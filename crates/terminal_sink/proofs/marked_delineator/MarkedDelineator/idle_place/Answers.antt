@@ -1,7 +1,6 @@
 -- Idle frames change no mark in SYNC, and a header is due in SYNC alone.
-use Rattle.std.proofs.Common.{◌≡◌, ℕ, true, false, refl, List, [], take, Option, Some, None, ◌∙◌, subst}
-use Rattle.std.specs.Prelude.{IfSome}
-use Rattle.law_model.specs.frames.Core.{core_header}
+use Rattle.std.proofs.Common.{◌≡◌, ℕ, true, false, refl, List, [], take, Option, Some, None, ◌∙◌, subst, IfSome}
+use Rattle.law_model.specs.Common.{core_header}
 use Rattle.gfp_delineate.specs.declared.area_receiver.Phase.{Phase}
 use Rattle.gfp_delineate.specs.declared.area_receiver.Phase.TheVariants.{Hunt, PresyncArea, PresyncHeader, SyncHeader, SyncArea}
 use Rattle.gfp_delineate.specs.declared.area_receiver.Phase.TheVariants.{SyncPassing}

@@ -1,6 +1,6 @@
 -- The lines of one number more, until all are found.
 use Rattle.std.proofs.Common.{◌≡◌, ◌+◌, ◌≤◌, ◌++◌, length, sym, ◌∙◌, ap, arith, length-append}
-use Rattle.law_model.specs.rows.Rows.{lines_at, active_from}
+use Rattle.law_model.specs.Common.{lines_at, active_from}
 use Rattle.terminal_sink.specs.sink_core.Active.{carrying}
 use Rattle.terminal_sink.proofs.SinkCoreLaws.ActiveLaws.{active_from-none, active_from-more, active_from-fits, carrying-fits}
 use Rattle.terminal_sink.proofs.SinkCoreLaws.ActiveLaws.{active_of-found}

@@ -1,7 +1,6 @@
 -- The lines of the sequence numbers so far are found, and there is room for 128.
-use Rattle.std.proofs.Common.{◌≡◌, ◌≤◌}
-use Rattle.std.specs.Vec.{vec_capacity}
-use Rattle.law_model.specs.rows.Rows.{active_from}
+use Rattle.std.proofs.Common.{◌≡◌, ◌≤◌, vec_capacity}
+use Rattle.law_model.specs.Common.{active_from}
 use Rattle.terminal_sink.proofs.sink_core.active_lines.find_active.Given as goal
 
 abbrev pub invariant-loop-sq : goal.invariant-loop-sq

@@ -1,6 +1,6 @@
 -- No line so far has a packet, so that the leader is among those that are left.
 use Rattle.std.proofs.Common.{◌≡◌, drop}
-use Rattle.law_model.specs.packets.ReturnPacket.{leader}
+use Rattle.law_model.specs.Common.{leader}
 use Rattle.terminal_sink.specs.sink_core.Active.{act_of}
 use Rattle.terminal_sink.proofs.sink_core.active_lines.leading_act.Given as goal
 

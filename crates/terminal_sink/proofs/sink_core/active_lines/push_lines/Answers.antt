@@ -1,6 +1,6 @@
 -- There is room for one more line.
 use Rattle.std.proofs.Common.{length, drop, sym, ◌∙◌, ap, arith, length-append}
-use Rattle.law_model.specs.rows.Rows.{lines_at}
+use Rattle.law_model.specs.Common.{lines_at}
 use Rattle.terminal_sink.proofs.SinkCoreLaws.ActiveLaws.{lines_at-here}
 use Rattle.terminal_sink.proofs.sink_core.active_lines.push_lines.Goals as goal
 

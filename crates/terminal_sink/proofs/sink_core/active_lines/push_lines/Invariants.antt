@@ -1,7 +1,6 @@
 -- The lines added so far, with those that are left behind them, are all that have the number.
-use Rattle.std.proofs.Common.{◌≡◌, ◌++◌, drop}
-use Rattle.std.specs.Vec.{vec_capacity}
-use Rattle.law_model.specs.rows.Rows.{lines_at}
+use Rattle.std.proofs.Common.{◌≡◌, ◌++◌, drop, vec_capacity}
+use Rattle.law_model.specs.Common.{lines_at}
 use Rattle.terminal_sink.proofs.sink_core.active_lines.push_lines.Given as goal
 
 abbrev pub invariant-loop-line : goal.invariant-loop-line

@@ -1,8 +1,7 @@
 -- One member more has the octets of idle frames, and where all have them the row does.
 use Rattle.std.proofs.Common.{◌≡◌, ℕ, List, ◌+◌, ◌*◌, ◌%◌, length, slice_index, sym, ◌∙◌, subst, arith, inl, inr}
 use Rattle.std.proofs.lemmas.Bool.{cases_lt}
-use Rattle.law_model.specs.frames.Core.{core_header}
-use Rattle.member_cells.specs.declared.containers_and_cells.Container.{Container}
+use Rattle.law_model.specs.Common.{core_header, Container}
 use Rattle.member_cells.specs.Held.{held}
 use Rattle.member_rows.specs.vcat_interleave.Members.{payload_at}
 use Rattle.terminal_sink.proofs.SinkCoreLaws.IdleLaws.{idles-dealt}

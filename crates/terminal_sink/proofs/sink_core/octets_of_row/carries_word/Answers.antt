@@ -1,8 +1,7 @@
 -- A word that stands as often as the part is long is all of the part.
-use Rattle.std.proofs.Common.{◌≡◌, ℕ, List, ◌*◌, ◌/◌, ◌<◌, drop, slice_index, refl, sym, ◌∙◌, ap, arith}
-use Rattle.std.specs.Int.{to_le_bytes, w64}
-use Rattle.std.proofs.lemmas.Bool.{eqb-true}
-use Rattle.std.proofs.lemmas.List.{get_or-take, get_or-drop}
+use Rattle.std.proofs.Common.{◌≡◌, ℕ, List, ◌*◌, ◌/◌, ◌<◌, drop, slice_index, refl, sym, ◌∙◌, ap, arith, w64, eqb-true}
+use Rattle.std.proofs.Common.{get_or-take, get_or-drop}
+use Rattle.std.specs.Int.{to_le_bytes}
 use Rattle.member_cells.specs.Held.{held}
 use Rattle.member_rows.specs.vcat_interleave.Members.{payload_at}
 use Rattle.terminal_sink.proofs.SinkCoreLaws.IdleLaws.{get-eights}

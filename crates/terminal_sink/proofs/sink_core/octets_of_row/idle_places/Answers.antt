@@ -1,7 +1,7 @@
 -- The idles that are left change nothing, and neither do no octets at all.
 use Rattle.std.proofs.Common.{ℕ, ◌-◌, ◌*◌, ◌/◌, length, sym, subst}
 use Rattle.member_cells.specs.Held.{held}
-use Rattle.law_model.specs.rows.Interleave.{octets_from}
+use Rattle.law_model.specs.Common.{octets_from}
 use Rattle.member_rows.specs.vcat_interleave.Members.{payloads_of}
 use Rattle.member_rows.proofs.VcatInterleaveLaws.RowLaws.{octets_from-none}
 use Rattle.gfp_delineate.specs.Repeated.{idles_from}

@@ -1,9 +1,8 @@
 -- The octets of the places so far are taken, and the frames that they complete are given.
 use Rattle.std.proofs.Common.{◌≤◌, ◌-◌}
 use Rattle.member_cells.specs.Held.{held}
-use Rattle.law_model.specs.rows.Interleave.{octets_from}
+use Rattle.law_model.specs.Common.{octets_from, Start}
 use Rattle.member_rows.specs.vcat_interleave.Members.{payloads_of}
-use Rattle.octet_io.specs.Start.{Start}
 use Rattle.terminal_sink.specs.sink_core.Receives.{IsKnown, Grows, Gives}
 use Rattle.terminal_sink.proofs.sink_core.octets_of_row.take_members.Given as goal
 

@@ -1,6 +1,6 @@
 -- The octets so far are taken, and the frames that they complete are given.
 use Rattle.std.proofs.Common.{◌≤◌, ◌-◌, length, take}
-use Rattle.octet_io.specs.Start.{Start}
+use Rattle.law_model.specs.Common.{Start}
 use Rattle.terminal_sink.specs.sink_core.Receives.{IsKnown, Grows, Gives}
 use Rattle.terminal_sink.proofs.sink_core.octets_of_row.take_piece.Given as goal
 

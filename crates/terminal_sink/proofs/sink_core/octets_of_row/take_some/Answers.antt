@@ -1,10 +1,9 @@
 -- The frame that octets complete is given.
-use Rattle.std.proofs.Common.{◌≡◌, [], ◌++◌, take, sym, ◌∙◌, ap, subst, inl, inr}
-use Rattle.std.proofs.lemmas.List.{append-nil}
+use Rattle.std.proofs.Common.{◌≡◌, [], ◌++◌, take, sym, ◌∙◌, ap, subst, inl, inr, append-nil}
 use Rattle.gfp_delineate.proofs.Frames.{told}
 use Rattle.terminal_sink.proofs.SinkCoreLaws.GivingLaws.{next-told}
 use Rattle.terminal_sink.proofs.sink_core.octets_of_row.take_some.Goals as goal
-use Rattle.law_model.specs.Limits.{longest_frame}
+use Rattle.law_model.specs.Common.{longest_frame}
 
 pub give-requires-clause-short : goal.give-requires-clause-short
 give-requires-clause-short g c = let (first, octets, stands) = c.requires in

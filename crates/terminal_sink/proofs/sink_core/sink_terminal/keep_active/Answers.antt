@@ -1,6 +1,6 @@
 -- The lines that carry payload in the next row.
 use Rattle.std.proofs.Common.{length, refl, sym, ◌∙◌, ap}
-use Rattle.law_model.specs.rows.Rows.{active_of}
+use Rattle.law_model.specs.Common.{active_of}
 use Rattle.terminal_sink.proofs.SinkCoreLaws.ActiveLaws.{found-lines, found-fits}
 use Rattle.terminal_sink.proofs.SinkCoreLaws.GivenLaws.{governing-between}
 use Rattle.terminal_sink.proofs.sink_core.sink_terminal.keep_active.Goals as goal

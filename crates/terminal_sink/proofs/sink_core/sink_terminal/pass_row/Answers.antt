@@ -1,6 +1,6 @@
 -- A packet ends with the row.
 use Rattle.std.proofs.Common.{[], ◌∷◌, ◌++◌, Some, sym, ◌∙◌, ap, ap₂, subst}
-use Rattle.law_model.specs.packets.ReturnPacket.{return_of}
+use Rattle.law_model.specs.Common.{return_of}
 use Rattle.terminal_sink.specs.lcas_sink.SinkStates.{SinkTableStands as HasTold}
 use Rattle.terminal_sink.specs.sink_core.Given.{read_rows, packet_rows}
 use Rattle.terminal_sink.proofs.SinkCoreLaws.GivenLaws.{packet-ends, read-more, length-read, packet_rows-more, governing-back, back-here}

@@ -2,7 +2,7 @@
 use Rattle.std.proofs.Common.{◌≡◌, ℕ, ◌<◌, ◌+◌, length, drop, get_or, slice_get, is_some, Some, None, sym, ◌∙◌, ap}
 use Rattle.std.proofs.Common.{arith}
 use Rattle.std.proofs.lemmas.List.{drop_more}
-use Rattle.law_model.specs.rows.Rows.{container_on, containers_at}
+use Rattle.law_model.specs.Common.{container_on, containers_at}
 use Rattle.member_path.specs.cell_numbers.Told.{told_by}
 use Rattle.terminal_sink.proofs.SinkCoreLaws.WholeLaws.{container_on-told, whole-step, bad-step}
 use Rattle.terminal_sink.proofs.sink_core.whole_rows.are_whole.Goals as goal

@@ -1,7 +1,6 @@
 -- The lines so far are whole, so that those that are left decide.
 use Rattle.std.proofs.Common.{◌≡◌, List, drop, is_some}
-use Rattle.member_cells.specs.declared.containers_and_cells.Cell.{Cell}
-use Rattle.law_model.specs.rows.Rows.{containers_at}
+use Rattle.law_model.specs.Common.{Cell, containers_at}
 use Rattle.member_rows.specs.realign_rows.Gather.{GatherStands}
 use Rattle.terminal_sink.proofs.sink_core.whole_rows.are_whole.Given as goal
 

@@ -1,8 +1,7 @@
 -- The row is that of the lines that were found.
 use Rattle.std.proofs.Common.{◌≡◌, ◌==◌, ◌&&◌, true, length, is_some, sym, ◌∙◌, ap, arith}
 use Rattle.std.proofs.lemmas.Bool.Decides.{nat_tests}
-use Rattle.law_model.specs.packets.ReturnPacket.{leader}
-use Rattle.law_model.specs.rows.Rows.{active_of, containers_at, row_under}
+use Rattle.law_model.specs.Common.{leader, active_of, containers_at, row_under}
 use Rattle.terminal_sink.specs.sink_core.Active.{act_of}
 use Rattle.terminal_sink.proofs.SinkCoreLaws.WholeLaws.{is_whole_by, row-under}
 use Rattle.terminal_sink.proofs.sink_core.whole_rows.is_whole.Goals as goal

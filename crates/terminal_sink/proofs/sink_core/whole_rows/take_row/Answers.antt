@@ -1,21 +1,17 @@
 -- The row is taken as it is by the packets that govern it.
 use Rattle.std.proofs.Common.{◌≡◌, ℕ, ◌≤◌, List, [], ◌∷◌, ◌++◌, Some, None, sym, ◌∙◌, ap, subst, arith}
-use Rattle.law_model.specs.rows.Rows.{governing, active_of, row_under, row_at}
-use Rattle.law_model.specs.rows.Interleave.{octets_from}
-use Rattle.law_model.specs.frames.Segment.{segments_of}
+use Rattle.law_model.specs.Common.{governing, active_of, row_under, row_at, octets_from, segments_of, Cell, Container}
+use Rattle.law_model.specs.Common.{longest_frame}
 use Rattle.member_rows.specs.vcat_interleave.Members.{payloads_of}
 use Rattle.law_loss.specs.Added.{added}
 use Rattle.terminal_sink.specs.sink_core.Members.{Hold}
 use Rattle.terminal_sink.specs.sink_core.Given.{row_in}
 use Rattle.terminal_sink.specs.sink_core.Receives.{Receives}
-use Rattle.member_cells.specs.declared.containers_and_cells.Cell.{Cell}
-use Rattle.member_cells.specs.declared.containers_and_cells.Container.{Container}
 use Rattle.member_cells.specs.Held.{held}
 use Rattle.terminal_sink.proofs.SinkCoreLaws.WholeLaws.{hold-some}
 use Rattle.terminal_sink.proofs.SinkCoreLaws.GivingLaws.{grows-none, gives-none}
 use Rattle.terminal_sink.proofs.SinkCoreLaws.ReceivedLaws.{receives-whole, receives-lost, gives-whole, gives-lost, row-early, row-late}
 use Rattle.terminal_sink.proofs.sink_core.whole_rows.take_row.Goals as goal
-use Rattle.law_model.specs.Limits.{longest_frame}
 
 pub returns-then-t-lt-FIRST_ROW-clause-receives : goal.returns-then-t-lt-FIRST_ROW-clause-receives
 returns-then-t-lt-FIRST_ROW-clause-receives g c cells come stands carry has =

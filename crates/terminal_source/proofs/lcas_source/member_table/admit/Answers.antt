@@ -1,8 +1,7 @@
 -- A line that isn't in ADD stays, one that has OK becomes NORM, and the first one without it ends the loop.
-use Rattle.std.proofs.Common.{◌<◌, length, sym, ◌∙◌, ap, arith}
-use Rattle.std.proofs.Math.Seq.{drop-cons}
+use Rattle.std.proofs.Common.{◌<◌, length, sym, ◌∙◌, ap, arith, drop-cons}
 use Rattle.std.proofs.lemmas.List.{set-get_or}
-use Rattle.law_model.specs.source.Table.{admit, kept_in}
+use Rattle.law_model.specs.Common.{admit, kept_in}
 use Rattle.terminal_source.proofs.LcasSourceLaws.FrontLaws.{front-written, front-stops, front-ends}
 use Rattle.terminal_source.proofs.LcasSourceLaws.OrderSteps.{admit-other, admit-confirmed, admit-open, admit-none}
 use Rattle.terminal_source.proofs.lcas_source.member_table.admit.Goals as goal

@@ -1,8 +1,7 @@
 -- None is in ADD, the first in ADD hasn't FAIL, no later one has OK, or one is put before it.
-use Rattle.std.proofs.Common.{position, Some, None, sym, ◌∙◌, ap, arith}
-use Rattle.std.specs.Prelude.{insert, remove}
+use Rattle.std.proofs.Common.{position, Some, None, sym, ◌∙◌, ap, arith, insert, remove}
 use Rattle.law_model.specs.declared.lcas_states.Standing.TheVariants.{Add as adding}
-use Rattle.law_model.specs.source.Table.{is_adding, kept_in}
+use Rattle.law_model.specs.Common.{is_adding, kept_in}
 use Rattle.terminal_source.proofs.LcasSourceLaws.FirstAddingLaws.{finds, finds-no_fail, finds-no_later, finds-later}
 use Rattle.terminal_source.proofs.lcas_source.member_table.exchange.Goals as goal
 

@@ -1,5 +1,5 @@
 -- The lines so far are passed, and what is taken out stands behind them.
-use Rattle.law_model.specs.source.Table.{kept_in}
+use Rattle.law_model.specs.Common.{kept_in}
 use Rattle.terminal_source.proofs.LcasSourceLaws.ExchangeLaws.{IsPassed}
 use Rattle.terminal_source.proofs.lcas_source.member_table.first_confirmed.Given as goal
 

@@ -1,6 +1,6 @@
 -- The eight statuses of the group are replaced where they stand.
 use Rattle.std.proofs.Common.{◌≡◌, ◌+◌, ◌*◌, ◌-◌, ◌∙◌, arith}
-use Rattle.law_model.specs.packets.Told.{oks_in}
+use Rattle.law_model.specs.Common.{oks_in}
 use Rattle.terminal_source.proofs.LcasSourceLaws.KeepLaws.{keep-in_place, oks_in-size}
 use Rattle.terminal_source.proofs.lcas_source.member_table.keep.Goals as goal
 

@@ -1,6 +1,6 @@
 -- A container of which nothing is filled is blank.
 use Rattle.std.proofs.Common.{refl, sym, subst}
-use Rattle.member_cells.specs.Held.{blank}
+use Rattle.law_model.specs.Common.{blank}
 use Rattle.terminal_source.specs.source_core.Frame.{IsBegun}
 use Rattle.terminal_source.proofs.source_core.container_frame.begin.Goals as goal
 

@@ -5,7 +5,7 @@ use Rattle.std.proofs.lemmas.Bool.{cases_lt}
 use Rattle.std.proofs.lemmas.Grind.{get_or-set_at}
 use Rattle.std.specs.Global.{Box}
 use Rattle.std.proofs.lemmas.List.{length-map}
-use Rattle.member_cells.specs.declared.containers_and_cells.Container.{Container}
+use Rattle.law_model.specs.Common.{Container}
 use Rattle.member_cells.specs.Held.{held}
 use Rattle.member_rows.proofs.VcatInterleaveLaws.SpreadLaws.{held-set}
 use Rattle.terminal_source.specs.source_core.Frame.{h4_by, carries, IsBegun}

@@ -2,9 +2,7 @@
 use Rattle.std.proofs.Common.{◌≡◌, ℕ, ◌+◌, ◌*◌, ◌<◌, List, refl, take, drop, length, slice_index, slice_index_or}
 use Rattle.std.proofs.Common.{slice_set, sym, ◌∙◌, ap, subst, arith, length-take-le}
 use Rattle.std.proofs.lemmas.List.{length-map}
-use Rattle.law_model.specs.frames.Piece.{stream_of}
-use Rattle.law_model.specs.source.Client.{reached}
-use Rattle.law_model.specs.rows.Interleave.{part_of}
+use Rattle.law_model.specs.Common.{stream_of, reached, part_of}
 use Rattle.std.specs.Box.{with_value}
 use Rattle.member_cells.specs.Held.{held}
 use Rattle.member_rows.specs.vcat_interleave.Members.{with_octets}

@@ -4,10 +4,8 @@ use Rattle.std.proofs.Common.{◌∙◌, ap, subst, arith, get_or-set_other}
 use Rattle.std.proofs.lemmas.Bool.{cases_lt}
 use Rattle.std.proofs.lemmas.List.FromFn.{fill_by_all}
 use Rattle.std.proofs.lemmas.Grind.{get_or-set_at}
+use Rattle.law_model.specs.Common.{packet_nibbles, forward_packet, telling, passed_on}
 use Rattle.law_model.specs.declared.control_packet.Packet.{Packet}
-use Rattle.law_model.specs.packets.Packet.{packet_nibbles}
-use Rattle.law_model.specs.packets.Forward.{forward_packet}
-use Rattle.law_model.specs.packets.Telling.{telling, passed_on}
 use Rattle.terminal_source.proofs.source_core.packets_of_step.say_all.Goals as goal
 
 pub loop-line-preserved : goal.loop-line-preserved

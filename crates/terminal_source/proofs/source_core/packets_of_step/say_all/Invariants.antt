@@ -1,8 +1,6 @@
 -- The lines up to here say the packets of this table.
 use Rattle.std.proofs.Common.{◌≡◌, ℕ, ◌<◌, ◌-◌, List, All, slice_index_or}
-use Rattle.law_model.specs.packets.Packet.{packet_nibbles}
-use Rattle.law_model.specs.packets.Forward.{forward_packet}
-use Rattle.law_model.specs.packets.Telling.{telling, passed_on}
+use Rattle.law_model.specs.Common.{packet_nibbles, forward_packet, telling, passed_on}
 use Rattle.terminal_source.proofs.source_core.packets_of_step.say_all.Given as goal
 
 abbrev pub invariant-loop-line : goal.invariant-loop-line

@@ -1,8 +1,7 @@
 -- Member status and RS-Ack are those of the return packet, and 0 where there is none.
 use Rattle.std.proofs.Common.{ℕ, Bool, Some, sym, ◌∙◌, ap, arith}
-use Rattle.check_remainder.specs.Bits.{number_behind}
+use Rattle.law_model.specs.Common.{number_behind, telling, passed_on}
 use Rattle.law_model.specs.declared.control_packet.Packet.{Packet}
-use Rattle.law_model.specs.packets.Telling.{telling, passed_on}
 use Rattle.terminal_source.proofs.SourceCoreLaws.TellLaws.{mst-passed, rs_ack-passed}
 use Rattle.terminal_source.proofs.source_core.packets_of_step.with_told.Goals as goal
 

@@ -1,7 +1,6 @@
 -- The number of the frame says which return cell a tick needs.
 use Rattle.std.proofs.Common.{◌≡◌, ◌≤◌, ℕ, ◌+◌, ◌-◌, ◌*◌, ◌/◌, ◌%◌, ◌==◌, ◌&&◌, nat_le, true, false, if◌then◌else◌}
-use Rattle.std.proofs.Common.{Some, None, refl, ◌∙◌, ap, arith}
-use Rattle.std.proofs.lemmas.Bool.{eq-eqb, le-leb}
+use Rattle.std.proofs.Common.{Some, None, refl, ◌∙◌, ap, arith, eq-eqb, le-leb}
 use Rattle.std.proofs.lemmas.Option.{none-some}
 use Rattle.terminal_source.specs.source_core.Terminal.{needed_at}
 use Rattle.terminal_source.proofs.SourceCoreLaws.TickSteps.{test-both}

@@ -1,6 +1,7 @@
 -- The record that stands at the front.
 use Rattle.std.proofs.Common.{◌≡◌, ◌+◌, ◌-◌, take, drop, ap, arith}
-use Rattle.text_captures.proofs.CaptureFileLaws.RecordLaws.{record-there, rest-whole}
+use Rattle.std.proofs.lemmas.List.{take_rest}
+use Rattle.text_captures.proofs.CaptureFileLaws.RecordLaws.{record-there}
 use Rattle.text_captures.proofs.capture_file.capture_record.next_record.Goals as goal
 
 pub returns-clause-some : goal.returns-clause-some
@@ -8,4 +9,4 @@ returns-clause-some c =
     let head = c.head_of-head.result in
     let n : 16 + head.captured - 16 ≡ head.captured = omega arith in
     record-there c.args.order c.args.octets.now _ _ head c.head_of-head.ensures (omega arith)
-    (ap (λ n. take n (drop 16 c.args.octets.now)) n) (rest-whole (16 + head.captured) c.args.octets.now)
+    (ap (λ n. take n (drop 16 c.args.octets.now)) n) (take_rest c.args.octets.now (16 + head.captured))

@@ -1,11 +1,12 @@
 -- A record more is sound, or has the first fault; or no whole one is left.
 use Rattle.std.proofs.Common.{◌++◌, [], ◌∷◌, length, sym, ◌∙◌, ap, refl, arith, length-append}
 use Rattle.std.proofs.lemmas.Bool.{eqb-true, eqb-false}
+use Rattle.std.proofs.lemmas.List.{nil_from_length}
 use Rattle.text_captures.specs.capture_file.Form.{records_of}
 use Rattle.text_captures.specs.capture_file.Reading.{record_fault}
 use Rattle.text_captures.proofs.CaptureFileLaws.RecordLaws.{has-next-then, has-ended, found-short}
 use Rattle.text_captures.proofs.CaptureFileLaws.ReadingLaws.{sound-begun, sound-more, said-fault, said-cut, said-sound}
-use Rattle.text_captures.proofs.CaptureFileLaws.CheckedLaws.{read-begun, read-more, due-is, no-octets}
+use Rattle.text_captures.proofs.CaptureFileLaws.CheckedLaws.{read-begun, read-more, due-is}
 use Rattle.text_captures.proofs.capture_file.check_capture.check_records.Goals as goal
 
 pub loop-record-init : goal.loop-record-init
@@ -66,7 +67,7 @@ returns-then-is_empty-clause-sound c =
     let ended = has-ended form.order c.args.body.now c.loop-record.rest.now has.before c.in_default.ensures.none
     has.read.cut in
     said-sound form c.args.body.now has.before ended.0
-    (ended.1 ∙ no-octets c.loop-record.rest.now
+    (ended.1 ∙ nil_from_length c.loop-record.rest.now
     (eqb-true (length c.loop-record.rest.now) 0 (sym c.if-is_empty.ensures))) has.sound
 
 pub returns-clause-fault : goal.returns-clause-fault

@@ -1,7 +1,7 @@
 -- The digits of the octets so far are written.
 use Rattle.std.proofs.Common.{◌≤◌, ◌-◌, ℕ, List, ◌++◌, length, take}
 use Rattle.hex.specs.Hex.{encode_lower}
-use Rattle.octet_io.specs.Start.{Start}
+use Rattle.law_model.specs.Common.{Start}
 use Rattle.text_got.specs.Told.{HasText}
 use Rattle.text_captures.proofs.capture_file.frames_as_script.add_hex.Given as goal
 

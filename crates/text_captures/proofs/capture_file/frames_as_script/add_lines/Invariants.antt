@@ -1,6 +1,6 @@
 -- The lines of the records so far are written, and the clock stands behind the last of them.
 use Rattle.std.proofs.Common.{◌≤◌, ℕ, List, [], ◌++◌, length}
-use Rattle.octet_io.specs.Start.{Start}
+use Rattle.law_model.specs.Common.{Start}
 use Rattle.text_got.specs.Told.{HasText}
 use Rattle.text_captures.specs.capture_file.Form.{Record}
 use Rattle.text_captures.specs.capture_file.Reading.{frames_behind}

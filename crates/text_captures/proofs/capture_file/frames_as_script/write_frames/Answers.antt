@@ -1,10 +1,10 @@
 -- The lines are written, or a part of them up to a write that failed.
 use Rattle.std.proofs.Common.{rules, [], refl, sym, ◌∙◌, subst, drop}
-use Rattle.octet_io.specs.Start.{Start}
+use Rattle.std.proofs.lemmas.List.{take_rest}
+use Rattle.law_model.specs.Common.{Start}
 use Rattle.text_got.specs.Told.{HasText, name_of, start_at}
 use Rattle.text_captures.specs.capture_file.Reading.{frames_of}
 use Rattle.text_captures.specs.capture_file.Texts.{frame_texts}
-use Rattle.text_captures.proofs.CaptureFileLaws.RecordLaws.{rest-whole}
 use Rattle.text_captures.proofs.capture_file.frames_as_script.write_frames.Given as given
 use Rattle.text_captures.proofs.capture_file.frames_as_script.write_frames.Goals as goal
 use Rattle.text_captures.proofs.capture_file.frames_as_script.write_frames.Goals.{After-finish-back}
@@ -18,7 +18,7 @@ told g c =
     let start : Start = start_at g.K.ByteSink.written g.K.ByteSink.faults c.args.out.now (name_of c.new-got.result) in
     subst (λ body. HasText g.K.ByteSink.written g.K.ByteSink.faults c.add_lines.new.got start
     (frame_texts (frames_of c.args.form body)))
-    (rest-whole 24 c.args.octets.now) (c.add_lines.ensures start [] c.new-got.ensures.fresh)
+    (take_rest c.args.octets.now 24) (c.add_lines.ensures start [] c.new-got.ensures.fresh)
 
 pub returns-clause-ok : goal.returns-clause-ok
 returns-clause-ok g c =

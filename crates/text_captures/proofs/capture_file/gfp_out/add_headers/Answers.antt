@@ -1,8 +1,7 @@
 -- Three texts, one behind the other.
 use Rattle.std.proofs.Common.{◌+◌, ◌++◌, ◌∙◌, ap, subst}
 use Rattle.std.specs.Int.{w16, to_be_bytes}
-use Rattle.check_hec16.specs.Hec.{hec_of}
-use Rattle.law_model.specs.frames.TypeHeader.{type_header}
+use Rattle.law_model.specs.Common.{hec_of, type_header}
 use Rattle.text_got.specs.Told.{HasText}
 use Rattle.text_captures.proofs.CaptureFileLaws.GfpLaws.{three-behind}
 use Rattle.text_captures.proofs.capture_file.gfp_out.add_headers.Goals as goal

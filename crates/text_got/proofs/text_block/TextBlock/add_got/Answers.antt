@@ -1,7 +1,7 @@
 -- The line stands after those that wait, and all of them go out or wait.
 use Rattle.std.proofs.Common.{rules, ◌-◌, ℕ, List, subst}
 use Rattle.std.proofs.lemmas.Result.{on_ok_weaker, on_err_weaker}
-use Rattle.octet_io.specs.Transfer.{AppendsPart}
+use Rattle.law_model.specs.Common.{AppendsPart}
 use Rattle.text_got.proofs.BlockLaws.{Holds-waits, Holds-all, front_added}
 use Rattle.text_got.proofs.text_block.TextBlock.add_got.Goals as goal
 

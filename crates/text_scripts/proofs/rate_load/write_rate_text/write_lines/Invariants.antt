@@ -1,6 +1,6 @@
 -- The lines so far are written, and the draws stand before the next frame.
 use Rattle.std.proofs.Common.{◌≡◌}
-use Rattle.octet_io.specs.Transfer.{Appends}
+use Rattle.law_model.specs.Common.{Appends}
 use Rattle.text_scripts.specs.rate_load.RateTexts.{state_of, lines_of}
 use Rattle.text_scripts.proofs.rate_load.write_rate_text.write_lines.Given as goal
 

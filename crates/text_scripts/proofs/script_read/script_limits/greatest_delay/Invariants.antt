@@ -1,6 +1,6 @@
 -- The greatest so far and that of the delays that are left.
 use Rattle.std.proofs.Common.{◌≡◌, drop, max}
-use Rattle.law_model.specs.session.Plan.{greatest}
+use Rattle.law_model.specs.Common.{greatest}
 use Rattle.text_scripts.proofs.script_read.script_limits.greatest_delay.Given as goal
 
 abbrev pub invariant-loop-delay : goal.invariant-loop-delay

@@ -1,6 +1,6 @@
 -- The greatest so far and that of the lines that are left.
 use Rattle.std.proofs.Common.{◌≡◌, drop, max}
-use Rattle.law_model.specs.session.Plan.{greatest_slip}
+use Rattle.law_model.specs.Common.{greatest_slip}
 use Rattle.text_scripts.proofs.script_read.script_limits.greatest_of_slips.Given as goal
 
 abbrev pub invariant-loop-list : goal.invariant-loop-list

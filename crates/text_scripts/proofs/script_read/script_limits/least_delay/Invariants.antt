@@ -1,6 +1,6 @@
 -- The least so far and that of the delays that are left.
 use Rattle.std.proofs.Common.{◌≡◌, drop}
-use Rattle.law_model.specs.session.Plan.{least, least_or}
+use Rattle.law_model.specs.Common.{least, least_or}
 use Rattle.text_scripts.proofs.script_read.script_limits.least_delay.Given as goal
 
 abbrev pub invariant-loop-delay : goal.invariant-loop-delay

@@ -1,6 +1,5 @@
 -- What was moved, and what is left.
-use Rattle.std.proofs.Common.{◌≡◌, ◌+◌, ◌≤◌, ◌++◌, length, map}
-use Rattle.std.specs.Vec.{vec_capacity}
+use Rattle.std.proofs.Common.{◌≡◌, ◌+◌, ◌≤◌, ◌++◌, length, map, vec_capacity}
 use Rattle.std.specs.Vec.Iter.{into_iter_items}
 use Rattle.thread_alarms.specs.alarm_log.Alarms.{in_row, items_of}
 use Rattle.thread_alarms.proofs.alarm_log.join_posts.append_all.Given as goal

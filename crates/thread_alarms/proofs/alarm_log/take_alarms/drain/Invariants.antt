@@ -1,6 +1,5 @@
 -- The log has the same posts.
-use Rattle.std.proofs.Common.{◌≡◌}
-use Rattle.std.specs.Vec.{vec_capacity}
+use Rattle.std.proofs.Common.{◌≡◌, vec_capacity}
 use Rattle.thread_alarms.specs.alarm_log.Listens.{Listens, SameEars}
 use Rattle.thread_alarms.proofs.alarm_log.take_alarms.drain.Given as goal
 

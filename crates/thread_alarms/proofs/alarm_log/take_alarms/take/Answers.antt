@@ -1,6 +1,5 @@
 -- The log has got one alarm more.
-use Rattle.std.proofs.Common.{ap₂, ◌∙◌, sym, subst, arith, ◌*◌, ◌≤◌}
-use Rattle.std.specs.Vec.{vec_capacity}
+use Rattle.std.proofs.Common.{ap₂, ◌∙◌, sym, subst, arith, ◌*◌, ◌≤◌, vec_capacity}
 use Rattle.thread_alarms.specs.alarm_log.Views.{heard_of}
 use Rattle.crossbeam_queue.specs.Passes.{view}
 use Rattle.thread_alarms.proofs.AlarmLogLaws.RuleSteps.{takes, heard}

@@ -1,6 +1,6 @@
 -- The alarms of the line so far are written.
 use Rattle.std.proofs.Common.{ℕ, List, ◌++◌, take}
-use Rattle.octet_io.specs.Start.{Start}
+use Rattle.law_model.specs.Common.{Start}
 use Rattle.text_got.specs.Told.{HasText}
 use Rattle.thread_alarms.specs.alarm_log.Alarms.{of_line}
 use Rattle.thread_alarms.specs.alarm_text.Text.{alarm_texts}

@@ -1,11 +1,10 @@
 -- One line more, with the next post where one is left.
-use Rattle.std.proofs.Common.{◌≡◌, [], ◌∷◌, ◌++◌, length, map, sym, ◌∙◌, ap, subst, arith}
-use Rattle.std.proofs.Common.{rules, append_assoc}
-use Rattle.std.proofs.lemmas.List.{nil_from_length}
-use Rattle.std.specs.Prelude.{option_to_list}
+use Rattle.std.proofs.Common.{◌≡◌, [], ◌∷◌, ◌++◌, length, map, sym, ◌∙◌, ap, subst, arith, rules, append_assoc}
+use Rattle.std.proofs.Common.{option_to_list}
+use Rattle.std.proofs.lemmas.List.{nil_from_length, map_push}
 use Rattle.std.specs.Vec.Iter.{into_iter_items, into_iter_len}
 use Rattle.thread_alarms.specs.watched_line.Served.{worker_of, posts_of, AreWatchable}
-use Rattle.thread_alarms.proofs.WatchedLineLaws.ServedLaws.{workers-more, posts-more, next-watch, rest-watch, none-left, few-left}
+use Rattle.thread_alarms.proofs.WatchedLineLaws.ServedLaws.{posts-more, next-watch, rest-watch, none-left, few-left}
 use Rattle.thread_alarms.proofs.watched_line.serve_lines_watched.serve_lines.Goals as goal
 
 pub loop-worker-init : goal.loop-worker-init
@@ -47,7 +46,7 @@ loop-worker-preserved c =
     let size' : length ps ≡ into_iter_len c.next-in-loop-worker.new.self = search rules in
     let long = ap length steps.0 in
     record {
-      workers = ap (λ l. map worker_of l ++ ws) pushed ∙ ap (λ l. l ++ ws) (workers-more served line)
+      workers = ap (λ l. map worker_of l ++ ws) pushed ∙ ap (λ l. l ++ ws) (map_push worker_of served line)
           ∙ append_assoc (map worker_of served) (worker_of line ∷ []) ws
           ∙ ap (λ w. map worker_of served ++ w ∷ ws) c.new.ensures.worker
           ∙ ap (λ l. map worker_of served ++ l) (sym steps.0) ∙ before.workers;

@@ -1,6 +1,5 @@
 -- The source is asked, and the journal where the source would take the item.
-use Rattle.std.proofs.Common.{◌||◌, sym, ◌∙◌, ap}
-use Rattle.std.specs.Option.{is_some}
+use Rattle.std.proofs.Common.{◌||◌, sym, ◌∙◌, ap, is_some}
 use Rattle.terminal_group.specs.Item.{kind_of}
 use Rattle.thread_group.specs.Journal.{fits}
 use Rattle.thread_group.proofs.GroupLaws.{refused-is}

@@ -1,26 +1,22 @@
 -- An item has landed: the source has it, and it is counted; it is in the journal, or its refusal is kept.
 use Rattle.std.proofs.Common.{◌≡◌, ℕ, ◌+◌, ◌≤◌, Bool, Some, if◌then◌else◌, [], ◌∷◌, ◌++◌, List, length, Option, refl}
 use Rattle.std.proofs.Common.{sym, ◌∙◌, ap, subst, arith}
+use Rattle.law_model.specs.Common.{Container, BackCell, dues_of}
 use Rattle.law_model.specs.declared.item_refusals.Refusal.{Refusal}
 use Rattle.terminal_source.specs.source_core.Terminal.{Terminal}
-use Rattle.law_walk.specs.Landed.{is_client, IsPlaced, refused_by}
+use Rattle.law_walk.specs.Common.{is_client, IsPlaced, refused_by}
 use Rattle.terminal_group.specs.Item.{kind_of}
-use Rattle.member_cells.specs.declared.containers_and_cells.Container.{Container}
-use Rattle.member_cells.specs.declared.containers_and_cells.BackCell.{BackCell}
-use Rattle.thread_rings.specs.Ends.{OutEnd}
-use Rattle.thread_rings.specs.Ends.{InEnd}
+use Rattle.thread_rings.specs.Ends.{OutEnd, InEnd}
 use Rattle.terminal_group.specs.Inbox.{Inbox}
 use Rattle.terminal_group.specs.Source.{Source, SameRest}
 use Rattle.thread_group.specs.Journal.{Journal, entry_of}
 use Rattle.thread_group.specs.Parts.{parts, scenario_in, told_in_parts, Keeps}
-use Rattle.law_model.specs.session.Counts.{dues_of}
 use Rattle.thread_group.specs.declared.group_state.GroupState.{GroupState}
 use Rattle.terminal_group.specs.Landed.{next_number, due_at, AreBehind}
 use Rattle.terminal_group.proofs.LandingLaws.{next-due, behind-next}
 use Rattle.thread_group.proofs.RefusedLaws.{refused-put, refused-now}
 use Rattle.thread_group.proofs.KeepLaws.{keeps-accepted, keeps-refused}
-use Rattle.thread_group.proofs.GroupLaws.{refused-is, lands-in, submits-accepted, submits-refused}
-use Rattle.thread_group.proofs.GroupLaws.{room-there}
+use Rattle.thread_group.proofs.GroupLaws.{refused-is, lands-in, submits-accepted, submits-refused, room-there}
 use Rattle.thread_group.proofs.group_state.GroupState.land.Goals as goal
 
 pub push-requires-clause-slots : goal.push-requires-clause-slots

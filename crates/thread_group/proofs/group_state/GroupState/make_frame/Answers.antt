@@ -2,11 +2,9 @@
 use Rattle.std.proofs.Common.{◌∙◌, ℕ, List, ap, sym, refl, subst, arith}
 use Rattle.std.specs.Global.{Box}
 use Rattle.std.proofs.lemmas.List.{length-map}
-use Rattle.member_cells.specs.declared.containers_and_cells.Container.{Container}
-use Rattle.member_cells.specs.declared.containers_and_cells.BackCell.{BackCell}
+use Rattle.law_model.specs.Common.{Container, BackCell}
 use Rattle.member_cells.specs.Held.{held}
-use Rattle.thread_rings.specs.Ends.{OutEnd}
-use Rattle.thread_rings.specs.Ends.{InEnd}
+use Rattle.thread_rings.specs.Ends.{OutEnd, InEnd}
 use Rattle.terminal_source.specs.source_core.Given.{SourceStands as HasMade}
 use Rattle.terminal_group.specs.Landed.{Landed}
 use Rattle.terminal_group.specs.Source.{Source, SameScript}

@@ -1,8 +1,7 @@
 -- Why an item hasn't landed; where it has, all is said of the landing.
 use Rattle.std.proofs.Common.{◌≡◌, ℕ, not, Bool, true, false, eqb, Option, Some, None, refl, sym, ◌∙◌, ap, arith}
+use Rattle.std.proofs.Common.{eqb-true, eq-eqb}
 use Rattle.std.specs.Option.{option_eq}
-use Rattle.std.proofs.lemmas.Bool.{eqb-true}
-use Rattle.std.proofs.Common.{eq-eqb}
 use Rattle.thread_group.specs.declared.group_answers.SubmitFault.TheVariants.{NotNext, Early, JournalFull}
 use Rattle.terminal_group.specs.Item.{kind_of}
 use Rattle.terminal_group.specs.Landed.{Landed, next_number, due_at}

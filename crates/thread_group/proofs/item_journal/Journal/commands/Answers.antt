@@ -1,6 +1,6 @@
 -- Each entry is a frame or a command.
 use Rattle.std.proofs.Common.{◌≡◌, ◌-◌, length, ◌∙◌, ap, arith}
-use Rattle.law_model.specs.session.Scenario.{orders_of}
+use Rattle.law_model.specs.Common.{orders_of}
 use Rattle.thread_group.specs.Journal.{Journal, items_in}
 use Rattle.thread_group.specs.Entries.{entries_in}
 use Rattle.thread_group.proofs.EntryLaws.{entries-kinds}

@@ -1,10 +1,10 @@
 -- The entry is put behind the others.
-use Rattle.std.proofs.Common.{◌≡◌, ℕ, ◌+◌, ◌-◌, ◌<◌, ◌≤◌, Bool, true, false, if◌then◌else◌, List, [], ◌∷◌, ◌++◌, length}
-use Rattle.std.proofs.Common.{sym, ◌∙◌, ap, subst, arith, refl}
-use Rattle.std.specs.Vec.{vec_capacity}
+use Rattle.std.proofs.Common.{◌≡◌, ℕ, ◌+◌, ◌-◌, ◌<◌, ◌≤◌, if◌then◌else◌, List, [], ◌∷◌, ◌++◌, length, sym, ◌∙◌, ap}
+use Rattle.std.proofs.Common.{subst, arith, refl, vec_capacity}
+use Rattle.law_session.proofs.PlanLaws.{flag_most}
 use Rattle.law_model.specs.declared.script_types.ItemKind.{ItemKind}
 use Rattle.law_model.specs.declared.script_types.ItemKind.TheVariants.{Frame, Add, Remove}
-use Rattle.law_walk.specs.Landed.{is_client}
+use Rattle.law_walk.specs.Common.{is_client}
 use Rattle.thread_group.specs.declared.item_journal.Entry.{Entry}
 use Rattle.terminal_group.specs.Item.{kind_of, size_of, octets_of}
 use Rattle.thread_group.specs.Journal.{Journal, entry_of}
@@ -16,10 +16,6 @@ size-octets : (kind : ItemKind) → length (octets_of kind) ≡ size_of kind
 size-octets (Frame octets) = refl
 size-octets (Add line) = refl
 size-octets (Remove line) = refl
-
-at-most-one : (b : Bool) → (if b then 1 else 0) ≤ 1
-at-most-one true = omega arith
-at-most-one false = omega arith
 
 moved : (octets now : List ℕ) (entries after : List Entry) (slots bytes left room wide space frames count : ℕ) →
     now ≡ octets → after ≡ entries → left ≡ bytes → wide ≡ room → count ≡ frames →
@@ -35,7 +31,7 @@ pub overflow_add-self : goal.overflow_add-self
 overflow_add-self c =
     let all = entries-kinds c.self.inside.octets.items c.self.inside.entries.items in
     let slots = subst (λ (j : Journal). 0 < j.slots) (sym c.self.view_is) c.requires.slots in
-    let one = at-most-one (is_client (kind_of c.args.item)) in
+    let one = flag_most (is_client (kind_of c.args.item)) in
     let frames = c.frames.ensures in
     let count = c.self.invariant.frames in
     omega arith

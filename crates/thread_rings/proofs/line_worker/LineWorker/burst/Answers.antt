@@ -1,8 +1,6 @@
 -- A burst begins with no alarms.
-use Rattle.std.proofs.Common.{◌++◌, sym, ◌∙◌, ap, subst, arith}
-use Rattle.std.proofs.lemmas.List.{append-nil}
-use Rattle.std.specs.Prelude.{Contains, IsTrue, ◌↔◌}
-use Rattle.member_cells.specs.declared.containers_and_cells.Cell.TheVariants.{End}
+use Rattle.std.proofs.Common.{◌++◌, sym, ◌∙◌, ap, subst, arith, append-nil, Contains, IsTrue, ◌↔◌}
+use Rattle.law_model.specs.Common.{End}
 use Rattle.thread_rings.specs.Ends.{in_passed, out_passed}
 use Rattle.thread_rings.specs.Calls.{calls_on}
 use Rattle.thread_rings.specs.Worker.{raised_by, last_raised}

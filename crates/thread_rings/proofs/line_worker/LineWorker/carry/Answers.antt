@@ -1,7 +1,6 @@
 -- The end was pushed exactly where the line has given it.
-use Rattle.std.proofs.Common.{refl, sym, subst}
-use Rattle.std.specs.Prelude.{Contains, IsTrue, ◌↔◌}
-use Rattle.member_cells.specs.declared.containers_and_cells.Cell.TheVariants.{End}
+use Rattle.std.proofs.Common.{refl, sym, subst, Contains, IsTrue, ◌↔◌}
+use Rattle.law_model.specs.Common.{End}
 use Rattle.thread_rings.specs.Ends.{in_passed, out_passed}
 use Rattle.thread_rings.specs.Calls.{calls_on}
 use Rattle.thread_rings.proofs.line_worker.LineWorker.carry.Goals as goal

@@ -1,6 +1,5 @@
 -- A carry after the last container.
-use Rattle.std.proofs.Common.{◌≡◌, [], ◌++◌, length, min, false, refl, sym, ◌∙◌, ap, ap₂, subst, arith}
-use Rattle.std.proofs.lemmas.List.{append-nil}
+use Rattle.std.proofs.Common.{◌≡◌, [], ◌++◌, length, min, false, refl, sym, ◌∙◌, ap, ap₂, subst, arith, append-nil}
 use Rattle.member_path.specs.path_delay.Line.{DelayStands, and_flush, path_cells}
 use Rattle.member_path.specs.path_delay.Carry.{carry_cells}
 use Rattle.thread_rings.specs.Ends.{in_passed, out_passed, out_hand}

@@ -1,12 +1,10 @@
 -- A worker that was done before its burst is as it was.
-use Rattle.std.proofs.Common.{◌≡◌, inl, inr, ◌<◌, Bool, true, false, Some, get_or, slice_get, length, sym, ◌∙◌}
-use Rattle.std.proofs.Common.{subst, ap, arith}
-use Rattle.std.specs.Prelude.{Contains}
-use Rattle.std.proofs.Math.ListN.{set}
+use Rattle.std.proofs.Common.{◌≡◌, inl, inr, ◌<◌, Bool, true, false, Some, get_or, slice_get, length, sym, ◌∙◌, subst}
+use Rattle.std.proofs.Common.{ap, arith, Contains, set}
 use Rattle.std.proofs.lemmas.Bool.{cases_Bool}
 use Rattle.std.proofs.lemmas.List.{with_items_is}
 use Rattle.std.proofs.lemmas.Option.{slice_get_within, slice_get-get_or}
-use Rattle.member_cells.specs.declared.containers_and_cells.Cell.TheVariants.{End}
+use Rattle.law_model.specs.Common.{End}
 use Rattle.thread_alarms.specs.declared.watched_line.served_line.ServedLine.{ServedLine}
 use Rattle.thread_rings.specs.Ends.{out_passed}
 use Rattle.thread_alarms.specs.watched_line.Served.{worker_of, AreServedLater, IsServedLater}

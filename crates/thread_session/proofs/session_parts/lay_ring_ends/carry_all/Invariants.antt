@@ -1,9 +1,8 @@
 -- The workers are later. As long as none was left, those before the next had come to their end and nothing has changed;
 -- else one of them hadn't.
 -- Those from the next on are as they were.
-use Rattle.std.proofs.Common.{◌≡◌, ℕ, ◌<◌, ◌≤◌, true, false, slice_get, Some}
-use Rattle.std.specs.Prelude.{Contains}
-use Rattle.member_cells.specs.declared.containers_and_cells.Cell.TheVariants.{End}
+use Rattle.std.proofs.Common.{◌≡◌, ℕ, ◌<◌, ◌≤◌, true, false, slice_get, Some, Contains}
+use Rattle.law_model.specs.Common.{End}
 use Rattle.thread_alarms.specs.declared.watched_line.served_line.ServedLine.{ServedLine}
 use Rattle.thread_rings.specs.Ends.{out_passed}
 use Rattle.thread_alarms.specs.watched_line.Served.{worker_of, AreServedLater}

@@ -1,7 +1,5 @@
 -- What is left in the shares, and the workers that were taken back, last line first.
-use Rattle.std.proofs.Common.{◌≡◌, ◌+◌, ◌≤◌, List, length, vec_len, take, drop}
-use Rattle.std.specs.Prelude.{reverse}
-use Rattle.std.specs.Vec.{vec_capacity}
+use Rattle.std.proofs.Common.{◌≡◌, ◌+◌, ◌≤◌, List, length, vec_len, take, drop, reverse, vec_capacity}
 use Rattle.thread_alarms.specs.declared.watched_line.served_line.ServedLine.{ServedLine}
 use Rattle.thread_session.specs.session_parts.ServedLines.{AreNumbered, AreBack}
 use Rattle.thread_alarms.specs.watched_line.Served.{AreServedLater}

@@ -1,11 +1,10 @@
 -- A worker goes to the share of its number.
-use Rattle.std.proofs.Common.{◌≡◌, inl, inr, ℕ, suc, ◌+◌, ◌%◌, ◌==◌, ◌<◌, ◌≤◌, true, false, List, [], ◌∷◌, ◌++◌, length}
-use Rattle.std.proofs.Common.{vec_len, refl, sym, ◌∙◌, ap, subst, arith, rules, length-append}
-use Rattle.std.proofs.lemmas.Bool.Decides.{nat_tests}
-use Rattle.std.proofs.lemmas.List.{append-nil, nil_from_length}
+use Rattle.std.proofs.Common.{◌≡◌, inl, inr, ℕ, suc, ◌+◌, ◌%◌, ◌==◌, ◌<◌, ◌≤◌, List, [], ◌∷◌, ◌++◌, length, vec_len}
+use Rattle.std.proofs.Common.{refl, sym, ◌∙◌, ap, subst, arith, rules, length-append, append-nil, vec_capacity, eq-eqb}
+use Rattle.std.proofs.Common.{ne_eqb}
+use Rattle.std.proofs.lemmas.List.{nil_from_length}
 use Rattle.std.proofs.lemmas.Option.{slice_get_read}
 use Rattle.std.specs.Global.{Vec}
-use Rattle.std.specs.Vec.{vec_capacity}
 use Rattle.std.specs.Vec.Iter.{into_iter_items}
 use Rattle.thread_alarms.specs.declared.watched_line.served_line.ServedLine.{ServedLine}
 use Rattle.thread_alarms.specs.watched_line.Served.{line_of}
@@ -26,12 +25,6 @@ numbered-first from first rest all is numbered =
     let numbers : AreNumbered from (first ∷ rest) = subst (AreNumbered from) is numbered in
     let h = numbers 0 first refl in
     omega (arith, h)
-
-test-true : (a b : ℕ) → a ≡ b → (a == b) ≡ true
-test-true a b e = grind (arith, nat_tests, e)
-
-test-false : (a b : ℕ) → (a ≡ b → ⊥) → (a == b) ≡ false
-test-false a b e = grind (arith, nat_tests, e)
 
 pub loop-worker-init : goal.loop-worker-init
 loop-worker-init c =
@@ -84,9 +77,9 @@ loop-worker-preserved c =
       dealt = dealt-step (λ (share : Vec ServedLine). share.items) (λ w (one : ServedLine). line_of one % shares == w)
           c.loop-worker.shares.items place own now worker rest c.args.lines.items within c.index_mut.ensures.value
           c.push_reserved.ensures.items
-          (test-true (line_of worker % shares) place
+          (eq-eqb (line_of worker % shares) place
           (ap (λ (n : ℕ). n % shares) number ∙ ap (λ (n : ℕ). c.loop-worker.line % n) (sym same)))
-          (λ w other. test-false (line_of worker % shares) w
+          (λ w other. ne_eqb (line_of worker % shares) w
           (λ e. other (sym (sym (ap (λ (n : ℕ). n % shares) number
           ∙ ap (λ (n : ℕ). c.loop-worker.line % n) (sym same)) ∙ e))))
           (λ w share there. ap (λ l. share.items ++ share_of shares w l) (sym steps.0) ∙ before.dealt w share there);

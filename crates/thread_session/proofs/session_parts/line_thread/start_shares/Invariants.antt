@@ -1,6 +1,5 @@
 -- Whatever the rest is held of, all is held of the shares.
-use Rattle.std.proofs.Common.{◌≡◌, ◌+◌, List, ◌++◌, vec_len}
-use Rattle.std.specs.Vec.{vec_capacity}
+use Rattle.std.proofs.Common.{◌≡◌, ◌+◌, List, ◌++◌, vec_len, vec_capacity}
 use Rattle.std.specs.Vec.Iter.{into_iter_items, into_iter_len}
 use Rattle.thread_session.specs.declared.session_parts.line_thread.Held.{Held}
 use Rattle.thread_session.specs.session_parts.Held.{AreHeldOf, AreToldBy}

@@ -1,8 +1,7 @@
 -- A line is opened over fresh rings.
 use Rattle.std.proofs.Common.{◌≡◌, [], ℕ, sym, ◌∙◌, ap, subst, slice_index_or}
-use Rattle.thread_rings.specs.Ends.{OutEnd}
-use Rattle.thread_rings.specs.Ends.{out_passed, AreEnds}
-use Rattle.member_cells.specs.declared.containers_and_cells.Cell.{Cell}
+use Rattle.thread_rings.specs.Ends.{OutEnd, out_passed, AreEnds}
+use Rattle.law_model.specs.Common.{Cell}
 use Rattle.thread_session.proofs.SessionPartsLaws.OpenLaws.{none-opened, opened-more, opened-own}
 use Rattle.thread_session.proofs.session_parts.opened_lines.open_lines.Goals as goal
 

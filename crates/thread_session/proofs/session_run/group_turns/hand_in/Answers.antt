@@ -1,7 +1,6 @@
 -- What the group answers to the item is what it answers to its kind.
 use Rattle.std.proofs.Common.{sym, ◌∙◌, subst}
-use Rattle.law_model.specs.session.Leg.{leg_of}
-use Rattle.law_model.specs.source.Accepted.{refusal_in}
+use Rattle.law_model.specs.Common.{leg_of, refusal_in}
 use Rattle.thread_group.specs.Calls.{Submits}
 use Rattle.thread_group.specs.Group.{HasCounted}
 use Rattle.thread_session.proofs.SessionRunLaws.LandLaws.{has-landed}
@@ -14,7 +13,7 @@ returns g c =
     let kind = c.args.kind.now in
     let answer = refusal_in c.submit.result in
     let call : Submits old.state new.state c.args.number kind answer =
-    subst (λ k. Submits old.state new.state c.args.number k answer) c.as_handed.ensures c.submit.ensures.submits in
+    subst (λ k. Submits old.state new.state c.args.number k answer) c.handed.ensures c.submit.ensures.submits in
     record {
       counted = subst (HasCounted old.state new.state kind) (sym c.has_landed.ensures) call.landed;
       landed = λ yes.

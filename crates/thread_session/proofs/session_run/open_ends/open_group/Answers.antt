@@ -1,7 +1,7 @@
 -- Nothing has landed, and there is room for all items.
 use Rattle.std.proofs.Common.{length, ◌∙◌, ap}
+use Rattle.law_model.specs.Common.{offers_of}
 use Rattle.law_model.specs.declared.script_types.Item.{Item}
-use Rattle.law_model.specs.session.Scenario.{offers_of}
 use Rattle.thread_group.specs.Session.{octets_in}
 use Rattle.thread_session.proofs.SessionRunLaws.BeginLaws.{group-opened}
 use Rattle.thread_session.proofs.session_run.open_ends.open_group.Goals as goal

@@ -1,6 +1,6 @@
 -- A look at both ends of each ring.
 use Rattle.std.proofs.Common.{length, refl}
-use Rattle.law_model.specs.session.Leg.{leg_of}
+use Rattle.law_model.specs.Common.{leg_of}
 use Rattle.thread_group.specs.Group.{parts_of}
 use Rattle.thread_group.proofs.LayLaws.{keeps-laid, bound-laid}
 use Rattle.thread_session.proofs.SessionRunLaws.LayLaws.{mid-receives, stands-laid, rings-laid}

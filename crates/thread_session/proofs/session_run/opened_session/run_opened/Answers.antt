@@ -1,7 +1,7 @@
 -- The ends of the rings are those of the opening, later; and the session has come to its end.
 use Rattle.std.proofs.Common.{rules, ℕ, ◌≤◌, false, ◌∷◌, [], vec_len, refl, sym, ◌∙◌, subst, arith}
 use Rattle.std.specs.List.{AllZip}
-use Rattle.law_model.specs.session.Leg.{leg_of}
+use Rattle.law_model.specs.Common.{leg_of}
 use Rattle.text_report.specs.Report.{got_texts}
 use Rattle.thread_alarms.specs.alarm_log.Posts.{SamePost}
 use Rattle.thread_alarms.specs.watched_line.Served.{posts_of, AreServedLater, IsServedLater}

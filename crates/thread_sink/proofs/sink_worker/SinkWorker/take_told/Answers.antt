@@ -1,6 +1,5 @@
 -- The frames are counted, and their lines told.
-use Rattle.std.proofs.Common.{rules, [], refl, sym, ◌∙◌, subst, false}
-use Rattle.std.specs.Result.{is_err}
+use Rattle.std.proofs.Common.{rules, [], refl, sym, ◌∙◌, subst, false, is_err}
 use Rattle.text_report.specs.Report.{got_texts}
 use Rattle.terminal_sink.specs.sink_core.Given.{given_frames, added_frames}
 use Rattle.text_got.specs.Told.{start_at}

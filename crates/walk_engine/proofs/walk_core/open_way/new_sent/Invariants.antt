@@ -1,7 +1,7 @@
 -- The frames so far have a place for each line.
 use Rattle.std.proofs.Common.{◌≡◌, length, All}
 use Rattle.std.specs.Global.{Vec, Box}
-use Rattle.member_cells.specs.declared.containers_and_cells.Container.{Container}
+use Rattle.law_model.specs.Common.{Container}
 use Rattle.walk_engine.proofs.walk_core.open_way.new_sent.Given as goal
 
 abbrev pub invariant-loop : goal.invariant-loop

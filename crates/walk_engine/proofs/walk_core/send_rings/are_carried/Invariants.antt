@@ -1,6 +1,6 @@
 -- The lines so far have carried as much.
 use Rattle.std.proofs.Common.{◌≡◌, ℕ, ◌<◌, ◌≤◌, slice_get, Some}
-use Rattle.walk_engine.specs.walk_parts.Ringed.{Ringed}
+use Rattle.walk_engine.specs.Common.{Ringed}
 use Rattle.walk_engine.proofs.walk_core.send_rings.are_carried.Given as goal
 
 abbrev pub invariant-loop-m : goal.invariant-loop-m

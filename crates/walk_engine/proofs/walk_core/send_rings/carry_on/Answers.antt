@@ -2,14 +2,13 @@
 use Rattle.std.proofs.Common.{rules, ◌≡◌, ◌%◌, map, slice_index_or, slice_set, refl, sym, ◌∙◌, ap, subst, arith}
 use Rattle.std.specs.Global.{Vec, Box}
 use Rattle.std.specs.Vec.{with_item}
-use Rattle.member_cells.specs.declared.containers_and_cells.Container.{Container}
-use Rattle.walk_engine.specs.walk_parts.Ringed.{Has}
-use Rattle.terminal_group.proofs.ItemLaws.{at-index}
+use Rattle.std.proofs.lemmas.Option.{same_Some}
+use Rattle.law_model.proofs.ListLaws.{at-index}
+use Rattle.law_model.specs.Common.{Container}
+use Rattle.walk_engine.specs.Common.{Has, calls_on, frame_in, sent_frames, IsCarriedAt}
 use Rattle.member_path.specs.path_delay.Line.{and_push}
-use Rattle.law_walk.specs.Rings.{sent_at}
-use Rattle.walk_engine.specs.walk_core.Parts.{calls_on, frame_in, sent_frames}
-use Rattle.walk_engine.specs.walk_core.Carry.{IsCarriedAt}
-use Rattle.walk_engine.proofs.WalkCoreLaws.CarryLaws.{same-some, map-get, below, calls-push, calls-flush, all-carried, not-carried}
+use Rattle.law_walk.specs.Common.{sent_at}
+use Rattle.walk_engine.proofs.WalkCoreLaws.CarryLaws.{map-get, below, calls-push, calls-flush, all-carried, not-carried}
 use Rattle.walk_engine.proofs.WalkCoreLaws.SendLaws.{unchanged-at, changed-at}
 use Rattle.walk_engine.proofs.walk_core.send_rings.carry_on.Goals as goal
 
@@ -38,7 +37,7 @@ returns-else-all_pushed-clause-has c leg has sent =
     (c.index_mut.ensures.value ∙ ap (λ k. slice_index_or frames k row) slot) in
     let read = at-index row.items c.args.m place (c.requires.lines (c.args.own.now.carried % 32) row frame)
     c.index_mut-else-all_pushed.ensures.value in
-    let is = same-some place.value (sent_at leg c.args.m c.args.own.now.carried)
+    let is = same_Some place.value (sent_at leg c.args.m c.args.own.now.carried)
     (sym (map-get (λ (b : Box Container). b.value) row.items c.args.m place read) ∙ sent left row frame) in
     record {
       has = subst (λ calls. Has c.push.new.self calls)

@@ -1,7 +1,7 @@
 -- None of the lines so far has a full ring.
 use Rattle.std.proofs.Common.{◌≡◌, drop, map}
-use Rattle.law_model.specs.session.Counts.{full}
-use Rattle.walk_engine.specs.walk_core.Parts.{line_counts}
+use Rattle.law_model.specs.Common.{full}
+use Rattle.walk_engine.specs.Common.{line_counts}
 use Rattle.walk_engine.proofs.walk_core.send_rings.first_full.Given as goal
 
 abbrev pub invariant-loop-m : goal.invariant-loop-m

@@ -1,8 +1,7 @@
 -- A line pops until it decides the next row, or is the first that doesn't.
-use Rattle.std.proofs.Common.{refl, sym, ◌∙◌, arith}
-use Rattle.member_rows.proofs.RealignRowsLaws.GatherLaws.{length-slice_set}
-use Rattle.terminal_group.proofs.ItemLaws.{at-index}
-use Rattle.walk_engine.specs.walk_core.Parts.{calls_on}
+use Rattle.std.proofs.Common.{refl, sym, ◌∙◌, arith, length-set}
+use Rattle.law_model.proofs.ListLaws.{at-index}
+use Rattle.walk_engine.specs.Common.{calls_on}
 use Rattle.walk_engine.proofs.WalkCoreLaws.TakeLaws.{popping-none, popping-all, is-next, popping-next, popping-waits}
 use Rattle.walk_engine.proofs.walk_core.take_rows.pop_lines.Goals as goal
 
@@ -43,7 +42,7 @@ loop-m-preserved c =
     let size = inv.size in
     let there = at-index c.loop-m.lines.items m line (omega (arith, test, end, size)) c.index_mut.ensures.value in
     record {
-      size = length-slice_set c.loop-m.lines.items m c.pop_into.new.self ∙ inv.size;
+      size = length-set c.loop-m.lines.items m c.pop_into.new.self ∙ inv.size;
       count = c.pop_into.ensures.lines ∙ inv.count;
       rows = c.pop_into.ensures.rows ∙ inv.rows;
       pops = λ leg can.

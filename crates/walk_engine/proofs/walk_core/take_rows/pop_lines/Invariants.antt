@@ -1,8 +1,8 @@
 -- The lines so far decide the next row.
 use Rattle.std.proofs.Common.{◌≡◌, length}
-use Rattle.law_model.specs.session.Leg.{Leg}
+use Rattle.law_model.specs.Common.{Leg}
 use Rattle.member_rows.specs.realign_rows.Gather.{line_count}
-use Rattle.walk_engine.specs.walk_core.Take.{CanPop}
+use Rattle.walk_engine.specs.Common.{CanPop}
 use Rattle.walk_engine.proofs.WalkCoreLaws.TakeLaws.{Popping}
 use Rattle.walk_engine.proofs.walk_core.take_rows.pop_lines.Given as goal
 

@@ -1,7 +1,7 @@
 -- Frames are counted and given on.
 use Rattle.std.proofs.Common.{rules, ◌≡◌, ◌+◌, ◌++◌, [], min, refl, sym, ◌∙◌, subst, arith}
 use Rattle.terminal_sink.specs.sink_core.Given.{added_frames}
-use Rattle.walk_engine.specs.walk_core.Counted.{counting, passing}
+use Rattle.walk_engine.specs.Common.{counting, passing}
 use Rattle.walk_engine.proofs.walk_core.take_rows.take_counted_row.Goals as goal
 
 pub returns-in-Taken-clause-counted : goal.returns-in-Taken-clause-counted

@@ -1,7 +1,7 @@
 -- The frame that waits longest begins where the pieces end.
 use Rattle.std.proofs.Common.{◌+◌, ◌^◌, ◌<◌, length, slice_set, refl, sym, subst}
+use Rattle.fate_engine.specs.Common.{IsRuler}
 use Rattle.fate_engine.specs.declared.fate_core.frame_ruler.Piece.{Piece}
-use Rattle.fate_engine.specs.fate_core.Sides.{IsRuler}
 use Rattle.fate_engine.proofs.FateCoreLaws.RulerSteps.{waits-some, begins}
 use Rattle.fate_engine.proofs.fate_core.frame_ruler.Ruler.begin.Goals as goal
 

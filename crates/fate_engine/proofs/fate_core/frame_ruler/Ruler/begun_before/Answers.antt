@@ -2,8 +2,8 @@
 use Rattle.std.proofs.Common.{rules, ◌≡◌, nat_lt, List, length, take, sym, ap, subst, arith}
 use Rattle.std.specs.List.Sorted.{IsPartitionedBy}
 use Rattle.std.proofs.lemmas.Fn.{always_returns_same}
+use Rattle.fate_engine.specs.Common.{begun_before}
 use Rattle.fate_engine.specs.declared.fate_core.frame_ruler.Piece.{Piece}
-use Rattle.fate_engine.specs.fate_core.Sides.{begun_before}
 use Rattle.fate_engine.proofs.FateCoreLaws.RulerSteps.{BegunBefore, parted-before, count-before}
 use Rattle.fate_engine.proofs.fate_core.frame_ruler.Ruler.begun_before.Goals as goal
 

@@ -2,8 +2,8 @@
 use Rattle.std.proofs.Common.{rules, ◌≡◌, nat_le, List, length, take, sym, ap, subst, arith}
 use Rattle.std.specs.List.Sorted.{IsPartitionedBy}
 use Rattle.std.proofs.lemmas.Fn.{always_returns_same}
+use Rattle.fate_engine.specs.Common.{IsBegun}
 use Rattle.fate_engine.specs.declared.fate_core.frame_ruler.Piece.{Piece}
-use Rattle.fate_engine.specs.fate_core.Sides.{IsBegun}
 use Rattle.fate_engine.proofs.FateCoreLaws.RulerSteps.{Begun, parted, is-begun}
 use Rattle.fate_engine.proofs.fate_core.frame_ruler.Ruler.begun_by.Goals as goal
 

@@ -1,8 +1,9 @@
 -- No frame is accepted.
 use Rattle.std.proofs.Common.{◌≡◌, ◌^◌, ◌<◌, [], List, All, sym, subst, arith}
 use Rattle.std.proofs.lemmas.List.Elements.{All-nil}
+use Rattle.fate_engine.specs.Common.{IsRuler}
 use Rattle.fate_engine.specs.declared.fate_core.frame_ruler.Piece.{Piece}
-use Rattle.fate_engine.specs.fate_core.Sides.{AreInOrder, IsRuler}
+use Rattle.fate_engine.specs.fate_core.Sides.{AreInOrder}
 use Rattle.fate_engine.proofs.fate_core.frame_ruler.Ruler.new.Goals as goal
 
 none : (frames : List Piece) → frames ≡ [] → IsRuler frames 0 8

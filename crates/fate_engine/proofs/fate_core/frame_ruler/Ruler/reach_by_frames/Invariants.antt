@@ -1,6 +1,6 @@
 -- What is left of the way to the place.
 use Rattle.std.proofs.Common.{◌≡◌, length}
-use Rattle.fate_engine.specs.fate_law.Ruler.{ruled}
+use Rattle.fate_engine.specs.Common.{ruled}
 use Rattle.fate_engine.proofs.fate_core.frame_ruler.Ruler.reach_by_frames.Given as goal
 
 abbrev pub invariant-loop-self : goal.invariant-loop-self

@@ -2,8 +2,8 @@
 use Rattle.std.proofs.Common.{rules, nat_le, true, false, ◌≡◌, suc, ◌-◌, ◌<◌, ◌≤◌, length, sym, ◌∙◌, ap, subst, arith}
 use Rattle.std.specs.List.Sorted.{IsPartitionedBy, IsPartitionPoint}
 use Rattle.std.proofs.lemmas.Fn.{always_returns_same}
+use Rattle.fate_engine.specs.Common.{start_by, packets_in}
 use Rattle.fate_engine.specs.declared.fate_core.packet_rows.Packet.{Packet}
-use Rattle.fate_engine.specs.fate_core.Packets.{start_by, packets_in}
 use Rattle.fate_engine.proofs.FateCoreLaws.PlaceLaws.{actives-length, Begun, begun-parted, begun-some, begun-low, begun-high}
 use Rattle.fate_engine.proofs.fate_core.packet_rows.Packets.packet_at.Goals as goal
 

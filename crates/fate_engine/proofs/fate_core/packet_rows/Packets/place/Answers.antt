@@ -1,14 +1,15 @@
 -- The place of a row among those of its packet.
 use Rattle.std.proofs.Common.{◌≡◌, ◌+◌, ◌-◌, ◌*◌, ◌/◌, ◌≤◌, length, Some, slice_get, sym, ◌∙◌, ap, subst, arith}
-use Rattle.law_model.specs.source.Client.{place_of}
-use Rattle.fate_engine.specs.fate_core.Packets.{ArePackets}
-use Rattle.fate_engine.proofs.FateCoreLaws.PlaceLaws.{place-none, get-at, actives-length, row-low, row-place, end-place}
+use Rattle.law_model.proofs.ListLaws.{at-index}
+use Rattle.law_model.specs.Common.{place_of}
+use Rattle.fate_engine.specs.Common.{ArePackets}
+use Rattle.fate_engine.proofs.FateCoreLaws.PlaceLaws.{place-none, actives-length, row-low, row-place, end-place}
 use Rattle.fate_engine.proofs.fate_core.packet_rows.Packets.place.Goals as goal
 
 there : (c : goal.After-width) →
     slice_get c.self.inside.packets.items ((c.args.row - 24) / 16) ≡ Some c.index-packet.result.now
 there c =
-    get-at c.self.inside.packets.items ((c.args.row - 24) / 16) c.index-packet.result.now
+    at-index c.self.inside.packets.items ((c.args.row - 24) / 16) c.index-packet.result.now
     (let few = c.requires in
     let all = actives-length c.self.inside.size c.self.inside.packets.items c.self.inside.end c.self.invariant in
     let view = ap (λ p. length p.active) c.self.view_is in

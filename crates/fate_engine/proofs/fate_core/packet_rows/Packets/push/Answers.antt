@@ -1,8 +1,8 @@
 -- One more packet behind the others.
 use Rattle.std.proofs.Common.{◌≡◌, ℕ, ◌+◌, ◌*◌, ◌^◌, ◌<◌, ◌≤◌, length, sym, ◌∙◌, ap, subst, arith}
 use Rattle.std.proofs.Math.Nat.{mul-le-mul_left, mul-le-mul_right}
+use Rattle.fate_engine.specs.Common.{IsPacketList}
 use Rattle.fate_engine.specs.declared.fate_core.packet_rows.Packet.{Packet}
-use Rattle.fate_engine.specs.fate_core.Packets.{IsPacketList}
 use Rattle.fate_engine.proofs.FateCoreLaws.PlaceLaws.{actives-length, start-low, pushed}
 use Rattle.fate_engine.proofs.fate_core.packet_rows.Packets.push.Goals as goal
 

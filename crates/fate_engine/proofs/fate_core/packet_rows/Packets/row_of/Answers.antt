@@ -1,10 +1,8 @@
 -- The row among those of its packet.
 use Rattle.std.proofs.Common.{◌≡◌, ℕ, suc, ◌+◌, ◌-◌, ◌*◌, ◌/◌, ◌<◌, ◌≤◌, List, length, Option, sym, ◌∙◌, ap, subst}
 use Rattle.std.proofs.Common.{arith}
-use Rattle.law_model.specs.session.Scenario.{Scenario}
-use Rattle.law_model.specs.source.Table.{Told}
-use Rattle.law_model.specs.source.Client.{place_of}
-use Rattle.fate_engine.specs.fate_core.Packets.{ArePackets, start_by, packets_in}
+use Rattle.law_model.specs.Common.{Scenario, Told, place_of}
+use Rattle.fate_engine.specs.Common.{ArePackets, start_by, packets_in}
 use Rattle.fate_engine.proofs.FateCoreLaws.PlaceLaws.{actives-length, row-place, end-place, Found, found, some-width, few-rows}
 use Rattle.fate_engine.proofs.fate_core.packet_rows.Packets.row_of.Goals as goal
 

@@ -1,14 +1,13 @@
 -- Where a row lies.
-use Rattle.std.proofs.Common.{rules, ◌≡◌, ℕ, ◌-◌, ◌<◌, ◌≤◌, nat_le, true, false, List, length, take, drop, slice_get}
+use Rattle.std.proofs.Common.{rules, ◌≡◌, ◌-◌, ◌<◌, ◌≤◌, nat_le, true, false, length, take, drop, slice_get}
 use Rattle.std.proofs.Common.{None, sym, ◌∙◌, ap, subst}
 use Rattle.std.specs.Prelude.{if◌then◌else◌}
 use Rattle.std.specs.List.Sorted.{IsPartitionedBy}
-use Rattle.std.proofs.Math.Seq.{take-length}
-use Rattle.std.proofs.lemmas.List.{length-drop}
+use Rattle.std.proofs.lemmas.List.{take_rest}
 use Rattle.std.proofs.lemmas.Bool.{le-leb, lt-leb}
 use Rattle.std.proofs.lemmas.Fn.{always_returns_same}
+use Rattle.fate_engine.specs.Common.{IsAround, AreSegments}
 use Rattle.fate_engine.specs.declared.fate_law.RowSegment.{RowSegment}
-use Rattle.fate_engine.specs.fate_core.Segments.{IsAround, AreSegments}
 use Rattle.fate_engine.proofs.FateCoreLaws.AroundLaws.{in_segment, in_none, parted, Passed, in-first, in-last, in-ended, in-no}
 use Rattle.fate_engine.proofs.fate_core.row_segments.Segments.around.Goals as goal
 use Rattle.fate_engine.proofs.fate_core.row_segments.Segments.around.Goals.{After-partition_point-passed, After-deref-2}
@@ -28,9 +27,6 @@ returns-then-self-row c = λ rows stands low.
     (subst (λ v. v.first ≤ c.args.row) c.self.view_is c.if-row-self.false)
     (subst (λ v. v.last.first ≤ c.args.row) c.self.view_is c.if-self-row.true))
 
-rest : {X : Type 0} (list : List X) (i : ℕ) → take (length list - i) (drop i list) ≡ drop i list
-rest list i = ap (λ n. take n (drop i list)) (sym (length-drop i list)) ∙ take-length (drop i list)
-
 -- the first of the ended segments that the row is in front of the end of
 point : (c : After-partition_point-passed) → Passed c.args.self.now.ended c.args.row c.partition_point-passed.result
 point c =
@@ -49,7 +45,7 @@ behind : (c : After-deref-2) →
     (drop c.partition_point-passed.result c.deref-2.result.now)
     ≡ drop c.partition_point-passed.result c.args.self.now.ended
 behind c =
-    rest c.deref-2.result.now c.partition_point-passed.result
+    take_rest c.deref-2.result.now c.partition_point-passed.result
     ∙ ap (drop c.partition_point-passed.result) (c.deref-2.ensures.value ∙ ap (λ v. v.ended) c.self.view_is)
 
 pub returns-then-segment-row : goal.returns-then-segment-row

@@ -1,9 +1,8 @@
 -- The segments stay in order.
-use Rattle.std.proofs.Common.{◌≡◌, ◌+◌, ◌&&◌, true, nat_lt, [], ◌∷◌, ◌++◌, refl, sym, ◌∙◌, ap, subst, arith}
-use Rattle.std.proofs.lemmas.Bool.{ltb-true}
+use Rattle.std.proofs.Common.{◌≡◌, ◌+◌, ◌&&◌, true, nat_lt, [], ◌∷◌, ◌++◌, refl, sym, ◌∙◌, ap, subst, arith, ltb-true}
+use Rattle.law_loss.proofs.KeptLaws.{and_right}
 use Rattle.fate_engine.specs.fate_core.Segments.{AreInOrder}
 use Rattle.fate_engine.proofs.FateCoreLaws.SegmentLaws.{order-push, order-more}
-use Rattle.fate_engine.proofs.FateCoreLaws.RunLaws.{and_second}
 use Rattle.fate_engine.proofs.fate_core.row_segments.Segments.break_off.Goals as goal
 use Rattle.fate_engine.proofs.fate_core.row_segments.Segments.break_off.Goals.{then-is_told+in_ok-push, else-is_told}
 
@@ -12,7 +11,7 @@ invariant_of-self-2 c =
     elim c.if-is_told.branch [
       | then-is_told+in_ok-push w ↦ (
           let told : nat_lt c.self.inside.last.first c.self.inside.last.end ≡ true =
-          and_second (nat_lt c.self.inside.first c.self.inside.last.first)
+          and_right (nat_lt c.self.inside.first c.self.inside.last.first)
           (nat_lt c.self.inside.last.first c.self.inside.last.end)
           (ap (λ v. nat_lt v.first v.last.first && nat_lt v.last.first v.last.end) c.self.view_is
           ∙ sym c.is_told.ensures ∙ w.if-is_told.true) in

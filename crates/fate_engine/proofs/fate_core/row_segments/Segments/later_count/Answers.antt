@@ -1,7 +1,7 @@
 -- The ended ones, and the one that goes on where it is told.
 use Rattle.std.proofs.Common.{◌≡◌, true, false, [], ◌∷◌, ◌++◌, length, sym, ◌∙◌, ap, arith, length-append}
 use Rattle.std.specs.Prelude.{if◌then◌else◌}
-use Rattle.fate_engine.specs.fate_core.Segments.{is_told}
+use Rattle.fate_engine.specs.Common.{is_told}
 use Rattle.fate_engine.proofs.FateCoreLaws.SegmentLaws.{later-kept}
 use Rattle.fate_engine.proofs.fate_core.row_segments.Segments.later_count.Goals as goal
 

@@ -1,6 +1,7 @@
 -- One more row.
 use Rattle.std.proofs.Common.{[], ◌∷◌, ◌++◌, sym, ◌∙◌, subst}
-use Rattle.fate_engine.specs.fate_core.Segments.{SegmentsStand, AreSegments}
+use Rattle.fate_engine.specs.fate_core.Segments.{SegmentsStand}
+use Rattle.fate_engine.specs.Common.{AreSegments}
 use Rattle.fate_engine.proofs.FateCoreLaws.SegmentLaws.{go-on, break-off}
 use Rattle.fate_engine.proofs.fate_core.row_segments.Segments.row.Goals as goal
 

@@ -1,6 +1,6 @@
 -- No row has come.
 use Rattle.std.proofs.Common.{refl}
-use Rattle.fate_engine.specs.fate_law.Spoiled.{spoiled_runs}
+use Rattle.fate_engine.specs.Common.{spoiled_runs}
 use Rattle.fate_engine.proofs.fate_core.spoiled_runs.SpoiledRuns.new.Goals as goal
 
 pub returns : goal.returns

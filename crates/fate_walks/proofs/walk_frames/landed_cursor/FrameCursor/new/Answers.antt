@@ -1,7 +1,7 @@
 -- No item was passed.
 use Rattle.std.proofs.Common.{sym, ap, arith}
-use Rattle.law_model.specs.session.Leg.{leg_of}
-use Rattle.law_walk.specs.Landed.{landed_from, refusals_among}
+use Rattle.law_model.specs.Common.{leg_of}
+use Rattle.law_walk.specs.Common.{landed_from, refusals_among}
 use Rattle.fate_walks.proofs.walk_frames.landed_cursor.FrameCursor.new.Goals as goal
 
 pub returns-clause-at : goal.returns-clause-at

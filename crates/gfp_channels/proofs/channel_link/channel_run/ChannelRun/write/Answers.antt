@@ -1,8 +1,7 @@
 -- The lines of all frames that are delivered, those of all that are refused, and then the counts.
 use Rattle.std.proofs.Common.{rules, ◌≡◌, ◌++◌, ◌-◌, [], true, List, ℕ, length, refl, sym, ◌∙◌, ap, ap₂, subst, arith}
-use Rattle.std.specs.Prelude.{vec_len}
-use Rattle.std.specs.List.{flat_map}
-use Rattle.octet_io.specs.Start.{Start}
+use Rattle.std.proofs.Common.{vec_len, flat_map}
+use Rattle.law_model.specs.Common.{Start}
 use Rattle.text_got.specs.Told.{HasText, name_of, start_at}
 use Rattle.gfp_model.specs.linear_model.Linear.{frame_in}
 use Rattle.gfp_model.specs.linear_model.Channels.{silent}

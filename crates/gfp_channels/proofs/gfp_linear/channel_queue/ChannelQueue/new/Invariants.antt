@@ -1,7 +1,5 @@
 -- A buffer for each turn so far, each with room for a frame, and room for all of a channel.
-use Rattle.std.proofs.Common.{◌≡◌, ◌≤◌, vec_len}
-use Rattle.std.specs.List.{All}
-use Rattle.std.specs.Vec.{vec_capacity}
+use Rattle.std.proofs.Common.{◌≡◌, ◌≤◌, vec_len, All, vec_capacity}
 use Rattle.gfp_model.specs.linear_model.Channels.{most_of_channel}
 use Rattle.gfp_channels.specs.gfp_linear.Queue.{HasFrameRoom}
 use Rattle.gfp_channels.proofs.gfp_linear.channel_queue.ChannelQueue.new.Given as goal

@@ -2,7 +2,7 @@
 use Rattle.std.proofs.Common.{false, sym, subst}
 use Rattle.gfp_channels.specs.gfp_linear.Delineator.{LinearReceiver, StandsIn}
 use Rattle.gfp_channels.proofs.gfp_linear.linear_delineator.LinearDelineator.broken.Goals as goal
-use Rattle.law_model.specs.Limits.{longest_extended_area}
+use Rattle.law_model.specs.Common.{longest_extended_area}
 
 pub returns-clause-stands : goal.returns-clause-stands
 returns-clause-stands c = λ first octets stands.

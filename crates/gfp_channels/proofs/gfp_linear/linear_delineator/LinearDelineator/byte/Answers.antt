@@ -4,7 +4,7 @@ use Rattle.gfp_delineate.specs.Areas.{ends_told}
 use Rattle.gfp_channels.specs.gfp_linear.Delineator.{LinearReceiver, StandsIn, told_linear}
 use Rattle.gfp_channels.proofs.GfpLinearLaws.AreaLaws.{outcomes-ends, told-ends, short-ends}
 use Rattle.gfp_channels.proofs.gfp_linear.linear_delineator.LinearDelineator.byte.Goals as goal
-use Rattle.law_model.specs.Limits.{longest_extended_area}
+use Rattle.law_model.specs.Common.{longest_extended_area}
 
 pub returns-clause-stands : goal.returns-clause-stands
 returns-clause-stands c = λ first octets stands.

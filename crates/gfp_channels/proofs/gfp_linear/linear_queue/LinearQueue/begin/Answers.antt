@@ -1,13 +1,11 @@
 -- The oldest frame of the channel whose turn it is leaves the queue of the channel, and where it was the last one the
 -- channel leaves those with a frame.
 use Rattle.std.proofs.Common.{◌≡◌, ◌≢◌, ℕ, ◌+◌, ◌<◌, List, [], ◌∷◌, length, arith, sym, ◌∙◌, ap, ap₂, subst}
-use Rattle.std.proofs.Common.{slice_index_or, slice_set}
-use Rattle.std.specs.Prelude.{remove}
-use Rattle.std.proofs.lemmas.List.{length-set, get_or-set_same}
+use Rattle.std.proofs.Common.{slice_index_or, slice_set, remove, length-set, get_or-set_same}
 use Rattle.gfp_model.specs.linear_model.Channels.{with_queue, oldest, served}
 use Rattle.gfp_channels.specs.gfp_linear.Queue.{Queued, busy_from}
-use Rattle.gfp_channels.proofs.GfpLinearLaws.BusyLaws.{channels_of, queue-at, set-with, served-is, busy-removed, busy-less, silent-told}
-use Rattle.gfp_channels.proofs.GfpLinearLaws.BusyLaws.{IsNext, is-next, none-next}
+use Rattle.gfp_channels.proofs.GfpLinearLaws.BusyLaws.{channels_of, queue-at, set-with, served-is, busy-removed}
+use Rattle.gfp_channels.proofs.GfpLinearLaws.BusyLaws.{busy-less, silent-told, IsNext, is-next, none-next}
 use Rattle.gfp_channels.proofs.gfp_linear.linear_queue.LinearQueue.begin.Goals as goal
 use Rattle.gfp_channels.proofs.gfp_linear.linear_queue.LinearQueue.begin.Goals.{After-from-channel, After-begin, After-index}
 

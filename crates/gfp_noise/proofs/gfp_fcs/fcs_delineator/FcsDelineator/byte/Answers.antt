@@ -4,7 +4,7 @@ use Rattle.gfp_delineate.specs.Areas.{ends_told}
 use Rattle.gfp_noise.specs.gfp_fcs.Delineator.{FcsReceiver, FcsReceiverStands, told_fcs}
 use Rattle.gfp_noise.proofs.GfpFcsLaws.AreaLaws.{outcomes-ends, told-ends, short-ends}
 use Rattle.gfp_noise.proofs.gfp_fcs.fcs_delineator.FcsDelineator.byte.Goals as goal
-use Rattle.law_model.specs.Limits.{longest_extended_area}
+use Rattle.law_model.specs.Common.{longest_extended_area}
 
 pub returns-clause-stands : goal.returns-clause-stands
 returns-clause-stands c = λ octets stands.

@@ -1,9 +1,7 @@
 -- What is written is the next piece of the stream.
 use Rattle.std.proofs.Common.{◌≡◌, ℕ, ◌+◌, List, ◌++◌, length, map, sym, ◌∙◌, ap, subst}
-use Rattle.law_model.specs.frames.Core.{core_header}
+use Rattle.law_model.specs.Common.{core_header, joined, scrambled_octets}
 use Rattle.law_model.proofs.CoreLaws.{length-core_header}
-use Rattle.law_model.specs.frames.Piece.{joined}
-use Rattle.law_model.specs.frames.Scramble.{scrambled_octets}
 use Rattle.gfp_scramble.specs.Scrambler as scrambler
 use Rattle.gfp_model.specs.fcs_model.Fcs.{fcs_area}
 use Rattle.gfp_noise.specs.flip_law.Flipped.{fcs_stream}

@@ -1,6 +1,6 @@
 -- The lines of all frames that are delivered, and then the counts.
 use Rattle.std.proofs.Common.{rules, [], ◌≡◌, length, refl, sym, ◌∙◌, ap, subst}
-use Rattle.octet_io.specs.Start.{Start}
+use Rattle.law_model.specs.Common.{Start}
 use Rattle.text_got.specs.Told.{HasText, name_of, start_at}
 use Rattle.text_report.specs.Report.{got_texts}
 use Rattle.gfp_noise.specs.gfp_fcs.Delineator.{fcs_outcomes}

@@ -1,8 +1,7 @@
 -- Some octets, and then those of the loop's next turn.
-use Rattle.std.proofs.Common.{◌-◌, length, take, drop, refl, sym, ◌∙◌, subst, arith}
-use Rattle.std.proofs.lemmas.List.{take_all}
+use Rattle.std.proofs.Common.{◌-◌, length, take, drop, refl, sym, ◌∙◌, subst, arith, take_all}
+use Rattle.law_model.proofs.ListLaws.{take-further}
 use Rattle.member_au4.specs.au4_pointer.Sink.{Gives}
-use Rattle.member_au4.proofs.Au4PointerLaws.ListLaws.{take-further}
 use Rattle.member_au4.proofs.Au4PointerLaws.GiveLaws.{gives-none, gives-more}
 use Rattle.member_au4.proofs.au4_pointer.pointer_sink.PointerSink.pass.Goals as goal
 

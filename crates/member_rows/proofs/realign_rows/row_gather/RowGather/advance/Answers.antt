@@ -3,7 +3,7 @@ use Rattle.std.proofs.Common.{◌≡◌, ◌+◌, ◌%◌, length, sym, ◌∙�
 use Rattle.std.specs.Vec.{with_items}
 use Rattle.std.specs.Global.{Box}
 use Rattle.std.proofs.lemmas.List.{with_items_is, length-map}
-use Rattle.member_cells.specs.declared.containers_and_cells.Container.{Container}
+use Rattle.law_model.specs.Common.{Container}
 use Rattle.member_cells.specs.Held.{held}
 use Rattle.member_rows.specs.realign_rows.Gather.{GatherStands}
 use Rattle.member_rows.specs.realign_rows.Loops.{ArePassed, AreRead}

@@ -2,9 +2,8 @@
 use Rattle.std.proofs.Common.{◌≡◌, slice_get, Some, sym, ◌∙◌, ap, subst}
 use Rattle.std.specs.Global.{Box}
 use Rattle.std.proofs.lemmas.List.{length-map}
-use Rattle.member_cells.specs.declared.containers_and_cells.Container.{Container}
+use Rattle.law_model.specs.Common.{Container, verdict}
 use Rattle.member_cells.specs.Held.{held}
-use Rattle.law_model.specs.members.Number.{verdict}
 use Rattle.member_rows.specs.realign_rows.Gather.{Gather, GatherStands}
 use Rattle.member_rows.proofs.RealignRowsLaws.GatherLaws.{whole_container}
 use Rattle.member_rows.proofs.realign_rows.row_gather.RowGather.containers.Goals as goal

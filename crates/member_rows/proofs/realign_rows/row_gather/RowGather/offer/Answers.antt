@@ -1,10 +1,10 @@
 -- One line has taken the cell, and where it was the first that waits, another one may be.
-use Rattle.std.proofs.Common.{◌<◌, length, slice_set, Some, sym, ◌∙◌, ap, subst, arith}
+use Rattle.std.proofs.Common.{◌<◌, length, slice_set, Some, sym, ◌∙◌, ap, subst, arith, length-set}
 use Rattle.std.proofs.lemmas.Option.{slice_get-get_or}
 use Rattle.member_cells.specs.Held.{held}
 use Rattle.member_path.specs.cell_numbers.Told.{cell_with}
 use Rattle.member_rows.specs.realign_rows.Gather.{Gather, GatherStands, IsOpenAt, decided_lines, with_cell}
-use Rattle.member_rows.proofs.RealignRowsLaws.GatherLaws.{offered_held, length-slice_set}
+use Rattle.member_rows.proofs.RealignRowsLaws.GatherLaws.{offered_held}
 use Rattle.member_rows.proofs.realign_rows.row_gather.RowGather.offer.Goals as goal
 
 pub invariant_of-self : goal.invariant_of-self
@@ -14,7 +14,7 @@ invariant_of-self c =
     let old = inside.lines.items in
     let after = c.cell.new.self in
     let known = c.self.invariant in
-    let lines = length-slice_set old m after in
+    let lines = length-set old m after in
     let size = ap (λ v. length v.lines) c.self.view_is in
     let within : m < length old = omega (arith, c.requires.line, c.from-m.ensures, size) in
     let was = slice_get-get_or old m c.index_mut.result.now within ∙ ap Some (sym c.index_mut.ensures.value) in
@@ -28,7 +28,7 @@ invariant_of-self c =
     subst (λ v. IsOpenAt v m) (sym c.self.view_is)
     (subst (IsOpenAt c.args.self.now) (sym c.from-m.ensures) c.requires.open) in (
       omega (arith, lines, known.0),
-      length-slice_set inside.places.items m _ ∙ known.1 ∙ sym lines,
+      length-set inside.places.items m _ ∙ known.1 ∙ sym lines,
       known.2 ∙ sym lines,
       c.decided_after-self-inside.ensures old c.index_mut.result.now after c.deref.ensures.value known.3 was
           (is c.index_mut.result.now was) ∙ ap decided_lines c.deref.ensures.value,

@@ -2,9 +2,8 @@
 use Rattle.std.proofs.Common.{◌≡◌, ◌<◌, length, slice_get, Some, None, sym, ◌∙◌, ap, subst, arith}
 use Rattle.std.specs.Global.{Box}
 use Rattle.std.proofs.lemmas.List.{length-map}
-use Rattle.member_cells.specs.declared.containers_and_cells.Container.{Container}
+use Rattle.law_model.specs.Common.{Container, first_open}
 use Rattle.member_cells.specs.Held.{held}
-use Rattle.law_model.specs.rows.Rows.{first_open}
 use Rattle.member_path.proofs.CellNumbersLaws.NumberLaws.{test-open}
 use Rattle.member_rows.specs.realign_rows.Gather.{Gather, GatherStands, line_count, IsOpenAt, AreDecided, decided_lines}
 use Rattle.member_rows.proofs.RealignRowsLaws.DecidedLaws.{decided-most, decided-here}

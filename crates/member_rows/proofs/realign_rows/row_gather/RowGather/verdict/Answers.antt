@@ -1,11 +1,9 @@
 -- What is said of a line.
-use Rattle.std.proofs.Common.{◌≡◌, ◌<◌, length, slice_get, Some, sym, ◌∙◌, ap, subst, arith}
-use Rattle.std.specs.Prelude.{option_map}
+use Rattle.std.proofs.Common.{◌≡◌, ◌<◌, length, slice_get, Some, sym, ◌∙◌, ap, subst, arith, option_map}
 use Rattle.std.specs.Global.{Box}
 use Rattle.std.proofs.lemmas.Option.{slice_get-get_or, slice_get-map}
-use Rattle.member_cells.specs.declared.containers_and_cells.Container.{Container}
+use Rattle.law_model.specs.Common.{Container, verdict}
 use Rattle.member_cells.specs.Held.{held}
-use Rattle.law_model.specs.members.Number.{verdict}
 use Rattle.member_path.specs.cell_numbers.Told.{told_by}
 use Rattle.member_rows.specs.realign_rows.Gather.{Gather, GatherStands, AreDecided, decided_lines}
 use Rattle.member_rows.proofs.RealignRowsLaws.DecidedLaws.{decided-shut}

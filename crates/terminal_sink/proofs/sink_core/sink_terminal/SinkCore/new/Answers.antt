@@ -1,6 +1,6 @@
 -- No row was taken.
 use Rattle.std.proofs.Common.{sym, ◌∙◌, arith}
-use Rattle.law_model.specs.frames.Segment.{segments_on}
+use Rattle.law_model.specs.Common.{segments_on}
 use Rattle.terminal_sink.proofs.SinkCoreLaws.GivenLaws.{active-none}
 use Rattle.terminal_sink.proofs.sink_core.sink_terminal.SinkCore.new.Goals as goal
 

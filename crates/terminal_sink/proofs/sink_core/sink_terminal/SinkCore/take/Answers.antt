@@ -1,14 +1,12 @@
 -- A row is taken.
 use Rattle.std.proofs.Common.{◌≡◌, ◌+◌, ◌++◌, length, drop, None, sym, ◌∙◌, ap, subst}
-use Rattle.law_model.specs.rows.Rows.{first_open, governing}
-use Rattle.law_model.specs.frames.Segment.{deliver}
+use Rattle.law_model.specs.Common.{first_open, governing, deliver, longest_frame}
 use Rattle.terminal_sink.specs.declared.sink_core.sink_terminal.TakeAnswer.TheVariants.{Taken}
 use Rattle.terminal_sink.specs.sink_core.Given.{received_rows, answer_at, added_frames}
 use Rattle.terminal_sink.specs.sink_core.Receives.{Receives}
 use Rattle.terminal_sink.specs.sink_core.Core.{Core, SinkStands}
 use Rattle.terminal_sink.proofs.SinkCoreLaws.GivenLaws.{received-more, decided-none, decided-more, answer-taken}
 use Rattle.terminal_sink.proofs.sink_core.sink_terminal.SinkCore.take.Goals as goal
-use Rattle.law_model.specs.Limits.{longest_frame}
 
 pub returns-in-Row-clause-answer : goal.returns-in-Row-clause-answer
 returns-in-Row-clause-answer g c cells gathers stands =

@@ -1,10 +1,9 @@
 -- As many lines carry payload as there are members in NORM.
-use Rattle.std.proofs.Common.{length, sym, ◌∙◌, ap, filter}
-use Rattle.std.specs.Prelude.{count_by}
+use Rattle.std.proofs.Common.{length, sym, ◌∙◌, ap, filter, count_by}
 use Rattle.std.proofs.lemmas.List.{length-map}
 use Rattle.std.proofs.lemmas.List.Sums.{length-filter}
+use Rattle.law_model.specs.Common.{is_normal, active}
 use Rattle.law_model.specs.declared.lcas_states.Member.{Member}
-use Rattle.law_model.specs.source.Table.{is_normal, active}
 use Rattle.terminal_source.proofs.lcas_source.member_table.LineTable.active_count.Goals as goal
 
 pub returns : goal.returns

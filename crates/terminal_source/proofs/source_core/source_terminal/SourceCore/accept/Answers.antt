@@ -1,6 +1,6 @@
 -- A frame more came.
 use Rattle.std.proofs.Common.{sym, subst}
-use Rattle.law_model.specs.packets.Telling.{passed_on}
+use Rattle.law_model.specs.Common.{passed_on}
 use Rattle.terminal_source.specs.source_core.Step.{terminal_of}
 use Rattle.terminal_source.specs.source_core.Given.{with_frame, SourceStands}
 use Rattle.terminal_source.proofs.SourceCoreLaws.GivenSteps.{Stands-with_frame}

@@ -1,7 +1,7 @@
 -- A command more came.
 use Rattle.std.proofs.Common.{length, sym, subst}
 use Rattle.law_model.specs.declared.lcas_states.Command.TheVariants.{Add as add}
-use Rattle.law_model.specs.packets.Telling.{passed_on}
+use Rattle.law_model.specs.Common.{passed_on}
 use Rattle.terminal_source.specs.source_core.Step.{terminal_of}
 use Rattle.terminal_source.specs.source_core.Given.{with_command, SourceStands}
 use Rattle.terminal_source.proofs.SourceCoreLaws.FieldSteps.{IsTerminal-asked}

@@ -1,8 +1,6 @@
 -- There is something to tell.
 use Rattle.std.proofs.Common.{sym, subst}
-use Rattle.law_model.specs.session.Scenario.{steps_in}
-use Rattle.law_model.specs.packets.Told.{told_by}
-use Rattle.law_model.specs.packets.Telling.{passed_on}
+use Rattle.law_model.specs.Common.{steps_in, told_by, passed_on}
 use Rattle.terminal_source.specs.source_core.Step.{terminal_of}
 use Rattle.terminal_source.specs.source_core.Given.{with_told, SourceStands}
 use Rattle.terminal_source.proofs.SourceCoreLaws.GivenSteps.{Stands-with_told}

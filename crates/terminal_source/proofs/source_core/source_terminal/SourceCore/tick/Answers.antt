@@ -4,12 +4,7 @@ use Rattle.std.specs.Prelude.{◌↔◌, IsSome}
 use Rattle.std.specs.Vec.{with_items}
 use Rattle.std.specs.Global.{Box}
 use Rattle.std.proofs.lemmas.List.{with_items_is, length-map}
-use Rattle.member_cells.specs.declared.containers_and_cells.Container.{Container}
-use Rattle.law_model.specs.frames.Piece.{stream_of}
-use Rattle.law_model.specs.source.Client.{reached, place_of}
-use Rattle.law_model.specs.frames.Payload.{payload_of}
-use Rattle.law_model.specs.rows.Sent.{frame_of}
-use Rattle.law_model.specs.packets.Telling.{passed_on}
+use Rattle.law_model.specs.Common.{Container, stream_of, reached, place_of, payload_of, frame_of, passed_on}
 use Rattle.gfp_fill.specs.Stream.{FillerStands as HasWritten}
 use Rattle.member_cells.specs.Held.{held}
 use Rattle.member_rows.specs.vcat_interleave.Spread.{Spreads}

@@ -1,6 +1,6 @@
 -- The head stands behind what was written before.
 use Rattle.std.proofs.Common.{ℕ, [], ◌∙◌, sym, subst}
-use Rattle.octet_io.specs.Start.{Start}
+use Rattle.law_model.specs.Common.{Start}
 use Rattle.text_got.specs.Told.{HasText, name_of, start_at}
 use Rattle.text_captures.specs.capture_file.Written.{ethernet_head}
 use Rattle.text_captures.proofs.capture_file.capture_out.CaptureOut.new.Goals as goal

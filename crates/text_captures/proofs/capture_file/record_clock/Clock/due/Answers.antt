@@ -1,6 +1,5 @@
 -- A record more.
-use Rattle.std.proofs.Common.{◌≡◌, ℕ, ◌-◌, ◌/◌, ◌++◌, ◌∷◌, [], max, Some, sym, ◌∙◌, ap, subst}
-use Rattle.std.specs.Option.{unwrap_or}
+use Rattle.std.proofs.Common.{◌≡◌, ℕ, ◌-◌, ◌/◌, ◌++◌, ◌∷◌, [], max, Some, sym, ◌∙◌, ap, subst, unwrap_or}
 use Rattle.text_captures.specs.capture_file.Reading.{time_of}
 use Rattle.text_captures.specs.capture_file.Clock.{ClockStands}
 use Rattle.text_captures.proofs.CaptureFileLaws.ReadingLaws.{stands-more}

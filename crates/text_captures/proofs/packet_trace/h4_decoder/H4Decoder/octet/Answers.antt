@@ -1,8 +1,7 @@
 -- What the decoder knows after the octet, by what the lock said of it.
 use Rattle.std.proofs.Common.{◌≡◌, ℕ, ◌+◌, ◌%◌, ◌<◌, List, [], length, take, slice_set, refl, sym, ◌∙◌, ap, subst}
 use Rattle.std.proofs.Common.{arith}
-use Rattle.law_model.specs.packets.Packet.{read_of}
-use Rattle.law_model.specs.packets.Decode.{good_cells}
+use Rattle.law_model.specs.Common.{read_of, good_cells}
 use Rattle.text_captures.specs.packet_trace.Decoder.{Decoding, DecoderStands}
 use Rattle.text_captures.proofs.PacketTraceLaws.StepLaws.{goes-out, goes-on, goes-whole, grown-none, grown-take, length-grown, all-grown}
 use Rattle.text_captures.proofs.packet_trace.h4_decoder.H4Decoder.octet.Goals as goal

@@ -1,9 +1,8 @@
 -- A draft that passes the tests is a script that meets all that is said of one.
-use Rattle.std.proofs.Common.{sym, subst, ap, ◌∙◌}
-use Rattle.std.specs.Prelude.{Option, Ok}
+use Rattle.std.proofs.Common.{sym, subst, ap, ◌∙◌, Option, Ok}
 use Rattle.text_scripts.specs.declared.script_read.script_fault.ScriptFault.{ScriptFault}
 use Rattle.text_scripts.specs.script_read.Script.{script_of_draft, script_unless, script_in}
-use Rattle.law_model.specs.session.Valid.{IsValid, HasFewLosses}
+use Rattle.law_model.specs.Common.{IsValid, HasFewLosses}
 use Rattle.text_scripts.proofs.ScriptReadLaws.ValidLaws.{IsValid-draft}
 use Rattle.text_scripts.proofs.script_read.script_reader.ScriptReader.finish.Goals as goal
 

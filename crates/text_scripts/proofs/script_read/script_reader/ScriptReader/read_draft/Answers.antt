@@ -1,6 +1,5 @@
 -- One line on, and after the last one.
-use Rattle.std.proofs.Common.{◌∙◌, length, ap, sym, subst, arith, inr}
-use Rattle.std.specs.Prelude.{Err}
+use Rattle.std.proofs.Common.{◌∙◌, length, ap, sym, subst, arith, inr, Err}
 use Rattle.text_scripts.specs.declared.script_read.script_fault.LineFault.TheVariants.{Missing}
 use Rattle.text_scripts.specs.script_read.Statements.{awaited}
 use Rattle.text_scripts.specs.declared.script_read.script_keyword.Keyword.{Keyword}

@@ -1,6 +1,5 @@
 -- One line more, and the end of the whole lines.
-use Rattle.std.proofs.Common.{ℕ, ◌-◌, List, length, take, ap, sym, subst, arith, length-take}
-use Rattle.std.proofs.Common.{length-append}
+use Rattle.std.proofs.Common.{ℕ, ◌-◌, List, length, take, ap, sym, subst, arith, length-take, length-append}
 use Rattle.text_scripts.specs.declared.script_read.script_draft.Draft.{Draft}
 use Rattle.text_scripts.specs.script_read.Drafts.{IsDraft}
 use Rattle.text_scripts.proofs.ScriptReadLaws.GrowthLaws.{IsDraft-after, items_after}

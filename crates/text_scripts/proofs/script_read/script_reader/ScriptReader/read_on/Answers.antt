@@ -1,6 +1,5 @@
 -- What was read moves from the rest to the text before it.
-use Rattle.std.proofs.Common.{◌≡◌, ◌⊎◌, ◌++◌, ◌∙◌, List, ℕ, take, drop, length-drop, Err, ap, subst, arith}
-use Rattle.std.proofs.lemmas.List.{take_all}
+use Rattle.std.proofs.Common.{◌≡◌, ◌⊎◌, ◌++◌, ◌∙◌, List, ℕ, take, drop, length-drop, Err, ap, subst, arith, take_all}
 use Rattle.text_scripts.specs.declared.script_read.script_fault.ScriptFault.TheVariants.{Memory}
 use Rattle.text_scripts.specs.script_read.Script.{script_of}
 use Rattle.text_scripts.specs.script_read.Pieces.{ReaderStands}

@@ -1,7 +1,6 @@
 -- The list has room for what the posts keep, and then it has all that was posted.
-use Rattle.std.proofs.Common.{◌≡◌, ◌≤◌, ◌+◌, ◌*◌, ◌++◌, length, map, ap, ap₂, sym, ◌∙◌, subst, arith}
-use Rattle.std.specs.Prelude.{IsPermutation}
-use Rattle.std.specs.Vec.{vec_capacity}
+use Rattle.std.proofs.Common.{◌≡◌, ◌≤◌, ◌+◌, ◌*◌, ◌++◌, length, map, ap, ap₂, sym, ◌∙◌, subst, arith, IsPermutation}
+use Rattle.std.proofs.Common.{vec_capacity}
 use Rattle.crossbeam_queue.specs.Passes.{view}
 use Rattle.thread_alarms.specs.alarm_log.Alarms.{in_row, of_line}
 use Rattle.thread_alarms.specs.alarm_log.Views.{got_of}

@@ -1,8 +1,7 @@
 -- The post has room for the alarms of one more burst.
-use Rattle.std.proofs.Common.{◌≡◌, ◌≢◌, ◌<◌, ◌++◌, length, refl, sym, ◌∙◌, ap, ap₂, arith, rules}
-use Rattle.std.proofs.Common.{length-append}
+use Rattle.std.proofs.Common.{◌≡◌, ◌≢◌, ◌<◌, ◌++◌, length, refl, sym, ◌∙◌, ap, ap₂, arith, rules, length-append}
 use Rattle.law_model.specs.members.Damage.{carried}
-use Rattle.law_model.specs.members.Path.{cells}
+use Rattle.law_model.specs.Common.{cells}
 use Rattle.thread_rings.specs.Ends.{in_passed}
 use Rattle.thread_rings.specs.declared.line_worker.Burst.TheVariants.{Done}
 use Rattle.thread_rings.specs.Alarms.{alarms_of_line}

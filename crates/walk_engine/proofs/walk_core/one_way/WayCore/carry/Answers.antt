@@ -1,9 +1,9 @@
 -- A line carries.
 use Rattle.std.proofs.Common.{◌<◌, length, refl, sym, subst, arith}
 use Rattle.law_model.specs.declared.walk_events.Event.TheVariants.{Carry}
+use Rattle.walk_engine.specs.Common.{Parts, Makes}
 use Rattle.walk_engine.specs.declared.walk_core.step_answers.Moved.TheVariants.{Stalled}
-use Rattle.walk_engine.specs.walk_core.Parts.{Parts, WayStands}
-use Rattle.walk_engine.specs.walk_core.Way.{Makes}
+use Rattle.walk_engine.specs.walk_core.Parts.{WayStands}
 use Rattle.walk_engine.proofs.WalkCoreLaws.CarryLaws.{frame-size, sent-places}
 use Rattle.walk_engine.proofs.WalkCoreLaws.CarrySteps.{line-low, line-stays, line-runs, line-free, line-carried}
 use Rattle.walk_engine.proofs.WalkCoreLaws.WayLaws.{makes-from}

@@ -1,7 +1,7 @@
 -- Why no frame is made, by the leg's items.
 use Rattle.std.proofs.Common.{◌∙◌, ap}
 use Rattle.terminal_group.specs.Source.{early_in}
-use Rattle.walk_engine.specs.walk_core.Parts.{Parts}
+use Rattle.walk_engine.specs.Common.{Parts}
 use Rattle.walk_engine.proofs.WalkCoreLaws.TickLaws.{early-is}
 use Rattle.walk_engine.proofs.walk_core.one_way.WayCore.early_cause.Goals as goal
 

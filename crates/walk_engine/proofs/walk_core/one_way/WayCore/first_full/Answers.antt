@@ -1,7 +1,8 @@
 -- The first line whose send ring is full, by the leg's ticks.
 use Rattle.std.proofs.Common.{map, length, sym, ◌∙◌, ap, subst, arith}
-use Rattle.law_model.specs.session.Counts.{full}
-use Rattle.walk_engine.specs.walk_core.Parts.{Parts, line_counts, WayStands}
+use Rattle.law_model.specs.Common.{full}
+use Rattle.walk_engine.specs.walk_core.Parts.{WayStands}
+use Rattle.walk_engine.specs.Common.{Parts, line_counts}
 use Rattle.walk_engine.proofs.WalkCoreLaws.TickLaws.{lines-made, lines-few}
 use Rattle.walk_engine.proofs.walk_core.one_way.WayCore.first_full.Goals as goal
 

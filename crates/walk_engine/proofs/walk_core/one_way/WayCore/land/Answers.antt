@@ -1,10 +1,10 @@
 -- The item is landed by the source side.
 use Rattle.std.proofs.Common.{refl, sym, ◌∙◌, ap, subst}
-use Rattle.law_walk.specs.Landed.{is_client}
+use Rattle.law_walk.specs.Common.{is_client}
 use Rattle.terminal_group.specs.Item.{kind_of}
 use Rattle.terminal_group.specs.Landed.{next_number}
-use Rattle.walk_engine.specs.walk_core.Parts.{Parts, WayStands}
-use Rattle.walk_engine.specs.walk_core.Way.{IsDue}
+use Rattle.walk_engine.specs.walk_core.Parts.{WayStands}
+use Rattle.walk_engine.specs.Common.{Parts, IsDue}
 use Rattle.walk_engine.proofs.WalkCoreLaws.LandSteps.{land-taken}
 use Rattle.walk_engine.proofs.WalkCoreLaws.WayLaws.{makes-from}
 use Rattle.walk_engine.proofs.walk_core.one_way.WayCore.land.Goals as goal

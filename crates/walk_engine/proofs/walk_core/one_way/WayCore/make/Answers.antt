@@ -1,16 +1,14 @@
 -- A frame is made, and goes to its place in the send rings.
-use Rattle.std.proofs.Common.{◌+◌, ◌%◌, length, refl, sym, ◌∙◌, ap, subst, arith}
-use Rattle.std.specs.Option.{is_some}
+use Rattle.std.proofs.Common.{◌+◌, ◌%◌, length, refl, sym, ◌∙◌, ap, subst, arith, is_some}
+use Rattle.law_model.proofs.ListLaws.{at-index}
 use Rattle.member_cells.specs.Held.{held}
-use Rattle.law_model.specs.session.Scenario.{steps_in}
-use Rattle.law_model.specs.rows.Sent.{frame_of}
+use Rattle.law_model.specs.Common.{steps_in, frame_of}
 use Rattle.terminal_source.specs.source_core.Terminal.{SameKind, needed}
 use Rattle.terminal_source.specs.source_core.Given.{with_cell}
 use Rattle.terminal_group.specs.Inbox.{cell_for, rest_for}
 use Rattle.terminal_group.specs.Source.{Source, SameScript, early_in, missing_in}
-use Rattle.terminal_group.proofs.ItemLaws.{at-index}
-use Rattle.walk_engine.specs.walk_core.Parts.{Parts, sent_frames, WayStands}
-use Rattle.walk_engine.specs.walk_core.Way.{CanTick, with_passed}
+use Rattle.walk_engine.specs.walk_core.Parts.{WayStands}
+use Rattle.walk_engine.specs.Common.{Parts, sent_frames, CanTick, with_passed}
 use Rattle.walk_engine.proofs.WalkCoreLaws.CarryLaws.{frame-size, sent-places}
 use Rattle.walk_engine.proofs.WalkCoreLaws.TickLaws.{tick-makes_at, sent-read}
 use Rattle.walk_engine.proofs.WalkCoreLaws.WayLaws.{makes-from, same-early, same-missing, same-cell, same-rest}

@@ -1,5 +1,5 @@
 -- What was opened is the script's.
-use Rattle.law_model.specs.session.Leg.{leg_of}
+use Rattle.law_model.specs.Common.{leg_of}
 use Rattle.walk_engine.proofs.walk_core.one_way.WayCore.new.Goals as goal
 
 pub returns-clause-stands : goal.returns-clause-stands

@@ -1,8 +1,9 @@
 -- The packets of the rows that were taken.
 use Rattle.std.proofs.Common.{map, sym, ◌∙◌, ap, subst}
-use Rattle.law_model.specs.rows.Rows.{governing}
-use Rattle.law_walk.specs.Walk.{popped_cells}
-use Rattle.walk_engine.specs.walk_core.Parts.{Parts, line_counts, WayStands}
+use Rattle.law_model.specs.Common.{governing}
+use Rattle.law_walk.specs.Common.{popped_cells}
+use Rattle.walk_engine.specs.walk_core.Parts.{WayStands}
+use Rattle.walk_engine.specs.Common.{Parts, line_counts}
 use Rattle.walk_engine.proofs.walk_core.one_way.WayCore.packets.Goals as goal
 
 pub returns : goal.returns

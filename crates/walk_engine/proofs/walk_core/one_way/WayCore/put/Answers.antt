@@ -2,7 +2,7 @@
 use Rattle.std.proofs.Common.{◌<◌, length, sym, ◌∙◌, ap, subst}
 use Rattle.terminal_group.specs.Inbox.{with_come}
 use Rattle.terminal_group.specs.Source.{Source}
-use Rattle.walk_engine.specs.walk_core.Parts.{Parts, sent_frames}
+use Rattle.walk_engine.specs.Common.{Parts, sent_frames}
 use Rattle.walk_engine.proofs.walk_core.one_way.WayCore.put.Goals as goal
 
 pub put-requires-clause-room : goal.put-requires-clause-room

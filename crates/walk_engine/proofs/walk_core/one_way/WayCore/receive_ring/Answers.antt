@@ -1,7 +1,7 @@
 -- What waits in a receive ring.
 use Rattle.std.proofs.Common.{◌<◌, length, slice_get, sym, ◌∙◌, ap, subst}
-use Rattle.walk_engine.specs.walk_core.Parts.{Parts, counts_of, calls_on, WayStands}
-use Rattle.walk_engine.specs.walk_core.Waiting.{receive_ring}
+use Rattle.walk_engine.specs.walk_core.Parts.{WayStands}
+use Rattle.walk_engine.specs.Common.{Parts, counts_of, calls_on, receive_ring}
 use Rattle.walk_engine.proofs.WalkCoreLaws.CarryLaws.{line-has, receives-are}
 use Rattle.walk_engine.proofs.WalkCoreLaws.CarrySteps.{line-low, line-there}
 use Rattle.walk_engine.proofs.walk_core.one_way.WayCore.receive_ring.Goals as goal

@@ -1,10 +1,10 @@
 -- What waits in a send ring.
 use Rattle.std.proofs.Common.{rules, ◌+◌, ◌%◌, ◌<◌, ◌≤◌, min, length, slice_get, slice_index_or, Some, refl, ◌∙◌}
 use Rattle.std.proofs.Common.{ap, sym, subst, arith}
-use Rattle.law_model.specs.session.Counts.{in_send}
-use Rattle.terminal_group.proofs.ItemLaws.{at-index}
-use Rattle.walk_engine.specs.walk_core.Parts.{Parts, counts_of, line_counts, WayStands}
-use Rattle.walk_engine.specs.walk_core.Waiting.{send_ring}
+use Rattle.law_model.proofs.ListLaws.{at-index}
+use Rattle.law_model.specs.Common.{in_send}
+use Rattle.walk_engine.specs.walk_core.Parts.{WayStands}
+use Rattle.walk_engine.specs.Common.{Parts, counts_of, line_counts, send_ring}
 use Rattle.walk_engine.proofs.WalkCoreLaws.CarryLaws.{frame-size, sent-places, sends-made, sends-none, sends-some}
 use Rattle.walk_engine.proofs.WalkCoreLaws.CarrySteps.{line-low, line-there}
 use Rattle.walk_engine.proofs.walk_core.one_way.WayCore.send_ring.Goals as goal

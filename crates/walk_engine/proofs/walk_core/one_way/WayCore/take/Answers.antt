@@ -1,8 +1,7 @@
 -- A row is taken, or the cells that were popped wait for more.
 use Rattle.std.proofs.Common.{sym, ◌∙◌, ap, subst}
-use Rattle.walk_engine.specs.walk_core.Moved.{GivesRows}
-use Rattle.walk_engine.specs.walk_core.Parts.{Parts, counts_of, WayStands}
-use Rattle.walk_engine.specs.walk_core.Take.{take_cause}
+use Rattle.walk_engine.specs.Common.{GivesRows, Parts, counts_of, take_cause}
+use Rattle.walk_engine.specs.walk_core.Parts.{WayStands}
 use Rattle.walk_engine.proofs.WalkCoreLaws.RoundLaws.{gives-none}
 use Rattle.walk_engine.proofs.WalkCoreLaws.TakenLaws.{rows-few, can-pop, waits-kept, can-take, taken-kept, taken-gives}
 use Rattle.walk_engine.proofs.WalkCoreLaws.TickLaws.{lines-few}

@@ -1,8 +1,9 @@
 -- What was counted is what the leg and the counts say.
 use Rattle.std.proofs.Common.{◌≡◌, ◌+◌, length, sym, ◌∙◌, ap, subst}
 use Rattle.terminal_group.specs.Landed.{Landed}
-use Rattle.law_walk.specs.Landed.{totals_of}
-use Rattle.walk_engine.specs.walk_core.Parts.{Parts, counts_of, WayStands}
+use Rattle.law_walk.specs.Common.{totals_of}
+use Rattle.walk_engine.specs.walk_core.Parts.{WayStands}
+use Rattle.walk_engine.specs.Common.{Parts, counts_of}
 use Rattle.walk_engine.proofs.WalkCoreLaws.TotalLaws.{totals-are}
 use Rattle.walk_engine.proofs.walk_core.one_way.WayCore.totals.Goals as goal
 

@@ -1,13 +1,11 @@
 -- The first return packet is the source's next return cell.
 use Rattle.std.proofs.Common.{◌≡◌, List, drop, sym, ◌∙◌, ap, subst}
+use Rattle.law_model.specs.Common.{leg_of}
 use Rattle.law_model.specs.declared.control_packet.Packet.{Packet}
 use Rattle.law_model.specs.declared.walk_events.Event.TheVariants.{Back}
-use Rattle.walk_engine.specs.declared.walk_core.step_answers.Moved.TheVariants.{Stalled}
 use Rattle.law_model.specs.declared.walk_events.StallCause.TheVariants.{BackEmpty}
-use Rattle.law_model.specs.session.Leg.{leg_of}
-use Rattle.walk_engine.specs.walk_parts.Return.{path_of}
-use Rattle.walk_engine.specs.walk_core.Parts.{Parts, counts_of, IsWalk}
-use Rattle.walk_engine.specs.walk_core.Moved.{Walked, moved_of, counts_after}
+use Rattle.walk_engine.specs.Common.{path_of, Parts, counts_of, IsWalk, Walked, moved_of, counts_after}
+use Rattle.walk_engine.specs.declared.walk_core.step_answers.Moved.TheVariants.{Stalled}
 use Rattle.walk_engine.proofs.WalkCoreLaws.BackLaws.{back-stays, back-yes, back-counts, back-kept, inbox-room, backs-few, no-packet}
 use Rattle.walk_engine.proofs.walk_core.walk.Walk.back.Goals as goal
 

@@ -1,5 +1,5 @@
 -- Nothing has come, and nothing is on its way.
-use Rattle.law_model.specs.session.Leg.{leg_of}
+use Rattle.law_model.specs.Common.{leg_of}
 use Rattle.walk_engine.proofs.WalkCoreLaws.OpenLaws.{new-walk, new-walk-counts}
 use Rattle.walk_engine.proofs.walk_core.walk.Walk.begun.Goals as goal
 

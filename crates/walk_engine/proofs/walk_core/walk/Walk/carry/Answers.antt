@@ -1,9 +1,8 @@
 -- A line carries.
 use Rattle.std.proofs.Common.{◌∙◌, ap, arith}
+use Rattle.law_model.specs.Common.{leg_of}
 use Rattle.law_model.specs.declared.walk_events.Event.TheVariants.{Carry}
-use Rattle.law_model.specs.session.Leg.{leg_of}
-use Rattle.walk_engine.specs.walk_core.Moved.{Walked, moved_of, counts_after}
-use Rattle.walk_engine.specs.walk_core.Parts.{Parts, counts_of}
+use Rattle.walk_engine.specs.Common.{Walked, moved_of, counts_after, Parts, counts_of}
 use Rattle.walk_engine.proofs.WalkCoreLaws.CarrySteps.{carried-walk}
 use Rattle.walk_engine.proofs.walk_core.walk.Walk.carry.Goals as goal
 

@@ -1,13 +1,11 @@
 -- One line more.
 use Rattle.std.proofs.Common.{◌≡◌, ◌∙◌, [], ◌∷◌, length, ap, subst, arith}
+use Rattle.law_model.specs.Common.{Counts, run, IsValid, leg_of}
 use Rattle.law_model.specs.declared.script_types.Script.{Script}
 use Rattle.law_model.specs.declared.walk_events.Event.TheVariants.{Back, Take, Carry}
-use Rattle.law_model.specs.session.Counts.{Counts, run}
-use Rattle.law_model.specs.session.Valid.{IsValid}
-use Rattle.law_model.specs.session.Leg.{leg_of}
-use Rattle.law_walk.specs.Walk.{walk_plan}
+use Rattle.law_walk.specs.Common.{walk_plan}
 use Rattle.law_walk.proofs.PlanLaws.{has-paths, sound-walks}
-use Rattle.walk_engine.specs.walk_core.Moved.{Walked, counts_after}
+use Rattle.walk_engine.specs.Common.{Walked, counts_after}
 use Rattle.walk_engine.proofs.WalkCoreLaws.RoundLaws.{carry-turn, carry-end, carry-rows}
 use Rattle.walk_engine.proofs.walk_core.walk.Walk.carry_all.Goals as goal
 

@@ -1,8 +1,7 @@
 -- The events that are left give what all of them give.
 use Rattle.std.proofs.Common.{◌≡◌, drop}
-use Rattle.law_model.specs.session.Counts.{run, carries_from}
-use Rattle.law_model.specs.session.Leg.{leg_of}
-use Rattle.law_walk.specs.Walk.{walk_plan}
+use Rattle.law_model.specs.Common.{run, carries_from, leg_of}
+use Rattle.law_walk.specs.Common.{walk_plan}
 use Rattle.walk_engine.proofs.walk_core.walk.Walk.carry_all.Given as goal
 
 abbrev pub invariant-loop-line : goal.invariant-loop-line

@@ -1,11 +1,9 @@
 -- A round more, or all rows are taken.
 use Rattle.std.proofs.Common.{◌<◌, ◌≤◌, refl, sym, ◌∙◌, ap, subst, arith}
+use Rattle.law_model.specs.Common.{Counts, run, round, IsValid, leg_of}
 use Rattle.law_model.specs.declared.script_types.Script.{Script}
-use Rattle.law_model.specs.session.Counts.{Counts, run, round}
-use Rattle.law_model.specs.session.Valid.{IsValid}
-use Rattle.law_model.specs.session.Leg.{leg_of}
-use Rattle.law_walk.specs.Walk.{walk_plan, IsWalked}
-use Rattle.walk_engine.specs.walk_core.Moved.{Walked, GivesRows}
+use Rattle.law_walk.specs.Common.{walk_plan, IsWalked}
+use Rattle.walk_engine.specs.Common.{Walked, GivesRows}
 use Rattle.walk_engine.proofs.WalkCoreLaws.RoundLaws.{round-turn, drained-end, run-rises, all-taken, gives-none, gives-then}
 use Rattle.walk_engine.proofs.walk_core.walk.Walk.drain.Goals as goal
 

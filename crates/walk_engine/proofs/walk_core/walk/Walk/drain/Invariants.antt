@@ -1,10 +1,9 @@
 -- The rounds that are left give what all of them give.
 use Rattle.std.proofs.Common.{◌≡◌, ◌≤◌, ◌-◌}
-use Rattle.law_model.specs.session.Counts.{drain, bound}
-use Rattle.law_model.specs.session.Leg.{leg_of}
+use Rattle.law_model.specs.Common.{drain, bound, leg_of}
 use Rattle.law_progress.specs.Progress.{made}
-use Rattle.law_walk.specs.Walk.{walk_plan}
-use Rattle.walk_engine.specs.walk_core.Moved.{GivesRows}
+use Rattle.law_walk.specs.Common.{walk_plan}
+use Rattle.walk_engine.specs.Common.{GivesRows}
 use Rattle.walk_engine.proofs.walk_core.walk.Walk.drain.Given as goal
 
 abbrev pub invariant-loop-self : goal.invariant-loop-self

@@ -1,10 +1,9 @@
 -- The mark of the sink's segment.
 use Rattle.std.proofs.Common.{◌∙◌, ap}
-use Rattle.law_model.specs.frames.Segment.{segments_of}
-use Rattle.law_model.specs.session.Leg.{leg_of}
-use Rattle.law_walk.specs.Delivered.{session_rows}
+use Rattle.law_model.specs.Common.{segments_of, leg_of}
+use Rattle.law_walk.specs.Common.{session_rows}
 use Rattle.terminal_sink.specs.marked_delineator.Marks.{first_place}
-use Rattle.walk_engine.specs.walk_core.Moved.{Walked}
+use Rattle.walk_engine.specs.Common.{Walked}
 use Rattle.walk_engine.proofs.walk_core.walk.Walk.first_confirmed.Goals as goal
 
 pub returns : goal.returns

@@ -1,15 +1,12 @@
 -- The next item of a kind lands, or stalls.
 use Rattle.std.proofs.Common.{◌≡◌, None, refl, sym, ◌∙◌, ap, subst, arith}
+use Rattle.law_model.specs.Common.{leg_of}
 use Rattle.law_model.specs.declared.walk_events.StallCause.TheVariants.{NotDue, Done as Stall_done}
-use Rattle.law_model.specs.session.Leg.{leg_of}
 use Rattle.terminal_group.specs.Inbox.{Inbox}
 use Rattle.terminal_group.specs.Item.{kind_of}
 use Rattle.terminal_group.specs.Landed.{Landed, next_number, due_at}
+use Rattle.walk_engine.specs.Common.{landing_of, Walked, answer_by, moved_of, counts_after, counts_of, Makes}
 use Rattle.walk_engine.specs.declared.walk_core.step_answers.Moved.TheVariants.{Stalled}
-use Rattle.walk_engine.specs.walk_core.Landing.{landing_of}
-use Rattle.walk_engine.specs.walk_core.Moved.{Walked, answer_by, moved_of, counts_after}
-use Rattle.walk_engine.specs.walk_core.Parts.{counts_of}
-use Rattle.walk_engine.specs.walk_core.Way.{Makes}
 use Rattle.walk_engine.proofs.WalkCoreLaws.LandSteps.{land-none, land-early, land-stays, land-kind, landed-walk}
 use Rattle.walk_engine.proofs.walk_core.walk.Walk.land.Goals as goal
 use Rattle.walk_engine.proofs.walk_core.walk.Walk.land.Goals.{After-land}

@@ -1,11 +1,9 @@
 -- An item lands, or stalls.
 use Rattle.std.proofs.Common.{refl, sym, ◌∙◌, ap}
+use Rattle.law_model.specs.Common.{Counts, leg_of}
 use Rattle.law_model.specs.declared.script_types.Script.{Script}
-use Rattle.walk_engine.specs.walk_core.Landing.{landing_of}
-use Rattle.law_model.specs.session.Counts.{Counts}
-use Rattle.law_model.specs.session.Leg.{leg_of}
-use Rattle.law_walk.specs.Walk.{walk_plan}
-use Rattle.walk_engine.specs.walk_core.Moved.{counts_after, moved_of}
+use Rattle.walk_engine.specs.Common.{landing_of, counts_after, moved_of}
+use Rattle.law_walk.specs.Common.{walk_plan}
 use Rattle.walk_engine.proofs.WalkCoreLaws.RoundLaws.{landed_of, landed-none, land-turn, land-end, landed-rows}
 use Rattle.walk_engine.proofs.walk_core.walk.Walk.land_all.Goals as goal
 

@@ -1,8 +1,8 @@
 -- Items of one kind have landed, each of the last events one.
 use Rattle.std.proofs.Common.{◌≡◌, ◌-◌, length}
-use Rattle.walk_engine.specs.walk_core.Landing.{landing_of}
-use Rattle.law_model.specs.session.Leg.{leg_of}
-use Rattle.law_walk.specs.Walk.{walk_plan}
+use Rattle.walk_engine.specs.Common.{landing_of}
+use Rattle.law_model.specs.Common.{leg_of}
+use Rattle.law_walk.specs.Common.{walk_plan}
 use Rattle.walk_engine.proofs.WalkCoreLaws.RoundLaws.{Landed, landed_of}
 use Rattle.walk_engine.proofs.walk_core.walk.Walk.land_all.Given as goal
 

@@ -1,6 +1,6 @@
 -- What was opened is the script's.
 use Rattle.std.proofs.Common.{refl}
-use Rattle.law_model.specs.session.Leg.{leg_of}
+use Rattle.law_model.specs.Common.{leg_of}
 use Rattle.walk_engine.proofs.walk_core.walk.Walk.new.Goals as goal
 
 pub begun-requires-clause-stands : goal.begun-requires-clause-stands

@@ -1,8 +1,7 @@
 -- What waits in a receive ring.
 use Rattle.std.proofs.Common.{slice_get, ◌∙◌, ap, arith}
-use Rattle.law_model.specs.session.Leg.{leg_of}
-use Rattle.walk_engine.specs.walk_core.Moved.{Walked}
-use Rattle.walk_engine.specs.walk_core.Waiting.{receive_ring}
+use Rattle.law_model.specs.Common.{leg_of}
+use Rattle.walk_engine.specs.Common.{Walked, receive_ring}
 use Rattle.walk_engine.proofs.walk_core.walk.Walk.receive_ring.Goals as goal
 
 pub receive_ring-requires : goal.receive_ring-requires

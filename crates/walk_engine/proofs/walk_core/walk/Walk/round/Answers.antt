@@ -1,11 +1,10 @@
 -- A round by its parts, of which only the last takes a row.
 use Rattle.std.proofs.Common.{suc, sym, ◌∙◌, ap, subst, length, replicate, [], ◌∷◌}
+use Rattle.law_model.specs.Common.{run, carries_from, leg_of}
 use Rattle.law_model.specs.declared.script_types.Script.{Script}
-use Rattle.law_model.specs.declared.walk_events.Event.TheVariants.{Command, Tick, Back, Take}
-use Rattle.law_model.specs.session.Counts.{run, carries_from}
-use Rattle.law_model.specs.session.Leg.{leg_of}
-use Rattle.law_walk.specs.Walk.{walk_plan}
-use Rattle.walk_engine.specs.walk_core.Moved.{counts_after, GivesRows}
+use Rattle.law_model.specs.declared.walk_events.Event.TheVariants.{Tick, Back, Take, Command}
+use Rattle.law_walk.specs.Common.{walk_plan}
+use Rattle.walk_engine.specs.Common.{counts_after, GivesRows}
 use Rattle.walk_engine.proofs.WalkCoreLaws.RoundLaws.{round-parts, round-rows}
 use Rattle.walk_engine.proofs.walk_core.walk.Walk.round.Goals as goal
 

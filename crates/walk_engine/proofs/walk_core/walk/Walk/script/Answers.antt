@@ -1,9 +1,8 @@
 -- A walk of a script that can be walked, after some events.
 use Rattle.std.proofs.Common.{subst}
-use Rattle.law_model.specs.session.Valid.{IsValid}
-use Rattle.law_model.specs.session.Leg.{leg_of}
-use Rattle.law_walk.specs.Walk.{IsWalked}
-use Rattle.walk_engine.specs.walk_core.Moved.{Walked}
+use Rattle.law_model.specs.Common.{IsValid, leg_of}
+use Rattle.law_walk.specs.Common.{IsWalked}
+use Rattle.walk_engine.specs.Common.{Walked}
 use Rattle.walk_engine.proofs.walk_core.walk.Walk.script.Goals as goal
 
 pub returns-clause-valid : goal.returns-clause-valid

@@ -1,8 +1,7 @@
 -- What waits in a send ring.
 use Rattle.std.proofs.Common.{slice_get, ◌∙◌, ap, arith}
-use Rattle.law_model.specs.session.Leg.{leg_of}
-use Rattle.walk_engine.specs.walk_core.Moved.{Walked}
-use Rattle.walk_engine.specs.walk_core.Waiting.{send_ring}
+use Rattle.law_model.specs.Common.{leg_of}
+use Rattle.walk_engine.specs.Common.{Walked, send_ring}
 use Rattle.walk_engine.proofs.walk_core.walk.Walk.send_ring.Goals as goal
 
 pub send_ring-requires-clause-line : goal.send_ring-requires-clause-line

@@ -1,12 +1,10 @@
 -- No event but a Take gives frames.
 use Rattle.std.proofs.Common.{◌<◌, true, false, length, ◌∙◌, ap, subst, arith}
-use Rattle.law_model.specs.session.Counts.{Counts}
-use Rattle.law_model.specs.session.Valid.{IsValid}
-use Rattle.law_model.specs.session.Leg.{leg_of}
+use Rattle.law_model.specs.Common.{Counts, IsValid, leg_of}
 use Rattle.law_progress.specs.Progress.{HasLine}
-use Rattle.law_walk.specs.Walk.{walk_plan}
+use Rattle.law_walk.specs.Common.{walk_plan}
 use Rattle.law_walk.proofs.PlanLaws.{has-paths, sound-walks}
-use Rattle.walk_engine.specs.walk_core.Moved.{Walked}
+use Rattle.walk_engine.specs.Common.{Walked}
 use Rattle.walk_engine.proofs.WalkCoreLaws.RoundLaws.{landed-rows, carry-rows, gives-none}
 use Rattle.walk_engine.proofs.walk_core.walk.Walk.step.Goals as goal
 

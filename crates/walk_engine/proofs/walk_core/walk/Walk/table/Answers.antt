@@ -1,12 +1,8 @@
 -- The table that the decision steps leave.
 use Rattle.std.proofs.Common.{◌≡◌, ◌∙◌, ap, subst}
-use Rattle.law_model.specs.source.Course.{Course}
-use Rattle.law_model.specs.session.Leg.{leg_of}
-use Rattle.law_model.specs.session.Scenario.{steps_in}
-use Rattle.law_model.specs.source.Source.{source_at}
-use Rattle.law_walk.specs.Landed.{landed_scenario, told_before}
-use Rattle.law_walk.specs.Step.{table_in}
-use Rattle.walk_engine.specs.walk_core.Moved.{Walked}
+use Rattle.law_model.specs.Common.{Course, leg_of, steps_in, source_at}
+use Rattle.law_walk.specs.Common.{landed_scenario, told_before, table_in}
+use Rattle.walk_engine.specs.Common.{Walked}
 use Rattle.walk_engine.proofs.WalkCoreLaws.TickLaws.{source-after, table-after}
 use Rattle.walk_engine.proofs.walk_core.walk.Walk.table.Goals as goal
 

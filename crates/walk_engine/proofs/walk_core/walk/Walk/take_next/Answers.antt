@@ -1,11 +1,8 @@
 -- A row is taken, or the cells that were popped wait for more.
 use Rattle.std.proofs.Common.{◌+◌, ◌≤◌, length, sym, ◌∙◌, ap, subst}
+use Rattle.law_model.specs.Common.{leg_of}
 use Rattle.law_model.specs.declared.walk_events.Event.TheVariants.{Take}
-use Rattle.law_model.specs.session.Leg.{leg_of}
-use Rattle.walk_engine.specs.walk_parts.Return.{listed}
-use Rattle.walk_engine.specs.walk_core.Moved.{Walked, moved_of, counts_after, GivesRows}
-use Rattle.walk_engine.specs.walk_core.Take.{take_cause}
-use Rattle.walk_engine.specs.walk_core.Way.{take_moved}
+use Rattle.walk_engine.specs.Common.{listed, Walked, moved_of, counts_after, GivesRows, take_cause, take_moved}
 use Rattle.walk_engine.proofs.WalkCoreLaws.TakenLaws.{take-counts, waits-walk, taken-walk, said-is, said-room}
 use Rattle.walk_engine.proofs.walk_core.walk.Walk.take_next.Goals as goal
 

@@ -1,12 +1,10 @@
 -- A tick is made.
 use Rattle.std.proofs.Common.{◌≡◌, ◌/◌, ◌%◌, ◌==◌, if◌then◌else◌, Some, refl, sym, ◌∙◌, ap, subst}
+use Rattle.law_model.specs.Common.{step, leg_of}
 use Rattle.law_model.specs.declared.walk_events.Event.TheVariants.{Tick}
-use Rattle.law_model.specs.session.Counts.{step}
-use Rattle.law_model.specs.session.Leg.{leg_of}
-use Rattle.law_walk.specs.Walk.{walk_plan}
+use Rattle.law_walk.specs.Common.{walk_plan}
 use Rattle.terminal_group.specs.Inbox.{Inbox}
-use Rattle.walk_engine.specs.walk_core.Moved.{Walked, counts_after}
-use Rattle.walk_engine.specs.walk_core.Parts.{counts_of}
+use Rattle.walk_engine.specs.Common.{Walked, counts_after, counts_of}
 use Rattle.walk_engine.proofs.WalkCoreLaws.TickLaws.{tick-stays, early-none, missing-none, can-tick, tick-walk}
 use Rattle.walk_engine.proofs.walk_core.walk.Walk.tick.Goals as goal
 

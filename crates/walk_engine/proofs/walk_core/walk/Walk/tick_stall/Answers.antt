@@ -1,13 +1,10 @@
 -- The first cause of a stall of a tick.
 use Rattle.std.proofs.Common.{◌≡◌, Some, None, sym, ◌∙◌, ap, subst}
+use Rattle.law_model.specs.Common.{step, leg_of}
 use Rattle.law_model.specs.declared.walk_events.Event.TheVariants.{Tick}
 use Rattle.law_model.specs.declared.walk_events.StallCause.TheVariants.{TxFull, BackMissing}
-use Rattle.law_model.specs.session.Counts.{step}
-use Rattle.law_model.specs.session.Leg.{leg_of}
-use Rattle.law_walk.specs.Walk.{walk_plan}
-use Rattle.walk_engine.specs.walk_core.Landing.{early_stall}
-use Rattle.walk_engine.specs.walk_core.Moved.{Walked}
-use Rattle.walk_engine.specs.walk_core.Parts.{counts_of}
+use Rattle.law_walk.specs.Common.{walk_plan}
+use Rattle.walk_engine.specs.Common.{early_stall, Walked, counts_of}
 use Rattle.walk_engine.proofs.WalkCoreLaws.TickLaws.{early-stalls, full-cause, missing-stalls, none-missing}
 use Rattle.walk_engine.proofs.walk_core.walk.Walk.tick_stall.Goals as goal
 

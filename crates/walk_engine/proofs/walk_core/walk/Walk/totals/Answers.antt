@@ -1,8 +1,8 @@
 -- What was counted is what the script and the counts say.
 use Rattle.std.proofs.Common.{◌∙◌, ap}
-use Rattle.law_model.specs.session.Leg.{leg_of}
-use Rattle.law_walk.specs.Landed.{totals_of}
-use Rattle.walk_engine.specs.walk_core.Moved.{Walked}
+use Rattle.law_model.specs.Common.{leg_of}
+use Rattle.law_walk.specs.Common.{totals_of}
+use Rattle.walk_engine.specs.Common.{Walked}
 use Rattle.walk_engine.proofs.walk_core.walk.Walk.totals.Goals as goal
 
 pub returns : goal.returns

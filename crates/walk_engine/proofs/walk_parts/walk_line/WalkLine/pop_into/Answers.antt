@@ -1,23 +1,19 @@
 -- Each cell leaves the line open, up to the last one.
-use Rattle.std.proofs.Common.{rules, ◌≡◌, ◌+◌, ◌-◌, ◌%◌, true, false, List, length, take, slice_set, refl, sym, ◌∙◌, ap}
-use Rattle.std.proofs.Common.{subst, arith}
-use Rattle.std.specs.Prelude.{is_none}
+use Rattle.std.proofs.Common.{rules, ◌≡◌, ◌+◌, ◌-◌, ◌%◌, true, false, List, [], ◌∷◌, length, take, slice_set, refl, sym, ◌∙◌, ap}
+use Rattle.std.proofs.Common.{subst, arith, is_none, length-set}
 use Rattle.std.specs.Global.{Box}
 use Rattle.std.proofs.lemmas.List.{length-map, map-set}
-use Rattle.member_cells.specs.declared.containers_and_cells.Container.{Container}
+use Rattle.law_model.specs.Common.{Container, Cell, verdict, first_open}
 use Rattle.std.proofs.lemmas.Option.{slice_get_within}
+use Rattle.law_model.proofs.ListLaws.{take-one}
 use Rattle.circular_buffer.proofs.Places.{slice_get-some}
-use Rattle.member_cells.specs.declared.containers_and_cells.Cell.{Cell}
 use Rattle.member_cells.specs.Held.{held}
 use Rattle.member_path.specs.path_delay.Line.{path_cells}
-use Rattle.law_model.specs.members.Number.{verdict}
-use Rattle.law_model.specs.rows.Rows.{first_open}
 use Rattle.member_path.specs.cell_numbers.Told.{cell_with}
-use Rattle.member_rows.proofs.RealignRowsLaws.GatherLaws.{length-slice_set}
 use Rattle.member_rows.specs.realign_rows.Gather.{GatherStands as Gathers, with_cell}
-use Rattle.walk_engine.specs.walk_parts.Ringed.{Ringed, Has, is_at, popped_until, leaves_open}
+use Rattle.walk_engine.specs.Common.{Ringed, Has, is_at, popped_until, leaves_open}
 use Rattle.walk_engine.proofs.WalkPartsLaws.RingLaws.{cell-read, has-popped}
-use Rattle.walk_engine.proofs.WalkPartsLaws.PopLaws.{waits-is, with-set, set-same, take-next, until-shut, until-none, until-next}
+use Rattle.walk_engine.proofs.WalkPartsLaws.PopLaws.{waits-is, with-set, set-same, until-shut, until-none, until-next}
 use Rattle.walk_engine.proofs.WalkPartsLaws.PopLaws.{none-some}
 use Rattle.walk_engine.proofs.walk_parts.walk_line.WalkLine.pop_into.Goals as goal
 
@@ -93,7 +89,7 @@ loop-self-preserved c =
     record {
       core = inv.core;
       signs = inv.signs;
-      size = length-slice_set boxes (y % c.len.result) c.offer.new.container ∙ size;
+      size = length-set boxes (y % c.len.result) c.offer.new.container ∙ size;
       carried = inv.carried;
       given = inv.given;
       more = omega (arith, more);
@@ -125,14 +121,14 @@ loop-self-preserved c =
           c.index_mut.result.now
           (omega (arith, signs, some)) (omega (arith, signs, places, beside)) count c.index.ensures
           c.index_mut.ensures.value in
-          let is : cell_with c.sign_of-sign.result c.index_mut.result.now.value ≡ cell =
-          c.sign_of-sign.ensures c.index_mut.result.now.value cell
-          (sym read ∙ before.holds y cell (omega arith) test there) in
+          let one : cell_with c.index.result.now c.index_mut.result.now.value ∷ [] ≡ cell ∷ [] =
+          sym read ∙ before.holds y cell (omega arith) test there in
+          let is : cell_with c.index.result.now c.index_mut.result.now.value ≡ cell = cc in
           let low = slice_get_within cells c.args.line _ next.own in
           subst (Gathers c.offer.new.self)
           (ap (λ x. with_cell (slice_set cells c.args.line (take y path)) c.args.line x) is
           ∙ with-set cells c.args.line (take y path) cell low
-          ∙ ap (slice_set cells c.args.line) (sym (take-next path y cell there)))
+          ∙ ap (slice_set cells c.args.line) (sym (take-one path y cell there)))
           (c.offer.ensures.stands _ (inv.gathers calls cells next));
       until = λ calls cells next.
           let open' : c.waits_for.result ≡ true = search (rules, c.if-not-waits_for.false) in

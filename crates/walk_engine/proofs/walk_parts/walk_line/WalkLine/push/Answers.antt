@@ -1,14 +1,13 @@
 -- The ring holds what the carry gave.
 use Rattle.std.proofs.Common.{rules, ◌≡◌, ◌+◌, ◌-◌, ◌%◌, ◌<◌, ◌∙◌, [], ◌∷◌, length, slice_set, ap, subst, sym, arith}
-use Rattle.std.proofs.Common.{length-append}
+use Rattle.std.proofs.Common.{length-append, option_map}
 use Rattle.std.specs.Global.{Box}
-use Rattle.std.specs.Prelude.{option_map}
 use Rattle.std.proofs.lemmas.List.{map-set, length-map}
 use Rattle.std.proofs.lemmas.Option.{slice_get-map}
-use Rattle.member_cells.specs.declared.containers_and_cells.Container.{Container}
+use Rattle.law_model.specs.Common.{Container}
 use Rattle.member_cells.specs.Held.{held}
 use Rattle.member_path.specs.path_delay.Line.{and_push}
-use Rattle.walk_engine.specs.walk_parts.Ringed.{Ringed, Has, with_sign}
+use Rattle.walk_engine.specs.Common.{Ringed, Has, with_sign}
 use Rattle.walk_engine.proofs.WalkPartsLaws.RingLaws.{has-more, has-changed}
 use Rattle.walk_engine.proofs.walk_parts.walk_line.WalkLine.push.Goals as goal
 

@@ -1,12 +1,10 @@
 -- What stands behind the octets that were kept before is descrambled: one octet, or all of a piece.
 use Rattle.std.proofs.Common.{◌≡◌, ℕ, ◌+◌, ◌-◌, List, [], ◌∷◌, ◌++◌, get_or, length, take, drop, sym, subst, ap, ◌∙◌}
-use Rattle.std.proofs.Common.{arith}
-use Rattle.std.specs.Prelude.{vec_len}
-use Rattle.std.proofs.lemmas.List.{length-append, length-drop, drop_at, take_all}
-use Rattle.law_model.specs.frames.Scramble.{descrambled_octets}
+use Rattle.std.proofs.Common.{arith, vec_len, length-append, length-drop, drop_at, take_all}
+use Rattle.law_model.specs.Common.{descrambled_octets}
 use Rattle.gfp_scramble.specs.Descrambler.{DescramblerStands, unknown}
 use Rattle.gfp_delineate.proofs.ListLaws.{written_after, take_one}
-use Rattle.gfp_delineate.proofs.idle_runs.keep.Goals as goal
+use Rattle.gfp_delineate.proofs.area_octets.keep.Goals as goal
 
 -- the part of a list behind its front
 part_is : (n : ℕ) (xs items piece : List ℕ) → xs ≡ items ++ piece → length items ≡ n →

@@ -1,9 +1,8 @@
 -- Six octets settle a descrambler, so that the last six of a piece leave it as all of them do.
-use Rattle.std.proofs.Common.{◌-◌, ℕ, List, false, [], length, drop, subst, arith, length-drop}
-use Rattle.std.proofs.lemmas.List.{take_all}
+use Rattle.std.proofs.Common.{◌-◌, ℕ, List, false, [], length, drop, subst, arith, length-drop, take_all}
 use Rattle.gfp_scramble.specs.Descrambler.{DescramblerStands}
 use Rattle.gfp_delineate.proofs.SettleLaws.{Continues-last}
-use Rattle.gfp_delineate.proofs.idle_runs.pass_over.Goals as goal
+use Rattle.gfp_delineate.proofs.area_octets.pass_over.Goals as goal
 
 pub returns-else-piece-le-SETTLING : goal.returns-else-piece-le-SETTLING
 returns-else-piece-le-SETTLING c =

@@ -1,0 +1,13 @@
+pub mod SplitLaws
+pub mod StretchLaws
+pub mod PeakLaws
+pub mod BalanceLaws
+pub mod TotalLaws
+pub mod FitLaws
+pub mod RunLaws
+pub mod DarkLaws
+pub mod RowStateLaws
+pub mod FateRowLaws
+pub mod BetweenLaws
+pub mod LostLaws
+pub mod SameLaws

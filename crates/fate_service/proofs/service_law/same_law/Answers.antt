@@ -1,0 +1,6 @@
+-- Delays and rings change nothing of the text.
+use Rattle.fate_service.proofs.ServiceLawLaws.SameLaws.{same-service}
+use Rattle.fate_service.proofs.service_law.same_law.Goals as goal
+
+pub returns : goal.returns
+returns c = same-service

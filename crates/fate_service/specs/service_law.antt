@@ -1,0 +1,4 @@
+pub mod Lines
+pub mod Sums
+pub mod Dark
+pub mod Worked

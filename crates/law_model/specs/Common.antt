@@ -1,0 +1,132 @@
+-- The words that most definitions and proofs cite, passed on from one place. Declares nothing.
+pub use Rattle.law_model.specs.Limits.{longest_extended_area, longest_frame, longest_got_line, longest_input}
+pub use Rattle.law_model.specs.Limits.{most_waiting, shortest_frame, vc3_size, vc4_size}
+pub use Rattle.law_model.specs.frames.Core.{IsPli, is_pli}
+unfoldable pub use Rattle.law_model.specs.frames.Core.{core_header, head, pli_of}
+pub use Rattle.law_model.specs.frames.Delivery.{delivered}
+pub use Rattle.law_model.specs.frames.Hunt.{Confirmed, confirm_by, confirm_with, header_at, hunt, hunt_by, hunt_with}
+unfoldable pub use Rattle.law_model.specs.frames.Hunt.{header_with, hunt_within}
+pub use Rattle.law_model.specs.frames.Loss.{Extent, IsPlaceOfPiece, LiesConfirmed, LiesLater, Lost, StartsTrue}
+pub use Rattle.law_model.specs.frames.Loss.{TrueStarts, confirmed_in, cut_off, frames_kept, is_carried, is_frame_lost}
+pub use Rattle.law_model.specs.frames.Loss.{is_given, is_missed, lies_in, missed_after, too_early, unconfirmed}
+pub use Rattle.law_model.specs.frames.Loss.{unsettled}
+unfoldable pub use Rattle.law_model.specs.frames.Loss.{extents}
+pub use Rattle.law_model.specs.frames.Outcome.{Outcome, area_outcomes, client_outcome, delivery, descrambled_areas}
+pub use Rattle.law_model.specs.frames.Outcome.{dropping, is_settled, outcome_by, outcome_of, outcomes, outcomes_after}
+pub use Rattle.law_model.specs.frames.Outcome.{outcomes_with, run_outcomes, run_outcomes_with}
+unfoldable pub use Rattle.law_model.specs.frames.Outcome.{outcomes_after_with}
+pub use Rattle.law_model.specs.frames.Payload.{payload_of}
+pub use Rattle.law_model.specs.frames.Piece.{Piece, area_of, areas_stream, client, frames_by, idle, joined}
+pub use Rattle.law_model.specs.frames.Piece.{scrambled_areas, size_of, stream_of, with_header}
+unfoldable pub use Rattle.law_model.specs.frames.Piece.{cut, frame_ends}
+pub use Rattle.law_model.specs.frames.Run.{Delineated, Followed, Run, after_run, area_then, areas, delineate}
+pub use Rattle.law_model.specs.frames.Run.{delineate_by, delineate_with, follow_by, follow_with, is_sync, no_area}
+pub use Rattle.law_model.specs.frames.Run.{no_run, run_then, runs, runs_then, runs_with}
+unfoldable pub use Rattle.law_model.specs.frames.Run.{delineate_within, follow_within}
+pub use Rattle.law_model.specs.frames.Scramble.{IsScrambled, descrambled, descrambled_octets, scrambled}
+pub use Rattle.law_model.specs.frames.Scramble.{scrambled_octets}
+unfoldable pub use Rattle.law_model.specs.frames.Scramble.{scramble_on}
+pub use Rattle.law_model.specs.frames.Segment.{Segment, Segments, StreamRow, broken, deliver, longer, no_rows}
+pub use Rattle.law_model.specs.frames.Segment.{octets_of_rows, segment_frames, segments, segments_of}
+unfoldable pub use Rattle.law_model.specs.frames.Segment.{segments_on}
+pub use Rattle.law_model.specs.frames.TypeHeader.{type_check, type_field, type_header}
+unfoldable pub use Rattle.law_model.specs.frames.TypeHeader.{type_fault}
+pub use Rattle.law_model.specs.members.Damage.{carried_in, is_damaged, is_good, is_readable, is_whole, lock_of, slip_of}
+unfoldable pub use Rattle.law_model.specs.members.Damage.{AreWindows, are_whole, slip_after}
+pub use Rattle.law_model.specs.members.Line.{AreSent, HasPlace, IsLine, expected, sent_nibbles}
+pub use Rattle.law_model.specs.members.Number.{LineLock, Reading, Sight, ahead, at, lock_after, locked, locks, over}
+pub use Rattle.law_model.specs.members.Number.{read_at, read_good, reading_of, sight_of, unknown, unlocked, verdict}
+pub use Rattle.law_model.specs.members.Number.{verdict_in, verdict_or, verdict_over, verdicts_by}
+unfoldable pub use Rattle.law_model.specs.members.Number.{read_on}
+pub use Rattle.law_model.specs.members.Path.{cells, cells_of, end_of}
+unfoldable pub use Rattle.law_model.specs.members.Path.{path}
+pub use Rattle.law_model.specs.members.Sight.{lock_by, sight_by, sights}
+unfoldable pub use Rattle.law_model.specs.members.Sight.{sights_on}
+pub use Rattle.law_model.specs.members.Sign.{HasNoEnd, sign_of, signs_of}
+pub use Rattle.law_model.specs.packets.Decode.{Found, begins_packet, front_nibbles, good_cells, is_at, is_front}
+pub use Rattle.law_model.specs.packets.Decode.{packet_here, upper_halves}
+unfoldable pub use Rattle.law_model.specs.packets.Decode.{packets_on}
+pub use Rattle.law_model.specs.packets.DecodeText.{end_text, found_text, found_texts}
+unfoldable pub use Rattle.law_model.specs.packets.DecodeText.{decoded_text}
+pub use Rattle.law_model.specs.packets.Forward.{LineFields, ctrl_by, forward_packet, state_by, state_of, state_without}
+unfoldable pub use Rattle.law_model.specs.packets.Forward.{place_in, state_in}
+pub use Rattle.law_model.specs.packets.GroupBit.{next_bit}
+unfoldable pub use Rattle.law_model.specs.packets.GroupBit.{bits_from, group_bit, group_bits}
+pub use Rattle.law_model.specs.packets.MemberPacket.{nibbles_of, upper_of, with_last}
+unfoldable pub use Rattle.law_model.specs.packets.MemberPacket.{uppers}
+pub use Rattle.law_model.specs.packets.Packet.{IsPacket, are_nibbles, bit_at, bit_nibble, cleared_nibbles}
+pub use Rattle.law_model.specs.packets.Packet.{covered_nibbles, found_check, octet_at, octet_nibbles, packet_nibbles}
+pub use Rattle.law_model.specs.packets.Packet.{packet_of, read_by, said_check, said_code}
+unfoldable pub use Rattle.law_model.specs.packets.Packet.{read_of}
+pub use Rattle.law_model.specs.packets.PacketText.{bit_text, ctrl_text, nibble_text}
+pub use Rattle.law_model.specs.packets.ReturnPacket.{Row, ack_by, ack_of, is_member, leader, mst_of, return_of, says_at}
+pub use Rattle.law_model.specs.packets.ReturnPacket.{sink_state, state_next, status_of}
+pub use Rattle.law_model.specs.packets.Telling.{mst_by, passed_on, sent_packet, telling, telling_at, untold}
+pub use Rattle.law_model.specs.packets.Told.{oks_in, packet_read, told_by, told_in}
+pub use Rattle.law_model.specs.rows.Interleave.{octets_at, parts_of}
+unfoldable pub use Rattle.law_model.specs.rows.Interleave.{octets_from, part_of}
+pub use Rattle.law_model.specs.rows.Rows.{active_of, carried_row, container_in, container_on, containers_at, first_open}
+pub use Rattle.law_model.specs.rows.Rows.{governing, has, is_carrying, lines_at, read_packet, read_packets, return_at}
+pub use Rattle.law_model.specs.rows.Rows.{row_at, row_under, with_first}
+unfoldable pub use Rattle.law_model.specs.rows.Rows.{active_from}
+pub use Rattle.law_model.specs.rows.Sent.{active_at, container_of, containers_of, frame_of, nibble_at, nibble_in}
+pub use Rattle.law_model.specs.rows.Sent.{payload_by, payload_on, rank_of}
+pub use Rattle.law_model.specs.rows.SessionRows.{is_whole_row, is_whole_under, packet_if, packets_from, packets_of}
+unfoldable pub use Rattle.law_model.specs.rows.SessionStream.{rows_of}
+pub use Rattle.law_model.specs.session.Counts.{Counts, Due, LineCounts, LinePath, Plan, Popped, Step, accept, begin}
+pub use Rattle.law_model.specs.session.Counts.{bound, carry, carry_at, carry_on, command, command_due, due_of, dues_of}
+pub use Rattle.law_model.specs.session.Counts.{frame_due, in_inbox, in_receive, in_return, in_send, is_back_full}
+pub use Rattle.law_model.specs.session.Counts.{is_missing, land_due, moved, popped_line, round, run_line, stalled, step}
+pub use Rattle.law_model.specs.session.Counts.{take_popped, take_row, tick, tick_full, tick_held, used_in, walked}
+pub use Rattle.law_model.specs.session.Counts.{with_line}
+unfoldable pub use Rattle.law_model.specs.session.Counts.{carries_from, command_dues, drain, frame_dues, full, held}
+unfoldable pub use Rattle.law_model.specs.session.Counts.{pop, pop_lines, run, run_lines, sum_delays}
+pub use Rattle.law_model.specs.session.Leg.{Leg, leg_of}
+pub use Rattle.law_model.specs.session.Plan.{FitsLag, FitsRing, all_cells, decided_by, decided_in, greatest}
+pub use Rattle.law_model.specs.session.Plan.{greatest_slip, least, least_or, path_of, paths_of, plan_of}
+pub use Rattle.law_model.specs.session.Scenario.{DueCommand, DueFrame, Scenario, carried_by, comes_at, frames_at}
+pub use Rattle.law_model.specs.session.Scenario.{is_heard, is_lost, is_read, lands_at, offer_of, offers_of, order_of}
+pub use Rattle.law_model.specs.session.Scenario.{orders_at, orders_of, packets, scenario_by, scenario_of, steps_in}
+pub use Rattle.law_model.specs.session.Valid.{AreItems, HasFailures, HasFewLosses, HasLosses, IsCount, IsEvent, IsItem}
+pub use Rattle.law_model.specs.session.Valid.{IsKind, IsNetwork, IsSize, IsSound, IsValid, IsWithin}
+unfoldable pub use Rattle.law_model.specs.session.Valid.{AreApart}
+pub use Rattle.law_model.specs.source.Accepted.{accepted_of, kept_by, refusal_in}
+pub use Rattle.law_model.specs.source.Back.{return_cell, return_packet, said, session_cells, status, status_by}
+unfoldable pub use Rattle.law_model.specs.source.Back.{cells_before, said_before}
+pub use Rattle.law_model.specs.source.Client.{IsFewest, Stream, frame_refusal, frames_in, next_by, offered, offered_by}
+pub use Rattle.law_model.specs.source.Client.{reached, refusal_while, size, width}
+unfoldable pub use Rattle.law_model.specs.source.Client.{place_of, reaching, stream_before}
+pub use Rattle.law_model.specs.source.Course.{Call, Course, asks, called, count_of, course_of, decides, given_at}
+pub use Rattle.law_model.specs.source.Course.{said_by}
+unfoldable pub use Rattle.law_model.specs.source.Course.{calls_before}
+pub use Rattle.law_model.specs.source.Journal.{accepted_offers, accepted_orders, frames_before, replayed, with_items}
+unfoldable pub use Rattle.law_model.specs.source.Journal.{offers_before, orders_before}
+pub use Rattle.law_model.specs.source.Source.{Source, accepted, asked, asked_all, asked_by, cell_at, change, change_by}
+pub use Rattle.law_model.specs.source.Source.{decide, first_of, line_of, planned_of, refusal, source_at, table_of}
+pub use Rattle.law_model.specs.source.Source.{told_at}
+unfoldable pub use Rattle.law_model.specs.source.Source.{after}
+pub use Rattle.law_model.specs.source.Table.{Table, Told, acknowledged_by, active, carried_out, changed, exchanged}
+pub use Rattle.law_model.specs.source.Table.{first_table, heard, in_use, is_adding, is_fail, is_for, is_norm, is_normal}
+pub use Rattle.law_model.specs.source.Table.{is_ok, kept_in, kept_of, member_of, told_on, turn}
+unfoldable pub use Rattle.law_model.specs.source.Table.{admit, exchange, keep, none_kept, take_out, turned}
+pub use Rattle.member_cells.specs.Code.{code_of, ctrl_of}
+pub use Rattle.member_cells.specs.Held.{blank}
+pub use Rattle.member_cells.specs.declared.containers_and_cells.BackCell.{BackCell}
+pub use Rattle.member_cells.specs.declared.containers_and_cells.Cell.{Cell}
+pub use Rattle.member_cells.specs.declared.containers_and_cells.Cell.TheVariants.{End, Fail, Good}
+pub use Rattle.member_cells.specs.declared.containers_and_cells.Container.{Container}
+pub use Rattle.member_cells.specs.declared.control_word.Ctrl.{Ctrl}
+pub use Rattle.member_cells.specs.declared.control_word.Ctrl.TheVariants.{Eos}
+pub use Rattle.check_hec16.specs.Fixed.{IsFixed}
+pub use Rattle.check_hec16.specs.Hec.{hec_bits}
+unfoldable pub use Rattle.check_hec16.specs.Hec.{hec_of}
+pub use Rattle.octet_io.specs.Faults.{one_more}
+pub use Rattle.octet_io.specs.Start.{Start}
+pub use Rattle.octet_io.specs.Transfer.{Appends, AppendsPart, GivesAll, Tells}
+unfoldable pub use Rattle.check_nibbles.specs.Check.{crc8_of}
+pub use Rattle.check_nibbles.specs.Lock.{HasMfi1, HasMfi2, HasNumber, IsAt, IsFirstStep, IsInStep, IsOutOfStep, Locks}
+pub use Rattle.check_remainder.specs.Bits.{number, octet_bits, xor}
+unfoldable pub use Rattle.check_remainder.specs.Bits.{bits, number_behind, octets_of, xors}
+unfoldable pub use Rattle.check_remainder.specs.Count.{count}
+pub use Rattle.check_remainder.specs.Remainder.{remainder}
+unfoldable pub use Rattle.check_remainder.specs.Remainder.{add_front, divide}
