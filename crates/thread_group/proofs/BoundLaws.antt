@@ -1,8 +1,10 @@
 -- A tick leaves a group bound to its session.
 use Rattle.std.proofs.Common.{◌≡◌, ℕ, zero, suc, ◌+◌, ◌-◌, ◌≤◌, Bool, true, false, if◌then◌else◌, not, ◌&&◌, List, []}
 use Rattle.std.proofs.Common.{◌∷◌, ◌++◌, filter, take, drop, length, slice_get, get_or, All, Option, Some, is_none}
-use Rattle.std.proofs.Common.{option_map, inl, inr, refl, sym, ◌∙◌, ap, subst, arith, flat_map, take-take, get_or-drop}
+use Rattle.std.proofs.Common.{option_map, inl, inr, refl, sym, ◌∙◌, ap, subst, arith, flat_map, take-take}
+use Rattle.std.proofs.Common.{get_or-drop}
 use Rattle.std.proofs.Common.{length-drop}
+use Rattle.std.specs.List.Sorted.{IsNonDecreasingBy}
 use Rattle.std.proofs.Math.Logic.{∥∥₁_map, ∥∥₁_elim}
 use Rattle.std.proofs.Props.{props}
 use Rattle.std.proofs.lemmas.Bool.{cases_Bool}
@@ -24,7 +26,7 @@ use Rattle.law_walk.proofs.LandLaws.{frame-dues, command-dues}
 use Rattle.thread_group.specs.declared.group_answers.TickAnswer.{TickAnswer}
 use Rattle.thread_group.specs.declared.group_answers.TickAnswer.TheVariants.{Ticked, Held, TxFull, BackMissing, Done}
 use Rattle.thread_group.specs.declared.group_state.GroupState.{GroupState}
-use Rattle.thread_group.specs.Journal.{items_in}
+use Rattle.thread_group.specs.Journal.{of_client, of_operator}
 use Rattle.terminal_group.specs.Inbox.{told_from}
 use Rattle.thread_group.specs.Rings.{SameOuts, SameIns}
 use Rattle.thread_group.specs.Parts.{AreSent, ArePast}
@@ -225,19 +227,19 @@ module _ (leg : Leg) (a b : GroupState) (answer : TickAnswer) (of_script : IsOf 
             (λ item. refused_by item.number (refusal_by leg (taken_of b) item)) items
             (λ i item there. ap (refused_by item.number) (refusal-same item (has.past i item there)))
             ∙ sym (ap (refusals_by leg (taken_of b)) landed-same);
-        frames = ap (λ (l : List Numbered). length (offers_of (items_in l))) call.landed.journal ∙ has.frames
-            ∙ ap length (same-filter (λ item. is_client item.item.kind && is_none (refusal_by leg (taken_of a) item))
+        frames = ap of_client call.landed.journal ∙ has.frames
+            ∙ same-filter (λ item. is_client item.item.kind && is_none (refusal_by leg (taken_of a) item))
             (λ item. is_client item.item.kind && is_none (refusal_by leg (taken_of b) item)) items
             (λ i item there. ap (λ (why : Option Refusal). is_client item.item.kind && is_none why)
-            (refusal-same item (has.past i item there))))
-            ∙ sym (ap (λ (l : List Numbered). length (accepted_frames_by leg (taken_of b) l)) landed-same);
-        commands = ap (λ (l : List Numbered). length (orders_of (items_in l))) call.landed.journal ∙ has.commands
-            ∙ ap length (same-filter (λ item. not (is_client item.item.kind) && is_none
-            (refusal_by leg (taken_of a) item))
+            (refusal-same item (has.past i item there)))
+            ∙ sym (ap (accepted_frames_by leg (taken_of b)) landed-same);
+        commands = ap of_operator call.landed.journal ∙ has.commands
+            ∙ same-filter (λ item. not (is_client item.item.kind) && is_none (refusal_by leg (taken_of a) item))
             (λ item. not (is_client item.item.kind) && is_none (refusal_by leg (taken_of b) item)) items
             (λ i item there. ap (λ (why : Option Refusal). not (is_client item.item.kind) && is_none why)
-            (refusal-same item (has.past i item there))))
-            ∙ sym (ap (λ (l : List Numbered). length (accepted_commands_by leg (taken_of b) l)) landed-same);
+            (refusal-same item (has.past i item there)))
+            ∙ sym (ap (accepted_commands_by leg (taken_of b)) landed-same);
+        order = subst (IsNonDecreasingBy (λ (entry : Numbered). entry.item.due)) (sym call.landed.journal) has.order;
         sent = elim (cases_Bool (is_ticked answer)) [ inl e ↦ sent-on e | inr e ↦ sent-still e ];
         made = ∥∥₁_map has.made (λ made. subst (λ (s : Scenario). HasMade (source_of b) s (taken_of b))
             (sym scenario-same) (call.made (landed_scenario leg (counts_of a)) made));

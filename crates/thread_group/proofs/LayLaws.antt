@@ -68,10 +68,10 @@ module _ (leg : Leg) (g : GroupState) (tx : Vec (OutEnd Container)) (back : InEn
     most_frames = has.most_frames;
     most_commands = has.most_commands;
     refusals = has.refusals ∙ ap (λ cells. refusals_by leg cells (landed_items leg (counts_of g))) (sym told);
-    frames = has.frames ∙ ap (λ cells. length (accepted_frames_by leg cells (landed_items leg (counts_of g))))
+    frames = has.frames ∙ ap (λ cells. accepted_frames_by leg cells (landed_items leg (counts_of g))) (sym told);
+    commands = has.commands ∙ ap (λ cells. accepted_commands_by leg cells (landed_items leg (counts_of g)))
         (sym told);
-    commands = has.commands ∙ ap (λ cells. length
-        (accepted_commands_by leg cells (landed_items leg (counts_of g)))) (sym told);
+    order = has.order;
     sent = λ m out there.
         let inside = slice_get_within tx.items m out there in
         let (old, was) = slice_get-inside g.tx.items m (omega (arith, inside, still.same.count)) in

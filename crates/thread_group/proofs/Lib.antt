@@ -7,5 +7,6 @@ pub mod GroupLaws
 pub mod TickLaws
 pub mod BoundLaws
 pub mod MostLaws
+pub mod JournalLaws
 pub mod SubmitLaws
 pub mod LayLaws

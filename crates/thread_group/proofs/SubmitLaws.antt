@@ -1,8 +1,9 @@
 -- An item that lands leaves a group bound to its session.
 use Rattle.std.proofs.Common.{◌≡◌, ℕ, ◌+◌, ◌-◌, ◌<◌, ◌≤◌, nat_lt, nat_le, not, ◌&&◌, Bool, true, false, if◌then◌else◌}
-use Rattle.std.proofs.Common.{List, [], ◌∷◌, ◌++◌, drop, length, slice_get, get_or, All, Option, Some, None, is_none}
-use Rattle.std.proofs.Common.{option_map, inl, inr, refl, sym, ◌∙◌, ap, subst, arith, length-append, ltb-false}
+use Rattle.std.proofs.Common.{List, [], ◌∷◌, ◌++◌, drop, length, slice_get, get_or, All, Option, Some, None}
+use Rattle.std.proofs.Common.{option_map, inl, inr, refl, sym, ◌∙◌, ap, subst, arith, ltb-false}
 use Rattle.std.proofs.Common.{eqb-true, length-drop, append-nil}
+use Rattle.std.proofs.Common.{take}
 use Rattle.std.proofs.Math.Logic.{∥∥₁_map, ∥∥₁_elim}
 use Rattle.std.proofs.Props.{props}
 use Rattle.std.proofs.lemmas.Bool.{cases_Bool}
@@ -12,7 +13,6 @@ use Rattle.std.proofs.lemmas.Option.{slice_get_within, slice_get-get_or, get_or_
 use Rattle.law_model.specs.Common.{Leg, Told, Scenario, DueCommand, DueFrame, order_of, offer_of, orders_of, offers_of}
 use Rattle.law_model.specs.Common.{scenario_by, Counts, Container, BackCell}
 use Rattle.law_model.specs.declared.item_refusals.Refusal.{Refusal}
-use Rattle.law_model.specs.declared.script_types.Item.{Item}
 use Rattle.law_model.specs.declared.script_types.ItemKind.{ItemKind}
 use Rattle.law_walk.specs.Common.{Numbered, is_client, refused_by, IsPlaced, landed_items, landed_scenario, IsOfferAt}
 use Rattle.law_walk.specs.Common.{IsOrderAt}
@@ -30,18 +30,18 @@ use Rattle.terminal_source.specs.source_core.Given.{SourceStands as HasMade}
 use Rattle.law_walk.proofs.LandLaws.{offer-at, order-at}
 use Rattle.thread_group.specs.declared.group_state.GroupState.{GroupState}
 use Rattle.terminal_group.specs.Item.{size_of as octet_count}
-use Rattle.thread_group.specs.Journal.{entry_of, items_in, fits}
+use Rattle.thread_group.specs.Journal.{entry_of, fits}
 use Rattle.std.specs.Global.{Vec}
-use Rattle.std.proofs.lemmas.List.{map_push}
 use Rattle.law_model.proofs.ListLaws.{All-front, All-after}
 use Rattle.thread_rings.specs.Ends.{OutEnd, InEnd, in_passed}
 use Rattle.terminal_group.specs.Inbox.{told_taken}
 use Rattle.thread_group.specs.Rings.{SameOuts, SameIns}
 use Rattle.thread_group.specs.Parts.{AreSent, ArePast}
 use Rattle.thread_group.specs.Calls.{Submits}
-use Rattle.thread_group.proofs.AlikeLaws.{push-cases, offers-push, orders-push}
+use Rattle.thread_group.proofs.AlikeLaws.{push-cases}
 use Rattle.thread_group.proofs.BoundLaws.{of-then}
 use Rattle.thread_group.proofs.MostLaws.{most-next}
+use Rattle.thread_group.proofs.JournalLaws.{frames-next, commands-next, landed-in-order}
 use Rattle.terminal_group.specs.Landed.{next_number, due_at}
 use Rattle.terminal_group.specs.Lands.{with_kind}
 use Rattle.thread_group.specs.Group.{IsOf, HasCounted, counted_by, parts_of, items_of, ticks_of, frames_of, commands_of}
@@ -87,6 +87,26 @@ pub order-next : (leg : Leg) (g : GroupState) (number : ℕ) (kind : ItemKind) (
 order-next leg g number kind order of_script next is here =
     order-here leg.items (commands_of g) number (ticks_of g) kind order
     (next-there leg.items g.source.landed of_script.items false number next).0 is here
+
+-- as many of its kind are before it as have landed
+offers-before : (leg : Leg) (g : GroupState) (number : ℕ) (kind : ItemKind) → IsOf leg g →
+    next_of g kind ≡ Some number → slice_get leg.items number ≡ Some (record { due = ticks_of g; kind = kind }) →
+    is_client kind ≡ true → length (offers_of (take number leg.items)) ≡ frames_of g
+offers-before leg g number (Frame octets) of_script next here client =
+    (offer-next leg g number octets of_script next here).before
+offers-before leg g number (Add line) of_script next here client = absurd cc
+offers-before leg g number (Remove line) of_script next here client = absurd cc
+
+orders-before : (leg : Leg) (g : GroupState) (number : ℕ) (kind : ItemKind) → IsOf leg g →
+    next_of g kind ≡ Some number → slice_get leg.items number ≡ Some (record { due = ticks_of g; kind = kind }) →
+    is_client kind ≡ false → length (orders_of (take number leg.items)) ≡ commands_of g
+orders-before leg g number (Frame octets) of_script next here operator = absurd cc
+orders-before leg g number (Add line) of_script next here operator =
+    (order-next leg g number (Add line) (record { due = ticks_of g; command = add line }) of_script next refl
+    here).before
+orders-before leg g number (Remove line) of_script next here operator =
+    (order-next leg g number (Remove line) (record { due = ticks_of g; command = remove line }) of_script next refl
+    here).before
 
 -- ---- why it is refused
 pub refusal-item : (leg : Leg) (g : GroupState) (number : ℕ) (kind : ItemKind) → IsOf leg g →
@@ -314,52 +334,6 @@ entries-next None leg was now number ticks kind same each here =
 entries-next (Some fault) leg was now number ticks kind same each here =
     subst (AreItemsOf leg) (sym (same ∙ append-nil was)) each
 
--- how many of the entries are frames, and commands
-kind-size : (kind : ItemKind) (ticks : ℕ) → (length (offer_of ticks kind) ≡ (if is_client kind && true then 1 else 0))
-    × (length (order_of ticks kind) ≡ (if not (is_client kind) && true then 1 else 0))
-kind-size (Frame octets) ticks = (refl, refl)
-kind-size (Add line) ticks = (refl, refl)
-kind-size (Remove line) ticks = (refl, refl)
-
-none-size : (b : Bool) → ◌≡◌ {A = ℕ} (if b && false then 1 else 0) 0
-none-size true = refl
-none-size false = refl
-
-refused-next : (was now : List Numbered) (kind : ItemKind) → now ≡ was →
-    (length (offers_of (items_in now)) ≡ length (offers_of (items_in was)) + (if is_client kind && false then 1 else 0))
-    × (length (orders_of (items_in now)) ≡ length (orders_of (items_in was)) +
-    (if not (is_client kind) && false then 1 else 0))
-refused-next was now kind same =
-    let a = none-size (is_client kind) in
-    let b = none-size (not (is_client kind)) in
-    let c = ap (λ (l : List Numbered). length (offers_of (items_in l))) same in
-    let d = ap (λ (l : List Numbered). length (orders_of (items_in l))) same in
-    (omega arith, omega arith)
-
-offers-next : (answer : Option SubmitFault) (was now : List Numbered) (number ticks : ℕ) (kind : ItemKind) →
-    has_landed answer ≡ true → now ≡ was ++ entries_by answer number ticks kind →
-    (length (offers_of (items_in now)) ≡ length (offers_of (items_in was)) +
-    (if is_client kind && is_none (refusal_told answer) then 1 else 0))
-    × (length (orders_of (items_in now)) ≡ length (orders_of (items_in was)) +
-    (if not (is_client kind) && is_none (refusal_told answer) then 1 else 0))
-offers-next None was now number ticks kind landed same =
-    let item : Item = record { due = ticks; kind = kind } in
-    let all : items_in now ≡ items_in was ++ item ∷ [] =
-    ap items_in same ∙ map_push (λ (entry : Numbered). entry.item) was (entry_of number ticks kind) in
-    let (a, b) = kind-size kind ticks in (
-      ap length (ap offers_of all ∙ offers-push (items_in was) item) ∙ length-append (offers_of (items_in was))
-          (offer_of ticks kind) ∙ ap (λ n. length (offers_of (items_in was)) + n) a,
-      ap length (ap orders_of all ∙ orders-push (items_in was) item) ∙ length-append (orders_of (items_in was))
-          (order_of ticks kind) ∙ ap (λ n. length (orders_of (items_in was)) + n) b,
-    )
-offers-next (Some (NotNext next)) was now number ticks kind landed same = absurd cc
-offers-next (Some (Early now_)) was now number ticks kind landed same = absurd cc
-offers-next (Some (JournalFull slots bytes)) was now number ticks kind landed same = absurd cc
-offers-next (Some (Frame_fault why)) was now number ticks kind landed same =
-    refused-next was now kind (same ∙ append-nil was)
-offers-next (Some (Command_fault why)) was now number ticks kind landed same =
-    refused-next was now kind (same ∙ append-nil was)
-
 past-all : (ticks : ℕ) (items : List Numbered) → ArePast ticks items →
     All (λ (item : Numbered). item.item.due ≤ ticks) items
 past-all ticks items past k d inside = past k (get_or items k d) (slice_get-get_or items k d inside)
@@ -409,13 +383,9 @@ module _ (leg : Leg) (a b : GroupState) (number : ℕ) (kind : ItemKind) (answer
   pub landed-submits : HasLandedOf leg b
   landed-submits =
       let put = next-is.inserted in
-      let most = most-next leg a b kind has (subst (HasCounted a b kind) landed call.landed) next-is.entries in
+      let counted = subst (HasCounted a b kind) landed call.landed in
+      let most = most-next leg a b kind has counted next-is.entries in
       let cells : List (Option Told) = taken_of a in
-      let sizes = offers-next answer (journal_of a) (journal_of b) number (ticks_of a) kind landed call.journal in
-      let frames = one-more (λ item. is_client item.item.kind && is_none (refusal_by leg cells item)) entry
-      (landed_items leg (counts_of a)) (landed_items leg (counts_of b)) put in
-      let commands = one-more (λ item. not (is_client item.item.kind) && is_none (refusal_by leg cells item)) entry
-      (landed_items leg (counts_of a)) (landed_items leg (counts_of b)) put in
       record {
         entries = entries-next answer leg (journal_of a) (journal_of b) number
             (ticks_of a) kind call.journal has.entries here;
@@ -436,18 +406,16 @@ module _ (leg : Leg) (a b : GroupState) (number : ℕ) (kind : ItemKind) (answer
             (placed (refusal_by leg cells) entry (landed_items leg (counts_of a))
             (landed_items leg (counts_of b)) put)))
             ∙ sym (ap (λ c. refusals_by leg c (landed_items leg (counts_of b))) taken);
-        frames = sizes.0 ∙ ap (λ n. n + (if is_client kind && is_none (refusal_told answer) then 1 else 0)) has.frames
-            ∙ ap (λ (w : Option Refusal). length (accepted_frames_by leg cells (landed_items leg (counts_of a))) +
-            (if is_client kind && is_none w then 1 else 0)) told
-            ∙ sym frames ∙ sym (ap
-            (λ c. length (accepted_frames_by leg c (landed_items leg (counts_of b)))) taken);
-        commands = sizes.1 ∙ ap
-            (λ n. n + (if not (is_client kind) && is_none (refusal_told answer) then 1 else 0)) has.commands
-            ∙ ap (λ (w : Option Refusal). length
-            (accepted_commands_by leg cells (landed_items leg (counts_of a))) +
-            (if not (is_client kind) && is_none w then 1 else 0)) told
-            ∙ sym commands ∙ sym
-            (ap (λ c. length (accepted_commands_by leg c (landed_items leg (counts_of b)))) taken);
+        frames = frames-next leg cells answer (journal_of a) (journal_of b) number (ticks_of a) kind landed call.journal
+            told here (frames_of a) (commands_of a) (frames_of b) (commands_of b)
+            (offers-before leg a number kind of_script asks.0 here) counted.frames has.frames
+            ∙ sym (ap (λ c. accepted_frames_by leg c (landed_items leg (counts_of b))) taken);
+        commands = commands-next leg cells answer (journal_of a) (journal_of b) number (ticks_of a) kind landed
+            call.journal told here (frames_of a) (commands_of a) (frames_of b) (commands_of b)
+            (orders-before leg a number kind of_script asks.0 here) counted.commands has.commands
+            ∙ sym (ap (λ c. accepted_commands_by leg c (landed_items leg (counts_of b))) taken);
+        order = landed-in-order answer (journal_of a) (journal_of b) number (ticks_of a) kind call.journal a.keeps.past
+            has.order;
         sent = subst (λ (v : Vec (OutEnd Container)). AreSent (scenario_by leg) (taken_of b) (ticks_of b) v.items)
             (sym call.rings.tx)
             (subst (λ n. AreSent (scenario_by leg) (taken_of b) n a.tx.items) (sym call.rings.ticks)

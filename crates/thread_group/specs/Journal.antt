@@ -5,6 +5,8 @@ use Rattle.law_model.specs.Common.{Scenario, offers_of, orders_of, Told}
 use Rattle.law_model.specs.declared.script_types.Item.{Item}
 use Rattle.law_model.specs.declared.script_types.ItemKind.{ItemKind}
 use Rattle.law_walk.specs.Common.{Numbered, kind_refusal}
+use Rattle.std.specs.Prelude.{not, filter}
+use Rattle.law_walk.specs.Landed.{is_client}
 use Rattle.terminal_group.specs.Item.{size_of}
 
 -- an accepted item, with the number of ticks made when it landed
@@ -20,6 +22,13 @@ pub record Journal : Type 0 where
 
 abbrev pub items_in : List Numbered → List Item
 items_in entries = map (λ (entry : Numbered). entry.item) entries
+
+-- those of the client, and those of the operator
+abbrev pub of_client : List Numbered → List Numbered
+of_client entries = filter (λ (entry : Numbered). is_client entry.item.kind) entries
+
+abbrev pub of_operator : List Numbered → List Numbered
+of_operator entries = filter (λ (entry : Numbered). not (is_client entry.item.kind)) entries
 
 -- an item has room
 abbrev pub fits : Journal → ItemKind → Bool

@@ -1,14 +1,16 @@
 -- A group of a leg over its rings: what is known of it whenever the lock is free.
 use Rattle.std.specs.Prelude.{◌≡◌, ℕ, ◌+◌, ◌≤◌, List, [], ◌∷◌, drop, length, slice_get, take, sum_by, Option, Some}
 use Rattle.std.specs.Prelude.{filter, not, ◌&&◌, is_none, flat_map}
-use Rattle.law_model.specs.Common.{Container, BackCell, Leg, DueFrame, scenario_by, offers_of, orders_of, Told, Counts}
+use Rattle.law_model.specs.Common.{Container, BackCell, Leg, DueFrame, scenario_by, offers_of, orders_of, Told}
+use Rattle.law_model.specs.Common.{Counts}
+use Rattle.std.specs.List.Sorted.{IsNonDecreasingBy}
 use Rattle.law_model.specs.declared.script_types.Item.{Item}
 use Rattle.law_model.specs.declared.script_types.ItemKind.{ItemKind}
 use Rattle.law_model.specs.declared.item_refusals.Refusal.{Refusal}
 use Rattle.thread_rings.specs.Ends.{OutEnd, InEnd}
 use Rattle.terminal_source.specs.source_core.Given.{SourceStands as HasMade}
 use Rattle.law_walk.specs.Common.{Numbered, is_client, landed_items, landed_scenario, kind_refusal, refused_by}
-use Rattle.thread_group.specs.Journal.{items_in}
+use Rattle.thread_group.specs.Journal.{of_client, of_operator}
 use Rattle.thread_group.specs.Rings.{SameOuts, SameIns}
 use Rattle.thread_group.specs.Parts.{AreSent, ArePast}
 use Rattle.thread_group.specs.declared.group_state.GroupState.{GroupState}
@@ -65,9 +67,9 @@ pub record HasJournalRoom (leg : Leg) (g : GroupState) : Type 0 where
       (drop (commands_of g) (orders_of leg.items)) ≤ slots_of g
   pub octets : octets_in (drop (frames_of g) (offers_of leg.items)) ≤ bytes_of g
 
--- what has come of the leg so far: no more has landed than there is; the entries and the refusals are those of its
--- items that have landed,
--- by the return cells that decision steps have taken; and each send ring has passed the leg's containers of the
+-- what has come of the leg so far: no more has landed than there is; of each kind the entries are the accepted ones of
+-- its items that have landed, in order, none stands behind one that landed later, and the refusals are those of these
+-- items, by the return cells that decision steps have taken; and each send ring has passed the leg's containers of the
 -- frames made
 pub record HasLandedOf (leg : Leg) (g : GroupState) : Type 0 where
   pub entries : AreItemsOf leg (journal_of g)
@@ -75,10 +77,9 @@ pub record HasLandedOf (leg : Leg) (g : GroupState) : Type 0 where
   pub most_frames : frames_of g ≤ length (offers_of leg.items)
   pub most_commands : commands_of g ≤ length (orders_of leg.items)
   pub refusals : refusals_of g ≡ refusals_by leg (taken_of g) (landed_items leg (counts_of g))
-  pub frames : length (offers_of (items_in (journal_of g))) ≡ length
-      (accepted_frames_by leg (taken_of g) (landed_items leg (counts_of g)))
-  pub commands : length (orders_of (items_in (journal_of g))) ≡ length
-      (accepted_commands_by leg (taken_of g) (landed_items leg (counts_of g)))
+  pub frames : of_client (journal_of g) ≡ accepted_frames_by leg (taken_of g) (landed_items leg (counts_of g))
+  pub commands : of_operator (journal_of g) ≡ accepted_commands_by leg (taken_of g) (landed_items leg (counts_of g))
+  pub order : IsNonDecreasingBy (λ (entry : Numbered). entry.item.due) (journal_of g)
   pub sent : AreSent (scenario_by leg) (taken_of g) (ticks_of g) g.tx.items
   pub made : ∥ HasMade (source_of g) (landed_scenario leg (counts_of g)) (taken_of g) ∥₁
 

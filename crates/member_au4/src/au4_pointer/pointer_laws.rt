@@ -86,6 +86,8 @@ pub fn worked_law()
 /// Worked: the words that a sink refuses, behind a frame with a next value or behind none.
 pub fn refused_law()
     ensures flag { reading None 0x3805 ≡ Err (PointerWordFault.Flag 3) }
+    ensures later_flag { reading (Some 5) 0x3805 ≡ Err (PointerWordFault.Flag 3) }
+    ensures first_range { reading None 0x6b0f ≡ Err (PointerWordFault.Range 783) }
     ensures range { reading None 0x9b0f ≡ Err (PointerWordFault.Range 783) }
     ensures later_range { reading (Some 5) 0x9b0f ≡ Err (PointerWordFault.Range 783) }
     ensures unexpected { reading (Some 5) 0x6806 ≡ Err (PointerWordFault.Unexpected 6) }

@@ -22,6 +22,10 @@ most_in log = most_of (view log.pass)
 abbrev pub moved_by : AlarmLog → List Alarm
 moved_by log = log.list.items
 
+-- how many looks at its queue found no alarm
+abbrev pub misses_of : AlarmLog → ℕ
+misses_of log = log.misses
+
 -- what was put through the posts that have ended is what was got and what the queue holds of it
 abbrev pub was_heard : AlarmLog → List Tagged → Type 0
 was_heard log = IsHeard (view log.pass)

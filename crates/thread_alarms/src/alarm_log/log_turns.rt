@@ -1,6 +1,7 @@
 //! The log, which one thread turns, and its list.
 ghost use Rattle.std.specs.Prelude.{◌≡◌, ◌≤◌, [], vec_len, vec_capacity};
 ghost use Rattle.std.specs.Arc.{arc_value};
+ghost use Rattle.octet_io.specs.Faults.{one_more};
 ghost use Rattle.crossbeam_queue.specs.Passes.{view};
 ghost use Rattle.thread_alarms.specs.alarm_log.Views.{made_of, known_of};
 ghost use Rattle.thread_alarms.specs.alarm_log.Listens.{Listens};
@@ -33,6 +34,8 @@ pub struct AlarmLog {
     pub(super) queue: Arc<AlarmQueue, Global>,
     pub(super) pass: Pass<Tagged, View>,
     pub(super) list: Vec<Alarm>,
+    /// How many looks at the queue found no alarm. The count stops at 2^64 - 1.
+    pub(super) misses: u64,
     /// Room for what the posts kept.
     pub(super) back: Vec<Vec<Alarm>>,
     /// The pass is that of this log, and the list has the alarms that it got.
@@ -69,11 +72,12 @@ impl AlarmLog {
     ghost use Rattle.thread_alarms.specs.alarm_log.Posts.{posted_by};
     ghost use Rattle.crossbeam_queue.specs.Fifo.{Held};
     ghost use Rattle.thread_rings.specs.declared.alarm_kinds.Alarm.{Alarm};
-    ghost use Rattle.thread_alarms.specs.alarm_log.Logs.{moved_by, was_heard, alarms_in, posts_of, IsAlone, IsPostOf, SameLog};
+    ghost use Rattle.thread_alarms.specs.alarm_log.Logs.{moved_by, misses_of, was_heard, alarms_in, posts_of, IsAlone};
+    ghost use Rattle.thread_alarms.specs.alarm_log.Logs.{IsPostOf, SameLog};
 
-    /// Moves up to 16 alarms from the queue to the list, and ends before that where it finds no further one. It takes
-    /// no memory. Others may post meanwhile, so no clause says what the queue held: `empty` and `all` say what the
-    /// list has then, and that what a queue without alarms teaches was learned, which of a list without alarms is nothing.
+    /// Moves up to 16 alarms from the queue to the list, and ends before that only where a look finds no further one,
+    /// which is counted. It takes no memory. Others may post meanwhile, so no clause says what the queue held: `empty`
+    /// and `all` say what the list has then, and that what a queue without alarms teaches was learned.
     pub fn turn<R: Wait>(&mut self, rt: &R) -> Turn
         ensures taken { (result ≡ Turn.Taken)
             ↔ (length (moved_by self.old) < length (moved_by self.new)) }
@@ -83,6 +87,8 @@ impl AlarmLog {
             (moved_by self.new ≡ moved_by self.old) × Held 0 (was_heard self.old) }
         ensures all { length (moved_by self.new) < length (moved_by self.old) + 16 →
             Held 0 (was_heard self.new) }
+        ensures missed { length (moved_by self.new) < length (moved_by self.old) + 16 →
+            misses_of self.new ≡ one_more (misses_of self.old) }
         ensures same { SameLog self.old self.new }
     {
         if !self.take_one(rt) {
@@ -108,6 +114,7 @@ impl AlarmLog {
             pass,
             list,
             back,
+            misses: _,
         } = self;
         let mut pass = pass;
         let mut list = list;
@@ -124,6 +131,8 @@ impl AlarmLog {
         ensures grown { (more : List Alarm) × (moved_by self.new ≡ moved_by self.old ++ more) }
         ensures all { length (moved_by self.new) < length (moved_by self.old) + 15 →
             Held 0 (was_heard self.new) }
+        ensures missed { length (moved_by self.new) < length (moved_by self.old) + 15 →
+            misses_of self.new ≡ one_more (misses_of self.old) }
         ensures same { SameLog self.old self.new }
     {
         for _ in 1..MOVES {
@@ -133,7 +142,7 @@ impl AlarmLog {
         }
     }
 
-    /// Moves the oldest alarm of the queue to the list, if there is one.
+    /// Moves the oldest alarm of the queue to the list, if there is one. A look that finds none is counted.
     fn take_one<R: Wait>(&mut self, rt: &R) -> bool
         ensures moved { result ≡ true →
             length (moved_by self.new) ≡ length (moved_by self.old) + 1 }
@@ -141,8 +150,14 @@ impl AlarmLog {
         ensures none { result ≡ false →
             (moved_by self.new ≡ moved_by self.old) × Held 0 (was_heard self.old) }
         ensures empty { result ≡ false → Held 0 (was_heard self.new) }
+        ensures counted { result ≡ false → misses_of self.new ≡ one_more (misses_of self.old) }
+        ensures quiet { result ≡ true → misses_of self.new ≡ misses_of self.old }
         ensures same { SameLog self.old self.new }
     {
-        take(rt, &self.queue, &mut self.pass, &mut self.list)
+        if take(rt, &self.queue, &mut self.pass, &mut self.list) {
+            return true;
+        }
+        self.misses = self.misses.saturating_add(1);
+        false
     }
 }

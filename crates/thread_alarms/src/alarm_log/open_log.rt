@@ -39,6 +39,7 @@ pub fn make_log(
         queue,
         pass,
         list,
+        misses: 0,
         back,
     };
     Ok((log, made))

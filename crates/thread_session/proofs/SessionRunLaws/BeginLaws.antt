@@ -7,6 +7,7 @@ use Rattle.thread_sink.specs.Worker.{SinkWorkerStands as SinkStands, lines_of as
 use Rattle.thread_sink.specs.Worker.{taken_of as rows_taken, ticks_of as rows_of, has_failed}
 use Rattle.law_model.specs.Common.{IsValid, BackCell, Container, leg_of, Scenario, scenario_of, offers_of, orders_of}
 use Rattle.law_model.specs.Common.{used_in, containers_of}
+use Rattle.std.specs.List.Sorted.{IsNonDecreasingBy}
 use Rattle.law_model.specs.declared.script_types.Item.{Item}
 use Rattle.law_model.specs.declared.script_types.Script.{Script}
 use Rattle.thread_session.specs.session_run.Session.{IsSinkOf}
@@ -16,7 +17,7 @@ use Rattle.terminal_source.specs.source_core.Given.{IsFresh, SourceStands as Has
 use Rattle.law_walk.specs.Common.{Numbered, is_client, landed_from, landed_items, landed_scenario}
 use Rattle.thread_group.specs.declared.group_state.GroupState.{GroupState}
 use Rattle.terminal_group.specs.Inbox.{told_from}
-use Rattle.thread_group.specs.Journal.{items_in}
+use Rattle.thread_group.specs.Journal.{of_client, of_operator}
 use Rattle.thread_group.specs.Rings.{SameOuts, SameIns, AreUnused}
 use Rattle.thread_group.specs.Parts.{ArePast}
 use Rattle.thread_group.specs.Group.{IsOf, lines_of, lag_of, size_of, lost_of, ticks_of, frames_of, commands_of}
@@ -79,10 +80,12 @@ module _ (script : Script) (g : GroupState) (of_script : IsOf (leg_of script) g)
     most_frames = omega (arith, frames);
     most_commands = omega (arith, commands);
     refusals = refusals ∙ sym (ap (refusals_by (leg_of script) (taken_of g)) landed-none);
-    frames = ap (λ (l : List Numbered). length (offers_of (items_in l))) journal
-        ∙ sym (ap (λ (l : List Numbered). length (accepted_frames_by (leg_of script) (taken_of g) l)) landed-none);
-    commands = ap (λ (l : List Numbered). length (orders_of (items_in l))) journal
-        ∙ sym (ap (λ (l : List Numbered). length (accepted_commands_by (leg_of script) (taken_of g) l)) landed-none);
+    frames = ap of_client journal
+        ∙ sym (ap (accepted_frames_by (leg_of script) (taken_of g)) landed-none);
+    commands = ap of_operator journal
+        ∙ sym (ap (accepted_commands_by (leg_of script) (taken_of g)) landed-none);
+    order = subst (IsNonDecreasingBy (λ (entry : Numbered). entry.item.due)) (sym journal)
+        (λ i j d low inside. absurd (omega arith));
     sent = λ m out there. unused m out there ∙ sym (ap (containers_of (scenario_of script) (taken_of g) m) ticks);
     made = ∣ subst (HasMade (source_of g) (landed_scenario (leg_of script) (counts_of g))) (sym taken-none)
         (made (landed_scenario (leg_of script) (counts_of g)) (record {

@@ -36,11 +36,12 @@ use Rattle.thread_group.specs.declared.group_state.GroupState.{GroupState}
 use Rattle.thread_group.specs.Group.{ticks_of, items_of, lag_of, frames_of, commands_of, journal_of, refusals_of}
 use Rattle.thread_group.specs.Group.{taken_of, totals_of}
 use Rattle.terminal_group.specs.Inbox.{told_taken}
-use Rattle.thread_group.specs.Journal.{items_in}
+use Rattle.thread_group.specs.Journal.{items_in, of_client, of_operator}
 use Rattle.thread_group.specs.Session.{counts_of, refusal_by, refusals_by, accepted_frames_by, accepted_commands_by}
 use Rattle.terminal_group.proofs.BareLaws.{bare-dues}
 use Rattle.thread_group.proofs.AlikeLaws.{alike-cells, refusal-alike}
 use Rattle.thread_group.proofs.BoundLaws.{same-each, same-filter}
+use Rattle.thread_group.proofs.JournalLaws.{offers-length, orders-length}
 use Rattle.thread_session.specs.session_parts.Session.{IsGathered, session_backs, IsEnded}
 use Rattle.thread_session.proofs.SessionPartsLaws.EndedLaws.{backs-are}
 use Rattle.thread_session.proofs.SessionPartsLaws.SessionLaws.{line-ended, all-come, made-session, frames-session, backs-session}
@@ -216,29 +217,23 @@ module _ (script : Script) (valid : IsValid script) (group : GroupState) (worker
       (λ item. refused_by item.number (refusal_at (leg_of script) item)) (numbered 0 script.items)
       (λ i item there. ap (refused_by item.number) (refusal-is item (due i item there)))
 
-  frames-all : length (offers_of (items_in (journal_of group))) ≡ length
-      (filter (is_accepted_frame (leg_of script)) (numbered 0 script.items))
+  frames-all : of_client (journal_of group) ≡ filter (is_accepted_frame (leg_of script)) (numbered 0 script.items)
   frames-all =
-      end.landed.frames
-      ∙ ap (λ (items : List Numbered). length (accepted_frames_by (leg_of script) (taken_of group) items))
-      all-landed
-      ∙ ap length
-      (same-filter (λ item. is_client item.item.kind && is_none (refusal_by (leg_of script) (taken_of group) item))
+      end.landed.frames ∙ ap (accepted_frames_by (leg_of script) (taken_of group)) all-landed
+      ∙ same-filter (λ item. is_client item.item.kind && is_none (refusal_by (leg_of script) (taken_of group) item))
       (is_accepted_frame (leg_of script)) (numbered 0 script.items)
       (λ i item there. ap (λ (why : Option Refusal). is_client item.item.kind && is_none why)
-      (refusal-is item (due i item there))))
+      (refusal-is item (due i item there)))
 
-  commands-all : length (orders_of (items_in (journal_of group))) ≡ length
-      (filter (is_accepted_command (leg_of script)) (numbered 0 script.items))
+  commands-all : of_operator (journal_of group) ≡ filter (is_accepted_command (leg_of script))
+      (numbered 0 script.items)
   commands-all =
-      end.landed.commands
-      ∙ ap (λ (items : List Numbered). length (accepted_commands_by (leg_of script) (taken_of group) items))
-      all-landed
-      ∙ ap length (same-filter (λ item. not (is_client item.item.kind) && is_none
+      end.landed.commands ∙ ap (accepted_commands_by (leg_of script) (taken_of group)) all-landed
+      ∙ same-filter (λ item. not (is_client item.item.kind) && is_none
       (refusal_by (leg_of script) (taken_of group) item)) (is_accepted_command (leg_of script))
       (numbered 0 script.items)
       (λ i item there. ap (λ (why : Option Refusal). not (is_client item.item.kind) && is_none why)
-      (refusal-is item (due i item there))))
+      (refusal-is item (due i item there)))
 
   totals-all : totals_of group ≡ group_totals script
   totals-all =
@@ -247,9 +242,10 @@ module _ (script : Script) (valid : IsValid script) (group : GroupState) (worker
       let refused : ℕ = length (refusals_of group) in
       let items : List Numbered = numbered 0 script.items in
       ap (λ n. totals_by n frames commands refused) ticks-all
-      ∙ ap (λ n. totals_by script.config.ticks n commands refused) frames-all
+      ∙ ap (λ n. totals_by script.config.ticks n commands refused)
+      (offers-length (journal_of group) ∙ ap length frames-all)
       ∙ ap (λ n. totals_by script.config.ticks (length (filter (is_accepted_frame (leg_of script)) items)) n refused)
-      commands-all
+      (orders-length (journal_of group) ∙ ap length commands-all)
       ∙ ap (λ (l : List (ℕ × Refusal)). totals_by script.config.ticks
       (length (filter (is_accepted_frame (leg_of script)) items))
       (length (filter (is_accepted_command (leg_of script)) items)) (length l)) refusals-all
@@ -261,7 +257,7 @@ module _ (script : Script) (valid : IsValid script) (group : GroupState) (worker
         ticks = ticks-all;
         frames = omega (arith, landed.0, end.landed.most_frames);
         commands = omega (arith, landed.1, end.landed.most_commands);
-        journal = end.landed.entries;
+        journal = record { frames = frames-all; commands = commands-all; order = end.landed.order };
         refusals = refusals-all;
         totals = totals-all;
       }

@@ -2,6 +2,9 @@
 use Rattle.std.specs.Prelude.{◌≡◌, ℕ, ◌≤◌, List, [], ◌∷◌, ◌++◌, length, slice_get, Some, false}
 use Rattle.law_model.specs.Common.{Container, Cell, leg_of, offers_of, orders_of}
 use Rattle.law_model.specs.declared.script_types.Script.{Script}
+use Rattle.std.specs.Prelude.{filter}
+use Rattle.std.specs.List.Sorted.{IsNonDecreasingBy}
+use Rattle.law_model.specs.session.Leg.{Leg}
 use Rattle.law_model.specs.declared.session_totals.Totals.{Totals}
 use Rattle.thread_rings.specs.Ends.{OutEnd, InEnd, out_passed, in_passed, in_items, AreEnds}
 use Rattle.thread_rings.specs.declared.line_worker.LineWorker.{LineWorker}
@@ -11,7 +14,9 @@ use Rattle.law_walk.specs.Common.{refusals_among, totals_among, numbered}
 use Rattle.thread_group.specs.declared.group_state.GroupState.{GroupState}
 use Rattle.thread_group.specs.Group.{IsOf, ticks_of, total_of, frames_of, commands_of, journal_of, refusals_of}
 use Rattle.thread_group.specs.Group.{totals_of}
-use Rattle.thread_group.specs.Session.{AreItemsOf, IsBound, HasLandedOf}
+use Rattle.thread_group.specs.Session.{IsBound, HasLandedOf}
+use Rattle.law_walk.specs.Landed.{Numbered, is_accepted_frame, is_accepted_command}
+use Rattle.thread_group.specs.Journal.{of_client, of_operator}
 use Rattle.thread_alarms.specs.declared.watched_line.served_line.ServedLine.{ServedLine}
 use Rattle.thread_session.specs.session_parts.Laid.{AreDone, AreServedDone, AreSendEnds, AreReceiveEnds}
 use Rattle.thread_session.specs.session_parts.Opened.{IsLineOf, AreOpened}
@@ -74,13 +79,19 @@ pub record HasComeToEnd (script : Script) (group : GroupState) (workers : List L
 abbrev pub group_totals : Script → Totals
 group_totals script = record (totals_among (leg_of script) script.config.ticks 0 (numbered 0 script.items)) { got = 0 }
 
--- the group has made all frames and landed all items; each that it accepted is an item of the script, and those that it
--- refused are the
--- script's
+-- what was accepted is all that the leg accepts, each once: of each kind in the order of the items, and none behind one
+-- that landed later
+pub record IsJournalOf (leg : Leg) (entries : List Numbered) : Type 0 where
+  pub frames : of_client entries ≡ filter (is_accepted_frame leg) (numbered 0 leg.items)
+  pub commands : of_operator entries ≡ filter (is_accepted_command leg) (numbered 0 leg.items)
+  pub order : IsNonDecreasingBy (λ (entry : Numbered). entry.item.due) entries
+
+-- the group has made all frames and landed all items; its journal is of those that the script accepts, and those that
+-- it refused are the script's
 pub record IsGroupEnded (script : Script) (group : GroupState) : Type 0 where
   pub ticks : ticks_of group ≡ script.config.ticks
   pub frames : frames_of group ≡ length (offers_of script.items)
   pub commands : commands_of group ≡ length (orders_of script.items)
-  pub journal : AreItemsOf (leg_of script) (journal_of group)
+  pub journal : IsJournalOf (leg_of script) (journal_of group)
   pub refusals : refusals_of group ≡ refusals_among (leg_of script) (numbered 0 script.items)
   pub totals : totals_of group ≡ group_totals script

@@ -1,5 +1,5 @@
 -- One alarm more.
-use Rattle.std.proofs.Common.{arith}
+use Rattle.std.proofs.Common.{refl, ◌∙◌, arith}
 use Rattle.thread_alarms.proofs.AlarmLogLaws.LogLaws.{same-log, same-then, grown-none, grown-then}
 use Rattle.thread_alarms.proofs.alarm_log.log_turns.AlarmLog.take_on.Goals as goal
 
@@ -8,6 +8,7 @@ loop-init g c = record {
   least = omega arith;
   each = omega arith;
   grown = grown-none _;
+  quiet = refl;
   same = same-log c.args.self.now;
 }
 
@@ -19,6 +20,7 @@ loop-preserved g c =
       least = omega (arith, moved, before.least);
       each = omega (arith, moved, before.each);
       grown = grown-then _ _ _ before.grown c.take_one.ensures.grown;
+      quiet = c.take_one.ensures.quiet c.if-not-take_one.false ∙ before.quiet;
       same = same-then _ _ _ before.same c.take_one.ensures.same;
     }
 

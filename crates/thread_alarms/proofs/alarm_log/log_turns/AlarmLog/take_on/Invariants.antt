@@ -1,6 +1,6 @@
 -- Each turn of the loop moves one alarm.
 use Rattle.std.proofs.Common.{◌≡◌, ◌≤◌, ◌+◌, length}
-use Rattle.thread_alarms.specs.alarm_log.Logs.{moved_by, SameLog}
+use Rattle.thread_alarms.specs.alarm_log.Logs.{moved_by, misses_of, SameLog}
 use Rattle.thread_alarms.proofs.AlarmLogLaws.LogLaws.{Grown}
 use Rattle.thread_alarms.proofs.alarm_log.log_turns.AlarmLog.take_on.Given as goal
 
@@ -9,5 +9,6 @@ invariant-loop g l = record {
   least : length (moved_by l.fn.self) ≤ length (moved_by l.self);
   each : length (moved_by l.self) + 1 ≡ length (moved_by l.fn.self) + l.counter;
   grown : Grown (moved_by l.fn.self) (moved_by l.self);
+  quiet : misses_of l.self ≡ misses_of l.fn.self;
   same : SameLog l.fn.self l.self;
 }
