@@ -55,7 +55,7 @@ pass() {
 }
 pass loop 1 "in a loop" ./rows.sh < scripts
 for width in 1 2 4; do
-    pass "single_$width" "$width" "a script in a job" parallel -j "$width" --keep-order --colsep ' ' ./rows.sh '{1} {2} {3} {4} {5}' :::: scripts
+    pass "single_$width" "$width" "a script in a job" parallel -j "$width" --keep-order --colsep ' ' ./rows.sh '{1} {2} {3} {4} {5} {6}' :::: scripts
 done
 for width in 1 2 4; do
     pass "fifty_$width" "$width" "fifty in a job" parallel -j "$width" --keep-order --pipe -N 50 ./rows.sh < scripts

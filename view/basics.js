@@ -3,6 +3,9 @@
 const Life = {};
 
 Life.basics = (() => {
+  /* As many frames may wait. */
+  const MOST_WAITING = 256;
+
   const byId = (id) => document.getElementById(id);
 
   const number = (n) => String(n).replace(/\B(?=(\d{3})+(?!\d))/g, ",");
@@ -14,6 +17,9 @@ Life.basics = (() => {
     const [whole, part] = (ticks / 8).toFixed(3).replace(/\.?0+$/, "").split(".");
     return number(whole) + (part ? "." + part : "");
   }
+
+  /* What octets in so many ticks are in megabits a second: eight bits each, 125 microseconds a tick. */
+  const megabits = (octets, ticks) => number((8 * octets / (125 * ticks)).toFixed(2).replace(/\.?0+$/, "")) + " Mbit/s";
 
   const ENTITIES = { "&": "&amp;", "<": "&lt;", ">": "&gt;", '"': "&quot;" };
   const escapeHtml = (text) => text.replace(/[&<>"]/g, (c) => ENTITIES[c]);
@@ -42,5 +48,5 @@ Life.basics = (() => {
 
   const clamp = (value, least, most) => Math.max(least, Math.min(most, value));
 
-  return { byId, number, count, range, milliseconds, escapeHtml, firstWhere, runAt, packetOf, rowOf, stepsOf, clamp };
+  return { MOST_WAITING, byId, number, count, range, milliseconds, megabits, escapeHtml, firstWhere, runAt, packetOf, rowOf, stepsOf, clamp };
 })();

@@ -1,14 +1,26 @@
 "use strict";
 /* Which lane lies where, the axis of time above them and their names beside them. */
 Life.layout = (() => {
-  const { number, milliseconds, clamp } = Life.basics;
+  const { MOST_WAITING, number, milliseconds, clamp } = Life.basics;
   const { colours, FONT, bar } = Life.paint;
+
+  /* The lanes above the lines, each with its height and the space below it: lower ones where there are many lines. */
+  function lanesAbove(m, narrow) {
+    const breaks = m.fates.segments.length > 0, outages = m.service.outages.length > 0, told = m.service.stretches.length > 0;
+    const many = m.script.lines > 40, all = [["axis", 44, 8], ["command", 22, 8], ["frames", many ? 66 : narrow ? 84 : 104, outages ? 4 : 8]];
+    if (outages) all.push(["outages", 15, 1]);
+    all.push(["rows", 20, breaks ? 2 : 12]);
+    if (breaks) all.push(["segments", 12, told && many ? 4 : 10]);
+    if (told) all.push(["capacity", many ? 30 : 46, 6], ["queue", many ? 20 : 28, 10]);
+    return all;
+  }
+  const BACK = [10, 26, 12];
 
   /* The lanes for a width and a room in height. The lines share what the others leave of it: from 2 to 30 pixels each, and
      so much that each can be read where `tall` asks for it. */
   function layoutOf(m, width, room, tall) {
-    const narrow = width < 620, lines = m.script.lines, breaks = m.fates.segments.length > 0;
-    const frames = narrow ? 84 : 104, others = 164 + frames + (breaks ? 12 : 0);
+    const narrow = width < 620, lines = m.script.lines, above = lanesAbove(m, narrow);
+    const others = above.reduce((sum, [, h, space]) => sum + h + space, BACK.reduce((sum, h) => sum + h));
     const share = clamp(Math.floor(clamp(room - others, 200, 560) / Math.max(1, lines)), 2, 30);
     const laneHeight = tall ? Math.max(18, share) : share;
     const gap = laneHeight >= 12 ? Math.min(5, Math.floor(laneHeight / 6)) : laneHeight >= 7 ? 1 : 0;
@@ -16,16 +28,12 @@ Life.layout = (() => {
     const lanes = [];
     let y = 0;
     const put = (kind, h, space, line) => { lanes.push({ kind, y, h, line }); y += h + space; };
-    put("axis", 44, 8);
-    put("command", 22, 8);
-    put("frames", frames, 8);
-    put("rows", 20, breaks ? 2 : 12);
-    if (breaks) put("segments", 12, 10);
+    for (const [kind, h, space] of above) put(kind, h, space);
     const lineTop = y;
     for (let line = 0; line < lines; line++) put("line", height, gap, line);
     const lineBottom = y - gap;
-    y += 10 - gap;
-    put("back", 26, 12);
+    y += BACK[0] - gap;
+    put("back", BACK[1], BACK[2]);
     return { lanes, narrow, tall, height: y, gutter: narrow ? 62 : 128, right: 10, laneHeight: height, lineTop, lineBottom,
       lines: lanes.filter((lane) => lane.kind === "line"), lane: (kind) => lanes.find((lane) => lane.kind === kind) };
   }
@@ -84,9 +92,20 @@ Life.layout = (() => {
     say("frames", "frames");
     say("frames", lay.narrow ? "row" : "first row", c.muted, frames.h - 9);
     say("rows", "rows");
+    if (lay.lane("outages")) say("outages", "outages", c.muted);
     if (!lay.narrow && m.fates.segments.length) say("segments", "after a break", c.muted);
+    if (lay.lane("capacity")) drawServiceNames(s, say);
     say("back", lay.narrow ? "return" : "return path");
     drawLineNames(s, right);
+  }
+
+  /* Of the lane of capacity what its height is, and of that of the queue its limit. */
+  function drawServiceNames({ lay, m }, say) {
+    const { h } = lay.lane("capacity"), { h: low } = lay.lane("queue");
+    say("capacity", number(Math.round(m.most)) + (lay.narrow ? "" : " octets"), colours.muted, 5);
+    say("capacity", "capacity", colours.ink, h - 8);
+    if (low > 24) say("queue", String(MOST_WAITING), colours.muted, 4);
+    say("queue", low > 24 || lay.narrow ? "queue" : "queue, " + MOST_WAITING, colours.ink, low > 24 ? low - 6 : low / 2);
   }
 
   /* The numbers of the lines and their delays: in digits where there is room, else as bars. */

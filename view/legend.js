@@ -4,7 +4,7 @@ Life.legend = (() => {
   const { byId } = Life.basics;
   const { FATES } = Life.texts;
   const { FATE_WORDS } = Life.words;
-  const { colours, bar, state, failure, lostPacket, spoiled, whole, fate, command, start, fit } = Life.paint;
+  const { colours, bar, state, failure, lostPacket, spoiled, whole, outage, gotOctets, lostOctets, queue, fate, command, start, fit } = Life.paint;
 
   function group(out, name, entries) {
     const title = document.createElement("dt"), all = document.createElement("dd");
@@ -39,6 +39,12 @@ Life.legend = (() => {
     g.beginPath(); g.moveTo(0, 13); g.lineTo(14, 13); g.lineTo(14, 3); g.lineTo(28, 3); g.stroke();
   };
 
+  const STAIR = (g) => {
+    bar(g, colours.faint, 0, 9, 12, 6); bar(g, colours.faint, 12, 3, 16, 12);
+    g.strokeStyle = colours.ink; g.lineWidth = 1.5;
+    g.beginPath(); g.moveTo(0, 9); g.lineTo(12, 9); g.lineTo(12, 3); g.lineTo(28, 3); g.stroke();
+  };
+
   function show(m) {
     const out = byId("legend");
     out.textContent = "";
@@ -46,7 +52,11 @@ Life.legend = (() => {
     group(out, "Rows", [["whole", 28, (g) => whole(g, 0, 1, 28, 14)],
       ["spoiled by a container", 28, (g) => spoiled(g, "container", 0, 1, 28, 14)],
       ["spoiled by a packet", 28, (g) => spoiled(g, "packet", 0, 1, 28, 14)],
-      ["start found", 12, (g) => start(g, "true", 2, 8)], ["false start", 12, (g) => start(g, "false", 2, 8)]]);
+      ["start found", 12, (g) => start(g, "true", 2, 8)], ["false start", 12, (g) => start(g, "false", 2, 8)],
+      ["outage", 28, (g) => outage(g, 0, 0, 28, 14)]]);
+    group(out, "Service", [["capacity", 28, STAIR], ["octets got", 28, (g) => gotOctets(g, 0, 15, 28, 13)],
+      ["octets lost", 28, (g) => lostOctets(g, 0, 15, 28, 13)], ["frames that wait", 28, (g) => queue(g, 0, 15, 28, 8, false)],
+      ["256 wait", 28, (g) => queue(g, 0, 15, 28, 13, true)]]);
     const fates = m && !m.told ? ["untold", "refused"] : FATES;
     group(out, "Frames", fates.map((kind) => [FATE_WORDS[kind], 16, (g) => fate(g, kind, 8, 8, 4.4)]));
     group(out, "Commands", [["add", 16, (g) => command(g, "add", false, 8, 8, 5)], ["remove", 16, (g) => command(g, "remove", false, 8, 8, 5)],

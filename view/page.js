@@ -1,7 +1,7 @@
 "use strict";
 /* What is shown: the walk, the part of it in sight, what is held; and moving, zooming and holding. */
 Life.page = (() => {
-  const { byId, number, count, range, milliseconds, escapeHtml, firstWhere, packetOf, clamp } = Life.basics;
+  const { byId, number, count, range, milliseconds, escapeHtml, firstWhere, runAt, packetOf, clamp } = Life.basics;
   const { fit } = Life.paint;
   const { STRIP, drawPlot, stripOf, drawStrip, drawAbove } = Life.plot;
   const LEAST_SPAN = 8;
@@ -112,7 +112,8 @@ Life.page = (() => {
     if (location.hash !== page.written) history.replaceState(null, "", location.pathname + location.search + page.written);
     const frames = Object.entries(drawn.frames).map(([fate, n]) => number(n) + " " + Life.words.FATE_WORDS[fate]).join(", ");
     const text = "Ticks " + number(a) + " to " + number(b - 1) + ". Frames: " + (frames || "none") + ". " +
-      (model.told ? count(drawn.spoiled, "row") + " spoiled. " : "") + (drawn.fails ? count(drawn.fails, "failure") + ". " : "") +
+      (model.told ? count(drawn.spoiled, "row") + " spoiled. " : "") +
+      (drawn.service.outages ? count(drawn.service.outages, "outage") + ". " : "") + (drawn.fails ? count(drawn.fails, "failure") + ". " : "") +
       (drawn.lost ? count(drawn.lost, "lost return packet") + ". " : "") + count(drawn.commands, "command") + ".";
     byId("plot").setAttribute("aria-label", text);
     if (byId("said").textContent !== text) byId("said").textContent = text;
@@ -171,6 +172,9 @@ Life.page = (() => {
       Math.abs(page.X(f.at + (f.out - f.at) * part) - x)), 10);
   }
 
+  /* The outage whose bar is near. */
+  const outageAt = (x) => nearest(page.model.service.outages, (o) => Math.max(page.X(o.first) - x, x - page.X(o.end), 0), 8);
+
   /* What is at a point of the chart, as Life.words.held names it; null where nothing is. */
   page.at = (x, y) => {
     const { lay, model } = page;
@@ -181,6 +185,8 @@ Life.page = (() => {
     switch (lane.kind) {
       case "line": return "line." + lane.line + "." + t;
       case "rows": case "segments": return "row." + t;
+      case "outages": { const o = outageAt(x); return o ? "outage." + o.first : null; }
+      case "capacity": case "queue": return runAt(model.service.stretches, t) ? "stretch." + t : null;
       case "back": return packetOf(t) >= 0 ? "back." + packetOf(t) : null;
       case "command": { const c = nearest(model.commands, (q) => Math.abs(page.X(q.at) - x), 14); return c ? "command." + c.item : null; }
       case "frames": { const f = frameAt(lane, x, y); return f ? "frame." + f.item : null; }

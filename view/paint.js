@@ -113,6 +113,32 @@ Life.paint = (() => {
     bar(g, colours.whole, x, y + h / 2 - 1, w, 2);
   }
 
+  /* An outage: a beam over its rows, with an end at either side. */
+  function outage(g, x, y, width, h) {
+    const w = Math.max(width, 2);
+    bar(g, colours.ink, x, y + h - 4, w, 3);
+    bar(g, colours.ink, x, y + h - 9, 1.5, 9);
+    bar(g, colours.ink, x + w - 1.5, y + h - 9, 1.5, 9);
+  }
+
+  /* Octets that were got, and above them those that were lost, of a bottom and of heights. */
+  function gotOctets(g, x, bottom, w, h) {
+    faded(g, 0.4, () => bar(g, colours.got, x, bottom - h, w, h));
+    bar(g, colours.got, x, bottom - h, w, Math.min(h, 1.5));
+  }
+  function lostOctets(g, x, bottom, w, h) {
+    if (w < 5 || h < 5) { bar(g, colours.cut, x, bottom - h, w, h); return; }
+    bar(g, colours.bg, x, bottom - h, w, h);
+    bar(g, hatch(g, colours.cut, "x"), x, bottom - h, w, h);
+    edges(g, colours.cut, x, bottom - h, w, h, 1.5);
+  }
+
+  /* How many frames wait at most, as a height; black at its edge where no more may. */
+  function queue(g, x, bottom, w, h, full) {
+    faded(g, 0.4, () => bar(g, colours.waits, x, bottom - h, w, h));
+    bar(g, full ? colours.refused : colours.waits, x, bottom - h, w, full ? 2.5 : 1.5);
+  }
+
   function polygon(g, points) {
     g.beginPath();
     points.forEach(([x, y], i) => (i ? g.lineTo(x, y) : g.moveTo(x, y)));
@@ -185,5 +211,5 @@ Life.paint = (() => {
   }
 
   return { FONT, FATE_COLOUR, colours, readColours, ratio, bar, faded, plate, state, failure, lostPacket, causeColour, spoiled,
-    whole, fate, command, start, fit };
+    whole, outage, gotOctets, lostOctets, queue, fate, command, start, fit };
 })();

@@ -2,7 +2,7 @@
 /* Puts the picture together: all lanes for what is in sight, the strip with the whole session, and the layer above with the
    pointer's tick and what is held. */
 Life.plot = (() => {
-  const { rowOf } = Life.basics;
+  const { rowOf, runAt } = Life.basics;
   const { isMissed, placeOf } = Life.model;
   const { colours, FATE_COLOUR, FONT, bar, faded, causeColour, ratio } = Life.paint;
   const { drawAxis, drawNames } = Life.layout;
@@ -12,7 +12,8 @@ Life.plot = (() => {
   function sceneOf(g, m, lay, view, width) {
     const x0 = lay.gutter, x1 = width - lay.right, k = (x1 - x0) / (view.end - view.start);
     const s = { g, m, lay, view, width, x0, x1, k, X: (t) => x0 + (t - view.start) * k, a: Math.max(0, view.start), b: Math.min(m.ticks, view.end),
-      places: new Map(), drawn: { cells: {}, spoiled: 0, frames: {}, commands: 0, lost: 0, fails: 0 } };
+      places: new Map(), drawn: { cells: {}, spoiled: 0, frames: {}, commands: 0, lost: 0, fails: 0,
+        service: { members: 0, outages: 0, stretches: 0, got: 0, lost: 0, queue: 0 } } };
     /* From here on only a lane is drawn on, and a little to its sides. */
     s.clipTo = (lane, left, right) => {
       g.restore(); g.save();
@@ -32,6 +33,7 @@ Life.plot = (() => {
     Life.lanes.drawLines(s);
     Life.lanes.drawBack(s);
     Life.rows.drawRows(s);
+    Life.service.drawService(s);
     s.places = Life.frames.drawFrames(s);
     s.clipTo(lay.lane("command"), 7, 12);
     Life.rows.drawCommands(s);
@@ -107,11 +109,23 @@ Life.plot = (() => {
     ring(g, place.x, place.y, 8.5);
   }
 
+  /* An outage that is held: the bar and its rows; and a stretch: the two lanes that tell of it. */
+  function drawHeldOutage(g, m, lay, X, first) {
+    const { end } = m.service.outages.find((q) => q.first === first), { y } = lay.lane("outages"), rows = lay.lane("rows");
+    around(g, { y, h: rows.y + rows.h - y }, X(first) - 2, X(end) + 2, 6);
+  }
+  function drawHeldStretch(g, m, lay, X, tick) {
+    const { first, end } = runAt(m.service.stretches, tick), { y } = lay.lane("capacity"), queue = lay.lane("queue");
+    around(g, { y, h: queue.y + queue.h - y }, X(first) - 1, X(end) + 1, 6);
+  }
+
   function drawHeld(g, m, lay, X, hold, places) {
     const [kind, ...words] = hold.split("."), [a, b] = words.map(Number);
     g.strokeStyle = colours.hold; g.lineWidth = 2;
     if (kind === "frame") drawHeldFrame(g, m, lay, X, a, places);
     else if (kind === "command") { const lane = lay.lane("command"); ring(g, X(m.commands.find((q) => q.item === a).at), lane.y + lane.h / 2, 9); }
+    else if (kind === "outage") drawHeldOutage(g, m, lay, X, a);
+    else if (kind === "stretch") drawHeldStretch(g, m, lay, X, a);
     else if (kind === "row") around(g, lay.lane("rows"), X(a) - 2, X(a + 1) + 1, 6);
     else if (kind === "back") around(g, lay.lane("back"), X(rowOf(a)) - 2, X(rowOf(a + 1)) + 1, 6);
     else if (kind === "line") {

@@ -1,11 +1,11 @@
 "use strict";
-/* Totals and the premise at the head; below the picture the table of what was lost and refused, and the picture in words. */
+/* Totals, delays and the premise at the head; below the picture the table of what was lost and refused, and the picture in words. */
 Life.tables = (() => {
   const { byId, number, count, range, milliseconds, escapeHtml, rowOf } = Life.basics;
   const { FATES } = Life.texts;
   const { isMissed, placeOf } = Life.model;
   const { fit, fate, command } = Life.paint;
-  const { FATE_WORDS, CODES, cause, spoiledRows, shared, reason, refusal, segment, premise, held, upper } = Life.words;
+  const { FATE_WORDS, CODES, cause, spoiledRows, shared, reason, refusal, segment, members, premise, held, upper } = Life.words;
   const MOST = 200;
   let rows = [], shown = 0;
 
@@ -37,9 +37,20 @@ Life.tables = (() => {
     return cells;
   }
 
+  /* How full the queue got and when, and the delays of the frames that were got. */
+  function serviceOf(m) {
+    const { totals, delays } = m.service, cells = [];
+    if (totals) cells.push(["Queue", number(totals.queue), totals.queue ? "at most, tick " + number(totals.fullest) : "at most"]);
+    if (delays) {
+      cells.push(["Delay", number(delays.greatest), "at most, 99\u2009% " + number(delays.most) + ", half " + number(delays.half) + ", least " +
+        number(delays.least)]);
+    }
+    return cells;
+  }
+
   function showHead(m) {
-    byId("totals").innerHTML = (m.note ? [] : totalsOf(m)).map(([name, value, more]) =>
-      "<div><dt>" + name + "</dt><dd>" + value + (more ? " <small>" + more + "</small>" : "") + "</dd></div>").join("");
+    byId("totals").innerHTML = (m.note ? [] : [...totalsOf(m), ...serviceOf(m)]).map(([name, value, more]) =>
+      '<div data-k="' + name + '"><dt>' + name + "</dt><dd>" + value + (more ? " <small>" + more + "</small>" : "") + "</dd></div>").join("");
     const [verdict, why] = premise(m), e = byId("premise"), bad = m.fates.totals !== null && !m.fates.totals.starts;
     e.hidden = !verdict || m.note !== null;
     e.innerHTML = "<b>" + verdict + "</b> " + why;
@@ -142,6 +153,8 @@ Life.tables = (() => {
   function spokenHtml(m) {
     const spoiled = m.fates.spoiled.map((r) => () => spoiledRows(r) + cause(r) + ".");
     const breaks = m.fates.segments.map((s) => () => upper(segment(s)));
+    const outages = m.service.outages.map((o) => () => held(m, "outage." + o.first));
+    const capacity = m.service.members.map((run) => () => members(run));
     const losts = [];
     m.trace.back.forEach((told, packet) => { if (told === "lost") losts.push(() => held(m, "back." + packet)); });
     const lines = Array.from({ length: m.script.lines }, (_, line) => () => lineWords(m, line));
@@ -149,7 +162,9 @@ Life.tables = (() => {
     return (used.length ? "<p>" + used.map((code) => "<b>" + escapeHtml(code) + "</b>: " + (CODES[code] || escapeHtml(code))).join("; ") +
       ". The number behind a state is the sequence number.</p>" : "") + list("Lines", lines) +
       (m.told ? list("Rows", spoiled.length ? spoiled : [() => "All rows are whole."]) : "") +
-      (breaks.length ? list("After a break", breaks) : "") + (losts.length ? list("Lost return packets", losts) : "") +
+      (breaks.length ? list("After a break", breaks) : "") +
+      (m.service.totals ? list("Outages", outages.length ? outages : [() => "There is no outage."]) : "") +
+      (capacity.length ? list("Capacity", capacity) : "") + (losts.length ? list("Lost return packets", losts) : "") +
       (m.commands.length ? list("Commands", m.commands.map((c) => () => held(m, "command." + c.item))) : "");
   }
 

@@ -1,9 +1,9 @@
 "use strict";
-/* Reads the texts that the program writes into plain lists: a script, the notes of trace, the text of fates and the
-   report. What can't be read is told in `faults`, a list of sentences, and what follows it is left out. */
+/* Reads the texts that the program writes into plain lists: a script, the notes of trace, the texts of fates and of service, and
+   the report. What can't be read is told in `faults`, a list of sentences, and what follows it is left out. */
 Life.texts = (() => {
   const { byId, count } = Life.basics;
-  const KINDS = ["script", "trace", "fates", "report"];
+  const KINDS = ["script", "trace", "fates", "service", "report"];
   const FATES = ["got", "cut", "hunting", "unsettled", "unconfirmed", "waits", "refused"];
 
   /* In the page a backslash is doubled, and a less-than sign and a CR are \x3c and \x0d, so that no text ends its element
@@ -19,6 +19,7 @@ Life.texts = (() => {
   function kindOf(text) {
     if (/^(fault|usage): /.test(text)) return "trace";
     if (/^packet \d+ chg /m.test(text)) return "trace";
+    if (/^service \d/m.test(text) || /^(members|stretch) \d/m.test(text)) return "service";
     if (/^fates ticks /m.test(text) || /^(spoiled|segment) \d/m.test(text)) return "fates";
     if (/^total ticks /m.test(text)) return "report";
     if (/^ *lines +\d/m.test(text)) return "script";
@@ -138,23 +139,60 @@ Life.texts = (() => {
     }
   }
 
-  function readFates(text, faults) {
-    const fates = { spoiled: [], segments: [], frames: [], totals: null };
+  /* Reads a text line by line, up to the one with its totals, by the form that its first word has. */
+  function readLines(name, text, read, forms, take, faults) {
     const all = linesOf(text);
     for (let i = 0; i < all.length; i++) {
       const line = all[i], kind = line.slice(0, Math.max(0, line.indexOf(" ")));
-      const words = !fates.totals && Object.hasOwn(FATES_LINES, kind) ? FATES_LINES[kind].exec(line) : null;
+      const words = !read.totals && Object.hasOwn(forms, kind) ? forms[kind].exec(line) : null;
       if (!words) {
-        faults.push("Line " + (i + 1) + " of fates isn't understood: \u201c" + line.slice(0, 60) + "\u201d. What follows isn't shown.");
+        faults.push("Line " + (i + 1) + " of " + name + " isn't understood: \u201c" + line.slice(0, 60) + "\u201d. What follows isn't shown.");
         break;
       }
-      fatesLine(fates, kind, words);
+      take(read, kind, words);
     }
-    if (!fates.totals) {
-      faults.push("The last line of fates, with the totals, is missing: the text was cut off, and frames may be missing too.");
+    if (!read.totals) {
+      faults.push("The last line of " + name + ", with the totals, is missing: the text was cut off, and other lines may be missing too.");
     }
-    return fates;
+    return read;
   }
+
+  const noFates = () => ({ spoiled: [], segments: [], frames: [], totals: null });
+  const readFates = (text, faults) => readLines("fates", text, noFates(), FATES_LINES, fatesLine, faults);
+
+  /* ---- The text of service ---- */
+
+  const COUNTS = "(\\d+) (\\d+) offered (\\d+) (\\d+) refused (\\d+) (\\d+) got (\\d+) (\\d+) lost (\\d+) (\\d+) capacity (\\d+) " +
+    "queue (\\d+) (\\d+) delay (\\d+) dark (\\d+)";
+  const SERVICE_LINES = {
+    members: /^members (\d+) (\d+) (\d+) (\d+)$/,
+    outage: /^outage (\d+) (\d+) spoiled (\d+) lost (\d+) (\d+) (container|packet)(?: (\d+))?$/,
+    stretch: new RegExp("^stretch " + COUNTS + "$"),
+    delays: /^delays least (\d+) half (\d+) most (\d+) greatest (\d+)$/,
+    service: new RegExp("^service " + COUNTS + " outages (\\d+) waits (\\d+) (\\d+) ticks (\\d+) taken (\\d+) starts (true|false)$"),
+  };
+
+  /* The counts of a stretch, or of all ticks. */
+  function countsOf(w) {
+    const frames = (i) => ({ frames: +w[i], octets: +w[i + 1] });
+    return { first: +w[1], end: +w[2], offered: frames(3), refused: frames(5), got: frames(7), lost: frames(9), capacity: +w[11],
+      queue: +w[12], fullest: +w[13], delay: +w[14], dark: +w[15] };
+  }
+
+  function serviceLine(service, kind, w) {
+    switch (kind) {
+      case "members": service.members.push({ first: +w[1], end: +w[2], count: +w[3], octets: +w[4] }); break;
+      case "outage":
+        service.outages.push({ first: +w[1], end: +w[2], spoiled: +w[3], lost: { frames: +w[4], octets: +w[5] }, cause: w[6], line: optional(w[7]) });
+        break;
+      case "stretch": service.stretches.push(countsOf(w)); break;
+      case "delays": service.delays = { least: +w[1], half: +w[2], most: +w[3], greatest: +w[4] }; break;
+      default: service.totals = { ...countsOf(w), outages: +w[16], waits: +w[17], ticks: +w[19], taken: +w[20] };
+    }
+  }
+
+  const noService = () => ({ members: [], outages: [], stretches: [], delays: null, totals: null });
+  const readService = (text, faults) => readLines("service", text, noService(), SERVICE_LINES, serviceLine, faults);
 
   /* ---- The report: its refused lines and its totals; got lines are passed over ---- */
 
@@ -173,5 +211,5 @@ Life.texts = (() => {
     return report;
   }
 
-  return { KINDS, FATES, embedded, kindOf, readScript, readTrace, readFates, readReport };
+  return { KINDS, FATES, embedded, kindOf, readScript, readTrace, noFates, readFates, noService, readService, readReport };
 })();

@@ -1,8 +1,8 @@
 "use strict";
-/* What the page says in sentences: of a frame, a command, a line, a row, a return packet, and of the premise on chance.
+/* What the page says in sentences: of a frame, a command, a line, a row, an outage, a stretch, a return packet, and of the premise on chance.
    Each gives HTML of which only numbers and words of the program are parts. */
 Life.words = (() => {
-  const { number, count, range, milliseconds, escapeHtml, firstWhere, runAt, packetOf, rowOf } = Life.basics;
+  const { number, count, range, milliseconds, megabits, escapeHtml, firstWhere, runAt, packetOf, rowOf } = Life.basics;
 
   const CODES = { idle: "no member, or being removed", add: "added, and carries no payload yet", norm: "an active member",
     eos: "the active member of the highest sequence number", dnu: "a member out of use, since the sink said that it fails",
@@ -114,6 +114,45 @@ Life.words = (() => {
           "in row " + number(s.row) + " a place was taken for a GFP frame's start that is none.");
   }
 
+  /* ---- What service tells ---- */
+
+  const sum = ({ frames, octets }) => (frames ? count(frames, "frame") + ", " + count(octets, "octet") : "none");
+
+  /* An outage: what it cost, where it was and why, and when traffic was whole again. */
+  function outage(m, o) {
+    const rows = o.end - o.first, totals = m.service.totals;
+    return "<b>Outage of " + count(rows, "row") + ", " + milliseconds(rows) + " ms: " + (o.lost.frames ? sum(o.lost) : "no frame") + " lost.</b> " +
+      (rows === 1 ? "Row " + number(o.first) + " is spoiled" :
+        o.spoiled === rows ? "Rows " + range(o.first, o.end - 1) + " are all spoiled" :
+          "Of rows " + range(o.first, o.end - 1) + " " + number(o.spoiled) + " are spoiled; in the others the receiver looked for a GFP frame's start") +
+      ". It begins as " + cause(o) + ". " +
+      (totals && o.end === totals.taken ? "In the rows that were taken traffic isn't whole again." :
+        "Traffic is whole again from row " + when(o.end) + " on.");
+  }
+
+  function members(run) {
+    return (run.end - run.first === 1 ? "In row " : "In rows ") + range(run.first, run.end - 1) + " " +
+      (run.count ? count(run.count, "member carries", "members carry") + " " + count(run.octets, "octet") + " a row" :
+        "no member carries payload") + ".";
+  }
+
+  /* All rows wait for the slowest line. If containers vanish, its delay isn't all that there is. */
+  function slowest(m) {
+    const most = m.script.delays.reduce((one, other) => Math.max(one, other), 0);
+    return most && !m.script.fails.some((f) => f.slip) ? ", beside " + number(most) + " of the slowest line" : "";
+  }
+
+  /* The stretch of a tick, and the members in its row. */
+  function stretch(m, t) {
+    const q = runAt(m.service.stretches, t), run = runAt(m.service.members, t), ticks = q.end - q.first;
+    return "<b>" + (ticks === 1 ? "Tick " : "Ticks ") + range(q.first, q.end - 1) + ": got " + sum(q.got) +
+      (q.got.frames ? ", " + megabits(q.got.octets, ticks) : "") + ".</b> Lost: " + sum(q.lost) + ". Offered: " + sum(q.offered) + ". Refused: " +
+      sum(q.refused) + ". There was room for " + count(q.capacity, "octet") + ", " + megabits(q.capacity, ticks) + ". " +
+      (q.queue ? "At most " + count(q.queue, "frame") + " waited, first in tick " + number(q.fullest) + ". " : "No frame waited. ") +
+      (q.got.frames ? "The greatest delay was " + count(q.delay, "tick") + slowest(m) + ". " : "") +
+      (q.dark ? count(q.dark, "of its rows is", "of its rows are") + " in an outage. " : "") + (run ? members(run) : "");
+  }
+
   /* A decision step: what it was told, and what it sends. A return packet has the statuses of eight sequence numbers. */
   function back(m, packet) {
     const told = packet < 0 ? undefined : m.trace.back[packet];
@@ -146,7 +185,8 @@ Life.words = (() => {
       " the receiver took a place for a GFP frame's start that is none. What is shown as got needn't be what was delivered."];
   }
 
-  /* The sentence on what is held, which is a word with its numbers: frame.ITEM, command.ITEM, line.LINE.TICK, row.ROW, back.PACKET. */
+  /* The sentence on what is held, which is a word with its numbers: frame.ITEM, command.ITEM, line.LINE.TICK, row.ROW,
+     outage.FIRST, stretch.TICK, back.PACKET. */
   function held(m, hold) {
     const [kind, ...words] = hold.split("."), [a, b] = words.map(Number);
     switch (kind) {
@@ -154,10 +194,12 @@ Life.words = (() => {
       case "command": { const c = m.commands.find((q) => q.item === a); return c ? command(m, c) : ""; }
       case "line": return a < m.script.lines && b < m.ticks ? line(m, a, b) : "";
       case "row": return a < m.ticks ? row(m, a) : "";
+      case "outage": { const o = m.service.outages.find((q) => q.first === a); return o ? outage(m, o) : ""; }
+      case "stretch": return runAt(m.service.stretches, a) ? stretch(m, a) : "";
       case "back": return a < m.trace.packets ? back(m, a) : "";
       default: return "";
     }
   }
 
-  return { CODES, FATE_WORDS, cause, spoiledRows, shared, reason, refusal, segment, premise, held, upper };
+  return { CODES, FATE_WORDS, cause, spoiledRows, shared, reason, refusal, segment, members, premise, held, upper };
 })();

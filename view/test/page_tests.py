@@ -3,7 +3,7 @@
 
     page_tests.py PROGRAM [PICTURES]
 
-PROGRAM is the program that answers walk, trace and fates. PICTURES is a folder for pictures of all pages, wide and narrow, light and dark."""
+PROGRAM is the program that answers trace, fates and service. PICTURES is a folder for pictures of all pages, wide and narrow, light and dark."""
 import base64
 import json
 import os
@@ -14,7 +14,7 @@ import time
 
 sys.dont_write_bytecode = True
 from browser import Browser, NoBrowser
-from texts import Pages, bursts, expected, made, points, reasons, totals, walked
+from texts import Pages, bursts, expected, head, heights, interval, made, points, reasons, totals, walked
 
 EXAMPLES = ("failed_member", "slip", "lost_return", "eight_lines", "queue", "refused")
 TOP = os.path.dirname(os.path.dirname(os.path.dirname(os.path.abspath(__file__))))
@@ -61,10 +61,14 @@ class Tests:
         drawn, wanted = json.loads(b.js("document.getElementById('plot').dataset.drawn")), expected(texts)
         for key in wanted:
             self.same(name + ": " + key, drawn[key], wanted[key])
-        head = dict(b.js("""[...document.querySelectorAll('#totals > div')].map(e => [e.querySelector('dt').textContent,
-            parseInt(e.querySelector('dd').firstChild.textContent.replace(/,/g, ''))])"""))
+        cells = dict(b.js("""[...document.querySelectorAll('#totals > div')].map(e => [e.querySelector('dt').textContent,
+            e.querySelector('dd').textContent.replace(/,/g, '').match(/\\d+/g).map(Number)])"""))
         numbers, starts = totals(texts)
-        self.same(name + ": totals", {key: head.get(key) for key in numbers}, numbers)
+        self.same(name + ": totals", {key: cells.get(key, [None])[0] for key in numbers}, numbers)
+        queue, delays = head(texts)
+        self.same(name + ": the greatest queue", cells.get("Queue"), queue if queue[0] else [0])
+        self.same(name + ": delays", cells.get("Delay"), [delays[3], 99, *delays[2::-1]])
+        self.same(name + ": the interval of its stretches", self.pages.read("interval"), interval(texts) + "\n")
         self.same(name + ": premise", b.js("document.getElementById('premise').className"), "" if starts else "bad")
         told = b.js("[...document.querySelectorAll('td.f')].map(e => +(/([\\d,]+) frames/.exec(e.textContent) || [0, '1'])[1].replace(/,/g, ''))")
         self.same(name + ": table", told, reasons(texts)[:200])
@@ -103,6 +107,46 @@ class Tests:
                     % json.dumps([[int(words[1]), int(words[5])] for words in ends]))
         self.same(name + ": what is at each frame's end", told, ["Frame %s: %s" % (words[1], words[4]) for words in ends])
 
+    def service(self, name, texts):
+        """The picture of service: bars of outages, the stair, what was got and lost, and the queue, where the texts have them; and words of what is
+        pointed at."""
+        b = self.browser
+        self.open(name, texts)
+        low, high = b.js("['capacity', 'queue'].map(kind => Life.page.lay.lane(kind).h)")
+        hexes = b.js("""(s => Object.fromEntries(['ink', 'got', 'cut', 'waits', 'refused'].map(n => [n, s.getPropertyValue('--' + n).trim()])))
+            (getComputedStyle(document.documentElement))""")
+        wanted = [[lane, tick, down, hexes[colour]] for lane, tick, down, colour in heights(texts, low, high)]
+        found = b.js("""%s.map(([kind, tick, down]) => { const { lay, X } = Life.page;
+            const [r, g, b] = document.getElementById('plot').getContext('2d').getImageData(Math.floor(X(tick)), lay.lane(kind).y + down, 1, 1).data;
+            return [kind, tick, down, '#' + [r, g, b].map(n => n.toString(16).padStart(2, '0')).join('')]; })""" % json.dumps(wanted))
+        self.same(name + ": points of service", len(wanted) > 10, True)
+        self.same(name + ": colours of service", [pair for pair in zip(found, wanted) if not near(pair[0][3], pair[1][3])], [])
+
+    def costs(self, texts):
+        """What is said of an outage and of a stretch that are pointed at, held or gone to."""
+        b = self.browser
+        self.open("costs", texts)
+        detail = "document.getElementById('detail').textContent"
+        b.mouse("Moved", *self.place(1040, "outages", "l.h - 3"))
+        self.same("an outage", b.js(detail),
+                  "Outage of 40 rows, 5 ms: 4 frames, 256 octets lost. Rows 1,024\u20131,063 are all spoiled. It begins as a container of line 1, an "
+                  "active member, is damaged or not yet locked. Traffic is whole again from row 1,064 (133 ms) on.")
+        b.mouse("Moved", *self.place(1025, "capacity", "l.h / 2"))
+        self.same("a stretch", b.js(detail),
+                  "Ticks 1,024\u20131,031: got none. Lost: 2 frames, 128 octets. Offered: 2 frames, 128 octets. Refused: none. There was room for "
+                  "37,440 octets, 299.52 Mbit/s. At most 1 frame waited, first in tick 1,024. 8 of its rows are in an outage. In rows "
+                  "296\u20131,063 2 members carry 4,680 octets a row.")
+        b.click(*self.place(906, "queue", "l.h / 2"))
+        b.settle()
+        self.same("a stretch is held", b.js("location.hash")[:16], "#hold=stretch.90")
+        self.same("and has what was got", b.js("document.querySelector('#detail b').textContent"), "Ticks 904\u2013911: got none.")
+        self.picture("stretch-1280")
+        self.open("costs", texts, "#hold=line.1.1024")
+        b.key("n")
+        b.settle()
+        self.same("an outage is a mark", b.js("Life.page.hold"), "outage.1024")
+        self.picture("outage-1280")
+
     def threads(self, texts):
         """Threads lean if and only if their frames waited: frame 8 lies in six rows and didn't wait, frame 9 waited ten ticks, frame 10 didn't."""
         b = self.browser
@@ -125,7 +169,8 @@ class Tests:
         said = b.js("""(text => { const all = [], fill = text.fillText;
             text.fillText = function (word, ...place) { all.push(word); fill.call(this, word, ...place); };
             Life.page.draw(); text.fillText = fill; return all; })(CanvasRenderingContext2D.prototype)""")
-        self.same("names of the lanes", [word for word in said if re.search("tick|frame|due|first", word)], ["tick", "due", "frames", "first row"])
+        self.same("names of the lanes", [word for word in said if re.search("tick|frame|due|first", word)],
+                  ["tick", "due", "frames", "first row", "40 rows, 4 frames lost"])
         line, step = b.js("['line.1.1100', 'back.65'].map(what => Life.words.held(Life.page.model, what).replace(/<[^>]*>/g, ''))")
         self.same("a line", line, "Line 1 at tick 1,100: dnu, sequence number 1. In ticks 1,064\u20131,319 (packets 65\u201380) it is a "
                   "member out of use, since the sink said that it fails. It has no delay. ")
@@ -280,7 +325,8 @@ class Tests:
         words = b.js("document.getElementById('words').textContent")
         for part in ("dnu: a member out of use, since the sink said that it fails", "Line 1, delay 0: idle in ticks 24\u201339",
                      "dnu 1 in ticks 1,064\u20131,319", "Damaged containers: 1,024\u20131,047",
-                     "Rows 1,024\u20131,031 are spoiled: a container of line 1", "a GFP frame's start was found in row 1,064", "Item 1: add line 1"):
+                     "Rows 1,024\u20131,031 are spoiled: a container of line 1", "a GFP frame's start was found in row 1,064", "Item 1: add line 1",
+                     "Outage of 40 rows, 5 ms: 4 frames, 256 octets lost.", "In rows 1,064\u20131,319 1 member carries 2,340 octets a row."):
             self.same("in words: " + part, part in words, True)
 
     # ---- Texts that end an element, that aren't whole, that are of another script, that are dropped ----
@@ -316,6 +362,10 @@ class Tests:
         self.same("what ./vcat says of a trial is no fault", self.browser.js(FAULTS), "")
         self.told("no report", {**texts, "report": b""}, "report is missing")
         self.told("report before the last", {**texts, "report": b"refused 0 unknown\n"}, "The last line of the report")
+        service = texts["service"]
+        self.told("service in a line", {**texts, "service": service[:200]}, "of service isn't understood")
+        self.told("service before the last", {**texts, "service": b"".join(service.splitlines(True)[:-1])}, "The last line of service")
+        self.told("service of another script", {**texts, "service": other["service"]}, "aren't of one script")
         self.told("no script", {**texts, "script": b"\n"}, "text of the script is missing", False)
         self.told("fates of another script", {**texts, "fates": other["fates"]}, "aren't of one script")
         self.told("report of another script", {**texts, "report": other["report"]}, "aren't of one script")
@@ -344,6 +394,17 @@ class Tests:
         _, status = self.told("fates that fail", {**texts, "fates": b""}, "The fates are missing", fates_status=7)
         self.same("fates that fail: status", status, 7)
 
+    def without_service(self, texts):
+        b = self.browser
+        notes, status = self.told("no command service", {**texts, "service": None}, "The text of service is missing")
+        self.same("no command service", ("has no command service" in notes, status), (True, 0))
+        drawn, wanted = json.loads(b.js("document.getElementById('plot').dataset.drawn")), expected(texts)
+        for key in ("cells", "fails", "commands", "frames", "spoiled"):
+            self.same("without service: " + key, drawn[key], wanted[key])
+        self.same("without service: lanes", b.js("['outages', 'capacity', 'queue'].map(kind => Life.page.lay.lane(kind))"), [None] * 3)
+        _, status = self.told("service that fails", {**texts, "service": b""}, "The text of service is missing", service_status=7)
+        self.same("service that fails: status", status, 7)
+
     def refused(self, texts):
         """A script that is refused has a page with the note; where there is no trace for another reason there is no page."""
         b, line = self.browser, texts["script"].count(b"\n") + 1
@@ -360,14 +421,14 @@ class Tests:
         b = self.browser
         b.open(os.path.join(TOP, "view/life.html"))
         self.same("a page without texts says so", b.js("!document.getElementById('empty').hidden && document.getElementById('stack').hidden"), True)
-        names = {"fates": "a.txt", "script": "failed_member.vcat", "report": "b.txt", "trace": "c.txt"}
+        names = {"fates": "a.txt", "script": "failed_member.vcat", "report": "b.txt", "trace": "c.txt", "service": "d.txt"}
         drop = """(() => { const data = new DataTransfer(); for (const [name, text] of %s) data.items.add(new File([text], name));
             document.dispatchEvent(new DragEvent('drop', { dataTransfer: data, cancelable: true, bubbles: true })); })()"""
         b.js(drop % json.dumps([[names[kind], texts[kind].decode()] for kind in names]))
         b.settle()
         drawn, wanted = json.loads(b.js("document.getElementById('plot').dataset.drawn")), expected(texts)
-        self.same("dropped", [drawn["cells"], drawn["frames"], b.js("document.getElementById('name').textContent")],
-                  [wanted["cells"], wanted["frames"], "failed_member"])
+        self.same("dropped", [drawn["cells"], drawn["frames"], drawn["service"], b.js("document.getElementById('name').textContent"), b.js(FAULTS)],
+                  [wanted["cells"], wanted["frames"], wanted["service"], "failed_member", ""])
         b.js(drop % json.dumps([["note.txt", "nothing of a walk"]]))
         b.settle()
         self.same("an unknown text is told", "Not one of the texts: note.txt" in b.js(FAULTS), True)
@@ -414,8 +475,10 @@ def run(tests, program):
         tests.counts(name, texts[name])
     example = texts["failed_member"]
     tests.painted("failed_member", example)
-    for test in (tests.threads, tests.terms, tests.keys, tests.pointer, tests.fingers, tests.media, tests.spoken, tests.escaped,
-                 tests.without_fates, tests.refused, tests.dropped):
+    for name in ("failed_member", "slip", "queue"):
+        tests.service(name, texts[name])
+    for test in (tests.costs, tests.threads, tests.terms, tests.keys, tests.pointer, tests.fingers, tests.media, tests.spoken, tests.escaped,
+                 tests.without_fates, tests.without_service, tests.refused, tests.dropped):
         test(example)
     tests.cut(example, texts["slip"])
     for name, large in (("made", made()), ("bursts", walked(program, bursts()))):

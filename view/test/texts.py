@@ -6,18 +6,26 @@ import re
 import shutil
 import subprocess
 
-KINDS = ("trace", "fates", "report")
+KINDS = ("trace", "fates", "service", "report")
 FATES = ("got", "cut", "hunting", "unsettled", "unconfirmed")
 
 
 def walked(program, script):
     """The texts that a program writes of a script, with the script; a text that it has no command for is None."""
-    def run(word):
-        done = subprocess.run([program, word], input=script, capture_output=True)
+    def run(*words):
+        done = subprocess.run([program, *words], input=script, capture_output=True)
         return done.returncode, done.stdout, done.stderr
     _, report, trace = run("trace")
-    status, fates, _ = run("fates")
-    return {"script": script, "trace": trace, "report": report, "fates": None if status == 2 else fates}
+    texts = {"script": script, "trace": trace, "report": report}
+    for word, *more in (("fates",), ("service", interval(texts))):
+        status, text, _ = run(word, *more)
+        texts[word] = None if status == 2 else text
+    return texts
+
+
+def interval(texts):
+    """How many ticks a stretch of the page has."""
+    return str(max(1, int(texts["report"].split()[-11]) // 200))
 
 
 def expected(texts):
@@ -44,7 +52,17 @@ def expected(texts):
             counts["spoiled"] += int(words[2]) - int(words[1])
         if words[0] == "frame":
             counts["frames"][words[4]] = counts["frames"].get(words[4], 0) + 1
+    served = [line.split(" ") for line in texts["service"].decode().splitlines()]
+    counts["service"] = {kind: sum(words[0] == word for words in served)
+                         for kind, word in (("members", "members"), ("outages", "outage"), ("stretches", "stretch"))}
+    counts["service"].update({name: int(served[-1][place]) for name, place in (("got", 11), ("lost", 14), ("queue", 18))})
     return counts
+
+
+def head(texts):
+    """What stands at the head of a page of the queue and of delays."""
+    served = [line.split(" ") for line in texts["service"].decode().splitlines()]
+    return [[int(word) for word in served[-1][18:20]], [int(word) for word in served[-2][2::2]]]
 
 
 def totals(texts):
@@ -119,6 +137,42 @@ def points(texts):
     return found
 
 
+def heights(texts, capacity, queue):
+    """Points of the lanes of service that have one colour, by the texts and by where the two lanes begin and how high they are: (the lane, a tick,
+    how far down it, the colour's name). In the middle of each run of members is the stair, and in that of each stretch the upper edge of what was
+    got, of what was lost above it, and of the queue."""
+    served = [line.split(" ") for line in texts["service"].decode().splitlines()]
+    runs = [(int(words[1]), int(words[2]), int(words[4])) for words in served if words[0] == "members"]
+    stretches = [[int(word) for word in words if word.isdigit()] for words in served if words[0] == "stretch"]
+    most = max([octets for _, _, octets in runs] + [(words[7] + words[9]) / (words[1] - words[0]) for words in stretches] + [1])
+    found, stairs = [], look_up(runs)
+
+    def up(value, scale):
+        return max(2, int(value * scale + 0.5)) if value else 0
+
+    def stair(octets):
+        return int(capacity - max(octets * ((capacity - 2) / most), 1))
+    for first, end, octets in runs:
+        if end - first > 8:
+            found.append(("capacity", (first + end) / 2, stair(octets), "ink"))
+    for words in stretches:
+        first, end, ticks = words[0], words[1], words[1] - words[0]
+        got, lost = (up(words[place] / ticks, (capacity - 2) / most) for place in (7, 9))
+        over = [stair(run[2]) for run in map(stairs, range(first, end)) if run]
+        for high, is_there, colour in ((got, got, "got"), (got + lost, lost, "cut")):
+            if is_there and all(abs(capacity - high - at) > 2 for at in over):
+                found.append(("capacity", (first + end) / 2, capacity - high, colour))
+        waits = up(words[11], (queue - 2) / 256)
+        if waits and waits < queue - 3:
+            found.append(("queue", (first + end) / 2, queue - waits, "waits"))
+        elif words[11] == 256:
+            found.append(("queue", (first + end) / 2, queue - waits + 1, "refused"))
+    for words in served:
+        if words[0] == "outage":
+            found.append(("outages", (int(words[1]) + int(words[2])) / 2, 12, "ink"))
+    return found
+
+
 class Pages:
     """Makes pages by a copy of ./vcat and view/ whose program hands out texts that are given it."""
 
@@ -134,8 +188,12 @@ class Pages:
         with open(os.path.join(self.folder, name), "wb") as out:
             out.write(data)
 
-    def make(self, name, texts, trace_status=0, fates_status=0):
-        """The path of a page of texts, and what ./vcat view said and its status."""
+    def read(self, name):
+        with open(os.path.join(self.folder, name)) as text:
+            return text.read()
+
+    def make(self, name, texts, trace_status=0, fates_status=0, service_status=0):
+        """The path of a page of texts, and what ./vcat view said and its status. The interval that was asked for is kept in a file."""
         for kind in KINDS:
             self.write(kind, texts[kind] or b"")
         self.write("crates/vcat_walk/out/vcat_walk", b"""#!/bin/sh
@@ -144,8 +202,9 @@ cd "%s" || exit 1
 case $1 in
 trace) cat report; cat trace >&2; exit %d ;;
 fates) cat fates; exit %d ;;
+service) echo "$2" > interval; cat service; exit %d ;;
 esac
-""" % (self.folder.encode(), trace_status, 2 if texts["fates"] is None else fates_status))
+""" % (self.folder.encode(), trace_status, 2 if texts["fates"] is None else fates_status, 2 if texts["service"] is None else service_status))
         os.chmod(self.program, 0o755)
         self.write(name + ".vcat", texts["script"])
         path = os.path.join(self.folder, name + ".html")
@@ -193,11 +252,11 @@ def made(lines=128, ticks=100000, frames=50000):
 
 
 def assembled(draw, script, trace, items, ticks, frames):
-    """The made script, trace, fates and report of items in order."""
+    """The made script, trace, fates, service and report of items in order."""
     spoiled = [(row, row + draw.randrange(1, 60)) for row in range(100, ticks - 100, 250)]
     fates = ["spoiled %d %d %s" % (first, end, ("container 3", "packet 7", "packet")[n % 3]) for n, (first, end) in enumerate(spoiled)]
     fates += ["segment %d %d true %d" % (end, start, end) for (_, end), (start, _) in zip(spoiled, spoiled[1:])]
-    report, got, lost, refused, seen = [], 0, 0, 0, 0
+    report, told, got, lost, refused, seen = [], [], 0, 0, 0, 0
     waiting = frames - 100
     for n, (due, text) in enumerate(items):
         if text is not None:
@@ -212,8 +271,10 @@ def assembled(draw, script, trace, items, ticks, frames):
             refused += 1
             report.append("refused %d queue" % n)
             fates.append("frame %d due %d refused queue" % (n, due))
+            told.append((fate, due, due))
             continue
         row = min(due + 60, ticks - 1)
+        told.append((fate, due, row))
         got += fate == "got"
         lost += fate not in ("got", "waits")
         rows = 0 if fate == "waits" else 3 if fate == "cut" else 2
@@ -223,5 +284,40 @@ def assembled(draw, script, trace, items, ticks, frames):
                "commands": len(items) - frames}
     fates.append("fates ticks %(t)d taken %(t)d frames %(frames)d got %(got)d lost %(lost)d waits %(waits)d refused %(bad)d starts true" % numbers)
     report.append("total ticks %(t)d taken %(t)d frames %(frames)d commands %(commands)d refused %(all)d got %(got)d" % numbers)
-    named = (("script", script), ("trace", trace), ("fates", fates), ("report", report))
+    named = (("script", script), ("trace", trace), ("fates", fates), ("service", served(draw, ticks, spoiled, told)), ("report", report))
     return {name: ("\n".join(lines) + "\n").encode() for name, lines in named}
+
+
+def served(draw, ticks, spoiled, frames):
+    """A text of service that goes with frames, which are their fates, due ticks and last rows; each is of 64 octets. The members change often."""
+    wide, runs, at = ticks // 200, [], 0
+    while at < ticks:
+        end = min(ticks, at + 16 * draw.randrange(1, 4))
+        runs.append((at, end, draw.randrange(96, 129)))
+        at = end
+    carried = [2340 * count for first, end, count in runs for _ in range(first, end)]
+    dark = [0] * ticks
+    for first, end in spoiled:
+        dark[first:end] = [1] * (end - first)
+    counts = {kind: [0] * 200 for kind in ("offered", "refused", "got", "lost")}
+    for fate, due, row in frames:
+        counts["offered"][due // wide] += 1
+        if fate != "waits":
+            counts[fate if fate in ("got", "refused") else "lost"][(due if fate == "refused" else row) // wide] += 1
+    queue = [(draw.randrange(257), wide * n + draw.randrange(wide)) for n in range(200)]
+
+    def line(word, stretches, first, end, most):
+        sums = {kind: sum(counts[kind][n] for n in stretches) for kind in counts}
+        told = " ".join("%s %d %d" % (kind, n, 64 * n) for kind, n in sums.items())
+        rest = (sum(carried[first:end]), *most, sum(dark[first:end]))
+        return "%s %d %d %s" % (word, first, end, told) + " capacity %d queue %d %d delay 60 dark %d" % rest
+    text = ["members %d %d %d %d" % (first, end, count, 2340 * count) for first, end, count in runs]
+    text += ["outage %d %d spoiled %d lost %d %d container 3" % (first, end, end - first, n % 90, 64 * (n % 90))
+             for n, (first, end) in enumerate(spoiled)]
+    text += [line("stretch", [n], wide * n, wide * n + wide, queue[n]) for n in range(200)]
+    text.append("delays least 0 half 60 most 60 greatest 60")
+    waits = sum(fate == "waits" for fate, _, _ in frames)
+    fullest = max(queue, key=lambda most: (most[0], -most[1]))
+    text.append(line("service", range(200), 0, ticks, fullest) +
+                " outages %d waits %d %d ticks %d taken %d starts true" % (len(spoiled), waits, 64 * waits, ticks, ticks))
+    return text
