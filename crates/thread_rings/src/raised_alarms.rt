@@ -39,7 +39,8 @@ fn fails_after(carry: Option<CellSign>, failed: bool) -> bool
     match carry {
         None => failed,
         Some(CellSign::Fail) => true,
-        Some(CellSign::Good | CellSign::End) => false,
+        Some(CellSign::Good) => false,
+        Some(CellSign::End) => false,
     }
 }
 

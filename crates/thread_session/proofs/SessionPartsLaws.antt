@@ -8,3 +8,4 @@ pub mod PairLaws
 pub mod EndedLaws
 pub mod SessionLaws
 pub mod OpenLaws
+pub mod BellLaws

@@ -5,3 +5,4 @@ pub mod Duty
 pub mod Laid
 pub mod Opened
 pub mod Session
+pub mod Bells

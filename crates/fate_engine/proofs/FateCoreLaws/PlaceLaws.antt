@@ -26,7 +26,7 @@ sum-next (x ∷ xs) (suc k) low =
     let more : sum_by length (take (suc (suc k)) (x ∷ xs)) ≡ length x + sum_by length (take (suc k) xs) =
     sum_by-cons length x (take (suc k) xs) in
     let less : sum_by length (take (suc k) (x ∷ xs)) ≡ length x + sum_by length (take k xs) =
-        sum_by-cons length x (take k xs) in
+    sum_by-cons length x (take k xs) in
     let own : slice_index_or (x ∷ xs) (suc k) [] ≡ slice_index_or xs k [] = refl in
     omega (arith, rest, more, less, ap length own)
 
@@ -37,7 +37,7 @@ sum-few (x ∷ xs) (suc k) few =
     let rest = sum-few xs k (λ i d inside. few (suc i) d (omega arith)) in
     let own = few zero x (omega arith) in
     let all : sum_by length (take (suc k) (x ∷ xs)) ≡ length x + sum_by length (take k xs) =
-        sum_by-cons length x (take k xs) in
+    sum_by-cons length x (take k xs) in
     omega (arith, rest, own, all)
 
 -- ---- where the rows of packets begin

@@ -58,7 +58,7 @@ begins frames begun end piece is low below from short = record {
   short = set-short frames begun piece short is.short;
   order = subst (λ l. AreInOrder 0 l (end + (8 + piece.length)))
       (sym
-          (ap (map side_of) (take_more_set frames begun piece low) ∙ map-append side_of (take begun frames) (piece ∷ [])
+      (ap (map side_of) (take_more_set frames begun piece low) ∙ map-append side_of (take begun frames) (piece ∷ [])
       ∙ ap (λ n. map side_of (take begun frames) ++ (n, n + (8 + piece.length)) ∷ []) from))
       (order-push 0 (map side_of (take begun frames)) end (end + (8 + piece.length)) is.order (omega arith));
   low = omega (arith, below, short);

@@ -138,7 +138,7 @@ late-rest t x (y ∷ xs) sorted late =
     let next : x.due ≤ y.due = sorted zero (suc zero) x (omega arith) (omega arith) in
     let later : t ≤ y.due = omega (arith, late, next) in
     filter-skip (is_come t) y xs (le-ltb y.due t later)
-        ∙ late-rest t y xs (rest-sorted (λ (offer : DueFrame). offer.due) x (y ∷ xs) sorted) later
+    ∙ late-rest t y xs (rest-sorted (λ (offer : DueFrame). offer.due) x (y ∷ xs) sorted) later
 
 come-first : (t : ℕ) (xs : List DueFrame) → IsNonDecreasingBy (λ (offer : DueFrame). offer.due) xs →
     (more : List DueFrame) × (xs ≡ filter (is_come t) xs ++ more)

@@ -155,7 +155,7 @@ fn command_words(fault: CommandFault) -> &'static [u8]
 }
 
 /// Adds that an item is refused, and why.
-fn add_refused(line: &mut TextCursor, why: Refusal)
+pub fn add_refused(line: &mut TextCursor, why: Refusal)
     requires { HasTextRoom line.old 35 }
     ensures text { Extends line.old line.new (codes "refused " ++ refusal_text why) }
     ensures end { line.new.at ≤ line.old.at + 35 }

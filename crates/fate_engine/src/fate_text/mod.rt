@@ -7,6 +7,6 @@
 mod fates_as_text;
 
 pub use fates_as_text::{
-    ROOM, Tally, ToldMark, add_cause, fate_line, fates_line, refused_line, segment_line,
-    spoiled_line, truth,
+    ROOM, Tally, ToldMark, add_cause, add_refused, fate_line, fates_line, refused_line,
+    segment_line, spoiled_line, truth,
 };

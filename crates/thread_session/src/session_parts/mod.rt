@@ -3,8 +3,9 @@
 //! sleep at their bells while they can't go on; and the ends of rings are laid beside each other at the end.
 //! Begin with `start_shares`, `Flag` and `Duty`. `gathered_law` and `ended_law`: once all lines have come to
 //! their end, containers, cells, frames and return cells are the session's. A `Bell` has no clause: it only
-//! lets threads sleep.
+//! lets threads sleep; `bell_law` is of a model of it.
 
+mod bell_law;
 mod lay_ring_ends;
 mod line_shares;
 mod line_thread;
@@ -14,6 +15,7 @@ mod sink_duty;
 mod stop_flag;
 mod thread_bell;
 
+pub use bell_law::bell_law;
 pub use lay_ring_ends::{carry_all, lay_receives, lay_sends};
 pub use line_shares::{collect, deal};
 pub use line_thread::{Held, Kept, serve_all_here, start_shares, take_all_back};

@@ -1,5 +1,6 @@
 //! Bells: a thread that can't go on looks some times whether it was rung for, and then sleeps until it is.
-//! They carry no fact: what a thread may rely on is said by flags alone.
+//! They carry no fact: what a thread may rely on is said by flags alone. `bell_law` says of their steps that no ring is
+//! lost.
 
 use std::hint;
 use std::sync::Wait;

@@ -1,8 +1,9 @@
 -- Cell by cell.
-use Rattle.std.proofs.Common.{◌≡◌, inl, inr, Bool, Option, sym, ap}
+use Rattle.std.proofs.Common.{rules, ◌≡◌, Bool, Option, Some, sym, ap}
 use Rattle.law_model.specs.Common.{Container}
 use Rattle.member_path.specs.path_delay.Carry.{carry_cells}
 use Rattle.member_path.specs.declared.cell_numbers.signs_and_verdicts.CellSign.{CellSign}
+use Rattle.member_path.specs.declared.cell_numbers.signs_and_verdicts.CellSign.TheVariants.{Good, Fail, End}
 use Rattle.thread_rings.specs.Alarms.{failed_after}
 use Rattle.thread_rings.proofs.raised_alarms.fails_after.Goals as goal
 
@@ -15,13 +16,20 @@ pub returns-in-None : goal.returns-in-None
 unfolding failed_after
 returns-in-None c container = of-carry c.args.failed container _ _ c.in-None.is
 
-pub returns-in-Fail : goal.returns-in-Fail
+pub returns-in-Some-Fail : goal.returns-in-Some-Fail
 unfolding failed_after
-returns-in-Fail c container = of-carry c.args.failed container _ _ c.in-Fail.is
+returns-in-Some-Fail c container =
+    let known : c.args.carry ≡ Some Fail = search rules in
+    of-carry c.args.failed container _ _ known
 
-pub returns-in-Good : goal.returns-in-Good
+pub returns-in-Some-Good : goal.returns-in-Some-Good
 unfolding failed_after
-returns-in-Good c container = elim c.in-Good.is [
-  | inl is ↦ of-carry c.args.failed container _ _ is
-  | inr is ↦ of-carry c.args.failed container _ _ is
-]
+returns-in-Some-Good c container =
+    let known : c.args.carry ≡ Some Good = search rules in
+    of-carry c.args.failed container _ _ known
+
+pub returns-in-Some-End : goal.returns-in-Some-End
+unfolding failed_after
+returns-in-Some-End c container =
+    let known : c.args.carry ≡ Some End = search rules in
+    of-carry c.args.failed container _ _ known

@@ -55,7 +55,7 @@ returns-else-i-len-2 c = λ rows stands.
           let m = c.len.ensures in
           sym (ap (λ l. slice_get l i) all
           ∙ slice_get_past
-              (c.args.self.now.ended ++ (if is_told c.args.self.now then c.args.self.now.last ∷ [] else [])) i
+          (c.args.self.now.ended ++ (if is_told c.args.self.now then c.args.self.now.last ∷ [] else [])) i
           (grind (arith, few, ended, n, m, w.if-i-len-2.false, c.if-i-len.false))))
     ]
   where
