@@ -14,7 +14,7 @@ import time
 
 sys.dont_write_bytecode = True
 from browser import Browser, NoBrowser
-from texts import Pages, bursts, expected, head, heights, interval, made, points, reasons, totals, walked
+from texts import Pages, at_a_rate, bursts, expected, head, heights, interval, made, points, reasons, totals, walked
 
 EXAMPLES = ("failed_member", "slip", "lost_return", "eight_lines", "queue", "refused")
 TOP = os.path.dirname(os.path.dirname(os.path.dirname(os.path.abspath(__file__))))
@@ -475,7 +475,9 @@ def run(tests, program):
         tests.counts(name, texts[name])
     example = texts["failed_member"]
     tests.painted("failed_member", example)
-    for name in ("failed_member", "slip", "queue"):
+    texts["client"] = walked(program, at_a_rate(program, example["script"]))
+    tests.counts("client", texts["client"])
+    for name in ("failed_member", "slip", "queue", "client"):
         tests.service(name, texts[name])
     for test in (tests.costs, tests.threads, tests.terms, tests.keys, tests.pointer, tests.fingers, tests.media, tests.spoken, tests.escaped,
                  tests.without_fates, tests.without_service, tests.refused, tests.dropped):

@@ -214,6 +214,12 @@ esac
         return path, done.stderr.decode(), done.returncode
 
 
+def at_a_rate(program, script):
+    """A script with a client that sends at a rate in the place of its frames."""
+    frames = subprocess.run([program, "stream", "1518", "100", "900", "1300", "7"], capture_output=True).stdout
+    return b"".join(line for line in script.splitlines(True) if not line.startswith(b"frame ")) + frames
+
+
 def bursts():
     """A script of 128 lines and 8,500 ticks, with bursts of as many frames as may wait."""
     draw = random.Random(1)

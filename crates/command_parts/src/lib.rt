@@ -8,6 +8,7 @@
 
 mod end_laws;
 mod fault_notes;
+mod lines;
 mod piece_reader;
 mod program_words;
 mod report_end;
@@ -18,6 +19,7 @@ mod whole_input;
 
 pub use end_laws::{end_law, input_law, made_law};
 pub use fault_notes::{line_fault, stop_of};
+pub use lines::faulty_line;
 pub use piece_reader::{PieceReader, read_pieces};
 pub use program_words::{NO_MEMORY, given_words};
 pub use report_end::write_rest;

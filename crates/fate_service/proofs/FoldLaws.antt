@@ -1,7 +1,7 @@
 -- A loop over a list: what a fold makes of the rest of it, one element on.
 use Rattle.std.proofs.Common.{◌≡◌, ℕ, suc, ◌+◌, ◌-◌, ◌*◌, ◌<◌, ◌≤◌, ◌&&◌, nat_le, max, Bool, true, false, List, length, drop}
 use Rattle.std.proofs.Common.{get_or, refl, sym, ap, subst, arith}
-use Rattle.std.specs.Prelude.{if◌then◌else◌}
+use Rattle.std.specs.Prelude.{if◌then◌else◌, not}
 use Rattle.std.proofs.lemmas.List.{at_drop_more, at_drop_all}
 use Rattle.fate_service.specs.declared.landed_frames.Tally.{Tally}
 use Rattle.fate_service.specs.declared.landed_frames.CarriedFrame.{CarriedFrame}
@@ -14,6 +14,8 @@ use Rattle.fate_service.specs.Frames.{with_frame, with_frame_if}
 use Rattle.fate_service.specs.RowStates.{is_dark, dark_on}
 use Rattle.fate_service.specs.Stretches.{with_offered, came_on, delay_of, with_carried, ended_on, told_on, higher, peak_on}
 use Rattle.fate_service.specs.Delays.{within_on}
+use Rattle.fate_service.specs.declared.outages.Outage.{Outage}
+use Rattle.fate_service.specs.Outages.{lost_on, with_state, outages_on}
 
 pub within-next : (n most : ℕ) (frames : List CarriedFrame) (i : ℕ) (d : CarriedFrame) → i < length frames →
     within_on n most (drop i frames)
@@ -47,6 +49,17 @@ pub ended-end : (ended : Ended) (frames : List CarriedFrame) (i : ℕ) → lengt
 unfolding ended_on
 ended-end ended frames i all = at_drop_all (ended_on ended) frames i all
 
+pub lost-next : (tally : Tally) (frames : List CarriedFrame) (i : ℕ) (d : CarriedFrame) → i < length frames →
+    lost_on tally (drop i frames)
+    ≡ lost_on (with_frame_if (not (get_or frames i d).got) tally (get_or frames i d).octets) (drop (i + 1) frames)
+unfolding lost_on
+lost-next tally frames i d low = at_drop_more (lost_on tally) frames i d low
+
+pub lost-end : (tally : Tally) (frames : List CarriedFrame) (i : ℕ) → length frames ≤ i →
+    lost_on tally (drop i frames) ≡ tally
+unfolding lost_on
+lost-end tally frames i all = at_drop_all (lost_on tally) frames i all
+
 pub dark-next : (n : ℕ) (states : List RowState) (i : ℕ) (d : RowState) → i < length states →
     dark_on n (drop i states) ≡ dark_on (if is_dark (get_or states i d) then n + 1 else n) (drop (i + 1) states)
 unfolding dark_on
@@ -65,6 +78,17 @@ pub told-end : (told : ℕ) (frames : List OfferedFrame) (i : ℕ) → length fr
     told_on told (drop i frames) ≡ told
 unfolding told_on
 told-end told frames i all = at_drop_all (told_on told) frames i all
+
+pub outages-next : (outages : List Outage) (states : List RowState) (i : ℕ) (d : RowState) → i < length states →
+    outages_on outages i (drop i states)
+    ≡ outages_on (with_state i (get_or states i d) outages) (i + 1) (drop (i + 1) states)
+unfolding outages_on
+outages-next outages states i d low = at_drop_more (outages_on outages i) states i d low
+
+pub outages-end : (outages : List Outage) (states : List RowState) (i : ℕ) → length states ≤ i →
+    outages_on outages i (drop i states) ≡ outages
+unfolding outages_on
+outages-end outages states i all = at_drop_all (outages_on outages i) states i all
 
 -- ---- how much is counted
 pub tally-few : (b : Bool) (tally : Tally) (octets n : ℕ) → tally.frames ≤ n → tally.octets ≤ 65536 * n →

@@ -5,5 +5,4 @@ pub mod ReceptionSteps
 pub mod StreamLaws
 pub mod TextLaws
 pub mod PlanLaws
-pub mod FitLaws
 pub mod SaidLaws

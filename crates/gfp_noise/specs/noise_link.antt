@@ -1,6 +1,5 @@
 pub mod NoiseTextLines
 pub mod Helps
 pub mod Noise
-pub mod Drafts
 pub mod Text
 pub mod Run

@@ -42,7 +42,7 @@ word_descrambled a n r w s h stands =
     let upper = w / 2 ^ n in
     let all = bits (n + a) w in
     let below : upper < 2 ^ a =
-        shr_below w a n (let e : 2 ^ (n + a) ≡ 2 ^ (a + n) = ap (λ k. 2 ^ k) (omega arith) in rw e at h) in
+    shr_below w a n (let e : 2 ^ (n + a) ≡ 2 ^ (a + n) = ap (λ k. 2 ^ k) (omega arith) in rw e at h) in
     let back : bits (n + a) (r * 2 ^ a + upper) ≡ bits n r ++ bits a upper =
     bits-add n a (r * 2 ^ a + upper) ∙ ap₂ ◌++◌ (ap (bits n) (shr_high r a upper below)) (bits_low a r upper) in
     descramble-append n s all

@@ -125,7 +125,7 @@ module _ (plan : Plan) (slow fast count : ℕ) (is : IsPlanOf slow fast 0 plan) 
       let p : slice_get plan.paths (length done) ≡ Some path =
       ap (λ paths. slice_get paths (length done)) parts ∙ slice_get-append_seam done path todo in
       let l : slice_get lines (length done) ≡ Some line = ap (slice_get lines) (sym size)
-          ∙ slice_get-append_seam front line back in
+      ∙ slice_get-append_seam front line back in
       let here : (step plan (of_lines s lines) (Carry (length done))).counts ≡ of_lines s (front ++ next ∷ back) =
       ap₂ (λ p l. (carry_at plan (of_lines s lines) (length done) p l).counts) p l ∙ moved in
       let longer : length (done ++ path ∷ []) ≡ suc (length done) = omega (arith, length-append done (path ∷ [])) in

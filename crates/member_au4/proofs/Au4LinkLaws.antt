@@ -3,5 +3,4 @@ pub mod AcceptLaws
 pub mod DraftLaws
 pub mod CutLaws
 pub mod CarrySteps
-pub mod FitLaws
 pub mod SaidLaws

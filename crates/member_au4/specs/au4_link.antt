@@ -4,5 +4,4 @@ pub mod Link
 pub mod Vcs
 pub mod VcText
 pub mod Text
-pub mod Drafts
 pub mod Carried

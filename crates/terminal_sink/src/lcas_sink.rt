@@ -9,8 +9,8 @@ ghost use Rattle.law_model.specs.Common.{Row, leader, ack_by, is_member, says_at
 ghost use Rattle.law_model.specs.Common.{state_next, sink_state};
 ghost use Rattle.terminal_sink.specs.lcas_sink.SinkStates.{SinkTableStands, state_at, state_after};
 
-use law_model::{MOST_LINES, Packet};
 pub use law_model::SinkState;
+use law_model::{MOST_LINES, Packet};
 use member_cells::Ctrl;
 use std::marker::Model;
 

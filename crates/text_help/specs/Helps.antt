@@ -2,6 +2,8 @@
 use Rattle.std.specs.Prelude.{ℕ, nat_le, List, ◌++◌, codes, decimal, if◌then◌else◌}
 use Rattle.text_lines.specs.declared.field_fault.FieldFault.{FieldFault}
 use Rattle.text_lines.specs.declared.field_fault.FieldFault.TheVariants.{Number, Hex, Range, Size, Name}
+use Rattle.text_lines.specs.declared.field_fault.LineFault.{LineFault}
+use Rattle.text_lines.specs.declared.field_fault.LineFault.TheVariants as wrong
 
 -- ---- of one word of a line; its place is counted from 1
 abbrev pub word_text : ℕ → List ℕ → List ℕ
@@ -35,3 +37,16 @@ missing_text first = codes "the line " ++ first ++ codes " has to stand here"
 -- this line, or part of a text, comes behind that one and has to come before it
 abbrev pub order_text : List ℕ → List ℕ → List ℕ
 order_text this that = this ++ codes " stands before " ++ that
+
+-- none of these words begins this line
+abbrev pub first_text : List ℕ → List ℕ
+first_text all = codes "a line begins with one of " ++ all
+
+-- of a line of a language, by the words of its keywords, by all of them, and by what it says of its own faults
+abbrev pub fault_text : {K O : Type 0} → (K → List ℕ) → List ℕ → (O → List ℕ) → LineFault K O → List ℕ
+fault_text word all own wrong.First = first_text all
+fault_text word all own (wrong.Count keyword takes follow) = count_text (word keyword) takes follow
+fault_text word all own (wrong.Field fault) = field_text fault
+fault_text word all own (wrong.Missing keyword) = missing_text (word keyword)
+fault_text word all own (wrong.Order this before) = order_text (word this) (word before)
+fault_text word all own (wrong.Own fault) = own fault

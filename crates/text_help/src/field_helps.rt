@@ -2,8 +2,9 @@
 ghost use Rattle.std.specs.Prelude.{◌≡◌, ◌++◌, ◌≤◌, length, take, codes, decimal};
 ghost use Rattle.text_lines.specs.declared.field_fault.FieldFault.{FieldFault};
 ghost use Rattle.text_help.specs.Helps.{word_text, bounds_text, field_text, count_text, missing_text, order_text};
+ghost use Rattle.text_help.specs.Helps.{first_text, fault_text};
 
-use text_lines::FieldFault;
+use text_lines::{FieldFault, LineFault};
 use text_report::TextCursor;
 
 /// A word of a line, by its place, and what it is.
@@ -155,4 +156,72 @@ pub fn number_help(text: &[u8], n: u64, out: &mut [u8]) -> usize
     line.text(text);
     line.decimal(n);
     line.end()
+}
+
+/// What the lines of a language begin with.
+pub trait LineWords: Copy {
+    ghost use Rattle.std.specs.Prelude.{ℕ, List, ◌≡◌, ◌≤◌, length};
+
+    /// The word of a keyword.
+    ghost text: { Self → List ℕ };
+
+    /// The words of all keywords, one after another.
+    ghost all: { List ℕ };
+
+    /// The word of a keyword.
+    fn word(self) -> &'static [u8]
+        ensures word { result.now ≡ text self }
+        ensures short { length result.now ≤ 32 };
+
+    /// The words of all keywords, one after another.
+    fn all_words() -> &'static [u8]
+        ensures words { result.now ≡ all }
+        ensures short { length result.now ≤ 64 };
+}
+
+/// What can be wrong with a line of one language alone.
+pub trait OwnFault: Copy {
+    ghost use Rattle.std.specs.Prelude.{ℕ, List, ◌≡◌, ◌≤◌, length, take};
+
+    /// What is said of how to write the line.
+    ghost told: { Self → List ℕ };
+
+    /// Writes how the line has to be.
+    fn help(self, out: &mut [u8]) -> usize
+        requires { 128 ≤ length out.old }
+        ensures within { result ≤ 128 }
+        ensures text { take result out.new ≡ told self };
+}
+
+/// Writes which words begin a line.
+fn first_help(all: &[u8], out: &mut [u8]) -> usize
+    requires short { length all.now ≤ 64 }
+    requires room { 128 ≤ length out.old }
+    ensures within { result ≤ 128 }
+    ensures text { take result out.new ≡ first_text all.now }
+{
+    let mut line = TextCursor::new(out);
+    line.text(b"a line begins with one of ");
+    line.text(all);
+    line.end()
+}
+
+/// Writes how a line has to be that has this fault.
+pub fn line_help<K: LineWords, O: OwnFault>(fault: LineFault<K, O>, out: &mut [u8]) -> usize
+    requires room { 128 ≤ length out.old }
+    ensures within { result ≤ 128 }
+    ensures text { take result out.new ≡ fault_text K.text K.all O.told fault }
+{
+    match fault {
+        LineFault::First => first_help(K::all_words(), out),
+        LineFault::Count {
+            keyword,
+            takes,
+            follow,
+        } => count_help(keyword.word(), takes, follow, out),
+        LineFault::Field(fault) => field_help(fault, out),
+        LineFault::Missing(keyword) => missing_help(keyword.word(), out),
+        LineFault::Order { this, before } => order_help(this.word(), before.word(), out),
+        LineFault::Own(fault) => fault.help(out),
+    }
 }

@@ -2,6 +2,9 @@
 
 ghost use Rattle.std.specs.Prelude.{◌≡◌};
 ghost use Rattle.text_lines.specs.declared.field_fault.FieldStop.TheVariants as stop;
+ghost use Rattle.text_lines.specs.declared.field_fault.LineFault.TheVariants as wrong;
+ghost use Rattle.text_lines.specs.declared.field_fault.LineStop.TheVariants as line;
+ghost use Rattle.text_lines.specs.Faults.{kind_of, lifted, stopped};
 ghost use Rattle.text_lines.specs.Fields.{field_kind};
 
 use std::alloc::{AllocError, AllocFailed};
@@ -95,5 +98,118 @@ impl<T: Drop> From<AllocFailed<T>> for FieldStop {
 
     fn from(_failed: AllocFailed<T>) -> FieldStop {
         FieldStop::Memory
+    }
+}
+
+/// What is wrong with a line, with what can be said of how to write it. The words that may begin a line are `K`, and
+/// `O` is what can be wrong with one in its language alone.
+#[derive(Clone, Copy, Debug, PartialEq, Eq)]
+pub enum LineFault<K, O> {
+    /// The first word is none that begins a line.
+    First,
+    /// So many words follow a keyword that takes another number of them.
+    Count { keyword: K, takes: u64, follow: u64 },
+    /// A word isn't what it has to be.
+    Field(FieldFault),
+    /// The line of this keyword has to stand here.
+    Missing(K),
+    /// The line has to stand before the one before it.
+    Order { this: K, before: K },
+    /// The lines before it leave no room for it.
+    Own(O),
+}
+
+impl<K: Copy, O: Copy> LineFault<K, O> {
+    /// Its kind.
+    pub fn kind(self) -> LineKind
+        ensures { result ≡ kind_of self }
+    {
+        match self {
+            LineFault::First | LineFault::Count { .. } => LineKind::Word,
+            LineFault::Field(fault) => fault.kind(),
+            LineFault::Missing(_) => LineKind::Missing,
+            LineFault::Order { .. } | LineFault::Own(_) => LineKind::Order,
+        }
+    }
+}
+
+impl<K, O> From<FieldFault> for LineFault<K, O> {
+    ghost from_gives = { λ fault given. given ≡ wrong.Field fault };
+
+    fn from(fault: FieldFault) -> LineFault<K, O> {
+        LineFault::Field(fault)
+    }
+}
+
+/// Why a line wasn't read.
+#[derive(Clone, Copy, Debug, PartialEq, Eq)]
+pub enum LineStop<K, O> {
+    /// It has a fault.
+    Fault(LineFault<K, O>),
+    /// There was no memory.
+    Memory,
+}
+
+impl<K, O> From<LineFault<K, O>> for LineStop<K, O> {
+    ghost from_gives = { λ fault given. given ≡ line.Fault fault };
+
+    fn from(fault: LineFault<K, O>) -> LineStop<K, O> {
+        LineStop::Fault(fault)
+    }
+}
+
+impl<K, O> From<FieldFault> for LineStop<K, O> {
+    ghost from_gives = { λ fault given. given ≡ line.Fault (wrong.Field fault) };
+
+    fn from(fault: FieldFault) -> LineStop<K, O> {
+        LineStop::Fault(LineFault::Field(fault))
+    }
+}
+
+impl<K, O> From<AllocError> for LineStop<K, O> {
+    ghost from_gives = { λ _ given. given ≡ line.Memory };
+
+    fn from(_: AllocError) -> LineStop<K, O> {
+        LineStop::Memory
+    }
+}
+
+impl<K, O, T: Drop> From<AllocFailed<T>> for LineStop<K, O> {
+    ghost from_gives = { λ _ given. given ≡ line.Memory };
+
+    fn from(_failed: AllocFailed<T>) -> LineStop<K, O> {
+        LineStop::Memory
+    }
+}
+
+impl<K, O> From<FieldStop> for LineStop<K, O> {
+    ghost from_gives = { λ why given. given ≡ lifted why };
+
+    fn from(why: FieldStop) -> LineStop<K, O> {
+        match why {
+            FieldStop::Fault(fault) => LineStop::Fault(LineFault::Field(fault)),
+            FieldStop::Memory => LineStop::Memory,
+        }
+    }
+}
+
+/// Why a text isn't read.
+#[derive(Clone, Copy, Debug, PartialEq, Eq)]
+pub enum TextFault<K, O> {
+    /// Line `number` is the first faulty one, counted from 1.
+    Line { number: u64, fault: LineFault<K, O> },
+    /// Memory is short.
+    Memory,
+}
+
+impl<K: Copy, O: Copy> LineStop<K, O> {
+    /// Why a text isn't read of which the line of this number wasn't.
+    pub(crate) fn at(self, number: u64) -> TextFault<K, O>
+        ensures { result ≡ stopped number self }
+    {
+        match self {
+            LineStop::Fault(fault) => TextFault::Line { number, fault },
+            LineStop::Memory => TextFault::Memory,
+        }
     }
 }

@@ -1,17 +1,22 @@
 //! Lines of text for every command that reads them: lines and their words, numbers within a range, hexadecimal
 //! digits, and what can be wrong with a line. `Language` of the specs is a language of lines as plain data:
 //! what a text says in it, or its first fault by number, computes (`said_by`). Which line that is stands in the
-//! laws of each language, by `first_fault` and `all_said` of proofs/. Which words a line may have isn't known
-//! here. Begin with `next_line`, and with `number_within` and `octets_within` for what a word says.
+//! laws of each language, by `first_fault` and `all_said` of proofs/. `Table` is such a language by its keywords,
+//! their places, the words behind them and what a line adds; `read_text` reads a text of it. Which words a line
+//! may have isn't known here. Begin with `LineTable`, or with `next_line`, and with `number_within` and
+//! `octets_within` for what a word says.
 #![tactic(auto)]
 
 mod field_fault;
 mod read_fields;
 mod split_text;
 mod split_words;
-pub use field_fault::{FieldFault, FieldStop, LineKind};
+mod table;
+
+pub use field_fault::{FieldFault, FieldStop, LineFault, LineKind, LineStop, TextFault};
 pub use read_fields::{number_within, octets_within};
 pub use split_text::{next_line, next_whole_line};
 pub use split_words::{
     count_words, first_word, four_words, next_word, one_word, three_words, two_words,
 };
+pub use table::{LineTable, count_fault, one_number, read_text};

@@ -5,8 +5,8 @@ ghost use Rattle.text_lines.specs.Words.{is_number, number_of, octets_of};
 ghost use Rattle.text_lines.specs.Fields.{number_fault, octets_fault, IsFieldStop};
 
 use crate::field_fault::{FieldFault, FieldStop};
-use text_hex::decode_into;
 use std::alloc::Global;
+use text_hex::decode_into;
 
 // The value of one to ten decimal digits.
 fn read_number(word: &[u8]) -> Option<u64>

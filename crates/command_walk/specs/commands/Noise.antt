@@ -1,7 +1,10 @@
 -- `noise`: frames with an FCS in a stream of which bits are turned over.
 use Rattle.std.specs.Prelude.{ℕ, List, codes, Option, Some, None, Result, Ok, Err, if◌then◌else◌}
-use Rattle.gfp_noise.specs.declared.noise_link.noise_text_fault.LineFault.{LineFault}
-use Rattle.gfp_noise.specs.noise_link.Helps.{kind_of, help_of}
+use Rattle.text_lines.specs.declared.field_fault.LineFault.{LineFault}
+use Rattle.text_lines.specs.Faults.{kind_of}
+use Rattle.gfp_noise.specs.declared.noise_link.noise_keyword.Keyword.{Keyword}
+use Rattle.gfp_noise.specs.declared.noise_link.noise_text_fault.NotRising.{NotRising}
+use Rattle.gfp_noise.specs.noise_link.Helps.{help_of}
 use Rattle.gfp_noise.specs.declared.noise_link.noise_draft.Noise.{Noise as Noises}
 use Rattle.gfp_noise.specs.noise_link.Noise.{noise_of}
 use Rattle.gfp_noise.specs.noise_link.Text.{noise_text}
@@ -15,7 +18,7 @@ abbrev pub noise_words : List (List ℕ) → Option WalkCommand
 noise_words words = if is_word (codes "noise") words then Some Noise else None
 
 -- of the frames and flips that a text says, or of its first faulty line
-abbrev pub got_through : Result Noises (ℕ × LineFault) → Answer
+abbrev pub got_through : Result Noises (ℕ × LineFault Keyword NotRising) → Answer
 got_through (Ok noise) = writes (noise_text noise)
 got_through (Err at) = refuses Line (line_text at.0 (kind_of at.1) (help_of at.1))
 

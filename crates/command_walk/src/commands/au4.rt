@@ -1,21 +1,19 @@
 //! `au4`: numbered VC-4s are carried over a link of AU-4 frames, and a line is written of each that comes whole.
 ghost use Rattle.std.specs.Prelude.{◌≡◌, ℕ, List, Ok, None, map, string_bytes};
-ghost use Rattle.command_parts.specs.Common.{reads, writes, Ends, lent, line_text};
+ghost use Rattle.command_parts.specs.Task.{reads, writes};
+ghost use Rattle.command_parts.specs.Ends.{Ends, lent};
 ghost use Rattle.member_au4.specs.declared.au4_link.au4_draft.Link.{Link};
 ghost use Rattle.member_au4.specs.au4_link.Link.{link_of};
 ghost use Rattle.member_au4.specs.au4_link.Carried.{carried_text};
-ghost use Rattle.member_au4.specs.au4_link.Helps.{kind_of, help_of};
 ghost use Rattle.command_walk.specs.commands.Au4.{au4_words, au4_answer};
 
 use crate::command_of_words::WalkCommand;
 use crate::walk_end::{WalkEnd, cut, done, stopped};
-use command_parts::{Fault, Refusal, Stop, line_fault, read_input};
-use member_au4::au4_link::{LineFault, LinkFault, link_help, read_link, write_link};
+use command_parts::{Stop, faulty_line, read_input};
+use member_au4::au4_link::{read_link, write_link};
 use octet_io::{ByteSink, ByteSource, Failed};
 use std::alloc::Global;
-
-/// Room for what is said of how to write a line.
-const HELP_ROOM: usize = 128;
+use text_lines::TextFault;
 
 /// The words `au4`.
 pub fn words(words: &[String]) -> Option<WalkCommand>
@@ -25,16 +23,6 @@ pub fn words(words: &[String]) -> Option<WalkCommand>
         [word] if word.as_str() == "au4" => Some(WalkCommand::Au4),
         _ => None,
     }
-}
-
-/// A line of the input is faulty.
-fn faulty(number: u64, fault: LineFault) -> Fault
-    ensures why { result.why ≡ Refusal.Line }
-    ensures note { result.note.items ≡ line_text number (kind_of fault) (help_of fault) }
-{
-    let mut help = [0u8; HELP_ROOM];
-    let end = link_help(fault, &mut help);
-    line_fault(number, fault.kind(), &help[..end])
 }
 
 /// Reads what the pointers of a link do, and writes what comes of numbered VC-4s on it.
@@ -55,9 +43,9 @@ pub fn au4<S: ByteSource, K: ByteSink, E: ByteSink>(
     };
     let link = match read_link(alloc, text.as_slice()) {
         Ok(link) => link,
-        Err(LinkFault::Memory) => return stopped(Stop::Memory, notes),
-        Err(LinkFault::Line { number, fault }) => {
-            return stopped(Stop::Refused(faulty(number, fault)), notes);
+        Err(TextFault::Memory) => return stopped(Stop::Memory, notes),
+        Err(TextFault::Line { number, fault }) => {
+            return stopped(Stop::Refused(faulty_line(number, fault)), notes);
         }
     };
     match write_link(&link, out) {

@@ -1,21 +1,19 @@
 //! `channels`: frames of clients share a stream by channel numbers, octets of it don't arrive, and the frames that get
 //! through are written.
 ghost use Rattle.std.specs.Prelude.{◌≡◌, ℕ, List, Ok, None, map, string_bytes};
-ghost use Rattle.command_parts.specs.Common.{reads, Ends, lent, line_text};
+ghost use Rattle.command_parts.specs.Task.{reads};
+ghost use Rattle.command_parts.specs.Ends.{Ends, lent};
 ghost use Rattle.gfp_channels.specs.declared.channel_link.channel_draft.ChannelPlan.{ChannelPlan};
 ghost use Rattle.gfp_channels.specs.channel_link.Plan.{plan_of};
-ghost use Rattle.gfp_channels.specs.channel_link.Helps.{kind_of, help_of};
 ghost use Rattle.command_walk.specs.commands.Channels.{channels_words, channels_answer, TellsPlan};
 
 use crate::command_of_words::WalkCommand;
 use crate::walk_end::{WalkEnd, cut, done, stopped};
-use command_parts::{Fault, Refusal, Stop, line_fault, read_input};
-use gfp_channels::channel_link::{ChannelRun, LineFault, PlanFault, plan_help, read_plan};
+use command_parts::{Stop, faulty_line, read_input};
+use gfp_channels::channel_link::{ChannelRun, read_plan};
 use octet_io::{ByteSink, ByteSource, Failed};
 use std::alloc::Global;
-
-/// Room for what is said of how to write a line.
-const HELP_ROOM: usize = 128;
+use text_lines::TextFault;
 
 /// The words `channels`.
 pub fn words(words: &[String]) -> Option<WalkCommand>
@@ -25,16 +23,6 @@ pub fn words(words: &[String]) -> Option<WalkCommand>
         [word] if word.as_str() == "channels" => Some(WalkCommand::Channels),
         _ => None,
     }
-}
-
-/// A line of the input is faulty.
-fn faulty(number: u64, fault: LineFault) -> Fault
-    ensures why { result.why ≡ Refusal.Line }
-    ensures note { result.note.items ≡ line_text number (kind_of fault) (help_of fault) }
-{
-    let mut help = [0u8; HELP_ROOM];
-    let end = plan_help(fault, &mut help);
-    line_fault(number, fault.kind(), &help[..end])
 }
 
 /// Reads channels, frames and cuts, and writes the frames that get through and those that are refused.
@@ -55,9 +43,9 @@ pub fn channels<S: ByteSource, K: ByteSink, E: ByteSink>(
     };
     let plan = match read_plan(alloc, text.as_slice()) {
         Ok(plan) => plan,
-        Err(PlanFault::Memory) => return stopped(Stop::Memory, notes),
-        Err(PlanFault::Line { number, fault }) => {
-            return stopped(Stop::Refused(faulty(number, fault)), notes);
+        Err(TextFault::Memory) => return stopped(Stop::Memory, notes),
+        Err(TextFault::Line { number, fault }) => {
+            return stopped(Stop::Refused(faulty_line(number, fault)), notes);
         }
     };
     let run = match ChannelRun::new(alloc, &plan) {

@@ -1,22 +1,20 @@
 //! `noise`: frames with an FCS are sent, bits of their stream are turned over, and the frames that get
 //! through are written.
 ghost use Rattle.std.specs.Prelude.{◌≡◌, ℕ, List, Ok, None, map, string_bytes};
-ghost use Rattle.command_parts.specs.Common.{reads, writes, Ends, lent, line_text};
+ghost use Rattle.command_parts.specs.Task.{reads, writes};
+ghost use Rattle.command_parts.specs.Ends.{Ends, lent};
 ghost use Rattle.gfp_noise.specs.declared.noise_link.noise_draft.Noise.{Noise};
 ghost use Rattle.gfp_noise.specs.noise_link.Noise.{noise_of};
 ghost use Rattle.gfp_noise.specs.noise_link.Text.{AreSingle, untouched_text};
-ghost use Rattle.gfp_noise.specs.noise_link.Helps.{kind_of, help_of};
 ghost use Rattle.command_walk.specs.commands.Noise.{noise_words, noise_answer};
 
 use crate::command_of_words::WalkCommand;
 use crate::walk_end::{WalkEnd, cut, done, stopped};
-use command_parts::{Fault, Refusal, Stop, line_fault, read_input};
-use gfp_noise::noise_link::{LineFault, NoiseFault, NoiseRun, noise_help, read_noise};
+use command_parts::{Stop, faulty_line, read_input};
+use gfp_noise::noise_link::{NoiseRun, read_noise};
 use octet_io::{ByteSink, ByteSource, Failed};
 use std::alloc::Global;
-
-/// Room for what is said of how to write a line.
-const HELP_ROOM: usize = 128;
+use text_lines::TextFault;
 
 /// The words `noise`.
 pub fn words(words: &[String]) -> Option<WalkCommand>
@@ -26,16 +24,6 @@ pub fn words(words: &[String]) -> Option<WalkCommand>
         [word] if word.as_str() == "noise" => Some(WalkCommand::Noise),
         _ => None,
     }
-}
-
-/// A line of the input is faulty.
-fn faulty(number: u64, fault: LineFault) -> Fault
-    ensures why { result.why ≡ Refusal.Line }
-    ensures note { result.note.items ≡ line_text number (kind_of fault) (help_of fault) }
-{
-    let mut help = [0u8; HELP_ROOM];
-    let end = noise_help(fault, &mut help);
-    line_fault(number, fault.kind(), &help[..end])
 }
 
 /// Reads frames and flips, and writes the frames that get through.
@@ -56,9 +44,9 @@ pub fn noise<S: ByteSource, K: ByteSink, E: ByteSink>(
     };
     let noise = match read_noise(alloc, text.as_slice()) {
         Ok(noise) => noise,
-        Err(NoiseFault::Memory) => return stopped(Stop::Memory, notes),
-        Err(NoiseFault::Line { number, fault }) => {
-            return stopped(Stop::Refused(faulty(number, fault)), notes);
+        Err(TextFault::Memory) => return stopped(Stop::Memory, notes),
+        Err(TextFault::Line { number, fault }) => {
+            return stopped(Stop::Refused(faulty_line(number, fault)), notes);
         }
     };
     let run = match NoiseRun::new(alloc, &noise) {

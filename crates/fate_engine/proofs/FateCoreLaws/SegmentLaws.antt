@@ -170,6 +170,17 @@ spoiled-next t (first ∷ rows) row all =
       | inr cut ↦ absurd (let e : t ≡ t + suc (length rows) = rw cut at all in omega (arith, e))
     ]
 
+pub spoiled-within : (t : ℕ) (rows : List StreamRow) → (t ≤ spoiled_from t rows) ×
+    (spoiled_from t rows ≤ t + length rows)
+unfolding spoiled_from
+spoiled-within t [] = (omega arith, omega arith)
+spoiled-within t (row ∷ rows) =
+    let rest = spoiled-within (suc t) rows in
+    elim (cases_Bool row.whole) [
+      | inl whole ↦ rw whole (omega (arith, rest.0), omega (arith, rest.1))
+      | inr cut ↦ rw cut (omega arith, omega arith)
+    ]
+
 pub spoiled-same : (t : ℕ) (rows : List StreamRow) (r : ℕ) → t ≤ r → r < spoiled_from t rows →
     spoiled_from t rows ≡ spoiled_from r (drop (r - t) rows)
 unfolding spoiled_from

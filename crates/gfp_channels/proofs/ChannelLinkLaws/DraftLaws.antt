@@ -1,63 +1,35 @@
--- The lines of a text, one line on and at the end; what a draft meets, the draft after one more line meets as well.
-use Rattle.std.proofs.Common.{◌≡◌, ℕ, ◌+◌, ◌<◌, ◌≤◌, true, false, List, [], ◌∷◌, ◌++◌, refl, sym, ◌∙◌, ap, subst, arith}
-use Rattle.std.specs.Prelude.{None, Some, Ok, Err, nat_lt}
-use Rattle.std.proofs.lemmas.Bool.Decides.{nat_tests}
+-- What a draft meets, the draft after one more line meets as well.
+use Rattle.std.proofs.Common.{◌≡◌, ℕ, ◌+◌, ◌<◌, ◌≤◌, nat_lt, List, [], ◌∷◌, ◌++◌, All, refl, sym, subst, arith}
+use Rattle.std.specs.List.{fold}
+use Rattle.std.proofs.lemmas.Bool.{ltb-false}
 use Rattle.std.proofs.lemmas.List.Sums.{fold-append}
 use Rattle.std.proofs.lemmas.List.Elements.{All-nil, All-cons, All-append}
-use Rattle.text_lines.specs.Words.{words}
-use Rattle.text_lines.specs.Language.{said_from, said_by}
-use Rattle.text_lines.proofs.LanguageLaws.{line_faulty, line_sound, end_missing, end_sound}
+use Rattle.text_lines.specs.Words.{word_at, number_at}
+use Rattle.text_lines.specs.Fields.{within, any, above, digits}
+use Rattle.text_lines.specs.Table.{next_by}
+use Rattle.text_lines.proofs.FieldLaws.{where_none, number_ok, digits_ok, one_field, two_fields}
+use Rattle.text_lines.proofs.TableLaws.{IsPlaced, IsSound, Keeps}
 use Rattle.gfp_model.specs.declared.linear_model.Cut.{Cut}
-use Rattle.gfp_channels.specs.declared.channel_link.channel_text_fault.LineFault.{LineFault}
-use Rattle.gfp_channels.specs.declared.channel_link.channel_text_fault.LineFault.TheVariants.{Missing}
-use Rattle.gfp_channels.specs.declared.channel_link.channel_text_fault.LineStop.{LineStop}
-use Rattle.gfp_channels.specs.declared.channel_link.channel_text_fault.LineStop.TheVariants as stop
+use Rattle.gfp_channels.specs.declared.channel_link.channel_keyword.Keyword.{Keyword}
+use Rattle.gfp_channels.specs.declared.channel_link.channel_keyword.Keyword.TheVariants as word
 use Rattle.gfp_channels.specs.declared.channel_link.channel_draft.Draft.{Draft}
-use Rattle.gfp_channels.specs.declared.channel_link.channel_draft.Statement.{Statement}
-use Rattle.gfp_channels.specs.declared.channel_link.channel_draft.Statement.TheVariants as says
-use Rattle.gfp_channels.specs.channel_link.ChannelTextLines.{awaited, words_fault, words_said, after, at_first, missing_line, plan_lines}
-use Rattle.gfp_channels.specs.channel_link.Plan.{plan_of_draft, plan_of, AreCuts, IsOfOctets, IsPlanFault}
-use Rattle.gfp_channels.specs.channel_link.Drafts.{end_behind, stopped, IsDraft, IsLineStop, Fits}
+use Rattle.gfp_channels.specs.channel_link.ChannelTextLines.{place, overlap, offer_said, cut_said, with_cut, after}
+use Rattle.gfp_channels.specs.channel_link.ChannelTextLines.{at_first, plan_table}
+use Rattle.gfp_channels.specs.channel_link.Plan.{AreCuts, IsOfOctets}
 
--- ---- the text
--- a line without a fault
-pub line_said : (n : ℕ) (d new : Draft) (all : List (List ℕ)) (l : List ℕ) (ls : List (List ℕ)) (said : Statement)
-    → all ≡ l ∷ ls → words_fault d (words l) ≡ None → said ≡ words_said (words l) → new ≡ after d said
-    → said_from plan_lines n d all ≡ said_from plan_lines (n + 1) new ls
-line_said n d new all l ls said first none says is =
-    line_sound plan_lines n d new all l ls first none (is ∙ ap (λ (r : Statement). after d r) says)
+-- where the last cut ends, from a place on
+abbrev end_behind : ℕ → List Cut → ℕ
+end_behind place cuts = fold (λ n cut. cut.end) place cuts
 
--- a line that has one
-line_told : (text : List ℕ) (n : ℕ) (d : Draft) (all : List (List ℕ)) (l : List ℕ) (ls : List (List ℕ))
-    (fault : LineFault)
-    → said_by plan_lines text ≡ said_from plan_lines n d all → all ≡ l ∷ ls → words_fault d (words l) ≡ Some fault
-    → plan_of text ≡ Err (n, fault)
-line_told text n d all l ls fault same first fails =
-    ap plan_of_draft (same ∙ line_faulty plan_lines n d all l ls fault first fails)
-
--- or wasn't read
-pub line_stopped : (text : List ℕ) (n : ℕ) (d : Draft) (all : List (List ℕ)) (l : List ℕ) (ls : List (List ℕ))
-    (why : LineStop)
-    → said_by plan_lines text ≡ said_from plan_lines n d all → all ≡ l ∷ ls → IsLineStop why (words_fault d (words l))
-    → IsPlanFault text (stopped n why)
-line_stopped text n d all l ls (stop.Fault fault) same first fails = line_told text n d all l ls fault same first fails
-line_stopped text n d all l ls stop.Memory same first fails = tt
-
--- ---- after the last line
-pub short_told : (text : List ℕ) (n : ℕ) (d : Draft) (all : List (List ℕ))
-    → said_by plan_lines text ≡ said_from plan_lines n d all → all ≡ [] → d.next < 2
-    → plan_of text ≡ Err (n, Missing (awaited d.next))
-short_told text n d all same none less =
-    let yes : nat_lt d.next 2 ≡ true = grind (arith, nat_tests, less) in
-    let misses : missing_line d ≡ Some (Missing (awaited d.next)) = rw yes refl in
-    ap plan_of_draft (same ∙ end_missing plan_lines n d all (Missing (awaited d.next)) none misses)
-
-pub whole_said : (text : List ℕ) (n : ℕ) (d : Draft) (all : List (List ℕ))
-    → said_by plan_lines text ≡ said_from plan_lines n d all → all ≡ [] → 2 ≤ d.next → said_by plan_lines text ≡ Ok d
-whole_said text n d all same none least =
-    let no : nat_lt d.next 2 ≡ false = grind (arith, nat_tests, least) in
-    let whole : missing_line d ≡ None = rw no refl in
-    same ∙ end_sound plan_lines n d all none whole
+-- what is said where the next line may stand from a place on
+pub record IsDraft (next : ℕ) (d : Draft) : Type 0 where
+  pub channels : 1 ≤ next → (1 ≤ d.channels) × (d.channels ≤ 256)
+  pub octets : 2 ≤ next → 1 ≤ d.octets
+  pub few : d.octets ≤ 100000000
+  pub frames : All IsOfOctets d.offers
+  pub none : next ≤ 2 → d.cuts ≡ []
+  pub cuts : AreCuts 0 d.octets d.cuts
+  pub end : d.end ≡ end_behind 0 d.cuts
 
 -- ---- a cut more
 cuts-more : (place most : ℕ) (cuts : List Cut) (cut : Cut) → AreCuts place most cuts → end_behind place cuts ≤ cut.first
@@ -67,18 +39,26 @@ cuts-more place most [] cut are behind some inside = (behind, some, inside, tt)
 cuts-more place most (first ∷ cuts) cut are behind some inside =
     (are.0, are.1, are.2, cuts-more first.end most cuts cut are.3 behind some inside)
 
-behind-more : (cuts : List Cut) (cut : Cut) → cut.end ≡ end_behind 0 (cuts ++ cut ∷ [])
-behind-more cuts cut = sym (fold-append (λ n cut. cut.end) 0 cuts (cut ∷ []))
+cut-more : (next : ℕ) (d : Draft) (cut : Cut) → IsDraft next d → 2 ≤ next → d.end ≤ cut.first → cut.first < cut.end
+    → cut.end ≤ d.octets → IsDraft 3 (with_cut d cut)
+cut-more next d cut is late behind some inside = record {
+  channels = λ at. is.channels (omega (arith, late));
+  octets = λ at. is.octets late;
+  few = is.few;
+  frames = is.frames;
+  none = λ low. absurd (omega (arith, low));
+  cuts = cuts-more 0 d.octets d.cuts cut is.cuts (subst (λ n. n ≤ cut.first) is.end behind) some inside;
+  end = sym (fold-append (λ n cut. cut.end) 0 d.cuts (cut ∷ []));
+}
 
 no-cuts : (most : ℕ) (cuts : List Cut) → cuts ≡ [] → AreCuts 0 most cuts
 unfolding AreCuts
 no-cuts most cuts none = subst (AreCuts 0 most) (sym none) tt
 
--- ---- a draft
-pub draft-first : IsDraft at_first
+-- ---- a line more
+draft-first : IsDraft 0 at_first
 unfolding AreCuts
 draft-first = record {
-  place = omega arith;
   channels = λ at. absurd (omega (arith, at));
   octets = λ at. absurd (omega (arith, at));
   few = omega arith;
@@ -88,47 +68,54 @@ draft-first = record {
   end = refl;
 }
 
-pub draft-after : (d : Draft) (said : Statement) → IsDraft d → Fits d said → IsDraft (after d said)
-draft-after d says.Nothing is fits = is
-draft-after d (says.Channels count) is fits = record {
-  place = omega arith;
-  channels = λ at. (fits.1, fits.2);
-  octets = λ at. absurd (omega (arith, at));
-  few = is.few;
-  frames = is.frames;
-  none = λ low. is.none (let at = fits.0 in omega (arith, at));
-  cuts = is.cuts;
-  end = is.end;
-}
-draft-after d (says.Octets count) is fits = record {
-  place = omega arith;
-  channels = λ at. is.channels (let first = fits.0 in omega (arith, first));
-  octets = λ at. fits.1;
-  few = fits.2;
-  frames = is.frames;
-  none = λ low. is.none (let at = fits.0 in omega (arith, at));
-  cuts = no-cuts count d.cuts (is.none (let at = fits.0 in omega (arith, at)));
-  end = is.end;
-}
-draft-after d (says.Offer offer) is fits = record {
-  place = is.place;
-  channels = is.channels;
-  octets = is.octets;
-  few = is.few;
-  frames = All-append IsOfOctets d.offers (offer ∷ []) is.frames
-      (All-cons IsOfOctets offer [] fits.1 (All-nil IsOfOctets));
-  none = is.none;
-  cuts = is.cuts;
-  end = is.end;
-}
-draft-after d (says.Cut cut) is fits = record {
-  place = omega arith;
-  channels = λ at. is.channels (let least = fits.0 in omega (arith, least));
-  octets = λ at. is.octets fits.0;
-  few = is.few;
-  frames = is.frames;
-  none = λ low. absurd (omega (arith, low));
-  cuts =
-      cuts-more 0 d.octets d.cuts cut is.cuts (subst (λ n. n ≤ cut.first) is.end fits.1) fits.2 fits.3;
-  end = behind-more d.cuts cut;
-}
+draft-after : (next : ℕ) (d : Draft) (k : Keyword) (ws : List (List ℕ)) → IsDraft next d → IsPlaced 2 next (place k)
+    → IsSound plan_table d k ws → IsDraft (next_by plan_table k) (after d k ws)
+draft-after next d word.Channels ws is at fine =
+    let count = number_ok 2 1 256 (word_at 0 ws) (one_field (within 1 256) 2 ws fine.count fine.each) in
+    let first : next ≡ 0 = at.early (omega arith) in
+    record {
+      channels = λ late. count;
+      octets = λ late. absurd (omega (arith, late));
+      few = is.few;
+      frames = is.frames;
+      none = λ low. is.none (omega (arith, first));
+      cuts = is.cuts;
+      end = is.end;
+    }
+draft-after next d word.Octets ws is at fine =
+    let count = number_ok 2 1 100000000 (word_at 0 ws) (one_field (within 1 100000000) 2 ws fine.count fine.each) in
+    let second : next ≡ 1 = at.early (omega arith) in
+    let none = is.none (omega (arith, second)) in
+    record {
+      channels = λ late. is.channels (omega (arith, second));
+      octets = λ late. count.0;
+      few = count.1;
+      frames = is.frames;
+      none = λ low. none;
+      cuts = no-cuts (number_at 0 ws) d.cuts none;
+      end = is.end;
+    }
+draft-after next d word.Frame ws is at fine =
+    let two = two_fields (within 0 255) (digits 1 65535) 2 0 ws fine.count fine.each in
+    let late = at.late (omega arith) in
+    let fits = at.fits in
+    record {
+      channels = λ most. is.channels (omega (arith, late));
+      octets = λ most. is.octets late;
+      few = is.few;
+      frames =
+          All-append IsOfOctets d.offers (offer_said ws ∷ []) is.frames
+          (All-cons IsOfOctets (offer_said ws) [] (digits_ok 3 1 65535 (word_at 1 ws) two.1).each (All-nil IsOfOctets));
+      none = λ low. is.none fits;
+      cuts = is.cuts;
+      end = is.end;
+    }
+draft-after next d word.Cut ws is at fine =
+    let two = two_fields any (above d.octets) 2 0 ws fine.count fine.each in
+    let end = number_ok 3 (number_at 0 ws + 1) d.octets (word_at 1 ws) two.1 in
+    cut-more next d (cut_said ws) is (at.late (omega arith))
+    (ltb-false (number_at 0 ws) d.end (where_none (nat_lt (number_at 0 ws) d.end) (overlap d) fine.own))
+    (let some : number_at 0 ws < number_at 1 ws = omega (arith, end.0) in some) end.1
+
+pub plan-keeps : Keeps plan_table IsDraft
+plan-keeps = record { first = draft-first; after = draft-after }

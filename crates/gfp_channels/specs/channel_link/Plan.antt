@@ -1,30 +1,21 @@
 -- The plan that a text says, or its first fault.
-use Rattle.std.specs.Prelude.{◌≡◌, ⊤, ◌≤◌, ◌<◌, ◌^◌, ℕ, List, [], ◌∷◌, All, Result, Ok, Err}
-use Rattle.text_lines.specs.Language.{said_by}
+use Rattle.std.specs.Prelude.{⊤, ◌≤◌, ◌<◌, ◌^◌, ℕ, List, [], ◌∷◌, All, Result}
+use Rattle.text_lines.specs.Table.{said_in, formed}
+use Rattle.text_lines.specs.declared.field_fault.LineFault.{LineFault}
 use Rattle.gfp_model.specs.declared.linear_model.Cut.{Cut}
-use Rattle.gfp_channels.specs.declared.channel_link.channel_text_fault.LineFault.{LineFault}
+use Rattle.gfp_channels.specs.declared.channel_link.channel_keyword.Keyword.{Keyword}
+use Rattle.gfp_channels.specs.declared.channel_link.channel_text_fault.Overlap.{Overlap}
 use Rattle.gfp_channels.specs.declared.channel_link.channel_draft.Draft.{Draft}
 use Rattle.gfp_channels.specs.declared.channel_link.channel_draft.Offer.{Offer}
 use Rattle.gfp_channels.specs.declared.channel_link.channel_draft.ChannelPlan.{ChannelPlan}
-use Rattle.gfp_channels.specs.declared.channel_link.read_channel_text.PlanFault.{PlanFault}
-use Rattle.gfp_channels.specs.declared.channel_link.read_channel_text.PlanFault.TheVariants as fault
-use Rattle.gfp_channels.specs.channel_link.ChannelTextLines.{plan_lines}
+use Rattle.gfp_channels.specs.channel_link.ChannelTextLines.{plan_table}
 
 abbrev pub plan_in : Draft → ChannelPlan
 plan_in d = record { channels = d.channels; octets = d.octets; offers = d.offers; cuts = d.cuts }
 
-abbrev pub plan_of_draft : Result Draft (ℕ × LineFault) → Result ChannelPlan (ℕ × LineFault)
-plan_of_draft (Ok d) = Ok (plan_in d)
-plan_of_draft (Err at) = Err at
-
 -- a plan, or the number of the first faulty line, counted from 1, and what is wrong with it
-abbrev pub plan_of : List ℕ → Result ChannelPlan (ℕ × LineFault)
-plan_of text = plan_of_draft (said_by plan_lines text)
-
--- a text has this fault; none wants for memory
-abbrev pub IsPlanFault : List ℕ → PlanFault → Type 0
-IsPlanFault text (fault.Line number wrong) = plan_of text ≡ Err (number, wrong)
-IsPlanFault text fault.Memory = ⊤
+abbrev pub plan_of : List ℕ → Result ChannelPlan (ℕ × LineFault Keyword Overlap)
+plan_of text = formed plan_in (said_in plan_table text)
 
 -- cuts that have octets, none of which is before a place or behind another one, and each begins where the one before it
 -- ends or later

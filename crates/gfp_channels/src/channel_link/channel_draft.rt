@@ -1,7 +1,6 @@
-//! What a line of a text of channels says, and what its lines so far say.
+//! What a text of channels says, and what its lines so far say.
 ghost use Rattle.std.specs.Prelude.{◌≡◌, length};
 
-use crate::channel_link::channel_keyword::Keyword;
 use gfp_model::linear_model::Cut;
 use law_model::Octets;
 use std::marker::Model;
@@ -63,28 +62,9 @@ pub struct ChannelPlan {
     pub cuts: CutList,
 }
 
-/// What a line says.
-#[derive(Drop)]
-pub(super) enum Statement {
-    /// Nothing: it has no words, or is a comment.
-    Nothing,
-    /// The number of channels.
-    Channels(u16),
-    /// The number of octets of the stream.
-    Octets(u32),
-    /// A frame.
-    Offer(Offer),
-    /// A cut.
-    Cut(Cut),
-}
-
 /// What the lines so far say.
 #[derive(Drop)]
 pub(super) struct Draft {
-    /// The place in the order of a text from which the next line may stand.
-    pub next: u8,
-    /// The keyword of the last line.
-    pub last: Keyword,
     /// The number of channels.
     pub channels: u16,
     /// The number of octets of the stream.

@@ -1,9 +1,8 @@
-//! The words that may begin a line, and the place of each in the order of a text.
-ghost use Rattle.std.specs.Prelude.{◌≡◌, IfErr, OnOk, None, Some};
-ghost use Rattle.gfp_channels.specs.channel_link.ChannelTextLines.{keyword_of, place, awaited, place_fault};
-ghost use Rattle.gfp_channels.specs.channel_link.Drafts.{IsPlaced};
+//! The words that may begin a line.
+ghost use Rattle.std.specs.Prelude.{◌≡◌};
+ghost use Rattle.gfp_channels.specs.channel_link.ChannelTextLines.{keyword_of};
 
-use crate::channel_link::channel_text_fault::LineFault;
+use text_help::LineWords;
 
 /// The words that may begin a line, in the order of a text.
 #[derive(Clone, Copy, Debug, PartialEq, Eq)]
@@ -35,46 +34,26 @@ impl Keyword {
             None
         }
     }
+}
 
-    /// Its place: 0 and 1 are the lines that have to be there, 2 is that of frames and 3 that of cuts.
-    pub(super) fn place(self) -> u8
-        ensures { result ≡ place self }
-    {
+impl LineWords for Keyword {
+    ghost use Rattle.std.specs.Prelude.{codes};
+    ghost use Rattle.gfp_channels.specs.channel_link.Helps.{keyword_text};
+
+    ghost text = { keyword_text };
+
+    ghost all = { codes "channels, octets, frame, cut" };
+
+    fn word(self) -> &'static [u8] {
         match self {
-            Keyword::Channels => 0,
-            Keyword::Octets => 1,
-            Keyword::Frame => 2,
-            Keyword::Cut => 3,
+            Keyword::Channels => b"channels",
+            Keyword::Octets => b"octets",
+            Keyword::Frame => b"frame",
+            Keyword::Cut => b"cut",
         }
     }
-}
 
-/// The keyword of the line that has to stand at a place before that of frames.
-pub(super) fn awaited_at(next: u8) -> Keyword
-    ensures { result ≡ awaited next }
-{
-    if next == 0 {
-        Keyword::Channels
-    } else {
-        Keyword::Octets
+    fn all_words() -> &'static [u8] {
+        b"channels, octets, frame, cut"
     }
-}
-
-/// Tests whether a line may stand where `next` is the next place, after the line of `before`.
-pub(super) fn check_place(next: u8, keyword: Keyword, before: Keyword) -> Result<(), LineFault>
-    ensures ok { OnOk result (place_fault next keyword before ≡ None) }
-    ensures err { IfErr result (λ fault. place_fault next keyword before ≡ Some fault) }
-    ensures stands { OnOk result (IsPlaced next (place keyword)) }
-{
-    let at = keyword.place();
-    if next < 2 && at != next {
-        return Err(LineFault::Missing(awaited_at(next)));
-    }
-    if at < next {
-        return Err(LineFault::Order {
-            this: keyword,
-            before,
-        });
-    }
-    Ok(())
 }

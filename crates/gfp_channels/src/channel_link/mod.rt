@@ -1,15 +1,16 @@
 //! Clients that share a stream by channel numbers: what a text says of channels, frames and cuts, and the lines
-//! of the frames that get through. The language is a definition that computes, `plan_of`: lines, words, and for
-//! each line the first fault that it has or what it adds to the lines before it; the reader gives just that, in
-//! one pass. How frames are queued, sent and received is in `gfp_linear`. Begin with `read_plan` and
+//! of the frames that get through. The language is a table, `plan_table`, and what a text says computes from it,
+//! `plan_of`; the reader gives just that, in one pass. How frames are queued, sent and received is in `gfp_linear`. Begin with `read_plan` and
 //! `ChannelRun`; `plan_law` says what of each channel is carried and delivered, and `text_law` what is then
 //! written of a text.
 
 ghost use Rattle.std.specs.Prelude.{◌≡◌, ◌↔◌, ℕ, List, [], length, take, Ok, Err};
 ghost use Rattle.std.specs.Str.Lines.{lines};
 ghost use Rattle.text_lines.specs.FirstFault.{IsFirstFault};
-ghost use Rattle.gfp_channels.specs.declared.channel_link.channel_text_fault.LineFault.{LineFault};
-ghost use Rattle.gfp_channels.specs.channel_link.ChannelTextLines.{at_first, plan_lines};
+ghost use Rattle.text_lines.specs.declared.field_fault.LineFault.{LineFault};
+ghost use Rattle.gfp_channels.specs.declared.channel_link.channel_keyword.Keyword.{Keyword};
+ghost use Rattle.gfp_channels.specs.declared.channel_link.channel_text_fault.Overlap.{Overlap};
+ghost use Rattle.gfp_channels.specs.channel_link.ChannelTextLines.{plan_lines};
 ghost use Rattle.gfp_channels.specs.declared.channel_link.channel_draft.ChannelPlan.{ChannelPlan};
 ghost use Rattle.gfp_channels.specs.channel_link.Plan.{plan_of, IsPlan};
 ghost use Rattle.gfp_channels.specs.channel_link.Text.{plan_text};
@@ -17,7 +18,6 @@ ghost use Rattle.gfp_channels.specs.channel_link.Delivered.{HasTrueStarts, accep
 ghost use Rattle.gfp_channels.specs.channel_link.Delivered.{IsPlanReport};
 
 mod channel_draft;
-mod channel_helps;
 mod channel_keyword;
 mod channel_reception;
 mod channel_report;
@@ -27,17 +27,16 @@ mod channel_text_fault;
 mod read_channel_text;
 
 pub use channel_draft::{ChannelPlan, CutList, Offer, OfferList};
-pub use channel_helps::plan_help;
 pub use channel_keyword::Keyword;
 pub use channel_run::ChannelRun;
-pub use channel_text_fault::LineFault;
-pub use read_channel_text::{PlanFault, read_plan};
+pub use channel_text_fault::Overlap;
+pub use read_channel_text::read_plan;
 
 /// A text has the fault of a line exactly where that line is faulty after lines none of which is.
 pub fn fault_law()
-    ensures { (text : List ℕ) (number : ℕ) (fault : LineFault) →
+    ensures { (text : List ℕ) (number : ℕ) (fault : LineFault Keyword Overlap) →
         (plan_of text ≡ Err (number, fault))
-        ↔ IsFirstFault plan_lines 1 at_first (lines text) number fault }
+        ↔ IsFirstFault plan_lines 1 plan_lines.first (lines text) number fault }
 {}
 
 /// Of each channel of a plan: the frames that its stream carries whole are, in order, the first of those that were

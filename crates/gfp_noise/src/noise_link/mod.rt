@@ -1,7 +1,6 @@
 //! Frames with an FCS in a stream with bit errors: what a text says of frames and errors, and the lines of the
-//! frames that get through. The language is a definition that computes, `noise_of`: lines, words, and for each
-//! line the first fault that it has or what it adds to the lines before it; the reader gives just that, in one
-//! pass. How frames are sent and received is in `gfp_fcs`. Begin with `read_noise` and `NoiseRun`; `noise_law`
+//! frames that get through. The language is a table, `noise_table`, and what a text says computes from it,
+//! `noise_of`; the reader gives just that, in one pass. How frames are sent and received is in `gfp_fcs`. Begin with `read_noise` and `NoiseRun`; `noise_law`
 //! says which frames are delivered if errors are single, and `text_law` what is then written of a text.
 
 ghost use Rattle.std.specs.Prelude.{◌≡◌, ◌↔◌, ℕ, List, Ok, Err};
@@ -10,13 +9,14 @@ ghost use Rattle.gfp_noise.specs.gfp_fcs.Delineator.{fcs_outcomes};
 ghost use Rattle.gfp_noise.specs.noise_link.Text.{received, delivered, untouched, AreSingle, noise_text, untouched_text};
 ghost use Rattle.std.specs.Str.Lines.{lines};
 ghost use Rattle.text_lines.specs.FirstFault.{IsFirstFault};
-ghost use Rattle.gfp_noise.specs.declared.noise_link.noise_text_fault.LineFault.{LineFault};
-ghost use Rattle.gfp_noise.specs.noise_link.NoiseTextLines.{at_first, noise_lines};
+ghost use Rattle.text_lines.specs.declared.field_fault.LineFault.{LineFault};
+ghost use Rattle.gfp_noise.specs.declared.noise_link.noise_keyword.Keyword.{Keyword};
+ghost use Rattle.gfp_noise.specs.declared.noise_link.noise_text_fault.NotRising.{NotRising};
+ghost use Rattle.gfp_noise.specs.noise_link.NoiseTextLines.{noise_lines};
 ghost use Rattle.gfp_noise.specs.noise_link.Noise.{noise_of, IsNoise};
 
 mod noise_draft;
 mod noise_end_text;
-mod noise_helps;
 mod noise_keyword;
 mod noise_reception;
 mod noise_run;
@@ -26,17 +26,16 @@ mod noisy_stream;
 mod read_noise_text;
 
 pub use noise_draft::{FlipList, FrameList, Noise};
-pub use noise_helps::noise_help;
 pub use noise_keyword::Keyword;
 pub use noise_run::NoiseRun;
-pub use noise_text_fault::LineFault;
-pub use read_noise_text::{NoiseFault, read_noise};
+pub use noise_text_fault::NotRising;
+pub use read_noise_text::read_noise;
 
 /// A text has the fault of a line exactly where that line is faulty after lines none of which is.
 pub fn fault_law()
-    ensures { (text : List ℕ) (number : ℕ) (fault : LineFault) →
+    ensures { (text : List ℕ) (number : ℕ) (fault : LineFault Keyword NotRising) →
         (noise_of text ≡ Err (number, fault))
-        ↔ IsFirstFault noise_lines 1 at_first (lines text) number fault }
+        ↔ IsFirstFault noise_lines 1 noise_lines.first (lines text) number fault }
 {}
 
 /// Where the two idles have no flip, each other core header has one at most, and each area with the 43 area

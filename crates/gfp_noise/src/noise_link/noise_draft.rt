@@ -1,4 +1,4 @@
-//! What a line of a noise's text says, and what its lines so far say.
+//! What a noise's text says, and what its lines so far say.
 ghost use Rattle.std.specs.Prelude.{◌≡◌, length};
 
 use gfp_model::fcs_model::Flip;
@@ -55,17 +55,6 @@ pub struct Noise {
     pub frames: FrameList,
     /// The flips, by rising places.
     pub flips: FlipList,
-}
-
-/// What a line says.
-#[derive(Drop)]
-pub(super) enum Statement {
-    /// Nothing: it has no words, or is a comment.
-    Nothing,
-    /// A frame.
-    Frame(Octets),
-    /// A flip.
-    Flip(Flip),
 }
 
 /// What the lines so far say.

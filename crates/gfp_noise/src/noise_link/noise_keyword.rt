@@ -2,6 +2,8 @@
 ghost use Rattle.std.specs.Prelude.{◌≡◌};
 ghost use Rattle.gfp_noise.specs.noise_link.NoiseTextLines.{keyword_of};
 
+use text_help::LineWords;
+
 /// The words that may begin a line, in the order of a text.
 #[derive(Clone, Copy, Debug, PartialEq, Eq)]
 pub enum Keyword {
@@ -23,5 +25,25 @@ impl Keyword {
         } else {
             None
         }
+    }
+}
+
+impl LineWords for Keyword {
+    ghost use Rattle.std.specs.Prelude.{codes};
+    ghost use Rattle.gfp_noise.specs.noise_link.Helps.{keyword_text};
+
+    ghost text = { keyword_text };
+
+    ghost all = { codes "frame, flip" };
+
+    fn word(self) -> &'static [u8] {
+        match self {
+            Keyword::Frame => b"frame",
+            Keyword::Flip => b"flip",
+        }
+    }
+
+    fn all_words() -> &'static [u8] {
+        b"frame, flip"
     }
 }

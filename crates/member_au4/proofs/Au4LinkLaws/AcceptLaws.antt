@@ -13,7 +13,13 @@ use Rattle.member_au4.specs.au4_pointer.Word.{next_wait, new_wait, move_wait, to
 use Rattle.member_au4.specs.au4_pointer.Sent.{AreAccepted}
 use Rattle.member_au4.proofs.Au4PointerLaws.LinkSteps.{accepted-more}
 use Rattle.member_au4.specs.au4_link.LinkTextLines.{least_next}
-use Rattle.member_au4.specs.au4_link.Drafts.{IsAct}
+
+-- an action that a frame may have
+abbrev pub IsAct : ℕ → Action → Type 0
+IsAct frame Keep = ⊥
+IsAct frame Up = 1 ≤ frame
+IsAct frame Down = 1 ≤ frame
+IsAct frame (New p) = p ≤ 782
 
 -- ---- how long is to wait
 at-most : (w : ℕ) (actions : List Action) → w ≤ 3 → fold next_wait w actions ≤ 3

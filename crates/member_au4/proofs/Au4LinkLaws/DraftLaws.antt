@@ -1,55 +1,25 @@
--- The lines of a text, one line on and at the end; what a draft meets, the draft after one more line meets as well.
-use Rattle.std.proofs.Common.{◌≡◌, ℕ, ◌+◌, ◌-◌, ◌<◌, ◌≤◌, true, false, List, [], ◌∷◌, ◌++◌, length, replicate, refl}
-use Rattle.std.proofs.Common.{sym, ◌∙◌, ap, arith, length-append, None, Some, Ok, Err, nat_lt, append_assoc}
-use Rattle.std.proofs.lemmas.Bool.Decides.{nat_tests}
-use Rattle.std.proofs.lemmas.List.{length-replicate, replicate-append-replicate}
-use Rattle.member_au4.specs.declared.au4_link.au4_text_fault.LineFault.{LineFault}
-use Rattle.member_au4.specs.declared.au4_link.au4_text_fault.LineFault.TheVariants.{Missing}
-use Rattle.text_lines.specs.Words.{words}
-use Rattle.text_lines.specs.Language.{said_from, said_by}
-use Rattle.text_lines.proofs.LanguageLaws.{line_faulty, line_sound, end_missing, end_sound}
+-- What a draft meets, the draft after one more line meets as well.
+use Rattle.std.proofs.Common.{◌≡◌, ℕ, ◌+◌, ◌-◌, ◌<◌, ◌≤◌, nat_lt, List, [], ◌∷◌, ◌++◌, length, replicate, refl, sym}
+use Rattle.std.proofs.Common.{◌∙◌, ap, arith, length-append}
+use Rattle.std.specs.Prelude.{None}
+use Rattle.std.proofs.lemmas.Bool.{ltb-false}
+use Rattle.std.proofs.lemmas.List.{length-replicate, replicate-append-replicate, append_assoc}
+use Rattle.text_lines.specs.Words.{word_at, number_at}
+use Rattle.text_lines.specs.Fields.{within, fields_fault}
+use Rattle.text_lines.specs.Table.{next_by}
+use Rattle.text_lines.proofs.FieldLaws.{where_none, number_ok, one_field, two_fields}
+use Rattle.text_lines.proofs.TableLaws.{IsPlaced, IsSound, Keeps}
 use Rattle.member_au4.specs.declared.au4_pointer.au_frame.Action.{Action}
-use Rattle.member_au4.specs.declared.au4_pointer.au_frame.Action.TheVariants.{Keep}
+use Rattle.member_au4.specs.declared.au4_pointer.au_frame.Action.TheVariants.{Keep, Up, Down, New}
+use Rattle.member_au4.specs.au4_pointer.Sent.{AreAccepted}
 use Rattle.member_au4.proofs.Au4PointerLaws.LinkSteps.{accepted-more}
+use Rattle.member_au4.specs.declared.au4_link.au4_keyword.Keyword.{Keyword}
+use Rattle.member_au4.specs.declared.au4_link.au4_keyword.Keyword.TheVariants as word
 use Rattle.member_au4.specs.declared.au4_link.au4_draft.Draft.{Draft}
-use Rattle.member_au4.specs.declared.au4_link.au4_draft.Statement.{Statement}
-use Rattle.member_au4.specs.declared.au4_link.au4_draft.Statement.TheVariants as says
-use Rattle.member_au4.specs.au4_link.LinkTextLines.{awaited, words_fault, words_said, after, at_first, missing_line, link_lines}
-use Rattle.member_au4.specs.au4_link.Link.{link_in, link_of_draft, link_of, IsLink}
-use Rattle.member_au4.specs.au4_link.Drafts.{IsDraft, Fits}
-use Rattle.member_au4.proofs.Au4LinkLaws.AcceptLaws.{act-accepted, accepted-keeps, accepted-none}
-
--- ---- the text
--- a line without a fault
-pub line_said : (n : ℕ) (d new : Draft) (all : List (List ℕ)) (l : List ℕ) (ls : List (List ℕ)) (said : Statement)
-    → all ≡ l ∷ ls → words_fault d (words l) ≡ None → said ≡ words_said (words l) → new ≡ after d said
-    → said_from link_lines n d all ≡ said_from link_lines (n + 1) new ls
-line_said n d new all l ls said first none says is =
-    line_sound link_lines n d new all l ls first none (is ∙ ap (λ (r : Statement). after d r) says)
-
--- a line that has one
-pub line_told : (text : List ℕ) (n : ℕ) (d : Draft) (all : List (List ℕ)) (l : List ℕ) (ls : List (List ℕ))
-    (fault : LineFault)
-    → said_by link_lines text ≡ said_from link_lines n d all → all ≡ l ∷ ls → words_fault d (words l) ≡ Some fault
-    → link_of text ≡ Err (n, fault)
-line_told text n d all l ls fault same first fails =
-    ap link_of_draft (same ∙ line_faulty link_lines n d all l ls fault first fails)
-
--- ---- after the last line
-pub short_told : (text : List ℕ) (n : ℕ) (d : Draft) (all : List (List ℕ))
-    → said_by link_lines text ≡ said_from link_lines n d all → all ≡ [] → d.next < 2
-    → link_of text ≡ Err (n, Missing (awaited d.next))
-short_told text n d all same none less =
-    let yes : nat_lt d.next 2 ≡ true = grind (arith, nat_tests, less) in
-    let misses : missing_line d ≡ Some (Missing (awaited d.next)) = rw yes refl in
-    ap link_of_draft (same ∙ end_missing link_lines n d all (Missing (awaited d.next)) none misses)
-
-pub whole_said : (text : List ℕ) (n : ℕ) (d : Draft) (all : List (List ℕ))
-    → said_by link_lines text ≡ said_from link_lines n d all → all ≡ [] → 2 ≤ d.next → said_by link_lines text ≡ Ok d
-whole_said text n d all same none least =
-    let no : nat_lt d.next 2 ≡ false = grind (arith, nat_tests, least) in
-    let whole : missing_line d ≡ None = rw no refl in
-    same ∙ end_sound link_lines n d all none whole
+use Rattle.member_au4.specs.au4_link.LinkTextLines.{place, least_next, last_named, too_early, with_action, after, at_first}
+use Rattle.member_au4.specs.au4_link.LinkTextLines.{link_table}
+use Rattle.member_au4.specs.au4_link.Link.{link_in, IsLink}
+use Rattle.member_au4.proofs.Au4LinkLaws.AcceptLaws.{IsAct, act-accepted, accepted-keeps, accepted-none}
 
 -- ---- actions
 -- Keep up to a frame, one more
@@ -68,9 +38,52 @@ length-kept actions frame inside =
     ∙ (let e : length actions + (frame - length actions) ≡ frame = omega (arith, inside) in e)
 
 -- ---- a draft
-pub draft-first : IsDraft at_first
+-- what is said where the next line may stand from a place on
+pub record IsDraft (next : ℕ) (d : Draft) : Type 0 where
+  pub start : d.start ≤ 782
+  pub none : next ≤ 1 → d.actions ≡ []
+  pub some : 2 ≤ next → 1 ≤ d.frames
+  pub few : d.frames ≤ 100000
+  pub inside : length d.actions ≤ d.frames
+  pub accepted : AreAccepted d.actions
+
+-- a frame that a line names isn't before the least that may be named
+far : (actions : List Action) (frame : ℕ) → least_next actions ≤ frame → length actions ≤ frame
+far [] frame least = omega arith
+far (a ∷ actions) frame least = omega (arith, least)
+
+act-more : (next : ℕ) (d : Draft) (frame : ℕ) (a : Action) → IsDraft next d → 2 ≤ next → frame < d.frames
+    → least_next d.actions ≤ frame → IsAct frame a → IsDraft 2 (with_action d frame a)
+act-more next d frame a is late below least act =
+    let kept = d.actions ++ replicate (frame - length d.actions) Keep in
+    let long = length-append kept (a ∷ []) in
+    let behind = far d.actions frame least in
+    record {
+      start = is.start;
+      none = λ low. absurd (omega (arith, low));
+      some = λ at. is.some late;
+      few = is.few;
+      inside = (let size = length-kept d.actions frame behind in omega (arith, long, size, below));
+      accepted =
+          accepted-more kept a (accepted-keeps d.actions (frame - length d.actions) is.accepted)
+          (act-accepted d.actions frame behind least a act);
+    }
+
+-- a frame that moves
+move-more : (next : ℕ) (d : Draft) (ws : List (List ℕ)) (a : Action) → IsDraft next d → 2 ≤ next → length ws ≡ 1
+    → fields_fault (within 1 (d.frames - 1) ∷ []) 2 0 ws ≡ None → too_early d ws ≡ None
+    → (1 ≤ number_at 0 ws → IsAct (number_at 0 ws) a) → IsDraft 2 (with_action d (number_at 0 ws) a)
+move-more next d ws a is late size none early act =
+    let frame = number_ok 2 1 (d.frames - 1) (word_at 0 ws) (one_field (within 1 (d.frames - 1)) 2 ws size none) in
+    let some = is.some late in
+    act-more next d (number_at 0 ws) a is late (omega (arith, some, frame.1))
+    (ltb-false (number_at 0 ws) (least_next d.actions)
+    (where_none (nat_lt (number_at 0 ws) (least_next d.actions)) (last_named d) early))
+    (act frame.0)
+
+-- ---- a line more
+draft-first : IsDraft 0 at_first
 draft-first = record {
-  place = omega arith;
   start = omega arith;
   none = λ low. refl;
   some = λ at. absurd (omega (arith, at));
@@ -79,51 +92,53 @@ draft-first = record {
   accepted = accepted-none;
 }
 
-pub draft-after : (d : Draft) (said : Statement) → IsDraft d → Fits d said → IsDraft (after d said)
-draft-after d says.Nothing is fits = is
-draft-after d (says.Start value) is fits = record {
-  place = omega arith;
-  start = fits.1;
-  none = λ low. is.none (let at = fits.0 in omega (arith, at));
-  some = λ at. absurd (omega (arith, at));
-  few = is.few;
-  inside = is.inside;
-  accepted = is.accepted;
-}
-draft-after d (says.Frames count) is fits = record {
-  place = omega arith;
-  start = is.start;
-  none = λ low. absurd (omega (arith, low));
-  some = λ at. fits.1;
-  few = fits.2;
-  inside =
-      (let none = ap length (is.none (let at = fits.0 in omega (arith, at))) in
-      omega (arith, none));
-  accepted = is.accepted;
-}
-draft-after d (says.Act frame a) is fits =
-    let kept = d.actions ++ replicate (frame - length d.actions) Keep in
-    let long = length-append kept (a ∷ []) in
+draft-after : (next : ℕ) (d : Draft) (k : Keyword) (ws : List (List ℕ)) → IsDraft next d → IsPlaced 2 next (place k)
+    → IsSound link_table d k ws → IsDraft (next_by link_table k) (after d k ws)
+draft-after next d word.Start ws is at fine =
+    let first : next ≡ 0 = at.early (omega arith) in
     record {
-      place = is.place;
-      start = is.start;
-      none = λ low. absurd (let at = fits.0 in omega (arith, low, at));
-      some = is.some;
+      start = (number_ok 2 0 782 (word_at 0 ws) (one_field (within 0 782) 2 ws fine.count fine.each)).1;
+      none = λ low. is.none (omega (arith, first));
+      some = λ late. absurd (omega (arith, late));
       few = is.few;
-      inside =
-          (let size = length-kept d.actions frame fits.1 in
-          let below = fits.2 in
-          omega (arith, long, size, below));
-      accepted =
-          accepted-more kept a (accepted-keeps d.actions (frame - length d.actions) is.accepted)
-          (act-accepted d.actions frame fits.1 fits.3 a fits.4);
+      inside = is.inside;
+      accepted = is.accepted;
     }
+draft-after next d word.Frames ws is at fine =
+    let count = number_ok 2 1 100000 (word_at 0 ws) (one_field (within 1 100000) 2 ws fine.count fine.each) in
+    let second : next ≡ 1 = at.early (omega arith) in
+    let none = ap length (is.none (omega (arith, second))) in
+    record {
+      start = is.start;
+      none = λ low. absurd (omega (arith, low));
+      some = λ late. count.0;
+      few = count.1;
+      inside = omega (arith, none);
+      accepted = is.accepted;
+    }
+draft-after next d word.Up ws is at fine =
+    move-more next d ws Up is (at.late (omega arith)) fine.count fine.each fine.own (λ some. some)
+draft-after next d word.Down ws is at fine =
+    move-more next d ws Down is (at.late (omega arith)) fine.count fine.each fine.own (λ some. some)
+draft-after next d word.New ws is at fine =
+    let two = two_fields (within 0 (d.frames - 1)) (within 0 782) 2 0 ws fine.count fine.each in
+    let frame = number_ok 2 0 (d.frames - 1) (word_at 0 ws) two.0 in
+    let value = number_ok 3 0 782 (word_at 1 ws) two.1 in
+    let late = at.late (omega arith) in
+    let some = is.some late in
+    act-more next d (number_at 0 ws) (New (number_at 1 ws)) is late (omega (arith, some, frame.1))
+    (ltb-false (number_at 0 ws) (least_next d.actions)
+    (where_none (nat_lt (number_at 0 ws) (least_next d.actions)) (last_named d) fine.own))
+    value.1
+
+pub link-keeps : Keeps link_table IsDraft
+link-keeps = record { first = draft-first; after = draft-after }
 
 -- ---- a link
-pub link-whole : (d : Draft) → IsDraft d → d.next ≡ 2 → IsLink (link_in d)
-link-whole d is at =
+pub link-whole : (next : ℕ) (d : Draft) → 2 ≤ next → IsDraft next d → IsLink (link_in d)
+link-whole next d late is =
     let size = length-kept d.actions d.frames is.inside in
-    let some = is.some (omega (arith, at)) in
+    let some = is.some late in
     let few = is.few in
     record {
       start = is.start;

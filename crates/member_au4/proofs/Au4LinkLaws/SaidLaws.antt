@@ -1,60 +1,36 @@
--- What lines without a fault say is a link, and what comes of numbered VC-4s over it.
-use Rattle.std.proofs.Common.{◌≡◌, ℕ, zero, suc, ◌+◌, ◌≤◌, List, [], ◌∷◌, ◌++◌, length, map, refl, sym, ◌∙◌, ap, subst}
-use Rattle.std.proofs.Common.{arith, nat_lt, length-append, None, Result, Ok, Err, w64, ltb-false}
+-- What a text says is a link, and what comes of numbered VC-4s over it.
+use Rattle.std.proofs.Common.{◌≡◌, ℕ, zero, suc, ◌+◌, ◌≤◌, List, ◌++◌, length, map, refl, sym, ◌∙◌, ap}
+use Rattle.std.proofs.Common.{arith, length-append}
+use Rattle.std.specs.Prelude.{Ok}
 use Rattle.std.specs.List.{range_with_len}
-use Rattle.std.specs.Int.{to_be_bytes}
-use Rattle.std.specs.Str.Lines.{lines}
+use Rattle.std.specs.Int.{w64, to_be_bytes}
 use Rattle.std.proofs.lemmas.List.{length-map}
 use Rattle.std.proofs.lemmas.List.FromFn.{length-range_with_len}
 use Rattle.std.proofs.lemmas.List.Elements.{All-nil, All-cons}
-use Rattle.text_lines.specs.Words.{words}
-use Rattle.text_lines.specs.Language.{said_by}
-use Rattle.text_lines.specs.FirstFault.{AreSound}
-use Rattle.text_lines.proofs.FieldLaws.{where_none}
-use Rattle.text_lines.proofs.FirstFaultLaws.{all_said}
+use Rattle.text_lines.specs.Table.{said_in, formed}
+use Rattle.text_lines.proofs.TableLaws.{said_valid}
 use Rattle.member_au4.specs.au4_pointer.Part.{AreVcs, begun, part_after, whole}
 use Rattle.member_au4.specs.au4_pointer.Sink.{given}
 use Rattle.member_au4.specs.au4_pointer.Sent.{AreTaken}
 use Rattle.member_au4.proofs.Au4PointerLaws.FollowLaws.{all-whole, all-taken}
-use Rattle.member_au4.specs.declared.au4_link.au4_text_fault.LineFault.{LineFault}
-use Rattle.member_au4.specs.declared.au4_link.au4_text_fault.LineFault.TheVariants.{Missing}
 use Rattle.member_au4.specs.declared.au4_link.au4_draft.Draft.{Draft}
 use Rattle.member_au4.specs.declared.au4_link.au4_draft.Link.{Link}
-use Rattle.member_au4.specs.au4_link.LinkTextLines.{awaited, words_said, after, at_first, missing_line, link_lines}
-use Rattle.member_au4.specs.au4_link.Link.{link_in, link_of_draft, link_of, IsLink}
-use Rattle.member_au4.specs.au4_link.Drafts.{IsDraft}
+use Rattle.member_au4.specs.au4_link.LinkTextLines.{link_table}
+use Rattle.member_au4.specs.au4_link.Link.{link_in, link_of, IsLink}
 use Rattle.member_au4.specs.au4_link.Vcs.{rising, vc_of, first_vcs}
 use Rattle.member_au4.specs.au4_link.Text.{vc_texts, end_text, cuts, back_of, link_text}
 use Rattle.member_au4.specs.au4_link.Carried.{link_vcs, link_frames, carried_text}
-use Rattle.member_au4.proofs.Au4LinkLaws.DraftLaws.{draft-first, draft-after, link-whole}
-use Rattle.member_au4.proofs.Au4LinkLaws.FitLaws.{fits_words}
-
--- ---- line by line
-sound_draft : (ls : List (List ℕ)) (d now : Draft) → IsDraft d → AreSound link_lines d ls now → IsDraft now
-unfolding AreSound
-sound_draft [] d now is sound = subst IsDraft sound is
-sound_draft (l ∷ ls) d now is sound =
-    let said = words_said (words l) in
-    sound_draft ls (after d said) now (draft-after d said is (fits_words d (words l) is sound.0)) sound.1
+use Rattle.member_au4.proofs.Au4LinkLaws.DraftLaws.{IsDraft, link-keeps, link-whole}
 
 -- ---- the text
-whole_next : (d : Draft) → IsDraft d → missing_line d ≡ None → d.next ≡ 2
-whole_next d is none =
-    let place = is.place in
-    let late = ltb-false d.next 2 (where_none (nat_lt d.next 2) (Missing (awaited d.next)) none) in
-    omega (arith, place, late)
-
-said_link : (text : List ℕ) (link : Link) (of : Result Draft (ℕ × LineFault)) → said_by link_lines text ≡ of →
-    link_of_draft of ≡ Ok link → IsLink link
-said_link text link (Ok d) is said =
-    let same : link_in d ≡ link = cc in
-    let are = (all_said link_lines text d).0 is in
-    let draft = sound_draft (lines text) at_first d draft-first are.sound in
-    subst IsLink same (link-whole d draft (whole_next d draft are.whole))
-said_link text link (Err at) is said = absurd cc
-
 pub valid_link : (text : List ℕ) (link : Link) → link_of text ≡ Ok link → IsLink link
-valid_link text link said = said_link text link (said_by link_lines text) refl said
+valid_link text link said = said_valid link_table IsDraft link-keeps link_in IsLink link-whole text link said
+
+-- the actions of what its lines say are of its frames
+pub draft-inside : (text : List ℕ) (d : Draft) → said_in link_table text ≡ Ok d → length d.actions ≤ d.frames
+draft-inside text d said =
+    said_valid link_table IsDraft link-keeps (λ (d : Draft). d) (λ (d : Draft). length d.actions ≤ d.frames)
+    (λ next d late is. is.inside) text d (ap (formed (λ (d : Draft). d)) said)
 
 -- ---- numbered VC-4s
 length-rising : (count n : ℕ) → length (rising count n) ≡ count

@@ -1,6 +1,5 @@
-//! What a line of a link's text says, and what its lines so far say.
+//! What a link's text says, and what its lines so far say.
 
-use crate::au4_link::au4_keyword::Keyword;
 use crate::au4_pointer::Action;
 use std::marker::Model;
 
@@ -26,26 +25,9 @@ pub struct Link {
     pub actions: ActionList,
 }
 
-/// What a line says.
-#[derive(Clone, Copy)]
-pub(super) enum Statement {
-    /// Nothing: it has no words, or is a comment.
-    Nothing,
-    /// The value at which the first part begins.
-    Start(u16),
-    /// The number of frames.
-    Frames(u32),
-    /// The action of a frame.
-    Act(u32, Action),
-}
-
 /// What the lines so far say.
 #[derive(Drop)]
 pub(super) struct Draft {
-    /// The place in the order of a text from which the next line may stand.
-    pub next: u8,
-    /// The keyword of the last line.
-    pub last: Keyword,
     /// The value at which the first part begins.
     pub start: u16,
     /// The number of frames.

@@ -1,10 +1,8 @@
-//! The words that may begin a line, and the place of each in the order of a text.
-ghost use Rattle.std.specs.Prelude.{◌≡◌, IfErr, OnOk, None, Some};
-ghost use Rattle.member_au4.specs.au4_link.LinkTextLines.{keyword_of, place, awaited, place_fault, word_of};
-ghost use Rattle.member_au4.specs.au4_link.Drafts.{IsPlaced};
+//! The words that may begin a line.
+ghost use Rattle.std.specs.Prelude.{◌≡◌};
+ghost use Rattle.member_au4.specs.au4_link.LinkTextLines.{keyword_of};
 
-use crate::au4_link::au4_text_fault::LineFault;
-use crate::au4_pointer::Action;
+use text_help::LineWords;
 
 /// The words that may begin a line, in the order of a text.
 #[derive(Clone, Copy, Debug, PartialEq, Eq)]
@@ -40,57 +38,27 @@ impl Keyword {
             None
         }
     }
+}
 
-    /// Its place: 0 and 1 are the lines that have to be there, 2 is that of actions.
-    pub(super) fn place(self) -> u8
-        ensures { result ≡ place self }
-    {
+impl LineWords for Keyword {
+    ghost use Rattle.std.specs.Prelude.{codes};
+    ghost use Rattle.member_au4.specs.au4_link.Helps.{keyword_text};
+
+    ghost text = { keyword_text };
+
+    ghost all = { codes "start, frames, up, down, new" };
+
+    fn word(self) -> &'static [u8] {
         match self {
-            Keyword::Start => 0,
-            Keyword::Frames => 1,
-            Keyword::Up | Keyword::Down | Keyword::New => 2,
+            Keyword::Start => b"start",
+            Keyword::Frames => b"frames",
+            Keyword::Up => b"up",
+            Keyword::Down => b"down",
+            Keyword::New => b"new",
         }
     }
-}
 
-/// The keyword of the line that has to stand at a place before that of actions.
-pub(super) fn awaited_at(next: u8) -> Keyword
-    ensures { result ≡ awaited next }
-{
-    if next == 0 {
-        Keyword::Start
-    } else {
-        Keyword::Frames
+    fn all_words() -> &'static [u8] {
+        b"start, frames, up, down, new"
     }
-}
-
-/// The keyword of the line that says an action.
-pub(super) fn keyword_of_action(a: Action) -> Keyword
-    ensures { result ≡ word_of a }
-{
-    match a {
-        Action::Keep => Keyword::Frames,
-        Action::Up => Keyword::Up,
-        Action::Down => Keyword::Down,
-        Action::New(_) => Keyword::New,
-    }
-}
-
-/// Tests whether a line may stand where `next` is the next place, after the line of `before`.
-pub(super) fn check_place(next: u8, keyword: Keyword, before: Keyword) -> Result<(), LineFault>
-    ensures ok { OnOk result (place_fault next keyword before ≡ None) }
-    ensures err { IfErr result (λ fault. place_fault next keyword before ≡ Some fault) }
-    ensures stands { OnOk result (IsPlaced next (place keyword)) }
-{
-    let at = keyword.place();
-    if next < 2 && at != next {
-        return Err(LineFault::Missing(awaited_at(next)));
-    }
-    if at < next {
-        return Err(LineFault::Order {
-            this: keyword,
-            before,
-        });
-    }
-    Ok(())
 }

@@ -1,14 +1,15 @@
 //! A link of AU-4 frames: what a text says that its pointers do, and the lines of what comes of numbered
-//! VC-4s on it. The language is a definition that computes, `link_of`: lines, words, and for each line the
-//! first fault that it has or what it adds to the lines before it; the reader gives just that, in one pass,
-//! and no action of what it gives is refused. The text of a link is `link_text`. How frames are sent and
+//! VC-4s on it. The language is a table, `link_table`, and what a text says computes from it, `link_of`; the
+//! reader gives just that, in one pass, and no action of what it gives is refused. The text of a link is `link_text`. How frames are sent and
 //! taken is in `au4_pointer`. Begin with `read_link` and `write_link`; `text_law` says which VC-4s are written.
 
 ghost use Rattle.std.specs.Prelude.{◌≡◌, ◌↔◌, ℕ, List, length, Ok, Err};
 ghost use Rattle.std.specs.Str.Lines.{lines};
-ghost use Rattle.member_au4.specs.declared.au4_link.au4_text_fault.LineFault.{LineFault};
+ghost use Rattle.text_lines.specs.declared.field_fault.LineFault.{LineFault};
+ghost use Rattle.member_au4.specs.declared.au4_link.au4_keyword.Keyword.{Keyword};
+ghost use Rattle.member_au4.specs.declared.au4_link.au4_text_fault.Early.{Early};
 ghost use Rattle.text_lines.specs.FirstFault.{IsFirstFault};
-ghost use Rattle.member_au4.specs.au4_link.LinkTextLines.{at_first, link_lines};
+ghost use Rattle.member_au4.specs.au4_link.LinkTextLines.{link_lines};
 ghost use Rattle.member_au4.specs.au4_pointer.Part.{AreVcs, whole};
 ghost use Rattle.member_au4.specs.au4_pointer.Sink.{given};
 ghost use Rattle.member_au4.specs.au4_pointer.Sent.{AreTaken};
@@ -19,7 +20,6 @@ ghost use Rattle.member_au4.specs.au4_link.Carried.{link_vcs, link_frames, carri
 ghost use Rattle.member_au4.specs.au4_link.Link.{link_of, IsLink};
 
 mod au4_draft;
-mod au4_helps;
 mod au4_keyword;
 mod au4_report;
 mod au4_run;
@@ -30,19 +30,18 @@ mod read_au4_text;
 mod text_of_vc;
 
 pub use au4_draft::{ActionList, Link};
-pub use au4_helps::link_help;
 pub use au4_keyword::Keyword;
 pub use au4_run::write_link;
-pub use au4_text_fault::LineFault;
-pub use read_au4_text::{LinkFault, read_link};
+pub use au4_text_fault::Early;
+pub use read_au4_text::read_link;
 pub use text_of_vc::vc_line;
 
 /// A text has the fault of a line exactly where that line is faulty after lines none of which is, or where no
 /// line is faulty and one that has to be there isn't.
 pub fn fault_law()
-    ensures { (text : List ℕ) (number : ℕ) (fault : LineFault) →
+    ensures { (text : List ℕ) (number : ℕ) (fault : LineFault Keyword Early) →
         (link_of text ≡ Err (number, fault))
-        ↔ IsFirstFault link_lines 1 at_first (lines text) number fault }
+        ↔ IsFirstFault link_lines 1 link_lines.first (lines text) number fault }
 {}
 
 /// The first VC-4s by their numbers have 2,349 octets each.

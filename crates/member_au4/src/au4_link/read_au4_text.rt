@@ -1,42 +1,17 @@
 //! The reader of a whole text.
 ghost use Rattle.std.specs.Prelude.{◌≡◌, ◌≤◌, ◌-◌, ◌++◌, ◌∷◌, [], length, vec_len, replicate, IfOk, IfErr, OnOk, Ok};
-ghost use Rattle.std.specs.Prelude.{Err};
-ghost use Rattle.text_lines.specs.Language.{said_by};
-ghost use Rattle.law_model.specs.Common.{longest_input};
+ghost use Rattle.text_lines.specs.Faults.{IsTextFault};
+ghost use Rattle.law_model.specs.Limits.{longest_input};
 ghost use Rattle.member_au4.specs.declared.au4_pointer.au_frame.Action.TheVariants.{Keep};
-ghost use Rattle.member_au4.specs.au4_link.LinkTextLines.{at_first, after, link_lines};
-ghost use Rattle.member_au4.specs.au4_link.Link.{link_in, link_of, IsLink, IsLinkFault};
-ghost use Rattle.member_au4.specs.au4_link.Drafts.{IsDraft, Fits};
+ghost use Rattle.member_au4.specs.au4_link.Link.{link_in, link_of, IsLink};
 
-use crate::au4_link::au4_draft::{ActionList, Draft, Link, Statement};
-use crate::au4_link::au4_keyword::{Keyword, awaited_at, keyword_of_action};
-use crate::au4_link::au4_statement::read_line;
-use crate::au4_link::au4_text_fault::LineFault;
+use crate::au4_link::au4_draft::{ActionList, Draft, Link};
+use crate::au4_link::au4_keyword::Keyword;
+use crate::au4_link::au4_statement::{read_move, read_new};
+use crate::au4_link::au4_text_fault::Early;
 use crate::au4_pointer::Action;
 use std::alloc::{AllocError, Global};
-use text_lines::next_line;
-
-/// Why a text gives no link.
-#[derive(Clone, Copy, Debug, PartialEq, Eq)]
-pub enum LinkFault {
-    /// Line `number` is the first faulty one, counted from 1.
-    Line { number: u64, fault: LineFault },
-    /// Memory is short.
-    Memory,
-}
-
-/// What no line says.
-fn no_lines(alloc: Global) -> Draft
-    ensures { result ≡ at_first }
-{
-    Draft {
-        next: 0,
-        last: Keyword::Start,
-        start: 0,
-        frames: 0,
-        actions: ActionList(Vec::new(alloc)),
-    }
-}
+use text_lines::{LineStop, LineTable, TextFault, one_number, read_text};
 
 /// Adds Keep up to a frame.
 fn keep_up_to(actions: &mut Vec<Action>, frame: u32) -> Result<(), AllocError>
@@ -61,69 +36,88 @@ fn add_action(actions: &mut ActionList, frame: u32, a: Action) -> Result<(), All
     Ok(())
 }
 
-/// Adds what a line says.
-fn add(draft: &mut Draft, said: Statement) -> Result<(), AllocError>
-    requires { Fits draft.old said }
-    ensures { OnOk result (draft.new ≡ after draft.old said) }
-{
-    match said {
-        Statement::Nothing => {}
-        Statement::Start(value) => {
-            draft.start = value;
-            draft.next = 1;
-            draft.last = Keyword::Start;
-        }
-        Statement::Frames(count) => {
-            draft.frames = count;
-            draft.next = 2;
-            draft.last = Keyword::Frames;
-        }
-        Statement::Act(frame, a) => {
-            add_action(&mut draft.actions, frame, a)?;
-            draft.last = keyword_of_action(a);
-        }
-    }
-    Ok(())
-}
+impl LineTable for Draft {
+    ghost use Rattle.member_au4.specs.au4_link.LinkTextLines.{link_table};
 
-/// What the lines of a text say.
-fn read_draft(alloc: Global, text: &[u8]) -> Result<Draft, LinkFault>
-    requires { length text.now ≤ longest_input }
-    ensures ok { IfOk result (λ draft. said_by link_lines text.now ≡ Ok draft) }
-    ensures stands { IfOk result (λ draft. IsDraft draft × (draft.next ≡ 2)) }
-    ensures err { IfErr result (λ fault. IsLinkFault text.now fault) }
-{
-    let mut draft = no_lines(alloc);
-    let mut rest = text;
-    let mut number = 1;
-    while let Some((line, later)) = next_line(rest) {
-        rest = later;
-        let said = match read_line(&draft, line) {
-            Ok(said) => said,
-            Err(fault) => return Err(LinkFault::Line { number, fault }),
-        };
-        match add(&mut draft, said) {
-            Ok(()) => number += 1,
-            Err(_) => return Err(LinkFault::Memory),
+    type Keyword = Keyword;
+
+    type Own = Early;
+
+    ghost table = { link_table };
+
+    fn at_start(alloc: Global) -> Draft {
+        Draft {
+            start: 0,
+            frames: 0,
+            actions: ActionList(Vec::new(alloc)),
         }
     }
-    if draft.next < 2 {
-        return Err(LinkFault::Line {
-            number,
-            fault: LineFault::Missing(awaited_at(draft.next)),
-        });
+
+    fn keyword(word: &[u8]) -> Option<Keyword> {
+        Keyword::of(word)
     }
-    Ok(draft)
+
+    fn place(keyword: Keyword) -> u64 {
+        match keyword {
+            Keyword::Start => 0,
+            Keyword::Frames => 1,
+            Keyword::Up | Keyword::Down | Keyword::New => 2,
+        }
+    }
+
+    fn must() -> u64 {
+        2
+    }
+
+    fn awaited(next: u64) -> Keyword {
+        if next == 0 {
+            Keyword::Start
+        } else {
+            Keyword::Frames
+        }
+    }
+
+    fn add(
+        &mut self,
+        _alloc: Global,
+        keyword: Keyword,
+        rest: &[u8],
+    ) -> Result<(), LineStop<Keyword, Early>> {
+        match keyword {
+            Keyword::Start => {
+                self.start = one_number::<Keyword, Early>(Keyword::Start, rest, 0, 782)? as u16;
+            }
+            Keyword::Frames => {
+                self.frames = one_number::<Keyword, Early>(
+                    Keyword::Frames,
+                    rest,
+                    1,
+                    100_000,
+                )? as u32;
+            }
+            Keyword::Up => {
+                let frame = read_move(self, Keyword::Up, rest)?;
+                add_action(&mut self.actions, frame, Action::Up)?;
+            }
+            Keyword::Down => {
+                let frame = read_move(self, Keyword::Down, rest)?;
+                add_action(&mut self.actions, frame, Action::Down)?;
+            }
+            Keyword::New => {
+                let (frame, value) = read_new(self, rest)?;
+                add_action(&mut self.actions, frame, Action::New(value))?;
+            }
+        }
+        Ok(())
+    }
 }
 
 /// The link that a draft has become: Keep in all frames that no line named.
 fn finished(draft: Draft) -> Result<Link, AllocError>
-    requires { IsDraft draft }
+    requires { length draft.actions ≤ draft.frames }
     ensures { IfOk result (λ link. link ≡ link_in draft) }
 {
     let Draft {
-        next: _,
-        last: _,
         start,
         frames,
         mut actions,
@@ -134,18 +128,18 @@ fn finished(draft: Draft) -> Result<Link, AllocError>
 
 /// The link that a text of at most 67,108,864 octets says. Else its first fault: that of the first faulty
 /// line. Want of memory may come in place of any answer. No action of the link is refused.
-pub fn read_link(alloc: Global, text: &[u8]) -> Result<Link, LinkFault>
+pub fn read_link(alloc: Global, text: &[u8]) -> Result<Link, TextFault<Keyword, Early>>
     requires { length text.now ≤ longest_input }
     ensures link { IfOk result (λ link. link_of text.now ≡ Ok link) }
     ensures valid { IfOk result IsLink }
-    ensures fault { IfErr result (λ fault. IsLinkFault text.now fault) }
+    ensures fault { IfErr result (λ fault. IsTextFault (link_of text.now) fault) }
 {
-    let draft = match read_draft(alloc, text) {
+    let draft = match read_text::<Draft>(alloc, text) {
         Ok(draft) => draft,
         Err(fault) => return Err(fault),
     };
     match finished(draft) {
         Ok(link) => Ok(link),
-        Err(_) => Err(LinkFault::Memory),
+        Err(_) => Err(TextFault::Memory),
     }
 }

@@ -6,8 +6,8 @@ ghost use Rattle.terminal_source.specs.source_core.Step.{is_step, table_by, acti
 
 use crate::lcas_source::SourceTable;
 use arrayvec::ArrayVec;
-use member_cells::BackCell;
 use law_model::MOST_LINES;
+use member_cells::BackCell;
 use member_rows::lcas_packet::Packet;
 use std::alloc::{AllocError, Global};
 

@@ -1,14 +1,21 @@
 -- How lines and their digits are put together.
-use Rattle.std.proofs.Common.{◌≡◌, ℕ, ◌+◌, ◌-◌, ◌≤◌, List, [], ◌∷◌, ◌++◌, take, drop, refl, sym, ◌∙◌, ap, arith}
+use Rattle.std.proofs.Common.{◌≡◌, ℕ, ◌+◌, ◌-◌, ◌≤◌, List, [], ◌∷◌, ◌++◌, take, drop, slice_index, ◌/◌, ◌%◌, refl, sym}
+use Rattle.std.proofs.Common.{◌∙◌, ap, arith}
 use Rattle.std.proofs.Common.{append-nil, take-add}
 use Rattle.std.proofs.lemmas.Grind.{flat_map-append}
-use Rattle.text_lines.proofs.TextHexLaws.SixteenLaws.{encode-append}
 use Rattle.hex.specs.Hex.{encode_with, encode_lower, lower_digits}
 use Rattle.text_captures.specs.declared.capture_file.capture_form.Form.{Form}
 use Rattle.text_captures.specs.capture_file.Form.{Record}
 use Rattle.text_captures.specs.capture_file.Reading.{due_of, client_frame, frames_behind}
 use Rattle.text_captures.specs.capture_file.Texts.{frame_text, frame_texts}
 use Rattle.text_captures.proofs.CaptureFileLaws.ReadingLaws.{frames-append}
+
+-- two texts, one behind the other
+encode-append : (digits xs ys : List ℕ) → encode_with digits (xs ++ ys) ≡ encode_with digits xs ++ encode_with digits ys
+unfolding encode_with
+encode-append digits [] ys = refl
+encode-append digits (x ∷ xs) ys =
+    ap (λ l. slice_index digits (x / 16) ∷ slice_index digits (x % 16) ∷ l) (encode-append digits xs ys)
 
 pub digits-none : (before : List ℕ) → before ≡ before ++ encode_lower []
 unfolding encode_with

@@ -24,7 +24,7 @@ kept-rung bell stops_hearing none is = is
 kept-rung bell sleeps none is = rw is refl
 kept-rung bell (moves who) none is = is
 kept-rung bell (rings who) none is = refl
-kept-rung bell (rings_from_behind who) none is = elim (cases_Bool bell.heard) [ | inl e ↦ rw e refl | inr e ↦ rw e is ]
+kept-rung bell (rings_from_behind who) none is = elim (cases_Bool bell.heard) [ inl e ↦ rw e refl | inr e ↦ rw e is ]
 
 kept-heard : (bell : BellNow) (step : BellStep) → NotStop step → bell.heard ≡ true → (bell_by bell step).heard ≡ true
 kept-heard bell notes none is = is
@@ -67,7 +67,7 @@ rung-within : (bell : BellNow) (rest more : List BellStep) (who : ℕ) → HaveN
 rung-within bell rest more who none =
     ap (λ (now : BellNow). now.word) (fold-append bell_by bell rest (rings who ∷ more))
     ∙ stays-rung (bell_by (bell_after bell rest) (rings who)) more
-      (All-tail NotNote (rings who) more (last-part NotNote rest (rings who ∷ more) none)) refl
+    (All-tail NotNote (rings who) more (last-part NotNote rest (rings who ∷ more) none)) refl
 
 behind-rings : (bell : BellNow) (who : ℕ) → bell.heard ≡ true → (bell_by bell (rings_from_behind who)).word ≡ rung
 behind-rings bell who is = rw is refl
@@ -78,10 +78,10 @@ behind-within : (bell : BellNow) (rest more : List BellStep) (who : ℕ) → bel
 behind-within bell rest more who heard none hearing =
     ap (λ (now : BellNow). now.word) (fold-append bell_by bell rest (rings_from_behind who ∷ more))
     ∙ stays-rung (bell_by (bell_after bell rest) (rings_from_behind who)) more
-      (All-tail NotNote (rings_from_behind who) more
-        (last-part NotNote rest (rings_from_behind who ∷ more) none))
-      (behind-rings (bell_after bell rest) who
-        (stays-heard bell rest (first-part NotStop rest (rings_from_behind who ∷ more) hearing) heard))
+    (All-tail NotNote (rings_from_behind who) more
+    (last-part NotNote rest (rings_from_behind who ∷ more) none))
+    (behind-rings (bell_after bell rest) who
+    (stays-heard bell rest (first-part NotStop rest (rings_from_behind who ∷ more) hearing) heard))
 
 -- ---- an owner that waits
 abbrev noted : BellNow → BellNow
@@ -107,10 +107,10 @@ pub none-lost : (bell : BellNow) (between since first later : List BellStep) (wh
     (rest more : List BellStep) → later ≡ rest ++ rings who ∷ more → ⊥
 none-lost bell between since first later who none none_since is sleeping rest more rung_later =
     let whole : since ≡ (first ++ moves who ∷ rest) ++ rings who ∷ more =
-          is ∙ ap (λ (steps : List BellStep). first ++ moves who ∷ steps) rung_later
-          ∙ more-append first (moves who ∷ rest) (rings who ∷ more) in
+    is ∙ ap (λ (steps : List BellStep). first ++ moves who ∷ steps) rung_later
+    ∙ more-append first (moves who ∷ rest) (rings who ∷ more) in
     absurd (let wrong : asleep ≡ rung = sym sleeping
-          ∙ rung-since bell between since (first ++ moves who ∷ rest) more who none none_since whole in cc)
+    ∙ rung-since bell between since (first ++ moves who ∷ rest) more who none none_since whole in cc)
 
 pub behind-since : (bell : BellNow) (between since rest more : List BellStep) (who : ℕ) → HaveNoNote between →
     HaveNoNote since → AreHeard between → AreHeard since → since ≡ rest ++ rings_from_behind who ∷ more →
@@ -121,4 +121,4 @@ behind-since bell between since rest more who none none_since hearing hearing_si
     ap (λ (now : BellNow). now.word) (after-look hearer between since)
     ∙ ap (λ (steps : List BellStep). (bell_after at_look steps).word) is
     ∙ behind-within at_look rest more who (stays-heard (noted hearer) between hearing refl)
-      (subst HaveNoNote is none_since) (subst AreHeard is hearing_since)
+    (subst HaveNoNote is none_since) (subst AreHeard is hearing_since)

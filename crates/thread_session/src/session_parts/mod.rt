@@ -5,7 +5,7 @@
 //! their end, containers, cells, frames and return cells are the session's. A `Bell` has no clause: it only
 //! lets threads sleep; `bell_law` is of a model of it.
 
-mod bell_law;
+mod bell_laws;
 mod lay_ring_ends;
 mod line_shares;
 mod line_thread;
@@ -15,7 +15,7 @@ mod sink_duty;
 mod stop_flag;
 mod thread_bell;
 
-pub use bell_law::bell_law;
+pub use bell_laws::bell_law;
 pub use lay_ring_ends::{carry_all, lay_receives, lay_sends};
 pub use line_shares::{collect, deal};
 pub use line_thread::{Held, Kept, serve_all_here, start_shares, take_all_back};

@@ -79,7 +79,7 @@ module _ (signs : List CellSign) (places : List Container) (given popped : ℕ) 
   last : (sign : CellSign) (y : ℕ) → y ≡ given →
       cell_at (slice_set signs slot sign) (slice_set places slot place) y ≡ cell_with sign place ∷ []
   last sign y same =
-      let size = length-slice_set signs slot sign in
+      let size = length-set signs slot sign in
       let low : slot < length signs = mod-lt given some in
       ap (λ n. cell_in (slice_get (slice_set signs slot sign) (y % n))
       (slice_get (slice_set places slot place) (y % n))) size

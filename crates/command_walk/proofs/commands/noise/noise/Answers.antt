@@ -4,7 +4,8 @@ use Rattle.command_parts.specs.Common.{writes, reads, lent, line_text}
 use Rattle.command_parts.specs.declared.stop_and_status.Refusal.TheVariants.{Line}
 use Rattle.command_parts.specs.declared.stop_and_status.Stop.TheVariants.{Refused}
 use Rattle.command_parts.proofs.StopLaws.{ends-stopped, ends-done, ends-cut, refused-line}
-use Rattle.gfp_noise.specs.noise_link.Helps.{kind_of, help_of}
+use Rattle.text_lines.specs.Faults.{kind_of}
+use Rattle.gfp_noise.specs.noise_link.Helps.{help_of}
 use Rattle.gfp_noise.specs.noise_link.Text.{noise_text}
 use Rattle.command_walk.specs.commands.Noise.{got_through, noise_answer}
 use Rattle.command_walk.proofs.commands.noise.noise.Goals as goal
@@ -22,11 +23,11 @@ returns-in-Err-Line-clause-ends g c =
     ends-stopped (lent g.S.ByteSource.left g.S.ByteSource.faults c.args.script.now c.read_input.new.source)
     (lent g.K.ByteSink.written g.K.ByteSink.faults c.args.out.now c.args.out.now)
     (lent g.E.ByteSink.written g.E.ByteSink.faults c.args.notes.now c.stopped-in-Err-Line.new.notes)
-    noise_answer (Refused c.faulty.result) c.stopped-in-Err-Line.result.status
+    noise_answer (Refused c.faulty_line.result) c.stopped-in-Err-Line.result.status
     (refused-line (lent g.S.ByteSource.left g.S.ByteSource.faults c.args.script.now c.read_input.new.source)
-    noise_answer c.in-Ok.text.items c.faulty.result Line
+    noise_answer c.in-Ok.text.items c.faulty_line.result Line
     (line_text c.in-Err-Line.number (kind_of c.in-Err-Line.fault) (help_of c.in-Err-Line.fault)) c.in-Ok.ensures.read
-    c.faulty.ensures.why (rw c.in-Err-Line.field-0-is at c.faulty.ensures.note)
+    c.faulty_line.ensures.why (rw c.in-Err-Line.field-0-is at c.faulty_line.ensures.note)
     (ap noise_answer (sym c.as_slice.ensures.value)
     ∙ ap got_through (rw c.in-Err-Line.field-0-is at c.in-Err-Line.ensures.fault)))
     c.stopped-in-Err-Line.ensures.status refl c.stopped-in-Err-Line.ensures.told

@@ -25,12 +25,12 @@ returns c =
     let has_list : m < length config.windows = omega (arith, c.requires.line, c.requires.network.windows_each) in
     let delay : c.index-2.result.now ≡ slice_index_or config.delays m 0 =
     get_or_read _ m c.index-2.result.now
-        (subst (λ (x : Config). m < length x.delays) (sym c.config.view_is) has_delay) c.index-2.ensures 0
+    (subst (λ (x : Config). m < length x.delays) (sym c.config.view_is) has_delay) c.index-2.ensures 0
     ∙ ap (λ (x : Config). slice_index_or x.delays m 0) c.config.view_is in
     let windows : c.in-Ok.windows ≡ slice_index_or config.windows m [] =
     c.in-Ok.ensures.value ∙ c.deref.ensures.value ∙ c.behind-config.view_is
     ∙ get_or_read _ m c.index.result.now
-        (subst (λ (x : Config). m < length x.windows) (sym c.config.view_is) has_list) c.index.ensures []
+    (subst (λ (x : Config). m < length x.windows) (sym c.config.view_is) has_list) c.index.ensures []
     ∙ ap (λ (x : Config). slice_index_or x.windows m []) c.config.view_is in
     if-ok c.new-2.result c.new-2.ensures
     (λ core stands. same-line core _ _ _ _ _ _ delay windows (ap (λ (x : Config). x.ticks) c.config.view_is) stands)

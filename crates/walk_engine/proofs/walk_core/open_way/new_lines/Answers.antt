@@ -18,10 +18,10 @@ loop-m-preserved c =
     let is = subst (λ (x : Config). IsOpened x c.loop-m.m c.in_ok-new.field-0) c.config.view_is
     (opened-at _ c.loop-m.m c.in_ok-new.field-0 _ _ _
     (get_or_read _ c.loop-m.m c.index.result.now
-        (subst (λ (x : Config). c.loop-m.m < length x.delays) (sym c.config.view_is) has_delay) c.index.ensures 0)
+    (subst (λ (x : Config). c.loop-m.m < length x.delays) (sym c.config.view_is) has_delay) c.index.ensures 0)
     (c.deref.ensures.value ∙ c.behind-config.view_is
     ∙ get_or_read _ c.loop-m.m c.index-in-loop-m.result.now (subst (λ (x : Config). c.loop-m.m < length x.windows)
-        (sym c.config.view_is) has_list) c.index-in-loop-m.ensures [])
+    (sym c.config.view_is) has_list) c.index-in-loop-m.ensures [])
     refl c.in_ok-new.ensures.has c.in_ok-new.ensures.ring c.in_ok-new.ensures.popped) in
     rw c.in_ok-push.ensures.items (opened-more c.args.config.now c.loop-m.m c.loop-m.lines.items c.in_ok-new.field-0
     c.loop-m.invariant is)
