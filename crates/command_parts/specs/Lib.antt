@@ -1,6 +1,7 @@
 pub mod Task
 pub mod Ends
 pub mod Stops
+pub mod Gives
 pub mod Helps
 pub mod Faults
 pub mod Scripts

@@ -5,7 +5,7 @@ ghost use Rattle.command_parts.specs.Task.{refused_status};
 ghost use Rattle.command_parts.specs.Stops.{status_at, note_of};
 
 use arrayvec::ArrayVec;
-use octet_io::{ByteSink, put_all};
+use octet_io::{ByteSink, Failed, put_all};
 
 /// What about an input isn't as a command takes it.
 #[derive(Clone, Copy, Debug, PartialEq, Eq)]
@@ -53,6 +53,15 @@ pub enum Stop {
     Write,
     /// Memory is short.
     Memory,
+}
+
+/// What a command made that came to write its answer.
+#[derive(Drop)]
+pub struct Ran<T> {
+    /// What was made.
+    pub made: T,
+    /// Whether all was written, or a write failed.
+    pub written: Result<(), Failed>,
 }
 
 /// The exit status of an input that isn't what a command takes.

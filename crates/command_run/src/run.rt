@@ -1,19 +1,22 @@
 //! `run`: a script's session is run, and what came of it is written.
-ghost use Rattle.std.specs.Prelude.{◌≡◌, ◌≢◌, ◌≤◌, None, OnOk, OnErr, map, string_bytes};
-ghost use Rattle.law_model.specs.Common.{Appends, AppendsPart, leg_of};
+ghost use Rattle.std.specs.Prelude.{◌≡◌, ◌≤◌, Some, OnOk, OnErr, map, string_bytes};
+ghost use Rattle.octet_io.specs.Transfer.{Appends, AppendsPart};
 ghost use Rattle.law_model.specs.declared.script_types.Script.{Script};
-ghost use Rattle.law_walk.specs.Common.{totals_among, numbered};
+ghost use Rattle.law_model.specs.session.Leg.{leg_of};
+ghost use Rattle.law_walk.specs.Landed.{totals_among};
+ghost use Rattle.law_walk.specs.Promise.{numbered};
+ghost use Rattle.law_walk.specs.Report.{final_report};
 ghost use Rattle.command_words.specs.Words.{number_in};
-ghost use Rattle.command_parts.specs.Common.{HasRunAt, reads, Ends, lent};
+ghost use Rattle.command_parts.specs.Task.{reads};
+ghost use Rattle.command_parts.specs.Ends.{lent};
+ghost use Rattle.command_parts.specs.Gives.{GivesAlone};
 ghost use Rattle.command_run.specs.Run.{run_of, run_words, run_answer};
-ghost use Rattle.command_run.specs.Ended.{HasEnded, HandsSession, end_text};
+ghost use Rattle.command_run.specs.Ended.{HasEnded, HasGot, HandsSession, end_text};
 
 use crate::command_of_words::RunCommand;
-use crate::run_end::{RunEnd, cut, done, stopped};
-use command_parts::{Stop, read_whole_script, write_rest};
-use command_words::number_within;
+use command_parts::{Ran, Stop, read_whole_script, write_rest};
 use law_model::Totals;
-use octet_io::{ByteSink, ByteSource, Failed, take_back};
+use octet_io::{ByteSink, ByteSink, ByteSource, ByteSource, Failed, Failed, take_back, take_back};
 use std::alloc::Global;
 use std::sync::Wait;
 use std::thread::Threads;
@@ -53,7 +56,7 @@ fn totals(ended: &Ended) -> Totals
 }
 
 /// Writes what follows the lines of delivered frames.
-pub fn write_end<K: ByteSink>(ended: &Ended, out: &mut K) -> Result<(), Failed>
+fn write_end<K: ByteSink>(ended: &Ended, out: &mut K) -> Result<(), Failed>
     ensures ok { (script : Script) → HasEnded script ended.now → OnOk result
         (Appends K.written K.faults out.old out.new (end_text script)) }
     ensures err { (script : Script) → HasEnded script ended.now → OnErr result
@@ -66,37 +69,46 @@ pub fn write_end<K: ByteSink>(ended: &Ended, out: &mut K) -> Result<(), Failed>
     end
 }
 
+/// Writes the end of a report, unless a write of its got lines has failed.
+pub fn end_report<K: ByteSink>(ended: &Ended, out: &mut K) -> Result<(), Failed>
+    ensures ok { (script : Script) (first : K) → HasEnded script ended.now →
+        HasGot K.written K.faults first out.old script ended.now → OnOk result
+        (Appends K.written K.faults first out.new (final_report (leg_of script))) }
+    ensures err { (script : Script) (first : K) → HasEnded script ended.now →
+        HasGot K.written K.faults first out.old script ended.now → OnErr result
+        (AppendsPart K.written K.faults first out.new (final_report (leg_of script))) }
+{
+    if ended.sink.failed() {
+        return Err(Failed);
+    }
+    write_end(ended, out)
+}
+
 /// Reads a script, runs its session with so many threads for its lines, and writes what comes of it.
-pub fn run<R: Threads + Wait + Sync, S: ByteSource, K: ByteSink, E: ByteSink, G: Gate>(
+pub fn run<R: Threads + Wait + Sync, S: ByteSource, K: ByteSink, G: Gate>(
     rt: &R,
     alloc: Global,
     workers: u8,
     script: &mut S,
     out: &mut K,
-    notes: &mut E,
     gate: &G,
-) -> RunEnd
+) -> Result<Ran<Ended>, Stop>
     requires least { 1 ≤ workers }
     requires most { workers ≤ 64 }
-    ensures ends { Ends (lent S.left S.faults script.old script.new)
-        (lent K.written K.faults out.old out.new) (lent E.written E.faults notes.old notes.new)
-        (reads run_answer) result.status }
-    ensures handed { HasRunAt result.status →
-        HandsSession (lent S.left S.faults script.old script.new) result.ended }
-    ensures kept { result.status ≢ 0 → result.status ≢ 4 → result.ended ≡ None }
+    ensures { GivesAlone (lent S.left S.faults script.old script.new)
+        (lent K.written K.faults out.old out.new) (reads run_answer)
+        (λ ended. HandsSession (lent S.left S.faults script.old script.new) (Some ended)) result }
 {
     let script = match read_whole_script(alloc, script) {
         Ok(script) => script,
-        Err(stop) => return stopped(stop, notes),
+        Err(stop) => return Err(stop),
     };
     let Ok(ended) = run_session(rt, alloc, script, workers, out, gate) else {
-        return stopped(Stop::Memory, notes);
+        return Err(Stop::Memory);
     };
-    if ended.sink.failed() {
-        return cut(ended, notes);
-    }
-    match write_end(&ended, out) {
-        Ok(()) => done(ended),
-        Err(Failed) => cut(ended, notes),
-    }
+    let written = end_report(&ended, out);
+    Ok(Ran {
+        made: ended,
+        written,
+    })
 }

@@ -1,10 +1,11 @@
 //! How a command ends.
-ghost use Rattle.std.specs.Prelude.{◌≡◌, Some, None, codes};
-ghost use Rattle.law_model.specs.Common.{Tells};
-ghost use Rattle.command_parts.specs.Common.{status_at, note_of};
+ghost use Rattle.std.specs.Prelude.{◌≡◌, ◌≢◌, None};
+ghost use Rattle.command_parts.specs.Ends.{lent};
+ghost use Rattle.command_parts.specs.Gives.{IsEnd};
+ghost use Rattle.command_run.specs.Ended.{ended_of};
 
-use command_parts::{Stop, tell};
-use octet_io::ByteSink;
+use command_parts::{Ran, Stop, tell};
+use octet_io::{ByteSink, Failed};
 use thread_session::session_run::Ended;
 
 /// How a call of the program ended.
@@ -16,39 +17,27 @@ pub struct RunEnd {
     pub ended: Option<Ended>,
 }
 
-/// All was written.
-pub fn done(ended: Ended) -> RunEnd
-    ensures status { result.status ≡ 0 }
-    ensures ended { result.ended ≡ Some ended }
+/// How the program ends with what a command gives. A write that failed, and why a command stopped before it wrote
+/// anything, is said on `notes`.
+pub fn end_of<E: ByteSink>(ran: Result<Ran<Ended>, Stop>, notes: &mut E) -> RunEnd
+    ensures end { IsEnd (lent E.written E.faults notes.old notes.new) ran result.status }
+    ensures ended { result.ended ≡ ended_of ran }
+    ensures kept { result.status ≢ 0 → result.status ≢ 4 → result.ended ≡ None }
 {
-    RunEnd {
-        status: 0,
-        ended: Some(ended),
-    }
-}
-
-/// A write failed, which is said on `notes`.
-pub fn cut<E: ByteSink>(ended: Ended, notes: &mut E) -> RunEnd
-    ensures status { result.status ≡ 4 }
-    ensures ended { result.ended ≡ Some ended }
-    ensures told { Tells E.written E.faults notes.old notes.new (codes "fault: write failed\n") }
-{
-    let status = tell(&Stop::Write, notes);
-    RunEnd {
-        status,
-        ended: Some(ended),
-    }
-}
-
-/// The command stopped before it came to a session, and `notes` are told why.
-pub fn stopped<E: ByteSink>(stop: Stop, notes: &mut E) -> RunEnd
-    ensures status { result.status ≡ status_at stop }
-    ensures ended { result.ended ≡ None }
-    ensures told { Tells E.written E.faults notes.old notes.new (note_of stop) }
-{
-    let status = tell(&stop, notes);
-    RunEnd {
-        status,
-        ended: None,
+    match ran {
+        Ok(own) => match own.written {
+            Ok(()) => RunEnd {
+                status: 0,
+                ended: Some(own.made),
+            },
+            Err(Failed) => RunEnd {
+                status: tell(&Stop::Write, notes),
+                ended: Some(own.made),
+            },
+        },
+        Err(stop) => RunEnd {
+            status: tell(&stop, notes),
+            ended: None,
+        },
     }
 }

@@ -8,7 +8,7 @@ ghost use Rattle.command_run.specs.Ended.{HandsSession};
 
 use crate::command_of_words::RunCommand;
 use crate::run::run;
-use crate::run_end::{RunEnd, stopped};
+use crate::run_end::{RunEnd, RunEnd, end_of, stopped};
 use crate::watch::watch;
 use command_parts::{Stop, tell_usage};
 use command_words::{WordFault, read_words};
@@ -60,10 +60,15 @@ pub fn run_top<R: Threads + Wait + Sync, S: ByteSource, K: ByteSink, E: ByteSink
     ensures kept { result.status ≢ 0 → result.status ≢ 4 → result.ended ≡ None }
 {
     match read_words(alloc, words) {
-        Ok(RunCommand::Run { workers }) => run(rt, alloc, workers, script, out, notes, gate),
-        Ok(RunCommand::Watch { workers }) => watch(rt, alloc, workers, script, out, notes, gate),
+        Ok(RunCommand::Run { workers }) => end_of(
+            run(rt, alloc, workers, script, out, gate),
+            notes,
+        ),
+        Ok(RunCommand::Watch { workers }) => {
+            end_of(watch(rt, alloc, workers, script, out, notes, gate), notes)
+        }
         Err(WordFault::Usage) => no_command(notes),
-        Err(WordFault::Memory) => stopped(Stop::Memory, notes),
+        Err(WordFault::Memory) => end_of(Err(Stop::Memory), notes),
     }
 }
 

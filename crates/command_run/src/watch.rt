@@ -1,18 +1,18 @@
 //! `watch`: a script's session is run, and what came of it is written, with the alarms of its lines on `notes`.
-ghost use Rattle.std.specs.Prelude.{◌≡◌, ◌≢◌, ◌≤◌, ◌<◌, None, OnOk, OnErr, map, string_bytes};
-ghost use Rattle.law_model.specs.Common.{Appends, AppendsPart};
+ghost use Rattle.std.specs.Prelude.{◌≡◌, ◌≤◌, ◌<◌, Some, OnOk, OnErr, map, string_bytes};
+ghost use Rattle.octet_io.specs.Transfer.{Appends, AppendsPart};
 ghost use Rattle.command_words.specs.Words.{number_in};
 ghost use Rattle.thread_alarms.specs.alarm_log.Logs.{alarms_in};
 ghost use Rattle.thread_alarms.specs.alarm_text.Text.{lines_text};
-ghost use Rattle.command_parts.specs.Common.{HasRunAt, reads, Ends, lent};
+ghost use Rattle.command_parts.specs.Task.{reads};
+ghost use Rattle.command_parts.specs.Ends.{lent};
+ghost use Rattle.command_parts.specs.Gives.{Gives};
 ghost use Rattle.command_run.specs.Watch.{watch_of, watch_words, watch_answer};
 ghost use Rattle.command_run.specs.Ended.{HandsSession};
 
 use crate::command_of_words::RunCommand;
-use crate::run::write_end;
-use crate::run_end::{RunEnd, cut, done, stopped};
-use command_parts::{Stop, read_whole_script};
-use command_words::number_within;
+use crate::run::end_report;
+use command_parts::{Ran, Stop, read_whole_script};
 use octet_io::{ByteSink, ByteSource, Failed, take_back};
 use std::alloc::Global;
 use std::sync::Wait;
@@ -21,7 +21,7 @@ use text_got::GotLines;
 use thread_alarms::alarm_log::AlarmList;
 use thread_alarms::alarm_text::write_alarms;
 use thread_rings::Gate;
-use thread_session::session_run::run_watched;
+use thread_session::session_run::{Ended, run_watched};
 
 /// The watched run of a number of workers.
 fn watch_of(workers: &[u8]) -> Option<RunCommand>
@@ -65,32 +65,31 @@ pub fn watch<R: Threads + Wait + Sync, S: ByteSource, K: ByteSink, E: ByteSink, 
     out: &mut K,
     notes: &mut E,
     gate: &G,
-) -> RunEnd
+) -> Result<Ran<Ended>, Stop>
     requires least { 1 ≤ workers }
     requires most { workers ≤ 64 }
-    ensures ends { Ends (lent S.left S.faults script.old script.new)
+    ensures { Gives (lent S.left S.faults script.old script.new)
         (lent K.written K.faults out.old out.new) (lent E.written E.faults notes.old notes.new)
-        (reads watch_answer) result.status }
-    ensures handed { HasRunAt result.status →
-        HandsSession (lent S.left S.faults script.old script.new) result.ended }
-    ensures kept { result.status ≢ 0 → result.status ≢ 4 → result.ended ≡ None }
+        (reads watch_answer)
+        (λ ended. HandsSession (lent S.left S.faults script.old script.new) (Some ended)) result }
 {
     let script = match read_whole_script(alloc, script) {
         Ok(script) => script,
-        Err(stop) => return stopped(stop, notes),
+        Err(stop) => return Err(stop),
     };
     let lines = script.config.lines;
     let Ok((ended, list)) = run_watched(rt, alloc, script, workers, out, gate) else {
-        return stopped(Stop::Memory, notes);
+        return Err(Stop::Memory);
     };
-    if ended.sink.failed() {
-        return cut(ended, notes);
-    }
-    let Ok(()) = write_end(&ended, out) else {
-        return cut(ended, notes);
+    let Ok(()) = end_report(&ended, out) else {
+        return Ok(Ran {
+            made: ended,
+            written: Err(Failed),
+        });
     };
-    match tell_alarms(lines, &list, notes) {
-        Ok(()) => done(ended),
-        Err(Failed) => cut(ended, notes),
-    }
+    let written = tell_alarms(lines, &list, notes);
+    Ok(Ran {
+        made: ended,
+        written,
+    })
 }

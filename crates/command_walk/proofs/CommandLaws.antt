@@ -1,6 +1,6 @@
 -- What is known of a command by the words that it was, and of its task.
 use Rattle.std.proofs.Common.{◌≡◌, ◌<◌, ◌≤◌, ℕ, List, Option, Some, None, IfSome, Bool, true, false, ◌&&◌, nat_le, inl}
-use Rattle.std.proofs.Common.{inr, refl, sym, ◌∙◌, ap, subst, arith, if◌then◌else◌, map}
+use Rattle.std.proofs.Common.{inr, refl, subst, arith, if◌then◌else◌, map}
 use Rattle.std.specs.Prelude.{String, string_bytes, IsNone, nat_lt, length, drop, ◌==◌, bytes_eq, codes}
 use Rattle.std.specs.Option.{option_or}
 use Rattle.std.specs.declared.alloc.Global.{Global}
@@ -8,11 +8,10 @@ use Rattle.std.proofs.lemmas.Bool.{cases_Bool, and_parts, leb-true, ltb-true}
 use Rattle.text_lines.specs.Words.{number_of}
 use Rattle.command_words.specs.Words.{is_number, number_in, are_plain}
 use Rattle.law_model.specs.Common.{IsWithin, longest_frame}
-use Rattle.text_scripts.specs.rate_load.RateTexts.{IsRateLoad}
-use Rattle.command_parts.specs.Common.{Answer, Task, none, makes, IsCommand, Lent, Kept, IsTold, Ends, no_source}
+use Rattle.command_parts.specs.Common.{none, makes, IsCommand, Lent, Kept, IsTold, Ends}
 use Rattle.command_parts.specs.Common.{no_command, note_of, HasRunAt}
 use Rattle.command_parts.specs.declared.stop_and_status.Stop.TheVariants.{Memory}
-use Rattle.command_parts.proofs.StopLaws.{made-beside, ends-no-memory}
+use Rattle.command_parts.proofs.StopLaws.{ends-no-memory}
 use Rattle.command_walk.specs.declared.command_of_words.WalkCommand.{WalkCommand}
 use Rattle.command_walk.specs.declared.command_of_words.WalkCommand.TheVariants.{Walk, Trace, Fates, Capture, Gfp, Frames, Decode, Noise, Au4, Channels, Pair, Make, Service, Stream}
 use Rattle.command_walk.specs.commands.Walk.{word_at, is_word, walk_words}
@@ -29,26 +28,10 @@ use Rattle.command_walk.specs.commands.Channels.{channels_words}
 use Rattle.command_walk.specs.commands.Pair.{pair_words}
 use Rattle.command_walk.specs.commands.Make.{load_of, make_words}
 use Rattle.command_walk.specs.commands.Stream.{ticks_of, rate_of, numbers_in, stream_words}
-use Rattle.command_walk.specs.WordsOfCommands.{command_of, task_at, command_in, task_for, task_of, usage}
+use Rattle.command_walk.specs.WordsOfCommands.{command_of, command_in, task_for, task_of, usage}
+use Rattle.command_walk.specs.WordsOfCommands.{Fits}
 
 -- ---- numbers
--- the numbers of a command are within their bounds
-abbrev pub Fits : WalkCommand → Type 0
-Fits Walk = Unit {0}
-Fits Trace = Unit {0}
-Fits Fates = Unit {0}
-Fits (Service interval) = IsWithin 1 1000000 interval
-Fits Capture = Unit {0}
-Fits Gfp = Unit {0}
-Fits Frames = Unit {0}
-Fits Decode = Unit {0}
-Fits Noise = Unit {0}
-Fits Au4 = Unit {0}
-Fits Channels = Unit {0}
-Fits Pair = Unit {0}
-Fits (Make number lines ticks) = IsWithin 1 64 lines × IsWithin 1 1000000 ticks
-Fits (Stream load) = IsRateLoad load
-
 number-fits : (least most : ℕ) (w : List ℕ) → IfSome (number_in least most w) (IsWithin least most)
 number-fits least most w =
     elim (cases_Bool (is_number w && (nat_le least (number_of w) && nat_le (number_of w) most))) [
@@ -244,13 +227,6 @@ not-run status (inr at) is = omega (arith, at, is)
 -- ---- the ends
 module _ {S K E : Type 0} (source : Lent S) (out : Lent K) (notes : Lent E) (words : List (String Global))
     (status : ℕ) where
-  pub ends-made : (command : WalkCommand) (answer : Answer) → command_in words ≡ Some command →
-      task_at command ≡ makes answer → Kept source
-      → Ends no_source out notes (makes answer) status → Ends source out notes (task_of words) status
-  ends-made command answer is task kept ends =
-      let P : Task → Type 0 = λ task. Ends source out notes task status in
-      subst P (sym (ap task_for is ∙ task)) (made-beside source out notes answer status kept ends)
-
   pub ends-usage : IsNone (command_in words) → status ≡ 2 → Kept source → Kept out → IsTold notes usage →
       Ends source out notes (task_of words) status
   ends-usage is at kept nothing told =

@@ -54,7 +54,7 @@ module _ (number lines ticks : ℕ) (was now : Walked) (script : was.script ≡ 
     (begun : was.counts ≡ begin (walk_plan (leg_of was.script))) (same : now.script ≡ was.script)
     (drained : now.counts ≡ drain (bound (walk_plan (leg_of was.script))) (walk_plan (leg_of was.script)) was.counts)
   where
-    counts-are : now.counts ≡ counts_in (load number lines ticks)
+    pub counts-are : now.counts ≡ counts_in (load number lines ticks)
     counts-are =
         drained ∙ ap (drain (bound (walk_plan (leg_of was.script))) (walk_plan (leg_of was.script))) begun
         ∙ ap (λ (s : Script). drain (bound (walk_plan (leg_of s))) (walk_plan (leg_of s))

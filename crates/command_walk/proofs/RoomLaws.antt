@@ -1,7 +1,8 @@
--- How the rooms of the commands end.
+-- What the rooms of the commands make, and the headline of what they write.
 use Rattle.std.proofs.Common.{◌≡◌, ◌≤◌, ℕ, List, length, Option, Some, IfSome, Result, Ok, Err, refl, sym, ◌∙◌, ap}
 use Rattle.std.proofs.Common.{subst, inl, inr, arith}
 use Rattle.law_model.specs.Common.{AppendsPart, Counts}
+use Rattle.std.proofs.Common.{OnOk}
 use Rattle.law_model.specs.declared.script_types.Script.{Script}
 use Rattle.text_scripts.specs.declared.script_read.script_fault.ScriptFault.{ScriptFault}
 use Rattle.text_scripts.specs.script_read.Script.{script_of}
@@ -9,7 +10,9 @@ use Rattle.law_headline.specs.Texts.{counts_in, walk_text}
 use Rattle.law_headline.specs.Headline.{IsWalkHeadline}
 use Rattle.law_headline.proofs.HeadlineLaws.{walk_headline}
 use Rattle.walk_engine.specs.Common.{Walked}
-use Rattle.command_parts.specs.Common.{Answer, reads, Lent, Takes, WritesAll, Ends, HasScript, answer_of, script_answer}
+use Rattle.command_parts.specs.Common.{Answer, reads, Lent, Takes, WritesAll, Ends, HasScript, answer_of}
+use Rattle.command_parts.specs.Common.{script_answer}
+use Rattle.command_parts.specs.Task.{writes, writes_both}
 use Rattle.command_parts.proofs.EndLaws.{is-done, known-text}
 use Rattle.pair_script.specs.declared.script_pair.PairFault.{PairFault}
 use Rattle.pair_script.specs.declared.script_pair.ScriptPair.{ScriptPair}
@@ -19,10 +22,15 @@ use Rattle.pair_walk.specs.Text.{way_text, pair_text, pair_reply}
 use Rattle.pair_walk.proofs.HeadlineLaws.{pair_headline}
 use Rattle.command_walk.specs.commands.Pair.{TellsPair}
 use Rattle.command_walk.specs.declared.command_of_words.WalkCommand.{WalkCommand}
+use Rattle.command_walk.specs.declared.command_of_words.WalkCommand.TheVariants.{Walk, Trace, Fates, Capture, Gfp, Frames}
+use Rattle.command_walk.specs.declared.command_of_words.WalkCommand.TheVariants.{Decode, Noise, Au4, Channels, Pair, Make}
+use Rattle.command_walk.specs.declared.command_of_words.WalkCommand.TheVariants.{Service, Stream}
+use Rattle.command_walk.specs.commands.Trace.{trace_text}
+use Rattle.command_walk.specs.WordsOfCommands.{task_at, RunsScript}
 use Rattle.command_walk.specs.Ended.{HandsScript, StopsBoth}
 
 -- the walk of a script
-walk-is : (walk : Walked) (script : Script) (s : Counts) → walk.script ≡ script → walk.counts ≡ s →
+pub walk-is : (walk : Walked) (script : Script) (s : Counts) → walk.script ≡ script → walk.counts ≡ s →
     walk ≡ record { script = script; counts = s }
 walk-is walk script s same counts =
     let f : Script → Walked = λ script. record { script = script; counts = walk.counts } in
@@ -34,6 +42,11 @@ pub hands-script : {S : Type 0} (source : Lent S) (script : Script) (walk : Walk
     → HandsScript source (Some walk)
 hands-script source script walk has mine counts =
     (script, has, ap Some (walk-is walk script (counts_in script) mine counts))
+
+-- both facts of what is written, where it is
+pub both-ok : {T X : Type 0} (A B : Type 0) (end_ : Result T X) → OnOk end_ A → OnOk end_ B → OnOk end_ (A × B)
+both-ok A B (Ok t) a b = (a, b)
+both-ok A B (Err x) a b = tt
 
 -- ---- notes that go nowhere don't fail
 pub stops-out : {K E : Type 0} (k_written : K → Option (List ℕ)) (k_faults : K → ℕ) (k_old k_new : K) (text : List ℕ)
@@ -62,6 +75,29 @@ module _ {S K E : Type 0} (source : Lent S) (out : Lent K) (notes : Lent E) (ans
       let text = it.meets.0 in
       known-text source IsTold text it.meets.1
       (told-by text (script_of text) refl it.meets.1.fits (subst (WritesAll out notes) (sym it.meets.2) it.written))
+
+module _ {S K E : Type 0} (source : Lent S) (out : Lent K) (notes : Lent E) (status : ℕ) where
+  -- of a command that runs a script and writes its report
+  pub headline-of : (command : WalkCommand) → RunsScript command → Ends source out notes (task_at command) status →
+      status ≡ 0 → IfSome (source.octets source.old) (λ text. (written : List ℕ) × Takes out written ×
+      IsWalkHeadline text written)
+  headline-of Walk runs ends at =
+      tells-headline source out notes (λ script. writes (walk_text script)) status (λ script all. all.0) ends at
+  headline-of Trace runs ends at =
+      tells-headline source out notes (λ script. writes_both (walk_text script) (trace_text script)) status
+      (λ script all. all.0) ends at
+  headline-of Fates runs ends at = absurd runs
+  headline-of (Service interval) runs ends at = absurd runs
+  headline-of Capture runs ends at = absurd runs
+  headline-of Gfp runs ends at = absurd runs
+  headline-of Frames runs ends at = absurd runs
+  headline-of Decode runs ends at = absurd runs
+  headline-of Noise runs ends at = absurd runs
+  headline-of Au4 runs ends at = absurd runs
+  headline-of Channels runs ends at = absurd runs
+  headline-of Pair runs ends at = absurd runs
+  headline-of (Make number lines ticks) runs ends at = absurd runs
+  headline-of (Stream rate) runs ends at = absurd runs
 
 -- ---- the headline of a pair
 module _ {S K E : Type 0} (source : Lent S) (out : Lent K) (notes : Lent E) (status : ℕ) where

@@ -1,5 +1,6 @@
 -- What `walk` writes of a text of which `fates` says that each start was true.
-use Rattle.std.proofs.Common.{◌≡◌, ℕ, ◌≤◌, Bool, true, false, List, [], ◌++◌, length, refl, sym, ◌∙◌, ap, append_assoc}
+use Rattle.std.proofs.Common.{◌≡◌, ℕ, ◌≤◌, Bool, true, false, List, [], ◌++◌, length, refl, sym, ◌∙◌, ap}
+use Rattle.std.proofs.Common.{append_assoc}
 use Rattle.std.proofs.Common.{arith, Result, Ok, Err, codes, decimal, ◌-◌, ◌+◌, reverse, slice_index_or, flat_map}
 use Rattle.std.proofs.lemmas.List.{reverse-append}
 use Rattle.law_model.specs.Common.{Counts, Leg, leg_of, scenario_by}

@@ -2,7 +2,9 @@
 use Rattle.std.specs.Prelude.{◌≡◌, ℕ, List, Option, Some, None, String, map, string_bytes, codes}
 use Rattle.std.specs.Option.{option_or}
 use Rattle.std.specs.declared.alloc.Global.{Global}
+use Rattle.law_model.specs.session.Valid.{IsWithin}
 use Rattle.text_scripts.specs.make_load.Load.{load}
+use Rattle.text_scripts.specs.rate_load.RateTexts.{IsRateLoad}
 use Rattle.command_words.specs.Words.{taken_as}
 use Rattle.command_parts.specs.Common.{Task, none, reads, makes, Lent}
 use Rattle.walk_engine.specs.Common.{Walked}
@@ -97,6 +99,23 @@ RunsScript Channels = ⊥
 RunsScript Pair = ⊥
 RunsScript (Make number lines ticks) = ⊥
 RunsScript (Stream rate) = ⊥
+
+-- the numbers of a command are within their bounds
+abbrev pub Fits : WalkCommand → Type 0
+Fits Walk = Unit {0}
+Fits Trace = Unit {0}
+Fits Fates = Unit {0}
+Fits (Service interval) = IsWithin 1 1000000 interval
+Fits Capture = Unit {0}
+Fits Gfp = Unit {0}
+Fits Frames = Unit {0}
+Fits Decode = Unit {0}
+Fits Noise = Unit {0}
+Fits Au4 = Unit {0}
+Fits Channels = Unit {0}
+Fits Pair = Unit {0}
+Fits (Make number lines ticks) = IsWithin 1 64 lines × IsWithin 1 1000000 ticks
+Fits (Stream load) = IsRateLoad load
 
 -- ---- of the words of a command line
 abbrev pub command_in : List (String Global) → Option WalkCommand

@@ -2,10 +2,12 @@
 ghost use Rattle.std.specs.Prelude.{◌≡◌, ◌≢◌, List, ℕ, IfSome, Some, None};
 ghost use Rattle.law_model.specs.Common.{Appends, Tells};
 ghost use Rattle.law_headline.specs.Headline.{IsWalkHeadline};
-ghost use Rattle.command_parts.specs.Common.{HasRunAt, Ends, lent};
+ghost use Rattle.command_parts.specs.Status.{HasRunAt};
+ghost use Rattle.command_parts.specs.Ends.{Ends, lent};
+ghost use Rattle.command_parts.specs.Gives.{Gives};
 ghost use Rattle.command_walk.specs.declared.command_of_words.WalkCommand.TheVariants.{Pair};
 ghost use Rattle.command_walk.specs.commands.Pair.{TellsPair};
-ghost use Rattle.command_walk.specs.WordsOfCommands.{command_in, task_of, usage, HandsBack, RunsScript};
+ghost use Rattle.command_walk.specs.WordsOfCommands.{command_in, task_at, task_of, usage, Fits, HandsBack, RunsScript};
 
 use crate::command_of_words::WalkCommand;
 use crate::commands::au4::au4;
@@ -22,11 +24,12 @@ use crate::commands::service::service;
 use crate::commands::stream::stream;
 use crate::commands::trace::trace;
 use crate::commands::walk::walk;
-use crate::walk_end::{WalkEnd, stopped};
-use command_parts::{Stop, tell_usage};
+use crate::walk_end::{WalkEnd, end_of};
+use command_parts::{Ran, Stop, tell_usage};
 use command_words::{WordFault, read_words};
 use octet_io::{ByteSink, ByteSource};
 use std::alloc::Global;
+use walk_engine::walk_core::Walk;
 
 /// Runs the command that the words say. `walk` reads a script, makes its walk and writes on `out` the got
 /// lines of the frames that it delivers, the lines of refused items, and the line of totals; without event
@@ -85,28 +88,45 @@ pub fn walk_top<S: ByteSource, K: ByteSink, E: ByteSink>(
     ensures kept { result.status ≢ 0 → result.status ≢ 4 → result.walk ≡ None }
 {
     match read_words(alloc, words) {
-        Ok(WalkCommand::Walk) => walk(alloc, script, out, notes),
-        Ok(WalkCommand::Trace) => trace(alloc, script, out, notes),
-        Ok(WalkCommand::Fates) => fates(alloc, script, out, notes),
-        Ok(WalkCommand::Service { interval }) => service(alloc, interval, script, out, notes),
-        Ok(WalkCommand::Capture) => capture(alloc, script, out, notes),
-        Ok(WalkCommand::Gfp) => gfp(alloc, script, out, notes),
-        Ok(WalkCommand::Frames) => frames(alloc, script, out, notes),
-        Ok(WalkCommand::Decode) => decode(alloc, script, out, notes),
-        Ok(WalkCommand::Noise) => noise(alloc, script, out, notes),
-        Ok(WalkCommand::Au4) => au4(alloc, script, out, notes),
-        Ok(WalkCommand::Channels) => channels(alloc, script, out, notes),
-        Ok(WalkCommand::Pair) => pair(alloc, script, out, notes),
-        Ok(
-            WalkCommand::Make {
-                number,
-                lines,
-                ticks,
-            },
-        ) => make(alloc, number, lines, ticks, out, notes),
-        Ok(WalkCommand::Stream(load)) => stream(&load, out, notes),
+        Ok(command) => end_of(run(alloc, command, script, out, notes), notes),
         Err(WordFault::Usage) => no_command(notes),
-        Err(WordFault::Memory) => stopped(Stop::Memory, notes),
+        Err(WordFault::Memory) => end_of(Err(Stop::Memory), notes),
+    }
+}
+
+/// Runs a command. Where it stops before it has written anything, it is the caller who tells.
+fn run<S: ByteSource, K: ByteSink, E: ByteSink>(
+    alloc: Global,
+    command: WalkCommand,
+    script: &mut S,
+    out: &mut K,
+    notes: &mut E,
+) -> Result<Ran<Option<Walk>>, Stop>
+    requires { Fits command }
+    ensures { Gives (lent S.left S.faults script.old script.new)
+        (lent K.written K.faults out.old out.new) (lent E.written E.faults notes.old notes.new)
+        (task_at command)
+        (λ walk. HandsBack (lent S.left S.faults script.old script.new) walk command) result }
+{
+    match command {
+        WalkCommand::Walk => walk(alloc, script, out),
+        WalkCommand::Trace => trace(alloc, script, out, notes),
+        WalkCommand::Fates => fates(alloc, script, out),
+        WalkCommand::Service { interval } => service(alloc, interval, script, out),
+        WalkCommand::Capture => capture(alloc, script, out),
+        WalkCommand::Gfp => gfp(alloc, script, out),
+        WalkCommand::Frames => frames(alloc, script, out),
+        WalkCommand::Decode => decode(alloc, script, out),
+        WalkCommand::Noise => noise(alloc, script, out),
+        WalkCommand::Au4 => au4(alloc, script, out),
+        WalkCommand::Channels => channels(alloc, script, out),
+        WalkCommand::Pair => pair(alloc, script, out, notes),
+        WalkCommand::Make {
+            number,
+            lines,
+            ticks,
+        } => make(alloc, number, lines, ticks, out),
+        WalkCommand::Stream(load) => stream(&load, out),
     }
 }
 

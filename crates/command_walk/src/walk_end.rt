@@ -1,10 +1,11 @@
 //! How a command ends.
-ghost use Rattle.std.specs.Prelude.{◌≡◌, None, codes};
-ghost use Rattle.law_model.specs.Common.{Tells};
-ghost use Rattle.command_parts.specs.Common.{status_at, note_of};
+ghost use Rattle.std.specs.Prelude.{◌≡◌, ◌≢◌, None};
+ghost use Rattle.command_parts.specs.Ends.{lent};
+ghost use Rattle.command_parts.specs.Gives.{IsEnd};
+ghost use Rattle.command_walk.specs.Ended.{walk_of};
 
-use command_parts::{Stop, tell};
-use octet_io::ByteSink;
+use command_parts::{Ran, Stop, tell};
+use octet_io::{ByteSink, Failed};
 use walk_engine::walk_core::Walk;
 
 /// How a call of the program ended.
@@ -17,30 +18,27 @@ pub struct WalkEnd {
     pub walk: Option<Walk>,
 }
 
-/// All was written.
-pub fn done(walk: Option<Walk>) -> WalkEnd
-    ensures status { result.status ≡ 0 }
-    ensures walk { result.walk ≡ walk }
+/// How the program ends with what a command gives. A write that failed, and why a command stopped before it wrote
+/// anything, is said on `notes`.
+pub fn end_of<E: ByteSink>(ran: Result<Ran<Option<Walk>>, Stop>, notes: &mut E) -> WalkEnd
+    ensures end { IsEnd (lent E.written E.faults notes.old notes.new) ran result.status }
+    ensures walk { result.walk ≡ walk_of ran }
+    ensures kept { result.status ≢ 0 → result.status ≢ 4 → result.walk ≡ None }
 {
-    WalkEnd { status: 0, walk }
-}
-
-/// A write failed, which is said on `notes`.
-pub fn cut<E: ByteSink>(walk: Option<Walk>, notes: &mut E) -> WalkEnd
-    ensures status { result.status ≡ 4 }
-    ensures walk { result.walk ≡ walk }
-    ensures told { Tells E.written E.faults notes.old notes.new (codes "fault: write failed\n") }
-{
-    let status = tell(&Stop::Write, notes);
-    WalkEnd { status, walk }
-}
-
-/// The command stopped before it came to a walk, and `notes` are told why.
-pub fn stopped<E: ByteSink>(stop: Stop, notes: &mut E) -> WalkEnd
-    ensures status { result.status ≡ status_at stop }
-    ensures walk { result.walk ≡ None }
-    ensures told { Tells E.written E.faults notes.old notes.new (note_of stop) }
-{
-    let status = tell(&stop, notes);
-    WalkEnd { status, walk: None }
+    match ran {
+        Ok(own) => match own.written {
+            Ok(()) => WalkEnd {
+                status: 0,
+                walk: own.made,
+            },
+            Err(Failed) => WalkEnd {
+                status: tell(&Stop::Write, notes),
+                walk: own.made,
+            },
+        },
+        Err(stop) => WalkEnd {
+            status: tell(&stop, notes),
+            walk: None,
+        },
+    }
 }

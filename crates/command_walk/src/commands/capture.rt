@@ -1,5 +1,5 @@
 //! `capture`: a script's walk is made, and the frames that it delivers are written as a capture.
-ghost use Rattle.std.specs.Prelude.{◌≡◌, ◌≢◌, ℕ, List, None, Ok, OnOk, OnErr, map, replicate, string_bytes};
+ghost use Rattle.std.specs.Prelude.{◌≡◌, ℕ, List, Ok, OnOk, OnErr, map, replicate, string_bytes};
 ghost use Rattle.std.specs.List.{flat_map};
 ghost use Rattle.law_model.specs.Common.{Start, Appends, AppendsPart, leg_of, IsValid, IsEvent, begin, run, run_line};
 ghost use Rattle.law_model.specs.Common.{drain, bound};
@@ -9,7 +9,9 @@ ghost use Rattle.law_walk.specs.Common.{walk_plan, IsWalked, delivered_of};
 ghost use Rattle.law_headline.specs.Texts.{counts_in};
 ghost use Rattle.text_captures.specs.capture_file.Written.{RowFrame, due_frames};
 ghost use Rattle.text_captures.specs.capture_file.Reading.{capture_said};
-ghost use Rattle.command_parts.specs.Common.{HasRunAt, reads, Ends, lent};
+ghost use Rattle.command_parts.specs.Task.{reads};
+ghost use Rattle.command_parts.specs.Ends.{lent};
+ghost use Rattle.command_parts.specs.Gives.{GivesAlone};
 ghost use Rattle.command_walk.specs.commands.Capture.{HasTaken, taken_frames, capture_octets, capture_words, capture_answer};
 ghost use Rattle.command_walk.specs.Told.{events_of, IsTurn};
 ghost use Rattle.command_walk.specs.Ended.{HandsScript};
@@ -17,9 +19,9 @@ ghost use Rattle.command_walk.specs.Ended.{HandsScript};
 use crate::command_of_words::WalkCommand;
 use crate::turns::ready_walk::read_walk;
 use crate::turns::trace_turns::{Turn, make_turn, turns_of};
-use crate::walk_end::{WalkEnd, cut, done, stopped};
+use command_parts::{Ran, Stop};
 use law_model::EventLine;
-use octet_io::{ByteSink, ByteSource, Failed, take_back};
+use octet_io::{ByteSink, ByteSink, ByteSource, ByteSource, Failed, Failed, take_back, take_back};
 use std::alloc::Global;
 use text_captures::capture_file::CaptureOut;
 use walk_engine::walk_core::Walk;
@@ -146,28 +148,26 @@ fn write_capture<K: ByteSink>(
 }
 
 /// Reads a script, makes its walk and writes a capture of the frames that it delivers.
-pub fn capture<S: ByteSource, K: ByteSink, E: ByteSink>(
+pub fn capture<S: ByteSource, K: ByteSink>(
     alloc: Global,
     script: &mut S,
     out: &mut K,
-    notes: &mut E,
-) -> WalkEnd
-    ensures ends { Ends (lent S.left S.faults script.old script.new)
-        (lent K.written K.faults out.old out.new) (lent E.written E.faults notes.old notes.new)
-        (reads capture_answer) result.status }
-    ensures handed { HasRunAt result.status →
-        HandsScript (lent S.left S.faults script.old script.new) result.walk }
-    ensures kept { result.status ≢ 0 → result.status ≢ 4 → result.walk ≡ None }
+) -> Result<Ran<Option<Walk>>, Stop>
+    ensures { GivesAlone (lent S.left S.faults script.old script.new)
+        (lent K.written K.faults out.old out.new)
+        (reads capture_answer)
+        (HandsScript (lent S.left S.faults script.old script.new)) result }
 {
     let begun = match read_walk(alloc, script) {
         Ok(begun) => begun,
-        Err(stop) => return stopped(stop, notes),
+        Err(stop) => return Err(stop),
     };
     let mut walk = begun.walk;
-    match write_capture(&mut walk, begun.lines.as_slice(), begun.size.ticks, out) {
-        Ok(()) => done(Some(walk)),
-        Err(Failed) => cut(Some(walk), notes),
-    }
+    let written = write_capture(&mut walk, begun.lines.as_slice(), begun.size.ticks, out);
+    Ok(Ran {
+        made: Some(walk),
+        written,
+    })
 }
 
 /// The frames of a capture are exactly those that the rows deliver, in order and each once.

@@ -3,18 +3,20 @@ ghost use Rattle.std.specs.Prelude.{◌≡◌, ℕ, ◌+◌, ◌<◌, ◌≤◌,
 ghost use Rattle.std.specs.Prelude.{string_bytes};
 ghost use Rattle.law_model.specs.Common.{Appends, AppendsPart, decoded_text};
 ghost use Rattle.text_captures.specs.packet_trace.Decoder.{DecoderStands};
-ghost use Rattle.command_parts.specs.Common.{reads, Ends, lent};
+ghost use Rattle.command_parts.specs.Task.{reads};
+ghost use Rattle.command_parts.specs.Ends.{lent};
+ghost use Rattle.command_parts.specs.Gives.{GivesAlone};
 ghost use Rattle.command_walk.specs.commands.Decode.{decode_words, decode_answer};
 ghost use Rattle.command_walk.specs.Written.{HasLines, HasLinesPart};
 
 use crate::command_of_words::WalkCommand;
 use crate::hex_text::{HexTextFault, read_octets};
-use crate::walk_end::{WalkEnd, cut, done, stopped};
-use command_parts::{Stop, line_fault, read_input};
+use command_parts::{Ran, Stop, line_fault, read_input};
 use octet_io::{ByteSink, ByteSource, Failed, put_all};
 use std::alloc::Global;
 use text_captures::packet_trace::{FOUND_ROOM, H4Decoder, end_line, found_line};
 use text_lines::LineKind;
+use walk_engine::walk_core::Walk;
 
 /// How a line is written.
 const HELP: &[u8] = b"a line is an even number of hexadecimal digits";
@@ -79,33 +81,29 @@ fn write_packets<K: ByteSink>(octets: &[u8], out: &mut K) -> Result<(), Failed>
 }
 
 /// Reads the H4 octets of a line and writes the control packets in them.
-pub fn decode<S: ByteSource, K: ByteSink, E: ByteSink>(
+pub fn decode<S: ByteSource, K: ByteSink>(
     alloc: Global,
     script: &mut S,
     out: &mut K,
-    notes: &mut E,
-) -> WalkEnd
-    ensures ends { Ends (lent S.left S.faults script.old script.new)
-        (lent K.written K.faults out.old out.new) (lent E.written E.faults notes.old notes.new)
-        (reads decode_answer) result.status }
-    ensures kept { result.walk ≡ None }
+) -> Result<Ran<Option<Walk>>, Stop>
+    ensures { GivesAlone (lent S.left S.faults script.old script.new)
+        (lent K.written K.faults out.old out.new)
+        (reads decode_answer) (λ walk. walk ≡ None) result }
 {
     let text = match read_input(alloc, script) {
         Ok(text) => text,
-        Err(stop) => return stopped(stop, notes),
+        Err(stop) => return Err(stop),
     };
     let octets = match read_octets(alloc, text.as_slice()) {
         Ok(octets) => octets,
-        Err(HexTextFault::Memory) => return stopped(Stop::Memory, notes),
+        Err(HexTextFault::Memory) => return Err(Stop::Memory),
         Err(HexTextFault::Line { number }) => {
-            return stopped(
-                Stop::Refused(line_fault(number, LineKind::Hex, HELP)),
-                notes,
-            );
+            return Err(Stop::Refused(line_fault(number, LineKind::Hex, HELP)));
         }
     };
-    match write_packets(octets.as_slice(), out) {
-        Ok(()) => done(None),
-        Err(Failed) => cut(None, notes),
-    }
+    let written = write_packets(octets.as_slice(), out);
+    Ok(Ran {
+        made: None,
+        written,
+    })
 }

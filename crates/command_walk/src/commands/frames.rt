@@ -1,15 +1,17 @@
 //! `frames`: a capture is read, and the line of a script is written of each frame in it.
 ghost use Rattle.std.specs.Prelude.{◌≡◌, None, map, string_bytes};
 ghost use Rattle.text_captures.specs.capture_file.Texts.{fault_text};
-ghost use Rattle.command_parts.specs.Common.{reads, Ends, lent};
+ghost use Rattle.command_parts.specs.Task.{reads};
+ghost use Rattle.command_parts.specs.Ends.{lent};
+ghost use Rattle.command_parts.specs.Gives.{GivesAlone};
 ghost use Rattle.command_walk.specs.commands.Frames.{frames_words, frames_answer};
 
 use crate::command_of_words::WalkCommand;
-use crate::walk_end::{WalkEnd, cut, done, stopped};
-use command_parts::{Fault, Refusal, Stop, read_input};
-use octet_io::{ByteSink, ByteSource, Failed};
+use command_parts::{Fault, Ran, Refusal, Stop, read_input};
+use octet_io::{ByteSink, ByteSource};
 use std::alloc::Global;
 use text_captures::capture_file::{CaptureFault, fault_note, read_capture, write_frames};
+use walk_engine::walk_core::Walk;
 
 /// Room for a note.
 const NOTE_ROOM: usize = 128;
@@ -35,27 +37,26 @@ fn capture_fault(fault: CaptureFault) -> Fault
 }
 
 /// Reads a capture and writes the line of each frame in it.
-pub fn frames<S: ByteSource, K: ByteSink, E: ByteSink>(
+pub fn frames<S: ByteSource, K: ByteSink>(
     alloc: Global,
     capture: &mut S,
     out: &mut K,
-    notes: &mut E,
-) -> WalkEnd
-    ensures ends { Ends (lent S.left S.faults capture.old capture.new)
-        (lent K.written K.faults out.old out.new) (lent E.written E.faults notes.old notes.new)
-        (reads frames_answer) result.status }
-    ensures kept { result.walk ≡ None }
+) -> Result<Ran<Option<Walk>>, Stop>
+    ensures { GivesAlone (lent S.left S.faults capture.old capture.new)
+        (lent K.written K.faults out.old out.new)
+        (reads frames_answer) (λ walk. walk ≡ None) result }
 {
     let octets = match read_input(alloc, capture) {
         Ok(octets) => octets,
-        Err(stop) => return stopped(stop, notes),
+        Err(stop) => return Err(stop),
     };
     let form = match read_capture(octets.as_slice()) {
         Ok(form) => form,
-        Err(fault) => return stopped(Stop::Refused(capture_fault(fault)), notes),
+        Err(fault) => return Err(Stop::Refused(capture_fault(fault))),
     };
-    match write_frames(form, octets.as_slice(), out) {
-        Ok(()) => done(None),
-        Err(Failed) => cut(None, notes),
-    }
+    let written = write_frames(form, octets.as_slice(), out);
+    Ok(Ran {
+        made: None,
+        written,
+    })
 }

@@ -1,21 +1,24 @@
 //! `make`: a load from a number is run, and what came of it is written in three lines.
-ghost use Rattle.std.specs.Prelude.{◌≡◌, ◌≢◌, ◌≤◌, ◌*◌, length, take, sum, None, OnOk, OnErr, map, string_bytes};
-ghost use Rattle.law_model.specs.Common.{leg_of, Appends, AppendsPart, IsValid, IsWithin, begin, drain, bound};
-ghost use Rattle.law_model.specs.Common.{longest_frame};
+ghost use Rattle.std.specs.Prelude.{◌≡◌, ◌≤◌, ◌*◌, length, take, sum, OnOk, OnErr, map, string_bytes};
+ghost use Rattle.law_model.specs.session.Leg.{leg_of};
+ghost use Rattle.octet_io.specs.Transfer.{Appends, AppendsPart};
+ghost use Rattle.law_model.specs.session.Valid.{IsValid, IsWithin};
+ghost use Rattle.law_model.specs.session.Counts.{begin, drain, bound};
 ghost use Rattle.text_scripts.specs.make_load.Load.{load};
-ghost use Rattle.law_walk.specs.Common.{walk_plan, delivered_of};
-ghost use Rattle.command_parts.specs.Common.{HasRunAt, makes, Ends, lent, no_source};
+ghost use Rattle.law_walk.specs.Walk.{walk_plan};
+ghost use Rattle.law_walk.specs.Delivered.{delivered_of};
+ghost use Rattle.command_parts.specs.Task.{makes};
+ghost use Rattle.command_parts.specs.Ends.{lent, no_source};
+ghost use Rattle.command_parts.specs.Gives.{GivesAlone};
 ghost use Rattle.command_walk.specs.Ended.{IsWalkOf};
 ghost use Rattle.command_walk.specs.commands.Make.{octet_count, octet_sum, made_text, sum_text, lines_text, load_of, make_words};
 ghost use Rattle.command_walk.specs.commands.Make.{make_answer};
 ghost use Rattle.command_words.specs.Words.{number_in};
 
 use crate::command_of_words::WalkCommand;
-use crate::walk_end::{WalkEnd, cut, done, stopped};
-use command_parts::Stop;
-use command_words::number_within;
+use command_parts::{Ran, Stop};
 use law_model::{FrameOut, Totals};
-use octet_io::{ByteSink, Failed, put_all};
+use octet_io::{ByteSink, ByteSink, Failed, Failed, put_all, put_all};
 use std::alloc::Global;
 use text_report::{TextCursor, total_line};
 use walk_engine::walk_core::Walk;
@@ -152,31 +155,30 @@ fn drain_sums(walk: &mut Walk) -> SumOut
 }
 
 /// Makes the load of a number, of 1 to 64 lines and 1 to 1,000,000 ticks, runs it and writes three lines.
-pub fn make<K: ByteSink, E: ByteSink>(
+pub fn make<K: ByteSink>(
     alloc: Global,
     number: u64,
     lines: u8,
     ticks: u32,
     out: &mut K,
-    notes: &mut E,
-) -> WalkEnd
+) -> Result<Ran<Option<Walk>>, Stop>
     requires lines { IsWithin 1 64 lines }
     requires ticks { IsWithin 1 1000000 ticks }
-    ensures ends { Ends no_source
-        (lent K.written K.faults out.old out.new) (lent E.written E.faults notes.old notes.new)
-        (makes (make_answer number lines ticks)) result.status }
-    ensures handed { HasRunAt result.status → IsWalkOf (load number lines ticks) result.walk }
-    ensures kept { result.status ≢ 0 → result.status ≢ 4 → result.walk ≡ None }
+    ensures { GivesAlone no_source
+        (lent K.written K.faults out.old out.new)
+        (makes (make_answer number lines ticks))
+        (IsWalkOf (load number lines ticks)) result }
 {
     let Ok(script) = text_scripts::make_load::make(alloc, number, lines, ticks) else {
-        return stopped(Stop::Memory, notes);
+        return Err(Stop::Memory);
     };
     let Ok(mut walk) = Walk::new(alloc, script) else {
-        return stopped(Stop::Memory, notes);
+        return Err(Stop::Memory);
     };
     let sums = drain_sums(&mut walk);
-    match write_made(lines, ticks, &walk.totals(), &sums, out) {
-        Ok(()) => done(Some(walk)),
-        Err(Failed) => cut(Some(walk), notes),
-    }
+    let written = write_made(lines, ticks, &walk.totals(), &sums, out);
+    Ok(Ran {
+        made: Some(walk),
+        written,
+    })
 }

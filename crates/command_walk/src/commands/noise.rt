@@ -2,19 +2,21 @@
 //! through are written.
 ghost use Rattle.std.specs.Prelude.{◌≡◌, ℕ, List, Ok, None, map, string_bytes};
 ghost use Rattle.command_parts.specs.Task.{reads, writes};
-ghost use Rattle.command_parts.specs.Ends.{Ends, lent};
+ghost use Rattle.command_parts.specs.Ends.{lent};
+ghost use Rattle.command_parts.specs.Gives.{GivesAlone};
+ghost use Rattle.command_parts.specs.Faults.{line_text};
 ghost use Rattle.gfp_noise.specs.declared.noise_link.noise_draft.Noise.{Noise};
 ghost use Rattle.gfp_noise.specs.noise_link.Noise.{noise_of};
 ghost use Rattle.gfp_noise.specs.noise_link.Text.{AreSingle, untouched_text};
 ghost use Rattle.command_walk.specs.commands.Noise.{noise_words, noise_answer};
 
 use crate::command_of_words::WalkCommand;
-use crate::walk_end::{WalkEnd, cut, done, stopped};
-use command_parts::{Stop, faulty_line, read_input};
+use command_parts::{Ran, Stop, faulty_line, read_input};
 use gfp_noise::noise_link::{NoiseRun, read_noise};
-use octet_io::{ByteSink, ByteSource, Failed};
+use octet_io::{ByteSink, ByteSource};
 use std::alloc::Global;
 use text_lines::TextFault;
+use walk_engine::walk_core::Walk;
 
 /// The words `noise`.
 pub fn words(words: &[String]) -> Option<WalkCommand>
@@ -27,36 +29,35 @@ pub fn words(words: &[String]) -> Option<WalkCommand>
 }
 
 /// Reads frames and flips, and writes the frames that get through.
-pub fn noise<S: ByteSource, K: ByteSink, E: ByteSink>(
+pub fn noise<S: ByteSource, K: ByteSink>(
     alloc: Global,
     script: &mut S,
     out: &mut K,
-    notes: &mut E,
-) -> WalkEnd
-    ensures ends { Ends (lent S.left S.faults script.old script.new)
-        (lent K.written K.faults out.old out.new) (lent E.written E.faults notes.old notes.new)
-        (reads noise_answer) result.status }
-    ensures kept { result.walk ≡ None }
+) -> Result<Ran<Option<Walk>>, Stop>
+    ensures { GivesAlone (lent S.left S.faults script.old script.new)
+        (lent K.written K.faults out.old out.new)
+        (reads noise_answer) (λ walk. walk ≡ None) result }
 {
     let text = match read_input(alloc, script) {
         Ok(text) => text,
-        Err(stop) => return stopped(stop, notes),
+        Err(stop) => return Err(stop),
     };
     let noise = match read_noise(alloc, text.as_slice()) {
         Ok(noise) => noise,
-        Err(TextFault::Memory) => return stopped(Stop::Memory, notes),
+        Err(TextFault::Memory) => return Err(Stop::Memory),
         Err(TextFault::Line { number, fault }) => {
-            return stopped(Stop::Refused(faulty_line(number, fault)), notes);
+            return Err(Stop::Refused(faulty_line(number, fault)));
         }
     };
     let run = match NoiseRun::new(alloc, &noise) {
         Ok(run) => run,
-        Err(_) => return stopped(Stop::Memory, notes),
+        Err(_) => return Err(Stop::Memory),
     };
-    match run.write(&noise, out) {
-        Ok(()) => done(None),
-        Err(Failed) => cut(None, notes),
-    }
+    let written = run.write(&noise, out);
+    Ok(Ran {
+        made: None,
+        written,
+    })
 }
 
 /// Of each text that says frames and flips which are single, what is written is a line for each frame whose area

@@ -1,18 +1,20 @@
 //! `pair`: the sessions of two scripts are made, which carry each other's return packets, and the report of each is
 //! written: that of the way there, and on `notes` that of the way back.
 ghost use Rattle.std.specs.Prelude.{◌≡◌, None, map, string_bytes};
-ghost use Rattle.command_parts.specs.Common.{reads, Ends, lent};
+ghost use Rattle.command_parts.specs.Task.{reads};
+ghost use Rattle.command_parts.specs.Ends.{lent};
+ghost use Rattle.command_parts.specs.Gives.{Gives};
 ghost use Rattle.pair_walk.specs.Text.{pair_reply};
 ghost use Rattle.command_walk.specs.commands.Pair.{pair_words};
 
 use crate::command_of_words::WalkCommand;
-use crate::walk_end::{WalkEnd, cut, done, stopped};
-use command_parts::Stop;
-use octet_io::{ByteSink, ByteSource, Failed};
+use command_parts::{Ran, Stop};
+use octet_io::{ByteSink, ByteSource};
 use pair_engine::Pair;
 use pair_script::{ScriptPair, read_pair};
 use pair_walk::write_pair;
 use std::alloc::{AllocError, Global};
+use walk_engine::walk_core::Walk;
 
 /// The words `pair`.
 pub fn words(words: &[String]) -> Option<WalkCommand>
@@ -31,22 +33,22 @@ pub fn pair<S: ByteSource, K: ByteSink, E: ByteSink>(
     script: &mut S,
     out: &mut K,
     notes: &mut E,
-) -> WalkEnd
-    ensures ends { Ends (lent S.left S.faults script.old script.new)
+) -> Result<Ran<Option<Walk>>, Stop>
+    ensures { Gives (lent S.left S.faults script.old script.new)
         (lent K.written K.faults out.old out.new) (lent E.written E.faults notes.old notes.new)
-        (reads pair_reply) result.status }
-    ensures kept { result.walk ≡ None }
+        (reads pair_reply) (λ walk. walk ≡ None) result }
 {
     let ScriptPair { there, back } = match read_pair(alloc, script) {
         Ok(scripts) => scripts,
-        Err(stop) => return stopped(stop, notes),
+        Err(stop) => return Err(stop),
     };
     let mut pair = match Pair::new(alloc, there, back) {
         Ok(pair) => pair,
-        Err(AllocError) => return stopped(Stop::Memory, notes),
+        Err(AllocError) => return Err(Stop::Memory),
     };
-    match write_pair(&mut pair, out, notes) {
-        Ok(()) => done(None),
-        Err(Failed) => cut(None, notes),
-    }
+    let written = write_pair(&mut pair, out, notes);
+    Ok(Ran {
+        made: None,
+        written,
+    })
 }

@@ -2,17 +2,19 @@
 ghost use Rattle.std.specs.Prelude.{◌≡◌, None, map, string_bytes};
 ghost use Rattle.text_scripts.specs.rate_load.RateTexts.{IsRateLoad};
 ghost use Rattle.command_words.specs.Words.{number_in};
-ghost use Rattle.command_parts.specs.Common.{makes, Ends, lent, no_source};
+ghost use Rattle.command_parts.specs.Task.{makes};
+ghost use Rattle.command_parts.specs.Ends.{lent, no_source};
+ghost use Rattle.command_parts.specs.Gives.{GivesAlone};
 ghost use Rattle.command_walk.specs.commands.Stream.{ticks_of, rate_of, numbers_in, stream_words, stream_answer};
 ghost use Rattle.law_model.specs.Common.{longest_frame};
 
 use crate::command_of_words::WalkCommand;
-use crate::walk_end::{WalkEnd, cut, done, stopped};
-use command_parts::Stop;
+use command_parts::{Ran, Stop};
 use command_words::number_within;
 use law_model::LONGEST_FRAME;
-use octet_io::{ByteSink, Failed};
+use octet_io::ByteSink;
 use text_scripts::rate_load::{RateLoad, is_too_long, write_lines};
+use walk_engine::walk_core::Walk;
 
 /// The ticks of two words, the first of them before the second.
 fn ticks_of(first: &[u8], end: &[u8]) -> Option<(u32, u32)>
@@ -79,18 +81,18 @@ pub fn words(words: &[String]) -> Option<WalkCommand>
 }
 
 /// Writes the lines of a load, where they have at most 67,108,864 octets.
-pub fn stream<K: ByteSink, E: ByteSink>(load: &RateLoad, out: &mut K, notes: &mut E) -> WalkEnd
+pub fn stream<K: ByteSink>(load: &RateLoad, out: &mut K) -> Result<Ran<Option<Walk>>, Stop>
     requires { IsRateLoad load.now }
-    ensures ends { Ends no_source
-        (lent K.written K.faults out.old out.new) (lent E.written E.faults notes.old notes.new)
-        (makes (stream_answer load.now)) result.status }
-    ensures kept { result.walk ≡ None }
+    ensures { GivesAlone no_source
+        (lent K.written K.faults out.old out.new)
+        (makes (stream_answer load.now)) (λ walk. walk ≡ None) result }
 {
     if is_too_long(load) {
-        return stopped(Stop::TooLong, notes);
+        return Err(Stop::TooLong);
     }
-    match write_lines(load, out) {
-        Ok(()) => done(None),
-        Err(Failed) => cut(None, notes),
-    }
+    let written = write_lines(load, out);
+    Ok(Ran {
+        made: None,
+        written,
+    })
 }

@@ -1,15 +1,18 @@
 //! `trace`: a script's walk is made, and what comes of it is written, with a line for each decision step on `notes`.
-ghost use Rattle.std.specs.Prelude.{◌≡◌, ◌≢◌, None, map, string_bytes};
-ghost use Rattle.command_parts.specs.Common.{HasRunAt, reads, Ends, lent};
+ghost use Rattle.std.specs.Prelude.{◌≡◌, map, string_bytes};
+ghost use Rattle.command_parts.specs.Task.{reads};
+ghost use Rattle.command_parts.specs.Ends.{lent};
+ghost use Rattle.command_parts.specs.Gives.{Gives};
 ghost use Rattle.command_walk.specs.commands.Trace.{trace_words, trace_answer};
 ghost use Rattle.command_walk.specs.Ended.{HandsScript};
 
 use crate::command_of_words::WalkCommand;
 use crate::turns::ready_walk::read_walk;
 use crate::turns::trace_turns::write_trace;
-use crate::walk_end::{WalkEnd, cut, done, stopped};
-use octet_io::{ByteSink, ByteSource, Failed};
+use command_parts::{Ran, Stop};
+use octet_io::{ByteSink, ByteSource};
 use std::alloc::Global;
+use walk_engine::walk_core::Walk;
 
 /// The words `trace`.
 pub fn words(words: &[String]) -> Option<WalkCommand>
@@ -28,21 +31,20 @@ pub fn trace<S: ByteSource, K: ByteSink, E: ByteSink>(
     script: &mut S,
     out: &mut K,
     notes: &mut E,
-) -> WalkEnd
-    ensures ends { Ends (lent S.left S.faults script.old script.new)
+) -> Result<Ran<Option<Walk>>, Stop>
+    ensures { Gives (lent S.left S.faults script.old script.new)
         (lent K.written K.faults out.old out.new) (lent E.written E.faults notes.old notes.new)
-        (reads trace_answer) result.status }
-    ensures handed { HasRunAt result.status →
-        HandsScript (lent S.left S.faults script.old script.new) result.walk }
-    ensures kept { result.status ≢ 0 → result.status ≢ 4 → result.walk ≡ None }
+        (reads trace_answer)
+        (HandsScript (lent S.left S.faults script.old script.new)) result }
 {
     let begun = match read_walk(alloc, script) {
         Ok(begun) => begun,
-        Err(stop) => return stopped(stop, notes),
+        Err(stop) => return Err(stop),
     };
     let mut walk = begun.walk;
-    match write_trace(&mut walk, begun.lines.as_slice(), begun.size, out, notes) {
-        Ok(()) => done(Some(walk)),
-        Err(Failed) => cut(Some(walk), notes),
-    }
+    let written = write_trace(&mut walk, begun.lines.as_slice(), begun.size, out, notes);
+    Ok(Ran {
+        made: Some(walk),
+        written,
+    })
 }

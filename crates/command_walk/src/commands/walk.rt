@@ -1,18 +1,23 @@
 //! `walk`: a script's walk is made, and what comes of it is written.
-ghost use Rattle.std.specs.Prelude.{◌≡◌, ◌≢◌, None, OnOk, OnErr, map, string_bytes};
-ghost use Rattle.law_model.specs.Common.{leg_of, Appends, AppendsPart, IsValid, begin};
-ghost use Rattle.law_walk.specs.Common.{walk_plan};
+ghost use Rattle.std.specs.Prelude.{◌≡◌, OnOk, OnErr, map, string_bytes};
+ghost use Rattle.law_model.specs.session.Leg.{leg_of};
+ghost use Rattle.octet_io.specs.Transfer.{Appends, AppendsPart};
+ghost use Rattle.law_model.specs.session.Valid.{IsValid};
+ghost use Rattle.law_model.specs.session.Counts.{begin};
+ghost use Rattle.law_walk.specs.Walk.{walk_plan};
 ghost use Rattle.law_headline.specs.Texts.{counts_in, walk_text};
-ghost use Rattle.command_parts.specs.Common.{HasRunAt, reads, Ends, lent};
+ghost use Rattle.command_parts.specs.Task.{reads};
+ghost use Rattle.command_parts.specs.Ends.{lent};
+ghost use Rattle.command_parts.specs.Gives.{GivesAlone};
 ghost use Rattle.command_walk.specs.commands.Walk.{walk_words, walk_answer};
 ghost use Rattle.command_walk.specs.Ended.{HandsScript};
 
 use crate::command_of_words::WalkCommand;
 use crate::turns::ready_walk::{LinesAndTicks, read_walk};
 use crate::turns::trace_turns::write_trace;
-use crate::walk_end::{WalkEnd, cut, done, stopped};
+use command_parts::{Ran, Stop};
 use law_model::EventLine;
-use octet_io::{ByteSink, ByteSource, Failed};
+use octet_io::{ByteSink, ByteSink, ByteSource, ByteSource, Failed, Failed};
 use std::alloc::Global;
 use walk_engine::walk_core::Walk;
 
@@ -65,26 +70,24 @@ fn write_walk<K: ByteSink>(
 }
 
 /// Reads a script, makes its walk and writes what comes of it.
-pub fn walk<S: ByteSource, K: ByteSink, E: ByteSink>(
+pub fn walk<S: ByteSource, K: ByteSink>(
     alloc: Global,
     script: &mut S,
     out: &mut K,
-    notes: &mut E,
-) -> WalkEnd
-    ensures ends { Ends (lent S.left S.faults script.old script.new)
-        (lent K.written K.faults out.old out.new) (lent E.written E.faults notes.old notes.new)
-        (reads walk_answer) result.status }
-    ensures handed { HasRunAt result.status →
-        HandsScript (lent S.left S.faults script.old script.new) result.walk }
-    ensures kept { result.status ≢ 0 → result.status ≢ 4 → result.walk ≡ None }
+) -> Result<Ran<Option<Walk>>, Stop>
+    ensures { GivesAlone (lent S.left S.faults script.old script.new)
+        (lent K.written K.faults out.old out.new)
+        (reads walk_answer)
+        (HandsScript (lent S.left S.faults script.old script.new)) result }
 {
     let begun = match read_walk(alloc, script) {
         Ok(begun) => begun,
-        Err(stop) => return stopped(stop, notes),
+        Err(stop) => return Err(stop),
     };
     let mut walk = begun.walk;
-    match write_walk(&mut walk, begun.lines.as_slice(), begun.size, out) {
-        Ok(()) => done(Some(walk)),
-        Err(Failed) => cut(Some(walk), notes),
-    }
+    let written = write_walk(&mut walk, begun.lines.as_slice(), begun.size, out);
+    Ok(Ran {
+        made: Some(walk),
+        written,
+    })
 }

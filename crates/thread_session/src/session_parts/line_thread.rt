@@ -143,8 +143,7 @@ fn serve<'s, R: Wait, G: Gate>(
     unreachable!()
 }
 
-/// What a line thread does: it serves workers until the flag is stored, and gives them back with the evidence
-/// that it is.
+/// Serves workers until the flag is stored, and gives them back with the evidence that it is.
 fn serve_own<R: Wait, G: Gate>(
     rt: &R,
     gate: &G,
@@ -162,8 +161,22 @@ fn serve_own<R: Wait, G: Gate>(
     (own, stored)
 }
 
-/// Starts the thread of a share, which has no more of its flag than it can look at and wait for. Where it can't be
-/// started its flag is stored, and the workers stay here.
+/// What a line thread does: it serves workers by what it has of its flag.
+fn serve_until<R: Wait, G: Gate>(
+    rt: &R,
+    gate: &G,
+    flag: &Flag,
+    source: &Bell,
+    sink: &Bell,
+    workers: Vec<ServedLine>,
+) -> Back
+    ensures { AreServedLater workers.items result.0.items
+        × (stored_flag result.1 ≡ flag_of flag.now) }
+{
+    serve_own(rt, gate, flag.heed(), source, sink, workers)
+}
+
+/// Starts the thread of a share. Where it can't be started its flag is stored, and the workers stay here.
 fn start_share<'s, 'e, R: Wait + Sync, G: Gate>(
     scope: &'s Scope<'s, &'e ()>,
     rt: &'s R,
@@ -176,13 +189,10 @@ fn start_share<'s, 'e, R: Wait + Sync, G: Gate>(
     ensures held { IsHeldOf workers.items result }
     ensures told { IsToldBy (flag_of flag.now) result }
 {
-    let kept = Kept(Snapshot::of(&workers), Snapshot::of(flag));
-    let stop = flag.heed();
-    let work = move || -> Back
-        ensures later { AreServedLater workers.items result.0.items }
-        ensures stored { stored_flag result.1 ≡ heeded stop.entry }
-    { serve_own(rt, gate, stop, source, sink, workers) };
-    match scope.spawn_with(kept, work) {
+    match scope.spawn_with(
+        Kept(Snapshot::of(&workers), Snapshot::of(flag)),
+        move || serve_until(rt, gate, flag, source, sink, workers),
+    ) {
         Ok(child) => Held::There(child),
         Err(refused) => {
             flag.store(rt);

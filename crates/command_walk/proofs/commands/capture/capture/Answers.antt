@@ -1,68 +1,28 @@
--- A script is read, its walk is made, and the capture is written or a write fails.
+-- A script is read, its walk is made, and its capture is written or a write fails.
 use Rattle.std.proofs.Common.{refl}
 use Rattle.law_model.specs.declared.script_types.Script.{Script}
-use Rattle.command_parts.specs.Common.{Answer, writes, reads, lent}
-use Rattle.command_parts.proofs.StopLaws.{ends-stopped, ends-done, ends-cut, meets-script, stops-not-run}
-use Rattle.command_walk.specs.commands.Capture.{capture_octets, capture_answer}
+use Rattle.command_parts.specs.Common.{writes}
+use Rattle.command_walk.specs.commands.Capture.{capture_octets}
+use Rattle.command_parts.proofs.GiveLaws.{script-written}
 use Rattle.command_walk.proofs.RoomLaws.{hands-script}
 use Rattle.command_walk.proofs.commands.capture.capture.Goals as goal
 
-abbrev answer : Script → Answer
-answer script = writes (capture_octets script)
+pub returns-in-Err : goal.returns-in-Err
+returns-in-Err g c = record {
+  ran = tt;
+  stopped = c.in-Err.ensures.stopped (λ (script : Script). writes (capture_octets script));
+  nothing = refl;
+}
 
--- ---- nothing was read, or no script
-pub returns-in-Err-clause-ends : goal.returns-in-Err-clause-ends
-returns-in-Err-clause-ends g c =
-    ends-stopped (lent g.S.ByteSource.left g.S.ByteSource.faults c.args.script.now c.read_walk.new.source)
-    (lent g.K.ByteSink.written g.K.ByteSink.faults c.args.out.now c.args.out.now)
-    (lent g.E.ByteSink.written g.E.ByteSink.faults c.args.notes.now c.stopped.new.notes)
-    capture_answer c.in-Err.stop c.stopped.result.status (c.in-Err.ensures.stopped answer) c.stopped.ensures.status refl
-    c.stopped.ensures.told
+pub write_capture-written-requires-clause-valid : goal.write_capture-written-requires-clause-valid
+write_capture-written-requires-clause-valid g c = c.in-Ok.ensures.begun.valid
 
-pub returns-in-Err-clause-handed : goal.returns-in-Err-clause-handed
-returns-in-Err-clause-handed g c run =
-    absurd (stops-not-run (lent g.S.ByteSource.left g.S.ByteSource.faults c.args.script.now c.read_walk.new.source)
-    capture_answer c.in-Err.stop c.stopped.result.status (c.in-Err.ensures.stopped answer) c.stopped.ensures.status
-    run)
+pub write_capture-written-requires-clause-begun : goal.write_capture-written-requires-clause-begun
+write_capture-written-requires-clause-begun g c = c.in-Ok.ensures.begun.counts
 
--- ---- the walk
-pub write_capture-requires-clause-valid : goal.write_capture-requires-clause-valid
-write_capture-requires-clause-valid g c = c.in-Ok.ensures.begun.valid
-
-pub write_capture-requires-clause-begun : goal.write_capture-requires-clause-begun
-write_capture-requires-clause-begun g c = c.in-Ok.ensures.begun.counts
-
-pub returns-in-Ok-write_capture-clause-ends : goal.returns-in-Ok-write_capture-clause-ends
-returns-in-Ok-write_capture-clause-ends g c =
-    ends-done (lent g.S.ByteSource.left g.S.ByteSource.faults c.args.script.now c.read_walk.new.source)
-    (lent g.K.ByteSink.written g.K.ByteSink.faults c.args.out.now c.write_capture.new.out)
-    (lent g.E.ByteSink.written g.E.ByteSink.faults c.args.notes.now c.args.notes.now)
-    (reads capture_answer) (answer c.in-Ok.begun.walk.script) c.done.result.status
-    (meets-script (lent g.S.ByteSource.left g.S.ByteSource.faults c.args.script.now c.read_walk.new.source) answer
-    c.in-Ok.begun.walk.script c.in-Ok.ensures.script)
-    c.done.ensures.status (c.in-Ok-write_capture.ensures.ok, refl)
-
-pub returns-in-Ok-write_capture-clause-handed : goal.returns-in-Ok-write_capture-clause-handed
-returns-in-Ok-write_capture-clause-handed g c run =
-    rw c.done.ensures.walk (hands-script
-    (lent g.S.ByteSource.left g.S.ByteSource.faults c.args.script.now c.read_walk.new.source)
-    c.in-Ok.begun.walk.script c.write_capture.new.walk c.in-Ok.ensures.script c.write_capture.ensures.script
-    c.write_capture.ensures.counts)
-
--- ---- a write has failed
-pub returns-clause-ends : goal.returns-clause-ends
-returns-clause-ends g c =
-    ends-cut (lent g.S.ByteSource.left g.S.ByteSource.faults c.args.script.now c.read_walk.new.source)
-    (lent g.K.ByteSink.written g.K.ByteSink.faults c.args.out.now c.write_capture.new.out)
-    (lent g.E.ByteSink.written g.E.ByteSink.faults c.args.notes.now c.cut.new.notes)
-    (reads capture_answer) (answer c.in-Ok.begun.walk.script) c.args.notes.now c.cut.result.status
-    (meets-script (lent g.S.ByteSource.left g.S.ByteSource.faults c.args.script.now c.read_walk.new.source) answer
-    c.in-Ok.begun.walk.script c.in-Ok.ensures.script)
-    c.cut.ensures.status (c.in-Err-write_capture.ensures.err, refl) c.cut.ensures.told
-
-pub returns-clause-handed : goal.returns-clause-handed
-returns-clause-handed g c run =
-    rw c.cut.ensures.walk (hands-script
-    (lent g.S.ByteSource.left g.S.ByteSource.faults c.args.script.now c.read_walk.new.source)
-    c.in-Ok.begun.walk.script c.write_capture.new.walk c.in-Ok.ensures.script c.write_capture.ensures.script
-    c.write_capture.ensures.counts)
+pub returns : goal.returns
+returns g c =
+    script-written _ _ _ _ capture_octets c.in-Ok.begun.walk.script c.in-Ok.ensures.script
+    c.write_capture-written.ensures.ok c.write_capture-written.ensures.err
+    (hands-script _ c.in-Ok.begun.walk.script c.write_capture-written.new.walk c.in-Ok.ensures.script
+    c.write_capture-written.ensures.script c.write_capture-written.ensures.counts)

@@ -2,68 +2,35 @@
 use Rattle.std.proofs.Common.{refl}
 use Rattle.law_model.specs.declared.script_types.Script.{Script}
 use Rattle.law_headline.specs.Texts.{walk_text}
-use Rattle.command_walk.specs.commands.Trace.{trace_text, trace_answer}
-use Rattle.command_parts.specs.Common.{Answer, writes_both, reads, lent}
-use Rattle.command_parts.proofs.StopLaws.{ends-stopped, ends-done, ends-cut, meets-script, stops-not-run}
+use Rattle.command_walk.specs.commands.Trace.{trace_text}
+use Rattle.command_parts.specs.Common.{Answer, writes_both}
+use Rattle.command_parts.proofs.StopLaws.{meets-script}
 use Rattle.command_walk.proofs.RoomLaws.{hands-script}
+use Rattle.command_walk.proofs.RoomLaws.{both-ok}
 use Rattle.command_walk.proofs.commands.trace.trace.Goals as goal
 
 abbrev answer : Script → Answer
 answer script = writes_both (walk_text script) (trace_text script)
 
--- ---- nothing was read, or no script
-pub returns-in-Err-clause-ends : goal.returns-in-Err-clause-ends
-returns-in-Err-clause-ends g c =
-    ends-stopped (lent g.S.ByteSource.left g.S.ByteSource.faults c.args.script.now c.read_walk.new.source)
-    (lent g.K.ByteSink.written g.K.ByteSink.faults c.args.out.now c.args.out.now)
-    (lent g.E.ByteSink.written g.E.ByteSink.faults c.args.notes.now c.stopped.new.notes)
-    trace_answer c.in-Err.stop c.stopped.result.status (c.in-Err.ensures.stopped answer) c.stopped.ensures.status refl
-    c.stopped.ensures.told
+pub returns-in-Err : goal.returns-in-Err
+returns-in-Err g c = record { ran = tt; stopped = c.in-Err.ensures.stopped answer; nothing = (refl, refl) }
 
-pub returns-in-Err-clause-handed : goal.returns-in-Err-clause-handed
-returns-in-Err-clause-handed g c run =
-    absurd (stops-not-run (lent g.S.ByteSource.left g.S.ByteSource.faults c.args.script.now c.read_walk.new.source)
-    trace_answer c.in-Err.stop c.stopped.result.status (c.in-Err.ensures.stopped answer) c.stopped.ensures.status
-    run)
+pub write_trace-written-requires-clause-valid : goal.write_trace-written-requires-clause-valid
+write_trace-written-requires-clause-valid g c = c.in-Ok.ensures.begun.valid
 
--- ---- the walk
-pub write_trace-requires-clause-valid : goal.write_trace-requires-clause-valid
-write_trace-requires-clause-valid g c = c.in-Ok.ensures.begun.valid
+pub write_trace-written-requires-clause-begun : goal.write_trace-written-requires-clause-begun
+write_trace-written-requires-clause-begun g c = c.in-Ok.ensures.begun.counts
 
-pub write_trace-requires-clause-begun : goal.write_trace-requires-clause-begun
-write_trace-requires-clause-begun g c = c.in-Ok.ensures.begun.counts
-
-pub returns-in-Ok-write_trace-clause-ends : goal.returns-in-Ok-write_trace-clause-ends
-returns-in-Ok-write_trace-clause-ends g c =
-    ends-done (lent g.S.ByteSource.left g.S.ByteSource.faults c.args.script.now c.read_walk.new.source)
-    (lent g.K.ByteSink.written g.K.ByteSink.faults c.args.out.now c.write_trace.new.out)
-    (lent g.E.ByteSink.written g.E.ByteSink.faults c.args.notes.now c.write_trace.new.notes)
-    (reads trace_answer) (answer c.in-Ok.begun.walk.script) c.done.result.status
-    (meets-script (lent g.S.ByteSource.left g.S.ByteSource.faults c.args.script.now c.read_walk.new.source) answer
-    c.in-Ok.begun.walk.script c.in-Ok.ensures.script)
-    c.done.ensures.status (c.in-Ok-write_trace.ensures.walked, c.in-Ok-write_trace.ensures.traced)
-
-pub returns-in-Ok-write_trace-clause-handed : goal.returns-in-Ok-write_trace-clause-handed
-returns-in-Ok-write_trace-clause-handed g c run =
-    rw c.done.ensures.walk (hands-script
-    (lent g.S.ByteSource.left g.S.ByteSource.faults c.args.script.now c.read_walk.new.source)
-    c.in-Ok.begun.walk.script c.write_trace.new.walk c.in-Ok.ensures.script c.write_trace.ensures.script
-    c.write_trace.ensures.counts)
-
--- ---- a write has failed
-pub returns-clause-ends : goal.returns-clause-ends
-returns-clause-ends g c =
-    ends-cut (lent g.S.ByteSource.left g.S.ByteSource.faults c.args.script.now c.read_walk.new.source)
-    (lent g.K.ByteSink.written g.K.ByteSink.faults c.args.out.now c.write_trace.new.out)
-    (lent g.E.ByteSink.written g.E.ByteSink.faults c.args.notes.now c.cut.new.notes)
-    (reads trace_answer) (answer c.in-Ok.begun.walk.script) c.write_trace.new.notes c.cut.result.status
-    (meets-script (lent g.S.ByteSource.left g.S.ByteSource.faults c.args.script.now c.read_walk.new.source) answer
-    c.in-Ok.begun.walk.script c.in-Ok.ensures.script)
-    c.cut.ensures.status c.in-Err-write_trace.ensures.err c.cut.ensures.told
-
-pub returns-clause-handed : goal.returns-clause-handed
-returns-clause-handed g c run =
-    rw c.cut.ensures.walk (hands-script
-    (lent g.S.ByteSource.left g.S.ByteSource.faults c.args.script.now c.read_walk.new.source)
-    c.in-Ok.begun.walk.script c.write_trace.new.walk c.in-Ok.ensures.script c.write_trace.ensures.script
-    c.write_trace.ensures.counts)
+pub returns : goal.returns
+returns g c = record {
+  ran = record {
+    answer = answer c.in-Ok.begun.walk.script;
+    meets = meets-script _ answer c.in-Ok.begun.walk.script c.in-Ok.ensures.script;
+    all = both-ok _ _ _ c.write_trace-written.ensures.walked c.write_trace-written.ensures.traced;
+    part = c.write_trace-written.ensures.err;
+    made = hands-script _ c.in-Ok.begun.walk.script c.write_trace-written.new.walk c.in-Ok.ensures.script
+        c.write_trace-written.ensures.script c.write_trace-written.ensures.counts;
+  };
+  stopped = tt;
+  nothing = tt;
+}
