@@ -10,4 +10,4 @@ mod LandedLaws
 mod CarriedLaws
 mod ClockLaws
 mod ClockLegLaws
-pub mod LawCostLaws
+pub mod CostOfFailuresLaws

@@ -5,4 +5,4 @@ pub mod Worked
 pub mod Turns
 pub mod Kept
 pub mod Clock
-pub mod law_cost
+pub mod cost_of_failures

@@ -1,0 +1,23 @@
+-- A worked leg whose costs are the greatest that there are.
+use Rattle.std.specs.Prelude.{ℕ, List, [], ◌∷◌, map}
+use Rattle.law_model.specs.Common.{Leg, active}
+use Rattle.law_model.specs.declared.window_types.Window.{Window}
+use Rattle.law_model.specs.declared.script_types.ItemKind.TheVariants.{Add}
+use Rattle.law_walk.specs.Common.{item, plain}
+use Rattle.law_service.specs.cost_of_failures.Cost.{governing_table}
+
+-- containers 536 to 1024 fail, of which the last three vanish
+abbrev pub costly_window : Window
+costly_window = record { first = 536; «end» = 1025; slip = 3 }
+
+-- of two lines, those of line 1
+abbrev pub costly_windows : List (List Window)
+costly_windows = [] ∷ (costly_window ∷ []) ∷ []
+
+-- both lines are added at once; the lag is two packets, and there are 1,400 ticks
+abbrev pub costly_leg : Leg
+costly_leg = record { config = plain costly_windows 4 2 1400; items = item 0 (Add 0) ∷ item 0 (Add 1) ∷ []; tells = [] }
+
+-- the lines that carry payload in some rows
+abbrev pub used_in_rows : Leg → List ℕ → List (List ℕ)
+used_in_rows leg rows = map (λ t. active (governing_table leg t)) rows

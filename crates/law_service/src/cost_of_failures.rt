@@ -1,0 +1,121 @@
+//! The laws of what a failure costs: how many rows, whatever its length, and when the line is in use again.
+//! There is no code here. Begin at `cost_law`; `exact_law` is what it stands on, and `closed_law` has the rows
+//! in numbers alone. `settled_law` says when no change is made, `met_law` shows a leg that meets what is asked,
+//! and `worked_law` that the bounds are reached.
+
+ghost use Rattle.std.specs.Prelude.{◌≡◌, ◌↔◌, ℕ, ◌+◌, ◌-◌, ◌*◌, ◌/◌, ◌%◌, ◌<◌, ◌≤◌, min, true, false, Some, slice_get};
+ghost use Rattle.std.specs.Prelude.{[], ◌∷◌};
+ghost use Rattle.law_model.specs.Common.{Leg, IsSound, scenario_by, is_read, member_of, table_of, is_whole_row};
+ghost use Rattle.law_model.specs.declared.window_types.Window.{Window};
+ghost use Rattle.law_model.specs.declared.lcas_states.Standing.TheVariants.{Add, Norm};
+ghost use Rattle.law_session.specs.Feedback.{lines_of};
+ghost use Rattle.law_session.specs.Use.{IsInUse};
+ghost use Rattle.law_walk.specs.Common.{session_of, whole_rows};
+ghost use Rattle.law_service.specs.cost_of_failures.Cost.{windows_of, StaysClear, FailsBy, FailsOnce, IsSpared};
+ghost use Rattle.law_service.specs.cost_of_failures.Cost.{IsSparedFor, cost_end, FailTogether, first_hit};
+ghost use Rattle.law_service.specs.cost_of_failures.Cost.{governing_table, table_at, HasSq, Spoils, IsSpoiled};
+ghost use Rattle.law_service.specs.cost_of_failures.Cost.{spoiled_rows};
+ghost use Rattle.law_service.specs.cost_of_failures.Closed.{WereUsed, IsHit};
+ghost use Rattle.law_service.specs.cost_of_failures.Settled.{IsSettled, MakesNoChange};
+ghost use Rattle.law_service.specs.cost_of_failures.Worked.{costly_leg, used_in_rows};
+
+/// Which rows failures cost, if each line fails once at most and one line doesn't fail: however long a line
+/// is down, none but the 256 rows and the lag from its begin on; and if it is down shortly, none beyond 39
+/// rows after its end. So much it costs if lines fail together. A line that has an SQ carries payload again
+/// 279 ticks and the lag after its end, and each other line 256 and the lag after the begin.
+pub fn cost_law()
+    ensures rows { (leg : Leg) (from horizon t : ℕ) → IsSound leg → FailsOnce leg from horizon →
+        ((line : ℕ) (window : Window) → FailsBy (windows_of leg line) window from horizon →
+        IsSpared leg.config.lag window t) → from ≤ t → t < horizon →
+        is_whole_row (scenario_by leg) (session_of leg) t ≡ true }
+    ensures together { (leg : Leg) (begins ends horizon t : ℕ) → IsSound leg →
+        FailTogether leg begins ends horizon → cost_end leg.config.lag begins ends ≤ t → t < horizon →
+        is_whole_row (scenario_by leg) (session_of leg) t ≡ true }
+    ensures bill { (leg : Leg) (begins ends horizon count : ℕ) → IsSound leg →
+        FailTogether leg begins ends horizon → begins + count ≤ horizon →
+        spoiled_rows leg begins count ≤ min (ends + 39 - begins) (256 + 16 * leg.config.lag) }
+    ensures back { (leg : Leg) (from horizon line t : ℕ) (window : Window) → IsSound leg →
+        FailsOnce leg from horizon → FailsBy (windows_of leg line) window from horizon →
+        HasSq (table_at leg from) line → window.end + 279 + 16 * leg.config.lag ≤ t → t < horizon →
+        IsInUse (governing_table leg t) line }
+    ensures others { (leg : Leg) (from horizon line t : ℕ) → IsSound leg → FailsOnce leg from horizon →
+        StaysClear (windows_of leg line) from horizon →
+        HasSq (table_at leg from) line → from + 256 + 16 * leg.config.lag ≤ t → t < horizon →
+        IsInUse (governing_table leg t) line }
+{}
+
+/// The same exactly. A row isn't whole just if a line that carries payload in it fails and spoils it; a
+/// failure spoils no row once the source was told of it; and a line carries payload just if it was read in
+/// the last packet that says a status of its SQ and that was taken. So a failure that no such packet sees
+/// takes nothing of the capacity.
+pub fn exact_law()
+    ensures spoiled { (leg : Leg) (from horizon t : ℕ) → IsSound leg → FailsOnce leg from horizon →
+        24 ≤ t → from ≤ t → t < horizon →
+        (is_whole_row (scenario_by leg) (session_of leg) t ≡ false) ↔ IsSpoiled leg from horizon t }
+    ensures told { (leg : Leg) (from horizon t : ℕ) → IsSound leg → FailsOnce leg from horizon →
+        ((line sq : ℕ) (window : Window) → FailsBy (windows_of leg line) window from horizon →
+        slice_get (lines_of (table_at leg from).order) sq ≡ Some line →
+        IsSparedFor leg.config.lag sq window t) → from ≤ t → t < horizon →
+        is_whole_row (scenario_by leg) (session_of leg) t ≡ true }
+    ensures stands { (leg : Leg) (from horizon sq line j k : ℕ) → IsSound leg →
+        FailsOnce leg from horizon → slice_get (lines_of (table_at leg from).order) sq ≡ Some line →
+        (slice_get (table_at leg from).order sq ≡ Some (member_of line Add) →
+        first_hit from + 15 + leg.config.lag ≤ j) →
+        first_hit from ≤ k → k % 16 ≡ sq / 8 → k + leg.config.lag ≤ j → j < k + 16 + leg.config.lag →
+        16 * j + 24 < horizon →
+        (slice_get (table_of (scenario_by leg) (session_of leg) j).order sq ≡ Some (member_of line Norm))
+        ↔ (is_read (scenario_by leg) line k ≡ true) }
+    ensures unnoticed { (leg : Leg) (from horizon sq line t : ℕ) → IsSound leg →
+        FailsOnce leg from horizon → slice_get (lines_of (table_at leg from).order) sq ≡ Some line →
+        ((k : ℕ) → first_hit from ≤ k → 16 * (k + leg.config.lag) + 24 < horizon → k % 16 ≡ sq / 8 →
+        is_read (scenario_by leg) line k ≡ true) →
+        from + 256 + 16 * leg.config.lag ≤ t → t < horizon →
+        slice_get (governing_table leg t).order sq ≡ Some (member_of line Norm) }
+{}
+
+/// The rows in numbers, if each line that has an SQ and fails was in use before, with nothing else said of
+/// it: a row isn't whole just if some such failure spoils it, and it is before the one row at which the source
+/// is told. So lines that fail together spoil the first ones of the rows that they can spoil, which are two
+/// runs at most.
+pub fn closed_law()
+    ensures rows { (leg : Leg) (from horizon t : ℕ) → IsSound leg → FailsOnce leg from horizon →
+        WereUsed leg from horizon → 24 ≤ t → from ≤ t → t < horizon →
+        (is_whole_row (scenario_by leg) (session_of leg) t ≡ false) ↔ IsHit leg from horizon t }
+    ensures first { (leg : Leg) (begins ends horizon line t sooner : ℕ) (window : Window) →
+        IsSound leg → FailTogether leg begins ends horizon → WereUsed leg begins horizon →
+        is_whole_row (scenario_by leg) (session_of leg) t ≡ false → t < horizon →
+        FailsBy (windows_of leg line) window begins horizon → Spoils window sooner →
+        24 ≤ sooner → begins ≤ sooner → sooner ≤ t →
+        is_whole_row (scenario_by leg) (session_of leg) sooner ≡ false }
+{}
+
+/// No table counts a change as long as no command is carried out and no ADD lines are exchanged; and so it
+/// is if no command waits or lands and no line is in ADD.
+pub fn settled_law()
+    ensures still { (leg : Leg) (from horizon k : ℕ) →
+        ((j : ℕ) → first_hit from ≤ j → 16 * j + 24 < horizon → MakesNoChange leg j) →
+        first_hit from ≤ k → 16 * k + 24 < horizon → (table_of (scenario_by leg) (session_of leg) k).count
+        ≡ (table_at leg from).count }
+    ensures settled { (leg : Leg) (from horizon k : ℕ) → IsSettled leg from horizon →
+        first_hit from ≤ k → 16 * k + 24 < horizon → (table_of (scenario_by leg) (session_of leg) k).count
+        ≡ (table_at leg from).count }
+{}
+
+/// A leg that meets what is asked above: a line is down for 489 containers, and the other one isn't.
+pub fn met_law()
+    ensures sound { IsSound costly_leg }
+    ensures settled { IsSettled costly_leg 536 1400 }
+    ensures together { FailTogether costly_leg 536 1025 1400 }
+    ensures has { HasSq (table_at costly_leg 536) 1 }
+    ensures were { WereUsed costly_leg 536 1400 }
+{}
+
+/// That leg, computed: neither number can be less. Rows 536 to 823 aren't whole, and the line carries payload
+/// again from row 1336 on.
+pub fn worked_law()
+    ensures rows { cost_end 2 536 1025 ≡ 824 }
+    ensures spoiled { whole_rows costly_leg (535 ∷ 536 ∷ 823 ∷ 824 ∷ [])
+        ≡ true ∷ false ∷ false ∷ true ∷ [] }
+    ensures used { used_in_rows costly_leg (823 ∷ 824 ∷ 1335 ∷ 1336 ∷ [])
+        ≡ (0 ∷ 1 ∷ []) ∷ (0 ∷ []) ∷ (0 ∷ []) ∷ (0 ∷ 1 ∷ []) ∷ [] }
+{}
