@@ -19,6 +19,12 @@ fn answer_rows() -> &'static str {
     0+;spoiled 119 120 container 0|spoiled 120 152 packet|segment 152 200 true 152|frame 1 due 118 got 118 118|frame 2 due 119 cut 119 119 119|frame 3 due 151 cut 151 151 151|frame 4 due 152 hunting 152 152|frame 5 due 152 unsettled 152 152|fates ticks 200 taken 200 frames 5 got 1 lost 4 waits 0 refused 0 starts true|;\n\
     fates;lines 1|delays 0|ring 1|lag 1|ticks 200|fail 0 111 112 0|add 0 0|frame 110 5a*64|frame 113 5a*64|frame 114 5a*64|frame 119 5a*64|frame 120 5a*64|frame 136 5a*64| => \
     0+;spoiled 111 114 container 0|spoiled 120 136 packet|segment 114 120 true 114|segment 136 200 true 136|frame 1 due 110 got 110 110|frame 2 due 113 cut 113 113 113|frame 3 due 114 hunting 114 114|frame 4 due 119 unsettled 119 119|frame 5 due 120 cut 120 120 120|frame 6 due 136 hunting 136 136|fates ticks 200 taken 200 frames 6 got 1 lost 5 waits 0 refused 0 starts true|;\n\
+    check;lines 1|delays 0|ring 8|lag 4|ticks 600|fail 0 20 40 0|add 0 0|frame 0 5a*64|frame 344 5a*64| => 0+;early 1 344|check unused 0 idle 0 early 1 refused 0|;\n\
+    check;lines 2|delays 0 0|ring 8|lag 4|ticks 200|fail 0 24 49 0|add 0 0| => 0+;line 1 unused|window 0 24 49 idle|check unused 1 idle 1 early 0 refused 0|;\n\
+    check;lines 2|delays 0 0|ring 8|lag 4|ticks 200|fail 0 24 50 0|add 0 0| => 0+;line 1 unused|check unused 1 idle 0 early 0 refused 0|;\n\
+    check;lines 2|delays 0 0|ring 8|lag 4|ticks 300|fail 0 167 168 0|fail 0 168 169 0|add 0 0|remove 150 0|frame 87 5a*64|frame 88 5a*64| => 0+;line 1 unused|window 0 168 169 idle|early 1 88|check unused 1 idle 1 early 1 refused 0|;\n\
+    check;lines 1|delays 0|ring 1|lag 1|ticks 60|add 0 0|add 20 0|remove 55 3|frame 5 5a*64|frame 29 5a*63|frame 50 5a*64|round 30| => 0+;line 0 unused|early 1 none|item 1 refused already in|check unused 1 idle 0 early 1 refused 1|;\n\
+    check;lines 1|delays 0|ring 1|lag 1|ticks 1| => 0+;line 0 unused|check unused 1 idle 0 early 0 refused 0|;\n\
     make 1 1 1; => 0+;made lines 1 ticks 1|total ticks 1 taken 1 frames 1 commands 1 refused 0 got 0|octets 0 sum 0|;\n\
     make 7 2 400; => 0+;made lines 2 ticks 400|total ticks 400 taken 400 frames 50 commands 2 refused 0 got 50|octets 43246 sum 5512389|;\n\
     stream 9600 400000 0 1000000 1; => 8;;fault: too long|\n\

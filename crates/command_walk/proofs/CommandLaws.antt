@@ -13,10 +13,12 @@ use Rattle.command_parts.specs.Common.{no_command, note_of, HasRunAt}
 use Rattle.command_parts.specs.declared.stop_and_status.Stop.TheVariants.{Memory}
 use Rattle.command_parts.proofs.StopLaws.{ends-no-memory}
 use Rattle.command_walk.specs.declared.command_of_words.WalkCommand.{WalkCommand}
-use Rattle.command_walk.specs.declared.command_of_words.WalkCommand.TheVariants.{Walk, Trace, Fates, Capture, Gfp, Frames, Decode, Noise, Au4, Channels, Pair, Make, Service, Stream}
+use Rattle.command_walk.specs.declared.command_of_words.WalkCommand.TheVariants.{Walk, Trace, Fates, Capture, Gfp, Frames, Decode, Noise, Au4, Channels, Pair, Make, Check, Service}
+use Rattle.command_walk.specs.declared.command_of_words.WalkCommand.TheVariants.{Stream}
 use Rattle.command_walk.specs.commands.Walk.{word_at, is_word, walk_words}
 use Rattle.command_walk.specs.commands.Trace.{trace_words}
 use Rattle.command_walk.specs.commands.Fates.{fates_words}
+use Rattle.command_walk.specs.commands.Check.{check_words}
 use Rattle.command_walk.specs.commands.Service.{interval_of, service_words}
 use Rattle.command_walk.specs.commands.Capture.{capture_words}
 use Rattle.command_walk.specs.commands.Gfp.{gfp_words}
@@ -90,6 +92,9 @@ trace-fits words = if-fits (is_word (codes "trace") words) (Some Trace) tt
 fates-fits : (words : List (List ℕ)) → IfSome (fates_words words) Fits
 fates-fits words = if-fits (is_word (codes "fates") words) (Some Fates) tt
 
+check-fits : (words : List (List ℕ)) → IfSome (check_words words) Fits
+check-fits words = if-fits (is_word (codes "check") words) (Some Check) tt
+
 interval-fits : (interval : Option ℕ) → IfSome interval (IsWithin 1 1000000) → IfSome (interval_of interval) Fits
 interval-fits (Some interval) within = within
 interval-fits None within = tt
@@ -154,7 +159,8 @@ named-fits words =
     let walks = walk_words words in
     let traces = option_or walks (trace_words words) in
     let fates = option_or traces (fates_words words) in
-    let services = option_or fates (service_words words) in
+    let checks = option_or fates (check_words words) in
+    let services = option_or checks (service_words words) in
     let captures = option_or services (capture_words words) in
     let gfps = option_or captures (gfp_words words) in
     let frames = option_or gfps (frames_words words) in
@@ -174,9 +180,11 @@ named-fits words =
     (or-fits gfps (frames_words words)
     (or-fits captures (gfp_words words)
     (or-fits services (capture_words words)
-    (or-fits fates (service_words words)
+    (or-fits checks (service_words words)
+    (or-fits fates (check_words words)
     (or-fits traces (fates_words words)
-    (or-fits walks (trace_words words) (walk-fits words) (trace-fits words)) (fates-fits words)) (service-fits words))
+    (or-fits walks (trace_words words) (walk-fits words) (trace-fits words)) (fates-fits words)) (check-fits words))
+    (service-fits words))
     (capture-fits words))
     (gfp-fits words))
     (frames-fits words))
@@ -208,6 +216,7 @@ is-command None some = some refl
 is-command (Some Walk) some = tt
 is-command (Some Trace) some = tt
 is-command (Some Fates) some = tt
+is-command (Some Check) some = tt
 is-command (Some (Service interval)) some = tt
 is-command (Some Capture) some = tt
 is-command (Some Gfp) some = tt

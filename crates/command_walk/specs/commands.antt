@@ -2,6 +2,7 @@ pub mod HexText
 pub mod Walk
 pub mod Trace
 pub mod Fates
+pub mod Check
 pub mod Capture
 pub mod Gfp
 pub mod Frames

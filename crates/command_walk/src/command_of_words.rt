@@ -1,8 +1,8 @@
 //! The commands of the program, a line for each.
 
 use crate::commands::{
-    au4, capture, channels, decode, fates, frames, gfp, make, noise, pair, service, stream, trace,
-    walk,
+    au4, capture, channels, check, decode, fates, frames, gfp, make, noise, pair, service, stream,
+    trace, walk,
 };
 use command_words::FromWords;
 use text_scripts::rate_load::RateLoad;
@@ -16,6 +16,8 @@ pub enum WalkCommand {
     Trace,
     /// `fates`: make the walk of a script, and write what became of each frame.
     Fates,
+    /// `check`: make the walk of a script, and write what in it has no effect or was refused.
+    Check,
     /// `service`: make the walk of a script, and write what it was worth to its client, by stretches of 1 to
     /// 1,000,000 ticks.
     Service { interval: u32 },
@@ -50,6 +52,7 @@ impl FromWords for WalkCommand {
         walk::words(words)
             .or(trace::words(words))
             .or(fates::words(words))
+            .or(check::words(words))
             .or(service::words(words))
             .or(capture::words(words))
             .or(gfp::words(words))

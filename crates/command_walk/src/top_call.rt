@@ -13,6 +13,7 @@ use crate::command_of_words::WalkCommand;
 use crate::commands::au4::au4;
 use crate::commands::capture::capture;
 use crate::commands::channels::channels;
+use crate::commands::check::check;
 use crate::commands::decode::decode;
 use crate::commands::fates::fates;
 use crate::commands::frames::frames;
@@ -35,10 +36,10 @@ use walk_engine::walk_core::Walk;
 /// lines of the frames that it delivers, the lines of refused items, and the line of totals; without event
 /// lines the walk drains, and with event lines it makes just these. `trace` does the same, and writes a line
 /// for each decision step of the source on `notes`. `make` runs the load of a number and writes three lines.
-/// `fates` makes the walk of a script and writes what became of each of its frames. `service` does so too, and
-/// writes what the walk was worth to its client, by stretches of ticks. `capture` makes the walk of a script
-/// and writes a capture of the frames that it delivers, `gfp` one of the GFP frames that its
-/// source sent and the taken rows carry. `frames` reads a capture and writes the line of a script for each
+/// `fates` makes the walk of a script and writes what became of each of its frames. `check` does so too, and
+/// writes what in the script has no effect or was refused; `service` what the walk was worth to its client, by
+/// stretches of ticks. `capture` makes the walk of a script and writes a capture of the frames that it
+/// delivers, `gfp` one of the GFP frames that its source sent and the taken rows carry. `frames` reads a capture and writes the line of a script for each
 /// frame in it. `decode` reads the H4 octets of a line in hexadecimal digits and writes the control packets
 /// in them. `noise` reads frames and flips, and writes the frames with an FCS that get through when these
 /// bits of their stream are turned over, and the counts. `au4` reads what the pointers of AU-4 frames do, and
@@ -112,6 +113,7 @@ fn run<S: ByteSource, K: ByteSink, E: ByteSink>(
         WalkCommand::Walk => walk(alloc, script, out),
         WalkCommand::Trace => trace(alloc, script, out, notes),
         WalkCommand::Fates => fates(alloc, script, out),
+        WalkCommand::Check => check(alloc, script, out),
         WalkCommand::Service { interval } => service(alloc, interval, script, out),
         WalkCommand::Capture => capture(alloc, script, out),
         WalkCommand::Gfp => gfp(alloc, script, out),
@@ -137,7 +139,7 @@ fn no_command<E: ByteSink>(notes: &mut E) -> WalkEnd
     ensures told { Tells E.written E.faults notes.old notes.new usage }
 {
     let text =
-        b"usage: vcat_walk walk, trace, fates, service INTERVAL, capture, gfp, frames, decode, noise, au4, channels, pair, make NUMBER LINES TICKS, or stream OCTETS MBITS FIRST END NUMBER\n";
+        b"usage: vcat_walk walk, trace, fates, check, service INTERVAL, capture, gfp, frames, decode, noise, au4, channels, pair, make NUMBER LINES TICKS, or stream OCTETS MBITS FIRST END NUMBER\n";
     let status = tell_usage(text, notes);
     WalkEnd { status, walk: None }
 }

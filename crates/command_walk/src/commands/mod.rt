@@ -3,6 +3,7 @@
 pub(super) mod au4;
 pub(super) mod capture;
 pub(super) mod channels;
+pub(super) mod check;
 pub(super) mod decode;
 pub(super) mod fates;
 pub(super) mod frames;

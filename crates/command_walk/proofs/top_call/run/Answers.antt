@@ -24,6 +24,9 @@ returns-in-Walk g c = rw c.in-Walk.is (alone _ _ _ _ _ _ refl c.walk.ensures)
 pub returns-in-Fates : goal.returns-in-Fates
 returns-in-Fates g c = rw c.in-Fates.is (alone _ _ _ _ _ _ refl c.fates.ensures)
 
+pub returns-in-Check : goal.returns-in-Check
+returns-in-Check g c = rw c.in-Check.is (alone _ _ _ _ _ _ refl c.check.ensures)
+
 pub returns-in-Service : goal.returns-in-Service
 returns-in-Service g c = rw c.in-Service.is (alone _ _ _ _ _ _ refl c.service.ensures)
 

@@ -1,0 +1,10 @@
+-- The rows, and the tables that they stand on.
+use Rattle.fate_check.proofs.WithoutLaws.{same-rows, same-table}
+use Rattle.fate_check.proofs.idle_law.Goals as goal
+
+pub returns-clause-whole : goal.returns-clause-whole
+returns-clause-whole c = λ scenario cells rows line t before after window there idle taken.
+    same-rows scenario line before after window there cells rows t idle taken
+
+pub returns-clause-tables : goal.returns-clause-tables
+returns-clause-tables c = λ scenario cells line k windows. same-table scenario cells line k windows

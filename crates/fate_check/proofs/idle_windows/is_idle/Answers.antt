@@ -1,0 +1,48 @@
+-- The rows of a packet more; and all of them.
+use Rattle.std.proofs.Common.{◌≡◌, ◌+◌, nat_le, false, true, inl, inr, sym, ◌∙◌, arith}
+use Rattle.std.proofs.lemmas.Bool.{cases_lt, and_parts, and_from, le-leb, leb-true}
+use Rattle.fate_check.specs.IdleWindows.{is_near, is_spared}
+use Rattle.fate_check.proofs.RangeLaws.{all-picked, fails-picked}
+use Rattle.fate_check.proofs.IdleLaws.{alike-spared}
+use Rattle.fate_check.proofs.idle_windows.is_idle.Goals as goal
+
+pub loop-row-preserved : goal.loop-row-preserved
+loop-row-preserved c = (
+  (let from = c.loop-row.invariant.0 in let later = c.next_governed-row.ensures.later in omega (arith, from, later)),
+  λ scenario cells same are t from low.
+      let row = c.loop-row.row in
+      let line = c.args.line in
+      let here : is_spared scenario cells line row ≡ true =
+      sym (c.is_spared.ensures scenario cells same are) ∙ c.if-not-is_spared.false in
+      elim (cases_lt t row) [
+        | inl before ↦ c.loop-row.invariant.1 scenario cells same are t from before
+        | inr later ↦ alike-spared scenario cells t row (c.next_governed-row.ensures.alike t later low) line ∙ here
+      ],
+)
+
+pub returns-then-not-is_spared : goal.returns-then-not-is_spared
+returns-then-not-is_spared c = λ scenario cells same are.
+    let row = c.loop-row.row in
+    let window = c.args.window in
+    let from = c.loop-row.invariant.0 in
+    let test = c.loop-row-test.true in
+    let end = c.min-end.ensures in
+    let here : is_spared scenario cells c.args.line row ≡ false =
+    sym (c.is_spared.ensures scenario cells same are) ∙ c.if-not-is_spared.true in
+    let near : is_near window row ≡ true =
+    and_from (nat_le window.first row) (nat_le row (window.end + 38)) (le-leb window.first row from)
+    (le-leb row (window.end + 38) (omega (arith, test, end))) in
+    sym (fails-picked (is_near window) (is_spared scenario cells c.args.line) 0 c.args.rows row (omega arith)
+    (omega (arith, test, end)) near here)
+
+pub returns : goal.returns
+returns c = λ scenario cells same are.
+    let window = c.args.window in
+    let test = c.loop-row-test.false in
+    let end = c.min-end.ensures in
+    sym (all-picked (is_near window) (is_spared scenario cells c.args.line) 0 c.args.rows
+    (λ t low high near.
+    let parts = and_parts (nat_le window.first t) (nat_le t (window.end + 38)) near in
+    let from = leb-true window.first t parts.0 in
+    let upto = leb-true t (window.end + 38) parts.1 in
+    c.loop-row.invariant.1 scenario cells same are t from (omega (arith, high, upto, test, end))))

@@ -1,0 +1,14 @@
+-- No line carries payload in any of the rows so far.
+use Rattle.std.proofs.Common.{◌≡◌, ℕ, ◌-◌, ◌<◌, false, List, Option}
+use Rattle.law_model.specs.session.Scenario.{Scenario}
+use Rattle.law_model.specs.source.Table.{Told}
+use Rattle.fate_engine.specs.fate_core.Packets.{ArePackets}
+use Rattle.fate_check.specs.UsedLines.{has_payload}
+use Rattle.fate_check.proofs.used_lines.first_payload.Given as goal
+
+abbrev pub invariant-loop-row : goal.invariant-loop-row
+invariant-loop-row l = (scenario : Scenario) (cells : List (Option Told)) → ArePackets scenario cells l.packets →
+    (t : ℕ) → t < l.row → has_payload scenario cells t ≡ false
+
+abbrev pub decreases-loop-row : goal.decreases-loop-row
+decreases-loop-row l = l.rows - l.row

@@ -1,0 +1,1 @@
+-- An item more; and all of them.

@@ -1,0 +1,115 @@
+//! The lines, each put together in a slice with room for it. The length of a line is the answer.
+ghost use Rattle.std.specs.Prelude.{◌≡◌, ◌+◌, ◌≤◌, length, take};
+ghost use Rattle.text_report.specs.TextCursor.{Extends, HasTextRoom};
+ghost use Rattle.fate_check.specs.CheckText.{unused_text, idle_text, row_text, early_text, refused_item, last_text};
+
+use fate_engine::fate_text::add_refused;
+use law_model::{Refusal, Window};
+use text_report::TextCursor;
+
+/// Room for a line, in octets.
+pub const ROOM: usize = 128;
+
+/// How much of each kind was found.
+#[derive(Clone, Copy, Debug, PartialEq, Eq)]
+pub struct Found {
+    /// The lines that carried payload in no row.
+    pub unused: u32,
+    /// The failures that spoiled no row.
+    pub idle: u32,
+    /// The frames that were accepted before any line carried payload.
+    pub early: u32,
+    /// The items that were refused.
+    pub refused: usize,
+}
+
+/// The line of a line that carried payload in no row.
+pub fn unused_line(member: u8, out: &mut [u8]) -> usize
+    requires room { 128 ≤ length out.old }
+    ensures within { result ≤ 128 }
+    ensures line { take result out.new ≡ unused_text member }
+{
+    let mut line = TextCursor::new(out);
+    line.text(b"line ");
+    line.decimal(member);
+    line.text(b" unused\n");
+    line.end()
+}
+
+/// The line of a failure that spoiled no row.
+pub fn idle_line(member: u8, window: Window, out: &mut [u8]) -> usize
+    requires room { 128 ≤ length out.old }
+    ensures within { result ≤ 128 }
+    ensures line { take result out.new ≡ idle_text member window }
+{
+    let mut line = TextCursor::new(out);
+    line.text(b"window ");
+    line.decimal(member);
+    line.text(b" ");
+    line.decimal(window.first);
+    line.text(b" ");
+    line.decimal(window.end);
+    line.text(b" idle\n");
+    line.end()
+}
+
+/// Adds a row, where there is one.
+fn add_row(line: &mut TextCursor, row: Option<u32>)
+    requires { HasTextRoom line.old 10 }
+    ensures text { Extends line.old line.new (row_text row) }
+    ensures end { line.new.at ≤ line.old.at + 10 }
+{
+    match row {
+        Some(row) => line.decimal(row),
+        None => line.text(b"none"),
+    }
+}
+
+/// The line of frames that were accepted before any line carried payload, and of the first row in which one did.
+pub fn early_line(frames: u32, row: Option<u32>, out: &mut [u8]) -> usize
+    requires room { 128 ≤ length out.old }
+    ensures within { result ≤ 128 }
+    ensures line { take result out.new ≡ early_text frames row }
+{
+    let mut line = TextCursor::new(out);
+    line.text(b"early ");
+    line.decimal(frames);
+    line.text(b" ");
+    add_row(&mut line, row);
+    line.text(b"\n");
+    line.end()
+}
+
+/// The line of an item that was refused.
+pub fn refused_line(item: u32, why: Refusal, out: &mut [u8]) -> usize
+    requires room { 128 ≤ length out.old }
+    ensures within { result ≤ 128 }
+    ensures line { take result out.new ≡ refused_item item why }
+{
+    let mut line = TextCursor::new(out);
+    line.text(b"item ");
+    line.decimal(item);
+    line.text(b" ");
+    add_refused(&mut line, why);
+    line.text(b"\n");
+    line.end()
+}
+
+/// The last line.
+pub fn check_line(found: Found, out: &mut [u8]) -> usize
+    requires room { 128 ≤ length out.old }
+    ensures within { result ≤ 128 }
+    ensures line { take result out.new ≡ last_text found }
+{
+    let mut line = TextCursor::new(out);
+    line.text(b"check unused ");
+    line.decimal(found.unused);
+    line.text(b" idle ");
+    line.decimal(found.idle);
+    line.text(b" early ");
+    line.decimal(found.early);
+    line.text(b" refused ");
+    line.decimal(found.refused);
+    line.text(b"\n");
+    line.end()
+}
