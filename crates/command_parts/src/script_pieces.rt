@@ -7,8 +7,8 @@ ghost use Rattle.command_parts.specs.Ends.{lent};
 ghost use Rattle.command_parts.specs.Stops.{StopsReading};
 ghost use Rattle.command_parts.specs.Scripts.{HasScript, script_answer};
 
-use crate::fault_notes::stop_of;
 use crate::piece_reader::{PieceReader, read_pieces};
+use crate::refusal_of_script::stop_of;
 use crate::stop_and_status::Stop;
 use law_model::Script;
 use octet_io::ByteSource;

@@ -14,10 +14,10 @@ use Rattle.command_parts.specs.Common.{Answer, reads, Lent, Takes, WritesAll, En
 use Rattle.command_parts.specs.Common.{script_answer}
 use Rattle.command_parts.specs.Task.{writes, writes_both}
 use Rattle.command_parts.proofs.EndLaws.{is-done, known-text}
-use Rattle.pair_script.specs.declared.script_pair.PairFault.{PairFault}
-use Rattle.pair_script.specs.declared.script_pair.ScriptPair.{ScriptPair}
-use Rattle.pair_script.specs.Pair.{pair_of}
-use Rattle.pair_script.specs.Inputs.{pair_answer_of}
+use Rattle.pair_walk.specs.declared.pair_script.script_pair.PairFault.{PairFault}
+use Rattle.pair_walk.specs.declared.pair_script.script_pair.ScriptPair.{ScriptPair}
+use Rattle.pair_walk.specs.pair_script.Pair.{pair_of}
+use Rattle.pair_walk.specs.pair_script.Inputs.{pair_answer_of}
 use Rattle.pair_walk.specs.Text.{way_text, pair_text, pair_reply}
 use Rattle.pair_walk.proofs.HeadlineLaws.{pair_headline}
 use Rattle.command_walk.specs.commands.Pair.{TellsPair}

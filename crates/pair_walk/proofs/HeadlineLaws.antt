@@ -5,9 +5,9 @@ use Rattle.law_walk.specs.Common.{numbered}
 use Rattle.law_pair.specs.Common.{IsWay, way_of}
 use Rattle.law_pair.proofs.WayLaws.{way-sound}
 use Rattle.law_headline.proofs.ReportLaws.{is_headline}
-use Rattle.pair_script.specs.declared.script_pair.ScriptPair.{ScriptPair}
-use Rattle.pair_script.specs.Pair.{pair_of}
-use Rattle.pair_script.proofs.SaidLaws.{valid_pair}
+use Rattle.pair_walk.specs.declared.pair_script.script_pair.ScriptPair.{ScriptPair}
+use Rattle.pair_walk.specs.pair_script.Pair.{pair_of}
+use Rattle.pair_walk.proofs.PairScriptLaws.SaidLaws.{valid_pair}
 use Rattle.pair_walk.specs.Text.{way_text}
 use Rattle.pair_walk.specs.Headline.{IsWayHeadline, IsPairHeadline}
 

@@ -1,3 +1,4 @@
 pub mod RoundLaws
 pub mod EndLaws
 pub mod HeadlineLaws
+pub mod PairScriptLaws

@@ -1,3 +1,4 @@
 pub mod Text
 pub mod Rounds
 pub mod Headline
+pub mod pair_script

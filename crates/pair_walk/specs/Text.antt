@@ -4,8 +4,8 @@ use Rattle.law_model.specs.declared.script_types.Script.{Script}
 use Rattle.law_walk.specs.Common.{final_report}
 use Rattle.law_pair.specs.Common.{way_of}
 use Rattle.command_parts.specs.Common.{Answer, writes_both}
-use Rattle.pair_script.specs.declared.script_pair.ScriptPair.{ScriptPair}
-use Rattle.pair_script.specs.Inputs.{pair_answer}
+use Rattle.pair_walk.specs.declared.pair_script.script_pair.ScriptPair.{ScriptPair}
+use Rattle.pair_walk.specs.pair_script.Inputs.{pair_answer}
 
 -- of the way of a script, beside the other one, whose ticks are all made and whose rows are all taken: the got lines of
 -- the frames that are delivered, the lines of refused items, and the line of totals

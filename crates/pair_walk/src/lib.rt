@@ -1,14 +1,17 @@
-//! What comes of two scripts as a pair of sessions, in words: the report of each way, once all rows of both are
-//! taken. Begin with `write_pair`, and with `pair_text` of the specs; no text is read here. `headline_law`: what
-//! the reports of the two ways tell.
+//! Two scripts in one text, for two sessions that carry each other's return packets, and what comes of them:
+//! the reports of both ways. Nothing of a pair's events stands here; that is in `pair_engine`. Begin with
+//! `write_pair`; what a text says is read by `pair_script`.
+//!
+//! - `pair_script`: two scripts in one text, for two sessions that carry each other's return packets.
 #![tactic(auto)]
 
 mod pair_report;
+pub mod pair_script;
 
 ghost use Rattle.std.specs.Prelude.{◌≡◌, ℕ, ◌≤◌, List, length, Ok};
 ghost use Rattle.law_model.specs.Common.{longest_input};
-ghost use Rattle.pair_script.specs.declared.script_pair.ScriptPair.{ScriptPair};
-ghost use Rattle.pair_script.specs.Pair.{pair_of};
+ghost use Rattle.pair_walk.specs.declared.pair_script.script_pair.ScriptPair.{ScriptPair};
+ghost use Rattle.pair_walk.specs.pair_script.Pair.{pair_of};
 ghost use Rattle.pair_walk.specs.Text.{way_text};
 ghost use Rattle.pair_walk.specs.Headline.{IsPairHeadline};
 

@@ -11,7 +11,7 @@ use crate::command_of_words::WalkCommand;
 use command_parts::{Ran, Stop};
 use octet_io::{ByteSink, ByteSource};
 use pair_engine::Pair;
-use pair_script::{ScriptPair, read_pair};
+use pair_walk::pair_script::{ScriptPair, read_pair};
 use pair_walk::write_pair;
 use std::alloc::{AllocError, Global};
 use walk_engine::walk_core::Walk;
