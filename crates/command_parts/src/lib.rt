@@ -20,7 +20,7 @@ mod whole_input;
 
 pub use end_laws::{end_law, input_law, made_law};
 pub use piece_reader::{PieceReader, read_pieces};
-pub use program_words::{NO_MEMORY, NO_MEMORY, given_words, given_words};
+pub use program_words::{NO_MEMORY, given_words};
 pub use refusal_of_line::{faulty_line, line_fault};
 pub use refusal_of_script::stop_of;
 pub use report_end::write_rest;

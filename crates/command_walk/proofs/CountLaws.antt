@@ -1,15 +1,14 @@
 -- How far an event, a round and the event lines of a script move the counts of a walk.
 use Rattle.std.proofs.Common.{◌≡◌, ℕ, zero, suc, ◌+◌, ◌<◌, ◌≤◌, ◌&&◌, nat_le, nat_lt, inl, inr, List, [], ◌∷◌, ◌++◌}
-use Rattle.std.proofs.Common.{length, replicate, take, slice_get, Option, Some, None, refl, ◌∙◌, ap, arith}
+use Rattle.std.proofs.Common.{length, replicate, slice_get, Option, Some, None, refl, ◌∙◌, ap, arith}
 use Rattle.std.proofs.lemmas.Bool.{cases_Bool}
-use Rattle.law_model.specs.Common.{LinePath, LineCounts, Plan, Counts, in_send, in_receive, in_return, held, full}
-use Rattle.law_model.specs.Common.{is_missing, tick_full, tick_held, tick, carry_at, pop_lines, take_popped, take_row}
-use Rattle.law_model.specs.Common.{is_back_full, land_due, frame_dues, command_dues, step, run, carries_from, round}
-use Rattle.law_model.specs.Common.{begin, bound, drain, run_line, run_lines, walked}
 use Rattle.law_model.specs.declared.script_types.EventLine.{EventLine}
 use Rattle.law_model.specs.declared.walk_events.Event.{Event}
-use Rattle.law_model.specs.declared.walk_events.Event.TheVariants.{Accept, Tick, Carry, Back, Take, Command}
-use Rattle.law_model.specs.session.Counts.{back}
+use Rattle.law_model.specs.declared.walk_events.Event.TheVariants.{Accept, Command, Tick, Carry, Back, Take}
+use Rattle.law_model.specs.session.Counts.{LinePath, LineCounts, Plan, Counts, in_send, in_receive, in_return, held, full}
+use Rattle.law_model.specs.session.Counts.{is_missing, tick_full, tick_held, tick, carry_at, back, pop_lines, take_popped}
+use Rattle.law_model.specs.session.Counts.{take_row, is_back_full, land_due, frame_dues, command_dues, step, run}
+use Rattle.law_model.specs.session.Counts.{carries_from, round, begin, bound, drain, run_lines, walked}
 use Rattle.law_progress.proofs.ReachLaws.{run-append}
 
 -- the same rows and ticks
@@ -146,27 +145,6 @@ run-rises plan s [] = rises s s (same s)
 run-rises plan s (event ∷ events) =
     rises-then s (step plan s event).counts (run plan (step plan s event).counts events) (step-moves plan s event).rises
     (run-rises plan (step plan s event).counts events)
-
--- ---- event lines, one by one
-lines-append : (plan : Plan) (s : Counts) (xs ys : List EventLine) →
-    run_lines plan s (xs ++ ys) ≡ run_lines plan (run_lines plan s xs) ys
-unfolding run_lines
-lines-append plan s [] ys = refl
-lines-append plan s (x ∷ xs) ys = lines-append plan (run_line plan s x) xs ys
-
-pub lines-last : (plan : Plan) (s : Counts) (lines : List EventLine) (k : ℕ) (line : EventLine) →
-    slice_get lines k ≡ Some line
-    → run_lines plan s (take (k + 1) lines) ≡ run_line plan (run_lines plan s (take k lines)) line
-unfolding run_lines
-lines-last plan s lines k line is = ap (run_lines plan s) (take-one lines k line is)
-    ∙ lines-append plan s (take k lines) (line ∷ [])
-  where
-    take-one : (xs : List EventLine) (k : ℕ) (x : EventLine) → slice_get xs k ≡ Some x →
-        take (k + 1) xs ≡ take k xs ++ x ∷ []
-    take-one [] k x e = absurd cc
-    take-one (y ∷ xs) zero x e = ap (λ z. z ∷ []) (let a : y ≡ x = cc in a)
-    take-one (y ∷ xs) (suc k) x e = ap (λ n. take n (y ∷ xs)) (let n : suc k + 1 ≡ suc (k + 1) = omega arith in n)
-        ∙ ap (λ l. y ∷ l) (take-one xs k x e)
 
 -- where there are lines, a walk is these
 pub lines-some : (plan : Plan) (lines : List EventLine) → 0 < length lines →

@@ -11,3 +11,4 @@ pub mod TakenLaws
 pub mod ReadBackLaws
 pub mod StartsLaws
 pub mod LinkAnswerLaws
+pub mod TurnLaws

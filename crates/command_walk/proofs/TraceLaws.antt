@@ -1,25 +1,35 @@
 -- What is told of a walk that is traced, as it goes on.
 use Rattle.std.proofs.Common.{◌≡◌, ℕ, zero, suc, ◌+◌, ◌-◌, ◌*◌, ◌<◌, ◌≤◌, nat_lt, inl, inr, ◌==◌, Bool, true, false}
-use Rattle.std.proofs.Common.{not, List, [], ◌∷◌, ◌++◌, take, replicate, length, Option, Some, Result, Ok, Err, OnOk}
-use Rattle.std.proofs.Common.{refl, sym, ◌∙◌, ap, arith, subst, append_assoc, append-nil, flat_map, lt-ltb}
-use Rattle.std.specs.List.{range_with_len}
-use Rattle.std.proofs.lemmas.Grind.{flat_map-append, replicate_next}
-use Rattle.std.proofs.lemmas.Option.{same_Some}
-use Rattle.pair_walk.proofs.EndLaws.{given_up-longer, since}
-use Rattle.law_model.proofs.ListLaws.{texts-more}
-use Rattle.law_model.specs.Common.{Appends, AppendsPart, leg_of, IsValid, scenario_of, steps_in, Table, after, Plan}
-use Rattle.law_model.specs.Common.{Counts, step, run, run_lines, begin, round, Start}
+use Rattle.std.proofs.Common.{not, List, [], ◌∷◌, ◌++◌, replicate, length, Option, Some, Result, Ok, Err, OnOk}
+use Rattle.std.proofs.Common.{refl, sym, ◌∙◌, ap, arith, subst, append_assoc, append-nil}
+use Rattle.std.specs.List.{flat_map, range_with_len}
+use Rattle.std.proofs.lemmas.Bool.{lt-ltb}
+use Rattle.std.proofs.lemmas.Grind.{flat_map-append}
+use Rattle.octet_io.specs.Transfer.{Appends, AppendsPart}
+use Rattle.octet_io.proofs.Parts.{AppendsPart-longer}
 use Rattle.law_model.specs.declared.script_types.Script.{Script}
 use Rattle.law_model.specs.declared.script_types.EventLine.{EventLine}
 use Rattle.law_model.specs.declared.walk_events.Event.{Event}
+use Rattle.law_model.specs.session.Leg.{leg_of}
+use Rattle.law_model.specs.session.Valid.{IsValid}
+use Rattle.law_model.specs.session.Scenario.{scenario_of, steps_in}
+use Rattle.law_model.specs.source.Table.{Table}
+use Rattle.law_model.specs.source.Source.{after}
+use Rattle.law_model.specs.session.Counts.{Plan, Counts, step, run, run_lines, begin, round}
 use Rattle.law_progress.proofs.ReachLaws.{run-append, walked-reached}
 use Rattle.text_report.specs.Report.{got_text, got_texts, refused_texts, total_text}
+use Rattle.octet_io.specs.Start.{Start}
+use Rattle.law_model.proofs.ListLaws.{texts-more}
 use Rattle.text_got.specs.Told.{AppendsSome, GivesUp}
-use Rattle.law_walk.specs.Common.{delivered_of, session_of, walk_plan, IsWalked, last_packet, cell_taken, table_in}
-use Rattle.law_walk.specs.Common.{refusals_of, totals_of}
+use Rattle.law_walk.specs.Delivered.{delivered_of}
+use Rattle.law_walk.specs.Walk.{session_of, walk_plan, IsWalked}
+use Rattle.law_walk.specs.Step.{last_packet, cell_taken, table_in}
+use Rattle.law_walk.specs.Landed.{refusals_of, totals_of}
+use Rattle.law_walk.proofs.FrameLaws.{frames-grow}
 use Rattle.law_walk.proofs.PlanLaws.{has-paths, sound-walks}
 use Rattle.law_walk.proofs.WalkLaws.{begins-walked}
-use Rattle.walk_engine.specs.Common.{Walked, GivesRows, delivered_since, note_of}
+use Rattle.walk_engine.specs.walk_core.Moved.{Walked, GivesRows, delivered_since}
+use Rattle.walk_engine.specs.walk_core.Parts.{note_of}
 use Rattle.walk_engine.specs.declared.walk_core.step_answers.StepNote.{StepNote}
 use Rattle.text_captures.specs.packet_trace.StepText.{step_text}
 use Rattle.command_walk.specs.Ended.{StopsBoth}
@@ -74,6 +84,9 @@ pub note-some : (script : Script) (ticks : ℕ) → 0 < steps_in ticks →
     (record { packet = steps_in ticks - 1; back = cell_taken (leg_of script) (steps_in ticks - 1) })
 note-some script ticks some = let yes : nat_lt 0 (steps_in ticks) ≡ true = lt-ltb 0 (steps_in ticks) some in rw yes refl
 
+same-some : {X : Type 0} (x y : X) → Some x ≡ Some y → x ≡ y
+same-some x y e = cc
+
 pub last-line : (script : Script) (ticks lines : ℕ) (note : StepNote) (table : Table) → 0 < steps_in ticks →
     Some note ≡ note_of (leg_of script) (last_packet ticks) → table ≡ table_in (leg_of script) ticks
     → lines ≡ script.config.lines →
@@ -81,7 +94,7 @@ pub last-line : (script : Script) (ticks lines : ℕ) (note : StepNote) (table :
 last-line script ticks lines note table some is_note is_table is_lines =
     let j : ℕ = steps_in ticks - 1 in
     let last : StepNote = record { packet = j; back = cell_taken (leg_of script) j } in
-    let e : note ≡ last = same_Some note last (is_note ∙ note-some script ticks some) in
+    let e : note ≡ last = same-some note last (is_note ∙ note-some script ticks some) in
     let same : steps_in ticks ≡ steps_in (16 * j + 9) = omega (arith, some) in
     let at : table_in (leg_of script) ticks ≡ table_in (leg_of script) (16 * j + 9) =
     ap (λ n. (after (scenario_of script) (session_of (leg_of script)) n).table) same in
@@ -90,6 +103,18 @@ last-line script ticks lines note table some is_note is_table is_lines =
     ∙ ap (step_text j (cell_taken (leg_of script) j) (table_in (leg_of script) (16 * j + 9))) is_lines
 
 -- ---- a text that is given up
+pub given_up-longer : {K : Type 0} (failed : Bool) (written : K → Option (List ℕ)) (faults : K → ℕ) (old new : K)
+    (text more : List ℕ)
+    → GivesUp failed written faults old new text → GivesUp failed written faults old new (text ++ more)
+given_up-longer true written faults old new text more stops = AppendsPart-longer written faults old new text more stops
+given_up-longer false written faults old new text more some = record {
+  part = some.part;
+  rest = some.rest ++ more;
+  prefix = sym (append_assoc some.part some.rest more) ∙ ap (λ octets. octets ++ more) some.prefix;
+  appended = some.appended;
+  quiet = some.quiet;
+}
+
 pub appends-some : {K : Type 0} (written : K → Option (List ℕ)) (faults : K → ℕ) (old new : K) (text more : List ℕ)
     → Appends written faults old new text → AppendsSome written faults old new (text ++ more)
 appends-some written faults old new text more all = record {
@@ -101,6 +126,14 @@ appends-some written faults old new text more all = record {
 }
 
 -- ---- more rows
+pub since : (script : Script) (a b : ℕ) → a ≤ b →
+    delivered_of (leg_of script) a ++ delivered_since (leg_of script) a b ≡ delivered_of (leg_of script) b
+since script a b low =
+    let e : a + (b - a) ≡ b = omega (arith, low) in
+    ap (λ n. delivered_of (leg_of script) a ++ delivered_since (leg_of script) a n) (sym e)
+    ∙ sym (frames-grow (leg_of script) a (b - a))
+    ∙ ap (delivered_of (leg_of script)) e
+
 module _ {Out E : Type 0} (stands_for : Out → Start → List (List ℕ) → Type 0) (has_failed : Out → Bool)
     (written : E → Option (List ℕ)) (faults : E → ℕ) (start : Start) (first : E) where
   -- after a write that failed, nothing more is told
@@ -131,7 +164,7 @@ module _ {Out E : Type 0} (stands_for : Out → Start → List (List ℕ) → Ty
       → stands_for out_now start (delivered_of (leg_of now.script) now.counts.rows)
   gives-on out_was out_now was now script rows gives stands =
       let G : List (List ℕ) → Type 0 = λ frames. stands_for out_now start frames in
-      subst G (since (leg_of was.script) was.counts.rows now.counts.rows rows
+      subst G (since was.script was.counts.rows now.counts.rows rows
       ∙ ap (λ s. delivered_of (leg_of s) now.counts.rows) (sym script))
       (gives start (delivered_of (leg_of was.script) was.counts.rows) stands)
 
@@ -184,22 +217,10 @@ event-moves plan s next event is = subst (Moves s) (sym is) (step-moves plan s e
 pub all-moves : (plan : Plan) (s next : Counts) → next ≡ run plan s (round plan) → Moves s next
 all-moves plan s next is = subst (Moves s) (sym is) (round-moves plan s)
 
-abbrev all-of : List (List Event) → List Event
-all-of tries = flat_map (λ (events : List Event). events) tries
-
 pub turns-none : (plan : Plan) (s : Counts) (events : List Event) →
     run plan s (flat_map (λ (tries : List Event). tries) (replicate 0 events)) ≡ s
 unfolding run
 turns-none plan s events = refl
-
-pub turns-last : (plan : Plan) (s : Counts) (k : ℕ) (events : List Event)
-    → run plan s (flat_map (λ (tries : List Event). tries) (replicate (k + 1) events)) ≡ run plan
-    (run plan s (flat_map (λ (tries : List Event). tries) (replicate k events))) events
-turns-last plan s k events =
-    ap (λ tries. run plan s (all-of tries)) (replicate_next k events)
-    ∙ ap (run plan s) (flat_map-append (λ (events : List Event). events) (replicate k events) (events ∷ [])
-    ∙ ap (λ l. all-of (replicate k events) ++ l) (append-nil events))
-    ∙ run-append plan s (all-of (replicate k events)) events
 
 -- an event that is tried a number of times
 pub tries-flat : (n : ℕ) (event : Event) →
@@ -253,17 +274,17 @@ walk-given_up failed written faults old new script rows low part =
     let P : List ℕ → Type 0 = λ text. GivesUp failed written faults old new text in
     let more : a ++ got_texts (delivered_since (leg_of script) rows end.rows) ≡ all =
     sym (flat_map-append got_text (delivered_of (leg_of script) rows) (delivered_since (leg_of script) rows end.rows))
-    ∙ ap got_texts (since (leg_of script) rows end.rows low) in
+    ∙ ap got_texts (since script rows end.rows low) in
     given_up-longer failed written faults old new (all ++ refused) (total_text (totals_of (leg_of script) end))
     (given_up-longer failed written faults old new all refused
     (subst P more
     (given_up-longer failed written faults old new a (got_texts (delivered_since (leg_of script) rows end.rows))
     part)))
 
-pub lines-start : (plan : Plan) (s : Counts) (lines : List EventLine) → run_lines plan s (take 0 lines) ≡ s
-unfolding run_lines
-lines-start plan s [] = refl
-lines-start plan s (line ∷ lines) = refl
+pub appends-all : {K : Type 0} (written : K → Option (List ℕ)) (faults : K → ℕ) (old new : K) (text : List ℕ) →
+    Appends written faults old new text → AppendsSome written faults old new text
+appends-all written faults old new text all =
+    record { part = text; rest = []; prefix = append-nil text; appended = all.appended; quiet = all.quiet }
 
 pub some-lines : (n : ℕ) → false ≡ (n == 0) → 0 < n
 some-lines zero e = absurd cc

@@ -2,5 +2,6 @@ pub mod WordsOfCommands
 pub mod Ended
 pub mod Written
 pub mod Told
+pub mod TurnsLeft
 pub mod ReadyWalk
 pub mod commands

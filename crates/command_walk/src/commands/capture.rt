@@ -1,11 +1,13 @@
 //! `capture`: a script's walk is made, and the frames that it delivers are written as a capture.
-ghost use Rattle.std.specs.Prelude.{◌≡◌, ℕ, List, Ok, OnOk, OnErr, map, replicate, string_bytes};
-ghost use Rattle.std.specs.List.{flat_map};
-ghost use Rattle.law_model.specs.Common.{Start, Appends, AppendsPart, leg_of, IsValid, IsEvent, begin, run, run_line};
-ghost use Rattle.law_model.specs.Common.{drain, bound};
+ghost use Rattle.std.specs.Prelude.{◌≡◌, ℕ, List, Ok, OnOk, OnErr, map, string_bytes};
+ghost use Rattle.octet_io.specs.Start.{Start};
+ghost use Rattle.octet_io.specs.Transfer.{Appends, AppendsPart};
 ghost use Rattle.law_model.specs.declared.script_types.Script.{Script};
-ghost use Rattle.law_model.specs.declared.walk_events.Event.{Event};
-ghost use Rattle.law_walk.specs.Common.{walk_plan, IsWalked, delivered_of};
+ghost use Rattle.law_model.specs.session.Leg.{leg_of};
+ghost use Rattle.law_model.specs.session.Valid.{IsValid};
+ghost use Rattle.law_model.specs.session.Counts.{begin, run};
+ghost use Rattle.law_walk.specs.Walk.{walk_plan};
+ghost use Rattle.law_walk.specs.Delivered.{delivered_of};
 ghost use Rattle.law_headline.specs.Texts.{counts_in};
 ghost use Rattle.text_captures.specs.capture_file.Written.{RowFrame, due_frames};
 ghost use Rattle.text_captures.specs.capture_file.Reading.{capture_said};
@@ -17,11 +19,12 @@ ghost use Rattle.command_walk.specs.Told.{events_of, IsTurn};
 ghost use Rattle.command_walk.specs.Ended.{HandsScript};
 
 use crate::command_of_words::WalkCommand;
+use crate::turns::left::TurnsLeft;
 use crate::turns::ready_walk::read_walk;
-use crate::turns::trace_turns::{Turn, make_turn, turns_of};
+use crate::turns::trace_turns::{Turn, make_turn};
 use command_parts::{Ran, Stop};
 use law_model::EventLine;
-use octet_io::{ByteSink, ByteSink, ByteSource, ByteSource, Failed, Failed, take_back, take_back};
+use octet_io::{ByteSink, ByteSource, Failed, take_back};
 use std::alloc::Global;
 use text_captures::capture_file::CaptureOut;
 use walk_engine::walk_core::Walk;
@@ -49,55 +52,6 @@ fn capture_turn<K: ByteSink>(walk: &mut Walk, turn: Turn, out: &mut CaptureOut<K
     make_turn(walk, turn, out);
 }
 
-/// Makes a turn a number of times.
-fn capture_turns<K: ByteSink>(walk: &mut Walk, turn: Turn, count: u32, out: &mut CaptureOut<K>)
-    requires { IsTurn (walk_plan (leg_of walk.old.script)) turn }
-    ensures script { walk.new.script ≡ walk.old.script }
-    ensures counts { let plan = walk_plan (leg_of walk.old.script) in
-        walk.new.counts ≡ run plan walk.old.counts
-        (flat_map (λ (tries : List Event). tries) (replicate count (events_of plan turn))) }
-    ensures taken { (start : Start) → HasTaken K.written K.faults out.old start walk.old →
-        HasTaken K.written K.faults out.new start walk.new }
-{
-    for _made in 0..count {
-        capture_turn(walk, turn, out);
-    }
-}
-
-/// Makes rounds until all rows are taken.
-fn capture_drain<K: ByteSink>(walk: &mut Walk, ticks: u32, out: &mut CaptureOut<K>)
-    requires valid { IsValid walk.old.script }
-    requires walked { IsWalked (leg_of walk.old.script) walk.old.counts }
-    requires ticks { ticks ≡ walk.old.script.config.ticks }
-    ensures script { walk.new.script ≡ walk.old.script }
-    ensures counts { let plan = walk_plan (leg_of walk.old.script) in
-        walk.new.counts ≡ drain (bound plan) plan walk.old.counts }
-    ensures taken { (start : Start) → HasTaken K.written K.faults out.old start walk.old →
-        HasTaken K.written K.faults out.new start walk.new }
-{
-    while walk.totals().taken < ticks {
-        capture_turn(walk, Turn::Round, out);
-    }
-}
-
-/// Makes what an event line says.
-fn capture_line<K: ByteSink>(walk: &mut Walk, line: EventLine, ticks: u32, out: &mut CaptureOut<K>)
-    requires valid { IsValid walk.old.script }
-    requires walked { IsWalked (leg_of walk.old.script) walk.old.counts }
-    requires event { IsEvent walk.old.script.config.lines line }
-    requires ticks { ticks ≡ walk.old.script.config.ticks }
-    ensures script { walk.new.script ≡ walk.old.script }
-    ensures counts { walk.new.counts
-        ≡ run_line (walk_plan (leg_of walk.old.script)) walk.old.counts line }
-    ensures taken { (start : Start) → HasTaken K.written K.faults out.old start walk.old →
-        HasTaken K.written K.faults out.new start walk.new }
-{
-    match turns_of(line) {
-        Some((turn, count)) => capture_turns(walk, turn, count, out),
-        None => capture_drain(walk, ticks, out),
-    }
-}
-
 /// Makes what the event lines of a walk's script say. Where there are none, it drains.
 fn capture_lines<K: ByteSink>(
     walk: &mut Walk,
@@ -114,11 +68,9 @@ fn capture_lines<K: ByteSink>(
     ensures taken { (start : Start) → HasTaken K.written K.faults out.old start walk.old →
         HasTaken K.written K.faults out.new start walk.new }
 {
-    if lines.is_empty() {
-        return capture_drain(walk, ticks, out);
-    }
-    for line in lines {
-        capture_line(walk, *line, ticks, out);
+    let mut turns = TurnsLeft::new(lines, ticks);
+    while let Some(turn) = turns.next(walk.totals().taken) {
+        capture_turn(walk, turn, out);
     }
 }
 

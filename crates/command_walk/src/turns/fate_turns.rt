@@ -1,19 +1,24 @@
 //! A walk is made turn by turn, and after each turn it is seen which lines carry payload under the packet
 //! that was begun, whether the row that was taken is whole and why not, and what is confirmed after it.
 //! Behind the last turn stand the places of the frames.
-ghost use Rattle.std.specs.Prelude.{◌≡◌, ◌<◌, List, replicate, IfOk, IfErr, OnOk, flat_map};
-ghost use Rattle.law_model.specs.Common.{leg_of, IsValid, IsEvent, begin, run, run_line, drain, bound};
+ghost use Rattle.std.specs.Prelude.{◌≡◌, IfOk, IfErr, OnOk};
 ghost use Rattle.law_model.specs.declared.script_types.Script.{Script};
-ghost use Rattle.law_model.specs.declared.walk_events.Event.{Event};
-ghost use Rattle.law_walk.specs.Common.{walk_plan, IsWalked};
+ghost use Rattle.law_model.specs.session.Leg.{leg_of};
+ghost use Rattle.law_model.specs.session.Valid.{IsValid};
+ghost use Rattle.law_model.specs.session.Counts.{begin, run};
+ghost use Rattle.law_walk.specs.Walk.{walk_plan, IsWalked};
 ghost use Rattle.law_headline.specs.Texts.{counts_in};
-ghost use Rattle.command_parts.specs.Common.{Answer, lent, HasScript, script_answer, StopsReading};
+ghost use Rattle.command_parts.specs.Task.{Answer};
+ghost use Rattle.command_parts.specs.Ends.{lent};
+ghost use Rattle.command_parts.specs.Scripts.{HasScript, script_answer};
+ghost use Rattle.command_parts.specs.Stops.{StopsReading};
 ghost use Rattle.command_walk.specs.Told.{events_of, IsTurn};
 ghost use Rattle.fate_walks.specs.walk_fates.Seen.{Sees};
 ghost use Rattle.fate_walks.specs.walk_fates.MadeWalk.{SeesWalk};
 
+use crate::turns::left::TurnsLeft;
 use crate::turns::ready_walk::{LinesAndTicks, read_walk};
-use crate::turns::trace_turns::{Turn, silent_turn, turns_of};
+use crate::turns::trace_turns::{Turn, silent_turn};
 use command_parts::Stop;
 use fate_walks::walk_fates::{SeenRows, SeenWalk, nothing_seen, place_frames, see_since};
 use law_model::EventLine;
@@ -48,70 +53,6 @@ fn see_turn(walk: &mut Walk, turn: Turn, seen: &mut SeenRows) -> Result<(), Allo
     see_since(walk, totals.ticks, totals.taken, seen)
 }
 
-/// Makes a turn a number of times.
-fn see_turns(walk: &mut Walk, turn: Turn, count: u32, seen: &mut SeenRows) -> Result<(), AllocError>
-    requires valid { IsValid walk.old.script }
-    requires walked { IsWalked (leg_of walk.old.script) walk.old.counts }
-    requires turn { IsTurn (walk_plan (leg_of walk.old.script)) turn }
-    requires seen { Sees
-        (leg_of walk.old.script) walk.old.counts.ticks walk.old.counts.rows seen.old }
-    ensures script { walk.new.script ≡ walk.old.script }
-    ensures counts { let plan = walk_plan (leg_of walk.old.script) in
-        OnOk result (walk.new.counts ≡ run plan walk.old.counts
-        (flat_map (λ (tries : List Event). tries) (replicate count (events_of plan turn)))) }
-    ensures seen { OnOk result
-        (Sees (leg_of walk.new.script) walk.new.counts.ticks walk.new.counts.rows seen.new) }
-{
-    for _made in 0..count {
-        see_turn(walk, turn, seen)?;
-    }
-    Ok(())
-}
-
-/// Makes rounds until all rows are taken.
-fn see_drain(walk: &mut Walk, ticks: u32, seen: &mut SeenRows) -> Result<(), AllocError>
-    requires valid { IsValid walk.old.script }
-    requires walked { IsWalked (leg_of walk.old.script) walk.old.counts }
-    requires ticks { ticks ≡ walk.old.script.config.ticks }
-    requires seen { Sees
-        (leg_of walk.old.script) walk.old.counts.ticks walk.old.counts.rows seen.old }
-    ensures script { walk.new.script ≡ walk.old.script }
-    ensures counts { let plan = walk_plan (leg_of walk.old.script) in
-        OnOk result (walk.new.counts ≡ drain (bound plan) plan walk.old.counts) }
-    ensures seen { OnOk result
-        (Sees (leg_of walk.new.script) walk.new.counts.ticks walk.new.counts.rows seen.new) }
-{
-    while walk.totals().taken < ticks {
-        see_turn(walk, Turn::Round, seen)?;
-    }
-    Ok(())
-}
-
-/// Makes what an event line says.
-fn see_event_line(
-    walk: &mut Walk,
-    line: EventLine,
-    ticks: u32,
-    seen: &mut SeenRows,
-) -> Result<(), AllocError>
-    requires valid { IsValid walk.old.script }
-    requires walked { IsWalked (leg_of walk.old.script) walk.old.counts }
-    requires event { IsEvent walk.old.script.config.lines line }
-    requires ticks { ticks ≡ walk.old.script.config.ticks }
-    requires seen { Sees
-        (leg_of walk.old.script) walk.old.counts.ticks walk.old.counts.rows seen.old }
-    ensures script { walk.new.script ≡ walk.old.script }
-    ensures counts { OnOk result
-        (walk.new.counts ≡ run_line (walk_plan (leg_of walk.old.script)) walk.old.counts line) }
-    ensures seen { OnOk result
-        (Sees (leg_of walk.new.script) walk.new.counts.ticks walk.new.counts.rows seen.new) }
-{
-    match turns_of(line) {
-        Some((turn, count)) => see_turns(walk, turn, count, seen),
-        None => see_drain(walk, ticks, seen),
-    }
-}
-
 /// Makes what the event lines of a walk's script say. Where there are none, it drains.
 fn see_event_lines(
     walk: &mut Walk,
@@ -130,11 +71,9 @@ fn see_event_lines(
     ensures seen { OnOk result
         (Sees (leg_of walk.new.script) walk.new.counts.ticks walk.new.counts.rows seen.new) }
 {
-    if lines.is_empty() {
-        return see_drain(walk, ticks, seen);
-    }
-    for line in lines {
-        see_event_line(walk, *line, ticks, seen)?;
+    let mut turns = TurnsLeft::new(lines, ticks);
+    while let Some(turn) = turns.next(walk.totals().taken) {
+        see_turn(walk, turn, seen)?;
     }
     Ok(())
 }

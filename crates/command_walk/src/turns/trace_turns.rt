@@ -1,19 +1,24 @@
 //! What the event lines of a script say is made, and what comes of it is written: the lines of delivered
 //! frames, of refused items and of totals, and after each decision step its line on `notes`.
-ghost use Rattle.std.specs.Prelude.{◌≡◌, ◌+◌, ◌-◌, ◌≤◌, ◌<◌, ℕ, List, ◌++◌, length, replicate, false, IfSome, IfNone};
-ghost use Rattle.std.specs.Prelude.{OnOk, OnErr, flat_map};
-ghost use Rattle.law_model.specs.Common.{Appends, AppendsPart, leg_of, IsValid, IsEvent, steps_in, Plan, Counts, begin};
-ghost use Rattle.law_model.specs.Common.{run, run_line, drain, bound, Start};
-ghost use Rattle.law_model.specs.declared.walk_events.Event.{Event};
-ghost use Rattle.law_walk.specs.Common.{walk_plan, IsWalked, refusals_of, totals_of, delivered_of};
+ghost use Rattle.std.specs.Prelude.{◌≡◌, ◌+◌, ◌-◌, ◌≤◌, ◌<◌, ℕ, List, ◌++◌, false, OnOk, OnErr};
+ghost use Rattle.octet_io.specs.Transfer.{Appends, AppendsPart};
+ghost use Rattle.law_model.specs.session.Leg.{leg_of};
+ghost use Rattle.law_model.specs.session.Valid.{IsValid};
+ghost use Rattle.law_model.specs.session.Scenario.{steps_in};
+ghost use Rattle.law_model.specs.session.Counts.{begin, run};
+ghost use Rattle.octet_io.specs.Start.{Start};
+ghost use Rattle.law_walk.specs.Walk.{walk_plan};
+ghost use Rattle.law_walk.specs.Landed.{refusals_of, totals_of};
 ghost use Rattle.text_report.specs.Report.{refused_texts, total_text};
 ghost use Rattle.text_got.specs.Told.{HasText};
-ghost use Rattle.walk_engine.specs.Common.{GivesRows};
+ghost use Rattle.law_walk.specs.Delivered.{delivered_of};
+ghost use Rattle.walk_engine.specs.walk_core.Moved.{GivesRows};
 ghost use Rattle.command_walk.specs.Ended.{StopsBoth};
 ghost use Rattle.law_headline.specs.Texts.{counts_in, walk_text};
 ghost use Rattle.command_walk.specs.commands.Trace.{decision_text, decisions_text, trace_text};
 ghost use Rattle.command_walk.specs.Told.{events_of, IsTurn, IsTold};
 
+use crate::turns::left::TurnsLeft;
 use crate::turns::ready_walk::LinesAndTicks;
 use fate_walks::walk_fates::is_step;
 use law_model::{Event, EventLine, FrameOut};
@@ -175,112 +180,6 @@ fn trace_turn<F: MayFail, E: ByteSink>(
     tell_turn(walk, ticks, lines, out, notes)
 }
 
-/// Makes a turn a number of times.
-fn trace_turns<F: MayFail, E: ByteSink>(
-    walk: &mut Walk,
-    turn: Turn,
-    count: u32,
-    lines: u8,
-    out: &mut F,
-    notes: &mut E,
-    mut over: bool,
-) -> bool
-    requires few { lines ≤ 128 }
-    requires lines { lines ≡ walk.old.script.config.lines }
-    requires turn { IsTurn (walk_plan (leg_of walk.old.script)) turn }
-    ensures script { walk.new.script ≡ walk.old.script }
-    ensures counts { let plan = walk_plan (leg_of walk.old.script) in
-        walk.new.counts ≡ run plan walk.old.counts
-        (flat_map (λ (tries : List Event). tries) (replicate count (events_of plan turn))) }
-    ensures told { (start : Start) (first : E) →
-        IsTold F.stands_for F.has_failed E.written E.faults over start first
-        out.old notes.old walk.old →
-        IsTold F.stands_for F.has_failed E.written E.faults result start first
-        out.new notes.new walk.new }
-{
-    for _made in 0..count {
-        over = trace_turn(walk, turn, lines, out, notes, over);
-    }
-    over
-}
-
-/// Makes rounds until all rows are taken.
-fn trace_drain<F: MayFail, E: ByteSink>(
-    walk: &mut Walk,
-    size: LinesAndTicks,
-    out: &mut F,
-    notes: &mut E,
-    mut over: bool,
-) -> bool
-    requires valid { IsValid walk.old.script }
-    requires walked { IsWalked (leg_of walk.old.script) walk.old.counts }
-    requires lines { size.lines ≡ walk.old.script.config.lines }
-    requires ticks { size.ticks ≡ walk.old.script.config.ticks }
-    ensures script { walk.new.script ≡ walk.old.script }
-    ensures counts { let plan = walk_plan (leg_of walk.old.script) in
-        walk.new.counts ≡ drain (bound plan) plan walk.old.counts }
-    ensures told { (start : Start) (first : E) →
-        IsTold F.stands_for F.has_failed E.written E.faults over start first
-        out.old notes.old walk.old →
-        IsTold F.stands_for F.has_failed E.written E.faults result start first
-        out.new notes.new walk.new }
-{
-    while walk.totals().taken < size.ticks {
-        over = trace_turn(walk, Turn::Round, size.lines, out, notes, over);
-    }
-    over
-}
-
-/// The turn that an event line names, and how often. A drain names none.
-pub fn turns_of(line: EventLine) -> Option<(Turn, u32)>
-    ensures turns { (plan : Plan) (s : Counts) → IfSome result (λ turn. run_line plan s line
-        ≡ run plan s
-        (flat_map (λ (tries : List Event). tries) (replicate turn.1 (events_of plan turn.0)))) }
-    ensures there { (plan : Plan) (lines : ℕ) → IsEvent lines line → lines ≤ length plan.paths →
-        IfSome result (λ turn. IsTurn plan turn.0) }
-    ensures drains { IfNone result (line ≡ EventLine.Drain) }
-{
-    match line {
-        EventLine::Client(n) => Some((Turn::Try(Event::Accept), n)),
-        EventLine::Operator(n) => Some((Turn::Try(Event::Command), n)),
-        EventLine::Tick(n) => Some((Turn::Try(Event::Tick), n)),
-        EventLine::Carry(line, n) => Some((Turn::Try(Event::Carry(line)), n)),
-        EventLine::Back(n) => Some((Turn::Try(Event::Back), n)),
-        EventLine::Take(n) => Some((Turn::Try(Event::Take), n)),
-        EventLine::Round(n) => Some((Turn::Round, n)),
-        EventLine::Drain => None,
-    }
-}
-
-/// Makes what an event line says.
-fn trace_event_line<F: MayFail, E: ByteSink>(
-    walk: &mut Walk,
-    line: EventLine,
-    size: LinesAndTicks,
-    out: &mut F,
-    notes: &mut E,
-    over: bool,
-) -> bool
-    requires valid { IsValid walk.old.script }
-    requires walked { IsWalked (leg_of walk.old.script) walk.old.counts }
-    requires event { IsEvent walk.old.script.config.lines line }
-    requires lines { size.lines ≡ walk.old.script.config.lines }
-    requires ticks { size.ticks ≡ walk.old.script.config.ticks }
-    ensures script { walk.new.script ≡ walk.old.script }
-    ensures counts { walk.new.counts
-        ≡ run_line (walk_plan (leg_of walk.old.script)) walk.old.counts line }
-    ensures told { (start : Start) (first : E) →
-        IsTold F.stands_for F.has_failed E.written E.faults over start first
-        out.old notes.old walk.old →
-        IsTold F.stands_for F.has_failed E.written E.faults result start first
-        out.new notes.new walk.new }
-{
-    match turns_of(line) {
-        Some((turn, count)) => trace_turns(walk, turn, count, size.lines, out, notes, over),
-        None => trace_drain(walk, size, out, notes, over),
-    }
-}
-
 /// Makes what the event lines of a walk's script say. Where there are none, it drains. Answers whether a
 /// write has failed.
 fn trace_event_lines<F: MayFail, E: ByteSink>(
@@ -303,12 +202,10 @@ fn trace_event_lines<F: MayFail, E: ByteSink>(
         IsTold F.stands_for F.has_failed E.written E.faults result start first
         out.new notes.new walk.new }
 {
-    if lines.is_empty() {
-        return trace_drain(walk, size, out, notes, false);
-    }
+    let mut turns = TurnsLeft::new(lines, size.ticks);
     let mut over = false;
-    for line in lines {
-        over = trace_event_line(walk, *line, size, out, notes, over);
+    while let Some(turn) = turns.next(walk.totals().taken) {
+        over = trace_turn(walk, turn, size.lines, out, notes, over);
     }
     over
 }

@@ -1,73 +1,62 @@
--- One event line more.
-use Rattle.std.proofs.Common.{◌≡◌, take, length, get_or, refl, sym, ◌∙◌, ap, subst, eqb-true, take_all}
-use Rattle.std.proofs.lemmas.Result.{on_ok_weaker}
-use Rattle.std.proofs.lemmas.Option.{slice_get-get_or}
-use Rattle.law_model.specs.Common.{leg_of, Counts, begin, run_line, run_lines, walked, drain, bound}
-use Rattle.law_model.specs.declared.script_types.EventLine.{EventLine}
-use Rattle.law_model.specs.declared.script_types.EventLine.TheVariants.{Client}
+-- One turn more, or all are made.
+use Rattle.std.proofs.Common.{refl, sym, ◌∙◌, ap, subst}
 use Rattle.law_model.specs.declared.script_types.Script.{Script}
-use Rattle.law_walk.specs.Common.{walk_plan, IsWalked}
-use Rattle.law_walk.proofs.WalkLaws.{begins-walked}
-use Rattle.command_walk.proofs.CountLaws.{lines-last, lines-some, lines-no}
-use Rattle.command_walk.proofs.TraceLaws.{lines-start, lines-walked, some-lines}
+use Rattle.law_model.specs.declared.session_totals.Totals.{Totals}
+use Rattle.law_model.specs.session.Leg.{leg_of}
+use Rattle.law_model.specs.session.Valid.{IsValid}
+use Rattle.law_walk.specs.Walk.{walk_plan, IsWalked}
+use Rattle.command_walk.specs.Told.{IsTurn}
+use Rattle.command_walk.specs.TurnsLeft.{AreLeft}
+use Rattle.command_walk.proofs.TurnLaws.{turn-made}
 use Rattle.command_walk.proofs.turns.fate_turns.see_event_lines.Goals as goal
 
-pub see_drain-requires-clause-walked : goal.see_drain-requires-clause-walked
-see_drain-requires-clause-walked c = let script = c.args.walk.now.script in
-    subst (IsWalked (leg_of script)) (sym c.requires.begun) (begins-walked (leg_of script))
-
-pub returns-then-is_empty-clause-counts : goal.returns-then-is_empty-clause-counts
-returns-then-is_empty-clause-counts c =
+pub loop-turn-init : goal.loop-turn-init
+loop-turn-init c =
     let script = c.args.walk.now.script in
-    let plan = walk_plan (leg_of script) in
-    let none : length script.events ≡ 0 = ap length (sym c.requires.events)
-    ∙ eqb-true (length c.args.lines.now) 0 (sym c.if-is_empty.ensures) in
-    on_ok_weaker c.see_drain.result
-    (λ made. made ∙ ap (drain (bound plan) plan) c.requires.begun ∙ sym (lines-no plan script.events none))
-    c.see_drain.ensures.counts
-
-pub loop-line-init : goal.loop-line-init
-loop-line-init c =
-    let plan = walk_plan (leg_of c.args.walk.now.script) in
     record {
       script = refl;
-      counts = c.requires.begun ∙ sym (lines-start plan (begin plan) c.args.lines.now);
-      seen =
-          c.requires.seen;
+      left = subst (AreLeft script c.new-turns.result) (sym c.requires.begun)
+          (c.new-turns.ensures script c.requires.valid c.requires.events c.requires.ticks);
+      seen = c.requires.seen;
     }
 
-pub see_event_line-requires-clause-walked : goal.see_event_line-requires-clause-walked
-see_event_line-requires-clause-walked c =
-    let inv = c.loop-line.invariant in
-    let script = c.args.walk.now.script in
-    subst (λ (s : Script). IsWalked (leg_of s) c.loop-line.walk.counts) (sym inv.script)
-    (subst (IsWalked (leg_of script)) (sym inv.counts)
-    (lines-walked script (take c.loop-line.line-index c.args.lines.now)))
+pub see_turn-requires-clause-turn : goal.see_turn-requires-clause-turn
+see_turn-requires-clause-turn c =
+    let inv = c.loop-turn.invariant in
+    let gives = c.in-Some.ensures.some c.args.walk.now.script c.loop-turn.walk.counts inv.left
+    (ap (λ (t : Totals). t.taken) c.totals.ensures) in
+    subst (λ (s : Script). IsTurn (walk_plan (leg_of s)) c.in-Some.turn) (sym inv.script) gives.is
 
-pub see_event_line-requires-clause-ticks : goal.see_event_line-requires-clause-ticks
-see_event_line-requires-clause-ticks c = c.requires.ticks
-    ∙ ap (λ (s : Script). s.config.ticks) (sym c.loop-line.invariant.script)
+pub see_turn-requires-clause-valid : goal.see_turn-requires-clause-valid
+see_turn-requires-clause-valid c = subst IsValid (sym c.loop-turn.invariant.script) c.requires.valid
 
-pub loop-line-preserved : goal.loop-line-preserved
-loop-line-preserved c =
-    let inv = c.loop-line.invariant in
-    let plan = walk_plan (leg_of c.args.walk.now.script) in
-    let lines = c.args.lines.now in
-    let k = c.loop-line.line-index in
-    let line : EventLine = get_or lines k (Client 0) in
+pub see_turn-requires-clause-walked : goal.see_turn-requires-clause-walked
+see_turn-requires-clause-walked c =
+    let inv = c.loop-turn.invariant in
+    subst (λ (s : Script). IsWalked (leg_of s) c.loop-turn.walk.counts) (sym inv.script) inv.left.walked
+
+pub loop-turn-smaller : goal.loop-turn-smaller
+loop-turn-smaller c =
+    let inv = c.loop-turn.invariant in
+    let gives = c.in-Some.ensures.some c.args.walk.now.script c.loop-turn.walk.counts inv.left
+    (ap (λ (t : Totals). t.taken) c.totals.ensures) in
+    gives.fewer c.see_turn.new.walk.counts
+    (turn-made c.args.walk.now.script c.loop-turn.walk.script _ _ c.in-Some.turn inv.script c.see_turn.ensures.counts)
+
+pub loop-turn-preserved : goal.loop-turn-preserved
+loop-turn-preserved c =
+    let inv = c.loop-turn.invariant in
+    let gives = c.in-Some.ensures.some c.args.walk.now.script c.loop-turn.walk.counts inv.left
+    (ap (λ (t : Totals). t.taken) c.totals.ensures) in
     record {
-      script = c.see_event_line.ensures.script ∙ inv.script;
-      counts = c.in_ok-see_event_line.ensures.counts
-          ∙ ap (λ (s : Script). run_line (walk_plan (leg_of s)) c.loop-line.walk.counts line) inv.script
-          ∙ ap (λ (s : Counts). run_line plan s line) inv.counts
-          ∙ sym (lines-last plan (begin plan) lines k line (slice_get-get_or lines k (Client 0) c.loop-line-test.true));
-      seen = c.in_ok-see_event_line.ensures.seen;
+      script = c.see_turn.ensures.script ∙ inv.script;
+      left = gives.left c.see_turn.new.walk.counts
+          (turn-made c.args.walk.now.script c.loop-turn.walk.script _ _ c.in-Some.turn inv.script
+          c.see_turn.ensures.counts);
+      seen = c.in_ok-see_turn.ensures.seen;
     }
 
 pub returns-clause-counts : goal.returns-clause-counts
 returns-clause-counts c =
-    let plan = walk_plan (leg_of c.args.walk.now.script) in
-    let lines = c.args.lines.now in
-    c.loop-line.invariant.counts ∙ ap (run_lines plan (begin plan))
-    (take_all c.loop-line.line-index lines c.loop-line-test.false)
-    ∙ sym (lines-some plan lines (some-lines (length lines) c.if-is_empty.ensures)) ∙ ap (walked plan) c.requires.events
+    c.in_default.ensures.none c.args.walk.now.script c.loop-turn.walk.counts c.loop-turn.invariant.left
+    (ap (λ (t : Totals). t.taken) c.totals.ensures)

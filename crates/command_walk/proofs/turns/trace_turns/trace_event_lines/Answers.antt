@@ -1,75 +1,61 @@
--- One event line more.
-use Rattle.std.proofs.Common.{◌≡◌, take, length, get_or, refl, sym, ◌∙◌, ap, subst, eqb-true, take_all}
-use Rattle.std.proofs.lemmas.Option.{slice_get-get_or}
-use Rattle.law_model.specs.Common.{leg_of, Counts, begin, run_line, run_lines, walked, drain, bound}
-use Rattle.law_model.specs.declared.script_types.EventLine.{EventLine}
-use Rattle.law_model.specs.declared.script_types.EventLine.TheVariants.{Client}
+-- One turn more, or all are made.
+use Rattle.std.proofs.Common.{refl, sym, ◌∙◌, ap, subst, arith}
 use Rattle.law_model.specs.declared.script_types.Script.{Script}
-use Rattle.law_walk.specs.Common.{walk_plan, IsWalked}
-use Rattle.law_walk.proofs.WalkLaws.{begins-walked}
-use Rattle.command_walk.proofs.CountLaws.{lines-last, lines-some, lines-no}
-use Rattle.command_walk.proofs.TraceLaws.{lines-start, lines-walked, some-lines}
+use Rattle.law_model.specs.declared.session_totals.Totals.{Totals}
+use Rattle.law_model.specs.session.Leg.{leg_of}
+use Rattle.law_walk.specs.Walk.{walk_plan}
+use Rattle.command_walk.specs.Told.{IsTurn}
+use Rattle.command_walk.specs.TurnsLeft.{AreLeft}
+use Rattle.command_walk.proofs.TurnLaws.{turn-made}
 use Rattle.command_walk.proofs.turns.trace_turns.trace_event_lines.Goals as goal
 
-pub trace_drain-requires-clause-walked : goal.trace_drain-requires-clause-walked
-trace_drain-requires-clause-walked g c = let script = c.args.walk.now.script in
-    subst (IsWalked (leg_of script)) (sym c.requires.begun) (begins-walked (leg_of script))
-
-pub returns-then-is_empty-clause-counts : goal.returns-then-is_empty-clause-counts
-returns-then-is_empty-clause-counts g c =
+pub loop-turn-init : goal.loop-turn-init
+loop-turn-init g c =
     let script = c.args.walk.now.script in
-    let plan = walk_plan (leg_of script) in
-    let none : length script.events ≡ 0 = ap length (sym c.requires.events)
-    ∙ eqb-true (length c.args.lines.now) 0 (sym c.if-is_empty.ensures) in
-    c.trace_drain.ensures.counts ∙ ap (drain (bound plan) plan) c.requires.begun
-    ∙ sym (lines-no plan script.events none)
-
-pub loop-line-init : goal.loop-line-init
-loop-line-init g c =
-    let plan = walk_plan (leg_of c.args.walk.now.script) in
     record {
       script = refl;
-      counts = c.requires.begun ∙ sym (lines-start plan (begin plan) c.args.lines.now);
-      told =
-          λ start first told. told;
+      left = subst (AreLeft script c.new-turns.result) (sym c.requires.begun)
+          (c.new-turns.ensures script c.requires.valid c.requires.events c.requires.ticks);
+      told = λ start first told. told;
     }
 
-pub trace_event_line-over-requires-clause-walked : goal.trace_event_line-over-requires-clause-walked
-trace_event_line-over-requires-clause-walked g c =
-    let inv = c.loop-line.invariant in
-    let script = c.args.walk.now.script in
-    subst (λ (s : Script). IsWalked (leg_of s) c.loop-line.walk.counts) (sym inv.script)
-    (subst (IsWalked (leg_of script)) (sym inv.counts)
-    (lines-walked script (take c.loop-line.line-index c.args.lines.now)))
+pub trace_turn-over-requires-clause-turn : goal.trace_turn-over-requires-clause-turn
+trace_turn-over-requires-clause-turn g c =
+    let inv = c.loop-turn.invariant in
+    let gives = c.in-Some.ensures.some c.args.walk.now.script c.loop-turn.walk.counts inv.left
+    (ap (λ (t : Totals). t.taken) c.totals.ensures) in
+    subst (λ (s : Script). IsTurn (walk_plan (leg_of s)) c.in-Some.turn) (sym inv.script) gives.is
 
-pub trace_event_line-over-requires-clause-lines : goal.trace_event_line-over-requires-clause-lines
-trace_event_line-over-requires-clause-lines g c = c.requires.lines
-    ∙ ap (λ (s : Script). s.config.lines) (sym c.loop-line.invariant.script)
+pub trace_turn-over-requires-clause-few : goal.trace_turn-over-requires-clause-few
+trace_turn-over-requires-clause-few g c =
+    let lines = c.requires.lines in let most = c.requires.valid.sound.network.lines.1 in omega (arith, lines, most)
 
-pub trace_event_line-over-requires-clause-ticks : goal.trace_event_line-over-requires-clause-ticks
-trace_event_line-over-requires-clause-ticks g c = c.requires.ticks
-    ∙ ap (λ (s : Script). s.config.ticks) (sym c.loop-line.invariant.script)
+pub trace_turn-over-requires-clause-lines : goal.trace_turn-over-requires-clause-lines
+trace_turn-over-requires-clause-lines g c = c.requires.lines
+    ∙ ap (λ (s : Script). s.config.lines) (sym c.loop-turn.invariant.script)
 
-pub loop-line-preserved : goal.loop-line-preserved
-loop-line-preserved g c =
-    let inv = c.loop-line.invariant in
-    let plan = walk_plan (leg_of c.args.walk.now.script) in
-    let lines = c.args.lines.now in
-    let k = c.loop-line.line-index in
-    let line : EventLine = get_or lines k (Client 0) in
+pub loop-turn-smaller : goal.loop-turn-smaller
+loop-turn-smaller g c =
+    let inv = c.loop-turn.invariant in
+    let gives = c.in-Some.ensures.some c.args.walk.now.script c.loop-turn.walk.counts inv.left
+    (ap (λ (t : Totals). t.taken) c.totals.ensures) in
+    gives.fewer c.trace_turn-over.new.walk.counts
+    (turn-made c.args.walk.now.script c.loop-turn.walk.script _ _ c.in-Some.turn inv.script c.trace_turn-over.ensures.counts)
+
+pub loop-turn-preserved : goal.loop-turn-preserved
+loop-turn-preserved g c =
+    let inv = c.loop-turn.invariant in
+    let gives = c.in-Some.ensures.some c.args.walk.now.script c.loop-turn.walk.counts inv.left
+    (ap (λ (t : Totals). t.taken) c.totals.ensures) in
     record {
-      script = c.trace_event_line-over.ensures.script ∙ inv.script;
-      counts = c.trace_event_line-over.ensures.counts
-          ∙ ap (λ (s : Script). run_line (walk_plan (leg_of s)) c.loop-line.walk.counts line) inv.script
-          ∙ ap (λ (s : Counts). run_line plan s line) inv.counts
-          ∙ sym (lines-last plan (begin plan) lines k line (slice_get-get_or lines k (Client 0) c.loop-line-test.true));
-      told = λ start first told. c.trace_event_line-over.ensures.told start first (inv.told start first told);
+      script = c.trace_turn-over.ensures.script ∙ inv.script;
+      left = gives.left c.trace_turn-over.new.walk.counts
+          (turn-made c.args.walk.now.script c.loop-turn.walk.script _ _ c.in-Some.turn inv.script
+          c.trace_turn-over.ensures.counts);
+      told = λ start first told. c.trace_turn-over.ensures.told start first (inv.told start first told);
     }
 
 pub returns-clause-counts : goal.returns-clause-counts
 returns-clause-counts g c =
-    let plan = walk_plan (leg_of c.args.walk.now.script) in
-    let lines = c.args.lines.now in
-    c.loop-line.invariant.counts ∙ ap (run_lines plan (begin plan))
-    (take_all c.loop-line.line-index lines c.loop-line-test.false)
-    ∙ sym (lines-some plan lines (some-lines (length lines) c.if-is_empty.ensures)) ∙ ap (walked plan) c.requires.events
+    c.in_default.ensures.none c.args.walk.now.script c.loop-turn.walk.counts c.loop-turn.invariant.left
+    (ap (λ (t : Totals). t.taken) c.totals.ensures)
