@@ -26,3 +26,4 @@ pub use refusal_of_script::stop_of;
 pub use report_end::write_rest;
 pub use script_pieces::read_whole_script;
 pub use stop_and_status::{Fault, Ran, Refusal, Stop, tell, tell_usage};
+pub use whole_input::{MOST, read_input};

@@ -15,8 +15,9 @@ ghost use Rattle.command_run.specs.Ended.{HasEnded, HasGot, HandsSession, end_te
 
 use crate::command_of_words::RunCommand;
 use command_parts::{Ran, Stop, read_whole_script, write_rest};
+use command_words::number_within;
 use law_model::Totals;
-use octet_io::{ByteSink, ByteSink, ByteSource, ByteSource, Failed, Failed, take_back, take_back};
+use octet_io::{ByteSink, ByteSource, Failed, take_back};
 use std::alloc::Global;
 use std::sync::Wait;
 use std::thread::Threads;

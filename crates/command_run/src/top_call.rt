@@ -8,7 +8,7 @@ ghost use Rattle.command_run.specs.Ended.{HandsSession};
 
 use crate::command_of_words::RunCommand;
 use crate::run::run;
-use crate::run_end::{RunEnd, RunEnd, end_of, stopped};
+use crate::run_end::{RunEnd, end_of};
 use crate::watch::watch;
 use command_parts::{Stop, tell_usage};
 use command_words::{WordFault, read_words};

@@ -13,6 +13,7 @@ ghost use Rattle.command_run.specs.Ended.{HandsSession};
 use crate::command_of_words::RunCommand;
 use crate::run::end_report;
 use command_parts::{Ran, Stop, read_whole_script};
+use command_words::number_within;
 use octet_io::{ByteSink, ByteSource, Failed, take_back};
 use std::alloc::Global;
 use std::sync::Wait;

@@ -1,6 +1,7 @@
 //! `fates`: a script's walk is made, and what became of each of its frames is written, with the rows that
 //! were spoiled and what was confirmed after each break.
 ghost use Rattle.std.specs.Prelude.{◌≡◌, ◌≤◌, ℕ, List, [], length, Ok, map, string_bytes};
+ghost use Rattle.law_model.specs.Common.{leg_of};
 ghost use Rattle.law_model.specs.declared.script_types.Script.{Script};
 ghost use Rattle.law_walk.specs.Common.{final_report};
 ghost use Rattle.text_scripts.specs.script_read.Script.{script_of};
@@ -16,7 +17,7 @@ use crate::command_of_words::WalkCommand;
 use crate::turns::fate_turns::see_script;
 use command_parts::{Ran, Stop};
 use fate_walks::walk_fates::write_fates;
-use octet_io::{ByteSink, ByteSink, ByteSource, ByteSource, Failed};
+use octet_io::{ByteSink, ByteSource};
 use std::alloc::Global;
 use walk_engine::walk_core::Walk;
 

@@ -10,7 +10,7 @@ use crate::command_of_words::WalkCommand;
 use crate::turns::fate_turns::see_script;
 use command_parts::{Ran, Stop};
 use fate_walks::walk_gfp::write_gfp;
-use octet_io::{ByteSink, ByteSink, ByteSource, ByteSource, Failed};
+use octet_io::{ByteSink, ByteSource};
 use std::alloc::Global;
 use walk_engine::walk_core::Walk;
 

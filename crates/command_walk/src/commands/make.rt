@@ -1,5 +1,6 @@
 //! `make`: a load from a number is run, and what came of it is written in three lines.
 ghost use Rattle.std.specs.Prelude.{◌≡◌, ◌≤◌, ◌*◌, length, take, sum, OnOk, OnErr, map, string_bytes};
+ghost use Rattle.law_model.specs.Limits.{longest_frame};
 ghost use Rattle.law_model.specs.session.Leg.{leg_of};
 ghost use Rattle.octet_io.specs.Transfer.{Appends, AppendsPart};
 ghost use Rattle.law_model.specs.session.Valid.{IsValid, IsWithin};
@@ -17,8 +18,9 @@ ghost use Rattle.command_words.specs.Words.{number_in};
 
 use crate::command_of_words::WalkCommand;
 use command_parts::{Ran, Stop};
+use command_words::number_within;
 use law_model::{FrameOut, Totals};
-use octet_io::{ByteSink, ByteSink, Failed, Failed, put_all, put_all};
+use octet_io::{ByteSink, Failed, put_all};
 use std::alloc::Global;
 use text_report::{TextCursor, total_line};
 use walk_engine::walk_core::Walk;

@@ -17,7 +17,7 @@ use crate::turns::ready_walk::{LinesAndTicks, read_walk};
 use crate::turns::trace_turns::write_trace;
 use command_parts::{Ran, Stop};
 use law_model::EventLine;
-use octet_io::{ByteSink, ByteSink, ByteSource, ByteSource, Failed, Failed};
+use octet_io::{ByteSink, ByteSource, Failed};
 use std::alloc::Global;
 use walk_engine::walk_core::Walk;
 
