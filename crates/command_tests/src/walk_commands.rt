@@ -25,6 +25,11 @@ fn answer_rows() -> &'static str {
     check;lines 2|delays 0 0|ring 8|lag 4|ticks 300|fail 0 167 168 0|fail 0 168 169 0|add 0 0|remove 150 0|frame 87 5a*64|frame 88 5a*64| => 0+;line 1 unused|window 0 168 169 idle|early 1 88|check unused 1 idle 1 early 1 refused 0|;\n\
     check;lines 1|delays 0|ring 1|lag 1|ticks 60|add 0 0|add 20 0|remove 55 3|frame 5 5a*64|frame 29 5a*63|frame 50 5a*64|round 30| => 0+;line 0 unused|early 1 none|item 1 refused already in|check unused 1 idle 0 early 1 refused 1|;\n\
     check;lines 1|delays 0|ring 1|lag 1|ticks 1| => 0+;line 0 unused|check unused 1 idle 0 early 0 refused 0|;\n\
+    h4 0;lines 1|delays 0|ring 1|lag 1|ticks 41|add 0 0| => 0+;000102030405060708090a1b0c0d0e0f|001112130405060708090a1b0c0d0e0f|002132130415164708|;\n\
+    h4 0;lines 1|delays 0|ring 1|lag 1|ticks 1| => 0+;00|;\n\
+    h4 1;lines 2|delays 0 3|ring 8|lag 2|ticks 120|fail 1 30 40 1|lost 2 3|add 0 0|add 0 1|remove 70 0| => \
+    0+;000102030405060708090a1b0c0dfeff|00115213040586a708090a1b0c0dfeff|002152130405367708090a0b0c0d0e1f|003112130415e6e708090a0b0c0d0e1f|004112130415f68708090a0b0c0d0e1f|005112130415963708090a1b0c0d0e0f|006112130405166708090a1b0c0d0e0f|00711213040576d7|;\n\
+    h4 1;lines 3|delays 0 0 0|ring 2|lag 1|ticks 300|add 0 0|add 0 1|operator 2|tick 2|carry 0 2|carry 1 2|carry 2 2|take 2|round 20| => 0+;000102030405060708090a1b0c0dfeff|001152130405|;\n\
     make 1 1 1; => 0+;made lines 1 ticks 1|total ticks 1 taken 1 frames 1 commands 1 refused 0 got 0|octets 0 sum 0|;\n\
     make 7 2 400; => 0+;made lines 2 ticks 400|total ticks 400 taken 400 frames 50 commands 2 refused 0 got 50|octets 43246 sum 5512389|;\n\
     stream 9600 400000 0 1000000 1; => 8;;fault: too long|\n\
@@ -64,6 +69,8 @@ fn faulty_rows() -> &'static str {
     walk;lines 1|delays 00000000000| => 5;;fault: line 2: number|help: word 2 is a number of one to ten digits|\n\
     walk;lines 2|delays 0 63|ring 63|lag 5|ticks 1| => 6;;fault: spread 63 0 0 63|help: delays from 0 to 63 and slips of 0 need a ring of at least 64|\n\
     walk;lines 2|delays 0 63|ring 64|lag 4|ticks 1| => 6;;fault: lag 4 least 5|help: a delay of 63 and slips of 0 need a lag of at least 5|\n\
+    h4 1;lines 1|delays 0|ring 1|lag 1|ticks 1| => 6;;fault: h4 line 1|help: LINE is from 0 to 0|\n\
+    h4 127;lines 3|delays 0 0 0|ring 1|lag 1|ticks 9|frame 9 00| => 5;;fault: line 6: range|help: word 2 is from 0 to 8|\n\
     trace;lines 1|delays 0|ring 1|lag 1|ticks 20|fail 0 10 20 10| => 6;;fault: slip line 0 window 0|help: a slip of 10 needs a failure of at least 11 frames|"
 }
 
@@ -187,6 +194,7 @@ fn put_rows() -> &'static str {
     4+;got 5a*9600|got 5a*9600|;fault: write failed| THEN \
     4+;got 5a*9600|got 5a*9600|got 5a*9600|;fault: write failed| THEN \
     0+;got 5a*9600|got 5a*9600|got 5a*9600|total ticks 700 taken 700 frames 3 commands 4 refused 0 got 3|;\n\
+    h4 0;lines 1|delays 0|ring 1|lag 1|ticks 9|add 0 0| => 4+;;fault: write failed| THEN 0+;000102030405060708|;\n\
     decode;0001 => 4;;fault: write failed| THEN 0;end octets 2 packets 0|;\n\
     make 7 2 400; => 4+;;fault: write failed| THEN 0+;made lines 2 ticks 400|total ticks 400 taken 400 frames 50 commands 2 refused 0 got 50|octets 43246 sum 5512389|;\n\
     stream 64 1 0 5 1; => 4;;fault: write failed| THEN \

@@ -8,17 +8,18 @@ use Rattle.std.proofs.lemmas.Bool.{cases_Bool, and_parts, leb-true, ltb-true}
 use Rattle.text_lines.specs.Words.{number_of}
 use Rattle.command_words.specs.Words.{is_number, number_in, are_plain}
 use Rattle.law_model.specs.Common.{IsWithin, longest_frame}
-use Rattle.command_parts.specs.Common.{none, makes, IsCommand, Lent, Kept, IsTold, Ends}
+use Rattle.command_parts.specs.Common.{none, IsCommand, Lent, Kept, IsTold, Ends}
 use Rattle.command_parts.specs.Common.{no_command, note_of, HasRunAt}
 use Rattle.command_parts.specs.declared.stop_and_status.Stop.TheVariants.{Memory}
 use Rattle.command_parts.proofs.StopLaws.{ends-no-memory}
 use Rattle.command_walk.specs.declared.command_of_words.WalkCommand.{WalkCommand}
 use Rattle.command_walk.specs.declared.command_of_words.WalkCommand.TheVariants.{Walk, Trace, Fates, Capture, Gfp, Frames, Decode, Noise, Au4, Channels, Pair, Make, Check, Service}
-use Rattle.command_walk.specs.declared.command_of_words.WalkCommand.TheVariants.{Stream}
+use Rattle.command_walk.specs.declared.command_of_words.WalkCommand.TheVariants.{H4, Stream}
 use Rattle.command_walk.specs.commands.Walk.{word_at, is_word, walk_words}
 use Rattle.command_walk.specs.commands.Trace.{trace_words}
 use Rattle.command_walk.specs.commands.Fates.{fates_words}
 use Rattle.command_walk.specs.commands.Check.{check_words}
+use Rattle.command_walk.specs.commands.H4.{line_of, h4_words}
 use Rattle.command_walk.specs.commands.Service.{interval_of, service_words}
 use Rattle.command_walk.specs.commands.Capture.{capture_words}
 use Rattle.command_walk.specs.commands.Gfp.{gfp_words}
@@ -95,6 +96,15 @@ fates-fits words = if-fits (is_word (codes "fates") words) (Some Fates) tt
 check-fits : (words : List (List ℕ)) → IfSome (check_words words) Fits
 check-fits words = if-fits (is_word (codes "check") words) (Some Check) tt
 
+line-fits : (line : Option ℕ) → IfSome line (IsWithin 0 127) → IfSome (line_of line) Fits
+line-fits (Some line) within = within.1
+line-fits None within = tt
+
+h4-fits : (words : List (List ℕ)) → IfSome (h4_words words) Fits
+h4-fits words =
+    if-fits (length words == 2 && bytes_eq (word_at 0 words) (codes "h4")) (line_of (number_in 0 127 (word_at 1 words)))
+    (line-fits (number_in 0 127 (word_at 1 words)) (number-fits 0 127 (word_at 1 words)))
+
 interval-fits : (interval : Option ℕ) → IfSome interval (IsWithin 1 1000000) → IfSome (interval_of interval) Fits
 interval-fits (Some interval) within = within
 interval-fits None within = tt
@@ -160,7 +170,8 @@ named-fits words =
     let traces = option_or walks (trace_words words) in
     let fates = option_or traces (fates_words words) in
     let checks = option_or fates (check_words words) in
-    let services = option_or checks (service_words words) in
+    let octets = option_or checks (h4_words words) in
+    let services = option_or octets (service_words words) in
     let captures = option_or services (capture_words words) in
     let gfps = option_or captures (gfp_words words) in
     let frames = option_or gfps (frames_words words) in
@@ -180,10 +191,12 @@ named-fits words =
     (or-fits gfps (frames_words words)
     (or-fits captures (gfp_words words)
     (or-fits services (capture_words words)
-    (or-fits checks (service_words words)
+    (or-fits octets (service_words words)
+    (or-fits checks (h4_words words)
     (or-fits fates (check_words words)
     (or-fits traces (fates_words words)
     (or-fits walks (trace_words words) (walk-fits words) (trace-fits words)) (fates-fits words)) (check-fits words))
+    (h4-fits words))
     (service-fits words))
     (capture-fits words))
     (gfp-fits words))
@@ -217,6 +230,7 @@ is-command (Some Walk) some = tt
 is-command (Some Trace) some = tt
 is-command (Some Fates) some = tt
 is-command (Some Check) some = tt
+is-command (Some (H4 line)) some = tt
 is-command (Some (Service interval)) some = tt
 is-command (Some Capture) some = tt
 is-command (Some Gfp) some = tt

@@ -12,3 +12,6 @@ pub mod ReadBackLaws
 pub mod StartsLaws
 pub mod LinkAnswerLaws
 pub mod TurnLaws
+pub mod H4Laws
+pub mod H4ReadLaws
+pub mod H4TextLaws

@@ -24,7 +24,7 @@ use Rattle.command_walk.specs.commands.Pair.{TellsPair}
 use Rattle.command_walk.specs.declared.command_of_words.WalkCommand.{WalkCommand}
 use Rattle.command_walk.specs.declared.command_of_words.WalkCommand.TheVariants.{Walk, Trace, Fates, Capture, Gfp, Frames}
 use Rattle.command_walk.specs.declared.command_of_words.WalkCommand.TheVariants.{Decode, Noise, Au4, Channels, Pair, Make}
-use Rattle.command_walk.specs.declared.command_of_words.WalkCommand.TheVariants.{Check, Service, Stream}
+use Rattle.command_walk.specs.declared.command_of_words.WalkCommand.TheVariants.{Check, H4, Service, Stream}
 use Rattle.command_walk.specs.commands.Trace.{trace_text}
 use Rattle.command_walk.specs.WordsOfCommands.{task_at, RunsScript}
 use Rattle.command_walk.specs.Ended.{HandsScript, StopsBoth}
@@ -88,6 +88,7 @@ module _ {S K E : Type 0} (source : Lent S) (out : Lent K) (notes : Lent E) (sta
       (λ script all. all.0) ends at
   headline-of Fates runs ends at = absurd runs
   headline-of Check runs ends at = absurd runs
+  headline-of (H4 line) runs ends at = absurd runs
   headline-of (Service interval) runs ends at = absurd runs
   headline-of Capture runs ends at = absurd runs
   headline-of Gfp runs ends at = absurd runs

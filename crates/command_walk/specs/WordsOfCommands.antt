@@ -1,5 +1,5 @@
 -- The program's commands: by which words, with which tasks, and which walk is handed back.
-use Rattle.std.specs.Prelude.{◌≡◌, ℕ, List, Option, Some, None, String, map, string_bytes, codes}
+use Rattle.std.specs.Prelude.{◌≡◌, ◌≤◌, ℕ, List, Option, Some, None, String, map, string_bytes, codes}
 use Rattle.std.specs.Option.{option_or}
 use Rattle.std.specs.declared.alloc.Global.{Global}
 use Rattle.law_model.specs.session.Valid.{IsWithin}
@@ -11,7 +11,7 @@ use Rattle.walk_engine.specs.Common.{Walked}
 use Rattle.command_walk.specs.declared.command_of_words.WalkCommand.{WalkCommand}
 use Rattle.command_walk.specs.declared.command_of_words.WalkCommand.TheVariants.{Walk, Trace, Fates, Capture, Gfp, Frames}
 use Rattle.command_walk.specs.declared.command_of_words.WalkCommand.TheVariants.{Decode, Noise, Au4, Channels, Pair, Make}
-use Rattle.command_walk.specs.declared.command_of_words.WalkCommand.TheVariants.{Check, Service, Stream}
+use Rattle.command_walk.specs.declared.command_of_words.WalkCommand.TheVariants.{Check, H4, Service, Stream}
 use Rattle.command_walk.specs.commands.Walk.{walk_words, walk_answer}
 use Rattle.command_walk.specs.commands.Trace.{trace_words, trace_answer}
 use Rattle.command_walk.specs.commands.Capture.{capture_words, capture_answer}
@@ -19,6 +19,7 @@ use Rattle.command_walk.specs.commands.Gfp.{gfp_words, gfp_answer}
 use Rattle.command_walk.specs.commands.Frames.{frames_words, frames_answer}
 use Rattle.command_walk.specs.commands.Fates.{fates_words, fates_answer}
 use Rattle.command_walk.specs.commands.Check.{check_words, check_answer}
+use Rattle.command_walk.specs.commands.H4.{h4_words, h4_answer}
 use Rattle.command_walk.specs.commands.Service.{service_words, service_answer}
 use Rattle.command_walk.specs.commands.Decode.{decode_words, decode_answer}
 use Rattle.command_walk.specs.commands.Noise.{noise_words, noise_answer}
@@ -31,16 +32,17 @@ use Rattle.command_walk.specs.commands.Stream.{stream_words, stream_answer}
 use Rattle.command_walk.specs.Ended.{IsWalkOf, HandsScript}
 
 abbrev pub usage : List ℕ
-usage = codes "usage: vcat_walk walk, trace, fates, check, service INTERVAL, capture, gfp, frames, decode, noise, au4, channels, pair, make NUMBER LINES TICKS, or stream OCTETS MBITS FIRST END NUMBER\n"
+usage = codes "usage: vcat_walk walk, trace, fates, check, h4 LINE, service INTERVAL, capture, gfp, frames, decode, noise, au4, channels, pair, make NUMBER LINES TICKS, or stream OCTETS MBITS FIRST END NUMBER\n"
 
 -- ---- a line for each command
 abbrev pub command_of : List (List ℕ) → Option WalkCommand
 command_of words =
     option_or (option_or (option_or (option_or (option_or (option_or (option_or
-    (option_or (option_or (option_or (option_or (option_or (option_or (option_or (walk_words words)
+    (option_or (option_or (option_or (option_or (option_or (option_or (option_or (option_or (walk_words words)
     (trace_words words))
     (fates_words words))
     (check_words words))
+    (h4_words words))
     (service_words words))
     (capture_words words))
     (gfp_words words))
@@ -58,6 +60,7 @@ task_at Walk = reads walk_answer
 task_at Trace = reads trace_answer
 task_at Fates = reads fates_answer
 task_at Check = reads check_answer
+task_at (H4 line) = reads (h4_answer line)
 task_at (Service interval) = reads (service_answer interval)
 task_at Capture = reads capture_answer
 task_at Gfp = reads gfp_answer
@@ -75,6 +78,7 @@ HandsBack source walk Walk = HandsScript source walk
 HandsBack source walk Trace = HandsScript source walk
 HandsBack source walk Fates = HandsScript source walk
 HandsBack source walk Check = HandsScript source walk
+HandsBack source walk (H4 line) = HandsScript source walk
 HandsBack source walk (Service interval) = HandsScript source walk
 HandsBack source walk Capture = HandsScript source walk
 HandsBack source walk Gfp = HandsScript source walk
@@ -93,6 +97,7 @@ RunsScript Walk = Unit {0}
 RunsScript Trace = Unit {0}
 RunsScript Fates = ⊥
 RunsScript Check = ⊥
+RunsScript (H4 line) = ⊥
 RunsScript (Service interval) = ⊥
 RunsScript Capture = ⊥
 RunsScript Gfp = ⊥
@@ -111,6 +116,7 @@ Fits Walk = Unit {0}
 Fits Trace = Unit {0}
 Fits Fates = Unit {0}
 Fits Check = Unit {0}
+Fits (H4 line) = line ≤ 127
 Fits (Service interval) = IsWithin 1 1000000 interval
 Fits Capture = Unit {0}
 Fits Gfp = Unit {0}

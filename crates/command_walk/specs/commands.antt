@@ -5,6 +5,7 @@ pub mod Fates
 pub mod Check
 pub mod Capture
 pub mod Gfp
+pub mod H4
 pub mod Frames
 pub mod Decode
 pub mod Noise

@@ -1,8 +1,8 @@
 //! The commands of the program, a line for each.
 
 use crate::commands::{
-    au4, capture, channels, check, decode, fates, frames, gfp, make, noise, pair, service, stream,
-    trace, walk,
+    au4, capture, channels, check, decode, fates, frames, gfp, h4, make, noise, pair, service,
+    stream, trace, walk,
 };
 use command_words::FromWords;
 use text_scripts::rate_load::RateLoad;
@@ -18,6 +18,8 @@ pub enum WalkCommand {
     Fates,
     /// `check`: make the walk of a script, and write what in it has no effect or was refused.
     Check,
+    /// `h4`: make the walk of a script, and write the H4 octets that its source sends on a line, 0 to 127.
+    H4 { line: u8 },
     /// `service`: make the walk of a script, and write what it was worth to its client, by stretches of 1 to
     /// 1,000,000 ticks.
     Service { interval: u32 },
@@ -53,6 +55,7 @@ impl FromWords for WalkCommand {
             .or(trace::words(words))
             .or(fates::words(words))
             .or(check::words(words))
+            .or(h4::words(words))
             .or(service::words(words))
             .or(capture::words(words))
             .or(gfp::words(words))

@@ -5,9 +5,9 @@
 //! make loads. The program itself only makes its input and outputs and hands them over. Each command has a
 //! room: a module here for its words and its run, and one of specs/ for what it means. Begin with `walk_top`:
 //! it answers how the task ended that the words are, the headline, and the walk that was made. `starts_law`
-//! says when nothing is presumed of the headline, `capture_law` whose frames a capture has, and `noise_law`,
-//! `au4_law` and `channels_law` which frames and VC-4s are written. No clause here knows how a stream is
-//! scrambled.
+//! says when nothing is presumed of the headline, `capture_law` whose frames a capture has, `h4_law` which
+//! packets `decode` finds in what `h4` writes, and `noise_law`, `au4_law` and `channels_law` which frames and
+//! VC-4s are written. No clause here knows how a stream is scrambled.
 #![tactic(auto)]
 
 mod command_of_words;
@@ -22,6 +22,7 @@ pub use commands::au4::au4_law;
 pub use commands::capture::{capture_law, capture_read_law};
 pub use commands::channels::channels_law;
 pub use commands::fates::starts_law;
+pub use commands::h4::h4_law;
 pub use commands::noise::noise_law;
 pub use top_call::walk_top;
 pub use walk_end::WalkEnd;

@@ -18,6 +18,7 @@ use crate::commands::decode::decode;
 use crate::commands::fates::fates;
 use crate::commands::frames::frames;
 use crate::commands::gfp::gfp;
+use crate::commands::h4::h4;
 use crate::commands::make::make;
 use crate::commands::noise::noise;
 use crate::commands::pair::pair;
@@ -38,7 +39,7 @@ use walk_engine::walk_core::Walk;
 /// for each decision step of the source on `notes`. `make` runs the load of a number and writes three lines.
 /// `fates` makes the walk of a script and writes what became of each of its frames. `check` does so too, and
 /// writes what in the script has no effect or was refused; `service` what the walk was worth to its client, by
-/// stretches of ticks. `capture` makes the walk of a script and writes a capture of the frames that it
+/// stretches of ticks. `h4` makes the walk of a script and writes the H4 octets that its source sends on a line. `capture` makes the walk of a script and writes a capture of the frames that it
 /// delivers, `gfp` one of the GFP frames that its source sent and the taken rows carry. `frames` reads a capture and writes the line of a script for each
 /// frame in it. `decode` reads the H4 octets of a line in hexadecimal digits and writes the control packets
 /// in them. `noise` reads frames and flips, and writes the frames with an FCS that get through when these
@@ -52,7 +53,8 @@ use walk_engine::walk_core::Walk;
 ///
 /// The status is 2 where the words are no command, 3 where the input can't be read, 8 where it or the text of
 /// `stream` has more than 67,108,864 octets, 5 where one of its lines is faulty, or of a capture its head or
-/// a record, 6 where a script's slips, spread or lag don't fit its rings, or two scripts don't go together,
+/// a record, 6 where a script's slips, spread or lag don't fit its rings, it has no line of the number that
+/// `h4` is told, or two scripts don't go together,
 /// 4 where an output can't be written, 7 where memory is short, and else 0. Of those that hold the first in
 /// this order is told; want of memory may come in the place of any but 2, before anything is written. A note
 /// says on `notes` what went wrong. After a fault nothing more is written but that note.
@@ -114,6 +116,7 @@ fn run<S: ByteSource, K: ByteSink, E: ByteSink>(
         WalkCommand::Trace => trace(alloc, script, out, notes),
         WalkCommand::Fates => fates(alloc, script, out),
         WalkCommand::Check => check(alloc, script, out),
+        WalkCommand::H4 { line } => h4(alloc, line, script, out),
         WalkCommand::Service { interval } => service(alloc, interval, script, out),
         WalkCommand::Capture => capture(alloc, script, out),
         WalkCommand::Gfp => gfp(alloc, script, out),
@@ -139,7 +142,7 @@ fn no_command<E: ByteSink>(notes: &mut E) -> WalkEnd
     ensures told { Tells E.written E.faults notes.old notes.new usage }
 {
     let text =
-        b"usage: vcat_walk walk, trace, fates, check, service INTERVAL, capture, gfp, frames, decode, noise, au4, channels, pair, make NUMBER LINES TICKS, or stream OCTETS MBITS FIRST END NUMBER\n";
+        b"usage: vcat_walk walk, trace, fates, check, h4 LINE, service INTERVAL, capture, gfp, frames, decode, noise, au4, channels, pair, make NUMBER LINES TICKS, or stream OCTETS MBITS FIRST END NUMBER\n";
     let status = tell_usage(text, notes);
     WalkEnd { status, walk: None }
 }

@@ -13,8 +13,8 @@ use walk_engine::walk_core::Walk;
 pub struct WalkEnd {
     /// The exit status.
     pub status: u8,
-    /// The walk that was made: of `walk`, `trace`, `fates`, `check`, `service`, `capture`, `gfp` and `make` at the
-    /// statuses 0 and 4.
+    /// The walk that was made: of `walk`, `trace`, `fates`, `check`, `h4`, `service`, `capture`, `gfp` and `make` at
+    /// the statuses 0 and 4.
     pub walk: Option<Walk>,
 }
 

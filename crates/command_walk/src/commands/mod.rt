@@ -8,6 +8,7 @@ pub(super) mod decode;
 pub(super) mod fates;
 pub(super) mod frames;
 pub(super) mod gfp;
+pub(super) mod h4;
 pub(super) mod make;
 pub(super) mod noise;
 pub(super) mod pair;

@@ -8,6 +8,9 @@ use Rattle.command_walk.proofs.top_call.run.Goals as goal
 pub service-requires : goal.service-requires
 service-requires g c = record { interval = subst Fits c.in-Service.is c.requires }
 
+pub h4-requires : goal.h4-requires
+h4-requires g c = subst Fits c.in-H4.is c.requires
+
 pub make-requires-clause-lines : goal.make-requires-clause-lines
 make-requires-clause-lines g c = (rw c.in-Make.is at c.requires).0
 
@@ -26,6 +29,9 @@ returns-in-Fates g c = rw c.in-Fates.is (alone _ _ _ _ _ _ refl c.fates.ensures)
 
 pub returns-in-Check : goal.returns-in-Check
 returns-in-Check g c = rw c.in-Check.is (alone _ _ _ _ _ _ refl c.check.ensures)
+
+pub returns-in-H4 : goal.returns-in-H4
+returns-in-H4 g c = rw c.in-H4.is (alone _ _ _ _ _ _ refl c.h4.ensures)
 
 pub returns-in-Service : goal.returns-in-Service
 returns-in-Service g c = rw c.in-Service.is (alone _ _ _ _ _ _ refl c.service.ensures)

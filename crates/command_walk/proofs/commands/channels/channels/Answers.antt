@@ -1,6 +1,6 @@
 -- The input is read, and says channels, frames and cuts or doesn't.
 use Rattle.std.proofs.Common.{refl, sym, ap, ◌∙◌}
-use Rattle.command_parts.specs.Common.{writes, reads, lent, line_text}
+use Rattle.command_parts.specs.Common.{line_text}
 use Rattle.command_parts.specs.declared.stop_and_status.Refusal.TheVariants.{Line}
 use Rattle.command_parts.proofs.StopLaws.{refused-line}
 use Rattle.command_parts.proofs.GiveLaws.{text-written}

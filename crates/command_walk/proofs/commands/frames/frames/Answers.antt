@@ -2,7 +2,7 @@
 use Rattle.std.proofs.Common.{refl, sym, ap, ◌∙◌, drop}
 use Rattle.text_captures.specs.capture_file.Reading.{frames_of}
 use Rattle.text_captures.specs.capture_file.Texts.{frame_texts, fault_text}
-use Rattle.command_parts.specs.Common.{writes, reads, lent}
+use Rattle.command_parts.specs.Common.{writes}
 use Rattle.command_parts.specs.declared.stop_and_status.Refusal.TheVariants.{Line}
 use Rattle.command_parts.proofs.StopLaws.{refused-line}
 use Rattle.command_parts.proofs.GiveLaws.{text-written}

@@ -1,0 +1,57 @@
+-- One turn more, or all are made.
+use Rattle.std.proofs.Common.{refl, sym, ◌∙◌, ap, subst}
+use Rattle.law_model.specs.declared.script_types.Script.{Script}
+use Rattle.law_model.specs.declared.session_totals.Totals.{Totals}
+use Rattle.law_model.specs.session.Leg.{leg_of}
+use Rattle.law_model.specs.session.Valid.{IsValid}
+use Rattle.law_walk.specs.Walk.{walk_plan}
+use Rattle.command_walk.specs.Told.{IsTurn}
+use Rattle.command_walk.specs.TurnsLeft.{AreLeft}
+use Rattle.command_walk.proofs.TurnLaws.{turn-made}
+use Rattle.command_walk.proofs.commands.h4.send_event_lines.Goals as goal
+
+pub loop-turn-init : goal.loop-turn-init
+loop-turn-init c =
+    let script = c.args.walk.now.script in
+    record {
+      script = refl;
+      left = subst (AreLeft script c.new-turns.result) (sym c.requires.begun)
+          (c.new-turns.ensures script c.requires.valid c.requires.events c.requires.ticks);
+      octets = c.requires.octets;
+    }
+
+pub send_turn-requires-clause-turn : goal.send_turn-requires-clause-turn
+send_turn-requires-clause-turn c =
+    let inv = c.loop-turn.invariant in
+    let gives = c.in-Some.ensures.some c.args.walk.now.script c.loop-turn.walk.counts inv.left
+    (ap (λ (t : Totals). t.taken) c.totals.ensures) in
+    subst (λ (s : Script). IsTurn (walk_plan (leg_of s)) c.in-Some.turn) (sym inv.script) gives.is
+
+pub send_turn-requires-clause-valid : goal.send_turn-requires-clause-valid
+send_turn-requires-clause-valid c = subst IsValid (sym c.loop-turn.invariant.script) c.requires.valid
+
+pub loop-turn-smaller : goal.loop-turn-smaller
+loop-turn-smaller c =
+    let inv = c.loop-turn.invariant in
+    let gives = c.in-Some.ensures.some c.args.walk.now.script c.loop-turn.walk.counts inv.left
+    (ap (λ (t : Totals). t.taken) c.totals.ensures) in
+    gives.fewer c.send_turn.new.walk.counts
+    (turn-made c.args.walk.now.script c.loop-turn.walk.script _ _ c.in-Some.turn inv.script c.send_turn.ensures.counts)
+
+pub loop-turn-preserved : goal.loop-turn-preserved
+loop-turn-preserved c =
+    let inv = c.loop-turn.invariant in
+    let gives = c.in-Some.ensures.some c.args.walk.now.script c.loop-turn.walk.counts inv.left
+    (ap (λ (t : Totals). t.taken) c.totals.ensures) in
+    record {
+      script = c.send_turn.ensures.script ∙ inv.script;
+      left = gives.left c.send_turn.new.walk.counts
+          (turn-made c.args.walk.now.script c.loop-turn.walk.script _ _ c.in-Some.turn inv.script
+          c.send_turn.ensures.counts);
+      octets = c.in_ok-send_turn.ensures.octets;
+    }
+
+pub returns-clause-counts : goal.returns-clause-counts
+returns-clause-counts c =
+    c.in_default.ensures.none c.args.walk.now.script c.loop-turn.walk.counts c.loop-turn.invariant.left
+    (ap (λ (t : Totals). t.taken) c.totals.ensures)
