@@ -8,16 +8,25 @@ use crate::try_rows::{Turns, try_rows};
 /// Pointers that stay, move over both ends of their values, and begin anew, in the first frame too.
 fn carried_rows() -> &'static str {
     "\
-    au4;start 0|frames 4|new 2 5| => 0;vc 0 sum 294722|vc 1 sum 294760|vc 2 sum 294798|au4 frames 4 begun 4 back 3 cut 0|;\n\
+    au4;start 0|frames 4|new 2 5| => \
+        0;vc 0 sum 294722|vc 1 sum 294760|vc 2 sum 294798|au4 frames 4 begun 4 back 3 cut 0|;\n\
     au4;start 5|frames 4|new 2 5 => 0;vc 0 sum 294722|vc 2 sum 294798|au4 frames 4 begun 4 back 2 cut 1|;\n\
     au4;start 782|frames 1 => 0;au4 frames 1 begun 1 back 0 cut 0|;\n\
     au4;start 0|frames 1|new 0 0| => 0;vc 0 sum 294722|au4 frames 1 begun 1 back 1 cut 0|;\n\
     au4;start 3|frames 2|new 0 782| => 0;vc 0 sum 294722|au4 frames 2 begun 2 back 1 cut 0|;\n\
     au4;start 1|frames 2|down 1| => 0;vc 0 sum 294722|vc 1 sum 294760|au4 frames 2 begun 2 back 2 cut 0|;\n\
-    au4;# moves|start 782|| frames  6 |up 1|new 5 0\r| => 0;vc 0 sum 294722|vc 1 sum 294760|vc 2 sum 294798|vc 3 sum 294836|vc 4 sum 294874|au4 frames 6 begun 5 back 5 cut 0|;\n\
-    au4;start 0|frames 6|down 1|up 5| => 0;vc 0 sum 294722|vc 1 sum 294760|vc 2 sum 294798|vc 3 sum 294836|vc 4 sum 294874|vc 5 sum 294912|au4 frames 6 begun 6 back 6 cut 0|;\n\
-    au4;start 00000000|frames 0000000012|new 3 300|new 7 0|new 11 782| => 0;vc 0 sum 294722|vc 1 sum 294760|vc 2 sum 294798|vc 3 sum 294836|vc 4 sum 294874|vc 5 sum 294912|vc 7 sum 294988|vc 8 sum 295026|vc 9 sum 295064|vc 10 sum 295102|au4 frames 12 begun 12 back 10 cut 1|;\n\
-    au4;start 5|frames 9|up 4|down 8| => 0;vc 0 sum 294722|vc 1 sum 294760|vc 2 sum 294798|vc 3 sum 294836|vc 4 sum 294874|vc 5 sum 294912|vc 6 sum 294950|vc 7 sum 294988|au4 frames 9 begun 9 back 8 cut 0|;"
+    au4;# moves|start 782|| frames  6 |up 1|new 5 0\r| => \
+        0;vc 0 sum 294722|vc 1 sum 294760|vc 2 sum 294798|vc 3 sum 294836|vc 4 sum 294874|\
+        au4 frames 6 begun 5 back 5 cut 0|;\n\
+    au4;start 0|frames 6|down 1|up 5| => \
+        0;vc 0 sum 294722|vc 1 sum 294760|vc 2 sum 294798|vc 3 sum 294836|vc 4 sum 294874|vc 5 sum 294912|\
+        au4 frames 6 begun 6 back 6 cut 0|;\n\
+    au4;start 00000000|frames 0000000012|new 3 300|new 7 0|new 11 782| => \
+        0;vc 0 sum 294722|vc 1 sum 294760|vc 2 sum 294798|vc 3 sum 294836|vc 4 sum 294874|vc 5 sum 294912|\
+        vc 7 sum 294988|vc 8 sum 295026|vc 9 sum 295064|vc 10 sum 295102|au4 frames 12 begun 12 back 10 cut 1|;\n\
+    au4;start 5|frames 9|up 4|down 8| => \
+        0;vc 0 sum 294722|vc 1 sum 294760|vc 2 sum 294798|vc 3 sum 294836|vc 4 sum 294874|vc 5 sum 294912|\
+        vc 6 sum 294950|vc 7 sum 294988|au4 frames 9 begun 9 back 8 cut 0|;"
 }
 
 /// Texts each of which has a fault, with the first one.
@@ -30,8 +39,10 @@ fn faulty_rows() -> &'static str {
     au4;start 0| => 5;;fault: line 2: missing|help: the line frames has to stand here|\n\
     au4;start 0|frames 3|start 0| => 5;;fault: line 3: order|help: start stands before frames|\n\
     au4;start 0|frames 3|up 1|frames 3| => 5;;fault: line 4: order|help: frames stands before up|\n\
-    au4;start 0|frames 3|Up 1| => 5;;fault: line 3: word|help: a line begins with one of start, frames, up, down, new|\n\
-    au4;start 0|frames 3|keep 1| => 5;;fault: line 3: word|help: a line begins with one of start, frames, up, down, new|\n\
+    au4;start 0|frames 3|Up 1| => \
+        5;;fault: line 3: word|help: a line begins with one of start, frames, up, down, new|\n\
+    au4;start 0|frames 3|keep 1| => \
+        5;;fault: line 3: word|help: a line begins with one of start, frames, up, down, new|\n\
     au4;start| => 5;;fault: line 1: word|help: start takes 1 words, and 0 follow|\n\
     au4;start 0 0| => 5;;fault: line 1: word|help: start takes 1 words, and 2 follow|\n\
     au4;start 783| => 5;;fault: line 1: range|help: word 2 is from 0 to 782|\n\
@@ -63,13 +74,17 @@ fn faulty_rows() -> &'static str {
 /// What is answered where the first call of the input fails, the second, and so on, and last without a fault.
 fn read_rows() -> &'static str {
     "\
-    au4;start 0|frames 4|new 2 5| => 5 TIMES 3;;fault: read failed| THEN 0;vc 0 sum 294722|vc 1 sum 294760|vc 2 sum 294798|au4 frames 4 begun 4 back 3 cut 0|;"
+    au4;start 0|frames 4|new 2 5| => \
+        5 TIMES 3;;fault: read failed| THEN \
+        0;vc 0 sum 294722|vc 1 sum 294760|vc 2 sum 294798|au4 frames 4 begun 4 back 3 cut 0|;"
 }
 
 /// And of the output. Short lines go out together.
 fn put_rows() -> &'static str {
     "\
-    au4;start 0|frames 4|new 2 5| => 4;;fault: write failed| THEN 0;vc 0 sum 294722|vc 1 sum 294760|vc 2 sum 294798|au4 frames 4 begun 4 back 3 cut 0|;"
+    au4;start 0|frames 4|new 2 5| => \
+        4;;fault: write failed| THEN \
+        0;vc 0 sum 294722|vc 1 sum 294760|vc 2 sum 294798|au4 frames 4 begun 4 back 3 cut 0|;"
 }
 
 /// A note that can't be written: the status stays.

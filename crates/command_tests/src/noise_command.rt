@@ -13,13 +13,17 @@ fn noisy_rows() -> &'static str {
     noise;flip 0 0| => 0;noise frames 0 flips 1 got 0 dropped 0|;\n\
     noise;flip 7 7| => 0;noise frames 0 flips 1 got 0 dropped 0|;\n\
     noise;frame 00*64| => 0;got 00*64|noise frames 1 flips 0 got 1 dropped 0|;\n\
-    noise;frame 00*64|frame 00*64|frame 00*64|flip 8 0| => 0;got 00*64|got 00*64|got 00*64|noise frames 3 flips 1 got 3 dropped 0|;\n\
-    noise;frame 00*64|frame 00*64|frame 00*64|flip 120 0| => 0;got 00*64|got 00*64|noise frames 3 flips 1 got 2 dropped 1|;\n\
+    noise;frame 00*64|frame 00*64|frame 00*64|flip 8 0| => \
+        0;got 00*64|got 00*64|got 00*64|noise frames 3 flips 1 got 3 dropped 0|;\n\
+    noise;frame 00*64|frame 00*64|frame 00*64|flip 120 0| => \
+        0;got 00*64|got 00*64|noise frames 3 flips 1 got 2 dropped 1|;\n\
     noise;frame 00*64|frame 00*64|frame 00*64|flip 159 7| => 0;got 00*64|noise frames 3 flips 1 got 1 dropped 2|;\n\
     noise;frame 00*64|flip 8 0|flip 8 1| => 0;noise frames 1 flips 2 got 0 dropped 0|;\n\
     noise;frame 00*64|flip 0 0| => 0;got 00*64|noise frames 1 flips 1 got 1 dropped 0|;\n\
     noise;frame 00*64|flip 15 7| => 0;noise frames 1 flips 1 got 0 dropped 1|;\n\
-    noise;  frame 00000000000000000000000000000000000000000000000000000000000000000000000000000000000000000000000000000000000000000000000000000000  ||flip  83   7 \r| => 0;noise frames 1 flips 1 got 0 dropped 1|;\n\
+    noise;  frame 0000000000000000000000000000000000000000000000000000000000000000000000000000000000000000000000000000\
+        0000000000000000000000000000  ||flip  83   7 \r| => \
+        0;noise frames 1 flips 1 got 0 dropped 1|;\n\
     noise;frame 00*64|flip 12 0|flip 17 3| => 0;noise frames 1 flips 2 got 0 dropped 1|;\n\
     noise;frame 00*64|frame 00*64|flip 8 0|flip 11 7|flip 84 1| => 0;noise frames 2 flips 3 got 0 dropped 0|;\n\
     noise;frame aBcD0f00*61|flip 0000000012 0000000000 => 0;noise frames 1 flips 1 got 0 dropped 1|;"
@@ -47,9 +51,12 @@ fn faulty_rows() -> &'static str {
     noise;flip 7 8| => 5;;fault: line 1: range|help: word 3 is from 0 to 7|\n\
     noise;frame 00*64|flip 83 0|flip 84 0| => 5;;fault: line 3: range|help: word 2 is from 0 to 83|\n\
     noise;frame 00*64|flip 84 9| => 5;;fault: line 2: range|help: word 2 is from 0 to 83|\n\
-    noise;flip 3 1|flip 3 1| => 5;;fault: line 2: order|help: flips rise by place and then by bit; the one before is 3 1|\n\
-    noise;flip 3 1|flip 3 0| => 5;;fault: line 2: order|help: flips rise by place and then by bit; the one before is 3 1|\n\
-    noise;flip 3 1|flip 2 7| => 5;;fault: line 2: order|help: flips rise by place and then by bit; the one before is 3 1|\n\
+    noise;flip 3 1|flip 3 1| => \
+        5;;fault: line 2: order|help: flips rise by place and then by bit; the one before is 3 1|\n\
+    noise;flip 3 1|flip 3 0| => \
+        5;;fault: line 2: order|help: flips rise by place and then by bit; the one before is 3 1|\n\
+    noise;flip 3 1|flip 2 7| => \
+        5;;fault: line 2: order|help: flips rise by place and then by bit; the one before is 3 1|\n\
     noise;flip 3 1|flip 3 8| => 5;;fault: line 2: range|help: word 3 is from 0 to 7|\n\
     noise;flip 00000000001 0| => 5;;fault: line 1: number|help: word 2 is a number of one to ten digits|\n\
     noise;flip 9999999999 0| => 5;;fault: line 1: range|help: word 2 is from 0 to 7|\n\
@@ -65,7 +72,9 @@ fn read_rows() -> &'static str {
 /// And of the output. Short lines go out together.
 fn put_rows() -> &'static str {
     "\
-    noise;frame 00*64|frame 00*64|flip 100 0| => 4;;fault: write failed| THEN 0;got 00*64|noise frames 2 flips 1 got 1 dropped 1|;"
+    noise;frame 00*64|frame 00*64|flip 100 0| => \
+        4;;fault: write failed| THEN \
+        0;got 00*64|noise frames 2 flips 1 got 1 dropped 1|;"
 }
 
 /// A note that can't be written: the status stays.

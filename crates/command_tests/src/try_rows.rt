@@ -1,9 +1,10 @@
 //! Rows of words, an input and answers, and a runner that tries them on either program.
 //!
 //! A row is `WORDS;INPUT => ANSWER THEN ANSWER` and so on, with one answer for each turn, and `N TIMES` before one
-//! that comes in N turns. An answer is `STATUS;OUT;NOTES`, where `+` follows the status if a walk or a
-//! session is handed back. `|` stands for LF, `07*9` at the end of a line for nine octets of 07, and `..` at the end of
-//! an answer for any rest. Nothing here stops at want of memory: a text that is cut by it is another than the wanted one.
+//! that comes in N turns. An answer is `STATUS;OUT;NOTES`, where `+` follows the status if a walk or a session is
+//! handed back. `|` stands for LF, `07*9` at the end of a line for nine octets of 07, and `..` at the end of an
+//! answer for any rest. Nothing here stops at want of memory: a text that is cut by it is another than the wanted
+//! one.
 
 use crate::gate_door::Door;
 use command_run::run_top;

@@ -69,7 +69,8 @@ const WALKS: &str = "\
     make 1 1 1 1=> usage\n\
     make=> usage\n\
     stream 64 1 0 30 1=> Stream(RateLoad { octets: 64, mbits: 1, first: 0, end: 30, number: 1 })\n\
-    stream 9600 400000 999999 1000000 18446744073709551615=> Stream(RateLoad { octets: 9600, mbits: 400000, first: 999999, end: 1000000, number: 18446744073709551615 })\n\
+    stream 9600 400000 999999 1000000 18446744073709551615=> \
+        Stream(RateLoad { octets: 9600, mbits: 400000, first: 999999, end: 1000000, number: 18446744073709551615 })\n\
     stream 0064 01 0000000000003 4 0=> Stream(RateLoad { octets: 64, mbits: 1, first: 3, end: 4, number: 0 })\n\
     stream 63 1 0 30 1=> usage\n\
     stream 9601 1 0 30 1=> usage\n\

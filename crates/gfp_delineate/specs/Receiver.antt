@@ -56,10 +56,6 @@ area_limit longest = longest + 4
 abbrev pub StandsIn : Receiver → ℕ → Bool → List ℕ → Type 0
 StandsIn receiver longest first octets = IsAt receiver.progress (area_limit longest) false first octets
 
--- these octets of the first segment have come
-abbrev pub ReceiverStands : Receiver → ℕ → List ℕ → Type 0
-ReceiverStands receiver longest octets = StandsIn receiver longest true octets
-
 -- whatever octets of a segment came before, these came after them
 abbrev pub Advances : Receiver → Receiver → List ℕ → Type 0
 Advances was now more = (longest : ℕ) (first : Bool) (octets : List ℕ) → StandsIn was longest first octets →

@@ -5,6 +5,7 @@ pub mod ZipLaws
 pub mod LogLaws
 pub mod RunLaws
 pub mod PairLaws
+pub mod EachLaws
 pub mod EndedLaws
 pub mod SessionLaws
 pub mod OpenLaws

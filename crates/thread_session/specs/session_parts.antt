@@ -3,6 +3,7 @@ pub mod Flags
 pub mod Held
 pub mod Duty
 pub mod Laid
+pub mod Bursts
 pub mod Opened
 pub mod Session
 pub mod Bells

@@ -20,6 +20,17 @@ pub record HasWritten (sender : Sender) (queue : Queued) (shared : Shared) (plac
   pub stands : LinearFillerStands sender queue (reached (place + length octets) shared) (place + length octets)
   pub next : AreNext shared place octets
 
+-- in whatever stream a filler and its queue stood, they stand so many octets further
+abbrev pub StandsFurther : Sender → Queued → Sender → Queued → ℕ → Type 0
+StandsFurther before queue after rest count = (shared : Shared) (place : ℕ) →
+    LinearFillerStands before queue shared place →
+    LinearFillerStands after rest (reached (place + count) shared) (place + count)
+
+-- of whatever stream they stood in, these are so many next octets
+abbrev pub FillsNext : Sender → Queued → ℕ → List ℕ → Type 0
+FillsNext before queue count octets = (shared : Shared) (place : ℕ) → LinearFillerStands before queue shared place →
+    octets ≡ take count (drop place (linear_stream (reached (place + count) shared).pieces))
+
 -- whatever stream stood before, its next octets are written
 abbrev pub Writes : Sender → Queued → Sender → Queued → List ℕ → Type 0
 Writes before queue after rest octets = (shared : Shared) (place : ℕ) → LinearFillerStands before queue shared place →

@@ -1,12 +1,12 @@
 //! The stream of channels, octet by octet.
 
-ghost use Rattle.std.specs.Prelude.{◌≡◌, ℕ, ◌+◌, ◌<◌, ◌≤◌, List, [], ◌++◌, length, min, take, drop};
+ghost use Rattle.std.specs.Prelude.{◌≡◌, ℕ, ◌<◌, ◌≤◌, List, [], ◌++◌, length, min, take};
 ghost use Rattle.gfp_model.specs.linear_model.Linear.{linear_header, extension_header};
 ghost use Rattle.gfp_model.specs.linear_model.Channels.{Channels};
-ghost use Rattle.gfp_model.specs.linear_model.Stream.{Shared, linear_stream, reached, unsent};
+ghost use Rattle.gfp_model.specs.linear_model.Stream.{unsent};
 ghost use Rattle.gfp_fill.specs.Areas.{head_of, StandsIn, HasWrittenIn};
 ghost use Rattle.gfp_channels.specs.gfp_linear.Queue.{unbegun};
-ghost use Rattle.gfp_channels.specs.gfp_linear.Filler.{LinearFillerStands, Writes};
+ghost use Rattle.gfp_channels.specs.gfp_linear.Filler.{LinearFillerStands, StandsFurther, FillsNext, Writes};
 
 use crate::gfp_linear::linear_queue::LinearQueue;
 use gfp_fill::AreaSender;
@@ -45,12 +45,8 @@ impl LinearFiller {
     /// written. The queue is that of the calls before: with one that doesn't hold the frame that is being
     /// sent the filler stands nowhere.
     pub fn fill(&mut self, waiting: &mut LinearQueue, out: &mut [u8])
-        ensures stands { (shared : Shared) (place : ℕ) → LinearFillerStands self.old waiting.old shared place →
-            let further = place + length out.old in
-            LinearFillerStands self.new waiting.new (reached further shared) further }
-        ensures octets { (shared : Shared) (place : ℕ) → LinearFillerStands self.old waiting.old shared place →
-            let octets = linear_stream (reached (place + length out.old) shared).pieces in
-            out.new ≡ take (length out.old) (drop place octets) }
+        ensures stands { StandsFurther self.old waiting.old self.new waiting.new (length out.old) }
+        ensures octets { FillsNext self.old waiting.old (length out.old) out.new }
     {
         // A copy of its own is kept in registers.
         let mut local = *self;

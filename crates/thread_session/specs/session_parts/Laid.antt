@@ -11,10 +11,12 @@ abbrev pub AreDone : List LineWorker → Type 0
 AreDone workers = (m : ℕ) (worker : LineWorker) → slice_get workers m ≡ Some worker →
     Contains (out_passed worker.producer) End
 
--- so it is with each line that is served
+-- so it is with a line that is served, and with each
+abbrev pub IsServedDone : ServedLine → Type 0
+IsServedDone line = Contains (out_passed (worker_of line).producer) End
+
 abbrev pub AreServedDone : List ServedLine → Type 0
-AreServedDone lines = (m : ℕ) (line : ServedLine) → slice_get lines m ≡ Some line →
-    Contains (out_passed (worker_of line).producer) End
+AreServedDone lines = (m : ℕ) (line : ServedLine) → slice_get lines m ≡ Some line → IsServedDone line
 
 -- ---- ends of the same rings, by line
 abbrev pub AreSendEnds : List (OutEnd Container) → List LineWorker → Type 0

@@ -1,8 +1,10 @@
 //! Line threads: each serves the workers of a share burst by burst, until its flag tells it to give them back.
-ghost use Rattle.std.specs.Prelude.{◌≡◌, ℕ, ◌≤◌, List, [], length, vec_len, vec_capacity};
+ghost use Rattle.std.specs.Prelude.{◌≡◌, ℕ, ◌≤◌, List, [], length, vec_len, vec_capacity, IfNone};
 ghost use Rattle.std.specs.Global.{Vec};
 ghost use Rattle.thread_alarms.specs.declared.watched_line.served_line.ServedLine.{ServedLine};
 ghost use Rattle.thread_alarms.specs.watched_line.Served.{AreServedLater, IsServedLater};
+ghost use Rattle.thread_session.specs.session_parts.Laid.{IsServedDone, AreServedDone};
+ghost use Rattle.thread_session.specs.session_parts.Bursts.{HasTried, AreTried, IsTriedHere, AreTriedHere};
 ghost use Rattle.thread_session.specs.session_parts.ServedLines.{SharesLater};
 ghost use Rattle.thread_session.specs.declared.session_parts.stop_flag.Flag.{Flag as OwnFlag};
 ghost use Rattle.thread_session.specs.session_parts.Flags.{flag_of, heeded, stored_flag};
@@ -56,8 +58,13 @@ enum Served {
 }
 
 impl Served {
+    ghost use Rattle.std.specs.Prelude.{◌≡◌, ◌↔◌, ◌⊎◌};
+
     /// What came of these and others.
-    fn and(self, other: Served) -> Served {
+    fn and(self, other: Served) -> Served
+        ensures moved { (result ≡ Served.Moved) ↔ (self ≡ Served.Moved) ⊎ (other ≡ Served.Moved) }
+        ensures done { (result ≡ Served.Done) ↔ (self ≡ Served.Done) × (other ≡ Served.Done) }
+    {
         match (self, other) {
             (Served::Moved, _) | (_, Served::Moved) => Served::Moved,
             (Served::Full, _) | (_, Served::Full) => Served::Full,
@@ -74,7 +81,9 @@ fn serve_one<R: Wait, G: Gate>(
     gate: &G,
     stop: Option<Heed<'_>>,
 ) -> Served
-    ensures { IsServedLater worker.old worker.new }
+    ensures later { IsServedLater worker.old worker.new }
+    ensures done { result ≡ Served.Done → IsServedDone worker.new }
+    ensures tried { IfNone stop.entry (HasTried worker.old worker.new) }
 {
     if let Some(stop) = stop {
         if stop.told().is_some() {
@@ -96,7 +105,9 @@ fn serve_once<R: Wait, G: Gate>(
     gate: &G,
     stop: Option<Heed<'_>>,
 ) -> Served
-    ensures { AreServedLater workers.old.items workers.new.items }
+    ensures later { AreServedLater workers.old.items workers.new.items }
+    ensures done { result ≡ Served.Done → AreServedDone workers.new.items }
+    ensures tried { IfNone stop.entry (AreTried workers.old.items workers.new.items) }
 {
     let mut served = Served::Done;
     for worker in workers.iter_mut() {
@@ -115,6 +126,15 @@ fn go_on<R: Wait>(rt: &R, bell: &Bell, source: &Bell, sink: &Bell, served: Serve
         Served::Full => bell.wait_for_behind(rt),
         Served::Empty | Served::Done => bell.wait(rt),
     }
+}
+
+/// Sleeps until the flag is stored, where all lines have come to their end: nothing is left to serve.
+fn rest<'s, R: Wait>(rt: &R, stop: Heed<'s>, workers: &[ServedLine]) -> OnceToken<'s, ()>
+    requires { AreServedDone workers.now }
+    ensures { result.of ≡ heeded stop.entry }
+{
+    let _ = workers;
+    stop.wait(rt)
 }
 
 /// Serves workers until the flag is stored, and gives the evidence that it is. Once all have come to their
@@ -136,7 +156,7 @@ fn serve<'s, R: Wait, G: Gate>(
         }
         let served = serve_once(rt, workers, gate, Some(stop));
         if served == Served::Done {
-            return stop.wait(rt);
+            return rest(rt, stop, workers.as_slice());
         }
         go_on(rt, stop.bell(), source, sink, served);
     }
@@ -232,6 +252,7 @@ fn serve_here<R: Wait, G: Gate>(rt: &R, held: &mut Held, gate: &G)
     ensures held { (workers : List ServedLine) → IsHeldOf workers held.old →
         IsHeldOf workers held.new }
     ensures told { (flag : ℕ) → IsToldBy flag held.old → IsToldBy flag held.new }
+    ensures tried { IsTriedHere held.old held.new }
 {
     if let Held::Here(workers) = held {
         serve_once(rt, workers, gate, None);
@@ -244,6 +265,7 @@ pub fn serve_all_here<R: Wait, G: Gate>(rt: &R, held: &mut Vec<Held>, gate: &G)
         AreHeldOf shares held.new.items }
     ensures told { (flags : List OwnFlag) → AreToldBy flags held.old.items →
         AreToldBy flags held.new.items }
+    ensures tried { AreTriedHere held.old.items held.new.items }
 {
     for share in held.iter_mut() {
         serve_here(rt, share, gate);

@@ -6,6 +6,7 @@ ghost use Rattle.thread_session.specs.session_parts.Duty.{Begun};
 ghost use Rattle.thread_session.specs.declared.session_parts.stop_flag.Flag.{Flag as OwnFlag};
 ghost use Rattle.thread_session.specs.session_parts.Flags.{flag_of, heeded, comes_by};
 ghost use Rattle.thread_session.specs.session_parts.Held.{AreHeldOf, AreToldBy};
+ghost use Rattle.thread_session.specs.session_parts.Bursts.{AreTriedHere};
 ghost use Rattle.thread_session.specs.session_parts.ServedLines.{SharesLater, AreNumbered};
 ghost use Rattle.thread_alarms.specs.watched_line.Served.{AreServedLater};
 ghost use Rattle.thread_session.specs.session_run.Room.{HasRoomFor};
@@ -67,13 +68,34 @@ fn start_source<'s, 'e, Y: Session, R: Wait + Sync, G: Gate>(
     scope.spawn_with(Comes::by(&flags.source), work).ok()
 }
 
-/// Waits until a thread has ended, where it was started, with the evidence that its flag is stored.
+/// Waits until a thread has ended, where it was started, with the evidence that its flag is stored. All that the thread
+/// gives back is such evidence. Its scope waits for it too, so this says no more than that nobody waits in vain.
 fn join_started<'s, R: Threads>(rt: &R, child: Option<Child<'s>>, stored: &OnceToken<'s, ()>)
     requires { IfSome child (λ child. comes_by child.promise ≡ stored.now.of) }
 {
     if let Some(child) = child {
         child.join(rt).agrees(stored);
     }
+}
+
+/// Makes a burst of each worker that no thread serves, and then a turn of the duty.
+fn turn_here<R: Wait, G: Gate, D: Duty>(
+    rt: &R,
+    gate: &G,
+    duty: &mut D,
+    held: &mut Vec<Held>,
+) -> Turned
+    ensures duty { (begun : Begun) → D.stands_for duty.old begun → D.stands_for duty.new begun }
+    ensures over { result ≡ Turned.Over → D.is_over duty.new }
+    ensures told { (flags : List OwnFlag) → AreToldBy flags held.old.items →
+        AreToldBy flags held.new.items }
+    ensures held { (shares : List (Vec ServedLine)) → AreHeldOf shares held.old.items →
+        AreHeldOf shares held.new.items }
+    ensures tried { AreTriedHere held.old.items held.new.items }
+{
+    serve_all_here(rt, held, gate);
+    gate.pass(Who::Sink);
+    duty.turn()
 }
 
 /// Does a duty until nothing is left of it, and before each turn what has no thread. Not at all where this
@@ -101,9 +123,7 @@ fn attend<R: Wait, G: Gate, D: Duty>(
     }
     for _ in rt.forever() {
         flags.sink.note();
-        serve_all_here(rt, &mut held, gate);
-        gate.pass(Who::Sink);
-        match duty.turn() {
+        match turn_here(rt, gate, &mut duty, &mut held) {
             Turned::Over => return (duty, held),
             Turned::Moved => {
                 gate.moved(Who::Sink);

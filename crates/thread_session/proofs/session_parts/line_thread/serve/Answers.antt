@@ -8,7 +8,7 @@ pub loop-init : goal.loop-init
 loop-init g c = zip-refl IsServedLater served-refl _
 
 pub loop-preserved : goal.loop-preserved
-loop-preserved g c = zip-then IsServedLater served-then _ _ _ c.loop.invariant c.serve_once-served.ensures
+loop-preserved g c = zip-then IsServedLater served-then _ _ _ c.loop.invariant c.serve_once-served.ensures.later
 
 pub returns-then-eq-clause-later : goal.returns-then-eq-clause-later
-returns-then-eq-clause-later g c = zip-then IsServedLater served-then _ _ _ c.loop.invariant c.serve_once-served.ensures
+returns-then-eq-clause-later g c = zip-then IsServedLater served-then _ _ _ c.loop.invariant c.serve_once-served.ensures.later

@@ -1,18 +1,23 @@
 -- One after the other is served where it is here.
 use Rattle.std.proofs.Common.{sym, subst, ap, length, arith}
 use Rattle.std.proofs.lemmas.List.{with_items_is}
+use Rattle.std.proofs.lemmas.Option.{slice_get_within}
 use Rattle.std.specs.Global.{Vec}
 use Rattle.thread_alarms.specs.declared.watched_line.served_line.ServedLine.{ServedLine}
 use Rattle.thread_session.specs.declared.session_parts.line_thread.Held.{Held}
 use Rattle.thread_session.specs.session_parts.Held.{IsHeldOf, AreHeldOf, AreToldBy}
+use Rattle.thread_session.specs.session_parts.Bursts.{IsTriedHere, AreTriedHere}
 use Rattle.thread_session.proofs.SessionPartsLaws.ZipLaws.{zip-set}
 use Rattle.thread_session.proofs.SessionPartsLaws.FlagLaws.{told-set}
+use Rattle.thread_session.proofs.SessionPartsLaws.EachLaws.{EachBelow, each-none, each-next}
 use Rattle.thread_session.proofs.session_parts.line_thread.serve_all_here.Goals as goal
 
 pub loop-share-init : goal.loop-share-init
 loop-share-init g c = record {
   held = λ shares held. subst (AreHeldOf shares) (sym c.deref_mut-share-items.ensures.value) held;
   told = λ flags told. subst (AreToldBy flags) (sym c.deref_mut-share-items.ensures.value) told;
+  tried = subst (EachBelow IsTriedHere 0 c.args.held.now.items) (sym c.deref_mut-share-items.ensures.value)
+      (each-none IsTriedHere c.args.held.now.items);
 }
 
 pub loop-share-preserved : goal.loop-share-preserved
@@ -26,6 +31,10 @@ loop-share-preserved g c = record {
       told-set flags c.loop-share.share-items c.loop-share.share-index c.share-item.result c.serve_here.new.held
       (omega (arith, c.loop-share-test.true, c.loop-share.auto.share-items)) c.serve_here.ensures.told
       (c.loop-share.invariant.told flags told);
+  tried = each-next IsTriedHere c.loop-share.share-index c.args.held.now.items c.loop-share.share-items
+      c.share-item.result c.serve_here.new.held
+      (omega (arith, c.loop-share-test.true, c.loop-share.auto.share-items)) c.serve_here.ensures.tried
+      c.loop-share.invariant.tried;
 }
 
 pub returns : goal.returns
@@ -37,4 +46,8 @@ returns g c =
     record {
       held = λ shares held. subst (AreHeldOf shares) (sym whole) (c.loop-share.invariant.held shares held);
       told = λ flags told. subst (AreToldBy flags) (sym whole) (c.loop-share.invariant.told flags told);
+      tried = subst (AreTriedHere c.args.held.now.items) (sym whole)
+          (λ w old new was now. c.loop-share.invariant.tried.each w old new
+          (let inside = slice_get_within items w new now in
+          omega (arith, inside, c.loop-share-test.false, c.loop-share.auto.share-items)) was now);
     }

@@ -1,13 +1,16 @@
--- What is held is held of the same workers, and looks at the same flags.
+-- What is held is held of the same workers, and looks at the same flags. Bursts were made of those before the next.
 use Rattle.std.proofs.Common.{List}
 use Rattle.std.specs.Global.{Vec}
 use Rattle.thread_alarms.specs.declared.watched_line.served_line.ServedLine.{ServedLine}
 use Rattle.thread_session.specs.declared.session_parts.stop_flag.Flag.{Flag}
 use Rattle.thread_session.specs.session_parts.Held.{AreHeldOf, AreToldBy}
+use Rattle.thread_session.specs.session_parts.Bursts.{IsTriedHere}
+use Rattle.thread_session.proofs.SessionPartsLaws.EachLaws.{EachBelow}
 use Rattle.thread_session.proofs.session_parts.line_thread.serve_all_here.Given as goal
 
 abbrev pub invariant-loop-share : goal.invariant-loop-share
 invariant-loop-share g l = record {
   held : (shares : List (Vec ServedLine)) → AreHeldOf shares l.fn.held.items → AreHeldOf shares l.share-items;
   told : (flags : List Flag) → AreToldBy flags l.fn.held.items → AreToldBy flags l.share-items;
+  tried : EachBelow IsTriedHere l.share-index l.fn.held.items l.share-items;
 }

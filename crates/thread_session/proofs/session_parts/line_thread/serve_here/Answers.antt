@@ -9,4 +9,4 @@ use Rattle.thread_session.proofs.session_parts.line_thread.serve_here.Goals as g
 pub returns-in-Here-clause-held : goal.returns-in-Here-clause-held
 returns-in-Here-clause-held g c =
     λ workers held. zip-then IsServedLater served-then _ _ _ (let h = subst (IsHeldOf workers) c.in-Here.is held in h)
-    c.serve_once.ensures
+    c.serve_once.ensures.later

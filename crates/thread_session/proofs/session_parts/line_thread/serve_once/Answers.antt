@@ -1,31 +1,67 @@
--- A burst leaves a worker later.
-use Rattle.std.proofs.Common.{sym, subst, ap, length, arith}
+-- A burst leaves a worker later; and where it was done, so.
+use Rattle.std.proofs.Common.{◌≡◌, inl, inr, ℕ, ◌<◌, List, Option, Some, None, IfNone, sym, subst, ap, length, slice_get, arith}
 use Rattle.std.proofs.lemmas.List.{with_items_is}
+use Rattle.std.proofs.lemmas.Option.{slice_get_within}
 use Rattle.thread_alarms.specs.declared.watched_line.served_line.ServedLine.{ServedLine}
 use Rattle.thread_alarms.specs.watched_line.Served.{AreServedLater, IsServedLater}
 use Rattle.thread_alarms.proofs.WatchedLineLaws.ServedLaws.{served-refl, served-then}
+use Rattle.thread_session.specs.session_parts.Laid.{IsServedDone, AreServedDone}
+use Rattle.thread_session.specs.session_parts.Bursts.{HasTried, AreTried}
 use Rattle.thread_session.proofs.SessionPartsLaws.ZipLaws.{zip-refl, zip-set}
+use Rattle.thread_session.proofs.SessionPartsLaws.DealLaws.{set-found}
+use Rattle.thread_session.proofs.SessionPartsLaws.PairLaws.{below-it}
+use Rattle.thread_session.proofs.SessionPartsLaws.EachLaws.{EachBelow, each-none, each-next}
 use Rattle.thread_session.proofs.session_parts.line_thread.serve_once.Goals as goal
 
 pub loop-worker-init : goal.loop-worker-init
-loop-worker-init g c = subst (AreServedLater c.args.workers.now.items) (sym c.deref_mut-worker-items.ensures.value)
-    (zip-refl IsServedLater served-refl c.args.workers.now.items)
+loop-worker-init g c = record {
+  later = subst (AreServedLater c.args.workers.now.items) (sym c.deref_mut-worker-items.ensures.value)
+      (zip-refl IsServedLater served-refl c.args.workers.now.items);
+  done = λ yes m worker low there. absurd (omega (arith, low));
+  tried = subst (EachBelow _ 0 c.args.workers.now.items) (sym c.deref_mut-worker-items.ensures.value)
+      (each-none _ c.args.workers.now.items);
+}
 
 pub loop-worker-preserved : goal.loop-worker-preserved
 loop-worker-preserved g c =
-    zip-set IsServedLater c.args.workers.now.items c.loop-worker.worker-items c.loop-worker.worker-index
-    c.worker-item.result c.serve_one.new.worker
-    (omega (arith, c.loop-worker-test.true, c.loop-worker.auto.worker-items))
-    (λ x later. served-then x _ c.serve_one.new.worker later c.serve_one.ensures) c.loop-worker.invariant
+    let before = c.loop-worker.invariant in
+    let items = c.loop-worker.worker-items in
+    let i = c.loop-worker.worker-index in
+    let within : i < length items = omega (arith, c.loop-worker-test.true, c.loop-worker.auto.worker-items) in
+    record {
+      later = zip-set IsServedLater c.args.workers.now.items items i c.worker-item.result c.serve_one.new.worker within
+          (λ x later. served-then x _ c.serve_one.new.worker later c.serve_one.ensures.later) before.later;
+      done = λ yes m worker low there.
+          let both = c.and-served.ensures.done.0 yes in
+          elim (set-found items i m c.serve_one.new.worker worker within there) [
+            | inl (at, is) ↦ subst IsServedDone (sym is) (c.serve_one.ensures.done both.1)
+            | inr (other, is) ↦ before.done both.0 m worker (below-it m i low other) is
+          ];
+      tried = each-next _ i c.args.workers.now.items items c.worker-item.result c.serve_one.new.worker within
+          c.serve_one.ensures.tried before.tried;
+    }
 
 pub returns : goal.returns
 returns g c =
     let v = c.args.workers.now in
     let items = c.loop-worker.worker-items in
-    subst (AreServedLater v.items) (sym
-    (with_items_is v items (omega (
-      arith,
-      c.loop-worker.auto.worker-items,
-      ap (length {A = ServedLine}) c.deref_mut-worker-items.ensures.value,
-      v.ok.0,
-    )))) c.loop-worker.invariant
+    let before = c.loop-worker.invariant in
+    let size = ap (length {A = ServedLine}) c.deref_mut-worker-items.ensures.value in
+    let whole = with_items_is v items (omega (arith, c.loop-worker.auto.worker-items, size, v.ok.0)) in
+    record {
+      later = subst (AreServedLater v.items) (sym whole) before.later;
+      done = λ yes. subst AreServedDone (sym whole)
+          (λ m worker there. before.done yes m worker
+          (let inside = slice_get_within items m worker there in
+          omega (arith, inside, c.loop-worker-test.false, c.loop-worker.auto.worker-items)) there);
+      tried = subst (λ l. IfNone c.args.stop (AreTried v.items l)) (sym whole)
+          (all-tried c.args.stop v.items items (λ m old new was now. before.tried.each m old new
+          (let inside = slice_get_within items m new now in
+          omega (arith, inside, c.loop-worker-test.false, c.loop-worker.auto.worker-items)) was now));
+    }
+  where
+    all-tried : {S : Type 0} (stop : Option S) (was now : List ServedLine) →
+        ((m : ℕ) (old new : ServedLine) → slice_get was m ≡ Some old → slice_get now m ≡ Some new →
+        IfNone stop (HasTried old new)) → IfNone stop (AreTried was now)
+    all-tried None was now each = each
+    all-tried (Some own) was now each = tt

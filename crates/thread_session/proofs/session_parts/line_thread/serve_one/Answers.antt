@@ -2,5 +2,5 @@
 use Rattle.thread_alarms.proofs.WatchedLineLaws.ServedLaws.{served-refl}
 use Rattle.thread_session.proofs.session_parts.line_thread.serve_one.Goals as goal
 
-pub returns-then-is_some : goal.returns-then-is_some
-returns-then-is_some g c = served-refl _
+pub returns-then-is_some-clause-later : goal.returns-then-is_some-clause-later
+returns-then-is_some-clause-later g c = served-refl _

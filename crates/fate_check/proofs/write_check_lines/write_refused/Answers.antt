@@ -1,1 +1,0 @@
--- An item more; and all of them.
