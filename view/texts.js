@@ -51,7 +51,8 @@ Life.texts = (() => {
     switch (word) {
       case "container": script.container = words[1]; break;
       case "delays": script.delays = numbers; break;
-      case "lines": case "ring": case "lag": case "ticks": script[word] = numbers[0]; break;
+      case "lines": case "ring": case "lag": case "ticks": case "holdoff": case "restore": case "statuses":
+        script[word] = numbers[0]; break;
       case "fail": script.fails.push({ line: numbers[0], first: numbers[1], end: numbers[2], slip: numbers[3] }); break;
       case "lost": script.losts.push({ first: numbers[0], end: numbers[1] }); break;
       case "add": case "remove":
@@ -63,7 +64,8 @@ Life.texts = (() => {
   }
 
   function readScript(text, faults) {
-    const script = { container: "vc4", lines: 0, delays: [], ring: 0, lag: 0, ticks: 0, fails: [], losts: [], items: [], events: 0 };
+    const script = { container: "vc4", lines: 0, delays: [], ring: 0, lag: 0, ticks: 0, holdoff: 0, restore: 0, statuses: 16,
+      fails: [], losts: [], items: [], events: 0 };
     const about = [];
     script.text = linesOf(text);
     let begun = false;

@@ -157,7 +157,7 @@ Life.words = (() => {
   function back(m, packet) {
     const told = packet < 0 ? undefined : m.trace.back[packet];
     if (told === undefined) return "No decision step is told of here.";
-    const eight = 8 * ((packet - m.script.lag) % 16);
+    const eight = 8 * ((packet - m.script.lag) % m.script.statuses);
     return "<b>Step of packet " + packet + "</b> (for rows " + range(rowOf(packet), rowOf(packet) + 15) + ") " +
       (told === "none" ? "took no return packet." :
         told === "lost" ? "took a lost return packet: it learns nothing." :

@@ -16,7 +16,7 @@ sys.dont_write_bytecode = True
 from browser import Browser, NoBrowser
 from texts import Pages, at_a_rate, bursts, expected, head, heights, interval, made, points, reasons, totals, walked
 
-EXAMPLES = ("failed_member", "slip", "lost_return", "eight_lines", "queue", "refused")
+EXAMPLES = ("failed_member", "slip", "lost_return", "eight_lines", "queue", "refused", "statuses")
 TOP = os.path.dirname(os.path.dirname(os.path.dirname(os.path.abspath(__file__))))
 RANGE = "document.querySelector('#range b').textContent"
 HELD = "document.getElementById('detail').classList.contains('held')"
@@ -175,6 +175,13 @@ class Tests:
         self.same("a line", line, "Line 1 at tick 1,100: dnu, sequence number 1. In ticks 1,064\u20131,319 (packets 65\u201380) it is a "
                   "member out of use, since the sink said that it fails. It has no delay. ")
         self.same("a step", step.split(") ")[0], "Step of packet 65 (for rows 1,064\u20131,079")
+
+    def options(self, texts):
+        """Options are lines of a script, and with 32 return packets for all statuses packet 16 tells those from sequence number 128 on."""
+        self.open("options", texts)
+        self.same("options have no fault", self.browser.js(FAULTS), "")
+        step = self.browser.js("Life.words.held(Life.page.model, 'back.17').replace(/<[^>]*>/g, '')")
+        self.same("a step with options", "was told status ff of sequence numbers 128 to 135," in step, True)
 
     # ---- Keys, pointer, fingers, fragment: over failed_member ----
 
@@ -482,6 +489,7 @@ def run(tests, program):
     for test in (tests.costs, tests.threads, tests.terms, tests.keys, tests.pointer, tests.fingers, tests.media, tests.spoken, tests.escaped,
                  tests.without_fates, tests.without_service, tests.refused, tests.dropped):
         test(example)
+    tests.options(texts["statuses"])
     tests.cut(example, texts["slip"])
     for name, large in (("made", made()), ("bursts", walked(program, bursts()))):
         tests.counts(name, large)

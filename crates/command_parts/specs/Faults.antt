@@ -28,6 +28,7 @@ kind_of (wrong.Count keyword takes follow) = Word
 kind_of (wrong.Field fault) = field_kind fault
 kind_of (wrong.Missing keyword) = Missing
 kind_of (wrong.Part this begun) = Order
+kind_of (wrong.Twice option) = Range
 kind_of (wrong.FullLine line) = Range
 kind_of wrong.FullPath = Range
 kind_of (wrong.FailureBefore end) = Order

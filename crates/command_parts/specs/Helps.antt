@@ -16,6 +16,9 @@ keyword_text word.Delays = codes "delays"
 keyword_text word.Ring = codes "ring"
 keyword_text word.Lag = codes "lag"
 keyword_text word.Ticks = codes "ticks"
+keyword_text word.Holdoff = codes "holdoff"
+keyword_text word.Restore = codes "restore"
+keyword_text word.Statuses = codes "statuses"
 keyword_text word.Fail = codes "fail"
 keyword_text word.Lost = codes "lost"
 keyword_text word.Frame = codes "frame"
@@ -41,7 +44,7 @@ part_text part.Events = codes "event lines"
 -- the words that a line may begin with
 abbrev pub first_words : List ℕ
 first_words =
-    codes "a line begins with one of container, lines, delays, ring, lag, ticks, fail, lost, frame, add, remove, client, operator, tick, carry, back, take, round, drain"
+    codes "a line begins with one of container, lines, delays, ring, lag, ticks, holdoff, restore, statuses, fail, lost, frame, add, remove, client, operator, tick, carry, back, take, round, drain"
 
 abbrev pub line_help_text : LineFault → List ℕ
 line_help_text wrong.First = first_words
@@ -49,6 +52,7 @@ line_help_text (wrong.Count keyword takes follow) = count_text (keyword_text key
 line_help_text (wrong.Field fault) = field_text fault
 line_help_text (wrong.Missing keyword) = missing_text (keyword_text keyword)
 line_help_text (wrong.Part this begun) = order_text (part_text this) (part_text begun)
+line_help_text (wrong.Twice option) = codes "there is a " ++ keyword_text option ++ codes " line already"
 line_help_text (wrong.FullLine line) = codes "line " ++ decimal line ++ codes " has 256 failures already"
 line_help_text wrong.FullPath = codes "there are 256 lost lines already"
 line_help_text (wrong.FailureBefore end) = codes "the failure before ends at " ++ decimal end

@@ -12,7 +12,7 @@ use text_scripts::script_read::ScriptFault;
 pub(super) const NOTE_ROOM: usize = 256;
 
 /// Room for what is said of how to write a line.
-const HELP_ROOM: usize = 160;
+const HELP_ROOM: usize = 192;
 
 /// The word of a kind of fault.
 fn kind_word(kind: LineKind) -> &'static [u8]
@@ -31,7 +31,7 @@ fn kind_word(kind: LineKind) -> &'static [u8]
 
 /// Writes that a line of the input is faulty, and how to write it.
 pub(super) fn line_note(number: u64, kind: LineKind, help: &[u8], out: &mut [u8]) -> usize
-    requires help { length help.now ≤ 160 }
+    requires help { length help.now ≤ 192 }
     requires room { 256 ≤ length out.old }
     ensures within { result ≤ 256 }
     ensures line { take result out.new ≡ line_text number kind help.now }

@@ -12,7 +12,7 @@ use text_lines::LineKind;
 use text_scripts::script_read::{LineFault, ScriptFault};
 
 /// Room for what is said of how to write a line.
-const HELP_ROOM: usize = 160;
+const HELP_ROOM: usize = 192;
 
 /// The kind of what is wrong with a line of a script.
 fn kind_of(fault: LineFault) -> LineKind
@@ -22,7 +22,7 @@ fn kind_of(fault: LineFault) -> LineKind
         LineFault::First | LineFault::Count { .. } => LineKind::Word,
         LineFault::Field(fault) => fault.kind(),
         LineFault::Missing(_) => LineKind::Missing,
-        LineFault::FullLine { .. } | LineFault::FullPath => LineKind::Range,
+        LineFault::Twice(_) | LineFault::FullLine { .. } | LineFault::FullPath => LineKind::Range,
         LineFault::Part { .. }
         | LineFault::FailureBefore { .. }
         | LineFault::LossBefore { .. }

@@ -10,7 +10,7 @@ use text_scripts::script_read::{Keyword, LineFault, Part};
 
 /// The words that a line may begin with.
 const FIRST_WORDS: &[u8] =
-    b"a line begins with one of container, lines, delays, ring, lag, ticks, fail, lost, frame, add, remove, client, operator, tick, carry, back, take, round, drain";
+    b"a line begins with one of container, lines, delays, ring, lag, ticks, holdoff, restore, statuses, fail, lost, frame, add, remove, client, operator, tick, carry, back, take, round, drain";
 
 /// A keyword as scripts have it.
 fn keyword_word(keyword: Keyword) -> &'static [u8]
@@ -24,6 +24,9 @@ fn keyword_word(keyword: Keyword) -> &'static [u8]
         Keyword::Ring => b"ring",
         Keyword::Lag => b"lag",
         Keyword::Ticks => b"ticks",
+        Keyword::Holdoff => b"holdoff",
+        Keyword::Restore => b"restore",
+        Keyword::Statuses => b"statuses",
         Keyword::Fail => b"fail",
         Keyword::Lost => b"lost",
         Keyword::Frame => b"frame",
@@ -55,9 +58,9 @@ fn part_words(part: Part) -> &'static [u8]
 
 /// Writes a text as it is.
 fn whole_help(text: &[u8], out: &mut [u8]) -> usize
-    requires short { length text.now ≤ 160 }
-    requires room { 160 ≤ length out.old }
-    ensures within { result ≤ 160 }
+    requires short { length text.now ≤ 192 }
+    requires room { 192 ≤ length out.old }
+    ensures within { result ≤ 192 }
     ensures text { take result out.new ≡ text.now }
 {
     let mut line = TextCursor::new(out);
@@ -65,10 +68,23 @@ fn whole_help(text: &[u8], out: &mut [u8]) -> usize
     line.end()
 }
 
+/// Writes that an option stands already.
+fn twice_help(option: Keyword, out: &mut [u8]) -> usize
+    requires { 192 ≤ length out.old }
+    ensures within { result ≤ 192 }
+    ensures text { take result out.new ≡ line_help_text (LineFault.Twice option) }
+{
+    let mut line = TextCursor::new(out);
+    line.text(b"there is a ");
+    line.text(keyword_word(option));
+    line.text(b" line already");
+    line.end()
+}
+
 /// Writes that a line of the group has as many failures as it may.
 fn full_help(member: u8, out: &mut [u8]) -> usize
-    requires { 160 ≤ length out.old }
-    ensures within { result ≤ 160 }
+    requires { 192 ≤ length out.old }
+    ensures within { result ≤ 192 }
     ensures text { take result out.new ≡ line_help_text (LineFault.FullLine member) }
 {
     let mut line = TextCursor::new(out);
@@ -80,8 +96,8 @@ fn full_help(member: u8, out: &mut [u8]) -> usize
 
 /// Writes how a line has to be that has this fault.
 pub(crate) fn line_help(fault: LineFault, out: &mut [u8]) -> usize
-    requires { 160 ≤ length out.old }
-    ensures within { result ≤ 160 }
+    requires { 192 ≤ length out.old }
+    ensures within { result ≤ 192 }
     ensures text { take result out.new ≡ line_help_text fault }
 {
     match fault {
@@ -94,6 +110,7 @@ pub(crate) fn line_help(fault: LineFault, out: &mut [u8]) -> usize
         LineFault::Field(fault) => field_help(fault, out),
         LineFault::Missing(keyword) => missing_help(keyword_word(keyword), out),
         LineFault::Part { this, begun } => order_help(part_words(this), part_words(begun), out),
+        LineFault::Twice(option) => twice_help(option, out),
         LineFault::FullLine { line } => full_help(line, out),
         LineFault::FullPath => whole_help(b"there are 256 lost lines already", out),
         LineFault::FailureBefore { end } => {
@@ -113,7 +130,7 @@ pub(crate) fn line_help(fault: LineFault, out: &mut [u8]) -> usize
 
 /// Writes how long a failure with this slip has to be.
 pub(crate) fn slip_help(slip: u16, out: &mut [u8]) -> usize
-    requires { 160 ≤ length out.old }
+    requires { 192 ≤ length out.old }
     ensures within { result ≤ 128 }
     ensures text { take result out.new ≡ slip_help_text slip }
 {
@@ -128,7 +145,7 @@ pub(crate) fn slip_help(slip: u16, out: &mut [u8]) -> usize
 
 /// Writes how many cells a ring has to hold.
 pub(crate) fn spread_help(slow: u16, fast: u16, slip: u32, out: &mut [u8]) -> usize
-    requires { 160 ≤ length out.old }
+    requires { 192 ≤ length out.old }
     ensures within { result ≤ 128 }
     ensures text { take result out.new ≡ spread_help_text slow fast slip }
 {
@@ -146,7 +163,7 @@ pub(crate) fn spread_help(slow: u16, fast: u16, slip: u32, out: &mut [u8]) -> us
 
 /// Writes how great the lag has to be.
 pub(crate) fn lag_help(slow: u16, slip: u32, least: u32, out: &mut [u8]) -> usize
-    requires { 160 ≤ length out.old }
+    requires { 192 ≤ length out.old }
     ensures within { result ≤ 128 }
     ensures text { take result out.new ≡ lag_help_text slow slip least }
 {

@@ -14,6 +14,8 @@ mod gate_door;
 #[cfg(test)]
 mod noise_command;
 #[cfg(test)]
+mod option_rows;
+#[cfg(test)]
 mod pair_command;
 #[cfg(test)]
 mod run_and_watch;

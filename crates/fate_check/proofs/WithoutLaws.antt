@@ -34,6 +34,7 @@ same-table scenario cells line k windows =
       lines = length-set scenario.windows line windows;
       lag = refl;
       size = refl;
+      statuses = refl;
       orders = λ j low. refl;
       cells = λ j low. refl;
       offers = λ u low. refl;

@@ -124,7 +124,7 @@ rows_stay size cells longer t are decided =
 
 -- ---- return packets
 pub returns_stay : ReturnsStay
-returns_stay cells longer k are decided =
-    ap (λ rows. return_of rows k)
+returns_stay options cells longer k are decided =
+    ap (λ rows. return_of options rows k)
     (map-same_range (read_packets longer) (read_packets cells) 0 (k + 1)
     (λ j low. read-stays cells longer j are (decided-before cells (16 * j + 23) (16 * k + 23) (omega arith) decided)))

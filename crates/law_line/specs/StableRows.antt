@@ -1,6 +1,7 @@
 -- What is decided of the rows of a group stays decided.
 use Rattle.std.specs.Prelude.{◌≡◌, ℕ, ◌+◌, ◌*◌, List, ◌++◌, length, slice_get, Some, IsSome}
 use Rattle.law_model.specs.Common.{Cell, verdict, read_packet, governing, row_at, return_at}
+use Rattle.law_model.specs.declared.script_types.Options.{Options}
 
 -- each line has its cells, and maybe more after them
 pub record IsLonger (cells longer : List (List Cell)) : Type 0 where
@@ -28,5 +29,6 @@ RowsStay = (size : ℕ) (cells longer : List (List Cell)) (t : ℕ) → IsLonger
 
 -- nor of a return packet
 abbrev pub ReturnsStay : Type 0
-ReturnsStay = (cells longer : List (List Cell)) (k : ℕ) → IsLonger cells longer → AreDecidedAt cells (16 * k + 23) →
-    return_at longer k ≡ return_at cells k
+ReturnsStay = (options : Options) (cells longer : List (List Cell)) (k : ℕ) → IsLonger cells longer →
+    AreDecidedAt cells (16 * k + 23) →
+    return_at options longer k ≡ return_at options cells k

@@ -6,8 +6,8 @@ ghost use Rattle.law_session.specs.Landing.{AreOrdersInOrder, AreOffersInOrder};
 ghost use Rattle.law_session.specs.Use.{HasLimits};
 ghost use Rattle.law_loss.specs.Carried.{AreOctets};
 
-/// A sound leg has a lag of at least one packet and at most 128 lines; its commands land in their order,
-/// and so do its frames; and these are octets.
+/// A sound leg has a lag of at least one packet and at most 128 lines, and 16 or 32 return packets tell all
+/// statuses; its commands land in their order, and so do its frames; and these are octets.
 pub fn read_law()
     ensures limits { (leg : Leg) → IsSound leg → HasLimits (scenario_by leg) }
     ensures orders { (leg : Leg) → IsSound leg →

@@ -40,6 +40,8 @@ pub use Rattle.law_model.specs.members.Number.{verdict_in, verdict_or, verdict_o
 unfoldable pub use Rattle.law_model.specs.members.Number.{read_on}
 pub use Rattle.law_model.specs.members.Path.{cells, cells_of, end_of}
 unfoldable pub use Rattle.law_model.specs.members.Path.{path}
+pub use Rattle.law_model.specs.members.Timers.{IsUp, IsUpSince, are_missed, is_restored}
+unfoldable pub use Rattle.law_model.specs.members.Timers.{is_up, last_read}
 pub use Rattle.law_model.specs.members.Sight.{lock_by, sight_by, sights}
 unfoldable pub use Rattle.law_model.specs.members.Sight.{sights_on}
 pub use Rattle.law_model.specs.members.Sign.{HasNoEnd, sign_of, signs_of}
@@ -59,8 +61,9 @@ pub use Rattle.law_model.specs.packets.Packet.{covered_nibbles, found_check, oct
 pub use Rattle.law_model.specs.packets.Packet.{packet_of, read_by, said_check, said_code}
 unfoldable pub use Rattle.law_model.specs.packets.Packet.{read_of}
 pub use Rattle.law_model.specs.packets.PacketText.{bit_text, ctrl_text, nibble_text}
-pub use Rattle.law_model.specs.packets.ReturnPacket.{Row, ack_by, ack_of, is_member, leader, mst_of, return_of, says_at}
-pub use Rattle.law_model.specs.packets.ReturnPacket.{sink_state, state_next, status_of}
+pub use Rattle.law_model.specs.packets.ReturnPacket.{Row, ack_by, ack_of, agree, has_packet, have_one_chg, is_member, is_same}
+pub use Rattle.law_model.specs.packets.ReturnPacket.{last_word, last_word_by, leader, mst_of, packet_on, packet_row}
+pub use Rattle.law_model.specs.packets.ReturnPacket.{return_of, says_at, sink_state, state_next, status_of}
 pub use Rattle.law_model.specs.packets.Telling.{mst_by, passed_on, sent_packet, telling, telling_at, untold}
 pub use Rattle.law_model.specs.packets.Told.{oks_in, packet_read, told_by, told_in}
 pub use Rattle.law_model.specs.rows.Interleave.{octets_at, parts_of}
@@ -82,6 +85,7 @@ pub use Rattle.law_model.specs.session.Counts.{with_line}
 unfoldable pub use Rattle.law_model.specs.session.Counts.{carries_from, command_dues, drain, frame_dues, full, held}
 unfoldable pub use Rattle.law_model.specs.session.Counts.{pop, pop_lines, run, run_lines, sum_delays}
 pub use Rattle.law_model.specs.session.Leg.{Leg, leg_of}
+pub use Rattle.law_model.specs.session.Options.{IsOptions, IsStatuses, default_options}
 pub use Rattle.law_model.specs.session.Plan.{FitsLag, FitsRing, all_cells, decided_by, decided_in, greatest}
 pub use Rattle.law_model.specs.session.Plan.{greatest_slip, least, least_or, path_of, paths_of, plan_of}
 pub use Rattle.law_model.specs.session.Scenario.{DueCommand, DueFrame, Scenario, carried_by, comes_at, frames_at}
@@ -91,7 +95,8 @@ pub use Rattle.law_model.specs.session.Valid.{AreItems, HasFailures, HasFewLosse
 pub use Rattle.law_model.specs.session.Valid.{IsKind, IsNetwork, IsSize, IsSound, IsValid, IsWithin}
 unfoldable pub use Rattle.law_model.specs.session.Valid.{AreApart}
 pub use Rattle.law_model.specs.source.Accepted.{accepted_of, kept_by, refusal_in}
-pub use Rattle.law_model.specs.source.Back.{return_cell, return_packet, said, session_cells, status, status_by}
+pub use Rattle.law_model.specs.source.Back.{group_of, is_line, is_line_up, return_cell, return_packet, said}
+pub use Rattle.law_model.specs.source.Back.{session_cells, stands_at, status, word, word_by}
 unfoldable pub use Rattle.law_model.specs.source.Back.{cells_before, said_before}
 pub use Rattle.law_model.specs.source.Client.{IsFewest, Stream, frame_refusal, frames_in, next_by, offered, offered_by}
 pub use Rattle.law_model.specs.source.Client.{reached, refusal_while, size, width}

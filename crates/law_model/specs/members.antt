@@ -4,3 +4,4 @@ pub mod Number
 pub mod Line
 pub mod Sign
 pub mod Sight
+pub mod Timers

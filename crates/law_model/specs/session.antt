@@ -1,3 +1,4 @@
+pub mod Options
 pub mod Leg
 pub mod Scenario
 pub mod Counts

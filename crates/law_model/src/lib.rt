@@ -22,8 +22,8 @@ pub use frame_out::FrameOut;
 pub use item_refusals::{AcceptFault, CommandFault, Refusal};
 pub use lcas_states::{Command, Member, SinkState, SourceState, Standing};
 pub use script_types::{
-    Config, Delays, EventLine, EventList, Item, ItemKind, ItemList, LostList, Octets, Script,
-    WindowList, WindowLists,
+    Config, Delays, EventLine, EventList, Item, ItemKind, ItemList, LostList, Octets, Options,
+    Script, WindowList, WindowLists,
 };
 pub use session_totals::Totals;
 pub use walk_events::{Event, StallCause};

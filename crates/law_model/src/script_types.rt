@@ -1,6 +1,9 @@
 //! What a script says: the network's configuration and failures, what lands at which tick, and the events of
 //! a walk. Each list is a type of its own, which contracts see as the list.
 
+ghost use Rattle.std.specs.Prelude.{◌≡◌};
+ghost use Rattle.law_model.specs.session.Options.{default_options};
+
 use crate::window_types::Window;
 use std::marker::Model;
 
@@ -100,6 +103,33 @@ impl Model for EventList {
     ghost view = { λ events. events.0.items };
 }
 
+/// When a member goes out of use and comes back, and how many return packets tell all statuses: what the options of a
+/// script set. Timers are counted in packets of 16 frames, so in 2 ms.
+#[derive(Clone, Copy, Debug, PartialEq, Eq)]
+pub struct Options {
+    /// The hold-off, up to 5,000 packets: a line is down only after one more packet in turn than this that couldn't
+    /// be read.
+    pub holdoff: u16,
+    /// The wait to restore, up to 62,500 packets: a line that was down is up only after one more packet in turn than
+    /// this that could be read.
+    pub restore: u16,
+    /// How many return packets tell all statuses, eight each: 16, or 32 as G.707 has it for 256 members.
+    pub statuses: u8,
+}
+
+/// The options of a script without option lines: no timer runs, and all statuses are told by 16 return packets.
+impl Default for Options {
+    ghost is_default = { λ options. options ≡ default_options };
+
+    fn default() -> Options {
+        Options {
+            holdoff: 0,
+            restore: 0,
+            statuses: 16,
+        }
+    }
+}
+
 /// What a script configures: members are numbered from 0 as lines, and time is counted in frames of 125 microseconds.
 #[derive(Drop)]
 pub struct Config {
@@ -119,6 +149,8 @@ pub struct Config {
     pub ticks: u32,
     /// The payload octets of a container: 2,340 of a VC-4, 756 of a VC-3.
     pub size: u16,
+    /// The timers of the members, and how statuses are told.
+    pub options: Options,
 }
 
 /// What an item is.

@@ -2,7 +2,7 @@
 -- cells that were popped.
 use Rattle.std.proofs.Common.{◌≡◌, ℕ, ◌+◌, ◌*◌, ◌<◌, option_map, sym, ◌∙◌, ap, arith}
 use Rattle.law_model.specs.Common.{Leg, scenario_by, told_by, telling_at, return_cell, leader, read_packets, return_at}
-use Rattle.law_model.specs.Common.{Counts}
+use Rattle.law_model.specs.Common.{Counts, packets}
 use Rattle.law_model.specs.declared.script_types.Script.{Script}
 use Rattle.law_model.specs.session.Scenario.{packets_in}
 use Rattle.law_row.specs.Received.{HasPackets}
@@ -29,13 +29,14 @@ can-walk : (script other : Script) → IsWay script → CanWalk (way_of script o
 can-walk script other is = sound-walks (way_of script other) (way-sound script other is)
 
 pub says-told : (script other : Script) (s : Counts) (k : ℕ) → IsWay script → IsWalked (way_of script other) s →
-    16 * k + 23 < s.rows → told_by (return_at (popped_cells (way_of script other) s.lines) k)
+    16 * k + 23 < s.rows → told_by (return_at script.config.options (popped_cells (way_of script other) s.lines) k)
     ≡ telling_at (scenario_by (way_of other script)) (k + other.config.lag)
 says-told script other s k is walked low =
     let leg : Leg = way_of script other in
     let can = can-walk script other is in
     let (rows, ticks) = counts-within leg s can walked in
-    returned.told-said (scenario_by leg) (session_of leg) (popped_cells leg s.lines) k
+    let lag = is.valid.sound.network.lag.0 in
+    returned.told-said (scenario_by leg) (packets (scenario_by leg)) k (popped_cells leg s.lines) (omega (arith, lag))
     (read-packets leg s k can walked low)
     ∙ sym (told-said other script k (omega (arith, low, rows, ticks)))
 

@@ -47,6 +47,7 @@ one-network windows failures slip = record {
   lag = (omega arith, omega arith);
   ticks = (omega arith, omega arith);
   size = inl refl;
+  options = record { holdoff = omega arith; restore = omega arith; statuses = inl refl };
   fits_ring = omega (arith, slip);
   fits_lag = omega (arith, slip);
 }

@@ -1,10 +1,13 @@
 -- A session doesn't depend on what its packets tell.
-use Rattle.std.proofs.Common.{◌≡◌, ℕ, zero, suc, ◌+◌, ◌-◌, ◌*◌, ◌/◌, ◌%◌, nat_lt, ◌&&◌, true, if◌then◌else◌, List, []}
-use Rattle.std.proofs.Common.{◌∷◌, ◌++◌, map, length, take, drop, slice_get, Option, Some, None, refl, ◌∙◌, ap}
-use Rattle.std.specs.List.{list_all}
+use Rattle.std.proofs.Common.{◌≡◌, ℕ, zero, suc, ◌+◌, ◌-◌, ◌*◌, ◌/◌, ◌%◌, ◌==◌, nat_lt, ◌&&◌, Bool, true, false}
+use Rattle.std.proofs.Common.{if◌then◌else◌, List, [], ◌∷◌, ◌++◌, map, length, take, drop, slice_get, Option, Some}
+use Rattle.std.proofs.Common.{None, refl, ◌∙◌, ap}
+use Rattle.std.specs.List.{list_any, list_all, range_with_len}
+use Rattle.std.proofs.Math.Path.{fun_ext}
 use Rattle.law_model.specs.Common.{Scenario, orders_at, carried_by, is_read, is_heard, is_lost, is_good, stream_of}
 use Rattle.law_model.specs.Common.{Table, Told, active, Source, asked_all, decide, cell_at, after, table_of}
-use Rattle.law_model.specs.Common.{said_before, status_by, return_packet, return_cell, cells_before, Stream, width}
+use Rattle.law_model.specs.Common.{said_before, said, is_line, is_line_up, last_read, word_by, stands_at, group_of}
+use Rattle.law_model.specs.Common.{status, return_packet, return_cell, cells_before, Stream, width}
 use Rattle.law_model.specs.Common.{place_of, stream_before, payload_of, active_at, payload_on, container_of}
 use Rattle.law_model.specs.Common.{is_whole_row, rows_of}
 use Rattle.law_session.proofs.ClientLaws.{SameTables, width-same, place_of-same, stream_before-same}
@@ -19,7 +22,7 @@ module _ (scenario : Scenario) (tells : List Told) where
   unfolding after
   telling-after cells zero = refl
   telling-after cells (suc j) =
-      ap (λ source. decide ((j - scenario.lag) % 16) (cell_at scenario cells j)
+      ap (λ source. decide ((j - scenario.lag) % scenario.options.statuses) (cell_at scenario cells j)
       (asked_all (length scenario.windows) (orders_at scenario j) source)) (telling-after cells j)
 
   pub telling-table : (cells : List (Option Told)) (j : ℕ) → table_of other cells j ≡ table_of scenario cells j
@@ -34,18 +37,39 @@ module _ (scenario : Scenario) (tells : List Told) where
       (telling-table cells k)
       ∙ ap (λ count. if is_heard scenario k then (table_of scenario cells k).count else count) (telling-said cells k)
 
-  abbrev packet_with : ℕ → ℕ → Table → Told
-  packet_with count k table = record {
+  telling-stands : (cells : List (Option Told)) (line sq count : ℕ) (found : Option ℕ) →
+      stands_at other cells line sq (word_by other cells count found)
+      ≡ stands_at scenario cells line sq (word_by scenario cells count found)
+  telling-stands cells line sq count None = refl
+  telling-stands cells line sq count (Some last) =
+      ap (λ (table : Table). stands_at other cells line sq (if table.count == count then Some last else None))
+      (telling-table cells last)
+      ∙ elim ((table_of scenario cells last).count == count)
+      as (λ b. stands_at other cells line sq (if b then Some last else None)
+      ≡ stands_at scenario cells line sq (if b then Some last else None)) [
+        | true ↦ ap (λ (table : Table). is_line line (slice_get table.order sq)) (telling-table cells last)
+        | false ↦ refl
+      ]
+
+  telling-status : (cells : List (Option Told)) (k sq : ℕ) → status other cells k sq ≡ status scenario cells k sq
+  telling-status cells k sq =
+      ap (λ test. list_any test (range_with_len 0 (length scenario.windows))) (fun_ext (λ line.
+      ap (λ stands. is_line_up scenario line k && stands)
+      (ap (λ count. stands_at other cells line sq (word_by other cells count (last_read (is_read scenario line) k)))
+      (telling-said cells (suc k))
+      ∙ telling-stands cells line sq (said scenario cells k) (last_read (is_read scenario line) k))))
+
+  abbrev packet_with : ℕ → ℕ → (ℕ → Bool) → Told
+  packet_with count k ok = record {
     rs_ack = count % 2;
-    oks = map (λ i. status_by scenario k (slice_get table.order (8 * (k % 16) + i)))
-        (0 ∷ 1 ∷ 2 ∷ 3 ∷ 4 ∷ 5 ∷ 6 ∷ 7 ∷ []);
+    oks = map (λ i. ok (8 * group_of scenario k + i)) (0 ∷ 1 ∷ 2 ∷ 3 ∷ 4 ∷ 5 ∷ 6 ∷ 7 ∷ []);
   }
 
   pub telling-packet : (cells : List (Option Told)) (k : ℕ) →
       return_packet other cells k ≡ return_packet scenario cells k
   telling-packet cells k =
-      ap (λ count. packet_with count k (table_of other cells k)) (telling-said cells (suc k))
-      ∙ ap (packet_with (said_before scenario cells (suc k)) k) (telling-table cells k)
+      ap (λ count. packet_with count k (status other cells k)) (telling-said cells (suc k))
+      ∙ ap (packet_with (said scenario cells k) k) (fun_ext (telling-status cells k))
 
   telling-cell : (cells : List (Option Told)) (k : ℕ) → return_cell other cells k ≡ return_cell scenario cells k
   telling-cell cells k =

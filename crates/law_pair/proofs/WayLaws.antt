@@ -103,6 +103,7 @@ way-sound script other is =
         lag = (omega (arith, some), omega (arith, near));
         ticks = network.ticks;
         size = network.size;
+        options = network.options;
         fits_ring = network.fits_ring;
         fits_lag = let doubled : 16 + greatest script.config.delays + greatest_slip script.config.windows
             ≤ 16 * (2 * script.config.lag) = omega (arith, fits) in doubled;

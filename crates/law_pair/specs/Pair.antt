@@ -43,6 +43,7 @@ way_config script other = record {
   lag = 2 * script.config.lag;
   ticks = script.config.ticks;
   size = script.config.size;
+  options = script.config.options;
 }
 
 -- ---- what its packets tell

@@ -170,7 +170,7 @@ pub fn walk_law()
 pub fn link_law()
     ensures says { (script other : Script) (s : Counts) (k : ℕ) → IsWay script →
         IsWalked (way_of script other) s → 16 * k + 23 < s.rows →
-        told_by (return_at (popped_cells (way_of script other) s.lines) k)
+        told_by (return_at script.config.options (popped_cells (way_of script other) s.lines) k)
         ≡ telling_at (scenario_by (way_of other script)) (k + other.config.lag) }
     ensures reads { (script other : Script) (s : Counts) (k : ℕ) → IsWay other →
         IsWalked (way_of other script) s → k < packets_in script.config.ticks →

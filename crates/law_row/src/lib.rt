@@ -3,14 +3,15 @@
 //! definition of a session says. There is no code here. Begin at `row_law`; `return_law` is of return packets.
 #![tactic(auto)]
 
-ghost use Rattle.std.specs.Prelude.{◌≡◌, ℕ, ◌*◌, ◌≤◌, Bool, true, List, [], ◌∷◌, length, map, if◌then◌else◌, Option};
-ghost use Rattle.std.specs.Prelude.{Some, None};
+ghost use Rattle.std.specs.Prelude.{◌≡◌, ℕ, ◌*◌, ◌<◌, ◌≤◌, Bool, true, List, [], ◌∷◌, length, map, if◌then◌else◌};
+ghost use Rattle.std.specs.Prelude.{Option, Some, None};
 ghost use Rattle.std.specs.List.{list_all, range_with_len};
 ghost use Rattle.member_cells.specs.declared.containers_and_cells.BackCell.TheVariants.{Packet as Nibbles};
 ghost use Rattle.law_model.specs.Common.{Cell, Container, Eos, IsPacket, packet_nibbles, Scenario, Told, active};
-ghost use Rattle.law_model.specs.Common.{table_of, return_packet, told_by, told_in, active_of, row_at, return_at};
-ghost use Rattle.law_model.specs.Common.{carried_row, packets_from, is_whole_row, payload_of};
+ghost use Rattle.law_model.specs.Common.{cells_before, table_of, return_packet, told_by, told_in, active_of};
+ghost use Rattle.law_model.specs.Common.{row_at, return_at, carried_row, packets_from, is_whole_row, payload_of};
 ghost use Rattle.law_model.specs.declared.control_packet.Packet.{Packet};
+ghost use Rattle.law_model.specs.declared.script_types.Options.{Options};
 ghost use Rattle.member_cells.specs.declared.control_word.Ctrl.TheVariants.{Add, Norm, Idle, Dnu};
 ghost use Rattle.law_row.specs.Received.{HasPackets, TellsRow, row_octets, AreDealt, IsDealtRow};
 ghost use Rattle.law_row.specs.Worked.{sent, active_read, all_but};
@@ -40,16 +41,20 @@ pub fn row_law()
 {}
 
 /// What the return packet that a sink makes of its cells tells the source, and what its nibbles tell, is what
-/// the definition of a session says.
+/// the definition of a session says: where the return cells that the source was told are the session's, one
+/// change bit stands for one count of changes, so that a line said last to the sink what it said last by the
+/// source's table.
 pub fn return_law()
-    ensures told { (scenario : Scenario) (returns : List (Option Told)) (cells : List (List Cell))
-        (k : ℕ) → HasPackets scenario returns cells k →
-        told_by (return_at cells k) ≡ return_packet scenario returns k }
-    ensures said { (scenario : Scenario) (returns : List (Option Told)) (cells : List (List Cell))
-        (k : ℕ) → HasPackets scenario returns cells k →
-        told_in (Nibbles (packet_nibbles (return_at cells k)))
-        ≡ Some (return_packet scenario returns k) }
-    ensures packet { (cells : List (List Cell)) (k : ℕ) → IsPacket (return_at cells k) }
+    ensures told { (scenario : Scenario) (n k : ℕ) (cells : List (List Cell)) → 0 < scenario.lag →
+        HasPackets scenario (cells_before scenario n) cells k →
+        told_by (return_at scenario.options cells k)
+        ≡ return_packet scenario (cells_before scenario n) k }
+    ensures said { (scenario : Scenario) (n k : ℕ) (cells : List (List Cell)) → 0 < scenario.lag →
+        HasPackets scenario (cells_before scenario n) cells k →
+        told_in (Nibbles (packet_nibbles (return_at scenario.options cells k)))
+        ≡ Some (return_packet scenario (cells_before scenario n) k) }
+    ensures packet { (options : Options) (cells : List (List Cell)) (k : ℕ) →
+        IsPacket (return_at options cells k) }
     ensures wire { (packet : Packet) → IsPacket packet →
         told_in (Nibbles (packet_nibbles packet)) ≡ Some (told_by packet) }
 {}

@@ -9,7 +9,7 @@ use Rattle.std.proofs.lemmas.List.Sorted.{IsNonDecreasingBy-short, IsNonDecreasi
 use Rattle.law_model.specs.Common.{idle, are_whole, slip_of, slip_after, frame_dues, command_dues, Scenario}
 use Rattle.law_model.specs.Common.{scenario_by, frames_at, IsWithin, HasFailures, IsItem, IsNetwork, IsSound}
 use Rattle.law_model.specs.Common.{said_before, cells_before, size, Stream, reaching, place_of, stream_before, width}
-use Rattle.law_model.specs.Common.{after, keep, none_kept, admit, turned, take_out, exchange}
+use Rattle.law_model.specs.Common.{is_up, last_read, after, keep, none_kept, admit, turned, take_out, exchange}
 use Rattle.law_model.specs.declared.script_types.Item.{Item}
 use Rattle.law_model.specs.declared.window_types.Window.{Window}
 use Rattle.law_model.specs.declared.script_types.ItemKind.TheVariants.{Frame, Add}
@@ -114,15 +114,16 @@ abbrev scenario : Scenario
 scenario = scenario_by full_leg
 
 full-begins : stream_before scenario (session_of full_leg) 40 ≡ record { pieces = idle ∷ idle ∷ []; waiting = [] }
-unfolding carried are_whole after keep none_kept cells_before said_before exchange take_out turned admit stream_before
-    reaching place_of
+unfolding carried are_whole after keep none_kept cells_before said_before exchange take_out turned admit is_up
+    last_read stream_before reaching place_of
 full-begins = refl
 
 abbrev wide : ℕ → ℕ
 wide t = width scenario (session_of full_leg) t
 
 full-widths : (wide 40 ≡ 1) × (wide 41 ≡ 1) × (wide 42 ≡ 1)
-unfolding carried are_whole after keep none_kept cells_before said_before exchange take_out turned admit
+unfolding carried are_whole after keep none_kept cells_before said_before exchange take_out turned admit is_up
+    last_read
 full-widths = (refl, refl, refl)
 
 abbrev Carries : ℕ → Type 0
@@ -190,6 +191,7 @@ twin-sound =
         lag = network.lag;
         ticks = network.ticks;
         size = network.size;
+        options = network.options;
         fits_ring = omega arith;
         fits_lag = omega arith;
       };
@@ -227,6 +229,7 @@ timed-sound =
         lag = network.lag;
         ticks = network.ticks;
         size = network.size;
+        options = network.options;
         fits_ring = omega arith;
         fits_lag = omega arith;
       };

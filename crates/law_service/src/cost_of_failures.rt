@@ -3,51 +3,56 @@
 //! in numbers alone. `settled_law` says when no change is made, `met_law` shows a leg that meets what is asked,
 //! and `worked_law` that the bounds are reached.
 
-ghost use Rattle.std.specs.Prelude.{◌≡◌, ◌↔◌, ℕ, ◌+◌, ◌-◌, ◌*◌, ◌/◌, ◌%◌, ◌<◌, ◌≤◌, min, true, false, Some, slice_get};
+ghost use Rattle.std.specs.Prelude.{◌≡◌, ◌↔◌, ℕ, ◌+◌, ◌-◌, ◌*◌, ◌/◌, ◌<◌, ◌≤◌, min, true, false, Some, slice_get};
 ghost use Rattle.std.specs.Prelude.{[], ◌∷◌};
-ghost use Rattle.law_model.specs.Common.{Leg, IsSound, scenario_by, is_read, member_of, table_of, is_whole_row};
+ghost use Rattle.law_model.specs.Common.{Leg, IsSound, scenario_by, is_line_up, member_of, table_of, is_whole_row};
 ghost use Rattle.law_model.specs.declared.window_types.Window.{Window};
 ghost use Rattle.law_model.specs.declared.lcas_states.Standing.TheVariants.{Add, Norm};
 ghost use Rattle.law_session.specs.Feedback.{lines_of};
-ghost use Rattle.law_session.specs.Use.{IsInUse};
+ghost use Rattle.law_session.specs.Use.{IsInUse, known_by};
 ghost use Rattle.law_walk.specs.Common.{session_of, whole_rows};
 ghost use Rattle.law_service.specs.cost_of_failures.Cost.{windows_of, StaysClear, FailsBy, FailsOnce, IsSpared};
-ghost use Rattle.law_service.specs.cost_of_failures.Cost.{IsSparedFor, cost_end, FailTogether, first_hit};
+ghost use Rattle.law_service.specs.cost_of_failures.Cost.{IsSparedFor, SaysOf, round_rows, cost_end};
+ghost use Rattle.law_service.specs.cost_of_failures.Cost.{FailTogether, first_hit};
 ghost use Rattle.law_service.specs.cost_of_failures.Cost.{governing_table, table_at, HasSq, Spoils, IsSpoiled};
 ghost use Rattle.law_service.specs.cost_of_failures.Cost.{spoiled_rows};
 ghost use Rattle.law_service.specs.cost_of_failures.Closed.{WereUsed, IsHit};
 ghost use Rattle.law_service.specs.cost_of_failures.Settled.{IsSettled, MakesNoChange};
-ghost use Rattle.law_service.specs.cost_of_failures.Worked.{costly_leg, used_in_rows};
+ghost use Rattle.law_service.specs.cost_of_failures.Worked.{costly_leg, dearest_leg, used_in_rows};
 
 /// Which rows failures cost, if each line fails once at most and one line doesn't fail: however long a line
-/// is down, none but the 256 rows and the lag from its begin on; and if it is down shortly, none beyond 39
-/// rows after its end. So much it costs if lines fail together. A line that has an SQ carries payload again
-/// 279 ticks and the lag after its end, and each other line 256 and the lag after the begin.
+/// fails, none but those of a round of statuses, of the lag and of the hold-off from its begin on; and if it
+/// fails shortly, none beyond 39 rows after its end. So much it costs if lines fail together. A line that has an
+/// SQ carries payload again 23 ticks, a round of statuses, the lag and the restore after its end, and each other
+/// line a round, the lag and the restore after the begin.
 pub fn cost_law()
     ensures rows { (leg : Leg) (from horizon t : ℕ) → IsSound leg → FailsOnce leg from horizon →
         ((line : ℕ) (window : Window) → FailsBy (windows_of leg line) window from horizon →
-        IsSpared leg.config.lag window t) → from ≤ t → t < horizon →
+        IsSpared leg window t) → from ≤ t → t < horizon →
         is_whole_row (scenario_by leg) (session_of leg) t ≡ true }
     ensures together { (leg : Leg) (begins ends horizon t : ℕ) → IsSound leg →
-        FailTogether leg begins ends horizon → cost_end leg.config.lag begins ends ≤ t → t < horizon →
+        FailTogether leg begins ends horizon → cost_end leg begins ends ≤ t → t < horizon →
         is_whole_row (scenario_by leg) (session_of leg) t ≡ true }
     ensures bill { (leg : Leg) (begins ends horizon count : ℕ) → IsSound leg →
         FailTogether leg begins ends horizon → begins + count ≤ horizon →
-        spoiled_rows leg begins count ≤ min (ends + 39 - begins) (256 + 16 * leg.config.lag) }
+        spoiled_rows leg begins count
+        ≤ min (ends + 39 - begins) (round_rows leg leg.config.options.holdoff) }
     ensures back { (leg : Leg) (from horizon line t : ℕ) (window : Window) → IsSound leg →
         FailsOnce leg from horizon → FailsBy (windows_of leg line) window from horizon →
-        HasSq (table_at leg from) line → window.end + 279 + 16 * leg.config.lag ≤ t → t < horizon →
+        HasSq (table_at leg from) line →
+        window.end + 23 + round_rows leg leg.config.options.restore ≤ t → t < horizon →
         IsInUse (governing_table leg t) line }
     ensures others { (leg : Leg) (from horizon line t : ℕ) → IsSound leg → FailsOnce leg from horizon →
         StaysClear (windows_of leg line) from horizon →
-        HasSq (table_at leg from) line → from + 256 + 16 * leg.config.lag ≤ t → t < horizon →
+        HasSq (table_at leg from) line →
+        from + round_rows leg leg.config.options.restore ≤ t → t < horizon →
         IsInUse (governing_table leg t) line }
 {}
 
 /// The same exactly. A row isn't whole just if a line that carries payload in it fails and spoils it; a
-/// failure spoils no row once the source was told of it; and a line carries payload just if it was read in
-/// the last packet that says a status of its SQ and that was taken. So a failure that no such packet sees
-/// takes nothing of the capacity.
+/// failure spoils no row once the source was told of it; and a line carries payload just if it was up at the
+/// last packet that says a status of its SQ and that was taken. So a failure that no such packet sees, or that
+/// is held, takes nothing of the capacity.
 pub fn exact_law()
     ensures spoiled { (leg : Leg) (from horizon t : ℕ) → IsSound leg → FailsOnce leg from horizon →
         24 ≤ t → from ≤ t → t < horizon →
@@ -55,21 +60,20 @@ pub fn exact_law()
     ensures told { (leg : Leg) (from horizon t : ℕ) → IsSound leg → FailsOnce leg from horizon →
         ((line sq : ℕ) (window : Window) → FailsBy (windows_of leg line) window from horizon →
         slice_get (lines_of (table_at leg from).order) sq ≡ Some line →
-        IsSparedFor leg.config.lag sq window t) → from ≤ t → t < horizon →
+        IsSparedFor leg sq window t) → from ≤ t → t < horizon →
         is_whole_row (scenario_by leg) (session_of leg) t ≡ true }
     ensures stands { (leg : Leg) (from horizon sq line j k : ℕ) → IsSound leg →
         FailsOnce leg from horizon → slice_get (lines_of (table_at leg from).order) sq ≡ Some line →
         (slice_get (table_at leg from).order sq ≡ Some (member_of line Add) →
-        first_hit from + 15 + leg.config.lag ≤ j) →
-        first_hit from ≤ k → k % 16 ≡ sq / 8 → k + leg.config.lag ≤ j → j < k + 16 + leg.config.lag →
-        16 * j + 24 < horizon →
+        known_by (scenario_by leg) (first_hit from) ≤ j) →
+        first_hit from ≤ k → SaysOf leg sq k → k + leg.config.lag ≤ j →
+        j < k + leg.config.options.statuses + leg.config.lag → 16 * j + 24 < horizon →
         (slice_get (table_of (scenario_by leg) (session_of leg) j).order sq ≡ Some (member_of line Norm))
-        ↔ (is_read (scenario_by leg) line k ≡ true) }
+        ↔ (is_line_up (scenario_by leg) line k ≡ true) }
     ensures unnoticed { (leg : Leg) (from horizon sq line t : ℕ) → IsSound leg →
         FailsOnce leg from horizon → slice_get (lines_of (table_at leg from).order) sq ≡ Some line →
-        ((k : ℕ) → first_hit from ≤ k → 16 * (k + leg.config.lag) + 24 < horizon → k % 16 ≡ sq / 8 →
-        is_read (scenario_by leg) line k ≡ true) →
-        from + 256 + 16 * leg.config.lag ≤ t → t < horizon →
+        ((k : ℕ) → first_hit from ≤ k → 16 * (k + leg.config.lag) + 24 < horizon → SaysOf leg sq k →
+        is_line_up (scenario_by leg) line k ≡ true) → from + round_rows leg 0 ≤ t → t < horizon →
         slice_get (governing_table leg t).order sq ≡ Some (member_of line Norm) }
 {}
 
@@ -111,11 +115,17 @@ pub fn met_law()
 {}
 
 /// That leg, computed: neither number can be less. Rows 536 to 823 aren't whole, and the line carries payload
-/// again from row 1336 on.
+/// again from row 1336 on. And so with timers: rows 488 to 823 aren't whole, of which 48 are those of the
+/// hold-off, and the line carries payload again 391 rows after its end, of which 80 are those of the restore.
 pub fn worked_law()
-    ensures rows { cost_end 2 536 1025 ≡ 824 }
+    ensures rows { cost_end costly_leg 536 1025 ≡ 824 }
     ensures spoiled { whole_rows costly_leg (535 ∷ 536 ∷ 823 ∷ 824 ∷ [])
         ≡ true ∷ false ∷ false ∷ true ∷ [] }
     ensures used { used_in_rows costly_leg (823 ∷ 824 ∷ 1335 ∷ 1336 ∷ [])
+        ≡ (0 ∷ 1 ∷ []) ∷ (0 ∷ []) ∷ (0 ∷ []) ∷ (0 ∷ 1 ∷ []) ∷ [] }
+    ensures timed_rows { cost_end dearest_leg 488 945 ≡ 824 }
+    ensures timed_spoiled { whole_rows dearest_leg (487 ∷ 488 ∷ 823 ∷ 824 ∷ [])
+        ≡ true ∷ false ∷ false ∷ true ∷ [] }
+    ensures timed_used { used_in_rows dearest_leg (823 ∷ 824 ∷ 1335 ∷ 1336 ∷ [])
         ≡ (0 ∷ 1 ∷ []) ∷ (0 ∷ []) ∷ (0 ∷ []) ∷ (0 ∷ 1 ∷ []) ∷ [] }
 {}

@@ -1,20 +1,22 @@
 -- How soon a line that was added is in use.
-use Rattle.std.proofs.Common.{◌≡◌, ℕ, suc, ◌+◌, ◌-◌, ◌%◌, ◌<◌, ◌≤◌, Bool, true, false, if◌then◌else◌, inl, List, []}
+use Rattle.std.proofs.Common.{◌≡◌, ℕ, suc, ◌+◌, ◌-◌, ◌<◌, ◌≤◌, Bool, true, false, if◌then◌else◌, inl, List, []}
 use Rattle.std.proofs.Common.{◌∷◌, length, Option, Some, None, slice_index_or, refl, ◌∙◌, ap, arith}
 use Rattle.std.proofs.lemmas.Option.{none-some, same_Some}
 use Rattle.law_model.proofs.ListLaws.{slice_get-append_seam}
 use Rattle.law_model.specs.Common.{Scenario, member_of, Table, Told, carried_out, Source, change_by, change, cell_at}
-use Rattle.law_model.specs.Common.{source_at, told_at, first_of, table_of, return_packet, cells_before}
+use Rattle.law_model.specs.Common.{IsStatuses, group_of, source_at, told_at, first_of, table_of, return_packet}
+use Rattle.law_model.specs.Common.{cells_before}
 use Rattle.law_model.specs.declared.lcas_states.Command.{Command}
 use Rattle.law_model.specs.declared.lcas_states.Command.TheVariants.{Add as add}
 use Rattle.law_model.specs.declared.lcas_states.Standing.TheVariants.{Add as adding}
 use Rattle.law_model.specs.source.Source.{carried}
-use Rattle.law_session.specs.Use.{IsAdded, IsUsedBefore, AddsAlone, AllCome, AllRead}
+use Rattle.law_session.specs.Use.{IsAdded, IsUsedBefore, AddsAlone, AllCome, AllSeen, known_by}
 use Rattle.law_session.specs.Feedback.{table_before}
 use Rattle.law_session.proofs.TableLaws.{heard-count}
 use Rattle.law_session.proofs.SessionLaws.{session-cell, session-law}
 use Rattle.law_session.proofs.StatusLaws.{none_kept-at}
 use Rattle.law_session.proofs.DamageLaws.{some_heard}
+use Rattle.law_session.proofs.PlanLaws.{line-inside}
 use Rattle.law_session.proofs.UseLaws.{IsFair, Waits, told_at-table, after-change, used_by}
 
 -- ---- the table of a step that carries out a command
@@ -46,7 +48,7 @@ table_of-carried scenario cells j command e =
 pub told_at-count : (scenario : Scenario) (cells : List (Option Told)) (j : ℕ) →
     (told_at scenario cells j).count ≡ (table_before scenario cells j).count
 told_at-count scenario cells j = ap (λ table. table.count) (told_at-table scenario cells j)
-    ∙ heard-count ((j - scenario.lag) % 16) (cell_at scenario cells j) (table_before scenario cells j)
+    ∙ heard-count (group_of scenario (j - scenario.lag)) (cell_at scenario cells j) (table_before scenario cells j)
 
 -- ---- what comes back in a session
 pub cell-comes : (scenario : Scenario) (n first count k : ℕ) → 0 < scenario.lag → first + count ≤ n →
@@ -73,31 +75,37 @@ Waits-added scenario cells good first line lag e =
       tells = λ s l k low h from near group. absurd (omega arith);
     }
 
-IsFair-session : (scenario : Scenario) (n first sq line : ℕ) → 0 < scenario.lag → line < length scenario.windows →
-    sq < 128 → first + 16 ≤ n →
+IsFair-session : (scenario : Scenario) (n first sq line : ℕ) → 0 < scenario.lag →
+    IsStatuses scenario.options.statuses → line < length scenario.windows → sq < 128 →
+    first + scenario.options.statuses ≤ n →
     (table_before scenario (cells_before scenario n) first).count <
     (table_of scenario (cells_before scenario n) first).count →
-    AllCome scenario first 16 → AllRead scenario line first 16 →
-    ((other : ℕ) → IsAdded (table_of scenario (cells_before scenario n) first) other → AllRead scenario other first 16)
-    → IsFair scenario (cells_before scenario n) (λ line. true) first sq
-IsFair-session scenario n first sq line lag known small whole rose come here read = record {
+    AllCome scenario first scenario.options.statuses → AllSeen scenario line first scenario.options.statuses →
+    ((other : ℕ) → IsAdded (table_of scenario (cells_before scenario n) first) other →
+    AllSeen scenario other first scenario.options.statuses) →
+    IsFair scenario (cells_before scenario n) (λ line. true) first sq
+IsFair-session scenario n first sq line lag statuses known small whole rose come here read = record {
   lag = lag;
+  statuses = statuses;
   session = session-law scenario n lag;
   rose = rose;
-  comes = λ k from near. cell-comes scenario n first 16 k lag whole come from near;
-  hears = λ k from near. some_heard scenario.windows line k known (here k from near);
-  reads = λ s other k low has from near. read other (s, has) k from near;
+  comes = λ k from near. cell-comes scenario n first scenario.options.statuses k lag whole come from near;
+  hears = λ k from near. some_heard scenario.windows line k known (here k from near).0;
+  inside = λ s other has. line-inside scenario (cells_before scenario n) (suc first) s other has;
+  reads = λ s other k low has from near. (read other (s, has) k from near).0;
+  ups = λ s other k low has from near right. (read other (s, has) k from near).1;
   small = small;
 }
 
-pub added : (scenario : Scenario) (n first line : ℕ) → 0 < scenario.lag → line < length scenario.windows →
-    first + 16 ≤ n →
+pub added : (scenario : Scenario) (n first line : ℕ) → 0 < scenario.lag → IsStatuses scenario.options.statuses →
+    first + scenario.options.statuses ≤ n →
     length (told_at scenario (cells_before scenario n) first).order < 128 →
-    AddsAlone scenario (cells_before scenario n) line first (first + 15 + scenario.lag) → AllCome scenario first 16 →
-    ((other : ℕ) → IsAdded (table_of scenario (cells_before scenario n) first) other → AllRead scenario other first 16)
-    →
-    IsUsedBefore scenario (cells_before scenario n) line first (first + 16 + scenario.lag)
-added scenario n first line lag known whole small alone come read =
+    AddsAlone scenario (cells_before scenario n) line first (known_by scenario first) →
+    AllCome scenario first scenario.options.statuses →
+    ((other : ℕ) → IsAdded (table_of scenario (cells_before scenario n) first) other →
+    AllSeen scenario other first scenario.options.statuses) →
+    IsUsedBefore scenario (cells_before scenario n) line first (known_by scenario first + 1)
+added scenario n first line lag statuses whole small alone come read =
     let cells = cells_before scenario n in
     let table = told_at scenario cells first in
     let after : table_of scenario cells first ≡ carried_out (add line) table =
@@ -105,7 +113,8 @@ added scenario n first line lag known whole small alone come read =
     let count = ap (λ t. t.count) after in
     let before = told_at-count scenario cells first in
     let waits = Waits-added scenario cells (λ line. true) first line lag alone.added in
-    let fair = IsFair-session scenario n first (length table.order) line lag known small whole (omega arith) come
-    (read line (length table.order, waits.here)) read in
+    let known = line-inside scenario cells (suc first) (length table.order) line waits.here in
+    let fair = IsFair-session scenario n first (length table.order) line lag statuses known small whole (omega arith)
+    come (read line (length table.order, waits.here)) read in
     used_by scenario cells (λ line. true) first first (length table.order) line fair (λ s l low h. refl) alone.alone
     (omega arith) waits

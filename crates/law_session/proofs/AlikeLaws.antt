@@ -18,6 +18,7 @@ pub record Alike (one : Scenario) (a : List (Option Told)) (other : Scenario) (b
   pub lines : length one.windows ≡ length other.windows
   pub lag : one.lag ≡ other.lag
   pub size : one.size ≡ other.size
+  pub statuses : one.options.statuses ≡ other.options.statuses
   pub orders : (j : ℕ) → j < steps_in t → orders_at one j ≡ orders_at other j
   pub cells : (j : ℕ) → j < steps_in t → cell_at one a j ≡ cell_at other b j
   pub offers : (u : ℕ) → u < t → frames_at one u ≡ frames_at other u
@@ -29,6 +30,7 @@ Alike-sooner one a other b i t sooner alike = record {
   lines = alike.lines;
   lag = alike.lag;
   size = alike.size;
+  statuses = alike.statuses;
   orders = λ j low. alike.orders j (omega arith);
   cells = λ j low. alike.cells j (omega arith);
   offers = λ u low. alike.offers u (omega arith);
@@ -44,15 +46,17 @@ alike-after one a other b t (suc j) alike low =
     let before = alike-after one a other b t j alike (omega arith) in
     let cell = alike.cells j (omega arith) in
     let orders = alike.orders j (omega arith) in
-    ap (λ lag. decide ((j - lag) % 16) (cell_at one a j)
+    ap (λ lag. decide ((j - lag) % one.options.statuses) (cell_at one a j)
     (asked_all (length one.windows) (orders_at one j) (after one a j))) alike.lag
-    ∙ ap (λ told. decide ((j - other.lag) % 16) told (asked_all (length one.windows) (orders_at one j) (after one a j)))
-    cell
-    ∙ ap (λ n. decide ((j - other.lag) % 16) (cell_at other b j) (asked_all n (orders_at one j) (after one a j)))
-    alike.lines
-    ∙ ap (λ orders. decide ((j - other.lag) % 16) (cell_at other b j)
+    ∙ ap (λ statuses. decide ((j - other.lag) % statuses) (cell_at one a j)
+    (asked_all (length one.windows) (orders_at one j) (after one a j))) alike.statuses
+    ∙ ap (λ told. decide ((j - other.lag) % other.options.statuses) told
+    (asked_all (length one.windows) (orders_at one j) (after one a j))) cell
+    ∙ ap (λ n. decide ((j - other.lag) % other.options.statuses) (cell_at other b j)
+    (asked_all n (orders_at one j) (after one a j))) alike.lines
+    ∙ ap (λ orders. decide ((j - other.lag) % other.options.statuses) (cell_at other b j)
     (asked_all (length other.windows) orders (after one a j))) orders
-    ∙ ap (λ source. decide ((j - other.lag) % 16) (cell_at other b j)
+    ∙ ap (λ source. decide ((j - other.lag) % other.options.statuses) (cell_at other b j)
     (asked_all (length other.windows) (orders_at other j) source)) before
 
 pub alike-tables : (one : Scenario) (a : List (Option Told)) (other : Scenario) (b : List (Option Told)) (t : ℕ) →

@@ -8,7 +8,7 @@ use Rattle.law_model.specs.Common.{Scenario, orders_at, is_heard, Table, Told, S
 use Rattle.law_model.specs.Common.{refusal, after, cell_at, table_of, said_before, said, return_packet}
 use Rattle.law_model.specs.declared.lcas_states.Command.{Command}
 use Rattle.law_model.specs.declared.item_refusals.CommandFault.{CommandFault}
-use Rattle.law_session.specs.Feedback.{lines_of, table_before}
+use Rattle.law_session.specs.Feedback.{HaveOneChg, lines_of, table_before}
 use Rattle.law_session.proofs.TableLaws.{Goes, Goes-decide, confirmed, confirmed_by}
 
 -- a command that is asked for changes nothing of the table
@@ -33,7 +33,7 @@ step scenario cells j =
     let source = asked_all (length scenario.windows) (orders_at scenario j) (after scenario cells j) in
     subst (λ table. Goes table (table_before scenario cells (suc j)) (confirmed_by (cell_at scenario cells j) table))
     (asked_all-table (length scenario.windows) (orders_at scenario j) (after scenario cells j))
-    (Goes-decide ((j - scenario.lag) % 16) (cell_at scenario cells j) source)
+    (Goes-decide ((j - scenario.lag) % scenario.options.statuses) (cell_at scenario cells j) source)
 
 -- the count never falls, and the order of the lines stays as long as it stays
 pub rises : (scenario : Scenario) (cells : List (Option Told)) (j i : ℕ) →
@@ -85,7 +85,7 @@ said-rises_one scenario cells k =
       | false ↦ omega arith
     ]
 
-said-rises : (scenario : Scenario) (cells : List (Option Told)) (k i : ℕ) →
+pub said-rises : (scenario : Scenario) (cells : List (Option Told)) (k i : ℕ) →
     said_before scenario cells k ≤ said_before scenario cells (i + k)
 said-rises scenario cells k zero = let e : zero + k ≡ k = omega arith in rw e (omega arith)
 said-rises scenario cells k (suc i) =
@@ -160,9 +160,10 @@ opening-known : (scenario : Scenario) (cells : List (Option Told)) (n : ℕ) →
 unfolding after
 opening-known scenario cells n = omega arith
 
--- what is acknowledged in the table before step j is said by each return packet that step j or a later one takes
+-- what is acknowledged in the table before step j is said by each return packet that the step before it or a later one
+-- takes
 pub known : (scenario : Scenario) (cells : List (Option Told)) → IsSession scenario cells → 0 < scenario.lag →
-    (j k : ℕ) → j ≤ k + scenario.lag → confirmed (table_before scenario cells j) ≤ said scenario cells k
+    (j k : ℕ) → j ≤ suc (k + scenario.lag) → confirmed (table_before scenario cells j) ≤ said scenario cells k
 known scenario cells session lag zero k near = opening-known scenario cells (said scenario cells k)
 known scenario cells session lag (suc j) k near =
     let table = table_before scenario cells j in
@@ -210,3 +211,65 @@ pub same_lines : (scenario : Scenario) (cells : List (Option Told)) → 0 < scen
     said scenario cells k ≡ (table_before scenario cells j).count →
     lines_of (table_before scenario cells j).order ≡ lines_of (table_of scenario cells k).order
 same_lines scenario cells lag j k same whole = same_lines_since scenario cells j k (omega arith) whole
+
+-- ---- what is heard with one change bit is of one count
+pub said-heard : (scenario : Scenario) (cells : List (Option Told)) (k : ℕ) → is_heard scenario k ≡ true →
+    said scenario cells k ≡ (table_of scenario cells k).count
+unfolding said_before
+said-heard scenario cells k e = rw e refl
+
+said-unheard : (scenario : Scenario) (cells : List (Option Told)) (k : ℕ) → is_heard scenario (suc k) ≡ false →
+    said scenario cells (suc k) ≡ said scenario cells k
+unfolding said_before
+said-unheard scenario cells k e = rw e refl
+
+-- a packet that is heard has the count that is said before it, or a count of the other parity
+said-next : (scenario : Scenario) (cells : List (Option Told)) → IsSession scenario cells → 0 < scenario.lag → (k : ℕ) →
+    is_heard scenario (suc k) ≡ true → (table_of scenario cells (suc k)).count % 2 ≡ said scenario cells k % 2 →
+    said scenario cells (suc k) ≡ said scenario cells k
+said-next scenario cells session lag k heard same =
+    let here = said-heard scenario cells (suc k) heard in
+    let low = said-rises_one scenario cells (suc k) in
+    let known_there = known scenario cells session lag (suc (suc k)) k (omega arith) in
+    let least = confirmed-least (table_of scenario cells (suc k)) in
+    omega arith
+
+one-said : (scenario : Scenario) (cells : List (Option Told)) → IsSession scenario cells → 0 < scenario.lag →
+    (from i : ℕ) → is_heard scenario from ≡ true → HaveOneChg scenario cells from (i + from) →
+    said scenario cells (i + from) ≡ (table_of scenario cells from).count
+one-said scenario cells session lag from zero heard same =
+    let e : zero + from ≡ from = omega arith in rw e (said-heard scenario cells from heard)
+one-said scenario cells session lag from (suc i) heard same =
+    let e : suc i + from ≡ suc (i + from) = omega arith in
+    let before = one-said scenario cells session lag from i heard (λ j low high. same j low (omega arith)) in
+    rw e (elim (is_heard scenario (suc (i + from))) as (λ b. is_heard scenario (suc (i + from)) ≡ b →
+    said scenario cells (suc (i + from)) ≡ (table_of scenario cells from).count) [
+      | true ↦ λ here.
+          let bit = same (suc (i + from)) (omega arith) (omega arith) here in
+          said-next scenario cells session lag (i + from) here (bit ∙ ap (λ n. n % 2) (sym before)) ∙ before
+      | false ↦ λ here. said-unheard scenario cells (i + from) here ∙ before
+    ] refl)
+
+-- the count of a packet that is heard is said from there on
+heard-said : (scenario : Scenario) (cells : List (Option Told)) (j k : ℕ) → j ≤ k → is_heard scenario j ≡ true →
+    (table_of scenario cells j).count ≤ said scenario cells k
+heard-said scenario cells j k low heard =
+    let here = said-heard scenario cells j heard in
+    let e : k - j + suc j ≡ suc k = omega arith in
+    let later : said scenario cells j ≤ said scenario cells k = rw e at (said-rises scenario cells (suc j) (k - j)) in
+    omega arith
+
+pub one_count : (scenario : Scenario) (cells : List (Option Told)) → IsSession scenario cells → 0 < scenario.lag →
+    (from k : ℕ) → from ≤ k → is_heard scenario from ≡ true →
+    HaveOneChg scenario cells from k ↔ ((table_of scenario cells from).count ≡ said scenario cells k)
+one_count scenario cells session lag from k low heard =
+    let e : k - from + from ≡ k = omega arith in (
+      λ one. sym (rw e at (one-said scenario cells session lag from (k - from) heard (rw e one))),
+      λ same j late high there.
+          let place : j - from + suc from ≡ suc j = omega arith in
+          let rose : (table_of scenario cells from).count ≤ (table_of scenario cells j).count =
+          rw place at (rises scenario cells (suc from) (j - from)) in
+          let most = heard-said scenario cells j k high there in
+          let count : (table_of scenario cells j).count ≡ (table_of scenario cells from).count = omega arith in
+          ap (λ n. n % 2) count,
+    )

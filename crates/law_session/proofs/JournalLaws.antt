@@ -54,7 +54,7 @@ after-journal scenario cells offers n zero low = refl
 after-journal scenario cells offers n (suc j) low =
     let lines = length scenario.windows in
     let orders = orders_before scenario cells n in
-    ap (λ source. decide ((j - scenario.lag) % 16) (cell_at scenario cells j) source)
+    ap (λ source. decide ((j - scenario.lag) % scenario.options.statuses) (cell_at scenario cells j) source)
     (ap (λ source. asked_all lines (orders_at (with_items scenario orders offers) j) source)
     (after-journal scenario cells offers n j (omega arith))
     ∙ ap (λ found. asked_all lines (map (λ (order : DueCommand). order.command) found) (after scenario cells j))

@@ -6,13 +6,14 @@ use Rattle.std.proofs.Common.{subst, arith, eqb-true}
 use Rattle.std.proofs.lemmas.Option.{same_Some}
 use Rattle.law_model.specs.Common.{Scenario, is_lost, kept_of, keep, Table, Told, acknowledged_by, heard, told_on}
 use Rattle.law_model.specs.Common.{exchange, exchanged, Source, change_by, change, after, cell_at, source_at, told_at}
-use Rattle.law_model.specs.Common.{said, status, return_packet}
+use Rattle.law_model.specs.Common.{group_of, table_of, said, status, return_packet}
 use Rattle.law_model.specs.declared.lcas_states.Command.{Command}
 use Rattle.law_model.specs.declared.lcas_states.Member.{Member}
 use Rattle.law_model.specs.declared.lcas_states.Command.TheVariants.{Add as add, Remove as remove}
-use Rattle.law_session.specs.Feedback.{WasSaid, table_before}
+use Rattle.law_session.specs.Feedback.{SpokeLast, WasSaid, lines_of, table_before}
 use Rattle.law_session.proofs.TableLaws.{heard-count}
-use Rattle.law_session.proofs.FeedbackLaws.{IsSession, known, says_count, cell-taken, same_lines_since}
+use Rattle.law_session.proofs.FeedbackLaws.{IsSession, stays, known, says_count, cell-taken, same_lines_since}
+use Rattle.law_session.proofs.WordLaws.{word-of, status-of}
 use Rattle.law_session.proofs.StatusLaws.{none_kept-some, inside-of_some, keep-size, keep-at}
 use Rattle.law_session.proofs.UseLaws.{heard_at, next-table, kept-is, told_at-table}
 
@@ -60,7 +61,7 @@ heard-kept : (scenario : Scenario) (cells : List (Option Told)) → IsSession sc
 unfolding heard_at
 heard-kept scenario cells session lag j sq ok before =
     let table = table_before scenario cells j in
-    let group = (j - scenario.lag) % 16 in
+    let group = (j - scenario.lag) % scenario.options.statuses in
     elim (cell_at scenario cells j)
     as (λ cell. cell_at scenario cells j ≡ cell → (kept_of (heard group cell table)) sq ≡ Some ok →
     Says scenario cells j sq ok) [
@@ -107,7 +108,7 @@ heard_at-count : (scenario : Scenario) (cells : List (Option Told)) (j : ℕ) �
     (heard_at scenario cells j).count ≡ (table_before scenario cells j).count
 unfolding heard_at
 heard_at-count scenario cells j =
-    heard-count ((j - scenario.lag) % 16) (cell_at scenario cells j) (table_before scenario cells j)
+    heard-count (group_of scenario (j - scenario.lag)) (cell_at scenario cells j) (table_before scenario cells j)
 
 opening-kept : (scenario : Scenario) (cells : List (Option Told)) (sq : ℕ) (ok : Bool) →
     (kept_of (table_before scenario cells zero)) sq ≡ Some ok → ⊥
@@ -138,6 +139,28 @@ told_at-kept : (scenario : Scenario) (cells : List (Option Told)) (j sq : ℕ) �
 unfolding heard_at
 told_at-kept scenario cells j sq = ap (λ t. (kept_of t) sq) (told_at-table scenario cells j)
 
+-- a line that has OK still has the SQ that it said last
+spoke-last : (scenario : Scenario) (cells : List (Option Told)) (j k sq : ℕ) → k < j →
+    said scenario cells k ≡ (table_before scenario cells j).count → status scenario cells k sq ≡ true →
+    SpokeLast scenario cells j k sq
+spoke-last scenario cells j k sq before whole ok =
+    let found = status-of scenario cells k sq ok in
+    let spoken = found.2 in
+    let word = word-of scenario cells found.0 k found.1 spoken.word in
+    let past = word.past in
+    let place : j - suc found.1 + suc found.1 ≡ j = omega arith in
+    let stay : (table_before scenario cells j).count ≡ (table_of scenario cells found.1).count →
+    lines_of (table_before scenario cells j).order ≡ lines_of (table_of scenario cells found.1).order =
+    rw place at (stays scenario cells (suc found.1) (j - suc found.1)) in
+    record {
+      line = found.0;
+      up = spoken.up;
+      last = found.1;
+      word = spoken.word;
+      had = spoken.had;
+      has = ap (λ lines. slice_get lines sq) (stay (sym (word.count ∙ whole))) ∙ spoken.had;
+    }
+
 -- the return cells of a session, of which those that came weren't lost
 pub acts_on : (scenario : Scenario) (cells : List (Option Told)) → IsSession scenario cells →
     ((k : ℕ) (told : Told) → slice_index_or cells k None ≡ Some told → is_lost scenario k ≡ false) → 0 < scenario.lag →
@@ -154,4 +177,6 @@ acts_on scenario cells session come lag j sq ok e =
       whole = says.whole;
       says = says.says;
       lines = same_lines_since scenario cells j says.packet (omega (arith, taken, lag)) says.whole;
+      spoke = λ good. spoke-last scenario cells j says.packet sq (omega (arith, taken, lag)) says.whole
+          (says.says ∙ good);
     }

@@ -1,5 +1,6 @@
 pub mod TableLaws
 pub mod FeedbackLaws
+pub mod WordLaws
 pub mod SessionLaws
 pub mod StatusLaws
 pub mod OrderLaws
@@ -15,3 +16,13 @@ pub mod LandingLaws
 pub mod ClientLaws
 pub mod JournalLaws
 pub mod AlikeLaws
+pub mod TimerUp
+pub mod TimerMembers
+pub mod TimerHeard
+pub mod TimerTurns
+pub mod TimerHeld
+pub mod TimerRounds
+pub mod TimerFalls
+pub mod TimerQuiet
+pub mod TimerRows
+pub mod TimerWindows

@@ -1,12 +1,13 @@
 -- How soon an added line is in use where the ADD lines before it can't be read: it is brought before them.
-use Rattle.std.proofs.Common.{◌≡◌, ◌⊎◌, ℕ, zero, suc, ◌+◌, ◌*◌, ◌<◌, ◌≤◌, ◌==◌, Bool, true, false, if◌then◌else◌, inl}
+use Rattle.std.proofs.Common.{◌≡◌, ◌⊎◌, ℕ, zero, suc, ◌+◌, ◌-◌, ◌<◌, ◌≤◌, ◌==◌, Bool, true, false, if◌then◌else◌, inl}
 use Rattle.std.proofs.Common.{inr, List, [], ◌∷◌, length, Option, Some, None, refl, sym, ◌∙◌, ap, subst, arith}
 use Rattle.std.proofs.lemmas.Bool.Decides.{nat_tests}
 use Rattle.std.proofs.lemmas.Option.{slice_get_within}
 use Rattle.std.proofs.Math.Nat.{eq-or-lt_of_le}
 use Rattle.std.proofs.lemmas.List.{length-map, length-append}
 use Rattle.std.proofs.lemmas.Bool.{eqb-true, eqb-false}
-use Rattle.law_model.specs.Common.{Scenario, is_read, kept_of, member_of, Table, Told, is_ok, is_fail, admit, told_on}
+use Rattle.law_model.specs.Common.{IsStatuses, Scenario, is_read, is_line_up, kept_of, member_of, Table, Told, is_ok}
+use Rattle.law_model.specs.Common.{is_fail, admit, told_on}
 use Rattle.law_model.specs.Common.{carried_out, exchange, exchanged, Source, change_by, change, source_at, told_at}
 use Rattle.law_model.specs.Common.{first_of, table_of, cells_before}
 use Rattle.law_model.specs.declared.lcas_states.Command.{Command}
@@ -14,7 +15,7 @@ use Rattle.law_model.specs.declared.lcas_states.Member.{Member}
 use Rattle.law_model.specs.declared.lcas_states.Command.TheVariants.{Add as add}
 use Rattle.law_model.specs.declared.lcas_states.Standing.TheVariants.{Add as adding}
 use Rattle.law_model.specs.source.Source.{carried}
-use Rattle.law_session.specs.Use.{IsInUse, IsUsedBefore, AddsAlone, AllCome, AllRead, NoneRead}
+use Rattle.law_session.specs.Use.{IsInUse, IsUsedBefore, AddsAlone, AllCome, IsSeen, AllSeen, NoneRead, known_by}
 use Rattle.law_session.specs.Feedback.{lines_of, table_before}
 use Rattle.law_session.proofs.TableLaws.{told_on-lines}
 use Rattle.law_session.proofs.SessionLaws.{session-law}
@@ -23,8 +24,9 @@ use Rattle.law_session.proofs.OrderLaws.{Has, IsThere, Only, Leads, LeadsIn, Kno
 use Rattle.law_session.proofs.OrderLaws.{exchange-there_plain, turned-adding}
 use Rattle.law_session.proofs.UseLaws.{MaySay, IsFair, Waits, waiting, moving, using, Exchanges, Alone, lines-stay}
 use Rattle.law_session.proofs.UseLaws.{heard_at, Hears-step, next-table, next-carried, not_fail, told_on-adds, used_at}
-use Rattle.law_session.proofs.UseLaws.{Waits-next, step-on, known-last, used-longer, used-now, used_by}
+use Rattle.law_session.proofs.UseLaws.{Waits-next, step-on, known-last, used-longer, used-now, used_by, sixteen}
 use Rattle.law_session.proofs.DamageLaws.{some_heard}
+use Rattle.law_session.proofs.PlanLaws.{line-inside}
 use Rattle.law_session.proofs.AddLaws.{cell-comes, Waits-added, table_of-carried, told_at-count}
 
 -- the line alone is good
@@ -113,7 +115,7 @@ pub data Moves_on (scenario : Scenario) (cells : List (Option Told)) (first sq l
 told_on-ends : (scenario : Scenario) (cells : List (Option Told)) (first sq line i : ℕ) →
     IsFair scenario cells (is_line line) first sq → Ends (table_of scenario cells first).order sq →
     Waits scenario cells (is_line line) first sq line i (table_before scenario cells i) → first < i →
-    i < first + 16 + scenario.lag → Ends (told_on (heard_at scenario cells i)).order sq
+    i ≤ known_by scenario first → Ends (told_on (heard_at scenario cells i)).order sq
 told_on-ends scenario cells first sq line i fair ends waits from near =
     let hears = Hears-step scenario cells (is_line line) first sq line i fair waits near in
     Ends-lines (told_on (heard_at scenario cells i)).order (table_of scenario cells first).order sq
@@ -126,7 +128,7 @@ itself line = grind (arith, nat_tests)
 move-on : (scenario : Scenario) (cells : List (Option Told)) (first sq line i : ℕ) →
     IsFair scenario cells (is_line line) first sq → Ends (table_of scenario cells first).order sq →
     Waits scenario cells (is_line line) first sq line i (table_before scenario cells i) → first < i →
-    i < first + 16 + scenario.lag → carried scenario cells i ≡ None →
+    i ≤ known_by scenario first → carried scenario cells i ≡ None →
     Moves_on scenario cells first sq line i
 move-on scenario cells first sq line i fair ends waits from near none =
     elim (step-on scenario cells (is_line line) first sq line i fair (itself line) waits near none) [
@@ -146,10 +148,11 @@ known_either false kept e = inr (rw e refl)
 move-last : (scenario : Scenario) (cells : List (Option Told)) (first sq line i : ℕ) →
     IsFair scenario cells (is_line line) first sq → Ends (table_of scenario cells first).order sq →
     Waits scenario cells (is_line line) first sq line i (table_before scenario cells i) →
-    i ≡ first + 15 + scenario.lag → carried scenario cells i ≡ None →
+    i ≡ known_by scenario first → carried scenario cells i ≡ None →
     ((place : ℕ) × Starts scenario cells line i place) ⊎ IsInUse (table_of scenario cells i) line
 move-last scenario cells first sq line i fair ends waits at none =
     let lag = fair.lag in
+    let size = sixteen scenario.options.statuses fair.statuses in
     let table = heard_at scenario cells i in
     let hears = Hears-step scenario cells (is_line line) first sq line i fair waits (omega arith) in
     let has : Has table.order sq line adding = subst (λ order. Has order sq line adding) (sym hears.order) waits.here in
@@ -187,8 +190,8 @@ pub data Progress (scenario : Scenario) (cells : List (Option Told)) (first sq l
 
 progress-next : (scenario : Scenario) (cells : List (Option Told)) (first sq line i last : ℕ) →
     IsFair scenario cells (is_line line) first sq → Ends (table_of scenario cells first).order sq →
-    Alone scenario cells line first last → first + 15 + scenario.lag ≤ last → first < i →
-    i < first + 15 + scenario.lag → Progress scenario cells first sq line i →
+    Alone scenario cells line first last → known_by scenario first ≤ last → first < i →
+    i < known_by scenario first → Progress scenario cells first sq line i →
     Progress scenario cells first sq line (suc i)
 progress-next scenario cells first sq line i last fair ends alone far from near (is_used used) =
     is_used (used-longer scenario cells line first i (suc i) (omega arith) used)
@@ -209,9 +212,9 @@ progress-next scenario cells first sq line i last fair ends alone far from near 
 
 progress-many : (scenario : Scenario) (cells : List (Option Told)) (first sq line last : ℕ) →
     IsFair scenario cells (is_line line) first sq → Ends (table_of scenario cells first).order sq →
-    Alone scenario cells line first last → first + 15 + scenario.lag ≤ last →
+    Alone scenario cells line first last → known_by scenario first ≤ last →
     Waits scenario cells (is_line line) first sq line (suc first) (table_of scenario cells first) →
-    (d : ℕ) → d < 15 + scenario.lag → Progress scenario cells first sq line (d + suc first)
+    (d : ℕ) → d + suc first ≤ known_by scenario first → Progress scenario cells first sq line (d + suc first)
 progress-many scenario cells first sq line last fair ends alone far waits zero near =
     let e : zero + suc first ≡ suc first = omega arith in rw e (is_still waits)
 progress-many scenario cells first sq line last fair ends alone far waits (suc d) near =
@@ -227,7 +230,7 @@ Brought scenario cells line first i = (start : ℕ) × (place : ℕ) × (first <
 
 progress-last : (scenario : Scenario) (cells : List (Option Told)) (first sq line i last : ℕ) →
     IsFair scenario cells (is_line line) first sq → Ends (table_of scenario cells first).order sq →
-    Alone scenario cells line first last → i ≤ last → i ≡ first + 15 + scenario.lag →
+    Alone scenario cells line first last → i ≤ last → i ≡ known_by scenario first →
     Progress scenario cells first sq line i →
     IsUsedBefore scenario cells line first (suc i) ⊎ Brought scenario cells line first (suc i)
 progress-last scenario cells first sq line i last fair ends alone far at (is_used used) =
@@ -236,6 +239,7 @@ progress-last scenario cells first sq line i last fair ends alone far at (is_beg
     inr (start, place, later, omega arith, starts)
 progress-last scenario cells first sq line i last fair ends alone far at (is_still waits) =
     let lag = fair.lag in
+    let size = sixteen scenario.options.statuses fair.statuses in
     elim (carried scenario cells i)
     as (λ c. carried scenario cells i ≡ c →
     IsUsedBefore scenario cells line first (suc i) ⊎ Brought scenario cells line first (suc i)) [
@@ -249,15 +253,14 @@ progress-last scenario cells first sq line i last fair ends alone far at (is_sti
     ] refl
 
 -- ---- from there on
-read_there : (scenario : Scenario) (order : List Member) (s l place line k : ℕ) → s ≤ place → Leads order place line →
-    Has order s l adding →
-    is_read scenario line k ≡ true → is_read scenario l k ≡ true
-read_there scenario order s l place line k low leads has read =
+seen_there : (scenario : Scenario) (order : List Member) (s l place line k : ℕ) → s ≤ place →
+    Leads order place line → Has order s l adding → IsSeen scenario line k → IsSeen scenario l k
+seen_there scenario order s l place line k low leads has seen =
     elim (eq-or-lt_of_le low) [
       | inl same ↦
           let there : Has order place l adding = subst (λ q. Has order q l adding) same has in
           let line_is : l ≡ line = Has-line (member_of l adding) line adding (sym there ∙ leads.here) in
-          rw line_is read
+          subst (λ m. IsSeen scenario m k) (sym line_is) seen
       | inr before ↦ absurd (leads.first s l before has)
     ]
 
@@ -269,68 +272,84 @@ reads_line scenario line l k read other =
       | false ↦ λ e. other (eqb-false l line e)
     ] refl
 
-after_start : (scenario : Scenario) (n first line start place : ℕ) → 0 < scenario.lag → line < length scenario.windows →
-    first + 31 + scenario.lag ≤ n →
+-- two rounds of statuses, and the lag
+abbrev pub rounds : Scenario → ℕ
+rounds scenario = known_by scenario scenario.options.statuses
+
+after_start : (scenario : Scenario) (n first line start place : ℕ) → 0 < scenario.lag →
+    IsStatuses scenario.options.statuses → line < length scenario.windows → first + rounds scenario ≤ n →
     ((j s l : ℕ) → Has (table_of scenario (cells_before scenario n) j).order s l adding → s < 128) →
-    Alone scenario (cells_before scenario n) line first (first + 30 + 2 * scenario.lag) →
-    AllCome scenario first (31 + scenario.lag) → AllRead scenario line first (31 + scenario.lag) →
-    first < start → start < first + 16 + scenario.lag → Starts scenario (cells_before scenario n) line start place →
-    IsUsedBefore scenario (cells_before scenario n) line first (first + 31 + 2 * scenario.lag)
-after_start scenario n first line start place lag known whole small alone come read later near starts =
+    Alone scenario (cells_before scenario n) line first (known_by scenario (known_by scenario first)) →
+    AllCome scenario first (rounds scenario) → AllSeen scenario line first (rounds scenario) →
+    first < start → start ≤ known_by scenario first → Starts scenario (cells_before scenario n) line start place →
+    IsUsedBefore scenario (cells_before scenario n) line first (known_by scenario (known_by scenario first) + 1)
+after_start scenario n first line start place lag statuses known whole small alone come seen later near starts =
     let cells = cells_before scenario n in
+    let size = sixteen scenario.options.statuses statuses in
     let fair : IsFair scenario cells (λ l. true) start place = record {
       lag = lag;
+      statuses = statuses;
       session = session-law scenario n lag;
       rose = starts.rose;
-      comes = λ k from close. cell-comes scenario n first (31 + scenario.lag) k lag (omega arith) come (omega arith)
+      comes = λ k from close. cell-comes scenario n first (rounds scenario) k lag whole come (omega arith)
           (omega arith);
-      hears = λ k from close. some_heard scenario.windows line k known (read k (omega arith) (omega arith));
-      reads = λ s l k low has from close. read_there scenario (table_of scenario cells start).order s l place line k low
-          starts.leads has (read k (omega arith) (omega arith));
+      hears = λ k from close. some_heard scenario.windows line k known (seen k (omega arith) (omega arith)).0;
+      inside = λ s l has. line-inside scenario cells (suc start) s l has;
+      reads = λ s l k low has from close. (seen_there scenario (table_of scenario cells start).order s l place line k
+          low starts.leads has (seen k (omega arith) (omega arith))).0;
+      ups = λ s l k low has from close right. (seen_there scenario (table_of scenario cells start).order s l place line
+          k low starts.leads has (seen k (omega arith) (omega arith))).1;
       small = small start place line starts.leads.here;
     } in
-    used-longer scenario cells line first (start + 16 + scenario.lag) (first + 31 + 2 * scenario.lag) (omega arith)
+    used-longer scenario cells line first (known_by scenario start + 1)
+    (known_by scenario (known_by scenario first) + 1) (omega arith)
     (used_by scenario cells (λ l. true) first start place line fair (λ s l low h. refl)
     (λ i command from close e. alone i command from (omega arith) e) (omega arith) starts.waits)
 
-pub brought : (scenario : Scenario) (n first line : ℕ) → 0 < scenario.lag → line < length scenario.windows →
-    first + 31 + scenario.lag ≤ n →
+pub brought : (scenario : Scenario) (n first line : ℕ) → 0 < scenario.lag →
+    IsStatuses scenario.options.statuses → first + rounds scenario ≤ n →
     ((j s l : ℕ) → Has (table_of scenario (cells_before scenario n) j).order s l adding → s < 128) →
-    AddsAlone scenario (cells_before scenario n) line first (first + 30 + 2 * scenario.lag) →
-    AllCome scenario first (31 + scenario.lag) → AllRead scenario line first (31 + scenario.lag) →
+    AddsAlone scenario (cells_before scenario n) line first (known_by scenario (known_by scenario first)) →
+    AllCome scenario first (rounds scenario) → AllSeen scenario line first (rounds scenario) →
     ((s l : ℕ) → Has (table_of scenario (cells_before scenario n) first).order s l adding → (l ≡ line → ⊥) →
-    NoneRead scenario l first 16) →
-    IsUsedBefore scenario (cells_before scenario n) line first (first + 31 + 2 * scenario.lag)
-brought scenario n first line lag known whole small adds come read others =
+    NoneRead scenario l first scenario.options.statuses) →
+    IsUsedBefore scenario (cells_before scenario n) line first (known_by scenario (known_by scenario first) + 1)
+brought scenario n first line lag statuses whole small adds come seen others =
     let cells = cells_before scenario n in
     let table = told_at scenario cells first in
     let sq = length table.order in
+    let size = sixteen scenario.options.statuses statuses in
     let after : table_of scenario cells first ≡ carried_out (add line) table =
     table_of-carried scenario cells first (add line) adds.added in
     let count = ap (λ t. t.count) after in
     let before = told_at-count scenario cells first in
     let waits = Waits-added scenario cells (is_line line) first line lag adds.added in
+    let known = line-inside scenario cells (suc first) sq line waits.here in
     let ends : Ends (table_of scenario cells first).order sq =
     rw after (length-append table.order (member_of line adding ∷ [])
     ∙ (let e : length table.order + 1 ≡ suc (length table.order) = omega arith in e)) in
     let fair : IsFair scenario cells (is_line line) first sq = record {
       lag = lag;
+      statuses = statuses;
       session = session-law scenario n lag;
       rose = omega arith;
-      comes = λ k from close. cell-comes scenario n first (31 + scenario.lag) k lag (omega arith) come from
-          (omega arith);
-      hears = λ k from close. some_heard scenario.windows line k known (read k from (omega arith));
-      reads = λ s l k low has from close. reads_line scenario line l k (read k from (omega arith))
+      comes = λ k from close. cell-comes scenario n first (rounds scenario) k lag whole come from (omega arith);
+      hears = λ k from close. some_heard scenario.windows line k known (seen k from (omega arith)).0;
+      inside = λ s l has. line-inside scenario cells (suc first) s l has;
+      reads = λ s l k low has from close. reads_line scenario line l k (seen k from (omega arith)).0
           (λ other. others s l has other k from close);
+      ups = λ s l k low has from close right.
+          subst (λ m. is_line_up scenario m k ≡ true) (sym (eqb-true l line right)) (seen k from (omega arith)).1;
       small = small first sq line waits.here;
     } in
-    let at : 14 + scenario.lag + suc first ≡ first + 15 + scenario.lag = omega arith in
-    let progress = progress-many scenario cells first sq line (first + 30 + 2 * scenario.lag) fair ends adds.alone
-    (omega arith) waits (14 + scenario.lag) (omega arith) in
-    elim (progress-last scenario cells first sq line (14 + scenario.lag + suc first)
-    (first + 30 + 2 * scenario.lag) fair ends adds.alone (omega arith) at progress) [
-      | inl used ↦ used-longer scenario cells line first (suc (14 + scenario.lag + suc first))
-          (first + 31 + 2 * scenario.lag) (omega arith) used
-      | inr there ↦ after_start scenario n first line there.0 there.1 lag known whole small adds.alone come read there.2
-          (omega (arith, there.3)) there.4
+    let last = known_by scenario (known_by scenario first) in
+    let d = known_by scenario first - suc first in
+    let at : d + suc first ≡ known_by scenario first = omega arith in
+    let progress = progress-many scenario cells first sq line last fair ends adds.alone (omega arith) waits d
+    (omega (arith, at)) in
+    elim (progress-last scenario cells first sq line (d + suc first) last fair ends adds.alone (omega (arith, at)) at
+    progress) [
+      | inl used ↦ used-longer scenario cells line first (suc (d + suc first)) (last + 1) (omega (arith, at)) used
+      | inr there ↦ after_start scenario n first line there.0 there.1 lag statuses known whole small adds.alone come
+          seen there.2 (omega (arith, there.3, at)) there.4
     ]

@@ -1,7 +1,7 @@
 -- No line stands twice in the order, and each is one of the session's: so the order is no longer than there are lines.
 use Rattle.std.proofs.Common.{◌≡◌, ℕ, zero, suc, ◌+◌, ◌-◌, ◌%◌, ◌<◌, ◌≤◌, ◌==◌, ◌&&◌, not, nat_le, Bool, true, false}
 use Rattle.std.proofs.Common.{if◌then◌else◌, inl, inr, List, [], ◌∷◌, ◌++◌, filter, length, Option, Some, None}
-use Rattle.std.proofs.Common.{option_map, slice_index_or, slice_set, refl, sym, ◌∙◌, ap, subst, arith}
+use Rattle.std.proofs.Common.{option_map, slice_get, slice_index_or, slice_set, refl, sym, ◌∙◌, ap, subst, arith}
 use Rattle.std.specs.Bool.{⊤}
 use Rattle.std.proofs.lemmas.Bool.{cases_lt, leb-false, eqb-true, eq-eqb, eqb-false}
 use Rattle.std.proofs.lemmas.List.{length-append, length-replicate, map-append, length-map, length-set, get_or-set_same}
@@ -13,14 +13,16 @@ use Rattle.law_model.specs.Common.{planned_of, accepted, line_of, refusal, asked
 use Rattle.law_model.specs.Common.{change, decide, cell_at, after}
 use Rattle.law_model.specs.declared.lcas_states.Command.{Command}
 use Rattle.law_model.specs.declared.item_refusals.CommandFault.{CommandFault}
-use Rattle.law_model.specs.declared.item_refusals.CommandFault.TheVariants.{UnknownLine, AlreadyIn, NotIn, TooManyPending}
+use Rattle.law_model.specs.declared.item_refusals.CommandFault.TheVariants.{UnknownLine, AlreadyIn, NotIn}
+use Rattle.law_model.specs.declared.item_refusals.CommandFault.TheVariants.{TooManyPending}
 use Rattle.law_model.specs.declared.lcas_states.Member.{Member}
 use Rattle.law_model.specs.declared.lcas_states.Command.TheVariants.{Add as add, Remove as remove}
 use Rattle.law_model.specs.declared.lcas_states.Standing.TheVariants.{Add as adding}
 use Rattle.law_model.specs.source.Source.{opening, is_add}
 use Rattle.law_session.specs.Feedback.{lines_of}
 use Rattle.law_session.proofs.TableLaws.{told_on-lines, heard-order}
-use Rattle.law_session.proofs.OrderLaws.{exchange_on}
+use Rattle.law_session.proofs.OrderLaws.{Has, exchange_on}
+use Rattle.std.proofs.lemmas.Option.{none-some, slice_get-map}
 
 -- how often a number stands in a list
 abbrev pub one : ℕ → ℕ → ℕ
@@ -458,7 +460,7 @@ pub Fits-after : (scenario : Scenario) (cells : List (Option Told)) (j : ℕ) �
 unfolding after
 Fits-after scenario cells zero = opening-fits (length scenario.windows)
 Fits-after scenario cells (suc j) =
-    Fits-decide (length scenario.windows) ((j - scenario.lag) % 16) (cell_at scenario cells j)
+    Fits-decide (length scenario.windows) ((j - scenario.lag) % scenario.options.statuses) (cell_at scenario cells j)
     (asked_all (length scenario.windows) (orders_at scenario j) (after scenario cells j))
     (Fits-asked_all (length scenario.windows) (orders_at scenario j) (after scenario cells j)
     (Fits-after scenario cells j))
@@ -487,3 +489,26 @@ pub order-length : (scenario : Scenario) (cells : List (Option Told)) (j : ℕ) 
     length (after scenario cells j).table.order ≤ length scenario.windows
 order-length scenario cells j =
     Fits-size (length scenario.windows) (after scenario cells j) (Fits-after scenario cells j)
+
+-- a line of the order is one of the session's
+pub times-some : (xs : List ℕ) (s x : ℕ) → slice_get xs s ≡ Some x → 1 ≤ times xs x
+times-some [] s x e = absurd (none-some x e)
+times-some (y ∷ xs) zero x e =
+    let same : y ≡ x = ap (λ o. elim o [ None ↦ y | Some z ↦ z ]) e in
+    let self = one-self x in
+    let first : one y x ≡ 1 = rw same self in
+    omega arith
+times-some (y ∷ xs) (suc s) x e = let rest = times-some xs s x e in omega arith
+
+pub line-inside : (scenario : Scenario) (cells : List (Option Told)) (j s line : ℕ) →
+    Has (after scenario cells j).table.order s line adding → line < length scenario.windows
+line-inside scenario cells j s line has =
+    let lines = lines_of (after scenario cells j).table.order in
+    let there : slice_get lines s ≡ Some line =
+    slice_get-map (λ member. member.line) (after scenario cells j).table.order s
+    ∙ ap (option_map (λ member. member.line)) has in
+    let some = times-some lines s line there in
+    elim (cases_lt line (length scenario.windows)) [
+      | inl low ↦ low
+      | inr high ↦ let none = (Fits-after scenario cells j).0.0 line high in absurd (omega arith)
+    ]

@@ -2,14 +2,18 @@
 -- or lost.
 use Rattle.std.proofs.Common.{◌≡◌, ℕ, zero, suc, ◌+◌, ◌-◌, ◌*◌, ◌%◌, ◌<◌, ◌≤◌, nat_le, true, false, if◌then◌else◌, inl}
 use Rattle.std.proofs.Common.{inr, List, [], ◌∷◌, ◌++◌, take, map, length, Option, Some, None, slice_get}
-use Rattle.std.proofs.Common.{slice_index_or, refl, sym, ◌∙◌, ap, arith}
+use Rattle.std.proofs.Common.{slice_index_or, refl, sym, ◌∙◌, ap, arith, ◌==◌, ◌&&◌, Bool}
+use Rattle.std.specs.List.{list_any, range_with_len}
+use Rattle.std.proofs.Math.Path.{fun_ext}
 use Rattle.std.proofs.lemmas.Bool.{cases_lt, leb-true}
 use Rattle.std.proofs.lemmas.List.{get_or_append_left, get_or_at, get_or_past, get_or-take, take_at, length-append}
 use Rattle.std.proofs.lemmas.List.{append_assoc, append-nil}
 use Rattle.std.proofs.lemmas.Option.{none-some, same_Some}
 use Rattle.law_model.specs.Common.{Scenario, orders_at, is_heard, is_lost, Told, asked_all, decide, after, cell_at}
-use Rattle.law_model.specs.Common.{table_of, said_before, status_by, return_packet, return_cell, cells_before}
+use Rattle.law_model.specs.Common.{table_of, said_before, said, is_line, is_line_up, is_read, last_read, word_by}
+use Rattle.law_model.specs.Common.{stands_at, status, group_of, return_packet, return_cell, cells_before}
 use Rattle.law_session.proofs.FeedbackLaws.{IsSession}
+use Rattle.law_session.proofs.WordLaws.{last-read}
 
 -- ---- steps that take the same cells
 abbrev pub Agree : Scenario → List (Option Told) → List (Option Told) → ℕ → Type 0
@@ -26,9 +30,9 @@ after-agree scenario a b zero agree = refl
 after-agree scenario a b (suc j) agree =
     let before = after-agree scenario a b j (Agree-sooner scenario a b j (suc j) (omega arith) agree) in
     let cell = agree j (omega arith) in
-    ap (λ source. decide ((j - scenario.lag) % 16) (cell_at scenario a j)
+    ap (λ source. decide ((j - scenario.lag) % scenario.options.statuses) (cell_at scenario a j)
     (asked_all (length scenario.windows) (orders_at scenario j) source)) before
-    ∙ ap (λ told. decide ((j - scenario.lag) % 16) told
+    ∙ ap (λ told. decide ((j - scenario.lag) % scenario.options.statuses) told
     (asked_all (length scenario.windows) (orders_at scenario j) (after scenario b j))) cell
 
 pub said_before-agree : (scenario : Scenario) (a b : List (Option Told)) (k : ℕ) → Agree scenario a b k →
@@ -41,18 +45,50 @@ said_before-agree scenario a b (suc k) agree =
     ap (λ source. if is_heard scenario k then source.table.count else said_before scenario a k) source
     ∙ ap (λ n. if is_heard scenario k then (table_of scenario b k).count else n) before
 
+-- what a line said last, and by it
+stands-same : (scenario : Scenario) (a b : List (Option Told)) (line sq count last : ℕ) →
+    table_of scenario a last ≡ table_of scenario b last →
+    stands_at scenario a line sq (word_by scenario a count (Some last))
+    ≡ stands_at scenario b line sq (word_by scenario b count (Some last))
+stands-same scenario a b line sq count last same =
+    elim ((table_of scenario a last).count == count)
+    as (λ c. stands_at scenario a line sq (if c then Some last else None)
+    ≡ stands_at scenario b line sq (if c then Some last else None)) [
+      | true ↦ ap (λ table. is_line line (slice_get table.order sq)) same
+      | false ↦ refl
+    ]
+    ∙ ap (λ table. stands_at scenario b line sq (if table.count == count then Some last else None)) same
+
+stands-agree : (scenario : Scenario) (a b : List (Option Told)) (line sq count k : ℕ) (found : Option ℕ) →
+    Agree scenario a b (suc k) → ((last : ℕ) → found ≡ Some last → last ≤ k) →
+    stands_at scenario a line sq (word_by scenario a count found)
+    ≡ stands_at scenario b line sq (word_by scenario b count found)
+stands-agree scenario a b line sq count k None agree past = refl
+stands-agree scenario a b line sq count k (Some last) agree past =
+    let within = past last refl in
+    stands-same scenario a b line sq count last (ap (λ source. source.table) (after-agree scenario a b (suc last)
+    (Agree-sooner scenario a b (suc last) (suc k) (omega arith) agree)))
+
+pub status-agree : (scenario : Scenario) (a b : List (Option Told)) (k sq : ℕ) → Agree scenario a b (suc k) →
+    status scenario a k sq ≡ status scenario b k sq
+status-agree scenario a b k sq agree =
+    ap (λ test. list_any test (range_with_len 0 (length scenario.windows))) (fun_ext (λ line.
+    ap (λ stands. is_line_up scenario line k && stands)
+    (stands-agree scenario a b line sq (said scenario a k) k (last_read (is_read scenario line) k) agree
+    (λ last e. (last-read (is_read scenario line) k last e).0)
+    ∙ ap (λ count. stands_at scenario b line sq (word_by scenario b count (last_read (is_read scenario line) k)))
+    (said_before-agree scenario a b (suc k) agree))))
+
 pub return_cell-agree : (scenario : Scenario) (a b : List (Option Told)) (k : ℕ) → Agree scenario a b (suc k) →
     return_cell scenario a k ≡ return_cell scenario b k
 return_cell-agree scenario a b k agree =
     let said = said_before-agree scenario a b (suc k) agree in
-    let source = after-agree scenario a b (suc k) agree in
     ap (λ n. if is_lost scenario k then None else Some
     (record { rs_ack = n % 2; oks = (return_packet scenario a k).oks })) said
-    ∙ ap (λ source. if is_lost scenario k then None else Some (record {
+    ∙ ap (λ (ok : ℕ → Bool). if is_lost scenario k then None else Some (record {
       rs_ack = said_before scenario b (suc k) % 2;
-      oks = map (λ i. status_by scenario k (slice_get source.table.order (8 * (k % 16) + i)))
-          (0 ∷ 1 ∷ 2 ∷ 3 ∷ 4 ∷ 5 ∷ 6 ∷ 7 ∷ []);
-    })) source
+      oks = map (λ i. ok (8 * group_of scenario k + i)) (0 ∷ 1 ∷ 2 ∷ 3 ∷ 4 ∷ 5 ∷ 6 ∷ 7 ∷ []);
+    })) (fun_ext (λ sq. status-agree scenario a b k sq agree))
 
 -- ---- longer lists of cells
 

@@ -7,7 +7,7 @@ use Rattle.std.proofs.lemmas.List.{length-replicate}
 use Rattle.law_model.proofs.ListLaws.{replicate-at}
 use Rattle.law_model.specs.Common.{Scenario, orders_at, Table, Told, kept_of, is_for, keep, none_kept, acknowledged_by}
 use Rattle.law_model.specs.Common.{heard, told_on, exchange, exchanged, Source, change_by, change, asked_all, cell_at}
-use Rattle.law_model.specs.Common.{after}
+use Rattle.law_model.specs.Common.{after, group_of}
 use Rattle.law_model.specs.declared.lcas_states.Command.{Command}
 use Rattle.law_model.specs.declared.lcas_states.Member.{Member}
 use Rattle.law_model.specs.declared.lcas_states.Command.TheVariants.{Add as add, Remove as remove}
@@ -88,6 +88,6 @@ full-after scenario cells zero = none_kept-size
 full-after scenario cells (suc j) =
     let source = asked_all (length scenario.windows) (orders_at scenario j) (after scenario cells j) in
     let same = asked_all-table (length scenario.windows) (orders_at scenario j) (after scenario cells j) in
-    full-change source (told_on (heard ((j - scenario.lag) % 16) (cell_at scenario cells j) source.table))
-    (full-heard ((j - scenario.lag) % 16) (cell_at scenario cells j) source.table
+    full-change source (told_on (heard (group_of scenario (j - scenario.lag)) (cell_at scenario cells j) source.table))
+    (full-heard (group_of scenario (j - scenario.lag)) (cell_at scenario cells j) source.table
     (subst IsFull (sym same) (full-after scenario cells j)))

@@ -1,21 +1,22 @@
 -- How soon an ADD line is in use.
 use Rattle.std.proofs.Common.{◌≡◌, ◌⊎◌, ℕ, zero, suc, ◌+◌, ◌-◌, ◌*◌, ◌/◌, ◌%◌, ◌<◌, ◌≤◌, ◌==◌, Bool, true, false}
 use Rattle.std.proofs.Common.{if◌then◌else◌, inl, inr, List, [], ◌∷◌, map, length, Option, Some, None, slice_get}
-use Rattle.std.proofs.Common.{slice_index_or, option_map, refl, sym, ◌∙◌, ap, subst, arith}
+use Rattle.std.proofs.Common.{slice_index_or, option_map, refl, sym, ◌∙◌, ap, subst, arith, true≢false}
 use Rattle.std.proofs.lemmas.Bool.{cases_lt, eqb-true, eq-eqb, eqb-false, le-leb}
-use Rattle.std.proofs.lemmas.Option.{none-some, slice_get-map}
+use Rattle.std.proofs.lemmas.Option.{none-some, same_Some, slice_get-map}
 use Rattle.law_model.specs.Common.{Scenario, orders_at, is_read, is_heard, kept_of, member_of, Table, Told, is_ok}
 use Rattle.law_model.specs.Common.{is_fail, is_for, acknowledged_by, heard, admit, told_on, changed, exchange}
 use Rattle.law_model.specs.Common.{exchanged, Source, change_by, change, after, cell_at, source_at, told_at, first_of}
-use Rattle.law_model.specs.Common.{table_of, said_before, said, status_by, status, return_packet}
+use Rattle.law_model.specs.Common.{IsStatuses, group_of, table_of, is_line_up, status, return_packet}
 use Rattle.law_model.specs.declared.lcas_states.Command.{Command}
 use Rattle.law_model.specs.declared.lcas_states.Member.{Member}
 use Rattle.law_model.specs.declared.lcas_states.Standing.TheVariants.{Add as adding, Norm as normal}
 use Rattle.law_model.specs.source.Source.{carried}
-use Rattle.law_session.specs.Use.{IsInUse, IsUsedBefore}
+use Rattle.law_session.specs.Use.{IsInUse, IsUsedBefore, known_by}
 use Rattle.law_session.specs.Feedback.{lines_of, table_before}
 use Rattle.law_session.proofs.FeedbackLaws.{IsSession, asked_all-table, rises, stays, said-count, known, says_count}
-use Rattle.law_session.proofs.FeedbackLaws.{cell-taken}
+use Rattle.law_session.proofs.FeedbackLaws.{cell-taken, said-heard}
+use Rattle.law_session.proofs.WordLaws.{word-of, word-here, status-from, status-none}
 use Rattle.law_session.proofs.StatusLaws.{keep-at, full-after}
 use Rattle.law_session.proofs.OrderLaws.{Has, IsIn, IsKept, Fine, Admitted, admit-adding, admit-adds, admit-all}
 use Rattle.law_session.proofs.OrderLaws.{turned-adding, turned-adds, turned-normal, exchange-none, exchange-keeps}
@@ -24,15 +25,24 @@ use Rattle.law_session.proofs.OrderLaws.{turned-adding, turned-adds, turned-norm
 abbrev pub MaySay : Bool → Option Bool → Type 0
 MaySay ok kept = (kept ≡ None) ⊎ (kept ≡ Some ok)
 
--- ---- a change that a step made, and what comes back of the sixteen packets from it on
+-- ---- a change that a step made, and what comes back of as many packets from it on as tell all statuses
+-- packet k is one of the round of statuses from packet first on
+abbrev pub InRound : Scenario → ℕ → ℕ → Type 0
+InRound scenario first k = k < first + scenario.options.statuses
+
 pub record IsFair (scenario : Scenario) (cells : List (Option Told)) (good : ℕ → Bool) (first sq : ℕ) : Type 0 where
   pub lag : 0 < scenario.lag
+  pub statuses : IsStatuses scenario.options.statuses
   pub session : IsSession scenario cells
   pub rose : (table_before scenario cells first).count < (table_of scenario cells first).count
-  pub comes : (k : ℕ) → first ≤ k → k < first + 16 → slice_index_or cells k None ≡ Some (return_packet scenario cells k)
-  pub hears : (k : ℕ) → first ≤ k → k < first + 16 → is_heard scenario k ≡ true
+  pub comes : (k : ℕ) → first ≤ k → InRound scenario first k →
+      slice_index_or cells k None ≡ Some (return_packet scenario cells k)
+  pub hears : (k : ℕ) → first ≤ k → InRound scenario first k → is_heard scenario k ≡ true
+  pub inside : (s line : ℕ) → Has (table_of scenario cells first).order s line adding → line < length scenario.windows
   pub reads : (s line k : ℕ) → s ≤ sq → Has (table_of scenario cells first).order s line adding → first ≤ k →
-      k < first + 16 → is_read scenario line k ≡ good line
+      InRound scenario first k → is_read scenario line k ≡ good line
+  pub ups : (s line k : ℕ) → s ≤ sq → Has (table_of scenario cells first).order s line adding → first ≤ k →
+      InRound scenario first k → good line ≡ true → is_line_up scenario line k ≡ true
   pub small : sq < 128
 
 -- an ADD line that waits to be used, in a table before step i
@@ -42,8 +52,8 @@ pub record Waits (scenario : Scenario) (cells : List (Option Told)) (good : ℕ 
   pub here : Has table.order sq line adding
   pub adds : (s l : ℕ) → s ≤ sq → Has table.order s l adding → Has (table_of scenario cells first).order s l adding
   pub fine : (s l : ℕ) → s ≤ sq → Has table.order s l adding → MaySay (good l) ((kept_of table) s)
-  pub tells : (s l k : ℕ) → s ≤ sq → Has table.order s l adding → first ≤ k → k + scenario.lag < i → s / 8 ≡ k % 16 →
-      (kept_of table) s ≡ Some (good l)
+  pub tells : (s l k : ℕ) → s ≤ sq → Has table.order s l adding → first ≤ k → k + scenario.lag < i →
+      s / 8 ≡ group_of scenario k → (kept_of table) s ≡ Some (good l)
 
 -- the same once the return packet of step i is heard
 pub record Hears (scenario : Scenario) (cells : List (Option Told)) (good : ℕ → Bool) (first sq line i : ℕ)
@@ -53,7 +63,7 @@ pub record Hears (scenario : Scenario) (cells : List (Option Told)) (good : ℕ 
   pub acknowledged : first + scenario.lag ≤ i → heard.acknowledged ≡ true
   pub fine : (s l : ℕ) → s ≤ sq → Has table.order s l adding → MaySay (good l) ((kept_of heard) s)
   pub tells : (s l k : ℕ) → s ≤ sq → Has table.order s l adding → first ≤ k → k + scenario.lag < suc i →
-      s / 8 ≡ k % 16 → (kept_of heard) s ≡ Some (good l)
+      s / 8 ≡ group_of scenario k → (kept_of heard) s ≡ Some (good l)
 
 -- ---- a return packet of before the change isn't for it
 not_for : (scenario : Scenario) (cells : List (Option Told)) (good : ℕ → Bool) (first sq line i : ℕ) →
@@ -97,10 +107,10 @@ Hears-early : (scenario : Scenario) (cells : List (Option Told)) (good : ℕ →
     IsFair scenario cells good first sq →
     Waits scenario cells good first sq line i (table_before scenario cells i) → i < first + scenario.lag →
     Hears scenario cells good first sq line i (table_before scenario cells i)
-    (heard ((i - scenario.lag) % 16) (cell_at scenario cells i) (table_before scenario cells i))
+    (heard ((i - scenario.lag) % scenario.options.statuses) (cell_at scenario cells i) (table_before scenario cells i))
 Hears-early scenario cells good first sq line i fair waits early =
     subst (Hears scenario cells good first sq line i (table_before scenario cells i))
-    (sym (heard-not ((i - scenario.lag) % 16) (cell_at scenario cells i) (table_before scenario cells i)
+    (sym (heard-not (group_of scenario (i - scenario.lag)) (cell_at scenario cells i) (table_before scenario cells i)
     (not_for scenario cells good first sq line i fair waits early)))
     (record {
       count = refl;
@@ -122,28 +132,16 @@ slice_get-eight f (suc (suc (suc (suc (suc (suc zero)))))) h = refl
 slice_get-eight f (suc (suc (suc (suc (suc (suc (suc zero))))))) h = refl
 slice_get-eight f (suc (suc (suc (suc (suc (suc (suc (suc r)))))))) h = absurd (omega arith)
 
--- the line that has an SQ has it in each order of the same lines
+-- the member of an order that has a line
 pub found_line : (found : Option Member) (line : ℕ) → option_map (λ member. member.line) found ≡ Some line →
     (member : Member) × (found ≡ Some member) × (member.line ≡ line)
 found_line None line e = absurd (none-some line e)
 found_line (Some member) line e = (member, refl, ap (λ o. elim o [ None ↦ 0 | Some l ↦ l ]) e)
 
-same_line : (a b : List Member) (s line : ℕ) → lines_of a ≡ lines_of b → Has a s line adding → (member : Member) ×
-    (slice_get b s ≡ Some member) × (member.line ≡ line)
-same_line a b s line same has =
-    found_line (slice_get b s) line
-    (sym (slice_get-map (λ member. member.line) b s) ∙ sym (ap (λ lines. slice_get lines s) same)
-    ∙ slice_get-map (λ member. member.line) a s ∙ ap (option_map (λ member. member.line)) has)
-
 pub cell_at-taken : (scenario : Scenario) (cells : List (Option Told)) (i : ℕ) (told : Told) → scenario.lag ≤ i →
     slice_index_or cells (i - scenario.lag) None ≡ Some told →
     cell_at scenario cells i ≡ Some told
 cell_at-taken scenario cells i told low is = rw (le-leb scenario.lag i low) is
-
-pub said-heard : (scenario : Scenario) (cells : List (Option Told)) (k : ℕ) → is_heard scenario k ≡ true →
-    said scenario cells k ≡ (table_of scenario cells k).count
-unfolding said_before
-said-heard scenario cells k e = rw e refl
 
 -- the count stays the same from the change on
 count-stays : (scenario : Scenario) (cells : List (Option Told)) (first i k : ℕ) → first ≤ k → k < i →
@@ -169,32 +167,91 @@ lines-stay scenario cells first i k from before same =
     rw place_on at (stays scenario cells (suc k) (i - suc k)) in
     stay (sym count)
 
--- the status of an ADD line that is read
+-- the line that has an SQ had it in each packet since the change
+line-there : (scenario : Scenario) (cells : List (Option Told)) (first i k s l : ℕ) → first ≤ k → k < i →
+    (table_before scenario cells i).count ≡ (table_of scenario cells first).count →
+    Has (table_before scenario cells i).order s l adding →
+    slice_get (lines_of (table_of scenario cells k).order) s ≡ Some l
+line-there scenario cells first i k s l from before same has =
+    sym (ap (λ lines. slice_get lines s) (lines-stay scenario cells first i k from before same))
+    ∙ slice_get-map (λ member. member.line) (table_before scenario cells i).order s
+    ∙ ap (option_map (λ member. member.line)) has
+
+-- a packet of the count of the change isn't older than it
+since-change : (scenario : Scenario) (cells : List (Option Told)) (first last : ℕ) →
+    (table_before scenario cells first).count < (table_of scenario cells first).count →
+    (table_of scenario cells last).count ≡ (table_of scenario cells first).count → first ≤ last
+since-change scenario cells first last rose same =
+    elim (cases_lt last first) [
+      | inl older ↦
+          let place : first - suc last + suc last ≡ first = omega arith in
+          let low : (table_of scenario cells last).count ≤ (table_before scenario cells first).count =
+          rw place at (rises scenario cells (suc last) (first - suc last)) in
+          absurd (omega arith)
+      | inr since ↦ since
+    ]
+
+-- the status of an ADD line: OK where it is up and can be read, FAIL where it can't be read since the change
+status-ok : (scenario : Scenario) (cells : List (Option Told)) (good : ℕ → Bool) (first sq line i k s l : ℕ) →
+    IsFair scenario cells good first sq →
+    Waits scenario cells good first sq line i (table_before scenario cells i) → first ≤ k → k < i →
+    InRound scenario first k → s ≤ sq → Has (table_before scenario cells i).order s l adding → good l ≡ true →
+    status scenario cells k s ≡ true
+status-ok scenario cells good first sq line i k s l fair waits from before near low has right =
+    let there = waits.adds s l low has in
+    let inside = fair.inside s l there in
+    status-from scenario cells k s l k (record {
+      inside = inside;
+      up = fair.ups s l k low there from near right;
+      word = word-here scenario cells l k inside (fair.reads s l k low there from near ∙ right);
+      had = line-there scenario cells first i k s l from before waits.count has;
+    })
+
+status-fail : (scenario : Scenario) (cells : List (Option Told)) (good : ℕ → Bool) (first sq line i k s l : ℕ) →
+    IsFair scenario cells good first sq →
+    Waits scenario cells good first sq line i (table_before scenario cells i) → first ≤ k → k < i →
+    InRound scenario first k → s ≤ sq → Has (table_before scenario cells i).order s l adding → good l ≡ false →
+    status scenario cells k s ≡ false
+status-fail scenario cells good first sq line i k s l fair waits from before near low has wrong =
+    status-none scenario cells k s (λ m last spoken.
+    let word = word-of scenario cells m k last spoken.word in
+    let past = word.past in
+    let heard = said-heard scenario cells k (fair.hears k from near) in
+    let stays = count-stays scenario cells first i k from before waits.count in
+    let count : (table_of scenario cells last).count ≡ (table_of scenario cells first).count =
+    word.count ∙ heard ∙ stays ∙ waits.count in
+    let since = since-change scenario cells first last fair.rose count in
+    let had = line-there scenario cells first i last s l since (omega arith) waits.count has in
+    let same : m ≡ l = same_Some m l (sym spoken.had ∙ had) in
+    let read : is_read scenario l last ≡ true = subst (λ n. is_read scenario n last ≡ true) same word.read in
+    let unread = fair.reads s l last low (waits.adds s l low has) since (omega arith) in
+    true≢false (sym read ∙ unread ∙ wrong))
+
 status-is : (scenario : Scenario) (cells : List (Option Told)) (good : ℕ → Bool) (first sq line i k s l : ℕ) →
     IsFair scenario cells good first sq →
-    Waits scenario cells good first sq line i (table_before scenario cells i) → first ≤ k → k < i → k < first + 16 →
-    s ≤ sq → Has (table_before scenario cells i).order s l adding →
+    Waits scenario cells good first sq line i (table_before scenario cells i) → first ≤ k → k < i →
+    InRound scenario first k → s ≤ sq → Has (table_before scenario cells i).order s l adding →
     status scenario cells k s ≡ good l
 status-is scenario cells good first sq line i k s l fair waits from before near low has =
-    let found = same_line (table_before scenario cells i).order (table_of scenario cells k).order s l
-    (lines-stay scenario cells first i k from before waits.count) has in
-    ap (status_by scenario k) found.1 ∙ ap (λ m. is_read scenario m k) found.2
-    ∙ fair.reads s l k low (waits.adds s l low has) from near
+    elim (good l) as (λ b. good l ≡ b → status scenario cells k s ≡ b) [
+      | true ↦ status-ok scenario cells good first sq line i k s l fair waits from before near low has
+      | false ↦ status-fail scenario cells good first sq line i k s l fair waits from before near low has
+    ] refl
 
-pub kept-is : (scenario : Scenario) (cells : List (Option Told)) (good : Bool) (k s : ℕ) → s / 8 ≡ k % 16 →
+pub kept-is : (scenario : Scenario) (cells : List (Option Told)) (good : Bool) (k s : ℕ) → s / 8 ≡ group_of scenario k →
     status scenario cells k s ≡ good →
     slice_get (return_packet scenario cells k).oks (s % 8) ≡ Some good
 kept-is scenario cells good k s group ok =
-    let place : 8 * (k % 16) + s % 8 ≡ s = omega arith in
-    slice_get-eight (λ r. status scenario cells k (8 * (k % 16) + r)) (s % 8) (omega arith)
+    let place : 8 * group_of scenario k + s % 8 ≡ s = omega arith in
+    slice_get-eight (λ r. status scenario cells k (8 * group_of scenario k + r)) (s % 8) (omega arith)
     ∙ ap (λ n. Some (status scenario cells k n)) place ∙ ap Some ok
 
 Hears-packet : (scenario : Scenario) (cells : List (Option Told)) (good : ℕ → Bool) (first sq line i k : ℕ) →
     IsFair scenario cells good first sq →
     Waits scenario cells good first sq line i (table_before scenario cells i) → first ≤ k → i ≡ k + scenario.lag →
-    k < first + 16 →
+    InRound scenario first k →
     Hears scenario cells good first sq line i (table_before scenario cells i)
-    (acknowledged_by (k % 16) (Some (return_packet scenario cells k)) (table_before scenario cells i))
+    (acknowledged_by (group_of scenario k) (Some (return_packet scenario cells k)) (table_before scenario cells i))
 Hears-packet scenario cells good first sq line i k fair waits from at near =
     let lag = fair.lag in
     let kept = (kept_of (table_before scenario cells i)) in
@@ -206,25 +263,26 @@ Hears-packet scenario cells good first sq line i k fair waits from at near =
       order = refl;
       acknowledged = λ late. refl;
       fine = λ s l low has.
-          subst (MaySay (good l)) (sym (keep-at (k % 16) oks (table_before scenario cells i).statuses s (omega arith)))
-          (elim (s / 8 == k % 16) as (λ b. (s / 8 == k % 16) ≡ b →
+          subst (MaySay (good l))
+          (sym (keep-at (group_of scenario k) oks (table_before scenario cells i).statuses s (omega arith)))
+          (elim (s / 8 == group_of scenario k) as (λ b. (s / 8 == group_of scenario k) ≡ b →
           MaySay (good l) (if b then slice_get oks (s % 8) else kept s)) [
-            | true ↦ λ e. inr (kept-is scenario cells (good l) k s (eqb-true (s / 8) (k % 16) e)
+            | true ↦ λ e. inr (kept-is scenario cells (good l) k s (eqb-true (s / 8) (group_of scenario k) e)
                 (status-is scenario cells good first sq line i k s l fair waits from (omega arith) near low has))
             | false ↦ λ e. waits.fine s l low has
           ] refl);
       tells = λ s l n low has start done group.
-          keep-at (k % 16) oks (table_before scenario cells i).statuses s (omega arith)
-          ∙ elim (s / 8 == k % 16) as (λ b. (s / 8 == k % 16) ≡ b →
+          keep-at (group_of scenario k) oks (table_before scenario cells i).statuses s (omega arith)
+          ∙ elim (s / 8 == group_of scenario k) as (λ b. (s / 8 == group_of scenario k) ≡ b →
           (if b then slice_get oks (s % 8) else kept s) ≡ Some (good l)) [
-            | true ↦ λ e. kept-is scenario cells (good l) k s (eqb-true (s / 8) (k % 16) e)
+            | true ↦ λ e. kept-is scenario cells (good l) k s (eqb-true (s / 8) (group_of scenario k) e)
                 (status-is scenario cells good first sq line i k s l fair waits from (omega arith) near low has)
             | false ↦ λ e.
                 elim (cases_lt (n + scenario.lag) i) [
                   | inl before ↦ waits.tells s l n low has start before group
                   | inr last ↦
                       let same : n ≡ k = omega arith in
-                      absurd (eqb-false (s / 8) (k % 16) e (group ∙ ap (λ m. m % 16) same))
+                      absurd (eqb-false (s / 8) (group_of scenario k) e (group ∙ ap (group_of scenario) same))
                 ]
           ] refl;
     }
@@ -232,30 +290,31 @@ Hears-packet scenario cells good first sq line i k fair waits from at near =
 Hears-later : (scenario : Scenario) (cells : List (Option Told)) (good : ℕ → Bool) (first sq line i : ℕ) →
     IsFair scenario cells good first sq →
     Waits scenario cells good first sq line i (table_before scenario cells i) → first + scenario.lag ≤ i →
-    i < first + 16 + scenario.lag →
+    i ≤ known_by scenario first →
     Hears scenario cells good first sq line i (table_before scenario cells i)
-    (heard ((i - scenario.lag) % 16) (cell_at scenario cells i) (table_before scenario cells i))
+    (heard ((i - scenario.lag) % scenario.options.statuses) (cell_at scenario cells i) (table_before scenario cells i))
 Hears-later scenario cells good first sq line i fair waits late near =
     let k = i - scenario.lag in
     let at : i ≡ k + scenario.lag = omega (arith, late) in
     let from : first ≤ k = omega (arith, late) in
     let lag = fair.lag in
-    let close : k < first + 16 = omega (arith, late, near) in
+    let close : InRound scenario first k = omega (arith, late, near) in
     let cell = cell_at-taken scenario cells i (return_packet scenario cells k) (omega (arith, late))
     (fair.comes k from close) in
     let count = said-heard scenario cells k (fair.hears k from close)
     ∙ count-stays scenario cells first i k from (omega (arith, at, lag)) waits.count in
     let for_it : is_for (table_before scenario cells i).count (Some (return_packet scenario cells k)) ≡ true =
     eq-eqb _ _ (ap (λ n. n % 2) count) in
-    rw cell (rw (heard-for (k % 16) (Some (return_packet scenario cells k)) (table_before scenario cells i) for_it)
+    rw cell (rw (heard-for (group_of scenario k) (Some (return_packet scenario cells k)) (table_before scenario cells i)
+    for_it)
     (Hears-packet scenario cells good first sq line i k fair waits from at close))
 
 -- ---- the table when step i comes to a change
 pub told_at-table : (scenario : Scenario) (cells : List (Option Told)) (i : ℕ) →
     told_at scenario cells i ≡ told_on
-    (heard ((i - scenario.lag) % 16) (cell_at scenario cells i) (table_before scenario cells i))
+    (heard ((i - scenario.lag) % scenario.options.statuses) (cell_at scenario cells i) (table_before scenario cells i))
 told_at-table scenario cells i =
-    ap (λ table. told_on (heard ((i - scenario.lag) % 16) (cell_at scenario cells i) table))
+    ap (λ table. told_on (heard ((i - scenario.lag) % scenario.options.statuses) (cell_at scenario cells i) table))
     (asked_all-table (length scenario.windows) (orders_at scenario i) (after scenario cells i))
 
 pub after-change : (scenario : Scenario) (cells : List (Option Told)) (i : ℕ) →
@@ -318,11 +377,12 @@ told_on-all table sq line fine ok has =
 
 -- the table in which step i has heard its return packet
 unfoldable pub heard_at : Scenario → List (Option Told) → ℕ → Table
-heard_at scenario cells i = heard ((i - scenario.lag) % 16) (cell_at scenario cells i) (table_before scenario cells i)
+heard_at scenario cells i =
+    heard (group_of scenario (i - scenario.lag)) (cell_at scenario cells i) (table_before scenario cells i)
 
 pub Hears-step : (scenario : Scenario) (cells : List (Option Told)) (good : ℕ → Bool) (first sq line i : ℕ) →
     IsFair scenario cells good first sq →
-    Waits scenario cells good first sq line i (table_before scenario cells i) → i < first + 16 + scenario.lag →
+    Waits scenario cells good first sq line i (table_before scenario cells i) → i ≤ known_by scenario first →
     Hears scenario cells good first sq line i (table_before scenario cells i) (heard_at scenario cells i)
 unfolding heard_at
 Hears-step scenario cells good first sq line i fair waits near =
@@ -411,7 +471,7 @@ used_at scenario cells sq line i none used =
 
 pub step-on : (scenario : Scenario) (cells : List (Option Told)) (good : ℕ → Bool) (first sq line i : ℕ) →
     IsFair scenario cells good first sq → good line ≡ true →
-    Waits scenario cells good first sq line i (table_before scenario cells i) → i < first + 16 + scenario.lag →
+    Waits scenario cells good first sq line i (table_before scenario cells i) → i ≤ known_by scenario first →
     carried scenario cells i ≡ None →
     Goes_on scenario cells good first sq line i
 step-on scenario cells good first sq line i fair right waits near none =
@@ -446,24 +506,46 @@ no_exchange scenario cells good first sq line i table after all waits moves =
     in
     none-some moves.order (sym none ∙ moves.found)
 
+-- each group of statuses is told in a round
+pub sixteen : (statuses : ℕ) → IsStatuses statuses → 16 ≤ statuses
+sixteen statuses (inl short) = omega arith
+sixteen statuses (inr long) = omega arith
+
+pub in_round : (statuses first group : ℕ) → IsStatuses statuses → group < 16 →
+    (k : ℕ) × (first ≤ k) × (k < first + statuses) × (group ≡ k % statuses)
+in_round statuses first group (inl short) low = rw short (
+  first + (group + 16 - first % 16) % 16,
+  omega arith,
+  omega arith,
+  omega arith,
+)
+in_round statuses first group (inr long) low = rw long (
+  first + (group + 32 - first % 32) % 32,
+  omega arith,
+  omega arith,
+  omega arith,
+)
+
 -- the last step: each status is known
 pub known-last : (scenario : Scenario) (cells : List (Option Told)) (good : ℕ → Bool) (first sq line i s l : ℕ) →
     IsFair scenario cells good first sq →
-    Waits scenario cells good first sq line i (table_before scenario cells i) → i ≡ first + 15 + scenario.lag →
+    Waits scenario cells good first sq line i (table_before scenario cells i) → i ≡ known_by scenario first →
     s ≤ sq → Has (table_before scenario cells i).order s l adding →
     (kept_of (heard_at scenario cells i)) s ≡ Some (good l)
 known-last scenario cells good first sq line i s l fair waits at low h =
+    let size = sixteen scenario.options.statuses fair.statuses in
     let hears = Hears-step scenario cells good first sq line i fair waits (omega arith) in
     let small = fair.small in
-    let k = first + (s / 8 + 16 - first % 16) % 16 in
-    hears.tells s l k low h (omega arith) (omega arith) (omega arith)
+    let round = in_round scenario.options.statuses first (s / 8) fair.statuses (omega arith) in
+    hears.tells s l round.0 low h round.1 (omega (arith, round.2)) round.3
 
 step-last : (scenario : Scenario) (cells : List (Option Told)) (good : ℕ → Bool) (first sq line i : ℕ) →
     IsFair scenario cells good first sq → AllGood scenario cells good first sq →
-    Waits scenario cells good first sq line i (table_before scenario cells i) → i ≡ first + 15 + scenario.lag →
+    Waits scenario cells good first sq line i (table_before scenario cells i) → i ≡ known_by scenario first →
     carried scenario cells i ≡ None →
     IsInUse (table_of scenario cells i) line
 step-last scenario cells good first sq line i fair all waits at none =
+    let size = sixteen scenario.options.statuses fair.statuses in
     let table = heard_at scenario cells i in
     let hears = Hears-step scenario cells good first sq line i fair waits (omega arith) in
     let has : Has table.order sq line adding = subst (λ order. Has order sq line adding) (sym hears.order) waits.here in
@@ -498,8 +580,8 @@ used-now scenario cells line since i from now = record { packet = i; from = from
 
 state-next : (scenario : Scenario) (cells : List (Option Told)) (good : ℕ → Bool) (since first sq line i : ℕ) →
     IsFair scenario cells good first sq → AllGood scenario cells good first sq →
-    Alone scenario cells line since (first + 15 + scenario.lag) → since ≤ first → first < i →
-    i < first + 15 + scenario.lag →
+    Alone scenario cells line since (known_by scenario first) → since ≤ first → first < i →
+    i < known_by scenario first →
     State scenario cells good since first sq line i → State scenario cells good since first sq line (suc i)
 state-next scenario cells good since first sq line i fair all alone start from near (inr used) =
     inr (used-longer scenario cells line since i (suc i) (omega arith) used)
@@ -520,9 +602,9 @@ state-next scenario cells good since first sq line i fair all alone start from n
 
 state-many : (scenario : Scenario) (cells : List (Option Told)) (good : ℕ → Bool) (since first sq line : ℕ) →
     IsFair scenario cells good first sq → AllGood scenario cells good first sq →
-    Alone scenario cells line since (first + 15 + scenario.lag) → since ≤ first →
+    Alone scenario cells line since (known_by scenario first) → since ≤ first →
     Waits scenario cells good first sq line (suc first) (table_of scenario cells first) →
-    (d : ℕ) → d < 15 + scenario.lag → State scenario cells good since first sq line (d + suc first)
+    (d : ℕ) → d + suc first ≤ known_by scenario first → State scenario cells good since first sq line (d + suc first)
 state-many scenario cells good since first sq line fair all alone start waits zero near =
     let e : zero + suc first ≡ suc first = omega arith in rw e (inl waits)
 state-many scenario cells good since first sq line fair all alone start waits (suc d) near =
@@ -533,8 +615,8 @@ state-many scenario cells good since first sq line fair all alone start waits (s
 
 state-last : (scenario : Scenario) (cells : List (Option Told)) (good : ℕ → Bool) (since first sq line i : ℕ) →
     IsFair scenario cells good first sq → AllGood scenario cells good first sq →
-    Alone scenario cells line since (first + 15 + scenario.lag) → since ≤ first →
-    i ≡ first + 15 + scenario.lag → State scenario cells good since first sq line i →
+    Alone scenario cells line since (known_by scenario first) → since ≤ first →
+    i ≡ known_by scenario first → State scenario cells good since first sq line i →
     IsUsedBefore scenario cells line since (suc i)
 state-last scenario cells good since first sq line i fair all alone start at (inr used) =
     used-longer scenario cells line since i (suc i) (omega arith) used
@@ -550,14 +632,15 @@ state-last scenario cells good since first sq line i fair all alone start at (in
 -- after a change, an ADD line up to whose SQ each ADD line can be read is in use sixteen packets and the lag later
 pub used_by : (scenario : Scenario) (cells : List (Option Told)) (good : ℕ → Bool) (since first sq line : ℕ) →
     IsFair scenario cells good first sq → AllGood scenario cells good first sq →
-    Alone scenario cells line since (first + 15 + scenario.lag) → since ≤ first →
+    Alone scenario cells line since (known_by scenario first) → since ≤ first →
     Waits scenario cells good first sq line (suc first) (table_of scenario cells first) →
-    IsUsedBefore scenario cells line since (first + 16 + scenario.lag)
+    IsUsedBefore scenario cells line since (known_by scenario first + 1)
 used_by scenario cells good since first sq line fair all alone start waits =
     let lag = fair.lag in
-    let at : 14 + scenario.lag + suc first ≡ first + 15 + scenario.lag = omega arith in
-    let last = state-last scenario cells good since first sq line (14 + scenario.lag + suc first) fair all alone start
-    at
-    (state-many scenario cells good since first sq line fair all alone start waits (14 + scenario.lag) (omega arith)) in
-    let e : suc (14 + scenario.lag + suc first) ≡ first + 16 + scenario.lag = omega arith in
+    let size = sixteen scenario.options.statuses fair.statuses in
+    let d = known_by scenario first - suc first in
+    let at : d + suc first ≡ known_by scenario first = omega arith in
+    let last = state-last scenario cells good since first sq line (d + suc first) fair all alone start at
+    (state-many scenario cells good since first sq line fair all alone start waits d (omega (arith, at))) in
+    let e : suc (d + suc first) ≡ known_by scenario first + 1 = omega (arith, at) in
     rw e at last

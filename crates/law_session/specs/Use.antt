@@ -1,6 +1,7 @@
 -- G.7042: when a line that was added carries payload.
-use Rattle.std.specs.Prelude.{◌≡◌, ℕ, ◌+◌, ◌*◌, ◌<◌, ◌≤◌, true, false, List, Option, Some, length, slice_get}
-use Rattle.law_model.specs.Common.{Scenario, is_read, is_lost, member_of, Table, Told, table_of, session_cells}
+use Rattle.std.specs.Prelude.{◌≡◌, ℕ, ◌+◌, ◌-◌, ◌*◌, ◌<◌, ◌≤◌, true, false, List, Option, Some, length, slice_get}
+use Rattle.law_model.specs.Common.{IsStatuses, Scenario, is_line_up, is_read, is_lost, member_of, Table, Told}
+use Rattle.law_model.specs.Common.{table_of, session_cells}
 use Rattle.law_model.specs.declared.lcas_states.Command.{Command}
 use Rattle.law_model.specs.declared.lcas_states.Command.TheVariants.{Add as add}
 use Rattle.law_model.specs.declared.lcas_states.Standing.TheVariants.{Norm as normal, Add as adding}
@@ -36,9 +37,12 @@ pub record AddsAlone (scenario : Scenario) (cells : List (Option Told)) (line fi
 abbrev pub AllCome : Scenario → ℕ → ℕ → Type 0
 AllCome scenario first count = (k : ℕ) → first ≤ k → k < first + count → is_lost scenario k ≡ false
 
--- a number of packets of a line from a first one on can be read; or none of them can
-abbrev pub AllRead : Scenario → ℕ → ℕ → ℕ → Type 0
-AllRead scenario line first count = (k : ℕ) → first ≤ k → k < first + count → is_read scenario line k ≡ true
+-- a number of packets of a line from a first one on can be read, and the line is up at each; or none of them can
+abbrev pub IsSeen : Scenario → ℕ → ℕ → Type 0
+IsSeen scenario line k = (is_read scenario line k ≡ true) × (is_line_up scenario line k ≡ true)
+
+abbrev pub AllSeen : Scenario → ℕ → ℕ → ℕ → Type 0
+AllSeen scenario line first count = (k : ℕ) → first ≤ k → k < first + count → IsSeen scenario line k
 
 abbrev pub NoneRead : Scenario → ℕ → ℕ → ℕ → Type 0
 NoneRead scenario line first count = (k : ℕ) → first ≤ k → k < first + count → is_read scenario line k ≡ false
@@ -47,30 +51,38 @@ NoneRead scenario line first count = (k : ℕ) → first ≤ k → k < first + c
 pub record HasLimits (scenario : Scenario) : Type 0 where
   pub lag : 0 < scenario.lag
   pub lines : length scenario.windows ≤ 128
+  pub statuses : IsStatuses scenario.options.statuses
 
 -- packet k begins before the session ends
 abbrev pub Begins : Scenario → ℕ → Type 0
 Begins scenario k = 16 * k + 8 < scenario.ticks
 
--- an add of a line is carried out in a step, and nothing comes between: in the sixteen packets from that step on each
--- line in ADD
--- can be read, and their return packets come. How the lines in NORM and DNU fare doesn't matter
+-- the packet that ends the first round of statuses from a packet on; and the step that takes its return packet, from
+-- which a second round may begin
+abbrev pub round_end : Scenario → ℕ → ℕ
+round_end scenario first = first + scenario.options.statuses - 1
+
+abbrev pub known_by : Scenario → ℕ → ℕ
+known_by scenario first = round_end scenario first + scenario.lag
+
+-- an add of a line is carried out in a step, and nothing comes between: in as many packets from that step on as tell
+-- all statuses each line in ADD is up and can be read, and their return packets come. How the lines in NORM and DNU
+-- fare doesn't matter
 pub record AddsUndamaged (scenario : Scenario) (first line : ℕ) : Type 0 where
   pub limits : HasLimits scenario
-  pub begins : Begins scenario (first + 15 + scenario.lag)
-  pub adds : AddsAlone scenario (session_cells scenario) line first (first + 15 + scenario.lag)
-  pub come : AllCome scenario first 16
+  pub begins : Begins scenario (known_by scenario first)
+  pub adds : AddsAlone scenario (session_cells scenario) line first (known_by scenario first)
+  pub come : AllCome scenario first scenario.options.statuses
   pub read : (other : ℕ) → IsAdded (table_of scenario (session_cells scenario) first) other →
-      AllRead scenario other first 16
+      AllSeen scenario other first scenario.options.statuses
 
--- an add of a line that can be read is carried out in a step, and in the sixteen packets from that step on no other
--- line in ADD can
--- be read
+-- an add of a line that is up and can be read is carried out in a step, and in as many packets from that step on as
+-- tell all statuses no other line in ADD can be read
 pub record AddsAmongSilent (scenario : Scenario) (first line : ℕ) : Type 0 where
   pub limits : HasLimits scenario
-  pub begins : Begins scenario (first + 30 + 2 * scenario.lag)
-  pub adds : AddsAlone scenario (session_cells scenario) line first (first + 30 + 2 * scenario.lag)
-  pub come : AllCome scenario first (31 + scenario.lag)
-  pub read : AllRead scenario line first (31 + scenario.lag)
+  pub begins : Begins scenario (known_by scenario (known_by scenario first))
+  pub adds : AddsAlone scenario (session_cells scenario) line first (known_by scenario (known_by scenario first))
+  pub come : AllCome scenario first (known_by scenario scenario.options.statuses)
+  pub read : AllSeen scenario line first (known_by scenario scenario.options.statuses)
   pub others : (other : ℕ) → IsAdded (table_of scenario (session_cells scenario) first) other → (other ≡ line → ⊥) →
-      NoneRead scenario other first 16
+      NoneRead scenario other first scenario.options.statuses

@@ -1,6 +1,6 @@
 -- Worked sessions, computed.
 use Rattle.std.specs.Prelude.{ℕ, ◌%◌, List, [], ◌∷◌, map, Option, Some, None}
-use Rattle.law_model.specs.Common.{DueCommand, Scenario, member_of, table_of, session_cells, vc4_size}
+use Rattle.law_model.specs.Common.{DueCommand, Scenario, default_options, member_of, table_of, session_cells, vc4_size}
 use Rattle.law_model.specs.declared.window_types.Window.{Window}
 use Rattle.law_model.specs.declared.lcas_states.Command.{Command}
 use Rattle.law_model.specs.declared.lcas_states.Member.{Member}
@@ -24,6 +24,7 @@ scenario_for lag ticks windows orders = record {
   orders = orders;
   offers = [];
   tells = [];
+  options = default_options;
 }
 
 -- what a packet shows: its number, the lines by SQ, the line in REMOVE, and CHG

@@ -1,65 +1,71 @@
 -- Return cells that the sink made of what came, told to the source which made what came, are those of the session.
-use Rattle.std.proofs.Common.{◌≡◌, ℕ, zero, suc, ◌+◌, ◌-◌, ◌*◌, ◌/◌, ◌<◌, ◌≤◌, List, [], ◌∷◌, ◌++◌, take, length}
-use Rattle.std.proofs.Common.{slice_get, Option, Some, option_map, refl, sym, ◌∙◌, ap, arith, take_all, take-take}
+use Rattle.std.proofs.Common.{◌≡◌, ℕ, zero, suc, ◌+◌, ◌-◌, ◌*◌, ◌/◌, ◌<◌, ◌≤◌, List, [], ◌∷◌, ◌++◌, take, map, length}
+use Rattle.std.proofs.Common.{Option, refl, sym, ◌∙◌, ap, arith, take_all, take-take}
 use Rattle.std.specs.List.{range_with_len}
-use Rattle.std.proofs.lemmas.List.FromFn.{length-map-range_with_len}
-use Rattle.std.proofs.lemmas.Option.{slice_get-map}
-use Rattle.law_model.specs.Common.{Cell, cells, Scenario, carried_by, packets, steps_in, Told, told_in, return_cell}
-use Rattle.law_model.specs.Common.{cells_before, session_cells, container_of}
-use Rattle.law_model.proofs.ListLaws.{take-next}
+use Rattle.std.proofs.lemmas.List.FromFn.{take-map-range_with_len, map-range_with_len_more}
+use Rattle.law_model.specs.Common.{Cell, cells, Scenario, carried_by, is_read, packets, steps_in, Told, told_in}
+use Rattle.law_model.specs.Common.{cells_before, session_cells, telling_at, packets_from, container_of}
 use Rattle.law_session.specs.Session.{AgreeBefore}
-use Rattle.law_session.proofs.SessionLaws.{return_cell-agree, Agree-take, cells_before-prefix}
+use Rattle.law_session.proofs.SessionLaws.{table_of-take, cells_before-length, cells_before-prefix}
+use Rattle.law_row.specs.Received.{HasPackets}
 use Rattle.law_terminal.specs.SessionLines.{HasLines, ComesOfLine, ComeOfLines}
 use Rattle.law_terminal.specs.Course.{back_of, told_of, IsCourse}
-use Rattle.law_terminal.proofs.ListLaws.{range-at, same-range}
+use Rattle.law_terminal.proofs.ListLaws.{same-range}
 use Rattle.law_terminal.proofs.DealtLaws.{container-same}
-use Rattle.law_terminal.proofs.RowLaws.{back-told}
+use Rattle.law_terminal.proofs.CellLaws.{has-packets}
+use Rattle.law_terminal.proofs.RowLaws.{back-said}
 
 -- lists of which the first cells are the same agree on fewer of them
 pub agree-sooner : (m n : ℕ) (a b : List (Option Told)) → m ≤ n → AgreeBefore n a b → AgreeBefore m a b
 agree-sooner m n a b sooner same = sym (take-take m n a sooner) ∙ ap (take m) same ∙ take-take m n b sooner
 
--- ---- return cells each of which is what the session says by those before it
-module _ (scenario : Scenario) (lag : 0 < scenario.lag) (returns : List (Option Told)) (n : ℕ)
-    (each : (k : ℕ) → k < n → slice_get returns k ≡ Some (return_cell scenario returns k)) where
-  first-cells : (k : ℕ) → k ≤ n → take k returns ≡ cells_before scenario k
-  unfolding cells_before
-  first-cells zero within = refl
-  first-cells (suc k) within =
-      let before = first-cells k (omega arith) in
-      let cell = return_cell scenario returns k in
-      let m : ℕ = k + 1 - scenario.lag in
-      let agree : take m returns ≡ take m (cells_before scenario k) = sym (take-take m k returns (omega arith))
-      ∙ ap (take m) before in
-      let same = return_cell-agree scenario returns (cells_before scenario k) k
-      (Agree-take scenario returns (cells_before scenario k) k agree) in
-      take-next returns k cell (each k (omega arith))
-      ∙ ap (λ l. l ++ cell ∷ []) before
-      ∙ ap (λ c. cells_before scenario k ++ c ∷ []) same
+-- ---- packets that were read
+-- packets up to packet k are the same by return cells that agree on the first k: the first of them comes a lag later
+packets-agree : (scenario : Scenario) (a b : List (Option Told)) (cells : List (List Cell)) (k : ℕ) →
+    0 < scenario.lag → AgreeBefore k a b → HasPackets scenario a cells k → HasPackets scenario b cells k
+packets-agree scenario a b cells k lag agree has j low =
+    let m : ℕ = j + 1 - scenario.lag in
+    let same = table_of-take scenario a b j (agree-sooner m k a b (omega arith) agree) in
+    has j low
+    ∙ ap (λ table. packets_from (length scenario.windows) (telling_at scenario j) table j
+    (λ line. is_read scenario line j)) same
 
 -- ---- a course
-told-at : (scenario : Scenario) (cells : List (List Cell)) (n k : ℕ) → k < n →
-    slice_get (told_of scenario cells n) k ≡ Some (told_in (back_of scenario cells k))
-told-at scenario cells n k low =
+told-next : (scenario : Scenario) (cells : List (List Cell)) (k : ℕ) →
+    told_of scenario cells (suc k) ≡ told_of scenario cells k ++ told_in (back_of scenario cells k) ∷ []
+told-next scenario cells k =
     let f = λ (k : ℕ). told_in (back_of scenario cells k) in
-    slice_get-map f (range_with_len 0 n) k
-    ∙ ap (option_map f) (range-at 0 n k low ∙ ap Some (let e : 0 + k ≡ k = omega arith in e))
+    let e : suc k ≡ k + 1 = omega arith in
+    ap (λ n. map f (range_with_len 0 n)) e ∙ map-range_with_len_more f 0 k k (omega arith)
+
+told-first : (scenario : Scenario) (cells : List (List Cell)) (k n : ℕ) → k ≤ n →
+    take k (told_of scenario cells n) ≡ told_of scenario cells k
+told-first scenario cells k n low =
+    take-map-range_with_len (λ k. told_in (back_of scenario cells k)) 0 n k low
 
 ends : (ticks n k : ℕ) → k < n → n ≤ (ticks - 8) / 16 → 16 * k + 23 < ticks
 ends ticks n k low most = omega arith
 
-pub course-returns : (scenario : Scenario) (frames n : ℕ) (cells : List (List Cell)) → HasLines scenario →
-    0 < scenario.lag → IsCourse scenario frames n cells →
-    told_of scenario cells n ≡ cells_before scenario n
-course-returns scenario frames n cells lines lag course =
-    let returns : List (Option Told) = told_of scenario cells n in
-    let size : length returns ≡ n = length-map-range_with_len (λ k. told_in (back_of scenario cells k)) 0 n in
-    sym (take_all n returns (omega arith))
-    ∙ first-cells scenario lag returns n
-    (λ k low. told-at scenario cells n k low
-    ∙ ap Some (back-told scenario returns frames cells k lines course.come (ends scenario.ticks n k low course.most)
-    (course.decided k low)))
-    n (omega arith)
+module _ (scenario : Scenario) (frames n : ℕ) (cells : List (List Cell)) (lines : HasLines scenario)
+    (lag : 0 < scenario.lag) (course : IsCourse scenario frames n cells) where
+  -- what was told by packet k is of the session, so packet k is, and what is told of it
+  told-before : (k : ℕ) → k ≤ n → told_of scenario cells k ≡ cells_before scenario k
+  unfolding cells_before
+  told-before zero within = refl
+  told-before (suc k) within =
+      let before = told-before k (omega arith) in
+      let agree : AgreeBefore k (told_of scenario cells n) (cells_before scenario k) =
+      told-first scenario cells k n (omega arith) ∙ before
+      ∙ sym (take_all k (cells_before scenario k) (let e = cells_before-length scenario k in omega arith)) in
+      let has = packets-agree scenario (told_of scenario cells n) (cells_before scenario k) cells k lag agree
+      (has-packets scenario (told_of scenario cells n) lines frames cells course.come k
+      (ends scenario.ticks n k (omega arith) course.most) (course.decided k (omega arith))) in
+      told-next scenario cells k
+      ∙ ap (λ told. told ++ told_in (back_of scenario cells k) ∷ []) before
+      ∙ ap (λ cell. cells_before scenario k ++ cell ∷ []) (back-said scenario k k cells lag has)
+
+  pub course-returns : told_of scenario cells n ≡ cells_before scenario n
+  course-returns = told-before n (omega arith)
 
 -- ---- the session's own return cells
 pub session-agree : (scenario : Scenario) (n m : ℕ) → n ≤ packets scenario → m ≤ n →

@@ -105,7 +105,7 @@ told-longer : (scenario : Scenario) (cells longer : List (List Cell)) (n : ℕ) 
 told-longer scenario cells longer n are decided =
     same-range (λ k. told_in (back_of scenario longer k)) (λ k. told_in (back_of scenario cells k)) n
     (λ k low. ap (λ packet. told_in (if is_lost scenario k then Lost else Nibbles (packet_nibbles packet)))
-    (returns_stay cells longer k are (decided k low)))
+    (returns_stay scenario.options cells longer k are (decided k low)))
 
 pub course-comes : (scenario : Scenario) (frames n : ℕ) (cells longer : List (List Cell)) → IsLonger cells longer →
     ComeOfLines scenario (told_of scenario cells n) frames longer → IsCourse scenario frames n cells →

@@ -38,10 +38,10 @@ module _ (scenario : Scenario) (frames n : ℕ) (cells : List (List Cell)) (line
 
   pub course-cell : (k : ℕ) → 16 * k + 23 < scenario.ticks → AreDecidedAt cells (16 * k + 23) →
       told_in (back_of scenario cells k) ≡ return_cell scenario (session_cells scenario) k
-  course-cell k low decided = back-told scenario (session_cells scenario) frames cells k lines course-come low decided
+  course-cell k low decided = back-told scenario (packets scenario) frames k cells lines lag course-come low decided
 
   pub course-packet : (k : ℕ) → 16 * k + 23 < scenario.ticks → AreDecidedAt cells (16 * k + 23) →
-      return_at cells k ≡ packet_by scenario (session_cells scenario) k
+      return_at scenario.options cells k ≡ packet_by scenario (session_cells scenario) k
   course-packet k low decided = packet-told scenario (session_cells scenario) frames cells k lines course-come low
       decided
 
@@ -92,6 +92,6 @@ next-cell scenario frames k cells lines lag low come decided =
     sym (session-agree scenario k m (omega arith) (omega arith)) in
     let same = return_cell-agree scenario (session_cells scenario) (cells_before scenario k) k
     (Agree-take scenario (session_cells scenario) (cells_before scenario k) k agree) in
-    let told = back-told scenario (session_cells scenario) frames cells k lines come
+    let told = back-told scenario (packets scenario) frames k cells lines lag come
     (lasts scenario.ticks k low) decided in
     ap (λ cell. cells_before scenario k ++ cell ∷ []) (sym same ∙ sym told)

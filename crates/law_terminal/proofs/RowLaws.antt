@@ -2,10 +2,12 @@
 use Rattle.std.proofs.Common.{◌≡◌, ℕ, ◌+◌, ◌*◌, ◌<◌, Bool, true, false, if◌then◌else◌, List, Option, Some, None, refl}
 use Rattle.std.proofs.Common.{◌∙◌, ap, arith}
 use Rattle.law_model.specs.Common.{Cell, packet_nibbles, Scenario, is_lost, told_in, return_packet, return_cell, Told}
+use Rattle.law_model.specs.Common.{cells_before}
 use Rattle.law_model.specs.Common.{payload_of, return_of, read_packets, row_at, return_at, packets_of, is_whole_row}
 use Rattle.law_model.specs.Common.{container_of}
 use Rattle.member_cells.specs.declared.containers_and_cells.BackCell.TheVariants.{Packet as Nibbles, Lost}
 use Rattle.law_line.specs.StableRows.{AreDecidedAt}
+use Rattle.law_row.specs.Received.{HasPackets}
 use Rattle.law_row.proofs.WholeLaws.{row-whole}
 use Rattle.law_row.proofs.DealtLaws.{row-payload}
 use Rattle.law_row.proofs.ReturnLaws.{said-nibbles}
@@ -32,19 +34,28 @@ lost-or : (lost : Bool) (nibbles : List ℕ) (told : Told) → told_in (Nibbles 
 lost-or true nibbles told is = refl
 lost-or false nibbles told is = is
 
-pub back-told : (scenario : Scenario) (returns : List (Option Told)) (frames : ℕ) (cells : List (List Cell)) (k : ℕ) →
-    HasLines scenario →
-    ComeOfLines scenario returns frames cells → 16 * k + 23 < scenario.ticks → AreDecidedAt cells (16 * k + 23) →
-    told_in (back_of scenario cells k) ≡ return_cell scenario returns k
-back-told scenario returns frames cells k lines come low decided =
-    lost-or (is_lost scenario k) (packet_nibbles (return_at cells k)) (return_packet scenario returns k)
-    (said-nibbles scenario returns cells k (has-packets scenario returns lines frames cells come k low decided))
+-- where the packets that the sink read are those of the session
+pub back-said : (scenario : Scenario) (n k : ℕ) (cells : List (List Cell)) → 0 < scenario.lag →
+    HasPackets scenario (cells_before scenario n) cells k →
+    told_in (back_of scenario cells k) ≡ return_cell scenario (cells_before scenario n) k
+back-said scenario n k cells lag has =
+    lost-or (is_lost scenario k) (packet_nibbles (return_at scenario.options cells k))
+    (return_packet scenario (cells_before scenario n) k) (said-nibbles scenario n k cells lag has)
+
+pub back-told : (scenario : Scenario) (n frames k : ℕ) (cells : List (List Cell)) → HasLines scenario →
+    0 < scenario.lag →
+    ComeOfLines scenario (cells_before scenario n) frames cells → 16 * k + 23 < scenario.ticks →
+    AreDecidedAt cells (16 * k + 23) →
+    told_in (back_of scenario cells k) ≡ return_cell scenario (cells_before scenario n) k
+back-told scenario n frames k cells lines lag come low decided =
+    back-said scenario n k cells lag
+    (has-packets scenario (cells_before scenario n) lines frames cells come k low decided)
 
 pub packet-told : (scenario : Scenario) (returns : List (Option Told)) (frames : ℕ) (cells : List (List Cell)) (k : ℕ) →
     HasLines scenario →
     ComeOfLines scenario returns frames cells → 16 * k + 23 < scenario.ticks → AreDecidedAt cells (16 * k + 23) →
-    return_at cells k ≡ packet_by scenario returns k
+    return_at scenario.options cells k ≡ packet_by scenario returns k
 packet-told scenario returns frames cells k lines come low decided =
     let read = has-packets scenario returns lines frames cells come k low decided in
-    ap (λ rows. return_of rows k) (same-range (read_packets cells) (packets_of scenario returns) (k + 1)
-    (λ j below. read j (omega arith)))
+    ap (λ rows. return_of scenario.options rows k)
+    (same-range (read_packets cells) (packets_of scenario returns) (k + 1) (λ j below. read j (omega arith)))

@@ -10,12 +10,14 @@ use Rattle.law_terminal.specs.SessionLines.{ComeOfLines}
 
 -- what comes of return packet k, which a sink says by these cells
 abbrev pub back_of : Scenario → List (List Cell) → ℕ → BackCell
-back_of scenario cells k = if is_lost scenario k then Lost else Nibbles (packet_nibbles (return_at cells k))
+back_of scenario cells k =
+    if is_lost scenario k then Lost else Nibbles (packet_nibbles (return_at scenario.options cells k))
 
 -- the return packet that the session makes, where the source was told these return cells: of the packets that can be
 -- read
 abbrev pub packet_by : Scenario → List (Option Told) → ℕ → Packet
-packet_by scenario returns k = return_of (map (packets_of scenario returns) (range_with_len 0 (k + 1))) k
+packet_by scenario returns k =
+    return_of scenario.options (map (packets_of scenario returns) (range_with_len 0 (k + 1))) k
 
 -- what the first return cells tell the source
 abbrev pub told_of : Scenario → List (List Cell) → ℕ → List (Option Told)

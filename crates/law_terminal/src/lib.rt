@@ -2,7 +2,8 @@
 //! was told, the lines give cells of those, and the sink makes rows and return packets of these cells. There
 //! is no code here, and no ring or order of events. Begin at `course_law`: whatever the sink says so far, and
 //! the source was told of it, is what the session says. `sent_law`, `cells_law` and `rows_law` are what it
-//! stands on, each for any return cells.
+//! stands on, for any return cells, but that a return packet tells what the session's does where the source
+//! was told the session's.
 #![tactic(auto)]
 
 ghost use Rattle.std.specs.Prelude.{◌≡◌, ℕ, suc, ◌+◌, ◌-◌, ◌*◌, ◌/◌, ◌<◌, ◌≤◌, min, if◌then◌else◌, All, [], ◌∷◌, ◌++◌};
@@ -69,21 +70,23 @@ pub fn cells_law()
 
 /// What the sink makes of it. A row that is decided on each line is whole exactly where the source's table
 /// and the failures make it so, and then it gives the octets of the client's stream that its frame carries.
-/// What comes of a return packet tells the source what the definition of a session says, or is lost.
+/// Where the source was told the session's return cells, what comes of a return packet tells it what the
+/// definition of a session says, or is lost.
 pub fn rows_law()
     ensures rows { (scenario : Scenario) (returns : List (Option Told)) (frames t : ℕ)
         (cells : List (List Cell)) → HasLines scenario → ComeOfLines scenario returns frames cells →
         t < scenario.ticks → AreDecidedAt cells t →
         row_at scenario.size cells t
         ≡ (if is_whole_row scenario returns t then Some (payload_of scenario returns t) else None) }
-    ensures backs { (scenario : Scenario) (returns : List (Option Told)) (frames k : ℕ)
-        (cells : List (List Cell)) → HasLines scenario → ComeOfLines scenario returns frames cells →
+    ensures backs { (scenario : Scenario) (n frames k : ℕ) (cells : List (List Cell)) →
+        HasLines scenario → 0 < scenario.lag →
+        ComeOfLines scenario (cells_before scenario n) frames cells →
         16 * k + 23 < scenario.ticks → AreDecidedAt cells (16 * k + 23) →
-        told_in (back_of scenario cells k) ≡ return_cell scenario returns k }
+        told_in (back_of scenario cells k) ≡ return_cell scenario (cells_before scenario n) k }
     ensures packets { (scenario : Scenario) (returns : List (Option Told)) (frames k : ℕ)
         (cells : List (List Cell)) → HasLines scenario → ComeOfLines scenario returns frames cells →
         16 * k + 23 < scenario.ticks → AreDecidedAt cells (16 * k + 23) →
-        return_at cells k ≡ packet_by scenario returns k }
+        return_at scenario.options cells k ≡ packet_by scenario returns k }
 {}
 
 /// Packets give tables, tables give rows, and rows give packets: where the source was told just what the sink
@@ -112,7 +115,7 @@ pub fn course_law()
     ensures packets { (scenario : Scenario) (frames n k : ℕ) (cells : List (List Cell)) →
         HasLines scenario → 0 < scenario.lag → IsCourse scenario frames n cells →
         16 * k + 23 < scenario.ticks → AreDecidedAt cells (16 * k + 23) →
-        return_at cells k ≡ packet_by scenario (session_cells scenario) k }
+        return_at scenario.options cells k ≡ packet_by scenario (session_cells scenario) k }
 {}
 
 /// A course begins with nothing, and each event keeps it: a frame is made, for whose decision step the return

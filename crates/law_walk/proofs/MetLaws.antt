@@ -13,7 +13,7 @@ use Rattle.law_model.specs.Common.{IsWithin, AreApart, HasFailures, IsNetwork, I
 use Rattle.law_model.specs.Common.{command_dues, FitsRing, FitsLag, are_whole, AreWindows, slip_after, member_of, keep}
 use Rattle.law_model.specs.Common.{none_kept, admit, turned, take_out, exchange, DueFrame, Scenario, scenario_by}
 use Rattle.law_model.specs.Common.{offers_of, carried_by, is_read, after, table_of, said_before, cells_before}
-use Rattle.law_model.specs.Common.{session_cells}
+use Rattle.law_model.specs.Common.{session_cells, default_options, is_up, last_read}
 use Rattle.law_model.specs.declared.window_types.Window.{Window}
 use Rattle.law_model.specs.declared.window_types.Carried.TheVariants.{Whole, Fails}
 use Rattle.law_model.specs.declared.script_types.Item.{Item}
@@ -24,8 +24,9 @@ use Rattle.law_model.specs.declared.lcas_states.Command.TheVariants.{Add as add}
 use Rattle.law_model.specs.declared.lcas_states.Standing.TheVariants.{Add as adding}
 use Rattle.law_model.specs.members.Damage.{carried}
 use Rattle.law_model.specs.source.Source.{carried as carried_out}
-use Rattle.law_session.specs.Use.{AddsUndamaged, AddsAmongSilent}
+use Rattle.law_session.specs.Use.{AddsUndamaged, AddsAmongSilent, IsSeen}
 use Rattle.law_session.proofs.DamageLaws.{readable-whole}
+use Rattle.law_session.proofs.TimerUp.{up-plain}
 use Rattle.law_walk.specs.Common.{IsClear, row_from, ConfirmsTrue, item, plain, failing_windows, failing_leg}
 use Rattle.law_walk.specs.Common.{silent_windows, silent_leg}
 use Rattle.law_walk.proofs.WholeLaws.{clear-whole, row-whole}
@@ -92,6 +93,7 @@ plain_network windows ring lag ticks lines failures some_ring some_lag some_tick
   lag = some_lag;
   ticks = some_ticks;
   size = inl refl;
+  options = record { holdoff = omega arith; restore = omega arith; statuses = inl refl };
   fits_ring = fits_ring;
   fits_lag = fits_lag;
 }
@@ -163,11 +165,11 @@ abbrev failing : Scenario
 failing = scenario_by failing_leg
 
 failing-first : carried_out failing (session_cells failing) 0 ≡ Some (add 0)
-unfolding carried are_whole after keep none_kept cells_before said_before exchange take_out turned admit
+unfolding carried are_whole after keep none_kept cells_before said_before exchange take_out turned admit is_up last_read
 failing-first = refl
 
 failing-none : map (carried_out failing (session_cells failing)) (range_with_len 1 17) ≡ replicate 17 None
-unfolding carried are_whole after keep none_kept cells_before said_before exchange take_out turned admit
+unfolding carried are_whole after keep none_kept cells_before said_before exchange take_out turned admit is_up last_read
 failing-none = refl
 
 failing-read : (line k : ℕ) → k < 16 → is_read failing line k ≡ true
@@ -179,9 +181,13 @@ failing-read line k low = (readable-whole (carried_by failing line) k).1
     clear zero (suc i) d inside = absurd (omega (arith, inside))
     clear (suc line) i d inside = absurd (omega (arith, inside))
 
+failing-seen : (line k : ℕ) → k < 16 → IsSeen failing line k
+failing-seen line k low =
+    let read = failing-read line k low in (read, up-plain default_options (is_read failing line) k refl refl ∙ read)
+
 pub failing-adds : AddsUndamaged failing 0 0
 failing-adds = record {
-  limits = record { lag = omega arith; lines = omega arith };
+  limits = record { lag = omega arith; lines = omega arith; statuses = inl refl };
   begins = omega arith;
   adds = record {
     added = failing-first;
@@ -191,7 +197,7 @@ failing-adds = record {
         (omega (arith, low))) ∙ is));
   };
   come = λ k low high. refl;
-  read = λ other is k low high. failing-read other k (omega (arith, high));
+  read = λ other is k low high. failing-seen other k (omega (arith, high));
 }
 
 -- ---- a line that is never read
@@ -224,15 +230,15 @@ abbrev silent : Scenario
 silent = scenario_by silent_leg
 
 silent-first : carried_out silent (session_cells silent) 1 ≡ Some (add 1)
-unfolding carried are_whole after keep none_kept cells_before said_before exchange take_out turned admit
+unfolding carried are_whole after keep none_kept cells_before said_before exchange take_out turned admit is_up last_read
 silent-first = refl
 
 silent-none : map (carried_out silent (session_cells silent)) (range_with_len 2 32) ≡ replicate 32 None
-unfolding carried are_whole after keep none_kept cells_before said_before exchange take_out turned admit
+unfolding carried are_whole after keep none_kept cells_before said_before exchange take_out turned admit is_up last_read
 silent-none = refl
 
 silent-order : (table_of silent (session_cells silent) 1).order ≡ member_of 0 adding ∷ member_of 1 adding ∷ []
-unfolding carried are_whole after keep none_kept cells_before said_before exchange take_out turned admit
+unfolding carried are_whole after keep none_kept cells_before said_before exchange take_out turned admit is_up last_read
 silent-order = refl
 
 -- nothing of line 0 arrives
@@ -252,6 +258,9 @@ seen-read : (k : ℕ) → is_read silent 1 k ≡ true
 seen-read k = (readable-whole (carried_by silent 1) k).1
     (clear-whole [] (16 * k) (16 * k + 24) (λ i d inside. absurd (omega (arith, inside))))
 
+seen-up : (k : ℕ) → IsSeen silent 1 k
+seen-up k = (seen-read k, up-plain default_options (is_read silent 1) k refl refl ∙ seen-read k)
+
 in-add : (order : List Member) → order ≡ member_of 0 adding ∷ member_of 1 adding ∷ [] → (sq other : ℕ) →
     slice_get order sq ≡ Some (member_of other adding) →
     (other ≡ 1 → ⊥) → other ≡ 0
@@ -267,7 +276,7 @@ in-add order same sq other there not_one = at sq
 
 pub silent-adds : AddsAmongSilent silent 1 1
 silent-adds = record {
-  limits = record { lag = omega arith; lines = omega arith };
+  limits = record { lag = omega arith; lines = omega arith; statuses = inl refl };
   begins = omega arith;
   adds = record {
     added = silent-first;
@@ -277,7 +286,7 @@ silent-adds = record {
         (omega (arith, low))) ∙ is));
   };
   come = λ k low high. refl;
-  read = λ k low high. seen-read k;
+  read = λ k low high. seen-up k;
   others = λ other is not_one k low high.
       let zero_line : other ≡ 0 = in-add
       (table_of silent (session_cells silent) 1).order silent-order is.0 other is.1 not_one in

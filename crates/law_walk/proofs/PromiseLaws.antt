@@ -2,7 +2,7 @@
 use Rattle.std.proofs.Common.{◌≡◌, ℕ, suc, ◌+◌, ◌*◌, ◌≤◌, ◌++◌, map, take, length, ◌∙◌, ap, subst, arith}
 use Rattle.law_model.specs.Common.{Leg, frames_by, scenario_by, steps_in, after, session_cells, Counts, Extent}
 use Rattle.law_model.specs.Common.{frames_kept, IsSound}
-use Rattle.law_session.specs.Use.{IsInUse, IsUsedBy, AddsUndamaged, AddsAmongSilent}
+use Rattle.law_session.specs.Use.{IsInUse, IsUsedBy, AddsUndamaged, AddsAmongSilent, known_by}
 use Rattle.law_session.proofs.UseTheorems.{undamaged, among_silent}
 use Rattle.law_progress.proofs.MoveLaws.{reached-ends}
 use Rattle.law_loss.specs.Carried.{IsUndamaged}
@@ -75,11 +75,12 @@ used-by leg line first last used =
     }
 
 pub used-undamaged : (leg : Leg) (first line : ℕ) → AddsUndamaged (scenario_by leg) first line →
-    InUseBy leg line first (first + 15 + leg.config.lag)
+    InUseBy leg line first (known_by (scenario_by leg) first)
 used-undamaged leg first line adds =
-    used-by leg line first (first + 15 + leg.config.lag) (undamaged (scenario_by leg) first line adds)
+    used-by leg line first (known_by (scenario_by leg) first) (undamaged (scenario_by leg) first line adds)
 
 pub used-among_silent : (leg : Leg) (first line : ℕ) → AddsAmongSilent (scenario_by leg) first line →
-    InUseBy leg line first (first + 30 + 2 * leg.config.lag)
+    InUseBy leg line first (known_by (scenario_by leg) (known_by (scenario_by leg) first))
 used-among_silent leg first line adds =
-    used-by leg line first (first + 30 + 2 * leg.config.lag) (among_silent (scenario_by leg) first line adds)
+    used-by leg line first (known_by (scenario_by leg) (known_by (scenario_by leg) first))
+    (among_silent (scenario_by leg) first line adds)

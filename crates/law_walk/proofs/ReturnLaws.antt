@@ -10,7 +10,7 @@ use Rattle.std.proofs.lemmas.Option.{slice_get-map, slice_get_within}
 use Rattle.law_model.proofs.ListLaws.{at-range}
 use Rattle.law_model.specs.Common.{Cell, Leg, cells, verdict, scenario_by, carried_by, told_in, return_cell}
 use Rattle.law_model.specs.Common.{cells_before, session_cells, return_at, LineCounts, Counts, used_in}
-use Rattle.law_model.specs.session.Scenario.{packets_in}
+use Rattle.law_model.specs.session.Scenario.{packets, packets_in}
 use Rattle.law_line.specs.StableRows.{IsLonger, AreDecidedAt}
 use Rattle.law_line.proofs.RowLaws.{returns_stay}
 use Rattle.law_progress.proofs.LineLaws.{is_path}
@@ -105,8 +105,9 @@ module _ (leg : Leg) (can : CanWalk leg) where
   pub cell-told : (k : ℕ) → 16 * k + 23 < leg.config.ticks →
       told_in (back_cell leg k) ≡ return_cell (scenario_by leg) (session_cells (scenario_by leg)) k
   cell-told k low =
-      back-told (scenario_by leg) (session_cells (scenario_by leg)) leg.config.ticks (all_lines leg) k
-      (has-lines leg can) all-come low (all-decided (16 * k + 23) low)
+      let fits_lag = can.lag in
+      back-told (scenario_by leg) (packets (scenario_by leg)) leg.config.ticks k (all_lines leg) (has-lines leg can)
+      (omega arith) all-come low (all-decided (16 * k + 23) low)
 
   pub packet-is : (k : ℕ) → 16 * k + 23 < leg.config.ticks →
       said_packet leg k ≡ packet_by (scenario_by leg) (session_cells (scenario_by leg)) k
@@ -129,9 +130,9 @@ module _ (leg : Leg) (can : CanWalk leg) where
       (few-packets leg.config.ticks k low) all-come (all-decided (16 * k + 23) low)
 
 pub packet-said : (leg : Leg) (s : Counts) (k : ℕ) → CanWalk leg → IsWalked leg s → 16 * k + 23 < s.rows →
-    return_at (popped_cells leg s.lines) k ≡ said_packet leg k
+    return_at leg.config.options (popped_cells leg s.lines) k ≡ said_packet leg k
 packet-said leg s k can walked low =
-    sym (returns_stay (popped_cells leg s.lines) (all_lines leg) k (all-longer leg s.lines)
+    sym (returns_stay leg.config.options (popped_cells leg s.lines) (all_lines leg) k (all-longer leg s.lines)
     (cells-decide leg s can walked (16 * k + 23) low))
 
 -- ---- numbers

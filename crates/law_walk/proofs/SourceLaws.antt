@@ -65,6 +65,7 @@ module _ (leg : Leg) (s : Counts) (can : CanWalk leg) (walked : IsWalked leg s) 
     lines = refl;
     lag = refl;
     size = refl;
+    statuses = refl;
     orders = λ j low. orders-landed leg s j walked (omega arith);
     cells = Agree-first (scenario_by leg) (told_before leg s.ticks) session (steps_in s.ticks)
         (session-agree (scenario_by leg) (used_in leg.config.lag s.ticks) (used_in leg.config.lag s.ticks) few

@@ -49,7 +49,7 @@ all_lines leg = map (line_cells leg) (range_with_len 0 (length leg.config.window
 
 -- return packet k as the sink says it, and what comes of it
 abbrev pub said_packet : Leg → ℕ → Packet
-said_packet leg k = return_at (all_lines leg) k
+said_packet leg k = return_at leg.config.options (all_lines leg) k
 
 abbrev pub back_cell : Leg → ℕ → BackCell
 back_cell leg k = back_of (scenario_by leg) (all_lines leg) k

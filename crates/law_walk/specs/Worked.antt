@@ -1,7 +1,7 @@
 -- Worked legs: what is refused, what is accepted, and what is counted.
 use Rattle.std.specs.Prelude.{ℕ, Bool, true, false, List, [], ◌∷◌, ◌++◌, map, length, replicate, codes}
 use Rattle.std.specs.List.{range_with_len}
-use Rattle.law_model.specs.Common.{Leg, scenario_by, is_whole_row, Counts, vc3_size}
+use Rattle.law_model.specs.Common.{Leg, scenario_by, is_whole_row, Counts, default_options, vc3_size}
 use Rattle.law_model.specs.declared.item_refusals.AcceptFault.TheVariants.{Length}
 use Rattle.law_model.specs.declared.item_refusals.CommandFault.TheVariants.{UnknownLine, AlreadyIn, NotIn}
 use Rattle.law_model.specs.declared.window_types.Window.{Window}
@@ -28,6 +28,7 @@ plain windows ring lag ticks = record {
   lag = lag;
   ticks = ticks;
   size = vc3_size;
+  options = default_options;
 }
 
 -- one line; 41 ticks; a frame that is too short, a line that there isn't, and a line that is added twice and removed

@@ -30,7 +30,7 @@ ghost use Rattle.law_model.specs.session.Scenario.{packets_in};
 ghost use Rattle.law_line.specs.StableRows.{IsLonger, AreDecidedAt};
 ghost use Rattle.law_progress.specs.Progress.{IsPlan, LineFits, SomeProgress};
 ghost use Rattle.law_session.specs.Feedback.{Takes, Acknowledges, TellsOf, SameLines, WasSaid};
-ghost use Rattle.law_session.specs.Use.{AddsUndamaged, AddsAmongSilent};
+ghost use Rattle.law_session.specs.Use.{AddsUndamaged, AddsAmongSilent, known_by};
 ghost use Rattle.law_terminal.specs.SessionLines.{HasLines, ComeOfLines};
 ghost use Rattle.law_terminal.specs.Course.{packet_by, told_of, IsCourse};
 ghost use Rattle.law_walk.specs.Walk.{session_of, told_first, walk_plan, CanWalk, IsWalked, counts_at, popped_on};
@@ -262,7 +262,7 @@ pub fn return_law()
         AreDecidedAt (all_lines leg) t }
     ensures said { (leg : Leg) (s : Counts) (k : ℕ) → CanWalk leg → IsWalked leg s →
         16 * k + 23 < s.rows →
-        return_at (popped_cells leg s.lines) k ≡ said_packet leg k }
+        return_at leg.config.options (popped_cells leg s.lines) k ≡ said_packet leg k }
     ensures packet { (leg : Leg) (k : ℕ) → CanWalk leg →
         16 * k + 23 < leg.config.ticks →
         said_packet leg k ≡ packet_by (scenario_by leg) (session_of leg) k }
@@ -402,20 +402,21 @@ pub fn drain_law()
 {}
 
 /// How soon a line that is added carries payload, where no return packet is lost and no further command
-/// carried out in between: fifteen packets and the lag later, where each line in ADD can be read meanwhile;
-/// and at most as long again later, where it can be read and no other line in ADD can.
+/// carried out in between: one packet less than tell all statuses, and the lag, later, where each line in ADD
+/// is up and can be read meanwhile; and at most as long again later, where it is up and can be read and no
+/// other line in ADD can be read.
 pub fn member_law()
     ensures undamaged { (leg : Leg) (first line : ℕ) →
         AddsUndamaged (scenario_by leg) first line →
-        InUseBy leg line first (first + 15 + leg.config.lag) }
+        InUseBy leg line first (known_by (scenario_by leg) first) }
     ensures others_silent { (leg : Leg) (first line : ℕ) →
         AddsAmongSilent (scenario_by leg) first line →
-        InUseBy leg line first (first + 30 + 2 * leg.config.lag) }
+        InUseBy leg line first (known_by (scenario_by leg) (known_by (scenario_by leg) first)) }
 {}
 
 /// A return packet that a decision step takes answers the very change that is out, by its one bit exactly as
 /// by the whole count of changes; then each line still has the SQ that it had in the packet that was read;
-/// and each status acted on was said of that line.
+/// and each status acted on was said of that line, an OK by what it said last.
 pub fn answer_law()
     ensures whole_count { (leg : Leg) (j k : ℕ) (told : Told) →
         Takes (scenario_by leg) (session_of leg) j k told →

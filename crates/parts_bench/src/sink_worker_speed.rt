@@ -4,6 +4,7 @@ ghost use Rattle.thread_sink.specs.Received.{received};
 
 use crate::Done;
 use crate::sink_feed::{Feed, ROWS};
+use law_model::Options;
 use member_cells::{BackCell, Cell, PAYLOAD};
 use octet_io::{ByteSink, Failed};
 use std::alloc::{AllocError, Global};
@@ -69,7 +70,8 @@ pub(crate) fn sink(alloc: Global, lines: u8, octets: u64) -> Option<Done>
 {
     let (mut tx, rx) = make_rings(alloc, lines).ok()?;
     let (back, mut back_out) = back_ring(alloc).ok()?;
-    let mut worker = SinkWorker::new(alloc, lines, u32::MAX, 2340, rx, back).ok()?;
+    let options = Options::default();
+    let mut worker = SinkWorker::new(alloc, lines, u32::MAX, 2340, options, rx, back).ok()?;
     let mut feed = Feed::new(alloc, lines).ok()?;
     let mut out = Count { octets: 0 };
     let round = (PAYLOAD * ROWS * usize::from(lines)) as u64;

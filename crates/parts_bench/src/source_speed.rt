@@ -97,7 +97,7 @@ fn made(alloc: Global, members: u8, octets: u64) -> Result<Done, AllocError>
 {
     let frame = [0x5au8; FRAME];
     let mut out = blank_boxes(alloc, usize::from(members))?;
-    let mut core = SourceCore::new(alloc, members, 1, 2340)?;
+    let mut core = SourceCore::new(alloc, members, 1, 2340, 16)?;
     add_all(&mut core, &mut out);
     let a_frame = (PAYLOAD * usize::from(members)) as u64;
     let rounds = octets.div_ceil(a_frame).min(FRAMES);

@@ -5,6 +5,7 @@ ghost use Rattle.thread_sink.specs.Received.{received};
 
 use crate::counting_gate::Counter;
 use gfp_fill::{Filler, FrameQueue};
+use law_model::Options;
 use member_cells::{Cell, Container, Ctrl, PAYLOAD};
 use member_path::h4_multiframe::h4;
 use member_path::path_delay::{LineCore, Windows};
@@ -47,7 +48,7 @@ fn sink_of(alloc: Global, lines: u8, ticks: u32, ends: Vec<RingIn<Cell>>) -> Opt
     requires fresh { received ends.items ≡ replicate lines [] }
 {
     let (back, _back_out) = back_ring(alloc).ok()?;
-    SinkWorker::new(alloc, lines, ticks, 756, ends, back).ok()
+    SinkWorker::new(alloc, lines, ticks, 756, Options::default(), ends, back).ok()
 }
 
 // What three bursts do, where a cell comes after the first one.

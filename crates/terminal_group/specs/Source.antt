@@ -22,8 +22,10 @@ pub record IsUnusedCore (config : Config) (core : Terminal) : Type 0 where
   pub lines : core.lines ≡ config.lines
   pub lag : core.lag ≡ config.lag
   pub size : core.size ≡ config.size
+  pub statuses : core.statuses ≡ config.options.statuses
   pub ticks : core.ticks ≡ 0
-  pub made : (scenario : Scenario) → IsFresh scenario config.lines config.lag config.size → HasMade core scenario []
+  pub made : (scenario : Scenario) →
+      IsFresh scenario config.lines config.lag config.size config.options.statuses → HasMade core scenario []
 
 -- the source side of a leg, of which nothing has come
 pub record IsUnused (leg : Leg) (source : Source) : Type 0 where

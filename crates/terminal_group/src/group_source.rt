@@ -72,6 +72,7 @@ impl GroupSource {
                 script.config.lines,
                 script.config.lag,
                 script.config.size,
+                script.config.options.statuses,
             )?,
             total: script.config.ticks,
         })

@@ -1,3 +1,4 @@
+pub mod MemberWatchLaws
 pub mod LcasSinkLaws
 pub mod MarkedDelineatorLaws
 pub mod SinkCoreLaws

@@ -1,16 +1,17 @@
 //! The sink's side of LCAS (G.7042): what it tells the source of the control packets that it read. Begin with
 //! `SinkTable`; `rows_law`: further rows change no return packet of those before. Which packets are read, and
 //! which rows of payload are whole by them, is not said here. That the sink answers a change by RS-Ack as an
-//! echo of the change bit is this project's own.
+//! echo of the change bit, and that timers count packets, is this project's own.
 
 ghost use Rattle.std.specs.Prelude.{◌≡◌, ℕ, ◌+◌, ◌*◌, ◌<◌, ◌≤◌, [], ◌∷◌, ◌++◌, List, length, not, if◌then◌else◌};
-ghost use Rattle.std.specs.Prelude.{Option};
-ghost use Rattle.law_model.specs.Common.{Row, leader, ack_by, is_member, says_at, status_of, mst_of, return_of};
-ghost use Rattle.law_model.specs.Common.{state_next, sink_state};
+ghost use Rattle.law_model.specs.Common.{IsOptions, Row, leader, ack_by, return_of, state_next, sink_state};
+ghost use Rattle.law_model.specs.declared.script_types.Options.{Options};
+ghost use Rattle.terminal_sink.specs.member_watch.Watches.{AreWatched, is_changed, is_told, mst_by};
 ghost use Rattle.terminal_sink.specs.lcas_sink.SinkStates.{SinkTableStands, state_at, state_after};
 
+use crate::member_watch::{MemberWatch, is_member};
 pub use law_model::SinkState;
-use law_model::{MOST_LINES, Packet};
+use law_model::{MOST_LINES, Options, Packet};
 use member_cells::Ctrl;
 use std::marker::Model;
 
@@ -18,62 +19,90 @@ use std::marker::Model;
 #[derive(Clone, Copy)]
 pub struct SinkTable {
     lines: u8,
+    options: Options,
     /// How many rows were taken.
     taken: u32,
     /// The change bit of the last packet that led a row.
     ack: bool,
     states: [SinkState; MOST_LINES],
+    watches: [MemberWatch; MOST_LINES],
 }
 
 impl Model for SinkTable {
     ghost use Rattle.std.specs.Prelude.{◌≡◌, ◌≤◌, ℕ};
+    ghost use Rattle.law_model.specs.Common.{IsOptions};
     ghost use Rattle.law_model.specs.declared.lcas_states.SinkState.TheVariants.{Idle};
     ghost use Rattle.terminal_sink.specs.lcas_sink.SinkStates.{Sink, state_at};
 
     ghost Value = { Sink };
 
-    ghost view = { λ table. record { lines = table.lines; taken = table.taken; ack = table.ack; states = table.states } };
+    ghost view = { λ table. record {
+      lines = table.lines;
+      options = table.options;
+      taken = table.taken;
+      ack = table.ack;
+      states = table.states;
+      watches = table.watches;
+    } };
 
-    ghost invariant = { λ table. (table.lines ≤ 128) × ((line : ℕ) → table.lines ≤ line → state_at table.states line ≡ Idle) };
+    ghost invariant = { λ table. (table.lines ≤ 128) × IsOptions table.options
+        × ((line : ℕ) → table.lines ≤ line → state_at table.states line ≡ Idle) };
 
-    ghost inverse = { λ sink. record { lines = sink.lines; taken = sink.taken; ack = sink.ack; states = sink.states } };
+    ghost inverse = { λ sink. record {
+      lines = sink.lines;
+      options = sink.options;
+      taken = sink.taken;
+      ack = sink.ack;
+      states = sink.states;
+      watches = sink.watches;
+    } };
 }
 
 impl SinkTable {
-    /// The table of a group of `lines` lines, up to 128, of which no packet was read.
-    pub fn new(lines: u8) -> SinkTable
-        requires { lines ≤ 128 }
+    /// The table of a group of `lines` lines, up to 128, of which no packet was read. By `options` a line goes down
+    /// and comes up, and all statuses are told.
+    pub fn new(lines: u8, options: Options) -> SinkTable
+        requires lines { lines ≤ 128 }
+        requires options { IsOptions options }
         ensures lines { result.lines ≡ lines }
+        ensures options { result.options ≡ options }
         ensures stands { SinkTableStands result [] }
     {
         SinkTable {
             lines,
+            options,
             taken: 0,
             ack: false,
             states: all_idle(),
+            watches: all_unread(options),
         }
     }
 
     /// Takes the next row: of each line the packet that was read, or none. Gives the return packet that tells
     /// of it: the change bit of the last packet that was read, taken from the least line of its row, and the
-    /// statuses of one of sixteen groups of eight sequence numbers, each group in its turn.
+    /// statuses of a group of eight sequence numbers, each group in its turn. A status is OK where some line is up by
+    /// the timers and said this number last as a member, and no change was read since.
     pub fn packet_row(&mut self, row: &[Option<Packet>]) -> Packet
         requires few { self.old.taken < 4294967295 }
         requires lines { length row.now ≡ self.old.lines }
         ensures lines { self.new.lines ≡ self.old.lines }
+        ensures options { self.new.options ≡ self.old.options }
         ensures taken { self.new.taken ≡ self.old.taken + 1 }
         ensures stands { (rows : List Row) → SinkTableStands self.old rows →
             SinkTableStands self.new (rows ++ row.now ∷ []) }
         ensures packet { (rows : List Row) → SinkTableStands self.old rows →
-            result ≡ return_of (rows ++ row.now ∷ []) (length rows) }
+            result ≡ return_of self.old.options (rows ++ row.now ∷ []) (length rows) }
     {
-        self.ack = ack_after(self.ack, row);
+        let ack = ack_after(self.ack, row);
+        let changed = ack != self.ack;
+        self.ack = ack;
         take_packets(&mut self.states, row);
-        let group = (self.taken % 16) as u8;
+        watch_packets(&mut self.watches, row, changed, self.options);
+        let group = (self.taken % u32::from(self.options.statuses)) as u8;
         self.taken += 1;
         Packet {
-            mst: member_status(row, 8 * group),
-            rs_ack: self.ack,
+            mst: member_status(&self.watches[..row.len()], 8 * group),
+            rs_ack: ack,
             chg: false,
             sq: 255,
             mfi2: (self.taken % 256) as u8,
@@ -98,8 +127,8 @@ impl SinkTable {
 
 /// What was told of a row stands: further rows change no return packet of those before.
 pub fn rows_law()
-    ensures { (rows more : List Row) (k : ℕ) → k < length rows →
-        return_of (rows ++ more) k ≡ return_of rows k }
+    ensures { (options : Options) (rows more : List Row) (k : ℕ) → k < length rows →
+        return_of options (rows ++ more) k ≡ return_of options rows k }
 {}
 
 /// No line is a member.
@@ -107,6 +136,14 @@ fn all_idle() -> [SinkState; MOST_LINES]
     ensures { (line : ℕ) → state_at result line ≡ SinkState.Idle }
 {
     [SinkState::Idle; MOST_LINES]
+}
+
+/// No packet of a line has come.
+fn all_unread(options: Options) -> [MemberWatch; MOST_LINES]
+    requires { IsOptions options }
+    ensures { AreWatched options [] 128 result }
+{
+    [MemberWatch::new(options); MOST_LINES]
 }
 
 /// The change bit to acknowledge after a row.
@@ -152,46 +189,47 @@ fn state_next(state: SinkState, packet: &Option<Packet>) -> SinkState
     }
 }
 
-/// Whether the control word is that of a member.
-fn is_member(ctrl: Ctrl) -> bool
-    ensures { result ≡ is_member ctrl }
+/// Goes on with the timers and the last word of each line of a row. `changed` says whether a change was read in it.
+fn watch_packets(
+    watches: &mut [MemberWatch],
+    row: &[Option<Packet>],
+    changed: bool,
+    options: Options,
+)
+    requires lines { length row.now ≤ length watches.old }
+    requires options { IsOptions options }
+    ensures { (rows : List Row) → AreWatched options rows (length row.now) watches.old →
+        changed ≡ is_changed rows row.now →
+        AreWatched options (rows ++ row.now ∷ []) (length row.now) watches.new }
 {
-    !matches!(ctrl, Ctrl::Idle)
+    for (line, packet) in row.iter().enumerate() {
+        watches[line] = watches[line].next(packet, changed, options);
+    }
 }
 
 /// The octet of the eight statuses from a sequence number on: OK is 0, and the first one stands in the most
 /// significant bit.
-fn member_status(row: &[Option<Packet>], first: u8) -> u8
+fn member_status(watches: &[MemberWatch], first: u8) -> u8
     requires { first ≤ 248 }
-    ensures { result ≡ mst_of row.now first }
+    ensures { result ≡ mst_by watches.now first }
 {
     let mut mst = 0;
     for place in 0..8 {
-        mst = 2 * mst + status_bit(row, first + place);
+        mst = 2 * mst + status_bit(watches, first + place);
     }
     mst
 }
 
 /// The bit that says the status of a sequence number.
-fn status_bit(row: &[Option<Packet>], sq: u8) -> u8
-    ensures { result ≡ (if not (status_of row.now sq) then 1 else 0) }
+fn status_bit(watches: &[MemberWatch], sq: u8) -> u8
+    ensures { result ≡ (if not (is_told watches.now sq) then 1 else 0) }
 {
-    if is_said(row, sq) { 0 } else { 1 }
+    if is_told(watches, sq) { 0 } else { 1 }
 }
 
-/// Whether some line of a row is a member with this sequence number.
-fn is_said(row: &[Option<Packet>], sq: u8) -> bool
-    ensures { result ≡ status_of row.now sq }
+/// Whether some line is up and said this sequence number last.
+fn is_told(watches: &[MemberWatch], sq: u8) -> bool
+    ensures { result ≡ is_told watches.now sq }
 {
-    row.iter().any(|packet| says_at(packet, sq))
-}
-
-/// Whether a packet is that of a member with this sequence number.
-fn says_at(packet: &Option<Packet>, sq: u8) -> bool
-    ensures { result ≡ says_at sq packet.now }
-{
-    match packet {
-        Some(packet) => is_member(packet.ctrl) && packet.sq == sq,
-        None => false,
-    }
+    watches.iter().any(|watch| watch.says(sq))
 }

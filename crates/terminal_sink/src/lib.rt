@@ -7,10 +7,12 @@
 //!   read.
 //! - `marked_delineator`: the receiver of a stream of GFP frames (G.7041) that also tells of each segment which place
 //!   was confirmed first in it: its mark.
+//! - `member_watch`, which is private: whether a line is up by its timers, and what it said last.
 //! - `sink_core`: the sink terminal of a group: it takes the rows of its lines one by one, gives the frames
 //!   that come through, and says the return packets (G.707, G.7041, G.7042).
 #![tactic(auto)]
 
 pub mod lcas_sink;
 pub mod marked_delineator;
+mod member_watch;
 pub mod sink_core;

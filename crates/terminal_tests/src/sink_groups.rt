@@ -10,6 +10,7 @@ use gfp_headers::{core_bytes, type_bytes};
 use gfp_scramble::Scrambler;
 use group_rows::{Case, Said, case_of, case_rows, number};
 use kept_frames::KeptFrames;
+use law_model::Options;
 use member_cells::{Cell, Container, Ctrl, HeldContainer, PAYLOAD};
 use member_path::cell_numbers::CellSign;
 use member_path::h4_multiframe::h4;
@@ -311,7 +312,7 @@ fn sink_of(alloc: Global, case: &Case) -> Option<(RowGather, SinkCore)>
         return None;
     }
     let rows = RowGather::new(alloc, lines).ok()?;
-    let sink = SinkCore::new(alloc, lines, size).ok()?;
+    let sink = SinkCore::new(alloc, lines, size, Options::default()).ok()?;
     Some((rows, sink))
 }
 

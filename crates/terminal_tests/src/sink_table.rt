@@ -1,8 +1,9 @@
 //! Rows of packets that two lines carry, what is told of them, and the states after each.
 
 ghost use Rattle.std.specs.Prelude.{◌≡◌, ◌+◌, ◌≤◌};
+ghost use Rattle.law_model.specs.Common.{IsStatuses};
 
-use law_model::Packet;
+use law_model::{Options, Packet};
 use member_cells::Ctrl;
 use terminal_sink::lcas_sink::{SinkState, SinkTable};
 
@@ -52,6 +53,41 @@ fn listed() -> &'static str {
     a- ff + fi\n\
     a- ff + fi\n\
     a- 7f + fi"
+}
+
+/// Rows of a table that tells all statuses in 32 packets: the line that isn't read last is held.
+fn held() -> &'static str {
+    "\
+    a- 7f + fi\na- ff + fi\na- ff + fi\na- ff + fi\na- ff + fi\na- ff + fi\n\
+    a- ff + fi\na- ff + fi\na- ff + fi\na- ff + fi\na- ff + fi\na- ff + fi\n\
+    a- ff + fi\na- ff + fi\na- ff + fi\na- ff + fi\na- ff + fi\na- ff + fi\n\
+    a- ff + fi\na- ff + fi\na- ff + fi\na- ff + fi\na- ff + fi\na- ff + fi\n\
+    a- ff + fi\na- ff + fi\na- ff + fi\na- ff + fi\na- ff + fi\na- ff + fi\n\
+    a- ff + fi\na- ff + fi\n-- 7f + xi"
+}
+
+/// Rows of a line that is up after sixteen packets in turn.
+fn restored() -> &'static str {
+    "\
+    -- ff - ii\na- ff + fi\na- ff + fi\na- ff + fi\na- ff + fi\na- ff + fi\n\
+    a- ff + fi\na- ff + fi\na- ff + fi\na- ff + fi\na- ff + fi\na- ff + fi\n\
+    a- ff + fi\na- ff + fi\na- ff + fi\na- ff + fi\na- 7f + fi"
+}
+
+/// The same rows, where it is up after one more.
+fn down() -> &'static str {
+    "\
+    -- ff - ii\na- ff + fi\na- ff + fi\na- ff + fi\na- ff + fi\na- ff + fi\n\
+    a- ff + fi\na- ff + fi\na- ff + fi\na- ff + fi\na- ff + fi\na- ff + fi\n\
+    a- ff + fi\na- ff + fi\na- ff + fi\na- ff + fi\na- ff + fi"
+}
+
+/// Rows after the last of which a line is held, and has another change bit to answer than the one that it said.
+fn changed() -> &'static str {
+    "\
+    a- 7f + fi\na- ff + fi\na- ff + fi\na- ff + fi\na- ff + fi\na- ff + fi\n\
+    a- ff + fi\na- ff + fi\na- ff + fi\na- ff + fi\na- ff + fi\na- ff + fi\n\
+    a- ff + fi\na- ff + fi\na- ff + fi\na- ff + fi\n-d ff - xf"
 }
 
 /// The packet of a letter.
@@ -118,12 +154,12 @@ fn is_right(table: &mut SinkTable, row: &[u8], mfi2: u8) -> bool
 }
 
 /// The number of the first row that is not right, or that after the last one.
-fn right_rows(table: &mut SinkTable) -> u8
+fn right_rows(table: &mut SinkTable, rows: &str) -> u8
     requires lines { table.old.lines ≡ 2 }
     requires few { table.old.taken ≡ 0 }
 {
     let mut mfi2 = 1u8;
-    for row in listed().lines() {
+    for row in rows.lines() {
         if mfi2 > 100 || !is_right(table, row.as_bytes(), mfi2) {
             return mfi2;
         }
@@ -134,9 +170,39 @@ fn right_rows(table: &mut SinkTable) -> u8
 
 #[test]
 fn rows(rt: HostRuntime) {
-    let unknown = SinkTable::new(2).state(2);
+    let unknown = SinkTable::new(2, Options::default()).state(2);
     assert_eq!(rt;
-        (right_rows(&mut SinkTable::new(2)), unknown),
+        (
+            right_rows(&mut SinkTable::new(2, Options::default()), listed()),
+            unknown
+        ),
         (18, SinkState::Idle)
+    );
+}
+
+/// The number of the first row that isn't right under these options, or that after the last one.
+fn right_rows_under(holdoff: u16, restore: u16, statuses: u8, rows: &str) -> u8
+    requires holdoff { holdoff ≤ 5000 }
+    requires restore { restore ≤ 62500 }
+    requires statuses { IsStatuses statuses }
+{
+    let options = Options {
+        holdoff,
+        restore,
+        statuses,
+    };
+    right_rows(&mut SinkTable::new(2, options), rows)
+}
+
+#[test]
+fn timers(rt: HostRuntime) {
+    assert_eq!(rt;
+        (
+            right_rows_under(1, 0, 32, held()),
+            right_rows_under(0, 15, 16, restored()),
+            right_rows_under(0, 16, 16, down()),
+            right_rows_under(5, 0, 16, changed())
+        ),
+        (34, 18, 18, 18)
     );
 }

@@ -1,6 +1,7 @@
 //! Worked steps of a table.
 
 ghost use Rattle.std.specs.Prelude.{◌≡◌, ◌<◌};
+ghost use Rattle.law_model.specs.Common.{IsStatuses};
 
 use law_model::Command;
 use member_cells::{BackCell, Ctrl};
@@ -28,7 +29,7 @@ type Steps = ([SourceState; 2], (Ctrl, u8, bool), (Ctrl, u8, u8), usize);
 
 /// A line is added, and its member status is OK from the second step on.
 fn steps_of_one_line(rs_ack: bool) -> Steps {
-    let mut table = SourceTable::new(1);
+    let mut table = SourceTable::new(1, 16);
     let before = table.state(0);
     let _ = table.add(0);
     table.decide(None);
@@ -60,7 +61,7 @@ fn one_line(rt: HostRuntime) {
 /// The answers to an unknown line, to one that is not in, to one that is in already, to one command too much,
 /// and to the same after a step; and how many commands were accepted before that.
 fn answers() -> ([Result<(), CommandFault>; 5], u32) {
-    let mut table = SourceTable::new(2);
+    let mut table = SourceTable::new(2, 16);
     let unknown = table.add(2);
     let not_in = table.remove(0);
     let mut twice = Ok(());
@@ -147,6 +148,20 @@ const REMOVED: [(usize, Said); 5] = [
     (37, (false, 2, [(Ctrl::Norm, 0), IDLE, (Ctrl::Eos, 1)])),
 ];
 
+/// The same, where 32 return packets tell all statuses.
+const REMOVED_LATE: [(usize, Said); 4] = [
+    (1, (false, 1, [(Ctrl::Eos, 0), (Ctrl::Add, 1), IDLE])),
+    (
+        32,
+        (true, 1, [(Ctrl::Eos, 0), (Ctrl::Add, 1), (Ctrl::Add, 2)]),
+    ),
+    (
+        33,
+        (true, 3, [(Ctrl::Norm, 0), (Ctrl::Norm, 1), (Ctrl::Eos, 2)]),
+    ),
+    (37, (false, 2, [(Ctrl::Norm, 0), IDLE, (Ctrl::Eos, 1)])),
+];
+
 /// A change waits for its acknowledgement, and a status of before it is not used.
 const WAITING: [(usize, Command); 3] = [
     (0, Command::Add(0)),
@@ -187,21 +202,24 @@ fn accepts(table: &mut SourceTable, commands: &[(usize, Command)], step: usize) 
     accepted
 }
 
-/// The first of 69 steps at which a command is refused, or the packets say otherwise, where each return
-/// packet comes `lag` steps later and the sink does not read one of the lines. Each command comes before its
-/// step.
+/// The first of 69 steps at which a command is refused, or the packets say otherwise, where so many return
+/// packets tell all statuses, each comes `lag` steps later and the sink does not read one of the lines. Each
+/// command comes before its step.
 fn first_wrong(
+    statuses: u8,
     lag: usize,
     silent: Option<u8>,
     commands: &[(usize, Command)],
     packets: &[(usize, Said)],
-) -> Option<usize> {
-    let mut table = SourceTable::new(3);
+) -> Option<usize>
+    requires { IsStatuses statuses }
+{
+    let mut table = SourceTable::new(3, statuses);
     let mut cells = [BackCell::Lost; 69];
     for step in 0..69 {
         let accepted = accepts(&mut table, commands, step);
         table.decide(step.checked_sub(lag).map(|k| cells[k]));
-        cells[step] = answer(&table, (step % 16) as u8, silent);
+        cells[step] = answer(&table, (step % usize::from(statuses)) as u8, silent);
         let said = said(&table);
         let mut wanted = packets.iter().filter(|packet| packet.0 == step);
         if !accepted || !wanted.all(|packet| packet.1 == said) {
@@ -214,11 +232,12 @@ fn first_wrong(
 #[test]
 fn courses(rt: HostRuntime) {
     let wrong = [
-        first_wrong(1, None, &REMOVAL, &REMOVED),
-        first_wrong(4, None, &WAITING, &WAITED),
-        first_wrong(1, Some(0), &UNSEEN, &OVERTAKEN),
+        first_wrong(16, 1, None, &REMOVAL, &REMOVED),
+        first_wrong(16, 4, None, &WAITING, &WAITED),
+        first_wrong(16, 1, Some(0), &UNSEEN, &OVERTAKEN),
+        first_wrong(32, 1, None, &REMOVAL, &REMOVED_LATE),
     ];
-    assert_eq!(rt; wrong, [None; 3]);
+    assert_eq!(rt; wrong, [None; 4]);
 }
 
 /// Draws of a generator of 64 bits.
@@ -302,7 +321,7 @@ fn digest_packets(sum: &mut u64, table: &SourceTable) -> bool
 /// The digests of four hundred steps of twenty-four lines, after each fifty.
 fn drawn() -> [u64; 8] {
     let mut draws = Draws(7);
-    let mut table = SourceTable::new(24);
+    let mut table = SourceTable::new(24, 16);
     let mut chg = false;
     let mut sum = 0;
     let mut sums = [0; 8];

@@ -65,7 +65,7 @@ fn source(alloc: Global, lines: u8, lag: u16, size: u16, added: u8) -> Option<So
     ensures lines { IfSome result (λ core. core.lines ≡ lines) }
     ensures ticks { IfSome result (λ core. core.ticks ≡ 0) }
 {
-    let mut core = SourceCore::new(alloc, lines, lag, size).ok()?;
+    let mut core = SourceCore::new(alloc, lines, lag, size, 16).ok()?;
     for line in 0..added {
         let _ = core.add(line);
     }

@@ -2,6 +2,8 @@
 use Rattle.std.specs.Prelude.{ℕ, nat_le, List, ◌++◌, codes, decimal, if◌then◌else◌}
 use Rattle.text_lines.specs.declared.field_fault.FieldFault.{FieldFault}
 use Rattle.text_lines.specs.declared.field_fault.FieldFault.TheVariants.{Number, Hex, Range, Size, Name}
+use Rattle.text_lines.specs.declared.field_fault.Names.{Names}
+use Rattle.text_lines.specs.declared.field_fault.Names.TheVariants.{Containers, Statuses}
 use Rattle.text_lines.specs.declared.field_fault.LineFault.{LineFault}
 use Rattle.text_lines.specs.declared.field_fault.LineFault.TheVariants as wrong
 
@@ -15,14 +17,19 @@ bounds_text least most =
     if nat_le least most then codes " is from " ++ decimal least ++ codes " to " ++ decimal most
     else codes " is at most " ++ decimal most
 
--- what a word has to be; the only names that a word chooses from are those of containers
+-- the names that a word chooses from
+abbrev pub names_text : Names → List ℕ
+names_text Containers = codes " is vc3 or vc4"
+names_text Statuses = codes " is 16 or 32"
+
+-- what a word has to be
 abbrev pub field_text : FieldFault → List ℕ
 field_text (Number at) = word_text at (codes " is a number of one to ten digits")
 field_text (Hex at) = word_text at (codes " is an even number of hexadecimal digits")
 field_text (Range at least most) = word_text at (bounds_text least most)
 field_text (Size at least most) =
     word_text at (codes " has " ++ decimal least ++ codes " to " ++ decimal most ++ codes " octets")
-field_text (Name at) = word_text at (codes " is vc3 or vc4")
+field_text (Name at names) = word_text at (names_text names)
 
 -- ---- of a line
 -- the line that this word begins takes so many words behind it, and so many are there

@@ -4,7 +4,7 @@ ghost use Rattle.text_lines.specs.declared.field_fault.FieldFault.{FieldFault};
 ghost use Rattle.text_help.specs.Helps.{word_text, bounds_text, field_text, count_text, missing_text, order_text};
 ghost use Rattle.text_help.specs.Helps.{first_text, fault_text};
 
-use text_lines::{FieldFault, LineFault};
+use text_lines::{FieldFault, LineFault, Names};
 use text_report::TextCursor;
 
 /// A word of a line, by its place, and what it is.
@@ -95,7 +95,10 @@ pub fn field_help(fault: FieldFault, out: &mut [u8]) -> usize
         }
         FieldFault::Range { word, least, most } => range_help(word, least, most, out),
         FieldFault::Size { word, least, most } => size_help(word, least, most, out),
-        FieldFault::Name { word } => word_help(word, b" is vc3 or vc4", out),
+        FieldFault::Name { word, names } => match names {
+            Names::Containers => word_help(word, b" is vc3 or vc4", out),
+            Names::Statuses => word_help(word, b" is 16 or 32", out),
+        },
     }
 }
 

@@ -1,6 +1,6 @@
 -- What a word of a line has to be, and the fault of one that isn't.
 use Rattle.std.specs.Prelude.{ℕ, ⊤, ◌≡◌, ◌+◌, ◌&&◌, nat_le, not, Bool, List, [], ◌∷◌, length, Option, Some, None}
-use Rattle.std.specs.Prelude.{Result, Ok, Err, bytes_eq, if◌then◌else◌}
+use Rattle.std.specs.Prelude.{Result, Ok, Err, bytes_eq, codes, if◌then◌else◌}
 use Rattle.std.specs.Option.{option_or}
 use Rattle.std.specs.List.{list_any}
 use Rattle.hex.specs.Hex.{decode_of}
@@ -9,6 +9,8 @@ use Rattle.text_lines.specs.declared.field_fault.LineKind.{LineKind}
 use Rattle.text_lines.specs.declared.field_fault.LineKind.TheVariants as kind
 use Rattle.text_lines.specs.declared.field_fault.FieldFault.{FieldFault}
 use Rattle.text_lines.specs.declared.field_fault.FieldFault.TheVariants.{Number, Hex, Range, Size, Name}
+use Rattle.text_lines.specs.declared.field_fault.Names.{Names}
+use Rattle.text_lines.specs.declared.field_fault.Names.TheVariants.{Containers, Statuses}
 use Rattle.text_lines.specs.declared.field_fault.FieldStop.{FieldStop}
 use Rattle.text_lines.specs.declared.field_fault.FieldStop.TheVariants as stop
 use Rattle.text_lines.specs.Words.{is_number, number_of}
@@ -28,7 +30,12 @@ field_kind (Number word) = kind.Number
 field_kind (Hex word) = kind.Hex
 field_kind (Range word least most) = kind.Range
 field_kind (Size word least most) = kind.Range
-field_kind (Name word) = kind.Word
+field_kind (Name word names) = kind.Word
+
+-- the names that a word has to be one of
+abbrev pub names_of : Names → List (List ℕ)
+names_of Containers = codes "vc3" ∷ codes "vc4" ∷ []
+names_of Statuses = codes "16" ∷ codes "32" ∷ []
 
 -- what a word has to be: a number within two bounds; any number; a number above that of the word before it, up to a
 -- bound; the hexadecimal digits of a number of octets within two bounds; one of some names
@@ -37,7 +44,7 @@ pub data Field : Type 0 where
   any : Field
   above : ℕ → Field
   digits : ℕ → ℕ → Field
-  one_of : List (List ℕ) → Field
+  one_of : Names → Field
 
 -- each of the word at a place of its line, counted from 1
 abbrev pub number_fault : ℕ → ℕ → ℕ → List ℕ → Option FieldFault
@@ -50,8 +57,8 @@ octets_fault at least most (Err e) = Some (Hex at)
 octets_fault at least most (Ok octets) =
     where_true (not (nat_le least (length octets) && nat_le (length octets) most)) (Size at least most)
 
-abbrev pub name_fault : ℕ → List (List ℕ) → List ℕ → Option FieldFault
-name_fault at names w = where_true (not (list_any (λ name. bytes_eq w name) names)) (Name at)
+abbrev pub name_fault : ℕ → Names → List ℕ → Option FieldFault
+name_fault at names w = where_true (not (list_any (λ name. bytes_eq w name) (names_of names))) (Name at names)
 
 -- the fault of a word, where the number before it is this one
 abbrev pub field_fault : Field → ℕ → ℕ → List ℕ → Option FieldFault

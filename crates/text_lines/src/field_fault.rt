@@ -34,6 +34,15 @@ pub enum LineKind {
     Missing,
 }
 
+/// The names that a word chooses from, in any language of lines.
+#[derive(Clone, Copy, Debug, PartialEq, Eq)]
+pub enum Names {
+    /// Those of containers.
+    Containers,
+    /// The numbers of return packets that tell all statuses.
+    Statuses,
+}
+
 /// What is wrong with a word of a line. The words of a line are counted from 1.
 #[derive(Clone, Copy, Debug, PartialEq, Eq, Error)]
 pub enum FieldFault {
@@ -51,7 +60,7 @@ pub enum FieldFault {
     Size { word: u64, least: u64, most: u64 },
     /// It is none of the names that it may be.
     #[error("word")]
-    Name { word: u64 },
+    Name { word: u64, names: Names },
 }
 
 impl FieldFault {

@@ -3,8 +3,8 @@
 //! what a text says in it, or its first fault by number, computes (`said_by`). Which line that is stands in the
 //! laws of each language, by `first_fault` and `all_said` of proofs/. `Table` is such a language by its keywords,
 //! their places, the words behind them and what a line adds; `read_text` reads a text of it. Which words a line
-//! may have isn't known here. Begin with `LineTable`, or with `next_line`, and with `number_within` and
-//! `octets_within` for what a word says.
+//! may have isn't known here, but for the names that a word has to be one of (`Names`). Begin with `LineTable`, or
+//! with `next_line`, and with `number_within` and `octets_within` for what a word says.
 #![tactic(auto)]
 
 mod field_fault;
@@ -13,7 +13,7 @@ mod split_text;
 mod split_words;
 mod table;
 
-pub use field_fault::{FieldFault, FieldStop, LineFault, LineKind, LineStop, TextFault};
+pub use field_fault::{FieldFault, FieldStop, LineFault, LineKind, LineStop, Names, TextFault};
 pub use read_fields::{number_within, octets_within};
 pub use split_text::{next_line, next_whole_line};
 pub use split_words::{

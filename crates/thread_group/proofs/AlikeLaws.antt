@@ -13,7 +13,7 @@ use Rattle.law_model.proofs.ListLaws.{at-range}
 use Rattle.check_nibbles.proofs.LockLaws.{slice_get-append, slice_get-append_seam}
 use Rattle.law_model.specs.Common.{Scenario, DueCommand, DueFrame, order_of, offer_of, orders_of, offers_of, steps_in}
 use Rattle.law_model.specs.Common.{lands_at, comes_at, Told, Source, asked_all, refusal, after, Stream, frame_refusal}
-use Rattle.law_model.specs.Common.{refusal_while, offered, Course, container_of, containers_of, frame_of}
+use Rattle.law_model.specs.Common.{refusal_while, offered, Course, container_of, containers_of, frame_of, default_options}
 use Rattle.law_model.specs.declared.script_types.Item.{Item}
 use Rattle.law_model.specs.declared.script_types.ItemKind.{ItemKind}
 use Rattle.law_model.specs.declared.script_types.ItemKind.TheVariants.{Frame, Add, Remove}
@@ -51,6 +51,7 @@ scenario_with setting orders offers = record {
   orders = orders;
   offers = offers;
   tells = [];
+  options = record default_options { statuses = setting.statuses };
 }
 
 kind-told : (setting : Setting) (orders : List DueCommand) (offers : List DueFrame) (ticks : ℕ) (kind : ItemKind) →
@@ -88,6 +89,7 @@ comes-kind scenario ticks (Frame octets) = record {
   lines = refl;
   lag = refl;
   size = refl;
+  statuses = refl;
   offers = not-yet (λ (offer : DueFrame). has_come ticks offer.due) scenario.offers
       (record { due = ticks; frame = octets }) (le-ltb ticks ticks (omega arith));
   orders = refl;
@@ -97,6 +99,7 @@ comes-kind scenario ticks (Add line) = record {
   lines = refl;
   lag = refl;
   size = refl;
+  statuses = refl;
   offers = refl;
   orders = not-yet (λ (order : DueCommand). has_come ticks order.due) scenario.orders
       (record { due = ticks; command = add line }) (le-ltb ticks ticks (omega arith));
@@ -106,6 +109,7 @@ comes-kind scenario ticks (Remove line) = record {
   lines = refl;
   lag = refl;
   size = refl;
+  statuses = refl;
   offers = refl;
   orders = not-yet (λ (order : DueCommand). has_come ticks order.due) scenario.orders
       (record { due = ticks; command = remove line }) (le-ltb ticks ticks (omega arith));
@@ -122,7 +126,15 @@ pub alike-cells : (scenario : Scenario) (a b : List (Option Told)) (ticks : ℕ)
     AgreeBefore (steps_in ticks - scenario.lag) a b → Alike scenario a scenario b ticks
 alike-cells scenario a b ticks agree =
     alike-landed scenario scenario a b ticks
-    (record { lines = refl; lag = refl; size = refl; offers = refl; orders = refl; tells = λ k low. refl }) agree
+    (record {
+      lines = refl;
+      lag = refl;
+      size = refl;
+      statuses = refl;
+      offers = refl;
+      orders = refl;
+      tells = λ k low. refl;
+    }) agree
 
 -- ---- why an item is refused
 pub refusal-alike : (one : Scenario) (a : List (Option Told)) (other : Scenario) (b : List (Option Told)) (t due : ℕ)

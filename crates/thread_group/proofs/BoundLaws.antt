@@ -60,6 +60,7 @@ of-then leg a b is same = record {
   lines = same.lines ∙ is.lines;
   lag = same.lag ∙ is.lag;
   size = same.size ∙ is.size;
+  statuses = same.statuses ∙ is.statuses;
   total = same.total ∙ is.total;
   lost = same.lost ∙ is.lost;
   items = same.items ∙ is.items;

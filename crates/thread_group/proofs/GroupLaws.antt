@@ -44,7 +44,7 @@ stands-of g = record {
 }
 
 pub script-same : (g : GroupState) → SameScript g g
-script-same g = record { lines = refl; lag = refl; size = refl; total = refl; lost = refl; items = refl }
+script-same g = record { lines = refl; lag = refl; size = refl; statuses = refl; total = refl; lost = refl; items = refl }
 
 -- ---- why an item isn't accepted, by the tests in their order
 abbrev pub fault_by : Option ℕ → ℕ → ℕ → ℕ → Option SubmitFault → Option SubmitFault
@@ -211,6 +211,7 @@ lands-in a b number kind answer why refused is met kept passed placed rest ticks
     lines = kept.lines;
     lag = kept.lag;
     size = kept.size;
+    statuses = kept.statuses;
     total = rest.total;
     lost = ap (λ (i : Inbox). i.lost) rest.inbox;
     items = passed.items;

@@ -34,18 +34,19 @@ pub keeps-begin : (at : Parts) (size : ℕ) → at.total ≤ 1000000 → at.sour
     at.source.lag ≤ 512 → size ≡ at.source.lines → length at.tx ≡ at.source.lines →
     AreUnused at.tx → in_passed at.back ≡ [] → at.landed.frames ≡ 0 → at.landed.commands ≡ 0 → at.landed.refusals ≡ [] →
     at.journal.entries ≡ [] → at.inbox ≡ empty_inbox at.inbox.lost at.source.lag →
-    ((scenario : Scenario) → IsFresh scenario at.source.lines at.source.lag at.source.size →
+    ((scenario : Scenario) → IsFresh scenario at.source.lines at.source.lag at.source.size at.source.statuses →
     HasMade at.source scenario []) → Keeps at size
 unfolding come_from
 keeps-begin at size total none lines lag places rings unused passed no_frame no_command no_refusal entries inbox make =
     let setting = setting_in at in
     let used : used_in at.source.lag at.source.ticks ≡ 0 = omega arith in
     let told : told_in_parts at ≡ [] = ap (λ n. take n (told_from at.inbox.lost (in_passed at.back))) used in
-    let fresh : IsFresh (journal_scenario setting []) at.source.lines at.source.lag at.source.size =
+    let fresh : IsFresh (journal_scenario setting []) at.source.lines at.source.lag at.source.size at.source.statuses =
     record {
       of_lines = length-replicate at.source.lines [];
       of_lag = refl;
       of_size = refl;
+      of_statuses = refl;
       no_offers = refl;
       no_orders = refl;
       no_tells = refl;
@@ -126,14 +127,27 @@ keeps-refused at size landed k items frames commands behind refused = record {
       (told_in_parts at) at.source.ticks l at.journal.entries landed.refusals) (sym items) refused;
 }
 
+-- the setting of a source of this kind
+abbrev setting_by : Terminal → ℕ → List (ℕ × ℕ) → Setting
+setting_by source total lost = record {
+  lines = source.lines;
+  lag = source.lag;
+  ticks = total;
+  size = source.size;
+  statuses = source.statuses;
+  lost = lost;
+}
+
 same-setting : (one other : Terminal) (total : ℕ) (lost was : List (ℕ × ℕ)) → SameKind other one → lost ≡ was →
-    ◌≡◌ {A = Setting} (record { lines = other.lines; lag = other.lag; ticks = total; size = other.size; lost = lost })
-    (record { lines = one.lines; lag = one.lag; ticks = total; size = one.size; lost = was })
+    setting_by other total lost ≡ setting_by one total was
 same-setting one other total lost was kind same =
-    ap (λ n. record { lines = n; lag = other.lag; ticks = total; size = other.size; lost = lost }) kind.lines
-    ∙ ap (λ n. record { lines = one.lines; lag = n; ticks = total; size = other.size; lost = lost }) kind.lag
-    ∙ ap (λ n. record { lines = one.lines; lag = one.lag; ticks = total; size = n; lost = lost }) kind.size
-    ∙ ap (λ l. record { lines = one.lines; lag = one.lag; ticks = total; size = one.size; lost = l }) same
+    let of : ℕ → ℕ → ℕ → ℕ → List (ℕ × ℕ) → Setting = λ lines lag size statuses lost.
+    record { lines = lines; lag = lag; ticks = total; size = size; statuses = statuses; lost = lost } in
+    ap (λ n. of n other.lag other.size other.statuses lost) kind.lines
+    ∙ ap (λ n. of one.lines n other.size other.statuses lost) kind.lag
+    ∙ ap (λ n. of one.lines one.lag n other.statuses lost) kind.size
+    ∙ ap (λ n. of one.lines one.lag one.size n lost) kind.statuses
+    ∙ ap (of one.lines one.lag one.size one.statuses) same
 
 windows-long : (at : Parts) → length (scenario_in at).windows ≡ at.source.lines
 windows-long at = length-replicate at.source.lines []
@@ -245,7 +259,7 @@ keeps-moved at size inbox back k moved =
     let scenario : scenario_in next ≡ scenario_in at =
     ap (λ (s : Setting). journal_scenario s at.journal.entries)
     (same-setting at.source at.source at.total inbox.lost at.inbox.lost
-    (record { lines = refl; lag = refl; size = refl }) moved.lost) in
+    (record { lines = refl; lag = refl; size = refl; statuses = refl }) moved.lost) in
     record {
       total = k.total;
       ticks = k.ticks;

@@ -87,6 +87,7 @@ module _ (leg : Leg) (g : GroupState) (tx : Vec (OutEnd Container)) (back : InEn
       lines = is.of_script.lines;
       lag = is.of_script.lag;
       size = is.of_script.size;
+      statuses = is.of_script.statuses;
       total = is.of_script.total;
       lost = is.of_script.lost;
       items = is.of_script.items;

@@ -24,7 +24,7 @@ use Rattle.terminal_group.proofs.SourceLaws.{early-none, early-done, early-held}
 use Rattle.thread_group.specs.Answer.{stop_of}
 use Rattle.thread_group.specs.Rings.{SameOuts, HasLooked, HaveLooked, AreFree, IsFirstFull, IsDrained}
 use Rattle.thread_group.specs.Group.{parts_of, side_of, lost_of, items_of, frames_of, commands_of, journal_of, lines_of}
-use Rattle.thread_group.specs.Group.{lag_of, size_of, SameScript, SameLanded, ticks_of, total_of, taken_of, source_of}
+use Rattle.thread_group.specs.Group.{lag_of, size_of, statuses_of, SameScript, SameLanded, ticks_of, total_of, taken_of, source_of}
 use Rattle.thread_group.specs.Group.{inbox_of, held_of, replay_of, is_ticked, IsFreeToTick, AreMoved, IsMissing}
 use Rattle.thread_group.specs.Group.{ArePushedOf}
 use Rattle.thread_group.specs.Calls.{Ticks, Comes, Looks, Makes}
@@ -37,6 +37,7 @@ script-then a b d s t = record {
   lines = t.lines ∙ s.lines;
   lag = t.lag ∙ s.lag;
   size = t.size ∙ s.size;
+  statuses = t.statuses ∙ s.statuses;
   total = t.total
       ∙ s.total;
   lost = t.lost ∙ s.lost;
@@ -115,24 +116,22 @@ rests-looks a b d comes looks = record {
 -- the session of the journal is the same
 same-replay : (a d : GroupState) → Rests a d → replay_of d ≡ replay_of a
 same-replay a d rests =
-    ap (λ n. journal_scenario (record
-    { lines = n; lag = lag_of d; ticks = total_of d; size = size_of d; lost = lost_of d }) (journal_of d))
-    rests.script.lines
-    ∙ ap (λ n. journal_scenario (record
-    { lines = lines_of a; lag = n; ticks = total_of d; size = size_of d; lost = lost_of d }) (journal_of d))
-    rests.script.lag
-    ∙ ap (λ n. journal_scenario (record
-    { lines = lines_of a; lag = lag_of a; ticks = n; size = size_of d; lost = lost_of d }) (journal_of d))
-    rests.script.total
-    ∙ ap (λ n. journal_scenario (record
-    { lines = lines_of a; lag = lag_of a; ticks = total_of a; size = n; lost = lost_of d }) (journal_of d))
-    rests.script.size
-    ∙ ap (λ l. journal_scenario (record
-    { lines = lines_of a; lag = lag_of a; ticks = total_of a; size = size_of a; lost = l }) (journal_of d))
-    rests.script.lost
-    ∙ ap (λ (l : List Numbered). journal_scenario
-    (record { lines = lines_of a; lag = lag_of a; ticks = total_of a; size = size_of a; lost = lost_of a }) l)
-    rests.landed.journal
+    let of : ℕ → ℕ → ℕ → ℕ → ℕ → List (ℕ × ℕ) → List Numbered → Scenario =
+    λ lines lag ticks size statuses lost entries. journal_scenario (record {
+      lines = lines;
+      lag = lag;
+      ticks = ticks;
+      size = size;
+      statuses = statuses;
+      lost = lost;
+    }) entries in
+    ap (λ n. of n (lag_of d) (total_of d) (size_of d) (statuses_of d) (lost_of d) (journal_of d)) rests.script.lines
+    ∙ ap (λ n. of (lines_of a) n (total_of d) (size_of d) (statuses_of d) (lost_of d) (journal_of d)) rests.script.lag
+    ∙ ap (λ n. of (lines_of a) (lag_of a) n (size_of d) (statuses_of d) (lost_of d) (journal_of d)) rests.script.total
+    ∙ ap (λ n. of (lines_of a) (lag_of a) (total_of a) n (statuses_of d) (lost_of d) (journal_of d)) rests.script.size
+    ∙ ap (λ n. of (lines_of a) (lag_of a) (total_of a) (size_of a) n (lost_of d) (journal_of d)) rests.script.statuses
+    ∙ ap (λ l. of (lines_of a) (lag_of a) (total_of a) (size_of a) (statuses_of a) l (journal_of d)) rests.script.lost
+    ∙ ap (of (lines_of a) (lag_of a) (total_of a) (size_of a) (statuses_of a) (lost_of a)) rests.landed.journal
 
 -- ---- why nothing was made
 record Causes (a b : GroupState) (answer : TickAnswer) : Type 0 where

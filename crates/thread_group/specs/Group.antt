@@ -42,6 +42,10 @@ lag_of g = (parts_of g).source.lag
 abbrev pub size_of : GroupState → ℕ
 size_of g = (parts_of g).source.size
 
+-- how many return packets tell all statuses
+abbrev pub statuses_of : GroupState → ℕ
+statuses_of g = (parts_of g).source.statuses
+
 -- how many ticks there are
 abbrev pub total_of : GroupState → ℕ
 total_of g = (parts_of g).total
@@ -59,6 +63,7 @@ pub record IsOf (leg : Leg) (g : GroupState) : Type 0 where
   pub lines : lines_of g ≡ leg.config.lines
   pub lag : lag_of g ≡ leg.config.lag
   pub size : size_of g ≡ leg.config.size
+  pub statuses : statuses_of g ≡ leg.config.options.statuses
   pub total : total_of g ≡ leg.config.ticks
   pub lost : lost_of g ≡ leg.config.lost
   pub items : items_of g ≡ bare_items leg.items
@@ -68,6 +73,7 @@ pub record SameScript (a b : GroupState) : Type 0 where
   pub lines : lines_of b ≡ lines_of a
   pub lag : lag_of b ≡ lag_of a
   pub size : size_of b ≡ size_of a
+  pub statuses : statuses_of b ≡ statuses_of a
   pub total : total_of b ≡ total_of a
   pub lost : lost_of b ≡ lost_of a
   pub items : items_of b ≡ items_of a

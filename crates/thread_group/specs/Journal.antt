@@ -1,7 +1,7 @@
 -- The journal of what a group has accepted, and the session of that alone.
 use Rattle.std.specs.Prelude.{◌≡◌, ℕ, ◌&&◌, nat_lt, nat_le, Bool, List, [], map, take, replicate, slice_get, Option}
 use Rattle.std.specs.Prelude.{Some, None}
-use Rattle.law_model.specs.Common.{Scenario, offers_of, orders_of, Told}
+use Rattle.law_model.specs.Common.{Scenario, offers_of, orders_of, Told, default_options}
 use Rattle.law_model.specs.declared.script_types.Item.{Item}
 use Rattle.law_model.specs.declared.script_types.ItemKind.{ItemKind}
 use Rattle.law_walk.specs.Common.{Numbered, kind_refusal}
@@ -35,17 +35,18 @@ abbrev pub fits : Journal → ItemKind → Bool
 fits journal kind = nat_lt 0 journal.slots && nat_le (size_of kind) journal.bytes
 
 -- ---- the session of a journal
--- how many lines there are; the lag in packets; how many ticks there are; the payload octets of a container; the return
--- windows
+-- how many lines there are; the lag in packets; how many ticks there are; the payload octets of a container; how many
+-- return packets tell all statuses; the return windows
 pub record Setting : Type 0 where
   pub lines : ℕ
   pub lag : ℕ
   pub ticks : ℕ
   pub size : ℕ
+  pub statuses : ℕ
   pub lost : List (ℕ × ℕ)
 
--- what was accepted is all that lands, each after the ticks of its entry, and there is nothing to tell. No line fails:
--- what a source makes doesn't depend on failures
+-- what was accepted is all that lands, each after the ticks of its entry, and there is nothing to tell. No line fails,
+-- and no timer runs: what a source makes doesn't depend on failures, nor on the timers of its members
 abbrev pub journal_scenario : Setting → List Numbered → Scenario
 journal_scenario setting entries = record {
   lag = setting.lag;
@@ -56,6 +57,7 @@ journal_scenario setting entries = record {
   orders = orders_of (items_in entries);
   offers = offers_of (items_in entries);
   tells = [];
+  options = record default_options { statuses = setting.statuses };
 }
 
 -- a journal is legal: each entry is accepted at its place

@@ -5,8 +5,8 @@ use Rattle.terminal_source.specs.source_core.Given.{IsFresh, SourceStands as Has
 use Rattle.thread_group.specs.declared.open_group.Opened.{Opened}
 use Rattle.thread_group.specs.declared.group_state.GroupState.{GroupState}
 use Rattle.terminal_group.specs.Source.{IsUnused}
-use Rattle.thread_group.specs.Group.{IsOf, lines_of, lag_of, size_of, ticks_of, frames_of, commands_of, journal_of}
-use Rattle.thread_group.specs.Group.{refusals_of, inbox_of, source_of}
+use Rattle.thread_group.specs.Group.{IsOf, lines_of, lag_of, size_of, statuses_of, ticks_of}
+use Rattle.thread_group.specs.Group.{frames_of, commands_of, journal_of, refusals_of, inbox_of, source_of}
 
 -- the source of the leg, an empty journal, and a box for each line
 pub record IsOpened (leg : Leg) (opened : Opened) : Type 0 where
@@ -22,5 +22,5 @@ pub record IsBegun (leg : Leg) (g : GroupState) : Type 0 where
   pub journal : journal_of g ≡ []
   pub refusals : refusals_of g ≡ []
   pub inbox : inbox_of g ≡ []
-  pub made : (scenario : Scenario) → IsFresh scenario (lines_of g) (lag_of g) (size_of g) →
+  pub made : (scenario : Scenario) → IsFresh scenario (lines_of g) (lag_of g) (size_of g) (statuses_of g) →
       HasMade (source_of g) scenario []

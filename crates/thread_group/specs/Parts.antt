@@ -32,6 +32,7 @@ setting_in at = record {
   lag = at.source.lag;
   ticks = at.total;
   size = at.source.size;
+  statuses = at.source.statuses;
   lost = at.inbox.lost;
 }
 

@@ -27,9 +27,20 @@ pub trait Session: Send + Sync {
 
 impl Session for Brand {
     ghost use Rattle.std.specs.Prelude.{[]};
+    ghost use Rattle.law_model.specs.Common.{default_options};
 
     ghost script = { record {
-      config = record { lines = 0; delays = []; windows = []; lost = []; ring = 0; lag = 0; ticks = 0; size = 0 };
+      config = record {
+        lines = 0;
+        delays = [];
+        windows = [];
+        lost = [];
+        ring = 0;
+        lag = 0;
+        ticks = 0;
+        size = 0;
+        options = default_options;
+      };
       items = [];
       events = [];
     } };

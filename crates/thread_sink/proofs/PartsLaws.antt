@@ -6,6 +6,7 @@ use Rattle.std.proofs.lemmas.Bool.Decides.{nat_tests}
 use Rattle.std.proofs.lemmas.List.{length-map, append_cancel_left}
 use Rattle.std.proofs.lemmas.Option.{slice_get_within}
 use Rattle.law_model.specs.Common.{Cell, BackCell, delineate_within, hunt_within, segments_on, Start}
+use Rattle.law_model.specs.declared.script_types.Options.{Options}
 use Rattle.law_line.specs.StableRows.{IsLonger, AreDecidedAt}
 use Rattle.law_model.proofs.ListLaws.{slice_get-inside}
 use Rattle.member_rows.specs.realign_rows.Gather.{Gather, with_cell, GatherStands as Gathers}
@@ -57,18 +58,18 @@ ends-then a b c s t = record {
 }
 
 -- ---- the return cells stay
-pub backs-stay : (n : ℕ) (cells longer : List (List Cell)) → IsLonger cells longer →
-    ((t : ℕ) → t < n → AreDecidedAt cells t) → backs longer n ≡ backs cells n
+pub backs-stay : (options : Options) (n : ℕ) (cells longer : List (List Cell)) → IsLonger cells longer →
+    ((t : ℕ) → t < n → AreDecidedAt cells t) → backs options longer n ≡ backs options cells n
 unfolding backs
-backs-stay zero cells longer more decided = refl
-backs-stay (suc n) cells longer more decided =
-    ap₂ (λ a b. a ++ back_cells b) (backs-stay n cells longer more (λ t low. decided t (omega arith)))
-    (back-stays n cells longer more (decided n (omega arith)))
+backs-stay options zero cells longer more decided = refl
+backs-stay options (suc n) cells longer more decided =
+    ap₂ (λ a b. a ++ back_cells b) (backs-stay options n cells longer more (λ t low. decided t (omega arith)))
+    (back-stays options n cells longer more (decided n (omega arith)))
 
-pub backs-more : (cells : List (List Cell)) (t next : ℕ) → next ≡ t + 1 →
-    backs cells next ≡ backs cells t ++ back_cells (back_at cells t)
+pub backs-more : (options : Options) (cells : List (List Cell)) (t next : ℕ) → next ≡ t + 1 →
+    backs options cells next ≡ backs options cells t ++ back_cells (back_at options cells t)
 unfolding backs
-backs-more cells t next is = let e : next ≡ suc t = omega (arith, is) in ap (backs cells) e
+backs-more options cells t next is = let e : next ≡ suc t = omega (arith, is) in ap (backs options cells) e
 
 -- ---- frames of some rows, and then of more
 added-then : (size : ℕ) (cells longer : List (List Cell)) (a b c : ℕ) → a ≤ b → b ≤ c → IsLonger cells longer →
@@ -112,6 +113,7 @@ pub later-refl : (a : Parts) → Later a a
 later-refl a = record {
   lines = refl;
   size = refl;
+  options = refl;
   taken = omega arith;
   popped = omega arith;
   longer = longer-same (received a.rx) (received a.rx) refl;
@@ -123,6 +125,7 @@ pub later-then : (a b c : Parts) → Later a b → Later b c → Later a c
 later-then a b c s t = record {
   lines = t.lines ∙ s.lines;
   size = t.size ∙ s.size;
+  options = t.options ∙ s.options;
   taken = omega (arith, s.taken, t.taken);
   popped = omega (arith, s.popped, t.popped);
   longer = longer-then (received a.rx) (received b.rx) (received c.rx) s.longer t.longer;
@@ -144,6 +147,7 @@ pub later-cell : (was now : Gather) (core : Core) (rx after : List (InEnd Cell))
 later-cell was now core rx after back line took within ends = record {
   lines = refl;
   size = refl;
+  options = refl;
   taken = omega arith;
   popped = (let more = popped-more was now rx after line took within in omega (arith, more));
   longer = subst (IsLonger (received rx)) (sym took.passed) (with_cell-longer (received rx) line took.cell);
@@ -163,14 +167,14 @@ keeps-cell was now core rx after back line took ends keeps =
       lines = took.grew.lines ∙ keeps.lines;
       rings = ends.count ∙ keeps.rings;
       rows = took.grew.rows ∙ keeps.rows;
-      sent = keeps.sent ∙ sym (ap (λ cells. backs cells core.taken) took.passed
-          ∙ backs-stay core.taken (received rx) (with_cell (received rx) line took.cell) longer keeps.stands.decided);
+      sent = keeps.sent ∙ sym (ap (λ cells. backs core.options cells core.taken) took.passed
+          ∙ backs-stay core.options core.taken (received rx) (with_cell (received rx) line took.cell) longer keeps.stands.decided);
     }
 
 -- ---- a return packet has room
-pub back-room : (cells : List (List Cell)) (t free : ℕ) → (22 < t → t % 16 ≡ 7 → 0 < free) →
-    length (back_cells (back_at cells t)) ≤ free
-back-room cells t free room =
+pub back-room : (options : Options) (cells : List (List Cell)) (t free : ℕ) → (22 < t → t % 16 ≡ 7 → 0 < free) →
+    length (back_cells (back_at options cells t)) ≤ free
+back-room options cells t free room =
     elim (cases_Bool (nat_lt 22 t)) [
       | inr early ↦ rw early (omega arith)
       | inl late ↦
@@ -185,9 +189,9 @@ back-room cells t free room =
     ]
 
 -- ---- no row was taken
-pub backs-none : (cells : List (List Cell)) (t : ℕ) → t ≡ 0 → backs cells t ≡ []
+pub backs-none : (options : Options) (cells : List (List Cell)) (t : ℕ) → t ≡ 0 → backs options cells t ≡ []
 unfolding backs
-backs-none cells t none = ap (backs cells) none
+backs-none options cells t none = ap (backs options cells) none
 
 pub frames-none : (size : ℕ) (cells : List (List Cell)) (t : ℕ) → t ≡ 0 → length (given_frames size cells t) ≡ 0
 unfolding segments_on delineate_within hunt_within

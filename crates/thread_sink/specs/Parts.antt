@@ -29,12 +29,13 @@ pub record Keeps (at : Parts) : Type 0 where
   pub lines : line_count at.rows ≡ at.core.lines
   pub rings : length at.rx ≡ at.core.lines
   pub rows : at.rows.rows ≡ at.core.taken
-  pub sent : out_passed at.back ≡ backs (received at.rx) at.core.taken
+  pub sent : out_passed at.back ≡ backs at.core.options (received at.rx) at.core.taken
 
 -- the same parts, later
 pub record Later (a b : Parts) : Type 0 where
   pub lines : b.core.lines ≡ a.core.lines
   pub size : b.core.size ≡ a.core.size
+  pub options : b.core.options ≡ a.core.options
   pub taken : a.core.taken ≤ b.core.taken
   pub popped : popped (received a.rx) ≤ popped (received b.rx)
   pub longer : IsLonger (received a.rx) (received b.rx)

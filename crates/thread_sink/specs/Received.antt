@@ -2,6 +2,7 @@
 use Rattle.std.specs.Prelude.{◌≡◌, ℕ, zero, suc, ◌+◌, List, [], ◌∷◌, ◌++◌, length, map, slice_get, Option, Some, None}
 use Rattle.law_model.specs.Common.{one_more, Cell, BackCell, packet_nibbles}
 use Rattle.law_model.specs.declared.control_packet.Packet.{Packet}
+use Rattle.law_model.specs.declared.script_types.Options.{Options}
 use Rattle.member_cells.specs.declared.containers_and_cells.BackCell.TheVariants.{Packet as PacketCell}
 use Rattle.thread_rings.specs.Ends.{InEnd, in_passed, in_items, in_misses, SameIn}
 use Rattle.terminal_sink.specs.sink_core.Given.{back_at}
@@ -21,9 +22,9 @@ back_cells None = []
 back_cells (Some packet) = PacketCell (packet_nibbles packet) ∷ []
 
 -- the return cells of the first rows
-unfoldable pub backs : List (List Cell) → ℕ → List BackCell
-backs cells zero = []
-backs cells (suc t) = backs cells t ++ back_cells (back_at cells t)
+unfoldable pub backs : Options → List (List Cell) → ℕ → List BackCell
+backs options cells zero = []
+backs options cells (suc t) = backs options cells t ++ back_cells (back_at options cells t)
 
 -- the same ends of the same rings, at another moment
 pub record AreSameIns (a b : List (InEnd Cell)) : Type 0 where

@@ -1,6 +1,7 @@
 -- What a worker of the sink has received, taken and sent.
 use Rattle.std.specs.Prelude.{◌≡◌, ℕ, Bool, List}
 use Rattle.law_model.specs.Common.{Cell}
+use Rattle.law_model.specs.declared.script_types.Options.{Options}
 use Rattle.thread_sink.specs.declared.sink_worker.SinkWorker.{SinkWorker}
 use Rattle.thread_sink.specs.Received.{received}
 use Rattle.terminal_sink.specs.sink_core.Given.{given_frames}
@@ -21,6 +22,10 @@ lines_of worker = worker.core.lines
 -- how many payload octets a container has
 abbrev pub size_of : SinkWorker → ℕ
 size_of worker = worker.core.size
+
+-- by which options lines go down and come up, and statuses are told
+abbrev pub options_of : SinkWorker → Options
+options_of worker = worker.core.options
 
 -- how many rows are taken in all
 abbrev pub ticks_of : SinkWorker → ℕ

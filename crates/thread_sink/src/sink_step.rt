@@ -102,7 +102,8 @@ fn take_decided_row<F: FrameOut>(
     requires few { core.old.taken < 4294967295 }
     ensures lines { line_count rows.new ≡ line_count rows.old }
     ensures rows { rows.new.rows ≡ core.new.taken }
-    ensures same { (core.new.lines ≡ core.old.lines) × (core.new.size ≡ core.old.size) }
+    ensures same { (core.new.lines ≡ core.old.lines) × (core.new.size ≡ core.old.size)
+        × (core.new.options ≡ core.old.options) }
     ensures least { core.old.taken ≤ core.new.taken }
     ensures most { core.new.taken ≤ core.old.taken + 1 }
     ensures ring { SameOut back.old back.new }

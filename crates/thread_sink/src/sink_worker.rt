@@ -5,6 +5,7 @@ ghost use Rattle.member_rows.specs.realign_rows.Gather.{line_count};
 use crate::burst_answers::SinkBurst;
 use crate::burst_steps::take_rows;
 use crate::frame_counts::{CountOut, ToldOut};
+use law_model::Options;
 use member_cells::{BackCell, Cell};
 use member_rows::realign_rows::RowGather;
 use octet_io::{ByteSink, take_back};
@@ -37,34 +38,38 @@ pub struct SinkWorker {
 
 impl SinkWorker {
     ghost use Rattle.std.specs.Prelude.{◌≡◌, ◌≢◌, ◌+◌, ◌<◌, ◌≤◌, ◌↔◌, [], replicate, length, false, IfOk};
-    ghost use Rattle.law_model.specs.Common.{IsSize};
+    ghost use Rattle.law_model.specs.Common.{IsOptions, IsSize};
     ghost use Rattle.thread_rings.specs.Ends.{out_passed};
     ghost use Rattle.text_report.specs.Report.{got_texts};
     ghost use Rattle.terminal_sink.specs.sink_core.Given.{given_frames, added_frames};
     ghost use Rattle.thread_sink.specs.Told.{Writes, count_of};
     ghost use Rattle.thread_sink.specs.Received.{received, backs};
     ghost use Rattle.thread_sink.specs.Parts.{Does};
-    ghost use Rattle.thread_sink.specs.Worker.{cells_of, parts_of, lines_of, size_of, ticks_of, taken_of, got_of};
-    ghost use Rattle.thread_sink.specs.Worker.{has_failed, IsLater, SinkWorkerStands};
+    ghost use Rattle.thread_sink.specs.Worker.{cells_of, parts_of, lines_of, size_of, options_of, ticks_of, taken_of};
+    ghost use Rattle.thread_sink.specs.Worker.{got_of, has_failed, IsLater, SinkWorkerStands};
 
     /// The worker of the sink of a group of `lines` lines, whose containers have `size` payload octets, for
-    /// `ticks` rows, over fresh rings, one for each line, and a fresh return ring.
+    /// `ticks` rows, over fresh rings, one for each line, and a fresh return ring. By `options` lines go down and
+    /// come up, and statuses are told.
     pub fn new(
         alloc: Global,
         lines: u8,
         ticks: u32,
         size: u16,
+        options: Options,
         rx: Vec<RingIn<Cell>>,
         back: RingOut<BackCell>,
     ) -> Result<SinkWorker, AllocError>
         requires least { 1 ≤ lines }
         requires most { lines ≤ 128 }
         requires size { IsSize size }
+        requires options { IsOptions options }
         requires rings { length rx.items ≡ lines }
         requires fresh { received rx.items ≡ replicate lines [] }
         requires back { out_passed back ≡ [] }
         ensures lines { IfOk result (λ worker. lines_of worker ≡ lines) }
         ensures size { IfOk result (λ worker. size_of worker ≡ size) }
+        ensures options { IfOk result (λ worker. options_of worker ≡ options) }
         ensures ticks { IfOk result (λ worker. ticks_of worker ≡ ticks) }
         ensures taken { IfOk result (λ worker. taken_of worker ≡ 0) }
         ensures got { IfOk result (λ worker. got_of worker ≡ 0) }
@@ -73,7 +78,7 @@ impl SinkWorker {
         ensures stands { IfOk result (λ worker. SinkWorkerStands worker) }
     {
         let rows = RowGather::new(alloc, lines)?;
-        let core = SinkCore::new(alloc, lines, size)?;
+        let core = SinkCore::new(alloc, lines, size, options)?;
         let place = Cell::new_place(alloc)?;
         let block = Box::new(alloc, TextBlock::new())?;
         Ok(SinkWorker {
@@ -95,7 +100,8 @@ impl SinkWorker {
     pub fn burst<K: ByteSink, G: Gate>(&mut self, out: &mut K, gate: &G) -> SinkBurst
         ensures stands { SinkWorkerStands self.old → SinkWorkerStands self.new }
         ensures sent { SinkWorkerStands self.old →
-            out_passed self.new.back ≡ backs (cells_of self.new) (taken_of self.new) }
+            out_passed self.new.back
+            ≡ backs (options_of self.new) (cells_of self.new) (taken_of self.new) }
         ensures written { SinkWorkerStands self.old →
             Writes K.written K.faults (has_failed self.old) (has_failed self.new) out.old out.new
             (got_texts (added_frames (size_of self.new) (cells_of self.new)

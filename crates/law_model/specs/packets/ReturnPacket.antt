@@ -1,8 +1,11 @@
 -- G.7042, what the sink tells: rows of control packets, one packet of each line or none where it could not be read, and
--- the return packet that each row makes. RS-Ack as an echo, and statuses told by 16 packets, are this project's own.
-use Rattle.std.specs.Prelude.{ℕ, ◌+◌, ◌*◌, ◌%◌, ◌==◌, ◌&&◌, not, Bool, true, false, if◌then◌else◌, List, [], ◌∷◌, map}
-use Rattle.std.specs.Prelude.{fold, take, slice_index_or, Option, Some, None}
-use Rattle.std.specs.List.{list_any, range_with_len}
+-- the return packet that each row makes. RS-Ack as an echo, statuses told by 16 packets, and that a change ends what a
+-- line said last are this project's own.
+use Rattle.std.specs.Prelude.{ℕ, ◌+◌, ◌-◌, ◌*◌, ◌%◌, ◌==◌, ◌&&◌, not, Bool, true, false, if◌then◌else◌, List, [], ◌∷◌}
+use Rattle.std.specs.Prelude.{map, length, fold, take, slice_index_or, Option, Some, None, is_some}
+use Rattle.std.specs.List.{list_any, list_all, range_with_len}
+use Rattle.law_model.specs.declared.script_types.Options.{Options}
+use Rattle.law_model.specs.members.Timers.{last_read, is_up}
 use Rattle.check_remainder.specs.Bits.{number}
 use Rattle.member_cells.specs.declared.control_word.Ctrl.{Ctrl}
 use Rattle.member_cells.specs.declared.control_word.Ctrl.TheVariants.{Fixed, Add, Norm, Eos, Idle, Dnu}
@@ -42,18 +45,54 @@ abbrev pub says_at : ℕ → Option Packet → Bool
 says_at sq None = false
 says_at sq (Some packet) = is_member packet.ctrl && packet.sq == sq
 
--- the status of an SQ is OK where some line says it
-abbrev pub status_of : Row → ℕ → Bool
-status_of row sq = list_any (says_at sq) row
+-- ---- what a line said last
+abbrev pub packet_row : List Row → ℕ → Row
+packet_row rows k = slice_index_or rows k []
+
+-- packet k of a line, where it was read
+abbrev pub packet_on : List Row → ℕ → ℕ → Option Packet
+packet_on rows line k = slice_index_or (packet_row rows k) line None
+
+abbrev pub has_packet : List Row → ℕ → ℕ → Bool
+has_packet rows line k = is_some (packet_on rows line k)
+
+-- packets that are there have one change bit
+abbrev pub is_same : Bool → Bool → Bool
+is_same bit other = if bit then other else not other
+
+abbrev pub agree : Option Packet → Option Packet → Bool
+agree None other = true
+agree (Some packet) None = true
+agree (Some packet) (Some other) = is_same packet.chg other.chg
+
+-- the leaders that there are from one packet to another have one change bit
+abbrev pub have_one_chg : List Row → ℕ → ℕ → Bool
+have_one_chg rows from k =
+    list_all (λ j. agree (leader (packet_row rows from)) (leader (packet_row rows j))) (range_with_len from (k + 1 - from))
+
+-- the last packet of a line up to packet k, where no change was read since
+abbrev pub last_word_by : List Row → ℕ → ℕ → Option ℕ → Option Packet
+last_word_by rows line k None = None
+last_word_by rows line k (Some last) = if have_one_chg rows last k then packet_on rows line last else None
+
+abbrev pub last_word : List Row → ℕ → ℕ → Option Packet
+last_word rows line k = last_word_by rows line k (last_read (has_packet rows line) k)
+
+-- ---- statuses
+-- the status of an SQ is OK where some line is up and said last that it is a member with this SQ
+abbrev pub status_of : Options → List Row → ℕ → ℕ → Bool
+status_of options rows k sq =
+    list_any (λ line. is_up options (has_packet rows line) k && says_at sq (last_word rows line k))
+    (range_with_len 0 (length (packet_row rows k)))
 
 -- member status of the eight SQ from one on: OK is 0, and that of the least SQ stands in the most significant bit
-abbrev pub mst_of : Row → ℕ → ℕ
-mst_of row sq = number (map (λ place. not (status_of row place)) (range_with_len sq 8))
+abbrev pub mst_of : Options → List Row → ℕ → ℕ → ℕ
+mst_of options rows k sq = number (map (λ place. not (status_of options rows k place)) (range_with_len sq 8))
 
--- return packet k of rows from packet 0 on: it tells of sixteen groups of SQ in turn
-abbrev pub return_of : List Row → ℕ → Packet
-return_of rows k = record {
-  mst = mst_of (slice_index_or rows k []) (8 * (k % 16));
+-- return packet k of rows from packet 0 on: it tells of the groups of eight SQ in turn
+abbrev pub return_of : Options → List Row → ℕ → Packet
+return_of options rows k = record {
+  mst = mst_of options rows k (8 * (k % options.statuses));
   rs_ack = ack_of (take (k + 1) rows);
   chg = false;
   sq = 255;

@@ -12,6 +12,7 @@ use Rattle.member_cells.specs.declared.containers_and_cells.Cell.{Cell}
 use Rattle.member_cells.specs.declared.control_word.Ctrl.{Ctrl}
 use Rattle.member_cells.specs.declared.control_word.Ctrl.TheVariants.{Fixed, Add, Norm, Eos, Idle, Dnu}
 use Rattle.law_model.specs.declared.control_packet.Packet.{Packet}
+use Rattle.law_model.specs.declared.script_types.Options.{Options}
 use Rattle.law_model.specs.packets.Packet.{read_of}
 use Rattle.law_model.specs.members.Number.{verdict}
 use Rattle.law_model.specs.packets.MemberPacket.{nibbles_of}
@@ -111,5 +112,5 @@ first_open cells t = position_from (λ own. is_none (verdict own t)) 0 cells
 
 -- ---- return packets
 -- return packet k, by the packets that are read up to it
-abbrev pub return_at : List (List Cell) → ℕ → Packet
-return_at cells k = return_of (map (read_packets cells) (range_with_len 0 (k + 1))) k
+abbrev pub return_at : Options → List (List Cell) → ℕ → Packet
+return_at options cells k = return_of options (map (read_packets cells) (range_with_len 0 (k + 1))) k

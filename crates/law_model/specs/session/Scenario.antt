@@ -7,6 +7,7 @@ use Rattle.law_model.specs.declared.window_types.Window.{Window}
 use Rattle.law_model.specs.declared.window_types.Carried.{Carried}
 use Rattle.law_model.specs.declared.lcas_states.Command.{Command}
 use Rattle.law_model.specs.declared.lcas_states.Command.TheVariants.{Add as add, Remove as remove}
+use Rattle.law_model.specs.declared.script_types.Options.{Options}
 use Rattle.law_model.specs.declared.script_types.Script.{Script}
 use Rattle.law_model.specs.declared.script_types.Item.{Item}
 use Rattle.law_model.specs.declared.script_types.ItemKind.{ItemKind}
@@ -28,7 +29,7 @@ pub record DueFrame : Type 0 where
 -- the lag in packets; how many ticks there are; the payload octets of a container; the failures of each line; the
 -- return packets
 -- that are lost; the commands and the frames in their order; what the control packets tell the other way of a pair,
--- packet by packet from the first one on
+-- packet by packet from the first one on; the timers of its members, and how its statuses are told
 pub record Scenario : Type 0 where
   pub lag : ℕ
   pub ticks : ℕ
@@ -38,6 +39,7 @@ pub record Scenario : Type 0 where
   pub orders : List DueCommand
   pub offers : List DueFrame
   pub tells : List Told
+  pub options : Options
 
 -- ---- the scenario of a leg
 abbrev pub order_of : ℕ → ItemKind → List DueCommand
@@ -66,6 +68,7 @@ scenario_by leg = record {
   orders = orders_of leg.items;
   offers = offers_of leg.items;
   tells = leg.tells;
+  options = leg.config.options;
 }
 
 -- and of a script

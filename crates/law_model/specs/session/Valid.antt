@@ -12,6 +12,7 @@ use Rattle.law_model.specs.declared.script_types.EventLine.{EventLine}
 use Rattle.law_model.specs.declared.script_types.EventLine.TheVariants.{Client, Operator, Tick, Carry, Back, Take, Round}
 use Rattle.law_model.specs.declared.script_types.EventLine.TheVariants.{Drain}
 use Rattle.law_model.specs.declared.script_types.Script.{Script}
+use Rattle.law_model.specs.session.Options.{IsOptions}
 use Rattle.law_model.specs.session.Leg.{Leg, leg_of}
 use Rattle.law_model.specs.members.Damage.{AreWindows}
 use Rattle.law_model.specs.session.Counts.{dues_of, frame_dues, command_dues}
@@ -54,6 +55,7 @@ pub record IsNetwork (config : Config) : Type 0 where
   pub lag : IsWithin 1 512 config.lag
   pub ticks : IsWithin 1 1000000 config.ticks
   pub size : IsSize config.size
+  pub options : IsOptions config.options
   pub fits_ring : FitsRing config
   pub fits_lag : FitsLag config
 

@@ -13,15 +13,18 @@ pub data Call : Type 0 where
   asks : Command → Call
   decides : Option (Option Told) → Call
 
--- the source after some calls: how many lines it has; how many return cells its steps took; how many steps were made
+-- the source after some calls: how many lines it has; how many return packets tell all statuses; how many return cells
+-- its steps took; how many steps were made
 pub record Course : Type 0 where
   pub lines : ℕ
+  pub statuses : ℕ
   pub source : Source
   pub taken : ℕ
   pub steps : ℕ
 
-abbrev pub begun : ℕ → Course
-begun lines = record { lines = lines; source = opening lines; taken = 0; steps = 0 }
+abbrev pub begun : ℕ → ℕ → Course
+begun lines statuses =
+    record { lines = lines; statuses = statuses; source = opening lines; taken = 0; steps = 0 }
 
 -- what a return cell says, if there is one, and how many cells that is
 abbrev pub said_by : Option (Option Told) → Option Told
@@ -32,23 +35,25 @@ abbrev pub count_of : Option (Option Told) → ℕ
 count_of None = 0
 count_of (Some cell) = 1
 
--- the statuses of return cell k are those of group k modulo 16
+-- the statuses of return cell k are those of its group: the groups come in turn
 abbrev pub called : Course → Call → Course
 called course (asks command) = record {
   lines = course.lines;
+  statuses = course.statuses;
   source = asked course.lines course.source command;
   taken = course.taken;
   steps = course.steps;
 }
 called course (decides cell) = record {
   lines = course.lines;
-  source = decide (course.taken % 16) (said_by cell) course.source;
+  statuses = course.statuses;
+  source = decide (course.taken % course.statuses) (said_by cell) course.source;
   taken = course.taken + count_of cell;
   steps = course.steps + 1;
 }
 
-abbrev pub course_of : ℕ → List Call → Course
-course_of lines calls = fold called (begun lines) calls
+abbrev pub course_of : ℕ → ℕ → List Call → Course
+course_of lines statuses calls = fold called (begun lines statuses) calls
 
 -- ---- the calls of a scenario
 -- the return cell that step j is given: the first of these cells comes in the step whose number is the lag

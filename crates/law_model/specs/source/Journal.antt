@@ -47,6 +47,7 @@ with_items scenario orders offers = record {
   orders = orders;
   offers = offers;
   tells = scenario.tells;
+  options = scenario.options;
 }
 
 -- the session of what is accepted in t ticks alone

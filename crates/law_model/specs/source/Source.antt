@@ -90,7 +90,7 @@ cell_at scenario cells j = if nat_le scenario.lag j then slice_index_or cells (j
 unfoldable pub after : Scenario → List (Option Told) → ℕ → Source
 after scenario cells zero = opening (length scenario.windows)
 after scenario cells (suc j) =
-    decide ((j - scenario.lag) % 16) (cell_at scenario cells j)
+    decide ((j - scenario.lag) % scenario.options.statuses) (cell_at scenario cells j)
     (asked_all (length scenario.windows) (orders_at scenario j) (after scenario cells j))
 
 -- the source as step j finds it, and its table when it comes to a change
@@ -99,7 +99,7 @@ source_at scenario cells j = asked_all (length scenario.windows) (orders_at scen
 
 abbrev pub told_at : Scenario → List (Option Told) → ℕ → Table
 told_at scenario cells j = told_on
-    (heard ((j - scenario.lag) % 16) (cell_at scenario cells j) (source_at scenario cells j).table)
+    (heard ((j - scenario.lag) % scenario.options.statuses) (cell_at scenario cells j) (source_at scenario cells j).table)
 
 -- the command that step j carries out
 abbrev pub first_of : List Command → Option Command

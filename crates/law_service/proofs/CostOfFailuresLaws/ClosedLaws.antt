@@ -1,20 +1,26 @@
 -- The rows that failures spoil, in numbers: a line is in use until the source is told of its failure.
-use Rattle.std.proofs.Common.{◌≡◌, ◌↔◌, ℕ, suc, ◌+◌, ◌-◌, ◌*◌, ◌/◌, ◌<◌, ◌≤◌, min, false, inl, inr, List, Option, Some}
+use Rattle.std.proofs.Common.{◌≡◌, ◌↔◌, ℕ, suc, ◌+◌, ◌-◌, ◌*◌, ◌/◌, ◌<◌, ◌≤◌, min, true, false, inl, inr, List}
+use Rattle.std.proofs.Common.{Option, Some}
 use Rattle.std.proofs.Common.{slice_get, sym, ◌∙◌, arith}
 use Rattle.std.proofs.lemmas.Bool.{cases_lt}
-use Rattle.law_model.specs.Common.{Leg, Scenario, scenario_by, packets, Told, table_of, is_whole_row, IsSound}
+use Rattle.law_model.specs.Common.{Leg, Scenario, scenario_by, is_line_up, is_read, packets, Told, table_of}
+use Rattle.law_model.specs.Common.{is_whole_row, IsSound}
 use Rattle.law_model.specs.declared.window_types.Window.{Window}
 use Rattle.law_model.specs.declared.lcas_states.Standing.TheVariants.{Norm as normal}
 use Rattle.law_session.specs.Feedback.{lines_of, table_before}
 use Rattle.law_session.proofs.OrderLaws.{Has}
 use Rattle.law_session.proofs.SessionLaws.{session-law}
+use Rattle.law_session.proofs.TimerHeard.{line-inside}
+use Rattle.law_session.proofs.TimerHeld.{up-held}
 use Rattle.law_walk.specs.Common.{session_of}
 use Rattle.law_service.specs.cost_of_failures.Cost.{windows_of, FailsBy, FailsOnce, FailTogether, Spoils, first_hit}
 use Rattle.law_service.specs.cost_of_failures.Closed.{first_told, WasUsed, WereUsed, IsHit}
 use Rattle.law_service.proofs.CostOfFailuresLaws.StatusLaws.{Has-in_lines, count-before}
 use Rattle.law_service.proofs.CostOfFailuresLaws.DamageLaws.{clear-within, clear-read, before-clear}
 use Rattle.law_service.proofs.CostOfFailuresLaws.UsedLaws.{stays-normal}
-use Rattle.law_service.proofs.CostOfFailuresLaws.CostLaws.{is-quiet, failing-some, few-before, spoils-not, cost-exact}
+use Rattle.law_service.proofs.CostOfFailuresLaws.CostLaws.{is-quiet, early-read, failing-some, few-before, has-word}
+use Rattle.law_service.proofs.CostOfFailuresLaws.CostLaws.{none-before, spoils-not, cost-exact}
+use Rattle.law_service.proofs.CostOfFailuresLaws.TimerLaws.{in-turn, soonest}
 
 module _ (leg : Leg) (sound : IsSound leg) (from horizon : ℕ) (once : FailsOnce leg from horizon) where
   abbrev scenario : Scenario
@@ -26,10 +32,38 @@ module _ (leg : Leg) (sound : IsSound leg) (from horizon : ℕ) (once : FailsOnc
   abbrev first : ℕ
   first = first_hit from
 
+  -- a line is up before its failure, and while the hold-off runs
+  untold-up : (line sq k : ℕ) (window : Window) → FailsBy (windows_of leg line) window from horizon →
+      slice_get (lines_of (table_before scenario cells first).order) sq ≡ Some line → WasUsed leg from sq line →
+      first ≤ k → k < first_hit window.first + leg.config.options.holdoff → 16 * k + 24 < horizon →
+      is_line_up scenario line k ≡ true
+  untold-up line sq k window fails has used low held near =
+      let some = failing-some leg sound from horizon once line window fails in
+      let begins = fails.late in
+      let lag = sound.network.lag.0 in
+      elim (cases_lt 0 first) [
+        | inr none ↦ absurd (none-before leg sound from horizon once sq line (omega arith) has)
+        | inl hit ↦
+            let before = used.up (first - 1) (omega arith) (omega arith) in
+            let inside = line-inside scenario cells first sq line has in
+            up-held leg.config.options (is_read scenario line) (first - 1)
+            (min (first_hit window.first + leg.config.options.holdoff - 1) k) k before.0
+            (early-read leg sound from horizon once line k inside hit low near)
+            (λ j later until. (
+              j,
+              omega arith,
+              omega arith,
+              clear-read (windows_of leg line) j
+                  (clear-within (windows_of leg line) (from - 39) (16 * j) (min window.first horizon) (16 * j + 24)
+                  (omega arith) (omega arith) (before-clear (windows_of leg line) window from horizon fails some)),
+            ))
+            (omega arith) (omega arith)
+      ]
+
   -- a line stays in use until the source is told
   cost-untold : (line sq t : ℕ) (window : Window) → FailsBy (windows_of leg line) window from horizon →
       slice_get (lines_of (table_before scenario cells first).order) sq ≡ Some line → WasUsed leg from sq line →
-      24 ≤ t → from ≤ t → t < horizon → t < 16 * (first_told window sq + leg.config.lag) + 24 →
+      24 ≤ t → from ≤ t → t < horizon → t < 16 * (first_told leg window sq + leg.config.lag) + 24 →
       Has (table_of scenario cells ((t - 24) / 16)).order sq line normal
   cost-untold line sq t window fails has used late low high untold =
       let j : ℕ = (t - 24) / 16 in
@@ -38,7 +72,7 @@ module _ (leg : Leg) (sound : IsSound leg) (from horizon : ℕ) (once : FailsOnc
       let lag = sound.network.lag.0 in
       let small = few-before leg sound from horizon once first sq line has in
       let quiet = is-quiet leg sound from horizon once j (omega arith) in
-      let told : ℕ = first_told window sq in
+      let told : ℕ = first_told leg window sq in
       let soon : j < told + leg.config.lag = omega arith in
       let place : suc j - first + first ≡ suc j = omega arith in
       let stays = stays-normal scenario cells (session-law scenario (packets scenario) (omega arith)) (omega arith)
@@ -46,10 +80,20 @@ module _ (leg : Leg) (sound : IsSound leg) (from horizon : ℕ) (once : FailsOnc
       (λ k start before.
       once.still k start (omega arith) ∙ sym (count-before scenario cells first j quiet k start (omega arith)))
       (λ k start before group. elim (cases_lt k first) [
-        | inl old ↦ used.read k old start
-        | inr new ↦ clear-read (windows_of leg line) k
-            (clear-within (windows_of leg line) (from - 39) (16 * k) (min window.first horizon) (16 * k + 24)
-            (omega arith) (omega arith) (before-clear (windows_of leg line) window from horizon fails some))
+        | inl old ↦ used.up k old start
+        | inr new ↦ (
+          untold-up line sq k window fails has used new
+              (elim (cases_lt k (first_hit window.first + leg.config.options.holdoff)) [
+                | inl held ↦ held
+                | inr late_on ↦
+                    let soonest_told = soonest leg.config.options.statuses
+                    (first_hit window.first + leg.config.options.holdoff)
+                    (sq / 8) k sound.network.options.statuses late_on
+                    group in
+                    absurd (omega arith)
+              ]) (omega arith),
+          has-word leg sound from horizon once sq line k new (omega arith) has,
+        )
       ]) in
       let there : Has (table_before scenario cells (suc j - first + first)).order sq line normal = stays in
       rw place at there
@@ -71,13 +115,16 @@ module _ (leg : Leg) (sound : IsSound leg) (from horizon : ℕ) (once : FailsOnc
           has = has;
           fails = spoiled.fails;
           spoils = spoiled.spoils;
-          untold = elim (cases_lt t (16 * (first_told spoiled.window sq + leg.config.lag) + 24)) [
+          untold = elim (cases_lt t (16 * (first_told leg spoiled.window sq + leg.config.lag) + 24)) [
             | inl before ↦ before
             | inr behind ↦
                 let small = few-before leg sound from horizon once first sq spoiled.line has in
+                let turn = in-turn leg.config.options.statuses
+                (first_hit spoiled.window.first + leg.config.options.holdoff) (sq / 8) sound.network.options.statuses
+                (omega arith) in
                 absurd (spoils-not leg sound from horizon once spoiled.line t spoiled.window spoiled.fails
                 spoiled.spoils late high spoiled.used
-                (inr (inr (first_told spoiled.window sq, omega arith, omega arith, behind))))
+                (inr (inr (first_told leg spoiled.window sq, turn.0, turn.2, behind))))
           ];
         },
     λ hit. (cost-exact leg sound from horizon once t late low high).1 (record {

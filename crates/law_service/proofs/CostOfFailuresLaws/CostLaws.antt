@@ -1,5 +1,5 @@
 -- What a failure costs: which rows are whole, and how a line stands, by what its windows damage.
-use Rattle.std.proofs.Common.{◌≡◌, ◌↔◌, not, ℕ, zero, suc, ◌+◌, ◌-◌, ◌*◌, ◌/◌, ◌%◌, ◌<◌, ◌≤◌, nat_lt, ◌&&◌, min, Bool}
+use Rattle.std.proofs.Common.{◌≡◌, ◌↔◌, not, ℕ, zero, suc, ◌+◌, ◌-◌, ◌*◌, ◌/◌, ◌<◌, ◌≤◌, nat_lt, ◌&&◌, min, Bool}
 use Rattle.std.proofs.Common.{true, false, if◌then◌else◌, inl, inr, List, [], ◌∷◌, map, filter, length, slice_get}
 use Rattle.std.proofs.Common.{Option, Some, refl, sym, ◌∙◌, ap, ap₂, subst, arith}
 use Rattle.std.specs.List.{list_all, range_with_len}
@@ -7,23 +7,31 @@ use Rattle.std.proofs.lemmas.Bool.{cases_Bool, cases_lt, le-ltb, lt-ltb, and_rig
 use Rattle.std.proofs.lemmas.Option.{none-some, same_Some, slice_get_within}
 use Rattle.std.proofs.lemmas.List.{get_or_past, length-map}
 use Rattle.law_model.specs.Common.{Leg, is_good, Scenario, scenario_by, carried_by, is_read, is_heard, packets}
-use Rattle.law_model.specs.Common.{member_of, Told, is_norm, is_normal, active, after, table_of, is_whole_row, IsSound}
+use Rattle.law_model.specs.Common.{is_line_up, member_of, word, Told, is_norm, is_normal, active, after, table_of}
+use Rattle.law_model.specs.Common.{is_whole_row, IsSound}
 use Rattle.law_model.specs.declared.window_types.Window.{Window}
 use Rattle.law_model.specs.declared.lcas_states.Standing.{Standing}
 use Rattle.law_model.specs.declared.lcas_states.Member.{Member}
 use Rattle.law_model.specs.declared.lcas_states.Standing.TheVariants.{Add as adding, Norm as normal, Dnu as unused}
 use Rattle.law_session.specs.Feedback.{lines_of, table_before}
-use Rattle.law_session.specs.Use.{IsInUse}
+use Rattle.law_session.specs.Use.{IsInUse, known_by}
+use Rattle.law_session.proofs.UseLaws.{sixteen}
+use Rattle.law_session.proofs.TimerHeard.{line-inside}
+use Rattle.law_session.proofs.TimerHeld.{still-word}
 use Rattle.law_session.proofs.DamageLaws.{heard-line}
 use Rattle.law_session.proofs.OrderLaws.{Has}
 use Rattle.law_session.proofs.PlanLaws.{order-length}
 use Rattle.law_session.proofs.SessionLaws.{session-cell}
 use Rattle.law_walk.specs.Common.{session_of, IsClear, row_from}
-use Rattle.law_service.specs.cost_of_failures.Cost.{windows_of, FailsBy, StaysClear, first_hit, FailsOnce, IsSpared, IsSparedFor, cost_end}
-use Rattle.law_service.specs.cost_of_failures.Cost.{FailTogether, HasSq, end_packet, Spoils, IsSpoiled, spoiled_rows}
-use Rattle.law_service.proofs.CostOfFailuresLaws.StatusLaws.{IsQuiet, Has-in_lines, last-said, norm-read, read-stands}
-use Rattle.law_service.proofs.CostOfFailuresLaws.DamageLaws.{clear-within, clear-read, clear-good, window-some, behind-clear, spoils-or}
-use Rattle.law_service.proofs.CostOfFailuresLaws.DamageLaws.{spoils-arrives, spared-arrives, read-behind}
+use Rattle.law_service.specs.cost_of_failures.Cost.{windows_of, FailsBy, StaysClear, first_hit, FailsOnce, IsSpared}
+use Rattle.law_service.specs.cost_of_failures.Cost.{IsSparedFor, cost_end}
+use Rattle.law_service.specs.cost_of_failures.Cost.{FailTogether, HasSq, SaysOf, end_packet, Spoils, IsSpoiled}
+use Rattle.law_service.specs.cost_of_failures.Cost.{spoiled_rows, round_rows}
+use Rattle.law_service.proofs.CostOfFailuresLaws.StatusLaws.{IsQuiet, Has-in_lines, last-said, norm-up, up-stands}
+use Rattle.law_service.proofs.CostOfFailuresLaws.DamageLaws.{clear-within, clear-read, clear-good, window-some}
+use Rattle.law_service.proofs.CostOfFailuresLaws.DamageLaws.{behind-clear, spoils-or}
+use Rattle.law_service.proofs.CostOfFailuresLaws.DamageLaws.{before-clear, spoils-arrives, spared-arrives}
+use Rattle.law_service.proofs.CostOfFailuresLaws.TimerLaws.{read-up, up-behind, latest, next_in, in-turn}
 
 -- ---- lists
 norm_of : (standing : Standing) → is_norm standing ≡ true → standing ≡ normal
@@ -104,12 +112,51 @@ module _ (leg : Leg) (sound : IsSound leg) (from horizon : ℕ) (once : FailsOnc
             absurd (omega arith)
       ]
 
+  pub none-before : (sq line : ℕ) → first ≡ 0 →
+      slice_get (lines_of (table_before scenario cells first).order) sq ≡ Some line → ⊥
+  none-before sq line none has =
+      opening-empty scenario cells sq line
+      (subst (λ n. slice_get (lines_of (table_before scenario cells n).order) sq ≡ Some line) none has)
+
+  -- a line that has an SQ was read in the packet before the first that a failure can damage, and no change is made
+  -- since
+  pub early-read : (line k : ℕ) → line < length leg.config.windows → 0 < first → first ≤ k → 16 * k + 24 < horizon →
+      is_read scenario line (first - 1) ≡ true
+  early-read line k inside hit low near =
+      elim (once.each line inside) [
+        | inr clear ↦ clear-read (windows_of leg line) (first - 1)
+            (clear-within (windows_of leg line) (from - 39) (16 * (first - 1)) horizon (16 * (first - 1) + 24)
+            (omega arith) (omega arith) clear)
+        | inl fails ↦
+            let begins = fails.1.late in
+            clear-read (windows_of leg line) (first - 1)
+            (clear-within (windows_of leg line) (from - 39) (16 * (first - 1)) (min fails.0.first horizon)
+            (16 * (first - 1) + 24) (omega arith) (omega arith)
+            (before-clear (windows_of leg line) fails.0 from horizon fails.1 (failing-some line fails.0 fails.1)))
+      ]
+
+  pub has-word : (sq line k : ℕ) → first ≤ k → 16 * k + 24 < horizon →
+      slice_get (lines_of (table_before scenario cells first).order) sq ≡ Some line →
+      (said : ℕ) × (word scenario cells line k ≡ Some said)
+  has-word sq line k low near has =
+      elim (cases_lt 0 first) [
+        | inr none ↦ absurd (none-before sq line (omega arith) has)
+        | inl hit ↦
+            let inside = line-inside scenario cells first sq line has in
+            let e : suc (first - 1) ≡ first = omega arith in
+            let same : (table_of scenario cells k).count ≡ (table_of scenario cells (first - 1)).count =
+            once.still k low near ∙ ap (λ n. (table_before scenario cells n).count) (sym e) in
+            still-word scenario cells line (first - 1) k inside (early-read line k inside hit low near)
+            (omega arith) same
+      ]
+
   pub is-quiet : (j : ℕ) → 16 * j + 24 < horizon → IsQuiet scenario cells first j
   is-quiet j near =
       let made = once.made in
       let lag = sound.network.lag.0 in
       record {
         lag = omega arith;
+        statuses = sound.network.options.statuses;
         comes = λ k low high.
             let lost = once.come k low (omega arith) in
             session-cell scenario (packets scenario) k (omega arith) (omega arith) ∙ (rw lost refl);
@@ -122,6 +169,7 @@ module _ (leg : Leg) (sound : IsSound leg) (from horizon : ℕ) (once : FailsOnc
                   (omega arith) (omega arith) once.beside.2),
             );
         still = λ k low high. once.still k low (omega arith);
+        words = λ sq line k low high has. has-word sq line k low (omega arith) has;
       }
 
   few-lines : (j sq : ℕ) (member : Member) → slice_get (table_before scenario cells j).order sq ≡ Some member → sq < 128
@@ -209,7 +257,7 @@ module _ (leg : Leg) (sound : IsSound leg) (from horizon : ℕ) (once : FailsOnc
   -- it isn't spoiled before a failure, behind it, or once the source was told of it
   pub spoils-not : (line t : ℕ) (window : Window) → FailsBy (windows_of leg line) window from horizon →
       Spoils window t → 24 ≤ t → t < horizon → (used : IsInUse (table_of scenario cells ((t - 24) / 16)) line) →
-      IsSparedFor leg.config.lag used.0 window t → ⊥
+      IsSparedFor leg used.0 window t → ⊥
   spoils-not line t window fails spoils late high used spared =
       let some = failing-some line window fails in
       let begins = fails.late in
@@ -231,17 +279,22 @@ module _ (leg : Leg) (sound : IsSound leg) (from horizon : ℕ) (once : FailsOnc
               let hit = told.1 in
               let group = told.2 in
               let since = told.3 in
-              let n : ℕ = k + 16 * ((j - leg.config.lag - k) / 16) in
-              let read = norm-read scenario cells first j (is-quiet j (omega arith)) j n used.0 line (omega arith)
-              (omega arith) (omega arith) (omega arith) small (omega arith) used.1 in
-              let behind = read-behind (windows_of leg line) window from horizon fails some n (omega arith) read in
+              let n = latest leg.config.options.statuses k (j - leg.config.lag) sound.network.options.statuses
+              (omega arith) in
+              let above = n.1 in
+              let taken = n.2 in
+              let near = n.3 in
+              let up = norm-up scenario cells first j (is-quiet j (omega arith)) j n.0 used.0 line (omega arith)
+              (omega arith) (omega arith) (omega arith) small (sym group ∙ n.4) used.1 in
+              let behind = up-behind leg.config.options (windows_of leg line) window from horizon fails some n.0
+              (omega arith) up in
               omega arith
         ]
       ]
 
   pub cost-told : (t : ℕ) → ((line sq : ℕ) (window : Window) → FailsBy (windows_of leg line) window from horizon →
       slice_get (lines_of (table_before scenario cells first).order) sq ≡ Some line →
-      IsSparedFor leg.config.lag sq window t) → from ≤ t → t < horizon →
+      IsSparedFor leg sq window t) → from ≤ t → t < horizon →
       is_whole_row scenario cells t ≡ true
   cost-told t spared low high =
       elim (cases_lt t 24) [
@@ -259,12 +312,6 @@ module _ (leg : Leg) (sound : IsSound leg) (from horizon : ℕ) (once : FailsOnc
         ]
       ]
 
-  none-before : (sq line : ℕ) → first ≡ 0 →
-      slice_get (lines_of (table_before scenario cells first).order) sq ≡ Some line → ⊥
-  none-before sq line none has =
-      opening-empty scenario cells sq line
-      (subst (λ n. slice_get (lines_of (table_before scenario cells n).order) sq ≡ Some line) none has)
-
   pub few-before : (j s l : ℕ) → slice_get (lines_of (table_before scenario cells j).order) s ≡ Some l → s < 128
   few-before j s l has =
       let order = (table_before scenario cells j).order in
@@ -276,7 +323,7 @@ module _ (leg : Leg) (sound : IsSound leg) (from horizon : ℕ) (once : FailsOnc
       omega arith
 
   pub cost-rows : (t : ℕ) → ((line : ℕ) (window : Window) →
-      FailsBy (windows_of leg line) window from horizon → IsSpared leg.config.lag window t) → from ≤ t → t < horizon →
+      FailsBy (windows_of leg line) window from horizon → IsSpared leg window t) → from ≤ t → t < horizon →
       is_whole_row scenario cells t ≡ true
   cost-rows t spared low high =
       cost-told t
@@ -289,12 +336,13 @@ module _ (leg : Leg) (sound : IsSound leg) (from horizon : ℕ) (once : FailsOnc
           | inr ended ↦ inr (inl ended)
           | inl during ↦ elim (cases_lt 0 (first_hit window.first)) [
             | inr none ↦ absurd (none-before sq line (omega arith) has)
-            | inl hit ↦ inr (inr (
-              first_hit window.first + (sq / 8 + 16 - first_hit window.first % 16) % 16,
-              omega arith,
-              omega arith,
-              omega arith,
-            ))
+            | inl hit ↦
+                let n : ℕ = first_hit window.first + leg.config.options.holdoff in
+                let turn = in-turn leg.config.options.statuses n (sq / 8) sound.network.options.statuses
+                (omega arith) in
+                let low = turn.0 in
+                let near = turn.1 in
+                inr (inr (next_in leg.config.options.statuses n (sq / 8), low, turn.2, omega arith))
           ]
         ]
       ])
@@ -303,66 +351,84 @@ module _ (leg : Leg) (sound : IsSound leg) (from horizon : ℕ) (once : FailsOnc
   -- ---- the return of a line
   -- a line stands as the last packet says that says a status of it
   pub cost-stands : (sq line j k : ℕ) → slice_get (lines_of (table_before scenario cells first).order) sq ≡ Some line →
-      (Has (table_before scenario cells first).order sq line adding → first + 15 + leg.config.lag ≤ j) →
-      first ≤ k → k % 16 ≡ sq / 8 → k + leg.config.lag ≤ j → j < k + 16 + leg.config.lag → 16 * j + 24 < horizon →
-      (Has (table_of scenario cells j).order sq line normal) ↔ (is_read scenario line k ≡ true)
+      (Has (table_before scenario cells first).order sq line adding → known_by scenario first ≤ j) →
+      first ≤ k → SaysOf leg sq k → k + leg.config.lag ≤ j → j < k + leg.config.options.statuses + leg.config.lag →
+      16 * j + 24 < horizon →
+      (Has (table_of scenario cells j).order sq line normal) ↔ (is_line_up scenario line k ≡ true)
   cost-stands sq line j k has late start group taken near within =
       let quiet = is-quiet j within in (
-        λ used. norm-read scenario cells first j quiet j k sq line start taken near (omega arith)
+        λ used. norm-up scenario cells first j quiet j k sq line start taken near (omega arith)
             (few-before first sq line has) (sym group) used,
-        λ read. read-stands scenario cells first j quiet j k sq line start taken near (omega arith) (few-before first)
-            (sym group) has late read,
+        λ up. up-stands scenario cells first j quiet j k sq line start taken near (omega arith) (few-before first)
+            (sym group) has late up,
       )
 
-  -- a line that is read from packet n on in each packet that says a status of it
-  read-back : (n sq line t : ℕ) → slice_get (lines_of (table_before scenario cells first).order) sq ≡ Some line →
-      first ≤ n → n + 15 + leg.config.lag ≤ (t - 24) / 16 → 24 ≤ t → t < horizon →
-      ((k : ℕ) → n ≤ k → 16 * (k + leg.config.lag) + 24 < horizon → k % 16 ≡ sq / 8 → is_read scenario line k ≡ true) →
+  -- a line that is up from packet n on at each packet that says a status of it
+  up-back : (n sq line t : ℕ) → slice_get (lines_of (table_before scenario cells first).order) sq ≡ Some line →
+      first ≤ n → known_by scenario n ≤ (t - 24) / 16 → 24 ≤ t → t < horizon →
+      ((k : ℕ) → n ≤ k → 16 * (k + leg.config.lag) + 24 < horizon → SaysOf leg sq k →
+      is_line_up scenario line k ≡ true) →
       Has (table_of scenario cells ((t - 24) / 16)).order sq line normal
-  read-back n sq line t has start low late high read =
+  up-back n sq line t has start low late high up =
       let j : ℕ = (t - 24) / 16 in
+      let size = sixteen leg.config.options.statuses sound.network.options.statuses in
       let said = last-said scenario cells first j (is-quiet j (omega arith)) j sq (omega arith)
       (few-before first sq line has) in
       let taken = said.2 in
       let since = said.3 in
       (cost-stands sq line j said.0 has (λ added. omega arith) said.1 (sym said.4) taken since (omega arith)).1
-      (read said.0 (omega arith) (omega arith) (sym said.4))
+      (up said.0 (omega arith) (omega arith) (sym said.4))
 
   pub cost-back : (line t : ℕ) (window : Window) → FailsBy (windows_of leg line) window from horizon →
-      HasSq (table_before scenario cells first) line → window.end + 279 + 16 * leg.config.lag ≤ t → t < horizon →
+      HasSq (table_before scenario cells first) line →
+      window.end + 23 + round_rows leg leg.config.options.restore ≤ t → t < horizon →
       IsInUse (table_of scenario cells ((t - 24) / 16)) line
   cost-back line t window fails has low high =
       let some = failing-some line window fails in
-      let begins = fails.late in (
+      let begins = fails.late in
+      let size = sixteen leg.config.options.statuses sound.network.options.statuses in
+      let n : ℕ = end_packet window.end in (
         has.0,
-        read-back (end_packet window.end) has.0 line t has.1 (omega arith) (omega arith) (omega arith) high
-            (λ k after_end within group. clear-read (windows_of leg line) k
-            (clear-within (windows_of leg line) window.end (16 * k) horizon (16 * k + 24) (omega arith) (omega arith)
-            (behind-clear (windows_of leg line) window from horizon fails some))),
+        up-back (n + leg.config.options.restore) has.0 line t has.1 (omega arith) (omega arith) (omega arith) high
+            (λ k after_end within group. read-up leg.config.options (is_read scenario line) n k
+            (λ p from_end until. clear-read (windows_of leg line) p
+            (clear-within (windows_of leg line) window.end (16 * p) horizon (16 * p + 24) (omega arith) (omega arith)
+            (behind-clear (windows_of leg line) window from horizon fails some)))
+            (omega arith)),
       )
 
   -- a line whose failure no status says
   pub cost-unnoticed : (sq line t : ℕ) → slice_get (lines_of (table_before scenario cells first).order) sq ≡ Some line →
-      ((k : ℕ) → first ≤ k → 16 * (k + leg.config.lag) + 24 < horizon → k % 16 ≡ sq / 8 →
-      is_read scenario line k ≡ true) → from + 256 + 16 * leg.config.lag ≤ t → t < horizon →
+      ((k : ℕ) → first ≤ k → 16 * (k + leg.config.lag) + 24 < horizon → SaysOf leg sq k →
+      is_line_up scenario line k ≡ true) → from + round_rows leg 0 ≤ t → t < horizon →
       Has (table_of scenario cells ((t - 24) / 16)).order sq line normal
-  cost-unnoticed sq line t has read low high =
+  cost-unnoticed sq line t has up low high =
       elim (cases_lt 0 first) [
         | inr none ↦ absurd (none-before sq line (omega arith) has)
-        | inl hit ↦ read-back first sq line t has (omega arith) (omega arith) (omega arith) high read
+        | inl hit ↦
+            let size = sixteen leg.config.options.statuses sound.network.options.statuses in
+            up-back first sq line t has (omega arith) (omega arith) (omega arith) high up
       ]
 
   pub cost-others : (line t : ℕ) → StaysClear (windows_of leg line) from horizon →
-      HasSq (table_before scenario cells first) line → from + 256 + 16 * leg.config.lag ≤ t → t < horizon →
+      HasSq (table_before scenario cells first) line →
+      from + round_rows leg leg.config.options.restore ≤ t → t < horizon →
       IsInUse (table_of scenario cells ((t - 24) / 16)) line
-  cost-others line t clear has low high = (
-    has.0,
-    cost-unnoticed has.0 line t has.1
-        (λ k start within group. clear-read (windows_of leg line) k
-        (clear-within (windows_of leg line) (from - 39) (16 * k) horizon (16 * k + 24) (omega arith) (omega arith)
-        clear))
-        low high,
-  )
+  cost-others line t clear has low high =
+      elim (cases_lt 0 first) [
+        | inr none ↦ absurd (none-before has.0 line (omega arith) has.1)
+        | inl hit ↦
+            let size = sixteen leg.config.options.statuses sound.network.options.statuses in (
+              has.0,
+              up-back (first + leg.config.options.restore) has.0 line t has.1 (omega arith) (omega arith) (omega arith)
+                  high
+                  (λ k late within group. read-up leg.config.options (is_read scenario line) first k
+                  (λ p start until. clear-read (windows_of leg line) p
+                  (clear-within (windows_of leg line) (from - 39) (16 * p) horizon (16 * p + 24) (omega arith)
+                  (omega arith) clear))
+                  (omega arith)),
+            )
+      ]
 
 -- ---- how many rows
 few-rows : (test : ℕ → Bool) (bound a n : ℕ) → ((t : ℕ) → bound ≤ t → a ≤ t → t < a + n → test t ≡ false) →
@@ -382,7 +448,7 @@ few-rows test bound a (suc n) none =
 
 -- ---- lines that fail together
 pub cost-together : (leg : Leg) (begins ends horizon t : ℕ) → IsSound leg → FailTogether leg begins ends horizon →
-    cost_end leg.config.lag begins ends ≤ t → t < horizon →
+    cost_end leg begins ends ≤ t → t < horizon →
     is_whole_row (scenario_by leg) (session_of leg) t ≡ true
 cost-together leg begins ends horizon t sound together low high =
     let some = together.some in
@@ -395,10 +461,11 @@ cost-together leg begins ends horizon t sound together low high =
     (omega arith) high
 
 pub cost-bill : (leg : Leg) (begins ends horizon count : ℕ) → IsSound leg → FailTogether leg begins ends horizon →
-    begins + count ≤ horizon → spoiled_rows leg begins count ≤ min (ends + 39 - begins) (256 + 16 * leg.config.lag)
+    begins + count ≤ horizon → spoiled_rows leg begins count ≤ min (ends + 39 - begins)
+    (round_rows leg leg.config.options.holdoff)
 cost-bill leg begins ends horizon count sound together within =
     let few = few-rows (λ t. not (is_whole_row (scenario_by leg) (session_of leg) t))
-    (cost_end leg.config.lag begins ends) begins count
+    (cost_end leg begins ends) begins count
     (λ t far low high. ap not (cost-together leg begins ends horizon t sound together far (omega arith))) in
     let some = together.some in
     omega arith

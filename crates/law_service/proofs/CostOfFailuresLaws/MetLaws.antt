@@ -13,10 +13,14 @@ use Rattle.law_model.specs.declared.script_types.ItemKind.TheVariants.{Add}
 use Rattle.law_model.specs.declared.lcas_states.Standing.TheVariants.{Add as adding, Norm as normal}
 use Rattle.law_model.specs.declared.lcas_states.Command.TheVariants.{Add as add}
 use Rattle.law_model.specs.members.Damage.{carried}
+use Rattle.law_model.specs.Common.{is_up, last_read}
 use Rattle.law_session.specs.Feedback.{lines_of}
+use Rattle.law_session.proofs.TimerUp.{up-plain}
+use Rattle.law_session.proofs.WordLaws.{word-here}
 use Rattle.law_walk.specs.Common.{session_of, item, plain, IsClear}
 use Rattle.law_walk.proofs.MetLaws.{equal-rise, no_failure, one_failure, plain_network}
-use Rattle.law_service.specs.cost_of_failures.Cost.{windows_of, FailsBy, StaysClear, FailsOnce, FailTogether, table_at, HasSq}
+use Rattle.law_service.specs.cost_of_failures.Cost.{windows_of, FailsBy, StaysClear, FailsOnce, FailTogether}
+use Rattle.law_service.specs.cost_of_failures.Cost.{table_at, HasSq}
 use Rattle.law_service.specs.cost_of_failures.Settled.{IsSettled}
 use Rattle.law_service.specs.cost_of_failures.Closed.{WasUsed, WereUsed}
 use Rattle.law_service.proofs.CostOfFailuresLaws.DamageLaws.{clear-read}
@@ -48,11 +52,11 @@ costly-sound = record {
 
 -- ---- both lines are in NORM before the failure, and nothing is asked for from then on
 costly-order : (table_at costly_leg 536).order ≡ member_of 0 normal ∷ member_of 1 normal ∷ []
-unfolding carried are_whole after keep none_kept cells_before said_before exchange take_out turned admit
+unfolding carried are_whole after keep none_kept cells_before said_before exchange take_out turned admit is_up last_read
 costly-order = refl
 
 costly-waits : (after (scenario_by costly_leg) (session_of costly_leg) 33).waiting ≡ []
-unfolding carried are_whole after keep none_kept cells_before said_before exchange take_out turned admit
+unfolding carried are_whole after keep none_kept cells_before said_before exchange take_out turned admit is_up last_read
 costly-waits = refl
 
 pub costly-has : HasSq (table_at costly_leg 536) 1
@@ -151,7 +155,10 @@ costly-were (suc zero) sq window fails has =
     at zero is = absurd (let e = same_Some 0 1 is in omega arith)
     at (suc zero) is = record {
       stands = ap (λ order. slice_get order 1) costly-order;
-      read = λ k low high. early-read k low;
+      up = λ k low high. (
+        up-plain (scenario_by costly_leg).options (is_read (scenario_by costly_leg) 1) k refl refl ∙ early-read k low,
+        (k, word-here (scenario_by costly_leg) (session_of costly_leg) 1 k (omega arith) (early-read k low)),
+      );
     }
     at (suc (suc sq)) is = absurd (none-some 1 is)
 costly-were (suc (suc line)) sq window fails has = absurd (let inside = fails.stands.1 in omega arith)

@@ -72,8 +72,10 @@ step-idle scenario cells j none idle =
     let table = told_at scenario cells j in
     let same = source-idle scenario cells j none in
     let waits : source.waiting ≡ [] = ap (λ (s : Source). s.waiting) same ∙ idle.0 in
-    let heard_table = heard ((j - scenario.lag) % 16) (cell_at scenario cells j) (table_before scenario cells j) in
-    let orders = heard-order ((j - scenario.lag) % 16) (cell_at scenario cells j) (table_before scenario cells j) in
+    let heard_table = heard ((j - scenario.lag) % scenario.options.statuses) (cell_at scenario cells j)
+    (table_before scenario cells j) in
+    let orders = heard-order ((j - scenario.lag) % scenario.options.statuses) (cell_at scenario cells j)
+    (table_before scenario cells j) in
     let adds : (sq line : ℕ) → Has table.order sq line adding → ⊥ =
     λ sq line has. idle.1 sq line (subst (λ (order : List Member). Has order sq line adding) orders
     (told_on-adding heard_table sq line

@@ -4,19 +4,21 @@ use Rattle.std.proofs.Common.{if◌then◌else◌, inl, inr, List, [], ◌∷◌
 use Rattle.std.proofs.Common.{sym, ◌∙◌, ap, subst, arith, eqb-true}
 use Rattle.std.proofs.lemmas.Option.{none-some, slice_get-map}
 use Rattle.law_model.specs.declared.lcas_states.Standing.TheVariants.{Norm as normal}
-use Rattle.law_model.specs.Common.{Scenario, is_read, member_of, kept_of, Table, Told, is_adding, is_ok, is_fail}
+use Rattle.law_model.specs.Common.{Scenario, member_of, kept_of, Table, Told, is_adding, is_ok, is_fail}
 use Rattle.law_model.specs.Common.{in_use, acknowledged_by, heard, told_on, admit, exchange, exchanged, Source}
-use Rattle.law_model.specs.Common.{change_by, change, after, cell_at, source_at, told_at, table_of, status_by, status}
+use Rattle.law_model.specs.Common.{change_by, change, after, cell_at, group_of, source_at, told_at, table_of}
 use Rattle.law_model.specs.declared.lcas_states.Member.{Member}
 use Rattle.law_model.specs.declared.lcas_states.Command.{Command}
 use Rattle.law_model.specs.declared.lcas_states.Command.TheVariants.{Add as add, Remove as remove}
 use Rattle.law_model.specs.source.Table.{is_add}
-use Rattle.law_session.specs.Feedback.{table_before}
+use Rattle.law_session.specs.Feedback.{lines_of, table_before}
+use Rattle.law_session.specs.Timed.{IsUpWithWord}
 use Rattle.law_session.proofs.TableLaws.{heard-order}
 use Rattle.law_session.proofs.OrderLaws.{Has, Has-standing, turned-normal}
-use Rattle.law_session.proofs.FeedbackLaws.{IsSession, cell-taken, says_count, known, same_lines_since}
+use Rattle.law_session.proofs.FeedbackLaws.{IsSession, cell-taken, says_count, known}
 use Rattle.law_session.proofs.StatusLaws.{none_kept-at, keep-at, full-after}
-use Rattle.law_session.proofs.UseLaws.{after-change, told_at-table, found_line, kept-is}
+use Rattle.law_session.proofs.UseLaws.{after-change, told_at-table, kept-is}
+use Rattle.law_session.proofs.TimerHeard.{status-holds}
 use Rattle.law_service.proofs.CostOfFailuresLaws.TurnLaws.{same-told, told_on-norm}
 
 -- ---- a line in NORM stays so in one step
@@ -96,7 +98,8 @@ no-fail scenario cells zero sq line has = absurd (opening-none scenario cells sq
 no-fail scenario cells (suc j) sq line has =
     let next : table_of scenario cells j ≡ (change (source_at scenario cells j) (told_at scenario cells j)).table =
     ap (λ (source : Source). source.table) (after-change scenario cells j) in
-    let table = heard ((j - scenario.lag) % 16) (cell_at scenario cells j) (table_before scenario cells j) in
+    let table = heard ((j - scenario.lag) % scenario.options.statuses) (cell_at scenario cells j)
+    (table_before scenario cells j) in
     elim (change-new (source_at scenario cells j) (told_at scenario cells j)) [
       | inr new ↦ ap is_fail (ap (λ (t : Table). kept_of t sq) next ∙ new sq)
       | inl same ↦
@@ -110,14 +113,15 @@ no-fail scenario cells (suc j) sq line has =
 -- ---- a status that a step hears of a line
 module _ (scenario : Scenario) (cells : List (Option Told)) (session : IsSession scenario cells)
     (lag : 0 < scenario.lag) where
-  -- it is OK if the line is read in each packet of its group that the step can take
+  -- it is OK if the line is up and has a word at each packet of its group that the step can take
   heard-fine : (j sq line : ℕ) → sq < 128 → Has (table_before scenario cells j).order sq line normal →
-      ((k : ℕ) → k + scenario.lag ≡ j → sq / 8 ≡ k % 16 → is_read scenario line k ≡ true) →
-      is_fail (kept_of (heard ((j - scenario.lag) % 16) (cell_at scenario cells j) (table_before scenario cells j)) sq)
+      ((k : ℕ) → k + scenario.lag ≡ j → sq / 8 ≡ group_of scenario k → IsUpWithWord scenario cells line k) →
+      is_fail (kept_of (heard ((j - scenario.lag) % scenario.options.statuses) (cell_at scenario cells j)
+      (table_before scenario cells j)) sq)
       ≡ false
   heard-fine j sq line small has read =
       let table = table_before scenario cells j in
-      let group = (j - scenario.lag) % 16 in
+      let group = (j - scenario.lag) % scenario.options.statuses in
       let before = no-fail scenario cells j sq line has in
       elim (cell_at scenario cells j) as (λ cell. cell_at scenario cells j ≡ cell →
       is_fail (kept_of (heard group cell table) sq) ≡ false) [
@@ -134,24 +138,21 @@ module _ (scenario : Scenario) (cells : List (Option Told)) (session : IsSession
                   (eqb-true told.rs_ack (table.count % 2) bit)
                   (known scenario cells session lag j k (omega (arith, at))) in
                   let packet = session k told taken.1 in
-                  let lines = same_lines_since scenario cells j k (omega (arith, at, lag)) whole in
                   let full = full-after scenario cells j in
-                  let order = (table_of scenario cells k).order in
-                  let found = found_line (slice_get order sq) line
-                  (sym (slice_get-map (λ member. member.line) order sq) ∙ sym (ap (λ lines. slice_get lines sq) lines)
-                  ∙ slice_get-map (λ member. member.line) table.order sq
-                  ∙ ap (option_map (λ member. member.line)) has) in
-                  let says : status scenario cells k sq ≡ is_read scenario line k =
-                  ap (status_by scenario k) found.1 ∙ ap (λ l. is_read scenario l k) found.2 in
+                  let there : slice_get (lines_of table.order) sq ≡ Some line =
+                  slice_get-map (λ member. member.line) table.order sq
+                  ∙ ap (option_map (λ member. member.line)) has in
                   ap is_fail (keep-at group told.oks table.statuses sq (omega arith))
                   ∙ elim (sq / 8 == group) as (λ b. (sq / 8 == group) ≡ b →
                   is_fail (if b then slice_get told.oks (sq % 8) else kept_of table sq) ≡ false) [
                     | false ↦ λ other. before
                     | true ↦ λ same.
                         let in_group = eqb-true (sq / 8) group same in
-                        let ok = read k (sym at) in_group in
+                        let seen = read k (sym at) in_group in
+                        let says = status-holds scenario cells j k sq line seen.1.0 (omega (arith, at, lag)) whole there
+                        seen.0 seen.1.1 in
                         ap is_fail (ap (λ t. slice_get t.oks (sq % 8)) packet
-                        ∙ kept-is scenario cells true k sq in_group (says ∙ ok))
+                        ∙ kept-is scenario cells true k sq in_group says)
                   ] refl
             ] refl
       ] refl
@@ -160,8 +161,8 @@ module _ (scenario : Scenario) (cells : List (Option Told)) (session : IsSession
   pub stays-normal : (first sq line d : ℕ) → sq < 128 → Has (table_before scenario cells first).order sq line normal →
       ((k : ℕ) → first ≤ k → k < d + first →
       (table_of scenario cells k).count ≡ (table_before scenario cells k).count) →
-      ((k : ℕ) → first ≤ k + scenario.lag → k + scenario.lag < d + first → sq / 8 ≡ k % 16 →
-      is_read scenario line k ≡ true) →
+      ((k : ℕ) → first ≤ k + scenario.lag → k + scenario.lag < d + first → sq / 8 ≡ group_of scenario k →
+      IsUpWithWord scenario cells line k) →
       Has (table_before scenario cells (d + first)).order sq line normal
   stays-normal first sq line zero small has still read = let e : zero + first ≡ first = omega arith in rw e has
   stays-normal first sq line (suc d) small has still read =
@@ -169,11 +170,13 @@ module _ (scenario : Scenario) (cells : List (Option Told)) (session : IsSession
       let j = d + first in
       let before = stays-normal first sq line d small has (λ k low high. still k low (omega arith))
       (λ k low high group. read k low (omega arith) group) in
-      let table = heard ((j - scenario.lag) % 16) (cell_at scenario cells j) (table_before scenario cells j) in
+      let table = heard ((j - scenario.lag) % scenario.options.statuses) (cell_at scenario cells j)
+      (table_before scenario cells j) in
       let same : table_of scenario cells j ≡ told_on table =
       same-told scenario cells j (still j (omega arith) (omega arith)) ∙ told_at-table scenario cells j in
       let fine = heard-fine j sq line small before (λ k at group. read k (omega arith) (omega arith) group) in
-      let orders = heard-order ((j - scenario.lag) % 16) (cell_at scenario cells j) (table_before scenario cells j) in
+      let orders = heard-order ((j - scenario.lag) % scenario.options.statuses) (cell_at scenario cells j)
+      (table_before scenario cells j) in
       let there : Has (table_of scenario cells j).order sq line normal =
       subst (λ (t : Table). Has t.order sq line normal) (sym same)
       (told_on-normal table sq line fine

@@ -56,21 +56,31 @@ pub record FailsOnce (leg : Leg) (from horizon : ℕ) : Type 0 where
       (table_of (scenario_by leg) (session_of leg) k).count ≡ (table_at leg from).count
 
 -- ---- the rows that a failure costs
--- the row from which on a failure costs none: 39 rows after its end, or 256 and the lag after its begin
-abbrev pub cost_end : ℕ → ℕ → ℕ → ℕ
-cost_end lag begins ends = min (ends + 39) (begins + 256 + 16 * lag)
+-- the rows that a round of statuses, the lag and a number of packets more take
+abbrev pub round_rows : Leg → ℕ → ℕ
+round_rows leg packets = 16 * (leg.config.options.statuses + leg.config.lag + packets)
+
+-- the row from which on a failure costs none: 39 rows after its end, or after its begin a round of statuses, the lag
+-- and the hold-off
+abbrev pub cost_end : Leg → ℕ → ℕ → ℕ
+cost_end leg begins ends = min (ends + 39) (begins + round_rows leg leg.config.options.holdoff)
 
 -- row t is before the failure, or so late that it doesn't suffer from it
-abbrev pub IsSpared : ℕ → Window → ℕ → Type 0
-IsSpared lag window t = (t < window.first) ⊎ (cost_end lag window.first window.end ≤ t)
+abbrev pub IsSpared : Leg → Window → ℕ → Type 0
+IsSpared leg window t = (t < window.first) ⊎ (cost_end leg window.first window.end ≤ t)
 
--- the same of a line whose SQ is known: a packet that the failure can hit, and that says a status of this SQ, has told
--- the source
-abbrev pub IsSparedFor : ℕ → ℕ → Window → ℕ → Type 0
-IsSparedFor lag sq window t =
+-- a packet says a status of an SQ
+abbrev pub SaysOf : Leg → ℕ → ℕ → Type 0
+SaysOf leg sq k = k % leg.config.options.statuses ≡ sq / 8
+
+-- the same of a line whose SQ is known: a packet that the failure can hit once the hold-off has run out, and that says
+-- a status of this SQ, has told the source
+abbrev pub IsSparedFor : Leg → ℕ → Window → ℕ → Type 0
+IsSparedFor leg sq window t =
     (t < window.first)
     ⊎ ((window.end + 39 ≤ t)
-    ⊎ ((k : ℕ) × (first_hit window.first ≤ k) × (k % 16 ≡ sq / 8) × (16 * (k + lag) + 24 ≤ t)))
+    ⊎ ((k : ℕ) × (first_hit window.first + leg.config.options.holdoff ≤ k) × SaysOf leg sq k ×
+    (16 * (k + leg.config.lag) + 24 ≤ t)))
 
 -- the first packet that begins behind a failure
 abbrev pub end_packet : ℕ → ℕ

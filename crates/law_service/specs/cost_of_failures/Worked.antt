@@ -18,6 +18,17 @@ costly_windows = [] ∷ (costly_window ∷ []) ∷ []
 abbrev pub costly_leg : Leg
 costly_leg = record { config = plain costly_windows 4 2 1400; items = item 0 (Add 0) ∷ item 0 (Add 1) ∷ []; tells = [] }
 
+-- the same lines, of which containers 488 to 944 of line 1 fail, with a hold-off of three packets and a restore of five
+abbrev pub dearest_windows : List (List Window)
+dearest_windows = [] ∷ (record { first = 488; «end» = 945; slip = 0 } ∷ []) ∷ []
+
+abbrev pub dearest_leg : Leg
+dearest_leg = record {
+  config = record (plain dearest_windows 4 2 1400) { options = record { holdoff = 3; restore = 5; statuses = 16 } };
+  items = item 0 (Add 0) ∷ item 0 (Add 1) ∷ [];
+  tells = [];
+}
+
 -- the lines that carry payload in some rows
 abbrev pub used_in_rows : Leg → List ℕ → List (List ℕ)
 used_in_rows leg rows = map (λ t. active (governing_table leg t)) rows

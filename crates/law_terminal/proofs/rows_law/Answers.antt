@@ -6,7 +6,7 @@ pub returns-clause-rows : goal.returns-clause-rows
 returns-clause-rows c scenario returns frames t cells = row-told scenario returns frames cells t
 
 pub returns-clause-backs : goal.returns-clause-backs
-returns-clause-backs c scenario returns frames k cells = back-told scenario returns frames cells k
+returns-clause-backs c = back-told
 
 pub returns-clause-packets : goal.returns-clause-packets
 returns-clause-packets c scenario returns frames k cells = packet-told scenario returns frames cells k

@@ -3,8 +3,9 @@ use Rattle.std.proofs.Common.{◌<◌, [], ◌∷◌, refl, lit<, arith}
 use Rattle.std.proofs.lemmas.List.Elements.{All-nil, All-cons}
 use Rattle.law_model.specs.Common.{bits, number_behind, octets_of, xors, add_front, divide, crc8_of, are_whole}
 use Rattle.law_model.specs.Common.{AreWindows, slip_after, slip_of, keep, none_kept, admit, turned, take_out, exchange}
-use Rattle.law_model.specs.Common.{after, said_before, cells_before, place_in, group_bits, group_bit, reaching}
-use Rattle.law_model.specs.Common.{place_of, stream_before, cut, scramble_on, part_of, path, read_on, uppers, read_of}
+use Rattle.law_model.specs.Common.{after, said_before, cells_before, is_up, last_read, place_in, group_bits}
+use Rattle.law_model.specs.Common.{group_bit, reaching, place_of, stream_before, cut, scramble_on, part_of, path}
+use Rattle.law_model.specs.Common.{read_on, uppers, read_of}
 use Rattle.law_model.specs.members.Damage.{carried}
 use Rattle.law_terminal.proofs.worked_law.Goals as goal
 
@@ -12,22 +13,22 @@ pub returns-clause-zeros : goal.returns-clause-zeros
 returns-clause-zeros c = refl
 
 pub returns-clause-add : goal.returns-clause-add
-unfolding carried are_whole after keep none_kept cells_before said_before exchange take_out turned admit place_in
-    group_bits group_bit crc8_of bits number_behind divide add_front
+unfolding carried are_whole after keep none_kept cells_before said_before is_up last_read exchange take_out turned
+    admit place_in group_bits group_bit crc8_of bits number_behind divide add_front
 returns-clause-add c = refl
 
 pub returns-clause-eos : goal.returns-clause-eos
-unfolding carried are_whole after keep none_kept cells_before said_before exchange take_out turned admit place_in
-    group_bits group_bit crc8_of bits number_behind divide add_front
+unfolding carried are_whole after keep none_kept cells_before said_before is_up last_read exchange take_out turned
+    admit place_in group_bits group_bit crc8_of bits number_behind divide add_front
 returns-clause-eos c = refl
 
 pub returns-clause-add_second : goal.returns-clause-add_second
-unfolding carried are_whole after keep none_kept cells_before said_before exchange take_out turned admit place_in
-    group_bits group_bit crc8_of bits number_behind divide add_front
+unfolding carried are_whole after keep none_kept cells_before said_before is_up last_read exchange take_out turned
+    admit place_in group_bits group_bit crc8_of bits number_behind divide add_front
 returns-clause-add_second c = refl
 
 pub returns-clause-cells : goal.returns-clause-cells
-unfolding carried are_whole after keep none_kept cells_before said_before exchange take_out turned admit
+unfolding carried are_whole after keep none_kept cells_before said_before is_up last_read exchange take_out turned admit
 returns-clause-cells c = refl
 
 pub returns-clause-first : goal.returns-clause-first
@@ -39,9 +40,9 @@ unfolding part_of
 returns-clause-second c = refl
 
 pub returns-clause-told : goal.returns-clause-told
-unfolding carried are_whole after keep none_kept cells_before said_before exchange take_out turned admit place_in
-    group_bits group_bit crc8_of bits number_behind octets_of xors divide add_front reaching place_of stream_before cut
-    scramble_on part_of path read_on uppers read_of
+unfolding carried are_whole after keep none_kept cells_before said_before is_up last_read exchange take_out turned
+    admit place_in group_bits group_bit crc8_of bits number_behind octets_of xors divide add_front reaching place_of
+    stream_before cut scramble_on part_of path read_on uppers read_of
 returns-clause-told c = refl
 
 pub returns-clause-met : goal.returns-clause-met

@@ -4,12 +4,13 @@ use Rattle.std.proofs.Common.{inl, inr, List, [], ◌∷◌, ◌++◌, map, leng
 use Rattle.std.proofs.Common.{arith}
 use Rattle.std.specs.Prelude.{if◌then◌else◌, is_none, IsSome}
 use Rattle.std.specs.List.{position_from}
-use Rattle.std.proofs.lemmas.Bool.{cases_Bool, cases_lt}
+use Rattle.std.proofs.lemmas.Bool.{cases_Bool, cases_eq, cases_lt}
 use Rattle.std.proofs.lemmas.Bool.Decides.{nat_tests}
 use Rattle.std.proofs.lemmas.List.FromFn.{map-range_with_len_more, length-map-range_with_len}
 use Rattle.law_model.specs.Common.{Cell, return_of, verdict, read_packets, governing, active_of, row_at, first_open}
 use Rattle.law_model.specs.Common.{return_at}
 use Rattle.law_model.specs.declared.control_packet.Packet.{Packet}
+use Rattle.law_model.specs.declared.script_types.Options.{Options}
 use Rattle.law_line.specs.StableRows.{AreDecidedAt}
 use Rattle.member_rows.proofs.RealignRowsLaws.PacketLaws.{governing-same}
 use Rattle.std.proofs.lemmas.List.{nil_from_length}
@@ -46,6 +47,19 @@ packet-ends t ends =
 pub packet_rows-more : (t : ℕ) → 23 ≤ t → t % 16 ≡ 7 → packet_rows (t + 1) ≡ packet_rows t + 1
 packet_rows-more t late last = omega arith
 
+pub packet_rows-between : (t : ℕ) → (nat_lt 22 t && t % 16 == 7) ≡ false → packet_rows t ≡ packet_rows (t + 1)
+packet_rows-between t no_end =
+    elim (cases_Bool (nat_lt 22 t)) [
+      | inl late ↦
+          let a : 22 < t = grind (arith, nat_tests, late) in
+          let tested : (t % 16 == 7) ≡ false = rw late at no_end in
+          let other : t % 16 ≡ 7 → ⊥ = grind (arith, nat_tests, tested) in
+          elim (cases_eq (t % 16) 7) [ inl same ↦ absurd (other same) | inr apart ↦ omega arith ]
+      | inr early ↦
+          let low : t ≤ 22 = grind (arith, nat_tests, early) in
+          omega arith
+    ]
+
 pub packet-of : (t : ℕ) → 23 ≤ t → t % 16 ≡ 7 → (t - 23) / 16 ≡ packet_rows t
 packet-of t late last = omega arith
 
@@ -56,17 +70,17 @@ governing-back cells t late last =
     ap (λ early. if early then map (λ own. None) cells else read_packets cells ((t + 1 - 24) / 16)) e
     ∙ ap (read_packets cells) (let f : (t + 1 - 24) / 16 ≡ packet_rows t = omega arith in f)
 
-pub back-here : (cells : List (List Cell)) (t : ℕ) → 23 ≤ t → t % 16 ≡ 7 →
-    back_at cells t ≡ Some (return_of (read_rows cells (packet_rows t) ++ read_packets cells (packet_rows t) ∷ [])
+pub back-here : (options : Options) (cells : List (List Cell)) (t : ℕ) → 23 ≤ t → t % 16 ≡ 7 →
+    back_at options cells t ≡ Some (return_of options (read_rows cells (packet_rows t) ++ read_packets cells (packet_rows t) ∷ [])
     (packet_rows t))
-back-here cells t late last =
+back-here options cells t late last =
     let k = packet_rows t in
     let e : nat_lt 22 t ≡ true = grind (arith, nat_tests, (let h : 22 < t = omega arith in h)) in
     let f : (t % 16 == 7) ≡ true = grind (arith, nat_tests, last) in
-    ap (λ b. if b && t % 16 == 7 then Some (return_at cells ((t - 23) / 16)) else None) e
-    ∙ ap (λ b. if b then Some (return_at cells ((t - 23) / 16)) else None) f
-    ∙ ap (λ k. Some (return_at cells k)) (packet-of t late last)
-    ∙ ap (λ rows. Some (return_of rows k)) (read-more cells k)
+    ap (λ b. if b && t % 16 == 7 then Some (return_at options cells ((t - 23) / 16)) else None) e
+    ∙ ap (λ b. if b then Some (return_at options cells ((t - 23) / 16)) else None) f
+    ∙ ap (λ k. Some (return_at options cells k)) (packet-of t late last)
+    ∙ ap (λ rows. Some (return_of options rows k)) (read-more cells k)
 
 -- ---- the answer
 not-none : {X : Type 0} (x : Option X) → is_none x ≡ false → IsSome x
@@ -99,25 +113,27 @@ decided-more cells taken before here t low =
       | inr last ↦ let same : taken ≡ t = omega arith in subst (AreDecidedAt cells) same here
     ]
 
-pub answer-taken : (cells : List (List Cell)) (t : ℕ) (back : Option Packet) → first_open cells t ≡ None →
-    back ≡ back_at cells t → Taken back ≡ answer_at cells t
-answer-taken cells t back none is = ap Taken is ∙ sym (ap (λ o. answer_by o cells t) none)
+pub answer-taken : (options : Options) (cells : List (List Cell)) (t : ℕ) (back : Option Packet) → first_open cells t ≡ None →
+    back ≡ back_at options cells t → Taken back ≡ answer_at options cells t
+answer-taken options cells t back none is = ap Taken is ∙ sym (ap (λ o. answer_by o options cells t) none)
 
 -- ---- return packets at rows 16 k + 23 alone
-pub back-there : (cells : List (List Cell)) (k : ℕ) → back_at cells (16 * k + 23) ≡ Some (return_at cells k)
-back-there cells k =
+pub back-there : (options : Options) (cells : List (List Cell)) (k : ℕ) →
+    back_at options cells (16 * k + 23) ≡ Some (return_at options cells k)
+back-there options cells k =
     let t = 16 * k + 23 in
     let e : nat_lt 22 t ≡ true = grind (arith, nat_tests, (let h : 22 < t = omega arith in h)) in
     let f : (t % 16 == 7) ≡ true = grind (arith, nat_tests, (let h : t % 16 ≡ 7 = omega arith in h)) in
-    ap (λ b. if b && t % 16 == 7 then Some (return_at cells ((t - 23) / 16)) else None) e
-    ∙ ap (λ b. if b then Some (return_at cells ((t - 23) / 16)) else None) f
-    ∙ ap (λ k. Some (return_at cells k)) (let g : (t - 23) / 16 ≡ k = omega arith in g)
+    ap (λ b. if b && t % 16 == 7 then Some (return_at options cells ((t - 23) / 16)) else None) e
+    ∙ ap (λ b. if b then Some (return_at options cells ((t - 23) / 16)) else None) f
+    ∙ ap (λ k. Some (return_at options cells k)) (let g : (t - 23) / 16 ≡ k = omega arith in g)
 
-pub back-elsewhere : (cells : List (List Cell)) (t : ℕ) → ((k : ℕ) → t ≡ 16 * k + 23 → ⊥) → back_at cells t ≡ None
-back-elsewhere cells t other =
+pub back-elsewhere : (options : Options) (cells : List (List Cell)) (t : ℕ) → ((k : ℕ) → t ≡ 16 * k + 23 → ⊥) →
+    back_at options cells t ≡ None
+back-elsewhere options cells t other =
     elim (cases_Bool (nat_lt 22 t && t % 16 == 7)) [
       | inl ends ↦ let (late, last) = packet-ends t ends in absurd (other ((t - 23) / 16) (omega (arith, late, last)))
-      | inr no_end ↦ ap (λ b. if b then Some (return_at cells ((t - 23) / 16)) else None) no_end
+      | inr no_end ↦ ap (λ b. if b then Some (return_at options cells ((t - 23) / 16)) else None) no_end
     ]
 
 -- ---- the lines that carry payload

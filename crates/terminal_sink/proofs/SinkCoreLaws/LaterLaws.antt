@@ -8,6 +8,7 @@ use Rattle.std.proofs.lemmas.List.{append-nil}
 use Rattle.std.proofs.lemmas.Option.{slice_get_within}
 use Rattle.law_model.specs.Common.{Cell, verdict, read_packets, governing, active_of, row_at, StreamRow, deliver}
 use Rattle.law_model.specs.Common.{longest_frame}
+use Rattle.law_model.specs.declared.script_types.Options.{Options}
 use Rattle.law_line.specs.StableRows.{IsLonger, AreDecidedAt}
 use Rattle.law_model.proofs.ListLaws.{slice_get-inside, is-some, map-same_range}
 use Rattle.law_line.proofs.StableLaws.{verdict-stays}
@@ -76,9 +77,9 @@ pub frames-stay : (size taken : ℕ) (cells longer : List (List Cell)) → IsLon
 frames-stay size taken cells longer more decided =
     ap (deliver longest_frame) (received-stays size taken cells longer more decided)
 
-pub back-stays : (t : ℕ) (cells longer : List (List Cell)) → IsLonger cells longer → AreDecidedAt cells t →
-    back_at longer t ≡ back_at cells t
-back-stays t cells longer more decided =
+pub back-stays : (options : Options) (t : ℕ) (cells longer : List (List Cell)) → IsLonger cells longer →
+    AreDecidedAt cells t → back_at options longer t ≡ back_at options cells t
+back-stays options t cells longer more decided =
     elim (cases_Bool (nat_lt 22 t)) [
       | inr early ↦ rw early refl
       | inl late ↦
@@ -89,7 +90,7 @@ back-stays t cells longer more decided =
                 let b : t % 16 ≡ 7 = grind (arith, nat_tests, last) in
                 let k = (t - 23) / 16 in
                 let at : t ≡ 16 * k + 23 = omega arith in
-                rw (late, last) (ap Some (returns_stay cells longer k more (subst (AreDecidedAt cells) at decided)))
+                rw (late, last) (ap Some (returns_stay options cells longer k more (subst (AreDecidedAt cells) at decided)))
           ]
     ]
 

@@ -3,13 +3,19 @@ use Rattle.std.specs.Prelude.{◌≡◌, ℕ, Bool, List, length, nat_lt, if◌t
 use Rattle.law_model.specs.Common.{Row, ack_of, state_next, sink_state}
 use Rattle.law_model.specs.declared.lcas_states.SinkState.{SinkState}
 use Rattle.law_model.specs.declared.lcas_states.SinkState.TheVariants.{Idle}
+use Rattle.law_model.specs.declared.script_types.Options.{Options}
+use Rattle.terminal_sink.specs.declared.member_watch.MemberWatch.{MemberWatch}
+use Rattle.terminal_sink.specs.member_watch.Watches.{AreWatched}
 
--- how many lines there are; how many rows were taken; the change bit to acknowledge; the state of each line
+-- how many lines there are; the options; how many rows were taken; the change bit to acknowledge; the state of each
+-- line; and the timers of each, with what it said last
 pub record Sink : Type 0 where
   pub lines : ℕ
+  pub options : Options
   pub taken : ℕ
   pub ack : Bool
   pub states : List SinkState
+  pub watches : List MemberWatch
 
 -- the state of a line, which is idle where there is no such line
 abbrev pub state_at : List SinkState → ℕ → SinkState
@@ -20,6 +26,7 @@ pub record SinkTableStands (sink : Sink) (rows : List Row) : Type 0 where
   pub taken : sink.taken ≡ length rows
   pub ack : sink.ack ≡ ack_of rows
   pub states : (line : ℕ) → state_at sink.states line ≡ sink_state rows line
+  pub watches : AreWatched sink.options rows sink.lines sink.watches
 
 -- the state of a line after the packets of the first lines of a row
 abbrev pub state_upto : ℕ → List SinkState → Row → ℕ → SinkState

@@ -1,6 +1,7 @@
 -- What a sink knows of the cells of its lines.
 use Rattle.std.specs.Prelude.{◌≡◌, ℕ, ◌<◌, List, length}
 use Rattle.law_model.specs.Common.{Cell, governing, active_of}
+use Rattle.law_model.specs.declared.script_types.Options.{Options}
 use Rattle.law_line.specs.StableRows.{AreDecidedAt}
 use Rattle.terminal_sink.specs.marked_delineator.Marks.{Marked as Receiver}
 use Rattle.terminal_sink.specs.lcas_sink.SinkStates.{Sink}
@@ -8,12 +9,12 @@ use Rattle.terminal_sink.specs.lcas_sink.SinkStates as sink_table
 use Rattle.terminal_sink.specs.sink_core.Given.{received_rows, read_rows, packet_rows}
 use Rattle.terminal_sink.specs.sink_core.Receives.{Receives}
 
--- how many lines there are, how many payload octets a container has, how many rows were taken, its receiver, its table,
--- and the lines that
--- carry payload in the next row
+-- how many lines there are, how many payload octets a container has, the options, how many rows were taken, its
+-- receiver, its table, and the lines that carry payload in the next row
 pub record Core : Type 0 where
   pub lines : ℕ
   pub size : ℕ
+  pub options : Options
   pub taken : ℕ
   pub receiver : Receiver
   pub table : Sink

@@ -5,6 +5,7 @@ use Rattle.std.specs.List.{range_with_len}
 use Rattle.law_model.specs.Common.{Cell, Row, read_packets, row_at, first_open, return_at, StreamRow, deliver}
 use Rattle.law_model.specs.Common.{longest_frame}
 use Rattle.law_model.specs.declared.control_packet.Packet.{Packet}
+use Rattle.law_model.specs.declared.script_types.Options.{Options}
 use Rattle.member_rows.specs.realign_rows.Gather.{Gather, line_count, IsOpenAt, AreDecided}
 use Rattle.law_loss.specs.Added.{whole_row, lost_row}
 use Rattle.terminal_sink.specs.declared.sink_core.sink_terminal.TakeAnswer.{TakeAnswer}
@@ -42,17 +43,17 @@ abbrev pub IsPacketEnd : ℕ → Type 0
 IsPacketEnd t = (22 < t) × (t % 16 ≡ 7)
 
 -- the return packet that row t makes, where a packet ends with it
-abbrev pub back_at : List (List Cell) → ℕ → Option Packet
-back_at cells t = if nat_lt 22 t && t % 16 == 7 then Some (return_at cells ((t - 23) / 16)) else None
+abbrev pub back_at : Options → List (List Cell) → ℕ → Option Packet
+back_at options cells t = if nat_lt 22 t && t % 16 == 7 then Some (return_at options cells ((t - 23) / 16)) else None
 
 -- ---- the answer
-abbrev pub answer_by : Option ℕ → List (List Cell) → ℕ → TakeAnswer
-answer_by (Some line) cells t = Waiting line
-answer_by None cells t = Taken (back_at cells t)
+abbrev pub answer_by : Option ℕ → Options → List (List Cell) → ℕ → TakeAnswer
+answer_by (Some line) options cells t = Waiting line
+answer_by None options cells t = Taken (back_at options cells t)
 
 -- the answer where t rows were taken: it waits for the first line whose cells don't decide row t, or the row is taken
-abbrev pub answer_at : List (List Cell) → ℕ → TakeAnswer
-answer_at cells t = answer_by (first_open cells t) cells t
+abbrev pub answer_at : Options → List (List Cell) → ℕ → TakeAnswer
+answer_at options cells t = answer_by (first_open cells t) options cells t
 
 -- the line that an answer waits for
 abbrev pub waiting_for : TakeAnswer → Option ℕ

@@ -2,6 +2,7 @@
 
 ghost use Rattle.std.specs.Prelude.{◌≡◌, ◌≢◌, ℕ, ◌+◌, ◌*◌, ◌<◌, ◌≤◌, List, ◌++◌, length, Option, Some, None};
 ghost use Rattle.law_model.specs.Common.{return_at, Cell, Scenario, Told, segments_of, deliver, rows_of, longest_frame};
+ghost use Rattle.law_model.specs.declared.script_types.Options.{Options};
 ghost use Rattle.law_line.specs.StableRows.{IsLonger, AreDecidedAt};
 ghost use Rattle.member_rows.specs.realign_rows.Gather.{with_cell};
 ghost use Rattle.terminal_sink.specs.sink_core.Given.{received_rows, given_frames, added_frames, back_at};
@@ -16,12 +17,13 @@ pub fn sink_law()
     ensures frames { (size taken : ℕ) (cells longer : List (List Cell)) → IsLonger cells longer →
         ((t : ℕ) → t < taken → AreDecidedAt cells t) →
         given_frames size longer taken ≡ given_frames size cells taken }
-    ensures back { (t : ℕ) (cells longer : List (List Cell)) → IsLonger cells longer →
-        AreDecidedAt cells t → back_at longer t ≡ back_at cells t }
-    ensures there { (cells : List (List Cell)) (k : ℕ) →
-        back_at cells (16 * k + 23) ≡ Some (return_at cells k) }
-    ensures elsewhere { (cells : List (List Cell)) (t : ℕ) → ((k : ℕ) → t ≢ 16 * k + 23) →
-        back_at cells t ≡ None }
+    ensures back { (options : Options) (t : ℕ) (cells longer : List (List Cell)) →
+        IsLonger cells longer → AreDecidedAt cells t →
+        back_at options longer t ≡ back_at options cells t }
+    ensures there { (options : Options) (cells : List (List Cell)) (k : ℕ) →
+        back_at options cells (16 * k + 23) ≡ Some (return_at options cells k) }
+    ensures elsewhere { (options : Options) (cells : List (List Cell)) (t : ℕ) →
+        ((k : ℕ) → t ≢ 16 * k + 23) → back_at options cells t ≡ None }
     ensures added { (size before taken : ℕ) (cells : List (List Cell)) → before ≤ taken →
         given_frames size cells taken
         ≡ given_frames size cells before ++ added_frames size cells before taken }

@@ -2,7 +2,7 @@
 
 ghost use Rattle.std.specs.Prelude.{◌≡◌, ℕ, ◌+◌, ◌^◌, ◌%◌, ◌<◌, ◌≤◌, ◌==◌, ◌&&◌, ◌↔◌, nat_lt, List, ◌++◌, length};
 ghost use Rattle.std.specs.Prelude.{IfOk, IsSome, IsTrue};
-ghost use Rattle.law_model.specs.Common.{Cell, Start, governing, active_of, IsSize, segments_of};
+ghost use Rattle.law_model.specs.Common.{Cell, IsOptions, Start, governing, active_of, IsSize, segments_of};
 ghost use Rattle.member_rows.specs.realign_rows.Gather.{GatherStands as Gathers, line_count, open_line};
 ghost use Rattle.std.specs.Vec.{vec_capacity};
 ghost use Rattle.member_rows.specs.vcat_interleave.Members.{AreLines};
@@ -17,7 +17,7 @@ use crate::marked_delineator::MarkedDelineator;
 use crate::sink_core::active_lines::find_active;
 use crate::sink_core::octets_of_row::BLOCK;
 use crate::sink_core::whole_rows::{FIRST_ROW, take_row};
-use law_model::{FrameOut, LONGEST_FRAME, MOST_LINES};
+use law_model::{FrameOut, LONGEST_FRAME, MOST_LINES, Options};
 use member_rows::lcas_packet::Packet;
 use member_rows::realign_rows::{RowAnswer, RowGather};
 use std::alloc::{AllocError, Global};
@@ -69,6 +69,7 @@ impl Model for SinkCore {
     ghost view = { λ core. record {
       lines = core.lines;
       size = core.size;
+      options = core.table.options;
       taken = core.taken;
       receiver = core.delineator;
       table = core.table;
@@ -81,13 +82,21 @@ impl Model for SinkCore {
 }
 
 impl SinkCore {
-    /// The sink of a group of `lines` lines whose containers have `size` payload octets. No row was taken.
-    pub fn new(alloc: Global, lines: u8, size: u16) -> Result<SinkCore, AllocError>
+    /// The sink of a group of `lines` lines whose containers have `size` payload octets. By `options` lines go down
+    /// and come up, and statuses are told. No row was taken.
+    pub fn new(
+        alloc: Global,
+        lines: u8,
+        size: u16,
+        options: Options,
+    ) -> Result<SinkCore, AllocError>
         requires least { 1 ≤ lines }
         requires most { lines ≤ 128 }
         requires size { IsSize size }
+        requires options { IsOptions options }
         ensures lines { IfOk result (λ core. core.lines ≡ lines) }
         ensures size { IfOk result (λ core. core.size ≡ size) }
+        ensures options { IfOk result (λ core. core.options ≡ options) }
         ensures taken { IfOk result (λ core. core.taken ≡ 0) }
         ensures stands { IfOk result (λ core. (cells : List (List Cell)) → length cells ≡ lines →
             SinkStands core cells) }
@@ -97,7 +106,7 @@ impl SinkCore {
             size,
             taken: 0,
             delineator: MarkedDelineator::new(alloc, LONGEST)?,
-            table: SinkTable::new(lines),
+            table: SinkTable::new(lines, options),
             active: Vec::with_capacity(alloc, MOST_LINES)?,
             block: vec![in alloc; 0; BLOCK]?,
         })
@@ -110,12 +119,13 @@ impl SinkCore {
         requires rows { rows.old.rows ≡ self.old.taken }
         requires few { self.old.taken < 4294967295 }
         ensures answer { (cells : List (List Cell)) → Gathers rows.old cells → SinkStands self.old cells →
-            result ≡ answer_at cells self.old.taken }
+            result ≡ answer_at self.old.options cells self.old.taken }
         ensures taken { self.new.taken ≡ self.old.taken + rows_taken result }
         ensures rows { rows.new.rows ≡ self.new.taken }
         ensures lines { line_count rows.new ≡ line_count rows.old }
         ensures own_lines { self.new.lines ≡ self.old.lines }
         ensures size { self.new.size ≡ self.old.size }
+        ensures options { self.new.options ≡ self.old.options }
         ensures gathers { (cells : List (List Cell)) → Gathers rows.old cells → Gathers rows.new cells }
         ensures stands { (cells : List (List Cell)) → Gathers rows.old cells → SinkStands self.old cells →
             SinkStands self.new cells }
@@ -184,12 +194,13 @@ fn pass_row(table: &mut SinkTable, t: u32, packets: &[Option<Packet>]) -> Option
     requires few { t < 4294967295 }
     requires taken { table.old.taken ≡ packet_rows t }
     ensures lines { table.new.lines ≡ table.old.lines }
+    ensures options { table.new.options ≡ table.old.options }
     ensures taken { table.new.taken ≡ packet_rows (t + 1) }
     ensures stands { (cells : List (List Cell)) → packets.now ≡ governing cells (t + 1) →
         HasTold table.old (read_rows cells (packet_rows t)) →
         HasTold table.new (read_rows cells (packet_rows (t + 1))) }
     ensures back { (cells : List (List Cell)) → packets.now ≡ governing cells (t + 1) →
-        HasTold table.old (read_rows cells (packet_rows t)) → result ≡ back_at cells t }
+        HasTold table.old (read_rows cells (packet_rows t)) → result ≡ back_at table.old.options cells t }
     ensures there { IsSome result ↔ IsPacketEnd t }
 {
     if ends_packet(t) {

@@ -8,7 +8,7 @@ use Rattle.std.proofs.lemmas.List.{length-map, take-replicate}
 use Rattle.std.proofs.lemmas.Bool.{leb-false, and_right}
 use Rattle.law_model.specs.Common.{Table, Told, first_table, heard, told_on, exchange, exchanged, kept_of, read_of}
 use Rattle.law_model.specs.Common.{packet_read, bits_from, Source, line_of, refusal, asked, asked_by, change, change_by}
-use Rattle.law_model.specs.Common.{decide, Course, count_of}
+use Rattle.law_model.specs.Common.{decide, Course, count_of, IsStatuses}
 use Rattle.law_model.specs.declared.lcas_states.Command.{Command}
 use Rattle.law_model.specs.declared.lcas_states.Member.{Member}
 use Rattle.law_model.specs.declared.item_refusals.CommandFault.TheVariants.{UnknownLine}
@@ -34,27 +34,28 @@ opening-fields lines table planned waiting few is_table is_planned is_waiting =
     ∙ ap (λ planned. record { table = first_table; planned = planned; waiting = waiting }) (none-planned lines few)
     ∙ ap (λ waiting. record { table = first_table; planned = replicate lines false; waiting = waiting }) is_waiting
 
-pub begun-fields : (lines : ℕ) (table : Table) (planned : List Bool) (waiting : List Command) → lines ≤ 128 →
+pub begun-fields : (lines statuses : ℕ) (table : Table) (planned : List Bool) (waiting : List Command) → lines ≤ 128 →
     table ≡ first_table → planned ≡ none_planned → waiting ≡ [] →
     record {
       lines = lines;
+      statuses = statuses;
       source = record { table = table; planned = take lines planned; waiting = waiting };
-      taken =
-          0;
+      taken = 0;
       steps = 0;
-    } ≡ begun lines
-begun-fields lines table planned waiting few is_table is_planned is_waiting =
-    ap (λ source. record { lines = lines; source = source; taken = 0; steps = 0 })
+    } ≡ begun lines statuses
+begun-fields lines statuses table planned waiting few is_table is_planned is_waiting =
+    ap (λ source. record { lines = lines; statuses = statuses; source = source; taken = 0; steps = 0 })
     (opening-fields lines table planned waiting few is_table is_planned is_waiting)
 
-IsTable-begun : (lines : ℕ) (group : List Bool) → lines ≤ 128 → group ≡ bits_from 0 → IsTable (begun lines) group
-IsTable-begun lines group few bits =
-    record { lines = few; fits = opening-fits lines; count = omega arith; taken = omega arith; bits = bits }
+IsTable-begun : (lines statuses : ℕ) (group : List Bool) → lines ≤ 128 → IsStatuses statuses →
+    group ≡ bits_from 0 → IsTable (begun lines statuses) group
+IsTable-begun lines statuses group few choice bits =
+    record { lines = few; statuses = choice; fits = opening-fits lines; count = omega arith; taken = omega arith; bits = bits }
 
-pub IsTable-new : (course : Course) (lines : ℕ) (group : List Bool) → course ≡ begun lines → lines ≤ 128 →
-    group ≡ bits_from 0 → IsTable course group
-IsTable-new course lines group is few bits =
-    subst (λ course. IsTable course group) (sym is) (IsTable-begun lines group few bits)
+pub IsTable-new : (course : Course) (lines statuses : ℕ) (group : List Bool) → course ≡ begun lines statuses →
+    lines ≤ 128 → IsStatuses statuses → group ≡ bits_from 0 → IsTable course group
+IsTable-new course lines statuses group is few choice bits =
+    subst (λ course. IsTable course group) (sym is) (IsTable-begun lines statuses group few choice bits)
 
 -- ---- a command
 inside-of_accepted : (lines : ℕ) (command : Command) (source : Source) → refusal lines command source ≡ None →
@@ -110,12 +111,19 @@ accepted-fits lines command source after e fits = subst (Fits lines) (sym e) (Fi
 pub IsTable-asked : (course : Course) (group : List Bool) (command : Command) (after : Source) →
     after ≡ asked course.lines course.source command →
     after.table ≡ course.source.table → IsTable course group →
-    IsTable (record { lines = course.lines; source = after; taken = course.taken; steps = course.steps }) group
+    IsTable (record {
+      lines = course.lines;
+      statuses = course.statuses;
+      source = after;
+      taken = course.taken;
+      steps = course.steps;
+    }) group
 IsTable-asked course group command after e same is =
     let counts = is.count in
     let count = ap (λ table. table.count) same in
     record {
       lines = is.lines;
+      statuses = is.statuses;
       fits = accepted-fits course.lines command course.source after e is.fits;
       count = omega arith;
       taken = is.taken;
@@ -202,9 +210,10 @@ count_of-small (Some told) = omega arith
 
 pub IsTable-decided : (course : Course) (group bits : List Bool) (told : Option Told) (cell : Option (Option Told))
     (after : Source) →
-    after ≡ decide (course.taken % 16) told course.source → bits ≡ bits_from course.steps → IsTable course group →
+    after ≡ decide (course.taken % course.statuses) told course.source → bits ≡ bits_from course.steps → IsTable course group →
     IsTable (record {
       lines = course.lines;
+      statuses = course.statuses;
       source = after;
       taken = course.taken + count_of cell;
       steps =
@@ -213,15 +222,16 @@ pub IsTable-decided : (course : Course) (group bits : List Bool) (told : Option 
 IsTable-decided course group bits told cell after e next is =
     let counts = is.count in
     let takens = is.taken in
-    let heard_count = heard-count (course.taken % 16) told course.source.table in
-    let rises = change-count course.source (told_on (heard (course.taken % 16) told course.source.table)) in
+    let heard_count = heard-count (course.taken % course.statuses) told course.source.table in
+    let rises = change-count course.source (told_on (heard (course.taken % course.statuses) told course.source.table)) in
     let count = ap (λ source. source.table.count) e in
     let small = count_of-small cell in
     let now : course.steps ≡ course.steps + 1 - 1 = omega arith in
     record {
       lines = is.lines;
+      statuses = is.statuses;
       fits = subst (Fits course.lines) (sym e)
-          (Fits-decide course.lines (course.taken % 16) told course.source is.fits);
+          (Fits-decide course.lines (course.taken % course.statuses) told course.source is.fits);
       count = omega arith;
       taken = omega arith;
       bits = next ∙ ap bits_from now;

@@ -7,7 +7,7 @@ use Rattle.law_model.specs.Common.{bits, keep, oks_in}
 use Rattle.check_remainder.proofs.BitLaws.{length-bits}
 
 -- entries of other groups stay
-keep-below : (group : ℕ) (oks : List Bool) (base : ℕ) (xs : List (Option Bool)) → base + length xs ≤ 8 * group →
+pub keep-below : (group : ℕ) (oks : List Bool) (base : ℕ) (xs : List (Option Bool)) → base + length xs ≤ 8 * group →
     keep group oks base xs ≡ xs
 unfolding keep
 keep-below group oks base [] h = refl

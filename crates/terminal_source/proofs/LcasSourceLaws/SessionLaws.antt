@@ -14,6 +14,7 @@ asked-course : (commands : List Command) (course : Course) →
     fold called course (map asks commands)
     ≡ record {
       lines = course.lines;
+      statuses = course.statuses;
       source = asked_all course.lines commands course.source;
       taken = course.taken;
       steps = course.steps;
@@ -39,11 +40,16 @@ given-count scenario cells j =
     ] refl
 
 abbrev pub session_course : Scenario → List (Option Told) → ℕ → Course
-session_course scenario cells j =
-    record { lines = length scenario.windows; source = after scenario cells j; taken = j - scenario.lag; steps = j }
+session_course scenario cells j = record {
+  lines = length scenario.windows;
+  statuses = scenario.options.statuses;
+  source = after scenario cells j;
+  taken = j - scenario.lag;
+  steps = j;
+}
 
 after-next : (scenario : Scenario) (cells : List (Option Told)) (j : ℕ) →
-    after scenario cells (suc j) ≡ decide ((j - scenario.lag) % 16) (cell_at scenario cells j)
+    after scenario cells (suc j) ≡ decide ((j - scenario.lag) % scenario.options.statuses) (cell_at scenario cells j)
     (asked_all (length scenario.windows) (orders_at scenario j) (after scenario cells j))
 unfolding after
 after-next scenario cells j = refl
@@ -59,6 +65,7 @@ one-step : (scenario : Scenario) (cells : List (Option Told)) (j : ℕ) →
     (suc j)
 one-step scenario cells j =
     let lines = length scenario.windows in
+    let statuses = scenario.options.statuses in
     let source = asked_all lines (orders_at scenario j) (after scenario cells j) in
     let steps : j + 1 ≡ suc j = omega arith in
     fold-append called (session_course scenario cells j) (map asks (orders_at scenario j))
@@ -67,30 +74,45 @@ one-step scenario cells j =
     (asked-course (orders_at scenario j) (session_course scenario cells j))
     ∙ ap (λ told. record {
       lines = lines;
-      source = decide ((j - scenario.lag) % 16) told source;
+      statuses = statuses;
+      source = decide ((j - scenario.lag) % statuses) told source;
       taken =
           j - scenario.lag + count_of (given_at scenario cells j);
       steps = j + 1;
     }) (given-said scenario cells j)
     ∙ ap (λ source. record {
       lines = lines;
+      statuses = statuses;
       source = source;
       taken =
           j - scenario.lag + count_of (given_at scenario cells j);
       steps = j + 1;
     }) (sym (after-next scenario cells j))
-    ∙ ap₂ (λ taken steps. record { lines = lines; source = after scenario cells (suc j); taken = taken; steps = steps })
+    ∙ ap₂ (λ taken steps. record {
+      lines = lines;
+      statuses = statuses;
+      source = after scenario cells (suc j);
+      taken = taken;
+      steps = steps;
+    })
     (given-count scenario cells j) steps
 
 pub course-of_scenario : (scenario : Scenario) (cells : List (Option Told)) (j : ℕ) →
-    course_of (length scenario.windows) (calls_before scenario cells j) ≡ session_course scenario cells j
+    course_of (length scenario.windows) scenario.options.statuses (calls_before scenario cells j)
+    ≡ session_course scenario cells j
 unfolding calls_before
 course-of_scenario scenario cells zero =
     let none : 0 - scenario.lag ≡ 0 = omega arith in
-    ap₂ (λ source taken. record { lines = length scenario.windows; source = source; taken = taken; steps = 0 })
+    ap₂ (λ source taken. record {
+      lines = length scenario.windows;
+      statuses = scenario.options.statuses;
+      source = source;
+      taken = taken;
+      steps = 0;
+    })
     (sym (after-none scenario cells)) (sym none)
 course-of_scenario scenario cells (suc j) =
-    fold-append called (begun (length scenario.windows)) (calls_before scenario cells j)
+    fold-append called (begun (length scenario.windows) scenario.options.statuses) (calls_before scenario cells j)
     (map asks (orders_at scenario j) ++ decides (given_at scenario cells j) ∷ [])
     ∙ ap (λ course. fold called course (map asks (orders_at scenario j) ++ decides (given_at scenario cells j) ∷ []))
     (course-of_scenario scenario cells j)

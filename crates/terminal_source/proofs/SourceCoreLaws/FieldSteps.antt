@@ -39,7 +39,7 @@ table_by-lines false back table = refl
 table_by-fits : (b : Bool) (back : Option BackCell) (table : Course) → Fits table.lines table.source →
     Fits table.lines (table_by b back table).source
 table_by-fits true back table fits =
-    Fits-decide table.lines (table.taken % 16) (said_by (option_map told_in back)) table.source fits
+    Fits-decide table.lines (table.taken % table.statuses) (said_by (option_map told_in back)) table.source fits
 table_by-fits false back table fits = fits
 
 -- how many decision steps are made after a tick

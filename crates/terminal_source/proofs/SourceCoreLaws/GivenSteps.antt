@@ -69,6 +69,7 @@ with_frame-alike scenario cells t frame = record {
   lines = refl;
   lag = refl;
   size = refl;
+  statuses = refl;
   orders = λ j low. refl;
   cells = λ j low. refl;
   offers = λ u low. frames-before scenario t u frame low;
@@ -101,6 +102,7 @@ Stands-with_frame lag size ticks queue next sender table active nibbles told sce
       lines = stands.lines;
       lag = stands.lag;
       size = stands.size;
+      statuses = stands.statuses;
       offers = All-append (λ (offer : DueFrame). offer.due ≤ ticks) scenario.offers
           (offer_now ticks frame ∷ []) stands.offers
           (All-one (λ (offer : DueFrame). offer.due ≤ ticks) (offer_now ticks frame) (omega arith));
@@ -108,6 +110,7 @@ Stands-with_frame lag size ticks queue next sender table active nibbles told sce
       told = stands.told;
       table = stands.table ∙ sym (ap (λ source. record {
         lines = length scenario.windows;
+        statuses = scenario.options.statuses;
         source = asked_all (length scenario.windows) (orders_at scenario (steps_in ticks)) source;
         taken = steps_in ticks - scenario.lag;
         steps = steps_in ticks;
@@ -156,6 +159,7 @@ with_command-alike scenario cells t command = record {
   lines = refl;
   lag = refl;
   size = refl;
+  statuses = refl;
   orders = λ j low. orders-before scenario t j command low;
   cells = λ j low. refl;
   offers = λ u low. refl;
@@ -186,6 +190,7 @@ Stands-with_command lag size ticks queue sender table next active nibbles told s
       lines = ap (λ (course : Course). course.lines) is ∙ stands.lines;
       lag = stands.lag;
       size = stands.size;
+      statuses = ap (λ (course : Course). course.statuses) is ∙ stands.statuses;
       offers = stands.offers;
       orders = All-append (λ (order : DueCommand). order.due ≤ ticks) scenario.orders
           (order_now ticks command ∷ []) stands.orders
@@ -193,6 +198,7 @@ Stands-with_command lag size ticks queue sender table next active nibbles told s
       told = stands.told;
       table = is ∙ ap (λ course. called course (asks command)) stands.table ∙ sym (ap (λ source. record {
         lines = length scenario.windows;
+        statuses = scenario.options.statuses;
         source = source;
         taken = steps_in ticks - scenario.lag;
         steps = steps_in ticks;
@@ -218,6 +224,7 @@ with_told-alike scenario cells t said = record {
   lines = refl;
   lag = refl;
   size = refl;
+  statuses = refl;
   orders = λ j low. refl;
   cells = λ j low. refl;
   offers = λ u low. refl;
@@ -237,11 +244,13 @@ Stands-with_told lag size ticks queue sender table active nibbles told said scen
       lines = stands.lines;
       lag = stands.lag;
       size = stands.size;
+      statuses = stands.statuses;
       offers = stands.offers;
       orders = stands.orders;
       told = stands.told;
       table = stands.table ∙ sym (ap (λ source. record {
         lines = length scenario.windows;
+        statuses = scenario.options.statuses;
         source = asked_all (length scenario.windows) (orders_at scenario (steps_in ticks)) source;
         taken = steps_in ticks - scenario.lag;
         steps = steps_in ticks;

@@ -48,6 +48,7 @@ alike-landed one other a b t comes agree = record {
   lines = comes.lines;
   lag = comes.lag;
   size = comes.size;
+  statuses = comes.statuses;
   orders = λ j low. ap (map (λ (order : DueCommand). order.command))
       (same-parts (lands_at j) (λ (order : DueCommand). has_come t order.due) one.orders other.orders
       (λ order lands. lands-within order.due j t low lands) comes.orders);
@@ -74,6 +75,7 @@ first-alike scenario n m t orders offers = record {
   lines = refl;
   lag = refl;
   size = refl;
+  statuses = refl;
   offers = prefix-alike (λ (offer : DueFrame). has_come t offer.due) m scenario.offers
       (λ k d low. le-ltb (slice_index_or (drop m scenario.offers) k d).due t (offers k d low));
   orders = prefix-alike (λ (order : DueCommand). has_come t order.due) n scenario.orders

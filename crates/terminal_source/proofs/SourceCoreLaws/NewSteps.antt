@@ -1,6 +1,6 @@
 -- A terminal to which nothing was given.
 use Rattle.std.proofs.Common.{◌≡◌, ◌≤◌, ◌<◌, ℕ, ◌-◌, ◌*◌, List, [], map, filter, fold, length, replicate, All, refl}
-use Rattle.std.proofs.Common.{slice_index_or, sym, ◌∙◌, ap, subst, arith}
+use Rattle.std.proofs.Common.{slice_index_or, sym, ◌∙◌, ap, ap₂, subst, arith}
 use Rattle.std.proofs.lemmas.List.{length-replicate, get_or-replicate}
 use Rattle.std.proofs.lemmas.List.Elements.{All-replicate}
 use Rattle.std.proofs.lemmas.List.FromFn.{fill_by_all}
@@ -29,15 +29,16 @@ zeros-below lines =
     All-replicate (λ nibbles. All (λ nibble. nibble < 16) nibbles) lines (replicate 16 0)
     (All-replicate (λ nibble. nibble < 16) 16 0 (omega arith))
 
-pub IsTerminal-new : (lag size lines : ℕ) (queue : Held) (sender : Sender) (table : Course) (active : List ℕ)
+pub IsTerminal-new : (lag size lines statuses : ℕ) (queue : Held) (sender : Sender) (table : Course) (active : List ℕ)
     (nibbles : List (List ℕ)) (told : Told) (octets : ℕ) →
-    lines ≤ 128 → size ≤ 2340 → table ≡ begun lines → active ≡ [] → nibbles ≡ replicate lines (replicate 16 0) →
-    octets ≡ size * lines →
+    lines ≤ 128 → size ≤ 2340 → table ≡ begun lines statuses → active ≡ [] →
+    nibbles ≡ replicate lines (replicate 16 0) → octets ≡ size * lines →
     IsTerminal (terminal_of lag size 0 queue sender table active nibbles told) octets
-IsTerminal-new lag size lines queue sender table active nibbles told octets few small is_table none zeros room =
+IsTerminal-new lag size lines statuses queue sender table active nibbles told octets few small is_table none zeros room =
     subst (λ table. IsTerminal (terminal_of lag size 0 queue sender table active nibbles told) octets) (sym is_table)
-    (subst (λ active. IsTerminal (terminal_of lag size 0 queue sender (begun lines) active nibbles told) octets)
-    (sym none) (subst (λ nibbles. IsTerminal (terminal_of lag size 0 queue sender (begun lines) [] nibbles told) octets)
+    (subst (λ active. IsTerminal (terminal_of lag size 0 queue sender (begun lines statuses) active nibbles told) octets)
+    (sym none)
+    (subst (λ nibbles. IsTerminal (terminal_of lag size 0 queue sender (begun lines statuses) [] nibbles told) octets)
     (sym zeros) (record {
       lines = few;
       size = small;
@@ -61,19 +62,25 @@ unfolding after
 source-new scenario none = ap (λ orders. asked_all (length scenario.windows) orders (after scenario [] 0))
     (no-orders scenario 0 none)
 
-course-new : (scenario : Scenario) (lines : ℕ) → scenario.orders ≡ [] → length scenario.windows ≡ lines →
-    begun lines ≡ course_now scenario [] 0
-course-new scenario lines none are_lines =
+course-new : (scenario : Scenario) (lines statuses : ℕ) → scenario.orders ≡ [] → length scenario.windows ≡ lines →
+    scenario.options.statuses ≡ statuses → begun lines statuses ≡ course_now scenario [] 0
+course-new scenario lines statuses none are_lines are_statuses =
     let count : 0 - scenario.lag ≡ 0 = omega arith in
-    sym (ap (λ source. record { lines = length scenario.windows; source = source; taken = 0 - scenario.lag; steps = 0 })
-    (source-new scenario none)
+    sym (ap (λ source. record {
+      lines = length scenario.windows;
+      statuses = scenario.options.statuses;
+      source = source;
+      taken = 0 - scenario.lag;
+      steps = 0;
+    }) (source-new scenario none)
     ∙ ap (λ taken. record {
       lines = length scenario.windows;
+      statuses = scenario.options.statuses;
       source = opening (length scenario.windows);
       taken = taken;
       steps = 0;
     }) count
-    ∙ ap begun are_lines)
+    ∙ ap₂ begun are_lines are_statuses)
 
 stream-new : (scenario : Scenario) → scenario.offers ≡ [] → stream_now scenario [] 0 ≡ unsent []
 unfolding stream_before
@@ -95,23 +102,24 @@ nibbles-new scenario lines are_lines =
     (length-replicate lines (replicate 16 0) ∙ sym are_lines)
     (λ line low. get_or-replicate lines line (replicate 16 0) [] (omega arith))
 
-pub Stands-new : (lag size lines : ℕ) (queue : Held) (sender : Sender) (table : Course) (active : List ℕ)
+pub Stands-new : (lag size lines statuses : ℕ) (queue : Held) (sender : Sender) (table : Course) (active : List ℕ)
     (nibbles : List (List ℕ)) (told : Told) (scenario : Scenario) →
-    queue ≡ unbegun [] → HasWritten sender (unbegun []) (unsent []) 0 → table ≡ begun lines → active ≡ [] →
+    queue ≡ unbegun [] → HasWritten sender (unbegun []) (unsent []) 0 → table ≡ begun lines statuses → active ≡ [] →
     nibbles ≡ replicate lines (replicate 16 0) → told ≡ untold →
-    IsFresh scenario lines lag size → SourceStands (terminal_of lag size 0 queue sender table active nibbles told) scenario []
-Stands-new lag size lines queue sender table active nibbles told scenario is_queue written is_table none zeros silent
+    IsFresh scenario lines lag size statuses → SourceStands (terminal_of lag size 0 queue sender table active nibbles told) scenario []
+Stands-new lag size lines statuses queue sender table active nibbles told scenario is_queue written is_table none zeros silent
     fresh =
     record {
       lines = ap (λ (course : Course). course.lines) is_table ∙ sym fresh.of_lines;
       lag = sym fresh.of_lag;
       size = sym fresh.of_size;
+      statuses = ap (λ (course : Course). course.statuses) is_table ∙ sym fresh.of_statuses;
       offers = subst (All (λ (offer : DueFrame). offer.due ≤ 0)) (sym fresh.no_offers)
           (λ k d low. absurd (omega arith));
       orders = subst (All (λ (order : DueCommand). order.due ≤ 0)) (sym fresh.no_orders)
           (λ k d low. absurd (omega arith));
       told = omega arith;
-      table = is_table ∙ course-new scenario lines fresh.no_orders fresh.of_lines;
+      table = is_table ∙ course-new scenario lines statuses fresh.no_orders fresh.of_lines fresh.of_statuses;
       stream = subst (λ queue. HasWritten sender queue (stream_now scenario [] 0) (place_of scenario [] 0))
           (sym is_queue)
           (subst (λ stream. HasWritten sender (unbegun []) stream (place_of scenario [] 0))

@@ -69,6 +69,7 @@ tick-alike scenario cells back t told = record {
   lines = refl;
   lag = refl;
   size = refl;
+  statuses = refl;
   orders = λ j low. refl;
   cells = λ j low. with_cell-agree scenario cells back (steps_in t) told j low;
   offers = λ u low. refl;
@@ -140,7 +141,7 @@ no-frames scenario t due =
 -- ---- the table
 source-next : (scenario : Scenario) (cells : List (Option Told)) (back : Option BackCell) (t n : ℕ) → n ≡ t / 16 →
     t % 16 ≡ 8 → length cells ≡ n - scenario.lag → IsDue scenario.lag t back →
-    after scenario (with_cell cells back) (suc n) ≡ decide ((n - scenario.lag) % 16) (said_by (option_map told_in back))
+    after scenario (with_cell cells back) (suc n) ≡ decide ((n - scenario.lag) % scenario.options.statuses) (said_by (option_map told_in back))
     (source_at scenario cells n)
 unfolding after
 source-next scenario cells back t n is at told due =
@@ -148,15 +149,16 @@ source-next scenario cells back t n is at told due =
     let steps : steps_in t ≡ n = omega arith in
     let same = alike-after scenario more scenario cells t n (tick-alike scenario cells back t (rw steps told))
     (omega arith) in
-    ap (λ told. decide ((n - scenario.lag) % 16) told
+    ap (λ told. decide ((n - scenario.lag) % scenario.options.statuses) told
     (asked_all (length scenario.windows) (orders_at scenario n) (after scenario more n)))
     (cell-now scenario cells back t n is at told due)
-    ∙ ap (λ source. decide ((n - scenario.lag) % 16) (said_by (option_map told_in back))
+    ∙ ap (λ source. decide ((n - scenario.lag) % scenario.options.statuses) (said_by (option_map told_in back))
     (asked_all (length scenario.windows) (orders_at scenario n) source)) same
 
 abbrev pub course_after : Scenario → List (Option Told) → ℕ → Course
 course_after scenario cells n = record {
   lines = length scenario.windows;
+  statuses = scenario.options.statuses;
   source = source_at scenario cells n;
   taken = n - scenario.lag;
   steps = n;
@@ -170,22 +172,30 @@ course-next : (scenario : Scenario) (cells : List (Option Told)) (back : Option 
 course-next scenario cells back t n is at told due orders =
     let more = with_cell cells back in
     let lines = length scenario.windows in
-    let found : source_at scenario more (suc n) ≡ decide ((n - scenario.lag) % 16) (said_by (option_map told_in back))
+    let found : source_at scenario more (suc n) ≡ decide ((n - scenario.lag) % scenario.options.statuses) (said_by (option_map told_in back))
     (source_at scenario cells n) =
     ap (λ orders. asked_all lines orders (after scenario more (suc n))) (no-orders scenario t n (omega arith) orders)
     ∙ source-next scenario cells back t n is at told due in
     let next : n + 1 ≡ suc n = omega arith in
     ap (λ source. record {
       lines = lines;
+      statuses = scenario.options.statuses;
       source = source;
       taken =
           n - scenario.lag + count_of (option_map told_in back);
       steps = n + 1;
     }) (sym found)
-    ∙ ap (λ taken. record { lines = lines; source = source_at scenario more (suc n); taken = taken; steps = n + 1 })
+    ∙ ap (λ taken. record {
+      lines = lines;
+      statuses = scenario.options.statuses;
+      source = source_at scenario more (suc n);
+      taken = taken;
+      steps = n + 1;
+    })
     (cells-count scenario.lag t n back is at due)
     ∙ ap (λ steps. record {
       lines = lines;
+      statuses = scenario.options.statuses;
       source = source_at scenario more (suc n);
       taken = suc n - scenario.lag;
       steps = steps;
@@ -416,6 +426,7 @@ Stands-ticked lag size t queue later sender further table next active members ni
       lines = ap (λ (course : Course). course.lines) fields.table_is;
       lag = stands.lag;
       size = stands.size;
+      statuses = ap (λ (course : Course). course.statuses) fields.table_is;
       offers = later-offers t scenario stands.offers;
       orders = later-orders t scenario stands.orders;
       told = told-ticked scenario cells back t stands.told (subst (λ n. IsDue n t back) stands.lag due);

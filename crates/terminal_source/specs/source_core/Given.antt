@@ -36,10 +36,11 @@ abbrev pub with_told : Scenario → ℕ → Told → Scenario
 with_told scenario n told = record scenario { tells = told_next n told scenario.tells }
 
 -- no frame and no command came yet, and there was nothing to tell
-pub record IsFresh (scenario : Scenario) (lines lag size : ℕ) : Type 0 where
+pub record IsFresh (scenario : Scenario) (lines lag size statuses : ℕ) : Type 0 where
   pub of_lines : length scenario.windows ≡ lines
   pub of_lag : scenario.lag ≡ lag
   pub of_size : scenario.size ≡ size
+  pub of_statuses : scenario.options.statuses ≡ statuses
   pub no_offers : scenario.offers ≡ []
   pub no_orders : scenario.orders ≡ []
   pub no_tells : scenario.tells ≡ []
@@ -56,6 +57,7 @@ source_now scenario cells ticks = source_at scenario cells (steps_in ticks)
 abbrev pub course_now : Scenario → List (Option Told) → ℕ → Course
 course_now scenario cells ticks = record {
   lines = length scenario.windows;
+  statuses = scenario.options.statuses;
   source = source_now scenario cells ticks;
   taken = steps_in ticks - scenario.lag;
   steps = steps_in ticks;
@@ -81,6 +83,7 @@ pub record SourceStands (core : Terminal) (scenario : Scenario) (cells : List (O
   pub lines : core.lines ≡ length scenario.windows
   pub lag : core.lag ≡ scenario.lag
   pub size : core.size ≡ scenario.size
+  pub statuses : core.statuses ≡ scenario.options.statuses
   pub offers : All (λ (offer : DueFrame). offer.due ≤ core.ticks) scenario.offers
   pub orders : All (λ (order : DueCommand). order.due ≤ core.ticks) scenario.orders
   pub told : length cells ≡ steps_in core.ticks - scenario.lag
@@ -106,6 +109,7 @@ pub record ComesAlike (one other : Scenario) (t : ℕ) : Type 0 where
   pub lines : length one.windows ≡ length other.windows
   pub lag : one.lag ≡ other.lag
   pub size : one.size ≡ other.size
+  pub statuses : one.options.statuses ≡ other.options.statuses
   pub offers : filter (λ (offer : DueFrame). has_come t offer.due) one.offers ≡ filter
       (λ (offer : DueFrame). has_come t offer.due) other.offers
   pub orders : filter (λ (order : DueCommand). has_come t order.due) one.orders ≡ filter

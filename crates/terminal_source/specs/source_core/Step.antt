@@ -56,6 +56,7 @@ terminal_of lag size ticks queue sender table active nibbles told = record {
   lines = table.lines;
   lag = lag;
   size = size;
+  statuses = table.statuses;
   ticks = ticks;
   queue = queue;
   sender = sender;

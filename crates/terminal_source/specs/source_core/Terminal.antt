@@ -4,15 +4,15 @@ use Rattle.law_model.specs.Common.{Told, Course}
 use Rattle.gfp_fill.specs.Queue.{Held}
 use Rattle.gfp_fill.specs.Areas.{Sender}
 
--- how many lines there are; the lag in packets; the payload octets of a container; how many frames were made; the
--- client's frames
--- that aren't sent, and the stream that is made of them; the table; the lines that carry payload, and the nibbles of
--- each line's packet, as they
--- were in the frame that was made last; what the packets of the next decision step tell
+-- how many lines there are; the lag in packets; the payload octets of a container; how many return packets tell all
+-- statuses; how many frames were made; the client's frames that aren't sent, and the stream that is made of them; the
+-- table; the lines that carry payload, and the nibbles of each line's packet, as they were in the frame that was made
+-- last; what the packets of the next decision step tell
 pub record Terminal : Type 0 where
   pub lines : ℕ
   pub lag : ℕ
   pub size : ℕ
+  pub statuses : ℕ
   pub ticks : ℕ
   pub queue : Held
   pub sender : Sender
@@ -29,8 +29,9 @@ needed_at lag t = if t % 16 == 8 && nat_le lag (t / 16) then Some (t / 16 - lag)
 abbrev pub needed : Terminal → Option ℕ
 needed core = needed_at core.lag core.ticks
 
--- two terminals of the same lines, lag and size
+-- two terminals of the same lines, lag, size and number of packets that tell all statuses
 pub record SameKind (one other : Terminal) : Type 0 where
   pub lines : one.lines ≡ other.lines
   pub lag : one.lag ≡ other.lag
   pub size : one.size ≡ other.size
+  pub statuses : one.statuses ≡ other.statuses

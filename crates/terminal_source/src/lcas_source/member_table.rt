@@ -19,6 +19,9 @@ use std::marker::Model;
 /// The statuses of the sequence numbers: OK, FAIL, or none where it is not known.
 type Statuses = [Option<bool>; MOST_LINES];
 
+/// The groups of eight statuses that lines can have.
+const GROUPS: usize = MOST_LINES / 8;
+
 /// The lines that have a sequence number, in its order, and what is known of the last change.
 #[derive(Drop)]
 pub struct LineTable {
@@ -61,9 +64,8 @@ impl LineTable {
         }
     }
 
-    /// Takes what a return packet says, where it acknowledges the last change.
+    /// Takes what a return packet says, where it acknowledges the last change. A group is of eight statuses.
     pub fn hear(&mut self, group: usize, packet: &Packet)
-        requires { group < 16 }
         ensures { self.new ≡ heard group (Some (told_by packet.now)) self.old }
     {
         if packet.rs_ack == (self.changes % 2 == 1) {
@@ -335,12 +337,14 @@ fn turned(standing: Standing, status: Option<bool>) -> Standing
     }
 }
 
-/// The eight statuses that a packet says take the place of those of their group.
+/// The eight statuses that a packet says take the place of those of their group. There are more groups than
+/// lines: of what says statuses of no line nothing is kept.
 fn keep(statuses: &mut Statuses, group: usize, mst: u8)
-    requires { group < 16 }
     ensures { statuses.new ≡ keep group (oks_in mst) 0 statuses.old }
 {
-    statuses[8 * group..8 * group + 8].copy_from_slice(&statuses_in(mst));
+    if group < GROUPS {
+        statuses[8 * group..8 * group + 8].copy_from_slice(&statuses_in(mst));
+    }
 }
 
 /// The statuses that an octet of member status says, that of the least sequence number first.

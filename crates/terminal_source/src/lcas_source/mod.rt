@@ -16,21 +16,24 @@ pub use source_table::SourceTable;
 /// A table over a list of calls is the course of that list: before the first one it is the course of none,
 /// and each further call makes of it what it makes of the course.
 pub fn calls_law()
-    ensures { (lines : ℕ) (calls : List Call) (call : Call) →
-        course_of lines (calls ++ call ∷ []) ≡ called (course_of lines calls) call }
+    ensures { (lines statuses : ℕ) (calls : List Call) (call : Call) →
+        course_of lines statuses (calls ++ call ∷ []) ≡ called (course_of lines statuses calls) call }
 {}
 
 /// The calls of a scenario, with any return cells, lead to the scenario's own source: so what a table is
 /// after a list of calls is what a session's definitions say.
 pub fn course_law()
     ensures source { (scenario : Scenario) (cells : List (Option Told)) (j : ℕ) →
-        (course_of (length scenario.windows) (calls_before scenario cells j)).source
+        (course_of (length scenario.windows) scenario.options.statuses
+        (calls_before scenario cells j)).source
         ≡ after scenario cells j }
     ensures taken { (scenario : Scenario) (cells : List (Option Told)) (j : ℕ) →
-        (course_of (length scenario.windows) (calls_before scenario cells j)).taken
+        (course_of (length scenario.windows) scenario.options.statuses
+        (calls_before scenario cells j)).taken
         ≡ j - scenario.lag }
     ensures steps { (scenario : Scenario) (cells : List (Option Told)) (j : ℕ) →
-        (course_of (length scenario.windows) (calls_before scenario cells j)).steps ≡ j }
+        (course_of (length scenario.windows) scenario.options.statuses
+        (calls_before scenario cells j)).steps ≡ j }
 {}
 
 /// The bit of a group is 1 in the first fifteen packets, and then the sum modulo 2 of the bits fifteen and

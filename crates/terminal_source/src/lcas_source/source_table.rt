@@ -6,7 +6,7 @@ ghost use Rattle.std.specs.Bool.{OnTrue};
 ghost use Rattle.std.specs.List.{list_all};
 ghost use Rattle.law_model.specs.Common.{heard, active, packet_read, told_in, read_of, bits_from, refusal, line_of};
 ghost use Rattle.law_model.specs.Common.{asks, decides, called, course_of, said_by, count_of, forward_packet, state_of};
-ghost use Rattle.law_model.specs.Common.{refusal_in};
+ghost use Rattle.law_model.specs.Common.{refusal_in, IsStatuses};
 ghost use Rattle.law_model.specs.declared.lcas_states.Command.{Command as CommandData};
 ghost use Rattle.law_model.specs.declared.lcas_states.Command.TheVariants.{Add as add, Remove as remove};
 ghost use Rattle.law_model.specs.packets.Told.{packet_in};
@@ -29,6 +29,8 @@ const PENDING: usize = 64;
 #[derive(Drop)]
 pub struct SourceTable {
     lines: u8,
+    /// How many return packets tell all statuses.
+    statuses: u8,
     table: LineTable,
     /// Which lines accepted commands have added and not removed.
     planned: [bool; MOST_LINES],
@@ -48,19 +50,22 @@ impl Model for SourceTable {
 
     ghost Value = { Course };
 
-    ghost view = { λ s. course_in s.lines s.table s.planned s.pending s.taken s.steps };
+    ghost view = { λ s. course_in s.lines s.statuses s.table s.planned s.pending s.taken s.steps };
 
-    ghost invariant = { λ s. IsTable (course_in s.lines s.table s.planned s.pending s.taken s.steps) s.bits };
+    ghost invariant = { λ s. IsTable (course_in s.lines s.statuses s.table s.planned s.pending s.taken s.steps) s.bits };
 }
 
 impl SourceTable {
-    /// The table of a group of `lines` lines, up to 128, of which none is a member.
-    pub fn new(lines: u8) -> SourceTable
-        requires { lines ≤ 128 }
-        ensures { result ≡ course_of lines [] }
+    /// The table of a group of `lines` lines, up to 128, of which none is a member. All statuses are told by
+    /// `statuses` return packets, 16 or 32.
+    pub fn new(lines: u8, statuses: u8) -> SourceTable
+        requires lines { lines ≤ 128 }
+        requires statuses { IsStatuses statuses }
+        ensures { result ≡ course_of lines statuses [] }
     {
         SourceTable {
             lines,
+            statuses,
             table: LineTable::new(),
             planned: none_planned(),
             pending: ArrayVec::new(),
@@ -94,7 +99,7 @@ impl SourceTable {
         requires { self.old.steps < 4294967295 }
         ensures { self.new ≡ called self.old (decides (option_map told_in back)) }
     {
-        self.taken = take(&mut self.table, self.taken, back);
+        self.taken = take(&mut self.table, self.statuses, self.taken, back);
         self.table.settle();
         change(&mut self.table, &mut self.pending);
         go_on(&mut self.bits, self.steps);
@@ -192,17 +197,18 @@ fn none_planned() -> [bool; MOST_LINES]
     [false; MOST_LINES]
 }
 
-/// Takes a return cell, if there is one, and counts it.
-fn take(table: &mut LineTable, taken: u32, back: Option<BackCell>) -> u32
-    requires { taken < 4294967295 }
-    ensures table { table.new ≡ heard (taken % 16) (said_by (option_map told_in back)) table.old }
+/// Takes a return cell, if there is one, and counts it. The groups of statuses come in turn.
+fn take(table: &mut LineTable, statuses: u8, taken: u32, back: Option<BackCell>) -> u32
+    requires statuses { IsStatuses statuses }
+    requires few { taken < 4294967295 }
+    ensures table { table.new ≡ heard (taken % statuses) (said_by (option_map told_in back)) table.old }
     ensures taken { result ≡ taken + count_of (option_map told_in back) }
 {
     let Some(cell) = back else {
         return taken;
     };
     if let Some(packet) = packet_in(&cell) {
-        table.hear((taken % 16) as usize, &packet);
+        table.hear((taken % u32::from(statuses)) as usize, &packet);
     }
     taken + 1
 }

@@ -3,7 +3,7 @@
 ghost use Rattle.std.specs.Prelude.{◌≡◌, ◌+◌, ◌<◌, ◌≤◌, ◌↔◌, [], List, Option, IfOk, OnErr, IsSome, length};
 ghost use Rattle.law_model.specs.declared.lcas_states.Command.TheVariants.{Add as add, Remove as remove};
 ghost use Rattle.law_model.specs.Common.{Scenario, steps_in, Told, told_by, refusal, refusal_while, refusal_in};
-ghost use Rattle.law_model.specs.Common.{frame_of, vc4_size};
+ghost use Rattle.law_model.specs.Common.{frame_of, vc4_size, IsStatuses};
 ghost use Rattle.member_cells.specs.Held.{held};
 ghost use Rattle.terminal_source.specs.source_core.Terminal.{needed, SameKind};
 ghost use Rattle.terminal_source.specs.source_core.Given.{with_frame, with_command, with_cell, with_told, IsFresh, SourceStands};
@@ -61,21 +61,30 @@ impl Model for SourceCore {
 
 impl SourceCore {
     /// The terminal of a group of `lines` lines, up to 128, with `size` payload octets in a container, up to
-    /// 2,340. The return cell of packet `k` comes with the tick of frame `16 (k + lag) + 8`.
-    pub fn new(alloc: Global, lines: u8, lag: u16, size: u16) -> Result<SourceCore, AllocError>
+    /// 2,340, of which all statuses are told by `statuses` return packets, 16 or 32. The return cell of packet
+    /// `k` comes with the tick of frame `16 (k + lag) + 8`.
+    pub fn new(
+        alloc: Global,
+        lines: u8,
+        lag: u16,
+        size: u16,
+        statuses: u8,
+    ) -> Result<SourceCore, AllocError>
         requires lines { lines ≤ 128 }
         requires size { size ≤ vc4_size }
-        ensures stands { IfOk result (λ core. (scenario : Scenario) → IsFresh scenario lines lag size →
-            SourceStands core scenario []) }
+        requires statuses { IsStatuses statuses }
+        ensures stands { IfOk result (λ core. (scenario : Scenario) →
+            IsFresh scenario lines lag size statuses → SourceStands core scenario []) }
         ensures lines { IfOk result (λ core. core.lines ≡ lines) }
         ensures lag { IfOk result (λ core. core.lag ≡ lag) }
         ensures size { IfOk result (λ core. core.size ≡ size) }
+        ensures statuses { IfOk result (λ core. core.statuses ≡ statuses) }
         ensures ticks { IfOk result (λ core. core.ticks ≡ 0) }
     {
         Ok(SourceCore {
             queue: FrameQueue::new(alloc)?,
             filler: Filler::new(),
-            table: SourceTable::new(lines),
+            table: SourceTable::new(lines, statuses),
             lag,
             size,
             ticks: 0,

@@ -1,6 +1,6 @@
 -- The items of a load: one on, and what they meet.
 use Rattle.std.proofs.Common.{◌≡◌, ℕ, zero, suc, ◌+◌, ◌-◌, ◌*◌, ◌/◌, ◌^◌, ◌<◌, ◌≤◌, List, [], ◌∷◌, ◌++◌, length, map}
-use Rattle.std.proofs.Common.{replicate, ap, sym, ◌∙◌, subst, arith, refl, All, inr}
+use Rattle.std.proofs.Common.{replicate, ap, sym, ◌∙◌, subst, arith, refl, All, inl, inr}
 use Rattle.std.specs.List.{range_with_len}
 use Rattle.std.specs.List.Sorted.{IsNonDecreasing}
 use Rattle.std.proofs.lemmas.List.{append-nil, append_assoc, length-append, length-replicate, map-append}
@@ -224,6 +224,7 @@ valid_load number lines ticks few time =
           lag = (omega arith, omega arith);
           ticks = time;
           size = inr refl;
+          options = record { holdoff = omega arith; restore = omega arith; statuses = inl refl };
           fits_ring = omega (arith, most, slips);
           fits_lag = omega (arith, most, slips);
         };

@@ -9,33 +9,47 @@ use Rattle.std.proofs.lemmas.Bool.{not-false, leb-false, ltb-false, eqb-true, an
 use Rattle.std.proofs.lemmas.Bool.Decides.{nat_tests}
 use Rattle.std.proofs.lemmas.List.Elements.{All-nil, All-cons}
 use Rattle.text_lines.specs.declared.field_fault.FieldFault.TheVariants.{Name}
+use Rattle.text_lines.specs.declared.field_fault.Names.TheVariants as names
 use Rattle.text_scripts.specs.declared.script_read.script_fault.LineFault.TheVariants as wrong
 use Rattle.text_lines.specs.Words.{word_at, is_skipped, number_of, number_at}
 use Rattle.text_lines.specs.Fields.{within, any, above, digits, one_of, where_true, number_fault, name_fault}
 use Rattle.text_lines.specs.Fields.{fields_fault}
 use Rattle.text_lines.proofs.FieldLaws.{or_none, where_none, map_none, number_ok, digits_ok, one_field, two_fields}
 use Rattle.text_lines.proofs.FieldLaws.{four_fields}
-use Rattle.law_model.specs.Common.{IsWithin, IsSize}
+use Rattle.law_model.specs.Common.{IsWithin, IsSize, IsStatuses}
 use Rattle.text_scripts.specs.declared.script_read.script_keyword.Keyword.{Keyword}
 use Rattle.text_scripts.specs.declared.script_read.script_keyword.Keyword.TheVariants as word
 use Rattle.text_scripts.specs.declared.script_read.script_draft.Draft.{Draft}
-use Rattle.text_scripts.specs.script_read.Statements.{keyword_of, place, awaited, part_of, place_fault, container_names, fields}
-use Rattle.text_scripts.specs.script_read.Statements.{size_of, windows_of, last_end, last_lost, is_full, is_early, full_fault}
-use Rattle.text_scripts.specs.script_read.Statements.{early_fault, rest_fault, known_fault, words_fault, said, known_said}
-use Rattle.text_scripts.specs.script_read.Statements.{words_said}
+use Rattle.text_scripts.specs.script_read.Statements.{keyword_of, place, awaited, part_of, begun_at, place_fault}
+use Rattle.text_scripts.specs.script_read.Statements.{statuses_of, size_of, fields, windows_of, last_end, last_lost}
+use Rattle.text_scripts.specs.script_read.Statements.{is_full, is_early, full_fault, early_fault, rest_fault, known_fault}
+use Rattle.text_scripts.specs.script_read.Statements.{words_fault, said, known_said, words_said}
 use Rattle.text_scripts.specs.script_read.Drafts.{IsPlaced, IsDraft, IsNext, IsNextLost, Fits}
 
 -- ---- words
-size_ok : (w : List ℕ) → name_fault 2 container_names w ≡ None → IsSize (unwrap_or (size_of w) 0)
+size_ok : (w : List ℕ) → name_fault 2 names.Containers w ≡ None → IsSize (unwrap_or (size_of w) 0)
 size_ok w none =
     elim (cases_Bool (bytes_eq w (codes "vc3"))) [
       | inl three ↦ rw three (inl refl)
       | inr other ↦
           elim (cases_Bool (bytes_eq w (codes "vc4"))) [
             | inl four ↦ rw (other, four) (inr refl)
-            | inr neither ↦ absurd (let bad : Some (Name 2) ≡ None =
-                sym (let e : name_fault 2 container_names w ≡ Some (Name 2) = rw (other, neither) refl in e)
-                ∙ none in cc)
+            | inr neither ↦ absurd (let bad : Some (Name 2 names.Containers) ≡ None =
+                sym (let e : name_fault 2 names.Containers w ≡ Some (Name 2 names.Containers) =
+                rw (other, neither) refl in e) ∙ none in cc)
+          ]
+    ]
+
+statuses_ok : (w : List ℕ) → name_fault 2 names.Statuses w ≡ None → IsStatuses (unwrap_or (statuses_of w) 0)
+statuses_ok w none =
+    elim (cases_Bool (bytes_eq w (codes "16"))) [
+      | inl few ↦ rw few (inl refl)
+      | inr other ↦
+          elim (cases_Bool (bytes_eq w (codes "32"))) [
+            | inl many ↦ rw (other, many) (inr refl)
+            | inr neither ↦ absurd (let bad : Some (Name 2 names.Statuses) ≡ None =
+                sym (let e : name_fault 2 names.Statuses w ≡ Some (Name 2 names.Statuses) =
+                rw (other, neither) refl in e) ∙ none in cc)
           ]
     ]
 
@@ -67,11 +81,11 @@ within_six next at (inr passed) low = omega (arith, passed.1)
 placed : (next at : ℕ) → place_fault next at ≡ None → IsPlaced next at
 placed next at none =
     let is = or_none (where_true (nat_lt next 6 && not (at == next || (next == 0 && at == 1)))
-    (wrong.Missing (awaited next))) (where_true (nat_lt at next) (wrong.Part (part_of at) (part_of next))) none
+    (wrong.Missing (awaited next))) (where_true (nat_lt at next) (wrong.Part (part_of at) (begun_at next))) none
     in
     let missing = where_none (nat_lt next 6 && not (at == next || (next == 0 && at == 1)))
     (wrong.Missing (awaited next)) is.0 in
-    let order = ltb-false at next (where_none (nat_lt at next) (wrong.Part (part_of at) (part_of next)) is.1) in
+    let order = ltb-false at next (where_none (nat_lt at next) (wrong.Part (part_of at) (begun_at next)) is.1) in
     elim (cases_lt next 6) [
       | inl low ↦
           let e : nat_lt next 6 ≡ true = grind (arith, nat_tests, low) in
@@ -96,6 +110,9 @@ at_lines next is =
       | inl same ↦ omega (arith, same)
       | inr passed ↦ omega (arith, passed.0)
     ]
+
+at_options : (next : ℕ) → IsPlaced next 6 → next ≡ 6
+at_options next is = let late = is.1 (omega arith) in omega (arith, late.0, late.1)
 
 -- ---- what a line says
 record HasNoFault (d : Draft) (k : Keyword) (ws : List (List ℕ)) : Type 0 where
@@ -179,7 +196,7 @@ fits_said : (d : Draft) (k : Keyword) (ws : List (List ℕ)) → IsDraft d → I
     Fits d (said k ws)
 fits_said d word.Container ws is at fine = (
   at_place d.next 0 (omega arith) (λ e. omega (arith, e)) at,
-  size_ok (word_at 0 ws) (one_field (one_of container_names) 2 ws fine.count fine.each),
+  size_ok (word_at 0 ws) (one_field (one_of names.Containers) 2 ws fine.count fine.each),
 )
 fits_said d word.Lines ws is at fine = (at_lines d.next at, one_number 1 128 ws fine.count fine.each)
 fits_said d word.Delays ws is at fine =
@@ -192,11 +209,18 @@ fits_said d word.Lag ws is at fine =
     (at_place d.next 4 (omega arith) (λ e. omega (arith, e)) at, one_number 1 512 ws fine.count fine.each)
 fits_said d word.Ticks ws is at fine =
     (at_place d.next 5 (omega arith) (λ e. omega (arith, e)) at, one_number 1 1000000 ws fine.count fine.each)
-fits_said d word.Fail ws is at fine =
-    let late = at.1 (omega arith) in
-    ((let e : d.next ≡ 6 = omega (arith, late.0, late.1) in e), next_window d ws is late.0 fine)
-fits_said d word.Lost ws is at fine = let late = at.1 (omega arith) in
-    ((let e : d.next ≡ 6 = omega (arith, late.0, late.1) in e), next_lost d ws fine)
+fits_said d word.Holdoff ws is at fine =
+    (at_options d.next at, (one_number 0 5000 ws fine.count fine.each).1, fine.room)
+fits_said d word.Restore ws is at fine =
+    (at_options d.next at, (one_number 0 62500 ws fine.count fine.each).1, fine.room)
+fits_said d word.Statuses ws is at fine = (
+  at_options d.next at,
+  statuses_ok (word_at 0 ws) (one_field (one_of names.Statuses) 2 ws fine.count fine.each),
+  fine.room,
+)
+fits_said d word.Fail ws is at fine = let late = at.1 (omega arith) in
+    (late.0, late.1, next_window d ws is late.0 fine)
+fits_said d word.Lost ws is at fine = let late = at.1 (omega arith) in (late.0, late.1, next_lost d ws fine)
 fits_said d word.Frame ws is at fine =
     let late = at.1 (omega arith) in
     let two = two_fields (within 0 (d.config.ticks - 1)) (digits 1 65535) 2 0 ws fine.count fine.each in

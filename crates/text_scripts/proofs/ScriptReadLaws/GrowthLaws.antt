@@ -1,15 +1,16 @@
 -- What a draft meets, the draft after one more line meets as well.
 use Rattle.std.proofs.Common.{◌≡◌, ℕ, ◌+◌, ◌<◌, ◌≤◌, List, [], ◌∷◌, ◌++◌, length, ap, sym, ◌∙◌, arith, refl, slice_set}
-use Rattle.std.proofs.Common.{replicate, subst, All, inr}
+use Rattle.std.proofs.Common.{replicate, subst, All, inl, inr, Bool, true}
 use Rattle.std.specs.List.Sorted.{IsNonDecreasing}
 use Rattle.std.proofs.lemmas.List.{length-append, length-set, length-replicate, append-nil}
 use Rattle.std.proofs.lemmas.List.Elements.{All-set, All-get_or, All-replicate, All-push}
 use Rattle.law_model.specs.Common.{Due, command_due, due_of, dues_of, frame_dues, command_dues, HasLosses, IsItem}
-use Rattle.law_model.specs.Common.{AreItems, IsEvent, AreApart}
+use Rattle.law_model.specs.Common.{AreItems, IsEvent, AreApart, IsOptions}
 use Rattle.law_model.specs.declared.window_types.Window.{Window}
 use Rattle.law_model.specs.declared.script_types.Item.{Item}
 use Rattle.law_model.specs.declared.script_types.ItemKind.{ItemKind}
 use Rattle.law_model.specs.declared.script_types.Config.{Config}
+use Rattle.law_model.specs.declared.script_types.Options.{Options}
 use Rattle.law_model.specs.declared.script_types.ItemKind.TheVariants as item
 use Rattle.text_scripts.specs.declared.script_read.script_draft.Draft.{Draft}
 use Rattle.text_scripts.specs.declared.script_read.script_draft.Statement.{Statement}
@@ -44,6 +45,7 @@ IsDraft-first = record {
     lag = λ at. absurd (omega (arith, at));
     ticks = λ at. absurd (omega (arith, at));
     size = inr refl;
+    options = record { holdoff = omega arith; restore = omega arith; statuses = inl refl };
     none = λ at. All-none _;
     windows = All-none _;
     lost = no_losses;
@@ -67,21 +69,22 @@ one_window d m window are next = record {
   slips = All-push (λ (w : Window). w.slip ≤ 2047) (windows_of d m) window are.slips next.slips;
 }
 
-config_fail : (d : Draft) (m : ℕ) (window : Window) → HasConfig d.next d.config → d.next ≡ 6 → IsNext d m window
-    → HasConfig d.next (record d.config { windows = slice_set d.config.windows m (windows_of d m ++ window ∷ []) })
-config_fail d m window has at next =
-    let size = has.lines (omega (arith, at)) in
+config_fail : (d : Draft) (m : ℕ) (window : Window) → HasConfig d.next d.config → 6 ≤ d.next → IsNext d m window
+    → HasConfig 7 (record d.config { windows = slice_set d.config.windows m (windows_of d m ++ window ∷ []) })
+config_fail d m window has whole next =
+    let size = has.lines (omega (arith, whole)) in
     let within : m < length d.config.windows = omega (arith, size.1, next.line) in
     record {
       few = has.few;
       lines = λ at. (size.0, omega (arith, size.1, length-set d.config.windows m (windows_of d m ++ window ∷ [])));
-      delay_each = has.delay_each;
+      delay_each = λ at. has.delay_each (omega (arith, whole));
       delays = has.delays;
-      ring = has.ring;
-      lag = has.lag;
-      ticks = has.ticks;
+      ring = λ at. has.ring (omega (arith, whole));
+      lag = λ at. has.lag (omega (arith, whole));
+      ticks = λ at. has.ticks (omega (arith, whole));
       size = has.size;
-      none = λ low. absurd (omega (arith, at, low));
+      options = has.options;
+      none = λ low. absurd (omega (arith, low));
       windows = All-set (AreFailures d.config.ticks) d.config.windows m (windows_of d m ++ window ∷ [])
           (one_window d m window
           (All-get_or (AreFailures d.config.ticks) d.config.windows m [] within has.windows) next) has.windows;
@@ -96,18 +99,19 @@ one_loss d first end has next = record {
   ends = All-push (λ (w : ℕ × ℕ). w.1 ≤ 62500) d.config.lost (first, end) has.ends next.ends;
 }
 
-config_lost : (d : Draft) (first end : ℕ) → HasConfig d.next d.config → d.next ≡ 6 → IsNextLost d first end
-    → HasConfig d.next (record d.config { lost = d.config.lost ++ (first, end) ∷ [] })
-config_lost d first end has at next = record {
+config_lost : (d : Draft) (first end : ℕ) → HasConfig d.next d.config → 6 ≤ d.next → IsNextLost d first end
+    → HasConfig 7 (record d.config { lost = d.config.lost ++ (first, end) ∷ [] })
+config_lost d first end has whole next = record {
   few = has.few;
-  lines = has.lines;
-  delay_each = has.delay_each;
+  lines = λ at. has.lines (omega (arith, whole));
+  delay_each = λ at. has.delay_each (omega (arith, whole));
   delays = has.delays;
-  ring = has.ring;
-  lag = has.lag;
-  ticks = has.ticks;
+  ring = λ at. has.ring (omega (arith, whole));
+  lag = λ at. has.lag (omega (arith, whole));
+  ticks = λ at. has.ticks (omega (arith, whole));
   size = has.size;
-  none = λ low. absurd (omega (arith, at, low));
+  options = has.options;
+  none = λ low. absurd (omega (arith, low));
   windows = has.windows;
   lost = one_loss d first end has.lost next;
   few_lost = (let room = next.room in omega (arith, room, length-append d.config.lost ((first, end) ∷ [])));
@@ -124,6 +128,7 @@ config_later next now config whole still has = record {
   lag = λ at. has.lag (omega (arith, whole));
   ticks = λ at. has.ticks (omega (arith, whole));
   size = has.size;
+  options = has.options;
   none = λ low. absurd (omega (arith, still, low));
   windows = has.windows;
   lost = has.lost;
@@ -166,7 +171,7 @@ unfolding frame_dues command_dues
 frame_after d due octets is fits =
     let it : Item = record { due = due; kind = item.Frame octets } in
     record {
-      config = config_later d.next 7 d.config fits.0 (omega arith) is.config;
+      config = config_later d.next 8 d.config fits.0 (omega arith) is.config;
       no_items = λ at. absurd (omega (arith, at));
       items = one_frame d.config.ticks due d.items octets is.items
           (most-up _ d.frame_due due is.frame_due fits.3) fits.2;
@@ -190,11 +195,11 @@ one_command ticks items it kind are most is = record {
 }
 
 command_after : (d : Draft) (it : Item) → due_of it.due it.kind ≡ command_due it.due → IsDraft d → 6 ≤ d.next →
-    d.next ≤ 7
+    d.next ≤ 8
     → IsItem d.config.ticks it → d.command_due ≤ it.due →
-    IsDraft (record d { next = 7; items = d.items ++ it ∷ []; command_due = it.due })
+    IsDraft (record d { next = 8; items = d.items ++ it ∷ []; command_due = it.due })
 command_after d it kind is low high fits later = record {
-  config = config_later d.next 7 d.config low (omega arith) is.config;
+  config = config_later d.next 8 d.config low (omega arith) is.config;
   no_items = λ at. absurd (omega (arith, at));
   items = one_command d.config.ticks d.items it kind is.items
       (most-up _ d.command_due it.due is.command_due later) fits;
@@ -230,6 +235,7 @@ container_config d n has fits = record {
   lag = λ at. absurd (omega (arith, at));
   ticks = λ at. absurd (omega (arith, at));
   size = fits.1;
+  options = has.options;
   none = λ at. has.none (omega (arith, fits.0));
   windows = has.windows;
   lost = has.lost;
@@ -247,6 +253,7 @@ lines_config d n has fits = record {
   lag = λ at. absurd (omega (arith, at));
   ticks = λ at. absurd (omega (arith, at));
   size = has.size;
+  options = has.options;
   none = λ at. All-replicate (λ (windows : List Window). windows ≡ []) n [] refl;
   windows = All-replicate (AreFailures d.config.ticks) n [] (no_windows d.config.ticks);
   lost = has.lost;
@@ -264,6 +271,7 @@ delays_config d ns has fits = record {
   lag = λ at. absurd (omega (arith, at));
   ticks = λ at. absurd (omega (arith, at));
   size = has.size;
+  options = has.options;
   none = λ at. has.none (omega (arith, fits.0));
   windows = has.windows;
   lost = has.lost;
@@ -281,6 +289,7 @@ ring_config d n has fits = record {
   lag = λ at. absurd (omega (arith, at));
   ticks = λ at. absurd (omega (arith, at));
   size = has.size;
+  options = has.options;
   none = λ at. has.none (omega (arith, fits.0));
   windows = has.windows;
   lost = has.lost;
@@ -298,6 +307,7 @@ lag_config d n has fits = record {
   lag = λ at. fits.1;
   ticks = λ at. absurd (omega (arith, at));
   size = has.size;
+  options = has.options;
   none = λ at. has.none (omega (arith, fits.0));
   windows = has.windows;
   lost = has.lost;
@@ -315,14 +325,35 @@ ticks_config d n has fits = record {
   lag = λ at. has.lag (omega (arith, fits.0));
   ticks = λ at. fits.1;
   size = has.size;
+  options = has.options;
   none = λ at. absurd (omega (arith, at));
   windows = bare n d.config.windows (has.none (omega (arith, fits.0)));
   lost = has.lost;
   few_lost = has.few_lost;
 }
 
+-- ---- options
+-- the same configuration with other options
+options_config : (next : ℕ) (config : Config) (options : Options) → HasConfig next config → IsOptions options →
+    HasConfig next (record config { options = options })
+options_config next config options has are = record {
+  few = has.few;
+  lines = has.lines;
+  delay_each = has.delay_each;
+  delays = has.delays;
+  ring = has.ring;
+  lag = has.lag;
+  ticks = has.ticks;
+  size = has.size;
+  options = are;
+  none = has.none;
+  windows = has.windows;
+  lost = has.lost;
+  few_lost = has.few_lost;
+}
+
 -- another configuration stands for this one as long as no item has come
-configured : (d : Draft) (next : ℕ) (config : Config) → IsDraft d → d.next ≤ 6 → HasConfig next config →
+configured : (d : Draft) (next : ℕ) (config : Config) → IsDraft d → d.next ≤ 7 → HasConfig next config →
     IsDraft (record d { next = next; config = config })
 configured d next config is early has = record {
   config = has;
@@ -332,6 +363,24 @@ configured d next config is early has = record {
   command_due = is.command_due;
   no_events = λ at. is.no_events (omega (arith, early));
   events = subst (All (IsEvent config.lines)) (sym (is.no_events (omega (arith, early)))) (All-none _);
+}
+
+with_options : (d : Draft) (options : Options) (holdoff restore statuses : Bool) → IsDraft d → d.next ≡ 6 →
+    IsOptions options
+    → IsDraft (record d {
+      config = record d.config { options = options };
+      has_holdoff = holdoff;
+      has_restore = restore;
+      has_statuses = statuses;
+    })
+with_options d options holdoff restore statuses is at are = record {
+  config = options_config d.next d.config options is.config are;
+  no_items = is.no_items;
+  items = is.items;
+  frame_due = is.frame_due;
+  command_due = is.command_due;
+  no_events = is.no_events;
+  events = is.events;
 }
 
 -- ---- any line
@@ -350,15 +399,33 @@ IsDraft-after d (says.Lag n) is fits =
     configured d 5 (record d.config { lag = n }) is (omega (arith, fits.0)) (lag_config d n is.config fits)
 IsDraft-after d (says.Ticks n) is fits =
     configured d 6 (record d.config { ticks = n }) is (omega (arith, fits.0)) (ticks_config d n is.config fits)
+IsDraft-after d (says.Holdoff n) is fits =
+    with_options d (record d.config.options { holdoff = n }) true d.has_restore d.has_statuses is fits.0 (record {
+      holdoff = fits.1;
+      restore = is.config.options.restore;
+      statuses = is.config.options.statuses;
+    })
+IsDraft-after d (says.Restore n) is fits =
+    with_options d (record d.config.options { restore = n }) d.has_holdoff true d.has_statuses is fits.0 (record {
+      holdoff = is.config.options.holdoff;
+      restore = fits.1;
+      statuses = is.config.options.statuses;
+    })
+IsDraft-after d (says.Statuses n) is fits =
+    with_options d (record d.config.options { statuses = n }) d.has_holdoff d.has_restore true is fits.0 (record {
+      holdoff = is.config.options.holdoff;
+      restore = is.config.options.restore;
+      statuses = fits.1;
+    })
 IsDraft-after d (says.Fail m window) is fits =
-    configured d d.next (record d.config { windows = slice_set d.config.windows m (windows_of d m ++ window ∷ []) }) is
-    (omega (arith, fits.0)) (config_fail d m window is.config fits.0 fits.1)
+    configured d 7 (record d.config { windows = slice_set d.config.windows m (windows_of d m ++ window ∷ []) }) is
+    fits.1 (config_fail d m window is.config fits.0 fits.2)
 IsDraft-after d (says.Lost first end) is fits =
-    configured d d.next (record d.config { lost = d.config.lost ++ (first, end) ∷ [] }) is (omega (arith, fits.0))
-    (config_lost d first end is.config fits.0 fits.1)
+    configured d 7 (record d.config { lost = d.config.lost ++ (first, end) ∷ [] }) is fits.1
+    (config_lost d first end is.config fits.0 fits.2)
 IsDraft-after d (says.Item it) is fits = item_after d it.due it.kind is fits
 IsDraft-after d (says.Event e) is fits = record {
-  config = config_later d.next 8 d.config fits.0 (omega arith) is.config;
+  config = config_later d.next 9 d.config fits.0 (omega arith) is.config;
   no_items = λ at. absurd (omega (arith, at));
   items = is.items;
   frame_due = is.frame_due;
@@ -381,6 +448,9 @@ items_after d (says.Delays ns) = omega arith
 items_after d (says.Ring n) = omega arith
 items_after d (says.Lag n) = omega arith
 items_after d (says.Ticks n) = omega arith
+items_after d (says.Holdoff n) = omega arith
+items_after d (says.Restore n) = omega arith
+items_after d (says.Statuses n) = omega arith
 items_after d (says.Fail m window) = omega arith
 items_after d (says.Lost first end) = omega arith
 items_after d (says.Item it) = added d it it.kind

@@ -122,6 +122,7 @@ IsValid-draft d is whole few none =
           lag = has.lag (omega (arith, whole));
           ticks = has.ticks whole;
           size = has.size;
+          options = has.options;
           fits_ring = ring_fits d.config (none_first (spread_fault d.config) (lag_fault d.config) rings);
           fits_lag = lag_fits d.config (none_later (spread_fault d.config) (lag_fault d.config) rings);
         };

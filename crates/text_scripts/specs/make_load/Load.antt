@@ -1,7 +1,7 @@
 -- The script of a load, drawn from a number.
 use Rattle.std.specs.Prelude.{ℕ, zero, suc, ◌+◌, ◌/◌, List, [], ◌∷◌, ◌++◌, map, replicate}
 use Rattle.std.specs.List.{range_with_len}
-use Rattle.law_model.specs.Common.{vc4_size}
+use Rattle.law_model.specs.Common.{vc4_size, default_options}
 use Rattle.law_model.specs.declared.script_types.Config.{Config}
 use Rattle.law_model.specs.declared.script_types.Item.{Item}
 use Rattle.law_model.specs.declared.script_types.Script.{Script}
@@ -49,6 +49,7 @@ config_of number lines ticks = record {
   lag = 4;
   ticks = ticks;
   size = vc4_size;
+  options = default_options;
 }
 
 abbrev pub load : ℕ → ℕ → ℕ → Script

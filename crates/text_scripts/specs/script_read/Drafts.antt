@@ -1,9 +1,9 @@
 -- What a draft meets, and what a line may say that stands after those of a draft.
-use Rattle.std.specs.Prelude.{◌≡◌, ◌⊎◌, ⊤, ℕ, ◌-◌, ◌==◌, ◌<◌, ◌≤◌, not, nat_lt, List, [], ◌∷◌, length, replicate}
-use Rattle.std.specs.Prelude.{Option, option_map, All}
+use Rattle.std.specs.Prelude.{◌≡◌, ◌⊎◌, ⊤, ℕ, ◌-◌, ◌==◌, ◌<◌, ◌≤◌, not, nat_lt, Bool, false, List, [], ◌∷◌}
+use Rattle.std.specs.Prelude.{length, replicate, Option, option_map, All}
 use Rattle.std.specs.Option.{option_or}
 use Rattle.law_model.specs.Common.{dues_of, frame_dues, command_dues, IsWithin, HasLosses, IsSize, IsItem, AreItems}
-use Rattle.law_model.specs.Common.{IsEvent}
+use Rattle.law_model.specs.Common.{IsEvent, IsOptions, IsStatuses}
 use Rattle.law_model.specs.declared.window_types.Window.{Window}
 use Rattle.law_model.specs.declared.script_types.Config.{Config}
 use Rattle.law_model.specs.declared.script_types.ItemKind.{ItemKind}
@@ -19,9 +19,10 @@ use Rattle.text_scripts.specs.declared.script_read.script_keyword.Keyword.TheVar
 use Rattle.text_scripts.specs.declared.script_read.script_draft.Statement.{Statement}
 use Rattle.text_scripts.specs.declared.script_read.script_draft.Statement.TheVariants as says
 use Rattle.text_scripts.specs.declared.script_read.script_draft.Draft.{Draft}
+use Rattle.text_lines.specs.declared.field_fault.Names.TheVariants as names
 use Rattle.text_lines.specs.Words.{word_at, number_at}
 use Rattle.text_lines.specs.Fields.{where_true, within, number_fault, name_fault, fields_fault}
-use Rattle.text_scripts.specs.script_read.Statements.{container_names, windows_of, last_end, last_lost}
+use Rattle.text_scripts.specs.script_read.Statements.{windows_of, last_end, last_lost}
 
 -- ---- faults
 -- the fault of line n, which wasn't read
@@ -33,10 +34,11 @@ fault_at n stop.Memory = fault.Memory
 abbrev pub count_fault : Keyword → ℕ → List (List ℕ) → Option LineFault
 count_fault k n ws = where_true (not (length ws == n)) (wrong.Count k n (length ws))
 
--- the fault of the words of a container, of a number of delays, of one number, and of a command
+-- the fault of the words of a container, of a number of delays, of one number, of a timer and of statuses, where these
+-- stand already or don't, and of a command
 abbrev pub container_fault : List (List ℕ) → Option LineFault
 container_fault ws =
-    option_or (count_fault word.Container 1 ws) (option_map wrong.Field (name_fault 2 container_names (word_at 0 ws)))
+    option_or (count_fault word.Container 1 ws) (option_map wrong.Field (name_fault 2 names.Containers (word_at 0 ws)))
 
 abbrev pub delays_fault : ℕ → List (List ℕ) → Option LineFault
 delays_fault n ws =
@@ -46,6 +48,17 @@ delays_fault n ws =
 abbrev pub one_fault : Keyword → ℕ → ℕ → List (List ℕ) → Option LineFault
 one_fault k least most ws =
     option_or (count_fault k 1 ws) (option_map wrong.Field (number_fault 2 least most (word_at 0 ws)))
+
+abbrev pub timer_fault : Keyword → ℕ → Bool → List (List ℕ) → Option LineFault
+timer_fault k most stands ws =
+    option_or (count_fault k 1 ws)
+    (option_or (option_map wrong.Field (number_fault 2 0 most (word_at 0 ws))) (where_true stands (wrong.Twice k)))
+
+abbrev pub statuses_fault : Bool → List (List ℕ) → Option LineFault
+statuses_fault stands ws =
+    option_or (count_fault word.Statuses 1 ws)
+    (option_or (option_map wrong.Field (name_fault 2 names.Statuses (word_at 0 ws)))
+    (where_true stands (wrong.Twice word.Statuses)))
 
 abbrev pub command_fault : Draft → Keyword → List (List ℕ) → Option LineFault
 command_fault d k ws =
@@ -80,6 +93,7 @@ pub record HasConfig (next : ℕ) (config : Config) : Type 0 where
   pub lag : 5 ≤ next → IsWithin 1 512 config.lag
   pub ticks : 6 ≤ next → IsWithin 1 1000000 config.ticks
   pub size : IsSize config.size
+  pub options : IsOptions config.options
   pub none : next ≤ 5 → All (λ windows. windows ≡ []) config.windows
   pub windows : All (AreFailures config.ticks) config.windows
   pub lost : HasLosses config.lost
@@ -87,11 +101,11 @@ pub record HasConfig (next : ℕ) (config : Config) : Type 0 where
 
 pub record IsDraft (d : Draft) : Type 0 where
   pub config : HasConfig d.next d.config
-  pub no_items : d.next ≤ 6 → d.items ≡ []
+  pub no_items : d.next ≤ 7 → d.items ≡ []
   pub items : AreItems d.config.ticks d.items
   pub frame_due : All (λ due. due ≤ d.frame_due) (frame_dues (dues_of d.items))
   pub command_due : All (λ due. due ≤ d.command_due) (command_dues (dues_of d.items))
-  pub no_events : d.next ≤ 7 → d.events ≡ []
+  pub no_events : d.next ≤ 8 → d.events ≡ []
   pub events : All (IsEvent d.config.lines) d.events
 
 -- ---- what may come next
@@ -125,7 +139,10 @@ Fits d (says.Delays ns) = (d.next ≡ 2) × (length ns ≡ d.config.lines) × Al
 Fits d (says.Ring n) = (d.next ≡ 3) × IsWithin 1 2048 n
 Fits d (says.Lag n) = (d.next ≡ 4) × IsWithin 1 512 n
 Fits d (says.Ticks n) = (d.next ≡ 5) × IsWithin 1 1000000 n
-Fits d (says.Fail m window) = (d.next ≡ 6) × IsNext d m window
-Fits d (says.Lost first end) = (d.next ≡ 6) × IsNextLost d first end
-Fits d (says.Item it) = (6 ≤ d.next) × (d.next ≤ 7) × IsItem d.config.ticks it × (last_due d it.kind ≤ it.due)
+Fits d (says.Holdoff n) = (d.next ≡ 6) × (n ≤ 5000) × (d.has_holdoff ≡ false)
+Fits d (says.Restore n) = (d.next ≡ 6) × (n ≤ 62500) × (d.has_restore ≡ false)
+Fits d (says.Statuses n) = (d.next ≡ 6) × IsStatuses n × (d.has_statuses ≡ false)
+Fits d (says.Fail m window) = (6 ≤ d.next) × (d.next ≤ 7) × IsNext d m window
+Fits d (says.Lost first end) = (6 ≤ d.next) × (d.next ≤ 7) × IsNextLost d first end
+Fits d (says.Item it) = (6 ≤ d.next) × (d.next ≤ 8) × IsItem d.config.ticks it × (last_due d it.kind ≤ it.due)
 Fits d (says.Event e) = (6 ≤ d.next) × IsEvent d.config.lines e

@@ -1,13 +1,14 @@
 -- The lines of a script: what each may say after those before it, which fault it has first, and what it adds to them.
-use Rattle.std.specs.Prelude.{unwrap_or, ℕ, ◌-◌, ◌==◌, ◌&&◌, ◌||◌, nat_le, nat_lt, not, Bool, false, List, [], ◌∷◌}
-use Rattle.std.specs.Prelude.{◌++◌, length, map, replicate, Option, Some, None, option_map, slice_index_or, slice_set}
+use Rattle.std.specs.Prelude.{unwrap_or, ℕ, ◌-◌, ◌==◌, ◌&&◌, ◌||◌, nat_le, nat_lt, max, not, Bool, true, false}
+use Rattle.std.specs.Prelude.{List, [], ◌∷◌, ◌++◌, length, map, replicate, Option, Some, None, option_map, slice_index_or, slice_set}
 use Rattle.std.specs.Prelude.{drop, codes, bytes_eq, if◌then◌else◌}
 use Rattle.std.specs.Option.{option_or}
 use Rattle.text_scripts.specs.declared.script_read.script_fault.LineFault.{LineFault}
 use Rattle.text_scripts.specs.declared.script_read.script_fault.LineFault.TheVariants as wrong
+use Rattle.text_lines.specs.declared.field_fault.Names.TheVariants as names
 use Rattle.text_lines.specs.Words.{word_at, is_skipped, number_of, number_at, octets_of}
 use Rattle.text_lines.specs.Fields.{Field, within, any, above, digits, one_of, where_true, fields_fault}
-use Rattle.law_model.specs.Common.{vc3_size, vc4_size}
+use Rattle.law_model.specs.Common.{vc3_size, vc4_size, default_options}
 use Rattle.law_model.specs.declared.window_types.Window.{Window}
 use Rattle.law_model.specs.declared.script_types.Item.{Item}
 use Rattle.law_model.specs.declared.script_types.ItemKind.{ItemKind}
@@ -45,6 +46,14 @@ item_keyword w =
     else if bytes_eq w (codes "remove") then Some word.Remove
     else event_keyword w
 
+-- those and the words of options
+abbrev pub option_keyword : List ℕ → Option Keyword
+option_keyword w =
+    if bytes_eq w (codes "holdoff") then Some word.Holdoff
+    else if bytes_eq w (codes "restore") then Some word.Restore
+    else if bytes_eq w (codes "statuses") then Some word.Statuses
+    else item_keyword w
+
 -- all words that may begin a line
 abbrev pub keyword_of : List ℕ → Option Keyword
 keyword_of w =
@@ -54,10 +63,10 @@ keyword_of w =
     else if bytes_eq w (codes "ring") then Some word.Ring
     else if bytes_eq w (codes "lag") then Some word.Lag
     else if bytes_eq w (codes "ticks") then Some word.Ticks
-    else item_keyword w
+    else option_keyword w
 
--- the place of a line in a script: 0 to 5 are the lines of the configuration, 6 is that of windows, 7 of items, 8 of
--- event lines
+-- the place of a line in a script: 0 to 5 are the lines of the configuration, 6 is that of options, which are of the
+-- configuration too, 7 of windows, 8 of items, 9 of event lines
 abbrev pub place : Keyword → ℕ
 place word.Container = 0
 place word.Lines = 1
@@ -65,19 +74,22 @@ place word.Delays = 2
 place word.Ring = 3
 place word.Lag = 4
 place word.Ticks = 5
-place word.Fail = 6
-place word.Lost = 6
-place word.Frame = 7
-place word.Add = 7
-place word.Remove = 7
-place word.Client = 8
-place word.Operator = 8
-place word.Tick = 8
-place word.Carry = 8
-place word.Back = 8
-place word.Take = 8
-place word.Round = 8
-place word.Drain = 8
+place word.Holdoff = 6
+place word.Restore = 6
+place word.Statuses = 6
+place word.Fail = 7
+place word.Lost = 7
+place word.Frame = 8
+place word.Add = 8
+place word.Remove = 8
+place word.Client = 9
+place word.Operator = 9
+place word.Tick = 9
+place word.Carry = 9
+place word.Back = 9
+place word.Take = 9
+place word.Round = 9
+place word.Drain = 9
 
 -- the line of the configuration that has to stand at a place; that of the container need not
 abbrev pub awaited : ℕ → Keyword
@@ -91,10 +103,15 @@ awaited next =
 -- the part of a place
 abbrev pub part_of : ℕ → Part
 part_of at =
-    if nat_le at 5 then part.Configuration
-    else if at == 6 then part.Windows
-    else if at == 7 then part.Items
+    if nat_le at 6 then part.Configuration
+    else if at == 7 then part.Windows
+    else if at == 8 then part.Items
     else part.Events
+
+-- the part that has begun where a place is the next one: behind the configuration that of windows, even where none
+-- stands
+abbrev pub begun_at : ℕ → Part
+begun_at next = part_of (max next 7)
 
 -- before place 6 each line has its place, and that of the container may be passed over; from there on no line comes
 -- back to an
@@ -102,21 +119,20 @@ part_of at =
 abbrev pub place_fault : ℕ → ℕ → Option LineFault
 place_fault next at =
     option_or (where_true (nat_lt next 6 && not (at == next || (next == 0 && at == 1))) (wrong.Missing (awaited next)))
-    (where_true (nat_lt at next) (wrong.Part (part_of at) (part_of next)))
+    (where_true (nat_lt at next) (wrong.Part (part_of at) (begun_at next)))
 
 -- ---- the other words
--- the names of containers
-abbrev pub container_names : List (List ℕ)
-container_names = codes "vc3" ∷ codes "vc4" ∷ []
-
--- what the words after a keyword have to be
+-- what the words after a keyword have to be; how many return packets tell all statuses is a name, as a container is
 abbrev pub fields : Draft → Keyword → List Field
-fields d word.Container = one_of container_names ∷ []
+fields d word.Container = one_of names.Containers ∷ []
 fields d word.Lines = within 1 128 ∷ []
 fields d word.Delays = replicate d.config.lines (within 0 2047)
 fields d word.Ring = within 1 2048 ∷ []
 fields d word.Lag = within 1 512 ∷ []
 fields d word.Ticks = within 1 1000000 ∷ []
+fields d word.Holdoff = within 0 5000 ∷ []
+fields d word.Restore = within 0 62500 ∷ []
+fields d word.Statuses = one_of names.Statuses ∷ []
 fields d word.Fail = within 0 (d.config.lines - 1) ∷ any ∷ above d.config.ticks ∷ within 0 2047 ∷ []
 fields d word.Lost = any ∷ above 62500 ∷ []
 fields d word.Frame = within 0 (d.config.ticks - 1) ∷ digits 1 65535 ∷ []
@@ -135,6 +151,10 @@ fields d word.Drain = []
 abbrev pub size_of : List ℕ → Option ℕ
 size_of w = if bytes_eq w (codes "vc3") then Some vc3_size else if bytes_eq w (codes "vc4") then Some vc4_size else None
 
+-- how many return packets tell all statuses, by the name of that number
+abbrev pub statuses_of : List ℕ → Option ℕ
+statuses_of w = if bytes_eq w (codes "16") then Some 16 else if bytes_eq w (codes "32") then Some 32 else None
+
 -- ---- what the lines before it leave no room for
 -- the windows of a line so far, and the end of the last of them
 abbrev pub windows_of : Draft → ℕ → List Window
@@ -146,8 +166,11 @@ last_end windows = slice_index_or (map (λ (window : Window). window.end) window
 abbrev pub last_lost : List (ℕ × ℕ) → ℕ
 last_lost lost = slice_index_or (map (λ (window : ℕ × ℕ). window.1) lost) (length lost - 1) 0
 
--- a line, or the return path, has 256 windows
+-- an option stands already; a line, or the return path, has 256 windows
 abbrev pub is_full : Draft → Keyword → List (List ℕ) → Bool
+is_full d word.Holdoff ws = d.has_holdoff
+is_full d word.Restore ws = d.has_restore
+is_full d word.Statuses ws = d.has_statuses
 is_full d word.Fail ws = nat_le 256 (length (windows_of d (number_at 0 ws)))
 is_full d word.Lost ws = nat_le 256 (length d.config.lost)
 is_full d k ws = false
@@ -164,8 +187,11 @@ is_early d word.Remove ws = nat_lt (number_at 0 ws) d.command_due
 is_early d k ws = false
 
 -- ---- the first fault of a line
--- that of a line, or a return path, which is full, by its keyword
+-- that of an option that stands already, and of a line, or a return path, which is full, by its keyword
 abbrev pub full_fault : Keyword → List (List ℕ) → LineFault
+full_fault word.Holdoff ws = wrong.Twice word.Holdoff
+full_fault word.Restore ws = wrong.Twice word.Restore
+full_fault word.Statuses ws = wrong.Twice word.Statuses
 full_fault word.Fail ws = wrong.FullLine (number_at 0 ws)
 full_fault k ws = wrong.FullPath
 
@@ -200,6 +226,9 @@ said word.Delays ws = says.Delays (map number_of ws)
 said word.Ring ws = says.Ring (number_at 0 ws)
 said word.Lag ws = says.Lag (number_at 0 ws)
 said word.Ticks ws = says.Ticks (number_at 0 ws)
+said word.Holdoff ws = says.Holdoff (number_at 0 ws)
+said word.Restore ws = says.Restore (number_at 0 ws)
+said word.Statuses ws = says.Statuses (unwrap_or (statuses_of (word_at 0 ws)) 0)
 said word.Fail ws =
     says.Fail (number_at 0 ws) (record { first = number_at 1 ws; end = number_at 2 ws; slip = number_at 3 ws })
 said word.Lost ws = says.Lost (number_at 0 ws) (number_at 1 ws)
@@ -224,9 +253,9 @@ words_said ws = if is_skipped ws then says.Nothing else known_said (drop 1 ws) (
 
 -- ---- what it adds to what the lines before it say
 abbrev pub after_item : Draft → Item → ItemKind → Draft
-after_item d it (item.Frame octets) = record d { next = 7; items = d.items ++ it ∷ []; frame_due = it.due }
-after_item d it (item.Add line) = record d { next = 7; items = d.items ++ it ∷ []; command_due = it.due }
-after_item d it (item.Remove line) = record d { next = 7; items = d.items ++ it ∷ []; command_due = it.due }
+after_item d it (item.Frame octets) = record d { next = 8; items = d.items ++ it ∷ []; frame_due = it.due }
+after_item d it (item.Add line) = record d { next = 8; items = d.items ++ it ∷ []; command_due = it.due }
+after_item d it (item.Remove line) = record d { next = 8; items = d.items ++ it ∷ []; command_due = it.due }
 
 abbrev pub after : Draft → Statement → Draft
 after d says.Nothing = d
@@ -236,19 +265,48 @@ after d (says.Delays ns) = record d { next = 3; config = record d.config { delay
 after d (says.Ring n) = record d { next = 4; config = record d.config { ring = n } }
 after d (says.Lag n) = record d { next = 5; config = record d.config { lag = n } }
 after d (says.Ticks n) = record d { next = 6; config = record d.config { ticks = n } }
-after d (says.Fail m window) =
-    record d { config = record d.config { windows = slice_set d.config.windows m (windows_of d m ++ window ∷ []) } }
-after d (says.Lost first end) = record d { config = record d.config { lost = d.config.lost ++ (first, end) ∷ [] } }
+after d (says.Holdoff n) = record d {
+  config = record d.config { options = record d.config.options { holdoff = n } };
+  has_holdoff = true;
+}
+after d (says.Restore n) = record d {
+  config = record d.config { options = record d.config.options { restore = n } };
+  has_restore = true;
+}
+after d (says.Statuses n) = record d {
+  config = record d.config { options = record d.config.options { statuses = n } };
+  has_statuses = true;
+}
+after d (says.Fail m window) = record d {
+  next = 7;
+  config = record d.config { windows = slice_set d.config.windows m (windows_of d m ++ window ∷ []) };
+}
+after d (says.Lost first end) =
+    record d { next = 7; config = record d.config { lost = d.config.lost ++ (first, end) ∷ [] } }
 after d (says.Item it) = after_item d it it.kind
-after d (says.Event e) = record d { next = 8; events = d.events ++ e ∷ [] }
+after d (says.Event e) = record d { next = 9; events = d.events ++ e ∷ [] }
 
--- before the first line. The container is a VC-4 where no line says another
+-- before the first line. The container is a VC-4 where no line says another, and the options are those of a script
+-- without option lines
 abbrev pub at_first : Draft
 at_first = record {
   next = 0;
-  config = record { lines = 0; delays = []; windows = []; lost = []; ring = 0; lag = 0; ticks = 0; size = vc4_size };
+  config = record {
+    lines = 0;
+    delays = [];
+    windows = [];
+    lost = [];
+    ring = 0;
+    lag = 0;
+    ticks = 0;
+    size = vc4_size;
+    options = default_options;
+  };
   items = [];
   events = [];
   frame_due = 0;
   command_due = 0;
+  has_holdoff = false;
+  has_restore = false;
+  has_statuses = false;
 }

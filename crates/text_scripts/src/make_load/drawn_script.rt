@@ -5,7 +5,8 @@ ghost use Rattle.text_scripts.specs.make_load.Load.{frame_of, after_frame, addit
 
 use crate::make_load::load_draws::Draws;
 use law_model::{
-    Config, EventList, Item, ItemKind, ItemList, LostList, Octets, Script, WindowList, WindowLists,
+    Config, EventList, Item, ItemKind, ItemList, LostList, Octets, Options, Script, WindowList,
+    WindowLists,
 };
 use std::alloc::{AllocError, Global};
 
@@ -86,6 +87,7 @@ fn draw(alloc: Global, number: u64, lines: u8, ticks: u32) -> Result<Script, All
             lag: 4,
             ticks,
             size: 2340,
+            options: Options::default(),
         },
         items: ItemList(items),
         events: EventList(Vec::new(alloc)),

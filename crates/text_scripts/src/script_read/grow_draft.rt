@@ -5,7 +5,8 @@ ghost use Rattle.text_scripts.specs.script_read.Drafts.{IsDraft, Fits};
 
 use crate::script_read::script_draft::{Draft, Statement};
 use law_model::{
-    Config, Delays, EventList, Item, ItemKind, ItemList, LostList, Window, WindowList, WindowLists,
+    Config, Delays, EventList, Item, ItemKind, ItemList, LostList, Options, Window, WindowList,
+    WindowLists,
 };
 use std::alloc::{AllocError, Global};
 
@@ -46,11 +47,15 @@ pub(super) fn no_lines(alloc: Global) -> Draft
             lag: 0,
             ticks: 0,
             size: 2340,
+            options: Options::default(),
         },
         items: ItemList(Vec::new(alloc)),
         events: EventList(Vec::new(alloc)),
         frame_due: 0,
         command_due: 0,
+        has_holdoff: false,
+        has_restore: false,
+        has_statuses: false,
     }
 }
 
@@ -62,7 +67,7 @@ fn add_item(draft: &mut Draft, item: Item) -> Result<(), AllocError>
         ItemKind::Frame(_) => draft.frame_due = item.due,
         ItemKind::Add(_) | ItemKind::Remove(_) => draft.command_due = item.due,
     }
-    draft.next = 7;
+    draft.next = 8;
     draft.items.0.push(item)?;
     Ok(())
 }
@@ -100,11 +105,29 @@ pub(super) fn add(alloc: Global, draft: &mut Draft, said: Statement) -> Result<(
             draft.config.ticks = ticks;
             draft.next = 6;
         }
-        Statement::Fail(m, window) => add_window(&mut draft.config.windows, m, window)?,
-        Statement::Lost(first, end) => draft.config.lost.0.push((first, end))?,
+        Statement::Holdoff(holdoff) => {
+            draft.config.options.holdoff = holdoff;
+            draft.has_holdoff = true;
+        }
+        Statement::Restore(restore) => {
+            draft.config.options.restore = restore;
+            draft.has_restore = true;
+        }
+        Statement::Statuses(statuses) => {
+            draft.config.options.statuses = statuses;
+            draft.has_statuses = true;
+        }
+        Statement::Fail(m, window) => {
+            draft.next = 7;
+            add_window(&mut draft.config.windows, m, window)?;
+        }
+        Statement::Lost(first, end) => {
+            draft.next = 7;
+            draft.config.lost.0.push((first, end))?;
+        }
         Statement::Item(item) => add_item(draft, item)?,
         Statement::Event(event) => {
-            draft.next = 8;
+            draft.next = 9;
             draft.events.0.push(event)?;
         }
     }

@@ -8,6 +8,7 @@
 mod grow_draft;
 mod read_item;
 mod read_network;
+mod read_option;
 mod script_draft;
 mod script_fault;
 mod script_keyword;

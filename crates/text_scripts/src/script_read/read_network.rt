@@ -13,7 +13,7 @@ use crate::script_read::word_count_fault::count_fault;
 use law_model::{Delays, LostList, Window, WindowList, WindowLists};
 use std::alloc::Global;
 use text_lines::{
-    FieldFault, count_words, four_words, next_word, number_within, one_word, two_words,
+    FieldFault, Names, count_words, four_words, next_word, number_within, one_word, two_words,
 };
 
 /// The payload octets of the container that a line names.
@@ -31,7 +31,10 @@ pub(super) fn read_container(rest: &[u8]) -> Result<u16, LineFault>
     } else if word == b"vc4".as_slice() {
         Ok(2340)
     } else {
-        Err(LineFault::Field(FieldFault::Name { word: 2 }))
+        Err(LineFault::Field(FieldFault::Name {
+            word: 2,
+            names: Names::Containers,
+        }))
     }
 }
 

@@ -19,6 +19,12 @@ pub(super) enum Statement {
     Lag(u16),
     /// The number of ticks.
     Ticks(u32),
+    /// The hold-off in packets.
+    Holdoff(u16),
+    /// The wait to restore in packets.
+    Restore(u16),
+    /// How many return packets tell all statuses.
+    Statuses(u8),
     /// A window of a line.
     Fail(u8, Window),
     /// A return window, from a packet up to another.
@@ -44,4 +50,10 @@ pub(super) struct Draft {
     pub frame_due: u32,
     /// The due tick of the last command.
     pub command_due: u32,
+    /// Whether the option stands that says the hold-off.
+    pub has_holdoff: bool,
+    /// Whether that stands which says the wait to restore.
+    pub has_restore: bool,
+    /// Whether that stands which says how statuses are told.
+    pub has_statuses: bool,
 }

@@ -34,6 +34,9 @@ pub enum LineFault {
         this: Part,
         begun: Part,
     },
+    /// The option stands already.
+    #[error("range")]
+    Twice(Keyword),
     /// Line `line` of the group has 256 failures already.
     #[error("range")]
     FullLine {

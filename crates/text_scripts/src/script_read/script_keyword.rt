@@ -1,7 +1,7 @@
 //! The words that may begin a line, and the place of each in the order of a script.
 ghost use Rattle.std.specs.Prelude.{◌≡◌, IfErr, OnOk, None, Some};
-ghost use Rattle.text_scripts.specs.script_read.Statements.{keyword_of, item_keyword, event_keyword, place, awaited, part_of};
-ghost use Rattle.text_scripts.specs.script_read.Statements.{place_fault};
+ghost use Rattle.text_scripts.specs.script_read.Statements.{keyword_of, option_keyword, item_keyword, event_keyword, place};
+ghost use Rattle.text_scripts.specs.script_read.Statements.{awaited, part_of, begun_at, place_fault};
 ghost use Rattle.text_scripts.specs.script_read.Drafts.{IsPlaced};
 
 use crate::script_read::script_fault::LineFault;
@@ -21,6 +21,12 @@ pub enum Keyword {
     Lag,
     /// The number of ticks.
     Ticks,
+    /// The hold-off.
+    Holdoff,
+    /// The wait to restore.
+    Restore,
+    /// How many return packets tell all statuses.
+    Statuses,
     /// A window of a line.
     Fail,
     /// A return window.
@@ -66,6 +72,21 @@ impl Keyword {
             Some(Keyword::Lag)
         } else if word == b"ticks".as_slice() {
             Some(Keyword::Ticks)
+        } else {
+            Keyword::of_option(word)
+        }
+    }
+
+    /// The keyword of an option, a window, an item or an event line that a word is.
+    fn of_option(word: &[u8]) -> Option<Keyword>
+        ensures { result ≡ option_keyword word.now }
+    {
+        if word == b"holdoff".as_slice() {
+            Some(Keyword::Holdoff)
+        } else if word == b"restore".as_slice() {
+            Some(Keyword::Restore)
+        } else if word == b"statuses".as_slice() {
+            Some(Keyword::Statuses)
         } else {
             Keyword::of_item(word)
         }
@@ -115,7 +136,8 @@ impl Keyword {
         }
     }
 
-    /// Its place: 0 to 5 are the lines of the configuration, 6 is that of windows, 7 of items, 8 of event lines.
+    /// Its place: 0 to 5 are the lines of the configuration, 6 is that of options, which are of the configuration
+    /// too, 7 of windows, 8 of items, 9 of event lines.
     pub(super) fn place(self) -> u8
         ensures { result ≡ place self }
     {
@@ -126,8 +148,9 @@ impl Keyword {
             Keyword::Ring => 3,
             Keyword::Lag => 4,
             Keyword::Ticks => 5,
-            Keyword::Fail | Keyword::Lost => 6,
-            Keyword::Frame | Keyword::Add | Keyword::Remove => 7,
+            Keyword::Holdoff | Keyword::Restore | Keyword::Statuses => 6,
+            Keyword::Fail | Keyword::Lost => 7,
+            Keyword::Frame | Keyword::Add | Keyword::Remove => 8,
             Keyword::Client
             | Keyword::Operator
             | Keyword::Tick
@@ -135,7 +158,7 @@ impl Keyword {
             | Keyword::Back
             | Keyword::Take
             | Keyword::Round
-            | Keyword::Drain => 8,
+            | Keyword::Drain => 9,
         }
     }
 }
@@ -143,7 +166,7 @@ impl Keyword {
 /// The parts of a script, in their order.
 #[derive(Clone, Copy, Debug, PartialEq, Eq)]
 pub enum Part {
-    /// The configuration.
+    /// The configuration, with the options.
     Configuration,
     /// Failures of lines, and losses of the return path.
     Windows,
@@ -174,15 +197,23 @@ pub(super) fn awaited(next: u8) -> Keyword
 fn part_of(at: u8) -> Part
     ensures { result ≡ part_of at }
 {
-    if at <= 5 {
+    if at <= 6 {
         Part::Configuration
-    } else if at == 6 {
-        Part::Windows
     } else if at == 7 {
+        Part::Windows
+    } else if at == 8 {
         Part::Items
     } else {
         Part::Events
     }
+}
+
+/// The part that has begun where `next` is the next place: behind the configuration that of windows, even where none
+/// stands.
+fn begun_at(next: u8) -> Part
+    ensures { result ≡ begun_at next }
+{
+    part_of(next.max(7))
 }
 
 /// Tests whether a line of the place `at` may stand where `next` is the next place.
@@ -197,7 +228,7 @@ pub(super) fn check_place(next: u8, at: u8) -> Result<(), LineFault>
     if at < next {
         return Err(LineFault::Part {
             this: part_of(at),
-            begun: part_of(next),
+            begun: begun_at(next),
         });
     }
     Ok(())

@@ -9,6 +9,7 @@ ghost use Rattle.law_model.specs.Common.{IsCount};
 
 use crate::script_read::read_item::{read_carry, read_due_line, read_frame};
 use crate::script_read::read_network::{read_container, read_delays, read_fail, read_lost};
+use crate::script_read::read_option::read_option;
 use crate::script_read::script_draft::{Draft, Statement};
 use crate::script_read::script_fault::{LineFault, LineStop};
 use crate::script_read::script_keyword::{Keyword, check_place};
@@ -47,7 +48,7 @@ fn read_count(keyword: Keyword, rest: &[u8]) -> Result<u32, LineStop>
 
 // What the words after the keyword of an event line say.
 fn read_event(draft: &Draft, keyword: Keyword, rest: &[u8]) -> Result<EventLine, LineStop>
-    requires event { place keyword ≡ 8 }
+    requires event { place keyword ≡ 9 }
     requires stands { IsPlaced draft.now.next (place keyword) }
     requires config { IsDraft draft.now }
     ensures ok { IfOk result (λ read. (rest_fault draft.now keyword (words rest.now) ≡ None)
@@ -77,7 +78,7 @@ fn read_event(draft: &Draft, keyword: Keyword, rest: &[u8]) -> Result<EventLine,
 
 // What the words after the keyword of an item say.
 fn read_item(alloc: Global, draft: &Draft, keyword: Keyword, rest: &[u8]) -> Result<Item, LineStop>
-    requires item { place keyword ≡ 7 }
+    requires item { place keyword ≡ 8 }
     requires stands { IsPlaced draft.now.next (place keyword) }
     requires config { IsDraft draft.now }
     ensures ok { IfOk result (λ read. (rest_fault draft.now keyword (words rest.now) ≡ None)
@@ -106,14 +107,14 @@ fn read_item(alloc: Global, draft: &Draft, keyword: Keyword, rest: &[u8]) -> Res
     }
 }
 
-// What the words after the keyword of a line of the configuration or of a window say.
+// What the words after the keyword of a line of the configuration, an option or a window say.
 fn read_setting(
     alloc: Global,
     draft: &Draft,
     keyword: Keyword,
     rest: &[u8],
 ) -> Result<Statement, LineStop>
-    requires setting { place keyword ≤ 6 }
+    requires setting { place keyword ≤ 7 }
     requires stands { IsPlaced draft.now.next (place keyword) }
     requires config { IsDraft draft.now }
     ensures ok { IfOk result (λ read. (rest_fault draft.now keyword (words rest.now) ≡ None)
@@ -131,6 +132,9 @@ fn read_setting(
         Keyword::Ticks => Ok(Statement::Ticks(
             one_number(Keyword::Ticks, rest, 1, 1_000_000)? as u32,
         )),
+        Keyword::Holdoff | Keyword::Restore | Keyword::Statuses => {
+            Ok(read_option(draft, keyword, rest)?)
+        }
         Keyword::Fail => {
             let (m, window) = read_fail(draft, rest)?;
             Ok(Statement::Fail(m, window))
@@ -165,6 +169,9 @@ fn read_rest(
         | Keyword::Ring
         | Keyword::Lag
         | Keyword::Ticks
+        | Keyword::Holdoff
+        | Keyword::Restore
+        | Keyword::Statuses
         | Keyword::Fail
         | Keyword::Lost => read_setting(alloc, draft, keyword, rest),
         Keyword::Frame | Keyword::Add | Keyword::Remove => {

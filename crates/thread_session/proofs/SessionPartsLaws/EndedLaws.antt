@@ -8,6 +8,7 @@ use Rattle.std.proofs.lemmas.Bool.Decides.{nat_tests}
 use Rattle.std.proofs.lemmas.List.{nil_from_length}
 use Rattle.std.proofs.lemmas.List.FromFn.{map-range_with_len_more}
 use Rattle.law_model.specs.Common.{Container, Cell, End, BackCell, packet_nibbles, cells, return_at}
+use Rattle.law_model.specs.declared.script_types.Options.{Options}
 use Rattle.member_cells.specs.declared.containers_and_cells.BackCell.TheVariants.{Packet as Nibbles}
 use Rattle.law_model.specs.members.Damage.{carried}
 use Rattle.law_model.specs.session.Scenario.{packets_in}
@@ -63,36 +64,39 @@ whole-prefix part rest whole is size =
 
 -- ---- return cells
 -- the return cells of some rows are those of their packets
-pub backs-are : (own : List (List Cell)) (t : ℕ) →
-    backs own t ≡ map (λ k. Nibbles (packet_nibbles (return_at own k))) (range_with_len 0 (packets_in t))
-backs-are own zero = backs-none own 0 refl
-backs-are own (suc t) =
-    let f : ℕ → BackCell = λ k. Nibbles (packet_nibbles (return_at own k)) in
-    let more : backs own (suc t) ≡ backs own t ++ back_cells (back_at own t) = backs-more own t (suc t) (omega arith) in
+pub backs-are : (options : Options) (own : List (List Cell)) (t : ℕ) →
+    backs options own t ≡ map (λ k. Nibbles (packet_nibbles (return_at options own k)))
+    (range_with_len 0 (packets_in t))
+backs-are options own zero = backs-none options own 0 refl
+backs-are options own (suc t) =
+    let f : ℕ → BackCell = λ k. Nibbles (packet_nibbles (return_at options own k)) in
+    let more : backs options own (suc t) ≡ backs options own t ++ back_cells (back_at options own t) =
+    backs-more options own t (suc t) (omega arith) in
     let next : packets_in (suc t) ≡ packets_in t + (if nat_lt 22 t && t % 16 == 7 then 1 else 0) =
     let e : suc t ≡ t + 1 = omega arith in ap packets_in e ∙ packets-next t in
-    more ∙ ap (λ l. l ++ back_cells (back_at own t)) (backs-are own t) ∙ one-more own t next
+    more ∙ ap (λ l. l ++ back_cells (back_at options own t)) (backs-are options own t) ∙ one-more options own t next
   where
-    one-more : (own : List (List Cell)) (t : ℕ) →
+    one-more : (options : Options) (own : List (List Cell)) (t : ℕ) →
         packets_in (suc t) ≡ packets_in t + (if nat_lt 22 t && t % 16 == 7 then 1 else 0) →
-        map (λ k. Nibbles (packet_nibbles (return_at own k))) (range_with_len 0 (packets_in t)) ++ back_cells
-        (back_at own t)
-        ≡ map (λ k. Nibbles (packet_nibbles (return_at own k))) (range_with_len 0 (packets_in (suc t)))
-    one-more own t next = elim (cases_Bool (nat_lt 22 t && t % 16 == 7)) [
+        map (λ k. Nibbles (packet_nibbles (return_at options own k))) (range_with_len 0 (packets_in t)) ++ back_cells
+        (back_at options own t)
+        ≡ map (λ k. Nibbles (packet_nibbles (return_at options own k))) (range_with_len 0 (packets_in (suc t)))
+    one-more options own t next = elim (cases_Bool (nat_lt 22 t && t % 16 == 7)) [
       | inl e ↦
-          let f : ℕ → BackCell = λ k. Nibbles (packet_nibbles (return_at own k)) in
+          let f : ℕ → BackCell = λ k. Nibbles (packet_nibbles (return_at options own k)) in
           let late : 22 < t = grind (arith, nat_tests, e) in
           let last : t % 16 ≡ 7 = grind (arith, nat_tests, e) in
           let p : ℕ = packets_in t in
           let count : packets_in (suc t) ≡ p + 1 = next ∙ ap (λ (b : Bool). p + (if b then 1 else 0)) e in
-          let said : back_cells (back_at own t) ≡ f p ∷ [] = rw e (ap (λ k. f k ∷ []) (packet-now t late last)) in
+          let said : back_cells (back_at options own t) ≡ f p ∷ [] =
+          rw e (ap (λ k. f k ∷ []) (packet-now t late last)) in
           ap (λ l. map f (range_with_len 0 p) ++ l) said ∙ sym (map-range_with_len_more f 0 p p (omega arith))
           ∙ ap (λ k. map f (range_with_len 0 k)) (sym count)
       | inr e ↦
-          let f : ℕ → BackCell = λ k. Nibbles (packet_nibbles (return_at own k)) in
+          let f : ℕ → BackCell = λ k. Nibbles (packet_nibbles (return_at options own k)) in
           let p : ℕ = packets_in t in
           let count : packets_in (suc t) ≡ p = next ∙ ap (λ (b : Bool). p + (if b then 1 else 0)) e ∙ omega arith in
-          let said : back_cells (back_at own t) ≡ [] = rw e refl in
+          let said : back_cells (back_at options own t) ≡ [] = rw e refl in
           ap (λ l. map f (range_with_len 0 p) ++ l) said ∙ append-nil (map f (range_with_len 0 p))
           ∙ ap (λ k. map f (range_with_len 0 k)) (sym count)
     ]

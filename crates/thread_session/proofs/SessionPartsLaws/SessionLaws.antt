@@ -131,10 +131,10 @@ module _ (script : Script) (valid : IsValid script) (n : ℕ) (own : List (List 
   packet-low ticks k low = omega (arith, low)
 
   pub backs-session : ((t : ℕ) → t < script.config.ticks → AreDecidedAt own t) →
-      backs own script.config.ticks ≡ session_backs script
+      backs script.config.options own script.config.ticks ≡ session_backs script
   backs-session decided =
-      backs-are own script.config.ticks
-      ∙ same-range (λ k. Nibbles (packet_nibbles (return_at own k)))
+      backs-are script.config.options own script.config.ticks
+      ∙ same-range (λ k. Nibbles (packet_nibbles (return_at script.config.options own k)))
       (λ k. Nibbles (packet_nibbles (said_packet (leg_of script) k))) (packets_in script.config.ticks)
       (λ k low.
       let last = packet-low script.config.ticks k low in

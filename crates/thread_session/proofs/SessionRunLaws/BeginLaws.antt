@@ -4,6 +4,7 @@ use Rattle.std.proofs.Common.{take, drop, length, refl, sym, ◌∙◌, ap, subs
 use Rattle.std.specs.Global.{Vec}
 use Rattle.thread_sink.specs.declared.sink_worker.SinkWorker.{SinkWorker}
 use Rattle.thread_sink.specs.Worker.{SinkWorkerStands as SinkStands, lines_of as sink_lines, size_of as sink_size}
+use Rattle.thread_sink.specs.Worker.{options_of as sink_options}
 use Rattle.thread_sink.specs.Worker.{taken_of as rows_taken, ticks_of as rows_of, has_failed}
 use Rattle.law_model.specs.Common.{IsValid, BackCell, Container, leg_of, Scenario, scenario_of, offers_of, orders_of}
 use Rattle.law_model.specs.Common.{used_in, containers_of}
@@ -20,8 +21,8 @@ use Rattle.terminal_group.specs.Inbox.{told_from}
 use Rattle.thread_group.specs.Journal.{of_client, of_operator}
 use Rattle.thread_group.specs.Rings.{SameOuts, SameIns, AreUnused}
 use Rattle.thread_group.specs.Parts.{ArePast}
-use Rattle.thread_group.specs.Group.{IsOf, lines_of, lag_of, size_of, lost_of, ticks_of, frames_of, commands_of}
-use Rattle.thread_group.specs.Group.{journal_of, slots_of, bytes_of, refusals_of, taken_of, source_of}
+use Rattle.thread_group.specs.Group.{IsOf, lines_of, lag_of, size_of, statuses_of, lost_of, ticks_of, frames_of}
+use Rattle.thread_group.specs.Group.{commands_of, journal_of, slots_of, bytes_of, refusals_of, taken_of, source_of}
 use Rattle.thread_group.specs.Session.{counts_of, refusals_by, accepted_frames_by, accepted_commands_by, octets_in}
 use Rattle.thread_group.specs.Session.{AreItemsOf, HasJournalRoom, HasLandedOf, IsBound}
 use Rattle.thread_group.proofs.EntryLaws.{all-kinds}
@@ -72,8 +73,8 @@ module _ (script : Script) (g : GroupState) (of_script : IsOf (leg_of script) g)
       }
 
   pub landed-begins : refusals_of g ≡ [] → AreUnused g.tx.items → length script.config.windows ≡ script.config.lines →
-      ((scenario : Scenario) → IsFresh scenario (lines_of g) (lag_of g) (size_of g) → HasMade (source_of g) scenario [])
-      → HasLandedOf (leg_of script) g
+      ((scenario : Scenario) → IsFresh scenario (lines_of g) (lag_of g) (size_of g) (statuses_of g) →
+      HasMade (source_of g) scenario []) → HasLandedOf (leg_of script) g
   landed-begins refusals unused windows made = record {
     entries = subst (AreItemsOf (leg_of script)) (sym journal) (λ i entry there. absurd cc);
     past = subst (ArePast (ticks_of g)) (sym landed-none) (λ i entry there. absurd cc);
@@ -92,6 +93,7 @@ module _ (script : Script) (g : GroupState) (of_script : IsOf (leg_of script) g)
           of_lines = windows ∙ sym of_script.lines;
           of_lag = sym of_script.lag;
           of_size = sym of_script.size;
+          of_statuses = sym of_script.statuses;
           no_offers = ap (λ n. take n (offers_of script.items)) frames;
           no_orders = ap (λ n. take n (orders_of script.items)) commands;
           no_tells = refl;
@@ -117,7 +119,7 @@ module _ {E : Type 0} (script : Script) (valid : IsValid script) where
       IfOk r (λ g. (frames_of g ≡ 0) × (commands_of g ≡ 0)) → IfOk r (λ g. journal_of g ≡ []) →
       IfOk r (λ g. (slots_of g ≡ entries) × (bytes_of g ≡ bytes)) → IfOk r (λ g. refusals_of g ≡ []) →
       IfOk r (λ g. (g.tx ≡ tx) × (g.back ≡ back)) →
-      IfOk r (λ g. (scenario : Scenario) → IsFresh scenario (lines_of g) (lag_of g) (size_of g) →
+      IfOk r (λ g. (scenario : Scenario) → IsFresh scenario (lines_of g) (lag_of g) (size_of g) (statuses_of g) →
       HasMade (source_of g) scenario []) →
       IfOk r (λ g. IsBound (leg_of script) g.tx.items (g.back ∷ []) g)
   group-opened entries bytes tx back (Ok g) count size unused of_script ticks landed journal room refusals ends made =
@@ -130,10 +132,17 @@ module _ {E : Type 0} (script : Script) (valid : IsValid script) where
       tt
 
   pub sink-opened : (r : Result SinkWorker E) → IfOk r (λ s. sink_lines s ≡ script.config.lines) →
-      IfOk r (λ s. sink_size s ≡ script.config.size) →
+      IfOk r (λ s. sink_size s ≡ script.config.size) → IfOk r (λ s. sink_options s ≡ script.config.options) →
       IfOk r (λ s. rows_of s ≡ script.config.ticks) → IfOk r (λ s. rows_taken s ≡ 0) →
       IfOk r (λ s. has_failed s ≡ false) → IfOk r (λ s. SinkStands s) →
       IfOk r (λ s. IsSinkOf script s)
-  sink-opened (Ok s) lines size rows taken failed stands =
-      record { lines = lines; size = size; rows = rows; taken = taken; failed = failed; stands = stands }
-  sink-opened (Err e) lines size rows taken failed stands = tt
+  sink-opened (Ok s) lines size options rows taken failed stands = record {
+    lines = lines;
+    size = size;
+    options = options;
+    rows = rows;
+    taken = taken;
+    failed = failed;
+    stands = stands;
+  }
+  sink-opened (Err e) lines size options rows taken failed stands = tt

@@ -1,6 +1,6 @@
 -- A session that has come to its end has ended as its script says.
 use Rattle.std.proofs.Common.{◌≡◌, ℕ, ◌+◌, ◌*◌, ◌-◌, ◌<◌, ◌≤◌, not, ◌&&◌, List, ◌++◌, map, filter, take, length}
-use Rattle.std.proofs.Common.{slice_get, Option, Some, is_none, sym, ◌∙◌, ap, subst, arith}
+use Rattle.std.proofs.Common.{slice_get, Option, Some, is_none, sym, ◌∙◌, ap, ap₂, subst, arith}
 use Rattle.std.specs.List.{range_with_len}
 use Rattle.std.proofs.lemmas.Option.{slice_get_within}
 use Rattle.law_walk.proofs.StepLaws.{ends}
@@ -74,11 +74,13 @@ module _ (script : Script) (valid : IsValid script) (group : GroupState) (worker
   windows = valid.sound.network.windows_each
 
   -- ---- what the source was told
-  said : in_passed group.back ++ in_items group.back ≡ map (λ k. Nibbles (packet_nibbles (return_at (cells_of sink) k)))
+  said : in_passed group.back ++ in_items group.back ≡ map
+      (λ k. Nibbles (packet_nibbles (return_at script.config.options (cells_of sink) k)))
       (range_with_len 0 (packets_in script.config.ticks))
   said =
-      end.returns ∙ end.stands.keeps.sent ∙ ap (backs (cells_of sink)) end.taken
-      ∙ backs-are (cells_of sink) script.config.ticks
+      end.returns ∙ end.stands.keeps.sent
+      ∙ ap₂ (λ options t. backs options (cells_of sink) t) end.options end.taken
+      ∙ backs-are script.config.options (cells_of sink) script.config.ticks
 
   used-is : used_in (lag_of group) (ticks_of group) ≡ used_in script.config.lag script.config.ticks
   used-is = ap (λ lag. used_in lag (ticks_of group)) end.of_script.lag ∙ ap (used_in script.config.lag) all-made
@@ -98,7 +100,7 @@ module _ (script : Script) (valid : IsValid script) (group : GroupState) (worker
   decided t low = end.stands.keeps.stands.decided t (omega (arith, low, end.taken))
 
   most : used_in script.config.lag script.config.ticks ≤ packets_in script.config.ticks
-  most = few-taken (cells_of sink) (in_passed group.back) (in_items group.back)
+  most = few-taken script.config.options (cells_of sink) (in_passed group.back) (in_items group.back)
       (used_in script.config.lag script.config.ticks) (packets_in script.config.ticks) said popped-enough
 
   course : IsCourse (scenario_of script) script.config.ticks (used_in script.config.lag script.config.ticks)
@@ -132,7 +134,7 @@ module _ (script : Script) (valid : IsValid script) (group : GroupState) (worker
 
   backs-all : out_passed sink.back ≡ session_backs script
   backs-all =
-      end.stands.keeps.sent ∙ ap (backs (cells_of sink)) end.taken
+      end.stands.keeps.sent ∙ ap₂ (λ options t. backs options (cells_of sink) t) end.options end.taken
       ∙ backs-session script valid (used_in script.config.lag script.config.ticks) (cells_of sink) course decided
 
   pub frames-ended : given_frames (size_of sink) (cells_of sink) (rows_taken sink)

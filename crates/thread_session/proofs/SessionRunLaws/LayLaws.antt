@@ -59,8 +59,8 @@ stands-laid a b rows core got count cells back stands =
         lines = ap line_count rows ∙ k.lines ∙ sym (ap (λ (own : Core). own.lines) core);
         rings = count ∙ k.rings ∙ sym (ap (λ (own : Core). own.lines) core);
         rows = ap (λ (r : Gather). r.rows) rows ∙ k.rows ∙ sym (ap (λ (own : Core). own.taken) core);
-        sent = back ∙ k.sent ∙ sym (ap (λ own. backs own a.core.taken) cells)
-            ∙ sym (ap (λ (own : Core). backs (cells_of b) own.taken) core);
+        sent = back ∙ k.sent ∙ sym (ap (λ own. backs a.core.options own a.core.taken) cells)
+            ∙ sym (ap (λ (own : Core). backs own.options (cells_of b) own.taken) core);
       };
       counted = got ∙ stands.counted ∙ sym (ap (λ own. count_of (given_frames (size_of a) own (taken_of a))) cells)
           ∙ sym (ap (λ (own : Core). count_of (given_frames own.size (cells_of b) own.taken)) core);

@@ -186,6 +186,7 @@ module _ (script : Script) (first : GroupState) (begun : List LineWorker) (taker
         stands = laid.stands stands;
         sink_lines = laid.lines_same ∙ after.1.lines ∙ open'.sink.lines;
         size = laid.size ∙ after.1.size ∙ open'.sink.size;
+        options = laid.options ∙ after.1.options ∙ open'.sink.options;
         taken = laid.taken ∙ taken ∙ after.0 ∙ open'.sink.rows;
       }
 

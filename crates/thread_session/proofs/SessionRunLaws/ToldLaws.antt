@@ -5,6 +5,7 @@ use Rattle.std.specs.List.{range_with_len}
 use Rattle.std.proofs.lemmas.Bool.{cases_Bool}
 use Rattle.std.proofs.lemmas.List.FromFn.{length-map-range_with_len, take-map-range_with_len}
 use Rattle.law_model.specs.Common.{Cell, BackCell, packet_nibbles, Scenario, is_lost, told_in, return_at, used_in}
+use Rattle.law_model.specs.declared.script_types.Options.{Options}
 use Rattle.member_cells.specs.declared.containers_and_cells.BackCell.TheVariants.{Packet as Nibbles}
 use Rattle.law_terminal.specs.Course.{back_of, told_of}
 use Rattle.law_terminal.proofs.ListLaws.{same-range}
@@ -24,16 +25,16 @@ come-range scenario f a (suc n) =
     ∙ come-range scenario f (a + 1) n)
 
 come-back : (scenario : Scenario) (own : List (List Cell)) (k : ℕ) →
-    come_by (is_lost scenario k) (Nibbles (packet_nibbles (return_at own k))) ≡ back_of scenario own k
+    come_by (is_lost scenario k) (Nibbles (packet_nibbles (return_at scenario.options own k))) ≡ back_of scenario own k
 come-back scenario own k = elim (cases_Bool (is_lost scenario k)) [ inl e ↦ rw e refl | inr e ↦ rw e refl ]
 
 -- of the return cells that the sink sent some were popped, and decision steps took the first of these
 pub told-first : (scenario : Scenario) (own : List (List Cell)) (popped rest : List BackCell) (lag ticks n : ℕ) →
-    popped ++ rest ≡ map (λ k. Nibbles (packet_nibbles (return_at own k))) (range_with_len 0 n) →
+    popped ++ rest ≡ map (λ k. Nibbles (packet_nibbles (return_at scenario.options own k))) (range_with_len 0 n) →
     used_in lag ticks ≤ length popped →
     told_taken scenario.lost lag ticks popped ≡ told_of scenario own (used_in lag ticks)
 told-first scenario own popped rest lag ticks n all low =
-    let f : ℕ → BackCell = λ k. Nibbles (packet_nibbles (return_at own k)) in
+    let f : ℕ → BackCell = λ k. Nibbles (packet_nibbles (return_at scenario.options own k)) in
     let size : length popped + length rest ≡ n = sym (length-append popped rest) ∙ ap length all
     ∙ length-map-range_with_len f 0 n in
     sym (taken-more scenario.lost lag ticks popped rest low)
@@ -45,11 +46,11 @@ told-first scenario own popped rest lag ticks n all low =
     (used_in lag ticks) (λ k inside. ap told_in (come-back scenario own k))
 
 -- no more were taken than there are
-pub few-taken : (own : List (List Cell)) (popped rest : List BackCell) (used n : ℕ) →
-    popped ++ rest ≡ map (λ k. Nibbles (packet_nibbles (return_at own k))) (range_with_len 0 n) → used ≤ length popped →
-    used ≤ n
-few-taken own popped rest used n all low =
-    let f : ℕ → BackCell = λ k. Nibbles (packet_nibbles (return_at own k)) in
+pub few-taken : (options : Options) (own : List (List Cell)) (popped rest : List BackCell) (used n : ℕ) →
+    popped ++ rest ≡ map (λ k. Nibbles (packet_nibbles (return_at options own k))) (range_with_len 0 n) →
+    used ≤ length popped → used ≤ n
+few-taken options own popped rest used n all low =
+    let f : ℕ → BackCell = λ k. Nibbles (packet_nibbles (return_at options own k)) in
     let size : length popped + length rest ≡ n = sym (length-append popped rest) ∙ ap length all
     ∙ length-map-range_with_len f 0 n in
     omega (arith, size, low)

@@ -6,7 +6,8 @@ use Rattle.thread_rings.specs.Ends.{OutEnd, InEnd, out_passed, in_passed, in_ite
 use Rattle.thread_rings.specs.declared.line_worker.LineWorker.{LineWorker}
 use Rattle.thread_rings.specs.Worker.{number_of, delay_of, windows_of, total_of}
 use Rattle.thread_sink.specs.declared.sink_worker.SinkWorker.{SinkWorker}
-use Rattle.thread_sink.specs.Worker.{SinkWorkerStands, cells_of, lines_of, size_of, taken_of, has_failed, ticks_of as rows_of}
+use Rattle.thread_sink.specs.Worker.{SinkWorkerStands, cells_of, lines_of, size_of, options_of, taken_of, has_failed}
+use Rattle.thread_sink.specs.Worker.{ticks_of as rows_of}
 use Rattle.thread_group.specs.declared.group_state.GroupState.{GroupState}
 use Rattle.thread_group.specs.Group.{ticks_of}
 use Rattle.thread_group.specs.Session.{IsBound}
@@ -53,6 +54,7 @@ pub record AreLaid (group : GroupState) (lines : List LineWorker) (sink : SinkWo
   pub cells : cells_of sink' ≡ cells_of sink
   pub lines_same : lines_of sink' ≡ lines_of sink
   pub size : size_of sink' ≡ size_of sink
+  pub options : options_of sink' ≡ options_of sink
   pub rows : rows_of sink' ≡ rows_of sink
   pub taken : taken_of sink' ≡ taken_of sink
   pub failed : has_failed sink' ≡ has_failed sink

@@ -9,7 +9,8 @@ use Rattle.law_model.specs.declared.session_totals.Totals.{Totals}
 use Rattle.thread_rings.specs.Ends.{OutEnd, InEnd, out_passed, in_passed, in_items, AreEnds}
 use Rattle.thread_rings.specs.declared.line_worker.LineWorker.{LineWorker}
 use Rattle.thread_sink.specs.declared.sink_worker.SinkWorker.{SinkWorker}
-use Rattle.thread_sink.specs.Worker.{SinkWorkerStands, lines_of, size_of, taken_of, has_failed, ticks_of as rows_of}
+use Rattle.thread_sink.specs.Worker.{SinkWorkerStands, lines_of, size_of, options_of, taken_of, has_failed}
+use Rattle.thread_sink.specs.Worker.{ticks_of as rows_of}
 use Rattle.law_walk.specs.Common.{refusals_among, totals_among, numbered}
 use Rattle.thread_group.specs.declared.group_state.GroupState.{GroupState}
 use Rattle.thread_group.specs.Group.{IsOf, ticks_of, total_of, frames_of, commands_of, journal_of, refusals_of}
@@ -26,6 +27,7 @@ use Rattle.thread_session.specs.session_parts.Opened.{IsLineOf, AreOpened}
 pub record IsSinkOf (script : Script) (sink : SinkWorker) : Type 0 where
   pub lines : lines_of sink ≡ script.config.lines
   pub size : size_of sink ≡ script.config.size
+  pub options : options_of sink ≡ script.config.options
   pub rows : rows_of sink ≡ script.config.ticks
   pub taken : taken_of sink ≡ 0
   pub failed : has_failed sink ≡ false
@@ -71,6 +73,7 @@ pub record HasComeToEnd (script : Script) (group : GroupState) (workers : List L
   pub stands : SinkWorkerStands sink
   pub sink_lines : lines_of sink ≡ script.config.lines
   pub size : size_of sink ≡ script.config.size
+  pub options : options_of sink ≡ script.config.options
   pub taken : taken_of sink ≡ script.config.ticks
 
 -- ---- the end, by the script

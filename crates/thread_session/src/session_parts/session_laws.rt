@@ -44,5 +44,5 @@ pub fn ended_law()
     ensures backs { (script : Script) → IsValid script → (n : ℕ) (own : List (List Cell)) →
         IsCourse (scenario_of script) script.config.ticks n own →
         ((t : ℕ) → t < script.config.ticks → AreDecidedAt own t) →
-        backs own script.config.ticks ≡ session_backs script }
+        backs script.config.options own script.config.ticks ≡ session_backs script }
 {}

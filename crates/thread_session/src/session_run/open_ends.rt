@@ -95,7 +95,15 @@ fn open_sink(
     ensures ends { IfOk result (λ sink. (sink.rx ≡ rx) × (sink.back ≡ back)) }
 {
     let config = &script.config;
-    SinkWorker::new(alloc, config.lines, config.ticks, config.size, rx, back)
+    SinkWorker::new(
+        alloc,
+        config.lines,
+        config.ticks,
+        config.size,
+        config.options,
+        rx,
+        back,
+    )
 }
 
 /// The group and the worker of the sink of a script, over fresh rings, with the return ring between them.

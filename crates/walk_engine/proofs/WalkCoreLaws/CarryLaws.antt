@@ -359,6 +359,7 @@ module _ (leg : Leg) (backs : ℕ) (parts : Parts) (is : WayStands leg backs par
               lines = is.sink.lines;
               all = is.sink.all;
               size = is.sink.size;
+              options = is.sink.options;
             };
             landed = landed-stays leg (counts_of parts backs) _ _ _ parts.source.landed is.landed;
             counted = is.counted;

@@ -37,7 +37,8 @@ stalled-moved cause found why e = rw e refl
 module _ (leg : Leg) (s : Counts) (lines : List LineCounts) (rows backs : ℕ) where
   pub source-stays : (source : Terminal) → HasSource leg s source →
       HasSource leg (record s { lines = lines; rows = rows; backs = backs }) source
-  source-stays source has = record { made = has.made; lines = has.lines; lag = has.lag; size = has.size }
+  source-stays source has = record
+      { made = has.made; lines = has.lines; lag = has.lag; size = has.size; statuses = has.statuses }
 
   pub landed-stays : (landing : Landed) → HasLanded leg s landing →
       HasLanded leg (record s { lines = lines; rows = rows; backs = backs }) landing
@@ -66,6 +67,7 @@ stands-back leg backs next parts inbox is walked = record {
     lines = is.sink.lines;
     all = is.sink.all;
     size = is.sink.size;
+    options = is.sink.options;
   };
   landed = landed-stays leg (counts_of parts backs) _ _ _ parts.source.landed is.landed;
   counted = is.counted;

@@ -185,6 +185,7 @@ module _ (leg : Leg) (backs : ℕ) (parts : Parts) (is : WayStands leg backs par
           lines = same.lines ∙ is.source.lines;
           lag = same.lag ∙ is.source.lag;
           size = same.size ∙ is.source.size;
+          statuses = same.statuses ∙ is.source.statuses;
         });
         sent = subst (λ t. HasSent leg t (map line_counts parts.lines) parts.sent) (sym ticks) is.sent;
         lines = is.lines;
@@ -195,6 +196,7 @@ module _ (leg : Leg) (backs : ℕ) (parts : Parts) (is : WayStands leg backs par
           lines = is.sink.lines;
           all = is.sink.all;
           size = is.sink.size;
+          options = is.sink.options;
         };
         landed = subst (λ (c : Counts). HasLanded leg c now.landed) e has;
         counted = is.counted;

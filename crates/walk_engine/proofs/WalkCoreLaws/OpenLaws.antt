@@ -188,11 +188,24 @@ new-on leg other all is alike =
     let lines : leg.config.lines ≡ other.config.lines = ap (λ (c : Config). c.lines) alike.network in
     record {
       core = subst (λ (c : Config). IsUnusedCore c all.ends.source.core) network
-          (record { lines = core.lines; lag = core.lag; size = core.size; ticks = core.ticks; made = core.made });
+          (record {
+            lines = core.lines;
+            lag = core.lag;
+            size = core.size;
+            statuses = core.statuses;
+            ticks = core.ticks;
+            made = core.made;
+          });
       total = is.source.total ∙ ap (λ (c : Config). c.ticks) network;
       landed = is.source.landed ∙ ap (λ items. none_landed (bare_items items)) (sym alike.items);
       sink = subst (λ (c : Config). IsNewSink c all.ends.sink) network
-          (record { lines = sink.lines; size = sink.size; taken = sink.taken; stands = sink.stands });
+          (record {
+            lines = sink.lines;
+            size = sink.size;
+            options = sink.options;
+            taken = sink.taken;
+            stands = sink.stands;
+          });
       sent = subst (λ n. AreRings n all.paths.sent.items) (sym lines) is.sent;
       lines = subst (λ (c : Config). AreOpened c c.lines all.paths.lines.items) network
           (opened-on other.config leg.config.lost other.config.lines all.paths.lines.items is.lines);
@@ -273,6 +286,7 @@ module _ (leg other : Leg) (all : Opened) (new : IsNew other all) (alike : IsAli
             of_lines = sound.network.windows_each;
             of_lag = refl;
             of_size = refl;
+            of_statuses = refl;
             no_offers = take-none
                 (offers_of leg.items);
             no_orders = take-none (orders_of leg.items);
@@ -281,6 +295,7 @@ module _ (leg other : Leg) (all : Opened) (new : IsNew other all) (alike : IsAli
       lines = is.core.lines;
       lag = is.core.lag;
       size = is.core.size;
+      statuses = is.core.statuses;
     });
     sent = subst (λ n. HasSent leg n (map line_counts lines) (map frame_in sent)) (sym is.core.ticks)
         (sent-opened leg (map line_counts lines) sent is.sent.places is.sent.lines);
@@ -292,6 +307,7 @@ module _ (leg other : Leg) (all : Opened) (new : IsNew other all) (alike : IsAli
       lines = is.rows.lines ∙ sym is.sink.lines;
       all = is.sink.lines;
       size = is.sink.size;
+      options = is.sink.options;
     };
     landed = subst (λ s. HasLanded leg s all.ends.source.landed) (sym new-counts)
         (subst (HasLanded leg (begin (walk_plan leg))) (sym is.landed) (record {

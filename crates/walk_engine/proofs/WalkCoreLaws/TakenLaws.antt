@@ -12,6 +12,7 @@ use Rattle.law_model.specs.Common.{Cell, Leg, first_open, return_at, LinePath, L
 use Rattle.law_model.specs.Common.{moved, stalled, pop, popped_line, pop_lines, in_return, is_back_full, take_popped}
 use Rattle.law_model.specs.Common.{take_row, Start}
 use Rattle.law_model.specs.declared.control_packet.Packet.{Packet}
+use Rattle.law_model.specs.declared.script_types.Options.{Options}
 use Rattle.law_model.specs.declared.walk_events.Event.TheVariants.{Take}
 use Rattle.law_model.specs.declared.walk_events.StallCause.{StallCause}
 use Rattle.law_model.specs.declared.walk_events.StallCause.TheVariants.{Done, BackFull, Waiting as Stall_waiting}
@@ -160,7 +161,7 @@ end-room s room ends =
 -- what the sink says with the row
 said : (leg : Leg) (s : Counts) (lines : List LineCounts) (packet : Option Packet) → CanWalk leg →
     IsWalked leg (record s { lines = lines; rows = s.rows + 1 }) →
-    packet ≡ back_at (popped_cells leg lines) s.rows → packet ≡ said_at leg s.rows
+    packet ≡ back_at leg.config.options (popped_cells leg lines) s.rows → packet ≡ said_at leg s.rows
 said leg s lines packet can walked is =
     let next : Counts = record s { lines = lines; rows = s.rows + 1 } in
     elim (cases_Bool (nat_lt 22 s.rows && s.rows % 16 == 7)) [
@@ -170,7 +171,7 @@ said leg s lines packet can walked is =
           let late = place.0 in
           let at = place.1 in
           let told = packet-said leg next (packets_in s.rows) can walked (omega (arith, late, at)) in
-          is ∙ rw ends (ap Some (ap (return_at (popped_cells leg lines)) k ∙ told))
+          is ∙ rw ends (ap Some (ap (return_at leg.config.options (popped_cells leg lines)) k ∙ told))
       | inr other ↦ is ∙ rw other refl
     ]
 
@@ -282,6 +283,7 @@ module _ (leg : Leg) (backs : ℕ) (parts : Parts) (is : WayStands leg backs par
                   lines = count ∙ is.sink.lines;
                   all = is.sink.all;
                   size = is.sink.size;
+                  options = is.sink.options;
                 };
                 landed = landed-stays leg (counts_of parts backs) _ _ _ parts.source.landed is.landed;
                 counted = is.counted;
@@ -313,7 +315,9 @@ module _ (leg : Leg) (backs : ℕ) (parts : Parts) (is : WayStands leg backs par
           module _ (sink : Core) (gather : Gather) (packet : Option Packet)
               (row : HasRow (popped_cells leg (map line_counts lines)) parts.sink sink gather packet) where
             is_said : packet ≡ said_at leg parts.sink.taken
-            is_said = said leg was (map line_counts lines) packet can walked-on row.said
+            is_said = said leg was (map line_counts lines) packet can walked-on
+                (row.said ∙ ap (λ (o : Options). back_at o (popped_cells leg (map line_counts lines)) parts.sink.taken)
+                is.sink.options)
 
             added-is : added_frames parts.sink.size (popped_cells leg (map line_counts lines)) parts.sink.taken
                 sink.taken ≡ delivered_since leg parts.sink.taken sink.taken
@@ -371,6 +375,7 @@ module _ (leg : Leg) (backs : ℕ) (parts : Parts) (is : WayStands leg backs par
                           ∙ sym row.all;
                       all = row.all ∙ is.sink.all;
                       size = row.size ∙ is.sink.size;
+                      options = row.options ∙ is.sink.options;
                     };
                     landed = landed-stays leg (counts_of parts backs) _ _ _ parts.source.landed is.landed;
                     counted = counted;

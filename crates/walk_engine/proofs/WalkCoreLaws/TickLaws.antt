@@ -480,6 +480,7 @@ module _ (leg : Leg) (backs : ℕ) (parts : Parts) (is : WayStands leg backs par
             lines = kind.lines ∙ is.source.lines;
             lag = kind.lag ∙ is.source.lag;
             size = kind.size ∙ is.source.size;
+            statuses = kind.statuses ∙ is.source.statuses;
           });
           sent = subst (λ n. HasSent leg n (map line_counts parts.lines)
               (slice_set sent (parts.source.core.ticks % 32) frame)) (sym ticks)
@@ -494,6 +495,7 @@ module _ (leg : Leg) (backs : ℕ) (parts : Parts) (is : WayStands leg backs par
                 is.sink.lines;
             all = is.sink.all;
             size = is.sink.size;
+            options = is.sink.options;
           };
           landed = subst (λ s. HasLanded leg s source.landed) (sym counts-are)
               (subst (HasLanded leg (record (counts_of parts backs) { ticks = parts.source.core.ticks + 1 }))

@@ -25,6 +25,7 @@ pub record AreOpened (config : Config) (n : ℕ) (lines : List Ringed) : Type 0 
 pub record IsNewSink (config : Config) (sink : Core) : Type 0 where
   pub lines : sink.lines ≡ config.lines
   pub size : sink.size ≡ config.size
+  pub options : sink.options ≡ config.options
   pub taken : sink.taken ≡ 0
   pub stands : (cells : List (List Cell)) → length cells ≡ config.lines → HasTaken sink cells
 

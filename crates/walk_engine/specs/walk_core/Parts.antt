@@ -76,6 +76,7 @@ pub record HasSource (leg : Leg) (s : Counts) (source : Terminal) : Type 0 where
   pub lines : source.lines ≡ leg.config.lines
   pub lag : source.lag ≡ leg.config.lag
   pub size : source.size ≡ leg.config.size
+  pub statuses : source.statuses ≡ leg.config.options.statuses
 
 -- of the containers of the frames, those that their line hasn't carried
 pub record HasSent (leg : Leg) (ticks : ℕ) (counts : List LineCounts) (sent : List (List Container)) : Type 0
@@ -101,6 +102,7 @@ pub record HasSink (leg : Leg) (s : Counts) (rows : Gather) (sink : Core) : Type
   pub lines : line_count rows ≡ sink.lines
   pub all : sink.lines ≡ leg.config.lines
   pub size : sink.size ≡ leg.config.size
+  pub options : sink.options ≡ leg.config.options
 
 pub record HasBack (leg : Leg) (s : Counts) (back : Return) : Type 0 where
   pub ring : back.ring ≡ return_ring leg s

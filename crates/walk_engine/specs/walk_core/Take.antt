@@ -49,4 +49,5 @@ pub record HasRow (cells : List (List Cell)) (was now : Core) (gather : Gather) 
   pub lines : line_count gather ≡ was.lines
   pub all : now.lines ≡ was.lines
   pub size : now.size ≡ was.size
-  pub said : back ≡ back_at cells was.taken
+  pub options : now.options ≡ was.options
+  pub said : back ≡ back_at was.options cells was.taken

@@ -60,7 +60,12 @@ fn open_ends(alloc: Global, script: &Script) -> Result<Ends, AllocError>
 {
     Ok(Ends {
         source: GroupSource::new(alloc, script)?,
-        sink: SinkCore::new(alloc, script.config.lines, script.config.size)?,
+        sink: SinkCore::new(
+            alloc,
+            script.config.lines,
+            script.config.size,
+            script.config.options,
+        )?,
     })
 }
 

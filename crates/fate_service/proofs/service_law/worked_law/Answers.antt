@@ -11,6 +11,7 @@ use Rattle.law_model.specs.frames.Piece.{cut}
 use Rattle.law_model.specs.frames.Scramble.{scramble_on}
 use Rattle.law_model.specs.frames.Segment.{segments_on}
 use Rattle.law_model.specs.members.Damage.{carried, are_whole}
+use Rattle.law_model.specs.members.Timers.{is_up, last_read}
 use Rattle.law_model.specs.rows.SessionStream.{rows_of}
 use Rattle.law_model.specs.source.Back.{said_before, cells_before}
 use Rattle.law_model.specs.source.Client.{reaching, place_of, stream_before}
@@ -35,14 +36,14 @@ pub returns-clause-one : goal.returns-clause-one
 unfolding digits landed_from carried are_whole after keep none_kept cells_before said_before exchange take_out turned
     admit stream_before reaching place_of rows_of segments_on hunt_within extents row_from spoiled_from fate_among
     ended_on spans_on row_segments_with mark_of_row within_on least_from waits_on runs_on with_dark outages_on dark_on
-    outages_text came_on counts_on peak_on stretches_on told_on
+    outages_text came_on counts_on peak_on stretches_on told_on is_up last_read
 returns-clause-one c = refl
 
 pub returns-clause-late : goal.returns-clause-late
 unfolding digits landed_from carried are_whole after keep none_kept cells_before said_before exchange take_out turned
     admit stream_before reaching place_of rows_of segments_on hunt_within extents row_from spoiled_from fate_among
     ended_on spans_on row_segments_with mark_of_row within_on least_from waits_on runs_on with_dark outages_on dark_on
-    outages_text came_on counts_on peak_on stretches_on told_on core_header octets_of xors bits number_behind divide
+    outages_text came_on counts_on peak_on stretches_on told_on is_up last_read core_header octets_of xors bits number_behind divide
     add_front scramble_on cut pli_of head hec_of header_with
 returns-clause-late c = refl
 

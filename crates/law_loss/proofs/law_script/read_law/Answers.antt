@@ -10,6 +10,7 @@ returns-clause-limits c leg is = record {
       (let each = is.network.windows_each in
       let most = is.network.lines.1 in
       omega (arith, each, most));
+  statuses = is.network.options.statuses;
 }
 
 pub returns-clause-orders : goal.returns-clause-orders

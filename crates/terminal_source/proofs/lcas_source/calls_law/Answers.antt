@@ -6,4 +6,4 @@ use Rattle.law_model.specs.Common.{called}
 use Rattle.terminal_source.proofs.lcas_source.calls_law.Goals as goal
 
 pub returns : goal.returns
-returns c = λ lines calls call. fold-append called (begun lines) calls (call ∷ [])
+returns c = λ lines statuses calls call. fold-append called (begun lines statuses) calls (call ∷ [])

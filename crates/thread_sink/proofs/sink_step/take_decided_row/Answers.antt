@@ -3,7 +3,7 @@ use Rattle.std.proofs.Common.{◌≡◌, ◌+◌, ◌%◌, ◌<◌, ◌≤◌, �
 use Rattle.thread_rings.specs.Ends.{out_free}
 use Rattle.terminal_sink.specs.declared.sink_core.sink_terminal.TakeAnswer.TheVariants.{Taken}
 use Rattle.terminal_sink.specs.sink_core.Given.{answer_by, back_at, rows_taken}
-use Rattle.thread_sink.specs.Received.{received, back_cells}
+use Rattle.thread_sink.specs.Received.{received, back_cells, backs}
 use Rattle.thread_sink.specs.Step.{packet_in}
 use Rattle.thread_sink.proofs.PartsLaws.{back-room, backs-more}
 use Rattle.thread_sink.proofs.sink_step.take_decided_row.Goals as goal
@@ -12,16 +12,17 @@ pub returns-clause-keeps : goal.returns-clause-keeps
 returns-clause-keeps g c none keeps =
     let cells = received c.args.rx.now in
     let t = c.args.core.now.taken in
+    let options = c.args.core.now.options in
     let free = out_free c.has_room.new.back in
     let found : c.has_room.result ≡ true = (let open_ = c.if-not-has_room.false in cc) in
-    let answer : c.take-answer.result ≡ Taken (back_at cells t) =
-    c.take-answer.ensures.answer cells keeps.gathers keeps.stands ∙ ap (λ o. answer_by o cells t) none in
+    let answer : c.take-answer.result ≡ Taken (back_at options cells t) =
+    c.take-answer.ensures.answer cells keeps.gathers keeps.stands ∙ ap (λ o. answer_by o options cells t) none in
     let taken : c.take-answer.new.self.taken ≡ t + 1 = c.take-answer.ensures.taken
     ∙ ap (λ a. t + rows_taken a) answer in
-    let packet : c.packet_of.result ≡ back_at cells t = c.packet_of.ensures ∙ ap packet_in answer in
+    let packet : c.packet_of.result ≡ back_at options cells t = c.packet_of.ensures ∙ ap packet_in answer in
     let room : length (back_cells c.packet_of.result) ≤ free =
     subst (λ p. length (back_cells p) ≤ free) (sym packet)
-    (back-room cells t free (λ late last. c.has_room.ensures.room found (subst (λ n. 22 < n) (sym c.taken.ensures) late)
+    (back-room options cells t free (λ late last. c.has_room.ensures.room found (subst (λ n. 22 < n) (sym c.taken.ensures) late)
     (ap (λ n. n % 16) c.taken.ensures ∙ last))) in
     record {
       gathers = c.take-answer.ensures.gathers cells keeps.gathers;
@@ -31,5 +32,6 @@ returns-clause-keeps g c none keeps =
       rows = c.take-answer.ensures.rows;
       sent = c.send_back.ensures.sent room
           ∙ ap₂ (λ l p. l ++ back_cells p) (c.has_room.ensures.passed ∙ keeps.sent) packet
-          ∙ sym (backs-more cells t c.take-answer.new.self.taken taken);
+          ∙ sym (backs-more options cells t c.take-answer.new.self.taken taken)
+          ∙ ap (λ options. backs options cells c.take-answer.new.self.taken) (sym c.take-answer.ensures.options);
     }

@@ -25,6 +25,7 @@ returns c = record {
     lines = c.in_ok-new-3.ensures.lines;
     lag = c.in_ok-new-3.ensures.lag;
     size = c.in_ok-new-3.ensures.size;
+    statuses = c.in_ok-new-3.ensures.statuses;
     ticks = c.in_ok-new-3.ensures.ticks;
     made = c.in_ok-new-3.ensures.stands;
   };

@@ -36,6 +36,7 @@ returns c =
         lines = ap (λ (t : Terminal). t.lines) core;
         lag = ap (λ (t : Terminal). t.lag) core;
         size = ap (λ (t : Terminal). t.size) core;
+        statuses = ap (λ (t : Terminal). t.statuses) core;
         total = ap (λ (s : Source). s.total) c.take_cells.ensures.rest;
         lost = m.lost;
         items = ap (λ (l : Landed). l.items) landed;

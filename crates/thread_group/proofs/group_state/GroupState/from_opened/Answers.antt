@@ -35,8 +35,8 @@ invariant_of-result c =
           (record {
             of_lines = fresh.of_lines ∙ m.core.lines;
             of_lag = fresh.of_lag ∙ m.core.lag;
-            of_size =
-                fresh.of_size ∙ m.core.size;
+            of_size = fresh.of_size ∙ m.core.size;
+            of_statuses = fresh.of_statuses ∙ m.core.statuses;
             no_offers = fresh.no_offers;
             no_orders = fresh.no_orders;
             no_tells = fresh.no_tells;
@@ -51,6 +51,7 @@ returns-clause-begun c =
         lines = m.core.lines;
         lag = m.core.lag;
         size = m.core.size;
+        statuses = m.core.statuses;
         total = m.total;
         lost =
             ap (λ (i : Inbox). i.lost) m.inbox;
@@ -65,8 +66,8 @@ returns-clause-begun c =
           (record {
             of_lines = fresh.of_lines ∙ m.core.lines;
             of_lag = fresh.of_lag ∙ m.core.lag;
-            of_size =
-                fresh.of_size ∙ m.core.size;
+            of_size = fresh.of_size ∙ m.core.size;
+            of_statuses = fresh.of_statuses ∙ m.core.statuses;
             no_offers = fresh.no_offers;
             no_orders = fresh.no_orders;
             no_tells = fresh.no_tells;

@@ -17,7 +17,7 @@ invariant_of-self c = record {
 
 pub returns-clause-looks : goal.returns-clause-looks
 returns-clause-looks c = record {
-  script = record { lines = refl; lag = refl; size = refl; total = refl; lost = refl; items = refl };
+  script = record { lines = refl; lag = refl; size = refl; statuses = refl; total = refl; lost = refl; items = refl };
   landed = record { frames = refl; commands = refl; journal = refl; slots = refl; bytes = refl; refusals = refl };
   source = refl;
   inbox = refl;

@@ -70,6 +70,7 @@ returns c =
         lines = e.kind.lines;
         lag = e.kind.lag;
         size = e.kind.size;
+        statuses = e.kind.statuses;
         total = e.rest.total;
         lost =
             made.lost;

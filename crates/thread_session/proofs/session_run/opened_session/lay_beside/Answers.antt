@@ -46,6 +46,7 @@ returns c =
       cells = laid.cells;
       lines_same = refl;
       size = refl;
+      options = refl;
       rows = refl;
       taken = refl;
       failed = refl;

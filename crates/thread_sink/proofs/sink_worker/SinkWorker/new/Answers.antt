@@ -20,7 +20,7 @@ returns-clause-stands c =
         lines = rows.lines ∙ sym core.lines;
         rings = c.requires.rings ∙ sym core.lines;
         rows = rows.rows ∙ sym core.taken;
-        sent = c.requires.back ∙ sym (backs-none cells c.in_ok-core.core.taken core.taken);
+        sent = c.requires.back ∙ sym (backs-none c.in_ok-core.core.options cells c.in_ok-core.core.taken core.taken);
       };
       counted = omega (arith, none);
     }

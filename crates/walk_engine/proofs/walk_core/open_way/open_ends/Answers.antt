@@ -7,4 +7,4 @@ returns-clause-source c = c.in_ok-new.ensures
 pub returns-clause-sink : goal.returns-clause-sink
 returns-clause-sink c =
     let e = c.in_ok-new-2.ensures in
-    record { lines = e.lines; size = e.size; taken = e.taken; stands = e.stands }
+    record { lines = e.lines; size = e.size; options = e.options; taken = e.taken; stands = e.stands }

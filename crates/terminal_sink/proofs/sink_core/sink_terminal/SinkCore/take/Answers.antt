@@ -14,6 +14,7 @@ returns-in-Row-clause-answer g c cells gathers stands =
     let core : Core = record {
       lines = inside.lines;
       size = inside.size;
+      options = inside.table.options;
       taken = inside.taken;
       receiver =
           inside.delineator;
@@ -27,8 +28,8 @@ returns-in-Row-clause-answer g c cells gathers stands =
     let governs : c.packets-packets.result.now ≡ governing cells (inside.taken + 1) =
     c.packets-packets.ensures.governing cells (c.advance.ensures.stands cells gathers)
     ∙ ap (governing cells) (c.advance.ensures.rows ∙ ap (λ n. n + 1) same) in
-    subst (λ v. Taken c.pass_row-back.result ≡ answer_at cells v.taken) c.self.view_is
-    (answer-taken cells inside.taken c.pass_row-back.result none
+    subst (λ v. Taken c.pass_row-back.result ≡ answer_at v.options cells v.taken) c.self.view_is
+    (answer-taken inside.table.options cells inside.taken c.pass_row-back.result none
     (c.pass_row-back.ensures.back cells governs before.table))
 
 pub returns-in-Row-clause-stands : goal.returns-in-Row-clause-stands
@@ -37,6 +38,7 @@ returns-in-Row-clause-stands g c cells gathers stands =
     let core : Core = record {
       lines = inside.lines;
       size = inside.size;
+      options = inside.table.options;
       taken = inside.taken;
       receiver =
           inside.delineator;
@@ -66,6 +68,7 @@ returns-in-Row-clause-gives g c cells gathers stands start frames given =
     let core : Core = record {
       lines = inside.lines;
       size = inside.size;
+      options = inside.table.options;
       taken = inside.taken;
       receiver =
           inside.delineator;

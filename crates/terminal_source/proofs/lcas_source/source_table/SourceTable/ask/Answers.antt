@@ -8,7 +8,7 @@ use Rattle.terminal_source.proofs.lcas_source.source_table.SourceTable.ask.Goals
 pub invariant_of-self : goal.invariant_of-self
 invariant_of-self c =
     let f = c.self.inside in
-    let course = course_in f.lines f.table f.planned f.pending f.taken f.steps in
+    let course = course_in f.lines f.statuses f.table f.planned f.pending f.taken f.steps in
     let accepted = ap (λ (course : Course). refusal course.lines c.args.command course.source) c.self.view_is
     ∙ sym c.refusal.ensures ∙ c.in_default.is in
     let fields = asked-fields f.lines c.args.command f.table f.planned f.pending.items c.push.new.self.items
@@ -24,5 +24,11 @@ returns-clause-asked c =
     let fields = asked-fields f.lines c.args.command f.table f.planned f.pending.items c.push.new.self.items
     c.from.result c.is_add.result
     (c.from.ensures ∙ c.line_of.ensures) c.is_add.ensures c.push.ensures.items accepted in
-    ap (λ source. record { lines = f.lines; source = source; taken = f.taken; steps = f.steps }) fields
+    ap (λ source. record {
+      lines = f.lines;
+      statuses = f.statuses;
+      source = source;
+      taken = f.taken;
+      steps = f.steps;
+    }) fields
     ∙ ap (λ (course : Course). called course (asks c.args.command)) c.self.view_is

@@ -67,6 +67,7 @@ returns-clause-makes c leg backs stands can =
       lines = m.kind.lines ∙ p.kind.lines;
       lag = m.kind.lag ∙ p.kind.lag;
       size = m.kind.size ∙ p.kind.size;
+      statuses = m.kind.statuses ∙ p.kind.statuses;
     } in
     makes-from leg backs _ _ _ _ _ c.self.view_is
     (tick-makes_at leg backs _ is c.args.told c.make.result free c.make.new.self rest

@@ -1,0 +1,2 @@
+pub mod TimerSteps
+pub mod WordSteps
