@@ -1,7 +1,7 @@
 -- The notes on what is wrong with an input.
 use Rattle.std.specs.Prelude.{ℕ, List, ◌++◌, codes, decimal}
-use Rattle.text_lines.specs.declared.field_fault.LineKind.{LineKind}
-use Rattle.text_lines.specs.declared.field_fault.LineKind.TheVariants.{Word, Number, Hex, Range, Order, Missing}
+use Rattle.text_lines.specs.declared.text_faults.LineKind.{LineKind}
+use Rattle.text_lines.specs.declared.text_faults.LineKind.TheVariants.{Word, Number, Hex, Range, Order, Missing}
 use Rattle.text_lines.specs.Fields.{field_kind}
 use Rattle.text_scripts.specs.declared.script_read.script_fault.LineFault.{LineFault}
 use Rattle.text_scripts.specs.declared.script_read.script_fault.LineFault.TheVariants as wrong

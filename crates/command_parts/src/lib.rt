@@ -8,22 +8,22 @@
 
 mod end_laws;
 mod fault_notes;
-mod piece_reader;
+mod input_by_lines;
 mod program_words;
 mod refusal_of_line;
 mod refusal_of_script;
 mod report_end;
 mod script_helps;
-mod script_pieces;
+mod script_of_input;
 mod stop_and_status;
 mod whole_input;
 
 pub use end_laws::{end_law, input_law, made_law};
-pub use piece_reader::{PieceReader, read_pieces};
+pub use input_by_lines::{PieceReader, read_pieces};
 pub use program_words::{NO_MEMORY, given_words};
 pub use refusal_of_line::{faulty_line, line_fault};
 pub use refusal_of_script::stop_of;
 pub use report_end::write_rest;
-pub use script_pieces::read_whole_script;
+pub use script_of_input::read_whole_script;
 pub use stop_and_status::{Fault, Ran, Refusal, Stop, tell, tell_usage};
 pub use whole_input::{MOST, read_input};

@@ -18,9 +18,9 @@ use Rattle.law_headline.specs.Texts.{counts_in}
 use Rattle.walk_engine.proofs.WalkCoreLaws.RoundLaws.{round-turn, drained-end}
 use Rattle.command_walk.specs.declared.turns.trace_turns.Turn.{Turn}
 use Rattle.command_walk.specs.declared.turns.trace_turns.Turn.TheVariants.{Round}
-use Rattle.command_walk.specs.declared.turns.left.Pending.{Pending}
-use Rattle.command_walk.specs.declared.turns.left.Pending.TheVariants.{Tries, Rounds}
-use Rattle.command_walk.specs.declared.turns.left.TurnsLeft.{TurnsLeft}
+use Rattle.command_walk.specs.declared.turns.next_turns.Pending.{Pending}
+use Rattle.command_walk.specs.declared.turns.next_turns.Pending.TheVariants.{Tries, Rounds}
+use Rattle.command_walk.specs.declared.turns.next_turns.TurnsLeft.{TurnsLeft}
 use Rattle.command_walk.specs.Told.{events_of}
 use Rattle.command_walk.specs.TurnsLeft.{once, turns_once, line_turns, lines_turns, turns_in, IsPending, AreLeft, GivesTurn}
 use Rattle.command_walk.proofs.CountLaws.{lines-some, lines-no}

@@ -12,9 +12,9 @@ use Rattle.law_progress.specs.Progress.{made}
 use Rattle.law_walk.specs.Walk.{walk_plan, IsWalked}
 use Rattle.law_headline.specs.Texts.{counts_in}
 use Rattle.command_walk.specs.declared.turns.trace_turns.Turn.{Turn}
-use Rattle.command_walk.specs.declared.turns.left.Pending.{Pending}
-use Rattle.command_walk.specs.declared.turns.left.Pending.TheVariants.{Tries, Rounds}
-use Rattle.command_walk.specs.declared.turns.left.TurnsLeft.{TurnsLeft}
+use Rattle.command_walk.specs.declared.turns.next_turns.Pending.{Pending}
+use Rattle.command_walk.specs.declared.turns.next_turns.Pending.TheVariants.{Tries, Rounds}
+use Rattle.command_walk.specs.declared.turns.next_turns.TurnsLeft.{TurnsLeft}
 use Rattle.command_walk.specs.Told.{events_of, IsTurn}
 
 -- the counts once what is left of a line is made

@@ -8,9 +8,9 @@ use Rattle.gfp_scramble.specs.Descrambler as descrambler
 use Rattle.law_model.specs.Common.{head, descrambled_octets, joined, Run}
 use Rattle.law_model.proofs.ScrambledOctets.{length-descrambled_octets}
 use Rattle.law_model.proofs.AreaLaws.{length-descrambled_single}
-use Rattle.gfp_delineate.specs.declared.area_receiver.AreaWhy.{AreaWhy}
-use Rattle.gfp_delineate.specs.declared.area_receiver.Phase.{Phase}
-use Rattle.gfp_delineate.specs.declared.area_receiver.Phase.TheVariants.{SyncHeader, SyncArea, SyncPassing}
+use Rattle.gfp_delineate.specs.declared.hunt_presync_sync.AreaWhy.{AreaWhy}
+use Rattle.gfp_delineate.specs.declared.hunt_presync_sync.Phase.{Phase}
+use Rattle.gfp_delineate.specs.declared.hunt_presync_sync.Phase.TheVariants.{SyncHeader, SyncArea, SyncPassing}
 use Rattle.gfp_delineate.specs.LeftOpen.{running, Leaves}
 use Rattle.gfp_delineate.specs.Areas.{AreaEnd, keeping, passing, reader, ends, area_ends, Progress, Follows, Headed}
 use Rattle.gfp_delineate.specs.Areas.{InSyncArea, InSyncPassing, Adds}

@@ -3,9 +3,9 @@ use Rattle.std.proofs.Common.{◌≡◌, ℕ, ◌+◌, ◌≤◌, Bool, true, fa
 use Rattle.std.proofs.Common.{◌∙◌, ap, subst, arith, nat_lt, if◌then◌else◌, ◌↔◌, IsTrue, IfSome}
 use Rattle.law_model.specs.Common.{head, type_fault, Outcome, dropping, outcome_by, client_outcome, outcomes}
 use Rattle.law_model.specs.declared.frame_faults.Why.TheVariants.{TooLong}
-use Rattle.gfp_delineate.specs.declared.area_receiver.AreaWhy.TheVariants.{TooLong as IsLong}
-use Rattle.gfp_delineate.specs.declared.area_receiver.AreaStep.{AreaStep}
-use Rattle.gfp_delineate.specs.declared.area_receiver.AreaStep.TheVariants.{Area}
+use Rattle.gfp_delineate.specs.declared.hunt_presync_sync.AreaWhy.TheVariants.{TooLong as IsLong}
+use Rattle.gfp_delineate.specs.declared.hunt_presync_sync.AreaStep.{AreaStep}
+use Rattle.gfp_delineate.specs.declared.hunt_presync_sync.AreaStep.TheVariants.{Area}
 use Rattle.gfp_delineate.specs.declared.delineator.Step.{Step}
 use Rattle.gfp_delineate.specs.declared.delineator.Step.TheVariants.{Frame}
 use Rattle.gfp_delineate.specs.Areas.{AreaEnd, keeping, passing, end_of, ends_told, Progress, Adds}

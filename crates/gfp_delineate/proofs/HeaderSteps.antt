@@ -4,10 +4,10 @@ use Rattle.std.proofs.Common.{drop, inl, inr, Some, None, refl, sym, ◌∙◌, 
 use Rattle.std.proofs.Common.{length-drop, ◌⊎◌, append-nil}
 use Rattle.gfp_scramble.specs.Descrambler.{Descrambling}
 use Rattle.gfp_scramble.specs.Descrambler as descrambler
-use Rattle.gfp_delineate.specs.declared.area_receiver.AreaWhy.TheVariants.{Unsettled, TooLong}
+use Rattle.gfp_delineate.specs.declared.hunt_presync_sync.AreaWhy.TheVariants.{Unsettled, TooLong}
 use Rattle.law_model.specs.Common.{head, joined, Run}
 use Rattle.law_model.proofs.CoreLaws.{head-core_header}
-use Rattle.gfp_delineate.specs.declared.area_receiver.Phase.TheVariants.{Hunt, PresyncHeader, SyncHeader, SyncArea, SyncPassing}
+use Rattle.gfp_delineate.specs.declared.hunt_presync_sync.Phase.TheVariants.{Hunt, PresyncHeader, SyncHeader, SyncArea, SyncPassing}
 use Rattle.gfp_delineate.specs.LeftOpen.{searching, running, Leaves}
 use Rattle.gfp_delineate.specs.Areas.{end_of, reader, ends, Progress, InPresyncHeader, InSyncHeader}
 use Rattle.gfp_delineate.proofs.ReaderLaws.{reader-head}

@@ -4,7 +4,7 @@ use Rattle.std.proofs.Common.{arith, append-nil, take-append-drop}
 use Rattle.law_model.specs.Common.{head}
 use Rattle.law_model.proofs.CoreLaws.{head-core_header}
 use Rattle.law_model.proofs.IdleLaws.{idle_header, core_header-idle}
-use Rattle.gfp_delineate.specs.declared.area_receiver.Phase.TheVariants.{SyncHeader}
+use Rattle.gfp_delineate.specs.declared.hunt_presync_sync.Phase.TheVariants.{SyncHeader}
 use Rattle.gfp_delineate.specs.LeftOpen.{running, Leaves}
 use Rattle.gfp_delineate.specs.Areas.{reader, ends, Progress}
 use Rattle.gfp_delineate.specs.Repeated.{repeated, idles_from}

@@ -4,9 +4,9 @@ use Rattle.std.proofs.Common.{◌∙◌, ap, subst, arith, length-append, length
 use Rattle.std.proofs.lemmas.List.{drop-append-le, drop_all}
 use Rattle.gfp_scramble.specs.Descrambler as descrambler
 use Rattle.law_model.specs.Common.{head, Run}
-use Rattle.gfp_delineate.specs.declared.area_receiver.Phase.{Phase}
-use Rattle.gfp_delineate.specs.declared.area_receiver.Phase.TheVariants.{Hunt, PresyncArea, PresyncHeader, SyncHeader, SyncArea}
-use Rattle.gfp_delineate.specs.declared.area_receiver.Phase.TheVariants.{SyncPassing}
+use Rattle.gfp_delineate.specs.declared.hunt_presync_sync.Phase.{Phase}
+use Rattle.gfp_delineate.specs.declared.hunt_presync_sync.Phase.TheVariants.{Hunt, PresyncArea, PresyncHeader, SyncHeader, SyncArea}
+use Rattle.gfp_delineate.specs.declared.hunt_presync_sync.Phase.TheVariants.{SyncPassing}
 use Rattle.gfp_delineate.specs.LeftOpen.{LeftOpen, searching, running, Leaves}
 use Rattle.gfp_delineate.specs.Areas.{AreaEnd, end_of, run_ends, ends, reader, is_sync_by, Progress, Searches, Headed}
 use Rattle.gfp_delineate.specs.Areas.{InHunt, IsIn, IsAt}

@@ -10,10 +10,10 @@ use Rattle.law_model.specs.Common.{head, descrambled_octets, joined, Run, is_set
 use Rattle.law_model.proofs.ScrambledOctets.{length-descrambled_octets}
 use Rattle.law_model.proofs.CutLaws.{joined-push}
 use Rattle.law_model.proofs.AreaLaws.{length-descrambled_single}
-use Rattle.gfp_delineate.specs.declared.area_receiver.AreaWhy.{AreaWhy}
-use Rattle.gfp_delineate.specs.declared.area_receiver.AreaWhy.TheVariants.{Unsettled, TooLong}
-use Rattle.gfp_delineate.specs.declared.area_receiver.Phase.{Phase}
-use Rattle.gfp_delineate.specs.declared.area_receiver.Phase.TheVariants.{SyncHeader, SyncArea, SyncPassing}
+use Rattle.gfp_delineate.specs.declared.hunt_presync_sync.AreaWhy.{AreaWhy}
+use Rattle.gfp_delineate.specs.declared.hunt_presync_sync.AreaWhy.TheVariants.{Unsettled, TooLong}
+use Rattle.gfp_delineate.specs.declared.hunt_presync_sync.Phase.{Phase}
+use Rattle.gfp_delineate.specs.declared.hunt_presync_sync.Phase.TheVariants.{SyncHeader, SyncArea, SyncPassing}
 use Rattle.gfp_delineate.specs.LeftOpen.{running, Leaves}
 use Rattle.gfp_delineate.specs.Areas.{AreaEnd, keeping, passing, end_of, reader, ends, area_ends, run_ends}
 use Rattle.gfp_delineate.specs.Areas.{Progress, Follows, Headed, InSyncHeader}

@@ -2,8 +2,8 @@
 use Rattle.std.proofs.Common.{◌≡◌, ℕ, ◌+◌, ◌-◌, ◌<◌, ◌≤◌, Bool, List, [], ◌∷◌, ◌++◌, length, drop, Some, None, sym, ◌∙◌}
 use Rattle.std.proofs.Common.{refl, ap, subst, arith, append_assoc, length-append, length-drop, append-nil}
 use Rattle.law_model.specs.Common.{head, Run}
-use Rattle.gfp_delineate.specs.declared.area_receiver.Phase.{Phase}
-use Rattle.gfp_delineate.specs.declared.area_receiver.Phase.TheVariants.{Hunt, PresyncArea, PresyncHeader}
+use Rattle.gfp_delineate.specs.declared.hunt_presync_sync.Phase.{Phase}
+use Rattle.gfp_delineate.specs.declared.hunt_presync_sync.Phase.TheVariants.{Hunt, PresyncArea, PresyncHeader}
 use Rattle.gfp_delineate.specs.LeftOpen.{searching, Leaves}
 use Rattle.gfp_delineate.specs.Areas.{ends, reader, Progress, Searches, Headed, IsIn, InHunt, InPresyncArea}
 use Rattle.gfp_delineate.specs.Areas.{InPresyncHeader}

@@ -1,7 +1,7 @@
 -- What more octets make of how far a receiver is, whatever came before them.
 use Rattle.std.proofs.Common.{◌≡◌, ℕ, Bool, List, [], ◌∷◌, ◌++◌, drop, Option, sym, ◌∙◌, ap, subst, append_assoc}
 use Rattle.std.proofs.lemmas.List.{append-nil}
-use Rattle.gfp_delineate.specs.declared.area_receiver.Phase.{Phase}
+use Rattle.gfp_delineate.specs.declared.hunt_presync_sync.Phase.{Phase}
 use Rattle.gfp_delineate.specs.Areas.{AreaEnd, ends, Progress, IsIn, IsAt, Goes, Adds}
 
 -- it is as far as they lead, and these areas end

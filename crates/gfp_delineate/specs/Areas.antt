@@ -7,13 +7,13 @@ use Rattle.gfp_scramble.specs.Descrambler as descrambler
 use Rattle.law_model.specs.Common.{head, descrambled_octets, joined, Run, delineate_with, area_outcomes}
 use Rattle.law_model.specs.Common.{run_outcomes_with, outcomes_with}
 use Rattle.gfp_model.specs.fcs_model.Near.{near}
-use Rattle.gfp_delineate.specs.declared.area_receiver.AreaWhy.{AreaWhy}
-use Rattle.gfp_delineate.specs.declared.area_receiver.AreaWhy.TheVariants.{Unsettled, TooLong}
-use Rattle.gfp_delineate.specs.declared.area_receiver.AreaStep.{AreaStep}
-use Rattle.gfp_delineate.specs.declared.area_receiver.AreaStep.TheVariants.{Nothing, Area, Dropped}
-use Rattle.gfp_delineate.specs.declared.area_receiver.Phase.{Phase}
-use Rattle.gfp_delineate.specs.declared.area_receiver.Phase.TheVariants.{Hunt, PresyncArea, PresyncHeader, SyncHeader, SyncArea}
-use Rattle.gfp_delineate.specs.declared.area_receiver.Phase.TheVariants.{SyncPassing}
+use Rattle.gfp_delineate.specs.declared.hunt_presync_sync.AreaWhy.{AreaWhy}
+use Rattle.gfp_delineate.specs.declared.hunt_presync_sync.AreaWhy.TheVariants.{Unsettled, TooLong}
+use Rattle.gfp_delineate.specs.declared.hunt_presync_sync.AreaStep.{AreaStep}
+use Rattle.gfp_delineate.specs.declared.hunt_presync_sync.AreaStep.TheVariants.{Nothing, Area, Dropped}
+use Rattle.gfp_delineate.specs.declared.hunt_presync_sync.Phase.{Phase}
+use Rattle.gfp_delineate.specs.declared.hunt_presync_sync.Phase.TheVariants.{Hunt, PresyncArea, PresyncHeader, SyncHeader, SyncArea}
+use Rattle.gfp_delineate.specs.declared.hunt_presync_sync.Phase.TheVariants.{SyncPassing}
 use Rattle.gfp_delineate.specs.LeftOpen.{searching, running, Leaves}
 
 -- ---- how an area ends

@@ -4,8 +4,8 @@ use Rattle.std.specs.Prelude.{map, take, drop, All, Option, Some, None, if◌the
 use Rattle.law_model.specs.Common.{type_fault, Outcome, delivery, dropping, outcome_by, outcomes}
 use Rattle.law_model.specs.declared.frame_faults.Why.{Why}
 use Rattle.law_model.specs.declared.frame_faults.Why.TheVariants.{Unsettled, TooLong}
-use Rattle.gfp_delineate.specs.declared.area_receiver.AreaWhy.{AreaWhy}
-use Rattle.gfp_delineate.specs.declared.area_receiver.AreaWhy.TheVariants.{Unsettled as NotSettled, TooLong as IsLong}
+use Rattle.gfp_delineate.specs.declared.hunt_presync_sync.AreaWhy.{AreaWhy}
+use Rattle.gfp_delineate.specs.declared.hunt_presync_sync.AreaWhy.TheVariants.{Unsettled as NotSettled, TooLong as IsLong}
 use Rattle.gfp_delineate.specs.declared.delineator.Step.{Step}
 use Rattle.gfp_delineate.specs.declared.delineator.Step.TheVariants.{Nothing, Frame, Dropped}
 use Rattle.gfp_delineate.specs.Areas.{AreaEnd, keeping, passing, Progress, header_begun_in, IsAt}

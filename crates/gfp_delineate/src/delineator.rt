@@ -9,7 +9,7 @@ ghost use Rattle.gfp_delineate.specs.Areas.{ends_told};
 ghost use Rattle.gfp_delineate.specs.Receiver.{IsClientFrame, outcomes_told, client_of};
 
 use crate::area_octets::first_four;
-use crate::area_receiver::{AreaReceiver, AreaStep, AreaWhy};
+use crate::hunt_presync_sync::{AreaReceiver, AreaStep, AreaWhy};
 use gfp_headers::read_type;
 use law_model::Why;
 use std::alloc::{AllocError, Global};

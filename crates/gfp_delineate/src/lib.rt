@@ -11,14 +11,14 @@
 #![tactic(auto)]
 
 mod area_octets;
-mod area_receiver;
 mod corrected_header;
 mod delineator;
+mod hunt_presync_sync;
 mod idle_runs;
 mod receiver_steps;
 
 pub use crate::area_octets::first_four;
-pub use crate::area_receiver::{AreaReceiver, AreaStep, AreaWhy};
+pub use crate::hunt_presync_sync::{AreaReceiver, AreaStep, AreaWhy};
 pub use crate::idle_runs::word_run;
 pub use delineator::{Delineator, Step, delivery_law};
 pub use law_model::{TypeFault, Why};

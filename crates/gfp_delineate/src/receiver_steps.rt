@@ -5,8 +5,8 @@ ghost use Rattle.std.specs.Prelude.{false, IfSome};
 ghost use Rattle.gfp_delineate.specs.Areas.{Goes, Adds, ends_told, reader};
 
 use crate::area_octets::{keep, pass_over};
-use crate::area_receiver::{AreaReceiver, AreaStep, AreaWhy, Phase};
 use crate::corrected_header::read_near;
+use crate::hunt_presync_sync::{AreaReceiver, AreaStep, AreaWhy, Phase};
 use crate::idle_runs::idle_run;
 use gfp_headers::read_core;
 

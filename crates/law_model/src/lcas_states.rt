@@ -8,7 +8,7 @@ pub enum Standing {
     Add,
     /// It carries payload.
     Norm,
-    /// It carries no payload, since the sink can't read it.
+    /// It carries no payload, since the sink says that it fails.
     Dnu,
 }
 
@@ -30,7 +30,7 @@ pub enum SourceState {
     Add,
     /// It carries payload.
     Norm,
-    /// It carries no payload, since the sink can't read it.
+    /// It carries no payload, since the sink says that it fails.
     Dnu,
     /// It is removed, and the sink has not confirmed it.
     Remove,

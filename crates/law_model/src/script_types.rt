@@ -107,11 +107,11 @@ impl Model for EventList {
 /// script set. Timers are counted in packets of 16 frames, so in 2 ms.
 #[derive(Clone, Copy, Debug, PartialEq, Eq)]
 pub struct Options {
-    /// The hold-off, up to 5,000 packets: a line is down only after one more packet in turn than this that couldn't
-    /// be read.
+    /// The hold-off, up to 5,000 packets: a line that is up goes down only with one more packet in turn than this
+    /// that couldn't be read.
     pub holdoff: u16,
-    /// The wait to restore, up to 62,500 packets: a line that was down is up only after one more packet in turn than
-    /// this that could be read.
+    /// The wait to restore, up to 62,500 packets: a line that is down comes up only with one more packet in turn
+    /// than this that could be read. For it packets before packet 0 count as read.
     pub restore: u16,
     /// How many return packets tell all statuses, eight each: 16, or 32 as G.707 has it for 256 members.
     pub statuses: u8,

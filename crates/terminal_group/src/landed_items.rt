@@ -9,7 +9,7 @@ ghost use Rattle.law_walk.specs.Common.{IsPlaced, refused_by};
 ghost use Rattle.terminal_group.specs.Landed.{none_landed, next_place, next_number, due_at, landed_of, refused_of};
 ghost use Rattle.terminal_group.specs.Landed.{HasPassed, AreOthers, AreBefore, AreAfter};
 
-use crate::due_items::{held_item, next_command, next_frame};
+use crate::landing_order::{held_item, next_command, next_frame};
 use law_model::{Item, ItemKind, Octets, Refusal};
 use std::alloc::{AllocError, Global};
 use std::marker::Model;

@@ -4,16 +4,16 @@
 //! frames go, and when an engine ticks, is not said here.
 #![tactic(auto)]
 
-mod due_items;
 mod group_laws;
 mod group_source;
 mod item_ref;
 mod landed_items;
+mod landing_order;
 mod return_inbox;
 
-pub use due_items::{held_item, next_command, next_frame};
 pub use group_laws::source_law;
 pub use group_source::{EarlyCause, GroupSource};
 pub use item_ref::{ItemRef, handed};
 pub use landed_items::Landing;
+pub use landing_order::{held_item, next_command, next_frame};
 pub use return_inbox::Inbox;

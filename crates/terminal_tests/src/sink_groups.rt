@@ -1,14 +1,13 @@
 //! Worked groups: which frames come through, and which return packets are said.
 
-mod group_rows;
 mod kept_frames;
+mod worked_groups;
 
 ghost use Rattle.std.specs.Prelude.{◌≡◌, ◌<◌, IfSome};
 ghost use Rattle.member_rows.specs.realign_rows.Gather.{line_count, IsOpenAt};
 
 use gfp_headers::{core_bytes, type_bytes};
 use gfp_scramble::Scrambler;
-use group_rows::{Case, Said, case_of, case_rows, number};
 use kept_frames::KeptFrames;
 use law_model::Options;
 use member_cells::{Cell, Container, Ctrl, HeldContainer, PAYLOAD};
@@ -18,6 +17,7 @@ use member_rows::lcas_packet::Packet;
 use member_rows::realign_rows::RowGather;
 use std::alloc::{AllocError, Global};
 use terminal_sink::sink_core::{SinkCore, TakeAnswer};
+use worked_groups::{Case, Said, case_of, case_rows, number};
 
 /// Octet `j` of frame `number`.
 fn octet(number: u32, j: u32) -> u8 {

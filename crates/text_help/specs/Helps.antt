@@ -1,11 +1,11 @@
 -- What is said of how to write a line, in any language of lines. These texts are this project's own.
 use Rattle.std.specs.Prelude.{ℕ, nat_le, List, ◌++◌, codes, decimal, if◌then◌else◌}
-use Rattle.text_lines.specs.declared.field_fault.FieldFault.{FieldFault}
-use Rattle.text_lines.specs.declared.field_fault.FieldFault.TheVariants.{Number, Hex, Range, Size, Name}
-use Rattle.text_lines.specs.declared.field_fault.Names.{Names}
-use Rattle.text_lines.specs.declared.field_fault.Names.TheVariants.{Containers, Statuses}
-use Rattle.text_lines.specs.declared.field_fault.LineFault.{LineFault}
-use Rattle.text_lines.specs.declared.field_fault.LineFault.TheVariants as wrong
+use Rattle.text_lines.specs.declared.text_faults.FieldFault.{FieldFault}
+use Rattle.text_lines.specs.declared.text_faults.FieldFault.TheVariants.{Number, Hex, Range, Size, Name}
+use Rattle.text_lines.specs.declared.text_faults.Names.{Names}
+use Rattle.text_lines.specs.declared.text_faults.Names.TheVariants.{Containers, Statuses}
+use Rattle.text_lines.specs.declared.text_faults.LineFault.{LineFault}
+use Rattle.text_lines.specs.declared.text_faults.LineFault.TheVariants as wrong
 
 -- ---- of one word of a line; its place is counted from 1
 abbrev pub word_text : ℕ → List ℕ → List ℕ

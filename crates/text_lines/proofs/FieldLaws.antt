@@ -8,7 +8,7 @@ use Rattle.std.proofs.lemmas.Bool.{not-false, leb-true, and_parts}
 use Rattle.hex.specs.Hex.{decode_of, IsBytes}
 use Rattle.hex.specs.declared.error.FromHexError.{FromHexError}
 use Rattle.hex.proofs.HexLemmas.{decode_of-ok}
-use Rattle.text_lines.specs.declared.field_fault.FieldFault.TheVariants.{Number, Range, Size}
+use Rattle.text_lines.specs.declared.text_faults.FieldFault.TheVariants.{Number, Range, Size}
 use Rattle.text_lines.specs.Words.{word_at, is_number, number_of, number_at, octets_of}
 use Rattle.text_lines.specs.Fields.{Field, where_true, number_fault, octets_fault, field_fault, fields_fault}
 

@@ -14,12 +14,12 @@ use Rattle.text_lines.specs.FirstFault.{AreSound, IsFirstFault}
 use Rattle.text_lines.specs.Table.{Table, Told, told, next_by, next_after, missing_at, order_fault, place_fault}
 use Rattle.text_lines.specs.Table.{count_fault, rest_fault, known_fault, words_fault, known_after, words_after}
 use Rattle.text_lines.specs.Table.{missing_fault, language_of, said_alone, said_in, formed}
-use Rattle.text_lines.specs.declared.field_fault.LineFault.{LineFault}
-use Rattle.text_lines.specs.declared.field_fault.LineFault.TheVariants as wrong
-use Rattle.text_lines.specs.declared.field_fault.LineStop.{LineStop}
-use Rattle.text_lines.specs.declared.field_fault.LineStop.TheVariants as stop
-use Rattle.text_lines.specs.declared.field_fault.TextFault.{TextFault}
-use Rattle.text_lines.specs.declared.field_fault.TextFault.TheVariants as whole
+use Rattle.text_lines.specs.declared.text_faults.LineFault.{LineFault}
+use Rattle.text_lines.specs.declared.text_faults.LineFault.TheVariants as wrong
+use Rattle.text_lines.specs.declared.text_faults.LineStop.{LineStop}
+use Rattle.text_lines.specs.declared.text_faults.LineStop.TheVariants as stop
+use Rattle.text_lines.specs.declared.text_faults.TextFault.{TextFault}
+use Rattle.text_lines.specs.declared.text_faults.TextFault.TheVariants as whole
 use Rattle.text_lines.proofs.FieldLaws.{or_none, where_none, map_none}
 use Rattle.text_lines.proofs.LanguageLaws.{line_faulty, line_sound, end_missing, end_sound}
 use Rattle.text_lines.proofs.FirstFaultLaws.{first_fault, all_said}

@@ -1,15 +1,15 @@
 -- What can be wrong with a line of any language, and why a text isn't read.
 use Rattle.std.specs.Prelude.{◌≡◌, ⊤, ℕ, Option, Some, Result, Err}
-use Rattle.text_lines.specs.declared.field_fault.LineKind.{LineKind}
-use Rattle.text_lines.specs.declared.field_fault.LineKind.TheVariants as kind
-use Rattle.text_lines.specs.declared.field_fault.FieldStop.{FieldStop}
-use Rattle.text_lines.specs.declared.field_fault.FieldStop.TheVariants as field
-use Rattle.text_lines.specs.declared.field_fault.LineFault.{LineFault}
-use Rattle.text_lines.specs.declared.field_fault.LineFault.TheVariants as wrong
-use Rattle.text_lines.specs.declared.field_fault.LineStop.{LineStop}
-use Rattle.text_lines.specs.declared.field_fault.LineStop.TheVariants as stop
-use Rattle.text_lines.specs.declared.field_fault.TextFault.{TextFault}
-use Rattle.text_lines.specs.declared.field_fault.TextFault.TheVariants as text
+use Rattle.text_lines.specs.declared.text_faults.LineKind.{LineKind}
+use Rattle.text_lines.specs.declared.text_faults.LineKind.TheVariants as kind
+use Rattle.text_lines.specs.declared.text_faults.FieldStop.{FieldStop}
+use Rattle.text_lines.specs.declared.text_faults.FieldStop.TheVariants as field
+use Rattle.text_lines.specs.declared.text_faults.LineFault.{LineFault}
+use Rattle.text_lines.specs.declared.text_faults.LineFault.TheVariants as wrong
+use Rattle.text_lines.specs.declared.text_faults.LineStop.{LineStop}
+use Rattle.text_lines.specs.declared.text_faults.LineStop.TheVariants as stop
+use Rattle.text_lines.specs.declared.text_faults.TextFault.{TextFault}
+use Rattle.text_lines.specs.declared.text_faults.TextFault.TheVariants as text
 use Rattle.text_lines.specs.Fields.{field_kind}
 
 -- the kind of a faulty line; what the lines before it leave no room for is one of their order

@@ -5,14 +5,14 @@ use Rattle.std.specs.Option.{option_or}
 use Rattle.std.specs.List.{list_any}
 use Rattle.hex.specs.Hex.{decode_of}
 use Rattle.hex.specs.declared.error.FromHexError.{FromHexError}
-use Rattle.text_lines.specs.declared.field_fault.LineKind.{LineKind}
-use Rattle.text_lines.specs.declared.field_fault.LineKind.TheVariants as kind
-use Rattle.text_lines.specs.declared.field_fault.FieldFault.{FieldFault}
-use Rattle.text_lines.specs.declared.field_fault.FieldFault.TheVariants.{Number, Hex, Range, Size, Name}
-use Rattle.text_lines.specs.declared.field_fault.Names.{Names}
-use Rattle.text_lines.specs.declared.field_fault.Names.TheVariants.{Containers, Statuses}
-use Rattle.text_lines.specs.declared.field_fault.FieldStop.{FieldStop}
-use Rattle.text_lines.specs.declared.field_fault.FieldStop.TheVariants as stop
+use Rattle.text_lines.specs.declared.text_faults.LineKind.{LineKind}
+use Rattle.text_lines.specs.declared.text_faults.LineKind.TheVariants as kind
+use Rattle.text_lines.specs.declared.text_faults.FieldFault.{FieldFault}
+use Rattle.text_lines.specs.declared.text_faults.FieldFault.TheVariants.{Number, Hex, Range, Size, Name}
+use Rattle.text_lines.specs.declared.text_faults.Names.{Names}
+use Rattle.text_lines.specs.declared.text_faults.Names.TheVariants.{Containers, Statuses}
+use Rattle.text_lines.specs.declared.text_faults.FieldStop.{FieldStop}
+use Rattle.text_lines.specs.declared.text_faults.FieldStop.TheVariants as stop
 use Rattle.text_lines.specs.Words.{is_number, number_of}
 
 -- a fault where a test finds one

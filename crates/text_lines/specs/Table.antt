@@ -6,8 +6,8 @@ use Rattle.std.specs.Option.{option_or}
 use Rattle.text_lines.specs.Words.{word_at, is_skipped}
 use Rattle.text_lines.specs.Fields.{Field, where_true, number_fault, fields_fault}
 use Rattle.text_lines.specs.Language.{Language, said_by}
-use Rattle.text_lines.specs.declared.field_fault.LineFault.{LineFault}
-use Rattle.text_lines.specs.declared.field_fault.LineFault.TheVariants as wrong
+use Rattle.text_lines.specs.declared.text_faults.LineFault.{LineFault}
+use Rattle.text_lines.specs.declared.text_faults.LineFault.TheVariants as wrong
 
 -- D is what lines say, K the words that begin one, and O what can be wrong with one in this language alone
 pub record Table (D K O : Type 0) : Type 0 where

@@ -4,7 +4,7 @@ ghost use Rattle.hex.specs.Hex.{decode_of};
 ghost use Rattle.text_lines.specs.Words.{is_number, number_of, octets_of};
 ghost use Rattle.text_lines.specs.Fields.{number_fault, octets_fault, IsFieldStop};
 
-use crate::field_fault::{FieldFault, FieldStop};
+use crate::text_faults::{FieldFault, FieldStop};
 use std::alloc::Global;
 use text_hex::decode_into;
 

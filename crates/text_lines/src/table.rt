@@ -3,12 +3,12 @@ ghost use Rattle.std.specs.Prelude.{◌≡◌, ◌≤◌, length, IfOk, IfErr, O
 ghost use Rattle.text_lines.specs.Words.{words, number_at};
 ghost use Rattle.text_lines.specs.Faults.{IsLineStop, IsTextFault};
 ghost use Rattle.text_lines.specs.Table.{told, next_after, place_fault, words_fault, words_after, one_fault, said_in};
-ghost use Rattle.text_lines.specs.declared.field_fault.LineFault.TheVariants as wrong;
+ghost use Rattle.text_lines.specs.declared.text_faults.LineFault.TheVariants as wrong;
 
-use crate::field_fault::{LineFault, LineStop, TextFault};
 use crate::read_fields::number_within;
 use crate::split_text::next_line;
 use crate::split_words::{count_words, first_word, one_word};
+use crate::text_faults::{LineFault, LineStop, TextFault};
 use std::alloc::Global;
 
 /// What the lines of a text say so far, in a language of lines that is a table.

@@ -1,6 +1,6 @@
 -- `au4`: numbered VC-4s over a link of AU-4 frames.
 use Rattle.std.specs.Prelude.{ℕ, List, codes, Option, Some, None, Result, Ok, Err, if◌then◌else◌}
-use Rattle.text_lines.specs.declared.field_fault.LineFault.{LineFault}
+use Rattle.text_lines.specs.declared.text_faults.LineFault.{LineFault}
 use Rattle.text_lines.specs.Faults.{kind_of}
 use Rattle.member_au4.specs.declared.au4_link.au4_keyword.Keyword.{Keyword}
 use Rattle.member_au4.specs.declared.au4_link.au4_text_fault.Early.{Early}

@@ -1,6 +1,6 @@
 -- `channels`: frames of clients in a stream that they share by channel numbers, and of which octets don't arrive.
 use Rattle.std.specs.Prelude.{◌≡◌, ℕ, List, codes, Option, Some, None, Result, Ok, Err, if◌then◌else◌}
-use Rattle.text_lines.specs.declared.field_fault.LineFault.{LineFault}
+use Rattle.text_lines.specs.declared.text_faults.LineFault.{LineFault}
 use Rattle.text_lines.specs.Faults.{kind_of}
 use Rattle.gfp_channels.specs.declared.channel_link.channel_keyword.Keyword.{Keyword}
 use Rattle.gfp_channels.specs.declared.channel_link.channel_text_fault.Overlap.{Overlap}

@@ -1,7 +1,7 @@
 -- `decode`: the control packets in the H4 octets of a line.
 use Rattle.std.specs.Prelude.{ℕ, List, codes, Option, Some, None, Result, Ok, Err, if◌then◌else◌}
 use Rattle.law_model.specs.Common.{decoded_text}
-use Rattle.text_lines.specs.declared.field_fault.LineKind.TheVariants.{Hex}
+use Rattle.text_lines.specs.declared.text_faults.LineKind.TheVariants.{Hex}
 use Rattle.command_parts.specs.Common.{Answer, writes, refuses, line_text}
 use Rattle.command_parts.specs.declared.stop_and_status.Refusal.TheVariants.{Line}
 use Rattle.command_walk.specs.declared.command_of_words.WalkCommand.{WalkCommand}

@@ -1,6 +1,6 @@
 -- `noise`: frames with an FCS in a stream of which bits are turned over.
 use Rattle.std.specs.Prelude.{ℕ, List, codes, Option, Some, None, Result, Ok, Err, if◌then◌else◌}
-use Rattle.text_lines.specs.declared.field_fault.LineFault.{LineFault}
+use Rattle.text_lines.specs.declared.text_faults.LineFault.{LineFault}
 use Rattle.text_lines.specs.Faults.{kind_of}
 use Rattle.gfp_noise.specs.declared.noise_link.noise_keyword.Keyword.{Keyword}
 use Rattle.gfp_noise.specs.declared.noise_link.noise_text_fault.NotRising.{NotRising}

@@ -19,7 +19,7 @@ ghost use Rattle.command_walk.specs.Told.{events_of, IsTurn};
 ghost use Rattle.command_walk.specs.Ended.{HandsScript};
 
 use crate::command_of_words::WalkCommand;
-use crate::turns::left::TurnsLeft;
+use crate::turns::next_turns::TurnsLeft;
 use crate::turns::ready_walk::read_walk;
 use crate::turns::trace_turns::{Turn, silent_turn};
 use command_parts::{Fault, Ran, Refusal, Stop};

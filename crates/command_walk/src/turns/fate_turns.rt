@@ -16,7 +16,7 @@ ghost use Rattle.command_walk.specs.Told.{events_of, IsTurn};
 ghost use Rattle.fate_walks.specs.walk_fates.Seen.{Sees};
 ghost use Rattle.fate_walks.specs.walk_fates.MadeWalk.{SeesWalk};
 
-use crate::turns::left::TurnsLeft;
+use crate::turns::next_turns::TurnsLeft;
 use crate::turns::ready_walk::{LinesAndTicks, read_walk};
 use crate::turns::trace_turns::{Turn, silent_turn};
 use command_parts::Stop;

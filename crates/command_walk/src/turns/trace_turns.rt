@@ -18,7 +18,7 @@ ghost use Rattle.law_headline.specs.Texts.{counts_in, walk_text};
 ghost use Rattle.command_walk.specs.commands.Trace.{decision_text, decisions_text, trace_text};
 ghost use Rattle.command_walk.specs.Told.{events_of, IsTurn, IsTold};
 
-use crate::turns::left::TurnsLeft;
+use crate::turns::next_turns::TurnsLeft;
 use crate::turns::ready_walk::LinesAndTicks;
 use fate_walks::walk_fates::is_step;
 use law_model::{Event, EventLine, FrameOut};

@@ -9,9 +9,9 @@ use Rattle.gfp_model.specs.declared.linear_model.CidFault.{CidFault}
 use Rattle.gfp_model.specs.declared.linear_model.LinearWhy.TheVariants.{TooLong, Extension}
 use Rattle.gfp_model.specs.linear_model.Linear.{LinearOutcome, delivery, dropping, by_extension, by_size, by_type}
 use Rattle.gfp_model.specs.linear_model.Linear.{cid_fault, linear_type_fault, linear_outcome, linear_outcomes}
-use Rattle.gfp_delineate.specs.declared.area_receiver.AreaWhy.TheVariants.{TooLong as IsLong}
-use Rattle.gfp_delineate.specs.declared.area_receiver.AreaStep.{AreaStep}
-use Rattle.gfp_delineate.specs.declared.area_receiver.AreaStep.TheVariants.{Area}
+use Rattle.gfp_delineate.specs.declared.hunt_presync_sync.AreaWhy.TheVariants.{TooLong as IsLong}
+use Rattle.gfp_delineate.specs.declared.hunt_presync_sync.AreaStep.{AreaStep}
+use Rattle.gfp_delineate.specs.declared.hunt_presync_sync.AreaStep.TheVariants.{Area}
 use Rattle.gfp_delineate.specs.Areas.{AreaEnd, keeping, passing, end_of, ends_told, Progress, Adds}
 use Rattle.gfp_delineate.proofs.OutcomeLaws.{outcomes_more-map}
 use Rattle.gfp_channels.specs.declared.gfp_linear.linear_delineator.LinearStep.{LinearStep}

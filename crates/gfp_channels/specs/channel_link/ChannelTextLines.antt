@@ -4,7 +4,7 @@ use Rattle.text_lines.specs.Words.{word_at, number_at, octets_of}
 use Rattle.text_lines.specs.Fields.{Field, within, any, above, digits, where_true}
 use Rattle.text_lines.specs.Language.{Language}
 use Rattle.text_lines.specs.Table.{Table, Told, language_of}
-use Rattle.text_lines.specs.declared.field_fault.LineFault.{LineFault}
+use Rattle.text_lines.specs.declared.text_faults.LineFault.{LineFault}
 use Rattle.gfp_model.specs.declared.linear_model.Cut.{Cut}
 use Rattle.gfp_channels.specs.declared.channel_link.channel_keyword.Keyword.{Keyword}
 use Rattle.gfp_channels.specs.declared.channel_link.channel_keyword.Keyword.TheVariants as word

@@ -7,7 +7,7 @@
 ghost use Rattle.std.specs.Prelude.{◌≡◌, ◌↔◌, ℕ, List, [], length, take, Ok, Err};
 ghost use Rattle.std.specs.Str.Lines.{lines};
 ghost use Rattle.text_lines.specs.FirstFault.{IsFirstFault};
-ghost use Rattle.text_lines.specs.declared.field_fault.LineFault.{LineFault};
+ghost use Rattle.text_lines.specs.declared.text_faults.LineFault.{LineFault};
 ghost use Rattle.gfp_channels.specs.declared.channel_link.channel_keyword.Keyword.{Keyword};
 ghost use Rattle.gfp_channels.specs.declared.channel_link.channel_text_fault.Overlap.{Overlap};
 ghost use Rattle.gfp_channels.specs.channel_link.ChannelTextLines.{plan_lines};
@@ -22,8 +22,8 @@ mod channel_keyword;
 mod channel_reception;
 mod channel_report;
 mod channel_run;
-mod channel_statement;
 mod channel_text_fault;
+mod read_channel_line;
 mod read_channel_text;
 
 pub use channel_draft::{ChannelPlan, CutList, Offer, OfferList};

@@ -6,8 +6,8 @@ ghost use Rattle.gfp_channels.specs.channel_link.Plan.{plan_of, IsPlan};
 
 use crate::channel_link::channel_draft::{ChannelPlan, CutList, Draft, OfferList};
 use crate::channel_link::channel_keyword::Keyword;
-use crate::channel_link::channel_statement::{read_cut, read_offer};
 use crate::channel_link::channel_text_fault::Overlap;
+use crate::channel_link::read_channel_line::{read_cut, read_offer};
 use std::alloc::Global;
 use text_lines::{LineStop, LineTable, TextFault, one_number, read_text};
 

@@ -14,9 +14,9 @@ use Rattle.gfp_model.specs.declared.fcs_model.FcsWhy.TheVariants.{TooLong, Fcs}
 use Rattle.gfp_model.specs.fcs_model.Near.{near}
 use Rattle.gfp_model.specs.fcs_model.Fcs.{FcsOutcome, delivery, dropping, word_of, by_check, by_size, by_type}
 use Rattle.gfp_model.specs.fcs_model.Fcs.{fcs_type_fault, fcs_outcome}
-use Rattle.gfp_delineate.specs.declared.area_receiver.AreaWhy.TheVariants.{TooLong as IsLong}
-use Rattle.gfp_delineate.specs.declared.area_receiver.AreaStep.{AreaStep}
-use Rattle.gfp_delineate.specs.declared.area_receiver.AreaStep.TheVariants.{Area}
+use Rattle.gfp_delineate.specs.declared.hunt_presync_sync.AreaWhy.TheVariants.{TooLong as IsLong}
+use Rattle.gfp_delineate.specs.declared.hunt_presync_sync.AreaStep.{AreaStep}
+use Rattle.gfp_delineate.specs.declared.hunt_presync_sync.AreaStep.TheVariants.{Area}
 use Rattle.gfp_delineate.specs.Areas.{AreaEnd, keeping, passing, end_of, ends_told, Progress, Adds}
 use Rattle.gfp_delineate.proofs.OutcomeLaws.{outcomes_more-map}
 use Rattle.gfp_noise.specs.declared.gfp_fcs.fcs_delineator.FcsStep.{FcsStep}

@@ -1,7 +1,7 @@
 -- The frames and flips that a text says, or its first fault.
 use Rattle.std.specs.Prelude.{ℕ, List, length, All, Result}
 use Rattle.text_lines.specs.Table.{said_in, formed}
-use Rattle.text_lines.specs.declared.field_fault.LineFault.{LineFault}
+use Rattle.text_lines.specs.declared.text_faults.LineFault.{LineFault}
 use Rattle.gfp_noise.specs.flip_law.Places.{LiesIn, IsRising}
 use Rattle.gfp_noise.specs.flip_law.Flipped.{fcs_stream, IsFrame}
 use Rattle.gfp_noise.specs.declared.noise_link.noise_keyword.Keyword.{Keyword}

@@ -5,7 +5,7 @@ use Rattle.text_lines.specs.Words.{word_at, number_at, octets_of}
 use Rattle.text_lines.specs.Fields.{Field, within, digits, where_true}
 use Rattle.text_lines.specs.Language.{Language}
 use Rattle.text_lines.specs.Table.{Table, Told, language_of}
-use Rattle.text_lines.specs.declared.field_fault.LineFault.{LineFault}
+use Rattle.text_lines.specs.declared.text_faults.LineFault.{LineFault}
 use Rattle.gfp_model.specs.declared.fcs_model.Flip.{Flip}
 use Rattle.gfp_noise.specs.flip_law.Places.{at}
 use Rattle.gfp_noise.specs.declared.noise_link.noise_keyword.Keyword.{Keyword}

@@ -6,8 +6,8 @@ ghost use Rattle.gfp_noise.specs.noise_link.Noise.{noise_of, IsNoise};
 
 use crate::noise_link::noise_draft::{Draft, FlipList, FrameList, Noise};
 use crate::noise_link::noise_keyword::Keyword;
-use crate::noise_link::noise_statement::{read_flip, read_frame};
 use crate::noise_link::noise_text_fault::NotRising;
+use crate::noise_link::read_noise_line::{read_flip, read_frame};
 use std::alloc::Global;
 use text_lines::{LineStop, LineTable, TextFault, read_text};
 

@@ -1,7 +1,7 @@
 -- Which packets of a line count: what it said last, and whether it is up, by which of its packets were read. A test says
--- of a number whether that packet was read. A line that isn't read for a while stays up for the hold-off, and one that was
--- down is up again once it was read for the wait to restore; packets before packet 0 count as read. Both timers are
--- those of equipment, and that they count packets is this project's own.
+-- of a number whether that packet was read. A line that is up and isn't read for a while stays up for the hold-off, and
+-- one that is down is up again once it was read for the wait to restore, for which packets before packet 0 count as
+-- read. Both timers are those of equipment, and that they count packets is this project's own.
 use Rattle.std.specs.Prelude.{◌≡◌, ℕ, zero, suc, ◌+◌, ◌-◌, ◌<◌, ◌≤◌, nat_le, ◌&&◌, ◌||◌, not, Bool, true}
 use Rattle.std.specs.Prelude.{if◌then◌else◌, Option, Some, None}
 use Rattle.std.specs.List.{list_all, range_with_len}

@@ -1,6 +1,6 @@
 -- G.7042, what the sink tells: rows of control packets, one packet of each line or none where it could not be read, and
--- the return packet that each row makes. RS-Ack as an echo, statuses told by 16 packets, and that a change ends what a
--- line said last are this project's own.
+-- the return packet that each row makes. RS-Ack as an echo, statuses that are told in 16 packets where 32 aren't asked
+-- for, and that a change ends what a line said last are this project's own.
 use Rattle.std.specs.Prelude.{ℕ, ◌+◌, ◌-◌, ◌*◌, ◌%◌, ◌==◌, ◌&&◌, not, Bool, true, false, if◌then◌else◌, List, [], ◌∷◌}
 use Rattle.std.specs.Prelude.{map, length, fold, take, slice_index_or, Option, Some, None, is_some}
 use Rattle.std.specs.List.{list_any, list_all, range_with_len}

@@ -6,8 +6,8 @@ use Rattle.text_lines.specs.Words.{number_at}
 use Rattle.text_lines.specs.Fields.{Field, within, where_true, fields_fault}
 use Rattle.text_lines.specs.Language.{Language}
 use Rattle.text_lines.specs.Table.{Table, Told, language_of, count_fault}
-use Rattle.text_lines.specs.declared.field_fault.LineFault.{LineFault}
-use Rattle.text_lines.specs.declared.field_fault.LineFault.TheVariants as wrong
+use Rattle.text_lines.specs.declared.text_faults.LineFault.{LineFault}
+use Rattle.text_lines.specs.declared.text_faults.LineFault.TheVariants as wrong
 use Rattle.member_au4.specs.declared.au4_pointer.au_frame.Action.{Action}
 use Rattle.member_au4.specs.declared.au4_pointer.au_frame.Action.TheVariants.{Keep, Up, Down, New}
 use Rattle.member_au4.specs.declared.au4_link.au4_keyword.Keyword.{Keyword}

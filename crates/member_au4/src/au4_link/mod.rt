@@ -5,7 +5,7 @@
 
 ghost use Rattle.std.specs.Prelude.{◌≡◌, ◌↔◌, ℕ, List, length, Ok, Err};
 ghost use Rattle.std.specs.Str.Lines.{lines};
-ghost use Rattle.text_lines.specs.declared.field_fault.LineFault.{LineFault};
+ghost use Rattle.text_lines.specs.declared.text_faults.LineFault.{LineFault};
 ghost use Rattle.member_au4.specs.declared.au4_link.au4_keyword.Keyword.{Keyword};
 ghost use Rattle.member_au4.specs.declared.au4_link.au4_text_fault.Early.{Early};
 ghost use Rattle.text_lines.specs.FirstFault.{IsFirstFault};
@@ -23,9 +23,9 @@ mod au4_draft;
 mod au4_keyword;
 mod au4_report;
 mod au4_run;
-mod au4_statement;
 mod au4_text_fault;
 mod numbered_vcs;
+mod read_au4_line;
 mod read_au4_text;
 mod text_of_vc;
 

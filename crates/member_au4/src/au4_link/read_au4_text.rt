@@ -7,8 +7,8 @@ ghost use Rattle.member_au4.specs.au4_link.Link.{link_in, link_of, IsLink};
 
 use crate::au4_link::au4_draft::{ActionList, Draft, Link};
 use crate::au4_link::au4_keyword::Keyword;
-use crate::au4_link::au4_statement::{read_move, read_new};
 use crate::au4_link::au4_text_fault::Early;
+use crate::au4_link::read_au4_line::{read_move, read_new};
 use crate::au4_pointer::Action;
 use std::alloc::{AllocError, Global};
 use text_lines::{LineStop, LineTable, TextFault, one_number, read_text};

@@ -1,6 +1,6 @@
 -- The notes on what is wrong with two scripts, and the status of each.
 use Rattle.std.specs.Prelude.{ℕ, List, ◌++◌, codes, decimal}
-use Rattle.text_lines.specs.declared.field_fault.LineKind.TheVariants.{Missing}
+use Rattle.text_lines.specs.declared.text_faults.LineKind.TheVariants.{Missing}
 use Rattle.command_parts.specs.Common.{line_text, fault_text, why_of}
 use Rattle.command_parts.specs.declared.stop_and_status.Refusal.{Refusal}
 use Rattle.command_parts.specs.declared.stop_and_status.Refusal.TheVariants as why

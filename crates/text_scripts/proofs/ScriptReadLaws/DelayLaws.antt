@@ -2,7 +2,7 @@
 use Rattle.std.proofs.Common.{◌≡◌, ℕ, ◌+◌, List, [], ◌∷◌, length, refl, ap, ◌∙◌, subst, arith, Option, None, Some}
 use Rattle.std.proofs.Common.{replicate, option_map, eq-eqb}
 use Rattle.std.specs.Option.{option_or}
-use Rattle.text_lines.specs.declared.field_fault.FieldFault.{FieldFault}
+use Rattle.text_lines.specs.declared.text_faults.FieldFault.{FieldFault}
 use Rattle.text_lines.specs.Words.{number_of}
 use Rattle.text_lines.specs.Fields.{fields_fault, number_fault, within}
 use Rattle.text_scripts.specs.declared.script_read.script_fault.LineFault.{LineFault}

@@ -8,8 +8,8 @@ use Rattle.std.specs.Option.{option_or}
 use Rattle.std.proofs.lemmas.Bool.{not-false, leb-false, ltb-false, eqb-true, and_parts, or_cases, cases_Bool, cases_lt}
 use Rattle.std.proofs.lemmas.Bool.Decides.{nat_tests}
 use Rattle.std.proofs.lemmas.List.Elements.{All-nil, All-cons}
-use Rattle.text_lines.specs.declared.field_fault.FieldFault.TheVariants.{Name}
-use Rattle.text_lines.specs.declared.field_fault.Names.TheVariants as names
+use Rattle.text_lines.specs.declared.text_faults.FieldFault.TheVariants.{Name}
+use Rattle.text_lines.specs.declared.text_faults.Names.TheVariants as names
 use Rattle.text_scripts.specs.declared.script_read.script_fault.LineFault.TheVariants as wrong
 use Rattle.text_lines.specs.Words.{word_at, is_skipped, number_of, number_at}
 use Rattle.text_lines.specs.Fields.{within, any, above, digits, one_of, where_true, number_fault, name_fault}

@@ -19,7 +19,7 @@ use Rattle.text_scripts.specs.declared.script_read.script_keyword.Keyword.TheVar
 use Rattle.text_scripts.specs.declared.script_read.script_draft.Statement.{Statement}
 use Rattle.text_scripts.specs.declared.script_read.script_draft.Statement.TheVariants as says
 use Rattle.text_scripts.specs.declared.script_read.script_draft.Draft.{Draft}
-use Rattle.text_lines.specs.declared.field_fault.Names.TheVariants as names
+use Rattle.text_lines.specs.declared.text_faults.Names.TheVariants as names
 use Rattle.text_lines.specs.Words.{word_at, number_at}
 use Rattle.text_lines.specs.Fields.{where_true, within, number_fault, name_fault, fields_fault}
 use Rattle.text_scripts.specs.script_read.Statements.{windows_of, last_end, last_lost}

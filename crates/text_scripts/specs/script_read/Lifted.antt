@@ -1,7 +1,7 @@
 -- Why a word wasn't read, as why its line wasn't, in private clauses.
 use Rattle.std.specs.Prelude.{◌≡◌, ⊤, Option, Some}
-use Rattle.text_lines.specs.declared.field_fault.FieldStop.{FieldStop}
-use Rattle.text_lines.specs.declared.field_fault.FieldStop.TheVariants as word
+use Rattle.text_lines.specs.declared.text_faults.FieldStop.{FieldStop}
+use Rattle.text_lines.specs.declared.text_faults.FieldStop.TheVariants as word
 use Rattle.text_scripts.specs.declared.script_read.script_fault.LineFault.{LineFault}
 use Rattle.text_scripts.specs.declared.script_read.script_fault.LineFault.TheVariants.{Field}
 use Rattle.text_scripts.specs.declared.script_read.script_fault.LineStop.{LineStop}

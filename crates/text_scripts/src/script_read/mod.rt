@@ -9,13 +9,13 @@ mod grow_draft;
 mod read_item;
 mod read_network;
 mod read_option;
+mod read_script_line;
 mod script_draft;
 mod script_fault;
 mod script_keyword;
 mod script_laws;
 mod script_limits;
 mod script_reader;
-mod script_statement;
 mod whole_script;
 mod word_count_fault;
 

@@ -11,11 +11,11 @@ ghost use Rattle.text_scripts.specs.script_read.Drafts.{IsDraft, fault_at};
 ghost use Rattle.law_model.specs.Common.{IsValid, HasFewLosses, longest_input};
 
 use crate::script_read::grow_draft::{add, no_lines};
+use crate::script_read::read_script_line::read_line;
 use crate::script_read::script_draft::Draft;
 use crate::script_read::script_fault::{LineFault, LineStop, ScriptFault};
 use crate::script_read::script_keyword::awaited;
 use crate::script_read::script_limits::fault_of_config;
-use crate::script_read::script_statement::read_line;
 use law_model::Script;
 use std::alloc::Global;
 use text_lines::{next_line, next_whole_line};

@@ -1,7 +1,7 @@
 -- The input is read, and is lines of hexadecimal digits or isn't.
 use Rattle.std.proofs.Common.{rules, refl, sym, ap, ◌∙◌}
 use Rattle.law_model.specs.Common.{decoded_text}
-use Rattle.text_lines.specs.declared.field_fault.LineKind.TheVariants.{Hex}
+use Rattle.text_lines.specs.declared.text_faults.LineKind.TheVariants.{Hex}
 use Rattle.command_parts.specs.Common.{writes, line_text}
 use Rattle.command_parts.specs.declared.stop_and_status.Refusal.TheVariants.{Line}
 use Rattle.command_parts.proofs.StopLaws.{refused-line}

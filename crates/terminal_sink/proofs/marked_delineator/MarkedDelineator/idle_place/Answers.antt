@@ -1,9 +1,9 @@
 -- Idle frames change no mark in SYNC, and a header is due in SYNC alone.
 use Rattle.std.proofs.Common.{◌≡◌, ℕ, true, false, refl, List, [], take, Option, Some, None, ◌∙◌, subst, IfSome}
 use Rattle.law_model.specs.Common.{core_header}
-use Rattle.gfp_delineate.specs.declared.area_receiver.Phase.{Phase}
-use Rattle.gfp_delineate.specs.declared.area_receiver.Phase.TheVariants.{Hunt, PresyncArea, PresyncHeader, SyncHeader, SyncArea}
-use Rattle.gfp_delineate.specs.declared.area_receiver.Phase.TheVariants.{SyncPassing}
+use Rattle.gfp_delineate.specs.declared.hunt_presync_sync.Phase.{Phase}
+use Rattle.gfp_delineate.specs.declared.hunt_presync_sync.Phase.TheVariants.{Hunt, PresyncArea, PresyncHeader, SyncHeader, SyncArea}
+use Rattle.gfp_delineate.specs.declared.hunt_presync_sync.Phase.TheVariants.{SyncPassing}
 use Rattle.gfp_delineate.specs.Areas.{header_begun_in}
 use Rattle.gfp_delineate.specs.Receiver as receiver
 use Rattle.gfp_delineate.specs.Repeated.{idles_from}

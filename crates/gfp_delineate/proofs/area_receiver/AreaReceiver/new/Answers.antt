@@ -1,7 +1,0 @@
--- No octet of the first segment has come.
-use Rattle.std.proofs.Common.{true, refl}
-use Rattle.gfp_delineate.proofs.Known.{IsAt-start}
-use Rattle.gfp_delineate.proofs.area_receiver.AreaReceiver.new.Goals as goal
-
-pub returns : goal.returns
-returns c = IsAt-start _ c.args.longest c.args.corrects true refl refl refl refl c.new.ensures

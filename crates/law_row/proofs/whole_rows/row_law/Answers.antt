@@ -1,0 +1,17 @@
+-- The rows of a session.
+use Rattle.law_row.proofs.RowLaws.{active_of-all}
+use Rattle.law_row.proofs.WholeLaws.{row-whole}
+use Rattle.law_row.proofs.DealtLaws.{joined-dealt, row-payload}
+use Rattle.law_row.proofs.whole_rows.row_law.Goals as goal
+
+pub returns-clause-active : goal.returns-clause-active
+returns-clause-active c = active_of-all
+
+pub returns-clause-whole : goal.returns-clause-whole
+returns-clause-whole c = row-whole
+
+pub returns-clause-joined : goal.returns-clause-joined
+returns-clause-joined c = joined-dealt
+
+pub returns-clause-payload : goal.returns-clause-payload
+returns-clause-payload c = row-payload

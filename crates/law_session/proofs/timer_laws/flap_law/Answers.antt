@@ -1,9 +1,0 @@
--- Out and back, in rows.
-use Rattle.law_session.proofs.TimerRows.{rows-out, rows-back}
-use Rattle.law_session.proofs.timer_laws.flap_law.Goals as goal
-
-pub returns-clause-out : goal.returns-clause-out
-returns-clause-out c = rows-out
-
-pub returns-clause-back : goal.returns-clause-back
-returns-clause-back c = rows-back

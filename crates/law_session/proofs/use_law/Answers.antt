@@ -1,9 +1,0 @@
--- How soon a line that is added is in use.
-use Rattle.law_session.proofs.UseTheorems.{undamaged, among_silent}
-use Rattle.law_session.proofs.use_law.Goals as goal
-
-pub returns-clause-undamaged : goal.returns-clause-undamaged
-returns-clause-undamaged c = undamaged
-
-pub returns-clause-others_silent : goal.returns-clause-others_silent
-returns-clause-others_silent c = among_silent

@@ -1,0 +1,36 @@
+//! Legs that meet what the laws ask, and worked walks.
+
+ghost use Rattle.std.specs.Prelude.{◌≡◌};
+ghost use Rattle.law_model.specs.Common.{IsSound, scenario_by, after};
+ghost use Rattle.law_session.specs.Use.{AddsUndamaged, AddsAmongSilent};
+ghost use Rattle.law_walk.specs.Delivered.{delivered_of};
+ghost use Rattle.law_walk.specs.Report.{report_of};
+ghost use Rattle.law_walk.specs.Worked.{worked_leg, three_landed, at_the_end, first_refusals, all_refusals};
+ghost use Rattle.law_walk.specs.Worked.{first_totals, all_totals, two_frames, worked_report, delivering_leg};
+ghost use Rattle.law_walk.specs.Worked.{one_frame, failing_leg, seen_rows, seen_whole, whole_rows, silent_leg};
+ghost use Rattle.law_walk.specs.Promise.{accepted_frames, ConfirmsTrue};
+ghost use Rattle.law_walk.specs.Landed.{refusals_of, totals_of};
+
+/// Legs that meet what is asked above. In one, whose only line fails, what is confirmed after each break
+/// is the place of a piece, and the line was added undamaged before that; in the other a line is added beside
+/// one of which nothing arrives.
+pub fn met_law()
+    ensures failing { IsSound failing_leg }
+    ensures starts { ConfirmsTrue failing_leg failing_leg.config.ticks }
+    ensures undamaged { AddsUndamaged (scenario_by failing_leg) 0 0 }
+    ensures silent { IsSound silent_leg }
+    ensures others_silent { AddsAmongSilent (scenario_by silent_leg) 1 1 }
+{}
+
+/// Worked legs, computed: what is refused, counted, accepted and reported; a frame that is delivered; and
+/// which rows a failure of three containers spoils.
+pub fn worked_law()
+    ensures first_refusals { refusals_of worked_leg three_landed ≡ first_refusals }
+    ensures first_totals { totals_of worked_leg three_landed ≡ first_totals }
+    ensures refusals { refusals_of worked_leg at_the_end ≡ all_refusals }
+    ensures totals { totals_of worked_leg at_the_end ≡ all_totals }
+    ensures accepted { accepted_frames worked_leg ≡ two_frames }
+    ensures report { report_of worked_leg at_the_end ≡ worked_report }
+    ensures delivered { delivered_of delivering_leg 41 ≡ one_frame }
+    ensures spoiled { whole_rows failing_leg seen_rows ≡ seen_whole }
+{}

@@ -1,8 +1,0 @@
--- The items passed are of the other kind.
-use Rattle.std.proofs.Common.{◌≡◌, ◌+◌, drop}
-use Rattle.terminal_group.specs.Place.{is_command, place_of}
-use Rattle.terminal_group.proofs.due_items.next_command.Given as goal
-
-abbrev pub invariant-loop-i : goal.invariant-loop-i
-invariant-loop-i l = l.i + place_of is_command 0 (drop l.i l.items) ≡ l.from + place_of is_command 0
-    (drop l.from l.items)

@@ -1,0 +1,25 @@
+-- The item here is of the kind, or is passed.
+use Rattle.std.proofs.Common.{◌≡◌, length, sym, ◌∙◌, arith}
+use Rattle.law_model.proofs.ListLaws.{at-index}
+use Rattle.terminal_group.specs.Place.{is_command}
+use Rattle.terminal_group.proofs.ItemLaws.{place-here, place-passed, place-none}
+use Rattle.terminal_group.proofs.landing_order.next_command.Goals as goal
+
+pub returns-then-is_command_item : goal.returns-then-is_command_item
+returns-then-is_command_item c =
+    let there = at-index c.args.items.now c.loop-i.i c.index-items-i.result c.loop-i-test.true c.index-items-i.is in
+    sym (place-here is_command c.args.items.now c.loop-i.i c.index-items-i.result there
+    (sym c.is_command_item.ensures ∙ c.if-is_command_item.true)) ∙ c.loop-i.invariant
+
+pub loop-i-preserved : goal.loop-i-preserved
+loop-i-preserved c =
+    let there = at-index c.args.items.now c.loop-i.i c.index-items-i.result c.loop-i-test.true c.index-items-i.is in
+    place-passed is_command c.args.items.now c.loop-i.i c.index-items-i.result there
+    (sym c.is_command_item.ensures ∙ c.if-is_command_item.false) ∙ c.loop-i.invariant
+
+pub returns : goal.returns
+returns c =
+    let past = c.loop-i-test.false in
+    let end = c.loop-i.auto.i-end c.requires in
+    let here : c.loop-i.i ≡ length c.args.items.now = omega (arith, past, end) in
+    sym here ∙ sym (place-none is_command c.args.items.now c.loop-i.i (omega (arith, here))) ∙ c.loop-i.invariant
