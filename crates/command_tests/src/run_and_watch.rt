@@ -17,7 +17,8 @@ fn refused_rows() -> &'static str {
     walk; => 2;;usage: vcat_run run WORKERS or watch WORKERS|\n\
     --help; => 2;;usage: vcat_run run WORKERS or watch WORKERS|\n\
     run 2;lines 1|ring 1| => 5;;fault: line 2: missing|help: the line delays has to stand here|\n\
-    run 2;lines 1|delays 0|ring 1|lag 1|ticks 20|fail 0 10 20 10| => 6;;fault: slip line 0 window 0|help: a slip of 10 needs a failure of at least 11 frames|"
+    run 2;lines 1|delays 0|ring 1|lag 1|ticks 20|fail 0 10 20 10| => 6;;fault: slip line 0 window 0|\
+        help: a slip of 10 needs a failure of at least 11 frames|"
 }
 
 /// Two lines, of which one leaves between two frames, and a command that is refused.
@@ -26,32 +27,47 @@ fn two_lines_row() -> &'static str {
     0+;got 07*64|got 09*70|refused 2 already in|total ticks 200 taken 200 frames 2 commands 3 refused 1 got 2|;"
 }
 
-/// Sessions whose alarms are told: one failure, one in which all containers but one vanish, two lines of which one slips in the midst and the other at its end,
+/// Sessions whose alarms are told: one failure, one in which all containers but one vanish, two lines of which one
+/// slips in the midst and the other at its end,
 /// and none at all.
 fn watched_rows() -> &'static str {
     "\
     watch 1;lines 1|delays 0|ring 64|lag 4|ticks 161|fail 0 100 101 0|add 0 0| => \
-    0+;total ticks 161 taken 161 frames 0 commands 1 refused 0 got 0|;alarm 0 100 fails|alarm 0 101 returns|alarm 0 161 ends|\n\
+    0+;total ticks 161 taken 161 frames 0 commands 1 refused 0 got 0|;alarm 0 100 fails|alarm 0 101 returns|\
+        alarm 0 161 ends|\n\
     watch 1;lines 1|delays 0|ring 40|lag 4|ticks 200|fail 0 100 140 39|add 0 0| => \
-    0+;total ticks 200 taken 200 frames 0 commands 1 refused 0 got 0|;alarm 0 100 fails|alarm 0 101 returns|alarm 0 161 ends|\n\
-    watch 3;lines 2|delays 0 3|ring 64|lag 4|ticks 200|fail 0 20 30 2|fail 1 0 4 0|fail 1 190 200 9|add 0 0|add 0 1|add 0 1| => \
+    0+;total ticks 200 taken 200 frames 0 commands 1 refused 0 got 0|;alarm 0 100 fails|alarm 0 101 returns|\
+        alarm 0 161 ends|\n\
+    watch 3;lines 2|delays 0 3|ring 64|lag 4|ticks 200|fail 0 20 30 2|fail 1 0 4 0|fail 1 190 200 9|add 0 0|add 0 1|\
+        add 0 1| => \
     0+;refused 2 already in|total ticks 200 taken 200 frames 0 commands 2 refused 1 got 0|;\
-    alarm 0 20 fails|alarm 0 28 returns|alarm 0 198 ends|alarm 1 0 fails|alarm 1 4 returns|alarm 1 190 fails|alarm 1 191 ends|\n\
+    alarm 0 20 fails|alarm 0 28 returns|alarm 0 198 ends|alarm 1 0 fails|alarm 1 4 returns|alarm 1 190 fails|\
+        alarm 1 191 ends|\n\
     watch 0; => 2;;usage: vcat_run run WORKERS or watch WORKERS|\n\
     watch 65; => 2;;usage: vcat_run run WORKERS or watch WORKERS|\n\
     watch; => 2;;usage: vcat_run run WORKERS or watch WORKERS|\n\
     watch 2;lines 1|ring 1| => 5;;fault: line 2: missing|help: the line delays has to stand here|"
 }
 
-/// Options: a member that goes out of use in a long failure, and one that is held in it; a line that fails at the start, is
+/// Options: a member that goes out of use in a long failure, and one that is held in it; a line that fails at the
+/// start, is
 /// restored too late, and is told of too late.
 fn option_rows() -> &'static str {
     "\
-    watch 3;lines 2|delays 0 3|ring 8|lag 2|ticks 1400|fail 1 1000 1300 0|add 0 0|add 0 1|frame 1150 07*64|frame 1200 07*64|frame 1210 07*64| => 0+;got 07*64|got 07*64|total ticks 1400 taken 1400 frames 3 commands 2 refused 0 got 2|;alarm 0 1400 ends|alarm 1 1000 fails|alarm 1 1300 returns|alarm 1 1400 ends|\n\
-    watch 3;lines 2|delays 0 3|ring 8|lag 2|ticks 1400|holdoff 30|fail 1 1000 1300 0|add 0 0|add 0 1|frame 1150 07*64|frame 1200 07*64|frame 1210 07*64| => 0+;total ticks 1400 taken 1400 frames 3 commands 2 refused 0 got 0|;alarm 0 1400 ends|alarm 1 1000 fails|alarm 1 1300 returns|alarm 1 1400 ends|\n\
-    run 2;lines 1|delays 0|ring 1|lag 1|ticks 300|fail 0 0 16 0|add 0 0|frame 0 00*64|frame 0 00*64|frame 0 00*64|frame 0 00*64| => 0+;got 00*64|got 00*64|got 00*64|total ticks 300 taken 300 frames 4 commands 1 refused 0 got 3|;\n\
-    run 2;lines 1|delays 0|ring 1|lag 1|ticks 300|restore 16|fail 0 0 16 0|add 0 0|frame 0 00*64|frame 0 00*64|frame 0 00*64|frame 0 00*64| => 0+;total ticks 300 taken 300 frames 4 commands 1 refused 0 got 0|;\n\
-    run 2;lines 1|delays 0|ring 1|lag 1|ticks 300|statuses 32|fail 0 0 16 0|add 0 0|frame 0 00*64|frame 0 00*64|frame 0 00*64|frame 0 00*64| => 0+;total ticks 300 taken 300 frames 4 commands 1 refused 0 got 0|;"
+    watch 3;lines 2|delays 0 3|ring 8|lag 2|ticks 1400|fail 1 1000 1300 0|add 0 0|add 0 1|frame 1150 07*64|\
+        frame 1200 07*64|frame 1210 07*64| => 0+;got 07*64|got 07*64|\
+        total ticks 1400 taken 1400 frames 3 commands 2 refused 0 got 2|;alarm 0 1400 ends|alarm 1 1000 fails|\
+        alarm 1 1300 returns|alarm 1 1400 ends|\n\
+    watch 3;lines 2|delays 0 3|ring 8|lag 2|ticks 1400|holdoff 30|fail 1 1000 1300 0|add 0 0|add 0 1|frame 1150 07*64|\
+        frame 1200 07*64|frame 1210 07*64| => 0+;total ticks 1400 taken 1400 frames 3 commands 2 refused 0 got 0|\
+        ;alarm 0 1400 ends|alarm 1 1000 fails|alarm 1 1300 returns|alarm 1 1400 ends|\n\
+    run 2;lines 1|delays 0|ring 1|lag 1|ticks 300|fail 0 0 16 0|add 0 0|frame 0 00*64|frame 0 00*64|frame 0 00*64|\
+        frame 0 00*64| => 0+;got 00*64|got 00*64|got 00*64|\
+        total ticks 300 taken 300 frames 4 commands 1 refused 0 got 3|;\n\
+    run 2;lines 1|delays 0|ring 1|lag 1|ticks 300|restore 16|fail 0 0 16 0|add 0 0|frame 0 00*64|frame 0 00*64|\
+        frame 0 00*64|frame 0 00*64| => 0+;total ticks 300 taken 300 frames 4 commands 1 refused 0 got 0|;\n\
+    run 2;lines 1|delays 0|ring 1|lag 1|ticks 300|statuses 32|fail 0 0 16 0|add 0 0|frame 0 00*64|frame 0 00*64|\
+        frame 0 00*64|frame 0 00*64| => 0+;total ticks 300 taken 300 frames 4 commands 1 refused 0 got 0|;"
 }
 
 /// Inputs that seven octets at a time are read in so many calls, and what is answered where no call fails. A
@@ -61,8 +77,12 @@ fn read_rows() -> &'static str {
     run 2;lines 3|delays 0 0 0|ring 1|lag 1|ticks 700|add 0 0|add 0 1|add 0 2|remove 600 1| => \
     13 TIMES 3;;fault: read failed| THEN 0+;total ticks 700 taken 700 frames 0 commands 4 refused 0 got 0|;\n\
     run 2; => 3;;fault: read failed| THEN 5;;fault: line 1: missing|help: the line lines has to stand here|\n\
-    run 2;x| => 2 TIMES 3;;fault: read failed| THEN 5;;fault: line 1: word|help: a line begins with one of container, lines, delays, ring, lag, ticks, holdoff, restore, statuses, fail, lost, frame, add, remove, client, operator, tick, carry, back, take, round, drain|\n\
-    run 2;lines 2|delays 0 63|ring 63|lag 5|ticks 1| => 7 TIMES 3;;fault: read failed| THEN 6;;fault: spread 63 0 0 63|help: delays from 0 to 63 and slips of 0 need a ring of at least 64|\n\
+    run 2;x| => 2 TIMES 3;;fault: read failed| THEN 5;;fault: line 1: word|\
+        help: a line begins with one of container, lines, delays, ring, lag, ticks, holdoff, restore, statuses, fail, \
+        lost, frame, add, remove, client, operator, tick, carry, back, take, round, drain|\n\
+    run 2;lines 2|delays 0 63|ring 63|lag 5|\
+        ticks 1| => 7 TIMES 3;;fault: read failed| THEN 6;;fault: spread 63 0 0 63|\
+        help: delays from 0 to 63 and slips of 0 need a ring of at least 64|\n\
     run; => 2;;usage: vcat_run run WORKERS or watch WORKERS|"
 }
 
@@ -71,13 +91,15 @@ fn read_rows() -> &'static str {
 /// lines whose output goes out at once.
 fn put_rows() -> &'static str {
     "\
-    run 2;lines 3|delays 0 0 0|ring 1|lag 1|ticks 700|add 0 0|add 0 1|add 0 2|remove 600 1|frame 0 07*9600|frame 0 08*9600|frame 0 09*9600| => \
+    run 2;lines 3|delays 0 0 0|ring 1|lag 1|ticks 700|add 0 0|add 0 1|add 0 2|remove 600 1|frame 0 07*9600|\
+        frame 0 08*9600|frame 0 09*9600| => \
     4+;;fault: write failed| THEN \
     4+;got 07*9600|;fault: write failed| THEN \
     4+;got 07*9600|got 08*9600|;fault: write failed| THEN \
     4+;got 07*9600|got 08*9600|got 09*9600|;fault: write failed| THEN \
     0+;got 07*9600|got 08*9600|got 09*9600|total ticks 700 taken 700 frames 3 commands 4 refused 0 got 3|;\n\
-    run 2;lines 2|delays 0 3|ring 64|lag 4|ticks 200|add 0 0|add 0 1|add 0 1|frame 60 07*64|remove 90 1|frame 150 09*70| => \
+    run 2;lines 2|delays 0 3|ring 64|lag 4|ticks 200|add 0 0|add 0 1|add 0 1|frame 60 07*64|remove 90 1|\
+        frame 150 09*70| => \
     4+;;fault: write failed|"
 }
 

@@ -8,8 +8,12 @@ use crate::try_rows::{Turns, try_rows_with};
 fn fault_rows() -> &'static str {
     "\
     |# x| => 5;;fault: line 3: missing|help: the line lines has to stand here|\n\
-    foo|lines 0 => 5;;fault: line 1: word|help: a line begins with one of container, lines, delays, ring, lag, ticks, holdoff, restore, statuses, fail, lost, frame, add, remove, client, operator, tick, carry, back, take, round, drain|\n\
-    lines 1|foo => 5;;fault: line 2: word|help: a line begins with one of container, lines, delays, ring, lag, ticks, holdoff, restore, statuses, fail, lost, frame, add, remove, client, operator, tick, carry, back, take, round, drain|\n\
+    foo|lines 0 => 5;;fault: line 1: word|\
+        help: a line begins with one of container, lines, delays, ring, lag, ticks, holdoff, restore, statuses, fail, \
+        lost, frame, add, remove, client, operator, tick, carry, back, take, round, drain|\n\
+    lines 1|foo => 5;;fault: line 2: word|\
+        help: a line begins with one of container, lines, delays, ring, lag, ticks, holdoff, restore, statuses, fail, \
+        lost, frame, add, remove, client, operator, tick, carry, back, take, round, drain|\n\
     lines 1|ring 1 => 5;;fault: line 2: missing|help: the line delays has to stand here|\n\
     lines 1|lines 1 => 5;;fault: line 2: missing|help: the line delays has to stand here|\n\
     lines 1|container vc3 => 5;;fault: line 2: missing|help: the line delays has to stand here|\n\
@@ -18,19 +22,30 @@ fn fault_rows() -> &'static str {
     #|lines 1|# x| => 5;;fault: line 4: missing|help: the line delays has to stand here|\n\
     lines 1|add 0 0 => 5;;fault: line 2: missing|help: the line delays has to stand here|\n\
     ring => 5;;fault: line 1: missing|help: the line lines has to stand here|\n\
-    lines 1|delays 0|ring 1|lag 1|ticks 9|ring 1 => 5;;fault: line 6: order|help: configuration stands before fail and lost|\n\
-    lines 1|delays 0|ring 1|lag 1|ticks 9|container vc3 => 5;;fault: line 6: order|help: configuration stands before fail and lost|\n\
-    lines 1|delays 0|ring 1|lag 1|ticks 9|add 0 0|fail => 5;;fault: line 7: order|help: fail and lost stands before frame, add and remove|\n\
-    lines 1|delays 0|ring 1|lag 1|ticks 9|tick 1|lost 0 1 => 5;;fault: line 7: order|help: fail and lost stands before event lines|\n\
-    lines 1|delays 0|ring 1|lag 1|ticks 9|drain|add 0 0 => 5;;fault: line 7: order|help: frame, add and remove stands before event lines|\n\
-    lines 1|delays 0|ring 1|lag 1|ticks 9|Add 0 0 => 5;;fault: line 6: word|help: a line begins with one of container, lines, delays, ring, lag, ticks, holdoff, restore, statuses, fail, lost, frame, add, remove, client, operator, tick, carry, back, take, round, drain|\n\
-    lines 1|delays 0|ring 1|lag 1|ticks 9|ticks9 => 5;;fault: line 6: word|help: a line begins with one of container, lines, delays, ring, lag, ticks, holdoff, restore, statuses, fail, lost, frame, add, remove, client, operator, tick, carry, back, take, round, drain|\n\
+    lines 1|delays 0|ring 1|lag 1|ticks 9|ring 1 => 5;;fault: line 6: order|\
+        help: configuration stands before fail and lost|\n\
+    lines 1|delays 0|ring 1|lag 1|ticks 9|container vc3 => 5;;fault: line 6: order|\
+        help: configuration stands before fail and lost|\n\
+    lines 1|delays 0|ring 1|lag 1|ticks 9|add 0 0|fail => 5;;fault: line 7: order|\
+        help: fail and lost stands before frame, add and remove|\n\
+    lines 1|delays 0|ring 1|lag 1|ticks 9|tick 1|lost 0 1 => 5;;fault: line 7: order|\
+        help: fail and lost stands before event lines|\n\
+    lines 1|delays 0|ring 1|lag 1|ticks 9|drain|add 0 0 => 5;;fault: line 7: order|\
+        help: frame, add and remove stands before event lines|\n\
+    lines 1|delays 0|ring 1|lag 1|ticks 9|Add 0 0 => 5;;fault: line 6: word|\
+        help: a line begins with one of container, lines, delays, ring, lag, ticks, holdoff, restore, statuses, fail, \
+        lost, frame, add, remove, client, operator, tick, carry, back, take, round, drain|\n\
+    lines 1|delays 0|ring 1|lag 1|ticks 9|ticks9 => 5;;fault: line 6: word|\
+        help: a line begins with one of container, lines, delays, ring, lag, ticks, holdoff, restore, statuses, fail, \
+        lost, frame, add, remove, client, operator, tick, carry, back, take, round, drain|\n\
     lines => 5;;fault: line 1: word|help: lines takes 1 words, and 0 follow|\n\
     lines x y => 5;;fault: line 1: word|help: lines takes 1 words, and 2 follow|\n\
     lines 2|delays 0 => 5;;fault: line 2: word|help: delays takes 2 words, and 1 follow|\n\
     lines 2|delays 0 0 0 => 5;;fault: line 2: word|help: delays takes 2 words, and 3 follow|\n\
-    lines 1|delays 0|ring 1|lag 1|ticks 9|fail 0 0 1 => 5;;fault: line 6: word|help: fail takes 4 words, and 3 follow|\n\
-    lines 1|delays 0|ring 1|lag 1|ticks 9|lost 0 1 2 => 5;;fault: line 6: word|help: lost takes 2 words, and 3 follow|\n\
+    lines 1|delays 0|ring 1|lag 1|ticks 9|fail 0 0 1 => 5;;fault: line 6: word|\
+        help: fail takes 4 words, and 3 follow|\n\
+    lines 1|delays 0|ring 1|lag 1|ticks 9|lost 0 1 2 => 5;;fault: line 6: word|\
+        help: lost takes 2 words, and 3 follow|\n\
     lines 1|delays 0|ring 1|lag 1|ticks 9|frame 0 => 5;;fault: line 6: word|help: frame takes 2 words, and 1 follow|\n\
     lines 1|delays 0|ring 1|lag 1|ticks 9|add 0 0 0 => 5;;fault: line 6: word|help: add takes 2 words, and 3 follow|\n\
     lines 1|delays 0|ring 1|lag 1|ticks 9|carry 0 => 5;;fault: line 6: word|help: carry takes 2 words, and 1 follow|\n\
@@ -50,56 +65,92 @@ fn fault_rows() -> &'static str {
     lines 1|delays 0|ring 1|lag 1|ticks 1000001 => 5;;fault: line 5: range|help: word 2 is from 1 to 1000000|\n\
     lines 1|delays 0|ring 1|lag 1|ticks 9|fail 1 0 1 0 => 5;;fault: line 6: range|help: word 2 is from 0 to 0|\n\
     lines 1|delays 0|ring 1|lag 1|ticks 9|fail 0 9999999999 9 x => 5;;fault: line 6: range|help: word 4 is at most 9|\n\
-    lines 1|delays 0|ring 1|lag 1|ticks 9|fail 0 99999999999 x 0 => 5;;fault: line 6: number|help: word 3 is a number of one to ten digits|\n\
+    lines 1|delays 0|ring 1|lag 1|ticks 9|fail 0 99999999999 x 0 => 5;;fault: line 6: number|\
+        help: word 3 is a number of one to ten digits|\n\
     lines 1|delays 0|ring 1|lag 1|ticks 9|fail 0 3 3 0 => 5;;fault: line 6: range|help: word 4 is from 4 to 9|\n\
     lines 1|delays 0|ring 1|lag 1|ticks 9|fail 0 0 10 0 => 5;;fault: line 6: range|help: word 4 is from 1 to 9|\n\
     lines 1|delays 0|ring 1|lag 1|ticks 9|fail 0 8 9 2048 => 5;;fault: line 6: range|help: word 5 is from 0 to 2047|\n\
-    lines 1|delays 0|ring 1|lag 1|ticks 9|fail 0 0 x 2048 => 5;;fault: line 6: number|help: word 4 is a number of one to ten digits|\n\
+    lines 1|delays 0|ring 1|lag 1|ticks 9|fail 0 0 x 2048 => 5;;fault: line 6: number|\
+        help: word 4 is a number of one to ten digits|\n\
     lines 1|delays 0|ring 1|lag 1|ticks 9|lost 5 5 => 5;;fault: line 6: range|help: word 3 is from 6 to 62500|\n\
     lines 1|delays 0|ring 1|lag 1|ticks 9|lost 0 62501 => 5;;fault: line 6: range|help: word 3 is from 1 to 62500|\n\
-    lines 1|delays 0|ring 1|lag 1|ticks 9|lost x 62501 => 5;;fault: line 6: number|help: word 2 is a number of one to ten digits|\n\
+    lines 1|delays 0|ring 1|lag 1|ticks 9|lost x 62501 => 5;;fault: line 6: number|\
+        help: word 2 is a number of one to ten digits|\n\
     lines 1|delays 0|ring 1|lag 1|ticks 9|frame 9 abc => 5;;fault: line 6: range|help: word 2 is from 0 to 8|\n\
-    lines 1|delays 0|ring 1|lag 1|ticks 9|frame 0 abc => 5;;fault: line 6: hex|help: word 3 is an even number of hexadecimal digits|\n\
-    lines 1|delays 0|ring 1|lag 1|ticks 9|frame 0 0g => 5;;fault: line 6: hex|help: word 3 is an even number of hexadecimal digits|\n\
-    lines 1|delays 0|ring 1|lag 1|ticks 9|frame 1 00|frame 0 0g => 5;;fault: line 7: hex|help: word 3 is an even number of hexadecimal digits|\n\
-    lines 1|delays 0|ring 1|lag 1|ticks 9|add x 256 => 5;;fault: line 6: number|help: word 2 is a number of one to ten digits|\n\
+    lines 1|delays 0|ring 1|lag 1|ticks 9|frame 0 abc => 5;;fault: line 6: hex|\
+        help: word 3 is an even number of hexadecimal digits|\n\
+    lines 1|delays 0|ring 1|lag 1|ticks 9|frame 0 0g => 5;;fault: line 6: hex|\
+        help: word 3 is an even number of hexadecimal digits|\n\
+    lines 1|delays 0|ring 1|lag 1|ticks 9|frame 1 00|frame 0 0g => 5;;fault: line 7: hex|\
+        help: word 3 is an even number of hexadecimal digits|\n\
+    lines 1|delays 0|ring 1|lag 1|ticks 9|add x 256 => 5;;fault: line 6: number|\
+        help: word 2 is a number of one to ten digits|\n\
     lines 1|delays 0|ring 1|lag 1|ticks 9|add 9 x => 5;;fault: line 6: range|help: word 2 is from 0 to 8|\n\
     lines 1|delays 0|ring 1|lag 1|ticks 9|add 0 256 => 5;;fault: line 6: range|help: word 3 is from 0 to 255|\n\
-    lines 1|delays 0|ring 1|lag 1|ticks 9|remove 0 0x => 5;;fault: line 6: number|help: word 3 is a number of one to ten digits|\n\
+    lines 1|delays 0|ring 1|lag 1|ticks 9|remove 0 0x => 5;;fault: line 6: number|\
+        help: word 3 is a number of one to ten digits|\n\
     lines 1|delays 0|ring 1|lag 1|ticks 9|client 0 => 5;;fault: line 6: range|help: word 2 is from 1 to 1000000|\n\
     lines 1|delays 0|ring 1|lag 1|ticks 9|take 1000001 => 5;;fault: line 6: range|help: word 2 is from 1 to 1000000|\n\
     lines 1|delays 0|ring 1|lag 1|ticks 9|carry 1 1 => 5;;fault: line 6: range|help: word 2 is from 0 to 0|\n\
     lines 1|delays 0|ring 1|lag 1|ticks 9|carry 0 0 => 5;;fault: line 6: range|help: word 3 is from 1 to 1000000|\n\
-    lines 1|delays 0|ring 1|lag 1|ticks 9|fail 0 3 5 0|fail 0 4 6 0 => 5;;fault: line 7: order|help: the failure before ends at 5|\n\
-    lines 1|delays 0|ring 1|lag 1|ticks 9|fail 0 3 5 0|fail 0 5 6 0|lost 1 3|lost 3 4|lost 3 5 => 5;;fault: line 10: order|help: the loss before ends at 4|\n\
-    lines 1|delays 0|ring 1|lag 1|ticks 9|add 5 0|add 4 0 => 5;;fault: line 7: order|help: the command before is due at 5|\n\
-    lines 1|delays 0|ring 1|lag 1|ticks 9|add 5 0|remove 4 0 => 5;;fault: line 7: order|help: the command before is due at 5|\n\
+    lines 1|delays 0|ring 1|lag 1|ticks 9|fail 0 3 5 0|fail 0 4 6 0 => 5;;fault: line 7: order|\
+        help: the failure before ends at 5|\n\
+    lines 1|delays 0|ring 1|lag 1|ticks 9|fail 0 3 5 0|fail 0 5 6 0|lost 1 3|lost 3 4|\
+        lost 3 5 => 5;;fault: line 10: order|help: the loss before ends at 4|\n\
+    lines 1|delays 0|ring 1|lag 1|ticks 9|add 5 0|add 4 0 => 5;;fault: line 7: order|\
+        help: the command before is due at 5|\n\
+    lines 1|delays 0|ring 1|lag 1|ticks 9|add 5 0|remove 4 0 => 5;;fault: line 7: order|\
+        help: the command before is due at 5|\n\
     lines 1|delays 0|ring 1|lag 1|ticks 9|add 5 0|add 4 256 => 5;;fault: line 7: range|help: word 3 is from 0 to 255|\n\
-    lines 1|delays 0|ring 1|lag 1|ticks 9|frame 5 00|frame 4 00 => 5;;fault: line 7: order|help: the frame before is due at 5|\n\
-    lines 1|delays 0|ring 1|lag 1|ticks 9|add 5 0|frame 4 00|add 5 0|frame 3 00 => 5;;fault: line 9: order|help: the frame before is due at 4|\n\
+    lines 1|delays 0|ring 1|lag 1|ticks 9|frame 5 00|frame 4 00 => 5;;fault: line 7: order|\
+        help: the frame before is due at 5|\n\
+    lines 1|delays 0|ring 1|lag 1|ticks 9|add 5 0|frame 4 00|add 5 0|frame 3 00 => 5;;fault: line 9: order|\
+        help: the frame before is due at 4|\n\
     lines 1\r\r| => 5;;fault: line 1: number|help: word 2 is a number of one to ten digits|\n\
     lines 1\r => 5;;fault: line 1: number|help: word 2 is a number of one to ten digits|\n\
-    #\r|\t| => 5;;fault: line 2: word|help: a line begins with one of container, lines, delays, ring, lag, ticks, holdoff, restore, statuses, fail, lost, frame, add, remove, client, operator, tick, carry, back, take, round, drain|\n\
-    lines\t1 => 5;;fault: line 1: word|help: a line begins with one of container, lines, delays, ring, lag, ticks, holdoff, restore, statuses, fail, lost, frame, add, remove, client, operator, tick, carry, back, take, round, drain|\n\
-    lines 1|delays 0|ring 1|lag 1|ticks 9|add 0 0# => 5;;fault: line 6: number|help: word 3 is a number of one to ten digits|\n\
+    #\r|\t| => 5;;fault: line 2: word|help: a line begins with one of container, lines, delays, ring, lag, ticks, \
+        holdoff, restore, statuses, fail, lost, frame, add, remove, client, operator, tick, carry, back, take, round, \
+        drain|\n\
+    lines\t1 => 5;;fault: line 1: word|help: a line begins with one of container, lines, delays, ring, lag, ticks, \
+        holdoff, restore, statuses, fail, lost, frame, add, remove, client, operator, tick, carry, back, take, round, \
+        drain|\n\
+    lines 1|delays 0|ring 1|lag 1|ticks 9|add 0 0# => 5;;fault: line 6: number|\
+        help: word 3 is a number of one to ten digits|\n\
     lines 129|foo => 5;;fault: line 1: range|help: word 2 is from 1 to 128|\n\
-    lines 2|delays 0 63|ring 63|lag 5|ticks 9 => 6;;fault: spread 63 0 0 63|help: delays from 0 to 63 and slips of 0 need a ring of at least 64|\n\
-    lines 2|delays 0 63|ring 64|lag 4|ticks 9 => 6;;fault: lag 4 least 5|help: a delay of 63 and slips of 0 need a lag of at least 5|\n\
-    lines 2|delays 0 64|ring 65|lag 4|ticks 9 => 6;;fault: lag 4 least 5|help: a delay of 64 and slips of 0 need a lag of at least 5|\n\
-    lines 2|delays 0 65|ring 66|lag 5|ticks 9 => 6;;fault: lag 5 least 6|help: a delay of 65 and slips of 0 need a lag of at least 6|\n\
-    lines 2|delays 0 63|ring 63|lag 4|ticks 9 => 6;;fault: spread 63 0 0 63|help: delays from 0 to 63 and slips of 0 need a ring of at least 64|\n\
-    lines 2|delays 0 63|ring 64|lag 5|ticks 100|fail 0 10 20 10 => 6;;fault: slip line 0 window 0|help: a slip of 10 needs a failure of at least 11 frames|\n\
-    lines 2|delays 0 63|ring 64|lag 5|ticks 100|fail 1 10 20 9|fail 1 20 22 2|fail 1 30 31 1 => 6;;fault: slip line 1 window 1|help: a slip of 2 needs a failure of at least 3 frames|\n\
-    lines 2|delays 0 63|ring 64|lag 5|ticks 100|fail 1 0 1 1|fail 0 0 1 0|fail 0 1 2 1 => 6;;fault: slip line 0 window 1|help: a slip of 1 needs a failure of at least 2 frames|\n\
-    lines 2|delays 0 63|ring 64|lag 5|ticks 100|fail 1 10 20 9 => 6;;fault: spread 63 0 9 64|help: delays from 0 to 63 and slips of 9 need a ring of at least 73|\n\
-    lines 1|delays 3|ring 8|lag 2|ticks 100|fail 0 10 20 4|fail 0 36 40 3 => 0+;total ticks 100 taken 100 frames 0 commands 0 refused 0 got 0|;\n\
-    lines 1|delays 3|ring 7|lag 2|ticks 100|fail 0 10 20 4|fail 0 36 40 3 => 6;;fault: spread 3 3 7 7|help: delays from 3 to 3 and slips of 7 need a ring of at least 8|\n\
-    lines 1|delays 3|ring 7|lag 2|ticks 100|fail 0 10 20 4|fail 0 37 40 2 => 0+;total ticks 100 taken 100 frames 0 commands 0 refused 0 got 0|;\n\
-    lines 1|delays 3|ring 8|lag 2|ticks 200|fail 0 100 110 3|fail 0 120 130 4 => 0+;total ticks 200 taken 200 frames 0 commands 0 refused 0 got 0|;\n\
-    lines 1|delays 3|ring 7|lag 2|ticks 200|fail 0 100 110 3|fail 0 120 130 4 => 6;;fault: spread 3 3 7 7|help: delays from 3 to 3 and slips of 7 need a ring of at least 8|\n\
-    lines 1|delays 3|ring 5|lag 2|ticks 200|fail 0 100 110 3|fail 0 127 137 4 => 0+;total ticks 200 taken 200 frames 0 commands 0 refused 0 got 0|;\n\
-    lines 1|delays 3|ring 4|lag 2|ticks 200|fail 0 100 110 3|fail 0 127 137 4 => 6;;fault: spread 3 3 4 4|help: delays from 3 to 3 and slips of 4 need a ring of at least 5|\n\
-    lines 1|delays 14|ring 5|lag 2|ticks 100|fail 0 10 20 3 => 6;;fault: lag 2 least 3|help: a delay of 14 and slips of 3 need a lag of at least 3|"
+    lines 2|delays 0 63|ring 63|lag 5|ticks 9 => 6;;fault: spread 63 0 0 63|\
+        help: delays from 0 to 63 and slips of 0 need a ring of at least 64|\n\
+    lines 2|delays 0 63|ring 64|lag 4|ticks 9 => 6;;fault: lag 4 least 5|\
+        help: a delay of 63 and slips of 0 need a lag of at least 5|\n\
+    lines 2|delays 0 64|ring 65|lag 4|ticks 9 => 6;;fault: lag 4 least 5|\
+        help: a delay of 64 and slips of 0 need a lag of at least 5|\n\
+    lines 2|delays 0 65|ring 66|lag 5|ticks 9 => 6;;fault: lag 5 least 6|\
+        help: a delay of 65 and slips of 0 need a lag of at least 6|\n\
+    lines 2|delays 0 63|ring 63|lag 4|ticks 9 => 6;;fault: spread 63 0 0 63|\
+        help: delays from 0 to 63 and slips of 0 need a ring of at least 64|\n\
+    lines 2|delays 0 63|ring 64|lag 5|ticks 100|fail 0 10 20 10 => 6;;fault: slip line 0 window 0|\
+        help: a slip of 10 needs a failure of at least 11 frames|\n\
+    lines 2|delays 0 63|ring 64|lag 5|ticks 100|fail 1 10 20 9|fail 1 20 22 2|\
+        fail 1 30 31 1 => 6;;fault: slip line 1 window 1|help: a slip of 2 needs a failure of at least 3 frames|\n\
+    lines 2|delays 0 63|ring 64|lag 5|ticks 100|fail 1 0 1 1|fail 0 0 1 0|\
+        fail 0 1 2 1 => 6;;fault: slip line 0 window 1|help: a slip of 1 needs a failure of at least 2 frames|\n\
+    lines 2|delays 0 63|ring 64|lag 5|ticks 100|fail 1 10 20 9 => 6;;fault: spread 63 0 9 64|\
+        help: delays from 0 to 63 and slips of 9 need a ring of at least 73|\n\
+    lines 1|delays 3|ring 8|lag 2|ticks 100|fail 0 10 20 4|\
+        fail 0 36 40 3 => 0+;total ticks 100 taken 100 frames 0 commands 0 refused 0 got 0|;\n\
+    lines 1|delays 3|ring 7|lag 2|ticks 100|fail 0 10 20 4|fail 0 36 40 3 => 6;;fault: spread 3 3 7 7|\
+        help: delays from 3 to 3 and slips of 7 need a ring of at least 8|\n\
+    lines 1|delays 3|ring 7|lag 2|ticks 100|fail 0 10 20 4|\
+        fail 0 37 40 2 => 0+;total ticks 100 taken 100 frames 0 commands 0 refused 0 got 0|;\n\
+    lines 1|delays 3|ring 8|lag 2|ticks 200|fail 0 100 110 3|\
+        fail 0 120 130 4 => 0+;total ticks 200 taken 200 frames 0 commands 0 refused 0 got 0|;\n\
+    lines 1|delays 3|ring 7|lag 2|ticks 200|fail 0 100 110 3|fail 0 120 130 4 => 6;;fault: spread 3 3 7 7|\
+        help: delays from 3 to 3 and slips of 7 need a ring of at least 8|\n\
+    lines 1|delays 3|ring 5|lag 2|ticks 200|fail 0 100 110 3|\
+        fail 0 127 137 4 => 0+;total ticks 200 taken 200 frames 0 commands 0 refused 0 got 0|;\n\
+    lines 1|delays 3|ring 4|lag 2|ticks 200|fail 0 100 110 3|fail 0 127 137 4 => 6;;fault: spread 3 3 4 4|\
+        help: delays from 3 to 3 and slips of 4 need a ring of at least 5|\n\
+    lines 1|delays 14|ring 5|lag 2|ticks 100|fail 0 10 20 3 => 6;;fault: lag 2 least 3|\
+        help: a delay of 14 and slips of 3 need a lag of at least 3|"
 }
 
 /// Frames of as many octets as a line of a script may have, and of one more; and one digit more.
@@ -107,8 +158,10 @@ fn limit_rows() -> &'static str {
     "\
     lines 1|delays 0|ring 1|lag 1|ticks 9|frame 0 77*65535 => \
     0+;refused 0 length 65535|total ticks 9 taken 9 frames 0 commands 0 refused 1 got 0|;\n\
-    lines 1|delays 0|ring 1|lag 1|ticks 9|frame 0 77*65536 => 5;;fault: line 6: range|help: word 3 has 1 to 65535 octets|\n\
-    lines 1|delays 0|ring 1|lag 1|ticks 9|frame 0 777*65536 => 5;;fault: line 6: hex|help: word 3 is an even number of hexadecimal digits|"
+    lines 1|delays 0|ring 1|lag 1|ticks 9|frame 0 77*65536 => 5;;fault: line 6: range|\
+        help: word 3 has 1 to 65535 octets|\n\
+    lines 1|delays 0|ring 1|lag 1|ticks 9|frame 0 777*65536 => 5;;fault: line 6: hex|\
+        help: word 3 is an even number of hexadecimal digits|"
 }
 
 /// In turn: one member that carries payload, and a refusal of each kind but those of full queues; two members
