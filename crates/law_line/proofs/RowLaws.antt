@@ -1,19 +1,21 @@
 -- Packets and rows that are decided: which packets are read, and that more cells change nothing.
 use Rattle.std.proofs.Common.{◌≡◌, ℕ, suc, ◌+◌, ◌-◌, ◌*◌, ◌/◌, ◌≤◌, nat_lt, Bool, true, false, inl, inr, List, [], ◌∷◌}
 use Rattle.std.proofs.Common.{◌++◌, map, length, slice_get, Option, Some, None, refl, sym, ◌∙◌, ap, ap₂, arith, IsSome}
-use Rattle.std.proofs.Common.{if◌then◌else◌, ◌==◌, option_map, ltb-false}
+use Rattle.std.proofs.Common.{if◌then◌else◌, option_map, ltb-false}
+use Rattle.std.specs.List.{range_with_len}
 use Rattle.std.proofs.lemmas.Bool.{cases_Bool}
 use Rattle.std.proofs.lemmas.Option.{slice_get_past}
 use Rattle.law_model.specs.Common.{Container, Cell, LineLock, reading_of, verdict_over, verdict_or, verdict}
-use Rattle.law_model.specs.Common.{read_packet, read_packets, governing, active_of, container_in, container_on}
-use Rattle.law_model.specs.Common.{with_first, containers_at, carried_row, row_under, leader, return_of, is_readable}
+use Rattle.law_model.specs.Common.{read_packet, read_packets, carriers_of, carriers_at, container_in}
+use Rattle.law_model.specs.Common.{container_on, with_first, containers_at, carried_row, return_of, is_readable}
 use Rattle.law_model.specs.Common.{sent_nibbles, read_of}
 use Rattle.law_model.specs.declared.control_packet.Packet.{Packet}
 use Rattle.law_model.specs.rows.Rows.{packet_in, row_by}
 use Rattle.law_model.specs.members.Damage.{carried}
 use Rattle.std.specs.Result.{result_ok}
 use Rattle.law_line.specs.Numbering.{line_cells, AreRead}
-use Rattle.law_line.specs.StableRows.{IsLonger, AreDecidedAt, PacketsStay, GoverningStay, RowsStay, ReturnsStay}
+use Rattle.law_line.specs.StableRows.{IsLonger, AreDecidedAt, PacketsStay, GoverningStay, CarriersStay, RowsStay}
+use Rattle.law_line.specs.StableRows.{ReturnsStay}
 use Rattle.law_model.proofs.ListLaws.{none-beyond, is-some, map-same_range}
 use Rattle.law_line.proofs.StableLaws.{verdict-stays}
 use Rattle.law_line.proofs.OctetLaws.{octets_stay, are_readable}
@@ -84,6 +86,17 @@ governing_stay cells longer t are decided =
           (decided-before cells (16 * ((t - 24) / 16) + 23) t (omega arith) decided))
     ]
 
+-- ---- carriers
+rows-to-stay : (cells longer : List (List Cell)) (k : ℕ) → IsLonger cells longer → AreDecidedAt cells (16 * k + 23) →
+    map (read_packets longer) (range_with_len 0 (k + 1)) ≡ map (read_packets cells) (range_with_len 0 (k + 1))
+rows-to-stay cells longer k are decided =
+    map-same_range (read_packets longer) (read_packets cells) 0 (k + 1)
+    (λ j low. read-stays cells longer j are (decided-before cells (16 * j + 23) (16 * k + 23) (omega arith) decided))
+
+pub carriers_stay : CarriersStay
+carriers_stay options cells longer k are decided =
+    ap (λ rows. carriers_of options rows k) (rows-to-stay cells longer k are decided)
+
 -- ---- rows
 container-stays : (cells longer : List (List Cell)) (line t : ℕ) (own : Option (List Cell)) →
     slice_get cells line ≡ own → IsLonger cells longer → AreDecidedAt cells t →
@@ -103,28 +116,27 @@ containers-stay cells longer t (line ∷ lines) are decided =
     ap₂ with_first (container-stays cells longer line t (slice_get cells line) refl are decided)
     (containers-stay cells longer t lines are decided)
 
-row-stays : (first : Option Packet) (lines : List ℕ) (size : ℕ) (cells longer : List (List Cell)) (t : ℕ) →
-    IsLonger cells longer → AreDecidedAt cells t → row_by first lines size longer t ≡ row_by first lines size cells t
-row-stays None lines size cells longer t are decided = refl
-row-stays (Some packet) lines size cells longer t are decided =
-    ap (λ containers. if length lines == packet.act then option_map (λ given. carried_row given size) containers
-    else None) (containers-stay cells longer t lines are decided)
+row-stays : (lines : Option (List ℕ)) (size : ℕ) (cells longer : List (List Cell)) (t : ℕ) → IsLonger cells longer →
+    AreDecidedAt cells t → row_by lines size longer t ≡ row_by lines size cells t
+row-stays None size cells longer t are decided = refl
+row-stays (Some lines) size cells longer t are decided =
+    ap (λ containers. option_map (λ given. carried_row given size) containers)
+    (containers-stay cells longer t lines are decided)
 
 pub rows_stay : RowsStay
-rows_stay size cells longer t are decided =
+rows_stay options size cells longer t are decided =
     elim (cases_Bool (nat_lt t 24)) [
       | inl early ↦ rw early refl
       | inr late ↦
-          let packets = governing cells t in
-          let same : governing longer t ≡ governing cells t = governing_stay cells longer t are decided in
+          let high = ltb-false t 24 late in
+          let k : ℕ = (t - 24) / 16 in
           ap (λ row. if nat_lt t 24 then Some [] else row)
-          (ap (λ packets. row_under packets size longer t) same
-          ∙ row-stays (leader packets) (active_of packets) size cells longer t are decided)
+          (ap (λ lines. row_by lines size longer t)
+          (carriers_stay options cells longer k are (decided-before cells (16 * k + 23) t (omega arith) decided))
+          ∙ row-stays (carriers_at options cells k) size cells longer t are decided)
     ]
 
 -- ---- return packets
 pub returns_stay : ReturnsStay
 returns_stay options cells longer k are decided =
-    ap (λ rows. return_of options rows k)
-    (map-same_range (read_packets longer) (read_packets cells) 0 (k + 1)
-    (λ j low. read-stays cells longer j are (decided-before cells (16 * j + 23) (16 * k + 23) (omega arith) decided)))
+    ap (λ rows. return_of options rows k) (rows-to-stay cells longer k are decided)

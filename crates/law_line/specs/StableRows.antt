@@ -1,6 +1,6 @@
 -- What is decided of the rows of a group stays decided.
 use Rattle.std.specs.Prelude.{◌≡◌, ℕ, ◌+◌, ◌*◌, List, ◌++◌, length, slice_get, Some, IsSome}
-use Rattle.law_model.specs.Common.{Cell, verdict, read_packet, governing, row_at, return_at}
+use Rattle.law_model.specs.Common.{Cell, verdict, read_packet, governing, carriers_at, row_at, return_at}
 use Rattle.law_model.specs.declared.script_types.Options.{Options}
 
 -- each line has its cells, and maybe more after them
@@ -24,8 +24,14 @@ GoverningStay = (cells longer : List (List Cell)) (t : ℕ) → IsLonger cells l
     governing longer t ≡ governing cells t
 
 abbrev pub RowsStay : Type 0
-RowsStay = (size : ℕ) (cells longer : List (List Cell)) (t : ℕ) → IsLonger cells longer → AreDecidedAt cells t →
-    row_at size longer t ≡ row_at size cells t
+RowsStay = (options : Options) (size : ℕ) (cells longer : List (List Cell)) (t : ℕ) → IsLonger cells longer →
+    AreDecidedAt cells t → row_at options size longer t ≡ row_at options size cells t
+
+-- nor of which lines carry payload
+abbrev pub CarriersStay : Type 0
+CarriersStay = (options : Options) (cells longer : List (List Cell)) (k : ℕ) → IsLonger cells longer →
+    AreDecidedAt cells (16 * k + 23) →
+    carriers_at options longer k ≡ carriers_at options cells k
 
 -- nor of a return packet
 abbrev pub ReturnsStay : Type 0

@@ -11,7 +11,7 @@ ghost use Rattle.law_line.specs.Numbering.{AreRead};
 ghost use Rattle.law_line.specs.Wording.{IsWorded, IsOnlyCount, AreWhole, AreDecided, EndDecides};
 ghost use Rattle.law_line.specs.Sights.{AreAtSights, AreLockingSights, AreUnknownSights};
 ghost use Rattle.law_line.specs.Stable.{VerdictsStay, OctetsStay, CellsStay};
-ghost use Rattle.law_line.specs.StableRows.{PacketsStay, GoverningStay, RowsStay, ReturnsStay};
+ghost use Rattle.law_line.specs.StableRows.{PacketsStay, GoverningStay, CarriersStay, RowsStay, ReturnsStay};
 ghost use Rattle.law_line.specs.Worked.{IsMet, AreSummed, AreSeventeen};
 
 /// The cells of a line with windows of failures, whose slip is below 4,096, have the numbers of its containers.
@@ -48,6 +48,7 @@ pub fn stable_law()
     ensures cells { CellsStay }
     ensures packets { PacketsStay }
     ensures governing { GoverningStay }
+    ensures carriers { CarriersStay }
     ensures rows { RowsStay }
     ensures returns { ReturnsStay }
 {}

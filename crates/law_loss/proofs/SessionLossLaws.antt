@@ -1,6 +1,6 @@
 -- The laws of losses in a session: its pieces may be sent, so the frames that are delivered are those that are carried
 -- and aren't lost.
-use Rattle.std.proofs.Common.{◌≡◌, ℕ, zero, suc, ◌+◌, ◌-◌, ◌*◌, ◌/◌, ◌<◌, ◌≤◌, ◌^◌, ◌||◌, ◌&&◌, nat_lt, nat_le, Bool}
+use Rattle.std.proofs.Common.{◌≡◌, ℕ, zero, suc, ◌+◌, ◌-◌, ◌*◌, ◌/◌, ◌<◌, ◌≤◌, ◌^◌, ◌||◌, nat_lt, nat_le, Bool}
 use Rattle.std.proofs.Common.{true, inl, inr, List, [], ◌∷◌, ◌++◌, map, filter, length, take, All, Option, Some, None}
 use Rattle.std.proofs.Common.{slice_index_or, refl, sym, ◌∙◌, ap, ap₂, subst, arith}
 use Rattle.std.specs.List.{list_any, list_all}
@@ -158,11 +158,12 @@ undamaged-whole scenario cells t undamaged =
           let none = undamaged.none in
           let high = ltb-false t 24 late in
           let heard : is_heard scenario k ≡ true = heard-none scenario.windows k undamaged.some_line none in
-          let each : (line : ℕ) → (is_read scenario line k && is_good (carried_by scenario line) t) ≡ true =
-          λ line. ap₂ (λ a b. a && b) (read-none (slice_index_or scenario.windows line []) k
-          (windows-none scenario.windows none line)) (good-none scenario line t none high) in
-          rw (late, heard) (all-true (λ line. is_read scenario line k && is_good (carried_by scenario line) t)
-          (active (table_of scenario cells k)) each)
+          let lines = active (table_of scenario cells k) in
+          let read = all-true (λ line. is_read scenario line k) lines
+          (λ line. read-none (slice_index_or scenario.windows line []) k (windows-none scenario.windows none line)) in
+          let good = all-true (λ line. is_good (carried_by scenario line) t) lines
+          (λ line. good-none scenario line t none high) in
+          rw (late, heard, read, good) refl
     ]
 
 -- rows are whole by their numbers

@@ -68,13 +68,17 @@ pub use Rattle.law_model.specs.packets.Telling.{mst_by, passed_on, sent_packet, 
 pub use Rattle.law_model.specs.packets.Told.{oks_in, packet_read, told_by, told_in}
 pub use Rattle.law_model.specs.rows.Interleave.{octets_at, parts_of}
 unfoldable pub use Rattle.law_model.specs.rows.Interleave.{octets_from, part_of}
-pub use Rattle.law_model.specs.rows.Rows.{active_of, carried_row, container_in, container_on, containers_at, first_open}
-pub use Rattle.law_model.specs.rows.Rows.{governing, has, is_carrying, lines_at, read_packet, read_packets, return_at}
-pub use Rattle.law_model.specs.rows.Rows.{row_at, row_under, with_first}
-unfoldable pub use Rattle.law_model.specs.rows.Rows.{active_from}
+pub use Rattle.law_model.specs.rows.Carriers.{active_of, are_worded, carriers_by, carriers_of, has, in_norm, inferred}
+pub use Rattle.law_model.specs.rows.Carriers.{is_carrying, is_silent, last_packet, lines_at, packet_of_last, says_member}
+pub use Rattle.law_model.specs.rows.Carriers.{supposed, supposed_row}
+unfoldable pub use Rattle.law_model.specs.rows.Carriers.{active_from}
+pub use Rattle.law_model.specs.rows.Rows.{carried_row, carriers_at, container_in, container_on, containers_at, first_open}
+pub use Rattle.law_model.specs.rows.Rows.{governing, read_packet, read_packets, return_at, row_at, with_first}
 pub use Rattle.law_model.specs.rows.Sent.{active_at, container_of, containers_of, frame_of, nibble_at, nibble_in}
 pub use Rattle.law_model.specs.rows.Sent.{payload_by, payload_on, rank_of}
-pub use Rattle.law_model.specs.rows.SessionRows.{is_whole_row, is_whole_under, packet_if, packets_from, packets_of}
+pub use Rattle.law_model.specs.rows.SessionRows.{are_inferred, are_known, is_inferred, is_known, is_silent_line}
+pub use Rattle.law_model.specs.rows.SessionRows.{is_whole_row, is_whole_under, known_lines, packet_if, packets_from}
+pub use Rattle.law_model.specs.rows.SessionRows.{packets_of, was_member}
 unfoldable pub use Rattle.law_model.specs.rows.SessionStream.{rows_of}
 pub use Rattle.law_model.specs.session.Counts.{Counts, Due, LineCounts, LinePath, Plan, Popped, Step, accept, begin}
 pub use Rattle.law_model.specs.session.Counts.{bound, carry, carry_at, carry_on, command, command_due, due_of, dues_of}

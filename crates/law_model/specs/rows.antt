@@ -1,3 +1,4 @@
+pub mod Carriers
 pub mod Rows
 pub mod SessionRows
 pub mod Sent

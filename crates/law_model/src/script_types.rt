@@ -103,10 +103,14 @@ impl Model for EventList {
     ghost view = { λ events. events.0.items };
 }
 
-/// When a member goes out of use and comes back, and how many return packets tell all statuses: what the options of a
-/// script set. Timers are counted in packets of 16 frames, so in 2 ms.
+/// Whether the sink goes on without some control packets, when a member goes out of use and comes back, and how many
+/// return packets tell all statuses: what the options of a script set. Timers are counted in packets of 16 frames, so
+/// in 2 ms.
 #[derive(Clone, Copy, Debug, PartialEq, Eq)]
 pub struct Options {
+    /// Where a packet of a line that carries payload can't be read, the sink goes on if what each line said last and
+    /// the number of active members leave one answer to which lines carry payload. Else it stops.
+    pub infers: bool,
     /// The hold-off, up to 5,000 packets: a line that is up goes down only with one more packet in turn than this
     /// that couldn't be read.
     pub holdoff: u16,
@@ -117,12 +121,14 @@ pub struct Options {
     pub statuses: u8,
 }
 
-/// The options of a script without option lines: no timer runs, and all statuses are told by 16 return packets.
+/// The options of a script without option lines: the sink stops, no timer runs, and all statuses are told by 16 return
+/// packets.
 impl Default for Options {
     ghost is_default = { λ options. options ≡ default_options };
 
     fn default() -> Options {
         Options {
+            infers: false,
             holdoff: 0,
             restore: 0,
             statuses: 16,

@@ -12,7 +12,7 @@ use Rattle.law_model.specs.declared.control_packet.Packet.{Packet}
 use Rattle.law_model.specs.declared.script_types.Script.{Script}
 use Rattle.law_model.proofs.PacketLaws.{bit_nibble-bit}
 use Rattle.law_model.specs.session.Scenario.{packets_in}
-use Rattle.law_row.proofs.WholeLaws.{heard-any}
+use Rattle.law_row.proofs.RowLaws.{heard-any}
 use Rattle.law_pair.specs.Common.{way_telling, said_of, way_tells, way_of}
 use Rattle.law_pair.proofs.TellingLaws.{telling-packet, telling-cells}
 use Rattle.law_pair.proofs.WayLaws.{way-lost}

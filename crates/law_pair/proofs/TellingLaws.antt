@@ -1,15 +1,15 @@
 -- A session doesn't depend on what its packets tell.
-use Rattle.std.proofs.Common.{◌≡◌, ℕ, zero, suc, ◌+◌, ◌-◌, ◌*◌, ◌/◌, ◌%◌, ◌==◌, nat_lt, ◌&&◌, Bool, true, false}
+use Rattle.std.proofs.Common.{◌≡◌, ℕ, zero, suc, ◌+◌, ◌-◌, ◌*◌, ◌/◌, ◌%◌, ◌==◌, nat_lt, ◌&&◌, ◌||◌, not, Bool, true}
 use Rattle.std.proofs.Common.{if◌then◌else◌, List, [], ◌∷◌, ◌++◌, map, length, take, drop, slice_get, Option, Some}
-use Rattle.std.proofs.Common.{None, refl, ◌∙◌, ap}
+use Rattle.std.proofs.Common.{None, is_some, refl, ◌∙◌, ap}
 use Rattle.std.specs.List.{list_any, list_all, range_with_len}
 use Rattle.std.proofs.Math.Path.{fun_ext}
 use Rattle.law_model.specs.Common.{Scenario, orders_at, carried_by, is_read, is_heard, is_lost, is_good, stream_of}
 use Rattle.law_model.specs.Common.{Table, Told, active, Source, asked_all, decide, cell_at, after, table_of}
-use Rattle.law_model.specs.Common.{said_before, said, is_line, is_line_up, last_read, word_by, stands_at, group_of}
-use Rattle.law_model.specs.Common.{status, return_packet, return_cell, cells_before, Stream, width}
+use Rattle.law_model.specs.Common.{said_before, said, is_line, is_line_up, last_read, word_by, word, stands_at}
+use Rattle.law_model.specs.Common.{group_of, status, return_packet, return_cell, cells_before, Stream, width}
 use Rattle.law_model.specs.Common.{place_of, stream_before, payload_of, active_at, payload_on, container_of}
-use Rattle.law_model.specs.Common.{is_whole_row, rows_of}
+use Rattle.law_model.specs.Common.{was_member, is_silent_line, is_inferred, are_inferred, is_whole_row, rows_of}
 use Rattle.law_session.proofs.ClientLaws.{SameTables, width-same, place_of-same, stream_before-same}
 use Rattle.law_pair.specs.Common.{telling_of}
 
@@ -37,27 +37,29 @@ module _ (scenario : Scenario) (tells : List Told) where
       (telling-table cells k)
       ∙ ap (λ count. if is_heard scenario k then (table_of scenario cells k).count else count) (telling-said cells k)
 
-  telling-stands : (cells : List (Option Told)) (line sq count : ℕ) (found : Option ℕ) →
-      stands_at other cells line sq (word_by other cells count found)
-      ≡ stands_at scenario cells line sq (word_by scenario cells count found)
-  telling-stands cells line sq count None = refl
-  telling-stands cells line sq count (Some last) =
-      ap (λ (table : Table). stands_at other cells line sq (if table.count == count then Some last else None))
-      (telling-table cells last)
-      ∙ elim ((table_of scenario cells last).count == count)
-      as (λ b. stands_at other cells line sq (if b then Some last else None)
-      ≡ stands_at scenario cells line sq (if b then Some last else None)) [
-        | true ↦ ap (λ (table : Table). is_line line (slice_get table.order sq)) (telling-table cells last)
-        | false ↦ refl
-      ]
+  telling-word : (cells : List (Option Told)) (count : ℕ) (found : Option ℕ) →
+      word_by other cells count found ≡ word_by scenario cells count found
+  telling-word cells count None = refl
+  telling-word cells count (Some last) =
+      ap (λ (table : Table). if table.count == count then Some last else None) (telling-table cells last)
+
+  telling-words : (cells : List (Option Told)) (line k : ℕ) → word other cells line k ≡ word scenario cells line k
+  telling-words cells line k =
+      ap (λ count. word_by other cells count (last_read (is_read scenario line) k)) (telling-said cells (suc k))
+      ∙ telling-word cells (said scenario cells k) (last_read (is_read scenario line) k)
+
+  telling-stands : (cells : List (Option Told)) (line sq : ℕ) (found : Option ℕ) →
+      stands_at other cells line sq found ≡ stands_at scenario cells line sq found
+  telling-stands cells line sq None = refl
+  telling-stands cells line sq (Some last) =
+      ap (λ (table : Table). is_line line (slice_get table.order sq)) (telling-table cells last)
 
   telling-status : (cells : List (Option Told)) (k sq : ℕ) → status other cells k sq ≡ status scenario cells k sq
   telling-status cells k sq =
       ap (λ test. list_any test (range_with_len 0 (length scenario.windows))) (fun_ext (λ line.
       ap (λ stands. is_line_up scenario line k && stands)
-      (ap (λ count. stands_at other cells line sq (word_by other cells count (last_read (is_read scenario line) k)))
-      (telling-said cells (suc k))
-      ∙ telling-stands cells line sq (said scenario cells k) (last_read (is_read scenario line) k))))
+      (ap (stands_at other cells line sq) (telling-words cells line k)
+      ∙ telling-stands cells line sq (word scenario cells line k))))
 
   abbrev packet_with : ℕ → ℕ → (ℕ → Bool) → Told
   packet_with count k ok = record {
@@ -108,12 +110,44 @@ module _ (scenario : Scenario) (tells : List Told) where
       ap (λ lines. payload_on lines line scenario.size (payload_of other cells t)) (telling-active cells t)
       ∙ ap (payload_on (active_at scenario cells t) line scenario.size) (telling-payload cells t)
 
+  telling-member : (cells : List (Option Told)) (line : ℕ) (found : Option ℕ) →
+      was_member other cells line found ≡ was_member scenario cells line found
+  telling-member cells line None = refl
+  telling-member cells line (Some last) =
+      ap (λ (table : Table). list_any (λ member. is_line line (Some member)) table.order) (telling-table cells last)
+
+  abbrev is_settled : Bool → Bool → Bool → Bool
+  is_settled read member carries = not (not read && member) || carries
+
+  telling-settled : (cells : List (Option Told)) (line k : ℕ) →
+      (not (is_silent_line other cells line k) || is_inferred other cells line k)
+      ≡ (not (is_silent_line scenario cells line k) || is_inferred scenario cells line k)
+  telling-settled cells line k =
+      let carries = λ (table : Table) (said : Option ℕ).
+      list_any (λ carrier. carrier == line) (active table) && is_some said in
+      ap (λ member. is_settled (is_read scenario line k) member (is_inferred other cells line k))
+      (telling-member cells line (last_read (is_read scenario line) k))
+      ∙ ap (λ (table : Table). not (is_silent_line scenario cells line k) || carries table (word other cells line k))
+      (telling-table cells k)
+      ∙ ap (λ said. not (is_silent_line scenario cells line k) || carries (table_of scenario cells k) said)
+      (telling-words cells line k)
+
+  telling-inferred : (cells : List (Option Told)) (k : ℕ) → are_inferred other cells k ≡ are_inferred scenario cells k
+  telling-inferred cells k =
+      ap (λ test. list_all test (range_with_len 0 (length scenario.windows)))
+      (fun_ext (λ line. telling-settled cells line k))
+
+  abbrev whole_by : ℕ → Bool → List ℕ → Bool
+  whole_by t inferred lines =
+      if nat_lt t 24 then true else ((is_heard scenario ((t - 24) / 16)
+      && (list_all (λ line. is_read scenario line ((t - 24) / 16)) lines || (scenario.options.infers && inferred)))
+      && list_all (λ line. is_good (carried_by scenario line) t) lines)
+
   telling-whole : (cells : List (Option Told)) (t : ℕ) → is_whole_row other cells t ≡ is_whole_row scenario cells t
   telling-whole cells t =
-      ap (λ (table : Table). if nat_lt t 24 then true else (is_heard scenario ((t - 24) / 16)
-      && list_all (λ line. is_read scenario line ((t - 24) / 16) && is_good (carried_by scenario line) t)
-      (active table)))
-      (telling-table cells ((t - 24) / 16))
+      let k : ℕ = (t - 24) / 16 in
+      ap (λ (table : Table). whole_by t (are_inferred other cells k) (active table)) (telling-table cells k)
+      ∙ ap (λ inferred. whole_by t inferred (active (table_of scenario cells k))) (telling-inferred cells k)
 
   pub telling-rows : (cells : List (Option Told)) (n : ℕ) → rows_of other cells n ≡ rows_of scenario cells n
   unfolding rows_of

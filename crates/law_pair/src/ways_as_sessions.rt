@@ -31,11 +31,13 @@ pub fn telling_law()
         rows_of (telling_of scenario tells) cells n ≡ rows_of scenario cells n }
 {}
 
-/// The ways of a pair are sound legs, and a return packet of a way is lost exactly where no line of the
-/// other way has a readable packet that carries it.
+/// The ways of a pair are sound legs, each with the options of its own script, and a return packet of a way is
+/// lost exactly where no line of the other way has a readable packet that carries it.
 pub fn way_law()
     ensures there { (there back : Script) → IsPair there back → IsSound (way_of there back) }
     ensures back { (there back : Script) → IsPair there back → IsSound (way_of back there) }
+    ensures options { (script other : Script) →
+        (scenario_by (way_of script other)).options ≡ script.config.options }
     ensures turned { (there back : Script) → IsPair there back → IsPair back there }
     ensures lost { (script other : Script) (k : ℕ) → k < packets_in script.config.ticks →
         is_lost (scenario_by (way_of script other)) k ≡ is_unheard other k }

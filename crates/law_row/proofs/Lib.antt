@@ -1,6 +1,9 @@
 pub mod RowLaws
-pub mod WholeLaws
-pub mod DealtLaws
 pub mod TimerLaws
 pub mod WordLaws
+pub mod SupposedLaws
+pub mod CarrierLaws
+pub mod WholeLaws
+pub mod DealtLaws
 pub mod ReturnLaws
+pub mod StoppingLaws

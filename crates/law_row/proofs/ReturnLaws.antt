@@ -61,7 +61,7 @@ oks_in-number oks eight =
     ap (λ k. map not (bits k (number (map not oks)))) (sym (length-map oks not ∙ eight))
     ∙ ap (map not) (bits-number (map not oks)) ∙ not_not oks
 
-map-same : {X Y : Type 0} (f g : X → Y) (xs : List X) → ((x : X) → f x ≡ g x) → map f xs ≡ map g xs
+pub map-same : {X Y : Type 0} (f g : X → Y) (xs : List X) → ((x : X) → f x ≡ g x) → map f xs ≡ map g xs
 map-same f g [] same = refl
 map-same f g (x ∷ xs) same = ap₂ (λ y ys. y ∷ ys) (same x) (map-same f g xs same)
 

@@ -1,13 +1,15 @@
--- The sink counts the active packets that it reads: so it finds the lines that carry payload by the source's table, and
--- the whole rows.
-use Rattle.std.proofs.Common.{◌≡◌, ℕ, zero, suc, ◌+◌, ◌%◌, ◌<◌, ◌≤◌, ◌==◌, ◌&&◌, Bool, true, false, if◌then◌else◌, inl}
-use Rattle.std.proofs.Common.{inr, List, [], ◌∷◌, ◌++◌, map, filter, length, Option, Some, refl, sym, ◌∙◌, ap, arith}
+-- The sink counts the active packets that it reads: so it finds the lines that carry payload by the source's table.
+use Rattle.std.proofs.Common.{◌≡◌, ℕ, zero, suc, ◌+◌, ◌%◌, ◌<◌, ◌≤◌, ◌==◌, ◌&&◌, ◌||◌, Bool, true, false, inl}
+use Rattle.std.proofs.Common.{if◌then◌else◌, inr, List, [], ◌∷◌, ◌++◌, map, filter, length, Option, Some}
+use Rattle.std.proofs.Common.{slice_index_or, refl, sym, ◌∙◌, ap, arith}
 use Rattle.std.specs.List.{list_any, list_all, range_with_len}
 use Rattle.std.proofs.lemmas.Bool.{cases_lt, eq-eqb, eqb-true, eqb-false, ne_eqb, and_parts}
 use Rattle.law_model.proofs.ListLaws.{filter-few}
 use Rattle.law_model.specs.Common.{Ctrl, Told, is_norm, is_normal, Scenario, planned_of, after, table_of, group_bit}
 use Rattle.law_model.specs.Common.{LineFields, ctrl_by, place_in, mst_by, is_carrying, has, lines_at, active_from}
-use Rattle.law_model.specs.Common.{active_of, packet_if, packets_from}
+use Rattle.law_model.specs.Common.{active_of, packet_if, packets_from, is_read, is_heard, is_readable}
+use Rattle.law_model.specs.members.Damage.{carried}
+use Rattle.law_model.specs.declared.window_types.Window.{Window}
 use Rattle.law_model.specs.declared.control_packet.Packet.{Packet}
 use Rattle.law_model.specs.declared.lcas_states.Standing.{Standing}
 use Rattle.law_model.specs.declared.lcas_states.Member.{Member}
@@ -67,24 +69,25 @@ lines_at-one read sq line here others a (suc n) low high =
     ]
 
 lines_at-same : (f g : ℕ → Option Packet) (sq a n : ℕ) →
-    ((l : ℕ) → has is_carrying sq (f l) ≡ has is_carrying sq (g l)) →
+    ((l : ℕ) → l < a + n → has is_carrying sq (f l) ≡ has is_carrying sq (g l)) →
     lines_at sq a (all_read f a n) ≡ lines_at sq a (all_read g a n)
 lines_at-same f g sq a zero same = refl
 lines_at-same f g sq a (suc n) same =
     ap (λ b. if b then a ∷ lines_at sq (a + 1) (all_read f (a + 1) n) else lines_at sq (a + 1) (all_read f (a + 1) n))
-    (same a)
-    ∙ ap (λ rest. if has is_carrying sq (g a) then a ∷ rest else rest) (lines_at-same f g sq (a + 1) n same)
+    (same a (omega arith))
+    ∙ ap (λ rest. if has is_carrying sq (g a) then a ∷ rest else rest)
+    (lines_at-same f g sq (a + 1) n (λ l inside. same l (omega arith)))
 
-active_from-same : (f g : ℕ → Option Packet) (lines sq count : ℕ) →
-    ((s l : ℕ) → sq ≤ s → has is_carrying s (f l) ≡ has is_carrying s (g l)) →
+pub active_from-same : (f g : ℕ → Option Packet) (lines sq count : ℕ) →
+    ((s l : ℕ) → sq ≤ s → l < lines → has is_carrying s (f l) ≡ has is_carrying s (g l)) →
     active_from sq count (all_read f 0 lines) ≡ active_from sq count (all_read g 0 lines)
 unfolding active_from
 active_from-same f g lines sq zero same = refl
 active_from-same f g lines sq (suc count) same =
     ap (λ front. front ++ active_from (sq + 1) count (all_read f 0 lines))
-    (lines_at-same f g sq 0 lines (λ l. same sq l (omega arith)))
+    (lines_at-same f g sq 0 lines (λ l inside. same sq l (omega arith) (omega arith)))
     ∙ ap (λ rest. lines_at sq 0 (all_read g 0 lines) ++ rest)
-    (active_from-same f g lines (sq + 1) count (λ s l low. same s l (omega arith)))
+    (active_from-same f g lines (sq + 1) count (λ s l low inside. same s l (omega arith) inside))
 
 active_from-none : (read : ℕ → Option Packet) (lines sq count : ℕ) → ((s l : ℕ) → has is_carrying s (read l) ≡ false) →
     active_from sq count (all_read read 0 lines) ≡ []
@@ -145,7 +148,7 @@ carries-absent counts quiet (member ∷ order) sq told chg k act line s absent =
       | false ↦ λ e. carries-absent counts quiet order (sq + 1) told chg k act line s (omega arith)
     ] refl
 
-ctrl_carries : (standing : Standing) (more : Bool) → is_carrying (ctrl_by standing more) ≡ is_norm standing
+pub ctrl_carries : (standing : Standing) (more : Bool) → is_carrying (ctrl_by standing more) ≡ is_norm standing
 ctrl_carries adding more = refl
 ctrl_carries normal true = refl
 ctrl_carries normal false = refl
@@ -266,19 +269,14 @@ active_from-order (member ∷ order) lines sq told chg k act (suc count) readabl
     ∙ ap (λ rest. (if is_norm member.standing && readable member.line then member.line ∷ [] else []) ++ rest)
     (active_from-same (read_of (member ∷ order) sq told chg k act readable)
     (read_of order (sq + 1) told chg k act readable) lines (sq + 1) count
-    (λ s l low. head-rest is_carrying refl member order sq told chg k act l s (readable l) low (once l))
+    (λ s l low within.
+    head-rest is_carrying refl member order sq told chg k act l s (readable l) low (once l))
     ∙ active_from-order order lines (sq + 1) told chg k act count readable (omega arith)
     (λ l. let most = once l in omega arith) (λ l high. let none = below l high in omega arith))
     ∙ first-carrying member order readable
 
 -- ---- the count
-exchanged_and : (a b c : Bool) → (a && (b && c)) ≡ (b && (a && c))
-exchanged_and true true c = refl
-exchanged_and true false c = refl
-exchanged_and false true c = refl
-exchanged_and false false c = refl
-
-same_next : (a b : ℕ) → (suc a == suc b) ≡ (a == b)
+pub same_next : (a b : ℕ) → (suc a == suc b) ≡ (a == b)
 same_next a b =
     elim (a == b) as (λ t. (a == b) ≡ t → (suc a == suc b) ≡ t) [
       | true ↦ λ e. let same = eqb-true a b e in eq-eqb (suc a) (suc b) (omega arith)
@@ -286,28 +284,15 @@ same_next a b =
     ] refl
 
 -- all are read exactly where as many are read as there are
-pub count-all : (r g : ℕ → Bool) (xs : List ℕ) →
-    (length (filter r xs) == length xs && list_all g (filter r xs)) ≡ list_all (λ l. r l && g l) xs
-count-all r g [] = refl
-count-all r g (x ∷ xs) =
-    elim (r x) as (λ b. (length (if b then x ∷ filter r xs else filter r xs) == suc (length xs) && list_all g
-    (if b then x ∷ filter r xs else filter r xs))
-    ≡ ((b && g x) && list_all (λ l. r l && g l) xs)) [
-      | true ↦
-          ap (λ b. b && (g x && list_all g (filter r xs))) (same_next (length (filter r xs)) (length xs))
-          ∙ exchanged_and (length (filter r xs) == length xs) (g x) (list_all g (filter r xs))
-          ∙ ap (λ b. g x && b) (count-all r g xs)
+pub count-all : (r : ℕ → Bool) (xs : List ℕ) → (length (filter r xs) == length xs) ≡ list_all r xs
+count-all r [] = refl
+count-all r (x ∷ xs) =
+    elim (r x) as (λ b. (length (if b then x ∷ filter r xs else filter r xs) == suc (length xs))
+    ≡ (b && list_all r xs)) [
+      | true ↦ same_next (length (filter r xs)) (length xs) ∙ count-all r xs
       | false ↦
-          let least = filter-few r xs in
-          ap (λ b. b && list_all g (filter r xs)) (ne_eqb (length (filter r xs)) (suc (length xs)) (λ e. omega arith))
+          let least = filter-few r xs in ne_eqb (length (filter r xs)) (suc (length xs)) (λ e. omega arith)
     ]
-
-pub all-filter : (r g : ℕ → Bool) (xs : List ℕ) → list_all (λ l. r l && g l) xs ≡ true → filter r xs ≡ xs
-all-filter r g [] e = refl
-all-filter r g (x ∷ xs) e =
-    let parts = and_parts (r x && g x) (list_all (λ l. r l && g l) xs) e in
-    let here = (and_parts (r x) (g x) parts.0).0 in
-    rw here (ap (λ rest. x ∷ rest) (all-filter r g xs parts.1))
 
 -- ---- the lines of a session stand at most once, and each is one of them
 pub once-after : (scenario : Scenario) (returns : List (Option Told)) (k l : ℕ) →
@@ -332,7 +317,7 @@ active_of-filter scenario returns k told readable limit =
     (length (carrying table.order)) 256 readable (omega arith)
     (once-after scenario returns k) (below-after scenario returns k)
 
-filter-all : (r : ℕ → Bool) (xs : List ℕ) → list_all r xs ≡ true → filter r xs ≡ xs
+pub filter-all : (r : ℕ → Bool) (xs : List ℕ) → list_all r xs ≡ true → filter r xs ≡ xs
 filter-all r [] e = refl
 filter-all r (x ∷ xs) e =
     let parts = and_parts (r x) (list_all r xs) e in
@@ -347,3 +332,20 @@ pub active_of-all : (scenario : Scenario) (returns : List (Option Told)) (k : �
 active_of-all scenario returns k told readable limit read =
     active_of-filter scenario returns k told readable limit
     ∙ filter-all readable (carrying (table_of scenario returns k).order) read
+
+-- ---- some line is heard
+shifted : (f : ℕ → Bool) (a n : ℕ) →
+    list_any f (range_with_len (a + 1) n) ≡ list_any (λ l. f (suc l)) (range_with_len a n)
+shifted f a zero = refl
+shifted f a (suc n) =
+    let e : a + 1 ≡ suc a = omega arith in
+    ap (λ l. f l || list_any f (range_with_len (a + 1 + 1) n)) e ∙ ap (λ b. f (suc a) || b) (shifted f (a + 1) n)
+
+any-at : {X : Type 0} (f : X → Bool) (d : X) (xs : List X) →
+    list_any (λ l. f (slice_index_or xs l d)) (range_with_len 0 (length xs)) ≡ list_any f xs
+any-at f d [] = refl
+any-at f d (x ∷ xs) = ap (λ b. f x || b) (shifted (λ l. f (slice_index_or (x ∷ xs) l d)) 0 (length xs) ∙ any-at f d xs)
+
+pub heard-any : (scenario : Scenario) (k : ℕ) →
+    list_any (λ line. is_read scenario line k) (range_with_len 0 (length scenario.windows)) ≡ is_heard scenario k
+heard-any scenario k = any-at (λ (windows : List Window). is_readable (carried windows) k) [] scenario.windows

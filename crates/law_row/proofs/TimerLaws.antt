@@ -1,11 +1,36 @@
--- Whether a line is up, and which of its packets was read last, depend on what was read up to that packet alone.
+-- Whether a line is up, and which of its packets was read last, depend on what was read up to that packet alone. Tests
+-- of the numbers of a range.
 use Rattle.std.proofs.Common.{◌≡◌, ℕ, zero, suc, ◌+◌, ◌-◌, ◌<◌, ◌≤◌, nat_le, ◌&&◌, ◌||◌, not, Bool, true, false}
-use Rattle.std.proofs.Common.{if◌then◌else◌, Some, None, refl, ◌∙◌, ap, ap₂, arith, leb-true}
+use Rattle.std.proofs.Common.{if◌then◌else◌, Some, None, refl, sym, ◌∙◌, ap, ap₂, arith, inl, inr, leb-true}
 use Rattle.std.specs.List.{list_any, list_all, range_with_len}
+use Rattle.std.proofs.lemmas.Bool.{and_parts, cases_eq}
 use Rattle.law_model.specs.Common.{is_up, last_read, is_restored, are_missed}
 use Rattle.law_model.specs.declared.script_types.Options.{Options}
 
+-- ---- tests
+pub same_tests : (a b : Bool) → (a ≡ true → b ≡ true) → (b ≡ true → a ≡ true) → a ≡ b
+same_tests true b forth back = sym (forth refl)
+same_tests false true forth back = back refl
+same_tests false false forth back = refl
+
 -- ---- tests of the numbers of a range
+pub all-at : (test : ℕ → Bool) (from count : ℕ) → list_all test (range_with_len from count) ≡ true → (j : ℕ) →
+    from ≤ j → j < from + count → test j ≡ true
+all-at test from zero e j low high = absurd (omega arith)
+all-at test from (suc count) e j low high =
+    let parts = and_parts (test from) (list_all test (range_with_len (from + 1) count)) e in
+    elim (cases_eq from j) [
+      | inl same ↦ ap test (sym same) ∙ parts.0
+      | inr other ↦ all-at test (from + 1) count parts.1 j (omega arith) (omega arith)
+    ]
+
+pub all-from : (test : ℕ → Bool) (from count : ℕ) → ((j : ℕ) → from ≤ j → j < from + count → test j ≡ true) →
+    list_all test (range_with_len from count) ≡ true
+all-from test from zero each = refl
+all-from test from (suc count) each =
+    let first = each from (omega arith) (omega arith) in
+    rw first (all-from test (from + 1) count (λ j low high. each j (omega arith) (omega arith)))
+
 pub all-same : (f g : ℕ → Bool) (from count : ℕ) → ((j : ℕ) → from ≤ j → j < from + count → f j ≡ g j) →
     list_all f (range_with_len from count) ≡ list_all g (range_with_len from count)
 all-same f g from zero same = refl

@@ -3,8 +3,8 @@
 use Rattle.std.proofs.Common.{◌≡◌, ℕ, zero, suc, ◌+◌, ◌-◌, ◌%◌, ◌<◌, ◌≤◌, ◌==◌, ◌&&◌, ◌||◌, Bool, true, false}
 use Rattle.std.proofs.Common.{if◌then◌else◌, inl, inr, List, [], ◌∷◌, map, length, Option, Some, None, is_some}
 use Rattle.std.proofs.Common.{option_map, slice_get, slice_index_or, refl, sym, ◌∙◌, ap, ap₂, arith, eqb-true}
-use Rattle.std.specs.List.{list_any, list_all, range_with_len}
-use Rattle.std.proofs.lemmas.Bool.{and_parts, cases_Bool, cases_eq, not-true, eq-eqb, ne_eqb, eqb-false}
+use Rattle.std.specs.List.{list_any, range_with_len}
+use Rattle.std.proofs.lemmas.Bool.{cases_Bool, cases_eq, not-true, eq-eqb, ne_eqb, eqb-false}
 use Rattle.std.proofs.lemmas.List.FromFn.{length-map-range_with_len, get_or-map-range_with_len}
 use Rattle.law_model.specs.Common.{Scenario, is_read, is_heard, Told, is_normal, table_of, ctrl_by, telling_at}
 use Rattle.law_model.specs.Common.{sent_packet, cells_before, said, status, is_line, is_line_up, last_read, is_up, word}
@@ -22,28 +22,27 @@ use Rattle.law_session.proofs.FeedbackLaws.{one_count}
 use Rattle.law_session.proofs.SessionLaws.{session-law}
 use Rattle.law_session.proofs.WordLaws.{last-read}
 use Rattle.law_row.proofs.RowLaws.{all_read, packet, carries-absent, head-self, head-other, head-rest, once-after}
-use Rattle.law_row.proofs.RowLaws.{carrying}
-use Rattle.law_row.proofs.WholeLaws.{heard-any}
-use Rattle.law_row.proofs.TimerLaws.{any-same, up-same, last-same}
+use Rattle.law_row.proofs.RowLaws.{carrying, heard-any}
+use Rattle.law_row.proofs.TimerLaws.{same_tests, all-at, all-from, any-same, up-same, last-same}
 
 -- ---- rows of packets
 -- the rows of a session up to packet k
 abbrev pub rows_to : Scenario → List (Option Told) → ℕ → List Row
 rows_to scenario returns k = map (packets_of scenario returns) (range_with_len 0 (k + 1))
 
-row-at : (scenario : Scenario) (returns : List (Option Told)) (k j : ℕ) → j ≤ k →
+pub row-at : (scenario : Scenario) (returns : List (Option Told)) (k j : ℕ) → j ≤ k →
     packet_row (rows_to scenario returns k) j ≡ packets_of scenario returns j
 row-at scenario returns k j low =
     get_or-map-range_with_len (packets_of scenario returns) 0 (k + 1) j j [] (omega arith) (omega arith)
 
-row-lines : (scenario : Scenario) (returns : List (Option Told)) (k : ℕ) →
+pub row-lines : (scenario : Scenario) (returns : List (Option Told)) (k : ℕ) →
     length (packet_row (rows_to scenario returns k) k) ≡ length scenario.windows
 row-lines scenario returns k =
     ap length (row-at scenario returns k k (omega arith))
     ∙ length-map-range_with_len (λ line. packet_if (is_read scenario line k) (sent_packet scenario returns line k)) 0
     (length scenario.windows)
 
-packet-at : (scenario : Scenario) (returns : List (Option Told)) (k line j : ℕ) → line < length scenario.windows →
+pub packet-at : (scenario : Scenario) (returns : List (Option Told)) (k line j : ℕ) → line < length scenario.windows →
     j ≤ k →
     packet_on (rows_to scenario returns k) line j
     ≡ packet_if (is_read scenario line j) (sent_packet scenario returns line j)
@@ -57,7 +56,7 @@ some-if : (read : Bool) (p : Packet) → is_some (packet_if read p) ≡ read
 some-if true p = refl
 some-if false p = refl
 
-has-read : (scenario : Scenario) (returns : List (Option Told)) (k line : ℕ) → line < length scenario.windows →
+pub has-read : (scenario : Scenario) (returns : List (Option Told)) (k line : ℕ) → line < length scenario.windows →
     (j : ℕ) → j ≤ k → has_packet (rows_to scenario returns k) line j ≡ is_read scenario line j
 has-read scenario returns k line inside j low =
     ap is_some (packet-at scenario returns k line j inside low)
@@ -127,28 +126,6 @@ bits-true a b e =
 bits-from : (a b : ℕ) → b % 2 ≡ a % 2 → is_same (a % 2 == 1) (b % 2 == 1) ≡ true
 bits-from a b e = ap (λ n. is_same (a % 2 == 1) (n == 1)) e ∙ is_same-self (a % 2 == 1)
 
-same_tests : (a b : Bool) → (a ≡ true → b ≡ true) → (b ≡ true → a ≡ true) → a ≡ b
-same_tests true b forth back = sym (forth refl)
-same_tests false true forth back = back refl
-same_tests false false forth back = refl
-
-all-at : (test : ℕ → Bool) (from count : ℕ) → list_all test (range_with_len from count) ≡ true → (j : ℕ) → from ≤ j →
-    j < from + count → test j ≡ true
-all-at test from zero e j low high = absurd (omega arith)
-all-at test from (suc count) e j low high =
-    let parts = and_parts (test from) (list_all test (range_with_len (from + 1) count)) e in
-    elim (cases_eq from j) [
-      | inl same ↦ ap test (sym same) ∙ parts.0
-      | inr other ↦ all-at test (from + 1) count parts.1 j (omega arith) (omega arith)
-    ]
-
-all-from : (test : ℕ → Bool) (from count : ℕ) → ((j : ℕ) → from ≤ j → j < from + count → test j ≡ true) →
-    list_all test (range_with_len from count) ≡ true
-all-from test from zero each = refl
-all-from test from (suc count) each =
-    let first = each from (omega arith) (omega arith) in
-    rw first (all-from test (from + 1) count (λ j low high. each j (omega arith) (omega arith)))
-
 agree-heard : (scenario : Scenario) (returns : List (Option Told)) (k last j : ℕ) → last ≤ k → j ≤ k →
     is_heard scenario last ≡ true →
     agree (leader (packet_row (rows_to scenario returns k) last)) (leader (packet_row (rows_to scenario returns k) j)) ≡
@@ -192,7 +169,7 @@ one_chg-count scenario n k last lag low heard =
     ] refl))
 
 -- ---- the SQ that a packet says
-ctrl_said : (standing : Standing) (more : Bool) → is_member (ctrl_by standing more) ≡ true
+pub ctrl_said : (standing : Standing) (more : Bool) → is_member (ctrl_by standing more) ≡ true
 ctrl_said adding more = refl
 ctrl_said normal true = refl
 ctrl_said normal false = refl
@@ -237,35 +214,45 @@ says-line scenario returns line k sq =
     (once-after scenario returns k)
 
 -- ---- what a line said last
-word-said : (scenario : Scenario) (n k line sq : ℕ) → 0 < scenario.lag → line < length scenario.windows →
-    says_at sq (last_word (rows_to scenario (cells_before scenario n) k) line k)
-    ≡ stands_at scenario (cells_before scenario n) line sq (word scenario (cells_before scenario n) line k)
-word-said scenario n k line sq lag inside =
+-- by the rows it is the packet that it sent as its word
+pub last_word-sent : (scenario : Scenario) (n k line : ℕ) → 0 < scenario.lag → line < length scenario.windows →
+    last_word (rows_to scenario (cells_before scenario n) k) line k
+    ≡ option_map (λ last. sent_packet scenario (cells_before scenario n) line last)
+    (word scenario (cells_before scenario n) line k)
+last_word-sent scenario n k line lag inside =
     let returns = cells_before scenario n in
     let rows = rows_to scenario returns k in
     let read = is_read scenario line in
-    ap (λ found. says_at sq (last_word_by rows line k found))
-    (last-same (has_packet rows line) read k (has-read scenario returns k line inside))
-    ∙ elim (last_read read k) as (λ found. last_read read k ≡ found →
-    says_at sq (last_word_by rows line k found)
-    ≡ stands_at scenario returns line sq (word_by scenario returns (said scenario returns k) found)) [
+    let sent = λ (last : ℕ). sent_packet scenario returns line last in
+    ap (last_word_by rows line k) (last-same (has_packet rows line) read k (has-read scenario returns k line inside))
+    ∙ elim (last_read read k) as (λ found. last_read read k ≡ found → last_word_by rows line k found
+    ≡ option_map sent (word_by scenario returns (said scenario returns k) found)) [
       | None ↦ λ e. refl
       | Some last ↦ λ e.
           let there = last-read read k last e in
           let heard = some_heard scenario.windows line last inside there.1 in
           let count = (table_of scenario returns last).count in
-          ap (λ b. says_at sq (if b then packet_on rows line last else None))
-          (one_chg-count scenario n k last lag there.0 heard)
+          ap (λ b. if b then packet_on rows line last else None) (one_chg-count scenario n k last lag there.0 heard)
           ∙ elim (count == said scenario returns k)
-          as (λ b. says_at sq (if b then packet_on rows line last else None)
-          ≡ stands_at scenario returns line sq (if b then Some last else None)) [
+          as (λ b. (if b then packet_on rows line last else None) ≡ option_map sent (if b then Some last else None)) [
             | true ↦
-                ap (says_at sq) (packet-at scenario returns k line last inside there.0
-                ∙ ap (λ b. packet_if b (sent_packet scenario returns line last)) there.1)
-                ∙ says-line scenario returns line last sq
+                packet-at scenario returns k line last inside there.0 ∙ ap (λ b. packet_if b (sent last)) there.1
             | false ↦ refl
           ]
     ] refl
+
+word-said : (scenario : Scenario) (n k line sq : ℕ) → 0 < scenario.lag → line < length scenario.windows →
+    says_at sq (last_word (rows_to scenario (cells_before scenario n) k) line k)
+    ≡ stands_at scenario (cells_before scenario n) line sq (word scenario (cells_before scenario n) line k)
+word-said scenario n k line sq lag inside =
+    let returns = cells_before scenario n in
+    ap (says_at sq) (last_word-sent scenario n k line lag inside)
+    ∙ elim (word scenario returns line k)
+    as (λ found. says_at sq (option_map (λ last. sent_packet scenario returns line last) found)
+    ≡ stands_at scenario returns line sq found) [
+      | None ↦ refl
+      | Some last ↦ says-line scenario returns line last sq
+    ]
 
 -- the status of an SQ by the rows is the one by the table
 pub status-said : (scenario : Scenario) (n k sq : ℕ) → 0 < scenario.lag →

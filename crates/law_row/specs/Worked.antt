@@ -1,7 +1,10 @@
 -- Worked rows, computed: five lines, of which lines 3, 0, 2 and 1 have SQ 0 to 3 in NORM, DNU, NORM and ADD, and line 4
--- is IDLE.
-use Rattle.std.specs.Prelude.{ℕ, ◌==◌, not, Bool, true, List, [], ◌∷◌, map, None}
-use Rattle.law_model.specs.Common.{Ctrl, member_of, Table, none_kept, forward_packet, untold, active_of, packets_from}
+-- is IDLE; and three lines, of which packet 1 is read of the first alone.
+use Rattle.std.specs.Prelude.{ℕ, ◌==◌, not, Bool, true, false, List, [], ◌∷◌, map, Option, Some, None, option_map}
+use Rattle.law_model.specs.Common.{Ctrl, Eos, member_of, Table, none_kept, forward_packet, untold, Row, active_of}
+use Rattle.law_model.specs.Common.{packets_from, carriers_of, default_options}
+use Rattle.law_model.specs.declared.control_packet.Packet.{Packet}
+use Rattle.member_cells.specs.declared.control_word.Ctrl.TheVariants.{Norm, Idle, Dnu}
 use Rattle.law_model.specs.declared.lcas_states.Standing.TheVariants.{Add as adding, Norm as normal, Dnu as unused}
 
 abbrev pub five : Table
@@ -23,3 +26,33 @@ active_read readable = active_of (packets_from 5 untold five 0 readable)
 
 abbrev pub all_but : ℕ → ℕ → Bool
 all_but other line = not (line == other)
+
+-- packets of one number, which say that two lines carry payload, by their change bit, control words and SQ
+abbrev pub packet_saying : Bool → Ctrl × ℕ → Packet
+packet_saying chg said = record {
+  mst = 0;
+  rs_ack = false;
+  chg = chg;
+  sq = said.1;
+  mfi2 = 0;
+  ctrl = said.0;
+  gid = false;
+  act = 2;
+}
+
+abbrev pub row_saying : Bool → List (Option (Ctrl × ℕ)) → Row
+row_saying chg said = map (option_map (packet_saying chg)) said
+
+-- the lines that carry payload by packets 1: by whether the sink goes on, by their change bit, and by what the third
+-- line said last
+abbrev pub carriers_after : Bool → Bool → Ctrl × ℕ → Option (List ℕ)
+carriers_after infers chg third =
+    carriers_of (record default_options { infers = infers })
+    (row_saying false (Some (Norm, 0) ∷ Some (Eos, 1) ∷ Some third ∷ [])
+    ∷ row_saying chg (Some (Norm, 0) ∷ None ∷ None ∷ []) ∷ []) 1
+
+abbrev pub idle : Ctrl × ℕ
+idle = (Idle, 255)
+
+abbrev pub unused_third : Ctrl × ℕ
+unused_third = (Dnu, 2)

@@ -49,13 +49,17 @@ pub fn cost_law()
         IsInUse (governing_table leg t) line }
 {}
 
-/// The same exactly. A row isn't whole just if a line that carries payload in it fails and spoils it; a
-/// failure spoils no row once the source was told of it; and a line carries payload just if it was up at the
-/// last packet that says a status of its SQ and that was taken. So a failure that no such packet sees, or that
-/// is held, takes nothing of the capacity.
+/// The same exactly. A row isn't whole only if a line that carries payload in it fails and spoils it, and with
+/// `sink stops` just if so, while a sink that goes on has more rows whole; a failure spoils no row once the
+/// source was told of it; and a line carries payload just if it was up at the last packet that says a status of
+/// its SQ and that was taken. So a failure that no such packet sees, or that is held, takes nothing of the
+/// capacity.
 pub fn exact_law()
-    ensures spoiled { (leg : Leg) (from horizon t : ℕ) → IsSound leg → FailsOnce leg from horizon →
+    ensures only { (leg : Leg) (from horizon t : ℕ) → IsSound leg → FailsOnce leg from horizon →
         24 ≤ t → from ≤ t → t < horizon →
+        is_whole_row (scenario_by leg) (session_of leg) t ≡ false → IsSpoiled leg from horizon t }
+    ensures spoiled { (leg : Leg) (from horizon t : ℕ) → IsSound leg →
+        leg.config.options.infers ≡ false → FailsOnce leg from horizon → 24 ≤ t → from ≤ t → t < horizon →
         (is_whole_row (scenario_by leg) (session_of leg) t ≡ false) ↔ IsSpoiled leg from horizon t }
     ensures told { (leg : Leg) (from horizon t : ℕ) → IsSound leg → FailsOnce leg from horizon →
         ((line sq : ℕ) (window : Window) → FailsBy (windows_of leg line) window from horizon →
@@ -77,16 +81,20 @@ pub fn exact_law()
         slice_get (governing_table leg t).order sq ≡ Some (member_of line Norm) }
 {}
 
-/// The rows in numbers, if each line that has an SQ and fails was in use before, with nothing else said of
-/// it: a row isn't whole just if some such failure spoils it, and it is before the one row at which the source
-/// is told. So lines that fail together spoil the first ones of the rows that they can spoil, which are two
-/// runs at most.
+/// The rows in numbers. A row isn't whole only if the failure of a line that has an SQ spoils it, and it is
+/// before the one row at which the source is told; and with `sink stops` just if so, if each line that has an
+/// SQ and fails was in use before, with nothing else said of it. Then lines that fail together spoil the first
+/// ones of the rows that they can spoil, which are two runs at most.
 pub fn closed_law()
-    ensures rows { (leg : Leg) (from horizon t : ℕ) → IsSound leg → FailsOnce leg from horizon →
-        WereUsed leg from horizon → 24 ≤ t → from ≤ t → t < horizon →
+    ensures only { (leg : Leg) (from horizon t : ℕ) → IsSound leg → FailsOnce leg from horizon →
+        24 ≤ t → from ≤ t → t < horizon →
+        is_whole_row (scenario_by leg) (session_of leg) t ≡ false → IsHit leg from horizon t }
+    ensures rows { (leg : Leg) (from horizon t : ℕ) → IsSound leg → leg.config.options.infers ≡ false →
+        FailsOnce leg from horizon → WereUsed leg from horizon → 24 ≤ t → from ≤ t → t < horizon →
         (is_whole_row (scenario_by leg) (session_of leg) t ≡ false) ↔ IsHit leg from horizon t }
     ensures first { (leg : Leg) (begins ends horizon line t sooner : ℕ) (window : Window) →
-        IsSound leg → FailTogether leg begins ends horizon → WereUsed leg begins horizon →
+        IsSound leg → leg.config.options.infers ≡ false → FailTogether leg begins ends horizon →
+        WereUsed leg begins horizon →
         is_whole_row (scenario_by leg) (session_of leg) t ≡ false → t < horizon →
         FailsBy (windows_of leg line) window begins horizon → Spoils window sooner →
         24 ≤ sooner → begins ≤ sooner → sooner ≤ t →

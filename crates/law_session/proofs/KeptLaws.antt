@@ -134,7 +134,7 @@ kept-says scenario cells session lag (suc j) sq ok e =
       says = before.says;
     }
 
-told_at-kept : (scenario : Scenario) (cells : List (Option Told)) (j sq : ℕ) →
+pub told_at-kept : (scenario : Scenario) (cells : List (Option Told)) (j sq : ℕ) →
     (kept_of (told_at scenario cells j)) sq ≡ (kept_of (heard_at scenario cells j)) sq
 unfolding heard_at
 told_at-kept scenario cells j sq = ap (λ t. (kept_of t) sq) (told_at-table scenario cells j)

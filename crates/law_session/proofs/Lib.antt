@@ -26,3 +26,4 @@ pub mod TimerFalls
 pub mod TimerQuiet
 pub mod TimerRows
 pub mod TimerWindows
+pub mod SilentLaws

@@ -45,7 +45,7 @@ active-first member order zero line stands later e =
     (zero, ap (λ l. Some (member_of l member.standing)) same ∙ ap (λ s. Some (member_of line s)) stands)
 active-first member order (suc rank) line stands later e = let rest = later rank e in (suc rest.0, rest.1)
 
-active-has : (order : List Member) (rank line : ℕ) →
+pub active-has : (order : List Member) (rank line : ℕ) →
     slice_get (map (λ member. member.line) (filter is_normal order)) rank ≡ Some line →
     IsIn order (member_of line normal)
 active-has [] rank line e = absurd (none-some line e)

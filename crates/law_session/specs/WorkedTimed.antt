@@ -1,5 +1,5 @@
 -- A worked session whose timers cost the most that they can: a line that fails goes out, and comes back.
-use Rattle.std.specs.Prelude.{ℕ, List, [], ◌∷◌, ◌++◌, map}
+use Rattle.std.specs.Prelude.{ℕ, false, List, [], ◌∷◌, ◌++◌, map}
 use Rattle.law_model.specs.Common.{Scenario, active_at, session_cells}
 use Rattle.law_model.specs.declared.lcas_states.Command.TheVariants.{Add as add}
 use Rattle.law_session.specs.Worked.{damaged, order, scenario_for}
@@ -8,7 +8,7 @@ use Rattle.law_session.specs.Worked.{damaged, order, scenario_for}
 abbrev pub dearest : Scenario
 dearest =
     record (scenario_for 2 1400 ([] ∷ damaged 488 945 ∷ []) (order 0 (add 0) ∷ order 0 (add 1) ∷ [])) {
-      options = record { holdoff = 3; restore = 5; statuses = 16 };
+      options = record { infers = false; holdoff = 3; restore = 5; statuses = 16 };
     }
 
 -- the lines that carry payload in some rows
@@ -19,7 +19,7 @@ carried_in_rows scenario rows = map (active_at scenario (session_cells scenario)
 abbrev pub held_line : ℕ → Scenario
 held_line holdoff =
     record (scenario_for 1 1400 ([] ∷ damaged 1024 1040 ∷ []) (order 0 (add 0) ∷ order 0 (add 1) ∷ [])) {
-      options = record { holdoff = holdoff; restore = 0; statuses = 16 };
+      options = record { infers = false; holdoff = holdoff; restore = 0; statuses = 16 };
     }
 
 -- of two lines line 1 fails for ten containers, of which the first is the last one of packet 63

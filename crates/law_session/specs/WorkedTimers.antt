@@ -1,5 +1,5 @@
 -- Worked sessions with timers, computed.
-use Rattle.std.specs.Prelude.{ℕ, ◌+◌, List, [], ◌∷◌, None}
+use Rattle.std.specs.Prelude.{ℕ, ◌+◌, false, List, [], ◌∷◌, None}
 use Rattle.law_model.specs.Common.{Scenario, member_of}
 use Rattle.law_model.specs.declared.lcas_states.Command.TheVariants.{Add as add}
 use Rattle.law_model.specs.declared.lcas_states.Standing.TheVariants.{Add as adding, Norm as normal, Dnu as unused}
@@ -7,7 +7,7 @@ use Rattle.law_session.specs.Worked.{Shown, order, damaged, scenario_for, failin
 
 abbrev pub with_timers : ℕ → ℕ → Scenario → Scenario
 with_timers holdoff restore scenario =
-    record scenario { options = record { holdoff = holdoff; restore = restore; statuses = 16 } }
+    record scenario { options = record { infers = false; holdoff = holdoff; restore = restore; statuses = 16 } }
 
 -- the failure of the second line spoils two packets: a hold-off of one packet is too short for it, and it goes out and
 -- comes back as with none
@@ -57,7 +57,7 @@ held_over_change_shown =
 abbrev pub slow_statuses : ℕ → Scenario
 slow_statuses statuses =
     record (scenario_for 1 700 ([] ∷ [] ∷ []) (order 0 (add 0) ∷ order 0 (add 1) ∷ [])) {
-      options = record { holdoff = 0; restore = 0; statuses = statuses };
+      options = record { infers = false; holdoff = 0; restore = 0; statuses = statuses };
     }
 
 abbrev pub slow_statuses_shown : ℕ → List Shown

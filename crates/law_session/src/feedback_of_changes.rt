@@ -1,8 +1,17 @@
 //! What the source may conclude from a return packet.
 
-ghost use Rattle.std.specs.Prelude.{◌≡◌, ◌↔◌, ◌<◌, ◌≤◌, ℕ, Bool, true, Some};
+ghost use Rattle.std.specs.Prelude.{◌≡◌, ◌↔◌, ◌<◌, ◌≤◌, ℕ, Bool, true, Some, Contains};
 ghost use Rattle.law_model.specs.Common.{Scenario, is_heard, said, kept_of, Told, table_of, told_at, cells_before};
+ghost use Rattle.law_model.specs.Common.{active, is_read, last_read, was_member};
 ghost use Rattle.law_session.specs.Feedback.{Takes, Acknowledges, TellsOf, SameLines, WasSaid, HaveOneChg};
+
+/// A line that carries payload was last read as a member's: it stood among the members in the last of its packets
+/// that could be read. So none that carries payload is missing among those that are read and those that are silent.
+pub fn silent_law()
+    ensures { (scenario : Scenario) (n k line : ℕ) → 0 < scenario.lag →
+        Contains (active (table_of scenario (cells_before scenario n) k)) line →
+        was_member scenario (cells_before scenario n) line (last_read (is_read scenario line) k) ≡ true }
+{}
 
 /// Feedback. By its one bit a return packet acknowledges the change that is out exactly where it tells of the
 /// whole count of changes. Then each line still has the SQ that it had in the packet that was read, and each

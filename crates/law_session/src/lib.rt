@@ -1,7 +1,8 @@
 //! The laws of a session, over the definitions alone: what return packets tell the source, how soon a line that
 //! is added carries payload, what is accepted, and how the client's stream goes on. There is no code here.
-//! Begin at `feedback_law`, by which one bit of a return packet stands for a whole count of changes; `use_law`,
-//! `readable_law`, `journal_law` and `client_law` have the rest; and for timers at `held_law`.
+//! Begin at `feedback_law`, by which one bit of a return packet stands for a whole count of changes; by
+//! `silent_law` a line that carries payload was last read as a member; `use_law`, `readable_law`, `journal_law`
+//! and `client_law` have the rest; and for timers at `held_law`.
 #![tactic(auto)]
 
 mod accepted_items_again;
@@ -15,7 +16,7 @@ mod worked_sessions;
 
 pub use accepted_items_again::journal_law;
 pub use client_octets::client_law;
-pub use feedback_of_changes::feedback_law;
+pub use feedback_of_changes::{feedback_law, silent_law};
 pub use members_with_timers::{
     flap_law, held_law, quiet_law, round_law, up_law, window_law, worked_flap_law, worked_held_law,
 };

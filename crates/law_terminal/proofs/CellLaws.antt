@@ -138,7 +138,7 @@ module _ (scenario : Scenario) (returns : List (Option Told)) (lines : HasLines 
       TellsRow scenario returns (λ line. container_of scenario returns line t) cells t
   tells-row t low decided = record {
     packets = λ late.
-        packets-read ((t - 24) / 16) (omega arith)
+        has-packets ((t - 24) / 16) (omega arith)
         (λ m own here. earlier own (16 * ((t - 24) / 16) + 23) t (omega arith) (decided m own here));
     containers = λ line inside.
         let size = come.lines in

@@ -3,14 +3,14 @@ use Rattle.std.proofs.Common.{◌≡◌, ℕ, suc, ◌+◌, ◌-◌, ◌*◌, �
 use Rattle.std.proofs.Common.{length, Some, None, sym, ◌∙◌, ap, arith}
 use Rattle.law_model.specs.Common.{Cell, Scenario, packets, steps_in, told_in, after, stream_before, return_cell}
 use Rattle.law_model.specs.Common.{cells_before, session_cells, payload_of, row_at, return_at, is_whole_row}
-use Rattle.law_model.specs.Common.{container_of, frame_of}
+use Rattle.law_model.specs.Common.{container_of, frame_of, carriers_at, known_lines}
 use Rattle.law_line.specs.StableRows.{AreDecidedAt}
 use Rattle.law_session.specs.Session.{AgreeBefore}
 use Rattle.law_session.proofs.SessionLaws.{Agree, Agree-first, after-agree, return_cell-agree, Agree-take}
 use Rattle.law_session.proofs.ClientLaws.{stream_before-agree}
 use Rattle.law_terminal.specs.SessionLines.{HasLines, ComeOfLines}
 use Rattle.law_terminal.specs.Course.{back_of, packet_by, told_of, IsCourse}
-use Rattle.law_terminal.proofs.RowLaws.{row-told, back-told, packet-told}
+use Rattle.law_terminal.proofs.RowLaws.{row-told, carriers-told, back-told, packet-told}
 use Rattle.law_terminal.proofs.ListLaws.{same-range}
 use Rattle.law_terminal.proofs.CourseLaws.{course-returns, session-agree, frames-same, come-same}
 
@@ -31,10 +31,15 @@ module _ (scenario : Scenario) (frames n : ℕ) (cells : List (List Cell)) (line
       course-agree course.come
 
   pub course-rows : (t : ℕ) → t < scenario.ticks → AreDecidedAt cells t →
-      row_at scenario.size cells t
+      row_at scenario.options scenario.size cells t
       ≡ (if is_whole_row scenario (session_cells scenario) t then Some (payload_of scenario (session_cells scenario) t)
       else None)
-  course-rows t low decided = row-told scenario (session_cells scenario) frames cells t lines course-come low decided
+  course-rows t low decided = row-told scenario (packets scenario) frames cells t lines lag course-come low decided
+
+  pub course-carriers : (k : ℕ) → 16 * k + 23 < scenario.ticks → AreDecidedAt cells (16 * k + 23) →
+      carriers_at scenario.options cells k ≡ known_lines scenario (session_cells scenario) k
+  course-carriers k low decided = carriers-told scenario (packets scenario) frames cells k lines lag course-come low
+      decided
 
   pub course-cell : (k : ℕ) → 16 * k + 23 < scenario.ticks → AreDecidedAt cells (16 * k + 23) →
       told_in (back_of scenario cells k) ≡ return_cell scenario (session_cells scenario) k

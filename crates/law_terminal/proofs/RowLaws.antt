@@ -4,11 +4,12 @@ use Rattle.std.proofs.Common.{◌∙◌, ap, arith}
 use Rattle.law_model.specs.Common.{Cell, packet_nibbles, Scenario, is_lost, told_in, return_packet, return_cell, Told}
 use Rattle.law_model.specs.Common.{cells_before}
 use Rattle.law_model.specs.Common.{payload_of, return_of, read_packets, row_at, return_at, packets_of, is_whole_row}
-use Rattle.law_model.specs.Common.{container_of}
+use Rattle.law_model.specs.Common.{container_of, carriers_at, known_lines}
 use Rattle.member_cells.specs.declared.containers_and_cells.BackCell.TheVariants.{Packet as Nibbles, Lost}
 use Rattle.law_line.specs.StableRows.{AreDecidedAt}
-use Rattle.law_row.specs.Received.{HasPackets}
-use Rattle.law_row.proofs.WholeLaws.{row-whole}
+use Rattle.law_row.specs.Received.{HasPackets, row_octets}
+use Rattle.law_row.proofs.CarrierLaws.{carriers-known}
+use Rattle.law_row.proofs.WholeLaws.{row-whole, row-stops}
 use Rattle.law_row.proofs.DealtLaws.{row-payload}
 use Rattle.law_row.proofs.ReturnLaws.{said-nibbles}
 use Rattle.law_terminal.specs.SessionLines.{HasLines, ComeOfLines}
@@ -17,16 +18,45 @@ use Rattle.law_terminal.proofs.ListLaws.{same-range}
 use Rattle.law_terminal.proofs.DealtLaws.{dealt-row}
 use Rattle.law_terminal.proofs.CellLaws.{has-packets, tells-row}
 
-pub row-told : (scenario : Scenario) (returns : List (Option Told)) (frames : ℕ) (cells : List (List Cell)) (t : ℕ) →
-    HasLines scenario →
+-- the octets of a row that is whole, where the source made the containers
+row-of : (scenario : Scenario) (returns : List (Option Told)) (t : ℕ) →
+    (if is_whole_row scenario returns t
+    then Some (row_octets scenario returns (λ line. container_of scenario returns line t) t) else None)
+    ≡ (if is_whole_row scenario returns t then Some (payload_of scenario returns t) else None)
+row-of scenario returns t =
+    ap (λ octets. if is_whole_row scenario returns t then Some octets else None)
+    (row-payload scenario returns (λ line. container_of scenario returns line t) t (dealt-row scenario returns t))
+
+pub row-told : (scenario : Scenario) (n frames : ℕ) (cells : List (List Cell)) (t : ℕ) → HasLines scenario →
+    0 < scenario.lag →
+    ComeOfLines scenario (cells_before scenario n) frames cells → t < scenario.ticks → AreDecidedAt cells t →
+    row_at scenario.options scenario.size cells t ≡ (if is_whole_row scenario (cells_before scenario n) t then Some
+    (payload_of scenario (cells_before scenario n) t) else None)
+row-told scenario n frames cells t lines lag come low decided =
+    let returns = cells_before scenario n in
+    row-whole scenario n (λ line. container_of scenario returns line t) cells t lines.few lag
+    (tells-row scenario returns lines frames cells come t low decided)
+    ∙ row-of scenario returns t
+
+-- where the sink stops, whatever the source was told
+pub row-stopped : (scenario : Scenario) (returns : List (Option Told)) (frames : ℕ) (cells : List (List Cell)) (t : ℕ) →
+    HasLines scenario → scenario.options.infers ≡ false →
     ComeOfLines scenario returns frames cells → t < scenario.ticks → AreDecidedAt cells t →
-    row_at scenario.size cells t ≡ (if is_whole_row scenario returns t then Some
+    row_at scenario.options scenario.size cells t ≡ (if is_whole_row scenario returns t then Some
     (payload_of scenario returns t) else None)
-row-told scenario returns frames cells t lines come low decided =
-    let sent = λ (line : ℕ). container_of scenario returns line t in
-    row-whole scenario returns sent cells t lines.few (tells-row scenario returns lines frames cells come t low decided)
-    ∙ ap (λ octets. if is_whole_row scenario returns t then Some octets else None)
-    (row-payload scenario returns sent t (dealt-row scenario returns t))
+row-stopped scenario returns frames cells t lines stops come low decided =
+    row-stops scenario returns (λ line. container_of scenario returns line t) cells t lines.few stops
+    (tells-row scenario returns lines frames cells come t low decided)
+    ∙ row-of scenario returns t
+
+pub carriers-told : (scenario : Scenario) (n frames : ℕ) (cells : List (List Cell)) (k : ℕ) → HasLines scenario →
+    0 < scenario.lag →
+    ComeOfLines scenario (cells_before scenario n) frames cells → 16 * k + 23 < scenario.ticks →
+    AreDecidedAt cells (16 * k + 23) →
+    carriers_at scenario.options cells k ≡ known_lines scenario (cells_before scenario n) k
+carriers-told scenario n frames cells k lines lag come low decided =
+    carriers-known scenario n k cells lines.few lag
+    (has-packets scenario (cells_before scenario n) lines frames cells come k low decided)
 
 -- what comes of a return packet, by whether it is lost
 lost-or : (lost : Bool) (nibbles : List ℕ) (told : Told) → told_in (Nibbles nibbles) ≡ Some told →

@@ -5,7 +5,7 @@ ghost use Rattle.std.specs.Prelude.{if◌then◌else◌};
 ghost use Rattle.std.specs.Prelude.{None};
 ghost use Rattle.law_model.specs.Common.{Cell, Scenario, packets, steps_in, told_in, after, return_cell};
 ghost use Rattle.law_model.specs.Common.{cells_before, session_cells, stream_before, payload_of, row_at, return_at};
-ghost use Rattle.law_model.specs.Common.{is_whole_row, container_of, frame_of};
+ghost use Rattle.law_model.specs.Common.{is_whole_row, container_of, frame_of, carriers_at, known_lines};
 ghost use Rattle.law_line.specs.StableRows.{IsLonger, AreDecidedAt};
 ghost use Rattle.law_terminal.specs.SessionLines.{HasLines, ComeOfLines};
 ghost use Rattle.law_terminal.specs.Course.{back_of, packet_by, told_of, IsCourse};
@@ -27,8 +27,12 @@ pub fn course_law()
     ensures rows { (scenario : Scenario) (frames n t : ℕ) (cells : List (List Cell)) →
         HasLines scenario → 0 < scenario.lag → IsCourse scenario frames n cells →
         t < scenario.ticks → AreDecidedAt cells t →
-        row_at scenario.size cells t ≡ (if is_whole_row scenario (session_cells scenario) t
+        row_at scenario.options scenario.size cells t ≡ (if is_whole_row scenario (session_cells scenario) t
         then Some (payload_of scenario (session_cells scenario) t) else None) }
+    ensures carriers { (scenario : Scenario) (frames n k : ℕ) (cells : List (List Cell)) →
+        HasLines scenario → 0 < scenario.lag → IsCourse scenario frames n cells →
+        16 * k + 23 < scenario.ticks → AreDecidedAt cells (16 * k + 23) →
+        carriers_at scenario.options cells k ≡ known_lines scenario (session_cells scenario) k }
     ensures backs { (scenario : Scenario) (frames n k : ℕ) (cells : List (List Cell)) →
         HasLines scenario → 0 < scenario.lag → IsCourse scenario frames n cells →
         16 * k + 23 < scenario.ticks → AreDecidedAt cells (16 * k + 23) →

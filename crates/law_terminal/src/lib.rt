@@ -2,8 +2,7 @@
 //! was told, the lines give cells of those, and the sink makes rows and return packets of these cells. There
 //! is no code here, and no ring or order of events. Begin at `course_law`: whatever the sink says so far, and
 //! the source was told of it, is what the session says. `sent_law`, `cells_law` and `rows_law` are what it
-//! stands on, for any return cells, but that a return packet tells what the session's does where the source
-//! was told the session's.
+//! stands on: the first two for any return cells, the last mostly where the source was told the session's.
 #![tactic(auto)]
 
 mod cells_that_come;

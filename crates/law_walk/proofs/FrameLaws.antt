@@ -64,7 +64,7 @@ with-row receive is a b false octets same =
 module _ (leg : Leg) (s : Counts) (can : CanWalk leg) (walked : IsWalked leg s)
     (receive : Option (List ℕ) → StreamRow) (is : IsReceived receive) where
   abbrev read : ℕ → StreamRow
-  read t = receive (row_at leg.config.size (popped_cells leg s.lines) t)
+  read t = receive (row_at leg.config.options leg.config.size (popped_cells leg s.lines) t)
 
   abbrev scenario : Scenario
   scenario = scenario_by leg

@@ -12,6 +12,7 @@ pub mod PromiseLaws
 pub mod StepLaws
 pub mod EndLaws
 pub mod WholeLaws
+pub mod NearLaws
 pub mod CountLaws
 pub mod QuietLaws
 pub mod MetLaws

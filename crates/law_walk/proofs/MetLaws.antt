@@ -1,7 +1,7 @@
--- Two legs that meet what is asked of one.
-use Rattle.std.proofs.Common.{◌≡◌, ◌⊎◌, ℕ, zero, suc, ◌+◌, ◌*◌, ◌<◌, ◌≤◌, true, false, inl, inr, List, [], ◌∷◌, map}
-use Rattle.std.proofs.Common.{length, replicate, slice_get, slice_index_or, All, Option, Some, None, refl, sym, ◌∙◌, ap}
-use Rattle.std.proofs.Common.{subst, arith}
+-- Legs that meet what is asked of one.
+use Rattle.std.proofs.Common.{◌≡◌, ◌≢◌, ◌⊎◌, ℕ, zero, suc, ◌+◌, ◌*◌, ◌<◌, ◌≤◌, true, false, inl, inr, List, [], ◌∷◌}
+use Rattle.std.proofs.Common.{map, length, replicate, slice_get, slice_index_or, All, Option, Some, None, refl, sym}
+use Rattle.std.proofs.Common.{◌∙◌, ap, subst, arith}
 use Rattle.std.specs.List.{range_with_len}
 use Rattle.std.specs.List.Sorted.{IsNonDecreasing}
 use Rattle.std.proofs.lemmas.Bool.{le-leb, lt-ltb, false_from_ne_true}
@@ -28,7 +28,7 @@ use Rattle.law_session.specs.Use.{AddsUndamaged, AddsAmongSilent, IsSeen}
 use Rattle.law_session.proofs.DamageLaws.{readable-whole}
 use Rattle.law_session.proofs.TimerUp.{up-plain}
 use Rattle.law_walk.specs.Common.{IsClear, row_from, ConfirmsTrue, item, plain, failing_windows, failing_leg}
-use Rattle.law_walk.specs.Common.{silent_windows, silent_leg}
+use Rattle.law_walk.specs.Common.{silent_windows, silent_leg, near_windows, near_leg, FailsAlone}
 use Rattle.law_walk.proofs.WholeLaws.{clear-whole, row-whole}
 use Rattle.law_walk.proofs.QuietLaws.{quiet-true}
 
@@ -292,3 +292,72 @@ silent-adds = record {
       (table_of silent (session_cells silent) 1).order silent-order is.0 other is.1 not_one in
       subst (λ line. is_read silent line k ≡ false) (sym zero_line) (never-read k (omega (arith, high)));
 }
+
+-- ---- a line of which one container fails, beside one that stays whole
+near_window : Window
+near_window = record { first = 900; «end» = 901; slip = 0 }
+
+near-stops : IsNetwork (plain near_windows 1 1 1000)
+unfolding near_window slip_after
+near-stops =
+    plain_network near_windows 1 1 1000 (omega arith, omega arith)
+    (All-cons (HasFailures 1000) [] ((near_window ∷ []) ∷ []) (no_failure 1000)
+    (All-cons (HasFailures 1000) (near_window ∷ []) []
+    (one_failure 1000 near_window (omega arith) (omega arith) (omega arith)) (All-nil (HasFailures 1000))))
+    (omega arith, omega arith) (omega arith, omega arith) (omega arith, omega arith) (omega arith) (omega arith)
+
+near-network : IsNetwork (near_leg true).config
+near-network = record {
+  lines = near-stops.lines;
+  delay_each = near-stops.delay_each;
+  delays = near-stops.delays;
+  windows_each = near-stops.windows_each;
+  windows = near-stops.windows;
+  lost = near-stops.lost;
+  ring = near-stops.ring;
+  lag = near-stops.lag;
+  ticks = near-stops.ticks;
+  size = near-stops.size;
+  options = record { holdoff = omega arith; restore = omega arith; statuses = inl refl };
+  fits_ring = near-stops.fits_ring;
+  fits_lag = near-stops.fits_lag;
+}
+
+pub near-sound : IsSound (near_leg true)
+unfolding frame_dues command_dues
+near-sound = record {
+  network = near-network;
+  items = record {
+    each = All-cons (IsItem 1000) (item 0 (Add 0)) (item 0 (Add 1) ∷ []) (omega arith, omega arith)
+        (All-cons (IsItem 1000) (item 0 (Add 1)) [] (omega arith, omega arith) (All-nil (IsItem 1000)));
+    frames = IsNonDecreasingBy-short (λ (n : ℕ). n) [] (omega arith);
+    commands = equal-rise 2 0;
+  };
+  few = omega arith;
+}
+
+abbrev near : Scenario
+near = scenario_by (near_leg true)
+
+near-last : last_read (is_read near 1) 55 ≡ Some 54
+unfolding carried are_whole last_read
+near-last = refl
+
+near-count : (table_of near (session_cells near) 55).count ≡ (table_of near (session_cells near) 54).count
+unfolding carried are_whole after keep none_kept cells_before said_before exchange take_out turned admit is_up last_read
+near-count = refl
+
+pub near-alone : FailsAlone (near_leg true) 1 914
+near-alone = record {
+  inside = omega arith;
+  several = omega arith;
+  others = clear;
+  unchanged = λ last is. subst
+      (λ n. (table_of near (session_cells near) 55).count ≡ (table_of near (session_cells near) n).count)
+      (same_Some 54 last (sym near-last ∙ is)) near-count;
+}
+  where
+    clear : (other : ℕ) → other < 2 → other ≢ 1 → IsClear (slice_index_or near_windows other []) (row_from 914) 915
+    clear zero inside differs = λ k d within. absurd (omega (arith, within))
+    clear (suc zero) inside differs = absurd (differs refl)
+    clear (suc (suc other)) inside differs = absurd (omega (arith, inside))

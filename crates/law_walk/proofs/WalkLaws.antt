@@ -11,7 +11,7 @@ use Rattle.std.proofs.lemmas.Option.{slice_get-map, slice_get_within}
 use Rattle.law_model.specs.Common.{Container, Cell, Leg, cells, verdict, Scenario, scenario_by, carried_by, packets}
 use Rattle.law_model.specs.Common.{steps_in, Told, told_in, after, stream_before, cells_before, session_cells}
 use Rattle.law_model.specs.Common.{payload_of, row_at, is_whole_row, frame_of, LinePath, LineCounts, Counts, step, run}
-use Rattle.law_model.specs.Common.{begin, drain, all_cells, path_of}
+use Rattle.law_model.specs.Common.{begin, drain, all_cells, path_of, carriers_at, known_lines}
 use Rattle.law_model.specs.declared.window_types.Carried.{Carried}
 use Rattle.law_model.specs.declared.walk_events.Event.{Event}
 use Rattle.law_model.specs.session.Scenario.{packets_in}
@@ -26,7 +26,7 @@ use Rattle.law_terminal.specs.Course.{back_of, told_of, IsCourse}
 use Rattle.law_terminal.proofs.SentLaws.{containers-size}
 use Rattle.law_terminal.proofs.ListLaws.{range-at}
 use Rattle.law_terminal.proofs.CellLaws.{given-whole}
-use Rattle.law_terminal.proofs.RowLaws.{row-told}
+use Rattle.law_terminal.proofs.RowLaws.{row-told, carriers-told}
 use Rattle.law_terminal.proofs.CourseLaws.{session-agree, come-same}
 use Rattle.law_terminal.proofs.LoopLaws.{frame-same, source-same, stream-same, next-cell}
 use Rattle.law_walk.specs.Common.{sent_on, walk_plan, CanWalk, IsWalked, counts_at, cells_on, popped_on, popped_cells}
@@ -175,18 +175,25 @@ module _ (leg : Leg) (s : Counts) (can : CanWalk leg) (walked : IsWalked leg s) 
       let (inside, same) = popped-at line own here in
       subst (λ own. IsSome (verdict own t)) same (popped-decided line t inside low)
 
-  pub rows-are : (t : ℕ) → t < s.rows →
-      row_at leg.config.size (popped_cells leg s.lines) t ≡
-      (if is_whole_row scenario session t then Some (payload_of scenario session t) else None)
-  rows-are t low =
-      let rows = fits.rows in
-      row-told scenario session s.ticks (popped_cells leg s.lines) t (has-lines leg can) cells-come (omega arith)
-      (cells-decide t low)
-
-  -- ---- the return path
   pub lag : 0 < scenario.lag
   lag = let fits_lag = can.lag in omega arith
 
+  pub rows-are : (t : ℕ) → t < s.rows →
+      row_at leg.config.options leg.config.size (popped_cells leg s.lines) t ≡
+      (if is_whole_row scenario session t then Some (payload_of scenario session t) else None)
+  rows-are t low =
+      let rows = fits.rows in
+      row-told scenario (packets scenario) s.ticks (popped_cells leg s.lines) t (has-lines leg can) lag cells-come
+      (omega arith) (cells-decide t low)
+
+  pub carriers-are : (k : ℕ) → 16 * k + 23 < s.rows →
+      carriers_at leg.config.options (popped_cells leg s.lines) k ≡ known_lines scenario session k
+  carriers-are k low =
+      let rows = fits.rows in
+      carriers-told scenario (packets scenario) s.ticks (popped_cells leg s.lines) k (has-lines leg can) lag cells-come
+      (omega arith) (cells-decide (16 * k + 23) low)
+
+  -- ---- the return path
   few-packets : (rows ticks n : ℕ) → rows ≤ ticks → n ≤ (rows - 8) / 16 → n ≤ (ticks - 8) / 16
   few-packets rows ticks n low most = omega arith
 

@@ -5,11 +5,11 @@ use Rattle.std.proofs.Common.{arith}
 use Rattle.std.proofs.lemmas.Bool.{lt-leb, ltb-false, cases_Bool, cases_lt}
 use Rattle.std.proofs.lemmas.List.{get_or_past}
 use Rattle.std.proofs.lemmas.List.Elements.{All-nil, All-cons}
-use Rattle.law_model.specs.Common.{Leg, is_good, Piece, idle, frames_by, Scenario, scenario_by, carried_by, is_read}
-use Rattle.law_model.specs.Common.{is_heard, Told, active, table_of, session_cells, is_whole_row, Segment}
+use Rattle.law_model.specs.Common.{Leg, lock_of, is_good, is_readable, Piece, idle, frames_by, Scenario, scenario_by}
+use Rattle.law_model.specs.Common.{carried_by, is_read, is_heard, is_known, Told, active, table_of, session_cells}
+use Rattle.law_model.specs.Common.{is_whole_row, Segment}
 use Rattle.law_model.specs.Common.{octets_of_rows, StartsTrue, rows_of, IsSound, longest_frame}
 use Rattle.law_model.specs.declared.window_types.Window.{Window}
-use Rattle.law_model.specs.declared.window_types.Carried.{Carried}
 use Rattle.law_model.specs.declared.window_types.Carried.TheVariants.{Whole}
 use Rattle.law_model.specs.members.Damage.{carried}
 use Rattle.law_session.specs.Session.{AreWhole}
@@ -43,10 +43,47 @@ pub clear-whole : (windows : List Window) (from end : ℕ) → IsClear windows f
     AreWhole (carried windows) from end
 clear-whole windows from end clear n low high = clear-carried windows from end n clear low high
 
+-- fewer containers are as clear
+pub clear-within : (windows : List Window) (a from b end : ℕ) → a ≤ from → end ≤ b → IsClear windows a b →
+    IsClear windows from end
+clear-within windows a from b end low high clear k d inside =
+    elim (clear k d inside) [
+      | inl later ↦ inl (omega arith)
+      | inr sooner ↦ inr (omega arith)
+    ]
+
+-- a packet of containers that are clear is read, and a row on them is good
+pub clear-read : (windows : List Window) (k : ℕ) → IsClear windows (16 * k) (16 * k + 24) →
+    is_readable (carried windows) k ≡ true
+clear-read windows k clear =
+    (readable-whole (carried windows) k).1 (clear-whole windows (16 * k) (16 * k + 24) clear)
+
+pub clear-good : (windows : List Window) (t : ℕ) → 2 ≤ t → IsClear windows (lock_of t) (t + 1) →
+    is_good (carried windows) t ≡ true
+clear-good windows t late clear =
+    (good-whole (carried windows) t).1 (late, clear-whole windows (lock_of t) (t + 1) clear)
+
+-- a line that isn't configured is clear
+pub beyond-clear : (leg : Leg) (line from end : ℕ) → length leg.config.windows ≤ line →
+    IsClear (slice_index_or leg.config.windows line []) from end
+beyond-clear leg line from end beyond =
+    subst (λ windows. IsClear windows from end) (sym (get_or_past leg.config.windows line [] beyond))
+    (λ k d inside. absurd (omega arith))
+
 -- ---- a row
-sooner-whole : (carries : ℕ → Carried) (a from b end : ℕ) → a ≤ from → end ≤ b → AreWhole carries a b →
-    AreWhole carries from end
-sooner-whole carries a from b end low high whole n above below = whole n (omega arith) (omega arith)
+-- it is whole where it is known which lines carry payload, and the container of each line is good
+pub whole-known : (scenario : Scenario) (cells : List (Option Told)) (t : ℕ) →
+    (24 ≤ t → is_known scenario cells ((t - 24) / 16) ≡ true) →
+    ((line : ℕ) → 24 ≤ t → is_good (carried_by scenario line) t ≡ true) → is_whole_row scenario cells t ≡ true
+whole-known scenario cells t known good =
+    elim (cases_Bool (nat_lt t 24)) [
+      | inl early ↦ rw early refl
+      | inr late ↦
+          let high = ltb-false t 24 late in
+          let k : ℕ = (t - 24) / 16 in
+          rw (late, known high) (all-true (λ line. is_good (carried_by scenario line) t)
+          (active (table_of scenario cells k)) (λ line. good line high))
+    ]
 
 module _ (leg : Leg) (some : 0 < length leg.config.windows) (t : ℕ)
     (clear : (line : ℕ) → line < length leg.config.windows →
@@ -54,46 +91,38 @@ module _ (leg : Leg) (some : 0 < length leg.config.windows) (t : ℕ)
   abbrev scenario : Scenario
   scenario = scenario_by leg
 
-  line-clear : (line : ℕ) → IsClear (slice_index_or leg.config.windows line []) (row_from t) (t + 1)
-  line-clear line =
-      elim (cases_lt line (length leg.config.windows)) [
-        | inl inside ↦ clear line inside
-        | inr beyond ↦
-            subst (λ windows. IsClear windows (row_from t) (t + 1))
-            (sym (get_or_past leg.config.windows line [] beyond)) (λ k d inside. absurd (omega arith))
-      ]
+  abbrev cells : List (Option Told)
+  cells = session_cells (scenario_by leg)
 
-  line-whole : (line : ℕ) → AreWhole (carried_by scenario line) (row_from t) (t + 1)
-  line-whole line = clear-whole (slice_index_or leg.config.windows line []) (row_from t) (t + 1) (line-clear line)
+  line-clear : (line from : ℕ) → row_from t ≤ from →
+      IsClear (slice_index_or leg.config.windows line []) from (t + 1)
+  line-clear line from low =
+      clear-within (slice_index_or leg.config.windows line []) (row_from t) from (t + 1) (t + 1) low (omega arith)
+      (elim (cases_lt line (length leg.config.windows)) [
+        | inl inside ↦ clear line inside
+        | inr beyond ↦ beyond-clear leg line (row_from t) (t + 1) beyond
+      ])
 
   line-read : (line : ℕ) → 24 ≤ t → is_read scenario line ((t - 24) / 16) ≡ true
   line-read line late =
       let k : ℕ = (t - 24) / 16 in
-      (readable-whole (carried_by scenario line) k).1
-      (sooner-whole (carried_by scenario line) (row_from t) (16 * k) (t + 1) (16 * k + 24) (omega arith) (omega arith)
-      (line-whole line))
+      clear-read (slice_index_or leg.config.windows line []) k
+      (clear-within (slice_index_or leg.config.windows line []) (16 * k) (16 * k) (t + 1) (16 * k + 24) (omega arith)
+      (omega arith) (line-clear line (16 * k) (omega arith)))
 
-  line-good : (line : ℕ) → 24 ≤ t → is_good (carried_by scenario line) t ≡ true
-  line-good line late =
-      (good-whole (carried_by scenario line) t).1 (
-        omega arith,
-        sooner-whole (carried_by scenario line) (row_from t) (16 * ((t - 2) / 16)) (t + 1) (t + 1)
-            (omega arith) (omega arith) (line-whole line),
-      )
+  all-known : 24 ≤ t → is_known scenario cells ((t - 24) / 16) ≡ true
+  all-known late =
+      let k : ℕ = (t - 24) / 16 in
+      let heard : is_heard scenario k ≡ true = (heard-line scenario k).1 (0, some, line-read 0 late) in
+      let read = all-true (λ line. is_read scenario line k) (active (table_of scenario cells k))
+      (λ line. line-read line late) in
+      rw (heard, read) refl
 
-  pub row-whole : is_whole_row scenario (session_cells scenario) t ≡ true
+  pub row-whole : is_whole_row scenario cells t ≡ true
   row-whole =
-      elim (cases_Bool (nat_lt t 24)) [
-        | inl early ↦ rw early refl
-        | inr late ↦
-            let k : ℕ = (t - 24) / 16 in
-            let high = ltb-false t 24 late in
-            let heard : is_heard scenario k ≡ true = (heard-line scenario k).1 (0, some, line-read 0 high) in
-            let each : (line : ℕ) → (is_read scenario line k && is_good (carried_by scenario line) t) ≡ true =
-            λ line. ap₂ (λ a b. a && b) (line-read line high) (line-good line high) in
-            rw (late, heard) (all-true (λ line. is_read scenario line k && is_good (carried_by scenario line) t)
-            (active (table_of scenario (session_cells scenario) k)) each)
-      ]
+      whole-known scenario cells t all-known
+      (λ line late. clear-good (slice_index_or leg.config.windows line []) t (omega arith)
+      (line-clear line (lock_of t) (omega arith)))
 
 -- ---- the rows before the first that isn't whole
 pub delivered-before : (leg : Leg) (rows : ℕ) → IsSound leg → rows ≤ leg.config.ticks →

@@ -1,8 +1,8 @@
 -- What is promised of a leg, in the words of whoever wrote it.
-use Rattle.std.specs.Prelude.{◌≡◌, ◌⊎◌, ℕ, suc, ◌+◌, ◌-◌, ◌*◌, ◌/◌, ◌<◌, ◌≤◌, true, List, [], ◌∷◌, All, Option, Some}
-use Rattle.std.specs.Prelude.{None, flat_map}
+use Rattle.std.specs.Prelude.{◌≡◌, ◌≢◌, ◌⊎◌, ℕ, suc, ◌+◌, ◌-◌, ◌*◌, ◌/◌, ◌<◌, ◌≤◌, true, List, [], ◌∷◌, length, All}
+use Rattle.std.specs.Prelude.{Option, Some, None, flat_map, slice_index_or}
 use Rattle.law_model.specs.Common.{Leg, Piece, scenario_by, place_of, stream_before, is_whole_row, Counts, bound, drain}
-use Rattle.law_model.specs.Common.{Extent, extents, TrueStarts}
+use Rattle.law_model.specs.Common.{Extent, extents, TrueStarts, is_read, last_read, table_of}
 use Rattle.law_model.specs.declared.window_types.Window.{Window}
 use Rattle.law_model.specs.declared.script_types.Item.{Item}
 use Rattle.law_model.specs.declared.script_types.ItemKind.{ItemKind}
@@ -62,6 +62,20 @@ IsClear windows from end = All (λ (window : Window). (end ≤ window.first) ⊎
 -- the first container on which row t depends: that of the multiframe in which the packet begins that governs the row
 abbrev pub row_from : ℕ → ℕ
 row_from t = 16 * ((t - 24) / 16)
+
+-- no change was made since the last packet of a line up to packet k that could be read
+abbrev pub IsUnchangedSinceRead : Leg → ℕ → ℕ → Type 0
+IsUnchangedSinceRead leg line k = (last : ℕ) → last_read (is_read (scenario_by leg) line) k ≡ Some last →
+    (table_of (scenario_by leg) (session_of leg) k).count ≡ (table_of (scenario_by leg) (session_of leg) last).count
+
+-- of several lines the others have no failure in the containers on which row t depends; and no change was made since a
+-- packet of this one could be read, up to the packet that governs the row
+pub record FailsAlone (leg : Leg) (line t : ℕ) : Type 0 where
+  pub inside : line < length leg.config.windows
+  pub several : 1 < length leg.config.windows
+  pub others : (other : ℕ) → other < length leg.config.windows → other ≢ line →
+      IsClear (slice_index_or leg.config.windows other []) (row_from t) (t + 1)
+  pub unchanged : IsUnchangedSinceRead leg line ((t - 24) / 16)
 
 -- the first rows are whole
 abbrev pub AreWholeBefore : Leg → ℕ → Type 0

@@ -1,5 +1,5 @@
 -- Worked legs: what is refused, what is accepted, and what is counted.
-use Rattle.std.specs.Prelude.{ℕ, Bool, true, false, List, [], ◌∷◌, ◌++◌, map, length, replicate, codes}
+use Rattle.std.specs.Prelude.{ℕ, ◌-◌, Bool, true, false, List, [], ◌∷◌, ◌++◌, map, length, replicate, codes}
 use Rattle.std.specs.List.{range_with_len}
 use Rattle.law_model.specs.Common.{Leg, scenario_by, is_whole_row, Counts, default_options, vc3_size}
 use Rattle.law_model.specs.declared.item_refusals.AcceptFault.TheVariants.{Length}
@@ -128,3 +128,22 @@ silent_windows = (record { first = 0; «end» = 600; slip = 0 } ∷ []) ∷ [] �
 abbrev pub silent_leg : Leg
 silent_leg =
     record { config = plain silent_windows 1 1 600; items = item 0 (Add 0) ∷ item 0 (Add 1) ∷ []; tells = [] }
+
+-- ---- a sink that goes on beside one that stops
+-- two lines, added at once, of which container 900 of line 1 fails
+abbrev pub near_windows : List (List Window)
+near_windows = [] ∷ (record { first = 900; «end» = 901; slip = 0 } ∷ []) ∷ []
+
+abbrev pub near_leg : Bool → Leg
+near_leg infers = record {
+  config = record (plain near_windows 1 1 1000) { options = record default_options { infers = infers } };
+  items = item 0 (Add 0) ∷ item 0 (Add 1) ∷ [];
+  tells = [];
+}
+
+-- rows 899 to 936, of which a number from 900 on aren't whole
+abbrev pub near_rows : List ℕ
+near_rows = range_with_len 899 38
+
+abbrev pub near_whole : ℕ → List Bool
+near_whole spoiled = true ∷ replicate spoiled false ++ replicate (37 - spoiled) true

@@ -15,8 +15,9 @@ ghost use Rattle.law_walk.specs.Promise.{accepted_frames, session_pieces, place_
 pub fn frames_law()
     ensures received { (leg : Leg) (s : Counts) (n : ℕ)
         (receive : Option (List ℕ) → StreamRow) → CanWalk leg → IsWalked leg s → IsReceived receive → n ≤ s.rows →
-        deliver longest_frame (map (λ t. receive (row_at leg.config.size (popped_cells leg s.lines) t))
-        (range_with_len 0 n)) ≡ delivered_of leg n }
+        deliver longest_frame (map (λ t. receive
+        (row_at leg.config.options leg.config.size (popped_cells leg s.lines) t)) (range_with_len 0 n))
+        ≡ delivered_of leg n }
     ensures few { (leg : Leg) (rows : ℕ) → IsSound leg → rows ≤ leg.config.ticks →
         length (delivered_of leg rows) ≤ 299520000000 }
     ensures grows { (leg : Leg) (n more : ℕ) → delivered_of leg (n + more)

@@ -4,7 +4,7 @@ ghost use Rattle.std.specs.Prelude.{◌≡◌, ℕ, ◌+◌, ◌-◌, ◌*◌, �
 ghost use Rattle.std.specs.Prelude.{if◌then◌else◌};
 ghost use Rattle.law_model.specs.Common.{Leg, cells, scenario_by, steps_in, after, source_at, stream_before};
 ghost use Rattle.law_model.specs.Common.{payload_of, row_at, is_whole_row, frame_of, Counts, used_in, step, begin};
-ghost use Rattle.law_model.specs.Common.{drain, walked};
+ghost use Rattle.law_model.specs.Common.{drain, walked, carriers_at, known_lines};
 ghost use Rattle.law_model.specs.declared.script_types.EventLine.{EventLine};
 ghost use Rattle.law_model.specs.declared.walk_events.Event.{Event};
 ghost use Rattle.law_model.specs.session.Scenario.{packets_in};
@@ -18,8 +18,9 @@ ghost use Rattle.law_walk.specs.Landed.{landed_scenario, told_before};
 /// Each event leads from a walk to a walk, and so do a drain and any event lines. After any list
 /// of events: the frames made by the return cells that have come are the session's, and so are the source's
 /// table and the client's stream; the cells that were popped come of them, and decide all rows that were
-/// taken; each of these rows is whole exactly where the session's is, with its octets; and the return cells
-/// that have come are the session's first.
+/// taken; each of these rows is whole exactly where the session's is, with its octets; the sink knows which
+/// lines carry payload exactly where the definition says so; and the return cells that have come are the
+/// session's first.
 pub fn walk_law()
     ensures begins { (leg : Leg) → IsWalked leg (begin (walk_plan leg)) }
     ensures steps { (leg : Leg) (s : Counts) (event : Event) → IsWalked leg s →
@@ -47,10 +48,13 @@ pub fn walk_law()
     ensures decided { (leg : Leg) (s : Counts) (t : ℕ) → CanWalk leg →
         IsWalked leg s → t < s.rows → AreDecidedAt (popped_cells leg s.lines) t }
     ensures rows { (leg : Leg) (s : Counts) (t : ℕ) → CanWalk leg → IsWalked leg s →
-        t < s.rows → row_at leg.config.size (popped_cells leg s.lines) t
+        t < s.rows → row_at leg.config.options leg.config.size (popped_cells leg s.lines) t
         ≡ (if is_whole_row (scenario_by leg) (session_of leg) t
         then Some (payload_of (scenario_by leg) (session_of leg) t)
         else None) }
+    ensures carriers { (leg : Leg) (s : Counts) (k : ℕ) → CanWalk leg → IsWalked leg s →
+        16 * k + 23 < s.rows → carriers_at leg.config.options (popped_cells leg s.lines) k
+        ≡ known_lines (scenario_by leg) (session_of leg) k }
     ensures backs { (leg : Leg) (s : Counts) → CanWalk leg → IsWalked leg s →
         told_of (scenario_by leg) (popped_cells leg s.lines) s.backs
         ≡ told_first leg s.backs }

@@ -4,14 +4,15 @@ ghost use Rattle.std.specs.Prelude.{◌≡◌, ◌↔◌, ℕ, suc, true, false,
 ghost use Rattle.std.specs.Prelude.{slice_index_or, All};
 ghost use Rattle.law_model.specs.Common.{Leg, IsSound, DueFrame, offers_of, scenario_by, after, frames_by, segments};
 ghost use Rattle.law_model.specs.Common.{Extent, Lost, is_frame_lost, IsPlaceOfPiece, frames_kept, is_whole_row};
-ghost use Rattle.law_model.specs.Common.{Counts, walked};
+ghost use Rattle.law_model.specs.Common.{Counts, lock_of, walked};
 ghost use Rattle.law_model.specs.declared.window_types.Window.{Window};
 ghost use Rattle.law_model.specs.members.Damage.{carried};
 ghost use Rattle.law_session.specs.Session.{AreWhole};
 ghost use Rattle.law_walk.specs.Walk.{session_of, IsWalked};
 ghost use Rattle.law_walk.specs.Delivered.{session_rows, delivered_of};
 ghost use Rattle.law_walk.specs.Promise.{accepted_frames, session_pieces, session_extents, session_waiting};
-ghost use Rattle.law_walk.specs.Promise.{place_after, IsClear, row_from, AreWholeBefore, ConfirmsTrue};
+ghost use Rattle.law_walk.specs.Promise.{place_after, IsClear, FailsAlone, row_from, AreWholeBefore};
+ghost use Rattle.law_walk.specs.Promise.{ConfirmsTrue};
 
 /// Which rows a failure leaves whole; and while it has spoiled none, no frame is lost: just those are
 /// delivered whose last octet the rows carry.
@@ -27,6 +28,19 @@ pub fn clear_law()
     ensures before { (leg : Leg) (rows : ℕ) → IsSound leg → rows ≤ leg.config.ticks →
         AreWholeBefore leg rows →
         delivered_of leg rows ≡ frames_by (place_after leg rows) (session_pieces leg) }
+{}
+
+/// With `sink infers` a failure of one line alone costs little. Where the other lines have no failure from the
+/// packet on that governs a row, the line has none from the multiframe on in which the row's container comes,
+/// and no change was made since a packet of the line could be read, the row is whole. So a failure that stands
+/// alone spoils no row from 17 after its end on.
+pub fn near_law()
+    ensures near { (leg : Leg) (line t : ℕ) → IsSound leg → leg.config.options.infers ≡ true → 24 ≤ t →
+        FailsAlone leg line t → IsClear (slice_index_or leg.config.windows line []) (lock_of t) (t + 1) →
+        is_whole_row (scenario_by leg) (session_of leg) t ≡ true }
+    ensures behind { (leg : Leg) (line end t : ℕ) → IsSound leg → leg.config.options.infers ≡ true → 24 ≤ t →
+        FailsAlone leg line t → IsClear (slice_index_or leg.config.windows line []) end (t + 1) → end + 17 ≤ t →
+        is_whole_row (scenario_by leg) (session_of leg) t ≡ true }
 {}
 
 /// With failures: where each place that is confirmed first after a break is that of a piece, the frames

@@ -1,7 +1,7 @@
 -- More cells change nothing of what is decided.
 use Rattle.law_line.proofs.StableLaws.{verdict-stays, cells-part}
 use Rattle.law_line.proofs.OctetLaws.{octets_stay}
-use Rattle.law_line.proofs.RowLaws.{packets_stay, governing_stay, rows_stay, returns_stay}
+use Rattle.law_line.proofs.RowLaws.{packets_stay, governing_stay, carriers_stay, rows_stay, returns_stay}
 use Rattle.law_line.proofs.stable_law.Goals as goal
 
 pub returns-clause-verdicts : goal.returns-clause-verdicts
@@ -18,6 +18,9 @@ returns-clause-packets c = packets_stay
 
 pub returns-clause-governing : goal.returns-clause-governing
 returns-clause-governing c = governing_stay
+
+pub returns-clause-carriers : goal.returns-clause-carriers
+returns-clause-carriers c = carriers_stay
 
 pub returns-clause-rows : goal.returns-clause-rows
 returns-clause-rows c = rows_stay

@@ -13,13 +13,14 @@ use Rattle.law_session.proofs.SessionLaws.{session-law}
 use Rattle.law_session.proofs.TimerHeard.{line-inside}
 use Rattle.law_session.proofs.TimerHeld.{up-held}
 use Rattle.law_walk.specs.Common.{session_of}
+use Rattle.law_walk.proofs.WholeLaws.{clear-within, clear-read}
 use Rattle.law_service.specs.cost_of_failures.Cost.{windows_of, FailsBy, FailsOnce, FailTogether, Spoils, first_hit}
 use Rattle.law_service.specs.cost_of_failures.Closed.{first_told, WasUsed, WereUsed, IsHit}
 use Rattle.law_service.proofs.CostOfFailuresLaws.StatusLaws.{Has-in_lines, count-before}
-use Rattle.law_service.proofs.CostOfFailuresLaws.DamageLaws.{clear-within, clear-read, before-clear}
+use Rattle.law_service.proofs.CostOfFailuresLaws.DamageLaws.{before-clear}
 use Rattle.law_service.proofs.CostOfFailuresLaws.UsedLaws.{stays-normal}
 use Rattle.law_service.proofs.CostOfFailuresLaws.CostLaws.{is-quiet, early-read, failing-some, few-before, has-word}
-use Rattle.law_service.proofs.CostOfFailuresLaws.CostLaws.{none-before, spoils-not, cost-exact}
+use Rattle.law_service.proofs.CostOfFailuresLaws.CostLaws.{none-before, spoils-not, cost-spoiled, cost-exact}
 use Rattle.law_service.proofs.CostOfFailuresLaws.TimerLaws.{in-turn, soonest}
 
 module _ (leg : Leg) (sound : IsSound leg) (from horizon : ℕ) (once : FailsOnce leg from horizon) where
@@ -98,36 +99,40 @@ module _ (leg : Leg) (sound : IsSound leg) (from horizon : ℕ) (once : FailsOnc
       let there : Has (table_before scenario cells (suc j - first + first)).order sq line normal = stays in
       rw place at there
 
-  pub cost-closed : (t : ℕ) → WereUsed leg from horizon → 24 ≤ t → from ≤ t → t < horizon →
-      (is_whole_row scenario cells t ≡ false) ↔ IsHit leg from horizon t
-  cost-closed t were late low high = (
-    λ e.
-        let spoiled = (cost-exact leg sound from horizon once t late low high).0 e in
-        let j : ℕ = (t - 24) / 16 in
-        let sq = spoiled.used.0 in
-        let quiet = is-quiet leg sound from horizon once j (omega arith) in
-        let has = Has-in_lines scenario cells first j quiet j sq spoiled.line normal (omega arith) (omega arith)
-        spoiled.used.1 in
-        record {
-          line = spoiled.line;
-          sq = sq;
-          window = spoiled.window;
-          has = has;
-          fails = spoiled.fails;
-          spoils = spoiled.spoils;
-          untold = elim (cases_lt t (16 * (first_told leg spoiled.window sq + leg.config.lag) + 24)) [
-            | inl before ↦ before
-            | inr behind ↦
-                let small = few-before leg sound from horizon once first sq spoiled.line has in
-                let turn = in-turn leg.config.options.statuses
-                (first_hit spoiled.window.first + leg.config.options.holdoff) (sq / 8) sound.network.options.statuses
-                (omega arith) in
-                absurd (spoils-not leg sound from horizon once spoiled.line t spoiled.window spoiled.fails
-                spoiled.spoils late high spoiled.used
-                (inr (inr (first_told leg spoiled.window sq, turn.0, turn.2, behind))))
-          ];
-        },
-    λ hit. (cost-exact leg sound from horizon once t late low high).1 (record {
+  pub cost-hit : (t : ℕ) → 24 ≤ t → from ≤ t → t < horizon → is_whole_row scenario cells t ≡ false →
+      IsHit leg from horizon t
+  cost-hit t late low high broken =
+      let spoiled = cost-spoiled leg sound from horizon once t late low high broken in
+      let j : ℕ = (t - 24) / 16 in
+      let sq = spoiled.used.0 in
+      let quiet = is-quiet leg sound from horizon once j (omega arith) in
+      let has = Has-in_lines scenario cells first j quiet j sq spoiled.line normal (omega arith) (omega arith)
+      spoiled.used.1 in
+      record {
+        line = spoiled.line;
+        sq = sq;
+        window = spoiled.window;
+        has = has;
+        fails = spoiled.fails;
+        spoils = spoiled.spoils;
+        untold = elim (cases_lt t (16 * (first_told leg spoiled.window sq + leg.config.lag) + 24)) [
+          | inl before ↦ before
+          | inr behind ↦
+              let small = few-before leg sound from horizon once first sq spoiled.line has in
+              let turn = in-turn leg.config.options.statuses
+              (first_hit spoiled.window.first + leg.config.options.holdoff) (sq / 8) sound.network.options.statuses
+              (omega arith) in
+              absurd (spoils-not leg sound from horizon once spoiled.line t spoiled.window spoiled.fails
+              spoiled.spoils late high spoiled.used
+              (inr (inr (first_told leg spoiled.window sq, turn.0, turn.2, behind))))
+        ];
+      }
+
+  pub cost-closed : (t : ℕ) → leg.config.options.infers ≡ false → WereUsed leg from horizon → 24 ≤ t → from ≤ t →
+      t < horizon → (is_whole_row scenario cells t ≡ false) ↔ IsHit leg from horizon t
+  cost-closed t stops were late low high = (
+    cost-hit t late low high,
+    λ hit. (cost-exact leg sound from horizon once t stops late low high).1 (record {
       line = hit.line;
       window = hit.window;
       fails = hit.fails;
@@ -153,17 +158,18 @@ same-spoils a b t first last (inr far) =
 
 -- of the rows that the failure can spoil it spoils the first ones
 pub cost-first : (leg : Leg) (begins ends horizon line t sooner : ℕ) (window : Window) → IsSound leg →
-    FailTogether leg begins ends horizon → WereUsed leg begins horizon →
+    leg.config.options.infers ≡ false → FailTogether leg begins ends horizon → WereUsed leg begins horizon →
     is_whole_row (scenario_by leg) (session_of leg) t ≡ false → t < horizon →
     FailsBy (windows_of leg line) window begins horizon → Spoils window sooner →
     24 ≤ sooner → begins ≤ sooner → sooner ≤ t →
     is_whole_row (scenario_by leg) (session_of leg) sooner ≡ false
-cost-first leg begins ends horizon line t sooner window sound together were broken high fails spoils late low before =
-    let hit = (cost-closed leg sound begins horizon together.fails t were (omega arith) (omega arith) high).0 broken in
+cost-first leg begins ends horizon line t sooner window sound stops together were broken high fails spoils late low
+    before =
+    let hit = cost-hit leg sound begins horizon together.fails t (omega arith) (omega arith) high broken in
     let one = together.same line window fails in
     let other = together.same hit.line hit.window hit.fails in
     let untold = hit.untold in
-    (cost-closed leg sound begins horizon together.fails sooner were late low (omega arith)).1 (record {
+    (cost-closed leg sound begins horizon together.fails sooner stops were late low (omega arith)).1 (record {
       line = hit.line;
       sq = hit.sq;
       window = hit.window;

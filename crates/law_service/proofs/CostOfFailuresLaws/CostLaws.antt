@@ -3,12 +3,12 @@ use Rattle.std.proofs.Common.{◌≡◌, ◌↔◌, not, ℕ, zero, suc, ◌+◌
 use Rattle.std.proofs.Common.{true, false, if◌then◌else◌, inl, inr, List, [], ◌∷◌, map, filter, length, slice_get}
 use Rattle.std.proofs.Common.{Option, Some, refl, sym, ◌∙◌, ap, ap₂, subst, arith}
 use Rattle.std.specs.List.{list_all, range_with_len}
-use Rattle.std.proofs.lemmas.Bool.{cases_Bool, cases_lt, le-ltb, lt-ltb, and_right, false_from_ne_true}
+use Rattle.std.proofs.lemmas.Bool.{cases_Bool, cases_lt, le-ltb, lt-ltb, and_right, both_ways, false_from_ne_true}
 use Rattle.std.proofs.lemmas.Option.{none-some, same_Some, slice_get_within}
 use Rattle.std.proofs.lemmas.List.{get_or_past, length-map}
-use Rattle.law_model.specs.Common.{Leg, is_good, Scenario, scenario_by, carried_by, is_read, is_heard, packets}
+use Rattle.law_model.specs.Common.{Leg, lock_of, is_good, Scenario, scenario_by, carried_by, is_read, is_heard, packets}
 use Rattle.law_model.specs.Common.{is_line_up, member_of, word, Told, is_norm, is_normal, active, after, table_of}
-use Rattle.law_model.specs.Common.{is_whole_row, IsSound}
+use Rattle.law_model.specs.Common.{are_known, is_whole_row, IsSound}
 use Rattle.law_model.specs.declared.window_types.Window.{Window}
 use Rattle.law_model.specs.declared.lcas_states.Standing.{Standing}
 use Rattle.law_model.specs.declared.lcas_states.Member.{Member}
@@ -23,13 +23,13 @@ use Rattle.law_session.proofs.OrderLaws.{Has}
 use Rattle.law_session.proofs.PlanLaws.{order-length}
 use Rattle.law_session.proofs.SessionLaws.{session-cell}
 use Rattle.law_walk.specs.Common.{session_of, IsClear, row_from}
+use Rattle.law_walk.proofs.WholeLaws.{clear-within, clear-read, clear-good}
 use Rattle.law_service.specs.cost_of_failures.Cost.{windows_of, FailsBy, StaysClear, first_hit, FailsOnce, IsSpared}
 use Rattle.law_service.specs.cost_of_failures.Cost.{IsSparedFor, cost_end}
 use Rattle.law_service.specs.cost_of_failures.Cost.{FailTogether, HasSq, SaysOf, end_packet, Spoils, IsSpoiled}
 use Rattle.law_service.specs.cost_of_failures.Cost.{spoiled_rows, round_rows}
 use Rattle.law_service.proofs.CostOfFailuresLaws.StatusLaws.{IsQuiet, Has-in_lines, last-said, norm-up, up-stands}
-use Rattle.law_service.proofs.CostOfFailuresLaws.DamageLaws.{clear-within, clear-read, clear-good, window-some}
-use Rattle.law_service.proofs.CostOfFailuresLaws.DamageLaws.{behind-clear, spoils-or}
+use Rattle.law_service.proofs.CostOfFailuresLaws.DamageLaws.{window-some, behind-clear, spoils-or}
 use Rattle.law_service.proofs.CostOfFailuresLaws.DamageLaws.{before-clear, spoils-arrives, spared-arrives}
 use Rattle.law_service.proofs.CostOfFailuresLaws.TimerLaws.{read-up, up-behind, latest, next_in, in-turn}
 
@@ -191,10 +191,10 @@ module _ (leg : Leg) (sound : IsSound leg) (from horizon : ℕ) (once : FailsOnc
       (clear-read (windows_of leg line) ((t - 24) / 16)
       (clear-within (windows_of leg line) a (16 * ((t - 24) / 16)) b (16 * ((t - 24) / 16) + 24)
       (omega arith) (omega arith) clear))
-      (clear-good (windows_of leg line) t late
-      (clear-within (windows_of leg line) a (row_from t) b (t + 1) (omega arith) (omega arith) clear))
+      (clear-good (windows_of leg line) t (omega arith)
+      (clear-within (windows_of leg line) a (lock_of t) b (t + 1) (omega arith) (omega arith) clear))
 
-  -- a row isn't whole exactly if a line that carries payload fails and spoils it
+  -- a line that carries payload and doesn't arrive fails and spoils the row
   active-arrives : (sq line t : ℕ) → 24 ≤ t → from ≤ t → t < horizon →
       Has (table_of scenario cells ((t - 24) / 16)).order sq line normal →
       (is_read scenario line ((t - 24) / 16) && is_good (carried_by scenario line) t) ≡ false →
@@ -221,8 +221,8 @@ module _ (leg : Leg) (sound : IsSound leg) (from horizon : ℕ) (once : FailsOnc
 
   whole-under : (t : ℕ) → 24 ≤ t → from ≤ t → t < horizon →
       is_whole_row scenario cells t
-      ≡ list_all (λ line. is_read scenario line ((t - 24) / 16) && is_good (carried_by scenario line) t)
-      (active (table_of scenario cells ((t - 24) / 16)))
+      ≡ (are_known scenario cells ((t - 24) / 16) && list_all (λ line. is_good (carried_by scenario line) t)
+      (active (table_of scenario cells ((t - 24) / 16))))
   whole-under t late low high =
       let k : ℕ = (t - 24) / 16 in
       let beside = once.beside in
@@ -236,21 +236,50 @@ module _ (leg : Leg) (sound : IsSound leg) (from horizon : ℕ) (once : FailsOnc
       ) in
       rw (early, heard) refl
 
-  pub cost-exact : (t : ℕ) → 24 ≤ t → from ≤ t → t < horizon →
+  -- a row isn't whole only if a line that carries payload fails and spoils it
+  pub cost-spoiled : (t : ℕ) → 24 ≤ t → from ≤ t → t < horizon → is_whole_row scenario cells t ≡ false →
+      IsSpoiled leg from horizon t
+  cost-spoiled t late low high broken =
+      let k : ℕ = (t - 24) / 16 in
+      let table = table_of scenario cells k in
+      let reads = λ (line : ℕ). is_read scenario line k in
+      let good = λ (line : ℕ). is_good (carried_by scenario line) t in
+      elim (cases_Bool (list_all reads (active table))) [
+        | inr e ↦
+            let found = active-any reads table.order e in
+            active-arrives found.0 found.1 t late low high found.2 (ap (λ b. b && good found.1) found.3)
+        | inl read ↦ elim (cases_Bool (list_all good (active table))) [
+          | inr e ↦
+              let found = active-any good table.order e in
+              active-arrives found.0 found.1 t late low high found.2
+              (and_right (reads found.1) (good found.1) found.3)
+          | inl fine ↦
+              absurd (both_ways (is_whole_row scenario cells t) broken
+              (whole-under t late low high ∙ (rw (read, fine) refl)))
+        ]
+      ]
+
+  -- and just if so, where the sink stops
+  pub cost-exact : (t : ℕ) → leg.config.options.infers ≡ false → 24 ≤ t → from ≤ t → t < horizon →
       (is_whole_row scenario cells t ≡ false) ↔ IsSpoiled leg from horizon t
-  cost-exact t late low high =
+  cost-exact t stops late low high =
       let k : ℕ = (t - 24) / 16 in
       let order = (table_of scenario cells k).order in
-      let test = λ (line : ℕ). is_read scenario line k && is_good (carried_by scenario line) t in
-      let under = whole-under t late low high in (
-        λ e.
-            let found = active-any test order (sym under ∙ e) in
-            active-arrives found.0 found.1 t late low high found.2 found.3,
+      let reads = λ (line : ℕ). is_read scenario line k in
+      let good = λ (line : ℕ). is_good (carried_by scenario line) t in (
+        cost-spoiled t late low high,
         λ spoiled.
-            under ∙ active-not test order spoiled.used.0 spoiled.line spoiled.used.1
-            (false_from_ne_true (test spoiled.line)
-            (spoils-arrives (windows_of leg spoiled.line) spoiled.window from horizon spoiled.fails
-            (failing-some spoiled.line spoiled.window spoiled.fails) t late spoiled.spoils)),
+            let line = spoiled.line in
+            let (sq, has) = spoiled.used in
+            whole-under t late low high ∙ elim (cases_Bool (reads line)) [
+              | inr gone ↦ let lost = active-not reads order sq line has gone in rw (lost, stops) refl
+              | inl read ↦
+                  let bad = false_from_ne_true (good line)
+                  (λ fine. spoils-arrives (windows_of leg line) spoiled.window from horizon spoiled.fails
+                  (failing-some line spoiled.window spoiled.fails) t late spoiled.spoils
+                  (ap₂ (λ a b. a && b) read fine)) in
+                  and_right (are_known scenario cells k) _ (active-not good order sq line has bad)
+            ],
       )
 
   -- ---- a row that no failure spoils
@@ -302,7 +331,7 @@ module _ (leg : Leg) (sound : IsSound leg) (from horizon : ℕ) (once : FailsOnc
         | inr late ↦ elim (cases_Bool (is_whole_row scenario cells t)) [
           | inl whole ↦ whole
           | inr broken ↦
-              let spoiled = (cost-exact t late low high).0 broken in
+              let spoiled = cost-spoiled t late low high broken in
               let j : ℕ = (t - 24) / 16 in
               let quiet = is-quiet j (omega arith) in
               let has = Has-in_lines scenario cells first j quiet j spoiled.used.0 spoiled.line normal

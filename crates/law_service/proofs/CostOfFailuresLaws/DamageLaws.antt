@@ -3,13 +3,13 @@ use Rattle.std.proofs.Common.{◌≡◌, ◌⊎◌, ℕ, zero, suc, ◌+◌, ◌
 use Rattle.std.proofs.Common.{true, false, if◌then◌else◌, inl, inr, List, [], ◌∷◌, length, get_or, ap, ap₂, subst}
 use Rattle.std.proofs.Common.{arith}
 use Rattle.std.proofs.lemmas.Bool.{le-leb, lt-ltb, cases_lt, and_parts}
-use Rattle.law_model.specs.Common.{AreWindows, carried_in, is_good, is_readable}
+use Rattle.law_model.specs.Common.{AreWindows, carried_in, lock_of, is_good, is_readable}
 use Rattle.law_model.specs.declared.window_types.Window.{Window}
 use Rattle.law_model.specs.declared.window_types.Carried.TheVariants.{Whole, Fails, Vanishes}
 use Rattle.law_model.specs.members.Damage.{carried}
 use Rattle.law_session.proofs.DamageLaws.{readable-whole, good-whole}
-use Rattle.law_walk.specs.Common.{IsClear, row_from}
-use Rattle.law_walk.proofs.WholeLaws.{clear-whole}
+use Rattle.law_walk.specs.Common.{IsClear}
+use Rattle.law_walk.proofs.WholeLaws.{clear-within, clear-read, clear-good}
 use Rattle.law_service.specs.cost_of_failures.Cost.{FailsBy, first_hit, end_packet, Spoils}
 
 -- a container of a window doesn't arrive whole
@@ -35,30 +35,6 @@ carried-damaged (first ∷ windows) (suc place) window n inside is low high e =
       | true ↦ λ here. carried_in-damaged first n here
       | false ↦ λ rest. carried-damaged windows place window n (omega arith) is low high rest
     ] e
-
--- fewer containers are as clear
-pub clear-within : (windows : List Window) (a from b end : ℕ) → a ≤ from → end ≤ b → IsClear windows a b →
-    IsClear windows from end
-clear-within windows a from b end low high clear k d inside =
-    elim (clear k d inside) [
-      | inl later ↦ inl (omega arith)
-      | inr sooner ↦ inr (omega arith)
-    ]
-
--- a packet of containers that are clear is read, and a row on them is good
-pub clear-read : (windows : List Window) (k : ℕ) → IsClear windows (16 * k) (16 * k + 24) →
-    is_readable (carried windows) k ≡ true
-clear-read windows k clear =
-    (readable-whole (carried windows) k).1 (clear-whole windows (16 * k) (16 * k + 24) clear)
-
-pub clear-good : (windows : List Window) (t : ℕ) → 24 ≤ t → IsClear windows (row_from t) (t + 1) →
-    is_good (carried windows) t ≡ true
-clear-good windows t late clear =
-    (good-whole (carried windows) t).1 (
-      omega arith,
-      clear-whole windows (16 * ((t - 2) / 16)) (t + 1)
-          (clear-within windows (row_from t) (16 * ((t - 2) / 16)) (t + 1) (t + 1) (omega arith) (omega arith) clear),
-    )
 
 -- a window of a list of windows damages some container
 pub window-some : (windows : List Window) (from place : ℕ) (window : Window) → AreWindows from windows →
@@ -148,18 +124,14 @@ module _ (windows : List Window) (window : Window) (from horizon : ℕ) (fails :
         ]
       ])
       (elim (cases_lt t window.first) [
-        | inl before ↦ clear-good windows t late
-            (clear-within windows (from - 39) (row_from t) (min window.first horizon) (t + 1) (omega arith)
+        | inl before ↦ clear-good windows t (omega arith)
+            (clear-within windows (from - 39) (lock_of t) (min window.first horizon) (t + 1) (omega arith)
             (omega arith)
             before-clear)
         | inr since ↦ elim (cases_lt t (16 * end_packet window.end + 2)) [
           | inl during ↦ absurd (spared (inl (since, during)))
-          | inr behind ↦ (good-whole (carried windows) t).1 (
-            omega arith,
-            clear-whole windows (16 * ((t - 2) / 16)) (t + 1)
-                (clear-within windows window.end (16 * ((t - 2) / 16)) horizon (t + 1) (omega arith) (omega arith)
-                behind-clear),
-          )
+          | inr behind ↦ clear-good windows t (omega arith)
+              (clear-within windows window.end (lock_of t) horizon (t + 1) (omega arith) (omega arith) behind-clear)
         ]
       ])
 

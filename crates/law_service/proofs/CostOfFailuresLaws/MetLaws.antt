@@ -19,11 +19,11 @@ use Rattle.law_session.proofs.TimerUp.{up-plain}
 use Rattle.law_session.proofs.WordLaws.{word-here}
 use Rattle.law_walk.specs.Common.{session_of, item, plain, IsClear}
 use Rattle.law_walk.proofs.MetLaws.{equal-rise, no_failure, one_failure, plain_network}
+use Rattle.law_walk.proofs.WholeLaws.{clear-read}
 use Rattle.law_service.specs.cost_of_failures.Cost.{windows_of, FailsBy, StaysClear, FailsOnce, FailTogether}
 use Rattle.law_service.specs.cost_of_failures.Cost.{table_at, HasSq}
 use Rattle.law_service.specs.cost_of_failures.Settled.{IsSettled}
 use Rattle.law_service.specs.cost_of_failures.Closed.{WasUsed, WereUsed}
-use Rattle.law_service.proofs.CostOfFailuresLaws.DamageLaws.{clear-read}
 use Rattle.law_service.specs.cost_of_failures.Worked.{costly_window, costly_windows, costly_leg}
 use Rattle.law_service.proofs.CostOfFailuresLaws.SettledLaws.{settled-still}
 

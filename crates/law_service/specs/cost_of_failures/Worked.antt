@@ -1,6 +1,6 @@
 -- A worked leg whose costs are the greatest that there are.
 use Rattle.std.specs.Prelude.{ℕ, List, [], ◌∷◌, map}
-use Rattle.law_model.specs.Common.{Leg, active}
+use Rattle.law_model.specs.Common.{Leg, active, default_options}
 use Rattle.law_model.specs.declared.window_types.Window.{Window}
 use Rattle.law_model.specs.declared.script_types.ItemKind.TheVariants.{Add}
 use Rattle.law_walk.specs.Common.{item, plain}
@@ -24,7 +24,9 @@ dearest_windows = [] ∷ (record { first = 488; «end» = 945; slip = 0 } ∷ []
 
 abbrev pub dearest_leg : Leg
 dearest_leg = record {
-  config = record (plain dearest_windows 4 2 1400) { options = record { holdoff = 3; restore = 5; statuses = 16 } };
+  config = record (plain dearest_windows 4 2 1400) {
+    options = record default_options { holdoff = 3; restore = 5 };
+  };
   items = item 0 (Add 0) ∷ item 0 (Add 1) ∷ [];
   tells = [];
 }

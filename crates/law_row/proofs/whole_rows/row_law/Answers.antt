@@ -1,6 +1,6 @@
 -- The rows of a session.
 use Rattle.law_row.proofs.RowLaws.{active_of-all}
-use Rattle.law_row.proofs.WholeLaws.{row-whole}
+use Rattle.law_row.proofs.WholeLaws.{row-whole, row-stops}
 use Rattle.law_row.proofs.DealtLaws.{joined-dealt, row-payload}
 use Rattle.law_row.proofs.whole_rows.row_law.Goals as goal
 
@@ -9,6 +9,9 @@ returns-clause-active c = active_of-all
 
 pub returns-clause-whole : goal.returns-clause-whole
 returns-clause-whole c = row-whole
+
+pub returns-clause-stops : goal.returns-clause-stops
+returns-clause-stops c = row-stops
 
 pub returns-clause-joined : goal.returns-clause-joined
 returns-clause-joined c = joined-dealt

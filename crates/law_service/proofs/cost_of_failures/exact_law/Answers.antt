@@ -1,10 +1,15 @@
 -- The rows and the lines in use, exactly.
-use Rattle.law_service.proofs.CostOfFailuresLaws.CostLaws.{cost-exact, cost-told, cost-stands, cost-unnoticed}
+use Rattle.law_service.proofs.CostOfFailuresLaws.CostLaws.{cost-spoiled, cost-exact, cost-told, cost-stands}
+use Rattle.law_service.proofs.CostOfFailuresLaws.CostLaws.{cost-unnoticed}
 use Rattle.law_service.proofs.cost_of_failures.exact_law.Goals as goal
 
+pub returns-clause-only : goal.returns-clause-only
+returns-clause-only c leg from horizon t sound once late low high =
+    cost-spoiled leg sound from horizon once t late low high
+
 pub returns-clause-spoiled : goal.returns-clause-spoiled
-returns-clause-spoiled c leg from horizon t sound once late low high =
-    cost-exact leg sound from horizon once t late low high
+returns-clause-spoiled c leg from horizon t sound stops once late low high =
+    cost-exact leg sound from horizon once t stops late low high
 
 pub returns-clause-told : goal.returns-clause-told
 returns-clause-told c leg from horizon t sound once spared low high =

@@ -1,5 +1,6 @@
 -- Legs that meet what is asked.
 use Rattle.law_walk.proofs.MetLaws.{failing-sound, failing-starts, failing-adds, silent-sound, silent-adds}
+use Rattle.law_walk.proofs.MetLaws.{near-sound, near-alone}
 use Rattle.law_walk.proofs.legs_that_meet.met_law.Goals as goal
 
 pub returns-clause-failing : goal.returns-clause-failing
@@ -16,3 +17,9 @@ returns-clause-silent c = silent-sound
 
 pub returns-clause-others_silent : goal.returns-clause-others_silent
 returns-clause-others_silent c = silent-adds
+
+pub returns-clause-near : goal.returns-clause-near
+returns-clause-near c = near-sound
+
+pub returns-clause-alone : goal.returns-clause-alone
+returns-clause-alone c = near-alone

@@ -40,6 +40,14 @@ pub returns-clause-spoiled : goal.returns-clause-spoiled
 unfolding carried are_whole after is_up last_read keep none_kept cells_before said_before exchange take_out turned admit
 returns-clause-spoiled c = refl
 
+pub returns-clause-inferred : goal.returns-clause-inferred
+unfolding carried are_whole after is_up last_read keep none_kept cells_before said_before exchange take_out turned admit
+returns-clause-inferred c = refl
+
+pub returns-clause-stopped : goal.returns-clause-stopped
+unfolding carried are_whole after is_up last_read keep none_kept cells_before said_before exchange take_out turned admit
+returns-clause-stopped c = refl
+
 pub returns-clause-report : goal.returns-clause-report
 unfolding digits landed_from carried are_whole after is_up last_read keep none_kept cells_before said_before exchange
     take_out turned admit stream_before reaching place_of rows_of segments_on delineate_within hunt_within

@@ -2,7 +2,7 @@
 use Rattle.law_progress.proofs.ReachLaws.{walked-reached}
 use Rattle.law_walk.specs.Common.{walk_plan}
 use Rattle.law_walk.proofs.WalkLaws.{begins-walked, steps-walked, drains-walked, is-course, sources-are, streams-are}
-use Rattle.law_walk.proofs.WalkLaws.{frames-are, cells-come, cells-decide, rows-are, backs-are}
+use Rattle.law_walk.proofs.WalkLaws.{frames-are, cells-come, cells-decide, rows-are, carriers-are, backs-are}
 use Rattle.law_walk.proofs.walks_as_session.walk_law.Goals as goal
 
 pub returns-clause-frames : goal.returns-clause-frames
@@ -16,6 +16,9 @@ returns-clause-decided c leg s t can walked = cells-decide leg s can walked t
 
 pub returns-clause-rows : goal.returns-clause-rows
 returns-clause-rows c leg s t can walked = rows-are leg s can walked t
+
+pub returns-clause-carriers : goal.returns-clause-carriers
+returns-clause-carriers c leg s k can walked = carriers-are leg s can walked k
 
 pub returns-clause-backs : goal.returns-clause-backs
 returns-clause-backs c = backs-are
