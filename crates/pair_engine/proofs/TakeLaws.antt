@@ -3,7 +3,7 @@ use Rattle.std.proofs.Common.{◌≡◌, ℕ, ◌+◌, ◌-◌, ◌*◌, ◌/◌
 use Rattle.std.proofs.Common.{List, [], ◌∷◌, ◌++◌, length, map, Option, Some, None, option_map}
 use Rattle.std.proofs.Common.{refl, sym, ◌∙◌, ap, subst, arith, inl, inr}
 use Rattle.std.specs.List.{range_with_len}
-use Rattle.std.proofs.lemmas.Bool.{cases_Bool, eqb-true, ltb-true, le-leb}
+use Rattle.std.proofs.lemmas.Bool.{cases_Bool, eqb-true, ltb-true, le-leb, le-ltb}
 use Rattle.std.proofs.lemmas.List.{append-nil, map-append, drop_all}
 use Rattle.law_model.specs.Common.{BackCell, Leg, told_by, told_in, leader, governing, read_packets, Plan, Counts}
 use Rattle.law_model.specs.Common.{LineCounts, Step, begin, in_return, is_back_full, pop_lines, take_popped, take_row}
@@ -528,7 +528,7 @@ module _ (was own other : PairWay) (row : ℕ) (is : EndsPacket was own other ro
         let (whole, more) = k-is in
         let same = is.beside.pair.lag in
         let ends : 16 * k + 23 < other.script.config.ticks = omega (arith, at, low, high) in
-        let past : nat_lt (row + 1) 24 ≡ false = grind (arith, at) in
+        let past : nat_lt (row + 1) 24 ≡ false = le-ltb (row + 1) 24 (omega (arith, at)) in
         let quotient : (row + 1 - 24) / 16 ≡ k + was.script.config.lag = omega (arith, at, whole) in
         let row_is : governing cells own.core.sink.taken ≡ read_packets cells (k + was.script.config.lag) =
         ap (governing cells) is.row_is ∙ rw past (ap (read_packets cells) quotient) in

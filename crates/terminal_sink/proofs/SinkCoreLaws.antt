@@ -1,4 +1,3 @@
-pub mod ActiveLaws
 pub mod GivingLaws
 pub mod IdleLaws
 pub mod WholeLaws

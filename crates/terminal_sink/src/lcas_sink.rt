@@ -1,14 +1,19 @@
-//! The sink's side of LCAS (G.7042): what it tells the source of the control packets that it read. Begin with
-//! `SinkTable`; `rows_law`: further rows change no return packet of those before. Which packets are read, and
-//! which rows of payload are whole by them, is not said here. That the sink answers a change by RS-Ack as an
-//! echo of the change bit, and that timers count packets, is this project's own.
+//! The sink's side of LCAS (G.7042): what it tells the source of the control packets that it read, and which lines
+//! carry payload by them. Begin with `SinkTable`; `rows_law`: further rows change no return packet of those before.
+//! Which packets are read, and which rows of payload are whole, is not said here. That the sink answers a change by
+//! RS-Ack as an echo of the change bit, that timers count packets, and when the sink goes on without a packet, is
+//! this project's own.
 
-ghost use Rattle.std.specs.Prelude.{◌≡◌, ℕ, ◌+◌, ◌*◌, ◌<◌, ◌≤◌, [], ◌∷◌, ◌++◌, List, length, not, if◌then◌else◌};
+ghost use Rattle.std.specs.Prelude.{◌≡◌, ℕ, ◌+◌, ◌*◌, ◌<◌, ◌≤◌, [], ◌∷◌, ◌++◌, List, length, not, if◌then◌else◌, IfSome};
+ghost use Rattle.std.specs.Option.{option_copied};
 ghost use Rattle.law_model.specs.Common.{IsOptions, Row, leader, ack_by, return_of, state_next, sink_state};
 ghost use Rattle.law_model.specs.declared.script_types.Options.{Options};
 ghost use Rattle.terminal_sink.specs.member_watch.Watches.{AreWatched, is_changed, is_told, mst_by};
-ghost use Rattle.terminal_sink.specs.lcas_sink.SinkStates.{SinkTableStands, state_at, state_after};
+ghost use Rattle.member_rows.specs.vcat_interleave.Members.{AreLines};
+ghost use Rattle.terminal_sink.specs.lcas_sink.SinkStates.{SinkTableStands, state_at, state_after, last_carriers};
 
+use crate::known_carriers::known_carriers;
+use crate::line_list::LineList;
 use crate::member_watch::{MemberWatch, is_member};
 pub use law_model::SinkState;
 use law_model::{MOST_LINES, Options, Packet};
@@ -26,11 +31,14 @@ pub struct SinkTable {
     ack: bool,
     states: [SinkState; MOST_LINES],
     watches: [MemberWatch; MOST_LINES],
+    /// The lines that carry payload by the last row, where that is known.
+    carriers: Option<LineList>,
 }
 
 impl Model for SinkTable {
-    ghost use Rattle.std.specs.Prelude.{◌≡◌, ◌≤◌, ℕ};
+    ghost use Rattle.std.specs.Prelude.{◌≡◌, ◌≤◌, ℕ, IfSome};
     ghost use Rattle.law_model.specs.Common.{IsOptions};
+    ghost use Rattle.member_rows.specs.vcat_interleave.Members.{AreLines};
     ghost use Rattle.law_model.specs.declared.lcas_states.SinkState.TheVariants.{Idle};
     ghost use Rattle.terminal_sink.specs.lcas_sink.SinkStates.{Sink, state_at};
 
@@ -43,10 +51,12 @@ impl Model for SinkTable {
       ack = table.ack;
       states = table.states;
       watches = table.watches;
+      carriers = table.carriers;
     } };
 
     ghost invariant = { λ table. (table.lines ≤ 128) × IsOptions table.options
-        × ((line : ℕ) → table.lines ≤ line → state_at table.states line ≡ Idle) };
+        × ((line : ℕ) → table.lines ≤ line → state_at table.states line ≡ Idle)
+        × IfSome table.carriers (AreLines table.lines) };
 
     ghost inverse = { λ sink. record {
       lines = sink.lines;
@@ -55,6 +65,7 @@ impl Model for SinkTable {
       ack = sink.ack;
       states = sink.states;
       watches = sink.watches;
+      carriers = sink.carriers;
     } };
 }
 
@@ -75,6 +86,7 @@ impl SinkTable {
             ack: false,
             states: all_idle(),
             watches: all_unread(options),
+            carriers: None,
         }
     }
 
@@ -98,6 +110,7 @@ impl SinkTable {
         self.ack = ack;
         take_packets(&mut self.states, row);
         watch_packets(&mut self.watches, row, changed, self.options);
+        self.carriers = known_carriers(row, &self.states, &self.watches, self.options);
         let group = (self.taken % u32::from(self.options.statuses)) as u8;
         self.taken += 1;
         Packet {
@@ -109,6 +122,20 @@ impl SinkTable {
             ctrl: Ctrl::Idle,
             gid: false,
             act: 0,
+        }
+    }
+
+    /// The lines that carry payload by the last row that was taken, in the order of their sequence numbers; `None`
+    /// where they aren't known, or no row was taken.
+    pub fn carriers(&self) -> Option<&[u8]>
+        ensures exact { (rows : List Row) → SinkTableStands self.now rows →
+            option_copied result ≡ last_carriers self.now.options rows }
+        ensures lines { IfSome result (λ carriers. AreLines self.now.lines carriers.now) }
+        ensures few { IfSome result (λ carriers. length carriers.now ≤ 128) }
+    {
+        match &self.carriers {
+            Some(carriers) => Some(carriers.as_slice()),
+            None => None,
         }
     }
 

@@ -100,6 +100,13 @@ impl MemberWatch {
         }
     }
 
+    /// The sequence number that the line said last, where it said it as a member and no change was read since.
+    pub fn said(&self) -> Option<u8>
+        ensures { result ≡ self.now.said }
+    {
+        self.said
+    }
+
     /// Whether the line is up and said last that it is a member with this sequence number.
     pub fn says(&self, sq: u8) -> bool
         ensures { result ≡ says self.now sq }

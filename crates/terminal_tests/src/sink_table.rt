@@ -187,6 +187,7 @@ fn right_rows_under(holdoff: u16, restore: u16, statuses: u8, rows: &str) -> u8
     requires statuses { IsStatuses statuses }
 {
     let options = Options {
+        infers: false,
         holdoff,
         restore,
         statuses,
@@ -204,5 +205,149 @@ fn timers(rt: HostRuntime) {
             right_rows_under(5, 0, 16, changed())
         ),
         (34, 18, 18, 18)
+    );
+}
+
+/// Rows of a sink that goes on: the change bit and the ACT of all packets; the packet of each of three lines, which is
+/// `--` for none, and else a letter for its control word and its sequence number; and the lines that carry payload
+/// after it, or `?` where they aren't known. Silent lines were read since the change or not, are as many as ACT wants
+/// or not, and were last in NORM, ADD or DNU.
+fn going_on() -> &'static str {
+    "\
+    +0 -- -- -- ?\n\
+    +2 e1 n0 i9 10\n\
+    +2 e1 -- i9 10\n\
+    +2 -- -- i9 10\n\
+    +2 -- -- -- ?\n\
+    -2 n0 -- i9 ?\n\
+    -2 n0 e1 i9 01\n\
+    -1 e0 -- i9 0\n\
+    -2 -- -- i9 01\n\
+    -3 n0 -- i9 ?\n\
+    +2 n0 e1 a2 01\n\
+    +2 n0 e1 -- 01\n\
+    +3 n0 n1 -- 012\n\
+    +3 n0 -- -- 012\n\
+    +2 n0 e1 d2 01\n\
+    +2 n0 -- -- ?"
+}
+
+/// Rows of a sink that stops.
+fn stopping() -> &'static str {
+    "\
+    +2 e1 n0 i9 10\n\
+    +2 e1 -- i9 ?\n\
+    +1 e0 -- i9 0"
+}
+
+/// The packet of a letter and a digit, for its control word and its sequence number.
+fn said(letter: u8, digit: u8, chg: bool, act: u8) -> Option<Packet> {
+    let ctrl = match letter {
+        b'a' => Ctrl::Add,
+        b'n' => Ctrl::Norm,
+        b'e' => Ctrl::Eos,
+        b'd' => Ctrl::Dnu,
+        b'i' => Ctrl::Idle,
+        _ => return None,
+    };
+    Some(Packet {
+        chg,
+        sq: digit % 16,
+        ctrl,
+        act: act % 16,
+        ..IDLE
+    })
+}
+
+/// Whether the lines that carry payload are those that are listed.
+fn are_listed(carriers: Option<&[u8]>, listed: &[u8]) -> bool {
+    match carriers {
+        Some(lines) => {
+            lines.len() == listed.len()
+                && lines
+                    .iter()
+                    .zip(listed)
+                    .all(|(line, listed)| digit(*line) == *listed)
+        }
+        None => listed == b"?".as_slice(),
+    }
+}
+
+/// Takes a row. Tells whether the lines that carry payload by it are those that are listed.
+fn is_known(table: &mut SinkTable, row: &[u8]) -> bool
+    requires lines { table.old.lines ≡ 3 }
+    requires few { table.old.taken ≤ 100 }
+    ensures lines { table.new.lines ≡ 3 }
+    ensures taken { table.new.taken ≡ table.old.taken + 1 }
+{
+    let packets = match row {
+        [
+            chg,
+            act,
+            _,
+            first,
+            first_sq,
+            _,
+            second,
+            second_sq,
+            _,
+            third,
+            third_sq,
+            ..
+        ] => {
+            let chg = *chg == b'+';
+            [
+                said(*first, *first_sq, chg, *act),
+                said(*second, *second_sq, chg, *act),
+                said(*third, *third_sq, chg, *act),
+            ]
+        }
+        _ => [None, None, None],
+    };
+    table.packet_row(&packets);
+    match row.get(12..) {
+        Some(listed) => are_listed(table.carriers(), listed),
+        None => false,
+    }
+}
+
+/// The number of the first row by which other lines carry payload than are listed, or that after the last one.
+fn known_rows(table: &mut SinkTable, rows: &str) -> u8
+    requires lines { table.old.lines ≡ 3 }
+    requires few { table.old.taken ≡ 0 }
+{
+    let mut number = 1u8;
+    for row in rows.lines() {
+        if number > 100 || !is_known(table, row.as_bytes()) {
+            return number;
+        }
+        number += 1;
+    }
+    number
+}
+
+/// The same, of a table by which none are known before any row.
+fn known_rows_under(infers: bool, rows: &str) -> u8 {
+    let options = Options {
+        infers,
+        ..Options::default()
+    };
+    let mut table = SinkTable::new(3, options);
+    if table.carriers().is_some() {
+        0
+    } else {
+        known_rows(&mut table, rows)
+    }
+}
+
+#[test]
+fn carriers(rt: HostRuntime) {
+    assert_eq!(rt;
+        (
+            known_rows_under(true, going_on()),
+            known_rows_under(false, going_on()),
+            known_rows_under(false, stopping())
+        ),
+        (17, 3, 4)
     );
 }

@@ -72,41 +72,47 @@ unfolding backs
 backs-more options cells t next is = let e : next ≡ suc t = omega (arith, is) in ap (backs options cells) e
 
 -- ---- frames of some rows, and then of more
-added-then : (size : ℕ) (cells longer : List (List Cell)) (a b c : ℕ) → a ≤ b → b ≤ c → IsLonger cells longer →
-    ((t : ℕ) → t < b → AreDecidedAt cells t) →
-    added_frames size cells a b ++ added_frames size longer b c ≡ added_frames size longer a c
-added-then size cells longer a b c low high more decided =
-    append_cancel_left (given_frames size longer a) (added_frames size cells a b ++ added_frames size longer b c)
-    (added_frames size longer a c)
-    (sym (append_assoc (given_frames size longer a) (added_frames size cells a b) (added_frames size longer b c))
-    ∙ ap (λ l. (l ++ added_frames size cells a b) ++ added_frames size longer b c)
-    (frames-stay size a cells longer more (λ t early. decided t (omega (arith, low, early))))
-    ∙ ap (λ l. l ++ added_frames size longer b c)
-    (sym (frames-grow size a b cells low) ∙ sym (frames-stay size b cells longer more decided))
-    ∙ sym (frames-grow size b c longer high) ∙ frames-grow size a c longer (omega (arith, low, high)))
+added-then : (options : Options) (size : ℕ) (cells longer : List (List Cell)) (a b c : ℕ) → a ≤ b → b ≤ c →
+    IsLonger cells longer → ((t : ℕ) → t < b → AreDecidedAt cells t) →
+    added_frames options size cells a b ++ added_frames options size longer b c ≡ added_frames options size longer a c
+added-then options size cells longer a b c low high more decided =
+    append_cancel_left (given_frames options size longer a)
+    (added_frames options size cells a b ++ added_frames options size longer b c)
+    (added_frames options size longer a c)
+    (sym (append_assoc (given_frames options size longer a) (added_frames options size cells a b)
+    (added_frames options size longer b c))
+    ∙ ap (λ l. (l ++ added_frames options size cells a b) ++ added_frames options size longer b c)
+    (frames-stay options size a cells longer more (λ t early. decided t (omega (arith, low, early))))
+    ∙ ap (λ l. l ++ added_frames options size longer b c)
+    (sym (frames-grow options size a b cells low) ∙ sym (frames-stay options size b cells longer more decided))
+    ∙ sym (frames-grow options size b c longer high)
+    ∙ frames-grow options size a c longer (omega (arith, low, high)))
 
 pub gives-then : {A : Type 0} (stands_for : A → Start → List (List ℕ) → Type 0) (first middle last : A)
     (a b c : Parts) → Keeps b → Later a b → Later b c →
     Gives stands_for first middle a b → Gives stands_for middle last b c → Gives stands_for first last a c
 gives-then stands_for first middle last a b c keeps before after one two start frames stands =
-    let more = added_frames b.core.size (received b.rx) a.core.taken b.core.taken in
-    let rest = added_frames c.core.size (received c.rx) b.core.taken c.core.taken in
+    let more = added_frames b.core.options b.core.size (received b.rx) a.core.taken b.core.taken in
+    let rest = added_frames c.core.options c.core.size (received c.rx) b.core.taken c.core.taken in
     subst (stands_for last start)
     (append_assoc frames more rest ∙ ap (λ l. frames ++ l)
-    (ap (λ size. added_frames size (received b.rx) a.core.taken b.core.taken ++ rest) (sym after.size)
-    ∙ added-then c.core.size (received b.rx) (received c.rx) a.core.taken b.core.taken c.core.taken before.taken
-    after.taken after.longer keeps.stands.decided))
+    (ap₂ (λ options size. added_frames options size (received b.rx) a.core.taken b.core.taken ++ rest)
+    (sym after.options) (sym after.size)
+    ∙ added-then c.core.options c.core.size (received b.rx) (received c.rx) a.core.taken b.core.taken c.core.taken
+    before.taken after.taken after.longer keeps.stands.decided))
     (two start (frames ++ more) (one start frames stands))
 
 -- the frames of all rows, and those before
 pub given-then : (a b : Parts) → Keeps a → Later a b →
-    given_frames b.core.size (received b.rx) b.core.taken ≡ given_frames a.core.size
-    (received a.rx) a.core.taken ++ added_frames b.core.size (received b.rx) a.core.taken b.core.taken
+    given_frames b.core.options b.core.size (received b.rx) b.core.taken
+    ≡ given_frames a.core.options a.core.size (received a.rx) a.core.taken
+    ++ added_frames b.core.options b.core.size (received b.rx) a.core.taken b.core.taken
 given-then a b keeps later =
-    frames-grow b.core.size a.core.taken b.core.taken (received b.rx) later.taken
-    ∙ ap (λ l. l ++ added_frames b.core.size (received b.rx) a.core.taken b.core.taken)
-    (frames-stay b.core.size a.core.taken (received a.rx) (received b.rx) later.longer keeps.stands.decided
-    ∙ ap (λ size. given_frames size (received a.rx) a.core.taken) later.size)
+    frames-grow b.core.options b.core.size a.core.taken b.core.taken (received b.rx) later.taken
+    ∙ ap (λ l. l ++ added_frames b.core.options b.core.size (received b.rx) a.core.taken b.core.taken)
+    (frames-stay b.core.options b.core.size a.core.taken (received a.rx) (received b.rx) later.longer
+    keeps.stands.decided
+    ∙ ap₂ (λ options size. given_frames options size (received a.rx) a.core.taken) later.options later.size)
 
 -- ---- later
 pub later-refl : (a : Parts) → Later a a
@@ -193,7 +199,8 @@ pub backs-none : (options : Options) (cells : List (List Cell)) (t : ℕ) → t 
 unfolding backs
 backs-none options cells t none = ap (backs options cells) none
 
-pub frames-none : (size : ℕ) (cells : List (List Cell)) (t : ℕ) → t ≡ 0 → length (given_frames size cells t) ≡ 0
+pub frames-none : (options : Options) (size : ℕ) (cells : List (List Cell)) (t : ℕ) → t ≡ 0 →
+    length (given_frames options size cells t) ≡ 0
 unfolding segments_on delineate_within hunt_within
-frames-none size cells t none = ap (λ n. length (given_frames size cells n)) none
-    ∙ (let e : length (given_frames size cells 0) ≡ 0 = refl in e)
+frames-none options size cells t none = ap (λ n. length (given_frames options size cells n)) none
+    ∙ (let e : length (given_frames options size cells 0) ≡ 0 = refl in e)

@@ -1,7 +1,8 @@
 -- Frames are counted, and their lines told.
-use Rattle.std.proofs.Common.{◌≡◌, ℕ, ◌+◌, ◌-◌, ◌^◌, min, List, [], ◌∷◌, ◌++◌, length, Option, Result, Ok, Err, OnOk}
-use Rattle.std.proofs.Common.{OnErr, is_err, false, ap, arith, length-append}
+use Rattle.std.proofs.Common.{◌≡◌, ℕ, ◌+◌, ◌-◌, ◌^◌, min, Bool, true, false, List, [], ◌∷◌, ◌++◌, length, Option, Result}
+use Rattle.std.proofs.Common.{Ok, Err, OnOk, OnErr, is_err, refl, ap, arith, length-append}
 use Rattle.law_model.specs.Common.{Appends, AppendsPart}
+use Rattle.octet_io.proofs.Parts.{Appends-none}
 use Rattle.thread_sink.specs.Told.{count_of, Writes}
 
 pub count-more : (frames : List (List ℕ)) (frame : List ℕ) (count next : ℕ) → count ≡ count_of frames →
@@ -22,3 +23,9 @@ pub told-end : {K E : Type 0} (written : K → Option (List ℕ)) (faults : K �
     Writes written faults false (is_err end_) old new text
 told-end written faults (Ok done) old new text whole part = whole
 told-end written faults (Err fault) old new text whole part = part
+
+-- of no frames nothing is written
+pub writes-none : {K : Type 0} (written : K → Option (List ℕ)) (faults : K → ℕ) (failed : Bool) (now : K) →
+    Writes written faults failed failed now now []
+writes-none written faults true now = (refl, refl)
+writes-none written faults false now = Appends-none written faults now

@@ -71,4 +71,4 @@ Does a b Done = Rests a b
 -- the frames of the rows taken were given, after whatever had been given before
 abbrev pub Gives : {A : Type 0} → (A → Start → List (List ℕ) → Type 0) → A → A → Parts → Parts → Type 0
 Gives stands_for old new a b = (start : Start) (frames : List (List ℕ)) → stands_for old start frames →
-    stands_for new start (frames ++ added_frames b.core.size (received b.rx) a.core.taken b.core.taken)
+    stands_for new start (frames ++ added_frames b.core.options b.core.size (received b.rx) a.core.taken b.core.taken)

@@ -23,7 +23,7 @@ lines_of worker = worker.core.lines
 abbrev pub size_of : SinkWorker → ℕ
 size_of worker = worker.core.size
 
--- by which options lines go down and come up, and statuses are told
+-- by which options lines go down and come up, statuses are told, and it goes on or stops
 abbrev pub options_of : SinkWorker → Options
 options_of worker = worker.core.options
 
@@ -52,4 +52,5 @@ IsLater a b = (ticks_of b ≡ ticks_of a) × Later (parts_of a) (parts_of b)
 -- the return packets were sent, and the frames counted
 pub record SinkWorkerStands (worker : SinkWorker) : Type 0 where
   pub keeps : Keeps (parts_of worker)
-  pub counted : got_of worker ≡ count_of (given_frames (size_of worker) (cells_of worker) (taken_of worker))
+  pub counted : got_of worker ≡ count_of (given_frames (options_of worker) (size_of worker) (cells_of worker)
+      (taken_of worker))

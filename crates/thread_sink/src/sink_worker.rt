@@ -50,7 +50,7 @@ impl SinkWorker {
 
     /// The worker of the sink of a group of `lines` lines, whose containers have `size` payload octets, for
     /// `ticks` rows, over fresh rings, one for each line, and a fresh return ring. By `options` lines go down and
-    /// come up, and statuses are told.
+    /// come up, statuses are told, and the worker goes on or stops where packets can't be read.
     pub fn new(
         alloc: Global,
         lines: u8,
@@ -104,7 +104,7 @@ impl SinkWorker {
             ≡ backs (options_of self.new) (cells_of self.new) (taken_of self.new) }
         ensures written { SinkWorkerStands self.old →
             Writes K.written K.faults (has_failed self.old) (has_failed self.new) out.old out.new
-            (got_texts (added_frames (size_of self.new) (cells_of self.new)
+            (got_texts (added_frames (options_of self.new) (size_of self.new) (cells_of self.new)
             (taken_of self.old) (taken_of self.new))) }
         ensures done { (result ≡ SinkBurst.Done) ↔ (taken_of self.old ≡ ticks_of self.old) }
         ensures still { result ≡ SinkBurst.Done → (self.new ≡ self.old) × (out.new ≡ out.old) }
@@ -157,7 +157,7 @@ impl SinkWorker {
         ensures stands { SinkWorkerStands self.old → SinkWorkerStands self.new }
         ensures written { SinkWorkerStands self.old →
             Writes K.written K.faults false (has_failed self.new) out.old out.new
-            (got_texts (added_frames (size_of self.new) (cells_of self.new)
+            (got_texts (added_frames (options_of self.new) (size_of self.new) (cells_of self.new)
             (taken_of self.old) (taken_of self.new))) }
         ensures never { result ≢ SinkBurst.Done }
         ensures does { SinkWorkerStands self.old → Does (parts_of self.old) (parts_of self.new) result }
@@ -203,7 +203,8 @@ impl SinkWorker {
     pub fn got(&self) -> u64
         ensures count { result ≡ got_of self.now }
         ensures frames { SinkWorkerStands self.now → result
-            ≡ count_of (given_frames (size_of self.now) (cells_of self.now) (taken_of self.now)) }
+            ≡ count_of (given_frames (options_of self.now) (size_of self.now) (cells_of self.now)
+            (taken_of self.now)) }
     {
         self.got
     }

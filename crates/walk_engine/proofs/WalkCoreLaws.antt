@@ -12,5 +12,6 @@ pub mod LandSteps
 pub mod TotalLaws
 pub mod TakenLaws
 pub mod MarkLaws
+pub mod KnownLaws
 pub mod CarrySteps
 pub mod WayLaws

@@ -1,5 +1,5 @@
 -- One more packet of a line, and whether the line is up by then.
-use Rattle.std.proofs.Common.{◌≡◌, ◌⊎◌, ℕ, zero, suc, ◌+◌, ◌-◌, ◌<◌, ◌≤◌, nat_le, nat_lt, ◌&&◌, ◌||◌, not, Bool, true, false}
+use Rattle.std.proofs.Common.{◌≡◌, ℕ, zero, suc, ◌+◌, ◌-◌, ◌<◌, ◌≤◌, nat_le, nat_lt, ◌&&◌, ◌||◌, not, Bool, true, false}
 use Rattle.std.proofs.Common.{inl, inr, refl, sym, ◌∙◌, ap, ap₂, min, arith}
 use Rattle.std.specs.List.{list_all, range_with_len}
 use Rattle.std.proofs.lemmas.Bool.{cases_Bool, cases_lt, cases_eq}
@@ -142,17 +142,6 @@ and-there false b e = absurd cc
 pub and-gone : (a b : Bool) → a ≡ false → a ≡ (a && b)
 and-gone true b e = absurd cc
 and-gone false b e = refl
-
-pub timers-new : (options : Options) (timers : MemberTimers) (read : ℕ → Bool) → timers.reads ≡ options.restore + 1 →
-    timers.misses ≡ 0 → timers.is_up ≡ false → TimersStand options read 0 timers
-timers-new options timers read reads misses down = record {
-  read_last = λ j low high. absurd (omega arith);
-  unread = λ few. absurd (omega arith);
-  missed_last = λ j low high. absurd (omega arith);
-  heard = λ few. inl misses;
-  within = omega arith;
-  up = down;
-}
 
 pub timers-read : (options : Options) (was now : MemberTimers) (read : ℕ → Bool) (passed : ℕ) →
     now.reads ≡ min was.reads options.restore + 1 → now.misses ≡ 0 →

@@ -1,23 +1,24 @@
 -- What a line said last, with one row more.
-use Rattle.std.proofs.Common.{◌≡◌, ℕ, zero, suc, ◌+◌, ◌-◌, ◌<◌, ◌≤◌, ◌==◌, ◌&&◌, ◌||◌, not, Bool, true, false}
-use Rattle.std.proofs.Common.{if◌then◌else◌, List, [], ◌∷◌, ◌++◌, map, take, length, Option, Some, None, is_some}
+use Rattle.std.proofs.Common.{◌≡◌, ℕ, zero, suc, ◌+◌, ◌-◌, ◌<◌, ◌≤◌, ◌==◌, ◌&&◌, not, Bool, true, false}
+use Rattle.std.proofs.Common.{if◌then◌else◌, List, [], ◌∷◌, ◌++◌, take, length, Option, Some, None, is_some}
 use Rattle.std.proofs.Common.{slice_index_or, refl, sym, ◌∙◌, ap, ap₂, subst, arith, take_all, length-append}
 use mathlib.Core.Bool.{beq}
-use Rattle.std.specs.List.{list_any, list_all, range_with_len}
+use Rattle.std.specs.List.{list_all, range_with_len}
 use Rattle.std.proofs.Math.Seq.{get_or-append_seam, take-suc}
 use Rattle.std.proofs.lemmas.Bool.{and_parts}
 use Rattle.std.proofs.lemmas.List.{get_or_append_left}
 use Rattle.std.proofs.lemmas.List.Sums.{fold-append}
-use Rattle.law_model.specs.Common.{Row, leader, ack_by, ack_of, is_member, is_same, agree, says_at, packet_row, packet_on}
+use Rattle.law_model.specs.Common.{Row, leader, ack_by, ack_of, is_member, is_same, agree, says_at, packet_row}
+use Rattle.law_model.specs.Common.{packet_on}
 use Rattle.law_model.specs.Common.{has_packet, have_one_chg, last_read, last_word, last_word_by, is_up}
 use Rattle.law_model.specs.declared.control_packet.Packet.{Packet}
 use Rattle.law_model.specs.declared.script_types.Options.{Options}
 use Rattle.law_row.proofs.TimerLaws.{all-same, last-same}
 use Rattle.terminal_sink.specs.declared.member_watch.MemberWatch.{MemberWatch}
 use Rattle.terminal_sink.specs.declared.member_watch.MemberTimers.{MemberTimers}
-use Rattle.terminal_sink.specs.member_watch.Watches.{was_up, word_before, sq_of, is_changed, has_said, says, TimersStand}
+use Rattle.terminal_sink.specs.member_watch.Watches.{was_up, word_before, sq_of, is_changed, has_said, says}
+use Rattle.terminal_sink.specs.member_watch.Watches.{TimersStand}
 use Rattle.terminal_sink.specs.member_watch.Watches.{WatchStands}
-use Rattle.terminal_sink.proofs.MemberWatchLaws.TimerSteps.{timers-same}
 
 -- ---- one row more
 pub row-before : (rows more : List Row) (k : ℕ) → k < length rows →
@@ -138,11 +139,11 @@ unfolding last_read
 last_read-here read zero e = ap (λ b. if b then Some zero else None) e
 last_read-here read (suc k) e = ap (λ b. if b then Some (suc k) else last_read read k) e
 
-last_read-none : (read : ℕ → Bool) → read 0 ≡ false → last_read read 0 ≡ None
+pub last_read-none : (read : ℕ → Bool) → read 0 ≡ false → last_read read 0 ≡ None
 unfolding last_read
 last_read-none read e = ap (λ b. if b then Some 0 else None) e
 
-last_read-before : (read : ℕ → Bool) (k : ℕ) → read (k + 1) ≡ false → last_read read (k + 1) ≡ last_read read k
+pub last_read-before : (read : ℕ → Bool) (k : ℕ) → read (k + 1) ≡ false → last_read read (k + 1) ≡ last_read read k
 unfolding last_read
 last_read-before read k e =
     let f : k + 1 ≡ suc k = omega arith in

@@ -7,22 +7,23 @@ use Rattle.std.specs.List.{position_from}
 use Rattle.std.proofs.lemmas.Bool.{cases_Bool, cases_eq, cases_lt}
 use Rattle.std.proofs.lemmas.Bool.Decides.{nat_tests}
 use Rattle.std.proofs.lemmas.List.FromFn.{map-range_with_len_more, length-map-range_with_len}
-use Rattle.law_model.specs.Common.{Cell, return_of, verdict, read_packets, governing, active_of, row_at, first_open}
+use Rattle.law_model.specs.Common.{Cell, return_of, carriers_of, verdict, read_packets, governing, row_at, first_open}
 use Rattle.law_model.specs.Common.{return_at}
 use Rattle.law_model.specs.declared.control_packet.Packet.{Packet}
 use Rattle.law_model.specs.declared.script_types.Options.{Options}
 use Rattle.law_line.specs.StableRows.{AreDecidedAt}
-use Rattle.member_rows.proofs.RealignRowsLaws.PacketLaws.{governing-same}
-use Rattle.std.proofs.lemmas.List.{nil_from_length}
-use Rattle.terminal_sink.specs.sink_core.Active.{carrying}
-use Rattle.terminal_sink.proofs.SinkCoreLaws.ActiveLaws.{active_from-fits}
-use Rattle.terminal_sink.specs.sink_core.Given.{row_in, received_rows, read_rows, packet_rows, back_at, answer_by, answer_at}
+use Rattle.terminal_sink.specs.lcas_sink.SinkStates.{last_carriers}
+use Rattle.terminal_sink.specs.sink_core.Given.{row_in, received_rows, read_rows, packet_rows, back_at, answer_by}
+use Rattle.terminal_sink.specs.sink_core.Given.{answer_at}
+use Rattle.terminal_sink.specs.sink_core.Given.{AreCarriers}
 use Rattle.terminal_sink.specs.declared.sink_core.sink_terminal.TakeAnswer.TheVariants.{Taken}
 
 -- ---- rows
-pub received-more : (size : ℕ) (cells : List (List Cell)) (n : ℕ) →
-    received_rows size cells (n + 1) ≡ received_rows size cells n ++ row_in (row_at size cells n) ∷ []
-received-more size cells n = map-range_with_len_more (λ t. row_in (row_at size cells t)) 0 n n (omega arith)
+pub received-more : (options : Options) (size : ℕ) (cells : List (List Cell)) (n : ℕ) →
+    received_rows options size cells (n + 1)
+    ≡ received_rows options size cells n ++ row_in (row_at options size cells n) ∷ []
+received-more options size cells n =
+    map-range_with_len_more (λ t. row_in (row_at options size cells t)) 0 n n (omega arith)
 
 -- ---- packets that are read
 pub read-more : (cells : List (List Cell)) (n : ℕ) →
@@ -137,29 +138,16 @@ back-elsewhere options cells t other =
     ]
 
 -- ---- the lines that carry payload
-pub governing-between : (cells : List (List Cell)) (t : ℕ) → (nat_lt 22 t && t % 16 == 7) ≡ false →
-    governing cells (t + 1) ≡ governing cells t
-governing-between cells t no_end =
-    elim (cases_Bool (nat_lt 22 t)) [
-      | inl late ↦
-          let tested : (t % 16 == 7) ≡ false = rw late at no_end in
-          governing-same cells t (λ e. absurd
-          (let f : (t % 16 == 7) ≡ true = grind (arith, nat_tests, (let h : t % 16 ≡ 7 = omega arith in h)) in
-          let g : true ≡ false = sym f ∙ tested in cc))
-      | inr early ↦
-          let low : t ≤ 22 = grind (arith, nat_tests, early) in
-          let a : nat_lt (t + 1) 24 ≡ true = grind (arith, nat_tests, (let h : t + 1 < 24 = omega arith in h)) in
-          let b : nat_lt t 24 ≡ true = grind (arith, nat_tests, (let h : t < 24 = omega arith in h)) in
-          rw (a, b) refl
-    ]
-
-carrying-none : (cells : List (List Cell)) → carrying (map (λ own. None) cells) ≡ 0
-carrying-none [] = refl
-carrying-none (own ∷ cells) = carrying-none cells
-
-pub active-none : (cells : List (List Cell)) → active_of (governing cells 0) ≡ []
-active-none cells =
-    let packets : List (Option Packet) = map (λ own. None) cells in
-    let none = carrying-none cells in
-    let fits = active_from-fits 256 0 packets in
-    nil_from_length (active_of packets) (omega arith)
+-- those by the packets that were read so far are those of the next row
+pub carriers-next : (options : Options) (cells : List (List Cell)) (t : ℕ) (lines : Option (List ℕ)) →
+    lines ≡ last_carriers options (read_rows cells (packet_rows t)) → AreCarriers options cells t lines
+carriers-next options cells t lines are late =
+    let rows = read_rows cells (packet_rows t) in
+    let k = (t - 24) / 16 in
+    let next : packet_rows t ≡ k + 1 = omega (arith, late) in
+    let size : length rows ≡ k + 1 = length-read cells (packet_rows t) ∙ next in
+    let some' : (0 == length rows) ≡ false =
+    grind (arith, nat_tests, (let apart : 0 ≡ length rows → ⊥ = λ same. absurd (omega (arith, same, size)) in apart)) in
+    are ∙ ap (λ b. if b then None else carriers_of options rows (length rows - 1)) some'
+    ∙ ap (carriers_of options rows) (let last : length rows - 1 ≡ k = omega (arith, size) in last)
+    ∙ ap (λ n. carriers_of options (read_rows cells n) k) next

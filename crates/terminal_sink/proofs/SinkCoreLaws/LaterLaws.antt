@@ -6,17 +6,18 @@ use Rattle.std.proofs.lemmas.Bool.{cases_Bool}
 use Rattle.std.proofs.lemmas.Bool.Decides.{nat_tests}
 use Rattle.std.proofs.lemmas.List.{append-nil}
 use Rattle.std.proofs.lemmas.Option.{slice_get_within}
-use Rattle.law_model.specs.Common.{Cell, verdict, read_packets, governing, active_of, row_at, StreamRow, deliver}
+use Rattle.law_model.specs.Common.{Cell, verdict, read_packets, row_at, StreamRow, deliver}
 use Rattle.law_model.specs.Common.{longest_frame}
 use Rattle.law_model.specs.declared.script_types.Options.{Options}
 use Rattle.law_line.specs.StableRows.{IsLonger, AreDecidedAt}
 use Rattle.law_model.proofs.ListLaws.{slice_get-inside, is-some, map-same_range}
 use Rattle.law_line.proofs.StableLaws.{verdict-stays}
-use Rattle.law_line.proofs.RowLaws.{nones-stay, read-stays, rows_stay, returns_stay}
+use Rattle.law_line.proofs.RowLaws.{read-stays, rows_stay, returns_stay}
 use Rattle.law_loss.proofs.GrowLaws.{deliver-grows}
 use Rattle.terminal_sink.specs.lcas_sink.SinkStates as sink_table
 use Rattle.member_rows.specs.realign_rows.Gather.{with_cell}
-use Rattle.terminal_sink.specs.sink_core.Given.{row_in, received_rows, given_frames, added_frames, read_rows, packet_rows, back_at}
+use Rattle.terminal_sink.specs.sink_core.Given.{row_in, received_rows, given_frames, added_frames, read_rows}
+use Rattle.terminal_sink.specs.sink_core.Given.{packet_rows, back_at}
 use Rattle.terminal_sink.specs.sink_core.Receives.{Receives}
 use Rattle.terminal_sink.specs.sink_core.Core.{Core, SinkStands}
 use Rattle.terminal_sink.proofs.SinkCoreLaws.GivenLaws.{received-more}
@@ -25,29 +26,17 @@ use Rattle.terminal_sink.proofs.SinkCoreLaws.GivenLaws.{received-more}
 abbrev AreDecidedTo : List (List Cell) → ℕ → Type 0
 AreDecidedTo cells taken = (t : ℕ) → t < taken → AreDecidedAt cells t
 
-received-stays : (size taken : ℕ) (cells longer : List (List Cell)) → IsLonger cells longer → AreDecidedTo cells taken →
-    received_rows size longer taken ≡ received_rows size cells taken
-received-stays size taken cells longer more decided =
-    map-same_range (λ t. row_in (row_at size longer t)) (λ t. row_in (row_at size cells t)) 0 taken
-    (λ t low. ap row_in (rows_stay size cells longer t more (decided t (omega arith))))
+received-stays : (options : Options) (size taken : ℕ) (cells longer : List (List Cell)) → IsLonger cells longer →
+    AreDecidedTo cells taken → received_rows options size longer taken ≡ received_rows options size cells taken
+received-stays options size taken cells longer more decided =
+    map-same_range (λ t. row_in (row_at options size longer t)) (λ t. row_in (row_at options size cells t)) 0 taken
+    (λ t low. ap row_in (rows_stay options size cells longer t more (decided t (omega arith))))
 
 packets-stay : (taken : ℕ) (cells longer : List (List Cell)) → IsLonger cells longer → AreDecidedTo cells taken →
     read_rows longer (packet_rows taken) ≡ read_rows cells (packet_rows taken)
 packets-stay taken cells longer more decided =
     map-same_range (read_packets longer) (read_packets cells) 0 (packet_rows taken)
     (λ k low. read-stays cells longer k more (decided (16 * k + 23) (omega arith)))
-
--- what governs the row after those that are decided
-governing-stays : (taken : ℕ) (cells longer : List (List Cell)) → IsLonger cells longer → AreDecidedTo cells taken →
-    governing longer taken ≡ governing cells taken
-governing-stays taken cells longer more decided =
-    elim (cases_Bool (nat_lt taken 24)) [
-      | inl early ↦ rw early (nones-stay cells longer more.size)
-      | inr late ↦
-          let high : 24 ≤ taken = grind (arith, nat_tests, late) in
-          rw late (read-stays cells longer ((taken - 24) / 16) more
-          (decided (16 * ((taken - 24) / 16) + 23) (omega arith)))
-    ]
 
 decided-stays : (t : ℕ) (cells longer : List (List Cell)) → IsLonger cells longer → AreDecidedAt cells t →
     AreDecidedAt longer t
@@ -64,18 +53,18 @@ pub stands-longer : (core : Core) (cells longer : List (List Cell)) → IsLonger
     SinkStands core longer
 stands-longer core cells longer more stands = record {
   lines = more.size ∙ stands.lines;
-  receives = subst (Receives core.receiver) (sym (received-stays core.size core.taken cells longer more stands.decided))
-      stands.receives;
+  receives = subst (Receives core.receiver)
+      (sym (received-stays core.options core.size core.taken cells longer more stands.decided)) stands.receives;
   table = subst (sink_table.SinkTableStands core.table) (sym (packets-stay core.taken cells longer more stands.decided))
       stands.table;
-  active = stands.active ∙ ap active_of (sym (governing-stays core.taken cells longer more stands.decided));
   decided = λ t low. decided-stays t cells longer more (stands.decided t low);
 }
 
-pub frames-stay : (size taken : ℕ) (cells longer : List (List Cell)) → IsLonger cells longer →
-    ((t : ℕ) → t < taken → AreDecidedAt cells t) → given_frames size longer taken ≡ given_frames size cells taken
-frames-stay size taken cells longer more decided =
-    ap (deliver longest_frame) (received-stays size taken cells longer more decided)
+pub frames-stay : (options : Options) (size taken : ℕ) (cells longer : List (List Cell)) → IsLonger cells longer →
+    ((t : ℕ) → t < taken → AreDecidedAt cells t) →
+    given_frames options size longer taken ≡ given_frames options size cells taken
+frames-stay options size taken cells longer more decided =
+    ap (deliver longest_frame) (received-stays options size taken cells longer more decided)
 
 pub back-stays : (options : Options) (t : ℕ) (cells longer : List (List Cell)) → IsLonger cells longer →
     AreDecidedAt cells t → back_at options longer t ≡ back_at options cells t
@@ -112,27 +101,29 @@ with_cell-longer cells line cell = record { size = size cells line; each = each 
     each (first ∷ cells) (suc line) (suc m) own here = each cells line m own here
 
 -- ---- more rows
-received-split : (size : ℕ) (cells : List (List Cell)) (n more : ℕ) → (rest : List StreamRow) ×
-    (received_rows size cells (n + more) ≡ received_rows size cells n ++ rest)
-received-split size cells n zero =
+received-split : (options : Options) (size : ℕ) (cells : List (List Cell)) (n more : ℕ) → (rest : List StreamRow) ×
+    (received_rows options size cells (n + more) ≡ received_rows options size cells n ++ rest)
+received-split options size cells n zero =
     let e : n + 0 ≡ n = omega arith in
-    ([], ap (received_rows size cells) e ∙ sym (append-nil (received_rows size cells n)))
-received-split size cells n (suc more) =
-    let (rest, is) = received-split size cells n more in
+    ([], ap (received_rows options size cells) e ∙ sym (append-nil (received_rows options size cells n)))
+received-split options size cells n (suc more) =
+    let (rest, is) = received-split options size cells n more in
     let e : n + suc more ≡ n + more + 1 = omega arith in
-    let row = row_in (row_at size cells (n + more)) in (
+    let row = row_in (row_at options size cells (n + more)) in (
       rest ++ row ∷ [],
-      ap (received_rows size cells) e ∙ received-more size cells (n + more) ∙ ap (λ l. l ++ row ∷ []) is
-          ∙ append_assoc (received_rows size cells n) rest (row ∷ []),
+      ap (received_rows options size cells) e ∙ received-more options size cells (n + more) ∙ ap (λ l. l ++ row ∷ []) is
+          ∙ append_assoc (received_rows options size cells n) rest (row ∷ []),
     )
 
-pub frames-grow : (size before taken : ℕ) (cells : List (List Cell)) → before ≤ taken →
-    given_frames size cells taken ≡ given_frames size cells before ++ added_frames size cells before taken
-frames-grow size before taken cells low =
-    let (rest, is) = received-split size cells before (taken - before) in
+pub frames-grow : (options : Options) (size before taken : ℕ) (cells : List (List Cell)) → before ≤ taken →
+    given_frames options size cells taken
+    ≡ given_frames options size cells before ++ added_frames options size cells before taken
+frames-grow options size before taken cells low =
+    let (rest, is) = received-split options size cells before (taken - before) in
     let e : before + (taken - before) ≡ taken = omega arith in
-    let all : received_rows size cells taken ≡ received_rows size cells before ++ rest =
-    ap (received_rows size cells) (sym e) ∙ is in
-    ap (deliver longest_frame) all ∙ deliver-grows longest_frame (received_rows size cells before) rest
-    ∙ ap (λ rows. given_frames size cells before ++ drop (length (given_frames size cells before)) (deliver longest_frame rows))
-    (sym all)
+    let first = received_rows options size cells before in
+    let all : received_rows options size cells taken ≡ first ++ rest =
+    ap (received_rows options size cells) (sym e) ∙ is in
+    let given = given_frames options size cells before in
+    ap (deliver longest_frame) all ∙ deliver-grows longest_frame first rest
+    ∙ ap (λ rows. given ++ drop (length given) (deliver longest_frame rows)) (sym all)

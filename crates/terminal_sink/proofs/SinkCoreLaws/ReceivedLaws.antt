@@ -1,11 +1,15 @@
 -- One row more, whole or not.
-use Rattle.std.proofs.Common.{◌≡◌, ℕ, ◌<◌, ◌≤◌, nat_lt, true, false, List, [], ◌∷◌, ◌++◌, Some, refl, sym, ◌∙◌, ap}
+use Rattle.std.proofs.Common.{◌≡◌, ℕ, ◌-◌, ◌/◌, ◌<◌, ◌≤◌, nat_lt, true, false, List, [], ◌∷◌, ◌++◌, Option, Some, refl}
+use Rattle.std.proofs.Common.{sym, ◌∙◌, ap}
 use Rattle.std.proofs.Common.{subst, arith, if◌then◌else◌, append-nil}
 use Rattle.std.proofs.lemmas.Bool.Decides.{nat_tests}
-use Rattle.law_model.specs.Common.{Cell, governing, row_under, row_at, StreamRow, Segments, segments_of, longest_frame}
+use Rattle.law_model.specs.Common.{Cell, row_at, carriers_at, StreamRow, Segments, segments_of, longest_frame}
+use Rattle.law_model.specs.rows.Rows.{row_by}
+use Rattle.law_model.specs.declared.script_types.Options.{Options}
 use Rattle.terminal_sink.specs.marked_delineator.Marks.{Marked as Receiver, StandsIn}
 use Rattle.law_loss.specs.Added.{added, whole_row, lost_row}
 use Rattle.law_loss.proofs.SegmentLaws.{segments_of-push, added-whole, added-lost}
+use Rattle.terminal_sink.specs.sink_core.Given.{AreCarriers}
 use Rattle.terminal_sink.specs.sink_core.Receives.{Receives, Grows, Gives}
 
 pub receives-whole : (was now : Receiver) (come : List StreamRow) (octets : List ℕ) → Grows was now octets →
@@ -35,11 +39,13 @@ gives-lost stands come octets out frames given =
     subst (stands out) (sym (append-nil frames) ∙ ap (λ l. frames ++ l) (sym (added-lost longest_frame come octets))) given
 
 -- ---- rows before the first that a packet governs, and after it
-pub row-early : (size : ℕ) (cells : List (List Cell)) (t : ℕ) → t < 24 → row_at size cells t ≡ Some []
-row-early size cells t early = let e : nat_lt t 24 ≡ true = grind (arith, nat_tests, early) in rw e refl
+pub row-early : (options : Options) (size : ℕ) (cells : List (List Cell)) (t : ℕ) → t < 24 →
+    row_at options size cells t ≡ Some []
+row-early options size cells t early = let e : nat_lt t 24 ≡ true = grind (arith, nat_tests, early) in rw e refl
 
-pub row-late : (size : ℕ) (cells : List (List Cell)) (t : ℕ) → 24 ≤ t →
-    row_at size cells t ≡ row_under (governing cells t) size cells t
-row-late size cells t late =
-    let e : nat_lt t 24 ≡ false = grind (arith, nat_tests, late) in ap
-    (λ early. if early then Some [] else row_under (governing cells t) size cells t) e
+pub row-late : (options : Options) (size : ℕ) (cells : List (List Cell)) (t : ℕ) (lines : Option (List ℕ)) → 24 ≤ t →
+    AreCarriers options cells t lines → row_at options size cells t ≡ row_by lines size cells t
+row-late options size cells t lines late are =
+    let e : nat_lt t 24 ≡ false = grind (arith, nat_tests, late) in
+    ap (λ early. if early then Some [] else row_by (carriers_at options cells ((t - 24) / 16)) size cells t) e
+    ∙ ap (λ lines. row_by lines size cells t) (sym (are late))

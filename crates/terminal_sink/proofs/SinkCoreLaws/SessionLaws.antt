@@ -1,7 +1,9 @@
 -- The frames of rows whose whole ones are those of a session.
-use Rattle.std.proofs.Common.{◌≡◌, ℕ, zero, suc, ◌+◌, ◌≤◌, Bool, true, false, List, [], ◌∷◌, ◌++◌, length, Option, Some}
+use Rattle.std.proofs.Common.{◌≡◌, ℕ, zero, suc, ◌+◌, ◌<◌, ◌≤◌, Bool, true, false, List, [], ◌∷◌, ◌++◌, length, Option}
+use Rattle.std.proofs.Common.{Some}
 use Rattle.std.proofs.Common.{None, refl, sym, ◌∙◌, ap, ap₂, subst, arith, if◌then◌else◌}
-use Rattle.law_model.specs.Common.{Cell, Scenario, Told, is_whole_row, payload_of, row_at, StreamRow, Segments}
+use Rattle.law_model.specs.Common.{Cell, Scenario, Told, cells_before, is_whole_row, payload_of, row_at, StreamRow}
+use Rattle.law_model.specs.Common.{Segments}
 use Rattle.law_model.specs.Common.{segments_of, deliver, rows_of, longest_frame}
 use Rattle.law_model.specs.rows.SessionStream.{row_of}
 use Rattle.law_row.proofs.WholeLaws.{row-whole}
@@ -57,34 +59,38 @@ agree-row a b true octets row is agree = rw is (agree-whole a b octets agree)
 agree-row a b false octets row is agree = rw is (agree-lost a b [] octets agree)
 
 rows-agree : (scenario : Scenario) (returns : List (Option Told)) (cells : List (List Cell)) (n : ℕ) →
-    AreSessionRows scenario returns cells n → Agree (received_rows scenario.size cells n) (rows_of scenario returns n)
+    AreSessionRows scenario returns cells n →
+    Agree (received_rows scenario.options scenario.size cells n) (rows_of scenario returns n)
 unfolding rows_of
 rows-agree scenario returns cells zero are = record { frames = refl; first = refl; octets = refl }
 rows-agree scenario returns cells (suc n) are =
     let e : suc n ≡ n + 1 = omega arith in
-    let all : received_rows scenario.size cells (suc n) ≡ received_rows scenario.size cells n ++ row_in
-    (row_at scenario.size cells n) ∷ [] =
-    ap (received_rows scenario.size cells) e ∙ received-more scenario.size cells n in
+    let received = received_rows scenario.options scenario.size cells in
+    let row = row_at scenario.options scenario.size cells n in
+    let all : received (suc n) ≡ received n ++ row_in row ∷ [] =
+    ap received e ∙ received-more scenario.options scenario.size cells n in
     subst (λ rows. Agree rows (rows_of scenario returns n ++ row_of scenario returns n ∷ [])) (sym all)
-    (agree-row (received_rows scenario.size cells n) (rows_of scenario returns n) (is_whole_row scenario returns n)
-    (payload_of scenario returns n) (row_at scenario.size cells n) (are n (omega arith))
+    (agree-row (received n) (rows_of scenario returns n) (is_whole_row scenario returns n)
+    (payload_of scenario returns n) row (are n (omega arith))
     (rows-agree scenario returns cells n (λ t low. are t (omega arith))))
 
 pub session-frames : (scenario : Scenario) (returns : List (Option Told)) (cells : List (List Cell)) (n : ℕ) →
     AreSessionRows scenario returns cells n →
-    given_frames scenario.size cells n ≡ deliver longest_frame (rows_of scenario returns n)
+    given_frames scenario.options scenario.size cells n ≡ deliver longest_frame (rows_of scenario returns n)
 session-frames scenario returns cells n are = let agree = rows-agree scenario returns cells n are in agree.frames
 
 pub session-last : (scenario : Scenario) (returns : List (Option Told)) (cells : List (List Cell)) (n : ℕ) →
     AreSessionRows scenario returns cells n →
-    (segments_of (received_rows scenario.size cells n)).last.octets ≡
+    (segments_of (received_rows scenario.options scenario.size cells n)).last.octets ≡
     (segments_of (rows_of scenario returns n)).last.octets
 session-last scenario returns cells n are = let agree = rows-agree scenario returns cells n are in agree.octets
 
-pub session-rows : (scenario : Scenario) (returns : List (Option Told)) (cells : List (List Cell)) (n : ℕ) →
-    length scenario.windows ≤ 128 → TellRows scenario returns cells n → AreSessionRows scenario returns cells n
-session-rows scenario returns cells n few tell t low =
+pub session-rows : (scenario : Scenario) (told : ℕ) (cells : List (List Cell)) (n : ℕ) →
+    length scenario.windows ≤ 128 → 0 < scenario.lag → TellRows scenario (cells_before scenario told) cells n →
+    AreSessionRows scenario (cells_before scenario told) cells n
+session-rows scenario told cells n few lag tell t low =
+    let returns = cells_before scenario told in
     let tells = tell t low in
-    row-whole scenario returns tells.sent cells t few tells.tells
+    row-whole scenario told tells.sent cells t few lag tells.tells
     ∙ ap (λ octets. if is_whole_row scenario returns t then Some octets else None)
     (row-payload scenario returns tells.sent t tells.dealt)

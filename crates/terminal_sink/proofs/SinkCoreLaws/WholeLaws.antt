@@ -1,16 +1,25 @@
 -- Rows that are whole by their packets and the containers of their lines.
-use Rattle.std.proofs.Common.{◌≡◌, ℕ, ◌<◌, ◌==◌, ◌&&◌, Bool, false, List, [], ◌∷◌, map, length, slice_get, Option, Some}
-use Rattle.std.proofs.Common.{None, refl, sym, ◌∙◌, ap, ap₂, inl, inr, is_some, option_map}
-use Rattle.std.proofs.lemmas.Bool.{cases_Bool}
+use Rattle.std.proofs.Common.{◌≡◌, ℕ, ◌<◌, ◌≤◌, Bool, false, if◌then◌else◌, List, [], ◌∷◌, map, length, slice_get}
+use Rattle.std.proofs.Common.{Option, Some}
+use Rattle.std.proofs.Common.{None, refl, sym, ◌∙◌, ap, ap₂, is_some, option_map}
 use Rattle.std.proofs.lemmas.Option.{slice_get-map}
-use Rattle.law_model.specs.Common.{Container, Cell, leader, verdict, octets_from, active_of, container_in, container_on}
-use Rattle.law_model.specs.Common.{with_first, containers_at, carried_row, row_under}
-use Rattle.law_model.specs.declared.control_packet.Packet.{Packet}
+use Rattle.law_model.specs.Common.{Container, Cell, verdict, octets_from, container_in, container_on}
+use Rattle.law_model.specs.Common.{with_first, containers_at, carried_row, row_at}
+use Rattle.law_model.specs.declared.script_types.Options.{Options}
 use Rattle.law_model.specs.rows.Rows.{row_by}
 use Rattle.law_model.proofs.ListLaws.{slice_get-inside}
 use Rattle.member_rows.specs.vcat_interleave.Members.{payload_or, payloads_of}
-use Rattle.terminal_sink.specs.sink_core.Active.{act_of}
-use Rattle.terminal_sink.specs.sink_core.Members.{Hold, octets_if}
+use Rattle.terminal_sink.specs.sink_core.Given.{AreCarriers}
+use Rattle.terminal_sink.proofs.SinkCoreLaws.ReceivedLaws.{row-late}
+
+-- the container of each line whose number t is whole stands at the place of its line
+abbrev pub Hold : List Container → List (List Cell) → ℕ → Type 0
+Hold places cells t = (m : ℕ) (own : List Cell) (found : Container) → slice_get cells m ≡ Some own →
+    verdict own t ≡ Some (Some found) → slice_get places m ≡ Some found
+
+-- the octets that containers at these places carry for the lines of a list, where the row is whole
+abbrev pub octets_if : Bool → ℕ → List Container → List ℕ → Option (List ℕ)
+octets_if whole size places lines = if whole then Some (octets_from 0 size (payloads_of places lines)) else None
 
 -- ---- line by line
 pub with-whole : (first : Container) (rest : Option (List Container)) →
@@ -72,30 +81,19 @@ carried-whole size cells places t lines None hold is = refl
 carried-whole size cells places t lines (Some all) hold is =
     ap Some (ap (octets_from 0 size) (payloads-whole cells places t lines all hold is))
 
--- ---- a row
-abbrev pub is_whole_by : Option ℕ → List ℕ → Bool → Bool
-is_whole_by None lines all = false
-is_whole_by (Some act) lines all = (length lines == act) && all
-
-row-by : (first : Option Packet) (size : ℕ) (cells : List (List Cell)) (places : List Container) (t : ℕ)
-    (lines : List ℕ) → Hold places cells t →
-    row_by first lines size cells t ≡ octets_if
-    (is_whole_by (act_of first) lines (is_some (containers_at cells t lines))) size places lines
-row-by None size cells places t lines hold = refl
-row-by (Some packet) size cells places t lines hold =
-    elim (cases_Bool (length lines == packet.act)) [
-      | inl same ↦ rw same (carried-whole size cells places t lines (containers_at cells t lines) hold refl)
-      | inr other ↦ rw other refl
-    ]
-
-pub row-under : (packets : List (Option Packet)) (size : ℕ) (cells : List (List Cell)) (places : List Container) (t : ℕ)
-    (lines : List ℕ) (whole : Bool) → lines ≡ active_of packets → Hold places cells t →
-    whole ≡ is_whole_by (act_of (leader packets)) lines (is_some (containers_at cells t lines)) →
-    row_under packets size cells t ≡ octets_if whole size places lines
-row-under packets size cells places t lines whole are hold is =
-    ap (λ lines. row_by (leader packets) lines size cells t) (sym are)
-    ∙ row-by (leader packets) size cells places t lines hold
+-- a row that some lines carry
+row-by : (size : ℕ) (cells : List (List Cell)) (places : List Container) (t : ℕ) (lines : List ℕ) (whole : Bool) →
+    Hold places cells t → whole ≡ is_some (containers_at cells t lines) →
+    row_by (Some lines) size cells t ≡ octets_if whole size places lines
+row-by size cells places t lines whole hold is =
+    carried-whole size cells places t lines (containers_at cells t lines) hold refl
     ∙ ap (λ whole. octets_if whole size places lines) (sym is)
+
+pub row-known : (options : Options) (size : ℕ) (cells : List (List Cell)) (places : List Container) (t : ℕ)
+    (lines : List ℕ) (whole : Bool) → 24 ≤ t → AreCarriers options cells t (Some lines) → Hold places cells t →
+    whole ≡ is_some (containers_at cells t lines) → row_at options size cells t ≡ octets_if whole size places lines
+row-known options size cells places t lines whole late are hold is =
+    row-late options size cells t (Some lines) late are ∙ row-by size cells places t lines whole hold is
 
 -- ---- containers at the places of their lines
 abbrev pub told_or : Option Container → Container

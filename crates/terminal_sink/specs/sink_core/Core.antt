@@ -1,6 +1,6 @@
 -- What a sink knows of the cells of its lines.
 use Rattle.std.specs.Prelude.{◌≡◌, ℕ, ◌<◌, List, length}
-use Rattle.law_model.specs.Common.{Cell, governing, active_of}
+use Rattle.law_model.specs.Common.{Cell}
 use Rattle.law_model.specs.declared.script_types.Options.{Options}
 use Rattle.law_line.specs.StableRows.{AreDecidedAt}
 use Rattle.terminal_sink.specs.marked_delineator.Marks.{Marked as Receiver}
@@ -10,7 +10,7 @@ use Rattle.terminal_sink.specs.sink_core.Given.{received_rows, read_rows, packet
 use Rattle.terminal_sink.specs.sink_core.Receives.{Receives}
 
 -- how many lines there are, how many payload octets a container has, the options, how many rows were taken, its
--- receiver, its table, and the lines that carry payload in the next row
+-- receiver, and its table
 pub record Core : Type 0 where
   pub lines : ℕ
   pub size : ℕ
@@ -18,12 +18,10 @@ pub record Core : Type 0 where
   pub taken : ℕ
   pub receiver : Receiver
   pub table : Sink
-  pub active : List ℕ
 
 -- the rows that were taken were those of these cells, which may be more than were there then
 pub record SinkStands (core : Core) (cells : List (List Cell)) : Type 0 where
   pub lines : length cells ≡ core.lines
-  pub receives : Receives core.receiver (received_rows core.size cells core.taken)
+  pub receives : Receives core.receiver (received_rows core.options core.size cells core.taken)
   pub table : sink_table.SinkTableStands core.table (read_rows cells (packet_rows core.taken))
-  pub active : core.active ≡ active_of (governing cells core.taken)
   pub decided : (t : ℕ) → t < core.taken → AreDecidedAt cells t

@@ -1,9 +1,9 @@
 -- What a sink takes, gives and says, by the cells of its lines alone (G.707, G.7041, G.7042).
-use Rattle.std.specs.Prelude.{◌≡◌, ℕ, ◌-◌, ◌/◌, ◌%◌, ◌==◌, ◌&&◌, ◌<◌, nat_lt, if◌then◌else◌, List, [], map, length}
-use Rattle.std.specs.Prelude.{drop, Option, Some, None}
+use Rattle.std.specs.Prelude.{◌≡◌, ℕ, ◌-◌, ◌/◌, ◌%◌, ◌==◌, ◌&&◌, ◌<◌, ◌≤◌, nat_lt, Bool, false, if◌then◌else◌, List, []}
+use Rattle.std.specs.Prelude.{map, length, drop, Option, Some, None, is_some}
 use Rattle.std.specs.List.{range_with_len}
-use Rattle.law_model.specs.Common.{Cell, Row, read_packets, row_at, first_open, return_at, StreamRow, deliver}
-use Rattle.law_model.specs.Common.{longest_frame}
+use Rattle.law_model.specs.Common.{Cell, Row, read_packets, row_at, carriers_at, first_open, return_at, StreamRow}
+use Rattle.law_model.specs.Common.{deliver, longest_frame}
 use Rattle.law_model.specs.declared.control_packet.Packet.{Packet}
 use Rattle.law_model.specs.declared.script_types.Options.{Options}
 use Rattle.member_rows.specs.realign_rows.Gather.{Gather, line_count, IsOpenAt, AreDecided}
@@ -18,16 +18,25 @@ row_in None = lost_row []
 row_in (Some octets) = whole_row octets
 
 -- the first rows of a group, of which containers have a size of payload octets
-abbrev pub received_rows : ℕ → List (List Cell) → ℕ → List StreamRow
-received_rows size cells taken = map (λ t. row_in (row_at size cells t)) (range_with_len 0 taken)
+abbrev pub received_rows : Options → ℕ → List (List Cell) → ℕ → List StreamRow
+received_rows options size cells taken = map (λ t. row_in (row_at options size cells t)) (range_with_len 0 taken)
 
 -- the frames that they give
-abbrev pub given_frames : ℕ → List (List Cell) → ℕ → List (List ℕ)
-given_frames size cells taken = deliver longest_frame (received_rows size cells taken)
+abbrev pub given_frames : Options → ℕ → List (List Cell) → ℕ → List (List ℕ)
+given_frames options size cells taken = deliver longest_frame (received_rows options size cells taken)
 
 -- those that the rows up to a count give beside those of fewer rows
-abbrev pub added_frames : ℕ → List (List Cell) → ℕ → ℕ → List (List ℕ)
-added_frames size cells before taken = drop (length (given_frames size cells before)) (given_frames size cells taken)
+abbrev pub added_frames : Options → ℕ → List (List Cell) → ℕ → ℕ → List (List ℕ)
+added_frames options size cells before taken =
+    drop (length (given_frames options size cells before)) (given_frames options size cells taken)
+
+-- it is known which lines carry payload in row t
+abbrev pub knows_at : Options → List (List Cell) → ℕ → Bool
+knows_at options cells t = if nat_lt t 24 then false else is_some (carriers_at options cells ((t - 24) / 16))
+
+-- these lines carry payload in row t, or it isn't known which do. Of rows before 24 nothing is said
+abbrev pub AreCarriers : Options → List (List Cell) → ℕ → Option (List ℕ) → Type 0
+AreCarriers options cells t lines = 24 ≤ t → lines ≡ carriers_at options cells ((t - 24) / 16)
 
 -- ---- return packets
 -- the packets that were read, by row and line, of a count of packet rows

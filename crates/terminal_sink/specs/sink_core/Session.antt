@@ -6,7 +6,7 @@ use Rattle.law_row.specs.Received.{TellsRow, IsDealtRow}
 -- the first rows that the cells give are those of the session: whole where these are, and with their octets
 abbrev pub AreSessionRows : Scenario → List (Option Told) → List (List Cell) → ℕ → Type 0
 AreSessionRows scenario returns cells n = (t : ℕ) → t < n →
-    row_at scenario.size cells t ≡ (if is_whole_row scenario returns t then Some
+    row_at scenario.options scenario.size cells t ≡ (if is_whole_row scenario returns t then Some
     (payload_of scenario returns t) else None)
 
 -- the cells tell row t, of which the lines that carry payload have the octets that the frame carries

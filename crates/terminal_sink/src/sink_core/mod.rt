@@ -4,7 +4,6 @@
 //! more cells and more rows change, `session_sink_law` what is given in a session. How cells come to the lines,
 //! and where frames and return packets go, is not said here.
 
-mod active_lines;
 mod octets_of_row;
 mod sink_laws;
 mod sink_terminal;

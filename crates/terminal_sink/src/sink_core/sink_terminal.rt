@@ -2,22 +2,21 @@
 
 ghost use Rattle.std.specs.Prelude.{◌≡◌, ℕ, ◌+◌, ◌^◌, ◌%◌, ◌<◌, ◌≤◌, ◌==◌, ◌&&◌, ◌↔◌, nat_lt, List, ◌++◌, length};
 ghost use Rattle.std.specs.Prelude.{IfOk, IsSome, IsTrue};
-ghost use Rattle.law_model.specs.Common.{Cell, IsOptions, Start, governing, active_of, IsSize, segments_of};
+ghost use Rattle.law_model.specs.Common.{Cell, IsOptions, Start, governing, IsSize, segments_of};
 ghost use Rattle.member_rows.specs.realign_rows.Gather.{GatherStands as Gathers, line_count, open_line};
-ghost use Rattle.std.specs.Vec.{vec_capacity};
-ghost use Rattle.member_rows.specs.vcat_interleave.Members.{AreLines};
 ghost use Rattle.terminal_sink.specs.lcas_sink.SinkStates.{SinkTableStands as HasTold};
-ghost use Rattle.terminal_sink.specs.sink_core.Given.{answer_at, added_frames, back_at, received_rows, read_rows, packet_rows};
+ghost use Rattle.terminal_sink.specs.sink_core.Given.{answer_at, added_frames, back_at, received_rows, read_rows};
+ghost use Rattle.terminal_sink.specs.sink_core.Given.{packet_rows};
 ghost use Rattle.terminal_sink.specs.sink_core.Given.{rows_taken, waiting_for, back_of, IsPacketEnd, IsWaiting, Allows};
+ghost use Rattle.terminal_sink.specs.sink_core.Given.{knows_at};
 ghost use Rattle.terminal_sink.specs.sink_core.Core.{SinkStands};
 ghost use Rattle.terminal_sink.specs.marked_delineator.Marks.{first_place};
 
 use crate::lcas_sink::SinkTable;
 use crate::marked_delineator::MarkedDelineator;
-use crate::sink_core::active_lines::find_active;
 use crate::sink_core::octets_of_row::BLOCK;
 use crate::sink_core::whole_rows::{FIRST_ROW, take_row};
-use law_model::{FrameOut, LONGEST_FRAME, MOST_LINES, Options};
+use law_model::{FrameOut, LONGEST_FRAME, Options};
 use member_rows::lcas_packet::Packet;
 use member_rows::realign_rows::{RowAnswer, RowGather};
 use std::alloc::{AllocError, Global};
@@ -49,17 +48,13 @@ pub struct SinkCore {
     taken: u32,
     delineator: MarkedDelineator,
     table: SinkTable,
-    /// The lines that carry payload in the next row, by rank.
-    active: Vec<u8>,
     /// Octets of some places of a row, joined.
     block: Vec<u8>,
 }
 
 impl Model for SinkCore {
     ghost use Rattle.std.specs.Prelude.{◌≡◌, ◌≤◌, length};
-    ghost use Rattle.std.specs.Vec.{vec_capacity};
     ghost use Rattle.law_model.specs.Common.{vc4_size};
-    ghost use Rattle.member_rows.specs.vcat_interleave.Members.{AreLines};
     ghost use Rattle.terminal_sink.specs.sink_core.Receives.{IsKnown};
     ghost use Rattle.terminal_sink.specs.sink_core.Given.{packet_rows};
     ghost use Rattle.terminal_sink.specs.sink_core.Core.{Core};
@@ -73,12 +68,10 @@ impl Model for SinkCore {
       taken = core.taken;
       receiver = core.delineator;
       table = core.table;
-      active = core.active.items;
     } };
 
     ghost invariant = { λ core. IsKnown core.delineator × (core.lines ≤ 128) × (core.size ≤ vc4_size) × (core.table.lines ≡ core.lines)
-        × (core.table.taken ≡ packet_rows core.taken) × (128 ≤ vec_capacity core.active)
-        × AreLines core.lines core.active.items × (length core.active.items ≤ 128) × (length core.block.items ≡ 4096) };
+        × (core.table.taken ≡ packet_rows core.taken) × (length core.block.items ≡ 4096) };
 }
 
 impl SinkCore {
@@ -107,7 +100,6 @@ impl SinkCore {
             taken: 0,
             delineator: MarkedDelineator::new(alloc, LONGEST)?,
             table: SinkTable::new(lines, options),
-            active: Vec::with_capacity(alloc, MOST_LINES)?,
             block: vec![in alloc; 0; BLOCK]?,
         })
     }
@@ -132,7 +124,7 @@ impl SinkCore {
         ensures gives { (cells : List (List Cell)) → Gathers rows.old cells → SinkStands self.old cells →
             (start : Start) (frames : List (List ℕ)) → F.stands_for out.old start frames →
             F.stands_for out.new start
-            (frames ++ added_frames self.old.size cells self.old.taken self.new.taken) }
+            (frames ++ added_frames self.old.options self.old.size cells self.old.taken self.new.taken) }
         ensures least { waiting_for result ≡ open_line rows.old }
         ensures back { IsSome (back_of result) ↔
             ((rows_taken result ≡ 1) × IsPacketEnd self.old.taken) }
@@ -145,7 +137,7 @@ impl SinkCore {
             RowAnswer::Row => {
                 take_row(
                     &mut self.delineator,
-                    &self.active,
+                    self.table.carriers(),
                     &mut self.block,
                     self.size,
                     rows,
@@ -155,7 +147,6 @@ impl SinkCore {
                 rows.advance();
                 let packets = rows.packets();
                 let back = pass_row(&mut self.table, self.taken, packets);
-                keep_active(&mut self.active, self.taken, packets);
                 self.taken += 1;
                 TakeAnswer::Taken { back }
             }
@@ -165,10 +156,19 @@ impl SinkCore {
     /// The place that is confirmed first in the segment that goes on with the next row, counted from its first octet.
     pub fn first_confirmed(&self) -> Option<u64>
         ensures { (cells : List (List Cell)) → SinkStands self.now cells →
-            let octets = (segments_of (received_rows self.now.size cells self.now.taken)).last.octets in
+            let rows = received_rows self.now.options self.now.size cells self.now.taken in
+            let octets = (segments_of rows).last.octets in
             length octets < 2 ^ 64 → result ≡ first_place octets }
     {
         self.delineator.first_confirmed()
+    }
+
+    /// Whether it is known which lines carry payload in the next row.
+    pub fn knows(&self) -> bool
+        ensures { (cells : List (List Cell)) → SinkStands self.now cells →
+            result ≡ knows_at self.now.options cells self.now.taken }
+    {
+        self.table.carriers().is_some()
     }
 
     /// How many rows were taken.
@@ -207,24 +207,5 @@ fn pass_row(table: &mut SinkTable, t: u32, packets: &[Option<Packet>]) -> Option
         Some(table.packet_row(packets))
     } else {
         None
-    }
-}
-
-/// Finds the lines that carry payload after row `t`, where a packet ends with it; else they stay. `packets`
-/// govern the row after it.
-fn keep_active(active: &mut Vec<u8>, t: u32, packets: &[Option<Packet>])
-    requires few { length packets.now ≤ 128 }
-    requires room { 128 ≤ vec_capacity active.old }
-    requires lines { AreLines (length packets.now) active.old.items }
-    requires within { length active.old.items ≤ 128 }
-    ensures active { (cells : List (List Cell)) → packets.now ≡ governing cells (t + 1) →
-        active.old.items ≡ active_of (governing cells t) →
-        active.new.items ≡ active_of (governing cells (t + 1)) }
-    ensures lines { AreLines (length packets.now) active.new.items }
-    ensures within { length active.new.items ≤ 128 }
-    ensures room { 128 ≤ vec_capacity active.new }
-{
-    if ends_packet(t) {
-        find_active(packets, active);
     }
 }

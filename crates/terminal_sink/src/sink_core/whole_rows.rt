@@ -1,17 +1,17 @@
 //! A row, whole or not.
 
-ghost use Rattle.std.specs.Prelude.{◌≡◌, ℕ, ◌≤◌, List, [], ◌∷◌, ◌++◌, length, is_some};
-ghost use Rattle.law_model.specs.Common.{Cell, Container, governing, active_of, containers_at, row_under, row_at};
+ghost use Rattle.std.specs.Prelude.{◌≡◌, ℕ, ◌≤◌, List, [], ◌∷◌, ◌++◌, length, IfSome, is_some};
+ghost use Rattle.std.specs.Option.{option_copied};
+ghost use Rattle.law_model.specs.Common.{Cell, containers_at, row_at};
 ghost use Rattle.law_model.specs.Common.{StreamRow, Start, longest_frame, vc4_size};
+ghost use Rattle.law_model.specs.declared.script_types.Options.{Options};
 ghost use Rattle.law_loss.specs.Added.{added};
 ghost use Rattle.member_rows.specs.vcat_interleave.Members.{AreLines};
 ghost use Rattle.member_rows.specs.realign_rows.Gather.{GatherStands, line_count, AreDecided};
-ghost use Rattle.terminal_sink.specs.sink_core.Members.{Hold, octets_if};
-ghost use Rattle.terminal_sink.specs.sink_core.Given.{row_in};
+ghost use Rattle.terminal_sink.specs.sink_core.Given.{AreCarriers, row_in};
 ghost use Rattle.terminal_sink.specs.sink_core.Receives.{IsKnown, Receives};
 
 use crate::marked_delineator::MarkedDelineator;
-use crate::sink_core::active_lines::leading_act;
 use crate::sink_core::octets_of_row::{take_break, take_members};
 use law_model::FrameOut;
 use member_path::cell_numbers::Verdict;
@@ -36,26 +36,11 @@ fn are_whole(rows: &RowGather, active: &[u8]) -> bool
     true
 }
 
-/// Whether the next row is whole by the packets that govern it, by which these lines carry payload.
-fn is_whole(rows: &RowGather, active: &[u8]) -> bool
-    requires lines { AreLines (line_count rows.now) active.now }
-    requires decided { AreDecided rows.now }
-    ensures row { (size : ℕ) (cells : List (List Cell)) (places : List Container) →
-        GatherStands rows.now cells → active.now ≡ active_of (governing cells rows.now.rows) →
-        Hold places cells rows.now.rows →
-        row_under (governing cells rows.now.rows) size cells rows.now.rows
-        ≡ octets_if result size places active.now }
-{
-    match leading_act(rows.packets()) {
-        Some(act) => active.len() == usize::from(act) && are_whole(rows, active),
-        None => false,
-    }
-}
-
-/// Takes row `t`, which is the next one: its octets, where it is whole, or the break of the stream.
+/// Takes row `t`, which is the next one: its octets, where it is known which lines carry payload and it is whole on
+/// each of them, or the break of the stream.
 pub(super) fn take_row<F: FrameOut>(
     delineator: &mut MarkedDelineator,
-    active: &[u8],
+    carriers: Option<&[u8]>,
     block: &mut [u8],
     size: u16,
     rows: &RowGather,
@@ -63,34 +48,35 @@ pub(super) fn take_row<F: FrameOut>(
     out: &mut F,
 )
     requires known { IsKnown delineator.old }
-    requires few { length active.now ≤ 128 }
+    requires few { IfSome carriers (λ lines. length lines.now ≤ 128) }
     requires block { length block.old ≡ 4096 }
     requires size { size ≤ vc4_size }
-    requires lines { AreLines (line_count rows.now) active.now }
+    requires lines { IfSome carriers (λ lines. AreLines (line_count rows.now) lines.now) }
     requires decided { AreDecided rows.now }
     requires row { rows.now.rows ≡ t }
     ensures known { IsKnown delineator.new }
-    ensures receives { (cells : List (List Cell)) (come : List StreamRow) → GatherStands rows.now cells →
-        active.now ≡ active_of (governing cells t) → Receives delineator.old come →
-        Receives delineator.new (come ++ row_in (row_at size cells t) ∷ []) }
-    ensures gives { (cells : List (List Cell)) (come : List StreamRow) → GatherStands rows.now cells →
-        active.now ≡ active_of (governing cells t) → Receives delineator.old come →
-        (start : Start) (frames : List (List ℕ)) → F.stands_for out.old start frames →
-        F.stands_for out.new start (frames ++ added longest_frame come (row_in (row_at size cells t))) }
+    ensures receives { (options : Options) (cells : List (List Cell)) (come : List StreamRow) →
+        GatherStands rows.now cells → AreCarriers options cells t (option_copied carriers.entry) →
+        Receives delineator.old come →
+        Receives delineator.new (come ++ row_in (row_at options size cells t) ∷ []) }
+    ensures gives { (options : Options) (cells : List (List Cell)) (come : List StreamRow) →
+        GatherStands rows.now cells → AreCarriers options cells t (option_copied carriers.entry) →
+        Receives delineator.old come → (start : Start) (frames : List (List ℕ)) →
+        F.stands_for out.old start frames → F.stands_for out.new start
+        (frames ++ added longest_frame come (row_in (row_at options size cells t))) }
 {
     if t < FIRST_ROW {
         return;
     }
-    if is_whole(rows, active) {
-        take_members(
+    match carriers {
+        Some(carriers) if are_whole(rows, carriers) => take_members(
             delineator,
             block,
             rows.containers(),
-            active,
+            carriers,
             usize::from(size),
             out,
-        );
-    } else {
-        take_break(delineator);
+        ),
+        _ => take_break(delineator),
     }
 }

@@ -8,7 +8,8 @@ use Rattle.terminal_sink.specs.sink_core.Given.{given_frames, added_frames}
 use Rattle.text_got.specs.Told.{Seen, seen, known_of, faults_of}
 use Rattle.thread_sink.specs.Told.{Writes}
 use Rattle.thread_sink.specs.declared.sink_worker.SinkWorker.{SinkWorker}
-use Rattle.thread_sink.specs.Worker.{SinkWorkerStands, IsLater, parts_of, cells_of, size_of, taken_of, has_failed}
+use Rattle.thread_sink.specs.Worker.{SinkWorkerStands, IsLater, parts_of, cells_of, options_of, size_of, taken_of}
+use Rattle.thread_sink.specs.Worker.{has_failed}
 use Rattle.thread_sink.proofs.PartsLaws.{given-then, later-then}
 use Rattle.thread_alarms.specs.declared.alarm_log.log_turns.AlarmLog.{AlarmLog}
 use Rattle.thread_session.specs.session_parts.Duty.{Begun, HasRun, IsLogLater}
@@ -52,11 +53,11 @@ module _ {K : Type 0} (written : K → Option (List ℕ)) (faults : K → ℕ) w
 
   pub run-then : (begun : Begun) (a b : SinkWorker) (old new : K) → SinkWorkerStands b → IsLater a b →
       Writes written faults (has_failed a) (has_failed b) old new
-      (got_texts (added_frames (size_of b) (cells_of b) (taken_of a) (taken_of b))) →
+      (got_texts (added_frames (options_of b) (size_of b) (cells_of b) (taken_of a) (taken_of b))) →
       HasRunTo begun a old → HasRunTo begun b new
   run-then begun a b old new stands later writes run =
-      let before = given_frames (size_of a) (cells_of a) (taken_of a) in
-      let more = added_frames (size_of b) (cells_of b) (taken_of a) (taken_of b) in
+      let before = given_frames (options_of a) (size_of a) (cells_of a) (taken_of a) in
+      let more = added_frames (options_of b) (size_of b) (cells_of b) (taken_of a) (taken_of b) in
       record {
         stands = stands;
         later = (later.0 ∙ run.later.0, later-then (parts_of begun.sink) (parts_of a) (parts_of b) run.later.1 later.1);
@@ -71,11 +72,12 @@ module _ {K : Type 0} (written : K → Option (List ℕ)) (faults : K → ℕ) w
   pub run-writes : (first now : K) (begun : Begun) (sink : SinkWorker) → begun.first ≡ seen_of first →
       HasRunTo begun sink now →
       Writes written faults false (has_failed sink) first now
-      (got_texts (given_frames (size_of sink) (cells_of sink) (taken_of sink)))
+      (got_texts (given_frames (options_of sink) (size_of sink) (cells_of sink) (taken_of sink)))
   run-writes first now begun sink is run =
-      told-writes (has_failed sink) (got_texts (given_frames (size_of sink) (cells_of sink) (taken_of sink)))
+      told-writes (has_failed sink)
+      (got_texts (given_frames (options_of sink) (size_of sink) (cells_of sink) (taken_of sink)))
       (subst (λ (s : Seen). Told (has_failed sink) s (seen_of now)
-      (got_texts (given_frames (size_of sink) (cells_of sink) (taken_of sink)))) is run.told)
+      (got_texts (given_frames (options_of sink) (size_of sink) (cells_of sink) (taken_of sink)))) is run.told)
     where
       told-writes : (failed : Bool) (text : List ℕ) → Told failed (seen_of first) (seen_of now) text →
           Writes written faults false failed first now text

@@ -120,7 +120,8 @@ module _ (script : Script) (valid : IsValid script) (n : ℕ) (own : List (List 
       (course-containers (scenario_of script) script.config.ticks n own (has-lines (leg_of script) can) lag course m)
 
   pub frames-session : ((t : ℕ) → t < script.config.ticks → AreDecidedAt own t) →
-      given_frames script.config.size own script.config.ticks ≡ delivered_of (leg_of script) script.config.ticks
+      given_frames script.config.options script.config.size own script.config.ticks
+      ≡ delivered_of (leg_of script) script.config.ticks
   frames-session decided =
       session-frames (scenario_of script) (session_cells (scenario_of script)) own script.config.ticks
       (λ t low. course-rows (scenario_of script) script.config.ticks n own

@@ -29,7 +29,7 @@ use Rattle.terminal_sink.specs.sink_core.Given.{given_frames}
 use Rattle.thread_sink.specs.Received.{backs}
 use Rattle.thread_sink.specs.declared.sink_worker.SinkWorker.{SinkWorker}
 use Rattle.thread_sink.specs.Told.{count_of}
-use Rattle.thread_sink.specs.Worker.{cells_of, size_of, taken_of as rows_taken}
+use Rattle.thread_sink.specs.Worker.{cells_of, options_of, size_of, taken_of as rows_taken}
 use Rattle.thread_rings.specs.Ends.{out_passed, in_passed, in_items}
 use Rattle.thread_rings.specs.declared.line_worker.LineWorker.{LineWorker}
 use Rattle.thread_group.specs.declared.group_state.GroupState.{GroupState}
@@ -137,11 +137,11 @@ module _ (script : Script) (valid : IsValid script) (group : GroupState) (worker
       end.stands.keeps.sent ∙ ap₂ (λ options t. backs options (cells_of sink) t) end.options end.taken
       ∙ backs-session script valid (used_in script.config.lag script.config.ticks) (cells_of sink) course decided
 
-  pub frames-ended : given_frames (size_of sink) (cells_of sink) (rows_taken sink)
+  pub frames-ended : given_frames (options_of sink) (size_of sink) (cells_of sink) (rows_taken sink)
       ≡ delivered_of (leg_of script) script.config.ticks
   frames-ended =
-      ap (λ size. given_frames size (cells_of sink) (rows_taken sink)) end.size
-      ∙ ap (given_frames script.config.size (cells_of sink)) end.taken
+      ap₂ (λ options size. given_frames options size (cells_of sink) (rows_taken sink)) end.options end.size
+      ∙ ap (given_frames script.config.options script.config.size (cells_of sink)) end.taken
       ∙ frames-session script valid (used_in script.config.lag script.config.ticks) (cells_of sink) course decided
 
   pub session-ended : IsEnded script group.tx.items group.back workers sink

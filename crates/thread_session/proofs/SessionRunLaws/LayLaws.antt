@@ -13,7 +13,7 @@ use Rattle.terminal_sink.specs.sink_core.Given.{given_frames}
 use Rattle.thread_sink.specs.declared.sink_worker.SinkWorker.{SinkWorker}
 use Rattle.thread_sink.specs.Received.{received, backs}
 use Rattle.thread_sink.specs.Told.{count_of}
-use Rattle.thread_sink.specs.Worker.{SinkWorkerStands, cells_of, size_of, taken_of, got_of}
+use Rattle.thread_sink.specs.Worker.{SinkWorkerStands, cells_of, options_of, size_of, taken_of, got_of}
 use Rattle.thread_group.proofs.LayLaws.{AreStill}
 use Rattle.thread_session.specs.session_parts.Laid.{IsSendLaid, IsReceiveLaid, AreSendsLaid, AreReceivesLaid}
 use Rattle.thread_session.specs.session_parts.Laid.{AreSendEnds, AreReceiveEnds}
@@ -62,8 +62,9 @@ stands-laid a b rows core got count cells back stands =
         sent = back ∙ k.sent ∙ sym (ap (λ own. backs a.core.options own a.core.taken) cells)
             ∙ sym (ap (λ (own : Core). backs own.options (cells_of b) own.taken) core);
       };
-      counted = got ∙ stands.counted ∙ sym (ap (λ own. count_of (given_frames (size_of a) own (taken_of a))) cells)
-          ∙ sym (ap (λ (own : Core). count_of (given_frames own.size (cells_of b) own.taken)) core);
+      counted = got ∙ stands.counted
+          ∙ sym (ap (λ own. count_of (given_frames (options_of a) (size_of a) own (taken_of a))) cells)
+          ∙ sym (ap (λ (own : Core). count_of (given_frames own.options own.size (cells_of b) own.taken)) core);
     }
 
 module _ (tx tx' : List (OutEnd Container)) (workers mid workers' : List LineWorker) (rx rx' : List (InEnd Cell))

@@ -1,6 +1,6 @@
 -- What has come of a session that was opened, once all have done what they had to do.
 use Rattle.std.proofs.Common.{◌≡◌, ℕ, ◌≤◌, Bool, true, false, List, [], ◌∷◌, length, slice_get, Option, Some, refl, sym}
-use Rattle.std.proofs.Common.{◌∙◌, ap, subst, arith, Contains}
+use Rattle.std.proofs.Common.{◌∙◌, ap, ap₂, subst, arith, Contains}
 use Rattle.std.proofs.lemmas.List.{nil_from_length}
 use Rattle.std.proofs.lemmas.Option.{slice_get_within}
 use Rattle.law_model.specs.Common.{Container, End, BackCell, Appends, AppendsPart, leg_of}
@@ -16,8 +16,8 @@ use Rattle.terminal_sink.specs.sink_core.Given.{given_frames}
 use Rattle.thread_sink.specs.declared.sink_worker.SinkWorker.{SinkWorker}
 use Rattle.text_got.specs.Told.{Seen, seen, known_of, faults_of}
 use Rattle.thread_sink.specs.Told.{Writes}
-use Rattle.thread_sink.specs.Worker.{SinkWorkerStands, parts_of, cells_of, size_of, taken_of, has_failed, ticks_of as rows_of}
-use Rattle.thread_sink.specs.Worker.{IsLater as IsSinkLater}
+use Rattle.thread_sink.specs.Worker.{SinkWorkerStands, parts_of, cells_of, options_of, size_of, taken_of, has_failed}
+use Rattle.thread_sink.specs.Worker.{ticks_of as rows_of, IsLater as IsSinkLater}
 use Rattle.thread_sink.proofs.PartsLaws.{later-refl, frames-none}
 use Rattle.thread_alarms.specs.declared.alarm_log.log_turns.AlarmLog.{AlarmLog}
 use Rattle.thread_group.specs.declared.group_state.GroupState.{GroupState}
@@ -46,14 +46,14 @@ bound-own named tx back script first group is bound =
 pub run-begins : (script : Script) (sink : SinkWorker) (first : Seen) (name : ℕ) (log : Option AlarmLog) →
     IsSinkOf script sink → HasRun (record { first = first; name = name; sink = sink; log = log }) sink first
 run-begins script sink first name log is =
-    let none : given_frames (size_of sink) (cells_of sink) (taken_of sink) ≡ [] =
-    nil_from_length (given_frames (size_of sink) (cells_of sink) (taken_of sink))
-    (frames-none (size_of sink) (cells_of sink) (taken_of sink) is.taken) in
+    let none : given_frames (options_of sink) (size_of sink) (cells_of sink) (taken_of sink) ≡ [] =
+    nil_from_length (given_frames (options_of sink) (size_of sink) (cells_of sink) (taken_of sink))
+    (frames-none (options_of sink) (size_of sink) (cells_of sink) (taken_of sink) is.taken) in
     record {
       stands = is.stands;
       later = (refl, later-refl (parts_of sink));
       told = subst (λ failed. Writes known_of faults_of false failed first first
-          (got_texts (given_frames (size_of sink) (cells_of sink) (taken_of sink)))) (sym is.failed)
+          (got_texts (given_frames (options_of sink) (size_of sink) (cells_of sink) (taken_of sink)))) (sym is.failed)
           (subst (λ frames. Writes known_of faults_of false false first first (got_texts frames)) (sym none)
           (Appends-none known_of faults_of first));
     }
@@ -195,15 +195,15 @@ pub writes-laid : {K : Type 0} (written : K → Option (List ℕ)) (faults : K �
     (group group' : GroupState) (lines lines' : List LineWorker) (sink sink' : SinkWorker) →
     AreLaid group lines sink group' lines' sink' →
     Writes written faults false (has_failed sink) old new
-    (got_texts (given_frames (size_of sink) (cells_of sink) (taken_of sink))) →
+    (got_texts (given_frames (options_of sink) (size_of sink) (cells_of sink) (taken_of sink))) →
     Writes written faults false (has_failed sink') old new
-    (got_texts (given_frames (size_of sink') (cells_of sink') (taken_of sink')))
+    (got_texts (given_frames (options_of sink') (size_of sink') (cells_of sink') (taken_of sink')))
 writes-laid written faults old new group group' lines lines' sink sink' laid writes =
-    let frames : given_frames (size_of sink') (cells_of sink') (taken_of sink') ≡ given_frames (size_of sink)
-    (cells_of sink) (taken_of sink) =
-    ap (λ size. given_frames size (cells_of sink') (taken_of sink')) laid.size
-    ∙ ap (λ cells. given_frames (size_of sink) cells (taken_of sink')) laid.cells
-    ∙ ap (given_frames (size_of sink) (cells_of sink)) laid.taken in
+    let frames : given_frames (options_of sink') (size_of sink') (cells_of sink') (taken_of sink')
+    ≡ given_frames (options_of sink) (size_of sink) (cells_of sink) (taken_of sink) =
+    ap₂ (λ options size. given_frames options size (cells_of sink') (taken_of sink')) laid.options laid.size
+    ∙ ap (λ cells. given_frames (options_of sink) (size_of sink) cells (taken_of sink')) laid.cells
+    ∙ ap (given_frames (options_of sink) (size_of sink) (cells_of sink)) laid.taken in
     subst (λ failed. Writes written faults false failed old new
-    (got_texts (given_frames (size_of sink') (cells_of sink') (taken_of sink')))) (sym laid.failed)
+    (got_texts (given_frames (options_of sink') (size_of sink') (cells_of sink') (taken_of sink')))) (sym laid.failed)
     (subst (λ own. Writes written faults false (has_failed sink) old new (got_texts own)) (sym frames) writes)

@@ -7,7 +7,7 @@ use Rattle.thread_sink.specs.Told.{Writes}
 use Rattle.thread_sink.specs.declared.sink_worker.SinkWorker.{SinkWorker}
 use Rattle.thread_alarms.specs.declared.alarm_log.log_turns.AlarmLog.{AlarmLog}
 use Rattle.thread_alarms.specs.alarm_log.Logs.{SameLog}
-use Rattle.thread_sink.specs.Worker.{SinkWorkerStands, IsLater, cells_of, size_of, taken_of, has_failed}
+use Rattle.thread_sink.specs.Worker.{SinkWorkerStands, IsLater, cells_of, options_of, size_of, taken_of, has_failed}
 
 -- how a session began: what the sink had written and how many writes had failed; the name of the reference by which is
 -- written; its worker;
@@ -24,7 +24,7 @@ pub record HasRun (begun : Begun) (sink : SinkWorker) (now : Seen) : Type 0 wher
   pub stands : SinkWorkerStands sink
   pub later : IsLater begun.sink sink
   pub told : Writes known_of faults_of false (has_failed sink) begun.first now
-      (got_texts (given_frames (size_of sink) (cells_of sink) (taken_of sink)))
+      (got_texts (given_frames (options_of sink) (size_of sink) (cells_of sink) (taken_of sink)))
 
 -- the same log later, or none as before
 abbrev pub IsLogLater : Option AlarmLog → Option AlarmLog → Type 0

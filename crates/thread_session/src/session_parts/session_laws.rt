@@ -39,7 +39,7 @@ pub fn ended_law()
     ensures frames { (script : Script) → IsValid script → (n : ℕ) (own : List (List Cell)) →
         IsCourse (scenario_of script) script.config.ticks n own →
         ((t : ℕ) → t < script.config.ticks → AreDecidedAt own t) →
-        given_frames script.config.size own script.config.ticks
+        given_frames script.config.options script.config.size own script.config.ticks
         ≡ delivered_of (leg_of script) script.config.ticks }
     ensures backs { (script : Script) → IsValid script → (n : ℕ) (own : List (List Cell)) →
         IsCourse (scenario_of script) script.config.ticks n own →

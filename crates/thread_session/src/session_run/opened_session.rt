@@ -5,7 +5,7 @@ ghost use Rattle.thread_rings.specs.Ends.{AreEnds};
 ghost use Rattle.text_report.specs.Report.{got_texts};
 ghost use Rattle.terminal_sink.specs.sink_core.Given.{given_frames};
 ghost use Rattle.thread_sink.specs.Told.{Writes};
-ghost use Rattle.thread_sink.specs.Worker.{cells_of, size_of, taken_of, has_failed};
+ghost use Rattle.thread_sink.specs.Worker.{cells_of, options_of, size_of, taken_of, has_failed};
 ghost use Rattle.std.specs.List.{AllZip};
 ghost use Rattle.thread_alarms.specs.alarm_log.Posts.{SamePost};
 ghost use Rattle.thread_alarms.specs.watched_line.Served.{AreWatchable, AreTold};
@@ -89,8 +89,8 @@ pub(super) fn run_opened<Y: Session, R: Threads + Wait + Sync, K: ByteSink, G: G
         result.ended.sink }
     ensures written { Writes K.written K.faults false (has_failed result.ended.sink)
         out.old out.new
-        (got_texts (given_frames (size_of result.ended.sink) (cells_of result.ended.sink)
-        (taken_of result.ended.sink))) }
+        (got_texts (given_frames (options_of result.ended.sink) (size_of result.ended.sink)
+        (cells_of result.ended.sink) (taken_of result.ended.sink))) }
     ensures posts { AllZip SamePost posts.items result.posts.items }
     ensures log { IsLogLater log result.log }
     ensures told { vec_len posts ≡ vec_len opened.lines →

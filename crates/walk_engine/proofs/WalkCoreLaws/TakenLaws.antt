@@ -319,11 +319,13 @@ module _ (leg : Leg) (backs : ℕ) (parts : Parts) (is : WayStands leg backs par
                 (row.said ∙ ap (λ (o : Options). back_at o (popped_cells leg (map line_counts lines)) parts.sink.taken)
                 is.sink.options)
 
-            added-is : added_frames parts.sink.size (popped_cells leg (map line_counts lines)) parts.sink.taken
-                sink.taken ≡ delivered_since leg parts.sink.taken sink.taken
+            added-is : added_frames parts.sink.options parts.sink.size (popped_cells leg (map line_counts lines))
+                parts.sink.taken sink.taken ≡ delivered_since leg parts.sink.taken sink.taken
             added-is =
-                ap₂ (λ size t. added_frames size (popped_cells leg (map line_counts lines)) parts.sink.taken t)
-                is.sink.size row.one
+                ap (λ options. added_frames options parts.sink.size (popped_cells leg (map line_counts lines))
+                parts.sink.taken sink.taken) is.sink.options
+                ∙ ap₂ (λ size t. added_frames leg.config.options size (popped_cells leg (map line_counts lines))
+                parts.sink.taken t) is.sink.size row.one
                 ∙ ap₂ (λ before all. drop (length before) all)
                 (frames-received leg next can walked-on row_in received parts.sink.taken (omega arith))
                 (frames-received leg next can walked-on row_in received (parts.sink.taken + 1) (omega arith))
@@ -331,15 +333,15 @@ module _ (leg : Leg) (backs : ℕ) (parts : Parts) (is : WayStands leg backs par
 
             pub taken-gives : {Out : Type 0} (stands_for : Out → Start → List (List ℕ) → Type 0) (before after : Out) →
                 ((start : Start) (given : List (List ℕ)) → stands_for before start given →
-                stands_for after start (given ++ added_frames parts.sink.size
+                stands_for after start (given ++ added_frames parts.sink.options parts.sink.size
                 (popped_cells leg (map line_counts lines)) parts.sink.taken sink.taken)) →
                 GivesRows stands_for before after leg parts.sink.taken sink.taken
             taken-gives stands_for before after gives start given stood =
                 subst (λ frames. stands_for after start (given ++ frames)) added-is (gives start given stood)
 
             module _ (count' : ℕ) (counts : count' ≡ min
-                (parts.got + length (added_frames parts.sink.size (popped_cells leg (map line_counts lines))
-                parts.sink.taken sink.taken)) 18446744073709551615) where
+                (parts.got + length (added_frames parts.sink.options parts.sink.size
+                (popped_cells leg (map line_counts lines)) parts.sink.taken sink.taken)) 18446744073709551615) where
               counts-are : counts_of (record parts { lines = lines; rows = gather; sink = sink; got = count' }) backs
                   ≡ next
               counts-are = ap (λ n. record next { rows = n }) row.one

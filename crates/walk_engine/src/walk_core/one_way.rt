@@ -1,15 +1,16 @@
 //! One direction of a group without its way back, call by call.
 
-ghost use Rattle.std.specs.Prelude.{◌≡◌, ℕ, ◌+◌, ◌<◌, List, length, map, slice_get, Option, Some, None, IfOk};
-ghost use Rattle.std.specs.Prelude.{option_map, option_copied, is_some};
+ghost use Rattle.std.specs.Prelude.{◌≡◌, ℕ, ◌+◌, ◌-◌, ◌/◌, ◌<◌, ◌≤◌, false, List, length, map};
+ghost use Rattle.std.specs.Prelude.{slice_get, Option, Some, None, IfOk, option_map, option_copied, is_some};
 ghost use Rattle.law_model.specs.Common.{Container, begin, full, Leg, leg_of, governing, Scenario, steps_in};
-ghost use Rattle.law_model.specs.Common.{segments_of, Told, IsValid};
+ghost use Rattle.law_model.specs.Common.{segments_of, Told, IsValid, scenario_by, is_known};
 ghost use Rattle.law_model.specs.declared.walk_events.Event.TheVariants.{Tick, Carry};
 ghost use Rattle.terminal_source.specs.source_core.Given.{SourceStands as HasMade};
 ghost use Rattle.terminal_source.specs.source_core.Terminal.{needed, SameKind};
 ghost use Rattle.member_path.specs.cell_numbers.Told.{cell_of};
 ghost use Rattle.terminal_sink.specs.marked_delineator.Marks.{first_place};
-ghost use Rattle.law_walk.specs.Common.{session_rows, is_client, totals_of, walk_plan, popped_cells};
+ghost use Rattle.law_walk.specs.Common.{session_of, session_rows, is_client, totals_of, walk_plan};
+ghost use Rattle.law_walk.specs.Common.{popped_cells};
 ghost use Rattle.terminal_group.specs.Inbox.{empty_inbox, with_come, cell_for, rest_for};
 ghost use Rattle.terminal_group.specs.Item.{kind_of};
 ghost use Rattle.terminal_group.specs.Landed.{next_number};
@@ -157,6 +158,17 @@ impl WayCore {
             ≡ first_place (segments_of (session_rows leg self.now.sink.taken)).last.octets }
     {
         self.sink.first_confirmed()
+    }
+
+    /// Whether it is known which lines carry payload in the next row. No packet says it of rows 0 to 23.
+    pub fn knows(&self) -> bool
+        ensures known { (leg : Leg) (backs : ℕ) → WayStands leg backs self.now →
+            24 ≤ self.now.sink.taken → result
+            ≡ is_known (scenario_by leg) (session_of leg) ((self.now.sink.taken - 24) / 16) }
+        ensures early { (leg : Leg) (backs : ℕ) → WayStands leg backs self.now →
+            self.now.sink.taken < 24 → result ≡ false }
+    {
+        self.sink.knows()
     }
 
     /// The container at a place of the send ring of a line, from the oldest on, or `None` beyond the last one

@@ -44,12 +44,12 @@ pub(super) fn take_counted_row<F: FrameOut>(
     ensures takes { (cells : List (List Cell)) → CanTake cells sink.old rows.old →
         HasRow cells sink.old sink.new rows.new result.0 }
     ensures counted { (cells : List (List Cell)) → CanTake cells sink.old rows.old → result.1
-        ≡ min (got + length (added_frames sink.old.size cells sink.old.taken sink.new.taken))
-        18446744073709551615 }
+        ≡ min (got + length (added_frames sink.old.options sink.old.size cells sink.old.taken
+        sink.new.taken)) 18446744073709551615 }
     ensures gives { (cells : List (List Cell)) → CanTake cells sink.old rows.old →
         (start : Start) (given : List (List ℕ)) → F.stands_for out.old start given →
         F.stands_for out.new start
-        (given ++ added_frames sink.old.size cells sink.old.taken sink.new.taken) }
+        (given ++ added_frames sink.old.options sink.old.size cells sink.old.taken sink.new.taken) }
 {
     let mut counted = CountedOut::new(out, got);
     let answer = sink.take(rows, &mut counted);

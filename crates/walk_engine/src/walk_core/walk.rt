@@ -1,14 +1,15 @@
 //! A walk of a script, event by event.
 
-ghost use Rattle.std.specs.Prelude.{◌≡◌, ◌/◌, ◌%◌, ◌==◌, ◌<◌, suc, if◌then◌else◌, [], ◌∷◌, length, replicate};
-ghost use Rattle.std.specs.Prelude.{slice_get, Some, None, IfOk, option_map, option_copied};
+ghost use Rattle.std.specs.Prelude.{◌≡◌, ◌-◌, ◌/◌, ◌%◌, ◌==◌, ◌<◌, ◌≤◌, suc, false, if◌then◌else◌, []};
+ghost use Rattle.std.specs.Prelude.{◌∷◌, length, replicate, slice_get, Some, None, IfOk};
+ghost use Rattle.std.specs.Prelude.{option_map, option_copied};
 ghost use Rattle.law_model.specs.declared.walk_events.Event.TheVariants.{Command, Accept, Tick, Carry, Back, Take};
 ghost use Rattle.law_model.specs.Common.{IsValid, begin, step, run, round, drain, bound, carries_from, steps_in};
-ghost use Rattle.law_model.specs.Common.{source_at, leg_of, segments_of};
+ghost use Rattle.law_model.specs.Common.{source_at, leg_of, scenario_by, segments_of, is_known};
 ghost use Rattle.law_model.specs.declared.script_types.Item.{Item};
 ghost use Rattle.law_progress.specs.Progress.{HasLine};
 ghost use Rattle.law_walk.specs.Common.{landed_scenario, told_before, refusals_of, totals_of, last_packet, table_in};
-ghost use Rattle.law_walk.specs.Common.{walk_plan, IsWalked, session_rows};
+ghost use Rattle.law_walk.specs.Common.{walk_plan, IsWalked, session_of, session_rows};
 ghost use Rattle.walk_engine.specs.walk_core.Moved.{answer_by, counts_after, moved_of, GivesRows};
 ghost use Rattle.walk_engine.specs.walk_core.Waiting.{send_ring, receive_ring};
 ghost use Rattle.member_path.specs.cell_numbers.Told.{cell_of};
@@ -212,6 +213,16 @@ impl Walk {
             self.now.counts.rows)).last.octets }
     {
         self.way.first_confirmed()
+    }
+
+    /// Whether it is known which lines carry payload in the next row. No packet says it of rows 0 to 23.
+    pub fn knows(&self) -> bool
+        ensures known { 24 ≤ self.now.counts.rows → result
+            ≡ is_known (scenario_by (leg_of self.now.script)) (session_of (leg_of self.now.script))
+            ((self.now.counts.rows - 24) / 16) }
+        ensures early { self.now.counts.rows < 24 → result ≡ false }
+    {
+        self.way.knows()
     }
 
     /// A walk of a script before any event.

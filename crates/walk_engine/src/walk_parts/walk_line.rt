@@ -6,7 +6,8 @@ ghost use Rattle.law_model.specs.Common.{Container, Cell, AreWindows, verdict, f
 ghost use Rattle.member_path.specs.path_delay.Line.{Calls, opened, and_push, and_flush, path_cells, IsEnded};
 ghost use Rattle.member_path.specs.cell_numbers.Told.{cell_with, cell_of};
 ghost use Rattle.member_rows.specs.realign_rows.Gather.{GatherStands as Gathers, line_count, IsOpenAt};
-ghost use Rattle.walk_engine.specs.walk_parts.Ringed.{Ringed, ring_of, Has, popped_cells, IsNext, IsPopped, popped_until};
+ghost use Rattle.walk_engine.specs.walk_parts.Ringed.{Ringed, ring_of, Has, popped_cells, IsNext, IsPopped};
+ghost use Rattle.walk_engine.specs.walk_parts.Ringed.{popped_until};
 ghost use Rattle.walk_engine.specs.walk_parts.Ringed.{leaves_open, with_sign, count_of, is_at};
 
 use member_cells::{Container, HeldContainer, blank_boxes};
@@ -40,9 +41,23 @@ impl Model for WalkLine {
 
     ghost Value = { Ringed };
 
-    ghost view = { λ line. record { core = line.core; signs = line.signs.items; places = held line.places.items; carried = line.carried; given = line.given; popped = line.popped } };
+    ghost view = { λ line. record {
+      core = line.core;
+      signs = line.signs.items;
+      places = held line.places.items;
+      carried = line.carried;
+      given = line.given;
+      popped = line.popped;
+    } };
 
-    ghost invariant = { λ line. IsRinged (record { core = line.core; signs = line.signs.items; places = held line.places.items; carried = line.carried; given = line.given; popped = line.popped }) };
+    ghost invariant = { λ line. IsRinged (record {
+      core = line.core;
+      signs = line.signs.items;
+      places = held line.places.items;
+      carried = line.carried;
+      given = line.given;
+      popped = line.popped;
+    }) };
 }
 
 impl WalkLine {

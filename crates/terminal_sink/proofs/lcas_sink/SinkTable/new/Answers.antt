@@ -8,4 +8,5 @@ returns-clause-stands c = record {
   ack = refl;
   states = c.all_idle.ensures;
   watches = λ line low. c.all_unread.ensures line (omega arith);
+  carriers = refl;
 }

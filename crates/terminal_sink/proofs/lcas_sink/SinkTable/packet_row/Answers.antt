@@ -6,6 +6,7 @@ use Rattle.terminal_sink.specs.member_watch.Watches.{is_told, mst_by}
 use Rattle.terminal_sink.specs.lcas_sink.SinkStates.{Sink, SinkTableStands}
 use Rattle.terminal_sink.proofs.MemberWatchLaws.WordSteps.{ack-more, changed-by}
 use Rattle.terminal_sink.proofs.LcasSinkLaws.RowSteps.{states-more, told-rows, mst-same, return-fields}
+use Rattle.terminal_sink.proofs.KnownCarriersLaws.SupposedLaws.{carriers-last}
 use Rattle.terminal_sink.proofs.lcas_sink.SinkTable.packet_row.Goals as goal
 
 pub returns-clause-stands : goal.returns-clause-stands
@@ -19,18 +20,22 @@ returns-clause-stands c rows stands =
       ack = f.ack;
       states = f.states;
       watches = f.watches;
+      carriers = f.carriers;
     } in
     let before : SinkTableStands sink rows = subst (λ v. SinkTableStands v rows) (sym c.self.view_is) stands in
     let lines : length row ≡ f.lines = c.requires.lines ∙ sym (ap (λ (sink : Sink). sink.lines) c.self.view_is) in
+    let watched = c.watch_packets.ensures rows (λ line low. before.watches line (omega arith))
+    (changed-by rows row f.ack c.ack_after-ack.result before.ack c.ack_after-ack.ensures) in
+    let stated = states-more c.take_packets.new.states f.states rows row
+    (λ line past. c.self.invariant.2 line (omega arith)) before.states c.take_packets.ensures in
+    let size = length-append rows (row ∷ []) in
     record {
-      taken = omega (arith, before.taken, length-append rows (row ∷ []));
+      taken = omega (arith, before.taken, size);
       ack = c.ack_after-ack.ensures ∙ ap (λ ack. ack_by ack (leader row)) before.ack ∙ sym (ack-more rows row);
-      states = states-more c.take_packets.new.states f.states rows row
-          (λ line past. c.self.invariant.2 line (omega arith)) before.states c.take_packets.ensures;
-      watches = λ line low.
-          c.watch_packets.ensures rows (λ line low. before.watches line (omega arith))
-          (changed-by rows row f.ack c.ack_after-ack.result before.ack c.ack_after-ack.ensures)
-          line (omega arith);
+      states = stated;
+      watches = λ line low. watched line (omega arith);
+      carriers =
+          c.known_carriers-self-inside.ensures.known rows stated watched ∙ sym (carriers-last f.options rows row);
     }
 
 pub returns-clause-packet : goal.returns-clause-packet
@@ -45,6 +50,7 @@ returns-clause-packet c rows stands =
       ack = f.ack;
       states = f.states;
       watches = f.watches;
+      carriers = f.carriers;
     } in
     let before : SinkTableStands sink rows = subst (λ v. SinkTableStands v rows) (sym c.self.view_is) stands in
     let lines : length row ≡ f.lines = c.requires.lines ∙ sym (ap (λ (sink : Sink). sink.lines) c.self.view_is) in

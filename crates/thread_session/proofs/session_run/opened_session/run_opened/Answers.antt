@@ -8,7 +8,7 @@ use Rattle.thread_alarms.specs.watched_line.Served.{posts_of, AreServedLater, Is
 use Rattle.thread_alarms.proofs.WatchedLineLaws.ServedLaws.{served-then, posts-later}
 use Rattle.terminal_sink.specs.sink_core.Given.{given_frames}
 use Rattle.thread_sink.specs.Told.{Writes}
-use Rattle.thread_sink.specs.Worker.{cells_of, size_of, taken_of, has_failed}
+use Rattle.thread_sink.specs.Worker.{cells_of, options_of, size_of, taken_of, has_failed}
 use Rattle.thread_group.specs.declared.group_state.GroupState.{GroupState}
 use Rattle.thread_group.specs.Group.{ticks_of, total_of}
 use Rattle.thread_group.specs.Session.{IsBound}
@@ -123,8 +123,8 @@ returns-clause-written g c =
     c.finish.new.out c.take_back.new.out refl c.take_back.ensures (run g at) in
     let whole : Writes g.K.ByteSink.written g.K.ByteSink.faults false
     (has_failed c.lay_beside.result.sink) c.args.out.now c.take_back.new.out
-    (got_texts (given_frames (size_of c.lay_beside.result.sink) (cells_of c.lay_beside.result.sink)
-    (taken_of c.lay_beside.result.sink))) =
+    (got_texts (given_frames (options_of c.lay_beside.result.sink) (size_of c.lay_beside.result.sink)
+    (cells_of c.lay_beside.result.sink) (taken_of c.lay_beside.result.sink))) =
     writes-laid g.K.ByteSink.written g.K.ByteSink.faults c.args.out.now c.take_back.new.out c.into_state.result
     c.lay_beside.result.group c.split_lines-lines.result.0.items c.lay_beside.result.lines.items
     c.finish.new.sink c.lay_beside.result.sink c.lay_beside.ensures

@@ -12,7 +12,7 @@ returns-clause-stands c =
     let cells = received c.args.rx.items in
     let rows = c.in_ok-rows.ensures in
     let core = c.in_ok-core.ensures in
-    let none = frames-none c.in_ok-core.core.size cells c.in_ok-core.core.taken core.taken in
+    let none = frames-none c.in_ok-core.core.options c.in_ok-core.core.size cells c.in_ok-core.core.taken core.taken in
     record {
       keeps = record {
         gathers = subst (Gathers c.in_ok-rows.rows) (sym c.requires.fresh) rows.stands;

@@ -22,10 +22,10 @@ returns-clause-stands g c stands =
     let told = c.take_rows-first.ensures.gives stands.keeps start [] (c.new.ensures.fresh, refl) in
     record {
       keeps = c.take_rows-first.ensures.keeps stands.keeps;
-      counted = counts-then (given_frames was.core.size (received was.rx) was.core.taken)
-          (added_frames now.core.size (received now.rx) was.core.taken now.core.taken)
-          (given_frames now.core.size (received now.rx) now.core.taken) old.got c.take_rows-first.new.out.counted.count
-          c.saturating_add-self.result
+      counted = counts-then (given_frames was.core.options was.core.size (received was.rx) was.core.taken)
+          (added_frames now.core.options now.core.size (received now.rx) was.core.taken now.core.taken)
+          (given_frames now.core.options now.core.size (received now.rx) now.core.taken) old.got
+          c.take_rows-first.new.out.counted.count c.saturating_add-self.result
           (given-then was now stands.keeps c.take_rows-first.ensures.later) stands.counted told.1
           c.saturating_add-self.ensures;
     }
@@ -42,7 +42,8 @@ returns-clause-written g c stands =
     let told = c.take_rows-first.ensures.gives stands.keeps (start_at written faults first (name_of c.new.result)) []
     (c.new.ensures.fresh, refl) in
     let lines = c.take_rows-first.new.out.lines in
-    let text = got_texts (added_frames now.core.size (received now.rx) was.core.taken now.core.taken) in
+    let text = got_texts
+    (added_frames now.core.options now.core.size (received now.rx) was.core.taken now.core.taken) in
     let has : HasText written faults lines (start_at written faults first (name_of lines)) text =
     subst (λ name. HasText written faults lines (start_at written faults first name) text) (sym told.0.0) told.0 in
     let all = told-end written faults c.finish-back.result.1 first c.finish-back.result.0.now text

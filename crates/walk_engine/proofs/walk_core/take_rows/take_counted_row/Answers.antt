@@ -20,7 +20,8 @@ returns-in-Taken-clause-gives g c cells can start given stands =
     let told = c.take-answer.ensures.gives cells can.gathers can.taken (passing start name) given
     (refl, subst (λ out. F out start given) (sym c.new-counted.ensures.same) stands) in
     let given_on : F c.take-answer.new.out.out.now start
-    (given ++ added_frames c.args.sink.now.size cells c.args.sink.now.taken c.take-answer.new.self.taken) =
+    (given ++ added_frames c.args.sink.now.options c.args.sink.now.size cells c.args.sink.now.taken
+    c.take-answer.new.self.taken) =
     told.1 in
     let same = c.new-counted.ensures.same_reference in
     let back = c.take_back.ensures in

@@ -1,7 +1,6 @@
 -- No row was taken.
-use Rattle.std.proofs.Common.{sym, ◌∙◌, arith}
+use Rattle.std.proofs.Common.{arith}
 use Rattle.law_model.specs.Common.{segments_on}
-use Rattle.terminal_sink.proofs.SinkCoreLaws.GivenLaws.{active-none}
 use Rattle.terminal_sink.proofs.sink_core.sink_terminal.SinkCore.new.Goals as goal
 
 pub returns-clause-stands : goal.returns-clause-stands
@@ -10,6 +9,5 @@ returns-clause-stands c cells size = record {
   lines = size;
   receives = c.in_ok-new.ensures;
   table = c.new-2.ensures.stands;
-  active = c.in_ok-with_capacity.ensures.items ∙ sym (active-none cells);
   decided = λ t low. absurd (omega arith);
 }

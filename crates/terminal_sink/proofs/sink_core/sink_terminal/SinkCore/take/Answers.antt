@@ -6,11 +6,13 @@ use Rattle.terminal_sink.specs.sink_core.Given.{received_rows, answer_at, added_
 use Rattle.terminal_sink.specs.sink_core.Receives.{Receives}
 use Rattle.terminal_sink.specs.sink_core.Core.{Core, SinkStands}
 use Rattle.terminal_sink.proofs.SinkCoreLaws.GivenLaws.{received-more, decided-none, decided-more, answer-taken}
+use Rattle.terminal_sink.proofs.SinkCoreLaws.GivenLaws.{carriers-next}
 use Rattle.terminal_sink.proofs.sink_core.sink_terminal.SinkCore.take.Goals as goal
 
 pub returns-in-Row-clause-answer : goal.returns-in-Row-clause-answer
 returns-in-Row-clause-answer g c cells gathers stands =
     let inside = c.self.inside in
+    let options = inside.table.options in
     let core : Core = record {
       lines = inside.lines;
       size = inside.size;
@@ -19,7 +21,6 @@ returns-in-Row-clause-answer g c cells gathers stands =
       receiver =
           inside.delineator;
       table = inside.table;
-      active = inside.active.items;
     } in
     let before : SinkStands core cells = subst (λ v. SinkStands v cells) (sym c.self.view_is) stands in
     let same : c.args.rows.now.rows ≡ inside.taken = c.requires.rows ∙ sym (ap (λ v. v.taken) c.self.view_is) in
@@ -35,6 +36,7 @@ returns-in-Row-clause-answer g c cells gathers stands =
 pub returns-in-Row-clause-stands : goal.returns-in-Row-clause-stands
 returns-in-Row-clause-stands g c cells gathers stands =
     let inside = c.self.inside in
+    let options = inside.table.options in
     let core : Core = record {
       lines = inside.lines;
       size = inside.size;
@@ -43,7 +45,6 @@ returns-in-Row-clause-stands g c cells gathers stands =
       receiver =
           inside.delineator;
       table = inside.table;
-      active = inside.active.items;
     } in
     let before : SinkStands core cells = subst (λ v. SinkStands v cells) (sym c.self.view_is) stands in
     let same : c.args.rows.now.rows ≡ inside.taken = c.requires.rows ∙ sym (ap (λ v. v.taken) c.self.view_is) in
@@ -52,19 +53,22 @@ returns-in-Row-clause-stands g c cells gathers stands =
     let governs : c.packets-packets.result.now ≡ governing cells (inside.taken + 1) =
     c.packets-packets.ensures.governing cells (c.advance.ensures.stands cells gathers)
     ∙ ap (governing cells) (c.advance.ensures.rows ∙ ap (λ n. n + 1) same) in
+    let carry = carriers-next options cells inside.taken _ (c.carriers.ensures.exact _ before.table) in
     record {
       lines = before.lines;
-      receives = subst (Receives c.take_row.new.delineator) (sym (received-more inside.size cells inside.taken))
-          (c.take_row.ensures.receives cells (received_rows inside.size cells inside.taken) gathers
-          (c.deref.ensures.value ∙ before.active) before.receives);
+      receives = subst (λ options. Receives c.take_row.new.delineator
+          (received_rows options inside.size cells (inside.taken + 1))) (sym c.pass_row-back.ensures.options)
+          (subst (Receives c.take_row.new.delineator) (sym (received-more options inside.size cells inside.taken))
+          (c.take_row.ensures.receives options cells (received_rows options inside.size cells inside.taken) gathers
+          carry before.receives));
       table = c.pass_row-back.ensures.stands cells governs before.table;
-      active = c.keep_active.ensures.active cells governs before.active;
       decided = decided-more cells inside.taken before.decided (decided-none cells inside.taken none);
     }
 
 pub returns-in-Row-clause-gives : goal.returns-in-Row-clause-gives
 returns-in-Row-clause-gives g c cells gathers stands start frames given =
     let inside = c.self.inside in
+    let options = inside.table.options in
     let core : Core = record {
       lines = inside.lines;
       size = inside.size;
@@ -73,14 +77,14 @@ returns-in-Row-clause-gives g c cells gathers stands start frames given =
       receiver =
           inside.delineator;
       table = inside.table;
-      active = inside.active.items;
     } in
     let before : SinkStands core cells = subst (λ v. SinkStands v cells) (sym c.self.view_is) stands in
-    let come = received_rows inside.size cells inside.taken in
+    let carry = carriers-next options cells inside.taken _ (c.carriers.ensures.exact _ before.table) in
+    let come = received_rows options inside.size cells inside.taken in
     let F = g.F.FrameOut.stands_for in
-    subst (λ v. F c.take_row.new.out start (frames ++ added_frames v.size cells v.taken (inside.taken + 1)))
+    subst (λ v. F c.take_row.new.out start (frames ++ added_frames v.options v.size cells v.taken (inside.taken + 1)))
     c.self.view_is
-    (subst (λ rows. F c.take_row.new.out start (frames ++ drop (length (deliver longest_frame come)) (deliver longest_frame rows)))
-    (sym (received-more inside.size cells inside.taken))
-    (c.take_row.ensures.gives cells come gathers (c.deref.ensures.value ∙ before.active) before.receives start frames
-    given))
+    (subst (λ rows. F c.take_row.new.out start
+    (frames ++ drop (length (deliver longest_frame come)) (deliver longest_frame rows)))
+    (sym (received-more options inside.size cells inside.taken))
+    (c.take_row.ensures.gives options cells come gathers carry before.receives start frames given))

@@ -1,11 +1,13 @@
 //! The lines that carry payload, by the packets that are read.
 
-ghost use Rattle.std.specs.Prelude.{◌≡◌, ◌+◌, ◌≤◌, ◌++◌, length, vec_len, vec_capacity};
+ghost use Rattle.std.specs.Prelude.{◌≡◌, ◌+◌, ◌≤◌, ◌++◌, length};
 ghost use Rattle.law_model.specs.Common.{leader, is_carrying, has, lines_at, active_of};
-ghost use Rattle.terminal_sink.specs.sink_core.Active.{carries, carrying, act_of};
+ghost use Rattle.member_rows.specs.vcat_interleave.Members.{AreLines};
+ghost use Rattle.terminal_sink.specs.active_lines.Active.{carries, carrying, act_of};
 
+use crate::line_list::LineList;
+use law_model::Packet;
 use member_cells::Ctrl;
-use member_rows::lcas_packet::Packet;
 
 /// How many sequence numbers there are.
 const NUMBERS: u16 = 256;
@@ -51,39 +53,38 @@ fn carrying(packets: &[Option<Packet>]) -> usize
 }
 
 /// Adds the lines that carry payload and have a sequence number.
-fn push_lines(sq: u8, packets: &[Option<Packet>], active: &mut Vec<u8>)
+fn push_lines(sq: u8, packets: &[Option<Packet>], active: &mut LineList)
     requires few { length packets.now ≤ 128 }
-    requires room { vec_len active.old + length (lines_at sq 0 packets.now) ≤ vec_capacity active.old }
-    ensures lines { active.new.items ≡ active.old.items ++ lines_at sq 0 packets.now }
-    ensures capacity { vec_capacity active.new ≡ vec_capacity active.old }
+    requires room { length active.old + length (lines_at sq 0 packets.now) ≤ 128 }
+    ensures { active.new ≡ active.old ++ lines_at sq 0 packets.now }
 {
     for (line, packet) in packets.iter().enumerate() {
         if has(packet, sq) {
-            active.push_reserved(line as u8);
+            active.push(line as u8);
         }
     }
 }
 
 /// The lines that carry payload, in the order of their sequence numbers. Once all are found, no further
 /// number is tried.
-pub(super) fn find_active(packets: &[Option<Packet>], active: &mut Vec<u8>)
+pub fn find_active(packets: &[Option<Packet>]) -> LineList
     requires few { length packets.now ≤ 128 }
-    requires room { 128 ≤ vec_capacity active.old }
-    ensures lines { active.new.items ≡ active_of packets.now }
-    ensures room { 128 ≤ vec_capacity active.new }
+    ensures active { result ≡ active_of packets.now }
+    ensures lines { AreLines (length packets.now) result }
 {
     let count = carrying(packets);
-    active.clear();
+    let mut active = LineList::new();
     for sq in 0..NUMBERS {
         if active.len() == count {
-            return;
+            return active;
         }
-        push_lines(sq as u8, packets, active);
+        push_lines(sq as u8, packets, &mut active);
     }
+    active
 }
 
 /// The number of active members that the leader of a row of packets says.
-pub(super) fn leading_act(packets: &[Option<Packet>]) -> Option<u8>
+pub fn leading_act(packets: &[Option<Packet>]) -> Option<u8>
     ensures { result ≡ act_of (leader packets.now) }
 {
     for packet in packets {

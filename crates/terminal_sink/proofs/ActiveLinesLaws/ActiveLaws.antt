@@ -8,7 +8,7 @@ use Rattle.std.proofs.lemmas.List.{append-nil, length-append, nil_from_length, d
 use Rattle.law_model.specs.Common.{is_carrying, has, lines_at, active_from, active_of}
 use Rattle.law_model.specs.declared.control_packet.Packet.{Packet}
 use Rattle.member_rows.specs.vcat_interleave.Members.{AreLines}
-use Rattle.terminal_sink.specs.sink_core.Active.{carries, carrying}
+use Rattle.terminal_sink.specs.active_lines.Active.{carries, carrying}
 
 -- ---- numbers from one on
 zero_on : (n : ℕ) → 0 + n ≡ n
@@ -194,11 +194,8 @@ active_from-lines (suc n) sq packets =
     lines-append (length packets) (lines_at sq 0 packets) (active_from (sq + 1) n packets)
     (lines_at-lines (length packets) sq 0 packets (omega arith)) (active_from-lines n (sq + 1) packets)
 
-pub active_of-lines : (packets : List (Option Packet)) → AreLines (length packets) (active_of packets)
+active_of-lines : (packets : List (Option Packet)) → AreLines (length packets) (active_of packets)
 active_of-lines packets = active_from-lines 256 0 packets
-
-pub active_of-fits : (packets : List (Option Packet)) → length (active_of packets) ≤ length packets
-active_of-fits packets = let a = active_from-fits 256 0 packets in let b = carrying-fits packets in omega arith
 
 -- a line that has the number is one more
 pub lines_at-here : (sq i : ℕ) (packets : List (Option Packet)) → i < length packets →
@@ -208,11 +205,7 @@ lines_at-here sq i packets inside here =
     let next = drop_more packets i None inside in
     rw (next, here) (omega arith)
 
--- what was found of packets of a number of lines
-pub found-lines : (packets : List (Option Packet)) (active : List ℕ) (lines : ℕ) → active ≡ active_of packets →
-    length packets ≡ lines → AreLines lines active
-found-lines packets active lines are size = rw (are, sym size) (active_of-lines packets)
-
-pub found-fits : (packets : List (Option Packet)) (active : List ℕ) (lines : ℕ) → active ≡ active_of packets →
-    length packets ≡ lines → lines ≤ 128 → length active ≤ 128
-found-fits packets active lines are size few = rw are (let fits = active_of-fits packets in omega arith)
+-- what was found
+pub found-lines : (packets : List (Option Packet)) (found : List ℕ) → found ≡ active_of packets →
+    AreLines (length packets) found
+found-lines packets found are = rw are (active_of-lines packets)

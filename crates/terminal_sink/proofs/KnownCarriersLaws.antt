@@ -1,0 +1,2 @@
+pub mod SilentLaws
+pub mod SupposedLaws
