@@ -1,12 +1,12 @@
 -- Rows that are governed by the same packet are spared alike.
-use Rattle.std.proofs.Common.{◌≡◌, ℕ, ◌-◌, ◌/◌, ◌≤◌, ◌&&◌, nat_lt, Bool, true, false, not, List, [], ◌∷◌, length}
+use Rattle.std.proofs.Common.{◌≡◌, ℕ, ◌-◌, ◌/◌, ◌≤◌, ◌&&◌, ◌||◌, nat_lt, Bool, true, false, not, List, [], ◌∷◌, length}
 use Rattle.std.proofs.Common.{Option, Some, None, refl, sym, ◌∙◌, ap, arith, inl, inr}
 use Rattle.std.specs.Prelude.{if◌then◌else◌, is_some}
 use Rattle.std.specs.List.{list_all}
 use Rattle.std.proofs.lemmas.Bool.{cases_Bool, ltb-false, le-ltb}
 use Rattle.law_model.specs.members.Damage.{is_good}
 use Rattle.law_model.specs.session.Scenario.{Scenario, carried_by, is_read, is_heard}
-use Rattle.law_model.specs.rows.SessionRows.{is_whole_under, is_whole_row}
+use Rattle.law_model.specs.rows.SessionRows.{are_inferred, is_whole_under, is_whole_row}
 use Rattle.law_model.specs.source.Table.{Told, active}
 use Rattle.law_model.specs.source.Source.{table_of}
 use Rattle.fate_engine.specs.declared.fate_law.Cause.{Cause}
@@ -24,17 +24,18 @@ no-lines (line ∷ lines) none =
 
 -- they are whole if the packet of some line could be read
 bare-whole : (scenario : Scenario) (cells : List (Option Told)) (k t : ℕ) →
-    active (table_of scenario cells k) ≡ [] → is_whole_under scenario cells k t ≡ (is_heard scenario k && true)
+    active (table_of scenario cells k) ≡ [] → is_whole_under scenario cells k t ≡ ((is_heard scenario k && true) && true)
 bare-whole scenario cells k t none =
-    ap (λ lines. is_heard scenario k
-    && list_all (λ line. is_read scenario line k && is_good (carried_by scenario line) t) lines) none
+    ap (λ lines. (is_heard scenario k
+    && (list_all (λ line. is_read scenario line k) lines || (scenario.options.infers && are_inferred scenario cells k)))
+    && list_all (λ line. is_good (carried_by scenario line) t) lines) none
 
 row-under : (scenario : Scenario) (cells : List (Option Told)) (t : ℕ) → 24 ≤ t →
     is_whole_row scenario cells t ≡ is_whole_under scenario cells ((t - 24) / 16) t
 row-under scenario cells t late = rw (le-ltb t 24 late) refl
 
 bare-row : (scenario : Scenario) (cells : List (Option Told)) (t : ℕ) → 24 ≤ t → has_payload scenario cells t ≡ false →
-    is_whole_row scenario cells t ≡ (is_heard scenario ((t - 24) / 16) && true)
+    is_whole_row scenario cells t ≡ ((is_heard scenario ((t - 24) / 16) && true) && true)
 bare-row scenario cells t late none =
     row-under scenario cells t late
     ∙ bare-whole scenario cells ((t - 24) / 16) t
@@ -52,7 +53,7 @@ module _ (scenario : Scenario) (cells : List (Option Told)) (t row : ℕ) (alike
             let late : 24 ≤ row = ltb-false row 24 high in
             let also : 24 ≤ t = ltb-false t 24 (alike.early ∙ high) in
             bare-row scenario cells t also (alike-payload scenario cells t row alike ∙ none)
-            ∙ ap (λ k. is_heard scenario k && true) alike.packet ∙ sym (bare-row scenario cells row late none))
+            ∙ ap (λ k. (is_heard scenario k && true) && true) alike.packet ∙ sym (bare-row scenario cells row late none))
       ]
 
   pub alike-spared : (line : ℕ) → is_spared scenario cells line t ≡ is_spared scenario cells line row

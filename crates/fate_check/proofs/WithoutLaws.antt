@@ -2,8 +2,8 @@
 use Rattle.std.proofs.Common.{◌≡◌, ◌⊎◌, ℕ, suc, ◌+◌, ◌-◌, ◌*◌, ◌/◌, ◌<◌, ◌≤◌, ◌==◌, ◌&&◌, nat_le, nat_lt, Bool, true}
 use Rattle.std.proofs.Common.{false, not, List, [], ◌∷◌, ◌++◌, map, filter, length, slice_get, slice_index_or, Option, Some}
 use Rattle.std.proofs.Common.{refl, sym, ◌∙◌, ap, subst, arith, inl, inr}
-use Rattle.std.specs.Prelude.{if◌then◌else◌}
-use Rattle.std.specs.List.{list_all, list_any}
+use Rattle.std.specs.Prelude.{◌||◌, if◌then◌else◌}
+use Rattle.std.specs.List.{list_all, list_any, range_with_len}
 use Rattle.std.proofs.lemmas.Bool.{cases_Bool, cases_lt, cases_eq, and_parts, and_from, and_left, and_right, and_cases, or_parts}
 use Rattle.std.proofs.lemmas.Bool.{eqb-false, lt-ltb, le-ltb, lt-leb, leb-false, not-true}
 use Rattle.std.proofs.lemmas.Option.{slice_get_within, get_or_from_slice_get}
@@ -12,8 +12,8 @@ use Rattle.law_model.specs.declared.window_types.Window.{Window}
 use Rattle.law_model.specs.declared.window_types.Carried.TheVariants.{Whole, Fails, Vanishes}
 use Rattle.law_model.specs.declared.lcas_states.Member.{Member}
 use Rattle.law_model.specs.members.Damage.{carried, carried_in, is_good, is_readable}
-use Rattle.law_model.specs.session.Scenario.{Scenario, is_heard}
-use Rattle.law_model.specs.rows.SessionRows.{is_whole_under, is_whole_row}
+use Rattle.law_model.specs.session.Scenario.{Scenario, carried_by, is_read, is_heard}
+use Rattle.law_model.specs.rows.SessionRows.{are_inferred, is_whole_under, is_whole_row}
 use Rattle.law_model.specs.source.Table.{Told, active, is_normal}
 use Rattle.law_model.specs.source.Source.{after, table_of}
 use Rattle.law_session.specs.Feedback.{lines_of}
@@ -177,6 +177,37 @@ first-below n (member ∷ order) below line rest is =
           first-below n order (λ l high. let none = below l high in omega arith) line rest there)
     ]
 
+-- ---- where the sink doesn't go on
+both-pass : (p q : ℕ → Bool) (lines : List ℕ) →
+    (list_all p lines && list_all q lines) ≡ list_all (λ line. p line && q line) lines
+both-pass p q [] = refl
+both-pass p q (line ∷ lines) =
+    crossed (p line) (list_all p lines) (q line) (list_all q lines)
+    ∙ ap (λ b. (p line && q line) && b) (both-pass p q lines)
+  where
+    crossed : (a rest b others : Bool) → ((a && rest) && (b && others)) ≡ ((a && b) && (rest && others))
+    crossed true true b others = refl
+    crossed true false true others = refl
+    crossed true false false others = refl
+    crossed false rest b others = refl
+
+-- rows are whole by the packet and the container of each line that carries payload
+whole-stops : (of : Scenario) (cells : List (Option Told)) (k t : ℕ) → of.options.infers ≡ false →
+    is_whole_under of cells k t ≡ (is_heard of k
+    && list_all (λ line. is_read of line k && is_good (carried_by of line) t) (active (table_of of cells k)))
+whole-stops of cells k t stops =
+    let reads = λ (line : ℕ). is_read of line k in
+    let keeps = λ (line : ℕ). is_good (carried_by of line) t in
+    let lines = active (table_of of cells k) in
+    ap (λ b. (is_heard of k && (list_all reads lines || (b && are_inferred of cells k))) && list_all keeps lines) stops
+    ∙ joined (is_heard of k) (list_all reads lines) (list_all keeps lines)
+    ∙ ap (λ b. is_heard of k && b) (both-pass reads keeps lines)
+  where
+    joined : (heard read good : Bool) → ((heard && (read || false)) && good) ≡ (heard && (read && good))
+    joined true true good = refl
+    joined true false good = refl
+    joined false read good = refl
+
 -- ---- a scenario without a failure
 -- a packet of a line with these failures can be read, and the line is good at a row
 abbrev reads : ℕ → List Window → Bool
@@ -260,7 +291,7 @@ module _ (scenario : Scenario) (line : ℕ) (before after : List Window) (window
         lowered (reads k) found.0 (λ same. read-back before after window k far) found.2,
       )
 
-  module _ (cells : List (Option Told)) (k t : ℕ) where
+  module _ (stops : scenario.options.infers ≡ false) (cells : List (Option Told)) (k t : ℕ) where
     abbrev lines : List ℕ
     lines = active (table_of scenario cells k)
 
@@ -268,13 +299,17 @@ module _ (scenario : Scenario) (line : ℕ) (before after : List Window) (window
     whole_with of lines = is_heard of k && list_all (λ m. arrives k t (slice_index_or of.windows m [])) lines
 
     same-lines : is_whole_under other cells k t ≡ whole_with other lines
-    same-lines = ap (λ table. whole_with other (active table)) (same-table scenario cells line k (before ++ after))
+    same-lines = whole-stops other cells k t stops
+        ∙ ap (λ table. whole_with other (active table)) (same-table scenario cells line k (before ++ after))
+
+    was-lines : is_whole_under scenario cells k t ≡ whole_with scenario lines
+    was-lines = whole-stops scenario cells k t stops
 
     -- what was whole is whole without the failure
     up : is_whole_under scenario cells k t ≡ true → is_whole_under other cells k t ≡ true
     up whole =
         let parts = and_parts (is_heard scenario k)
-        (list_all (λ m. arrives k t (slice_index_or scenario.windows m [])) lines) whole in
+        (list_all (λ m. arrives k t (slice_index_or scenario.windows m [])) lines) (sym was-lines ∙ whole) in
         same-lines
         ∙ and_from (is_heard other k) (list_all (λ m. arrives k t (slice_index_or other.windows m [])) lines)
         (heard-up k parts.0)
@@ -293,7 +328,8 @@ module _ (scenario : Scenario) (line : ℕ) (before after : List Window) (window
         is_whole_under other cells k t ≡ true → is_whole_under scenario cells k t ≡ true
     far-down far also whole =
         let parts = parts-of whole in
-        and_from (is_heard scenario k) (list_all (λ m. arrives k t (slice_index_or scenario.windows m [])) lines)
+        was-lines
+        ∙ and_from (is_heard scenario k) (list_all (λ m. arrives k t (slice_index_or scenario.windows m [])) lines)
         (heard-down k far parts.0)
         (all-follow (λ m. arrives k t (slice_index_or other.windows m []))
         (λ m. arrives k t (slice_index_or scenario.windows m [])) lines
@@ -310,7 +346,8 @@ module _ (scenario : Scenario) (line : ℕ) (before after : List Window) (window
         let m = first.line in
         let read = (and_parts (reads k (slice_index_or scenario.windows m []))
         (is_good (carried (slice_index_or scenario.windows m [])) t) first.passes).0 in
-        and_from (is_heard scenario k) (list_all (λ m. arrives k t (slice_index_or scenario.windows m [])) lines)
+        was-lines
+        ∙ and_from (is_heard scenario k) (list_all (λ m. arrives k t (slice_index_or scenario.windows m [])) lines)
         ((heard-line scenario k).1 (
           m,
           first-below (length scenario.windows) (table_of scenario cells k).order (below-after scenario cells k)
@@ -323,6 +360,14 @@ module _ (scenario : Scenario) (line : ℕ) (before after : List Window) (window
       (taken : t < rows) (late : 24 ≤ t) where
     abbrev k : ℕ
     k = (t - 24) / 16
+
+    parts : (not scenario.options.infers ≡ true)
+        × (list_all (is_spared scenario cells line) (filter (is_near window) (range_with_len 0 rows)) ≡ true)
+    parts = and_parts (not scenario.options.infers)
+        (list_all (is_spared scenario cells line) (filter (is_near window) (range_with_len 0 rows))) idle
+
+    stops : scenario.options.infers ≡ false
+    stops = not-true scenario.options.infers parts.0
 
     now-late : nat_lt t 24 ≡ false
     now-late = le-ltb t 24 late
@@ -342,10 +387,10 @@ module _ (scenario : Scenario) (line : ℕ) (before after : List Window) (window
     row-down : is_whole_under other cells k t ≡ true → is_whole_under scenario cells k t ≡ true
     row-down whole =
         elim (cases_Bool (is_near window t)) [
-          | inr off ↦ (let far = far-off off in far-down cells k t far.0 far.1 whole)
+          | inr off ↦ (let far = far-off off in far-down stops cells k t far.0 far.1 whole)
           | inl near ↦ (
               let spared : is_spared scenario cells line t ≡ true =
-              picked-passes (is_near window) (is_spared scenario cells line) 0 rows t idle (omega arith)
+              picked-passes (is_near window) (is_spared scenario cells line) 0 rows t parts.1 (omega arith)
               (omega (arith, taken)) near in
               elim (cases_Bool (has_payload scenario cells t)) [
                 | inl some ↦ (
@@ -354,7 +399,7 @@ module _ (scenario : Scenario) (line : ℕ) (before after : List Window) (window
                     (let e : is_used scenario cells line t ≡ false = not-true (is_used scenario cells line t) unused in
                     rw now-late at e) in
                     let payload : nat_lt 0 (length (active (table_of scenario cells k))) ≡ true = rw now-late at some in
-                    other-down cells k t payload apart whole)
+                    other-down stops cells k t payload apart whole)
                 | inr none ↦ (
                     let row : is_whole_row scenario cells t ≡ true = rw none at spared in
                     let e : is_whole_under scenario cells k t ≡ true = rw now-late at row in e)
@@ -364,7 +409,7 @@ module _ (scenario : Scenario) (line : ℕ) (before after : List Window) (window
     late-same : is_whole_row other cells t ≡ is_whole_row scenario cells t
     late-same =
         rw now-late (same-test (is_whole_under other cells k t) (is_whole_under scenario cells k t) row-down
-        (up cells k t))
+        (up stops cells k t))
 
   pub same-rows : (cells : List (Option Told)) (rows t : ℕ) → is_idle scenario cells rows line window ≡ true →
       t < rows → is_whole_row other cells t ≡ is_whole_row scenario cells t

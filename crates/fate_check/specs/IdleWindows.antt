@@ -19,10 +19,12 @@ abbrev pub is_spared : Scenario → List (Option Told) → ℕ → ℕ → Bool
 is_spared scenario cells line t =
     if has_payload scenario cells t then not (is_used scenario cells line t) else is_whole_row scenario cells t
 
--- it is idle: it spares all of the first rows that it can spoil
+-- it is idle: it spares all of the first rows that it can spoil. Where the sink goes on none is told idle: what a line
+-- said last as a member can hide which lines carry payload, also while it carries none, and more than 38 rows long
 abbrev pub is_idle : Scenario → List (Option Told) → ℕ → ℕ → Window → Bool
 is_idle scenario cells rows line window =
-    list_all (is_spared scenario cells line) (filter (is_near window) (range_with_len 0 rows))
+    not scenario.options.infers
+    && list_all (is_spared scenario cells line) (filter (is_near window) (range_with_len 0 rows))
 
 -- ---- of a leg, in as many rows as were taken
 -- of some failures of a line those that are idle, each with the line

@@ -8,7 +8,7 @@ ghost use Rattle.fate_check.specs.IdleWindows.{is_spared, is_idle};
 
 use crate::used_lines::{next_governed, used_lines};
 use fate_engine::fate_core::{Packets, row_cause};
-use law_model::{Window, WindowLists};
+use law_model::{Options, Window, WindowLists};
 
 /// How many rows after its end the last row lies that a failure can spoil.
 const LAST_AFTER: u32 = 38;
@@ -18,6 +18,7 @@ const LAST_AFTER: u32 = 38;
 fn is_spared(windows: &WindowLists, packets: &Packets, row: u32, line: u8) -> bool
     requires apart { All (AreWindows 0) windows.now }
     requires governed { row < 16 * length packets.now.active + 24 }
+    requires known { row < 16 * length packets.now.known + 24 }
     ensures { (scenario : Scenario) (cells : List (Option Told)) → scenario.windows ≡ windows.now →
         ArePackets scenario cells packets.now → result ≡ is_spared scenario cells line row }
 {
@@ -29,8 +30,9 @@ fn is_spared(windows: &WindowLists, packets: &Packets, row: u32, line: u8) -> bo
     }
 }
 
-/// Whether a failure of a line spares all of the first rows that it can spoil.
+/// Whether a failure of a line spares all of the first rows that it can spoil, and the sink doesn't go on.
 pub fn is_idle(
+    options: Options,
     windows: &WindowLists,
     packets: &Packets,
     rows: u32,
@@ -40,10 +42,15 @@ pub fn is_idle(
     requires apart { All (AreWindows 0) windows.now }
     requires few { rows ≤ 1000000 }
     requires governed { rows ≤ 16 * length packets.now.active + 24 }
+    requires known { rows ≤ 16 * length packets.now.known + 24 }
     requires end { window.end ≤ 1000000 }
-    ensures { (scenario : Scenario) (cells : List (Option Told)) → scenario.windows ≡ windows.now →
-        ArePackets scenario cells packets.now → result ≡ is_idle scenario cells rows line window }
+    ensures { (scenario : Scenario) (cells : List (Option Told)) → scenario.options ≡ options →
+        scenario.windows ≡ windows.now → ArePackets scenario cells packets.now →
+        result ≡ is_idle scenario cells rows line window }
 {
+    if options.infers {
+        return false;
+    }
     let end = rows.min(window.end + LAST_AFTER + 1);
     let mut row = window.first;
     while row < end {

@@ -30,6 +30,7 @@ fn rows_taken(walk: &Walk, seen: &SeenWalk) -> u32
     ensures rows { result ≡ walk.now.counts.rows }
     ensures few { result ≤ 1000000 }
     ensures governed { result ≤ 16 * length seen.now.rows.packets.active + 24 }
+    ensures known { result ≤ 16 * length seen.now.rows.packets.known + 24 }
 {
     walk.totals().taken
 }
@@ -92,9 +93,16 @@ fn write_if_idle<K: ByteSink>(
     ensures count { result
         ≡ length (idle_among (leg_of walk.now.script) walk.now.counts.rows member (window ∷ [])) }
 {
-    let windows = &walk.script().config.windows;
+    let config = &walk.script().config;
     let rows = rows_taken(walk, seen);
-    if !is_idle(windows, &seen.rows.packets, rows, member, window) {
+    if !is_idle(
+        config.options,
+        &config.windows,
+        &seen.rows.packets,
+        rows,
+        member,
+        window,
+    ) {
         return 0;
     }
     let mut line = [0u8; ROOM];

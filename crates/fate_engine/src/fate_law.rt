@@ -70,7 +70,7 @@ pub enum Fate {
 pub enum Cause {
     /// No line has a control packet that can be read.
     Packet,
-    /// This line carries payload and has none; it is the least such line.
+    /// It isn't known which lines carry payload. This one does, and has none; it is the least such line.
     PacketOf {
         /// Counted from 0.
         line: u8,

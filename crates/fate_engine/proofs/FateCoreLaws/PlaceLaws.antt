@@ -1,5 +1,5 @@
 -- The places at which rows begin, by the packets that govern them.
-use Rattle.std.proofs.Common.{◌≡◌, ℕ, zero, suc, ◌+◌, ◌-◌, ◌*◌, ◌/◌, ◌^◌, ◌<◌, ◌≤◌, ◌⊎◌, nat_le, nat_lt, true, false}
+use Rattle.std.proofs.Common.{◌≡◌, ℕ, zero, suc, ◌+◌, ◌-◌, ◌*◌, ◌/◌, ◌^◌, ◌<◌, ◌≤◌, ◌⊎◌, nat_le, nat_lt, Bool, true, false}
 use Rattle.std.proofs.Common.{List, [], ◌∷◌, ◌++◌, length, map, take, All, Option, Some, slice_get, slice_index_or}
 use Rattle.std.proofs.Common.{refl, sym, ◌∙◌, ap, ap₂, subst, arith, inl, inr, length-append, sum_by, mul-le-mul_left}
 use Rattle.std.proofs.Common.{mul-le-mul_right, leb-true, leb-false, le-leb, lt-ltb, le-ltb}
@@ -10,7 +10,7 @@ use Rattle.std.proofs.lemmas.List.Elements.{All-nil, All-cons, All-append}
 use Rattle.std.proofs.lemmas.Bool.{cases_lt}
 use Rattle.law_model.proofs.ListLaws.{at-index, slice_get-append_seam}
 use Rattle.law_model.specs.Common.{Scenario, Told, width, place_of}
-use Rattle.fate_engine.specs.Common.{PacketList, ArePackets, packets_in, start_by, IsPacketList}
+use Rattle.fate_engine.specs.Common.{PacketList, ArePackets, active_in, packets_in, start_by, IsPacketList}
 use Rattle.fate_engine.specs.declared.fate_core.packet_rows.Packet.{Packet}
 
 -- ---- sums of lengths
@@ -193,22 +193,22 @@ module _ (size : ℕ) (list : List Packet) (end : ℕ) (is : IsPacketList size l
       let rows : q * w ≤ 16 * w = mul-le-mul_right w (let le : q ≤ 16 = omega arith in le) in
       omega (arith, next, most, rows)
 
-  module _ (scenario : Scenario) (cells : List (Option Told)) (are : ArePackets scenario cells (packets_in size list))
-    where
-      pub row-place : (k q : ℕ) (packet : Packet) → slice_get list k ≡ Some packet → q ≤ 16 →
-          place_of scenario cells (24 + 16 * k + q) ≡ packet.start + q * (size * length packet.lines.items)
-      row-place k q packet there small =
-          let low = get-low list k packet there in
-          let start = is.starts k packet there in
-          let row = place-at scenario cells (packets_in size list) are k q (omega (arith, low, actives-length)) small in
-          let lines : q * (size * length (slice_index_or actives k [])) ≡ q * (size * length packet.lines.items) =
-          ap (λ (l : List ℕ). q * (size * length l)) (lines-at list k packet there) in
-          omega (arith, start, row, lines)
+  module _ (scenario : Scenario) (cells : List (Option Told)) (known : List Bool)
+      (are : ArePackets scenario cells (packets_in size list known)) where
+    pub row-place : (k q : ℕ) (packet : Packet) → slice_get list k ≡ Some packet → q ≤ 16 →
+        place_of scenario cells (24 + 16 * k + q) ≡ packet.start + q * (size * length packet.lines.items)
+    row-place k q packet there small =
+        let low = get-low list k packet there in
+        let start = is.starts k packet there in
+        let row = place-at scenario cells (packets_in size list known) are k q (omega (arith, low, actives-length)) small in
+        let lines : q * (size * length (slice_index_or actives k [])) ≡ q * (size * length packet.lines.items) =
+        ap (λ (l : List ℕ). q * (size * length l)) (lines-at list k packet there) in
+        omega (arith, start, row, lines)
 
-      pub end-place : (row : ℕ) → row ≡ 24 + 16 * length list → end ≡ place_of scenario cells row
-      end-place row last =
-          is.ends ∙ sym (place-first scenario cells (packets_in size list) are (length list)
-          (omega (arith, actives-length))) ∙ ap (place_of scenario cells) (sym last)
+    pub end-place : (row : ℕ) → row ≡ 24 + 16 * length list → end ≡ place_of scenario cells row
+    end-place row last =
+        is.ends ∙ sym (place-first scenario cells (packets_in size list known) are (length list)
+        (omega (arith, actives-length))) ∙ ap (place_of scenario cells) (sym last)
 
   -- ---- the packet of a place
   module _ (place : ℕ) where
@@ -292,13 +292,13 @@ pub record Found (list : List Packet) (k : ℕ) (packet : Packet) (w place : ℕ
   pub from : packet.start ≤ place
   pub below : place - packet.start < 16 * w
 
-pub found : (size : ℕ) (list : List Packet) (end : ℕ) → IsPacketList size list end → (packets : PacketList) →
-    packets_in size list ≡ packets →
+pub found : (size : ℕ) (list : List Packet) (end : ℕ) → IsPacketList size list end → (known : List Bool)
+    (packets : PacketList) → packets_in size list known ≡ packets →
     (k : ℕ) (packet : Packet) (w place : ℕ) → k < length packets.active → packet ≡ slice_index_or list k packet →
     w ≡ packets.size * length packet.lines.items →
     start_by packets.size packets.active k ≤ place → place < start_by packets.size packets.active (suc k) →
     Found list k packet w place
-found size list end is packets view k packet w place within is-at wide from below =
+found size list end is known packets view k packet w place within is-at wide from below =
     let few = ap (λ (p : PacketList). length p.active) view in
     let there : slice_get list k ≡ Some packet =
     at-index list k packet (let all = actives-length size list end is in omega (arith, all, few, within)) is-at in
@@ -341,11 +341,11 @@ front-or-last (own ∷ xs) x (suc k) y there =
     ]
 
 start-front : (size : ℕ) (list : List Packet) (packet : Packet) (k : ℕ) → k ≤ length list →
-    start_by size (packets_in size (list ++ packet ∷ [])).active k ≡ start_by size (packets_in size list).active k
+    start_by size (active_in (list ++ packet ∷ [])) k ≡ start_by size (active_in list) k
 start-front size list packet k low =
     ap (λ xs. size * sum_by length (take k xs) * 16) (map-append (λ (p : Packet). p.lines.items) list (packet ∷ []))
     ∙ ap (λ xs. size * sum_by length xs * 16)
-    (take-front (packets_in size list).active packet.lines.items k
+    (take-front (active_in list) packet.lines.items k
     (let e = length-map list (λ (p : Packet). p.lines.items) in omega (arith, e, low)))
 
 pub pushed : (size : ℕ) (list : List Packet) (end : ℕ) (packet : Packet) (next : ℕ) → IsPacketList size list end →
@@ -363,18 +363,18 @@ pushed size list end packet next is few own start ends = record {
 }
   where
     starts : (k : ℕ) (p : Packet) → slice_get (list ++ packet ∷ []) k ≡ Some p →
-        p.start ≡ start_by size (packets_in size (list ++ packet ∷ [])).active k
+        p.start ≡ start_by size (active_in (list ++ packet ∷ [])) k
     starts k p there = elim (front-or-last list packet k p there) [
       | inl front ↦ is.starts k p front.0
           ∙ sym (start-front size list packet k (let low = front.1 in omega (arith, low)))
       | inr last ↦ ap (λ (p : Packet). p.start) last.0 ∙ start ∙ is.ends
           ∙ sym (start-front size list packet (length list) (omega arith))
-          ∙ ap (start_by size (packets_in size (list ++ packet ∷ [])).active) (sym last.1)
+          ∙ ap (start_by size (active_in (list ++ packet ∷ []))) (sym last.1)
     ]
 
-    last : next ≡ start_by size (packets_in size (list ++ packet ∷ [])).active (length (list ++ packet ∷ []))
+    last : next ≡ start_by size (active_in (list ++ packet ∷ [])) (length (list ++ packet ∷ []))
     last =
-        let all : List (List ℕ) = (packets_in size (list ++ packet ∷ [])).active in
+        let all : List (List ℕ) = active_in (list ++ packet ∷ []) in
         let count : length (list ++ packet ∷ []) ≡ suc (length list) =
         (let e = length-append list (packet ∷ []) in omega (arith, e)) in
         let size-all = length-map (list ++ packet ∷ []) (λ (p : Packet). p.lines.items) in

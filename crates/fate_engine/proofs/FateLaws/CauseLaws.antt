@@ -1,45 +1,63 @@
 -- A row has a cause exactly where it isn't whole.
-use Rattle.std.proofs.Common.{◌≡◌, ℕ, ◌-◌, Bool, true, false, List, [], ◌∷◌, Option, Some, None, refl, inl, inr}
+use Rattle.std.proofs.Common.{◌≡◌, ℕ, ◌-◌, Bool, true, false, List, [], ◌∷◌, Option, Some, None, refl, sym, ◌∙◌, inl}
+use Rattle.std.proofs.Common.{inr}
 use Rattle.std.specs.Prelude.{◌/◌, ◌&&◌, nat_lt}
 use Rattle.std.specs.List.{list_all}
-use Rattle.std.proofs.lemmas.Bool.{cases_Bool}
-use Rattle.law_model.specs.Common.{is_good, Scenario, carried_by, is_read, is_heard, Told, active, table_of}
-use Rattle.law_model.specs.Common.{is_whole_under, is_whole_row}
-use Rattle.fate_engine.specs.Common.{least_failing, lesser, packet_cause, cause_under, row_cause}
-use Rattle.fate_engine.specs.declared.fate_law.Cause.{Cause}
+use Rattle.std.proofs.lemmas.Bool.{cases_Bool, or_parts}
+use Rattle.law_model.specs.Common.{is_good, Scenario, carried_by, is_read, is_heard, are_known, Told, active, table_of}
+use Rattle.law_model.specs.Common.{are_inferred, is_whole_under, is_whole_row}
+use Rattle.fate_engine.specs.Common.{least_failing, packet_cause, container_cause, cause_under, row_cause}
 
--- a cause is found exactly where a test isn't passed
-record Agree (cause : Option Cause) (whole : Bool) : Type 0 where
-  pub to : cause ≡ None → whole ≡ true
-  pub from : whole ≡ true → cause ≡ None
+-- something is found exactly where a test isn't passed
+record Agree {X : Type 0} (found : Option X) (passes : Bool) : Type 0 where
+  pub to : found ≡ None → passes ≡ true
+  pub from : passes ≡ true → found ≡ None
 
--- of two tests
-both-pass : (p q : ℕ → Bool) (lines : List ℕ) →
-    Agree (packet_cause (least_failing p lines) (least_failing q lines)) (list_all (λ line. p line && q line) lines)
+-- ---- of some lines
+all-pass : (p : ℕ → Bool) (lines : List ℕ) → Agree (least_failing p lines) (list_all p lines)
 unfolding least_failing
-both-pass p q [] = record { to = λ none. refl; from = λ all. refl }
-both-pass p q (line ∷ lines) =
-    let rest = both-pass p q lines in
+all-pass p [] = record { to = λ none. refl; from = λ all. refl }
+all-pass p (line ∷ lines) =
     elim (cases_Bool (p line)) [
-      | inl first ↦ elim (cases_Bool (q line)) [
-        | inl second ↦ rw (first, second) rest
-        | inr second ↦ rw (first, second) (hurt (least_failing p lines) (lesser line (least_failing q lines)))
-      ]
+      | inl first ↦ rw first (all-pass p lines)
       | inr first ↦ rw first (record { to = λ none. absurd cc; from = λ all. absurd cc })
     ]
-  where
-    hurt : (deaf : Option ℕ) (line : ℕ) → Agree (packet_cause deaf (Some line)) false
-    hurt None line = record { to = λ none. absurd cc; from = λ all. absurd cc }
-    hurt (Some other) line = record { to = λ none. absurd cc; from = λ all. absurd cc }
 
-under : (scenario : Scenario) (cells : List (Option Told)) (k t : ℕ) →
-    Agree (cause_under scenario cells k t) (is_whole_under scenario cells k t)
-under scenario cells k t =
-    elim (cases_Bool (is_heard scenario k)) [
-      | inl heard ↦ rw heard (both-pass (λ line. is_read scenario line k) (λ line. is_good (carried_by scenario line) t)
-          (active (table_of scenario cells k)))
-      | inr none ↦ rw none (record { to = λ none. absurd cc; from = λ all. absurd cc })
-    ]
+container-told : (found : Option ℕ) (good : Bool) → Agree found good → Agree (container_cause found) good
+container-told None good agree = record { to = λ none. agree.to refl; from = λ whole. refl }
+container-told (Some line) good agree =
+    record { to = λ none. absurd cc; from = λ whole. absurd (let e = agree.from whole in cc) }
+
+-- where not all are read there is one to tell of
+packet-told : (found : Option ℕ) (read : Bool) → Agree found read → read ≡ false → Agree (packet_cause found) false
+packet-told None read agree cut = absurd (let e : true ≡ false = sym (agree.to refl) ∙ cut in cc)
+packet-told (Some line) read agree cut = record { to = λ none. absurd cc; from = λ whole. absurd cc }
+
+-- ---- of a row
+module _ (scenario : Scenario) (cells : List (Option Told)) (k t : ℕ) where
+  abbrev lines : List ℕ
+  lines = active (table_of scenario cells k)
+
+  abbrev reads : ℕ → Bool
+  reads line = is_read scenario line k
+
+  abbrev keeps : ℕ → Bool
+  keeps line = is_good (carried_by scenario line) t
+
+  under : Agree (cause_under scenario cells k t) (is_whole_under scenario cells k t)
+  under =
+      elim (cases_Bool (is_heard scenario k)) [
+        | inl heard ↦ elim (cases_Bool (are_known scenario cells k)) [
+          | inl known ↦ rw (heard, known)
+              (container-told (least_failing keeps lines) (list_all keeps lines) (all-pass keeps lines))
+          | inr hidden ↦ (
+              let parts = or_parts (list_all reads lines) (scenario.options.infers && are_inferred scenario cells k)
+              hidden in
+              rw (heard, hidden)
+              (packet-told (least_failing reads lines) (list_all reads lines) (all-pass reads lines) parts.0))
+        ]
+        | inr none ↦ rw none (record { to = λ none. absurd cc; from = λ all. absurd cc })
+      ]
 
 row : (scenario : Scenario) (cells : List (Option Told)) (t : ℕ) →
     Agree (row_cause scenario cells t) (is_whole_row scenario cells t)

@@ -1,8 +1,8 @@
 -- Why a row of a session isn't whole, and the longest runs of rows of one cause.
-use Rattle.std.specs.Prelude.{ℕ, suc, ◌-◌, ◌/◌, ◌==◌, ◌&&◌, nat_lt, min, Bool, true, false, if◌then◌else◌, List, []}
-use Rattle.std.specs.Prelude.{◌∷◌, map, Option, Some, None}
+use Rattle.std.specs.Prelude.{ℕ, suc, ◌-◌, ◌/◌, ◌==◌, ◌&&◌, not, nat_lt, min, Bool, true, false, if◌then◌else◌, List}
+use Rattle.std.specs.Prelude.{[], ◌∷◌, map, Option, Some, None}
 use Rattle.std.specs.List.{range_with_len}
-use Rattle.law_model.specs.Common.{is_good, Scenario, carried_by, is_read, is_heard, Told, active, table_of}
+use Rattle.law_model.specs.Common.{is_good, Scenario, carried_by, is_read, is_heard, are_known, Told, active, table_of}
 use Rattle.fate_engine.specs.declared.fate_law.Cause.{Cause}
 use Rattle.fate_engine.specs.declared.fate_law.SpoiledRun.{SpoiledRun}
 use Rattle.fate_engine.specs.declared.fate_law.Cause.TheVariants.{Packet, PacketOf, Container}
@@ -22,19 +22,20 @@ abbrev pub container_cause : Option ℕ → Option Cause
 container_cause None = None
 container_cause (Some line) = Some (Container line)
 
-abbrev pub packet_cause : Option ℕ → Option ℕ → Option Cause
-packet_cause None hurt = container_cause hurt
-packet_cause (Some line) hurt = Some (PacketOf line)
+abbrev pub packet_cause : Option ℕ → Option Cause
+packet_cause None = None
+packet_cause (Some line) = Some (PacketOf line)
 
--- by the packet that governs the row: no line has a packet that can be read, or a line that carries payload has none,
--- or its container
--- isn't good. That the least line is told is this project's own
+-- by the packet that governs the row: no line has a packet that can be read; or it isn't known which lines carry
+-- payload, and then one of them has no such packet; or the container of one of them isn't good. That the least line is
+-- told is this project's own
 abbrev pub cause_under : Scenario → List (Option Told) → ℕ → ℕ → Option Cause
 cause_under scenario cells k t =
-    if is_heard scenario k
-    then packet_cause (least_failing (λ line. is_read scenario line k) (active (table_of scenario cells k)))
+    if not (is_heard scenario k) then Some Packet
+    else (if are_known scenario cells k
+    then container_cause
     (least_failing (λ line. is_good (carried_by scenario line) t) (active (table_of scenario cells k)))
-    else Some Packet
+    else packet_cause (least_failing (λ line. is_read scenario line k) (active (table_of scenario cells k))))
 
 -- none where the row is whole
 abbrev pub row_cause : Scenario → List (Option Told) → ℕ → Option Cause

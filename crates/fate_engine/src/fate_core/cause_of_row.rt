@@ -1,8 +1,9 @@
 //! Why a row isn't whole.
-ghost use Rattle.std.specs.Prelude.{◌≡◌, ◌+◌, ◌*◌, ◌^◌, ◌<◌, ◌≤◌, length, List, All, Option};
+ghost use Rattle.std.specs.Prelude.{◌≡◌, ◌+◌, ◌-◌, ◌*◌, ◌^◌, ◌<◌, ◌≤◌, length, List, All, Option};
 ghost use Rattle.std.specs.List.{list_any};
-ghost use Rattle.law_model.specs.Common.{AreWindows, Scenario, Told};
+ghost use Rattle.law_model.specs.Common.{AreWindows, Scenario, Told, lock_of};
 ghost use Rattle.fate_engine.specs.fate_law.Spoiled.{row_cause as cause_of, lesser as lesser_of, least_failing};
+ghost use Rattle.fate_engine.specs.fate_law.Spoiled.{packet_cause, container_cause};
 ghost use Rattle.fate_engine.specs.fate_core.Whole.{whole_in, whole_on};
 ghost use Rattle.fate_engine.specs.fate_core.Packets.{ArePackets};
 
@@ -76,11 +77,41 @@ fn least_cut(windows: &WindowLists, lines: &[u8], from: u32, count: u32) -> Opti
     least
 }
 
+/// Why a row isn't whole where it isn't known which lines carry payload: the least of them without a readable
+/// packet.
+fn packet_cause(windows: &WindowLists, active: &[u8], packet: u32) -> Option<Cause>
+    requires apart { All (AreWindows 0) windows.now }
+    requires fits { packet ≤ 65536 }
+    ensures { result ≡ packet_cause
+        (least_failing (whole_on windows.now (16 * packet) 24) active.now) }
+{
+    match least_cut(windows, active, 16 * packet, 24) {
+        Some(line) => Some(Cause::PacketOf { line }),
+        None => None,
+    }
+}
+
+/// Why a row isn't whole where it is known: the least of them without a good container, if there is one.
+fn container_cause(windows: &WindowLists, active: &[u8], row: u32) -> Option<Cause>
+    requires apart { All (AreWindows 0) windows.now }
+    requires late { 24 ≤ row }
+    requires fits { row < 1048600 }
+    ensures { result ≡ container_cause
+        (least_failing (whole_on windows.now (lock_of row) (row + 1 - lock_of row)) active.now) }
+{
+    let lock = (row - 2) / 16 * 16;
+    match least_cut(windows, active, lock, row + 1 - lock) {
+        Some(line) => Some(Cause::Container { line }),
+        None => None,
+    }
+}
+
 /// Why a row isn't whole, by the failures of each line and the packet that governs the row, or `None` where
 /// it is. Of the lines that spoil it the least is told.
 pub fn row_cause(windows: &WindowLists, packets: &Packets, row: u32) -> Option<Cause>
     requires apart { All (AreWindows 0) windows.now }
     requires governed { row < 16 * length packets.now.active + 24 }
+    requires known { row < 16 * length packets.now.known + 24 }
     ensures { (scenario : Scenario) (cells : List (Option Told)) → scenario.windows ≡ windows.now →
         ArePackets scenario cells packets.now → result ≡ cause_of scenario cells row }
 {
@@ -88,16 +119,12 @@ pub fn row_cause(windows: &WindowLists, packets: &Packets, row: u32) -> Option<C
         return None;
     }
     let packet = packets.packet_of(row);
-    if !is_heard(windows, packet) {
-        return Some(Cause::Packet);
-    }
     let active = packets.active(packet as usize);
-    if let Some(line) = least_cut(windows, active, 16 * packet, 24) {
-        return Some(Cause::PacketOf { line });
-    }
-    let lock = (row - 2) / 16 * 16;
-    match least_cut(windows, active, lock, row + 1 - lock) {
-        Some(line) => Some(Cause::Container { line }),
-        None => None,
+    if packets.is_known(packet as usize) {
+        container_cause(windows, active, row)
+    } else if is_heard(windows, packet) {
+        packet_cause(windows, active, packet)
+    } else {
+        Some(Cause::Packet)
     }
 }

@@ -1,7 +1,8 @@
-//! The rows that control packets govern: which lines carry payload in them, and where in the stream they begin.
+//! The rows that control packets govern: which lines carry payload in them, whether the sink knows these lines,
+//! and where in the stream they begin.
 ghost use Rattle.std.specs.Prelude.{◌≡◌, suc, ◌+◌, ◌-◌, ◌*◌, ◌/◌, ◌≤◌, ◌<◌, [], ◌∷◌, ◌++◌, length, List, OnOk};
 ghost use Rattle.std.specs.Prelude.{OnErr, IfSome, IfNone, Option};
-ghost use Rattle.law_model.specs.Common.{Scenario, Told, active, table_of, place_of, width};
+ghost use Rattle.law_model.specs.Common.{Scenario, Told, active, is_known, table_of, place_of, width};
 ghost use Rattle.fate_engine.specs.fate_core.Packets.{ArePackets, start_by};
 
 use arrayvec::ArrayVec;
@@ -28,12 +29,15 @@ struct Packet {
 }
 
 /// The packets of a group in their order: packet `k` governs rows `16 k + 24` to `16 k + 39`, and the rows
-/// before have no octets. A contract sees the octets of payload that a line has in a row, and the active
-/// lines under each packet.
+/// before have no octets. A contract sees the octets of payload that a line has in a row, the active lines
+/// under each packet, and of the first packets whether the sink knows these lines: that is decided only when
+/// the packet's last row is taken.
 #[derive(Drop)]
 pub struct Packets {
     size: u16,
     packets: Vec<Packet>,
+    /// Of the first packets, whether the sink knows which lines are active.
+    known: Vec<bool>,
     /// The place at which the rows of all packets end.
     end: u64,
 }
@@ -43,7 +47,7 @@ impl Model for Packets {
 
     ghost Value = { PacketList };
 
-    ghost view = { λ p. packets_in p.size p.packets.items };
+    ghost view = { λ p. packets_in p.size p.packets.items p.known.items };
 
     ghost invariant = { λ p. IsPacketList p.size p.packets.items p.end };
 }
@@ -51,11 +55,12 @@ impl Model for Packets {
 impl Packets {
     /// No packet, of a group whose lines have so many octets of payload in a row.
     pub fn new(alloc: Global, size: u16) -> Packets
-        ensures { result ≡ record { size = size; active = [] } }
+        ensures { result ≡ record { size = size; active = []; known = [] } }
     {
         Packets {
             size,
             packets: Vec::new(alloc),
+            known: Vec::new(alloc),
             end: 0,
         }
     }
@@ -65,7 +70,7 @@ impl Packets {
     pub fn push(&mut self, active: ArrayVec<u8, MOST_LINES>) -> Result<(), AllocError>
         requires { length self.old.active < 65536 }
         ensures ok { OnOk result (self.new
-            ≡ record { size = self.old.size; active = self.old.active ++ active.items ∷ [] }) }
+            ≡ record self.old { active = self.old.active ++ active.items ∷ [] }) }
         ensures err { OnErr result (self.new ≡ self.old) }
     {
         let octets = u64::from(self.size) * active.len() as u64 * u64::from(ROWS);
@@ -78,6 +83,19 @@ impl Packets {
                 self.end = start + octets;
                 Ok(())
             }
+            Err(_) => Err(AllocError),
+        }
+    }
+
+    /// Takes whether the sink knows the active lines under the next packet of which it isn't told yet. Where
+    /// memory is short nothing changes.
+    pub fn push_known(&mut self, known: bool) -> Result<(), AllocError>
+        ensures ok { OnOk result (self.new
+            ≡ record self.old { known = self.old.known ++ known ∷ [] }) }
+        ensures err { OnErr result (self.new ≡ self.old) }
+    {
+        match self.known.push(known) {
+            Ok(()) => Ok(()),
             Err(_) => Err(AllocError),
         }
     }
@@ -130,6 +148,15 @@ impl Packets {
             result.now ≡ active (table_of scenario cells packet) }
     {
         &self.packets[packet].lines
+    }
+
+    /// Whether the sink knows the active lines under a packet.
+    pub fn is_known(&self, packet: usize) -> bool
+        requires { packet < length self.now.known }
+        ensures { (scenario : Scenario) (cells : List (Option Told)) →
+            ArePackets scenario cells self.now → result ≡ is_known scenario cells packet }
+    {
+        self.known[packet]
     }
 
     /// How many lines carry payload in a row.

@@ -8,6 +8,7 @@ use Rattle.std.proofs.lemmas.Bool.{cases_Bool, cases_lt}
 use Rattle.std.proofs.lemmas.List.FromFn.{map-range_with_len_more, length-map-range_with_len}
 use Rattle.law_model.specs.Common.{Leg, scenario_by, steps_in, Table, active, after, table_of, Confirmed, hunt}
 use Rattle.law_model.specs.Common.{segments_of, octets_of_rows, is_whole_row, rows_of, place_of, Counts, IsSound}
+use Rattle.law_model.specs.session.Scenario.{packets_in}
 use Rattle.law_model.specs.rows.SessionStream.{row_of}
 use Rattle.law_loss.proofs.CutLaws.{Stands-all}
 use Rattle.law_loss.proofs.FoundLaws.{confirmed-within}
@@ -57,7 +58,7 @@ list-next f all last n size before is k low = elim (cases_lt k n) [
 pub packets-next : (leg : Leg) (before ticks : ℕ) (packets : PacketList) (lines : List ℕ) (next : PacketList) →
     Governs leg before packets →
     steps_in ticks ≡ steps_in before + 1 → lines ≡ active (table_in leg ticks) →
-    next ≡ record { size = packets.size; active = packets.active ++ lines ∷ [] } →
+    next ≡ record packets { active = packets.active ++ lines ∷ [] } →
     Governs leg ticks next
 packets-next leg before ticks packets lines next governs step is made =
     let are = governs.are in
@@ -74,6 +75,7 @@ packets-next leg before ticks packets lines next governs step is made =
         lines =
             λ k low. list-next table packets.active lines (length packets.active) refl are.lines here k
             (omega (arith, low, count));
+        known = are.known;
       };
       steps = omega (arith, count, steps);
     })
@@ -163,9 +165,13 @@ rows-size leg (suc n) = let before = rows-size leg n in
 
 -- ---- before any row
 pub nothing-governs : (leg : Leg) (size : ℕ) (packets : PacketList) → leg.config.size ≡ size →
-    packets ≡ record { size = size; active = [] } → Governs leg 0 packets
+    packets ≡ record { size = size; active = []; known = [] } → Governs leg 0 packets
 nothing-governs leg size packets is made = subst (Governs leg 0) (sym made) (record {
-  are = record { size = sym is; lines = λ k low. absurd (omega (arith, low)) };
+  are = record {
+    size = sym is;
+    lines = λ k low. absurd (omega (arith, low));
+    known = λ k low. absurd (omega (arith, low));
+  };
   steps = refl;
 })
 
@@ -174,22 +180,24 @@ unfolding rows_of
 no-rows leg = refl
 
 pub sees-nothing : (leg : Leg) (size : ℕ) (seen : SeenRows) → leg.config.size ≡ size →
-    seen.packets ≡ record { size = size; active = [] } → SegmentsStand seen.segments [] → AreRuns seen.runs [] →
+    seen.packets ≡ record { size = size; active = []; known = [] } → SegmentsStand seen.segments [] → AreRuns seen.runs [] →
     Sees leg 0 0 seen
 sees-nothing leg size seen is made segments runs = record {
   packets = nothing-governs leg size seen.packets is made;
+  known = ap (λ (packets : PacketList). length packets.known) made;
   segments = subst (SegmentsStand seen.segments) (sym (no-rows leg)) segments;
   runs = runs;
 }
 
 -- ---- one row more
 pub one-row : (leg : Leg) (ticks row rows : ℕ) (seen : SeenRows) → row + 1 ≡ rows →
-    Governs leg ticks seen.packets →
+    Governs leg ticks seen.packets → length seen.packets.known ≡ packets_in rows →
     SegmentsStand seen.segments (session_rows leg row ++ row_of (scenario_by leg) (session_of leg) row ∷ []) →
     AreRuns seen.runs (map (row_cause (scenario_by leg) (session_of leg)) (range_with_len 0 row) ++ row_cause
     (scenario_by leg) (session_of leg) row ∷ []) → Sees leg ticks rows seen
-one-row leg ticks row rows seen next packets segments runs = subst (λ n. Sees leg ticks n seen) next (record {
+one-row leg ticks row rows seen next packets known segments runs = subst (λ n. Sees leg ticks n seen) next (record {
   packets = packets;
+  known = known ∙ ap packets_in (sym next);
   segments = subst (SegmentsStand seen.segments) (sym (rows-next leg row)) segments;
   runs = subst (AreRuns seen.runs) (sym (causes-next leg row)) runs;
 })
@@ -198,11 +206,12 @@ one-row leg ticks row rows seen next packets segments runs = subst (λ n. Sees l
 pub sees-step : (leg : Leg) (before ticks rows : ℕ) (seen next : SeenRows) (packets : PacketList)
     (lines : List ℕ) → Sees leg before rows seen →
     steps_in ticks ≡ steps_in before + 1 → lines ≡ active (table_in leg ticks) →
-    packets ≡ record { size = seen.packets.size; active = seen.packets.active ++ lines ∷ [] } →
+    packets ≡ record seen.packets { active = seen.packets.active ++ lines ∷ [] } →
     next ≡ record { packets = packets; segments = seen.segments; runs = seen.runs } → Sees leg ticks rows next
 sees-step leg before ticks rows seen next packets lines sees step is made so =
     subst (Sees leg ticks rows) (sym so) (record {
       packets = packets-next leg before ticks seen.packets lines packets sees.packets step is made;
+      known = ap (λ (packets : PacketList). length packets.known) made ∙ sees.known;
       segments = sees.segments;
       runs = sees.runs;
     })
@@ -211,6 +220,7 @@ pub sees-same : (leg : Leg) (before ticks rows : ℕ) (seen next : SeenRows) →
     steps_in ticks ≡ steps_in before → next ≡ seen → Sees leg ticks rows next
 sees-same leg before ticks rows seen next sees step so = subst (Sees leg ticks rows) (sym so) (record {
   packets = record { are = sees.packets.are; steps = sees.packets.steps ∙ sym step };
+  known = sees.known;
   segments = sees.segments;
   runs = sees.runs;
 })

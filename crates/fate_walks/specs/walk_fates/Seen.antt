@@ -1,15 +1,18 @@
 -- What is seen of a walk turn by turn, as private clauses say it.
-use Rattle.std.specs.Prelude.{ℕ, map}
+use Rattle.std.specs.Prelude.{◌≡◌, ℕ, map, length}
 use Rattle.std.specs.List.{range_with_len}
 use Rattle.law_model.specs.Common.{Leg, scenario_by}
+use Rattle.law_model.specs.session.Scenario.{packets_in}
 use Rattle.law_walk.specs.Common.{session_of, session_rows}
 use Rattle.fate_engine.specs.Common.{row_cause, AreRuns}
 use Rattle.fate_engine.specs.fate_core.Segments.{SegmentsStand}
 use Rattle.fate_walks.specs.walk_fates.Places.{Governs}
 use Rattle.fate_walks.specs.declared.walk_fates.seen_rows.SeenRows.{SeenRows}
 
--- the packets whose decision steps some ticks made, and the first rows of a leg's session
+-- the packets whose decision steps some ticks made, and the first rows of a leg's session; of each packet whose rows
+-- were all taken, whether the sink knows which lines carry payload under it
 pub record Sees (leg : Leg) (ticks rows : ℕ) (seen : SeenRows) : Type 0 where
   pub packets : Governs leg ticks seen.packets
+  pub known : length seen.packets.known ≡ packets_in rows
   pub segments : SegmentsStand seen.segments (session_rows leg rows)
   pub runs : AreRuns seen.runs (map (row_cause (scenario_by leg) (session_of leg)) (range_with_len 0 rows))

@@ -1,9 +1,12 @@
 //! What is seen of a walk after each turn: which lines carry payload under the packet that was begun, whether
-//! the row that was taken is whole and why not, and what is confirmed after it.
-ghost use Rattle.std.specs.Prelude.{◌≡◌, ◌+◌, ◌≤◌, OnOk, OnErr};
+//! the sink knows them once it has that packet, whether the row that was taken is whole and why not, and what
+//! is confirmed after it.
+ghost use Rattle.std.specs.Prelude.{◌≡◌, ◌+◌, ◌≤◌, length, OnOk, OnErr};
 ghost use Rattle.std.specs.Bool.{OnTrue, OnFalse};
 ghost use Rattle.law_model.specs.Common.{Leg, leg_of, steps_in, IsValid};
+ghost use Rattle.law_model.specs.session.Scenario.{packets_in};
 ghost use Rattle.law_walk.specs.Common.{IsWalked};
+ghost use Rattle.fate_walks.specs.walk_fates.Places.{Governs};
 ghost use Rattle.fate_walks.specs.walk_fates.Seen.{Sees};
 
 use fate_engine::fate_core::{Packets, Ruler, Segments, SpoiledRuns, row_cause};
@@ -40,6 +43,30 @@ pub fn is_step(before: u32, now: u32) -> bool
     now != before && now % 16 == 9
 }
 
+/// Whether a row is the last one of a control packet.
+fn ends_packet(row: u32) -> bool
+    ensures yes { OnTrue result (packets_in (row + 1) ≡ packets_in row + 1) }
+    ensures no { OnFalse result (packets_in (row + 1) ≡ packets_in row) }
+{
+    row >= 23 && row % 16 == 7
+}
+
+/// Sees whether the sink knows which lines carry payload under a packet, if the row that was taken last is the
+/// packet's last one.
+fn see_known(walk: &Walk, row: u32, packets: &mut Packets) -> Result<(), AllocError>
+    requires last { row + 1 ≡ walk.now.counts.rows }
+    requires packets { Governs (leg_of walk.now.script) walk.now.counts.ticks packets.old }
+    requires known { length packets.old.known ≡ packets_in row }
+    ensures packets { OnOk result
+        (Governs (leg_of walk.now.script) walk.now.counts.ticks packets.new) }
+    ensures known { OnOk result (length packets.new.known ≡ packets_in walk.now.counts.rows) }
+{
+    if !ends_packet(row) {
+        return Ok(());
+    }
+    packets.push_known(walk.knows())
+}
+
 /// Sees a row, which was taken last.
 fn see_row(walk: &Walk, row: u32, seen: &mut SeenRows) -> Result<(), AllocError>
     requires valid { IsValid walk.now.script }
@@ -51,6 +78,7 @@ fn see_row(walk: &Walk, row: u32, seen: &mut SeenRows) -> Result<(), AllocError>
     ensures err { OnErr result (seen.new.segments ≡ seen.old.segments) }
 {
     let cause = row_cause(&walk.script().config.windows, &seen.packets, row);
+    see_known(walk, row, &mut seen.packets)?;
     seen.runs.row(cause)?;
     let end = seen.packets.place(row + 1);
     seen.segments

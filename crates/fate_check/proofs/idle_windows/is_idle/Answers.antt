@@ -1,10 +1,27 @@
 -- The rows of a packet more; and all of them.
-use Rattle.std.proofs.Common.{◌≡◌, ◌+◌, nat_le, false, true, inl, inr, sym, ◌∙◌, arith}
+use Rattle.std.proofs.Common.{◌≡◌, ◌+◌, ◌&&◌, nat_le, not, Bool, false, true, filter, inl, inr, sym, ◌∙◌, ap, arith}
+use Rattle.law_model.specs.declared.script_types.Options.{Options}
+use Rattle.law_model.specs.session.Scenario.{Scenario}
+use Rattle.std.specs.List.{list_all, range_with_len}
 use Rattle.std.proofs.lemmas.Bool.{cases_lt, and_parts, and_from, le-leb, leb-true}
 use Rattle.fate_check.specs.IdleWindows.{is_near, is_spared}
 use Rattle.fate_check.proofs.RangeLaws.{all-picked, fails-picked}
 use Rattle.fate_check.proofs.IdleLaws.{alike-spared}
 use Rattle.fate_check.proofs.idle_windows.is_idle.Goals as goal
+
+-- the sink doesn't go on
+stops : (scenario : Scenario) (options : Options) (spares : Bool) → scenario.options ≡ options →
+    options.infers ≡ false → (not scenario.options.infers && spares) ≡ spares
+stops scenario options spares same off =
+    ap (λ (o : Options). not o.infers && spares) same ∙ ap (λ b. not b && spares) off
+
+pub returns-then-options : goal.returns-then-options
+returns-then-options c = λ scenario cells options same are.
+    let window = c.args.window in
+    sym (ap (λ (o : Options). not o.infers && list_all (is_spared scenario cells c.args.line)
+    (filter (is_near window) (range_with_len 0 c.args.rows))) options
+    ∙ ap (λ b. not b && list_all (is_spared scenario cells c.args.line)
+    (filter (is_near window) (range_with_len 0 c.args.rows))) c.if-options.true)
 
 pub loop-row-preserved : goal.loop-row-preserved
 loop-row-preserved c = (
@@ -21,7 +38,7 @@ loop-row-preserved c = (
 )
 
 pub returns-then-not-is_spared : goal.returns-then-not-is_spared
-returns-then-not-is_spared c = λ scenario cells same are.
+returns-then-not-is_spared c = λ scenario cells options same are.
     let row = c.loop-row.row in
     let window = c.args.window in
     let from = c.loop-row.invariant.0 in
@@ -32,15 +49,19 @@ returns-then-not-is_spared c = λ scenario cells same are.
     let near : is_near window row ≡ true =
     and_from (nat_le window.first row) (nat_le row (window.end + 38)) (le-leb window.first row from)
     (le-leb row (window.end + 38) (omega (arith, test, end))) in
-    sym (fails-picked (is_near window) (is_spared scenario cells c.args.line) 0 c.args.rows row (omega arith)
+    sym (stops scenario c.args.options (list_all (is_spared scenario cells c.args.line)
+    (filter (is_near window) (range_with_len 0 c.args.rows))) options c.if-options.false
+    ∙ fails-picked (is_near window) (is_spared scenario cells c.args.line) 0 c.args.rows row (omega arith)
     (omega (arith, test, end)) near here)
 
 pub returns : goal.returns
-returns c = λ scenario cells same are.
+returns c = λ scenario cells options same are.
     let window = c.args.window in
     let test = c.loop-row-test.false in
     let end = c.min-end.ensures in
-    sym (all-picked (is_near window) (is_spared scenario cells c.args.line) 0 c.args.rows
+    sym (stops scenario c.args.options (list_all (is_spared scenario cells c.args.line)
+    (filter (is_near window) (range_with_len 0 c.args.rows))) options c.if-options.false
+    ∙ all-picked (is_near window) (is_spared scenario cells c.args.line) 0 c.args.rows
     (λ t low high near.
     let parts = and_parts (nat_le window.first t) (nat_le t (window.end + 38)) near in
     let from = leb-true window.first t parts.0 in

@@ -15,6 +15,12 @@ returns-clause-few c =
     let few = few-rows (leg_of c.args.walk.now.script) c.args.walk.now.counts c.requires.sound c.requires.walked in
     omega (arith, taken, few.0, few.2)
 
+pub returns-clause-known : goal.returns-clause-known
+returns-clause-known c =
+    let taken = ap (λ (t : Totals). t.taken) c.totals.ensures in
+    let known = c.requires.rows.known in
+    omega (arith, taken, known)
+
 pub returns-clause-governed : goal.returns-clause-governed
 returns-clause-governed c =
     let taken = ap (λ (t : Totals). t.taken) c.totals.ensures in

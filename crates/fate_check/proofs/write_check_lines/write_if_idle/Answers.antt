@@ -23,9 +23,10 @@ returns-then-not-is_idle-clause-text g c = λ start before has.
     let window = c.args.window in
     let test : ℕ → Bool = λ n. is_idle (scenario_by leg) (session_of leg) n member window in
     let same = ap (λ (s : Script). s.config.windows) (sym c.script.ensures.script) in
+    let options = ap (λ (s : Script). s.config.options) (sym c.script.ensures.script) in
     let found : test rows ≡ false =
     ap test (sym c.rows_taken-rows.ensures.rows)
-    ∙ sym (c.is_idle.ensures (scenario_by leg) (session_of leg) same c.requires.seen.rows.packets.are)
+    ∙ sym (c.is_idle.ensures (scenario_by leg) (session_of leg) options same c.requires.seen.rows.packets.are)
     ∙ c.if-not-is_idle.true in
     subst (HasText g.K.ByteSink.written g.K.ByteSink.faults c.args.got.now start)
     (text-none text_of (idle_among leg rows member (window ∷ [])) before (idle-none leg rows member window found)) has
@@ -38,9 +39,10 @@ returns-then-not-is_idle-clause-count g c =
     let window = c.args.window in
     let test : ℕ → Bool = λ n. is_idle (scenario_by leg) (session_of leg) n member window in
     let same = ap (λ (s : Script). s.config.windows) (sym c.script.ensures.script) in
+    let options = ap (λ (s : Script). s.config.options) (sym c.script.ensures.script) in
     let found : test rows ≡ false =
     ap test (sym c.rows_taken-rows.ensures.rows)
-    ∙ sym (c.is_idle.ensures (scenario_by leg) (session_of leg) same c.requires.seen.rows.packets.are)
+    ∙ sym (c.is_idle.ensures (scenario_by leg) (session_of leg) options same c.requires.seen.rows.packets.are)
     ∙ c.if-not-is_idle.true in
     sym (ap length (idle-none leg rows member window found))
 
@@ -52,9 +54,10 @@ returns-clause-text g c = λ start before has.
     let window = c.args.window in
     let test : ℕ → Bool = λ n. is_idle (scenario_by leg) (session_of leg) n member window in
     let same = ap (λ (s : Script). s.config.windows) (sym c.script.ensures.script) in
+    let options = ap (λ (s : Script). s.config.options) (sym c.script.ensures.script) in
     let found : test rows ≡ true =
     ap test (sym c.rows_taken-rows.ensures.rows)
-    ∙ sym (c.is_idle.ensures (scenario_by leg) (session_of leg) same c.requires.seen.rows.packets.are)
+    ∙ sym (c.is_idle.ensures (scenario_by leg) (session_of leg) options same c.requires.seen.rows.packets.are)
     ∙ c.if-not-is_idle.false in
     subst (HasText g.K.ByteSink.written g.K.ByteSink.faults c.line.new.self start)
     (text-one text_of (idle_among leg rows member (window ∷ [])) (member, window) before
@@ -69,8 +72,9 @@ returns-clause-count g c =
     let window = c.args.window in
     let test : ℕ → Bool = λ n. is_idle (scenario_by leg) (session_of leg) n member window in
     let same = ap (λ (s : Script). s.config.windows) (sym c.script.ensures.script) in
+    let options = ap (λ (s : Script). s.config.options) (sym c.script.ensures.script) in
     let found : test rows ≡ true =
     ap test (sym c.rows_taken-rows.ensures.rows)
-    ∙ sym (c.is_idle.ensures (scenario_by leg) (session_of leg) same c.requires.seen.rows.packets.are)
+    ∙ sym (c.is_idle.ensures (scenario_by leg) (session_of leg) options same c.requires.seen.rows.packets.are)
     ∙ c.if-not-is_idle.false in
     sym (ap length (idle-one leg rows member window found))

@@ -26,3 +26,9 @@ row_cause-cause-requires-clause-governed g c =
     let own = c.requires.within in
     let low = reach (leg_of c.args.walk.now.script) c.args.walk.now.counts c.args.seen.now c.requires.seen in
     omega (arith, own, low)
+
+pub row_cause-cause-requires-clause-known : goal.row_cause-cause-requires-clause-known
+row_cause-cause-requires-clause-known g c =
+    let own = c.requires.within in
+    let known = c.requires.seen.rows.known in
+    omega (arith, own, known)

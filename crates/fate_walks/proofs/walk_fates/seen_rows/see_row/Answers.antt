@@ -19,6 +19,9 @@ row_cause-cause-requires-clause-governed c =
     let last = c.requires.last in
     omega (arith, few.0, c.requires.seen.packets.steps, last)
 
+pub row_cause-cause-requires-clause-known : goal.row_cause-cause-requires-clause-known
+row_cause-cause-requires-clause-known c = let known = c.requires.seen.known in omega (arith, known)
+
 pub row-requires : goal.row-requires
 row-requires c =
     let few =
@@ -39,7 +42,7 @@ place-end-requires c =
     let few =
     few-rows (leg_of c.args.walk.now.script) c.args.walk.now.counts c.requires.valid.sound c.requires.walked in
     let last = c.requires.last in
-    omega (arith, few.0, c.requires.seen.packets.steps, last)
+    omega (arith, few.0, c.in_ok-see_known.ensures.packets.steps, last)
 
 pub row-requires-2-clause-rows : goal.row-requires-2-clause-rows
 row-requires-2-clause-rows c =
@@ -55,7 +58,8 @@ row-requires-2-clause-end c =
     let few = few-rows (leg_of script) c.args.walk.now.counts c.requires.valid.sound c.requires.walked in
     let last = c.requires.last in
     let low : c.args.row + 1 ≤ script.config.ticks = omega (arith, few.0, few.1, last) in
-    let is = c.place-end.ensures (scenario_of script) (session_of (leg_of script)) c.requires.seen.packets.are in
+    let is = c.place-end.ensures (scenario_of script) (session_of (leg_of script))
+    c.in_ok-see_known.ensures.packets.are in
     let most = place-low (leg_of script) (c.args.row + 1) c.requires.valid.sound low in
     omega (arith, is, most)
 
@@ -81,7 +85,8 @@ returns-clause-ok c =
     subst (λ (cause : Option Cause). AreRuns c.row.new.self (causes ++ cause ∷ [])) is
     (c.in_ok-row.ensures.ok causes c.requires.seen.runs) in
     let ends : c.place-end.result ≡ place_of scenario cells c.args.walk.now.counts.rows =
-    c.place-end.ensures scenario cells c.requires.seen.packets.are ∙ ap (place_of scenario cells) c.requires.last in
+    c.place-end.ensures scenario cells c.in_ok-see_known.ensures.packets.are
+    ∙ ap (place_of scenario cells) c.requires.last in
     let told : Tells (session_rows (leg_of script) (row + 1)) c.place-end.result c.first_confirmed.result =
     row-tells (leg_of script) c.args.walk.now.counts
     (row + 1) c.place-end.result c.first_confirmed.result c.requires.last ends
@@ -93,5 +98,5 @@ returns-clause-ok c =
     (subst (λ rows. Tells rows c.place-end.result c.first_confirmed.result) (rows-next (leg_of script) row) told) in
     on_ok_weaker c.row-2.result
     (λ segments. one-row (leg_of script) c.args.walk.now.counts.ticks row c.args.walk.now.counts.rows
-    (record { packets = c.args.seen.now.packets; segments = c.row-2.new.self; runs = c.row.new.self }) c.requires.last
-    c.requires.seen.packets segments runs) stands
+    (record { packets = c.see_known.new.packets; segments = c.row-2.new.self; runs = c.row.new.self }) c.requires.last
+    c.in_ok-see_known.ensures.packets c.in_ok-see_known.ensures.known segments runs) stands

@@ -2,7 +2,7 @@
 use Rattle.std.proofs.Common.{rules, nat_le, true, false, ◌≡◌, suc, ◌-◌, ◌<◌, ◌≤◌, length, sym, ◌∙◌, ap, subst, arith}
 use Rattle.std.specs.List.Sorted.{IsPartitionedBy, IsPartitionPoint}
 use Rattle.std.proofs.lemmas.Fn.{always_returns_same}
-use Rattle.fate_engine.specs.Common.{start_by, packets_in}
+use Rattle.fate_engine.specs.Common.{start_by, active_in}
 use Rattle.fate_engine.specs.declared.fate_core.packet_rows.Packet.{Packet}
 use Rattle.fate_engine.proofs.FateCoreLaws.PlaceLaws.{actives-length, Begun, begun-parted, begun-some, begun-low, begun-high}
 use Rattle.fate_engine.proofs.fate_core.packet_rows.Packets.packet_at.Goals as goal
@@ -27,10 +27,10 @@ low : (c : goal.After-partition_point-begun) → c.args.place < c.self.inside.en
 low c =
     let all = actives-length c.self.inside.size c.self.inside.packets.items c.self.inside.end c.self.invariant in
     let e : start_by c.args.self.now.size c.args.self.now.active (length c.args.self.now.active)
-    ≡ start_by c.self.inside.size (packets_in c.self.inside.size c.self.inside.packets.items).active
+    ≡ start_by c.self.inside.size (active_in c.self.inside.packets.items)
     (length c.self.inside.packets.items) =
     ap (λ p. start_by p.size p.active (length p.active)) (sym c.self.view_is)
-    ∙ ap (start_by c.self.inside.size (packets_in c.self.inside.size c.self.inside.packets.items).active) all in
+    ∙ ap (start_by c.self.inside.size (active_in c.self.inside.packets.items)) all in
     let below = c.requires in
     let ends = c.self.invariant.ends in
     omega (arith, e, below, ends)

@@ -21,7 +21,7 @@ returns-then-row-le-FIRST c = λ scenario cells are. sym (place-none scenario ce
 pub returns-then-k-len : goal.returns-then-k-len
 returns-then-k-len c = λ scenario cells are.
     end-place c.self.inside.size c.self.inside.packets.items c.self.inside.end c.self.invariant scenario cells
-    (subst (ArePackets scenario cells) (sym c.self.view_is) are)
+    c.self.inside.known.items (subst (ArePackets scenario cells) (sym c.self.view_is) are)
     c.args.row
     (let few = c.requires in
     let all = actives-length c.self.inside.size c.self.inside.packets.items c.self.inside.end c.self.invariant in
@@ -48,7 +48,7 @@ returns c = λ scenario cells are.
     let w : c.width.result ≡ c.self.inside.size * length c.index-packet.result.now.lines.items = c.width.ensures
     ∙ ap (λ p. p.size * length c.index-packet.result.now.lines.items) (sym c.self.view_is) in
     let row = row-place c.self.inside.size c.self.inside.packets.items c.self.inside.end c.self.invariant scenario cells
-    (subst (ArePackets scenario cells) (sym c.self.view_is) are)
+    c.self.inside.known.items (subst (ArePackets scenario cells) (sym c.self.view_is) are)
     ((c.args.row - 24) / 16) c.from.result c.index-packet.result.now (there c)
     (let e = c.from.ensures in omega (arith, e)) in
     let at : 24 + 16 * ((c.args.row - 24) / 16) + c.from.result ≡ c.args.row =

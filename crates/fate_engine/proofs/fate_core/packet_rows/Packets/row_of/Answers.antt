@@ -2,7 +2,7 @@
 use Rattle.std.proofs.Common.{◌≡◌, ℕ, suc, ◌+◌, ◌-◌, ◌*◌, ◌/◌, ◌<◌, ◌≤◌, List, length, Option, sym, ◌∙◌, ap, subst}
 use Rattle.std.proofs.Common.{arith}
 use Rattle.law_model.specs.Common.{Scenario, Told, place_of}
-use Rattle.fate_engine.specs.Common.{ArePackets, start_by, packets_in}
+use Rattle.fate_engine.specs.Common.{ArePackets, start_by, active_in}
 use Rattle.fate_engine.proofs.FateCoreLaws.PlaceLaws.{actives-length, row-place, end-place, Found, found, some-width, few-rows}
 use Rattle.fate_engine.proofs.fate_core.packet_rows.Packets.row_of.Goals as goal
 
@@ -11,7 +11,7 @@ returns-then-place-self-clause-beyond c = λ scenario cells are.
     let all = actives-length c.self.inside.size c.self.inside.packets.items c.self.inside.end c.self.invariant in
     let view = ap (λ p. length p.active) c.self.view_is in
     let last = end-place c.self.inside.size c.self.inside.packets.items c.self.inside.end c.self.invariant scenario
-    cells (subst (ArePackets scenario cells) (sym c.self.view_is) are)
+    cells c.self.inside.known.items (subst (ArePackets scenario cells) (sym c.self.view_is) are)
     (16 * length c.args.self.now.active + 24) (omega (arith, all, view)) in
     omega (arith, last, c.if-place-self.true)
 
@@ -19,10 +19,10 @@ pub packet_at-k-requires : goal.packet_at-k-requires
 packet_at-k-requires c =
     let all = actives-length c.self.inside.size c.self.inside.packets.items c.self.inside.end c.self.invariant in
     let e : start_by c.args.self.now.size c.args.self.now.active (length c.args.self.now.active)
-    ≡ start_by c.self.inside.size (packets_in c.self.inside.size c.self.inside.packets.items).active
+    ≡ start_by c.self.inside.size (active_in c.self.inside.packets.items)
     (length c.self.inside.packets.items) =
     ap (λ p. start_by p.size p.active (length p.active)) (sym c.self.view_is)
-    ∙ ap (start_by c.self.inside.size (packets_in c.self.inside.size c.self.inside.packets.items).active) all in
+    ∙ ap (start_by c.self.inside.size (active_in c.self.inside.packets.items)) all in
     let ends = c.self.invariant.ends in
     omega (arith, e, ends, c.if-place-self.false)
 
@@ -30,7 +30,7 @@ packet_at-k-requires c =
 pub nonzero_div-row : goal.nonzero_div-row
 nonzero_div-row c =
     let found-at = found c.self.inside.size c.self.inside.packets.items c.self.inside.end c.self.invariant
-    c.args.self.now c.self.view_is c.packet_at-k.result c.index-packet.result.now
+    c.self.inside.known.items c.args.self.now c.self.view_is c.packet_at-k.result c.index-packet.result.now
     c.width.result c.args.place c.packet_at-k.ensures.within c.index-packet.ensures c.width.ensures
     c.packet_at-k.ensures.from c.packet_at-k.ensures.below in
     some-width (c.args.place - c.index-packet.result.now.start) c.width.result found-at.below
@@ -38,8 +38,8 @@ nonzero_div-row c =
 at : (c : goal.After-row_known-1) →
     Found c.self.inside.packets.items c.packet_at-k.result c.index-packet.result.now c.width.result c.args.place
 at c =
-    found c.self.inside.size c.self.inside.packets.items c.self.inside.end c.self.invariant c.args.self.now
-    c.self.view_is c.packet_at-k.result c.index-packet.result.now
+    found c.self.inside.size c.self.inside.packets.items c.self.inside.end c.self.invariant c.self.inside.known.items
+    c.args.self.now c.self.view_is c.packet_at-k.result c.index-packet.result.now
     c.width.result c.args.place c.packet_at-k.ensures.within c.index-packet.ensures c.width.ensures
     c.packet_at-k.ensures.from c.packet_at-k.ensures.below
 
@@ -65,7 +65,7 @@ placed : (c : goal.After-row_known-1) (scenario : Scenario) (cells : List (Optio
 placed c scenario cells are q row small is =
     ap (place_of scenario cells) is
     ∙ row-place c.self.inside.size c.self.inside.packets.items c.self.inside.end c.self.invariant scenario cells
-    (subst (ArePackets scenario cells) (sym c.self.view_is) are)
+    c.self.inside.known.items (subst (ArePackets scenario cells) (sym c.self.view_is) are)
     c.packet_at-k.result q c.index-packet.result.now (at c).there small
     ∙ ap (λ w. c.index-packet.result.now.start + q * w)
     (sym (c.width.ensures ∙ ap (λ p. p.size * length c.index-packet.result.now.lines.items) (sym c.self.view_is)))
