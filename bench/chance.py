@@ -48,8 +48,9 @@ def frame(scrambler, start, number):
     return octets.hex()
 
 
-scrambler = Scrambler()
-print("""# The premise on chance doesn't hold here: after the failure the receiver begins in row 50, and some octets of the last frame read there as
+def main():
+    scrambler = Scrambler()
+    print("""# The premise on chance doesn't hold here: after the failure the receiver begins in row 50, and some octets of the last frame read there as
 # two idle frames. Made by bench/chance.py.
 container vc3
 lines 1
@@ -59,5 +60,9 @@ lag 1
 ticks 90
 fail 0 41 48 0
 add 0 0""")
-for number in range(4):
-    print("frame 0", frame(scrambler, 8 + number * (8 + FRAME), number))
+    for number in range(4):
+        print("frame 0", frame(scrambler, 8 + number * (8 + FRAME), number))
+
+
+if __name__ == "__main__":
+    main()

@@ -52,8 +52,9 @@ def script(number):
     lag = (16 + max(delays) + slip + 15) // 16 + draw.choice([0, 0, 1, 3])
     said = [f"container {draw.choice(['vc3', 'vc4'])}", f"lines {lines}", "delays " + " ".join(map(str, delays))]
     said += [f"ring {ring}", f"lag {lag}", f"ticks {ticks}"]
-    options = [f"holdoff {draw.choice([0, 1, 2, 9])}", f"restore {draw.choice([0, 1, 15, 40])}", f"statuses {draw.choice([16, 32])}"]
-    said += draw.sample(options, draw.choice([0, 0, 1, 3])) + fails
+    options = [f"sink {draw.choice(['stops', 'infers'])}", f"holdoff {draw.choice([0, 1, 2, 9])}",
+               f"restore {draw.choice([0, 1, 15, 40])}", f"statuses {draw.choice([16, 32])}"]
+    said += draw.sample(options, draw.choice([0, 0, 1, 4])) + fails
     place = 0
     for _ in range(draw.choice([0, 0, 1, 3])):
         first = place + draw.randint(0, 20)

@@ -49,7 +49,7 @@ Life.texts = (() => {
     if (word === "frame") { script.items.push(frameItem(line, script.items.length)); return; }
     const words = line.split(/ +/), numbers = words.slice(1).map(Number);
     switch (word) {
-      case "container": script.container = words[1]; break;
+      case "container": case "sink": script[word] = words[1]; break;
       case "delays": script.delays = numbers; break;
       case "lines": case "ring": case "lag": case "ticks": case "holdoff": case "restore": case "statuses":
         script[word] = numbers[0]; break;
@@ -64,7 +64,7 @@ Life.texts = (() => {
   }
 
   function readScript(text, faults) {
-    const script = { container: "vc4", lines: 0, delays: [], ring: 0, lag: 0, ticks: 0, holdoff: 0, restore: 0, statuses: 16,
+    const script = { container: "vc4", lines: 0, delays: [], ring: 0, lag: 0, ticks: 0, sink: "stops", holdoff: 0, restore: 0, statuses: 16,
       fails: [], losts: [], items: [], events: 0 };
     const about = [];
     script.text = linesOf(text);

@@ -16,7 +16,7 @@ sys.dont_write_bytecode = True
 from browser import Browser, NoBrowser
 from texts import Pages, at_a_rate, bursts, expected, head, heights, interval, made, points, reasons, totals, walked
 
-EXAMPLES = ("failed_member", "slip", "lost_return", "eight_lines", "queue", "refused", "statuses")
+EXAMPLES = ("failed_member", "slip", "lost_return", "eight_lines", "queue", "refused", "statuses", "one_container_infers")
 TOP = os.path.dirname(os.path.dirname(os.path.dirname(os.path.abspath(__file__))))
 RANGE = "document.querySelector('#range b').textContent"
 HELD = "document.getElementById('detail').classList.contains('held')"

@@ -16,6 +16,7 @@ keyword_text word.Delays = codes "delays"
 keyword_text word.Ring = codes "ring"
 keyword_text word.Lag = codes "lag"
 keyword_text word.Ticks = codes "ticks"
+keyword_text word.Sink = codes "sink"
 keyword_text word.Holdoff = codes "holdoff"
 keyword_text word.Restore = codes "restore"
 keyword_text word.Statuses = codes "statuses"
@@ -44,7 +45,7 @@ part_text part.Events = codes "event lines"
 -- the words that a line may begin with
 abbrev pub first_words : List ℕ
 first_words =
-    codes "a line begins with one of container, lines, delays, ring, lag, ticks, holdoff, restore, statuses, fail, lost, frame, add, remove, client, operator, tick, carry, back, take, round, drain"
+    codes "a line begins with one of container, lines, delays, ring, lag, ticks, sink, holdoff, restore, statuses, fail, lost, frame, add, remove, client, operator, tick, carry, back, take, round, drain"
 
 abbrev pub line_help_text : LineFault → List ℕ
 line_help_text wrong.First = first_words

@@ -10,7 +10,7 @@ use text_scripts::script_read::{Keyword, LineFault, Part};
 
 /// The words that a line may begin with.
 const FIRST_WORDS: &[u8] =
-    b"a line begins with one of container, lines, delays, ring, lag, ticks, holdoff, restore, statuses, fail, lost, frame, add, remove, client, operator, tick, carry, back, take, round, drain";
+    b"a line begins with one of container, lines, delays, ring, lag, ticks, sink, holdoff, restore, statuses, fail, lost, frame, add, remove, client, operator, tick, carry, back, take, round, drain";
 
 /// A keyword as scripts have it.
 fn keyword_word(keyword: Keyword) -> &'static [u8]
@@ -24,6 +24,7 @@ fn keyword_word(keyword: Keyword) -> &'static [u8]
         Keyword::Ring => b"ring",
         Keyword::Lag => b"lag",
         Keyword::Ticks => b"ticks",
+        Keyword::Sink => b"sink",
         Keyword::Holdoff => b"holdoff",
         Keyword::Restore => b"restore",
         Keyword::Statuses => b"statuses",

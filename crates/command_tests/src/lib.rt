@@ -1,5 +1,5 @@
 //! Tests of both programs by their calls: words, inputs and faults at each call, the walk or session that is
-//! handed back, and workers that run beside each other. Nothing is here but tests. Begin with `rows`, which
+//! handed back, and workers that run beside each other. Nothing is here but tests. Begin with `try_rows`, which
 //! says what a row is.
 #![tactic(auto)]
 
@@ -21,6 +21,8 @@ mod pair_command;
 mod run_and_watch;
 #[cfg(test)]
 mod script_rows;
+#[cfg(test)]
+mod sink_rows;
 #[cfg(test)]
 mod try_rows;
 #[cfg(test)]

@@ -44,25 +44,25 @@ fn faulty_rows() -> &'static str {
         help: the line lines has to stand here|\n\
     pair;lines 1|delays 0|ring 1|lag 1|ticks 1|other|lines 1|delays 0|ring 1|lag 1|ticks 1|\
         other| => 5;;fault: line 12: word|help: a line begins with one of container, lines, delays, ring, lag, ticks, \
-        holdoff, restore, statuses, fail, lost, frame, add, remove, client, operator, tick, carry, back, take, round, \
-        drain|\n\
+        sink, holdoff, restore, statuses, fail, lost, frame, add, remove, client, operator, tick, carry, back, take, \
+        round, drain|\n\
     pair;other|lines 1|delays 0|ring 1|lag 1|ticks 1| => 5;;fault: line 1: missing|\
         help: the line lines has to stand here|\n\
     pair;lines 1|other|lines 1|delays 0|ring 1|lag 1|ticks 1| => 5;;fault: line 2: missing|\
         help: the line delays has to stand here|\n\
     pair;lines 1|delays 0|ring 1|lag 1|ticks 1|other 1|lines 1|delays 0|ring 1|lag 1|\
         ticks 1| => 5;;fault: line 6: word|help: a line begins with one of container, lines, delays, ring, lag, \
-        ticks, holdoff, restore, statuses, fail, lost, frame, add, remove, client, operator, tick, carry, back, take, \
-        round, drain|\n\
+        ticks, sink, holdoff, restore, statuses, fail, lost, frame, add, remove, client, operator, tick, carry, back, \
+        take, round, drain|\n\
     pair;lines 1|delays 0|ring 1|lag 1|ticks 1|bad|other|bad| => 5;;fault: line 6: word|\
-        help: a line begins with one of container, lines, delays, ring, lag, ticks, holdoff, restore, statuses, fail, \
-        lost, frame, add, remove, client, operator, tick, carry, back, take, round, drain|\n\
+        help: a line begins with one of container, lines, delays, ring, lag, ticks, sink, holdoff, restore, statuses, \
+        fail, lost, frame, add, remove, client, operator, tick, carry, back, take, round, drain|\n\
     pair;lines 1|delays 0|ring 1|lag 1|ticks 1|other|lines 1|bad| => 5;;fault: line 8: word|\
-        help: a line begins with one of container, lines, delays, ring, lag, ticks, holdoff, restore, statuses, fail, \
-        lost, frame, add, remove, client, operator, tick, carry, back, take, round, drain|\n\
+        help: a line begins with one of container, lines, delays, ring, lag, ticks, sink, holdoff, restore, statuses, \
+        fail, lost, frame, add, remove, client, operator, tick, carry, back, take, round, drain|\n\
     pair;lines 1|delays 0|ring 1|lag 1|ticks 1|bad| => 5;;fault: line 6: word|\
-        help: a line begins with one of container, lines, delays, ring, lag, ticks, holdoff, restore, statuses, fail, \
-        lost, frame, add, remove, client, operator, tick, carry, back, take, round, drain|\n\
+        help: a line begins with one of container, lines, delays, ring, lag, ticks, sink, holdoff, restore, statuses, \
+        fail, lost, frame, add, remove, client, operator, tick, carry, back, take, round, drain|\n\
     pair;lines 1|delays 0|ring 1|lag 1000|ticks 1|other|lines 1|delays 0|ring 1|lag 2|\
         ticks 1| => 5;;fault: line 4: range|help: word 2 is from 1 to 512|\n\
     pair;lines 2|delays 0 20|ring 1|lag 1|ticks 20|other|lines 2|delays 0 20|ring 1|lag 3|\

@@ -50,8 +50,8 @@ fn watched_rows() -> &'static str {
 }
 
 /// Options: a member that goes out of use in a long failure, and one that is held in it; a line that fails at the
-/// start, is
-/// restored too late, and is told of too late.
+/// start, is restored too late, and is told of too late; a sink that stops at a damaged container, and one that goes
+/// on.
 fn option_rows() -> &'static str {
     "\
     watch 3;lines 2|delays 0 3|ring 8|lag 2|ticks 1400|fail 1 1000 1300 0|add 0 0|add 0 1|frame 1150 07*64|\
@@ -67,7 +67,16 @@ fn option_rows() -> &'static str {
     run 2;lines 1|delays 0|ring 1|lag 1|ticks 300|restore 16|fail 0 0 16 0|add 0 0|frame 0 00*64|frame 0 00*64|\
         frame 0 00*64|frame 0 00*64| => 0+;total ticks 300 taken 300 frames 4 commands 1 refused 0 got 0|;\n\
     run 2;lines 1|delays 0|ring 1|lag 1|ticks 300|statuses 32|fail 0 0 16 0|add 0 0|frame 0 00*64|frame 0 00*64|\
-        frame 0 00*64|frame 0 00*64| => 0+;total ticks 300 taken 300 frames 4 commands 1 refused 0 got 0|;"
+        frame 0 00*64|frame 0 00*64| => 0+;total ticks 300 taken 300 frames 4 commands 1 refused 0 got 0|;\n\
+    run 2;lines 2|delays 0 0|ring 1|lag 1|ticks 1000|fail 1 900 901 0|add 0 0|add 0 1|frame 914 00*64|frame 914 00*64|\
+        frame 914 00*64|frame 914 00*64| => 0+;total ticks 1000 taken 1000 frames 4 commands 2 refused 0 got 0|;\n\
+    run 2;lines 2|delays 0 0|ring 1|lag 1|ticks 1000|sink infers|fail 1 900 901 0|add 0 0|add 0 1|frame 914 00*64|\
+        frame 914 00*64|frame 914 00*64|frame 914 00*64| => 0+;got 00*64|got 00*64|\
+        total ticks 1000 taken 1000 frames 4 commands 2 refused 0 got 2|;\n\
+    watch 3;lines 2|delays 0 0|ring 1|lag 1|ticks 1000|sink infers|fail 1 900 901 0|add 0 0|add 0 1|frame 914 00*64|\
+        frame 914 00*64|frame 914 00*64|frame 914 00*64| => 0+;got 00*64|got 00*64|\
+        total ticks 1000 taken 1000 frames 4 commands 2 refused 0 got 2|;alarm 0 1000 ends|alarm 1 900 fails|\
+        alarm 1 901 returns|alarm 1 1000 ends|"
 }
 
 /// Inputs that seven octets at a time are read in so many calls, and what is answered where no call fails. A
@@ -78,8 +87,8 @@ fn read_rows() -> &'static str {
     13 TIMES 3;;fault: read failed| THEN 0+;total ticks 700 taken 700 frames 0 commands 4 refused 0 got 0|;\n\
     run 2; => 3;;fault: read failed| THEN 5;;fault: line 1: missing|help: the line lines has to stand here|\n\
     run 2;x| => 2 TIMES 3;;fault: read failed| THEN 5;;fault: line 1: word|\
-        help: a line begins with one of container, lines, delays, ring, lag, ticks, holdoff, restore, statuses, fail, \
-        lost, frame, add, remove, client, operator, tick, carry, back, take, round, drain|\n\
+        help: a line begins with one of container, lines, delays, ring, lag, ticks, sink, holdoff, restore, statuses, \
+        fail, lost, frame, add, remove, client, operator, tick, carry, back, take, round, drain|\n\
     run 2;lines 2|delays 0 63|ring 63|lag 5|\
         ticks 1| => 7 TIMES 3;;fault: read failed| THEN 6;;fault: spread 63 0 0 63|\
         help: delays from 0 to 63 and slips of 0 need a ring of at least 64|\n\

@@ -9,11 +9,11 @@ fn fault_rows() -> &'static str {
     "\
     |# x| => 5;;fault: line 3: missing|help: the line lines has to stand here|\n\
     foo|lines 0 => 5;;fault: line 1: word|\
-        help: a line begins with one of container, lines, delays, ring, lag, ticks, holdoff, restore, statuses, fail, \
-        lost, frame, add, remove, client, operator, tick, carry, back, take, round, drain|\n\
+        help: a line begins with one of container, lines, delays, ring, lag, ticks, sink, holdoff, restore, statuses, \
+        fail, lost, frame, add, remove, client, operator, tick, carry, back, take, round, drain|\n\
     lines 1|foo => 5;;fault: line 2: word|\
-        help: a line begins with one of container, lines, delays, ring, lag, ticks, holdoff, restore, statuses, fail, \
-        lost, frame, add, remove, client, operator, tick, carry, back, take, round, drain|\n\
+        help: a line begins with one of container, lines, delays, ring, lag, ticks, sink, holdoff, restore, statuses, \
+        fail, lost, frame, add, remove, client, operator, tick, carry, back, take, round, drain|\n\
     lines 1|ring 1 => 5;;fault: line 2: missing|help: the line delays has to stand here|\n\
     lines 1|lines 1 => 5;;fault: line 2: missing|help: the line delays has to stand here|\n\
     lines 1|container vc3 => 5;;fault: line 2: missing|help: the line delays has to stand here|\n\
@@ -33,11 +33,11 @@ fn fault_rows() -> &'static str {
     lines 1|delays 0|ring 1|lag 1|ticks 9|drain|add 0 0 => 5;;fault: line 7: order|\
         help: frame, add and remove stands before event lines|\n\
     lines 1|delays 0|ring 1|lag 1|ticks 9|Add 0 0 => 5;;fault: line 6: word|\
-        help: a line begins with one of container, lines, delays, ring, lag, ticks, holdoff, restore, statuses, fail, \
-        lost, frame, add, remove, client, operator, tick, carry, back, take, round, drain|\n\
+        help: a line begins with one of container, lines, delays, ring, lag, ticks, sink, holdoff, restore, statuses, \
+        fail, lost, frame, add, remove, client, operator, tick, carry, back, take, round, drain|\n\
     lines 1|delays 0|ring 1|lag 1|ticks 9|ticks9 => 5;;fault: line 6: word|\
-        help: a line begins with one of container, lines, delays, ring, lag, ticks, holdoff, restore, statuses, fail, \
-        lost, frame, add, remove, client, operator, tick, carry, back, take, round, drain|\n\
+        help: a line begins with one of container, lines, delays, ring, lag, ticks, sink, holdoff, restore, statuses, \
+        fail, lost, frame, add, remove, client, operator, tick, carry, back, take, round, drain|\n\
     lines => 5;;fault: line 1: word|help: lines takes 1 words, and 0 follow|\n\
     lines x y => 5;;fault: line 1: word|help: lines takes 1 words, and 2 follow|\n\
     lines 2|delays 0 => 5;;fault: line 2: word|help: delays takes 2 words, and 1 follow|\n\
@@ -109,11 +109,11 @@ fn fault_rows() -> &'static str {
     lines 1\r\r| => 5;;fault: line 1: number|help: word 2 is a number of one to ten digits|\n\
     lines 1\r => 5;;fault: line 1: number|help: word 2 is a number of one to ten digits|\n\
     #\r|\t| => 5;;fault: line 2: word|help: a line begins with one of container, lines, delays, ring, lag, ticks, \
-        holdoff, restore, statuses, fail, lost, frame, add, remove, client, operator, tick, carry, back, take, round, \
-        drain|\n\
+        sink, holdoff, restore, statuses, fail, lost, frame, add, remove, client, operator, tick, carry, back, take, \
+        round, drain|\n\
     lines\t1 => 5;;fault: line 1: word|help: a line begins with one of container, lines, delays, ring, lag, ticks, \
-        holdoff, restore, statuses, fail, lost, frame, add, remove, client, operator, tick, carry, back, take, round, \
-        drain|\n\
+        sink, holdoff, restore, statuses, fail, lost, frame, add, remove, client, operator, tick, carry, back, take, \
+        round, drain|\n\
     lines 1|delays 0|ring 1|lag 1|ticks 9|add 0 0# => 5;;fault: line 6: number|\
         help: word 3 is a number of one to ten digits|\n\
     lines 129|foo => 5;;fault: line 1: range|help: word 2 is from 1 to 128|\n\

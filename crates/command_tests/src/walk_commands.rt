@@ -313,8 +313,8 @@ fn read_rows() -> &'static str {
     decode;0001|0203| => 3 TIMES 3;;fault: read failed| THEN 0;end octets 4 packets 0|;\n\
     walk; => 3;;fault: read failed| THEN 5;;fault: line 1: missing|help: the line lines has to stand here|\n\
     walk;x| => 2 TIMES 3;;fault: read failed| THEN 5;;fault: line 1: word|\
-        help: a line begins with one of container, lines, delays, ring, lag, ticks, holdoff, restore, statuses, fail, \
-        lost, frame, add, remove, client, operator, tick, carry, back, take, round, drain|\n\
+        help: a line begins with one of container, lines, delays, ring, lag, ticks, sink, holdoff, restore, statuses, \
+        fail, lost, frame, add, remove, client, operator, tick, carry, back, take, round, drain|\n\
     walk;lines 2|delays 0 63|ring 63|lag 5|ticks 1| => 7 TIMES 3;;fault: read failed| THEN 6;;fault: spread 63 0 0 63|\
         help: delays from 0 to 63 and slips of 0 need a ring of at least 64|\n\
     make 1 1 1; => 0+;made lines 1 ticks 1|total ticks 1 taken 1 frames 1 commands 1 refused 0 got 0|octets 0 sum 0|;\n\

@@ -3,7 +3,7 @@ use Rattle.std.specs.Prelude.{ℕ, nat_le, List, ◌++◌, codes, decimal, if◌
 use Rattle.text_lines.specs.declared.text_faults.FieldFault.{FieldFault}
 use Rattle.text_lines.specs.declared.text_faults.FieldFault.TheVariants.{Number, Hex, Range, Size, Name}
 use Rattle.text_lines.specs.declared.text_faults.Names.{Names}
-use Rattle.text_lines.specs.declared.text_faults.Names.TheVariants.{Containers, Statuses}
+use Rattle.text_lines.specs.declared.text_faults.Names.TheVariants.{Containers, Sinks, Statuses}
 use Rattle.text_lines.specs.declared.text_faults.LineFault.{LineFault}
 use Rattle.text_lines.specs.declared.text_faults.LineFault.TheVariants as wrong
 
@@ -20,6 +20,7 @@ bounds_text least most =
 -- the names that a word chooses from
 abbrev pub names_text : Names → List ℕ
 names_text Containers = codes " is vc3 or vc4"
+names_text Sinks = codes " is stops or infers"
 names_text Statuses = codes " is 16 or 32"
 
 -- what a word has to be

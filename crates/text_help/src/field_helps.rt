@@ -97,6 +97,7 @@ pub fn field_help(fault: FieldFault, out: &mut [u8]) -> usize
         FieldFault::Size { word, least, most } => size_help(word, least, most, out),
         FieldFault::Name { word, names } => match names {
             Names::Containers => word_help(word, b" is vc3 or vc4", out),
+            Names::Sinks => word_help(word, b" is stops or infers", out),
             Names::Statuses => word_help(word, b" is 16 or 32", out),
         },
     }

@@ -10,7 +10,7 @@ use Rattle.text_lines.specs.declared.text_faults.LineKind.TheVariants as kind
 use Rattle.text_lines.specs.declared.text_faults.FieldFault.{FieldFault}
 use Rattle.text_lines.specs.declared.text_faults.FieldFault.TheVariants.{Number, Hex, Range, Size, Name}
 use Rattle.text_lines.specs.declared.text_faults.Names.{Names}
-use Rattle.text_lines.specs.declared.text_faults.Names.TheVariants.{Containers, Statuses}
+use Rattle.text_lines.specs.declared.text_faults.Names.TheVariants.{Containers, Sinks, Statuses}
 use Rattle.text_lines.specs.declared.text_faults.FieldStop.{FieldStop}
 use Rattle.text_lines.specs.declared.text_faults.FieldStop.TheVariants as stop
 use Rattle.text_lines.specs.Words.{is_number, number_of}
@@ -35,6 +35,7 @@ field_kind (Name word names) = kind.Word
 -- the names that a word has to be one of
 abbrev pub names_of : Names → List (List ℕ)
 names_of Containers = codes "vc3" ∷ codes "vc4" ∷ []
+names_of Sinks = codes "stops" ∷ codes "infers" ∷ []
 names_of Statuses = codes "16" ∷ codes "32" ∷ []
 
 -- what a word has to be: a number within two bounds; any number; a number above that of the word before it, up to a

@@ -39,6 +39,8 @@ pub enum LineKind {
 pub enum Names {
     /// Those of containers.
     Containers,
+    /// What a sink does without some control packets.
+    Sinks,
     /// The numbers of return packets that tell all statuses.
     Statuses,
 }

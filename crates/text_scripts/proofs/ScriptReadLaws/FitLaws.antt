@@ -209,6 +209,7 @@ fits_said d word.Lag ws is at fine =
     (at_place d.next 4 (omega arith) (λ e. omega (arith, e)) at, one_number 1 512 ws fine.count fine.each)
 fits_said d word.Ticks ws is at fine =
     (at_place d.next 5 (omega arith) (λ e. omega (arith, e)) at, one_number 1 1000000 ws fine.count fine.each)
+fits_said d word.Sink ws is at fine = (at_options d.next at, fine.room)
 fits_said d word.Holdoff ws is at fine =
     (at_options d.next at, (one_number 0 5000 ws fine.count fine.each).1, fine.room)
 fits_said d word.Restore ws is at fine =

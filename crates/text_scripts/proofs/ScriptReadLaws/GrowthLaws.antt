@@ -365,15 +365,16 @@ configured d next config is early has = record {
   events = subst (All (IsEvent config.lines)) (sym (is.no_events (omega (arith, early)))) (All-none _);
 }
 
-with_options : (d : Draft) (options : Options) (holdoff restore statuses : Bool) → IsDraft d → d.next ≡ 6 →
+with_options : (d : Draft) (options : Options) (sink holdoff restore statuses : Bool) → IsDraft d → d.next ≡ 6 →
     IsOptions options
     → IsDraft (record d {
       config = record d.config { options = options };
+      has_sink = sink;
       has_holdoff = holdoff;
       has_restore = restore;
       has_statuses = statuses;
     })
-with_options d options holdoff restore statuses is at are = record {
+with_options d options sink holdoff restore statuses is at are = record {
   config = options_config d.next d.config options is.config are;
   no_items = is.no_items;
   items = is.items;
@@ -399,20 +400,30 @@ IsDraft-after d (says.Lag n) is fits =
     configured d 5 (record d.config { lag = n }) is (omega (arith, fits.0)) (lag_config d n is.config fits)
 IsDraft-after d (says.Ticks n) is fits =
     configured d 6 (record d.config { ticks = n }) is (omega (arith, fits.0)) (ticks_config d n is.config fits)
+IsDraft-after d (says.Sink infers) is fits =
+    with_options d (record d.config.options { infers = infers }) true d.has_holdoff d.has_restore d.has_statuses is
+    fits.0 (record {
+      holdoff = is.config.options.holdoff;
+      restore = is.config.options.restore;
+      statuses = is.config.options.statuses;
+    })
 IsDraft-after d (says.Holdoff n) is fits =
-    with_options d (record d.config.options { holdoff = n }) true d.has_restore d.has_statuses is fits.0 (record {
+    with_options d (record d.config.options { holdoff = n }) d.has_sink true d.has_restore d.has_statuses is fits.0
+    (record {
       holdoff = fits.1;
       restore = is.config.options.restore;
       statuses = is.config.options.statuses;
     })
 IsDraft-after d (says.Restore n) is fits =
-    with_options d (record d.config.options { restore = n }) d.has_holdoff true d.has_statuses is fits.0 (record {
+    with_options d (record d.config.options { restore = n }) d.has_sink d.has_holdoff true d.has_statuses is fits.0
+    (record {
       holdoff = is.config.options.holdoff;
       restore = fits.1;
       statuses = is.config.options.statuses;
     })
 IsDraft-after d (says.Statuses n) is fits =
-    with_options d (record d.config.options { statuses = n }) d.has_holdoff d.has_restore true is fits.0 (record {
+    with_options d (record d.config.options { statuses = n }) d.has_sink d.has_holdoff d.has_restore true is fits.0
+    (record {
       holdoff = is.config.options.holdoff;
       restore = is.config.options.restore;
       statuses = fits.1;
@@ -448,6 +459,7 @@ items_after d (says.Delays ns) = omega arith
 items_after d (says.Ring n) = omega arith
 items_after d (says.Lag n) = omega arith
 items_after d (says.Ticks n) = omega arith
+items_after d (says.Sink infers) = omega arith
 items_after d (says.Holdoff n) = omega arith
 items_after d (says.Restore n) = omega arith
 items_after d (says.Statuses n) = omega arith

@@ -34,8 +34,8 @@ fault_at n stop.Memory = fault.Memory
 abbrev pub count_fault : Keyword → ℕ → List (List ℕ) → Option LineFault
 count_fault k n ws = where_true (not (length ws == n)) (wrong.Count k n (length ws))
 
--- the fault of the words of a container, of a number of delays, of one number, of a timer and of statuses, where these
--- stand already or don't, and of a command
+-- the fault of the words of a container, of a number of delays, of one number, of a sink, a timer and statuses, where
+-- these stand already or don't, and of a command
 abbrev pub container_fault : List (List ℕ) → Option LineFault
 container_fault ws =
     option_or (count_fault word.Container 1 ws) (option_map wrong.Field (name_fault 2 names.Containers (word_at 0 ws)))
@@ -53,6 +53,12 @@ abbrev pub timer_fault : Keyword → ℕ → Bool → List (List ℕ) → Option
 timer_fault k most stands ws =
     option_or (count_fault k 1 ws)
     (option_or (option_map wrong.Field (number_fault 2 0 most (word_at 0 ws))) (where_true stands (wrong.Twice k)))
+
+abbrev pub sink_fault : Bool → List (List ℕ) → Option LineFault
+sink_fault stands ws =
+    option_or (count_fault word.Sink 1 ws)
+    (option_or (option_map wrong.Field (name_fault 2 names.Sinks (word_at 0 ws)))
+    (where_true stands (wrong.Twice word.Sink)))
 
 abbrev pub statuses_fault : Bool → List (List ℕ) → Option LineFault
 statuses_fault stands ws =
@@ -139,6 +145,7 @@ Fits d (says.Delays ns) = (d.next ≡ 2) × (length ns ≡ d.config.lines) × Al
 Fits d (says.Ring n) = (d.next ≡ 3) × IsWithin 1 2048 n
 Fits d (says.Lag n) = (d.next ≡ 4) × IsWithin 1 512 n
 Fits d (says.Ticks n) = (d.next ≡ 5) × IsWithin 1 1000000 n
+Fits d (says.Sink infers) = (d.next ≡ 6) × (d.has_sink ≡ false)
 Fits d (says.Holdoff n) = (d.next ≡ 6) × (n ≤ 5000) × (d.has_holdoff ≡ false)
 Fits d (says.Restore n) = (d.next ≡ 6) × (n ≤ 62500) × (d.has_restore ≡ false)
 Fits d (says.Statuses n) = (d.next ≡ 6) × IsStatuses n × (d.has_statuses ≡ false)

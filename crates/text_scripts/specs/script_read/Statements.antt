@@ -49,7 +49,8 @@ item_keyword w =
 -- those and the words of options
 abbrev pub option_keyword : List ℕ → Option Keyword
 option_keyword w =
-    if bytes_eq w (codes "holdoff") then Some word.Holdoff
+    if bytes_eq w (codes "sink") then Some word.Sink
+    else if bytes_eq w (codes "holdoff") then Some word.Holdoff
     else if bytes_eq w (codes "restore") then Some word.Restore
     else if bytes_eq w (codes "statuses") then Some word.Statuses
     else item_keyword w
@@ -74,6 +75,7 @@ place word.Delays = 2
 place word.Ring = 3
 place word.Lag = 4
 place word.Ticks = 5
+place word.Sink = 6
 place word.Holdoff = 6
 place word.Restore = 6
 place word.Statuses = 6
@@ -122,7 +124,8 @@ place_fault next at =
     (where_true (nat_lt at next) (wrong.Part (part_of at) (begun_at next)))
 
 -- ---- the other words
--- what the words after a keyword have to be; how many return packets tell all statuses is a name, as a container is
+-- what the words after a keyword have to be; how many return packets tell all statuses is a name, as a container and
+-- what a sink does are
 abbrev pub fields : Draft → Keyword → List Field
 fields d word.Container = one_of names.Containers ∷ []
 fields d word.Lines = within 1 128 ∷ []
@@ -130,6 +133,7 @@ fields d word.Delays = replicate d.config.lines (within 0 2047)
 fields d word.Ring = within 1 2048 ∷ []
 fields d word.Lag = within 1 512 ∷ []
 fields d word.Ticks = within 1 1000000 ∷ []
+fields d word.Sink = one_of names.Sinks ∷ []
 fields d word.Holdoff = within 0 5000 ∷ []
 fields d word.Restore = within 0 62500 ∷ []
 fields d word.Statuses = one_of names.Statuses ∷ []
@@ -151,6 +155,11 @@ fields d word.Drain = []
 abbrev pub size_of : List ℕ → Option ℕ
 size_of w = if bytes_eq w (codes "vc3") then Some vc3_size else if bytes_eq w (codes "vc4") then Some vc4_size else None
 
+-- whether a sink goes on without some control packets, by the name of what it does
+abbrev pub infers_of : List ℕ → Option Bool
+infers_of w =
+    if bytes_eq w (codes "stops") then Some false else if bytes_eq w (codes "infers") then Some true else None
+
 -- how many return packets tell all statuses, by the name of that number
 abbrev pub statuses_of : List ℕ → Option ℕ
 statuses_of w = if bytes_eq w (codes "16") then Some 16 else if bytes_eq w (codes "32") then Some 32 else None
@@ -168,6 +177,7 @@ last_lost lost = slice_index_or (map (λ (window : ℕ × ℕ). window.1) lost) 
 
 -- an option stands already; a line, or the return path, has 256 windows
 abbrev pub is_full : Draft → Keyword → List (List ℕ) → Bool
+is_full d word.Sink ws = d.has_sink
 is_full d word.Holdoff ws = d.has_holdoff
 is_full d word.Restore ws = d.has_restore
 is_full d word.Statuses ws = d.has_statuses
@@ -189,6 +199,7 @@ is_early d k ws = false
 -- ---- the first fault of a line
 -- that of an option that stands already, and of a line, or a return path, which is full, by its keyword
 abbrev pub full_fault : Keyword → List (List ℕ) → LineFault
+full_fault word.Sink ws = wrong.Twice word.Sink
 full_fault word.Holdoff ws = wrong.Twice word.Holdoff
 full_fault word.Restore ws = wrong.Twice word.Restore
 full_fault word.Statuses ws = wrong.Twice word.Statuses
@@ -226,6 +237,7 @@ said word.Delays ws = says.Delays (map number_of ws)
 said word.Ring ws = says.Ring (number_at 0 ws)
 said word.Lag ws = says.Lag (number_at 0 ws)
 said word.Ticks ws = says.Ticks (number_at 0 ws)
+said word.Sink ws = says.Sink (unwrap_or (infers_of (word_at 0 ws)) false)
 said word.Holdoff ws = says.Holdoff (number_at 0 ws)
 said word.Restore ws = says.Restore (number_at 0 ws)
 said word.Statuses ws = says.Statuses (unwrap_or (statuses_of (word_at 0 ws)) 0)
@@ -265,6 +277,10 @@ after d (says.Delays ns) = record d { next = 3; config = record d.config { delay
 after d (says.Ring n) = record d { next = 4; config = record d.config { ring = n } }
 after d (says.Lag n) = record d { next = 5; config = record d.config { lag = n } }
 after d (says.Ticks n) = record d { next = 6; config = record d.config { ticks = n } }
+after d (says.Sink infers) = record d {
+  config = record d.config { options = record d.config.options { infers = infers } };
+  has_sink = true;
+}
 after d (says.Holdoff n) = record d {
   config = record d.config { options = record d.config.options { holdoff = n } };
   has_holdoff = true;
@@ -306,6 +322,7 @@ at_first = record {
   events = [];
   frame_due = 0;
   command_due = 0;
+  has_sink = false;
   has_holdoff = false;
   has_restore = false;
   has_statuses = false;

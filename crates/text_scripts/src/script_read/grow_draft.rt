@@ -53,6 +53,7 @@ pub(super) fn no_lines(alloc: Global) -> Draft
         events: EventList(Vec::new(alloc)),
         frame_due: 0,
         command_due: 0,
+        has_sink: false,
         has_holdoff: false,
         has_restore: false,
         has_statuses: false,
@@ -104,6 +105,10 @@ pub(super) fn add(alloc: Global, draft: &mut Draft, said: Statement) -> Result<(
         Statement::Ticks(ticks) => {
             draft.config.ticks = ticks;
             draft.next = 6;
+        }
+        Statement::Sink(infers) => {
+            draft.config.options.infers = infers;
+            draft.has_sink = true;
         }
         Statement::Holdoff(holdoff) => {
             draft.config.options.holdoff = holdoff;

@@ -1,8 +1,8 @@
-//! The words of options: the two timers, and how many return packets tell all statuses.
+//! The words of options: what the sink does, the two timers, and how many return packets tell all statuses.
 ghost use Rattle.std.specs.Prelude.{◌≡◌, ◌≤◌, false, IfOk, IfErr, OnOk, None, Some};
 ghost use Rattle.text_lines.specs.Words.{words, word_at, number_at};
-ghost use Rattle.text_scripts.specs.script_read.Statements.{place, rest_fault, said, statuses_of};
-ghost use Rattle.text_scripts.specs.script_read.Drafts.{IsPlaced, Fits, timer_fault, statuses_fault};
+ghost use Rattle.text_scripts.specs.script_read.Statements.{place, rest_fault, said, infers_of, statuses_of};
+ghost use Rattle.text_scripts.specs.script_read.Drafts.{IsPlaced, Fits, sink_fault, timer_fault, statuses_fault};
 ghost use Rattle.law_model.specs.Common.{IsStatuses};
 
 use crate::script_read::script_draft::{Draft, Statement};
@@ -10,6 +10,32 @@ use crate::script_read::script_fault::LineFault;
 use crate::script_read::script_keyword::Keyword;
 use crate::script_read::word_count_fault::count_fault;
 use text_lines::{FieldFault, Names, number_within, one_word};
+
+// Whether the sink goes on without some control packets, where no line says it already.
+fn read_sink(rest: &[u8], stands: bool) -> Result<bool, LineFault>
+    ensures ok { IfOk result (λ infers. (sink_fault stands (words rest.now) ≡ None)
+        × (infers_of (word_at 0 (words rest.now)) ≡ Some infers)) }
+    ensures first { OnOk result (stands ≡ false) }
+    ensures err { IfErr result (λ fault. sink_fault stands (words rest.now) ≡ Some fault) }
+{
+    let Some(word) = one_word(rest) else {
+        return Err(count_fault(Keyword::Sink, 1, rest));
+    };
+    let infers = if word == b"stops".as_slice() {
+        false
+    } else if word == b"infers".as_slice() {
+        true
+    } else {
+        return Err(LineFault::Field(FieldFault::Name {
+            word: 2,
+            names: Names::Sinks,
+        }));
+    };
+    if stands {
+        return Err(LineFault::Twice(Keyword::Sink));
+    }
+    Ok(infers)
+}
 
 // The packets of a timer, up to `most`, where its option doesn't stand already.
 fn read_timer(keyword: Keyword, rest: &[u8], most: u64, stands: bool) -> Result<u64, LineFault>
@@ -72,6 +98,7 @@ pub(super) fn read_option(
         rest_fault draft.now keyword (words rest.now) ≡ Some fault) }
 {
     match keyword {
+        Keyword::Sink => Ok(Statement::Sink(read_sink(rest, draft.has_sink)?)),
         Keyword::Holdoff => {
             let packets = read_timer(Keyword::Holdoff, rest, 5_000, draft.has_holdoff)?;
             Ok(Statement::Holdoff(packets as u16))

@@ -132,7 +132,7 @@ fn read_setting(
         Keyword::Ticks => Ok(Statement::Ticks(
             one_number(Keyword::Ticks, rest, 1, 1_000_000)? as u32,
         )),
-        Keyword::Holdoff | Keyword::Restore | Keyword::Statuses => {
+        Keyword::Sink | Keyword::Holdoff | Keyword::Restore | Keyword::Statuses => {
             Ok(read_option(draft, keyword, rest)?)
         }
         Keyword::Fail => {
@@ -169,6 +169,7 @@ fn read_rest(
         | Keyword::Ring
         | Keyword::Lag
         | Keyword::Ticks
+        | Keyword::Sink
         | Keyword::Holdoff
         | Keyword::Restore
         | Keyword::Statuses

@@ -19,6 +19,8 @@ pub(super) enum Statement {
     Lag(u16),
     /// The number of ticks.
     Ticks(u32),
+    /// Whether the sink goes on without some control packets.
+    Sink(bool),
     /// The hold-off in packets.
     Holdoff(u16),
     /// The wait to restore in packets.
@@ -50,7 +52,9 @@ pub(super) struct Draft {
     pub frame_due: u32,
     /// The due tick of the last command.
     pub command_due: u32,
-    /// Whether the option stands that says the hold-off.
+    /// Whether the option stands that says what the sink does.
+    pub has_sink: bool,
+    /// Whether that stands which says the hold-off.
     pub has_holdoff: bool,
     /// Whether that stands which says the wait to restore.
     pub has_restore: bool,

@@ -21,6 +21,8 @@ pub enum Keyword {
     Lag,
     /// The number of ticks.
     Ticks,
+    /// What the sink does without some control packets.
+    Sink,
     /// The hold-off.
     Holdoff,
     /// The wait to restore.
@@ -81,7 +83,9 @@ impl Keyword {
     fn of_option(word: &[u8]) -> Option<Keyword>
         ensures { result ≡ option_keyword word.now }
     {
-        if word == b"holdoff".as_slice() {
+        if word == b"sink".as_slice() {
+            Some(Keyword::Sink)
+        } else if word == b"holdoff".as_slice() {
             Some(Keyword::Holdoff)
         } else if word == b"restore".as_slice() {
             Some(Keyword::Restore)
@@ -148,7 +152,7 @@ impl Keyword {
             Keyword::Ring => 3,
             Keyword::Lag => 4,
             Keyword::Ticks => 5,
-            Keyword::Holdoff | Keyword::Restore | Keyword::Statuses => 6,
+            Keyword::Sink | Keyword::Holdoff | Keyword::Restore | Keyword::Statuses => 6,
             Keyword::Fail | Keyword::Lost => 7,
             Keyword::Frame | Keyword::Add | Keyword::Remove => 8,
             Keyword::Client
