@@ -2,3 +2,4 @@ pub mod WindowLaws
 pub mod DamageLaws
 pub mod FaultLaws
 pub mod SlipLaws
+pub mod OpenLaws

@@ -1,3 +1,4 @@
 pub mod PathLaws
 pub mod StandsLaws
 pub mod EndLaws
+pub mod AgreeLaws

@@ -3,6 +3,7 @@ use Rattle.std.specs.Prelude.{◌≡◌, ℕ, suc, ◌+◌, ◌-◌, ◌<◌, �
 use Rattle.law_model.specs.Common.{Container, Cell, cells}
 use Rattle.law_model.specs.declared.window_types.Window.{Window}
 use Rattle.law_model.specs.members.Damage.{carried}
+use Rattle.member_path.specs.failure_window.Open.{opened_at, closed_at}
 
 -- what a line holds: its delay in containers, its windows and how many containers it carries in all; the containers
 -- that are on
@@ -45,6 +46,24 @@ and_flush calls = record {
   containers = calls.containers;
   flushes = suc calls.flushes;
 }
+
+-- the same calls on a line with other windows
+abbrev pub with_windows : Calls → List Window → Calls
+with_windows calls windows = record {
+  delay = calls.delay;
+  windows = windows;
+  total = calls.total;
+  containers = calls.containers;
+  flushes = calls.flushes;
+}
+
+-- the containers from a number on are damaged
+abbrev pub and_cut : Calls → ℕ → Calls
+and_cut calls first = with_windows calls (opened_at calls.windows first calls.total)
+
+-- those from a number on are no longer
+abbrev pub and_mend : Calls → ℕ → Calls
+and_mend calls end = with_windows calls (closed_at calls.windows end)
 
 -- each push and each flush is a carry
 abbrev pub carries_of : Calls → ℕ

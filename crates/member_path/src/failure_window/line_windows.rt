@@ -1,11 +1,12 @@
-//! A list of windows without a fault.
-ghost use Rattle.std.specs.Prelude.{◌≡◌, ◌+◌, ◌<◌, ◌≤◌, nat_lt, if◌then◌else◌, List, length, IfOk, IfSome, IfNone};
-ghost use Rattle.std.specs.Prelude.{IsOkUnless};
+//! A list of windows without a fault, which may grow.
+ghost use Rattle.std.specs.Prelude.{◌≡◌, ◌+◌, ◌<◌, ◌≤◌, ◌↔◌, nat_lt, if◌then◌else◌, List, length, IfOk, IfSome};
+ghost use Rattle.std.specs.Prelude.{IfNone, IsTrue, IsOkUnless, vec_capacity};
 ghost use Rattle.law_model.specs.Common.{carried_in, AreWindows, slip_of};
 ghost use Rattle.law_model.specs.declared.window_types.Window.{Window};
 ghost use Rattle.law_model.specs.members.Damage.{carried};
 ghost use Rattle.member_path.specs.failure_window.Above.{IsFirstAbove};
 ghost use Rattle.member_path.specs.failure_window.Fault.{window_fault};
+ghost use Rattle.member_path.specs.failure_window.Open.{AreKept, CanClose, closed_at, last_end, opened_at};
 
 use crate::failure_window::window_fault::{WindowFault, first_fault};
 use law_model::{Carried, Window};
@@ -15,7 +16,11 @@ use std::marker::Model;
 // Windows are near where fewer containers lie between them.
 const NEAR: u32 = 17;
 
-/// The failures of a line: its windows, in the order of their containers. A contract sees the list.
+// How many windows a line has room for.
+const ROOM: usize = 256;
+
+/// The failures of a line: its windows, in the order of their containers. A contract sees the list. Only its
+/// making takes memory.
 #[derive(Drop)]
 pub struct Windows {
     list: Vec<Window>,
@@ -26,7 +31,7 @@ impl Model for Windows {
 
     ghost view = { λ windows. windows.list.items };
 
-    ghost invariant = { λ windows. AreWindows 0 windows.list.items };
+    ghost invariant = { λ windows. AreKept windows.list.items (vec_capacity windows.list) };
 }
 
 impl Windows {
@@ -61,6 +66,64 @@ impl Windows {
         ensures apart { AreWindows 0 self.now }
     {
         greatest_slip(&self.list)
+    }
+
+    /// How many windows there are.
+    pub fn count(&self) -> usize
+        ensures { result ≡ length self.now }
+    {
+        self.list.len()
+    }
+
+    /// Where the last window ends: 0, if there is none.
+    pub fn last_end(&self) -> u32
+        ensures { result ≡ last_end self.now }
+    {
+        match self.list.last() {
+            Some(window) => window.end,
+            None => 0,
+        }
+    }
+
+    /// Whether the last window may be closed at container `n`.
+    pub fn can_close(&self, n: u32) -> bool
+        ensures { IsTrue result ↔ CanClose self.now n }
+    {
+        match self.list.last() {
+            Some(window) => window.first <= n && n < window.end && window.slip == 0,
+            None => false,
+        }
+    }
+
+    /// Puts a window from container `first` on at the end of the list. Until it is closed it lasts as long as
+    /// its line, which carries `total` containers in all, so that no limit on lines has to be known here.
+    pub fn open(&mut self, first: u32, total: u32)
+        requires few { length self.old < 256 }
+        requires after { last_end self.old ≤ first }
+        requires some { first < total }
+        ensures { self.new ≡ opened_at self.old first total }
+    {
+        self.list.push_reserved(Window {
+            first,
+            end: total,
+            slip: 0,
+        });
+    }
+
+    /// Ends the last window at container `end`, and takes it away if that is its first one.
+    pub fn close(&mut self, end: u32)
+        requires { CanClose self.old end }
+        ensures { self.new ≡ closed_at self.old end }
+    {
+        if let Some(Window { first, .. }) = self.list.pop() {
+            if first < end {
+                self.list.push_reserved(Window {
+                    first,
+                    end,
+                    slip: 0,
+                });
+            }
+        }
     }
 }
 
@@ -119,11 +182,12 @@ fn carried_in_window(window: &Window, n: u32) -> Carried
     }
 }
 
-// A list of one's own.
+// A list of one's own, with room for each window that a line may have.
 fn copied(alloc: Global, list: &[Window]) -> Result<Vec<Window>, AllocError>
-    ensures { IfOk result (λ copy. copy.items ≡ list.now) }
+    ensures items { IfOk result (λ copy. copy.items ≡ list.now) }
+    ensures room { IfOk result (λ copy. 256 ≤ vec_capacity copy) }
 {
-    let mut copy = Vec::new(alloc);
+    let mut copy = Vec::with_capacity(alloc, ROOM)?;
     copy.extend_from_slice(list)?;
     Ok(copy)
 }

@@ -1,10 +1,11 @@
 //! What the definitions of windows mean, apart from how they are computed.
-ghost use Rattle.std.specs.Prelude.{◌≡◌, ◌↔◌, ℕ, ◌-◌, ◌<◌, ◌≤◌, false, List, ◌++◌, Contains, sum_by, None};
+ghost use Rattle.std.specs.Prelude.{◌≡◌, ◌↔◌, ℕ, ◌-◌, ◌<◌, ◌≤◌, false, List, ◌++◌, length, Contains, sum_by, None};
 ghost use Rattle.law_model.specs.Common.{is_damaged, AreWindows, slip_of};
 ghost use Rattle.law_model.specs.declared.window_types.Window.{Window};
 ghost use Rattle.law_model.specs.members.Damage.{carried};
 ghost use Rattle.member_path.specs.failure_window.Fault.{window_fault};
 ghost use Rattle.member_path.specs.failure_window.Near.{IsRun};
+ghost use Rattle.member_path.specs.failure_window.Open.{CanClose, closed_at, failure, last_end, opened_at};
 
 use law_model::Carried;
 
@@ -35,4 +36,41 @@ pub fn slip_law()
         (before : List Window) × (run : List Window) × (later : List Window) ×
         (windows ≡ before ++ (run ++ later)) × IsRun run ×
         (slip_of windows ≡ sum_by (λ window. window.slip) run) }
+{}
+
+/// From the first container of a window that is opened on, containers fail as long as the line lasts; else
+/// nothing changes. The list stays without a fault, and the slip of the line the same.
+pub fn open_law()
+    ensures before { (windows : List Window) (first total t : ℕ) → t < first →
+        carried (opened_at windows first total) t ≡ carried windows t }
+    ensures fails { (windows : List Window) (first total t : ℕ) → AreWindows 0 windows →
+        last_end windows ≤ first → first ≤ t → t < total →
+        carried (opened_at windows first total) t ≡ Carried.Fails }
+    ensures beyond { (windows : List Window) (first total t : ℕ) → total ≤ t →
+        carried (opened_at windows first total) t ≡ carried windows t }
+    ensures apart { (windows : List Window) (first total : ℕ) → AreWindows 0 windows →
+        last_end windows ≤ first → first < total → AreWindows 0 (opened_at windows first total) }
+    ensures slip { (windows : List Window) (first total : ℕ) →
+        slip_of (opened_at windows first total) ≡ slip_of windows }
+    ensures runs { (windows : List Window) (first total n : ℕ) → first ≤ n → n < total →
+        CanClose (opened_at windows first total) n }
+{}
+
+/// Below the container at which a window is closed nothing changes, and from there on containers arrive. What was
+/// opened and is closed is the window between, if that has a container.
+pub fn close_law()
+    ensures before { (windows : List Window) (end t : ℕ) → CanClose windows end → t < end →
+        carried (closed_at windows end) t ≡ carried windows t }
+    ensures whole { (windows : List Window) (end t : ℕ) → AreWindows 0 windows →
+        CanClose windows end → end ≤ t → carried (closed_at windows end) t ≡ Carried.Whole }
+    ensures apart { (windows : List Window) (end : ℕ) → AreWindows 0 windows →
+        CanClose windows end → AreWindows 0 (closed_at windows end) }
+    ensures slip { (windows : List Window) (end : ℕ) → CanClose windows end →
+        slip_of (closed_at windows end) ≡ slip_of windows }
+    ensures last { (windows : List Window) (end : ℕ) → AreWindows 0 windows →
+        CanClose windows end → last_end (closed_at windows end) ≤ end }
+    ensures count { (windows : List Window) (end : ℕ) →
+        length (closed_at windows end) ≤ length windows }
+    ensures opened { (windows : List Window) (first total end : ℕ) →
+        closed_at (opened_at windows first total) end ≡ windows ++ failure first end }
 {}

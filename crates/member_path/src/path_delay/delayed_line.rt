@@ -1,10 +1,11 @@
 //! A line with its delay and its windows.
 ghost use Rattle.std.specs.Prelude.{◌≡◌, ◌≢◌, ◌-◌, ◌<◌, ◌≤◌, ◌↔◌, ◌++◌, IfOk, Some, IfSome, IfNone, IsTrue};
-ghost use Rattle.std.specs.Prelude.{Contains};
+ghost use Rattle.std.specs.Prelude.{Contains, length};
 ghost use Rattle.law_model.specs.members.Damage.{carried};
+ghost use Rattle.member_path.specs.failure_window.Open.{CanClose, closed_at, last_end, opened_at};
 ghost use Rattle.member_path.specs.path_delay.Carry.{carry_cells};
 ghost use Rattle.member_path.specs.path_delay.Line.{Line, IsLine, Calls, opened, and_push, and_flush, path_cells, DelayStands, Counts};
-ghost use Rattle.member_path.specs.path_delay.Line.{IsEnded};
+ghost use Rattle.member_path.specs.path_delay.Line.{IsEnded, and_cut, and_mend};
 
 use crate::cell_numbers::CellSign;
 use crate::failure_window::Windows;
@@ -127,6 +128,44 @@ impl LineCore {
         } else {
             None
         }
+    }
+
+    /// Damages the containers from number `first` on, of which none was pushed yet, until the line is mended. What
+    /// is on its way comes out as it would have.
+    pub fn cut(&mut self, first: u32)
+        requires few { length self.old.windows < 256 }
+        requires after { last_end self.old.windows ≤ first }
+        requires left { first < self.old.total }
+        requires pushed { self.old.pushed ≤ first }
+        ensures line { self.new ≡ record self.old {
+          windows = opened_at self.old.windows first self.old.total;
+        } }
+        ensures stands { (calls : Calls) → DelayStands self.old calls →
+            DelayStands self.new (and_cut calls first) }
+        ensures cells { (calls : Calls) → DelayStands self.old calls →
+            path_cells (and_cut calls first) ≡ path_cells calls }
+    {
+        self.windows.open(first, self.total);
+    }
+
+    /// Damages the containers from number `end` on no longer, of which none was pushed yet.
+    pub fn mend(&mut self, end: u32)
+        requires cut { CanClose self.old.windows end }
+        requires pushed { self.old.pushed ≤ end }
+        ensures line { self.new ≡ record self.old { windows = closed_at self.old.windows end } }
+        ensures stands { (calls : Calls) → DelayStands self.old calls →
+            DelayStands self.new (and_mend calls end) }
+        ensures cells { (calls : Calls) → DelayStands self.old calls →
+            path_cells (and_mend calls end) ≡ path_cells calls }
+    {
+        self.windows.close(end);
+    }
+
+    /// The windows so far, which say whether the line may be cut or mended.
+    pub fn windows(&self) -> &Windows
+        ensures { result.now ≡ self.now.windows }
+    {
+        &self.windows
     }
 
     /// Whether all containers were pushed.

@@ -17,6 +17,7 @@ use Rattle.member_path.specs.path_delay.Carry.{carry_cells}
 use Rattle.member_path.specs.cell_numbers.Told.{cell_with}
 use Rattle.member_path.specs.path_delay.Line.{Line, Calls, opened, carries_of, path_cells, DelayStands}
 use Rattle.walk_engine.specs.Common.{Ringed, cell_in, cell_at, with_sign, count_of, Has}
+use Rattle.walk_engine.specs.walk_parts.Ringed.{IsRinged}
 
 -- two numbers less than r apart differ modulo r
 mod-apart : (r y d : ℕ) → 0 < d → d < r → (y + d) % r ≡ y % r → ⊥
@@ -139,6 +140,49 @@ has-more line core calls more carry place signs places count has some beside roo
           has.holds carry y cell low
           (omega (arith, under, counts)) (sym (ap (λ xs. slice_get xs y) grows) ∙ told);
     }
+
+-- the ring holds what it held where the line gave the same cells by other calls
+pub has-same : (line : Ringed) (core : Line) (calls more : Calls) → Has line calls → DelayStands core more →
+    carries_of more ≡ carries_of calls → path_cells more ≡ path_cells calls →
+    Has (record {
+      core = core;
+      signs = line.signs;
+      places = line.places;
+      carried = line.carried;
+      given = line.given;
+      popped = line.popped;
+    }) more
+has-same line core calls more has stands made same = record {
+  core = stands;
+  carried = has.carried ∙ sym made;
+  given = has.given ∙ sym (ap length same);
+  holds = λ y cell low under told. has.holds y cell low under (sym (ap (λ xs. slice_get xs y) same) ∙ told);
+}
+
+-- other windows change no count
+pub ringed-same : (line : Ringed) (core : Line) (windows : List Window) → IsRinged line →
+    core ≡ record line.core { windows = windows } →
+    IsRinged (record {
+      core = core;
+      signs = line.signs;
+      places = line.places;
+      carried = line.carried;
+      given = line.given;
+      popped = line.popped;
+    })
+ringed-same line core windows is same =
+    rw same (record {
+      some = is.some;
+      beside = is.beside;
+      pops = is.pops;
+      room = is.room;
+      gives = is.gives;
+      carries = is.carries;
+      pushes = is.pushes;
+      flushes = is.flushes;
+      total = is.total;
+      delay = is.delay;
+    })
 
 -- the two places that change their boxes hold no cell
 pub has-changed : (line : Ringed) (calls : Calls) (places : List Container) → Has line calls → 0 < length line.signs →

@@ -3,7 +3,9 @@
 ghost use Rattle.std.specs.Prelude.{◌≡◌, ◌≢◌, ℕ, ◌+◌, ◌-◌, ◌<◌, ◌≤◌, ◌↔◌, true, List, length, drop, slice_get};
 ghost use Rattle.std.specs.Prelude.{slice_set, IfOk, IsTrue, is_some, option_map};
 ghost use Rattle.law_model.specs.Common.{Container, Cell, AreWindows, verdict, first_open};
+ghost use Rattle.member_path.specs.failure_window.Open.{CanClose, last_end};
 ghost use Rattle.member_path.specs.path_delay.Line.{Calls, opened, and_push, and_flush, path_cells, IsEnded};
+ghost use Rattle.member_path.specs.path_delay.Line.{and_cut, and_mend};
 ghost use Rattle.member_path.specs.cell_numbers.Told.{cell_with, cell_of};
 ghost use Rattle.member_rows.specs.realign_rows.Gather.{GatherStands as Gathers, line_count, IsOpenAt};
 ghost use Rattle.walk_engine.specs.walk_parts.Ringed.{Ringed, ring_of, Has, popped_cells, IsNext, IsPopped};
@@ -171,6 +173,44 @@ impl WalkLine {
         let carry = self.core.flush(&mut self.places[slot]);
         self.carried += 1;
         self.given += keep(&mut self.signs, slot, carry);
+    }
+
+    /// Damages the containers from number `first` on, of which none was pushed yet, until the line is mended. What
+    /// is on its way, and what waits in the ring, stays as it is.
+    pub fn cut(&mut self, first: u32)
+        requires few { length self.old.core.windows < 256 }
+        requires after { last_end self.old.core.windows ≤ first }
+        requires left { first < self.old.core.total }
+        requires pushed { self.old.core.pushed ≤ first }
+        ensures has { (calls : Calls) → Has self.old calls → Has self.new (and_cut calls first) }
+        ensures cells { (calls : Calls) → Has self.old calls →
+            path_cells (and_cut calls first) ≡ path_cells calls }
+        ensures ring { ring_of self.new ≡ ring_of self.old }
+        ensures carried { self.new.carried ≡ self.old.carried }
+        ensures popped { self.new.popped ≡ self.old.popped }
+    {
+        self.core.cut(first);
+    }
+
+    /// Damages the containers from number `end` on no longer, of which none was pushed yet.
+    pub fn mend(&mut self, end: u32)
+        requires cut { CanClose self.old.core.windows end }
+        requires pushed { self.old.core.pushed ≤ end }
+        ensures has { (calls : Calls) → Has self.old calls → Has self.new (and_mend calls end) }
+        ensures cells { (calls : Calls) → Has self.old calls →
+            path_cells (and_mend calls end) ≡ path_cells calls }
+        ensures ring { ring_of self.new ≡ ring_of self.old }
+        ensures carried { self.new.carried ≡ self.old.carried }
+        ensures popped { self.new.popped ≡ self.old.popped }
+    {
+        self.core.mend(end);
+    }
+
+    /// The windows of the line so far, which say whether it may be cut or mended.
+    pub fn windows(&self) -> &Windows
+        ensures { result.now ≡ self.now.core.windows }
+    {
+        self.core.windows()
     }
 
     /// Pops cells of line number `line` into `rows` until it decides the next row, or its ring is empty.

@@ -4,4 +4,7 @@ use Rattle.member_path.proofs.FailureWindowLaws.FaultLaws.{none-are}
 use Rattle.member_path.proofs.failure_window.line_windows.Windows.new.Goals as goal
 
 pub invariant_of-result : goal.invariant_of-result
-invariant_of-result c = rw c.in-Ok.ensures (none-are 0 0 c.args.list.now (sym c.first_fault.ensures ∙ c.in_default.is))
+invariant_of-result c = record {
+  apart = rw c.in-Ok.ensures.items (none-are 0 0 c.args.list.now (sym c.first_fault.ensures ∙ c.in_default.is));
+  room = c.in-Ok.ensures.room;
+}

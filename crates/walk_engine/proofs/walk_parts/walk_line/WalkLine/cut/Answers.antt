@@ -1,0 +1,19 @@
+-- The line gave the same cells, and the ring holds those that weren't popped.
+use Rattle.std.proofs.Common.{subst, sym, refl}
+use Rattle.member_path.specs.path_delay.Line.{and_cut}
+use Rattle.walk_engine.specs.Common.{Has}
+use Rattle.walk_engine.proofs.WalkPartsLaws.RingLaws.{has-same, ringed-same}
+use Rattle.walk_engine.proofs.walk_parts.walk_line.WalkLine.cut.Goals as goal
+
+pub invariant_of-self : goal.invariant_of-self
+invariant_of-self c = ringed-same _ c.cut.new.self _ c.self.invariant c.cut.ensures.line
+
+pub returns-clause-has : goal.returns-clause-has
+returns-clause-has c calls has =
+    let own = subst (λ line. Has line calls) (sym c.self.view_is) has in
+    has-same _ _ calls (and_cut calls c.args.first) own (c.cut.ensures.stands calls own.core) refl
+    (c.cut.ensures.cells calls own.core)
+
+pub returns-clause-cells : goal.returns-clause-cells
+returns-clause-cells c calls has =
+    let own = subst (λ line. Has line calls) (sym c.self.view_is) has in c.cut.ensures.cells calls own.core
