@@ -12,7 +12,7 @@ use Rattle.law_pair.proofs.WayLaws.{pair-turned}
 use Rattle.pair_engine.specs.declared.pair_way.PairWay.{PairWay}
 use Rattle.pair_engine.specs.Said.{Said}
 use Rattle.pair_engine.specs.Steps.{IsQuiet}
-use Rattle.pair_engine.specs.Ways.{leg_beside, pair_counts, StandsAs, Meets, IsWayBeside, IsPairWalk, AreBeside}
+use Rattle.pair_engine.specs.Ways.{leg_beside, pair_counts, StandsAs, LandedAs, Meets, IsWayBeside, IsPairWalk, AreBeside}
 
 -- ---- of a pair
 module _ (there back : PairWay) (walk : IsPairWalk there back) where
@@ -59,9 +59,10 @@ meets-same other other_rows script script_now rows rows_now ticks ticks_now said
 
 -- a way that moved so
 pub quiet-own : (other own now : PairWay) → IsWayBeside other own → IsQuiet own now →
-    StandsAs (leg_beside own other) now → IsWayBeside other now
-quiet-own other own now is quiet stands = record {
+    StandsAs (leg_beside own other) now → LandedAs (leg_beside own other) now → IsWayBeside other now
+quiet-own other own now is quiet stands landed = record {
   stands = subst (λ (x : Script). StandsAs (way_of x other.script) now) (sym quiet.script) stands;
+  landed = subst (λ (x : Script). LandedAs (way_of x other.script) now) (sym quiet.script) landed;
   meets = meets-same other.script other.core.sink.taken own.script now.script own.core.sink.taken now.core.sink.taken
       own.core.source.core.ticks now.core.source.core.ticks own.said now.said own.core.source.inbox
       now.core.source.inbox quiet.script quiet.said quiet.ticks quiet.inbox quiet.rows is.meets;
@@ -72,6 +73,7 @@ pub seen-other : (other own now : PairWay) → IsWayBeside own other → now.scr
     now.core.sink.taken ≡ own.core.sink.taken → IsWayBeside now other
 seen-other other own now is script rows = record {
   stands = subst (λ (x : Script). StandsAs (way_of other.script x) other) (sym script) is.stands;
+  landed = subst (λ (x : Script). LandedAs (way_of other.script x) other) (sym script) is.landed;
   meets = subst (λ n. Meets other.script now.script other.core.sink.taken n other.core.source.core.ticks other.said
       other.core.source.inbox) (sym rows)
       (subst (λ (x : Script). Meets other.script x other.core.sink.taken own.core.sink.taken

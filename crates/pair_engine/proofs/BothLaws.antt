@@ -1,5 +1,5 @@
 -- A tick of both ways.
-use Rattle.std.proofs.Common.{◌≡◌, ℕ, ◌+◌, Option, None, refl, sym, ◌∙◌, ap, subst, is_some}
+use Rattle.std.proofs.Common.{◌≡◌, ℕ, ◌+◌, ◌<◌, Option, None, refl, sym, ◌∙◌, ap, subst, is_some}
 use Rattle.law_model.specs.Common.{BackCell, Leg, Counts}
 use Rattle.law_model.specs.declared.control_packet.Packet.{Packet}
 use Rattle.law_model.specs.declared.walk_events.Event.TheVariants.{Tick}
@@ -8,7 +8,7 @@ use Rattle.law_model.specs.session.Scenario.{packets_in}
 use Rattle.terminal_source.specs.source_core.Terminal.{needed}
 use Rattle.law_walk.specs.Common.{walk_plan}
 use Rattle.terminal_group.specs.Inbox.{cell_for, rest_for}
-use Rattle.terminal_group.specs.Source.{early_in, missing_in}
+use Rattle.terminal_group.specs.Counted.{missing_from}
 use Rattle.law_pair.specs.Common.{way_of, tick_cause, tick_by, ticked, pair_plan, IsPairWalked}
 use Rattle.law_pair.specs.declared.pair_events.Way.{Way}
 use Rattle.law_pair.specs.declared.pair_events.PairEvent.TheVariants.{Tick as Tick_both}
@@ -21,7 +21,7 @@ use Rattle.pair_engine.specs.declared.pair_way.PairWay.{PairWay}
 use Rattle.pair_engine.specs.Said.{tells_next, told_now, left_untold}
 use Rattle.pair_engine.specs.Ways.{way_counts, pair_counts, IsWayBeside, IsPairWalk, AreBeside}
 use Rattle.pair_engine.proofs.BesideLaws.{seen-other, there-beside, back-beside}
-use Rattle.pair_engine.proofs.TickLaws.{early-free, cell-there, can-tick, tick-rows, tick-counts, tick-beside}
+use Rattle.pair_engine.proofs.TickLaws.{ticks-free, cell-there, can-tick, tick-rows, tick-counts, tick-beside}
 
 -- what a way tells, and what is left to tell
 abbrev pub telling_own : PairWay → Option Packet
@@ -54,12 +54,12 @@ module _ (own other : PairWay) (free : AreFree own other) (core : Parts) (same :
   pub stands-for : StandsForSome core
   stands-for = (leg, backs, subst (WayStands leg backs) (sym same) free.beside.own_way.stands)
 
-  pub early-for : early_in core.source ≡ None
-  early-for = ap (λ (p : Parts). early_in p.source) same
-      ∙ early-free own other free.beside free.own_free free.other_free
+  pub left-for : core.source.core.ticks < core.source.total
+  left-for = subst (λ (p : Parts). p.source.core.ticks < p.source.total) (sym same)
+      (ticks-free own other free.beside free.own_free free.other_free)
 
-  pub cell-for : missing_in core.source ≡ None
-  cell-for = ap (λ (p : Parts). missing_in p.source) same
+  pub cell-for : missing_from core.source ≡ None
+  cell-for = ap (λ (p : Parts). missing_from p.source) same
       ∙ cell-there own other free.beside free.own_free free.other_free
 
   pub has-ticked : (told : Option Packet) (cell : Option BackCell) (now : Parts) → told ≡ telling_own other →
@@ -69,14 +69,16 @@ module _ (own other : PairWay) (free : AreFree own other) (core : Parts) (same :
       now.source.inbox ≡ record core.source.inbox
       { cells = rest_for (is_some (needed core.source.core)) core.source.inbox.cells } →
       now.source.core.ticks ≡ core.source.core.ticks + 1 →
-      now ≡ record core { source = now.source; sent = now.sent } → HasTicked own other now
-  has-ticked told cell now is makes first boxed at rest =
+      now ≡ record core { source = now.source; sent = now.sent } →
+      now.source.landed ≡ core.source.landed → HasTicked own other now
+  has-ticked told cell now is makes first boxed at rest landed =
       let first_own = first
       ∙ ap (λ (p : Parts). cell_for (is_some (needed p.source.core)) p.source.inbox.cells) same in
       let boxed_own = boxed ∙ ap (λ (p : Parts). record p.source.inbox
       { cells = rest_for (is_some (needed p.source.core)) p.source.inbox.cells }) same in
       let at_own = at ∙ ap (λ (p : Parts). p.source.core.ticks + 1) same in
       let rest_own = rest ∙ ap (λ (p : Parts). record p { source = now.source; sent = now.sent }) same in
+      let landed_own = landed ∙ ap (λ (p : Parts). p.source.landed) same in
       let can = can-tick own other free.beside free.own_free free.other_free told cell is first_own in
       let made : Makes leg backs Tick own.core now Yes =
       subst (λ (p : Parts). Makes leg backs Tick p now Yes) same
@@ -84,10 +86,11 @@ module _ (own other : PairWay) (free : AreFree own other) (core : Parts) (same :
       (subst (λ (p : Parts). CanTick leg backs p told cell) (sym same) can)) in
       record {
         beside = tick-beside own other free.beside free.own_free free.other_free now Yes made at_own boxed_own
-            rest_own;
-        rows = tick-rows own other free.beside free.own_free free.other_free now Yes made at_own boxed_own rest_own;
+            rest_own landed_own;
+        rows = tick-rows own other free.beside free.own_free free.other_free now Yes made at_own boxed_own rest_own
+            landed_own;
         counts = tick-counts own other free.beside free.own_free free.other_free now Yes made at_own boxed_own
-            rest_own;
+            rest_own landed_own;
       }
 
 -- ---- of a pair

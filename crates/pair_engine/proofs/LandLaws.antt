@@ -10,17 +10,17 @@ use Rattle.law_model.specs.session.Scenario.{packets_in}
 use Rattle.std.specs.List.Sorted.{IsNonDecreasing}
 use Rattle.walk_engine.proofs.WalkCoreLaws.LandLaws.{land-moves}
 use Rattle.law_walk.specs.Common.{walk_plan}
-use Rattle.terminal_group.specs.Landed.{Landed}
 use Rattle.terminal_group.proofs.BareLaws.{bare-dues}
 use Rattle.law_pair.specs.Common.{way_of, left_after, first_due, land_first, land_item}
 use Rattle.walk_engine.specs.Common.{landing_of, answer_by, refusal_in_event, Parts, counts_of, Makes}
+use Rattle.walk_engine.specs.declared.walk_core.step_answers.Moved.{Moved}
 use Rattle.walk_engine.specs.declared.walk_core.step_answers.Moved.TheVariants.{Stalled}
 use Rattle.walk_engine.specs.walk_core.Parts.{WayStands}
 use Rattle.pair_engine.specs.declared.next_items.NextItem.{NextItem}
 use Rattle.pair_engine.specs.declared.pair_way.PairWay.{PairWay}
 use Rattle.pair_engine.specs.Moved.{refusal_by, next_refusal}
 use Rattle.pair_engine.specs.Steps.{due_by, due_of_next, AreInOrder, Goes}
-use Rattle.pair_engine.specs.Ways.{way_counts, StandsAs}
+use Rattle.pair_engine.specs.Ways.{way_counts, StandsAs, LandedAs}
 
 -- ---- in numbers
 first-early : (s : Counts) (client : Bool) (due : ℕ) → s.ticks < due →
@@ -50,17 +50,23 @@ refusal-is leg s true due = refl
 refusal-is leg s false due = refl
 
 -- ---- of a way
-module _ (own : PairWay) (other : Script) (stands : StandsAs (way_of own.script other) own) (found : Option NextItem)
-    (landing : Landed) (same : landing ≡ own.core.source.landed)
-    (first : AreInOrder landing.items →
-    due_of_next found ≡ first_due (left_after landing.frames landing.commands (dues_of landing.items))) where
+-- an item of it has landed, or not
+pub record GoesOn (leg : Leg) (core : Parts) (next : Step) (why : Option Refusal) (answer : Moved) : Type 0 where
+  pub stands : WayStands leg (packets_in core.sink.taken) core
+  pub counts : counts_of core (packets_in core.sink.taken) ≡ next.counts
+  pub moved : answer ≡ answer_by next.cause why
+
+module _ (own : PairWay) (other : Script) (stands : StandsAs (way_of own.script other) own)
+    (known : LandedAs (way_of own.script other) own) (found : Option NextItem)
+    (first : AreInOrder own.landing.items → due_of_next found
+    ≡ first_due (left_after own.landing.frames own.landing.commands (dues_of own.landing.items))) where
   abbrev leg : Leg
   leg = way_of own.script other
 
-  dues-same : dues_of landing.items ≡ dues_of own.script.items
-  dues-same = ap (λ (l : Landed). dues_of l.items) same ∙ ap dues_of stands.landed.items ∙ bare-dues own.script.items
+  dues-same : dues_of own.landing.items ≡ dues_of own.script.items
+  dues-same = ap dues_of known.items ∙ bare-dues own.script.items
 
-  in-order : AreInOrder landing.items
+  in-order : AreInOrder own.landing.items
   in-order = (
     subst (λ dues. IsNonDecreasing (frame_dues dues)) (sym dues-same) stands.sound.items.frames,
     subst (λ dues. IsNonDecreasing (command_dues dues)) (sym dues-same) stands.sound.items.commands,
@@ -69,9 +75,11 @@ module _ (own : PairWay) (other : Script) (stands : StandsAs (way_of own.script 
   pub first-of : first_due (left_after own.core.source.landed.frames own.core.source.landed.commands
       (dues_of own.script.items)) ≡ due_of_next found
   first-of =
-      sym (first in-order ∙ ap (λ (l : Landed). first_due (left_after l.frames l.commands (dues_of l.items))) same
+      sym (first in-order
+      ∙ ap (λ n. first_due (left_after n own.landing.commands (dues_of own.landing.items))) known.frames
+      ∙ ap (λ n. first_due (left_after own.core.source.landed.frames n (dues_of own.landing.items))) known.commands
       ∙ ap (λ dues. first_due (left_after own.core.source.landed.frames own.core.source.landed.commands dues))
-      (ap dues_of stands.landed.items ∙ bare-dues own.script.items))
+      dues-same)
 
   item-step : land_item (walk_plan (way_of own.script other)) (way_counts own)
       ≡ land_first (due_of_next found) (way_counts own)
@@ -85,6 +93,7 @@ module _ (own : PairWay) (other : Script) (stands : StandsAs (way_of own.script 
       (next_refusal (way_of own.script other) (way_counts own)) (Stalled cause)
   goes-same cause e = record {
     stands = stands;
+    landed = known;
     counts = sym (ap (λ (x : Step). x.counts) e);
     moved = sym (ap (λ (x : Step). answer_by x.cause (next_refusal leg (way_counts own))) e);
   }
@@ -107,7 +116,7 @@ module _ (own : PairWay) (other : Script) (stands : StandsAs (way_of own.script 
       (now : Parts) (why : Option Refusal) →
       Makes (way_of own.script other) (packets_in own.core.sink.taken) (landing_of next.client) own.core now
       (answer_by None why) → now.sink.taken ≡ own.core.sink.taken →
-      Goes (way_of own.script other) (record own { core = now })
+      GoesOn (way_of own.script other) now
       (land_item (walk_plan (way_of own.script other)) (way_counts own))
       (next_refusal (way_of own.script other) (way_counts own)) (answer_by None why)
   goes-landed next some late moves now why makes rows =

@@ -1,7 +1,7 @@
 -- A way before any event.
 use Rattle.std.proofs.Common.{◌≡◌, ◌-◌, ◌*◌, [], map, refl, sym, ◌∙◌, ap, subst, arith}
 use Rattle.std.specs.List.{range_with_len}
-use Rattle.law_model.specs.Common.{leg_of, Counts, begin, used_in, told_in}
+use Rattle.law_model.specs.Common.{Counts, begin, used_in, told_in}
 use Rattle.law_model.specs.declared.script_types.Script.{Script}
 use Rattle.law_model.specs.session.Scenario.{packets_in}
 use Rattle.terminal_group.specs.Inbox.{Inbox, empty_inbox}
@@ -9,18 +9,19 @@ use Rattle.law_walk.specs.Common.{said_packet, back_cell, walk_plan}
 use Rattle.law_pair.specs.Common.{IsWay, IsPair, way_of, pair_begin, pair_plan, IsPairWalked}
 use Rattle.law_pair.proofs.PairEndLaws.{pair-begins}
 use Rattle.law_pair.proofs.WayLaws.{way-sound}
-use Rattle.walk_engine.specs.Common.{IsAlike, counts_of}
+use Rattle.walk_engine.specs.Common.{HasLanded, IsAlike, counts_of}
 use Rattle.walk_engine.specs.walk_core.Parts.{WayStands}
+use Rattle.walk_engine.proofs.WalkCoreLaws.OpenLaws.{none-known}
 use Rattle.pair_engine.specs.declared.pair_way.PairWay.{PairWay}
 use Rattle.pair_engine.specs.Said.{Said, heard_in}
-use Rattle.pair_engine.specs.Ways.{way_counts, pair_counts, IsNewWay, Meets, IsWayBeside, IsPairWalk}
+use Rattle.pair_engine.specs.Ways.{way_counts, pair_counts, LandedAs, IsNewWay, Meets, IsWayBeside, IsPairWalk}
 
 -- ---- a script with twice the lag
 abbrev pub doubled : Script → Script
 doubled script = record script { config = record script.config { lag = 2 * script.config.lag } }
 
-pub way-alike : (script other : Script) → IsWay script → IsAlike (way_of script other) (leg_of (doubled script))
-way-alike script other is = record { sound = way-sound script other is; network = refl; items = refl }
+pub way-alike : (script other : Script) → IsWay script → IsAlike (way_of script other) (doubled script).config
+way-alike script other is = record { sound = way-sound script other is; network = refl }
 
 -- ---- nothing has moved
 module _ (script other : Script) (own : PairWay) (new : IsNewWay script own) where
@@ -60,6 +61,10 @@ module _ (script other : Script) (own : PairWay) (new : IsNewWay script own) whe
     stands = subst (λ n. WayStands (way_of own.script beside.script) n own.core) (sym no-packets)
         (subst (λ (x : Script). WayStands (way_of x beside.script) 0 own.core) (sym new.script_is)
         (new.core.stands beside.script));
+    landed = subst (λ (x : Script). LandedAs (way_of x beside.script) own) (sym new.script_is)
+        (subst (λ (x : Script). LandedAs (way_of script x) own) (sym is)
+        (subst (λ (s : Counts). HasLanded (way_of script other) s own.landing) (sym new-counts)
+        (none-known (way_of script other) own.landing new.landing)));
     meets = subst (λ (x : Script). Meets x beside.script own.core.sink.taken beside.core.sink.taken
         own.core.source.core.ticks own.said own.core.source.inbox) (sym new.script_is)
         (subst (λ (x : Script). Meets script x own.core.sink.taken beside.core.sink.taken

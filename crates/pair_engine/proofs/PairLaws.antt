@@ -81,7 +81,7 @@ module _ (there back : PairWay) (walk : IsPairWalk there back) (event : PairEven
           pair = subst (λ (x : Script). IsPair x back.script) (sym quiet.script) walk.pair;
           walked = walked-next there.script back.script now.script back.script (pair_counts there back)
               (pair_counts now back) event quiet.script refl counts walk.walked;
-          there_way = quiet-own back there now walk.there_way quiet goes.stands;
+          there_way = quiet-own back there now walk.there_way quiet goes.stands goes.landed;
           back_way = seen-other back there now walk.back_way quiet.script quiet.rows;
         };
         pair = paired-is there back now back
@@ -106,7 +106,7 @@ module _ (there back : PairWay) (walk : IsPairWalk there back) (event : PairEven
           walked = walked-next there.script back.script there.script now.script (pair_counts there back)
               (pair_counts there now) event refl quiet.script counts walk.walked;
           there_way = seen-other there back now walk.there_way quiet.script quiet.rows;
-          back_way = quiet-own there back now walk.back_way quiet goes.stands;
+          back_way = quiet-own there back now walk.back_way quiet goes.stands goes.landed;
         };
         pair = paired-is there back there now
             (pair_step (pair_plan there.script back.script) (pair_counts there back) event).counts refl quiet.script

@@ -16,6 +16,7 @@ use Rattle.law_progress.proofs.ReachLaws.{Leads-then}
 use Rattle.terminal_sink.specs.declared.sink_core.sink_terminal.TakeAnswer.{TakeAnswer}
 use Rattle.terminal_sink.specs.declared.sink_core.sink_terminal.TakeAnswer.TheVariants.{Taken, Waiting}
 use Rattle.terminal_sink.specs.sink_core.Given.{rows_taken}
+use Rattle.terminal_group.specs.declared.landed_counts.LandedCounts.{LandedCounts}
 use Rattle.terminal_group.specs.Inbox.{Inbox, with_come}
 use Rattle.law_walk.specs.Common.{walk_plan, IsWalked, popped_cells, said_packet, back_cell, delivered_of}
 use Rattle.law_walk.proofs.EndLaws.{counts-within}
@@ -25,13 +26,13 @@ use Rattle.law_pair.specs.Common.{way_of, take_said, take_one}
 use Rattle.law_pair.proofs.LinkLaws.{reads-told}
 use Rattle.law_pair.proofs.OneWayLaws.{take-leads}
 use Rattle.walk_engine.specs.Common.{answer_by, delivered_since, GivesRows, Parts, counts_of, line_counts, take_cause}
-use Rattle.walk_engine.specs.Common.{take_moved, said_at, take_by, Takes}
+use Rattle.walk_engine.specs.Common.{HasLanded, take_moved, said_at, take_by, Takes}
 use Rattle.walk_engine.specs.walk_core.Parts.{WayStands}
-use Rattle.walk_engine.proofs.WalkCoreLaws.EventLaws.{stands-back}
+use Rattle.walk_engine.proofs.WalkCoreLaws.EventLaws.{landing-stays, stands-back}
 use Rattle.pair_engine.specs.declared.pair_way.PairWay.{PairWay}
 use Rattle.pair_engine.specs.Said.{Said, untold_packets, heard_cells}
 use Rattle.pair_engine.specs.Steps.{TakesRow, EndsPacket, Hears}
-use Rattle.pair_engine.specs.Ways.{way_counts, StandsAs, Meets, IsWayBeside, AreBeside}
+use Rattle.pair_engine.specs.Ways.{way_counts, StandsAs, LandedAs, Meets, IsWayBeside, AreBeside}
 use Rattle.pair_engine.proofs.BesideLaws.{meets-same, seen-other}
 use Rattle.pair_engine.proofs.HeardLaws.{counts_with, said-size, heard-size}
 
@@ -204,13 +205,20 @@ module _ (own other : PairWay) (beside : AreBeside own other) (row : ℕ) (at_ro
         (takes : Takes (way_of own.script other.script) (packets_in own.core.sink.taken) own.core now answer)
         (rest : now ≡ record own.core { lines = now.lines; rows = now.rows; sink = now.sink; got = now.got }) where
       abbrev own_now : Said → PairWay
-      own_now said = record { script = own.script; core = now; said = said }
+      own_now said = record own { core = now; said = said }
 
       same-ticks : now.source.core.ticks ≡ own.core.source.core.ticks
       same-ticks = ap (λ (p : Parts). p.source.core.ticks) rest
 
       same-inbox : now.source.inbox ≡ own.core.source.inbox
       same-inbox = ap (λ (p : Parts). p.source.inbox) rest
+
+      landed-now : HasLanded (way_of own.script other.script) (counts_of now (packets_in now.sink.taken)) own.landing
+      landed-now =
+          let same : now.source.landed ≡ own.core.source.landed = ap (λ (p : Parts). p.source.landed) rest in
+          landing-stays leg s (counts_of now (packets_in now.sink.taken)) own.landing
+          (ap (λ (l : LandedCounts). l.frames) same) (ap (λ (l : LandedCounts). l.commands) same)
+          beside.own_way.landed
 
       inside : own.core.sink.taken < own.script.config.ticks
       inside = omega (arith, low, at_row)
@@ -240,6 +248,7 @@ module _ (own other : PairWay) (beside : AreBeside own other) (row : ℕ) (at_ro
           other_script = refl;
           own_way = record {
             stands = subst (λ n. WayStands leg (packets_in n) now) (sym rows-same) takes.makes.stands;
+            landed = landed-now;
             meets = meets-same other.script other.core.sink.taken own.script own.script own.core.sink.taken
                 now.sink.taken own.core.source.core.ticks now.source.core.ticks own.said own.said
                 own.core.source.inbox now.source.inbox refl refl same-ticks same-inbox rows-same
@@ -316,6 +325,7 @@ module _ (own other : PairWay) (beside : AreBeside own other) (row : ℕ) (at_ro
             other_script = refl;
             own_way = record {
               stands = stands-next;
+              landed = landed-now;
               meets = meets-same other.script other.core.sink.taken own.script own.script now.sink.taken
                   now.sink.taken own.core.source.core.ticks now.source.core.ticks own.said own.said
                   own.core.source.inbox now.source.inbox refl refl same-ticks same-inbox refl
@@ -324,6 +334,7 @@ module _ (own other : PairWay) (beside : AreBeside own other) (row : ℕ) (at_ro
             };
             other_way = record {
               stands = beside.other_way.stands;
+              landed = beside.other_way.landed;
               meets = heard-quiet other.script own.script other.core.sink.taken own.core.sink.taken now.sink.taken
                   other.core.source.core.ticks other.said other.core.source.inbox same-packets
                   beside.other_way.meets;
@@ -371,6 +382,7 @@ module _ (own other : PairWay) (beside : AreBeside own other) (row : ℕ) (at_ro
             beside = beside;
             script = refl;
             stands = stands-next;
+            landed = landed-now;
             ticks = same-ticks;
             was_row = sym at_row;
             row_is = rows-next ∙ ap (λ n. n + 1) (sym at_row);
@@ -380,6 +392,7 @@ module _ (own other : PairWay) (beside : AreBeside own other) (row : ℕ) (at_ro
           own-said : IsWayBeside other said_now
           own-said = record {
             stands = stands-next;
+            landed = landed-now;
             meets = meets-same other.script other.core.sink.taken own.script own.script
                 (own.core.sink.taken + 1) now.sink.taken own.core.source.core.ticks now.source.core.ticks
                 (record own.said { packets = own.said.packets ++ packet ∷ [] })
@@ -432,12 +445,15 @@ module _ (was own other : PairWay) (row : ℕ) (is : EndsPacket was own other ro
   early-heard low same = let at = packet-row.1 in omega (arith, low, at)
 
   beside-own : (core : Parts) (inbox : Inbox) →
-      StandsAs (way_of other.script was.script) (record { script = other.script; core = core; said = other.said }) →
+      StandsAs (way_of other.script was.script) (record other { core = core }) →
+      LandedAs (way_of other.script was.script) (record other { core = core }) →
       Meets other.script was.script core.sink.taken (row + 1) core.source.core.ticks other.said core.source.inbox →
-      IsWayBeside own (record { script = other.script; core = core; said = other.said })
-  beside-own core inbox stands meets = record {
+      IsWayBeside own (record other { core = core })
+  beside-own core inbox stands landed meets = record {
     stands = subst (λ (x : Script). StandsAs (way_of other.script x)
-        (record { script = other.script; core = core; said = other.said })) (sym is.script) stands;
+        (record other { core = core })) (sym is.script) stands;
+    landed = subst (λ (x : Script). LandedAs (way_of other.script x) (record other { core = core })) (sym is.script)
+        landed;
     meets = subst (λ n. Meets other.script own.script core.sink.taken n core.source.core.ticks other.said
         core.source.inbox) (sym is.row_is)
         (subst (λ (x : Script). Meets other.script x core.sink.taken (row + 1) core.source.core.ticks other.said
@@ -461,17 +477,18 @@ module _ (was own other : PairWay) (row : ℕ) (is : EndsPacket was own other ro
       record {
         script = refl;
         counts = refl;
-        beside = beside-own other.core other.core.source.inbox is.beside.other_way.stands (record {
-          packets = was-meets.packets;
-          room = was-meets.room;
-          heard = record {
-            lost = was-meets.heard.lost;
-            room = was-meets.heard.room;
-            come = was-meets.heard.come ∙ sym none;
-            tells = was-meets.heard.tells ∙ ap (λ n. map told_in (map (back_cell other_leg)
-                (range_with_len u (n - u)))) (sym none);
-          };
-        });
+        beside = beside-own other.core other.core.source.inbox is.beside.other_way.stands
+            is.beside.other_way.landed (record {
+              packets = was-meets.packets;
+              room = was-meets.room;
+              heard = record {
+                lost = was-meets.heard.lost;
+                room = was-meets.heard.room;
+                come = was-meets.heard.come ∙ sym none;
+                tells = was-meets.heard.tells ∙ ap (λ n. map told_in (map (back_cell other_leg)
+                    (range_with_len u (n - u)))) (sym none);
+              };
+            });
       }
 
   module _ (late : 16 * own.script.config.lag + 23 ≤ row) where
@@ -552,7 +569,7 @@ module _ (was own other : PairWay) (row : ℕ) (is : EndsPacket was own other ro
         told_in cell ≡ option_map told_by (leader row_read) →
         now ≡ record other.core
         { source = record other.core.source { inbox = with_come other.core.source.inbox cell } } →
-        Hears own other (record { script = other.script; core = now; said = other.said })
+        Hears own other (record other { core = now })
     hears-late cell row_read now reads told put =
         let other_lag : ℕ = other.script.config.lag in
         let ticks : ℕ = other.core.source.core.ticks in
@@ -563,13 +580,19 @@ module _ (was own other : PairWay) (row : ℕ) (is : EndsPacket was own other ro
         let now_is : now ≡ core =
         put ∙ ap (λ (i : Inbox). record other.core { source = record other.core.source { inbox = i } }) inbox_is in
         let (whole, more) = k-is in
-        subst (λ (p : Parts). Hears own other (record { script = other.script; core = p; said = other.said }))
+        subst (λ (p : Parts). Hears own other (record other { core = p }))
         (sym now_is) (record {
           script = refl;
           counts = refl;
           beside = beside-own core inbox
               (stands-back other_leg (packets_in other.core.sink.taken) (packets_in other.core.sink.taken) other.core
               inbox is.beside.other_way.stands is.beside.other_way.stands.walked)
+              (let has = is.beside.other_way.landed in record {
+                items = has.items;
+                frames = has.frames;
+                commands = has.commands;
+                refusals = has.refusals;
+              })
               (record {
                 packets = was-meets.packets;
                 room = was-meets.room;

@@ -1,6 +1,6 @@
 -- A tick of both ways, as one of them sees it.
 use Rattle.std.proofs.Common.{◌≡◌, ℕ, ◌+◌, ◌-◌, ◌*◌, ◌/◌, ◌%◌, ◌==◌, ◌&&◌, ◌<◌, ◌≤◌, nat_le, true, false, Bool}
-use Rattle.std.proofs.Common.{if◌then◌else◌, Option, Some, None, option_map, refl, sym, ◌∙◌, ap, subst, arith, inl, inr}
+use Rattle.std.proofs.Common.{if◌then◌else◌, Option, Some, None, refl, sym, ◌∙◌, ap, subst, arith, inl, inr}
 use Rattle.std.proofs.Common.{is_some, eqb-true, leb-true, leb-false, eq-eqb, le-leb}
 use Rattle.std.proofs.lemmas.Bool.{cases_Bool, cases_lt}
 use Rattle.law_model.specs.Common.{BackCell, Leg, scenario_by, untold, telling_at, passed_on, told_by, Counts, Step}
@@ -15,8 +15,9 @@ use Rattle.law_walk.proofs.EndLaws.{counts-within}
 use Rattle.law_walk.proofs.PlanLaws.{sound-walks}
 use Rattle.law_walk.proofs.ReturnLaws as return_laws
 use Rattle.terminal_group.specs.Inbox.{Inbox, cell_for, rest_for}
-use Rattle.terminal_group.specs.Source.{early_in, missing_by, missing_in}
-use Rattle.terminal_group.specs.declared.group_source.EarlyCause.TheVariants.{Held}
+use Rattle.terminal_group.specs.Counted.{missing_from}
+use Rattle.terminal_group.specs.declared.landed_counts.LandedCounts.{LandedCounts}
+use Rattle.terminal_group.specs.Source.{missing_by}
 use Rattle.law_pair.specs.Common.{way_of, is_unsaid, ticked}
 use Rattle.law_pair.proofs.HeardLaws as heard_laws
 use Rattle.law_pair.proofs.LinkLaws.{says-told}
@@ -24,7 +25,7 @@ use Rattle.law_pair.proofs.TickLaws.{IsFree, free-ticks}
 use Rattle.walk_engine.specs.Common.{Parts, counts_of, Makes, IsTold, CanTick}
 use Rattle.walk_engine.specs.declared.walk_core.step_answers.Moved.{Moved}
 use Rattle.walk_engine.specs.walk_core.Parts.{WayStands}
-use Rattle.walk_engine.proofs.WalkCoreLaws.TickLaws.{early-is}
+use Rattle.walk_engine.proofs.WalkCoreLaws.EventLaws.{landing-stays}
 use Rattle.pair_engine.specs.declared.pair_way.PairWay.{PairWay}
 use Rattle.pair_engine.specs.Said.{Said, tells_next, told_now, left_untold, untold_packets}
 use Rattle.pair_engine.specs.Ways.{way_counts, Meets, IsWayBeside, AreBeside}
@@ -106,11 +107,11 @@ module _ (own other : PairWay) (beside : AreBeside own other)
       (λ tells. (told-said lag (way_counts own) free.said tells).0)
 
   -- ---- before the frame
-  pub early-free : early_in own.core.source ≡ None
-  early-free =
-      let open_ = free.open_ in
-      let landed = free.landed in
-      early-is leg (packets_in own.core.sink.taken) own.core is ∙ rw open_ (ap (option_map Held) landed)
+  pub ticks-free : own.core.source.core.ticks < own.core.source.total
+  ticks-free =
+      let low = leb-false own.script.config.ticks own.core.source.core.ticks free.open_ in
+      let total = is.total in
+      omega (arith, low, total)
 
   low-rows : (other.core.sink.taken ≤ other.core.source.core.ticks)
       × (other.core.source.core.ticks ≤ other.script.config.ticks)
@@ -143,7 +144,7 @@ module _ (own other : PairWay) (beside : AreBeside own other)
       ))
       beside.own_way.meets.heard.tells
 
-  pub cell-there : missing_in own.core.source ≡ None
+  pub cell-there : missing_from own.core.source ≡ None
   cell-there =
       ap (λ n. missing_by (needed_at n own.core.source.core.ticks) own.core.source.inbox.cells) is.source.lag
       ∙ hears.there
@@ -234,7 +235,8 @@ module _ (own other : PairWay) (beside : AreBeside own other)
       (at : now.source.core.ticks ≡ own.core.source.core.ticks + 1)
       (boxed : now.source.inbox ≡ record own.core.source.inbox
       { cells = rest_for (is_some (needed own.core.source.core)) own.core.source.inbox.cells })
-      (rest : now ≡ record own.core { source = now.source; sent = now.sent }) where
+      (rest : now ≡ record own.core { source = now.source; sent = now.sent })
+      (landed : now.source.landed ≡ own.core.source.landed) where
     pub tick-rows : now.sink.taken ≡ own.core.sink.taken
     tick-rows = ap (λ (p : Parts). p.sink.taken) rest
 
@@ -270,13 +272,15 @@ module _ (own other : PairWay) (beside : AreBeside own other)
         left-room true said = refl
         left-room false said = refl
 
-    pub tick-beside : IsWayBeside other (record {
-      script = own.script;
+    pub tick-beside : IsWayBeside other (record own {
       core = now;
       said = left_untold (tells_next own.script.config.lag own.core.source.core.ticks) own.said;
     })
     tick-beside = record {
       stands = subst (λ n. WayStands leg (packets_in n) now) (sym tick-rows) makes.stands;
+      landed = landing-stays leg (way_counts own) (counts_of now (packets_in now.sink.taken)) own.landing
+          (ap (λ (l : LandedCounts). l.frames) landed) (ap (λ (l : LandedCounts). l.commands) landed)
+          beside.own_way.landed;
       meets = meets-same other.script other.core.sink.taken own.script own.script own.core.sink.taken
           now.sink.taken (own.core.source.core.ticks + 1) now.source.core.ticks
           (left_untold (tells_next own.script.config.lag own.core.source.core.ticks) own.said)

@@ -12,7 +12,7 @@ use Rattle.walk_engine.specs.declared.walk_core.step_answers.Moved.{Moved}
 use Rattle.law_pair.specs.Common.{take_one}
 use Rattle.pair_engine.specs.declared.next_items.NextItem.{NextItem}
 use Rattle.pair_engine.specs.declared.pair_way.PairWay.{PairWay}
-use Rattle.pair_engine.specs.Ways.{leg_beside, way_counts, StandsAs, IsWayBeside, AreBeside}
+use Rattle.pair_engine.specs.Ways.{leg_beside, way_counts, StandsAs, LandedAs, IsWayBeside, AreBeside}
 
 -- ---- the next item
 -- by its due tick
@@ -39,6 +39,7 @@ AreInOrder items = IsNonDecreasing (frame_dues (dues_of items)) × IsNonDecreasi
 -- it goes as the counts of its leg say, and leaves what they give
 pub record Goes (leg : Leg) (now : PairWay) (next : Step) (why : Option Refusal) (answer : Moved) : Type 0 where
   pub stands : StandsAs leg now
+  pub landed : LandedAs leg now
   pub counts : way_counts now ≡ next.counts
   pub moved : answer ≡ answer_by next.cause why
 
@@ -66,6 +67,7 @@ pub record EndsPacket (was own other : PairWay) (row : ℕ) : Type 0 where
   pub beside : AreBeside was other
   pub script : own.script ≡ was.script
   pub stands : StandsAs (leg_beside was other) own
+  pub landed : LandedAs (leg_beside was other) own
   pub ticks : own.core.source.core.ticks ≡ was.core.source.core.ticks
   pub was_row : was.core.sink.taken ≡ row
   pub row_is : own.core.sink.taken ≡ row + 1

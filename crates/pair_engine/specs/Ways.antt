@@ -5,9 +5,11 @@ use Rattle.law_model.specs.declared.script_types.Script.{Script}
 use Rattle.law_model.specs.session.Scenario.{packets_in}
 use Rattle.law_walk.specs.Common.{walk_plan}
 use Rattle.terminal_group.specs.Inbox.{Inbox, empty_inbox}
+use Rattle.terminal_group.specs.Item.{bare_items}
+use Rattle.terminal_group.specs.Landed.{none_landed}
 use Rattle.law_pair.specs.Common.{IsPair, way_of, PairCounts, IsPairWalked}
 use Rattle.walk_engine.specs.walk_core.Parts.{WayStands}
-use Rattle.walk_engine.specs.Common.{Parts, counts_of}
+use Rattle.walk_engine.specs.Common.{HasLanded, Parts, counts_of}
 use Rattle.pair_engine.specs.declared.pair_way.PairWay.{PairWay}
 use Rattle.pair_engine.specs.Said.{Said, untold_packets, HasHeard}
 
@@ -26,6 +28,10 @@ pair_counts there back = record { there = way_counts there; back = way_counts ba
 abbrev pub StandsAs : Leg → PairWay → Type 0
 StandsAs leg own = WayStands leg (packets_in own.core.sink.taken) own.core
 
+-- what has landed is the leg's
+abbrev pub LandedAs : Leg → PairWay → Type 0
+LandedAs leg own = HasLanded leg (way_counts own) own.landing
+
 -- ---- before any event
 -- the direction of a script, whatever the other script is
 pub record IsNewCore (script : Script) (core : Parts) : Type 0 where
@@ -35,6 +41,7 @@ pub record IsNewCore (script : Script) (core : Parts) : Type 0 where
 
 pub record IsNewWay (script : Script) (own : PairWay) : Type 0 where
   pub script_is : own.script ≡ script
+  pub landing : own.landing ≡ none_landed (bare_items script.items)
   pub core : IsNewCore script own.core
   pub said : own.said ≡ record { packets = []; room = script.config.lag }
 
@@ -49,6 +56,7 @@ pub record Meets (script other : Script) (rows other_rows ticks : ℕ) (said : S
 -- a way beside the other one
 pub record IsWayBeside (other own : PairWay) : Type 0 where
   pub stands : StandsAs (leg_beside own other) own
+  pub landed : LandedAs (leg_beside own other) own
   pub meets : Meets own.script other.script own.core.sink.taken other.core.sink.taken own.core.source.core.ticks
       own.said own.core.source.inbox
 

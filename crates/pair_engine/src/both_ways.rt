@@ -151,8 +151,8 @@ impl Pair {
             ≡ refusals_of (leg_on self.now way) (counts_on self.now.counts way) }
     {
         match way {
-            Way::There => self.there.core.landing().refusals(),
-            Way::Back => self.back.core.landing().refusals(),
+            Way::There => self.there.landing.refusals(),
+            Way::Back => self.back.landing.refusals(),
         }
     }
 

@@ -9,13 +9,14 @@ ghost use Rattle.walk_engine.specs.Common.{answer_by, StandsForSome};
 ghost use Rattle.pair_engine.specs.Moved.{next_refusal};
 ghost use Rattle.pair_engine.specs.Said.{tells_next, told_now, left_untold};
 ghost use Rattle.pair_engine.specs.Steps.{Goes, IsQuiet};
-ghost use Rattle.pair_engine.specs.Ways.{StandsAs, way_counts, IsNewCore, IsNewWay};
+ghost use Rattle.pair_engine.specs.Ways.{StandsAs, LandedAs, way_counts, IsNewCore, IsNewWay};
 
 use crate::next_items::{item_at, landed, next_item};
 use crate::said_packets::SaidRing;
 use law_model::{Script, StallCause};
 use member_rows::lcas_packet::Packet;
 use std::alloc::{AllocError, Global};
+use terminal_group::Landing;
 use walk_engine::walk_core::{Moved, WayCore};
 
 /// One way of a pair.
@@ -23,6 +24,8 @@ use walk_engine::walk_core::{Moved, WayCore};
 pub(crate) struct PairWay {
     /// Its script. Its direction has twice the lag.
     pub(crate) script: Script,
+    /// Which of its items have landed.
+    pub(crate) landing: Landing,
     /// Its direction.
     pub(crate) core: WayCore,
     /// The return packets that its sink has said and that no packet of the other way has told.
@@ -36,29 +39,36 @@ impl PairWay {
         ensures { IfOk result (λ own. IsNewWay script own) }
     {
         let said = SaidRing::new(alloc, script.config.lag)?;
+        let landing = Landing::of(alloc, &script)?;
         let (script, core) = open_core(alloc, script)?;
-        Ok(PairWay { script, core, said })
+        Ok(PairWay {
+            script,
+            landing,
+            core,
+            said,
+        })
     }
 
     /// Lands the next item, where there is one and it is due.
     pub(crate) fn land(&mut self) -> Moved
-        requires { (other : Script) × StandsAs (way_of self.old.script other) self.old }
+        requires { (other : Script) × StandsAs (way_of self.old.script other) self.old
+            × LandedAs (way_of self.old.script other) self.old }
         ensures goes { (other : Script) → StandsAs (way_of self.old.script other) self.old →
+            LandedAs (way_of self.old.script other) self.old →
             Goes (way_of self.old.script other) self.new
             (land_item (walk_plan (way_of self.old.script other)) (way_counts self.old))
             (next_refusal (way_of self.old.script other) (way_counts self.old)) result }
         ensures quiet { IsQuiet self.old self.new }
     {
-        let Some(next) = next_item(self.core.landing()) else {
+        let Some(next) = next_item(&self.landing) else {
             return Moved::Stalled(StallCause::Done);
         };
         if self.core.ticks() < next.due {
             return Moved::Stalled(StallCause::NotDue { due: next.due });
         }
-        landed(
-            self.core
-                .land(next.number, item_at(&self.script, next.number)),
-        )
+        let why = self.core.land(item_at(&self.script, next.number));
+        self.landing.land(next.client, next.number, why);
+        landed(why)
     }
 
     /// Makes a carry of a line.
@@ -66,6 +76,7 @@ impl PairWay {
         requires line { line < self.old.script.config.lines }
         requires stands { (other : Script) × StandsAs (way_of self.old.script other) self.old }
         ensures goes { (other : Script) → StandsAs (way_of self.old.script other) self.old →
+            LandedAs (way_of self.old.script other) self.old →
             Goes (way_of self.old.script other) self.new
             (carry (walk_plan (way_of self.old.script other)) (way_counts self.old) line)
             None result }
@@ -88,10 +99,10 @@ impl PairWay {
 
     /// An item is due now and hasn't landed.
     pub(crate) fn held(&self) -> Option<StallCause>
-        ensures { (other : Script) → StandsAs (way_of self.now.script other) self.now → result
+        ensures { (other : Script) → LandedAs (way_of self.now.script other) self.now → result
             ≡ held_at (walk_plan (way_of self.now.script other)) (way_counts self.now) }
     {
-        match self.core.landing().held(self.core.ticks()) {
+        match self.landing.held(self.core.ticks()) {
             Some(item) => Some(StallCause::Held { item }),
             None => None,
         }
@@ -172,7 +183,7 @@ fn open_core(alloc: Global, mut script: Script) -> Result<(Script, WayCore), All
 {
     let lag = script.config.lag;
     script.config.lag = 2 * lag;
-    let core = WayCore::new(alloc, &script)?;
+    let core = WayCore::new(alloc, &script.config)?;
     script.config.lag = lag;
     Ok((script, core))
 }

@@ -4,3 +4,4 @@ pub mod Lands
 pub mod Landed
 pub mod Inbox
 pub mod Source
+pub mod Counted

@@ -1,6 +1,6 @@
-//! The source side of a group: its terminal, what has landed, and the inbox.
+//! The source side of a group of which all items are known beforehand.
 
-ghost use Rattle.std.specs.Prelude.{◌≡◌, ◌+◌, ◌<◌, ◌≤◌, List, Option, None, Some, length, IsSome, IfOk};
+ghost use Rattle.std.specs.Prelude.{◌≡◌, ◌+◌, ◌<◌, List, Option, None, Some, length, IsSome, IfOk};
 ghost use Rattle.std.specs.Prelude.{is_some};
 ghost use Rattle.member_cells.specs.Held.{held};
 ghost use Rattle.law_model.specs.Common.{leg_of, Scenario, steps_in, Told, told_by, frame_of, IsValid};
@@ -13,15 +13,16 @@ ghost use Rattle.terminal_group.specs.Landed.{next_number, HasPassed};
 ghost use Rattle.terminal_group.specs.Inbox.{with_come, cell_for, rest_for};
 ghost use Rattle.terminal_group.specs.Source.{IsUnused, SameRest, SameScript, early_in, missing_in};
 
+use crate::counted_source::CountedSource;
 use crate::item_ref::ItemRef;
 use crate::landed_items::Landing;
 use crate::return_inbox::Inbox;
-use law_model::{Item, Refusal, Script};
+use law_model::{Refusal, Script};
 use member_cells::{BackCell, HeldContainer};
 use std::alloc::{AllocError, Global};
 use std::marker::Model;
 use terminal_source::lcas_source::SourceTable;
-use terminal_source::source_core::{Command, Packet, SourceCore};
+use terminal_source::source_core::Packet;
 
 /// Why a source makes no frame, before any ring is looked at.
 #[derive(Clone, Copy, Debug, PartialEq, Eq)]
@@ -40,22 +41,22 @@ pub enum EarlyCause {
 /// its making takes memory.
 #[derive(Drop)]
 pub struct GroupSource {
-    core: SourceCore,
-    /// How many ticks there are.
-    total: u32,
+    /// The same without the items.
+    source: CountedSource,
     landing: Landing,
-    inbox: Inbox,
 }
 
 impl Model for GroupSource {
-    ghost use Rattle.std.specs.Prelude.{◌≤◌};
     ghost use Rattle.terminal_group.specs.Source.{Source};
 
     ghost Value = { Source };
 
-    ghost view = { λ s. record { core = s.core; total = s.total; landed = s.landing; inbox = s.inbox } };
-
-    ghost invariant = { λ s. s.total ≤ 1000000 };
+    ghost view = { λ s. record {
+      core = s.source.core;
+      total = s.source.total;
+      landed = s.landing;
+      inbox = s.source.inbox;
+    } };
 }
 
 impl GroupSource {
@@ -65,16 +66,8 @@ impl GroupSource {
         ensures { IfOk result (λ source. IsUnused (leg_of script.now) source) }
     {
         Ok(GroupSource {
-            inbox: Inbox::new(alloc, lost_of(script), script.config.lag)?,
-            landing: Landing::new(alloc, items_of(script))?,
-            core: SourceCore::new(
-                alloc,
-                script.config.lines,
-                script.config.lag,
-                script.config.size,
-                script.config.options.statuses,
-            )?,
-            total: script.config.ticks,
+            landing: Landing::of(alloc, script)?,
+            source: CountedSource::new(alloc, &script.config)?,
         })
     }
 
@@ -82,14 +75,14 @@ impl GroupSource {
     pub fn ticks(&self) -> u32
         ensures { result ≡ self.now.core.ticks }
     {
-        self.core.ticks()
+        self.source.ticks()
     }
 
     /// How many ticks there are.
     pub fn total_ticks(&self) -> u32
         ensures { result ≡ self.now.total }
     {
-        self.total
+        self.source.total_ticks()
     }
 
     /// The table of the lines.
@@ -97,7 +90,7 @@ impl GroupSource {
         ensures table { result.now ≡ self.now.core.table }
         ensures steps { result.now.steps ≡ steps_in self.now.core.ticks }
     {
-        self.core.table()
+        self.source.table()
     }
 
     /// What has landed.
@@ -111,7 +104,7 @@ impl GroupSource {
     pub fn inbox(&self) -> &Inbox
         ensures { result.now ≡ self.now.inbox }
     {
-        &self.inbox
+        self.source.inbox()
     }
 
     /// Takes a return cell that has come, or its loss where a return window holds it.
@@ -120,24 +113,14 @@ impl GroupSource {
         requires few { self.old.inbox.come < 4294967295 }
         ensures { self.new ≡ record self.old { inbox = with_come self.old.inbox cell } }
     {
-        self.inbox.put(cell);
+        self.source.put(cell);
     }
 
     /// Why the source would refuse an item now, where it would.
     pub fn refusal(&self, item: ItemRef) -> Option<Refusal>
         ensures { result ≡ met_by self.now.core (kind_of item.entry) }
     {
-        match item {
-            ItemRef::Frame(octets) => self.core.frame_refusal(octets).map(Refusal::Frame),
-            ItemRef::Add(line) => self
-                .core
-                .command_refusal(Command::Add(line))
-                .map(Refusal::Command),
-            ItemRef::Remove(line) => self
-                .core
-                .command_refusal(Command::Remove(line))
-                .map(Refusal::Command),
-        }
+        self.source.refusal(item)
     }
 
     /// Lands an item, which is the next of its kind and has this number. Answers why it is refused, where it
@@ -157,7 +140,7 @@ impl GroupSource {
             self.old.landed.refusals self.new.landed.refusals }
         ensures rest { SameRest self.old self.new }
     {
-        let why = give(&mut self.core, item);
+        let why = self.source.land(item);
         self.landing.land(item.is_frame(), number, why);
         why
     }
@@ -166,8 +149,8 @@ impl GroupSource {
     pub fn early_cause(&self) -> Option<EarlyCause>
         ensures { result ≡ early_in self.now }
     {
-        let ticks = self.core.ticks();
-        if ticks >= self.total {
+        let ticks = self.source.ticks();
+        if ticks >= self.source.total_ticks() {
             return Some(EarlyCause::Done);
         }
         match self.landing.held(ticks) {
@@ -180,10 +163,7 @@ impl GroupSource {
     pub fn missing(&self) -> Option<u32>
         ensures { result ≡ missing_in self.now }
     {
-        match self.core.needs_back() {
-            Some(packet) if self.inbox.is_empty() => Some(packet),
-            _ => None,
-        }
+        self.source.missing()
     }
 
     /// Has the packets of the next decision step pass on a return packet that is said of the other way of a
@@ -198,7 +178,7 @@ impl GroupSource {
         ensures kind { SameKind self.new.core self.old.core }
         ensures rest { self.new ≡ record self.old { core = self.new.core } }
     {
-        self.core.tell(packet);
+        self.source.tell(packet);
     }
 
     /// Makes the next frame, a container for each line, and takes the return cell that it needs, where it needs one.
@@ -221,47 +201,6 @@ impl GroupSource {
         ensures kind { SameKind self.new.core self.old.core }
         ensures rest { SameScript self.old self.new }
     {
-        let cell = take_needed(&mut self.inbox, self.core.needs_back().is_some());
-        self.core.tick(cell, frame);
-        cell
+        self.source.make(frame)
     }
-}
-
-/// The items of a script.
-fn items_of(script: &Script) -> &[Item]
-    ensures { result.now ≡ script.now.items }
-{
-    &script.items.0
-}
-
-/// The return windows of a script.
-fn lost_of(script: &Script) -> &[(u32, u32)]
-    ensures { result.now ≡ script.now.config.lost }
-{
-    &script.config.lost.0
-}
-
-/// Gives an item to a terminal, and answers why it is refused, where it is. Then nothing changes.
-fn give(core: &mut SourceCore, item: ItemRef) -> Option<Refusal>
-    ensures met { result ≡ met_by core.old (kind_of item.entry) }
-    ensures unchanged { IsSome result → core.new ≡ core.old }
-    ensures stands { (scenario : Scenario) (cells : List (Option Told)) →
-        HasMade core.old scenario cells →
-        HasMade core.new (with_kind scenario core.old.ticks (kind_of item.entry)) cells }
-    ensures ticks { core.new.ticks ≡ core.old.ticks }
-    ensures kind { SameKind core.new core.old }
-{
-    match item {
-        ItemRef::Frame(octets) => core.accept(octets).err().map(Refusal::Frame),
-        ItemRef::Add(line) => core.add(line).err().map(Refusal::Command),
-        ItemRef::Remove(line) => core.remove(line).err().map(Refusal::Command),
-    }
-}
-
-/// Gives the first return cell of the inbox, where it is needed.
-fn take_needed(inbox: &mut Inbox, needed: bool) -> Option<BackCell>
-    ensures cell { result ≡ cell_for needed inbox.old.cells }
-    ensures rest { inbox.new ≡ record inbox.old { cells = rest_for needed inbox.old.cells } }
-{
-    if needed { inbox.take() } else { None }
 }

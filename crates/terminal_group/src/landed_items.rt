@@ -3,14 +3,14 @@
 ghost use Rattle.std.specs.Prelude.{◌≡◌, ◌<◌, ◌≤◌, ◌+◌, if◌then◌else◌, [], ◌∷◌, length, take, drop, Some, IfOk};
 ghost use Rattle.std.specs.Prelude.{is_some, vec_capacity};
 ghost use Rattle.std.specs.List.Sorted.{IsNonDecreasing};
-ghost use Rattle.law_model.specs.Common.{dues_of, frame_dues, command_dues, held, longest_input};
+ghost use Rattle.law_model.specs.Common.{IsValid, dues_of, frame_dues, command_dues, held, longest_input};
 ghost use Rattle.terminal_group.specs.Item.{bare, bare_items};
 ghost use Rattle.law_walk.specs.Common.{IsPlaced, refused_by};
 ghost use Rattle.terminal_group.specs.Landed.{none_landed, next_place, next_number, due_at, landed_of, refused_of};
 ghost use Rattle.terminal_group.specs.Landed.{HasPassed, AreOthers, AreBefore, AreAfter};
 
 use crate::landing_order::{held_item, next_command, next_frame};
-use law_model::{Item, ItemKind, Octets, Refusal};
+use law_model::{Item, ItemKind, Octets, Refusal, Script};
 use std::alloc::{AllocError, Global};
 use std::marker::Model;
 
@@ -63,6 +63,14 @@ impl Landing {
             refused_commands: 0,
             refusals,
         })
+    }
+
+    /// Nothing of the items of a script has landed.
+    pub fn of(alloc: Global, script: &Script) -> Result<Landing, AllocError>
+        requires { IsValid script.now }
+        ensures { IfOk result (λ landing. landing ≡ none_landed (bare_items script.now.items)) }
+    {
+        Landing::new(alloc, items_of(script))
     }
 
     /// The number of the next frame, or of the next command, where there is one.
@@ -168,6 +176,13 @@ impl Landing {
     {
         if client { self.frame } else { self.command }
     }
+}
+
+/// The items of a script.
+fn items_of(script: &Script) -> &[Item]
+    ensures { result.now ≡ script.now.items }
+{
+    &script.items.0
 }
 
 /// The items without the octets of the frames.

@@ -1,19 +1,24 @@
 //! The source side of a group, whatever engine moves it: its terminal, what of its items lands next, what was
 //! refused, why no tick comes, and which return cells have come that no decision step has taken. Begin with
-//! `GroupSource`; `source_law`: a refusal has one place, and ticks take what has come in its order. Where its
-//! frames go, and when an engine ticks, is not said here.
+//! `CountedSource`, which keeps no items, and `GroupSource`, which has all of them from the beginning.
+//! `source_law`: a refusal has one place, and ticks take what has come in its order. Where its frames go, and
+//! when an engine ticks, is not said here.
 #![tactic(auto)]
 
+mod counted_source;
 mod group_laws;
 mod group_source;
 mod item_ref;
+mod landed_counts;
 mod landed_items;
 mod landing_order;
 mod return_inbox;
 
+pub use counted_source::CountedSource;
 pub use group_laws::source_law;
 pub use group_source::{EarlyCause, GroupSource};
 pub use item_ref::{ItemRef, handed};
+pub use landed_counts::LandedCounts;
 pub use landed_items::Landing;
 pub use landing_order::{held_item, next_command, next_frame};
 pub use return_inbox::Inbox;

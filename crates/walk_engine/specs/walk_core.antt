@@ -7,3 +7,4 @@ pub mod Landing
 pub mod Take
 pub mod Waiting
 pub mod Way
+pub mod Live

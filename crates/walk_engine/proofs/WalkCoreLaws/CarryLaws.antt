@@ -32,7 +32,7 @@ use Rattle.walk_engine.specs.Common.{IsCarriedAt, send_ring, receive_ring}
 use Rattle.walk_engine.specs.declared.walk_core.step_answers.Moved.TheVariants.{Yes, Stalled}
 use Rattle.walk_engine.specs.walk_core.Parts.{WayStands}
 use Rattle.walk_engine.specs.walk_core.Carry.{HasReceiveRoom}
-use Rattle.walk_engine.proofs.WalkCoreLaws.EventLaws.{walk-fits, walked-next, source-stays, landed-stays}
+use Rattle.walk_engine.proofs.WalkCoreLaws.EventLaws.{walk-fits, walked-next, source-stays, counted-stays}
 use Rattle.walk_engine.proofs.WalkCoreLaws.SendLaws.{sent-carried, counts-here, counts-of, waits-none, waits-some}
 
 -- a line in numbers
@@ -361,7 +361,7 @@ module _ (leg : Leg) (backs : ℕ) (parts : Parts) (is : WayStands leg backs par
               size = is.sink.size;
               options = is.sink.options;
             };
-            landed = landed-stays leg (counts_of parts backs) _ _ _ parts.source.landed is.landed;
+            landed = counted-stays leg (counts_of parts backs) _ _ _ parts.source.landed is.landed;
             counted = is.counted;
           }
 

@@ -4,15 +4,14 @@ use Rattle.std.proofs.Common.{Option, Some, None, sym, ◌∙◌, ap, subst, ari
 use Rattle.std.specs.Global.{Vec, Box}
 use Rattle.std.proofs.lemmas.Option.{same_Some}
 use Rattle.law_model.proofs.ListLaws.{at-index}
-use Rattle.law_model.specs.Common.{Container, Leg}
+use Rattle.law_model.specs.Common.{Container, IsSound, Leg}
 use Rattle.law_model.specs.declared.walk_events.Event.TheVariants.{Carry}
 use Rattle.law_model.specs.declared.walk_events.StallCause.{StallCause}
-use Rattle.law_model.specs.declared.control_packet.Packet.{Packet}
-use Rattle.law_walk.specs.Common.{path_on}
-use Rattle.walk_engine.specs.Common.{Ringed, ring_of, Makes, Parts, frame_in, line_counts, HasLine, IsWalk, carry_cause}
-use Rattle.walk_engine.specs.Common.{CanCarry, IsSentOn, IsCarriedAt}
+use Rattle.law_walk.specs.Common.{path_on, walk_plan}
+use Rattle.law_walk.proofs.PlanLaws.{has-paths, sound-walks}
+use Rattle.walk_engine.specs.Common.{Ringed, ring_of, Makes, Parts, frame_in, line_counts, HasLine, carry_cause}
+use Rattle.walk_engine.specs.Common.{Live, LiveStands, CanCarry, IsSentOn, IsCarriedAt}
 use Rattle.walk_engine.specs.declared.walk_core.step_answers.Moved.TheVariants.{Yes, Stalled}
-use Rattle.walk_engine.specs.declared.walk_core.step_answers.StepNote.{StepNote}
 use Rattle.walk_engine.specs.walk_core.Parts.{WayStands}
 use Rattle.walk_engine.specs.walk_core.Carry.{HasReceiveRoom}
 use Rattle.walk_engine.proofs.WalkCoreLaws.CarryLaws.{line-has, line-room, carry-stays, carry-kept_at, carry-counts_at}
@@ -108,13 +107,18 @@ module _ (leg : Leg) (backs : ℕ) (parts : Parts) (is : WayStands leg backs par
                 (line-there own own_read) after none-is has by.carried by.popped;
           }
 
+-- a leg has a path for each line
+pub paths-size : (leg : Leg) → IsSound leg → length (walk_plan leg).paths ≡ leg.config.lines
+paths-size leg sound = has-paths leg (sound-walks leg sound) ∙ sound.network.windows_each
+
 -- a walk of which a line has carried, or stalled
-pub carried-walk : (leg : Leg) (parts now : Parts) (ring : List Packet) (last : Option StepNote) →
-    IsWalk leg parts ring last → WayStands leg parts.source.inbox.come now →
-    now ≡ record parts { sent = now.sent; lines = now.lines } → IsWalk leg now ring last
-carried-walk leg parts now ring last is stands rest =
-    subst (λ (p : Parts). IsWalk leg p ring last) (sym rest) (record {
-      stands = subst (WayStands leg parts.source.inbox.come) rest stands;
+pub carried-live : (leg : Leg) (was : Live) (now : Parts) → LiveStands leg was →
+    WayStands leg was.way.source.inbox.come now → now ≡ record was.way { sent = now.sent; lines = now.lines } →
+    LiveStands leg (record was { way = now })
+carried-live leg was now is stands rest =
+    subst (λ (p : Parts). LiveStands leg (record was { way = p })) (sym rest) (record {
+      stands = subst (WayStands leg was.way.source.inbox.come) rest stands;
       back = record { ring = is.back.ring; lost = is.back.lost; inbox = is.back.inbox; room = is.back.room };
       noted = is.noted;
+      quiet = is.quiet;
     })

@@ -7,11 +7,12 @@ use Rattle.law_model.specs.declared.item_refusals.Refusal.{Refusal}
 use Rattle.law_progress.specs.Progress.{Fits}
 use Rattle.law_progress.proofs.MoveLaws.{reached-fits}
 use Rattle.law_progress.proofs.ReachLaws.{run-append}
-use Rattle.law_walk.specs.Common.{walk_plan, IsWalked}
+use Rattle.law_walk.specs.Common.{walk_plan, IsWalked, refusals_of}
 use Rattle.law_walk.proofs.PlanLaws.{has-plan, sound-walks}
 use Rattle.terminal_group.specs.Landed.{Landed}
+use Rattle.terminal_group.specs.declared.landed_counts.LandedCounts.{LandedCounts}
 use Rattle.terminal_source.specs.source_core.Terminal.{Terminal}
-use Rattle.walk_engine.specs.Common.{answer_by, counts_after, Parts, counts_of, HasSource, HasLanded}
+use Rattle.walk_engine.specs.Common.{answer_by, counts_after, Parts, counts_of, HasSource, HasCounted, HasLanded}
 use Rattle.walk_engine.specs.declared.walk_core.step_answers.Moved.TheVariants.{Stalled}
 use Rattle.terminal_group.specs.Inbox.{Inbox}
 use Rattle.walk_engine.specs.walk_core.Parts.{WayStands}
@@ -40,14 +41,20 @@ module _ (leg : Leg) (s : Counts) (lines : List LineCounts) (rows backs : ℕ) w
   source-stays source has = record
       { made = has.made; lines = has.lines; lag = has.lag; size = has.size; statuses = has.statuses }
 
-  pub landed-stays : (landing : Landed) → HasLanded leg s landing →
-      HasLanded leg (record s { lines = lines; rows = rows; backs = backs }) landing
-  landed-stays landing has = record {
-    items = has.items;
-    refusals = has.refusals;
-    frames = has.frames;
-    commands = has.commands;
-  }
+  pub counted-stays : (landed : LandedCounts) → HasCounted leg s landed →
+      HasCounted leg (record s { lines = lines; rows = rows; backs = backs }) landed
+  counted-stays landed has = record { frames = has.frames; commands = has.commands; refused = has.refused }
+
+-- what has landed of the items, where so many have landed as before
+pub landing-stays : (leg : Leg) (s next : Counts) (landing : Landed) → next.frames ≡ s.frames →
+    next.commands ≡ s.commands → HasLanded leg s landing → HasLanded leg next landing
+landing-stays leg s next landing frames commands has = record {
+  items = has.items;
+  frames = has.frames ∙ sym frames;
+  commands = has.commands ∙ sym commands;
+  refusals = has.refusals ∙ ap (λ n. refusals_of leg (record s { frames = n })) (sym frames)
+      ∙ ap (λ n. refusals_of leg (record s { frames = next.frames; commands = n })) (sym commands);
+}
 
 -- a direction to which more return packets have come, and whose inbox holds others
 pub stands-back : (leg : Leg) (backs next : ℕ) (parts : Parts) (inbox : Inbox) → WayStands leg backs parts →
@@ -69,6 +76,6 @@ stands-back leg backs next parts inbox is walked = record {
     size = is.sink.size;
     options = is.sink.options;
   };
-  landed = landed-stays leg (counts_of parts backs) _ _ _ parts.source.landed is.landed;
+  landed = counted-stays leg (counts_of parts backs) _ _ _ parts.source.landed is.landed;
   counted = is.counted;
 }

@@ -28,11 +28,13 @@ use Rattle.law_walk.proofs.WalkLaws.{begins-walked}
 use Rattle.terminal_group.specs.Item.{bare_items}
 use Rattle.terminal_group.specs.Inbox.{Inbox, empty_inbox}
 use Rattle.terminal_group.specs.Landed.{Landed, none_landed}
+use Rattle.terminal_group.specs.Counted.{none_counted}
+use Rattle.terminal_group.specs.declared.landed_counts.LandedCounts.{LandedCounts}
 use Rattle.terminal_group.specs.Source.{IsUnusedCore}
 use Rattle.walk_engine.specs.Common.{path_of, Ringed, ring_of, Has, IsOpened, AreOpened, AreRings, IsNewSink}
 use Rattle.walk_engine.specs.Common.{IsNewGather, IsNew, IsAlike, Parts, frame_in, HasSource, HasSent, HasLines}
-use Rattle.walk_engine.specs.Common.{HasBack, HasLanded, counts_of, line_counts, calls_on, note_of, told_scenario}
-use Rattle.walk_engine.specs.Common.{IsWalk}
+use Rattle.walk_engine.specs.Common.{HasBack, HasCounted, HasLanded, counts_of, line_counts, calls_on, note_of}
+use Rattle.walk_engine.specs.Common.{LiveStands, live_of, told_scenario}
 use Rattle.walk_engine.specs.declared.walk_core.open_way.Opened.{Opened}
 use Rattle.walk_engine.specs.walk_core.Parts.{WayStands}
 
@@ -167,7 +169,7 @@ counts_from ticks lines rows = record
 record IsNewOn (leg : Leg) (all : Opened) : Type 0 where
   core : IsUnusedCore leg.config all.ends.source.core
   total : all.ends.source.total ≡ leg.config.ticks
-  landed : all.ends.source.landed ≡ none_landed (bare_items leg.items)
+  landed : all.ends.source.landed ≡ none_counted
   sink : IsNewSink leg.config all.ends.sink
   sent : AreRings leg.config.lines all.paths.sent.items
   lines : AreOpened leg.config leg.config.lines all.paths.lines.items
@@ -180,12 +182,12 @@ opened-on config lost n lines are = record {
   each = λ m line e. let is = are.each m line e in record { has = is.has; ring = is.ring; popped = is.popped };
 }
 
-new-on : (leg other : Leg) (all : Opened) → IsNew other all → IsAlike leg other → IsNewOn leg all
-new-on leg other all is alike =
+new-on : (leg : Leg) (config : Config) (all : Opened) → IsNew config all → IsAlike leg config → IsNewOn leg all
+new-on leg config all is alike =
     let network = sym alike.network in
     let core = is.source.core in
     let sink = is.sink in
-    let lines : leg.config.lines ≡ other.config.lines = ap (λ (c : Config). c.lines) alike.network in
+    let lines : leg.config.lines ≡ config.lines = ap (λ (c : Config). c.lines) alike.network in
     record {
       core = subst (λ (c : Config). IsUnusedCore c all.ends.source.core) network
           (record {
@@ -197,7 +199,7 @@ new-on leg other all is alike =
             made = core.made;
           });
       total = is.source.total ∙ ap (λ (c : Config). c.ticks) network;
-      landed = is.source.landed ∙ ap (λ items. none_landed (bare_items items)) (sym alike.items);
+      landed = is.source.landed;
       sink = subst (λ (c : Config). IsNewSink c all.ends.sink) network
           (record {
             lines = sink.lines;
@@ -208,7 +210,7 @@ new-on leg other all is alike =
           });
       sent = subst (λ n. AreRings n all.paths.sent.items) (sym lines) is.sent;
       lines = subst (λ (c : Config). AreOpened c c.lines all.paths.lines.items) network
-          (opened-on other.config leg.config.lost other.config.lines all.paths.lines.items is.lines);
+          (opened-on config leg.config.lost config.lines all.paths.lines.items is.lines);
       rows = subst (λ n. IsNewGather n all.rows) (sym lines) is.rows;
     }
 
@@ -223,7 +225,7 @@ opened_parts all = record {
   got = 0;
 }
 
-module _ (leg other : Leg) (all : Opened) (new : IsNew other all) (alike : IsAlike leg other) where
+module _ (leg : Leg) (config : Config) (all : Opened) (new : IsNew config all) (alike : IsAlike leg config) where
   abbrev source : Terminal
   source = all.ends.source.core
 
@@ -240,7 +242,7 @@ module _ (leg other : Leg) (all : Opened) (new : IsNew other all) (alike : IsAli
   sink = all.ends.sink
 
   is : IsNewOn leg all
-  is = new-on leg other all new alike
+  is = new-on leg config all new alike
 
   sound : IsSound leg
   sound = alike.sound
@@ -258,7 +260,7 @@ module _ (leg other : Leg) (all : Opened) (new : IsNew other all) (alike : IsAli
 
   pub new-counts : counts_of (opened_parts all) 0 ≡ begin (walk_plan leg)
   new-counts =
-      ap (λ (l : Landed). record (counts_of (opened_parts all) 0) { frames = l.frames; commands = l.commands })
+      ap (λ (l : LandedCounts). record (counts_of (opened_parts all) 0) { frames = l.frames; commands = l.commands })
       is.landed
       ∙ begin-counts
 
@@ -309,22 +311,22 @@ module _ (leg other : Leg) (all : Opened) (new : IsNew other all) (alike : IsAli
       size = is.sink.size;
       options = is.sink.options;
     };
-    landed = subst (λ s. HasLanded leg s all.ends.source.landed) (sym new-counts)
-        (subst (HasLanded leg (begin (walk_plan leg))) (sym is.landed) (record {
-          items = refl;
-          refusals = sym (refused-none leg (landed_from 0 0 0 leg.items) (none-landed leg.items 0));
+    landed = subst (λ s. HasCounted leg s all.ends.source.landed) (sym new-counts)
+        (subst (HasCounted leg (begin (walk_plan leg))) (sym is.landed) (record {
           frames = sym (ap (λ xs. length (filter (is_accepted_frame leg) xs) + 0) (none-landed leg.items 0));
           commands = sym (ap (λ xs. length (filter (is_accepted_command leg) xs) + 0) (none-landed leg.items 0));
+          refused = ap length (refused-none leg (landed_from 0 0 0 leg.items) (none-landed leg.items 0));
         }));
     counted = sym (ap (λ n. min (length (delivered_of leg n)) 18446744073709551615) is.sink.taken
         ∙ ap (λ xs. min (length xs) 18446744073709551615) (none-delivered leg));
   }
 
 -- ---- a walk, to which nothing has come
-pub new-walk : (leg : Leg) (parts : Parts) (ring : List Packet) → WayStands leg 0 parts →
-    counts_of parts 0 ≡ begin (walk_plan leg) →
-    parts.source.inbox ≡ empty_inbox leg.config.lost leg.config.lag → ring ≡ [] → IsWalk leg parts ring None
-new-walk leg parts ring stands begins empty none =
+pub new-live : (leg : Leg) (parts : Parts) (ring : List Packet) → WayStands leg 0 parts →
+    counts_of parts 0 ≡ begin (walk_plan leg) → leg.tells ≡ [] →
+    parts.source.inbox ≡ empty_inbox leg.config.lost leg.config.lag → ring ≡ [] →
+    LiveStands leg (live_of parts ring None)
+new-live leg parts ring stands begins quiet empty none =
     let come : parts.source.inbox.come ≡ 0 = ap (λ (i : Inbox). i.come) empty in
     let ticks : parts.source.core.ticks ≡ 0 = ap (λ (s : Counts). s.ticks) begins in
     record {
@@ -343,12 +345,24 @@ new-walk leg parts ring stands begins empty none =
             room = refl;
           }))));
       noted = subst (λ n. None ≡ note_of leg (last_packet n)) (sym ticks) refl;
+      quiet = quiet;
     }
 
-pub new-walk-counts : (leg : Leg) (parts : Parts) → counts_of parts 0 ≡ begin (walk_plan leg) →
+pub new-live-counts : (leg : Leg) (parts : Parts) → counts_of parts 0 ≡ begin (walk_plan leg) →
     parts.source.inbox ≡ empty_inbox leg.config.lost leg.config.lag →
     counts_of parts parts.source.inbox.come ≡ begin (walk_plan leg)
-new-walk-counts leg parts begins empty = ap (λ (i : Inbox). counts_of parts i.come) empty ∙ begins
+new-live-counts leg parts begins empty = ap (λ (i : Inbox). counts_of parts i.come) empty ∙ begins
+
+-- nothing of the items has landed
+pub none-known : (leg : Leg) (landing : Landed) → landing ≡ none_landed (bare_items leg.items) →
+    HasLanded leg (begin (walk_plan leg)) landing
+none-known leg landing none = record {
+  items = ap (λ (l : Landed). l.items) none;
+  frames = ap (λ (l : Landed). l.frames) none;
+  commands = ap (λ (l : Landed). l.commands) none;
+  refusals = ap (λ (l : Landed). l.refusals) none
+      ∙ sym (refused-none leg (landed_from 0 0 0 leg.items) (none-landed leg.items 0));
+}
 
 -- a line that was opened with the numbers of its place
 pub opened-at : (config : Config) (m : ℕ) (line : Ringed) (delay : ℕ) (windows : List Window) (total : ℕ) →

@@ -199,20 +199,32 @@ module _ (leg : Leg) (start : Counts) where
   carry-end s m whole past so = sym (carry-last (walk_plan leg) s (walk_plan leg).paths m past) ∙ so
 
   -- ---- a round, by its parts
-  pub round-parts : (a b t m r e : Counts) →
+  -- what comes after its tick
+  pub finish-parts : (m r e : Counts) →
+      run (walk_plan leg) m (Back ∷ Take ∷ []) ≡ run (walk_plan leg) start (carries_from 0 (walk_plan leg).paths) →
+      r ≡ counts_after leg m Back → e ≡ counts_after leg r Take →
+      e ≡ run (walk_plan leg) start (carries_from 0 (walk_plan leg).paths)
+  unfolding run
+  finish-parts m r e is_m is_r is_e = is_e ∙ ap (λ r. counts_after leg r Take) is_r ∙ is_m
+
+  pub tick-parts : (t e : Counts) → t ≡ counts_after leg start Tick →
+      e ≡ run (walk_plan leg) t (carries_from 0 (walk_plan leg).paths) →
+      e ≡ run (walk_plan leg) start (Tick ∷ carries_from 0 (walk_plan leg).paths)
+  unfolding run
+  tick-parts t e is_t is_e = is_e ∙ ap (λ t. run (walk_plan leg) t (carries_from 0 (walk_plan leg).paths)) is_t
+
+  pub round-parts : (a b t e : Counts) →
       a ≡ run (walk_plan leg) start (replicate (suc (length (walk_plan leg).items)) Accept) →
       b ≡ run (walk_plan leg) a (replicate (suc (length (walk_plan leg).items)) Command) →
-      t ≡ counts_after leg b Tick →
-      run (walk_plan leg) m (Back ∷ Take ∷ []) ≡ run (walk_plan leg) t (carries_from 0 (walk_plan leg).paths) →
-      r ≡ counts_after leg m Back → e ≡ counts_after leg r Take →
+      t ≡ counts_after leg b Tick → e ≡ run (walk_plan leg) t (carries_from 0 (walk_plan leg).paths) →
       e ≡ run (walk_plan leg) start (round (walk_plan leg))
   unfolding run
-  round-parts a b t m r e is_a is_b is_t is_m is_r is_e =
+  round-parts a b t e is_a is_b is_t is_e =
       let p : Plan = walk_plan leg in
       let as_ : List Event = replicate (suc (length p.items)) Accept in
       let bs_ : List Event = replicate (suc (length p.items)) Command in
       let cs_ : List Event = carries_from 0 p.paths in
-      is_e ∙ ap (λ r. counts_after leg r Take) is_r ∙ is_m ∙ ap (λ t. run p t cs_) is_t
+      is_e ∙ ap (λ t. run p t cs_) is_t
       ∙ ap (λ b. run p b (Tick ∷ cs_)) (is_b ∙ ap (λ a. run p a bs_) is_a)
       ∙ sym (run-append p (run p start as_) bs_ (Tick ∷ cs_)) ∙ sym (run-append p start as_ (bs_ ++ Tick ∷ cs_))
 
@@ -323,12 +335,12 @@ pub since-none : (leg : Leg) (a : ℕ) → delivered_since leg a a ≡ []
 since-none leg a = ap (drop (length (delivered_of leg a))) (sym (append-nil (delivered_of leg a)))
     ∙ drop-append (delivered_of leg a) []
 
--- ---- the rows and the scripts of a round
-pub round-rows : (leg : Leg) (a b t m r e s : Counts) → a.rows ≡ s.rows → b.rows ≡ a.rows →
-    t ≡ counts_after leg b Tick → m.rows ≡ t.rows → r ≡ counts_after leg m Back → r.rows ≡ s.rows
-round-rows leg a b t m r e s is_a is_b is_t is_m is_r =
-    ap (λ (x : Counts). x.rows) is_r ∙ back-rows m ∙ is_m ∙ ap (λ (x : Counts). x.rows) is_t
-    ∙ tick-rows (walk_plan leg) b ∙ is_b ∙ is_a
+-- ---- the rows of a round
+pub tick-kept : (leg : Leg) (s t : Counts) → t ≡ counts_after leg s Tick → t.rows ≡ s.rows
+tick-kept leg s t is_t = ap (λ (x : Counts). x.rows) is_t ∙ tick-rows (walk_plan leg) s
+
+pub back-kept : (leg : Leg) (m r : Counts) → r ≡ counts_after leg m Back → r.rows ≡ m.rows
+back-kept leg m r is_r = ap (λ (x : Counts). x.rows) is_r ∙ back-rows m
 
 -- ---- no event takes rows back
 step-rises : (leg : Leg) (s : Counts) (event : Event) → s.rows ≤ (counts_after leg s event).rows

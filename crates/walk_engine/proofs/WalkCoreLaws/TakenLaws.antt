@@ -35,12 +35,12 @@ use Rattle.law_walk.proofs.WaitLaws.{take-waits}
 use Rattle.law_walk.proofs.ReturnLaws.{packet-said, packets-next, ring-says}
 use Rattle.law_walk.proofs.FrameLaws.{frames-received, frames-grow}
 use Rattle.walk_engine.specs.Common.{listed, Ringed, answer_by, moved_of, counts_after, delivered_since, GivesRows}
-use Rattle.walk_engine.specs.Common.{Parts, HasSent, counts_of, line_counts, IsWalk, said_at, take_by, Takes}
-use Rattle.walk_engine.specs.Common.{take_cause, CanPop, HasPopped, CanTake, HasRow}
+use Rattle.walk_engine.specs.Common.{Parts, HasSent, counts_of, line_counts, said_at, take_by, Takes}
+use Rattle.walk_engine.specs.Common.{Live, LiveStands, live_counts, live_of, take_cause, CanPop, HasPopped, CanTake, HasRow}
 use Rattle.walk_engine.specs.declared.walk_core.step_answers.StepNote.{StepNote}
 use Rattle.walk_engine.specs.declared.walk_core.step_answers.Moved.TheVariants.{Stalled}
 use Rattle.walk_engine.specs.walk_core.Parts.{WayStands}
-use Rattle.walk_engine.proofs.WalkCoreLaws.EventLaws.{walk-fits, walked-next, source-stays, landed-stays}
+use Rattle.walk_engine.proofs.WalkCoreLaws.EventLaws.{walk-fits, walked-next, source-stays, counted-stays}
 use Rattle.walk_engine.proofs.WalkCoreLaws.SendLaws.{sent-later, counts-here}
 use Rattle.walk_engine.proofs.WalkCoreLaws.BackLaws.{ring-size}
 use Rattle.walk_engine.proofs.WalkCoreLaws.CarryLaws.{numbers, map-get}
@@ -285,7 +285,7 @@ module _ (leg : Leg) (backs : ℕ) (parts : Parts) (is : WayStands leg backs par
                   size = is.sink.size;
                   options = is.sink.options;
                 };
-                landed = landed-stays leg (counts_of parts backs) _ _ _ parts.source.landed is.landed;
+                landed = counted-stays leg (counts_of parts backs) _ _ _ parts.source.landed is.landed;
                 counted = is.counted;
               };
             };
@@ -379,7 +379,7 @@ module _ (leg : Leg) (backs : ℕ) (parts : Parts) (is : WayStands leg backs par
                       size = row.size ∙ is.sink.size;
                       options = row.options ∙ is.sink.options;
                     };
-                    landed = landed-stays leg (counts_of parts backs) _ _ _ parts.source.landed is.landed;
+                    landed = counted-stays leg (counts_of parts backs) _ _ _ parts.source.landed is.landed;
                     counted = counted;
                   };
                 };
@@ -388,8 +388,14 @@ module _ (leg : Leg) (backs : ℕ) (parts : Parts) (is : WayStands leg backs par
               }
 
 -- ---- of a walk: why no row is taken, and the return packet that is said
+pub is-free : (leg : Leg) (was now : Live) → LiveStands leg was → was ≡ now →
+    take_cause now.way.source.total (live_counts now) ≡ None → None ≡ take_cause leg.config.ticks (live_counts was)
+is-free leg was now is same free =
+    sym (ap (λ n. take_cause n (live_counts was)) (sym is.stands.total)
+    ∙ ap (λ (w : Live). take_cause w.way.source.total (live_counts w)) same ∙ free)
+
 module _ (leg : Leg) (parts : Parts) (ring : List Packet) (last : Option StepNote)
-    (is : IsWalk leg parts ring last) where
+    (is : LiveStands leg (live_of parts ring last)) where
   abbrev s : Counts
   s = counts_of parts parts.source.inbox.come
 
@@ -489,11 +495,11 @@ module _ (leg : Leg) (parts : Parts) (ring : List Packet) (last : Option StepNot
           (record parts { lines = now.lines; rows = now.rows; sink = now.sink; got = now.got })
       stands-after = subst (WayStands leg parts.source.inbox.come) rest takes.makes.stands
 
-      pub waits-walk : (line : ℕ) → answer ≡ Waiting line → IsWalk leg now ring last
+      pub waits-walk : (line : ℕ) → answer ≡ Waiting line → LiveStands leg (live_of now ring last)
       waits-walk line e =
           let rows : now.sink.taken ≡ parts.sink.taken = takes.rows ∙ ap (λ a. parts.sink.taken + rows_taken a) e
           ∙ (let z : parts.sink.taken + 0 ≡ parts.sink.taken = omega arith in z) in
-          subst (λ (p : Parts). IsWalk leg p ring last) (sym rest) (record {
+          subst (λ (p : Parts). LiveStands leg (live_of p ring last)) (sym rest) (record {
             stands = stands-after;
             back = record {
               ring = is.back.ring ∙ ap (λ n. map (said_packet leg)
@@ -503,6 +509,7 @@ module _ (leg : Leg) (parts : Parts) (ring : List Packet) (last : Option StepNot
               room = is.back.room;
             };
             noted = is.noted;
+            quiet = is.quiet;
           })
 
       pub said-is : (back : Option Packet) → answer ≡ Taken back → back ≡ said_at leg parts.sink.taken
@@ -516,11 +523,11 @@ module _ (leg : Leg) (parts : Parts) (ring : List Packet) (last : Option StepNot
           by-waits (Some line) same = absurd cc
 
       pub taken-walk : (back : Option Packet) (next : List Packet) → answer ≡ Taken back →
-          next ≡ ring ++ listed back → IsWalk leg now next last
+          next ≡ ring ++ listed back → LiveStands leg (live_of now next last)
       taken-walk back next e says =
           let rows : now.sink.taken ≡ parts.sink.taken + 1 =
           takes.rows ∙ ap (λ a. parts.sink.taken + rows_taken a) e in
-          subst (λ (p : Parts). IsWalk leg p next last) (sym rest) (record {
+          subst (λ (p : Parts). LiveStands leg (live_of p next last)) (sym rest) (record {
             stands = stands-after;
             back = record {
               ring = says ∙ ap (λ p. ring ++ listed p) (said-is back e) ∙ said-ring
@@ -530,4 +537,5 @@ module _ (leg : Leg) (parts : Parts) (ring : List Packet) (last : Option StepNot
               room = is.back.room;
             };
             noted = is.noted;
+            quiet = is.quiet;
           })

@@ -13,10 +13,10 @@ use Rattle.member_rows.proofs.RealignRowsLaws.GatherLaws.{set-here}
 use Rattle.law_model.specs.Common.{BackCell, Container, Leg, Scenario, scenario_by, steps_in, Told, untold}
 use Rattle.law_model.specs.Common.{Source as Session_source, source_at, session_cells, cells_before, container_of}
 use Rattle.law_model.specs.Common.{frame_of, LineCounts, Plan, Counts, Step, in_inbox, used_in, held, full, is_missing}
-use Rattle.law_model.specs.Common.{moved, tick, tick_held, tick_full, step, Course, dues_of}
+use Rattle.law_model.specs.Common.{moved, tick, tick_held, tick_full, step, Course}
 use Rattle.law_model.specs.declared.walk_events.Event.TheVariants.{Tick}
 use Rattle.law_model.specs.declared.walk_events.StallCause.{StallCause}
-use Rattle.law_model.specs.declared.walk_events.StallCause.TheVariants.{Done, BackMissing, TxFull}
+use Rattle.law_model.specs.declared.walk_events.StallCause.TheVariants.{Done, Held, BackMissing, TxFull}
 use Rattle.law_model.specs.declared.control_packet.Packet.{Packet}
 use Rattle.terminal_source.specs.source_core.Terminal.{needed, needed_at, SameKind}
 use Rattle.terminal_source.specs.source_core.Given.{with_cell, SourceStands as HasMade}
@@ -30,19 +30,17 @@ use Rattle.law_walk.proofs.SourceLaws.{told-frames}
 use Rattle.law_walk.proofs.StepLaws.{last-next, used-now, said-ends, table-now}
 use Rattle.law_walk.proofs.ReturnLaws as return_laws
 use Rattle.law_model.proofs.ListLaws.{drop-next}
-use Rattle.terminal_group.specs.declared.group_source.EarlyCause.{EarlyCause}
-use Rattle.terminal_group.specs.declared.group_source.EarlyCause.TheVariants.{Done as Early_done, Held as Early_held}
 use Rattle.terminal_group.specs.Inbox.{Inbox, cell_for, rest_for}
-use Rattle.terminal_group.specs.Source.{Source, SameScript, early_in, held_in, missing_by, missing_in}
+use Rattle.terminal_group.specs.Counted.{Counted, SameCounts, missing_from}
+use Rattle.terminal_group.specs.declared.landed_counts.LandedCounts.{LandedCounts}
+use Rattle.terminal_group.specs.Source.{missing_by}
 use Rattle.terminal_sink.specs.sink_core.Core.{Core}
-use Rattle.terminal_group.proofs.BareLaws.{bare-dues}
 use Rattle.terminal_group.proofs.SourceLaws.{missing-some}
-use Rattle.walk_engine.specs.Common.{Return, path_of, early_stall, Ringed, answer_by, moved_of, counts_after, Parts}
-use Rattle.walk_engine.specs.Common.{frame_in, HasSource, HasSent, HasBack, HasLanded, counts_of, line_counts, note_of}
-use Rattle.walk_engine.specs.Common.{told_scenario, IsWalk, Makes, early_by, with_passed, CanTick}
+use Rattle.walk_engine.specs.Common.{Return, path_of, early_cause, Ringed, answer_by, moved_of, counts_after, Parts}
+use Rattle.walk_engine.specs.Common.{frame_in, HasSource, HasSent, HasBack, HasCounted, counts_of, line_counts, note_of}
+use Rattle.walk_engine.specs.Common.{told_scenario, LiveStands, live_of, Makes, with_passed, CanTick}
 use Rattle.walk_engine.specs.declared.walk_core.step_answers.StepNote.{StepNote}
 use Rattle.walk_engine.specs.declared.walk_core.step_answers.Moved.TheVariants.{Yes, Stalled}
-use Rattle.terminal_group.specs.Landed.{Landed}
 use Rattle.walk_engine.specs.walk_core.Parts.{WayStands}
 use Rattle.walk_engine.proofs.WalkCoreLaws.ToldLaws.{told-source, passed-made, passed-frame}
 use Rattle.walk_engine.proofs.WalkCoreLaws.EventLaws.{walk-fits, walked-next}
@@ -327,51 +325,58 @@ path-left true ring inbox next e = ap (path_of ring) e
 path-left false ring inbox next e = ap (path_of ring) e
 
 -- ---- the causes in their order
-early-left : (done : Bool) (found : Option ℕ) →
-    ◌≡◌ {A = Option EarlyCause} (if done then Some Early_done else option_map Early_held found) None →
+early-none : (done : Bool) (found : Option ℕ) →
+    ◌≡◌ {A = Option StallCause} (if done then Some Done else option_map Held found) None →
     (done ≡ false) × (found ≡ None)
-early-left true found e = absurd cc
-early-left false None e = (refl, refl)
-early-left false (Some item) e = absurd cc
+early-none true found e = absurd cc
+early-none false None e = (refl, refl)
+early-none false (Some item) e = absurd cc
 
 module _ (plan : Plan) (s : Counts) where
-  pub early-stalls : (cause : EarlyCause) → early_by plan s ≡ Some cause →
-      Some (early_stall cause) ≡ (step plan s Tick).cause
+  pub early-stalls : (cause : StallCause) → early_cause plan s ≡ Some cause → (step plan s Tick).cause ≡ Some cause
   early-stalls cause e =
       by-total (nat_le plan.ticks s.ticks) refl (held s.ticks s.frames s.commands 0 plan.items) refl e
     where
       by-total : (done : Bool) → nat_le plan.ticks s.ticks ≡ done → (found : Option ℕ) →
           held s.ticks s.frames s.commands 0 plan.items ≡ found →
-          (if done then Some Early_done else option_map Early_held found) ≡ Some cause →
-          Some (early_stall cause) ≡ (step plan s Tick).cause
-      by-total true past found is_found e = rw past (let same : Early_done ≡ cause = cc in
-          ap (λ c. Some (early_stall c)) (sym same))
+          (if done then Some Done else option_map Held found) ≡ Some cause →
+          (step plan s Tick).cause ≡ Some cause
+      by-total true past found is_found e = rw past e
       by-total false left None is_found e = absurd cc
-      by-total false left (Some item) is_found e = rw (left, is_found) (let same : Early_held item ≡ cause = cc in
-          ap (λ c. Some (early_stall c)) (sym same))
+      by-total false left (Some item) is_found e = rw (left, is_found) e
 
-  left-none : early_by plan s ≡ None →
-      (nat_le plan.ticks s.ticks ≡ false) × (held s.ticks s.frames s.commands 0 plan.items ≡ None)
-  left-none free = early-left (nat_le plan.ticks s.ticks) (held s.ticks s.frames s.commands 0 plan.items) free
+  pub early-done : plan.ticks ≤ s.ticks → Some Done ≡ early_cause plan s
+  early-done past = rw (le-leb plan.ticks s.ticks past) refl
 
-  pub early-free : None ≡ (step plan s Tick).cause → early_by plan s ≡ None
-  early-free e = let free = tick-free plan s e in rw free.left (ap (option_map Early_held) free.no_item)
+  pub early-held : s.ticks < plan.ticks → (found : Option ℕ) →
+      found ≡ held s.ticks s.frames s.commands 0 plan.items → option_map Held found ≡ early_cause plan s
+  early-held low found is_found =
+      rw (lt-leb plan.ticks s.ticks low) (ap (option_map Held) is_found)
 
-  module _ (free : early_by plan s ≡ None) where
+  -- ticks are left, and no item is held
+  pub early-free : early_cause plan s ≡ None →
+      (s.ticks < plan.ticks) × (held s.ticks s.frames s.commands 0 plan.items ≡ None)
+  early-free free =
+      let (left, none) =
+      early-none (nat_le plan.ticks s.ticks) (held s.ticks s.frames s.commands 0 plan.items) free in
+      (leb-false plan.ticks s.ticks left, none)
+
+  module _ (low : s.ticks < plan.ticks) (none : held s.ticks s.frames s.commands 0 plan.items ≡ None) where
+    left : nat_le plan.ticks s.ticks ≡ false
+    left = lt-leb plan.ticks s.ticks low
+
     pub full-cause : (line : ℕ) → full plan.ticks s.ticks 0 s.lines ≡ Some line →
         Some (TxFull line) ≡ (step plan s Tick).cause
-    full-cause line found = let left = left-none free in rw (left.0, left.1, found) refl
+    full-cause line found = rw (left, none, found) refl
 
     pub missing-cause : (packet : ℕ) → full plan.ticks s.ticks 0 s.lines ≡ None →
         needed_at plan.lag s.ticks ≡ Some packet → in_inbox plan s ≡ 0 →
         Some (BackMissing packet) ≡ (step plan s Tick).cause
-    missing-cause packet slots need none =
-        let left = left-none free in
-        sym (missing-here plan s packet (leb-false plan.ticks s.ticks left.0) left.1 slots need none)
+    missing-cause packet slots need empty = sym (missing-here plan s packet low none slots need empty)
 
     pub no-cause : full plan.ticks s.ticks 0 s.lines ≡ None → is_missing plan s ≡ false →
         None ≡ (step plan s Tick).cause
-    no-cause slots there = let left = left-none free in rw (left.0, left.1, slots, there) refl
+    no-cause slots there = rw (left, none, slots, there) refl
 
 pub tick-stays : (leg : Leg) (s : Counts) (cause : StallCause) → Some cause ≡ (step (walk_plan leg) s Tick).cause →
     (s ≡ counts_after leg s Tick) × (Stalled cause ≡ moved_of leg s Tick)
@@ -412,21 +417,14 @@ module _ (leg : Leg) (backs : ℕ) (parts : Parts) (is : WayStands leg backs par
       let few = (sound-walks leg is.sound).few in
       omega (arith, size, windows, few)
 
-  -- why no frame is made, by what the source side says
-  pub early-is : early_in parts.source ≡ early_by (walk_plan leg) (counts_of parts backs)
-  early-is =
-      ap (λ n. if nat_le n parts.source.core.ticks then Some Early_done else option_map Early_held
-      (held_in parts.source)) is.total
-      ∙ ap (λ (h : Option ℕ). if nat_le leg.config.ticks parts.source.core.ticks then Some Early_done else option_map
-      Early_held h)
-      (ap (held parts.source.core.ticks parts.source.landed.frames parts.source.landed.commands 0)
-      (ap dues_of is.landed.items ∙ bare-dues leg.items))
+  pub ticks-left : parts.source.core.ticks < parts.source.total → parts.source.core.ticks < leg.config.ticks
+  ticks-left low = let total = is.total in omega (arith, low, total)
 
   module _ (told : Option Packet) (cell : Option BackCell) (can : CanTick leg backs parts told cell) where
     moves : Goes (walk_plan leg) (counts_of parts backs) (tick (walk_plan leg) (counts_of parts backs))
     moves = (tick-goes (walk_plan leg) (counts_of parts backs) can.free).1
 
-    module _ (source : Source) (rest : SameScript parts.source source)
+    module _ (source : Counted) (rest : SameCounts parts.source source)
         (stands : (scenario : Scenario) (cells : List (Option Told)) → HasMade parts.source.core scenario cells →
         HasMade source.core (with_passed scenario (steps_in parts.source.core.ticks) told) (with_cell cells cell))
         (ticks : source.core.ticks ≡ parts.source.core.ticks + 1) (kind : SameKind source.core parts.source.core)
@@ -442,7 +440,7 @@ module _ (leg : Leg) (backs : ℕ) (parts : Parts) (is : WayStands leg backs par
       counts-are =
           ap (λ n. record (counts_of parts backs)
           { ticks = n; frames = source.landed.frames; commands = source.landed.commands }) ticks
-          ∙ ap (λ (l : Landed). record (counts_of parts backs)
+          ∙ ap (λ (l : LandedCounts). record (counts_of parts backs)
           { ticks = parts.source.core.ticks + 1; frames = l.frames; commands = l.commands }) rest.landed
 
       walked-after : IsWalked leg (record (counts_of parts backs) { ticks = parts.source.core.ticks + 1 })
@@ -497,13 +495,12 @@ module _ (leg : Leg) (backs : ℕ) (parts : Parts) (is : WayStands leg backs par
             size = is.sink.size;
             options = is.sink.options;
           };
-          landed = subst (λ s. HasLanded leg s source.landed) (sym counts-are)
-              (subst (HasLanded leg (record (counts_of parts backs) { ticks = parts.source.core.ticks + 1 }))
+          landed = subst (λ s. HasCounted leg s source.landed) (sym counts-are)
+              (subst (HasCounted leg (record (counts_of parts backs) { ticks = parts.source.core.ticks + 1 }))
               (sym rest.landed) (record {
-                items = is.landed.items;
-                refusals = is.landed.refusals;
                 frames = is.landed.frames;
                 commands = is.landed.commands;
+                refused = is.landed.refused;
               }));
           counted = is.counted;
         };
@@ -538,7 +535,7 @@ module _ (leg : Leg) (backs : ℕ) (parts : Parts) (is : WayStands leg backs par
 
 -- ---- of a walk
 module _ (leg : Leg) (parts : Parts) (ring : List Packet) (last : Option StepNote)
-    (is : IsWalk leg parts ring last) where
+    (is : LiveStands leg (live_of parts ring last)) where
   abbrev s : Counts
   s = counts_of parts parts.source.inbox.come
 
@@ -550,38 +547,27 @@ module _ (leg : Leg) (parts : Parts) (ring : List Packet) (last : Option StepNot
       ∙ length-range_with_len (used_in leg.config.lag parts.source.core.ticks)
       (in_inbox (walk_plan leg) (counts_of parts parts.source.inbox.come))
 
-  module _ (free : early_by (walk_plan leg) (counts_of parts parts.source.inbox.come) ≡ None)
+  module _ (low : parts.source.core.ticks < leg.config.ticks)
+      (none : held parts.source.core.ticks parts.source.landed.frames parts.source.landed.commands 0 (walk_plan leg).items
+      ≡ None)
       (slots : full leg.config.ticks parts.source.core.ticks 0 (map line_counts parts.lines) ≡ None) where
-    pub missing-stalls : (packet : ℕ) → missing_in parts.source ≡ Some packet →
+    pub missing-stalls : (packet : ℕ) → missing_from parts.source ≡ Some packet →
         Some (BackMissing packet) ≡ (step (walk_plan leg) (counts_of parts parts.source.inbox.come) Tick).cause
     missing-stalls packet misses =
-        let (need, none) = missing-some (needed parts.source.core) parts.source.inbox.cells packet misses in
-        missing-cause (walk_plan leg) s free packet slots
+        let (need, empty) = missing-some (needed parts.source.core) parts.source.inbox.cells packet misses in
+        missing-cause (walk_plan leg) s low none packet slots
         (ap (λ lag. needed_at lag parts.source.core.ticks) (sym is.stands.source.lag) ∙ need)
-        (sym inbox-size ∙ ap length none)
+        (sym inbox-size ∙ ap length empty)
 
-    pub none-missing : missing_in parts.source ≡ None →
+    pub none-missing : missing_from parts.source ≡ None →
         None ≡ (step (walk_plan leg) (counts_of parts parts.source.inbox.come) Tick).cause
     none-missing there =
-        no-cause (walk_plan leg) s free slots
+        no-cause (walk_plan leg) s low none slots
         (not-missing (walk_plan leg) s parts.source.inbox.cells inbox-size
         (ap (λ lag. missing_by (needed_at lag parts.source.core.ticks) parts.source.inbox.cells)
         (sym is.stands.source.lag) ∙ there))
 
   module _ (e : None ≡ (step (walk_plan leg) (counts_of parts parts.source.inbox.come) Tick).cause) where
-    pub early-none : early_in parts.source ≡ None
-    early-none = early-is leg parts.source.inbox.come parts is.stands ∙ early-free (walk_plan leg) s e
-
-    pub missing-none : missing_in parts.source ≡ None
-    missing-none = by-found (missing_in parts.source) refl
-      where
-        by-found : (found : Option ℕ) → missing_in parts.source ≡ found → found ≡ None
-        by-found None same = refl
-        by-found (Some packet) same = absurd
-            (let f : None ≡ Some (BackMissing packet) = e
-            ∙ sym (missing-stalls (early-free (walk_plan leg) s e) (tick-free (walk_plan leg) s e).slots packet same)
-            in cc)
-
     module _ (cell : Option BackCell)
         (first : cell ≡ cell_for (is_some (needed parts.source.core)) parts.source.inbox.cells) where
       abbrev left-in : Inbox
@@ -606,11 +592,11 @@ module _ (leg : Leg) (parts : Parts) (ring : List Packet) (last : Option StepNot
           (path-left (is_some (needed parts.source.core)) ring parts.source.inbox left-in refl))
 
       -- without a packet to pass on, where the leg has nothing to tell
-      pub can-tick : leg.tells ≡ [] → CanTick leg parts.source.inbox.come parts None cell
-      can-tick quiet = record {
+      pub can-tick : CanTick leg parts.source.inbox.come parts None cell
+      can-tick = record {
         free = e;
         tells = record {
-          step = λ at. sym (ap (λ tells. slice_index_or tells (parts.source.core.ticks / 16) untold) quiet);
+          step = λ at. sym (ap (λ tells. slice_index_or tells (parts.source.core.ticks / 16) untold) is.quiet);
           between = λ other. refl;
         };
         cells = is_taken.told;
@@ -627,8 +613,8 @@ module _ (leg : Leg) (parts : Parts) (ring : List Packet) (last : Option StepNot
         pub tick-come : now.source.inbox.come ≡ parts.source.inbox.come
         tick-come = ap (λ (i : Inbox). i.come) boxed
 
-        pub tick-walk : IsWalk leg now ring note
-        tick-walk =
+        pub tick-live : LiveStands leg (live_of now ring note)
+        tick-live =
             let sunk : now.sink ≡ parts.sink = ap (λ (p : Parts). p.sink) rest in
             record {
               stands = subst (λ n. WayStands leg n now) (sym tick-come) stands;
@@ -642,6 +628,7 @@ module _ (leg : Leg) (parts : Parts) (ring : List Packet) (last : Option StepNot
                   }));
               noted = note-next leg parts.source.core.ticks cell last note is.noted is_taken.noted noted
                   ∙ ap (λ n. note_of leg (last_packet n)) (sym ticks);
+              quiet = is.quiet;
             }
 
 -- by the ticks and the lines as they are read

@@ -1,12 +1,11 @@
 -- What an item meets that lands.
-use Rattle.std.specs.Prelude.{ℕ, nat_lt, Bool, true, false, if◌then◌else◌, Option, Some, None}
+use Rattle.std.specs.Prelude.{ℕ, nat_le, nat_lt, Bool, true, false, if◌then◌else◌, Option, Some, None, option_map}
+use Rattle.law_model.specs.Common.{Plan, Counts, held}
 use Rattle.law_model.specs.declared.script_types.Item.{Item}
 use Rattle.law_model.specs.declared.walk_events.StallCause.{StallCause}
 use Rattle.law_model.specs.declared.walk_events.StallCause.TheVariants.{Done, NotDue, Held}
 use Rattle.law_model.specs.declared.walk_events.Event.{Event}
 use Rattle.law_model.specs.declared.walk_events.Event.TheVariants.{Accept, Command}
-use Rattle.terminal_group.specs.declared.group_source.EarlyCause.{EarlyCause}
-use Rattle.terminal_group.specs.declared.group_source.EarlyCause.TheVariants.{Done as Early_done, Held as Early_held}
 
 -- why the next item of a kind, where there is one, doesn't land
 abbrev pub stall_by : ℕ → Option Item → Option StallCause
@@ -18,7 +17,7 @@ abbrev pub landing_of : Bool → Event
 landing_of true = Accept
 landing_of false = Command
 
--- the cause of a stall before the send rings are looked at
-abbrev pub early_stall : EarlyCause → StallCause
-early_stall Early_done = Done
-early_stall (Early_held item) = Held item
+-- why no frame is made, before the send rings are looked at
+abbrev pub early_cause : Plan → Counts → Option StallCause
+early_cause plan s =
+    if nat_le plan.ticks s.ticks then Some Done else option_map Held (held s.ticks s.frames s.commands 0 plan.items)

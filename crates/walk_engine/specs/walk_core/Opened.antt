@@ -3,7 +3,7 @@ use Rattle.std.specs.Prelude.{◌≡◌, ℕ, List, [], length, replicate, slice
 use Rattle.std.specs.Global.{Vec, Box}
 use Rattle.law_model.specs.Common.{Container, Cell, Leg, IsSound}
 use Rattle.law_model.specs.declared.script_types.Config.{Config}
-use Rattle.terminal_group.specs.Source.{IsUnused}
+use Rattle.terminal_group.specs.Counted.{IsUnusedOn}
 use Rattle.member_path.specs.path_delay.Line.{opened}
 use Rattle.member_rows.specs.realign_rows.Gather.{Gather, GatherStands as Gathers, line_count}
 use Rattle.terminal_sink.specs.sink_core.Core.{Core, SinkStands as HasTaken}
@@ -41,16 +41,15 @@ pub record IsNewGather (count : ℕ) (gather : Gather) : Type 0 where
   pub rows : gather.rows ≡ 0
 
 -- all of these
-pub record IsNew (leg : Leg) (opened : Opened) : Type 0 where
-  pub source : IsUnused leg opened.ends.source
-  pub sink : IsNewSink leg.config opened.ends.sink
-  pub sent : AreRings leg.config.lines opened.paths.sent.items
-  pub lines : AreOpened leg.config leg.config.lines opened.paths.lines.items
-  pub rows : IsNewGather leg.config.lines opened.rows
+pub record IsNew (config : Config) (opened : Opened) : Type 0 where
+  pub source : IsUnusedOn config opened.ends.source
+  pub sink : IsNewSink config opened.ends.sink
+  pub sent : AreRings config.lines opened.paths.sent.items
+  pub lines : AreOpened config config.lines opened.paths.lines.items
+  pub rows : IsNewGather config.lines opened.rows
 
--- a leg over the network of another one, whose return packets may be lost in some other way, with the same items,
--- whatever its packets tell
-pub record IsAlike (leg other : Leg) : Type 0 where
+-- a leg over a network, whose return packets may be lost in some other way, whatever lands in it and whatever its
+-- packets tell
+pub record IsAlike (leg : Leg) (config : Config) : Type 0 where
   pub sound : IsSound leg
-  pub network : leg.config ≡ record other.config { lost = leg.config.lost }
-  pub items : leg.items ≡ other.items
+  pub network : leg.config ≡ record config { lost = leg.config.lost }

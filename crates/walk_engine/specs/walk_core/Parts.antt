@@ -1,9 +1,8 @@
--- What one direction of a group holds, and what a walk holds, by its leg and its counts.
+-- What one direction of a group holds by its leg and its counts.
 use Rattle.std.specs.Prelude.{◌≡◌, ℕ, ◌+◌, ◌-◌, ◌%◌, ◌<◌, ◌≤◌, min, List, [], map, length, take, slice_get}
 use Rattle.std.specs.Prelude.{slice_index_or, Option, Some, None}
 use Rattle.std.specs.Global.{Vec, Box}
 use Rattle.law_model.specs.Common.{Container, Leg, Scenario, steps_in, IsSound, LineCounts, Counts}
-use Rattle.law_model.specs.declared.control_packet.Packet.{Packet}
 use Rattle.member_cells.specs.Held.{held}
 use Rattle.member_path.specs.path_delay.Line.{Calls}
 use Rattle.member_rows.specs.realign_rows.Gather.{Gather, GatherStands as Gathers, line_count}
@@ -11,19 +10,20 @@ use Rattle.terminal_source.specs.source_core.Terminal.{Terminal}
 use Rattle.terminal_source.specs.source_core.Given.{SourceStands as HasMade}
 use Rattle.terminal_sink.specs.sink_core.Core.{Core, SinkStands as HasTaken}
 use Rattle.law_walk.specs.Common.{IsWalked, counts_at, popped_cells, sent_at, delay_on, taken_by, return_ring, inbox}
-use Rattle.law_walk.specs.Common.{landed_scenario, told_before, refusals_of, totals_of, delivered_of, last_packet}
+use Rattle.law_walk.specs.Common.{landed_scenario, told_before, refusals_of, totals_of, delivered_of}
 use Rattle.law_walk.specs.Common.{cell_taken}
 use Rattle.terminal_group.specs.Item.{bare_items}
 use Rattle.terminal_group.specs.Landed.{Landed}
-use Rattle.terminal_group.specs.Source.{Source}
+use Rattle.terminal_group.specs.Counted.{Counted}
+use Rattle.terminal_group.specs.declared.landed_counts.LandedCounts.{LandedCounts}
 use Rattle.walk_engine.specs.walk_parts.Ringed.{Ringed, ring_of, Has}
-use Rattle.walk_engine.specs.walk_parts.Return.{Return, path_of}
+use Rattle.walk_engine.specs.walk_parts.Return.{Return}
 use Rattle.walk_engine.specs.declared.walk_core.step_answers.StepNote.{StepNote}
 
 -- one direction without its way back: the source side; the frames of the send rings, that of number t at place t modulo
 -- 32; the lines; the gathered rows; the sink terminal; how many frames were delivered
 pub record Parts : Type 0 where
-  pub source : Source
+  pub source : Counted
   pub sent : List (List Container)
   pub lines : List Ringed
   pub rows : Gather
@@ -110,11 +110,18 @@ pub record HasBack (leg : Leg) (s : Counts) (back : Return) : Type 0 where
   pub inbox : back.inbox ≡ inbox leg s
   pub room : back.room ≡ leg.config.lag + 1
 
+-- how many items were refused
+pub record HasCounted (leg : Leg) (s : Counts) (landed : LandedCounts) : Type 0 where
+  pub frames : s.frames ≡ (totals_of leg s).frames + landed.refused_frames
+  pub commands : s.commands ≡ (totals_of leg s).commands + landed.refused_commands
+  pub refused : length (refusals_of leg s) ≡ landed.refused_frames + landed.refused_commands
+
+-- which items there are, which have landed, and which of them were refused
 pub record HasLanded (leg : Leg) (s : Counts) (landing : Landed) : Type 0 where
   pub items : landing.items ≡ bare_items leg.items
+  pub frames : landing.frames ≡ s.frames
+  pub commands : landing.commands ≡ s.commands
   pub refusals : landing.refusals ≡ refusals_of leg s
-  pub frames : s.frames ≡ (totals_of leg s).frames + landing.refused_frames
-  pub commands : s.commands ≡ (totals_of leg s).commands + landing.refused_commands
 
 -- the last decision step
 abbrev pub note_of : Leg → Option ℕ → Option StepNote
@@ -130,15 +137,9 @@ pub record WayStands (leg : Leg) (backs : ℕ) (parts : Parts) : Type 0 where
   pub sent : HasSent leg parts.source.core.ticks (map line_counts parts.lines) parts.sent
   pub lines : HasLines leg parts.lines
   pub sink : HasSink leg (counts_of parts backs) parts.rows parts.sink
-  pub landed : HasLanded leg (counts_of parts backs) parts.source.landed
+  pub landed : HasCounted leg (counts_of parts backs) parts.source.landed
   pub counted : parts.got ≡ min (length (delivered_of leg parts.sink.taken)) 18446744073709551615
 
 -- it is one of some leg
 abbrev pub StandsForSome : Parts → Type 0
 StandsForSome parts = (leg : Leg) × (backs : ℕ) × WayStands leg backs parts
-
--- a walk: its direction, what has come to its inbox, and what is on its way there
-pub record IsWalk (leg : Leg) (parts : Parts) (ring : List Packet) (last : Option StepNote) : Type 0 where
-  pub stands : WayStands leg parts.source.inbox.come parts
-  pub back : HasBack leg (counts_of parts parts.source.inbox.come) (path_of ring parts.source.inbox)
-  pub noted : last ≡ note_of leg (last_packet parts.source.core.ticks)

@@ -1,9 +1,8 @@
 -- What the events of one direction answer, and what they leave of it.
-use Rattle.std.specs.Prelude.{◌≡◌, ◌≢◌, ℕ, ◌+◌, ◌/◌, ◌%◌, ◌==◌, ◌&&◌, ◌≤◌, nat_le, nat_lt, if◌then◌else◌, map}
-use Rattle.std.specs.Prelude.{slice_get, slice_index_or, Option, Some, None, option_map}
-use Rattle.law_model.specs.Common.{BackCell, Leg, Scenario, told_by, untold, passed_on, Plan, Counts, held, pop_lines}
+use Rattle.std.specs.Prelude.{◌≡◌, ◌≢◌, ℕ, ◌+◌, ◌/◌, ◌%◌, ◌==◌, ◌&&◌, ◌≤◌, nat_lt, if◌then◌else◌, map}
+use Rattle.std.specs.Prelude.{slice_get, slice_index_or, Option, Some, None, Bool, true, false}
+use Rattle.law_model.specs.Common.{BackCell, Leg, Scenario, told_by, untold, passed_on, Counts, held, pop_lines}
 use Rattle.law_model.specs.Common.{step}
-use Rattle.law_model.specs.declared.script_types.Item.{Item}
 use Rattle.law_model.specs.declared.script_types.ItemKind.{ItemKind}
 use Rattle.law_model.specs.declared.control_packet.Packet.{Packet}
 use Rattle.law_model.specs.declared.walk_events.Event.{Event}
@@ -14,10 +13,8 @@ use Rattle.terminal_source.specs.source_core.Given.{with_cell, with_told}
 use Rattle.terminal_sink.specs.declared.sink_core.sink_terminal.TakeAnswer.{TakeAnswer}
 use Rattle.terminal_sink.specs.declared.sink_core.sink_terminal.TakeAnswer.TheVariants.{Taken, Waiting}
 use Rattle.terminal_sink.specs.sink_core.Given.{rows_taken}
-use Rattle.law_walk.specs.Common.{walk_plan, said_packet, told_before}
-use Rattle.terminal_group.specs.declared.group_source.EarlyCause.{EarlyCause}
-use Rattle.terminal_group.specs.declared.group_source.EarlyCause.TheVariants.{Done, Held}
-use Rattle.terminal_group.specs.Landed.{due_at}
+use Rattle.law_walk.specs.Common.{walk_plan, said_packet, told_before, is_client}
+use Rattle.terminal_group.specs.Place.{is_frame, is_command, place_of}
 use Rattle.walk_engine.specs.declared.walk_core.step_answers.Moved.{Moved}
 use Rattle.walk_engine.specs.declared.walk_core.step_answers.Moved.TheVariants.{Yes, Stalled}
 use Rattle.walk_engine.specs.walk_core.Moved.{moved_of, counts_after}
@@ -30,16 +27,21 @@ pub record Makes (leg : Leg) (backs : ℕ) (event : Event) (was now : Parts) (an
   pub moved : answer ≡ moved_of leg (counts_of was backs) event
 
 -- ---- an item that lands
--- the item of this number is due, and is of this kind
-pub record IsDue (leg : Leg) (parts : Parts) (number : ℕ) (kind : ItemKind) : Type 0 where
-  pub due : due_at parts.source.landed.items number ≤ parts.source.core.ticks
-  pub handed : (item : Item) → slice_get leg.items number ≡ Some item → kind ≡ item.kind
+-- the place of the next frame of a leg, or of its next command; the number of its items where there is none
+abbrev pub next_in : Leg → Counts → Bool → ℕ
+next_in leg s true = place_of is_frame s.frames leg.items
+next_in leg s false = place_of is_command s.commands leg.items
+
+-- the next item of this kind in a leg is this one, and is due by now
+pub record IsDue (leg : Leg) (s : Counts) (kind : ItemKind) : Type 0 where
+  pub due : ℕ
+  pub by_now : due ≤ s.ticks
+  pub next : slice_get leg.items (next_in leg s (is_client kind)) ≡ Some (record { due = due; kind = kind })
 
 -- ---- a frame that is made
--- why none is, before the send rings are looked at
-abbrev pub early_by : Plan → Counts → Option EarlyCause
-early_by plan s =
-    if nat_le plan.ticks s.ticks then Some Done else option_map Held (held s.ticks s.frames s.commands 0 plan.items)
+-- no item of a leg that is due now hasn't landed
+abbrev pub IsNoneHeld : Leg → Counts → Type 0
+IsNoneHeld leg s = held s.ticks s.frames s.commands 0 (walk_plan leg).items ≡ None
 
 -- a session whose packet of the next decision step, after n steps, passes this on
 abbrev pub with_passed : Scenario → ℕ → Option Packet → Scenario

@@ -7,6 +7,7 @@
 //! it but the return path is a `WayCore`, of which a pair of sessions has two.
 
 mod counted_frames;
+mod live_walk;
 mod one_way;
 mod open_way;
 mod send_rings;
@@ -15,6 +16,7 @@ mod take_rows;
 mod walk;
 
 pub use law_model::{Event, StallCause};
+pub use live_walk::LiveWalk;
 pub use one_way::WayCore;
 pub use step_answers::{Moved, StepNote};
 pub use walk::Walk;

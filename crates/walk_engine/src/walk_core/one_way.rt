@@ -2,8 +2,9 @@
 
 ghost use Rattle.std.specs.Prelude.{◌≡◌, ℕ, ◌+◌, ◌-◌, ◌/◌, ◌<◌, ◌≤◌, false, List, length, map};
 ghost use Rattle.std.specs.Prelude.{slice_get, Option, Some, None, IfOk, option_map, option_copied, is_some};
-ghost use Rattle.law_model.specs.Common.{Container, begin, full, Leg, leg_of, governing, Scenario, steps_in};
-ghost use Rattle.law_model.specs.Common.{segments_of, Told, IsValid, scenario_by, is_known};
+ghost use Rattle.law_model.specs.Common.{Container, begin, full, Leg, governing, Scenario, steps_in};
+ghost use Rattle.law_model.specs.Common.{segments_of, Told, IsNetwork, scenario_by, is_known};
+ghost use Rattle.law_model.specs.declared.script_types.Config.{Config};
 ghost use Rattle.law_model.specs.declared.walk_events.Event.TheVariants.{Tick, Carry};
 ghost use Rattle.terminal_source.specs.source_core.Given.{SourceStands as HasMade};
 ghost use Rattle.terminal_source.specs.source_core.Terminal.{needed, SameKind};
@@ -13,37 +14,37 @@ ghost use Rattle.law_walk.specs.Common.{session_of, session_rows, is_client, tot
 ghost use Rattle.law_walk.specs.Common.{popped_cells};
 ghost use Rattle.terminal_group.specs.Inbox.{empty_inbox, with_come, cell_for, rest_for};
 ghost use Rattle.terminal_group.specs.Item.{kind_of};
-ghost use Rattle.terminal_group.specs.Landed.{next_number};
-ghost use Rattle.terminal_group.specs.Source.{early_in, missing_in};
+ghost use Rattle.terminal_group.specs.Counted.{missing_from};
 ghost use Rattle.walk_engine.specs.walk_core.Landing.{landing_of};
-ghost use Rattle.walk_engine.specs.walk_core.Moved.{answer_by, GivesRows};
+ghost use Rattle.walk_engine.specs.walk_core.Moved.{answer_by, refusal_in_event, GivesRows};
 ghost use Rattle.walk_engine.specs.declared.walk_core.step_answers.Moved.TheVariants.{Yes};
 ghost use Rattle.walk_engine.specs.walk_core.Opened.{IsNew, IsAlike};
 ghost use Rattle.walk_engine.specs.walk_core.Parts.{counts_of, line_counts, WayStands, StandsForSome};
 ghost use Rattle.walk_engine.specs.walk_core.Take.{take_cause};
 ghost use Rattle.walk_engine.specs.walk_core.Waiting.{send_ring, receive_ring};
-ghost use Rattle.walk_engine.specs.walk_core.Way.{Makes, IsDue, early_by, with_passed, CanTick, Takes};
+ghost use Rattle.walk_engine.specs.walk_core.Way.{Makes, IsDue, with_passed, CanTick, Takes};
 
 use crate::walk_core::open_way::{Ends, Opened, Paths, SENDS, open};
 use crate::walk_core::send_rings::{carry_on, carry_stall, first_full, frame_at, next_place};
 use crate::walk_core::take_rows::{pop_lines, take_counted_row};
 use crate::walk_parts::WalkLine;
-use law_model::{FrameOut, Refusal, Script, StallCause, Totals};
+use law_model::{Config, FrameOut, Refusal, StallCause, Totals};
 use member_cells::{BackCell, Container, HeldContainer};
 use member_path::cell_numbers::CellRef;
 use member_rows::lcas_packet::Packet;
 use member_rows::realign_rows::RowGather;
 use std::alloc::{AllocError, Global};
 use std::marker::Model;
-use terminal_group::{EarlyCause, GroupSource, ItemRef, Landing};
+use terminal_group::{CountedSource, ItemRef};
 use terminal_sink::sink_core::{SinkCore, TakeAnswer};
 use terminal_source::lcas_source::SourceTable;
 
 /// One direction of a group without its way back: its source side, its lines with their rings, and its sink
-/// side. Who calls it says which item lands, and brings the return cells. What its calls do is said of each
-/// leg and each number of return packets for which it stands. Only its making takes memory.
+/// side. Who calls it says which item lands, and brings the return cells. It knows no item beforehand and keeps
+/// none. What its calls do is said of each leg and each number of return packets for which it stands. Only its
+/// making takes memory.
 pub struct WayCore {
-    source: GroupSource,
+    source: CountedSource,
     /// The send rings of all lines: each place holds the containers of a frame, of a number modulo 32, each
     /// until its line carried it.
     sent: Vec<Vec<Box<HeldContainer>>>,
@@ -84,18 +85,18 @@ impl Model for WayCore {
 }
 
 impl WayCore {
-    /// Makes room for the direction of a script, before any event. It may also be one whose return packets
-    /// are lost in some other way, and whose packets tell something.
-    pub fn new(alloc: Global, script: &Script) -> Result<WayCore, AllocError>
-        requires { IsValid script.now }
-        ensures stands { IfOk result (λ way. (leg : Leg) → IsAlike leg (leg_of script.now) →
+    /// Makes room for the direction of a network, before any event, whatever lands in it. It may also be one
+    /// whose return packets are lost in some other way, and whose packets tell something.
+    pub fn new(alloc: Global, config: &Config) -> Result<WayCore, AllocError>
+        requires { IsNetwork config.now }
+        ensures stands { IfOk result (λ way. (leg : Leg) → IsAlike leg config.now →
             WayStands leg 0 way) }
-        ensures counts { IfOk result (λ way. (leg : Leg) → IsAlike leg (leg_of script.now) →
+        ensures counts { IfOk result (λ way. (leg : Leg) → IsAlike leg config.now →
             counts_of way 0 ≡ begin (walk_plan leg)) }
         ensures inbox { IfOk result (λ way. way.source.inbox
-            ≡ empty_inbox script.now.config.lost script.now.config.lag) }
+            ≡ empty_inbox config.now.lost config.now.lag) }
     {
-        let opened = open(alloc, script)?;
+        let opened = open(alloc, config)?;
         Ok(WayCore::from_opened(opened))
     }
 
@@ -106,18 +107,26 @@ impl WayCore {
         self.source.ticks()
     }
 
+    /// How many ticks there are.
+    pub fn total_ticks(&self) -> u32
+        ensures { result ≡ self.now.source.total }
+    {
+        self.source.total_ticks()
+    }
+
+    /// How many lines there are.
+    pub fn lines(&self) -> u8
+        requires { StandsForSome self.now }
+        ensures { result ≡ length self.now.lines }
+    {
+        self.lines.len() as u8
+    }
+
     /// How many rows were taken.
     pub fn taken(&self) -> u32
         ensures { result ≡ self.now.sink.taken }
     {
         self.sink.taken()
-    }
-
-    /// What has landed.
-    pub fn landing(&self) -> &Landing
-        ensures { result.now ≡ self.now.source.landed }
-    {
-        self.source.landing()
     }
 
     /// The table of the lines.
@@ -142,12 +151,13 @@ impl WayCore {
         ensures { (leg : Leg) (backs : ℕ) → WayStands leg backs self.now →
             result ≡ totals_of leg (counts_of self.now backs) }
     {
+        let landed = self.source.landed();
         Totals {
             ticks: self.source.ticks(),
             taken: self.sink.taken(),
-            frames: self.source.landing().accepted(true),
-            commands: self.source.landing().accepted(false),
-            refused: self.source.landing().all_refused(),
+            frames: landed.accepted(true),
+            commands: landed.accepted(false),
+            refused: landed.all_refused(),
             got: self.got,
         }
     }
@@ -201,28 +211,21 @@ impl WayCore {
         self.lines[usize::from(line)].waiting(place)
     }
 
-    /// Lands an item, which is the next of its kind and has this number. Answers why it is refused, where it
-    /// is.
-    pub fn land(&mut self, number: u32, item: ItemRef) -> Option<Refusal>
-        requires { next_number self.old.source.landed (is_client (kind_of item)) ≡ Some number }
+    /// Lands an item now. Answers why it is refused, where it is.
+    pub fn land(&mut self, item: ItemRef) -> Option<Refusal>
         ensures makes { (leg : Leg) (backs : ℕ) → WayStands leg backs self.old →
-            IsDue leg self.old number (kind_of item.entry) →
+            IsDue leg (counts_of self.old backs) (kind_of item.entry) →
             Makes leg backs (landing_of (is_client (kind_of item.entry)))
             self.old self.new (answer_by None result) }
+        ensures refusal { (leg : Leg) (backs : ℕ) → WayStands leg backs self.old →
+            IsDue leg (counts_of self.old backs) (kind_of item.entry) →
+            result ≡ refusal_in_event leg (counts_of self.old backs)
+            (landing_of (is_client (kind_of item.entry))) }
         ensures ticks { self.new.source.core.ticks ≡ self.old.source.core.ticks }
         ensures inbox { self.new.source.inbox ≡ self.old.source.inbox }
         ensures rest { self.new ≡ record self.old { source = self.new.source } }
     {
-        self.source.land(number, item)
-    }
-
-    /// Why no frame is made, before the send rings are looked at.
-    pub fn early_cause(&self) -> Option<EarlyCause>
-        ensures exact { result ≡ early_in self.now.source }
-        ensures cause { (leg : Leg) (backs : ℕ) → WayStands leg backs self.now →
-            result ≡ early_by (walk_plan leg) (counts_of self.now backs) }
-    {
-        self.source.early_cause()
+        self.source.land(item)
     }
 
     /// The first line whose send ring holds as many containers as it may.
@@ -236,7 +239,7 @@ impl WayCore {
 
     /// The return cell that the next frame needs, where none has come.
     pub fn missing(&self) -> Option<u32>
-        ensures { result ≡ missing_in self.now.source }
+        ensures { result ≡ missing_from self.now.source }
     {
         self.source.missing()
     }
@@ -257,8 +260,8 @@ impl WayCore {
     /// other way of a pair; without one they tell nothing. Answers the return cell that it took.
     pub fn make(&mut self, told: Option<Packet>) -> Option<BackCell>
         requires stands { StandsForSome self.old }
-        requires early { early_in self.old.source ≡ None }
-        requires cell { missing_in self.old.source ≡ None }
+        requires left { self.old.source.core.ticks < self.old.source.total }
+        requires cell { missing_from self.old.source ≡ None }
         ensures makes { (leg : Leg) (backs : ℕ) → WayStands leg backs self.old →
             CanTick leg backs self.old told result → Makes leg backs Tick self.old self.new Yes }
         ensures cell { result
@@ -266,6 +269,7 @@ impl WayCore {
         ensures inbox { self.new.source.inbox ≡ record self.old.source.inbox {
           cells = rest_for (is_some (needed self.old.source.core)) self.old.source.inbox.cells;
         } }
+        ensures landed { self.new.source.landed ≡ self.old.source.landed }
         ensures ticks { self.new.source.core.ticks ≡ self.old.source.core.ticks + 1 }
         ensures rest { self.new
             ≡ record self.old { source = self.new.source; sent = self.new.sent } }
@@ -321,9 +325,9 @@ impl WayCore {
 
     /// A direction before any event, of what was opened for it.
     fn from_opened(opened: Opened) -> WayCore
-        ensures stands { (leg : Leg) (other : Leg) → IsNew other opened → IsAlike leg other →
+        ensures stands { (leg : Leg) (config : Config) → IsNew config opened → IsAlike leg config →
             WayStands leg 0 result }
-        ensures counts { (leg : Leg) (other : Leg) → IsNew other opened → IsAlike leg other →
+        ensures counts { (leg : Leg) (config : Config) → IsNew config opened → IsAlike leg config →
             counts_of result 0 ≡ begin (walk_plan leg) }
         ensures source { result.source ≡ opened.ends.source }
     {
@@ -342,7 +346,7 @@ impl WayCore {
 }
 
 /// Has the packets of the next decision step pass on a return packet, where there is one.
-fn pass_on(source: &mut GroupSource, told: Option<Packet>)
+fn pass_on(source: &mut CountedSource, told: Option<Packet>)
     ensures made { (scenario : Scenario) (cells : List (Option Told)) →
         HasMade source.old.core scenario cells →
         HasMade source.new.core

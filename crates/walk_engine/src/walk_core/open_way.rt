@@ -1,17 +1,17 @@
-//! What one direction of a script begins with, before any event.
+//! What one direction of a network begins with, before any event.
 
 ghost use Rattle.std.specs.Prelude.{◌≡◌, length, All, IfOk};
 ghost use Rattle.std.specs.Global.{Vec, Box};
-ghost use Rattle.law_model.specs.Common.{Container, IsValid, IsNetwork, leg_of};
-ghost use Rattle.terminal_group.specs.Source.{IsUnused};
+ghost use Rattle.law_model.specs.Common.{Container, IsNetwork};
+ghost use Rattle.terminal_group.specs.Counted.{IsUnusedOn};
 ghost use Rattle.walk_engine.specs.walk_core.Opened.{AreOpened, AreRings, IsNewSink, IsNew};
 
 use crate::walk_parts::WalkLine;
-use law_model::{Config, Script};
+use law_model::Config;
 use member_cells::{HeldContainer, blank_boxes};
 use member_rows::realign_rows::RowGather;
 use std::alloc::{AllocError, Global};
-use terminal_group::GroupSource;
+use terminal_group::CountedSource;
 use terminal_sink::sink_core::SinkCore;
 
 /// The frames that the send rings hold.
@@ -20,7 +20,7 @@ pub(super) const SENDS: usize = 32;
 /// Both terminals.
 #[derive(Drop)]
 pub(super) struct Ends {
-    pub(super) source: GroupSource,
+    pub(super) source: CountedSource,
     pub(super) sink: SinkCore,
 }
 
@@ -40,32 +40,27 @@ pub(super) struct Opened {
     pub(super) ends: Ends,
 }
 
-/// Opens all that moves in the direction of a script. What has the most parts is opened last, so that little is let
+/// Opens all that moves in the direction of a network. What has the most parts is opened last, so that little is let
 /// go where memory is short.
-pub(super) fn open(alloc: Global, script: &Script) -> Result<Opened, AllocError>
-    requires { IsValid script.now }
-    ensures { IfOk result (λ opened. IsNew (leg_of script.now) opened) }
+pub(super) fn open(alloc: Global, config: &Config) -> Result<Opened, AllocError>
+    requires { IsNetwork config.now }
+    ensures { IfOk result (λ opened. IsNew config.now opened) }
 {
-    let paths = open_paths(alloc, &script.config)?;
-    let rows = RowGather::new(alloc, script.config.lines)?;
-    let ends = open_ends(alloc, script)?;
+    let paths = open_paths(alloc, config)?;
+    let rows = RowGather::new(alloc, config.lines)?;
+    let ends = open_ends(alloc, config)?;
     Ok(Opened { paths, rows, ends })
 }
 
 /// Opens the terminals.
-fn open_ends(alloc: Global, script: &Script) -> Result<Ends, AllocError>
-    requires { IsValid script.now }
-    ensures source { IfOk result (λ ends. IsUnused (leg_of script.now) ends.source) }
-    ensures sink { IfOk result (λ ends. IsNewSink script.now.config ends.sink) }
+fn open_ends(alloc: Global, config: &Config) -> Result<Ends, AllocError>
+    requires { IsNetwork config.now }
+    ensures source { IfOk result (λ ends. IsUnusedOn config.now ends.source) }
+    ensures sink { IfOk result (λ ends. IsNewSink config.now ends.sink) }
 {
     Ok(Ends {
-        source: GroupSource::new(alloc, script)?,
-        sink: SinkCore::new(
-            alloc,
-            script.config.lines,
-            script.config.size,
-            script.config.options,
-        )?,
+        source: CountedSource::new(alloc, config)?,
+        sink: SinkCore::new(alloc, config.lines, config.size, config.options)?,
     })
 }
 
@@ -95,7 +90,7 @@ fn new_sent(alloc: Global, lines: u8) -> Result<Vec<Vec<Box<HeldContainer>>>, Al
     Ok(sent)
 }
 
-/// The lines of a script, before any carry.
+/// The lines of a network, before any carry.
 fn new_lines(alloc: Global, config: &Config) -> Result<Vec<WalkLine>, AllocError>
     requires { IsNetwork config.now }
     ensures { IfOk result (λ lines. AreOpened config.now config.now.lines lines.items) }

@@ -1,7 +1,7 @@
 //! A walk of a script, event by event.
 
-ghost use Rattle.std.specs.Prelude.{◌≡◌, ◌-◌, ◌/◌, ◌%◌, ◌==◌, ◌<◌, ◌≤◌, suc, false, if◌then◌else◌, []};
-ghost use Rattle.std.specs.Prelude.{◌∷◌, length, replicate, slice_get, Some, None, IfOk};
+ghost use Rattle.std.specs.Prelude.{◌≡◌, ◌-◌, ◌/◌, ◌<◌, ◌≤◌, suc, false, if◌then◌else◌};
+ghost use Rattle.std.specs.Prelude.{length, replicate, slice_get, Some, None, IfOk};
 ghost use Rattle.std.specs.Prelude.{option_map, option_copied};
 ghost use Rattle.law_model.specs.declared.walk_events.Event.TheVariants.{Command, Accept, Tick, Carry, Back, Take};
 ghost use Rattle.law_model.specs.Common.{IsValid, begin, step, run, round, drain, bound, carries_from, steps_in};
@@ -13,33 +13,29 @@ ghost use Rattle.law_walk.specs.Common.{walk_plan, IsWalked, session_of, session
 ghost use Rattle.walk_engine.specs.walk_core.Moved.{answer_by, counts_after, moved_of, GivesRows};
 ghost use Rattle.walk_engine.specs.walk_core.Waiting.{send_ring, receive_ring};
 ghost use Rattle.member_path.specs.cell_numbers.Told.{cell_of};
-ghost use Rattle.terminal_group.specs.Item.{kind_of};
-ghost use Rattle.terminal_group.specs.Inbox.{empty_inbox};
-ghost use Rattle.walk_engine.specs.walk_core.Landing.{landing_of, early_stall};
-ghost use Rattle.walk_engine.specs.walk_core.Parts.{counts_of, note_of, WayStands};
-ghost use Rattle.walk_engine.specs.walk_core.Take.{take_cause};
+ghost use Rattle.terminal_group.specs.Item.{bare_items, kind_of};
+ghost use Rattle.terminal_group.specs.Landed.{none_landed};
+ghost use Rattle.walk_engine.specs.walk_core.Landing.{landing_of, early_cause};
+ghost use Rattle.walk_engine.specs.walk_core.Live.{LiveStands, live_counts};
+ghost use Rattle.walk_engine.specs.walk_core.Parts.{note_of};
 ghost use Rattle.terminal_sink.specs.marked_delineator.Marks.{first_place};
 
-use crate::walk_core::one_way::WayCore;
+use crate::walk_core::live_walk::LiveWalk;
 use crate::walk_core::step_answers::{Moved, StepNote};
-use crate::walk_parts::ReturnRing;
 use law_model::{Event, FrameOut, Refusal, Script, StallCause, Totals};
-use member_cells::{BackCell, Container};
+use member_cells::Container;
 use member_path::cell_numbers::CellRef;
 use std::alloc::{AllocError, Global};
 use std::marker::Model;
-use terminal_group::{EarlyCause, ItemRef, handed};
-use terminal_sink::sink_core::{TakeAnswer, ends_packet};
+use terminal_group::{ItemRef, Landing, handed};
 use terminal_source::lcas_source::SourceTable;
 
 /// A walk of a script.
 pub struct Walk {
     script: Script,
-    way: WayCore,
-    /// The return packets that were said and haven't come.
-    ring: ReturnRing,
-    /// The last decision step.
-    last: Option<StepNote>,
+    /// Which of its items have landed.
+    landing: Landing,
+    live: LiveWalk,
 }
 
 /// A call of its own, so that a function which drops one doesn't go through its parts.
@@ -47,9 +43,8 @@ impl Drop for Walk {
     fn drop(self) {
         let Walk {
             script: _,
-            way: _,
-            ring: _,
-            last: _,
+            landing: _,
+            live: _,
         } = self;
     }
 }
@@ -57,16 +52,16 @@ impl Drop for Walk {
 impl Model for Walk {
     ghost use Rattle.law_model.specs.Common.{leg_of, IsValid};
     ghost use Rattle.walk_engine.specs.walk_core.Moved.{Walked};
-    ghost use Rattle.walk_engine.specs.walk_core.Parts.{counts_of, IsWalk};
+    ghost use Rattle.walk_engine.specs.walk_core.Live.{IsWalk, live_counts};
 
     ghost Value = { Walked };
 
     ghost view = { λ w. record {
       script = w.script;
-      counts = counts_of w.way w.way.source.inbox.come;
+      counts = live_counts w.live;
     } };
 
-    ghost invariant = { λ w. IsValid w.script × IsWalk (leg_of w.script) w.way w.ring w.last };
+    ghost invariant = { λ w. IsValid w.script × IsWalk (leg_of w.script) w.live w.landing };
 }
 
 impl Walk {
@@ -76,9 +71,9 @@ impl Walk {
         ensures script { IfOk result (λ walk. walk.script ≡ script) }
         ensures counts { IfOk result (λ walk. walk.counts ≡ begin (walk_plan (leg_of script))) }
     {
-        let ring = ReturnRing::new(alloc)?;
-        let way = WayCore::new(alloc, &script)?;
-        Ok(Walk::begun(script, way, ring))
+        let landing = Landing::of(alloc, &script)?;
+        let live = LiveWalk::new(alloc, &script.config)?;
+        Ok(Walk::begun(script, landing, live))
     }
 
     /// Makes an event. One that stalls changes nothing, but that a Take which waits keeps the cells that it
@@ -116,10 +111,8 @@ impl Walk {
     {
         self.land_all(true);
         self.land_all(false);
-        self.tick();
-        self.carry_all();
-        self.back();
-        self.take(out);
+        let _ = self.tick();
+        self.finish_round(out);
     }
 
     /// Makes rounds until all rows are taken.
@@ -131,7 +124,7 @@ impl Walk {
         ensures gives { GivesRows F.stands_for out.old out.new (leg_of self.old.script)
             self.old.counts.rows self.old.script.config.ticks }
     {
-        while self.way.taken() < self.script.config.ticks {
+        while self.live.taken() < self.script.config.ticks {
             self.round(out);
         }
     }
@@ -140,7 +133,7 @@ impl Walk {
     pub fn totals(&self) -> Totals
         ensures { result ≡ totals_of (leg_of self.now.script) self.now.counts }
     {
-        self.way.totals()
+        self.live.totals()
     }
 
     /// The script. It can be walked, and the counts of the walk are those of some list of its events.
@@ -156,21 +149,21 @@ impl Walk {
     pub fn landed_frames(&self) -> u32
         ensures { result ≡ self.now.counts.frames }
     {
-        self.way.landing().landed(true)
+        self.landing.landed(true)
     }
 
     /// The items that were refused, in the order of the script.
     pub fn refusals(&self) -> &[(u32, Refusal)]
         ensures { result.now ≡ refusals_of (leg_of self.now.script) self.now.counts }
     {
-        self.way.landing().refusals()
+        self.landing.refusals()
     }
 
     /// The last decision step, where one was made.
     pub fn last_step(&self) -> Option<StepNote>
         ensures { result ≡ note_of (leg_of self.now.script) (last_packet self.now.counts.ticks) }
     {
-        self.last
+        self.live.last_step()
     }
 
     /// The table of the lines after the last decision step and the commands that were accepted since.
@@ -183,7 +176,7 @@ impl Walk {
             ≡ table_in (leg_of self.now.script) self.now.counts.ticks }
         ensures steps { result.now.steps ≡ steps_in self.now.counts.ticks }
     {
-        self.way.table()
+        self.live.table()
     }
 
     /// The container at a place of the send ring of a line, from the oldest on, or `None` beyond the last one
@@ -193,7 +186,7 @@ impl Walk {
         ensures { option_copied result
             ≡ slice_get (send_ring (leg_of self.now.script) self.now.counts line) place }
     {
-        self.way.send_ring(line, place)
+        self.live.way().send_ring(line, place)
     }
 
     /// The cell at a place of the receive ring of a line, from the oldest on, or `None` beyond the last one
@@ -203,7 +196,7 @@ impl Walk {
         ensures { option_map cell_of result
             ≡ slice_get (receive_ring (leg_of self.now.script) self.now.counts line) place }
     {
-        self.way.receive_ring(line, place)
+        self.live.way().receive_ring(line, place)
     }
 
     /// The place that is confirmed first in the segment that goes on with the next row, counted from its first octet.
@@ -212,7 +205,7 @@ impl Walk {
             (segments_of (session_rows (leg_of self.now.script)
             self.now.counts.rows)).last.octets }
     {
-        self.way.first_confirmed()
+        self.live.way().first_confirmed()
     }
 
     /// Whether it is known which lines carry payload in the next row. No packet says it of rows 0 to 23.
@@ -222,24 +215,22 @@ impl Walk {
             ((self.now.counts.rows - 24) / 16) }
         ensures early { self.now.counts.rows < 24 → result ≡ false }
     {
-        self.way.knows()
+        self.live.way().knows()
     }
 
     /// A walk of a script before any event.
-    fn begun(script: Script, way: WayCore, ring: ReturnRing) -> Walk
+    fn begun(script: Script, landing: Landing, live: LiveWalk) -> Walk
         requires script { IsValid script }
-        requires stands { WayStands (leg_of script) 0 way }
-        requires counts { counts_of way 0 ≡ begin (walk_plan (leg_of script)) }
-        requires inbox { way.source.inbox ≡ empty_inbox script.config.lost script.config.lag }
-        requires ring { ring ≡ [] }
+        requires landing { landing ≡ none_landed (bare_items script.items) }
+        requires stands { LiveStands (leg_of script) live }
+        requires counts { live_counts live ≡ begin (walk_plan (leg_of script)) }
         ensures script { result.script ≡ script }
         ensures counts { result.counts ≡ begin (walk_plan (leg_of script)) }
     {
         Walk {
             script,
-            way,
-            ring,
-            last: None,
+            landing,
+            live,
         }
     }
 
@@ -265,14 +256,16 @@ impl Walk {
         ensures moved { result
             ≡ moved_of (leg_of self.old.script) self.old.counts (landing_of client) }
     {
-        let Some(number) = self.way.landing().next(client) else {
+        let Some(number) = self.landing.next(client) else {
             return Moved::Stalled(StallCause::Done);
         };
-        let due = self.way.landing().due(client, number);
-        if self.way.ticks() < due {
+        let due = self.landing.due(client, number);
+        if self.live.ticks() < due {
             return Moved::Stalled(StallCause::NotDue { due });
         }
-        landed(self.way.land(number, item_at(&self.script, number)))
+        let why = self.live.say(item_at(&self.script, number));
+        self.landing.land(client, number, why);
+        landed(why)
     }
 
     /// Takes the next row, where the lines decide it.
@@ -284,56 +277,18 @@ impl Walk {
         ensures gives { GivesRows F.stands_for out.old out.new (leg_of self.old.script)
             self.old.counts.rows self.new.counts.rows }
     {
-        match self.take_stall() {
-            Some(cause) => Moved::Stalled(cause),
-            None => self.take_next(out),
-        }
+        self.live.take(out)
     }
 
-    /// Pops the cells of the next row, and takes it where the lines decide it.
-    fn take_next<F: FrameOut>(&mut self, out: &mut F) -> Moved
-        requires { take_cause self.old.script.config.ticks self.old.counts ≡ None }
+    /// Tries a carry of each line, a return packet and a row.
+    fn finish_round<F: FrameOut>(&mut self, out: &mut F)
         ensures script { self.new.script ≡ self.old.script }
-        ensures counts { self.new.counts
-            ≡ counts_after (leg_of self.old.script) self.old.counts Take }
-        ensures moved { result ≡ moved_of (leg_of self.old.script) self.old.counts Take }
+        ensures counts { self.new.counts ≡ run (walk_plan (leg_of self.old.script)) self.old.counts
+            (carries_from 0 (walk_plan (leg_of self.old.script)).paths) }
         ensures gives { GivesRows F.stands_for out.old out.new (leg_of self.old.script)
             self.old.counts.rows self.new.counts.rows }
     {
-        match self.way.take(out) {
-            TakeAnswer::Waiting { line } => Moved::Stalled(StallCause::Waiting { line }),
-            TakeAnswer::Taken { back } => {
-                self.ring.say(back);
-                Moved::Yes
-            }
-        }
-    }
-
-    /// Why no row is taken and no cell popped.
-    fn take_stall(&self) -> Option<StallCause>
-        ensures { result ≡ take_cause self.now.script.config.ticks self.now.counts }
-    {
-        let row = self.way.taken();
-        if row >= self.script.config.ticks {
-            Some(StallCause::Done)
-        } else if ends_packet(row) && self.ring.is_full() {
-            Some(StallCause::BackFull)
-        } else {
-            None
-        }
-    }
-
-    /// Tries one carry of each line.
-    fn carry_all(&mut self)
-        ensures script { self.new.script ≡ self.old.script }
-        ensures counts { run (walk_plan (leg_of self.new.script)) self.new.counts
-            (Back ∷ Take ∷ []) ≡ run (walk_plan (leg_of self.old.script)) self.old.counts
-            (carries_from 0 (walk_plan (leg_of self.old.script)).paths) }
-        ensures rows { self.new.counts.rows ≡ self.old.counts.rows }
-    {
-        for line in 0..self.script.config.lines {
-            let _ = self.carry(line);
-        }
+        self.live.finish_round(out);
     }
 
     /// Makes the next frame.
@@ -343,27 +298,23 @@ impl Walk {
             ≡ counts_after (leg_of self.old.script) self.old.counts Tick }
         ensures moved { result ≡ moved_of (leg_of self.old.script) self.old.counts Tick }
     {
-        if let Some(cause) = self.tick_stall() {
-            return Moved::Stalled(cause);
+        match self.early_stall() {
+            Some(cause) => Moved::Stalled(cause),
+            None => self.live.tick(),
         }
-        let ticks = self.way.ticks();
-        let back = self.way.make(None);
-        self.last = next_note(ticks, back, self.last);
-        Moved::Yes
     }
 
-    /// Why no frame is made.
-    fn tick_stall(&self) -> Option<StallCause>
-        ensures { result ≡ (step (walk_plan (leg_of self.now.script)) self.now.counts Tick).cause }
+    /// Why no frame is made, before the send rings are looked at: all are made, or an item is due now and hasn't
+    /// landed.
+    fn early_stall(&self) -> Option<StallCause>
+        ensures { result ≡ early_cause (walk_plan (leg_of self.now.script)) self.now.counts }
     {
-        if let Some(cause) = self.way.early_cause() {
-            return Some(stall_early(cause));
+        let ticks = self.live.ticks();
+        if ticks >= self.script.config.ticks {
+            return Some(StallCause::Done);
         }
-        if let Some(line) = self.way.first_full() {
-            return Some(StallCause::TxFull { line });
-        }
-        match self.way.missing() {
-            Some(packet) => Some(StallCause::BackMissing { packet }),
+        match self.landing.held(ticks) {
+            Some(item) => Some(StallCause::Held { item }),
             None => None,
         }
     }
@@ -376,7 +327,7 @@ impl Walk {
             ≡ counts_after (leg_of self.old.script) self.old.counts (Carry line) }
         ensures moved { result ≡ moved_of (leg_of self.old.script) self.old.counts (Carry line) }
     {
-        carried(self.way.carry(line))
+        self.live.carry(line)
     }
 
     /// Moves a return packet to the source.
@@ -386,13 +337,7 @@ impl Walk {
             ≡ counts_after (leg_of self.old.script) self.old.counts Back }
         ensures moved { result ≡ moved_of (leg_of self.old.script) self.old.counts Back }
     {
-        match self.ring.pop() {
-            Some(cell) => {
-                self.way.put(cell);
-                Moved::Yes
-            }
-            None => Moved::Stalled(StallCause::BackEmpty),
-        }
+        self.live.back()
     }
 }
 
@@ -412,40 +357,5 @@ fn landed(why: Option<Refusal>) -> Moved
     match why {
         None => Moved::Yes,
         Some(why) => Moved::Refused(why),
-    }
-}
-
-/// What a carry answers, which stalls for a cause or not.
-fn carried(cause: Option<StallCause>) -> Moved
-    ensures { result ≡ answer_by cause None }
-{
-    match cause {
-        Some(cause) => Moved::Stalled(cause),
-        None => Moved::Yes,
-    }
-}
-
-/// Why no frame is made, before the send rings are looked at.
-fn stall_early(cause: EarlyCause) -> StallCause
-    ensures { result ≡ early_stall cause }
-{
-    match cause {
-        EarlyCause::Done => StallCause::Done,
-        EarlyCause::Held { item } => StallCause::Held { item },
-    }
-}
-
-/// The note of the last decision step after a tick.
-fn next_note(ticks: u32, back: Option<BackCell>, last: Option<StepNote>) -> Option<StepNote>
-    ensures { result ≡ (if ticks % 16 == 8
-        then Some (record { packet = ticks / 16; back = back }) else last) }
-{
-    if ticks % 16 == 8 {
-        Some(StepNote {
-            packet: ticks / 16,
-            back,
-        })
-    } else {
-        last
     }
 }

@@ -89,6 +89,7 @@ hear-requires g c =
         beside = e.beside;
         script = e.script;
         stands = e.stands;
+        landed = e.landed;
         ticks = e.ticks;
         was_row = e.was_row;
         row_is = e.row_is;
@@ -120,10 +121,10 @@ returns-in-Taken-Some-clause-takes g c =
     (record {
       script = h.script;
       counts = h.counts;
-      beside = record { stands = h.beside.stands; meets = h.beside.meets };
+      beside = record { stands = h.beside.stands; landed = h.beside.landed; meets = h.beside.meets };
     })
     (ap (λ (s : Counts). s.rows) h.counts) in
-    subst (λ (said : Said). TakesRow own other (record { script = own.script; core = c.take.new.self; said = said })
+    subst (λ (said : Said). TakesRow own other (record own { core = c.take.new.self; said = said })
     c.hear.new.other Yes)
     (sym (said-same c.say.new.self own.said (own.said.packets ++ packet ∷ []) c.say.ensures.packets
     c.say.ensures.room)) done

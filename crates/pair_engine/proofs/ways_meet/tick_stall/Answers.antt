@@ -22,7 +22,7 @@ returns-in-Some-first_way c =
     let two = c.requires.back_way.stands in
     let done = c.first_way.ensures ∙ ap₂ first_way (c.done.ensures back.script) (c.done-2.ensures there.script) in
     let holds = c.first_way-2.ensures
-    ∙ ap₂ first_way (c.held.ensures back.script one) (c.held-2.ensures there.script two) in
+    ∙ ap₂ first_way (c.held.ensures back.script c.requires.there_way.landed) (c.held-2.ensures there.script c.requires.back_way.landed) in
     cause-later _ _ _ (sym done ∙ c.in_default.is)
     (cause-here _ _ c.in-Some-first_way.cause (sym holds ∙ c.in-Some-first_way.is))
 
@@ -34,7 +34,7 @@ returns-in-Some-first_way-2 c =
     let two = c.requires.back_way.stands in
     let done = c.first_way.ensures ∙ ap₂ first_way (c.done.ensures back.script) (c.done-2.ensures there.script) in
     let holds = c.first_way-2.ensures
-    ∙ ap₂ first_way (c.held.ensures back.script one) (c.held-2.ensures there.script two) in
+    ∙ ap₂ first_way (c.held.ensures back.script c.requires.there_way.landed) (c.held-2.ensures there.script c.requires.back_way.landed) in
     let fills = c.first_way-3.ensures
     ∙ ap₂ first_way (c.full.ensures back.script one) (c.full-2.ensures there.script two) in
     cause-later _ _ _ (sym done ∙ c.in_default.is)
@@ -49,7 +49,7 @@ returns c =
     let two = c.requires.back_way.stands in
     let done = c.first_way.ensures ∙ ap₂ first_way (c.done.ensures back.script) (c.done-2.ensures there.script) in
     let holds = c.first_way-2.ensures
-    ∙ ap₂ first_way (c.held.ensures back.script one) (c.held-2.ensures there.script two) in
+    ∙ ap₂ first_way (c.held.ensures back.script c.requires.there_way.landed) (c.held-2.ensures there.script c.requires.back_way.landed) in
     let fills = c.first_way-3.ensures
     ∙ ap₂ first_way (c.full.ensures back.script one) (c.full-2.ensures there.script two) in
     let unsaid = c.first_way-4.ensures

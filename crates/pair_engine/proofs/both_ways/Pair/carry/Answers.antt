@@ -15,7 +15,7 @@ invariant_of-self c =
     let f = c.self.inside in
     (there-follows f.there f.back c.self.invariant (Carry There c.args.line) c.carry.new.self
     (carry (walk_plan (leg_beside f.there f.back)) (way_counts f.there) c.args.line) None c.carry.result refl refl
-    c.carry.ensures.quiet (c.carry.ensures.goes f.back.script c.self.invariant.there_way.stands)).walk
+    c.carry.ensures.quiet (c.carry.ensures.goes f.back.script c.self.invariant.there_way.stands c.self.invariant.there_way.landed)).walk
 
 pub invariant_of-self-in-Back : goal.invariant_of-self-in-Back
 invariant_of-self-in-Back c =
@@ -23,14 +23,14 @@ invariant_of-self-in-Back c =
     (back-follows f.there f.back c.self.invariant (Carry Back c.args.line) c.carry-in-Back.new.self
     (carry (walk_plan (leg_beside f.back f.there)) (way_counts f.back) c.args.line)
     None c.carry-in-Back.result refl refl
-    c.carry-in-Back.ensures.quiet (c.carry-in-Back.ensures.goes f.there.script c.self.invariant.back_way.stands)).walk
+    c.carry-in-Back.ensures.quiet (c.carry-in-Back.ensures.goes f.there.script c.self.invariant.back_way.stands c.self.invariant.back_way.landed)).walk
 
 pub returns-in-There-clause-pair : goal.returns-in-There-clause-pair
 returns-in-There-clause-pair c =
     let f = c.self.inside in
     (there-follows f.there f.back c.self.invariant (Carry There c.args.line) c.carry.new.self
     (carry (walk_plan (leg_beside f.there f.back)) (way_counts f.there) c.args.line) None c.carry.result refl refl
-    c.carry.ensures.quiet (c.carry.ensures.goes f.back.script c.self.invariant.there_way.stands)).pair
+    c.carry.ensures.quiet (c.carry.ensures.goes f.back.script c.self.invariant.there_way.stands c.self.invariant.there_way.landed)).pair
     ∙ ap (λ (p : Paired). after p (Carry There c.args.line)) c.self.view_is
     ∙ ap (λ w. after c.args.self.now (Carry w c.args.line)) (sym c.in-There.is)
 
@@ -40,7 +40,7 @@ returns-in-There-clause-moved c =
     c.moved_on.ensures ∙ ap (λ w. moved_on w c.carry.result) c.in-There.is
     ∙ (there-follows f.there f.back c.self.invariant (Carry There c.args.line) c.carry.new.self
     (carry (walk_plan (leg_beside f.there f.back)) (way_counts f.there) c.args.line) None c.carry.result refl refl
-    c.carry.ensures.quiet (c.carry.ensures.goes f.back.script c.self.invariant.there_way.stands)).moved
+    c.carry.ensures.quiet (c.carry.ensures.goes f.back.script c.self.invariant.there_way.stands c.self.invariant.there_way.landed)).moved
     ∙ ap (λ (p : Paired). moved_of p (Carry There c.args.line)) c.self.view_is
     ∙ ap (λ w. moved_of c.args.self.now (Carry w c.args.line)) (sym c.in-There.is)
 
@@ -50,7 +50,7 @@ returns-in-Back-clause-pair c =
     (back-follows f.there f.back c.self.invariant (Carry Back c.args.line) c.carry-in-Back.new.self
     (carry (walk_plan (leg_beside f.back f.there)) (way_counts f.back) c.args.line)
     None c.carry-in-Back.result refl refl
-    c.carry-in-Back.ensures.quiet (c.carry-in-Back.ensures.goes f.there.script c.self.invariant.back_way.stands)).pair
+    c.carry-in-Back.ensures.quiet (c.carry-in-Back.ensures.goes f.there.script c.self.invariant.back_way.stands c.self.invariant.back_way.landed)).pair
     ∙ ap (λ (p : Paired). after p (Carry Back c.args.line)) c.self.view_is
     ∙ ap (λ w. after c.args.self.now (Carry w c.args.line)) (sym c.in-Back.is)
 
@@ -61,7 +61,7 @@ returns-in-Back-clause-moved c =
     ∙ (back-follows f.there f.back c.self.invariant (Carry Back c.args.line) c.carry-in-Back.new.self
     (carry (walk_plan (leg_beside f.back f.there)) (way_counts f.back) c.args.line)
     None c.carry-in-Back.result refl refl
-    c.carry-in-Back.ensures.quiet (c.carry-in-Back.ensures.goes f.there.script c.self.invariant.back_way.stands)).moved
+    c.carry-in-Back.ensures.quiet (c.carry-in-Back.ensures.goes f.there.script c.self.invariant.back_way.stands c.self.invariant.back_way.landed)).moved
     ∙ ap (λ (p : Paired). moved_of p (Carry Back c.args.line)) c.self.view_is
     ∙ ap (λ w. moved_of c.args.self.now (Carry w c.args.line)) (sym c.in-Back.is)
 

@@ -15,7 +15,7 @@ invariant_of-self c =
     (there-follows f.there f.back c.self.invariant (Item There) c.land.new.self
     (land_item (walk_plan (leg_beside f.there f.back)) (way_counts f.there)) (next_refusal (leg_beside f.there f.back)
     (way_counts f.there)) c.land.result refl refl
-    c.land.ensures.quiet (c.land.ensures.goes f.back.script c.self.invariant.there_way.stands)).walk
+    c.land.ensures.quiet (c.land.ensures.goes f.back.script c.self.invariant.there_way.stands c.self.invariant.there_way.landed)).walk
 
 pub invariant_of-self-in-Back : goal.invariant_of-self-in-Back
 invariant_of-self-in-Back c =
@@ -23,7 +23,7 @@ invariant_of-self-in-Back c =
     (back-follows f.there f.back c.self.invariant (Item Back) c.land-in-Back.new.self
     (land_item (walk_plan (leg_beside f.back f.there)) (way_counts f.back)) (next_refusal (leg_beside f.back f.there)
     (way_counts f.back)) c.land-in-Back.result refl refl
-    c.land-in-Back.ensures.quiet (c.land-in-Back.ensures.goes f.there.script c.self.invariant.back_way.stands)).walk
+    c.land-in-Back.ensures.quiet (c.land-in-Back.ensures.goes f.there.script c.self.invariant.back_way.stands c.self.invariant.back_way.landed)).walk
 
 pub returns-in-There-clause-pair : goal.returns-in-There-clause-pair
 returns-in-There-clause-pair c =
@@ -31,7 +31,7 @@ returns-in-There-clause-pair c =
     (there-follows f.there f.back c.self.invariant (Item There) c.land.new.self
     (land_item (walk_plan (leg_beside f.there f.back)) (way_counts f.there)) (next_refusal (leg_beside f.there f.back)
     (way_counts f.there)) c.land.result refl refl
-    c.land.ensures.quiet (c.land.ensures.goes f.back.script c.self.invariant.there_way.stands)).pair
+    c.land.ensures.quiet (c.land.ensures.goes f.back.script c.self.invariant.there_way.stands c.self.invariant.there_way.landed)).pair
     ∙ ap (λ (p : Paired). after p (Item There)) c.self.view_is
     ∙ ap (λ w. after c.args.self.now (Item w)) (sym c.in-There.is)
 
@@ -42,7 +42,7 @@ returns-in-There-clause-moved c =
     ∙ (there-follows f.there f.back c.self.invariant (Item There) c.land.new.self
     (land_item (walk_plan (leg_beside f.there f.back)) (way_counts f.there)) (next_refusal (leg_beside f.there f.back)
     (way_counts f.there)) c.land.result refl refl
-    c.land.ensures.quiet (c.land.ensures.goes f.back.script c.self.invariant.there_way.stands)).moved
+    c.land.ensures.quiet (c.land.ensures.goes f.back.script c.self.invariant.there_way.stands c.self.invariant.there_way.landed)).moved
     ∙ ap (λ (p : Paired). moved_of p (Item There)) c.self.view_is
     ∙ ap (λ w. moved_of c.args.self.now (Item w)) (sym c.in-There.is)
 
@@ -52,7 +52,7 @@ returns-in-Back-clause-pair c =
     (back-follows f.there f.back c.self.invariant (Item Back) c.land-in-Back.new.self
     (land_item (walk_plan (leg_beside f.back f.there)) (way_counts f.back)) (next_refusal (leg_beside f.back f.there)
     (way_counts f.back)) c.land-in-Back.result refl refl
-    c.land-in-Back.ensures.quiet (c.land-in-Back.ensures.goes f.there.script c.self.invariant.back_way.stands)).pair
+    c.land-in-Back.ensures.quiet (c.land-in-Back.ensures.goes f.there.script c.self.invariant.back_way.stands c.self.invariant.back_way.landed)).pair
     ∙ ap (λ (p : Paired). after p (Item Back)) c.self.view_is
     ∙ ap (λ w. after c.args.self.now (Item w)) (sym c.in-Back.is)
 
@@ -63,7 +63,7 @@ returns-in-Back-clause-moved c =
     ∙ (back-follows f.there f.back c.self.invariant (Item Back) c.land-in-Back.new.self
     (land_item (walk_plan (leg_beside f.back f.there)) (way_counts f.back)) (next_refusal (leg_beside f.back f.there)
     (way_counts f.back)) c.land-in-Back.result refl refl
-    c.land-in-Back.ensures.quiet (c.land-in-Back.ensures.goes f.there.script c.self.invariant.back_way.stands)).moved
+    c.land-in-Back.ensures.quiet (c.land-in-Back.ensures.goes f.there.script c.self.invariant.back_way.stands c.self.invariant.back_way.landed)).moved
     ∙ ap (λ (p : Paired). moved_of p (Item Back)) c.self.view_is
     ∙ ap (λ w. moved_of c.args.self.now (Item w)) (sym c.in-Back.is)
 
@@ -73,7 +73,7 @@ returns-in-There-clause-walked c =
     (there-follows f.there f.back c.self.invariant (Item There) c.land.new.self
     (land_item (walk_plan (leg_beside f.there f.back)) (way_counts f.there)) (next_refusal (leg_beside f.there f.back)
     (way_counts f.there)) c.land.result refl refl
-    c.land.ensures.quiet (c.land.ensures.goes f.back.script c.self.invariant.there_way.stands)).walk.walked
+    c.land.ensures.quiet (c.land.ensures.goes f.back.script c.self.invariant.there_way.stands c.self.invariant.there_way.landed)).walk.walked
 
 pub returns-in-Back-clause-walked : goal.returns-in-Back-clause-walked
 returns-in-Back-clause-walked c =
@@ -82,4 +82,4 @@ returns-in-Back-clause-walked c =
     (land_item (walk_plan (leg_beside f.back f.there)) (way_counts f.back)) (next_refusal (leg_beside f.back f.there)
     (way_counts f.back)) c.land-in-Back.result refl refl
     c.land-in-Back.ensures.quiet (c.land-in-Back.ensures.goes f.there.script
-    c.self.invariant.back_way.stands)).walk.walked
+    c.self.invariant.back_way.stands c.self.invariant.back_way.landed)).walk.walked

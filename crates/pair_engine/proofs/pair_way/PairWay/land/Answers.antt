@@ -1,62 +1,67 @@
 -- The next item lands, or stalls.
-use Rattle.std.proofs.Common.{◌≤◌, None, refl, sym, ◌∙◌, ap, subst, arith}
+use Rattle.std.proofs.Common.{◌≤◌, None, refl, sym, ◌∙◌, ap, subst, arith, is_some}
 use Rattle.law_model.specs.session.Scenario.{packets_in}
 use Rattle.terminal_group.specs.Item.{kind_of}
-use Rattle.terminal_group.specs.Landed.{Landed, next_number, due_at}
+use Rattle.terminal_group.specs.Landed.{HasPassed, next_number}
 use Rattle.law_pair.specs.Common.{way_of}
-use Rattle.walk_engine.specs.Common.{landing_of, answer_by, Parts, Makes}
-use Rattle.walk_engine.proofs.WalkCoreLaws.LandSteps.{number-in, land-kind, land-due}
+use Rattle.walk_engine.specs.Common.{HasLanded, Makes, Parts, answer_by, counts_after, counts_of, landing_of}
+use Rattle.walk_engine.proofs.WalkCoreLaws.LandSteps.{number-in, land-kind, land-due, due-in, land-known}
+use Rattle.pair_engine.specs.Ways.{way_counts}
 use Rattle.pair_engine.proofs.LandLaws.{goes-none, goes-early, goes-landed}
 use Rattle.pair_engine.proofs.pair_way.PairWay.land.Goals as goal
 
 pub returns-in_default-clause-goes : goal.returns-in_default-clause-goes
-returns-in_default-clause-goes c other stands =
-    goes-none c.args.self.now other stands c.next_item.result _ c.landing.ensures c.next_item.ensures.first
-    (sym c.in_default.is)
+returns-in_default-clause-goes c other stands known =
+    goes-none c.args.self.now other stands known c.next_item.result c.next_item.ensures.first (sym c.in_default.is)
 
 pub returns-then-ticks-next-clause-goes : goal.returns-then-ticks-next-clause-goes
-returns-then-ticks-next-clause-goes c other stands =
+returns-then-ticks-next-clause-goes c other stands known =
     let early = c.if-ticks-next.true in
     let at = c.ticks.ensures in
-    goes-early c.args.self.now other stands c.next_item.result _ c.landing.ensures c.next_item.ensures.first
+    goes-early c.args.self.now other stands known c.next_item.result c.next_item.ensures.first
     c.in-Some.next (sym c.in-Some.is) (omega (arith, early, at))
 
 pub item_at-requires : goal.item_at-requires
 item_at-requires c =
     let own = c.args.self.now in
-    let numbered = ap (λ (l : Landed). next_number l c.in-Some.next.client) (sym c.landing.ensures)
-    ∙ c.in-Some.ensures.number in
-    (number-in (way_of own.script c.requires.0) (packets_in own.core.sink.taken) own.core c.requires.1
-    c.in-Some.next.client c.in-Some.next.number numbered).1
-
-pub land-requires : goal.land-requires
-land-requires c =
-    let own = c.args.self.now in
-    let numbered = ap (λ (l : Landed). next_number l c.in-Some.next.client) (sym c.landing.ensures)
-    ∙ c.in-Some.ensures.number in
-    ap (next_number own.core.source.landed)
-    (land-kind (way_of own.script c.requires.0) (packets_in own.core.sink.taken) own.core c.requires.1
-    c.in-Some.next.client c.in-Some.next.number (kind_of c.item_at.result) numbered c.item_at.ensures) ∙ numbered
+    let (other, stands, known) = c.requires in
+    (number-in (way_of own.script other) (packets_in own.core.sink.taken) own.core stands own.landing known
+    c.in-Some.next.client c.in-Some.next.number c.in-Some.ensures.number).1
 
 pub returns-clause-goes : goal.returns-clause-goes
-returns-clause-goes c other stands =
+returns-clause-goes c other stands known =
     let own = c.args.self.now in
     let leg = way_of own.script other in
     let backs = packets_in own.core.sink.taken in
     let next = c.in-Some.next in
-    let numbered = ap (λ (l : Landed). next_number l next.client) (sym c.landing.ensures) ∙ c.in-Some.ensures.number in
-    let dues = c.in-Some.ensures.due ∙ ap (λ (l : Landed). due_at l.items next.number) c.landing.ensures in
-    let kind = land-kind leg backs own.core stands next.client next.number (kind_of c.item_at.result) numbered
-    c.item_at.ensures in
     let low = c.if-ticks-next.false in
     let at = c.ticks.ensures in
+    let dues = c.in-Some.ensures.due in
     let late : next.due ≤ own.core.source.core.ticks = omega (arith, low, at) in
-    let makes : Makes leg backs (landing_of next.client) own.core c.land.new.self (answer_by None c.land.result) =
-    subst (λ client. Makes leg backs (landing_of client) own.core c.land.new.self (answer_by None c.land.result)) kind
-    (c.land.ensures.makes leg backs stands (record { due = omega (arith, late, dues); handed = c.item_at.ensures })) in
-    let moves = land-due leg backs own.core stands next.client next.number own.core.source.core.ticks next.due numbered
-    refl dues late in
-    let goes = goes-landed own other stands c.next_item.result _ c.landing.ensures c.next_item.ensures.first next
-    (sym c.in-Some.is) late moves c.land.new.self c.land.result makes
-    (ap (λ (p : Parts). p.sink.taken) c.land.ensures.rest) in
-    record { stands = goes.stands; counts = goes.counts; moved = c.landed.ensures ∙ goes.moved }
+    let kind = land-kind leg backs own.core stands own.landing known next.client next.number
+    (kind_of c.item_at.result) c.in-Some.ensures.number c.item_at.ensures in
+    let due = due-in leg backs own.core stands own.landing known next.client next.number
+    (kind_of c.item_at.result) c.in-Some.ensures.number c.item_at.ensures (omega (arith, late, dues)) in
+    let makes : Makes leg backs (landing_of next.client) own.core c.land-why.new.self
+    (answer_by None c.land-why.result) =
+    subst (λ client. Makes leg backs (landing_of client) own.core c.land-why.new.self
+    (answer_by None c.land-why.result)) kind (c.land-why.ensures.makes leg backs stands due) in
+    let moves = land-due leg backs own.core stands own.landing known next.client next.number
+    own.core.source.core.ticks next.due c.in-Some.ensures.number refl dues late in
+    let rows = ap (λ (p : Parts). p.sink.taken) c.land-why.ensures.rest in
+    let goes = goes-landed own other stands known c.next_item.result c.next_item.ensures.first next
+    (sym c.in-Some.is) late moves c.land-why.new.self c.land-why.result makes rows in
+    let landed = land-known leg backs own.core stands own.landing known c.land.new.self next.number
+    (kind_of c.item_at.result) c.land-why.result due (ap (next_number own.landing) kind ∙ c.in-Some.ensures.number)
+    (c.land-why.ensures.refusal leg backs stands due)
+    (subst (λ client. HasPassed own.landing c.land.new.self client (is_some c.land-why.result)) (sym kind)
+    c.land.ensures.passed) c.land.ensures.refusals in
+    record {
+      stands = goes.stands;
+      landed = subst (λ n. HasLanded leg (counts_of c.land-why.new.self (packets_in n)) c.land.new.self) (sym rows)
+          (subst (λ s. HasLanded leg s c.land.new.self) (sym makes.counts)
+          (subst (λ client. HasLanded leg (counts_after leg (way_counts own) (landing_of client)) c.land.new.self) kind
+          landed));
+      counts = goes.counts;
+      moved = c.landed.ensures ∙ goes.moved;
+    }

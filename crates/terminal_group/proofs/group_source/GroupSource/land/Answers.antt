@@ -14,6 +14,6 @@ land-requires c =
 pub returns-clause-passed : goal.returns-clause-passed
 returns-clause-passed c =
     subst (λ (s : Source). HasPassed s.landed c.land.new.self (is_client (kind_of c.args.item))
-    (is_some c.give-why.result)) c.self.view_is
-    (subst (λ client. HasPassed c.self.inside.landing c.land.new.self client (is_some c.give-why.result))
+    (is_some c.land-why.result)) c.self.view_is
+    (subst (λ client. HasPassed c.self.inside.landing c.land.new.self client (is_some c.land-why.result))
     c.is_frame.ensures c.land.ensures.passed)

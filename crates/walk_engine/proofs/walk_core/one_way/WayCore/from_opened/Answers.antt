@@ -3,7 +3,7 @@ use Rattle.walk_engine.proofs.WalkCoreLaws.OpenLaws.{new-counts, new-stands}
 use Rattle.walk_engine.proofs.walk_core.one_way.WayCore.from_opened.Goals as goal
 
 pub returns-clause-stands : goal.returns-clause-stands
-returns-clause-stands c leg other new alike = new-stands leg other c.args.opened new alike
+returns-clause-stands c leg config new alike = new-stands leg config c.args.opened new alike
 
 pub returns-clause-counts : goal.returns-clause-counts
-returns-clause-counts c leg other new alike = new-counts leg other c.args.opened new alike
+returns-clause-counts c leg config new alike = new-counts leg config c.args.opened new alike

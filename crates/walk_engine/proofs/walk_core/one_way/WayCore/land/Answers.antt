@@ -1,35 +1,34 @@
 -- The item is landed by the source side.
-use Rattle.std.proofs.Common.{refl, sym, ◌∙◌, ap, subst}
+use Rattle.std.proofs.Common.{sym, ◌∙◌, ap, subst}
 use Rattle.law_walk.specs.Common.{is_client}
 use Rattle.terminal_group.specs.Item.{kind_of}
-use Rattle.terminal_group.specs.Landed.{next_number}
 use Rattle.walk_engine.specs.walk_core.Parts.{WayStands}
-use Rattle.walk_engine.specs.Common.{Parts, IsDue}
-use Rattle.walk_engine.proofs.WalkCoreLaws.LandSteps.{land-taken}
+use Rattle.walk_engine.specs.Common.{Parts, IsDue, counts_of, landing_of, refusal_in_event}
+use Rattle.walk_engine.proofs.WalkCoreLaws.LandSteps.{land-taken, land-why}
 use Rattle.walk_engine.proofs.WalkCoreLaws.WayLaws.{makes-from}
 use Rattle.walk_engine.proofs.walk_core.one_way.WayCore.land.Goals as goal
-
-pub land-requires : goal.land-requires
-land-requires c =
-    ap (λ (p : Parts). next_number p.source.landed (is_client (kind_of c.args.item))) c.self.view_is ∙ c.requires
 
 pub returns-clause-makes : goal.returns-clause-makes
 returns-clause-makes c leg backs stands due =
     let is = subst (WayStands leg backs) (sym c.self.view_is) stands in
-    let now = subst (λ (p : Parts). IsDue leg p c.args.number (kind_of c.args.item)) (sym c.self.view_is) due in
-    let next = ap (λ (p : Parts). next_number p.source.landed (is_client (kind_of c.args.item))) c.self.view_is
-    ∙ c.requires in
+    let now = subst (λ (p : Parts). IsDue leg (counts_of p backs) (kind_of c.args.item)) (sym c.self.view_is) due in
     let e = c.land.ensures in
     makes-from leg backs _ _ _ _ _ c.self.view_is
-    (land-taken leg backs _ is (is_client (kind_of c.args.item)) c.land.new.self c.args.number (kind_of c.args.item)
-    c.land.result refl next now
+    (land-taken leg backs _ is (kind_of c.args.item) now c.land.new.self c.land.result
     (record {
       met = e.met;
       given = record { stands = e.made; ticks = e.ticks; same = e.kind };
-      passed = e.passed;
-      placed = e.placed;
+      landed = e.landed;
       rest = e.rest;
     }))
+
+pub returns-clause-refusal : goal.returns-clause-refusal
+returns-clause-refusal c leg backs stands due =
+    let is = subst (WayStands leg backs) (sym c.self.view_is) stands in
+    let now = subst (λ (p : Parts). IsDue leg (counts_of p backs) (kind_of c.args.item)) (sym c.self.view_is) due in
+    land-why leg backs _ is (kind_of c.args.item) now c.land.result c.land.ensures.met
+    ∙ ap (λ (p : Parts). refusal_in_event leg (counts_of p backs) (landing_of (is_client (kind_of c.args.item))))
+    c.self.view_is
 
 pub returns-clause-ticks : goal.returns-clause-ticks
 returns-clause-ticks c = c.land.ensures.ticks ∙ ap (λ (p : Parts). p.source.core.ticks) c.self.view_is

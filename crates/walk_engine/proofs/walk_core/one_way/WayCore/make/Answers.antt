@@ -1,17 +1,17 @@
 -- A frame is made, and goes to its place in the send rings.
-use Rattle.std.proofs.Common.{◌+◌, ◌%◌, length, refl, sym, ◌∙◌, ap, subst, arith, is_some}
+use Rattle.std.proofs.Common.{◌+◌, ◌%◌, ◌<◌, length, refl, sym, ◌∙◌, ap, subst, arith, is_some}
 use Rattle.law_model.proofs.ListLaws.{at-index}
 use Rattle.member_cells.specs.Held.{held}
 use Rattle.law_model.specs.Common.{steps_in, frame_of}
 use Rattle.terminal_source.specs.source_core.Terminal.{SameKind, needed}
 use Rattle.terminal_source.specs.source_core.Given.{with_cell}
 use Rattle.terminal_group.specs.Inbox.{cell_for, rest_for}
-use Rattle.terminal_group.specs.Source.{Source, SameScript, early_in, missing_in}
+use Rattle.terminal_group.specs.Counted.{Counted, SameCounts, missing_from}
 use Rattle.walk_engine.specs.walk_core.Parts.{WayStands}
 use Rattle.walk_engine.specs.Common.{Parts, sent_frames, CanTick, with_passed}
 use Rattle.walk_engine.proofs.WalkCoreLaws.CarryLaws.{frame-size, sent-places}
 use Rattle.walk_engine.proofs.WalkCoreLaws.TickLaws.{tick-makes_at, sent-read}
-use Rattle.walk_engine.proofs.WalkCoreLaws.WayLaws.{makes-from, same-early, same-missing, same-cell, same-rest}
+use Rattle.walk_engine.proofs.WalkCoreLaws.WayLaws.{makes-from, same-left, same-missing, same-cell, same-rest}
 use Rattle.walk_engine.proofs.walk_core.one_way.WayCore.make.Goals as goal
 
 pub next_place-place-requires : goal.next_place-place-requires
@@ -36,17 +36,17 @@ make-requires-clause-places c =
     frame-size leg f.source.core.ticks _ c.next_place-place.new.sent.items sent c.next_place-place.result
     c.index_mut.result.now there ∙ sym is.source.lines ∙ sym c.pass_on.ensures.kind.lines
 
-pub make-requires-clause-early : goal.make-requires-clause-early
-make-requires-clause-early c =
+pub make-requires-clause-left : goal.make-requires-clause-left
+make-requires-clause-left c =
     let p = c.pass_on.ensures in
-    same-early c.self.inside.source c.pass_on.new.source p.rest p.ticks p.kind
-    ∙ ap (λ (p : Parts). early_in p.source) c.self.view_is ∙ c.requires.early
+    same-left c.self.inside.source c.pass_on.new.source p.rest p.ticks p.kind
+    (subst (λ (p : Parts). p.source.core.ticks < p.source.total) (sym c.self.view_is) c.requires.left)
 
 pub make-requires-clause-cell : goal.make-requires-clause-cell
 make-requires-clause-cell c =
     let p = c.pass_on.ensures in
     same-missing c.self.inside.source c.pass_on.new.source p.rest p.ticks p.kind
-    ∙ ap (λ (p : Parts). missing_in p.source) c.self.view_is ∙ c.requires.cell
+    ∙ ap (λ (p : Parts). missing_from p.source) c.self.view_is ∙ c.requires.cell
 
 pub returns-clause-makes : goal.returns-clause-makes
 returns-clause-makes c leg backs stands can =
@@ -59,9 +59,9 @@ returns-clause-makes c leg backs stands can =
     let sent =
     sent-read leg f.source.core.ticks c.ticks-ticks.result f.lines.items c.deref.result.now _ _
     c.ticks-ticks.ensures c.deref.ensures.value (c.next_place-place.ensures.has leg size) is.sent in
-    let rest : SameScript f.source c.make.new.self = record {
-      total = m.rest.total ∙ ap (λ (s : Source). s.total) p.rest;
-      landed = m.rest.landed ∙ ap (λ (s : Source). s.landed) p.rest;
+    let rest : SameCounts f.source c.make.new.self = record {
+      total = m.rest.total ∙ ap (λ (s : Counted). s.total) p.rest;
+      landed = m.rest.landed ∙ ap (λ (s : Counted). s.landed) p.rest;
     } in
     let kind : SameKind c.make.new.self.core f.source.core = record {
       lines = m.kind.lines ∙ p.kind.lines;
@@ -93,6 +93,11 @@ returns-clause-inbox c =
     c.make.ensures.inbox ∙ same-rest c.self.inside.source c.pass_on.new.source p.rest p.ticks p.kind
     ∙ ap (λ (p : Parts). record p.source.inbox
     { cells = rest_for (is_some (needed p.source.core)) p.source.inbox.cells }) c.self.view_is
+
+pub returns-clause-landed : goal.returns-clause-landed
+returns-clause-landed c =
+    c.make.ensures.rest.landed ∙ ap (λ (s : Counted). s.landed) c.pass_on.ensures.rest
+    ∙ ap (λ (p : Parts). p.source.landed) c.self.view_is
 
 pub returns-clause-ticks : goal.returns-clause-ticks
 returns-clause-ticks c = c.make.ensures.ticks ∙ ap (λ n. n + 1) c.pass_on.ensures.ticks

@@ -1,7 +1,7 @@
 -- The source side takes the return cell.
 use Rattle.std.proofs.Common.{◌<◌, length, sym, ◌∙◌, ap, subst}
 use Rattle.terminal_group.specs.Inbox.{with_come}
-use Rattle.terminal_group.specs.Source.{Source}
+use Rattle.terminal_group.specs.Counted.{Counted}
 use Rattle.walk_engine.specs.Common.{Parts, sent_frames}
 use Rattle.walk_engine.proofs.walk_core.one_way.WayCore.put.Goals as goal
 
@@ -24,6 +24,6 @@ returns c =
       sink = f.sink;
       got = f.got;
     } in
-    ap (λ (s : Source). record now { source = s }) c.put.ensures
+    ap (λ (s : Counted). record now { source = s }) c.put.ensures
     ∙ ap (λ (p : Parts). record p
     { source = record p.source { inbox = with_come p.source.inbox c.args.cell } }) c.self.view_is

@@ -1,14 +1,16 @@
 -- Nothing has come, and nothing is on its way.
+use Rattle.std.proofs.Common.{sym, subst}
 use Rattle.law_model.specs.Common.{leg_of}
-use Rattle.walk_engine.proofs.WalkCoreLaws.OpenLaws.{new-walk, new-walk-counts}
+use Rattle.walk_engine.specs.Common.{HasLanded}
+use Rattle.walk_engine.proofs.WalkCoreLaws.OpenLaws.{none-known}
 use Rattle.walk_engine.proofs.walk_core.walk.Walk.begun.Goals as goal
 
 pub invariant_of-result : goal.invariant_of-result
 invariant_of-result c = (
   c.requires.script,
-  new-walk (leg_of c.args.script) c.args.way c.args.ring c.requires.stands c.requires.counts c.requires.inbox
-      c.requires.ring,
+  record {
+    stands = c.requires.stands;
+    landed = subst (λ s. HasLanded (leg_of c.args.script) s c.args.landing) (sym c.requires.counts)
+        (none-known (leg_of c.args.script) c.args.landing c.requires.landing);
+  },
 )
-
-pub returns-clause-counts : goal.returns-clause-counts
-returns-clause-counts c = new-walk-counts (leg_of c.args.script) c.args.way c.requires.counts c.requires.inbox

@@ -22,7 +22,7 @@ loop-self-smaller g c =
     let valid = subst IsValid inv.script
     (subst (λ (w : Walked). IsValid w.script) c.self.view_is c.self.invariant.0) in
     let walked = subst (λ (x : Script). IsWalked (leg_of x) s) inv.script
-    (subst (λ (w : Walked). IsWalked (leg_of w.script) w.counts) c.self.view_is c.self.invariant.1.stands.walked) in
+    (subst (λ (w : Walked). IsWalked (leg_of w.script) w.counts) c.self.view_is c.self.invariant.1.stands.stands.walked) in
     let rows = ap (λ (w : Walked). w.counts.rows) c.self.view_is in
     let ticks = ap (λ (w : Walked). w.script.config.ticks) c.self.view_is
     ∙ ap (λ (x : Script). x.config.ticks) inv.script in
@@ -42,7 +42,7 @@ loop-self-preserved g c =
     let valid = subst IsValid inv.script
     (subst (λ (w : Walked). IsValid w.script) c.self.view_is c.self.invariant.0) in
     let walked = subst (λ (x : Script). IsWalked (leg_of x) s) inv.script
-    (subst (λ (w : Walked). IsWalked (leg_of w.script) w.counts) c.self.view_is c.self.invariant.1.stands.walked) in
+    (subst (λ (w : Walked). IsWalked (leg_of w.script) w.counts) c.self.view_is c.self.invariant.1.stands.stands.walked) in
     let rows = ap (λ (w : Walked). w.counts.rows) c.self.view_is in
     let ticks = ap (λ (w : Walked). w.script.config.ticks) c.self.view_is
     ∙ ap (λ (x : Script). x.config.ticks) inv.script in
@@ -83,9 +83,9 @@ returns-clause-all g c =
     let inv = c.loop-self.invariant in
     let taken = c.taken.ensures in
     let test = c.loop-self-test.false in
-    let shut : c.self.inside.script.config.ticks ≤ c.self.inside.way.sink.taken = omega (arith, test, taken) in
+    let shut : c.self.inside.script.config.ticks ≤ c.self.inside.live.way.sink.taken = omega (arith, test, taken) in
     ap (λ (w : Walked). w.counts.rows) (sym c.self.view_is)
-    ∙ all-taken (leg_of c.self.inside.script) _ c.self.invariant.1.stands.sound c.self.invariant.1.stands.walked shut
+    ∙ all-taken (leg_of c.self.inside.script) _ c.self.invariant.1.stands.stands.sound c.self.invariant.1.stands.stands.walked shut
     ∙ ap (λ (w : Walked). w.script.config.ticks) c.self.view_is ∙ ap (λ (x : Script). x.config.ticks) inv.script
 
 pub returns-clause-gives : goal.returns-clause-gives
@@ -93,9 +93,9 @@ returns-clause-gives g c =
     let inv = c.loop-self.invariant in
     let taken = c.taken.ensures in
     let test = c.loop-self-test.false in
-    let shut : c.self.inside.script.config.ticks ≤ c.self.inside.way.sink.taken = omega (arith, test, taken) in
+    let shut : c.self.inside.script.config.ticks ≤ c.self.inside.live.way.sink.taken = omega (arith, test, taken) in
     let all = ap (λ (w : Walked). w.counts.rows) (sym c.self.view_is)
-    ∙ all-taken (leg_of c.self.inside.script) _ c.self.invariant.1.stands.sound c.self.invariant.1.stands.walked shut
+    ∙ all-taken (leg_of c.self.inside.script) _ c.self.invariant.1.stands.stands.sound c.self.invariant.1.stands.stands.walked shut
     ∙ ap (λ (w : Walked). w.script.config.ticks) c.self.view_is ∙ ap (λ (x : Script). x.config.ticks) inv.script in
     subst (GivesRows g.F.FrameOut.stands_for c.args.out.now c.loop-self.out (leg_of c.args.self.now.script)
     c.args.self.now.counts.rows) all inv.gives

@@ -1,26 +1,27 @@
 -- The next item of a kind lands, or stalls.
-use Rattle.std.proofs.Common.{◌≡◌, None, refl, sym, ◌∙◌, ap, subst, arith}
+use Rattle.std.proofs.Common.{◌≡◌, None, refl, sym, ◌∙◌, ap, subst, arith, is_some}
 use Rattle.law_model.specs.Common.{leg_of}
 use Rattle.law_model.specs.declared.walk_events.StallCause.TheVariants.{NotDue, Done as Stall_done}
-use Rattle.terminal_group.specs.Inbox.{Inbox}
+use Rattle.law_walk.specs.Common.{is_client}
 use Rattle.terminal_group.specs.Item.{kind_of}
-use Rattle.terminal_group.specs.Landed.{Landed, next_number, due_at}
-use Rattle.walk_engine.specs.Common.{landing_of, Walked, answer_by, moved_of, counts_after, counts_of, Makes}
+use Rattle.terminal_group.specs.Landed.{HasPassed, next_number}
+use Rattle.walk_engine.specs.Common.{HasLanded, IsDue, LiveMakes, Walked, answer_by, counts_after, landing_of}
+use Rattle.walk_engine.specs.Common.{live_counts, moved_of}
 use Rattle.walk_engine.specs.declared.walk_core.step_answers.Moved.TheVariants.{Stalled}
-use Rattle.walk_engine.proofs.WalkCoreLaws.LandSteps.{land-none, land-early, land-stays, land-kind, landed-walk}
+use Rattle.walk_engine.proofs.WalkCoreLaws.LandSteps.{land-none, land-early, land-stays, land-kind, due-in}
+use Rattle.walk_engine.proofs.WalkCoreLaws.LandSteps.{land-known}
 use Rattle.walk_engine.proofs.walk_core.walk.Walk.land.Goals as goal
-use Rattle.walk_engine.proofs.walk_core.walk.Walk.land.Goals.{After-land}
+use Rattle.walk_engine.proofs.walk_core.walk.Walk.land.Goals.{After-say-why}
 
 pub returns-in_default : goal.returns-in_default
 returns-in_default c =
     let f = c.self.inside in
     let leg = leg_of f.script in
-    let come = f.way.source.inbox.come in
-    let is = c.self.invariant.1.stands in
-    let none = sym (c.next.ensures ∙ ap (λ (l : Landed). next_number l c.args.client) c.landing.ensures)
-    ∙ c.in_default.is in
-    let stays = land-stays leg come f.way is c.args.client Stall_done
-    (land-none leg come f.way is c.args.client none) in
+    let come = f.live.way.source.inbox.come in
+    let is = c.self.invariant.1 in
+    let stays = land-stays leg come f.live.way is.stands.stands f.landing is.landed c.args.client Stall_done
+    (land-none leg come f.live.way is.stands.stands f.landing is.landed c.args.client
+    (sym c.next.ensures ∙ c.in_default.is)) in
     record {
       script = refl;
       counts = subst (λ (w : Walked). w.counts ≡ counts_after (leg_of w.script) w.counts (landing_of c.args.client))
@@ -34,16 +35,13 @@ pub returns-then-ticks-due : goal.returns-then-ticks-due
 returns-then-ticks-due c =
     let f = c.self.inside in
     let leg = leg_of f.script in
-    let come = f.way.source.inbox.come in
-    let is = c.self.invariant.1.stands in
-    let next = sym (c.next.ensures ∙ ap (λ (l : Landed). next_number l c.args.client) c.landing.ensures)
-    ∙ c.in-Some.is in
-    let late = c.due-due.ensures ∙ ap (λ (l : Landed). due_at l.items c.in-Some.number) c.landing-2.ensures in
+    let come = f.live.way.source.inbox.come in
+    let is = c.self.invariant.1 in
     let low = c.if-ticks-due.true in
     let cause = NotDue c.due-due.result in
-    let stays = land-stays leg come f.way is c.args.client cause
-    (land-early leg come f.way is c.args.client c.in-Some.number c.ticks.result c.due-due.result next
-    c.ticks.ensures late (omega (arith, low))) in
+    let stays = land-stays leg come f.live.way is.stands.stands f.landing is.landed c.args.client cause
+    (land-early leg come f.live.way is.stands.stands f.landing is.landed c.args.client c.in-Some.number c.ticks.result
+    c.due-due.result (sym c.next.ensures ∙ c.in-Some.is) c.ticks.ensures c.due-due.ensures (omega (arith, low))) in
     record {
       script = refl;
       counts = subst (λ (w : Walked). w.counts ≡ counts_after (leg_of w.script) w.counts (landing_of c.args.client))
@@ -52,55 +50,62 @@ returns-then-ticks-due c =
           c.self.view_is stays.1;
     }
 
-pub land-requires : goal.land-requires
-land-requires c =
-    let f = c.self.inside in
-    let next = sym (c.next.ensures ∙ ap (λ (l : Landed). next_number l c.args.client) c.landing.ensures)
-    ∙ c.in-Some.is in
-    ap (next_number f.way.source.landed)
-    (land-kind (leg_of f.script) f.way.source.inbox.come f.way c.self.invariant.1.stands c.args.client
-    c.in-Some.number (kind_of c.item_at.result) next c.item_at.ensures) ∙ next
+-- the item is due, is of the kind that lands, and so the walk goes on
+record IsSaid (c : After-say-why) : Type 0 where
+  kind : is_client (kind_of c.item_at.result) ≡ c.args.client
+  due : IsDue (leg_of c.self.inside.script) (live_counts c.self.inside.live) (kind_of c.item_at.result)
+  makes : LiveMakes (leg_of c.self.inside.script) (landing_of c.args.client) c.self.inside.live c.say-why.new.self
+      (answer_by None c.say-why.result)
 
--- the direction after an item has landed
-abbrev IsDone : After-land → Type 0
-IsDone c =
-    let f = c.self.inside in
-    Makes (leg_of f.script) f.way.source.inbox.come (landing_of c.args.client) f.way c.land.new.self
-    (answer_by None c.land.result)
-
-done : (c : After-land) → IsDone c
-done c =
+said : (c : After-say-why) → IsSaid c
+said c =
     let f = c.self.inside in
     let leg = leg_of f.script in
-    let come = f.way.source.inbox.come in
-    let is = c.self.invariant.1.stands in
-    let next = sym (c.next.ensures ∙ ap (λ (l : Landed). next_number l c.args.client) c.landing.ensures)
-    ∙ c.in-Some.is in
-    let late = c.due-due.ensures ∙ ap (λ (l : Landed). due_at l.items c.in-Some.number) c.landing-2.ensures in
+    let come = f.live.way.source.inbox.come in
+    let is = c.self.invariant.1 in
+    let next = sym c.next.ensures ∙ c.in-Some.is in
     let low = c.if-ticks-due.false in
+    let late = c.due-due.ensures in
     let ticks = c.ticks.ensures in
-    let kind = land-kind leg come f.way is c.args.client c.in-Some.number (kind_of c.item_at.result) next
-    c.item_at.ensures in
-    subst (λ client. Makes leg come (landing_of client) f.way c.land.new.self (answer_by None c.land.result)) kind
-    (c.land.ensures.makes leg come is
-    (record { due = omega (arith, low, late, ticks); handed = c.item_at.ensures }))
+    let kind = land-kind leg come f.live.way is.stands.stands f.landing is.landed c.args.client c.in-Some.number
+    (kind_of c.item_at.result) next c.item_at.ensures in
+    let due = due-in leg come f.live.way is.stands.stands f.landing is.landed c.args.client c.in-Some.number
+    (kind_of c.item_at.result) next c.item_at.ensures (omega (arith, low, late, ticks)) in
+    record {
+      kind = kind;
+      due = due;
+      makes = subst (λ client. LiveMakes leg (landing_of client) f.live c.say-why.new.self
+          (answer_by None c.say-why.result)) kind (c.say-why.ensures.makes leg is.stands due);
+    }
 
 pub invariant_of-self : goal.invariant_of-self
 invariant_of-self c =
     let f = c.self.inside in
-    let e = c.land.ensures in (
+    let leg = leg_of f.script in
+    let come = f.live.way.source.inbox.come in
+    let is = c.self.invariant.1 in
+    let here = said (goal.at.invariant_of-self c).After-say-why in
+    let next = ap (next_number f.landing) here.kind ∙ sym c.next.ensures ∙ c.in-Some.is in
+    let known = land-known leg come f.live.way is.stands.stands f.landing is.landed c.land.new.self c.in-Some.number
+    (kind_of c.item_at.result) c.say-why.result here.due next (c.say-why.ensures.refusal leg is.stands here.due)
+    (subst (λ client. HasPassed f.landing c.land.new.self client (is_some c.say-why.result)) (sym here.kind)
+    c.land.ensures.passed) c.land.ensures.refusals in (
       c.self.invariant.0,
-      landed-walk (leg_of f.script) f.way c.land.new.self f.ring f.last c.self.invariant.1
-          (done (goal.at.invariant_of-self c).After-land).stands e.ticks e.inbox e.rest,
+      record {
+        stands = here.makes.stands;
+        landed = subst (λ s. HasLanded leg s c.land.new.self) (sym here.makes.counts)
+            (subst (λ client. HasLanded leg (counts_after leg (live_counts f.live) (landing_of client))
+            c.land.new.self) here.kind known);
+      },
     )
 
 pub returns : goal.returns
 returns c =
-    let now = done (goal.at.returns c).After-land in
+    let here = said (goal.at.returns c).After-say-why in
     record {
       script = ap (λ (w : Walked). w.script) c.self.view_is;
-      counts = ap (λ (i : Inbox). counts_of c.land.new.self i.come) c.land.ensures.inbox ∙ now.counts
+      counts = here.makes.counts
           ∙ ap (λ (w : Walked). counts_after (leg_of w.script) w.counts (landing_of c.args.client)) c.self.view_is;
-      moved = c.landed.ensures ∙ now.moved
+      moved = c.landed.ensures ∙ here.makes.moved
           ∙ ap (λ (w : Walked). moved_of (leg_of w.script) w.counts (landing_of c.args.client)) c.self.view_is;
     }

@@ -10,4 +10,4 @@ returns-clause-valid c = subst (λ (w : Walked). IsValid w.script) c.self.view_i
 
 pub returns-clause-walked : goal.returns-clause-walked
 returns-clause-walked c =
-    subst (λ (w : Walked). IsWalked (leg_of w.script) w.counts) c.self.view_is c.self.invariant.1.stands.walked
+    subst (λ (w : Walked). IsWalked (leg_of w.script) w.counts) c.self.view_is c.self.invariant.1.stands.stands.walked

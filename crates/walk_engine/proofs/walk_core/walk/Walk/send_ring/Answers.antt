@@ -1,22 +1,28 @@
 -- What waits in a send ring.
-use Rattle.std.proofs.Common.{slice_get, ◌∙◌, ap, arith}
+use Rattle.std.proofs.Common.{length, slice_get, sym, ◌∙◌, ap, subst, arith}
 use Rattle.law_model.specs.Common.{leg_of}
-use Rattle.walk_engine.specs.Common.{Walked, send_ring}
+use Rattle.walk_engine.specs.Common.{Parts, Walked, counts_of, send_ring}
+use Rattle.walk_engine.specs.walk_core.Parts.{WayStands}
 use Rattle.walk_engine.proofs.walk_core.walk.Walk.send_ring.Goals as goal
 
 pub send_ring-requires-clause-line : goal.send_ring-requires-clause-line
 send_ring-requires-clause-line c =
     let low = c.requires in
     let lines = ap (λ (w : Walked). w.script.config.lines) c.self.view_is in
-    let size = c.self.invariant.1.stands.lines.size in
+    let size = ap (λ (p : Parts). length p.lines) c.way.ensures ∙ c.self.invariant.1.stands.stands.lines.size in
     omega (arith, low, lines, size)
 
 pub send_ring-requires-clause-stands : goal.send_ring-requires-clause-stands
 send_ring-requires-clause-stands c =
-    (leg_of c.self.inside.script, c.self.inside.way.source.inbox.come, c.self.invariant.1.stands)
+    let f = c.self.inside in
+    let come = f.live.way.source.inbox.come in
+    (leg_of f.script, come, subst (WayStands (leg_of f.script) come) (sym c.way.ensures) c.self.invariant.1.stands.stands)
 
 pub returns : goal.returns
 returns c =
     let f = c.self.inside in
-    c.send_ring.ensures (leg_of f.script) f.way.source.inbox.come c.self.invariant.1.stands
+    let leg = leg_of f.script in
+    let come = f.live.way.source.inbox.come in
+    c.send_ring.ensures leg come (subst (WayStands leg come) (sym c.way.ensures) c.self.invariant.1.stands.stands)
+    ∙ ap (λ (p : Parts). slice_get (send_ring leg (counts_of p come) c.args.line) c.args.place) c.way.ensures
     ∙ ap (λ (w : Walked). slice_get (send_ring (leg_of w.script) w.counts c.args.line) c.args.place) c.self.view_is

@@ -7,6 +7,5 @@ use Rattle.walk_engine.proofs.walk_core.walk.Walk.totals.Goals as goal
 
 pub returns : goal.returns
 returns c =
-    let f = c.self.inside in
-    c.totals.ensures (leg_of f.script) f.way.source.inbox.come c.self.invariant.1.stands
+    c.totals.ensures (leg_of c.self.inside.script) c.self.invariant.1.stands
     ∙ ap (λ (w : Walked). totals_of (leg_of w.script) w.counts) c.self.view_is

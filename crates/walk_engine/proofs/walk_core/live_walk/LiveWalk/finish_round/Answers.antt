@@ -1,0 +1,80 @@
+-- Each line, the return path and a row, once.
+use Rattle.std.proofs.Common.{length, ◌∙◌, ap, subst, arith}
+use Rattle.law_model.specs.Common.{Counts}
+use Rattle.walk_engine.specs.Common.{GivesRows, Live, live_counts}
+use Rattle.walk_engine.proofs.WalkCoreLaws.RoundLaws.{back-kept, carry-end, carry-rows, carry-turn, finish-parts}
+use Rattle.walk_engine.proofs.WalkCoreLaws.CarrySteps.{paths-size}
+use Rattle.walk_engine.proofs.WalkCoreLaws.WayLaws.{is-live, way-stands}
+use Rattle.walk_engine.proofs.walk_core.live_walk.LiveWalk.finish_round.Goals as goal
+
+pub lines-line-end-requires : goal.lines-line-end-requires
+lines-line-end-requires g c = way-stands _ (is-live _ _ c.self.view_is c.requires)
+
+pub carry-requires-clause-line : goal.carry-requires-clause-line
+carry-requires-clause-line g c =
+    let (leg, stands) = c.requires in
+    let first = stands.stands.lines.size in
+    let now = (c.loop-line.invariant.stands leg stands).stands.lines.size in
+    let lines = c.lines-line-end.ensures ∙ ap (λ (w : Live). length w.way.lines) c.self.view_is in
+    let test = c.loop-line-test.true in
+    omega (arith, first, now, lines, test)
+
+pub carry-requires-clause-stands : goal.carry-requires-clause-stands
+carry-requires-clause-stands g c =
+    let (leg, stands) = c.requires in (leg, c.loop-line.invariant.stands leg stands)
+
+pub loop-line-preserved : goal.loop-line-preserved
+loop-line-preserved g c =
+    let inv = c.loop-line.invariant in
+    let lines = c.lines-line-end.ensures ∙ ap (λ (w : Live). length w.way.lines) c.self.view_is in
+    let test = c.loop-line-test.true in
+    let e = c.carry.ensures in
+    let (some, is) = c.requires in
+    record {
+      stands = λ leg stands. (e.makes leg (inv.stands leg stands)).stands;
+      left = λ leg stands.
+          let first = stands.stands.lines.size in
+          let paths = paths-size leg stands.stands.sound in
+          carry-turn leg (live_counts c.args.self.now) (live_counts c.loop-line.self) (live_counts c.carry.new.self)
+          c.loop-line.line _ (omega (arith, first, paths, lines, test)) (inv.left leg stands)
+          (e.makes leg (inv.stands leg stands)).counts;
+      rows = ap (λ (s : Counts). s.rows) (e.makes some (inv.stands some is)).counts
+          ∙ carry-rows some (live_counts c.loop-line.self) c.loop-line.line ∙ inv.rows;
+      landed = e.landed ∙ inv.landed;
+    }
+
+pub back-requires : goal.back-requires
+back-requires g c = let (leg, stands) = c.requires in (leg, c.loop-line.invariant.stands leg stands)
+
+pub take-requires : goal.take-requires
+take-requires g c =
+    let (leg, stands) = c.requires in (leg, (c.back.ensures.makes leg (c.loop-line.invariant.stands leg stands)).stands)
+
+pub returns-clause-finishes : goal.returns-clause-finishes
+returns-clause-finishes g c leg stands =
+    let inv = c.loop-line.invariant in
+    let lines = c.lines-line-end.ensures ∙ ap (λ (w : Live). length w.way.lines) c.self.view_is in
+    let test = c.loop-line-test.false in
+    let first = stands.stands.lines.size in
+    let paths = paths-size leg stands.stands.sound in
+    let backs = c.back.ensures.makes leg (inv.stands leg stands) in
+    let takes = c.take.ensures.makes leg backs.stands in
+    record {
+      stands = takes.stands;
+      counts = finish-parts leg (live_counts c.args.self.now) (live_counts c.loop-line.self) (live_counts c.back.new.self)
+          (live_counts c.take.new.self)
+          (carry-end leg (live_counts c.args.self.now) (live_counts c.loop-line.self) c.loop-line.line _
+          (omega (arith, first, paths, lines, test)) (inv.left leg stands))
+          backs.counts takes.counts;
+    }
+
+pub returns-clause-landed : goal.returns-clause-landed
+returns-clause-landed g c = c.take.ensures.landed ∙ c.back.ensures.landed ∙ c.loop-line.invariant.landed
+
+pub returns-clause-gives : goal.returns-clause-gives
+returns-clause-gives g c leg stands =
+    let inv = c.loop-line.invariant in
+    let backs = c.back.ensures.makes leg (inv.stands leg stands) in
+    subst (λ n. GivesRows g.F.FrameOut.stands_for c.args.out.now c.take.new.out leg n (live_counts c.take.new.self).rows)
+    (back-kept leg (live_counts c.loop-line.self) (live_counts c.back.new.self) backs.counts ∙ inv.rows)
+    (c.take.ensures.gives leg backs.stands)

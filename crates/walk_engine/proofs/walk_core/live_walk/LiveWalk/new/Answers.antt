@@ -1,0 +1,29 @@
+-- What was opened stands for each leg over the network.
+use Rattle.std.proofs.Common.{◌≡◌, refl, sym, ◌∙◌, ap, subst}
+use Rattle.law_model.specs.Common.{Leg}
+use Rattle.law_model.specs.declared.script_types.Config.{Config}
+use Rattle.terminal_group.specs.Inbox.{empty_inbox}
+use Rattle.walk_engine.specs.Common.{IsAlike, IsLegOver}
+use Rattle.walk_engine.proofs.WalkCoreLaws.OpenLaws.{new-live, new-live-counts}
+use Rattle.walk_engine.proofs.walk_core.live_walk.LiveWalk.new.Goals as goal
+
+alike : (config : Config) (leg : Leg) → IsLegOver config leg → IsAlike leg config
+alike config leg over = record {
+  sound = over.sound;
+  network = subst (λ (c : Config). leg.config ≡ record c { lost = leg.config.lost }) over.network
+      (let same : leg.config ≡ record leg.config { lost = leg.config.lost } = refl in same);
+}
+
+pub returns-clause-stands : goal.returns-clause-stands
+returns-clause-stands c leg over =
+    let config = c.args.config.now in
+    let e = c.in_ok-way.ensures in
+    new-live leg c.in_ok-way.way c.in_ok-ring.ring (e.stands leg (alike config leg over))
+    (e.counts leg (alike config leg over)) over.quiet
+    (e.inbox ∙ ap (λ (c : Config). empty_inbox c.lost c.lag) (sym over.network)) c.in_ok-ring.ensures
+
+pub returns-clause-counts : goal.returns-clause-counts
+returns-clause-counts c leg over =
+    let e = c.in_ok-way.ensures in
+    new-live-counts leg c.in_ok-way.way (e.counts leg (alike c.args.config.now leg over))
+    (e.inbox ∙ ap (λ (c : Config). empty_inbox c.lost c.lag) (sym over.network))

@@ -1,0 +1,29 @@
+-- A tick, and what comes after it.
+use Rattle.std.proofs.Common.{subst}
+use Rattle.walk_engine.specs.Common.{GivesRows, live_counts}
+use Rattle.walk_engine.proofs.WalkCoreLaws.RoundLaws.{tick-kept, tick-parts}
+use Rattle.walk_engine.proofs.walk_core.live_walk.LiveWalk.round.Goals as goal
+
+pub tick-requires-clause-stands : goal.tick-requires-clause-stands
+tick-requires-clause-stands g c = let (leg, stands, none) = c.requires.ready in (leg, stands)
+
+pub finish_round-requires : goal.finish_round-requires
+finish_round-requires g c =
+    let (leg, stands, none) = c.requires.ready in (leg, (c.tick.ensures.makes leg stands none).stands)
+
+pub returns-clause-rounds : goal.returns-clause-rounds
+returns-clause-rounds g c leg stands none =
+    let ticks = c.tick.ensures.makes leg stands none in
+    let finishes = c.finish_round.ensures.finishes leg ticks.stands in
+    record {
+      stands = finishes.stands;
+      counts = tick-parts leg (live_counts c.args.self.now) (live_counts c.tick.new.self) (live_counts c.finish_round.new.self)
+          ticks.counts finishes.counts;
+    }
+
+pub returns-clause-gives : goal.returns-clause-gives
+returns-clause-gives g c leg stands none =
+    let ticks = c.tick.ensures.makes leg stands none in
+    subst (λ n. GivesRows g.F.FrameOut.stands_for c.args.out.now c.finish_round.new.out leg n (live_counts c.finish_round.new.self).rows)
+    (tick-kept leg (live_counts c.args.self.now) (live_counts c.tick.new.self) ticks.counts)
+    (c.finish_round.ensures.gives leg ticks.stands)

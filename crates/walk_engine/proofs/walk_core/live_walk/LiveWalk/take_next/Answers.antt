@@ -1,0 +1,73 @@
+-- A row is taken, or the cells that were popped wait for more.
+use Rattle.std.proofs.Common.{◌+◌, ◌≤◌, length, sym, ◌∙◌, ap, subst}
+use Rattle.walk_engine.specs.Common.{GivesRows, Live, LiveStands, Parts, listed, live_counts, take_moved}
+use Rattle.walk_engine.proofs.WalkCoreLaws.TakenLaws.{take-counts, waits-walk, taken-walk, said-is, said-room, is-free}
+use Rattle.walk_engine.proofs.WalkCoreLaws.WayLaws.{is-live, way-stands, live-from}
+use Rattle.walk_engine.proofs.walk_core.live_walk.LiveWalk.take_next.Goals as goal
+
+pub take-requires : goal.take-requires
+take-requires g c = way-stands _ (is-live _ _ c.self.view_is c.requires.stands)
+
+pub say-requires : goal.say-requires
+say-requires g c =
+    let f = c.self.inside in
+    let (leg, is) = is-live _ _ c.self.view_is c.requires.stands in
+    let none = is-free leg _ _ is c.self.view_is c.requires.free in
+    let takes = c.take.ensures.takes leg f.way.source.inbox.come is.stands none in
+    let said = said-is leg f.way f.ring f.last is none c.take.new.self c.take.result takes
+    c.take.ensures.rest c.in-Taken.back c.in-Taken.is in
+    subst (λ p. length f.ring + length (listed p) ≤ 4) (sym said) (said-room leg f.way f.ring f.last is none)
+
+pub returns-in-Waiting-clause-makes : goal.returns-in-Waiting-clause-makes
+returns-in-Waiting-clause-makes g c leg stands =
+    let f = c.self.inside in
+    let is = subst (LiveStands leg) (sym c.self.view_is) stands in
+    let none = is-free leg _ _ is c.self.view_is c.requires.free in
+    let e = c.take.ensures in
+    let takes = e.takes leg f.way.source.inbox.come is.stands none in
+    live-from leg _ _ _ _ _ c.self.view_is (record {
+      stands = waits-walk leg f.way f.ring f.last is none c.take.new.self c.take.result takes e.rest c.in-Waiting.line
+          c.in-Waiting.is;
+      counts = take-counts leg f.way f.ring f.last is none c.take.new.self c.take.result takes e.rest;
+      moved = ap take_moved (sym c.in-Waiting.is) ∙ takes.makes.moved;
+    })
+
+pub returns-in-Waiting-clause-landed : goal.returns-in-Waiting-clause-landed
+returns-in-Waiting-clause-landed g c =
+    ap (λ (p : Parts). p.source.landed) c.take.ensures.rest ∙ ap (λ (w : Live). w.way.source.landed) c.self.view_is
+
+pub returns-in-Waiting-clause-gives : goal.returns-in-Waiting-clause-gives
+returns-in-Waiting-clause-gives g c leg stands =
+    let f = c.self.inside in
+    let is = subst (LiveStands leg) (sym c.self.view_is) stands in
+    let none = is-free leg _ _ is c.self.view_is c.requires.free in
+    subst (λ (w : Live). GivesRows g.F.FrameOut.stands_for c.args.out.now c.take.new.out leg (live_counts w).rows
+    c.take.new.self.sink.taken) c.self.view_is
+    (c.take.ensures.gives leg f.way.source.inbox.come is.stands none)
+
+pub returns-in-Taken-clause-makes : goal.returns-in-Taken-clause-makes
+returns-in-Taken-clause-makes g c leg stands =
+    let f = c.self.inside in
+    let is = subst (LiveStands leg) (sym c.self.view_is) stands in
+    let none = is-free leg _ _ is c.self.view_is c.requires.free in
+    let e = c.take.ensures in
+    let takes = e.takes leg f.way.source.inbox.come is.stands none in
+    live-from leg _ _ _ _ _ c.self.view_is (record {
+      stands = taken-walk leg f.way f.ring f.last is none c.take.new.self c.take.result takes e.rest c.in-Taken.back
+          c.say.new.self c.in-Taken.is c.say.ensures;
+      counts = take-counts leg f.way f.ring f.last is none c.take.new.self c.take.result takes e.rest;
+      moved = ap take_moved (sym c.in-Taken.is) ∙ takes.makes.moved;
+    })
+
+pub returns-in-Taken-clause-landed : goal.returns-in-Taken-clause-landed
+returns-in-Taken-clause-landed g c =
+    ap (λ (p : Parts). p.source.landed) c.take.ensures.rest ∙ ap (λ (w : Live). w.way.source.landed) c.self.view_is
+
+pub returns-in-Taken-clause-gives : goal.returns-in-Taken-clause-gives
+returns-in-Taken-clause-gives g c leg stands =
+    let f = c.self.inside in
+    let is = subst (LiveStands leg) (sym c.self.view_is) stands in
+    let none = is-free leg _ _ is c.self.view_is c.requires.free in
+    subst (λ (w : Live). GivesRows g.F.FrameOut.stands_for c.args.out.now c.take.new.out leg (live_counts w).rows
+    c.take.new.self.sink.taken) c.self.view_is
+    (c.take.ensures.gives leg f.way.source.inbox.come is.stands none)

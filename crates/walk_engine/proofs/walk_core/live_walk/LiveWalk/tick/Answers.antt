@@ -1,0 +1,50 @@
+-- A tick is made, or stalls.
+use Rattle.std.proofs.Common.{◌/◌, ◌%◌, ◌==◌, ◌<◌, if◌then◌else◌, Some, sym, ◌∙◌, ap, subst}
+use Rattle.law_model.specs.Common.{step}
+use Rattle.law_model.specs.declared.walk_events.Event.TheVariants.{Tick}
+use Rattle.law_walk.specs.Common.{walk_plan}
+use Rattle.terminal_group.specs.Counted.{missing_from}
+use Rattle.terminal_group.specs.Inbox.{Inbox}
+use Rattle.walk_engine.specs.Common.{Live, LiveStands, counts_of, live_counts}
+use Rattle.walk_engine.proofs.WalkCoreLaws.TickLaws.{tick-stays, can-tick, tick-live}
+use Rattle.walk_engine.proofs.WalkCoreLaws.WayLaws.{is-live, way-stands, live-from}
+use Rattle.walk_engine.proofs.walk_core.live_walk.LiveWalk.tick.Goals as goal
+
+pub returns-in-Some-clause-makes : goal.returns-in-Some-clause-makes
+returns-in-Some-clause-makes c leg stands none =
+    let stays = tick-stays leg (live_counts c.args.self.now) c.in-Some.cause
+    (sym c.in-Some.is ∙ c.tick_stall.ensures.cause leg stands none) in
+    record { stands = stands; counts = stays.0; moved = stays.1 }
+
+pub make-back-requires-clause-stands : goal.make-back-requires-clause-stands
+make-back-requires-clause-stands c = way-stands _ (is-live _ _ c.self.view_is c.requires.stands)
+
+pub make-back-requires-clause-left : goal.make-back-requires-clause-left
+make-back-requires-clause-left c =
+    subst (λ (w : Live). w.way.source.core.ticks < w.way.source.total) (sym c.self.view_is) c.requires.left
+
+pub make-back-requires-clause-cell : goal.make-back-requires-clause-cell
+make-back-requires-clause-cell c =
+    ap (λ (w : Live). missing_from w.way.source) c.self.view_is ∙ c.tick_stall.ensures.cell c.in_default.is
+
+pub returns-clause-makes : goal.returns-clause-makes
+returns-clause-makes c leg stands none =
+    let f = c.self.inside in
+    let is = subst (LiveStands leg) (sym c.self.view_is) stands in
+    let e = sym c.in_default.is ∙ c.tick_stall.ensures.cause leg stands none
+    ∙ ap (λ (w : Live). (step (walk_plan leg) (live_counts w) Tick).cause) (sym c.self.view_is) in
+    let m = c.make-back.ensures in
+    let makes = m.makes leg f.way.source.inbox.come is.stands
+    (can-tick leg f.way f.ring f.last is e c.make-back.result m.cell) in
+    let noted = c.next_note-self-inside.ensures
+    ∙ ap (λ n. if n % 16 == 8 then Some
+    (record { packet = n / 16; back = c.make-back.result }) else f.last) c.ticks-ticks.ensures in
+    live-from leg _ _ _ _ _ c.self.view_is (record {
+      stands = tick-live leg f.way f.ring f.last is e c.make-back.result m.cell c.make-back.new.self makes.stands
+          m.ticks m.inbox m.rest c.next_note-self-inside.result noted;
+      counts = ap (λ (i : Inbox). counts_of c.make-back.new.self i.come) m.inbox ∙ makes.counts;
+      moved = makes.moved;
+    })
+
+pub returns-clause-landed : goal.returns-clause-landed
+returns-clause-landed c = c.make-back.ensures.landed ∙ ap (λ (w : Live). w.way.source.landed) c.self.view_is
