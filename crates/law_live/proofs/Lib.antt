@@ -1,0 +1,11 @@
+pub mod GrowLaws
+pub mod LandingLaws
+pub mod RoundLaws
+pub mod PassLaws
+pub mod StandLaws
+pub mod SameLaws
+pub mod TextLaws
+pub mod WindowLaws
+pub mod SoundLaws
+pub mod AgreeLaws
+pub mod TheoremLaws

@@ -1,0 +1,23 @@
+//! What a conversation with a running session is, and that it is a walk. Whoever talks says what happens now: an
+//! item lands, a line is cut or mended, some ticks pass. Here is what may be said, how it then stands, the counts
+//! and the answers, and the script of it all. There is no code here, and no language that says it. Begin at
+//! `script_law`, by which a walk of the script makes the same counts and writes the same frames; `said_law` is
+//! about what may be said, `pass_law` and `turn_law` about time, `answer_law` and `grow_law` about what is
+//! answered; and `agree_law` about the legs of which all that is said, whatever is said later.
+#![tactic(auto)]
+
+mod answers_that_grow;
+mod legs_that_agree;
+mod script_of_a_conversation;
+mod ticks_that_pass;
+mod what_is_answered;
+mod what_is_said;
+mod worked_conversations;
+
+pub use answers_that_grow::grow_law;
+pub use legs_that_agree::agree_law;
+pub use script_of_a_conversation::script_law;
+pub use ticks_that_pass::{pass_law, turn_law};
+pub use what_is_answered::answer_law;
+pub use what_is_said::said_law;
+pub use worked_conversations::worked_law;
