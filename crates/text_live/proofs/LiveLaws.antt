@@ -1,0 +1,9 @@
+pub mod WindowLaws
+pub mod CourseLaws
+pub mod ItemLaws
+pub mod SaidLaws
+pub mod ScriptLaws
+pub mod ReadLaws
+pub mod StateLaws
+pub mod FrameLaws
+pub mod WorkedLaws

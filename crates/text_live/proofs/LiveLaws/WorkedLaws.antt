@@ -1,0 +1,16 @@
+-- The worked texts, by computation.
+use Rattle.std.proofs.Common.{◌≡◌, refl, Ok}
+use Rattle.hex.specs.Hex.{decode_pairs}
+use Rattle.text_lines.specs.Words.{words}
+use Rattle.text_lines.specs.Language.{said_from}
+use Rattle.law_model.specs.Common.{frame_dues, command_dues, slip_after}
+use Rattle.text_live.specs.LiveScript.{script_of_live}
+use Rattle.text_live.specs.Worked.{frame_lines, frame_script, cut_lines, cut_script}
+
+pub frame_worked : script_of_live 43 frame_lines ≡ Ok frame_script
+unfolding decode_pairs words said_from frame_dues command_dues slip_after
+frame_worked = refl
+
+pub cut_worked : script_of_live 326 cut_lines ≡ Ok cut_script
+unfolding words said_from frame_dues command_dues slip_after
+cut_worked = refl

@@ -1,0 +1,5 @@
+pub mod LiveLines
+pub mod LiveScript
+pub mod Reading
+pub mod Helps
+pub mod Worked

@@ -1,0 +1,56 @@
+-- Two live texts, and the scripts that say the same, worked by hand.
+use Rattle.std.specs.Prelude.{ℕ, List, [], ◌∷◌, codes}
+use Rattle.law_model.specs.Common.{vc4_size, default_options}
+use Rattle.law_model.specs.declared.script_types.EventLine.TheVariants.{Client, Operator, Round}
+use Rattle.law_model.specs.declared.script_types.ItemKind.TheVariants.{Add, Frame}
+use Rattle.law_model.specs.declared.script_types.Script.{Script}
+
+-- a frame of one octet in tick 40
+abbrev pub frame_lines : List (List ℕ)
+frame_lines =
+    codes "lines 1" ∷ codes "delays 0" ∷ codes "ring 1" ∷ codes "lag 1" ∷ codes "ticks 1000" ∷ codes "add 0"
+    ∷ codes "pass 40" ∷ codes "frame aa" ∷ codes "pass 1" ∷ []
+
+abbrev pub frame_script : Script
+frame_script = record {
+  config = record {
+    lines = 1;
+    delays = 0 ∷ [];
+    windows = [] ∷ [];
+    lost = [];
+    ring = 1;
+    lag = 1;
+    ticks = 1000;
+    size = vc4_size;
+    options = default_options;
+  };
+  items = record { due = 0; kind = Add 0 } ∷ record { due = 40; kind = Frame (170 ∷ []) } ∷ [];
+  events = Round 43 ∷ Client 1 ∷ Operator 1 ∷ [];
+}
+
+-- line 1 is cut where its failure that was known before ends, and mended; line 0 is cut for one tick; two lines are cut
+-- and mended, or cut, without a tick behind it
+abbrev pub cut_lines : List (List ℕ)
+cut_lines =
+    codes "lines 2" ∷ codes "delays 0 3" ∷ codes "ring 8" ∷ codes "lag 2" ∷ codes "ticks 5000"
+    ∷ codes "fail 1 300 310 2" ∷ codes "add 0" ∷ codes "pass 310" ∷ codes "cut 1" ∷ codes "pass 6" ∷ codes "cut 0"
+    ∷ codes "mend 1" ∷ codes "pass 1" ∷ codes "mend 0" ∷ codes "cut 0" ∷ codes "mend 0" ∷ codes "pass 9"
+    ∷ codes "cut 1" ∷ []
+
+abbrev pub cut_script : Script
+cut_script = record {
+  config = record {
+    lines = 2;
+    delays = 0 ∷ 3 ∷ [];
+    windows = (record { first = 316; end = 317; slip = 0 } ∷ [])
+        ∷ (record { first = 300; end = 310; slip = 2 } ∷ record { first = 310; end = 316; slip = 0 } ∷ []) ∷ [];
+    lost = [];
+    ring = 8;
+    lag = 2;
+    ticks = 5000;
+    size = vc4_size;
+    options = default_options;
+  };
+  items = record { due = 0; kind = Add 0 } ∷ [];
+  events = Round 326 ∷ Client 1 ∷ Operator 1 ∷ [];
+}

@@ -1,0 +1,70 @@
+//! The octets of a frame, read into a vector that has room for the longest.
+ghost use Rattle.std.specs.Prelude.{◌≡◌, ◌≢◌, ℕ, ◌≤◌, ◌/◌, List, length, true, false, None, Some, Ok};
+ghost use Rattle.std.specs.Prelude.{OnOk, IfErr, vec_capacity};
+ghost use Rattle.hex.specs.Hex.{decode_of};
+ghost use Rattle.text_lines.specs.Words.{octets_of};
+ghost use Rattle.text_lines.specs.Fields.{octets_fault};
+
+use text_hex::decode_into;
+use text_lines::FieldFault;
+
+/// The octets of the longest frame that a text may say.
+pub(crate) const MOST_OCTETS: usize = 65_535;
+
+// Whether a text is pairs of hexadecimal digits.
+fn is_hex(text: &[u8]) -> bool
+    ensures yes { result ≡ true → (bytes : List ℕ) × (decode_of text.now ≡ Ok bytes) }
+    ensures no { result ≡ false → (bytes : List ℕ) → decode_of text.now ≢ Ok bytes }
+{
+    if text.len() % 2 == 1 {
+        return false;
+    }
+    for c in text {
+        if !c.is_ascii_hexdigit() {
+            return false;
+        }
+    }
+    true
+}
+
+// What is wrong with digits that say more octets than a frame may have.
+fn long_fault(digits: &[u8]) -> FieldFault
+    requires { 65536 ≤ length digits.now / 2 }
+    ensures { octets_fault 2 1 65535 (decode_of digits.now) ≡ Some result }
+{
+    if is_hex(digits) {
+        FieldFault::Size {
+            word: 2,
+            least: 1,
+            most: 65_535,
+        }
+    } else {
+        FieldFault::Hex { word: 2 }
+    }
+}
+
+/// Reads the octets of a frame in the place of those before. Their digits are the second word of a line.
+pub(crate) fn read_octets(digits: &[u8], octets: &mut Vec<u8>) -> Result<(), FieldFault>
+    requires { 65535 ≤ vec_capacity octets.old }
+    ensures room { 65535 ≤ vec_capacity octets.new }
+    ensures fine { OnOk result (octets_fault 2 1 65535 (decode_of digits.now) ≡ None) }
+    ensures octets { OnOk result (octets.new.items ≡ octets_of digits.now) }
+    ensures err { IfErr result (λ fault.
+        octets_fault 2 1 65535 (decode_of digits.now) ≡ Some fault) }
+{
+    if digits.len() / 2 > MOST_OCTETS {
+        return Err(long_fault(digits));
+    }
+    octets.clear();
+    if decode_into(digits, octets).is_err() {
+        return Err(FieldFault::Hex { word: 2 });
+    }
+    if octets.is_empty() {
+        return Err(FieldFault::Size {
+            word: 2,
+            least: 1,
+            most: 65_535,
+        });
+    }
+    Ok(())
+}

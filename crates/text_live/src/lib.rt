@@ -1,0 +1,21 @@
+//! Live texts: a configuration, and then what happens, line by line while it happens. What such a text says, its first
+//! fault, and the script that says the same afterwards are definitions that compute (`live_lines` and
+//! `script_of_live` of the specs); the reader gives just that of one line after another. Nothing is run here, and
+//! nothing of a line is kept but what later lines are tested by. Begin with `LiveReader`.
+#![tactic(auto)]
+
+mod first_word;
+mod frame_digits;
+mod line_help;
+mod live_fault;
+mod live_laws;
+mod live_line;
+mod live_reader;
+mod live_state;
+
+pub use first_word::{EarlierPart, LiveKeyword};
+pub use line_help::live_help;
+pub use live_fault::{LiveFault, LiveLineFault};
+pub use live_laws::{fault_law, valid_law, worked_law};
+pub use live_line::LiveLine;
+pub use live_reader::LiveReader;

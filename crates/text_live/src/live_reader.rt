@@ -1,0 +1,320 @@
+//! A live text, line by line.
+ghost use Rattle.std.specs.Prelude.{◌≡◌, ◌⊎◌, ◌↔◌, ℕ, ◌+◌, List, true, option_map, Some, None, Err};
+ghost use Rattle.std.specs.Prelude.{IfOk, IfErr, OnOk, IfSome};
+ghost use Rattle.text_lines.specs.Words.{words, is_skipped};
+ghost use Rattle.law_model.specs.Common.{IsNetwork};
+ghost use Rattle.text_scripts.specs.script_read.Pieces.{IsReader, HasNumbersLeft, next_number, drafted};
+ghost use Rattle.text_live.specs.LiveLines.{Said, of_script, nothing_said, opening_fault, line_fault};
+ghost use Rattle.text_live.specs.LiveScript.{passed};
+ghost use Rattle.text_live.specs.Reading.{IsLiveReader, IsAt, IsToldAt, HasLinesLeft, ReadsLine, Stops, HandsOut};
+ghost use Rattle.text_live.specs.Reading.{IsLiveLine, IsEarlierLine, failure, line_at, waiting_config, frame_of};
+ghost use Rattle.text_live.specs.Reading.{opened_said, has_begun, no_memory};
+ghost use Rattle.text_scripts.specs.script_read.Statements.{words_fault, words_said, after};
+
+use crate::first_word::{EarlierPart, FirstWord, LiveKeyword};
+use crate::live_fault::{LiveFault, LiveLineFault};
+use crate::live_line::LiveLine;
+use crate::live_state::LiveState;
+use law_model::Config;
+use std::alloc::{AllocError, Global};
+use text_lines::first_word;
+use text_scripts::script_read::{ScriptReader, limit_fault};
+
+/// Reads a live text line by line. It keeps no item and no failure, but what later lines are tested by. Memory is taken
+/// by `new` and by lines of the configuration and of windows.
+#[derive(Drop)]
+pub struct LiveReader {
+    // Where the lines of a script take memory.
+    alloc: Global,
+    // The number of the next line.
+    number: u32,
+    // What the lines before the first live one say.
+    settings: Option<ScriptReader>,
+    // The configuration, from the first live line until it is handed out.
+    config: Option<Config>,
+    // What the live lines say.
+    state: LiveState,
+    // The octets of the last frame.
+    octets: Vec<u8>,
+    // Why it doesn't read on.
+    fault: Option<LiveFault>,
+}
+
+// The lines of a script with one more.
+fn next_script(alloc: Global, reader: ScriptReader, line: &[u8]) -> Result<ScriptReader, LiveFault>
+    requires reader { IsReader reader }
+    requires room { HasNumbersLeft reader 1 }
+    ensures reader { IfOk result IsReader }
+    ensures sound { IfOk result (λ _. words_fault (drafted reader) (words line.now) ≡ None) }
+    ensures number { IfOk result (λ read. next_number read ≡ next_number reader + 1) }
+    ensures draft { IfOk result (λ read. drafted read ≡
+        after (drafted reader) (words_said (words line.now))) }
+    ensures fault { IfErr result (λ fault. (fault ≡ no_memory) ⊎ IsToldAt (next_number reader)
+        (option_map of_script (words_fault (drafted reader) (words line.now))) fault) }
+{
+    match reader.read_next(alloc, line) {
+        Ok(read) => Ok(read),
+        Err(fault) => Err(LiveFault::Script(fault)),
+    }
+}
+
+// The configuration that lines of a script say, where it is whole and fits.
+fn opened(reader: ScriptReader) -> Result<Config, LiveFault>
+    requires reader { IsReader reader }
+    requires room { HasNumbersLeft reader 0 }
+    ensures fine { IfOk result (λ _. opening_fault None (drafted reader) ≡ None) }
+    ensures config { IfOk result (λ config. config ≡ (drafted reader).config) }
+    ensures network { IfOk result IsNetwork }
+    ensures fault { IfErr result (λ fault.
+        IsToldAt (next_number reader) (opening_fault None (drafted reader)) fault) }
+{
+    let script = match reader.end() {
+        Ok(script) => script,
+        Err(fault) => return Err(LiveFault::Script(fault)),
+    };
+    match limit_fault(&script) {
+        Some(fault) => Err(LiveFault::Script(fault)),
+        None => Ok(script.config),
+    }
+}
+
+impl LiveReader {
+    /// A reader that has read nothing.
+    pub fn new(alloc: Global) -> Result<LiveReader, AllocError>
+        ensures reader { IfOk result IsLiveReader }
+        ensures at { IfOk result (λ reader. IsAt reader 1 nothing_said) }
+    {
+        Ok(LiveReader {
+            alloc,
+            number: 1,
+            settings: Some(ScriptReader::from_line(alloc, 1)),
+            config: None,
+            state: LiveState::new(alloc)?,
+            octets: Vec::with_capacity(alloc, 65_535)?,
+            fault: None,
+        })
+    }
+
+    /// Why it doesn't read on, where it doesn't.
+    pub fn failure(&self) -> Option<LiveFault>
+        ensures { result ≡ failure self.now }
+    {
+        self.fault
+    }
+
+    /// Whether it may read one more line: a text has at most 67,108,864.
+    pub fn has_lines_left(&self) -> bool
+        ensures { (result ≡ true) ↔ HasLinesLeft self.now }
+    {
+        self.number <= 67_108_864
+    }
+
+    /// How many ticks have passed: in which of them an item is due that is said now.
+    pub fn passed(&self) -> u32
+        requires { IsLiveReader self.now }
+        ensures { (n : ℕ) (s : Said) → IsAt self.now n s → result ≡ passed s }
+    {
+        self.state.passed
+    }
+
+    /// The octets of the frame, where the last line that was read sends one.
+    pub fn frame(&self) -> &[u8]
+        ensures { result.now ≡ frame_of self.now }
+    {
+        self.octets.as_slice()
+    }
+
+    /// Hands out the configuration with the windows of `fail` lines, once, from the first live line on.
+    pub fn take_config(&mut self) -> Option<Config>
+        requires reader { IsLiveReader self.old }
+        ensures reader { IsLiveReader self.new }
+        ensures config { result ≡ waiting_config self.old }
+        ensures network { IfSome result IsNetwork }
+        ensures at { (n : ℕ) (s : Said) → IsAt self.old n s → IsAt self.new n s }
+        ensures failure { failure self.new ≡ failure self.old }
+        ensures number { line_at self.new ≡ line_at self.old }
+        ensures frame { frame_of self.new ≡ frame_of self.old }
+    {
+        self.config.take()
+    }
+
+    // Reads no more, for this fault of the line that is read.
+    fn stop(&mut self, fault: LiveLineFault) -> LiveFault
+        requires { IsLiveReader self.old }
+        ensures fault { result ≡ LiveFault.Line (line_at self.old) fault }
+        ensures reader { IsLiveReader self.new }
+        ensures failed { failure self.new ≡ Some result }
+    {
+        let stop = LiveFault::Line {
+            number: self.number,
+            fault,
+        };
+        self.fault = Some(stop);
+        stop
+    }
+
+    // Reads a line that says nothing.
+    fn read_blank(&mut self, line: &[u8]) -> Result<LiveLine, LiveFault>
+        requires reader { IsLiveReader self.old }
+        requires room { HasLinesLeft self.old }
+        requires goes_on { failure self.old ≡ None }
+        requires blank { is_skipped (words line.now) ≡ true }
+        ensures reader { IsLiveReader self.new }
+        ensures read { (n : ℕ) (s : Said) → IsAt self.old n s →
+            IfOk result (λ said. ReadsLine self.new n s (words line.now) said) }
+        ensures stops { (n : ℕ) (s : Said) → IsAt self.old n s →
+            IfErr result (λ fault. Stops n s (words line.now) fault) }
+        ensures failed { IfErr result (λ fault. failure self.new ≡ Some fault) }
+    {
+        let Some(reader) = self.settings.take() else {
+            self.number += 1;
+            return Ok(LiveLine::Blank);
+        };
+        match next_script(self.alloc, reader, line) {
+            Ok(reader) => {
+                self.settings = Some(reader);
+                self.number += 1;
+                Ok(LiveLine::Blank)
+            }
+            Err(fault) => {
+                self.fault = Some(fault);
+                Err(fault)
+            }
+        }
+    }
+
+    // Reads a line that scripts have.
+    fn read_setting(&mut self, part: EarlierPart, line: &[u8]) -> Result<LiveLine, LiveFault>
+        requires reader { IsLiveReader self.old }
+        requires room { HasLinesLeft self.old }
+        requires goes_on { failure self.old ≡ None }
+        requires earlier { IsEarlierLine (words line.now) part }
+        ensures reader { IsLiveReader self.new }
+        ensures read { (n : ℕ) (s : Said) → IsAt self.old n s →
+            IfOk result (λ said. ReadsLine self.new n s (words line.now) said) }
+        ensures stops { (n : ℕ) (s : Said) → IsAt self.old n s →
+            IfErr result (λ fault. Stops n s (words line.now) fault) }
+        ensures failed { IfErr result (λ fault. failure self.new ≡ Some fault) }
+    {
+        let Some(reader) = self.settings.take() else {
+            return Err(self.stop(LiveLineFault::Behind(part)));
+        };
+        match next_script(self.alloc, reader, line) {
+            Ok(reader) => {
+                self.settings = Some(reader);
+                self.number += 1;
+                Ok(LiveLine::Setting)
+            }
+            Err(fault) => {
+                self.fault = Some(fault);
+                Err(fault)
+            }
+        }
+    }
+
+    // Begins with live lines, where none has come.
+    fn open(&mut self) -> Result<(), LiveFault>
+        requires reader { IsLiveReader self.old }
+        requires goes_on { failure self.old ≡ None }
+        ensures reader { IsLiveReader self.new }
+        ensures begun { OnOk result (has_begun self.new ≡ true) }
+        ensures goes_on { OnOk result (failure self.new ≡ None) }
+        ensures number { line_at self.new ≡ line_at self.old }
+        ensures whole { (n : ℕ) (s : Said) → IsAt self.old n s →
+            OnOk result (opening_fault s.live s.settings ≡ None) }
+        ensures at { (n : ℕ) (s : Said) → IsAt self.old n s →
+            OnOk result (IsAt self.new n (opened_said s)) }
+        ensures config { (n : ℕ) (s : Said) → IsAt self.old n s → OnOk result (HandsOut self.new s) }
+        ensures fault { (n : ℕ) (s : Said) → IsAt self.old n s →
+            IfErr result (λ fault. IsToldAt n (opening_fault s.live s.settings) fault) }
+        ensures failed { IfErr result (λ fault. failure self.new ≡ Some fault) }
+    {
+        let Some(reader) = self.settings.take() else {
+            return Ok(());
+        };
+        match opened(reader) {
+            Ok(config) => {
+                self.state.open(&config);
+                self.config = Some(config);
+                Ok(())
+            }
+            Err(fault) => {
+                self.fault = Some(fault);
+                Err(fault)
+            }
+        }
+    }
+
+    // Reads a live line by its keyword and the words behind it.
+    fn read_live(&mut self, keyword: LiveKeyword, rest: &[u8]) -> Result<LiveLine, LiveFault>
+        requires reader { IsLiveReader self.old }
+        requires room { HasLinesLeft self.old }
+        requires goes_on { failure self.old ≡ None }
+        ensures reader { IsLiveReader self.new }
+        ensures read { (n : ℕ) (s : Said) (ws : List (List ℕ)) → IsAt self.old n s →
+            IsLiveLine ws keyword (words rest.now) →
+            IfOk result (λ said. ReadsLine self.new n s ws said) }
+        ensures stops { (n : ℕ) (s : Said) (ws : List (List ℕ)) → IsAt self.old n s →
+            IsLiveLine ws keyword (words rest.now) →
+            IfErr result (λ fault. IsToldAt n (line_fault s ws) fault) }
+        ensures failed { IfErr result (λ fault. failure self.new ≡ Some fault) }
+    {
+        match self.open() {
+            Ok(()) => {}
+            Err(fault) => return Err(fault),
+        }
+        match self.state.read(keyword, rest, &mut self.octets) {
+            Ok(said) => {
+                self.number += 1;
+                Ok(said)
+            }
+            Err(fault) => Err(self.stop(fault)),
+        }
+    }
+
+    /// Reads one line, without its end. After a fault it reads no more, and tells that fault again.
+    pub fn line(&mut self, line: &[u8]) -> Result<LiveLine, LiveFault>
+        requires reader { IsLiveReader self.old }
+        requires room { HasLinesLeft self.old }
+        ensures reader { IsLiveReader self.new }
+        ensures read { (n : ℕ) (s : Said) → IsAt self.old n s →
+            IfOk result (λ said. ReadsLine self.new n s (words line.now) said) }
+        ensures stops { (n : ℕ) (s : Said) → IsAt self.old n s →
+            IfErr result (λ fault. Stops n s (words line.now) fault) }
+        ensures fails_on { (fault : LiveFault) → failure self.old ≡ Some fault → result ≡ Err fault }
+        ensures failed { IfErr result (λ fault. failure self.new ≡ Some fault) }
+    {
+        if let Some(fault) = self.fault {
+            return Err(fault);
+        }
+        let Some((word, rest)) = first_word(line) else {
+            return self.read_blank(line);
+        };
+        match FirstWord::of(word) {
+            FirstWord::Earlier(part) => self.read_setting(part, line),
+            FirstWord::Live(keyword) => self.read_live(keyword, rest),
+            FirstWord::Other => Err(self.stop(LiveLineFault::First)),
+        }
+    }
+
+    /// Ends the text. Where no live line has come, the configuration has to be whole and to fit, and is handed out
+    /// then.
+    pub fn finish(&mut self) -> Result<(), LiveFault>
+        requires reader { IsLiveReader self.old }
+        ensures reader { IsLiveReader self.new }
+        ensures whole { (n : ℕ) (s : Said) → IsAt self.old n s →
+            OnOk result (opening_fault s.live s.settings ≡ None) }
+        ensures at { (n : ℕ) (s : Said) → IsAt self.old n s →
+            OnOk result (IsAt self.new n (opened_said s)) }
+        ensures config { (n : ℕ) (s : Said) → IsAt self.old n s → OnOk result (HandsOut self.new s) }
+        ensures fault { (n : ℕ) (s : Said) → IsAt self.old n s →
+            IfErr result (λ fault. IsToldAt n (opening_fault s.live s.settings) fault) }
+        ensures fails_on { (fault : LiveFault) → failure self.old ≡ Some fault → result ≡ Err fault }
+        ensures failed { IfErr result (λ fault. failure self.new ≡ Some fault) }
+    {
+        if let Some(fault) = self.fault {
+            return Err(fault);
+        }
+        self.open()
+    }
+}
