@@ -1,5 +1,5 @@
 -- What a command gives, and how its program ends with it.
-use Rattle.std.proofs.Common.{◌≡◌, ◌⊎◌, ℕ, List, Option, Result, Ok, Err, OnOk, OnErr, refl, sym, ap, subst, inl, inr}
+use Rattle.std.proofs.Common.{◌≡◌, ℕ, List, Option, Result, Ok, Err, OnOk, OnErr, refl, sym, ap, subst, inl, inr}
 use Rattle.std.proofs.Common.{arith}
 use Rattle.std.proofs.lemmas.Result.{on_ok_weaker, on_err_weaker}
 use Rattle.octet_io.specs.declared.source_and_sink.Failed.{Failed}
@@ -8,14 +8,17 @@ use Rattle.law_model.specs.declared.script_types.Script.{Script}
 use Rattle.command_parts.specs.declared.stop_and_status.Ran.{Ran}
 use Rattle.command_parts.specs.declared.stop_and_status.Stop.{Stop}
 use Rattle.command_parts.specs.declared.stop_and_status.Stop.TheVariants.{Read, TooLong, Refused, Write, Memory}
-use Rattle.command_parts.specs.Task.{Answer, Task, writes, none, reads, makes}
+use Rattle.command_parts.specs.Task.{Answer, Task, writes, none, reads, makes, talks}
 use Rattle.command_parts.specs.Ends.{Lent, lent, Kept, IsTold, HasRead, Meets, Takes, TakesPart, WritesAll, WritesPart}
-use Rattle.command_parts.specs.Ends.{Ends, no_source, done, cut, refused, unread, short, too_long, beyond}
+use Rattle.command_parts.specs.Ends.{Ends, no_source, done, cut, refused, unread, short, too_long, beyond, talked}
+use Rattle.command_parts.specs.Ends.{TalkEnds, talk_done, talk_unread, talk_cut, talk_refused, talk_short, talk_long}
+use Rattle.command_parts.specs.Ends.{IsTalkDone, IsTalkCut}
+use Rattle.command_parts.specs.Talk.{Talk}
 use Rattle.command_parts.specs.Status.{HasRunAt}
 use Rattle.command_parts.specs.Scripts.{HasScript, script_answer}
 use Rattle.command_parts.specs.Stops.{status_at, note_of}
-use Rattle.command_parts.specs.Gives.{StopsTask, HasWritten, GivesAlone, Gives, IsEnd}
-use Rattle.command_parts.proofs.EndLaws.{refused-within}
+use Rattle.command_parts.specs.Gives.{StopsTask, GivesAlone, Gives, IsEnd, StopsTalk, GivesTalk}
+use Rattle.command_parts.proofs.TalkEndLaws.{refused-within}
 use Rattle.command_parts.proofs.StopLaws.{meets-script}
 
 -- ---- it stopped before it wrote anything
@@ -52,11 +55,13 @@ module _ {S K E : Type 0} (source : Lent S) (out : Lent K) (notes : Lent E) wher
         nothing = nothing;
         told = told;
       })
+  ends-stopped (talks talk) stop status stops is nothing told = absurd stops
 
 no-write : {S : Type 0} (source : Lent S) (task : Task) → StopsTask source task Write → ⊥
 no-write source (none usage) stops = stops
 no-write source (reads answer) stops = stops
 no-write source (makes answer) stops = stops.1
+no-write source (talks talk) stops = stops
 
 -- what stopped has run nothing
 stops-not-run : {S : Type 0} (source : Lent S) (task : Task) (stop : Stop) (status : ℕ) →
@@ -167,3 +172,27 @@ module _ {S K T : Type 0} (source : Lent S) (out : Lent K) (Made : T → Type 0)
     stopped = tt;
     nothing = tt;
   }
+
+-- ---- a conversation, beside notes that stay as they are until it has ended
+module _ {S K E T : Type 0} (source : Lent S) (out : Lent K) (notes : Lent E) (talk : Talk) (Made : T → Type 0)
+    (status : ℕ) where
+  talk-by : (end_ : Result (Unit {0}) Failed) → OnOk end_ (IsTalkDone source out talk) →
+      OnErr end_ (IsTalkCut source out talk) → OnOk end_ ((status ≡ 0) × Kept notes) →
+      OnErr end_ ((status ≡ 4) × IsTold notes (note_of Write)) → TalkEnds source out notes talk status
+  talk-by (Ok u) all part is told = talk_done is.0 all is.1
+  talk-by (Err failed) all part is told = talk_cut told.0 part told.1
+
+  talk-stopped : (stop : Stop) → StopsTalk source out talk stop → status ≡ status_at stop →
+      IsTold notes (note_of stop) → TalkEnds source out notes talk status
+  talk-stopped Read stops is told = talk_unread is stops told
+  talk-stopped TooLong stops is told = talk_long is stops told
+  talk-stopped (Refused it) stops is told = talk_refused it.why it.note.items is stops told
+  talk-stopped Write stops is told = absurd stops
+  talk-stopped Memory stops is told = talk_short is stops told
+
+  pub ends-talk : (result : Result (Ran T) Stop) → GivesTalk source out talk Made result → IsEnd notes result status →
+      Ends source out notes (talks talk) status
+  ends-talk (Ok own) gives end_ =
+      talked talk refl (talk-by own.written gives.ran.all gives.ran.part end_.done end_.cut)
+  ends-talk (Err stop) gives end_ =
+      talked talk refl (talk-stopped stop gives.stopped end_.stopped.0 end_.stopped.1)

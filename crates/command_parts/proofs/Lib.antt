@@ -1,5 +1,11 @@
+pub mod TalkEndLaws
 pub mod EndLaws
 pub mod StopLaws
 pub mod TakenLaws
 pub mod ScriptLaws
 pub mod GiveLaws
+pub mod DialogueLaws
+pub mod SaidLaws
+pub mod TalkLaws
+pub mod IsTalkLaws
+pub mod HearLaws

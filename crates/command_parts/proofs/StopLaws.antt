@@ -1,14 +1,14 @@
 -- Why a text stops a command, and what it answers.
-use Rattle.std.proofs.Common.{◌≡◌, ◌≢◌, ◌⊎◌, ℕ, List, Result, Ok, Err, refl, sym, ◌∙◌, ap, ap₂, subst, inl, inr, arith}
+use Rattle.std.proofs.Common.{◌≡◌, ◌≢◌, ◌⊎◌, ℕ, List, Result, Ok, Err, refl, sym, ◌∙◌, ap, ap₂, subst, inl, inr}
 use Rattle.law_model.specs.declared.script_types.Script.{Script}
 use Rattle.text_scripts.specs.declared.script_read.script_fault.ScriptFault.{ScriptFault}
 use Rattle.text_scripts.specs.declared.script_read.script_fault.ScriptFault.TheVariants.{Line, Slip, Spread, Lag}
 use Rattle.text_scripts.specs.declared.script_read.script_fault.ScriptFault.TheVariants as fault
-use Rattle.command_parts.specs.Common.{Answer, Task, refuses, exceeds, none, reads, makes, IsCommand, Lent, Kept}
-use Rattle.command_parts.specs.Common.{IsTold, HasRead, Meets, WritesAll, WritesPart, until, since, Ends, no_source}
-use Rattle.command_parts.specs.Common.{done, no_command, cut, refused, unread, short, too_long, beyond, why_of}
-use Rattle.command_parts.specs.Common.{fault_text, IsRefusedFor, HasRunAt, HasScript, told_of, answer_of, script_answer}
-use Rattle.command_parts.specs.Common.{StopsReading, IsRefusedAs, note_of, status_at, StopsAt}
+use Rattle.command_parts.specs.Common.{Answer, Task, refuses, reads, IsCommand, Lent, Kept}
+use Rattle.command_parts.specs.Common.{IsTold, HasRead, Meets, Ends}
+use Rattle.command_parts.specs.Common.{short, why_of}
+use Rattle.command_parts.specs.Common.{fault_text, IsRefusedFor, HasScript, told_of, answer_of, script_answer}
+use Rattle.command_parts.specs.Common.{StopsReading, IsRefusedAs, note_of, StopsAt}
 use Rattle.command_parts.specs.declared.stop_and_status.Stop.{Stop}
 use Rattle.command_parts.specs.declared.stop_and_status.Stop.TheVariants.{Read, TooLong, Refused, Write, Memory}
 use Rattle.command_parts.specs.Task.{Answer, Task, refuses, reads, IsCommand}

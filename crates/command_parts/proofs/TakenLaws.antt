@@ -10,12 +10,12 @@ use Rattle.command_parts.specs.declared.stop_and_status.Stop.{Stop}
 use Rattle.command_parts.specs.declared.stop_and_status.Stop.TheVariants.{Read, TooLong, Refused, Write, Memory}
 use Rattle.command_parts.specs.Pieces.{HasNumbersLeft}
 
-prepended : (all piece : List ℕ) (known : Option (List ℕ)) →
+pub prepended : (all piece : List ℕ) (known : Option (List ℕ)) →
     prepend_known all (prepend_known piece known) ≡ prepend_known (all ++ piece) known
 prepended all piece None = refl
 prepended all piece (Some octets) = ap Some (sym (append_assoc all piece octets))
 
-prepended_none : (known : Option (List ℕ)) → known ≡ prepend_known [] known
+pub prepended_none : (known : Option (List ℕ)) → known ≡ prepend_known [] known
 prepended_none None = refl
 prepended_none (Some octets) = refl
 

@@ -1,10 +1,12 @@
 -- How a task ended, by its exit status.
-use Rattle.std.specs.Prelude.{◌≡◌, ◌⊎◌, ℕ, ◌<◌, ◌≤◌, List, length, Option, None, IfSome, codes}
+use Rattle.std.specs.Prelude.{◌≡◌, ◌⊎◌, ℕ, ◌<◌, ◌≤◌, List, [], ◌++◌, length, Option, Some, None, IfSome, codes}
+use Rattle.std.specs.Io.KnownBytes.{prepend_known}
 use Rattle.law_model.specs.Common.{one_more, GivesAll, Appends, AppendsPart, Tells, longest_input}
 use Rattle.text_got.specs.Told.{AppendsSome}
 use Rattle.command_parts.specs.declared.stop_and_status.Refusal.{Refusal}
-use Rattle.command_parts.specs.Task.{Answer, Task, writes, writes_both, refuses, exceeds, none, reads, makes, IsCommand}
-use Rattle.command_parts.specs.Task.{Reads, refused_status}
+use Rattle.command_parts.specs.Talk.{Said, Talk, TalkEnd, faulty, long, said}
+use Rattle.command_parts.specs.Task.{Answer, Task, writes, writes_both, refuses, exceeds, none, reads, makes, talks}
+use Rattle.command_parts.specs.Task.{IsCommand, Reads, HasInput, refused_status}
 
 -- ---- the source and the two sinks
 -- what was lent to a call: before it, after it, what it tells of its octets, where it tells them, and its count of
@@ -54,11 +56,17 @@ pub record IsLong {S : Type 0} (source : Lent S) : Type 0 where
   pub much : IfSome (source.octets source.old) (λ text. longest_input < length text)
   pub quiet : Quiet source
 
+-- some octets were taken of it
+pub record HasTaken {S : Type 0} (source : Lent S) (octets : List ℕ) : Type 0 where
+  pub given : source.octets source.old ≡ prepend_known octets (source.octets source.new)
+  pub quiet : Quiet source
+
 -- the answer of a task, of the text that it read where it reads one
 abbrev pub Meets : {S : Type 0} → Lent S → Task → Answer → Type 0
 Meets source (none usage) is = ⊥
 Meets source (reads answer) is = (text : List ℕ) × HasRead source text × (answer text ≡ is)
 Meets source (makes answer) is = Kept source × (answer ≡ is)
+Meets source (talks talk) is = ⊥
 
 -- ---- what is written
 -- all that an answer writes
@@ -125,7 +133,7 @@ pub record IsRefused {S K E : Type 0} (source : Lent S) (out : Lent K) (notes : 
 pub record IsShort {S K E : Type 0} (source : Lent S) (out : Lent K) (notes : Lent E) (task : Task) : Type 0 where
   pub command : IsCommand task
   pub quiet : Quiet source
-  pub unread : (¬ Reads task) → Kept source
+  pub unread : (¬ HasInput task) → Kept source
   pub nothing : Kept out
   pub told : IsTold notes (codes "fault: no memory\n")
 
@@ -142,6 +150,78 @@ pub record IsBeyond {S K E : Type 0} (source : Lent S) (out : Lent K) (notes : L
   pub nothing : Kept out
   pub told : IsTold notes (codes "fault: too long\n")
 
+-- ---- the ends of a conversation
+-- the most octets that are taken at once
+abbrev pub longest_piece : ℕ
+longest_piece = 262145
+
+-- what has come of the input, and what is said to it: a piece, or nothing more, behind octets that didn't end it
+pub data Comes {S : Type 0} (source : Lent S) (talk : Talk) (before : List ℕ) (is : Said) : Type 0 where
+  by_piece : (piece : List ℕ) → length piece ≤ longest_piece → HasTaken source (before ++ piece) →
+      is ≡ talk.so_far (before ++ piece) → Comes source talk before is
+  at_end : GivesAll source.octets source.old source.new before → Quiet source → is ≡ talk.in_all before →
+      Comes source talk before is
+
+-- a conversation went on so far, and then this was said to what came, of which some was said before it came
+pub record HasTalked {S : Type 0} (source : Lent S) (talk : Talk) (earlier : List ℕ) (is : Said) : Type 0 where
+  pub before : List ℕ
+  pub went_on : (talk.so_far before).end ≡ None
+  pub is_earlier : (talk.so_far before).text ≡ earlier
+  pub comes : Comes source talk before is
+
+-- 0: the input was read to its end, and all is said
+pub record IsTalkDone {S K : Type 0} (source : Lent S) (out : Lent K) (talk : Talk) : Type 0 where
+  pub text : List ℕ
+  pub given : GivesAll source.octets source.old source.new text
+  pub read_quiet : Quiet source
+  pub went_on : (talk.so_far text).end ≡ None
+  pub whole : (talk.in_all text).end ≡ None
+  pub written : Takes out (talk.in_all text).text
+
+-- 3: a call of the source failed, and what had come was answered
+pub record IsTalkUnread {S K : Type 0} (source : Lent S) (out : Lent K) (talk : Talk) : Type 0 where
+  pub taken : List ℕ
+  pub given : source.octets source.old ≡ prepend_known taken (source.octets source.new)
+  pub failed : FailedOnce source
+  pub went_on : (talk.so_far taken).end ≡ None
+  pub written : Takes out (talk.so_far taken).text
+
+-- 4: a call of `out` failed: what was said before the last octets came is written, and a part of what is said to them
+pub record IsTalkCut {S K : Type 0} (source : Lent S) (out : Lent K) (talk : Talk) : Type 0 where
+  pub earlier : List ℕ
+  pub later : List ℕ
+  pub end : Option TalkEnd
+  pub talked : HasTalked source talk earlier (said (earlier ++ later) end)
+  pub middle : K
+  pub first : Takes (until middle out) earlier
+  pub part : TakesPart (since middle out) later
+
+-- 5, 6, 8: what came ends it, and what was said before that is written
+pub record IsTalkEnded {S K : Type 0} (source : Lent S) (out : Lent K) (talk : Talk) (end : TalkEnd) : Type 0 where
+  pub earlier : List ℕ
+  pub text : List ℕ
+  pub talked : HasTalked source talk earlier (said text (Some end))
+  pub written : Takes out text
+
+-- 7: memory was short, before anything was written
+pub record IsTalkShort {S K : Type 0} (source : Lent S) (out : Lent K) : Type 0 where
+  pub quiet : Quiet source
+  pub nothing : Takes out []
+
+pub data TalkEnds {S K E : Type 0} (source : Lent S) (out : Lent K) (notes : Lent E) (talk : Talk)
+    (status : ℕ) : Type 0 where
+  talk_done : status ≡ 0 → IsTalkDone source out talk → Kept notes → TalkEnds source out notes talk status
+  talk_unread : status ≡ 3 → IsTalkUnread source out talk → IsTold notes (codes "fault: read failed\n") →
+      TalkEnds source out notes talk status
+  talk_cut : status ≡ 4 → IsTalkCut source out talk → IsTold notes (codes "fault: write failed\n") →
+      TalkEnds source out notes talk status
+  talk_refused : (why : Refusal) → (note : List ℕ) → status ≡ refused_status why →
+      IsTalkEnded source out talk (faulty why note) → IsTold notes note → TalkEnds source out notes talk status
+  talk_short : status ≡ 7 → IsTalkShort source out → IsTold notes (codes "fault: no memory\n") →
+      TalkEnds source out notes talk status
+  talk_long : status ≡ 8 → IsTalkEnded source out talk long → IsTold notes (codes "fault: too long\n") →
+      TalkEnds source out notes talk status
+
 -- by the status, which is one of these
 pub data Ends {S K E : Type 0} (source : Lent S) (out : Lent K) (notes : Lent E) (task : Task)
     (status : ℕ) : Type 0 where
@@ -154,6 +234,8 @@ pub data Ends {S K E : Type 0} (source : Lent S) (out : Lent K) (notes : Lent E)
   short : status ≡ 7 → IsShort source out notes task → Ends source out notes task status
   too_long : status ≡ 8 → IsTooLong source out notes task → Ends source out notes task status
   beyond : status ≡ 8 → IsBeyond source out notes task → Ends source out notes task status
+  talked : (talk : Talk) → task ≡ talks talk → TalkEnds source out notes talk status →
+      Ends source out notes task status
 
 -- where nothing is read
 abbrev pub no_source : Lent (Unit {0})

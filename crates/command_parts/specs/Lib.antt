@@ -1,3 +1,4 @@
+pub mod Talk
 pub mod Task
 pub mod Ends
 pub mod Stops
@@ -7,4 +8,7 @@ pub mod Faults
 pub mod Scripts
 pub mod Status
 pub mod Pieces
+pub mod Dialogue
+pub mod Replies
+pub mod Conversation
 pub mod Common

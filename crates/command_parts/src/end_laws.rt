@@ -1,11 +1,12 @@
 //! What an end says, fact by fact.
-ghost use Rattle.std.specs.Prelude.{◌≡◌, ◌≢◌, ◌⊎◌, ◌≤◌, ℕ, List, length, IfSome, IsTrue, codes};
-ghost use Rattle.std.specs.Io.KnownBytes.{IsAtEnd};
+ghost use Rattle.std.specs.Prelude.{◌≡◌, ◌≢◌, ◌⊎◌, ◌≤◌, ℕ, List, [], length, IfSome, Some, None, IsTrue, codes};
+ghost use Rattle.std.specs.Io.KnownBytes.{IsAtEnd, prepend_known};
 ghost use Rattle.command_parts.specs.declared.stop_and_status.Refusal.{Refusal};
-ghost use Rattle.command_parts.specs.Task.{Answer, Task, none, reads, makes, refuses, exceeds, Reads, IsGood};
-ghost use Rattle.command_parts.specs.Task.{IsQuietTask, refused_status};
+ghost use Rattle.command_parts.specs.Talk.{Talk, TalkEnd, IsTalk, faulty, long};
+ghost use Rattle.command_parts.specs.Task.{Answer, Task, none, reads, makes, talks, refuses, exceeds, Reads, Talks};
+ghost use Rattle.command_parts.specs.Task.{HasInput, IsGood, IsQuietTask, refused_status};
 ghost use Rattle.command_parts.specs.Ends.{Lent, Kept, Quiet, FailedOnce, IsTold, IsLong, Meets, WritesAll, WritesPart};
-ghost use Rattle.command_parts.specs.Ends.{until, since, Ends};
+ghost use Rattle.command_parts.specs.Ends.{until, since, Takes, IsTalkCut, IsTalkEnded, Ends};
 ghost use Rattle.command_parts.specs.Status.{is_status, HasReadAt, Rises};
 ghost use Rattle.law_model.specs.Common.{longest_input};
 
@@ -21,11 +22,11 @@ pub fn end_law<S, K, E>()
     ensures no_command { (source : Lent S) (out : Lent K) (notes : Lent E) (task : Task) (s : ℕ) →
         Ends source out notes task s → (usage : List ℕ) → task ≡ none usage → s ≡ 2 }
     ensures reading { (source : Lent S) (out : Lent K) (notes : Lent E) (task : Task) (s : ℕ) →
-        Ends source out notes task s → s ≡ 3 → Reads task }
+        Ends source out notes task s → s ≡ 3 → HasInput task }
 
     // What is read, and the faults of the source.
     ensures long { (source : Lent S) (out : Lent K) (notes : Lent E) (task : Task) (s : ℕ) →
-        Ends source out notes task s → s ≡ 8 →
+        Ends source out notes task s → (¬ Talks task) → s ≡ 8 →
         (Reads task × IsLong source) ⊎ Meets source task exceeds }
     ensures fits { (source : Lent S) (out : Lent K) (notes : Lent E) (task : Task) (s : ℕ) →
         Ends source out notes task s → Reads task → HasReadAt s →
@@ -34,7 +35,7 @@ pub fn end_law<S, K, E>()
         Ends source out notes task s → Reads task → HasReadAt s →
         IsAtEnd (source.octets source.new) }
     ensures unread { (source : Lent S) (out : Lent K) (notes : Lent E) (task : Task) (s : ℕ) →
-        Ends source out notes task s → (¬ Reads task) → Kept source }
+        Ends source out notes task s → (¬ HasInput task) → Kept source }
     ensures read_failed { (source : Lent S) (out : Lent K) (notes : Lent E) (task : Task) (s : ℕ) →
         Ends source out notes task s → s ≡ 3 → FailedOnce source }
     ensures read_quiet { (source : Lent S) (out : Lent K) (notes : Lent E) (task : Task) (s : ℕ) →
@@ -42,7 +43,7 @@ pub fn end_law<S, K, E>()
 
     // What is written, and the faults of the sinks.
     ensures nothing { (source : Lent S) (out : Lent K) (notes : Lent E) (task : Task) (s : ℕ) →
-        Ends source out notes task s → s ≢ 0 → s ≢ 4 → Kept out }
+        Ends source out notes task s → (¬ Talks task) → s ≢ 0 → s ≢ 4 → Kept out }
     ensures write_failed { (source : Lent S) (out : Lent K) (notes : Lent E) (task : Task) (s : ℕ) →
         Ends source out notes task s → s ≡ 4 → Rises (out.faults out.old) (out.faults out.new)
         ⊎ Rises (notes.faults notes.old) (notes.faults notes.new) }
@@ -110,4 +111,33 @@ pub fn made_law<S, K, E>()
         Ends source out notes (makes answer) s → answer ≡ exceeds → (s ≡ 7) ⊎ (s ≡ 8) }
     ensures long { (source : Lent S) (out : Lent K) (notes : Lent E) (answer : Answer) (s : ℕ) →
         Ends source out notes (makes answer) s → s ≡ 8 → answer ≡ exceeds }
+{}
+
+/// What an end says of a task that talks: what was read, and what is written of what was said to it.
+pub fn talk_end_law<S, K, E>()
+    ensures done { (source : Lent S) (out : Lent K) (notes : Lent E) (talk : Talk) (s : ℕ) →
+        Ends source out notes (talks talk) s → s ≡ 0 → IfSome (source.octets source.old)
+        (λ text. ((talk.in_all text).end ≡ None) × Takes out (talk.in_all text).text) }
+    ensures end { (source : Lent S) (out : Lent K) (notes : Lent E) (talk : Talk) (s : ℕ) →
+        Ends source out notes (talks talk) s → s ≡ 0 → IsAtEnd (source.octets source.new) }
+    ensures unread { (source : Lent S) (out : Lent K) (notes : Lent E) (talk : Talk) (s : ℕ) →
+        Ends source out notes (talks talk) s → s ≡ 3 → (taken : List ℕ)
+        × (source.octets source.old ≡ prepend_known taken (source.octets source.new))
+        × ((talk.so_far taken).end ≡ None) × Takes out (talk.so_far taken).text }
+    ensures part { (source : Lent S) (out : Lent K) (notes : Lent E) (talk : Talk) (s : ℕ) →
+        Ends source out notes (talks talk) s → s ≡ 4 → IsTalkCut source out talk }
+    ensures refused { (source : Lent S) (out : Lent K) (notes : Lent E) (talk : Talk) (s : ℕ) →
+        Ends source out notes (talks talk) s → (s ≡ 5) ⊎ (s ≡ 6) →
+        (why : Refusal) × (note : List ℕ) × (s ≡ refused_status why)
+        × IsTalkEnded source out talk (faulty why note) × IsTold notes note }
+    ensures nothing { (source : Lent S) (out : Lent K) (notes : Lent E) (talk : Talk) (s : ℕ) →
+        Ends source out notes (talks talk) s → s ≡ 7 → Takes out [] }
+    ensures too_long { (source : Lent S) (out : Lent K) (notes : Lent E) (talk : Talk) (s : ℕ) →
+        Ends source out notes (talks talk) s → s ≡ 8 →
+        IsTalkEnded source out talk long }
+    ensures complete { (source : Lent S) (out : Lent K) (notes : Lent E) (talk : Talk) (s : ℕ) →
+        Ends source out notes (talks talk) s → IsTalk talk → IfSome (source.octets source.old)
+        (λ text. (talk.in_all text).end ≡ None → (s ≡ 0) ⊎ ((s ≡ 7)
+        ⊎ (Rises (source.faults source.old) (source.faults source.new)
+        ⊎ Rises (out.faults out.old) (out.faults out.new)))) }
 {}

@@ -1,14 +1,19 @@
 //! What the commands of the programs have in common: the words after a program's name, an input that is read
 //! whole or line by line, why a command stops, its exit status and what is said of that on notes, and the end
 //! of a report. What a command means is a `Task` of specs/, and how it ends is `Ends`, which `end_law` says
-//! fact by fact. Which command is run, and how, is the programs' own. Begin with `Stop`, `read_whole_script`
-//! and `tell`. Two things may be built upon: what is wrong with an input comes before what is wrong with its
-//! lines; and no clause says that `given_words` gives the words of the command line.
+//! fact by fact. Which command is run, and how, is the programs' own. An input may also be a conversation:
+//! `talk` answers it line by line as it comes, with a `Talker`, whose replies are a `Dialogue` of specs/. Begin
+//! with `Stop`, `read_whole_script` and `tell`. Two things may be built upon: what is wrong with an input comes
+//! before what is wrong with its lines, but in a conversation; and no clause says that `given_words` gives the
+//! words of the command line.
 #![tactic(auto)]
 
+mod conversation;
+mod dialogue_laws;
 mod end_laws;
 mod fault_notes;
 mod input_by_lines;
+mod intake;
 mod program_words;
 mod refusal_of_line;
 mod refusal_of_script;
@@ -18,7 +23,9 @@ mod script_of_input;
 mod stop_and_status;
 mod whole_input;
 
-pub use end_laws::{end_law, input_law, made_law};
+pub use conversation::{Talker, talk};
+pub use dialogue_laws::dialogue_law;
+pub use end_laws::{end_law, input_law, made_law, talk_end_law};
 pub use input_by_lines::{PieceReader, read_pieces};
 pub use program_words::{NO_MEMORY, given_words};
 pub use refusal_of_line::{faulty_line, line_fault};

@@ -94,7 +94,7 @@ module _ {S K E : Type 0} (source : Lent S) (out : Lent K) (notes : Lent E) (sta
       Ends source out notes (reads (script_answer answer)) status → status ≡ 0
       → IfSome (source.octets source.old) IsHead
   tells-headline answer has ends at =
-      let it = is-done source out notes (reads (script_answer answer)) status ends at in
+      let it = is-done source out notes (reads (script_answer answer)) status ends (λ never. never) at in
       let text = it.meets.0 in
       known-text source IsHead text it.meets.1
       (told-by answer has text (script_of text) refl it.meets.1.fits

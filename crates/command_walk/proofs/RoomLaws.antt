@@ -71,7 +71,7 @@ module _ {S K E : Type 0} (source : Lent S) (out : Lent K) (notes : Lent E) (ans
   pub tells-headline : Ends source out notes (reads (script_answer answer)) status → status ≡ 0 →
       IfSome (source.octets source.old) IsTold
   tells-headline ends at =
-      let it = is-done source out notes (reads (script_answer answer)) status ends at in
+      let it = is-done source out notes (reads (script_answer answer)) status ends (λ never. never) at in
       let text = it.meets.0 in
       known-text source IsTold text it.meets.1
       (told-by text (script_of text) refl it.meets.1.fits (subst (WritesAll out notes) (sym it.meets.2) it.written))
@@ -117,7 +117,7 @@ module _ {S K E : Type 0} (source : Lent S) (out : Lent K) (notes : Lent E) (sta
   pub tells-pair : Ends source out notes (reads pair_reply) status → status ≡ 0 →
       IfSome (source.octets source.old) (TellsPair out notes)
   tells-pair ends at =
-      let it = is-done source out notes (reads pair_reply) status ends at in
+      let it = is-done source out notes (reads pair_reply) status ends (λ never. never) at in
       let text = it.meets.0 in
       known-text source (TellsPair out notes) text it.meets.1
       (pair-told text (pair_of text) refl it.meets.1.fits (subst (WritesAll out notes) (sym it.meets.2) it.written))
