@@ -63,12 +63,14 @@ fn take_piece<F: FrameOut>(delineator: &mut MarkedDelineator, piece: &[u8], out:
     }
 }
 
-/// How many places of a number of members go into a block.
+/// How many places of a number of members go into a block: the most that fit of those that gathering likes.
 fn places_of(x: usize) -> usize
     requires some { 0 < x }
     requires few { x ≤ 128 }
     ensures some { 0 < result }
     ensures fits { result * x ≤ 4096 }
+    ensures sixteens { result % 16 ≡ 0 }
+    ensures most { 4096 < (result + 16) * x }
 {
     BLOCK / x / SIDE * SIDE
 }
