@@ -1,6 +1,6 @@
 -- The lines of the ranks up to here stand there.
 use Rattle.std.proofs.Common.{◌≡◌, ℕ, ◌-◌, ◌<◌, length, slice_index}
-use Rattle.member_tests.proofs.interleaving.lines.Given as goal
+use Rattle.parts_tests.proofs.interleaving.lines.Given as goal
 
 abbrev pub invariant-loop-rank : goal.invariant-loop-rank
 invariant-loop-rank l = record {

@@ -1,5 +1,5 @@
 //! Rows of windows, and what is told of them.
-ghost use Rattle.std.specs.Prelude.{◌≤◌, length};
+ghost use Rattle.std.specs.Prelude.{◌<◌, ◌≤◌, length};
 
 use member_path::failure_window::{Carried, Window, WindowFault, Windows};
 use std::alloc::Global;
@@ -122,6 +122,37 @@ fn the_last_containers_of_a_window_vanish(rt: HostRuntime) {
         Err(_) => [0; 15],
     };
     assert_eq!(rt; seen, *b"wfvfffwwfvvvwww");
+}
+
+// Closes the last window at a container where it is open, and else opens one there, of a line of 12 containers.
+fn open_or_close(windows: &mut Windows, n: u32)
+    requires { n < 12 }
+{
+    if windows.can_close(n) {
+        windows.close(n);
+    } else if windows.count() < 256 && windows.last_end() <= n {
+        windows.open(n, 12);
+    }
+}
+
+// What comes of containers while a window is open, once it is closed, and once one was opened and closed at a
+// container.
+fn letters_of_a_cut(alloc: Global) -> Option<[[u8; 15]; 3]> {
+    let mut windows = Windows::new(alloc, &[window(1, 3, 1)]).ok()?;
+    open_or_close(&mut windows, 5);
+    let open = letters(&windows);
+    open_or_close(&mut windows, 8);
+    let closed = letters(&windows);
+    open_or_close(&mut windows, 8);
+    open_or_close(&mut windows, 8);
+    Some([open, closed, letters(&windows)])
+}
+
+#[test]
+fn a_window_is_opened_and_closed(rt: HostRuntime) {
+    let closed = *b"wfvwwfffwwwwwww";
+    let wanted = [*b"wfvwwfffffffwww", closed, closed];
+    assert_eq!(rt; letters_of_a_cut(rt.alloc()), Some(wanted));
 }
 
 // The slip of a list.

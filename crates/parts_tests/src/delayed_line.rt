@@ -1,5 +1,6 @@
 //! Worked rows of carries.
-ghost use Rattle.std.specs.Prelude.{◌≤◌, length};
+ghost use Rattle.std.specs.Prelude.{◌≡◌, ◌+◌, ◌<◌, ◌≤◌, length, IfSome};
+ghost use Rattle.member_path.specs.path_delay.Line.{opened, DelayStands};
 
 use crate::cell_in_hand::new_box;
 use member_cells::{Container, HeldContainer, PAYLOAD};
@@ -28,6 +29,7 @@ fn digit(found: &Container) -> u8 {
 // A line of so many containers.
 fn line(alloc: Global, delay: u16, windows: &[Window], total: u32) -> Option<LineCore>
     requires { length windows.now ≤ 256 }
+    ensures { IfSome result (λ line. DelayStands line (opened delay windows.now total)) }
 {
     let windows = Windows::new(alloc, windows).ok()?;
     LineCore::new(alloc, delay, windows, total).ok()
@@ -41,7 +43,10 @@ fn carry(
     line: &mut LineCore,
     next: &mut Box<HeldContainer>,
     out: &mut Box<HeldContainer>,
-) -> Option<Carry> {
+) -> Option<Carry>
+    ensures pushed { line.new.pushed ≤ line.old.pushed + 1 }
+    ensures total { line.new.total ≡ line.old.total }
+{
     if !line.all_pushed() {
         Some(line.push(next, out))
     } else if !line.ended() {
@@ -122,4 +127,40 @@ fn a_delay_may_be_longer_than_the_line(rt: HostRuntime) {
         None,
     ];
     assert_eq!(rt; carries(rt.alloc(), line), Some((wanted, *b"999777")));
+}
+
+// Mends a line from container `n` on where it is cut, and else cuts it.
+fn cut_or_mend(line: &mut LineCore, n: u32)
+    requires pushed { line.old.pushed ≤ n }
+    requires left { n < line.old.total }
+    ensures pushed { line.new.pushed ≡ line.old.pushed }
+    ensures total { line.new.total ≡ line.old.total }
+{
+    if line.windows().can_close(n) {
+        line.mend(n);
+    } else if line.windows().count() < 256 && line.windows().last_end() <= n {
+        line.cut(n);
+    }
+}
+
+// The letters of seven carries of a line that is cut before container 1 is pushed, and mended before container 3.
+fn letters_of_a_cut(alloc: Global) -> Option<[u8; 7]> {
+    let mut line = line(alloc, 1, &[], 4)?;
+    let mut next = new_box(alloc)?;
+    let mut out = new_box(alloc)?;
+    let mut seen = *b"0123456";
+    for (n, letter_of) in seen.iter_mut().enumerate() {
+        if n == 1 || n == 3 {
+            cut_or_mend(&mut line, n as u32);
+        }
+        next.put(&container(*letter_of));
+        let carry = carry(&mut line, &mut next, &mut out);
+        *letter_of = letter(carry, out.container());
+    }
+    Some(seen)
+}
+
+#[test]
+fn a_cut_spares_what_is_on_its_way(rt: HostRuntime) {
+    assert_eq!(rt; letters_of_a_cut(rt.alloc()), Some(*b".0FF3E-"));
 }
