@@ -1,5 +1,5 @@
 -- What is known of a way and the other one, and what a call that the other doesn't see leaves of that.
-use Rattle.std.proofs.Common.{◌≡◌, ℕ, ◌≤◌, sym, subst}
+use Rattle.std.proofs.Common.{◌≡◌, ℕ, ◌≤◌, [], slice_index_or, sym, ◌∙◌, ap, subst}
 use Rattle.law_model.specs.Common.{used_in}
 use Rattle.law_model.specs.declared.script_types.Script.{Script}
 use Rattle.law_model.specs.session.Scenario.{packets_in}
@@ -13,6 +13,7 @@ use Rattle.pair_engine.specs.declared.pair_way.PairWay.{PairWay}
 use Rattle.pair_engine.specs.Said.{Said}
 use Rattle.pair_engine.specs.Steps.{IsQuiet}
 use Rattle.pair_engine.specs.Ways.{leg_beside, pair_counts, StandsAs, LandedAs, Meets, IsWayBeside, IsPairWalk, AreBeside}
+use Rattle.walk_engine.specs.Common.{HasWindows}
 
 -- ---- of a pair
 module _ (there back : PairWay) (walk : IsPairWalk there back) where
@@ -62,6 +63,8 @@ pub quiet-own : (other own now : PairWay) → IsWayBeside other own → IsQuiet 
     StandsAs (leg_beside own other) now → LandedAs (leg_beside own other) now → IsWayBeside other now
 quiet-own other own now is quiet stands landed = record {
   stands = subst (λ (x : Script). StandsAs (way_of x other.script) now) (sym quiet.script) stands;
+  windows = subst (λ (x : Script). HasWindows x.config now.core.lines) (sym quiet.script)
+      (λ m low. ap (λ windows. slice_index_or windows m []) quiet.windows ∙ is.windows m low);
   landed = subst (λ (x : Script). LandedAs (way_of x other.script) now) (sym quiet.script) landed;
   meets = meets-same other.script other.core.sink.taken own.script now.script own.core.sink.taken now.core.sink.taken
       own.core.source.core.ticks now.core.source.core.ticks own.said now.said own.core.source.inbox
@@ -73,6 +76,7 @@ pub seen-other : (other own now : PairWay) → IsWayBeside own other → now.scr
     now.core.sink.taken ≡ own.core.sink.taken → IsWayBeside now other
 seen-other other own now is script rows = record {
   stands = subst (λ (x : Script). StandsAs (way_of other.script x) other) (sym script) is.stands;
+  windows = is.windows;
   landed = subst (λ (x : Script). LandedAs (way_of other.script x) other) (sym script) is.landed;
   meets = subst (λ n. Meets other.script now.script other.core.sink.taken n other.core.source.core.ticks other.said
       other.core.source.inbox) (sym rows)

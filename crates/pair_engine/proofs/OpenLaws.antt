@@ -9,7 +9,7 @@ use Rattle.law_walk.specs.Common.{said_packet, back_cell, walk_plan}
 use Rattle.law_pair.specs.Common.{IsWay, IsPair, way_of, pair_begin, pair_plan, IsPairWalked}
 use Rattle.law_pair.proofs.PairEndLaws.{pair-begins}
 use Rattle.law_pair.proofs.WayLaws.{way-sound}
-use Rattle.walk_engine.specs.Common.{HasLanded, IsAlike, counts_of}
+use Rattle.walk_engine.specs.Common.{HasLanded, HasWindows, IsAlike, counts_of}
 use Rattle.walk_engine.specs.walk_core.Parts.{WayStands}
 use Rattle.walk_engine.proofs.WalkCoreLaws.OpenLaws.{none-known}
 use Rattle.pair_engine.specs.declared.pair_way.PairWay.{PairWay}
@@ -61,6 +61,7 @@ module _ (script other : Script) (own : PairWay) (new : IsNewWay script own) whe
     stands = subst (λ n. WayStands (way_of own.script beside.script) n own.core) (sym no-packets)
         (subst (λ (x : Script). WayStands (way_of x beside.script) 0 own.core) (sym new.script_is)
         (new.core.stands beside.script));
+    windows = subst (λ (x : Script). HasWindows x.config own.core.lines) (sym new.script_is) new.core.windows;
     landed = subst (λ (x : Script). LandedAs (way_of x beside.script) own) (sym new.script_is)
         (subst (λ (x : Script). LandedAs (way_of script x) own) (sym is)
         (subst (λ (s : Counts). HasLanded (way_of script other) s own.landing) (sym new-counts)

@@ -1,7 +1,7 @@
 -- A row of one way, and what the other one hears.
 use Rattle.std.proofs.Common.{◌≡◌, ℕ, ◌+◌, ◌-◌, ◌*◌, ◌/◌, ◌%◌, ◌==◌, ◌&&◌, ◌<◌, ◌≤◌, nat_le, nat_lt, true, false, Bool}
 use Rattle.std.proofs.Common.{List, [], ◌∷◌, ◌++◌, length, map, Option, Some, None, option_map}
-use Rattle.std.proofs.Common.{refl, sym, ◌∙◌, ap, subst, arith, inl, inr}
+use Rattle.std.proofs.Common.{slice_index_or, refl, sym, ◌∙◌, ap, subst, arith, inl, inr}
 use Rattle.std.specs.List.{range_with_len}
 use Rattle.std.proofs.lemmas.Bool.{cases_Bool, eqb-true, ltb-true, le-leb, le-ltb}
 use Rattle.std.proofs.lemmas.List.{append-nil, map-append, drop_all}
@@ -26,7 +26,7 @@ use Rattle.law_pair.specs.Common.{way_of, take_said, take_one}
 use Rattle.law_pair.proofs.LinkLaws.{reads-told}
 use Rattle.law_pair.proofs.OneWayLaws.{take-leads}
 use Rattle.walk_engine.specs.Common.{answer_by, delivered_since, GivesRows, Parts, counts_of, line_counts, take_cause}
-use Rattle.walk_engine.specs.Common.{HasLanded, take_moved, said_at, take_by, Takes}
+use Rattle.walk_engine.specs.Common.{HasLanded, HasWindows, take_moved, said_at, take_by, Takes, windows_in}
 use Rattle.walk_engine.specs.walk_core.Parts.{WayStands}
 use Rattle.walk_engine.proofs.WalkCoreLaws.EventLaws.{landing-stays, stands-back}
 use Rattle.pair_engine.specs.declared.pair_way.PairWay.{PairWay}
@@ -203,7 +203,8 @@ module _ (own other : PairWay) (beside : AreBeside own other) (row : ℕ) (at_ro
     -- ---- the direction after it
     module _ (now : Parts) (answer : TakeAnswer)
         (takes : Takes (way_of own.script other.script) (packets_in own.core.sink.taken) own.core now answer)
-        (rest : now ≡ record own.core { lines = now.lines; rows = now.rows; sink = now.sink; got = now.got }) where
+        (rest : now ≡ record own.core { lines = now.lines; rows = now.rows; sink = now.sink; got = now.got })
+        (damage : windows_in now.lines ≡ windows_in own.core.lines) where
       abbrev own_now : Said → PairWay
       own_now said = record own { core = now; said = said }
 
@@ -219,6 +220,9 @@ module _ (own other : PairWay) (beside : AreBeside own other) (row : ℕ) (at_ro
           landing-stays leg s (counts_of now (packets_in now.sink.taken)) own.landing
           (ap (λ (l : LandedCounts). l.frames) same) (ap (λ (l : LandedCounts). l.commands) same)
           beside.own_way.landed
+
+      windows-now : HasWindows own.script.config now.lines
+      windows-now m within = ap (λ windows. slice_index_or windows m []) damage ∙ beside.own_way.windows m within
 
       inside : own.core.sink.taken < own.script.config.ticks
       inside = omega (arith, low, at_row)
@@ -248,6 +252,7 @@ module _ (own other : PairWay) (beside : AreBeside own other) (row : ℕ) (at_ro
           other_script = refl;
           own_way = record {
             stands = subst (λ n. WayStands leg (packets_in n) now) (sym rows-same) takes.makes.stands;
+            windows = windows-now;
             landed = landed-now;
             meets = meets-same other.script other.core.sink.taken own.script own.script own.core.sink.taken
                 now.sink.taken own.core.source.core.ticks now.source.core.ticks own.said own.said
@@ -325,6 +330,7 @@ module _ (own other : PairWay) (beside : AreBeside own other) (row : ℕ) (at_ro
             other_script = refl;
             own_way = record {
               stands = stands-next;
+              windows = windows-now;
               landed = landed-now;
               meets = meets-same other.script other.core.sink.taken own.script own.script now.sink.taken
                   now.sink.taken own.core.source.core.ticks now.source.core.ticks own.said own.said
@@ -334,6 +340,7 @@ module _ (own other : PairWay) (beside : AreBeside own other) (row : ℕ) (at_ro
             };
             other_way = record {
               stands = beside.other_way.stands;
+              windows = beside.other_way.windows;
               landed = beside.other_way.landed;
               meets = heard-quiet other.script own.script other.core.sink.taken own.core.sink.taken now.sink.taken
                   other.core.source.core.ticks other.said other.core.source.inbox same-packets
@@ -392,6 +399,7 @@ module _ (own other : PairWay) (beside : AreBeside own other) (row : ℕ) (at_ro
           own-said : IsWayBeside other said_now
           own-said = record {
             stands = stands-next;
+            windows = windows-now;
             landed = landed-now;
             meets = meets-same other.script other.core.sink.taken own.script own.script
                 (own.core.sink.taken + 1) now.sink.taken own.core.source.core.ticks now.source.core.ticks
@@ -444,12 +452,13 @@ module _ (was own other : PairWay) (row : ℕ) (is : EndsPacket was own other ro
       (was.script.config.lag ≡ other.script.config.lag) → packets_in row + 1 ≤ was.script.config.lag
   early-heard low same = let at = packet-row.1 in omega (arith, low, at)
 
-  beside-own : (core : Parts) (inbox : Inbox) →
+  beside-own : (core : Parts) (inbox : Inbox) → HasWindows other.script.config core.lines →
       StandsAs (way_of other.script was.script) (record other { core = core }) →
       LandedAs (way_of other.script was.script) (record other { core = core }) →
       Meets other.script was.script core.sink.taken (row + 1) core.source.core.ticks other.said core.source.inbox →
       IsWayBeside own (record other { core = core })
-  beside-own core inbox stands landed meets = record {
+  beside-own core inbox windows stands landed meets = record {
+    windows = windows;
     stands = subst (λ (x : Script). StandsAs (way_of other.script x)
         (record other { core = core })) (sym is.script) stands;
     landed = subst (λ (x : Script). LandedAs (way_of other.script x) (record other { core = core })) (sym is.script)
@@ -477,7 +486,8 @@ module _ (was own other : PairWay) (row : ℕ) (is : EndsPacket was own other ro
       record {
         script = refl;
         counts = refl;
-        beside = beside-own other.core other.core.source.inbox is.beside.other_way.stands
+        beside = beside-own other.core other.core.source.inbox is.beside.other_way.windows
+            is.beside.other_way.stands
             is.beside.other_way.landed (record {
               packets = was-meets.packets;
               room = was-meets.room;
@@ -584,7 +594,7 @@ module _ (was own other : PairWay) (row : ℕ) (is : EndsPacket was own other ro
         (sym now_is) (record {
           script = refl;
           counts = refl;
-          beside = beside-own core inbox
+          beside = beside-own core inbox is.beside.other_way.windows
               (stands-back other_leg (packets_in other.core.sink.taken) (packets_in other.core.sink.taken) other.core
               inbox is.beside.other_way.stands is.beside.other_way.stands.walked)
               (let has = is.beside.other_way.landed in record {

@@ -1,7 +1,7 @@
 -- A tick of both ways, as one of them sees it.
 use Rattle.std.proofs.Common.{◌≡◌, ℕ, ◌+◌, ◌-◌, ◌*◌, ◌/◌, ◌%◌, ◌==◌, ◌&&◌, ◌<◌, ◌≤◌, nat_le, true, false, Bool}
 use Rattle.std.proofs.Common.{if◌then◌else◌, Option, Some, None, refl, sym, ◌∙◌, ap, subst, arith, inl, inr}
-use Rattle.std.proofs.Common.{is_some, eqb-true, leb-true, leb-false, eq-eqb, le-leb}
+use Rattle.std.proofs.Common.{[], slice_index_or, is_some, eqb-true, leb-true, leb-false, eq-eqb, le-leb}
 use Rattle.std.proofs.lemmas.Bool.{cases_Bool, cases_lt}
 use Rattle.law_model.specs.Common.{BackCell, Leg, scenario_by, untold, telling_at, passed_on, told_by, Counts, Step}
 use Rattle.law_model.specs.Common.{moved, step, used_in}
@@ -22,7 +22,8 @@ use Rattle.law_pair.specs.Common.{way_of, is_unsaid, ticked}
 use Rattle.law_pair.proofs.HeardLaws as heard_laws
 use Rattle.law_pair.proofs.LinkLaws.{says-told}
 use Rattle.law_pair.proofs.TickLaws.{IsFree, free-ticks}
-use Rattle.walk_engine.specs.Common.{Parts, counts_of, Makes, IsTold, CanTick}
+use Rattle.walk_engine.specs.Common.{Parts, counts_of, Makes, IsTold, CanTick, windows_in}
+use Rattle.law_model.specs.members.Damage.{carried}
 use Rattle.walk_engine.specs.declared.walk_core.step_answers.Moved.{Moved}
 use Rattle.walk_engine.specs.walk_core.Parts.{WayStands}
 use Rattle.walk_engine.proofs.WalkCoreLaws.EventLaws.{landing-stays}
@@ -223,6 +224,8 @@ module _ (own other : PairWay) (beside : AreBeside own other)
       CanTick (way_of own.script other.script) (packets_in own.core.sink.taken) own.core told cell
   can-tick told cell same first = record {
     free = sym (ap (λ (s : Step). s.cause) tick-moves);
+    agrees = λ m low. ap (λ windows. carried windows own.core.source.core.ticks)
+        (sym (beside.own_way.windows m low));
     tells = is-told told same;
     cells = hears.told ∙ sym (ap (with_cell (told_before leg ticks)) (first
         ∙ ap (λ n. cell_for (is_some (needed_at n own.core.source.core.ticks)) own.core.source.inbox.cells)
@@ -278,6 +281,8 @@ module _ (own other : PairWay) (beside : AreBeside own other)
     })
     tick-beside = record {
       stands = subst (λ n. WayStands leg (packets_in n) now) (sym tick-rows) makes.stands;
+      windows = λ m low. ap (λ (p : Parts). slice_index_or (windows_in p.lines) m []) rest
+          ∙ beside.own_way.windows m low;
       landed = landing-stays leg (way_counts own) (counts_of now (packets_in now.sink.taken)) own.landing
           (ap (λ (l : LandedCounts). l.frames) landed) (ap (λ (l : LandedCounts). l.commands) landed)
           beside.own_way.landed;

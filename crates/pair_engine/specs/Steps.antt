@@ -7,7 +7,7 @@ use Rattle.law_model.specs.declared.script_types.Item.{Item}
 use Rattle.law_model.specs.declared.item_refusals.Refusal.{Refusal}
 use Rattle.terminal_group.specs.Landed.{Landed, next_number, due_at}
 use Rattle.law_walk.specs.Common.{walk_plan}
-use Rattle.walk_engine.specs.Common.{answer_by}
+use Rattle.walk_engine.specs.Common.{answer_by, windows_in}
 use Rattle.walk_engine.specs.declared.walk_core.step_answers.Moved.{Moved}
 use Rattle.law_pair.specs.Common.{take_one}
 use Rattle.pair_engine.specs.declared.next_items.NextItem.{NextItem}
@@ -43,13 +43,14 @@ pub record Goes (leg : Leg) (now : PairWay) (next : Step) (why : Option Refusal)
   pub counts : way_counts now ≡ next.counts
   pub moved : answer ≡ answer_by next.cause why
 
--- its script, its ticks and rows, and what goes to the other way and comes from it are as they were
+-- its script, its windows, its ticks and rows, and what goes to the other way and comes from it are as they were
 pub record IsQuiet (was now : PairWay) : Type 0 where
   pub script : now.script ≡ was.script
   pub said : now.said ≡ was.said
   pub ticks : now.core.source.core.ticks ≡ was.core.source.core.ticks
   pub inbox : now.core.source.inbox ≡ was.core.source.inbox
   pub rows : now.core.sink.taken ≡ was.core.sink.taken
+  pub windows : windows_in now.core.lines ≡ windows_in was.core.lines
 
 -- a row of one way, which the other hears
 pub record TakesRow (own other own_now other_now : PairWay) (answer : Moved) : Type 0 where

@@ -9,7 +9,7 @@ use Rattle.terminal_group.specs.Item.{bare_items}
 use Rattle.terminal_group.specs.Landed.{none_landed}
 use Rattle.law_pair.specs.Common.{IsPair, way_of, PairCounts, IsPairWalked}
 use Rattle.walk_engine.specs.walk_core.Parts.{WayStands}
-use Rattle.walk_engine.specs.Common.{HasLanded, Parts, counts_of}
+use Rattle.walk_engine.specs.Common.{HasLanded, HasWindows, Parts, counts_of}
 use Rattle.pair_engine.specs.declared.pair_way.PairWay.{PairWay}
 use Rattle.pair_engine.specs.Said.{Said, untold_packets, HasHeard}
 
@@ -38,6 +38,7 @@ pub record IsNewCore (script : Script) (core : Parts) : Type 0 where
   pub stands : (other : Script) → WayStands (way_of script other) 0 core
   pub counts : (other : Script) → counts_of core 0 ≡ begin (walk_plan (way_of script other))
   pub inbox : core.source.inbox ≡ empty_inbox [] (2 * script.config.lag)
+  pub windows : HasWindows script.config core.lines
 
 pub record IsNewWay (script : Script) (own : PairWay) : Type 0 where
   pub script_is : own.script ≡ script
@@ -56,6 +57,7 @@ pub record Meets (script other : Script) (rows other_rows ticks : ℕ) (said : S
 -- a way beside the other one
 pub record IsWayBeside (other own : PairWay) : Type 0 where
   pub stands : StandsAs (leg_beside own other) own
+  pub windows : HasWindows own.script.config own.core.lines
   pub landed : LandedAs (leg_beside own other) own
   pub meets : Meets own.script other.script own.core.sink.taken other.core.sink.taken own.core.source.core.ticks
       own.said own.core.source.inbox

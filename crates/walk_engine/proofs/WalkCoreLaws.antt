@@ -15,3 +15,4 @@ pub mod MarkLaws
 pub mod KnownLaws
 pub mod CarrySteps
 pub mod WayLaws
+pub mod CutSteps

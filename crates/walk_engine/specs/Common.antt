@@ -1,15 +1,16 @@
 -- The words that most definitions and proofs cite, passed on from one place. Declares nothing.
-pub use Rattle.walk_engine.specs.walk_core.Carry.{CanCarry, IsCarriedAt, IsSentOn, carry_cause}
+pub use Rattle.walk_engine.specs.walk_core.Carry.{CanCarry, IsCarriedAt, IsKnownOn, IsSentOn, carry_cause}
 pub use Rattle.walk_engine.specs.walk_core.Counted.{counting, passing}
 pub use Rattle.walk_engine.specs.walk_core.Landing.{early_cause, landing_of, stall_by}
 pub use Rattle.walk_engine.specs.walk_core.Moved.{GivesRows, Walked, answer_by, counts_after, delivered_since, moved_of}
 pub use Rattle.walk_engine.specs.walk_core.Moved.{refusal_in_event, refusal_of_item}
-pub use Rattle.walk_engine.specs.walk_core.Opened.{AreOpened, AreRings, IsAlike, IsNew, IsNewGather, IsNewSink}
-pub use Rattle.walk_engine.specs.walk_core.Opened.{IsOpened}
-pub use Rattle.walk_engine.specs.walk_core.Live.{IsLegOver, IsLive, IsReady, IsWalk, Live, LiveMakes, LiveFinishes}
+pub use Rattle.walk_engine.specs.walk_core.Opened.{AreOpened, AreRings, HasWindows, IsAlike, IsNew, IsNewGather}
+pub use Rattle.walk_engine.specs.walk_core.Opened.{IsNewSink, IsOpened}
+pub use Rattle.walk_engine.specs.walk_core.Live.{AgreesNow, IsLegOver, IsLive, IsReady, IsWalk, Live, LiveMakes, LiveFinishes}
 pub use Rattle.walk_engine.specs.walk_core.Live.{LiveRounds, LiveStands, live_counts, live_of}
 pub use Rattle.walk_engine.specs.walk_core.Parts.{HasBack, HasCounted, HasLanded, HasLine, HasLines, HasSent, HasSource}
 pub use Rattle.walk_engine.specs.walk_core.Parts.{Parts, StandsForSome, calls_on, counts_of, frame_in, line_counts}
+pub use Rattle.walk_engine.specs.walk_core.Parts.{AgreesAt, calls_of, windows_in, windows_of, windows_on}
 pub use Rattle.walk_engine.specs.walk_core.Parts.{note_of, sent_frames, told_leg, told_scenario}
 pub use Rattle.walk_engine.specs.walk_core.Take.{CanPop, CanTake, HasPopped, HasRow, take_cause}
 pub use Rattle.walk_engine.specs.walk_core.Waiting.{receive_ring, send_ring}

@@ -1,6 +1,7 @@
 -- A line carries, by its numbers.
 use Rattle.std.proofs.Common.{◌≡◌, ℕ, zero, suc, ◌+◌, ◌-◌, ◌%◌, ◌<◌, ◌≤◌, ◌&&◌, min, nat_le, nat_lt, true, false, List}
-use Rattle.std.proofs.Common.{[], ◌∷◌, length, take, drop, map, slice_get, slice_set, Option, Some, None, refl, sym}
+use Rattle.std.proofs.Common.{[], ◌∷◌, length, take, drop, map, slice_get, slice_set, slice_index_or, Option, Some, None, refl}
+use Rattle.std.proofs.Common.{sym}
 use Rattle.std.proofs.Common.{◌∙◌, ap, subst, arith, inl, inr}
 use Rattle.std.proofs.lemmas.List.{length-take, length-map, length-set, map-set}
 use Rattle.std.specs.Global.{Vec, Box}
@@ -18,6 +19,10 @@ use Rattle.member_rows.specs.realign_rows.Gather.{GatherStands as Gathers}
 use Rattle.terminal_sink.specs.sink_core.Core.{SinkStands as HasTaken}
 use Rattle.law_terminal.proofs.SentLaws.{containers-size}
 use Rattle.law_terminal.proofs.ListLaws.{range-at}
+use Rattle.law_model.specs.declared.window_types.Window.{Window}
+use Rattle.law_model.specs.members.Damage.{carried}
+use Rattle.member_path.specs.failure_window.Agree.{AgreeBelow}
+use Rattle.member_path.proofs.PathDelayLaws.AgreeLaws.{calls-agree}
 use Rattle.member_path.specs.path_delay.Line.{and_push, and_flush, carries_of, path_cells, IsEnded}
 use Rattle.law_walk.specs.Common.{sent_on, walk_plan, CanWalk, counts_at, cells_on, popped_on, popped_cells, delay_on}
 use Rattle.law_walk.specs.Common.{sent_at, taken_by, cells_by, send_by, receive_by, path_on}
@@ -28,7 +33,7 @@ use Rattle.law_session.proofs.AlikeLaws.{map-same}
 use Rattle.law_walk.proofs.RingLaws.{taken-cells, taken-next, receive-size}
 use Rattle.walk_engine.specs.Common.{Ringed, ring_of, answer_by, moved_of, counts_after, Parts, frame_in, HasSent}
 use Rattle.walk_engine.specs.Common.{counts_of, calls_on, line_counts, HasLine, carry_cause, CanCarry, IsSentOn}
-use Rattle.walk_engine.specs.Common.{IsCarriedAt, send_ring, receive_ring}
+use Rattle.walk_engine.specs.Common.{AgreesAt, IsCarriedAt, IsKnownOn, calls_of, send_ring, receive_ring, windows_in, windows_of}
 use Rattle.walk_engine.specs.declared.walk_core.step_answers.Moved.TheVariants.{Yes, Stalled}
 use Rattle.walk_engine.specs.walk_core.Parts.{WayStands}
 use Rattle.walk_engine.specs.walk_core.Carry.{HasReceiveRoom}
@@ -49,16 +54,43 @@ carries leg m x =
     let all = containers-size (scenario_by leg) (session_cells (scenario_by leg)) m leg.config.ticks in
     omega (arith, e, all)
 
+-- what its carries gave is the same by its own windows and by the leg's
+pub path-same : (leg : Leg) (m : ℕ) (line : Ringed) → HasLine leg m line →
+    path_cells (calls_of leg m line) ≡ path_cells (calls_on leg m line.carried)
+path-same leg m line has =
+    let pushed = has.has.core.pushed in
+    calls-agree (calls_on leg m line.carried) line.core.windows line.core.pushed has.agrees (omega (arith, pushed))
+
+pub below : (a b : ℕ) → a ≤ b → (a ≡ b → ⊥) → a < b
+below a b within apart = elim (cases_lt a b)
+    [ inl low ↦ low | inr high ↦ absurd (apart (let e : a ≡ b = omega (arith, within, high) in e)) ]
+
+pub agree-more : (windows others : List Window) (n k : ℕ) → AgreeBelow windows others n →
+    carried windows n ≡ carried others n → k ≤ n + 1 → AgreeBelow windows others k
+agree-more windows others n k agree own few t low = elim (cases_eq t n) [
+  | inl same ↦ subst (λ i. carried windows i ≡ carried others i) (sym same) own
+  | inr apart ↦ agree t (below t n (omega (arith, low, few)) apart)
+]
+
+pub windows-at : (lines : List Ringed) (m : ℕ) (line : Ringed) → slice_get lines m ≡ Some line →
+    slice_index_or (windows_in lines) m [] ≡ line.core.windows
+windows-at [] m line e = absurd cc
+windows-at (y ∷ lines) zero line e = ap windows_of (let h : y ≡ line = cc in h)
+windows-at (y ∷ lines) (suc m) line e = windows-at lines m line e
+
+pub windows-set : (lines : List Ringed) (m : ℕ) (line after : Ringed) → slice_get lines m ≡ Some line →
+    after.core.windows ≡ line.core.windows → windows_in (slice_set lines m after) ≡ windows_in lines
+windows-set [] m line after e same = absurd cc
+windows-set (y ∷ lines) zero line after e same =
+    ap (λ w. w ∷ windows_in lines) (same ∙ sym (ap windows_of (let h : y ≡ line = cc in h)))
+windows-set (y ∷ lines) (suc m) line after e same = ap (λ ws. y.core.windows ∷ ws) (windows-set lines m line after e same)
+
 -- the cells that its carries gave
 pub cells-are : (leg : Leg) (m x : ℕ) → path_cells (calls_on leg m x) ≡ cells_by leg m x
 cells-are leg m x =
     ap (cells (carried_by (scenario_by leg) m) (delay_on leg m) leg.config.ticks (taken_by leg m x))
     (carries leg m x)
     ∙ taken-cells leg m x
-
-pub below : (a b : ℕ) → a ≤ b → (a ≡ b → ⊥) → a < b
-below a b within apart = elim (cases_lt a b)
-    [ inl low ↦ low | inr high ↦ absurd (apart (let e : a ≡ b = omega (arith, within, high) in e)) ]
 
 pub numbers : (leg : Leg) (m : ℕ) (line : Ringed) → HasLine leg m line → AreNumbers leg m line
 numbers leg m line has = record {
@@ -69,7 +101,7 @@ numbers leg m line has = record {
       let all = containers-size (scenario_by leg) (session_cells (scenario_by leg)) m leg.config.ticks in
       omega (arith, e, all));
   flushed = has.has.core.flushed;
-  given = has.has.given ∙ ap length (cells-are leg m line.carried) ∙ receive-size leg m line.carried 0
+  given = has.has.given ∙ ap length (path-same leg m line has) ∙ ap length (cells-are leg m line.carried) ∙ receive-size leg m line.carried 0
       ∙ (let e : (path_on leg m).given line.carried - 0 ≡ (path_on leg m).given line.carried = omega arith in e);
 }
 
@@ -297,8 +329,8 @@ module _ (leg : Leg) (backs : ℕ) (parts : Parts) (is : WayStands leg backs par
 
   module _ (after : Ringed) (none : None ≡ carry_cause leg.config.ticks leg.config.ring parts.source.core.ticks m
       (path_on leg m) (line_counts line))
-      (has : HasLine leg m after) (carried : after.carried ≡ line.carried + 1)
-      (popped : after.popped ≡ line.popped) where
+      (has : HasLine leg m after) (more : after.carried ≡ line.carried + 1)
+      (popped : after.popped ≡ line.popped) (damage : after.core.windows ≡ line.core.windows) where
     moves : (step (walk_plan leg) (counts_of parts backs)
         (Carry m) ≡ record {
           counts = record
@@ -315,7 +347,7 @@ module _ (leg : Leg) (backs : ℕ) (parts : Parts) (is : WayStands leg backs par
     lines-are =
         map-set line_counts parts.lines m after
         ∙ ap (slice_set (counts_of parts backs).lines m)
-        (ap (λ n. record { carried = n; popped = after.popped }) carried
+        (ap (λ n. record { carried = n; popped = after.popped }) more
         ∙ ap (λ n. record { carried = line.carried + 1; popped = n }) popped)
 
     pub carry-counts : counts_of (record parts { lines = slice_set parts.lines m after }) backs
@@ -352,6 +384,8 @@ module _ (leg : Leg) (backs : ℕ) (parts : Parts) (is : WayStands leg backs par
                 | inr apart ↦ is.lines.each k other (sym (slice_get-set_other parts.lines m k after apart) ∙ e)
               ];
             };
+            agrees = λ t before. subst (AgreesAt leg t) (sym (windows-set parts.lines m line after there damage))
+                (is.agrees t before);
             sink = record {
               gathers = subst (Gathers parts.rows) cells is.sink.gathers;
               taken = subst (HasTaken parts.sink) cells is.sink.taken;
@@ -466,8 +500,14 @@ module _ (leg : Leg) (backs : ℕ) (parts : Parts) (is : WayStands leg backs par
       ∙ sym (ap (λ (l : LineCounts). slice_get (send_by leg m parts.source.core.ticks l.carried) k) here-counts
       ∙ waits-some leg m parts.source.core.ticks line.carried k t few-ticks inside is_place)
 
-  pub receives-are : (k : ℕ) → slice_get (drop line.popped (path_cells (calls_on leg m line.carried))) k
+  pub known-on : CanCarry line parts.source.core.ticks → IsKnownOn leg m line
+  known-on can left =
+      is.agrees line.carried (can.wet left) m low
+      ∙ ap (λ w. carried w line.carried) (windows-at parts.lines m line there)
+
+  pub receives-are : (k : ℕ) → slice_get (drop line.popped (path_cells (calls_of leg m line))) k
       ≡ slice_get (receive_ring leg (counts_of parts backs) m) k
   receives-are k =
-      ap (λ cells. slice_get (drop line.popped cells) k) (cells-are leg m line.carried)
+      ap (λ cells. slice_get (drop line.popped cells) k)
+      (path-same leg m line (is.lines.each m line there) ∙ cells-are leg m line.carried)
       ∙ sym (ap (λ (l : LineCounts). slice_get (receive_by leg m l.carried l.popped) k) here-counts)

@@ -10,17 +10,19 @@ use Rattle.law_model.specs.declared.walk_events.StallCause.{StallCause}
 use Rattle.law_walk.specs.Common.{path_on, walk_plan}
 use Rattle.law_walk.proofs.PlanLaws.{has-paths, sound-walks}
 use Rattle.walk_engine.specs.Common.{Ringed, ring_of, Makes, Parts, frame_in, line_counts, HasLine, carry_cause}
-use Rattle.walk_engine.specs.Common.{Live, LiveStands, CanCarry, IsSentOn, IsCarriedAt}
+use Rattle.walk_engine.specs.Common.{Live, LiveStands, CanCarry, IsKnownOn, IsSentOn, IsCarriedAt, windows_in}
 use Rattle.walk_engine.specs.declared.walk_core.step_answers.Moved.TheVariants.{Yes, Stalled}
 use Rattle.walk_engine.specs.walk_core.Parts.{WayStands}
 use Rattle.walk_engine.specs.walk_core.Carry.{HasReceiveRoom}
 use Rattle.walk_engine.proofs.WalkCoreLaws.CarryLaws.{line-has, line-room, carry-stays, carry-kept_at, carry-counts_at}
-use Rattle.walk_engine.proofs.WalkCoreLaws.CarryLaws.{carry-moved, line-sent, room-left}
+use Rattle.walk_engine.proofs.WalkCoreLaws.CarryLaws.{carry-moved, known-on, line-sent, room-left, windows-set}
 
 -- a line that has carried one container more, of the send rings as they were and as they are
 pub record IsOn (m : ℕ) (was line : Ringed) (before : List (Vec (Box Container)))
     (after : List (List Container)) : Type 0 where
-  pub has : (leg : Leg) → HasLine leg m was → IsSentOn leg m was.carried before → HasLine leg m line
+  pub has : (leg : Leg) → HasLine leg m was → IsSentOn leg m was.carried before → IsKnownOn leg m was →
+      HasLine leg m line
+  pub windows : (leg : Leg) → HasLine leg m was → line.core.windows ≡ was.core.windows
   pub carried : line.carried ≡ was.carried + 1
   pub popped : line.popped ≡ was.popped
   pub sent : IsCarriedAt (was.carried % 32) m (map frame_in before) after
@@ -90,6 +92,14 @@ module _ (leg : Leg) (backs : ℕ) (parts : Parts) (is : WayStands leg backs par
               (line-has leg backs parts is m line-low own (line-there own own_read))
               (line-sent leg backs parts is m line-low own
               (line-there own own_read) before same own-can)
+              (known-on leg backs parts is m line-low own (line-there own own_read) own-can)
+
+          damage : after.core.windows ≡ own.core.windows
+          damage = by.windows leg (line-has leg backs parts is m line-low own (line-there own own_read))
+
+          pub line-damage : windows_in (slice_set parts.lines k after) ≡ windows_in parts.lines
+          line-damage = subst (λ j. windows_in (slice_set parts.lines j after) ≡ windows_in parts.lines) (sym at)
+              (windows-set parts.lines m own after (line-there own own_read) damage)
 
           changed : IsCarriedAt (own.carried % 32) m parts.sent sent
           changed = subst (λ was. IsCarriedAt (own.carried % 32) m was sent) same by.sent
@@ -98,13 +108,13 @@ module _ (leg : Leg) (backs : ℕ) (parts : Parts) (is : WayStands leg backs par
               (record parts { lines = slice_set parts.lines k after; sent = sent }) Yes
           line-carried = record {
             stands = carry-kept_at leg backs parts is m line-low own
-                (line-there own own_read) after none-is has by.carried by.popped
+                (line-there own own_read) after none-is has by.carried by.popped damage
                 sent changed k at;
             counts = carry-counts_at leg backs parts is m line-low own
-                (line-there own own_read) after none-is has by.carried by.popped
+                (line-there own own_read) after none-is has by.carried by.popped damage
                 sent changed k at;
             moved = carry-moved leg backs parts is m line-low own
-                (line-there own own_read) after none-is has by.carried by.popped;
+                (line-there own own_read) after none-is has by.carried by.popped damage;
           }
 
 -- a leg has a path for each line

@@ -67,6 +67,7 @@ stands-back leg backs next parts inbox is walked = record {
   source = source-stays leg (counts_of parts backs) _ _ _ parts.source.core is.source;
   sent = is.sent;
   lines = is.lines;
+  agrees = is.agrees;
   sink = record {
     gathers = is.sink.gathers;
     taken = is.sink.taken;

@@ -205,6 +205,7 @@ module _ (leg : Leg) (backs : ℕ) (parts : Parts) (is : WayStands leg backs par
     };
     sent = subst (λ t. HasSent leg t (map line_counts parts.lines) parts.sent) (sym ticks) is.sent;
     lines = is.lines;
+    agrees = λ t low. is.agrees t (omega (arith, low, ticks));
     sink = record {
       gathers = is.sink.gathers;
       taken = is.sink.taken;

@@ -1,5 +1,5 @@
 -- One direction, and a walk, of which no event was made.
-use Rattle.std.proofs.Common.{◌≡◌, ℕ, zero, suc, ◌+◌, ◌-◌, min, List, [], ◌∷◌, ◌++◌, All, length, take}
+use Rattle.std.proofs.Common.{◌≡◌, ℕ, zero, suc, ◌+◌, ◌-◌, ◌<◌, min, List, [], ◌∷◌, ◌++◌, All, length, take}
 use Rattle.std.proofs.Common.{drop, map, filter, replicate, slice_get, slice_index_or, Some, None, refl, sym, ◌∙◌, ap}
 use Rattle.std.proofs.Common.{subst, arith, inl, inr}
 use Rattle.std.specs.List.{range_with_len, flat_map}
@@ -15,7 +15,7 @@ use Rattle.law_model.specs.declared.window_types.Window.{Window}
 use Rattle.law_model.specs.declared.script_types.Config.{Config}
 use Rattle.law_model.specs.declared.script_types.Item.{Item}
 use Rattle.law_model.specs.declared.control_packet.Packet.{Packet}
-use Rattle.member_path.specs.path_delay.Line.{opened}
+use Rattle.member_path.specs.path_delay.Line.{opened, with_windows}
 use Rattle.member_rows.specs.realign_rows.Gather.{Gather, GatherStands as Gathers}
 use Rattle.terminal_source.specs.source_core.Terminal.{Terminal}
 use Rattle.terminal_source.specs.source_core.Given.{SourceStands as HasMade}
@@ -34,7 +34,7 @@ use Rattle.terminal_group.specs.Source.{IsUnusedCore}
 use Rattle.walk_engine.specs.Common.{path_of, Ringed, ring_of, Has, IsOpened, AreOpened, AreRings, IsNewSink}
 use Rattle.walk_engine.specs.Common.{IsNewGather, IsNew, IsAlike, Parts, frame_in, HasSource, HasSent, HasLines}
 use Rattle.walk_engine.specs.Common.{HasBack, HasCounted, HasLanded, counts_of, line_counts, calls_on, note_of}
-use Rattle.walk_engine.specs.Common.{LiveStands, live_of, told_scenario}
+use Rattle.walk_engine.specs.Common.{HasWindows, LiveStands, live_of, told_scenario, windows_in}
 use Rattle.walk_engine.specs.declared.walk_core.open_way.Opened.{Opened}
 use Rattle.walk_engine.specs.walk_core.Parts.{WayStands}
 
@@ -51,23 +51,29 @@ opened-more config n lines line are is = record {
   ];
 }
 
-calls-opened : (leg : Leg) (m : ℕ) (line : Ringed) → IsOpened leg.config m line →
+calls-opened : (leg : Leg) (m : ℕ) (line : Ringed) → line.carried ≡ 0 →
     calls_on leg m line.carried
     ≡ opened (delay_on leg m) (slice_index_or leg.config.windows m []) leg.config.ticks
-calls-opened leg m line is =
-    let none : line.carried ≡ 0 = is.has.carried in
+calls-opened leg m line none =
     ap (λ x. calls_on leg m x) none
     ∙ ap (λ n. record (calls_on leg m 0) { containers = take n (sent_on (scenario_by leg) m) })
     (let e : min 0 leg.config.ticks ≡ 0 = omega arith in e)
     ∙ ap (λ n. record (opened (delay_on leg m) (slice_index_or leg.config.windows m []) leg.config.ticks)
     { flushes = n }) (let e : 0 - leg.config.ticks ≡ 0 = omega arith in e)
 
-opened-lines : (leg : Leg) (lines : List Ringed) → AreOpened leg.config leg.config.lines lines →
-    HasLines leg lines
-opened-lines leg lines are = record {
+opened-lines : (leg : Leg) (windows : List (List Window)) (lines : List Ringed) →
+    AreOpened (record leg.config { windows = windows }) leg.config.lines lines → HasLines leg lines
+opened-lines leg windows lines are = record {
   size = are.size;
   each = λ m line there. let is = are.each m line there in
-      record { has = subst (Has line) (sym (calls-opened leg m line is)) is.has; ring = is.ring };
+      record {
+        has = subst (Has line)
+            (sym (ap (with_windows (calls_on leg m line.carried)) is.has.core.windows
+            ∙ ap (λ calls. with_windows calls (slice_index_or windows m [])) (calls-opened leg m line is.has.carried)))
+            is.has;
+        agrees = λ t low. let none = is.has.core.pushed in absurd (omega (arith, low, none));
+        ring = is.ring;
+      };
 }
 
 abbrev no_counts : LineCounts
@@ -166,13 +172,13 @@ counts_from ticks lines rows = record
     { ticks = ticks; frames = 0; commands = 0; lines = lines; rows = rows; backs = 0 }
 
 -- what is new in the network of a leg, whatever return packets it loses
-record IsNewOn (leg : Leg) (all : Opened) : Type 0 where
+record IsNewOn (leg : Leg) (config : Config) (all : Opened) : Type 0 where
   core : IsUnusedCore leg.config all.ends.source.core
   total : all.ends.source.total ≡ leg.config.ticks
   landed : all.ends.source.landed ≡ none_counted
   sink : IsNewSink leg.config all.ends.sink
   sent : AreRings leg.config.lines all.paths.sent.items
-  lines : AreOpened leg.config leg.config.lines all.paths.lines.items
+  lines : AreOpened (record leg.config { windows = config.windows }) leg.config.lines all.paths.lines.items
   rows : IsNewGather leg.config.lines all.rows
 
 opened-on : (config : Config) (lost : List (ℕ × ℕ)) (n : ℕ) (lines : List Ringed) → AreOpened config n lines →
@@ -182,7 +188,8 @@ opened-on config lost n lines are = record {
   each = λ m line e. let is = are.each m line e in record { has = is.has; ring = is.ring; popped = is.popped };
 }
 
-new-on : (leg : Leg) (config : Config) (all : Opened) → IsNew config all → IsAlike leg config → IsNewOn leg all
+new-on : (leg : Leg) (config : Config) (all : Opened) → IsNew config all → IsAlike leg config →
+    IsNewOn leg config all
 new-on leg config all is alike =
     let network = sym alike.network in
     let core = is.source.core in
@@ -209,10 +216,26 @@ new-on leg config all is alike =
             stands = sink.stands;
           });
       sent = subst (λ n. AreRings n all.paths.sent.items) (sym lines) is.sent;
-      lines = subst (λ (c : Config). AreOpened c c.lines all.paths.lines.items) network
+      lines = subst (λ (c : Config). AreOpened c c.lines all.paths.lines.items)
+          (ap (λ (c : Config). record c { windows = config.windows }) network)
           (opened-on config leg.config.lost config.lines all.paths.lines.items is.lines);
       rows = subst (λ n. IsNewGather n all.rows) (sym lines) is.rows;
     }
+
+windows-each : (windows : ℕ → List Window) (lines : List Ringed) →
+    ((m : ℕ) (line : Ringed) → slice_get lines m ≡ Some line → line.core.windows ≡ windows m) →
+    (m : ℕ) → m < length lines → slice_index_or (windows_in lines) m [] ≡ windows m
+windows-each windows [] each m low = absurd (omega (arith, low))
+windows-each windows (line ∷ lines) each zero low = each 0 line refl
+windows-each windows (line ∷ lines) each (suc m) low =
+    windows-each (λ k. windows (suc k)) lines (λ k other e. each (suc k) other e) m (omega (arith, low))
+
+-- the lines have the windows of their configuration
+pub new-windows : (config : Config) (all : Opened) → IsNew config all → HasWindows config all.paths.lines.items
+new-windows config all new m low =
+    let size = new.lines.size in
+    windows-each (λ k. slice_index_or config.windows k []) all.paths.lines.items
+    (λ k line e. (new.lines.each k line e).has.core.windows) m (omega (arith, low, size))
 
 -- what was opened, put together
 abbrev pub opened_parts : Opened → Parts
@@ -241,7 +264,7 @@ module _ (leg : Leg) (config : Config) (all : Opened) (new : IsNew config all) (
   abbrev sink : Core
   sink = all.ends.sink
 
-  is : IsNewOn leg all
+  is : IsNewOn leg config all
   is = new-on leg config all new alike
 
   sound : IsSound leg
@@ -254,7 +277,7 @@ module _ (leg : Leg) (config : Config) (all : Opened) (new : IsNew config all) (
   begin-counts =
       ap (λ n. counts_from n (map line_counts lines) sink.taken) is.core.ticks
       ∙ ap (λ ls. counts_from 0 ls sink.taken)
-      (opened-counts leg.config leg.config.lines lines is.lines
+      (opened-counts (record leg.config { windows = config.windows }) leg.config.lines lines is.lines
       ∙ ap (λ k. replicate k no_counts) (sym paths-size))
       ∙ ap (λ n. counts_from 0 (replicate (length (walk_plan leg).paths) no_counts) n) is.sink.taken
 
@@ -266,7 +289,7 @@ module _ (leg : Leg) (config : Config) (all : Opened) (new : IsNew config all) (
 
   cells-are : popped_cells leg (map line_counts lines) ≡ replicate leg.config.lines []
   cells-are =
-      ap (popped_cells leg) (opened-counts leg.config leg.config.lines lines is.lines)
+      ap (popped_cells leg) (opened-counts (record leg.config { windows = config.windows }) leg.config.lines lines is.lines)
       ∙ cells-none leg leg.config.lines
       ∙ ap (λ k. replicate k []) sound.network.windows_each
 
@@ -301,7 +324,8 @@ module _ (leg : Leg) (config : Config) (all : Opened) (new : IsNew config all) (
     });
     sent = subst (λ n. HasSent leg n (map line_counts lines) (map frame_in sent)) (sym is.core.ticks)
         (sent-opened leg (map line_counts lines) sent is.sent.places is.sent.lines);
-    lines = opened-lines leg lines is.lines;
+    lines = opened-lines leg config.windows lines is.lines;
+    agrees = λ t low. let none = is.core.ticks in absurd (omega (arith, low, none));
     sink = record {
       gathers = subst (Gathers rows) (sym cells-are) is.rows.gathers;
       taken = is.sink.stands (popped_cells leg (map line_counts lines)) cells-size;

@@ -20,9 +20,12 @@ use Rattle.law_walk.proofs.PlanLaws.{has-paths, line-path}
 use Rattle.law_walk.proofs.RingLaws.{taken-cells}
 use Rattle.law_walk.proofs.WalkLaws.{line-first, open-or}
 use Rattle.law_walk.proofs.WaitLaws.{popped-decides}
+use Rattle.member_path.specs.failure_window.Agree.{AgreeBelow}
+use Rattle.member_path.specs.path_delay.Line.{Line, with_windows}
+use Rattle.walk_engine.specs.Common.{calls_on, windows_on}
 use Rattle.walk_engine.specs.Common.{Ringed, Has, IsNext, IsPopped, popped_until, leaves_open}
-use Rattle.walk_engine.specs.Common.{popped_cells as own_cells, calls_on, line_counts, HasLine, CanPop, HasPopped}
-use Rattle.walk_engine.proofs.WalkCoreLaws.CarryLaws.{carries, numbers, map-get}
+use Rattle.walk_engine.specs.Common.{popped_cells as own_cells, calls_of, line_counts, HasLine, CanPop, HasPopped}
+use Rattle.walk_engine.proofs.WalkCoreLaws.CarryLaws.{carries, numbers, map-get, path-same}
 
 -- the first cells of all that a line gives are those that some carries give, where these give as many
 first-cells : (leg : Leg) (line x y : ℕ) → x ≤ leg.config.ticks + delay_on leg line + 1 →
@@ -266,8 +269,8 @@ module _ (leg : Leg) (was now : List Ringed) (rows : Gather) (m : ℕ) (has : Po
   here : slice_get (map line_counts now) m ≡ Some (line_counts line)
   here = map-get line_counts now m line there
 
-  path-is : path_cells (calls_on leg m line.carried) ≡ cells_by leg m line.carried
-  path-is = ap (λ k. cells (carried_by (scenario_by leg) m) (delay_on leg m) leg.config.ticks
+  path-is : path_cells (calls_of leg m line) ≡ cells_by leg m line.carried
+  path-is = path-same leg m line own ∙ ap (λ k. cells (carried_by (scenario_by leg) m) (delay_on leg m) leg.config.ticks
       (taken_by leg m line.carried) k) (carries leg m line.carried) ∙ taken-cells leg m line.carried
 
   pops-low : line.popped ≤ line.given
@@ -276,19 +279,19 @@ module _ (leg : Leg) (was now : List Ringed) (rows : Gather) (m : ℕ) (has : Po
   given-is : line.given ≡ (path_on leg m).given line.carried
   given-is = (numbers leg m line (has.can.lines.each m line there)).given
 
-  first : (y : ℕ) → y ≤ line.given → take y (path_cells (calls_on leg m line.carried)) ≡ take y (line_cells leg m)
+  first : (y : ℕ) → y ≤ line.given → take y (path_cells (calls_of leg m line)) ≡ take y (line_cells leg m)
   first y low = ap (take y) path-is
       ∙ sym (first-cells leg m line.carried y (has.can.carries m line there) (subst (λ n. y ≤ n) given-is low))
 
   open-is : (y : ℕ) → y ≤ line.given →
-      leaves_open (path_cells (calls_on leg m line.carried)) rows.rows y ≡ nat_le
+      leaves_open (path_cells (calls_of leg m line)) rows.rows y ≡ nat_le
       ((path_on leg m).decided y) rows.rows
   open-is y low =
       ap (λ own. is_none (verdict own rows.rows)) (first y low)
       ∙ open-or (verdict (take y (line_cells leg m)) rows.rows) ((path_on leg m).decided y) rows.rows
       (popped-decides leg m y rows.rows has.can.row)
 
-  pub is-next : IsNext line (calls_on leg m line.carried) rows (popped_cells leg (map line_counts now)) m
+  pub is-next : IsNext line (calls_of leg m line) rows (popped_cells leg (map line_counts now)) m
   is-next = record {
     has = own.has;
     gathers = has.can.gathers;
@@ -313,15 +316,15 @@ module _ (leg : Leg) (was now : List Ringed) (rows : Gather) (m : ℕ) (has : Po
 
   module _ (after : Ringed) (rows' : Gather) (others : IsPopped line after) (row : rows'.rows ≡ rows.rows)
       (popped : after.popped ≡ popped_until (line.given - line.popped)
-      (λ y. leaves_open (path_cells (calls_on leg m line.carried)) rows.rows y) line.popped)
-      (stays : Has after (calls_on leg m line.carried))
+      (λ y. leaves_open (path_cells (calls_of leg m line)) rows.rows y) line.popped)
+      (stays : Has after (calls_of leg m line))
       (gathers : Gathers rows' (slice_set (popped_cells leg (map line_counts now)) m
-      (own_cells after (calls_on leg m line.carried)))) where
+      (own_cells after (calls_of leg m line)))) where
     popped-is : after.popped ≡ pop (in_receive (path_on leg m) (line_counts line))
         (path_on leg m) rows.rows line.popped
     popped-is =
         popped ∙ until-pops line.given (line.given - line.popped)
-        (λ y. leaves_open (path_cells (calls_on leg m line.carried)) rows.rows y)
+        (λ y. leaves_open (path_cells (calls_of leg m line)) rows.rows y)
         (path_on leg m) rows.rows line.popped (let p = pops-low in omega (arith, p)) open-is
         ∙ ap (λ n. pop (n - line.popped) (path_on leg m) rows.rows line.popped) given-is
 
@@ -334,7 +337,7 @@ module _ (leg : Leg) (was now : List Ringed) (rows : Gather) (m : ℕ) (has : Po
     after-low : after.popped ≤ line.given
     after-low = let p = pops-low in
         let h = until-below (line.given - line.popped)
-        (λ y. leaves_open (path_cells (calls_on leg m line.carried)) rows.rows y) line.popped in
+        (λ y. leaves_open (path_cells (calls_of leg m line)) rows.rows y) line.popped in
         omega (arith, p, h, popped)
 
     has-path : slice_get (walk_plan leg).paths m ≡ Some (path_on leg m)
@@ -382,7 +385,9 @@ module _ (leg : Leg) (was now : List Ringed) (rows : Gather) (m : ℕ) (has : Po
       where
         has-after : HasLine leg m after
         has-after = record {
-          has = subst (λ n. Has after (calls_on leg m n)) (sym carried-is) stays;
+          has = subst (Has after)
+              (ap₂ (λ n (l : Line). with_windows (calls_on leg m n) l.windows) (sym carried-is) (sym others.core)) stays;
+          agrees = subst (λ (l : Line). AgreeBelow (windows_on leg m) l.windows l.pushed) (sym others.core) own.agrees;
           ring = ap length others.signs ∙ own.ring;
         }
 
@@ -408,13 +413,13 @@ module _ (leg : Leg) (was now : List Ringed) (rows : Gather) (m : ℕ) (has : Po
     at-after : counts_at (map line_counts (slice_set now m after)) m ≡ line_counts after
     at-after = ap (λ lines. counts_at lines m) set-is ∙ set-at (map line_counts now) m (line_counts after) long
 
-    decided-by : IsSome (verdict (own_cells after (calls_on leg m line.carried)) rows.rows) ↔
+    decided-by : IsSome (verdict (own_cells after (calls_of leg m line)) rows.rows) ↔
         (rows.rows < (path_on leg m).decided after.popped)
     decided-by = subst (λ (own : List Cell). IsSome (verdict own rows.rows) ↔
         (rows.rows < (path_on leg m).decided after.popped)) (sym (first after.popped after-low))
         (popped-decides leg m after.popped rows.rows has.can.row)
 
-    pub popping-next : true ≡ is_some (verdict (own_cells after (calls_on leg m line.carried)) rows.rows) →
+    pub popping-next : true ≡ is_some (verdict (own_cells after (calls_of leg m line)) rows.rows) →
         Popping leg was (slice_set now m after) rows' (m + 1)
     popping-next told = record {
       can = popped-can;
@@ -430,7 +435,7 @@ module _ (leg : Leg) (was now : List Ringed) (rows : Gather) (m : ℕ) (has : Po
       same = popped-same;
     }
 
-    pub popping-waits : false ≡ is_some (verdict (own_cells after (calls_on leg m line.carried)) rows.rows) →
+    pub popping-waits : false ≡ is_some (verdict (own_cells after (calls_of leg m line)) rows.rows) →
         HasPopped leg was (slice_set now m after) rows' (Some m)
     popping-waits told =
         let low : (path_on leg m).decided after.popped ≤ rows'.rows =

@@ -35,7 +35,7 @@ use Rattle.law_walk.proofs.WaitLaws.{take-waits}
 use Rattle.law_walk.proofs.ReturnLaws.{packet-said, packets-next, ring-says}
 use Rattle.law_walk.proofs.FrameLaws.{frames-received, frames-grow}
 use Rattle.walk_engine.specs.Common.{listed, Ringed, answer_by, moved_of, counts_after, delivered_since, GivesRows}
-use Rattle.walk_engine.specs.Common.{Parts, HasSent, counts_of, line_counts, said_at, take_by, Takes}
+use Rattle.walk_engine.specs.Common.{AgreesAt, Parts, HasSent, counts_of, line_counts, said_at, take_by, Takes, windows_in}
 use Rattle.walk_engine.specs.Common.{Live, LiveStands, live_counts, live_of, take_cause, CanPop, HasPopped, CanTake, HasRow}
 use Rattle.walk_engine.specs.declared.walk_core.step_answers.StepNote.{StepNote}
 use Rattle.walk_engine.specs.declared.walk_core.step_answers.Moved.TheVariants.{Stalled}
@@ -223,169 +223,171 @@ module _ (leg : Leg) (backs : ℕ) (parts : Parts) (is : WayStands leg backs par
 
     module _ (lines : List Ringed) (rows : Gather) (waiting : Option ℕ) (same : rows.rows ≡ parts.rows.rows)
         (count : line_count rows ≡ line_count parts.rows) (popped : HasPopped leg parts.lines lines rows waiting)
-      where
-        row-is : rows.rows ≡ parts.sink.taken
-        row-is = same ∙ is.sink.passed
+        (damage : windows_in lines ≡ windows_in parts.lines) where
+      row-is : rows.rows ≡ parts.sink.taken
+      row-is = same ∙ is.sink.passed
 
-        lines-are : map line_counts lines ≡
-            (pop_lines parts.sink.taken 0 (walk_plan leg).paths (map line_counts parts.lines)).lines
-        lines-are = popped.counts ∙ ap (λ t. (pop_lines t 0 (walk_plan leg).paths (map line_counts parts.lines)).lines)
-            row-is
+      lines-are : map line_counts lines ≡
+          (pop_lines parts.sink.taken 0 (walk_plan leg).paths (map line_counts parts.lines)).lines
+      lines-are = popped.counts ∙ ap (λ t. (pop_lines t 0 (walk_plan leg).paths (map line_counts parts.lines)).lines)
+          row-is
 
-        waits-are : waiting ≡ (pop_lines parts.sink.taken 0 (walk_plan leg).paths
-            (map line_counts parts.lines)).waiting
-        waits-are = popped.waits ∙ ap (λ t.
-            (pop_lines t 0 (walk_plan leg).paths (map line_counts parts.lines)).waiting) row-is
+      waits-are : waiting ≡ (pop_lines parts.sink.taken 0 (walk_plan leg).paths
+          (map line_counts parts.lines)).waiting
+      waits-are = popped.waits ∙ ap (λ t.
+          (pop_lines t 0 (walk_plan leg).paths (map line_counts parts.lines)).waiting) row-is
 
-        moves : step (walk_plan leg) (counts_of parts backs) Take ≡ take_popped (counts_of parts backs)
-            (map line_counts lines) waiting
-        moves = is_left.moves ∙ ap₂ (take_popped was) (sym lines-are) (sym waits-are)
+      moves : step (walk_plan leg) (counts_of parts backs) Take ≡ take_popped (counts_of parts backs)
+          (map line_counts lines) waiting
+      moves = is_left.moves ∙ ap₂ (take_popped was) (sym lines-are) (sym waits-are)
 
-        stands : HasTaken parts.sink (popped_cells leg (map line_counts lines))
-        stands =
-            stands-longer parts.sink (popped_cells leg was.lines) (popped_cells leg (map line_counts lines))
-            (cells-longer leg was.lines (map line_counts lines)
-            (λ m. subst (λ ls. (counts_at (map line_counts parts.lines) m).popped ≤ (counts_at ls m).popped)
-            (sym lines-are) (pops-more parts.sink.taken 0 (walk_plan leg).paths was.lines m)))
-            is.sink.taken
+      stands : HasTaken parts.sink (popped_cells leg (map line_counts lines))
+      stands =
+          stands-longer parts.sink (popped_cells leg was.lines) (popped_cells leg (map line_counts lines))
+          (cells-longer leg was.lines (map line_counts lines)
+          (λ m. subst (λ ls. (counts_at (map line_counts parts.lines) m).popped ≤ (counts_at ls m).popped)
+          (sym lines-are) (pops-more parts.sink.taken 0 (walk_plan leg).paths was.lines m)))
+          is.sink.taken
 
-        sent : HasSent leg parts.source.core.ticks (map line_counts lines) parts.sent
-        sent =
-            sent-later leg parts.source.core.ticks was.lines (map line_counts lines) parts.sent is.sent
-            (λ m. subst (λ ls. (counts_at was.lines m).carried ≤ (counts_at ls m).carried) (sym lines-are)
-            (pops-carry parts.sink.taken 0 (walk_plan leg).paths was.lines m))
+      sent : HasSent leg parts.source.core.ticks (map line_counts lines) parts.sent
+      sent =
+          sent-later leg parts.source.core.ticks was.lines (map line_counts lines) parts.sent is.sent
+          (λ m. subst (λ ls. (counts_at was.lines m).carried ≤ (counts_at ls m).carried) (sym lines-are)
+          (pops-carry parts.sink.taken 0 (walk_plan leg).paths was.lines m))
 
-        module _ (line : ℕ) (waits : Some line ≡ waiting) where
-          stays : step (walk_plan leg) (counts_of parts backs) Take ≡ stalled
-              (record (counts_of parts backs) { lines = map line_counts lines }) (Stall_waiting line)
-          stays = moves ∙ ap (take_popped was (map line_counts lines)) (sym waits)
+      module _ (line : ℕ) (waits : Some line ≡ waiting) where
+        stays : step (walk_plan leg) (counts_of parts backs) Take ≡ stalled
+            (record (counts_of parts backs) { lines = map line_counts lines }) (Stall_waiting line)
+        stays = moves ∙ ap (take_popped was (map line_counts lines)) (sym waits)
 
-          waits-counts : counts_of (record parts { lines = lines; rows = rows }) backs ≡ counts_after leg
-              (counts_of parts backs) Take
-          waits-counts = sym (ap (λ (x : Step). x.counts) stays)
+        waits-counts : counts_of (record parts { lines = lines; rows = rows }) backs ≡ counts_after leg
+            (counts_of parts backs) Take
+        waits-counts = sym (ap (λ (x : Step). x.counts) stays)
 
-          pub waits-kept : Takes leg backs parts (record parts { lines = lines; rows = rows }) (Waiting line)
-          waits-kept = record {
-            makes = record {
-              counts = waits-counts;
-              moved = sym (ap (λ (x : Step). answer_by x.cause None) stays);
-              stands = record {
-                sound = is.sound;
-                total = is.total;
-                walked = walked-next leg was _ Take is.walked waits-counts;
-                source = source-stays leg (counts_of parts backs) _ _ _ parts.source.core is.source;
-                sent = sent;
-                lines = popped.lines;
-                sink = record {
-                  gathers = popped.gathers;
-                  taken = stands;
-                  passed = row-is;
-                  lines = count ∙ is.sink.lines;
-                  all = is.sink.all;
-                  size = is.sink.size;
-                  options = is.sink.options;
-                };
-                landed = counted-stays leg (counts_of parts backs) _ _ _ parts.source.landed is.landed;
-                counted = is.counted;
+        pub waits-kept : Takes leg backs parts (record parts { lines = lines; rows = rows }) (Waiting line)
+        waits-kept = record {
+          makes = record {
+            counts = waits-counts;
+            moved = sym (ap (λ (x : Step). answer_by x.cause None) stays);
+            stands = record {
+              sound = is.sound;
+              total = is.total;
+              walked = walked-next leg was _ Take is.walked waits-counts;
+              source = source-stays leg (counts_of parts backs) _ _ _ parts.source.core is.source;
+              sent = sent;
+              lines = popped.lines;
+              agrees = λ t low. subst (AgreesAt leg t) (sym damage) (is.agrees t low);
+              sink = record {
+                gathers = popped.gathers;
+                taken = stands;
+                passed = row-is;
+                lines = count ∙ is.sink.lines;
+                all = is.sink.all;
+                size = is.sink.size;
+                options = is.sink.options;
               };
+              landed = counted-stays leg (counts_of parts backs) _ _ _ parts.source.landed is.landed;
+              counted = is.counted;
             };
-            answers = ap (take_by leg parts.sink.taken) (waits ∙ waits-are);
-            rows = omega arith;
-          }
+          };
+          answers = ap (take_by leg parts.sink.taken) (waits ∙ waits-are);
+          rows = omega arith;
+        }
 
-        module _ (decided : None ≡ waiting) where
-          pub can-take : CanTake (popped_cells leg (map line_counts lines)) parts.sink rows
-          can-take = record {
-            gathers = popped.gathers;
-            taken = stands;
-            none = ap (λ ls. first_open (popped_cells leg ls) parts.sink.taken) lines-are
-                ∙ take-waits leg was.lines parts.sink.taken can (length-map parts.lines line_counts ∙ can-pop.size)
-                is_left.left ∙ sym waits-are ∙ sym decided;
-          }
+      module _ (decided : None ≡ waiting) where
+        pub can-take : CanTake (popped_cells leg (map line_counts lines)) parts.sink rows
+        can-take = record {
+          gathers = popped.gathers;
+          taken = stands;
+          none = ap (λ ls. first_open (popped_cells leg ls) parts.sink.taken) lines-are
+              ∙ take-waits leg was.lines parts.sink.taken can (length-map parts.lines line_counts ∙ can-pop.size)
+              is_left.left ∙ sym waits-are ∙ sym decided;
+        }
 
-          abbrev next : Counts
-          next = record (counts_of parts backs) { lines = map line_counts lines; rows = parts.sink.taken + 1 }
+        abbrev next : Counts
+        next = record (counts_of parts backs) { lines = map line_counts lines; rows = parts.sink.taken + 1 }
 
-          passes : step (walk_plan leg) (counts_of parts backs) Take ≡ moved next
-          passes = moves ∙ ap (take_popped was (map line_counts lines)) (sym decided)
+        passes : step (walk_plan leg) (counts_of parts backs) Take ≡ moved next
+        passes = moves ∙ ap (take_popped was (map line_counts lines)) (sym decided)
 
-          walked-on : IsWalked leg next
-          walked-on = walked-next leg was next Take is.walked (sym (ap (λ (x : Step). x.counts) passes))
+        walked-on : IsWalked leg next
+        walked-on = walked-next leg was next Take is.walked (sym (ap (λ (x : Step). x.counts) passes))
 
-          module _ (sink : Core) (gather : Gather) (packet : Option Packet)
-              (row : HasRow (popped_cells leg (map line_counts lines)) parts.sink sink gather packet) where
-            is_said : packet ≡ said_at leg parts.sink.taken
-            is_said = said leg was (map line_counts lines) packet can walked-on
-                (row.said ∙ ap (λ (o : Options). back_at o (popped_cells leg (map line_counts lines)) parts.sink.taken)
-                is.sink.options)
+        module _ (sink : Core) (gather : Gather) (packet : Option Packet)
+            (row : HasRow (popped_cells leg (map line_counts lines)) parts.sink sink gather packet) where
+          is_said : packet ≡ said_at leg parts.sink.taken
+          is_said = said leg was (map line_counts lines) packet can walked-on
+              (row.said ∙ ap (λ (o : Options). back_at o (popped_cells leg (map line_counts lines)) parts.sink.taken)
+              is.sink.options)
 
-            added-is : added_frames parts.sink.options parts.sink.size (popped_cells leg (map line_counts lines))
-                parts.sink.taken sink.taken ≡ delivered_since leg parts.sink.taken sink.taken
-            added-is =
-                ap (λ options. added_frames options parts.sink.size (popped_cells leg (map line_counts lines))
-                parts.sink.taken sink.taken) is.sink.options
-                ∙ ap₂ (λ size t. added_frames leg.config.options size (popped_cells leg (map line_counts lines))
-                parts.sink.taken t) is.sink.size row.one
-                ∙ ap₂ (λ before all. drop (length before) all)
-                (frames-received leg next can walked-on row_in received parts.sink.taken (omega arith))
-                (frames-received leg next can walked-on row_in received (parts.sink.taken + 1) (omega arith))
-                ∙ ap (delivered_since leg parts.sink.taken) (sym row.one)
+          added-is : added_frames parts.sink.options parts.sink.size (popped_cells leg (map line_counts lines))
+              parts.sink.taken sink.taken ≡ delivered_since leg parts.sink.taken sink.taken
+          added-is =
+              ap (λ options. added_frames options parts.sink.size (popped_cells leg (map line_counts lines))
+              parts.sink.taken sink.taken) is.sink.options
+              ∙ ap₂ (λ size t. added_frames leg.config.options size (popped_cells leg (map line_counts lines))
+              parts.sink.taken t) is.sink.size row.one
+              ∙ ap₂ (λ before all. drop (length before) all)
+              (frames-received leg next can walked-on row_in received parts.sink.taken (omega arith))
+              (frames-received leg next can walked-on row_in received (parts.sink.taken + 1) (omega arith))
+              ∙ ap (delivered_since leg parts.sink.taken) (sym row.one)
 
-            pub taken-gives : {Out : Type 0} (stands_for : Out → Start → List (List ℕ) → Type 0) (before after : Out) →
-                ((start : Start) (given : List (List ℕ)) → stands_for before start given →
-                stands_for after start (given ++ added_frames parts.sink.options parts.sink.size
-                (popped_cells leg (map line_counts lines)) parts.sink.taken sink.taken)) →
-                GivesRows stands_for before after leg parts.sink.taken sink.taken
-            taken-gives stands_for before after gives start given stood =
-                subst (λ frames. stands_for after start (given ++ frames)) added-is (gives start given stood)
+          pub taken-gives : {Out : Type 0} (stands_for : Out → Start → List (List ℕ) → Type 0) (before after : Out) →
+              ((start : Start) (given : List (List ℕ)) → stands_for before start given →
+              stands_for after start (given ++ added_frames parts.sink.options parts.sink.size
+              (popped_cells leg (map line_counts lines)) parts.sink.taken sink.taken)) →
+              GivesRows stands_for before after leg parts.sink.taken sink.taken
+          taken-gives stands_for before after gives start given stood =
+              subst (λ frames. stands_for after start (given ++ frames)) added-is (gives start given stood)
 
-            module _ (count' : ℕ) (counts : count' ≡ min
-                (parts.got + length (added_frames parts.sink.options parts.sink.size
-                (popped_cells leg (map line_counts lines)) parts.sink.taken sink.taken)) 18446744073709551615) where
-              counts-are : counts_of (record parts { lines = lines; rows = gather; sink = sink; got = count' }) backs
-                  ≡ next
-              counts-are = ap (λ n. record next { rows = n }) row.one
+          module _ (count' : ℕ) (counts : count' ≡ min
+              (parts.got + length (added_frames parts.sink.options parts.sink.size
+              (popped_cells leg (map line_counts lines)) parts.sink.taken sink.taken)) 18446744073709551615) where
+            counts-are : counts_of (record parts { lines = lines; rows = gather; sink = sink; got = count' }) backs
+                ≡ next
+            counts-are = ap (λ n. record next { rows = n }) row.one
 
-              counted : count' ≡ min (length (delivered_of leg sink.taken)) 18446744073709551615
-              counted =
-                  let all = ap length (frames-grow leg parts.sink.taken 1)
-                  ∙ length-append (delivered_of leg parts.sink.taken)
-                  (delivered_since leg parts.sink.taken (parts.sink.taken + 1)) in
-                  let now = ap (λ t. length (delivered_of leg t)) row.one in
-                  let more = ap length added-is ∙ ap (λ t. length (delivered_since leg parts.sink.taken t)) row.one in
-                  let before = is.counted in
-                  omega (arith, counts, all, now, more, before)
+            counted : count' ≡ min (length (delivered_of leg sink.taken)) 18446744073709551615
+            counted =
+                let all = ap length (frames-grow leg parts.sink.taken 1)
+                ∙ length-append (delivered_of leg parts.sink.taken)
+                (delivered_since leg parts.sink.taken (parts.sink.taken + 1)) in
+                let now = ap (λ t. length (delivered_of leg t)) row.one in
+                let more = ap length added-is ∙ ap (λ t. length (delivered_since leg parts.sink.taken t)) row.one in
+                let before = is.counted in
+                omega (arith, counts, all, now, more, before)
 
-              pub taken-kept : Takes leg backs parts
-                  (record parts { lines = lines; rows = gather; sink = sink; got = count' }) (Taken packet)
-              taken-kept = record {
-                makes = record {
-                  counts = counts-are ∙ sym (ap (λ (x : Step). x.counts) passes);
-                  moved = ap (λ (x : Step). answer_by x.cause None) (sym passes);
-                  stands = record {
-                    sound = is.sound;
-                    total = is.total;
-                    walked = subst (IsWalked leg) (sym counts-are) walked-on;
-                    source = source-stays leg (counts_of parts backs) _ _ _ parts.source.core is.source;
-                    sent = sent;
-                    lines = popped.lines;
-                    sink = record {
-                      gathers = row.gathers;
-                      taken = row.taken;
-                      passed = row.passed;
-                      lines = row.lines
-                          ∙ sym row.all;
-                      all = row.all ∙ is.sink.all;
-                      size = row.size ∙ is.sink.size;
-                      options = row.options ∙ is.sink.options;
-                    };
-                    landed = counted-stays leg (counts_of parts backs) _ _ _ parts.source.landed is.landed;
-                    counted = counted;
+            pub taken-kept : Takes leg backs parts
+                (record parts { lines = lines; rows = gather; sink = sink; got = count' }) (Taken packet)
+            taken-kept = record {
+              makes = record {
+                counts = counts-are ∙ sym (ap (λ (x : Step). x.counts) passes);
+                moved = ap (λ (x : Step). answer_by x.cause None) (sym passes);
+                stands = record {
+                  sound = is.sound;
+                  total = is.total;
+                  walked = subst (IsWalked leg) (sym counts-are) walked-on;
+                  source = source-stays leg (counts_of parts backs) _ _ _ parts.source.core is.source;
+                  sent = sent;
+                  lines = popped.lines;
+                  agrees = λ t low. subst (AgreesAt leg t) (sym damage) (is.agrees t low);
+                  sink = record {
+                    gathers = row.gathers;
+                    taken = row.taken;
+                    passed = row.passed;
+                    lines = row.lines
+                        ∙ sym row.all;
+                    all = row.all ∙ is.sink.all;
+                    size = row.size ∙ is.sink.size;
+                    options = row.options ∙ is.sink.options;
                   };
+                  landed = counted-stays leg (counts_of parts backs) _ _ _ parts.source.landed is.landed;
+                  counted = counted;
                 };
-                answers = ap Taken is_said ∙ ap (take_by leg parts.sink.taken) (decided ∙ waits-are);
-                rows = row.one;
-              }
+              };
+              answers = ap Taken is_said ∙ ap (take_by leg parts.sink.taken) (decided ∙ waits-are);
+              rows = row.one;
+            }
 
 -- ---- of a walk: why no row is taken, and the return packet that is said
 pub is-free : (leg : Leg) (was now : Live) → LiveStands leg was → was ≡ now →

@@ -38,7 +38,7 @@ use Rattle.terminal_sink.specs.sink_core.Core.{Core}
 use Rattle.terminal_group.proofs.SourceLaws.{missing-some}
 use Rattle.walk_engine.specs.Common.{Return, path_of, early_cause, Ringed, answer_by, moved_of, counts_after, Parts}
 use Rattle.walk_engine.specs.Common.{frame_in, HasSource, HasSent, HasBack, HasCounted, counts_of, line_counts, note_of}
-use Rattle.walk_engine.specs.Common.{told_scenario, LiveStands, live_of, Makes, with_passed, CanTick}
+use Rattle.walk_engine.specs.Common.{told_scenario, AgreesAt, LiveStands, live_of, Makes, with_passed, CanTick, windows_in}
 use Rattle.walk_engine.specs.declared.walk_core.step_answers.StepNote.{StepNote}
 use Rattle.walk_engine.specs.declared.walk_core.step_answers.Moved.TheVariants.{Yes, Stalled}
 use Rattle.walk_engine.specs.walk_core.Parts.{WayStands}
@@ -485,6 +485,11 @@ module _ (leg : Leg) (backs : ℕ) (parts : Parts) (is : WayStands leg backs par
               (sent-more leg parts.source.core.ticks (map line_counts parts.lines) sent frame has frame-is
               (ap length frame-is ∙ frame-long leg parts.source.core.ticks ∙ is.sound.network.windows_each));
           lines = is.lines;
+          agrees = λ t low. elim (cases_lt t parts.source.core.ticks) [
+            | inl less ↦ is.agrees t less
+            | inr least ↦ subst (λ n. AgreesAt leg n (windows_in parts.lines))
+                (let e : parts.source.core.ticks ≡ t = omega (arith, low, least, ticks) in e) can.agrees
+          ];
           sink = record {
             gathers = is.sink.gathers;
             taken = is.sink.taken;
@@ -592,9 +597,11 @@ module _ (leg : Leg) (parts : Parts) (ring : List Packet) (last : Option StepNot
           (path-left (is_some (needed parts.source.core)) ring parts.source.inbox left-in refl))
 
       -- without a packet to pass on, where the leg has nothing to tell
-      pub can-tick : CanTick leg parts.source.inbox.come parts None cell
-      can-tick = record {
+      pub can-tick : AgreesAt leg parts.source.core.ticks (windows_in parts.lines) →
+          CanTick leg parts.source.inbox.come parts None cell
+      can-tick agrees = record {
         free = e;
+        agrees = agrees;
         tells = record {
           step = λ at. sym (ap (λ tells. slice_index_or tells (parts.source.core.ticks / 16) untold) is.quiet);
           between = λ other. refl;

@@ -10,7 +10,7 @@ use Rattle.terminal_group.specs.Source.{missing_by}
 use Rattle.terminal_group.specs.Landed.{Landed}
 use Rattle.terminal_group.specs.declared.landed_counts.LandedCounts.{LandedCounts}
 use Rattle.walk_engine.specs.Common.{IsLive, IsWalk, Live, LiveMakes, LiveStands, Makes, Parts, StandsForSome, Takes}
-use Rattle.walk_engine.specs.Common.{live_counts}
+use Rattle.walk_engine.specs.Common.{AgreesAt, live_counts, windows_in}
 use Rattle.walk_engine.proofs.WalkCoreLaws.EventLaws.{landing-stays}
 use Rattle.walk_engine.specs.declared.walk_core.step_answers.Moved.{Moved}
 
@@ -39,9 +39,11 @@ way-stands live (leg, stands) = (leg, live.way.source.inbox.come, stands.stands)
 
 -- a walk that has moved, where no item has landed
 pub walk-moved : (leg : Leg) (was now : Live) (landing : Landed) → IsWalk leg was landing → LiveStands leg now →
-    now.way.source.landed ≡ was.way.source.landed → IsWalk leg now landing
-walk-moved leg was now landing is stands same = record {
+    now.way.source.landed ≡ was.way.source.landed → windows_in now.way.lines ≡ windows_in was.way.lines →
+    IsWalk leg now landing
+walk-moved leg was now landing is stands same windows = record {
   stands = stands;
+  known = λ t. subst (AgreesAt leg t) (sym windows) (is.known t);
   landed = landing-stays leg (live_counts was) (live_counts now) landing
       (ap (λ (l : LandedCounts). l.frames) same) (ap (λ (l : LandedCounts). l.commands) same) is.landed;
 }

@@ -7,7 +7,9 @@ use Rattle.law_model.specs.declared.walk_events.StallCause.{StallCause}
 use Rattle.law_model.specs.declared.walk_events.StallCause.TheVariants.{Done, Empty, RxFull}
 use Rattle.member_cells.specs.Held.{held}
 use Rattle.law_walk.specs.Common.{sent_at, path_on}
+use Rattle.law_model.specs.members.Damage.{carried as come_of}
 use Rattle.walk_engine.specs.walk_parts.Ringed.{Ringed, ring_of}
+use Rattle.walk_engine.specs.walk_core.Parts.{windows_on}
 
 -- the first cause, where there is one: of line m, whose ring holds so many cells, where the ticks are made
 abbrev pub carry_cause : ℕ → ℕ → ℕ → ℕ → LinePath → LineCounts → Option StallCause
@@ -33,6 +35,11 @@ abbrev pub IsSentOn : Leg → ℕ → ℕ → List (Vec (Box Container)) → Typ
 IsSentOn leg m t sent = t < leg.config.ticks →
     (frame : Vec (Box Container)) → slice_get sent (t % 32) ≡ Some frame →
     slice_get (held frame.items) m ≡ Some (sent_at leg m t)
+
+-- of the container that it carries next, its windows say what those of the leg do
+abbrev pub IsKnownOn : Leg → ℕ → Ringed → Type 0
+IsKnownOn leg m line = line.core.pushed < line.core.total →
+    come_of (windows_on leg m) line.carried ≡ come_of line.core.windows line.carried
 
 -- in the send rings, of the frame at a place at most the container of line m has changed, and no other frame
 pub record IsCarriedAt (place m : ℕ) (before after : List (List Container)) : Type 0 where

@@ -1,5 +1,5 @@
 -- A walk without its script: what it holds, the legs for which it stands, and what its calls do in each of them.
-use Rattle.std.specs.Prelude.{◌≡◌, List, [], ◌∷◌, Option}
+use Rattle.std.specs.Prelude.{◌≡◌, ℕ, List, [], ◌∷◌, Option}
 use Rattle.law_model.specs.Common.{Leg, Counts, IsSound, run, carries_from}
 use Rattle.law_model.specs.declared.script_types.Config.{Config}
 use Rattle.law_model.specs.declared.control_packet.Packet.{Packet}
@@ -12,6 +12,7 @@ use Rattle.walk_engine.specs.declared.walk_core.step_answers.Moved.{Moved}
 use Rattle.walk_engine.specs.declared.walk_core.step_answers.StepNote.{StepNote}
 use Rattle.walk_engine.specs.walk_core.Moved.{counts_after, moved_of}
 use Rattle.walk_engine.specs.walk_core.Parts.{Parts, WayStands, HasBack, HasLanded, counts_of, note_of}
+use Rattle.walk_engine.specs.walk_core.Parts.{AgreesAt, windows_in}
 use Rattle.walk_engine.specs.walk_core.Way.{IsNoneHeld}
 
 -- its direction; the return packets that were said and haven't come; the last decision step
@@ -27,10 +28,10 @@ live_of way ring last = record { way = way; ring = ring; last = last }
 abbrev pub live_counts : Live → Counts
 live_counts live = counts_of live.way live.way.source.inbox.come
 
--- a leg over a network, whatever lands in it; its packets tell nothing
+-- a leg over a network, whatever lands in it and whenever its lines are damaged; its packets tell nothing
 pub record IsLegOver (config : Config) (leg : Leg) : Type 0 where
   pub sound : IsSound leg
-  pub network : leg.config ≡ config
+  pub network : leg.config ≡ record config { windows = leg.config.windows }
   pub quiet : leg.tells ≡ []
 
 -- it stands for a leg: so the leg went, as far as its counts say. Many legs may have gone so, which differ in what comes
@@ -45,9 +46,13 @@ pub record LiveStands (leg : Leg) (live : Live) : Type 0 where
 abbrev pub IsLive : Live → Type 0
 IsLive live = (leg : Leg) × LiveStands leg live
 
+-- of the containers that are made next, its lines' windows say what the leg's do
+abbrev pub AgreesNow : Leg → Live → Type 0
+AgreesNow leg live = AgreesAt leg live.way.source.core.ticks (windows_in live.way.lines)
+
 -- and nothing that is due now is held in it
 abbrev pub IsReady : Live → Type 0
-IsReady live = (leg : Leg) × LiveStands leg live × IsNoneHeld leg (live_counts live)
+IsReady live = (leg : Leg) × LiveStands leg live × IsNoneHeld leg (live_counts live) × AgreesNow leg live
 
 -- an event in a leg answers as its counts say, and leaves what they give
 pub record LiveMakes (leg : Leg) (event : Event) (was now : Live) (answer : Moved) : Type 0 where
@@ -66,7 +71,8 @@ pub record LiveRounds (leg : Leg) (was now : Live) : Type 0 where
   pub counts : live_counts now
       ≡ run (walk_plan leg) (live_counts was) (Tick ∷ carries_from 0 (walk_plan leg).paths)
 
--- a walk of a leg of which all items are known
+-- a walk of a leg of which all items and all windows are known
 pub record IsWalk (leg : Leg) (live : Live) (landing : Landed) : Type 0 where
   pub stands : LiveStands leg live
+  pub known : (t : ℕ) → AgreesAt leg t (windows_in live.way.lines)
   pub landed : HasLanded leg (live_counts live) landing

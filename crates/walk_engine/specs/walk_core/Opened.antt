@@ -1,5 +1,5 @@
 -- What one direction of a group holds before any event.
-use Rattle.std.specs.Prelude.{◌≡◌, ℕ, List, [], length, replicate, slice_get, slice_index_or, All, Some}
+use Rattle.std.specs.Prelude.{◌≡◌, ℕ, ◌<◌, List, [], length, replicate, slice_get, slice_index_or, All, Some}
 use Rattle.std.specs.Global.{Vec, Box}
 use Rattle.law_model.specs.Common.{Container, Cell, Leg, IsSound}
 use Rattle.law_model.specs.declared.script_types.Config.{Config}
@@ -8,6 +8,7 @@ use Rattle.member_path.specs.path_delay.Line.{opened}
 use Rattle.member_rows.specs.realign_rows.Gather.{Gather, GatherStands as Gathers, line_count}
 use Rattle.terminal_sink.specs.sink_core.Core.{Core, SinkStands as HasTaken}
 use Rattle.walk_engine.specs.walk_parts.Ringed.{Ringed, ring_of, Has}
+use Rattle.walk_engine.specs.walk_core.Parts.{windows_in}
 use Rattle.walk_engine.specs.declared.walk_core.open_way.Opened.{Opened}
 
 -- line m was given its delay and its windows, and nothing was carried
@@ -20,6 +21,11 @@ pub record IsOpened (config : Config) (m : ℕ) (line : Ringed) : Type 0 where
 pub record AreOpened (config : Config) (n : ℕ) (lines : List Ringed) : Type 0 where
   pub size : length lines ≡ n
   pub each : (m : ℕ) (line : Ringed) → slice_get lines m ≡ Some line → IsOpened config m line
+
+-- each line has its windows
+abbrev pub HasWindows : Config → List Ringed → Type 0
+HasWindows config lines = (m : ℕ) → m < config.lines →
+    slice_index_or (windows_in lines) m [] ≡ slice_index_or config.windows m []
 
 -- the sink has taken nothing
 pub record IsNewSink (config : Config) (sink : Core) : Type 0 where
@@ -48,8 +54,8 @@ pub record IsNew (config : Config) (opened : Opened) : Type 0 where
   pub lines : AreOpened config config.lines opened.paths.lines.items
   pub rows : IsNewGather config.lines opened.rows
 
--- a leg over a network, whose return packets may be lost in some other way, whatever lands in it and whatever its
--- packets tell
+-- a leg over a network, whose return packets may be lost in some other way and whose lines be damaged in some other way,
+-- whatever lands in it and whatever its packets tell
 pub record IsAlike (leg : Leg) (config : Config) : Type 0 where
   pub sound : IsSound leg
-  pub network : leg.config ≡ record config { lost = leg.config.lost }
+  pub network : leg.config ≡ record config { lost = leg.config.lost; windows = leg.config.windows }

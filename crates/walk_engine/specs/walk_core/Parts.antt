@@ -4,7 +4,10 @@ use Rattle.std.specs.Prelude.{slice_index_or, Option, Some, None}
 use Rattle.std.specs.Global.{Vec, Box}
 use Rattle.law_model.specs.Common.{Container, Leg, Scenario, steps_in, IsSound, LineCounts, Counts}
 use Rattle.member_cells.specs.Held.{held}
-use Rattle.member_path.specs.path_delay.Line.{Calls}
+use Rattle.law_model.specs.declared.window_types.Window.{Window}
+use Rattle.law_model.specs.members.Damage.{carried}
+use Rattle.member_path.specs.failure_window.Agree.{AgreeBelow}
+use Rattle.member_path.specs.path_delay.Line.{Calls, with_windows}
 use Rattle.member_rows.specs.realign_rows.Gather.{Gather, GatherStands as Gathers, line_count}
 use Rattle.terminal_source.specs.source_core.Terminal.{Terminal}
 use Rattle.terminal_source.specs.source_core.Given.{SourceStands as HasMade}
@@ -62,6 +65,25 @@ calls_on leg line carries = record {
   flushes = carries - leg.config.ticks;
 }
 
+-- and those on a line as it is, with its own windows
+abbrev pub calls_of : Leg → ℕ → Ringed → Calls
+calls_of leg m line = with_windows (calls_on leg m line.carried) line.core.windows
+
+-- the windows that a leg has of a line, and those of the lines as they are
+abbrev pub windows_on : Leg → ℕ → List Window
+windows_on leg m = slice_index_or leg.config.windows m []
+
+abbrev pub windows_of : Ringed → List Window
+windows_of line = line.core.windows
+
+abbrev pub windows_in : List Ringed → List (List Window)
+windows_in lines = map windows_of lines
+
+-- by them the same comes of container t of each line as in the leg
+abbrev pub AgreesAt : Leg → ℕ → List (List Window) → Type 0
+AgreesAt leg t windows = (m : ℕ) → m < leg.config.lines →
+    carried (windows_on leg m) t ≡ carried (slice_index_or windows m []) t
+
 -- a leg of which the packets of the decision steps in some ticks alone tell something
 abbrev pub told_leg : Leg → ℕ → Leg
 told_leg leg ticks = record leg { tells = take (steps_in ticks) leg.tells }
@@ -88,7 +110,8 @@ pub record HasSent (leg : Leg) (ticks : ℕ) (counts : List LineCounts) (sent : 
         slice_get sent (t % 32) ≡ Some frame → slice_get frame m ≡ Some (sent_at leg m t)
 
 pub record HasLine (leg : Leg) (m : ℕ) (line : Ringed) : Type 0 where
-  pub has : Has line (calls_on leg m line.carried)
+  pub has : Has line (calls_of leg m line)
+  pub agrees : AgreeBelow (windows_on leg m) line.core.windows line.core.pushed
   pub ring : ring_of line ≡ leg.config.ring
 
 pub record HasLines (leg : Leg) (lines : List Ringed) : Type 0 where
@@ -136,6 +159,7 @@ pub record WayStands (leg : Leg) (backs : ℕ) (parts : Parts) : Type 0 where
   pub source : HasSource leg (counts_of parts backs) parts.source.core
   pub sent : HasSent leg parts.source.core.ticks (map line_counts parts.lines) parts.sent
   pub lines : HasLines leg parts.lines
+  pub agrees : (t : ℕ) → t < parts.source.core.ticks → AgreesAt leg t (windows_in parts.lines)
   pub sink : HasSink leg (counts_of parts backs) parts.rows parts.sink
   pub landed : HasCounted leg (counts_of parts backs) parts.source.landed
   pub counted : parts.got ≡ min (length (delivered_of leg parts.sink.taken)) 18446744073709551615

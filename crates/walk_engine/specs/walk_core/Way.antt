@@ -18,7 +18,7 @@ use Rattle.terminal_group.specs.Place.{is_frame, is_command, place_of}
 use Rattle.walk_engine.specs.declared.walk_core.step_answers.Moved.{Moved}
 use Rattle.walk_engine.specs.declared.walk_core.step_answers.Moved.TheVariants.{Yes, Stalled}
 use Rattle.walk_engine.specs.walk_core.Moved.{moved_of, counts_after}
-use Rattle.walk_engine.specs.walk_core.Parts.{Parts, counts_of, line_counts, WayStands}
+use Rattle.walk_engine.specs.walk_core.Parts.{Parts, counts_of, line_counts, WayStands, AgreesAt, windows_in}
 
 -- an event in a leg answers as its counts say, and leaves what they give
 pub record Makes (leg : Leg) (backs : ℕ) (event : Event) (was now : Parts) (answer : Moved) : Type 0 where
@@ -54,11 +54,12 @@ pub record IsTold (leg : Leg) (ticks : ℕ) (told : Option Packet) : Type 0 wher
   pub step : ticks % 16 ≡ 8 → passed_on told ≡ slice_index_or leg.tells (ticks / 16) untold
   pub between : ticks % 16 ≢ 8 → told ≡ None
 
--- nothing stalls it, what its packets pass on is the leg's, and so is the return cell that its decision step takes,
--- where it takes one
+-- nothing stalls it, the lines damage its containers as the leg does, what its packets pass on is the leg's, and so is
+-- the return cell that its decision step takes, where it takes one
 pub record CanTick (leg : Leg) (backs : ℕ) (parts : Parts) (told : Option Packet) (cell : Option BackCell) : Type 0
   where
     pub free : None ≡ (step (walk_plan leg) (counts_of parts backs) Tick).cause
+    pub agrees : AgreesAt leg parts.source.core.ticks (windows_in parts.lines)
     pub tells : IsTold leg parts.source.core.ticks told
     pub cells : told_before leg (parts.source.core.ticks + 1)
         ≡ with_cell (told_before leg parts.source.core.ticks) cell

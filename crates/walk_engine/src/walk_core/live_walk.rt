@@ -1,17 +1,20 @@
-//! A walk of which nobody says beforehand what will land.
+//! A walk of which nobody says beforehand what will land, or which lines will be cut.
 
-ghost use Rattle.std.specs.Prelude.{◌≡◌, ◌/◌, ◌%◌, ◌==◌, ◌<◌, if◌then◌else◌, length, Some, None, IfOk};
+ghost use Rattle.std.specs.Prelude.{[], slice_index_or, slice_set};
+ghost use Rattle.std.specs.Prelude.{◌≡◌, ◌/◌, ◌%◌, ◌==◌, ◌<◌, ◌≤◌, if◌then◌else◌, length, Some, None, IfOk};
 ghost use Rattle.law_model.specs.Common.{IsNetwork, Leg, begin, step, steps_in, source_at};
 ghost use Rattle.law_model.specs.declared.walk_events.Event.TheVariants.{Tick, Carry, Back, Take};
 ghost use Rattle.law_walk.specs.Common.{is_client, landed_scenario, last_packet, table_in, told_before, totals_of};
 ghost use Rattle.law_walk.specs.Common.{walk_plan};
+ghost use Rattle.member_path.specs.failure_window.Open.{CanClose, closed_at, last_end, opened_at};
 ghost use Rattle.terminal_group.specs.Item.{kind_of};
 ghost use Rattle.terminal_group.specs.Counted.{missing_from};
 ghost use Rattle.walk_engine.specs.walk_core.Landing.{landing_of};
-ghost use Rattle.walk_engine.specs.walk_core.Live.{IsLegOver, IsLive, IsReady, LiveMakes, LiveFinishes, LiveRounds};
-ghost use Rattle.walk_engine.specs.walk_core.Live.{LiveStands, live_counts};
+ghost use Rattle.walk_engine.specs.walk_core.Live.{AgreesNow, IsLegOver, IsLive, IsReady, LiveMakes, LiveFinishes};
+ghost use Rattle.walk_engine.specs.walk_core.Live.{LiveRounds, LiveStands, live_counts};
 ghost use Rattle.walk_engine.specs.walk_core.Moved.{answer_by, refusal_in_event, GivesRows};
-ghost use Rattle.walk_engine.specs.walk_core.Parts.{note_of};
+ghost use Rattle.walk_engine.specs.walk_core.Opened.{HasWindows};
+ghost use Rattle.walk_engine.specs.walk_core.Parts.{note_of, windows_in};
 ghost use Rattle.walk_engine.specs.walk_core.Take.{take_cause};
 ghost use Rattle.walk_engine.specs.walk_core.Way.{IsDue, IsNoneHeld};
 
@@ -20,14 +23,16 @@ use crate::walk_core::step_answers::{Moved, StepNote};
 use crate::walk_parts::ReturnRing;
 use law_model::{Config, FrameOut, Refusal, StallCause, Totals};
 use member_cells::BackCell;
+use member_path::failure_window::Windows;
 use std::alloc::{AllocError, Global};
 use std::marker::Model;
 use terminal_group::ItemRef;
 use terminal_sink::sink_core::{TakeAnswer, ends_packet};
 use terminal_source::lcas_source::SourceTable;
 
-/// A walk that is told what lands as it lands. What its calls do is said of each leg for which it stands: of
-/// each session that went so far as this one did, whatever lands in it later. Only its making takes memory.
+/// A walk that is told what lands as it lands, and which lines are cut and mended. What its calls do is said of
+/// each leg for which it stands: of each session that went so far as this one did, whatever lands in it later and
+/// whichever lines are damaged then. Only its making takes memory.
 pub struct LiveWalk {
     way: WayCore,
     /// The return packets that were said and haven't come.
@@ -56,13 +61,15 @@ impl Model for LiveWalk {
 }
 
 impl LiveWalk {
-    /// Makes room for a walk over a network, before anything has landed. It stands for each leg over it.
+    /// Makes room for a walk over a network, before anything has landed. It stands for each leg over it, whatever
+    /// windows that has: those of the lines are the network's.
     pub fn new(alloc: Global, config: &Config) -> Result<LiveWalk, AllocError>
         requires { IsNetwork config.now }
         ensures stands { IfOk result (λ live. (leg : Leg) → IsLegOver config.now leg →
             LiveStands leg live) }
         ensures counts { IfOk result (λ live. (leg : Leg) → IsLegOver config.now leg →
             live_counts live ≡ begin (walk_plan leg)) }
+        ensures windows { IfOk result (λ live. HasWindows config.now live.way.lines) }
     {
         let ring = ReturnRing::new(alloc)?;
         let way = WayCore::new(alloc, config)?;
@@ -83,23 +90,71 @@ impl LiveWalk {
             IsDue leg (live_counts self.old) (kind_of item.entry) →
             result ≡ refusal_in_event leg (live_counts self.old)
             (landing_of (is_client (kind_of item.entry))) }
+        ensures windows { windows_in self.new.way.lines ≡ windows_in self.old.way.lines }
     {
         self.way.land(item)
     }
 
     /// Tries a tick, a carry of each line, a return packet and a row, each once, where nothing that is due has to
-    /// land first. Frames that the row delivers are given to `out`.
+    /// land first. Frames that the row delivers are given to `out`. It asks of a leg that its windows say of the
+    /// containers that are made now what the lines' own windows do.
     pub fn round<F: FrameOut>(&mut self, out: &mut F)
         requires ready { IsReady self.old }
         requires left { self.old.way.source.core.ticks < self.old.way.source.total }
         ensures rounds { (leg : Leg) → LiveStands leg self.old →
-            IsNoneHeld leg (live_counts self.old) → LiveRounds leg self.old self.new }
+            IsNoneHeld leg (live_counts self.old) → AgreesNow leg self.old →
+            LiveRounds leg self.old self.new }
         ensures gives { (leg : Leg) → LiveStands leg self.old →
-            IsNoneHeld leg (live_counts self.old) → GivesRows F.stands_for out.old out.new leg
+            IsNoneHeld leg (live_counts self.old) → AgreesNow leg self.old →
+            GivesRows F.stands_for out.old out.new leg
             (live_counts self.old).rows (live_counts self.new).rows }
+        ensures windows { windows_in self.new.way.lines ≡ windows_in self.old.way.lines }
     {
         let _ = self.tick();
         self.finish_round(out);
+    }
+
+    /// Damages the containers of a line that are made from now on, until it is mended. It stands for the same
+    /// legs, and the next round goes on with those of which the windows say so.
+    pub fn cut(&mut self, line: u8)
+        requires line { line < length self.old.way.lines }
+        requires live { IsLive self.old }
+        requires few { length (slice_index_or (windows_in self.old.way.lines) line []) < 256 }
+        requires after { last_end (slice_index_or (windows_in self.old.way.lines) line [])
+            ≤ (live_counts self.old).ticks }
+        requires left { (live_counts self.old).ticks < self.old.way.source.total }
+        ensures stands { (leg : Leg) → LiveStands leg self.old → LiveStands leg self.new }
+        ensures counts { live_counts self.new ≡ live_counts self.old }
+        ensures windows { windows_in self.new.way.lines
+            ≡ slice_set (windows_in self.old.way.lines) line
+            (opened_at (slice_index_or (windows_in self.old.way.lines) line [])
+            (live_counts self.old).ticks self.old.way.source.total) }
+    {
+        self.way.cut(line);
+    }
+
+    /// Damages the containers of a line that are made from now on no longer.
+    pub fn mend(&mut self, line: u8)
+        requires line { line < length self.old.way.lines }
+        requires live { IsLive self.old }
+        requires cut { CanClose (slice_index_or (windows_in self.old.way.lines) line [])
+            (live_counts self.old).ticks }
+        ensures stands { (leg : Leg) → LiveStands leg self.old → LiveStands leg self.new }
+        ensures counts { live_counts self.new ≡ live_counts self.old }
+        ensures windows { windows_in self.new.way.lines
+            ≡ slice_set (windows_in self.old.way.lines) line
+            (closed_at (slice_index_or (windows_in self.old.way.lines) line [])
+            (live_counts self.old).ticks) }
+    {
+        self.way.mend(line);
+    }
+
+    /// The windows of a line so far, which say whether it may be cut or mended.
+    pub fn windows(&self, line: u8) -> &Windows
+        requires { line < length self.now.way.lines }
+        ensures { result.now ≡ slice_index_or (windows_in self.now.way.lines) line [] }
+    {
+        self.way.windows(line)
     }
 
     /// How many ticks were made.
@@ -158,8 +213,10 @@ impl LiveWalk {
         requires stands { IsLive self.old }
         requires left { self.old.way.source.core.ticks < self.old.way.source.total }
         ensures makes { (leg : Leg) → LiveStands leg self.old →
-            IsNoneHeld leg (live_counts self.old) → LiveMakes leg Tick self.old self.new result }
+            IsNoneHeld leg (live_counts self.old) → AgreesNow leg self.old →
+            LiveMakes leg Tick self.old self.new result }
         ensures landed { self.new.way.source.landed ≡ self.old.way.source.landed }
+        ensures windows { windows_in self.new.way.lines ≡ windows_in self.old.way.lines }
     {
         if let Some(cause) = self.tick_stall() {
             return Moved::Stalled(cause);
@@ -177,6 +234,7 @@ impl LiveWalk {
         ensures makes { (leg : Leg) → LiveStands leg self.old →
             LiveMakes leg (Carry line) self.old self.new result }
         ensures landed { self.new.way.source.landed ≡ self.old.way.source.landed }
+        ensures windows { windows_in self.new.way.lines ≡ windows_in self.old.way.lines }
     {
         carried(self.way.carry(line))
     }
@@ -187,6 +245,7 @@ impl LiveWalk {
         ensures makes { (leg : Leg) → LiveStands leg self.old →
             LiveMakes leg Back self.old self.new result }
         ensures landed { self.new.way.source.landed ≡ self.old.way.source.landed }
+        ensures windows { windows_in self.new.way.lines ≡ windows_in self.old.way.lines }
     {
         match self.ring.pop() {
             Some(cell) => {
@@ -203,6 +262,7 @@ impl LiveWalk {
         ensures makes { (leg : Leg) → LiveStands leg self.old →
             LiveMakes leg Take self.old self.new result }
         ensures landed { self.new.way.source.landed ≡ self.old.way.source.landed }
+        ensures windows { windows_in self.new.way.lines ≡ windows_in self.old.way.lines }
         ensures gives { (leg : Leg) → LiveStands leg self.old →
             GivesRows F.stands_for out.old out.new leg
             (live_counts self.old).rows (live_counts self.new).rows }
@@ -218,6 +278,7 @@ impl LiveWalk {
         requires { IsLive self.old }
         ensures finishes { (leg : Leg) → LiveStands leg self.old → LiveFinishes leg self.old self.new }
         ensures landed { self.new.way.source.landed ≡ self.old.way.source.landed }
+        ensures windows { windows_in self.new.way.lines ≡ windows_in self.old.way.lines }
         ensures gives { (leg : Leg) → LiveStands leg self.old →
             GivesRows F.stands_for out.old out.new leg
             (live_counts self.old).rows (live_counts self.new).rows }
@@ -254,6 +315,7 @@ impl LiveWalk {
         ensures makes { (leg : Leg) → LiveStands leg self.old →
             LiveMakes leg Take self.old self.new result }
         ensures landed { self.new.way.source.landed ≡ self.old.way.source.landed }
+        ensures windows { windows_in self.new.way.lines ≡ windows_in self.old.way.lines }
         ensures gives { (leg : Leg) → LiveStands leg self.old →
             GivesRows F.stands_for out.old out.new leg
             (live_counts self.old).rows (live_counts self.new).rows }

@@ -1,6 +1,7 @@
 //! One direction of a group without its way back, call by call.
 
-ghost use Rattle.std.specs.Prelude.{◌≡◌, ℕ, ◌+◌, ◌-◌, ◌/◌, ◌<◌, ◌≤◌, false, List, length, map};
+ghost use Rattle.std.specs.Prelude.{◌≡◌, ℕ, ◌+◌, ◌-◌, ◌/◌, ◌<◌, ◌≤◌, false, List, [], length, map};
+ghost use Rattle.std.specs.Prelude.{slice_index_or, slice_set};
 ghost use Rattle.std.specs.Prelude.{slice_get, Option, Some, None, IfOk, option_map, option_copied, is_some};
 ghost use Rattle.law_model.specs.Common.{Container, begin, full, Leg, governing, Scenario, steps_in};
 ghost use Rattle.law_model.specs.Common.{segments_of, Told, IsNetwork, scenario_by, is_known};
@@ -9,6 +10,7 @@ ghost use Rattle.law_model.specs.declared.walk_events.Event.TheVariants.{Tick, C
 ghost use Rattle.terminal_source.specs.source_core.Given.{SourceStands as HasMade};
 ghost use Rattle.terminal_source.specs.source_core.Terminal.{needed, SameKind};
 ghost use Rattle.member_path.specs.cell_numbers.Told.{cell_of};
+ghost use Rattle.member_path.specs.failure_window.Open.{CanClose, closed_at, last_end, opened_at};
 ghost use Rattle.terminal_sink.specs.marked_delineator.Marks.{first_place};
 ghost use Rattle.law_walk.specs.Common.{session_of, session_rows, is_client, totals_of, walk_plan};
 ghost use Rattle.law_walk.specs.Common.{popped_cells};
@@ -18,8 +20,8 @@ ghost use Rattle.terminal_group.specs.Counted.{missing_from};
 ghost use Rattle.walk_engine.specs.walk_core.Landing.{landing_of};
 ghost use Rattle.walk_engine.specs.walk_core.Moved.{answer_by, refusal_in_event, GivesRows};
 ghost use Rattle.walk_engine.specs.declared.walk_core.step_answers.Moved.TheVariants.{Yes};
-ghost use Rattle.walk_engine.specs.walk_core.Opened.{IsNew, IsAlike};
-ghost use Rattle.walk_engine.specs.walk_core.Parts.{counts_of, line_counts, WayStands, StandsForSome};
+ghost use Rattle.walk_engine.specs.walk_core.Opened.{HasWindows, IsNew, IsAlike};
+ghost use Rattle.walk_engine.specs.walk_core.Parts.{counts_of, line_counts, windows_in, WayStands, StandsForSome};
 ghost use Rattle.walk_engine.specs.walk_core.Take.{take_cause};
 ghost use Rattle.walk_engine.specs.walk_core.Waiting.{send_ring, receive_ring};
 ghost use Rattle.walk_engine.specs.walk_core.Way.{Makes, IsDue, with_passed, CanTick, Takes};
@@ -31,6 +33,7 @@ use crate::walk_parts::WalkLine;
 use law_model::{Config, FrameOut, Refusal, StallCause, Totals};
 use member_cells::{BackCell, Container, HeldContainer};
 use member_path::cell_numbers::CellRef;
+use member_path::failure_window::Windows;
 use member_rows::lcas_packet::Packet;
 use member_rows::realign_rows::RowGather;
 use std::alloc::{AllocError, Global};
@@ -95,6 +98,7 @@ impl WayCore {
             counts_of way 0 ≡ begin (walk_plan leg)) }
         ensures inbox { IfOk result (λ way. way.source.inbox
             ≡ empty_inbox config.now.lost config.now.lag) }
+        ensures windows { IfOk result (λ way. HasWindows config.now way.lines) }
     {
         let opened = open(alloc, config)?;
         Ok(WayCore::from_opened(opened))
@@ -287,6 +291,7 @@ impl WayCore {
         ensures makes { (leg : Leg) (backs : ℕ) → WayStands leg backs self.old →
             Makes leg backs (Carry line) self.old self.new (answer_by result None) }
         ensures rest { self.new ≡ record self.old { sent = self.new.sent; lines = self.new.lines } }
+        ensures windows { windows_in self.new.lines ≡ windows_in self.old.lines }
     {
         let m = usize::from(line);
         match carry_stall(&self.lines[m], line, self.source.ticks()) {
@@ -314,6 +319,7 @@ impl WayCore {
           sink = self.new.sink;
           got = self.new.got;
         } }
+        ensures windows { windows_in self.new.lines ≡ windows_in self.old.lines }
     {
         if let Some(line) = pop_lines(&mut self.lines, &mut self.rows) {
             return TakeAnswer::Waiting { line };
@@ -323,6 +329,54 @@ impl WayCore {
         TakeAnswer::Taken { back }
     }
 
+    /// The windows of a line so far.
+    pub fn windows(&self, line: u8) -> &Windows
+        requires { line < length self.now.lines }
+        ensures { result.now ≡ slice_index_or (windows_in self.now.lines) line [] }
+    {
+        self.lines[usize::from(line)].windows()
+    }
+
+    /// Damages the containers of a line that are made from now on, until it is mended.
+    pub fn cut(&mut self, line: u8)
+        requires line { line < length self.old.lines }
+        requires stands { StandsForSome self.old }
+        requires few { length (slice_index_or (windows_in self.old.lines) line []) < 256 }
+        requires after { last_end (slice_index_or (windows_in self.old.lines) line [])
+            ≤ self.old.source.core.ticks }
+        requires left { self.old.source.core.ticks < self.old.source.total }
+        ensures stands { (leg : Leg) (backs : ℕ) → WayStands leg backs self.old →
+            WayStands leg backs self.new }
+        ensures counts { (backs : ℕ) → counts_of self.new backs ≡ counts_of self.old backs }
+        ensures windows { windows_in self.new.lines ≡ slice_set (windows_in self.old.lines) line
+            (opened_at (slice_index_or (windows_in self.old.lines) line [])
+            self.old.source.core.ticks self.old.source.total) }
+        ensures rest { self.new ≡ record self.old { lines = self.new.lines } }
+    {
+        let m = usize::from(line);
+        let first = self.source.ticks();
+        self.lines[m].cut(first);
+    }
+
+    /// Damages the containers of a line that are made from now on no longer.
+    pub fn mend(&mut self, line: u8)
+        requires line { line < length self.old.lines }
+        requires stands { StandsForSome self.old }
+        requires cut { CanClose (slice_index_or (windows_in self.old.lines) line [])
+            self.old.source.core.ticks }
+        ensures stands { (leg : Leg) (backs : ℕ) → WayStands leg backs self.old →
+            WayStands leg backs self.new }
+        ensures counts { (backs : ℕ) → counts_of self.new backs ≡ counts_of self.old backs }
+        ensures windows { windows_in self.new.lines ≡ slice_set (windows_in self.old.lines) line
+            (closed_at (slice_index_or (windows_in self.old.lines) line [])
+            self.old.source.core.ticks) }
+        ensures rest { self.new ≡ record self.old { lines = self.new.lines } }
+    {
+        let m = usize::from(line);
+        let end = self.source.ticks();
+        self.lines[m].mend(end);
+    }
+
     /// A direction before any event, of what was opened for it.
     fn from_opened(opened: Opened) -> WayCore
         ensures stands { (leg : Leg) (config : Config) → IsNew config opened → IsAlike leg config →
@@ -330,6 +384,8 @@ impl WayCore {
         ensures counts { (leg : Leg) (config : Config) → IsNew config opened → IsAlike leg config →
             counts_of result 0 ≡ begin (walk_plan leg) }
         ensures source { result.source ≡ opened.ends.source }
+        ensures windows { (config : Config) → IsNew config opened →
+            HasWindows config result.lines }
     {
         let Opened { paths, rows, ends } = opened;
         let Ends { source, sink } = ends;

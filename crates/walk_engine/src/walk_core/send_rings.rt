@@ -6,7 +6,8 @@ ghost use Rattle.std.specs.Global.{Vec, Box};
 ghost use Rattle.law_model.specs.Common.{Container, full, in_send, Leg};
 ghost use Rattle.law_walk.specs.Common.{path_on};
 ghost use Rattle.walk_engine.specs.walk_parts.Ringed.{Ringed, ring_of};
-ghost use Rattle.walk_engine.specs.walk_core.Carry.{carry_cause, CanCarry, IsSentOn, IsCarriedAt, HasReceiveRoom};
+ghost use Rattle.walk_engine.specs.walk_core.Carry.{carry_cause, CanCarry, HasReceiveRoom, IsCarriedAt, IsKnownOn};
+ghost use Rattle.walk_engine.specs.walk_core.Carry.{IsSentOn};
 ghost use Rattle.walk_engine.specs.walk_core.Parts.{line_counts, sent_frames, HasSent, HasLine as HasLineOn};
 
 use crate::walk_core::open_way::SENDS;
@@ -113,7 +114,10 @@ pub(super) fn carry_on(own: &mut WalkLine, m: usize, sent: &mut Vec<Vec<Box<Held
     requires lines { (k : ℕ) (frame : Vec (Box Container)) →
         slice_get sent.old.items k ≡ Some frame → m < length frame.items }
     ensures has { (leg : Leg) → HasLineOn leg m own.old →
-        IsSentOn leg m own.old.carried sent.old.items → HasLineOn leg m own.new }
+        IsSentOn leg m own.old.carried sent.old.items → IsKnownOn leg m own.old →
+        HasLineOn leg m own.new }
+    ensures windows { (leg : Leg) → HasLineOn leg m own.old →
+        own.new.core.windows ≡ own.old.core.windows }
     ensures carried { own.new.carried ≡ own.old.carried + 1 }
     ensures popped { own.new.popped ≡ own.old.popped }
     ensures sent { IsCarriedAt (own.old.carried % 32) m

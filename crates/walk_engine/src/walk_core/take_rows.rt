@@ -3,6 +3,7 @@
 ghost use Rattle.std.specs.Prelude.{◌≡◌, ℕ, ◌+◌, ◌<◌, ◌≤◌, ◌++◌, List, length, min};
 ghost use Rattle.law_model.specs.Common.{Leg, Start, Cell};
 ghost use Rattle.walk_engine.specs.walk_core.Take.{CanPop, HasPopped, CanTake, HasRow};
+ghost use Rattle.walk_engine.specs.walk_core.Parts.{windows_in};
 ghost use Rattle.terminal_sink.specs.sink_core.Given.{added_frames};
 ghost use Rattle.member_rows.specs.realign_rows.Gather.{line_count};
 
@@ -21,6 +22,7 @@ pub(super) fn pop_lines(lines: &mut Vec<WalkLine>, rows: &mut RowGather) -> Opti
         HasPopped leg lines.old.items lines.new.items rows.new result }
     ensures lines { line_count rows.new ≡ line_count rows.old }
     ensures rows { rows.new.rows ≡ rows.old.rows }
+    ensures windows { windows_in lines.new.items ≡ windows_in lines.old.items }
 {
     for m in 0..lines.len() {
         if !lines[m].pop_into(rows, m as u8) {

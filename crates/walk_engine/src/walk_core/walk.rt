@@ -1,6 +1,6 @@
 //! A walk of a script, event by event.
 
-ghost use Rattle.std.specs.Prelude.{◌≡◌, ◌-◌, ◌/◌, ◌<◌, ◌≤◌, suc, false, if◌then◌else◌};
+ghost use Rattle.std.specs.Prelude.{◌≡◌, ℕ, ◌-◌, ◌/◌, ◌<◌, ◌≤◌, suc, false, if◌then◌else◌};
 ghost use Rattle.std.specs.Prelude.{length, replicate, slice_get, Some, None, IfOk};
 ghost use Rattle.std.specs.Prelude.{option_map, option_copied};
 ghost use Rattle.law_model.specs.declared.walk_events.Event.TheVariants.{Command, Accept, Tick, Carry, Back, Take};
@@ -17,7 +17,7 @@ ghost use Rattle.terminal_group.specs.Item.{bare_items, kind_of};
 ghost use Rattle.terminal_group.specs.Landed.{none_landed};
 ghost use Rattle.walk_engine.specs.walk_core.Landing.{landing_of, early_cause};
 ghost use Rattle.walk_engine.specs.walk_core.Live.{LiveStands, live_counts};
-ghost use Rattle.walk_engine.specs.walk_core.Parts.{note_of};
+ghost use Rattle.walk_engine.specs.walk_core.Parts.{note_of, windows_in, AgreesAt};
 ghost use Rattle.terminal_sink.specs.marked_delineator.Marks.{first_place};
 
 use crate::walk_core::live_walk::LiveWalk;
@@ -223,6 +223,7 @@ impl Walk {
         requires script { IsValid script }
         requires landing { landing ≡ none_landed (bare_items script.items) }
         requires stands { LiveStands (leg_of script) live }
+        requires known { (t : ℕ) → AgreesAt (leg_of script) t (windows_in live.way.lines) }
         requires counts { live_counts live ≡ begin (walk_plan (leg_of script)) }
         ensures script { result.script ≡ script }
         ensures counts { result.counts ≡ begin (walk_plan (leg_of script)) }

@@ -11,5 +11,6 @@ returns-clause-core c = record {
       (way-alike c.args.script other c.requires);
   counts = λ other. c.in_ok-core.ensures.counts (way_of c.args.script other)
       (way-alike c.args.script other c.requires);
+  windows = c.in_ok-core.ensures.windows;
   inbox = c.in_ok-core.ensures.inbox ∙ ap (λ lost. empty_inbox lost (2 * c.args.script.config.lag)) c.requires.lost;
 }

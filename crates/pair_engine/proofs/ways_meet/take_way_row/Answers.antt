@@ -24,7 +24,7 @@ returns-in-Waiting-clause-takes g c =
     waits-row own other c.requires c.taken-row.result c.taken-row.ensures (omega (arith, left)) c.take.new.self
     c.take.result
     (c.take.ensures.takes (leg_beside own other) (packets_in own.core.sink.taken) c.requires.own_way.stands none)
-    c.take.ensures.rest c.in-Waiting.line c.in-Waiting.is
+    c.take.ensures.rest c.take.ensures.windows c.in-Waiting.line c.in-Waiting.is
 
 pub returns-in-Waiting-clause-gives : goal.returns-in-Waiting-clause-gives
 returns-in-Waiting-clause-gives g c =
@@ -44,7 +44,7 @@ returns-in-Taken-None-clause-takes g c =
     let none = tries own other c.requires row c.taken-row.ensures low in
     let takes = c.take.ensures.takes (leg_beside own other) (packets_in own.core.sink.taken) c.requires.own_way.stands
     none in
-    quiet-row own other c.requires row c.taken-row.ensures low c.take.new.self c.take.result takes c.take.ensures.rest
+    quiet-row own other c.requires row c.taken-row.ensures low c.take.new.self c.take.result takes c.take.ensures.rest c.take.ensures.windows
     c.in-Taken-None.back c.in-Taken-None.is c.in-Taken-None.back-is
 
 pub returns-in-Taken-None-clause-gives : goal.returns-in-Taken-None-clause-gives
@@ -69,7 +69,7 @@ say-requires g c =
     let none = tries own other c.requires row c.taken-row.ensures low in
     let takes = c.take.ensures.takes (leg_beside own other) (packets_in own.core.sink.taken) c.requires.own_way.stands
     none in
-    say-room own other c.requires row c.taken-row.ensures low c.take.new.self c.take.result takes c.take.ensures.rest
+    say-room own other c.requires row c.taken-row.ensures low c.take.new.self c.take.result takes c.take.ensures.rest c.take.ensures.windows
     c.in-Taken-Some.back c.in-Taken-Some.is c.in-Taken-Some.packet c.in-Taken-Some.back-is
 
 pub hear-requires : goal.hear-requires
@@ -82,7 +82,7 @@ hear-requires g c =
     let none = tries own other c.requires row c.taken-row.ensures low in
     let takes = c.take.ensures.takes (leg_beside own other) (packets_in own.core.sink.taken) c.requires.own_way.stands
     none in
-    let e = said-ends own other c.requires row c.taken-row.ensures low c.take.new.self c.take.result takes c.take.ensures.rest
+    let e = said-ends own other c.requires row c.taken-row.ensures low c.take.new.self c.take.result takes c.take.ensures.rest c.take.ensures.windows
     c.in-Taken-Some.back c.in-Taken-Some.is c.in-Taken-Some.packet c.in-Taken-Some.back-is in (
       own,
       record {
@@ -116,12 +116,12 @@ returns-in-Taken-Some-clause-takes g c =
     let packet : Packet = c.in-Taken-Some.packet in
     let h = c.hear.ensures in
     let done =
-    said-row own other c.requires row c.taken-row.ensures low c.take.new.self c.take.result takes c.take.ensures.rest
+    said-row own other c.requires row c.taken-row.ensures low c.take.new.self c.take.result takes c.take.ensures.rest c.take.ensures.windows
     c.in-Taken-Some.back c.in-Taken-Some.is packet c.in-Taken-Some.back-is c.hear.new.other
     (record {
       script = h.script;
       counts = h.counts;
-      beside = record { stands = h.beside.stands; landed = h.beside.landed; meets = h.beside.meets };
+      beside = record { stands = h.beside.stands; windows = h.beside.windows; landed = h.beside.landed; meets = h.beside.meets };
     })
     (ap (λ (s : Counts). s.rows) h.counts) in
     subst (λ (said : Said). TakesRow own other (record own { core = c.take.new.self; said = said })

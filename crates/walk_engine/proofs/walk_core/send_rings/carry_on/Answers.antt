@@ -1,29 +1,39 @@
 -- One call more brought the line where it is.
-use Rattle.std.proofs.Common.{rules, ◌≡◌, ◌%◌, map, slice_index_or, slice_set, refl, sym, ◌∙◌, ap, subst, arith}
+use Rattle.std.proofs.Common.{rules, ◌≡◌, ◌+◌, ◌%◌, ◌≤◌, map, slice_index_or, slice_set, refl, sym, ◌∙◌, ap, subst, arith}
 use Rattle.std.specs.Global.{Vec, Box}
 use Rattle.std.specs.Vec.{with_item}
 use Rattle.std.proofs.lemmas.Option.{same_Some}
 use Rattle.law_model.proofs.ListLaws.{at-index}
 use Rattle.law_model.specs.Common.{Container}
-use Rattle.walk_engine.specs.Common.{Has, calls_on, frame_in, sent_frames, IsCarriedAt}
-use Rattle.member_path.specs.path_delay.Line.{and_push}
+use Rattle.walk_engine.specs.Common.{Has, calls_on, calls_of, frame_in, sent_frames, windows_on, IsCarriedAt}
+use Rattle.law_model.specs.members.Damage.{carried}
+use Rattle.std.proofs.lemmas.List.{length_push}
+use Rattle.member_path.specs.path_delay.Line.{and_push, with_windows}
 use Rattle.law_walk.specs.Common.{sent_at}
 use Rattle.walk_engine.proofs.WalkCoreLaws.CarryLaws.{map-get, below, calls-push, calls-flush, all-carried, not-carried}
+use Rattle.walk_engine.proofs.WalkCoreLaws.CarryLaws.{agree-more, numbers}
 use Rattle.walk_engine.proofs.WalkCoreLaws.SendLaws.{unchanged-at, changed-at}
 use Rattle.walk_engine.proofs.walk_core.send_rings.carry_on.Goals as goal
 
 pub returns-then-all_pushed-clause-has : goal.returns-then-all_pushed-clause-has
-returns-then-all_pushed-clause-has c leg has sent =
+returns-then-all_pushed-clause-has c leg has sent known =
+    let flushed = c.flush.ensures.has (calls_of leg c.args.m c.args.own.now) has.has in
     let all = all-carried leg c.args.m c.args.own.now has (search (rules, c.if-all_pushed.ensures)) in
     record {
       has = subst (λ calls. Has c.flush.new.self calls)
+          (ap (λ calls. with_windows calls c.args.own.now.core.windows)
           (calls-flush leg c.args.m c.args.own.now all ∙ ap (calls_on leg c.args.m) (sym c.flush.ensures.carried))
-          (c.flush.ensures.has (calls_on leg c.args.m c.args.own.now.carried) has.has);
+          ∙ ap (with_windows (calls_on leg c.args.m c.flush.new.self.carried)) (sym flushed.core.windows))
+          flushed;
+      agrees = λ t low.
+          let now = flushed.core.pushed in
+          let was = has.has.core.pushed in
+          has.agrees t (omega (arith, low, now, was)) ∙ ap (λ w. carried w t) (sym flushed.core.windows);
       ring = c.flush.ensures.ring ∙ has.ring;
     }
 
 pub returns-else-all_pushed-clause-has : goal.returns-else-all_pushed-clause-has
-returns-else-all_pushed-clause-has c leg has sent =
+returns-else-all_pushed-clause-has c leg has sent known =
     let some : c.args.own.now.core.pushed ≡ c.args.own.now.core.total → ⊥ = search (rules, c.if-all_pushed.ensures) in
     let within = c.all_pushed.ensures.within in
     let left = not-carried leg c.args.m c.args.own.now has
@@ -39,12 +49,26 @@ returns-else-all_pushed-clause-has c leg has sent =
     c.index_mut-else-all_pushed.ensures.value in
     let is = same_Some place.value (sent_at leg c.args.m c.args.own.now.carried)
     (sym (map-get (λ (b : Box Container). b.value) row.items c.args.m place read) ∙ sent left row frame) in
+    let pushed = c.push.ensures.has (calls_of leg c.args.m c.args.own.now) has.has in
+    let n = numbers leg c.args.m c.args.own.now has in
+    let at : c.args.own.now.core.pushed ≡ c.args.own.now.carried =
+    (let a = n.pushed in omega (arith, a, left)) in
+    let more : c.push.new.self.core.pushed ≤ c.args.own.now.core.pushed + 1 =
+    (let now = pushed.core.pushed in
+    let long = length_push (calls_of leg c.args.m c.args.own.now).containers place.value in
+    let was = has.has.core.pushed in omega (arith, now, was, long)) in
     record {
       has = subst (λ calls. Has c.push.new.self calls)
-          (ap (and_push (calls_on leg c.args.m c.args.own.now.carried)) is
-          ∙ calls-push leg c.args.m c.args.own.now left
-          ∙ ap (calls_on leg c.args.m) (sym c.push.ensures.carried))
-          (c.push.ensures.has (calls_on leg c.args.m c.args.own.now.carried) has.has);
+          (ap (and_push (calls_of leg c.args.m c.args.own.now)) is
+          ∙ ap (λ calls. with_windows calls c.args.own.now.core.windows)
+          (calls-push leg c.args.m c.args.own.now left ∙ ap (calls_on leg c.args.m) (sym c.push.ensures.carried))
+          ∙ ap (with_windows (calls_on leg c.args.m c.push.new.self.carried)) (sym pushed.core.windows))
+          pushed;
+      agrees = λ t low. agree-more (windows_on leg c.args.m) c.args.own.now.core.windows c.args.own.now.core.pushed
+          c.push.new.self.core.pushed has.agrees
+          (subst (λ k. carried (windows_on leg c.args.m) k ≡ carried c.args.own.now.core.windows k) (sym at)
+          (known (below c.args.own.now.core.pushed c.args.own.now.core.total within some)))
+          more t low ∙ ap (λ w. carried w t) (sym pushed.core.windows);
       ring = c.push.ensures.ring ∙ has.ring;
     }
 
@@ -64,3 +88,11 @@ returns-else-all_pushed-clause-sent c =
 pub returns-then-all_pushed-clause-sent : goal.returns-then-all_pushed-clause-sent
 returns-then-all_pushed-clause-sent c =
     unchanged-at (c.args.own.now.carried % 32) c.args.m (sent_frames c.args.sent.now)
+
+pub returns-then-all_pushed-clause-windows : goal.returns-then-all_pushed-clause-windows
+returns-then-all_pushed-clause-windows c leg has =
+    (c.flush.ensures.has (calls_of leg c.args.m c.args.own.now) has.has).core.windows
+
+pub returns-else-all_pushed-clause-windows : goal.returns-else-all_pushed-clause-windows
+returns-else-all_pushed-clause-windows c leg has =
+    (c.push.ensures.has (calls_of leg c.args.m c.args.own.now) has.has).core.windows

@@ -1,7 +1,7 @@
 -- The first return packet is the source's next return cell.
 use Rattle.std.proofs.Common.{List, drop, sym, ◌∙◌, ap, subst}
 use Rattle.law_model.specs.declared.control_packet.Packet.{Packet}
-use Rattle.walk_engine.specs.Common.{Live, LiveStands, Parts, counts_of, live_of, path_of}
+use Rattle.walk_engine.specs.Common.{Live, LiveStands, Parts, counts_of, live_of, path_of, windows_in}
 use Rattle.walk_engine.proofs.WalkCoreLaws.BackLaws.{back-stays, back-yes, back-counts, back-kept, inbox-room, backs-few}
 use Rattle.walk_engine.proofs.WalkCoreLaws.BackLaws.{no-packet}
 use Rattle.walk_engine.proofs.WalkCoreLaws.WayLaws.{is-live, live-from}
@@ -52,3 +52,9 @@ returns-in-None-clause-makes c leg stands =
 
 pub returns-in-None-clause-landed : goal.returns-in-None-clause-landed
 returns-in-None-clause-landed c = ap (λ (w : Live). w.way.source.landed) c.self.view_is
+
+pub returns-in-Some-clause-windows : goal.returns-in-Some-clause-windows
+returns-in-Some-clause-windows c = ap (λ (p : Parts). windows_in p.lines) c.put.ensures ∙ ap (λ (w : Live). windows_in w.way.lines) c.self.view_is
+
+pub returns-in-None-clause-windows : goal.returns-in-None-clause-windows
+returns-in-None-clause-windows c = ap (λ (w : Live). windows_in w.way.lines) c.self.view_is

@@ -1,6 +1,6 @@
 -- A line carries.
 use Rattle.std.proofs.Common.{◌<◌, length, sym, ◌∙◌, ap, subst}
-use Rattle.walk_engine.specs.Common.{Live, LiveStands, Parts, counts_of, live_of}
+use Rattle.walk_engine.specs.Common.{Live, LiveStands, Parts, counts_of, live_of, windows_in}
 use Rattle.walk_engine.proofs.WalkCoreLaws.CarrySteps.{carried-live}
 use Rattle.walk_engine.proofs.WalkCoreLaws.WayLaws.{is-live, way-stands, live-from}
 use Rattle.walk_engine.proofs.walk_core.live_walk.LiveWalk.carry.Goals as goal
@@ -27,3 +27,6 @@ returns-clause-makes c leg stands =
 pub returns-clause-landed : goal.returns-clause-landed
 returns-clause-landed c =
     ap (λ (p : Parts). p.source.landed) c.carry.ensures.rest ∙ ap (λ (w : Live). w.way.source.landed) c.self.view_is
+
+pub returns-clause-windows : goal.returns-clause-windows
+returns-clause-windows c = c.carry.ensures.windows ∙ ap (λ (w : Live). windows_in w.way.lines) c.self.view_is

@@ -41,6 +41,7 @@ loop-line-preserved g c =
       rows = ap (λ (s : Counts). s.rows) (e.makes some (inv.stands some is)).counts
           ∙ carry-rows some (live_counts c.loop-line.self) c.loop-line.line ∙ inv.rows;
       landed = e.landed ∙ inv.landed;
+      windows = e.windows ∙ inv.windows;
     }
 
 pub back-requires : goal.back-requires
@@ -78,3 +79,6 @@ returns-clause-gives g c leg stands =
     subst (λ n. GivesRows g.F.FrameOut.stands_for c.args.out.now c.take.new.out leg n (live_counts c.take.new.self).rows)
     (back-kept leg (live_counts c.loop-line.self) (live_counts c.back.new.self) backs.counts ∙ inv.rows)
     (c.take.ensures.gives leg backs.stands)
+
+pub returns-clause-windows : goal.returns-clause-windows
+returns-clause-windows g c = c.take.ensures.windows ∙ c.back.ensures.windows ∙ c.loop-line.invariant.windows

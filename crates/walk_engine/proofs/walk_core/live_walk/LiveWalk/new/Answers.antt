@@ -1,5 +1,5 @@
 -- What was opened stands for each leg over the network.
-use Rattle.std.proofs.Common.{◌≡◌, refl, sym, ◌∙◌, ap, subst}
+use Rattle.std.proofs.Common.{sym, ◌∙◌, ap}
 use Rattle.law_model.specs.Common.{Leg}
 use Rattle.law_model.specs.declared.script_types.Config.{Config}
 use Rattle.terminal_group.specs.Inbox.{empty_inbox}
@@ -10,8 +10,8 @@ use Rattle.walk_engine.proofs.walk_core.live_walk.LiveWalk.new.Goals as goal
 alike : (config : Config) (leg : Leg) → IsLegOver config leg → IsAlike leg config
 alike config leg over = record {
   sound = over.sound;
-  network = subst (λ (c : Config). leg.config ≡ record c { lost = leg.config.lost }) over.network
-      (let same : leg.config ≡ record leg.config { lost = leg.config.lost } = refl in same);
+  network = over.network ∙ ap (λ x. record config { lost = x; windows = leg.config.windows })
+      (sym (ap (λ (c : Config). c.lost) over.network));
 }
 
 pub returns-clause-stands : goal.returns-clause-stands
@@ -27,3 +27,6 @@ returns-clause-counts c leg over =
     let e = c.in_ok-way.ensures in
     new-live-counts leg c.in_ok-way.way (e.counts leg (alike c.args.config.now leg over))
     (e.inbox ∙ ap (λ (c : Config). empty_inbox c.lost c.lag) (sym over.network))
+
+pub returns-clause-windows : goal.returns-clause-windows
+returns-clause-windows c = c.in_ok-way.ensures.windows

@@ -3,8 +3,8 @@ use Rattle.std.proofs.Common.{sym, ◌∙◌, ap, subst}
 use Rattle.law_walk.specs.Common.{is_client}
 use Rattle.terminal_group.specs.Inbox.{Inbox}
 use Rattle.terminal_group.specs.Item.{kind_of}
-use Rattle.walk_engine.specs.Common.{IsDue, Live, LiveStands, counts_of, landing_of, live_counts, live_of}
-use Rattle.walk_engine.specs.Common.{refusal_in_event}
+use Rattle.walk_engine.specs.Common.{IsDue, Live, LiveStands, Parts, counts_of, landing_of, live_counts, live_of}
+use Rattle.walk_engine.specs.Common.{refusal_in_event, windows_in}
 use Rattle.walk_engine.proofs.WalkCoreLaws.LandSteps.{landed-live}
 use Rattle.walk_engine.proofs.WalkCoreLaws.WayLaws.{live-from}
 use Rattle.walk_engine.proofs.walk_core.live_walk.LiveWalk.say.Goals as goal
@@ -30,3 +30,6 @@ returns-clause-refusal c leg stands due =
     c.land.ensures.refusal leg f.way.source.inbox.come is.stands now
     ∙ ap (λ (w : Live). refusal_in_event leg (live_counts w) (landing_of (is_client (kind_of c.args.item))))
     c.self.view_is
+
+pub returns-clause-windows : goal.returns-clause-windows
+returns-clause-windows c = ap (λ (p : Parts). windows_in p.lines) c.land.ensures.rest ∙ ap (λ (w : Live). windows_in w.way.lines) c.self.view_is

@@ -1,6 +1,6 @@
 -- A row is taken, or the cells that were popped wait for more.
 use Rattle.std.proofs.Common.{◌+◌, ◌≤◌, length, sym, ◌∙◌, ap, subst}
-use Rattle.walk_engine.specs.Common.{GivesRows, Live, LiveStands, Parts, listed, live_counts, take_moved}
+use Rattle.walk_engine.specs.Common.{GivesRows, Live, LiveStands, Parts, listed, live_counts, take_moved, windows_in}
 use Rattle.walk_engine.proofs.WalkCoreLaws.TakenLaws.{take-counts, waits-walk, taken-walk, said-is, said-room, is-free}
 use Rattle.walk_engine.proofs.WalkCoreLaws.WayLaws.{is-live, way-stands, live-from}
 use Rattle.walk_engine.proofs.walk_core.live_walk.LiveWalk.take_next.Goals as goal
@@ -71,3 +71,9 @@ returns-in-Taken-clause-gives g c leg stands =
     subst (λ (w : Live). GivesRows g.F.FrameOut.stands_for c.args.out.now c.take.new.out leg (live_counts w).rows
     c.take.new.self.sink.taken) c.self.view_is
     (c.take.ensures.gives leg f.way.source.inbox.come is.stands none)
+
+pub returns-in-Waiting-clause-windows : goal.returns-in-Waiting-clause-windows
+returns-in-Waiting-clause-windows g c = c.take.ensures.windows ∙ ap (λ (w : Live). windows_in w.way.lines) c.self.view_is
+
+pub returns-in-Taken-clause-windows : goal.returns-in-Taken-clause-windows
+returns-in-Taken-clause-windows g c = c.take.ensures.windows ∙ ap (λ (w : Live). windows_in w.way.lines) c.self.view_is

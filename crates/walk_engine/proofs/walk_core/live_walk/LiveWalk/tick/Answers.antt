@@ -5,13 +5,13 @@ use Rattle.law_model.specs.declared.walk_events.Event.TheVariants.{Tick}
 use Rattle.law_walk.specs.Common.{walk_plan}
 use Rattle.terminal_group.specs.Counted.{missing_from}
 use Rattle.terminal_group.specs.Inbox.{Inbox}
-use Rattle.walk_engine.specs.Common.{Live, LiveStands, counts_of, live_counts}
+use Rattle.walk_engine.specs.Common.{AgreesNow, Live, LiveStands, Parts, counts_of, live_counts, windows_in}
 use Rattle.walk_engine.proofs.WalkCoreLaws.TickLaws.{tick-stays, can-tick, tick-live}
 use Rattle.walk_engine.proofs.WalkCoreLaws.WayLaws.{is-live, way-stands, live-from}
 use Rattle.walk_engine.proofs.walk_core.live_walk.LiveWalk.tick.Goals as goal
 
 pub returns-in-Some-clause-makes : goal.returns-in-Some-clause-makes
-returns-in-Some-clause-makes c leg stands none =
+returns-in-Some-clause-makes c leg stands none agrees =
     let stays = tick-stays leg (live_counts c.args.self.now) c.in-Some.cause
     (sym c.in-Some.is ∙ c.tick_stall.ensures.cause leg stands none) in
     record { stands = stands; counts = stays.0; moved = stays.1 }
@@ -28,14 +28,15 @@ make-back-requires-clause-cell c =
     ap (λ (w : Live). missing_from w.way.source) c.self.view_is ∙ c.tick_stall.ensures.cell c.in_default.is
 
 pub returns-clause-makes : goal.returns-clause-makes
-returns-clause-makes c leg stands none =
+returns-clause-makes c leg stands none agrees =
     let f = c.self.inside in
     let is = subst (LiveStands leg) (sym c.self.view_is) stands in
     let e = sym c.in_default.is ∙ c.tick_stall.ensures.cause leg stands none
     ∙ ap (λ (w : Live). (step (walk_plan leg) (live_counts w) Tick).cause) (sym c.self.view_is) in
     let m = c.make-back.ensures in
     let makes = m.makes leg f.way.source.inbox.come is.stands
-    (can-tick leg f.way f.ring f.last is e c.make-back.result m.cell) in
+    (can-tick leg f.way f.ring f.last is e c.make-back.result m.cell
+    (subst (AgreesNow leg) (sym c.self.view_is) agrees)) in
     let noted = c.next_note-self-inside.ensures
     ∙ ap (λ n. if n % 16 == 8 then Some
     (record { packet = n / 16; back = c.make-back.result }) else f.last) c.ticks-ticks.ensures in
@@ -48,3 +49,6 @@ returns-clause-makes c leg stands none =
 
 pub returns-clause-landed : goal.returns-clause-landed
 returns-clause-landed c = c.make-back.ensures.landed ∙ ap (λ (w : Live). w.way.source.landed) c.self.view_is
+
+pub returns-clause-windows : goal.returns-clause-windows
+returns-clause-windows c = ap (λ (p : Parts). windows_in p.lines) c.make-back.ensures.rest ∙ ap (λ (w : Live). windows_in w.way.lines) c.self.view_is

@@ -1,11 +1,12 @@
 -- A line carries.
-use Rattle.std.proofs.Common.{◌<◌, length, refl, sym, subst, arith}
+use Rattle.std.proofs.Common.{◌<◌, length, refl, sym, ◌∙◌, ap, subst, arith}
 use Rattle.law_model.specs.declared.walk_events.Event.TheVariants.{Carry}
-use Rattle.walk_engine.specs.Common.{Parts, Makes}
+use Rattle.walk_engine.specs.Common.{Parts, Makes, windows_in}
 use Rattle.walk_engine.specs.declared.walk_core.step_answers.Moved.TheVariants.{Stalled}
 use Rattle.walk_engine.specs.walk_core.Parts.{WayStands}
 use Rattle.walk_engine.proofs.WalkCoreLaws.CarryLaws.{frame-size, sent-places}
 use Rattle.walk_engine.proofs.WalkCoreLaws.CarrySteps.{line-low, line-stays, line-runs, line-free, line-carried}
+use Rattle.walk_engine.proofs.WalkCoreLaws.CarrySteps.{line-damage}
 use Rattle.walk_engine.proofs.WalkCoreLaws.WayLaws.{makes-from}
 use Rattle.walk_engine.proofs.walk_core.one_way.WayCore.carry.Goals as goal
 
@@ -61,4 +62,27 @@ returns-in-None-clause-makes c leg backs stands =
     c.index.ensures c.ticks.result c.ticks.ensures c.carry_stall.result c.carry_stall.ensures.cause
     c.in-None.is (c.carry_stall.ensures.can c.in-None.is) c.index_mut.result.now c.index_mut.ensures.value
     c.self.inside.sent.items refl c.carry_on.new.own _
-    (let on = c.carry_on.ensures in record { has = on.has; carried = on.carried; popped = on.popped; sent = on.sent }))
+    (let on = c.carry_on.ensures in record {
+      has = on.has;
+      windows = on.windows;
+      carried = on.carried;
+      popped = on.popped;
+      sent = on.sent;
+    }))
+
+pub returns-in-None-clause-windows : goal.returns-in-None-clause-windows
+returns-in-None-clause-windows c =
+    let (leg, backs, stands) = c.requires.stands in
+    let is = subst (WayStands leg backs) (sym c.self.view_is) stands in
+    let inside = subst (λ (p : Parts). c.args.line < length p.lines) (sym c.self.view_is) c.requires.line in
+    line-damage leg backs _ is c.args.line c.from-m.result c.from-m.ensures inside c.index.result.now
+    c.index.ensures c.ticks.result c.ticks.ensures c.carry_stall.result c.carry_stall.ensures.cause
+    c.in-None.is (c.carry_stall.ensures.can c.in-None.is) c.index_mut.result.now c.index_mut.ensures.value
+    c.self.inside.sent.items refl c.carry_on.new.own _
+    (let on = c.carry_on.ensures in record {
+      has = on.has;
+      windows = on.windows;
+      carried = on.carried;
+      popped = on.popped;
+      sent = on.sent;
+    }) ∙ ap (λ (p : Parts). windows_in p.lines) c.self.view_is

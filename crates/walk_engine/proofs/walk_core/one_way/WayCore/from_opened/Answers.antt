@@ -1,5 +1,5 @@
 -- Nothing has landed, was sent, or was taken.
-use Rattle.walk_engine.proofs.WalkCoreLaws.OpenLaws.{new-counts, new-stands}
+use Rattle.walk_engine.proofs.WalkCoreLaws.OpenLaws.{new-counts, new-stands, new-windows}
 use Rattle.walk_engine.proofs.walk_core.one_way.WayCore.from_opened.Goals as goal
 
 pub returns-clause-stands : goal.returns-clause-stands
@@ -7,3 +7,6 @@ returns-clause-stands c leg config new alike = new-stands leg config c.args.open
 
 pub returns-clause-counts : goal.returns-clause-counts
 returns-clause-counts c leg config new alike = new-counts leg config c.args.opened new alike
+
+pub returns-clause-windows : goal.returns-clause-windows
+returns-clause-windows c config new = new-windows config c.args.opened new

@@ -1,7 +1,7 @@
 -- What waits in a receive ring.
 use Rattle.std.proofs.Common.{◌<◌, length, slice_get, sym, ◌∙◌, ap, subst}
 use Rattle.walk_engine.specs.walk_core.Parts.{WayStands}
-use Rattle.walk_engine.specs.Common.{Parts, counts_of, calls_on, receive_ring}
+use Rattle.walk_engine.specs.Common.{Parts, counts_of, calls_of, receive_ring}
 use Rattle.walk_engine.proofs.WalkCoreLaws.CarryLaws.{line-has, receives-are}
 use Rattle.walk_engine.proofs.WalkCoreLaws.CarrySteps.{line-low, line-there}
 use Rattle.walk_engine.proofs.walk_core.one_way.WayCore.receive_ring.Goals as goal
@@ -13,6 +13,6 @@ returns c leg backs stands =
     let low = line-low leg backs _ is c.args.line c.from.result c.from.ensures inside in
     let line = c.index.result.now in
     let there = line-there leg backs _ is c.args.line c.from.result c.from.ensures inside line c.index.ensures in
-    c.waiting.ensures (calls_on leg c.args.line line.carried) (line-has leg backs _ is c.args.line low line there).has
+    c.waiting.ensures (calls_of leg c.args.line line) (line-has leg backs _ is c.args.line low line there).has
     ∙ receives-are leg backs _ is c.args.line low line there c.args.place
     ∙ ap (λ (p : Parts). slice_get (receive_ring leg (counts_of p backs) c.args.line) c.args.place) c.self.view_is

@@ -1,6 +1,6 @@
 -- A row is taken, or the cells that were popped wait for more.
 use Rattle.std.proofs.Common.{sym, ◌∙◌, ap, subst}
-use Rattle.walk_engine.specs.Common.{GivesRows, Parts, counts_of, take_cause}
+use Rattle.walk_engine.specs.Common.{GivesRows, Parts, counts_of, take_cause, windows_in}
 use Rattle.walk_engine.specs.walk_core.Parts.{WayStands}
 use Rattle.walk_engine.proofs.WalkCoreLaws.RoundLaws.{gives-none}
 use Rattle.walk_engine.proofs.WalkCoreLaws.TakenLaws.{rows-few, can-pop, waits-kept, can-take, taken-kept, taken-gives}
@@ -19,7 +19,7 @@ returns-in-Some-clause-takes g c leg backs stands free =
     let none = free ∙ ap (λ (p : Parts). take_cause leg.config.ticks (counts_of p backs)) (sym c.self.view_is) in
     takes-from leg backs _ _ _ _ c.self.view_is
     (waits-kept leg backs _ is none _ _ _ c.pop_lines.ensures.rows c.pop_lines.ensures.lines
-    (c.pop_lines.ensures.pops leg (can-pop leg backs _ is none)) c.in-Some.line (sym c.in-Some.is))
+    (c.pop_lines.ensures.pops leg (can-pop leg backs _ is none)) c.pop_lines.ensures.windows c.in-Some.line (sym c.in-Some.is))
 
 pub returns-in-Some-clause-gives : goal.returns-in-Some-clause-gives
 returns-in-Some-clause-gives g c leg backs stands free =
@@ -47,9 +47,11 @@ returns-clause-takes g c leg backs stands free =
     let popped = c.pop_lines.ensures.pops leg (can-pop leg backs _ is none) in
     let decided = sym c.in_default.is in
     let can =
-    can-take leg backs _ is none _ _ _ c.pop_lines.ensures.rows c.pop_lines.ensures.lines popped decided in
+    can-take leg backs _ is none _ _ _ c.pop_lines.ensures.rows c.pop_lines.ensures.lines popped
+    c.pop_lines.ensures.windows decided in
     takes-from leg backs _ _ _ _ c.self.view_is
-    (taken-kept leg backs _ is none _ _ _ c.pop_lines.ensures.rows c.pop_lines.ensures.lines popped decided
+    (taken-kept leg backs _ is none _ _ _ c.pop_lines.ensures.rows c.pop_lines.ensures.lines popped
+    c.pop_lines.ensures.windows decided
     _ _ c.take_counted_row-back.result.0 (c.take_counted_row-back.ensures.takes _ can) _ (c.take_counted_row-back.ensures.counted _ can))
 
 pub returns-clause-gives : goal.returns-clause-gives
@@ -59,9 +61,17 @@ returns-clause-gives g c leg backs stands free =
     let popped = c.pop_lines.ensures.pops leg (can-pop leg backs _ is none) in
     let decided = sym c.in_default.is in
     let can =
-    can-take leg backs _ is none _ _ _ c.pop_lines.ensures.rows c.pop_lines.ensures.lines popped decided in
+    can-take leg backs _ is none _ _ _ c.pop_lines.ensures.rows c.pop_lines.ensures.lines popped
+    c.pop_lines.ensures.windows decided in
     subst (λ (p : Parts). GivesRows g.F.FrameOut.stands_for c.args.out.now c.take_counted_row-back.new.out leg p.sink.taken
     c.take_counted_row-back.new.sink.taken) c.self.view_is
-    (taken-gives leg backs _ is none _ _ _ c.pop_lines.ensures.rows c.pop_lines.ensures.lines popped decided
+    (taken-gives leg backs _ is none _ _ _ c.pop_lines.ensures.rows c.pop_lines.ensures.lines popped
+    c.pop_lines.ensures.windows decided
     _ _ c.take_counted_row-back.result.0 (c.take_counted_row-back.ensures.takes _ can) g.F.FrameOut.stands_for c.args.out.now
     c.take_counted_row-back.new.out (c.take_counted_row-back.ensures.gives _ can))
+
+pub returns-in-Some-clause-windows : goal.returns-in-Some-clause-windows
+returns-in-Some-clause-windows g c = c.pop_lines.ensures.windows ∙ ap (λ (p : Parts). windows_in p.lines) c.self.view_is
+
+pub returns-clause-windows : goal.returns-clause-windows
+returns-clause-windows g c = c.pop_lines.ensures.windows ∙ ap (λ (p : Parts). windows_in p.lines) c.self.view_is

@@ -15,7 +15,7 @@ invariant_of-self c =
     let e = c.back.ensures in (
       c.self.invariant.0,
       walk-moved (leg_of f.script) f.live c.back.new.self f.landing c.self.invariant.1
-          (e.makes (leg_of f.script) c.self.invariant.1.stands).stands e.landed,
+          (e.makes (leg_of f.script) c.self.invariant.1.stands).stands e.landed e.windows,
     )
 
 pub returns : goal.returns

@@ -10,6 +10,7 @@ invariant_of-result c = (
   c.requires.script,
   record {
     stands = c.requires.stands;
+    known = c.requires.known;
     landed = subst (λ s. HasLanded (leg_of c.args.script) s c.args.landing) (sym c.requires.counts)
         (none-known (leg_of c.args.script) c.args.landing c.requires.landing);
   },

@@ -15,7 +15,7 @@ invariant_of-self g c =
     let e = c.finish_round.ensures in (
       c.self.invariant.0,
       walk-moved (leg_of f.script) f.live c.finish_round.new.self f.landing c.self.invariant.1
-          (e.finishes (leg_of f.script) c.self.invariant.1.stands).stands e.landed,
+          (e.finishes (leg_of f.script) c.self.invariant.1.stands).stands e.landed e.windows,
     )
 
 pub returns : goal.returns

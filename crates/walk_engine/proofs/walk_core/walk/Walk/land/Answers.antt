@@ -6,7 +6,7 @@ use Rattle.law_walk.specs.Common.{is_client}
 use Rattle.terminal_group.specs.Item.{kind_of}
 use Rattle.terminal_group.specs.Landed.{HasPassed, next_number}
 use Rattle.walk_engine.specs.Common.{HasLanded, IsDue, LiveMakes, Walked, answer_by, counts_after, landing_of}
-use Rattle.walk_engine.specs.Common.{live_counts, moved_of}
+use Rattle.walk_engine.specs.Common.{AgreesAt, live_counts, moved_of}
 use Rattle.walk_engine.specs.declared.walk_core.step_answers.Moved.TheVariants.{Stalled}
 use Rattle.walk_engine.proofs.WalkCoreLaws.LandSteps.{land-none, land-early, land-stays, land-kind, due-in}
 use Rattle.walk_engine.proofs.WalkCoreLaws.LandSteps.{land-known}
@@ -93,6 +93,7 @@ invariant_of-self c =
       c.self.invariant.0,
       record {
         stands = here.makes.stands;
+        known = λ t. subst (AgreesAt leg t) (sym c.say-why.ensures.windows) (is.known t);
         landed = subst (λ s. HasLanded leg s c.land.new.self) (sym here.makes.counts)
             (subst (λ client. HasLanded leg (counts_after leg (live_counts f.live) (landing_of client))
             c.land.new.self) here.kind known);

@@ -38,7 +38,8 @@ invariant_of-self c =
     let e = c.tick.ensures in (
       c.self.invariant.0,
       walk-moved (leg_of f.script) f.live c.tick.new.self f.landing c.self.invariant.1
-          (e.makes (leg_of f.script) c.self.invariant.1.stands none).stands e.landed,
+          (e.makes (leg_of f.script) c.self.invariant.1.stands none
+          (c.self.invariant.1.known f.live.way.source.core.ticks)).stands e.landed e.windows,
     )
 
 pub returns-in-None : goal.returns-in-None
@@ -47,7 +48,8 @@ returns-in-None c =
     let free = sym (c.early_stall.ensures
     ∙ ap (λ (w : Walked). early_cause (walk_plan (leg_of w.script)) w.counts) (sym c.self.view_is)) ∙ c.in-None.is in
     let none = (early-free (walk_plan (leg_of f.script)) (live_counts f.live) free).1 in
-    let makes = c.tick.ensures.makes (leg_of f.script) c.self.invariant.1.stands none in
+    let makes = c.tick.ensures.makes (leg_of f.script) c.self.invariant.1.stands none
+    (c.self.invariant.1.known f.live.way.source.core.ticks) in
     record {
       script = ap (λ (w : Walked). w.script) c.self.view_is;
       counts = makes.counts ∙ ap (λ (w : Walked). counts_after (leg_of w.script) w.counts Tick) c.self.view_is;
