@@ -9,3 +9,9 @@ pub mod WindowLaws
 pub mod SoundLaws
 pub mod AgreeLaws
 pub mod TheoremLaws
+pub mod LaterSource
+pub mod LaterRows
+pub mod LaterLegs
+pub mod LaterPaths
+pub mod LaterRounds
+pub mod LaterAnswers

@@ -79,7 +79,7 @@ module _ (slow fast slip : ℕ) (plan : Plan) (is : IsPlanOf slow fast slip plan
       omega (arith, more, most)
 
   -- one more than enough changes nothing
-  enough : (k from until : ℕ) (s : Counts) → Fits plan s → Settled plan from until s → from ≤ s.ticks →
+  pub enough : (k from until : ℕ) (s : Counts) → Fits plan s → Settled plan from until s → from ≤ s.ticks →
       until ≤ plan.ticks → bound plan ≤ made s + k → rounds_until (suc k) plan until s ≡ rounds_until k plan until s
   unfolding rounds_until
   enough zero from until s fits settled low few most = elim (cases_lt s.ticks until) [

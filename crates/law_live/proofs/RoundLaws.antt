@@ -62,13 +62,13 @@ goes-on plan s m path line =
       ])
     ]
 
-goes-carry : (plan : Plan) (s : Counts) (m : ℕ) (path : Option LinePath) (line : Option LineCounts) →
+pub goes-carry : (plan : Plan) (s : Counts) (m : ℕ) (path : Option LinePath) (line : Option LineCounts) →
     Goes 0 s (carry_at plan s m path line).counts
 goes-carry plan s m (Some path) (Some line) = goes-on plan s m path line
 goes-carry plan s m (Some path) None = stays 0 s
 goes-carry plan s m None line = stays 0 s
 
-goes-back : (plan : Plan) (s : Counts) → Goes 0 s (back s).counts
+pub goes-back : (plan : Plan) (s : Counts) → Goes 0 s (back s).counts
 goes-back plan s =
     elim (cases_Bool (nat_le (in_return s) 0)) [
       | inl e ↦ rw e (stays 0 s)
@@ -121,7 +121,7 @@ goes-held : (plan : Plan) (item : Option ℕ) (s : Counts) → Goes 1 s (tick_he
 goes-held plan (Some item) s = stays 1 s
 goes-held plan None s = goes-full plan (full plan.ticks s.ticks 0 s.lines) s
 
-goes-tick : (plan : Plan) (s : Counts) → Goes 1 s (tick plan s).counts
+pub goes-tick : (plan : Plan) (s : Counts) → Goes 1 s (tick plan s).counts
 goes-tick plan s =
     elim (cases_Bool (nat_le plan.ticks s.ticks)) [
       | inl e ↦ rw e (stays 1 s)

@@ -3,13 +3,15 @@
 //! and the answers, and the script of it all. There is no code here, and no language that says it. Begin at
 //! `script_law`, by which a walk of the script makes the same counts and writes the same frames; `said_law` is
 //! about what may be said, `pass_law` and `turn_law` about time, `answer_law` and `grow_law` about what is
-//! answered; and `agree_law` about the legs of which all that is said, whatever is said later.
+//! answered; `agree_law` about the legs of which all that is said,
+//! whatever is said later, and `later_law` about what these have in common.
 #![tactic(auto)]
 
 mod answers_that_grow;
 mod legs_that_agree;
 mod script_of_a_conversation;
 mod ticks_that_pass;
+mod what_comes_later;
 mod what_is_answered;
 mod what_is_said;
 mod worked_conversations;
@@ -18,6 +20,7 @@ pub use answers_that_grow::grow_law;
 pub use legs_that_agree::agree_law;
 pub use script_of_a_conversation::script_law;
 pub use ticks_that_pass::{pass_law, turn_law};
+pub use what_comes_later::later_law;
 pub use what_is_answered::answer_law;
 pub use what_is_said::said_law;
 pub use worked_conversations::worked_law;
