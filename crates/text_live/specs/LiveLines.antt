@@ -24,7 +24,6 @@ use Rattle.text_live.specs.declared.first_word.FirstWord.{FirstWord}
 use Rattle.text_live.specs.declared.first_word.FirstWord.TheVariants as first
 use Rattle.text_live.specs.declared.live_fault.LiveLineFault.{LiveLineFault}
 use Rattle.text_live.specs.declared.live_fault.LiveLineFault.TheVariants as wrong
-use Rattle.text_live.specs.declared.live_state.LineState.{LineState}
 
 -- ---- what lines say
 -- what the lines of a script say, and the live ones, where one has come
@@ -109,38 +108,39 @@ field c passed word.Mend = within 0 (c.lines - 1)
 field c passed word.Pass = within 1 (c.ticks - passed)
 
 -- ---- what the lines before it leave no room for
--- what is tested of a line: how many failures it has whose end is known, where the last of them ends, and the first
--- container of one whose end isn't
-abbrev pub state_of : Course → LineState
-state_of course =
-    record { failures = length course.windows; end = last_end course.windows; cut = course.cut }
-
--- all its failures
-abbrev pub count_of : LineState → ℕ
-count_of line = line.failures + (if is_some line.cut then 1 else 0)
-
 -- all ticks have passed
 abbrev pub ended_fault : ℕ → ℕ → Option LiveLineFault
 ended_fault ticks passed = where_true (passed == ticks) wrong.LastTick
 
--- of a failure that begins now, and of one that ends now
-abbrev pub cut_fault : ℕ → ℕ → ℕ → LineState → Option LiveLineFault
-cut_fault ticks passed m line =
-    option_or (where_true (nat_le 256 (count_of line)) (wrong.FullLine m))
-    (option_or (ended_fault ticks passed)
-    (option_or (where_true (is_some line.cut) (wrong.CutAlready m))
-    (where_true (nat_lt passed line.end) (wrong.FailureBefore line.end))))
+-- how many failures a line has: so many whose end is known, and one more where it is cut
+abbrev pub count_by : ℕ → Option ℕ → ℕ
+count_by failures cut = failures + (if is_some cut then 1 else 0)
 
-abbrev pub mend_fault : ℕ → ℕ → ℕ → LineState → Option LiveLineFault
-mend_fault ticks passed m line =
-    option_or (ended_fault ticks passed) (where_true (is_none line.cut) (wrong.NotCut m))
+-- of a failure of line m that begins now, where the last of so many failures ends at `end`; and of one that ends now
+abbrev pub cut_fault_by : (ticks passed m failures end : ℕ) → Option ℕ → Option LiveLineFault
+cut_fault_by ticks passed m failures end cut =
+    option_or (where_true (nat_le 256 (count_by failures cut)) (wrong.FullLine m))
+    (option_or (ended_fault ticks passed)
+    (option_or (where_true (is_some cut) (wrong.CutAlready m))
+    (where_true (nat_lt passed end) (wrong.FailureBefore end))))
+
+abbrev pub mend_fault_by : (ticks passed m : ℕ) → Option ℕ → Option LiveLineFault
+mend_fault_by ticks passed m cut =
+    option_or (ended_fault ticks passed) (where_true (is_none cut) (wrong.NotCut m))
+
+abbrev pub cut_fault : ℕ → ℕ → ℕ → Course → Option LiveLineFault
+cut_fault ticks passed m course =
+    cut_fault_by ticks passed m (length course.windows) (last_end course.windows) course.cut
+
+abbrev pub mend_fault : ℕ → ℕ → ℕ → Course → Option LiveLineFault
+mend_fault ticks passed m course = mend_fault_by ticks passed m course.cut
 
 abbrev pub own_fault : ℕ → Live → LiveKeyword → ℕ → Option LiveLineFault
 own_fault ticks live word.Frame n = ended_fault ticks live.passed
 own_fault ticks live word.Add n = ended_fault ticks live.passed
 own_fault ticks live word.Remove n = ended_fault ticks live.passed
-own_fault ticks live word.Cut n = cut_fault ticks live.passed n (state_of (course_at live n))
-own_fault ticks live word.Mend n = mend_fault ticks live.passed n (state_of (course_at live n))
+own_fault ticks live word.Cut n = cut_fault ticks live.passed n (course_at live n)
+own_fault ticks live word.Mend n = mend_fault ticks live.passed n (course_at live n)
 own_fault ticks live word.Pass n = None
 
 -- ---- the first fault of a line

@@ -6,10 +6,6 @@ use Rattle.law_model.specs.declared.script_types.Script.{Script}
 use Rattle.law_live.specs.LiveScript.{script_by}
 use Rattle.text_live.specs.LiveLines.{Said, LineWrong, now_live, nothing_said, live_lines}
 
--- how many ticks have passed
-abbrev pub passed : Said → ℕ
-passed s = (now_live s).passed
-
 -- the script of what lines say, where the ticks that have passed took so many rounds
 abbrev pub script_in : ℕ → Said → Script
 script_in rounds s = script_by s.settings.config rounds (now_live s)

@@ -9,6 +9,7 @@ use Rattle.law_model.specs.declared.script_types.Config.{Config}
 use Rattle.law_model.specs.declared.script_types.ItemKind.TheVariants as item_kind
 use Rattle.text_scripts.specs.declared.script_read.script_fault.ScriptFault.TheVariants as script
 use Rattle.text_scripts.specs.declared.script_read.script_reader.ScriptReader.{ScriptReader}
+use Rattle.text_scripts.specs.script_read.Statements.{last_end}
 use Rattle.text_scripts.specs.script_read.Pieces.{IsReader, next_number, drafted}
 use Rattle.text_live.specs.declared.first_word.EarlierPart.{EarlierPart}
 use Rattle.text_live.specs.declared.first_word.FirstWord.TheVariants as first
@@ -22,9 +23,9 @@ use Rattle.text_live.specs.declared.live_line.LiveLine.TheVariants as line
 use Rattle.text_live.specs.declared.live_state.LineState.{LineState}
 use Rattle.text_live.specs.declared.live_state.LiveState.{LiveState}
 use Rattle.text_live.specs.declared.live_reader.LiveReader.{LiveReader}
-use Rattle.law_live.specs.Live.{Live, cuts, lands, live_after, mends, passes}
+use Rattle.law_live.specs.Live.{Course, Live, cuts, lands, live_after, mends, passes}
 use Rattle.text_live.specs.LiveLines.{happens, Said, LineWrong, of_script, of_limits, of_live, Told, nothing, setting}
-use Rattle.text_live.specs.LiveLines.{state_of, count_of, one_fault, ended_fault, rest_fault}
+use Rattle.text_live.specs.LiveLines.{count_by, one_fault, ended_fault, rest_fault}
 use Rattle.text_live.specs.LiveLines.{live_told, told, now_live, line_fault, line_after, first_of}
 
 -- ---- faults
@@ -56,6 +57,12 @@ told_line octets (line.Mend n) = happens (mends n)
 told_line octets (line.Pass n) = happens (passes n)
 
 -- ---- what is kept of live lines
+-- of a line: how many failures it has whose end is known, where the last of them ends, and the first container of one whose
+-- end isn't
+abbrev pub state_of : Course → LineState
+state_of course =
+    record { failures = length course.windows; end = last_end course.windows; cut = course.cut }
+
 -- what is kept stands for what live lines say
 pub record Keeps (state : LiveState) (c : Config) (live : Live) : Type 0 where
   pub ticks : state.ticks ≡ c.ticks
@@ -65,7 +72,7 @@ pub record Keeps (state : LiveState) (c : Config) (live : Live) : Type 0 where
 
 -- a line has at most 256 failures
 abbrev pub HasFew : LineState → Type 0
-HasFew line = count_of line ≤ 256
+HasFew line = count_by line.failures line.cut ≤ 256
 
 -- the fault of the words of a command, and of a frame
 abbrev pub command_fault : ℕ → ℕ → LiveKeyword → List (List ℕ) → Option LiveLineFault

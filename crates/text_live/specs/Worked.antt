@@ -1,9 +1,13 @@
--- Two live texts, and the scripts that say the same, worked by hand.
+-- Live texts worked by hand: the scripts that say the same as two of them, and what is answered to the items of a third.
 use Rattle.std.specs.Prelude.{ℕ, List, [], ◌∷◌, codes}
 use Rattle.law_model.specs.Common.{vc4_size, default_options}
 use Rattle.law_model.specs.declared.script_types.EventLine.TheVariants.{Client, Operator, Round}
 use Rattle.law_model.specs.declared.script_types.ItemKind.TheVariants.{Add, Frame}
 use Rattle.law_model.specs.declared.script_types.Script.{Script}
+use Rattle.law_model.specs.declared.item_refusals.AcceptFault.TheVariants.{Length}
+use Rattle.law_model.specs.declared.item_refusals.CommandFault.TheVariants.{AlreadyIn, NotIn, UnknownLine}
+use Rattle.law_model.specs.declared.item_refusals.Refusal.TheVariants as refusal
+use Rattle.law_live.specs.LiveAnswers.{Answer, refused_item}
 
 -- a frame of one octet in tick 40
 abbrev pub frame_lines : List (List ℕ)
@@ -54,3 +58,14 @@ cut_script = record {
   items = record { due = 0; kind = Add 0 } ∷ [];
   events = Round 326 ∷ Client 1 ∷ Operator 1 ∷ [];
 }
+
+-- items on two lines, all of which are refused but the first
+abbrev pub refused_lines : List (List ℕ)
+refused_lines =
+    codes "lines 2" ∷ codes "delays 0 0" ∷ codes "ring 1" ∷ codes "lag 1" ∷ codes "ticks 1000" ∷ codes "add 0"
+    ∷ codes "add 0" ∷ codes "remove 1" ∷ codes "frame 00" ∷ codes "add 2" ∷ []
+
+abbrev pub refused_answers : List Answer
+refused_answers =
+    refused_item 1 (refusal.Command AlreadyIn) ∷ refused_item 2 (refusal.Command NotIn)
+    ∷ refused_item 3 (refusal.Frame (Length 1)) ∷ refused_item 4 (refusal.Command (UnknownLine 2)) ∷ []

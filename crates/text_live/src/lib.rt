@@ -16,6 +16,6 @@ mod live_state;
 pub use first_word::{EarlierPart, LiveKeyword};
 pub use line_help::live_help;
 pub use live_fault::{LiveFault, LiveLineFault};
-pub use live_laws::{fault_law, valid_law, worked_law};
+pub use live_laws::{fault_law, said_law, valid_law, worked_law};
 pub use live_line::LiveLine;
 pub use live_reader::LiveReader;

@@ -1,13 +1,17 @@
 //! What the definitions of live texts mean, apart from how they compute.
-ghost use Rattle.std.specs.Prelude.{◌≡◌, ◌↔◌, ◌≤◌, ℕ, List, length, Ok, Err};
+ghost use Rattle.std.specs.Prelude.{◌≡◌, ◌↔◌, ◌≤◌, ℕ, List, [], ◌∷◌, ◌++◌, length, None, Ok, Err};
 ghost use Rattle.std.specs.Str.Lines.{lines};
 ghost use Rattle.text_lines.specs.Language.{said_by};
 ghost use Rattle.text_lines.specs.FirstFault.{IsFirstFault};
-ghost use Rattle.law_model.specs.Common.{IsValid, HasFewLosses, longest_input};
+ghost use Rattle.law_model.specs.Common.{IsValid, HasFewLosses, leg_of, longest_input};
+ghost use Rattle.text_lines.specs.Words.{words};
 ghost use Rattle.law_model.specs.declared.script_types.Script.{Script};
-ghost use Rattle.text_live.specs.LiveLines.{LineWrong, nothing_said, live_lines};
-ghost use Rattle.text_live.specs.LiveScript.{script_of_live};
+ghost use Rattle.text_live.specs.LiveLines.{LineWrong, nothing_said, live_lines, line_fault, opening_fault};
+ghost use Rattle.text_live.specs.LiveScript.{script_of_live, script_in};
+ghost use Rattle.text_live.specs.Sayings.{AgreesWith, AreFine, leg_in, line_saying, said_in, said_with_line, sayings};
+ghost use Rattle.law_live.specs.Common.{answers};
 ghost use Rattle.text_live.specs.Worked.{frame_lines, frame_script, cut_lines, cut_script};
+ghost use Rattle.text_live.specs.Worked.{refused_answers, refused_lines};
 
 /// A text has the fault of a line exactly where that line is faulty after lines none of which is, or where no line is
 /// faulty and the configuration isn't whole, or doesn't fit, at the end.
@@ -26,9 +30,32 @@ pub fn valid_law()
         script_of_live rounds ls ≡ Ok script → HasFewLosses script }
 {}
 
-/// Two texts and their scripts, worked by hand: a frame that is sent in tick 40, and lines that are cut and mended, of
-/// which two failures damage no container.
+/// Lines of which none is faulty say what happens so that it can happen, over a configuration that can be walked, and
+/// leave it just as it then stands. Their script is that of their leg; and lines are fine where those before the last
+/// are, and the last is behind them.
+pub fn said_law()
+    ensures agrees { (ls : List (List ℕ)) → AreFine nothing_said ls → length ls ≤ longest_input →
+        AgreesWith (said_in ls) (sayings ls) (said_in ls).live }
+    ensures more { (ls : List (List ℕ)) (line : List ℕ) → AreFine nothing_said ls →
+        line_fault (said_in ls) (words line) ≡ None → AreFine nothing_said (ls ++ line ∷ []) }
+    ensures less { (ls : List (List ℕ)) (line : List ℕ) → AreFine nothing_said (ls ++ line ∷ []) →
+        AreFine nothing_said ls × (line_fault (said_in ls) (words line) ≡ None) }
+    ensures next { (ls : List (List ℕ)) (line : List ℕ) →
+        said_in (ls ++ line ∷ []) ≡ said_with_line (said_in ls) line }
+    ensures sayings { (ls : List (List ℕ)) (line : List ℕ) →
+        sayings (ls ++ line ∷ []) ≡ sayings ls ++ line_saying line }
+    ensures leg { (rounds : ℕ) (ls : List (List ℕ)) (script : Script) →
+        script_of_live rounds ls ≡ Ok script → leg_of script ≡ leg_in ls }
+    ensures script { (rounds : ℕ) (ls : List (List ℕ)) → AreFine nothing_said ls →
+        opening_fault (said_in ls).live (said_in ls).settings ≡ None →
+        script_of_live rounds ls ≡ Ok (script_in rounds (said_in ls)) }
+{}
+
+/// Texts worked by hand. The scripts of two: a frame that is sent in tick 40, and lines that are cut and mended, of
+/// which two failures damage no container. And the answers to a third: items of both kinds count together from 0,
+/// and each that is refused is told by its number, with the cause.
 pub fn worked_law()
     ensures frame { script_of_live 43 frame_lines ≡ Ok frame_script }
     ensures cuts { script_of_live 326 cut_lines ≡ Ok cut_script }
+    ensures refused { answers (leg_in refused_lines) (sayings refused_lines) ≡ refused_answers }
 {}

@@ -5,7 +5,6 @@ ghost use Rattle.text_lines.specs.Words.{words, is_skipped};
 ghost use Rattle.law_model.specs.Common.{IsNetwork};
 ghost use Rattle.text_scripts.specs.script_read.Pieces.{IsReader, HasNumbersLeft, next_number, drafted};
 ghost use Rattle.text_live.specs.LiveLines.{Said, of_script, nothing_said, opening_fault, line_fault};
-ghost use Rattle.text_live.specs.LiveScript.{passed};
 ghost use Rattle.text_live.specs.Reading.{IsLiveReader, IsAt, IsToldAt, HasLinesLeft, ReadsLine, Stops, HandsOut};
 ghost use Rattle.text_live.specs.Reading.{IsLiveLine, IsEarlierLine, failure, line_at, waiting_config, frame_of};
 ghost use Rattle.text_live.specs.Reading.{opened_said, has_begun, no_memory};
@@ -95,26 +94,11 @@ impl LiveReader {
         })
     }
 
-    /// Why it doesn't read on, where it doesn't.
-    pub fn failure(&self) -> Option<LiveFault>
-        ensures { result ≡ failure self.now }
-    {
-        self.fault
-    }
-
     /// Whether it may read one more line: a text has at most 67,108,864.
     pub fn has_lines_left(&self) -> bool
         ensures { (result ≡ true) ↔ HasLinesLeft self.now }
     {
         self.number <= 67_108_864
-    }
-
-    /// How many ticks have passed: in which of them an item is due that is said now.
-    pub fn passed(&self) -> u32
-        requires { IsLiveReader self.now }
-        ensures { (n : ℕ) (s : Said) → IsAt self.now n s → result ≡ passed s }
-    {
-        self.state.passed
     }
 
     /// The octets of the frame, where the last line that was read sends one.

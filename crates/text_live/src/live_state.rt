@@ -6,9 +6,8 @@ ghost use Rattle.text_lines.specs.Words.{words, word_at, number_at, octets_of};
 ghost use Rattle.text_lines.specs.Fields.{within};
 ghost use Rattle.law_model.specs.Common.{IsNetwork};
 ghost use Rattle.law_live.specs.Live.{Live, opened, uncut};
-ghost use Rattle.text_live.specs.LiveLines.{state_of, one_fault, rest_fault};
-ghost use Rattle.text_live.specs.LiveLines.{cut_fault, mend_fault};
-ghost use Rattle.text_live.specs.Reading.{Keeps, IsKept, IsRoom, HasFew, Reads, mended_state};
+ghost use Rattle.text_live.specs.LiveLines.{cut_fault_by, mend_fault_by, one_fault, rest_fault};
+ghost use Rattle.text_live.specs.Reading.{Keeps, IsKept, IsRoom, HasFew, Reads, mended_state, state_of};
 ghost use Rattle.text_live.specs.Reading.{command_fault, frame_fault};
 
 use crate::first_word::LiveKeyword;
@@ -90,7 +89,7 @@ impl LineState {
     // What is wrong with a failure of line `member` that begins now.
     fn cut_fault(self, ticks: u32, passed: u32, member: u8) -> Option<LiveLineFault>
         requires { HasFew self }
-        ensures { result ≡ cut_fault ticks passed member self }
+        ensures { result ≡ cut_fault_by ticks passed member self.failures self.end self.cut }
     {
         if self.failures + u16::from(self.cut.is_some()) >= 256 {
             return Some(LiveLineFault::FullLine { line: member });
@@ -109,7 +108,7 @@ impl LineState {
 
     // What is wrong with the end of one.
     fn mend_fault(self, ticks: u32, passed: u32, member: u8) -> Option<LiveLineFault>
-        ensures { result ≡ mend_fault ticks passed member self }
+        ensures { result ≡ mend_fault_by ticks passed member self.cut }
     {
         if passed == ticks {
             return Some(LiveLineFault::LastTick);

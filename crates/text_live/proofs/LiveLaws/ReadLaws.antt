@@ -3,7 +3,6 @@ use Rattle.std.proofs.Common.{◌≡◌, ◌∙◌, ℕ, ◌+◌, Bool, true, fa
 use Rattle.std.proofs.Common.{Option, None, Some, option_map, is_none, if◌then◌else◌, Result, Ok, Err, IfErr}
 use Rattle.std.specs.Option.{option_or}
 use Rattle.text_lines.specs.Words.{word_at, is_skipped}
-use Rattle.law_model.specs.declared.script_types.Config.{Config}
 use Rattle.text_scripts.specs.declared.script_read.script_reader.ScriptReader.{ScriptReader}
 use Rattle.text_live.specs.declared.first_word.FirstWord.{FirstWord}
 use Rattle.text_live.specs.declared.first_word.FirstWord.TheVariants as first
@@ -17,9 +16,8 @@ use Rattle.text_live.specs.declared.live_reader.LiveReader.{LiveReader}
 use Rattle.law_live.specs.Live.{Live, live_after}
 use Rattle.text_live.specs.LiveLines.{happens, Said, LineWrong, of_live, Told, nothing, now_live}
 use Rattle.text_live.specs.LiveLines.{opening_fault, rest_fault, fault_by, line_fault, told_by, told, first_of}
-use Rattle.text_live.specs.LiveLines.{live_or, live_told, with_live, said_with, line_after}
-use Rattle.text_live.specs.LiveScript.{passed}
-use Rattle.text_live.specs.Reading.{IsToldAt, IsAt, ReadsLine, Stops, Says, IsStage, Keeps}
+use Rattle.text_live.specs.LiveLines.{live_told, with_live, said_with, line_after}
+use Rattle.text_live.specs.Reading.{IsToldAt, IsAt, ReadsLine, Stops, Says, Keeps}
 use Rattle.text_live.specs.Reading.{failure, line_at, told_line, frame_of, HandsOut, opened_said, IsLiveLine}
 
 -- ---- by the first word of a line
@@ -116,14 +114,3 @@ pub kept_by : (state : LiveState) (s : Said) → Begins state (opened_said s) �
 kept_by state s begun =
     let same : now_live s ≡ begun.0 = cc in
     subst (Keeps state s.settings.config) (sym same) begun.2
-
--- the ticks that have passed
-abbrev passed_with : Config → Option Live → ℕ
-passed_with c live = (live_or live c).passed
-
-pub passed_by : (settings : Option ScriptReader) (number : ℕ) (state : LiveState) (stop : Option LiveFault) (s : Said) →
-    IsStage settings number state stop → Says settings state s → state.passed ≡ passed s
-passed_by (Some reader) number state stop s stage says =
-    stage.room.passed ∙ sym (ap (passed_with s.settings.config) says.0)
-passed_by None number state stop s stage says =
-    says.2.passed ∙ sym (ap (passed_with s.settings.config) says.1)

@@ -18,7 +18,7 @@ use Rattle.law_model.specs.declared.script_types.Config.{Config}
 use Rattle.law_model.specs.declared.script_types.ItemKind.{ItemKind}
 use Rattle.law_model.specs.declared.script_types.ItemKind.TheVariants as item_kind
 use Rattle.text_scripts.specs.declared.script_read.script_draft.Draft.{Draft}
-use Rattle.text_scripts.specs.script_read.Statements.{words_fault, words_said, after}
+use Rattle.text_scripts.specs.script_read.Statements.{words_fault, words_said, after, last_end}
 use Rattle.text_scripts.specs.script_read.Script.{missing_line, config_fault}
 use Rattle.text_scripts.specs.script_read.Drafts.{IsDraft}
 use Rattle.text_scripts.proofs.ScriptReadLaws.RowLaws.{All-none, rising-none}
@@ -34,10 +34,9 @@ use Rattle.text_live.specs.declared.first_word.EarlierPart.{EarlierPart}
 use Rattle.text_live.specs.declared.live_fault.LiveLineFault.TheVariants as wrong
 use Rattle.law_live.specs.Live.{Course, Live, course_at, cut_at, cuts, lands, live_after, mends, opened, passes, uncut, windows_by, with_course}
 use Rattle.text_live.specs.LiveLines.{Said, LineWrong, of_script, of_limits, of_live, live_or}
-use Rattle.text_live.specs.LiveLines.{now_live, opening_fault, state_of, count_of, ended_fault, cut_fault}
+use Rattle.text_live.specs.LiveLines.{now_live, opening_fault, count_by, ended_fault, cut_fault}
 use Rattle.text_live.specs.LiveLines.{mend_fault, own_fault, one_fault, rest_fault, earlier_fault, fault_by, line_fault}
 use Rattle.text_live.specs.LiveLines.{live_told, told_by, said_with}
-use Rattle.text_live.specs.declared.live_state.LineState.{LineState}
 use Rattle.text_live.specs.LiveLines.{line_after, first_of, nothing_said, live_lines}
 use Rattle.text_live.proofs.LiveLaws.CourseLaws.{HasCourse, later-course, cut-course, mended-course, slip-by}
 use Rattle.text_live.proofs.LiveLaws.ItemLaws.{HasItems, no_items, later_items, due_now, one_item}
@@ -101,7 +100,7 @@ has_opened k c network = record {
   few = omega arith;
 }
 
-opening : (k : ℕ) (live : Option Live) (d : Draft) → IsDraft d → HasLiveIf k d.config live →
+pub opening : (k : ℕ) (live : Option Live) (d : Draft) → IsDraft d → HasLiveIf k d.config live →
     opening_fault live d ≡ None → HasLive k d.config (live_or live d.config)
 opening k (Some live) d is has none = has
 opening k None d is has none =
@@ -110,11 +109,11 @@ opening k None d is has none =
     (map_none of_limits (config_fault d.config) parts.1))
 
 -- ---- what the words of a live line say that has no fault
-record HasWord (k : LiveKeyword) (f : Field) (ws : List (List ℕ)) : Type 0 where
-  count : length ws ≡ 1
-  each : field_fault f 2 0 (word_at 0 ws) ≡ None
+pub record HasWord (k : LiveKeyword) (f : Field) (ws : List (List ℕ)) : Type 0 where
+  pub count : length ws ≡ 1
+  pub each : field_fault f 2 0 (word_at 0 ws) ≡ None
 
-one_word : (k : LiveKeyword) (f : Field) (ws : List (List ℕ)) → one_fault k f ws ≡ None → HasWord k f ws
+pub one_word : (k : LiveKeyword) (f : Field) (ws : List (List ℕ)) → one_fault k f ws ≡ None → HasWord k f ws
 one_word k f ws none =
     let parts = or_none (where_true (not (length ws == 1)) (wrong.Count k (length ws)))
     (option_map wrong.Field (field_fault f 2 0 (word_at 0 ws))) none in
@@ -124,7 +123,7 @@ one_word k f ws none =
       each = map_none wrong.Field (field_fault f 2 0 (word_at 0 ws)) parts.1;
     }
 
-goes_on : (ticks passed : ℕ) → passed ≤ ticks → ended_fault ticks passed ≡ None → passed < ticks
+pub goes_on : (ticks passed : ℕ) → passed ≤ ticks → ended_fault ticks passed ≡ None → passed < ticks
 goes_on ticks passed most none =
     let other : (passed == ticks) ≡ false = where_none (passed == ticks) wrong.LastTick none in
     let less : passed < ticks = grind (arith, nat_tests, other, most) in less
@@ -176,29 +175,46 @@ has_passed k c live n has most = record {
 }
 
 -- a line of the group by its number
-line_within : (c : Config) (live : Live) (m : ℕ) (k : ℕ) → HasLive k c live → m ≤ c.lines - 1 → m < length live.courses
+pub line_within : (c : Config) (live : Live) (m : ℕ) (k : ℕ) → HasLive k c live → m ≤ c.lines - 1 → m < length live.courses
 line_within c live m k has less = omega (arith, less, has.count, has.network.lines.0)
 
-has_cut : (k : ℕ) (c : Config) (live : Live) (m : ℕ) → HasLive k c live → m < length live.courses →
-    cut_fault c.ticks live.passed m (state_of (course_at live m)) ≡ None →
-    HasLive (k + 1) c (live_after live (cuts m))
-has_cut k c live m has low none =
-    let course : Course = course_at live m in
-    let line : LineState = state_of course in
-    let full = where_true (nat_le 256 (count_of line)) (wrong.FullLine m) in
-    let ended = ended_fault c.ticks live.passed in
-    let already = where_true (is_some line.cut) (wrong.CutAlready m) in
-    let early = where_true (nat_lt live.passed line.end) (wrong.FailureBefore line.end) in
+-- what is known of a line whose failure may begin now
+pub record MayCut (ticks passed : ℕ) (course : Course) : Type 0 where
+  pub few : count_by (length course.windows) course.cut < 256
+  pub left : passed < ticks
+  pub uncut : is_some course.cut ≡ false
+  pub later : last_end course.windows ≤ passed
+
+pub may_cut : (ticks passed m : ℕ) (course : Course) → passed ≤ ticks →
+    cut_fault ticks passed m course ≡ None → MayCut ticks passed course
+may_cut ticks passed m course most none =
+    let count : ℕ = count_by (length course.windows) course.cut in
+    let end : ℕ = last_end course.windows in
+    let full = where_true (nat_le 256 count) (wrong.FullLine m) in
+    let ended = ended_fault ticks passed in
+    let already = where_true (is_some course.cut) (wrong.CutAlready m) in
+    let early = where_true (nat_lt passed end) (wrong.FailureBefore end) in
     let one = or_none full (option_or ended (option_or already early)) none in
     let two = or_none ended (option_or already early) one.1 in
     let three = or_none already early two.1 in
-    let few = leb-false 256 (count_of line) (where_none (nat_le 256 (count_of line)) (wrong.FullLine m) one.0) in
-    let later = ltb-false live.passed line.end
-    (where_none (nat_lt live.passed line.end) (wrong.FailureBefore line.end) three.1) in
+    record {
+      few = leb-false 256 count (where_none (nat_le 256 count) (wrong.FullLine m) one.0);
+      left = goes_on ticks passed most two.0;
+      uncut = where_none (is_some course.cut) (wrong.CutAlready m) three.0;
+      later = ltb-false passed end
+          (where_none (nat_lt passed end) (wrong.FailureBefore end) three.1);
+    }
+
+has_cut : (k : ℕ) (c : Config) (live : Live) (m : ℕ) → HasLive k c live → m < length live.courses →
+    cut_fault c.ticks live.passed m (course_at live m) ≡ None →
+    HasLive (k + 1) c (live_after live (cuts m))
+has_cut k c live m has low none =
+    let course : Course = course_at live m in
+    let may = may_cut c.ticks live.passed m course has.passed none in
     has_course k c live m (cut_at live.passed course) has
     (cut-course c.ticks live.passed course
     (All-get_or (HasCourse c.ticks live.passed) live.courses m (uncut []) low has.courses)
-    (goes_on c.ticks live.passed has.passed two.0) later (omega (arith, few)))
+    may.left may.later (omega (arith, may.few)))
     refl
 
 has_mended : (k : ℕ) (c : Config) (live : Live) (m : ℕ) → HasLive k c live → m < length live.courses →
@@ -227,13 +243,13 @@ live_line k c live word.Remove ws has none =
     (number_ok 2 0 255 (word_at 0 ws) (one_word word.Remove (within 0 255) ws parts.0).each).1
 live_line k c live word.Cut ws has none =
     let parts = or_none (one_fault word.Cut (within 0 (c.lines - 1)) ws)
-    (cut_fault c.ticks live.passed (number_at 0 ws) (state_of (course_at live (number_at 0 ws)))) none in
+    (cut_fault c.ticks live.passed (number_at 0 ws) (course_at live (number_at 0 ws))) none in
     let low = number_ok 2 0 (c.lines - 1) (word_at 0 ws)
     (one_word word.Cut (within 0 (c.lines - 1)) ws parts.0).each in
     has_cut k c live (number_at 0 ws) has (line_within c live (number_at 0 ws) k has low.1) parts.1
 live_line k c live word.Mend ws has none =
     let parts = or_none (one_fault word.Mend (within 0 (c.lines - 1)) ws)
-    (mend_fault c.ticks live.passed (number_at 0 ws) (state_of (course_at live (number_at 0 ws)))) none in
+    (mend_fault c.ticks live.passed (number_at 0 ws) (course_at live (number_at 0 ws))) none in
     let low = number_ok 2 0 (c.lines - 1) (word_at 0 ws)
     (one_word word.Mend (within 0 (c.lines - 1)) ws parts.0).each in
     has_mended k c live (number_at 0 ws) has (line_within c live (number_at 0 ws) k has low.1)

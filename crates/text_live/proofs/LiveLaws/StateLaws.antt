@@ -15,9 +15,9 @@ use Rattle.text_live.specs.declared.live_line.LiveLine.TheVariants as line
 use Rattle.text_live.specs.declared.live_state.LineState.{LineState}
 use Rattle.text_live.specs.declared.live_state.LiveState.{LiveState}
 use Rattle.law_live.specs.Live.{Course, Live, closed, course_at, cut_at, cuts, live_after, mends, uncut, windows_by, with_course}
-use Rattle.text_live.specs.LiveLines.{happens, state_of, one_fault, own_fault}
-use Rattle.text_live.specs.LiveLines.{cut_fault, mend_fault}
-use Rattle.text_live.specs.Reading.{Keeps, IsKept, HasFew, Reads, mended_by, mended_state}
+use Rattle.text_live.specs.LiveLines.{happens, one_fault, own_fault}
+use Rattle.text_live.specs.LiveLines.{cut_fault, cut_fault_by, mend_fault, mend_fault_by}
+use Rattle.text_live.specs.Reading.{Keeps, IsKept, HasFew, Reads, mended_by, mended_state, state_of}
 use Rattle.law_model.specs.Common.{IsNetwork}
 use Rattle.std.proofs.Common.{All}
 use Rattle.std.proofs.lemmas.List.Elements.{All-map}
@@ -79,17 +79,20 @@ both_none one other first second = ap₂ option_or first second
 abbrev pub cut_new : LineState → ℕ → LineState
 cut_new l passed = record { failures = l.failures; end = l.end; cut = Some passed }
 
+abbrev line_cut_fault : ℕ → ℕ → ℕ → LineState → Option LiveLineFault
+line_cut_fault ticks passed m l = cut_fault_by ticks passed m l.failures l.end l.cut
+
 cut_fine : (old : LiveState) (c : Config) (live : Live) (m : ℕ) (l : LineState) → Keeps old c live →
-    l ≡ state_of (course_at live m) → cut_fault old.ticks old.passed m l ≡ None →
-    cut_fault c.ticks live.passed m (state_of (course_at live m)) ≡ None
+    l ≡ state_of (course_at live m) → line_cut_fault old.ticks old.passed m l ≡ None →
+    cut_fault c.ticks live.passed m (course_at live m) ≡ None
 cut_fine old c live m l keeps is none =
-    sym (ap (λ (t : ℕ). cut_fault t old.passed m l) keeps.ticks
-    ∙ ap (λ (p : ℕ). cut_fault c.ticks p m l) keeps.passed
-    ∙ ap (λ (l : LineState). cut_fault c.ticks live.passed m l) is) ∙ none
+    sym (ap (λ (t : ℕ). line_cut_fault t old.passed m l) keeps.ticks
+    ∙ ap (λ (p : ℕ). line_cut_fault c.ticks p m l) keeps.passed
+    ∙ ap (λ (l : LineState). line_cut_fault c.ticks live.passed m l) is) ∙ none
 
 pub reads_cut : (old now : LiveState) (octets : List ℕ) (c : Config) (live : Live) (ws : List (List ℕ)) (m : ℕ) (l : LineState) →
     Keeps old c live → m ≡ number_at 0 ws → one_fault word.Cut (within 0 (length old.lines.items - 1)) ws ≡ None →
-    m < length old.lines.items → l ≡ slice_index_or old.lines.items m l → cut_fault old.ticks old.passed m l ≡ None →
+    m < length old.lines.items → l ≡ slice_index_or old.lines.items m l → line_cut_fault old.ticks old.passed m l ≡ None →
     now.ticks ≡ old.ticks → now.passed ≡ old.passed →
     now.lines.items ≡ slice_set old.lines.items m (cut_new l old.passed) →
     Reads now octets c live word.Cut ws (line.Cut m)
@@ -106,17 +109,20 @@ reads_cut old now octets c live ws m l keeps number fine low at none ticks passe
     }
 
 -- ---- a failure that ends
+abbrev line_mend_fault : ℕ → ℕ → ℕ → LineState → Option LiveLineFault
+line_mend_fault ticks passed m l = mend_fault_by ticks passed m l.cut
+
 mend_fine : (old : LiveState) (c : Config) (live : Live) (m : ℕ) (l : LineState) → Keeps old c live →
-    l ≡ state_of (course_at live m) → mend_fault old.ticks old.passed m l ≡ None →
-    mend_fault c.ticks live.passed m (state_of (course_at live m)) ≡ None
+    l ≡ state_of (course_at live m) → line_mend_fault old.ticks old.passed m l ≡ None →
+    mend_fault c.ticks live.passed m (course_at live m) ≡ None
 mend_fine old c live m l keeps is none =
-    sym (ap (λ (t : ℕ). mend_fault t old.passed m l) keeps.ticks
-    ∙ ap (λ (p : ℕ). mend_fault c.ticks p m l) keeps.passed
-    ∙ ap (λ (l : LineState). mend_fault c.ticks live.passed m l) is) ∙ none
+    sym (ap (λ (t : ℕ). line_mend_fault t old.passed m l) keeps.ticks
+    ∙ ap (λ (p : ℕ). line_mend_fault c.ticks p m l) keeps.passed
+    ∙ ap (λ (l : LineState). line_mend_fault c.ticks live.passed m l) is) ∙ none
 
 pub reads_mend : (old now : LiveState) (octets : List ℕ) (c : Config) (live : Live) (ws : List (List ℕ)) (m : ℕ) (l : LineState) →
     Keeps old c live → m ≡ number_at 0 ws → one_fault word.Mend (within 0 (length old.lines.items - 1)) ws ≡ None →
-    m < length old.lines.items → l ≡ slice_index_or old.lines.items m l → mend_fault old.ticks old.passed m l ≡ None →
+    m < length old.lines.items → l ≡ slice_index_or old.lines.items m l → line_mend_fault old.ticks old.passed m l ≡ None →
     now.ticks ≡ old.ticks → now.passed ≡ old.passed →
     now.lines.items ≡ slice_set old.lines.items m (mended_state old.passed l) →
     Reads now octets c live word.Mend ws (line.Mend m)

@@ -1,5 +1,5 @@
 -- By computation.
-use Rattle.text_live.proofs.LiveLaws.WorkedLaws.{frame_worked, cut_worked}
+use Rattle.text_live.proofs.LiveLaws.WorkedLaws.{cut_worked, frame_worked, refused_worked}
 use Rattle.text_live.proofs.live_laws.worked_law.Goals as goal
 
 pub returns-clause-frame : goal.returns-clause-frame
@@ -7,3 +7,6 @@ returns-clause-frame c = frame_worked
 
 pub returns-clause-cuts : goal.returns-clause-cuts
 returns-clause-cuts c = cut_worked
+
+pub returns-clause-refused : goal.returns-clause-refused
+returns-clause-refused c = refused_worked

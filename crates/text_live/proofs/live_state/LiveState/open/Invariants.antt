@@ -2,7 +2,7 @@
 use Rattle.std.proofs.Common.{◌≡◌, ◌≤◌, map, take}
 use Rattle.std.specs.Prelude.{vec_capacity}
 use Rattle.law_live.specs.Live.{uncut}
-use Rattle.text_live.specs.LiveLines.{state_of}
+use Rattle.text_live.specs.Reading.{state_of}
 use Rattle.text_live.proofs.live_state.LiveState.open.Given as goal
 
 abbrev pub invariant-loop-list : goal.invariant-loop-list

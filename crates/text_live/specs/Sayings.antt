@@ -1,0 +1,42 @@
+-- What lines of a live text say that happens, one after another, and the leg of a session of which they say all.
+use Rattle.std.specs.Prelude.{◌≡◌, ℕ, List, [], ◌∷◌, fold, flat_map, Option, Some, None}
+use Rattle.text_lines.specs.Words.{words}
+use Rattle.text_lines.specs.FirstFault.{AreSound}
+use Rattle.law_model.specs.Common.{IsNetwork, Leg}
+use Rattle.law_live.specs.Common.{IsWellSaid, Live, Saying, leg_by, live_of}
+use Rattle.text_live.specs.LiveLines.{Said, Told, nothing, setting, happens, told, line_after, live_lines, nothing_said, now_live}
+
+-- ---- what happens
+-- a line says at most that one thing does
+abbrev pub saying_of : Told → List Saying
+saying_of nothing = []
+saying_of setting = []
+saying_of (happens saying) = saying ∷ []
+
+abbrev pub line_saying : List ℕ → List Saying
+line_saying line = saying_of (told (words line))
+
+abbrev pub sayings : List (List ℕ) → List Saying
+sayings ls = flat_map line_saying ls
+
+-- ---- all that is said
+abbrev pub said_with_line : Said → List ℕ → Said
+said_with_line s line = line_after s (words line)
+
+abbrev pub said_in : List (List ℕ) → Said
+said_in ls = fold said_with_line nothing_said ls
+
+-- none of them is faulty behind those before it
+abbrev pub AreFine : Said → List (List ℕ) → Type 0
+AreFine s ls = AreSound live_lines s ls (fold said_with_line s ls)
+
+-- the leg
+abbrev pub leg_in : List (List ℕ) → Leg
+leg_in ls = leg_by (said_in ls).settings.config (now_live (said_in ls))
+
+-- ---- what they say beside what happens: before the first live line nothing does, and from it on the configuration is one
+-- that can be walked, over which what happens is well said and leaves it as it stands
+abbrev pub AgreesWith : Said → List Saying → Option Live → Type 0
+AgreesWith s said None = said ≡ []
+AgreesWith s said (Some live) =
+    IsNetwork s.settings.config × IsWellSaid s.settings.config said × (live ≡ live_of s.settings.config said)
