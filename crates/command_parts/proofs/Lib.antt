@@ -5,6 +5,7 @@ pub mod TakenLaws
 pub mod ScriptLaws
 pub mod GiveLaws
 pub mod DialogueLaws
+pub mod CourseLaws
 pub mod SaidLaws
 pub mod TalkLaws
 pub mod IsTalkLaws

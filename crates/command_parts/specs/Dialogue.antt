@@ -1,5 +1,5 @@
 -- Conversations by their lines: what is replied to each behind those before it, and at the end.
-use Rattle.std.specs.Prelude.{ℕ, ◌==◌, ◌||◌, nat_le, nat_lt, Bool, true, false, List, [], ◌∷◌, ◌++◌, length}
+use Rattle.std.specs.Prelude.{◌≡◌, ℕ, ◌==◌, ◌||◌, nat_le, nat_lt, Bool, true, false, List, [], ◌∷◌, ◌++◌, length}
 use Rattle.std.specs.Prelude.{Option, Some, None, Result, Ok, Err}
 use Rattle.std.specs.List.{slice_split}
 use Rattle.std.specs.Str.Lines.{strip_carriage_return}
@@ -118,6 +118,19 @@ closed_at heard line (Some end) = said heard.said (Some end)
 
 abbrev pub closed_by : Course → Said
 closed_by course = closed_at course.heard course.line course.end
+
+-- ---- the lines of octets
+-- the line at which a course stands, where it isn't empty
+abbrev pub last_line : List ℕ → List (List ℕ)
+last_line [] = []
+last_line (octet ∷ line) = (octet ∷ line) ∷ []
+
+-- these lines were heard and the last reply was given: this is said in all
+pub record IsParting (dialogue : Dialogue) (ls : List (List ℕ)) (all : Said) : Type 0 where
+  pub heard : Heard
+  pub dialogue_is : heard.dialogue ≡ dialogue
+  pub lines : heard.lines ≡ ls
+  pub says : all ≡ parting heard (last_reply heard)
 
 -- what is said to octets by a dialogue
 abbrev pub talk_of : Dialogue → Talk

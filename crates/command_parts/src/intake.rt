@@ -2,6 +2,7 @@
 ghost use Rattle.std.specs.Prelude.{◌≡◌, ◌≤◌, ℕ, List, [], ◌++◌, length, drop, IfOk, OnOk, OnErr};
 ghost use Rattle.std.specs.Io.KnownBytes.{prepend_known, IsAtEnd};
 ghost use Rattle.octet_io.specs.Faults.{one_more};
+ghost use Rattle.text_lines.specs.Cut.{Lacks};
 
 use octet_io::{ByteSource, Failed};
 use std::marker::Model;
@@ -40,8 +41,8 @@ impl Intake {
         }
     }
 
-    /// Takes octets of an input while nothing waits to be written: whoever waits for an answer has it by then.
-    /// Nothing else reads the input of a conversation.
+    /// Takes octets of an input while nothing waits to be written and no whole line is unheard: whoever waits for an
+    /// answer has it by then. Nothing else reads the input of a conversation.
     pub(crate) fn take_quiet<S: ByteSource>(
         &mut self,
         source: &mut S,
@@ -49,6 +50,7 @@ impl Intake {
     ) -> Result<usize, Failed>
         requires quiet { block.now ≡ [] }
         requires room { length self.old ≤ 262144 }
+        requires whole { Lacks 10 self.old }
         ensures took { IfOk result (λ n. (piece : List ℕ) × (length piece ≡ n)
             × (length piece ≤ 262145) × (self.new ≡ self.old ++ piece)
             × (S.left source.old ≡ prepend_known piece (S.left source.new))) }

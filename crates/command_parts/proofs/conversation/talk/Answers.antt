@@ -26,6 +26,11 @@ loop-n-init g c =
       few_behind = inl (omega (arith, size));
     }
 
+-- ---- more is read
+pub take_quiet-requires-clause-whole : goal.take_quiet-requires-clause-whole
+take_quiet-requires-clause-whole g c =
+    let (all, heard, going) = c.loop-n.invariant.going in going.lacks
+
 -- ---- the call of the source failed
 pub returns-in-Err : goal.returns-in-Err
 returns-in-Err g c =

@@ -1,6 +1,16 @@
--- A dialogue is a conversation.
+-- A dialogue is a conversation, and what it has heard are lines.
+use Rattle.command_parts.proofs.CourseLaws.{dialogue_closed, dialogue_course}
 use Rattle.command_parts.proofs.IsTalkLaws.{dialogue_talks}
 use Rattle.command_parts.proofs.dialogue_laws.dialogue_law.Goals as goal
 
-pub returns : goal.returns
-returns c = dialogue_talks
+pub returns-clause-talk : goal.returns-clause-talk
+returns-clause-talk c = dialogue_talks
+
+pub returns-clause-heard : goal.returns-clause-heard
+returns-clause-heard c = λ dialogue octets none. (dialogue_course dialogue octets).all none
+
+pub returns-clause-first : goal.returns-clause-first
+returns-clause-first c = λ dialogue octets. (dialogue_course dialogue octets).first
+
+pub returns-clause-closed : goal.returns-clause-closed
+returns-clause-closed c = dialogue_closed
