@@ -6,8 +6,8 @@ pub use Rattle.walk_engine.specs.walk_core.Moved.{GivesRows, Walked, answer_by, 
 pub use Rattle.walk_engine.specs.walk_core.Moved.{refusal_in_event, refusal_of_item}
 pub use Rattle.walk_engine.specs.walk_core.Opened.{AreOpened, AreRings, HasWindows, IsAlike, IsNew, IsNewGather}
 pub use Rattle.walk_engine.specs.walk_core.Opened.{IsNewSink, IsOpened}
-pub use Rattle.walk_engine.specs.walk_core.Live.{AgreesNow, IsLegOver, IsLive, IsReady, IsWalk, Live, LiveMakes, LiveFinishes}
-pub use Rattle.walk_engine.specs.walk_core.Live.{LiveRounds, LiveStands, live_counts, live_of}
+pub use Rattle.walk_engine.specs.walk_core.Live.{AgreesNow, IsLegOver, IsLive, IsReady, IsWalk, Walking, LiveMakes, LiveFinishes}
+pub use Rattle.walk_engine.specs.walk_core.Live.{LiveRounds, LiveStands, walking_counts, walking_of}
 pub use Rattle.walk_engine.specs.walk_core.Parts.{HasBack, HasCounted, HasLanded, HasLine, HasLines, HasSent, HasSource}
 pub use Rattle.walk_engine.specs.walk_core.Parts.{Parts, StandsForSome, calls_on, counts_of, frame_in, line_counts}
 pub use Rattle.walk_engine.specs.walk_core.Parts.{AgreesAt, calls_of, windows_in, windows_of, windows_on}

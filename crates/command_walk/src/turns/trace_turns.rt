@@ -20,12 +20,11 @@ ghost use Rattle.command_walk.specs.Told.{events_of, IsTurn, IsTold};
 
 use crate::turns::next_turns::TurnsLeft;
 use crate::turns::ready_walk::LinesAndTicks;
-use fate_walks::walk_fates::is_step;
 use law_model::{Event, EventLine, FrameOut};
 use octet_io::{ByteSink, Failed, put_all, take_back};
 use text_captures::packet_trace::{TRACE_ROOM, trace_line};
 use text_got::{GotLines, MayFail};
-use walk_engine::walk_core::Walk;
+use walk_engine::walk_core::{Walk, is_step};
 
 /// Takes frames, and does nothing with them.
 #[derive(Drop)]

@@ -9,4 +9,4 @@ mod seen_rows;
 
 pub use fates_report::{accepted_fate, write_fates};
 pub use frame_places::place_frames;
-pub use seen_rows::{SeenRows, SeenWalk, is_step, nothing_seen, see_since};
+pub use seen_rows::{SeenRows, SeenWalk, nothing_seen, see_since};

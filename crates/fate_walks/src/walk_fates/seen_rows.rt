@@ -11,7 +11,7 @@ ghost use Rattle.fate_walks.specs.walk_fates.Seen.{Sees};
 
 use fate_engine::fate_core::{Packets, Ruler, Segments, SpoiledRuns, row_cause};
 use std::alloc::{AllocError, Global};
-use walk_engine::walk_core::Walk;
+use walk_engine::walk_core::{Walk, is_step};
 
 /// What was seen of the packets and rows of a walk.
 #[derive(Drop)]
@@ -31,16 +31,6 @@ pub struct SeenWalk {
     pub rows: SeenRows,
     /// Where the pieces of its accepted frames lie.
     pub ruler: Ruler,
-}
-
-/// Whether a decision step was made since a number of ticks, after which one more was made at most.
-pub fn is_step(before: u32, now: u32) -> bool
-    requires least { before ≤ now }
-    requires most { now ≤ before + 1 }
-    ensures yes { OnTrue result (steps_in now ≡ steps_in before + 1) }
-    ensures no { OnFalse result (steps_in now ≡ steps_in before) }
-{
-    now != before && now % 16 == 9
 }
 
 /// Whether a row is the last one of a control packet.

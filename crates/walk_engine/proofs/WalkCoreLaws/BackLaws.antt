@@ -17,7 +17,7 @@ use Rattle.law_walk.specs.Common.{walk_plan, IsWalked, said_packet, back_cell, r
 use Rattle.law_walk.proofs.PlanLaws.{has-plan, sound-walks}
 use Rattle.law_walk.proofs.ReturnLaws as return_laws
 use Rattle.walk_engine.specs.Common.{Return, path_of, packet_cell, come, and_moved, moved_by, answer_by, moved_of}
-use Rattle.walk_engine.specs.Common.{counts_after, Parts, counts_of, HasBack, LiveStands, live_of}
+use Rattle.walk_engine.specs.Common.{counts_after, Parts, counts_of, HasBack, LiveStands, walking_of}
 use Rattle.walk_engine.specs.declared.walk_core.step_answers.StepNote.{StepNote}
 use Rattle.walk_engine.specs.declared.walk_core.step_answers.Moved.TheVariants.{Yes, Stalled}
 use Rattle.terminal_group.specs.Inbox.{Inbox, with_come, is_lost_in}
@@ -148,7 +148,7 @@ no-packet [] there = refl
 no-packet (packet ∷ ring) there = absurd cc
 
 module _ (leg : Leg) (parts : Parts) (ring : List Packet) (last : Option StepNote)
-    (is : LiveStands leg (live_of parts ring last)) where
+    (is : LiveStands leg (walking_of parts ring last)) where
   pub inbox-room : length parts.source.inbox.cells < parts.source.inbox.room
   inbox-room =
       let s : Counts = counts_of parts parts.source.inbox.come in
@@ -200,7 +200,7 @@ module _ (leg : Leg) (parts : Parts) (ring : List Packet) (last : Option StepNot
     pub back-yes : Yes ≡ moved_of leg (counts_of parts parts.source.inbox.come) Back
     back-yes = moves.1
 
-    pub back-kept : LiveStands leg (live_of (record parts
+    pub back-kept : LiveStands leg (walking_of (record parts
         { source = record parts.source { inbox = with_come parts.source.inbox cell } }) rest last)
     back-kept = record {
       stands = stands-back leg parts.source.inbox.come (parts.source.inbox.come + 1) parts

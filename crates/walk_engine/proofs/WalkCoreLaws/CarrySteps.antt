@@ -10,7 +10,7 @@ use Rattle.law_model.specs.declared.walk_events.StallCause.{StallCause}
 use Rattle.law_walk.specs.Common.{path_on, walk_plan}
 use Rattle.law_walk.proofs.PlanLaws.{has-paths, sound-walks}
 use Rattle.walk_engine.specs.Common.{Ringed, ring_of, Makes, Parts, frame_in, line_counts, HasLine, carry_cause}
-use Rattle.walk_engine.specs.Common.{Live, LiveStands, CanCarry, IsKnownOn, IsSentOn, IsCarriedAt, windows_in}
+use Rattle.walk_engine.specs.Common.{Walking, LiveStands, CanCarry, IsKnownOn, IsSentOn, IsCarriedAt, windows_in}
 use Rattle.walk_engine.specs.declared.walk_core.step_answers.Moved.TheVariants.{Yes, Stalled}
 use Rattle.walk_engine.specs.walk_core.Parts.{WayStands}
 use Rattle.walk_engine.specs.walk_core.Carry.{HasReceiveRoom}
@@ -122,7 +122,7 @@ pub paths-size : (leg : Leg) → IsSound leg → length (walk_plan leg).paths �
 paths-size leg sound = has-paths leg (sound-walks leg sound) ∙ sound.network.windows_each
 
 -- a walk of which a line has carried, or stalled
-pub carried-live : (leg : Leg) (was : Live) (now : Parts) → LiveStands leg was →
+pub carried-live : (leg : Leg) (was : Walking) (now : Parts) → LiveStands leg was →
     WayStands leg was.way.source.inbox.come now → now ≡ record was.way { sent = now.sent; lines = now.lines } →
     LiveStands leg (record was { way = now })
 carried-live leg was now is stands rest =

@@ -10,7 +10,7 @@ use Rattle.law_model.specs.members.Damage.{carried}
 use Rattle.member_path.specs.path_delay.Line.{with_windows}
 use Rattle.member_rows.proofs.RealignRowsLaws.GatherLaws.{set-here}
 use Rattle.law_walk.specs.Common.{IsWalked, walk_plan}
-use Rattle.walk_engine.specs.Common.{Has, HasCounted, HasLine, HasSent, HasSource, Live, LiveStands, Parts}
+use Rattle.walk_engine.specs.Common.{Has, HasCounted, HasLine, HasSent, HasSource, Walking, LiveStands, Parts}
 use Rattle.walk_engine.specs.Common.{AgreesAt, HasBack, Ringed, calls_of, calls_on, counts_of, line_counts, path_of, ring_of}
 use Rattle.walk_engine.specs.Common.{windows_in, windows_of, windows_on}
 use Rattle.walk_engine.specs.walk_core.Parts.{HasSink, WayStands}
@@ -108,7 +108,7 @@ module _ (leg : Leg) (backs : ℕ) (parts : Parts) (is : WayStands leg backs par
       }
 
 -- a walk of which a line has other windows
-pub damaged-live : (leg : Leg) (was : Live) (now : Parts) → LiveStands leg was →
+pub damaged-live : (leg : Leg) (was : Walking) (now : Parts) → LiveStands leg was →
     WayStands leg was.way.source.inbox.come now → now ≡ record was.way { lines = now.lines } →
     counts_of now was.way.source.inbox.come ≡ counts_of was.way was.way.source.inbox.come →
     LiveStands leg (record was { way = now })

@@ -41,7 +41,7 @@ use Rattle.terminal_group.proofs.LandsLaws.{place_by, numbered, next_by, next-co
 use Rattle.terminal_group.proofs.LandsLaws.{bare-due, next-there, offer-here, order-here, Leaves, leaves}
 use Rattle.walk_engine.specs.Common.{path_of, stall_by, landing_of, answer_by, moved_of, counts_after, Parts, counts_of}
 use Rattle.walk_engine.specs.Common.{note_of, HasSent, HasBack, HasCounted, HasLanded, line_counts, told_leg, next_in}
-use Rattle.walk_engine.specs.Common.{told_scenario, Makes, IsDue, Live, LiveStands, live_counts, refusal_in_event}
+use Rattle.walk_engine.specs.Common.{told_scenario, Makes, IsDue, Walking, LiveStands, walking_counts, refusal_in_event}
 use Rattle.walk_engine.specs.Common.{refusal_of_item}
 use Rattle.walk_engine.specs.declared.walk_core.step_answers.Moved.TheVariants.{Stalled}
 use Rattle.walk_engine.specs.walk_core.Parts.{WayStands}
@@ -507,14 +507,14 @@ abbrev inbox_at : Leg → ℕ → ℕ → List BackCell
 inbox_at leg ticks backs =
     map (back_cell leg) (range_with_len (used_in leg.config.lag ticks) (backs - used_in leg.config.lag ticks))
 
-pub landed-live : (leg : Leg) (was : Live) (now : Parts) → LiveStands leg was →
+pub landed-live : (leg : Leg) (was : Walking) (now : Parts) → LiveStands leg was →
     WayStands leg was.way.source.inbox.come now → now.source.core.ticks ≡ was.way.source.core.ticks →
     now.source.inbox ≡ was.way.source.inbox → now ≡ record was.way { source = now.source } →
     LiveStands leg (record was { way = now })
 landed-live leg was now is stands ticks inbox rest =
     let parts : Parts = was.way in
     let whole : Parts = record parts { source = now.source } in
-    let s : Counts = live_counts was in
+    let s : Counts = walking_counts was in
     let come : now.source.inbox.come ≡ parts.source.inbox.come = ap (λ (i : Inbox). i.come) inbox in
     let back : HasBack leg s (path_of was.ring now.source.inbox) =
     subst (λ (i : Inbox). HasBack leg s (path_of was.ring i)) (sym inbox) is.back in

@@ -34,7 +34,7 @@ use Rattle.terminal_group.specs.Source.{IsUnusedCore}
 use Rattle.walk_engine.specs.Common.{path_of, Ringed, ring_of, Has, IsOpened, AreOpened, AreRings, IsNewSink}
 use Rattle.walk_engine.specs.Common.{IsNewGather, IsNew, IsAlike, Parts, frame_in, HasSource, HasSent, HasLines}
 use Rattle.walk_engine.specs.Common.{HasBack, HasCounted, HasLanded, counts_of, line_counts, calls_on, note_of}
-use Rattle.walk_engine.specs.Common.{HasWindows, LiveStands, live_of, told_scenario, windows_in}
+use Rattle.walk_engine.specs.Common.{HasWindows, LiveStands, walking_of, told_scenario, windows_in}
 use Rattle.walk_engine.specs.declared.walk_core.open_way.Opened.{Opened}
 use Rattle.walk_engine.specs.walk_core.Parts.{WayStands}
 
@@ -349,7 +349,7 @@ module _ (leg : Leg) (config : Config) (all : Opened) (new : IsNew config all) (
 pub new-live : (leg : Leg) (parts : Parts) (ring : List Packet) → WayStands leg 0 parts →
     counts_of parts 0 ≡ begin (walk_plan leg) → leg.tells ≡ [] →
     parts.source.inbox ≡ empty_inbox leg.config.lost leg.config.lag → ring ≡ [] →
-    LiveStands leg (live_of parts ring None)
+    LiveStands leg (walking_of parts ring None)
 new-live leg parts ring stands begins quiet empty none =
     let come : parts.source.inbox.come ≡ 0 = ap (λ (i : Inbox). i.come) empty in
     let ticks : parts.source.core.ticks ≡ 0 = ap (λ (s : Counts). s.ticks) begins in

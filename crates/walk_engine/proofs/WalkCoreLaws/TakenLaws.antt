@@ -36,7 +36,7 @@ use Rattle.law_walk.proofs.ReturnLaws.{packet-said, packets-next, ring-says}
 use Rattle.law_walk.proofs.FrameLaws.{frames-received, frames-grow}
 use Rattle.walk_engine.specs.Common.{listed, Ringed, answer_by, moved_of, counts_after, delivered_since, GivesRows}
 use Rattle.walk_engine.specs.Common.{AgreesAt, Parts, HasSent, counts_of, line_counts, said_at, take_by, Takes, windows_in}
-use Rattle.walk_engine.specs.Common.{Live, LiveStands, live_counts, live_of, take_cause, CanPop, HasPopped, CanTake, HasRow}
+use Rattle.walk_engine.specs.Common.{Walking, LiveStands, walking_counts, walking_of, take_cause, CanPop, HasPopped, CanTake, HasRow}
 use Rattle.walk_engine.specs.declared.walk_core.step_answers.StepNote.{StepNote}
 use Rattle.walk_engine.specs.declared.walk_core.step_answers.Moved.TheVariants.{Stalled}
 use Rattle.walk_engine.specs.walk_core.Parts.{WayStands}
@@ -390,14 +390,14 @@ module _ (leg : Leg) (backs : ℕ) (parts : Parts) (is : WayStands leg backs par
             }
 
 -- ---- of a walk: why no row is taken, and the return packet that is said
-pub is-free : (leg : Leg) (was now : Live) → LiveStands leg was → was ≡ now →
-    take_cause now.way.source.total (live_counts now) ≡ None → None ≡ take_cause leg.config.ticks (live_counts was)
+pub is-free : (leg : Leg) (was now : Walking) → LiveStands leg was → was ≡ now →
+    take_cause now.way.source.total (walking_counts now) ≡ None → None ≡ take_cause leg.config.ticks (walking_counts was)
 is-free leg was now is same free =
-    sym (ap (λ n. take_cause n (live_counts was)) (sym is.stands.total)
-    ∙ ap (λ (w : Live). take_cause w.way.source.total (live_counts w)) same ∙ free)
+    sym (ap (λ n. take_cause n (walking_counts was)) (sym is.stands.total)
+    ∙ ap (λ (w : Walking). take_cause w.way.source.total (walking_counts w)) same ∙ free)
 
 module _ (leg : Leg) (parts : Parts) (ring : List Packet) (last : Option StepNote)
-    (is : LiveStands leg (live_of parts ring last)) where
+    (is : LiveStands leg (walking_of parts ring last)) where
   abbrev s : Counts
   s = counts_of parts parts.source.inbox.come
 
@@ -497,11 +497,11 @@ module _ (leg : Leg) (parts : Parts) (ring : List Packet) (last : Option StepNot
           (record parts { lines = now.lines; rows = now.rows; sink = now.sink; got = now.got })
       stands-after = subst (WayStands leg parts.source.inbox.come) rest takes.makes.stands
 
-      pub waits-walk : (line : ℕ) → answer ≡ Waiting line → LiveStands leg (live_of now ring last)
+      pub waits-walk : (line : ℕ) → answer ≡ Waiting line → LiveStands leg (walking_of now ring last)
       waits-walk line e =
           let rows : now.sink.taken ≡ parts.sink.taken = takes.rows ∙ ap (λ a. parts.sink.taken + rows_taken a) e
           ∙ (let z : parts.sink.taken + 0 ≡ parts.sink.taken = omega arith in z) in
-          subst (λ (p : Parts). LiveStands leg (live_of p ring last)) (sym rest) (record {
+          subst (λ (p : Parts). LiveStands leg (walking_of p ring last)) (sym rest) (record {
             stands = stands-after;
             back = record {
               ring = is.back.ring ∙ ap (λ n. map (said_packet leg)
@@ -525,11 +525,11 @@ module _ (leg : Leg) (parts : Parts) (ring : List Packet) (last : Option StepNot
           by-waits (Some line) same = absurd cc
 
       pub taken-walk : (back : Option Packet) (next : List Packet) → answer ≡ Taken back →
-          next ≡ ring ++ listed back → LiveStands leg (live_of now next last)
+          next ≡ ring ++ listed back → LiveStands leg (walking_of now next last)
       taken-walk back next e says =
           let rows : now.sink.taken ≡ parts.sink.taken + 1 =
           takes.rows ∙ ap (λ a. parts.sink.taken + rows_taken a) e in
-          subst (λ (p : Parts). LiveStands leg (live_of p next last)) (sym rest) (record {
+          subst (λ (p : Parts). LiveStands leg (walking_of p next last)) (sym rest) (record {
             stands = stands-after;
             back = record {
               ring = says ∙ ap (λ p. ring ++ listed p) (said-is back e) ∙ said-ring

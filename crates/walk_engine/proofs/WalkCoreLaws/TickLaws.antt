@@ -38,7 +38,7 @@ use Rattle.terminal_sink.specs.sink_core.Core.{Core}
 use Rattle.terminal_group.proofs.SourceLaws.{missing-some}
 use Rattle.walk_engine.specs.Common.{Return, path_of, early_cause, Ringed, answer_by, moved_of, counts_after, Parts}
 use Rattle.walk_engine.specs.Common.{frame_in, HasSource, HasSent, HasBack, HasCounted, counts_of, line_counts, note_of}
-use Rattle.walk_engine.specs.Common.{told_scenario, AgreesAt, LiveStands, live_of, Makes, with_passed, CanTick, windows_in}
+use Rattle.walk_engine.specs.Common.{told_scenario, AgreesAt, LiveStands, walking_of, Makes, with_passed, CanTick, windows_in}
 use Rattle.walk_engine.specs.declared.walk_core.step_answers.StepNote.{StepNote}
 use Rattle.walk_engine.specs.declared.walk_core.step_answers.Moved.TheVariants.{Yes, Stalled}
 use Rattle.walk_engine.specs.walk_core.Parts.{WayStands}
@@ -540,7 +540,7 @@ module _ (leg : Leg) (backs : ℕ) (parts : Parts) (is : WayStands leg backs par
 
 -- ---- of a walk
 module _ (leg : Leg) (parts : Parts) (ring : List Packet) (last : Option StepNote)
-    (is : LiveStands leg (live_of parts ring last)) where
+    (is : LiveStands leg (walking_of parts ring last)) where
   abbrev s : Counts
   s = counts_of parts parts.source.inbox.come
 
@@ -620,7 +620,7 @@ module _ (leg : Leg) (parts : Parts) (ring : List Packet) (last : Option StepNot
         pub tick-come : now.source.inbox.come ≡ parts.source.inbox.come
         tick-come = ap (λ (i : Inbox). i.come) boxed
 
-        pub tick-live : LiveStands leg (live_of now ring note)
+        pub tick-live : LiveStands leg (walking_of now ring note)
         tick-live =
             let sunk : now.sink ≡ parts.sink = ap (λ (p : Parts). p.sink) rest in
             record {

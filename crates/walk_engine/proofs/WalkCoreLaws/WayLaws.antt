@@ -9,8 +9,8 @@ use Rattle.terminal_group.specs.Counted.{Counted, missing_from}
 use Rattle.terminal_group.specs.Source.{missing_by}
 use Rattle.terminal_group.specs.Landed.{Landed}
 use Rattle.terminal_group.specs.declared.landed_counts.LandedCounts.{LandedCounts}
-use Rattle.walk_engine.specs.Common.{IsLive, IsWalk, Live, LiveMakes, LiveStands, Makes, Parts, StandsForSome, Takes}
-use Rattle.walk_engine.specs.Common.{AgreesAt, live_counts, windows_in}
+use Rattle.walk_engine.specs.Common.{IsLive, IsWalk, Walking, LiveMakes, LiveStands, Makes, Parts, StandsForSome, Takes}
+use Rattle.walk_engine.specs.Common.{AgreesAt, walking_counts, windows_in}
 use Rattle.walk_engine.proofs.WalkCoreLaws.EventLaws.{landing-stays}
 use Rattle.walk_engine.specs.declared.walk_core.step_answers.Moved.{Moved}
 
@@ -24,27 +24,27 @@ pub takes-from : (leg : Leg) (backs : ℕ) (was old now : Parts) (answer : TakeA
 takes-from leg backs was old now answer same takes =
     subst (λ (p : Parts). Takes leg backs p now answer) same takes
 
-pub live-from : (leg : Leg) (event : Event) (was old now : Live) (answer : Moved) → was ≡ old →
+pub live-from : (leg : Leg) (event : Event) (was old now : Walking) (answer : Moved) → was ≡ old →
     LiveMakes leg event was now answer → LiveMakes leg event old now answer
 live-from leg event was old now answer same makes =
-    subst (λ (w : Live). LiveMakes leg event w now answer) same makes
+    subst (λ (w : Walking). LiveMakes leg event w now answer) same makes
 
 -- it stands for some leg, as it is read
-pub is-live : (was now : Live) → was ≡ now → IsLive now → IsLive was
+pub is-live : (was now : Walking) → was ≡ now → IsLive now → IsLive was
 is-live was now same (leg, stands) = (leg, subst (LiveStands leg) (sym same) stands)
 
 -- its direction stands for some leg
-pub way-stands : (live : Live) → IsLive live → StandsForSome live.way
+pub way-stands : (live : Walking) → IsLive live → StandsForSome live.way
 way-stands live (leg, stands) = (leg, live.way.source.inbox.come, stands.stands)
 
 -- a walk that has moved, where no item has landed
-pub walk-moved : (leg : Leg) (was now : Live) (landing : Landed) → IsWalk leg was landing → LiveStands leg now →
+pub walk-moved : (leg : Leg) (was now : Walking) (landing : Landed) → IsWalk leg was landing → LiveStands leg now →
     now.way.source.landed ≡ was.way.source.landed → windows_in now.way.lines ≡ windows_in was.way.lines →
     IsWalk leg now landing
 walk-moved leg was now landing is stands same windows = record {
   stands = stands;
   known = λ t. subst (AgreesAt leg t) (sym windows) (is.known t);
-  landed = landing-stays leg (live_counts was) (live_counts now) landing
+  landed = landing-stays leg (walking_counts was) (walking_counts now) landing
       (ap (λ (l : LandedCounts). l.frames) same) (ap (λ (l : LandedCounts). l.commands) same) is.landed;
 }
 

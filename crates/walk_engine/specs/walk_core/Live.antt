@@ -16,17 +16,17 @@ use Rattle.walk_engine.specs.walk_core.Parts.{AgreesAt, windows_in}
 use Rattle.walk_engine.specs.walk_core.Way.{IsNoneHeld}
 
 -- its direction; the return packets that were said and haven't come; the last decision step
-pub record Live : Type 0 where
+pub record Walking : Type 0 where
   pub way : Parts
   pub ring : List Packet
   pub last : Option StepNote
 
-abbrev pub live_of : Parts → List Packet → Option StepNote → Live
-live_of way ring last = record { way = way; ring = ring; last = last }
+abbrev pub walking_of : Parts → List Packet → Option StepNote → Walking
+walking_of way ring last = record { way = way; ring = ring; last = last }
 
 -- the counts: each return packet that has come is in the inbox, or was taken from it
-abbrev pub live_counts : Live → Counts
-live_counts live = counts_of live.way live.way.source.inbox.come
+abbrev pub walking_counts : Walking → Counts
+walking_counts live = counts_of live.way live.way.source.inbox.come
 
 -- a leg over a network, whatever lands in it and whenever its lines are damaged; its packets tell nothing
 pub record IsLegOver (config : Config) (leg : Leg) : Type 0 where
@@ -36,43 +36,43 @@ pub record IsLegOver (config : Config) (leg : Leg) : Type 0 where
 
 -- it stands for a leg: so the leg went, as far as its counts say. Many legs may have gone so, which differ in what comes
 -- later
-pub record LiveStands (leg : Leg) (live : Live) : Type 0 where
+pub record LiveStands (leg : Leg) (live : Walking) : Type 0 where
   pub stands : WayStands leg live.way.source.inbox.come live.way
-  pub back : HasBack leg (live_counts live) (path_of live.ring live.way.source.inbox)
+  pub back : HasBack leg (walking_counts live) (path_of live.ring live.way.source.inbox)
   pub noted : live.last ≡ note_of leg (last_packet live.way.source.core.ticks)
   pub quiet : leg.tells ≡ []
 
 -- it stands for some leg
-abbrev pub IsLive : Live → Type 0
+abbrev pub IsLive : Walking → Type 0
 IsLive live = (leg : Leg) × LiveStands leg live
 
 -- of the containers that are made next, its lines' windows say what the leg's do
-abbrev pub AgreesNow : Leg → Live → Type 0
+abbrev pub AgreesNow : Leg → Walking → Type 0
 AgreesNow leg live = AgreesAt leg live.way.source.core.ticks (windows_in live.way.lines)
 
 -- and nothing that is due now is held in it
-abbrev pub IsReady : Live → Type 0
-IsReady live = (leg : Leg) × LiveStands leg live × IsNoneHeld leg (live_counts live) × AgreesNow leg live
+abbrev pub IsReady : Walking → Type 0
+IsReady live = (leg : Leg) × LiveStands leg live × IsNoneHeld leg (walking_counts live) × AgreesNow leg live
 
 -- an event in a leg answers as its counts say, and leaves what they give
-pub record LiveMakes (leg : Leg) (event : Event) (was now : Live) (answer : Moved) : Type 0 where
+pub record LiveMakes (leg : Leg) (event : Event) (was now : Walking) (answer : Moved) : Type 0 where
   pub stands : LiveStands leg now
-  pub counts : live_counts now ≡ counts_after leg (live_counts was) event
-  pub moved : answer ≡ moved_of leg (live_counts was) event
+  pub counts : walking_counts now ≡ counts_after leg (walking_counts was) event
+  pub moved : answer ≡ moved_of leg (walking_counts was) event
 
 -- each line was tried once, the return path, and a row
-pub record LiveFinishes (leg : Leg) (was now : Live) : Type 0 where
+pub record LiveFinishes (leg : Leg) (was now : Walking) : Type 0 where
   pub stands : LiveStands leg now
-  pub counts : live_counts now ≡ run (walk_plan leg) (live_counts was) (carries_from 0 (walk_plan leg).paths)
+  pub counts : walking_counts now ≡ run (walk_plan leg) (walking_counts was) (carries_from 0 (walk_plan leg).paths)
 
 -- and a tick before them
-pub record LiveRounds (leg : Leg) (was now : Live) : Type 0 where
+pub record LiveRounds (leg : Leg) (was now : Walking) : Type 0 where
   pub stands : LiveStands leg now
-  pub counts : live_counts now
-      ≡ run (walk_plan leg) (live_counts was) (Tick ∷ carries_from 0 (walk_plan leg).paths)
+  pub counts : walking_counts now
+      ≡ run (walk_plan leg) (walking_counts was) (Tick ∷ carries_from 0 (walk_plan leg).paths)
 
 -- a walk of a leg of which all items and all windows are known
-pub record IsWalk (leg : Leg) (live : Live) (landing : Landed) : Type 0 where
+pub record IsWalk (leg : Leg) (live : Walking) (landing : Landed) : Type 0 where
   pub stands : LiveStands leg live
   pub known : (t : ℕ) → AgreesAt leg t (windows_in live.way.lines)
-  pub landed : HasLanded leg (live_counts live) landing
+  pub landed : HasLanded leg (walking_counts live) landing

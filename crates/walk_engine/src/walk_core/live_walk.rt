@@ -11,7 +11,7 @@ ghost use Rattle.terminal_group.specs.Item.{kind_of};
 ghost use Rattle.terminal_group.specs.Counted.{missing_from};
 ghost use Rattle.walk_engine.specs.walk_core.Landing.{landing_of};
 ghost use Rattle.walk_engine.specs.walk_core.Live.{AgreesNow, IsLegOver, IsLive, IsReady, LiveMakes, LiveFinishes};
-ghost use Rattle.walk_engine.specs.walk_core.Live.{LiveRounds, LiveStands, live_counts};
+ghost use Rattle.walk_engine.specs.walk_core.Live.{LiveRounds, LiveStands, walking_counts};
 ghost use Rattle.walk_engine.specs.walk_core.Moved.{answer_by, refusal_in_event, GivesRows};
 ghost use Rattle.walk_engine.specs.walk_core.Opened.{HasWindows};
 ghost use Rattle.walk_engine.specs.walk_core.Parts.{note_of, windows_in};
@@ -53,9 +53,9 @@ impl Drop for LiveWalk {
 }
 
 impl Model for LiveWalk {
-    ghost use Rattle.walk_engine.specs.walk_core.Live.{Live};
+    ghost use Rattle.walk_engine.specs.walk_core.Live.{Walking};
 
-    ghost Value = { Live };
+    ghost Value = { Walking };
 
     ghost view = { λ w. record { way = w.way; ring = w.ring; last = w.last } };
 }
@@ -68,7 +68,7 @@ impl LiveWalk {
         ensures stands { IfOk result (λ live. (leg : Leg) → IsLegOver config.now leg →
             LiveStands leg live) }
         ensures counts { IfOk result (λ live. (leg : Leg) → IsLegOver config.now leg →
-            live_counts live ≡ begin (walk_plan leg)) }
+            walking_counts live ≡ begin (walk_plan leg)) }
         ensures windows { IfOk result (λ live. HasWindows config.now live.way.lines) }
     {
         let ring = ReturnRing::new(alloc)?;
@@ -83,12 +83,12 @@ impl LiveWalk {
     /// Lands an item now. Answers why it is refused, where it is.
     pub fn say(&mut self, item: ItemRef) -> Option<Refusal>
         ensures makes { (leg : Leg) → LiveStands leg self.old →
-            IsDue leg (live_counts self.old) (kind_of item.entry) →
+            IsDue leg (walking_counts self.old) (kind_of item.entry) →
             LiveMakes leg (landing_of (is_client (kind_of item.entry)))
             self.old self.new (answer_by None result) }
         ensures refusal { (leg : Leg) → LiveStands leg self.old →
-            IsDue leg (live_counts self.old) (kind_of item.entry) →
-            result ≡ refusal_in_event leg (live_counts self.old)
+            IsDue leg (walking_counts self.old) (kind_of item.entry) →
+            result ≡ refusal_in_event leg (walking_counts self.old)
             (landing_of (is_client (kind_of item.entry))) }
         ensures windows { windows_in self.new.way.lines ≡ windows_in self.old.way.lines }
     {
@@ -102,12 +102,12 @@ impl LiveWalk {
         requires ready { IsReady self.old }
         requires left { self.old.way.source.core.ticks < self.old.way.source.total }
         ensures rounds { (leg : Leg) → LiveStands leg self.old →
-            IsNoneHeld leg (live_counts self.old) → AgreesNow leg self.old →
+            IsNoneHeld leg (walking_counts self.old) → AgreesNow leg self.old →
             LiveRounds leg self.old self.new }
         ensures gives { (leg : Leg) → LiveStands leg self.old →
-            IsNoneHeld leg (live_counts self.old) → AgreesNow leg self.old →
+            IsNoneHeld leg (walking_counts self.old) → AgreesNow leg self.old →
             GivesRows F.stands_for out.old out.new leg
-            (live_counts self.old).rows (live_counts self.new).rows }
+            (walking_counts self.old).rows (walking_counts self.new).rows }
         ensures windows { windows_in self.new.way.lines ≡ windows_in self.old.way.lines }
     {
         let _ = self.tick();
@@ -121,14 +121,14 @@ impl LiveWalk {
         requires live { IsLive self.old }
         requires few { length (slice_index_or (windows_in self.old.way.lines) line []) < 256 }
         requires after { last_end (slice_index_or (windows_in self.old.way.lines) line [])
-            ≤ (live_counts self.old).ticks }
-        requires left { (live_counts self.old).ticks < self.old.way.source.total }
+            ≤ (walking_counts self.old).ticks }
+        requires left { (walking_counts self.old).ticks < self.old.way.source.total }
         ensures stands { (leg : Leg) → LiveStands leg self.old → LiveStands leg self.new }
-        ensures counts { live_counts self.new ≡ live_counts self.old }
+        ensures counts { walking_counts self.new ≡ walking_counts self.old }
         ensures windows { windows_in self.new.way.lines
             ≡ slice_set (windows_in self.old.way.lines) line
             (opened_at (slice_index_or (windows_in self.old.way.lines) line [])
-            (live_counts self.old).ticks self.old.way.source.total) }
+            (walking_counts self.old).ticks self.old.way.source.total) }
     {
         self.way.cut(line);
     }
@@ -138,13 +138,13 @@ impl LiveWalk {
         requires line { line < length self.old.way.lines }
         requires live { IsLive self.old }
         requires cut { CanClose (slice_index_or (windows_in self.old.way.lines) line [])
-            (live_counts self.old).ticks }
+            (walking_counts self.old).ticks }
         ensures stands { (leg : Leg) → LiveStands leg self.old → LiveStands leg self.new }
-        ensures counts { live_counts self.new ≡ live_counts self.old }
+        ensures counts { walking_counts self.new ≡ walking_counts self.old }
         ensures windows { windows_in self.new.way.lines
             ≡ slice_set (windows_in self.old.way.lines) line
             (closed_at (slice_index_or (windows_in self.old.way.lines) line [])
-            (live_counts self.old).ticks) }
+            (walking_counts self.old).ticks) }
     {
         self.way.mend(line);
     }
@@ -159,14 +159,14 @@ impl LiveWalk {
 
     /// How many ticks were made.
     pub fn ticks(&self) -> u32
-        ensures { result ≡ (live_counts self.now).ticks }
+        ensures { result ≡ (walking_counts self.now).ticks }
     {
         self.way.ticks()
     }
 
     /// How many rows were taken.
     pub fn taken(&self) -> u32
-        ensures { result ≡ (live_counts self.now).rows }
+        ensures { result ≡ (walking_counts self.now).rows }
     {
         self.way.taken()
     }
@@ -174,7 +174,7 @@ impl LiveWalk {
     /// What came of the walk so far, in numbers.
     pub fn totals(&self) -> Totals
         ensures { (leg : Leg) → LiveStands leg self.now →
-            result ≡ totals_of leg (live_counts self.now) }
+            result ≡ totals_of leg (walking_counts self.now) }
     {
         self.way.totals()
     }
@@ -183,7 +183,7 @@ impl LiveWalk {
     pub fn last_step(&self) -> Option<StepNote>
         ensures last { result ≡ self.now.last }
         ensures step { (leg : Leg) → LiveStands leg self.now →
-            result ≡ note_of leg (last_packet (live_counts self.now).ticks) }
+            result ≡ note_of leg (last_packet (walking_counts self.now).ticks) }
     {
         self.last
     }
@@ -191,12 +191,12 @@ impl LiveWalk {
     /// The table of the lines after the last decision step and the commands that were accepted since.
     pub fn table(&self) -> &SourceTable
         ensures source { (leg : Leg) → LiveStands leg self.now → result.now.source
-            ≡ source_at (landed_scenario leg (live_counts self.now))
-            (told_before leg (live_counts self.now).ticks)
-            (steps_in (live_counts self.now).ticks) }
+            ≡ source_at (landed_scenario leg (walking_counts self.now))
+            (told_before leg (walking_counts self.now).ticks)
+            (steps_in (walking_counts self.now).ticks) }
         ensures table { (leg : Leg) → LiveStands leg self.now →
-            result.now.source.table ≡ table_in leg (live_counts self.now).ticks }
-        ensures steps { result.now.steps ≡ steps_in (live_counts self.now).ticks }
+            result.now.source.table ≡ table_in leg (walking_counts self.now).ticks }
+        ensures steps { result.now.steps ≡ steps_in (walking_counts self.now).ticks }
     {
         self.way.table()
     }
@@ -208,12 +208,13 @@ impl LiveWalk {
         &self.way
     }
 
-    /// Makes the next frame, where no send ring is full and no return cell is missing.
-    pub(super) fn tick(&mut self) -> Moved
+    /// Tries a tick alone: makes the next frame, where no send ring is full and no return cell is missing. With
+    /// `finish_round` behind it, it is a round.
+    pub fn tick(&mut self) -> Moved
         requires stands { IsLive self.old }
         requires left { self.old.way.source.core.ticks < self.old.way.source.total }
         ensures makes { (leg : Leg) → LiveStands leg self.old →
-            IsNoneHeld leg (live_counts self.old) → AgreesNow leg self.old →
+            IsNoneHeld leg (walking_counts self.old) → AgreesNow leg self.old →
             LiveMakes leg Tick self.old self.new result }
         ensures landed { self.new.way.source.landed ≡ self.old.way.source.landed }
         ensures windows { windows_in self.new.way.lines ≡ windows_in self.old.way.lines }
@@ -265,7 +266,7 @@ impl LiveWalk {
         ensures windows { windows_in self.new.way.lines ≡ windows_in self.old.way.lines }
         ensures gives { (leg : Leg) → LiveStands leg self.old →
             GivesRows F.stands_for out.old out.new leg
-            (live_counts self.old).rows (live_counts self.new).rows }
+            (walking_counts self.old).rows (walking_counts self.new).rows }
     {
         match self.take_stall() {
             Some(cause) => Moved::Stalled(cause),
@@ -273,15 +274,16 @@ impl LiveWalk {
         }
     }
 
-    /// Tries a carry of each line, a return packet and a row, each once.
-    pub(super) fn finish_round<F: FrameOut>(&mut self, out: &mut F)
+    /// Tries a carry of each line, a return packet and a row, each once. Frames that the row delivers are given
+    /// to `out`; by then no more ticks are made than before.
+    pub fn finish_round<F: FrameOut>(&mut self, out: &mut F)
         requires { IsLive self.old }
         ensures finishes { (leg : Leg) → LiveStands leg self.old → LiveFinishes leg self.old self.new }
         ensures landed { self.new.way.source.landed ≡ self.old.way.source.landed }
         ensures windows { windows_in self.new.way.lines ≡ windows_in self.old.way.lines }
         ensures gives { (leg : Leg) → LiveStands leg self.old →
             GivesRows F.stands_for out.old out.new leg
-            (live_counts self.old).rows (live_counts self.new).rows }
+            (walking_counts self.old).rows (walking_counts self.new).rows }
     {
         for line in 0..self.way.lines() {
             let _ = self.carry(line);
@@ -295,8 +297,8 @@ impl LiveWalk {
         requires stands { IsLive self.now }
         requires left { self.now.way.source.core.ticks < self.now.way.source.total }
         ensures cause { (leg : Leg) → LiveStands leg self.now →
-            IsNoneHeld leg (live_counts self.now) →
-            result ≡ (step (walk_plan leg) (live_counts self.now) Tick).cause }
+            IsNoneHeld leg (walking_counts self.now) →
+            result ≡ (step (walk_plan leg) (walking_counts self.now) Tick).cause }
         ensures cell { result ≡ None → missing_from self.now.way.source ≡ None }
     {
         if let Some(line) = self.way.first_full() {
@@ -311,14 +313,14 @@ impl LiveWalk {
     /// Pops the cells of the next row, and takes it where the lines decide it.
     fn take_next<F: FrameOut>(&mut self, out: &mut F) -> Moved
         requires stands { IsLive self.old }
-        requires free { take_cause self.old.way.source.total (live_counts self.old) ≡ None }
+        requires free { take_cause self.old.way.source.total (walking_counts self.old) ≡ None }
         ensures makes { (leg : Leg) → LiveStands leg self.old →
             LiveMakes leg Take self.old self.new result }
         ensures landed { self.new.way.source.landed ≡ self.old.way.source.landed }
         ensures windows { windows_in self.new.way.lines ≡ windows_in self.old.way.lines }
         ensures gives { (leg : Leg) → LiveStands leg self.old →
             GivesRows F.stands_for out.old out.new leg
-            (live_counts self.old).rows (live_counts self.new).rows }
+            (walking_counts self.old).rows (walking_counts self.new).rows }
     {
         match self.way.take(out) {
             TakeAnswer::Waiting { line } => Moved::Stalled(StallCause::Waiting { line }),
@@ -332,7 +334,7 @@ impl LiveWalk {
     /// Why no row is taken and no cell popped.
     fn take_stall(&self) -> Option<StallCause>
         requires { IsLive self.now }
-        ensures { result ≡ take_cause self.now.way.source.total (live_counts self.now) }
+        ensures { result ≡ take_cause self.now.way.source.total (walking_counts self.now) }
     {
         let row = self.way.taken();
         if row >= self.way.total_ticks() {

@@ -18,5 +18,5 @@ mod walk;
 pub use law_model::{Event, StallCause};
 pub use live_walk::LiveWalk;
 pub use one_way::WayCore;
-pub use step_answers::{Moved, StepNote};
+pub use step_answers::{Moved, StepNote, is_step};
 pub use walk::Walk;

@@ -16,7 +16,7 @@ ghost use Rattle.member_path.specs.cell_numbers.Told.{cell_of};
 ghost use Rattle.terminal_group.specs.Item.{bare_items, kind_of};
 ghost use Rattle.terminal_group.specs.Landed.{none_landed};
 ghost use Rattle.walk_engine.specs.walk_core.Landing.{landing_of, early_cause};
-ghost use Rattle.walk_engine.specs.walk_core.Live.{LiveStands, live_counts};
+ghost use Rattle.walk_engine.specs.walk_core.Live.{LiveStands, walking_counts};
 ghost use Rattle.walk_engine.specs.walk_core.Parts.{note_of, windows_in, AgreesAt};
 ghost use Rattle.terminal_sink.specs.marked_delineator.Marks.{first_place};
 
@@ -52,13 +52,13 @@ impl Drop for Walk {
 impl Model for Walk {
     ghost use Rattle.law_model.specs.Common.{leg_of, IsValid};
     ghost use Rattle.walk_engine.specs.walk_core.Moved.{Walked};
-    ghost use Rattle.walk_engine.specs.walk_core.Live.{IsWalk, live_counts};
+    ghost use Rattle.walk_engine.specs.walk_core.Live.{IsWalk, walking_counts};
 
     ghost Value = { Walked };
 
     ghost view = { λ w. record {
       script = w.script;
-      counts = live_counts w.live;
+      counts = walking_counts w.live;
     } };
 
     ghost invariant = { λ w. IsValid w.script × IsWalk (leg_of w.script) w.live w.landing };
@@ -224,7 +224,7 @@ impl Walk {
         requires landing { landing ≡ none_landed (bare_items script.items) }
         requires stands { LiveStands (leg_of script) live }
         requires known { (t : ℕ) → AgreesAt (leg_of script) t (windows_in live.way.lines) }
-        requires counts { live_counts live ≡ begin (walk_plan (leg_of script)) }
+        requires counts { walking_counts live ≡ begin (walk_plan (leg_of script)) }
         ensures script { result.script ≡ script }
         ensures counts { result.counts ≡ begin (walk_plan (leg_of script)) }
     {

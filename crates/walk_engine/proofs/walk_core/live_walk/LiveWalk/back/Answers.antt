@@ -1,7 +1,7 @@
 -- The first return packet is the source's next return cell.
 use Rattle.std.proofs.Common.{List, drop, sym, ◌∙◌, ap, subst}
 use Rattle.law_model.specs.declared.control_packet.Packet.{Packet}
-use Rattle.walk_engine.specs.Common.{Live, LiveStands, Parts, counts_of, live_of, path_of, windows_in}
+use Rattle.walk_engine.specs.Common.{Walking, LiveStands, Parts, counts_of, walking_of, path_of, windows_in}
 use Rattle.walk_engine.proofs.WalkCoreLaws.BackLaws.{back-stays, back-yes, back-counts, back-kept, inbox-room, backs-few}
 use Rattle.walk_engine.proofs.WalkCoreLaws.BackLaws.{no-packet}
 use Rattle.walk_engine.proofs.WalkCoreLaws.WayLaws.{is-live, live-from}
@@ -25,7 +25,7 @@ returns-in-Some-clause-makes c leg stands =
     let is = subst (LiveStands leg) (sym c.self.view_is) stands in
     let there = sym c.in-Some.is ∙ c.pop.ensures.cell in
     live-from leg _ _ _ _ _ c.self.view_is (record {
-      stands = subst (λ (p : Parts). LiveStands leg (live_of p c.pop.new.self f.last)) (sym c.put.ensures)
+      stands = subst (λ (p : Parts). LiveStands leg (walking_of p c.pop.new.self f.last)) (sym c.put.ensures)
           (back-kept leg f.way f.ring f.last is c.pop.new.self c.in-Some.cell there c.pop.ensures.rest);
       counts = ap (λ (p : Parts). counts_of p p.source.inbox.come) c.put.ensures
           ∙ back-counts leg f.way f.ring f.last is c.pop.new.self c.in-Some.cell there c.pop.ensures.rest;
@@ -34,7 +34,7 @@ returns-in-Some-clause-makes c leg stands =
 
 pub returns-in-Some-clause-landed : goal.returns-in-Some-clause-landed
 returns-in-Some-clause-landed c =
-    ap (λ (p : Parts). p.source.landed) c.put.ensures ∙ ap (λ (w : Live). w.way.source.landed) c.self.view_is
+    ap (λ (p : Parts). p.source.landed) c.put.ensures ∙ ap (λ (w : Walking). w.way.source.landed) c.self.view_is
 
 pub returns-in-None-clause-makes : goal.returns-in-None-clause-makes
 returns-in-None-clause-makes c leg stands =
@@ -44,17 +44,17 @@ returns-in-None-clause-makes c leg stands =
     let stays = back-stays leg (counts_of f.way f.way.source.inbox.come) (path_of f.ring f.way.source.inbox) is.back
     none in
     live-from leg _ _ _ _ _ c.self.view_is (record {
-      stands = subst (λ (r : List Packet). LiveStands leg (live_of f.way r f.last))
+      stands = subst (λ (r : List Packet). LiveStands leg (walking_of f.way r f.last))
           (sym (c.pop.ensures.rest ∙ ap (drop 1) none ∙ sym none)) is;
       counts = stays.0;
       moved = stays.1;
     })
 
 pub returns-in-None-clause-landed : goal.returns-in-None-clause-landed
-returns-in-None-clause-landed c = ap (λ (w : Live). w.way.source.landed) c.self.view_is
+returns-in-None-clause-landed c = ap (λ (w : Walking). w.way.source.landed) c.self.view_is
 
 pub returns-in-Some-clause-windows : goal.returns-in-Some-clause-windows
-returns-in-Some-clause-windows c = ap (λ (p : Parts). windows_in p.lines) c.put.ensures ∙ ap (λ (w : Live). windows_in w.way.lines) c.self.view_is
+returns-in-Some-clause-windows c = ap (λ (p : Parts). windows_in p.lines) c.put.ensures ∙ ap (λ (w : Walking). windows_in w.way.lines) c.self.view_is
 
 pub returns-in-None-clause-windows : goal.returns-in-None-clause-windows
-returns-in-None-clause-windows c = ap (λ (w : Live). windows_in w.way.lines) c.self.view_is
+returns-in-None-clause-windows c = ap (λ (w : Walking). windows_in w.way.lines) c.self.view_is

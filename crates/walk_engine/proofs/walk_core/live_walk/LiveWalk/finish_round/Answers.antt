@@ -1,7 +1,7 @@
 -- Each line, the return path and a row, once.
 use Rattle.std.proofs.Common.{length, ◌∙◌, ap, subst, arith}
 use Rattle.law_model.specs.Common.{Counts}
-use Rattle.walk_engine.specs.Common.{GivesRows, Live, live_counts}
+use Rattle.walk_engine.specs.Common.{GivesRows, Walking, walking_counts}
 use Rattle.walk_engine.proofs.WalkCoreLaws.RoundLaws.{back-kept, carry-end, carry-rows, carry-turn, finish-parts}
 use Rattle.walk_engine.proofs.WalkCoreLaws.CarrySteps.{paths-size}
 use Rattle.walk_engine.proofs.WalkCoreLaws.WayLaws.{is-live, way-stands}
@@ -15,7 +15,7 @@ carry-requires-clause-line g c =
     let (leg, stands) = c.requires in
     let first = stands.stands.lines.size in
     let now = (c.loop-line.invariant.stands leg stands).stands.lines.size in
-    let lines = c.lines-line-end.ensures ∙ ap (λ (w : Live). length w.way.lines) c.self.view_is in
+    let lines = c.lines-line-end.ensures ∙ ap (λ (w : Walking). length w.way.lines) c.self.view_is in
     let test = c.loop-line-test.true in
     omega (arith, first, now, lines, test)
 
@@ -26,7 +26,7 @@ carry-requires-clause-stands g c =
 pub loop-line-preserved : goal.loop-line-preserved
 loop-line-preserved g c =
     let inv = c.loop-line.invariant in
-    let lines = c.lines-line-end.ensures ∙ ap (λ (w : Live). length w.way.lines) c.self.view_is in
+    let lines = c.lines-line-end.ensures ∙ ap (λ (w : Walking). length w.way.lines) c.self.view_is in
     let test = c.loop-line-test.true in
     let e = c.carry.ensures in
     let (some, is) = c.requires in
@@ -35,11 +35,11 @@ loop-line-preserved g c =
       left = λ leg stands.
           let first = stands.stands.lines.size in
           let paths = paths-size leg stands.stands.sound in
-          carry-turn leg (live_counts c.args.self.now) (live_counts c.loop-line.self) (live_counts c.carry.new.self)
+          carry-turn leg (walking_counts c.args.self.now) (walking_counts c.loop-line.self) (walking_counts c.carry.new.self)
           c.loop-line.line _ (omega (arith, first, paths, lines, test)) (inv.left leg stands)
           (e.makes leg (inv.stands leg stands)).counts;
       rows = ap (λ (s : Counts). s.rows) (e.makes some (inv.stands some is)).counts
-          ∙ carry-rows some (live_counts c.loop-line.self) c.loop-line.line ∙ inv.rows;
+          ∙ carry-rows some (walking_counts c.loop-line.self) c.loop-line.line ∙ inv.rows;
       landed = e.landed ∙ inv.landed;
       windows = e.windows ∙ inv.windows;
     }
@@ -54,7 +54,7 @@ take-requires g c =
 pub returns-clause-finishes : goal.returns-clause-finishes
 returns-clause-finishes g c leg stands =
     let inv = c.loop-line.invariant in
-    let lines = c.lines-line-end.ensures ∙ ap (λ (w : Live). length w.way.lines) c.self.view_is in
+    let lines = c.lines-line-end.ensures ∙ ap (λ (w : Walking). length w.way.lines) c.self.view_is in
     let test = c.loop-line-test.false in
     let first = stands.stands.lines.size in
     let paths = paths-size leg stands.stands.sound in
@@ -62,9 +62,9 @@ returns-clause-finishes g c leg stands =
     let takes = c.take.ensures.makes leg backs.stands in
     record {
       stands = takes.stands;
-      counts = finish-parts leg (live_counts c.args.self.now) (live_counts c.loop-line.self) (live_counts c.back.new.self)
-          (live_counts c.take.new.self)
-          (carry-end leg (live_counts c.args.self.now) (live_counts c.loop-line.self) c.loop-line.line _
+      counts = finish-parts leg (walking_counts c.args.self.now) (walking_counts c.loop-line.self) (walking_counts c.back.new.self)
+          (walking_counts c.take.new.self)
+          (carry-end leg (walking_counts c.args.self.now) (walking_counts c.loop-line.self) c.loop-line.line _
           (omega (arith, first, paths, lines, test)) (inv.left leg stands))
           backs.counts takes.counts;
     }
@@ -76,8 +76,8 @@ pub returns-clause-gives : goal.returns-clause-gives
 returns-clause-gives g c leg stands =
     let inv = c.loop-line.invariant in
     let backs = c.back.ensures.makes leg (inv.stands leg stands) in
-    subst (λ n. GivesRows g.F.FrameOut.stands_for c.args.out.now c.take.new.out leg n (live_counts c.take.new.self).rows)
-    (back-kept leg (live_counts c.loop-line.self) (live_counts c.back.new.self) backs.counts ∙ inv.rows)
+    subst (λ n. GivesRows g.F.FrameOut.stands_for c.args.out.now c.take.new.out leg n (walking_counts c.take.new.self).rows)
+    (back-kept leg (walking_counts c.loop-line.self) (walking_counts c.back.new.self) backs.counts ∙ inv.rows)
     (c.take.ensures.gives leg backs.stands)
 
 pub returns-clause-windows : goal.returns-clause-windows

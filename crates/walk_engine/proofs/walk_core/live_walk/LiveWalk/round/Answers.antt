@@ -1,6 +1,6 @@
 -- A tick, and what comes after it.
 use Rattle.std.proofs.Common.{◌∙◌, subst}
-use Rattle.walk_engine.specs.Common.{GivesRows, live_counts}
+use Rattle.walk_engine.specs.Common.{GivesRows, walking_counts}
 use Rattle.walk_engine.proofs.WalkCoreLaws.RoundLaws.{tick-kept, tick-parts}
 use Rattle.walk_engine.proofs.walk_core.live_walk.LiveWalk.round.Goals as goal
 
@@ -18,15 +18,15 @@ returns-clause-rounds g c leg stands none agrees =
     let finishes = c.finish_round.ensures.finishes leg ticks.stands in
     record {
       stands = finishes.stands;
-      counts = tick-parts leg (live_counts c.args.self.now) (live_counts c.tick.new.self) (live_counts c.finish_round.new.self)
+      counts = tick-parts leg (walking_counts c.args.self.now) (walking_counts c.tick.new.self) (walking_counts c.finish_round.new.self)
           ticks.counts finishes.counts;
     }
 
 pub returns-clause-gives : goal.returns-clause-gives
 returns-clause-gives g c leg stands none agrees =
     let ticks = c.tick.ensures.makes leg stands none agrees in
-    subst (λ n. GivesRows g.F.FrameOut.stands_for c.args.out.now c.finish_round.new.out leg n (live_counts c.finish_round.new.self).rows)
-    (tick-kept leg (live_counts c.args.self.now) (live_counts c.tick.new.self) ticks.counts)
+    subst (λ n. GivesRows g.F.FrameOut.stands_for c.args.out.now c.finish_round.new.out leg n (walking_counts c.finish_round.new.self).rows)
+    (tick-kept leg (walking_counts c.args.self.now) (walking_counts c.tick.new.self) ticks.counts)
     (c.finish_round.ensures.gives leg ticks.stands)
 
 pub returns-clause-windows : goal.returns-clause-windows

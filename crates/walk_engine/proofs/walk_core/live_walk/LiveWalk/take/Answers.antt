@@ -1,6 +1,6 @@
 -- A row is taken, or stalls.
 use Rattle.std.proofs.Common.{refl, sym, ◌∙◌, ap}
-use Rattle.walk_engine.specs.Common.{live_counts, take_cause}
+use Rattle.walk_engine.specs.Common.{walking_counts, take_cause}
 use Rattle.walk_engine.proofs.WalkCoreLaws.RoundLaws.{gives-none}
 use Rattle.walk_engine.proofs.WalkCoreLaws.TakenLaws.{take-stays}
 use Rattle.walk_engine.proofs.walk_core.live_walk.LiveWalk.take.Goals as goal
@@ -9,7 +9,7 @@ pub returns-in-Some-clause-makes : goal.returns-in-Some-clause-makes
 returns-in-Some-clause-makes g c leg stands =
     let now = c.args.self.now in
     let stays = take-stays leg now.way now.ring now.last stands c.in-Some.cause
-    (sym c.in-Some.is ∙ c.take_stall.ensures ∙ ap (λ n. take_cause n (live_counts now)) stands.stands.total) in
+    (sym c.in-Some.is ∙ c.take_stall.ensures ∙ ap (λ n. take_cause n (walking_counts now)) stands.stands.total) in
     record { stands = stands; counts = stays.0; moved = stays.1 }
 
 pub returns-in-Some-clause-gives : goal.returns-in-Some-clause-gives

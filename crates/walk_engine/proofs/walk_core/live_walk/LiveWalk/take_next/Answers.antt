@@ -1,6 +1,6 @@
 -- A row is taken, or the cells that were popped wait for more.
 use Rattle.std.proofs.Common.{◌+◌, ◌≤◌, length, sym, ◌∙◌, ap, subst}
-use Rattle.walk_engine.specs.Common.{GivesRows, Live, LiveStands, Parts, listed, live_counts, take_moved, windows_in}
+use Rattle.walk_engine.specs.Common.{GivesRows, Walking, LiveStands, Parts, listed, walking_counts, take_moved, windows_in}
 use Rattle.walk_engine.proofs.WalkCoreLaws.TakenLaws.{take-counts, waits-walk, taken-walk, said-is, said-room, is-free}
 use Rattle.walk_engine.proofs.WalkCoreLaws.WayLaws.{is-live, way-stands, live-from}
 use Rattle.walk_engine.proofs.walk_core.live_walk.LiveWalk.take_next.Goals as goal
@@ -34,14 +34,14 @@ returns-in-Waiting-clause-makes g c leg stands =
 
 pub returns-in-Waiting-clause-landed : goal.returns-in-Waiting-clause-landed
 returns-in-Waiting-clause-landed g c =
-    ap (λ (p : Parts). p.source.landed) c.take.ensures.rest ∙ ap (λ (w : Live). w.way.source.landed) c.self.view_is
+    ap (λ (p : Parts). p.source.landed) c.take.ensures.rest ∙ ap (λ (w : Walking). w.way.source.landed) c.self.view_is
 
 pub returns-in-Waiting-clause-gives : goal.returns-in-Waiting-clause-gives
 returns-in-Waiting-clause-gives g c leg stands =
     let f = c.self.inside in
     let is = subst (LiveStands leg) (sym c.self.view_is) stands in
     let none = is-free leg _ _ is c.self.view_is c.requires.free in
-    subst (λ (w : Live). GivesRows g.F.FrameOut.stands_for c.args.out.now c.take.new.out leg (live_counts w).rows
+    subst (λ (w : Walking). GivesRows g.F.FrameOut.stands_for c.args.out.now c.take.new.out leg (walking_counts w).rows
     c.take.new.self.sink.taken) c.self.view_is
     (c.take.ensures.gives leg f.way.source.inbox.come is.stands none)
 
@@ -61,19 +61,19 @@ returns-in-Taken-clause-makes g c leg stands =
 
 pub returns-in-Taken-clause-landed : goal.returns-in-Taken-clause-landed
 returns-in-Taken-clause-landed g c =
-    ap (λ (p : Parts). p.source.landed) c.take.ensures.rest ∙ ap (λ (w : Live). w.way.source.landed) c.self.view_is
+    ap (λ (p : Parts). p.source.landed) c.take.ensures.rest ∙ ap (λ (w : Walking). w.way.source.landed) c.self.view_is
 
 pub returns-in-Taken-clause-gives : goal.returns-in-Taken-clause-gives
 returns-in-Taken-clause-gives g c leg stands =
     let f = c.self.inside in
     let is = subst (LiveStands leg) (sym c.self.view_is) stands in
     let none = is-free leg _ _ is c.self.view_is c.requires.free in
-    subst (λ (w : Live). GivesRows g.F.FrameOut.stands_for c.args.out.now c.take.new.out leg (live_counts w).rows
+    subst (λ (w : Walking). GivesRows g.F.FrameOut.stands_for c.args.out.now c.take.new.out leg (walking_counts w).rows
     c.take.new.self.sink.taken) c.self.view_is
     (c.take.ensures.gives leg f.way.source.inbox.come is.stands none)
 
 pub returns-in-Waiting-clause-windows : goal.returns-in-Waiting-clause-windows
-returns-in-Waiting-clause-windows g c = c.take.ensures.windows ∙ ap (λ (w : Live). windows_in w.way.lines) c.self.view_is
+returns-in-Waiting-clause-windows g c = c.take.ensures.windows ∙ ap (λ (w : Walking). windows_in w.way.lines) c.self.view_is
 
 pub returns-in-Taken-clause-windows : goal.returns-in-Taken-clause-windows
-returns-in-Taken-clause-windows g c = c.take.ensures.windows ∙ ap (λ (w : Live). windows_in w.way.lines) c.self.view_is
+returns-in-Taken-clause-windows g c = c.take.ensures.windows ∙ ap (λ (w : Walking). windows_in w.way.lines) c.self.view_is

@@ -1,7 +1,7 @@
 -- A row that isn't the last is taken, but where it ends a packet and the return ring is full.
 use Rattle.std.proofs.Common.{◌≡◌, Some, None, sym, subst, inl, inr, arith}
 use Rattle.law_model.specs.declared.walk_events.StallCause.TheVariants.{BackFull}
-use Rattle.walk_engine.specs.Common.{Live, live_counts, live_of, take_cause}
+use Rattle.walk_engine.specs.Common.{Walking, walking_counts, walking_of, take_cause}
 use Rattle.walk_engine.proofs.WalkCoreLaws.TakenLaws.{cause-full, cause-none}
 use Rattle.walk_engine.proofs.WalkCoreLaws.WayLaws.{is-live}
 use Rattle.walk_engine.proofs.walk_core.live_walk.LiveWalk.take_stall.Goals as goal
@@ -15,8 +15,8 @@ returns-then-is_full c =
     let total = c.total_ticks.ensures in
     let (leg, is) = is-live _ _ c.self.view_is c.requires in
     let all = is.stands.total in
-    subst (λ (w : Live). Some BackFull ≡ take_cause w.way.source.total (live_counts w)) c.self.view_is
-    (subst (λ n. Some BackFull ≡ take_cause n (live_counts (live_of f.way f.ring f.last))) (sym all)
+    subst (λ (w : Walking). Some BackFull ≡ take_cause w.way.source.total (walking_counts w)) c.self.view_is
+    (subst (λ n. Some BackFull ≡ take_cause n (walking_counts (walking_of f.way f.ring f.last))) (sym all)
     (cause-full leg f.way f.ring f.last is c.taken-row.result c.taken-row.ensures
     (omega (arith, low, total, all)) c.if-ends_packet.ensures.value c.if-is_full.ensures))
 
@@ -27,8 +27,8 @@ returns-else-ends_packet c =
     let total = c.total_ticks.ensures in
     let (leg, is) = is-live _ _ c.self.view_is c.requires in
     let all = is.stands.total in
-    subst (λ (w : Live). None ≡ take_cause w.way.source.total (live_counts w)) c.self.view_is
-    (subst (λ n. None ≡ take_cause n (live_counts (live_of f.way f.ring f.last))) (sym all)
+    subst (λ (w : Walking). None ≡ take_cause w.way.source.total (walking_counts w)) c.self.view_is
+    (subst (λ n. None ≡ take_cause n (walking_counts (walking_of f.way f.ring f.last))) (sym all)
     (cause-none leg f.way f.ring f.last is c.taken-row.result c.taken-row.ensures (omega (arith, low, total, all))
     (elim c.else-ends_packet.branch [
       | else-ends_packet-via-then-ends_packet+else-is_full w ↦ inr w.if-is_full.ensures

@@ -5,14 +5,14 @@ use Rattle.law_model.specs.declared.walk_events.Event.TheVariants.{Tick}
 use Rattle.law_walk.specs.Common.{walk_plan}
 use Rattle.terminal_group.specs.Counted.{missing_from}
 use Rattle.terminal_group.specs.Inbox.{Inbox}
-use Rattle.walk_engine.specs.Common.{AgreesNow, Live, LiveStands, Parts, counts_of, live_counts, windows_in}
+use Rattle.walk_engine.specs.Common.{AgreesNow, Walking, LiveStands, Parts, counts_of, walking_counts, windows_in}
 use Rattle.walk_engine.proofs.WalkCoreLaws.TickLaws.{tick-stays, can-tick, tick-live}
 use Rattle.walk_engine.proofs.WalkCoreLaws.WayLaws.{is-live, way-stands, live-from}
 use Rattle.walk_engine.proofs.walk_core.live_walk.LiveWalk.tick.Goals as goal
 
 pub returns-in-Some-clause-makes : goal.returns-in-Some-clause-makes
 returns-in-Some-clause-makes c leg stands none agrees =
-    let stays = tick-stays leg (live_counts c.args.self.now) c.in-Some.cause
+    let stays = tick-stays leg (walking_counts c.args.self.now) c.in-Some.cause
     (sym c.in-Some.is ∙ c.tick_stall.ensures.cause leg stands none) in
     record { stands = stands; counts = stays.0; moved = stays.1 }
 
@@ -21,18 +21,18 @@ make-back-requires-clause-stands c = way-stands _ (is-live _ _ c.self.view_is c.
 
 pub make-back-requires-clause-left : goal.make-back-requires-clause-left
 make-back-requires-clause-left c =
-    subst (λ (w : Live). w.way.source.core.ticks < w.way.source.total) (sym c.self.view_is) c.requires.left
+    subst (λ (w : Walking). w.way.source.core.ticks < w.way.source.total) (sym c.self.view_is) c.requires.left
 
 pub make-back-requires-clause-cell : goal.make-back-requires-clause-cell
 make-back-requires-clause-cell c =
-    ap (λ (w : Live). missing_from w.way.source) c.self.view_is ∙ c.tick_stall.ensures.cell c.in_default.is
+    ap (λ (w : Walking). missing_from w.way.source) c.self.view_is ∙ c.tick_stall.ensures.cell c.in_default.is
 
 pub returns-clause-makes : goal.returns-clause-makes
 returns-clause-makes c leg stands none agrees =
     let f = c.self.inside in
     let is = subst (LiveStands leg) (sym c.self.view_is) stands in
     let e = sym c.in_default.is ∙ c.tick_stall.ensures.cause leg stands none
-    ∙ ap (λ (w : Live). (step (walk_plan leg) (live_counts w) Tick).cause) (sym c.self.view_is) in
+    ∙ ap (λ (w : Walking). (step (walk_plan leg) (walking_counts w) Tick).cause) (sym c.self.view_is) in
     let m = c.make-back.ensures in
     let makes = m.makes leg f.way.source.inbox.come is.stands
     (can-tick leg f.way f.ring f.last is e c.make-back.result m.cell
@@ -48,7 +48,7 @@ returns-clause-makes c leg stands none agrees =
     })
 
 pub returns-clause-landed : goal.returns-clause-landed
-returns-clause-landed c = c.make-back.ensures.landed ∙ ap (λ (w : Live). w.way.source.landed) c.self.view_is
+returns-clause-landed c = c.make-back.ensures.landed ∙ ap (λ (w : Walking). w.way.source.landed) c.self.view_is
 
 pub returns-clause-windows : goal.returns-clause-windows
-returns-clause-windows c = ap (λ (p : Parts). windows_in p.lines) c.make-back.ensures.rest ∙ ap (λ (w : Live). windows_in w.way.lines) c.self.view_is
+returns-clause-windows c = ap (λ (p : Parts). windows_in p.lines) c.make-back.ensures.rest ∙ ap (λ (w : Walking). windows_in w.way.lines) c.self.view_is

@@ -3,7 +3,7 @@ use Rattle.std.proofs.Common.{◌≡◌, Some, None, sym, ◌∙◌, subst, arit
 use Rattle.law_model.specs.Common.{leg_of}
 use Rattle.law_model.specs.declared.walk_events.StallCause.TheVariants.{Done, Held}
 use Rattle.law_walk.specs.Common.{walk_plan}
-use Rattle.walk_engine.specs.Common.{Walked, early_cause, live_counts}
+use Rattle.walk_engine.specs.Common.{Walked, early_cause, walking_counts}
 use Rattle.walk_engine.proofs.WalkCoreLaws.LandSteps.{held-known}
 use Rattle.walk_engine.proofs.WalkCoreLaws.TickLaws.{early-done, early-held}
 use Rattle.walk_engine.proofs.walk_core.walk.Walk.early_stall.Goals as goal
@@ -14,7 +14,7 @@ returns-then-ticks-self c =
     let past = c.if-ticks-self.true in
     let at = c.ticks-ticks.ensures in
     subst (λ (w : Walked). Some Done ≡ early_cause (walk_plan (leg_of w.script)) w.counts) c.self.view_is
-    (early-done (walk_plan (leg_of f.script)) (live_counts f.live) (omega (arith, past, at)))
+    (early-done (walk_plan (leg_of f.script)) (walking_counts f.live) (omega (arith, past, at)))
 
 pub returns-in-Some : goal.returns-in-Some
 returns-in-Some c =
@@ -24,7 +24,7 @@ returns-in-Some c =
     let is = c.self.invariant.1 in
     subst (λ (w : Walked). Some (Held c.in-Some.item) ≡ early_cause (walk_plan (leg_of w.script)) w.counts)
     c.self.view_is
-    (early-held (walk_plan (leg_of f.script)) (live_counts f.live) (omega (arith, left, at)) (Some c.in-Some.item)
+    (early-held (walk_plan (leg_of f.script)) (walking_counts f.live) (omega (arith, left, at)) (Some c.in-Some.item)
     (sym c.in-Some.is ∙ c.held.ensures
     ∙ held-known (leg_of f.script) f.live.way.source.inbox.come f.live.way is.stands.stands f.landing is.landed
     c.ticks-ticks.result at))
@@ -36,7 +36,7 @@ returns-in-None c =
     let at = c.ticks-ticks.ensures in
     let is = c.self.invariant.1 in
     subst (λ (w : Walked). None ≡ early_cause (walk_plan (leg_of w.script)) w.counts) c.self.view_is
-    (early-held (walk_plan (leg_of f.script)) (live_counts f.live) (omega (arith, left, at)) None
+    (early-held (walk_plan (leg_of f.script)) (walking_counts f.live) (omega (arith, left, at)) None
     (sym c.in-None.is ∙ c.held.ensures
     ∙ held-known (leg_of f.script) f.live.way.source.inbox.come f.live.way is.stands.stands f.landing is.landed
     c.ticks-ticks.result at))

@@ -2,7 +2,7 @@
 use Rattle.std.proofs.Common.{◌∙◌, ap, subst}
 use Rattle.law_model.specs.Common.{carries_from, leg_of, run}
 use Rattle.law_walk.specs.Common.{walk_plan}
-use Rattle.walk_engine.specs.Common.{GivesRows, Walked, live_counts}
+use Rattle.walk_engine.specs.Common.{GivesRows, Walked, walking_counts}
 use Rattle.walk_engine.proofs.WalkCoreLaws.WayLaws.{walk-moved}
 use Rattle.walk_engine.proofs.walk_core.walk.Walk.finish_round.Goals as goal
 
@@ -27,6 +27,6 @@ returns g c =
       counts = finishes.counts ∙ ap (λ (w : Walked). run (walk_plan (leg_of w.script)) w.counts
           (carries_from 0 (walk_plan (leg_of w.script)).paths)) c.self.view_is;
       gives = subst (λ (w : Walked). GivesRows g.F.FrameOut.stands_for c.args.out.now c.finish_round.new.out (leg_of w.script)
-          w.counts.rows (live_counts c.finish_round.new.self).rows) c.self.view_is
+          w.counts.rows (walking_counts c.finish_round.new.self).rows) c.self.view_is
           (c.finish_round.ensures.gives (leg_of f.script) c.self.invariant.1.stands);
     }

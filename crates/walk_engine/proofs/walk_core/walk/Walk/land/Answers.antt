@@ -6,7 +6,7 @@ use Rattle.law_walk.specs.Common.{is_client}
 use Rattle.terminal_group.specs.Item.{kind_of}
 use Rattle.terminal_group.specs.Landed.{HasPassed, next_number}
 use Rattle.walk_engine.specs.Common.{HasLanded, IsDue, LiveMakes, Walked, answer_by, counts_after, landing_of}
-use Rattle.walk_engine.specs.Common.{AgreesAt, live_counts, moved_of}
+use Rattle.walk_engine.specs.Common.{AgreesAt, walking_counts, moved_of}
 use Rattle.walk_engine.specs.declared.walk_core.step_answers.Moved.TheVariants.{Stalled}
 use Rattle.walk_engine.proofs.WalkCoreLaws.LandSteps.{land-none, land-early, land-stays, land-kind, due-in}
 use Rattle.walk_engine.proofs.WalkCoreLaws.LandSteps.{land-known}
@@ -53,7 +53,7 @@ returns-then-ticks-due c =
 -- the item is due, is of the kind that lands, and so the walk goes on
 record IsSaid (c : After-say-why) : Type 0 where
   kind : is_client (kind_of c.item_at.result) ≡ c.args.client
-  due : IsDue (leg_of c.self.inside.script) (live_counts c.self.inside.live) (kind_of c.item_at.result)
+  due : IsDue (leg_of c.self.inside.script) (walking_counts c.self.inside.live) (kind_of c.item_at.result)
   makes : LiveMakes (leg_of c.self.inside.script) (landing_of c.args.client) c.self.inside.live c.say-why.new.self
       (answer_by None c.say-why.result)
 
@@ -95,7 +95,7 @@ invariant_of-self c =
         stands = here.makes.stands;
         known = λ t. subst (AgreesAt leg t) (sym c.say-why.ensures.windows) (is.known t);
         landed = subst (λ s. HasLanded leg s c.land.new.self) (sym here.makes.counts)
-            (subst (λ client. HasLanded leg (counts_after leg (live_counts f.live) (landing_of client))
+            (subst (λ client. HasLanded leg (counts_after leg (walking_counts f.live) (landing_of client))
             c.land.new.self) here.kind known);
       },
     )

@@ -2,7 +2,7 @@
 use Rattle.std.proofs.Common.{◌∙◌, ap, subst}
 use Rattle.law_model.specs.Common.{leg_of}
 use Rattle.law_model.specs.declared.walk_events.Event.TheVariants.{Take}
-use Rattle.walk_engine.specs.Common.{GivesRows, Walked, counts_after, live_counts, moved_of}
+use Rattle.walk_engine.specs.Common.{GivesRows, Walked, counts_after, walking_counts, moved_of}
 use Rattle.walk_engine.proofs.WalkCoreLaws.WayLaws.{walk-moved}
 use Rattle.walk_engine.proofs.walk_core.walk.Walk.take.Goals as goal
 
@@ -27,6 +27,6 @@ returns g c =
       counts = makes.counts ∙ ap (λ (w : Walked). counts_after (leg_of w.script) w.counts Take) c.self.view_is;
       moved = makes.moved ∙ ap (λ (w : Walked). moved_of (leg_of w.script) w.counts Take) c.self.view_is;
       gives = subst (λ (w : Walked). GivesRows g.F.FrameOut.stands_for c.args.out.now c.take.new.out (leg_of w.script)
-          w.counts.rows (live_counts c.take.new.self).rows) c.self.view_is
+          w.counts.rows (walking_counts c.take.new.self).rows) c.self.view_is
           (c.take.ensures.gives (leg_of f.script) c.self.invariant.1.stands);
     }

@@ -3,7 +3,7 @@ use Rattle.std.proofs.Common.{refl, sym, ◌∙◌, ap, arith}
 use Rattle.law_model.specs.Common.{leg_of}
 use Rattle.law_model.specs.declared.walk_events.Event.TheVariants.{Tick}
 use Rattle.law_walk.specs.Common.{walk_plan}
-use Rattle.walk_engine.specs.Common.{Walked, counts_after, early_cause, live_counts, moved_of}
+use Rattle.walk_engine.specs.Common.{Walked, counts_after, early_cause, walking_counts, moved_of}
 use Rattle.walk_engine.proofs.WalkCoreLaws.TickLaws.{early-free, early-stalls, tick-stays}
 use Rattle.walk_engine.proofs.WalkCoreLaws.WayLaws.{walk-moved}
 use Rattle.walk_engine.proofs.walk_core.walk.Walk.tick.Goals as goal
@@ -25,7 +25,7 @@ tick-requires-clause-left c =
     let f = c.self.inside in
     let free = sym (c.early_stall.ensures
     ∙ ap (λ (w : Walked). early_cause (walk_plan (leg_of w.script)) w.counts) (sym c.self.view_is)) ∙ c.in-None.is in
-    let low = (early-free (walk_plan (leg_of f.script)) (live_counts f.live) free).0 in
+    let low = (early-free (walk_plan (leg_of f.script)) (walking_counts f.live) free).0 in
     let total = c.self.invariant.1.stands.stands.total in
     omega (arith, low, total)
 
@@ -34,7 +34,7 @@ invariant_of-self c =
     let f = c.self.inside in
     let free = sym (c.early_stall.ensures
     ∙ ap (λ (w : Walked). early_cause (walk_plan (leg_of w.script)) w.counts) (sym c.self.view_is)) ∙ c.in-None.is in
-    let none = (early-free (walk_plan (leg_of f.script)) (live_counts f.live) free).1 in
+    let none = (early-free (walk_plan (leg_of f.script)) (walking_counts f.live) free).1 in
     let e = c.tick.ensures in (
       c.self.invariant.0,
       walk-moved (leg_of f.script) f.live c.tick.new.self f.landing c.self.invariant.1
@@ -47,7 +47,7 @@ returns-in-None c =
     let f = c.self.inside in
     let free = sym (c.early_stall.ensures
     ∙ ap (λ (w : Walked). early_cause (walk_plan (leg_of w.script)) w.counts) (sym c.self.view_is)) ∙ c.in-None.is in
-    let none = (early-free (walk_plan (leg_of f.script)) (live_counts f.live) free).1 in
+    let none = (early-free (walk_plan (leg_of f.script)) (walking_counts f.live) free).1 in
     let makes = c.tick.ensures.makes (leg_of f.script) c.self.invariant.1.stands none
     (c.self.invariant.1.known f.live.way.source.core.ticks) in
     record {
