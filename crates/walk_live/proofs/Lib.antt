@@ -1,0 +1,15 @@
+pub mod LiveLaws
+pub mod SayLaws
+pub mod ReplyLaws
+pub mod TalkerLaws
+pub mod ToldLaws
+pub mod TimedLaws
+pub mod StepLaws
+pub mod RoundLaws
+pub mod PlaceLaws
+pub mod LandLaws
+pub mod WalksLaws
+pub mod CutLaws
+pub mod MeasureLaws
+pub mod PassLaws
+pub mod SaidLaws

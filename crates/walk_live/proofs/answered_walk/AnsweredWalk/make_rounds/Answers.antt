@@ -1,0 +1,152 @@
+-- One round more of those that are left.
+use Rattle.std.proofs.Common.{◌<◌, ◌++◌, [], ◌∷◌, refl, sym, ◌∙◌, subst, arith}
+use Rattle.law_model.specs.Common.{AppendsPart, Leg}
+use Rattle.text_got.specs.Told.{Holds}
+use Rattle.law_live.specs.Common.{leg_said, live_counts, passes}
+use Rattle.walk_engine.specs.walk_core.Live.{walking_counts}
+use Rattle.walk_live.specs.Passing.{round_text}
+use Rattle.walk_live.proofs.PassLaws.{passes-begin, passes-less, passes-on, tells-all, tells-begin, tells-on, tells-part}
+use Rattle.walk_live.proofs.SaidLaws.{can-round, other-then, pass-own, pass-rest, pass-total, pass-walks}
+use Rattle.walk_live.proofs.WalksLaws.{leg-less, leg-lines}
+use Rattle.walk_live.proofs.answered_walk.AnsweredWalk.make_rounds.Goals as goal
+
+pub loop-self-init : goal.loop-self-init
+loop-self-init g c = record {
+  same = record { lines = refl; items = refl; steps = refl };
+  windows = refl;
+  rounds = λ steps config said k can leg more.
+      let less = leg-less config said (passes k ∷ []) leg can.well more in
+      passes-begin leg (live_counts leg said) c.args.until c.args.self.now.walk (can.is.walks.stands leg less)
+      (can.is.walks.counts leg less);
+  told = λ steps config said k can leg more.
+      let less = leg-less config said (passes k ∷ []) leg can.well more in
+      tells-begin g.K.ByteSink.written g.K.ByteSink.faults c.args.out.now c.args.block.now steps leg
+      (live_counts leg said) c.args.until (walking_counts c.args.self.now.walk) (can.is.walks.counts leg less);
+}
+
+pub round-requires-clause-few : goal.round-requires-clause-few
+round-requires-clause-few g c =
+    let (steps, config, said, k, can) = c.requires in
+    let same = c.loop-self.invariant.same.lines in
+    let lines = can.is.lines in
+    let most = can.is.network.lines.1 in
+    omega (arith, same, lines, most)
+
+pub round-requires-clause-ready : goal.round-requires-clause-ready
+round-requires-clause-ready g c =
+    let (steps, config, said, k, can) = c.requires in
+    let inv = c.loop-self.invariant in
+    let leg : Leg = leg_said config (said ++ passes k ∷ []) in
+    let own = pass-own c.args.self.now steps config said can.is k can.well in
+    let ticks = c.ticks.ensures in
+    let test = c.loop-self-test.true in (
+      leg,
+      can-round c.args.self.now steps config said can.is k can.well leg c.args.until c.loop-self.self.walk can.ends own
+          (inv.rounds steps config said k can leg own) inv.windows (omega (arith, ticks, test)),
+    )
+
+pub round-requires-clause-left : goal.round-requires-clause-left
+round-requires-clause-left g c =
+    let (steps, config, said, k, can) = c.requires in
+    let inv = c.loop-self.invariant in
+    let leg : Leg = leg_said config (said ++ passes k ∷ []) in
+    let own = pass-own c.args.self.now steps config said can.is k can.well in
+    let total = pass-total c.args.self.now steps config said can.is k can.well leg c.args.until c.loop-self.self.walk
+    can.ends own (inv.rounds steps config said k can leg own) in
+    let ticks = c.ticks.ensures in
+    let test = c.loop-self-test.true in
+    omega (arith, ticks, test, total)
+
+pub loop-self-smaller : goal.loop-self-smaller
+loop-self-smaller g c =
+    let (steps, config, said, k, can) = c.requires in
+    let inv = c.loop-self.invariant in
+    let leg : Leg = leg_said config (said ++ passes k ∷ []) in
+    let own = pass-own c.args.self.now steps config said can.is k can.well in
+    let ticks = c.ticks.ensures in
+    let test = c.loop-self-test.true in
+    let low : (walking_counts c.loop-self.self.walk).ticks < c.args.until = omega (arith, ticks, test) in
+    let passing = inv.rounds steps config said k can leg own in
+    passes-less config said k leg can.well own c.args.until can.ends c.loop-self.self.walk c.round.new.self.walk passing low
+    (c.in-Ok.ensures.rounds leg (can-round c.args.self.now steps config said can.is k can.well leg c.args.until
+    c.loop-self.self.walk can.ends own passing inv.windows low))
+
+pub loop-self-preserved : goal.loop-self-preserved
+loop-self-preserved g c =
+    let inv = c.loop-self.invariant in
+    let ticks = c.ticks.ensures in
+    let test = c.loop-self-test.true in
+    let low : (walking_counts c.loop-self.self.walk).ticks < c.args.until = omega (arith, ticks, test) in
+    record {
+      same = other-then c.args.self.now c.loop-self.self c.round.new.self inv.same c.round.ensures.same;
+      windows = c.round.ensures.windows ∙ inv.windows;
+      rounds = λ steps config said k can leg more.
+          let passing = inv.rounds steps config said k can leg more in
+          let ready = can-round c.args.self.now steps config said can.is k can.well leg c.args.until c.loop-self.self.walk
+          can.ends more passing inv.windows low in
+          passes-on config said k leg can.well more c.args.until can.ends c.loop-self.self.walk c.round.new.self.walk
+          passing low (c.in-Ok.ensures.rounds leg ready);
+      told = λ steps config said k can leg more.
+          let passing = inv.rounds steps config said k can leg more in
+          let ready = can-round c.args.self.now steps config said can.is k can.well leg c.args.until c.loop-self.self.walk
+          can.ends more passing inv.windows low in
+          let lines = inv.same.lines ∙ can.is.lines ∙ sym (leg-lines config (said ++ passes k ∷ []) leg more) in
+          tells-on config said k leg can.well more c.args.until can.ends g.K.ByteSink.written g.K.ByteSink.faults steps
+          c.args.out.now c.loop-self.out c.round.new.out c.args.block.now c.loop-self.block c.round.new.block
+          c.loop-self.self.walk c.round.new.self.walk passing low (c.in-Ok.ensures.rounds leg ready)
+          (inv.told steps config said k can leg more)
+          (subst (λ b. Holds g.K.ByteSink.written g.K.ByteSink.faults c.loop-self.out c.round.new.out c.round.new.block
+          (c.loop-self.block ++ round_text b leg (walking_counts c.loop-self.self.walk)))
+          (inv.same.steps ∙ can.is.steps) (c.in-Ok.ensures.told leg ready lines));
+    }
+
+pub returns-in-Err-clause-same : goal.returns-in-Err-clause-same
+returns-in-Err-clause-same g c =
+    other-then c.args.self.now c.loop-self.self c.round.new.self c.loop-self.invariant.same c.round.ensures.same
+
+pub returns-in-Err-clause-part : goal.returns-in-Err-clause-part
+returns-in-Err-clause-part g c steps config said k can =
+    let inv = c.loop-self.invariant in
+    let leg : Leg = leg_said config (said ++ passes k ∷ []) in
+    let own = pass-own c.args.self.now steps config said can.is k can.well in
+    let ticks = c.ticks.ensures in
+    let test = c.loop-self-test.true in
+    let low : (walking_counts c.loop-self.self.walk).ticks < c.args.until = omega (arith, ticks, test) in
+    let passing = inv.rounds steps config said k can leg own in
+    let ready = can-round c.args.self.now steps config said can.is k can.well leg c.args.until c.loop-self.self.walk
+    can.ends own passing inv.windows low in
+    let lines = inv.same.lines ∙ can.is.lines ∙ sym (leg-lines config (said ++ passes k ∷ []) leg own) in
+    subst (λ text. AppendsPart g.K.ByteSink.written g.K.ByteSink.faults c.args.out.now c.round.new.out
+    (c.args.block.now ++ text))
+    (pass-rest c.args.self.now steps config said can.is k can.well c.args.until can.ends)
+    (tells-part config said k leg can.well own c.args.until can.ends g.K.ByteSink.written g.K.ByteSink.faults steps
+    c.args.out.now c.loop-self.out c.round.new.out c.args.block.now c.loop-self.block c.loop-self.self.walk passing low
+    (inv.told steps config said k can leg own)
+    (subst (λ b. AppendsPart g.K.ByteSink.written g.K.ByteSink.faults c.loop-self.out c.round.new.out
+    (c.loop-self.block ++ round_text b leg (walking_counts c.loop-self.self.walk)))
+    (inv.same.steps ∙ can.is.steps) (c.in-Err.ensures.part leg ready lines)))
+
+pub returns-clause-same : goal.returns-clause-same
+returns-clause-same g c = c.loop-self.invariant.same
+
+pub returns-clause-walks : goal.returns-clause-walks
+returns-clause-walks g c steps config said k can =
+    let inv = c.loop-self.invariant in
+    let ticks = c.ticks.ensures in
+    let test = c.loop-self-test.false in
+    pass-walks c.args.self.now steps config said can.is k can.well c.args.until c.loop-self.self.walk can.ends
+    (inv.rounds steps config said k can) inv.windows (omega (arith, ticks, test))
+
+pub returns-clause-told : goal.returns-clause-told
+returns-clause-told g c steps config said k can =
+    let inv = c.loop-self.invariant in
+    let leg : Leg = leg_said config (said ++ passes k ∷ []) in
+    let own = pass-own c.args.self.now steps config said can.is k can.well in
+    let ticks = c.ticks.ensures in
+    let test = c.loop-self-test.false in
+    subst (λ text. Holds g.K.ByteSink.written g.K.ByteSink.faults c.args.out.now c.loop-self.out c.loop-self.block
+    (c.args.block.now ++ text))
+    (pass-rest c.args.self.now steps config said can.is k can.well c.args.until can.ends)
+    (tells-all config said k leg can.well own c.args.until can.ends g.K.ByteSink.written g.K.ByteSink.faults steps
+    c.args.out.now c.loop-self.out c.args.block.now c.loop-self.block c.loop-self.self.walk (omega (arith, ticks, test))
+    (inv.told steps config said k can leg own))

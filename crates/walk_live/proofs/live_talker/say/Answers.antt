@@ -1,0 +1,94 @@
+-- What the walk answers.
+use Rattle.std.proofs.Common.{◌≡◌, ℕ, List, [], ◌∷◌, ◌++◌, ap, inl, inr}
+use Rattle.law_live.specs.Common.{Saying, cuts, leg_said, mends}
+use Rattle.text_live.specs.declared.live_line.LiveLine.{LiveLine}
+use Rattle.text_live.specs.Reading.{told_line}
+use Rattle.text_live.specs.Sayings.{saying_of}
+use Rattle.walk_live.proofs.SayLaws.{cut_answered, mend_answered, none_answered, one_more, one_part, quiet_more}
+use Rattle.walk_live.proofs.SayLaws.{still_answered, well_as}
+use Rattle.walk_live.proofs.live_talker.say.Goals as goal
+
+abbrev said_by : List ℕ → LiveLine → List Saying
+said_by frame says = saying_of (told_line frame says)
+
+pub returns-in-Blank-clause-answers : goal.returns-in-Blank-clause-answers
+returns-in-Blank-clause-answers g c steps config said is well =
+    let none : said_by c.args.frame.now c.args.says ≡ [] = elim c.in-Blank.is [
+      | inl blank ↦ ap (said_by c.args.frame.now) blank
+      | inr set ↦ ap (said_by c.args.frame.now) set
+    ] in
+    quiet_more g.K.ByteSink.written g.K.ByteSink.faults c.args.out.now c.args.block.now c.args.walk.now steps config said
+    (said_by c.args.frame.now c.args.says) [] none (still_answered c.args.walk.now steps config said is)
+    (none_answered steps (leg_said config (said ++ [])) said)
+
+pub returns-in-Frame-clause-answers : goal.returns-in-Frame-clause-answers
+returns-in-Frame-clause-answers g c steps config said is well =
+    let same = ap (said_by c.args.frame.now) c.in-Frame.is in
+    one_more g.K.ByteSink.written g.K.ByteSink.faults c.args.out.now c.land.new.out c.args.block.now c.land.new.block
+    c.land.new.self steps config said (said_by c.args.frame.now c.args.says) _ c.land.result same
+    (c.land.ensures.answers steps config said is (well_as config said _ _ same well))
+
+pub returns-in-Frame-clause-part : goal.returns-in-Frame-clause-part
+returns-in-Frame-clause-part g c steps config said is well =
+    let same = ap (said_by c.args.frame.now) c.in-Frame.is in
+    one_part g.K.ByteSink.written g.K.ByteSink.faults c.args.out.now c.land.new.out c.args.block.now steps config said
+    (said_by c.args.frame.now c.args.says) _ c.land.result same
+    (c.land.ensures.part steps config said is (well_as config said _ _ same well))
+
+pub returns-in-Add-clause-answers : goal.returns-in-Add-clause-answers
+returns-in-Add-clause-answers g c steps config said is well =
+    let same = ap (said_by c.args.frame.now) c.in-Add.is in
+    one_more g.K.ByteSink.written g.K.ByteSink.faults c.args.out.now c.land-in-Add.new.out c.args.block.now c.land-in-Add.new.block
+    c.land-in-Add.new.self steps config said (said_by c.args.frame.now c.args.says) _ c.land-in-Add.result same
+    (c.land-in-Add.ensures.answers steps config said is (well_as config said _ _ same well))
+
+pub returns-in-Add-clause-part : goal.returns-in-Add-clause-part
+returns-in-Add-clause-part g c steps config said is well =
+    let same = ap (said_by c.args.frame.now) c.in-Add.is in
+    one_part g.K.ByteSink.written g.K.ByteSink.faults c.args.out.now c.land-in-Add.new.out c.args.block.now steps config said
+    (said_by c.args.frame.now c.args.says) _ c.land-in-Add.result same
+    (c.land-in-Add.ensures.part steps config said is (well_as config said _ _ same well))
+
+pub returns-in-Remove-clause-answers : goal.returns-in-Remove-clause-answers
+returns-in-Remove-clause-answers g c steps config said is well =
+    let same = ap (said_by c.args.frame.now) c.in-Remove.is in
+    one_more g.K.ByteSink.written g.K.ByteSink.faults c.args.out.now c.land-in-Remove.new.out c.args.block.now c.land-in-Remove.new.block
+    c.land-in-Remove.new.self steps config said (said_by c.args.frame.now c.args.says) _ c.land-in-Remove.result same
+    (c.land-in-Remove.ensures.answers steps config said is (well_as config said _ _ same well))
+
+pub returns-in-Remove-clause-part : goal.returns-in-Remove-clause-part
+returns-in-Remove-clause-part g c steps config said is well =
+    let same = ap (said_by c.args.frame.now) c.in-Remove.is in
+    one_part g.K.ByteSink.written g.K.ByteSink.faults c.args.out.now c.land-in-Remove.new.out c.args.block.now steps config said
+    (said_by c.args.frame.now c.args.says) _ c.land-in-Remove.result same
+    (c.land-in-Remove.ensures.part steps config said is (well_as config said _ _ same well))
+
+pub returns-in-Pass-clause-answers : goal.returns-in-Pass-clause-answers
+returns-in-Pass-clause-answers g c steps config said is well =
+    let same = ap (said_by c.args.frame.now) c.in-Pass.is in
+    one_more g.K.ByteSink.written g.K.ByteSink.faults c.args.out.now c.pass.new.out c.args.block.now c.pass.new.block
+    c.pass.new.self steps config said (said_by c.args.frame.now c.args.says) _ c.pass.result same
+    (c.pass.ensures.answers steps config said is (well_as config said _ _ same well))
+
+pub returns-in-Pass-clause-part : goal.returns-in-Pass-clause-part
+returns-in-Pass-clause-part g c steps config said is well =
+    let same = ap (said_by c.args.frame.now) c.in-Pass.is in
+    one_part g.K.ByteSink.written g.K.ByteSink.faults c.args.out.now c.pass.new.out c.args.block.now steps config said
+    (said_by c.args.frame.now c.args.says) _ c.pass.result same
+    (c.pass.ensures.part steps config said is (well_as config said _ _ same well))
+
+pub returns-in-Cut-clause-answers : goal.returns-in-Cut-clause-answers
+returns-in-Cut-clause-answers g c steps config said is well =
+    let same = ap (said_by c.args.frame.now) c.in-Cut.is in
+    quiet_more g.K.ByteSink.written g.K.ByteSink.faults c.args.out.now c.args.block.now c.cut.new.self steps config said
+    (said_by c.args.frame.now c.args.says) (cuts c.in-Cut.line ∷ []) same
+    (c.cut.ensures steps config said is (well_as config said _ _ same well))
+    (cut_answered steps (leg_said config (said ++ cuts c.in-Cut.line ∷ [])) said c.in-Cut.line)
+
+pub returns-in-Mend-clause-answers : goal.returns-in-Mend-clause-answers
+returns-in-Mend-clause-answers g c steps config said is well =
+    let same = ap (said_by c.args.frame.now) c.in-Mend.is in
+    quiet_more g.K.ByteSink.written g.K.ByteSink.faults c.args.out.now c.args.block.now c.mend.new.self steps config said
+    (said_by c.args.frame.now c.args.says) (mends c.in-Mend.line ∷ []) same
+    (c.mend.ensures steps config said is (well_as config said _ _ same well))
+    (mend_answered steps (leg_said config (said ++ mends c.in-Mend.line ∷ [])) said c.in-Mend.line)

@@ -1,0 +1,16 @@
+//! A group behind pipes: a live text is answered line by line as it comes, by a walk that is told what its lines say.
+//! What is replied to a line, and to the end of the text, is a `Dialogue` of specs/ (`live_dialogue`); `talk` of
+//! `command_parts` reads the text and puts the replies. Nothing of a text is read here, which is in `text_live`, and
+//! no event of a session is made here, which is in `walk_engine`. Begin with `live`; `live_law` says what a
+//! conversation is worth.
+#![tactic(auto)]
+
+mod answered_walk;
+mod live_command;
+mod live_laws;
+mod live_notes;
+mod live_talker;
+mod timed_lines;
+
+pub use live_command::live;
+pub use live_laws::live_law;
