@@ -12,6 +12,8 @@ mod channels_command;
 #[cfg(test)]
 mod gate_door;
 #[cfg(test)]
+mod live_rows;
+#[cfg(test)]
 mod noise_command;
 #[cfg(test)]
 mod option_rows;

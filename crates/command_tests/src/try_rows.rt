@@ -32,6 +32,10 @@ pub enum Turns {
     Meeting,
     /// The input comes seven octets at a time, and the call of the source fails that has the turn's number.
     Takes,
+    /// The input comes octet by octet, and the call of the source fails that has the turn's number.
+    Octets,
+    /// The input comes seven octets at a time.
+    Pieces,
     /// The call of `out` fails that has the turn's number.
     Puts,
     /// The same, where the notes may have other lines before those of the answer.
@@ -114,6 +118,8 @@ fn source_of(alloc: Global, case: Case<'_>, number: u32) -> Result<MemSource, Al
     let octets = case.input;
     match case.turns {
         Turns::Takes => MemSource::in_steps(alloc, octets, &[number], 7),
+        Turns::Octets => MemSource::in_steps(alloc, octets, &[number], 1),
+        Turns::Pieces => MemSource::in_steps(alloc, octets, &[], 7),
         Turns::Beginnings => MemSource::new(
             alloc,
             &octets[..octets.len().min(number as usize)],

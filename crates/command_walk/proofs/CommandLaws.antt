@@ -14,7 +14,7 @@ use Rattle.command_parts.specs.declared.stop_and_status.Stop.TheVariants.{Memory
 use Rattle.command_parts.proofs.StopLaws.{ends-no-memory}
 use Rattle.command_walk.specs.declared.command_of_words.WalkCommand.{WalkCommand}
 use Rattle.command_walk.specs.declared.command_of_words.WalkCommand.TheVariants.{Walk, Trace, Fates, Capture, Gfp, Frames, Decode, Noise, Au4, Channels, Pair, Make, Check, Service}
-use Rattle.command_walk.specs.declared.command_of_words.WalkCommand.TheVariants.{H4, Stream}
+use Rattle.command_walk.specs.declared.command_of_words.WalkCommand.TheVariants.{H4, Live, Stream}
 use Rattle.command_walk.specs.commands.Walk.{word_at, is_word, walk_words}
 use Rattle.command_walk.specs.commands.Trace.{trace_words}
 use Rattle.command_walk.specs.commands.Fates.{fates_words}
@@ -29,6 +29,7 @@ use Rattle.command_walk.specs.commands.Noise.{noise_words}
 use Rattle.command_walk.specs.commands.Au4.{au4_words}
 use Rattle.command_walk.specs.commands.Channels.{channels_words}
 use Rattle.command_walk.specs.commands.Pair.{pair_words}
+use Rattle.command_walk.specs.commands.Live.{live_words}
 use Rattle.command_walk.specs.commands.Make.{load_of, make_words}
 use Rattle.command_walk.specs.commands.Stream.{ticks_of, rate_of, numbers_in, stream_words}
 use Rattle.command_walk.specs.WordsOfCommands.{command_of, command_in, task_for, task_of, usage}
@@ -52,6 +53,11 @@ or-fits (Some command) g a b = a
 if-fits : (test : Bool) (f : Option WalkCommand) → IfSome f Fits → IfSome (if test then f else None) Fits
 if-fits true f fits = fits
 if-fits false f fits = tt
+
+either-fits : (test : Bool) (f g : Option WalkCommand) → IfSome f Fits → IfSome g Fits →
+    IfSome (if test then f else g) Fits
+either-fits true f g fits other = fits
+either-fits false f g fits other = other
 
 load-fits : (number lines ticks : Option ℕ) → IfSome lines (IsWithin 1 64) → IfSome ticks (IsWithin 1 1000000) →
     IfSome (load_of number lines ticks) Fits
@@ -136,6 +142,12 @@ channels-fits words = if-fits (is_word (codes "channels") words) (Some Channels)
 pair-fits : (words : List (List ℕ)) → IfSome (pair_words words) Fits
 pair-fits words = if-fits (is_word (codes "pair") words) (Some Pair) tt
 
+live-fits : (words : List (List ℕ)) → IfSome (live_words words) Fits
+live-fits words =
+    let told = length words == 2 && (bytes_eq (word_at 0 words) (codes "live") && bytes_eq (word_at 1 words) (codes "trace")) in
+    either-fits (is_word (codes "live") words) (Some (Live false)) (if told then Some (Live true) else None) tt
+    (if-fits told (Some (Live true)) tt)
+
 decode-fits : (words : List (List ℕ)) → IfSome (decode_words words) Fits
 decode-fits words = if-fits (is_word (codes "decode") words) (Some Decode) tt
 
@@ -180,9 +192,11 @@ named-fits words =
     let links = option_or noises (au4_words words) in
     let channels = option_or links (channels_words words) in
     let pairs = option_or channels (pair_words words) in
-    let makes = option_or pairs (make_words words) in
+    let lives = option_or pairs (live_words words) in
+    let makes = option_or lives (make_words words) in
     or-fits makes (stream_words words)
-    (or-fits pairs (make_words words)
+    (or-fits lives (make_words words)
+    (or-fits pairs (live_words words)
     (or-fits channels (pair_words words)
     (or-fits links (channels_words words)
     (or-fits noises (au4_words words)
@@ -202,7 +216,7 @@ named-fits words =
     (gfp-fits words))
     (frames-fits words))
     (decode-fits words)) (noise-fits words)) (au4-fits words))
-    (channels-fits words)) (pair-fits words)) (make-fits words)) (stream-fits words)
+    (channels-fits words)) (pair-fits words)) (live-fits words)) (make-fits words)) (stream-fits words)
 
 pub fits : (words : List (String Global)) (command : WalkCommand) → command_in words ≡ Some command → Fits command
 fits words command is =
@@ -240,6 +254,7 @@ is-command (Some Noise) some = tt
 is-command (Some Au4) some = tt
 is-command (Some Channels) some = tt
 is-command (Some Pair) some = tt
+is-command (Some (Live trace)) some = tt
 is-command (Some (Make number lines ticks)) some = tt
 is-command (Some (Stream load)) some = tt
 

@@ -5,6 +5,7 @@ pub mod HexTextLaws
 pub mod DecodedLaws
 pub mod CountLaws
 pub mod RoomLaws
+pub mod GivenLaws
 pub mod SeeLaws
 pub mod CommandLaws
 pub mod TakenLaws

@@ -1,6 +1,6 @@
 -- What the rooms of the commands make, and the headline of what they write.
-use Rattle.std.proofs.Common.{◌≡◌, ◌≤◌, ℕ, List, length, Option, Some, IfSome, Result, Ok, Err, refl, sym, ◌∙◌, ap}
-use Rattle.std.proofs.Common.{subst, inl, inr, arith}
+use Rattle.std.proofs.Common.{◌≡◌, ◌≤◌, ℕ, Bool, List, length, Option, Some, None, IfSome, Result, Ok, Err, refl, sym}
+use Rattle.std.proofs.Common.{◌∙◌, ap, subst, inl, inr, arith}
 use Rattle.law_model.specs.Common.{AppendsPart, Counts}
 use Rattle.std.proofs.Common.{OnOk}
 use Rattle.law_model.specs.declared.script_types.Script.{Script}
@@ -10,21 +10,25 @@ use Rattle.law_headline.specs.Texts.{counts_in, walk_text}
 use Rattle.law_headline.specs.Headline.{IsWalkHeadline}
 use Rattle.law_headline.proofs.HeadlineLaws.{walk_headline}
 use Rattle.walk_engine.specs.Common.{Walked}
-use Rattle.command_parts.specs.Common.{Answer, reads, Lent, Takes, WritesAll, Ends, HasScript, answer_of}
+use Rattle.command_parts.specs.Common.{Answer, reads, talks, Lent, Takes, WritesAll, Ends, HasScript, answer_of}
 use Rattle.command_parts.specs.Common.{script_answer}
 use Rattle.command_parts.specs.Task.{writes, writes_both}
-use Rattle.command_parts.proofs.EndLaws.{is-done, known-text}
+use Rattle.command_parts.proofs.EndLaws.{as-talk, is-done, known-text}
+use Rattle.command_parts.proofs.TalkEndLaws.{all-said}
 use Rattle.pair_walk.specs.declared.pair_script.script_pair.PairFault.{PairFault}
 use Rattle.pair_walk.specs.declared.pair_script.script_pair.ScriptPair.{ScriptPair}
 use Rattle.pair_walk.specs.pair_script.Pair.{pair_of}
 use Rattle.pair_walk.specs.pair_script.Inputs.{pair_answer_of}
 use Rattle.pair_walk.specs.Text.{way_text, pair_text, pair_reply}
 use Rattle.pair_walk.proofs.HeadlineLaws.{pair_headline}
+use Rattle.walk_live.specs.Headline.{IsLiveHeadline}
+use Rattle.walk_live.proofs.LiveLaws.HeadlineLaws.{live_headline}
+use Rattle.command_walk.specs.commands.Live.{live_talk}
 use Rattle.command_walk.specs.commands.Pair.{TellsPair}
 use Rattle.command_walk.specs.declared.command_of_words.WalkCommand.{WalkCommand}
 use Rattle.command_walk.specs.declared.command_of_words.WalkCommand.TheVariants.{Walk, Trace, Fates, Capture, Gfp, Frames}
 use Rattle.command_walk.specs.declared.command_of_words.WalkCommand.TheVariants.{Decode, Noise, Au4, Channels, Pair, Make}
-use Rattle.command_walk.specs.declared.command_of_words.WalkCommand.TheVariants.{Check, H4, Service, Stream}
+use Rattle.command_walk.specs.declared.command_of_words.WalkCommand.TheVariants.{Check, H4, Service, Live, Stream}
 use Rattle.command_walk.specs.commands.Trace.{trace_text}
 use Rattle.command_walk.specs.WordsOfCommands.{task_at, RunsScript}
 use Rattle.command_walk.specs.Ended.{HandsScript, StopsBoth}
@@ -98,6 +102,7 @@ module _ {S K E : Type 0} (source : Lent S) (out : Lent K) (notes : Lent E) (sta
   headline-of Au4 runs ends at = absurd runs
   headline-of Channels runs ends at = absurd runs
   headline-of Pair runs ends at = absurd runs
+  headline-of (Live trace) runs ends at = absurd runs
   headline-of (Make number lines ticks) runs ends at = absurd runs
   headline-of (Stream rate) runs ends at = absurd runs
 
@@ -121,6 +126,22 @@ module _ {S K E : Type 0} (source : Lent S) (out : Lent K) (notes : Lent E) (sta
       let text = it.meets.0 in
       known-text source (TellsPair out notes) text it.meets.1
       (pair-told text (pair_of text) refl it.meets.1.fits (subst (WritesAll out notes) (sym it.meets.2) it.written))
+
+-- ---- the headline of a conversation
+module _ {S K E : Type 0} (source : Lent S) (out : Lent K) (notes : Lent E) (trace : Bool) (status : ℕ) where
+  abbrev IsLiveTold : List ℕ → Type 0
+  IsLiveTold text = (written : List ℕ) × Takes out written × IsLiveHeadline trace text written
+
+  live-told : (o : Option (List ℕ)) → IfSome o (λ text. (((live_talk trace).in_all text).end ≡ None)
+      × Takes out ((live_talk trace).in_all text).text) → IfSome o IsLiveTold
+  live-told None all = tt
+  live-told (Some text) all = (((live_talk trace).in_all text).text, all.1, live_headline trace text all.0)
+
+  pub tells-live : Ends source out notes (talks (live_talk trace)) status → status ≡ 0 →
+      IfSome (source.octets source.old) IsLiveTold
+  tells-live ends at =
+      live-told (source.octets source.old)
+      (all-said source out notes (live_talk trace) status (as-talk source out notes (live_talk trace) status ends) at)
 
 -- ---- words
 pub some-command : (P : WalkCommand → Type 0) (o : Option WalkCommand) (command : WalkCommand) → o ≡ Some command →

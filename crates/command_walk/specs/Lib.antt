@@ -1,5 +1,6 @@
 pub mod WordsOfCommands
 pub mod Ended
+pub mod Given
 pub mod Written
 pub mod Told
 pub mod TurnsLeft

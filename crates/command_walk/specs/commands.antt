@@ -12,6 +12,7 @@ pub mod Noise
 pub mod Au4
 pub mod Channels
 pub mod Pair
+pub mod Live
 pub mod Make
 pub mod Service
 pub mod Stream

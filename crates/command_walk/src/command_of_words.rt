@@ -1,8 +1,8 @@
 //! The commands of the program, a line for each.
 
 use crate::commands::{
-    au4, capture, channels, check, decode, fates, frames, gfp, h4, make, noise, pair, service,
-    stream, trace, walk,
+    au4, capture, channels, check, decode, fates, frames, gfp, h4, live, make, noise, pair,
+    service, stream, trace, walk,
 };
 use command_words::FromWords;
 use text_scripts::rate_load::RateLoad;
@@ -39,6 +39,8 @@ pub enum WalkCommand {
     Channels,
     /// `pair`: make the sessions of two scripts, which carry each other's return packets.
     Pair,
+    /// `live`: answer a live text as it comes; `live trace`: with a line for each decision step.
+    Live { trace: bool },
     /// `make`: make the walk of the load of a number, of 1 to 64 lines and 1 to 1,000,000 ticks.
     Make { number: u64, lines: u8, ticks: u32 },
     /// `stream`: write the script lines of a client that sends at a rate.
@@ -65,6 +67,7 @@ impl FromWords for WalkCommand {
             .or(au4::words(words))
             .or(channels::words(words))
             .or(pair::words(words))
+            .or(live::words(words))
             .or(make::words(words))
             .or(stream::words(words))
     }

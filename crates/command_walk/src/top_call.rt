@@ -1,11 +1,12 @@
 //! The program as a call: words, an input and two outputs in, a status and a walk out.
-ghost use Rattle.std.specs.Prelude.{◌≡◌, ◌≢◌, List, ℕ, IfSome, Some, None};
+ghost use Rattle.std.specs.Prelude.{◌≡◌, ◌≢◌, Bool, List, ℕ, IfSome, Some, None};
 ghost use Rattle.law_model.specs.Common.{Appends, Tells};
 ghost use Rattle.law_headline.specs.Headline.{IsWalkHeadline};
+ghost use Rattle.walk_live.specs.Headline.{IsLiveHeadline};
 ghost use Rattle.command_parts.specs.Status.{HasRunAt};
 ghost use Rattle.command_parts.specs.Ends.{Ends, lent};
-ghost use Rattle.command_parts.specs.Gives.{Gives};
-ghost use Rattle.command_walk.specs.declared.command_of_words.WalkCommand.TheVariants.{Pair};
+ghost use Rattle.command_walk.specs.declared.command_of_words.WalkCommand.TheVariants.{Live, Pair};
+ghost use Rattle.command_walk.specs.Given.{GivesFor};
 ghost use Rattle.command_walk.specs.commands.Pair.{TellsPair};
 ghost use Rattle.command_walk.specs.WordsOfCommands.{command_in, task_at, task_of, usage, Fits, HandsBack, RunsScript};
 
@@ -19,6 +20,7 @@ use crate::commands::fates::fates;
 use crate::commands::frames::frames;
 use crate::commands::gfp::gfp;
 use crate::commands::h4::h4;
+use crate::commands::live::live;
 use crate::commands::make::make;
 use crate::commands::noise::noise;
 use crate::commands::pair::pair;
@@ -39,17 +41,21 @@ use walk_engine::walk_core::Walk;
 /// for each decision step of the source on `notes`. `make` runs the load of a number and writes three lines.
 /// `fates` makes the walk of a script and writes what became of each of its frames. `check` does so too, and
 /// writes what in the script has no effect or was refused; `service` what the walk was worth to its client, by
-/// stretches of ticks. `h4` makes the walk of a script and writes the H4 octets that its source sends on a line. `capture` makes the walk of a script and writes a capture of the frames that it
-/// delivers, `gfp` one of the GFP frames that its source sent and the taken rows carry. `frames` reads a capture and writes the line of a script for each
-/// frame in it. `decode` reads the H4 octets of a line in hexadecimal digits and writes the control packets
+/// stretches of ticks. `h4` makes the walk of a script and writes the H4 octets that its source sends on a line.
+/// `capture` makes the walk of a script and writes a capture of the frames that it delivers, `gfp` one of the GFP
+/// frames that its source sent and the taken rows carry. `frames` reads a capture and writes the line of a script
+/// for each frame in it. `decode` reads the H4 octets of a line in hexadecimal digits and writes the control packets
 /// in them. `noise` reads frames and flips, and writes the frames with an FCS that get through when these
 /// bits of their stream are turned over, and the counts. `au4` reads what the pointers of AU-4 frames do, and
 /// writes a line of each numbered VC-4 that comes whole over them, and the counts. `channels` reads the frames
 /// of clients that share a stream by channel numbers, and which octets of it don't arrive, and writes the
 /// frames that get through with their channels, those that are refused, and the counts. `pair` reads two
 /// scripts, divided by the line `other`, makes a session of each, which carry each other's return packets, and
-/// writes what `walk` writes of a script: of the first on `out`, and of the second on `notes`. `stream` writes
-/// the script lines of a client that sends at a rate.
+/// writes what `walk` writes of a script: of the first on `out`, and of the second on `notes`. `live` reads a
+/// live text and answers each of its lines once it has come: it writes on `out` why items are refused, the
+/// frames that come out with the ticks made by then, and how many ticks have passed; `live trace` a line for
+/// each decision step too. At the end of the text it writes the totals. `stream` writes the script lines of a
+/// client that sends at a rate.
 ///
 /// The status is 2 where the words are no command, 3 where the input can't be read, 8 where it or the text of
 /// `stream` has more than 67,108,864 octets, 5 where one of its lines is faulty, or of a capture its head or
@@ -57,7 +63,10 @@ use walk_engine::walk_core::Walk;
 /// `h4` is told, or two scripts don't go together,
 /// 4 where an output can't be written, 7 where memory is short, and else 0. Of those that hold the first in
 /// this order is told; want of memory may come in the place of any but 2, before anything is written. A note
-/// says on `notes` what went wrong. After a fault nothing more is written but that note.
+/// says on `notes` what went wrong. After a fault nothing more is written but that note. At each status but 0
+/// and 4 nothing is written on `out`, but of `live`: there 8 comes where a line has more than 262,144 octets,
+/// or more comes behind line 67,108,864; what comes first in the text is told, and what is answered to the
+/// lines before stands.
 pub fn walk_top<S: ByteSource, K: ByteSink, E: ByteSink>(
     alloc: Global,
     words: &[String],
@@ -85,6 +94,13 @@ pub fn walk_top<S: ByteSource, K: ByteSink, E: ByteSink>(
         (TellsPair (lent K.written K.faults out.old out.new)
         (lent E.written E.faults notes.old notes.new)) }
 
+    // That of a conversation: what is written are the answers to the lines of its text, and then the totals;
+    // and afterwards there is a script of which a walk writes the same frames, refused items and totals, so
+    // that the headline holds of them.
+    ensures live { (trace : Bool) → command_in words.now ≡ Some (Live trace) → result.status ≡ 0 →
+        IfSome (S.left script.old) (λ text. (written : List ℕ)
+        × Appends K.written K.faults out.old out.new written × IsLiveHeadline trace text written) }
+
     // The walk that is handed back has made all events of its script, also where a write failed.
     ensures handed { IfSome (command_in words.now) (λ command. HasRunAt result.status →
         HandsBack (lent S.left S.faults script.old script.new) result.walk command) }
@@ -106,7 +122,7 @@ fn run<S: ByteSource, K: ByteSink, E: ByteSink>(
     notes: &mut E,
 ) -> Result<Ran<Option<Walk>>, Stop>
     requires { Fits command }
-    ensures { Gives (lent S.left S.faults script.old script.new)
+    ensures { GivesFor (lent S.left S.faults script.old script.new)
         (lent K.written K.faults out.old out.new) (lent E.written E.faults notes.old notes.new)
         (task_at command)
         (λ walk. HandsBack (lent S.left S.faults script.old script.new) walk command) result }
@@ -126,6 +142,7 @@ fn run<S: ByteSource, K: ByteSink, E: ByteSink>(
         WalkCommand::Au4 => au4(alloc, script, out),
         WalkCommand::Channels => channels(alloc, script, out),
         WalkCommand::Pair => pair(alloc, script, out, notes),
+        WalkCommand::Live { trace } => live(alloc, trace, script, out),
         WalkCommand::Make {
             number,
             lines,
@@ -142,7 +159,7 @@ fn no_command<E: ByteSink>(notes: &mut E) -> WalkEnd
     ensures told { Tells E.written E.faults notes.old notes.new usage }
 {
     let text =
-        b"usage: vcat_walk walk, trace, fates, check, h4 LINE, service INTERVAL, capture, gfp, frames, decode, noise, au4, channels, pair, make NUMBER LINES TICKS, or stream OCTETS MBITS FIRST END NUMBER\n";
+        b"usage: vcat_walk walk, trace, fates, check, h4 LINE, service INTERVAL, capture, gfp, frames, decode, noise, au4, channels, pair, live, live trace, make NUMBER LINES TICKS, or stream OCTETS MBITS FIRST END NUMBER\n";
     let status = tell_usage(text, notes);
     WalkEnd { status, walk: None }
 }

@@ -9,6 +9,7 @@ pub(super) mod fates;
 pub(super) mod frames;
 pub(super) mod gfp;
 pub(super) mod h4;
+pub(super) mod live;
 pub(super) mod make;
 pub(super) mod noise;
 pub(super) mod pair;

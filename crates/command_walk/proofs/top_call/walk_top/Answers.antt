@@ -1,13 +1,13 @@
 -- The program ends as the command does that the words are.
 use Rattle.std.proofs.Common.{◌≡◌, Option, Some, Err, refl, sym, ap, subst, rules, arith}
 use Rattle.command_parts.specs.Ends.{Ends, lent}
-use Rattle.command_parts.proofs.GiveLaws.{ends-given, when-run}
 use Rattle.command_walk.specs.declared.command_of_words.WalkCommand.{WalkCommand}
-use Rattle.command_walk.specs.declared.command_of_words.WalkCommand.TheVariants.{Pair}
+use Rattle.command_walk.specs.declared.command_of_words.WalkCommand.TheVariants.{Live, Pair}
 use Rattle.command_walk.specs.Ended.{walk_of}
 use Rattle.command_walk.specs.WordsOfCommands.{command_in, task_at, task_for, HandsBack}
 use Rattle.command_walk.proofs.CommandLaws.{fits, not-run, any-command, no-such-command, ends-usage, ends-wanting}
-use Rattle.command_walk.proofs.RoomLaws.{some-command, headline-of, tells-pair}
+use Rattle.command_walk.proofs.GivenLaws.{ends-for, run-for}
+use Rattle.command_walk.proofs.RoomLaws.{some-command, headline-of, tells-pair, tells-live}
 use Rattle.command_walk.proofs.top_call.walk_top.Given as given
 use Rattle.command_walk.proofs.top_call.walk_top.Goals as goal
 use Rattle.command_walk.proofs.top_call.walk_top.Goals.{After-end_of}
@@ -22,8 +22,8 @@ ends : (g : given.Over) (c : After-end_of g) →
     (lent g.E.ByteSink.written g.E.ByteSink.faults c.args.notes.now c.end_of.new.notes)
     (task_at c.in-Ok.command) c.end_of.result.status
 ends g c =
-    ends-given _ _ _ _ c.args.notes.now c.run.new.notes c.end_of.new.notes _ _ _ c.run.result c.run.ensures
-    c.end_of.ensures.end
+    ends-for _ _ _ _ c.args.notes.now c.run.new.notes c.end_of.new.notes _ _ (task_at c.in-Ok.command) c.run.result
+    c.run.ensures c.end_of.ensures.end
 
 pub returns-in-Ok-clause-ends : goal.returns-in-Ok-clause-ends
 returns-in-Ok-clause-ends g c =
@@ -49,11 +49,21 @@ returns-in-Ok-clause-ways g c is =
     tells-pair _ _ _ _ (subst P (let same : c.in-Ok.command ≡ Pair = cc in same)
     (ends g (goal.at.returns-in-Ok-clause-ways g c).After-end_of))
 
+pub returns-in-Ok-clause-live : goal.returns-in-Ok-clause-live
+returns-in-Ok-clause-live g c trace is =
+    let P : WalkCommand → Type 0 = λ command. Ends (lent g.S.ByteSource.left g.S.ByteSource.faults c.args.script.now c.run.new.script)
+    (lent g.K.ByteSink.written g.K.ByteSink.faults c.args.out.now c.run.new.out)
+    (lent g.E.ByteSink.written g.E.ByteSink.faults c.args.notes.now c.end_of.new.notes)
+    (task_at command) c.end_of.result.status in
+    let known : command_in c.args.words.now ≡ Some c.in-Ok.command = search rules in
+    tells-live _ _ _ trace _ (subst P (let same : c.in-Ok.command ≡ Live trace = cc in same)
+    (ends g (goal.at.returns-in-Ok-clause-live g c).After-end_of))
+
 pub returns-in-Ok-clause-handed : goal.returns-in-Ok-clause-handed
 returns-in-Ok-clause-handed g c =
     some-command _ (command_in c.args.words.now) c.in-Ok.command (search rules)
-    (λ at. rw c.end_of.ensures.walk (when-run _ _ _ _ c.args.notes.now c.run.new.notes c.end_of.new.notes _ _ _
-    (λ ran. HandsBack (lent g.S.ByteSource.left g.S.ByteSource.faults c.args.script.now c.run.new.script)
+    (λ at. rw c.end_of.ensures.walk (run-for _ _ _ _ c.args.notes.now c.run.new.notes c.end_of.new.notes _ _
+    (task_at c.in-Ok.command) (λ ran. HandsBack (lent g.S.ByteSource.left g.S.ByteSource.faults c.args.script.now c.run.new.script)
     (walk_of ran) c.in-Ok.command) (λ own made. made) c.run.result c.run.ensures c.end_of.ensures.end at))
 
 -- ---- the words are no command

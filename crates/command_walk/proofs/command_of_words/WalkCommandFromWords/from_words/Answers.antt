@@ -18,5 +18,6 @@ returns c =
     let links = c.or-11.ensures ∙ ap₂ option_or noises c.words-12.ensures in
     let channels = c.or-12.ensures ∙ ap₂ option_or links c.words-13.ensures in
     let pairs = c.or-13.ensures ∙ ap₂ option_or channels c.words-14.ensures in
-    let makes = c.or-14.ensures ∙ ap₂ option_or pairs c.words-15.ensures in
-    c.or-15.ensures ∙ ap₂ option_or makes c.words-16.ensures
+    let lives = c.or-14.ensures ∙ ap₂ option_or pairs c.words-15.ensures in
+    let makes = c.or-15.ensures ∙ ap₂ option_or lives c.words-16.ensures in
+    c.or-16.ensures ∙ ap₂ option_or makes c.words-17.ensures

@@ -1,0 +1,188 @@
+//! The command `live`, whose input comes in small pieces: what is answered, by then and at the end, and what is wrong
+//! with a live text. What is expected comes of a model of the definitions. Rows stand behind functions, so that no
+//! proof sees them.
+
+use crate::try_rows::Program::Walk;
+use crate::try_rows::{Turns, try_rows};
+use std::alloc::Global;
+
+/// Nothing is said; a frame comes out in the tick behind it; another waits in a group whose other line has more delay;
+/// at the least lag a round in each packet makes no tick. Then blanks, and a last line without its LF.
+fn passing_rows() -> &'static str {
+    "\
+    live;lines 1|delays 0|ring 1|lag 1|ticks 9| => 0;total ticks 0 taken 0 frames 0 commands 0 refused 0 got 0|;\n\
+    live;lines 1|delays 0|ring 1|lag 1|ticks 1000|add 0|pass 40|frame aa*64|pass 1| => 0;now 40|got 41 aa*64|\
+        now 41|total ticks 41 taken 41 frames 1 commands 1 refused 0 got 1|;\n\
+    live;lines 2|delays 0 5|ring 6|lag 2|ticks 1000|add 0|pass 100|frame aa*64|pass 5|pass 1| => 0;now 100|\
+        now 105|got 106 aa*64|now 106|total ticks 106 taken 101 frames 1 commands 1 refused 0 got 1|;\n\
+    live;lines 1|delays 0|ring 1|lag 1|ticks 1000|pass 100|pass 1| => 0;now 100|now 101|\
+        total ticks 101 taken 101 frames 0 commands 0 refused 0 got 0|;\n\
+    live;lines 1|delays 0|ring 1|lag 1|ticks 9|# a\r|  pass   03 \r||pass 2| => 0;now 3|now 5|\
+        total ticks 5 taken 5 frames 0 commands 0 refused 0 got 0|;\n\
+    live;lines 1|delays 0|ring 1|lag 1|ticks 9|pass 1 => 0;now 1|\
+        total ticks 1 taken 1 frames 0 commands 0 refused 0 got 0|;"
+}
+
+/// What is on its way when a line is cut comes out, and what is made until it is mended doesn't. A cut that is mended
+/// in the same tick costs nothing. Then cuts behind a failure with a slip, and one that isn't mended.
+fn cut_rows() -> &'static str {
+    "\
+    live;lines 1|delays 5|ring 1|lag 2|ticks 1000|add 0|pass 100|frame aa*64|pass 3|cut 0|frame bb*64|pass 9|\
+        mend 0|pass 25|frame cc*64|pass 1|frame dd*64|pass 6| => 0;now 100|now 103|got 106 aa*64|now 112|now 137|\
+        now 138|got 144 dd*64|now 144|total ticks 144 taken 139 frames 4 commands 1 refused 0 got 2|;\n\
+    live;lines 1|delays 0|ring 1|lag 1|ticks 1000|add 0|pass 50|cut 0|mend 0|frame aa*64|pass 1|cut 0|frame bb*64|\
+        pass 9| => 0;now 50|got 51 aa*64|now 51|now 60|\
+        total ticks 60 taken 60 frames 2 commands 1 refused 0 got 1|;\n\
+    live;lines 2|delays 0 3|ring 8|lag 2|ticks 5000|fail 1 300 310 2|add 0|pass 310|cut 1|pass 6|cut 0|mend 1|\
+        pass 1|mend 0|cut 0|mend 0|pass 9|cut 1| => 0;now 310|now 316|now 317|now 326|\
+        total ticks 326 taken 321 frames 0 commands 1 refused 0 got 0|;"
+}
+
+/// A refusal of each kind but those of what waits.
+fn refused_rows() -> &'static str {
+    "\
+    live;lines 2|delays 0 0|ring 1|lag 1|ticks 1000|add 0|add 0|remove 1|frame 00|add 2|\
+        pass 1| => 0;refused 1 already in|refused 2 not in|refused 3 length 1|refused 4 unknown|now 1|\
+        total ticks 1 taken 1 frames 0 commands 1 refused 4 got 0|;"
+}
+
+/// With decision steps, each before the frames of its round.
+fn traced_rows() -> &'static str {
+    "\
+    live trace;lines 2|delays 0 0|ring 1|lag 2|ticks 1000|add 0|pass 56|frame aa*64|add 1|pass 1|\
+        pass 16| => 0;packet 0 chg 1 act 0 back none add:0 idle:255|packet 1 chg 1 act 0 back none add:0 idle:255|\
+        packet 2 chg 1 act 1 back 7f/1 eos:0 idle:255|now 56|packet 3 chg 0 act 1 back ff/1 eos:0 add:1|\
+        got 57 aa*64|now 57|packet 4 chg 0 act 1 back ff/1 eos:0 add:1|now 73|\
+        total ticks 73 taken 73 frames 1 commands 2 refused 0 got 1|;"
+}
+
+/// The first faulty line, behind the answers to those before it; and slips that don't fit, at the first live line or
+/// at the end.
+fn faulty_rows() -> &'static str {
+    "\
+    live;lines 1|delays 0|ring 1|lag 1|ticks 9|pass 4|Pass 1| => 5;now 4|;fault: line 7: word|\
+        help: a line begins with one of container, lines, delays, ring, lag, ticks, sink, holdoff, restore, \
+        statuses, fail, lost, frame, add, remove, cut, mend, pass|\n\
+    live;lines 1|delays 0|ring 1|lag 1|ticks 9|tick 4| => 5;;fault: line 6: word|\
+        help: a line begins with one of container, lines, delays, ring, lag, ticks, sink, holdoff, restore, \
+        statuses, fail, lost, frame, add, remove, cut, mend, pass|\n\
+    live;lines 1|delays 0|ring 1|lag 1|ticks 9|pass 4|fail 0 5 6 0| => 5;now 4|;fault: line 7: order|\
+        help: fail and lost stands before live lines|\n\
+    live;lines 1|delays 0|ring 1|lag 1|ticks 9|pass 4|frame 4 00| => 5;now 4|;fault: line 7: word|\
+        help: frame takes 1 words, and 2 follow|\n\
+    live;lines 1|delays 0|ring 1|lag 1|ticks 9|frame 0a0| => 5;;fault: line 6: hex|\
+        help: word 2 is an even number of hexadecimal digits|\n\
+    live;lines 1|delays 0|ring 1|lag 1|ticks 9|pass 10| => 5;;fault: line 6: range|help: word 2 is from 1 to 9|\n\
+    live;lines 1|delays 0|ring 1|lag 1|ticks 9|pass 9|pass 1| => 5;now 9|;fault: line 7: range|\
+        help: word 2 is at most 0|\n\
+    live;lines 1|delays 0|ring 1|lag 1|ticks 9|pass 9|frame 00| => 5;now 9|;fault: line 7: order|\
+        help: the last tick has passed|\n\
+    live;lines 1|delays 0|ring 1|lag 1|ticks 9|cut 1| => 5;;fault: line 6: range|help: word 2 is from 0 to 0|\n\
+    live;lines 1|delays 0|ring 1|lag 1|ticks 9|cut 0|pass 1|cut 0| => 5;now 1|;fault: line 8: order|\
+        help: line 0 is cut already|\n\
+    live;lines 1|delays 0|ring 1|lag 1|ticks 9|pass 4|add 0|mend 0| => 5;now 4|;fault: line 8: order|\
+        help: line 0 isn't cut|\n\
+    live;lines 1|delays 0|ring 1|lag 1|ticks 9|fail 0 3 5 1|pass 4 4| => 6;;fault: spread 0 0 1 1|\
+        help: delays from 0 to 0 and slips of 1 need a ring of at least 2|\n\
+    live;lines 1|pass 1| => 5;;fault: line 2: missing|help: the line delays has to stand here|\n\
+    live; => 5;;fault: line 1: missing|help: the line lines has to stand here|\n\
+    live;lines 1|delays 0|ring 1|lag 1|ticks 9|fail 0 3 5 1| => 6;;fault: spread 0 0 1 1|\
+        help: delays from 0 to 0 and slips of 1 need a ring of at least 2|"
+}
+
+/// Where the call of the source fails that comes behind so many octets: the answers to the lines whose LF has come.
+fn octet_row() -> &'static str {
+    "\
+    live;lines 1|delays 0|ring 1|lag 1|ticks 1000|add 0|pass 40|frame aa*64|\
+        pass 1| => 55 TIMES 3;;fault: read failed| THEN 142 TIMES 3;now 40|;fault: read failed| THEN 3;now 40|\
+        got 41 aa*64|now 41|;fault: read failed| THEN 0;now 40|got 41 aa*64|now 41|\
+        total ticks 41 taken 41 frames 1 commands 1 refused 0 got 1|;"
+}
+
+/// A line that is too long, also where its LF hasn't come.
+fn long_rows() -> &'static str {
+    "\
+    live;lines 1|delays 0|ring 1|lag 1|ticks 9|pass 1|   *131072| => 8;now 1|;fault: too long|\n\
+    live;lines 1|delays 0|ring 1|lag 1|ticks 9|pass 1|   *131072 => 8;now 1|;fault: too long|"
+}
+
+/// What is written where the first put fails, the second, and so on, and last without a fault.
+fn put_row() -> &'static str {
+    "\
+    live;lines 1|delays 0|ring 1|lag 1|ticks 9|pass 4|pass 1| => 4;;fault: write failed| THEN 4;now 4|now 5|;\
+        fault: write failed| THEN 0;now 4|now 5|total ticks 5 taken 5 frames 0 commands 0 refused 0 got 0|;"
+}
+
+/// A note that can't be written: the status stays.
+fn untold_row() -> &'static str {
+    "live;x| => 5;;"
+}
+
+/// The parts of a row, each with how often it comes: more frames than may wait, of which the last is refused, and one
+/// more once some have gone.
+const QUEUE: [(u32, &str); 7] = [
+    (1, "live;lines 1|delays 0|ring 1|lag 1|ticks 1000|add 0|"),
+    (257, "frame 00*64|"),
+    (1, "pass 41|frame 00*64|pass 1| => 0;refused 257 queue|"),
+    (32, "got 41 00*64|"),
+    (1, "now 41|"),
+    (32, "got 42 00*64|"),
+    (
+        1,
+        "now 42|total ticks 42 taken 42 frames 257 commands 1 refused 1 got 64|;",
+    ),
+];
+
+/// That row, as far as there is memory.
+fn queue_row(alloc: Global) -> String {
+    let mut row = String::new(alloc);
+    for (count, text) in QUEUE {
+        for _ in 0..count {
+            let _ = row.push_str(text);
+        }
+    }
+    row
+}
+
+#[test]
+fn conversations(rt: HostRuntime) {
+    let alloc = rt.alloc();
+    let mut wrong = String::new(alloc);
+    try_rows(
+        &rt,
+        alloc,
+        (Walk, Turns::Pieces),
+        passing_rows(),
+        &mut wrong,
+    );
+    try_rows(&rt, alloc, (Walk, Turns::Pieces), cut_rows(), &mut wrong);
+    try_rows(
+        &rt,
+        alloc,
+        (Walk, Turns::Pieces),
+        refused_rows(),
+        &mut wrong,
+    );
+    try_rows(&rt, alloc, (Walk, Turns::Pieces), traced_rows(), &mut wrong);
+    try_rows(&rt, alloc, (Walk, Turns::Pieces), faulty_rows(), &mut wrong);
+    let queue = queue_row(alloc);
+    try_rows(
+        &rt,
+        alloc,
+        (Walk, Turns::Pieces),
+        queue.as_str(),
+        &mut wrong,
+    );
+    assert_eq!(rt; wrong.as_str(), "");
+}
+
+#[test]
+fn conversations_that_are_cut_short(rt: HostRuntime) {
+    let alloc = rt.alloc();
+    let mut wrong = String::new(alloc);
+    try_rows(&rt, alloc, (Walk, Turns::Octets), octet_row(), &mut wrong);
+    try_rows(&rt, alloc, (Walk, Turns::Whole), long_rows(), &mut wrong);
+    try_rows(&rt, alloc, (Walk, Turns::Puts), put_row(), &mut wrong);
+    try_rows(&rt, alloc, (Walk, Turns::Tells), untold_row(), &mut wrong);
+    assert_eq!(rt; wrong.as_str(), "");
+}
