@@ -8,3 +8,4 @@ pub mod FirstFaultLaws
 pub mod FitLaws
 pub mod ReadLaws
 pub mod PieceLaws
+pub mod DigitLaws

@@ -1,6 +1,6 @@
 -- What a draft meets, and what a line may say that stands after those of a draft.
 use Rattle.std.specs.Prelude.{◌≡◌, ◌⊎◌, ⊤, ℕ, ◌-◌, ◌==◌, ◌<◌, ◌≤◌, not, nat_lt, Bool, false, List, [], ◌∷◌}
-use Rattle.std.specs.Prelude.{length, replicate, Option, option_map, All}
+use Rattle.std.specs.Prelude.{length, replicate, Option, None, option_map, All}
 use Rattle.std.specs.Option.{option_or}
 use Rattle.law_model.specs.Common.{dues_of, frame_dues, command_dues, IsWithin, HasLosses, IsSize, IsItem, AreItems}
 use Rattle.law_model.specs.Common.{IsEvent, IsOptions, IsStatuses}
@@ -20,8 +20,9 @@ use Rattle.text_scripts.specs.declared.script_read.script_draft.Statement.{State
 use Rattle.text_scripts.specs.declared.script_read.script_draft.Statement.TheVariants as says
 use Rattle.text_scripts.specs.declared.script_read.script_draft.Draft.{Draft}
 use Rattle.text_lines.specs.declared.text_faults.Names.TheVariants as names
-use Rattle.text_lines.specs.Words.{word_at, number_at}
-use Rattle.text_lines.specs.Fields.{where_true, within, number_fault, name_fault, fields_fault}
+use Rattle.hex.specs.Hex.{decode_of}
+use Rattle.text_lines.specs.Words.{word_at, number_at, octets_of}
+use Rattle.text_lines.specs.Fields.{where_true, within, number_fault, octets_fault, name_fault, fields_fault}
 use Rattle.text_scripts.specs.script_read.Statements.{windows_of, last_end, last_lost}
 
 -- ---- faults
@@ -120,6 +121,13 @@ abbrev pub last_due : Draft → ItemKind → ℕ
 last_due d (item.Frame octets) = d.frame_due
 last_due d (item.Add line) = d.command_due
 last_due d (item.Remove line) = d.command_due
+
+-- these words are when a frame is due and digits that say its octets
+pub record IsFrameOf (due octets : List ℕ) (ws : List (List ℕ)) : Type 0 where
+  pub digits : List ℕ
+  pub words : ws ≡ due ∷ digits ∷ []
+  pub sound : octets_fault 3 1 65535 (decode_of digits) ≡ None
+  pub is : octets ≡ octets_of digits
 
 -- a window that line m may have next
 pub record IsNext (d : Draft) (m : ℕ) (window : Window) : Type 0 where

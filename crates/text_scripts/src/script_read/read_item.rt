@@ -1,10 +1,10 @@
 //! The words of items and of event lines that name a line.
-ghost use Rattle.std.specs.Prelude.{◌≡◌, ◌≤◌, ◌<◌, IfOk, IfErr, None, Some};
+ghost use Rattle.std.specs.Prelude.{◌≡◌, ◌≤◌, ◌<◌, ℕ, List, length, All, IfSome, IfOk, IfErr, None, Some};
 ghost use Rattle.text_lines.specs.Words.{words, number_at};
 ghost use Rattle.text_scripts.specs.script_read.Lifted.{IsStop};
 ghost use Rattle.text_scripts.specs.script_read.Statements.{rest_fault, said};
 ghost use Rattle.law_model.specs.Common.{IsWithin, IsItem};
-ghost use Rattle.text_scripts.specs.script_read.Drafts.{IsDraft, last_due, command_fault};
+ghost use Rattle.text_scripts.specs.script_read.Drafts.{IsDraft, last_due, command_fault, IsFrameOf};
 
 use crate::script_read::script_draft::{Draft, Statement};
 use crate::script_read::script_fault::{LineFault, LineStop};
@@ -12,10 +12,52 @@ use crate::script_read::script_keyword::Keyword;
 use crate::script_read::word_count_fault::count_fault;
 use law_model::{EventLine, Item, ItemKind, Octets};
 use std::alloc::Global;
-use text_lines::{number_within, octets_within, two_words};
+use text_lines::{next_word, number_within, octets_within, two_words};
 
-/// A frame, and when it is due.
-pub(super) fn read_frame(alloc: Global, draft: &Draft, rest: &[u8]) -> Result<Item, LineStop>
+// The word of when a frame is due, and its octets, where nothing but a space stands between the two and its digits
+// end the line. Digits have no space among them, so that they aren't searched for one.
+fn plain_frame(alloc: Global, rest: &[u8]) -> Option<(&[u8], Vec<u8>)>
+    ensures words { IfSome result (λ read. IsFrameOf read.0.now read.1.items (words rest.now)) }
+    ensures size { IfSome result (λ read. IsWithin 1 65535 (length read.1.items)) }
+    ensures octets { IfSome result (λ read. All (λ octet. octet < 256) read.1.items) }
+{
+    let Some((due, digits)) = next_word(rest) else {
+        return None;
+    };
+    match octets_within(alloc, digits, 3, 1, 65_535) {
+        Ok(octets) => Some((due, octets)),
+        Err(_) => None,
+    }
+}
+
+// A frame of these octets, and when it is due by this word.
+fn due_frame(draft: &Draft, due: &[u8], octets: Vec<u8>) -> Result<Item, LineStop>
+    requires stands { 6 ≤ draft.now.next }
+    requires config { IsDraft draft.now }
+    requires size { IsWithin 1 65535 (length octets.items) }
+    requires octets { All (λ octet. octet < 256) octets.items }
+    ensures ok { (ws : List (List ℕ)) → IsFrameOf due.now octets.items ws →
+        IfOk result (λ item. (rest_fault draft.now Keyword.Frame ws ≡ None)
+        × (Statement.Item item ≡ said Keyword.Frame ws)) }
+    ensures fits { IfOk result (λ item. IsItem draft.now.config.ticks item) }
+    ensures order { IfOk result (λ item. last_due draft.now item.kind ≤ item.due) }
+    ensures err { (ws : List (List ℕ)) → IsFrameOf due.now octets.items ws →
+        IfErr result (λ stop. IsStop stop (rest_fault draft.now Keyword.Frame ws)) }
+{
+    let due = number_within(due, 2, 0, u64::from(draft.config.ticks) - 1)? as u32;
+    if due < draft.frame_due {
+        return Err(LineStop::Fault(LineFault::FrameBefore {
+            due: draft.frame_due,
+        }));
+    }
+    Ok(Item {
+        due,
+        kind: ItemKind::Frame(Octets(octets)),
+    })
+}
+
+// The same of a line with other spaces, or with a fault.
+fn spaced_frame(alloc: Global, draft: &Draft, rest: &[u8]) -> Result<Item, LineStop>
     requires stands { 6 ≤ draft.now.next }
     requires config { IsDraft draft.now }
     ensures ok { IfOk result (λ item. (rest_fault draft.now Keyword.Frame (words rest.now) ≡ None)
@@ -39,6 +81,23 @@ pub(super) fn read_frame(alloc: Global, draft: &Draft, rest: &[u8]) -> Result<It
         due,
         kind: ItemKind::Frame(Octets(octets)),
     })
+}
+
+/// A frame, and when it is due.
+pub(super) fn read_frame(alloc: Global, draft: &Draft, rest: &[u8]) -> Result<Item, LineStop>
+    requires stands { 6 ≤ draft.now.next }
+    requires config { IsDraft draft.now }
+    ensures ok { IfOk result (λ item. (rest_fault draft.now Keyword.Frame (words rest.now) ≡ None)
+        × (Statement.Item item ≡ said Keyword.Frame (words rest.now))) }
+    ensures fits { IfOk result (λ item. IsItem draft.now.config.ticks item) }
+    ensures order { IfOk result (λ item. last_due draft.now item.kind ≤ item.due) }
+    ensures err { IfErr result (λ stop.
+        IsStop stop (rest_fault draft.now Keyword.Frame (words rest.now))) }
+{
+    match plain_frame(alloc, rest) {
+        Some((due, octets)) => due_frame(draft, due, octets),
+        None => spaced_frame(alloc, draft, rest),
+    }
 }
 
 /// When a command is due, and the line that it names.

@@ -58,11 +58,13 @@ pub enum Keyword {
 }
 
 impl Keyword {
-    /// The keyword that a word is.
+    /// The keyword that a word is. That of a frame is tried first, since most lines have it.
     pub(super) fn of(word: &[u8]) -> Option<Keyword>
         ensures { result ≡ keyword_of word.now }
     {
-        if word == b"container".as_slice() {
+        if word == b"frame".as_slice() {
+            Some(Keyword::Frame)
+        } else if word == b"container".as_slice() {
             Some(Keyword::Container)
         } else if word == b"lines".as_slice() {
             Some(Keyword::Lines)

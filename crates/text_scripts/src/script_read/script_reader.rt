@@ -1,5 +1,5 @@
 //! A script whose text comes in pieces.
-ghost use Rattle.std.specs.Prelude.{◌≡◌, ◌⊎◌, ℕ, ◌+◌, ◌≤◌, List, [], ◌++◌, length, take, IfOk, IfErr, Ok, Err, None};
+ghost use Rattle.std.specs.Prelude.{◌≡◌, ◌⊎◌, ℕ, ◌+◌, ◌≤◌, List, [], ◌++◌, length, take, drop, IfOk, IfErr, Ok, Err, None};
 ghost use Rattle.std.specs.Str.Lines.{lines};
 ghost use Rattle.text_lines.specs.Language.{said_from};
 ghost use Rattle.text_lines.specs.Words.{words};
@@ -37,6 +37,17 @@ fn fault_of(number: u32, stop: LineStop) -> ScriptFault
         LineStop::Fault(fault) => ScriptFault::Line { number, fault },
         LineStop::Memory => ScriptFault::Memory,
     }
+}
+
+// A text without so many octets at its front, in the memory that it has.
+fn without_front(mut text: Vec<u8>, n: usize) -> Vec<u8>
+    requires { n ≤ length text.items }
+    ensures { result.items ≡ drop n text.items }
+{
+    let left = text.len() - n;
+    text.copy_within(n.., 0);
+    text.truncate(left);
+    text
 }
 
 impl ScriptReader {
@@ -98,10 +109,7 @@ impl ScriptReader {
             ⊎ ((more : List ℕ) → script_of (all ++ more) ≡ Err fault)) }
     {
         match self.read_lines(alloc, rest.as_slice()) {
-            Ok((reader, used)) => match Vec::from_slice(alloc, &rest[used..]) {
-                Ok(left) => Ok((reader, left)),
-                Err(_) => Err(ScriptFault::Memory),
-            },
+            Ok((reader, used)) => Ok((reader, without_front(rest, used))),
             Err(fault) => Err(fault),
         }
     }
