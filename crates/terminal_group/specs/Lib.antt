@@ -1,4 +1,5 @@
 pub mod Item
+pub mod Bare
 pub mod Place
 pub mod Lands
 pub mod Landed

@@ -4,20 +4,21 @@ ghost use Rattle.std.specs.Prelude.{◌≡◌, ◌<◌, ◌≤◌, ◌+◌, if�
 ghost use Rattle.std.specs.Prelude.{is_some, vec_capacity};
 ghost use Rattle.std.specs.List.Sorted.{IsNonDecreasing};
 ghost use Rattle.law_model.specs.Common.{IsValid, dues_of, frame_dues, command_dues, held, longest_input};
-ghost use Rattle.terminal_group.specs.Item.{bare, bare_items};
+ghost use Rattle.terminal_group.specs.Item.{bare_items};
 ghost use Rattle.law_walk.specs.Common.{IsPlaced, refused_by};
 ghost use Rattle.terminal_group.specs.Landed.{none_landed, next_place, next_number, due_at, landed_of, refused_of};
 ghost use Rattle.terminal_group.specs.Landed.{HasPassed, AreOthers, AreBefore, AreAfter};
 
+use crate::bare_item::BareItem;
 use crate::landing_order::{held_item, next_command, next_frame};
-use law_model::{Item, ItemKind, Octets, Refusal, Script};
+use law_model::{Item, Refusal, Script};
 use std::alloc::{AllocError, Global};
 use std::marker::Model;
 
 /// The items of a script without the octets of its frames, which of them have landed, and which were refused.
 #[derive(Drop)]
 pub struct Landing {
-    items: Vec<Item>,
+    items: Vec<BareItem>,
     /// The places of the next frame and of the next command.
     frame: usize,
     command: usize,
@@ -90,7 +91,7 @@ impl Landing {
         requires { next_number self.now client ≡ Some number }
         ensures { result ≡ due_at self.now.items number }
     {
-        self.items[number as usize].due
+        self.items[number as usize].due()
     }
 
     /// The least item that is due now and hasn't landed.
@@ -186,29 +187,14 @@ fn items_of(script: &Script) -> &[Item]
 }
 
 /// The items without the octets of the frames.
-fn bare_copy(alloc: Global, items: &[Item]) -> Result<Vec<Item>, AllocError>
+fn bare_copy(alloc: Global, items: &[Item]) -> Result<Vec<BareItem>, AllocError>
     ensures { IfOk result (λ copy. copy.items ≡ bare_items items.now) }
 {
     let mut copy = Vec::with_capacity(alloc, items.len())?;
     for item in items {
-        copy.push(bare_item(alloc, item))?;
+        copy.push(BareItem::of(item))?;
     }
     Ok(copy)
-}
-
-/// The item without the octets of its frame.
-fn bare_item(alloc: Global, item: &Item) -> Item
-    ensures { result ≡ bare item.now }
-{
-    let kind = match item.kind {
-        ItemKind::Frame(_) => ItemKind::Frame(Octets(Vec::new(alloc))),
-        ItemKind::Add(line) => ItemKind::Add(line),
-        ItemKind::Remove(line) => ItemKind::Remove(line),
-    };
-    Item {
-        due: item.due,
-        kind,
-    }
 }
 
 /// One, or none.

@@ -5,15 +5,15 @@ ghost use Rattle.std.specs.List.Sorted.{IsNonDecreasing};
 ghost use Rattle.law_model.specs.Common.{dues_of, frame_dues, command_dues, held, longest_input};
 ghost use Rattle.terminal_group.specs.Place.{is_frame, is_command, place_of, due_by, least_held};
 
-use law_model::{Item, ItemKind};
+use crate::bare_item::BareItem;
 
 /// The place of the first frame from a place on, or the number of items where there is none.
-pub fn next_frame(items: &[Item], from: usize) -> usize
+pub fn next_frame(items: &[BareItem], from: usize) -> usize
     requires { from ≤ length items.now }
     ensures { result ≡ from + place_of is_frame 0 (drop from items.now) }
 {
     for i in from..items.len() {
-        if is_frame_item(&items[i]) {
+        if items[i].is_frame() {
             return i;
         }
     }
@@ -21,40 +21,20 @@ pub fn next_frame(items: &[Item], from: usize) -> usize
 }
 
 /// The place of the first command from a place on, or the number of items where there is none.
-pub fn next_command(items: &[Item], from: usize) -> usize
+pub fn next_command(items: &[BareItem], from: usize) -> usize
     requires { from ≤ length items.now }
     ensures { result ≡ from + place_of is_command 0 (drop from items.now) }
 {
     for i in from..items.len() {
-        if is_command_item(&items[i]) {
+        if items[i].is_command() {
             return i;
         }
     }
     items.len()
 }
 
-/// Whether an item is a frame.
-fn is_frame_item(item: &Item) -> bool
-    ensures { result ≡ is_frame item.now.kind }
-{
-    match item.kind {
-        ItemKind::Frame(_) => true,
-        ItemKind::Add(_) | ItemKind::Remove(_) => false,
-    }
-}
-
-/// Whether an item is a command.
-fn is_command_item(item: &Item) -> bool
-    ensures { result ≡ is_command item.now.kind }
-{
-    match item.kind {
-        ItemKind::Frame(_) => false,
-        ItemKind::Add(_) | ItemKind::Remove(_) => true,
-    }
-}
-
 /// The least item that is due now and hasn't landed, where the next frame and the next command stand at these places.
-pub fn held_item(items: &[Item], frame: usize, command: usize, ticks: u32) -> Option<u32>
+pub fn held_item(items: &[BareItem], frame: usize, command: usize, ticks: u32) -> Option<u32>
     requires { length items.now ≤ longest_input }
     ensures { (a b : ℕ) → IsNonDecreasing (frame_dues (dues_of items.now)) →
         IsNonDecreasing (command_dues (dues_of items.now)) →
@@ -82,9 +62,9 @@ fn least_of(frame: usize, command: usize, client: bool, operator: bool) -> Optio
 }
 
 /// Whether there is an item at a place that is due now.
-fn is_due(items: &[Item], i: usize, ticks: u32) -> bool
+fn is_due(items: &[BareItem], i: usize, ticks: u32) -> bool
     ensures due { result ≡ due_by ticks (slice_get items.now i) }
     ensures there { result ≡ true → i < length items.now }
 {
-    i < items.len() && items[i].due <= ticks
+    i < items.len() && items[i].due() <= ticks
 }

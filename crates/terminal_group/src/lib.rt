@@ -5,6 +5,7 @@
 //! when an engine ticks, is not said here.
 #![tactic(auto)]
 
+mod bare_item;
 mod counted_source;
 mod group_laws;
 mod group_source;
@@ -14,6 +15,7 @@ mod landed_items;
 mod landing_order;
 mod return_inbox;
 
+pub use bare_item::BareItem;
 pub use counted_source::CountedSource;
 pub use group_laws::source_law;
 pub use group_source::{EarlyCause, GroupSource};

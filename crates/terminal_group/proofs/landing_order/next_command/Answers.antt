@@ -5,17 +5,17 @@ use Rattle.terminal_group.specs.Place.{is_command}
 use Rattle.terminal_group.proofs.ItemLaws.{place-here, place-passed, place-none}
 use Rattle.terminal_group.proofs.landing_order.next_command.Goals as goal
 
-pub returns-then-is_command_item : goal.returns-then-is_command_item
-returns-then-is_command_item c =
+pub returns-then-is_command : goal.returns-then-is_command
+returns-then-is_command c =
     let there = at-index c.args.items.now c.loop-i.i c.index-items-i.result c.loop-i-test.true c.index-items-i.is in
     sym (place-here is_command c.args.items.now c.loop-i.i c.index-items-i.result there
-    (sym c.is_command_item.ensures ∙ c.if-is_command_item.true)) ∙ c.loop-i.invariant
+    (sym c.is_command.ensures ∙ c.if-is_command.true)) ∙ c.loop-i.invariant
 
 pub loop-i-preserved : goal.loop-i-preserved
 loop-i-preserved c =
     let there = at-index c.args.items.now c.loop-i.i c.index-items-i.result c.loop-i-test.true c.index-items-i.is in
     place-passed is_command c.args.items.now c.loop-i.i c.index-items-i.result there
-    (sym c.is_command_item.ensures ∙ c.if-is_command_item.false) ∙ c.loop-i.invariant
+    (sym c.is_command.ensures ∙ c.if-is_command.false) ∙ c.loop-i.invariant
 
 pub returns : goal.returns
 returns c =

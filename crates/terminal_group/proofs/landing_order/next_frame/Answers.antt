@@ -5,17 +5,17 @@ use Rattle.terminal_group.specs.Place.{is_frame}
 use Rattle.terminal_group.proofs.ItemLaws.{place-here, place-passed, place-none}
 use Rattle.terminal_group.proofs.landing_order.next_frame.Goals as goal
 
-pub returns-then-is_frame_item : goal.returns-then-is_frame_item
-returns-then-is_frame_item c =
+pub returns-then-is_frame : goal.returns-then-is_frame
+returns-then-is_frame c =
     let there = at-index c.args.items.now c.loop-i.i c.index-items-i.result c.loop-i-test.true c.index-items-i.is in
     sym (place-here is_frame c.args.items.now c.loop-i.i c.index-items-i.result there
-    (sym c.is_frame_item.ensures ∙ c.if-is_frame_item.true)) ∙ c.loop-i.invariant
+    (sym c.is_frame.ensures ∙ c.if-is_frame.true)) ∙ c.loop-i.invariant
 
 pub loop-i-preserved : goal.loop-i-preserved
 loop-i-preserved c =
     let there = at-index c.args.items.now c.loop-i.i c.index-items-i.result c.loop-i-test.true c.index-items-i.is in
     place-passed is_frame c.args.items.now c.loop-i.i c.index-items-i.result there
-    (sym c.is_frame_item.ensures ∙ c.if-is_frame_item.false) ∙ c.loop-i.invariant
+    (sym c.is_frame.ensures ∙ c.if-is_frame.false) ∙ c.loop-i.invariant
 
 pub returns : goal.returns
 returns c =
