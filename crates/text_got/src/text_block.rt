@@ -9,7 +9,7 @@ use std::marker::Model;
 use text_report::{GOT_ROOM, got_line};
 
 /// How many octets wait at least when a block goes out.
-const MUCH: usize = 16_384;
+const MUCH: usize = 65_536;
 
 /// Lines that wait to be put, which go out together once they are much.
 #[derive(Drop)]
@@ -27,7 +27,7 @@ impl Model for TextBlock {
 
     ghost view = { λ block. take block.len block.octets };
 
-    ghost invariant = { λ block. block.len < 16384 };
+    ghost invariant = { λ block. block.len < 65536 };
 }
 
 impl TextBlock {
