@@ -5,6 +5,7 @@
 use command_parts::{NO_MEMORY, given_words};
 use command_run::run_top;
 use octet_io::{StdSink, StdSource};
+use std::mem::ManuallyDrop;
 use std::process::ExitCode;
 use thread_rings::OpenGate;
 
@@ -24,5 +25,8 @@ fn main(rt: HostRuntime) -> ExitCode {
         &mut notes,
         &OpenGate,
     );
-    ExitCode::from(end.status)
+    let status = end.status;
+    // The program ends, which gives back all memory at once: the frames of a script aren't let go one by one.
+    let _session = ManuallyDrop::new(end);
+    ExitCode::from(status)
 }

@@ -5,6 +5,7 @@
 use command_parts::{NO_MEMORY, given_words};
 use command_walk::walk_top;
 use octet_io::{StdSink, StdSource};
+use std::mem::ManuallyDrop;
 use std::process::ExitCode;
 
 fn main(rt: HostRuntime) -> ExitCode {
@@ -21,5 +22,8 @@ fn main(rt: HostRuntime) -> ExitCode {
         &mut out,
         &mut notes,
     );
-    ExitCode::from(end.status)
+    let status = end.status;
+    // The program ends, which gives back all memory at once: the frames of a script aren't let go one by one.
+    let _walk = ManuallyDrop::new(end);
+    ExitCode::from(status)
 }
