@@ -152,6 +152,10 @@ abbrev pub is_number : Option ℕ → ℕ → Bool
 is_number None number = false
 is_number (Some next) number = next == number
 
+-- the number of the next item that the client brings, or that the operator brings, where there is one
+abbrev pub next_brought : GroupState → Bool → Option ℕ
+next_brought g client = next_number (parts_of g).landed client
+
 -- the number of the next item of its kind, where there is one
 abbrev pub next_of : GroupState → ItemKind → Option ℕ
 next_of g kind = next_number (parts_of g).landed (is_client kind)

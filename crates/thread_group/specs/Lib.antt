@@ -6,4 +6,5 @@ pub mod Parts
 pub mod Group
 pub mod Calls
 pub mod Session
+pub mod Handed
 pub mod Opened

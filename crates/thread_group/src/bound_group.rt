@@ -50,30 +50,77 @@ impl Session for Brand {
     ghost back = { [] };
 }
 
-/// The value behind a group's lock: a group that belongs to the session `Y`.
+/// Below which numbers of the script it is handed in what the client brings, and what the operator brings.
+#[derive(Clone, Copy)]
+struct Handed {
+    frames: u32,
+    commands: u32,
+}
+
+/// The value behind a group's lock: a group that belongs to the session `Y`, and what is handed in ahead.
 #[derive(Drop)]
 pub struct BoundGroup<Y: Session> {
     state: GroupState,
+    handed: Handed,
     of: PhantomData<Y>,
     ghost bound: { IsBound (leg_of Y.script) Y.tx Y.back state },
 }
 
 impl<Y: Session> BoundGroup<Y> {
-    ghost use Rattle.std.specs.Prelude.{◌≡◌, false};
+    ghost use Rattle.std.specs.Prelude.{◌≡◌, nat_lt, not, false};
     ghost use Rattle.law_model.specs.Common.{refusal_in};
     ghost use Rattle.terminal_group.specs.Item.{kind_of};
     ghost use Rattle.thread_group.specs.Answer.{is_full};
     ghost use Rattle.thread_group.specs.Calls.{Submits, Ticks};
+    ghost use Rattle.thread_group.specs.Group.{next_brought};
+    ghost use Rattle.thread_group.specs.Handed.{handed_below};
     ghost use Rattle.thread_group.specs.Session.{IsItemOf};
 
-    /// Binds a group to its session.
+    /// Binds a group to its session. Nothing is handed in.
     pub fn new(state: GroupState) -> BoundGroup<Y>
         requires { IsBound (leg_of Y.script) Y.tx Y.back state }
         ensures { result.state ≡ state }
     {
         BoundGroup {
             state,
+            handed: Handed {
+                frames: 0,
+                commands: 0,
+            },
             of: PhantomData,
+        }
+    }
+
+    /// The number of the item that lands next of what the client brings, or of what the operator brings.
+    pub fn next(&self, client: bool) -> Option<u32>
+        ensures { result ≡ next_brought self.now.state client }
+    {
+        self.state.next(client)
+    }
+
+    /// Hands in ahead what the client brings, or what the operator brings, below a number of the script. None of
+    /// it lands by that.
+    pub fn hand_in(&mut self, client: bool, below: u32)
+        ensures handed { handed_below self.new.handed client ≡ below }
+        ensures other { handed_below self.new.handed (not client)
+            ≡ handed_below self.old.handed (not client) }
+        ensures state { self.new.state ≡ self.old.state }
+    {
+        if client {
+            self.handed.frames = below;
+        } else {
+            self.handed.commands = below;
+        }
+    }
+
+    /// Whether the item of this number is handed in, as one that the client brings, or that the operator brings.
+    pub fn is_handed_in(&self, client: bool, number: u32) -> bool
+        ensures { result ≡ nat_lt number (handed_below self.now.handed client) }
+    {
+        if client {
+            number < self.handed.frames
+        } else {
+            number < self.handed.commands
         }
     }
 
@@ -100,7 +147,11 @@ impl<Y: Session> BoundGroup<Y> {
         ensures same { result ≡ self.state }
         ensures bound { IsBound (leg_of Y.script) Y.tx Y.back result }
     {
-        let BoundGroup { state, of: _ } = self;
+        let BoundGroup {
+            state,
+            handed: _,
+            of: _,
+        } = self;
         state
     }
 }

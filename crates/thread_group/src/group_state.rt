@@ -48,6 +48,7 @@ impl GroupState {
     ghost use Rattle.thread_group.specs.Group.{parts_of, side_of, lines_of, lag_of, size_of, statuses_of, IsOf, ticks_of};
     ghost use Rattle.thread_group.specs.Group.{items_of, frames_of, commands_of, journal_of, slots_of, bytes_of};
     ghost use Rattle.thread_group.specs.Group.{refusals_of, inbox_of, source_of, totals_of, next_of, refusal_of};
+    ghost use Rattle.thread_group.specs.Group.{next_brought};
     ghost use Rattle.thread_group.specs.Opened.{IsOpened, IsBegun};
     ghost use Rattle.thread_group.specs.Calls.{Submits, Ticks, Comes, Looks, Makes};
 
@@ -93,6 +94,13 @@ impl GroupState {
             refused: self.source.landing().all_refused(),
             got: 0,
         }
+    }
+
+    /// The number of the item that lands next of what the client brings, or of what the operator brings.
+    pub(crate) fn next(&self, client: bool) -> Option<u32>
+        ensures { result ≡ next_brought self.now client }
+    {
+        self.source.landing().next(client)
     }
 
     /// The items that were refused, in the order of the script.

@@ -6,10 +6,10 @@ use Rattle.law_model.specs.Common.{Container, Cell}
 use Rattle.law_model.specs.declared.window_types.Window.{Window}
 use Rattle.law_model.specs.declared.script_types.Config.{Config}
 use Rattle.member_path.specs.path_delay.Line.{Line, opened, DelayStands}
-use Rattle.thread_rings.specs.Ends.{OutEnd, InEnd, out_passed, in_passed, AreEnds}
+use Rattle.thread_rings.specs.Ends.{OutEnd, InEnd, out_passed, in_passed, in_size, AreEnds}
 use Rattle.thread_rings.specs.Calls.{IsOpened}
 use Rattle.thread_rings.specs.declared.line_worker.LineWorker.{LineWorker}
-use Rattle.thread_session.specs.session_parts.Opened.{IsLineOf, AreOpened}
+use Rattle.thread_session.specs.session_parts.Opened.{IsLineOf, AreOpened, slots_of}
 
 beyond : {X : Type 0} (xs : List X) (m n : ℕ) (y : X) → slice_get xs m ≡ Some y → m ≡ n → length xs ≡ n → ⊥
 beyond [] m n y there at size = absurd (let h : None ≡ Some y = there in cc)
@@ -31,6 +31,7 @@ none-opened config = record {
   rx_count = refl;
   unused = λ m out there. absurd cc;
   fresh = λ m into there. absurd cc;
+  slots = λ m into there. absurd cc;
   silent = λ m worker there. absurd cc;
   lines = λ m worker there. absurd cc;
   sends = λ m out worker there. absurd cc;
@@ -40,10 +41,10 @@ none-opened config = record {
 pub opened-more : (config : Config) (n : ℕ) (tx : List (OutEnd Container)) (workers : List LineWorker)
     (rx : List (InEnd Cell))
     (out : OutEnd Container) (worker : LineWorker) (into : InEnd Cell) → AreOpened config n tx workers rx →
-    out_passed out ≡ [] → in_passed into ≡ [] → out_passed worker.producer ≡ [] →
+    out_passed out ≡ [] → in_passed into ≡ [] → in_size into ≡ slots_of config n → out_passed worker.producer ≡ [] →
     IsLineOf config n worker → AreEnds out worker.consumer → AreEnds worker.producer into →
     AreOpened config (n + 1) (tx ++ out ∷ []) (workers ++ worker ∷ []) (rx ++ into ∷ [])
-opened-more config n tx workers rx out worker into are unused fresh quiet line send receive = record {
+opened-more config n tx workers rx out worker into are unused fresh slots quiet line send receive = record {
   tx_count = length-append tx (out ∷ []) ∙ ap (λ (k : ℕ). k + 1) are.tx_count;
   workers_count = length-append workers (worker ∷ []) ∙ ap (λ (k : ℕ). k + 1) are.workers_count;
   rx_count = length-append rx (into ∷ []) ∙ ap (λ (k : ℕ). k + 1) are.rx_count;
@@ -54,6 +55,10 @@ opened-more config n tx workers rx out worker into are unused fresh quiet line s
   fresh = λ m one there. elim (get-last rx into m one there) [
     | inl before ↦ are.fresh m one before
     | inr (at, is) ↦ ap in_passed is ∙ fresh
+  ];
+  slots = λ m one there. elim (get-last rx into m one there) [
+    | inl before ↦ are.slots m one before
+    | inr (at, is) ↦ ap in_size is ∙ slots ∙ ap (slots_of config) (sym (at ∙ are.rx_count))
   ];
   silent = λ m one there. elim (get-last workers worker m one there) [
     | inl before ↦ are.silent m one before

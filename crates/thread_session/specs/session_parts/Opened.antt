@@ -1,11 +1,17 @@
 -- The lines of a session before anything has moved.
-use Rattle.std.specs.Prelude.{◌≡◌, ℕ, List, [], length, slice_get, slice_index_or, Some}
-use Rattle.law_model.specs.Common.{Container, Cell}
+use Rattle.std.specs.Prelude.{◌≡◌, ℕ, ◌+◌, ◌-◌, min, List, [], length, slice_get, slice_index_or, Some}
+use Rattle.law_model.specs.Common.{Container, Cell, greatest, greatest_slip}
 use Rattle.law_model.specs.declared.script_types.Config.{Config}
-use Rattle.thread_rings.specs.Ends.{OutEnd, InEnd, out_passed, in_passed}
+use Rattle.thread_rings.specs.Ends.{OutEnd, InEnd, out_passed, in_passed, in_size}
 use Rattle.thread_rings.specs.declared.line_worker.LineWorker.{LineWorker}
 use Rattle.thread_rings.specs.Worker.{number_of, delay_of, windows_of, total_of}
 use Rattle.thread_session.specs.session_parts.Laid.{AreSendEnds, AreReceiveEnds}
+
+-- how many slots the receive ring of line m has: it holds what the line is ahead of one with the greatest delay and slip,
+-- and some more, but no more than the configuration gives it
+abbrev pub slots_of : Config → ℕ → ℕ
+slots_of config m = min config.ring
+    (greatest config.delays - slice_index_or config.delays m 0 + greatest_slip config.windows + 64)
 
 -- a worker is that of line m
 pub record IsLineOf (config : Config) (m : ℕ) (worker : LineWorker) : Type 0 where
@@ -22,6 +28,7 @@ pub record AreOpened (config : Config) (n : ℕ) (tx : List (OutEnd Container)) 
   pub rx_count : length rx ≡ n
   pub unused : (m : ℕ) (out : OutEnd Container) → slice_get tx m ≡ Some out → out_passed out ≡ []
   pub fresh : (m : ℕ) (into : InEnd Cell) → slice_get rx m ≡ Some into → in_passed into ≡ []
+  pub slots : (m : ℕ) (into : InEnd Cell) → slice_get rx m ≡ Some into → in_size into ≡ slots_of config m
   pub silent : (m : ℕ) (worker : LineWorker) → slice_get workers m ≡ Some worker → out_passed worker.producer ≡ []
   pub lines : (m : ℕ) (worker : LineWorker) → slice_get workers m ≡ Some worker → IsLineOf config m worker
   pub sends : AreSendEnds tx workers

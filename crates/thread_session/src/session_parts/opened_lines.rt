@@ -1,14 +1,18 @@
 //! The lines of a session are opened.
-ghost use Rattle.std.specs.Prelude.{◌<◌, [], slice_index_or, IfOk};
+ghost use Rattle.std.specs.Prelude.{◌≡◌, ◌<◌, [], slice_index_or, All, length, IfOk};
 ghost use Rattle.member_path.specs.path_delay.Line.{DelayStands, opened};
-ghost use Rattle.law_model.specs.Common.{IsNetwork};
-ghost use Rattle.thread_session.specs.session_parts.Opened.{AreOpened};
+ghost use Rattle.law_model.specs.Common.{IsNetwork, AreWindows, greatest, greatest_slip as greatest_slip_of};
+ghost use Rattle.thread_session.specs.session_parts.Opened.{AreOpened, slots_of};
 
-use law_model::Config;
+use law_model::{Config, Delays, WindowLists};
 use member_cells::{Cell, Container};
+use member_path::failure_window::greatest_slip;
 use member_path::path_delay::{LineCore, Windows};
 use std::alloc::{AllocError, Global};
 use thread_rings::{LineWorker, RingIn, RingOut, line_rings};
+
+/// So many slots a receive ring has beyond those that it needs, for bursts.
+const BURSTS: u32 = 64;
 
 /// The workers of lines, in the order of the lines, and the other ends of their rings.
 #[derive(Drop)]
@@ -34,6 +38,42 @@ fn open_core(alloc: Global, config: &Config, m: usize) -> Result<LineCore, Alloc
     LineCore::new(alloc, config.delays.0[m], windows, config.ticks)
 }
 
+/// The greatest delay.
+fn greatest_delay(delays: &Delays) -> u16
+    ensures { result ≡ greatest delays.now }
+{
+    let mut most = 0;
+    for delay in &delays.0 {
+        most = most.max(*delay);
+    }
+    most
+}
+
+/// The greatest slip of a line.
+fn greatest_of_slips(lists: &WindowLists) -> u32
+    requires { All (λ list. AreWindows 0 list) lists.now }
+    ensures { result ≡ greatest_slip_of lists.now }
+{
+    let mut most = 0;
+    for list in &lists.0 {
+        most = most.max(greatest_slip(&list.0));
+    }
+    most
+}
+
+/// The slots of the receive ring of line m. It holds what the line is ahead of one with the greatest delay and
+/// slip, and some more; but the ring has no more slots than its configuration gives it.
+fn slots(config: &Config, m: usize, slow: u16, slip: u32) -> u16
+    requires line { m < length config.now.delays }
+    requires slow { slow ≡ greatest config.now.delays }
+    requires slip { slip ≡ greatest_slip_of config.now.windows }
+    ensures { result ≡ slots_of config.now m }
+{
+    let ahead = u32::from(slow.saturating_sub(config.delays.0[m]));
+    let needed = ahead.saturating_add(slip).saturating_add(BURSTS);
+    needed.min(u32::from(config.ring)) as u16
+}
+
 /// Opens the lines of a session, over fresh rings.
 pub fn open_lines(alloc: Global, config: &Config) -> Result<OpenedLines, AllocError>
     requires { IsNetwork config.now }
@@ -44,9 +84,12 @@ pub fn open_lines(alloc: Global, config: &Config) -> Result<OpenedLines, AllocEr
     let mut tx = Vec::with_capacity(alloc, count)?;
     let mut workers = Vec::with_capacity(alloc, count)?;
     let mut rx = Vec::with_capacity(alloc, count)?;
+    let slow = greatest_delay(&config.delays);
+    let slip = greatest_of_slips(&config.windows);
     for line in 0..config.lines {
-        let ends = line_rings(alloc, config.ring)?;
-        let core = open_core(alloc, config, usize::from(line))?;
+        let m = usize::from(line);
+        let ends = line_rings(alloc, slots(config, m, slow, slip))?;
+        let core = open_core(alloc, config, m)?;
         tx.push(ends.tx)?;
         workers.push(LineWorker::new(line, ends.tx_out, core, ends.rx))?;
         rx.push(ends.rx_out)?;

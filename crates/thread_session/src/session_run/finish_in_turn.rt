@@ -7,7 +7,7 @@ ghost use Rattle.thread_alarms.specs.watched_line.Served.{AreServedLater};
 ghost use Rattle.thread_session.specs.session_run.Session.{IsAllDone};
 
 use crate::session_parts::carry_all;
-use crate::session_run::group_turns::{hand_in, who_brings};
+use crate::session_run::group_turns::{submit, who_brings};
 use law_model::Item;
 use octet_io::ByteSink;
 use std::sync::Wait;
@@ -39,7 +39,7 @@ fn land_held<Y: Session, G: Gate>(gate: &G, group: &mut BoundGroup<Y>, items: &[
     if let Some(item) = items.get(number as usize) {
         let who = who_brings(&item.kind);
         gate.pass(who);
-        if hand_in(group, number, &item.kind) {
+        if submit(group, number, &item.kind) {
             gate.moved(who);
         }
     }

@@ -1,8 +1,11 @@
-//! The turns at the group: each takes the lock, makes one call of the group and gives the lock back.
-ghost use Rattle.std.specs.Prelude.{◌≡◌, true, IfSome, IfNone};
+//! The turns at the group, each under its lock. Client and operator hand in their items ahead, and the source lands
+//! each of them at its due tick, and makes the frames.
+ghost use Rattle.std.specs.Prelude.{◌≡◌, ◌≤◌, ◌<◌, true};
 ghost use Rattle.law_model.specs.Common.{leg_of, refusal_in};
+ghost use Rattle.law_walk.specs.Common.{is_client};
 ghost use Rattle.thread_group.specs.Answer.{has_landed};
 ghost use Rattle.thread_group.specs.Group.{HasCounted};
+ghost use Rattle.thread_group.specs.Handed.{handed_below};
 ghost use Rattle.thread_group.specs.Session.{IsItemOf};
 ghost use Rattle.thread_session.specs.session_parts.Flags.{heeded};
 ghost use Rattle.thread_session.specs.session_run.Turns.{bringer, HasLanded};
@@ -15,7 +18,10 @@ use terminal_group::handed;
 use thread_group::{BoundGroup, Session, SubmitFault, TickAnswer};
 use thread_rings::{Gate, Who};
 
-/// So many frames are made before the lines are rung for, as long as the source can go on.
+/// So many items of the client, or of the operator, are handed in ahead of those that have landed.
+const AHEAD: u32 = 1024;
+
+/// So many frames are made at most before the lock is given back and the lines are rung for.
 const FRAMES: u32 = 8;
 
 /// Who brings an item of this kind.
@@ -45,8 +51,8 @@ fn has_landed(answer: Result<(), SubmitFault>) -> bool
     }
 }
 
-/// Hands in an item, and says whether it has landed.
-pub(super) fn hand_in<Y: Session>(group: &mut BoundGroup<Y>, number: u32, kind: &ItemKind) -> bool
+/// Submits an item, and says whether it has landed.
+pub(super) fn submit<Y: Session>(group: &mut BoundGroup<Y>, number: u32, kind: &ItemKind) -> bool
     requires { IsItemOf (leg_of Y.script) number kind.now }
     ensures counted { HasCounted group.old.state group.new.state kind.now result }
     ensures landed { result ≡ true → HasLanded (leg_of Y.script) Y.tx Y.back number kind.now }
@@ -54,42 +60,44 @@ pub(super) fn hand_in<Y: Session>(group: &mut BoundGroup<Y>, number: u32, kind: 
     has_landed(group.submit(number, handed(kind)))
 }
 
-/// Lands an item once it is due. Where the flag is stored first it doesn't land, and the evidence is given
-/// that it is. Before it waits it rings for the source, which can't go on before all items that are due have
-/// landed.
-fn land<'s, Y: Session, R: Wait, G: Gate>(
-    rt: &R,
-    gate: &G,
-    lock: &Mutex<BoundGroup<Y>>,
-    stop: Heed<'s>,
-    source: &Bell,
-    number: u32,
-    kind: &ItemKind,
-) -> Option<OnceToken<'s, ()>>
-    requires { IsItemOf (leg_of Y.script) number kind.now }
-    ensures told { IfSome result (λ told. told.of ≡ heeded stop.entry) }
-    ensures landed { IfNone result
-        (HasLanded (leg_of Y.script) Y.tx Y.back number kind.now) }
+/// The number of the item that this one brings behind the next so many, from a number on; where there is none, the
+/// greatest number.
+fn ahead_of(items: &[Item], from: u32, who: Who) -> u32
+    ensures { from ≤ result }
 {
-    let who = who_brings(kind);
-    for _ in rt.forever() {
-        if let Some(told) = stop.note() {
-            return Some(told);
+    let mut left = AHEAD;
+    for number in from..u32::MAX {
+        let Some(item) = items.get(number as usize) else {
+            return u32::MAX;
+        };
+        if who_brings(&item.kind) == who {
+            if left == 0 {
+                return number;
+            }
+            left -= 1;
         }
-        gate.pass(who);
-        let landed = hand_in(&mut *lock.lock(rt), number, kind);
-        if landed {
-            gate.moved(who);
-            return None;
-        }
-        source.ring();
-        stop.bell().wait(rt);
     }
-    unreachable!()
+    u32::MAX
 }
 
-/// Lands the items of a script that this one brings, in their order, and comes back once the flag is stored.
-pub(super) fn land_all<'s, Y: Session, R: Wait, G: Gate>(
+/// Hands in ahead what this one brings, where what lands next isn't handed in, and gives the number below which it did.
+/// Nothing lands by that.
+fn hand_in_ahead<Y: Session>(group: &mut BoundGroup<Y>, who: Who, items: &[Item]) -> Option<u32>
+    ensures { group.new.state ≡ group.old.state }
+{
+    let client = who == Who::Client;
+    let next = group.next(client).unwrap_or(u32::MAX);
+    if group.is_handed_in(client, next) {
+        return None;
+    }
+    let below = ahead_of(items, next, who);
+    group.hand_in(client, below);
+    Some(below)
+}
+
+/// Hands in the items of a script that this one brings, some ahead whenever it is rung for, and comes back once the
+/// flag is stored.
+pub(super) fn hand_in_all<'s, Y: Session, R: Wait, G: Gate>(
     rt: &R,
     gate: &G,
     lock: &Mutex<BoundGroup<Y>>,
@@ -98,22 +106,74 @@ pub(super) fn land_all<'s, Y: Session, R: Wait, G: Gate>(
     who: Who,
     items: &[Item],
 ) -> OnceToken<'s, ()>
-    requires { items.now ≡ Y.script.items }
     ensures { result.of ≡ heeded stop.entry }
 {
-    for number in 0..u32::MAX {
-        let Some(item) = items.get(number as usize) else {
-            break;
-        };
-        if who_brings(&item.kind) == who {
-            let told = land::<Y, R, G>(rt, gate, lock, stop, source, number, &item.kind);
-            if let Some(told) = told {
-                return told;
+    for _ in rt.forever() {
+        if let Some(told) = stop.note() {
+            return told;
+        }
+        gate.pass(who);
+        let handed = hand_in_ahead(&mut *lock.lock(rt), who, items);
+        if let Some(below) = handed {
+            gate.moved(who);
+            source.ring();
+            if below == u32::MAX {
+                return stop.wait(rt);
             }
         }
+        stop.bell().wait(rt);
     }
-    source.ring();
-    stop.wait(rt)
+    unreachable!()
+}
+
+/// Lands an item, where it is handed in and due. Says whether it has landed.
+fn land<Y: Session>(group: &mut BoundGroup<Y>, number: u32, kind: &ItemKind) -> bool
+    requires { IsItemOf (leg_of Y.script) number kind.now }
+    ensures landed { result ≡ true → HasLanded (leg_of Y.script) Y.tx Y.back number kind.now }
+    ensures handed { result ≡ true →
+        number < handed_below group.old.handed (is_client kind.now) }
+{
+    let client = who_brings(kind) == Who::Client;
+    group.is_handed_in(client, number) && submit(group, number, kind)
+}
+
+/// Lands the item that holds a tick, where it is handed in. Says whether it has landed.
+fn land_held<Y: Session>(group: &mut BoundGroup<Y>, items: &[Item], number: u32) -> bool
+    requires { items.now ≡ Y.script.items }
+{
+    match items.get(number as usize) {
+        Some(item) => land(group, number, &item.kind),
+        None => false,
+    }
+}
+
+/// Makes the next frame, where it can be made once the items have landed that hold it and are handed in.
+fn make_frame<Y: Session>(group: &mut BoundGroup<Y>, items: &[Item]) -> TickAnswer
+    requires { items.now ≡ Y.script.items }
+{
+    for _ in items {
+        let answer = group.tick();
+        let TickAnswer::Held { item } = answer else {
+            return answer;
+        };
+        if !land_held(group, items, item) {
+            return answer;
+        }
+    }
+    group.tick()
+}
+
+/// Makes some frames, as long as they can be made. Says how many, and what became of the last try.
+fn make_frames<Y: Session>(group: &mut BoundGroup<Y>, items: &[Item]) -> (u32, TickAnswer)
+    requires { items.now ≡ Y.script.items }
+{
+    for made in 0..FRAMES {
+        let answer = make_frame(group, items);
+        if answer != TickAnswer::Ticked {
+            return (made, answer);
+        }
+    }
+    (FRAMES, TickAnswer::Ticked)
 }
 
 /// Rings for whoever brings an item.
@@ -126,15 +186,14 @@ fn ring_for(flags: &Flags, items: &[Item], number: u32) {
     }
 }
 
-/// Rings for those that go on with what a tick has made, or without whom none was made, and then waits for
-/// them. `made` is how many frames were made.
-fn go_on<R: Wait>(rt: &R, flags: &Flags, items: &[Item], answer: TickAnswer, made: u32) {
+/// Rings for those that go on with the frames that were made, and for those without whom no more were made; then it
+/// waits for these.
+fn go_on<R: Wait>(rt: &R, flags: &Flags, items: &[Item], made: u32, answer: TickAnswer) {
+    if made > 0 {
+        flags.ring_for_lines();
+    }
     match answer {
-        TickAnswer::Ticked => {
-            if made % FRAMES == 0 {
-                flags.ring_for_lines();
-            }
-        }
+        TickAnswer::Ticked => {}
         TickAnswer::Held { item } => {
             ring_for(flags, items, item);
             flags.source.bell.wait(rt);
@@ -147,8 +206,8 @@ fn go_on<R: Wait>(rt: &R, flags: &Flags, items: &[Item], answer: TickAnswer, mad
     }
 }
 
-/// Makes the frames one after another as they can be made, and comes back once the flag is stored. After the
-/// last one return cells are still moved.
+/// Makes the frames one after another as they can be made, some in each turn, and comes back once the flag is stored.
+/// After the last one return cells are still moved.
 pub(super) fn tick_all<'s, Y: Session, R: Wait, G: Gate>(
     rt: &R,
     gate: &G,
@@ -157,20 +216,19 @@ pub(super) fn tick_all<'s, Y: Session, R: Wait, G: Gate>(
     flags: &Flags,
     items: &[Item],
 ) -> OnceToken<'s, ()>
+    requires { items.now ≡ Y.script.items }
     ensures { result.of ≡ heeded stop.entry }
 {
-    let mut made = 0u32;
     for _ in rt.forever() {
         if let Some(told) = stop.note() {
             return told;
         }
         gate.pass(Who::Source);
-        let answer = lock.lock(rt).tick();
-        if answer == TickAnswer::Ticked {
+        let (made, answer) = make_frames(&mut *lock.lock(rt), items);
+        if made > 0 {
             gate.moved(Who::Source);
-            made = made.wrapping_add(1);
         }
-        go_on(rt, flags, items, answer, made);
+        go_on(rt, flags, items, made, answer);
     }
     unreachable!()
 }

@@ -15,7 +15,7 @@ use crate::session_parts::{
     Bell, Comes, Duty, Flag, Held, Turned, collect, deal, serve_all_here, start_shares,
     take_all_back,
 };
-use crate::session_run::group_turns::{land_all, tick_all};
+use crate::session_run::group_turns::{hand_in_all, tick_all};
 use crate::session_run::room_and_flags::{Flags, Room};
 use law_model::Item;
 use std::sync::{Mutex, OnceToken, Wait};
@@ -28,8 +28,8 @@ use thread_rings::{Gate, Who};
 /// A thread that comes back with evidence that its flag was stored.
 type Child<'s> = PromisedHandle<OnceToken<'s, ()>, Comes>;
 
-/// Starts a thread that lands the items that this one brings; none where it can't be started.
-fn start_landing<'s, 'e, Y: Session, R: Wait + Sync, G: Gate>(
+/// Starts a thread that hands in the items that this one brings; none where it can't be started.
+fn start_bringing<'s, 'e, Y: Session, R: Wait + Sync, G: Gate>(
     scope: &'s Scope<'s, &'e ()>,
     rt: &'s R,
     gate: &'s G,
@@ -39,14 +39,12 @@ fn start_landing<'s, 'e, Y: Session, R: Wait + Sync, G: Gate>(
     who: Who,
     items: &'s [Item],
 ) -> Option<Child<'s>>
-    requires { items.now ≡ Y.script.items }
     ensures { IfSome result (λ child. comes_by child.promise ≡ flag_of flag.now) }
 {
     let stop = flag.heed();
     let work = move || -> OnceToken<'_, ()>
-        requires { items.now ≡ Y.script.items }
         ensures { result.of ≡ heeded stop.entry }
-    { land_all::<Y, R, G>(rt, gate, lock, stop, source, who, items) };
+    { hand_in_all::<Y, R, G>(rt, gate, lock, stop, source, who, items) };
     scope.spawn_with(Comes::by(flag), work).ok()
 }
 
@@ -59,10 +57,12 @@ fn start_source<'s, 'e, Y: Session, R: Wait + Sync, G: Gate>(
     flags: &'s Flags,
     items: &'s [Item],
 ) -> Option<Child<'s>>
+    requires { items.now ≡ Y.script.items }
     ensures { IfSome result (λ child. comes_by child.promise ≡ flag_of flags.now.source) }
 {
     let stop = flags.source.heed();
     let work = move || -> OnceToken<'_, ()>
+        requires { items.now ≡ Y.script.items }
         ensures { result.of ≡ heeded stop.entry }
     { tick_all::<Y, R, G>(rt, gate, lock, stop, flags, items) };
     scope.spawn_with(Comes::by(&flags.source), work).ok()
@@ -168,7 +168,7 @@ fn shares_beside<'x, Y: Session, R: Threads + Wait + Sync, G: Gate, D: Duty>(
             ensures duty { (begun : Begun) → D.stands_for duty begun →
                 D.stands_for result.1 begun }
         {
-            let client = start_landing::<Y, R, G>(
+            let client = start_bringing::<Y, R, G>(
                 scope,
                 rt,
                 gate,
@@ -178,7 +178,7 @@ fn shares_beside<'x, Y: Session, R: Threads + Wait + Sync, G: Gate, D: Duty>(
                 Who::Client,
                 items,
             );
-            let operator = start_landing::<Y, R, G>(
+            let operator = start_bringing::<Y, R, G>(
                 scope,
                 rt,
                 gate,

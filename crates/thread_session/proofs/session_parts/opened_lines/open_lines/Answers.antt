@@ -2,6 +2,7 @@
 use Rattle.std.proofs.Common.{◌≡◌, [], ℕ, sym, ◌∙◌, ap, subst, slice_index_or}
 use Rattle.thread_rings.specs.Ends.{OutEnd, out_passed, AreEnds}
 use Rattle.law_model.specs.Common.{Cell}
+use Rattle.thread_session.specs.session_parts.Opened.{slots_of}
 use Rattle.thread_session.proofs.SessionPartsLaws.OpenLaws.{none-opened, opened-more, opened-own}
 use Rattle.thread_session.proofs.session_parts.opened_lines.open_lines.Goals as goal
 
@@ -15,11 +16,12 @@ loop-line-preserved c =
     let ends = c.in_ok-ends.ends in
     let worker = c.new.result in
     let stands = c.in_ok-core.ensures in
-    let same : c.from.result ≡ c.loop-line.line = c.from.ensures in
+    let same : c.from-m.result ≡ c.loop-line.line = c.from-m.ensures in
     rw (c.in_ok-push.ensures.items, c.in_ok-push-2.ensures.items, c.in_ok-push-3.ensures.items)
     (opened-more config c.loop-line.line c.loop-line.tx.items c.loop-line.workers.items c.loop-line.rx.items ends.tx
     worker ends.rx_out c.loop-line.invariant
     c.in_ok-ends.ensures.send.pushed c.in_ok-ends.ensures.receive.popped
+    (c.in_ok-ends.ensures.receive.in_slots ∙ c.slots.ensures ∙ ap (slots_of config) same)
     (ap out_passed c.new.ensures.ends.1 ∙ c.in_ok-ends.ensures.receive.pushed)
     (record {
       number = c.new.ensures.line;

@@ -4,7 +4,7 @@ use Rattle.law_model.specs.Common.{leg_of, refusal_in}
 use Rattle.thread_group.specs.Calls.{Submits}
 use Rattle.thread_group.specs.Group.{HasCounted}
 use Rattle.thread_session.proofs.SessionRunLaws.LandLaws.{has-landed}
-use Rattle.thread_session.proofs.session_run.group_turns.hand_in.Goals as goal
+use Rattle.thread_session.proofs.session_run.group_turns.submit.Goals as goal
 
 pub returns : goal.returns
 returns g c =
