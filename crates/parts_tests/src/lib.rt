@@ -1,7 +1,9 @@
-//! Tests of single parts of several sections by their calls: checks and headers, the two ends of a stream, lines with
-//! their failures and the rows over them, rings and their workers, alarms, the parts of a walk, pointers, traces, texts
-//! of digits and reports, live texts, and a conversation whose calls fail one by one. Nothing is here but tests.
-//! Begin with `delineation`, which has whole streams; a letter in `delayed_line` stands for each carry.
+//! Tests of single parts of several sections by their calls: checks and headers, the two ends of a stream, lines
+//! with their failures and the rows over them, rings and their workers, alarms, the parts of a walk, walks by single
+//! events, a group for a lock, pointers, traces, octets in and out, texts of digits and reports, scripts and loads,
+//! live texts, and a conversation whose calls fail one by one. Nothing is here but tests. Begin with `delineation`,
+//! which has whole streams, or with `walk_events`, whose events stand in `walk_courses`; a letter in `delayed_line`
+//! stands for each carry.
 #![tactic(auto)]
 
 #[cfg(test)]
@@ -27,6 +29,8 @@ mod failure_windows;
 #[cfg(test)]
 mod filling;
 #[cfg(test)]
+mod group_state;
+#[cfg(test)]
 mod h4_decoder;
 #[cfg(test)]
 mod headers;
@@ -43,8 +47,18 @@ mod line_worker_bursts;
 #[cfg(test)]
 mod live_texts;
 #[cfg(test)]
+mod made_loads;
+#[cfg(test)]
+mod octet_streams;
+#[cfg(test)]
 mod realignment;
 #[cfg(test)]
 mod scrambling;
 #[cfg(test)]
+mod script_statements;
+#[cfg(test)]
 mod sink_worker_bursts;
+#[cfg(test)]
+mod walk_courses;
+#[cfg(test)]
+mod walk_events;

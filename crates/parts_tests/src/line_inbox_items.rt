@@ -8,7 +8,7 @@ use member_path::failure_window::Window;
 use member_rows::lcas_packet::Packet;
 use member_rows::realign_rows::{RowAnswer, RowGather};
 use std::alloc::Global;
-use terminal_group::{Inbox, held_item, next_command, next_frame};
+use terminal_group::{BareItem, Inbox, held_item, next_command, next_frame};
 use walk_engine::walk_parts::{ReturnRing, WalkLine};
 
 const CONTAINER: Container = Container {
@@ -101,7 +101,7 @@ fn a_packet_is_returned(rt: HostRuntime) {
 }
 
 // An add, a frame and a remove.
-fn items(alloc: Global) -> Option<Vec<Item>>
+fn items(alloc: Global) -> Option<Vec<BareItem>>
     ensures { IfSome result (λ items. length items.items ≡ 3) }
 {
     let octets = Octets(vec![in alloc; 0; 64].ok()?);
@@ -117,11 +117,16 @@ fn items(alloc: Global) -> Option<Vec<Item>>
         due: 9,
         kind: ItemKind::Remove(0),
     };
-    vec![in alloc; add, frame, remove].ok()
+    vec![in alloc;
+        BareItem::of(&add),
+        BareItem::of(&frame),
+        BareItem::of(&remove),
+    ]
+    .ok()
 }
 
 // The next frame and the next command from each place on.
-fn next(items: &[Item]) -> [(usize, usize); 4]
+fn next(items: &[BareItem]) -> [(usize, usize); 4]
     requires { length items.now ≡ 3 }
 {
     [
@@ -133,7 +138,7 @@ fn next(items: &[Item]) -> [(usize, usize); 4]
 }
 
 // The item that is held by places of a frame and of a command, and ticks.
-fn held(items: &[Item]) -> [Option<u32>; 5]
+fn held(items: &[BareItem]) -> [Option<u32>; 5]
     requires { length items.now ≡ 3 }
 {
     [

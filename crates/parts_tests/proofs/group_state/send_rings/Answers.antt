@@ -3,7 +3,7 @@ use Rattle.std.proofs.Common.{rules, ◌≡◌, zero, suc, ◌+◌, List, [], �
 use Rattle.std.proofs.lemmas.Option.{same_Some}
 use Rattle.thread_rings.specs.Ends.{OutEnd, out_passed}
 use Rattle.thread_group.specs.Rings.{AreUnused}
-use Rattle.thread_tests.proofs.group_state.send_rings.Goals as goal
+use Rattle.parts_tests.proofs.group_state.send_rings.Goals as goal
 
 unused-more : {T : Type 0} (ends : List (OutEnd T)) (end : OutEnd T) → AreUnused ends → out_passed end ≡ [] →
     AreUnused (ends ++ end ∷ [])

@@ -3,7 +3,7 @@ use Rattle.std.proofs.Common.{◌<◌, length, ◌∙◌, arith}
 use Rattle.law_model.specs.Common.{leg_of}
 use Rattle.law_walk.specs.Common.{walk_plan}
 use Rattle.law_walk.proofs.PlanLaws.{has-paths, sound-walks}
-use Rattle.thread_tests.proofs.walk_events.make.Goals as goal
+use Rattle.parts_tests.proofs.walk_events.make.Goals as goal
 
 pub step-requires : goal.step-requires
 step-requires c =
