@@ -103,6 +103,7 @@ all_memory() {
     cc -O1 -shared -fPIC -o "$work/refuse.so" bench/refuse.c -ldl || exit 1
     memory examples/hitless.vcat walk
     memory examples/hitless.vcat trace
+    memory examples/live.vcat live
     memory examples/h4.hex decode
     memory /dev/null make 7 8 400
     memory examples/hitless.vcat run 3

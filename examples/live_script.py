@@ -1,0 +1,105 @@
+#!/usr/bin/env python3
+"""Makes a script of what was said to `live`: of it `walk` writes the same frames, refused items and totals, and `fates` says what became of each.
+
+  live_script.py [PROGRAM WORDS..] < SAID > SCRIPT      for instance: live_script.py ./vcat walk < there.vcat | ./vcat fates
+
+- What stood before the first live line stays: configuration, `fail`, `lost`.
+- A cut is a failure without slip, from the ticks that had passed by then to those that had passed when it was mended, or else by the end. Without
+  a container between it is none.
+- A frame or a command is due at the ticks that had passed.
+- Event lines make as many rounds as these ticks took, and land all items.
+
+Mostly a round makes a tick. At a lag that is hardly enough for the delays some don't; then PROGRAM WORDS, at first `./vcat walk`, is asked which
+is the least number of rounds that makes the ticks. A line that `live` refused has to be left out.
+"""
+import pathlib
+import subprocess
+import sys
+
+WALK = [str(pathlib.Path(__file__).resolve().parent.parent / "vcat"), "walk"]
+MOST = 1_000_000  # what an event line may say
+
+
+def lines_of(text):
+    """The words of each line that has some and is no comment."""
+    for line in text.split("\n"):
+        words = [word for word in line.removesuffix("\r").split(" ") if word]
+        if words and not words[0].startswith("#"):
+            yield words
+
+
+class Said:
+    """What was said, as lines of a script."""
+
+    def __init__(self, text):
+        self.settings, self.failures, self.items = [], [], []
+        self.passed, self.cut_at = 0, {}
+        self.count = {"client": 0, "operator": 0}
+        self.is_live = False
+        for words in lines_of(text):
+            self.line(*words)
+        for line in list(self.cut_at):
+            self.mend(line)
+
+    def line(self, word, *rest):
+        if word in ("pass", "cut", "mend", "frame", "add", "remove"):
+            self.is_live = True
+        elif self.is_live:
+            sys.exit(f"live_script: {word} stands behind a live line")
+        if word == "pass":
+            self.passed += int(rest[0])
+        elif word == "cut":
+            self.cut_at[int(rest[0])] = self.passed
+        elif word == "mend":
+            self.mend(int(rest[0]))
+        elif word in ("frame", "add", "remove"):
+            self.items.append(f"{word} {self.passed} {rest[0]}")
+            self.count["client" if word == "frame" else "operator"] += 1
+        else:
+            self.settings.append(" ".join((word, *rest)))
+
+    def mend(self, line):
+        first = self.cut_at.pop(line)
+        if first < self.passed:
+            self.failures.append(f"fail {line} {first} {self.passed} 0")
+
+    def script(self, rounds):
+        events = []
+        for word, number in ("round", rounds), *((word, max(1, count)) for word, count in self.count.items()):
+            events += [f"{word} {MOST}"] * (number // MOST) + [f"{word} {number % MOST}"] * (number % MOST > 0)
+        return "".join(line + "\n" for line in self.settings + self.failures + self.items + events)
+
+    def goes_by_the_clock(self):
+        """Whether it is known that each round makes a tick: nothing slips, and the lag has a tick to spare."""
+        of = {line.split()[0]: line.split()[1:] for line in self.settings}
+        slips = [line for line in self.settings if line.split()[0] == "fail" and int(line.split()[4])]
+        return not slips and 16 * int(of["lag"][0]) >= 17 + max(map(int, of["delays"]))
+
+    def ticks_of(self, rounds, walk):
+        done = subprocess.run(walk, input=self.script(rounds), stdout=subprocess.PIPE, text=True, check=True)
+        return int(done.stdout.splitlines()[-1].split()[2])
+
+    def rounds(self, walk):
+        """The least number of rounds that makes the ticks."""
+        if not self.passed or self.goes_by_the_clock():
+            return self.passed
+        few, enough = self.passed - 1, self.passed
+        while self.ticks_of(enough, walk) < self.passed:
+            few, enough = enough, 2 * enough
+        while enough - few > 1:
+            middle = (few + enough) // 2
+            if self.ticks_of(middle, walk) < self.passed:
+                few = middle
+            else:
+                enough = middle
+        return enough
+
+
+def main():
+    sys.stdin.reconfigure(newline="\n")
+    said = Said(sys.stdin.read())
+    sys.stdout.write(said.script(said.rounds(sys.argv[1:] or WALK)))
+
+
+if __name__ == "__main__":
+    main()
