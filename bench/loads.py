@@ -1,11 +1,14 @@
 #!/usr/bin/env python3
-"""Times whole scripts: the call from script to text, least of some turns, and the octets of all containers that it is in a second.
+"""Times whole scripts: the call from script to text, and prints the table of README.md: the least seconds of some turns by the clock and of
+processor time, the octets of all containers that it is in a second by the clock, and the greatest memory.
 
-    bench/loads.py [TURNS]                          all loads, five turns of each
+    bench/loads.py [TURNS]                            all loads, five turns of each
+    bench/loads.py [TURNS] --walk PROGRAM             those of `walk` alone, by this program in place of the proved one
     bench/loads.py --script KIND LINES TICKS OCTETS   the script of a load, printed
 
 A load is `full`, a group that is kept nearly full with frames of so many octets from the tick on in which all lines are in use; `idle`, a group without
 frames; or `queue`, 256 frames that wait from the start. The programs have to be built: rt ci does it."""
+import os
 import pathlib
 import random
 import subprocess
@@ -67,36 +70,64 @@ def script(kind, lines, ticks, octets):
     return "\n".join(text) + "\n"
 
 
-def timed(words, path, turns):
-    """The least seconds of a call on a script."""
+def program_of(words):
+    """The proved program of a command."""
     name = "vcat_run" if words[0] == "run" else "vcat_walk"
     program = TOP / "crates" / name / "out" / name
     if not program.exists():
         sys.exit(f"loads: {program} is missing: run rt ci first")
-    best = None
-    for _ in range(turns):
-        with open(path, "rb") as source:
-            start = time.perf_counter()
-            subprocess.run([program, *words], stdin=source, stdout=subprocess.DEVNULL, check=True)
-            taken = time.perf_counter() - start
-        best = taken if best is None else min(best, taken)
-    return best
+    return program
+
+
+def once(command, path):
+    """The seconds of a call on a script by the clock, those of processor time, and its greatest memory in MiB."""
+    with open(path, "rb") as source:
+        start = time.perf_counter()
+        child = subprocess.Popen(command, stdin=source, stdout=subprocess.DEVNULL)
+        _, status, used = os.wait4(child.pid, 0)
+        taken = time.perf_counter() - start
+    child.returncode = os.waitstatus_to_exitcode(status)
+    if child.returncode != 0:
+        sys.exit(f"loads: {command} ended with status {child.returncode}")
+    return taken, used.ru_utime + used.ru_stime, used.ru_maxrss / 1024
+
+
+def write_script(path, *load):
+    """Writes the script of a load, by another process: the memory of this one counts in that of its children."""
+    with open(path, "wb") as text:
+        subprocess.run([sys.executable, __file__, "--script", *map(str, load)], stdout=text, check=True)
+
+
+def row(words, kind, lines, ticks, octets, turns):
+    """The row of a load."""
+    what = {"full": f"kept full, frames of {octets:,} octets", "idle": "idle", "queue": f"256 frames of {octets:,} octets"}[kind]
+    seconds, processor, memory = (min(each) for each in zip(*turns))
+    speed = lines * ticks * PAYLOAD / seconds / 1e6
+    return f"| `{words}` | {lines} | {what} | {ticks:,} | {seconds:.3f} s | {processor:.3f} s | {speed:,.0f} million | {memory:.0f} MiB |"
 
 
 def main():
-    if sys.argv[1:2] == ["--script"]:
-        kind, lines, ticks, octets = sys.argv[2], *map(int, sys.argv[3:6])
+    words = sys.argv[1:]
+    if words[:1] == ["--script"]:
+        kind, lines, ticks, octets = words[1], *map(int, words[2:5])
         sys.stdout.write(script(kind, lines, ticks, octets))
         return
-    turns = int(sys.argv[1]) if len(sys.argv) > 1 else 5
+    own = None
+    if "--walk" in words:
+        at = words.index("--walk")
+        own = pathlib.Path(words[at + 1]).resolve()
+        del words[at:at + 2]
+    turns = int(words[0]) if words else 5
+    loads = [load for load in LOADS if own is None or load[0] == "walk"]
+    print("| Command | Lines | Load | Ticks | By the clock | Processor time | Octets in a second | Memory |")
+    print("|---|---|---|---|---|---|---|---|")
     with tempfile.TemporaryDirectory() as folder:
-        for words, kind, lines, ticks, octets in LOADS:
+        for command, kind, lines, ticks, octets in loads:
             path = pathlib.Path(folder) / f"{kind}-{lines}-{ticks}-{octets}"
             if not path.exists():
-                path.write_text(script(kind, lines, ticks, octets))
-            seconds = timed(words.split(), path, turns)
-            speed = lines * ticks * PAYLOAD / seconds / 1e6
-            print(f"{words}, {kind}, {lines} lines, {ticks} ticks, {octets} octets: {seconds:.3f} s, {speed:,.0f} million octets a second", flush=True)
+                write_script(path, kind, lines, ticks, octets)
+            call = [own or program_of(command.split()), *command.split()]
+            print(row(command, kind, lines, ticks, octets, [once(call, path) for _ in range(turns)]), flush=True)
 
 
 if __name__ == "__main__":
