@@ -202,14 +202,11 @@ fn trace_rows() -> &'static str {
     packet 17 chg 1 act 0 back bf/0 add:1 add:0 THEN packet 33 chg 1 act 1 back 7f/1 add:1 eos:0"
 }
 
-/// Four frames of which each one's line goes out alone, and the lines of totals.
+/// Four frames whose lines go out together, since they are much, and the lines of totals.
 fn frames_in_turn() -> &'static str {
     "lines 1|delays 0|ring 1|lag 1|ticks 58|add 0 0|frame 0 5a*9600|frame 0 5a*9600|frame 0 5a*9600|\
         frame 0 5a*9600| => \
     4+;;fault: write failed| THEN \
-    4+;got 5a*9600|;fault: write failed| THEN \
-    4+;got 5a*9600|got 5a*9600|;fault: write failed| THEN \
-    4+;got 5a*9600|got 5a*9600|got 5a*9600|;fault: write failed| THEN \
     4+;got 5a*9600|got 5a*9600|got 5a*9600|got 5a*9600|;fault: write failed| THEN \
     0+;got 5a*9600|got 5a*9600|got 5a*9600|got 5a*9600|total ticks 58 taken 58 frames 4 commands 1 refused 0 got 4|;\n\
     lines 3|delays 0 0 0|ring 1|lag 1|ticks 700|add 0 0|add 0 1|add 0 2|remove 600 1| => \
@@ -277,9 +274,6 @@ fn put_rows() -> &'static str {
     walk;lines 3|delays 0 0 0|ring 1|lag 1|ticks 700|add 0 0|add 0 1|add 0 2|remove 600 1|frame 0 5a*9600|\
         frame 0 5a*9600|frame 0 5a*9600| => \
     4+;;fault: write failed| THEN \
-    4+;got 5a*9600|;fault: write failed| THEN \
-    4+;got 5a*9600|got 5a*9600|;fault: write failed| THEN \
-    4+;got 5a*9600|got 5a*9600|got 5a*9600|;fault: write failed| THEN \
     0+;got 5a*9600|got 5a*9600|got 5a*9600|total ticks 700 taken 700 frames 3 commands 4 refused 0 got 3|;\n\
     h4 0;lines 1|delays 0|ring 1|lag 1|ticks 9|add 0 0| => 4+;;fault: write failed| THEN 0+;000102030405060708|;\n\
     decode;0001 => 4;;fault: write failed| THEN 0;end octets 2 packets 0|;\n\
