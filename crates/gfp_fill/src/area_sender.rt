@@ -6,6 +6,7 @@ ghost use Rattle.law_model.specs.Common.{with_header};
 ghost use Rattle.gfp_fill.specs.Areas.{head_of, StandsIn, HasWrittenIn};
 
 use crate::copy_octets::{copy_some, put};
+use crate::frame_store::BegunFrame;
 use gfp_headers::core_bytes;
 use gfp_scramble::Scrambler;
 use std::marker::Model;
@@ -120,6 +121,20 @@ impl AreaSender {
             HasWrittenIn self.new rest areas place octets.new }
     {
         self.scrambler.area(octets);
+    }
+
+    /// Writes as many octets of the frame that is being sent as aren't written and `out` has room for, and says how many.
+    #[inline]
+    pub fn send_frame(&mut self, frame: &mut BegunFrame, out: &mut [u8]) -> usize
+        requires { head_of self.old ≡ [] }
+        ensures count { result ≡ min (length frame.old) (length out.old) }
+        ensures writes { (areas : List (List ℕ)) (place : ℕ) →
+            StandsIn self.old frame.old areas place →
+            HasWrittenIn self.new frame.new areas place (take result out.new) }
+    {
+        let n = frame.send(out);
+        self.send_octets(&mut out[..n]);
+        n
     }
 
     /// Writes idle frames, or where `out` has no room for one, the octets of one for which it has, and says how many

@@ -5,7 +5,8 @@
 //! alone.
 //!
 //! Below it `AreaSender` writes payload areas, whatever is in them, and idle frames, by `StandsIn` of
-//! `specs/Areas.antt`. Fillers with frames of other kinds stand on it too.
+//! `specs/Areas.antt`, and `FrameStore` keeps frames in buffers that are taken once. Fillers with frames of other
+//! kinds stand on both too.
 #![tactic(auto)]
 
 ghost use Rattle.std.specs.Prelude.{◌≡◌, ℕ, ◌+◌, ◌≤◌, List, [], ◌++◌, length, take, drop};
@@ -19,11 +20,13 @@ ghost use Rattle.gfp_fill.specs.Stream.{next_pieces, unsent, FillerStands};
 mod area_sender;
 mod copy_octets;
 mod frame_queue;
+mod frame_store;
 mod stream_filler;
 
 pub use area_sender::AreaSender;
 pub use copy_octets::copy_some;
 pub use frame_queue::{FrameQueue, MAX_WAITING, MIN_FRAME};
+pub use frame_store::{BegunFrame, FrameStore};
 pub use law_model::AcceptFault;
 pub use stream_filler::Filler;
 

@@ -1,8 +1,7 @@
 //! The stream of GFP frames, octet by octet.
 
-ghost use Rattle.std.specs.Prelude.{◌≡◌, ℕ, ◌+◌, ◌<◌, ◌≤◌, List, [], length, min, take, drop};
+ghost use Rattle.std.specs.Prelude.{◌≡◌, ℕ, ◌+◌, ◌<◌, ◌≤◌, List, length, take, drop};
 ghost use Rattle.law_model.specs.Common.{stream_of, Stream, reached};
-ghost use Rattle.gfp_fill.specs.Areas.{head_of, StandsIn, HasWrittenIn};
 ghost use Rattle.gfp_fill.specs.Queue.{unbegun};
 ghost use Rattle.gfp_fill.specs.Stream.{unsent, FillerStands, Writes};
 
@@ -70,7 +69,7 @@ impl Filler {
             return self.sender.send_headers(out);
         }
         if waiting.left() > 0 {
-            return self.send_frame(waiting, out);
+            return waiting.send(&mut self.sender, out);
         }
         match waiting.begin() {
             Some(n) => {
@@ -79,20 +78,5 @@ impl Filler {
             }
             None => self.sender.send_idles(out),
         }
-    }
-
-    // Writes as many octets of the frame that is being sent as aren't written and `out` has room for, and
-    // says how many.
-    fn send_frame(&mut self, waiting: &mut FrameQueue, out: &mut [u8]) -> usize
-        requires { head_of self.old ≡ [] }
-        ensures count { result ≡ min (length waiting.old.begun) (length out.old) }
-        ensures writes { (areas : List (List ℕ)) (place : ℕ) →
-            StandsIn self.old waiting.old.begun areas place →
-            HasWrittenIn self.new waiting.new.begun areas place (take result out.new) }
-        ensures waits { waiting.new.waiting ≡ waiting.old.waiting }
-    {
-        let n = waiting.send(out);
-        self.sender.send_octets(&mut out[..n]);
-        n
     }
 }

@@ -3,25 +3,15 @@ use Rattle.std.proofs.Common.{◌≡◌, ℕ, ◌<◌, false, List, [], ◌∷�
 use Rattle.std.proofs.Common.{Some, None}
 use Rattle.std.proofs.Common.{refl, sym, ◌∙◌, ap, subst, eq-eqb, append_assoc, append-nil, inl, inr}
 use Rattle.std.specs.Prelude.{if◌then◌else◌, ◌==◌, zero, suc}
-use Rattle.std.proofs.lemmas.Bool.{cases_Bool, cases_lt, le-leb, eqb-true}
+use Rattle.std.proofs.lemmas.Bool.{cases_Bool, eqb-true}
 use Rattle.std.proofs.lemmas.List.Elements.{All-head, All-tail}
 use Rattle.gfp_model.specs.declared.linear_model.ChannelFault.{ChannelFault}
-use Rattle.gfp_model.specs.declared.linear_model.ChannelFault.TheVariants.{Unknown}
 use Rattle.gfp_model.specs.linear_model.Linear.{ChannelFrame}
 use Rattle.gfp_model.specs.linear_model.Channels.{Channels, silent, waiting_of, channel_refusal, with_frame, pushed_by, pushed}
 use Rattle.gfp_channels.proofs.GfpLinearLaws.TurnLaws.{same-queue, other-queue}
 use Rattle.gfp_channels.specs.channel_law.Kept.{AreSound}
 use Rattle.gfp_channels.specs.channel_law.Offers.{after_frames, accepted_one, accepted_frames}
-use Rattle.gfp_channels.proofs.ChannelLaws.QueueLaws.{pushed_sound}
-
--- a frame that is accepted is one of a channel that there is
-inside : (cid : ℕ) (frame : List ℕ) (channels : Channels) → channel_refusal cid frame channels ≡ None →
-    cid < length channels.waiting
-inside cid frame channels none = elim (cases_lt cid (length channels.waiting)) [
-  | inl is ↦ is
-  | inr out ↦ absurd (let e : channel_refusal cid frame channels ≡ Some (Unknown (length channels.waiting)) =
-      rw (le-leb (length channels.waiting) cid out) refl in cc)
-]
+use Rattle.gfp_channels.proofs.ChannelLaws.QueueLaws.{accepted_inside, pushed_sound}
 
 -- one frame more of the channel, or of another one
 waiting-same : (cid : ℕ) (frame : List ℕ) (channels : Channels) → cid < length channels.waiting →
@@ -55,7 +45,7 @@ waiting-pushed : (cid : ℕ) (offer : ChannelFrame) (channels : Channels) (refus
     ≡ waiting_of cid channels ++ accepted_one refusal cid offer
 waiting-pushed cid offer channels (Some refusal) is = sym (append-nil (waiting_of cid channels))
 waiting-pushed cid offer channels None is =
-    waiting-more cid offer.cid offer.frame channels (inside offer.cid offer.frame channels is)
+    waiting-more cid offer.cid offer.frame channels (accepted_inside offer.cid offer.frame channels is)
 
 pub waiting-accepted : (cid : ℕ) (channels : Channels) (offers : List ChannelFrame) →
     waiting_of cid (after_frames channels offers) ≡ waiting_of cid channels ++ accepted_frames cid channels offers

@@ -49,24 +49,30 @@ silent_sound n few =
       frames = All-replicate (All IsChannelFrame) n none (All-nil IsChannelFrame);
     }
 
+-- a frame that is accepted is one of a channel that there is
+pub accepted_inside : (cid : ℕ) (frame : List ℕ) (channels : Channels) → channel_refusal cid frame channels ≡ None →
+    cid < length channels.waiting
+accepted_inside cid frame channels none = elim (cases_lt cid (length channels.waiting)) [
+  | inl is ↦ is
+  | inr out ↦ absurd (let e : channel_refusal cid frame channels ≡ Some (Unknown (length channels.waiting)) =
+      rw (le-leb (length channels.waiting) cid out) refl in cc)
+]
+
 accepted_frame : (cid : ℕ) (frame : List ℕ) (channels : Channels) → All (λ o. o < 256) frame →
     channel_refusal cid frame channels ≡ None → IsChannelFrame frame
 accepted_frame cid frame channels octets none =
-    elim (cases_lt cid (length channels.waiting)) [
-      | inr out ↦ absurd (let e : channel_refusal cid frame channels ≡ Some (Unknown (length channels.waiting)) =
-          rw (le-leb (length channels.waiting) cid out) refl in cc)
-      | inl inside ↦ elim (cases_lt (length frame) 64) [
-        | inl short ↦ absurd (let e : channel_refusal cid frame channels ≡ Some (Length (length frame)) =
-            rw (lt-leb (length channels.waiting) cid inside, lt-ltb (length frame) 64 short) refl in cc)
-        | inr least ↦ elim (cases_lt longest_frame (length frame)) [
-          | inl long ↦ absurd (let e : channel_refusal cid frame channels ≡ Some (Length (length frame)) =
-              rw (
-                lt-leb (length channels.waiting) cid inside,
-                le-ltb (length frame) 64 least,
-                lt-ltb longest_frame (length frame) long,
-              ) refl in cc)
-          | inr most ↦ record { least = least; most = most; octets = octets }
-        ]
+    let inside = accepted_inside cid frame channels none in
+    elim (cases_lt (length frame) 64) [
+      | inl short ↦ absurd (let e : channel_refusal cid frame channels ≡ Some (Length (length frame)) =
+          rw (lt-leb (length channels.waiting) cid inside, lt-ltb (length frame) 64 short) refl in cc)
+      | inr least ↦ elim (cases_lt longest_frame (length frame)) [
+        | inl long ↦ absurd (let e : channel_refusal cid frame channels ≡ Some (Length (length frame)) =
+            rw (
+              lt-leb (length channels.waiting) cid inside,
+              le-ltb (length frame) 64 least,
+              lt-ltb longest_frame (length frame) long,
+            ) refl in cc)
+        | inr most ↦ record { least = least; most = most; octets = octets }
       ]
     ]
 

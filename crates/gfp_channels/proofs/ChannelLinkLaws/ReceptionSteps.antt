@@ -89,13 +89,11 @@ pub received-cut : {K : Type 0} (written : K → Option (List ℕ)) (faults : K 
 received-cut {K = K} written faults old new start cuts cut sent o was skips stands lines got place ended =
     let size = length-append sent (o ∷ []) in
     let now : List ℕ = sent ++ o ∷ [] in
-    let segment : Segment = open_segment 0 true cuts now in
     record {
       place = place ∙ ap (λ n. n + 1) was.place ∙ sym size;
       ended = ended ∙ ap (λ n. ended_by n cuts) (sym size);
       goes_on = record {
-        stands = subst (λ b. StandsIn new.delineator b segment.octets) (sym skips.later)
-            (subst (StandsIn new.delineator false) (sym skips.fresh) stands);
+        stands = subst (λ (s : Segment). StandsIn new.delineator s.first s.octets) (sym skips.fresh) stands;
         text = subst (λ (g : GotLines K). HasText written faults g start
             (flat_map got_text (flat_map frame_in (come_of 0 true cuts now)))) (sym lines)
             (subst (λ l. HasText written faults old.lines start (flat_map got_text (flat_map frame_in l)))

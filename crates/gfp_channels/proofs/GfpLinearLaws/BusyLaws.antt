@@ -4,7 +4,8 @@ use Rattle.std.proofs.Common.{Bool, true, false, ◌↔◌, Some, None, refl, sy
 use Rattle.std.proofs.Common.{append-nil, length-take-le, length-append, length-take, length-drop, slice_index_or}
 use Rattle.std.proofs.Common.{slice_set, insert, remove, replicate, le-leb, le-ltb, take-append-drop, take_at, drop_at}
 use Rattle.std.proofs.lemmas.Bool.{lt-leb}
-use Rattle.std.proofs.lemmas.List.{get_or_default}
+use Rattle.std.proofs.lemmas.List.{get_or_default, set_split}
+use Rattle.std.proofs.Math.Seq.{drop-cons}
 use Rattle.std.proofs.lemmas.List.Elements.{All-nil, All-cons, All-head, All-tail, All-weaker, All-get_or}
 use Rattle.gfp_model.specs.linear_model.Channels.{Channels, turn, first_busy, or_else, with_queue, waiting_of}
 use Rattle.gfp_model.specs.linear_model.Channels.{channel_refusal, pushed_by, pushed, served}
@@ -35,29 +36,45 @@ busy-append cid (queue ∷ queues) more =
     (busy_from (cid + length (queue ∷ queues)) more))
     ∙ ap (λ l. l ++ busy_from (cid + length (queue ∷ queues)) more) (sym (busy-cons cid queue queues))
 
--- ---- their bounds
-pub busy-least : (cid : ℕ) (queues : List (List (List ℕ))) → All (λ n. cid ≤ n) (busy_from cid queues)
-unfolding busy_from
-busy-least cid [] = All-nil (λ n. cid ≤ n)
-busy-least cid ([] ∷ queues) =
-    All-weaker (λ n. cid + 1 ≤ n) (λ n. cid ≤ n) (λ n h. omega (arith, h)) (busy_from (cid + 1) queues)
-    (busy-least (cid + 1) queues)
-busy-least cid ((frame ∷ frames) ∷ queues) =
-    All-cons (λ n. cid ≤ n) cid (busy_from (cid + 1) queues) (omega arith)
-    (All-weaker (λ n. cid + 1 ≤ n) (λ n. cid ≤ n) (λ n h. omega (arith, h)) (busy_from (cid + 1) queues)
-    (busy-least (cid + 1) queues))
+-- ---- what is true of each
+-- each of them has a frame
+abbrev pub HasFrame : ℕ → List (List (List ℕ)) → ℕ → Type 0
+HasFrame cid queues n = (cid ≤ n) × (n < cid + length queues) × (0 < length (slice_index_or queues (n - cid) []))
 
-pub busy-below : (cid : ℕ) (queues : List (List (List ℕ))) →
-    All (λ n. n < cid + length queues) (busy_from cid queues)
+one_behind : (cid : ℕ) (queue : List (List ℕ)) (queues : List (List (List ℕ))) (n : ℕ) →
+    HasFrame (cid + 1) queues n → HasFrame cid (queue ∷ queues) n
+one_behind cid queue queues n has =
+    let place : n - cid ≡ suc (n - (cid + 1)) = omega (arith, has.0) in (
+      omega (arith, has.0),
+      omega (arith, has.1),
+      subst (λ (k : ℕ). 0 < length (slice_index_or (queue ∷ queues) k [])) (sym place) has.2,
+    )
+
+pub busy-some : (cid : ℕ) (queues : List (List (List ℕ))) → All (HasFrame cid queues) (busy_from cid queues)
 unfolding busy_from
-busy-below cid [] = All-nil (λ n. n < cid + 0)
-busy-below cid ([] ∷ queues) =
-    All-weaker (λ n. n < cid + 1 + length queues) (λ n. n < cid + suc (length queues)) (λ n h. omega (arith, h))
-    (busy_from (cid + 1) queues) (busy-below (cid + 1) queues)
-busy-below cid ((frame ∷ frames) ∷ queues) =
-    All-cons (λ n. n < cid + suc (length queues)) cid (busy_from (cid + 1) queues) (omega arith)
-    (All-weaker (λ n. n < cid + 1 + length queues) (λ n. n < cid + suc (length queues)) (λ n h. omega (arith, h))
-    (busy_from (cid + 1) queues) (busy-below (cid + 1) queues))
+busy-some cid [] = All-nil (HasFrame cid [])
+busy-some cid ([] ∷ queues) =
+    All-weaker (HasFrame (cid + 1) queues) (HasFrame cid ([] ∷ queues)) (one_behind cid [] queues)
+    (busy_from (cid + 1) queues) (busy-some (cid + 1) queues)
+busy-some cid ((frame ∷ frames) ∷ queues) =
+    let none : cid - cid ≡ 0 = omega arith in
+    All-cons (HasFrame cid ((frame ∷ frames) ∷ queues)) cid (busy_from (cid + 1) queues) (
+      omega arith,
+      omega arith,
+      subst (λ (k : ℕ). 0 < length (slice_index_or ((frame ∷ frames) ∷ queues) k [])) (sym none) (omega arith),
+    )
+    (All-weaker (HasFrame (cid + 1) queues) (HasFrame cid ((frame ∷ frames) ∷ queues))
+    (one_behind cid (frame ∷ frames) queues) (busy_from (cid + 1) queues) (busy-some (cid + 1) queues))
+
+pub busy-least : (cid : ℕ) (queues : List (List (List ℕ))) → All (λ n. cid ≤ n) (busy_from cid queues)
+busy-least cid queues =
+    All-weaker (HasFrame cid queues) (λ n. cid ≤ n) (λ n (h : HasFrame cid queues n). h.0) (busy_from cid queues)
+    (busy-some cid queues)
+
+busy-below : (cid : ℕ) (queues : List (List (List ℕ))) → All (λ n. n < cid + length queues) (busy_from cid queues)
+busy-below cid queues =
+    All-weaker (HasFrame cid queues) (λ n. n < cid + length queues) (λ n (h : HasFrame cid queues n). h.1)
+    (busy_from cid queues) (busy-some cid queues)
 
 pub busy-rising : (cid : ℕ) (queues : List (List (List ℕ))) → IsRising (busy_from cid queues)
 unfolding busy_from IsRising
@@ -94,7 +111,7 @@ rising-from (cid ∷ cids) (suc k) least rising inside high =
     rising-from cids k least rising.1 (omega arith) high
 
 -- ---- turns
-first_busy-is : (cid : ℕ) (queues : List (List (List ℕ))) → first_busy cid queues ≡ first_of (busy_from cid queues)
+pub first_busy-is : (cid : ℕ) (queues : List (List (List ℕ))) → first_busy cid queues ≡ first_of (busy_from cid queues)
 unfolding first_busy busy_from
 first_busy-is cid [] = refl
 first_busy-is cid ([] ∷ queues) = first_busy-is (cid + 1) queues
@@ -141,20 +158,14 @@ turn-among channels inside =
 
 first_from-at : (least n : ℕ) (busy : List ℕ) (cid : ℕ) → All (λ c. c < least) (take n busy) →
     All (λ c. least ≤ c) (drop n busy) → n < length busy → first_from least busy ≡ Some (slice_index_or busy n cid)
-unfolding first_from
-first_from-at least n [] cid low high inside = absurd (omega arith)
-first_from-at least zero (c ∷ busy) cid low high inside =
-    rw (le-leb least c (All-head (λ c. least ≤ c) c busy high)) refl
-first_from-at least (suc n) (c ∷ busy) cid low high inside =
-    rw (lt-leb least c (All-head (λ c. c < least) c (take n busy) low))
-    (first_from-at least n busy cid (All-tail (λ c. c < least) c (take n busy) low) high (omega arith))
+first_from-at least n busy cid low high inside =
+    ap (first_from least) (sym (take-append-drop n busy)) ∙ first_from-behind least (take n busy) (drop n busy) low
+    ∙ first_from-here least (drop n busy) high ∙ ap first_of (drop-cons busy n cid inside)
 
 first_from-none : (least : ℕ) (busy : List ℕ) → All (λ c. c < least) busy → first_from least busy ≡ None
 unfolding first_from
-first_from-none least [] low = refl
-first_from-none least (c ∷ busy) low =
-    rw (lt-leb least c (All-head (λ c. c < least) c busy low))
-    (first_from-none least busy (All-tail (λ c. c < least) c busy low))
+first_from-none least busy low =
+    ap (first_from least) (sym (append-nil busy)) ∙ first_from-behind least busy [] low
 
 -- it is the first that isn't below, or else the first of all
 pub turn-at : (next n : ℕ) (busy : List ℕ) (cid : ℕ) → All (λ c. c < next) (take n busy) →
@@ -183,19 +194,22 @@ none-busy cid zero = refl
 none-busy cid (suc n) = none-busy (cid + 1) n
 
 -- ---- one queue is another one
+-- what an edit of the vector does
+pub set-with : (cid : ℕ) (queue : List (List ℕ)) (queues : List (List (List ℕ))) → cid < length queues →
+    slice_set queues cid queue ≡ with_queue cid queue queues
+unfolding with_queue
+set-with cid queue [] inside = absurd (omega arith)
+set-with zero queue (other ∷ queues) inside = refl
+set-with (suc cid) queue (other ∷ queues) inside = ap (λ l. other ∷ l) (set-with cid queue queues (omega arith))
+
 with_queue-parts : (cid : ℕ) (queue : List (List ℕ)) (queues : List (List (List ℕ))) → cid < length queues →
     with_queue cid queue queues ≡ take cid queues ++ queue ∷ drop (suc cid) queues
-unfolding with_queue
-with_queue-parts cid queue [] inside = absurd (omega arith)
-with_queue-parts zero queue (other ∷ queues) inside = refl
-with_queue-parts (suc cid) queue (other ∷ queues) inside =
-    ap (λ l. other ∷ l) (with_queue-parts cid queue queues (omega arith))
+with_queue-parts cid queue queues inside = sym (set-with cid queue queues inside) ∙ set_split queues cid queue inside
 
 queues-parts : (cid : ℕ) (queues : List (List (List ℕ))) → cid < length queues →
     queues ≡ take cid queues ++ slice_index_or queues cid [] ∷ drop (suc cid) queues
-queues-parts cid [] inside = absurd (omega arith)
-queues-parts zero (queue ∷ queues) inside = refl
-queues-parts (suc cid) (queue ∷ queues) inside = ap (λ l. queue ∷ l) (queues-parts cid queues (omega arith))
+queues-parts cid queues inside =
+    sym (take-append-drop cid queues) ∙ ap (λ l. take cid queues ++ l) (drop-cons queues cid [] inside)
 
 -- the numbers in front of a channel and behind it
 front_of : ℕ → List (List (List ℕ)) → List ℕ
@@ -256,14 +270,6 @@ pub queue-at : (cid at : ℕ) (queue : List (List ℕ)) (queues : List (List (Li
     queue ≡ slice_index_or queues at queue → queue ≡ slice_index_or queues cid []
 queue-at cid at queue queues inside same is =
     is ∙ sym (get_or_default queues at [] queue inside) ∙ ap (λ k. slice_index_or queues k []) same
-
--- what an edit of the vector does
-pub set-with : (cid : ℕ) (queue : List (List ℕ)) (queues : List (List (List ℕ))) → cid < length queues →
-    slice_set queues cid queue ≡ with_queue cid queue queues
-unfolding with_queue
-set-with cid queue [] inside = absurd (omega arith)
-set-with zero queue (other ∷ queues) inside = refl
-set-with (suc cid) queue (other ∷ queues) inside = ap (λ l. other ∷ l) (set-with cid queue queues (omega arith))
 
 -- ---- a frame is accepted
 abbrev pub channels_of : ℕ → List (List (List ℕ)) → Channels
@@ -406,35 +412,6 @@ module _ (cid : ℕ) (queues : List (List (List ℕ))) (inside : cid < length qu
       is_now []
       ∙ ap₂ (λ a b. a ++ b) (sym (take_at front (cid ∷ back) at (sym count))) (sym rest)
       ∙ ap (λ l. remove l at) (sym before)
-
--- each of them has a frame
-abbrev pub HasFrame : ℕ → List (List (List ℕ)) → ℕ → Type 0
-HasFrame cid queues n = (cid ≤ n) × (n < cid + length queues) × (0 < length (slice_index_or queues (n - cid) []))
-
-one_behind : (cid : ℕ) (queue : List (List ℕ)) (queues : List (List (List ℕ))) (n : ℕ) →
-    HasFrame (cid + 1) queues n → HasFrame cid (queue ∷ queues) n
-one_behind cid queue queues n has =
-    let place : n - cid ≡ suc (n - (cid + 1)) = omega (arith, has.0) in (
-      omega (arith, has.0),
-      omega (arith, has.1),
-      subst (λ (k : ℕ). 0 < length (slice_index_or (queue ∷ queues) k [])) (sym place) has.2,
-    )
-
-busy-some : (cid : ℕ) (queues : List (List (List ℕ))) → All (HasFrame cid queues) (busy_from cid queues)
-unfolding busy_from
-busy-some cid [] = All-nil (HasFrame cid [])
-busy-some cid ([] ∷ queues) =
-    All-weaker (HasFrame (cid + 1) queues) (HasFrame cid ([] ∷ queues)) (one_behind cid [] queues)
-    (busy_from (cid + 1) queues) (busy-some (cid + 1) queues)
-busy-some cid ((frame ∷ frames) ∷ queues) =
-    let none : cid - cid ≡ 0 = omega arith in
-    All-cons (HasFrame cid ((frame ∷ frames) ∷ queues)) cid (busy_from (cid + 1) queues) (
-      omega arith,
-      omega arith,
-      subst (λ (k : ℕ). 0 < length (slice_index_or ((frame ∷ frames) ∷ queues) k [])) (sym none) (omega arith),
-    )
-    (All-weaker (HasFrame (cid + 1) queues) (HasFrame cid ((frame ∷ frames) ∷ queues))
-    (one_behind cid (frame ∷ frames) queues) (busy_from (cid + 1) queues) (busy-some (cid + 1) queues))
 
 -- that at a place of them too
 pub some-at : (queues : List (List (List ℕ))) (at d : ℕ) → at < length (busy_from 0 queues) →

@@ -1,45 +1,32 @@
 -- What turns do to the frames of one channel: those that are begun and those that wait are together the same, in order.
-use Rattle.std.proofs.Common.{◌≡◌, ◌≢◌, eq-eqb, ℕ, zero, suc, ◌+◌, ◌-◌, ◌<◌, ◌≤◌, true, false, List, [], ◌∷◌, ◌++◌}
+use Rattle.std.proofs.Common.{◌≡◌, ◌≢◌, eq-eqb, ℕ, zero, suc, ◌+◌, ◌-◌, ◌<◌, true, false, List, [], ◌∷◌, ◌++◌}
 use Rattle.std.proofs.Common.{length, take, drop, Option, Some, None, refl, sym, ◌∙◌, ap, ap₂, subst, arith}
 use Rattle.std.proofs.Common.{append_assoc, append-nil, nat_le, if◌then◌else◌, length-drop, length-take, slice_index_or}
-use Rattle.std.proofs.Common.{IfSome, ◌==◌, eqb-true, get_or-take, get_or-drop}
+use Rattle.std.proofs.Common.{IfSome, ◌==◌, eqb-true, get_or-take, get_or-drop, get_or-set_same, All}
+use Rattle.std.proofs.lemmas.List.Elements.{All-head}
 use Rattle.std.proofs.lemmas.List.Concat.{flat_map-append}
 use Rattle.gfp_model.specs.linear_model.Channels.{Channels, turn, first_busy, or_else, waiting_of, with_queue, oldest}
 use Rattle.gfp_model.specs.linear_model.Stream.{LinearPiece, idle, client, size, Shared, next_by, one_more, reaching}
 use Rattle.gfp_model.specs.linear_model.Stream.{reached, of_channel, frames_of, accepted_of}
+use Rattle.gfp_channels.specs.gfp_linear.Queue.{busy_from, first_of}
+use Rattle.gfp_channels.proofs.GfpLinearLaws.BusyLaws.{HasFrame, busy-some, first_busy-is, set-with}
 
 -- ---- whose turn it is has a frame
-abbrev pub Has : ℕ → List (List (List ℕ)) → ℕ → Type 0
-Has cid queues n = (cid ≤ n) × (n < cid + length queues) × (0 < length (slice_index_or queues (n - cid) []))
+first-of : (P : ℕ → Type 0) (cids : List ℕ) → All P cids → IfSome (first_of cids) P
+first-of P [] all = tt
+first-of P (cid ∷ cids) all = All-head P cid cids all
 
-has-behind : (cid : ℕ) (queue : List (List ℕ)) (queues : List (List (List ℕ))) (n : Option ℕ) →
-    IfSome n (Has (cid + 1) queues) → IfSome n (Has cid (queue ∷ queues))
-has-behind cid queue queues None has = tt
-has-behind cid queue queues (Some n) has =
-    let place : n - cid ≡ suc (n - (cid + 1)) = omega (arith, has.0) in (
-      omega (arith, has.0),
-      omega (arith, has.1),
-      subst (λ (k : ℕ). 0 < length (slice_index_or (queue ∷ queues) k [])) (sym place) has.2,
-    )
-
-first-has : (cid : ℕ) (queues : List (List (List ℕ))) → IfSome (first_busy cid queues) (Has cid queues)
-unfolding first_busy
-first-has cid [] = tt
-first-has cid ([] ∷ queues) = has-behind cid [] queues (first_busy (cid + 1) queues) (first-has (cid + 1) queues)
-first-has cid ((frame ∷ frames) ∷ queues) =
-    let none : cid - cid ≡ 0 = omega arith in (
-      omega arith,
-      omega arith,
-      subst (λ (k : ℕ). 0 < length (slice_index_or ((frame ∷ frames) ∷ queues) k [])) (sym none) (omega arith),
-    )
+first-has : (cid : ℕ) (queues : List (List (List ℕ))) → IfSome (first_busy cid queues) (HasFrame cid queues)
+first-has cid queues =
+    subst (λ (n : Option ℕ). IfSome n (HasFrame cid queues)) (sym (first_busy-is cid queues))
+    (first-of (HasFrame cid queues) (busy_from cid queues) (busy-some cid queues))
 
 -- ---- another queue
 pub same-queue : (cid : ℕ) (queue : List (List ℕ)) (queues : List (List (List ℕ))) → cid < length queues →
     slice_index_or (with_queue cid queue queues) cid [] ≡ queue
-unfolding with_queue
-same-queue cid queue [] inside = absurd (omega arith)
-same-queue zero queue (other ∷ queues) inside = refl
-same-queue (suc cid) queue (other ∷ queues) inside = same-queue cid queue queues (omega arith)
+same-queue cid queue queues inside =
+    ap (λ l. slice_index_or l cid []) (sym (set-with cid queue queues inside))
+    ∙ get_or-set_same queues cid queue [] inside
 
 pub other-queue : (cid other : ℕ) (queue : List (List ℕ)) (queues : List (List (List ℕ))) → other ≢ cid →
     slice_index_or (with_queue other queue queues) cid [] ≡ slice_index_or queues cid []
@@ -55,7 +42,7 @@ other-queue (suc cid) (suc other) queue (first ∷ queues) differ =
 abbrev pub IsBusy : Channels → ℕ → Type 0
 IsBusy channels cid = (cid < length channels.waiting) × (0 < length (waiting_of cid channels))
 
-from-back : (channels : Channels) (n : Option ℕ) → IfSome n (Has channels.next (drop channels.next channels.waiting)) →
+from-back : (channels : Channels) (n : Option ℕ) → IfSome n (HasFrame channels.next (drop channels.next channels.waiting)) →
     IfSome n (IsBusy channels)
 from-back channels None has = tt
 from-back channels (Some n) has =
@@ -66,7 +53,7 @@ from-back channels (Some n) has =
           (subst (λ (q : List (List ℕ)). 0 < length q) (get_or-drop next channels.waiting (n - next) []) has.2),
     )
 
-from-front : (channels : Channels) (n : Option ℕ) → IfSome n (Has 0 (take channels.next channels.waiting)) →
+from-front : (channels : Channels) (n : Option ℕ) → IfSome n (HasFrame 0 (take channels.next channels.waiting)) →
     IfSome n (IsBusy channels)
 from-front channels None has = tt
 from-front channels (Some n) has =

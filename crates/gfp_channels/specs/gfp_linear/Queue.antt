@@ -1,11 +1,8 @@
 -- What a queue of channels holds, and how it keeps it.
-use Rattle.std.specs.Prelude.{◌≡◌, ℕ, ◌+◌, ◌<◌, ◌≤◌, List, [], ◌∷◌, nat_le, Vec, All, vec_len, length, Option, Some}
-use Rattle.std.specs.Prelude.{None, if◌then◌else◌, ⊤, vec_capacity}
-use Rattle.std.specs.VecDeque.{deque_len, deque_capacity}
+use Rattle.std.specs.Prelude.{◌≡◌, ℕ, ◌+◌, ◌<◌, ◌≤◌, List, [], ◌∷◌, nat_le, Vec, All, length, Option, Some, None}
+use Rattle.std.specs.Prelude.{if◌then◌else◌, ⊤, vec_capacity}
 use Rattle.std.specs.declared.alloc.Global.{Global}
-use Rattle.std.specs.declared.collections.VecDeque.{VecDeque}
-use Rattle.law_model.specs.Common.{longest_frame}
-use Rattle.gfp_model.specs.linear_model.Channels.{Channels, most_of_channel, or_else}
+use Rattle.gfp_model.specs.linear_model.Channels.{Channels, or_else}
 
 -- the frames that wait, and the octets of the frame that is being sent which aren't written yet
 pub record Queued : Type 0 where
@@ -15,23 +12,6 @@ pub record Queued : Type 0 where
 -- these frames wait, and none is being sent
 abbrev pub unbegun : Channels → Queued
 unbegun channels = record { channels = channels; begun = [] }
-
--- ---- the buffers of one channel
--- one that has room for any frame
-abbrev pub HasFrameRoom : Vec ℕ Global → Type 0
-HasFrameRoom buffer = longest_frame ≤ vec_capacity buffer
-
--- one that holds a frame
-abbrev pub HoldsFrame : Vec ℕ Global → Type 0
-HoldsFrame buffer = (vec_len buffer ≤ longest_frame) × HasFrameRoom buffer
-
--- those with a frame and the spare ones are together as many as may wait
-pub record IsStore (waiting : VecDeque (Vec ℕ Global) Global) (spare : Vec (Vec ℕ Global) Global) : Type 0 where
-  pub count : deque_len waiting + vec_len spare ≡ most_of_channel
-  pub places : most_of_channel ≤ deque_capacity waiting
-  pub spares : most_of_channel ≤ vec_capacity spare
-  pub frames : All HoldsFrame waiting.items
-  pub room : All HasFrameRoom spare.items
 
 -- ---- the channels with a frame
 -- their numbers, by rising number, where the first queue has a number
@@ -54,15 +34,12 @@ abbrev pub turn_among : ℕ → List ℕ → Option ℕ
 turn_among next busy = or_else (first_from next busy) (first_of busy)
 
 -- what is true of a queue
-pub record IsKept (queues : List (List (List ℕ))) (busy : Vec ℕ Global) (next sent : ℕ)
-    (begun : Vec ℕ Global) : Type 0 where
+pub record IsKept (queues : List (List (List ℕ))) (busy : Vec ℕ Global) (next : ℕ) : Type 0 where
   pub some : 1 ≤ length queues
   pub most : length queues ≤ 256
   pub numbers : busy.items ≡ busy_from 0 queues
   pub places : length queues ≤ vec_capacity busy
   pub round : next ≤ length queues
-  pub written : sent ≤ vec_len begun
-  pub sending : HasFrameRoom begun
 
 -- each number is above those before it
 unfoldable pub IsRising : List ℕ → Type 0

@@ -1,10 +1,9 @@
 //! The stream of channels, octet by octet.
 
-ghost use Rattle.std.specs.Prelude.{◌≡◌, ℕ, ◌<◌, ◌≤◌, List, [], ◌++◌, length, min, take};
+ghost use Rattle.std.specs.Prelude.{◌≡◌, ◌<◌, ◌≤◌, ◌++◌, length, take};
 ghost use Rattle.gfp_model.specs.linear_model.Linear.{linear_header, extension_header};
 ghost use Rattle.gfp_model.specs.linear_model.Channels.{Channels};
 ghost use Rattle.gfp_model.specs.linear_model.Stream.{unsent};
-ghost use Rattle.gfp_fill.specs.Areas.{head_of, StandsIn, HasWrittenIn};
 ghost use Rattle.gfp_channels.specs.gfp_linear.Queue.{unbegun};
 ghost use Rattle.gfp_channels.specs.gfp_linear.Filler.{LinearFillerStands, StandsFurther, FillsNext, Writes};
 
@@ -68,7 +67,7 @@ impl LinearFiller {
             return self.sender.send_headers(out);
         }
         if waiting.left() > 0 {
-            return self.send_frame(waiting, out);
+            return waiting.send(&mut self.sender, out);
         }
         match waiting.begin() {
             Some((cid, n)) => {
@@ -77,21 +76,6 @@ impl LinearFiller {
             }
             None => self.sender.send_idles(out),
         }
-    }
-
-    // Writes as many octets of the frame that is being sent as aren't written and `out` has room for, and
-    // says how many.
-    fn send_frame(&mut self, waiting: &mut LinearQueue, out: &mut [u8]) -> usize
-        requires { head_of self.old ≡ [] }
-        ensures count { result ≡ min (length waiting.old.begun) (length out.old) }
-        ensures writes { (areas : List (List ℕ)) (place : ℕ) →
-            StandsIn self.old waiting.old.begun areas place →
-            HasWrittenIn self.new waiting.new.begun areas place (take result out.new) }
-        ensures waits { waiting.new.channels ≡ waiting.old.channels }
-    {
-        let n = waiting.send(out);
-        self.sender.send_octets(&mut out[..n]);
-        n
     }
 }
 

@@ -1,51 +1,47 @@
 //! The frames that wait, channel by channel, and the one that is being sent.
 
-ghost use Rattle.std.specs.Prelude.{◌≡◌, ℕ, ◌+◌, ◌<◌, ◌≤◌, length, min, take, drop, IfOk, OnErr};
+ghost use Rattle.std.specs.Prelude.{◌≡◌, ℕ, ◌<◌, ◌≤◌, List, [], length, min, take, IfOk, OnErr};
 ghost use Rattle.std.specs.Prelude.{IfSome, IfNone, Some, None, slice_index_or};
 ghost use Rattle.std.specs.Result.{result_err};
 ghost use Rattle.law_model.specs.Common.{longest_frame};
 ghost use Rattle.gfp_model.specs.linear_model.Channels.{silent, turn, served, oldest, pushed, channel_refusal};
 ghost use Rattle.gfp_model.specs.linear_model.Stream.{Shared, offered};
 ghost use Rattle.gfp_channels.specs.gfp_linear.Queue.{unbegun, busy_from};
-ghost use Rattle.gfp_fill.specs.Areas.{Sender};
+ghost use Rattle.gfp_fill.specs.Areas.{Sender, head_of, StandsIn, HasWrittenIn};
 ghost use Rattle.gfp_channels.specs.gfp_linear.Filler.{LinearFillerStands};
 
 use crate::gfp_linear::busy_channels::{add, count_below};
-use crate::gfp_linear::channel_queue::ChannelQueue;
-use gfp_fill::copy_some;
+use gfp_fill::{AreaSender, BegunFrame, FrameStore, MIN_FRAME};
 use gfp_model::linear_model::ChannelFault;
 use law_model::LONGEST_FRAME;
 use std::alloc::{AllocError, Global};
 use std::marker::Model;
 
-/// The least number of octets in a frame that is accepted, from the destination address to the FCS.
-const MIN_FRAME: usize = 64;
+// How many frames of a channel may wait.
+const MAX_WAITING: usize = 16;
 
 /// The accepted frames that wait, of each channel oldest first, and the one that is being sent.
 #[derive(Drop)]
 pub struct LinearQueue {
-    queues: Vec<ChannelQueue>,
+    queues: Vec<FrameStore<MAX_WAITING>>,
     // The channels with a frame, by rising number.
     busy: Vec<u8>,
     // The channel with which the next round begins.
     next: u16,
-    // The buffer of the frame that is being sent, and how many of its octets are written.
-    begun: Vec<u8>,
-    sent: usize,
+    begun: BegunFrame,
 }
 
 impl Model for LinearQueue {
     ghost use Rattle.gfp_channels.specs.gfp_linear.Queue.{Queued, IsKept};
-    ghost use Rattle.std.specs.Prelude.{drop};
 
     ghost Value = { Queued };
 
     ghost view = { λ queue. record {
       channels = record { waiting = queue.queues.items; next = queue.next };
-      begun = drop queue.sent queue.begun.items;
+      begun = queue.begun;
     } };
 
-    ghost invariant = { λ queue. IsKept queue.queues.items queue.busy queue.next queue.sent queue.begun };
+    ghost invariant = { λ queue. IsKept queue.queues.items queue.busy queue.next };
 }
 
 impl LinearQueue {
@@ -59,14 +55,13 @@ impl LinearQueue {
         let count = usize::from(channels);
         let mut queues = Vec::with_capacity(alloc, count)?;
         for _ in 0..count {
-            queues.push(ChannelQueue::new(alloc)?)?;
+            queues.push(FrameStore::new(alloc)?)?;
         }
         Ok(LinearQueue {
             queues,
             busy: Vec::with_capacity(alloc, count)?,
             next: 0,
-            begun: Vec::with_capacity(alloc, LONGEST_FRAME)?,
-            sent: 0,
+            begun: BegunFrame::new(alloc)?,
         })
     }
 
@@ -91,7 +86,7 @@ impl LinearQueue {
             });
         }
         let at = usize::from(cid);
-        let was_silent = self.queues[at].is_silent();
+        let was_silent = self.queues[at].is_empty();
         if !self.queues[at].push(frame) {
             return Err(ChannelFault::QueueFull { waiting: 16 });
         }
@@ -119,9 +114,8 @@ impl LinearQueue {
         let cid = self.busy[at];
         let channel = usize::from(cid);
         let n = self.queues[channel].begin(&mut self.begun)?;
-        self.sent = 0;
         self.next = u16::from(cid) + 1;
-        if self.queues[channel].is_silent() {
+        if self.queues[channel].is_empty() {
             self.busy.remove(at);
         }
         Some((cid, n))
@@ -147,20 +141,20 @@ impl LinearQueue {
     pub(super) fn left(&self) -> usize
         ensures { result ≡ length self.now.begun }
     {
-        self.begun.len() - self.sent
+        self.begun.left()
     }
 
-    /// Copies as many octets of the frame that is being sent as aren't written and `out` has room for, and
+    /// Writes as many octets of the frame that is being sent as aren't written and `out` has room for, and
     /// says how many.
     #[inline]
-    pub(super) fn send(&mut self, out: &mut [u8]) -> usize
+    pub(super) fn send(&mut self, sender: &mut AreaSender, out: &mut [u8]) -> usize
+        requires { head_of sender.old ≡ [] }
         ensures count { result ≡ min (length self.old.begun) (length out.old) }
-        ensures octets { take result out.new ≡ take result self.old.begun }
-        ensures rest { self.new.begun ≡ drop result self.old.begun }
+        ensures writes { (areas : List (List ℕ)) (place : ℕ) →
+            StandsIn sender.old self.old.begun areas place →
+            HasWrittenIn sender.new self.new.begun areas place (take result out.new) }
         ensures waits { self.new.channels ≡ self.old.channels }
     {
-        let n = copy_some(&self.begun.as_slice()[self.sent..], out);
-        self.sent += n;
-        n
+        sender.send_frame(&mut self.begun, out)
     }
 }

@@ -11,7 +11,6 @@ ghost use Rattle.gfp_model.specs.linear_model.Linear.{linear_header, linear_outc
 ghost use Rattle.gfp_model.specs.linear_model.Stream.{Shared, size, one_more, reached, IsFewest, accepted_of};
 
 mod busy_channels;
-mod channel_queue;
 mod linear_delineator;
 mod linear_filler;
 mod linear_queue;

@@ -45,8 +45,8 @@ returns-then-place-cuts-clause-received g c start sent was =
             ap (λ (r : Reception g.row.K.Denot). r.place) w.reception-is,
             ap (λ (r : Reception g.row.K.Denot). r.ended) w.reception-is,
             subst (λ (r : Reception g.row.K.Denot). StandsIn r.delineator false []) (sym w.reception-is)
-                (subst (λ b. StandsIn old.delineator b []) (step.was_later behind)
-                (subst (StandsIn old.delineator segment.first) (step.was_fresh behind) was.goes_on.stands)),
+                (subst (λ (s : Segment). StandsIn old.delineator s.first s.octets) (step.was behind)
+                was.goes_on.stands),
           )
     ] in
     let kept : (new.delineator ≡ one.delineator) × (new.lines ≡ one.lines) × (new.got ≡ one.got)

@@ -17,9 +17,11 @@ returns-then-left-gt0-clause-writes c shared place stands =
 
 pub returns-then-left-gt0-2-clause-writes : goal.returns-then-left-gt0-2-clause-writes
 returns-then-left-gt0-2-clause-writes c shared place stands =
-    here_written c.send_frame.new.self c.send_frame.new.waiting shared place _
-    (c.send_frame.ensures.waits ∙ stands.waits)
-    (c.send_frame.ensures.writes (map area_of shared.pieces) place stands.octets)
+    let begun : List ℕ = c.args.waiting.now.begun in
+    let areas : List (List ℕ) = map area_of shared.pieces in
+    here_written c.send.new.sender c.send.new.self shared place _ (c.send.ensures.waits ∙ stands.waits)
+    (c.send.ensures.writes areas place
+    (subst (λ (s : Sender). StandsIn s begun areas place) (sym c.self.view_is) stands.octets))
 
 pub returns-in-Some-clause-writes : goal.returns-in-Some-clause-writes
 returns-in-Some-clause-writes c shared place stands =

@@ -35,7 +35,7 @@ some c =
 -- the queues without that frame
 module _ (c : After-index) (turn : IsNext c.self.inside.queues.items c.in_ok-at.at c.index-cid.result.now)
     (old : c.index_mut.result.now ≡ slice_index_or c.self.inside.queues.items c.index-cid.result.now []) where
-  was : slice_index_or c.self.inside.queues.items c.index-cid.result.now [] ≡ c.begin.new.begun.items ∷ c.begin.new.self
+  was : slice_index_or c.self.inside.queues.items c.index-cid.result.now [] ≡ c.begin.new.begun ∷ c.begin.new.self
   was = sym old ∙ c.in_ok-n.ensures.frame
 
   now : c.index.result.now ≡ c.begin.new.self
@@ -48,7 +48,7 @@ module _ (c : After-index) (turn : IsNext c.self.inside.queues.items c.in_ok-at.
   edit = ap (λ k. slice_set c.self.inside.queues.items k c.begin.new.self) c.from-channel.ensures
       ∙ set-with c.index-cid.result.now c.begin.new.self c.self.inside.queues.items turn.inside
 
-  frame : c.begin.new.begun.items ≡ oldest c.index-cid.result.now c.args.self.now.channels
+  frame : c.begin.new.begun ≡ oldest c.index-cid.result.now c.args.self.now.channels
   frame = sym (ap (λ q. slice_index_or q 0 []) was)
       ∙ ap (λ (q : Queued). oldest c.index-cid.result.now q.channels) c.self.view_is
 
@@ -56,7 +56,7 @@ module _ (c : After-index) (turn : IsNext c.self.inside.queues.items c.in_ok-at.
       ≡ served c.index-cid.result.now c.args.self.now.channels
   rest = ap₂ (λ k n. channels_of n (slice_set c.self.inside.queues.items k c.begin.new.self)) c.from-channel.ensures
       (ap (λ n. n + 1) c.from.ensures)
-      ∙ served-is c.index-cid.result.now c.self.inside.next c.begin.new.begun.items c.begin.new.self
+      ∙ served-is c.index-cid.result.now c.self.inside.next c.begin.new.begun c.begin.new.self
       c.self.inside.queues.items turn.inside was
       ∙ ap (λ (q : Queued). served c.index-cid.result.now q.channels) c.self.view_is
 
@@ -79,72 +79,68 @@ index-requires c =
     let turn = next (goal.at.index-requires c).After-from-channel in
     omega (arith, turn.inside, c.from-channel.ensures)
 
-pub invariant_of-self-then-is_silent : goal.invariant_of-self-then-is_silent
-invariant_of-self-then-is_silent c =
+pub invariant_of-self-then-is_empty : goal.invariant_of-self-then-is_empty
+invariant_of-self-then-is_empty c =
     let items : List (List (List ℕ)) = c.self.inside.queues.items in
     let cid : ℕ = c.index-cid.result.now in
-    let at = goal.at.invariant_of-self-then-is_silent c in
+    let at = goal.at.invariant_of-self-then-is_empty c in
     let turn = next at.After-from-channel in
     let size = length-set items c.from-channel.result c.begin.new.self in
     let front = old at.After-begin turn in
     let none : c.begin.new.self ≡ [] =
-    sym (now at.After-index turn front) ∙ c.is_silent.ensures.0 c.if-is_silent.true in
+    sym (now at.After-index turn front) ∙ c.is_empty.ensures.0 c.if-is_empty.true in
     record {
       some = omega (arith, size, c.self.invariant.some);
       most = omega (arith, size, c.self.invariant.most);
       numbers = c.remove.ensures.items ∙ ap (λ l. remove l c.in_ok-at.at) c.self.invariant.numbers
           ∙ sym (ap (busy_from 0) (edit at.After-index turn front ∙ ap (λ q. with_queue cid q items) none)
-          ∙ busy-removed cid items turn.inside c.in_ok-at.at cid c.begin.new.begun.items c.begin.new.self
+          ∙ busy-removed cid items turn.inside c.in_ok-at.at cid c.begin.new.begun c.begin.new.self
           (was at.After-index turn front) turn.place turn.here);
       places = omega (arith, size, c.self.invariant.places, c.remove.ensures.capacity);
       round = omega (arith, size, turn.inside, c.from.ensures);
-      written = omega arith;
-      sending = c.in_ok-n.ensures.room;
     }
 
-pub invariant_of-self-else-is_silent : goal.invariant_of-self-else-is_silent
-invariant_of-self-else-is_silent c =
+pub invariant_of-self-else-is_empty : goal.invariant_of-self-else-is_empty
+invariant_of-self-else-is_empty c =
     let items : List (List (List ℕ)) = c.self.inside.queues.items in
-    let at = goal.at.invariant_of-self-else-is_silent c in
+    let at = goal.at.invariant_of-self-else-is_empty c in
     let turn = next at.After-from-channel in
     let size = length-set items c.from-channel.result c.begin.new.self in
     let front = old at.After-begin turn in
     let more : c.begin.new.self ≢ [] =
-    λ e. silent-told c.index.result.now c.is_silent.result c.is_silent.ensures c.if-is_silent.false
+    λ e. silent-told c.index.result.now c.is_empty.result c.is_empty.ensures c.if-is_empty.false
     (now at.After-index turn front ∙ e) in
     record {
       some = omega (arith, size, c.self.invariant.some);
       most = omega (arith, size, c.self.invariant.most);
       numbers = c.self.invariant.numbers
           ∙ sym (ap (busy_from 0) (edit at.After-index turn front)
-          ∙ busy-less c.index-cid.result.now items turn.inside c.begin.new.begun.items c.begin.new.self
+          ∙ busy-less c.index-cid.result.now items turn.inside c.begin.new.begun c.begin.new.self
           (was at.After-index turn front) more);
       places = omega (arith, size, c.self.invariant.places);
       round = omega (arith, size, turn.inside, c.from.ensures);
-      written = omega arith;
-      sending = c.in_ok-n.ensures.room;
     }
 
-pub returns-then-is_silent-clause-frame : goal.returns-then-is_silent-clause-frame
-returns-then-is_silent-clause-frame c =
-    let at = goal.at.returns-then-is_silent-clause-frame c in
+pub returns-then-is_empty-clause-frame : goal.returns-then-is_empty-clause-frame
+returns-then-is_empty-clause-frame c =
+    let at = goal.at.returns-then-is_empty-clause-frame c in
     let turn = next at.After-from-channel in
     frame at.After-index turn (old at.After-begin turn)
 
-pub returns-then-is_silent-clause-rest : goal.returns-then-is_silent-clause-rest
-returns-then-is_silent-clause-rest c =
-    let at = goal.at.returns-then-is_silent-clause-rest c in
+pub returns-then-is_empty-clause-rest : goal.returns-then-is_empty-clause-rest
+returns-then-is_empty-clause-rest c =
+    let at = goal.at.returns-then-is_empty-clause-rest c in
     let turn = next at.After-from-channel in
     rest at.After-index turn (old at.After-begin turn)
 
-pub returns-else-is_silent-clause-frame : goal.returns-else-is_silent-clause-frame
-returns-else-is_silent-clause-frame c =
-    let at = goal.at.returns-else-is_silent-clause-frame c in
+pub returns-else-is_empty-clause-frame : goal.returns-else-is_empty-clause-frame
+returns-else-is_empty-clause-frame c =
+    let at = goal.at.returns-else-is_empty-clause-frame c in
     let turn = next at.After-from-channel in
     frame at.After-index turn (old at.After-begin turn)
 
-pub returns-else-is_silent-clause-rest : goal.returns-else-is_silent-clause-rest
-returns-else-is_silent-clause-rest c =
-    let at = goal.at.returns-else-is_silent-clause-rest c in
+pub returns-else-is_empty-clause-rest : goal.returns-else-is_empty-clause-rest
+returns-else-is_empty-clause-rest c =
+    let at = goal.at.returns-else-is_empty-clause-rest c in
     let turn = next at.After-from-channel in
     rest at.After-index turn (old at.After-begin turn)

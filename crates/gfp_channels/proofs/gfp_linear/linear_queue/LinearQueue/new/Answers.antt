@@ -16,6 +16,4 @@ invariant_of-result c =
       numbers = c.in_ok-with_capacity.ensures.items ∙ sym (ap (busy_from 0) made ∙ none-busy 0 n);
       places = omega (arith, long, c.in_ok-with_capacity.ensures.capacity);
       round = omega arith;
-      written = omega arith;
-      sending = omega (arith, c.in_ok-with_capacity-2.ensures.capacity);
     }

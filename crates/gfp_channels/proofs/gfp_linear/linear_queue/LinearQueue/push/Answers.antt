@@ -56,7 +56,7 @@ add-requires-clause-room c =
     let items : List (List (List ℕ)) = c.self.inside.queues.items in
     let at = (goal.at.add-requires-clause-room c).Else-not-push in
     let silent : slice_index_or items c.args.cid [] ≡ [] =
-    was at ∙ c.is_silent-was_silent.ensures.0 c.if-was_silent.true in
+    was at ∙ c.is_empty-was_silent.ensures.0 c.if-was_silent.true in
     omega (
       arith,
       busy-room c.args.cid items (inside at) silent,
@@ -72,7 +72,7 @@ invariant_of-self-then-was_silent c =
     let n : ℕ = c.count_below-place.result in
     let at = (goal.at.invariant_of-self-then-was_silent c).Else-not-push in
     let silent : slice_index_or items cid [] ≡ [] =
-    was at ∙ c.is_silent-was_silent.ensures.0 c.if-was_silent.true in
+    was at ∙ c.is_empty-was_silent.ensures.0 c.if-was_silent.true in
     let listed = c.as_slice.ensures.value ∙ c.self.invariant.numbers in
     let size = length-set items c.from-at.result c.push.new.self in
     record {
@@ -90,8 +90,6 @@ invariant_of-self-then-was_silent c =
           c.count_below-place.ensures.from)));
       places = omega (arith, size, c.self.invariant.places, c.add.ensures.capacity);
       round = omega (arith, size, c.self.invariant.round);
-      written = c.self.invariant.written;
-      sending = c.self.invariant.sending;
     }
 
 pub invariant_of-self-else-was_silent : goal.invariant_of-self-else-was_silent
@@ -105,12 +103,10 @@ invariant_of-self-else-was_silent c =
       numbers = c.self.invariant.numbers
           ∙ sym (ap (busy_from 0) (edit at)
           ∙ busy-pushed c.args.cid items (inside at) (slice_index_or items c.args.cid []) c.args.frame.now refl
-          (λ e. silent-told c.index.result.now c.is_silent-was_silent.result c.is_silent-was_silent.ensures
+          (λ e. silent-told c.index.result.now c.is_empty-was_silent.result c.is_empty-was_silent.ensures
           c.if-was_silent.false (sym (was at) ∙ e)));
       places = omega (arith, size, c.self.invariant.places);
       round = omega (arith, size, c.self.invariant.round);
-      written = c.self.invariant.written;
-      sending = c.self.invariant.sending;
     }
 
 pub returns-then-was_silent-clause-channels : goal.returns-then-was_silent-clause-channels

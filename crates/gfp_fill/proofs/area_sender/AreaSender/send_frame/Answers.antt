@@ -1,21 +1,20 @@
 -- Octets of the frame are scrambled where they were copied to.
 use Rattle.std.proofs.Common.{◌≡◌, List, ℕ, ◌++◌, take, drop, length, sym, ◌∙◌, ap₂, subst, arith}
 use Rattle.std.proofs.lemmas.List.{take_at, take-append-drop, length-take-le}
-use Rattle.gfp_fill.specs.Areas.{Sender, StandsIn, HasWrittenIn}
-use Rattle.gfp_fill.proofs.stream_filler.Filler.send_frame.Goals as goal
+use Rattle.gfp_fill.specs.Areas.{StandsIn, HasWrittenIn}
+use Rattle.gfp_fill.proofs.area_sender.AreaSender.send_frame.Goals as goal
 
 pub returns-clause-writes : goal.returns-clause-writes
 returns-clause-writes c areas place stands =
     let n = c.send-n.result in
-    let begun : List ℕ = c.args.waiting.now.begun in
-    let rest : List ℕ = c.send-n.new.self.begun in
+    let begun : List ℕ = c.args.frame.now in
+    let rest : List ℕ = c.send-n.new.self in
     let out = c.send-n.new.out in
     let octets = c.send_octets.new.octets in
     let both : begun ≡ take n out ++ rest =
     sym (take-append-drop n begun) ∙ sym (ap₂ ◌++◌ c.send-n.ensures.octets c.send-n.ensures.rest) in
-    let here : StandsIn c.self.inside.sender (take n out ++ rest) areas place =
-    subst (λ left. StandsIn c.self.inside.sender left areas place) both
-    (subst (λ (s : Sender). StandsIn s begun areas place) (sym c.self.view_is) stands) in
+    let here : StandsIn c.args.self.now (take n out ++ rest) areas place =
+    subst (λ left. StandsIn c.args.self.now left areas place) both stands in
     let size : length octets ≡ n =
     omega (
       arith,
