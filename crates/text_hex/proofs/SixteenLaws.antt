@@ -38,66 +38,35 @@ sixteen_are : (octets : List ℕ) → length octets ≡ 16 →
     octets ≡ get_or octets 0 0 ∷ get_or octets 1 0 ∷ get_or octets 2 0 ∷ get_or octets 3 0 ∷ get_or octets 4 0 ∷ get_or
     octets 5 0 ∷ get_or octets 6 0 ∷ get_or octets 7 0 ∷ get_or octets 8 0 ∷ get_or octets 9 0 ∷ get_or octets 10 0 ∷
     get_or octets 11 0 ∷ get_or octets 12 0 ∷ get_or octets 13 0 ∷ get_or octets 14 0 ∷ get_or octets 15 0 ∷ []
-sixteen_are [] size = absurd (omega arith)
-sixteen_are (a ∷ []) size = absurd (omega arith)
-sixteen_are (a ∷ b ∷ []) size = absurd (omega arith)
-sixteen_are (a ∷ b ∷ c ∷ []) size = absurd (omega arith)
-sixteen_are (a ∷ b ∷ c ∷ d ∷ []) size = absurd (omega arith)
-sixteen_are (a ∷ b ∷ c ∷ d ∷ e ∷ []) size = absurd (omega arith)
-sixteen_are (a ∷ b ∷ c ∷ d ∷ e ∷ f ∷ []) size = absurd (omega arith)
-sixteen_are (a ∷ b ∷ c ∷ d ∷ e ∷ f ∷ g ∷ []) size = absurd (omega arith)
-sixteen_are (a ∷ b ∷ c ∷ d ∷ e ∷ f ∷ g ∷ h ∷ []) size = absurd (omega arith)
-sixteen_are (a ∷ b ∷ c ∷ d ∷ e ∷ f ∷ g ∷ h ∷ i ∷ []) size = absurd (omega arith)
-sixteen_are (a ∷ b ∷ c ∷ d ∷ e ∷ f ∷ g ∷ h ∷ i ∷ j ∷ []) size = absurd (omega arith)
-sixteen_are (a ∷ b ∷ c ∷ d ∷ e ∷ f ∷ g ∷ h ∷ i ∷ j ∷ k ∷ []) size = absurd (omega arith)
-sixteen_are (a ∷ b ∷ c ∷ d ∷ e ∷ f ∷ g ∷ h ∷ i ∷ j ∷ k ∷ l ∷ []) size = absurd (omega arith)
-sixteen_are (a ∷ b ∷ c ∷ d ∷ e ∷ f ∷ g ∷ h ∷ i ∷ j ∷ k ∷ l ∷ m ∷ []) size = absurd (omega arith)
-sixteen_are (a ∷ b ∷ c ∷ d ∷ e ∷ f ∷ g ∷ h ∷ i ∷ j ∷ k ∷ l ∷ m ∷ n ∷ []) size = absurd (omega arith)
-sixteen_are (a ∷ b ∷ c ∷ d ∷ e ∷ f ∷ g ∷ h ∷ i ∷ j ∷ k ∷ l ∷ m ∷ n ∷ o ∷ []) size = absurd (omega arith)
 sixteen_are (a ∷ b ∷ c ∷ d ∷ e ∷ f ∷ g ∷ h ∷ i ∷ j ∷ k ∷ l ∷ m ∷ n ∷ o ∷ p ∷ []) size = refl
-sixteen_are (a ∷ b ∷ c ∷ d ∷ e ∷ f ∷ g ∷ h ∷ i ∷ j ∷ k ∷ l ∷ m ∷ n ∷ o ∷ p ∷ q ∷ more) size = absurd (omega arith)
+sixteen_are octets size = absurd (omega arith)
 
 module _ (a b octets : List ℕ) (size : length a ≡ 16)
     (uppers : (k : ℕ) → k < 16 → slice_index a k ≡ slice_index lower_digits (slice_index octets k / 16))
     (lowers : (k : ℕ) → k < 16 → slice_index b k ≡ slice_index lower_digits (slice_index octets k % 16)) where
-  upper : (k : ℕ) → k < 16 → get_or (a ++ b) k 0 ≡ slice_index lower_digits (slice_index octets k / 16)
-  upper k h = left a b k size h ∙ uppers k h
-
-  lower : (k : ℕ) → k < 16 → get_or (a ++ b) (16 + k) 0 ≡ slice_index lower_digits (slice_index octets k % 16)
-  lower k h = right a b k size ∙ lowers k h
+  -- the two digits of an octet, and those behind them
+  pair : (k : ℕ) (l m : List ℕ) → k < 16 → l ≡ m →
+      get_or (a ++ b) k 0 ∷ get_or (a ++ b) (16 + k) 0 ∷ l
+      ≡ slice_index lower_digits (slice_index octets k / 16) ∷ slice_index lower_digits (slice_index octets k % 16) ∷ m
+  pair k l m h e = ap₂ ◌∷◌ (left a b k size h ∙ uppers k h) (ap₂ ◌∷◌ (right a b k size ∙ lowers k h) e)
 
   pub is-text : length octets ≡ 16 → front_lanes a b ++ back_lanes a b ≡ encode_lower octets
   unfolding encode_with
   is-text many =
-      ap₂ ◌∷◌ (upper 0 (omega arith))
-      (ap₂ ◌∷◌ (lower 0 (omega arith))
-      (ap₂ ◌∷◌ (upper 1 (omega arith))
-      (ap₂ ◌∷◌ (lower 1 (omega arith))
-      (ap₂ ◌∷◌ (upper 2 (omega arith))
-      (ap₂ ◌∷◌ (lower 2 (omega arith))
-      (ap₂ ◌∷◌ (upper 3 (omega arith))
-      (ap₂ ◌∷◌ (lower 3 (omega arith))
-      (ap₂ ◌∷◌ (upper 4 (omega arith))
-      (ap₂ ◌∷◌ (lower 4 (omega arith))
-      (ap₂ ◌∷◌ (upper 5 (omega arith))
-      (ap₂ ◌∷◌ (lower 5 (omega arith))
-      (ap₂ ◌∷◌ (upper 6 (omega arith))
-      (ap₂ ◌∷◌ (lower 6 (omega arith))
-      (ap₂ ◌∷◌ (upper 7 (omega arith))
-      (ap₂ ◌∷◌ (lower 7 (omega arith))
-      (ap₂ ◌∷◌ (upper 8 (omega arith))
-      (ap₂ ◌∷◌ (lower 8 (omega arith))
-      (ap₂ ◌∷◌ (upper 9 (omega arith))
-      (ap₂ ◌∷◌ (lower 9 (omega arith))
-      (ap₂ ◌∷◌ (upper 10 (omega arith))
-      (ap₂ ◌∷◌ (lower 10 (omega arith))
-      (ap₂ ◌∷◌ (upper 11 (omega arith))
-      (ap₂ ◌∷◌ (lower 11 (omega arith))
-      (ap₂ ◌∷◌ (upper 12 (omega arith))
-      (ap₂ ◌∷◌ (lower 12 (omega arith))
-      (ap₂ ◌∷◌ (upper 13 (omega arith))
-      (ap₂ ◌∷◌ (lower 13 (omega arith))
-      (ap₂ ◌∷◌ (upper 14 (omega arith))
-      (ap₂ ◌∷◌ (lower 14 (omega arith))
-      (ap₂ ◌∷◌ (upper 15 (omega arith)) (ap₂ ◌∷◌ (lower 15 (omega arith)) (refl))))))))))))))))))))))))))))))))
+      pair 0 _ _ (omega arith)
+      (pair 1 _ _ (omega arith)
+      (pair 2 _ _ (omega arith)
+      (pair 3 _ _ (omega arith)
+      (pair 4 _ _ (omega arith)
+      (pair 5 _ _ (omega arith)
+      (pair 6 _ _ (omega arith)
+      (pair 7 _ _ (omega arith)
+      (pair 8 _ _ (omega arith)
+      (pair 9 _ _ (omega arith)
+      (pair 10 _ _ (omega arith)
+      (pair 11 _ _ (omega arith)
+      (pair 12 _ _ (omega arith)
+      (pair 13 _ _ (omega arith)
+      (pair 14 _ _ (omega arith)
+      (pair 15 _ _ (omega arith) refl)))))))))))))))
       ∙ ap encode_lower (sym (sixteen_are octets many))

@@ -75,11 +75,10 @@ one_field f at (w ∷ ws) size none = (or_none (field_fault f at 0 w) (fields_fa
 pub two_fields : (f g : Field) (at n : ℕ) (ws : List (List ℕ)) → length ws ≡ 2 →
     fields_fault (f ∷ g ∷ []) at n ws ≡ None
     → (field_fault f at n (word_at 0 ws) ≡ None) × (field_fault g (at + 1) (number_at 0 ws) (word_at 1 ws) ≡ None)
-two_fields f g at n [] size none = absurd (omega (arith, size))
-two_fields f g at n (w ∷ []) size none = absurd (omega (arith, size))
 two_fields f g at n (w ∷ v ∷ ws) size none =
     let is = or_none (field_fault f at n w) (fields_fault (g ∷ []) (at + 1) (number_of w) (v ∷ ws)) none in
     (is.0, (or_none (field_fault g (at + 1) (number_of w) v) (fields_fault [] (at + 1 + 1) (number_of v) ws) is.1).0)
+two_fields f g at n ws size none = absurd (omega (arith, size))
 
 pub record FourFields (f g h k : Field) (at : ℕ) (ws : List (List ℕ)) : Type 0 where
   pub first : field_fault f at 0 (word_at 0 ws) ≡ None
@@ -89,11 +88,10 @@ pub record FourFields (f g h k : Field) (at : ℕ) (ws : List (List ℕ)) : Type
 
 pub four_fields : (f g h k : Field) (at : ℕ) (ws : List (List ℕ)) → length ws ≡ 4
     → fields_fault (f ∷ g ∷ h ∷ k ∷ []) at 0 ws ≡ None → FourFields f g h k at ws
-four_fields f g h k at [] size none = absurd (omega (arith, size))
-four_fields f g h k at (w ∷ []) size none = absurd (omega (arith, size))
 four_fields f g h k at (w ∷ v ∷ ws) size none =
     let one = or_none (field_fault f at 0 w) (fields_fault (g ∷ h ∷ k ∷ []) (at + 1) (number_of w) (v ∷ ws)) none in
     let two = or_none (field_fault g (at + 1) (number_of w) v) (fields_fault (h ∷ k ∷ []) (at + 1 + 1) (number_of v) ws)
     one.1 in
     let rest = two_fields h k (at + 1 + 1) (number_of v) ws (omega (arith, size)) two.1 in
     record { first = one.0; second = two.0; third = rest.0; fourth = rest.1 }
+four_fields f g h k at ws size none = absurd (omega (arith, size))

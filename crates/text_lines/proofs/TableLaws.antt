@@ -1,6 +1,6 @@
 -- What a text says in a language that is a table.
-use Rattle.std.proofs.Common.{◌≡◌, ◌↔◌, ℕ, ◌+◌, ◌<◌, ◌≤◌, ◌==◌, ◌&&◌, nat_lt, not, Bool, true, false, List, [], ◌∷◌}
-use Rattle.std.proofs.Common.{length, drop, refl, sym, ◌∙◌, ap, subst, arith, if◌then◌else◌, inl, inr}
+use Rattle.std.proofs.Common.{◌≡◌, ◌↔◌, ℕ, ◌<◌, ◌≤◌, ◌==◌, ◌&&◌, nat_lt, not, Bool, true, false, List, [], ◌∷◌}
+use Rattle.std.proofs.Common.{length, drop, refl, sym, ◌∙◌, ap, subst, arith, inl, inr}
 use Rattle.std.specs.Prelude.{Option, None, Some, Result, Ok, Err, option_map}
 use Rattle.std.specs.Option.{option_or}
 use Rattle.std.specs.Str.Lines.{lines}
@@ -21,7 +21,7 @@ use Rattle.text_lines.specs.declared.text_faults.LineStop.TheVariants as stop
 use Rattle.text_lines.specs.declared.text_faults.TextFault.{TextFault}
 use Rattle.text_lines.specs.declared.text_faults.TextFault.TheVariants as whole
 use Rattle.text_lines.proofs.FieldLaws.{or_none, where_none, map_none}
-use Rattle.text_lines.proofs.LanguageLaws.{line_faulty, line_sound, end_missing, end_sound}
+use Rattle.text_lines.proofs.LanguageLaws.{line_faulty, end_missing, end_sound}
 use Rattle.text_lines.proofs.FirstFaultLaws.{first_fault, all_said}
 
 -- ---- a line without a fault
@@ -102,14 +102,9 @@ known_kept t Stands keeps s ws (Some k) is none =
 words_kept : {D K O : Type 0} (t : Table D K O) (Stands : ℕ → D → Type 0) → Keeps t Stands → (s : Told D K)
     (ws : List (List ℕ)) (skipped : Bool) → is_skipped ws ≡ skipped → Meets t Stands s → words_fault t s ws ≡ None
     → Meets t Stands (words_after t s ws)
-words_kept t Stands keeps s ws true is meets none =
-    subst (λ (b : Bool). Meets t Stands (if b then s else known_after t s (drop 1 ws) (t.keyword (word_at 0 ws))))
-    (sym is) meets
+words_kept t Stands keeps s ws true is meets none = rw is meets
 words_kept t Stands keeps s ws false is meets none =
-    let fine : known_fault t s (drop 1 ws) (t.keyword (word_at 0 ws)) ≡ None =
-    ap (λ (b : Bool). if b then None else known_fault t s (drop 1 ws) (t.keyword (word_at 0 ws))) (sym is) ∙ none in
-    subst (λ (b : Bool). Meets t Stands (if b then s else known_after t s (drop 1 ws) (t.keyword (word_at 0 ws))))
-    (sym is) (known_kept t Stands keeps s (drop 1 ws) (t.keyword (word_at 0 ws)) meets fine)
+    rw is (known_kept t Stands keeps s (drop 1 ws) (t.keyword (word_at 0 ws)) meets (rw is at none))
 
 lines_kept : {D K O : Type 0} (t : Table D K O) (Stands : ℕ → D → Type 0) → Keeps t Stands → (ls : List (List ℕ))
     (s now : Told D K) → Meets t Stands s → AreSound (language_of t) s ls now → Meets t Stands now

@@ -2,7 +2,6 @@ pub mod WindowLaws
 pub mod CourseLaws
 pub mod ItemLaws
 pub mod SaidLaws
-pub mod CanLaws
 pub mod SayingLaws
 pub mod ScriptLaws
 pub mod ReadLaws

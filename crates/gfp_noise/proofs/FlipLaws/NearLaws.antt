@@ -95,42 +95,25 @@ module _ (pli : ℕ) (flips : List Bool) (fits : IsPli pli) (size : length flips
   right_if None h = tt
   right_if (Some q) h = h q refl
 
-  or_else_right : (first second : Option ℕ) → Right first → Right second → Right (or_else first second)
-  or_else_right None second a b = b
-  or_else_right (Some q) second a b = a
+  -- what is read first is right, and one of the two is found
+  or_else_is : (first second : Option ℕ) → Right first → (first ≡ Some pli) ⊎ (second ≡ Some pli) →
+      or_else first second ≡ Some pli
+  unfolding Right
+  or_else_is None second right (inl found) = absurd cc
+  or_else_is None second right (inr found) = found
+  or_else_is (Some q) second right found = ap (λ q. Some q) right
 
-  below_right : (k : ℕ) → k ≤ 32 → Right (turned_below k octets)
-  unfolding turned_below Right
-  below_right zero h = tt
-  below_right (suc k) h =
-      or_else_right (head (flipped (bit_at k) octets)) (turned_below k octets)
-      (right_if (head (flipped (bit_at k) octets)) (λ q found. turned_right k q h found)) (below_right k (omega arith))
-
-  -- one is found
-  Found : Option ℕ → Type 0
-  Found None = ⊥
-  Found (Some q) = Unit {0}
-
-  found_first : (first second : Option ℕ) (q : ℕ) → first ≡ Some q → Found (or_else first second)
-  unfolding Found
-  found_first None second q e = absurd cc
-  found_first (Some p) second q e = tt
-
-  found_second : (first second : Option ℕ) → Found second → Found (or_else first second)
-  unfolding Found
-  found_second None second h = h
-  found_second (Some p) second h = tt
-
-  below_found : (n k : ℕ) → k < n → head (flipped (bit_at k) octets) ≡ Some pli → Found (turned_below n octets)
+  below_is : (n k : ℕ) → n ≤ 32 → k < n → head (flipped (bit_at k) octets) ≡ Some pli →
+      turned_below n octets ≡ Some pli
   unfolding turned_below
-  below_found zero k h e = absurd (omega arith)
-  below_found (suc n) k h e =
-      elim (last_or_before n k h) [
-        | inl same ↦ found_first (head (flipped (bit_at n) octets)) (turned_below n octets) pli
-            (ap (λ m. head (flipped (bit_at m) octets)) (sym same) ∙ e)
-        | inr before ↦ found_second (head (flipped (bit_at n) octets)) (turned_below n octets)
-            (below_found n k before e)
-      ]
+  below_is zero k few h e = absurd (omega arith)
+  below_is (suc n) k few h e =
+      or_else_is (head (flipped (bit_at n) octets)) (turned_below n octets)
+      (right_if (head (flipped (bit_at n) octets)) (λ q found. turned_right n q (omega arith) found))
+      (elim (last_or_before n k h) [
+        | inl same ↦ inl (ap (λ m. head (flipped (bit_at m) octets)) (sym same) ∙ e)
+        | inr before ↦ inr (below_is n k (omega arith) before e)
+      ])
     where
       last_or_before : (n k : ℕ) → k < suc n → (k ≡ n) ⊎ (k < n)
       last_or_before n k h = grind arith
@@ -141,32 +124,18 @@ module _ (pli : ℕ) (flips : List Bool) (fits : IsPli pli) (size : length flips
       (core_header_below pli))
       ∙ head-core_header pli fits
 
-  near_found : Found (near octets)
-  unfolding near octets
-  near_found = elim (at_most_one flips size few) [
-    | inl none ↦ found_first (head octets) (turned_below 32 octets) pli (restored flips none)
-    | inr one ↦ found_second (head octets) (turned_below 32 octets)
-        (below_found 32 one.0 one.1
-        (ap head (turned one.0)
-        ∙ restored (xors flips (bit_at one.0))
-        (ap (λ l. xors l (bit_at one.0)) one.2 ∙ xors-self (bit_at one.0) ∙ ap (λ n. replicate n false)
-        (length-bit_at one.0 one.1))))
-  ]
-
-  near_right : Right (near octets)
-  unfolding near
-  near_right =
-      or_else_right (head octets) (turned_below 32 octets) (right_if (head octets) head_right)
-      (below_right 32 (omega arith))
-
-  is_found : (found : Option ℕ) → Found found → Right found → found ≡ Some pli
-  unfolding Found Right
-  is_found None f r = absurd f
-  is_found (Some q) f r = ap (λ q. Some q) r
-
   pub near-flipped : near (flipped flips (core_header pli)) ≡ Some pli
-  unfolding octets
-  near-flipped = is_found (near octets) near_found near_right
+  unfolding near octets
+  near-flipped =
+      or_else_is (head octets) (turned_below 32 octets) (right_if (head octets) head_right)
+      (elim (at_most_one flips size few) [
+        | inl none ↦ inl (restored flips none)
+        | inr one ↦ inr (below_is 32 one.0 (omega arith) one.1
+            (ap head (turned one.0)
+            ∙ restored (xors flips (bit_at one.0))
+            (ap (λ l. xors l (bit_at one.0)) one.2 ∙ xors-self (bit_at one.0) ∙ ap (λ n. replicate n false)
+            (length-bit_at one.0 one.1))))
+      ])
 
 -- ---- what is read is near
 either : (first second : Option ℕ) (pli : ℕ) → or_else first second ≡ Some pli

@@ -25,26 +25,12 @@ octet_flips bit = replicate bit false ++ true ∷ replicate (7 - bit) false
 
 bits_of_one : (bit : ℕ) → bit < 8 → bits 8 (2 ^ (7 - bit)) ≡ octet_flips bit
 unfolding bits octet_flips
-bits_of_one zero h = refl
-bits_of_one (suc zero) h = refl
-bits_of_one (suc (suc zero)) h = refl
-bits_of_one (suc (suc (suc zero))) h = refl
-bits_of_one (suc (suc (suc (suc zero)))) h = refl
-bits_of_one (suc (suc (suc (suc (suc zero))))) h = refl
-bits_of_one (suc (suc (suc (suc (suc (suc zero)))))) h = refl
-bits_of_one (suc (suc (suc (suc (suc (suc (suc zero))))))) h = refl
 bits_of_one (suc (suc (suc (suc (suc (suc (suc (suc bit)))))))) h = absurd (omega arith)
+bits_of_one bit h = refl
 
 small : (bit : ℕ) → bit < 8 → 2 ^ (7 - bit) < 256
-small zero h = omega arith
-small (suc zero) h = omega arith
-small (suc (suc zero)) h = omega arith
-small (suc (suc (suc zero))) h = omega arith
-small (suc (suc (suc (suc zero)))) h = omega arith
-small (suc (suc (suc (suc (suc zero))))) h = omega arith
-small (suc (suc (suc (suc (suc (suc zero)))))) h = omega arith
-small (suc (suc (suc (suc (suc (suc (suc zero))))))) h = omega arith
 small (suc (suc (suc (suc (suc (suc (suc (suc bit)))))))) h = absurd (omega arith)
+small bit h = omega arith
 
 length-octet_flips : (bit : ℕ) → bit < 8 → length (octet_flips bit) ≡ 8
 unfolding octet_flips
@@ -145,10 +131,9 @@ get_or-xors : (a b : List Bool) (i : ℕ) → length a ≡ length b
     → get_or (xors a b) i false ≡ xor (get_or a i false) (get_or b i false)
 unfolding xors
 get_or-xors [] [] i e = refl
-get_or-xors [] (y ∷ b) i e = absurd (omega arith)
-get_or-xors (x ∷ a) [] i e = absurd (omega arith)
 get_or-xors (x ∷ a) (y ∷ b) zero e = refl
 get_or-xors (x ∷ a) (y ∷ b) (suc i) e = get_or-xors a b i (omega arith)
+get_or-xors a b i e = absurd (omega arith)
 
 get_or-here : (k m : ℕ) → get_or (replicate k false ++ true ∷ replicate m false) k false ≡ true
 get_or-here zero m = refl

@@ -18,9 +18,8 @@ use Rattle.check_remainder.proofs.CountLaws.{count-append}
 add_front_all : (front p : List Bool) → length front ≡ length p → add_front front p ≡ xors front p
 unfolding add_front xors
 add_front_all [] [] e = refl
-add_front_all [] (b ∷ p) e = absurd (omega arith)
-add_front_all (a ∷ front) [] e = absurd (omega arith)
 add_front_all (a ∷ front) (b ∷ p) e = ap (λ l. xor a b ∷ l) (add_front_all front p (omega arith))
+add_front_all front p e = absurd (omega arith)
 
 -- the last bit of the generator is 1
 some-last : (front p : List Bool) → length front ≡ length p

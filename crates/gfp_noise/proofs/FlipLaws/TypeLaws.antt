@@ -57,8 +57,4 @@ fcs_type_fault-right (a ∷ b ∷ c ∷ d ∷ []) size all e =
     let second = All-tail below a (b ∷ c ∷ d ∷ []) all in
     let fourth = All-tail below c (d ∷ []) (All-tail below b (c ∷ d ∷ []) second) in
     four_right a b c d (All-head below b (c ∷ d ∷ []) second) (All-head below d [] fourth) e
-fcs_type_fault-right [] size all e = absurd (omega arith)
-fcs_type_fault-right (a ∷ []) size all e = absurd (omega arith)
-fcs_type_fault-right (a ∷ b ∷ []) size all e = absurd (omega arith)
-fcs_type_fault-right (a ∷ b ∷ c ∷ []) size all e = absurd (omega arith)
-fcs_type_fault-right (a ∷ b ∷ c ∷ d ∷ x ∷ octets) size all e = absurd (omega arith)
+fcs_type_fault-right octets size all e = absurd (omega arith)

@@ -20,7 +20,7 @@ use Rattle.gfp_delineate.specs.declared.hunt_presync_sync.AreaStep.TheVariants.{
 use Rattle.gfp_delineate.specs.Areas.{AreaEnd, keeping, passing, end_of, ends_told, Progress, Adds}
 use Rattle.gfp_delineate.proofs.OutcomeLaws.{outcomes_more-map}
 use Rattle.gfp_noise.specs.declared.gfp_fcs.fcs_delineator.FcsStep.{FcsStep}
-use Rattle.gfp_noise.specs.declared.gfp_fcs.fcs_delineator.FcsStep.TheVariants.{Nothing, Frame, Dropped}
+use Rattle.gfp_noise.specs.declared.gfp_fcs.fcs_delineator.FcsStep.TheVariants.{Frame}
 use Rattle.gfp_noise.specs.gfp_fcs.Delineator.{FcsReceiver, fcs_outcomes, info_of, frame_of, outcomes_told, told_fcs}
 use Rattle.gfp_noise.specs.gfp_fcs.Delineator.{fcs_of_end, FcsReceiverStands}
 
@@ -94,10 +94,9 @@ frame-held progress false held room = absurd cc
 outcomes-held : (progress : Progress) (holds : Bool) (step : FcsStep) → (IsTrue holds ↔ (step ≡ Frame)) →
     (step ≡ Frame → 12 ≤ length progress.area) →
     outcomes_told (Some (info_of progress.area)) step ≡ told_fcs (record { progress = progress; holds = holds }) step
-outcomes-held progress holds Nothing held room = refl
 outcomes-held progress holds Frame held room =
     ap (λ frame. map delivery (option_to_list frame)) (sym (frame-held progress holds (held.1 refl) (room refl)))
-outcomes-held progress holds (Dropped why) held room = refl
+outcomes-held progress holds step held room = refl
 
 pub told-ends : (progress : Progress) (holds : Bool) (end : AreaStep) (step : FcsStep) (area : List ℕ) →
     (IsTrue holds ↔ (step ≡ Frame)) → area ≡ progress.area →

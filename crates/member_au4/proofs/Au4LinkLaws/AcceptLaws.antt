@@ -25,9 +25,7 @@ IsAct frame (New p) = p ≤ 782
 at-most : (w : ℕ) (actions : List Action) → w ≤ 3 → fold next_wait w actions ≤ 3
 at-most w [] small = small
 at-most w (Keep ∷ more) small = at-most (w - 1) more (omega (arith, small))
-at-most w (Up ∷ more) small = at-most 3 more (omega arith)
-at-most w (Down ∷ more) small = at-most 3 more (omega arith)
-at-most w (New p ∷ more) small = at-most 3 more (omega arith)
+at-most w (a ∷ more) small = at-most 3 more (omega arith)
 
 keeps : (w n : ℕ) → fold next_wait w (replicate n Keep) ≡ w - n
 keeps w zero = omega arith
@@ -76,10 +74,9 @@ module _ (actions : List Action) (frame : ℕ) (inside : length actions ≤ fram
 
   pub act-accepted : (a : Action) → IsAct frame a → fault_after before a ≡ None
   act-accepted Keep is = absurd is
-  act-accepted Up is = moves is
-  act-accepted Down is = moves is
   act-accepted (New p) is =
       new-within p (too_soon (new_wait before)) is ∙ none-soon (new_wait before) (no-wait actions frame early)
+  act-accepted a is = moves is
 
 -- ---- all are accepted
 pub accepted-keeps : (actions : List Action) (n : ℕ) → AreAccepted actions → AreAccepted (actions ++ replicate n Keep)

@@ -2,7 +2,7 @@
 use Rattle.std.proofs.Common.{◌≡◌, ℕ, ◌+◌, ◌*◌, ◌≤◌, List, [], ◌∷◌, ◌++◌, length, drop, ◌∙◌, ap, arith, length-append}
 use Rattle.std.proofs.Common.{append-nil, flat_map, fold, length-take-le, length-drop}
 use Rattle.member_au4.specs.declared.au4_pointer.au_frame.Action.{Action}
-use Rattle.member_au4.specs.declared.au4_pointer.au_frame.Action.TheVariants.{Keep, Up, Down, New}
+use Rattle.member_au4.specs.declared.au4_pointer.au_frame.Action.TheVariants.{Keep, New}
 use Rattle.member_au4.specs.au4_pointer.Part.{Part, begins, ends, begun, next_part, first_part, part_after, parts_from}
 use Rattle.member_au4.specs.au4_pointer.Part.{ending, whole}
 use Rattle.member_au4.proofs.Au4PointerLaws.WholeLaws.{begun-after}
@@ -29,12 +29,6 @@ counted-from part [] vcs enough =
     ∙ length-ending part vcs enough in
     let less = fewer part in
     omega (arith, size, less)
-counted-from part (Keep ∷ more) vcs enough =
-    let rest = counted-from (next_part part Keep) more vcs enough in omega (arith, rest)
-counted-from part (Up ∷ more) vcs enough =
-    let rest = counted-from (next_part part Up) more vcs enough in omega (arith, rest)
-counted-from part (Down ∷ more) vcs enough =
-    let rest = counted-from (next_part part Down) more vcs enough in omega (arith, rest)
 counted-from part (New p ∷ more) vcs enough =
     let next = next_part part (New p) in
     let rest = counted-from next more vcs enough in
@@ -44,6 +38,8 @@ counted-from part (New p ∷ more) vcs enough =
     let less = fewer part in
     let both = length-append (ending vcs part) (flat_map (ending vcs) (parts_from next more)) in
     omega (arith, rest, size, less, both)
+counted-from part (a ∷ more) vcs enough =
+    let rest = counted-from (next_part part a) more vcs enough in omega (arith, rest)
 
 pub counted : (start : ℕ) (actions : List Action) (vcs : List (List ℕ)) → begun (part_after start actions) ≤ length vcs
     → length (whole start actions vcs) + cuts start actions + in_progress (part_after start actions)
@@ -61,23 +57,17 @@ pub cuts-more : (start : ℕ) (actions : List Action) (a : Action) (vcs : List (
     → begun (part_after start actions) ≤ length vcs → cut ≡ cuts start actions
     → next ≡ begun (part_after start actions) → back ≡ length (whole start actions vcs)
     → cut_after cut next back a ≡ cuts start (actions ++ a ∷ [])
-cuts-more start actions Keep vcs cut back next enough is fed came =
-    let on = cuts-on (first_part start) actions Keep in omega (arith, on, is)
-cuts-more start actions Up vcs cut back next enough is fed came =
-    let on = cuts-on (first_part start) actions Up in omega (arith, on, is)
-cuts-more start actions Down vcs cut back next enough is fed came =
-    let on = cuts-on (first_part start) actions Down in omega (arith, on, is)
 cuts-more start actions (New p) vcs cut back next enough is fed came =
     let on = cuts-on (first_part start) actions (New p) in
     let all = counted start actions vcs enough in
     omega (arith, on, all, fed, came)
+cuts-more start actions a vcs cut back next enough is fed came =
+    let on = cuts-on (first_part start) actions a in omega (arith, on, is)
 
 -- ---- there are few
 two-more : (part : Part) (a : Action) → begun (next_part part a) ≤ begun part + 2
 two-more part Keep = omega arith
-two-more part Up = omega arith
-two-more part Down = omega arith
-two-more part (New p) = omega arith
+two-more part a = omega arith
 
 few-from : (part : Part) (actions : List Action) → begun (fold next_part part actions) ≤ begun part + 2 * length actions
 few-from part [] = omega arith

@@ -53,10 +53,8 @@ length-kept kept vc out long fits same =
 
 -- ---- three zeros, and what is written behind them
 zeros-first : (body : List ℕ) → 3 ≤ length body → take 3 (set (set (set body 0 0) 1 0) 2 0) ≡ 0 ∷ 0 ∷ 0 ∷ []
-zeros-first [] h = absurd (omega (arith, h))
-zeros-first (x ∷ []) h = absurd (omega (arith, h))
-zeros-first (x ∷ y ∷ []) h = absurd (omega (arith, h))
 zeros-first (x ∷ y ∷ z ∷ body) h = refl
+zeros-first body h = absurd (omega (arith, h))
 
 pub behind : (body piece : List ℕ) → length body ≡ 2349 → length piece ≡ 2346
     → drop 3 (put_mid 3 2346 body piece) ≡ piece

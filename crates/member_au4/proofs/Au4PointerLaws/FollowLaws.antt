@@ -8,10 +8,10 @@ use Rattle.std.proofs.lemmas.List.{append-nil, take-append-drop, drop_all}
 use Rattle.std.proofs.lemmas.List.Concat.{flat_map-append}
 use Rattle.std.proofs.lemmas.List.Elements.{All-nil}
 use Rattle.member_au4.specs.declared.au4_pointer.au_frame.Action.{Action}
-use Rattle.member_au4.specs.declared.au4_pointer.au_frame.Action.TheVariants.{Keep, Up, Down, New}
+use Rattle.member_au4.specs.declared.au4_pointer.au_frame.Action.TheVariants.{Keep, Down, New}
 use Rattle.member_au4.specs.declared.au4_pointer.au_frame.AuFrame.{AuFrame}
 use Rattle.member_au4.specs.au4_pointer.Word.{next_value, word_of, reading, fault_after}
-use Rattle.member_au4.specs.au4_pointer.Part.{AreVcs, Part, begun, next_part, first_part, part_after, ended, parts_from, flow}
+use Rattle.member_au4.specs.au4_pointer.Part.{AreVcs, Part, begun, next_part, first_part, part_after, ended, parts_from, flow, octets_of}
 use Rattle.member_au4.specs.au4_pointer.Part.{ending, whole}
 use Rattle.member_au4.specs.au4_pointer.Source.{IsValid, framed, last_octets, frame_in}
 use Rattle.member_au4.specs.au4_pointer.Sink.{data_of, vcs_in, Reception, given_by, value_behind, told, receive, nothing, given}
@@ -22,10 +22,8 @@ use Rattle.member_au4.proofs.Au4PointerLaws.WholeLaws.{part-given, begun-more, b
 
 -- the data of a frame is what was put into it
 pub data-of-framed : (value : ℕ) (a : Action) (octets : List ℕ) → data_of a (framed value a octets) ≡ octets
-data-of-framed value Keep octets = refl
-data-of-framed value Up octets = refl
 data-of-framed value Down octets = take-append-drop 3 octets
-data-of-framed value (New p) octets = refl
+data-of-framed value a octets = refl
 
 -- each is an action that a frame can have
 abbrev pub AreValid : List Action → Type 0
@@ -57,36 +55,19 @@ told-next : (value : ℕ) (part : Part) (a : Action) (vcs : List (List ℕ)) (r 
     → begun part ≤ length vcs → Follows value part vcs r
     → let t = told r (frame_in value part a vcs) (Ok a) in Follows (next_value value a) (next_part part a) vcs t
     × (t.before ≡ r.before ++ flat_map (ending vcs) (ended part a))
-told-next value part Keep vcs r are enough f = (
-  record {
-    says = f.says;
-    begins_at = f.begins_at;
-    octets = ap (λ l. l ++ last_octets (next_part part Keep) Keep vcs) f.octets
-        ∙ longer part.size 2349 (flow part vcs);
-  },
-  sym (append-nil r.before),
-)
-told-next value part Up vcs r are enough f = (
-  record {
-    says = ap (λ v. value_behind v Up) f.says;
-    begins_at = f.begins_at;
-    octets = ap (λ l. l ++ last_octets (next_part part Up) Up vcs) f.octets ∙ longer part.size 2346 (flow part vcs);
-  },
-  sym (append-nil r.before),
-)
-told-next value part Down vcs r are enough f = (
-  record {
-    says = ap (λ v. value_behind v Down) f.says;
-    begins_at = f.begins_at;
-    octets = ap₂ (λ l m. l ++ m) f.octets (data-of-framed value Down (last_octets (next_part part Down) Down vcs))
-        ∙ longer part.size 2352 (flow part vcs);
-  },
-  sym (append-nil r.before),
-)
 told-next value part (New p) vcs r are enough f = (
   record { says = refl; begins_at = refl; octets = refl },
   ap (λ l. r.before ++ l) (ap₂ vcs_in f.begins_at f.octets ∙ part-given part vcs are enough
       ∙ sym (append-nil (ending vcs part))),
+)
+told-next value part a vcs r are enough f = (
+  record {
+    says = ap (λ v. value_behind v a) f.says;
+    begins_at = f.begins_at;
+    octets = ap₂ (λ l m. l ++ m) f.octets (data-of-framed value a (last_octets (next_part part a) a vcs))
+        ∙ longer part.size (octets_of a) (flow part vcs);
+  },
+  sym (append-nil r.before),
 )
 
 next : (value : ℕ) (part : Part) (a : Action) (vcs : List (List ℕ)) (r : Reception) → value ≤ 782 → IsValid a
@@ -179,8 +160,7 @@ whole-from start (New p ∷ actions) vcs small valid are enough first =
       gives = rest.gives ∙ ap (λ l. l ++ flat_map (ending vcs) (parts_from (next_part part (New p)) actions))
           (ap (λ q. (told nothing frame q).before) read ∙ nothing-in 0 ∙ sym (none-ends start vcs));
     }
-whole-from start (Up ∷ actions) vcs small valid are enough first = let e = first Up actions refl in cc
-whole-from start (Down ∷ actions) vcs small valid are enough first = let e = first Down actions refl in cc
+whole-from start (a ∷ actions) vcs small valid are enough first = let e = first a actions refl in cc
 
 -- ---- what the source accepts
 valid-from : (before actions all : List Action) → AreAccepted all → all ≡ before ++ actions → AreValid actions

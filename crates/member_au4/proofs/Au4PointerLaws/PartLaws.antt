@@ -6,7 +6,7 @@ use Rattle.std.proofs.lemmas.List.{length-replicate, length-drop, drop-append-le
 use Rattle.std.proofs.lemmas.List.Folds.{concat-append}
 use Rattle.std.proofs.lemmas.List.Elements.{All-drop}
 use Rattle.member_au4.specs.declared.au4_pointer.au_frame.Action.{Action}
-use Rattle.member_au4.specs.declared.au4_pointer.au_frame.Action.TheVariants.{Keep, Up, Down, New}
+use Rattle.member_au4.specs.declared.au4_pointer.au_frame.Action.TheVariants.{New}
 use Rattle.member_au4.specs.au4_pointer.Part.{AreVcs, Part, octets_of, begins, begun, next_part, flow}
 use Rattle.member_au4.specs.au4_pointer.Source.{due, IsValid, last_octets}
 use Rattle.member_au4.proofs.Au4PointerLaws.ListLaws.{length-vcs}
@@ -99,30 +99,6 @@ pub further : (part : Part) (a : Action) (asked vcs : List (List ℕ)) (octets r
     → AreVcs vcs → length asked ≡ begun part → length octets ≡ octets_of a
     → octets ++ rest ≡ due (drop part.size (flow part asked)) a ++ concat vcs → (0 < length vcs → length rest < 2349)
     → Further (next_part part a) a (asked ++ vcs) octets rest
-further part Keep asked vcs octets rest valid are more count size sent few =
-    let l = longer part 2349 asked vcs octets rest are more count size sent few in
-    record {
-      count = l.count;
-      sent = l.sent ∙ ap (λ n. take 2349 (drop n (flow part (asked ++ vcs))))
-          (less part.size 2349);
-      left = l.left;
-    }
-further part Up asked vcs octets rest valid are more count size sent few =
-    let l = longer part 2346 asked vcs octets rest are more count size sent few in
-    record {
-      count = l.count;
-      sent = l.sent ∙ ap (λ n. take 2346 (drop n (flow part (asked ++ vcs))))
-          (less part.size 2346);
-      left = l.left;
-    }
-further part Down asked vcs octets rest valid are more count size sent few =
-    let l = longer part 2352 asked vcs octets rest are more count size sent few in
-    record {
-      count = l.count;
-      sent = l.sent ∙ ap (λ n. take 2352 (drop n (flow part (asked ++ vcs))))
-          (less part.size 2352);
-      left = l.left;
-    }
 further part (New p) asked vcs octets rest valid are more count size sent few =
     let zeros : List ℕ = replicate (3 * p) 0 in
     let behind : flow (next_part part (New p)) (asked ++ vcs) ≡ octets ++ rest =
@@ -142,4 +118,12 @@ further part (New p) asked vcs octets rest valid are more count size sent few =
           ∙ ap (λ k. begun part + k) (one-begins p (length rest) (length vcs) valid sum few);
       sent = sym (ap (take 2349) behind ∙ take_at octets rest 2349 size);
       left = sym (ap (drop 2349) behind ∙ drop_at octets rest 2349 size);
+    }
+further part a asked vcs octets rest valid are more count size sent few =
+    let l = longer part (octets_of a) asked vcs octets rest are more count size sent few in
+    record {
+      count = l.count;
+      sent = l.sent ∙ ap (λ n. take (octets_of a) (drop n (flow part (asked ++ vcs))))
+          (less part.size (octets_of a));
+      left = l.left;
     }

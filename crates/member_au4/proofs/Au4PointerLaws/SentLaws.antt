@@ -5,7 +5,7 @@ use Rattle.std.specs.List.{concat, fold}
 use Rattle.std.proofs.lemmas.List.Sums.{fold-append}
 use Rattle.std.proofs.lemmas.List.{length-drop, drop-append-le, take-append-le}
 use Rattle.member_au4.specs.declared.au4_pointer.au_frame.Action.{Action}
-use Rattle.member_au4.specs.declared.au4_pointer.au_frame.Action.TheVariants.{Keep, Up, Down, New}
+use Rattle.member_au4.specs.declared.au4_pointer.au_frame.Action.TheVariants.{Keep, New}
 use Rattle.member_au4.specs.au4_pointer.Word.{next_value, next_wait, value_after, new_wait}
 use Rattle.member_au4.specs.au4_pointer.Part.{AreVcs, Part, octets_of, begun, next_part, first_part, part_after, flow}
 use Rattle.member_au4.specs.au4_pointer.Source.{framed, frame_in, frame_after}
@@ -16,9 +16,7 @@ use Rattle.member_au4.proofs.Au4PointerLaws.WholeLaws.{begun-after}
 -- ---- frames
 fits-in : (part : Part) (a : Action) → octets_of a ≤ (next_part part a).size
 fits-in part Keep = omega arith
-fits-in part Up = omega arith
-fits-in part Down = omega arith
-fits-in part (New p) = omega arith
+fits-in part a = omega arith
 
 -- more VC-4s change nothing of a frame
 frame-stays : (value : ℕ) (part : Part) (a : Action) (asked more : List (List ℕ)) → AreVcs asked
@@ -55,10 +53,8 @@ sent-more start actions a asked more are enough = sent-more-from start
 -- ---- where VC-4s begin
 place-next : (value : ℕ) (part : Part) (a : Action) → (3 * value + part.size) % 2349 ≡ 3 * part.value % 2349
     → (3 * next_value value a + (next_part part a).size) % 2349 ≡ 3 * (next_part part a).value % 2349
-place-next value part Keep e = omega (arith, e)
-place-next value part Up e = omega (arith, e)
-place-next value part Down e = omega (arith, e)
 place-next value part (New p) e = omega arith
+place-next value part a e = omega (arith, e)
 
 place-from : (value : ℕ) (part : Part) (actions : List Action)
     → (3 * value + part.size) % 2349 ≡ 3 * part.value % 2349
@@ -80,9 +76,7 @@ keeps w (suc n) = keeps (w - 1) n ∙ (let e : w - 1 - n ≡ w - suc n = omega a
 
 three : (w : ℕ) (a : Action) → a ≢ Keep → next_wait w a ≡ 3
 three w Keep h = absurd (h refl)
-three w Up h = refl
-three w Down h = refl
-three w (New p) h = refl
+three w a h = refl
 
 pub wait-behind : (before : List Action) (a : Action) (n : ℕ) → a ≢ Keep
     → new_wait (before ++ a ∷ replicate n Keep) ≡ 3 - n

@@ -8,7 +8,7 @@ use Rattle.std.proofs.lemmas.List.Sums.{fold-append}
 use Rattle.std.proofs.lemmas.List.Elements.{All-append, All-nil}
 use Rattle.law_model.specs.Common.{Start}
 use Rattle.member_au4.specs.declared.au4_pointer.au_frame.Action.{Action}
-use Rattle.member_au4.specs.declared.au4_pointer.au_frame.Action.TheVariants.{Keep, Up, Down, New}
+use Rattle.member_au4.specs.declared.au4_pointer.au_frame.Action.TheVariants.{New}
 use Rattle.member_au4.specs.declared.au4_pointer.au_frame.AuFrame.{AuFrame}
 use Rattle.member_au4.specs.au4_pointer.Word.{reading}
 use Rattle.member_au4.specs.au4_pointer.Sink.{vcs_in, Reception, given_by, value_behind, told, receive, nothing, reception, given}
@@ -70,15 +70,6 @@ module _ {O : Type 0} (stands : O → Start → List (List ℕ) → Type 0) (bef
 
   frame-told : (was : Sink) (r : Reception) (frame : AuFrame) (a : Action) → Holds was.lead was.kept r.begin r.octets
       → (gives : Gives stands before now (due was a) is (data_of a frame)) → Told r frame a gives.vcs
-  frame-told was r frame Keep holds gives =
-      let m = more-held was r.begin r.octets (data_of Keep frame) holds gives in
-      record { value = refl; holds = m.holds; adds = within r (data_of Keep frame) gives.vcs m.adds }
-  frame-told was r frame Up holds gives =
-      let m = more-held was r.begin r.octets (data_of Up frame) holds gives in
-      record { value = refl; holds = m.holds; adds = within r (data_of Up frame) gives.vcs m.adds }
-  frame-told was r frame Down holds gives =
-      let m = more-held was r.begin r.octets (data_of Down frame) holds gives in
-      record { value = refl; holds = m.holds; adds = within r (data_of Down frame) gives.vcs m.adds }
   frame-told was r frame (New p) holds gives =
       let m = more-held (due was (New p)) p [] frame.body (none-held p) gives in
       record {
@@ -87,6 +78,9 @@ module _ {O : Type 0} (stands : O → Start → List (List ℕ) → Type 0) (bef
         adds = ap (λ l. given_by r ++ l) (m.adds
             ∙ ap (λ l. l ++ gives.vcs) (none-in p));
       }
+  frame-told was r frame a holds gives =
+      let m = more-held was r.begin r.octets (data_of a frame) holds gives in
+      record { value = refl; holds = m.holds; adds = within r (data_of a frame) gives.vcs m.adds }
 
   -- ---- frames
   pub record Takes (was : Sink) (frames : List AuFrame) (frame : AuFrame) (a : Action)

@@ -9,7 +9,7 @@ use Rattle.std.proofs.lemmas.List.Folds.{concat-append}
 use Rattle.std.proofs.lemmas.List.Elements.{All-drop, All-take}
 use Rattle.law_model.proofs.ListLaws.{drop-part}
 use Rattle.member_au4.specs.declared.au4_pointer.au_frame.Action.{Action}
-use Rattle.member_au4.specs.declared.au4_pointer.au_frame.Action.TheVariants.{Keep, Up, Down, New}
+use Rattle.member_au4.specs.declared.au4_pointer.au_frame.Action.TheVariants.{Keep}
 use Rattle.member_au4.specs.au4_pointer.Part.{AreVcs, Part, begun, next_part, flow, ending}
 use Rattle.member_au4.specs.au4_pointer.Sink.{vcs_in}
 use Rattle.member_au4.proofs.Au4PointerLaws.ListLaws.{length-vcs}
@@ -51,9 +51,7 @@ part-given part vcs are enough =
 -- ---- more parts begin no fewer
 pub begun-more : (part : Part) (a : Action) → begun part ≤ begun (next_part part a)
 begun-more part Keep = omega arith
-begun-more part Up = omega arith
-begun-more part Down = omega arith
-begun-more part (New p) = omega arith
+begun-more part a = omega arith
 
 pub begun-after : (part : Part) (actions : List Action) → begun part ≤ begun (fold next_part part actions)
 begun-after part [] = omega arith

@@ -1,6 +1,6 @@
 -- The word of a frame says what the frame's action is.
-use Rattle.std.proofs.Common.{◌≡◌, ◌≢◌, ℕ, ◌+◌, ◌/◌, ◌%◌, ◌^◌, ◌<◌, ◌≤◌, Bool, true, false, ◌==◌, nat_le, if◌then◌else◌}
-use Rattle.std.proofs.Common.{bit_xor, Some, None, Result, Ok, Err, List, refl, sym, ◌∙◌, ap, arith}
+use Rattle.std.proofs.Common.{◌≡◌, ◌≢◌, ℕ, ◌+◌, ◌/◌, ◌%◌, ◌^◌, ◌<◌, ◌≤◌, Bool, true, false, nat_le, if◌then◌else◌}
+use Rattle.std.proofs.Common.{bit_xor, Option, Some, None, Ok, List, refl, sym, ◌∙◌, ap, arith}
 use Rattle.std.proofs.lemmas.Bool.Decides.{nat_tests}
 use Rattle.std.proofs.lemmas.Nat.{xor_lt}
 use Rattle.std.proofs.lemmas.Nat.Bits.{bit_at_xor}
@@ -9,8 +9,6 @@ use Rattle.std.proofs.lemmas.Bool.{eq-eqb, ne_eqb, le-leb}
 use Rattle.member_au4.specs.declared.au4_pointer.au_frame.Action.{Action}
 use Rattle.member_au4.specs.declared.au4_pointer.au_frame.Action.TheVariants.{Keep, Up, Down, New}
 use Rattle.member_au4.specs.declared.au4_pointer.pointer_source.PointerFault.TheVariants.{Range}
-use Rattle.member_au4.specs.declared.au4_pointer.pointer_sink.PointerWordFault.{PointerWordFault}
-use Rattle.member_au4.specs.declared.au4_pointer.pointer_sink.PointerWordFault.TheVariants.{Flag, Range as OutOfRange, Unexpected}
 use Rattle.member_au4.specs.au4_pointer.Word.{next_value, word_of, beginning, moving, reading, fault_after, too_soon, new_wait}
 use Rattle.member_au4.specs.au4_pointer.Source.{IsValid}
 
@@ -42,65 +40,34 @@ small : (value : ℕ) → value ≤ 782 → value < 2 ^ 10
 small value h = omega (arith, h)
 
 -- ---- words that are read
-choose : {X : Type 0} (b : Bool) (x y : X) → b ≡ true → (if b then x else y) ≡ x
-choose b x y e = ap (λ c. if c then x else y) e
-
-pass : {X : Type 0} (b : Bool) (x y : X) → b ≡ false → (if b then x else y) ≡ y
-pass b x y e = ap (λ c. if c then x else y) e
-
 module _ (value word : ℕ) where
   keep-read : word % 1024 ≡ value → moving value word ≡ Ok Keep
-  keep-read e =
-      choose (word % 1024 == value) (Ok Keep) (if word % 1024 == bit_xor value 682 then Ok Up else
-      (if word % 1024 == bit_xor value 341 then Ok Down else Err (Unexpected (word % 1024))))
-      (eq-eqb (word % 1024) value e)
+  keep-read e = rw (eq-eqb (word % 1024) value e) refl
 
   up-read : word % 1024 ≡ bit_xor value 682 → moving value word ≡ Ok Up
   up-read e =
-      let last : Result Action PointerWordFault = if word % 1024 == bit_xor value 341 then Ok Down else Err
-      (Unexpected (word % 1024)) in
-      pass (word % 1024 == value) (Ok Keep) (if word % 1024 == bit_xor value 682 then Ok Up else last)
-      (ne_eqb (word % 1024) value (λ h. up-other value (sym e ∙ h)))
-      ∙ choose (word % 1024 == bit_xor value 682) (Ok Up) last (eq-eqb (word % 1024) (bit_xor value 682) e)
+      rw (ne_eqb (word % 1024) value (λ h. up-other value (sym e ∙ h)))
+      (rw (eq-eqb (word % 1024) (bit_xor value 682) e) refl)
 
   down-read : word % 1024 ≡ bit_xor value 341 → moving value word ≡ Ok Down
   down-read e =
-      let last : Result Action PointerWordFault = if word % 1024 == bit_xor value 341 then Ok Down else Err
-      (Unexpected (word % 1024)) in
-      pass (word % 1024 == value) (Ok Keep) (if word % 1024 == bit_xor value 682 then Ok Up else last)
-      (ne_eqb (word % 1024) value (λ h. down-other value (sym e ∙ h)))
-      ∙ pass (word % 1024 == bit_xor value 682) (Ok Up) last
-      (ne_eqb (word % 1024) (bit_xor value 682) (λ h. down-up value (sym e ∙ h)))
-      ∙ choose (word % 1024 == bit_xor value 341) (Ok Down) (Err (Unexpected (word % 1024)))
-      (eq-eqb (word % 1024) (bit_xor value 341) e)
+      rw (ne_eqb (word % 1024) value (λ h. down-other value (sym e ∙ h)))
+      (rw (ne_eqb (word % 1024) (bit_xor value 682) (λ h. down-up value (sym e ∙ h)))
+      (rw (eq-eqb (word % 1024) (bit_xor value 341) e) refl))
 
   new-read : word % 1024 ≡ value → value ≤ 782 → beginning word ≡ Ok (New value)
-  new-read e h =
-      choose (nat_le (word % 1024) 782) (Ok (New (word % 1024))) (Err (OutOfRange (word % 1024)))
-      (le-leb (word % 1024) 782 (omega (arith, e, h)))
-      ∙ ap (λ v. Ok (New v)) e
+  new-read e h = rw (le-leb (word % 1024) 782 (omega (arith, e, h))) (ap (λ v. Ok (New v)) e)
 
   stays : word / 4096 ≡ 6 → reading (Some value) word ≡ moving value word
-  stays e = choose (word / 4096 == 6) (moving value word) (if word / 4096 == 9 then beginning word else Err
-      (Flag (word / 4096))) (eq-eqb (word / 4096) 6 e)
+  stays e = rw (eq-eqb (word / 4096) 6 e) refl
 
 first-read : (word : ℕ) → word / 4096 ≡ 6 → reading None word ≡ beginning word
-first-read word e = choose (word / 4096 == 6) (beginning word)
-    (if word / 4096 == 9 then beginning word else Err (Flag (word / 4096))) (eq-eqb (word / 4096) 6 e)
+first-read word e = rw (eq-eqb (word / 4096) 6 e) refl
 
-new-some : (value word : ℕ) → word / 4096 ≡ 9 → reading (Some value) word ≡ beginning word
-new-some value word e =
-    let last : Result Action PointerWordFault = if word / 4096 == 9 then beginning word else Err
-    (Flag (word / 4096)) in
-    pass (word / 4096 == 6) (moving value word) last (ne_eqb (word / 4096) 6 (λ h. omega (arith, h, e)))
-    ∙ choose (word / 4096 == 9) (beginning word) (Err (Flag (word / 4096))) (eq-eqb (word / 4096) 9 e)
-
-new-none : (word : ℕ) → word / 4096 ≡ 9 → reading None word ≡ beginning word
-new-none word e =
-    let last : Result Action PointerWordFault = if word / 4096 == 9 then beginning word else Err
-    (Flag (word / 4096)) in
-    pass (word / 4096 == 6) (beginning word) last (ne_eqb (word / 4096) 6 (λ h. omega (arith, h, e)))
-    ∙ choose (word / 4096 == 9) (beginning word) (Err (Flag (word / 4096))) (eq-eqb (word / 4096) 9 e)
+begins : (before : Option ℕ) (word : ℕ) → word / 4096 ≡ 9 → reading before word ≡ beginning word
+begins (Some value) word e =
+    rw (ne_eqb (word / 4096) 6 (λ h. omega (arith, h, e))) (rw (eq-eqb (word / 4096) 9 e) refl)
+begins None word e = rw (ne_eqb (word / 4096) 6 (λ h. omega (arith, h, e))) (rw (eq-eqb (word / 4096) 9 e) refl)
 
 upper : (x : ℕ) → x < 1024 → (26624 + x) / 4096 ≡ 6
 upper x h = omega (arith, h)
@@ -127,7 +94,7 @@ reads value Down h valid =
     let less : x < 2 ^ 10 = xor_lt 10 value 341 (small value h) (omega arith) in
     stays value (26624 + x) (upper x less) ∙ down-read value (26624 + x) (lower x less)
 reads value (New p) h valid =
-    new-some value (38912 + p) (new-upper p (omega (arith, valid)))
+    begins (Some value) (38912 + p) (new-upper p (omega (arith, valid)))
     ∙ new-read p (38912 + p) (new-lower p (omega (arith, valid))) valid
 
 -- of a first frame
@@ -136,14 +103,13 @@ reads-keep-first value h = first-read (26624 + value) (upper value (omega (arith
     ∙ new-read value (26624 + value) (lower value (omega (arith, h))) h
 
 pub reads-new-first : (value p : ℕ) → p ≤ 782 → reading None (word_of value (New p)) ≡ Ok (New p)
-reads-new-first value p h = new-none (38912 + p) (new-upper p (omega (arith, h)))
+reads-new-first value p h = begins None (38912 + p) (new-upper p (omega (arith, h)))
     ∙ new-read p (38912 + p) (new-lower p (omega (arith, h))) h
 
 pub next-below : (value : ℕ) (a : Action) → value ≤ 782 → IsValid a → next_value value a ≤ 782
 next-below value Keep h valid = h
-next-below value Up h valid = omega arith
-next-below value Down h valid = omega arith
 next-below value (New p) h valid = valid
+next-below value a h valid = omega arith
 
 -- ---- what is accepted
 bound-by : (p left : ℕ) (b : Bool) → nat_le p 782 ≡ b → (if b then too_soon left else Some (Range p)) ≡ None → p ≤ 782
@@ -151,7 +117,5 @@ bound-by p left true e h = grind (arith, nat_tests, e)
 bound-by p left false e h = cc
 
 pub accepted-valid : (before : List Action) (a : Action) → fault_after before a ≡ None → IsValid a
-accepted-valid before Keep h = tt
-accepted-valid before Up h = tt
-accepted-valid before Down h = tt
 accepted-valid before (New p) h = bound-by p (new_wait before) (nat_le p 782) refl h
+accepted-valid before a h = tt

@@ -7,7 +7,7 @@ use Rattle.std.proofs.Math.Bool.{and_assoc, and-true}
 use Rattle.std.proofs.lemmas.Bool.{cases_Bool, cases_lt, and_parts, and_cases, and_from, and_left, and_right, eqb-true}
 use Rattle.std.proofs.lemmas.Bool.{ne_eqb, lt-ltb, le-ltb, ltb-true, ltb-false, le-leb, lt-leb}
 use Rattle.std.proofs.lemmas.List.{append-nil, length-append, length-map, map-append, take_all, take-append-le}
-use Rattle.law_model.specs.Common.{LineLock, locked, Sight, unknown, locks, at, sight_of, lock_after, lock_by}
+use Rattle.law_model.specs.Common.{LineLock, locked, Sight, unknown, at, sight_of, lock_after, lock_by}
 use Rattle.law_model.specs.Common.{sights_on, read_of, good_cells, is_at, is_front, upper_halves, Found, packet_here}
 use Rattle.law_model.specs.Common.{packets_on}
 use Rattle.text_captures.specs.packet_trace.Decoder.{begun_on}
@@ -103,9 +103,8 @@ packets-out (h4 ∷ octets) lock place o out =
 
 -- ---- octets that come while the line is locked have rising MFI1
 pub is_at-at : (sight : Sight) → is_at sight ≡ true → sight ≡ at
-is_at-at unknown e = absurd cc
-is_at-at (locks number) e = absurd cc
 is_at-at at e = refl
+is_at-at sight e = absurd cc
 
 due-mfi1 : (mfi1 o : ℕ) → is_at (sight_of (locked mfi1) o) ≡ true → o % 16 ≡ (mfi1 + 1) % 16
 due-mfi1 mfi1 o e =

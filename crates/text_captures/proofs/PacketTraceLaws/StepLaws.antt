@@ -41,17 +41,12 @@ stands-of octets = stands-on octets unlocked [] stands-none
 
 -- ---- what the lock says of an octet is what is computed of it
 abbrev is_at_answer : Place → Bool
-is_at_answer Unknown = false
-is_at_answer (LocksAnswer number) = false
 is_at_answer (At number) = true
+is_at_answer answer = false
 
 same-sight : (signs : List (Option ℕ)) (i : ℕ) (answer : Place) (sight : Sight) → IsPlace signs i answer →
     IsSight signs i sight → is_at sight ≡ is_at_answer answer
-same-sight signs i Unknown unknown p q = refl
-same-sight signs i Unknown (locks m) p q = refl
 same-sight signs i Unknown at p q = absurd (p q.0 q.1.in_step)
-same-sight signs i (LocksAnswer n) unknown p q = refl
-same-sight signs i (LocksAnswer n) (locks m) p q = refl
 same-sight signs i (LocksAnswer n) at p q =
     let same : p.0.0 ≡ q.0 = IsFirstStep_only signs p.0.0 q.0 i p.0.1 q.1 in
     absurd (omega (arith, p.0.2, q.2))
@@ -59,7 +54,7 @@ same-sight signs i (At n) unknown p q = absurd (q p.0.0 p.0.1.in_step)
 same-sight signs i (At n) (locks m) p q =
     let same : p.0.0 ≡ q.0.0 = IsFirstStep_only signs p.0.0 q.0.0 i p.0.1 q.0.1 in
     absurd (omega (arith, p.0.2, q.0.2))
-same-sight signs i (At n) at p q = refl
+same-sight signs i answer sight p q = refl
 
 -- the lock says this of the octet after these
 abbrev pub IsAnswer : List ℕ → ℕ → Place → Type 0
@@ -73,9 +68,8 @@ sight-here octets o answer is =
     (sight-is (lock_on unlocked octets) (good_cells octets) o (stands-of octets))
 
 not_answer : (answer : Place) → ((number : ℕ) → answer ≡ At number → ⊥) → is_at_answer answer ≡ false
-not_answer Unknown other = refl
-not_answer (LocksAnswer number) other = refl
 not_answer (At number) other = absurd (other number refl)
+not_answer answer other = refl
 
 -- ---- the decoder
 next_lock : (lock : MfiLock) (octets : List ℕ) (o : ℕ) → LockStands lock (good_cells octets ++ Some o ∷ []) →

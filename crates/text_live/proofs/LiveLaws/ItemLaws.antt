@@ -113,7 +113,5 @@ pub one_item : (ticks passed : ℕ) (items : List Item) (k : ItemKind) → HasIt
     IsKind k → HasItems ticks passed (items ++ due_now passed k ∷ [])
 one_item ticks passed items (kind.Frame octets) has less is =
     one_frame ticks passed items (due_now passed (kind.Frame octets)) has refl (less, is) refl
-one_item ticks passed items (kind.Add line) has less is =
-    one_command ticks passed items (due_now passed (kind.Add line)) has refl (less, is) refl
-one_item ticks passed items (kind.Remove line) has less is =
-    one_command ticks passed items (due_now passed (kind.Remove line)) has refl (less, is) refl
+one_item ticks passed items k has less is =
+    one_command ticks passed items (due_now passed k) has refl (less, is) refl

@@ -1,22 +1,21 @@
 -- What lines without a fault say all along: a configuration that can be walked, and live lines that fit it.
 use Rattle.std.proofs.Common.{◌≡◌, ◌∙◌, ℕ, zero, suc, ◌+◌, ◌-◌, ◌<◌, ◌≤◌, ◌==◌, nat_le, nat_lt, not, Bool, true, false, List, []}
-use Rattle.std.proofs.Common.{◌∷◌, length, map, drop, ap, sym, subst, arith, refl, All, slice_index_or}
-use Rattle.std.proofs.Common.{slice_set, Option, None, Some, Ok, option_map, is_some, if◌then◌else◌}
+use Rattle.std.proofs.Common.{◌∷◌, length, map, drop, ap, subst, arith, refl, All, slice_index_or}
+use Rattle.std.proofs.Common.{slice_set, Option, None, Some, Ok, option_map, is_some, is_none}
+use Rattle.std.specs.Prelude.{IsSome}
 use Rattle.std.proofs.Common.{eqb-true, ltb-false, leb-false}
 use Rattle.std.proofs.lemmas.Bool.Decides.{nat_tests}
 use Rattle.std.specs.Option.{option_or}
 use Rattle.std.proofs.lemmas.Bool.{not-false}
-use Rattle.std.proofs.lemmas.List.{length-append, length-set, length-map}
+use Rattle.std.proofs.lemmas.List.{length-append, length-set, length-map, get_or-map}
 use Rattle.std.proofs.lemmas.List.Elements.{All-set, All-get_or, All-map}
-use Rattle.text_lines.specs.Words.{words, word_at, is_skipped, number_at, octets_of}
+use Rattle.text_lines.specs.Words.{words, word_at, is_skipped, number_at}
 use Rattle.text_lines.specs.Fields.{Field, within, digits, where_true, field_fault}
 use Rattle.text_lines.specs.Language.{said_from, unless_fault}
 use Rattle.text_lines.proofs.FieldLaws.{or_none, where_none, map_none, number_ok, digits_ok}
-use Rattle.law_model.specs.Common.{slip_of, IsNetwork, IsKind, frame_dues, command_dues}
+use Rattle.law_model.specs.Common.{slip_of, IsNetwork, frame_dues, command_dues}
 use Rattle.law_model.specs.declared.window_types.Window.{Window}
 use Rattle.law_model.specs.declared.script_types.Config.{Config}
-use Rattle.law_model.specs.declared.script_types.ItemKind.{ItemKind}
-use Rattle.law_model.specs.declared.script_types.ItemKind.TheVariants as item_kind
 use Rattle.text_scripts.specs.declared.script_read.script_draft.Draft.{Draft}
 use Rattle.text_scripts.specs.script_read.Statements.{words_fault, words_said, after, last_end}
 use Rattle.text_scripts.specs.script_read.Script.{missing_line, config_fault}
@@ -33,6 +32,8 @@ use Rattle.text_live.specs.declared.first_word.FirstWord.TheVariants as first
 use Rattle.text_live.specs.declared.first_word.EarlierPart.{EarlierPart}
 use Rattle.text_live.specs.declared.live_fault.LiveLineFault.TheVariants as wrong
 use Rattle.law_live.specs.Live.{Course, Live, course_at, cut_at, cuts, lands, live_after, mends, opened, passes, uncut, windows_by, with_course}
+use Rattle.law_live.specs.Common.{CanCut, CanSay, IsOfLine, Saying}
+use Rattle.law_live.proofs.WindowLaws.{ends-last}
 use Rattle.text_live.specs.LiveLines.{Said, LineWrong, of_script, of_limits, of_live, live_or}
 use Rattle.text_live.specs.LiveLines.{now_live, opening_fault, count_by, ended_fault, cut_fault}
 use Rattle.text_live.specs.LiveLines.{mend_fault, own_fault, one_fault, rest_fault, earlier_fault, fault_by, line_fault}
@@ -128,19 +129,90 @@ goes_on ticks passed most none =
     let other : (passed == ticks) ≡ false = where_none (passed == ticks) wrong.LastTick none in
     let less : passed < ticks = grind (arith, nat_tests, other, most) in less
 
--- ---- what is said with it
-has_item : (k : ℕ) (c : Config) (live : Live) (kind : ItemKind) → HasLive k c live →
-    ended_fault c.ticks live.passed ≡ None → IsKind kind → HasLive (k + 1) c (live_after live (lands kind))
-has_item k c live kind has none is = record {
-  network = has.network;
-  passed = has.passed;
-  count = has.count;
-  courses = has.courses;
-  slips = has.slips;
-  items = one_item c.ticks live.passed live.items kind has.items (goes_on c.ticks live.passed has.passed none) is;
-  few = omega (arith, has.few, length-append live.items (due_now live.passed kind ∷ []));
-}
+-- ---- what can be said of a line of the group
+-- a line of the group by its number
+pub line_within : (c : Config) (live : Live) (m : ℕ) (k : ℕ) → HasLive k c live → m ≤ c.lines - 1 → m < length live.courses
+line_within c live m k has less = omega (arith, less, has.count, has.network.lines.0)
 
+is_uncut : (cut : Option ℕ) → is_some cut ≡ false → cut ≡ None
+is_uncut None none = refl
+is_uncut (Some start) none = absurd cc
+
+is_cut : (cut : Option ℕ) → is_none cut ≡ false → IsSome cut
+is_cut None none = absurd cc
+is_cut (Some start) none = refl
+
+course_of : (k : ℕ) (c : Config) (live : Live) (m : ℕ) → HasLive k c live → m < length live.courses →
+    HasCourse c.ticks live.passed (course_at live m)
+course_of k c live m has low = All-get_or (HasCourse c.ticks live.passed) live.courses m (uncut []) low has.courses
+
+can_cut : (k : ℕ) (c : Config) (live : Live) (m : ℕ) → HasLive k c live → m < length live.courses →
+    cut_fault c.ticks live.passed m (course_at live m) ≡ None →
+    IsOfLine c.ticks live m × CanCut live.passed (course_at live m)
+can_cut k c live m has low none =
+    let course : Course = course_at live m in
+    let passed : ℕ = live.passed in
+    let count : ℕ = count_by (length course.windows) course.cut in
+    let end : ℕ = last_end course.windows in
+    let full = where_true (nat_le 256 count) (wrong.FullLine m) in
+    let ended = ended_fault c.ticks passed in
+    let already = where_true (is_some course.cut) (wrong.CutAlready m) in
+    let early = where_true (nat_lt passed end) (wrong.FailureBefore end) in
+    let one = or_none full (option_or ended (option_or already early)) none in
+    let two = or_none ended (option_or already early) one.1 in
+    let three = or_none already early two.1 in
+    let few = leb-false 256 count (where_none (nat_le 256 count) (wrong.FullLine m) one.0) in
+    let later = ltb-false passed end (where_none (nat_lt passed end) (wrong.FailureBefore end) three.1) in (
+      record { left = goes_on c.ticks passed has.passed two.0; line = low },
+      record {
+        uncut = is_uncut course.cut (where_none (is_some course.cut) (wrong.CutAlready m) three.0);
+        over = ends-last 0 passed course.windows (course_of k c live m has low).failures.apart later;
+        few = omega (arith, few);
+      },
+    )
+
+can_mend : (k : ℕ) (c : Config) (live : Live) (m : ℕ) → HasLive k c live → m < length live.courses →
+    mend_fault c.ticks live.passed m (course_at live m) ≡ None →
+    IsOfLine c.ticks live m × IsSome (course_at live m).cut
+can_mend k c live m has low none =
+    let course : Course = course_at live m in
+    let parts = or_none (ended_fault c.ticks live.passed) (where_true (is_none course.cut) (wrong.NotCut m)) none in (
+      record { left = goes_on c.ticks live.passed has.passed parts.0; line = low },
+      is_cut course.cut (where_none (is_none course.cut) (wrong.NotCut m) parts.1),
+    )
+
+-- ---- what a live line says can be said
+pub can_say : (k : ℕ) (c : Config) (live : Live) (w : LiveKeyword) (ws : List (List ℕ)) → HasLive k c live →
+    rest_fault c live w ws ≡ None → CanSay c.ticks live (live_told w ws)
+can_say k c live word.Frame ws has none =
+    let parts = or_none (one_fault word.Frame (digits 1 65535) ws) (ended_fault c.ticks live.passed) none in
+    let octets = digits_ok 2 1 65535 (word_at 0 ws) (one_word word.Frame (digits 1 65535) ws parts.0).each in
+    (goes_on c.ticks live.passed has.passed parts.1, (octets.size, octets.each))
+can_say k c live word.Cut ws has none =
+    let parts = or_none (one_fault word.Cut (within 0 (c.lines - 1)) ws)
+    (cut_fault c.ticks live.passed (number_at 0 ws) (course_at live (number_at 0 ws))) none in
+    let low = number_ok 2 0 (c.lines - 1) (word_at 0 ws)
+    (one_word word.Cut (within 0 (c.lines - 1)) ws parts.0).each in
+    can_cut k c live (number_at 0 ws) has (line_within c live (number_at 0 ws) k has low.1) parts.1
+can_say k c live word.Mend ws has none =
+    let parts = or_none (one_fault word.Mend (within 0 (c.lines - 1)) ws)
+    (mend_fault c.ticks live.passed (number_at 0 ws) (course_at live (number_at 0 ws))) none in
+    let low = number_ok 2 0 (c.lines - 1) (word_at 0 ws)
+    (one_word word.Mend (within 0 (c.lines - 1)) ws parts.0).each in
+    can_mend k c live (number_at 0 ws) has (line_within c live (number_at 0 ws) k has low.1) parts.1
+can_say k c live word.Pass ws has none =
+    let parts = or_none (one_fault word.Pass (within 1 (c.ticks - live.passed)) ws)
+    (own_fault c.ticks live word.Pass (number_at 0 ws)) none in
+    let is = number_ok 2 1 (c.ticks - live.passed) (word_at 0 ws)
+    (one_word word.Pass (within 1 (c.ticks - live.passed)) ws parts.0).each in
+    record { some = is.0; left = omega (arith, is.1, has.passed) }
+can_say k c live w ws has none =
+    let parts = or_none (one_fault w (within 0 255) ws) (ended_fault c.ticks live.passed) none in (
+      goes_on c.ticks live.passed has.passed parts.1,
+      (number_ok 2 0 255 (word_at 0 ws) (one_word w (within 0 255) ws parts.0).each).1,
+    )
+
+-- ---- what is said with it
 same_slips : (courses : List Course) (m : ℕ) (course : Course) →
     course_slip course ≡ course_slip (slice_index_or courses m (uncut [])) →
     map course_slip (slice_set courses m course) ≡ map course_slip courses
@@ -162,103 +234,45 @@ has_course k c live m course has is same = record {
   few = omega (arith, has.few);
 }
 
-has_passed : (k : ℕ) (c : Config) (live : Live) (n : ℕ) → HasLive k c live → n ≤ c.ticks - live.passed →
-    HasLive (k + 1) c (live_after live (passes n))
-has_passed k c live n has most = record {
+last-over : (passed : ℕ) (ws : List Window) → All (λ (window : Window). window.end ≤ passed) ws →
+    last_end ws ≤ passed
+last-over passed [] over = omega arith
+last-over passed (w ∷ ws) over =
+    let at : ℕ = length (w ∷ ws) - 1 in
+    let inside : at < length (w ∷ ws) = omega arith in
+    omega (arith, over at w inside, get_or-map (λ (window : Window). window.end) (w ∷ ws) at w 0 inside)
+
+has_after : (k : ℕ) (c : Config) (live : Live) (saying : Saying) → HasLive k c live → CanSay c.ticks live saying →
+    HasLive (k + 1) c (live_after live saying)
+has_after k c live (lands kind) has can = record {
   network = has.network;
-  passed = omega (arith, has.passed, most);
+  passed = has.passed;
+  count = has.count;
+  courses = has.courses;
+  slips = has.slips;
+  items = one_item c.ticks live.passed live.items kind has.items can.0 can.1;
+  few = omega (arith, has.few, length-append live.items (due_now live.passed kind ∷ []));
+}
+has_after k c live (cuts m) has can =
+    let course : Course = course_at live m in
+    has_course k c live m (cut_at live.passed course) has
+    (cut-course c.ticks live.passed course (course_of k c live m has can.0.line) can.0.left
+    (last-over live.passed course.windows can.1.over) can.1.few)
+    refl
+has_after k c live (mends m) has can =
+    let course : Course = course_at live m in
+    has_course k c live m (uncut (windows_by live.passed course)) has
+    (mended-course c.ticks live.passed course has.passed (course_of k c live m has can.0.line))
+    (slip-by live.passed course)
+has_after k c live (passes n) has can = record {
+  network = has.network;
+  passed = omega (arith, can.left);
   count = has.count;
   courses = λ i d inside. later-course c.ticks live.passed n (slice_index_or live.courses i d) (has.courses i d inside);
   slips = has.slips;
   items = later_items c.ticks live.passed n live.items has.items;
   few = omega (arith, has.few);
 }
-
--- a line of the group by its number
-pub line_within : (c : Config) (live : Live) (m : ℕ) (k : ℕ) → HasLive k c live → m ≤ c.lines - 1 → m < length live.courses
-line_within c live m k has less = omega (arith, less, has.count, has.network.lines.0)
-
--- what is known of a line whose failure may begin now
-pub record MayCut (ticks passed : ℕ) (course : Course) : Type 0 where
-  pub few : count_by (length course.windows) course.cut < 256
-  pub left : passed < ticks
-  pub uncut : is_some course.cut ≡ false
-  pub later : last_end course.windows ≤ passed
-
-pub may_cut : (ticks passed m : ℕ) (course : Course) → passed ≤ ticks →
-    cut_fault ticks passed m course ≡ None → MayCut ticks passed course
-may_cut ticks passed m course most none =
-    let count : ℕ = count_by (length course.windows) course.cut in
-    let end : ℕ = last_end course.windows in
-    let full = where_true (nat_le 256 count) (wrong.FullLine m) in
-    let ended = ended_fault ticks passed in
-    let already = where_true (is_some course.cut) (wrong.CutAlready m) in
-    let early = where_true (nat_lt passed end) (wrong.FailureBefore end) in
-    let one = or_none full (option_or ended (option_or already early)) none in
-    let two = or_none ended (option_or already early) one.1 in
-    let three = or_none already early two.1 in
-    record {
-      few = leb-false 256 count (where_none (nat_le 256 count) (wrong.FullLine m) one.0);
-      left = goes_on ticks passed most two.0;
-      uncut = where_none (is_some course.cut) (wrong.CutAlready m) three.0;
-      later = ltb-false passed end
-          (where_none (nat_lt passed end) (wrong.FailureBefore end) three.1);
-    }
-
-has_cut : (k : ℕ) (c : Config) (live : Live) (m : ℕ) → HasLive k c live → m < length live.courses →
-    cut_fault c.ticks live.passed m (course_at live m) ≡ None →
-    HasLive (k + 1) c (live_after live (cuts m))
-has_cut k c live m has low none =
-    let course : Course = course_at live m in
-    let may = may_cut c.ticks live.passed m course has.passed none in
-    has_course k c live m (cut_at live.passed course) has
-    (cut-course c.ticks live.passed course
-    (All-get_or (HasCourse c.ticks live.passed) live.courses m (uncut []) low has.courses)
-    may.left may.later (omega (arith, may.few)))
-    refl
-
-has_mended : (k : ℕ) (c : Config) (live : Live) (m : ℕ) → HasLive k c live → m < length live.courses →
-    HasLive (k + 1) c (live_after live (mends m))
-has_mended k c live m has low =
-    let course : Course = course_at live m in
-    has_course k c live m (uncut (windows_by live.passed course)) has
-    (mended-course c.ticks live.passed course has.passed
-    (All-get_or (HasCourse c.ticks live.passed) live.courses m (uncut []) low has.courses))
-    (slip-by live.passed course)
-
--- ---- a live line
-pub live_line : (k : ℕ) (c : Config) (live : Live) (w : LiveKeyword) (ws : List (List ℕ)) → HasLive k c live →
-    rest_fault c live w ws ≡ None → HasLive (k + 1) c (live_after live (live_told w ws))
-live_line k c live word.Frame ws has none =
-    let parts = or_none (one_fault word.Frame (digits 1 65535) ws) (ended_fault c.ticks live.passed) none in
-    let octets = digits_ok 2 1 65535 (word_at 0 ws) (one_word word.Frame (digits 1 65535) ws parts.0).each in
-    has_item k c live (item_kind.Frame (octets_of (word_at 0 ws))) has parts.1 (octets.size, octets.each)
-live_line k c live word.Add ws has none =
-    let parts = or_none (one_fault word.Add (within 0 255) ws) (ended_fault c.ticks live.passed) none in
-    has_item k c live (item_kind.Add (number_at 0 ws)) has parts.1
-    (number_ok 2 0 255 (word_at 0 ws) (one_word word.Add (within 0 255) ws parts.0).each).1
-live_line k c live word.Remove ws has none =
-    let parts = or_none (one_fault word.Remove (within 0 255) ws) (ended_fault c.ticks live.passed) none in
-    has_item k c live (item_kind.Remove (number_at 0 ws)) has parts.1
-    (number_ok 2 0 255 (word_at 0 ws) (one_word word.Remove (within 0 255) ws parts.0).each).1
-live_line k c live word.Cut ws has none =
-    let parts = or_none (one_fault word.Cut (within 0 (c.lines - 1)) ws)
-    (cut_fault c.ticks live.passed (number_at 0 ws) (course_at live (number_at 0 ws))) none in
-    let low = number_ok 2 0 (c.lines - 1) (word_at 0 ws)
-    (one_word word.Cut (within 0 (c.lines - 1)) ws parts.0).each in
-    has_cut k c live (number_at 0 ws) has (line_within c live (number_at 0 ws) k has low.1) parts.1
-live_line k c live word.Mend ws has none =
-    let parts = or_none (one_fault word.Mend (within 0 (c.lines - 1)) ws)
-    (mend_fault c.ticks live.passed (number_at 0 ws) (course_at live (number_at 0 ws))) none in
-    let low = number_ok 2 0 (c.lines - 1) (word_at 0 ws)
-    (one_word word.Mend (within 0 (c.lines - 1)) ws parts.0).each in
-    has_mended k c live (number_at 0 ws) has (line_within c live (number_at 0 ws) k has low.1)
-live_line k c live word.Pass ws has none =
-    let parts = or_none (one_fault word.Pass (within 1 (c.ticks - live.passed)) ws)
-    (own_fault c.ticks live word.Pass (number_at 0 ws)) none in
-    has_passed k c live (number_at 0 ws) has
-    (number_ok 2 1 (c.ticks - live.passed) (word_at 0 ws)
-    (one_word word.Pass (within 1 (c.ticks - live.passed)) ws parts.0).each).1
 
 -- ---- any line
 more_live : (k : ℕ) (c : Config) (live : Option Live) → HasLiveIf k c live → HasLiveIf (k + 1) c live
@@ -292,8 +306,9 @@ by_first k s ws (first.Live w) has none =
     opening k s.live s.settings has.draft has.live parts.0 in
     record {
       draft = has.draft;
-      live = live_line k s.settings.config (now_live s) w (drop 1 ws) begun
-          (map_none of_live (rest_fault s.settings.config (now_live s) w (drop 1 ws)) parts.1);
+      live = has_after k s.settings.config (now_live s) (live_told w (drop 1 ws)) begun
+          (can_say k s.settings.config (now_live s) w (drop 1 ws) begun
+          (map_none of_live (rest_fault s.settings.config (now_live s) w (drop 1 ws)) parts.1));
     }
 by_first k s ws first.Other has none = absurd cc
 
@@ -302,9 +317,7 @@ by_skip : (k : ℕ) (s : Said) (ws : List (List ℕ)) (skipped : Bool) → is_sk
 by_skip k s ws true is has none =
     rw is (record { draft = has.draft; live = more_live k s.settings.config s.live has.live })
 by_skip k s ws false is has none =
-    let fine : fault_by s ws (first_of (word_at 0 ws)) ≡ None =
-    ap (λ (b : Bool). if b then None else fault_by s ws (first_of (word_at 0 ws))) (sym is) ∙ none in
-    rw is (by_first k s ws (first_of (word_at 0 ws)) has fine)
+    rw is (by_first k s ws (first_of (word_at 0 ws)) has (rw is at none))
 
 pub one_line : (k : ℕ) (s : Said) (ws : List (List ℕ)) → HasSaid k s → line_fault s ws ≡ None →
     HasSaid (k + 1) (line_after s ws)

@@ -1,7 +1,7 @@
 -- What lines without a fault say, one after another: what happens so that it can happen, and the leg of it all.
 use Rattle.std.proofs.Common.{◌≡◌, ◌∙◌, ℕ, ◌+◌, ◌≤◌, Bool, true, false, List, [], ◌∷◌, ◌++◌, length, ap, sym, subst}
 use Rattle.std.proofs.Common.{arith, refl, append_assoc, length-append, Option, None, Some, Result, Ok, Err}
-use Rattle.std.proofs.Common.{if◌then◌else◌, drop}
+use Rattle.std.proofs.Common.{drop}
 use Rattle.std.specs.Prelude.{fold, flat_map, option_map}
 use Rattle.std.proofs.lemmas.List.{append-nil}
 use Rattle.std.proofs.lemmas.List.Sums.{fold-append}
@@ -23,14 +23,13 @@ use Rattle.law_live.proofs.GrowLaws.{live-more}
 use Rattle.text_live.specs.declared.first_word.EarlierPart.{EarlierPart}
 use Rattle.text_live.specs.declared.first_word.FirstWord.{FirstWord}
 use Rattle.text_live.specs.declared.first_word.FirstWord.TheVariants as first
-use Rattle.text_live.specs.LiveLines.{Told, nothing, setting, happens}
+use Rattle.text_live.specs.LiveLines.{Told, happens}
 use Rattle.text_live.specs.LiveLines.{Said, LineWrong, of_live, live_or, now_live, opening_fault, rest_fault}
 use Rattle.text_live.specs.LiveLines.{earlier_fault, fault_by, line_fault, first_of, live_told, told, told_by}
 use Rattle.text_live.specs.LiveLines.{said_with, line_after, nothing_said, live_lines}
 use Rattle.text_live.specs.LiveScript.{script_in, script_of_live}
 use Rattle.text_live.specs.Sayings.{AgreesWith, AreFine, leg_in, line_saying, said_in, said_with_line, saying_of, sayings}
-use Rattle.text_live.proofs.LiveLaws.SaidLaws.{HasLive, HasLiveIf, HasSaid, begins, one_line, opening}
-use Rattle.text_live.proofs.LiveLaws.CanLaws.{can_say}
+use Rattle.text_live.proofs.LiveLaws.SaidLaws.{HasLive, HasLiveIf, HasSaid, begins, can_say, one_line, opening}
 
 -- ---- so far
 abbrev pub Tells : Config → List Saying → Option Live → Type 0
@@ -89,14 +88,11 @@ tells_skip : (k : ℕ) (s : Said) (ws : List (List ℕ)) (skipped : Bool) (said 
     (let now : Said = line_after s ws in Tells now.settings.config (said ++ saying_of (told ws)) now.live)
 tells_skip k s ws true said is has tells none = rw is (no_more s.settings.config said s.live tells)
 tells_skip k s ws false said is has tells none =
-    let fine : fault_by s ws (first_of (word_at 0 ws)) ≡ None =
-    ap (λ (b : Bool). if b then None else fault_by s ws (first_of (word_at 0 ws))) (sym is) ∙ none in
-    rw is (tells_first k s ws (first_of (word_at 0 ws)) said has tells fine)
+    rw is (tells_first k s ws (first_of (word_at 0 ws)) said has tells (rw is at none))
 
 few_of : (t : Told) → length (saying_of t) ≤ 1
-few_of nothing = omega arith
-few_of setting = omega arith
 few_of (happens saying) = omega arith
+few_of t = omega arith
 
 -- ---- the lines one after another
 pub record Speaks (k : ℕ) (s : Said) (said : List Saying) : Type 0 where
@@ -186,9 +182,7 @@ settled_skip : (s : Said) (ws : List (List ℕ)) (skipped : Bool) (live : Live) 
     s.live ≡ Some live → line_fault s ws ≡ None → IsSettled s (line_after s ws)
 settled_skip s ws true live skips is none = rw skips (record { settings = refl; live = live; begun = is })
 settled_skip s ws false live skips is none =
-    let fine : fault_by s ws (first_of (word_at 0 ws)) ≡ None =
-    ap (λ (b : Bool). if b then None else fault_by s ws (first_of (word_at 0 ws))) (sym skips) ∙ none in
-    rw skips (settled_first s ws (first_of (word_at 0 ws)) live is fine)
+    rw skips (settled_first s ws (first_of (word_at 0 ws)) live is (rw skips at none))
 
 pub settled : (s : Said) (line : List ℕ) (live : Live) → s.live ≡ Some live → line_fault s (words line) ≡ None →
     IsSettled s (said_with_line s line)

@@ -15,11 +15,9 @@ end_from end (window ∷ windows) = end_from window.end windows
 end-at : (end : ℕ) (ws : List Window) (i : ℕ) → i + 1 ≡ length ws →
     slice_index_or (map (λ (w : Window). w.end) ws) i 0 ≡ end_from end ws
 unfolding end_from
-end-at end [] i size = absurd (omega arith)
 end-at end (w ∷ []) zero size = refl
-end-at end (w ∷ []) (suc i) size = absurd (omega arith)
-end-at end (w ∷ v ∷ ws) zero size = absurd (omega arith)
 end-at end (w ∷ v ∷ ws) (suc i) size = end-at w.end (v ∷ ws) i (omega arith)
+end-at end ws i size = absurd (omega arith)
 
 end-is : (ws : List Window) → last_end ws ≡ end_from 0 ws
 unfolding end_from

@@ -5,38 +5,29 @@ use Rattle.std.proofs.lemmas.List.Elements.{All-cons}
 use Rattle.std.proofs.lemmas.Nat.{mod_below}
 use Rattle.text_scripts.specs.make_load.Draws.{next, drawn, draws, after_draws}
 
-draws_more : (count bound state : ℕ) → 0 < count →
-    draws count bound state ≡ drawn (next state) bound ∷ draws (count - 1) bound (next state)
+draws_more : (more fewer bound state : ℕ) → more ≡ suc fewer →
+    draws more bound state ≡ drawn (next state) bound ∷ draws fewer bound (next state)
 unfolding draws
-draws_more zero bound state some = absurd (omega (arith, some))
-draws_more (suc count) bound state some =
-    ap (λ (k : ℕ). drawn (next state) bound ∷ draws k bound (next state))
-    (let e : count ≡ suc count - 1 = omega arith in e)
+draws_more more fewer bound state e = rw e refl
 
-after_more : (count state : ℕ) → 0 < count → after_draws count state ≡ after_draws (count - 1) (next state)
+after_more : (more fewer state : ℕ) → more ≡ suc fewer → after_draws more state ≡ after_draws fewer (next state)
 unfolding after_draws
-after_more zero state some = absurd (omega (arith, some))
-after_more (suc count) state some =
-    ap (λ (k : ℕ). after_draws k (next state)) (let e : count ≡ suc count - 1 = omega arith in e)
+after_more more fewer state e = rw e refl
 
 -- one draw on: what was drawn so far, and the draws that are left
 pub draws_next : (all before : List ℕ) (count i bound state now n : ℕ) → all ≡ before ++ draws (count - i) bound state →
     i < count
     → now ≡ next state → n ≡ drawn (next state) bound → all ≡ (before ++ n ∷ []) ++ draws (count - (i + 1)) bound now
 draws_next all before count i bound state now n is within moves draw =
-    is ∙ ap (λ (l : List ℕ). before ++ l) (draws_more (count - i) bound state (omega (arith, within)))
-    ∙ ap (λ (k : ℕ). before ++ drawn (next state) bound ∷ draws k bound (next state))
-    (let e : count - i - 1 ≡ count - (i + 1) = omega arith in e)
-    ∙ ap (λ (s : ℕ). before ++ drawn (next state) bound ∷ draws (count - (i + 1)) bound s) (sym moves)
-    ∙ ap (λ (m : ℕ). before ++ m ∷ draws (count - (i + 1)) bound now) (sym draw)
-    ∙ sym (append_assoc before (n ∷ []) (draws (count - (i + 1)) bound now))
+    rw (moves, draw)
+    (is ∙ ap (λ (l : List ℕ). before ++ l)
+    (draws_more (count - i) (count - (i + 1)) bound state (omega (arith, within)))
+    ∙ sym (append_assoc before (drawn (next state) bound ∷ []) (draws (count - (i + 1)) bound (next state))))
 
 pub after_next : (all count i state now : ℕ) → all ≡ after_draws (count - i) state → i < count → now ≡ next state
     → all ≡ after_draws (count - (i + 1)) now
 after_next all count i state now is within moves =
-    is ∙ after_more (count - i) state (omega (arith, within))
-    ∙ ap (λ (k : ℕ). after_draws k (next state)) (let e : count - i - 1 ≡ count - (i + 1) = omega arith in e)
-    ∙ ap (λ (s : ℕ). after_draws (count - (i + 1)) s) (sym moves)
+    rw moves (is ∙ after_more (count - i) (count - (i + 1)) state (omega (arith, within)))
 
 -- no draw is left
 pub draws_end : (all before : List ℕ) (count i bound state : ℕ) → all ≡ before ++ draws (count - i) bound state →

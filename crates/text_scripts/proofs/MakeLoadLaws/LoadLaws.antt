@@ -8,43 +8,32 @@ use Rattle.std.proofs.lemmas.List.FromFn.{length-map-range_with_len, get_or-map-
 use Rattle.std.proofs.lemmas.Nat.{mod_below}
 use Rattle.std.proofs.lemmas.List.Elements.{All-cons, All-append, All-replicate}
 use Rattle.law_model.specs.Common.{due_of, dues_of, frame_dues, command_dues, slip_after, AreWindows, greatest}
-use Rattle.law_model.specs.Common.{greatest_slip, IsItem, HasFailures, HasLosses, AreApart, AreItems, IsValid}
+use Rattle.law_model.specs.Common.{greatest_slip, IsItem, HasFailures, AreItems, IsValid}
 use Rattle.law_model.specs.declared.script_types.Item.{Item}
 use Rattle.law_model.specs.declared.script_types.Script.{Script}
 use Rattle.law_model.specs.declared.script_types.ItemKind.TheVariants.{Frame, Add}
-use Rattle.text_scripts.proofs.ScriptReadLaws.RowLaws.{All-none, rising-none, frames-append, commands-append}
+use Rattle.text_scripts.proofs.ScriptReadLaws.RowLaws.{All-none, no_losses, rising-none, frames-append, commands-append}
 use Rattle.text_scripts.specs.make_load.Draws.{next, drawn, draws, after_draws}
 use Rattle.text_scripts.specs.make_load.Load.{length_of, frame_of, after_frame, addition, additions, frames, frame_count, load}
 use Rattle.text_scripts.proofs.MakeLoadLaws.DrawLaws.{length-draws, draws_below}
 
 -- ---- one more
-frames_more : (count due state : ℕ) → 0 < count
-    → frames count due state ≡ record { due = due; kind = Frame (frame_of state) } ∷ frames (count - 1) (due + 8)
+frames_more : (more fewer due later state : ℕ) → more ≡ suc fewer → later ≡ due + 8
+    → frames more due state ≡ record { due = due; kind = Frame (frame_of state) } ∷ frames fewer later
     (after_frame state)
 unfolding frames
-frames_more zero due state some = absurd (omega (arith, some))
-frames_more (suc count) due state some =
-    ap (λ (k : ℕ). record { due = due; kind = Frame (frame_of state) } ∷ frames k (due + 8) (after_frame state))
-    (let e : count ≡ suc count - 1 = omega arith in e)
+frames_more more fewer due later state size e = rw (size, e) refl
 
 pub frames_next : (all before : List Item) (count k state now : ℕ) (octets : List ℕ) →
     all ≡ before ++ frames (count - k) (8 * k) state → k < count
     → now ≡ after_frame state → octets ≡ frame_of state
     → all ≡ (before ++ record { due = 8 * k; kind = Frame octets } ∷ []) ++ frames (count - (k + 1)) (8 * (k + 1)) now
 frames_next all before count k state now octets is within moves frame =
-    is ∙ ap (λ (l : List Item). before ++ l) (frames_more (count - k) (8 * k) state (omega (arith, within)))
-    ∙ ap (λ (n : ℕ). before ++ record { due = 8 * k; kind = Frame (frame_of state) } ∷ frames n (8 * k + 8)
-    (after_frame state))
-    (let e : count - k - 1 ≡ count - (k + 1) = omega arith in e)
-    ∙ ap (λ (n : ℕ). before ++ record { due = 8 * k; kind = Frame (frame_of state) } ∷ frames (count - (k + 1)) n
-    (after_frame state))
-    (let e : 8 * k + 8 ≡ 8 * (k + 1) = omega arith in e)
-    ∙ ap (λ (s : ℕ). before ++ record { due = 8 * k; kind = Frame (frame_of state) } ∷ frames (count - (k + 1))
-    (8 * (k + 1)) s) (sym moves)
-    ∙ ap (λ (f : List ℕ). before ++ record { due = 8 * k; kind = Frame f } ∷ frames (count - (k + 1)) (8 * (k + 1)) now)
-    (sym frame)
-    ∙ sym (append_assoc before (record { due = 8 * k; kind = Frame octets } ∷ [])
-    (frames (count - (k + 1)) (8 * (k + 1)) now))
+    rw (moves, frame)
+    (is ∙ ap (λ (l : List Item). before ++ l)
+    (frames_more (count - k) (count - (k + 1)) (8 * k) (8 * (k + 1)) state (omega (arith, within)) (omega arith))
+    ∙ sym (append_assoc before (record { due = 8 * k; kind = Frame (frame_of state) } ∷ [])
+    (frames (count - (k + 1)) (8 * (k + 1)) (after_frame state))))
 
 pub frames_end : (all before : List Item) (count k due state : ℕ) → all ≡ before ++ frames (count - k) due state →
     count ≤ k → before ≡ all
@@ -194,29 +183,22 @@ no_windows : (ticks : ℕ) → HasFailures ticks []
 unfolding AreWindows
 no_windows ticks = record { few = omega arith; apart = tt; ends = All-none _; slips = All-none _ }
 
-no_losses : HasLosses []
-unfolding AreApart
-no_losses = record { apart = tt; ends = All-none _ }
-
-low : (ns : List ℕ) → All (λ n. n < 41) ns → All (λ n. n ≤ 40) ns
-low ns are i d within = let less = are i d within in omega (arith, less)
-
-higher : (ns : List ℕ) → All (λ n. n < 41) ns → All (λ n. n ≤ 2047) ns
-higher ns are i d within = let less = are i d within in omega (arith, less)
+low : (ns : List ℕ) (most : ℕ) → All (λ n. n < 41) ns → 40 ≤ most → All (λ n. n ≤ most) ns
+low ns most are high i d within = let less = are i d within in omega (arith, less, high)
 
 valid_load : (number lines ticks : ℕ) → (1 ≤ lines) × (lines ≤ 64) → (1 ≤ ticks) × (ticks ≤ 1000000) →
     IsValid (load number lines ticks)
 unfolding items_of
 valid_load number lines ticks few time =
     let delays = draws_below lines 41 number (omega arith) in
-    let most = greatest_most (draws lines 41 number) 40 (low (draws lines 41 number) delays) in
+    let most = greatest_most (draws lines 41 number) 40 (low (draws lines 41 number) 40 delays (omega arith)) in
     let slips = no_slip lines in
     record {
       sound = record {
         network = record {
           lines = (few.0, omega (arith, few.1));
           delay_each = length-draws lines 41 number;
-          delays = higher (draws lines 41 number) delays;
+          delays = low (draws lines 41 number) 2047 delays (omega arith);
           windows_each = length-replicate lines [];
           windows = All-replicate (HasFailures ticks) lines [] (no_windows ticks);
           lost = no_losses;

@@ -22,12 +22,8 @@ use Rattle.text_scripts.proofs.ScriptReadLaws.DraftLaws.{line_told, config_whole
 
 -- ---- the tests of a configuration tell no line
 is_line : Option ScriptFault → Bool
-is_line None = false
 is_line (Some (fault.Line n kind)) = true
-is_line (Some (fault.Slip m i slip)) = false
-is_line (Some (fault.Spread slow fast slip ring)) = false
-is_line (Some (fault.Lag lag least slow slip)) = false
-is_line (Some fault.Memory) = false
+is_line f = false
 
 neither : (f later : Option ScriptFault) → is_line f ≡ false → is_line later ≡ false
     → is_line (fault_or f later) ≡ false

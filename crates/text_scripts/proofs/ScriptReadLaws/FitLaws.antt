@@ -5,9 +5,10 @@ use Rattle.std.proofs.Common.{if◌then◌else◌}
 use Rattle.std.proofs.lemmas.List.{length-replicate}
 use Rattle.std.specs.Prelude.{Option, None, Some, bytes_eq, codes, replicate, unwrap_or, option_map}
 use Rattle.std.specs.Option.{option_or}
-use Rattle.std.proofs.lemmas.Bool.{not-false, leb-false, ltb-false, eqb-true, and_parts, or_cases, cases_Bool, cases_lt}
+use Rattle.std.proofs.lemmas.Bool.{not-false, leb-false, ltb-false, eqb-true, and_parts, or_cases, cases_lt}
 use Rattle.std.proofs.lemmas.Bool.Decides.{nat_tests}
 use Rattle.std.proofs.lemmas.List.Elements.{All-nil, All-cons}
+use Rattle.text_lines.specs.declared.text_faults.FieldFault.{FieldFault}
 use Rattle.text_lines.specs.declared.text_faults.FieldFault.TheVariants.{Name}
 use Rattle.text_lines.specs.declared.text_faults.Names.TheVariants as names
 use Rattle.text_scripts.specs.declared.script_read.script_fault.LineFault.TheVariants as wrong
@@ -16,7 +17,7 @@ use Rattle.text_lines.specs.Fields.{within, any, above, digits, one_of, where_tr
 use Rattle.text_lines.specs.Fields.{fields_fault}
 use Rattle.text_lines.proofs.FieldLaws.{or_none, where_none, map_none, number_ok, digits_ok, one_field, two_fields}
 use Rattle.text_lines.proofs.FieldLaws.{four_fields}
-use Rattle.law_model.specs.Common.{IsWithin, IsSize, IsStatuses}
+use Rattle.law_model.specs.Common.{IsWithin, IsSize, IsStatuses, vc3_size, vc4_size}
 use Rattle.text_scripts.specs.declared.script_read.script_keyword.Keyword.{Keyword}
 use Rattle.text_scripts.specs.declared.script_read.script_keyword.Keyword.TheVariants as word
 use Rattle.text_scripts.specs.declared.script_read.script_draft.Draft.{Draft}
@@ -27,31 +28,20 @@ use Rattle.text_scripts.specs.script_read.Statements.{words_fault, said, known_s
 use Rattle.text_scripts.specs.script_read.Drafts.{IsPlaced, IsDraft, IsNext, IsNextLost, Fits}
 
 -- ---- words
+-- one of two names says one of two numbers
+one_of_two : (p q : Bool) (x y : ℕ) (fault : FieldFault) → where_true (not (p || (q || false))) fault ≡ None →
+    (let n : ℕ = unwrap_or (if p then Some x else if q then Some y else None) 0 in (n ≡ x) ⊎ (n ≡ y))
+one_of_two true q x y fault none = inl refl
+one_of_two false true x y fault none = inr refl
+one_of_two false false x y fault none = absurd cc
+
 size_ok : (w : List ℕ) → name_fault 2 names.Containers w ≡ None → IsSize (unwrap_or (size_of w) 0)
 size_ok w none =
-    elim (cases_Bool (bytes_eq w (codes "vc3"))) [
-      | inl three ↦ rw three (inl refl)
-      | inr other ↦
-          elim (cases_Bool (bytes_eq w (codes "vc4"))) [
-            | inl four ↦ rw (other, four) (inr refl)
-            | inr neither ↦ absurd (let bad : Some (Name 2 names.Containers) ≡ None =
-                sym (let e : name_fault 2 names.Containers w ≡ Some (Name 2 names.Containers) =
-                rw (other, neither) refl in e) ∙ none in cc)
-          ]
-    ]
+    one_of_two (bytes_eq w (codes "vc3")) (bytes_eq w (codes "vc4")) vc3_size vc4_size (Name 2 names.Containers) none
 
 statuses_ok : (w : List ℕ) → name_fault 2 names.Statuses w ≡ None → IsStatuses (unwrap_or (statuses_of w) 0)
 statuses_ok w none =
-    elim (cases_Bool (bytes_eq w (codes "16"))) [
-      | inl few ↦ rw few (inl refl)
-      | inr other ↦
-          elim (cases_Bool (bytes_eq w (codes "32"))) [
-            | inl many ↦ rw (other, many) (inr refl)
-            | inr neither ↦ absurd (let bad : Some (Name 2 names.Statuses) ≡ None =
-                sym (let e : name_fault 2 names.Statuses w ≡ Some (Name 2 names.Statuses) =
-                rw (other, neither) refl in e) ∙ none in cc)
-          ]
-    ]
+    one_of_two (bytes_eq w (codes "16")) (bytes_eq w (codes "32")) 16 32 (Name 2 names.Statuses) none
 
 each_within : (n at before : ℕ) (ws : List (List ℕ)) → length ws ≡ n →
     fields_fault (replicate n (within 0 2047)) at before ws ≡ None
@@ -244,12 +234,6 @@ fits_said d word.Remove ws is at fine =
     let late = at.1 (omega arith) in
     let command = command_ok d ws is late.0 fine.count fine.each in
     (late.0, late.1, (command.due, command.line), ltb-false (number_at 0 ws) d.command_due fine.order)
-fits_said d word.Client ws is at fine = let late = at.1 (omega arith) in
-    (late.0, one_number 1 1000000 ws fine.count fine.each)
-fits_said d word.Operator ws is at fine = let late = at.1 (omega arith) in
-    (late.0, one_number 1 1000000 ws fine.count fine.each)
-fits_said d word.Tick ws is at fine = let late = at.1 (omega arith) in
-    (late.0, one_number 1 1000000 ws fine.count fine.each)
 fits_said d word.Carry ws is at fine =
     let late = at.1 (omega arith) in
     let two = two_fields (within 0 (d.config.lines - 1)) (within 1 1000000) 2 0 ws fine.count fine.each in
@@ -261,13 +245,8 @@ fits_said d word.Carry ws is at fine =
         number_ok 3 1 1000000 (word_at 1 ws) two.1,
       ),
     )
-fits_said d word.Back ws is at fine = let late = at.1 (omega arith) in
-    (late.0, one_number 1 1000000 ws fine.count fine.each)
-fits_said d word.Take ws is at fine = let late = at.1 (omega arith) in
-    (late.0, one_number 1 1000000 ws fine.count fine.each)
-fits_said d word.Round ws is at fine = let late = at.1 (omega arith) in
-    (late.0, one_number 1 1000000 ws fine.count fine.each)
 fits_said d word.Drain ws is at fine = let late = at.1 (omega arith) in (late.0, tt)
+fits_said d k ws is at fine = let late = at.1 (omega arith) in (late.0, one_number 1 1000000 ws fine.count fine.each)
 
 known_fits : (d : Draft) (ws : List (List ℕ)) (k : Option Keyword) → IsDraft d → known_fault d ws k ≡ None →
     Fits d (known_said ws k)
@@ -280,9 +259,7 @@ skipped_or : (d : Draft) (ws : List (List ℕ)) (skipped : Bool) → is_skipped 
     words_fault d ws ≡ None → Fits d (words_said ws)
 skipped_or d ws true is draft none = rw is tt
 skipped_or d ws false is draft none =
-    let fine : known_fault d (drop 1 ws) (keyword_of (word_at 0 ws)) ≡ None =
-    ap (λ (b : Bool). if b then None else known_fault d (drop 1 ws) (keyword_of (word_at 0 ws))) (sym is) ∙ none in
-    rw is (known_fits d (drop 1 ws) (keyword_of (word_at 0 ws)) draft fine)
+    rw is (known_fits d (drop 1 ws) (keyword_of (word_at 0 ws)) draft (rw is at none))
 
 pub fits_words : (d : Draft) (ws : List (List ℕ)) → IsDraft d → words_fault d ws ≡ None → Fits d (words_said ws)
 fits_words d ws is none = skipped_or d ws (is_skipped ws) refl is none

@@ -6,6 +6,7 @@ use Rattle.std.proofs.lemmas.List.{length-append, map-append, get_or_append_left
 use Rattle.std.proofs.lemmas.List.Elements.{All-push}
 use Rattle.std.proofs.lemmas.Bool.{cases_lt}
 use Rattle.law_model.specs.Common.{Due, frame_due, command_due, due_of, dues_of, frame_dues, command_dues, AreApart}
+use Rattle.law_model.specs.Common.{HasLosses}
 use Rattle.law_model.specs.declared.window_types.Window.{Window}
 use Rattle.law_model.specs.declared.script_types.Item.{Item}
 use Rattle.text_scripts.specs.script_read.Statements.{last_end, last_lost}
@@ -76,25 +77,28 @@ commands-one items item = ap command_dues (dues-one items item)
     ∙ commands-append (dues_of items) (due_of item.due item.kind ∷ [])
 
 -- ---- windows
-end_from : ℕ → List Window → ℕ
-end_from end [] = end
-end_from end (window ∷ windows) = end_from window.end windows
+-- the end of the last one of a list, or this one where there is none
+end_from : {X : Type 0} → (X → ℕ) → ℕ → List X → ℕ
+end_from end last [] = last
+end_from end last (w ∷ ws) = end_from end (end w) ws
 
-end-at : (end : ℕ) (ws : List Window) (i : ℕ) → i + 1 ≡ length ws →
-    slice_index_or (map (λ (w : Window). w.end) ws) i 0 ≡ end_from end ws
+end-at : {X : Type 0} (end : X → ℕ) (last : ℕ) (ws : List X) (i : ℕ) → i + 1 ≡ length ws →
+    slice_index_or (map end ws) i 0 ≡ end_from end last ws
 unfolding end_from
-end-at end [] i size = absurd (omega arith)
-end-at end (w ∷ []) zero size = refl
-end-at end (w ∷ []) (suc i) size = absurd (omega arith)
-end-at end (w ∷ v ∷ ws) zero size = absurd (omega arith)
-end-at end (w ∷ v ∷ ws) (suc i) size = end-at w.end (v ∷ ws) i (omega arith)
+end-at end last (w ∷ []) zero size = refl
+end-at end last (w ∷ v ∷ ws) (suc i) size = end-at end (end w) (v ∷ ws) i (omega arith)
+end-at end last ws i size = absurd (omega arith)
 
-end-is : (ws : List Window) → last_end ws ≡ end_from 0 ws
+end-is : {X : Type 0} (end : X → ℕ) (ws : List X) →
+    slice_index_or (map end ws) (length ws - 1) 0 ≡ end_from end 0 ws
 unfolding end_from
-end-is [] = refl
-end-is (w ∷ ws) = end-at 0 (w ∷ ws) (length (w ∷ ws) - 1) (omega arith)
+end-is end [] = refl
+end-is end (w ∷ ws) = end-at end 0 (w ∷ ws) (length (w ∷ ws) - 1) (omega arith)
 
-order-more : (end : ℕ) (ws : List Window) (w : Window) → AreInOrder end ws → end_from end ws ≤ w.first →
+abbrev end_of : Window → ℕ
+end_of w = w.end
+
+order-more : (end : ℕ) (ws : List Window) (w : Window) → AreInOrder end ws → end_from end_of end ws ≤ w.first →
     w.first < w.end → AreInOrder end (ws ++ w ∷ [])
 unfolding end_from AreInOrder
 order-more end [] w are after some = (after, some, tt)
@@ -102,33 +106,22 @@ order-more end (v ∷ ws) w are after some = (are.0, are.1, order-more v.end ws 
 
 pub order-one : (ws : List Window) (w : Window) → AreInOrder 0 ws → last_end ws ≤ w.first → w.first < w.end →
     AreInOrder 0 (ws ++ w ∷ [])
-order-one ws w are after some = order-more 0 ws w are (omega (arith, after, end-is ws)) some
+order-one ws w are after some = order-more 0 ws w are (omega (arith, after, end-is end_of ws)) some
 
 -- ---- return windows
-lost_from : ℕ → List (ℕ × ℕ) → ℕ
-lost_from end [] = end
-lost_from end (window ∷ windows) = lost_from window.1 windows
+pub no_losses : HasLosses []
+unfolding AreApart
+no_losses = record { apart = tt; ends = All-none _ }
 
-lost-at : (end : ℕ) (ws : List (ℕ × ℕ)) (i : ℕ) → i + 1 ≡ length ws →
-    slice_index_or (map (λ (w : ℕ × ℕ). w.1) ws) i 0 ≡ lost_from end ws
-unfolding lost_from
-lost-at end [] i size = absurd (omega arith)
-lost-at end (w ∷ []) zero size = refl
-lost-at end (w ∷ []) (suc i) size = absurd (omega arith)
-lost-at end (w ∷ v ∷ ws) zero size = absurd (omega arith)
-lost-at end (w ∷ v ∷ ws) (suc i) size = lost-at w.1 (v ∷ ws) i (omega arith)
+abbrev end_of_loss : ℕ × ℕ → ℕ
+end_of_loss w = w.1
 
-lost-is : (ws : List (ℕ × ℕ)) → last_lost ws ≡ lost_from 0 ws
-unfolding lost_from
-lost-is [] = refl
-lost-is (w ∷ ws) = lost-at 0 (w ∷ ws) (length (w ∷ ws) - 1) (omega arith)
-
-apart-more : (end : ℕ) (ws : List (ℕ × ℕ)) (w : ℕ × ℕ) → AreApart end ws → lost_from end ws ≤ w.0 → w.0 < w.1 →
-    AreApart end (ws ++ w ∷ [])
-unfolding lost_from AreApart
+apart-more : (end : ℕ) (ws : List (ℕ × ℕ)) (w : ℕ × ℕ) → AreApart end ws → end_from end_of_loss end ws ≤ w.0 →
+    w.0 < w.1 → AreApart end (ws ++ w ∷ [])
+unfolding end_from AreApart
 apart-more end [] w are after some = (after, some, tt)
 apart-more end (v ∷ ws) w are after some = (are.0, are.1, apart-more v.1 ws w are.2 after some)
 
 pub apart-one : (ws : List (ℕ × ℕ)) (w : ℕ × ℕ) → AreApart 0 ws → last_lost ws ≤ w.0 → w.0 < w.1 →
     AreApart 0 (ws ++ w ∷ [])
-apart-one ws w are after some = apart-more 0 ws w are (omega (arith, after, lost-is ws)) some
+apart-one ws w are after some = apart-more 0 ws w are (omega (arith, after, end-is end_of_loss ws)) some

@@ -1,6 +1,6 @@
 -- A draft that passes the tests is a script that meets all that is said of one.
-use Rattle.std.proofs.Common.{◌≡◌, ℕ, zero, suc, ◌+◌, ◌-◌, ◌<◌, ◌≤◌, nat_le, Bool, true, false, List, [], ◌∷◌, length}
-use Rattle.std.proofs.Common.{ap, sym, ◌∙◌, arith, refl, All, inl, inr, if◌then◌else◌, Option, None, Some}
+use Rattle.std.proofs.Common.{◌≡◌, ℕ, zero, suc, ◌+◌, ◌-◌, ◌<◌, ◌≤◌, nat_le, List, [], ◌∷◌, length}
+use Rattle.std.proofs.Common.{arith, refl, All, inl, inr, Option, None, Some}
 use Rattle.std.proofs.lemmas.Bool.{cases_Bool}
 use Rattle.std.proofs.lemmas.Bool.Decides.{nat_tests}
 use Rattle.law_model.specs.Common.{AreWindows, FitsRing, FitsLag, greatest, least, greatest_slip, HasFailures, IsValid}
@@ -14,36 +14,17 @@ use Rattle.text_scripts.specs.script_read.Script.{lag_fault, config_fault, scrip
 use Rattle.text_scripts.specs.script_read.Drafts.{AreInOrder, AreFailures, IsDraft}
 use Rattle.text_scripts.specs.script_read.Pieces.{IsUntested}
 
-none_first : (f later : Option ScriptFault) → fault_or f later ≡ None → f ≡ None
-none_first None later is = refl
-none_first (Some f) later is = absurd cc
-
-none_later : (f later : Option ScriptFault) → fault_or f later ≡ None → later ≡ None
-none_later None later is = is
-none_later (Some f) later is = absurd cc
+no_fault : (f later : Option ScriptFault) → fault_or f later ≡ None → (f ≡ None) × (later ≡ None)
+no_fault None later is = (refl, is)
+no_fault (Some f) later is = absurd cc
 
 -- ---- slips
-slips : (m i : ℕ) (w : Window) (ws : List Window) → nat_le (w.end - w.first) w.slip ≡ true →
-    windows_fault m i (w ∷ ws) ≡ None
-    → Some (fault.Slip m i w.slip) ≡ None
-slips m i w ws far none = ap (λ (b : Bool). if b then Some (fault.Slip m i w.slip) else windows_fault m (i + 1) ws)
-    (sym far) ∙ none
-
-goes_on : (m i : ℕ) (w : Window) (ws : List Window) → nat_le (w.end - w.first) w.slip ≡ false →
-    windows_fault m i (w ∷ ws) ≡ None
-    → windows_fault m (i + 1) ws ≡ None
-goes_on m i w ws near none = ap (λ (b : Bool). if b then Some (fault.Slip m i w.slip) else windows_fault m (i + 1) ws)
-    (sym near) ∙ none
-
 no_slip : (m i : ℕ) (w : Window) (ws : List Window) → windows_fault m i (w ∷ ws) ≡ None
     → (w.slip < w.end - w.first) × (windows_fault m (i + 1) ws ≡ None)
 no_slip m i w ws none =
     elim (cases_Bool (nat_le (w.end - w.first) w.slip)) [
-      | inl far ↦ absurd (let bad : Some (fault.Slip m i w.slip) ≡ None = slips m i w ws far none in cc)
-      | inr near ↦ (
-        (let less : w.slip < w.end - w.first = grind (arith, nat_tests, near) in less),
-        goes_on m i w ws near none,
-      )
+      | inl far ↦ absurd (let bad : Some (fault.Slip m i w.slip) ≡ None = rw far at none in cc)
+      | inr near ↦ ((let less : w.slip < w.end - w.first = grind (arith, nat_tests, near) in less), rw near at none)
     ]
 
 signs : (m i from : ℕ) (ws : List Window) → AreInOrder from ws → windows_fault m i ws ≡ None → AreWindows from ws
@@ -57,10 +38,10 @@ pub all_signs : (ticks m : ℕ) (lists : List (List Window)) → All (AreFailure
     → All (λ list. AreWindows 0 list) lists
 all_signs ticks m [] are none i d within = absurd (omega (arith, within))
 all_signs ticks m (ws ∷ lists) are none zero d within =
-    signs m 0 0 ws (are zero d (omega arith)).order (none_first (windows_fault m 0 ws) (slip_fault (m + 1) lists) none)
+    signs m 0 0 ws (are zero d (omega arith)).order (no_fault (windows_fault m 0 ws) (slip_fault (m + 1) lists) none).0
 all_signs ticks m (ws ∷ lists) are none (suc i) d within =
     all_signs ticks (m + 1) lists (λ j e inside. are (suc j) e (omega (arith, inside)))
-    (none_later (windows_fault m 0 ws) (slip_fault (m + 1) lists) none) i d (omega (arith, within))
+    (no_fault (windows_fault m 0 ws) (slip_fault (m + 1) lists) none).1 i d (omega (arith, within))
 
 failures : (ticks m : ℕ) (lists : List (List Window)) → All (AreFailures ticks) lists → slip_fault m lists ≡ None
     → All (HasFailures ticks) lists
@@ -69,18 +50,6 @@ failures ticks m lists are none i d within =
     record { few = is.few; apart = all_signs ticks m lists are none i d within; ends = is.ends; slips = is.slips }
 
 -- ---- spread and lag
-wide_fails : (c : Config) → nat_le (greatest c.delays - least c.delays + greatest_slip c.windows + 1) c.ring ≡ false →
-    spread_fault c ≡ None
-    → Some (fault.Spread (greatest c.delays) (least c.delays) (greatest_slip c.windows) c.ring) ≡ None
-wide_fails c wide none =
-    ap (λ (b : Bool). if b then None else Some
-    (fault.Spread (greatest c.delays) (least c.delays) (greatest_slip c.windows) c.ring)) (sym wide) ∙ none
-
-short_fails : (c : Config) → nat_le (least_lag c) c.lag ≡ false → lag_fault c ≡ None →
-    Some (fault.Lag c.lag (least_lag c) (greatest c.delays) (greatest_slip c.windows)) ≡ None
-short_fails c short none = ap (λ (b : Bool). if b then None else Some
-    (fault.Lag c.lag (least_lag c) (greatest c.delays) (greatest_slip c.windows))) (sym short) ∙ none
-
 ring_fits : (c : Config) → spread_fault c ≡ None → FitsRing c
 ring_fits c none =
     elim (cases_Bool (nat_le (greatest c.delays - least c.delays + greatest_slip c.windows + 1) c.ring)) [
@@ -88,7 +57,7 @@ ring_fits c none =
           grind (arith, nat_tests, fits) in less)
       | inr wide ↦ absurd (let bad : Some
           (fault.Spread (greatest c.delays) (least c.delays) (greatest_slip c.windows) c.ring) ≡ None =
-          wide_fails c wide none in cc)
+          rw wide at none in cc)
     ]
 
 lag_fits : (c : Config) → lag_fault c ≡ None → FitsLag c
@@ -96,7 +65,7 @@ lag_fits c none =
     elim (cases_Bool (nat_le (least_lag c) c.lag)) [
       | inl fits ↦ (let less : least_lag c ≤ c.lag = grind (arith, nat_tests, fits) in omega (arith, less))
       | inr short ↦ absurd (let bad : Some (fault.Lag c.lag (least_lag c) (greatest c.delays) (greatest_slip c.windows))
-          ≡ None = short_fails c short none in cc)
+          ≡ None = rw short at none in cc)
     ]
 
 -- ---- the script
@@ -105,10 +74,8 @@ pub IsValid-draft : (d : Draft) → IsDraft d → 6 ≤ d.next → length d.item
 IsValid-draft d is whole few none =
     let has = is.config in
     let lines = has.lines (omega (arith, whole)) in
-    let slips = none_first (slip_fault 0 d.config.windows) (fault_or (spread_fault d.config) (lag_fault d.config)) none
-    in
-    let rings = none_later (slip_fault 0 d.config.windows) (fault_or (spread_fault d.config) (lag_fault d.config)) none
-    in
+    let slips = no_fault (slip_fault 0 d.config.windows) (fault_or (spread_fault d.config) (lag_fault d.config)) none in
+    let rings = no_fault (spread_fault d.config) (lag_fault d.config) slips.1 in
     record {
       sound = record {
         network = record {
@@ -116,15 +83,15 @@ IsValid-draft d is whole few none =
           delay_each = has.delay_each (omega (arith, whole));
           delays = has.delays;
           windows_each = lines.1;
-          windows = failures d.config.ticks 0 d.config.windows has.windows slips;
+          windows = failures d.config.ticks 0 d.config.windows has.windows slips.0;
           lost = has.lost;
           ring = has.ring (omega (arith, whole));
           lag = has.lag (omega (arith, whole));
           ticks = has.ticks whole;
           size = has.size;
           options = has.options;
-          fits_ring = ring_fits d.config (none_first (spread_fault d.config) (lag_fault d.config) rings);
-          fits_lag = lag_fits d.config (none_later (spread_fault d.config) (lag_fault d.config) rings);
+          fits_ring = ring_fits d.config rings.0;
+          fits_lag = lag_fits d.config rings.1;
         };
         items = is.items;
         few = few;

@@ -124,13 +124,13 @@ pub(super) fn add(alloc: Global, draft: &mut Draft, said: Statement) -> Result<(
         }
         Statement::Fail(m, window) => {
             draft.next = 7;
-            add_window(&mut draft.config.windows, m, window)?;
+            return add_window(&mut draft.config.windows, m, window);
         }
         Statement::Lost(first, end) => {
             draft.next = 7;
             draft.config.lost.0.push((first, end))?;
         }
-        Statement::Item(item) => add_item(draft, item)?,
+        Statement::Item(item) => return add_item(draft, item),
         Statement::Event(event) => {
             draft.next = 9;
             draft.events.0.push(event)?;

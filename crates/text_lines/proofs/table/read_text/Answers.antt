@@ -1,7 +1,6 @@
 -- One line on, and after the last one.
-use Rattle.std.proofs.Common.{◌≡◌, ◌∙◌, refl, ap, sym, subst, arith, true, false, nat_lt}
-use Rattle.std.specs.Prelude.{None, Some}
-use Rattle.std.proofs.lemmas.Bool.Decides.{nat_tests}
+use Rattle.std.proofs.Common.{◌∙◌, ap, sym, subst, arith}
+use Rattle.std.specs.Prelude.{None}
 use Rattle.std.specs.Str.Lines.{lines}
 use Rattle.text_lines.specs.Faults.{IsTextFault}
 use Rattle.text_lines.specs.Language.{said_from}
