@@ -13,47 +13,35 @@ use Rattle.law_walk.specs.Common.{is_client, IsPlaced}
 use Rattle.terminal_group.specs.Place.{is_frame, is_command, place_of}
 use Rattle.terminal_group.proofs.PlaceLaws.{place-next, place-found, due_found, frame-due, command-due}
 use Rattle.std.specs.List.Sorted.{IsNonDecreasing}
+use Rattle.std.proofs.lemmas.Option.{slice_get_within}
 use Rattle.law_model.proofs.ListLaws.{All-front, All-after, slice_get-inside}
 use Rattle.terminal_group.specs.Landed.{Landed, none_landed, next_place, next_number, landed_of, refused_of, due_in}
 use Rattle.terminal_group.specs.Landed.{due_at, AreBefore, AreAfter, AreInOrder, AreOthers, AreOfLanded, IsLanded}
 use Rattle.terminal_group.specs.Landed.{AreAhead, AreBehind}
 
--- so many items of a kind are before its place
-frames-by : (due : ℕ) (kind : ItemKind) (items : List Item) (k : ℕ) →
-    ((k : ℕ) → place_of is_frame k items < length items → k < length (frame_dues (dues_of items))) →
-    place_of is_frame k (record { due = due; kind = kind } ∷ items) < suc (length items) →
-    k < length (frame_dues (due_of due kind ∷ dues_of items))
-unfolding place_of frame_dues
-frames-by due (Frame octets) items zero rest there = omega arith
-frames-by due (Frame octets) items (suc k) rest there = let more = rest k (omega arith) in omega arith
-frames-by due (Add line) items zero rest there = rest zero (omega arith)
-frames-by due (Add line) items (suc k) rest there = rest (suc k) (omega arith)
-frames-by due (Remove line) items zero rest there = rest zero (omega arith)
-frames-by due (Remove line) items (suc k) rest there = rest (suc k) (omega arith)
+-- the item at the place of a kind is due when the kind says
+frame-at : (items : List Item) (k number : ℕ) (item : Item) → number ≡ place_of is_frame k items →
+    slice_get items number ≡ Some item → slice_get (frame_dues (dues_of items)) k ≡ Some item.due
+frame-at items k number item at here =
+    frame-due items k ∙ ap (due_found items) (sym at) ∙ ap (option_map (λ (item : Item). item.due)) here
 
+command-at : (items : List Item) (k number : ℕ) (item : Item) → number ≡ place_of is_command k items →
+    slice_get items number ≡ Some item → slice_get (command_dues (dues_of items)) k ≡ Some item.due
+command-at items k number item at here =
+    command-due items k ∙ ap (due_found items) (sym at) ∙ ap (option_map (λ (item : Item). item.due)) here
+
+-- so many items of a kind are before its place
 few-frames : (items : List Item) (k : ℕ) → place_of is_frame k items < length items →
     k < length (frame_dues (dues_of items))
-unfolding place_of frame_dues
-few-frames [] k there = absurd (omega arith)
-few-frames (item ∷ items) k there = frames-by item.due item.kind items k (few-frames items) there
-
-commands-by : (due : ℕ) (kind : ItemKind) (items : List Item) (k : ℕ) →
-    ((k : ℕ) → place_of is_command k items < length items → k < length (command_dues (dues_of items))) →
-    place_of is_command k (record { due = due; kind = kind } ∷ items) < suc (length items) →
-    k < length (command_dues (due_of due kind ∷ dues_of items))
-unfolding place_of command_dues
-commands-by due (Frame octets) items zero rest there = rest zero (omega arith)
-commands-by due (Frame octets) items (suc k) rest there = rest (suc k) (omega arith)
-commands-by due (Add line) items zero rest there = omega arith
-commands-by due (Add line) items (suc k) rest there = let more = rest k (omega arith) in omega arith
-commands-by due (Remove line) items zero rest there = omega arith
-commands-by due (Remove line) items (suc k) rest there = let more = rest k (omega arith) in omega arith
+few-frames items k there =
+    let (item, here) = slice_get-inside items (place_of is_frame k items) there in
+    slice_get_within (frame_dues (dues_of items)) k item.due (frame-at items k _ item refl here)
 
 few-commands : (items : List Item) (k : ℕ) → place_of is_command k items < length items →
     k < length (command_dues (dues_of items))
-unfolding place_of command_dues
-few-commands [] k there = absurd (omega arith)
-few-commands (item ∷ items) k there = commands-by item.due item.kind items k (few-commands items) there
+few-commands items k there =
+    let (item, here) = slice_get-inside items (place_of is_command k items) there in
+    slice_get_within (command_dues (dues_of items)) k item.due (command-at items k _ item refl here)
 
 -- all items are frames and commands
 dues-by : (due : ℕ) (kind : ItemKind) (items : List Item) →
@@ -155,11 +143,24 @@ pub one-low : (one : Bool) → ◌≤◌ (if one then 1 else 0) 1
 one-low true = omega arith
 one-low false = omega arith
 
-pub fewer-all : (landed : Landed) (client : Bool) → refused_of landed client < landed_of landed client →
+fewer-all : (landed : Landed) (client : Bool) → refused_of landed client < landed_of landed client →
     landed.refused_frames ≤ landed.frames → landed.refused_commands ≤ landed.commands →
     landed.refused_frames + landed.refused_commands < landed.frames + landed.commands
 fewer-all landed true fewer frames commands = omega arith
 fewer-all landed false fewer frames commands = omega arith
+
+-- where fewer of a kind were refused, by what is seen of it, there is room for one more
+pub fewer-room : (landed seen : Landed) (frame command space : ℕ) (client : Bool) → landed ≡ seen →
+    IsLanded landed frame command space → refused_of seen client < landed_of seen client →
+    length landed.refusals < space
+fewer-room landed seen frame command space client view is low =
+    let fewer = fewer-all landed client (subst (λ (l : Landed). refused_of l client < landed_of l client) (sym view) low)
+    is.few_frames is.few_commands in
+    let all = is.refused in
+    let frames = is.most_frames in
+    let commands = is.most_commands in
+    let room = is.room in
+    omega (arith, all-dues landed.items, fewer)
 
 -- ---- refusals in order
 pub order-put : (number : ℕ) (why : Refusal) (front back : List (ℕ × Refusal)) → AreInOrder (front ++ back) →
@@ -430,13 +431,10 @@ next-due landed client number ticks e ahead =
     by_kind : (client : Bool) → number ≡ next_place landed client → (item : Item) →
         slice_get landed.items number ≡ Some item → ticks ≤ item.due
     by_kind true at item here =
-        ahead.of_frames landed.frames item.due (omega arith)
-        (frame-due landed.items landed.frames ∙ ap (due_found landed.items) (sym at)
-        ∙ ap (option_map (λ (item : Item). item.due)) here)
+        ahead.of_frames landed.frames item.due (omega arith) (frame-at landed.items landed.frames number item at here)
     by_kind false at item here =
         ahead.of_commands landed.commands item.due (omega arith)
-        (command-due landed.items landed.commands ∙ ap (due_found landed.items) (sym at)
-        ∙ ap (option_map (λ (item : Item). item.due)) here)
+        (command-at landed.items landed.commands number item at here)
 
 -- and where it is due by now, all that has landed with it is
 pub behind-next : (landed : Landed) (client : Bool) (number ticks : ℕ) → next_number landed client ≡ Some number →
@@ -450,16 +448,6 @@ behind-next landed client number ticks e low behind =
     let same : due_at landed.items number ≡ item.due = ap due_in here in
     by_kind client at item here (omega arith)
   where
-    frame-here : number ≡ next_place landed true → (item : Item) → slice_get landed.items number ≡ Some item →
-        slice_get (frame_dues (dues_of landed.items)) landed.frames ≡ Some item.due
-    frame-here at item here = frame-due landed.items landed.frames ∙ ap (due_found landed.items) (sym at)
-        ∙ ap (option_map (λ (item : Item). item.due)) here
-
-    command-here : number ≡ next_place landed false → (item : Item) → slice_get landed.items number ≡ Some item →
-        slice_get (command_dues (dues_of landed.items)) landed.commands ≡ Some item.due
-    command-here at item here = command-due landed.items landed.commands ∙ ap (due_found landed.items) (sym at)
-        ∙ ap (option_map (λ (item : Item). item.due)) here
-
     one-more : (dues : List ℕ) (count due : ℕ) → slice_get dues count ≡ Some due → due ≤ ticks →
         ((k due : ℕ) → k < count → slice_get dues k ≡ Some due → due ≤ ticks) →
         (k other : ℕ) → k < count + 1 → slice_get dues k ≡ Some other → other ≤ ticks
@@ -479,11 +467,11 @@ behind-next landed client number ticks e low behind =
         (landed.commands + (if client then 0 else 1))
     by_kind true at item here low = record {
       of_frames = one-more (frame_dues (dues_of landed.items)) landed.frames item.due
-          (frame-here at item here) low behind.of_frames;
+          (frame-at landed.items landed.frames number item at here) low behind.of_frames;
       of_commands = λ k due inside there. behind.of_commands k due (omega arith) there;
     }
     by_kind false at item here low = record {
       of_frames = λ k due inside there. behind.of_frames k due (omega arith) there;
       of_commands = one-more (command_dues (dues_of landed.items)) landed.commands item.due
-          (command-here at item here) low behind.of_commands;
+          (command-at landed.items landed.commands number item at here) low behind.of_commands;
     }

@@ -33,23 +33,33 @@ well_as config said more other same well = subst (λ (l : List Saying). IsWellSa
 
 module _ {K : Type 0} (written : K → Option (List ℕ)) (faults : K → ℕ) where
   -- one saying
-  pub one_more : (old new : K) (waited waits : List ℕ) (now : AnsweredWalk) (steps : Bool) (config : Config)
-      (said more : List Saying) (saying : Saying) (result : Result (Unit {0}) Failed) → more ≡ saying ∷ [] →
-      OnOk result (Answers written faults old new waited waits now steps config said saying) →
+  pub one_more : (old new : K) (waited waits : List ℕ) (was now : AnsweredWalk) (more : List Saying) (saying : Saying)
+      (result : Result (Unit {0}) Failed) → more ≡ saying ∷ [] →
+      ((steps : Bool) (config : Config) (said : List Saying) → IsAnswered was steps config said →
+      IsWellSaid config (said ++ saying ∷ []) →
+      OnOk result (Answers written faults old new waited waits now steps config said saying)) →
+      (steps : Bool) (config : Config) (said : List Saying) → IsAnswered was steps config said →
+      IsWellSaid config (said ++ more) →
       OnOk result (AnswersMore written faults old new waited waits now steps config said more)
-  one_more old new waited waits now steps config said more saying (Err failed) same answers = tt
-  one_more old new waited waits now steps config said more saying (Ok done) same answers =
+  one_more old new waited waits was now more saying (Err failed) same answers steps config said is well = tt
+  one_more old new waited waits was now more saying (Ok done) same answers steps config said is well =
+      let own = answers steps config said is (well_as config said more (saying ∷ []) same well) in
       subst (AnswersMore written faults old new waited waits now steps config said) (sym same)
-      (record { is = answers.is; holds = answers.holds })
+      (record { is = own.is; holds = own.holds })
 
-  pub one_part : (old new : K) (waited : List ℕ) (steps : Bool) (config : Config) (said more : List Saying)
-      (saying : Saying) (result : Result (Unit {0}) Failed) → more ≡ saying ∷ [] →
-      OnErr result (AnswersPart written faults old new waited steps config said saying) →
+  pub one_part : (old new : K) (waited : List ℕ) (was : AnsweredWalk) (more : List Saying) (saying : Saying)
+      (result : Result (Unit {0}) Failed) → more ≡ saying ∷ [] →
+      ((steps : Bool) (config : Config) (said : List Saying) → IsAnswered was steps config said →
+      IsWellSaid config (said ++ saying ∷ []) →
+      OnErr result (AnswersPart written faults old new waited steps config said saying)) →
+      (steps : Bool) (config : Config) (said : List Saying) → IsAnswered was steps config said →
+      IsWellSaid config (said ++ more) →
       OnErr result (AppendsPart written faults old new
       (waited ++ answered_since steps (leg_said config (said ++ more)) said more))
-  one_part old new waited steps config said more saying result same part =
+  one_part old new waited was more saying result same part steps config said is well =
       subst (λ (l : List Saying). OnErr result (AppendsPart written faults old new
-      (waited ++ answered_since steps (leg_said config (said ++ l)) said l))) (sym same) part
+      (waited ++ answered_since steps (leg_said config (said ++ l)) said l))) (sym same)
+      (part steps config said is (well_as config said more (saying ∷ []) same well))
 
   -- nothing is answered
   pub quiet_more : (sink : K) (waiting : List ℕ) (now : AnsweredWalk) (steps : Bool) (config : Config)

@@ -1,6 +1,7 @@
 -- How it stands with a conversation, by what was read and what the walk has answered.
 use Rattle.std.proofs.Common.{◌≡◌, ◌∙◌, ℕ, ◌+◌, ◌≤◌, Bool, List, [], ◌∷◌, ◌++◌, length, ap, sym, subst, refl, inl, inr}
-use Rattle.std.proofs.Common.{◌⊎◌, arith, append-nil, length-append, Option, None, Some, Result, Ok, Err, OnOk, OnErr}
+use Rattle.std.proofs.Common.{◌⊎◌, arith, append-nil, length-append, Option, None, Some, Result, Ok, OnOk, OnErr}
+use Rattle.std.proofs.lemmas.Result.{on_err_weaker, on_ok_weaker}
 use Rattle.text_lines.specs.Words.{words}
 use Rattle.law_model.specs.Common.{AppendsPart, Leg, longest_input}
 use Rattle.law_model.specs.declared.script_types.Config.{Config}
@@ -362,14 +363,6 @@ talks_still talker heard line text says has none is =
           (ap (λ (t : List ℕ). t ++ text) (live_none talker heard line says has none).1 ∙ nothing);
     }
 
-on_ok : {A B : Type 0} (result : Result A B) (P Q : Type 0) → (P → Q) → OnOk result P → OnOk result Q
-on_ok (Ok done) P Q to is = to is
-on_ok (Err failed) P Q to is = tt
-
-on_err : {A B : Type 0} (result : Result A B) (P Q : Type 0) → (P → Q) → OnErr result P → OnErr result Q
-on_err (Ok done) P Q to is = tt
-on_err (Err failed) P Q to is = to is
-
 module _ {K : Type 0} (written : K → Option (List ℕ)) (faults : K → ℕ) where
   -- what the walk answers, where the octets of a frame are those that the reader has
   abbrev pub SayOk : K → K → List ℕ → List ℕ → AnsweredWalk → AnsweredWalk → LiveLine → Result (Unit {0}) Failed → List ℕ →
@@ -435,7 +428,7 @@ module _ {K : Type 0} (written : K → Option (List ℕ)) (faults : K → ℕ) w
       OnOk result (IsTalking (walks_on talker now) (heard_more heard line text))
   walk_talks old new waited waits talker heard line text says walk now frame result has some same say =
       let own = answering talker heard line says walk has some in
-      on_ok result _ _ (λ answers. talks_on talker heard line text says walk now has some answers.is)
+      on_ok_weaker result (λ answers. talks_on talker heard line text says walk now has some answers.is)
       (subst (SayOk old new waited waits walk now says result) same say talker.steps _ (sayings heard.lines) own.is own.well)
 
   pub walk_replied : (old new : K) (waited waits : List ℕ) (talker : LiveTalker) (heard : Heard) (line : List ℕ)
@@ -445,7 +438,7 @@ module _ {K : Type 0} (written : K → Option (List ℕ)) (faults : K → ℕ) w
       OnOk result (HasReplied written faults old new waited waits (reply_to heard line))
   walk_replied old new waited waits talker heard line says walk now frame result has some same say =
       let own = answering talker heard line says walk has some in
-      on_ok result _ _ (replied_more old new waited waits talker heard line says walk now has some)
+      on_ok_weaker result (replied_more old new waited waits talker heard line says walk now has some)
       (subst (SayOk old new waited waits walk now says result) same say talker.steps _ (sayings heard.lines) own.is own.well)
 
   pub walk_part : (old new : K) (waited : List ℕ) (talker : LiveTalker) (heard : Heard) (line : List ℕ)
@@ -456,7 +449,7 @@ module _ {K : Type 0} (written : K → Option (List ℕ)) (faults : K → ℕ) w
       ((text : List ℕ) × (reply_to heard line ≡ Ok text) × AppendsPart written faults old new (waited ++ text))
   walk_part old new waited talker heard line says walk frame result has some same say =
       let own = answering talker heard line says walk has some in
-      on_err result _ _ (replied_part old new waited talker heard line says walk has some)
+      on_err_weaker result (replied_part old new waited talker heard line says walk has some)
       (subst (SayPart old new waited walk says result) same say talker.steps _ (sayings heard.lines) own.is own.well)
 
 -- ---- the end of the text

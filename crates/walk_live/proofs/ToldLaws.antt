@@ -1,11 +1,11 @@
 -- Texts that are told one behind the other: each is written, or waits in a block.
-use Rattle.std.proofs.Common.{◌≡◌, ℕ, Bool, true, false, List, [], ◌∷◌, ◌++◌, Option, Some, None, refl, sym, ◌∙◌, ap}
+use Rattle.std.proofs.Common.{◌≡◌, ℕ, Bool, true, false, List, [], ◌∷◌, ◌++◌, Option, sym, ◌∙◌, ap}
 use Rattle.std.proofs.Common.{append-nil, append_assoc, ap₂, codes, decimal, subst, Result, Ok, Err, OnOk}
 use Rattle.hex.specs.Hex.{encode_lower}
 use Rattle.std.proofs.lemmas.Grind.{flat_map-append}
 use Rattle.law_model.specs.Common.{AppendsPart}
 use Rattle.octet_io.proofs.Parts.{AppendsPart-longer, AppendsPart-then}
-use Rattle.text_got.specs.Told.{Holds, Seen, WritesOrWaits, faults_of, known_of, named, seen, told_of}
+use Rattle.text_got.specs.Told.{Holds, Seen, WritesOrWaits, faults_of, known_of, seen}
 use Rattle.text_got.proofs.BlockLaws.{Holds-then, Holds-waits}
 use Rattle.law_live.specs.Common.{got_at_text}
 use Rattle.walk_live.specs.Timed.{timed_texts}
@@ -66,44 +66,6 @@ module _ {K : Type 0} (written : K → Option (List ℕ)) (faults : K → ℕ) w
         appended = stops.appended;
         counted = stops.counted;
       }))
-
-  -- what is told since what a sink told once
-  pub told-named : (x : Option (List ℕ)) → told_of (named x) ≡ x
-  told-named None = refl
-  told-named (Some octets) = refl
-
-  pub told-holds : (failed : Bool) (first now : K) (waiting text : List ℕ) → failed ≡ false →
-      WritesOrWaits failed (seen (told_of (named (written first))) (faults first)) (seen (written now) (faults now))
-      waiting text →
-      Holds written faults first now waiting text
-  told-holds true first now waiting text is told = absurd cc
-  told-holds false first now waiting text is told =
-      let holds : Holds known_of faults_of (seen (written first) (faults first)) (seen (written now) (faults now)) waiting text =
-      subst (λ known. Holds known_of faults_of (seen known (faults first)) (seen (written now) (faults now)) waiting text)
-      (told-named (written first)) told in
-      record {
-        put = holds.put;
-        appends = record { appended = holds.appends.appended; quiet = holds.appends.quiet };
-        all = holds.all;
-      }
-
-  pub told-stops : (failed : Bool) (first now : K) (waiting text : List ℕ) → failed ≡ true →
-      WritesOrWaits failed (seen (told_of (named (written first))) (faults first)) (seen (written now) (faults now))
-      waiting text →
-      AppendsPart written faults first now text
-  told-stops false first now waiting text is told = absurd cc
-  told-stops true first now waiting text is told =
-      let stops : AppendsPart known_of faults_of (seen (written first) (faults first)) (seen (written now) (faults now)) text =
-      subst (λ known. AppendsPart known_of faults_of (seen known (faults first)) (seen (written now) (faults now)) text)
-      (told-named (written first)) told in
-      record {
-        part = stops.part;
-        rest = stops.rest;
-        prefix = stops.prefix;
-        cut = stops.cut;
-        appended = stops.appended;
-        counted = stops.counted;
-      }
 
 -- one frame more
 pub timed-more : (ticks : ℕ) (waited : List ℕ) (frames : List (List ℕ)) (frame : List ℕ) →

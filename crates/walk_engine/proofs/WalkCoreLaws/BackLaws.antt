@@ -1,6 +1,6 @@
 -- A return packet comes to the source.
 use Rattle.std.proofs.Common.{◌≡◌, ℕ, ◌+◌, ◌<◌, nat_le, true, false, Bool, List, [], ◌∷◌, ◌++◌, length, drop, slice_get}
-use Rattle.std.proofs.Common.{Option, Some, option_map, None, refl, sym, ◌∙◌, ap, subst, arith, inl, inr, if◌then◌else◌}
+use Rattle.std.proofs.Common.{Option, Some, option_map, None, refl, sym, ◌∙◌, ap, ap₂, subst, arith, inl, inr, if◌then◌else◌}
 use Rattle.std.specs.List.{range_with_len}
 use Rattle.std.proofs.lemmas.List.{length-map}
 use Rattle.std.proofs.lemmas.List.FromFn.{length-range_with_len}
@@ -64,56 +64,21 @@ come-is leg k = by-lost (is_lost (scenario_by leg) k)
     by-lost true = refl
     by-lost false = refl
 
-pub back-has : (leg : Leg) (s : Counts) (back : Return) → IsSound leg → IsWalked leg s →
+back-has : (leg : Leg) (s : Counts) (back : Return) → IsSound leg → IsWalked leg s →
     HasBack leg s back → (back.ring ≡ [] → ⊥) → back.backs ≡ s.backs →
-    and_moved back ≡ record {
-      ring = return_ring leg (record s { backs = s.backs + 1 });
-      lost = leg.config.lost;
-      inbox = inbox leg
-          (record s { backs = s.backs + 1 });
-      room = leg.config.lag + 1;
-      backs = s.backs + 1;
-    }
+    HasBack leg (record s { backs = s.backs + 1 }) (and_moved back)
 back-has leg s back sound walked has some same =
     let more = some-returned leg s back has some in
     let fits = walk-fits leg s sound walked in
-    let next : Counts = record s { backs = s.backs + 1 } in
-    ap (moved_by back) (has.ring ∙ return_laws.ring-goes leg s more)
-    ∙ ap (λ l. record {
-      ring = return_ring leg next;
-      lost = l;
-      inbox = back.inbox ++ come (is_lost_in l back.backs)
-          (said_packet leg s.backs) ∷ [];
-      room = back.room;
-      backs = back.backs + 1;
-    }) has.lost
-    ∙ ap (λ (cells : List BackCell). record {
-      ring = return_ring leg next;
-      lost = leg.config.lost;
-      inbox = cells;
-      room = back.room;
-      backs =
-          back.backs + 1;
+    subst (λ ring. HasBack leg (record s { backs = s.backs + 1 }) (moved_by back ring))
+    (sym (has.ring ∙ return_laws.ring-goes leg s more)) (record {
+      ring = refl;
+      lost = has.lost;
+      inbox = ap₂ (λ l k. back.inbox ++ come (is_lost_in l k) (said_packet leg s.backs) ∷ []) has.lost same
+          ∙ ap (λ cell. back.inbox ++ cell ∷ []) (come-is leg s.backs)
+          ∙ ap (λ cells. cells ++ back_cell leg s.backs ∷ []) has.inbox ∙ sym (return_laws.inbox-comes leg s fits.used);
+      room = has.room;
     })
-    (ap (λ k. back.inbox ++ come (is_lost_in leg.config.lost k) (said_packet leg s.backs) ∷ []) same
-    ∙ ap (λ cell. back.inbox ++ cell ∷ []) (come-is leg s.backs)
-    ∙ ap (λ cells. cells ++ back_cell leg s.backs ∷ []) has.inbox ∙ sym (return_laws.inbox-comes leg s fits.used))
-    ∙ ap (λ room. record {
-      ring = return_ring leg next;
-      lost = leg.config.lost;
-      inbox = inbox leg next;
-      room = room;
-      backs =
-          back.backs + 1;
-    }) has.room
-    ∙ ap (λ k. record {
-      ring = return_ring leg next;
-      lost = leg.config.lost;
-      inbox = inbox leg next;
-      room =
-          leg.config.lag + 1;
-      backs = k + 1;
-    }) same
 
 -- ---- of a walk
 pub back-stays : (leg : Leg) (s : Counts) (back : Return) → HasBack leg s back → back.ring ≡ [] →
@@ -171,21 +136,12 @@ module _ (leg : Leg) (parts : Parts) (ring : List Packet) (last : Option StepNot
   -- a return packet has come
   module _ (rest : List Packet) (cell : BackCell)
       (there : Some cell ≡ option_map packet_cell (slice_get ring 0)) (left : rest ≡ drop 1 ring) where
-    back-is : path_of rest (with_come parts.source.inbox cell) ≡ record {
-      ring = return_ring leg
-          (record (counts_of parts parts.source.inbox.come)
-          { backs = parts.source.inbox.come + 1 });
-      lost = leg.config.lost;
-      inbox = inbox leg
-          (record (counts_of parts parts.source.inbox.come)
-          { backs = parts.source.inbox.come + 1 });
-      room = leg.config.lag + 1;
-      backs = parts.source.inbox.come + 1;
-    }
-    back-is =
-        popped-back ring rest parts.source.inbox cell there left
-        ∙ back-has leg (counts_of parts parts.source.inbox.come) (path_of ring parts.source.inbox) is.stands.sound
-        is.stands.walked is.back (some-packet ring cell there) refl
+    back-is : HasBack leg (record (counts_of parts parts.source.inbox.come) { backs = parts.source.inbox.come + 1 })
+        (path_of rest (with_come parts.source.inbox cell))
+    back-is = subst (HasBack leg (record (counts_of parts parts.source.inbox.come) { backs = parts.source.inbox.come + 1 }))
+        (sym (popped-back ring rest parts.source.inbox cell there left))
+        (back-has leg (counts_of parts parts.source.inbox.come) (path_of ring parts.source.inbox) is.stands.sound
+        is.stands.walked is.back (some-packet ring cell there) refl)
 
     moves : (record (counts_of parts parts.source.inbox.come) { backs = parts.source.inbox.come + 1 }
         ≡ counts_after leg (counts_of parts parts.source.inbox.come) Back)
@@ -206,9 +162,7 @@ module _ (leg : Leg) (parts : Parts) (ring : List Packet) (last : Option StepNot
       stands = stands-back leg parts.source.inbox.come (parts.source.inbox.come + 1) parts
           (with_come parts.source.inbox cell) is.stands
           (walked-next leg (counts_of parts parts.source.inbox.come) _ Back is.stands.walked back-counts);
-      back = subst (HasBack leg (record (counts_of parts parts.source.inbox.come)
-          { backs = parts.source.inbox.come + 1 })) (sym back-is)
-          (record { ring = refl; lost = refl; inbox = refl; room = refl });
+      back = back-is;
       noted = is.noted;
       quiet = is.quiet;
     }

@@ -1,9 +1,11 @@
 -- A line carries, by its numbers.
 use Rattle.std.proofs.Common.{◌≡◌, ℕ, zero, suc, ◌+◌, ◌-◌, ◌%◌, ◌<◌, ◌≤◌, ◌&&◌, min, nat_le, nat_lt, true, false, List}
 use Rattle.std.proofs.Common.{[], ◌∷◌, length, take, drop, map, slice_get, slice_set, slice_index_or, Option, Some, None, refl}
-use Rattle.std.proofs.Common.{sym}
+use Rattle.std.proofs.Common.{sym, option_map}
 use Rattle.std.proofs.Common.{◌∙◌, ap, subst, arith, inl, inr}
 use Rattle.std.proofs.lemmas.List.{length-take, length-map, length-set, map-set}
+use Rattle.std.proofs.lemmas.Option.{get_or_from_slice_get, slice_get-map}
+use Rattle.std.proofs.Math.Seq.{map-set_same}
 use Rattle.std.specs.Global.{Vec, Box}
 use Rattle.law_model.specs.Common.{container_of, frame_of, Container, Leg, scenario_by, carried_by, cells}
 use Rattle.law_model.specs.Common.{session_cells, LinePath, LineCounts, Plan, Counts, Step, step, carry_at, carry_on}
@@ -13,10 +15,6 @@ use Rattle.law_model.specs.declared.walk_events.StallCause.TheVariants.{Done, Em
 use Rattle.law_model.specs.declared.walk_events.Event.TheVariants.{Carry}
 use Rattle.std.proofs.lemmas.Bool.{cases_lt, cases_Bool, cases_eq, lt-leb, lt-ltb, le-ltb}
 use Rattle.std.specs.List.{range_with_len}
-use Rattle.circular_buffer.proofs.Places.{slice_get-set_other}
-use Rattle.member_rows.proofs.RealignRowsLaws.GatherLaws.{set-here}
-use Rattle.member_rows.specs.realign_rows.Gather.{GatherStands as Gathers}
-use Rattle.terminal_sink.specs.sink_core.Core.{SinkStands as HasTaken}
 use Rattle.law_terminal.proofs.SentLaws.{containers-size}
 use Rattle.law_terminal.proofs.ListLaws.{range-at}
 use Rattle.law_model.specs.declared.window_types.Window.{Window}
@@ -38,7 +36,12 @@ use Rattle.walk_engine.specs.declared.walk_core.step_answers.Moved.TheVariants.{
 use Rattle.walk_engine.specs.walk_core.Parts.{WayStands}
 use Rattle.walk_engine.specs.walk_core.Carry.{HasReceiveRoom}
 use Rattle.walk_engine.proofs.WalkCoreLaws.EventLaws.{walk-fits, walked-next, source-stays, counted-stays}
+use Rattle.walk_engine.proofs.WalkCoreLaws.EventLaws.{sink-stays, set-each}
 use Rattle.walk_engine.proofs.WalkCoreLaws.SendLaws.{sent-carried, counts-here, counts-of, waits-none, waits-some}
+
+pub map-get : {X Y : Type 0} (f : X → Y) (xs : List X) (m : ℕ) (x : X) → slice_get xs m ≡ Some x →
+    slice_get (map f xs) m ≡ Some (f x)
+map-get f xs m x e = slice_get-map f xs m ∙ ap (option_map f) e
 
 -- a line in numbers
 pub record AreNumbers (leg : Leg) (m : ℕ) (line : Ringed) : Type 0 where
@@ -74,16 +77,13 @@ agree-more windows others n k agree own few t low = elim (cases_eq t n) [
 
 pub windows-at : (lines : List Ringed) (m : ℕ) (line : Ringed) → slice_get lines m ≡ Some line →
     slice_index_or (windows_in lines) m [] ≡ line.core.windows
-windows-at [] m line e = absurd cc
-windows-at (y ∷ lines) zero line e = ap windows_of (let h : y ≡ line = cc in h)
-windows-at (y ∷ lines) (suc m) line e = windows-at lines m line e
+windows-at lines m line e =
+    get_or_from_slice_get (windows_in lines) m line.core.windows [] (map-get windows_of lines m line e)
 
 pub windows-set : (lines : List Ringed) (m : ℕ) (line after : Ringed) → slice_get lines m ≡ Some line →
     after.core.windows ≡ line.core.windows → windows_in (slice_set lines m after) ≡ windows_in lines
-windows-set [] m line after e same = absurd cc
-windows-set (y ∷ lines) zero line after e same =
-    ap (λ w. w ∷ windows_in lines) (same ∙ sym (ap windows_of (let h : y ≡ line = cc in h)))
-windows-set (y ∷ lines) (suc m) line after e same = ap (λ ws. y.core.windows ∷ ws) (windows-set lines m line after e same)
+windows-set lines m line after e same =
+    map-set_same windows_of lines m after line (same ∙ sym (ap windows_of (get_or_from_slice_get lines m line line e)))
 
 -- the cells that its carries gave
 pub cells-are : (leg : Leg) (m x : ℕ) → path_cells (calls_on leg m x) ≡ cells_by leg m x
@@ -121,14 +121,6 @@ module _ (leg : Leg) (m ticks : ℕ) (line : Ringed) (has : HasLine leg m line)
   cause : Option StallCause
   cause = carry_cause leg.config.ticks leg.config.ring ticks m (path_on leg m) (line_counts line)
 
-  pub cause-done : IsEnded line.core → Some Done ≡ carry_cause leg.config.ticks leg.config.ring ticks m
-      (path_on leg m) (line_counts line)
-  cause-done ended =
-      let n = numbers leg m line has in
-      let a = n.delay in let b = n.flushed in
-      let e : nat_lt (leg.config.ticks + delay_on leg m) line.carried ≡ true = grind (arith, ended, a, b) in
-      rw e refl
-
   on : (IsEnded line.core → ⊥) → nat_lt (leg.config.ticks + delay_on leg m) line.carried ≡ false
   on open' =
       let n = numbers leg m line has in
@@ -137,16 +129,6 @@ module _ (leg : Leg) (m ticks : ℕ) (line : Ringed) (has : HasLine leg m line)
         | inl past ↦ absurd (open' (omega (arith, past, a, b)))
         | inr early ↦ grind (arith, early)
       ]
-
-  pub cause-empty : (IsEnded line.core → ⊥) → line.core.pushed < line.core.total → ticks ≤ line.carried →
-      Some (Empty m) ≡ carry_cause leg.config.ticks leg.config.ring ticks m (path_on leg m)
-      (line_counts line)
-  cause-empty open' left dry =
-      let n = numbers leg m line has in
-      let a = n.pushed in let b = n.total in
-      let e : nat_lt line.carried leg.config.ticks ≡ true = grind (arith, left, a, b) in
-      let f : nat_le (ticks - min line.carried leg.config.ticks) 0 ≡ true = grind (arith, left, a, b, dry) in
-      rw (on open', e, f) refl
 
   wet : ((line.core.pushed < line.core.total) → ticks ≤ line.carried → ⊥) →
       nat_lt line.carried leg.config.ticks && nat_le (ticks - min line.carried leg.config.ticks) 0 ≡ false
@@ -244,12 +226,6 @@ goes plan s m path line e =
         ])
       ])
     ]
-
-pub map-get : {X Y : Type 0} (f : X → Y) (xs : List X) (m : ℕ) (x : X) → slice_get xs m ≡ Some x →
-    slice_get (map f xs) m ≡ Some (f x)
-map-get f [] m x e = absurd cc
-map-get f (y ∷ xs) zero x e = ap Some (ap f (let h : y ≡ x = cc in h))
-map-get f (y ∷ xs) (suc m) x e = map-get f xs m x e
 
 pub frame-at : (leg : Leg) (m x : ℕ) → m < length leg.config.windows →
     slice_get (frame_of (scenario_by leg) (session_cells (scenario_by leg)) x) m ≡ Some (sent_at leg m x)
@@ -376,25 +352,11 @@ module _ (leg : Leg) (backs : ℕ) (parts : Parts) (is : WayStands leg backs par
                 is.sent here refl line-send changed);
             lines = record {
               size = length-set parts.lines m after ∙ is.lines.size;
-              each = λ k other e. elim (cases_eq k m) [
-                | inl same ↦ subst (λ (l : Ringed). HasLine leg k l)
-                    (sym (set-here parts.lines m after other
-                    (sym (ap (slice_get (slice_set parts.lines m after)) same) ∙ e)))
-                    (subst (λ j. HasLine leg j after) (sym same) has)
-                | inr apart ↦ is.lines.each k other (sym (slice_get-set_other parts.lines m k after apart) ∙ e)
-              ];
+              each = set-each (HasLine leg) parts.lines m after has is.lines.each;
             };
             agrees = λ t before. subst (AgreesAt leg t) (sym (windows-set parts.lines m line after there damage))
                 (is.agrees t before);
-            sink = record {
-              gathers = subst (Gathers parts.rows) cells is.sink.gathers;
-              taken = subst (HasTaken parts.sink) cells is.sink.taken;
-              passed = is.sink.passed;
-              lines = is.sink.lines;
-              all = is.sink.all;
-              size = is.sink.size;
-              options = is.sink.options;
-            };
+            sink = sink-stays leg (counts_of parts backs) _ parts.rows parts.sink cells is.sink;
             landed = counted-stays leg (counts_of parts backs) _ _ _ parts.source.landed is.landed;
             counted = is.counted;
           }

@@ -27,17 +27,23 @@ pub record IsOn (m : ℕ) (was line : Ringed) (before : List (Vec (Box Container
   pub popped : line.popped ≡ was.popped
   pub sent : IsCarriedAt (was.carried % 32) m (map frame_in before) after
 
-module _ (leg : Leg) (backs : ℕ) (parts : Parts) (is : WayStands leg backs parts)
-    (m k : ℕ) (at : k ≡ m) (inside : m < length parts.lines) where
-  pub line-low : m < leg.config.lines
-  line-low = let size = is.lines.size in omega (arith, inside, size)
+module _ (leg : Leg) (backs : ℕ) (was parts : Parts) (view : parts ≡ was) (stands : WayStands leg backs was) (m k : ℕ)
+    (at : k ≡ m) (inside : m < length was.lines) (line : Ringed) (read : line ≡ slice_index_or parts.lines k line) where
+  is : WayStands leg backs parts
+  is = subst (WayStands leg backs) (sym view) stands
 
-  pub line-there : (line : Ringed) → line ≡ slice_index_or parts.lines k line → slice_get parts.lines m ≡ Some line
-  line-there line read =
-      at-index parts.lines m line inside (read ∙ ap (λ j. slice_index_or parts.lines j line) at)
+  low : m < leg.config.lines
+  low = let size = stands.lines.size in omega (arith, inside, size)
 
-  module _ (line : Ringed) (read : line ≡ slice_index_or parts.lines k line) (ticks : ℕ)
-      (now : ticks ≡ parts.source.core.ticks) (found : Option StallCause)
+  there : (other : Ringed) → other ≡ slice_index_or parts.lines k other → slice_get parts.lines m ≡ Some other
+  there other found = at-index parts.lines m other (subst (λ (p : Parts). m < length p.lines) (sym view) inside)
+      (found ∙ ap (λ j. slice_index_or parts.lines j other) at)
+
+  -- the line is the one of that number
+  pub line-read : WayStands leg backs parts × (m < leg.config.lines) × (slice_get parts.lines m ≡ Some line)
+  line-read = (is, low, there line read)
+
+  module _ (ticks : ℕ) (now : ticks ≡ parts.source.core.ticks) (found : Option StallCause)
       (clause : (leg : Leg) → HasLine leg m line → HasReceiveRoom leg m line →
       found ≡ carry_cause leg.config.ticks leg.config.ring ticks m (path_on leg m) (line_counts line))
     where
@@ -46,30 +52,28 @@ module _ (leg : Leg) (backs : ℕ) (parts : Parts) (is : WayStands leg backs par
           (line_counts line)
       cause-is =
           clause leg
-          (line-has leg backs parts is m line-low line (line-there line read))
-          (line-room leg backs parts is m line-low line (line-there line read))
+          (line-has leg backs parts is m low line (there line read))
+          (line-room leg backs parts is m low line (there line read))
           ∙ ap (λ n. carry_cause leg.config.ticks leg.config.ring n m (path_on leg m)
           (line_counts line)) now
 
       pub line-stays : (cause : StallCause) → found ≡ Some cause →
-          Makes leg backs (Carry m) parts parts (Stalled cause)
+          Makes leg backs (Carry m) was was (Stalled cause)
       line-stays cause e =
-          let stays = carry-stays leg backs parts is m line-low line (line-there line read) cause (sym e ∙ cause-is) in
-          record { stands = is; counts = stays.0; moved = stays.1 }
+          let stays = carry-stays leg backs parts is m low line (there line read) cause (sym e ∙ cause-is) in
+          subst (λ (p : Parts). Makes leg backs (Carry m) p p (Stalled cause)) view
+          (record { stands = is; counts = stays.0; moved = stays.1 })
 
       module _ (none : found ≡ None) (can : CanCarry line ticks) (own : Ringed)
           (own_read : own ≡ slice_index_or parts.lines k own) where
         own-is : own ≡ line
-        own-is = same_Some own line (sym (line-there own own_read) ∙ line-there line read)
+        own-is = same_Some own line (sym (there own own_read) ∙ there line read)
 
         own-can : CanCarry own parts.source.core.ticks
         own-can = subst (λ l. CanCarry l parts.source.core.ticks) (sym own-is) (subst (CanCarry line) now can)
 
-        pub line-runs : own.core.flushed ≤ own.core.delay
-        line-runs = own-can.runs
-
-        pub line-free : own.given < own.popped + ring_of own
-        line-free = room-left leg backs parts is m line-low own (line-there own own_read) own-can.room
+        pub line-free : (own.core.flushed ≤ own.core.delay) × (own.given < own.popped + ring_of own)
+        line-free = (own-can.runs, room-left leg backs parts is m low own (there own own_read) own-can.room)
 
         none-is : None
             ≡ carry_cause leg.config.ticks leg.config.ring parts.source.core.ticks m (path_on leg m)
@@ -89,33 +93,36 @@ module _ (leg : Leg) (backs : ℕ) (parts : Parts) (is : WayStands leg backs par
           has : HasLine leg m after
           has =
               by.has leg
-              (line-has leg backs parts is m line-low own (line-there own own_read))
-              (line-sent leg backs parts is m line-low own
-              (line-there own own_read) before same own-can)
-              (known-on leg backs parts is m line-low own (line-there own own_read) own-can)
+              (line-has leg backs parts is m low own (there own own_read))
+              (line-sent leg backs parts is m low own
+              (there own own_read) before same own-can)
+              (known-on leg backs parts is m low own (there own own_read) own-can)
 
           damage : after.core.windows ≡ own.core.windows
-          damage = by.windows leg (line-has leg backs parts is m line-low own (line-there own own_read))
-
-          pub line-damage : windows_in (slice_set parts.lines k after) ≡ windows_in parts.lines
-          line-damage = subst (λ j. windows_in (slice_set parts.lines j after) ≡ windows_in parts.lines) (sym at)
-              (windows-set parts.lines m own after (line-there own own_read) damage)
+          damage = by.windows leg (line-has leg backs parts is m low own (there own own_read))
 
           changed : IsCarriedAt (own.carried % 32) m parts.sent sent
           changed = subst (λ was. IsCarriedAt (own.carried % 32) m was sent) same by.sent
 
-          pub line-carried : Makes leg backs (Carry m) parts
+          pub line-carried : Makes leg backs (Carry m) was
               (record parts { lines = slice_set parts.lines k after; sent = sent }) Yes
-          line-carried = record {
-            stands = carry-kept_at leg backs parts is m line-low own
-                (line-there own own_read) after none-is has by.carried by.popped damage
-                sent changed k at;
-            counts = carry-counts_at leg backs parts is m line-low own
-                (line-there own own_read) after none-is has by.carried by.popped damage
-                sent changed k at;
-            moved = carry-moved leg backs parts is m line-low own
-                (line-there own own_read) after none-is has by.carried by.popped damage;
-          }
+              × (windows_in (slice_set parts.lines k after) ≡ windows_in was.lines)
+          line-carried = (
+            subst (λ (p : Parts). Makes leg backs (Carry m) p
+                (record parts { lines = slice_set parts.lines k after; sent = sent }) Yes) view (record {
+                  stands = carry-kept_at leg backs parts is m low own
+                      (there own own_read) after none-is has by.carried by.popped damage
+                      sent changed k at;
+                  counts = carry-counts_at leg backs parts is m low own
+                      (there own own_read) after none-is has by.carried by.popped damage
+                      sent changed k at;
+                  moved = carry-moved leg backs parts is m low own
+                      (there own own_read) after none-is has by.carried by.popped damage;
+                }),
+            subst (λ j. windows_in (slice_set parts.lines j after) ≡ windows_in parts.lines) (sym at)
+                (windows-set parts.lines m own after (there own own_read) damage)
+                ∙ ap (λ (p : Parts). windows_in p.lines) view,
+          )
 
 -- a leg has a path for each line
 pub paths-size : (leg : Leg) → IsSound leg → length (walk_plan leg).paths ≡ leg.config.lines

@@ -1,5 +1,11 @@
 -- What each event leaves of a walk's counts.
-use Rattle.std.proofs.Common.{◌≡◌, ℕ, List, [], ◌∷◌, ◌++◌, Option, Some, refl, sym, ◌∙◌, ap}
+use Rattle.std.proofs.Common.{◌≡◌, ℕ, List, [], ◌∷◌, ◌++◌, slice_get, slice_set, Option, Some, refl, sym, ◌∙◌, ap}
+use Rattle.std.proofs.Common.{subst, inl, inr}
+use Rattle.std.proofs.lemmas.Bool.{cases_eq}
+use Rattle.circular_buffer.proofs.Places.{slice_get-set_other}
+use Rattle.member_rows.proofs.RealignRowsLaws.GatherLaws.{set-here}
+use Rattle.member_rows.specs.realign_rows.Gather.{Gather, GatherStands as Gathers}
+use Rattle.terminal_sink.specs.sink_core.Core.{Core, SinkStands as HasTaken}
 use Rattle.law_model.specs.Common.{Leg, LineCounts, Counts, run, begin, IsSound}
 use Rattle.law_model.specs.declared.walk_events.Event.{Event}
 use Rattle.law_model.specs.declared.walk_events.StallCause.{StallCause}
@@ -7,7 +13,7 @@ use Rattle.law_model.specs.declared.item_refusals.Refusal.{Refusal}
 use Rattle.law_progress.specs.Progress.{Fits}
 use Rattle.law_progress.proofs.MoveLaws.{reached-fits}
 use Rattle.law_progress.proofs.ReachLaws.{run-append}
-use Rattle.law_walk.specs.Common.{walk_plan, IsWalked, refusals_of}
+use Rattle.law_walk.specs.Common.{walk_plan, IsWalked, refusals_of, popped_cells}
 use Rattle.law_walk.proofs.PlanLaws.{has-plan, sound-walks}
 use Rattle.terminal_group.specs.Landed.{Landed}
 use Rattle.terminal_group.specs.declared.landed_counts.LandedCounts.{LandedCounts}
@@ -15,7 +21,7 @@ use Rattle.terminal_source.specs.source_core.Terminal.{Terminal}
 use Rattle.walk_engine.specs.Common.{answer_by, counts_after, Parts, counts_of, HasSource, HasCounted, HasLanded}
 use Rattle.walk_engine.specs.declared.walk_core.step_answers.Moved.TheVariants.{Stalled}
 use Rattle.terminal_group.specs.Inbox.{Inbox}
-use Rattle.walk_engine.specs.walk_core.Parts.{WayStands}
+use Rattle.walk_engine.specs.walk_core.Parts.{HasSink, WayStands}
 
 pub walked-next : (leg : Leg) (s next : Counts) (event : Event) → IsWalked leg s →
     next ≡ counts_after leg s event → IsWalked leg next
@@ -45,6 +51,28 @@ module _ (leg : Leg) (s : Counts) (lines : List LineCounts) (rows backs : ℕ) w
       HasCounted leg (record s { lines = lines; rows = rows; backs = backs }) landed
   counted-stays landed has = record { frames = has.frames; commands = has.commands; refused = has.refused }
 
+-- the sink, where no cells were popped
+pub sink-stays : (leg : Leg) (s next : Counts) (rows : Gather) (sink : Core) →
+    popped_cells leg s.lines ≡ popped_cells leg next.lines → HasSink leg s rows sink → HasSink leg next rows sink
+sink-stays leg s next rows sink cells has = record {
+  gathers = subst (Gathers rows) cells has.gathers;
+  taken = subst (HasTaken sink) cells has.taken;
+  passed = has.passed;
+  lines = has.lines;
+  all = has.all;
+  size = has.size;
+  options = has.options;
+}
+
+-- what each element of a list is that gets another one in a place
+pub set-each : {X : Type 0} (P : ℕ → X → Type 0) (xs : List X) (m : ℕ) (x : X) → P m x →
+    ((k : ℕ) (y : X) → slice_get xs k ≡ Some y → P k y) → (k : ℕ) (y : X) → slice_get (slice_set xs m x) k ≡ Some y → P k y
+set-each P xs m x new old k y e = elim (cases_eq k m) [
+  | inl at ↦ subst (λ j. P j y) (sym at)
+      (subst (P m) (sym (set-here xs m x y (sym (ap (slice_get (slice_set xs m x)) at) ∙ e))) new)
+  | inr apart ↦ old k y (sym (slice_get-set_other xs m k x apart) ∙ e)
+]
+
 -- what has landed of the items, where so many have landed as before
 pub landing-stays : (leg : Leg) (s next : Counts) (landing : Landed) → next.frames ≡ s.frames →
     next.commands ≡ s.commands → HasLanded leg s landing → HasLanded leg next landing
@@ -68,15 +96,7 @@ stands-back leg backs next parts inbox is walked = record {
   sent = is.sent;
   lines = is.lines;
   agrees = is.agrees;
-  sink = record {
-    gathers = is.sink.gathers;
-    taken = is.sink.taken;
-    passed = is.sink.passed;
-    lines = is.sink.lines;
-    all = is.sink.all;
-    size = is.sink.size;
-    options = is.sink.options;
-  };
+  sink = sink-stays leg (counts_of parts backs) _ parts.rows parts.sink refl is.sink;
   landed = counted-stays leg (counts_of parts backs) _ _ _ parts.source.landed is.landed;
   counted = is.counted;
 }

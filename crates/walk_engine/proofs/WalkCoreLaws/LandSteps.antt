@@ -45,7 +45,7 @@ use Rattle.walk_engine.specs.Common.{told_scenario, Makes, IsDue, Walking, LiveS
 use Rattle.walk_engine.specs.Common.{refusal_of_item}
 use Rattle.walk_engine.specs.declared.walk_core.step_answers.Moved.TheVariants.{Stalled}
 use Rattle.walk_engine.specs.walk_core.Parts.{WayStands}
-use Rattle.walk_engine.proofs.WalkCoreLaws.EventLaws.{walk-fits, walked-next}
+use Rattle.walk_engine.proofs.WalkCoreLaws.EventLaws.{walk-fits, walked-next, sink-stays}
 use Rattle.walk_engine.proofs.WalkCoreLaws.ToldLaws.{told-source, told-stream}
 use Rattle.walk_engine.proofs.WalkCoreLaws.LandLaws.{IsNext, frame-next, command-next, answer_of, next-cause}
 use Rattle.walk_engine.proofs.WalkCoreLaws.LandLaws.{next-stays, next-moves}
@@ -206,56 +206,37 @@ module _ (leg : Leg) (backs : ℕ) (parts : Parts) (is : WayStands leg backs par
     sent = subst (λ t. HasSent leg t (map line_counts parts.lines) parts.sent) (sym ticks) is.sent;
     lines = is.lines;
     agrees = λ t low. is.agrees t (omega (arith, low, ticks));
-    sink = record {
-      gathers = is.sink.gathers;
-      taken = is.sink.taken;
-      passed = is.sink.passed;
-      lines = is.sink.lines;
-      all = is.sink.all;
-      size = is.sink.size;
-      options = is.sink.options;
-    };
+    sink = sink-stays leg (counts_of parts backs) _ parts.rows parts.sink refl is.sink;
     landed = subst (λ (c : Counts). HasCounted leg c now.landed) e has;
     counted = is.counted;
   }
 
 -- ---- the counts and the totals, where one has landed more
-told-frame : (why : Option Refusal) (was now : Totals) (frames commands a b : ℕ) → now ≡ with_frame_told why was →
-    frames ≡ was.frames + a → commands ≡ was.commands + b → was.refused ≡ a + b → a < 4294967295 →
-    (frames + 1 ≡ now.frames + and_one a (is_some why && true))
-    × (commands ≡ now.commands + and_one b (is_some why && not true))
-    × (now.refused ≡ and_one a (is_some why && true) + and_one b (is_some why && not true))
-told-frame None was now frames commands a b told f g r low =
+told-landed : (client : Bool) (why : Option Refusal) (was now : Totals) (s : Counts) (a b : ℕ) →
+    now ≡ tell_by client why was → s.frames ≡ was.frames + a → s.commands ≡ was.commands + b →
+    was.refused ≡ a + b → a < 4294967295 → b < 4294967295 →
+    ((and_landed client s).frames ≡ now.frames + and_one a (is_some why && client))
+    × ((and_landed client s).commands ≡ now.commands + and_one b (is_some why && not client))
+    × (now.refused ≡ and_one a (is_some why && client) + and_one b (is_some why && not client))
+told-landed true None was now s a b told f g r low few =
     rw told (omega (arith, f), omega (arith, g), omega (arith, r))
-told-frame (Some why) was now frames commands a b told f g r low =
+told-landed true (Some why) was now s a b told f g r low few =
     rw told (omega (arith, f, low), omega (arith, g), omega (arith, r, low))
-
-told-command : (why : Option Refusal) (was now : Totals) (frames commands a b : ℕ) →
-    now ≡ with_command_told why was →
-    frames ≡ was.frames + a → commands ≡ was.commands + b → was.refused ≡ a + b → b < 4294967295 →
-    (frames ≡ now.frames + and_one a (is_some why && false))
-    × (commands + 1 ≡ now.commands + and_one b (is_some why && not false))
-    × (now.refused ≡ and_one a (is_some why && false) + and_one b (is_some why && not false))
-told-command None was now frames commands a b told f g r low =
+told-landed false None was now s a b told f g r low few =
     rw told (omega (arith, f), omega (arith, g), omega (arith, r))
-told-command (Some why) was now frames commands a b told f g r low =
-    rw told (omega (arith, f), omega (arith, g, low), omega (arith, r, low))
+told-landed false (Some why) was now s a b told f g r low few =
+    rw told (omega (arith, f), omega (arith, g, few), omega (arith, r, few))
 
 has-counted : (client : Bool) (leg : Leg) (was : Counts) (landed : LandedCounts) (why : Option Refusal) →
     was.frames ≤ longest_input → was.commands ≤ longest_input → HasCounted leg was landed →
     totals_of leg (and_landed client was) ≡ tell_by client why (totals_of leg was) →
     HasCounted leg (and_landed client was) (with_landed landed client (is_some why))
-has-counted true leg was landed why low few has told =
+has-counted client leg was landed why low few has told =
     let frames = has.frames in
-    let t = told-frame why (totals_of leg was) (totals_of leg (and_landed true was)) was.frames was.commands
-    landed.refused_frames landed.refused_commands told has.frames has.commands has.refused
-    (omega (arith, low, frames)) in
-    record { frames = t.0; commands = t.1; refused = t.2 }
-has-counted false leg was landed why low few has told =
     let commands = has.commands in
-    let t = told-command why (totals_of leg was) (totals_of leg (and_landed false was)) was.frames was.commands
-    landed.refused_frames landed.refused_commands told has.frames has.commands has.refused
-    (omega (arith, few, commands)) in
+    let t = told-landed client why (totals_of leg was) (totals_of leg (and_landed client was)) was landed.refused_frames
+    landed.refused_commands told frames commands has.refused (omega (arith, low, frames)) (omega (arith, few, commands))
+    in
     record { frames = t.0; commands = t.1; refused = t.2 }
 
 counts-landed : (client refused : Bool) (s : Counts) (landed : LandedCounts) → s.frames ≡ landed.frames →

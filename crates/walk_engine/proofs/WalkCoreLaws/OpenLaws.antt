@@ -7,7 +7,7 @@ use Rattle.std.specs.Global.{Vec, Box}
 use Rattle.std.proofs.lemmas.Bool.{cases_Bool}
 use Rattle.std.proofs.lemmas.List.{length-map, length_push}
 use Rattle.std.proofs.lemmas.List.FromFn.{length-range_with_len}
-use Rattle.law_model.proofs.ListLaws.{get-last}
+use Rattle.law_model.proofs.ListLaws.{get-last, slice_get-inside}
 use Rattle.law_model.specs.Common.{Container, Cell, Leg, scenario_by, offers_of, orders_of, segments_on, rows_of}
 use Rattle.law_model.specs.Common.{delineate_within, hunt_within, cells_before, IsSound, LineCounts, Counts, begin}
 use Rattle.law_model.specs.Common.{used_in, in_return, in_inbox}
@@ -37,6 +37,7 @@ use Rattle.walk_engine.specs.Common.{HasBack, HasCounted, HasLanded, counts_of, 
 use Rattle.walk_engine.specs.Common.{HasWindows, LiveStands, walking_of, told_scenario, windows_in}
 use Rattle.walk_engine.specs.declared.walk_core.open_way.Opened.{Opened}
 use Rattle.walk_engine.specs.walk_core.Parts.{WayStands}
+use Rattle.walk_engine.proofs.WalkCoreLaws.CarryLaws.{windows-at}
 
 -- ---- the lines
 
@@ -225,10 +226,8 @@ new-on leg config all is alike =
 windows-each : (windows : ℕ → List Window) (lines : List Ringed) →
     ((m : ℕ) (line : Ringed) → slice_get lines m ≡ Some line → line.core.windows ≡ windows m) →
     (m : ℕ) → m < length lines → slice_index_or (windows_in lines) m [] ≡ windows m
-windows-each windows [] each m low = absurd (omega (arith, low))
-windows-each windows (line ∷ lines) each zero low = each 0 line refl
-windows-each windows (line ∷ lines) each (suc m) low =
-    windows-each (λ k. windows (suc k)) lines (λ k other e. each (suc k) other e) m (omega (arith, low))
+windows-each windows lines each m low =
+    let (line, there) = slice_get-inside lines m low in windows-at lines m line there ∙ each m line there
 
 -- the lines have the windows of their configuration
 pub new-windows : (config : Config) (all : Opened) → IsNew config all → HasWindows config all.paths.lines.items

@@ -5,11 +5,13 @@ use Rattle.std.proofs.Common.{◌++◌, length, replicate, drop, slice_get, Opti
 use Rattle.std.proofs.Common.{arith, append_assoc}
 use Rattle.std.proofs.lemmas.Option.{slice_get_within}
 use Rattle.std.proofs.lemmas.Bool.{cases_Bool}
-use Rattle.std.proofs.lemmas.List.{append-nil, drop_all}
+use Rattle.std.proofs.lemmas.List.{append-nil, drop_all, replicate-append-replicate}
+use Rattle.std.proofs.Math.Seq.{drop-append_seam}
 use Rattle.law_model.specs.Common.{Leg, Due, frame_due, command_due, LinePath, LineCounts, Plan, Counts, Step, in_send}
 use Rattle.law_model.specs.Common.{in_receive, in_return, held, full, is_missing, tick_full, tick_held, carry_at}
 use Rattle.law_model.specs.Common.{pop_lines, take_popped, is_back_full, tick, take_row, land_due, frame_dues}
-use Rattle.law_model.specs.Common.{command_dues, step, run, carries_from, round, drain, bound, IsSound, Start}
+use Rattle.law_model.specs.Common.{command_dues, step, run, carries_from, round, drain, bound, IsSound, Start, leg_of}
+use Rattle.law_model.specs.declared.script_types.Script.{Script}
 use Rattle.law_model.specs.declared.walk_events.Event.{Event}
 use Rattle.law_model.specs.declared.walk_events.Event.TheVariants.{Accept, Tick, Carry, Back, Take, Command}
 use Rattle.law_model.specs.declared.walk_events.StallCause.{StallCause}
@@ -23,7 +25,7 @@ use Rattle.law_walk.specs.Common.{walk_plan, IsWalked, delivered_of}
 use Rattle.law_walk.proofs.PlanLaws.{has-plan, sound-walks}
 use Rattle.law_walk.proofs.FrameLaws.{frames-grow}
 use Rattle.walk_engine.specs.Common.{delivered_since, answer_by, moved_of, counts_after, refusal_in_event, GivesRows}
-use Rattle.walk_engine.specs.Common.{landing_of}
+use Rattle.walk_engine.specs.Common.{landing_of, Walked}
 use Rattle.walk_engine.specs.declared.walk_core.step_answers.Moved.{Moved}
 use Rattle.walk_engine.specs.declared.walk_core.step_answers.Moved.TheVariants.{Yes, Stalled, Refused}
 use Rattle.walk_engine.proofs.WalkCoreLaws.EventLaws.{walk-fits}
@@ -47,9 +49,7 @@ carry-last plan s paths m h = rw (drop_all m paths h) refl
 
 -- ---- items land until they stall
 pub replicate-add : {X : Type 0} (a b : ℕ) (x : X) → replicate (a + b) x ≡ replicate a x ++ replicate b x
-replicate-add zero b x = ap (λ n. replicate n x) (let e : 0 + b ≡ b = omega arith in e)
-replicate-add (suc a) b x = ap (λ n. replicate n x) (let e : suc a + b ≡ suc (a + b) = omega arith in e)
-    ∙ ap (λ l. x ∷ l) (replicate-add a b x)
+replicate-add a b x = sym (replicate-append-replicate a b x)
 
 run-same : (plan : Plan) (s : Counts) (event : Event) (k : ℕ) → (step plan s event).counts ≡ s →
     run plan s (replicate k event) ≡ s
@@ -312,10 +312,6 @@ take-rises plan s =
     ]
 
 -- ---- the frames of more rows
-drop-append : {X : Type 0} (xs ys : List X) → drop (length xs) (xs ++ ys) ≡ ys
-drop-append [] ys = refl
-drop-append (x ∷ xs) ys = drop-append xs ys
-
 since : (leg : Leg) (n more : ℕ) → n ≤ more →
     delivered_of leg more ≡ delivered_of leg n ++ delivered_since leg n more
 since leg n more low =
@@ -329,11 +325,11 @@ since-then leg a b d low high =
     ap (drop (length (delivered_of leg a)))
     (since leg b d high ∙ ap (λ xs. xs ++ delivered_since leg b d) (since leg a b low)
     ∙ append_assoc (delivered_of leg a) (delivered_since leg a b) (delivered_since leg b d))
-    ∙ drop-append (delivered_of leg a) (delivered_since leg a b ++ delivered_since leg b d)
+    ∙ drop-append_seam (delivered_of leg a) (delivered_since leg a b ++ delivered_since leg b d)
 
 pub since-none : (leg : Leg) (a : ℕ) → delivered_since leg a a ≡ []
 since-none leg a = ap (drop (length (delivered_of leg a))) (sym (append-nil (delivered_of leg a)))
-    ∙ drop-append (delivered_of leg a) []
+    ∙ drop-append_seam (delivered_of leg a) []
 
 -- ---- the rows of a round
 pub tick-kept : (leg : Leg) (s t : Counts) → t ≡ counts_after leg s Tick → t.rows ≡ s.rows
@@ -351,7 +347,7 @@ step-rises leg s (Carry m) = let e = carry-rows leg s m in omega (arith, e)
 step-rises leg s Back = let e = back-rows s in omega (arith, e)
 step-rises leg s Take = take-rises (walk_plan leg) s
 
-pub run-rises : (leg : Leg) (s : Counts) (events : List Event) → s.rows ≤ (run (walk_plan leg) s events).rows
+run-rises : (leg : Leg) (s : Counts) (events : List Event) → s.rows ≤ (run (walk_plan leg) s events).rows
 unfolding run
 run-rises leg s [] = omega arith
 run-rises leg s (event ∷ events) =
@@ -359,9 +355,49 @@ run-rises leg s (event ∷ events) =
     let rest = run-rises leg (counts_after leg s event) events in
     omega (arith, one, rest)
 
-pub all-taken : (leg : Leg) (s : Counts) → IsSound leg → IsWalked leg s → leg.config.ticks ≤ s.rows →
-    s.rows ≡ leg.config.ticks
-all-taken leg s sound walked shut = let most = (walk-fits leg s sound walked).rows in omega (arith, most, shut)
+-- ---- of the walk of a script, as it is and as its view says, after some rounds, which left the script
+module _ (was now : Walked) (view : was ≡ now) (script : Script) (same : now.script ≡ script)
+    (sound : IsSound (leg_of was.script)) (walked : IsWalked (leg_of was.script) was.counts) where
+  abbrev plan : Plan
+  plan = walk_plan (leg_of script)
+
+  here : was.script ≡ script
+  here = ap (λ (w : Walked). w.script) view ∙ same
+
+  own : IsSound (leg_of script) × IsWalked (leg_of script) now.counts
+  own = subst (λ (x : Script). IsSound (leg_of x) × IsWalked (leg_of x) now.counts) here
+      (sound, subst (λ (w : Walked). IsWalked (leg_of was.script) w.counts) view walked)
+
+  seen-rows : was.counts.rows ≡ now.counts.rows
+  seen-rows = ap (λ (w : Walked). w.counts.rows) view
+
+  seen-ticks : was.script.config.ticks ≡ script.config.ticks
+  seen-ticks = ap (λ (x : Script). x.config.ticks) here
+
+  -- a round more
+  pub script-turn : was.counts.rows < was.script.config.ticks → (next : Counts) →
+      next ≡ run (walk_plan (leg_of now.script)) now.counts (round (walk_plan (leg_of now.script))) →
+      ((bound (walk_plan (leg_of script)) - made next < bound (walk_plan (leg_of script)) - made now.counts)
+      × (drain (bound (walk_plan (leg_of script))) (walk_plan (leg_of script)) next
+      ≡ drain (bound (walk_plan (leg_of script))) (walk_plan (leg_of script)) now.counts))
+      × (now.counts.rows ≤ next.rows)
+  script-turn open_ next is =
+      let after : next ≡ run plan now.counts (round plan) = is
+      ∙ ap (λ (x : Script). run (walk_plan (leg_of x)) now.counts (round (walk_plan (leg_of x)))) same in
+      let rises = run-rises (leg_of script) now.counts (round plan) in
+      let count = ap (λ (s : Counts). s.rows) after in (
+        round-turn (leg_of script) now.counts next own.0 own.1 (omega (arith, open_, seen-rows, seen-ticks)) after,
+        omega (arith, rises, count),
+      )
+
+  -- the last round was made
+  pub script-end : was.script.config.ticks ≤ was.counts.rows → (whole : Counts) →
+      drain (bound (walk_plan (leg_of script))) (walk_plan (leg_of script)) now.counts ≡ whole →
+      (now.counts ≡ whole) × (now.counts.rows ≡ script.config.ticks)
+  script-end shut whole so =
+      let past : script.config.ticks ≤ now.counts.rows = omega (arith, shut, seen-rows, seen-ticks) in
+      let most = (walk-fits (leg_of script) now.counts own.0 own.1).rows in
+      (drained-end (leg_of script) now.counts whole past so, omega (arith, past, most))
 
 -- ---- a place that is given the frames of rows
 pub gives-none : {Out : Type 0} (stands_for : Out → Start → List (List ℕ) → Type 0) (out : Out) (leg : Leg)

@@ -4,7 +4,7 @@ use Rattle.std.proofs.Common.{length, slice_get, slice_set, slice_index_or, Some
 use Rattle.std.proofs.Common.{inr, swap, length-set, option_map}
 use Rattle.std.specs.Global.{Vec, Box}
 use Rattle.std.proofs.lemmas.Bool.{cases_eq}
-use Rattle.std.proofs.lemmas.List.{length-map, map-set}
+use Rattle.std.proofs.lemmas.List.{length-map, map-set, get_or-set_same}
 use Rattle.std.proofs.lemmas.Option.{get_or_from_slice_get, slice_get_within, slice_get_past, slice_get-map, same_Some}
 use Rattle.std.proofs.lemmas.List.FromFn.{take-map-range_with_len}
 use Rattle.std.proofs.lemmas.List.Edits.{length-swap}
@@ -55,15 +55,11 @@ set-carries (x ∷ lines) (suc m) (suc k) line more there grows = set-carries li
 
 pub counts-here : (lines : List LineCounts) (m : ℕ) (line : LineCounts) → slice_get lines m ≡ Some line →
     counts_at lines m ≡ line
-counts-here [] m line there = absurd cc
-counts-here (x ∷ lines) zero line there = cc
-counts-here (x ∷ lines) (suc m) line there = counts-here lines m line there
+counts-here lines m line there = get_or_from_slice_get lines m line _ there
 
 counts-set : (lines : List LineCounts) (m : ℕ) (line more : LineCounts) → slice_get lines m ≡ Some line →
     counts_at (slice_set lines m more) m ≡ more
-counts-set [] m line more there = absurd cc
-counts-set (x ∷ lines) zero line more there = refl
-counts-set (x ∷ lines) (suc m) line more there = counts-set lines m line more there
+counts-set lines m line more there = get_or-set_same lines m more _ (slice_get_within lines m line there)
 
 -- ---- a line that has carried one container more
 other-place : (x t ticks : ℕ) → x + 1 ≤ t → t < ticks → ticks ≤ x + 32 → t % 32 ≡ x % 32 → ⊥
@@ -159,9 +155,8 @@ swap-from (d ∷ ys) a b k x low under told =
 
 pub counts-of : (lines : List Ringed) (m : ℕ) (line : Ringed) → slice_get lines m ≡ Some line →
     counts_at (map line_counts lines) m ≡ line_counts line
-counts-of [] m line there = absurd cc
-counts-of (x ∷ lines) zero line there = ap line_counts (let h : x ≡ line = cc in h)
-counts-of (x ∷ lines) (suc m) line there = counts-of lines m line there
+counts-of lines m line there = counts-here (map line_counts lines) m (line_counts line)
+    (slice_get-map line_counts lines m ∙ ap (option_map line_counts) there)
 
 -- where each line has carried all frames
 pub sent-swapped : (leg : Leg) (ticks : ℕ) (lines : List Ringed) (sent : List (Vec (Box Container)))

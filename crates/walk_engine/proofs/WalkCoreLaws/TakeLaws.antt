@@ -1,18 +1,17 @@
 -- What a Take pops, by the counts.
 use Rattle.std.proofs.Common.{IsSome, ◌↔◌, is_some, ◌≡◌, ℕ, zero, suc, ◌+◌, ◌-◌, ◌<◌, ◌≤◌, nat_le, Bool, true, false}
-use Rattle.std.proofs.Common.{inl, inr, List, [], ◌∷◌, map, take, length, slice_get, slice_set, Option, Some, None}
+use Rattle.std.proofs.Common.{inl, inr, List, [], ◌∷◌, map, take, length, slice_get, slice_set, Some, None}
 use Rattle.std.proofs.Common.{is_none, refl, sym, ◌∙◌, ap, ap₂, subst, arith, if◌then◌else◌, le-leb, length-set}
 use Rattle.std.specs.List.{range_with_len}
-use Rattle.std.proofs.lemmas.Bool.{cases_Bool, cases_lt, cases_eq, lt-leb}
-use Rattle.std.proofs.lemmas.List.{length-map, map-set}
+use Rattle.std.proofs.lemmas.Bool.{cases_Bool, cases_lt, lt-leb}
+use Rattle.std.proofs.lemmas.List.{length-map, map-set, get_or-set_same, get_or-set_other}
 use Rattle.std.proofs.lemmas.Option.{slice_get_within, same_Some}
 use Rattle.walk_engine.proofs.WalkCoreLaws.SendLaws.{counts-here}
-use Rattle.law_model.specs.Common.{Container, Cell, Leg, cells, verdict, scenario_by, carried_by, LinePath, LineCounts}
+use Rattle.law_model.specs.Common.{Cell, Leg, cells, verdict, scenario_by, carried_by, LinePath, LineCounts}
 use Rattle.law_model.specs.Common.{Popped, pop, popped_line, pop_lines, with_line, in_receive}
 use Rattle.member_path.specs.path_delay.Line.{path_cells}
 use Rattle.law_terminal.proofs.ListLaws.{range-at}
-use Rattle.circular_buffer.proofs.Places.{slice_get-set_other}
-use Rattle.member_rows.proofs.RealignRowsLaws.GatherLaws.{set-here}
+use Rattle.circular_buffer.proofs.Places.{slice_get-set_same}
 use Rattle.member_rows.specs.realign_rows.Gather.{Gather, GatherStands as Gathers}
 use Rattle.law_walk.specs.Common.{walk_plan, CanWalk, counts_at, popped_on, popped_cells, path_on, delay_on, line_cells}
 use Rattle.law_walk.specs.Common.{AreDecidedBefore, taken_by, cells_by}
@@ -25,13 +24,8 @@ use Rattle.member_path.specs.path_delay.Line.{Line, with_windows}
 use Rattle.walk_engine.specs.Common.{calls_on, windows_on}
 use Rattle.walk_engine.specs.Common.{Ringed, Has, IsNext, IsPopped, popped_until, leaves_open}
 use Rattle.walk_engine.specs.Common.{popped_cells as own_cells, calls_of, line_counts, HasLine, CanPop, HasPopped}
+use Rattle.walk_engine.proofs.WalkCoreLaws.EventLaws.{set-each}
 use Rattle.walk_engine.proofs.WalkCoreLaws.CarryLaws.{carries, numbers, map-get, path-same}
-
--- the first cells of all that a line gives are those that some carries give, where these give as many
-first-cells : (leg : Leg) (line x y : ℕ) → x ≤ leg.config.ticks + delay_on leg line + 1 →
-    y ≤ (path_on leg line).given x →
-    take y (line_cells leg line) ≡ take y (cells_by leg line x)
-first-cells leg line x y low inside = line-first leg line x y low inside
 
 -- ---- the counts of lines that are popped
 pop-shut : (k : ℕ) (path : LinePath) (t y : ℕ) → t < path.decided y → pop k path t y ≡ y
@@ -150,17 +144,11 @@ pops-set t k (suc m) (p ∷ paths) (l ∷ lines) path line has here ahead fits =
 
 -- ---- the cells that were popped
 set-at : (lines : List LineCounts) (m : ℕ) (x : LineCounts) → m < length lines → counts_at (slice_set lines m x) m ≡ x
-set-at [] m x low = absurd (omega (arith, low))
-set-at (l ∷ lines) zero x low = refl
-set-at (l ∷ lines) (suc m) x low = set-at lines m x (omega (arith, low))
+set-at lines m x low = get_or-set_same lines m x _ low
 
 set-beside : (lines : List LineCounts) (m k : ℕ) (x : LineCounts) → (k ≡ m → ⊥) →
     counts_at (slice_set lines m x) k ≡ counts_at lines k
-set-beside [] m k x apart = refl
-set-beside (l ∷ lines) zero zero x apart = absurd (apart refl)
-set-beside (l ∷ lines) zero (suc k) x apart = refl
-set-beside (l ∷ lines) (suc m) zero x apart = refl
-set-beside (l ∷ lines) (suc m) (suc k) x apart = set-beside lines m k x (λ e. apart (ap suc e))
+set-beside lines m k x apart = get_or-set_other lines m k x _ apart
 
 map-beside : {X : Type 0} (f g : ℕ → X) (from n : ℕ) → ((k : ℕ) → from ≤ k → g k ≡ f k) →
     map g (range_with_len from n) ≡ map f (range_with_len from n)
@@ -195,14 +183,6 @@ cells-set leg lines m x low inside =
     (set-beside lines m k x (λ same. apart (same ∙ sym e))))
 
 -- ---- a line that is popped
-to-some : (v : Option (Option Container)) → is_some v ≡ true → IsSome v
-to-some (Some told) e = refl
-to-some None e = absurd (let f : false ≡ true = e in cc)
-
-from-some : (v : Option (Option Container)) → is_some v ≡ false → IsSome v → ⊥
-from-some (Some told) e some = absurd (let f : true ≡ false = e in cc)
-from-some None e some = let f : false ≡ true = some in cc
-
 until-below : (k : ℕ) (is_open : ℕ → Bool) (y : ℕ) → popped_until k is_open y ≤ y + k
 unfolding popped_until
 until-below zero is_open y = omega arith
@@ -281,7 +261,7 @@ module _ (leg : Leg) (was now : List Ringed) (rows : Gather) (m : ℕ) (has : Po
 
   first : (y : ℕ) → y ≤ line.given → take y (path_cells (calls_of leg m line)) ≡ take y (line_cells leg m)
   first y low = ap (take y) path-is
-      ∙ sym (first-cells leg m line.carried y (has.can.carries m line there) (subst (λ n. y ≤ n) given-is low))
+      ∙ sym (line-first leg m line.carried y (has.can.carries m line there) (subst (λ n. y ≤ n) given-is low))
 
   open-is : (y : ℕ) → y ≤ line.given →
       leaves_open (path_cells (calls_of leg m line)) rows.rows y ≡ nat_le
@@ -354,28 +334,14 @@ module _ (leg : Leg) (was now : List Ringed) (rows : Gather) (m : ℕ) (has : Po
       can = has.can.can;
       lines = record {
         size = length-set now m after ∙ has.can.lines.size;
-        each = λ k other e. elim (cases_eq k m) [
-          | inl same ↦ subst (HasLine leg k)
-              (sym (set-here now m after other (subst (λ j. slice_get (slice_set now m after) j ≡ Some other) same e)))
-              (subst (λ j. HasLine leg j after) (sym same) has-after)
-          | inr apart ↦ has.can.lines.each k other (sym (slice_get-set_other now m k after apart) ∙ e)
-        ];
+        each = set-each (HasLine leg) now m after has-after has.can.lines.each;
       };
       size = length-set now m after ∙ has.can.size;
-      pops = λ k other e. elim (cases_eq k m) [
-        | inl same ↦ subst (λ (l : Ringed). l.popped ≤ l.given)
-            (sym (set-here now m after other (subst (λ j. slice_get (slice_set now m after) j ≡ Some other) same e)))
-            (subst (λ n. after.popped ≤ n) (sym others.given) after-low)
-        | inr apart ↦ has.can.pops k other (sym (slice_get-set_other now m k after apart) ∙ e)
-      ];
-      carries = λ k other e. elim (cases_eq k m) [
-        | inl same ↦ subst (λ (l : Ringed). l.carried ≤ leg.config.ticks + delay_on leg k + 1)
-            (sym (set-here now m after other (subst (λ j. slice_get (slice_set now m after) j ≡ Some other) same e)))
-            (subst (λ j. after.carried ≤ leg.config.ticks + delay_on leg j + 1) (sym same)
-            (subst (λ n. n ≤ leg.config.ticks + delay_on leg m + 1) (sym carried-is)
-            (has.can.carries m line there)))
-        | inr apart ↦ has.can.carries k other (sym (slice_get-set_other now m k after apart) ∙ e)
-      ];
+      pops = set-each (λ k (l : Ringed). l.popped ≤ l.given) now m after
+          (subst (λ n. after.popped ≤ n) (sym others.given) after-low) has.can.pops;
+      carries = set-each (λ k (l : Ringed). l.carried ≤ leg.config.ticks + delay_on leg k + 1) now m after
+          (subst (λ n. n ≤ leg.config.ticks + delay_on leg m + 1) (sym carried-is) (has.can.carries m line there))
+          has.can.carries;
       row = subst (λ t. t < leg.config.ticks) (sym row) has.can.row;
       gathers = subst (Gathers rows')
           (sym (ap (popped_cells leg) set-is
@@ -430,7 +396,7 @@ module _ (leg : Leg) (was now : List Ringed) (rows : Gather) (m : ℕ) (has : Po
             subst (λ k. rows'.rows < (path_on leg k).decided
             (counts_at (map line_counts (slice_set now m after)) k).popped) (sym same)
             (subst (λ (l : LineCounts). rows'.rows < (path_on leg m).decided l.popped) (sym at-after)
-            (subst (λ t. t < (path_on leg m).decided after.popped) (sym row) (decided-by.0 (to-some _ (sym told)))))
+            (subst (λ t. t < (path_on leg m).decided after.popped) (sym row) (decided-by.0 (sym told))))
       ];
       same = popped-same;
     }
@@ -440,12 +406,12 @@ module _ (leg : Leg) (was now : List Ringed) (rows : Gather) (m : ℕ) (has : Po
     popping-waits told =
         let low : (path_on leg m).decided after.popped ≤ rows'.rows =
         elim (cases_lt rows.rows ((path_on leg m).decided after.popped)) [
-          | inl past ↦ absurd (from-some _ (sym told) (decided-by.1 past))
+          | inl past ↦ absurd (let f : false ≡ true = told ∙ decided-by.1 past in cc)
           | inr open' ↦ subst (λ t. (path_on leg m).decided after.popped ≤ t) (sym row) open'
         ] in
         let counts = map line_counts (slice_set now m after) in
         let there' : slice_get counts m ≡ Some (line_counts after) = ap (λ lines. slice_get lines m) set-is
-        ∙ get-set (map line_counts now) m (line_counts after) long in
+        ∙ slice_get-set_same (map line_counts now) m (line_counts after) long in
         let again : popped_line (path_on leg m) rows'.rows (line_counts after) ≡ line_counts after =
         ap₂ (λ t l. popped_line (path_on leg m) t l) row counts-are
         ∙ popped-again (path_on leg m) rows.rows (line_counts line)
@@ -460,9 +426,3 @@ module _ (leg : Leg) (was now : List Ringed) (rows : Gather) (m : ℕ) (has : Po
               ∙ ap (λ (p : Popped). p.waiting) popped-same;
           gathers = popped-can.gathers;
         }
-      where
-        get-set : (lines : List LineCounts) (m : ℕ) (x : LineCounts) → m < length lines →
-            slice_get (slice_set lines m x) m ≡ Some x
-        get-set [] m x low = absurd (omega (arith, low))
-        get-set (l ∷ lines) zero x low = refl
-        get-set (l ∷ lines) (suc m) x low = get-set lines m x (omega (arith, low))

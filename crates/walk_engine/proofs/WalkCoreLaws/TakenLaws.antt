@@ -56,36 +56,21 @@ pop-more (suc k) path t y =
     ]
 
 pops-more : (t k : ℕ) (paths : List LinePath) (lines : List LineCounts) (m : ℕ) →
-    (counts_at lines m).popped ≤ (counts_at (pop_lines t k paths lines).lines m).popped
+    ((counts_at lines m).popped ≤ (counts_at (pop_lines t k paths lines).lines m).popped)
+    × ((counts_at lines m).carried ≤ (counts_at (pop_lines t k paths lines).lines m).carried)
 unfolding pop_lines
-pops-more t k [] lines m = omega arith
-pops-more t k (path ∷ paths) [] m = omega arith
+pops-more t k [] lines m = (omega arith, omega arith)
+pops-more t k (path ∷ paths) [] m = (omega arith, omega arith)
 pops-more t k (path ∷ paths) (line ∷ lines) zero =
     let more = pop-more (path.given line.carried - line.popped) path t line.popped in
     elim (cases_Bool (nat_le (path.decided (popped_line path t line).popped) t)) [
-      | inl e ↦ rw e (omega (arith, more))
-      | inr e ↦ rw e (omega (arith, more))
+      | inl e ↦ rw e (omega (arith, more), omega arith)
+      | inr e ↦ rw e (omega (arith, more), omega arith)
     ]
 pops-more t k (path ∷ paths) (line ∷ lines) (suc m) =
     elim (cases_Bool (nat_le (path.decided (popped_line path t line).popped) t)) [
-      | inl e ↦ rw e (omega arith)
+      | inl e ↦ rw e (omega arith, omega arith)
       | inr e ↦ rw e (pops-more t (suc k) paths lines m)
-    ]
-
-pops-carry : (t k : ℕ) (paths : List LinePath) (lines : List LineCounts) (m : ℕ) →
-    (counts_at lines m).carried ≤ (counts_at (pop_lines t k paths lines).lines m).carried
-unfolding pop_lines
-pops-carry t k [] lines m = omega arith
-pops-carry t k (path ∷ paths) [] m = omega arith
-pops-carry t k (path ∷ paths) (line ∷ lines) zero =
-    elim (cases_Bool (nat_le (path.decided (popped_line path t line).popped) t)) [
-      | inl e ↦ rw e (omega arith)
-      | inr e ↦ rw e (omega arith)
-    ]
-pops-carry t k (path ∷ paths) (line ∷ lines) (suc m) =
-    elim (cases_Bool (nat_le (path.decided (popped_line path t line).popped) t)) [
-      | inl e ↦ rw e (omega arith)
-      | inr e ↦ rw e (pops-carry t (suc k) paths lines m)
     ]
 
 cells-longer : (leg : Leg) (before after : List LineCounts) →
@@ -246,14 +231,14 @@ module _ (leg : Leg) (backs : ℕ) (parts : Parts) (is : WayStands leg backs par
           stands-longer parts.sink (popped_cells leg was.lines) (popped_cells leg (map line_counts lines))
           (cells-longer leg was.lines (map line_counts lines)
           (λ m. subst (λ ls. (counts_at (map line_counts parts.lines) m).popped ≤ (counts_at ls m).popped)
-          (sym lines-are) (pops-more parts.sink.taken 0 (walk_plan leg).paths was.lines m)))
+          (sym lines-are) (pops-more parts.sink.taken 0 (walk_plan leg).paths was.lines m).0))
           is.sink.taken
 
       sent : HasSent leg parts.source.core.ticks (map line_counts lines) parts.sent
       sent =
           sent-later leg parts.source.core.ticks was.lines (map line_counts lines) parts.sent is.sent
           (λ m. subst (λ ls. (counts_at was.lines m).carried ≤ (counts_at ls m).carried) (sym lines-are)
-          (pops-carry parts.sink.taken 0 (walk_plan leg).paths was.lines m))
+          (pops-more parts.sink.taken 0 (walk_plan leg).paths was.lines m).1)
 
       module _ (line : ℕ) (waits : Some line ≡ waiting) where
         stays : step (walk_plan leg) (counts_of parts backs) Take ≡ stalled

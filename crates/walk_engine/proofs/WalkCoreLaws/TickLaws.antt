@@ -1,12 +1,12 @@
 -- The first line whose send ring is full, and a tick: of one direction, and of a walk.
-use Rattle.std.proofs.Common.{◌≡◌, ℕ, zero, suc, ◌+◌, ◌-◌, ◌*◌, ◌/◌, ◌%◌, ◌==◌, ◌&&◌, ◌<◌, ◌≤◌, min, nat_le, true}
+use Rattle.std.proofs.Common.{◌≡◌, ℕ, suc, ◌+◌, ◌-◌, ◌*◌, ◌/◌, ◌%◌, ◌==◌, ◌&&◌, ◌<◌, ◌≤◌, min, nat_le, true}
 use Rattle.std.proofs.Common.{false, if◌then◌else◌, List, [], ◌∷◌, length, drop, map, slice_get, slice_set}
 use Rattle.std.proofs.Common.{slice_index_or, Option, Some, None, refl, sym, ◌∙◌, ap, subst, arith, inl, inr, Bool}
 use Rattle.std.proofs.Common.{option_map, is_some, eqb-true, leb-true, leb-false, length-set, eq-eqb, le-leb}
 use Rattle.std.specs.List.{range_with_len}
 use Rattle.std.specs.Global.{Vec, Box}
-use Rattle.std.proofs.lemmas.Bool.{cases_Bool, cases_lt, cases_eq, eqb-false, lt-leb}
-use Rattle.std.proofs.lemmas.List.{length-map, map-set, drop_all}
+use Rattle.std.proofs.lemmas.Bool.{cases_Bool, cases_lt, eqb-false, lt-leb}
+use Rattle.std.proofs.lemmas.List.{length-map, map-set, drop_all, get_or-map}
 use Rattle.std.proofs.lemmas.List.FromFn.{length-range_with_len}
 use Rattle.circular_buffer.proofs.Places.{slice_get-set_other}
 use Rattle.member_rows.proofs.RealignRowsLaws.GatherLaws.{set-here}
@@ -43,7 +43,7 @@ use Rattle.walk_engine.specs.declared.walk_core.step_answers.StepNote.{StepNote}
 use Rattle.walk_engine.specs.declared.walk_core.step_answers.Moved.TheVariants.{Yes, Stalled}
 use Rattle.walk_engine.specs.walk_core.Parts.{WayStands}
 use Rattle.walk_engine.proofs.WalkCoreLaws.ToldLaws.{told-source, passed-made, passed-frame}
-use Rattle.walk_engine.proofs.WalkCoreLaws.EventLaws.{walk-fits, walked-next}
+use Rattle.walk_engine.proofs.WalkCoreLaws.EventLaws.{walk-fits, walked-next, sink-stays, set-each}
 use Rattle.walk_engine.proofs.WalkCoreLaws.CarryLaws.{frame-at}
 
 pub full-here : (total ticks : ℕ) (lines : List Ringed) (m : ℕ) (line : Ringed) → slice_get lines m ≡ Some line →
@@ -117,31 +117,6 @@ tick-goes plan s e =
           let f : None ≡ (tick_held (held s.ticks s.frames s.commands 0 plan.items) plan s).cause = rw left at e in
           let low = leb-false plan.ticks s.ticks left in
           (omega (arith, low), rw left (held-goes (held s.ticks s.frames s.commands 0 plan.items) plan s f))
-    ]
-
--- each test of a tick that is made
-slots-none : (found : Option ℕ) (plan : Plan) (s : Counts) → None ≡ (tick_full found plan s).cause → found ≡ None
-slots-none (Some line) plan s e = absurd cc
-slots-none None plan s e = refl
-
-held-none : (found : Option ℕ) (plan : Plan) (s : Counts) → None ≡ (tick_held found plan s).cause →
-    (found ≡ None) × (full plan.ticks s.ticks 0 s.lines ≡ None)
-held-none (Some item) plan s e = absurd cc
-held-none None plan s e = (refl, slots-none (full plan.ticks s.ticks 0 s.lines) plan s e)
-
-record IsFree (plan : Plan) (s : Counts) : Type 0 where
-  left : nat_le plan.ticks s.ticks ≡ false
-  no_item : held s.ticks s.frames s.commands 0 plan.items ≡ None
-  slots : full plan.ticks s.ticks 0 s.lines ≡ None
-
-tick-free : (plan : Plan) (s : Counts) → None ≡ (tick plan s).cause → IsFree plan s
-tick-free plan s e =
-    elim (cases_Bool (nat_le plan.ticks s.ticks)) [
-      | inl done ↦ absurd (let f : None ≡ Some Done = rw done at e in cc)
-      | inr left ↦
-          let f : None ≡ (tick_held (held s.ticks s.frames s.commands 0 plan.items) plan s).cause = rw left at e in
-          let (item, slots) = held-none (held s.ticks s.frames s.commands 0 plan.items) plan s f in
-          record { left = left; no_item = item; slots = slots }
     ]
 
 -- a return cell that isn't missing
@@ -276,11 +251,7 @@ sent-more : (leg : Leg) (ticks : ℕ) (counts : List LineCounts) (sent : List (L
     length frame ≡ leg.config.lines → HasSent leg (ticks + 1) counts (slice_set sent (ticks % 32) frame)
 sent-more leg ticks counts sent frame has is long = record {
   places = length-set sent (ticks % 32) frame ∙ has.places;
-  lines = λ k other e. elim (cases_eq k (ticks % 32)) [
-    | inl same ↦ ap length (set-here sent (ticks % 32) frame other
-        (sym (ap (slice_get (slice_set sent (ticks % 32) frame)) same) ∙ e)) ∙ long
-    | inr apart ↦ has.lines k other (sym (slice_get-set_other sent (ticks % 32) k frame apart) ∙ e)
-  ];
+  lines = set-each (λ k (other : List Container). length other ≡ leg.config.lines) sent (ticks % 32) frame long has.lines;
   frames = λ t m other inside late low high told. elim (cases_lt t ticks) [
     | inl before ↦
         has.frames t m other inside late before (omega (arith, high))
@@ -393,9 +364,8 @@ tick-stays leg s cause e = (
 -- ---- of one direction
 carried-at : (lines : List Ringed) (k : ℕ) (d : Ringed) → k < length lines →
     (counts_at (map line_counts lines) k).carried ≡ (slice_index_or lines k d).carried
-carried-at [] k d low = absurd (omega arith)
-carried-at (x ∷ xs) zero d low = refl
-carried-at (x ∷ xs) (suc k) d low = carried-at xs k d (omega arith)
+carried-at lines k d low =
+    ap (λ (l : LineCounts). l.carried) (get_or-map line_counts lines k d (record { carried = 0; popped = 0 }) low)
 
 module _ (leg : Leg) (backs : ℕ) (parts : Parts) (is : WayStands leg backs parts) where
   pub lines-made : (lines : List Ringed) → lines ≡ parts.lines → (k : ℕ) (d : Ringed) → k < length lines →
@@ -490,16 +460,7 @@ module _ (leg : Leg) (backs : ℕ) (parts : Parts) (is : WayStands leg backs par
             | inr least ↦ subst (λ n. AgreesAt leg n (windows_in parts.lines))
                 (let e : parts.source.core.ticks ≡ t = omega (arith, low, least, ticks) in e) can.agrees
           ];
-          sink = record {
-            gathers = is.sink.gathers;
-            taken = is.sink.taken;
-            passed = is.sink.passed;
-            lines =
-                is.sink.lines;
-            all = is.sink.all;
-            size = is.sink.size;
-            options = is.sink.options;
-          };
+          sink = sink-stays leg (counts_of parts backs) _ parts.rows parts.sink refl is.sink;
           landed = subst (λ s. HasCounted leg s source.landed) (sym counts-are)
               (subst (HasCounted leg (record (counts_of parts backs) { ticks = parts.source.core.ticks + 1 }))
               (sym rest.landed) (record {

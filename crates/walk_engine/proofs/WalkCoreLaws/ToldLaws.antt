@@ -42,6 +42,21 @@ next-past (suc n) told [] (suc k) past = alone-past n told k (omega (arith, past
 next-past (suc n) told (first ∷ tells) zero past = absurd (omega (arith, past))
 next-past (suc n) told (first ∷ tells) (suc k) past = next-past n told tells k (omega (arith, past))
 
+-- ---- sessions whose packets tell the same so far
+alike-told : (scenario : Scenario) (one other : List Told) (cells : List (Option Told)) (t : ℕ) →
+    ((k : ℕ) → k < steps_in t → slice_index_or one k untold ≡ slice_index_or other k untold) →
+    Alike (record scenario { tells = one }) cells (record scenario { tells = other }) cells t
+alike-told scenario one other cells t same = record {
+  lines = refl;
+  lag = refl;
+  size = refl;
+  statuses = refl;
+  orders = λ j low. refl;
+  cells = λ j low. refl;
+  offers = λ u low. refl;
+  tells = same;
+}
+
 -- ---- a terminal that was told the same so far, by another list
 pub retold : (core : Terminal) (scenario : Scenario) (tells : List Told) (cells : List (Option Told)) →
     HasMade core scenario cells → length tells ≤ steps_in core.ticks + 1 →
@@ -80,30 +95,13 @@ retold core scenario tells cells made few same = record {
     more = record scenario { tells = tells }
 
     alike : Alike more cells scenario cells core.ticks
-    alike = record {
-      lines = refl;
-      lag = refl;
-      size = refl;
-      statuses = refl;
-      orders = λ j low. refl;
-      cells = λ j low. refl;
-      offers = λ u low. refl;
-      tells = λ k low. same k (omega (arith, low));
-    }
+    alike = alike-told scenario tells scenario.tells cells core.ticks (λ k low. same k (omega (arith, low)))
 
 -- ---- what it holds is what the whole leg says
 module _ (leg : Leg) (s : Counts) (cells : List (Option Told)) where
   told-alike : Alike (told_scenario leg s) cells (landed_scenario leg s) cells s.ticks
-  told-alike = record {
-    lines = refl;
-    lag = refl;
-    size = refl;
-    statuses = refl;
-    orders = λ j low. refl;
-    cells = λ j low. refl;
-    offers = λ u low. refl;
-    tells = λ k low. get_or-take (steps_in s.ticks) leg.tells k untold low;
-  }
+  told-alike = alike-told (landed_scenario leg s) (take (steps_in s.ticks) leg.tells) leg.tells cells s.ticks
+      (λ k low. get_or-take (steps_in s.ticks) leg.tells k untold low)
 
   pub told-source : source_at (told_scenario leg s) cells (steps_in s.ticks)
       ≡ source_at (landed_scenario leg s) cells (steps_in s.ticks)
@@ -193,26 +191,14 @@ module _ (leg : Leg) (s : Counts) (told : Option Packet) (is : IsTold leg s.tick
       ≡ telling_at (with_passed (told_scenario leg s) (steps_in s.ticks) told) k) →
       Alike (with_passed (told_scenario leg s) (steps_in s.ticks) told) cells (landed_scenario leg s) cells
       (suc s.ticks)
-  passed-alike cells None same = record {
-    lines = refl;
-    lag = refl;
-    size = refl;
-    statuses = refl;
-    orders = λ j low. refl;
-    cells = λ j low. refl;
-    offers = λ u low. refl;
-    tells = λ k low. sym (same k) ∙ get_or-take (steps_in (s.ticks + 1)) leg.tells k untold (omega (arith, low));
-  }
-  passed-alike cells (Some packet) same = record {
-    lines = refl;
-    lag = refl;
-    size = refl;
-    statuses = refl;
-    orders = λ j low. refl;
-    cells = λ j low. refl;
-    offers = λ u low. refl;
-    tells = λ k low. sym (same k) ∙ get_or-take (steps_in (s.ticks + 1)) leg.tells k untold (omega (arith, low));
-  }
+  passed-alike cells None same =
+      alike-told (landed_scenario leg s) (take (steps_in s.ticks) leg.tells)
+      leg.tells cells (suc s.ticks)
+      (λ k low. sym (same k) ∙ get_or-take (steps_in (s.ticks + 1)) leg.tells k untold (omega (arith, low)))
+  passed-alike cells (Some packet) same =
+      alike-told (landed_scenario leg s) (told_next (steps_in s.ticks) (told_by packet) (take (steps_in s.ticks) leg.tells))
+      leg.tells cells (suc s.ticks)
+      (λ k low. sym (same k) ∙ get_or-take (steps_in (s.ticks + 1)) leg.tells k untold (omega (arith, low)))
 
   pub passed-frame : (cells : List (Option Told)) →
       frame_of (with_passed (told_scenario leg s) (steps_in s.ticks) told) cells s.ticks

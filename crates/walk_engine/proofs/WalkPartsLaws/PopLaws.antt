@@ -2,7 +2,8 @@
 use Rattle.std.proofs.Common.{◌≡◌, ℕ, zero, suc, ◌+◌, ◌-◌, ◌<◌, ◌≤◌, ◌==◌, Bool, true, false, List, [], ◌∷◌, ◌++◌}
 use Rattle.std.proofs.Common.{length, slice_get, slice_set, Option, Some, None, refl, sym, ◌∙◌, ap, arith, inl, inr}
 use Rattle.std.proofs.Common.{is_none, is_some, IsSome, not}
-use Rattle.std.proofs.lemmas.Option.{slice_get_within}
+use Rattle.std.proofs.lemmas.List.{set-get_or}
+use Rattle.std.proofs.lemmas.Option.{get_or_from_slice_get, slice_get_within}
 use Rattle.circular_buffer.proofs.Places.{slice_get-set_same, slice_get-set_other}
 use Rattle.std.specs.List.{position_from}
 use Rattle.std.proofs.lemmas.Bool.{cases_Bool}
@@ -41,15 +42,17 @@ pub none-some : {X : Type 0} (o : Option X) (b : Bool) → b ≡ is_none o → n
 none-some None b e = rw e refl
 none-some (Some x) b e = rw e refl
 
-pub waits-is : (cells : List (List Cell)) (line t : ℕ) (before own : List Cell) → slice_get cells line ≡ Some before →
-    ((k : ℕ) (other : List Cell) → k < line → slice_get cells k ≡ Some other → IsSome (verdict other t)) →
-    is_at line (first_open (slice_set cells line own) t) ≡ is_none (verdict own t)
-waits-is cells line t before own there earlier =
+pub waits-is : (cells : List (List Cell)) (line t row : ℕ) (waits : Bool) (before own : List Cell) → t ≡ row →
+    waits ≡ is_at line (first_open (slice_set cells line own) t) → slice_get cells line ≡ Some before →
+    ((k : ℕ) (other : List Cell) → k < line → slice_get cells k ≡ Some other → IsSome (verdict other row)) →
+    waits ≡ is_none (verdict own row)
+waits-is cells line t row waits before own same is there earlier =
     let low = slice_get_within cells line before there in
-    ap (λ k. is_at k (first_open (slice_set cells line own) t)) (let e : line ≡ 0 + line = omega arith in e)
-    ∙ position-at (λ other. is_none (verdict other t)) (slice_set cells line own) 0 line own
+    is ∙ ap (λ n. is_at line (first_open (slice_set cells line own) n)) same
+    ∙ ap (λ k. is_at k (first_open (slice_set cells line own) row)) (let e : line ≡ 0 + line = omega arith in e)
+    ∙ position-at (λ other. is_none (verdict other row)) (slice_set cells line own) 0 line own
     (slice_get-set_same cells line own low)
-    (λ k other under e. some-none (verdict other t)
+    (λ k other under e. some-none (verdict other row)
     (earlier k other under (sym (slice_get-set_other cells line k own (λ same. absurd (omega (arith, same, under))))
     ∙ e)))
 
@@ -60,9 +63,7 @@ with-set (x ∷ cells) zero own cell low = refl
 with-set (x ∷ cells) (suc m) own cell low = ap (λ rest. x ∷ rest) (with-set cells m own cell (omega (arith, low)))
 
 pub set-same : {X : Type 0} (xs : List X) (m : ℕ) (x : X) → slice_get xs m ≡ Some x → slice_set xs m x ≡ xs
-set-same [] m x e = absurd cc
-set-same (y ∷ xs) zero x e = ap (λ z. z ∷ xs) (let h : x ≡ y = cc in h)
-set-same (y ∷ xs) (suc m) x e = ap (λ rest. y ∷ rest) (set-same xs m x e)
+set-same xs m x e = ap (slice_set xs m) (sym (get_or_from_slice_get xs m x x e)) ∙ set-get_or xs m x
 
 -- ---- how many were popped
 pub until-shut : (k : ℕ) (is_open : ℕ → Bool) (y : ℕ) → is_open y ≡ false → popped_until k is_open y ≡ y

@@ -144,14 +144,7 @@ has-more line core calls more carry place signs places count has some beside roo
 -- the ring holds what it held where the line gave the same cells by other calls
 pub has-same : (line : Ringed) (core : Line) (calls more : Calls) → Has line calls → DelayStands core more →
     carries_of more ≡ carries_of calls → path_cells more ≡ path_cells calls →
-    Has (record {
-      core = core;
-      signs = line.signs;
-      places = line.places;
-      carried = line.carried;
-      given = line.given;
-      popped = line.popped;
-    }) more
+    Has (record line { core = core }) more
 has-same line core calls more has stands made same = record {
   core = stands;
   carried = has.carried ∙ sym made;
@@ -162,14 +155,7 @@ has-same line core calls more has stands made same = record {
 -- other windows change no count
 pub ringed-same : (line : Ringed) (core : Line) (windows : List Window) → IsRinged line →
     core ≡ record line.core { windows = windows } →
-    IsRinged (record {
-      core = core;
-      signs = line.signs;
-      places = line.places;
-      carried = line.carried;
-      given = line.given;
-      popped = line.popped;
-    })
+    IsRinged (record line { core = core })
 ringed-same line core windows is same =
     rw same (record {
       some = is.some;
@@ -189,14 +175,7 @@ pub has-changed : (line : Ringed) (calls : Calls) (places : List Container) → 
     line.popped ≤ line.given → line.given < line.popped + length line.signs →
     ((k : ℕ) → k ≢ line.given % length line.signs → k ≢ (line.popped + length line.signs - 1) % length line.signs →
     slice_get places k ≡ slice_get line.places k) →
-    Has (record {
-      core = line.core;
-      signs = line.signs;
-      places = places;
-      carried = line.carried;
-      given = line.given;
-      popped = line.popped;
-    }) calls
+    Has (record line { places = places }) calls
 has-changed line calls places has some pops room others = record {
   core = has.core;
   carried = has.carried;
@@ -213,13 +192,8 @@ has-changed line calls places has some pops room others = record {
 -- a cell is popped, whatever its place has then
 pub has-popped : (line : Ringed) (calls : Calls) (place : Container) → Has line calls → line.popped < line.given →
     line.given ≤ line.popped + length line.signs →
-    Has (record {
-      core = line.core;
-      signs = line.signs;
-      places =
-          slice_set line.places (line.popped % length line.signs) place;
-      carried = line.carried;
-      given = line.given;
+    Has (record line {
+      places = slice_set line.places (line.popped % length line.signs) place;
       popped = line.popped + 1;
     }) calls
 has-popped line calls place has more room = record {

@@ -21,61 +21,47 @@ returns-in-Blank-clause-answers g c steps config said is well =
     (said_by c.args.frame.now c.args.says) [] none (still_answered c.args.walk.now steps config said is)
     (none_answered steps (leg_said config (said ++ [])) said)
 
-pub returns-in-Frame-clause-answers : goal.returns-in-Frame-clause-answers
-returns-in-Frame-clause-answers g c steps config said is well =
+pub returns-in-Frame : goal.returns-in-Frame
+returns-in-Frame g c =
     let same = ap (said_by c.args.frame.now) c.in-Frame.is in
-    one_more g.K.ByteSink.written g.K.ByteSink.faults c.args.out.now c.land.new.out c.args.block.now c.land.new.block
-    c.land.new.self steps config said (said_by c.args.frame.now c.args.says) _ c.land.result same
-    (c.land.ensures.answers steps config said is (well_as config said _ _ same well))
+    record {
+      answers = one_more g.K.ByteSink.written g.K.ByteSink.faults c.args.out.now c.land.new.out c.args.block.now
+          c.land.new.block c.args.walk.now c.land.new.self _ _ c.land.result same c.land.ensures.answers;
+      part = one_part g.K.ByteSink.written g.K.ByteSink.faults c.args.out.now c.land.new.out c.args.block.now
+          c.args.walk.now _ _ c.land.result same c.land.ensures.part;
+    }
 
-pub returns-in-Frame-clause-part : goal.returns-in-Frame-clause-part
-returns-in-Frame-clause-part g c steps config said is well =
-    let same = ap (said_by c.args.frame.now) c.in-Frame.is in
-    one_part g.K.ByteSink.written g.K.ByteSink.faults c.args.out.now c.land.new.out c.args.block.now steps config said
-    (said_by c.args.frame.now c.args.says) _ c.land.result same
-    (c.land.ensures.part steps config said is (well_as config said _ _ same well))
-
-pub returns-in-Add-clause-answers : goal.returns-in-Add-clause-answers
-returns-in-Add-clause-answers g c steps config said is well =
+pub returns-in-Add : goal.returns-in-Add
+returns-in-Add g c =
     let same = ap (said_by c.args.frame.now) c.in-Add.is in
-    one_more g.K.ByteSink.written g.K.ByteSink.faults c.args.out.now c.land-in-Add.new.out c.args.block.now c.land-in-Add.new.block
-    c.land-in-Add.new.self steps config said (said_by c.args.frame.now c.args.says) _ c.land-in-Add.result same
-    (c.land-in-Add.ensures.answers steps config said is (well_as config said _ _ same well))
+    record {
+      answers = one_more g.K.ByteSink.written g.K.ByteSink.faults c.args.out.now c.land-in-Add.new.out c.args.block.now
+          c.land-in-Add.new.block c.args.walk.now c.land-in-Add.new.self _ _ c.land-in-Add.result same
+          c.land-in-Add.ensures.answers;
+      part = one_part g.K.ByteSink.written g.K.ByteSink.faults c.args.out.now c.land-in-Add.new.out c.args.block.now
+          c.args.walk.now _ _ c.land-in-Add.result same c.land-in-Add.ensures.part;
+    }
 
-pub returns-in-Add-clause-part : goal.returns-in-Add-clause-part
-returns-in-Add-clause-part g c steps config said is well =
-    let same = ap (said_by c.args.frame.now) c.in-Add.is in
-    one_part g.K.ByteSink.written g.K.ByteSink.faults c.args.out.now c.land-in-Add.new.out c.args.block.now steps config said
-    (said_by c.args.frame.now c.args.says) _ c.land-in-Add.result same
-    (c.land-in-Add.ensures.part steps config said is (well_as config said _ _ same well))
-
-pub returns-in-Remove-clause-answers : goal.returns-in-Remove-clause-answers
-returns-in-Remove-clause-answers g c steps config said is well =
+pub returns-in-Remove : goal.returns-in-Remove
+returns-in-Remove g c =
     let same = ap (said_by c.args.frame.now) c.in-Remove.is in
-    one_more g.K.ByteSink.written g.K.ByteSink.faults c.args.out.now c.land-in-Remove.new.out c.args.block.now c.land-in-Remove.new.block
-    c.land-in-Remove.new.self steps config said (said_by c.args.frame.now c.args.says) _ c.land-in-Remove.result same
-    (c.land-in-Remove.ensures.answers steps config said is (well_as config said _ _ same well))
+    record {
+      answers = one_more g.K.ByteSink.written g.K.ByteSink.faults c.args.out.now c.land-in-Remove.new.out c.args.block.now
+          c.land-in-Remove.new.block c.args.walk.now c.land-in-Remove.new.self _ _ c.land-in-Remove.result
+          same c.land-in-Remove.ensures.answers;
+      part = one_part g.K.ByteSink.written g.K.ByteSink.faults c.args.out.now c.land-in-Remove.new.out c.args.block.now
+          c.args.walk.now _ _ c.land-in-Remove.result same c.land-in-Remove.ensures.part;
+    }
 
-pub returns-in-Remove-clause-part : goal.returns-in-Remove-clause-part
-returns-in-Remove-clause-part g c steps config said is well =
-    let same = ap (said_by c.args.frame.now) c.in-Remove.is in
-    one_part g.K.ByteSink.written g.K.ByteSink.faults c.args.out.now c.land-in-Remove.new.out c.args.block.now steps config said
-    (said_by c.args.frame.now c.args.says) _ c.land-in-Remove.result same
-    (c.land-in-Remove.ensures.part steps config said is (well_as config said _ _ same well))
-
-pub returns-in-Pass-clause-answers : goal.returns-in-Pass-clause-answers
-returns-in-Pass-clause-answers g c steps config said is well =
+pub returns-in-Pass : goal.returns-in-Pass
+returns-in-Pass g c =
     let same = ap (said_by c.args.frame.now) c.in-Pass.is in
-    one_more g.K.ByteSink.written g.K.ByteSink.faults c.args.out.now c.pass.new.out c.args.block.now c.pass.new.block
-    c.pass.new.self steps config said (said_by c.args.frame.now c.args.says) _ c.pass.result same
-    (c.pass.ensures.answers steps config said is (well_as config said _ _ same well))
-
-pub returns-in-Pass-clause-part : goal.returns-in-Pass-clause-part
-returns-in-Pass-clause-part g c steps config said is well =
-    let same = ap (said_by c.args.frame.now) c.in-Pass.is in
-    one_part g.K.ByteSink.written g.K.ByteSink.faults c.args.out.now c.pass.new.out c.args.block.now steps config said
-    (said_by c.args.frame.now c.args.says) _ c.pass.result same
-    (c.pass.ensures.part steps config said is (well_as config said _ _ same well))
+    record {
+      answers = one_more g.K.ByteSink.written g.K.ByteSink.faults c.args.out.now c.pass.new.out c.args.block.now
+          c.pass.new.block c.args.walk.now c.pass.new.self _ _ c.pass.result same c.pass.ensures.answers;
+      part = one_part g.K.ByteSink.written g.K.ByteSink.faults c.args.out.now c.pass.new.out c.args.block.now
+          c.args.walk.now _ _ c.pass.result same c.pass.ensures.part;
+    }
 
 pub returns-in-Cut-clause-answers : goal.returns-in-Cut-clause-answers
 returns-in-Cut-clause-answers g c steps config said is well =

@@ -7,18 +7,16 @@ use Rattle.law_model.specs.Common.{is_normal, ctrl_by}
 use Rattle.terminal_source.proofs.LcasSourceLaws.ForwardSteps.{place-found, place-next, place-none}
 use Rattle.terminal_source.proofs.lcas_source.member_table.place_in.Goals as goal
 
-pub returns-then-member-line-clause-ctrl : goal.returns-then-member-line-clause-ctrl
-returns-then-member-line-clause-ctrl c =
+pub returns-then-member-line : goal.returns-then-member-line
+returns-then-member-line c =
     let found = place-found c.args.members.now c.loop-sq.sq c.args.line _ (omega arith) c.if-member-line.true in
-    c.ctrl_by-ctrl.ensures
-    ∙ ap (ctrl_by (slice_index_or c.args.members.now c.loop-sq.sq (record { line = 0; standing = adding })).standing)
-    (c.any_normal.ensures ∙ ap (list_any is_normal) (take_rest c.args.members.now (c.loop-sq.sq + 1)))
-    ∙ ap (λ place. place.ctrl) (sym found ∙ c.loop-sq.invariant)
-
-pub returns-then-member-line-clause-sq : goal.returns-then-member-line-clause-sq
-returns-then-member-line-clause-sq c =
-    let found = place-found c.args.members.now c.loop-sq.sq c.args.line _ (omega arith) c.if-member-line.true in
-    ap (λ place. place.sq) (sym found ∙ c.loop-sq.invariant)
+    record {
+      ctrl = c.ctrl_by-ctrl.ensures
+          ∙ ap (ctrl_by (slice_index_or c.args.members.now c.loop-sq.sq (record { line = 0; standing = adding })).standing)
+          (c.any_normal.ensures ∙ ap (list_any is_normal) (take_rest c.args.members.now (c.loop-sq.sq + 1)))
+          ∙ ap (λ place. place.ctrl) (sym found ∙ c.loop-sq.invariant);
+      sq = ap (λ place. place.sq) (sym found ∙ c.loop-sq.invariant);
+    }
 
 pub loop-sq-preserved : goal.loop-sq-preserved
 loop-sq-preserved c =

@@ -32,58 +32,59 @@ returns-then-all_pushed-clause-has c leg has sent known =
       ring = c.flush.ensures.ring ∙ has.ring;
     }
 
-pub returns-else-all_pushed-clause-has : goal.returns-else-all_pushed-clause-has
-returns-else-all_pushed-clause-has c leg has sent known =
-    let some : c.args.own.now.core.pushed ≡ c.args.own.now.core.total → ⊥ = search (rules, c.if-all_pushed.ensures) in
-    let within = c.all_pushed.ensures.within in
-    let left = not-carried leg c.args.m c.args.own.now has
-    (below c.args.own.now.core.pushed c.args.own.now.core.total within some) in
+pub returns-else-all_pushed : goal.returns-else-all_pushed
+returns-else-all_pushed c =
     let places = c.requires.places in
     let slot : c.carried.result % 32 ≡ c.args.own.now.carried % 32 = ap (λ x. x % 32) c.carried.ensures in
-    let frames = c.args.sent.now.items in
     let row : Vec (Box Container) = c.index_mut.result.now in
-    let place : Box Container = c.index_mut-else-all_pushed.result.now in
-    let frame = at-index frames (c.args.own.now.carried % 32) row (omega (arith, places))
-    (c.index_mut.ensures.value ∙ ap (λ k. slice_index_or frames k row) slot) in
-    let read = at-index row.items c.args.m place (c.requires.lines (c.args.own.now.carried % 32) row frame)
-    c.index_mut-else-all_pushed.ensures.value in
-    let is = same_Some place.value (sent_at leg c.args.m c.args.own.now.carried)
-    (sym (map-get (λ (b : Box Container). b.value) row.items c.args.m place read) ∙ sent left row frame) in
-    let pushed = c.push.ensures.has (calls_of leg c.args.m c.args.own.now) has.has in
-    let n = numbers leg c.args.m c.args.own.now has in
-    let at : c.args.own.now.core.pushed ≡ c.args.own.now.carried =
-    (let a = n.pushed in omega (arith, a, left)) in
-    let more : c.push.new.self.core.pushed ≤ c.args.own.now.core.pushed + 1 =
-    (let now = pushed.core.pushed in
-    let long = length_push (calls_of leg c.args.m c.args.own.now).containers place.value in
-    let was = has.has.core.pushed in omega (arith, now, was, long)) in
     record {
-      has = subst (λ calls. Has c.push.new.self calls)
-          (ap (and_push (calls_of leg c.args.m c.args.own.now)) is
-          ∙ ap (λ calls. with_windows calls c.args.own.now.core.windows)
-          (calls-push leg c.args.m c.args.own.now left ∙ ap (calls_on leg c.args.m) (sym c.push.ensures.carried))
-          ∙ ap (with_windows (calls_on leg c.args.m c.push.new.self.carried)) (sym pushed.core.windows))
-          pushed;
-      agrees = λ t low. agree-more (windows_on leg c.args.m) c.args.own.now.core.windows c.args.own.now.core.pushed
-          c.push.new.self.core.pushed has.agrees
-          (subst (λ k. carried (windows_on leg c.args.m) k ≡ carried c.args.own.now.core.windows k) (sym at)
-          (known (below c.args.own.now.core.pushed c.args.own.now.core.total within some)))
-          more t low ∙ ap (λ w. carried w t) (sym pushed.core.windows);
-      ring = c.push.ensures.ring ∙ has.ring;
+      has = λ leg has sent known.
+          let some : c.args.own.now.core.pushed ≡ c.args.own.now.core.total → ⊥ = search (rules, c.if-all_pushed.ensures) in
+          let within = c.all_pushed.ensures.within in
+          let left = not-carried leg c.args.m c.args.own.now has
+          (below c.args.own.now.core.pushed c.args.own.now.core.total within some) in
+          let frames = c.args.sent.now.items in
+          let place : Box Container = c.index_mut-else-all_pushed.result.now in
+          let frame = at-index frames (c.args.own.now.carried % 32) row (omega (arith, places))
+          (c.index_mut.ensures.value ∙ ap (λ k. slice_index_or frames k row) slot) in
+          let read = at-index row.items c.args.m place (c.requires.lines (c.args.own.now.carried % 32) row frame)
+          c.index_mut-else-all_pushed.ensures.value in
+          let is = same_Some place.value (sent_at leg c.args.m c.args.own.now.carried)
+          (sym (map-get (λ (b : Box Container). b.value) row.items c.args.m place read) ∙ sent left row frame) in
+          let pushed = c.push.ensures.has (calls_of leg c.args.m c.args.own.now) has.has in
+          let n = numbers leg c.args.m c.args.own.now has in
+          let at : c.args.own.now.core.pushed ≡ c.args.own.now.carried =
+          (let a = n.pushed in omega (arith, a, left)) in
+          let more : c.push.new.self.core.pushed ≤ c.args.own.now.core.pushed + 1 =
+          (let now = pushed.core.pushed in
+          let long = length_push (calls_of leg c.args.m c.args.own.now).containers place.value in
+          let was = has.has.core.pushed in omega (arith, now, was, long)) in
+          record {
+            has = subst (λ calls. Has c.push.new.self calls)
+                (ap (and_push (calls_of leg c.args.m c.args.own.now)) is
+                ∙ ap (λ calls. with_windows calls c.args.own.now.core.windows)
+                (calls-push leg c.args.m c.args.own.now left ∙ ap (calls_on leg c.args.m) (sym c.push.ensures.carried))
+                ∙ ap (with_windows (calls_on leg c.args.m c.push.new.self.carried)) (sym pushed.core.windows))
+                pushed;
+            agrees = λ t low. agree-more (windows_on leg c.args.m) c.args.own.now.core.windows c.args.own.now.core.pushed
+                c.push.new.self.core.pushed has.agrees
+                (subst (λ k. carried (windows_on leg c.args.m) k ≡ carried c.args.own.now.core.windows k) (sym at)
+                (known (below c.args.own.now.core.pushed c.args.own.now.core.total within some)))
+                more t low ∙ ap (λ w. carried w t) (sym pushed.core.windows);
+            ring = c.push.ensures.ring ∙ has.ring;
+          };
+      windows = λ leg has. (c.push.ensures.has (calls_of leg c.args.m c.args.own.now) has.has).core.windows;
+      carried = search rules;
+      popped = search rules;
+      sent =
+          let frames = c.args.sent.now.items in
+          let frame = at-index frames (c.args.own.now.carried % 32) row (omega (arith, places))
+          (c.index_mut.ensures.value ∙ ap (λ k. slice_index_or frames k row) slot) in
+          subst (λ k. IsCarriedAt (c.args.own.now.carried % 32) c.args.m (map frame_in frames)
+          (map frame_in (slice_set frames k (with_item row c.args.m c.push.new.container)))) (sym slot)
+          (changed-at frames (c.args.own.now.carried % 32) c.args.m row (with_item row c.args.m c.push.new.container)
+          c.push.new.container frame refl);
     }
-
-pub returns-else-all_pushed-clause-sent : goal.returns-else-all_pushed-clause-sent
-returns-else-all_pushed-clause-sent c =
-    let places = c.requires.places in
-    let slot : c.carried.result % 32 ≡ c.args.own.now.carried % 32 = ap (λ x. x % 32) c.carried.ensures in
-    let frames = c.args.sent.now.items in
-    let row : Vec (Box Container) = c.index_mut.result.now in
-    let frame = at-index frames (c.args.own.now.carried % 32) row (omega (arith, places))
-    (c.index_mut.ensures.value ∙ ap (λ k. slice_index_or frames k row) slot) in
-    subst (λ k. IsCarriedAt (c.args.own.now.carried % 32) c.args.m (map frame_in frames)
-    (map frame_in (slice_set frames k (with_item row c.args.m c.push.new.container)))) (sym slot)
-    (changed-at frames (c.args.own.now.carried % 32) c.args.m row (with_item row c.args.m c.push.new.container)
-    c.push.new.container frame refl)
 
 pub returns-then-all_pushed-clause-sent : goal.returns-then-all_pushed-clause-sent
 returns-then-all_pushed-clause-sent c =
@@ -92,7 +93,3 @@ returns-then-all_pushed-clause-sent c =
 pub returns-then-all_pushed-clause-windows : goal.returns-then-all_pushed-clause-windows
 returns-then-all_pushed-clause-windows c leg has =
     (c.flush.ensures.has (calls_of leg c.args.m c.args.own.now) has.has).core.windows
-
-pub returns-else-all_pushed-clause-windows : goal.returns-else-all_pushed-clause-windows
-returns-else-all_pushed-clause-windows c leg has =
-    (c.push.ensures.has (calls_of leg c.args.m c.args.own.now) has.has).core.windows

@@ -1,5 +1,5 @@
 -- One round more of those that are left.
-use Rattle.std.proofs.Common.{◌<◌, ◌++◌, [], ◌∷◌, refl, sym, ◌∙◌, subst, arith}
+use Rattle.std.proofs.Common.{rules, ◌<◌, ◌++◌, [], ◌∷◌, refl, sym, ◌∙◌, subst, arith}
 use Rattle.law_model.specs.Common.{AppendsPart, Leg}
 use Rattle.text_got.specs.Told.{Holds}
 use Rattle.law_live.specs.Common.{leg_said, live_counts, passes}
@@ -24,38 +24,30 @@ loop-self-init g c = record {
       (live_counts leg said) c.args.until (walking_counts c.args.self.now.walk) (can.is.walks.counts leg less);
 }
 
-pub round-requires-clause-few : goal.round-requires-clause-few
-round-requires-clause-few g c =
-    let (steps, config, said, k, can) = c.requires in
-    let same = c.loop-self.invariant.same.lines in
-    let lines = can.is.lines in
-    let most = can.is.network.lines.1 in
-    omega (arith, same, lines, most)
-
-pub round-requires-clause-ready : goal.round-requires-clause-ready
-round-requires-clause-ready g c =
+pub round-requires : goal.round-requires
+round-requires g c =
     let (steps, config, said, k, can) = c.requires in
     let inv = c.loop-self.invariant in
     let leg : Leg = leg_said config (said ++ passes k ∷ []) in
     let own = pass-own c.args.self.now steps config said can.is k can.well in
-    let ticks = c.ticks.ensures in
-    let test = c.loop-self-test.true in (
-      leg,
-      can-round c.args.self.now steps config said can.is k can.well leg c.args.until c.loop-self.self.walk can.ends own
-          (inv.rounds steps config said k can leg own) inv.windows (omega (arith, ticks, test)),
-    )
-
-pub round-requires-clause-left : goal.round-requires-clause-left
-round-requires-clause-left g c =
-    let (steps, config, said, k, can) = c.requires in
-    let inv = c.loop-self.invariant in
-    let leg : Leg = leg_said config (said ++ passes k ∷ []) in
-    let own = pass-own c.args.self.now steps config said can.is k can.well in
-    let total = pass-total c.args.self.now steps config said can.is k can.well leg c.args.until c.loop-self.self.walk
-    can.ends own (inv.rounds steps config said k can leg own) in
     let ticks = c.ticks.ensures in
     let test = c.loop-self-test.true in
-    omega (arith, ticks, test, total)
+    record {
+      few =
+          let same = c.loop-self.invariant.same.lines in
+          let lines = can.is.lines in
+          let most = can.is.network.lines.1 in
+          omega (arith, same, lines, most);
+      ready = (
+        leg,
+        can-round c.args.self.now steps config said can.is k can.well leg c.args.until c.loop-self.self.walk can.ends own
+            (inv.rounds steps config said k can leg own) inv.windows (omega (arith, ticks, test)),
+      );
+      left =
+          let total = pass-total c.args.self.now steps config said can.is k can.well leg c.args.until c.loop-self.self.walk
+          can.ends own (inv.rounds steps config said k can leg own) in
+          omega (arith, ticks, test, total);
+    }
 
 pub loop-self-smaller : goal.loop-self-smaller
 loop-self-smaller g c =
@@ -126,27 +118,25 @@ returns-in-Err-clause-part g c steps config said k can =
     (c.loop-self.block ++ round_text b leg (walking_counts c.loop-self.self.walk)))
     (inv.same.steps ∙ can.is.steps) (c.in-Err.ensures.part leg ready lines)))
 
-pub returns-clause-same : goal.returns-clause-same
-returns-clause-same g c = c.loop-self.invariant.same
-
-pub returns-clause-walks : goal.returns-clause-walks
-returns-clause-walks g c steps config said k can =
+pub returns : goal.returns
+returns g c =
     let inv = c.loop-self.invariant in
     let ticks = c.ticks.ensures in
     let test = c.loop-self-test.false in
-    pass-walks c.args.self.now steps config said can.is k can.well c.args.until c.loop-self.self.walk can.ends
-    (inv.rounds steps config said k can) inv.windows (omega (arith, ticks, test))
-
-pub returns-clause-told : goal.returns-clause-told
-returns-clause-told g c steps config said k can =
-    let inv = c.loop-self.invariant in
-    let leg : Leg = leg_said config (said ++ passes k ∷ []) in
-    let own = pass-own c.args.self.now steps config said can.is k can.well in
-    let ticks = c.ticks.ensures in
-    let test = c.loop-self-test.false in
-    subst (λ text. Holds g.K.ByteSink.written g.K.ByteSink.faults c.args.out.now c.loop-self.out c.loop-self.block
-    (c.args.block.now ++ text))
-    (pass-rest c.args.self.now steps config said can.is k can.well c.args.until can.ends)
-    (tells-all config said k leg can.well own c.args.until can.ends g.K.ByteSink.written g.K.ByteSink.faults steps
-    c.args.out.now c.loop-self.out c.args.block.now c.loop-self.block c.loop-self.self.walk (omega (arith, ticks, test))
-    (inv.told steps config said k can leg own))
+    record {
+      same = c.loop-self.invariant.same;
+      walks = λ steps config said k can.
+          pass-walks c.args.self.now steps config said can.is k can.well c.args.until c.loop-self.self.walk can.ends
+          (inv.rounds steps config said k can) inv.windows (omega (arith, ticks, test));
+      told = λ steps config said k can.
+          let leg : Leg = leg_said config (said ++ passes k ∷ []) in
+          let own = pass-own c.args.self.now steps config said can.is k can.well in
+          subst (λ text. Holds g.K.ByteSink.written g.K.ByteSink.faults c.args.out.now c.loop-self.out c.loop-self.block
+          (c.args.block.now ++ text))
+          (pass-rest c.args.self.now steps config said can.is k can.well c.args.until can.ends)
+          (tells-all config said k leg can.well own c.args.until can.ends g.K.ByteSink.written g.K.ByteSink.faults steps
+          c.args.out.now c.loop-self.out c.args.block.now c.loop-self.block c.loop-self.self.walk
+          (omega (arith, ticks, test))
+          (inv.told steps config said k can leg own));
+      part = search rules;
+    }

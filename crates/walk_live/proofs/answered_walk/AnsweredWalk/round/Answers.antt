@@ -9,25 +9,24 @@ use Rattle.walk_engine.specs.walk_core.Live.{walking_counts}
 use Rattle.walk_engine.specs.walk_core.Moved.{delivered_since}
 use Rattle.walk_live.specs.Timed.{timed_texts}
 use Rattle.walk_live.proofs.PassLaws.{round-told}
-use Rattle.walk_live.proofs.RoundLaws.{round-parts, ticks-tick}
+use Rattle.law_live.proofs.RoundLaws.{goes-tick}
+use Rattle.walk_live.proofs.RoundLaws.{round-parts}
 use Rattle.walk_live.proofs.ToldLaws.{holds-more, on-ok, part-longer, part-more}
 use Rattle.walk_live.proofs.answered_walk.AnsweredWalk.round.Goals as goal
 
-pub tell_step-requires-clause-least : goal.tell_step-requires-clause-least
-tell_step-requires-clause-least g c =
+pub tell_step-requires : goal.tell_step-requires
+tell_step-requires g c =
     let (leg, can) = c.requires.ready in
     let made = ap (λ (s : Counts). s.ticks) (c.tick.ensures.makes leg can.stands can.free can.agrees).counts in
-    let least = (ticks-tick (walk_plan leg) (walking_counts c.args.self.now.walk)).least in
+    let goes = goes-tick (walk_plan leg) (walking_counts c.args.self.now.walk) in
+    let least = goes.ticks in
+    let most = goes.most in
     let before = c.ticks-before.ensures in
-    omega (arith, made, least, before)
-
-pub tell_step-requires-clause-most : goal.tell_step-requires-clause-most
-tell_step-requires-clause-most g c =
-    let (leg, can) = c.requires.ready in
-    let made = ap (λ (s : Counts). s.ticks) (c.tick.ensures.makes leg can.stands can.free can.agrees).counts in
-    let most = (ticks-tick (walk_plan leg) (walking_counts c.args.self.now.walk)).most in
-    let before = c.ticks-before.ensures in
-    omega (arith, made, most, before)
+    record {
+      few = c.requires.few;
+      least = omega (arith, made, least, before);
+      most = omega (arith, made, most, before);
+    }
 
 pub finish_round-requires : goal.finish_round-requires
 finish_round-requires g c =

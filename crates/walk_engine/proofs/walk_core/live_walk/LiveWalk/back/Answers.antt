@@ -7,34 +7,33 @@ use Rattle.walk_engine.proofs.WalkCoreLaws.BackLaws.{no-packet}
 use Rattle.walk_engine.proofs.WalkCoreLaws.WayLaws.{is-live, live-from}
 use Rattle.walk_engine.proofs.walk_core.live_walk.LiveWalk.back.Goals as goal
 
-pub put-requires-clause-room : goal.put-requires-clause-room
-put-requires-clause-room c =
+pub put-requires : goal.put-requires
+put-requires c =
     let f = c.self.inside in
     let (leg, is) = is-live _ _ c.self.view_is c.requires in
-    inbox-room leg f.way f.ring f.last is
+    record {
+      room = inbox-room leg f.way f.ring f.last is;
+      few = backs-few leg f.way f.ring f.last is;
+    }
 
-pub put-requires-clause-few : goal.put-requires-clause-few
-put-requires-clause-few c =
-    let f = c.self.inside in
-    let (leg, is) = is-live _ _ c.self.view_is c.requires in
-    backs-few leg f.way f.ring f.last is
-
-pub returns-in-Some-clause-makes : goal.returns-in-Some-clause-makes
-returns-in-Some-clause-makes c leg stands =
-    let f = c.self.inside in
-    let is = subst (LiveStands leg) (sym c.self.view_is) stands in
-    let there = sym c.in-Some.is ∙ c.pop.ensures.cell in
-    live-from leg _ _ _ _ _ c.self.view_is (record {
-      stands = subst (λ (p : Parts). LiveStands leg (walking_of p c.pop.new.self f.last)) (sym c.put.ensures)
-          (back-kept leg f.way f.ring f.last is c.pop.new.self c.in-Some.cell there c.pop.ensures.rest);
-      counts = ap (λ (p : Parts). counts_of p p.source.inbox.come) c.put.ensures
-          ∙ back-counts leg f.way f.ring f.last is c.pop.new.self c.in-Some.cell there c.pop.ensures.rest;
-      moved = back-yes leg f.way f.ring f.last is c.pop.new.self c.in-Some.cell there c.pop.ensures.rest;
-    })
-
-pub returns-in-Some-clause-landed : goal.returns-in-Some-clause-landed
-returns-in-Some-clause-landed c =
-    ap (λ (p : Parts). p.source.landed) c.put.ensures ∙ ap (λ (w : Walking). w.way.source.landed) c.self.view_is
+pub returns-in-Some : goal.returns-in-Some
+returns-in-Some c =
+    record {
+      makes = λ leg stands.
+          let f = c.self.inside in
+          let is = subst (LiveStands leg) (sym c.self.view_is) stands in
+          let there = sym c.in-Some.is ∙ c.pop.ensures.cell in
+          live-from leg _ _ _ _ _ c.self.view_is (record {
+            stands = subst (λ (p : Parts). LiveStands leg (walking_of p c.pop.new.self f.last)) (sym c.put.ensures)
+                (back-kept leg f.way f.ring f.last is c.pop.new.self c.in-Some.cell there c.pop.ensures.rest);
+            counts = ap (λ (p : Parts). counts_of p p.source.inbox.come) c.put.ensures
+                ∙ back-counts leg f.way f.ring f.last is c.pop.new.self c.in-Some.cell there c.pop.ensures.rest;
+            moved = back-yes leg f.way f.ring f.last is c.pop.new.self c.in-Some.cell there c.pop.ensures.rest;
+          });
+      landed = ap (λ (p : Parts). p.source.landed) c.put.ensures ∙ ap (λ (w : Walking). w.way.source.landed) c.self.view_is;
+      windows = ap (λ (p : Parts). windows_in p.lines) c.put.ensures
+          ∙ ap (λ (w : Walking). windows_in w.way.lines) c.self.view_is;
+    }
 
 pub returns-in-None-clause-makes : goal.returns-in-None-clause-makes
 returns-in-None-clause-makes c leg stands =
@@ -52,9 +51,6 @@ returns-in-None-clause-makes c leg stands =
 
 pub returns-in-None-clause-landed : goal.returns-in-None-clause-landed
 returns-in-None-clause-landed c = ap (λ (w : Walking). w.way.source.landed) c.self.view_is
-
-pub returns-in-Some-clause-windows : goal.returns-in-Some-clause-windows
-returns-in-Some-clause-windows c = ap (λ (p : Parts). windows_in p.lines) c.put.ensures ∙ ap (λ (w : Walking). windows_in w.way.lines) c.self.view_is
 
 pub returns-in-None-clause-windows : goal.returns-in-None-clause-windows
 returns-in-None-clause-windows c = ap (λ (w : Walking). windows_in w.way.lines) c.self.view_is

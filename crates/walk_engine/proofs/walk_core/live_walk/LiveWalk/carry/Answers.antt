@@ -12,21 +12,20 @@ carry-requires-clause-line c =
 pub carry-requires-clause-stands : goal.carry-requires-clause-stands
 carry-requires-clause-stands c = way-stands _ (is-live _ _ c.self.view_is c.requires.stands)
 
-pub returns-clause-makes : goal.returns-clause-makes
-returns-clause-makes c leg stands =
-    let f = c.self.inside in
-    let is = subst (LiveStands leg) (sym c.self.view_is) stands in
-    let e = c.carry.ensures in
-    let makes = e.makes leg f.way.source.inbox.come is.stands in
-    live-from leg _ _ _ _ _ c.self.view_is (record {
-      stands = carried-live leg (walking_of f.way f.ring f.last) c.carry.new.self is makes.stands e.rest;
-      counts = ap (λ (p : Parts). counts_of c.carry.new.self p.source.inbox.come) e.rest ∙ makes.counts;
-      moved = c.carried.ensures ∙ makes.moved;
-    })
-
-pub returns-clause-landed : goal.returns-clause-landed
-returns-clause-landed c =
-    ap (λ (p : Parts). p.source.landed) c.carry.ensures.rest ∙ ap (λ (w : Walking). w.way.source.landed) c.self.view_is
-
-pub returns-clause-windows : goal.returns-clause-windows
-returns-clause-windows c = c.carry.ensures.windows ∙ ap (λ (w : Walking). windows_in w.way.lines) c.self.view_is
+pub returns : goal.returns
+returns c =
+    record {
+      makes = λ leg stands.
+          let f = c.self.inside in
+          let is = subst (LiveStands leg) (sym c.self.view_is) stands in
+          let e = c.carry.ensures in
+          let makes = e.makes leg f.way.source.inbox.come is.stands in
+          live-from leg _ _ _ _ _ c.self.view_is (record {
+            stands = carried-live leg (walking_of f.way f.ring f.last) c.carry.new.self is makes.stands e.rest;
+            counts = ap (λ (p : Parts). counts_of c.carry.new.self p.source.inbox.come) e.rest ∙ makes.counts;
+            moved = c.carried.ensures ∙ makes.moved;
+          });
+      landed = ap (λ (p : Parts). p.source.landed) c.carry.ensures.rest
+          ∙ ap (λ (w : Walking). w.way.source.landed) c.self.view_is;
+      windows = c.carry.ensures.windows ∙ ap (λ (w : Walking). windows_in w.way.lines) c.self.view_is;
+    }

@@ -51,34 +51,31 @@ pub take-requires : goal.take-requires
 take-requires g c =
     let (leg, stands) = c.requires in (leg, (c.back.ensures.makes leg (c.loop-line.invariant.stands leg stands)).stands)
 
-pub returns-clause-finishes : goal.returns-clause-finishes
-returns-clause-finishes g c leg stands =
+pub returns : goal.returns
+returns g c =
     let inv = c.loop-line.invariant in
-    let lines = c.lines-line-end.ensures ∙ ap (λ (w : Walking). length w.way.lines) c.self.view_is in
-    let test = c.loop-line-test.false in
-    let first = stands.stands.lines.size in
-    let paths = paths-size leg stands.stands.sound in
-    let backs = c.back.ensures.makes leg (inv.stands leg stands) in
-    let takes = c.take.ensures.makes leg backs.stands in
     record {
-      stands = takes.stands;
-      counts = finish-parts leg (walking_counts c.args.self.now) (walking_counts c.loop-line.self) (walking_counts c.back.new.self)
-          (walking_counts c.take.new.self)
-          (carry-end leg (walking_counts c.args.self.now) (walking_counts c.loop-line.self) c.loop-line.line _
-          (omega (arith, first, paths, lines, test)) (inv.left leg stands))
-          backs.counts takes.counts;
+      finishes = λ leg stands.
+          let lines = c.lines-line-end.ensures ∙ ap (λ (w : Walking). length w.way.lines) c.self.view_is in
+          let test = c.loop-line-test.false in
+          let first = stands.stands.lines.size in
+          let paths = paths-size leg stands.stands.sound in
+          let backs = c.back.ensures.makes leg (inv.stands leg stands) in
+          let takes = c.take.ensures.makes leg backs.stands in
+          record {
+            stands = takes.stands;
+            counts = finish-parts leg (walking_counts c.args.self.now) (walking_counts c.loop-line.self)
+                (walking_counts c.back.new.self)
+                (walking_counts c.take.new.self)
+                (carry-end leg (walking_counts c.args.self.now) (walking_counts c.loop-line.self) c.loop-line.line _
+                (omega (arith, first, paths, lines, test)) (inv.left leg stands))
+                backs.counts takes.counts;
+          };
+      landed = c.take.ensures.landed ∙ c.back.ensures.landed ∙ c.loop-line.invariant.landed;
+      windows = c.take.ensures.windows ∙ c.back.ensures.windows ∙ c.loop-line.invariant.windows;
+      gives = λ leg stands.
+          let backs = c.back.ensures.makes leg (inv.stands leg stands) in
+          subst (λ n. GivesRows g.F.FrameOut.stands_for c.args.out.now c.take.new.out leg n (walking_counts c.take.new.self).rows)
+          (back-kept leg (walking_counts c.loop-line.self) (walking_counts c.back.new.self) backs.counts ∙ inv.rows)
+          (c.take.ensures.gives leg backs.stands);
     }
-
-pub returns-clause-landed : goal.returns-clause-landed
-returns-clause-landed g c = c.take.ensures.landed ∙ c.back.ensures.landed ∙ c.loop-line.invariant.landed
-
-pub returns-clause-gives : goal.returns-clause-gives
-returns-clause-gives g c leg stands =
-    let inv = c.loop-line.invariant in
-    let backs = c.back.ensures.makes leg (inv.stands leg stands) in
-    subst (λ n. GivesRows g.F.FrameOut.stands_for c.args.out.now c.take.new.out leg n (walking_counts c.take.new.self).rows)
-    (back-kept leg (walking_counts c.loop-line.self) (walking_counts c.back.new.self) backs.counts ∙ inv.rows)
-    (c.take.ensures.gives leg backs.stands)
-
-pub returns-clause-windows : goal.returns-clause-windows
-returns-clause-windows g c = c.take.ensures.windows ∙ c.back.ensures.windows ∙ c.loop-line.invariant.windows

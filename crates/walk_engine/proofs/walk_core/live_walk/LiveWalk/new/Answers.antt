@@ -14,19 +14,17 @@ alike config leg over = record {
       (sym (ap (λ (c : Config). c.lost) over.network));
 }
 
-pub returns-clause-stands : goal.returns-clause-stands
-returns-clause-stands c leg over =
-    let config = c.args.config.now in
+pub returns : goal.returns
+returns c =
     let e = c.in_ok-way.ensures in
-    new-live leg c.in_ok-way.way c.in_ok-ring.ring (e.stands leg (alike config leg over))
-    (e.counts leg (alike config leg over)) over.quiet
-    (e.inbox ∙ ap (λ (c : Config). empty_inbox c.lost c.lag) (sym over.network)) c.in_ok-ring.ensures
-
-pub returns-clause-counts : goal.returns-clause-counts
-returns-clause-counts c leg over =
-    let e = c.in_ok-way.ensures in
-    new-live-counts leg c.in_ok-way.way (e.counts leg (alike c.args.config.now leg over))
-    (e.inbox ∙ ap (λ (c : Config). empty_inbox c.lost c.lag) (sym over.network))
-
-pub returns-clause-windows : goal.returns-clause-windows
-returns-clause-windows c = c.in_ok-way.ensures.windows
+    record {
+      stands = λ leg over.
+          let config = c.args.config.now in
+          new-live leg c.in_ok-way.way c.in_ok-ring.ring (e.stands leg (alike config leg over))
+          (e.counts leg (alike config leg over)) over.quiet
+          (e.inbox ∙ ap (λ (c : Config). empty_inbox c.lost c.lag) (sym over.network)) c.in_ok-ring.ensures;
+      counts = λ leg over.
+          new-live-counts leg c.in_ok-way.way (e.counts leg (alike c.args.config.now leg over))
+          (e.inbox ∙ ap (λ (c : Config). empty_inbox c.lost c.lag) (sym over.network));
+      windows = c.in_ok-way.ensures.windows;
+    }

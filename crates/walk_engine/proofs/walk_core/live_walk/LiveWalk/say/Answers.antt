@@ -9,27 +9,27 @@ use Rattle.walk_engine.proofs.WalkCoreLaws.LandSteps.{landed-live}
 use Rattle.walk_engine.proofs.WalkCoreLaws.WayLaws.{live-from}
 use Rattle.walk_engine.proofs.walk_core.live_walk.LiveWalk.say.Goals as goal
 
-pub returns-clause-makes : goal.returns-clause-makes
-returns-clause-makes c leg stands due =
+pub returns : goal.returns
+returns c =
     let f = c.self.inside in
-    let is = subst (LiveStands leg) (sym c.self.view_is) stands in
-    let now = subst (λ (w : Walking). IsDue leg (walking_counts w) (kind_of c.args.item)) (sym c.self.view_is) due in
-    let e = c.land.ensures in
-    let makes = e.makes leg f.way.source.inbox.come is.stands now in
-    live-from leg _ _ _ _ _ c.self.view_is (record {
-      stands = landed-live leg (walking_of f.way f.ring f.last) c.land.new.self is makes.stands e.ticks e.inbox e.rest;
-      counts = ap (λ (i : Inbox). counts_of c.land.new.self i.come) e.inbox ∙ makes.counts;
-      moved = makes.moved;
-    })
-
-pub returns-clause-refusal : goal.returns-clause-refusal
-returns-clause-refusal c leg stands due =
-    let f = c.self.inside in
-    let is = subst (LiveStands leg) (sym c.self.view_is) stands in
-    let now = subst (λ (w : Walking). IsDue leg (walking_counts w) (kind_of c.args.item)) (sym c.self.view_is) due in
-    c.land.ensures.refusal leg f.way.source.inbox.come is.stands now
-    ∙ ap (λ (w : Walking). refusal_in_event leg (walking_counts w) (landing_of (is_client (kind_of c.args.item))))
-    c.self.view_is
-
-pub returns-clause-windows : goal.returns-clause-windows
-returns-clause-windows c = ap (λ (p : Parts). windows_in p.lines) c.land.ensures.rest ∙ ap (λ (w : Walking). windows_in w.way.lines) c.self.view_is
+    record {
+      makes = λ leg stands due.
+          let is = subst (LiveStands leg) (sym c.self.view_is) stands in
+          let now = subst (λ (w : Walking). IsDue leg (walking_counts w) (kind_of c.args.item)) (sym c.self.view_is) due in
+          let e = c.land.ensures in
+          let makes = e.makes leg f.way.source.inbox.come is.stands now in
+          live-from leg _ _ _ _ _ c.self.view_is (record {
+            stands = landed-live leg (walking_of f.way f.ring f.last) c.land.new.self is makes.stands
+                e.ticks e.inbox e.rest;
+            counts = ap (λ (i : Inbox). counts_of c.land.new.self i.come) e.inbox ∙ makes.counts;
+            moved = makes.moved;
+          });
+      refusal = λ leg stands due.
+          let is = subst (LiveStands leg) (sym c.self.view_is) stands in
+          let now = subst (λ (w : Walking). IsDue leg (walking_counts w) (kind_of c.args.item)) (sym c.self.view_is) due in
+          c.land.ensures.refusal leg f.way.source.inbox.come is.stands now
+          ∙ ap (λ (w : Walking). refusal_in_event leg (walking_counts w) (landing_of (is_client (kind_of c.args.item))))
+          c.self.view_is;
+      windows = ap (λ (p : Parts). windows_in p.lines) c.land.ensures.rest
+          ∙ ap (λ (w : Walking). windows_in w.way.lines) c.self.view_is;
+    }

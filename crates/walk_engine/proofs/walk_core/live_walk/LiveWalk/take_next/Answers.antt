@@ -18,62 +18,54 @@ say-requires g c =
     c.take.ensures.rest c.in-Taken.back c.in-Taken.is in
     subst (λ p. length f.ring + length (listed p) ≤ 4) (sym said) (said-room leg f.way f.ring f.last is none)
 
-pub returns-in-Waiting-clause-makes : goal.returns-in-Waiting-clause-makes
-returns-in-Waiting-clause-makes g c leg stands =
+pub returns-in-Waiting : goal.returns-in-Waiting
+returns-in-Waiting g c =
     let f = c.self.inside in
-    let is = subst (LiveStands leg) (sym c.self.view_is) stands in
-    let none = is-free leg _ _ is c.self.view_is c.requires.free in
-    let e = c.take.ensures in
-    let takes = e.takes leg f.way.source.inbox.come is.stands none in
-    live-from leg _ _ _ _ _ c.self.view_is (record {
-      stands = waits-walk leg f.way f.ring f.last is none c.take.new.self c.take.result takes e.rest c.in-Waiting.line
-          c.in-Waiting.is;
-      counts = take-counts leg f.way f.ring f.last is none c.take.new.self c.take.result takes e.rest;
-      moved = ap take_moved (sym c.in-Waiting.is) ∙ takes.makes.moved;
-    })
+    record {
+      makes = λ leg stands.
+          let is = subst (LiveStands leg) (sym c.self.view_is) stands in
+          let none = is-free leg _ _ is c.self.view_is c.requires.free in
+          let e = c.take.ensures in
+          let takes = e.takes leg f.way.source.inbox.come is.stands none in
+          live-from leg _ _ _ _ _ c.self.view_is (record {
+            stands = waits-walk leg f.way f.ring f.last is none c.take.new.self c.take.result takes e.rest c.in-Waiting.line
+                c.in-Waiting.is;
+            counts = take-counts leg f.way f.ring f.last is none c.take.new.self c.take.result takes e.rest;
+            moved = ap take_moved (sym c.in-Waiting.is) ∙ takes.makes.moved;
+          });
+      landed = ap (λ (p : Parts). p.source.landed) c.take.ensures.rest
+          ∙ ap (λ (w : Walking). w.way.source.landed) c.self.view_is;
+      windows = c.take.ensures.windows ∙ ap (λ (w : Walking). windows_in w.way.lines) c.self.view_is;
+      gives = λ leg stands.
+          let is = subst (LiveStands leg) (sym c.self.view_is) stands in
+          let none = is-free leg _ _ is c.self.view_is c.requires.free in
+          subst (λ (w : Walking). GivesRows g.F.FrameOut.stands_for c.args.out.now c.take.new.out leg (walking_counts w).rows
+          c.take.new.self.sink.taken) c.self.view_is
+          (c.take.ensures.gives leg f.way.source.inbox.come is.stands none);
+    }
 
-pub returns-in-Waiting-clause-landed : goal.returns-in-Waiting-clause-landed
-returns-in-Waiting-clause-landed g c =
-    ap (λ (p : Parts). p.source.landed) c.take.ensures.rest ∙ ap (λ (w : Walking). w.way.source.landed) c.self.view_is
-
-pub returns-in-Waiting-clause-gives : goal.returns-in-Waiting-clause-gives
-returns-in-Waiting-clause-gives g c leg stands =
+pub returns-in-Taken : goal.returns-in-Taken
+returns-in-Taken g c =
     let f = c.self.inside in
-    let is = subst (LiveStands leg) (sym c.self.view_is) stands in
-    let none = is-free leg _ _ is c.self.view_is c.requires.free in
-    subst (λ (w : Walking). GivesRows g.F.FrameOut.stands_for c.args.out.now c.take.new.out leg (walking_counts w).rows
-    c.take.new.self.sink.taken) c.self.view_is
-    (c.take.ensures.gives leg f.way.source.inbox.come is.stands none)
-
-pub returns-in-Taken-clause-makes : goal.returns-in-Taken-clause-makes
-returns-in-Taken-clause-makes g c leg stands =
-    let f = c.self.inside in
-    let is = subst (LiveStands leg) (sym c.self.view_is) stands in
-    let none = is-free leg _ _ is c.self.view_is c.requires.free in
-    let e = c.take.ensures in
-    let takes = e.takes leg f.way.source.inbox.come is.stands none in
-    live-from leg _ _ _ _ _ c.self.view_is (record {
-      stands = taken-walk leg f.way f.ring f.last is none c.take.new.self c.take.result takes e.rest c.in-Taken.back
-          c.say.new.self c.in-Taken.is c.say.ensures;
-      counts = take-counts leg f.way f.ring f.last is none c.take.new.self c.take.result takes e.rest;
-      moved = ap take_moved (sym c.in-Taken.is) ∙ takes.makes.moved;
-    })
-
-pub returns-in-Taken-clause-landed : goal.returns-in-Taken-clause-landed
-returns-in-Taken-clause-landed g c =
-    ap (λ (p : Parts). p.source.landed) c.take.ensures.rest ∙ ap (λ (w : Walking). w.way.source.landed) c.self.view_is
-
-pub returns-in-Taken-clause-gives : goal.returns-in-Taken-clause-gives
-returns-in-Taken-clause-gives g c leg stands =
-    let f = c.self.inside in
-    let is = subst (LiveStands leg) (sym c.self.view_is) stands in
-    let none = is-free leg _ _ is c.self.view_is c.requires.free in
-    subst (λ (w : Walking). GivesRows g.F.FrameOut.stands_for c.args.out.now c.take.new.out leg (walking_counts w).rows
-    c.take.new.self.sink.taken) c.self.view_is
-    (c.take.ensures.gives leg f.way.source.inbox.come is.stands none)
-
-pub returns-in-Waiting-clause-windows : goal.returns-in-Waiting-clause-windows
-returns-in-Waiting-clause-windows g c = c.take.ensures.windows ∙ ap (λ (w : Walking). windows_in w.way.lines) c.self.view_is
-
-pub returns-in-Taken-clause-windows : goal.returns-in-Taken-clause-windows
-returns-in-Taken-clause-windows g c = c.take.ensures.windows ∙ ap (λ (w : Walking). windows_in w.way.lines) c.self.view_is
+    record {
+      makes = λ leg stands.
+          let is = subst (LiveStands leg) (sym c.self.view_is) stands in
+          let none = is-free leg _ _ is c.self.view_is c.requires.free in
+          let e = c.take.ensures in
+          let takes = e.takes leg f.way.source.inbox.come is.stands none in
+          live-from leg _ _ _ _ _ c.self.view_is (record {
+            stands = taken-walk leg f.way f.ring f.last is none c.take.new.self c.take.result takes e.rest c.in-Taken.back
+                c.say.new.self c.in-Taken.is c.say.ensures;
+            counts = take-counts leg f.way f.ring f.last is none c.take.new.self c.take.result takes e.rest;
+            moved = ap take_moved (sym c.in-Taken.is) ∙ takes.makes.moved;
+          });
+      landed = ap (λ (p : Parts). p.source.landed) c.take.ensures.rest
+          ∙ ap (λ (w : Walking). w.way.source.landed) c.self.view_is;
+      windows = c.take.ensures.windows ∙ ap (λ (w : Walking). windows_in w.way.lines) c.self.view_is;
+      gives = λ leg stands.
+          let is = subst (LiveStands leg) (sym c.self.view_is) stands in
+          let none = is-free leg _ _ is c.self.view_is c.requires.free in
+          subst (λ (w : Walking). GivesRows g.F.FrameOut.stands_for c.args.out.now c.take.new.out leg (walking_counts w).rows
+          c.take.new.self.sink.taken) c.self.view_is
+          (c.take.ensures.gives leg f.way.source.inbox.come is.stands none);
+    }

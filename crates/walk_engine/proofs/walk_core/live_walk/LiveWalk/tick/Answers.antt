@@ -16,16 +16,13 @@ returns-in-Some-clause-makes c leg stands none agrees =
     (sym c.in-Some.is ∙ c.tick_stall.ensures.cause leg stands none) in
     record { stands = stands; counts = stays.0; moved = stays.1 }
 
-pub make-back-requires-clause-stands : goal.make-back-requires-clause-stands
-make-back-requires-clause-stands c = way-stands _ (is-live _ _ c.self.view_is c.requires.stands)
-
-pub make-back-requires-clause-left : goal.make-back-requires-clause-left
-make-back-requires-clause-left c =
-    subst (λ (w : Walking). w.way.source.core.ticks < w.way.source.total) (sym c.self.view_is) c.requires.left
-
-pub make-back-requires-clause-cell : goal.make-back-requires-clause-cell
-make-back-requires-clause-cell c =
-    ap (λ (w : Walking). missing_from w.way.source) c.self.view_is ∙ c.tick_stall.ensures.cell c.in_default.is
+pub make-back-requires : goal.make-back-requires
+make-back-requires c =
+    record {
+      stands = way-stands _ (is-live _ _ c.self.view_is c.requires.stands);
+      left = subst (λ (w : Walking). w.way.source.core.ticks < w.way.source.total) (sym c.self.view_is) c.requires.left;
+      cell = ap (λ (w : Walking). missing_from w.way.source) c.self.view_is ∙ c.tick_stall.ensures.cell c.in_default.is;
+    }
 
 pub returns-clause-makes : goal.returns-clause-makes
 returns-clause-makes c leg stands none agrees =

@@ -1,18 +1,15 @@
 -- What waits in a receive ring.
-use Rattle.std.proofs.Common.{◌<◌, length, slice_get, sym, ◌∙◌, ap, subst}
-use Rattle.walk_engine.specs.walk_core.Parts.{WayStands}
+use Rattle.std.proofs.Common.{slice_get, ◌∙◌, ap}
 use Rattle.walk_engine.specs.Common.{Parts, counts_of, calls_of, receive_ring}
 use Rattle.walk_engine.proofs.WalkCoreLaws.CarryLaws.{line-has, receives-are}
-use Rattle.walk_engine.proofs.WalkCoreLaws.CarrySteps.{line-low, line-there}
+use Rattle.walk_engine.proofs.WalkCoreLaws.CarrySteps.{line-read}
 use Rattle.walk_engine.proofs.walk_core.one_way.WayCore.receive_ring.Goals as goal
 
 pub returns : goal.returns
 returns c leg backs stands =
-    let is = subst (WayStands leg backs) (sym c.self.view_is) stands in
-    let inside = subst (λ (p : Parts). c.args.line < length p.lines) (sym c.self.view_is) c.requires in
-    let low = line-low leg backs _ is c.args.line c.from.result c.from.ensures inside in
     let line = c.index.result.now in
-    let there = line-there leg backs _ is c.args.line c.from.result c.from.ensures inside line c.index.ensures in
+    let (is, low, there) = line-read leg backs _ _ c.self.view_is stands c.args.line c.from.result c.from.ensures c.requires
+    line c.index.ensures in
     c.waiting.ensures (calls_of leg c.args.line line) (line-has leg backs _ is c.args.line low line there).has
     ∙ receives-are leg backs _ is c.args.line low line there c.args.place
     ∙ ap (λ (p : Parts). slice_get (receive_ring leg (counts_of p backs) c.args.line) c.args.place) c.self.view_is

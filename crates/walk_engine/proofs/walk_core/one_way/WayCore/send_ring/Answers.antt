@@ -1,22 +1,18 @@
 -- What waits in a send ring.
 use Rattle.std.proofs.Common.{rules, ◌+◌, ◌%◌, ◌<◌, ◌≤◌, min, length, slice_get, slice_index_or, Some, refl, ◌∙◌}
-use Rattle.std.proofs.Common.{ap, sym, subst, arith}
+use Rattle.std.proofs.Common.{ap, subst, arith}
 use Rattle.law_model.proofs.ListLaws.{at-index}
 use Rattle.law_model.specs.Common.{in_send}
-use Rattle.walk_engine.specs.walk_core.Parts.{WayStands}
 use Rattle.walk_engine.specs.Common.{Parts, counts_of, line_counts, send_ring}
 use Rattle.walk_engine.proofs.WalkCoreLaws.CarryLaws.{frame-size, sent-places, sends-made, sends-none, sends-some}
-use Rattle.walk_engine.proofs.WalkCoreLaws.CarrySteps.{line-low, line-there}
+use Rattle.walk_engine.proofs.WalkCoreLaws.CarrySteps.{line-read}
 use Rattle.walk_engine.proofs.walk_core.one_way.WayCore.send_ring.Goals as goal
 
 pub frame_at-requires : goal.frame_at-requires
 frame_at-requires c =
     let (leg, backs, stands) = c.requires.stands in
-    let is = subst (WayStands leg backs) (sym c.self.view_is) stands in
-    let inside = subst (λ (p : Parts). c.args.line < length p.lines) (sym c.self.view_is) c.requires.line in
-    let low = line-low leg backs _ is c.args.line c.from-m.result c.from-m.ensures inside in
-    let there =
-    line-there leg backs _ is c.args.line c.from-m.result c.from-m.ensures inside c.index.result.now c.index.ensures in
+    let (is, low, there) = line-read leg backs _ _ c.self.view_is stands c.args.line c.from-m.result c.from-m.ensures
+    c.requires.line c.index.result.now c.index.ensures in
     let made = sends-made leg backs _ is c.args.line low c.index.result.now there in
     let total = c.total_ticks.ensures ∙ is.total in
     let ticks = c.ticks.ensures in
@@ -26,9 +22,8 @@ pub index-requires-in-Some-2 : goal.index-requires-in-Some-2
 index-requires-in-Some-2 c =
     let own = c.self.inside in
     let (leg, backs, stands) = c.requires.stands in
-    let is = subst (WayStands leg backs) (sym c.self.view_is) stands in
-    let inside = subst (λ (p : Parts). c.args.line < length p.lines) (sym c.self.view_is) c.requires.line in
-    let low = line-low leg backs _ is c.args.line c.from-m.result c.from-m.ensures inside in
+    let (is, low, there) = line-read leg backs _ _ c.self.view_is stands c.args.line c.from-m.result c.from-m.ensures
+    c.requires.line c.index.result.now c.index.ensures in
     let at = c.from-m.ensures in
     let places = sent-places leg own.source.core.ticks _ own.sent.items is.sent in
     let row = at-index own.sent.items (c.in-Some.t % 32) c.index-in-Some.result.now
@@ -40,11 +35,8 @@ index-requires-in-Some-2 c =
 pub returns-in-Some : goal.returns-in-Some
 returns-in-Some c leg backs stands =
     let own = c.self.inside in
-    let is = subst (WayStands leg backs) (sym c.self.view_is) stands in
-    let inside = subst (λ (p : Parts). c.args.line < length p.lines) (sym c.self.view_is) c.requires.line in
-    let low = line-low leg backs _ is c.args.line c.from-m.result c.from-m.ensures inside in
-    let there =
-    line-there leg backs _ is c.args.line c.from-m.result c.from-m.ensures inside c.index.result.now c.index.ensures in
+    let (is, low, there) = line-read leg backs _ _ c.self.view_is stands c.args.line c.from-m.result c.from-m.ensures
+    c.requires.line c.index.result.now c.index.ensures in
     let places = sent-places leg own.source.core.ticks _ own.sent.items is.sent in
     let row = at-index own.sent.items (c.in-Some.t % 32) c.index-in-Some.result.now
     (omega (arith, places)) c.index-in-Some.ensures in
@@ -66,11 +58,8 @@ returns-in-Some c leg backs stands =
 
 pub returns-in-None : goal.returns-in-None
 returns-in-None c leg backs stands =
-    let is = subst (WayStands leg backs) (sym c.self.view_is) stands in
-    let inside = subst (λ (p : Parts). c.args.line < length p.lines) (sym c.self.view_is) c.requires.line in
-    let low = line-low leg backs _ is c.args.line c.from-m.result c.from-m.ensures inside in
-    let there =
-    line-there leg backs _ is c.args.line c.from-m.result c.from-m.ensures inside c.index.result.now c.index.ensures in
+    let (is, low, there) = line-read leg backs _ _ c.self.view_is stands c.args.line c.from-m.result c.from-m.ensures
+    c.requires.line c.index.result.now c.index.ensures in
     let total = c.total_ticks.ensures ∙ is.total in
     let past =
     subst (λ n. in_send leg.config.ticks n (line_counts c.index.result.now) ≤ c.args.place) c.ticks.ensures

@@ -25,20 +25,14 @@ pub returns-in-Some-clause-gives : goal.returns-in-Some-clause-gives
 returns-in-Some-clause-gives g c leg backs stands free =
     gives-none g.F.FrameOut.stands_for c.args.out.now leg _ _ (ap (λ (p : Parts). p.sink.taken) c.self.view_is)
 
-pub take_counted_row-back-requires-clause-lines : goal.take_counted_row-back-requires-clause-lines
-take_counted_row-back-requires-clause-lines g c =
+pub take_counted_row-back-requires : goal.take_counted_row-back-requires
+take_counted_row-back-requires g c =
     let (leg, backs, stands) = c.requires in
-    c.pop_lines.ensures.lines ∙ (subst (WayStands leg backs) (sym c.self.view_is) stands).sink.lines
-
-pub take_counted_row-back-requires-clause-rows : goal.take_counted_row-back-requires-clause-rows
-take_counted_row-back-requires-clause-rows g c =
-    let (leg, backs, stands) = c.requires in
-    c.pop_lines.ensures.rows ∙ (subst (WayStands leg backs) (sym c.self.view_is) stands).sink.passed
-
-pub take_counted_row-back-requires-clause-few : goal.take_counted_row-back-requires-clause-few
-take_counted_row-back-requires-clause-few g c =
-    let (leg, backs, stands) = c.requires in
-    rows-few leg backs _ (subst (WayStands leg backs) (sym c.self.view_is) stands)
+    record {
+      lines = c.pop_lines.ensures.lines ∙ (subst (WayStands leg backs) (sym c.self.view_is) stands).sink.lines;
+      rows = c.pop_lines.ensures.rows ∙ (subst (WayStands leg backs) (sym c.self.view_is) stands).sink.passed;
+      few = rows-few leg backs _ (subst (WayStands leg backs) (sym c.self.view_is) stands);
+    }
 
 pub returns-clause-takes : goal.returns-clause-takes
 returns-clause-takes g c leg backs stands free =

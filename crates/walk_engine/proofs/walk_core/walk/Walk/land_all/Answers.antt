@@ -1,5 +1,5 @@
 -- An item lands, or stalls.
-use Rattle.std.proofs.Common.{refl, sym, ◌∙◌, ap}
+use Rattle.std.proofs.Common.{rules, refl, sym, ◌∙◌, ap}
 use Rattle.law_model.specs.Common.{Counts, leg_of}
 use Rattle.law_model.specs.declared.script_types.Script.{Script}
 use Rattle.walk_engine.specs.Common.{landing_of, counts_after, moved_of}
@@ -15,23 +15,21 @@ loop-init c = record {
   rows = refl;
 }
 
-pub returns-in-Stalled-clause-counts : goal.returns-in-Stalled-clause-counts
-returns-in-Stalled-clause-counts c =
+pub returns-in-Stalled : goal.returns-in-Stalled
+returns-in-Stalled c =
     let inv = c.loop.invariant in
     let after = c.land.ensures.counts
     ∙ ap (λ (x : Script). counts_after (leg_of x) c.loop.self.counts (landing_of c.args.client)) inv.script in
-    let said = sym c.in-Stalled.is ∙ c.land.ensures.moved
-    ∙ ap (λ (x : Script). moved_of (leg_of x) c.loop.self.counts (landing_of c.args.client)) inv.script in
-    land-end (leg_of c.args.self.now.script) c.args.self.now.counts c.args.client c.loop.self.counts
-    c.land.new.self.counts _ inv.landed after said
-
-pub returns-in-Stalled-clause-rows : goal.returns-in-Stalled-clause-rows
-returns-in-Stalled-clause-rows c =
-    let inv = c.loop.invariant in
-    let after = c.land.ensures.counts
-    ∙ ap (λ (x : Script). counts_after (leg_of x) c.loop.self.counts (landing_of c.args.client)) inv.script in
-    ap (λ (s : Counts). s.rows) after
-    ∙ landed-rows c.args.client (leg_of c.args.self.now.script) c.loop.self.counts ∙ inv.rows
+    record {
+      script = search rules;
+      counts =
+          let said = sym c.in-Stalled.is ∙ c.land.ensures.moved
+          ∙ ap (λ (x : Script). moved_of (leg_of x) c.loop.self.counts (landing_of c.args.client)) inv.script in
+          land-end (leg_of c.args.self.now.script) c.args.self.now.counts c.args.client c.loop.self.counts
+          c.land.new.self.counts _ inv.landed after said;
+      rows = ap (λ (s : Counts). s.rows) after
+          ∙ landed-rows c.args.client (leg_of c.args.self.now.script) c.loop.self.counts ∙ inv.rows;
+    }
 
 pub loop-smaller : goal.loop-smaller
 loop-smaller c =

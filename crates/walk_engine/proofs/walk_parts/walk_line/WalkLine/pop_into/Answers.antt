@@ -1,9 +1,9 @@
 -- Each cell leaves the line open, up to the last one.
 use Rattle.std.proofs.Common.{rules, ◌≡◌, ◌+◌, ◌-◌, ◌%◌, true, false, List, [], ◌∷◌, length, take, slice_set, refl, sym, ◌∙◌, ap}
-use Rattle.std.proofs.Common.{subst, arith, is_none, length-set}
+use Rattle.std.proofs.Common.{subst, arith, length-set}
 use Rattle.std.specs.Global.{Box}
 use Rattle.std.proofs.lemmas.List.{length-map, map-set}
-use Rattle.law_model.specs.Common.{Container, Cell, verdict, first_open}
+use Rattle.law_model.specs.Common.{Container, Cell, verdict}
 use Rattle.std.proofs.lemmas.Option.{slice_get_within}
 use Rattle.law_model.proofs.ListLaws.{take-one}
 use Rattle.circular_buffer.proofs.Places.{slice_get-some}
@@ -11,7 +11,7 @@ use Rattle.member_cells.specs.Held.{held}
 use Rattle.member_path.specs.path_delay.Line.{path_cells}
 use Rattle.member_path.specs.cell_numbers.Told.{cell_with}
 use Rattle.member_rows.specs.realign_rows.Gather.{GatherStands as Gathers, with_cell}
-use Rattle.walk_engine.specs.Common.{Ringed, Has, is_at, popped_until, leaves_open}
+use Rattle.walk_engine.specs.Common.{Ringed, Has, popped_until, leaves_open}
 use Rattle.walk_engine.proofs.WalkPartsLaws.RingLaws.{cell-read, has-popped}
 use Rattle.walk_engine.proofs.WalkPartsLaws.PopLaws.{waits-is, with-set, set-same, until-shut, until-none, until-next}
 use Rattle.walk_engine.proofs.WalkPartsLaws.PopLaws.{none-some}
@@ -49,10 +49,8 @@ returns-then-not-waits_for-clause-popped c calls cells next =
     let inv = c.loop-self.invariant in
     let shut : c.waits_for.result ≡ false = search (rules, c.if-not-waits_for.true) in
     let own : List Cell = take c.loop-self.self-inside.popped (path_cells calls) in
-    let waits = c.waits_for.ensures.waits _ (inv.gathers calls cells next) in
-    let at : c.waits_for.result ≡ is_none (verdict own c.args.rows.now.rows) =
-    waits ∙ ap (λ t. is_at c.args.line (first_open (slice_set cells c.args.line own) t)) inv.rows
-    ∙ waits-is cells c.args.line c.args.rows.now.rows _ own next.own next.before in
+    let at = waits-is cells c.args.line _ c.args.rows.now.rows c.waits_for.result _ own inv.rows
+    (c.waits_for.ensures.waits _ (inv.gathers calls cells next)) next.own next.before in
     sym (until-shut (c.args.self.now.given - c.loop-self.self-inside.popped)
     (λ y. leaves_open (path_cells calls) c.args.rows.now.rows y) c.loop-self.self-inside.popped (sym at ∙ shut))
     ∙ inv.until calls cells next
@@ -62,10 +60,8 @@ returns-then-not-waits_for-clause-decides c calls cells next =
     let inv = c.loop-self.invariant in
     let shut : c.waits_for.result ≡ false = search (rules, c.if-not-waits_for.true) in
     let own : List Cell = take c.loop-self.self-inside.popped (path_cells calls) in
-    let waits = c.waits_for.ensures.waits _ (inv.gathers calls cells next) in
-    let at : c.waits_for.result ≡ is_none (verdict own c.args.rows.now.rows) =
-    waits ∙ ap (λ t. is_at c.args.line (first_open (slice_set cells c.args.line own) t)) inv.rows
-    ∙ waits-is cells c.args.line c.args.rows.now.rows _ own next.own next.before in
+    let at = waits-is cells c.args.line _ c.args.rows.now.rows c.waits_for.result _ own inv.rows
+    (c.waits_for.ensures.waits _ (inv.gathers calls cells next)) next.own next.before in
     none-some (verdict own c.args.rows.now.rows) false (sym shut ∙ at)
 
 pub loop-self-preserved : goal.loop-self-preserved
@@ -133,10 +129,8 @@ loop-self-preserved c =
       until = λ calls cells next.
           let open' : c.waits_for.result ≡ true = search (rules, c.if-not-waits_for.false) in
           let own : List Cell = take c.loop-self.self-inside.popped (path_cells calls) in
-          let waits = c.waits_for.ensures.waits _ (inv.gathers calls cells next) in
-          let at : c.waits_for.result ≡ is_none (verdict own c.args.rows.now.rows) =
-          waits ∙ ap (λ t. is_at c.args.line (first_open (slice_set cells c.args.line own) t)) inv.rows
-          ∙ waits-is cells c.args.line c.args.rows.now.rows _ own next.own next.before in
+          let at = waits-is cells c.args.line _ c.args.rows.now.rows c.waits_for.result _ own inv.rows
+          (c.waits_for.ensures.waits _ (inv.gathers calls cells next)) next.own next.before in
           until-next c.args.self.now.given (λ y. leaves_open (path_cells calls) c.args.rows.now.rows y)
           c.loop-self.self-inside.popped (omega (arith, given, test)) (sym at ∙ open')
           ∙ inv.until calls cells next;
@@ -155,7 +149,6 @@ pub returns-clause-decides : goal.returns-clause-decides
 returns-clause-decides c calls cells next =
     let inv = c.loop-self.invariant in
     let own : List Cell = take c.loop-self.self-inside.popped (path_cells calls) in
-    let waits = c.waits_for-2.ensures.waits _ (inv.gathers calls cells next) in
     none-some (verdict own c.args.rows.now.rows) c.waits_for-2.result
-    (waits ∙ ap (λ t. is_at c.args.line (first_open (slice_set cells c.args.line own) t)) inv.rows
-    ∙ waits-is cells c.args.line c.args.rows.now.rows _ own next.own next.before)
+    (waits-is cells c.args.line _ c.args.rows.now.rows c.waits_for-2.result _ own inv.rows
+    (c.waits_for-2.ensures.waits _ (inv.gathers calls cells next)) next.own next.before)
