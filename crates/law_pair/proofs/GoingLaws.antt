@@ -16,13 +16,23 @@ use Rattle.law_pair.specs.declared.pair_events.PairEvent.TheVariants.{Item, Tick
 use Rattle.law_pair.proofs.OneWayLaws.{HasSaid, OneWay, AreInOrder, item-leads, carry-leads, take-leads}
 use Rattle.law_pair.proofs.TickLaws.{IsFree, free-ticks, both-free}
 
+-- a walk can lead there, and has said each return packet
+pub record HasGone (plan : Plan) (s : Counts) : Type 0 where
+  pub said : HasSaid s
+  pub walks : IsReached plan s
+
+begun : (plan : Plan) → HasGone plan (begin plan)
+begun plan = record { said = refl; walks = ([], sym (run-none plan (begin plan))) }
+
+gone-on : (plan : Plan) (s next : Counts) → HasGone plan s → HasSaid next → Leads plan s next → HasGone plan next
+gone-on plan s next gone said leads =
+    record { said = said; walks = Leads-then plan (begin plan) s next gone.walks leads }
+
 -- each way is where a walk with some lag can be
 pub record IsGoing (pair : PairPlan) (there_lag back_lag : ℕ) (s : PairCounts) : Type 0 where
   pub together : s.there.ticks ≡ s.back.ticks
-  pub there_said : HasSaid s.there
-  pub back_said : HasSaid s.back
-  pub there_walks : IsReached (with_lag there_lag pair.there) s.there
-  pub back_walks : IsReached (with_lag back_lag pair.back) s.back
+  pub there : HasGone (with_lag there_lag pair.there) s.there
+  pub back : HasGone (with_lag back_lag pair.back) s.back
 
 -- no lag is less than that of the pair, and the items are in the order of their ticks
 pub record CanGo (pair : PairPlan) (there_lag back_lag : ℕ) : Type 0 where
@@ -35,33 +45,43 @@ module _ (pair : PairPlan) (there_lag back_lag : ℕ) (can : CanGo pair there_la
   abbrev Going : PairCounts → Type 0
   Going s = IsGoing pair there_lag back_lag s
 
-  there-goes : (s : PairCounts) (next : Counts) → Going s → OneWay (with_lag there_lag pair.there) s.there next →
-      Going (with_counts There next s)
-  there-goes s next going one = record {
+  abbrev lag_on : Way → ℕ
+  lag_on There = there_lag
+  lag_on Back = back_lag
+
+  abbrev lagged : Way → Plan
+  lagged way = with_lag (lag_on way) (plan_on pair way)
+
+  gone : (way : Way) (s : PairCounts) → Going s → HasGone (lagged way) (counts_on s way)
+  gone There s going = going.there
+  gone Back s going = going.back
+
+  order : (way : Way) → AreInOrder (lagged way)
+  order There = can.there_order
+  order Back = can.back_order
+
+  way-goes : (way : Way) (s : PairCounts) (next : Counts) → Going s → OneWay (lagged way) (counts_on s way) next →
+      Going (with_counts way next s)
+  way-goes There s next going one = record {
     together = one.ticks ∙ going.together;
-    there_said = one.said;
-    back_said = going.back_said;
-    there_walks = Leads-then (with_lag there_lag pair.there) (begin (with_lag there_lag pair.there)) s.there next
-        going.there_walks one.leads;
-    back_walks = going.back_walks;
+    there = gone-on (lagged There) s.there next going.there one.said one.leads;
+    back = going.back;
   }
-
-  back-goes : (s : PairCounts) (next : Counts) → Going s → OneWay (with_lag back_lag pair.back) s.back next →
-      Going (with_counts Back next s)
-  back-goes s next going one = record {
+  way-goes Back s next going one = record {
     together = going.together ∙ sym one.ticks;
-    there_said = going.there_said;
-    back_said = one.said;
-    there_walks = going.there_walks;
-    back_walks = Leads-then (with_lag back_lag pair.back) (begin (with_lag back_lag pair.back)) s.back next
-        going.back_walks one.leads;
+    there = going.there;
+    back = gone-on (lagged Back) s.back next going.back one.said one.leads;
   }
 
-  tick-leads : (plan : Plan) (s : Counts) → pair.lag ≤ plan.lag → HasSaid s → IsFree plan pair.lag s →
-      Leads plan s (ticked s)
+  ticks-on : (plan : Plan) (lag : ℕ) (s : Counts) → pair.lag ≤ lag → HasGone (with_lag lag plan) s →
+      IsFree plan pair.lag s → HasGone (with_lag lag plan) (ticked s)
   unfolding run
-  tick-leads plan s more said free =
-      (walk.Tick ∷ [], sym (ap (λ (c : Step). c.counts) (free-ticks plan pair.lag s more said free)))
+  ticks-on plan lag s more gone free =
+      gone-on (with_lag lag plan) s (ticked s) gone gone.said (
+        walk.Tick ∷ [],
+        sym (ap (λ (c : Step). c.counts) (free-ticks (with_lag lag plan) pair.lag s more gone.said
+            (record { open_ = free.open_; landed = free.landed; room = free.room; said = free.said }))),
+      )
 
   tick-goes : (s : PairCounts) → Going s → (cause : Option (Way × StallCause)) → tick_cause pair s ≡ cause →
       Going (tick_by cause s).counts
@@ -70,37 +90,18 @@ module _ (pair : PairPlan) (there_lag back_lag : ℕ) (can : CanGo pair there_la
       let free = both-free pair s is in
       record {
         together = ap (λ n. n + 1) going.together;
-        there_said = going.there_said;
-        back_said = going.back_said;
-        there_walks = Leads-then (with_lag there_lag pair.there) (begin (with_lag there_lag pair.there)) s.there
-            (ticked s.there) going.there_walks
-            (tick-leads (with_lag there_lag pair.there) s.there can.there_more going.there_said
-            (lagged-free pair.there there_lag s.there free.0));
-        back_walks = Leads-then (with_lag back_lag pair.back) (begin (with_lag back_lag pair.back)) s.back
-            (ticked s.back) going.back_walks
-            (tick-leads (with_lag back_lag pair.back) s.back can.back_more going.back_said
-            (lagged-free pair.back back_lag s.back free.1));
+        there = ticks-on pair.there there_lag s.there can.there_more going.there free.0;
+        back = ticks-on pair.back back_lag s.back can.back_more going.back free.1;
       }
-    where
-      lagged-free : (plan : Plan) (lag : ℕ) (c : Counts) → IsFree plan pair.lag c →
-          IsFree (with_lag lag plan) pair.lag c
-      lagged-free plan lag c free =
-          record { open_ = free.open_; landed = free.landed; room = free.room; said = free.said }
 
   pub step-goes : (s : PairCounts) (event : PairEvent) → Going s → Going (pair_step pair s event).counts
-  step-goes s (Item There) going =
-      there-goes s _ going (item-leads (with_lag there_lag pair.there) s.there can.there_order going.there_said)
-  step-goes s (Item Back) going =
-      back-goes s _ going (item-leads (with_lag back_lag pair.back) s.back can.back_order going.back_said)
+  step-goes s (Item way) going =
+      way-goes way s _ going (item-leads (lagged way) (counts_on s way) (order way) (gone way s going).said)
   step-goes s Tick going = tick-goes s going (tick_cause pair s) refl
-  step-goes s (Carry There line) going =
-      there-goes s _ going (carry-leads (with_lag there_lag pair.there) s.there line going.there_said)
-  step-goes s (Carry Back line) going =
-      back-goes s _ going (carry-leads (with_lag back_lag pair.back) s.back line going.back_said)
-  step-goes s (Take There) going =
-      there-goes s _ going (take-leads (with_lag there_lag pair.there) s.there going.there_said)
-  step-goes s (Take Back) going =
-      back-goes s _ going (take-leads (with_lag back_lag pair.back) s.back going.back_said)
+  step-goes s (Carry way line) going =
+      way-goes way s _ going (carry-leads (lagged way) (counts_on s way) line (gone way s going).said)
+  step-goes s (Take way) going =
+      way-goes way s _ going (take-leads (lagged way) (counts_on s way) (gone way s going).said)
 
   pub run-goes : (s : PairCounts) (events : List PairEvent) → Going s → Going (pair_run pair s events)
   unfolding pair_run
@@ -108,13 +109,7 @@ module _ (pair : PairPlan) (there_lag back_lag : ℕ) (can : CanGo pair there_la
   run-goes s (event ∷ events) going = run-goes (pair_step pair s event).counts events (step-goes s event going)
 
   begins : Going (pair_begin pair)
-  begins = record {
-    together = refl;
-    there_said = refl;
-    back_said = refl;
-    there_walks = ([], sym (run-none (with_lag there_lag pair.there) (begin (with_lag there_lag pair.there))));
-    back_walks = ([], sym (run-none (with_lag back_lag pair.back) (begin (with_lag back_lag pair.back))));
-  }
+  begins = record { together = refl; there = begun (lagged There); back = begun (lagged Back) }
 
   pub reached-goes : (s : PairCounts) → IsPairReached pair s → Going s
   reached-goes s reached = subst Going (sym reached.1) (run-goes (pair_begin pair) reached.0 begins)
@@ -147,13 +142,13 @@ goes-near pair s is reached = reached-goes pair pair.lag pair.lag (can-go-near p
 -- ---- what is said of it
 pub pair-walks : (pair : PairPlan) (s : PairCounts) (way : Way) → IsPairPlan pair → IsPairReached pair s →
     IsReached (plan_on pair way) (counts_on s way)
-pair-walks pair s There is reached = (goes pair s is reached).there_walks
-pair-walks pair s Back is reached = (goes pair s is reached).back_walks
+pair-walks pair s There is reached = (goes pair s is reached).there.walks
+pair-walks pair s Back is reached = (goes pair s is reached).back.walks
 
 pub pair-said : (pair : PairPlan) (s : PairCounts) (way : Way) → IsPairPlan pair → IsPairReached pair s →
     (counts_on s way).backs ≡ packets_in (counts_on s way).rows
-pair-said pair s There is reached = (goes pair s is reached).there_said
-pair-said pair s Back is reached = (goes pair s is reached).back_said
+pair-said pair s There is reached = (goes pair s is reached).there.said
+pair-said pair s Back is reached = (goes pair s is reached).back.said
 
 pub pair-together : (pair : PairPlan) (s : PairCounts) → IsPairPlan pair → IsPairReached pair s →
     s.there.ticks ≡ s.back.ticks

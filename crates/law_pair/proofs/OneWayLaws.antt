@@ -45,29 +45,25 @@ stays plan s said = record { leads = leads-none plan s; ticks = refl; said = sai
 abbrev pub AreInOrder : Plan → Type 0
 AreInOrder plan = IsNonDecreasing (frame_dues plan.items) × IsNonDecreasing (command_dues plan.items)
 
+in-time : (s next : Counts) (due k : ℕ) (dues : List ℕ) → Lands due dues k → due ≤ s.ticks →
+    next ≡ (land_due s.ticks (slice_get dues k) s next).counts
+in-time s next due k dues lands now =
+    let low = lands.2 in
+    let on_time : nat_lt s.ticks lands.0 ≡ false = grind (arith, low, now) in
+    sym (ap (λ found. (land_due s.ticks found s next).counts) lands.1
+    ∙ ap (λ (early : Bool). (if early then stalled s (NotDue lands.0) else moved next).counts) on_time)
+
 accept-leads : (plan : Plan) (s : Counts) (due : ℕ) → Lands due (frame_dues plan.items) s.frames → due ≤ s.ticks →
     Leads plan s (landed (frame_due due) s)
 unfolding run
 accept-leads plan s due lands now =
-    let low = lands.2 in
-    let on_time : nat_lt s.ticks lands.0 ≡ false = grind (arith, low, now) in
-    let next = record s { frames = s.frames + 1 } in (
-      Accept ∷ [],
-      sym (ap (λ found. (land_due s.ticks found s next).counts) lands.1
-          ∙ ap (λ (early : Bool). (if early then stalled s (NotDue lands.0) else moved next).counts) on_time),
-    )
+    (Accept ∷ [], in-time s (landed (frame_due due) s) due s.frames (frame_dues plan.items) lands now)
 
 command-leads : (plan : Plan) (s : Counts) (due : ℕ) → Lands due (command_dues plan.items) s.commands →
     due ≤ s.ticks → Leads plan s (landed (command_due due) s)
 unfolding run
 command-leads plan s due lands now =
-    let low = lands.2 in
-    let on_time : nat_lt s.ticks lands.0 ≡ false = grind (arith, low, now) in
-    let next = record s { commands = s.commands + 1 } in (
-      Command ∷ [],
-      sym (ap (λ found. (land_due s.ticks found s next).counts) lands.1
-          ∙ ap (λ (early : Bool). (if early then stalled s (NotDue lands.0) else moved next).counts) on_time),
-    )
+    (Command ∷ [], in-time s (landed (command_due due) s) due s.commands (command_dues plan.items) lands now)
 
 module _ (plan : Plan) (s : Counts) where
   -- ---- Item
@@ -77,59 +73,51 @@ module _ (plan : Plan) (s : Counts) where
   pub item-leads : AreInOrder plan → HasSaid s → OneWay plan s (land_item plan s).counts
   item-leads order said = by next_item refl
     where
+      lands : (item : Due) → next_item ≡ Some item → tick_of item ≤ s.ticks → OneWay plan s (landed item s)
+      lands (frame_due due) is now = record {
+        leads = accept-leads plan s due (frame-lands s.frames s.commands due plan.items order.0 is) now;
+        ticks = refl;
+        said = said;
+      }
+      lands (command_due due) is now = record {
+        leads = command-leads plan s due (command-lands s.frames s.commands due plan.items order.1 is) now;
+        ticks = refl;
+        said = said;
+      }
+
       by : (found : Option Due) → next_item ≡ found → OneWay plan s (land_first found s).counts
       by None is = stays plan s said
-      by (Some (frame_due due)) is =
-          elim (cases_Bool (nat_lt s.ticks due)) [
+      by (Some item) is =
+          elim (cases_Bool (nat_lt s.ticks (tick_of item))) [
             | inl early ↦ rw early (stays plan s said)
-            | inr late ↦ let now = ltb-false s.ticks due late in
-                rw late (record {
-                  leads = accept-leads plan s due (frame-lands s.frames s.commands due plan.items order.0 is)
-                      (omega (arith, now));
-                  ticks = refl;
-                  said = said;
-                })
+            | inr late ↦ rw late (lands item is (ltb-false s.ticks (tick_of item) late))
           ]
-      by (Some (command_due due)) is =
-          elim (cases_Bool (nat_lt s.ticks due)) [
-            | inl early ↦ rw early (stays plan s said)
-            | inr late ↦ let now = ltb-false s.ticks due late in
-                rw late (record {
-                  leads = command-leads plan s due (command-lands s.frames s.commands due plan.items order.1 is)
-                      (omega (arith, now));
-                  ticks = refl;
-                  said = said;
-                })
-          ]
+
+  landed-more : (item : Due) → way_made s < way_made (landed item s)
+  landed-more (frame_due due) = omega arith
+  landed-more (command_due due) = omega arith
 
   pub item-grows : Grows s (land_item plan s).counts
   item-grows = by next_item
     where
       by : (found : Option Due) → Grows s (land_first found s).counts
       by None = inl refl
-      by (Some (frame_due due)) =
-          elim (cases_Bool (nat_lt s.ticks due)) [ inl e ↦ rw e (inl refl) | inr e ↦ rw e (inr (omega arith)) ]
-      by (Some (command_due due)) =
-          elim (cases_Bool (nat_lt s.ticks due)) [ inl e ↦ rw e (inl refl) | inr e ↦ rw e (inr (omega arith)) ]
+      by (Some item) = elim (cases_Bool (nat_lt s.ticks (tick_of item))) [
+        | inl e ↦ rw e (inl refl)
+        | inr e ↦ rw e (inr (landed-more item))
+      ]
 
   -- an item that is due moves
   due-moves : (found : Option Due) → IsDueBy s.ticks found → ((land_first found s).cause ≡ None)
       × (way_made s < way_made (land_first found s).counts)
   due-moves None has = absurd (let e : None ≡ Some has.0 = has.1 in cc)
-  due-moves (Some (frame_due due)) has =
-      let e : Some (frame_due due) ≡ Some has.0 = has.1 in
-      let same : frame_due due ≡ has.0 = cc in
-      let tick : due ≡ tick_of has.0 = ap tick_of same in
+  due-moves (Some item) has =
+      let e : Some item ≡ Some has.0 = has.1 in
+      let same : item ≡ has.0 = cc in
+      let tick : tick_of item ≡ tick_of has.0 = ap tick_of same in
       let low = has.2 in
-      let late : nat_lt s.ticks due ≡ false = grind (arith, tick, low) in
-      rw late (refl, omega arith)
-  due-moves (Some (command_due due)) has =
-      let e : Some (command_due due) ≡ Some has.0 = has.1 in
-      let same : command_due due ≡ has.0 = cc in
-      let tick : due ≡ tick_of has.0 = ap tick_of same in
-      let low = has.2 in
-      let late : nat_lt s.ticks due ≡ false = grind (arith, tick, low) in
-      rw late (refl, omega arith)
+      let late : nat_lt s.ticks (tick_of item) ≡ false = grind (arith, tick, low) in
+      rw late (refl, landed-more item)
 
   landed-due : (found : Option ℕ) (next : Counts) → (land_due s.ticks found s next).cause ≡ None →
       (due : ℕ) × (found ≡ Some due) × (due ≤ s.ticks)

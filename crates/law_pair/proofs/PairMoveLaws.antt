@@ -162,8 +162,8 @@ pub record IsNear (pair : PairPlan) (s : PairCounts) : Type 0 where
 
 pub is-near : (pair : PairPlan) (s : PairCounts) → IsPairPlan pair → IsGoing pair pair.lag pair.lag s → IsNear pair s
 is-near pair s is going = record {
-  there = record { is = is.there_plan; reached = going.there_walks; said = going.there_said };
-  back = record { is = is.back_plan; reached = going.back_walks; said = going.back_said };
+  there = record { is = is.there_plan; reached = going.there.walks; said = going.there.said };
+  back = record { is = is.back_plan; reached = going.back.walks; said = going.back.said };
   together = going.together;
 }
 
@@ -174,9 +174,6 @@ module _ (pair : PairPlan) (s : PairCounts) (near : IsNear pair s) where
   near-walks : (way : Way) → Walks (near_plan way) (counts_on s way)
   near-walks There = near.there
   near-walks Back = near.back
-
-  near-order : (way : Way) → IsPlan (near_plan way)
-  near-order way = (near-walks way).is
 
   item-way : (way : Way) → OneWay (near_plan way) (counts_on s way) (land_item (near_plan way) (counts_on s way)).counts
   item-way way =
@@ -320,26 +317,22 @@ module _ (pair : PairPlan) (s : PairCounts) (near : IsNear pair s) where
         more = subst (λ cause. pair_made s < pair_made (tick_by cause s).counts) (sym none) (omega arith);
       }
 
+  both-found : (own other : Way) → (counts_on s own).ticks ≡ (counts_on s other).ticks →
+      (plan_on pair own).ticks ≡ (plan_on pair other).ticks → (IsFree (plan_on pair own) pair.lag (counts_on s own) →
+      IsFree (plan_on pair other) pair.lag (counts_on s other) → Found pair s) →
+      (counts_on s own).rows < (plan_on pair own).ticks → Found pair s
+  both-found own other same ticks both open_ = elim (ticks-or own open_) [
+    | inr found ↦ found
+    | inl moves ↦
+        let free = near-free own moves in
+        let low = leb-false (plan_on pair own).ticks (counts_on s own).ticks free.open_ in
+        elim (ticks-or other (free-open other (omega (arith, low, same, ticks)))) [
+          | inr found ↦ found
+          | inl more ↦ both free (near-free other more)
+        ]
+  ]
+
   pub some-found : pair.there.ticks ≡ pair.back.ticks → IsOpen pair s → Found pair s
-  some-found ticks (There, open_) = elim (ticks-or There open_) [
-    | inr found ↦ found
-    | inl moves ↦
-        let free = near-free There moves in
-        let low = leb-false pair.there.ticks s.there.ticks free.open_ in
-        let same = near.together in
-        elim (ticks-or Back (free-open Back (omega (arith, low, same, ticks)))) [
-          | inr found ↦ found
-          | inl other ↦ tick-found free (near-free Back other)
-        ]
-  ]
-  some-found ticks (Back, open_) = elim (ticks-or Back open_) [
-    | inr found ↦ found
-    | inl moves ↦
-        let free = near-free Back moves in
-        let low = leb-false pair.back.ticks s.back.ticks free.open_ in
-        let same = near.together in
-        elim (ticks-or There (free-open There (omega (arith, low, same, ticks)))) [
-          | inr found ↦ found
-          | inl other ↦ tick-found (near-free There other) free
-        ]
-  ]
+  some-found ticks (There, open_) = both-found There Back near.together ticks tick-found open_
+  some-found ticks (Back, open_) =
+      both-found Back There (sym near.together) (sym ticks) (λ one other. tick-found other one) open_

@@ -112,12 +112,6 @@ way-sound script other is =
       few = sound.few;
     }
 
-pub there-sound : (there back : Script) → IsPair there back → IsSound (way_of there back)
-there-sound there back pair = way-sound there back pair.there_way
-
-pub back-sound : (there back : Script) → IsPair there back → IsSound (way_of back there)
-back-sound there back pair = way-sound back there pair.back_way
-
 pub pair-turned : (there back : Script) → IsPair there back → IsPair back there
 pair-turned there back pair =
     record { there_way = pair.back_way; back_way = pair.there_way; lag = sym pair.lag; ticks = sym pair.ticks }

@@ -1,5 +1,5 @@
 -- A tick of both ways.
-use Rattle.std.proofs.Common.{◌≡◌, ℕ, ◌+◌, ◌<◌, Option, None, refl, sym, ◌∙◌, ap, subst, is_some}
+use Rattle.std.proofs.Common.{◌≡◌, ℕ, ◌+◌, ◌<◌, Option, None, refl, sym, ◌∙◌, ap, ap₂, subst, is_some}
 use Rattle.law_model.specs.Common.{BackCell, Leg, Counts}
 use Rattle.law_model.specs.declared.control_packet.Packet.{Packet}
 use Rattle.law_model.specs.declared.walk_events.Event.TheVariants.{Tick}
@@ -18,19 +18,17 @@ use Rattle.walk_engine.specs.Common.{Parts, StandsForSome, Makes, CanTick}
 use Rattle.walk_engine.specs.declared.walk_core.step_answers.Moved.TheVariants.{Yes}
 use Rattle.walk_engine.specs.walk_core.Parts.{WayStands}
 use Rattle.pair_engine.specs.declared.pair_way.PairWay.{PairWay}
-use Rattle.pair_engine.specs.Said.{tells_next, told_now, left_untold}
+use Rattle.pair_engine.specs.Said.{told_now, left_untold}
 use Rattle.pair_engine.specs.Ways.{way_counts, pair_counts, IsWayBeside, IsPairWalk, AreBeside}
 use Rattle.pair_engine.proofs.BesideLaws.{seen-other, there-beside, back-beside}
-use Rattle.pair_engine.proofs.TickLaws.{ticks-free, cell-there, can-tick, tick-rows, tick-counts, tick-beside}
+use Rattle.pair_engine.proofs.TickLaws.{tells_of, ticks-free, cell-there, can-tick, tick-rows, tick-counts, tick-beside}
 
 -- what a way tells, and what is left to tell
 abbrev pub telling_own : PairWay → Option Packet
-telling_own own =
-    told_now (tells_next own.script.config.lag own.core.source.core.ticks) own.said.packets
+telling_own own = told_now (tells_of own) own.said.packets
 
 abbrev pub left_own : PairWay → PairWay
-left_own own =
-    record own { said = left_untold (tells_next own.script.config.lag own.core.source.core.ticks) own.said }
+left_own own = record own { said = left_untold (tells_of own) own.said }
 
 -- nothing stalls a tick in either way
 pub record AreFree (own other : PairWay) : Type 0 where
@@ -120,11 +118,7 @@ module _ (there back : PairWay) (walk : IsPairWalk there back)
     pub both-counts : pair_counts (record (left_own there) { core = there_now })
         (record (left_own back) { core = back_now }) ≡ (tick_by None (pair_counts there back)).counts
     both-counts =
-        ap (λ (s : Counts). record {
-          there = s;
-          back = way_counts (record (left_own back) { core = back_now });
-        }) one.counts
-        ∙ ap (λ (s : Counts). record { there = ticked (way_counts there); back = s }) two.counts
+        ap₂ (λ (s t : Counts). record { there = s; back = t }) one.counts two.counts
 
     pub both-walk : IsPairWalk (record (left_own there) { core = there_now })
         (record (left_own back) { core = back_now })

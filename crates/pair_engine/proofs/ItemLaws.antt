@@ -21,10 +21,15 @@ abbrev pub up : Option (ℕ × ℕ) → Option (ℕ × ℕ)
 up None = None
 up (Some at) = Some (suc at.0, at.1)
 
+-- in front of the others: itself, or one of those
+abbrev pub front_of : ℕ → ℕ → (ℕ → Option (ℕ × ℕ)) → Option (ℕ × ℕ)
+front_of zero due later = Some (0, due)
+front_of (suc k) due later = up (later k)
+
 unfoldable pub found_of : (ItemKind → Bool) → ℕ → List Item → Option (ℕ × ℕ)
 found_of is k [] = None
-found_of is zero (item ∷ items) = if is item.kind then Some (0, item.due) else up (found_of is zero items)
-found_of is (suc k) (item ∷ items) = if is item.kind then up (found_of is k items) else up (found_of is (suc k) items)
+found_of is k (item ∷ items) =
+    if is item.kind then front_of k item.due (λ j. found_of is j items) else up (found_of is k items)
 
 -- of a frame and a command the one that lands first
 abbrev pub is_sooner : ℕ × ℕ → ℕ × ℕ → Bool
@@ -53,18 +58,18 @@ pick-up (Some f) (Some c) =
     (lt-up c.0 f.0)
 
 -- ---- a frame, or a command, in front of the others
+no-tie : (d c : ℕ) (b : Bool) → Some (frame_due d) ≡ (if b && false then Some (command_due c) else Some (frame_due d))
+no-tie d c true = refl
+no-tie d c false = refl
+
 front-none : (d : ℕ) (c : ℕ × ℕ) →
     Some (sooner (frame_due d) (Some (command_due c.1))) ≡ pick (Some (0, d)) (up (Some c))
 front-none d c =
     elim (cases_Bool (nat_lt c.1 d)) [
       | inl less ↦ rw less refl
       | inr more ↦ let last : nat_lt (suc c.0) 0 ≡ false = grind arith in
-          rw (more, last) (by (c.1 == d))
+          rw (more, last) (no-tie d c.1 (c.1 == d))
     ]
-  where
-    by : (b : Bool) → Some (frame_due d) ≡ (if b && false then Some (command_due c.1) else Some (frame_due d))
-    by true = refl
-    by false = refl
 
 front-frame : (d : ℕ) (f c : Option (ℕ × ℕ)) → ((at : ℕ × ℕ) → f ≡ Some at → d ≤ at.1) →
     Some (sooner (frame_due d) (pick f c)) ≡ pick (Some (0, d)) (up c)
@@ -83,7 +88,7 @@ front-frame d (Some f) (Some c) late =
           let one : nat_lt f.1 d ≡ false = grind (arith, h) in
           let two : nat_lt c.1 d ≡ false = grind (arith, h, low) in
           let last : nat_lt (suc c.0) 0 ≡ false = grind arith in
-          rw (later, one, two, last) (by (c.1 == d))
+          rw (later, one, two, last) (no-tie d c.1 (c.1 == d))
     ]
   where
     not-sooner : (a b : ℕ × ℕ) → is_sooner a b ≡ false → a.1 ≤ b.1
@@ -92,10 +97,6 @@ front-frame d (Some f) (Some c) late =
           | inl less ↦ absurd (let f : true ≡ false = rw less at e in cc)
           | inr more ↦ ltb-false b.1 a.1 more
         ]
-
-    by : (b : Bool) → Some (frame_due d) ≡ (if b && false then Some (command_due c.1) else Some (frame_due d))
-    by true = refl
-    by false = refl
 
 front-after : (d : ℕ) (f : ℕ × ℕ) →
     Some (sooner (command_due d) (Some (frame_due f.1))) ≡ pick (up (Some f)) (Some (0, d))
@@ -158,61 +159,48 @@ front-command d (Some f) (Some c) late =
         sym e ∙ front-after d f
 
 -- ---- due ticks never fall
-up-is : (found : Option (ℕ × ℕ)) (at : ℕ × ℕ) → up found ≡ Some at → (x : ℕ × ℕ) × (found ≡ Some x) × (x.1 ≡ at.1)
-up-is None at e = absurd cc
-up-is (Some x) at e = let same : (suc x.0, x.1) ≡ at = cc in (x, refl, ap (λ (y : ℕ × ℕ). y.1) same)
+up-due : (found : Option (ℕ × ℕ)) (at : ℕ × ℕ) (due : Option ℕ) →
+    ((x : ℕ × ℕ) → found ≡ Some x → due ≡ Some x.1) → up found ≡ Some at → due ≡ Some at.1
+up-due None at due rest e = absurd cc
+up-due (Some x) at due rest e =
+    let same : (suc x.0, x.1) ≡ at = cc in rest x refl ∙ ap (λ (y : ℕ × ℕ). Some y.1) same
 
-here-is : (due : ℕ) (at : ℕ × ℕ) → Some (0, due) ≡ Some at → due ≡ at.1
-here-is due at e = let same : (0, due) ≡ at = cc in ap (λ (y : ℕ × ℕ). y.1) same
-
-frame-here : (k due : ℕ) (kind : ItemKind) (items : List Item) (at : ℕ × ℕ) →
-    ((j : ℕ) (x : ℕ × ℕ) → found_of is_frame j items ≡ Some x →
-    slice_get (frame_dues (dues_of items)) j ≡ Some x.1) →
-    found_of is_frame k (record { due = due; kind = kind } ∷ items) ≡ Some at →
-    slice_get (frame_dues (dues_of (record { due = due; kind = kind } ∷ items))) k ≡ Some at.1
-unfolding found_of frame_dues
-frame-here zero due (Frame octets) items at rest e = ap Some (here-is due at e)
-frame-here (suc k) due (Frame octets) items at rest e =
-    let (x, is, same) = up-is (found_of is_frame k items) at e in rest k x is ∙ ap Some same
-frame-here zero due (Add line) items at rest e =
-    let (x, is, same) = up-is (found_of is_frame zero items) at e in rest zero x is ∙ ap Some same
-frame-here (suc k) due (Add line) items at rest e =
-    let (x, is, same) = up-is (found_of is_frame (suc k) items) at e in rest (suc k) x is ∙ ap Some same
-frame-here zero due (Remove line) items at rest e =
-    let (x, is, same) = up-is (found_of is_frame zero items) at e in rest zero x is ∙ ap Some same
-frame-here (suc k) due (Remove line) items at rest e =
-    let (x, is, same) = up-is (found_of is_frame (suc k) items) at e in rest (suc k) x is ∙ ap Some same
+front-due : (k due : ℕ) (later : ℕ → Option (ℕ × ℕ)) (dues : List ℕ) (at : ℕ × ℕ) →
+    ((j : ℕ) (x : ℕ × ℕ) → later j ≡ Some x → slice_get dues j ≡ Some x.1) → front_of k due later ≡ Some at →
+    slice_get (due ∷ dues) k ≡ Some at.1
+front-due zero due later dues at rest e = let same : (0, due) ≡ at = cc in ap (λ (y : ℕ × ℕ). Some y.1) same
+front-due (suc k) due later dues at rest e = up-due (later k) at (slice_get dues k) (rest k) e
 
 frame-found : (k : ℕ) (items : List Item) (at : ℕ × ℕ) → found_of is_frame k items ≡ Some at →
     slice_get (frame_dues (dues_of items)) k ≡ Some at.1
-unfolding found_of
+unfolding found_of frame_dues
 frame-found k [] at e = absurd cc
-frame-found k (item ∷ items) at e =
-    frame-here k item.due item.kind items at (λ j x is. frame-found j items x is) e
-
-command-here : (k due : ℕ) (kind : ItemKind) (items : List Item) (at : ℕ × ℕ) →
-    ((j : ℕ) (x : ℕ × ℕ) → found_of is_command j items ≡ Some x →
-    slice_get (command_dues (dues_of items)) j ≡ Some x.1) →
-    found_of is_command k (record { due = due; kind = kind } ∷ items) ≡ Some at →
-    slice_get (command_dues (dues_of (record { due = due; kind = kind } ∷ items))) k ≡ Some at.1
-unfolding found_of command_dues
-command-here zero due (Add line) items at rest e = ap Some (here-is due at e)
-command-here (suc k) due (Add line) items at rest e =
-    let (x, is, same) = up-is (found_of is_command k items) at e in rest k x is ∙ ap Some same
-command-here zero due (Remove line) items at rest e = ap Some (here-is due at e)
-command-here (suc k) due (Remove line) items at rest e =
-    let (x, is, same) = up-is (found_of is_command k items) at e in rest k x is ∙ ap Some same
-command-here zero due (Frame octets) items at rest e =
-    let (x, is, same) = up-is (found_of is_command zero items) at e in rest zero x is ∙ ap Some same
-command-here (suc k) due (Frame octets) items at rest e =
-    let (x, is, same) = up-is (found_of is_command (suc k) items) at e in rest (suc k) x is ∙ ap Some same
+frame-found k (item ∷ items) at e = by item.due item.kind (λ j x is. frame-found j items x is) e
+  where
+    by : (due : ℕ) (kind : ItemKind) → ((j : ℕ) (x : ℕ × ℕ) → found_of is_frame j items ≡ Some x →
+        slice_get (frame_dues (dues_of items)) j ≡ Some x.1) →
+        found_of is_frame k (record { due = due; kind = kind } ∷ items) ≡ Some at →
+        slice_get (frame_dues (dues_of (record { due = due; kind = kind } ∷ items))) k ≡ Some at.1
+    by due (Frame octets) rest e =
+        front-due k due (λ j. found_of is_frame j items) (frame_dues (dues_of items)) at rest e
+    by due (Add line) rest e = up-due (found_of is_frame k items) at _ (rest k) e
+    by due (Remove line) rest e = up-due (found_of is_frame k items) at _ (rest k) e
 
 command-found : (k : ℕ) (items : List Item) (at : ℕ × ℕ) → found_of is_command k items ≡ Some at →
     slice_get (command_dues (dues_of items)) k ≡ Some at.1
-unfolding found_of
+unfolding found_of command_dues
 command-found k [] at e = absurd cc
-command-found k (item ∷ items) at e =
-    command-here k item.due item.kind items at (λ j x is. command-found j items x is) e
+command-found k (item ∷ items) at e = by item.due item.kind (λ j x is. command-found j items x is) e
+  where
+    by : (due : ℕ) (kind : ItemKind) → ((j : ℕ) (x : ℕ × ℕ) → found_of is_command j items ≡ Some x →
+        slice_get (command_dues (dues_of items)) j ≡ Some x.1) →
+        found_of is_command k (record { due = due; kind = kind } ∷ items) ≡ Some at →
+        slice_get (command_dues (dues_of (record { due = due; kind = kind } ∷ items))) k ≡ Some at.1
+    by due (Frame octets) rest e = up-due (found_of is_command k items) at _ (rest k) e
+    by due (Add line) rest e =
+        front-due k due (λ j. found_of is_command j items) (command_dues (dues_of items)) at rest e
+    by due (Remove line) rest e =
+        front-due k due (λ j. found_of is_command j items) (command_dues (dues_of items)) at rest e
 
 first-low : (due later : ℕ) (dues : List ℕ) → IsNonDecreasing (due ∷ dues) → slice_get dues 0 ≡ Some later →
     due ≤ later
@@ -223,71 +211,51 @@ first-low due later (next ∷ dues) order e =
     omega (arith, low, same)
 
 -- ---- the first of all that are left
-first-here : (a b due : ℕ) (kind : ItemKind) (items : List Item) →
-    IsNonDecreasing (frame_dues (dues_of (record { due = due; kind = kind } ∷ items))) →
-    IsNonDecreasing (command_dues (dues_of (record { due = due; kind = kind } ∷ items))) →
-    ((i j : ℕ) → IsNonDecreasing (frame_dues (dues_of items)) → IsNonDecreasing (command_dues (dues_of items)) →
-    first_due (left_after i j (dues_of items)) ≡ pick (found_of is_frame i items) (found_of is_command j items)) →
-    first_due (left_after a b (dues_of (record { due = due; kind = kind } ∷ items)))
-    ≡ pick (found_of is_frame a (record { due = due; kind = kind } ∷ items))
-    (found_of is_command b (record { due = due; kind = kind } ∷ items))
-unfolding first_due left_after found_of frame_dues command_dues
-first-here zero zero due (Frame octets) items frames commands rest =
-    ap (λ found. Some (sooner (frame_due due) found)) (rest zero zero (rest-in_order due (frame_dues (dues_of items))
-    frames) commands)
-    ∙ front-frame due (found_of is_frame zero items) (found_of is_command zero items)
-    (λ at e. first-low due at.1 (frame_dues (dues_of items)) frames (frame-found zero items at e))
-first-here zero (suc b) due (Frame octets) items frames commands rest =
-    ap (λ found. Some (sooner (frame_due due) found)) (rest zero (suc b)
-    (rest-in_order due (frame_dues (dues_of items)) frames) commands)
-    ∙ front-frame due (found_of is_frame zero items) (found_of is_command (suc b) items)
-    (λ at e. first-low due at.1 (frame_dues (dues_of items)) frames (frame-found zero items at e))
-first-here (suc a) zero due (Frame octets) items frames commands rest =
-    rest a zero (rest-in_order due (frame_dues (dues_of items)) frames) commands
-    ∙ sym (pick-up (found_of is_frame a items) (found_of is_command zero items))
-first-here (suc a) (suc b) due (Frame octets) items frames commands rest =
-    rest a (suc b) (rest-in_order due (frame_dues (dues_of items)) frames) commands
-    ∙ sym (pick-up (found_of is_frame a items) (found_of is_command (suc b) items))
-first-here zero zero due (Add line) items frames commands rest =
-    ap (λ found. Some (sooner (command_due due) found)) (rest zero zero frames
-    (rest-in_order due (command_dues (dues_of items)) commands))
-    ∙ front-command due (found_of is_frame zero items) (found_of is_command zero items)
-    (λ at e. first-low due at.1 (command_dues (dues_of items)) commands (command-found zero items at e))
-first-here zero (suc b) due (Add line) items frames commands rest =
-    rest zero b frames (rest-in_order due (command_dues (dues_of items)) commands)
-    ∙ sym (pick-up (found_of is_frame zero items) (found_of is_command b items))
-first-here (suc a) zero due (Add line) items frames commands rest =
-    ap (λ found. Some (sooner (command_due due) found)) (rest (suc a) zero frames
-    (rest-in_order due (command_dues (dues_of items)) commands))
-    ∙ front-command due (found_of is_frame (suc a) items) (found_of is_command zero items)
-    (λ at e. first-low due at.1 (command_dues (dues_of items)) commands (command-found zero items at e))
-first-here (suc a) (suc b) due (Add line) items frames commands rest =
-    rest (suc a) b frames (rest-in_order due (command_dues (dues_of items)) commands)
-    ∙ sym (pick-up (found_of is_frame (suc a) items) (found_of is_command b items))
-first-here zero zero due (Remove line) items frames commands rest =
-    ap (λ found. Some (sooner (command_due due) found)) (rest zero zero frames
-    (rest-in_order due (command_dues (dues_of items)) commands))
-    ∙ front-command due (found_of is_frame zero items) (found_of is_command zero items)
-    (λ at e. first-low due at.1 (command_dues (dues_of items)) commands (command-found zero items at e))
-first-here zero (suc b) due (Remove line) items frames commands rest =
-    rest zero b frames (rest-in_order due (command_dues (dues_of items)) commands)
-    ∙ sym (pick-up (found_of is_frame zero items) (found_of is_command b items))
-first-here (suc a) zero due (Remove line) items frames commands rest =
-    ap (λ found. Some (sooner (command_due due) found)) (rest (suc a) zero frames
-    (rest-in_order due (command_dues (dues_of items)) commands))
-    ∙ front-command due (found_of is_frame (suc a) items) (found_of is_command zero items)
-    (λ at e. first-low due at.1 (command_dues (dues_of items)) commands (command-found zero items at e))
-first-here (suc a) (suc b) due (Remove line) items frames commands rest =
-    rest (suc a) b frames (rest-in_order due (command_dues (dues_of items)) commands)
-    ∙ sym (pick-up (found_of is_frame (suc a) items) (found_of is_command b items))
+abbrev IsFirst : ℕ → ℕ → List Item → Type 0
+IsFirst a b items =
+    IsNonDecreasing (frame_dues (dues_of items)) → IsNonDecreasing (command_dues (dues_of items)) →
+    first_due (left_after a b (dues_of items)) ≡ pick (found_of is_frame a items) (found_of is_command b items)
 
-pub first-is : (a b : ℕ) (items : List Item) → IsNonDecreasing (frame_dues (dues_of items)) →
-    IsNonDecreasing (command_dues (dues_of items)) → first_due (left_after a b (dues_of items))
-    ≡ pick (found_of is_frame a items) (found_of is_command b items)
+first-frame : (a b due : ℕ) (items : List Item) → IsNonDecreasing (due ∷ frame_dues (dues_of items)) →
+    IsNonDecreasing (command_dues (dues_of items)) → ((i j : ℕ) → IsFirst i j items) →
+    first_due (left_after a b (frame_due due ∷ dues_of items))
+    ≡ pick (front_of a due (λ j. found_of is_frame j items)) (up (found_of is_command b items))
+unfolding first_due left_after
+first-frame zero b due items frames commands rest =
+    ap (λ found. Some (sooner (frame_due due) found))
+    (rest zero b (rest-in_order due (frame_dues (dues_of items)) frames) commands)
+    ∙ front-frame due (found_of is_frame zero items) (found_of is_command b items)
+    (λ at e. first-low due at.1 (frame_dues (dues_of items)) frames (frame-found zero items at e))
+first-frame (suc a) b due items frames commands rest =
+    rest a b (rest-in_order due (frame_dues (dues_of items)) frames) commands
+    ∙ sym (pick-up (found_of is_frame a items) (found_of is_command b items))
+
+first-command : (a b due : ℕ) (items : List Item) → IsNonDecreasing (frame_dues (dues_of items)) →
+    IsNonDecreasing (due ∷ command_dues (dues_of items)) → ((i j : ℕ) → IsFirst i j items) →
+    first_due (left_after a b (command_due due ∷ dues_of items))
+    ≡ pick (up (found_of is_frame a items)) (front_of b due (λ j. found_of is_command j items))
+unfolding first_due left_after
+first-command a zero due items frames commands rest =
+    ap (λ found. Some (sooner (command_due due) found))
+    (rest a zero frames (rest-in_order due (command_dues (dues_of items)) commands))
+    ∙ front-command due (found_of is_frame a items) (found_of is_command zero items)
+    (λ at e. first-low due at.1 (command_dues (dues_of items)) commands (command-found zero items at e))
+first-command a (suc b) due items frames commands rest =
+    rest a b frames (rest-in_order due (command_dues (dues_of items)) commands)
+    ∙ sym (pick-up (found_of is_frame a items) (found_of is_command b items))
+
+first-here : (a b due : ℕ) (kind : ItemKind) (items : List Item) → ((i j : ℕ) → IsFirst i j items) →
+    IsFirst a b (record { due = due; kind = kind } ∷ items)
+unfolding found_of frame_dues command_dues
+first-here a b due (Frame octets) items rest frames commands = first-frame a b due items frames commands rest
+first-here a b due (Add line) items rest frames commands = first-command a b due items frames commands rest
+first-here a b due (Remove line) items rest frames commands = first-command a b due items frames commands rest
+
+pub first-is : (a b : ℕ) (items : List Item) → IsFirst a b items
 unfolding first_due left_after found_of
 first-is a b [] frames commands = refl
 first-is a b (item ∷ items) frames commands =
-    first-here a b item.due item.kind items frames commands (λ i j f c. first-is i j items f c)
+    first-here a b item.due item.kind items (λ i j f c. first-is i j items f c) frames commands
 
 -- ---- by the places of the next ones
 abbrev pub place-at : (ItemKind → Bool) → ℕ → List Item → Option (ℕ × ℕ)

@@ -13,7 +13,8 @@ use Rattle.law_model.specs.declared.script_types.Script.{Script}
 use Rattle.law_model.specs.declared.item_refusals.Refusal.{Refusal}
 use Rattle.law_pair.specs.Common.{IsPair, IsPairWalked, PairPlan, PairCounts, plan_on, counts_on, pair_step, pair_run}
 use Rattle.law_pair.specs.Common.{carries_on, pair_round, pair_drain, pair_bound, is_over, left_after, first_due}
-use Rattle.law_pair.specs.Common.{land_first, land_item, take_said, take_one, with_lag, IsPairPlan, IsPairReached}
+use Rattle.law_pair.specs.Common.{land_first, land_item, landed, tick_of, take_said, take_one, with_lag, IsPairPlan}
+use Rattle.law_pair.specs.Common.{IsPairReached}
 use Rattle.law_pair.specs.declared.pair_events.Way.{Way}
 use Rattle.law_pair.specs.declared.pair_events.Way.TheVariants.{There, Back}
 use Rattle.law_pair.specs.declared.pair_events.PairEvent.{PairEvent}
@@ -21,7 +22,7 @@ use Rattle.law_pair.specs.declared.pair_events.PairEvent.TheVariants.{Item, Tick
 use Rattle.law_pair.proofs.PairPlanLaws.{has-pair-plan, there-taken, back-taken}
 use Rattle.pair_engine.specs.declared.pair_answers.PairMoved.{PairMoved}
 use Rattle.pair_engine.specs.declared.pair_answers.PairMoved.TheVariants.{Stalled}
-use Rattle.pair_engine.specs.Moved.{Paired, plan_of, leg_on, with_counts, answer_by, GivesWay}
+use Rattle.pair_engine.specs.Moved.{Paired, plan_of, leg_on, step_of, with_counts, after, answer_by, GivesWay}
 use Rattle.walk_engine.specs.Common.{GivesRows}
 use Rattle.walk_engine.proofs.WalkCoreLaws.RoundLaws.{gives-then, drop-next, replicate-add}
 use Rattle.law_pair.proofs.GoingLaws.{goes-near}
@@ -120,27 +121,21 @@ few-landed pair s Back is reached =
 first-lands : (s : Counts) (found : Option Due) → (land_first found s).cause ≡ None →
     (land_first found s).counts.frames + (land_first found s).counts.commands ≡ s.frames + s.commands + 1
 first-lands s None e = absurd cc
-first-lands s (Some (frame_due due)) e =
-    elim (cases_Bool (nat_lt s.ticks due)) [
-      | inl early ↦ absurd (let f : Some (NotDue due) ≡ None = rw early at e in cc)
-      | inr late ↦ rw late (omega arith)
+first-lands s (Some item) e =
+    elim (cases_Bool (nat_lt s.ticks (tick_of item))) [
+      | inl early ↦ absurd (let f : Some (NotDue (tick_of item)) ≡ None = rw early at e in cc)
+      | inr late ↦ rw late (one-more item)
     ]
-first-lands s (Some (command_due due)) e =
-    elim (cases_Bool (nat_lt s.ticks due)) [
-      | inl early ↦ absurd (let f : Some (NotDue due) ≡ None = rw early at e in cc)
-      | inr late ↦ rw late (omega arith)
-    ]
+  where
+    one-more : (item : Due) → (landed item s).frames + (landed item s).commands ≡ s.frames + s.commands + 1
+    one-more (frame_due due) = omega arith
+    one-more (command_due due) = omega arith
 
 first-stalls : (s : Counts) (found : Option Due) (cause : StallCause) → (land_first found s).cause ≡ Some cause →
     (land_first found s).counts ≡ s
 first-stalls s None cause e = refl
-first-stalls s (Some (frame_due due)) cause e =
-    elim (cases_Bool (nat_lt s.ticks due)) [
-      | inl early ↦ rw early refl
-      | inr late ↦ absurd (let f : None ≡ Some cause = rw late at e in cc)
-    ]
-first-stalls s (Some (command_due due)) cause e =
-    elim (cases_Bool (nat_lt s.ticks due)) [
+first-stalls s (Some item) cause e =
+    elim (cases_Bool (nat_lt s.ticks (tick_of item))) [
       | inl early ↦ rw early refl
       | inr late ↦ absurd (let f : None ≡ Some cause = rw late at e in cc)
     ]
@@ -171,39 +166,6 @@ item-stalls pair s Back cause e =
     ap (λ (c : Counts). record { there = s.there; back = c })
     (first-stalls s.back (first_due (left_after s.back.frames s.back.commands pair.back.items)) own is)
 
-module _ (pair : PairPlan) (way : Way) (start s next : PairCounts) (landed : Landed pair way start s)
-    (is : next ≡ (pair_step pair s (Item way)).counts) where
-  pub item-turn : (pair_step pair s (Item way)).cause ≡ None → landed_on next way ≤ items_on pair way →
-      Landed pair way start next × (items_on pair way - landed_on next way < items_on pair way - landed_on s way)
-  item-turn moves few =
-      let (k, run, sum) = landed in
-      let one = ap (λ (c : PairCounts). landed_on c way) is ∙ item-lands pair s way moves in (
-        (
-          k + 1,
-          is ∙ ap (λ (c : PairCounts). (pair_step pair c (Item way)).counts) run
-              ∙ sym (run-none pair (pair_step pair (pair_run pair start (replicate k (Item way))) (Item way)).counts)
-              ∙ sym (run-one pair (pair_run pair start (replicate k (Item way))) (Item way) [])
-              ∙ sym (run-append pair start (replicate k (Item way)) (Item way ∷ []))
-              ∙ ap (pair_run pair start) (sym (replicate-add k 1 (Item way))),
-          omega (arith, one, sum),
-        ),
-        omega (arith, one, few),
-      )
-
-  pub item-end : (cause : Way × StallCause) → (pair_step pair s (Item way)).cause ≡ Some cause →
-      landed_on next way ≤ items_on pair way →
-      next ≡ pair_run pair start (replicate (suc (items_on pair way)) (Item way))
-  item-end cause stalls few =
-      let (k, run, sum) = landed in
-      let same = item-stalls pair s way cause stalls in
-      let kept = ap (λ (c : PairCounts). landed_on c way) (is ∙ same) in
-      let j : ℕ = suc (items_on pair way) - k in
-      is ∙ same ∙ sym (run-same pair s (Item way) j same)
-      ∙ ap (λ (c : PairCounts). pair_run pair c (replicate j (Item way))) run
-      ∙ sym (run-append pair start (replicate k (Item way)) (replicate j (Item way)))
-      ∙ ap (pair_run pair start) (sym (replicate-add k j (Item way))
-      ∙ ap (λ n. replicate n (Item way)) (let e : k + j ≡ suc (items_on pair way) = omega (arith, few, sum, kept) in e))
-
 -- ---- a pair that keeps its scripts
 pub keeps : (a b c : Paired) (s : PairCounts) → b ≡ with_counts a b.counts → c ≡ with_counts b s →
     c ≡ with_counts a c.counts
@@ -215,11 +177,64 @@ keeps a b c s one two =
 pub same-plan : (a b : Paired) → b ≡ with_counts a b.counts → plan_of b ≡ plan_of a
 same-plan a b e = ap plan_of e
 
-pub few-in : (a b : Paired) (way : Way) → b ≡ with_counts a b.counts → IsPair b.there b.back →
+few-in : (a b : Paired) (way : Way) → b ≡ with_counts a b.counts → IsPair b.there b.back →
     IsPairWalked b.there b.back b.counts → landed_on b.counts way ≤ items_on (plan_of a) way
 few-in a b way e fits walked =
     subst (λ plan. landed_on b.counts way ≤ items_on plan way) (same-plan a b e)
     (few-landed (plan_of b) b.counts way (has-pair-plan b.there b.back fits) walked)
+
+-- ---- an item more, or none
+module _ (was loop now : Paired) (way : Way) (kept : loop ≡ with_counts was loop.counts)
+    (next : now ≡ after loop (Item way)) (fits : IsPair now.there now.back)
+    (walked : IsPairWalked now.there now.back now.counts) (has : Landed (plan_of was) way was.counts loop.counts) where
+  abbrev plan : PairPlan
+  plan = plan_of was
+
+  pub still : now ≡ with_counts was now.counts
+  still = keeps was loop now _ kept next
+
+  few : landed_on now.counts way ≤ items_on (plan_of was) way
+  few = few-in was now way still fits walked
+
+  next-is : now.counts ≡ (pair_step (plan_of was) loop.counts (Item way)).counts
+  next-is = ap (λ (p : Paired). p.counts) next
+      ∙ ap (λ (p : PairPlan). (pair_step p loop.counts (Item way)).counts) (same-plan was loop kept)
+
+  cause-is : (pair_step (plan_of was) loop.counts (Item way)).cause ≡ (step_of loop (Item way)).cause
+  cause-is = sym (ap (λ (p : PairPlan). (pair_step p loop.counts (Item way)).cause) (same-plan was loop kept))
+
+  pub item-turn : (step_of loop (Item way)).cause ≡ None → Landed (plan_of was) way was.counts now.counts
+      × (items_on (plan_of was) way - landed_on now.counts way < items_on (plan_of was) way - landed_on loop.counts way)
+  item-turn moves =
+      let (k, run, sum) = has in
+      let most = few in
+      let last : PairCounts = pair_run plan was.counts (replicate k (Item way)) in
+      let one = ap (λ (c : PairCounts). landed_on c way) next-is
+      ∙ item-lands plan loop.counts way (cause-is ∙ moves) in (
+        (
+          k + 1,
+          next-is ∙ ap (λ (c : PairCounts). (pair_step plan c (Item way)).counts) run
+              ∙ sym (run-none plan (pair_step plan last (Item way)).counts) ∙ sym (run-one plan last (Item way) [])
+              ∙ sym (run-append plan was.counts (replicate k (Item way)) (Item way ∷ []))
+              ∙ ap (pair_run plan was.counts) (sym (replicate-add k 1 (Item way))),
+          omega (arith, one, sum),
+        ),
+        omega (arith, one, most),
+      )
+
+  pub item-end : (cause : Way × StallCause) → (step_of loop (Item way)).cause ≡ Some cause → now
+      ≡ with_counts was (pair_run (plan_of was) was.counts (replicate (suc (items_on (plan_of was) way)) (Item way)))
+  item-end cause stalls =
+      let (k, run, sum) = has in
+      let most = few in
+      let same = item-stalls plan loop.counts way cause (cause-is ∙ stalls) in
+      let on = ap (λ (c : PairCounts). landed_on c way) (next-is ∙ same) in
+      let j : ℕ = suc (items_on plan way) - k in
+      still ∙ ap (with_counts was) (next-is ∙ same ∙ sym (run-same plan loop.counts (Item way) j same)
+      ∙ ap (λ (c : PairCounts). pair_run plan c (replicate j (Item way))) run
+      ∙ sym (run-append plan was.counts (replicate k (Item way)) (replicate j (Item way)))
+      ∙ ap (pair_run plan was.counts) (sym (replicate-add k j (Item way)) ∙ ap (λ n. replicate n (Item way))
+      (let e : k + j ≡ suc (items_on plan way) = omega (arith, most, sum, on) in e)))
 
 -- ---- what an answer says of the cause
 pub moved-none : (cause : Option (Way × StallCause)) (why : Option Refusal) (answer : PairMoved) →
@@ -265,7 +280,23 @@ round-rows pair s ready one two whole a b =
     ∙ sym (run-one pair (pair_step pair ready (Take There)).counts (Take Back) [])
     ∙ sym (run-one pair ready (Take There) (Take Back ∷ [])) ∙ whole
 
--- the frames of two rows of a round
+-- ---- the frames of one list of events after another
+leg-same : (a b : Paired) → b ≡ with_counts a b.counts → (way : Way) → leg_on b way ≡ leg_on a way
+leg-same a b e There = ap (λ (p : Paired). leg_on p There) e
+leg-same a b e Back = ap (λ (p : Paired). leg_on p Back) e
+
+pub gives-more : {Out : Type 0} (stands_for : Out → Start → List (List ℕ) → Type 0) (was middle now : Out) (way : Way)
+    (a b c : Paired) → b ≡ with_counts a b.counts → (counts_on a.counts way).rows ≤ (counts_on b.counts way).rows →
+    (counts_on b.counts way).rows ≤ (counts_on c.counts way).rows →
+    GivesWay stands_for was middle a b way → GivesWay stands_for middle now b c way →
+    GivesWay stands_for was now a c way
+gives-more stands_for was middle now way a b c same up more one two =
+    gives-then stands_for was middle now (leg_on a way) (counts_on a.counts way).rows
+    (counts_on b.counts way).rows (counts_on c.counts way).rows up more one
+    (subst (λ (leg : Leg). GivesRows stands_for middle now leg (counts_on b.counts way).rows
+    (counts_on c.counts way).rows) (leg-same a b same way) two)
+
+-- those of two rows of a round
 pub gives-both : {Out : Type 0} (stands_for : Out → Start → List (List ℕ) → Type 0) (was middle now : Out) (way : Way)
     (s0 s1 s2 s3 : Paired) → s1 ≡ with_counts s0 s1.counts → s2 ≡ with_counts s0 s2.counts →
     (counts_on s1.counts way).rows ≡ (counts_on s0.counts way).rows →
@@ -274,17 +305,10 @@ pub gives-both : {Out : Type 0} (stands_for : Out → Start → List (List ℕ) 
     GivesWay stands_for was middle s1 s2 way → GivesWay stands_for middle now s2 s3 way →
     GivesWay stands_for was now s0 s3 way
 gives-both stands_for was middle now way s0 s1 s2 s3 k1 k2 rows up more one two =
-    gives-then stands_for was middle now (leg_on s0 way) (counts_on s0.counts way).rows
-    (counts_on s2.counts way).rows (counts_on s3.counts way).rows (omega (arith, rows, up)) more
+    gives-more stands_for was middle now way s0 s2 s3 k2 (omega (arith, rows, up)) more
     (subst (λ n. GivesRows stands_for was middle (leg_on s0 way) n (counts_on s2.counts way).rows) rows
     (subst (λ (leg : Leg). GivesRows stands_for was middle leg (counts_on s1.counts way).rows
-    (counts_on s2.counts way).rows) (leg-same s1 k1 way) one))
-    (subst (λ (leg : Leg). GivesRows stands_for middle now leg (counts_on s2.counts way).rows
-    (counts_on s3.counts way).rows) (leg-same s2 k2 way) two)
-  where
-    leg-same : (b : Paired) → b ≡ with_counts s0 b.counts → (way : Way) → leg_on b way ≡ leg_on s0 way
-    leg-same b e There = ap (λ (p : Paired). leg_on p There) e
-    leg-same b e Back = ap (λ (p : Paired). leg_on p Back) e
+    (counts_on s2.counts way).rows) (leg-same s0 s1 k1 way) one)) two
 
 -- ---- a round more, where rows are left
 pub round-more : (a b c : Paired) → b ≡ with_counts a b.counts → IsPair b.there b.back →
@@ -304,32 +328,14 @@ round-more a b c e fits walked open_ after =
     (sym (ap (λ (p : Paired). p.counts) after))
     (pair-round-less (plan_of b) is b.counts walked open_, pair-turns (plan_of b) b.counts is walked open_))
 
-pub gives-more : {Out : Type 0} (stands_for : Out → Start → List (List ℕ) → Type 0) (was middle now : Out) (way : Way)
-    (a b c : Paired) → b ≡ with_counts a b.counts → (counts_on a.counts way).rows ≤ (counts_on b.counts way).rows →
-    (counts_on b.counts way).rows ≤ (counts_on c.counts way).rows →
-    GivesWay stands_for was middle a b way → GivesWay stands_for middle now b c way →
-    GivesWay stands_for was now a c way
-gives-more stands_for was middle now way a b c same up more one two =
-    gives-then stands_for was middle now (leg_on a way) (counts_on a.counts way).rows
-    (counts_on b.counts way).rows (counts_on c.counts way).rows up more one
-    (subst (λ (leg : Leg). GivesRows stands_for middle now leg (counts_on b.counts way).rows
-    (counts_on c.counts way).rows) (leg-same way) two)
-  where
-    leg-same : (way : Way) → leg_on b way ≡ leg_on a way
-    leg-same There = ap (λ (p : Paired). leg_on p There) same
-    leg-same Back = ap (λ (p : Paired). leg_on p Back) same
-
 -- ---- all rows of both ways are taken
-pub over-there : (a b : Paired) → b ≡ with_counts a b.counts → IsPair b.there b.back →
+pub over-rows : (a b : Paired) → b ≡ with_counts a b.counts → IsPair b.there b.back →
     IsPairWalked b.there b.back b.counts → is_over (plan_of b) b.counts ≡ true →
-    b.counts.there.rows ≡ a.there.config.ticks
-over-there a b e fits walked over =
-    sym (ap (λ (s : PairCounts). s.there.rows) (pair-stops (plan_of b) b.counts (pair_bound (plan_of b)) over))
-    ∙ there-taken b.there b.back b.counts fits walked ∙ ap (λ (p : Paired). p.there.config.ticks) e
-
-pub over-back : (a b : Paired) → b ≡ with_counts a b.counts → IsPair b.there b.back →
-    IsPairWalked b.there b.back b.counts → is_over (plan_of b) b.counts ≡ true →
-    b.counts.back.rows ≡ a.back.config.ticks
-over-back a b e fits walked over =
-    sym (ap (λ (s : PairCounts). s.back.rows) (pair-stops (plan_of b) b.counts (pair_bound (plan_of b)) over))
-    ∙ back-taken b.there b.back b.counts fits walked ∙ ap (λ (p : Paired). p.back.config.ticks) e
+    (b.counts.there.rows ≡ a.there.config.ticks) × (b.counts.back.rows ≡ a.back.config.ticks)
+over-rows a b e fits walked over =
+    let stops = sym (pair-stops (plan_of b) b.counts (pair_bound (plan_of b)) over) in (
+      ap (λ (s : PairCounts). s.there.rows) stops ∙ there-taken b.there b.back b.counts fits walked
+          ∙ ap (λ (p : Paired). p.there.config.ticks) e,
+      ap (λ (s : PairCounts). s.back.rows) stops ∙ back-taken b.there b.back b.counts fits walked
+          ∙ ap (λ (p : Paired). p.back.config.ticks) e,
+    )

@@ -3,7 +3,7 @@ use Rattle.std.proofs.Common.{◌≡◌, ℕ, ◌+◌, ◌-◌, ◌*◌, ◌/◌
 use Rattle.std.proofs.Common.{List, [], ◌∷◌, ◌++◌, length, map, Option, Some, None, option_map}
 use Rattle.std.proofs.Common.{slice_index_or, refl, sym, ◌∙◌, ap, subst, arith, inl, inr}
 use Rattle.std.specs.List.{range_with_len}
-use Rattle.std.proofs.lemmas.Bool.{cases_Bool, eqb-true, ltb-true, le-leb, le-ltb}
+use Rattle.std.proofs.lemmas.Bool.{cases_Bool, and_parts, eqb-true, ltb-true, le-leb, le-ltb}
 use Rattle.std.proofs.lemmas.List.{append-nil, map-append, drop_all}
 use Rattle.law_model.specs.Common.{BackCell, Leg, told_by, told_in, leader, governing, read_packets, Plan, Counts}
 use Rattle.law_model.specs.Common.{LineCounts, Step, begin, in_return, is_back_full, pop_lines, take_popped, take_row}
@@ -111,17 +111,10 @@ no-packet t e = return_laws.packets-next t
 pub one-packet : (t : ℕ) → (nat_lt 22 t && t % 16 == 7) ≡ true →
     (packets_in (t + 1) ≡ packets_in t + 1) × (16 * packets_in t + 23 ≡ t)
 one-packet t e =
-    let next = return_laws.packets-next t ∙ rw e refl in
-    elim (cases_Bool (nat_lt 22 t)) [
-      | inr early ↦ absurd (let f : false ≡ true = rw early at e in cc)
-      | inl late ↦ elim (cases_Bool (t % 16 == 7)) [
-        | inr other ↦ absurd (let f : false ≡ true = rw (late, other) at e in cc)
-        | inl place ↦
-            let h = ltb-true 22 t late in
-            let at = eqb-true (t % 16) 7 place in
-            (next, omega (arith, h, at))
-      ]
-    ]
+    let (late, place) = and_parts (nat_lt 22 t) (t % 16 == 7) e in
+    let h = ltb-true 22 t late in
+    let at = eqb-true (t % 16) 7 place in
+    (return_laws.packets-next t ∙ rw e refl, omega (arith, h, at))
 
 -- rows that end no packet change nothing
 rows-quiet : (script other : Script) (rows next other_rows ticks : ℕ) (said : Said) (inbox : Inbox) →
@@ -154,17 +147,17 @@ heard-quiet script other rows other_rows next ticks said inbox same is =
     }
 
 -- a row that says a return packet
-rows-said : (script other : Script) (rows other_rows ticks : ℕ) (said : Said) (inbox : Inbox) (packet : Packet) →
+rows-said : (script other : Script) (rows other_rows ticks : ℕ) (said now : Said) (inbox : Inbox) (packet : Packet) →
     used_in script.config.lag ticks ≤ packets_in rows → packets_in (rows + 1) ≡ packets_in rows + 1 →
     packet ≡ said_packet (way_of script other) (packets_in rows) →
-    Meets script other rows other_rows ticks said inbox →
-    Meets script other (rows + 1) other_rows ticks (record said { packets = said.packets ++ packet ∷ [] }) inbox
-rows-said script other rows other_rows ticks said inbox packet low next same is = record {
-  packets = ap (λ ps. ps ++ packet ∷ []) is.packets
+    now.packets ≡ said.packets ++ packet ∷ [] → now.room ≡ said.room →
+    Meets script other rows other_rows ticks said inbox → Meets script other (rows + 1) other_rows ticks now inbox
+rows-said script other rows other_rows ticks said now inbox packet low next same says room is = record {
+  packets = says ∙ ap (λ ps. ps ++ packet ∷ []) is.packets
       ∙ ap (λ p. untold_packets (way_of script other) script.config.lag ticks rows ++ p ∷ []) same
       ∙ sym (return_laws.ring-says (way_of script other)
       (counts_with ticks rows (used_in script.config.lag ticks)) (rows + 1) low next);
-  room = is.room;
+  room = room ∙ is.room;
   heard = is.heard;
 }
 
@@ -227,6 +220,19 @@ module _ (own other : PairWay) (beside : AreBeside own other) (row : ℕ) (at_ro
       inside : own.core.sink.taken < own.script.config.ticks
       inside = omega (arith, low, at_row)
 
+      now-beside : (said : Said) (rows : ℕ) → now.sink.taken ≡ rows →
+          WayStands (way_of own.script other.script) (packets_in now.sink.taken) now →
+          Meets own.script other.script rows other.core.sink.taken own.core.source.core.ticks said
+          own.core.source.inbox → IsWayBeside other (own_now said)
+      now-beside said rows same stands meets = record {
+        stands = stands;
+        windows = windows-now;
+        landed = landed-now;
+        meets = meets-same other.script other.core.sink.taken own.script own.script rows now.sink.taken
+            own.core.source.core.ticks now.source.core.ticks said said own.core.source.inbox now.source.inbox refl refl
+            same-ticks same-inbox same meets;
+      }
+
       -- ---- it waits
       module _ (line : ℕ) (waits : answer ≡ Waiting line) where
         rows-same : now.sink.taken ≡ own.core.sink.taken
@@ -250,15 +256,9 @@ module _ (own other : PairWay) (beside : AreBeside own other) (row : ℕ) (at_ro
         waits-row = record {
           own_script = refl;
           other_script = refl;
-          own_way = record {
-            stands = subst (λ n. WayStands leg (packets_in n) now) (sym rows-same) takes.makes.stands;
-            windows = windows-now;
-            landed = landed-now;
-            meets = meets-same other.script other.core.sink.taken own.script own.script own.core.sink.taken
-                now.sink.taken own.core.source.core.ticks now.source.core.ticks own.said own.said
-                own.core.source.inbox now.source.inbox refl refl same-ticks same-inbox rows-same
-                beside.own_way.meets;
-          };
+          own_way = now-beside own.said own.core.sink.taken rows-same
+              (subst (λ n. WayStands leg (packets_in n) now) (sym rows-same) takes.makes.stands)
+              beside.own_way.meets;
           other_way = seen-other other own (own_now own.said) beside.other_way refl rows-same;
           own_counts = ap (λ n. counts_of now (packets_in n)) rows-same ∙ takes.makes.counts
               ∙ sym (ap (λ (x : Step). x.counts) step-is);
@@ -328,16 +328,9 @@ module _ (own other : PairWay) (beside : AreBeside own other) (row : ℕ) (at_ro
           quiet-row = record {
             own_script = refl;
             other_script = refl;
-            own_way = record {
-              stands = stands-next;
-              windows = windows-now;
-              landed = landed-now;
-              meets = meets-same other.script other.core.sink.taken own.script own.script now.sink.taken
-                  now.sink.taken own.core.source.core.ticks now.source.core.ticks own.said own.said
-                  own.core.source.inbox now.source.inbox refl refl same-ticks same-inbox refl
-                  (rows-quiet own.script other.script own.core.sink.taken now.sink.taken other.core.sink.taken
-                  own.core.source.core.ticks own.said own.core.source.inbox same-packets beside.own_way.meets);
-            };
+            own_way = now-beside own.said now.sink.taken refl stands-next
+                (rows-quiet own.script other.script own.core.sink.taken now.sink.taken other.core.sink.taken
+                own.core.source.core.ticks own.said own.core.source.inbox same-packets beside.own_way.meets);
             other_way = record {
               stands = beside.other_way.stands;
               windows = beside.other_way.windows;
@@ -381,48 +374,38 @@ module _ (own other : PairWay) (beside : AreBeside own other) (row : ℕ) (at_ro
               omega (arith, size, room, at, rows, more, same, some_lag)
 
           -- once it was said
-          abbrev said_now : PairWay
-          said_now = own_now (record own.said { packets = own.said.packets ++ packet ∷ [] })
+          module _ (said : Said) (says : said.packets ≡ own.said.packets ++ packet ∷ [])
+              (room : said.room ≡ own.said.room) where
+            pub said-ends : EndsPacket own (own_now said) other row
+            said-ends = record {
+              beside = beside;
+              script = refl;
+              stands = stands-next;
+              landed = landed-now;
+              ticks = same-ticks;
+              was_row = sym at_row;
+              row_is = rows-next ∙ ap (λ n. n + 1) (sym at_row);
+              ends = subst (λ n. (nat_lt 22 n && n % 16 == 7) ≡ true) (sym at_row) ends-packet;
+            }
 
-          pub said-ends : EndsPacket own said_now other row
-          said-ends = record {
-            beside = beside;
-            script = refl;
-            stands = stands-next;
-            landed = landed-now;
-            ticks = same-ticks;
-            was_row = sym at_row;
-            row_is = rows-next ∙ ap (λ n. n + 1) (sym at_row);
-            ends = subst (λ n. (nat_lt 22 n && n % 16 == 7) ≡ true) (sym at_row) ends-packet;
-          }
-
-          own-said : IsWayBeside other said_now
-          own-said = record {
-            stands = stands-next;
-            windows = windows-now;
-            landed = landed-now;
-            meets = meets-same other.script other.core.sink.taken own.script own.script
-                (own.core.sink.taken + 1) now.sink.taken own.core.source.core.ticks now.source.core.ticks
-                (record own.said { packets = own.said.packets ++ packet ∷ [] })
-                (record own.said { packets = own.said.packets ++ packet ∷ [] }) own.core.source.inbox
-                now.source.inbox refl refl same-ticks same-inbox rows-next
+            own-said : IsWayBeside other (own_now said)
+            own-said = now-beside said (own.core.sink.taken + 1) rows-next stands-next
                 (rows-said own.script other.script own.core.sink.taken other.core.sink.taken
-                own.core.source.core.ticks own.said own.core.source.inbox packet beside.told
-                (one-packet own.core.sink.taken ends-packet).0 packet-is beside.own_way.meets);
-          }
+                own.core.source.core.ticks own.said said own.core.source.inbox packet beside.told
+                (one-packet own.core.sink.taken ends-packet).0 packet-is says room beside.own_way.meets)
 
-          pub said-row : (other_now : PairWay) → Hears said_now other other_now →
-              other_now.core.sink.taken ≡ other.core.sink.taken →
-              TakesRow own other said_now other_now (answer_by None None)
-          said-row other_now hears rows = record {
-            own_script = refl;
-            other_script = hears.script;
-            own_way = seen-other said_now other other_now own-said hears.script rows;
-            other_way = hears.beside;
-            own_counts = counts-next;
-            other_counts = hears.counts;
-            moved = moved-next;
-          }
+            pub said-row : (other_now : PairWay) → Hears (own_now said) other other_now →
+                TakesRow own other (own_now said) other_now (answer_by None None)
+            said-row other_now hears = record {
+              own_script = refl;
+              other_script = hears.script;
+              own_way = seen-other (own_now said) other other_now own-said hears.script
+                  (ap (λ (s : Counts). s.rows) hears.counts);
+              other_way = hears.beside;
+              own_counts = counts-next;
+              other_counts = hears.counts;
+              moved = moved-next;
+            }
 
 -- ---- the other way hears what the packets tell
 module _ (was own other : PairWay) (row : ℕ) (is : EndsPacket was own other row) where

@@ -2,7 +2,7 @@
 use Rattle.std.proofs.Common.{◌≡◌, ℕ, ◌+◌, ◌-◌, ◌*◌, ◌/◌, ◌%◌, ◌==◌, ◌&&◌, ◌<◌, ◌≤◌, nat_le, true, false, Bool}
 use Rattle.std.proofs.Common.{if◌then◌else◌, Option, Some, None, refl, sym, ◌∙◌, ap, subst, arith, inl, inr}
 use Rattle.std.proofs.Common.{[], slice_index_or, is_some, eqb-true, leb-true, leb-false, eq-eqb, le-leb}
-use Rattle.std.proofs.lemmas.Bool.{cases_Bool, cases_lt}
+use Rattle.std.proofs.lemmas.Bool.{cases_Bool, cases_lt, and_parts}
 use Rattle.law_model.specs.Common.{BackCell, Leg, scenario_by, untold, telling_at, passed_on, told_by, Counts, Step}
 use Rattle.law_model.specs.Common.{moved, step, used_in}
 use Rattle.law_model.specs.declared.control_packet.Packet.{Packet}
@@ -33,32 +33,31 @@ use Rattle.pair_engine.specs.Ways.{way_counts, Meets, IsWayBeside, AreBeside}
 use Rattle.pair_engine.proofs.BesideLaws.{meets-same}
 use Rattle.pair_engine.proofs.HeardLaws.{told-left, HeardNext, heard-next}
 
+-- whether the next frame of a way tells, and which packet
+abbrev pub tells_of : PairWay → Bool
+tells_of own = tells_next own.script.config.lag own.core.source.core.ticks
+
+abbrev pub used_of : PairWay → ℕ
+used_of own = used_in own.script.config.lag own.core.source.core.ticks
+
 -- ---- numbers
 -- what is told was said
 pub told-said : (lag : ℕ) (s : Counts) → is_unsaid lag s ≡ false → tells_next lag s.ticks ≡ true →
     (used_in lag s.ticks < packets_in s.rows) × (s.ticks % 16 ≡ 8) × (16 * lag + 8 ≤ s.ticks)
 told-said lag s said tells =
-    elim (cases_Bool (nat_le (16 * lag + 8) s.ticks)) [
-      | inr early ↦ absurd (let e : false ≡ true = rw early at tells in cc)
-      | inl late ↦ elim (cases_Bool (s.ticks % 16 == 8)) [
-        | inr other ↦ absurd (let e : false ≡ true = rw (late, other) at tells in cc)
-        | inl place ↦
-            let h = leb-true (16 * lag + 8) s.ticks late in
-            let at = eqb-true (s.ticks % 16) 8 place in
-            let open_ : nat_le s.rows (16 * (s.ticks / 16 - lag) + 23) ≡ false = rw (late, place) at said in
-            let g = leb-false s.rows (16 * (s.ticks / 16 - lag) + 23) open_ in
-            (omega (arith, h, at, g), at, h)
-      ]
-    ]
+    let (late, place) = and_parts (nat_le (16 * lag + 8) s.ticks) (s.ticks % 16 == 8) tells in
+    let h = leb-true (16 * lag + 8) s.ticks late in
+    let at = eqb-true (s.ticks % 16) 8 place in
+    let open_ : nat_le s.rows (16 * (s.ticks / 16 - lag) + 23) ≡ false = rw (late, place) at said in
+    let g = leb-false s.rows (16 * (s.ticks / 16 - lag) + 23) open_ in
+    (omega (arith, h, at, g), at, h)
 
 needs-late : (lag ticks : ℕ) → is_some (needed_at lag ticks) ≡ true → (ticks % 16 ≡ 8) × (lag ≤ ticks / 16)
 needs-late lag ticks some =
-    elim (cases_Bool (ticks % 16 == 8)) [
-      | inr other ↦ absurd (let e : false ≡ true = rw other at some in cc)
-      | inl place ↦ elim (cases_Bool (nat_le lag (ticks / 16))) [
-        | inr early ↦ absurd (let e : false ≡ true = rw (place, early) at some in cc)
-        | inl late ↦ (eqb-true (ticks % 16) 8 place, leb-true lag (ticks / 16) late)
-      ]
+    elim (cases_Bool (ticks % 16 == 8 && nat_le lag (ticks / 16))) [
+      | inl needs ↦ let (place, late) = and_parts (ticks % 16 == 8) (nat_le lag (ticks / 16)) needs in
+          (eqb-true (ticks % 16) 8 place, leb-true lag (ticks / 16) late)
+      | inr not ↦ absurd (let e : false ≡ true = rw not at some in cc)
     ]
 
 used-same : (lag ticks : ℕ) → needed_at lag ticks ≡ None → used_in lag (ticks + 1) ≡ used_in lag ticks
@@ -95,17 +94,11 @@ module _ (own other : PairWay) (beside : AreBeside own other)
   can : CanWalk (way_of own.script other.script)
   can = sound-walks leg is.sound
 
-  -- what is told there
-  tells-own : (told_now (tells_next own.script.config.lag own.core.source.core.ticks) own.said.packets
-      ≡ (if tells_next own.script.config.lag own.core.source.core.ticks then Some
-      (said_packet (way_of own.script other.script)
-      (used_in own.script.config.lag own.core.source.core.ticks)) else None))
-      × ((left_untold (tells_next own.script.config.lag own.core.source.core.ticks) own.said).packets
-      ≡ untold_packets (way_of own.script other.script) own.script.config.lag
-      (own.core.source.core.ticks + 1) own.core.sink.taken)
-  tells-own =
-      told-left leg lag ticks own.core.sink.taken own.said beside.own_way.meets.packets
-      (λ tells. (told-said lag (way_counts own) free.said tells).0)
+  -- what is left to tell there
+  left-own : (left_untold (tells_of own) own.said).packets ≡ untold_packets (way_of own.script other.script)
+      own.script.config.lag (own.core.source.core.ticks + 1) own.core.sink.taken
+  left-own = (told-left leg lag ticks own.core.sink.taken own.said beside.own_way.meets.packets
+      (λ tells. (told-said lag (way_counts own) free.said tells).0)).1
 
   -- ---- before the frame
   pub ticks-free : own.core.source.core.ticks < own.core.source.total
@@ -151,23 +144,19 @@ module _ (own other : PairWay) (beside : AreBeside own other)
       ∙ hears.there
 
   -- ---- what its packets tell of the other way
-  other-told : told_now (tells_next other.script.config.lag other.core.source.core.ticks) other.said.packets
-      ≡ (if tells_next other.script.config.lag other.core.source.core.ticks then Some
-      (said_packet (way_of other.script own.script)
-      (used_in other.script.config.lag other.core.source.core.ticks)) else None)
+  other-told : told_now (tells_of other) other.said.packets
+      ≡ (if tells_of other then Some (said_packet (way_of other.script own.script) (used_of other)) else None)
   other-told =
       (told-left other_leg other.script.config.lag other.core.source.core.ticks other.core.sink.taken other.said
       beside.other_way.meets.packets
       (λ tells. (told-said other.script.config.lag (way_counts other) other_free.said tells).0)).0
 
   -- where it tells a return packet, and where it doesn't
-  told-some : tells_next other.script.config.lag other.core.source.core.ticks ≡ true →
-      told_by (said_packet (way_of other.script own.script)
-      (used_in other.script.config.lag other.core.source.core.ticks))
+  told-some : tells_of other ≡ true → told_by (said_packet (way_of other.script own.script) (used_of other))
       ≡ telling_at (scenario_by (way_of own.script other.script)) (own.core.source.core.ticks / 16)
   told-some tells =
       let stands = beside.other_way.stands in
-      let k : ℕ = used_in other.script.config.lag other.core.source.core.ticks in
+      let k : ℕ = used_of other in
       let (said, at, late) = told-said other.script.config.lag (way_counts other) other_free.said tells in
       let same_lag = beside.pair.lag in
       let together = beside.together in
@@ -178,8 +167,7 @@ module _ (own other : PairWay) (beside : AreBeside own other)
       ∙ ap (telling_at (scenario_by leg))
       (let e : k + own.script.config.lag ≡ ticks / 16 = omega (arith, at, late, same_lag, together) in e)
 
-  told-none : tells_next other.script.config.lag other.core.source.core.ticks ≡ false →
-      own.core.source.core.ticks % 16 ≡ 8 →
+  told-none : tells_of other ≡ false → own.core.source.core.ticks % 16 ≡ 8 →
       untold ≡ telling_at (scenario_by (way_of own.script other.script)) (own.core.source.core.ticks / 16)
   told-none silent at =
       let same_lag = beside.pair.lag in
@@ -196,14 +184,12 @@ module _ (own other : PairWay) (beside : AreBeside own other)
             absurd (let e : true ≡ false = sym tells ∙ silent in cc)
       ]
 
-  is-told : (told : Option Packet) →
-      told ≡ told_now (tells_next other.script.config.lag other.core.source.core.ticks) other.said.packets →
+  is-told : (told : Option Packet) → told ≡ told_now (tells_of other) other.said.packets →
       IsTold (way_of own.script other.script) own.core.source.core.ticks told
   is-told told same =
-      elim (cases_Bool (tells_next other.script.config.lag other.core.source.core.ticks)) [
+      elim (cases_Bool (tells_of other)) [
         | inl tells ↦
-            let whole : told ≡ Some (said_packet other_leg
-            (used_in other.script.config.lag other.core.source.core.ticks)) = same ∙ other-told ∙ rw tells refl in
+            let whole : told ≡ Some (said_packet other_leg (used_of other)) = same ∙ other-told ∙ rw tells refl in
             record {
               step = λ at. ap passed_on whole ∙ told-some tells;
               between = λ no. absurd (no
@@ -218,8 +204,7 @@ module _ (own other : PairWay) (beside : AreBeside own other)
   tick-moves : step (walk_plan (way_of own.script other.script)) (way_counts own) Tick ≡ moved (ticked (way_counts own))
   tick-moves = free-ticks (walk_plan leg) lag (way_counts own) (omega arith) refl free
 
-  pub can-tick : (told : Option Packet) (cell : Option BackCell) →
-      told ≡ told_now (tells_next other.script.config.lag other.core.source.core.ticks) other.said.packets →
+  pub can-tick : (told : Option Packet) (cell : Option BackCell) → told ≡ told_now (tells_of other) other.said.packets →
       cell ≡ cell_for (is_some (needed own.core.source.core)) own.core.source.inbox.cells →
       CanTick (way_of own.script other.script) (packets_in own.core.sink.taken) own.core told cell
   can-tick told cell same first = record {
@@ -257,12 +242,10 @@ module _ (own other : PairWay) (beside : AreBeside own other)
         is.source.lag
 
     meets-after : Meets own.script other.script own.core.sink.taken other.core.sink.taken
-        (own.core.source.core.ticks + 1)
-        (left_untold (tells_next own.script.config.lag own.core.source.core.ticks) own.said) box-left
+        (own.core.source.core.ticks + 1) (left_untold (tells_of own) own.said) box-left
     meets-after = record {
-      packets = tells-own.1;
-      room = left-room (tells_next own.script.config.lag own.core.source.core.ticks) own.said
-          ∙ beside.own_way.meets.room;
+      packets = left-own;
+      room = left-room (tells_of own) own.said ∙ beside.own_way.meets.room;
       heard = record {
         lost = beside.own_way.meets.heard.lost;
         room = beside.own_way.meets.heard.room;
@@ -275,10 +258,7 @@ module _ (own other : PairWay) (beside : AreBeside own other)
         left-room true said = refl
         left-room false said = refl
 
-    pub tick-beside : IsWayBeside other (record own {
-      core = now;
-      said = left_untold (tells_next own.script.config.lag own.core.source.core.ticks) own.said;
-    })
+    pub tick-beside : IsWayBeside other (record own { core = now; said = left_untold (tells_of own) own.said })
     tick-beside = record {
       stands = subst (λ n. WayStands leg (packets_in n) now) (sym tick-rows) makes.stands;
       windows = λ m low. ap (λ (p : Parts). slice_index_or (windows_in p.lines) m []) rest
@@ -288,7 +268,6 @@ module _ (own other : PairWay) (beside : AreBeside own other)
           beside.own_way.landed;
       meets = meets-same other.script other.core.sink.taken own.script own.script own.core.sink.taken
           now.sink.taken (own.core.source.core.ticks + 1) now.source.core.ticks
-          (left_untold (tells_next own.script.config.lag own.core.source.core.ticks) own.said)
-          (left_untold (tells_next own.script.config.lag own.core.source.core.ticks) own.said)
-          box-left now.source.inbox refl refl at box-is tick-rows meets-after;
+          (left_untold (tells_of own) own.said) (left_untold (tells_of own) own.said) box-left now.source.inbox refl
+          refl at box-is tick-rows meets-after;
     }

@@ -64,12 +64,6 @@ more-then a b c one two =
     let back_two = two.back in
     record { there = omega (arith, there_one, there_two); back = omega (arith, back_one, back_two) }
 
-pub there-still : (a b : Paired) → b ≡ after a (Take Back) → b.counts.there.rows ≡ a.counts.there.rows
-there-still a b e = ap (λ (p : Paired). p.counts.there.rows) e
-
-pub back-still : (a b : Paired) → b ≡ after a (Take There) → b.counts.back.rows ≡ a.counts.back.rows
-back-still a b e = ap (λ (p : Paired). p.counts.back.rows) e
-
 -- ---- what is given
 pub leg-same : (a b : Paired) (way : Way) → b ≡ with_counts a b.counts → leg_on b way ≡ leg_on a way
 leg-same a b There e = ap (λ (p : Paired). leg_on p There) e

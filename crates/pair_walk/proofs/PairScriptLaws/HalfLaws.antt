@@ -1,6 +1,7 @@
 -- The lines of two scripts, one line on and at the end.
 use Rattle.std.proofs.Common.{◌≡◌, ◌⊎◌, ℕ, ◌+◌, Bool, true, false, List, [], ◌∷◌, ap, ap₂, sym, ◌∙◌, refl, inl, inr}
 use Rattle.std.proofs.Common.{if◌then◌else◌, Option, None, Some, Result, Ok, Err, IfOk, IfErr, option_map, is_none}
+use Rattle.std.proofs.Common.{subst}
 use Rattle.text_lines.specs.Fields.{where_true}
 use Rattle.std.specs.Option.{option_or}
 use Rattle.std.specs.Str.Lines.{lines}
@@ -68,21 +69,9 @@ pub plain_stopped : (n : ℕ) (h : Halves) (ws : List (List ℕ)) (f : ScriptFau
     (fault.Script f ≡ no_memory) ⊎ IsPairToldAt n (half_fault h ws) (fault.Script f)
 plain_stopped n h ws f stays stopped = elim stopped [
   | inl short ↦ inl (ap fault.Script short)
-  | inr told ↦ inr (record {
-    wrong = of_script told.wrong;
-    fails = sym (plain_fault h ws stays) ∙ ap (option_map of_script) told.fails;
-    is = ap fault.Script told.is;
-  })
+  | inr told ↦ inr (subst (λ (o : Option HalfFault). IsPairToldAt n o (fault.Script f)) (plain_fault h ws stays)
+      (script_told n (words_fault h.now ws) f told))
 ]
-
--- the line that divides, as it was told
-pub divide_told : (n : ℕ) (h : Halves) (ws : List (List ℕ)) (f : PairFault) → true ≡ divides h ws →
-    IsPairToldAt n (option_map of_script (missing_line h.now)) f → IsPairToldAt n (half_fault h ws) f
-divide_told n h ws f splits told = record {
-  wrong = told.wrong;
-  fails = sym (divide_fault h ws splits) ∙ told.fails;
-  is = told.is;
-}
 
 -- what holds of each answer
 pub if_ok : {T E : Type 0} (r : Result T E) (P Q : T → Type 0) → IfOk r P → ((x : T) → P x → Q x) → IfOk r Q

@@ -17,6 +17,11 @@ use Rattle.pair_walk.specs.pair_script.Pieces.{no_memory, line_at, halves_of, sa
 use Rattle.pair_walk.specs.pair_script.Pieces.{FollowsIn}
 use Rattle.pair_walk.proofs.PairScriptLaws.HalfLaws.{one_more, one_fails}
 
+-- memory was short, or what follows from a fault
+or_then : {A B C : Type 0} → A ⊎ B → (B → C) → A ⊎ C
+or_then (inl a) f = inl a
+or_then (inr b) f = inr (f b)
+
 -- a piece, what is left of it before a line was read, and after it
 module _ (piece rest later : List ℕ) (within : length rest ≤ length piece) (shorter : length later < length rest)
     (is : rest ≡ drop (length piece - length rest) piece) where
@@ -56,18 +61,15 @@ module _ (piece rest later : List ℕ) (within : length rest ≤ length piece) (
     pub line_fails : (f : PairFault) → later ≡ drop (length rest - length later) rest →
         (f ≡ no_memory) ⊎ IsPairToldAt (line_at reader) (half_fault (halves_of reader) (words l)) f →
         (f ≡ no_memory) ⊎ ((more : List ℕ) → pair_of_halves (said_after first (piece ++ more)) ≡ Err f)
-    line_fails f next stopped = elim stopped [
-      | inl short ↦ inl short
-      | inr told ↦ inr (λ more.
-          ap (λ (t : List ℕ). pair_of_halves (said_after first (t ++ more)))
-          (split piece rest (length piece - length rest) is)
-          ∙ ap (λ (t : List ℕ). pair_of_halves (said_after first t))
-          (append_assoc (take (length piece - length rest) piece) rest more)
-          ∙ ap pair_of_halves (before (rest ++ more))
-          ∙ one_fails reader l (rest ++ more) (lines (later ++ more)) f
-          (ap (λ (t : List ℕ). lines (t ++ more)) (split rest later (length rest - length later) next)
-          ∙ ap lines (append_assoc (take (length rest - length later) rest) later more) ∙ whole (later ++ more)) told)
-    ]
+    line_fails f next stopped = or_then stopped (λ told more.
+        ap (λ (t : List ℕ). pair_of_halves (said_after first (t ++ more)))
+        (split piece rest (length piece - length rest) is)
+        ∙ ap (λ (t : List ℕ). pair_of_halves (said_after first t))
+        (append_assoc (take (length piece - length rest) piece) rest more)
+        ∙ ap pair_of_halves (before (rest ++ more))
+        ∙ one_fails reader l (rest ++ more) (lines (later ++ more)) f
+        (ap (λ (t : List ℕ). lines (t ++ more)) (split rest later (length rest - length later) next)
+        ∙ ap lines (append_assoc (take (length rest - length later) rest) later more) ∙ whole (later ++ more)) told)
 
 -- ---- the end of a text
 -- what is left behind the whole lines
@@ -86,29 +88,22 @@ last_line last lacks some = lines_last last 0 refl lacks some
 pub last_fails : (reader : PairReader) (last : List ℕ) (f : PairFault) → Lacks 10 last → 0 < length last →
     (f ≡ no_memory) ⊎ IsPairToldAt (line_at reader) (half_fault (halves_of reader) (words last)) f →
     (f ≡ no_memory) ⊎ (pair_of_halves (said_after reader last) ≡ Err f)
-last_fails reader last f lacks some stopped = elim stopped [
-  | inl short ↦ inl short
-  | inr told ↦ inr (one_fails reader last last (lines []) f (last_line last lacks some) told)
-]
+last_fails reader last f lacks some stopped =
+    or_then stopped (λ told. one_fails reader last last (lines []) f (last_line last lacks some) told)
 
 -- what holds of the whole text as well
 pub tail_fails : (first reader : PairReader) (piece last : List ℕ) (f : PairFault) →
     (f ≡ no_memory) ⊎ (pair_of_halves (said_after reader last) ≡ Err f) →
     said_after first piece ≡ said_after reader last →
     (f ≡ no_memory) ⊎ (pair_of_halves (said_after first piece) ≡ Err f)
-tail_fails first reader piece last f told said = elim told [
-  | inl short ↦ inl short
-  | inr fails ↦ inr (ap pair_of_halves said ∙ fails)
-]
+tail_fails first reader piece last f told said = or_then told (λ fails. ap pair_of_halves said ∙ fails)
 
 -- a fault that stays whatever follows is there where nothing does
 pub front_fails : (first : PairReader) (piece : List ℕ) (f : PairFault) →
     (f ≡ no_memory) ⊎ ((more : List ℕ) → pair_of_halves (said_after first (piece ++ more)) ≡ Err f) →
     (f ≡ no_memory) ⊎ (pair_of_halves (said_after first piece) ≡ Err f)
-front_fails first piece f told = elim told [
-  | inl short ↦ inl short
-  | inr fails ↦ inr (ap (λ (t : List ℕ). pair_of_halves (said_after first t)) (sym (append-nil piece)) ∙ fails [])
-]
+front_fails first piece f told = or_then told (λ fails.
+    ap (λ (t : List ℕ). pair_of_halves (said_after first t)) (sym (append-nil piece)) ∙ fails [])
 
 -- ---- a text in pieces
 -- all of a text but a rest, of which some was read
@@ -137,12 +132,9 @@ follows_on reader next rest left all k follows is within count said = record {
 pub fails_on : (reader : PairReader) (rest all : List ℕ) (f : PairFault) (follows : FollowsIn reader rest all) →
     (f ≡ no_memory) ⊎ ((more : List ℕ) → pair_of_halves (said_after reader (rest ++ more)) ≡ Err f) →
     (f ≡ no_memory) ⊎ ((more : List ℕ) → pair_of (all ++ more) ≡ Err f)
-fails_on reader rest all f follows told = elim told [
-  | inl short ↦ inl short
-  | inr fails ↦ inr (λ more. ap (λ (t : List ℕ). pair_of (t ++ more)) follows.is
-      ∙ ap pair_of (append_assoc follows.text rest more)
-      ∙ ap pair_of_halves (follows.stands.said (rest ++ more)) ∙ fails more)
-]
+fails_on reader rest all f follows told = or_then told (λ fails more.
+    ap (λ (t : List ℕ). pair_of (t ++ more)) follows.is ∙ ap pair_of (append_assoc follows.text rest more)
+    ∙ ap pair_of_halves (follows.stands.said (rest ++ more)) ∙ fails more)
 
 -- at its end
 pub text_said : (reader last : PairReader) (text piece : List ℕ) (r : Result ScriptPair PairFault) →
@@ -153,7 +145,4 @@ text_said reader last text piece r stands said is = ap pair_of_halves (stands.sa
 pub text_fails : (reader : PairReader) (text piece : List ℕ) (f : PairFault) → StandsAt reader text →
     (f ≡ no_memory) ⊎ (pair_of_halves (said_after reader piece) ≡ Err f) →
     (f ≡ no_memory) ⊎ (pair_of (text ++ piece) ≡ Err f)
-text_fails reader text piece f stands told = elim told [
-  | inl short ↦ inl short
-  | inr fails ↦ inr (ap pair_of_halves (stands.said piece) ∙ fails)
-]
+text_fails reader text piece f stands told = or_then told (λ fails. ap pair_of_halves (stands.said piece) ∙ fails)

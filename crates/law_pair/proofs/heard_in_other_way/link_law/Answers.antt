@@ -2,8 +2,8 @@
 use Rattle.law_pair.proofs.LinkLaws.{says-told, reads-told}
 use Rattle.law_pair.proofs.heard_in_other_way.link_law.Goals as goal
 
-pub returns-clause-says : goal.returns-clause-says
-returns-clause-says c = says-told
-
-pub returns-clause-reads : goal.returns-clause-reads
-returns-clause-reads c = reads-told
+pub returns : goal.returns
+returns c = record {
+  says = says-told;
+  reads = reads-told;
+}

@@ -9,27 +9,16 @@ use Rattle.law_model.specs.Common.{follow_within, delineate_within, segments_on,
 use Rattle.law_pair.proofs.MetLaws.{worked-pair, failing-pair}
 use Rattle.law_pair.proofs.worked_pairs.worked_law.Goals as goal
 
-pub returns-clause-pair : goal.returns-clause-pair
-returns-clause-pair c = worked-pair
-
-pub returns-clause-failing : goal.returns-clause-failing
-returns-clause-failing c = failing-pair
-
-pub returns-clause-none_lost : goal.returns-clause-none_lost
-unfolding carried are_whole
-returns-clause-none_lost c = refl
-
-pub returns-clause-lost : goal.returns-clause-lost
-unfolding carried are_whole
-returns-clause-lost c = refl
-
-pub returns-clause-tells : goal.returns-clause-tells
-unfolding carried are_whole after keep none_kept cells_before said_before is_up last_read exchange take_out turned admit
-returns-clause-tells c = refl
-
-pub returns-clause-delivered : goal.returns-clause-delivered
-unfolding carried are_whole after keep none_kept cells_before said_before is_up last_read exchange take_out turned admit
-    stream_before reaching place_of rows_of segments_on delineate_within hunt_within cut core_header octets_of xors bits
-    number_behind divide add_front scramble_on pli_of head hec_of header_with type_fault follow_within
+pub returns : goal.returns
+unfolding carried are_whole after keep none_kept cells_before said_before is_up last_read exchange take_out turned
+    admit stream_before reaching place_of rows_of segments_on delineate_within hunt_within cut core_header octets_of
+    xors bits number_behind divide add_front scramble_on pli_of head hec_of header_with type_fault follow_within
     outcomes_after_with
-returns-clause-delivered c = refl
+returns c = record {
+  pair = worked-pair;
+  failing = failing-pair;
+  none_lost = refl;
+  lost = refl;
+  tells = refl;
+  delivered = refl;
+}

@@ -30,37 +30,16 @@ one_line-plan = record {
   lag = omega arith;
 }
 
-pub returns-clause-plan : goal.returns-clause-plan
-returns-clause-plan c = record { slow = 0; fast = 0; slip = 0; is = one_line-plan }
-
-pub returns-clause-rx_full : goal.returns-clause-rx_full
-unfolding run held full frame_dues command_dues
-returns-clause-rx_full c = refl
-
-pub returns-clause-back_missing : goal.returns-clause-back_missing
-unfolding run held full frame_dues command_dues
-returns-clause-back_missing c = refl
-
-pub returns-clause-back_empty : goal.returns-clause-back_empty
-unfolding run held full frame_dues command_dues
-returns-clause-back_empty c = refl
-
-pub returns-clause-tx_full : goal.returns-clause-tx_full
-unfolding run held full frame_dues command_dues
-returns-clause-tx_full c = refl
-
-pub returns-clause-waiting : goal.returns-clause-waiting
-unfolding run held full frame_dues command_dues pop pop_lines
-returns-clause-waiting c = refl
-
-pub returns-clause-held : goal.returns-clause-held
-unfolding run held full frame_dues command_dues
-returns-clause-held c = refl
-
-pub returns-clause-not_due : goal.returns-clause-not_due
-unfolding run held full frame_dues command_dues
-returns-clause-not_due c = refl
-
-pub returns-clause-drained : goal.returns-clause-drained
+pub returns : goal.returns
 unfolding run held full frame_dues command_dues pop pop_lines carries_from drain sum_delays
-returns-clause-drained c = refl
+returns c = record {
+  plan = record { slow = 0; fast = 0; slip = 0; is = one_line-plan };
+  rx_full = refl;
+  back_missing = refl;
+  back_empty = refl;
+  tx_full = refl;
+  waiting = refl;
+  held = refl;
+  not_due = refl;
+  drained = refl;
+}

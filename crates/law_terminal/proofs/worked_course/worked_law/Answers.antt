@@ -9,47 +9,23 @@ use Rattle.law_model.specs.Common.{read_on, uppers, read_of}
 use Rattle.law_model.specs.members.Damage.{carried}
 use Rattle.law_terminal.proofs.worked_course.worked_law.Goals as goal
 
-pub returns-clause-zeros : goal.returns-clause-zeros
-returns-clause-zeros c = refl
-
-pub returns-clause-add : goal.returns-clause-add
+pub returns : goal.returns
 unfolding carried are_whole after keep none_kept cells_before said_before is_up last_read exchange take_out turned
-    admit place_in group_bits group_bit crc8_of bits number_behind divide add_front
-returns-clause-add c = refl
-
-pub returns-clause-eos : goal.returns-clause-eos
-unfolding carried are_whole after keep none_kept cells_before said_before is_up last_read exchange take_out turned
-    admit place_in group_bits group_bit crc8_of bits number_behind divide add_front
-returns-clause-eos c = refl
-
-pub returns-clause-add_second : goal.returns-clause-add_second
-unfolding carried are_whole after keep none_kept cells_before said_before is_up last_read exchange take_out turned
-    admit place_in group_bits group_bit crc8_of bits number_behind divide add_front
-returns-clause-add_second c = refl
-
-pub returns-clause-cells : goal.returns-clause-cells
-unfolding carried are_whole after keep none_kept cells_before said_before is_up last_read exchange take_out turned admit
-returns-clause-cells c = refl
-
-pub returns-clause-first : goal.returns-clause-first
-unfolding part_of
-returns-clause-first c = refl
-
-pub returns-clause-second : goal.returns-clause-second
-unfolding part_of
-returns-clause-second c = refl
-
-pub returns-clause-told : goal.returns-clause-told
-unfolding carried are_whole after keep none_kept cells_before said_before is_up last_read exchange take_out turned
-    admit place_in group_bits group_bit crc8_of bits number_behind octets_of xors divide add_front reaching place_of
-    stream_before cut scramble_on part_of path read_on uppers read_of
-returns-clause-told c = refl
-
-pub returns-clause-met : goal.returns-clause-met
-unfolding AreWindows slip_after
-returns-clause-met c = record {
-  few = omega arith;
-  apart = All-cons (AreWindows 0) [] ([] ∷ []) tt (All-cons (AreWindows 0) [] [] tt (All-nil (AreWindows 0)));
-  slip = All-cons (λ own. slip_of own < 4096) [] ([] ∷ []) (lit< tt)
-      (All-cons (λ own. slip_of own < 4096) [] [] (lit< tt) (All-nil (λ own. slip_of own < 4096)));
+    admit place_in group_bits group_bit crc8_of bits number_behind divide add_front part_of octets_of xors reaching
+    place_of stream_before cut scramble_on path read_on uppers read_of AreWindows slip_after
+returns c = record {
+  met = record {
+    few = omega arith;
+    apart = All-cons (AreWindows 0) [] ([] ∷ []) tt (All-cons (AreWindows 0) [] [] tt (All-nil (AreWindows 0)));
+    slip = All-cons (λ own. slip_of own < 4096) [] ([] ∷ []) (lit< tt)
+        (All-cons (λ own. slip_of own < 4096) [] [] (lit< tt) (All-nil (λ own. slip_of own < 4096)));
+  };
+  zeros = refl;
+  add = refl;
+  eos = refl;
+  add_second = refl;
+  told = refl;
+  cells = refl;
+  first = refl;
+  second = refl;
 }

@@ -6,26 +6,18 @@ use Rattle.pair_engine.specs.Moved.{leg_on}
 use Rattle.pair_walk.proofs.EndLaws.{rest-lines}
 use Rattle.pair_walk.proofs.pair_report.end_way.Goals as goal
 
-pub returns-clause-name : goal.returns-clause-name
-returns-clause-name g c first has =
-    let way = c.args.way in
-    c.finish.ensures.name
-    ∙ (rest-lines g.K.ByteSink.written g.K.ByteSink.faults first c.args.got c.write_rest.new.got
-    (leg_on c.args.pair.now way) (counts_on c.args.pair.now.counts way) c.refusals.result.now c.totals.result
-    c.refusals.ensures c.totals.ensures c.write_rest.ensures has).0
-
-pub returns-clause-ok : goal.returns-clause-ok
-returns-clause-ok g c first has =
+pub returns : goal.returns
+returns g c =
     let leg = leg_on c.args.pair.now c.args.way in
     let s = counts_on c.args.pair.now.counts c.args.way in
-    c.finish.ensures.ok first (report_of leg s)
-    (rest-lines g.K.ByteSink.written g.K.ByteSink.faults first c.args.got c.write_rest.new.got leg s
-    c.refusals.result.now c.totals.result c.refusals.ensures c.totals.ensures c.write_rest.ensures has).1
-
-pub returns-clause-err : goal.returns-clause-err
-returns-clause-err g c first has =
-    let leg = leg_on c.args.pair.now c.args.way in
-    let s = counts_on c.args.pair.now.counts c.args.way in
-    c.finish.ensures.err first (report_of leg s)
-    (rest-lines g.K.ByteSink.written g.K.ByteSink.faults first c.args.got c.write_rest.new.got leg s
-    c.refusals.result.now c.totals.result c.refusals.ensures c.totals.ensures c.write_rest.ensures has).1
+    record {
+      name = λ first has. c.finish.ensures.name ∙ (rest-lines g.K.ByteSink.written g.K.ByteSink.faults first c.args.got
+          c.write_rest.new.got leg s c.refusals.result.now c.totals.result c.refusals.ensures c.totals.ensures
+          c.write_rest.ensures has).0;
+      ok = λ first has. c.finish.ensures.ok first (report_of leg s)
+          (rest-lines g.K.ByteSink.written g.K.ByteSink.faults first c.args.got c.write_rest.new.got leg s
+          c.refusals.result.now c.totals.result c.refusals.ensures c.totals.ensures c.write_rest.ensures has).1;
+      err = λ first has. c.finish.ensures.err first (report_of leg s)
+          (rest-lines g.K.ByteSink.written g.K.ByteSink.faults first c.args.got c.write_rest.new.got leg s
+          c.refusals.result.now c.totals.result c.refusals.ensures c.totals.ensures c.write_rest.ensures has).1;
+    }

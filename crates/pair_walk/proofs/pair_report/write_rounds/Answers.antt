@@ -1,5 +1,5 @@
 -- A round more, or all rows are taken, or a write has failed.
-use Rattle.std.proofs.Common.{refl, sym, ◌∙◌, ap, subst, arith}
+use Rattle.std.proofs.Common.{◌≡◌, true, false, refl, sym, ◌∙◌, ap, subst, arith}
 use Rattle.law_pair.specs.Common.{IsPair, PairPlan, is_over, pair_bound}
 use Rattle.law_pair.specs.declared.pair_events.Way.TheVariants.{There, Back}
 use Rattle.law_pair.proofs.PairEndLaws.{pair-stops}
@@ -22,31 +22,24 @@ loop-pair-init g c = record {
 }
 
 -- ---- a write has failed
-pub returns-then-write_round-clause-scripts : goal.returns-then-write_round-clause-scripts
-returns-then-write_round-clause-scripts g c =
-    keeps c.args.pair.now c.loop-pair.pair c.write_round.new.pair _ c.loop-pair.invariant.pair
-    c.write_round.ensures.scripts
-
-pub returns-then-write_round-clause-fits : goal.returns-then-write_round-clause-fits
-returns-then-write_round-clause-fits g c =
-    subst (λ (p : Paired). IsPair p.there p.back) c.loop-pair.invariant.pair c.is_over.ensures.fits
-
-pub returns-then-write_round-clause-few : goal.returns-then-write_round-clause-few
-returns-then-write_round-clause-few g c few = c.write_round.ensures.few (c.loop-pair.invariant.few few)
-
-pub returns-then-write_round-clause-gives_there : goal.returns-then-write_round-clause-gives_there
-returns-then-write_round-clause-gives_there g c =
+pub returns-then-write_round : goal.returns-then-write_round
+returns-then-write_round g c =
     let inv = c.loop-pair.invariant in
-    gives-more g.F.FrameOut.stands_for c.args.there.now c.loop-pair.there c.write_round.new.there There c.args.pair.now
-    c.loop-pair.pair c.write_round.new.pair inv.pair inv.rises.there c.write_round.ensures.rises.there inv.gives_there
-    c.write_round.ensures.gives_there
-
-pub returns-then-write_round-clause-gives_back : goal.returns-then-write_round-clause-gives_back
-returns-then-write_round-clause-gives_back g c =
-    let inv = c.loop-pair.invariant in
-    gives-more g.G.FrameOut.stands_for c.args.back.now c.loop-pair.back c.write_round.new.back Back c.args.pair.now
-    c.loop-pair.pair c.write_round.new.pair inv.pair inv.rises.back c.write_round.ensures.rises.back inv.gives_back
-    c.write_round.ensures.gives_back
+    let s0 = c.args.pair.now in
+    let s1 = c.loop-pair.pair in
+    let s2 = c.write_round.new.pair in
+    let round = c.write_round.ensures in
+    record {
+      scripts = keeps s0 s1 s2 _ inv.pair round.scripts;
+      drained = λ (whole : true ≡ false). absurd cc;
+      fits = subst (λ (p : Paired). IsPair p.there p.back) inv.pair c.is_over.ensures.fits;
+      few = λ few. round.few (inv.few few);
+      gives_there = gives-more g.F.FrameOut.stands_for c.args.there.now c.loop-pair.there c.write_round.new.there There
+          s0 s1 s2 inv.pair inv.rises.there round.rises.there inv.gives_there round.gives_there;
+      gives_back = gives-more g.G.FrameOut.stands_for c.args.back.now c.loop-pair.back c.write_round.new.back Back s0 s1
+          s2 inv.pair inv.rises.back round.rises.back inv.gives_back round.gives_back;
+      failed = c.if-write_round.ensures.failed;
+    }
 
 -- ---- a round more
 pub loop-pair-smaller : goal.loop-pair-smaller

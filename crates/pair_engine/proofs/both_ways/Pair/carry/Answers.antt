@@ -1,69 +1,69 @@
 -- A line of a way carries.
-use Rattle.std.proofs.Common.{◌<◌, length, None, refl, sym, ◌∙◌, ap, subst}
-use Rattle.law_model.specs.Common.{carry}
+use Rattle.std.proofs.Common.{◌<◌, ℕ, length, Option, None, refl, sym, ◌∙◌, ap, subst}
+use Rattle.law_model.specs.Common.{Leg, Counts, Step, carry}
+use Rattle.law_model.specs.declared.item_refusals.Refusal.{Refusal}
 use Rattle.law_walk.specs.Common.{walk_plan}
 use Rattle.law_pair.specs.Common.{plan_on}
+use Rattle.law_pair.specs.declared.pair_events.PairEvent.{PairEvent}
 use Rattle.law_pair.specs.declared.pair_events.PairEvent.TheVariants.{Carry}
+use Rattle.law_pair.specs.declared.pair_events.Way.{Way}
 use Rattle.law_pair.specs.declared.pair_events.Way.TheVariants.{There, Back}
-use Rattle.pair_engine.specs.Moved.{Paired, plan_of, after, moved_on, moved_of}
-use Rattle.pair_engine.specs.Ways.{leg_beside, way_counts}
-use Rattle.pair_engine.proofs.PairLaws.{paired, line-in, there-follows, back-follows}
+use Rattle.pair_engine.specs.Moved.{Paired, plan_of}
+use Rattle.pair_engine.proofs.PairLaws.{paired, line-in, quiet-follows, seen-follows}
 use Rattle.pair_engine.proofs.both_ways.Pair.carry.Goals as goal
+
+abbrev carrying : ℕ → Leg → Counts → Step
+carrying line leg s = carry (walk_plan leg) s line
+
+abbrev refuses_none : Leg → Counts → Option Refusal
+refuses_none leg s = None
+
+abbrev carry_on : ℕ → Way → PairEvent
+carry_on line way = Carry way line
 
 pub invariant_of-self : goal.invariant_of-self
 invariant_of-self c =
-    let f = c.self.inside in
-    (there-follows f.there f.back c.self.invariant (Carry There c.args.line) c.carry.new.self
-    (carry (walk_plan (leg_beside f.there f.back)) (way_counts f.there) c.args.line) None c.carry.result refl refl
-    c.carry.ensures.quiet (c.carry.ensures.goes f.back.script c.self.invariant.there_way.stands c.self.invariant.there_way.landed)).walk
+    (quiet-follows There c.self.inside.there c.self.inside.back c.carry.new.self (carry_on c.args.line)
+    (carrying c.args.line) refuses_none c.carry.result c.self.invariant refl refl c.carry.ensures.quiet
+    c.carry.ensures.goes).walk
 
 pub invariant_of-self-in-Back : goal.invariant_of-self-in-Back
 invariant_of-self-in-Back c =
-    let f = c.self.inside in
-    (back-follows f.there f.back c.self.invariant (Carry Back c.args.line) c.carry-in-Back.new.self
-    (carry (walk_plan (leg_beside f.back f.there)) (way_counts f.back) c.args.line)
-    None c.carry-in-Back.result refl refl
-    c.carry-in-Back.ensures.quiet (c.carry-in-Back.ensures.goes f.there.script c.self.invariant.back_way.stands c.self.invariant.back_way.landed)).walk
+    (quiet-follows Back c.self.inside.back c.self.inside.there c.carry-in-Back.new.self (carry_on c.args.line)
+    (carrying c.args.line) refuses_none c.carry-in-Back.result c.self.invariant refl refl
+    c.carry-in-Back.ensures.quiet c.carry-in-Back.ensures.goes).walk
 
-pub returns-in-There-clause-pair : goal.returns-in-There-clause-pair
-returns-in-There-clause-pair c =
-    let f = c.self.inside in
-    (there-follows f.there f.back c.self.invariant (Carry There c.args.line) c.carry.new.self
-    (carry (walk_plan (leg_beside f.there f.back)) (way_counts f.there) c.args.line) None c.carry.result refl refl
-    c.carry.ensures.quiet (c.carry.ensures.goes f.back.script c.self.invariant.there_way.stands c.self.invariant.there_way.landed)).pair
-    ∙ ap (λ (p : Paired). after p (Carry There c.args.line)) c.self.view_is
-    ∙ ap (λ w. after c.args.self.now (Carry w c.args.line)) (sym c.in-There.is)
+pub returns-in-There : goal.returns-in-There
+returns-in-There c =
+    let now = seen-follows _ _ _ There (carry_on c.args.line) c.carry.result c.self.view_is c.in-There.is
+    c.moved_on.ensures
+    (quiet-follows There c.self.inside.there c.self.inside.back c.carry.new.self (carry_on c.args.line)
+    (carrying c.args.line) refuses_none c.carry.result c.self.invariant refl refl c.carry.ensures.quiet
+    c.carry.ensures.goes) in
+    record {
+      pair = now.pair;
+      moved = now.moved;
+      rows = record {
+        there = c.carry.ensures.quiet.rows ∙ ap (λ (p : Paired). p.counts.there.rows) c.self.view_is;
+        back = ap (λ (p : Paired). p.counts.back.rows) c.self.view_is;
+      };
+    }
 
-pub returns-in-There-clause-moved : goal.returns-in-There-clause-moved
-returns-in-There-clause-moved c =
-    let f = c.self.inside in
-    c.moved_on.ensures ∙ ap (λ w. moved_on w c.carry.result) c.in-There.is
-    ∙ (there-follows f.there f.back c.self.invariant (Carry There c.args.line) c.carry.new.self
-    (carry (walk_plan (leg_beside f.there f.back)) (way_counts f.there) c.args.line) None c.carry.result refl refl
-    c.carry.ensures.quiet (c.carry.ensures.goes f.back.script c.self.invariant.there_way.stands c.self.invariant.there_way.landed)).moved
-    ∙ ap (λ (p : Paired). moved_of p (Carry There c.args.line)) c.self.view_is
-    ∙ ap (λ w. moved_of c.args.self.now (Carry w c.args.line)) (sym c.in-There.is)
-
-pub returns-in-Back-clause-pair : goal.returns-in-Back-clause-pair
-returns-in-Back-clause-pair c =
-    let f = c.self.inside in
-    (back-follows f.there f.back c.self.invariant (Carry Back c.args.line) c.carry-in-Back.new.self
-    (carry (walk_plan (leg_beside f.back f.there)) (way_counts f.back) c.args.line)
-    None c.carry-in-Back.result refl refl
-    c.carry-in-Back.ensures.quiet (c.carry-in-Back.ensures.goes f.there.script c.self.invariant.back_way.stands c.self.invariant.back_way.landed)).pair
-    ∙ ap (λ (p : Paired). after p (Carry Back c.args.line)) c.self.view_is
-    ∙ ap (λ w. after c.args.self.now (Carry w c.args.line)) (sym c.in-Back.is)
-
-pub returns-in-Back-clause-moved : goal.returns-in-Back-clause-moved
-returns-in-Back-clause-moved c =
-    let f = c.self.inside in
-    c.moved_on-in-Back.ensures ∙ ap (λ w. moved_on w c.carry-in-Back.result) c.in-Back.is
-    ∙ (back-follows f.there f.back c.self.invariant (Carry Back c.args.line) c.carry-in-Back.new.self
-    (carry (walk_plan (leg_beside f.back f.there)) (way_counts f.back) c.args.line)
-    None c.carry-in-Back.result refl refl
-    c.carry-in-Back.ensures.quiet (c.carry-in-Back.ensures.goes f.there.script c.self.invariant.back_way.stands c.self.invariant.back_way.landed)).moved
-    ∙ ap (λ (p : Paired). moved_of p (Carry Back c.args.line)) c.self.view_is
-    ∙ ap (λ w. moved_of c.args.self.now (Carry w c.args.line)) (sym c.in-Back.is)
+pub returns-in-Back : goal.returns-in-Back
+returns-in-Back c =
+    let now = seen-follows _ _ _ Back (carry_on c.args.line) c.carry-in-Back.result c.self.view_is c.in-Back.is
+    c.moved_on-in-Back.ensures
+    (quiet-follows Back c.self.inside.back c.self.inside.there c.carry-in-Back.new.self (carry_on c.args.line)
+    (carrying c.args.line) refuses_none c.carry-in-Back.result c.self.invariant refl refl
+    c.carry-in-Back.ensures.quiet c.carry-in-Back.ensures.goes) in
+    record {
+      pair = now.pair;
+      moved = now.moved;
+      rows = record {
+        there = ap (λ (p : Paired). p.counts.there.rows) c.self.view_is;
+        back = c.carry-in-Back.ensures.quiet.rows ∙ ap (λ (p : Paired). p.counts.back.rows) c.self.view_is;
+      };
+    }
 
 pub carry-requires-clause-line : goal.carry-requires-clause-line
 carry-requires-clause-line c =

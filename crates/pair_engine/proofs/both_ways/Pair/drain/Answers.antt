@@ -4,7 +4,7 @@ use Rattle.law_pair.specs.Common.{PairPlan, is_over, pair_bound}
 use Rattle.law_pair.specs.declared.pair_events.Way.TheVariants.{There, Back}
 use Rattle.law_pair.proofs.PairEndLaws.{pair-stops}
 use Rattle.pair_engine.specs.Moved.{leg_on, plan_of, with_counts}
-use Rattle.pair_engine.proofs.RoundLaws.{keeps, same-plan, round-more, gives-more, over-there, over-back}
+use Rattle.pair_engine.proofs.RoundLaws.{keeps, same-plan, round-more, gives-more, over-rows}
 use Rattle.pair_engine.proofs.TakeLaws.{gives-none}
 use Rattle.pair_engine.proofs.both_ways.Pair.drain.Goals as goal
 
@@ -22,16 +22,6 @@ pub loop-self-smaller : goal.loop-self-smaller
 loop-self-smaller g c =
     (round-more c.args.self.now c.loop-self.self c.round.new.self c.loop-self.invariant.pair c.is_over.ensures.fits
     c.is_over.ensures.walked (sym c.is_over.ensures.over ∙ c.loop-self-test.true) c.round.ensures.pair).0
-
-pub returns-clause-pair : goal.returns-clause-pair
-returns-clause-pair g c =
-    let inv = c.loop-self.invariant in
-    let plan = plan_of c.args.self.now in
-    let same = same-plan c.args.self.now c.loop-self.self inv.pair in
-    let shut = ap (λ (p : PairPlan). is_over p c.loop-self.self.counts) (sym same) ∙ sym c.is_over.ensures.over
-    ∙ c.loop-self-test.false in
-    inv.pair ∙ ap (with_counts c.args.self.now)
-    (sym (pair-stops plan c.loop-self.self.counts (pair_bound plan) shut) ∙ inv.left)
 
 pub loop-self-preserved : goal.loop-self-preserved
 loop-self-preserved g c =
@@ -55,12 +45,20 @@ loop-self-preserved g c =
           inv.pair inv.back_rises c.round.ensures.rises.back inv.gives_back c.round.ensures.gives_back;
     }
 
-pub returns-clause-there : goal.returns-clause-there
-returns-clause-there g c =
-    over-there c.args.self.now c.loop-self.self c.loop-self.invariant.pair c.is_over.ensures.fits
-    c.is_over.ensures.walked (sym c.is_over.ensures.over ∙ c.loop-self-test.false)
-
-pub returns-clause-back : goal.returns-clause-back
-returns-clause-back g c =
-    over-back c.args.self.now c.loop-self.self c.loop-self.invariant.pair c.is_over.ensures.fits
-    c.is_over.ensures.walked (sym c.is_over.ensures.over ∙ c.loop-self-test.false)
+pub returns : goal.returns
+returns g c =
+    let inv = c.loop-self.invariant in
+    let plan = plan_of c.args.self.now in
+    let over = sym c.is_over.ensures.over ∙ c.loop-self-test.false in
+    let shut = ap (λ (p : PairPlan). is_over p c.loop-self.self.counts)
+    (sym (same-plan c.args.self.now c.loop-self.self inv.pair)) ∙ over in
+    let (there, back) = over-rows c.args.self.now c.loop-self.self inv.pair c.is_over.ensures.fits
+    c.is_over.ensures.walked over in
+    record {
+      pair = inv.pair ∙ ap (with_counts c.args.self.now)
+          (sym (pair-stops plan c.loop-self.self.counts (pair_bound plan) shut) ∙ inv.left);
+      there = there;
+      back = back;
+      gives_there = inv.gives_there;
+      gives_back = inv.gives_back;
+    }

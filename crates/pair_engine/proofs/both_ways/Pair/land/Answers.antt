@@ -1,85 +1,56 @@
 -- The next item of a way lands, or stalls.
-use Rattle.std.proofs.Common.{refl, sym, ◌∙◌, ap}
+use Rattle.std.proofs.Common.{refl, ◌∙◌, ap}
+use Rattle.law_model.specs.Common.{Leg, Counts, Step}
 use Rattle.law_pair.specs.Common.{land_item}
 use Rattle.law_pair.specs.declared.pair_events.PairEvent.TheVariants.{Item}
 use Rattle.law_pair.specs.declared.pair_events.Way.TheVariants.{There, Back}
 use Rattle.law_walk.specs.Common.{walk_plan}
-use Rattle.pair_engine.specs.Moved.{Paired, after, moved_on, moved_of, next_refusal}
-use Rattle.pair_engine.specs.Ways.{leg_beside, way_counts}
-use Rattle.pair_engine.proofs.PairLaws.{there-follows, back-follows}
+use Rattle.pair_engine.specs.Moved.{Paired, next_refusal}
+use Rattle.pair_engine.proofs.PairLaws.{quiet-follows, seen-follows}
 use Rattle.pair_engine.proofs.both_ways.Pair.land.Goals as goal
+
+abbrev landing : Leg → Counts → Step
+landing leg s = land_item (walk_plan leg) s
 
 pub invariant_of-self : goal.invariant_of-self
 invariant_of-self c =
-    let f = c.self.inside in
-    (there-follows f.there f.back c.self.invariant (Item There) c.land.new.self
-    (land_item (walk_plan (leg_beside f.there f.back)) (way_counts f.there)) (next_refusal (leg_beside f.there f.back)
-    (way_counts f.there)) c.land.result refl refl
-    c.land.ensures.quiet (c.land.ensures.goes f.back.script c.self.invariant.there_way.stands c.self.invariant.there_way.landed)).walk
+    (quiet-follows There c.self.inside.there c.self.inside.back c.land.new.self Item landing next_refusal
+    c.land.result c.self.invariant refl refl c.land.ensures.quiet c.land.ensures.goes).walk
 
 pub invariant_of-self-in-Back : goal.invariant_of-self-in-Back
 invariant_of-self-in-Back c =
-    let f = c.self.inside in
-    (back-follows f.there f.back c.self.invariant (Item Back) c.land-in-Back.new.self
-    (land_item (walk_plan (leg_beside f.back f.there)) (way_counts f.back)) (next_refusal (leg_beside f.back f.there)
-    (way_counts f.back)) c.land-in-Back.result refl refl
-    c.land-in-Back.ensures.quiet (c.land-in-Back.ensures.goes f.there.script c.self.invariant.back_way.stands c.self.invariant.back_way.landed)).walk
+    (quiet-follows Back c.self.inside.back c.self.inside.there c.land-in-Back.new.self Item landing next_refusal
+    c.land-in-Back.result c.self.invariant refl refl c.land-in-Back.ensures.quiet c.land-in-Back.ensures.goes).walk
 
-pub returns-in-There-clause-pair : goal.returns-in-There-clause-pair
-returns-in-There-clause-pair c =
-    let f = c.self.inside in
-    (there-follows f.there f.back c.self.invariant (Item There) c.land.new.self
-    (land_item (walk_plan (leg_beside f.there f.back)) (way_counts f.there)) (next_refusal (leg_beside f.there f.back)
-    (way_counts f.there)) c.land.result refl refl
-    c.land.ensures.quiet (c.land.ensures.goes f.back.script c.self.invariant.there_way.stands c.self.invariant.there_way.landed)).pair
-    ∙ ap (λ (p : Paired). after p (Item There)) c.self.view_is
-    ∙ ap (λ w. after c.args.self.now (Item w)) (sym c.in-There.is)
+pub returns-in-There : goal.returns-in-There
+returns-in-There c =
+    let now = seen-follows _ _ _ There Item c.land.result c.self.view_is c.in-There.is c.moved_on.ensures
+    (quiet-follows There c.self.inside.there c.self.inside.back c.land.new.self Item landing next_refusal
+    c.land.result c.self.invariant refl refl c.land.ensures.quiet c.land.ensures.goes) in
+    record {
+      pair = now.pair;
+      moved = now.moved;
+      rows = record {
+        there = c.land.ensures.quiet.rows ∙ ap (λ (p : Paired). p.counts.there.rows) c.self.view_is;
+        back = ap (λ (p : Paired). p.counts.back.rows) c.self.view_is;
+      };
+      fits = now.walk.pair;
+      walked = now.walk.walked;
+    }
 
-pub returns-in-There-clause-moved : goal.returns-in-There-clause-moved
-returns-in-There-clause-moved c =
-    let f = c.self.inside in
-    c.moved_on.ensures ∙ ap (λ w. moved_on w c.land.result) c.in-There.is
-    ∙ (there-follows f.there f.back c.self.invariant (Item There) c.land.new.self
-    (land_item (walk_plan (leg_beside f.there f.back)) (way_counts f.there)) (next_refusal (leg_beside f.there f.back)
-    (way_counts f.there)) c.land.result refl refl
-    c.land.ensures.quiet (c.land.ensures.goes f.back.script c.self.invariant.there_way.stands c.self.invariant.there_way.landed)).moved
-    ∙ ap (λ (p : Paired). moved_of p (Item There)) c.self.view_is
-    ∙ ap (λ w. moved_of c.args.self.now (Item w)) (sym c.in-There.is)
-
-pub returns-in-Back-clause-pair : goal.returns-in-Back-clause-pair
-returns-in-Back-clause-pair c =
-    let f = c.self.inside in
-    (back-follows f.there f.back c.self.invariant (Item Back) c.land-in-Back.new.self
-    (land_item (walk_plan (leg_beside f.back f.there)) (way_counts f.back)) (next_refusal (leg_beside f.back f.there)
-    (way_counts f.back)) c.land-in-Back.result refl refl
-    c.land-in-Back.ensures.quiet (c.land-in-Back.ensures.goes f.there.script c.self.invariant.back_way.stands c.self.invariant.back_way.landed)).pair
-    ∙ ap (λ (p : Paired). after p (Item Back)) c.self.view_is
-    ∙ ap (λ w. after c.args.self.now (Item w)) (sym c.in-Back.is)
-
-pub returns-in-Back-clause-moved : goal.returns-in-Back-clause-moved
-returns-in-Back-clause-moved c =
-    let f = c.self.inside in
-    c.moved_on-in-Back.ensures ∙ ap (λ w. moved_on w c.land-in-Back.result) c.in-Back.is
-    ∙ (back-follows f.there f.back c.self.invariant (Item Back) c.land-in-Back.new.self
-    (land_item (walk_plan (leg_beside f.back f.there)) (way_counts f.back)) (next_refusal (leg_beside f.back f.there)
-    (way_counts f.back)) c.land-in-Back.result refl refl
-    c.land-in-Back.ensures.quiet (c.land-in-Back.ensures.goes f.there.script c.self.invariant.back_way.stands c.self.invariant.back_way.landed)).moved
-    ∙ ap (λ (p : Paired). moved_of p (Item Back)) c.self.view_is
-    ∙ ap (λ w. moved_of c.args.self.now (Item w)) (sym c.in-Back.is)
-
-pub returns-in-There-clause-walked : goal.returns-in-There-clause-walked
-returns-in-There-clause-walked c =
-    let f = c.self.inside in
-    (there-follows f.there f.back c.self.invariant (Item There) c.land.new.self
-    (land_item (walk_plan (leg_beside f.there f.back)) (way_counts f.there)) (next_refusal (leg_beside f.there f.back)
-    (way_counts f.there)) c.land.result refl refl
-    c.land.ensures.quiet (c.land.ensures.goes f.back.script c.self.invariant.there_way.stands c.self.invariant.there_way.landed)).walk.walked
-
-pub returns-in-Back-clause-walked : goal.returns-in-Back-clause-walked
-returns-in-Back-clause-walked c =
-    let f = c.self.inside in
-    (back-follows f.there f.back c.self.invariant (Item Back) c.land-in-Back.new.self
-    (land_item (walk_plan (leg_beside f.back f.there)) (way_counts f.back)) (next_refusal (leg_beside f.back f.there)
-    (way_counts f.back)) c.land-in-Back.result refl refl
-    c.land-in-Back.ensures.quiet (c.land-in-Back.ensures.goes f.there.script
-    c.self.invariant.back_way.stands c.self.invariant.back_way.landed)).walk.walked
+pub returns-in-Back : goal.returns-in-Back
+returns-in-Back c =
+    let now = seen-follows _ _ _ Back Item c.land-in-Back.result c.self.view_is c.in-Back.is
+    c.moved_on-in-Back.ensures
+    (quiet-follows Back c.self.inside.back c.self.inside.there c.land-in-Back.new.self Item landing next_refusal
+    c.land-in-Back.result c.self.invariant refl refl c.land-in-Back.ensures.quiet c.land-in-Back.ensures.goes) in
+    record {
+      pair = now.pair;
+      moved = now.moved;
+      rows = record {
+        there = ap (λ (p : Paired). p.counts.there.rows) c.self.view_is;
+        back = c.land-in-Back.ensures.quiet.rows ∙ ap (λ (p : Paired). p.counts.back.rows) c.self.view_is;
+      };
+      fits = now.walk.pair;
+      walked = now.walk.walked;
+    }

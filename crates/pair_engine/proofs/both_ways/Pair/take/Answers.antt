@@ -1,12 +1,12 @@
 -- A row of a way is tried.
-use Rattle.std.proofs.Common.{sym, ◌∙◌, ap, subst}
+use Rattle.std.proofs.Common.{refl, subst}
 use Rattle.law_pair.specs.Common.{counts_on}
 use Rattle.law_pair.specs.declared.pair_events.PairEvent.TheVariants.{Take}
 use Rattle.law_pair.specs.declared.pair_events.Way.TheVariants.{There, Back}
 use Rattle.walk_engine.specs.Common.{GivesRows}
-use Rattle.pair_engine.specs.Moved.{Paired, after, leg_on, moved_on, moved_of}
+use Rattle.pair_engine.specs.Moved.{Paired, leg_on}
 use Rattle.pair_engine.proofs.BesideLaws.{there-beside, back-beside}
-use Rattle.pair_engine.proofs.PairLaws.{take-there, take-back}
+use Rattle.pair_engine.proofs.PairLaws.{take-follows, seen-follows}
 use Rattle.pair_engine.proofs.both_ways.Pair.take.Goals as goal
 
 pub take_way_row-requires : goal.take_way_row-requires
@@ -14,26 +14,20 @@ take_way_row-requires g c = there-beside c.self.inside.there c.self.inside.back 
 
 pub invariant_of-self : goal.invariant_of-self
 invariant_of-self g c =
-    let f = c.self.inside in
-    (take-there f.there f.back c.take_way_row.new.own c.take_way_row.new.other
-    c.take_way_row.result c.self.invariant c.take_way_row.ensures.takes).walk
+    (take-follows There c.self.inside.there c.self.inside.back c.take_way_row.new.own c.take_way_row.new.other
+    c.take_way_row.result c.self.invariant refl c.take_way_row.ensures.takes).walk
 
 pub returns-in-There-clause-pair : goal.returns-in-There-clause-pair
 returns-in-There-clause-pair g c =
-    let f = c.self.inside in
-    (take-there f.there f.back c.take_way_row.new.own c.take_way_row.new.other
-    c.take_way_row.result c.self.invariant c.take_way_row.ensures.takes).pair
-    ∙ ap (λ (p : Paired). after p (Take There)) c.self.view_is
-    ∙ ap (λ w. after c.args.self.now (Take w)) (sym c.in-There.is)
+    (seen-follows _ _ _ There Take c.take_way_row.result c.self.view_is c.in-There.is c.moved_on.ensures
+    (take-follows There c.self.inside.there c.self.inside.back c.take_way_row.new.own c.take_way_row.new.other
+    c.take_way_row.result c.self.invariant refl c.take_way_row.ensures.takes)).pair
 
 pub returns-in-There-clause-moved : goal.returns-in-There-clause-moved
 returns-in-There-clause-moved g c =
-    let f = c.self.inside in
-    c.moved_on.ensures ∙ ap (λ w. moved_on w c.take_way_row.result) c.in-There.is
-    ∙ (take-there f.there f.back c.take_way_row.new.own c.take_way_row.new.other
-    c.take_way_row.result c.self.invariant c.take_way_row.ensures.takes).moved
-    ∙ ap (λ (p : Paired). moved_of p (Take There)) c.self.view_is
-    ∙ ap (λ w. moved_of c.args.self.now (Take w)) (sym c.in-There.is)
+    (seen-follows _ _ _ There Take c.take_way_row.result c.self.view_is c.in-There.is c.moved_on.ensures
+    (take-follows There c.self.inside.there c.self.inside.back c.take_way_row.new.own c.take_way_row.new.other
+    c.take_way_row.result c.self.invariant refl c.take_way_row.ensures.takes)).moved
 
 pub returns-in-There-clause-gives_there : goal.returns-in-There-clause-gives_there
 returns-in-There-clause-gives_there g c =
@@ -45,26 +39,23 @@ take_way_row-requires-in-Back g c = back-beside c.self.inside.there c.self.insid
 
 pub invariant_of-self-in-Back : goal.invariant_of-self-in-Back
 invariant_of-self-in-Back g c =
-    let f = c.self.inside in
-    (take-back f.there f.back c.take_way_row-in-Back.new.other c.take_way_row-in-Back.new.own
-    c.take_way_row-in-Back.result c.self.invariant c.take_way_row-in-Back.ensures.takes).walk
+    (take-follows Back c.self.inside.back c.self.inside.there c.take_way_row-in-Back.new.own
+    c.take_way_row-in-Back.new.other c.take_way_row-in-Back.result c.self.invariant refl
+    c.take_way_row-in-Back.ensures.takes).walk
 
 pub returns-in-Back-clause-pair : goal.returns-in-Back-clause-pair
 returns-in-Back-clause-pair g c =
-    let f = c.self.inside in
-    (take-back f.there f.back c.take_way_row-in-Back.new.other c.take_way_row-in-Back.new.own
-    c.take_way_row-in-Back.result c.self.invariant c.take_way_row-in-Back.ensures.takes).pair
-    ∙ ap (λ (p : Paired). after p (Take Back)) c.self.view_is
-    ∙ ap (λ w. after c.args.self.now (Take w)) (sym c.in-Back.is)
+    (seen-follows _ _ _ Back Take c.take_way_row-in-Back.result c.self.view_is c.in-Back.is c.moved_on-in-Back.ensures
+    (take-follows Back c.self.inside.back c.self.inside.there c.take_way_row-in-Back.new.own
+    c.take_way_row-in-Back.new.other c.take_way_row-in-Back.result c.self.invariant refl
+    c.take_way_row-in-Back.ensures.takes)).pair
 
 pub returns-in-Back-clause-moved : goal.returns-in-Back-clause-moved
 returns-in-Back-clause-moved g c =
-    let f = c.self.inside in
-    c.moved_on-in-Back.ensures ∙ ap (λ w. moved_on w c.take_way_row-in-Back.result) c.in-Back.is
-    ∙ (take-back f.there f.back c.take_way_row-in-Back.new.other c.take_way_row-in-Back.new.own
-    c.take_way_row-in-Back.result c.self.invariant c.take_way_row-in-Back.ensures.takes).moved
-    ∙ ap (λ (p : Paired). moved_of p (Take Back)) c.self.view_is
-    ∙ ap (λ w. moved_of c.args.self.now (Take w)) (sym c.in-Back.is)
+    (seen-follows _ _ _ Back Take c.take_way_row-in-Back.result c.self.view_is c.in-Back.is c.moved_on-in-Back.ensures
+    (take-follows Back c.self.inside.back c.self.inside.there c.take_way_row-in-Back.new.own
+    c.take_way_row-in-Back.new.other c.take_way_row-in-Back.result c.self.invariant refl
+    c.take_way_row-in-Back.ensures.takes)).moved
 
 pub returns-in-Back-clause-gives_back : goal.returns-in-Back-clause-gives_back
 returns-in-Back-clause-gives_back g c =

@@ -12,21 +12,16 @@ returns-then-is_empty-clause-said c =
     let none : length c.args.last.now ≡ 0 = grind (arith, nat_tests, c.if-is_empty.ensures) in
     ap (said_after c.args.self) (nil_from_length c.args.last.now none)
 
-pub returns-clause-room : goal.returns-clause-room
-returns-clause-room c =
+pub returns : goal.returns
+returns c =
     let some : 0 < length c.args.last.now = grind (arith, nat_tests, c.if-is_empty.ensures) in
-    if_ok c.read_next.result _ _ c.read_next.ensures.at
-    (λ read at. omega (arith, at.number, some, c.requires.room))
-
-pub returns-clause-said : goal.returns-clause-said
-returns-clause-said c =
-    let some : 0 < length c.args.last.now = grind (arith, nat_tests, c.if-is_empty.ensures) in
-    if_both c.read_next.result _ _ _ c.read_next.ensures.sound c.read_next.ensures.at
-    (λ read none at. one_more c.args.self read c.args.last.now c.args.last.now []
-    (last_line c.args.last.now c.requires.lacks some) none at)
-
-pub returns-clause-fault : goal.returns-clause-fault
-returns-clause-fault c =
-    let some : 0 < length c.args.last.now = grind (arith, nat_tests, c.if-is_empty.ensures) in
-    if_err c.read_next.result _ _ c.read_next.ensures.fault
-    (λ f stopped. last_fails c.args.self c.args.last.now f c.requires.lacks some stopped)
+    record {
+      reader = c.read_next.ensures.reader;
+      room = if_ok c.read_next.result _ _ c.read_next.ensures.at
+          (λ read at. omega (arith, at.number, some, c.requires.room));
+      said = if_both c.read_next.result _ _ _ c.read_next.ensures.sound c.read_next.ensures.at
+          (λ read none at. one_more c.args.self read c.args.last.now c.args.last.now []
+          (last_line c.args.last.now c.requires.lacks some) none at);
+      fault = if_err c.read_next.result _ _ c.read_next.ensures.fault
+          (λ f stopped. last_fails c.args.self c.args.last.now f c.requires.lacks some stopped);
+    }
