@@ -1,12 +1,13 @@
 -- The frames that are early, one after another of those that have landed.
-use Rattle.std.proofs.Common.{◌≡◌, ℕ, suc, ◌+◌, ◌-◌, ◌<◌, ◌≤◌, ◌&&◌, nat_lt, Bool, true, false, List, [], ◌∷◌, cond}
-use Rattle.std.proofs.Common.{filter, drop, length, Option, refl, sym, ◌∙◌, ap, ap₂, arith, inl, inr}
+use Rattle.std.proofs.Common.{◌≡◌, ℕ, suc, ◌+◌, ◌-◌, ◌<◌, ◌≤◌, ◌&&◌, nat_lt, Bool, true, false, List, [], ◌∷◌}
+use Rattle.std.proofs.Common.{cond, filter, drop, length, Option, refl, sym, ◌∙◌, ap, ap₂, arith, inl, inr}
 use Rattle.std.specs.Prelude.{is_none, if◌then◌else◌}
 use Rattle.std.proofs.lemmas.Bool.{cases_Bool}
 use Rattle.law_model.specs.declared.script_types.Item.{Item}
-use Rattle.law_model.specs.session.Leg.{Leg}
-use Rattle.law_model.specs.session.Counts.{Counts}
-use Rattle.law_walk.specs.Landed.{Numbered, is_client, with_if, landed_from, landed_items, refusal_at}
+use Rattle.law_model.proofs.ListLaws.{filter-few}
+use Rattle.law_model.specs.Common.{Leg, Counts}
+use Rattle.law_walk.specs.Common.{Numbered, is_client, with_if, landed_from, landed_items, refusal_at}
+use Rattle.fate_walks.proofs.WalkFramesLaws.LandedFrameLaws.{landed-other}
 use Rattle.fate_walks.specs.declared.walk_frames.landed_cursor.LandedFrame.{LandedFrame}
 use Rattle.fate_walks.specs.walk_frames.Landed.{Cursor, frames_before_item, frames_left, IsAt, IsNext, IsPast}
 use Rattle.fate_check.specs.EarlyFrames.{is_before, is_early}
@@ -16,12 +17,6 @@ landed-client : (a b i : ℕ) (item : Item) (items : List Item) → is_client it
     ≡ with_if (nat_lt 0 a) (record { number = i; item = item }) (landed_from (a - 1) b (suc i) items)
 unfolding landed_from
 landed-client a b i item items client = rw client refl
-
-landed-other : (a b i : ℕ) (item : Item) (items : List Item) → is_client item.kind ≡ false →
-    landed_from a b i (item ∷ items)
-    ≡ with_if (nat_lt 0 b) (record { number = i; item = item }) (landed_from a (b - 1) (suc i) items)
-unfolding landed_from
-landed-other a b i item items other = rw other refl
 
 -- ---- commands don't count
 module _ (leg : Leg) (row : Option ℕ) where
@@ -68,14 +63,12 @@ pub early-begun : (leg : Leg) (s : Counts) (row : Option ℕ) (cursor : Cursor) 
     EarlyCounted leg s row cursor 0
 early-begun leg s row cursor at first =
     let before : frames_before_item leg cursor.item ≡ 0 = ap (frames_before_item leg) first in
-    let left = at.left in
-    let all : s.frames ≡ cursor.left = omega (arith, left, before) in
+    let all : s.frames ≡ cursor.left = omega (arith, at.left, before) in
     let same : filter (is_early leg row) (landed_items leg s) ≡ filter (is_early leg row) (frames_left leg cursor) =
     commands-none leg row s.frames s.commands 0 leg.items
     ∙ ap (λ n. filter (is_early leg row) (landed_from n 0 0 leg.items)) all
     ∙ ap (λ i. filter (is_early leg row) (landed_from cursor.left 0 i (drop i leg.items))) (sym first) in
-    let count = ap length same in
-    record { at = at; sum = omega (arith, count) }
+    record { at = at; sum = omega (arith, ap length same) }
 
 -- one more
 counted : (test : Numbered → Bool) (item : Numbered) (items : List Numbered) (b : Bool) → test item ≡ b →
@@ -105,9 +98,7 @@ pub early-past : (leg : Leg) (s : Counts) (row : Option ℕ) (cursor : Cursor) (
     EarlyCounted leg s row cursor early → IsPast leg s cursor →
     early ≡ length (filter (is_early leg row) (landed_items leg s))
 early-past leg s row cursor early come past =
-    let none = ap (λ l. length (filter (is_early leg row) l)) past.none in
-    let sum = come.sum in
-    omega (arith, none, sum)
+    omega (arith, ap (λ l. length (filter (is_early leg row) l)) past.none, come.sum)
 
 -- ---- there are few
 if-few : (there : Bool) (item : Numbered) (items : List Numbered) → length (with_if there item items) ≤ suc (length items)
@@ -127,20 +118,13 @@ landed-few a b i (item ∷ items) =
           let rest = landed-few a (b - 1) (suc i) items in omega (arith, own, rest))
     ]
 
-filter-few : (test : Numbered → Bool) (items : List Numbered) → length (filter test items) ≤ length items
-filter-few test [] = omega arith
-filter-few test (item ∷ items) =
-    let rest = filter-few test items in
-    elim (cases_Bool (test item)) [
-      | inl passes ↦ rw passes (omega (arith, rest))
-      | inr fails ↦ rw fails (omega (arith, rest))
-    ]
-
 pub early-few : (leg : Leg) (s : Counts) (row : Option ℕ) (cursor : Cursor) (early : ℕ) →
     EarlyCounted leg s row cursor early → early < 4294967295
 early-few leg s row cursor early come =
-    let sum = come.sum in
-    let part = filter-few (is_early leg row) (landed_items leg s) in
-    let all = landed-few s.frames s.commands 0 leg.items in
-    let few = come.at.sound.few in
-    omega (arith, sum, part, all, few)
+    omega (
+      arith,
+      come.sum,
+      filter-few (is_early leg row) (landed_items leg s),
+      landed-few s.frames s.commands 0 leg.items,
+      come.at.sound.few,
+    )

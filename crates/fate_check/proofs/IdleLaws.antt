@@ -1,16 +1,13 @@
 -- Rows that are governed by the same packet are spared alike.
-use Rattle.std.proofs.Common.{◌≡◌, ℕ, ◌-◌, ◌/◌, ◌≤◌, ◌&&◌, ◌||◌, nat_lt, Bool, true, false, not, List, [], ◌∷◌, length}
-use Rattle.std.proofs.Common.{Option, Some, None, refl, sym, ◌∙◌, ap, arith, inl, inr}
+use Rattle.std.proofs.Common.{◌≡◌, ℕ, ◌-◌, ◌/◌, ◌≤◌, ◌&&◌, ◌||◌, nat_lt, Bool, true, false, not, List, []}
+use Rattle.std.proofs.Common.{◌∷◌, length, Option, Some, None, refl, sym, ◌∙◌, ap, arith, inl, inr}
 use Rattle.std.specs.Prelude.{if◌then◌else◌, is_some}
 use Rattle.std.specs.List.{list_all}
 use Rattle.std.proofs.lemmas.Bool.{cases_Bool, ltb-false, le-ltb}
-use Rattle.law_model.specs.members.Damage.{is_good}
-use Rattle.law_model.specs.session.Scenario.{Scenario, carried_by, is_read, is_heard}
-use Rattle.law_model.specs.rows.SessionRows.{are_inferred, is_whole_under, is_whole_row}
-use Rattle.law_model.specs.source.Table.{Told, active}
-use Rattle.law_model.specs.source.Source.{table_of}
+use Rattle.law_model.specs.Common.{is_good, Scenario, carried_by, is_read, is_heard, are_inferred}
+use Rattle.law_model.specs.Common.{is_whole_under, is_whole_row, Told, active, table_of}
 use Rattle.fate_engine.specs.declared.fate_law.Cause.{Cause}
-use Rattle.fate_engine.specs.fate_law.Spoiled.{row_cause}
+use Rattle.fate_engine.specs.Common.{row_cause}
 use Rattle.fate_engine.proofs.FateLaws.CauseLaws.{cause-whole}
 use Rattle.fate_check.specs.UsedLines.{used_lines, is_used, has_payload, AreAlike}
 use Rattle.fate_check.specs.IdleWindows.{is_spared}

@@ -4,9 +4,7 @@ use Rattle.std.proofs.Common.{◌∷◌, length, Option, refl, sym, ◌∙◌, a
 use Rattle.std.specs.Prelude.{if◌then◌else◌}
 use Rattle.std.specs.List.{list_any}
 use Rattle.std.proofs.lemmas.Bool.{lt-ltb, le-ltb, eqb-true}
-use Rattle.law_model.specs.session.Scenario.{Scenario}
-use Rattle.law_model.specs.source.Table.{Told, active}
-use Rattle.law_model.specs.source.Source.{table_of}
+use Rattle.law_model.specs.Common.{Scenario, Told, active, table_of}
 use Rattle.fate_check.specs.UsedLines.{used_lines, is_used, has_payload, AreAlike}
 
 -- before the first row that a packet governs

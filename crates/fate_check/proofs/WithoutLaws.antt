@@ -21,6 +21,7 @@ use Rattle.law_session.proofs.AlikeLaws.{Alike, alike-after}
 use Rattle.law_session.proofs.DamageLaws.{readable-whole, good-whole, heard-line}
 use Rattle.law_session.proofs.PlanLaws.{IsBelow, times}
 use Rattle.law_row.proofs.RowLaws.{inside, below-after}
+use Rattle.law_row.proofs.TimerLaws.{same_tests}
 use Rattle.fate_check.specs.UsedLines.{is_used, has_payload}
 use Rattle.fate_check.specs.IdleWindows.{is_near, is_spared, is_idle}
 use Rattle.fate_check.specs.Without.{with_windows}
@@ -125,11 +126,6 @@ module _ (before after : List Window) (window : Window) where
       )
 
 -- ---- lists of lines
-same-test : (a b : Bool) → (a ≡ true → b ≡ true) → (b ≡ true → a ≡ true) → a ≡ b
-same-test true b to from = sym (to refl)
-same-test false true to from = from refl
-same-test false false to from = refl
-
 all-follow : (p q : ℕ → Bool) (lines : List ℕ) → ((line : ℕ) → p line ≡ true → q line ≡ true) →
     list_all p lines ≡ true → list_all q lines ≡ true
 all-follow p q [] follow all = refl
@@ -390,8 +386,7 @@ module _ (scenario : Scenario) (line : ℕ) (before after : List Window) (window
           | inr off ↦ (let far = far-off off in far-down stops cells k t far.0 far.1 whole)
           | inl near ↦ (
               let spared : is_spared scenario cells line t ≡ true =
-              picked-passes (is_near window) (is_spared scenario cells line) 0 rows t parts.1 (omega arith)
-              (omega (arith, taken)) near in
+              picked-passes (is_near window) (is_spared scenario cells line) rows t parts.1 taken near in
               elim (cases_Bool (has_payload scenario cells t)) [
                 | inl some ↦ (
                     let unused : not (is_used scenario cells line t) ≡ true = rw some at spared in
@@ -408,7 +403,7 @@ module _ (scenario : Scenario) (line : ℕ) (before after : List Window) (window
 
     late-same : is_whole_row other cells t ≡ is_whole_row scenario cells t
     late-same =
-        rw now-late (same-test (is_whole_under other cells k t) (is_whole_under scenario cells k t) row-down
+        rw now-late (same_tests (is_whole_under other cells k t) (is_whole_under scenario cells k t) row-down
         (up stops cells k t))
 
   pub same-rows : (cells : List (Option Told)) (rows t : ℕ) → is_idle scenario cells rows line window ≡ true →

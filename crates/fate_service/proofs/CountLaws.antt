@@ -56,30 +56,18 @@ on-few leg fate (item ∷ items) i =
 pub ended-few : (leg : Leg) (s : Counts) → IsSound leg → length (ended_of leg s) ≤ 67108864
 ended-few leg s sound =
     let all = on-few leg (fates_in leg s.rows) (landed_items leg s) 0 in
-    let items = landed-few s.frames s.commands 0 leg.items in
-    let few = sound.few in
-    omega (arith, all, items, few)
+    omega (arith, all, landed-few s.frames s.commands 0 leg.items, sound.few)
 
 module _ (leg : Leg) (s : Counts) (landed : LandedFrames) (sound : IsSound leg) (are : AreLanded (ended_of leg s) landed) where
   pub offered-count : length landed.offered.items ≤ 67108864
   offered-count =
-      let same = ap length are.offered in
-      let all = length-map (ended_of leg s) offered_frame in
-      let few = ended-few leg s sound in
-      omega (arith, same, all, few)
+      omega (arith, ap length are.offered, length-map (ended_of leg s) offered_frame, ended-few leg s sound)
 
   pub accepted-count : length landed.accepted.items ≤ 67108864
-  accepted-count =
-      let part = landed-accepted-few (ended_of leg s) landed are in
-      let few = ended-few leg s sound in
-      omega (arith, part, few)
+  accepted-count = omega (arith, landed-accepted-few (ended_of leg s) landed are, ended-few leg s sound)
 
   pub carried-count : length landed.carried.items ≤ 67108864
-  carried-count =
-      let same = ap length are.carried in
-      let part = carried-few (ended_of leg s) in
-      let few = ended-few leg s sound in
-      omega (arith, same, part, few)
+  carried-count = omega (arith, ap length are.carried, carried-few (ended_of leg s), ended-few leg s sound)
 
 -- ---- how late they are
 abbrev ItemEarly : ℕ → Item → Type 0
@@ -149,8 +137,7 @@ items-early n most (item ∷ items) low each =
 
 pub offered-soon : (leg : Leg) (s : Counts) → IsSound leg → All (OfferedEarly 1000000) (offered_of (ended_of leg s))
 offered-soon leg s sound =
-    let most = sound.network.ticks.1 in
     offered-early 1000000 (ended_of leg s)
     (on-early 1000000 leg (fates_in leg s.rows) (landed_items leg s) 0
     (landed-early 1000000 s.frames s.commands 0 leg.items
-    (items-early leg.config.ticks 1000000 leg.items (omega (arith, most)) sound.items.each)))
+    (items-early leg.config.ticks 1000000 leg.items (omega (arith, sound.network.ticks.1)) sound.items.each)))

@@ -1,94 +1,11 @@
--- A loop over a list: what a fold makes of the rest of it, one element on.
-use Rattle.std.proofs.Common.{◌≡◌, ℕ, suc, ◌+◌, ◌-◌, ◌*◌, ◌<◌, ◌≤◌, ◌&&◌, nat_le, max, Bool, true, false, List, length, drop}
-use Rattle.std.proofs.Common.{get_or, refl, sym, ap, subst, arith}
-use Rattle.std.specs.Prelude.{if◌then◌else◌, not}
-use Rattle.std.proofs.lemmas.List.{at_drop_more, at_drop_all}
+-- A loop over a list: how much is counted by then.
+use Rattle.std.proofs.Common.{◌≡◌, ℕ, suc, ◌+◌, ◌-◌, ◌*◌, ◌<◌, ◌≤◌, max, Bool, true, false, refl, sym, ap, subst, arith}
 use Rattle.fate_service.specs.declared.landed_frames.Tally.{Tally}
 use Rattle.fate_service.specs.declared.landed_frames.CarriedFrame.{CarriedFrame}
-use Rattle.fate_service.specs.declared.landed_frames.OfferedFrame.{OfferedFrame}
-use Rattle.fate_service.specs.declared.row_states.RowState.{RowState}
-use Rattle.fate_service.specs.declared.stretch_counts.Came.{Came}
 use Rattle.fate_service.specs.declared.stretch_counts.Ended.{Ended}
 use Rattle.fate_service.specs.declared.stretch_counts.Peak.{Peak}
 use Rattle.fate_service.specs.Frames.{with_frame, with_frame_if}
-use Rattle.fate_service.specs.RowStates.{is_dark, dark_on}
-use Rattle.fate_service.specs.Stretches.{with_offered, came_on, delay_of, with_carried, ended_on, told_on, higher, peak_on}
-use Rattle.fate_service.specs.Delays.{within_on}
-use Rattle.fate_service.specs.declared.outages.Outage.{Outage}
-use Rattle.fate_service.specs.Outages.{lost_on, with_state, outages_on}
-
-pub within-next : (n most : ℕ) (frames : List CarriedFrame) (i : ℕ) (d : CarriedFrame) → i < length frames →
-    within_on n most (drop i frames)
-    ≡ within_on (if (get_or frames i d).got && nat_le (delay_of (get_or frames i d)) most then n + 1 else n) most
-    (drop (i + 1) frames)
-unfolding within_on
-within-next n most frames i d low = at_drop_more (within_on n most) frames i d low
-
-pub within-end : (n most : ℕ) (frames : List CarriedFrame) (i : ℕ) → length frames ≤ i →
-    within_on n most (drop i frames) ≡ n
-unfolding within_on
-within-end n most frames i all = at_drop_all (within_on n most) frames i all
-
-pub came-next : (came : Came) (frames : List OfferedFrame) (i : ℕ) (d : OfferedFrame) → i < length frames →
-    came_on came (drop i frames) ≡ came_on (with_offered came (get_or frames i d)) (drop (i + 1) frames)
-unfolding came_on
-came-next came frames i d low = at_drop_more (came_on came) frames i d low
-
-pub came-end : (came : Came) (frames : List OfferedFrame) (i : ℕ) → length frames ≤ i →
-    came_on came (drop i frames) ≡ came
-unfolding came_on
-came-end came frames i all = at_drop_all (came_on came) frames i all
-
-pub ended-next : (ended : Ended) (frames : List CarriedFrame) (i : ℕ) (d : CarriedFrame) → i < length frames →
-    ended_on ended (drop i frames) ≡ ended_on (with_carried ended (get_or frames i d)) (drop (i + 1) frames)
-unfolding ended_on
-ended-next ended frames i d low = at_drop_more (ended_on ended) frames i d low
-
-pub ended-end : (ended : Ended) (frames : List CarriedFrame) (i : ℕ) → length frames ≤ i →
-    ended_on ended (drop i frames) ≡ ended
-unfolding ended_on
-ended-end ended frames i all = at_drop_all (ended_on ended) frames i all
-
-pub lost-next : (tally : Tally) (frames : List CarriedFrame) (i : ℕ) (d : CarriedFrame) → i < length frames →
-    lost_on tally (drop i frames)
-    ≡ lost_on (with_frame_if (not (get_or frames i d).got) tally (get_or frames i d).octets) (drop (i + 1) frames)
-unfolding lost_on
-lost-next tally frames i d low = at_drop_more (lost_on tally) frames i d low
-
-pub lost-end : (tally : Tally) (frames : List CarriedFrame) (i : ℕ) → length frames ≤ i →
-    lost_on tally (drop i frames) ≡ tally
-unfolding lost_on
-lost-end tally frames i all = at_drop_all (lost_on tally) frames i all
-
-pub dark-next : (n : ℕ) (states : List RowState) (i : ℕ) (d : RowState) → i < length states →
-    dark_on n (drop i states) ≡ dark_on (if is_dark (get_or states i d) then n + 1 else n) (drop (i + 1) states)
-unfolding dark_on
-dark-next n states i d low = at_drop_more (dark_on n) states i d low
-
-pub dark-end : (n : ℕ) (states : List RowState) (i : ℕ) → length states ≤ i → dark_on n (drop i states) ≡ n
-unfolding dark_on
-dark-end n states i all = at_drop_all (dark_on n) states i all
-
-pub told-next : (told : ℕ) (frames : List OfferedFrame) (i : ℕ) (d : OfferedFrame) → i < length frames →
-    told_on told (drop i frames) ≡ told_on (max told ((get_or frames i d).due + 1)) (drop (i + 1) frames)
-unfolding told_on
-told-next told frames i d low = at_drop_more (told_on told) frames i d low
-
-pub told-end : (told : ℕ) (frames : List OfferedFrame) (i : ℕ) → length frames ≤ i →
-    told_on told (drop i frames) ≡ told
-unfolding told_on
-told-end told frames i all = at_drop_all (told_on told) frames i all
-
-pub outages-next : (outages : List Outage) (states : List RowState) (i : ℕ) (d : RowState) → i < length states →
-    outages_on outages i (drop i states)
-    ≡ outages_on (with_state i (get_or states i d) outages) (i + 1) (drop (i + 1) states)
-unfolding outages_on
-outages-next outages states i d low = at_drop_more (outages_on outages i) states i d low
-
-pub outages-end : (outages : List Outage) (states : List RowState) (i : ℕ) → length states ≤ i →
-    outages_on outages i (drop i states) ≡ outages
-unfolding outages_on
-outages-end outages states i all = at_drop_all (outages_on outages i) states i all
+use Rattle.fate_service.specs.Stretches.{delay_of, with_carried, higher, peak_on}
 
 -- ---- how much is counted
 pub tally-few : (b : Bool) (tally : Tally) (octets n : ℕ) → tally.frames ≤ n → tally.octets ≤ 65536 * n →

@@ -1,5 +1,5 @@
 -- The columns of frames that have landed, frame by frame.
-use Rattle.std.proofs.Common.{◌≡◌, ℕ, ◌+◌, ◌*◌, ◌≤◌, ◌<◌, List, [], ◌∷◌, ◌++◌, length, take, drop, Option, Some, None}
+use Rattle.std.proofs.Common.{◌≡◌, ℕ, ◌*◌, ◌≤◌, ◌<◌, List, [], ◌∷◌, ◌++◌, length, take, drop, Option, Some, None}
 use Rattle.std.proofs.Common.{refl, sym, ◌∙◌, ap, subst, arith, append-nil, append_assoc, length-append, length-take}
 use Rattle.std.proofs.lemmas.List.{map-append}
 use Rattle.std.proofs.lemmas.List.Concat.{flat_map-append}
@@ -61,8 +61,7 @@ pub taken-begun : (leg : Leg) (s : Counts) (cursor : Cursor) (landed : LandedFra
 unfolding waits_on
 taken-begun leg s cursor landed at first none =
     let before : frames_before_item leg cursor.item ≡ 0 = ap (frames_before_item leg) first in
-    let left = at.left in
-    let all : s.frames ≡ cursor.left = omega (arith, left, before) in
+    let all : s.frames ≡ cursor.left = omega (arith, at.left, before) in
     let waits = ap (λ (t : Tally). t.frames) none.waits in
     let octets = ap (λ (t : Tally). t.octets) none.waits in
     record {
@@ -97,14 +96,13 @@ taken-next leg s was now old new done found next small come at takes =
     let own : Ended = ended_frame leg fate found next.octets i in
     let size = length-append done (own ∷ []) in
     let waits = tally-few (has_waited own.end) old.waits found.length (length done) come.waits come.octets small in
-    let frames = ap (λ (t : Tally). t.frames) takes.waits in
     let octets = ap (λ (t : Tally). t.octets) takes.waits in
     record {
       at = at;
       columns = landed-more done old new own found.length next.length_is come.columns takes;
       size = (let before = come.size in let after = next-count leg was now found next in
           omega (arith, size, before, after));
-      waits = (let low = waits.0 in omega (arith, size, low, frames));
+      waits = (let low = waits.0 in omega (arith, size, low, ap (λ (t : Tally). t.frames) takes.waits));
       octets = (let low = waits.1 in omega (arith, size, low, octets));
       rest = come.rest
           ∙ ap (λ l. done ++ l) (next-ended leg fate was now found next i)
@@ -116,19 +114,13 @@ taken-next leg s was now old new done found next small come at takes =
 pub taken-few : (leg : Leg) (s : Counts) (cursor : Cursor) (landed : LandedFrames) (done : List Ended) →
     FramesTaken leg s cursor landed done → length done ≤ 67108864
 taken-few leg s cursor landed done come =
-    let size = come.size in
     let offers = offers-few (take cursor.item leg.items) in
-    let part = length-take cursor.item leg.items in
-    let few = come.at.sound.few in
-    omega (arith, size, offers, part, few)
+    omega (arith, come.size, offers, length-take cursor.item leg.items, come.at.sound.few)
 
 accepted-few : (all : List Ended) → length (accepted_of all) ≤ length all
 accepted-few [] = omega arith
 accepted-few (e ∷ all) =
-    let parts = length-append (due_if e.due e.end) (accepted_of all) in
-    let rest = accepted-few all in
-    let own = one e.end in
-    omega (arith, parts, rest, own)
+    omega (arith, length-append (due_if e.due e.end) (accepted_of all), accepted-few all, one e.end)
   where
     one : (end : End) → length (due_if e.due end) ≤ 1
     one (refused why) = omega arith
@@ -138,9 +130,7 @@ pub carried-few : (all : List Ended) → length (carried_of all) ≤ length all
 carried-few [] = omega arith
 carried-few (e ∷ all) =
     let parts = length-append (listed (carried_end e.due (length e.frame) e.end)) (carried_of all) in
-    let rest = carried-few all in
-    let own = one (carried_end e.due (length e.frame) e.end) in
-    omega (arith, parts, rest, own)
+    omega (arith, parts, carried-few all, one (carried_end e.due (length e.frame) e.end))
   where
     one : (o : Option CarriedFrame) → length (listed o) ≤ 1
     one None = omega arith

@@ -46,8 +46,7 @@ unfolding Rises
 rises-from key from [] j d rises low = absurd (omega (arith, low))
 rises-from key from (x ∷ xs) zero d rises low = rises.0
 rises-from key from (x ∷ xs) (suc j) d rises low =
-    let rest = rises-from key (key x) xs j d rises.1 (omega (arith, low)) in
-    let a = rises.0 in omega (arith, a, rest)
+    let a = rises.0 in omega (arith, a, rises-from key (key x) xs j d rises.1 (omega (arith, low)))
 
 pub rises-ordered : {X : Type 0} (key : X → ℕ) (from : ℕ) (xs : List X) → Rises key from xs →
     IsNonDecreasingBy key xs
@@ -241,10 +240,9 @@ row-order rows p q low within =
     elim (cases_lt (row_at rows q) (row_at rows p)) [
       | inr fine ↦ fine
       | inl less ↦
-          let one = (row-of_place rows p (omega (arith, low, within))).from in
           let two = (row-of_place rows q within).below in
           let up = place-grows rows (suc (row_at rows q)) (row_at rows p) (omega (arith, less)) in
-          absurd (omega (arith, one, two, up, low))
+          absurd (omega (arith, (row-of_place rows p (omega (arith, low, within))).from, two, up, low))
     ]
 
 spoiled-up : (t : ℕ) (rows : List StreamRow) → t ≤ spoiled_from t rows

@@ -5,6 +5,7 @@ use Rattle.std.proofs.Common.{length-take}
 use Rattle.std.proofs.lemmas.List.{drop-take, drop_all}
 use Rattle.std.specs.List.Sorted.{IsPartitionPoint}
 use Rattle.std.proofs.lemmas.Bool.{cases_lt, le-leb, lt-leb, ltb-true, ltb-false}
+use Rattle.law_loss.proofs.FilterLaws.{and_false}
 
 abbrev pub Point : {X : Type 0} → (X → Bool) → List X → ℕ → Type 0
 Point {X} p xs i = IsPartitionPoint (λ (x : X). p x ≡ true) (λ (x : X). p x ≡ false) xs i
@@ -40,21 +41,11 @@ module _ {X : Type 0} (key : X → ℕ) (first end : ℕ) where
   abbrev pub is_within : X → Bool
   is_within x = nat_le first (key x) && nat_lt (key x) end
 
-  below : X → Bool
-  below x = nat_lt (key x) first
-
-  before : X → Bool
-  before x = nat_lt (key x) end
-
-  and-false : (b : Bool) → (b && false) ≡ false
-  and-false true = refl
-  and-false false = refl
-
   not-yet : (x : X) → nat_lt (key x) first ≡ true → is_within x ≡ false
   not-yet x is = ap (λ b. b && nat_lt (key x) end) (lt-leb first (key x) (ltb-true (key x) first is))
 
   no-more : (x : X) → nat_lt (key x) end ≡ false → is_within x ≡ false
-  no-more x is = ap (λ b. nat_le first (key x) && b) is ∙ and-false (nat_le first (key x))
+  no-more x is = ap (λ b. nat_le first (key x) && b) is ∙ and_false (nat_le first (key x))
 
   here : (x : X) → nat_lt (key x) first ≡ false → nat_lt (key x) end ≡ true → is_within x ≡ true
   here x late early = ap₂ ◌&&◌ (le-leb first (key x) (ltb-false (key x) first late)) early

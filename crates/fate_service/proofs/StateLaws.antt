@@ -44,15 +44,13 @@ module _ (leg : Leg) (s : Counts) (seen : SeenWalk) (sees : SeesWalk leg s seen)
     (low : place < length (octets_of_rows (session_rows leg s.rows))) where
   place-within : place < place_of (scenario_by leg) (session_of leg) s.rows
   place-within =
-      let size = rows-length (scenario_by leg) (session_of leg) s.rows s.rows (omega arith) in
-      omega (arith, low, size)
+      omega (arith, low, rows-length (scenario_by leg) (session_of leg) s.rows s.rows (omega arith))
 
   pub place-reached : place_of (scenario_by leg) (session_of leg) (16 * length seen.rows.packets.active + 24) ≤ place → ⊥
   place-reached beyond =
       let up = place-up (scenario_by leg) (session_of leg) s.rows (16 * length seen.rows.packets.active + 24)
       (reach leg s seen sees) in
-      let low = place-within in
-      omega (arith, up, low, beyond)
+      omega (arith, up, place-within, beyond)
 
   pub place-row : (row : ℕ) → place_of (scenario_by leg) (session_of leg) row ≤ place →
       place < place_of (scenario_by leg) (session_of leg) (suc row) →

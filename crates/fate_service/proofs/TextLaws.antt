@@ -3,7 +3,7 @@ use Rattle.std.proofs.Common.{◌≡◌, ℕ, zero, suc, ◌+◌, ◌-◌, ◌<�
 use Rattle.std.proofs.Common.{map, drop, get_or, Option, refl, sym, ◌∙◌, ap, ap₂, arith, append-nil, append_assoc, inl, inr}
 use Rattle.std.specs.List.{flat_map, range_with_len}
 use Rattle.std.proofs.lemmas.Bool.{cases_Bool, lt-ltb, le-ltb}
-use Rattle.std.proofs.lemmas.List.{at_drop_more, at_drop_all}
+use Rattle.std.proofs.lemmas.List.{at_drop_more}
 use Rattle.fate_engine.specs.declared.fate_law.Cause.{Cause}
 use Rattle.fate_service.specs.declared.landed_frames.Tally.{Tally}
 use Rattle.fate_service.specs.declared.landed_frames.CarriedFrame.{CarriedFrame}
@@ -32,11 +32,6 @@ outage-next cause carried rows items i outage end low there is =
     ++ outages_text cause carried rows (drop (i + 1) items)) is
     ∙ ap (λ (o : Outage). outages_text cause carried rows (o ∷ drop (i + 1) items)) there
     ∙ sym (at_drop_more (outages_text cause carried rows) items i outage low)
-
-pub outage-end : (cause : ℕ → Option Cause) (carried : List CarriedFrame) (rows : ℕ) (items : List Outage) (i : ℕ) →
-    length items ≤ i → outages_text cause carried rows (drop i items) ≡ []
-unfolding outages_text
-outage-end cause carried rows items i high = at_drop_all (outages_text cause carried rows) items i high
 
 -- ---- stretches
 pub span-next : (left interval first told : ℕ) → 1 ≤ interval → first < told → told ≤ first + left →

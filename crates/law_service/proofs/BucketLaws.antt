@@ -132,8 +132,7 @@ split-at : {X : Type 0} (xs : List X) (n : ℕ) (x : X) → slice_get xs n ≡ S
     (rest : List X) × (xs ≡ take n xs ++ x ∷ rest)
 split-at [] n x is = absurd (none-some x is)
 split-at (y ∷ xs) zero x is = (xs, ap (λ l. l ∷ xs) (same_Some y x is))
-split-at (y ∷ xs) (suc n) x is =
-    let rest = split-at xs n x is in (rest.0, ap (λ l. y ∷ l) rest.1)
+split-at (y ∷ xs) (suc n) x is = let rest = split-at xs n x is in (rest.0, ap (λ l. y ∷ l) rest.1)
 
 module _ (bucket : Bucket) (leg : Leg) (from members : ℕ) (keeps : KeepsTo bucket leg from members) where
   abbrev scenario : Scenario

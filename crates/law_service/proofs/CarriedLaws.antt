@@ -25,8 +25,7 @@ none-full total ticks count m [] [] is each = refl
 none-full total ticks count m [] (line ∷ lines) is each = absurd each
 none-full total ticks count m (path ∷ paths) [] is each = absurd each
 none-full total ticks count m (path ∷ paths) (line ∷ lines) is each =
-    let carried = each.0 in
-    rw (lt-leb 32 (in_send total ticks line) (omega (arith, is, carried)))
+    rw (lt-leb 32 (in_send total ticks line) (omega (arith, is, each.0)))
     (none-full total ticks count (suc m) paths lines is each.1)
 
 each-push : (P : LinePath → LineCounts → Type 0) (paths : List LinePath) (lines : List LineCounts) (path : LinePath)
@@ -62,8 +61,7 @@ module _ (plan : Plan) (slow fast count : ℕ) (is : IsPlanOf slow fast 0 plan) 
       (nat_lt line.carried plan.ticks && nat_le (in_send plan.ticks s.ticks line) 0) ≡ false
   sends path line waits = elim (cases_lt line.carried plan.ticks) [
     | inl less ↦
-        let carried = waits.carried in
-        rw (lt-leb (in_send plan.ticks s.ticks line) 0 (omega (arith, carried, ticks_is, less)))
+        rw (lt-leb (in_send plan.ticks s.ticks line) 0 (omega (arith, waits.carried, ticks_is, less)))
         (and_false (nat_lt line.carried plan.ticks))
     | inr more ↦ rw (le-ltb line.carried plan.ticks more) refl
   ]
@@ -72,13 +70,9 @@ module _ (plan : Plan) (slow fast count : ℕ) (is : IsPlanOf slow fast 0 plan) 
       in_receive path line < plan.ring
   has-room path line waits open_ =
       let left = waits.sound.is_path.left line.carried line.popped (omega (arith, open_)) waits.pops in
-      let carried = waits.carried in
-      let decides = waits.decides in
       let most = waits.sound.most in
       let least = waits.sound.least in
-      let spread = is.spread in
-      let ring = is.ring in
-      omega (arith, left, carried, decides, most, least, spread, ring, rows_is, open_)
+      omega (arith, left, waits.carried, waits.decides, most, least, is.spread, is.ring, rows_is, open_)
 
   carry-one : (m : ℕ) (path : LinePath) (line : LineCounts) (front back : List LineCounts) → length front ≡ m →
       WaitsHere path line → (next : LineCounts) × IsGiven plan.ticks (suc count) path next ×
@@ -92,10 +86,9 @@ module _ (plan : Plan) (slow fast count : ℕ) (is : IsPlanOf slow fast 0 plan) 
         )
     | inr open_ ↦
         let carried = waits.carried in
-        let pops = waits.pops in
         let one = (waits.sound.is_path.one line.carried open_).0 in (
           record line { carried = line.carried + 1 },
-          (omega (arith, carried, open_), omega (arith, pops, one)),
+          (omega (arith, carried, open_), omega (arith, waits.pops, one)),
           rw (
             le-ltb (plan.ticks + path.delay) line.carried open_,
             sends path line waits,
@@ -166,8 +159,7 @@ ready-pops t m [] [] each = refl
 ready-pops t m [] (line ∷ lines) each = absurd each
 ready-pops t m (path ∷ paths) [] each = absurd each
 ready-pops t m (path ∷ paths) (line ∷ lines) each =
-    let pops = each.0.pops in
-    let end : path.given line.carried ≡ line.popped + in_receive path line = omega (arith, pops) in
+    let end : path.given line.carried ≡ line.popped + in_receive path line = omega (arith, each.0.pops) in
     let high : t < path.decided (popped_line path t line).popped =
     pop-ready path t (in_receive path line) line.popped (subst (λ y. t < path.decided y) end each.0.all) in
     rw (lt-leb (path.decided (popped_line path t line).popped) t high) (ready-pops t (suc m) paths lines each.1)

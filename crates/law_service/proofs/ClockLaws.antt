@@ -176,10 +176,7 @@ rows-upper slow fast plan count s keeps fits lines =
     (LineFits plan.ticks plan.ring s.ticks s.rows path line × IsCarried plan.ticks count path line))
     plan.paths s.lines keeps.slowest.line keeps.slowest.path all keeps.slowest.there in
     let early = is.0.is_path.early line.carried line.popped is.1.0.carries is.1.0.pops in
-    let decides = is.1.0.decides in
-    let carried = is.1.1 in
-    let delay = keeps.slowest.is in
-    omega (arith, early, decides, carried, delay)
+    omega (arith, early, is.1.0.decides, is.1.1, keeps.slowest.is)
 
 -- ---- one round
 module _ (slow fast : ℕ) (plan : Plan) (keeps : KeepsTime slow fast plan) (count : ℕ) (s : Counts)
@@ -302,17 +299,13 @@ module _ (slow fast : ℕ) (plan : Plan) (keeps : KeepsTime slow fast plan) (cou
     pops = given.1;
     all = elim (cases_lt (plan.ticks + path.delay) line.carried) [
       | inl ended ↦
-          let carried_is = given.0 in
-          let last : line.carried ≡ plan.ticks + path.delay + 1 = omega (arith, ended, carried_is) in
+          let last : line.carried ≡ plan.ticks + path.delay + 1 = omega (arith, ended, given.0) in
           let told : path.decided (path.given line.carried) ≡ plan.ticks =
           ap (λ x. path.decided (path.given x)) last ∙ sound.is_path.ended in
           omega (arith, told, open_)
       | inr more ↦
-          let carried_is = given.0 in
           let late = sound.is_path.late line.carried more in
-          let slowest = sound.most in
-          let rows_are = at_.rows in
-          omega (arith, late, slowest, rows_are, carried_is, more, enough, open_)
+          omega (arith, late, sound.most, at_.rows, given.0, more, enough, open_)
     ];
   }
 
@@ -333,16 +326,14 @@ module _ (slow fast : ℕ) (plan : Plan) (keeps : KeepsTime slow fast plan) (cou
               let more = take-moves plan backed open_ refl (decides-all enough open_) in
               omega (arith, more, rows_are, open_, enough)
           | inl early ↦
-              let few = rows-upper slow fast plan (suc count) end keeps end-fits end-lines in
-              omega (arith, few, early)
+              omega (arith, rows-upper slow fast plan (suc count) end keeps end-fits end-lines, early)
         ]
       ]
 
   at-next : AtRound slow plan (suc count) end
   at-next =
       let shape = take-shape plan backed in
-      let ticks_is = at_.ticks in
-      let tick : min (suc count) (plan.ticks + 1) ≡ s.ticks + 1 = omega (arith, ticks_is) in
+      let tick : min (suc count) (plan.ticks + 1) ≡ s.ticks + 1 = omega (arith, at_.ticks) in
       let e : min (count - slow) plan.ticks ≡ min (suc count - 1 - slow) plan.ticks = omega arith in
       record {
         ticks = ap (λ (c : Counts). c.ticks) shape;
@@ -378,9 +369,7 @@ module _ (slow fast : ℕ) (plan : Plan) (keeps : KeepsTime slow fast plan) wher
   pub row-clock : (t : ℕ) → t < plan.ticks → ((after_rounds (t + slow) plan).rows ≡ t) ×
       ((after_rounds (t + slow + 1) plan).rows ≡ t + 1)
   row-clock t inside =
-      let before = (clock (t + slow)).0.rows in
-      let after = (clock (t + slow + 1)).0.rows in
-      (omega (arith, before, inside), omega (arith, after, inside))
+      (omega (arith, (clock (t + slow)).0.rows, inside), omega (arith, (clock (t + slow + 1)).0.rows, inside))
 
   pub rows-left : (count : ℕ) → 0 < plan.ticks → count < plan.ticks + slow →
       (after_rounds count plan).rows < plan.ticks

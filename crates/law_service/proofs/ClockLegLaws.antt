@@ -84,9 +84,8 @@ module _ (leg : Leg) (sound : IsSound leg) (even : HasNoSlip leg) (lags : LagsEn
   each-path : (m : ℕ) (path : LinePath) → slice_get (walk_plan leg).paths m ≡ Some path →
       IsSoundPath leg.config.ticks (greatest leg.config.delays) (least leg.config.delays) 0 path
   each-path m path here =
-      let size = has-paths leg can in
       let within = slice_get_within (walk_plan leg).paths m path here in
-      let inside : m < length leg.config.windows = omega (arith, size, within) in
+      let inside : m < length leg.config.windows = omega (arith, has-paths leg can, within) in
       let same : path_in m ≡ path = same_Some (path_in m) path (sym (line-path leg can m inside) ∙ here) in
       subst (IsSoundPath leg.config.ticks (greatest leg.config.delays) (least leg.config.delays) 0) same
       (one-path m inside)
@@ -95,7 +94,6 @@ module _ (leg : Leg) (sound : IsSound leg) (even : HasNoSlip leg) (lags : LagsEn
   is_plan =
       let plan = has-plan leg can in
       let ring = can.ring in
-      let enough = lags in
       record {
         some = plan.is.some;
         paths = all-paths
@@ -105,14 +103,13 @@ module _ (leg : Leg) (sound : IsSound leg) (even : HasNoSlip leg) (lags : LagsEn
         commands = plan.is.commands;
         ring = plan.is.ring;
         spread = omega (arith, ring);
-        lag = omega (arith, enough);
+        lag = omega (arith, lags);
       }
 
   slowest : HasDelay (greatest leg.config.delays) (walk_plan leg).paths
   slowest =
-      let some = can.some in
       let delays = can.delays in
-      let (m, inside, is) = has-greatest leg.config.delays (omega (arith, some, delays)) in
+      let (m, inside, is) = has-greatest leg.config.delays (omega (arith, can.some, delays)) in
       record {
         line = m;
         path = path_in m;

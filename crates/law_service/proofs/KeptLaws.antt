@@ -125,9 +125,8 @@ module _ (e : Extent) (all : List Extent) (r q : ℕ) (some : e.from + 4 ≤ e.t
         ∙ ap (λ octets. record { first = last.first; base = last.base; octets = octets })
         (append_assoc last.octets extra row.octets)) begins fits)
     | inr lost ↦
-        let size = size-more last extra in
         let here : lies_in (with_row last extra) e ≡ true =
-        lies e (with_row last extra) begins (omega (arith, fits, size)) in
+        lies e (with_row last extra) begins (omega (arith, fits, size-more last extra)) in
         rw (lost, same, here) (in-keeps last.first last extra fits)
   ]
 
@@ -250,9 +249,7 @@ extents-long start [] i e there = absurd cc
 extents-long start (idle ∷ pieces) i e there = extents-long (start + size_of idle) pieces i e there
 extents-long start (client frame ∷ pieces) zero e there =
     let same : record { from = start; to = start + size_of (client frame); frame = frame } ≡ e = cc in
-    let from = ap (λ (e : Extent). e.from) same in
-    let to = ap (λ (e : Extent). e.to) same in
-    omega (arith, from, to)
+    omega (arith, ap (λ (e : Extent). e.from) same, ap (λ (e : Extent). e.to) same)
 extents-long start (client frame ∷ pieces) (suc i) e there =
     extents-long (start + size_of (client frame)) pieces i e there
 

@@ -73,10 +73,8 @@ dues-rise : (dues : List ℕ) (i j early late : ℕ) → IsNonDecreasing dues �
     slice_get dues j ≡ Some late → early ≤ late
 dues-rise dues i j early late order low one other =
     let inside = slice_get_within dues j late other in
-    let e = get_or_from_slice_get dues i early 0 one in
     let f = get_or_from_slice_get dues j late 0 other in
-    let up = order i j 0 low inside in
-    omega (arith, e, f, up)
+    omega (arith, get_or_from_slice_get dues i early 0 one, f, order i j 0 low inside)
 
 tries-stay : (n ticks : ℕ) (dues : List ℕ) (a due : ℕ) → slice_get dues a ≡ Some due → ticks < due →
     tries n ticks dues a ≡ a

@@ -7,7 +7,8 @@ use Rattle.std.proofs.lemmas.List.{length-replicate}
 use Rattle.std.proofs.lemmas.List.Elements.{All-nil, All-cons, All-replicate}
 use Rattle.std.proofs.lemmas.List.Sorted.{IsNonDecreasingBy-short, IsNonDecreasingBy-push}
 use Rattle.law_model.specs.Common.{idle, are_whole, slip_of, slip_after, frame_dues, command_dues, Scenario}
-use Rattle.law_model.specs.Common.{scenario_by, frames_at, IsWithin, HasFailures, IsItem, IsNetwork, IsSound}
+use Rattle.law_model.specs.Common.{Leg, FitsRing, FitsLag, scenario_by, frames_at, IsWithin, HasFailures}
+use Rattle.law_model.specs.Common.{IsItem, IsNetwork, IsSound}
 use Rattle.law_model.specs.Common.{said_before, cells_before, size, Stream, reaching, place_of, stream_before, width}
 use Rattle.law_model.specs.Common.{is_up, last_read, after, keep, none_kept, admit, turned, take_out, exchange}
 use Rattle.law_model.specs.declared.script_types.Item.{Item}
@@ -174,30 +175,38 @@ full-keeps = record {
   burst = omega arith;
 }
 
--- ---- the line that fails has a delay
-pub twin-sound : IsSound (with_delays failing_leg (15 ∷ []) 7)
-unfolding slip_after
-twin-sound =
-    let network = failing-sound.network in
+-- ---- other delays, and a ring that they fit
+delayed : (leg : Leg) (delays : List ℕ) (ring : ℕ) → IsSound leg → length delays ≡ leg.config.lines →
+    All (λ (delay : ℕ). delay ≤ 2047) delays → IsWithin 1 2048 ring → FitsRing (with_delays leg delays ring).config →
+    FitsLag (with_delays leg delays ring).config → IsSound (with_delays leg delays ring)
+delayed leg delays ring sound each few_ticks within fits_ring fits_lag =
+    let network = sound.network in
     record {
       network = record {
         lines = network.lines;
-        delay_each = refl;
-        delays = All-replicate (λ delay. delay ≤ 2047) 1 15 (omega arith);
+        delay_each = each;
+        delays = few_ticks;
         windows_each = network.windows_each;
         windows = network.windows;
         lost = network.lost;
-        ring = (omega arith, omega arith);
+        ring = within;
         lag = network.lag;
         ticks = network.ticks;
         size = network.size;
         options = network.options;
-        fits_ring = omega arith;
-        fits_lag = omega arith;
+        fits_ring = fits_ring;
+        fits_lag = fits_lag;
       };
-      items = failing-sound.items;
-      few = failing-sound.few;
+      items = sound.items;
+      few = sound.few;
     }
+
+-- ---- the line that fails has a delay
+pub twin-sound : IsSound (with_delays failing_leg (15 ∷ []) 7)
+unfolding slip_after
+twin-sound =
+    delayed failing_leg (15 ∷ []) 7 failing-sound refl (All-replicate (λ delay. delay ≤ 2047) 1 15 (omega arith))
+    (omega arith, omega arith) (omega arith) (omega arith)
 
 -- ---- one line fails and doesn't slip, another has a delay
 timed-window : Window
@@ -215,27 +224,11 @@ timed-network =
 pub timed-sound : IsSound timed_leg
 unfolding slip_after
 timed-sound =
-    let network = timed-network in
-    record {
-      network = record {
-        lines = network.lines;
-        delay_each = refl;
-        delays = All-cons (λ (delay : ℕ). delay ≤ 2047) 0 (15 ∷ []) (omega arith)
-            (All-replicate (λ delay. delay ≤ 2047) 1 15 (omega arith));
-        windows_each = network.windows_each;
-        windows = network.windows;
-        lost = network.lost;
-        ring = (omega arith, omega arith);
-        lag = network.lag;
-        ticks = network.ticks;
-        size = network.size;
-        options = network.options;
-        fits_ring = omega arith;
-        fits_lag = omega arith;
-      };
-      items = failing-sound.items;
-      few = failing-sound.few;
-    }
+    delayed (record { config = plain timed_windows 16 2 1100; items = failing_leg.items; tells = [] }) (0 ∷ 15 ∷ []) 16
+    (record { network = timed-network; items = failing-sound.items; few = failing-sound.few }) refl
+    (All-cons (λ (delay : ℕ). delay ≤ 2047) 0 (15 ∷ []) (omega arith)
+    (All-replicate (λ delay. delay ≤ 2047) 1 15 (omega arith)))
+    (omega arith, omega arith) (omega arith) (omega arith)
 
 abbrev NoSlip : List Window → Type 0
 NoSlip windows = slip_of windows ≡ 0

@@ -207,8 +207,7 @@ extents-size start (client frame ∷ pieces) =
 
 -- what holds of each holds of the one with a number
 pub at-number : {X : Type 0} (P : X → Type 0) (xs : List X) (n : ℕ) (x : X) → All P xs → slice_get xs n ≡ Some x → P x
-at-number P xs n x all is =
-    subst P (get_or_from_slice_get xs n x x is) (all n x (slice_get_within xs n x is))
+at-number P xs n x all is = subst P (get_or_from_slice_get xs n x x is) (all n x (slice_get_within xs n x is))
 
 first-part : {X : Type 0} (xs ys : List X) (n : ℕ) (x y : X) → slice_get xs n ≡ Some x →
     slice_get (xs ++ ys) n ≡ Some y → x ≡ y

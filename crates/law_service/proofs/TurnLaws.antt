@@ -98,9 +98,7 @@ pub run-rows : (plan : Plan) (s : Counts) (events : List Event) → NoFewer s (r
 unfolding run
 run-rows plan s [] = omega arith
 run-rows plan s (event ∷ events) =
-    let one = step-rows plan s event in
-    let rest = run-rows plan (step plan s event).counts events in
-    omega (arith, one, rest)
+    omega (arith, step-rows plan s event, run-rows plan (step plan s event).counts events)
 
 module _ (slow fast slip : ℕ) (plan : Plan) (is : IsPlanOf slow fast slip plan) where
   any-kept : (s : Counts) (event : Event) → Fits plan s → Either plan s (step plan s event).counts
@@ -144,28 +142,24 @@ module _ (slow fast slip : ℕ) (plan : Plan) (is : IsPlanOf slow fast slip plan
       (run plan s events).rows ≡ plan.ticks
   no-more s events fits shut =
       let next = (run-fits slow fast slip plan is s events fits).0 in
-      let most = next.rows in
-      let more = run-rows plan s events in
-      omega (arith, most, more, shut)
+      omega (arith, next.rows, run-rows plan s events, shut)
 
   pub turns-end : (turns : List (List Event)) (s : Counts) → Fits plan s → All (TriesEach plan) turns →
       bound plan ≤ made s + length turns → (run plan s (in_turn turns)).rows ≡ plan.ticks
   turns-end [] s fits each enough = elim (cases_lt s.rows plan.ticks) [
     | inr shut ↦ no-more s [] fits shut
     | inl open_ ↦
-        let more = round-rises slow fast slip plan is s fits open_ in
         let high = bounded slow fast slip plan is (run plan s (round plan))
         (run-fits slow fast slip plan is s (round plan) fits).0 in
-        absurd (omega (arith, more, high, enough))
+        absurd (omega (arith, round-rises slow fast slip plan is s fits open_, high, enough))
   ]
   turns-end (turn ∷ turns) s fits each enough = elim (cases_lt s.rows plan.ticks) [
     | inr shut ↦ no-more s (turn ++ in_turn turns) fits shut
     | inl open_ ↦
-        let more = turn-rises s turn fits open_ (All-head (TriesEach plan) turn turns each) in
         let next = (run-fits slow fast slip plan is s turn fits).0 in
         ap (λ (c : Counts). c.rows) (run-append plan s turn (in_turn turns))
         ∙ turns-end turns (run plan s turn) next (All-tail (TriesEach plan) turn turns each)
-        (omega (arith, more, enough))
+        (omega (arith, turn-rises s turn fits open_ (All-head (TriesEach plan) turn turns each), enough))
   ]
 
 -- ---- what is reached
@@ -197,9 +191,8 @@ delays-sum sent [] [] from size = refl
 delays-sum sent [] (delay ∷ delays) from size = absurd (omega (arith, size))
 delays-sum sent (windows ∷ lists) [] from size = absurd (omega (arith, size))
 delays-sum sent (windows ∷ lists) (delay ∷ delays) from size =
-    let rest = delays-sum sent lists delays (from + 1) (omega (arith, size)) in
     let parts = sum_by-cons (λ (delay : ℕ). delay) delay delays in
-    omega (arith, rest, parts)
+    omega (arith, delays-sum sent lists delays (from + 1) (omega (arith, size)), parts)
 
 pub leg-bound : (leg : Leg) → IsSound leg → bound (walk_plan leg)
     ≡ (2 * length leg.config.windows + 3) * leg.config.ticks + sum leg.config.delays + 2 * length leg.config.windows

@@ -2,9 +2,9 @@
 use Rattle.fate_check.proofs.WithoutLaws.{same-rows, same-table}
 use Rattle.fate_check.proofs.idle_law.Goals as goal
 
-pub returns-clause-whole : goal.returns-clause-whole
-returns-clause-whole c = λ scenario cells rows line t before after window there idle taken.
-    same-rows scenario line before after window there cells rows t idle taken
-
-pub returns-clause-tables : goal.returns-clause-tables
-returns-clause-tables c = λ scenario cells line k windows. same-table scenario cells line k windows
+pub returns : goal.returns
+returns c = record {
+  whole = λ scenario cells rows line t before after window there idle taken.
+      same-rows scenario line before after window there cells rows t idle taken;
+  tables = λ scenario cells line k windows. same-table scenario cells line k windows;
+}

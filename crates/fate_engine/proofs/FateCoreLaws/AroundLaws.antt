@@ -69,9 +69,8 @@ look-rows from (segment ∷ list) r rise =
       ])
       | inr none ↦ rw none (elim (cases_Bool (nat_lt r segment.end)) [
         | inl here ↦ (
-            let empty = ltb-false segment.first segment.end none in
             let low = ltb-true r segment.end here in
-            rw (here, lt-leb segment.first r (omega (arith, empty, low)))
+            rw (here, lt-leb segment.first r (omega (arith, ltb-false segment.first segment.end none, low)))
             (look-rows (suc segment.end) list r rise.2 ∙ look-low (suc segment.end) list r rise.2 (omega (arith, low))))
         | inr later ↦ rw later (look-rows (suc segment.end) list r rise.2)
       ])
@@ -222,9 +221,7 @@ ends-low from (segment ∷ ended) end zero d are within =
         let b = are.1 in omega (arith, rest, a, b)
 ends-low from (segment ∷ ended) end (suc k) d are within =
     let rest = ends-low segment.end ended end k d are.2 (omega arith) in
-    let a = are.0 in
-    let b = are.1 in
-    (omega (arith, rest.0, a, b), rest.1)
+    (omega (arith, rest.0, are.0, are.1), rest.1)
 
 ends-rise : (from : ℕ) (ended : List RowSegment) (end i j : ℕ) (d : RowSegment) → AreInOrder from ended end → i ≤ j →
     j < length ended → (slice_index_or ended i d).end ≤ (slice_index_or ended j d).end
@@ -313,9 +310,8 @@ module _ (kept : SegmentList) (rows : List StreamRow) (stands : SegmentsStand ke
   pub in-last : kept.first ≤ r → kept.last.first ≤ r → IsAround rows r (in_segment kept.last)
   unfolding look
   in-last high from =
-      let ends = are.rows in
       let count = stands.count in
-      let below : r < kept.last.end = omega (arith, low, ends, count) in
+      let below : r < kept.last.end = omega (arith, low, are.rows, count) in
       let later : kept.first < kept.last.first = elim (cases_lt kept.first kept.last.first) [
         | inl is ↦ is
         | inr isnt ↦ absurd (let all = are.goes isnt in omega (arith, all, high, low, count))

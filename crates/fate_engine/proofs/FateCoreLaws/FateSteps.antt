@@ -18,6 +18,8 @@ use Rattle.fate_engine.proofs.FateLaws.RowLaws.{row-of_place}
 use Rattle.fate_engine.proofs.FateLaws.SpanLaws.{fate-rows}
 use Rattle.fate_engine.specs.fate_core.Sides.{AreInOrder}
 use Rattle.fate_engine.proofs.FateCoreLaws.PieceLaws.{order-of}
+use Rattle.law_loss.proofs.FilterLaws.{and_true, and_false}
+use Rattle.fate_engine.proofs.FateLaws.GotLaws.{or_none}
 
 -- ---- the extent of a frame that is begun
 record IsExtent (all : List Extent) (i : ℕ) (side : ℕ × ℕ) : Type 0 where
@@ -41,12 +43,8 @@ unfolding AreInOrder
 later-none m from [] end e are low = refl
 later-none m from (x ∷ all) end e are low =
     let late : nat_lt x.from e.from ≡ false = le-ltb x.from e.from (let a = are.0 in omega (arith, a, low)) in
-    ap₂ ◌||◌ (ap (λ b. nat_le m x.from && b) late ∙ and-false (nat_le m x.from))
+    ap₂ ◌||◌ (ap (λ b. nat_le m x.from && b) late ∙ and_false (nat_le m x.from))
     (later-none m x.to all end e are.2 (let a = are.0 in let b = are.1 in omega (arith, a, b, low)))
-  where
-    and-false : (b : Bool) → (b && false) ≡ false
-    and-false true = refl
-    and-false false = refl
 
 side-late : (from : ℕ) (all : List Extent) (end k : ℕ) (e : Extent) → AreInOrder from (sides all) end →
     slice_get all k ≡ Some e → from ≤ e.from
@@ -76,30 +74,18 @@ settled-by m from (x ∷ all) end zero e are there =
     let same : x ≡ e = cc in
     let here : nat_lt x.from e.from ≡ false =
     le-ltb x.from e.from (let e2 = ap (λ (y : Extent). y.from) same in omega (arith, e2)) in
-    ap₂ ◌||◌ (ap (λ b. nat_le m x.from && b) here ∙ and-false (nat_le m x.from))
+    ap₂ ◌||◌ (ap (λ b. nat_le m x.from && b) here ∙ and_false (nat_le m x.from))
     (later-none m x.to all end e are.2
     (let e2 = ap (λ (y : Extent). y.from) same in let b = are.1 in omega (arith, e2, b)))
-  where
-    and-false : (b : Bool) → (b && false) ≡ false
-    and-false true = refl
-    and-false false = refl
 settled-by m from (x ∷ all) end (suc i) e are there =
     let late = side-late x.to all end i e are.2 there in
     let before : nat_lt x.from e.from ≡ true = lt-ltb x.from e.from (let b = are.1 in omega (arith, late, b)) in
     let rest = settled-by m x.to all end i e are.2 there in
-    ap₂ ◌||◌ (ap (λ b. nat_le m x.from && b) before ∙ and-true (nat_le m x.from)) rest ∙ joined i there
+    ap₂ ◌||◌ (ap (λ b. nat_le m x.from && b) before ∙ and_true (nat_le m x.from)) rest ∙ joined i there
   where
-    and-true : (b : Bool) → (b && true) ≡ b
-    and-true true = refl
-    and-true false = refl
-
-    or-false : (b : Bool) → (b || false) ≡ b
-    or-false true = refl
-    or-false false = refl
-
     joined : (i : ℕ) → slice_get all i ≡ Some e →
         (nat_le m x.from || settles (sides all) i m) ≡ begins_from m (slice_get ((x.from, x.to) ∷ sides all) i)
-    joined zero there = or-false (nat_le m x.from)
+    joined zero there = or_none (nat_le m x.from)
     joined (suc j) there =
         elim (cases_lt x.from m) [
           | inl late ↦ ap (λ b. b || begins_from m (slice_get (sides all) j)) (lt-leb m x.from late)
@@ -144,10 +130,9 @@ place-grows [] (suc j) zero low = absurd (omega arith)
 place-grows [] (suc j) (suc k) low = omega arith
 place-grows (row ∷ rows) (suc j) zero low = absurd (omega arith)
 place-grows (row ∷ rows) (suc j) (suc k) low =
-    let rest = place-grows rows j k (omega arith) in
     let one = length-append row.octets (octets_of_rows (take j rows)) in
     let other = length-append row.octets (octets_of_rows (take k rows)) in
-    omega (arith, rest, one, other)
+    omega (arith, place-grows rows j k (omega arith), one, other)
 
 module _ (scenario : Scenario) (cells : List (Option Told)) where
   pub rows-count : (n : ℕ) → length (rows_of scenario cells n) ≡ n
@@ -178,9 +163,7 @@ module _ (scenario : Scenario) (cells : List (Option Told)) where
   pub place-rises : (j d : ℕ) → place_of scenario cells j ≤ place_of scenario cells (j + d)
   place-rises j d =
       let grows = place-grows (rows_of scenario cells (j + d)) j (j + d) (omega arith) in
-      let one = place-is (j + d) j (omega arith) in
-      let other = place-is (j + d) (j + d) (omega arith) in
-      omega (arith, grows, one, other)
+      omega (arith, grows, place-is (j + d) j (omega arith), place-is (j + d) (j + d) (omega arith))
 
   pub place-up : (j k : ℕ) → j ≤ k → place_of scenario cells j ≤ place_of scenario cells k
   place-up j k low = let rises = place-rises j (k - j) in
@@ -191,8 +174,7 @@ module _ (scenario : Scenario) (cells : List (Option Told)) where
       place < place_of scenario cells (suc row) → row ≡ row_at (rows_of scenario cells n) place
   row-is n place row low from below =
       let rows : List StreamRow = rows_of scenario cells n in
-      let all = rows-length scenario cells n n (omega arith) in
-      let has = row-of_place rows place (omega (arith, low, all)) in
+      let has = row-of_place rows place (omega (arith, low, rows-length scenario cells n n (omega arith))) in
       let other : ℕ = row_at rows place in
       let within : row < n = elim (cases_lt row n) [
         | inl is ↦ is
@@ -226,10 +208,9 @@ module _ (scenario : Scenario) (cells : List (Option Told)) where
 
     pub late-waits : place_of scenario cells n < side.1 → Waits ≡ fate_at stream.pieces rows i
     late-waits late =
-        let all = rows-length scenario cells n n (omega arith) in
         let isnt : is_carried (length (octets_of_rows rows)) found.extent ≡ false =
         lt-leb found.extent.to (length (octets_of_rows rows))
-        (let to = found.to in omega (arith, all, to, late)) in
+        (let to = found.to in omega (arith, rows-length scenario cells n n (omega arith), to, late)) in
         sym (is-fate ∙ rw isnt refl)
 
     pub carried-fate : side.1 ≤ place_of scenario cells n → (first last : ℕ) → place_of scenario cells first ≤ side.0 →

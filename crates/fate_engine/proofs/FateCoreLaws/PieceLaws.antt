@@ -1,5 +1,5 @@
 -- Which places are those of pieces, by the sides of frames.
-use Rattle.std.proofs.Common.{◌≡◌, ℕ, zero, suc, ◌+◌, ◌-◌, ◌%◌, ◌<◌, ◌≤◌, ◌==◌, ◌&&◌, ◌||◌, Bool, true, false, nat_lt}
+use Rattle.std.proofs.Common.{◌≡◌, ℕ, zero, suc, ◌+◌, ◌-◌, ◌%◌, ◌<◌, ◌≤◌, ◌==◌, ◌&&◌, ◌||◌, Bool, false, nat_lt}
 use Rattle.std.proofs.Common.{List, [], ◌∷◌, length, slice_get, slice_index_or, Some, refl, sym, ◌∙◌, ap, ap₂, subst}
 use Rattle.std.proofs.Common.{arith, inl, inr, if◌then◌else◌, lt-ltb, le-ltb, le-leb, eq-eqb, ne_eqb, zero-add}
 use Rattle.std.specs.List.{list_any}
@@ -8,6 +8,8 @@ use Rattle.std.proofs.lemmas.List.Sums.{sum_by-append}
 use Rattle.law_model.specs.Common.{Piece, idle, client, size_of, size, Stream, extents}
 use Rattle.fate_engine.specs.Common.{places, is_piece_at, sides, ruler_of, is_fourth}
 use Rattle.fate_engine.specs.fate_core.Sides.{AreInOrder}
+use Rattle.law_loss.proofs.FilterLaws.{and_false}
+use Rattle.fate_engine.proofs.FateCoreLaws.RunLaws.{eqb-sym}
 
 -- ---- by sides
 unfoldable pub piece_in : ℕ → List (ℕ × ℕ) → ℕ → ℕ → Bool
@@ -15,7 +17,7 @@ piece_in start [] end place = nat_lt place end && is_fourth start place
 piece_in start (side ∷ rest) end place =
     if nat_lt place side.0 then is_fourth start place else (place == side.0 || piece_in side.1 rest end place)
 
-order-low : (from : ℕ) (list : List (ℕ × ℕ)) (end : ℕ) → AreInOrder from list end → from ≤ end
+pub order-low : (from : ℕ) (list : List (ℕ × ℕ)) (end : ℕ) → AreInOrder from list end → from ≤ end
 unfolding AreInOrder
 order-low from [] end are = are
 order-low from (side ∷ list) end are = let rest = order-low side.1 list end are.2 in let a = are.0 in let b = are.1 in
@@ -28,11 +30,7 @@ piece-early : (start : ℕ) (list : List (ℕ × ℕ)) (end place : ℕ) → Are
     piece_in start list end place ≡ false
 unfolding piece_in AreInOrder
 piece-early start [] end place are low = ap (λ b. nat_lt place end && b) (early start place low)
-    ∙ and-false (nat_lt place end)
-  where
-    and-false : (b : Bool) → (b && false) ≡ false
-    and-false true = refl
-    and-false false = refl
+    ∙ and_false (nat_lt place end)
 piece-early start (side ∷ list) end place are low =
     rw (lt-ltb place side.0 (let a = are.0 in omega (arith, a, low))) (early start place low)
 
@@ -115,13 +113,9 @@ unfolding places extents piece_in
 pieces-in start [] place =
     elim (cases_lt place start) [
       | inl low ↦ sym (ap (λ b. nat_lt place (start + 0) && b) (early start place low)
-          ∙ and-false (nat_lt place (start + 0)))
+          ∙ and_false (nat_lt place (start + 0)))
       | inr high ↦ sym (ap (λ b. b && is_fourth start place) (le-ltb place (start + 0) (omega (arith, high))))
     ]
-  where
-    and-false : (b : Bool) → (b && false) ≡ false
-    and-false true = refl
-    and-false false = refl
 pieces-in start (idle ∷ pieces) place =
     let list : List (ℕ × ℕ) = sides (extents (start + 4) pieces) in
     let all : start + 4 + size pieces ≡ start + size (idle ∷ pieces) =
@@ -143,9 +137,6 @@ pieces-in start (client frame ∷ pieces) place =
           (rest ∙ piece-early (start + s) list end place are (omega (arith, low))) ∙ sym (early start place low))
       | inr high ↦ rw (le-ltb place start high) (ap₂ ◌||◌ (eqb-sym start place) rest)
     ]
-  where
-    eqb-sym : (a b : ℕ) → (a == b) ≡ (b == a)
-    eqb-sym a b = grind arith
 
 pub piece-by : (stream : Stream) (place : ℕ) →
     is_piece_at stream.pieces place ≡ piece_in 0 (ruler_of stream).sent (ruler_of stream).end place

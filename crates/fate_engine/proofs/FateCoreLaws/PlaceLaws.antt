@@ -22,23 +22,20 @@ sum-next (x ∷ xs) zero low =
     let none : sum_by length (take zero (x ∷ xs)) ≡ 0 = refl in
     omega (arith, one, none)
 sum-next (x ∷ xs) (suc k) low =
-    let rest = sum-next xs k (omega arith) in
     let more : sum_by length (take (suc (suc k)) (x ∷ xs)) ≡ length x + sum_by length (take (suc k) xs) =
     sum_by-cons length x (take (suc k) xs) in
     let less : sum_by length (take (suc k) (x ∷ xs)) ≡ length x + sum_by length (take k xs) =
     sum_by-cons length x (take k xs) in
     let own : slice_index_or (x ∷ xs) (suc k) [] ≡ slice_index_or xs k [] = refl in
-    omega (arith, rest, more, less, ap length own)
+    omega (arith, sum-next xs k (omega arith), more, less, ap length own)
 
 sum-few : (xs : List (List ℕ)) (k : ℕ) → All (λ (x : List ℕ). length x ≤ 128) xs → sum_by length (take k xs) ≤ 128 * k
 sum-few xs zero few = omega arith
 sum-few [] (suc k) few = omega arith
 sum-few (x ∷ xs) (suc k) few =
-    let rest = sum-few xs k (λ i d inside. few (suc i) d (omega arith)) in
-    let own = few zero x (omega arith) in
     let all : sum_by length (take (suc k) (x ∷ xs)) ≡ length x + sum_by length (take k xs) =
     sum_by-cons length x (take k xs) in
-    omega (arith, rest, own, all)
+    omega (arith, sum-few xs k (λ i d inside. few (suc i) d (omega arith)), few zero x (omega arith), all)
 
 -- ---- where the rows of packets begin
 pub start-next : (size : ℕ) (xs : List (List ℕ)) (k : ℕ) → k < length xs →
@@ -56,9 +53,7 @@ pub start-few : (size : ℕ) (xs : List (List ℕ)) (k : ℕ) → size < 2 ^ 16 
     All (λ (x : List ℕ). length x ≤ 128) xs → start_by size xs k ≤ 8796093022208
 start-few size xs k small low few =
     let sum = sum-few xs k few in
-    let one = mul-le-mul_left size (most sum) in
-    let two = mul-le-mul_right 8388608 (size-most) in
-    omega (arith, one, two)
+    omega (arith, mul-le-mul_left size (most sum), mul-le-mul_right 8388608 (size-most))
   where
     most : sum_by length (take k xs) ≤ 128 * k → sum_by length (take k xs) ≤ 8388608
     most sum = omega (arith, sum)
@@ -73,11 +68,9 @@ start-rises size xs i zero within = ap-le (let e : i ≡ i + 0 = omega arith in 
     ap-le : {a b : ℕ} → a ≡ b → a ≤ b
     ap-le same = omega arith
 start-rises size xs i (suc d) within =
-    let before = start-rises size xs i d (omega arith) in
-    let next = start-next size xs (i + d) (omega arith) in
     let same : start_by size xs (suc (i + d)) ≡ start_by size xs (i + suc d) =
     ap (start_by size xs) (let e : suc (i + d) ≡ i + suc d = omega arith in e) in
-    omega (arith, before, next, same)
+    omega (arith, start-rises size xs i d (omega arith), start-next size xs (i + d) (omega arith), same)
 
 -- ---- a session
 module _ (scenario : Scenario) (cells : List (Option Told)) where
@@ -105,7 +98,6 @@ module _ (scenario : Scenario) (cells : List (Option Told)) where
         ∙ (let e : place_of scenario cells (24 + 16 * k) ≡ place_of scenario cells (24 + 16 * k) + 0 *
         (packets.size * length (slice_index_or packets.active k [])) = omega arith in e)
     place-in k (suc q) low high =
-        let before = place-in k q low (omega arith) in
         let own : ℕ = packets.size * length (slice_index_or packets.active k []) in
         let next : place_of scenario cells (24 + 16 * k + suc q) ≡ place_of scenario cells (suc (24 + 16 * k + q)) =
         ap (place_of scenario cells) (let e : 24 + 16 * k + suc q ≡ suc (24 + 16 * k + q) = omega arith in e) in
@@ -114,7 +106,7 @@ module _ (scenario : Scenario) (cells : List (Option Told)) where
         let more : suc q * own ≡ q * own + own = omega arith in
         next ∙ (let e : place_of scenario cells (24 + 16 * k + q) + scenario.size * width scenario cells
         (24 + 16 * k + q) ≡ place_of scenario cells (24 + 16 * k) + suc q * own =
-        omega (arith, before, row, more) in e)
+        omega (arith, place-in k q low (omega arith), row, more) in e)
 
     pub place-first : (k : ℕ) → k ≤ length packets.active →
         place_of scenario cells (24 + 16 * k) ≡ start_by packets.size packets.active k
@@ -124,21 +116,16 @@ module _ (scenario : Scenario) (cells : List (Option Told)) where
         none : 0 ≡ packets.size * 0 * 16
         none = omega arith
     place-first (suc k) low =
-        let before = place-first k (omega arith) in
-        let row = place-in k 16 (omega arith) (omega arith) in
-        let next = start-next packets.size packets.active k (omega arith) in
         ap (place_of scenario cells) (let e : 24 + 16 * suc k ≡ 24 + 16 * k + 16 = omega arith in e)
         ∙ (let e : place_of scenario cells (24 + 16 * k + 16) ≡ start_by packets.size packets.active (suc k) =
-        omega (arith, before, row, next) in e)
+        let next = start-next packets.size packets.active k (omega arith) in
+        omega (arith, place-first k (omega arith), place-in k 16 (omega arith) (omega arith), next) in e)
 
     -- a row under packet k
     pub place-at : (k q : ℕ) → k < length packets.active → q ≤ 16 →
         place_of scenario cells (24 + 16 * k + q) ≡ start_by packets.size packets.active k + q *
         (packets.size * length (slice_index_or packets.active k []))
-    place-at k q low high =
-        let row = place-in k q low high in
-        let first = place-first k (omega arith) in
-        omega (arith, row, first)
+    place-at k q low high = omega (arith, place-in k q low high, place-first k (omega arith))
 
 -- ---- over the fields
 pub lines-at : (packets : List Packet) (k : ℕ) (packet : Packet) → slice_get packets k ≡ Some packet →
@@ -171,12 +158,10 @@ module _ (size : ℕ) (list : List Packet) (end : ℕ) (is : IsPacketList size l
   pub next-start : (k : ℕ) (packet : Packet) → slice_get list k ≡ Some packet →
       start_by size actives (suc k) ≡ packet.start + 16 * (size * length packet.lines.items)
   next-start k packet there =
-      let low = get-low list k packet there in
-      let start = is.starts k packet there in
-      let next = start-next size actives k (omega (arith, low, actives-length)) in
       let lines : size * length (slice_index_or actives k []) ≡ size * length packet.lines.items =
       ap (λ (l : List ℕ). size * length l) (lines-at list k packet there) in
-      omega (arith, start, next, lines)
+      let next = start-next size actives k (omega (arith, get-low list k packet there, actives-length)) in
+      omega (arith, is.starts k packet there, next, lines)
 
   pub start-low : (k : ℕ) → k ≤ length list → start_by size actives k ≤ 8796093022208
   start-low k low = let few = is.few in
@@ -186,12 +171,10 @@ module _ (size : ℕ) (list : List Packet) (end : ℕ) (is : IsPacketList size l
   pub row-low : (k q : ℕ) (packet : Packet) → slice_get list k ≡ Some packet → q < 16 →
       packet.start + q * (size * length packet.lines.items) ≤ 8796093022208
   row-low k q packet there small =
-      let low = get-low list k packet there in
-      let next = next-start k packet there in
-      let most = start-low (suc k) (omega (arith, low)) in
       let w : ℕ = size * length packet.lines.items in
       let rows : q * w ≤ 16 * w = mul-le-mul_right w (let le : q ≤ 16 = omega arith in le) in
-      omega (arith, next, most, rows)
+      let next = next-start k packet there in
+      omega (arith, next, start-low (suc k) (omega (arith, get-low list k packet there)), rows)
 
   module _ (scenario : Scenario) (cells : List (Option Told)) (known : List Bool)
       (are : ArePackets scenario cells (packets_in size list known)) where
@@ -199,11 +182,10 @@ module _ (size : ℕ) (list : List Packet) (end : ℕ) (is : IsPacketList size l
         place_of scenario cells (24 + 16 * k + q) ≡ packet.start + q * (size * length packet.lines.items)
     row-place k q packet there small =
         let low = get-low list k packet there in
-        let start = is.starts k packet there in
         let row = place-at scenario cells (packets_in size list known) are k q (omega (arith, low, actives-length)) small in
         let lines : q * (size * length (slice_index_or actives k [])) ≡ q * (size * length packet.lines.items) =
         ap (λ (l : List ℕ). q * (size * length l)) (lines-at list k packet there) in
-        omega (arith, start, row, lines)
+        omega (arith, is.starts k packet there, row, lines)
 
     pub end-place : (row : ℕ) → row ≡ 24 + 16 * length list → end ≡ place_of scenario cells row
     end-place row last =
@@ -239,19 +221,17 @@ module _ (size : ℕ) (list : List Packet) (end : ℕ) (is : IsPacketList size l
       where
         none : (xs : List Packet) → xs ≡ list → ⊥
         none [] same =
-            let ends = is.ends in
             let empty : start_by size actives (length list) ≡ 0 =
             ap (λ xs. start_by size (map (λ (p : Packet). p.lines.items) xs) (length xs)) (sym same) ∙ zeros in
-            omega (arith, ends, empty, low)
+            omega (arith, is.ends, empty, low)
           where
             zeros : size * 0 * 16 ≡ 0
             zeros = omega arith
         none (x ∷ xs) same =
             let some : 0 < length list = omega (arith, ap length same) in
-            let start = start-at 0 x some in
-            let above = leb-false (slice_index_or list 0 x).start place (point.1 0 x (omega arith) some) in
             let zeros : start_by size actives 0 ≡ 0 = omega arith in
-            omega (arith, start, above, zeros)
+            let above = leb-false (slice_index_or list 0 x).start place (point.1 0 x (omega arith) some) in
+            omega (arith, start-at 0 x some, above, zeros)
     begun-some (suc i) point low = omega arith
 
     pub begun-low : (i : ℕ) → 1 ≤ i → i ≤ length list → Begun i → start_by size actives (i - 1) ≤ place
@@ -260,10 +240,9 @@ module _ (size : ℕ) (list : List Packet) (end : ℕ) (is : IsPacketList size l
         by : (xs : List Packet) → xs ≡ list → start_by size actives (i - 1) ≤ place
         by [] same = absurd (omega (arith, ap length same, some, within))
         by (x ∷ xs) same =
-            let start = start-at (i - 1) x (omega (arith, some, within)) in
             let low = leb-true (slice_index_or list (i - 1) x).start place
             (point.0 (i - 1) x (omega arith) (omega (arith, some))) in
-            omega (arith, start, low)
+            omega (arith, start-at (i - 1) x (omega (arith, some, within)), low)
 
     pub begun-high : (i : ℕ) → 1 ≤ i → i ≤ length list → Begun i → place < end →
         place < start_by size actives (suc (i - 1))
@@ -273,18 +252,16 @@ module _ (size : ℕ) (list : List Packet) (end : ℕ) (is : IsPacketList size l
         elim (cases_lt i (length list)) [
           | inl more ↦ (let above = beyond list refl more in omega (arith, same, above))
           | inr last ↦ (
-              let ends = is.ends in
               let e : start_by size actives (length list) ≡ start_by size actives i =
               ap (start_by size actives) (let e : length list ≡ i = omega (arith, last, within) in e) in
-              omega (arith, same, ends, e, low))
+              omega (arith, same, is.ends, e, low))
         ]
       where
         beyond : (xs : List Packet) → xs ≡ list → i < length list → place < start_by size actives i
         beyond [] none more = absurd (omega (arith, ap length none, more))
         beyond (x ∷ xs) some more =
-            let start = start-at i x more in
             let above = leb-false (slice_index_or list i x).start place (point.1 i x (omega arith) more) in
-            omega (arith, start, above)
+            omega (arith, start-at i x more, above)
 
 -- a packet in whose rows a place lies, each of this many octets
 pub record Found (list : List Packet) (k : ℕ) (packet : Packet) (w place : ℕ) : Type 0 where
@@ -316,10 +293,9 @@ some-width x w low = omega arith
 
 pub few-rows : (x w : ℕ) → x < 16 * w → x / w < 16
 few-rows x w low =
-    let some = some-width x w low in
     elim (cases_lt (x / w) 16) [
       | inl few ↦ few
-      | inr many ↦ absurd (let much = mul-le-mul_left w many in omega (arith, much, some, low))
+      | inr many ↦ absurd (let much = mul-le-mul_left w many in omega (arith, much, some-width x w low, low))
     ]
 
 -- ---- one more packet
@@ -383,5 +359,4 @@ pushed size list end packet next is few own start ends = record {
         let own-lines : size * length (slice_index_or all (length list) []) ≡ size * length packet.lines.items =
         ap (λ (l : List ℕ). size * length l)
         (lines-at (list ++ packet ∷ []) (length list) packet (slice_get-append_seam list packet [])) in
-        let before = is.ends in
-        omega (arith, ends, step, front, own-lines, before) ∙ ap (start_by size all) (sym count)
+        omega (arith, ends, step, front, own-lines, is.ends) ∙ ap (start_by size all) (sym count)

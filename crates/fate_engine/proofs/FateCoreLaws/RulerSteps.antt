@@ -1,8 +1,7 @@
 -- What the calls of a ruler do to its fields.
-use Rattle.std.proofs.Common.{◌≡◌, ℕ, zero, suc, ◌+◌, ◌-◌, ◌*◌, ◌/◌, ◌^◌, ◌<◌, ◌≤◌, true, false, nat_le, nat_lt, List, []}
-use Rattle.std.proofs.Common.{◌∷◌, filter}
-use Rattle.std.proofs.Common.{◌++◌, length, map, take, drop, slice_get, slice_index_or, slice_set, All, Some, refl, sym}
-use Rattle.std.proofs.Common.{◌∙◌, ap, ap₂, subst, arith}
+use Rattle.std.proofs.Common.{◌≡◌, ℕ, zero, suc, ◌+◌, ◌-◌, ◌*◌, ◌/◌, ◌^◌, ◌<◌, ◌≤◌, true, false, nat_le}
+use Rattle.std.proofs.Common.{nat_lt, List, [], ◌∷◌, filter, ◌++◌, length, map, take, drop, slice_get}
+use Rattle.std.proofs.Common.{slice_index_or, slice_set, All, Some, refl, sym, ◌∙◌, ap, ap₂, subst, arith}
 use Rattle.std.specs.List.Sorted.{IsPartitionedBy, IsPartitionPoint}
 use Rattle.std.proofs.lemmas.Bool.{le-leb, lt-leb, leb-true, leb-false, lt-ltb, ltb-true}
 use Rattle.std.proofs.lemmas.List.{length-map, map-append, take_more_set, length-set, get_or-map}
@@ -10,6 +9,7 @@ use Rattle.std.proofs.lemmas.List.Elements.{All-cons}
 use Rattle.fate_engine.specs.Common.{Ruler, ruled, side_of, ruler_in, with_begun, IsBegun, IsRuler}
 use Rattle.fate_engine.specs.declared.fate_core.frame_ruler.Piece.{Piece}
 use Rattle.fate_engine.specs.fate_core.Sides.{AreInOrder}
+use Rattle.fate_engine.proofs.FateCoreLaws.PieceLaws.{order-low}
 
 -- ---- lists
 
@@ -114,8 +114,7 @@ longer frames begun end next is more low =
     record {
       within = is.within;
       short = is.short;
-      order =
-          order-more 0 (map side_of (take begun frames)) end next is.order more;
+      order = order-more 0 (map side_of (take begun frames)) end next is.order more;
       low = low;
     }
 
@@ -136,11 +135,6 @@ side-low from [] end zero side are there = absurd cc
 side-low from [] end (suc k) side are there = absurd cc
 side-low from (own ∷ list) end zero side are there = let same : own ≡ side = cc in
     subst (λ (s : ℕ × ℕ). s.1 ≤ end) same (order-low own.1 list end are.2)
-  where
-    order-low : (from : ℕ) (list : List (ℕ × ℕ)) (end : ℕ) → AreInOrder from list end → from ≤ end
-    order-low from [] end are = are
-    order-low from (side ∷ list) end are = let rest = order-low side.1 list end are.2 in let a = are.0 in
-        let b = are.1 in omega (arith, rest, a, b)
 side-low from (own ∷ list) end (suc k) side are there = side-low own.1 list end k side are.2 there
 
 -- ---- the search among those that are begun
@@ -180,9 +174,8 @@ above frames place i point k e from within =
     by : (xs : List Piece) → xs ≡ frames → k < length frames → place < (slice_index_or (map side_of frames) k e).0
     by [] none low = absurd (omega (arith, ap length none, low))
     by (x ∷ xs) some low =
-        let high = leb-false (slice_index_or frames k x).from place (point.1 k x from low) in
         let same = ap (λ (s : ℕ × ℕ). s.0) (get_or-map side_of frames k x e low) in
-        omega (arith, high, same)
+        omega (arith, leb-false (slice_index_or frames k x).from place (point.1 k x from low), same)
 
 map-get : (frames : List Piece) (k : ℕ) (side : ℕ × ℕ) → slice_get (map side_of frames) k ≡ Some side →
     (piece : Piece) × (k < length frames) × (slice_index_or frames k piece ≡ piece) × (side_of piece ≡ side)
@@ -199,9 +192,7 @@ is-begun frames place i within point = record {
   begun = λ k side low there.
       let found = map-get frames k side there in
       let begins = leb-true (slice_index_or frames k found.0).from place (point.0 k found.0 (omega arith) low) in
-      let one = ap (λ (p : Piece). p.from) found.2 in
-      let other = ap (λ (s : ℕ × ℕ). s.0) found.3 in
-      omega (arith, begins, one, other);
+      omega (arith, begins, ap (λ (p : Piece). p.from) found.2, ap (λ (s : ℕ × ℕ). s.0) found.3);
   above = above frames place i point;
 }
 

@@ -14,7 +14,7 @@ abbrev pub with_row_of : ℕ → Option Cause → List SpoiledRun → List Spoil
 with_row_of row None runs = runs
 with_row_of row (Some cause) runs = with_row row cause runs
 
-eqb-sym : (a b : ℕ) → (a == b) ≡ (b == a)
+pub eqb-sym : (a b : ℕ) → (a == b) ≡ (b == a)
 eqb-sym a b = grind arith
 
 same-is : (a b : Cause) → same_cause a b ≡ true → a ≡ b
@@ -30,9 +30,6 @@ same-is (Container line) (Container other) is = ap Container (eqb-true line othe
 
 -- the row in front and the one behind meet
 module _ (t n : ℕ) (first cause : Cause) where
-  abbrev new : SpoiledRun
-  new = record { first = n; end = suc n; cause = cause }
-
   abbrev front : SpoiledRun
   front = record { first = t; end = suc t; cause = first }
 

@@ -93,22 +93,19 @@ module _ (rows : List StreamRow) (row : StreamRow) where
       ≡ record {
         first = (last_segment rows).first;
         end = suc (length rows);
-        mark =
-            confirmed_in (segments_of (rows ++ row ∷ [])).last;
+        mark = confirmed_in (segments_of (rows ++ row ∷ [])).last;
       }
   whole-last is =
       let e = both true is in
       ap (λ (come : Spans). record {
         first = come.last.first;
         end = come.last.end;
-        mark =
-            confirmed_in (segments_of (rows ++ row ∷ [])).last;
+        mark = confirmed_in (segments_of (rows ++ row ∷ [])).last;
       }) e.0
       ∙ ap (λ n. record {
         first = (last_segment rows).first;
         end = suc n;
-        mark =
-            confirmed_in (segments_of (rows ++ row ∷ [])).last;
+        mark = confirmed_in (segments_of (rows ++ row ∷ [])).last;
       }) (last-end rows)
 
   pub whole-base : row.whole ≡ true → (segments_of (rows ++ row ∷ [])).last.base ≡ (segments_of rows).last.base
@@ -138,10 +135,9 @@ module _ (rows : List StreamRow) (row : StreamRow) where
       (segments_of (rows ++ row ∷ [])).last.base ≡ length (octets_of_rows (rows ++ row ∷ []))
   cut-base is =
       let e = both false is in
-      let ends = (Stands-all (rows ++ row ∷ [])).ends in
       let none : length (segments_of (rows ++ row ∷ [])).last.octets ≡ 0 =
       ap (λ (s : Segments). length s.last.octets) e.1 in
-      omega (arith, ends, none)
+      omega (arith, (Stands-all (rows ++ row ∷ [])).ends, none)
 
 -- ---- the first row that isn't whole
 
@@ -239,12 +235,7 @@ none-kept kept rows first ended last base = record {
 module _ (kept : SegmentList) (rows : List StreamRow) (row : StreamRow) (stands : SegmentsStand kept rows)
     (are : AreSegments kept) where
   broken-first : kept.first < kept.last.first → spoiled_from 0 rows < 0 + length rows
-  broken-first low =
-      let count = stands.count in
-      let last = are.last in
-      let ends = are.rows in
-      let first = stands.first in
-      omega (arith, low, count, last, ends, first)
+  broken-first low = omega (arith, low, stands.count, are.last, are.rows, stands.first)
 
   whole-first : kept.last.first ≤ kept.first → spoiled_from 0 rows ≡ 0 + length rows
   whole-first low = let goes = are.goes low in let count = stands.count in let first = stands.first in
@@ -266,8 +257,7 @@ module _ (kept : SegmentList) (rows : List StreamRow) (row : StreamRow) (stands 
         ∙ ap (λ n. record {
           first = (last_segment rows).first;
           end = n;
-          mark =
-              option_map (λ place. kept.base + place) confirmed;
+          mark = option_map (λ place. kept.base + place) confirmed;
         }) count
         ∙ ap (λ m. record { first = (last_segment rows).first; end = suc (length rows); mark = m })
         (ap (λ b. option_map (λ place. b + place) confirmed) base ∙ tells.confirms)
@@ -285,10 +275,9 @@ module _ (kept : SegmentList) (rows : List StreamRow) (row : StreamRow) (stands 
                 (stands.first ∙ sym (spoiled-push 0 rows row (broken-first low)))
             | inr high ↦ rw (le-leb kept.last.first kept.first high) (
                 let all = whole-first high in
-                let first = stands.first in
                 let next : spoiled_from 0 (rows ++ row ∷ []) ≡ suc (0 + length rows) = spoiled-next 0 rows row all
                 ∙ ap (λ b. if b then suc (0 + length rows) else 0 + length rows) whole in
-                omega (arith, all, first, next))
+                omega (arith, all, stands.first, next))
           ]
 
       by-broken : nat_lt (if nat_le kept.last.first kept.first then kept.first + 1 else kept.first) kept.last.first
@@ -314,10 +303,9 @@ module _ (kept : SegmentList) (rows : List StreamRow) (row : StreamRow) (stands 
         );
     base = tells.ends ∙ sym (cut-base rows row cut);
     broken = (
-        let within = are.within in
         let some : length (ended_segments (rows ++ row ∷ [])) ≡ length (ended_segments rows) + 1 =
         ap length (cut-ended rows row cut) ∙ length-append (ended_segments rows) (last_segment rows ∷ []) in
-        lt-ltb kept.first (kept.rows + 1) (omega (arith, within))
+        lt-ltb kept.first (kept.rows + 1) (omega (arith, are.within))
         ∙ sym (lt-ltb 0 (length (ended_segments (rows ++ row ∷ []))) (omega (arith, some)))
         );
   }

@@ -89,9 +89,8 @@ none-tells (window ∷ windows) from count is = absurd cc
 -- ---- over the search
 pub parted : (list : List Window) (n : ℕ) → AreWindows 0 list → IsPartitionedBy (λ window. nat_le window.end n) list
 parted list n are i j d before within ended =
-    let rise = ends-rise 0 list i j d are before within in
     let low = leb-true (slice_index_or list j d).end n ended in
-    le-leb (slice_index_or list i d).end n (omega (arith, rise, low))
+    le-leb (slice_index_or list i d).end n (omega (arith, ends-rise 0 list i j d are before within, low))
 
 abbrev pub Parts : List Window → ℕ → ℕ → Type 0
 Parts list n i = IsPartitionPoint (λ window. nat_le window.end n ≡ true) (λ window. nat_le window.end n ≡ false) list i
@@ -101,8 +100,7 @@ over : (list : List Window) (from count i : ℕ) → Parts list from i →
 over list from count i point =
     whole-same (carried list) (carried (drop i list)) from count (λ n low.
     carried-drop list n i (λ k d below inside.
-    let ends = leb-true (slice_index_or list k d).end from (point.0 k d (omega arith) below) in
-    omega (arith, ends, low)))
+    omega (arith, leb-true (slice_index_or list k d).end from (point.0 k d (omega arith) below), low)))
 
 front-above : (list : List Window) (from i : ℕ) (window : Window) → Parts list from i →
     Some window ≡ slice_get (drop i list) 0 → from < window.end

@@ -100,8 +100,7 @@ module _ (leg : Leg) (s : Counts) (sound : IsSound leg) (walked : IsWalked leg s
         waiting = session_waiting leg;
         later = first.0;
         frames = frames-known leg sound ∙ first.1;
-        none =
-            none-behind;
+        none = none-behind;
       }
 
   pub got-delivered : are_true_marks (session_pieces leg) (session_rows leg s.rows) ≡ true →

@@ -15,6 +15,11 @@ use Rattle.fate_engine.specs.Common.{row_at, spoiled_after, is_settled_by, fate_
 use Rattle.fate_engine.specs.Common.{carried_fate, fate_of, is_got, frames_got}
 use Rattle.fate_engine.specs.declared.fate_law.Fate.{Fate}
 use Rattle.fate_engine.specs.declared.fate_law.Fate.TheVariants.{Cut}
+use Rattle.law_model.proofs.ListLaws.{not-not}
+
+pub or_none : (b : Bool) → (b || false) ≡ b
+or_none true = refl
+or_none false = refl
 
 module _ (all : List Extent) (e : Extent) (r q : ℕ) where
   after-got : (found : Option ℕ) → is_got (fate_after found all e r q) ≡ not (missed_after found all e)
@@ -31,10 +36,6 @@ module _ (all : List Extent) (e : Extent) (r q : ℕ) where
       is_got (fate_in first segment all e r q) ≡ not (is_missed first segment all e)
   in-got true segment = refl
   in-got false segment = after-got (confirmed_in segment)
-
-  or_none : (b : Bool) → (b || false) ≡ b
-  or_none true = refl
-  or_none false = refl
 
   among-got : (other : Fate) (low : ℕ) (segments : List Segment) → is_got other ≡ false → e.from < e.to →
       InOrder low segments →
@@ -65,14 +66,10 @@ pub got-each : (pieces : List Piece) (rows : List StreamRow) (e : Extent) → e.
     (is_carried (length (octets_of_rows rows)) e && not (is_frame_lost (segments rows) (extents 0 pieces) e))
 got-each pieces rows e some =
     elim (cases_Bool (is_carried (length (octets_of_rows rows)) e)) [
-      | inl is ↦ rw is (carried ∙ sym (twice (list_any (is_given (extents 0 pieces) e) (segments rows))))
+      | inl is ↦ rw is (carried ∙ sym (not-not (list_any (is_given (extents 0 pieces) e) (segments rows))))
       | inr isnt ↦ rw isnt refl
     ]
   where
-    twice : (b : Bool) → not (not b) ≡ b
-    twice true = refl
-    twice false = refl
-
     carried : is_got (carried_fate pieces rows e) ≡ list_any (is_given (extents 0 pieces) e) (segments rows)
     carried =
         among-got (extents 0 pieces) e (row_at rows e.from) (row_at rows (e.to - 1))

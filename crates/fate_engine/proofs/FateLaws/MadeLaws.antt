@@ -14,6 +14,7 @@ use Rattle.fate_engine.specs.Common.{row_at, spoiled_after, is_settled_by, fate_
 use Rattle.fate_engine.specs.Common.{fate_if, fate_at}
 use Rattle.fate_engine.specs.declared.fate_law.Fate.{Fate}
 use Rattle.fate_engine.specs.declared.fate_law.Fate.TheVariants.{Waits, Cut}
+use Rattle.law_loss.proofs.FilterLaws.{and_false}
 
 -- ---- frames behind a frame don't settle it
 behind : (m : ℕ) (e : Extent) (low high : ℕ) (others : List Extent) → All (IsBetween low high) others → e.from ≤ low →
@@ -21,14 +22,9 @@ behind : (m : ℕ) (e : Extent) (low high : ℕ) (others : List Extent) → All 
 behind m e low high [] all late = refl
 behind m e low high (other ∷ others) all late =
     let is = All-head (IsBetween low high) other others all in
-    let lower = is.lower in
-    ap₂ ◌||◌ (ap (λ b. nat_le m other.from && b) (le-ltb other.from e.from (omega (arith, lower, late)))
-    ∙ and-false (nat_le m other.from))
+    ap₂ ◌||◌ (ap (λ b. nat_le m other.from && b) (le-ltb other.from e.from (omega (arith, is.lower, late)))
+    ∙ and_false (nat_le m other.from))
     (behind m e low high others (All-tail (IsBetween low high) other others all) late)
-  where
-    and-false : (b : Bool) → (b && false) ≡ false
-    and-false true = refl
-    and-false false = refl
 
 any-front : (test : Extent → Bool) (front more : List Extent) → list_any test more ≡ false →
     list_any test (front ++ more) ≡ list_any test front
@@ -92,14 +88,12 @@ module _ (pieces more : List Piece) (rows : List StreamRow)
       elim (cases_Bool (is_carried (length (octets_of_rows rows)) e)) [
         | inr isnt ↦ rw isnt refl
         | inl carried ↦ (
-            let fits = leb-true e.to (length (octets_of_rows rows)) carried in
-            let some = is.size in
             let settled : (m : ℕ) → list_any (is_settled_by m e) (extents 0 (pieces ++ more)) ≡ list_any
             (is_settled_by m e) front =
             λ m. ap (list_any (is_settled_by m e)) parts
             ∙ any-front (is_settled_by m e) front later
             (behind m e size (size + length (stream_of more)) later (extents-between size more)
-            (omega (arith, fits, some, reach))) in
+            (omega (arith, leb-true e.to (length (octets_of_rows rows)) carried, is.size, reach))) in
             rw carried
             (among-same (Cut (row_at rows e.from) (row_at rows (e.to - 1)) (spoiled_after rows (row_at rows e.from)))
             (segments rows) (extents 0 (pieces ++ more)) front e
@@ -108,10 +102,8 @@ module _ (pieces more : List Piece) (rows : List StreamRow)
 
   behind-waits : (e : Extent) (high : ℕ) → IsBetween size high e → fate_of (pieces ++ more) rows e ≡ Waits
   behind-waits e high is =
-      let lower = is.lower in
-      let some = is.size in
       let past : is_carried (length (octets_of_rows rows)) e ≡ false =
-      lt-leb e.to (length (octets_of_rows rows)) (omega (arith, lower, some, reach)) in
+      lt-leb e.to (length (octets_of_rows rows)) (omega (arith, is.lower, is.size, reach)) in
       rw past refl
 
   pub made-same : (i : ℕ) → fate_at (pieces ++ more) rows i ≡ fate_at pieces rows i

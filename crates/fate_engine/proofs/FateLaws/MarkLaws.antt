@@ -1,18 +1,19 @@
 -- That all marks are true is decided.
-use Rattle.std.proofs.Common.{◌≡◌, ℕ, ◌+◌, ◌<◌, ◌≤◌, Bool, true, false, List, [], ◌∷◌, ◌++◌, length, All, Option, Some}
+use Rattle.std.proofs.Common.{◌≡◌, ℕ, ◌+◌, ◌<◌, ◌≤◌, true, false, List, [], ◌∷◌, ◌++◌, length, All, Option, Some}
 use Rattle.std.proofs.Common.{None, refl, sym, ◌∙◌, ap, ap₂, arith, inl, inr, length-append, ◌==◌, ◌&&◌, ◌||◌, IfSome}
 use Rattle.std.proofs.Common.{option_map, eqb-true, eq-eqb, append-nil}
 use Rattle.std.specs.List.{list_any, list_all}
-use Rattle.std.proofs.lemmas.Bool.{cases_Bool}
-use Rattle.std.proofs.lemmas.List.Elements.{All-nil, All-cons, All-head, All-tail, All-append}
+use Rattle.std.proofs.lemmas.Bool.{cases_Bool, and_parts}
+use Rattle.std.proofs.lemmas.List.Elements.{All-nil, All-cons, All-head, All-tail}
 use Rattle.law_loss.proofs.ExtentLaws.{no_octets}
-use Rattle.law_model.specs.Common.{Piece, size_of, stream_of, Confirmed, hunt, StreamRow, Segment, segments_of}
+use Rattle.law_model.specs.Common.{Piece, size_of, stream_of, Confirmed, hunt, StreamRow, Segment}
 use Rattle.law_model.specs.Common.{segments, octets_of_rows, confirmed_in, IsPlaceOfPiece, StartsTrue, TrueStarts}
 use Rattle.law_model.proofs.StreamLaws.{length-stream_of-cons}
 use Rattle.law_loss.specs.Carried.{CarriesStream}
 use Rattle.law_loss.proofs.FilterLaws.{or_true}
 use Rattle.law_loss.proofs.FoundLaws.{confirmed-within}
-use Rattle.law_loss.proofs.CutLaws.{IsPart, Stands-all}
+use Rattle.law_loss.proofs.CutLaws.{IsPart}
+use Rattle.law_loss.proofs.KeptLaws.{parts-of}
 use Rattle.fate_engine.specs.Common.{places, is_piece_at, is_true_mark, has_true_mark, are_true_marks}
 
 -- ---- places of pieces
@@ -103,21 +104,12 @@ module _ (pieces : List Piece) where
             (starts later)
       ]
 
-  and_first : (a b : Bool) → (a && b) ≡ true → a ≡ true
-  and_first true b is = refl
-  and_first false b is = is
-
-  and_second : (a b : Bool) → (a && b) ≡ true → b ≡ true
-  and_second true b is = is
-  and_second false b is = absurd (let e : false ≡ true = is in cc)
-
   pub all-true : (segments : List Segment) → list_all (has_true_mark pieces) segments ≡ true →
       All (StartsTrue pieces) segments
   all-true [] is = All-nil (StartsTrue pieces)
   all-true (segment ∷ further) is =
-      All-cons (StartsTrue pieces) segment further
-      (starts-true segment (and_first (has_true_mark pieces segment) (list_all (has_true_mark pieces) further) is))
-      (all-true further (and_second (has_true_mark pieces segment) (list_all (has_true_mark pieces) further) is))
+      let parts = and_parts (has_true_mark pieces segment) (list_all (has_true_mark pieces) further) is in
+      All-cons (StartsTrue pieces) segment further (starts-true segment parts.0) (all-true further parts.1)
 
   pub true-all : (sent : List ℕ) (segments : List Segment) → All (IsPart sent) segments →
       length sent ≤ length (stream_of pieces) → All (StartsTrue pieces) segments →
@@ -128,14 +120,6 @@ module _ (pieces : List Piece) where
       (All-head (StartsTrue pieces) segment further starts))
       (true-all sent further (All-tail (IsPart sent) segment further parts) within
       (All-tail (StartsTrue pieces) segment further starts))
-
--- the segments of rows are parts of their octets
-pub parts-of : (rows : List StreamRow) → All (IsPart (octets_of_rows rows)) (segments rows)
-parts-of rows =
-    let sent : List ℕ = octets_of_rows rows in
-    let stands = Stands-all rows in
-    All-append (IsPart sent) (segments_of rows).ended ((segments_of rows).last ∷ []) stands.each
-    (All-cons (IsPart sent) (segments_of rows).last [] stands.last (All-nil (IsPart sent)))
 
 pub marks-starts : (pieces : List Piece) (rows : List StreamRow) → are_true_marks pieces rows ≡ true →
     TrueStarts pieces rows

@@ -137,13 +137,17 @@ module _ (e : Extent) where
         | inr lost ↦ rw lost (omega arith)
       ]
 
-  -- it begins in the last segment, and ends after it
-  pub between : (rows : List StreamRow) (t : ℕ) (last : Segment) → last.base ≤ e.from → e.from < end_of last →
-      end_of last < e.to → e.to ≤ end_of last + length (octets_of_rows rows) →
+  abbrev first_size : List StreamRow → ℕ
+  first_size [] = 0
+  first_size (row ∷ rows) = length row.octets
+
+  -- it begins in the last segment or in the first row after it, and ends after the segment
+  between : (rows : List StreamRow) (t : ℕ) (last : Segment) → e.from < e.to → last.base ≤ e.from →
+      e.from < end_of last + first_size rows → end_of last < e.to → e.to ≤ end_of last + length (octets_of_rows rows) →
       Tells (lies_among (tail rows last)) t (row_from t rows (e.to - 1 - end_of last)) (spoiled_from t rows)
   unfolding tail row_from spoiled_from
-  between [] t last lower begins ends fits = absurd (omega (arith, ends, fits))
-  between (row ∷ rows) t last lower begins ends fits =
+  between [] t last some lower begins ends fits = absurd (omega (arith, ends, fits))
+  between (row ∷ rows) t last some lower begins ends fits =
       let size : ℕ = length row.octets in
       let place : ℕ = e.to - 1 - end_of last in
       let all = length-append row.octets (octets_of_rows rows) in
@@ -151,7 +155,7 @@ module _ (e : Extent) where
       elim (cases_Bool row.whole) [
         | inl whole ↦ rw whole (elim (cases_lt (end_of last + size) e.to) [
           | inl beyond ↦
-              let rest = between rows (suc t) (with_row last row.octets) lower (omega (arith, begins, more))
+              let rest = between rows (suc t) (with_row last row.octets) some lower (omega (arith, begins, more))
               (omega (arith, beyond, more)) (omega (arith, fits, all, more)) in
               let same : e.to - 1 - end_of (with_row last row.octets) ≡ place - size = omega (arith, more) in
               rw (le-ltb place size (omega (arith, beyond)))
@@ -170,46 +174,6 @@ module _ (e : Extent) where
             (inr (
               ap₂ ◌||◌ (too_long last ends)
                   (tail-before rows (next_segment last row.octets) (omega (arith, begins))),
-              omega arith,
-              row-low t (row ∷ rows) place,
-            ))
-      ]
-
-  -- it begins in the first row after the last segment
-  pub first-row : (row : StreamRow) (rows : List StreamRow) (t : ℕ) (last : Segment) → e.from < e.to →
-      end_of last ≤ e.from → e.to ≤ end_of last + length (octets_of_rows (row ∷ rows)) →
-      e.from - end_of last < length row.octets →
-      Tells (lies_among (tail (row ∷ rows) last)) t (row_from t (row ∷ rows) (e.to - 1 - end_of last))
-      (spoiled_from t (row ∷ rows))
-  unfolding tail row_from spoiled_from
-  first-row row rows t last some begins fits here =
-      let size : ℕ = length row.octets in
-      let place : ℕ = e.to - 1 - end_of last in
-      let all = length-append row.octets (octets_of_rows rows) in
-      let more = size-more last row.octets in
-      elim (cases_Bool row.whole) [
-        | inl whole ↦ rw whole (elim (cases_lt (end_of last + size) e.to) [
-          | inl beyond ↦
-              let rest = between rows (suc t) (with_row last row.octets) (omega (arith, begins))
-              (omega (arith, begins, here, more)) (omega (arith, beyond, more))
-              (omega (arith, fits, all, more)) in
-              let same : e.to - 1 - end_of (with_row last row.octets) ≡ place - size = omega (arith, more) in
-              rw (le-ltb place size (omega (arith, beyond)))
-              (Tells-lower (lies_among (tail rows (with_row last row.octets))) (suc t) t
-              (row_from (suc t) rows (place - size)) (spoiled_from (suc t) rows) (omega arith)
-              (subst (λ p. Tells (lies_among (tail rows (with_row last row.octets))) (suc t) (row_from (suc t) rows p)
-              (spoiled_from (suc t) rows)) same rest))
-          | inr within ↦
-              rw (lt-ltb place size (omega (arith, within, some, begins)))
-              (inl (
-                tail-first rows (with_row last row.octets) (omega (arith, begins)) (omega (arith, within, more)),
-                (let low = spoiled-low (suc t) rows in omega (arith, low)),
-              ))
-        ])
-        | inr lost ↦ rw lost
-            (inr (
-              ap₂ ◌||◌ (too_long last (omega (arith, some, begins)))
-                  (tail-before rows (next_segment last row.octets) (omega (arith, begins, here))),
               omega arith,
               row-low t (row ∷ rows) place,
             ))
@@ -260,17 +224,17 @@ module _ (e : Extent) where
         | inl here ↦ (
             let same : r ≡ t = is ∙ from-first row rows t low here in
             let none : r - t ≡ 0 = omega (arith, same) in
-            let all = first-row row rows t last some begins fits here in
+            let all = between (row ∷ rows) t last some (omega (arith, begins)) (omega (arith, here, begins))
+            (omega (arith, some, begins)) fits in
             rw (none, same) all)
         | inr later ↦ (
             let new : Segment = if row.whole then with_row last row.octets else next_segment last row.octets in
             let ends : end_of new ≡ end_of last + size = new-end row last in
-            let all = length-append row.octets (octets_of_rows rows) in
             let next : r ≡ row_from (suc t) rows (e.from - end_of new) =
             is ∙ from-next row rows t low later
             ∙ ap (row_from (suc t) rows) (let e : low - size ≡ e.from - end_of new = omega (arith, ends) in e) in
             let rest = after rows (suc t) r new some (omega (arith, ends, later, begins, some))
-            (omega (arith, fits, all, ends)) next in
+            (omega (arith, fits, length-append row.octets (octets_of_rows rows), ends)) next in
             let above : suc t ≤ r = omega (arith, next, row-low (suc t) rows (e.from - end_of new)) in
             let dropped : r - t ≡ suc (r - suc t) = omega (arith, above) in
             let last_row : row_from t (row ∷ rows) high ≡ row_from (suc t) rows (e.to - 1 - end_of new) =

@@ -50,11 +50,6 @@ module _ (e : Extent) (all : List Extent) (other : Fate) (r q : ℕ) where
   Begins rows last span = ((e.from < end_of last) × (r < span.end)) ⊎
       ((end_of last ≤ e.from) × (r ≡ row_from span.end rows (e.from - end_of last)))
 
-  here : (rows : List StreamRow) (last : Segment) → lies_in last e ≡ true →
-      fate_among other (last ∷ tail rows last) all e r q ≡ fate_in last.first last all e r q
-  unfolding fate_among
-  here rows last is = rw is refl
-
   -- a row that is whole
   begins-whole : (row : StreamRow) (rows : List StreamRow) (last : Segment) (span : Span) →
       Begins (row ∷ rows) last span →

@@ -31,46 +31,23 @@ abbrev pub ended_listed : Ended → List CarriedFrame
 ended_listed ended = listed (carried_end ended.due (length ended.frame) ended.end)
 
 -- one that is refused, got or waits is in no other column
-end-one : (due octets : ℕ) (end : End) →
-    1 ≡ one_if (is_refused end) + sum_by got_one (listed (carried_end due octets end))
-    + sum_by lost_one (listed (carried_end due octets end)) + one_if (has_waited end)
-end-one due octets (refused why) = refl
-end-one due octets (accepted Waits) = refl
-end-one due octets (accepted (Cut r q t)) = refl
-end-one due octets (accepted (Unconfirmed r q)) = refl
-end-one due octets (accepted (Hunting r q)) = refl
-end-one due octets (accepted (Unsettled r q)) = refl
-end-one due octets (accepted (Got r q)) = refl
+abbrev EndAdds : ℕ → ℕ → End → Type 0
+EndAdds due octets end =
+    let those = listed (carried_end due octets end) in
+    (1 ≡ one_if (is_refused end) + sum_by got_one those + sum_by lost_one those + one_if (has_waited end))
+    × (octets ≡ octets_if (is_refused end) octets + sum_by got_octets those + sum_by lost_octets those
+    + octets_if (has_waited end) octets)
+    × (sum_by got_one those ≡ one_if (has_got end))
+    × (sum_by got_octets those ≡ octets_if (has_got end) octets)
 
-end-octets : (due octets : ℕ) (end : End) →
-    octets ≡ octets_if (is_refused end) octets + sum_by got_octets (listed (carried_end due octets end))
-    + sum_by lost_octets (listed (carried_end due octets end)) + octets_if (has_waited end) octets
-end-octets due octets (refused why) = omega arith
-end-octets due octets (accepted Waits) = omega arith
-end-octets due octets (accepted (Cut r q t)) = omega arith
-end-octets due octets (accepted (Unconfirmed r q)) = omega arith
-end-octets due octets (accepted (Hunting r q)) = omega arith
-end-octets due octets (accepted (Unsettled r q)) = omega arith
-end-octets due octets (accepted (Got r q)) = omega arith
-
-end-got : (due octets : ℕ) (end : End) → sum_by got_one (listed (carried_end due octets end)) ≡ one_if (has_got end)
-end-got due octets (refused why) = refl
-end-got due octets (accepted Waits) = refl
-end-got due octets (accepted (Cut r q t)) = refl
-end-got due octets (accepted (Unconfirmed r q)) = refl
-end-got due octets (accepted (Hunting r q)) = refl
-end-got due octets (accepted (Unsettled r q)) = refl
-end-got due octets (accepted (Got r q)) = refl
-
-end-got_octets : (due octets : ℕ) (end : End) →
-    sum_by got_octets (listed (carried_end due octets end)) ≡ octets_if (has_got end) octets
-end-got_octets due octets (refused why) = refl
-end-got_octets due octets (accepted Waits) = refl
-end-got_octets due octets (accepted (Cut r q t)) = refl
-end-got_octets due octets (accepted (Unconfirmed r q)) = refl
-end-got_octets due octets (accepted (Hunting r q)) = refl
-end-got_octets due octets (accepted (Unsettled r q)) = refl
-end-got_octets due octets (accepted (Got r q)) = omega arith
+end-adds : (due octets : ℕ) (end : End) → EndAdds due octets end
+end-adds due octets (refused why) = (refl, omega arith, refl, refl)
+end-adds due octets (accepted Waits) = (refl, omega arith, refl, refl)
+end-adds due octets (accepted (Cut r q t)) = (refl, omega arith, refl, refl)
+end-adds due octets (accepted (Unconfirmed r q)) = (refl, omega arith, refl, refl)
+end-adds due octets (accepted (Hunting r q)) = (refl, omega arith, refl, refl)
+end-adds due octets (accepted (Unsettled r q)) = (refl, omega arith, refl, refl)
+end-adds due octets (accepted (Got r q)) = (refl, omega arith, refl, omega arith)
 
 -- ---- the columns
 waits-step : (tally : Tally) (ended : Ended) (octets : ℕ) →
@@ -113,7 +90,7 @@ pub got-count : (all : List Ended) → sum_by got_one (carried_of all) ≡ count
 got-count all =
     sum-flat got_one ended_listed all
     ∙ sum-same (λ (ended : Ended). sum_by got_one (ended_listed ended)) (λ (ended : Ended). one_if (has_got ended.end))
-    (λ ended. end-got ended.due (length ended.frame) ended.end) all
+    (λ ended. (end-adds ended.due (length ended.frame) ended.end).2) all
     ∙ sym (length-filter (λ (ended : Ended). has_got ended.end) all)
 
 pub waits-count : (all : List Ended) → (waits_of all).frames ≡ count_of has_waited all
@@ -123,8 +100,7 @@ pub offered-count : (all : List Ended) → sum_by (λ (frame : OfferedFrame). 1)
 offered-count [] = refl
 offered-count (ended ∷ all) =
     let sum = sum_by-cons (λ (frame : OfferedFrame). 1) (offered_frame ended) (offered_of all) in
-    let rest = offered-count all in
-    omega (arith, sum, rest)
+    omega (arith, sum, offered-count all)
 
 -- ---- the balance
 pub frames-balance : (all : List Ended) → sum_by (λ (frame : OfferedFrame). 1) (offered_of all)
@@ -134,13 +110,11 @@ frames-balance all =
     let four = sum-four (λ (ended : Ended). 1) (λ (ended : Ended). one_if (is_refused ended.end))
     (λ (ended : Ended). sum_by got_one (ended_listed ended)) (λ (ended : Ended). sum_by lost_one (ended_listed ended))
     (λ (ended : Ended). one_if (has_waited ended.end))
-    (λ ended. end-one ended.due (length ended.frame) ended.end) all in
+    (λ ended. (end-adds ended.due (length ended.frame) ended.end).0) all in
     let offered = sum-map-by (λ (frame : OfferedFrame). 1) offered_frame all in
     let no = sum-map-by refused_one offered_frame all in
-    let got = sum-flat got_one ended_listed all in
     let lost = sum-flat lost_one ended_listed all in
-    let waits = waits-frames all in
-    omega (arith, four, offered, no, got, lost, waits)
+    omega (arith, four, offered, no, sum-flat got_one ended_listed all, lost, waits-frames all)
 
 pub octets-balance : (all : List Ended) → sum_by (λ (frame : OfferedFrame). frame.octets) (offered_of all)
     ≡ sum_by refused_octets (offered_of all) + sum_by got_octets (carried_of all)
@@ -151,13 +125,11 @@ octets-balance all =
     (λ (ended : Ended). sum_by got_octets (ended_listed ended))
     (λ (ended : Ended). sum_by lost_octets (ended_listed ended))
     (λ (ended : Ended). octets_if (has_waited ended.end) (length ended.frame))
-    (λ ended. end-octets ended.due (length ended.frame) ended.end) all in
+    (λ ended. (end-adds ended.due (length ended.frame) ended.end).1) all in
     let offered = sum-map-by (λ (frame : OfferedFrame). frame.octets) offered_frame all in
     let no = sum-map-by refused_octets offered_frame all in
-    let got = sum-flat got_octets ended_listed all in
     let lost = sum-flat lost_octets ended_listed all in
-    let waits = waits-octets all in
-    omega (arith, four, offered, no, got, lost, waits)
+    omega (arith, four, offered, no, sum-flat got_octets ended_listed all, lost, waits-octets all)
 
 -- those that are got
 pub got-frames-count : (all : List Ended) → sum_by got_one (carried_of all) ≡ length (got_frames all)
@@ -170,17 +142,15 @@ got-frames-octets all =
     sum-flat got_octets ended_listed all
     ∙ sum-same (λ (ended : Ended). sum_by got_octets (ended_listed ended))
     (λ (ended : Ended). octets_if (has_got ended.end) (length ended.frame))
-    (λ ended. end-got_octets ended.due (length ended.frame) ended.end) all
+    (λ ended. (end-adds ended.due (length ended.frame) ended.end).3) all
     ∙ sym (sum-filter (λ (ended : Ended). length ended.frame) (λ (ended : Ended). has_got ended.end) all)
     ∙ sym (sum-map-by length (λ (ended : Ended). ended.frame) (filter (λ (ended : Ended). has_got ended.end) all))
 
 -- ---- all that landed is told of
-told-up : (told : ℕ) (frames : List OfferedFrame) → told ≤ told_on told frames
+pub ticks-told : (told : ℕ) (frames : List OfferedFrame) → told ≤ told_on told frames
 unfolding told_on
-told-up told [] = omega arith
-told-up told (frame ∷ frames) =
-    let rest = told-up (max told (frame.due + 1)) frames in
-    omega (arith, rest)
+ticks-told told [] = omega arith
+ticks-told told (frame ∷ frames) = omega (arith, ticks-told (max told (frame.due + 1)) frames)
 
 abbrev DueBelow : ℕ → OfferedFrame → Type 0
 DueBelow told frame = frame.due < told
@@ -189,12 +159,9 @@ told-all : (told : ℕ) (frames : List OfferedFrame) → All (DueBelow (told_on 
 unfolding told_on
 told-all told [] = All-nil (DueBelow told)
 told-all told (frame ∷ frames) =
-    let up = told-up (max told (frame.due + 1)) frames in
+    let up = ticks-told (max told (frame.due + 1)) frames in
     All-cons (DueBelow (told_on (max told (frame.due + 1)) frames)) frame frames (omega (arith, up))
     (told-all (max told (frame.due + 1)) frames)
-
-pub ticks-told : (ticks : ℕ) (frames : List OfferedFrame) → ticks ≤ told_on ticks frames
-ticks-told = told-up
 
 in-all : (told n : ℕ) → n < told → is_in 0 told n ≡ true
 in-all told n low = ap₂ ◌&&◌ (le-leb 0 n (omega arith)) (lt-ltb n told low)

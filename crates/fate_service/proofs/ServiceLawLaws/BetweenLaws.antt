@@ -1,19 +1,15 @@
 -- Outages beside the fates of frames: which rows a frame that is got has, where one that is lost is decided, and what
 -- becomes of those between two outages.
 use Rattle.std.proofs.Common.{◌≡◌, ℕ, zero, suc, ◌+◌, ◌<◌, ◌≤◌, ◌⊎◌, ◌&&◌, Bool, true, false, List, [], ◌∷◌}
-use Rattle.std.proofs.Common.{length, drop, Option, Some, None, slice_get, refl, sym, ◌∙◌, ap, ap₂}
-use Rattle.std.proofs.Common.{subst, arith, inl, inr}
+use Rattle.std.proofs.Common.{length, drop, Option, Some, None, slice_get, refl, sym, ◌∙◌, ap, ap₂, subst}
+use Rattle.std.proofs.Common.{arith, inl, inr}
 use Rattle.std.specs.List.{list_any}
 use Rattle.std.proofs.lemmas.Bool.{cases_lt, cases_order, lt-ltb, le-leb, or_left, or_right}
 use Rattle.std.proofs.lemmas.Option.{none-some, some_pair_parts}
-use Rattle.law_model.specs.frames.Piece.{Piece}
-use Rattle.law_model.specs.frames.Segment.{StreamRow, octets_of_rows}
-use Rattle.law_model.specs.frames.Loss.{Extent, extents}
-use Rattle.law_model.specs.source.Client.{size}
+use Rattle.law_model.specs.Common.{Piece, StreamRow, octets_of_rows, Extent, extents, size}
 use Rattle.fate_engine.specs.declared.fate_law.Fate.{Fate}
 use Rattle.fate_engine.specs.declared.fate_law.Fate.TheVariants.{Waits, Cut, Unconfirmed, Hunting, Unsettled, Got}
-use Rattle.fate_engine.specs.fate_law.Fates.{row_at, spoiled_after, is_settled_by, is_got}
-use Rattle.fate_engine.specs.fate_law.SessionFates.{fate_at}
+use Rattle.fate_engine.specs.Common.{row_at, spoiled_after, is_settled_by, is_got, fate_at}
 use Rattle.fate_engine.proofs.FateCoreLaws.PieceLaws.{order-of}
 use Rattle.fate_walks.proofs.WalkFatesLaws.LineLaws.{mark-of-low}
 use Rattle.fate_service.specs.declared.landed_frames.CarriedFrame.{CarriedFrame}
@@ -21,14 +17,13 @@ use Rattle.fate_service.specs.declared.outages.Outage.{Outage}
 use Rattle.fate_service.specs.Frames.{carried_if}
 use Rattle.fate_service.specs.RowStates.{state_of}
 use Rattle.fate_service.specs.Outages.{next_first}
-use Rattle.fate_service.specs.service_law.Dark.{dark_row, row_outages, AreOutages, rows_of_fate}
-use Rattle.fate_service.specs.service_law.Dark.{is_unsettled, LiesBetween}
+use Rattle.fate_service.specs.service_law.Dark.{dark_row, row_outages, AreOutages, rows_of_fate, is_unsettled}
+use Rattle.fate_service.specs.service_law.Dark.{LiesBetween}
 use Rattle.fate_service.proofs.OrderLaws.{row-order, sides-apart}
 use Rattle.fate_service.proofs.ServiceLawLaws.DarkLaws.{outages-are, first-dark, Stands, outage-stands}
-use Rattle.fate_service.proofs.ServiceLawLaws.RowStateLaws.{after-up, after-same, first-clear}
-use Rattle.fate_service.proofs.ServiceLawLaws.RowStateLaws.{mark-use, spoiled-dark, clear-use, marks-same}
-use Rattle.fate_service.proofs.ServiceLawLaws.FateRowLaws.{LiesLater, Tells, tells-at}
-use Rattle.fate_service.proofs.ServiceLawLaws.FateRowLaws.{mark_at}
+use Rattle.fate_service.proofs.ServiceLawLaws.RowStateLaws.{after-up, after-same, first-clear, mark-use}
+use Rattle.fate_service.proofs.ServiceLawLaws.RowStateLaws.{spoiled-dark, clear-use, marks-same}
+use Rattle.fate_service.proofs.ServiceLawLaws.FateRowLaws.{LiesLater, Tells, tells-at, mark_at}
 
 pub rows-are : (rows : List StreamRow) → AreOutages (dark_row rows) 0 (row_outages rows) (length rows)
 rows-are rows = outages-are (state_of rows) (length rows)
@@ -68,20 +63,15 @@ module _ (pieces : List Piece) (rows : List StreamRow) where
       let own : t < spoiled_after rows t = omega (arith, same, whole, high) in
       elim told.1 [
         | inl first ↦ (
-            let zero_same = after-same rows 0 r (omega arith) first in
-            first-clear rows t own (omega (arith, zero_same, whole, high)))
+            first-clear rows t own (omega (arith, after-same rows 0 r (omega arith) first, whole, high)))
         | inr marked ↦ (
             let place : ℕ = marked.0 in
             let is = marked.1 in
-            let behind = marked.2 in
-            let later = is.lies.later in
-            let begins = lies.places.first in
             let taken = lies.places.taken in
             let rising = lies.places.rising in
-            let row = row-order rows place e.from behind lies.places.within in
-            mark-use rows t place own (omega (arith, later, low))
+            mark-use rows t place own (omega (arith, is.lies.later, low))
             (marks-same rows r t (omega (arith, taken, rising)) low (omega (arith, high, whole)) ∙ is.mark)
-            (omega (arith, row, begins, low)))
+            (omega (arith, row-order rows place e.from marked.2 lies.places.within, lies.places.first, low)))
       ]
 
   pub got-rows : (i r q t : ℕ) → fate_at pieces rows i ≡ Got r q → r ≤ t → t ≤ q → dark_row rows t ≡ false
@@ -115,8 +105,7 @@ module _ (pieces : List Piece) (rows : List StreamRow) where
       let taken = told.0.taken in
       let is = told.1 in
       let low = told.2 in
-      let first = first-spoiled rows r (omega (arith, is, low, taken)) in
-      (omega (arith, first, is), omega (arith, low, taken))
+      (omega (arith, first-spoiled rows r (omega (arith, is, low, taken)), is), omega (arith, low, taken))
   lost-behind e due octets (Unconfirmed r q) told = λ lost. later-behind e r q told.0
   lost-behind e due octets (Hunting r q) told = λ lost. later-behind e r q told.1.lies
   lost-behind e due octets (Unsettled r q) told = λ lost. later-behind e r q told.1.lies
@@ -143,11 +132,9 @@ module _ (pieces : List Piece) (rows : List StreamRow) where
   before-got e (Cut u v t) r q told has before =
       absurd (
       let same = (same-rows has).1 in
-      let taken = told.0.taken in
       let is = told.1 in
       let low = told.2 in
-      let first = first-spoiled rows u (omega (arith, is, low, taken)) in
-      omega (arith, first, is, low, same, before)
+      omega (arith, first-spoiled rows u (omega (arith, is, low, told.0.taken)), is, low, same, before)
       )
   before-got e (Unconfirmed u v) r q told has before =
       absurd (let same = (same-rows has).1 in let rising = told.0.lies.places.rising in
@@ -186,24 +173,21 @@ module _ (pieces : List Piece) (rows : List StreamRow) where
     -- an outage begins behind the rows of the first segment
     begins-late : spoiled_after rows 0 ≤ outage.first
     begins-late =
-        let begins = stands.begins in
         elim (cases_lt outage.first (spoiled_after rows 0)) [
           | inr late ↦ late
           | inl early ↦ absurd (
               let same = after-same rows 0 outage.first (omega arith) early in
               let e : true ≡ false =
-              sym begins ∙ first-clear rows outage.first (omega (arith, same, early)) early in
+              sym stands.begins ∙ first-clear rows outage.first (omega (arith, same, early)) early in
               cc)
         ]
 
     are-behind : (r q : ℕ) → outage.end < r → r ≤ q → q < next → (place : ℕ) × AreBehind outage r q place
     are-behind r q behind rising before =
-        let some = stands.some in
         let within = stands.within in
-        let late = begins-late in
         let clear : dark_row rows outage.end ≡ false =
         stands.behind outage.end (omega arith) (omega (arith, behind, rising, before)) in
-        let found = clear-use rows outage.end clear (omega (arith, late, some)) in
+        let found = clear-use rows outage.end clear (omega (arith, begins-late, stands.some)) in
         let whole = clear-between rows outage.end q (omega (arith, behind, rising))
         (λ t low high. stands.behind t low (omega (arith, high, before))) in
         let mark = marks-same rows outage.end r (omega (arith, behind, rising, before, within)) (omega (arith, behind))
@@ -227,22 +211,18 @@ module _ (pieces : List Piece) (rows : List StreamRow) where
         let first = same.0 in
         let last = same.1 in
         let rising = told.0.rising in
-        let is = told.1 in
-        let low = told.2 in
         let are = (are-behind r q behind (omega (arith, first, last, rising)) before).1 in
         let whole = are.whole in
         let up = after-same rows outage.end r (omega (arith, behind))
         (omega (arith, whole, rising, first, last)) in
-        let own = ap (spoiled_after rows) first in
-        omega (arith, up, own, is, low, last, whole)
+        omega (arith, up, ap (spoiled_after rows) first, told.1, told.2, last, whole)
         )
     between-tells e (Unconfirmed u v) r q told has behind before =
         absurd (
         let same = same-rows has in
         let first = same.0 in
-        let last = same.1 in
         let rising = told.0.lies.places.rising in
-        let are = (are-behind r q behind (omega (arith, first, last, rising)) before).1 in
+        let are = (are-behind r q behind (omega (arith, first, same.1, rising)) before).1 in
         let mark = are.mark in
         let none = told.1 in
         let own = ap (mark_at pieces rows) first in
@@ -252,18 +232,13 @@ module _ (pieces : List Piece) (rows : List StreamRow) where
         absurd (
         let same = same-rows has in
         let first = same.0 in
-        let last = same.1 in
         let places = told.1.lies.lies.places in
-        let rising = places.rising in
-        let row = places.first in
-        let found = are-behind r q behind (omega (arith, first, last, rising)) before in
+        let found = are-behind r q behind (omega (arith, first, same.1, places.rising)) before in
         let are = found.1 in
         let place : told.0 ≡ found.0 =
         same-some (sym told.1.mark ∙ ap (mark_at pieces rows) first ∙ are.mark) in
-        let early = told.2 in
-        let low = are.low in
-        let up = row-order rows e.from found.0 (omega (arith, early, place)) are.within in
-        omega (arith, up, low, row, first, behind)
+        let up = row-order rows e.from found.0 (omega (arith, told.2, place)) are.within in
+        omega (arith, up, are.low, places.first, first, behind)
         )
       where
         same-some : {x y : ℕ} → Some x ≡ Some y → x ≡ y
@@ -348,12 +323,10 @@ module _ (pieces : List Piece) (rows : List StreamRow) where
       let place : one.place ≡ other.place = (let a = one.mark in let b = other.mark in cc) in
       let apart = sides-apart 0 (extents 0 pieces) (0 + size pieces) i j one.extent other.extent (order-of 0 pieces) less
       one.there other.there in
-      let some = one.some in
-      let behind = one.behind in
       let e : true ≡ false =
       sym (any-of (is_settled_by other.place other.extent) (extents 0 pieces) i one.extent one.there
-      (ap₂ ◌&&◌ (le-leb other.place one.extent.from (omega (arith, behind, place)))
-      (lt-ltb one.extent.from other.extent.from (omega (arith, apart, some)))))
+      (ap₂ ◌&&◌ (le-leb other.place one.extent.from (omega (arith, one.behind, place)))
+      (lt-ltb one.extent.from other.extent.from (omega (arith, apart, one.some)))))
       ∙ other.none in
       cc
 

@@ -61,10 +61,9 @@ module _ (dark : ℕ → Bool) where
       elim (cases_Bool (outage.end == row)) [
         | inl meets ↦ (
             let same : outage.end ≡ row = eqb-true outage.end row meets in
-            let some = are.1 in
             rw meets (
               are.0,
-              omega (arith, some, same),
+              omega (arith, are.1, same),
               omega arith,
               are.3,
               (λ t least less. elim (cases_lt t outage.end) [
@@ -94,15 +93,13 @@ module _ (dark : ℕ → Bool) where
   dark-more from (outage ∷ next ∷ outages) row spoiled is low are =
       let ends = are.2 in
       let later = are.6 in
-      let begins = later.0 in
-      let some = later.1 in
       let last = later.2 in (
         are.0,
         are.1,
         omega (arith, ends),
         are.3,
         are.4,
-        (λ less. are.5 (omega (arith, begins, some, last))),
+        (λ less. are.5 (omega (arith, later.0, later.1, last))),
         dark-more outage.end (next ∷ outages) row spoiled is ends are.6,
       )
 
@@ -110,25 +107,20 @@ module _ (dark : ℕ → Bool) where
   abbrev pub rows_in : Outage → ℕ
   rows_in outage = outage.end - outage.first
 
-  abbrev pub spoiled_in : Outage → ℕ
-  spoiled_in outage = outage.spoiled
-
   long-more : (from : ℕ) (outages : List Outage) (row spoiled : ℕ) → AreOutages dark from outages row →
       sum_by rows_in (with_dark row spoiled outages) ≡ sum_by rows_in outages + 1
   unfolding AreOutages with_dark
   long-more from [] row spoiled are = omega arith
   long-more from (outage ∷ []) row spoiled are =
-      let some = are.1 in
       elim (cases_Bool (outage.end == row)) [
         | inl meets ↦ (let same : outage.end ≡ row = eqb-true outage.end row meets in
-            rw meets (omega (arith, some, same)))
+            rw meets (omega (arith, are.1, same)))
         | inr apart ↦ rw apart (omega arith)
       ]
   long-more from (outage ∷ next ∷ outages) row spoiled are =
-      let rest = long-more outage.end (next ∷ outages) row spoiled are.6 in
       let one = sum_by-cons rows_in outage (with_dark row spoiled (next ∷ outages)) in
       let two = sum_by-cons rows_in outage (next ∷ outages) in
-      omega (arith, rest, one, two)
+      omega (arith, long-more outage.end (next ∷ outages) row spoiled are.6, one, two)
 
 spoiled-more : (outages : List Outage) (row spoiled : ℕ) →
     sum_by (λ (outage : Outage). outage.spoiled) (with_dark row spoiled outages)
@@ -141,10 +133,9 @@ spoiled-more (outage ∷ []) row spoiled =
       | inr apart ↦ rw apart (omega arith)
     ]
 spoiled-more (outage ∷ next ∷ outages) row spoiled =
-    let rest = spoiled-more (next ∷ outages) row spoiled in
     let one = sum_by-cons (λ (outage : Outage). outage.spoiled) outage (with_dark row spoiled (next ∷ outages)) in
     let two = sum_by-cons (λ (outage : Outage). outage.spoiled) outage (next ∷ outages) in
-    omega (arith, rest, one, two)
+    omega (arith, spoiled-more (next ∷ outages) row spoiled, one, two)
 
 -- ---- row by row
 abbrev pub spoiled_one : RowState → ℕ
@@ -191,11 +182,10 @@ module _ (state : ℕ → RowState) where
   unfolding outages_on
   on-long zero row outages are = omega arith
   on-long (suc n) row outages are =
-      let own = state-long (state row) outages row are in
       let rest = on-long n (row + 1) (with_state row (state row) outages)
       (state-more (state row) outages row refl are) in
       let sum = sum_by-cons dark_one (state row) (map state (range_with_len (row + 1) n)) in
-      omega (arith, own, rest, sum)
+      omega (arith, state-long (state row) outages row are, rest, sum)
 
   on-spoiled : (n row : ℕ) (outages : List Outage) →
       sum_by (λ (outage : Outage). outage.spoiled) (outages_on outages row (map state (range_with_len row n)))
@@ -204,10 +194,9 @@ module _ (state : ℕ → RowState) where
   unfolding outages_on
   on-spoiled zero row outages = omega arith
   on-spoiled (suc n) row outages =
-      let own = state-spoiled_rows (state row) outages row in
       let rest = on-spoiled n (row + 1) (with_state row (state row) outages) in
       let sum = sum_by-cons spoiled_one (state row) (map state (range_with_len (row + 1) n)) in
-      omega (arith, own, rest, sum)
+      omega (arith, state-spoiled_rows (state row) outages row, rest, sum)
 
   none-yet : AreOutages dark_at 0 [] 0
   unfolding AreOutages
@@ -232,11 +221,9 @@ pub lines-sum : (column : Outage → ℕ) (carried : List CarriedFrame) (rows : 
 unfolding outage_lines
 lines-sum column carried rows [] = refl
 lines-sum column carried rows (outage ∷ later) =
-    let rest = lines-sum column carried rows later in
     let one = sum_by-cons (λ (line : OutageLine). column line.outage) (outage_line carried rows outage later)
     (outage_lines carried rows later) in
-    let two = sum_by-cons column outage later in
-    omega (arith, rest, one, two)
+    omega (arith, lines-sum column carried rows later, one, sum_by-cons column outage later)
 
 pub lines-count : (carried : List CarriedFrame) (rows : ℕ) (outages : List Outage) →
     length (outage_lines carried rows outages) ≡ length outages
@@ -259,18 +246,13 @@ pub first-up : (dark : ℕ → Bool) (from : ℕ) (outages : List Outage) (end :
     AreOutages dark from outages end → (from ≤ next_first end outages) × (next_first end outages ≤ end)
 unfolding AreOutages
 first-up dark from [] end low are = (low, omega arith)
-first-up dark from (outage ∷ outages) end low are =
-    let begins = are.0 in
-    let some = are.1 in
-    let ends = are.2 in
-    (begins, omega (arith, some, ends))
+first-up dark from (outage ∷ outages) end low are = (are.0, omega (arith, are.1, are.2))
 
 -- no row before it is dark
 pub first-dark : (dark : ℕ → Bool) (from : ℕ) (outages : List Outage) (end t : ℕ) → AreOutages dark from outages end →
     from ≤ t → t < end → dark t ≡ true → next_first end outages ≤ t
 unfolding AreOutages
-first-dark dark from [] end t are low high is =
-    absurd (let e : true ≡ false = sym is ∙ are t low high in cc)
+first-dark dark from [] end t are low high is = absurd (let e : true ≡ false = sym is ∙ are t low high in cc)
 first-dark dark from (outage ∷ outages) end t are low high is =
     elim (cases_lt t outage.first) [
       | inl before ↦ absurd (let e : true ≡ false = sym is ∙ are.3 t low before in cc)

@@ -8,22 +8,15 @@ use Rattle.std.proofs.lemmas.List.Elements.{All-nil, All-cons}
 use Rattle.law_model.specs.declared.item_refusals.Refusal.{Refusal}
 use Rattle.law_model.specs.declared.script_types.ItemKind.{ItemKind}
 use Rattle.law_model.specs.declared.script_types.ItemKind.TheVariants.{Frame, Add, Remove}
-use Rattle.law_model.specs.frames.Piece.{Piece}
-use Rattle.law_model.specs.frames.Segment.{StreamRow, octets_of_rows}
-use Rattle.law_model.specs.frames.Loss.{Extent, extents}
-use Rattle.law_model.specs.session.Leg.{Leg}
-use Rattle.law_model.specs.session.Counts.{Counts}
-use Rattle.law_model.specs.session.Scenario.{scenario_by}
-use Rattle.law_model.specs.source.Client.{size}
-use Rattle.law_walk.specs.Landed.{Numbered, landed_items, refusal_at}
-use Rattle.law_walk.specs.Promise.{session_pieces}
-use Rattle.law_walk.specs.Walk.{session_of}
-use Rattle.law_walk.specs.Delivered.{session_rows}
+use Rattle.law_model.specs.Common.{Piece, StreamRow, octets_of_rows, Extent, extents, Leg, Counts}
+use Rattle.law_model.specs.Common.{scenario_by, size}
+use Rattle.law_walk.specs.Common.{Numbered, landed_items, refusal_at, session_pieces, session_of}
+use Rattle.law_walk.specs.Common.{session_rows}
 use Rattle.fate_engine.specs.declared.fate_law.Fate.{Fate}
 use Rattle.fate_engine.specs.declared.fate_law.Fate.TheVariants.{Waits, Cut, Unconfirmed, Hunting, Unsettled, Got}
-use Rattle.fate_engine.specs.fate_law.Fates.{place_at, row_at, spoiled_after, is_settled_by, fate_after, fate_of}
-use Rattle.fate_engine.specs.fate_law.Spans.{row_segments, mark_of_row, fate_by_rows}
-use Rattle.fate_engine.specs.fate_law.SessionFates.{Ended, ended_then, ended_on, ended_of, fate_if, fate_at}
+use Rattle.fate_engine.specs.Common.{place_at, row_at, spoiled_after, is_settled_by, fate_after, fate_of}
+use Rattle.fate_engine.specs.Common.{row_segments, mark_of_row, fate_by_rows, Ended, ended_then, ended_on}
+use Rattle.fate_engine.specs.Common.{ended_of, fate_if, fate_at}
 use Rattle.fate_engine.proofs.FateLaws.RowLaws.{row-of_place}
 use Rattle.fate_engine.proofs.FateLaws.SpanLaws.{fate-rows}
 use Rattle.fate_engine.proofs.FateCoreLaws.FateSteps.{rows-count}
@@ -109,9 +102,7 @@ module _ (pieces : List Piece) (rows : List StreamRow) where
       elim (cases_lt (row_at rows place) (length rows)) [
         | inl less ↦ less
         | inr more ↦ absurd (
-            let from = has.from in
-            let whole = place-whole rows (row_at rows place) more in
-            omega (arith, from, whole, low))
+            omega (arith, has.from, place-whole rows (row_at rows place) more, low))
       ]
     where
       place-whole : (rows : List StreamRow) (t : ℕ) → length rows ≤ t → place_at rows t ≡ length (octets_of_rows rows)
@@ -202,6 +193,5 @@ carried-rows leg s =
     all-each leg (fates_in leg s.rows) (λ (frame : CarriedFrame). frame.last < s.rows)
     (λ i due octets frame is.
     let low = last-taken (session_pieces leg) (session_rows leg s.rows) i due octets frame is in
-    let count = rows-count (scenario_by leg) (session_of leg) s.rows in
-    omega (arith, low, count))
+    omega (arith, low, rows-count (scenario_by leg) (session_of leg) s.rows))
     (landed_items leg s) 0

@@ -1,6 +1,6 @@
 -- The octets of carried frames fit in the rows that were taken.
-use Rattle.std.proofs.Common.{◌≡◌, ℕ, zero, suc, ◌+◌, ◌-◌, ◌*◌, ◌<◌, ◌≤◌, ◌⊎◌, List, [], ◌∷◌, ◌++◌}
-use Rattle.std.proofs.Common.{length, drop, Option, Some, None, slice_get, refl, sym, ◌∙◌, ap, subst, arith, inl, inr}
+use Rattle.std.proofs.Common.{◌≡◌, ℕ, zero, suc, ◌+◌, ◌-◌, ◌*◌, ◌<◌, ◌≤◌, ◌⊎◌, List, [], ◌∷◌, ◌++◌, length}
+use Rattle.std.proofs.Common.{drop, Option, Some, None, slice_get, refl, sym, ◌∙◌, ap, subst, arith, inl, inr}
 use Rattle.std.proofs.Common.{sum_by, min, append-nil}
 use Rattle.std.specs.List.{flat_map}
 use Rattle.std.proofs.lemmas.Bool.{cases_Bool}
@@ -8,26 +8,16 @@ use Rattle.std.proofs.lemmas.List.Sums.{sum_by-cons}
 use Rattle.law_model.specs.declared.item_refusals.Refusal.{Refusal}
 use Rattle.law_model.specs.declared.script_types.ItemKind.{ItemKind}
 use Rattle.law_model.specs.declared.script_types.ItemKind.TheVariants.{Frame, Add, Remove}
-use Rattle.law_model.specs.frames.Piece.{Piece, idle, client, size_of}
-use Rattle.law_model.specs.frames.Segment.{StreamRow, octets_of_rows}
-use Rattle.law_model.specs.frames.Loss.{Extent, extents}
-use Rattle.law_model.specs.session.Leg.{Leg}
-use Rattle.law_model.specs.session.Counts.{Counts}
-use Rattle.law_model.specs.session.Scenario.{scenario_by}
-use Rattle.law_model.specs.session.Valid.{IsSound}
-use Rattle.law_model.specs.source.Client.{size, place_of, stream_before}
+use Rattle.law_model.specs.Common.{Piece, idle, client, size_of, StreamRow, octets_of_rows, Extent, extents}
+use Rattle.law_model.specs.Common.{Leg, Counts, scenario_by, IsSound, size, place_of, stream_before}
 use Rattle.law_loss.proofs.SessionStreamLaws.{pieces-begin, rows-length}
-use Rattle.law_walk.specs.Landed.{Numbered, landed_items, refusal_at}
-use Rattle.law_walk.specs.Promise.{frame_by, session_pieces, session_waiting}
-use Rattle.law_walk.specs.Walk.{session_of, IsWalked}
-use Rattle.law_walk.specs.Delivered.{session_rows}
+use Rattle.law_walk.specs.Common.{Numbered, landed_items, refusal_at, frame_by, session_pieces}
+use Rattle.law_walk.specs.Common.{session_waiting, session_of, IsWalked, session_rows}
 use Rattle.law_walk.proofs.PromiseLaws.{frames-known}
 use Rattle.fate_engine.specs.declared.fate_law.Fate.{Fate}
 use Rattle.fate_engine.specs.declared.fate_law.Fate.TheVariants.{Waits, Cut, Unconfirmed, Hunting, Unsettled, Got}
 use Rattle.fate_engine.specs.fate_core.Sides.{AreInOrder}
-use Rattle.fate_engine.specs.fate_law.Fates.{fate_of}
-use Rattle.fate_engine.specs.fate_law.Ruler.{sides}
-use Rattle.fate_engine.specs.fate_law.SessionFates.{Ended, ended_then, ended_on, ended_of, fate_if, fate_at}
+use Rattle.fate_engine.specs.Common.{fate_of, sides, Ended, ended_then, ended_on, ended_of, fate_if, fate_at}
 use Rattle.fate_engine.proofs.FateCoreLaws.PieceLaws.{order-of}
 use Rattle.fate_engine.proofs.FateLaws.EndedLaws.{accepts, frames_of}
 use Rattle.fate_engine.proofs.FateLaws.LandedLaws.{landed-first}
@@ -38,8 +28,8 @@ use Rattle.fate_service.specs.service_law.Lines.{all_of}
 use Rattle.fate_service.specs.service_law.Sums.{stream_octets}
 use Rattle.fate_service.proofs.OrderLaws.{HasRows, fate-has}
 use Rattle.fate_service.proofs.ServiceLawLaws.StretchLaws.{got_one, got_octets, lost_one, lost_octets}
-use Rattle.fate_service.proofs.ServiceLawLaws.TotalLaws.{rows-told, got-octets-are, lost-octets-are, got-frames-are}
-use Rattle.fate_service.proofs.ServiceLawLaws.TotalLaws.{lost-frames-are}
+use Rattle.fate_service.proofs.ServiceLawLaws.TotalLaws.{rows-told, got-octets-are, lost-octets-are}
+use Rattle.fate_service.proofs.ServiceLawLaws.TotalLaws.{got-frames-are, lost-frames-are}
 
 -- ---- what a frame takes
 abbrev taken : CarriedFrame → ℕ
@@ -49,10 +39,8 @@ pub taken-parts : (frames : List CarriedFrame) → sum_by taken frames
     ≡ sum_by got_octets frames + sum_by lost_octets frames + 8 * (sum_by got_one frames + sum_by lost_one frames)
 taken-parts [] = refl
 taken-parts (frame ∷ frames) =
-    let whole = sum_by-cons taken frame frames in
     let one = sum_by-cons got_octets frame frames in
     let two = sum_by-cons lost_octets frame frames in
-    let three = sum_by-cons got_one frame frames in
     let four = sum_by-cons lost_one frame frames in
     let rest = taken-parts frames in
     let own : taken frame ≡ got_octets frame + lost_octets frame + 8 * (got_one frame + lost_one frame) =
@@ -60,7 +48,7 @@ taken-parts (frame ∷ frames) =
       | inl got ↦ rw got (omega arith)
       | inr lost ↦ rw lost (omega arith)
     ] in
-    omega (arith, whole, one, two, three, four, rest, own)
+    omega (arith, sum_by-cons taken frame frames, one, two, sum_by-cons got_one frame frames, four, rest, own)
 
 abbrev HasOctets : ℕ → Option CarriedFrame → Type 0
 HasOctets octets None = Unit {0}
@@ -138,11 +126,9 @@ module _ (leg : Leg) (pieces : List Piece) (rows : List StreamRow) where
   own-fits e due place rest octets (Some frame) is some low ends fits =
       let has : HasRows pieces rows e (Some frame) =
       subst (HasRows pieces rows e) is (fate-has pieces rows e due (length octets) some) in
-      let within = has.0 in
       let size : HasOctets (length octets) (Some frame) =
       subst (HasOctets (length octets)) is (carried-octets due (length octets) (fate_of pieces rows e)) in
-      let sum = sum_by-cons taken frame rest in
-      omega (arith, within, size, sum, fits, low, ends)
+      omega (arith, has.0, size, sum_by-cons taken frame rest, fits, low, ends)
 
   in-order : (e : Extent) (later : List Extent) (place end : ℕ) → AreInOrder place (sides (e ∷ later)) end →
       AreInOrder e.to (sides later) end
@@ -179,8 +165,6 @@ module _ (leg : Leg) (pieces : List Piece) (rows : List StreamRow) where
             let agree : Agree (frames_of (e ∷ drop (suc n) all)) (octets ∷ flat_map (accepts leg) items) =
             subst (λ l. Agree (frames_of l) (octets ∷ flat_map (accepts leg) items)) there.parts behind.2 in
             let frame : e.frame ≡ octets = (let same = agree.same in cc) in
-            let ends = extent-size 0 pieces n e there.there in
-            let long = ap length frame in
             let is : carried_if item.item.due (length octets) (fate n)
             ≡ carried_if item.item.due (length octets) (fate_of pieces rows e) =
             ap (λ o. carried_if item.item.due (length octets) (fate_if (fate_of pieces rows) o)) there.there in
@@ -194,7 +178,7 @@ module _ (leg : Leg) (pieces : List Piece) (rows : List StreamRow) where
             subst (λ o. sum_by taken (listed o ++ carried_of rest) ≤ room - place) (sym is)
             (own-fits e item.item.due place (carried_of rest) octets
             (carried_if item.item.due (length octets) (fate_of pieces rows e)) refl first.1 first.0
-            (omega (arith, ends, long)) later))
+            (omega (arith, extent-size 0 pieces n e there.there, ap length frame)) later))
       ]
   then-fits item (Some why) (Add line) items n place fits behind = fits n place behind
   then-fits item None (Add line) items n place fits behind = fits n place behind
@@ -211,8 +195,7 @@ module _ (leg : Leg) (pieces : List Piece) (rows : List StreamRow) where
 -- ---- of a walk
 pieces-start : (leg : Leg) → (more : List Piece) × (session_pieces leg ≡ idle ∷ idle ∷ more)
 unfolding stream_before
-pieces-start leg =
-    pieces-begin (scenario_by leg) (session_of leg) 0 leg.config.ticks (omega arith)
+pieces-start leg = pieces-begin (scenario_by leg) (session_of leg) 0 leg.config.ticks (omega arith)
 
 order-start : (pieces more : List Piece) → pieces ≡ idle ∷ idle ∷ more →
     AreInOrder 8 (sides (extents 0 pieces)) (8 + size more)
@@ -238,16 +221,13 @@ module _ (leg : Leg) (s : Counts) (sound : IsSound leg) (walked : IsWalked leg s
       stream_octets (all_of leg s) + 8 ≤ (all_of leg s).capacity
   unfolding place_of
   octets-fit some =
-      let fits = sum-fits in
-      let parts = taken-parts frames in
       let one = got-octets-are leg s sound walked in
       let two = lost-octets-are leg s sound walked in
       let three = got-frames-are leg s sound walked in
       let four = lost-frames-are leg s sound walked in
-      let up = rows-told leg s sound walked in
       let whole = rows-length (scenario_by leg) (session_of leg) s.rows s.rows (omega arith) in
       let taken_rows = ap (place_of (scenario_by leg) (session_of leg))
-      (let e : min s.rows (told_of leg s) ≡ s.rows = omega (arith, up) in e) in
+      (let e : min s.rows (told_of leg s) ≡ s.rows = omega (arith, rows-told leg s sound walked) in e) in
       let none = ap (place_of (scenario_by leg) (session_of leg))
       (let e : min s.rows 0 ≡ 0 = omega arith in e) in
-      omega (arith, fits, parts, one, two, three, four, whole, taken_rows, none, some)
+      omega (arith, sum-fits, taken-parts frames, one, two, three, four, whole, taken_rows, none, some)

@@ -1,23 +1,15 @@
 -- To which outage a frame that is lost belongs, what their lines say is lost, and that they have a cause.
-use Rattle.std.proofs.Common.{◌≡◌, ℕ, zero, suc, ◌+◌, ◌-◌, ◌<◌, ◌≤◌, ◌⊎◌, ◌&&◌, Bool, true, false, List, [], ◌∷◌}
-use Rattle.std.proofs.Common.{length, filter, All, Contains, Some, slice_get, refl, sym, ◌∙◌, ap, ap₂}
+use Rattle.std.proofs.Common.{◌≡◌, ℕ, zero, suc, ◌+◌, ◌-◌, ◌<◌, ◌≤◌, ◌⊎◌, ◌&&◌, Bool, true, false, List, []}
+use Rattle.std.proofs.Common.{◌∷◌, length, filter, All, Contains, Some, slice_get, refl, sym, ◌∙◌, ap, ap₂}
 use Rattle.std.proofs.Common.{subst, arith, inl, inr, sum_by, not}
 use Rattle.std.specs.Prelude.{if◌then◌else◌, IsSome}
 use Rattle.std.proofs.lemmas.Bool.{cases_Bool, cases_lt, cases_order, lt-ltb, le-leb}
 use Rattle.std.proofs.lemmas.List.Elements.{All-nil, All-cons, All-head, All-tail, All-contains}
 use Rattle.std.proofs.lemmas.List.{take_all}
 use Rattle.std.proofs.lemmas.List.Sums.{sum_by-cons}
-use Rattle.law_model.specs.frames.Segment.{StreamRow}
-use Rattle.law_model.specs.session.Leg.{Leg}
-use Rattle.law_model.specs.session.Counts.{Counts}
-use Rattle.law_model.specs.session.Scenario.{scenario_by}
-use Rattle.law_model.specs.session.Valid.{IsSound}
-use Rattle.law_walk.specs.Landed.{landed_items}
-use Rattle.law_walk.specs.Promise.{session_pieces}
-use Rattle.law_walk.specs.Walk.{session_of, IsWalked}
-use Rattle.law_walk.specs.Delivered.{session_rows}
-use Rattle.fate_engine.specs.fate_law.SessionFates.{ended_of}
-use Rattle.fate_engine.specs.fate_law.Spoiled.{row_cause, spoiled_of}
+use Rattle.law_model.specs.Common.{StreamRow, Leg, Counts, scenario_by, IsSound}
+use Rattle.law_walk.specs.Common.{landed_items, session_pieces, session_of, IsWalked, session_rows}
+use Rattle.fate_engine.specs.Common.{ended_of, row_cause, spoiled_of}
 use Rattle.fate_engine.specs.declared.fate_law.SpoiledRun.{SpoiledRun}
 use Rattle.fate_engine.proofs.FateCoreLaws.FateSteps.{rows-count}
 use Rattle.fate_walks.specs.walk_fates.MadeWalk.{fates_in}
@@ -76,9 +68,7 @@ module _ (rows : ℕ) (frame : CarriedFrame) (taken : frame.at < rows) where
   later-first low (own ∷ outages) zero outage rises there =
       let same : own ≡ outage = cc in subst (λ (o : Outage). low ≤ o.first) same rises.0
   later-first low (own ∷ outages) (suc number) outage rises there =
-      let rest = later-first own.first outages number outage rises.1 there in
-      let begins = rises.0 in
-      omega (arith, rest, begins)
+      omega (arith, later-first own.first outages number outage rises.1 there, rises.0)
 
   not-both : (low : ℕ) (outages : List Outage) (i j : ℕ) → Rises low outages → i < j →
       BelongsTo outages rows frame i → BelongsTo outages rows frame j → ⊥
@@ -86,10 +76,7 @@ module _ (rows : ℕ) (frame : CarriedFrame) (taken : frame.at < rows) where
   not-both low [] i j rises less one other = (let there = one.there in absurd cc)
   not-both low (own ∷ outages) i zero rises less one other = omega (arith, less)
   not-both low (own ∷ outages) zero (suc j) rises less one other =
-      let before = one.before in
-      let from = other.from in
-      let first = first-of outages rises.1 j other.outage other.there in
-      omega (arith, before, from, first)
+      omega (arith, one.before, other.from, first-of outages rises.1 j other.outage other.there)
     where
       first-of : (outages : List Outage) → Rises own.first outages → (j : ℕ) (outage : Outage) →
           slice_get outages j ≡ Some outage → next_first rows outages ≤ outage.first
@@ -204,8 +191,7 @@ module _ (column : Tally → ℕ) (weight : CarriedFrame → ℕ) (carried : Lis
       ≡ part at_key weight (next_first rows outages) rows carried
   unfolding outage_lines Rises
   windows-sum low [] rises within =
-      let twice = part-split at_key weight carried rows rows rows (omega arith) (omega arith) in
-      omega (arith, twice)
+      omega (arith, part-split at_key weight carried rows rows rows (omega arith) (omega arith))
   windows-sum low (outage ∷ later) rises within =
       let rest = windows-sum outage.first later rises.1 (All-tail (λ (o : Outage). o.first ≤ rows) outage later within) in
       let own = sum (filter (λ (frame : CarriedFrame). is_in outage.first (next_first rows later) frame.at) carried) in
@@ -213,9 +199,7 @@ module _ (column : Tally → ℕ) (weight : CarriedFrame → ℕ) (carried : Lis
       (outage_lines carried rows later) in
       let up = next-up outage later rises.1 (All-head (λ (o : Outage). o.first ≤ rows) outage later within)
       (All-tail (λ (o : Outage). o.first ≤ rows) outage later within) in
-      let low_up = up.0 in
-      let high_up = up.1 in
-      let split = part-split at_key weight carried outage.first (next_first rows later) rows low_up high_up in
+      let split = part-split at_key weight carried outage.first (next_first rows later) rows up.0 up.1 in
       omega (arith, rest, own, cons, split)
     where
       next-up : (outage : Outage) (later : List Outage) → Rises outage.first later → outage.first ≤ rows →
@@ -235,9 +219,8 @@ module _ (column : Tally → ℕ) (weight : CarriedFrame → ℕ) (carried : Lis
       all-of [] each = refl
       all-of (frame ∷ frames) each =
           let rest = all-of frames (λ k d low. each (suc k) d (omega (arith, low))) in
-          let whole = sum_by-cons weight frame frames in
           let own = own-of frame frames (each 0 frame (omega arith)) in
-          omega (arith, rest, whole, own)
+          omega (arith, rest, sum_by-cons weight frame frames, own)
         where
           own-of : (frame : CarriedFrame) (frames : List CarriedFrame) →
               (weight frame ≡ 0) ⊎ ((first ≤ frame.at) × (frame.at < rows)) →

@@ -1,10 +1,9 @@
 -- The greatest queue of some ticks, and of all of them by those of their parts.
-use Rattle.std.proofs.Common.{◌≡◌, ℕ, zero, suc, ◌+◌, ◌-◌, ◌<◌, ◌≤◌, List, [], ◌∷◌, map, take, All, Some, refl}
-use Rattle.std.proofs.Common.{sym, ap, ap₂, subst, arith, inl, inr}
+use Rattle.std.proofs.Common.{◌≡◌, ℕ, zero, suc, ◌+◌, ◌-◌, ◌<◌, ◌≤◌, List, [], ◌∷◌, map, take, All, Some}
+use Rattle.std.proofs.Common.{refl, sym, ap, ap₂, subst, arith, inl, inr}
 use Rattle.std.proofs.lemmas.Bool.{cases_lt, cases_order, lt-ltb, le-ltb}
 use Rattle.std.proofs.lemmas.List.Elements.{All-nil, All-cons}
-use Rattle.law_model.specs.session.Leg.{Leg}
-use Rattle.law_model.specs.session.Counts.{Counts}
+use Rattle.law_model.specs.Common.{Leg, Counts}
 use Rattle.fate_service.specs.declared.stretch_counts.Peak.{Peak}
 use Rattle.fate_service.specs.Stretches.{higher, peak_on, peak_in, queue_in, Known, spans_of}
 use Rattle.fate_service.specs.ServiceText.{known_of, told_of}
@@ -26,8 +25,7 @@ module _ (queue : ℕ → ℕ) (first : ℕ) where
           | inl before ↦ (let less = above t low before in omega (arith, less))
           | inr behind ↦ (
               let same : t ≡ tick = omega (arith, high, behind) in
-              let e = ap queue same in
-              omega (arith, e))
+              omega (arith, ap queue same))
         ];
     least = above;
   }
@@ -43,8 +41,7 @@ module _ (queue : ℕ → ℕ) (first : ℕ) where
           | inl before ↦ is.most t low before
           | inr behind ↦ (
               let same : t ≡ tick = omega (arith, high, behind) in
-              let e = ap queue same in
-              omega (arith, e, less))
+              omega (arith, ap queue same, less))
         ];
     least = is.least;
   }
@@ -83,8 +80,7 @@ module _ (queue : ℕ → ℕ) (first : ℕ) where
           is = omega (arith, none);
           most = λ t low high.
               let same : t ≡ first = omega (arith, low, high) in
-              let e = ap queue same in
-              omega (arith, e, none);
+              omega (arith, ap queue same, none);
           least = λ t low high. absurd (omega (arith, low, high));
         })
       ]
@@ -118,9 +114,8 @@ module _ (queue : ℕ → ℕ) (told : ℕ) (top : Peak) (is : IsPeak queue 0 to
       let own = peak-is queue part.0 part.1 follow.1 in
       let high = follow-up part.1 parts end follow.2 in
       let below = own.below in
-      let same = own.is in
       let low = is.most (peak_in queue part.0 part.1).tick (omega arith) (omega (arith, below, high, fits)) in
-      All-cons NotAbove (peak_in queue part.0 part.1) (peaks parts) (omega (arith, low, same))
+      All-cons NotAbove (peak_in queue part.0 part.1) (peaks parts) (omega (arith, low, own.is))
       (all-low part.1 parts end follow.2 fits)
 
   -- that of the part with its tick is the same
@@ -128,11 +123,10 @@ module _ (queue : ℕ → ℕ) (told : ℕ) (top : Peak) (is : IsPeak queue 0 to
   top-same first end from below fits =
       let own = peak-is queue first end (omega (arith, from, below)) in
       let p : Peak = peak_in queue first end in
-      let within = own.below in
       let start = own.from in
       let own_is = own.is in
       let top_is = is.is in
-      let low = is.most p.tick (omega arith) (omega (arith, within, fits)) in
+      let low = is.most p.tick (omega arith) (omega (arith, own.below, fits)) in
       let high = own.most top.tick from below in
       let tick : p.tick ≡ top.tick =
       elim (cases_order p.tick top.tick) [
@@ -166,9 +160,8 @@ module _ (queue : ℕ → ℕ) (told : ℕ) (top : Peak) (is : IsPeak queue 0 to
         | inr later ↦ (
             let rest = highest-in part.1 parts end follow.2 later high fits in
             let own = peak-is queue part.0 part.1 some in
-            let below = own.below in
             let own_is = own.is in
-            let less = is.least p.tick (omega arith) (omega (arith, below, later)) in
+            let less = is.least p.tick (omega arith) (omega (arith, own.below, later)) in
             record {
               number = suc rest.number;
               there = rest.there;

@@ -1,23 +1,20 @@
 -- What rows are, by where they lie among those that aren't whole, and by marks.
 use Rattle.std.proofs.Common.{◌≡◌, ℕ, zero, suc, ◌+◌, ◌-◌, ◌<◌, ◌≤◌, Bool, true, false, List, [], ◌∷◌, ◌++◌}
-use Rattle.std.proofs.Common.{length, map, drop, All, Option, Some, None, slice_get, refl, sym, ◌∙◌, ap, arith}
-use Rattle.std.proofs.Common.{inl, inr, drop-drop, sum_by}
+use Rattle.std.proofs.Common.{length, map, drop, All, Option, Some, None, slice_get, refl, sym, ◌∙◌, ap}
+use Rattle.std.proofs.Common.{arith, inl, inr, drop-drop, sum_by}
 use Rattle.std.specs.Prelude.{◌==◌, ◌&&◌, nat_le, nat_lt, if◌then◌else◌, IsSome}
 use Rattle.std.specs.List.{range_with_len}
 use Rattle.std.proofs.lemmas.Bool.{cases_Bool, cases_lt, lt-ltb, le-ltb, le-leb, lt-leb, leb-true, eqb-true, and_parts}
 use Rattle.std.proofs.lemmas.List.Elements.{All-nil, All-cons}
 use Rattle.std.proofs.lemmas.List.Sums.{sum_by-cons}
-use Rattle.law_model.specs.frames.Segment.{StreamRow}
-use Rattle.law_model.specs.session.Scenario.{Scenario}
-use Rattle.law_model.specs.source.Table.{Told}
-use Rattle.law_model.specs.rows.SessionRows.{is_whole_row}
-use Rattle.law_model.specs.rows.SessionStream.{row_of, rows_of}
+use Rattle.law_model.proofs.ListLaws.{slice_get-append}
+use Rattle.law_model.specs.Common.{StreamRow, Scenario, Told, is_whole_row, rows_of}
+use Rattle.law_model.specs.rows.SessionStream.{row_of}
 use Rattle.fate_engine.specs.declared.fate_law.Cause.{Cause}
 use Rattle.fate_engine.specs.declared.fate_law.RowSegment.{RowSegment}
 use Rattle.fate_engine.specs.declared.fate_law.SpoiledRun.{SpoiledRun}
-use Rattle.fate_engine.specs.fate_law.Fates.{row_at, spoiled_from, spoiled_after}
-use Rattle.fate_engine.specs.fate_law.Spans.{row_segments, mark_of_row}
-use Rattle.fate_engine.specs.fate_law.Spoiled.{same_cause, row_cause, spoiled_then, spoiled_runs, spoiled_of}
+use Rattle.fate_engine.specs.Common.{row_at, spoiled_from, spoiled_after, row_segments, mark_of_row}
+use Rattle.fate_engine.specs.Common.{same_cause, row_cause, spoiled_then, spoiled_runs, spoiled_of}
 use Rattle.fate_engine.proofs.FateLaws.CauseLaws.{cause-whole}
 use Rattle.fate_engine.proofs.FateCoreLaws.FateSteps.{rows-count}
 use Rattle.fate_engine.proofs.FateCoreLaws.SegmentLaws.{spoiled-within, spoiled-same}
@@ -66,17 +63,6 @@ module _ (rows : List StreamRow) where
   after-same r t low high =
       sym (spoiled-same r (drop r rows) t low high ∙ ap (spoiled_from t) (dropped-more r t low))
 
-  pub after-end : (r : ℕ) → r ≤ length rows → spoiled_after rows r ≤ length rows
-  after-end r low =
-      let within = (spoiled-within r (drop r rows)).1 in
-      let count = length-dropped r rows in
-      omega (arith, within, count, low)
-    where
-      length-dropped : (r : ℕ) (rows : List StreamRow) → length (drop r rows) ≡ length rows - r
-      length-dropped zero rows = omega arith
-      length-dropped (suc r) [] = omega arith
-      length-dropped (suc r) (row ∷ rows) = let rest = length-dropped r rows in omega (arith, rest)
-
   -- ---- the state of a row
   pub spoiled-is : (t : ℕ) → spoiled_after rows t ≤ t → state_of rows t ≡ Spoiled
   spoiled-is t late = sym (state-spoiled rows t late)
@@ -93,8 +79,7 @@ module _ (rows : List StreamRow) where
 
   -- a row that isn't whole is the first one from itself on
   pub spoiled-dark : (r : ℕ) → dark_row rows (spoiled_after rows r) ≡ true
-  spoiled-dark r =
-      ap is_dark (spoiled-is (spoiled_after rows r) (let e = after-again r in omega (arith, e)))
+  spoiled-dark r = ap is_dark (spoiled-is (spoiled_after rows r) (let e = after-again r in omega (arith, e)))
 
   -- one of use is whole, and comes before all others, or has a mark in its row or before
   pub record IsOfUse (t : ℕ) : Type 0 where
@@ -153,28 +138,23 @@ module _ (rows : List StreamRow) where
   pub marks-same : (r t : ℕ) → r < length rows → r ≤ t → t < spoiled_after rows r →
       mark_of_row (row_segments rows) t ≡ mark_of_row (row_segments rows) r
   marks-same r t within low high =
-      let e = looked rows r within in
-      mark-same (row_segments rows) r t low (omega (arith, e, high))
+      mark-same (row_segments rows) r t low (omega (arith, looked rows r within, high))
 
   -- ---- where an outage begins
   -- a row that is whole and not of use isn't behind one that is
   whole-behind : (f : ℕ) → suc f < length rows → dark_row rows f ≡ false → suc f < spoiled_after rows (suc f) →
       dark_row rows (suc f) ≡ false
   whole-behind f within clear whole =
-      let own = clear-whole f clear in
       let next : suc f < spoiled_after rows f =
       elim (cases_lt (suc f) (spoiled_after rows f)) [
         | inl less ↦ less
         | inr more ↦ absurd (
-            let same : spoiled_after rows f ≡ suc f = omega (arith, own, more) in
-            let e = ap (spoiled_after rows) same in
-            let again = after-again f in
-            omega (arith, e, again, whole, same))
+            let same : spoiled_after rows f ≡ suc f = omega (arith, clear-whole f clear, more) in
+            omega (arith, ap (spoiled_after rows) same, after-again f, whole, same))
       ] in
       elim (cases_lt f (spoiled_after rows 0)) [
         | inl first ↦ (
-            let same = after-same 0 f (omega arith) first in
-            first-clear (suc f) whole (omega (arith, same, next)))
+            first-clear (suc f) whole (omega (arith, after-same 0 f (omega arith) first, next)))
         | inr later ↦ (
             let own_use = clear-use f clear later in
             let low = own_use.low in
@@ -194,7 +174,6 @@ module _ (rows : List StreamRow) where
   unfolding AreOutages
   begins-spoiled from [] end within start are = All-nil BeginsSpoiled
   begins-spoiled from (outage ∷ outages) end within start are =
-      let low = are.0 in
       let some = are.1 in
       let ends = are.2 in
       let is : dark_row rows outage.first ≡ true = are.4 outage.first (omega arith) some in
@@ -205,7 +184,7 @@ module _ (rows : List StreamRow) where
             (λ f same. elim (cases_lt f from) [
               | inr behind ↦ are.3 f behind (omega (arith, same))
               | inl before ↦ absurd (
-                  let here : from ≡ outage.first = omega (arith, before, same, low) in
+                  let here : from ≡ outage.first = omega (arith, before, same, are.0) in
                   let clear = start (omega (arith, here, some, ends)) (omega (arith, here, same)) in
                   let e : true ≡ false = sym is ∙ ap (dark_row rows) (sym here) ∙ clear in
                   cc)
@@ -227,7 +206,7 @@ module _ (scenario : Scenario) (cells : List (Option Told)) where
   row-there (suc n) t low =
       let count = rows-count scenario cells n in
       elim (cases_lt t n) [
-        | inl before ↦ get-front (rows_of scenario cells n) (row_of scenario cells n ∷ []) t (omega (arith, before, count))
+        | inl before ↦ slice_get-append (rows_of scenario cells n) (row_of scenario cells n ∷ []) t (omega (arith, before, count))
             ∙ row-there n t before
         | inr last ↦ (
             let same : t ≡ n = omega (arith, low, last) in
@@ -235,11 +214,6 @@ module _ (scenario : Scenario) (cells : List (Option Told)) where
             ∙ ap (λ k. Some (row_of scenario cells k)) (sym same))
       ]
     where
-      get-front : {X : Type 0} (xs ys : List X) (t : ℕ) → t < length xs → slice_get (xs ++ ys) t ≡ slice_get xs t
-      get-front [] ys t low = absurd (omega (arith, low))
-      get-front (x ∷ xs) ys zero low = refl
-      get-front (x ∷ xs) ys (suc t) low = get-front xs ys t (omega (arith, low))
-
       get-last : {X : Type 0} (xs : List X) (y : X) (t : ℕ) → t ≡ length xs → slice_get (xs ++ y ∷ []) t ≡ Some y
       get-last [] y zero is = refl
       get-last [] y (suc t) is = absurd (omega (arith, is))
@@ -332,13 +306,12 @@ module _ (scenario : Scenario) (cells : List (Option Told)) where
       ≡ sum_by caused_one (map (row_cause scenario cells) (range_with_len from count))
   count-same n zero from fits = refl
   count-same n (suc count) from fits =
-      let own = one-same n from (omega (arith, fits)) in
-      let rest = count-same n count (from + 1) (omega (arith, fits)) in
       let one = sum_by-cons spoiled_one (state_of (rows_of scenario cells n) from)
       (map (state_of (rows_of scenario cells n)) (range_with_len (from + 1) count)) in
       let two = sum_by-cons caused_one (row_cause scenario cells from)
       (map (row_cause scenario cells) (range_with_len (from + 1) count)) in
-      omega (arith, own, rest, one, two)
+      let rest = count-same n count (from + 1) (omega (arith, fits)) in
+      omega (arith, one-same n from (omega (arith, fits)), rest, one, two)
 
   abbrev rows_of_run : SpoiledRun → ℕ
   rows_of_run run = run.end - run.first
@@ -371,16 +344,14 @@ module _ (scenario : Scenario) (cells : List (Option Told)) where
             let same : run.first ≡ suc t = eqb-true run.first (suc t)
             (and_parts (run.first == suc t) (same_cause cause run.cause) meets).0 in
             let new : SpoiledRun = record { first = t; end = run.end; cause = run.cause } in
-            let sum = sum_by-cons rows_of_run new runs in
             rw meets (
-              omega (arith, old, sum, same, ends),
+              omega (arith, old, sum_by-cons rows_of_run new runs, same, ends),
               All-cons (Begins t) new runs (omega arith, omega (arith, begins, ends)) rest,
             ))
         | inr apart ↦ (
             let new : SpoiledRun = record { first = t; end = suc t; cause = cause } in
-            let sum = sum_by-cons rows_of_run new (run ∷ runs) in
             rw apart (
-              omega (arith, old, sum),
+              omega (arith, old, sum_by-cons rows_of_run new (run ∷ runs)),
               All-cons (Begins t) new (run ∷ runs) (omega arith, omega arith)
                   (All-cons (Begins t) run runs (omega (arith, begins), ends) rest),
             ))
@@ -393,10 +364,7 @@ module _ (scenario : Scenario) (cells : List (Option Told)) where
   runs-long t (cause ∷ causes) =
       let rest = runs-long (suc t) causes in
       let own = then-long t cause (spoiled_runs (suc t) causes) rest.1 in
-      let sum = sum_by-cons caused_one cause causes in
-      let one = own.0 in
-      let two = rest.0 in
-      (omega (arith, one, two, sum), own.1)
+      (omega (arith, own.0, rest.0, sum_by-cons caused_one cause causes), own.1)
 
   pub spoiled-count : (n : ℕ) →
       sum_by spoiled_one (states_of (rows_of scenario cells n))

@@ -1,15 +1,11 @@
 -- Members: the longest runs of rows with one number, and what they add up to.
-use Rattle.std.proofs.Common.{◌≡◌, ℕ, zero, suc, ◌+◌, ◌-◌, ◌*◌, ◌<◌, ◌≤◌, ◌==◌, List, [], ◌∷◌, map}
-use Rattle.std.proofs.Common.{refl, ◌∙◌, ap, subst, arith, inl, inr, sum_by, suc-mul, mul_comm, min}
+use Rattle.std.proofs.Common.{◌≡◌, ℕ, zero, suc, ◌+◌, ◌-◌, ◌*◌, ◌<◌, ◌≤◌, ◌==◌, List, [], ◌∷◌, map, refl, ◌∙◌}
+use Rattle.std.proofs.Common.{ap, subst, arith, inl, inr, sum_by, suc-mul, mul_comm, min}
 use Rattle.std.specs.List.{range_with_len}
 use Rattle.std.proofs.lemmas.Bool.{cases_Bool, cases_lt, eqb-true, eqb-false}
 use Rattle.std.proofs.lemmas.List.Sums.{sum_by-cons}
-use Rattle.law_model.specs.session.Leg.{Leg}
-use Rattle.law_model.specs.session.Counts.{Counts}
-use Rattle.law_model.specs.session.Scenario.{Scenario, scenario_by}
-use Rattle.law_model.specs.session.Valid.{IsSound}
-use Rattle.law_model.specs.source.Client.{width, place_of}
-use Rattle.law_walk.specs.Walk.{session_of, IsWalked}
+use Rattle.law_model.specs.Common.{Leg, Counts, Scenario, scenario_by, IsSound, width, place_of}
+use Rattle.law_walk.specs.Common.{session_of, IsWalked}
 use Rattle.fate_service.specs.declared.width_run.WidthRun.{WidthRun}
 use Rattle.fate_service.specs.Members.{runs_on, runs_of}
 use Rattle.fate_service.specs.ServiceText.{told_of}
@@ -75,11 +71,7 @@ module _ (f : ℕ → ℕ) where
   pub runs-up : (from : ℕ) (runs : List WidthRun) (end : ℕ) → AreRuns f from runs end → from ≤ end
   unfolding AreRuns
   runs-up from [] end are = omega (arith, are)
-  runs-up from (run ∷ runs) end are =
-      let rest = runs-up run.end runs end are.4 in
-      let begins = are.0 in
-      let some = are.1 in
-      omega (arith, rest, begins, some)
+  runs-up from (run ∷ runs) end are = omega (arith, runs-up run.end runs end are.4, are.0, are.1)
 
   rows-sum : (from : ℕ) (runs : List WidthRun) (end : ℕ) → AreRuns f from runs end →
       sum_by rows_in runs ≡ end - from
@@ -87,11 +79,7 @@ module _ (f : ℕ → ℕ) where
   rows-sum from [] end are = omega (arith, are)
   rows-sum from (run ∷ runs) end are =
       let rest = rows-sum run.end runs end are.4 in
-      let up = runs-up run.end runs end are.4 in
-      let begins = are.0 in
-      let some = are.1 in
-      let sum = sum_by-cons rows_in run runs in
-      omega (arith, rest, up, begins, some, sum)
+      omega (arith, rest, runs-up run.end runs end are.4, are.0, are.1, sum_by-cons rows_in run runs)
 
   pub all-rows : (n : ℕ) → sum_by rows_in (runs_of (map f (range_with_len 0 n))) ≡ n
   all-rows n = let e = rows-sum 0 (runs_of (map f (range_with_len 0 n))) n (all-runs n) in omega (arith, e)
@@ -107,34 +95,24 @@ module _ (f : ℕ → ℕ) where
         omega (arith, e)
     run-room (suc n) from members has =
         let more = ap place (let e : from + suc n ≡ suc (from + n) = omega arith in e) in
-        let next = step (from + n) in
         let rest = run-room n from members (λ t low high. has t low (omega (arith, high))) in
         let own = ap (λ m. room * m) (has (from + n) (omega arith) (omega arith)) in
-        let turned = mul_comm room members in
-        let product = suc-mul n (members * room) in
-        omega (arith, more, next, rest, own, turned, product)
+        omega (arith, more, step (from + n), rest, own, mul_comm room members, suc-mul n (members * room))
 
     room-sum : (from : ℕ) (runs : List WidthRun) (end : ℕ) → AreRuns f from runs end →
         place from + sum_by octets_in runs ≡ place end
     unfolding AreRuns
-    room-sum from [] end are =
-        let e = ap place are in omega (arith, e)
+    room-sum from [] end are = let e = ap place are in omega (arith, e)
     room-sum from (run ∷ runs) end are =
         let n : ℕ = run.end - run.first in
-        let some = are.1 in
-        let last : run.first + n ≡ run.end = omega (arith, some) in
+        let last : run.first + n ≡ run.end = omega (arith, are.1) in
         let own = run-room n run.first run.members
         (λ t low high. are.2 t low (omega (arith, high, last))) in
-        let ends = ap place last in
-        let begins = ap place are.0 in
         let rest = room-sum run.end runs end are.4 in
-        let sum = sum_by-cons octets_in run runs in
-        omega (arith, own, ends, begins, rest, sum)
+        omega (arith, own, ap place last, ap place are.0, rest, sum_by-cons octets_in run runs)
 
     pub all-room : (n : ℕ) → sum_by octets_in (runs_of (map f (range_with_len 0 n))) ≡ place n
-    all-room n =
-        let e = room-sum 0 (runs_of (map f (range_with_len 0 n))) n (all-runs n) in
-        omega (arith, e, start)
+    all-room n = omega (arith, room-sum 0 (runs_of (map f (range_with_len 0 n))) n (all-runs n), start)
 
 -- ---- of a walk
 pub members-are : (leg : Leg) (s : Counts) →

@@ -1,25 +1,16 @@
 -- The text depends on neither delays nor rings.
 use Rattle.std.proofs.Common.{◌≡◌, ℕ, List, ◌++◌, length, sym, ◌∙◌, ap}
 use Rattle.std.specs.List.{flat_map}
-use Rattle.law_model.specs.session.Counts.{Counts, begin}
-use Rattle.law_model.specs.session.Leg.{Leg}
-use Rattle.law_model.specs.session.Scenario.{scenario_by}
-use Rattle.law_model.specs.session.Valid.{IsSound}
-use Rattle.law_model.specs.source.Client.{place_of, stream_before}
-use Rattle.law_walk.specs.Delivered.{session_rows}
-use Rattle.law_walk.specs.Landed.{landed_items}
-use Rattle.law_walk.specs.Promise.{numbered, session_pieces}
-use Rattle.law_walk.specs.Walk.{session_of, walk_plan}
+use Rattle.law_model.specs.Common.{Counts, begin, Leg, scenario_by, IsSound, place_of, stream_before}
+use Rattle.law_walk.specs.Common.{session_rows, landed_items, numbered, session_pieces, session_of, walk_plan}
 use Rattle.law_walk.proofs.EndLaws.{drained-ticks, drained-landed}
 use Rattle.law_walk.proofs.PlanLaws.{sound-walks}
 use Rattle.law_walk.proofs.PromiseLaws.{drain-ends}
 use Rattle.law_walk.proofs.WalkLaws.{begins-walked}
 use Rattle.law_service.specs.Twins.{with_delays, whole_walk}
 use Rattle.law_service.proofs.TwinLaws.{ended-same}
-use Rattle.fate_engine.specs.fate_law.Marks.{are_true_marks}
-use Rattle.fate_engine.specs.fate_law.Ruler.{ruler_of}
-use Rattle.fate_engine.specs.fate_law.SessionFates.{Ended, ended_of, ended_among, fate_at}
-use Rattle.fate_engine.specs.fate_law.Spoiled.{row_cause}
+use Rattle.fate_engine.specs.Common.{are_true_marks, ruler_of, Ended, ended_of, ended_among, fate_at}
+use Rattle.fate_engine.specs.Common.{row_cause}
 use Rattle.fate_service.specs.declared.service_text.Ends.{Ends}
 use Rattle.fate_service.specs.Frames.{offered_of, accepted_of, carried_of, waits_of}
 use Rattle.fate_service.specs.RowStates.{states_of}
@@ -27,8 +18,8 @@ use Rattle.fate_service.specs.Outages.{outages_of}
 use Rattle.fate_service.specs.Stretches.{Known, stretch_of, spans_of, told_on}
 use Rattle.fate_service.specs.Delays.{delays_of}
 use Rattle.fate_service.specs.Members.{runs_of}
-use Rattle.fate_service.specs.ServiceText.{members_text, outages_text, stretches_text, delays_text, last_text, widths_of}
-use Rattle.fate_service.specs.ServiceText.{service_text}
+use Rattle.fate_service.specs.ServiceText.{members_text, outages_text, stretches_text, delays_text, last_text}
+use Rattle.fate_service.specs.ServiceText.{widths_of, service_text}
 
 -- ---- the text by how many ticks were made and rows taken, and by what became of the items that have landed
 abbrev known_among : Leg → ℕ → ℕ → List Ended → Known

@@ -7,41 +7,38 @@ use Rattle.std.proofs.lemmas.Bool.{cases_Bool, cases_lt, lt-ltb, le-ltb, le-leb,
 use Rattle.std.proofs.lemmas.List.Sums.{sum_by-cons, sum_by-append}
 use Rattle.std.proofs.lemmas.List.Elements.{All-head, All-tail}
 use Rattle.std.specs.List.{flat_map}
+use Rattle.law_loss.proofs.FilterLaws.{and_false}
 use Rattle.law_model.specs.session.Plan.{greatest}
 use Rattle.fate_service.specs.Stretches.{is_in, spans_on, spans_of}
 use Rattle.fate_service.specs.service_law.Sums.{FollowOn}
 
 -- ---- of elements with a key from one number on to below another
 own-split : (w n a b d : ℕ) → a ≤ b → b ≤ d →
-    (if is_in a d n then w else 0) ≡ (if is_in a b n then w else 0) + (if is_in b d n then w else 0)
+    ((if is_in a d n then w else 0) ≡ (if is_in a b n then w else 0) + (if is_in b d n then w else 0))
+    × ((if is_in a d n then w else 0) ≡ max (if is_in a b n then w else 0) (if is_in b d n then w else 0))
 own-split w n a b d low high =
     elim (cases_lt n b) [
       | inl before ↦
-          rw (lt-ltb n d (omega (arith, before, high)), lt-ltb n b before, lt-leb b n before) (omega arith)
+          rw (lt-ltb n d (omega (arith, before, high)), lt-ltb n b before, lt-leb b n before) (omega arith, omega arith)
       | inr behind ↦
-          rw (le-leb a n (omega (arith, low, behind)), le-ltb n b behind, le-leb b n behind) (omega arith)
-    ]
-
-own-most : (w n a b d : ℕ) → a ≤ b → b ≤ d →
-    (if is_in a d n then w else 0) ≡ max (if is_in a b n then w else 0) (if is_in b d n then w else 0)
-own-most w n a b d low high =
-    elim (cases_lt n b) [
-      | inl before ↦
-          rw (lt-ltb n d (omega (arith, before, high)), lt-ltb n b before, lt-leb b n before) (omega arith)
-      | inr behind ↦
-          rw (le-leb a n (omega (arith, low, behind)), le-ltb n b behind, le-leb b n behind) (omega arith)
+          rw (le-leb a n (omega (arith, low, behind)), le-ltb n b behind, le-leb b n behind) (omega arith, omega arith)
     ]
 
 own-none : (n a : ℕ) → is_in a a n ≡ false
 own-none n a =
     elim (cases_lt n a) [
       | inl before ↦ ap (λ b. b && nat_lt n a) (lt-leb a n before)
-      | inr behind ↦ ap (λ b. nat_le a n && b) (le-ltb n a behind) ∙ and-false (nat_le a n)
+      | inr behind ↦ ap (λ b. nat_le a n && b) (le-ltb n a behind) ∙ and_false (nat_le a n)
     ]
-  where
-    and-false : (b : Bool) → (b && false) ≡ false
-    and-false true = refl
-    and-false false = refl
+
+-- of elements that pass
+filter-cons : {X : Type 0} (f : X → ℕ) (p : X → Bool) (x : X) (xs : List X) →
+    sum_by f (filter p (x ∷ xs)) ≡ (if p x then f x else 0) + sum_by f (filter p xs)
+filter-cons f p x xs =
+    elim (cases_Bool (p x)) [
+      | inl is ↦ rw is (sum_by-cons f x (filter p xs))
+      | inr isnt ↦ rw isnt (omega arith)
+    ]
 
 module _ {X : Type 0} (key : X → ℕ) (weight : X → ℕ) where
   abbrev pub within : ℕ → ℕ → List X → List X
@@ -55,11 +52,7 @@ module _ {X : Type 0} (key : X → ℕ) (weight : X → ℕ) where
 
   part-cons : (a b : ℕ) (x : X) (xs : List X) →
       part a b (x ∷ xs) ≡ (if is_in a b (key x) then weight x else 0) + part a b xs
-  part-cons a b x xs =
-      elim (cases_Bool (is_in a b (key x))) [
-        | inl is ↦ rw is (sum_by-cons weight x (within a b xs))
-        | inr isnt ↦ rw isnt (omega arith)
-      ]
+  part-cons a b x xs = filter-cons weight (λ (x : X). is_in a b (key x)) x xs
 
   most-cons : (a b : ℕ) (x : X) (xs : List X) →
       most a b (x ∷ xs) ≡ max (if is_in a b (key x) then weight x else 0) (most a b xs)
@@ -73,21 +66,17 @@ module _ {X : Type 0} (key : X → ℕ) (weight : X → ℕ) where
   part-split [] a b d low high = refl
   part-split (x ∷ xs) a b d low high =
       let rest = part-split xs a b d low high in
-      let own = own-split (weight x) (key x) a b d low high in
       let whole = part-cons a d x xs in
       let one = part-cons a b x xs in
-      let two = part-cons b d x xs in
-      omega (arith, rest, own, whole, one, two)
+      omega (arith, rest, (own-split (weight x) (key x) a b d low high).0, whole, one, part-cons b d x xs)
 
   pub most-split : (xs : List X) (a b d : ℕ) → a ≤ b → b ≤ d → most a d xs ≡ max (most a b xs) (most b d xs)
   most-split [] a b d low high = refl
   most-split (x ∷ xs) a b d low high =
       let rest = most-split xs a b d low high in
-      let own = own-most (weight x) (key x) a b d low high in
       let whole = most-cons a d x xs in
       let one = most-cons a b x xs in
-      let two = most-cons b d x xs in
-      omega (arith, rest, own, whole, one, two)
+      omega (arith, rest, (own-split (weight x) (key x) a b d low high).1, whole, one, most-cons b d x xs)
 
   pub most-none : (xs : List X) (a : ℕ) → most a a xs ≡ 0
   most-none [] a = refl
@@ -104,11 +93,7 @@ filter-whole {X} p (x ∷ xs) each =
 pub sum-same : {X : Type 0} (f g : X → ℕ) → ((x : X) → f x ≡ g x) → (xs : List X) → sum_by f xs ≡ sum_by g xs
 sum-same f g same [] = refl
 sum-same f g same (x ∷ xs) =
-    let one = sum_by-cons f x xs in
-    let two = sum_by-cons g x xs in
-    let own = same x in
-    let rest = sum-same f g same xs in
-    omega (arith, one, two, own, rest)
+    omega (arith, sum_by-cons f x xs, sum_by-cons g x xs, same x, sum-same f g same xs)
 
 pub sum-four : {X : Type 0} (f a b d e : X → ℕ) → ((x : X) → f x ≡ a x + b x + d x + e x) → (xs : List X) →
     sum_by f xs ≡ sum_by a xs + sum_by b xs + sum_by d xs + sum_by e xs
@@ -116,50 +101,27 @@ sum-four f a b d e same [] = refl
 sum-four f a b d e same (x ∷ xs) =
     let all = sum_by-cons f x xs in
     let one = sum_by-cons a x xs in
-    let two = sum_by-cons b x xs in
-    let three = sum_by-cons d x xs in
-    let four = sum_by-cons e x xs in
-    let own = same x in
     let rest = sum-four f a b d e same xs in
-    omega (arith, all, one, two, three, four, own, rest)
+    omega (arith, all, one, sum_by-cons b x xs, sum_by-cons d x xs, sum_by-cons e x xs, same x, rest)
 
 pub sum-map-by : {X Y : Type 0} (f : Y → ℕ) (h : X → Y) (xs : List X) →
     sum_by f (map h xs) ≡ sum_by (λ (x : X). f (h x)) xs
 sum-map-by f h [] = refl
 sum-map-by {X} f h (x ∷ xs) =
-    let one = sum_by-cons f (h x) (map h xs) in
-    let two = sum_by-cons (λ (x : X). f (h x)) x xs in
-    let rest = sum-map-by f h xs in
-    omega (arith, one, two, rest)
+    omega (arith, sum_by-cons f (h x) (map h xs), sum_by-cons (λ (x : X). f (h x)) x xs, sum-map-by f h xs)
 
 pub sum-flat : {X Y : Type 0} (f : Y → ℕ) (h : X → List Y) (xs : List X) →
     sum_by f (flat_map h xs) ≡ sum_by (λ (x : X). sum_by f (h x)) xs
 sum-flat f h [] = refl
 sum-flat {X} f h (x ∷ xs) =
-    let one = sum_by-append f (h x) (flat_map h xs) in
     let two = sum_by-cons (λ (x : X). sum_by f (h x)) x xs in
-    let rest = sum-flat f h xs in
-    omega (arith, one, two, rest)
+    omega (arith, sum_by-append f (h x) (flat_map h xs), two, sum-flat f h xs)
 
 pub sum-filter : {X : Type 0} (f : X → ℕ) (p : X → Bool) (xs : List X) →
     sum_by f (filter p xs) ≡ sum_by (λ (x : X). if p x then f x else 0) xs
 sum-filter f p [] = refl
 sum-filter {X} f p (x ∷ xs) =
-    let two = sum_by-cons (λ (x : X). if p x then f x else 0) x xs in
-    let rest = sum-filter f p xs in
-    elim (cases_Bool (p x)) [
-      | inl is ↦ (
-          let own : (if p x then f x else 0) ≡ f x = ap (λ b. if b then f x else 0) is in
-          let kept : sum_by f (filter p (x ∷ xs)) ≡ sum_by f (x ∷ filter p xs) =
-          ap (λ b. sum_by f (if b then x ∷ filter p xs else filter p xs)) is in
-          let one = sum_by-cons f x (filter p xs) in
-          omega (arith, two, rest, own, kept, one))
-      | inr isnt ↦ (
-          let own : (if p x then f x else 0) ≡ 0 = ap (λ b. if b then f x else 0) isnt in
-          let kept : sum_by f (filter p (x ∷ xs)) ≡ sum_by f (filter p xs) =
-          ap (λ b. sum_by f (if b then x ∷ filter p xs else filter p xs)) isnt in
-          omega (arith, two, rest, own, kept))
-    ]
+    omega (arith, filter-cons f p x xs, sum_by-cons (λ (x : X). if p x then f x else 0) x xs, sum-filter f p xs)
 
 -- ---- a fold that goes from the front adds up what each element adds
 module _ {B X : Type 0} (on : B → List X → B) (next : B → X → B) (none : (b : B) → on b [] ≡ b)
@@ -168,30 +130,21 @@ module _ {B X : Type 0} (on : B → List X → B) (next : B → X → B) (none :
       (b : B) (xs : List X) → column (on b xs) ≡ column b + sum_by weight xs
   counted column weight step b [] = let e = ap column (none b) in omega (arith, e)
   counted column weight step b (x ∷ xs) =
-      let e = ap column (more b x xs) in
       let rest = counted column weight step (next b x) xs in
-      let own = step b x in
-      let sum = sum_by-cons weight x xs in
-      omega (arith, e, rest, own, sum)
+      omega (arith, ap column (more b x xs), rest, step b x, sum_by-cons weight x xs)
 
   pub highest : (column : B → ℕ) (weight : X → ℕ) → ((b : B) (x : X) → column (next b x) ≡ max (column b) (weight x)) →
       (b : B) (xs : List X) → column (on b xs) ≡ max (column b) (greatest (map weight xs))
   highest column weight step b [] = let e = ap column (none b) in omega (arith, e)
   highest column weight step b (x ∷ xs) =
-      let e = ap column (more b x xs) in
-      let rest = highest column weight step (next b x) xs in
-      let own = step b x in
-      omega (arith, e, rest, own)
+      omega (arith, ap column (more b x xs), highest column weight step (next b x) xs, step b x)
 
 -- ---- parts that follow each other
 pub follow-up : (from : ℕ) (parts : List (ℕ × ℕ)) (end : ℕ) → FollowOn from parts end → from ≤ end
 unfolding FollowOn
 follow-up from [] end follow = omega (arith, follow)
 follow-up from (part ∷ parts) end follow =
-    let rest = follow-up part.1 parts end follow.2 in
-    let begins = follow.0 in
-    let some = follow.1 in
-    omega (arith, rest, begins, some)
+    omega (arith, follow-up part.1 parts end follow.2, follow.0, follow.1)
 
 module _ {X : Type 0} (line : ℕ × ℕ → X) (column : X → ℕ) where
   abbrev pub value : ℕ → ℕ → ℕ
@@ -201,35 +154,26 @@ module _ {X : Type 0} (line : ℕ × ℕ → X) (column : X → ℕ) where
       (end : ℕ) → FollowOn from parts end → value from end ≡ sum_by column (map line parts)
   unfolding FollowOn
   add-up splits from [] end follow =
-      let twice = splits end end end (omega arith) (omega arith) in
-      let same = ap (λ n. value n end) follow in
-      omega (arith, twice, same)
+      omega (arith, splits end end end (omega arith) (omega arith), ap (λ n. value n end) follow)
   add-up splits from (part ∷ parts) end follow =
       let begins = follow.0 in
-      let some = follow.1 in
       let high = follow-up part.1 parts end follow.2 in
-      let rest = add-up splits part.1 parts end follow.2 in
-      let whole = splits from part.1 end (omega (arith, begins, some)) high in
       let same = ap (λ n. value n part.1) begins in
+      let rest = add-up splits part.1 parts end follow.2 in
       let sum = sum_by-cons column (line part) (map line parts) in
-      omega (arith, rest, whole, same, sum)
+      omega (arith, rest, splits from part.1 end (omega (arith, begins, follow.1)) high, same, sum)
 
   pub add-most : ((a : ℕ) → value a a ≡ 0) → ((a b d : ℕ) → a ≤ b → b ≤ d → value a d ≡ max (value a b) (value b d)) →
       (from : ℕ) (parts : List (ℕ × ℕ)) (end : ℕ) → FollowOn from parts end →
       value from end ≡ greatest (map column (map line parts))
   unfolding FollowOn
-  add-most none splits from [] end follow =
-      let zero_there = none end in
-      let same = ap (λ n. value n end) follow in
-      omega (arith, zero_there, same)
+  add-most none splits from [] end follow = omega (arith, none end, ap (λ n. value n end) follow)
   add-most none splits from (part ∷ parts) end follow =
       let begins = follow.0 in
-      let some = follow.1 in
       let high = follow-up part.1 parts end follow.2 in
-      let rest = add-most none splits part.1 parts end follow.2 in
-      let whole = splits from part.1 end (omega (arith, begins, some)) high in
       let same = ap (λ n. value n part.1) begins in
-      omega (arith, rest, whole, same)
+      let rest = add-most none splits part.1 parts end follow.2 in
+      omega (arith, rest, splits from part.1 end (omega (arith, begins, follow.1)) high, same)
 
 -- ---- the stretches of an interval
 spans-on : (n interval first told : ℕ) → 1 ≤ interval → told ≤ first + n →

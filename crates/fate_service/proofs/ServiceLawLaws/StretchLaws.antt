@@ -1,21 +1,14 @@
 -- The lines of a text, and what the stretches add up to.
-use Rattle.std.proofs.Common.{◌≡◌, ℕ, zero, suc, ◌+◌, ◌≤◌, min, max}
-use Rattle.std.proofs.Common.{List, [], ◌∷◌, ◌++◌, map, filter, take, drop, Option, refl, sym, ◌∙◌, ap, ap₂, subst}
-use Rattle.std.proofs.Common.{arith, inl, inr, sum_by}
+use Rattle.std.proofs.Common.{◌≡◌, ℕ, zero, suc, ◌+◌, ◌≤◌, min, max, List, [], ◌∷◌, ◌++◌, map, filter, take}
+use Rattle.std.proofs.Common.{drop, Option, refl, sym, ◌∙◌, ap, ap₂, subst, arith, inl, inr, sum_by}
 use Rattle.std.specs.Prelude.{if◌then◌else◌}
 use Rattle.std.specs.List.{flat_map}
 use Rattle.std.proofs.lemmas.Bool.{cases_Bool}
 use Rattle.std.proofs.lemmas.List.Sums.{sum_by-append}
-use Rattle.law_model.specs.session.Leg.{Leg}
-use Rattle.law_model.specs.session.Counts.{Counts}
-use Rattle.law_model.specs.session.Plan.{greatest}
-use Rattle.law_model.specs.session.Scenario.{scenario_by}
-use Rattle.law_model.specs.source.Client.{place_of}
-use Rattle.law_walk.specs.Walk.{session_of}
-use Rattle.law_walk.specs.Delivered.{session_rows}
+use Rattle.law_model.specs.Common.{Leg, Counts, greatest, scenario_by, place_of}
+use Rattle.law_walk.specs.Common.{session_of, session_rows}
 use Rattle.fate_engine.specs.declared.fate_law.Cause.{Cause}
-use Rattle.fate_engine.specs.fate_law.SessionFates.{ended_of}
-use Rattle.fate_engine.specs.fate_law.Spoiled.{row_cause}
+use Rattle.fate_engine.specs.Common.{ended_of, row_cause}
 use Rattle.fate_engine.proofs.FateCoreLaws.FateSteps.{place-up}
 use Rattle.fate_service.specs.declared.landed_frames.CarriedFrame.{CarriedFrame}
 use Rattle.fate_service.specs.declared.landed_frames.OfferedFrame.{OfferedFrame}
@@ -27,11 +20,13 @@ use Rattle.fate_service.specs.declared.stretch_counts.Ended.{Ended}
 use Rattle.fate_service.specs.Frames.{no_frames, carried_of}
 use Rattle.fate_service.specs.RowStates.{states_of, is_dark, dark_on, dark_among}
 use Rattle.fate_service.specs.Outages.{outages_of, losses, next_first}
-use Rattle.fate_service.specs.Stretches.{is_in, with_offered, came_on, came_of, came_in, delay_of, with_carried, ended_on}
-use Rattle.fate_service.specs.Stretches.{ended_of as ended_by, ended_in, capacity_in, dark_in, Known, stretch_of, spans_of}
+use Rattle.fate_service.specs.Stretches.{is_in, with_offered, came_on, came_of, came_in, delay_of}
+use Rattle.fate_service.specs.Stretches.{with_carried, ended_on, ended_of as ended_by, ended_in, capacity_in}
+use Rattle.fate_service.specs.Stretches.{dark_in, Known, stretch_of, spans_of}
 use Rattle.fate_service.specs.Delays.{delays_of}
-use Rattle.fate_service.specs.ServiceText.{members_text, outage_text, outages_text, stretch_text, stretches_text, delays_text}
-use Rattle.fate_service.specs.ServiceText.{last_text, known_of, told_of, ends_of, service_text}
+use Rattle.fate_service.specs.ServiceText.{members_text, outage_text, outages_text, stretch_text}
+use Rattle.fate_service.specs.ServiceText.{stretches_text, delays_text, last_text, known_of, told_of, ends_of}
+use Rattle.fate_service.specs.ServiceText.{service_text}
 use Rattle.fate_service.specs.service_law.Lines.{members_in, outage_lines, outages_in, outage_line_text}
 use Rattle.fate_service.specs.service_law.Lines.{StretchLine, stretch_line, stretches_in, stretch_line_text, all_of}
 use Rattle.fate_service.specs.service_law.Sums.{FollowOn, total_of}
@@ -102,136 +97,87 @@ lost_octets frame = if frame.got then 0 else frame.octets
 abbrev pub got_delay : CarriedFrame → ℕ
 got_delay frame = if frame.got then delay_of frame else 0
 
+abbrev none_came : Came
+none_came = record { offered = no_frames; refused = no_frames }
+
 -- a column of the frames that landed is the sum of what each adds
 came-sum : (column : Came → ℕ) (weight : OfferedFrame → ℕ) →
     ((came : Came) (frame : OfferedFrame) → column (with_offered came frame) ≡ column came + weight frame) →
-    (came : Came) (frames : List OfferedFrame) → column (came_on came frames) ≡ column came + sum_by weight frames
+    column none_came ≡ 0 → (frames : List OfferedFrame) → column (came_of frames) ≡ sum_by weight frames
 unfolding came_on
-came-sum column weight step came frames =
-    counted came_on with_offered (λ b. refl) (λ b x xs. refl) column weight step came frames
-
-ended-sum : (column : Ended → ℕ) (weight : CarriedFrame → ℕ) →
-    ((ended : Ended) (frame : CarriedFrame) → column (with_carried ended frame) ≡ column ended + weight frame) →
-    (ended : Ended) (frames : List CarriedFrame) →
-    column (ended_on ended frames) ≡ column ended + sum_by weight frames
-unfolding ended_on
-ended-sum column weight step ended frames =
-    counted ended_on with_carried (λ b. refl) (λ b x xs. refl) column weight step ended frames
-
-ended-most : (ended : Ended) (frames : List CarriedFrame) →
-    (ended_on ended frames).delay ≡ max ended.delay (greatest (map got_delay frames))
-unfolding ended_on
-ended-most ended frames =
-    highest ended_on with_carried (λ b. refl) (λ b x xs. refl) (λ (e : Ended). e.delay) got_delay step ended frames
-  where
-    step : (ended : Ended) (frame : CarriedFrame) →
-        (with_carried ended frame).delay ≡ max ended.delay (got_delay frame)
-    step ended frame =
-        elim (cases_Bool frame.got) [
-          | inl got ↦ rw got refl
-          | inr lost ↦ rw lost (omega arith)
-        ]
-
-abbrev none_came : Came
-none_came = record { offered = no_frames; refused = no_frames }
+came-sum column weight step none frames =
+    omega (arith, none, counted came_on with_offered (λ b. refl) (λ b x xs. refl) column weight step none_came frames)
 
 abbrev none_ended : Ended
 none_ended = record { got = no_frames; lost = no_frames; delay = 0 }
 
+ended-sum : (column : Ended → ℕ) (weight : CarriedFrame → ℕ) →
+    ((ended : Ended) (frame : CarriedFrame) → column (with_carried ended frame) ≡ column ended + weight frame) →
+    column none_ended ≡ 0 → (frames : List CarriedFrame) → column (ended_by frames) ≡ sum_by weight frames
+unfolding ended_on
+ended-sum column weight step none frames =
+    omega (arith, none, counted ended_on with_carried (λ b. refl) (λ b x xs. refl) column weight step none_ended frames)
+
+refused-step : (came : Came) (frame : OfferedFrame) →
+    ((with_offered came frame).refused.frames ≡ came.refused.frames + refused_one frame)
+    × ((with_offered came frame).refused.octets ≡ came.refused.octets + refused_octets frame)
+refused-step came frame =
+    elim (cases_Bool frame.refused) [
+      | inl is ↦ rw is (refl, refl)
+      | inr isnt ↦ rw isnt (omega arith, omega arith)
+    ]
+
+carried-step : (ended : Ended) (frame : CarriedFrame) →
+    ((with_carried ended frame).got.frames ≡ ended.got.frames + got_one frame)
+    × ((with_carried ended frame).got.octets ≡ ended.got.octets + got_octets frame)
+    × ((with_carried ended frame).lost.frames ≡ ended.lost.frames + lost_one frame)
+    × ((with_carried ended frame).lost.octets ≡ ended.lost.octets + lost_octets frame)
+    × ((with_carried ended frame).delay ≡ max ended.delay (got_delay frame))
+carried-step ended frame =
+    elim (cases_Bool frame.got) [
+      | inl got ↦ rw got (refl, refl, omega arith, omega arith, refl)
+      | inr lost ↦ rw lost (omega arith, omega arith, refl, refl, omega arith)
+    ]
+
 pub offered-frames : (frames : List OfferedFrame) →
     (came_of frames).offered.frames ≡ sum_by (λ (frame : OfferedFrame). 1) frames
-offered-frames frames =
-    let e = came-sum (λ (came : Came). came.offered.frames) (λ (frame : OfferedFrame). 1) (λ came frame. refl)
-    none_came frames in
-    omega (arith, e)
+offered-frames =
+    came-sum (λ (came : Came). came.offered.frames) (λ (frame : OfferedFrame). 1) (λ came frame. refl) refl
 
 pub offered-octets : (frames : List OfferedFrame) →
     (came_of frames).offered.octets ≡ sum_by (λ (frame : OfferedFrame). frame.octets) frames
-offered-octets frames =
-    let e = came-sum (λ (came : Came). came.offered.octets) (λ (frame : OfferedFrame). frame.octets)
-    (λ came frame. refl) none_came frames in
-    omega (arith, e)
+offered-octets =
+    came-sum (λ (came : Came). came.offered.octets) (λ (frame : OfferedFrame). frame.octets) (λ came frame. refl) refl
 
 pub refused-frames : (frames : List OfferedFrame) → (came_of frames).refused.frames ≡ sum_by refused_one frames
-refused-frames frames =
-    let e = came-sum (λ (came : Came). came.refused.frames) refused_one step none_came frames in
-    omega (arith, e)
-  where
-    step : (came : Came) (frame : OfferedFrame) →
-        (with_offered came frame).refused.frames ≡ came.refused.frames + refused_one frame
-    step came frame =
-        elim (cases_Bool frame.refused) [
-          | inl is ↦ rw is refl
-          | inr isnt ↦ rw isnt (omega arith)
-        ]
+refused-frames =
+    came-sum (λ (came : Came). came.refused.frames) refused_one (λ came frame. (refused-step came frame).0) refl
 
 pub refused-octets : (frames : List OfferedFrame) → (came_of frames).refused.octets ≡ sum_by refused_octets frames
-refused-octets frames =
-    let e = came-sum (λ (came : Came). came.refused.octets) refused_octets step none_came frames in
-    omega (arith, e)
-  where
-    step : (came : Came) (frame : OfferedFrame) →
-        (with_offered came frame).refused.octets ≡ came.refused.octets + refused_octets frame
-    step came frame =
-        elim (cases_Bool frame.refused) [
-          | inl is ↦ rw is refl
-          | inr isnt ↦ rw isnt (omega arith)
-        ]
+refused-octets =
+    came-sum (λ (came : Came). came.refused.octets) refused_octets (λ came frame. (refused-step came frame).1) refl
 
 pub got-frames : (frames : List CarriedFrame) → (ended_by frames).got.frames ≡ sum_by got_one frames
-got-frames frames =
-    let e = ended-sum (λ (ended : Ended). ended.got.frames) got_one step none_ended frames in
-    omega (arith, e)
-  where
-    step : (ended : Ended) (frame : CarriedFrame) →
-        (with_carried ended frame).got.frames ≡ ended.got.frames + got_one frame
-    step ended frame =
-        elim (cases_Bool frame.got) [
-          | inl got ↦ rw got refl
-          | inr lost ↦ rw lost (omega arith)
-        ]
+got-frames = ended-sum (λ (ended : Ended). ended.got.frames) got_one (λ ended frame. (carried-step ended frame).0) refl
 
 pub got-octets : (frames : List CarriedFrame) → (ended_by frames).got.octets ≡ sum_by got_octets frames
-got-octets frames =
-    let e = ended-sum (λ (ended : Ended). ended.got.octets) got_octets step none_ended frames in
-    omega (arith, e)
-  where
-    step : (ended : Ended) (frame : CarriedFrame) →
-        (with_carried ended frame).got.octets ≡ ended.got.octets + got_octets frame
-    step ended frame =
-        elim (cases_Bool frame.got) [
-          | inl got ↦ rw got refl
-          | inr lost ↦ rw lost (omega arith)
-        ]
+got-octets =
+    ended-sum (λ (ended : Ended). ended.got.octets) got_octets (λ ended frame. (carried-step ended frame).1) refl
 
 pub lost-frames : (frames : List CarriedFrame) → (ended_by frames).lost.frames ≡ sum_by lost_one frames
-lost-frames frames =
-    let e = ended-sum (λ (ended : Ended). ended.lost.frames) lost_one step none_ended frames in
-    omega (arith, e)
-  where
-    step : (ended : Ended) (frame : CarriedFrame) →
-        (with_carried ended frame).lost.frames ≡ ended.lost.frames + lost_one frame
-    step ended frame =
-        elim (cases_Bool frame.got) [
-          | inl got ↦ rw got (omega arith)
-          | inr lost ↦ rw lost refl
-        ]
+lost-frames =
+    ended-sum (λ (ended : Ended). ended.lost.frames) lost_one (λ ended frame. (carried-step ended frame).2) refl
 
 pub lost-octets : (frames : List CarriedFrame) → (ended_by frames).lost.octets ≡ sum_by lost_octets frames
-lost-octets frames =
-    let e = ended-sum (λ (ended : Ended). ended.lost.octets) lost_octets step none_ended frames in
-    omega (arith, e)
-  where
-    step : (ended : Ended) (frame : CarriedFrame) →
-        (with_carried ended frame).lost.octets ≡ ended.lost.octets + lost_octets frame
-    step ended frame =
-        elim (cases_Bool frame.got) [
-          | inl got ↦ rw got (omega arith)
-          | inr lost ↦ rw lost refl
-        ]
+lost-octets =
+    ended-sum (λ (ended : Ended). ended.lost.octets) lost_octets (λ ended frame. (carried-step ended frame).3) refl
 
 pub greatest-delay : (frames : List CarriedFrame) → (ended_by frames).delay ≡ greatest (map got_delay frames)
-greatest-delay frames = let e = ended-most none_ended frames in omega (arith, e)
+unfolding ended_on
+greatest-delay frames =
+    let e = highest ended_on with_carried (λ b. refl) (λ b x xs. refl) (λ (e : Ended). e.delay) got_delay
+    (λ ended frame. (carried-step ended frame).4) none_ended frames in
+    omega (arith, e)
 
 -- ---- dark rows
 abbrev pub dark_one : RowState → ℕ
@@ -251,10 +197,6 @@ dark-sum states =
           | inr isnt ↦ rw isnt (omega arith)
         ]
 
-drop-nil : {X : Type 0} (n : ℕ) → drop {A = X} n [] ≡ []
-drop-nil zero = refl
-drop-nil (suc n) = refl
-
 pub parts-of : {X : Type 0} (xs : List X) (a b d : ℕ) → a ≤ b → b ≤ d →
     drop a (take d xs) ≡ drop a (take b xs) ++ drop b (take d xs)
 parts-of xs zero zero d low high = refl
@@ -269,12 +211,11 @@ parts-of (x ∷ xs) (suc a) (suc b) (suc d) low high = parts-of xs a b d (omega 
 dark-split : (states : List RowState) (a b d : ℕ) → a ≤ b → b ≤ d →
     dark_in states a d ≡ dark_in states a b + dark_in states b d
 dark-split states a b d low high =
-    let parts = ap (sum_by dark_one) (parts-of states a b d low high) in
     let sums = sum_by-append dark_one (drop a (take b states)) (drop b (take d states)) in
     let whole = dark-sum (drop a (take d states)) in
     let one = dark-sum (drop a (take b states)) in
     let two = dark-sum (drop b (take d states)) in
-    omega (arith, parts, sums, whole, one, two)
+    omega (arith, ap (sum_by dark_one) (parts-of states a b d low high), sums, whole, one, two)
 
 -- ---- columns of stretches
 abbrev due_key : OfferedFrame → ℕ
@@ -289,31 +230,28 @@ module _ (known : Known) where
       b ≤ d → column (came_in known.offered a d)
       ≡ column (came_in known.offered a b) + column (came_in known.offered b d)
   came-split column weight is a b d low high =
-      let split = part-split due_key weight known.offered a b d low high in
       let whole = is (filter (λ (frame : OfferedFrame). is_in a d frame.due) known.offered) in
       let one = is (filter (λ (frame : OfferedFrame). is_in a b frame.due) known.offered) in
       let two = is (filter (λ (frame : OfferedFrame). is_in b d frame.due) known.offered) in
-      omega (arith, split, whole, one, two)
+      omega (arith, part-split due_key weight known.offered a b d low high, whole, one, two)
 
   ended-split : (column : Ended → ℕ) (weight : CarriedFrame → ℕ) →
       ((frames : List CarriedFrame) → column (ended_by frames) ≡ sum_by weight frames) → (a b d : ℕ) → a ≤ b →
       b ≤ d → column (ended_in known.carried a d)
       ≡ column (ended_in known.carried a b) + column (ended_in known.carried b d)
   ended-split column weight is a b d low high =
-      let split = part-split last_key weight known.carried a b d low high in
       let whole = is (filter (λ (frame : CarriedFrame). is_in a d frame.last) known.carried) in
       let one = is (filter (λ (frame : CarriedFrame). is_in a b frame.last) known.carried) in
       let two = is (filter (λ (frame : CarriedFrame). is_in b d frame.last) known.carried) in
-      omega (arith, split, whole, one, two)
+      omega (arith, part-split last_key weight known.carried a b d low high, whole, one, two)
 
   delay-split : (a b d : ℕ) → a ≤ b → b ≤ d → (ended_in known.carried a d).delay
       ≡ max (ended_in known.carried a b).delay (ended_in known.carried b d).delay
   delay-split a b d low high =
-      let split = most-split last_key got_delay known.carried a b d low high in
       let whole = greatest-delay (filter (λ (frame : CarriedFrame). is_in a d frame.last) known.carried) in
       let one = greatest-delay (filter (λ (frame : CarriedFrame). is_in a b frame.last) known.carried) in
       let two = greatest-delay (filter (λ (frame : CarriedFrame). is_in b d frame.last) known.carried) in
-      omega (arith, split, whole, one, two)
+      omega (arith, most-split last_key got_delay known.carried a b d low high, whole, one, two)
 
   delay-none : (a : ℕ) → (ended_in known.carried a a).delay ≡ 0
   delay-none a =
@@ -323,9 +261,8 @@ module _ (known : Known) where
 capacity-split : (place : ℕ → ℕ) → ((j k : ℕ) → j ≤ k → place j ≤ place k) → (rows a b d : ℕ) → a ≤ b → b ≤ d →
     capacity_in place rows a d ≡ capacity_in place rows a b + capacity_in place rows b d
 capacity-split place up rows a b d low high =
-    let one = up (min rows a) (min rows b) (omega (arith, low)) in
     let two = up (min rows b) (min rows d) (omega (arith, high)) in
-    omega (arith, one, two)
+    omega (arith, up (min rows a) (min rows b) (omega (arith, low)), two)
 
 -- ---- what they add up to
 abbrev tally_by : ℕ → ℕ → Tally

@@ -1,17 +1,12 @@
 -- The last line beside the texts of `fates` and `walk`.
-use Rattle.std.proofs.Common.{◌≡◌, ℕ, ◌+◌, ◌-◌, ◌≤◌, true, List, ◌++◌, length, codes, decimal}
-use Rattle.std.proofs.Common.{sym, ◌∙◌, ap, ap₂, arith, sum_by}
-use Rattle.law_model.specs.session.Leg.{Leg}
-use Rattle.law_model.specs.session.Counts.{Counts}
-use Rattle.law_model.specs.session.Valid.{IsSound}
-use Rattle.law_walk.specs.Walk.{IsWalked}
-use Rattle.law_walk.specs.Delivered.{session_rows, delivered_of}
-use Rattle.law_walk.specs.Promise.{session_pieces}
+use Rattle.std.proofs.Common.{◌≡◌, ℕ, ◌+◌, ◌-◌, ◌≤◌, true, List, ◌++◌, length, codes, decimal, sym, ◌∙◌, ap}
+use Rattle.std.proofs.Common.{ap₂, arith, sum_by}
+use Rattle.law_model.specs.Common.{Leg, Counts, IsSound}
+use Rattle.law_walk.specs.Common.{IsWalked, session_rows, delivered_of, session_pieces}
 use Rattle.law_walk.proofs.EndLaws.{counts-within}
 use Rattle.law_walk.proofs.PlanLaws.{sound-walks}
-use Rattle.fate_engine.specs.fate_law.FateText.{truth_text, fates_end}
-use Rattle.fate_engine.specs.fate_law.Marks.{are_true_marks}
-use Rattle.fate_engine.specs.fate_law.SessionFates.{Ended, ended_of, is_refused, has_got, has_waited, count_of}
+use Rattle.fate_engine.specs.Common.{truth_text, fates_end, are_true_marks, Ended, ended_of, is_refused}
+use Rattle.fate_engine.specs.Common.{has_got, has_waited, count_of}
 use Rattle.fate_engine.proofs.FateLaws.FateLaws.{got-delivered}
 use Rattle.fate_service.specs.declared.landed_frames.OfferedFrame.{OfferedFrame}
 use Rattle.fate_service.specs.declared.landed_frames.Tally.{Tally}
@@ -22,12 +17,14 @@ use Rattle.fate_service.specs.Stretches.{came_of, ended_of as ended_by}
 use Rattle.fate_service.specs.ServiceText.{told_of, ends_of}
 use Rattle.fate_service.specs.service_law.Lines.{all_of, fates_line}
 use Rattle.fate_service.specs.service_law.Sums.{tally_of}
-use Rattle.fate_service.proofs.ServiceLawLaws.StretchLaws.{refused_one, refused_octets, got_one, got_octets, lost_one}
-use Rattle.fate_service.proofs.ServiceLawLaws.StretchLaws.{lost_octets, offered-frames, offered-octets, refused-frames}
-use Rattle.fate_service.proofs.ServiceLawLaws.StretchLaws.{refused-octets, got-frames, got-octets, lost-frames, lost-octets}
-use Rattle.fate_service.proofs.ServiceLawLaws.BalanceLaws.{refused-count, got-count, waits-count, offered-count}
-use Rattle.fate_service.proofs.ServiceLawLaws.BalanceLaws.{frames-balance, octets-balance, got-frames-count}
-use Rattle.fate_service.proofs.ServiceLawLaws.BalanceLaws.{got-frames-octets, ticks-told, offered-whole, carried-whole}
+use Rattle.fate_service.proofs.ServiceLawLaws.StretchLaws.{refused_one, refused_octets, got_one, got_octets}
+use Rattle.fate_service.proofs.ServiceLawLaws.StretchLaws.{lost_one, lost_octets, offered-frames}
+use Rattle.fate_service.proofs.ServiceLawLaws.StretchLaws.{offered-octets, refused-frames, refused-octets}
+use Rattle.fate_service.proofs.ServiceLawLaws.StretchLaws.{got-frames, got-octets, lost-frames, lost-octets}
+use Rattle.fate_service.proofs.ServiceLawLaws.BalanceLaws.{refused-count, got-count, waits-count}
+use Rattle.fate_service.proofs.ServiceLawLaws.BalanceLaws.{offered-count, frames-balance, octets-balance}
+use Rattle.fate_service.proofs.ServiceLawLaws.BalanceLaws.{got-frames-count, got-frames-octets, ticks-told}
+use Rattle.fate_service.proofs.ServiceLawLaws.BalanceLaws.{offered-whole, carried-whole}
 use Rattle.fate_service.proofs.ServiceLawLaws.FateRowLaws.{carried-rows}
 
 module _ (leg : Leg) (s : Counts) where
@@ -44,9 +41,7 @@ module _ (leg : Leg) (s : Counts) (sound : IsSound leg) (walked : IsWalked leg s
   pub rows-told : s.rows ≤ told_of leg s
   rows-told =
       let within = counts-within leg s (sound-walks leg sound) walked in
-      let ticks = ticks-told s.ticks (offered_of those) in
-      let rows = within.0 in
-      omega (arith, rows, ticks)
+      omega (arith, within.0, ticks-told s.ticks (offered_of those))
 
   pub ended-all : (all_of leg s).ended ≡ ended_by (carried_of those)
   ended-all =
@@ -69,11 +64,11 @@ module _ (leg : Leg) (s : Counts) (sound : IsSound leg) (walked : IsWalked leg s
   refused-is : came.refused.frames ≡ sum_by refused_one (offered_of those)
   refused-is = ap (λ (c : Came). c.refused.frames) (came-all leg s) ∙ refused-frames (offered_of those)
 
-  got-is : ended.got.frames ≡ sum_by got_one (carried_of those)
-  got-is = ap (λ (e : EndedCounts). e.got.frames) ended-all ∙ got-frames (carried_of those)
+  pub got-frames-are : ended.got.frames ≡ sum_by got_one (carried_of those)
+  got-frames-are = ap (λ (e : EndedCounts). e.got.frames) ended-all ∙ got-frames (carried_of those)
 
-  lost-is : ended.lost.frames ≡ sum_by lost_one (carried_of those)
-  lost-is = ap (λ (e : EndedCounts). e.lost.frames) ended-all ∙ lost-frames (carried_of those)
+  pub lost-frames-are : ended.lost.frames ≡ sum_by lost_one (carried_of those)
+  lost-frames-are = ap (λ (e : EndedCounts). e.lost.frames) ended-all ∙ lost-frames (carried_of those)
 
   offered-octets-are : came.offered.octets ≡ sum_by (λ (frame : OfferedFrame). frame.octets) (offered_of those)
   offered-octets-are = ap (λ (c : Came). c.offered.octets) (came-all leg s) ∙ offered-octets (offered_of those)
@@ -87,30 +82,14 @@ module _ (leg : Leg) (s : Counts) (sound : IsSound leg) (walked : IsWalked leg s
   pub lost-octets-are : ended.lost.octets ≡ sum_by lost_octets (carried_of those)
   lost-octets-are = ap (λ (e : EndedCounts). e.lost.octets) ended-all ∙ lost-octets (carried_of those)
 
-  pub got-frames-are : ended.got.frames ≡ sum_by got_one (carried_of those)
-  got-frames-are = got-is
-
-  pub lost-frames-are : ended.lost.frames ≡ sum_by lost_one (carried_of those)
-  lost-frames-are = lost-is
-
   pub frames-add : came.offered.frames ≡ came.refused.frames + ended.got.frames + ended.lost.frames + waits.frames
-  frames-add =
-      let balance = frames-balance those in
-      let one = offered-is in
-      let two = refused-is in
-      let three = got-is in
-      let four = lost-is in
-      omega (arith, balance, one, two, three, four)
+  frames-add = omega (arith, frames-balance those, offered-is, refused-is, got-frames-are, lost-frames-are)
 
   pub octets-add : came.offered.octets
       ≡ came.refused.octets + ended.got.octets + ended.lost.octets + waits.octets
   octets-add =
       let balance = octets-balance those in
-      let one = offered-octets-are in
-      let two = refused-octets-are in
-      let three = got-octets-are in
-      let four = lost-octets-are in
-      omega (arith, balance, one, two, three, four)
+      omega (arith, balance, offered-octets-are, refused-octets-are, got-octets-are, lost-octets-are)
 
   -- ---- the text of fates
   abbrev text_by : ℕ → ℕ → ℕ → ℕ → ℕ → List ℕ
@@ -123,15 +102,14 @@ module _ (leg : Leg) (s : Counts) (sound : IsSound leg) (walked : IsWalked leg s
   pub fates-told : fates_end s.ticks s.rows those (are_true_marks (session_pieces leg) (session_rows leg s.rows))
       ≡ fates_line (all_of leg s) (ends_of leg s)
   fates-told =
-      let balance = frames-add in
       let offered : came.offered.frames ≡ length those = offered-is ∙ offered-count those in
       let no : came.refused.frames ≡ count_of is_refused those = refused-is ∙ refused-count those in
-      let got : ended.got.frames ≡ count_of has_got those = got-is ∙ got-count those in
+      let got : ended.got.frames ≡ count_of has_got those = got-frames-are ∙ got-count those in
       let waiting : waits.frames ≡ count_of has_waited those = waits-count those in
       let frames : length those - count_of is_refused those ≡ came.offered.frames - came.refused.frames =
       omega (arith, offered, no) in
       let lost : length those - (count_of is_refused those + count_of has_got those + count_of has_waited those)
-      ≡ ended.lost.frames = omega (arith, balance, offered, no, got, waiting) in
+      ≡ ended.lost.frames = omega (arith, frames-add, offered, no, got, waiting) in
       ap₂ (λ f g. text_by f g
       (length those - (count_of is_refused those + count_of has_got those + count_of has_waited those))
       (count_of has_waited those) (count_of is_refused those)) frames (sym got)
@@ -145,5 +123,5 @@ module _ (leg : Leg) (s : Counts) (sound : IsSound leg) (walked : IsWalked leg s
   walk-got starts =
       let same = got-delivered leg s sound walked starts in
       ap₂ (λ f o. record { frames = f; octets = o })
-      (got-is ∙ got-frames-count those ∙ ap length same)
+      (got-frames-are ∙ got-frames-count those ∙ ap length same)
       (got-octets-are ∙ got-frames-octets those ∙ ap (sum_by length) same)

@@ -29,7 +29,7 @@ use Rattle.fate_engine.specs.declared.fate_law.Fate.{Fate}
 use Rattle.fate_engine.specs.declared.fate_law.Fate.TheVariants.{Waits, Cut, Unconfirmed, Hunting, Unsettled, Got}
 use Rattle.fate_engine.specs.declared.fate_law.RowSegment.{RowSegment}
 use Rattle.fate_engine.proofs.FateLaws.MadeLaws.{session-made}
-use Rattle.fate_engine.proofs.FateLaws.MarkLaws.{parts-of}
+use Rattle.law_loss.proofs.KeptLaws.{parts-of}
 use Rattle.fate_engine.proofs.FateLaws.RulerLaws.{piece-front}
 use Rattle.fate_engine.proofs.FateCoreLaws.FateSteps.{rows-count, place-up, row-is}
 use Rattle.fate_walks.specs.declared.walk_frames.landed_cursor.LandedFrame.{LandedFrame}
@@ -62,10 +62,8 @@ own-low : (sent : List ℕ) (segment : Segment) (found : Option Confirmed) → I
     place < length sent
 own-low sent segment None part is place there = absurd cc
 own-low sent segment (Some found) part is place there =
-    let within = confirmed-within segment.octets found is in
     let e : segment.base + found.place ≡ place = cc in
-    let fits = part.fits in
-    omega (arith, within, fits, e)
+    omega (arith, confirmed-within segment.octets found is, part.fits, e)
 
 with-low : (sent : List ℕ) (spans : List Span) (segments : List Segment) → All (IsPart sent) segments →
     All (MarkLow (length sent)) (row_segments_with spans segments)
@@ -132,9 +130,7 @@ module _ (front whole : List Piece) (sent : List ℕ)
       (option_map (λ (found : Confirmed). segment.base + found.place) found)
   mark-same segment None part is = refl
   mark-same segment (Some found) part is =
-      let within = confirmed-within segment.octets found is in
-      let fits = part.fits in
-      same (segment.base + found.place) (omega (arith, within, fits))
+      same (segment.base + found.place) (omega (arith, confirmed-within segment.octets found is, part.fits))
 
   marks-same : (segments : List Segment) → All (IsPart sent) segments →
       list_all (has_true_mark front) segments ≡ list_all (has_true_mark whole) segments
@@ -163,10 +159,7 @@ module _ (leg : Leg) (s : Counts) (seen : SeenWalk) (sees : SeesWalk leg s seen)
 
   pub kept-rows : seen.rows.segments.rows ≤ 16 * length seen.rows.packets.active + 24
   kept-rows =
-      let count = sees.rows.segments.count in
-      let size = rows-count (scenario_by leg) (session_of leg) s.rows in
-      let low = reach in
-      omega (arith, count, size, low)
+      omega (arith, sees.rows.segments.count, rows-count (scenario_by leg) (session_of leg) s.rows, reach)
 
   pub fate-is : (i : ℕ) (result : Fate) →
       result ≡ fate_at (stream_before (scenario_by leg) (session_of leg) s.ticks).pieces
@@ -185,17 +178,15 @@ module _ (leg : Leg) (s : Counts) (seen : SeenWalk) (sees : SeesWalk leg s seen)
       (marked : segment.mark ≡ Some place) where
     pub mark-within : place < place_of (scenario_by leg) (session_of leg) s.rows
     mark-within =
-        let low = mark-low (session_rows leg s.rows) segment place among marked in
         let size = rows-length (scenario_by leg) (session_of leg) s.rows s.rows (omega arith) in
-        omega (arith, low, size)
+        omega (arith, mark-low (session_rows leg s.rows) segment place among marked, size)
 
     pub not-beyond : place_of (scenario_by leg) (session_of leg) (16 * length seen.rows.packets.active + 24) ≤
         place → ⊥
     not-beyond beyond =
         let up = place-up (scenario_by leg) (session_of leg) s.rows (16 * length seen.rows.packets.active + 24)
         reach in
-        let low = mark-within in
-        omega (arith, up, low, beyond)
+        omega (arith, up, mark-within, beyond)
 
     pub mark-piece : is_piece_at (stream_before (scenario_by leg) (session_of leg) s.ticks).pieces place
         ≡ is_piece_at (session_pieces leg) place
@@ -282,8 +273,7 @@ module _ (leg : Leg) (fate : ℕ → Fate) where
     number = found.number;
     due = found.due;
     frame = octets;
-    end =
-        end_by fate found.refusal i;
+    end = end_by fate found.refusal i;
   }
 
   frame-then : (item : Numbered) (octets : List ℕ) (why : Option Refusal) (i : ℕ) (others : ℕ → List Ended) →
@@ -323,10 +313,8 @@ count-more : (test : End → Bool) (all : List Ended) (e : Ended) (b : Bool) →
     count_of test (all ++ e ∷ []) ≡ count_of test all + one_if b
 count-more test all e b is =
     let t : Ended → Bool = λ (ended : Ended). test ended.end in
-    let parts = ap length (filter-append t all (e ∷ [])) in
     let size = length-append (filter t all) (filter t (e ∷ [])) in
-    let one = count-one test e b is in
-    omega (arith, parts, size, one)
+    omega (arith, ap length (filter-append t all (e ∷ [])), size, count-one test e b is)
 
 module _ (all : List Ended) (count : EndedCount) (are : Counted all count) (number due : ℕ) (frame : List ℕ) where
   abbrev with_end : End → Ended
@@ -381,8 +369,7 @@ pub end-text : (ticks rows : ℕ) (all : List Ended) (count : EndedCount) (start
       frames = count.frames;
       got = count.totals.got;
       lost = count.totals.lost;
-      waits =
-          count.totals.waits;
+      waits = count.totals.waits;
       refused = count.refused;
     }) starts
     ≡ fates_end ticks rows all starts
@@ -391,11 +378,10 @@ end-text ticks rows all count starts are =
     let none = are.refused in
     let gets = are.got in
     let wait = are.waits in
-    let sum = are.frames in
     let frames : count.frames ≡ length all - count_of is_refused all = omega (arith, items, none) in
     let lost : count.totals.lost ≡ length all -
     (count_of is_refused all + count_of has_got all + count_of has_waited all) =
-    omega (arith, items, none, gets, wait, sum) in
+    omega (arith, items, none, gets, wait, are.frames) in
     ap (λ n. line_of ticks rows starts n count.totals.got count.totals.lost count.totals.waits count.refused) frames
     ∙ ap (λ n. line_of ticks rows starts (length all - count_of is_refused all) n count.totals.lost count.totals.waits
     count.refused) (sym gets)
@@ -422,8 +408,7 @@ pub frames-begun : (leg : Leg) (s : Counts) (cursor : Cursor) (count : EndedCoun
     count.totals.got ≡ 0 → count.totals.lost ≡ 0 → count.totals.waits ≡ 0 → FramesDone leg s cursor count []
 frames-begun leg s cursor count at first frames kept got lost waits =
     let none : frames_before_item leg cursor.item ≡ 0 = ap (frames_before_item leg) first in
-    let left = at.left in
-    let all : s.frames ≡ cursor.left = omega (arith, left, none) in
+    let all : s.frames ≡ cursor.left = omega (arith, at.left, none) in
     record {
       at = at;
       counted = record {
@@ -468,9 +453,7 @@ pub offers-few : (items : List Item) → length (offers_of items) ≤ length ite
 offers-few [] = omega arith
 offers-few (item ∷ items) =
     let all = length-append (offer_of item.due item.kind) (offers_of items) in
-    let own = one item.kind in
-    let rest = offers-few items in
-    omega (arith, all, own, rest)
+    omega (arith, all, one item.kind, offers-few items)
   where
     one : (kind : ItemKind) → length (offer_of item.due kind) ≤ 1
     one (Frame octets) = omega arith
@@ -480,12 +463,8 @@ offers-few (item ∷ items) =
 pub frames-few : (leg : Leg) (s : Counts) (cursor : Cursor) (count : EndedCount) (done : List Ended) →
     FramesDone leg s cursor count done → count.frames + count.refused < 4294967295
 frames-few leg s cursor count done come =
-    let size = come.size in
-    let items = come.counted.items in
     let offers = offers-few (take cursor.item leg.items) in
-    let part = length-take cursor.item leg.items in
-    let few = come.at.sound.few in
-    omega (arith, size, items, offers, part, few)
+    omega (arith, come.size, come.counted.items, offers, length-take cursor.item leg.items, come.at.sound.few)
 
 pub frames-past : (leg : Leg) (s : Counts) (cursor : Cursor) (count : EndedCount) (done : List Ended) →
     FramesDone leg s cursor count done → IsPast leg s cursor → done ≡ ended_of leg s

@@ -23,8 +23,7 @@ pub few-ticks : (leg : Leg) (s : Counts) → IsSound leg → IsWalked leg s → 
     (s.ticks ≤ 1000000)
 few-ticks leg s sound walked =
     let within = counts-within leg s (sound-walks leg sound) walked in
-    let most = sound.network.ticks.1 in
-    (within.1, omega (arith, within.1, most))
+    (within.1, omega (arith, within.1, sound.network.ticks.1))
 
 pub place-few : (leg : Leg) (row : ℕ) → IsSound leg → row ≤ leg.config.ticks → place_in leg row < 2 ^ 63
 place-few leg row sound low = let most = place-most leg row sound low in omega (arith, most)
@@ -98,8 +97,7 @@ module _ (leg : Leg) (s : Counts) (ruler : Ruler) (was now : Cursor) (ticks : �
   next-fewer =
       let there = slice_get_within (offers_of leg.items) count (own leg was now found next)
       (next-offer leg was now found next) in
-      let more = next-count leg was now found next in
-      omega (arith, there, more)
+      omega (arith, there, next-count leg was now found next)
 
   module _ (at : IsAt leg s now) (due : found.due < s.ticks) (reached : Ruler)
       (reaches : (frames : ℕ) → Between leg frames ticks found.due →

@@ -31,8 +31,7 @@ pub few-rows : (leg : Leg) (s : Counts) → IsSound leg → IsWalked leg s → (
     (s.ticks ≤ leg.config.ticks) × (s.ticks ≤ 1000000)
 few-rows leg s sound walked =
     let within = counts-within leg s (sound-walks leg sound) walked in
-    let most = sound.network.ticks.1 in
-    (within.0, within.1, omega (arith, within.1, most))
+    (within.0, within.1, omega (arith, within.1, sound.network.ticks.1))
 
 -- ---- packets
 list-next : (f : ℕ → List ℕ) (all : List (List ℕ)) (last : List ℕ) (n : ℕ) → length all ≡ n →

@@ -8,7 +8,7 @@ use Rattle.std.proofs.lemmas.List.Concat.{flat_map-append}
 use Rattle.std.proofs.lemmas.List.Elements.{All-nil, All-cons, All-append, All-weaker}
 use Rattle.std.proofs.lemmas.Option.{slice_get-get_or, slice_get_within}
 use Rattle.walk_engine.proofs.WalkCoreLaws.OpenLaws.{none-landed}
-use Rattle.law_model.proofs.ListLaws.{take-one}
+use Rattle.law_model.proofs.ListLaws.{take-one, drop-next}
 use Rattle.law_model.specs.Common.{Leg, offer_of, offers_of, Counts}
 use Rattle.law_model.specs.declared.script_types.Item.{Item}
 use Rattle.law_model.specs.declared.script_types.ItemKind.{ItemKind}
@@ -21,10 +21,7 @@ use Rattle.fate_walks.specs.walk_frames.Landed.{Cursor, frames_before_item, fram
 
 -- ---- lists
 pub drop-one : {X : Type 0} (xs : List X) (i : ℕ) (x : X) → slice_get xs i ≡ Some x → drop i xs ≡ x ∷ drop (i + 1) xs
-drop-one [] i x there = absurd cc
-drop-one (y ∷ xs) zero x there = ap (λ z. z ∷ xs) (let e : y ≡ x = cc in e)
-drop-one (y ∷ xs) (suc i) x there = drop-one xs i x there
-    ∙ ap (λ n. x ∷ drop n (y ∷ xs)) (let e : suc (i + 1) ≡ suc i + 1 = omega arith in e)
+drop-one xs i x there = drop-next xs i x there ∙ ap (λ n. x ∷ drop n xs) (let e : suc i ≡ i + 1 = omega arith in e)
 
 pub offers-next : (items : List Item) (i : ℕ) (item : Item) → slice_get items i ≡ Some item →
     offers_of (take (i + 1) items) ≡ offers_of (take i items) ++ offer_of item.due item.kind
@@ -35,6 +32,12 @@ offers-next items i item there =
 
 -- ---- what has landed of the items from one on
 module _ (a b i : ℕ) (item : Item) (items : List Item) where
+  pub landed-client : is_client item.kind ≡ true →
+      landed_from a b i (item ∷ items) ≡ with_if (nat_lt 0 a) (record { number = i; item = item })
+      (landed_from (a - 1) b (suc i) items)
+  unfolding landed_from
+  landed-client client = rw client refl
+
   pub landed-frame : is_client item.kind ≡ true → 0 < a →
       landed_from a b i (item ∷ items) ≡ record { number = i; item = item } ∷ landed_from (a - 1) b (suc i) items
   unfolding landed_from
@@ -148,9 +151,8 @@ module _ (leg : Leg) (s : Counts) (cursor : Cursor) (at : IsAt leg s cursor) (it
   pub before-next : length (offer_of item.due item.kind) + frames_before_item leg cursor.item
       ≡ frames_before_item leg (cursor.item + 1)
   before-next =
-      let e = ap length (offers-next leg.items cursor.item item there) in
       let n = length-append (offers_of (take cursor.item leg.items)) (offer_of item.due item.kind) in
-      omega (arith, e, n)
+      omega (arith, ap length (offers-next leg.items cursor.item item there), n)
 
 -- the next refusal is the item's, where its number is
 pub found-refusal : (refusals : List (ℕ × Refusal)) (r item : ℕ) (x : ℕ × Refusal) → slice_get refusals r ≡ Some x →
@@ -209,7 +211,6 @@ module _ (leg : Leg) (s : Counts) (cursor : Cursor) (at : IsAt leg s cursor) (so
       (landed_from (cursor.left - 1) at.commands (cursor.item + 1) (drop (cursor.item + 1) leg.items)) in
       let both = found why later (frame-refusals leg s cursor at item there some (client octets kind))
       (late-refusals leg s cursor at item there some (cursor.left - 1) at.commands) in
-      let before = before-next leg s cursor at item there some in
       let one = one-offer octets kind in
       subst (IsAt leg s) (sym (is ∙ ap (λ n. record { item = n + 1; refusal = r; left = cursor.left - 1 }) here))
       (record {
@@ -217,7 +218,7 @@ module _ (leg : Leg) (s : Counts) (cursor : Cursor) (at : IsAt leg s cursor) (so
         walked = at.walked;
         commands = at.commands;
         within = omega (arith, low);
-        left = (let left = at.left in omega (arith, before, one, left));
+        left = (let left = at.left in omega (arith, before-next leg s cursor at item there some, one, left));
         refusals = both.1;
       })
 
@@ -268,7 +269,6 @@ module _ (leg : Leg) (s : Counts) (cursor : Cursor) (at : IsAt leg s cursor) (so
       (landed_from cursor.left (at.commands - 1) (cursor.item + 1) (drop (cursor.item + 1) leg.items)) in
       let both = found parts.0 later parts.1
       (late-refusals leg s cursor at item there some cursor.left (at.commands - 1)) in
-      let before = before-next leg s cursor at item there some in
       let none = none-here other in
       subst (IsAt leg s) (sym (is ∙ ap (λ n. record { item = n + 1; refusal = r; left = cursor.left }) here))
       (record {
@@ -276,7 +276,7 @@ module _ (leg : Leg) (s : Counts) (cursor : Cursor) (at : IsAt leg s cursor) (so
         walked = at.walked;
         commands = at.commands - 1;
         within = omega (arith, low);
-        left = (let left = at.left in omega (arith, before, none, left));
+        left = (let left = at.left in omega (arith, before-next leg s cursor at item there some, none, left));
         refusals = both.1;
       })
 
@@ -284,10 +284,9 @@ module _ (leg : Leg) (s : Counts) (cursor : Cursor) (at : IsAt leg s cursor) (so
       now ≡ record { item = i + 1; refusal = r; left = cursor.left } → IsSkipped leg cursor now
   skip-past now other is =
       let before = before-next leg s cursor at item there some in
-      let none = none-here other in
       subst (λ (now : Cursor). IsSkipped leg cursor now)
       (sym (is ∙ ap (λ n. record { item = n + 1; refusal = r; left = cursor.left }) here)) (record {
-        before = omega (arith, before, none);
+        before = omega (arith, before, none-here other);
         rest = other-rest leg s cursor at item there some other;
       })
 
@@ -332,7 +331,7 @@ get-refusal [] k x low is = absurd (omega arith)
 get-refusal (y ∷ xs) zero x low is = ap Some (sym (is x))
 get-refusal (y ∷ xs) (suc k) x low is = get-refusal xs k x (omega (arith, low)) is
 
-pub no-frame : (kind : ItemKind) → ((line : ℕ) × (kind ≡ Add line)) ⊎ ((line : ℕ) × (kind ≡ Remove line)) →
-    is_client kind ≡ false
-no-frame kind (inl add) = ap is_client add.1
-no-frame kind (inr remove) = ap is_client remove.1
+pub no-frame : (kind : ItemKind) → ((octets : List ℕ) → kind ≡ Frame octets → ⊥) → is_client kind ≡ false
+no-frame (Frame octets) other = absurd (other octets refl)
+no-frame (Add line) other = refl
+no-frame (Remove line) other = refl

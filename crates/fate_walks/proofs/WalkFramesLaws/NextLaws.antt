@@ -28,10 +28,9 @@ pub due-order : (leg : Leg) (i j : ℕ) (a b : DueFrame) → IsSound leg → i �
 due-order leg i j a b sound low here there =
     let one = get-inside (offers_of leg.items) i a here in
     let two = get-inside (offers_of leg.items) j b there in
-    let order = offers_rise leg.items sound.items.frames i j a low two.0 in
     let first = ap (λ (x : DueFrame). x.due) (one.1 a) in
     let second = ap (λ (x : DueFrame). x.due) (two.1 a) in
-    omega (arith, order, first, second)
+    omega (arith, offers_rise leg.items sound.items.frames i j a low two.0, first, second)
 
 module _ (leg : Leg) (was now : Cursor) (found : LandedFrame) (next : IsNext leg was now found) where
   abbrev count : ℕ
@@ -56,10 +55,7 @@ module _ (leg : Leg) (was now : Cursor) (found : LandedFrame) (next : IsNext leg
   next-count =
       let all = ap length (offers-next leg.items found.number next.item next.there) in
       let size = length-append (offers_of (take found.number leg.items)) (offer_of next.item.due next.item.kind) in
-      let one = ap length offer-is in
-      let before = next.before in
-      let after = ap (frames_before_item leg) next.after in
-      omega (arith, all, size, one, before, after)
+      omega (arith, all, size, ap length offer-is, next.before, ap (frames_before_item leg) next.after)
 
   pub next-stream : stream_in leg found.due (count + 1) ≡ offered (stream_in leg found.due count) next.octets
   next-stream =

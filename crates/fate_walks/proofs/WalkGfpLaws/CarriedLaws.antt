@@ -71,8 +71,7 @@ module _ (pieces : List Piece) (rows : List StreamRow) where
 
   take-none : (xs : List Extent) (i : ℕ) → slice_get xs i ≡ None → take (i + 1) xs ≡ take i xs
   take-none [] zero none = refl
-  take-none [] (suc i) none =
-      ap (λ n. take n none-of) (let e : suc i + 1 ≡ suc (i + 1) = omega arith in e)
+  take-none [] (suc i) none = ap (λ n. take n none-of) (let e : suc i + 1 ≡ suc (i + 1) = omega arith in e)
   take-none (x ∷ xs) zero none = absurd (let e : Some x ≡ None = none in cc)
   take-none (x ∷ xs) (suc i) none = ap (λ n. take n (x ∷ xs)) (let e : suc i + 1 ≡ suc (i + 1) = omega arith in e)
       ∙ ap (λ l. x ∷ l) (take-none xs i none)

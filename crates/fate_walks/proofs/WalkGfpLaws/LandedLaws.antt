@@ -31,6 +31,7 @@ use Rattle.fate_engine.proofs.FateLaws.LandedLaws.{landed-first, before-few}
 use Rattle.fate_walks.specs.declared.walk_frames.landed_cursor.LandedFrame.{LandedFrame}
 use Rattle.fate_walks.specs.walk_frames.Landed.{Cursor, frames_before_item, frames_left, IsAt, IsNext, IsPast}
 use Rattle.fate_walks.specs.walk_frames.Places.{stream_in}
+use Rattle.fate_walks.proofs.WalkFramesLaws.LandedFrameLaws.{landed-client, landed-other}
 use Rattle.fate_walks.proofs.WalkFramesLaws.NextLaws.{next-count, next-refusal}
 use Rattle.fate_walks.proofs.WalkFatesLaws.LineLaws.{offers-few}
 
@@ -154,18 +155,6 @@ module _ (leg : Leg) where
   with-same true item xs ys same = ap (λ l. accepts leg item ++ l) same
   with-same false item xs ys same = same
 
-  landed-client : (a b i : ℕ) (item : Item) (items : List Item) → is_client item.kind ≡ true →
-      landed_from a b i (item ∷ items) ≡ with_if (nat_lt 0 a) (record { number = i; item = item })
-      (landed_from (a - 1) b (suc i) items)
-  unfolding landed_from
-  landed-client a b i item items client = rw client refl
-
-  landed-other : (a b i : ℕ) (item : Item) (items : List Item) → is_client item.kind ≡ false →
-      landed_from a b i (item ∷ items) ≡ with_if (nat_lt 0 b) (record { number = i; item = item })
-      (landed_from a (b - 1) (suc i) items)
-  unfolding landed_from
-  landed-other a b i item items other = rw other refl
-
   -- commands are no frames
   pub commands-none : (a b i : ℕ) (items : List Item) →
       flat_map (accepts leg) (landed_from a b i items) ≡ flat_map (accepts leg) (landed_from a 0 i items)
@@ -197,8 +186,7 @@ pub accepted-none : (leg : Leg) (s : Counts) (cursor : Cursor) → IsAt leg s cu
     Accepted leg s cursor 0
 accepted-none leg s cursor at first =
     let none : frames_before_item leg cursor.item ≡ 0 = ap (frames_before_item leg) first in
-    let left = at.left in
-    let all : s.frames ≡ cursor.left = omega (arith, left, none) in
+    let all : s.frames ≡ cursor.left = omega (arith, at.left, none) in
     let F : List Numbered → List (List ℕ) = λ l. flat_map (accepts leg) l in
     record {
       at = at;
@@ -213,11 +201,8 @@ accepted-none leg s cursor at first =
 pub accepted-few : (leg : Leg) (s : Counts) (cursor : Cursor) (count : ℕ) → Accepted leg s cursor count →
     count < 4294967295
 accepted-few leg s cursor count is =
-    let few = is.few in
     let offers = offers-few (take cursor.item leg.items) in
-    let part = length-take cursor.item leg.items in
-    let most = is.at.sound.few in
-    omega (arith, few, offers, part, most)
+    omega (arith, is.few, offers, length-take cursor.item leg.items, is.at.sound.few)
 
 module _ (leg : Leg) (s : Counts) (was now : Cursor) (count : ℕ) (found : LandedFrame)
     (is : Accepted leg s was count) (next : IsNext leg was now found) where

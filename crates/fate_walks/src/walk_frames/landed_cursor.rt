@@ -96,7 +96,7 @@ impl FrameCursor {
                     refusal,
                 })
             }
-            ItemKind::Add(_) | ItemKind::Remove(_) => None,
+            _ => None,
         }
     }
 

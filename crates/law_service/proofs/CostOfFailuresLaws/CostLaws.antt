@@ -369,9 +369,8 @@ module _ (leg : Leg) (sound : IsSound leg) (from horizon : ℕ) (once : FailsOnc
                 let n : ℕ = first_hit window.first + leg.config.options.holdoff in
                 let turn = in-turn leg.config.options.statuses n (sq / 8) sound.network.options.statuses
                 (omega arith) in
-                let low = turn.0 in
                 let near = turn.1 in
-                inr (inr (next_in leg.config.options.statuses n (sq / 8), low, turn.2, omega arith))
+                inr (inr (next_in leg.config.options.statuses n (sq / 8), turn.0, turn.2, omega arith))
           ]
         ]
       ])

@@ -99,8 +99,7 @@ module _ (scenario : Scenario) (cells : List (Option Told)) (first last : ℕ)
     (quiet : IsQuiet scenario cells first last) where
   pub count-before : (j : ℕ) → first ≤ j → j ≤ suc last →
       (table_before scenario cells j).count ≡ (table_before scenario cells first).count
-  count-before zero low high =
-      let e : first ≡ zero = omega arith in rw e refl
+  count-before zero low high = let e : first ≡ zero = omega arith in rw e refl
   count-before (suc j) low high =
       elim (cases_lt j first) [
         | inl sooner ↦ let e : first ≡ suc j = omega arith in rw e refl
@@ -226,10 +225,9 @@ module _ (scenario : Scenario) (cells : List (Option Told)) (first last : ℕ)
       let size = sixteen scenario.options.statuses quiet.statuses in
       let found = last-of scenario.options.statuses first (j - scenario.lag) (sq / 8) quiet.statuses (omega arith)
       (omega arith) in
-      let low_enough = found.1 in
       let past = found.2 in
       let near = found.3 in
-      (found.0, low_enough, omega arith, omega arith, found.4)
+      (found.0, found.1, omega arith, omega arith, found.4)
 
   kept-by : (j k sq line : ℕ) → first ≤ k → k + scenario.lag ≤ j → j < k + scenario.options.statuses + scenario.lag →
       j ≤ last → sq < 128 →
@@ -297,8 +295,7 @@ module _ (scenario : Scenario) (cells : List (Option Told)) (first last : ℕ)
   never-added : (sq line d : ℕ) → d + first ≤ suc last →
       Has (table_before scenario cells (d + first)).order sq line adding →
       Has (table_before scenario cells first).order sq line adding
-  never-added sq line zero high has =
-      let e : zero + first ≡ first = omega arith in rw e at has
+  never-added sq line zero high has = let e : zero + first ≡ first = omega arith in rw e at has
   never-added sq line (suc d) high has =
       let e : suc d + first ≡ suc (d + first) = omega arith in
       let table = by-told (d + first) (omega arith) (omega arith) in

@@ -51,8 +51,8 @@ returns-then-not-is_spared c = λ scenario cells options same are.
     (le-leb row (window.end + 38) (omega (arith, test, end))) in
     sym (stops scenario c.args.options (list_all (is_spared scenario cells c.args.line)
     (filter (is_near window) (range_with_len 0 c.args.rows))) options c.if-options.false
-    ∙ fails-picked (is_near window) (is_spared scenario cells c.args.line) 0 c.args.rows row (omega arith)
-    (omega (arith, test, end)) near here)
+    ∙ fails-picked (is_near window) (is_spared scenario cells c.args.line) c.args.rows row (omega (arith, test, end))
+    near here)
 
 pub returns : goal.returns
 returns c = λ scenario cells options same are.
@@ -61,8 +61,8 @@ returns c = λ scenario cells options same are.
     let end = c.min-end.ensures in
     sym (stops scenario c.args.options (list_all (is_spared scenario cells c.args.line)
     (filter (is_near window) (range_with_len 0 c.args.rows))) options c.if-options.false
-    ∙ all-picked (is_near window) (is_spared scenario cells c.args.line) 0 c.args.rows
-    (λ t low high near.
+    ∙ all-picked (is_near window) (is_spared scenario cells c.args.line) c.args.rows
+    (λ t high near.
     let parts = and_parts (nat_le window.first t) (nat_le t (window.end + 38)) near in
     let from = leb-true window.first t parts.0 in
     let upto = leb-true t (window.end + 38) parts.1 in

@@ -1,8 +1,7 @@
 -- The failure spares the rows so far.
 use Rattle.std.proofs.Common.{◌≡◌, ℕ, ◌-◌, ◌<◌, ◌≤◌, true, List, Option}
-use Rattle.law_model.specs.session.Scenario.{Scenario}
-use Rattle.law_model.specs.source.Table.{Told}
-use Rattle.fate_engine.specs.fate_core.Packets.{ArePackets}
+use Rattle.law_model.specs.Common.{Scenario, Told}
+use Rattle.fate_engine.specs.Common.{ArePackets}
 use Rattle.fate_check.specs.IdleWindows.{is_spared}
 use Rattle.fate_check.proofs.idle_windows.is_idle.Given as goal
 

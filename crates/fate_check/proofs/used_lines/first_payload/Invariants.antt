@@ -1,8 +1,7 @@
 -- No line carries payload in any of the rows so far.
 use Rattle.std.proofs.Common.{◌≡◌, ℕ, ◌-◌, ◌<◌, false, List, Option}
-use Rattle.law_model.specs.session.Scenario.{Scenario}
-use Rattle.law_model.specs.source.Table.{Told}
-use Rattle.fate_engine.specs.fate_core.Packets.{ArePackets}
+use Rattle.law_model.specs.Common.{Scenario, Told}
+use Rattle.fate_engine.specs.Common.{ArePackets}
 use Rattle.fate_check.specs.UsedLines.{has_payload}
 use Rattle.fate_check.proofs.used_lines.first_payload.Given as goal
 

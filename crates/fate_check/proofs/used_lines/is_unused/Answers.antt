@@ -3,7 +3,8 @@ use Rattle.std.proofs.Common.{◌≡◌, ◌==◌, false, true, not, inl, inr, s
 use Rattle.std.specs.List.{list_any}
 use Rattle.std.proofs.lemmas.Bool.{cases_lt, not_from_true, not_from_false}
 use Rattle.fate_check.specs.UsedLines.{is_used}
-use Rattle.fate_check.proofs.RangeLaws.{all-range, fails-range}
+use Rattle.law_row.proofs.TimerLaws.{all-from}
+use Rattle.fate_check.proofs.RangeLaws.{fails-range}
 use Rattle.fate_check.proofs.UsedLaws.{alike-used}
 use Rattle.fate_check.proofs.used_lines.is_unused.Goals as goal
 
@@ -26,12 +27,12 @@ returns-then-contains c = λ scenario cells are.
     let here : is_used scenario cells line row ≡ true =
     ap (list_any (λ used. used == line)) (sym (c.used_lines.ensures scenario cells are)) ∙ sym c.contains.ensures.value
     ∙ c.if-contains.true in
-    sym (fails-range (λ t. not (is_used scenario cells line t)) 0 c.args.rows row (omega arith)
-    (let low = c.loop-row-test.true in omega (arith, low)) (not_from_true (is_used scenario cells line row) here))
+    sym (fails-range (λ t. not (is_used scenario cells line t)) c.args.rows row c.loop-row-test.true
+    (not_from_true (is_used scenario cells line row) here))
 
 pub returns : goal.returns
 returns c = λ scenario cells are.
     let line = c.args.line in
-    sym (all-range (λ t. not (is_used scenario cells line t)) 0 c.args.rows
+    sym (all-from (λ t. not (is_used scenario cells line t)) 0 c.args.rows
     (λ t from low. not_from_false (is_used scenario cells line t)
     (c.loop-row.invariant scenario cells are t (let end = c.loop-row-test.false in omega (arith, low, end)))))

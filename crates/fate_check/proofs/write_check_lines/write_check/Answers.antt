@@ -1,11 +1,9 @@
 -- The lines are written, or a part of them up to a write that failed.
 use Rattle.std.proofs.Common.{rules, ℕ, [], ◌++◌, length, sym, ◌∙◌, ap, subst, OnOk, OnErr}
 use Rattle.std.specs.List.{flat_map}
-use Rattle.octet_io.specs.Start.{Start}
-use Rattle.octet_io.specs.Transfer.{Appends, AppendsPart}
+use Rattle.law_model.specs.Common.{Start, Appends, AppendsPart, leg_of}
 use Rattle.text_got.specs.Told.{HasText, name_of, start_at}
-use Rattle.law_model.specs.session.Leg.{leg_of}
-use Rattle.law_walk.specs.Landed.{refusals_of}
+use Rattle.law_walk.specs.Common.{refusals_of}
 use Rattle.fate_check.specs.UsedLines.{unused_lines}
 use Rattle.fate_check.specs.IdleWindows.{idle_windows}
 use Rattle.fate_check.specs.EarlyFrames.{payload_row, early_frames}

@@ -1,7 +1,6 @@
 -- The failures of the lines so far are told and counted.
 use Rattle.std.proofs.Common.{◌≡◌, ◌≤◌, ◌*◌, ℕ, List, ◌++◌, length}
-use Rattle.octet_io.specs.Start.{Start}
-use Rattle.law_model.specs.session.Leg.{leg_of}
+use Rattle.law_model.specs.Common.{Start, leg_of}
 use Rattle.text_got.specs.Told.{HasText}
 use Rattle.fate_check.specs.CheckText.{idle_texts}
 use Rattle.fate_check.proofs.TextLaws.{idle_before}

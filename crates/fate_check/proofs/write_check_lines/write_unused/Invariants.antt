@@ -1,8 +1,7 @@
 -- The lines so far are told and counted.
 use Rattle.std.proofs.Common.{◌≡◌, ◌≤◌, ℕ, List, ◌++◌, length}
 use Rattle.std.specs.List.{flat_map, range_with_len}
-use Rattle.octet_io.specs.Start.{Start}
-use Rattle.law_model.specs.session.Leg.{leg_of}
+use Rattle.law_model.specs.Common.{Start, leg_of}
 use Rattle.text_got.specs.Told.{HasText}
 use Rattle.fate_check.specs.UsedLines.{unused_among}
 use Rattle.fate_check.specs.CheckText.{unused_text}

@@ -7,25 +7,8 @@ use Rattle.fate_engine.specs.Common.{row_from, spoiled_from, fate_among, places,
 use Rattle.fate_engine.specs.Common.{spoiled_runs, ruled}
 use Rattle.fate_engine.proofs.fate_law.worked_law.Goals as goal
 
-pub returns-clause-fates : goal.returns-clause-fates
+pub returns : goal.returns
 unfolding worked_rows worked_stream cut core_header octets_of xors bits number_behind divide add_front scramble_on
-    pli_of head hec_of header_with hunt_within segments_on extents row_from spoiled_from fate_among
-returns-clause-fates c = refl
-
-pub returns-clause-segments : goal.returns-clause-segments
-unfolding worked_rows worked_stream cut core_header octets_of xors bits number_behind divide add_front scramble_on
-    pli_of head hec_of header_with hunt_within segments_on spans_on row_segments_with
-returns-clause-segments c = refl
-
-pub returns-clause-starts : goal.returns-clause-starts
-unfolding worked_rows worked_stream cut core_header octets_of xors bits number_behind divide add_front scramble_on
-    pli_of head hec_of header_with hunt_within segments_on places
-returns-clause-starts c = refl
-
-pub returns-clause-runs : goal.returns-clause-runs
-unfolding spoiled_runs
-returns-clause-runs c = refl
-
-pub returns-clause-ruler : goal.returns-clause-ruler
-unfolding ruled
-returns-clause-ruler c = refl
+    pli_of head hec_of header_with hunt_within segments_on extents row_from spoiled_from fate_among spans_on
+    row_segments_with places spoiled_runs ruled
+returns c = record { fates = refl; segments = refl; starts = refl; runs = refl; ruler = refl }

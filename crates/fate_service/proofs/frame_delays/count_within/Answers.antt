@@ -4,11 +4,12 @@ use Rattle.std.specs.Prelude.{if◌then◌else◌}
 use Rattle.fate_service.specs.declared.landed_frames.CarriedFrame.{CarriedFrame}
 use Rattle.fate_service.specs.Stretches.{delay_of}
 use Rattle.fate_service.specs.Delays.{within_on}
-use Rattle.fate_service.proofs.FoldLaws.{within-next, within-end}
+use Rattle.std.proofs.lemmas.List.{at_drop_more, at_drop_all}
 use Rattle.fate_service.proofs.frame_delays.count_within.Goals as goal
 use Rattle.fate_service.proofs.frame_delays.count_within.Goals.{then-is_within, else-is_within}
 
 pub loop-frame-preserved : goal.loop-frame-preserved
+unfolding within_on
 loop-frame-preserved c =
     let frames = c.args.carried.now in
     let i = c.loop-frame.frame-index in
@@ -17,7 +18,7 @@ loop-frame-preserved c =
     let low = c.loop-frame.invariant.1 in
     let none : CarriedFrame = record { due = 0; octets = 0; at = 0; last = 0; got = false } in
     let own : CarriedFrame = slice_index_or frames i none in
-    let next = within-next n most frames i none c.loop-frame-test.true in
+    let next = at_drop_more (within_on n most) frames i none c.loop-frame-test.true in
     elim c.if-is_within.branch [
       | then-is_within w ↦
           let yes : (own.got && nat_le (delay_of own) most) ≡ true = sym c.is_within.ensures ∙ w.if-is_within.true in
@@ -36,6 +37,7 @@ loop-frame-preserved c =
     ]
 
 pub returns : goal.returns
+unfolding within_on
 returns c =
-    sym (within-end c.loop-frame.count c.args.most c.args.carried.now c.loop-frame.frame-index c.loop-frame-test.false)
+    sym (at_drop_all (within_on c.loop-frame.count c.args.most) c.args.carried.now c.loop-frame.frame-index c.loop-frame-test.false)
     ∙ c.loop-frame.invariant.0

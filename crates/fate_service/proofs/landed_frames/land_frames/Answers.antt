@@ -16,32 +16,18 @@ loop-frame-init c = (
       c.new-cursor.ensures.at c.new-cursor.ensures.first c.new-landed.ensures,
 )
 
-pub take_frame-requires-clause-few : goal.take_frame-requires-clause-few
-take_frame-requires-clause-few c =
+pub take_frame-requires : goal.take_frame-requires
+take_frame-requires c =
     let done = c.loop-frame.invariant.0 in
     let come = c.loop-frame.invariant.1 in
     let all = taken-few (leg_of c.args.walk.now.script) c.args.walk.now.counts c.loop-frame.cursor c.loop-frame.landed
     done come in
-    let part = landed-accepted-few done c.loop-frame.landed come.columns in
-    omega (arith, all, part)
-
-pub take_frame-requires-clause-frames : goal.take_frame-requires-clause-frames
-take_frame-requires-clause-frames c =
-    let done = c.loop-frame.invariant.0 in
-    let come = c.loop-frame.invariant.1 in
-    let all = taken-few (leg_of c.args.walk.now.script) c.args.walk.now.counts c.loop-frame.cursor c.loop-frame.landed
-    done come in
-    let part = come.waits in
-    omega (arith, all, part)
-
-pub take_frame-requires-clause-octets : goal.take_frame-requires-clause-octets
-take_frame-requires-clause-octets c =
-    let done = c.loop-frame.invariant.0 in
-    let come = c.loop-frame.invariant.1 in
-    let all = taken-few (leg_of c.args.walk.now.script) c.args.walk.now.counts c.loop-frame.cursor c.loop-frame.landed
-    done come in
-    let part = come.octets in
-    omega (arith, all, part)
+    record {
+      seen = c.requires;
+      few = omega (arith, all, landed-accepted-few done c.loop-frame.landed come.columns);
+      frames = omega (arith, all, come.waits);
+      octets = omega (arith, all, come.octets);
+    }
 
 pub loop-frame-preserved : goal.loop-frame-preserved
 loop-frame-preserved c =
@@ -57,20 +43,15 @@ loop-frame-preserved c =
           c.in-Some.frame next small c.loop-frame.invariant.1 c.in-Some.ensures.at c.in_ok-take_frame.ensures,
     )
 
-pub returns-clause-landed : goal.returns-clause-landed
-returns-clause-landed c =
-    let done = c.loop-frame.invariant.0 in
-    let come = c.loop-frame.invariant.1 in
-    subst (λ l. AreLanded l c.loop-frame.landed)
-    (taken-past (leg_of c.args.walk.now.script) c.args.walk.now.counts c.loop-frame.cursor c.loop-frame.landed done come
-    c.in_default.ensures.none) come.columns
-
-pub returns-clause-few : goal.returns-clause-few
-returns-clause-few c =
+pub returns : goal.returns
+returns c =
     let done = c.loop-frame.invariant.0 in
     let come = c.loop-frame.invariant.1 in
     let all = taken-few (leg_of c.args.walk.now.script) c.args.walk.now.counts c.loop-frame.cursor c.loop-frame.landed
     done come in
-    let same = ap length come.columns.offered in
-    let size = length-map done offered_frame in
-    omega (arith, all, same, size)
+    record {
+      landed = subst (λ l. AreLanded l c.loop-frame.landed)
+          (taken-past (leg_of c.args.walk.now.script) c.args.walk.now.counts c.loop-frame.cursor c.loop-frame.landed done
+          come c.in_default.ensures.none) come.columns;
+      few = omega (arith, all, ap length come.columns.offered, length-map done offered_frame);
+    }

@@ -2,17 +2,18 @@
 use Rattle.std.proofs.Common.{◌≡◌, ◌+◌, true, false, drop, slice_index_or, sym, ◌∙◌, ap, arith, if◌then◌else◌}
 use Rattle.fate_service.specs.declared.row_states.RowState.TheVariants.{Clear}
 use Rattle.fate_service.specs.RowStates.{is_dark, dark_on}
-use Rattle.fate_service.proofs.FoldLaws.{dark-next, dark-end}
+use Rattle.std.proofs.lemmas.List.{at_drop_more, at_drop_all}
 use Rattle.fate_service.proofs.row_states.count_dark.Goals as goal
 use Rattle.fate_service.proofs.row_states.count_dark.Goals.{then-is_dark, else-is_dark}
 
 pub loop-state-preserved : goal.loop-state-preserved
+unfolding dark_on
 loop-state-preserved c =
     let states = c.args.states.now in
     let i = c.loop-state.state-index in
     let n = c.loop-state.dark in
     let low = c.loop-state.invariant.1 in
-    let next = dark-next n states i Clear c.loop-state-test.true in
+    let next = at_drop_more (dark_on n) states i Clear c.loop-state-test.true in
     elim c.if-is_dark.branch [
       | then-is_dark w ↦
           let yes : is_dark (slice_index_or states i Clear) ≡ true = sym c.is_dark.ensures ∙ w.if-is_dark.true in
@@ -31,6 +32,7 @@ loop-state-preserved c =
     ]
 
 pub returns : goal.returns
+unfolding dark_on
 returns c =
-    sym (dark-end c.loop-state.dark c.args.states.now c.loop-state.state-index c.loop-state-test.false)
+    sym (at_drop_all (dark_on c.loop-state.dark) c.args.states.now c.loop-state.state-index c.loop-state-test.false)
     ∙ c.loop-state.invariant.0

@@ -13,18 +13,15 @@ returns-then-row-around c = λ leg s sees low.
     let rows = session_rows leg s.rows in
     let count = rows-count (scenario_by leg) (session_of leg) s.rows in
     let around = c.around-around.ensures rows sees.rows.segments (omega (arith, low, count)) in
-    let spoiled = around.spoiled in
-    let test = c.if-row-around.true in
-    state-spoiled rows c.args.row (omega (arith, spoiled, test))
+    state-spoiled rows c.args.row (omega (arith, around.spoiled, c.if-row-around.true))
 
 pub returns-then-around : goal.returns-then-around
 returns-then-around c = λ leg s sees low.
     let rows = session_rows leg s.rows in
     let count = rows-count (scenario_by leg) (session_of leg) s.rows in
     let around = c.around-around.ensures rows sees.rows.segments (omega (arith, low, count)) in
-    let spoiled = around.spoiled in
     let test = c.if-row-around.false in
-    state-first rows c.args.row (omega (arith, spoiled, test)) (sym around.first ∙ c.if-around.true)
+    state-first rows c.args.row (omega (arith, around.spoiled, test)) (sym around.first ∙ c.if-around.true)
 
 pub returns : goal.returns
 returns c = λ leg s sees low.
@@ -32,9 +29,7 @@ returns c = λ leg s sees low.
     let row = c.args.row in
     let count = rows-count (scenario_by leg) (session_of leg) s.rows in
     let around = c.around-around.ensures rows sees.rows.segments (omega (arith, low, count)) in
-    let spoiled = around.spoiled in
-    let test = c.if-row-around.false in
-    let inside : row < spoiled_after rows row = omega (arith, spoiled, test) in
+    let inside : row < spoiled_after rows row = omega (arith, around.spoiled, c.if-row-around.false) in
     let later = sym around.first ∙ c.if-around.false in
     let mark = around.mark inside (ltb-false row (spoiled_after rows 0) later) in
     c.state_by_mark.ensures leg s sees

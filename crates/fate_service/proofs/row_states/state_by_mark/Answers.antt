@@ -18,8 +18,7 @@ returns-then-first-row c = λ leg s sees low.
     let row = place-row leg s c.args.seen.now sees c.in-Some.place own c.in-Some-row_of.first
     (c.in-Some-row_of.ensures.from (scenario_by leg) (session_of leg) sees.rows.packets.are)
     (c.in-Some-row_of.ensures.below (scenario_by leg) (session_of leg) sees.rows.packets.are) in
-    let test = c.if-first-row.true in
-    mark-clear (session_rows leg s.rows) c.args.row c.in-Some.place (omega (arith, row, test))
+    mark-clear (session_rows leg s.rows) c.args.row c.in-Some.place (omega (arith, row, c.if-first-row.true))
     ∙ ap (state_by_mark (session_rows leg s.rows) c.args.row) (sym c.in-Some.is)
 
 pub returns-else-first-row : goal.returns-else-first-row

@@ -10,13 +10,9 @@ pub find_outages-requires : goal.find_outages-requires
 find_outages-requires c =
     let leg = leg_of c.args.walk.now.script in
     let s = c.args.walk.now.counts in
-    let same = ap length (c.deref.ensures.value ∙ c.in_ok-states.ensures leg s c.requires) in
-    let size = states-count leg s.rows in
     let bounds = within leg s c.args.seen.now c.requires in
-    let low = bounds.0 in
-    let high = bounds.1 in
-    let few = c.requires.sound.network.ticks in
-    omega (arith, same, size, low, high, few)
+    let same = ap length (c.deref.ensures.value ∙ c.in_ok-states.ensures leg s c.requires) in
+    omega (arith, same, states-count leg s.rows, bounds.0, bounds.1, c.requires.sound.network.ticks)
 
 pub returns : goal.returns
 returns c =

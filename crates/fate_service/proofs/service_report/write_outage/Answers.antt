@@ -8,27 +8,21 @@ use Rattle.fate_service.proofs.CountLaws.{carried-count}
 use Rattle.fate_service.proofs.OrderLaws.{at-ordered}
 use Rattle.fate_service.proofs.service_report.write_outage.Goals as goal
 
-pub losses-lost-requires-clause-few : goal.losses-lost-requires-clause-few
-losses-lost-requires-clause-few g c =
-    let same = ap length c.deref.ensures.value in
-    let few = carried-count (leg_of c.args.walk.now.script) c.args.walk.now.counts c.args.survey.now.landed
-    c.requires.seen.sound c.requires.survey.landed in
-    omega (arith, same, few)
-
-pub losses-lost-requires-clause-order : goal.losses-lost-requires-clause-order
-losses-lost-requires-clause-order g c =
-    subst (λ l. IsNonDecreasingBy (λ (f : CarriedFrame). f.at) l)
-    (sym (c.deref.ensures.value ∙ c.requires.survey.landed.carried))
-    (at-ordered (leg_of c.args.walk.now.script) c.args.walk.now.counts)
+pub losses-lost-requires : goal.losses-lost-requires
+losses-lost-requires g c = record {
+  few =
+      let few = carried-count (leg_of c.args.walk.now.script) c.args.walk.now.counts c.args.survey.now.landed
+      c.requires.seen.sound c.requires.survey.landed in
+      omega (arith, ap length c.deref.ensures.value, few);
+  order = subst (λ l. IsNonDecreasingBy (λ (f : CarriedFrame). f.at) l)
+      (sym (c.deref.ensures.value ∙ c.requires.survey.landed.carried))
+      (at-ordered (leg_of c.args.walk.now.script) c.args.walk.now.counts);
+}
 
 pub row_cause-cause-requires-clause-governed : goal.row_cause-cause-requires-clause-governed
 row_cause-cause-requires-clause-governed g c =
-    let own = c.requires.within in
     let low = reach (leg_of c.args.walk.now.script) c.args.walk.now.counts c.args.seen.now c.requires.seen in
-    omega (arith, own, low)
+    omega (arith, c.requires.within, low)
 
 pub row_cause-cause-requires-clause-known : goal.row_cause-cause-requires-clause-known
-row_cause-cause-requires-clause-known g c =
-    let own = c.requires.within in
-    let known = c.requires.seen.rows.known in
-    omega (arith, own, known)
+row_cause-cause-requires-clause-known g c = omega (arith, c.requires.within, c.requires.seen.rows.known)

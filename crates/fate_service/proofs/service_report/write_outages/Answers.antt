@@ -1,7 +1,7 @@
 -- An outage more; and all of them.
 use Rattle.std.proofs.Common.{◌≡◌, ℕ, ◌+◌, ◌<◌, ◌≤◌, ◌++◌, List, [], All, Option, length, drop, refl, sym, ◌∙◌, ap, subst}
 use Rattle.std.proofs.Common.{arith, append-nil, append_assoc}
-use Rattle.std.proofs.lemmas.List.{take_rest}
+use Rattle.std.proofs.lemmas.List.{at_drop_all, take_rest}
 use Rattle.text_got.specs.Told.{HasText}
 use Rattle.law_model.specs.Common.{leg_of, scenario_by}
 use Rattle.law_model.specs.declared.session_totals.Totals.{Totals}
@@ -13,7 +13,7 @@ use Rattle.fate_service.specs.Frames.{carried_of}
 use Rattle.fate_service.specs.Outages.{losses, next_first}
 use Rattle.fate_service.specs.ServiceText.{outage_text, outages_text}
 use Rattle.fate_service.proofs.OutageLaws.{Begins, survey-begins}
-use Rattle.fate_service.proofs.TextLaws.{outage-next, outage-end, text-more, text-whole}
+use Rattle.fate_service.proofs.TextLaws.{outage-next, text-more, text-whole}
 use Rattle.fate_service.proofs.service_report.write_outages.Goals as goal
 
 pub loop-i-init : goal.loop-i-init
@@ -31,11 +31,9 @@ write_outage-requires-clause-within g c =
     let i = c.loop-i.i in
     let begins : All (Begins s.rows) items = subst (All (Begins s.rows)) (sym c.requires.survey.outages)
     (survey-begins (leg_of c.args.walk.now.script) s.rows) in
-    let count = c.len-i-end.ensures in
-    let size = c.deref.ensures.len in
     let same = ap length c.deref.ensures.value in
     let test = c.loop-i-test.true in
-    let low : i < length items = omega (arith, count, size, same, test) in
+    let low : i < length items = omega (arith, c.len-i-end.ensures, c.deref.ensures.len, same, test) in
     subst (Begins s.rows) (sym c.index.ensures) (begins i c.index.result.now low)
 
 pub loop-i-preserved : goal.loop-i-preserved
@@ -49,11 +47,9 @@ loop-i-preserved g c =
     let carried : List CarriedFrame = carried_of (ended_of leg s) in
     let outage = c.index.result.now in
     let end = c.first_of-end.result in
-    let count = c.len-i-end.ensures in
-    let size = c.deref.ensures.len in
     let same = ap length c.deref.ensures.value in
     let test = c.loop-i-test.true in
-    let low : i < length items = omega (arith, count, size, same, test) in
+    let low : i < length items = omega (arith, c.len-i-end.ensures, c.deref.ensures.len, same, test) in
     let own : List ℕ = outage_text outage (losses carried outage.first end) (cause outage.first) in
     let last : end ≡ next_first s.rows (drop (i + 1) items) = c.first_of-end.ensures
     ∙ ap (next_first c.totals-rows.result.taken)
@@ -69,6 +65,7 @@ loop-i-preserved g c =
     )
 
 pub returns : goal.returns
+unfolding outages_text
 returns g c = λ start before has.
     let leg = leg_of c.args.walk.now.script in
     let s = c.args.walk.now.counts in
@@ -82,5 +79,5 @@ returns g c = λ start before has.
     subst (HasText g.K.ByteSink.written g.K.ByteSink.faults c.loop-i.got start)
     (ap (λ l. before ++ l) (sym (append-nil done)
     ∙ text-whole done (outages_text cause carried s.rows (drop i items)) [] (outages_text cause carried s.rows items)
-    (outage-end cause carried s.rows items i high) c.loop-i.invariant.1))
+    (at_drop_all (outages_text cause carried s.rows) items i high) c.loop-i.invariant.1))
     (c.loop-i.invariant.2 start before has)

@@ -18,25 +18,21 @@ use Rattle.fate_service.proofs.CountLaws.{OfferedEarly, offered-soon, carried-co
 use Rattle.fate_service.proofs.TextLaws.{five-texts}
 use Rattle.fate_service.proofs.service_report.write_service.Goals as goal
 
-pub told_ticks-told-requires-clause-few : goal.told_ticks-told-requires-clause-few
-told_ticks-told-requires-clause-few g c =
-    let leg = leg_of c.args.walk.now.script in
-    let ticks = ap (λ (t : Totals). t.ticks) c.totals-totals.ensures in
-    let bounds = within leg c.args.walk.now.counts c.args.seen.now c.requires.seen in
-    let high = bounds.1 in
-    let few = c.requires.seen.sound.network.ticks in
-    omega (arith, ticks, high, few)
-
-pub told_ticks-told-requires-clause-early : goal.told_ticks-told-requires-clause-early
-told_ticks-told-requires-clause-early g c =
-    subst (All (OfferedEarly 1000000)) (sym (c.deref.ensures.value ∙ c.requires.survey.landed.offered))
-    (offered-soon (leg_of c.args.walk.now.script) c.args.walk.now.counts c.requires.seen.sound)
+pub told_ticks-told-requires : goal.told_ticks-told-requires
+told_ticks-told-requires g c = record {
+  few =
+      let leg = leg_of c.args.walk.now.script in
+      let ticks = ap (λ (t : Totals). t.ticks) c.totals-totals.ensures in
+      let bounds = within leg c.args.walk.now.counts c.args.seen.now c.requires.seen in
+      omega (arith, ticks, bounds.1, c.requires.seen.sound.network.ticks);
+  early = subst (All (OfferedEarly 1000000)) (sym (c.deref.ensures.value ∙ c.requires.survey.landed.offered))
+      (offered-soon (leg_of c.args.walk.now.script) c.args.walk.now.counts c.requires.seen.sound);
+}
 
 pub write_members-requires : goal.write_members-requires
 write_members-requires g c =
-    let taken = ap (λ (t : Totals). t.taken) c.totals-totals.ensures in
     let low = reach (leg_of c.args.walk.now.script) c.args.walk.now.counts c.args.seen.now c.requires.seen in
-    omega (arith, taken, low)
+    omega (arith, ap (λ (t : Totals). t.taken) c.totals-totals.ensures, low)
 
 pub write_delays-requires : goal.write_delays-requires
 write_delays-requires g c =

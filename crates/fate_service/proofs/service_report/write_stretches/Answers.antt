@@ -30,13 +30,11 @@ loop-first-preserved g c =
     let left = c.loop-first.invariant.1.1 in
     let within = c.requires.interval in
     let some = within.0 in
-    let most = within.1 in
     let test = c.loop-first-test.true in
-    let few = c.requires.told in
     let next = span-next left interval first told some test c.loop-first.invariant.1.2 in
     let text : ℕ → List ℕ = λ (n : ℕ). stretch_text first n (stretch_of known first n) in
     let own : List ℕ = text (min told (first + interval)) in (
-      omega (arith, test, few, most),
+      omega (arith, test, c.requires.told, within.1),
       (
         done ++ own,
         next.0,

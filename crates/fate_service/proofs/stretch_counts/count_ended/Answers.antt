@@ -2,10 +2,12 @@
 use Rattle.std.proofs.Common.{◌+◌, ◌<◌, false, drop, slice_index_or, sym, ◌∙◌, ap, subst}
 use Rattle.fate_service.specs.declared.landed_frames.CarriedFrame.{CarriedFrame}
 use Rattle.fate_service.specs.Stretches.{ended_on}
-use Rattle.fate_service.proofs.FoldLaws.{ended-next, ended-end, IsFew, carried-more}
+use Rattle.std.proofs.lemmas.List.{at_drop_more, at_drop_all}
+use Rattle.fate_service.proofs.FoldLaws.{IsFew, carried-more}
 use Rattle.fate_service.proofs.stretch_counts.count_ended.Goals as goal
 
 pub loop-frame-preserved : goal.loop-frame-preserved
+unfolding ended_on
 loop-frame-preserved c =
     let frames = c.args.frames.now in
     let i = c.loop-frame.frame-index in
@@ -16,7 +18,7 @@ loop-frame-preserved c =
     subst (IsFew (i + 1)) (sym c.add.ensures.all) (carried-more c.loop-frame.ended own i
     (c.loop-frame.invariant.1, c.loop-frame.invariant.2, c.loop-frame.invariant.3, c.loop-frame.invariant.4) small) in (
       ap (λ t. ended_on t (drop (i + 1) frames)) c.add.ensures.all
-          ∙ sym (ended-next c.loop-frame.ended frames i none c.loop-frame-test.true) ∙ c.loop-frame.invariant.0,
+          ∙ sym (at_drop_more (ended_on c.loop-frame.ended) frames i none c.loop-frame-test.true) ∙ c.loop-frame.invariant.0,
       few.0,
       few.1,
       few.2,
@@ -24,6 +26,7 @@ loop-frame-preserved c =
     )
 
 pub returns : goal.returns
+unfolding ended_on
 returns c =
-    sym (ended-end c.loop-frame.ended c.args.frames.now c.loop-frame.frame-index c.loop-frame-test.false)
+    sym (at_drop_all (ended_on c.loop-frame.ended) c.args.frames.now c.loop-frame.frame-index c.loop-frame-test.false)
     ∙ c.loop-frame.invariant.0

@@ -16,44 +16,38 @@ use Rattle.fate_service.proofs.OutageLaws.{states-count}
 use Rattle.fate_service.proofs.TextLaws.{same-stretch}
 use Rattle.fate_service.proofs.stretch_counts.count_stretch.Goals as goal
 
-pub came_in-requires-clause-few : goal.came_in-requires-clause-few
-came_in-requires-clause-few c =
-    let same = ap length c.deref.ensures.value in
-    let few = offered-count (leg_of c.args.walk.now.script) c.args.walk.now.counts c.args.landed.now c.requires.seen.sound
-    c.requires.landed in
-    omega (arith, same, few)
+pub came_in-requires : goal.came_in-requires
+came_in-requires c = record {
+  few =
+      let few = offered-count (leg_of c.args.walk.now.script) c.args.walk.now.counts c.args.landed.now c.requires.seen.sound
+      c.requires.landed in
+      omega (arith, ap length c.deref.ensures.value, few);
+  order = subst (λ l. IsNonDecreasingBy (λ (f : OfferedFrame). f.due) l)
+      (sym (c.deref.ensures.value ∙ c.requires.landed.offered))
+      (offered-ordered (leg_of c.args.walk.now.script) c.args.walk.now.counts c.requires.seen.sound);
+}
 
-pub came_in-requires-clause-order : goal.came_in-requires-clause-order
-came_in-requires-clause-order c =
-    subst (λ l. IsNonDecreasingBy (λ (f : OfferedFrame). f.due) l)
-    (sym (c.deref.ensures.value ∙ c.requires.landed.offered))
-    (offered-ordered (leg_of c.args.walk.now.script) c.args.walk.now.counts c.requires.seen.sound)
-
-pub ended_in-requires-clause-few : goal.ended_in-requires-clause-few
-ended_in-requires-clause-few c =
-    let same = ap length c.deref-2.ensures.value in
-    let few = carried-count (leg_of c.args.walk.now.script) c.args.walk.now.counts c.args.landed.now c.requires.seen.sound
-    c.requires.landed in
-    omega (arith, same, few)
-
-pub ended_in-requires-clause-order : goal.ended_in-requires-clause-order
-ended_in-requires-clause-order c =
-    subst (λ l. IsNonDecreasingBy (λ (f : CarriedFrame). f.last) l)
-    (sym (c.deref-2.ensures.value ∙ c.requires.landed.carried))
-    (last-ordered (leg_of c.args.walk.now.script) c.args.walk.now.counts)
+pub ended_in-requires : goal.ended_in-requires
+ended_in-requires c = record {
+  few =
+      let few = carried-count (leg_of c.args.walk.now.script) c.args.walk.now.counts c.args.landed.now c.requires.seen.sound
+      c.requires.landed in
+      omega (arith, ap length c.deref-2.ensures.value, few);
+  order = subst (λ l. IsNonDecreasingBy (λ (f : CarriedFrame). f.last) l)
+      (sym (c.deref-2.ensures.value ∙ c.requires.landed.carried))
+      (last-ordered (leg_of c.args.walk.now.script) c.args.walk.now.counts);
+}
 
 pub capacity_in-requires : goal.capacity_in-requires
 capacity_in-requires c =
-    let taken = ap (λ (t : Totals). t.taken) c.totals-totals.ensures in
     let low = reach (leg_of c.args.walk.now.script) c.args.walk.now.counts c.args.seen.now c.requires.seen in
-    omega (arith, taken, low)
+    omega (arith, ap (λ (t : Totals). t.taken) c.totals-totals.ensures, low)
 
 pub peak_in-requires-clause-few : goal.peak_in-requires-clause-few
 peak_in-requires-clause-few c =
-    let same = ap length c.deref-3.ensures.value in
     let few = accepted-count (leg_of c.args.walk.now.script) c.args.walk.now.counts c.args.landed.now
     c.requires.seen.sound c.requires.landed in
-    omega (arith, same, few)
+    omega (arith, ap length c.deref-3.ensures.value, few)
 
 pub peak_in-requires-clause-order : goal.peak_in-requires-clause-order
 peak_in-requires-clause-order c =
@@ -64,13 +58,9 @@ pub dark_in-requires : goal.dark_in-requires
 dark_in-requires c =
     let leg = leg_of c.args.walk.now.script in
     let s = c.args.walk.now.counts in
-    let same = ap length c.requires.states in
-    let size = states-count leg s.rows in
     let bounds = within leg s c.args.seen.now c.requires.seen in
-    let low = bounds.0 in
-    let high = bounds.1 in
     let few = c.requires.seen.sound.network.ticks in
-    omega (arith, same, size, low, high, few)
+    omega (arith, ap length c.requires.states, states-count leg s.rows, bounds.0, bounds.1, few)
 
 pub returns : goal.returns
 returns c =

@@ -2,8 +2,5 @@
 use Rattle.fate_walks.proofs.WalkGfpLaws.HeaderLaws.{frames-carried, header-sent}
 use Rattle.fate_walks.proofs.walk_gfp.carried_law.Goals as goal
 
-pub returns-clause-frames : goal.returns-clause-frames
-returns-clause-frames c = frames-carried
-
-pub returns-clause-header : goal.returns-clause-header
-returns-clause-header c = header-sent
+pub returns : goal.returns
+returns c = record { frames = frames-carried; header = header-sent }

@@ -2,14 +2,12 @@
 use Rattle.law_service.proofs.BucketLaws.{bucket-refused, bucket-backlog, bucket-delay}
 use Rattle.law_service.proofs.client_within_a_bucket.bucket_law.Goals as goal
 
-pub returns-clause-accepted : goal.returns-clause-accepted
-returns-clause-accepted c bucket leg from members count item offer keeps at low high =
-    bucket-refused bucket leg from members keeps count item offer at low high
-
-pub returns-clause-backlog : goal.returns-clause-backlog
-returns-clause-backlog c bucket leg from members t keeps low high =
-    bucket-backlog bucket leg from members keeps t low high
-
-pub returns-clause-delay : goal.returns-clause-delay
-returns-clause-delay c bucket leg from members n rows placed keeps one low enough high =
-    bucket-delay bucket leg from members keeps n placed rows one low enough high
+pub returns : goal.returns
+returns c = record {
+  accepted = λ bucket leg from members count item offer keeps at low high.
+      bucket-refused bucket leg from members keeps count item offer at low high;
+  backlog = λ bucket leg from members t keeps low high.
+      bucket-backlog bucket leg from members keeps t low high;
+  delay = λ bucket leg from members n rows placed keeps one low enough high.
+      bucket-delay bucket leg from members keeps n placed rows one low enough high;
+}

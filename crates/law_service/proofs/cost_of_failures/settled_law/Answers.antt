@@ -2,8 +2,8 @@
 use Rattle.law_service.proofs.CostOfFailuresLaws.SettledLaws.{settled-still, unchanged-still}
 use Rattle.law_service.proofs.cost_of_failures.settled_law.Goals as goal
 
-pub returns-clause-still : goal.returns-clause-still
-returns-clause-still c leg from horizon k none low high = unchanged-still leg from horizon none k low high
-
-pub returns-clause-settled : goal.returns-clause-settled
-returns-clause-settled c leg from horizon k settled low high = settled-still leg from horizon settled k low high
+pub returns : goal.returns
+returns c = record {
+  still = λ leg from horizon k none low high. unchanged-still leg from horizon none k low high;
+  settled = λ leg from horizon k settled low high. settled-still leg from horizon settled k low high;
+}

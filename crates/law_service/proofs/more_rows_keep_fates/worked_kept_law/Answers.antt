@@ -6,17 +6,7 @@ use Rattle.law_loss.specs.Worked.{worked_stream, worked_rows}
 use Rattle.fate_engine.specs.Common.{row_from, spoiled_from, fate_among}
 use Rattle.law_service.proofs.more_rows_keep_fates.worked_kept_law.Goals as goal
 
-pub returns-clause-first : goal.returns-clause-first
+pub returns : goal.returns
 unfolding worked_rows worked_stream cut core_header octets_of xors bits number_behind divide add_front scramble_on
     pli_of head hec_of header_with hunt_within segments_on extents row_from spoiled_from fate_among
-returns-clause-first c = refl
-
-pub returns-clause-next : goal.returns-clause-next
-unfolding worked_rows worked_stream cut core_header octets_of xors bits number_behind divide add_front scramble_on
-    pli_of head hec_of header_with hunt_within segments_on extents row_from spoiled_from fate_among
-returns-clause-next c = refl
-
-pub returns-clause-last : goal.returns-clause-last
-unfolding worked_rows worked_stream cut core_header octets_of xors bits number_behind divide add_front scramble_on
-    pli_of head hec_of header_with hunt_within segments_on extents row_from spoiled_from fate_among
-returns-clause-last c = refl
+returns c = record { first = refl; next = refl; last = refl }

@@ -34,17 +34,14 @@ two_lines-plan = record {
   lag = omega arith;
 }
 
-pub returns-clause-keeps : goal.returns-clause-keeps
-returns-clause-keeps c = record {
-  is_plan = two_lines-plan;
-  slowest = record { line = 1; path = fine 41 2; there = refl; is = refl };
-  lag = omega arith;
+pub returns : goal.returns
+unfolding after_rounds run held full frame_dues command_dues pop pop_lines carries_from
+returns c = record {
+  keeps = record {
+    is_plan = two_lines-plan;
+    slowest = record { line = 1; path = fine 41 2; there = refl; is = refl };
+    lag = omega arith;
+  };
+  rounds = refl;
+  stalls = refl;
 }
-
-pub returns-clause-rounds : goal.returns-clause-rounds
-unfolding after_rounds run held full frame_dues command_dues pop pop_lines carries_from
-returns-clause-rounds c = refl
-
-pub returns-clause-stalls : goal.returns-clause-stalls
-unfolding after_rounds run held full frame_dues command_dues pop pop_lines carries_from
-returns-clause-stalls c = refl

@@ -8,8 +8,7 @@ pub returns-in-Some : goal.returns-in-Some
 returns-in-Some c =
     let list = c.args.windows.now in
     let from = c.args.from in
-    let passed = c.partition_point-passed.ensures in
-    let point = passed.partitioned (λ window. nat_le window.end from)
+    let point = c.partition_point-passed.ensures.partitioned (λ window. nat_le window.end from)
     (always_returns_same _ _ _ (λ a r f k. search rules)) (parted list from c.requires.apart) in
     some-tells list from c.args.count c.partition_point-passed.result c.in-Some.window.now c.requires.apart
     c.requires.some point c.in-Some.ensures.value
@@ -18,7 +17,6 @@ pub returns-in-None : goal.returns-in-None
 returns-in-None c =
     let list = c.args.windows.now in
     let from = c.args.from in
-    let passed = c.partition_point-passed.ensures in
-    let point = passed.partitioned (λ window. nat_le window.end from)
+    let point = c.partition_point-passed.ensures.partitioned (λ window. nat_le window.end from)
     (always_returns_same _ _ _ (λ a r f k. search rules)) (parted list from c.requires.apart) in
     nothing-tells list from c.args.count c.partition_point-passed.result point c.in-None.ensures.value

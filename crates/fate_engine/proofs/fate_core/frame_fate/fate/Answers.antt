@@ -11,31 +11,24 @@ returns-then-place-to c = λ scenario cells stream rows are is stands.
     (c.in-Some.ensures.sides ∙ ap (λ v. slice_get v.sent c.args.frame) is) c.in-Some.ensures.some
     (let place = c.place.ensures scenario cells are in
     let count : c.rows.result ≡ rows = c.rows.ensures ∙ stands.count ∙ rows-count scenario cells rows in
-    let same = ap (place_of scenario cells) count in
-    omega (arith, place, same, c.if-place-to.true))
+    omega (arith, place, ap (place_of scenario cells) count, c.if-place-to.true))
 
 pub returns-in_default-row_of : goal.returns-in_default-row_of
 returns-in_default-row_of c = λ scenario cells stream rows are is stands.
     absurd (
-    let place = c.place.ensures scenario cells are in
-    let count = c.rows.ensures in
     let up = place-up scenario cells c.rows.result (16 * length c.args.packets.now.active + 24)
-    (let few = c.requires in omega (arith, few, count)) in
+    (let few = c.requires in omega (arith, few, c.rows.ensures)) in
     let beyond = c.in_default-row_of.ensures.beyond scenario cells are in
-    let some = c.in-Some.ensures.some in
-    omega (arith, place, up, beyond, some, c.if-place-to.false)
+    omega (arith, c.place.ensures scenario cells are, up, beyond, c.in-Some.ensures.some, c.if-place-to.false)
     )
 
 pub returns-in_default-row_of-2 : goal.returns-in_default-row_of-2
 returns-in_default-row_of-2 c = λ scenario cells stream rows are is stands.
     absurd (
-    let place = c.place.ensures scenario cells are in
-    let count = c.rows.ensures in
     let up = place-up scenario cells c.rows.result (16 * length c.args.packets.now.active + 24)
-    (let few = c.requires in omega (arith, few, count)) in
+    (let few = c.requires in omega (arith, few, c.rows.ensures)) in
     let beyond = c.in_default-row_of-2.ensures.beyond scenario cells are in
-    let some = c.in-Some.ensures.some in
-    omega (arith, place, up, beyond, some, c.if-place-to.false)
+    omega (arith, c.place.ensures scenario cells are, up, beyond, c.in-Some.ensures.some, c.if-place-to.false)
     )
 
 pub returns : goal.returns

@@ -18,8 +18,7 @@ returns g c = λ all are start before has.
       frames = ended.frames;
       got = ended.totals.got;
       lost = ended.totals.lost;
-      waits =
-          ended.totals.waits;
+      waits = ended.totals.waits;
       refused = ended.refused;
     } in
     let is = c.starts_true-starts.result in

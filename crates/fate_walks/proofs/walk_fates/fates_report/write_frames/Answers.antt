@@ -43,22 +43,22 @@ loop-frame-preserved g c =
           (c.loop-frame.invariant.2 start before has)),
     )
 
-pub returns-clause-text : goal.returns-clause-text
-returns-clause-text g c = λ start before has.
-    let script = c.args.walk.now.script in
-    let s = c.args.walk.now.counts in
-    let done = c.loop-frame.invariant.0 in
-    subst (HasText g.K.ByteSink.written g.K.ByteSink.faults c.loop-frame.got start)
-    (ap (λ l. before ++ flat_map ended_text l)
-    (frames-past (leg_of script) s c.loop-frame.cursor c.loop-frame.ended done c.loop-frame.invariant.1
-    c.in_default.ensures.none))
-    (c.loop-frame.invariant.2 start before has)
-
-pub returns-clause-counted : goal.returns-clause-counted
-returns-clause-counted g c =
-    let script = c.args.walk.now.script in
-    let s = c.args.walk.now.counts in
-    let done = c.loop-frame.invariant.0 in
-    subst (λ l. Counted l c.loop-frame.ended)
-    (frames-past (leg_of script) s c.loop-frame.cursor c.loop-frame.ended done c.loop-frame.invariant.1
-    c.in_default.ensures.none) c.loop-frame.invariant.1.counted
+pub returns : goal.returns
+returns g c = record {
+  text = λ start before has.
+      let script = c.args.walk.now.script in
+      let s = c.args.walk.now.counts in
+      let done = c.loop-frame.invariant.0 in
+      subst (HasText g.K.ByteSink.written g.K.ByteSink.faults c.loop-frame.got start)
+      (ap (λ l. before ++ flat_map ended_text l)
+      (frames-past (leg_of script) s c.loop-frame.cursor c.loop-frame.ended done c.loop-frame.invariant.1
+      c.in_default.ensures.none))
+      (c.loop-frame.invariant.2 start before has);
+  counted =
+      let script = c.args.walk.now.script in
+      let s = c.args.walk.now.counts in
+      let done = c.loop-frame.invariant.0 in
+      subst (λ l. Counted l c.loop-frame.ended)
+      (frames-past (leg_of script) s c.loop-frame.cursor c.loop-frame.ended done c.loop-frame.invariant.1
+      c.in_default.ensures.none) c.loop-frame.invariant.1.counted;
+}

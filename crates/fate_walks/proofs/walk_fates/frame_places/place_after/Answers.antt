@@ -9,8 +9,7 @@ pub overflow_add-row : goal.overflow_add-row
 overflow_add-row c =
     let few =
     few-ticks (leg_of c.args.walk.now.script) c.args.walk.now.counts c.requires.valid.sound c.requires.walked in
-    let made = c.requires.made in
-    omega (arith, few.1, made)
+    omega (arith, few.1, c.requires.made)
 
 pub returns-clause-low : goal.returns-clause-low
 returns-clause-low c =

@@ -16,8 +16,7 @@ pub row_cause-cause-requires-clause-governed : goal.row_cause-cause-requires-cla
 row_cause-cause-requires-clause-governed c =
     let few =
     few-rows (leg_of c.args.walk.now.script) c.args.walk.now.counts c.requires.valid.sound c.requires.walked in
-    let last = c.requires.last in
-    omega (arith, few.0, c.requires.seen.packets.steps, last)
+    omega (arith, few.0, c.requires.seen.packets.steps, c.requires.last)
 
 pub row_cause-cause-requires-clause-known : goal.row_cause-cause-requires-clause-known
 row_cause-cause-requires-clause-known c = let known = c.requires.seen.known in omega (arith, known)
@@ -26,50 +25,36 @@ pub row-requires : goal.row-requires
 row-requires c =
     let few =
     few-rows (leg_of c.args.walk.now.script) c.args.walk.now.counts c.requires.valid.sound c.requires.walked in
-    let last = c.requires.last in
     let size = causes-size (leg_of c.args.walk.now.script) c.args.row in
-    omega (arith, few.0, few.2, last, size, c.requires.seen.runs.count)
+    omega (arith, few.0, few.2, c.requires.last, size, c.requires.seen.runs.count)
 
 pub overflow_add-row : goal.overflow_add-row
 overflow_add-row c =
     let few =
     few-rows (leg_of c.args.walk.now.script) c.args.walk.now.counts c.requires.valid.sound c.requires.walked in
-    let last = c.requires.last in
-    omega (arith, few.0, few.2, last)
+    omega (arith, few.0, few.2, c.requires.last)
 
 pub place-end-requires : goal.place-end-requires
 place-end-requires c =
     let few =
     few-rows (leg_of c.args.walk.now.script) c.args.walk.now.counts c.requires.valid.sound c.requires.walked in
-    let last = c.requires.last in
-    omega (arith, few.0, c.in_ok-see_known.ensures.packets.steps, last)
+    omega (arith, few.0, c.in_ok-see_known.ensures.packets.steps, c.requires.last)
 
-pub row-requires-2-clause-rows : goal.row-requires-2-clause-rows
-row-requires-2-clause-rows c =
-    let few =
-    few-rows (leg_of c.args.walk.now.script) c.args.walk.now.counts c.requires.valid.sound c.requires.walked in
-    let last = c.requires.last in
-    let size = rows-size (leg_of c.args.walk.now.script) c.args.row in
-    omega (arith, few.0, few.2, last, size, c.requires.seen.segments.count)
-
-pub row-requires-2-clause-end : goal.row-requires-2-clause-end
-row-requires-2-clause-end c =
-    let script = c.args.walk.now.script in
-    let few = few-rows (leg_of script) c.args.walk.now.counts c.requires.valid.sound c.requires.walked in
-    let last = c.requires.last in
-    let low : c.args.row + 1 ≤ script.config.ticks = omega (arith, few.0, few.1, last) in
-    let is = c.place-end.ensures (scenario_of script) (session_of (leg_of script))
+pub row-requires-2 : goal.row-requires-2
+row-requires-2 c =
+    let leg = leg_of c.args.walk.now.script in
+    let rows = c.args.walk.now.counts.rows in
+    let sound = c.requires.valid.sound in
+    let few = few-rows leg c.args.walk.now.counts sound c.requires.walked in
+    let size = rows-size leg c.args.row in
+    let low : rows ≤ leg.config.ticks = omega (arith, few.0, few.1) in
+    let is = c.place-end.ensures (scenario_of c.args.walk.now.script) (session_of leg)
     c.in_ok-see_known.ensures.packets.are in
-    let most = place-low (leg_of script) (c.args.row + 1) c.requires.valid.sound low in
-    omega (arith, is, most)
-
-pub row-requires-2-clause-confirmed : goal.row-requires-2-clause-confirmed
-row-requires-2-clause-confirmed c =
-    let script = c.args.walk.now.script in
-    let few = few-rows (leg_of script) c.args.walk.now.counts c.requires.valid.sound c.requires.walked in
-    let low : c.args.walk.now.counts.rows ≤ script.config.ticks = omega (arith, few.0, few.1) in
-    mark-low (leg_of script) c.args.walk.now.counts.rows c.first_confirmed.result c.requires.valid.sound low
-    c.first_confirmed.ensures
+    record {
+      rows = omega (arith, few.0, few.2, c.requires.last, size, c.requires.seen.segments.count);
+      end = omega (arith, is, place-low leg (c.args.row + 1) sound (omega (arith, low, c.requires.last)));
+      confirmed = mark-low leg rows c.first_confirmed.result sound low c.first_confirmed.ensures;
+    }
 
 pub returns-clause-ok : goal.returns-clause-ok
 returns-clause-ok c =

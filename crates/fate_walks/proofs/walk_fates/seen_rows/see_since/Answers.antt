@@ -9,20 +9,16 @@ use Rattle.fate_walks.proofs.WalkFatesLaws.SeenLaws.{few-rows, sees-step, sees-s
 use Rattle.fate_walks.proofs.walk_fates.seen_rows.see_since.Goals as goal
 use Rattle.fate_walks.proofs.walk_fates.seen_rows.see_since.Goals.{then-is_step+in_ok-push, else-is_step}
 
-pub is_step-requires-clause-least : goal.is_step-requires-clause-least
-is_step-requires-clause-least c = let e = ap (λ (t : Totals). t.ticks) c.totals-totals.ensures in
-    let h = c.requires.least in omega (arith, e, h)
-
-pub is_step-requires-clause-most : goal.is_step-requires-clause-most
-is_step-requires-clause-most c = let e = ap (λ (t : Totals). t.ticks) c.totals-totals.ensures in
-    let h = c.requires.most in omega (arith, e, h)
+pub is_step-requires : goal.is_step-requires
+is_step-requires c =
+    let e = ap (λ (t : Totals). t.ticks) c.totals-totals.ensures in
+    record { least = omega (arith, e, c.requires.least); most = omega (arith, e, c.requires.most) }
 
 pub push-requires : goal.push-requires
 push-requires c =
     let few =
     few-rows (leg_of c.args.walk.now.script) c.args.walk.now.counts c.requires.valid.sound c.requires.walked in
-    let least = c.requires.least in
-    omega (arith, few.2, least, c.requires.seen.packets.steps)
+    omega (arith, few.2, c.requires.least, c.requires.seen.packets.steps)
 
 pub returns-then-totals-rows-clause-ok : goal.returns-then-totals-rows-clause-ok
 returns-then-totals-rows-clause-ok c =

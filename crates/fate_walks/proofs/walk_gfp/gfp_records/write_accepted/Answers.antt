@@ -8,8 +8,7 @@ use Rattle.fate_walks.proofs.walk_gfp.gfp_records.write_accepted.Goals as goal
 
 pub returns-in-Some : goal.returns-in-Some
 returns-in-Some g c start before has =
-    let script = c.args.walk.now.script in
-    let fate = fates_in (leg_of script) c.args.walk.now.counts.rows c.args.frame in
+    let fate = fates_in (leg_of c.args.walk.now.script) c.args.walk.now.counts.rows c.args.frame in
     let row : Some c.in-Some.row ≡ last_row fate = sym c.in-Some.is ∙ c.last_row.ensures
     ∙ ap last_row c.accepted_fate.ensures in
     subst (HasGfp g.K.ByteSink.written g.K.ByteSink.faults c.frame.new.self start)

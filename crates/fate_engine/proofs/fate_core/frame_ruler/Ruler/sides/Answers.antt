@@ -10,9 +10,7 @@ overflow_add-result-2 c =
     c.if-frame-self.false c.self.invariant.within c.index.ensures in
     let low = side-low 0 (map side_of (take c.self.inside.begun c.self.inside.frames.items)) c.self.inside.end
     c.args.frame (side_of c.index.result.now) c.self.invariant.order there in
-    let end = c.self.invariant.low in
-    let length = c.from.ensures in
-    omega (arith, low, end, length)
+    omega (arith, low, c.self.invariant.low, c.from.ensures)
 
 pub returns-clause-sides : goal.returns-clause-sides
 returns-clause-sides c =

@@ -31,9 +31,7 @@ low c =
     (length c.self.inside.packets.items) =
     ap (λ p. start_by p.size p.active (length p.active)) (sym c.self.view_is)
     ∙ ap (start_by c.self.inside.size (active_in c.self.inside.packets.items)) all in
-    let below = c.requires in
-    let ends = c.self.invariant.ends in
-    omega (arith, e, below, ends)
+    omega (arith, e, c.requires, c.self.invariant.ends)
 
 some : (c : goal.After-partition_point-begun) → 1 ≤ c.partition_point-begun.result
 some c = begun-some c.self.inside.size c.self.inside.packets.items c.self.inside.end c.self.invariant c.args.place
@@ -49,10 +47,7 @@ returns c =
     record {
       within = (
           let all = actives-length c.self.inside.size c.self.inside.packets.items c.self.inside.end c.self.invariant in
-          let length-view = ap (λ p. length p.active) view in
-          let one = some c in
-          let few = within c in
-          omega (arith, all, length-view, one, few)
+          omega (arith, all, ap (λ p. length p.active) view, some c, within c)
           );
       from = subst (λ p. start_by p.size p.active (i - 1) ≤ c.args.place) view
           (begun-low c.self.inside.size c.self.inside.packets.items c.self.inside.end c.self.invariant c.args.place i

@@ -8,9 +8,8 @@ use Rattle.fate_engine.proofs.fate_core.packet_rows.Packets.push.Goals as goal
 
 rows-few : (size lines : ℕ) → size < 2 ^ 16 → lines ≤ 128 → size * lines * 16 ≤ 134217728
 rows-few size lines small few =
-    let one = mul-le-mul_left size few in
     let two = mul-le-mul_right 128 (let le : size ≤ 65536 = omega arith in le) in
-    omega (arith, one, two)
+    omega (arith, mul-le-mul_left size few, two)
 
 pub overflow_add-self : goal.overflow_add-self
 overflow_add-self c =
@@ -21,17 +20,15 @@ overflow_add-self c =
     omega (arith, e, small)) few in
     let e : c.from.result * c.len.result * c.from-2.result ≡ c.from.result * c.len.result * 16 =
     ap (λ n. c.from.result * c.len.result * n) c.from-2.ensures in
-    let ends = c.self.invariant.ends in
-    omega (arith, low, own, e, ends)
+    omega (arith, low, own, e, c.self.invariant.ends)
 
 pub invariant_of-self : goal.invariant_of-self
 invariant_of-self c =
     let packet : Packet = record { lines = c.args.active; start = c.self.inside.end } in
     let more : length c.self.inside.packets.items < 65536 =
     (let few = c.requires in
-    let view = ap (λ p. length p.active) c.self.view_is in
     let all = actives-length c.self.inside.size c.self.inside.packets.items c.self.inside.end c.self.invariant in
-    omega (arith, few, view, all)) in
+    omega (arith, few, ap (λ p. length p.active) c.self.view_is, all)) in
     let octets : c.from.result * c.len.result * c.from-2.result ≡ c.self.inside.size * length c.args.active.items * 16 =
     (let one : c.from.result ≡ c.self.inside.size = c.from.ensures in
     let two : c.len.result ≡ length c.args.active.items = c.len.ensures.value in

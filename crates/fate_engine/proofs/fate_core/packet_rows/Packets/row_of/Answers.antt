@@ -1,6 +1,6 @@
 -- The row among those of its packet.
 use Rattle.std.proofs.Common.{◌≡◌, ℕ, suc, ◌+◌, ◌-◌, ◌*◌, ◌/◌, ◌<◌, ◌≤◌, List, length, Option, sym, ◌∙◌, ap, subst}
-use Rattle.std.proofs.Common.{arith}
+use Rattle.std.proofs.Common.{arith, rules}
 use Rattle.law_model.specs.Common.{Scenario, Told, place_of}
 use Rattle.fate_engine.specs.Common.{ArePackets, start_by, active_in}
 use Rattle.fate_engine.proofs.FateCoreLaws.PlaceLaws.{actives-length, row-place, end-place, Found, found, some-width, few-rows}
@@ -23,8 +23,7 @@ packet_at-k-requires c =
     (length c.self.inside.packets.items) =
     ap (λ p. start_by p.size p.active (length p.active)) (sym c.self.view_is)
     ∙ ap (start_by c.self.inside.size (active_in c.self.inside.packets.items)) all in
-    let ends = c.self.invariant.ends in
-    omega (arith, e, ends, c.if-place-self.false)
+    omega (arith, e, c.self.invariant.ends, c.if-place-self.false)
 
 -- ---- the packet that was found
 pub nonzero_div-row : goal.nonzero_div-row
@@ -51,12 +50,9 @@ overflow_cast-result-2 c = let low = rows c in omega (arith, low)
 
 pub overflow_add-result-2 : goal.overflow_add-result-2
 overflow_add-result-2 c =
-    let low = rows c in
-    let k = c.packet_at-k.ensures.within in
     let all = actives-length c.self.inside.size c.self.inside.packets.items c.self.inside.end c.self.invariant in
     let view = ap (λ p. length p.active) c.self.view_is in
-    let most = c.self.invariant.few in
-    omega (arith, low, k, all, view, most)
+    omega (arith, rows c, c.packet_at-k.ensures.within, all, view, c.self.invariant.few)
 
 -- ---- the place of its row
 placed : (c : goal.After-row_known-1) (scenario : Scenario) (cells : List (Option Told)) →
@@ -73,29 +69,20 @@ placed c scenario cells are q row small is =
 within-row : (x w : ℕ) → 0 < w → (x / w * w ≤ x) × (x < (x / w + 1) * w)
 within-row x w some = (omega arith, omega arith)
 
-pub returns-clause-from : goal.returns-clause-from
-returns-clause-from c = λ scenario cells are.
+pub returns : goal.returns
+returns c =
     let q : ℕ = (c.args.place - c.index-packet.result.now.start) / c.width.result in
     let low = rows c in
-    let all = placed c scenario cells are q (24 + c.packet_at-k.result * 16 + q) (omega (arith, low)) (omega arith) in
     let some = some-width (c.args.place - c.index-packet.result.now.start) c.width.result (at c).below in
-    let row = (within-row (c.args.place - c.index-packet.result.now.start) c.width.result some).0 in
-    let start = (at c).from in
-    omega (arith, all, row, start)
-
-pub returns-clause-below : goal.returns-clause-below
-returns-clause-below c = λ scenario cells are.
-    let q : ℕ = (c.args.place - c.index-packet.result.now.start) / c.width.result in
-    let low = rows c in
-    let all = placed c scenario cells are (q + 1) (suc (24 + c.packet_at-k.result * 16 + q)) (omega (arith, low))
-    (omega arith) in
-    let some = some-width (c.args.place - c.index-packet.result.now.start) c.width.result (at c).below in
-    let row = (within-row (c.args.place - c.index-packet.result.now.start) c.width.result some).1 in
-    let start = (at c).from in
-    omega (arith, all, row, start)
-
-pub returns-clause-governed : goal.returns-clause-governed
-returns-clause-governed c =
-    let low = rows c in
-    let within = c.packet_at-k.ensures.within in
-    omega (arith, low, within)
+    let row = within-row (c.args.place - c.index-packet.result.now.start) c.width.result some in
+    record {
+      from = λ scenario cells are.
+          let all = placed c scenario cells are q (24 + c.packet_at-k.result * 16 + q) (omega (arith, low)) (omega arith) in
+          omega (arith, all, row.0, (at c).from);
+      below = λ scenario cells are.
+          let all = placed c scenario cells are (q + 1) (suc (24 + c.packet_at-k.result * 16 + q)) (omega (arith, low))
+          (omega arith) in
+          omega (arith, all, row.1, (at c).from);
+      beyond = search rules;
+      governed = omega (arith, low, c.packet_at-k.ensures.within);
+    }

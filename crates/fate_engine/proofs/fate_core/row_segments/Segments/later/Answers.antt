@@ -51,12 +51,11 @@ returns-else-i-len-2 c = λ rows stands.
           ∙ slice_get_past (c.args.self.now.ended ++ []) i few))
       | else-i-len-2-via-else-i-len-2 w ↦ (
           let few = most c.args.self.now.ended c.args.self.now.last (is_told c.args.self.now) in
-          let n = c.len-else-i-len.ensures in
           let m = c.len.ensures in
           sym (ap (λ l. slice_get l i) all
           ∙ slice_get_past
           (c.args.self.now.ended ++ (if is_told c.args.self.now then c.args.self.now.last ∷ [] else [])) i
-          (grind (arith, few, ended, n, m, w.if-i-len-2.false, c.if-i-len.false))))
+          (grind (arith, few, ended, c.len-else-i-len.ensures, m, w.if-i-len-2.false, c.if-i-len.false))))
     ]
   where
     most : (ended : List RowSegment) (last : RowSegment) (b : Bool) →

@@ -11,16 +11,12 @@ returns-then-is_told c = λ rows stands.
     let all = ap length (later-kept c.args.self.now rows stands
     ∙ ap (λ b. c.args.self.now.ended ++ (if b then c.args.self.now.last ∷ [] else [])) told) in
     let sum = length-append c.args.self.now.ended (c.args.self.now.last ∷ []) in
-    let ended = ap (λ v. length v.ended) c.self.view_is in
-    let n = c.len-ended.ensures in
-    omega (arith, all, sum, ended, n)
+    omega (arith, all, sum, ap (λ v. length v.ended) c.self.view_is, c.len-ended.ensures)
 
 pub returns-else-is_told : goal.returns-else-is_told
 returns-else-is_told c = λ rows stands.
     let told : is_told c.args.self.now ≡ false = sym c.is_told.ensures ∙ c.if-is_told.false in
     let all = ap length (later-kept c.args.self.now rows stands
     ∙ ap (λ b. c.args.self.now.ended ++ (if b then c.args.self.now.last ∷ [] else [])) told) in
-    let sum = length-append c.args.self.now.ended [] in
     let ended = ap (λ v. length v.ended) c.self.view_is in
-    let n = c.len-ended.ensures in
-    omega (arith, all, sum, ended, n)
+    omega (arith, all, length-append c.args.self.now.ended [], ended, c.len-ended.ensures)

@@ -9,17 +9,13 @@ pub returns-else-self-items_of-clause-none : goal.returns-else-self-items_of-cla
 returns-else-self-items_of-clause-none c =
     let inv = c.loop-self.invariant in
     let item = ap (λ (cursor : Cursor). cursor.item) c.self.view_is in
-    let size = ap length c.items_of.ensures in
-    let test = c.if-self-items_of.false in
     past-before (leg_of c.args.walk.now.script) c.args.walk.now.counts c.args.self.now c.loop-self.self inv.1
     (past-end (leg_of c.args.walk.now.script) c.args.walk.now.counts c.loop-self.self inv.0
-    (inr (omega (arith, item, size, test))))
+    (inr (omega (arith, item, ap length c.items_of.ensures, c.if-self-items_of.false))))
 
 pub returns-after-loop-self-clause-none : goal.returns-after-loop-self-clause-none
 returns-after-loop-self-clause-none c =
     let inv = c.loop-self.invariant in
-    let left = ap (λ (cursor : Cursor). cursor.left) c.self.view_is in
-    let test = c.loop-self-test.false in
     past-before (leg_of c.args.walk.now.script) c.args.walk.now.counts c.args.self.now c.loop-self.self inv.1
     (past-end (leg_of c.args.walk.now.script) c.args.walk.now.counts c.loop-self.self inv.0
-    (inl (omega (arith, left, test))))
+    (inl (omega (arith, ap (λ (cursor : Cursor). cursor.left) c.self.view_is, c.loop-self-test.false))))
