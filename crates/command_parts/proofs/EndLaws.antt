@@ -34,9 +34,8 @@ if-some P (Some x) f = f x refl
 pub known-text : {S : Type 0} (source : Lent S) (P : List ℕ → Type 0) (text : List ℕ) → HasRead source text → P text →
     IfSome (source.octets source.old) P
 known-text source P text read holds =
-    if-some P (source.octets source.old)
-    (λ own is. subst P (same-text (source.octets source.old) (source.octets source.new) text own read.given.given
-    read.given.end is) holds)
+    if-some P (source.octets source.old) (λ own is. subst P
+    (same-text _ (source.octets source.new) text own read.given.given read.given.end is) holds)
 
 rises-one : (old new : ℕ) → new ≡ one_more old → Rises old new
 rises-one old new is = omega (arith, is)
@@ -339,8 +338,7 @@ module _ {S K E : Type 0} (source : Lent S) (out : Lent K) (notes : Lent E) (tas
 
   pub write-counted : Ends source out notes task s → IsQuietTask task → s ≡ 4 → FailedOnce out
   write-counted (cut is it) quiet at =
-      (quiet-part out (until it.middle notes) it.answer it.part
-      (quiet-answer source task it.answer it.meets quiet)).0
+      (quiet-part out (until it.middle notes) it.answer it.part (quiet-answer source task _ it.meets quiet)).0
   write-counted (talked own is it) quiet at = talk.cut-once source out notes own s it at
   write-counted ends quiet at = absurd (let is = within ends in omega (arith, is.0, is.1, at))
 
@@ -397,11 +395,9 @@ module _ {S K E : Type 0} (source : Lent S) (out : Lent K) (notes : Lent E) (ans
   complete (done is it) = if-some _ (source.octets source.old) (λ text known few good. inl is)
   complete (no_command is it) = absurd (let e = it.none in cc)
   complete (unread is it) = if-some _ (source.octets source.old)
-      (λ text known few good. inr (inr
-      (inl (rises-one (source.faults source.old) (source.faults source.new) it.failed))))
+      (λ text known few good. inr (inr (inl (rises-one (source.faults source.old) _ it.failed))))
   complete (cut is it) = if-some _ (source.octets source.old)
-      (λ text known few good. inr (inr
-      (inr (part-rises out notes it.middle it.answer (codes "fault: write failed\n") it.part it.told))))
+      (λ text known few good. inr (inr (inr (part-rises out notes it.middle it.answer _ it.part it.told))))
   complete (refused why is it) =
       known-text source _ it.meets.0 it.meets.1 (λ few good. absurd (subst IsGood it.meets.2 good))
   complete (beyond is it) =
@@ -428,8 +424,7 @@ module _ {S K E : Type 0} (source : Lent S) (out : Lent K) (notes : Lent E) (ans
       WritesPart out (until middle notes) answer × IsTold (since middle notes) (codes "fault: write failed\n")
   made-part ends at =
       let it = is-cut source out notes (makes answer) s ends (λ never. never) at in
-      let P : Answer → Type 0 = λ answer. WritesPart out (until it.middle notes) answer in
-      (it.middle, subst P (sym it.meets.1) it.part, it.told)
+      (it.middle, subst (WritesPart out (until it.middle notes)) (sym it.meets.1) it.part, it.told)
 
   pub complete-made : Ends source out notes (makes answer) s → IsGood answer
       → (s ≡ 0) ⊎ ((s ≡ 7) ⊎ (Rises (out.faults out.old) (out.faults out.new) ⊎ Rises (notes.faults notes.old)
@@ -447,13 +442,11 @@ module _ {S K E : Type 0} (source : Lent S) (out : Lent K) (notes : Lent E) (ans
 
   -- a text that is too long is not written
   pub made-beyond : Ends source out notes (makes answer) s → answer ≡ exceeds → (s ≡ 7) ⊎ (s ≡ 8)
-  made-beyond (done is it) e = absurd
-      (let P : Answer → Type 0 = λ answer. WritesAll out notes answer in subst P (sym it.meets.1 ∙ e) it.written)
+  made-beyond (done is it) e = absurd (subst (WritesAll out notes) (sym it.meets.1 ∙ e) it.written)
   made-beyond (no_command is it) e = absurd (let f = it.none in cc)
   made-beyond (unread is it) e = absurd it.reads
-  made-beyond (cut is it) e = absurd
-      (let P : Answer → Type 0 = λ answer. WritesPart out (until it.middle notes) answer in subst P
-      (sym it.meets.1 ∙ e) it.part)
+  made-beyond (cut is it) e = absurd (subst (WritesPart out (until it.middle notes)) (sym it.meets.1 ∙ e)
+      it.part)
   made-beyond (refused why is it) e = absurd (let f : exceeds ≡ refuses why it.note = sym e ∙ it.meets.1 in cc)
   made-beyond (short is it) e = inl is
   made-beyond (too_long is it) e = inr is
@@ -484,8 +477,7 @@ module _ {S K E : Type 0} (source : Lent S) (out : Lent K) (notes : Lent E) (own
   as-talk (beyond is it) = absurd it.meets
   as-talk (talked other is it) =
       let same : other ≡ own = cc in
-      let P : Talk → Type 0 = λ talk. TalkEnds source out notes talk s in
-      subst P same it
+      subst (λ (talk : Talk). TalkEnds source out notes talk s) same it
 
   pub talk-done : Ends source out notes (talks own) s → s ≡ 0 → IfSome (source.octets source.old)
       (λ text. ((own.in_all text).end ≡ None) × Takes out (own.in_all text).text)

@@ -97,8 +97,7 @@ module _ {T K : Type 0} (Hears : T → Heard → Type 0) (written : K → Option
         lines = (let was = stands.listens.lines in
             omega (arith, count, was, length-append heard.lines (line ∷ [])));
       };
-      said = said_more written faults first old new earlier waited waits heard.said replied.text stands.said
-          replied.holds;
+      said = said_more written faults first old new _ waited waits _ replied.text stands.said replied.holds;
     };
   }
 
@@ -115,8 +114,7 @@ module _ {T K : Type 0} (Hears : T → Heard → Type 0) (written : K → Option
   ended_said first old new earlier waited waits heard (Ok text) before replied =
       let same : replied.text ≡ text = (let e = replied.is in cc) in
       let P : List ℕ → Type 0 = λ (t : List ℕ). IsSaid written faults first earlier new waits (heard.said ++ t) in
-      subst P same
-      (said_more written faults first old new earlier waited waits heard.said replied.text before replied.holds)
+      subst P same (said_more written faults first old new _ waited waits _ replied.text before replied.holds)
   ended_said first old new earlier waited waits heard (Err told) before replied =
       absurd (let e = replied.is in cc)
 
@@ -130,8 +128,7 @@ module _ {T K : Type 0} (Hears : T → Heard → Type 0) (written : K → Option
       (let e : told ≡ (it.why, it.note.items) = (let f = stops.0 in cc) in ap (λ t. Some (told_end t)) e, stops.1)
   ended_stops first new earlier waits heard (Ok text) Write stops =
       let same : stops.0 ≡ text = (let e = stops.1 in cc) in
-      let P : List ℕ → Type 0 = λ (t : List ℕ). IsCutShort written faults first earlier new (heard.said ++ t) in
-      subst P same stops.2
+      subst (λ (t : List ℕ). IsCutShort written faults first earlier new (heard.said ++ t)) same stops.2
   ended_stops first new earlier waits heard (Err told) Write stops = absurd (let e = stops.1 in cc)
   ended_stops first new earlier waits heard reply Memory stops = stops
 
@@ -221,9 +218,8 @@ module _ {T K : Type 0} (Hears : T → Heard → Type 0) (written : K → Option
       pub rest_long : 0 < length rest → Lacks 10 rest → is_long so_far.now rest ≡ true →
           StopsSaying written faults first earlier old waited (said_by (course_of octets heard)) TooLong
       rest_long some lacks over =
-          let P : Course → Type 0 =
-          λ (c : Course). StopsSaying written faults first earlier old waited (said_by c) TooLong in
-          subst P (sym (at_rest ∙ course_rest rest so_far.now lacks ∙ waits_long so_far.now rest some over))
+          subst (λ (c : Course). StopsSaying written faults first earlier old waited (said_by c) TooLong)
+          (sym (at_rest ∙ course_rest rest so_far.now lacks ∙ waits_long so_far.now rest some over))
           (refl, so_far.stands.said)
 
 -- ---- what was made

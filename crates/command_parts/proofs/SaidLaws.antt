@@ -46,10 +46,9 @@ module _ {K : Type 0} (written : K → Option (List ℕ)) (faults : K → ℕ) w
       Holds written faults old new waits waited →
       IsSaid written faults first earlier new waits text
   said_same first old new earlier waited waits text before more =
-      let P : List ℕ → Type 0 = λ (t : List ℕ). Holds written faults old new waits t in
       let Q : List ℕ → Type 0 = λ (t : List ℕ). IsSaid written faults first earlier new waits t in
-      subst Q (append-nil text)
-      (said_more first old new earlier waited waits text [] before (subst P (sym (append-nil waited)) more))
+      subst Q (append-nil text) (said_more first old new earlier waited waits text [] before
+      (subst (Holds written faults old new waits) (sym (append-nil waited)) more))
 
   -- a write failed before more was said
   pub said_cut : (first old new : K) (earlier waited text next : List ℕ) →
@@ -61,9 +60,8 @@ module _ {K : Type 0} (written : K → Option (List ℕ)) (faults : K → ℕ) w
       record {
         later = before.later ++ next;
         is = ap (λ (t : List ℕ). t ++ next) before.is ∙ append_assoc earlier before.later next;
-        part = subst P
-            (sym (append_assoc before.holds.put waited next) ∙ ap (λ (t : List ℕ). t ++ next) before.holds.all)
-            (AppendsPart-then written faults first old new before.holds.put (waited ++ next) before.holds.appends part);
+        part = subst P (sym (append_assoc before.holds.put waited next) ∙ ap (λ (t : List ℕ). t ++ next)
+            before.holds.all) (AppendsPart-then written faults first old new _ _ before.holds.appends part);
       }
 
   -- what waits is put
@@ -72,8 +70,7 @@ module _ {K : Type 0} (written : K → Option (List ℕ)) (faults : K → ℕ) w
       IsWritten written faults first earlier new text
   said_put first old new earlier waited text before puts =
       let all : IsSaid written faults first earlier new [] text =
-      said_same first old new earlier waited [] text before
-      (record { put = waited; appends = puts; all = append-nil waited }) in
+      said_same _ _ new _ _ [] _ before (record { put = waited; appends = puts; all = append-nil waited }) in
       let P : List ℕ → Type 0 = λ (t : List ℕ). Appends written faults first new t in
       record {
         later = all.later;
@@ -87,8 +84,7 @@ module _ {K : Type 0} (written : K → Option (List ℕ)) (faults : K → ℕ) w
   said_put_part first old new earlier waited text before part =
       let P : List ℕ → Type 0 = λ (t : List ℕ). AppendsPart written faults old new t in
       let Q : List ℕ → Type 0 = λ (t : List ℕ). IsCutShort written faults first earlier new t in
-      subst Q (append-nil text)
-      (said_cut first old new earlier waited text [] before (subst P (sym (append-nil waited)) part))
+      subst Q (append-nil text) (said_cut _ old new _ _ _ [] before (subst P (sym (append-nil waited)) part))
 
   -- a longer text is cut short too
   pub cut_longer : (first now : K) (earlier text more : List ℕ) →

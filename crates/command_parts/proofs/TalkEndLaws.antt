@@ -161,10 +161,9 @@ module _ {S K E : Type 0} (source : Lent S) (out : Lent K) (notes : Lent E) (tal
       (λ text. ((talk.in_all text).end ≡ None) × Takes out (talk.in_all text).text)
   all-said ends at =
       let it = (is-done ends at).0 in
-      if-known _ (source.octets source.old)
-      (λ own known. let P : List ℕ → Type 0 = λ text. ((talk.in_all text).end ≡ None)
-      × Takes out (talk.in_all text).text in
-      subst P (sym (text-whole _ _ it.text own it.given.given it.given.end known)) (it.whole, it.written))
+      if-known _ (source.octets source.old) (λ own known. subst
+      (λ (text : List ℕ). ((talk.in_all text).end ≡ None) × Takes out (talk.in_all text).text)
+      (sym (text-whole _ _ it.text own it.given.given it.given.end known)) (it.whole, it.written))
 
   pub complete : TalkEnds source out notes talk s → IsTalk talk → IfSome (source.octets source.old)
       (λ text. (talk.in_all text).end ≡ None → (s ≡ 0) ⊎ ((s ≡ 7)

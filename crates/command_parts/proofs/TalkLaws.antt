@@ -168,8 +168,7 @@ module _ {S K T : Type 0} (left : S → Option (List ℕ)) (faults : S → ℕ) 
       earlier = heard.said;
       later = cut.later;
       end = is.end;
-      talked = (let P : Said → Type 0 = λ (is : Said). HasTalked source own heard.said is in
-          subst P (ap (λ (t : List ℕ). said t is.end) cut.is) talked);
+      talked = (subst (HasTalked source own heard.said) (ap (λ (t : List ℕ). said t is.end) cut.is) talked);
       middle = o;
       first = going.writes;
       part = cut.part;
@@ -184,8 +183,7 @@ module _ {S K T : Type 0} (left : S → Option (List ℕ)) (faults : S → ℕ) 
       talked = (let P : Said → Type 0 = λ (is : Said). HasTalked source own heard.said is in
           subst P (ap (λ (e : Option TalkEnd). said is.text e) ends) talked);
       written = (let P : List ℕ → Type 0 = λ (t : List ℕ). Appends written breaks o0 last t in
-          subst P (sym writes.is)
-          (Appends-then written breaks o0 o last heard.said writes.later going.writes writes.appends));
+          subst P (sym writes.is) (Appends-then written breaks o0 o last _ _ going.writes writes.appends));
     }
 
     pub talk_stops_now : (source : Lent S) (last : K) (is : Said) (stop : Stop) → HasTalked source own heard.said is →
@@ -213,8 +211,7 @@ module _ {S K T : Type 0} (left : S → Option (List ℕ)) (faults : S → ℕ) 
         GivesTalk (lent left faults s0 new) (lent written breaks o0 last) own (λ _. Unit {0}) result
     closing new last piece (Ok ran) none given end quiet whole cut stops = record {
       ran = record {
-        all = on_ok_weaker ran.written
-            (λ it. talk_done_now new last piece none given end quiet it.0 it.1) whole;
+        all = on_ok_weaker ran.written (λ it. talk_done_now new last _ none given end quiet it.0 it.1) whole;
         part = on_err_weaker ran.written
             (λ it. talk_cut_now (lent left faults s0 new) last (closed heard rest)
             (talked_end new piece none given end quiet) it) cut;
@@ -238,16 +235,10 @@ module _ {S K T : Type 0} (left : S → Option (List ℕ)) (faults : S → ℕ) 
         (IsCutShort written breaks o heard.said last (closed heard octets).text)) →
         IfErr result (StopsSaid written breaks o heard.said last (closed heard octets)) →
         GivesTalk (lent left faults s0 new) (lent written breaks o0 last) own (λ _. Unit {0}) result
-    gives_closed {X} new last piece octets result none is given end quiet =
-        let nothing : piece ≡ [] = nil_from_length piece none in
+    gives_closed new last piece octets result none is given end quiet whole cut stops =
         let same : octets ≡ rest = nothing_more rest piece octets none is in
-        let P : List ℕ → Type 0 = λ (t : List ℕ). IfOk result (λ (own : Ran X). OnOk own.written
-        (((closed heard t).end ≡ None) × IsWritten written breaks o heard.said last (closed heard t).text)) →
-        IfOk result (λ (own : Ran X). OnErr own.written
-        (IsCutShort written breaks o heard.said last (closed heard t).text)) →
-        IfErr result (StopsSaid written breaks o heard.said last (closed heard t)) →
-        GivesTalk (lent left faults s0 new) (lent written breaks o0 last) own (λ _. Unit {0}) result in
-        subst P (sym same) (closing new last piece result nothing given end quiet)
+        closing new last piece result (nil_from_length piece none) given end quiet (rw same at whole) (rw same at cut)
+        (rw same at stops)
 
     -- a piece stopped it
     stopping : {X : Type 0} (new : S) (last : K) (piece : List ℕ) (result : Result (Ran X) Stop) →
@@ -279,12 +270,8 @@ module _ {S K T : Type 0} (left : S → Option (List ℕ)) (faults : S → ℕ) 
         × IsCutShort written breaks o heard.said last (said_by (course_of octets heard)).text) →
         IfErr result (StopsSaid written breaks o heard.said last (said_by (course_of octets heard))) →
         GivesTalk (lent left faults s0 new) (lent written breaks o0 last) own (λ _. Unit {0}) result
-    gives_stopped {X} new last piece octets result few is given quiet =
-        let P : List ℕ → Type 0 = λ (t : List ℕ). IfOk result (λ (own : Ran X). IsErr own.written
-        × IsCutShort written breaks o heard.said last (said_by (course_of t heard)).text) →
-        IfErr result (StopsSaid written breaks o heard.said last (said_by (course_of t heard))) →
-        GivesTalk (lent left faults s0 new) (lent written breaks o0 last) own (λ _. Unit {0}) result in
-        subst P (sym is) (stopping new last piece result few given quiet)
+    gives_stopped new last piece octets result few is given quiet cut stops =
+        stopping new last piece result few given quiet (rw is at cut) (rw is at stops)
 
     -- ---- the lines of a piece were heard
     module _ (new : S) (last out : K) (next : Listener T) (piece octets later waiting : List ℕ) (n : ℕ)
@@ -310,8 +297,7 @@ module _ {S K T : Type 0} (left : S → Option (List ℕ)) (faults : S → ℕ) 
           ∙ ap (λ (t : List ℕ). course_of t heard_to.now) (append-nil (drop n octets))
           ∙ course_rest (drop n octets) heard_to.now lacks ∙ waits_later in
           let P : List ℕ → Type 0 = λ (t : List ℕ). IsCutShort written breaks o heard.said last t in
-          talk_cut_now (lent left faults s0 new) last (said_by (course_of (rest ++ piece) heard))
-          (talked_piece new piece given quiet fits)
+          talk_cut_now (lent left faults s0 new) last _ (talked_piece new piece given quiet fits)
           (subst P (sym (ap (λ (t : List ℕ). (course_of t heard).heard.said) (sym is)
           ∙ ap (λ (c : Course). c.heard.said) at_)) cut)
 
@@ -319,8 +305,7 @@ module _ {S K T : Type 0} (left : S → Option (List ℕ)) (faults : S → ℕ) 
       pub goes_on_now : later ≡ drop n octets → IsWritten written breaks o heard.said last heard_to.now.said →
           IsGoing new last next later (all ++ piece) heard_to.now
       goes_on_now same writes =
-          let P : List ℕ → Type 0 = λ (t : List ℕ). IsGoing new last next t (all ++ piece) heard_to.now in
-          subst P (sym same) (record {
+          subst (λ (t : List ℕ). IsGoing new last next t (all ++ piece) heard_to.now) (sym same) (record {
             given = going.given ∙ ap (prepend_known all) given ∙ prepended all piece (left new);
             quiet = quiet ∙ going.quiet;
             goes_on = λ more.
@@ -333,6 +318,5 @@ module _ {S K T : Type 0} (left : S → Option (List ℕ)) (faults : S → ℕ) 
             lacks = lacks;
             listens = heard_to.stands.listens;
             writes = (let Q : List ℕ → Type 0 = λ (t : List ℕ). Appends written breaks o0 last t in
-                subst Q (sym writes.is)
-                (Appends-then written breaks o0 o last heard.said writes.later going.writes writes.appends));
+                subst Q (sym writes.is) (Appends-then _ breaks o0 o last _ _ going.writes writes.appends));
           })

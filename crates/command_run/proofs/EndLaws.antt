@@ -28,11 +28,10 @@ pub end-written : {K : Type 0} (written : K → Option (List ℕ)) (faults : K �
     → HasText written faults last start (before ++ refused_texts refusals ++ total_text totals))
     → HasText written faults last start (end_text script)
 end-written written faults first last start refusals totals script refused counted fresh rest =
-    let P : List (ℕ × Refusal) → Type 0 =
-    λ refusals. HasText written faults last start (refused_texts refusals ++ total_text totals) in
     let Q : Totals → Type 0 = λ totals. HasText written faults last start
     (refused_texts (refusals_among (leg_of script) (numbered 0 script.items)) ++ total_text totals) in
-    subst Q counted (subst P refused (rest start [] fresh))
+    subst Q counted (subst (λ (refusals : List (ℕ × Refusal)). HasText written faults last start
+    (refused_texts refusals ++ total_text totals)) refused (rest start [] fresh))
 
 -- the got lines and what follows them are the whole report
 whole-report : (script : Script) →
@@ -57,8 +56,7 @@ module _ {K : Type 0} (written : K → Option (List ℕ)) (faults : K → ℕ) (
 
   run-part : (old new : K) → AppendsPart written faults old new (got ++ end_text script) →
       AppendsPart written faults old new (final_report (leg_of script))
-  run-part old new stops = let P : List ℕ → Type 0 = λ text. AppendsPart written faults old new text in
-      subst P (whole-report script) stops
+  run-part old new stops = subst (AppendsPart written faults old new) (whole-report script) stops
 
   -- a fault comes in the rest
   pub run-got : (old middle new : K) →

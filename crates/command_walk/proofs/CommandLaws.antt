@@ -1,6 +1,6 @@
 -- What is known of a command by the words that it was, and of its task.
 use Rattle.std.proofs.Common.{◌≡◌, ◌<◌, ◌≤◌, ℕ, List, Option, Some, None, IfSome, Bool, true, false, ◌&&◌, nat_le, inl}
-use Rattle.std.proofs.Common.{inr, refl, subst, arith, if◌then◌else◌, map}
+use Rattle.std.proofs.Common.{inr, [], ◌∷◌, refl, subst, arith, if◌then◌else◌, map}
 use Rattle.std.specs.Prelude.{String, string_bytes, IsNone, nat_lt, length, drop, ◌==◌, bytes_eq, codes}
 use Rattle.std.specs.Option.{option_or}
 use Rattle.std.specs.declared.alloc.Global.{Global}
@@ -90,18 +90,6 @@ rate-fits (Some octets) None ticks number a b c = tt
 rate-fits None mbits ticks number a b c = tt
 
 -- ---- words
-walk-fits : (words : List (List ℕ)) → IfSome (walk_words words) Fits
-walk-fits words = if-fits (is_word (codes "walk") words) (Some Walk) tt
-
-trace-fits : (words : List (List ℕ)) → IfSome (trace_words words) Fits
-trace-fits words = if-fits (is_word (codes "trace") words) (Some Trace) tt
-
-fates-fits : (words : List (List ℕ)) → IfSome (fates_words words) Fits
-fates-fits words = if-fits (is_word (codes "fates") words) (Some Fates) tt
-
-check-fits : (words : List (List ℕ)) → IfSome (check_words words) Fits
-check-fits words = if-fits (is_word (codes "check") words) (Some Check) tt
-
 line-fits : (line : Option ℕ) → IfSome line (IsWithin 0 127) → IfSome (line_of line) Fits
 line-fits (Some line) within = within.1
 line-fits None within = tt
@@ -121,35 +109,11 @@ service-fits words =
     (interval_of (number_in 1 1000000 (word_at 1 words)))
     (interval-fits (number_in 1 1000000 (word_at 1 words)) (number-fits 1 1000000 (word_at 1 words)))
 
-capture-fits : (words : List (List ℕ)) → IfSome (capture_words words) Fits
-capture-fits words = if-fits (is_word (codes "capture") words) (Some Capture) tt
-
-gfp-fits : (words : List (List ℕ)) → IfSome (gfp_words words) Fits
-gfp-fits words = if-fits (is_word (codes "gfp") words) (Some Gfp) tt
-
-frames-fits : (words : List (List ℕ)) → IfSome (frames_words words) Fits
-frames-fits words = if-fits (is_word (codes "frames") words) (Some Frames) tt
-
-noise-fits : (words : List (List ℕ)) → IfSome (noise_words words) Fits
-noise-fits words = if-fits (is_word (codes "noise") words) (Some Noise) tt
-
-au4-fits : (words : List (List ℕ)) → IfSome (au4_words words) Fits
-au4-fits words = if-fits (is_word (codes "au4") words) (Some Au4) tt
-
-channels-fits : (words : List (List ℕ)) → IfSome (channels_words words) Fits
-channels-fits words = if-fits (is_word (codes "channels") words) (Some Channels) tt
-
-pair-fits : (words : List (List ℕ)) → IfSome (pair_words words) Fits
-pair-fits words = if-fits (is_word (codes "pair") words) (Some Pair) tt
-
 live-fits : (words : List (List ℕ)) → IfSome (live_words words) Fits
 live-fits words =
     let told = length words == 2 && (bytes_eq (word_at 0 words) (codes "live") && bytes_eq (word_at 1 words) (codes "trace")) in
     either-fits (is_word (codes "live") words) (Some (Live false)) (if told then Some (Live true) else None) tt
     (if-fits told (Some (Live true)) tt)
-
-decode-fits : (words : List (List ℕ)) → IfSome (decode_words words) Fits
-decode-fits words = if-fits (is_word (codes "decode") words) (Some Decode) tt
 
 make-fits : (words : List (List ℕ)) → IfSome (make_words words) Fits
 make-fits words =
@@ -176,47 +140,42 @@ stream-fits words =
     if-fits (nat_le 1 (length words) && bytes_eq (word_at 0 words) (codes "stream")) (numbers_in (drop 1 words))
     (numbers-fit (drop 1 words))
 
+word-fits : (name : List ℕ) (words : List (List ℕ)) (command : WalkCommand) → Fits command →
+    IfSome (if is_word name words then Some command else None) Fits
+word-fits name words command = if-fits (is_word name words) (Some command)
+
+-- the first that is there
+abbrev Fitting : Type 0
+Fitting = (f : Option WalkCommand) × IfSome f Fits
+
+abbrev or-any : Option WalkCommand → List Fitting → Option WalkCommand
+or-any f [] = f
+or-any f (g ∷ more) = or-any (option_or f g.0) more
+
+any-fits : (f : Option WalkCommand) → IfSome f Fits → (more : List Fitting) → IfSome (or-any f more) Fits
+any-fits f a [] = a
+any-fits f a (g ∷ more) = any-fits (option_or f g.0) (or-fits f g.0 a g.1) more
+
 named-fits : (words : List (List ℕ)) → IfSome (command_of words) Fits
 named-fits words =
-    let walks = walk_words words in
-    let traces = option_or walks (trace_words words) in
-    let fates = option_or traces (fates_words words) in
-    let checks = option_or fates (check_words words) in
-    let octets = option_or checks (h4_words words) in
-    let services = option_or octets (service_words words) in
-    let captures = option_or services (capture_words words) in
-    let gfps = option_or captures (gfp_words words) in
-    let frames = option_or gfps (frames_words words) in
-    let decodes = option_or frames (decode_words words) in
-    let noises = option_or decodes (noise_words words) in
-    let links = option_or noises (au4_words words) in
-    let channels = option_or links (channels_words words) in
-    let pairs = option_or channels (pair_words words) in
-    let lives = option_or pairs (live_words words) in
-    let makes = option_or lives (make_words words) in
-    or-fits makes (stream_words words)
-    (or-fits lives (make_words words)
-    (or-fits pairs (live_words words)
-    (or-fits channels (pair_words words)
-    (or-fits links (channels_words words)
-    (or-fits noises (au4_words words)
-    (or-fits decodes (noise_words words)
-    (or-fits frames (decode_words words)
-    (or-fits gfps (frames_words words)
-    (or-fits captures (gfp_words words)
-    (or-fits services (capture_words words)
-    (or-fits octets (service_words words)
-    (or-fits checks (h4_words words)
-    (or-fits fates (check_words words)
-    (or-fits traces (fates_words words)
-    (or-fits walks (trace_words words) (walk-fits words) (trace-fits words)) (fates-fits words)) (check-fits words))
-    (h4-fits words))
-    (service-fits words))
-    (capture-fits words))
-    (gfp-fits words))
-    (frames-fits words))
-    (decode-fits words)) (noise-fits words)) (au4-fits words))
-    (channels-fits words)) (pair-fits words)) (live-fits words)) (make-fits words)) (stream-fits words)
+    any-fits (walk_words words) (word-fits (codes "walk") words Walk tt)
+    ((trace_words words, word-fits (codes "trace") words Trace tt)
+    ∷ (fates_words words, word-fits (codes "fates") words Fates tt)
+    ∷ (check_words words, word-fits (codes "check") words Check tt)
+    ∷ (h4_words words, h4-fits words)
+    ∷ (service_words words, service-fits words)
+    ∷ (capture_words words, word-fits (codes "capture") words Capture tt)
+    ∷ (gfp_words words, word-fits (codes "gfp") words Gfp tt)
+    ∷ (frames_words words, word-fits (codes "frames") words Frames tt)
+    ∷ (decode_words words, word-fits (codes "decode") words Decode tt)
+    ∷ (noise_words words, word-fits (codes "noise") words Noise tt)
+    ∷ (au4_words words, word-fits (codes "au4") words Au4 tt)
+    ∷ (channels_words words, word-fits (codes "channels") words Channels tt)
+    ∷ (pair_words words, word-fits (codes "pair") words Pair tt)
+    ∷ (live_words words, live-fits words)
+    ∷ (make_words words, make-fits words)
+    ∷ (stream_words words, stream-fits words)
+    ∷ [])
 
 pub fits : (words : List (String Global)) (command : WalkCommand) → command_in words ≡ Some command → Fits command
 fits words command is =

@@ -93,15 +93,12 @@ module _ {K : Type 0} (written : K → Option (List ℕ)) (faults : K → ℕ) (
     pub all_decoded : Appends written faults old new line → Appends written faults start new (decoded_text octets)
     all_decoded put =
         let P : List ℕ → Type 0 = λ text. Appends written faults start new text in
-        subst P last (Appends-then written faults start old new (found_texts (packets_in (take i octets))) line
-        has.lines
-        put)
+        subst P last (Appends-then written faults start old new _ line has.lines put)
 
     pub end_part : AppendsPart written faults old new line → AppendsPart written faults start new (decoded_text octets)
     end_part stops =
         let P : List ℕ → Type 0 = λ text. AppendsPart written faults start new text in
-        subst P last (AppendsPart-then written faults start old new (found_texts (packets_in (take i octets))) line
-        has.lines stops)
+        subst P last (AppendsPart-then written faults start old new _ line has.lines stops)
 
 -- a prefix of the lines of fewer octets is one of the text of more
 lines_part : {K : Type 0} (written : K → Option (List ℕ)) (faults : K → ℕ) (octets more : List ℕ) (start now : K) →
@@ -114,8 +111,7 @@ lines_part written faults octets more start now part =
     let ends : List ℕ = end_text (length all) (length (packets_in all)) in
     let P : List ℕ → Type 0 = λ text. AppendsPart written faults start now (text ++ ends) in
     subst P (sym (ap found_texts stay.1 ∙ found_texts-append (packets_in octets) stay.0))
-    (AppendsPart-longer written faults start now (found_texts (packets_in octets) ++ found_texts stay.0) ends
-    (AppendsPart-longer written faults start now (found_texts (packets_in octets)) (found_texts stay.0) part))
+    (AppendsPart-longer _ _ start now _ ends (AppendsPart-longer _ _ start now _ (found_texts stay.0) part))
 
 pub stopped_at : {K : Type 0} (written : K → Option (List ℕ)) (faults : K → ℕ) (octets : List ℕ) (i : ℕ)
     (start now : K) → i < length octets →

@@ -96,13 +96,9 @@ module _ (script : Script) (line ticks : ℕ) (nibbles : List ℕ) (late : 9 ≤
   pub nibble-small : IsValid script → slice_index nibbles ((ticks - 1 - 8) % 16) < 16
   nibble-small valid =
       subst (λ (l : List ℕ). slice_index l ((ticks - 1 - 8) % 16) < 16) (sym own)
-      (packet_nibbles_below (forward_packet (table_in (leg_of script) (16 * k + 9)) line k)
-      (is-packet script line k valid) ((ticks - 1 - 8) % 16) 0 (omega arith))
+      (packet_nibbles_below _ (is-packet script line k valid) ((ticks - 1 - 8) % 16) 0 (omega arith))
 
 -- ---- one frame more
-pub octets-none : (script : Script) (line frames : ℕ) → frames ≡ 0 → [] ≡ h4_octets script line frames
-octets-none script line frames none = sym (ap (h4_octets script line) none)
-
 pub octets-more : (script : Script) (line frames made : ℕ) (octet : ℕ) → made ≡ frames + 1 →
     octet ≡ (sent_at (leg_of script) line (made - 1)).h4 →
     h4_octets script line frames ++ octet ∷ [] ≡ h4_octets script line made

@@ -84,8 +84,7 @@ one-line n octets part rest some small =
     let first : lines ((line ++ codes "\n") ++ rest) ≡ line ∷ lines rest =
     lines_cut ((line ++ codes "\n") ++ rest) line rest line (lacks 10 line (omega arith) high)
     (append_assoc line (codes "\n") rest) (sym (no-return line high)) in
-    one_part n octets (octets ++ part) part (lines ((line ++ codes "\n") ++ rest)) line (lines rest) first
-    (digits-said part some small) refl
+    one_part n octets (octets ++ part) part _ line (lines rest) first (digits-said part some small) refl
 
 -- ---- all lines
 small-none : IsBytes []

@@ -58,8 +58,7 @@ truth : (lines : List ℕ) (ticks rows : ℕ) (all : List Ended) (starts : Bool)
     EndsTrue (lines ++ fates_end ticks rows all starts) → starts ≡ true
 truth lines ticks rows all true ends = refl
 truth lines ticks rows all false ends =
-    absurd (apart (third (lines ++ fates_end ticks rows all false)) (ends-false lines ticks rows all)
-    (ap third ends.1 ∙ third-true ends.0))
+    absurd (apart _ (ends-false lines ticks rows all) (ap third ends.1 ∙ third-true ends.0))
 
 -- ---- the walk
 marks-true : (leg : Leg) (s : Counts) → EndsTrue (fates_text leg s) →

@@ -196,8 +196,7 @@ module _ {Out E : Type 0} (stands_for : Out → Start → List (List ℕ) → Ty
         rows = walk.counts.rows;
         low = omega arith;
         gives = stands;
-        lines = subst Q (sym failed) (subst P (sym longer)
-            (appends-some written faults first notes (decisions_text walk.script ticks) more lines));
+        lines = subst Q (sym failed) (subst P (sym longer) (appends-some _ faults first notes _ more lines));
       }
 
   -- or one on the notes

@@ -48,10 +48,9 @@ follows-more : (old : Progress) (first : Bool) (octets : List ℕ) (ended : List
     Follows (holding old phase next area) first (octets ++ more) ended settled before (header ++ (come ++ more))
     (come ++ more)
 follows-more old first octets ended settled before header come more phase next area run passes = record {
-  leaves = subst (λ last. Leaves head (reader old.corrects) first (octets ++ more) ended (running settled before last))
-      (append_assoc header come more)
-      (Leaves-longer head (reader old.corrects) first octets ended (running settled before
-      (header ++ come)) more run.leaves);
+  leaves = subst (λ last. Leaves head (reader old.corrects) first (octets ++ more) ended
+      (running settled before last)) (append_assoc header come more)
+      (Leaves-longer head (reader old.corrects) first octets ended _ more run.leaves);
   given = subst (λ all. descrambler.DescramblerStands next settled all) (append_assoc (joined before) come more)
       (passes settled (joined before ++ come) run.given);
   window = run.window;
@@ -66,11 +65,9 @@ follows-whole base first octets ended settled before header area headed run =
     let found : reader base.corrects header ≡ Some (length area) = headed.found
     ∙ ap (λ n. Some n) (let e : length area + 0 ≡ length area = omega arith in e) in
     record {
-      leaves = subst (λ last. Leaves head (reader base.corrects) first octets ended (running settled
-          (before ++ area ∷ []) last))
-          (sym (window-none base.window run.window))
-          (Leaves-goes_on head (reader base.corrects) first octets ended (running settled before (header ++ area))
-          (running settled (before ++ area ∷ []) []) run.leaves
+      leaves = subst (λ last. Leaves head (reader base.corrects) first octets ended
+          (running settled (before ++ area ∷ []) last)) (sym (window-none base.window run.window))
+          (Leaves-goes_on head (reader base.corrects) first octets ended _ _ run.leaves
           (Becomes-area head (reader base.corrects) settled before header area headed.size found));
       given = subst (λ all. descrambler.DescramblerStands base.descrambling settled all)
           (sym (joined-push before area) ∙ sym (append-nil (joined (before ++ area ∷ [])))) run.given;
@@ -95,16 +92,12 @@ area-goes_on : (old : Progress) (longest : ℕ) (first : Bool) (octets more : Li
     ends longest old.corrects first (octets ++ more) ≡ ends longest old.corrects first octets ++ []
 area-goes_on old longest first octets more left ended settled before header come few headed run =
     nothing longest old.corrects first octets more (ends_with longest ended settled before)
-    (ends-area longest old.corrects first octets ended settled before header come left headed (omega
-    (arith, few)) run.leaves)
-    (ends-area longest old.corrects first (octets ++ more) ended settled before header (come ++ more)
-    (left - length more)
-    (headed-more (reader old.corrects) header come more left (left - length more) (omega (arith, few)) headed) (omega
-    (arith, few))
-    (subst (λ last. Leaves head (reader old.corrects) first (octets ++ more) ended (running settled before last))
-    (append_assoc header come more)
-    (Leaves-longer head (reader old.corrects) first octets ended (running settled before
-    (header ++ come)) more run.leaves)))
+    (ends-area longest old.corrects first octets ended settled before header come left headed
+    (omega (arith, few)) run.leaves) (ends-area longest old.corrects first (octets ++ more) ended settled
+    before header _ _ (headed-more _ header come more left (left - length more) (omega (arith, few)) headed)
+    (omega (arith, few)) (subst (λ last. Leaves head (reader old.corrects) first (octets ++ more) ended
+    (running settled before last)) (append_assoc header come more)
+    (Leaves-longer head (reader old.corrects) first octets ended _ more run.leaves)))
 
 module _ (old : Progress) (longest : ℕ) (first : Bool) (octets more : List ℕ) (limit : old.longest ≡ longest) (left : ℕ)
     (next : Descrambling) where
@@ -119,13 +112,10 @@ module _ (old : Progress) (longest : ℕ) (first : Bool) (octets more : List ℕ
       let whole : List ℕ = come ++ more in
       let base : Progress = holding old (SyncHeader 0) next area in
       to-header base longest first octets more limit ended settled (before ++ whole ∷ []) told
-      (ap (λ l. l ++ told)
-      (ends-area longest old.corrects first octets ended settled before header come left headed part
-      run.leaves) ∙ ends_with-push longest ended settled before whole told outcome)
-      0 (omega arith)
-      (follows-whole base first (octets ++ more) ended settled before header whole
-      (headed-more (reader old.corrects) header come more left 0 (omega (arith, all)) headed)
-      (follows-more old first octets ended settled before header come more (SyncHeader 0) next area run passes))
+      (ap (λ l. l ++ told) (ends-area longest old.corrects first _ ended settled before _ come left headed
+      part run.leaves) ∙ ends_with-push longest ended settled before whole told outcome) 0 (omega arith)
+      (follows-whole base first _ ended _ _ _ whole (headed-more _ _ come more left 0 (omega (arith, all))
+      headed) (follows-more old first octets ended _ _ header come more (SyncHeader 0) next area run passes))
 
   -- ---- an area that is kept
   module _ (plain : List ℕ) (is : InSyncArea left old first octets)
@@ -154,15 +144,11 @@ module _ (old : Progress) (longest : ℕ) (first : Bool) (octets more : List ℕ
         is.ended is.settled is.before []
         (append-nil (ends longest old.corrects first octets)
         ∙ ends-area longest old.corrects first octets is.ended is.settled is.before is.header is.come left
-        is.headed is.part is.run.leaves)
-        is.header come (left - length more)
-        (headed-more (reader old.corrects) is.header is.come more left (left - length more) (omega
-        (arith, few)) is.headed)
-        (omega (arith, few))
-        (omega (arith, is.fits, few, length-append is.come more))
+        is.headed is.part is.run.leaves) is.header come (left - length more)
+        (headed-more _ is.header is.come more left (left - length more) (omega (arith, few)) is.headed)
+        (omega (arith, few)) (omega (arith, is.fits, few, length-append is.come more))
         (follows-more old first octets is.ended is.settled is.before is.header is.come more
-        (SyncArea (left - length more)) next (old.area ++ plain) is.run descrambles.stands)
-        is.known kept-more
+        (SyncArea (left - length more)) next (old.area ++ plain) is.run descrambles.stands) is.known kept-more
 
     -- what comes of it
     kept-outcome : length more ≡ left →
@@ -199,14 +185,10 @@ module _ (old : Progress) (longest : ℕ) (first : Bool) (octets more : List ℕ
           is.ended is.settled is.before []
           (append-nil (ends longest old.corrects first octets)
           ∙ ends-area longest old.corrects first octets is.ended is.settled is.before is.header is.come left
-          is.headed is.part is.run.leaves)
-          is.header come (left - length more) why
-          (headed-more (reader old.corrects) is.header is.come more left (left - length more) (omega
-          (arith, few)) is.headed)
-          (omega (arith, few))
-          (follows-more old first octets is.ended is.settled is.before is.header is.come more
-          (SyncPassing (left - length more) why) next old.area is.run passes)
-          (λ area size. is.dropped area (omega (arith, size, few, length-append is.come more)))
+          is.headed is.part is.run.leaves) is.header come (left - length more) why
+          (headed-more _ _ _ more _ (left - length more) (omega (arith, few)) is.headed) (omega (arith, few))
+          (follows-more old _ _ _ _ _ is.header _ more (SyncPassing (left - length more) why) next old.area
+          is.run passes) (λ area size. is.dropped area (omega (arith, size, few, length-append is.come more)))
 
       pass-whole : length more ≡ left →
           Taken (holding old (SyncHeader 0) next old.area) longest old.corrects first octets more (passing why ∷ [])
@@ -226,24 +208,21 @@ module _ (old : Progress) (more : List ℕ) (left : ℕ) where
   Adds-area few was =
       Adds-in old more [] (SyncArea left) was
       (λ longest first octets is.
-      area-goes_on old longest first octets more left is.ended is.settled is.before is.header is.come few is.headed
-      is.run)
+      area-goes_on old longest first octets more left is.ended _ is.before _ is.come few is.headed is.run)
 
   pub Adds-passing : (why : AreaWhy) → length more < left → old.phase ≡ SyncPassing left why → Adds old more []
   Adds-passing why few was =
       Adds-in old more [] (SyncPassing left why) was
       (λ longest first octets is.
-      area-goes_on old longest first octets more left is.ended is.settled is.before is.header is.come few is.headed
-      is.run)
+      area-goes_on old longest first octets more left is.ended _ is.before _ is.come few is.headed is.run)
 
   module _ (next : Descrambling) (plain : List ℕ) (was : old.phase ≡ SyncArea left)
       (descrambles : Descrambles old.descrambling next more plain) where
     pub Takes-keep-part : length more < left →
         Takes old (holding old (SyncArea (left - length more)) next (old.area ++ plain)) more []
     Takes-keep-part few =
-        Takes-in old (holding old (SyncArea (left - length more)) next (old.area ++ plain)) more [] (SyncArea left) was
-        (λ longest first octets limit is. keep-part old longest first octets more limit left next plain is descrambles
-        few)
+        Takes-in old (holding old (SyncArea (left - length more)) next (old.area ++ plain)) more [] _ was
+        (λ longest first octets limit is. keep-part old _ first _ more limit left next _ is descrambles few)
 
     pub Takes-keep-whole : (told : List AreaEnd) → length more ≡ left →
         keeping (old.area ++ plain) ∷ [] ≡ told →
@@ -258,9 +237,8 @@ module _ (old : Progress) (more : List ℕ) (left : ℕ) where
     pub Takes-pass-part : length more < left →
         Takes old (holding old (SyncPassing (left - length more) why) next old.area) more []
     Takes-pass-part few =
-        Takes-in old (holding old (SyncPassing (left - length more) why) next old.area) more []
-        (SyncPassing left why) was
-        (λ longest first octets limit is. pass-part old longest first octets more limit left next why is passes few)
+        Takes-in old (holding old (SyncPassing (left - length more) why) next old.area) more [] _ was
+        (λ longest first octets limit is. pass-part old _ first octets more limit left next why is passes few)
 
     pub Takes-pass-whole : length more ≡ left →
         Takes old (holding old (SyncHeader 0) next old.area) more (passing why ∷ [])

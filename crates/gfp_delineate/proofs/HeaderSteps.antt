@@ -60,9 +60,7 @@ module _ (old : Progress) (longest : ℕ) (first : Bool) (octets : List ℕ) (oc
         (searching is.settled last))
         (append_assoc is.header (is.come ++ last) (octet ∷ [])
         ∙ ap (λ l. is.header ++ l) (append_assoc is.come last (octet ∷ [])))
-        (Leaves-longer head (reader old.corrects) first octets is.ended (searching is.settled (is.header ++
-        (is.come ++ last)))
-        (octet ∷ []) is.search.leaves)
+        (Leaves-longer head (reader old.corrects) first octets is.ended _ (octet ∷ []) is.search.leaves)
 
     presync-was : ends longest old.corrects first octets ≡ ends_of longest is.ended
     presync-was =
@@ -80,12 +78,9 @@ module _ (old : Progress) (longest : ℕ) (first : Bool) (octets : List ℕ) (oc
     confirm-lost forgot none given =
         let window : List ℕ = drop 1 old.window ++ octet ∷ [] in
         let four = length-shifted old.window is.search.window octet in
-        lost-by is.ended forgot presync-was four
-        (Leaves-goes_on head (reader old.corrects) first (octets ++ octet ∷ []) is.ended
-        (searching is.settled (is.header ++ (is.come ++ window))) (searching false (drop 1 window)) presync-leaves
-        (Becomes-refused head
-        (reader old.corrects) is.header is.come window is.headed.size is.settled presync-found four none))
-        given
+        lost-by is.ended forgot presync-was four (Leaves-goes_on head (reader old.corrects) first _ is.ended _
+        _ presync-leaves (Becomes-refused head (reader old.corrects) is.header is.come window is.headed.size
+        is.settled presync-found four none)) given
 
     confirm-found : (pli : ℕ) → head (drop 1 old.window ++ octet ∷ []) ≡ Some pli →
         Heads old longest first octets (octet ∷ []) (drop 1 old.window ++ octet ∷ [])
@@ -100,11 +95,9 @@ module _ (old : Progress) (longest : ℕ) (first : Bool) (octets : List ℕ) (oc
               ∙ ap (λ l. ends_of longest is.ended ++ l)
               (sym (run_outcomes-none (end_of longest) is.settled));
           four = four;
-          leaves = Leaves-goes_on head (reader old.corrects) first (octets ++ octet ∷ []) is.ended
-              (searching is.settled (is.header ++ (is.come ++ window))) (running is.settled [] window) presync-leaves
-              (Becomes-confirmed head
-              (reader old.corrects) is.header is.come window is.headed.size is.settled pli presync-found four
-              found);
+          leaves = Leaves-goes_on head (reader old.corrects) first (octets ++ octet ∷ []) is.ended _ _
+              presync-leaves (Becomes-confirmed head (reader old.corrects) is.header is.come window
+              is.headed.size is.settled pli presync-found four found);
           given = is.search.given;
         }
 
@@ -113,8 +106,7 @@ module _ (old : Progress) (longest : ℕ) (first : Bool) (octets : List ℕ) (oc
     sync-leaves : Leaves head (reader old.corrects) first (octets ++ octet ∷ []) is.ended
         (running is.settled is.before (drop 1 old.window ++ octet ∷ []))
     sync-leaves =
-        Leaves-longer head (reader old.corrects) first octets is.ended
-        (running is.settled is.before (drop (4 - 3) old.window)) (octet ∷ []) is.run.leaves
+        Leaves-longer head (reader old.corrects) first octets is.ended _ (octet ∷ []) is.run.leaves
 
     sync-was : ends longest old.corrects first octets ≡ ends_with longest is.ended is.settled is.before
     sync-was = ends-header longest old.corrects first octets is.ended is.settled is.before (drop (4 - 3) old.window)
@@ -127,13 +119,9 @@ module _ (old : Progress) (longest : ℕ) (first : Bool) (octets : List ℕ) (oc
         let window : List ℕ = drop 1 old.window ++ octet ∷ [] in
         let four = length-shifted old.window is.run.window octet in
         let run : Run = record { settled = is.settled; areas = is.before } in
-        lost-by (is.ended ++ run ∷ []) forgot (sync-was ∙ sym (outcomes_of-push (end_of longest) is.ended run))
-        four
-        (Leaves-becomes head (reader old.corrects) first (octets ++ octet ∷ []) is.ended (run ∷ [])
-        (running is.settled is.before window)
-        (searching false (drop 1 window)) sync-leaves
-        (Becomes-lost head (reader old.corrects) is.settled is.before window four none))
-        given
+        lost-by _ forgot (sync-was ∙ sym (outcomes_of-push (end_of longest) is.ended run)) four
+        (Leaves-becomes head (reader old.corrects) first (octets ++ octet ∷ []) is.ended (run ∷ []) _ _
+        sync-leaves (Becomes-lost head (reader old.corrects) is.settled is.before window four none)) given
 
     follow-found : Heads old longest first octets (octet ∷ []) (drop 1 old.window ++ octet ∷ [])
     follow-found = record {
@@ -204,10 +192,8 @@ module _ (old : Progress) (octet : ℕ) (corrects : Bool)
     Takes-unknown some knows =
         let window : List ℕ = drop 1 old.window ++ octet ∷ [] in
         takes-found pli found (followed old window (SyncPassing pli Unsettled))
-        (λ longest first octets limit is. followed-unknown old longest first octets
-        (octet ∷ []) limit is.ended is.settled is.before window is.was is.four is.leaves is.given pli some
-        (found-follow pli found)
-        knows)
+        (λ longest first octets limit is. followed-unknown old longest first octets (octet ∷ []) limit
+        is.ended _ is.before window is.was is.four is.leaves is.given pli some (found-follow pli found) knows)
 
     pub Takes-long : old.longest < pli → Knows true old.descrambling →
         Takes old (followed old (drop 1 old.window ++ octet ∷ []) (SyncPassing pli (TooLong pli))) (octet ∷ []) []
@@ -224,9 +210,8 @@ module _ (old : Progress) (octet : ℕ) (corrects : Bool)
     Takes-kept some fits knows =
         let window : List ℕ = drop 1 old.window ++ octet ∷ [] in
         takes-found pli found (followed old window (SyncArea pli))
-        (λ longest first octets limit is. followed-kept old longest first octets
-        (octet ∷ []) limit is.ended is.settled is.before window is.was is.four is.leaves is.given pli some fits
-        (found-follow pli found) knows)
+        (λ longest first octets limit is. followed-kept old longest first octets (octet ∷ []) limit is.ended _
+        is.before window is.was is.four is.leaves is.given pli some fits (found-follow pli found) knows)
 
 -- ---- more octets of headers in SYNC
 -- three octets of one
@@ -249,14 +234,11 @@ module _ (old : Progress) (was : old.phase ≡ SyncHeader 0) where
       let none : last ≡ [] = window-none old.window is.run.window in
       followed-idle old longest first octets idle_header limit is.ended is.settled is.before idle_header
       (ends-header longest old.corrects first octets is.ended is.settled is.before last
-      (window-few old.window is.run.window 0 is.part) is.run.leaves)
-      refl
+      (window-few old.window is.run.window 0 is.part) is.run.leaves) refl
       (subst (λ l. Leaves head (reader old.corrects) first (octets ++ idle_header) is.ended
       (running is.settled is.before (l ++ idle_header))) none
-      (Leaves-longer head (reader old.corrects) first octets is.ended
-      (running is.settled is.before last) idle_header is.run.leaves))
-      is.run.given old.window old.area is.run.window
-      (reader-head old.corrects idle_header 0
+      (Leaves-longer head _ first octets is.ended _ idle_header is.run.leaves)) is.run.given old.window
+      old.area is.run.window (reader-head old.corrects idle_header 0
       (ap head (sym core_header-idle) ∙ head-core_header 0 (omega arith, inl refl)))
 
   takes-one : Takes old old idle_header []

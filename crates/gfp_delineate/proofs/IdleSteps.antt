@@ -52,11 +52,10 @@ module _ (old : Progress) (place : ℕ) (part : place < 4) (was : old.phase ≡ 
       (window-few old.window is.run.window 0 is.part) is.run.leaves)
       place part
       (record {
-        leaves = subst (λ l. Leaves head (reader old.corrects) first (octets ++ take place idle_header) is.ended
-            (running is.settled is.before l))
+        leaves = subst (λ l. Leaves head (reader old.corrects) first (octets ++ take place idle_header)
+            is.ended (running is.settled is.before l))
             (ap (λ l. l ++ take place idle_header) (window-none old.window is.run.window) ∙ sym begins)
-            (Leaves-longer head (reader old.corrects) first octets is.ended (running is.settled is.before last)
-            (take place idle_header) is.run.leaves);
+            (Leaves-longer head _ first octets is.ended _ (take place idle_header) is.run.leaves);
         given = is.run.given;
         window = is.run.window;
       })))
@@ -64,10 +63,7 @@ module _ (old : Progress) (place : ℕ) (part : place < 4) (was : old.phase ≡ 
   takes-turns : (count : ℕ) → Takes old old (repeated count (drop place idle_header ++ take place idle_header)) []
   takes-turns zero = Takes-none old
   takes-turns (suc count) =
-      Takes-then old old old (drop place idle_header ++ take place idle_header)
-      (repeated count (drop place idle_header ++ take place idle_header)) []
-      (Takes-then old (in_phase old (SyncHeader 0)) old (drop place idle_header)
-      (take place idle_header) [] takes-rest takes-front) (takes-turns count)
+      Takes-then old old old _ _ [] (Takes-then old _ old _ _ [] takes-rest takes-front) (takes-turns count)
 
   pub Takes-idles_from : (count : ℕ) → Takes old old (idles_from place count) []
   Takes-idles_from count =

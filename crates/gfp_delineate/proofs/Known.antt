@@ -50,8 +50,7 @@ module _ (progress : Progress) (longest : ℕ) (first : Bool) (octets : List ℕ
       Searches progress first octets ended settled (drop (4 - have) progress.window) →
       ends longest progress.corrects first octets ≡ ends_of longest ended
   ends-hunt have part search =
-      ends-search longest progress.corrects first octets ended (searching settled (drop
-      (4 - have) progress.window)) search.leaves
+      ends-search longest progress.corrects first octets ended _ search.leaves
       (Rests-few head (reader progress.corrects) settled (drop (4 - have) progress.window)
       (part-few have progress.window part search.window))
 
@@ -159,22 +158,17 @@ is_sync-IsIn (PresyncHeader have) progress first octets is =
     )))
 is_sync-IsIn (SyncHeader have) progress first octets is =
     let last : List ℕ = drop (4 - have) progress.window in
-    is_sync-run progress.corrects first octets is.ended (running is.settled is.before last)
-    (record { settled = is.settled; areas = is.before }) is.run.leaves
-    (Rests-header head (reader progress.corrects) is.settled is.before last
+    is_sync-run progress.corrects first octets is.ended _ (record { settled = is.settled; areas = is.before })
+    is.run.leaves (Rests-header head (reader progress.corrects) is.settled is.before last
     (part-few have progress.window is.part is.run.window))
 is_sync-IsIn (SyncArea left) progress first octets is =
-    is_sync-run progress.corrects first octets is.ended (running is.settled is.before (is.header ++ is.come))
-    (record { settled = is.settled; areas = is.before }) is.run.leaves
-    (Rests-area head (reader progress.corrects) is.settled is.before is.header is.come
-    (length is.come + left) is.headed.size is.headed.found
-    (omega (arith, is.part)))
+    is_sync-run progress.corrects first octets is.ended _ (record { settled = is.settled; areas = is.before })
+    is.run.leaves (Rests-area head (reader progress.corrects) is.settled is.before is.header is.come
+    (length is.come + left) is.headed.size is.headed.found (omega (arith, is.part)))
 is_sync-IsIn (SyncPassing left why) progress first octets is =
-    is_sync-run progress.corrects first octets is.ended (running is.settled is.before (is.header ++ is.come))
-    (record { settled = is.settled; areas = is.before }) is.run.leaves
-    (Rests-area head (reader progress.corrects) is.settled is.before is.header is.come
-    (length is.come + left) is.headed.size is.headed.found
-    (omega (arith, is.part)))
+    is_sync-run progress.corrects first octets is.ended _ (record { settled = is.settled; areas = is.before })
+    is.run.leaves (Rests-area head (reader progress.corrects) is.settled is.before is.header is.come
+    (length is.come + left) is.headed.size is.headed.found (omega (arith, is.part)))
 
 pub is_sync-IsAt : (progress : Progress) (longest : ℕ) (corrects first : Bool) (octets : List ℕ) →
     IsAt progress longest corrects first octets → is_sync_by corrects octets ≡ in_sync progress.phase

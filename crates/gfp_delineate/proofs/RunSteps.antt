@@ -71,9 +71,7 @@ module _ (base : Progress) (longest : ℕ) (first : Bool) (octets more : List �
         kept = kept;
       };
     };
-    outcome = ends-area longest base.corrects first
-        (octets ++ more) ended settled before header part_come left headed part
-        run.leaves ∙ sym was;
+    outcome = ends-area longest base.corrects _ _ _ settled before _ _ left headed part run.leaves ∙ sym was;
   }
 
   pub to-passing : (header part_come : List ℕ) (left : ℕ) (why : AreaWhy) → Headed
@@ -100,9 +98,7 @@ module _ (base : Progress) (longest : ℕ) (first : Bool) (octets more : List �
         dropped = dropped;
       };
     };
-    outcome = ends-area longest base.corrects first
-        (octets ++ more) ended settled before header part_come left headed part
-        run.leaves ∙ sym was;
+    outcome = ends-area longest base.corrects _ _ _ settled before _ _ left headed part run.leaves ∙ sym was;
   }
 
 -- ---- the octets before the fourth of a header
@@ -120,8 +116,7 @@ follow-part old longest first octets octet limit have more is =
     (record {
       leaves = subst (λ last. Leaves head (reader old.corrects) first (octets ++ octet ∷ []) is.ended
           (running is.settled is.before last)) (window-more old.window is.run.window have octet is.part)
-          (Leaves-longer head (reader old.corrects) first octets is.ended (running is.settled is.before last)
-          (octet ∷ []) is.run.leaves);
+          (Leaves-longer head (reader old.corrects) first octets is.ended _ (octet ∷ []) is.run.leaves);
       given = is.run.given;
       window = length-shifted old.window is.run.window octet;
     })
@@ -205,8 +200,7 @@ module _ (old : Progress) (longest : ℕ) (first : Bool) (octets more : List ℕ
       (sym (append-nil window)) leaves in
       let next : Leaves head (reader old.corrects) first (octets ++ more) ended (running settled
       (before ++ [] ∷ []) []) =
-      Leaves-goes_on head (reader old.corrects) first (octets ++ more) ended (running settled before (window ++ []))
-      (running settled (before ++ [] ∷ []) []) now
+      Leaves-goes_on head (reader old.corrects) first (octets ++ more) ended _ _ now
       (Becomes-area head (reader old.corrects) settled before window [] four found) in
       to-header (record old { phase = SyncHeader 0; window = left; area = area }) longest first octets more limit ended
       settled (before ++ [] ∷ []) []
@@ -252,13 +246,11 @@ module _ (old : Progress) (longest : ℕ) (first : Bool) (octets more : List ℕ
   pub followed-unknown : (pli : ℕ) → 0 < pli → reader old.corrects window ≡ Some pli → Knows false old.descrambling →
       Taken (followed old window (SyncPassing pli Unsettled)) longest old.corrects first octets more []
   followed-unknown pli some found knows =
-      to-passing (followed old window (SyncPassing pli Unsettled)) longest first octets more limit ended settled before
-      [] was_more
-      window [] pli Unsettled (headed-by pli found) some (follows-header (SyncPassing pli Unsettled))
-      (λ area size. area_ends-some old.longest (length (joined before)) settled false area (omega (arith, some, size))
-      (settled-unknown settled (length (joined before))
-      (unknown-settled settled (joined before ++ []) (knows settled (joined before ++ []) given))
-      (omega (
+      to-passing (followed old window (SyncPassing pli Unsettled)) _ first octets more limit ended _ before []
+      was_more window [] pli Unsettled (headed-by pli found) some (follows-header (SyncPassing pli Unsettled))
+      (λ area size. area_ends-some old.longest (length (joined before)) settled false area
+      (omega (arith, some, size)) (settled-unknown settled (length (joined before))
+      (unknown-settled settled (joined before ++ []) (knows settled (joined before ++ []) given)) (omega (
         arith,
         size_same,
         unknown-few settled (joined before ++ [])

@@ -79,11 +79,14 @@ module _ (base : Progress) (longest : ℕ) (first : Bool) (octets more : List �
         headed = headed;
         part = part;
         search = is;
-      })
-      (ends-presync (in_phase base (PresyncHeader have)) longest first (octets ++ more) ended settled header
-      (come ++ drop (4 - have) base.window) (length come + 0) headed.size headed.found
-      (omega (arith, length-append come (drop (4 - have) base.window), length-drop (4 - have) base.window, is.window))
-      is)
+      }) (ends-presync _ longest first _ _ _ header (come ++ drop (4 - have) base.window) (length come + 0)
+      headed.size headed.found (omega (
+        arith,
+        length-append come (drop (4 - have) base.window),
+        length-drop
+            (4 - have) base.window,
+        is.window,
+      )) is)
 
 -- ---- the steps
 module _ (old : Progress) (longest : ℕ) (first : Bool) (octets : List ℕ) (limit : old.longest ≡ longest) where
@@ -92,12 +95,10 @@ module _ (old : Progress) (longest : ℕ) (first : Bool) (octets : List ℕ) (li
       Taken (shifted old octet (Hunt (have + 1))) longest old.corrects first octets (octet ∷ []) []
   hunt-part octet have more is =
       let new : Progress = shifted old octet (Hunt (have + 1)) in
-      to-hunt new longest first octets (octet ∷ []) limit is.ended is.settled
-      (ends-hunt old longest first octets is.ended is.settled have is.part is.search)
-      (have + 1) (omega arith)
-      (searches-more old first octets is.ended is.settled (drop (4 - have) old.window)
-      (drop (4 - (have + 1)) new.window) (octet ∷ []) (Hunt (have + 1)) new.window is.search
-      (length-shifted old.window is.search.window octet) (window-more old.window is.search.window have octet is.part))
+      to-hunt new _ first octets (octet ∷ []) limit _ _ (ends-hunt old longest _ _ _ _ have is.part is.search)
+      (have + 1) (omega arith) (searches-more old first octets is.ended is.settled _ _ (octet ∷ [])
+      (Hunt (have + 1)) new.window is.search (length-shifted old.window is.search.window octet)
+      (window-more old.window is.search.window have octet is.part))
 
   -- the fourth
   module _ (octet have : ℕ) (whole : have ≡ 3) (is : InHunt have old first octets) where
@@ -116,14 +117,10 @@ module _ (old : Progress) (longest : ℕ) (first : Bool) (octets : List ℕ) (li
     hunt-none none =
         let new : Progress = shifted old octet (Hunt 3) in
         let all : Searches new first (octets ++ octet ∷ []) is.ended is.settled new.window =
-        searches-more old first octets is.ended is.settled (drop (4 - have) old.window) new.window (octet ∷ [])
-        (Hunt 3) new.window is.search hunt_four hunt_window in
-        to-hunt new longest first octets (octet ∷ []) limit is.ended is.settled hunt_was 3 (omega arith)
-        (record {
-          leaves = Leaves-goes_on head (reader old.corrects) first (octets ++ octet ∷ []) is.ended
-              (searching is.settled new.window)
-              (searching is.settled (drop 1 new.window)) all.leaves
-              (Becomes-on head (reader old.corrects) is.settled new.window hunt_four none);
+        searches-more old first _ _ _ _ _ (octet ∷ []) (Hunt 3) new.window is.search hunt_four hunt_window in
+        to-hunt new _ first octets (octet ∷ []) limit is.ended is.settled hunt_was 3 (omega arith) (record {
+          leaves = Leaves-goes_on head (reader old.corrects) first (octets ++ octet ∷ []) is.ended _ _
+              all.leaves (Becomes-on head (reader old.corrects) is.settled new.window hunt_four none);
           given = all.given;
           window = hunt_four;
         })
@@ -135,12 +132,10 @@ module _ (old : Progress) (longest : ℕ) (first : Bool) (octets : List ℕ) (li
         let window : List ℕ = drop 1 old.window ++ octet ∷ [] in
         let none : window ≡ window ++ ([] ++ drop (4 - 0) window) = sym (append-nil window)
         ∙ ap (λ l. window ++ l) (sym (window-none window hunt_four)) in
-        to-presync-header (shifted old octet (PresyncHeader 0)) longest first octets
-        (octet ∷ []) limit is.ended is.settled hunt_was window [] 0
-        (record { size = hunt_four; found = found }) (omega arith)
-        (searches-more old first octets is.ended is.settled (drop (4 - have) old.window)
-        (window ++ ([] ++ drop (4 - 0) window)) (octet ∷ []) (PresyncHeader 0) window is.search hunt_four
-        (hunt_window ∙ none))
+        to-presync-header (shifted old octet (PresyncHeader 0)) longest first octets (octet ∷ []) limit
+        is.ended is.settled hunt_was window [] 0 (record { size = hunt_four; found = found }) (omega arith)
+        (searches-more old first octets is.ended is.settled (drop (4 - have) old.window) _ (octet ∷ [])
+        (PresyncHeader 0) window is.search hunt_four (hunt_window ∙ none))
 
     -- the header of a client frame
     hunt-client : (pli : ℕ) → 0 < pli → head (drop 1 old.window ++ octet ∷ []) ≡ Some pli →
@@ -165,12 +160,12 @@ module _ (old : Progress) (longest : ℕ) (first : Bool) (octets : List ℕ) (li
     skip-part few =
         let count : length is.come + left ≡ length (is.come ++ more) + (left - length more) =
         omega (arith, length-append is.come more, few) in
-        to-presync-area old longest first octets more limit is.ended is.settled skip_was
-        is.header (is.come ++ more) (left - length more)
-        (record { size = is.headed.size; found = is.headed.found ∙ ap (λ n. Some n) count }) (omega (arith, few))
-        (searches-more old first octets is.ended is.settled (is.header ++ is.come) (is.header ++ (is.come ++ more)) more
-        (PresyncArea (left - length more)) old.window is.search is.search.window
-        (append_assoc is.header is.come more))
+        to-presync-area old longest first octets more limit is.ended _ skip_was is.header (is.come ++ more)
+        (left - length more) (record {
+          size = is.headed.size;
+          found = is.headed.found ∙ ap (λ n. Some n) count;
+        }) (omega (arith, few)) (searches-more old first _ _ _ _ _ more (PresyncArea (left - length more))
+        old.window is.search is.search.window (append_assoc is.header is.come more))
 
     -- all that are left
     skip-last : length more ≡ left → Taken (in_phase old (PresyncHeader 0)) longest old.corrects first octets more []
@@ -179,13 +174,10 @@ module _ (old : Progress) (longest : ℕ) (first : Bool) (octets : List ℕ) (li
         let count : length is.come + left ≡ length come + 0 = omega (arith, length-append is.come more, all) in
         let none : come ≡ come ++ drop (4 - 0) old.window = sym (append-nil come)
         ∙ ap (λ l. come ++ l) (sym (window-none old.window is.search.window)) in
-        to-presync-header old longest first octets more limit is.ended is.settled skip_was
-        is.header come 0 (record { size = is.headed.size; found = is.headed.found ∙ ap (λ n. Some n) count })
-        (omega arith)
-        (searches-more old first octets is.ended is.settled (is.header ++ is.come)
-        (is.header ++ (come ++ drop (4 - 0) old.window)) more
-        (PresyncHeader 0) old.window is.search is.search.window
-        (append_assoc is.header is.come more ∙ ap (λ l. is.header ++ l) none))
+        to-presync-header old longest first octets more limit is.ended is.settled skip_was is.header come 0
+        (record { size = is.headed.size; found = is.headed.found ∙ ap (λ n. Some n) count }) (omega arith)
+        (searches-more old first octets is.ended is.settled _ _ more (PresyncHeader 0) old.window is.search
+        is.search.window (append_assoc is.header is.come more ∙ ap (λ l. is.header ++ l) none))
 
   -- PRESYNC: an octet of the header after it, before the fourth
   confirm-part : (octet have : ℕ) → have < 3 → InPresyncHeader have old first octets →
@@ -196,13 +188,10 @@ module _ (old : Progress) (longest : ℕ) (first : Bool) (octets : List ℕ) (li
       let few : length (is.come ++ last) < 4 + (length is.come + 0) =
       omega (arith, length-append is.come last, length-drop (4 - have) old.window, is.search.window, is.part) in
       to-presync-header new longest first octets (octet ∷ []) limit is.ended is.settled
-      (ends-presync old longest first octets is.ended is.settled is.header (is.come ++ last)
-      (length is.come + 0) is.headed.size is.headed.found few is.search)
-      is.header is.come (have + 1) is.headed (omega arith)
-      (searches-more old first octets is.ended is.settled (is.header ++ (is.come ++ last))
-      (is.header ++ (is.come ++ drop (4 - (have + 1)) new.window)) (octet ∷ [])
-      (PresyncHeader (have + 1)) new.window is.search
-      (length-shifted old.window is.search.window octet)
+      (ends-presync old longest first octets is.ended _ is.header (is.come ++ last) (length is.come + 0)
+      is.headed.size is.headed.found few is.search) is.header is.come (have + 1) is.headed (omega arith)
+      (searches-more old _ _ _ _ _ (is.header ++ (is.come ++ drop (4 - (have + 1)) new.window)) (octet ∷ [])
+      (PresyncHeader (have + 1)) new.window is.search (length-shifted old.window is.search.window octet)
       (append_assoc is.header (is.come ++ last) (octet ∷ [])
       ∙ ap (λ l. is.header ++ l) (append_assoc is.come last (octet ∷ [])
       ∙ ap (λ l. is.come ++ l) (window-more old.window is.search.window have octet is.part))))
@@ -219,8 +208,7 @@ module _ (old : Progress) (octet have : ℕ) where
       Takes old (shifted old octet (Hunt 3)) (octet ∷ []) []
   Takes-hunt-none all was none =
       Takes-in old (shifted old octet (Hunt 3)) (octet ∷ []) [] (Hunt have) was
-      (λ longest first octets limit is. hunt-none old longest first octets limit octet have
-      (omega (arith, is.part, all)) is none)
+      (λ longest first octets limit is. hunt-none _ _ _ _ limit octet _ (omega (arith, is.part, all)) is none)
 
   pub Takes-hunt-idle : 3 ≤ have → old.phase ≡ Hunt have → head (drop 1 old.window ++ octet ∷ []) ≡ Some 0 →
       Takes old (shifted old octet (PresyncHeader 0)) (octet ∷ []) []

@@ -205,10 +205,8 @@ module _ (leg : Leg) (a b : GroupState) (answer : TickAnswer) (of_script : IsOf 
       ∥∥₁_elim has.made (hlevel props)
       (λ made. call.alike (landed_scenario leg (counts_of a)) (ticked-is answer went) made m old new was there)
       in
-      let landed = alike-landed (landed_scenario leg (counts_of a)) session (taken_of b) (taken_of b)
-      (ticks_of b) comes refl in
-      let same = container-alike (landed_scenario leg (counts_of a)) (taken_of b) session (taken_of b) (ticks_of b) m
-      (ticks_of a) landed (omega arith) (omega arith) in
+      let landed = alike-landed _ session (taken_of b) (taken_of b) (ticks_of b) comes refl in
+      let same = container-alike _ _ session _ _ m (ticks_of a) landed (omega arith) (omega arith) in
       pushed ∙ ap (λ (l : List Container). l ++ container_of (landed_scenario leg (counts_of a)) (taken_of b) m
       (ticks_of a) ∷ []) (before m old was)
       ∙ ap (λ (c : Container). containers_of session (taken_of b) m (ticks_of a) ++ c ∷ []) same

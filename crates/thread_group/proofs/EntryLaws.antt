@@ -101,8 +101,7 @@ kept-push octets more entries entry kind slots bytes room space frames are some 
     let one = offers-size entry.ticks kind in
     record {
       there = All-push (λ (entry : Entry). IsThere (length (octets ++ more)) entry.what) entries entry
-          (λ k d inside. there-more (length octets) (length (octets ++ more)) _ (omega arith) (are.there k d inside))
-          there;
+          (λ k d inside. there-more _ (length (octets ++ more)) _ (omega arith) (are.there k d inside)) there;
       room = omega arith;
       space = omega arith;
       few = omega arith;

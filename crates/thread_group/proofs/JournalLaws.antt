@@ -99,8 +99,7 @@ operators-first (item ∷ items) a (suc b) i =
           rw (e, some, less) (rw e (ap (λ l. record { number = i; item = item } ∷ l)
           (operators-first items a b (suc i))))
       | inl e ↦ rw e (skip-if (λ (one : Numbered). not (is_client one.item.kind)) (nat_lt 0 a)
-          (record { number = i; item = item }) (landed_from (a - 1) (suc b) (suc i) items)
-          (not-false (is_client item.kind) e)
+          (record { number = i; item = item }) (landed_from (a - 1) (suc b) (suc i) items) (not-false _ e)
           ∙ operators-first items (a - 1) (suc b) (suc i))
     ]
 

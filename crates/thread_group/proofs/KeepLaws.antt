@@ -119,8 +119,7 @@ keeps-refused at size landed k items frames commands behind refused = record {
   legal = k.legal;
   due = λ i entry there. k.due i entry there ∙ ap (λ (l : List Item). due_at l entry.number) (sym items);
   past = k.past;
-  ahead = ahead-more at.landed.items landed.items at.source.ticks at.landed.frames at.landed.commands landed.frames
-      landed.commands items frames commands k.ahead;
+  ahead = ahead-more _ landed.items _ _ _ landed.frames landed.commands items frames commands k.ahead;
   behind = subst (λ (l : List Item). AreBehind (dues_of l) at.source.ticks landed.frames landed.commands)
       (sym items) behind;
   refused = subst (λ (l : List Item). AreRefused (scenario_in at)
@@ -225,21 +224,19 @@ keeps-accepted at size source landed journal number kind k items frames commands
           (push-cases (λ i (e : Numbered). e.item.due ≤ source.ticks) at.journal.entries entry
           (λ i e there. let low = k.past i e there in omega arith) (omega arith));
       ahead = subst (λ n. AreAhead (dues_of landed.items) n landed.frames landed.commands) (sym ticks)
-          (ahead-more at.landed.items landed.items at.source.ticks at.landed.frames at.landed.commands landed.frames
-          landed.commands items frames commands k.ahead);
+          (ahead-more _ landed.items _ _ _ landed.frames landed.commands items frames commands k.ahead);
       behind = subst (λ n. AreBehind (dues_of landed.items) n landed.frames landed.commands) (sym ticks)
           (subst (λ (l : List Item). AreBehind (dues_of l) at.source.ticks landed.frames landed.commands)
           (sym items) behind);
-      refused = subst (λ (s : Scenario). AreRefused s
-          (told_in_parts next) source.ticks landed.items journal.entries landed.refusals) (sym scenario)
-          (subst (λ c. AreRefused other c source.ticks landed.items journal.entries landed.refusals) (sym told)
-          (subst (λ l. AreRefused other cells source.ticks landed.items l landed.refusals) (sym entries)
-          (subst (λ (l : List Item). AreRefused other cells source.ticks l
+      refused = subst (λ (s : Scenario). AreRefused s (told_in_parts next) source.ticks landed.items
+          journal.entries landed.refusals) (sym scenario)
+          (subst (λ c. AreRefused other c source.ticks landed.items journal.entries landed.refusals)
+          (sym told) (subst (λ l. AreRefused other cells source.ticks landed.items l landed.refusals)
+          (sym entries) (subst (λ (l : List Item). AreRefused other cells source.ticks l
           (at.journal.entries ++ entry ∷ []) landed.refusals) (sym items)
           (subst (AreRefused other cells source.ticks at.landed.items (at.journal.entries ++ entry ∷ []))
-          (sym (none-refused number at.landed.refusals landed.refusals placed))
-          (refused-on one cells other cells at.source.ticks source.ticks at.landed.items at.journal.entries
-          (entry ∷ []) at.landed.refusals alike (omega arith) k.refused)))));
+          (sym (none-refused _ _ _ placed)) (refused-on one cells other cells _ source.ticks at.landed.items
+          at.journal.entries (entry ∷ []) at.landed.refusals alike (omega arith) k.refused)))));
     }
 
 -- ---- return cells were moved
@@ -435,8 +432,7 @@ module _ (at : Parts) (size : ℕ) (source : Terminal) (inbox : Inbox) (tx : Lis
             let (old, was) = slice_get-inside at.tx m (omega arith) in
             own-pushed m old new was there
             ∙ ap (λ (l : List Container). l ++ container_of one (told_in_parts next) m at.source.ticks ∷ [])
-            (k.sent m old was ∙ sent-alike one (told_in_parts at) one cells at.source.ticks m alike
-            (line-low at size m old k was))
+            (k.sent m old was ∙ sent-alike one _ one cells _ m alike (line-low at size m old k was))
             ∙ ap (λ c. containers_of one cells m at.source.ticks ++ container_of one c m at.source.ticks ∷ []) told
             ∙ sym (ap (λ (s : Scenario). containers_of s (told_in_parts next) m source.ticks) scenario
             ∙ ap (λ c. containers_of one c m source.ticks) told
@@ -454,13 +450,12 @@ module _ (at : Parts) (size : ℕ) (source : Terminal) (inbox : Inbox) (tx : Lis
           of_frames = λ i due low there. let past = k.behind.of_frames i due low there in omega arith;
           of_commands = λ i due low there. let past = k.behind.of_commands i due low there in omega arith;
         };
-        refused = subst (λ (s : Scenario). AreRefused s
-            (told_in_parts next) source.ticks at.landed.items at.journal.entries at.landed.refusals) (sym scenario)
-            (subst (λ c. AreRefused one c source.ticks at.landed.items at.journal.entries at.landed.refusals) (sym told)
-            (subst (λ l. AreRefused one cells source.ticks at.landed.items l at.landed.refusals)
-            (append-nil at.journal.entries)
-            (refused-on one (told_in_parts at) one cells at.source.ticks source.ticks at.landed.items at.journal.entries
-            [] at.landed.refusals alike (omega arith) k.refused)));
+        refused = subst (λ (s : Scenario). AreRefused s (told_in_parts next) source.ticks at.landed.items
+            at.journal.entries at.landed.refusals) (sym scenario)
+            (subst (λ c. AreRefused one c source.ticks at.landed.items at.journal.entries at.landed.refusals)
+            (sym told) (subst (λ l. AreRefused one cells source.ticks at.landed.items l at.landed.refusals)
+            (append-nil at.journal.entries) (refused-on one _ one cells at.source.ticks source.ticks
+            at.landed.items at.journal.entries [] at.landed.refusals alike (omega arith) k.refused)));
       }
 
 -- the count of return cells stays small

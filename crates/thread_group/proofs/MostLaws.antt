@@ -30,7 +30,6 @@ most-next leg a b kind has counted less =
     let offers' = length-drop (frames_of b) (offers_of leg.items) in
     let orders = length-drop (commands_of a) (orders_of leg.items) in
     let orders' = length-drop (commands_of b) (orders_of leg.items) in
-    most-by (length (offers_of leg.items)) (length (orders_of leg.items)) (frames_of a) (commands_of a)
-    (frames_of b) (commands_of b)
-    (counted_by (is_client kind) true) (counted_by (not (is_client kind)) true)
-    (one-counted (is_client kind)) counted.frames counted.commands (omega arith) has.most_frames has.most_commands
+    most-by (length (offers_of leg.items)) (length (orders_of leg.items)) (frames_of a) (commands_of a) _ _
+    (counted_by (is_client kind) true) (counted_by (not (is_client kind)) true) (one-counted (is_client kind))
+    counted.frames counted.commands (omega arith) has.most_frames has.most_commands

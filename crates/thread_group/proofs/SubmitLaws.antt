@@ -10,18 +10,18 @@ use Rattle.std.proofs.lemmas.Bool.{cases_Bool}
 use Rattle.std.proofs.lemmas.Bool.Decides.{nat_tests}
 use Rattle.std.proofs.lemmas.List.Elements.{All-cons, All-append}
 use Rattle.std.proofs.lemmas.Option.{slice_get_within, slice_get-get_or, get_or_from_slice_get}
-use Rattle.law_model.specs.Common.{Leg, Told, Scenario, DueCommand, DueFrame, order_of, offer_of, orders_of, offers_of}
+use Rattle.law_model.specs.Common.{Leg, Told, Scenario, DueCommand, DueFrame, order_of, orders_of, offers_of}
 use Rattle.law_model.specs.Common.{scenario_by, Counts, Container, BackCell}
 use Rattle.law_model.specs.declared.item_refusals.Refusal.{Refusal}
 use Rattle.law_model.specs.declared.script_types.ItemKind.{ItemKind}
 use Rattle.law_walk.specs.Common.{Numbered, is_client, refused_by, IsPlaced, landed_items, landed_scenario, IsOfferAt}
 use Rattle.law_walk.specs.Common.{IsOrderAt}
 use Rattle.thread_group.specs.declared.group_answers.SubmitFault.{SubmitFault}
-use Rattle.thread_group.specs.declared.group_answers.SubmitFault.TheVariants.{NotNext, Early, Frame as Frame_fault, Command as Command_fault, JournalFull}
+use Rattle.thread_group.specs.declared.group_answers.SubmitFault.TheVariants.{Frame as Frame_fault, Command as Command_fault}
 use Rattle.thread_group.specs.Answer.{fault_of, has_landed, is_full, refusal_told}
 use Rattle.thread_group.specs.Session.{refusal_by, refusals_by, accepted_frames_by, accepted_commands_by, AreItemsOf}
 use Rattle.thread_group.specs.Session.{IsBound, counts_of, IsItemOf, octets_in, HasJournalRoom, HasLandedOf}
-use Rattle.law_walk.proofs.ReportLaws.{IsInserted, placed, one-more}
+use Rattle.law_walk.proofs.ReportLaws.{IsInserted, placed}
 use Rattle.std.proofs.lemmas.List.Sums.{sum_by-drop_more}
 use Rattle.law_model.specs.declared.script_types.ItemKind.TheVariants.{Frame, Add, Remove}
 use Rattle.law_model.specs.declared.lcas_states.Command.TheVariants.{Add as add, Remove as remove}
@@ -181,20 +181,16 @@ left-next : (leg : Leg) (a b : GroupState) (number : ℕ) (kind : ItemKind) → 
     next_of a kind ≡ Some number → slice_get leg.items number ≡ Some (record { due = ticks_of a; kind = kind }) →
     HasCounted a b kind true → Left leg a b kind
 left-next leg a b number (Frame octets) of_script next here counted =
-    left-frame leg a b octets
-    (offer-at leg.items (frames_of a) (entry_of number (ticks_of a) (Frame octets))
-    (record { due = ticks_of a; frame = octets }) (offer-next leg a number octets of_script next here)).0
+    left-frame leg a b octets (offer-at _ _ _ _ (offer-next leg a number octets of_script next here)).0
     counted.frames (counted.commands ∙ (let e : commands_of a + 0 ≡ commands_of a = omega arith in e))
 left-next leg a b number (Add line) of_script next here counted =
     let order : DueCommand = record { due = ticks_of a; command = add line } in
-    left-command leg a b (Add line) order
-    (order-at leg.items (commands_of a) (entry_of number (ticks_of a) (Add line)) order
+    left-command leg a b (Add line) order (order-at leg.items (commands_of a) _ order
     (order-next leg a number (Add line) order of_script next refl here)).0 refl
     (counted.frames ∙ (let e : frames_of a + 0 ≡ frames_of a = omega arith in e)) counted.commands
 left-next leg a b number (Remove line) of_script next here counted =
     let order : DueCommand = record { due = ticks_of a; command = remove line } in
-    left-command leg a b (Remove line) order
-    (order-at leg.items (commands_of a) (entry_of number (ticks_of a) (Remove line)) order
+    left-command leg a b (Remove line) order (order-at leg.items (commands_of a) _ order
     (order-next leg a number (Remove line) order of_script next refl here)).0 refl
     (counted.frames ∙ (let e : frames_of a + 0 ≡ frames_of a = omega arith in e)) counted.commands
 
@@ -277,8 +273,7 @@ room-first : (leg : Leg) (g : GroupState) (number : ℕ) (kind : ItemKind) → I
     (0 < slots_of g) × (octet_count kind ≤ bytes_of g)
 room-first leg g number (Frame octets) of_script next here room =
     let offer : DueFrame = record { due = ticks_of g; frame = octets } in
-    let there = (offer-at leg.items (frames_of g) (entry_of number (ticks_of g) (Frame octets)) offer
-    (offer-next leg g number octets of_script next here)).0 in
+    let there = (offer-at leg.items _ _ offer (offer-next leg g number octets of_script next here)).0 in
     let inside = slice_get_within (offers_of leg.items) (frames_of g) offer there in
     let long = length-drop (frames_of g) (offers_of leg.items) in
     let entries = room.entries in
@@ -289,16 +284,14 @@ room-first leg g number (Frame octets) of_script next here room =
     (omega arith, omega arith)
 room-first leg g number (Add line) of_script next here room =
     let order : DueCommand = record { due = ticks_of g; command = add line } in
-    let there = (order-at leg.items (commands_of g) (entry_of number (ticks_of g) (Add line)) order
-    (order-next leg g number (Add line) order of_script next refl here)).0 in
+    let there = (order-at _ _ _ _ (order-next leg g number (Add line) order of_script next refl here)).0 in
     let inside = slice_get_within (orders_of leg.items) (commands_of g) order there in
     let long = length-drop (commands_of g) (orders_of leg.items) in
     let entries = room.entries in
     (omega arith, omega arith)
 room-first leg g number (Remove line) of_script next here room =
     let order : DueCommand = record { due = ticks_of g; command = remove line } in
-    let there = (order-at leg.items (commands_of g) (entry_of number (ticks_of g) (Remove line)) order
-    (order-next leg g number (Remove line) order of_script next refl here)).0 in
+    let there = (order-at _ _ _ _ (order-next leg g number (Remove line) order of_script next refl here)).0 in
     let inside = slice_get_within (orders_of leg.items) (commands_of g) order there in
     let long = length-drop (commands_of g) (orders_of leg.items) in
     let entries = room.entries in
@@ -391,20 +384,18 @@ module _ (leg : Leg) (a b : GroupState) (number : ℕ) (kind : ItemKind) (answer
             (ticks_of a) kind call.journal has.entries here;
         past = subst (λ n. ArePast n (landed_items leg (counts_of b))) (sym call.rings.ticks)
             (all-past (ticks_of a) (landed_items leg (counts_of b))
-            (inserted-all (λ (item : Numbered). item.item.due ≤ ticks_of a) entry (landed_items leg (counts_of a))
-            (landed_items leg (counts_of b)) put
+            (inserted-all (λ (item : Numbered). item.item.due ≤ ticks_of a) entry _ _ put
             (past-all (ticks_of a) (landed_items leg (counts_of a)) has.past) (omega arith)));
         most_frames = most.0;
         most_commands = most.1;
-        refusals = placed-same number (refused_by number (refusal_told answer)) (refusals_of a) (refusals_of b)
-            (refusals_by leg cells (landed_items leg (counts_of b))) (call.refusals landed)
+        refusals = placed-same number (refused_by number (refusal_told answer)) (refusals_of a)
+            (refusals_of b) (refusals_by leg cells (landed_items leg (counts_of b))) (call.refusals landed)
             (subst (λ (l : List (ℕ × Refusal)). IsPlaced number (refused_by number (refusal_told answer)) l
             (refusals_by leg cells (landed_items leg (counts_of b)))) (sym has.refusals)
             (subst (λ (w : Option Refusal). IsPlaced number (refused_by number w)
             (refusals_by leg cells (landed_items leg (counts_of a)))
             (refusals_by leg cells (landed_items leg (counts_of b)))) (sym told)
-            (placed (refusal_by leg cells) entry (landed_items leg (counts_of a))
-            (landed_items leg (counts_of b)) put)))
+            (placed (refusal_by leg cells) entry (landed_items leg (counts_of a)) _ put)))
             ∙ sym (ap (λ c. refusals_by leg c (landed_items leg (counts_of b))) taken);
         frames = frames-next leg cells answer (journal_of a) (journal_of b) number (ticks_of a) kind landed call.journal
             told here (frames_of a) (commands_of a) (frames_of b) (commands_of b)

@@ -98,9 +98,8 @@ gives-then stands_for first middle last a b c keeps before after one two start f
     (append_assoc frames more rest ∙ ap (λ l. frames ++ l)
     (ap₂ (λ options size. added_frames options size (received b.rx) a.core.taken b.core.taken ++ rest)
     (sym after.options) (sym after.size)
-    ∙ added-then c.core.options c.core.size (received b.rx) (received c.rx) a.core.taken b.core.taken c.core.taken
-    before.taken after.taken after.longer keeps.stands.decided))
-    (two start (frames ++ more) (one start frames stands))
+    ∙ added-then c.core.options c.core.size _ _ a.core.taken b.core.taken c.core.taken before.taken
+    after.taken after.longer keeps.stands.decided)) (two start (frames ++ more) (one start frames stands))
 
 -- the frames of all rows, and those before
 pub given-then : (a b : Parts) → Keeps a → Later a b →
@@ -110,8 +109,7 @@ pub given-then : (a b : Parts) → Keeps a → Later a b →
 given-then a b keeps later =
     frames-grow b.core.options b.core.size a.core.taken b.core.taken (received b.rx) later.taken
     ∙ ap (λ l. l ++ added_frames b.core.options b.core.size (received b.rx) a.core.taken b.core.taken)
-    (frames-stay b.core.options b.core.size a.core.taken (received a.rx) (received b.rx) later.longer
-    keeps.stands.decided
+    (frames-stay b.core.options b.core.size a.core.taken (received a.rx) _ later.longer keeps.stands.decided
     ∙ ap₂ (λ options size. given_frames options size (received a.rx) a.core.taken) later.options later.size)
 
 -- ---- later
@@ -168,8 +166,7 @@ keeps-cell was now core rx after back line took ends keeps =
     let longer = with_cell-longer (received rx) line took.cell in
     record {
       gathers = subst (Gathers now) (sym took.passed) (took.grew.gathers (received rx) keeps.gathers);
-      stands = subst (SinkStands core) (sym took.passed)
-          (stands-longer core (received rx) (with_cell (received rx) line took.cell) longer keeps.stands);
+      stands = subst (SinkStands core) (sym took.passed) (stands-longer core _ _ longer keeps.stands);
       lines = took.grew.lines ∙ keeps.lines;
       rings = ends.count ∙ keeps.rings;
       rows = took.grew.rows ∙ keeps.rows;

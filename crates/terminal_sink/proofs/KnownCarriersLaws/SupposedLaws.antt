@@ -130,8 +130,7 @@ supposed-line options rows k line state watch sq sees =
       | true ↦ λ silent.
           ap (λ b. has is_carrying sq (if b then option_map in_norm word else packet_on rows line k)) silent
           ∙ sq-carries sq word (member-silent rows line k silent)
-          ∙ sym (ap (λ said. has is_carrying sq (option_map norm_at said))
-          (word-said options rows k line state watch sees))
+          ∙ sym (ap (λ said. has is_carrying sq (option_map norm_at said)) (word-said _ rows k line _ _ sees))
       | false ↦ λ heard.
           ap (λ b. has is_carrying sq (if b then option_map in_norm word else packet_on rows line k)) heard
     ] same
@@ -173,8 +172,7 @@ supposed-lines options rows row states watches seen =
     let here : packet_row all k ≡ row = row-last rows row in
     ap (λ row. active_of (map (λ line. supposed all line k) (range_with_len 0 (length row)))) here
     ∙ active_from-same (λ line. supposed all line k) (supposed_at states watches row) (length row) 0 256
-    (λ sq line low. supposed-line options all k line (state_at states line) (watch_at watches line) sq
-    (sees-line options rows row states watches line seen low)
+    (λ sq line low. supposed-line _ all k _ _ _ sq (sees-line options rows row states watches line seen low)
     ∙ ap (λ row. has is_carrying sq (supposed_by (state_at states line) (watch_at watches line)
     (slice_index_or row line None))) here)
 

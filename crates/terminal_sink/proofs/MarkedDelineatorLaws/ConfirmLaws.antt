@@ -47,8 +47,7 @@ hunt_by-lies : (header : Option ℕ) (p : ℕ) (octets : List ℕ) (f : Bool →
     Searches (f true) → LiesIn p octets (hunt_by head header true p octets f)
 hunt_by-lies None p octets f lies = later p 1 octets (f true (p + 1) (drop 1 octets)) (lies (p + 1) (drop 1 octets))
 hunt_by-lies (Some pli) p octets f lies =
-    later p (4 + pli) octets (confirm_with head true (p + (4 + pli)) (drop (4 + pli) octets) f)
-    (confirm-lies (p + (4 + pli)) (drop (4 + pli) octets) f lies)
+    later p (4 + pli) octets _ (confirm-lies (p + (4 + pli)) (drop (4 + pli) octets) f lies)
 
 hunt_within-lies : (k p : ℕ) (octets : List ℕ) → LiesIn p octets (hunt_within head k true p octets)
 unfolding hunt_within
@@ -83,8 +82,7 @@ confirm_by-front : (header : Option ℕ) (p : ℕ) (octets : List ℕ) (m : ℕ)
     confirm_by header true p octets f ≡ Some found → found.place + 4 ≤ p + m →
     Finds (confirm_by header true p (take m octets) f)
 confirm_by-front None p octets m f found lies fronts is fits =
-    let there = lies-some (p + 1) (drop 1 octets) (f true (p + 1) (drop 1 octets)) found
-    (lies (p + 1) (drop 1 octets)) is in
+    let there = lies-some (p + 1) (drop 1 octets) _ found (lies (p + 1) (drop 1 octets)) is in
     subst (λ l. Finds (f true (p + 1) l)) (sym (drop-part 1 m octets))
     (fronts (p + 1) (drop 1 octets) (m - 1) found is (omega (arith, there.0, fits)))
 confirm_by-front (Some pli) p octets m f found lies fronts is fits = (_, refl)
@@ -113,14 +111,12 @@ hunt_by-front : (header : Option ℕ) (p : ℕ) (octets : List ℕ) (m : ℕ) (f
     hunt_by head header true p octets f ≡ Some found → found.place + 4 ≤ p + m →
     Finds (hunt_by head header true p (take m octets) f)
 hunt_by-front None p octets m f found lies fronts is fits =
-    let there = lies-some (p + 1) (drop 1 octets) (f true (p + 1) (drop 1 octets)) found
-    (lies (p + 1) (drop 1 octets)) is in
+    let there = lies-some (p + 1) (drop 1 octets) _ found (lies (p + 1) (drop 1 octets)) is in
     subst (λ l. Finds (f true (p + 1) l)) (sym (drop-part 1 m octets))
     (fronts (p + 1) (drop 1 octets) (m - 1) found is (omega (arith, there.0, fits)))
 hunt_by-front (Some pli) p octets m f found lies fronts is fits =
     let after : List ℕ = drop (4 + pli) octets in
-    let there = lies-some (p + (4 + pli)) after (confirm_with head true (p + (4 + pli)) after f) found
-    (confirm-lies (p + (4 + pli)) after f lies) is in
+    let there = lies-some (p + (4 + pli)) after _ found (confirm-lies (p + (4 + pli)) after f lies) is in
     subst (λ l. Finds (confirm_with head true (p + (4 + pli)) l f)) (sym (drop-part (4 + pli) m octets))
     (confirm-front (p + (4 + pli)) after (m - (4 + pli)) f found lies fronts is (omega (arith, there.0, fits)))
 

@@ -70,9 +70,8 @@ rows-agree scenario returns cells (suc n) are =
     let all : received (suc n) ≡ received n ++ row_in row ∷ [] =
     ap received e ∙ received-more scenario.options scenario.size cells n in
     subst (λ rows. Agree rows (rows_of scenario returns n ++ row_of scenario returns n ∷ [])) (sym all)
-    (agree-row (received n) (rows_of scenario returns n) (is_whole_row scenario returns n)
-    (payload_of scenario returns n) row (are n (omega arith))
-    (rows-agree scenario returns cells n (λ t low. are t (omega arith))))
+    (agree-row (received n) _ (is_whole_row scenario returns n) (payload_of scenario returns n) row
+    (are n (omega arith)) (rows-agree scenario returns cells n (λ t low. are t (omega arith))))
 
 pub session-frames : (scenario : Scenario) (returns : List (Option Told)) (cells : List (List Cell)) (n : ℕ) →
     AreSessionRows scenario returns cells n →

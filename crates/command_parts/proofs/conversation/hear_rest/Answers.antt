@@ -9,17 +9,15 @@ use Rattle.command_parts.proofs.conversation.hear_rest.Goals as goal
 pub returns-then-is_empty-clause-whole : goal.returns-then-is_empty-clause-whole
 returns-then-is_empty-clause-whole g c first earlier heard stands =
     let none : length c.args.rest.now ≡ 0 = search rules in
-    let P : Said → Type 0 = λ (is : Said). OnOk c.hear_end.result (is.end ≡ None) in
-    subst P
+    subst (λ (is : Said). OnOk c.hear_end.result (is.end ≡ None))
     (sym (closed_none g.T.Talker.Hears g.K.ByteSink.written g.K.ByteSink.faults heard c.args.rest.now none))
     (c.hear_end.ensures.whole first earlier heard stands)
 
 pub returns-then-is_empty-clause-stopped : goal.returns-then-is_empty-clause-stopped
 returns-then-is_empty-clause-stopped g c first earlier heard stands =
     let none : length c.args.rest.now ≡ 0 = search rules in
-    let P : Said → Type 0 = λ (is : Said). IfErr c.hear_end.result (StopsSaying g.K.ByteSink.written
-    g.K.ByteSink.faults first earlier c.hear_end.new.out c.hear_end.new.block is) in
-    subst P
+    subst (λ (is : Said). IfErr c.hear_end.result (StopsSaying g.K.ByteSink.written g.K.ByteSink.faults first
+    earlier c.hear_end.new.out c.hear_end.new.block is))
     (sym (closed_none g.T.Talker.Hears g.K.ByteSink.written g.K.ByteSink.faults heard c.args.rest.now none))
     (c.hear_end.ensures.stopped first earlier heard stands)
 
@@ -33,21 +31,19 @@ pub returns-in-Ok-clause-whole : goal.returns-in-Ok-clause-whole
 returns-in-Ok-clause-whole g c first earlier heard stands =
     let some : 0 < length c.args.rest.now = search rules in
     let has = c.in-Ok.ensures.heard first earlier heard stands in
-    let P : Said → Type 0 = λ (is : Said). OnOk c.hear_end-in-Ok.result (is.end ≡ None) in
-    subst P
-    (sym (closed_heard g.T.Talker.Hears g.K.ByteSink.written g.K.ByteSink.faults heard c.args.rest.now has.text some
-    has.is))
-    (c.hear_end-in-Ok.ensures.whole first earlier (heard_more heard c.args.rest.now has.text) has.stands)
+    subst (λ (is : Said). OnOk c.hear_end-in-Ok.result (is.end ≡ None))
+    (sym (closed_heard g.T.Talker.Hears g.K.ByteSink.written g.K.ByteSink.faults heard c.args.rest.now
+    has.text some has.is)) (c.hear_end-in-Ok.ensures.whole first earlier
+    (heard_more heard c.args.rest.now has.text) has.stands)
 
 pub returns-in-Ok-clause-stopped : goal.returns-in-Ok-clause-stopped
 returns-in-Ok-clause-stopped g c first earlier heard stands =
     let some : 0 < length c.args.rest.now = search rules in
     let has = c.in-Ok.ensures.heard first earlier heard stands in
-    let P : Said → Type 0 = λ (is : Said). IfErr c.hear_end-in-Ok.result (StopsSaying g.K.ByteSink.written
-    g.K.ByteSink.faults first earlier c.hear_end-in-Ok.new.out c.hear_end-in-Ok.new.block is) in
-    subst P
-    (sym (closed_heard g.T.Talker.Hears g.K.ByteSink.written g.K.ByteSink.faults heard c.args.rest.now has.text some
-    has.is))
+    subst (λ (is : Said). IfErr c.hear_end-in-Ok.result
+    (StopsSaying g.K.ByteSink.written g.K.ByteSink.faults first earlier c.hear_end-in-Ok.new.out
+    c.hear_end-in-Ok.new.block is)) (sym (closed_heard g.T.Talker.Hears g.K.ByteSink.written
+    g.K.ByteSink.faults heard c.args.rest.now has.text some has.is))
     (c.hear_end-in-Ok.ensures.stopped first earlier (heard_more heard c.args.rest.now has.text) has.stands)
 
 pub returns-in-Err-clause-stopped : goal.returns-in-Err-clause-stopped

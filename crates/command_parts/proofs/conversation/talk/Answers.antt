@@ -37,60 +37,39 @@ returns-in-Err g c =
     let (all, heard, going) = c.loop-n.invariant.going in
     record {
       ran = tt;
-      stopped = talk_unread_now g.S.ByteSource.left g.S.ByteSource.faults g.K.ByteSink.written g.K.ByteSink.faults
-          g.T.Talker.Hears (g.T.Talker.dialogue c.args.talker) c.args.source.now c.args.out.now c.loop-n.source
-          c.loop-n.out c.loop-n.listener c.loop-n.intake all heard going c.take_quiet.new.source
-          c.in-Err.ensures.stays c.in-Err.ensures.counted;
+      stopped = talk_unread_now _ _ _ _ _ _ _ _ _ _ _ _ _ _ going c.take_quiet.new.source c.in-Err.ensures.stays
+          c.in-Err.ensures.counted;
     }
 
 -- ---- the input has come to its end
-pub close-requires-clause-stands : goal.close-requires-clause-stands
-close-requires-clause-stands g c =
-    let (all, heard, going) = c.loop-n.invariant.going in (
-      c.loop-n.out,
-      heard.said,
-      heard,
-      stands_now g.S.ByteSource.left g.S.ByteSource.faults g.K.ByteSink.written
-          g.K.ByteSink.faults g.T.Talker.Hears (g.T.Talker.dialogue c.args.talker) c.args.source.now c.args.out.now
-          c.loop-n.source c.loop-n.out c.loop-n.listener c.loop-n.intake all heard going c.loop-n.block
-          c.loop-n.invariant.quiet,
-    )
-
-pub close-requires-clause-lacks : goal.close-requires-clause-lacks
-close-requires-clause-lacks g c =
+pub close-requires : goal.close-requires
+close-requires g c =
     let (all, heard, going) = c.loop-n.invariant.going in
     let (piece, size, few, is, given) = c.in-Ok.ensures.took in
-    subst (Lacks 10) (sym (nothing_more c.loop-n.intake piece c.octets.result.now (size ∙ c.if-n-eq0.true)
-    (c.octets.ensures ∙ is))) going.lacks
-
-pub close-requires-clause-short : goal.close-requires-clause-short
-close-requires-clause-short g c =
-    let (piece, size, few, is, given) = c.in-Ok.ensures.took in
-    let same = ap (λ (t : List ℕ). length t) (nothing_more c.loop-n.intake piece c.octets.result.now
-    (size ∙ c.if-n-eq0.true) (c.octets.ensures ∙ is)) in
-    omega (arith, same, c.loop-n.invariant.short)
-
-pub close-requires-clause-few : goal.close-requires-clause-few
-close-requires-clause-few g c =
-    let (piece, size, few, is, given) = c.in-Ok.ensures.took in
-    let same = nothing_more c.loop-n.intake piece c.octets.result.now (size ∙ c.if-n-eq0.true)
-    (c.octets.ensures ∙ is) in
+    let same = nothing_more c.loop-n.intake piece _ (size ∙ c.if-n-eq0.true) (c.octets.ensures ∙ is) in
+    let none = ap (λ (t : List ℕ). length t) same in
     let P : List ℕ → Type 0 = λ (t : List ℕ). (0 ≡ length t) ⊎ (c.loop-n.listener.lines < 67108864) in
-    subst P (sym same) c.loop-n.invariant.few_behind
+    record {
+      stands = (
+        c.loop-n.out,
+        heard.said,
+        heard,
+        stands_now _ _ _ _ _ _ _ _ _ _ _ _ _ _ going c.loop-n.block c.loop-n.invariant.quiet,
+      );
+      lacks = subst (Lacks 10) (sym same) going.lacks;
+      short = omega (arith, none, c.loop-n.invariant.short);
+      few = subst P (sym same) c.loop-n.invariant.few_behind;
+    }
 
 pub returns-then-n-eq0 : goal.returns-then-n-eq0
 returns-then-n-eq0 g c =
     let (all, heard, going) = c.loop-n.invariant.going in
     let (piece, size, few, is, given) = c.in-Ok.ensures.took in
-    let stands = stands_now g.S.ByteSource.left g.S.ByteSource.faults g.K.ByteSink.written
-    g.K.ByteSink.faults g.T.Talker.Hears (g.T.Talker.dialogue c.args.talker) c.args.source.now c.args.out.now
-    c.loop-n.source c.loop-n.out c.loop-n.listener c.loop-n.intake all heard going c.loop-n.block
-    c.loop-n.invariant.quiet in
-    gives_closed g.S.ByteSource.left g.S.ByteSource.faults g.K.ByteSink.written g.K.ByteSink.faults g.T.Talker.Hears
-    (g.T.Talker.dialogue c.args.talker) c.args.source.now c.args.out.now c.loop-n.source c.loop-n.out c.loop-n.listener
-    c.loop-n.intake all heard going c.take_quiet.new.source c.close.new.out piece c.octets.result.now c.close.result
-    (size ∙ c.if-n-eq0.true) (c.octets.ensures ∙ is) given (c.in-Ok.ensures.end c.if-n-eq0.true)
-    c.in-Ok.ensures.unfailed (c.close.ensures.whole c.loop-n.out heard.said heard stands)
+    let stands = stands_now _ _ _ _ _ _ _ _ _ _ _ _ _ _ going c.loop-n.block c.loop-n.invariant.quiet in
+    gives_closed _ _ _ _ _ _ _ _ _ _ _ _ _ _ going c.take_quiet.new.source c.close.new.out piece
+    c.octets.result.now c.close.result (size ∙ c.if-n-eq0.true) (c.octets.ensures ∙ is) given
+    (c.in-Ok.ensures.end c.if-n-eq0.true) c.in-Ok.ensures.unfailed
+    (c.close.ensures.whole c.loop-n.out heard.said heard stands)
     (c.close.ensures.cut c.loop-n.out heard.said heard stands)
     (c.close.ensures.stops c.loop-n.out heard.said heard stands)
 
@@ -101,26 +80,18 @@ hear_lines-requires g c =
       c.loop-n.out,
       heard.said,
       heard,
-      stands_now g.S.ByteSource.left g.S.ByteSource.faults g.K.ByteSink.written
-          g.K.ByteSink.faults g.T.Talker.Hears (g.T.Talker.dialogue c.args.talker) c.args.source.now c.args.out.now
-          c.loop-n.source c.loop-n.out c.loop-n.listener c.loop-n.intake all heard going c.loop-n.block
-          c.loop-n.invariant.quiet,
+      stands_now _ _ _ _ _ _ _ _ _ _ _ _ _ _ going c.loop-n.block c.loop-n.invariant.quiet,
     )
 
 pub returns-in-Err-hear_lines : goal.returns-in-Err-hear_lines
 returns-in-Err-hear_lines g c =
     let (all, heard, going) = c.loop-n.invariant.going in
     let (piece, size, few, is, given) = c.in-Ok.ensures.took in
-    let stands = stands_now g.S.ByteSource.left g.S.ByteSource.faults g.K.ByteSink.written
-    g.K.ByteSink.faults g.T.Talker.Hears (g.T.Talker.dialogue c.args.talker) c.args.source.now c.args.out.now
-    c.loop-n.source c.loop-n.out c.loop-n.listener c.loop-n.intake all heard going c.loop-n.block
-    c.loop-n.invariant.quiet in
+    let stands = stands_now _ _ _ _ _ _ _ _ _ _ _ _ _ _ going c.loop-n.block c.loop-n.invariant.quiet in
     let octets = c.octets-in-loop-n.result.now in
     let stops = c.in-Err-hear_lines.ensures.stopped c.loop-n.out heard.said heard stands in
-    gives_stopped g.S.ByteSource.left g.S.ByteSource.faults g.K.ByteSink.written g.K.ByteSink.faults g.T.Talker.Hears
-    (g.T.Talker.dialogue c.args.talker) c.args.source.now c.args.out.now c.loop-n.source c.loop-n.out c.loop-n.listener
-    c.loop-n.intake all heard going c.take_quiet.new.source c.stopped.new.out piece octets c.stopped.result few
-    (c.octets-in-loop-n.ensures ∙ is) given c.in-Ok.ensures.unfailed
+    gives_stopped _ _ _ _ _ _ _ _ _ _ _ _ _ _ going c.take_quiet.new.source c.stopped.new.out piece octets
+    c.stopped.result few (c.octets-in-loop-n.ensures ∙ is) given c.in-Ok.ensures.unfailed
     (c.stopped.ensures.cut c.loop-n.out heard.said (said_by (course_of octets heard)) stops)
     (c.stopped.ensures.stops c.loop-n.out heard.said (said_by (course_of octets heard)) stops)
 
@@ -143,10 +114,7 @@ pub loop-n-preserved : goal.loop-n-preserved
 loop-n-preserved g c =
     let (all, heard, going) = c.loop-n.invariant.going in
     let (piece, size, few, is, given) = c.in-Ok.ensures.took in
-    let stands = stands_now g.S.ByteSource.left g.S.ByteSource.faults g.K.ByteSink.written
-    g.K.ByteSink.faults g.T.Talker.Hears (g.T.Talker.dialogue c.args.talker) c.args.source.now c.args.out.now
-    c.loop-n.source c.loop-n.out c.loop-n.listener c.loop-n.intake all heard going c.loop-n.block
-    c.loop-n.invariant.quiet in
+    let stands = stands_now _ _ _ _ _ _ _ _ _ _ _ _ _ _ going c.loop-n.block c.loop-n.invariant.quiet in
     let octets = c.octets-in-loop-n.result.now in
     let at = c.in-Ok-hear_lines.heard in
     let has = c.in-Ok-hear_lines.ensures.heard c.loop-n.out heard.said heard stands in
@@ -156,14 +124,11 @@ loop-n-preserved g c =
       going = (
         all ++ piece,
         has.now,
-        goes_on_now g.S.ByteSource.left g.S.ByteSource.faults g.K.ByteSink.written
-            g.K.ByteSink.faults g.T.Talker.Hears (g.T.Talker.dialogue c.args.talker) c.args.source.now c.args.out.now
-            c.loop-n.source c.loop-n.out c.loop-n.listener c.loop-n.intake all heard going c.take_quiet.new.source
-            c.put_waiting.new.out c.hear_lines.new.out c.hear_lines.new.listener piece octets c.let_go.new.self
-            c.hear_lines.new.block at (c.octets-in-loop-n.ensures ∙ is) given c.in-Ok.ensures.unfailed has
-            c.in-Ok-hear_lines.ensures.lacks c.in-Ok-hear_lines.ensures.short c.in-Ok-hear_lines.ensures.few_behind same
-            (said_put g.K.ByteSink.written g.K.ByteSink.faults c.loop-n.out c.hear_lines.new.out c.put_waiting.new.out
-            heard.said c.hear_lines.new.block has.now.said has.stands.said c.in-Ok-put_waiting.ensures.ok),
+        goes_on_now _ _ _ _ _ _ _ _ _ _ _ _ _ _ going c.take_quiet.new.source _ c.hear_lines.new.out
+            c.hear_lines.new.listener piece octets c.let_go.new.self _ at (c.octets-in-loop-n.ensures ∙ is)
+            given c.in-Ok.ensures.unfailed has c.in-Ok-hear_lines.ensures.lacks
+            c.in-Ok-hear_lines.ensures.short c.in-Ok-hear_lines.ensures.few_behind same
+            (said_put _ _ _ _ _ _ _ _ has.stands.said c.in-Ok-put_waiting.ensures.ok),
       );
       quiet = c.put_waiting.ensures.empty;
       short = omega (arith, left, length-drop at octets, c.in-Ok-hear_lines.ensures.short);
@@ -178,25 +143,18 @@ pub returns-in-Err-put_waiting : goal.returns-in-Err-put_waiting
 returns-in-Err-put_waiting g c =
     let (all, heard, going) = c.loop-n.invariant.going in
     let (piece, size, few, is, given) = c.in-Ok.ensures.took in
-    let stands = stands_now g.S.ByteSource.left g.S.ByteSource.faults g.K.ByteSink.written
-    g.K.ByteSink.faults g.T.Talker.Hears (g.T.Talker.dialogue c.args.talker) c.args.source.now c.args.out.now
-    c.loop-n.source c.loop-n.out c.loop-n.listener c.loop-n.intake all heard going c.loop-n.block
-    c.loop-n.invariant.quiet in
+    let stands = stands_now _ _ _ _ _ _ _ _ _ _ _ _ _ _ going c.loop-n.block c.loop-n.invariant.quiet in
     let octets = c.octets-in-loop-n.result.now in
     let at = c.in-Ok-hear_lines.heard in
     let has = c.in-Ok-hear_lines.ensures.heard c.loop-n.out heard.said heard stands in
     record {
       ran = record {
         all = tt;
-        part = gives_cut g.S.ByteSource.left g.S.ByteSource.faults g.K.ByteSink.written
-            g.K.ByteSink.faults g.T.Talker.Hears (g.T.Talker.dialogue c.args.talker) c.args.source.now c.args.out.now
-            c.loop-n.source c.loop-n.out c.loop-n.listener c.loop-n.intake all heard going c.take_quiet.new.source
-            c.put_waiting.new.out c.hear_lines.new.out c.hear_lines.new.listener piece octets c.let_go.new.self
-            c.hear_lines.new.block at (c.octets-in-loop-n.ensures ∙ is) given c.in-Ok.ensures.unfailed has
-            c.in-Ok-hear_lines.ensures.lacks c.in-Ok-hear_lines.ensures.short c.in-Ok-hear_lines.ensures.few_behind few
-            (said_put_part g.K.ByteSink.written g.K.ByteSink.faults c.loop-n.out c.hear_lines.new.out
-            c.put_waiting.new.out heard.said c.hear_lines.new.block has.now.said has.stands.said
-            c.in-Err-put_waiting.ensures.err);
+        part = gives_cut _ _ _ _ _ _ _ _ _ _ _ _ _ _ going c.take_quiet.new.source _ c.hear_lines.new.out
+            c.hear_lines.new.listener piece octets c.let_go.new.self _ at (c.octets-in-loop-n.ensures ∙ is)
+            given c.in-Ok.ensures.unfailed has c.in-Ok-hear_lines.ensures.lacks
+            c.in-Ok-hear_lines.ensures.short c.in-Ok-hear_lines.ensures.few_behind few
+            (said_put_part _ _ _ _ _ _ _ _ has.stands.said c.in-Err-put_waiting.ensures.err);
         made = tt;
       };
       stopped = tt;

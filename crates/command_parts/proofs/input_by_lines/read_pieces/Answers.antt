@@ -1,12 +1,11 @@
 -- A piece more was read, and the end.
-use Rattle.std.proofs.Common.{◌-◌, ◌++◌, ◌∙◌, arith}
+use Rattle.std.proofs.Common.{◌-◌, ◌++◌, ◌∙◌, arith, rules}
 use Rattle.std.proofs.lemmas.Result.{IfOk-weaker, IfErr-weaker}
 use Rattle.command_parts.proofs.TakenLaws.{reading_none, reading_more, reading_room, taken_all, stops_read, stops_told}
 use Rattle.command_parts.proofs.input_by_lines.read_pieces.Goals as goal
 
 pub loop-n-init : goal.loop-n-init
-loop-n-init g c = reading_none _ _ _ c.args.source.now c.at_start-reader.result c.new-rest.result.items
-    c.at_start-reader.ensures c.new-rest.ensures.items
+loop-n-init g c = reading_none _ _ _ c.args.source.now _ _ c.at_start-reader.ensures c.new-rest.ensures.items
 
 pub read_more-requires : goal.read_more-requires
 read_more-requires g c =
@@ -42,20 +41,17 @@ read_end-requires g c =
     (reading_more _ _ _ _ _ _ _ _ it.0 _ _ _ (c.loop-n.room - c.in-Ok.n)
     c.loop-n.invariant it.2 c.in-Ok.ensures.quiet it.1 (omega (arith, c.in-Ok.ensures.within)) (c.as_slice.ensures.value ∙ it.3))
 
-pub returns-then-n-eq0-clause-said : goal.returns-then-n-eq0-clause-said
-returns-then-n-eq0-clause-said g c =
+pub returns-then-n-eq0 : goal.returns-then-n-eq0
+returns-then-n-eq0 g c =
     let it = c.in-Ok.ensures.took in
     let now = reading_more _ _ _ _ _ _ _ _ it.0 _ _ _ (c.loop-n.room - c.in-Ok.n)
     c.loop-n.invariant it.2 c.in-Ok.ensures.quiet it.1 (omega (arith, c.in-Ok.ensures.within)) (c.as_slice.ensures.value ∙ it.3) in
     let read = taken_all _ _ _ _ now.all _ now.taken (c.in-Ok.ensures.end c.if-n-eq0.true) in
-    IfOk-weaker c.read_end.result _ _ (λ said says. (now.all, read, says)) (c.read_end.ensures.said now.all now.follows)
-
-pub returns-then-n-eq0-clause-stopped : goal.returns-then-n-eq0-clause-stopped
-returns-then-n-eq0-clause-stopped g c writes =
-    let it = c.in-Ok.ensures.took in
-    let now = reading_more _ _ _ _ _ _ _ _ it.0 _ _ _ (c.loop-n.room - c.in-Ok.n)
-    c.loop-n.invariant it.2 c.in-Ok.ensures.quiet it.1 (omega (arith, c.in-Ok.ensures.within)) (c.as_slice.ensures.value ∙ it.3) in
-    let read = taken_all _ _ _ _ now.all _ now.taken (c.in-Ok.ensures.end c.if-n-eq0.true) in
-    IfErr-weaker c.read_end.result _ _
-    (λ stop stops. stops_read _ _ now.all stop read (stops_told writes (g.R.PieceReader.says now.all) stop stops))
-    (c.read_end.ensures.stopped now.all now.follows)
+    record {
+      said = IfOk-weaker c.read_end.result _ _ (λ said says. (now.all, read, says))
+          (c.read_end.ensures.said now.all now.follows);
+      fits = search rules;
+      stopped = λ writes. IfErr-weaker c.read_end.result _ _
+          (λ stop stops. stops_read _ _ now.all stop read (stops_told writes (g.R.PieceReader.says now.all) stop stops))
+          (c.read_end.ensures.stopped now.all now.follows);
+    }

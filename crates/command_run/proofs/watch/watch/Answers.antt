@@ -1,7 +1,6 @@
 -- A script is read, its session is run, and its report and its alarms are written or a write fails.
 use Rattle.std.proofs.Common.{inl, inr, refl, subst}
 use Rattle.law_model.specs.Common.{leg_of, Appends, AppendsPart}
-use Rattle.std.proofs.Common.{List, ℕ}
 use Rattle.std.proofs.lemmas.Result.{on_ok_weaker, on_err_weaker}
 use Rattle.law_model.specs.declared.script_types.Script.{Script}
 use Rattle.law_walk.specs.Common.{final_report}
@@ -54,20 +53,18 @@ returns g c =
     record { all = c.in-Ok-run_watched.ensures.written; part = c.in-Ok-run_watched.ensures.part } in
     let report = c.in-Ok-end_report.ensures.ok script c.args.out.now ended got in
     let alarms = told-text script (alarms_in c.in-Ok-run_watched.list) c.in-Ok-run_watched.ensures.alarms in
-    let P : List ℕ → Type 0 = λ text. Appends g.E.ByteSink.written g.E.ByteSink.faults c.args.notes.now
-    c.tell_alarms-written.new.notes text in
-    let Q : List ℕ → Type 0 = λ text. AppendsPart g.E.ByteSink.written g.E.ByteSink.faults c.args.notes.now
-    c.tell_alarms-written.new.notes text in
     record {
       ran = record {
         answer = answer script;
         meets = meets-script _ answer script c.in-Ok.ensures.script;
-        all = on_ok_weaker c.tell_alarms-written.result (λ all. (report, subst P alarms all))
-            c.tell_alarms-written.ensures.ok;
+        all = on_ok_weaker c.tell_alarms-written.result
+            (λ all. (report, subst (Appends g.E.ByteSink.written g.E.ByteSink.faults c.args.notes.now
+            c.tell_alarms-written.new.notes) alarms all)) c.tell_alarms-written.ensures.ok;
         part = on_err_weaker c.tell_alarms-written.result (λ part. inr (
           some-all _ _ c.args.out.now
               c.end_report.new.out (final_report (leg_of script)) report,
-          subst Q alarms part,
+          subst (AppendsPart g.E.ByteSink.written g.E.ByteSink.faults c.args.notes.now
+          c.tell_alarms-written.new.notes) alarms part,
         ))
             c.tell_alarms-written.ensures.err;
         made = (script, c.in-Ok.ensures.script, ended);

@@ -8,63 +8,36 @@ use Rattle.command_walk.specs.WordsOfCommands.{command_in, task_at, task_for, Ha
 use Rattle.command_walk.proofs.CommandLaws.{fits, not-run, any-command, no-such-command, ends-usage, ends-wanting}
 use Rattle.command_walk.proofs.GivenLaws.{ends-for, run-for}
 use Rattle.command_walk.proofs.RoomLaws.{some-command, headline-of, tells-pair, tells-live}
-use Rattle.command_walk.proofs.top_call.walk_top.Given as given
 use Rattle.command_walk.proofs.top_call.walk_top.Goals as goal
-use Rattle.command_walk.proofs.top_call.walk_top.Goals.{After-end_of}
 
 -- ---- a command was run
 pub run-requires : goal.run-requires
 run-requires g c = fits c.args.words.now c.in-Ok.command (search rules)
 
-ends : (g : given.Over) (c : After-end_of g) →
+pub returns-in-Ok : goal.returns-in-Ok
+returns-in-Ok g c =
+    let P : Option WalkCommand → Type 0 = λ o.
     Ends (lent g.S.ByteSource.left g.S.ByteSource.faults c.args.script.now c.run.new.script)
-    (lent g.K.ByteSink.written g.K.ByteSink.faults c.args.out.now c.run.new.out)
-    (lent g.E.ByteSink.written g.E.ByteSink.faults c.args.notes.now c.end_of.new.notes)
-    (task_at c.in-Ok.command) c.end_of.result.status
-ends g c =
-    ends-for _ _ _ _ c.args.notes.now c.run.new.notes c.end_of.new.notes _ _ (task_at c.in-Ok.command) c.run.result
-    c.run.ensures c.end_of.ensures.end
-
-pub returns-in-Ok-clause-ends : goal.returns-in-Ok-clause-ends
-returns-in-Ok-clause-ends g c =
-    let P : Option WalkCommand → Type 0 = λ o. Ends (lent g.S.ByteSource.left g.S.ByteSource.faults c.args.script.now c.run.new.script)
     (lent g.K.ByteSink.written g.K.ByteSink.faults c.args.out.now c.run.new.out)
     (lent g.E.ByteSink.written g.E.ByteSink.faults c.args.notes.now c.end_of.new.notes)
     (task_for o) c.end_of.result.status in
     let known : command_in c.args.words.now ≡ Some c.in-Ok.command = search rules in
-    subst P (sym known) (ends g (goal.at.returns-in-Ok-clause-ends g c).After-end_of)
-
-pub returns-in-Ok-clause-headline : goal.returns-in-Ok-clause-headline
-returns-in-Ok-clause-headline g c =
-    some-command _ (command_in c.args.words.now) c.in-Ok.command (search rules)
-    (λ runs. headline-of _ _ _ _ c.in-Ok.command runs (ends g (goal.at.returns-in-Ok-clause-headline g c).After-end_of))
-
-pub returns-in-Ok-clause-ways : goal.returns-in-Ok-clause-ways
-returns-in-Ok-clause-ways g c is =
-    let P : WalkCommand → Type 0 = λ command. Ends (lent g.S.ByteSource.left g.S.ByteSource.faults c.args.script.now c.run.new.script)
-    (lent g.K.ByteSink.written g.K.ByteSink.faults c.args.out.now c.run.new.out)
-    (lent g.E.ByteSink.written g.E.ByteSink.faults c.args.notes.now c.end_of.new.notes)
-    (task_at command) c.end_of.result.status in
-    let known : command_in c.args.words.now ≡ Some c.in-Ok.command = search rules in
-    tells-pair _ _ _ _ (subst P (let same : c.in-Ok.command ≡ Pair = cc in same)
-    (ends g (goal.at.returns-in-Ok-clause-ways g c).After-end_of))
-
-pub returns-in-Ok-clause-live : goal.returns-in-Ok-clause-live
-returns-in-Ok-clause-live g c trace is =
-    let P : WalkCommand → Type 0 = λ command. Ends (lent g.S.ByteSource.left g.S.ByteSource.faults c.args.script.now c.run.new.script)
-    (lent g.K.ByteSink.written g.K.ByteSink.faults c.args.out.now c.run.new.out)
-    (lent g.E.ByteSink.written g.E.ByteSink.faults c.args.notes.now c.end_of.new.notes)
-    (task_at command) c.end_of.result.status in
-    let known : command_in c.args.words.now ≡ Some c.in-Ok.command = search rules in
-    tells-live _ _ _ trace _ (subst P (let same : c.in-Ok.command ≡ Live trace = cc in same)
-    (ends g (goal.at.returns-in-Ok-clause-live g c).After-end_of))
-
-pub returns-in-Ok-clause-handed : goal.returns-in-Ok-clause-handed
-returns-in-Ok-clause-handed g c =
-    some-command _ (command_in c.args.words.now) c.in-Ok.command (search rules)
-    (λ at. rw c.end_of.ensures.walk (run-for _ _ _ _ c.args.notes.now c.run.new.notes c.end_of.new.notes _ _
-    (task_at c.in-Ok.command) (λ ran. HandsBack (lent g.S.ByteSource.left g.S.ByteSource.faults c.args.script.now c.run.new.script)
-    (walk_of ran) c.in-Ok.command) (λ own made. made) c.run.result c.run.ensures c.end_of.ensures.end at))
+    let own : P (Some c.in-Ok.command) = ends-for _ _ _ _ c.args.notes.now c.run.new.notes c.end_of.new.notes _ _
+    (task_at c.in-Ok.command) c.run.result c.run.ensures c.end_of.ensures.end in
+    record {
+      ends = subst P (sym known) own;
+      headline = some-command _ (command_in c.args.words.now) c.in-Ok.command known
+          (λ runs. headline-of _ _ _ _ c.in-Ok.command runs own);
+      ways = λ is. tells-pair _ _ _ _ (subst P (let same : Some c.in-Ok.command ≡ Some Pair = cc in same) own);
+      live = λ trace is.
+          tells-live _ _ _ trace _ (subst P (let same : Some c.in-Ok.command ≡ Some (Live trace) = cc in same) own);
+      handed = some-command _ (command_in c.args.words.now) c.in-Ok.command known
+          (λ at. rw c.end_of.ensures.walk (run-for _ _ _ _ c.args.notes.now c.run.new.notes c.end_of.new.notes _ _
+          (task_at c.in-Ok.command)
+          (λ ran. HandsBack (lent g.S.ByteSource.left g.S.ByteSource.faults c.args.script.now c.run.new.script)
+          (walk_of ran) c.in-Ok.command) (λ own made. made) c.run.result c.run.ensures c.end_of.ensures.end at));
+      kept = search rules;
+    }
 
 -- ---- the words are no command
 pub returns-in-Err-Usage-clause-ends : goal.returns-in-Err-Usage-clause-ends

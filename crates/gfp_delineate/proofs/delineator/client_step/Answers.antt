@@ -19,12 +19,10 @@ pub returns-in-Ok-clause-outcome : goal.returns-in-Ok-clause-outcome
 returns-in-Ok-clause-outcome c =
     ap (λ fault. outcome_by fault c.args.area.now ∷ [])
     (sym (ap type_fault (sym c.first_four.ensures)
-    ∙ type_right (type_fault c.first_four.result) c.read_type.result c.in-Ok.field-0 c.in-Ok.is
-    c.read_type.ensures.value))
+    ∙ type_right (type_fault c.first_four.result) _ c.in-Ok.field-0 c.in-Ok.is c.read_type.ensures.value))
 
 pub returns-in-Err-clause-outcome : goal.returns-in-Err-clause-outcome
 returns-in-Err-clause-outcome c =
     ap (λ fault. outcome_by fault c.args.area.now ∷ [])
     (sym (ap type_fault (sym c.first_four.ensures)
-    ∙ type_wrong (type_fault c.first_four.result) c.read_type.result c.in-Err.fault c.in-Err.is
-    c.read_type.ensures.value))
+    ∙ type_wrong (type_fault c.first_four.result) _ c.in-Err.fault c.in-Err.is c.read_type.ensures.value))

@@ -8,33 +8,28 @@ use Rattle.thread_rings.specs.Ends.{OutEnd, out_free}
 use Rattle.thread_group.proofs.RingLaws.{set-there, has-looked, looked-set}
 use Rattle.thread_group.proofs.tick_rings.first_full.Goals as goal
 
-pub returns-then-not-ready-clause-looked : goal.returns-then-not-ready-clause-looked
-returns-then-not-ready-clause-looked c =
-    let i = c.loop-m in
-    let at = slice_get_read i.tx.items (length i.tx.items) i.m c.index_mut.result.now refl
-    (omega arith) c.index_mut.ensures.value in
-    let e = c.ready.ensures in
-    looked-set c.args.tx.now.items i.tx.items i.m c.index_mut.result.now c.ready.new.self
-    (sym (i.invariant.rest i.m (omega arith)) ∙ at)
-    (has-looked c.index_mut.result.now c.ready.new.self c.ready.result e.same e.passed e.kept e.counted e.quiet)
-    i.invariant.looked
-
-pub returns-then-not-ready-clause-full : goal.returns-then-not-ready-clause-full
-returns-then-not-ready-clause-full c =
+pub returns-then-not-ready : goal.returns-then-not-ready
+returns-then-not-ready c =
     let i = c.loop-m in
     let at = slice_get_read i.tx.items (length i.tx.items) i.m c.index_mut.result.now refl
     (omega arith) c.index_mut.ensures.value in
     let e = c.ready.ensures in
     record {
-      before = λ k out low there. i.invariant.free k out low
-          (sym (set-other i.tx.items i.m k c.ready.new.self (λ (same : k ≡ i.m). let h : ⊥ = omega arith in h))
-          ∙ there);
-      was = c.index_mut.result.now;
-      is = c.ready.new.self;
-      old = sym (i.invariant.rest i.m (omega arith)) ∙ at;
-      new = set-there i.tx.items i.m c.ready.new.self c.index_mut.result.now at;
-      none = e.missed c.if-not-ready.true;
-      missed = e.counted c.if-not-ready.true;
+      looked = looked-set c.args.tx.now.items i.tx.items i.m c.index_mut.result.now c.ready.new.self
+          (sym (i.invariant.rest i.m (omega arith)) ∙ at)
+          (has-looked c.index_mut.result.now c.ready.new.self c.ready.result e.same e.passed e.kept e.counted e.quiet)
+          i.invariant.looked;
+      full = record {
+        before = λ k out low there. i.invariant.free k out low
+            (sym (set-other i.tx.items i.m k c.ready.new.self (λ (same : k ≡ i.m). let h : ⊥ = omega arith in h))
+            ∙ there);
+        was = c.index_mut.result.now;
+        is = c.ready.new.self;
+        old = sym (i.invariant.rest i.m (omega arith)) ∙ at;
+        new = set-there i.tx.items i.m c.ready.new.self c.index_mut.result.now at;
+        none = e.missed c.if-not-ready.true;
+        missed = e.counted c.if-not-ready.true;
+      };
     }
 
 pub loop-m-preserved : goal.loop-m-preserved

@@ -51,8 +51,7 @@ loop-back-preserved c =
     let come : is.come ≡ was.come + 1 = ap (λ (x : Inbox). x.come) put in
     let few = i.invariant.few in
     record {
-      moved = moved-one c.args.source.now.inbox was is c.args.back.now i.back c.pop.new.self c.pop.result
-          i.invariant.moved put low
+      moved = moved-one _ was is c.args.back.now i.back c.pop.new.self c.pop.result i.invariant.moved put low
           (in-then i.back c.ready.new.self c.pop.new.self c.ready.ensures.same c.pop.ensures.same)
           (c.pop.ensures.passed ∙ ap (λ l. l ++ c.pop.result ∷ []) c.ready.ensures.passed);
       within = omega arith;

@@ -7,17 +7,11 @@ use Rattle.thread_sink.proofs.burst_steps.go_on.Goals as goal
 
 pub returns-then-ne-clause-later : goal.returns-then-ne-clause-later
 returns-then-ne-clause-later g c =
-    later-then (parts c.args.rows.now c.args.core.now c.args.rx.now.items c.args.back.now)
-    (parts c.loop.rows c.loop.core c.loop.rx.items c.loop.back)
-    (parts c.step.new.rows c.step.new.core c.step.new.rx.items c.step.new.back) c.loop.invariant.later
-    c.step.ensures.later
+    later-then _ _ _ c.loop.invariant.later c.step.ensures.later
 
 pub returns-then-ne-clause-gives : goal.returns-then-ne-clause-gives
 returns-then-ne-clause-gives g c keeps =
-    gives-then g.F.FrameOut.stands_for c.args.out.now c.loop.out c.step.new.out
-    (parts c.args.rows.now c.args.core.now c.args.rx.now.items c.args.back.now)
-    (parts c.loop.rows c.loop.core c.loop.rx.items c.loop.back)
-    (parts c.step.new.rows c.step.new.core c.step.new.rx.items c.step.new.back)
+    gives-then g.F.FrameOut.stands_for c.args.out.now c.loop.out c.step.new.out _ _ _
     (c.loop.invariant.keeps keeps) c.loop.invariant.later c.step.ensures.later (c.loop.invariant.gives keeps)
     (c.step.ensures.gives (c.loop.invariant.keeps keeps))
 

@@ -1,20 +1,13 @@
 -- The first step, and those after it.
-use Rattle.thread_sink.specs.Parts.{parts}
 use Rattle.thread_sink.proofs.PartsLaws.{later-then, gives-then}
 use Rattle.thread_sink.proofs.burst_steps.take_rows.Goals as goal
 
 pub returns-clause-later : goal.returns-clause-later
 returns-clause-later g c =
-    later-then (parts c.args.rows.now c.args.core.now c.args.rx.now.items c.args.back.now)
-    (parts c.step-first.new.rows c.step-first.new.core c.step-first.new.rx.items c.step-first.new.back)
-    (parts c.go_on.new.rows c.go_on.new.core c.go_on.new.rx.items c.go_on.new.back) c.step-first.ensures.later
-    c.go_on.ensures.later
+    later-then _ _ _ c.step-first.ensures.later c.go_on.ensures.later
 
 pub returns-clause-gives : goal.returns-clause-gives
 returns-clause-gives g c keeps =
-    gives-then g.F.FrameOut.stands_for c.args.out.now c.step-first.new.out c.go_on.new.out
-    (parts c.args.rows.now c.args.core.now c.args.rx.now.items c.args.back.now)
-    (parts c.step-first.new.rows c.step-first.new.core c.step-first.new.rx.items c.step-first.new.back)
-    (parts c.go_on.new.rows c.go_on.new.core c.go_on.new.rx.items c.go_on.new.back)
+    gives-then g.F.FrameOut.stands_for c.args.out.now c.step-first.new.out c.go_on.new.out _ _ _
     (c.step-first.ensures.keeps keeps) c.step-first.ensures.later c.go_on.ensures.later
     (c.step-first.ensures.gives keeps) (c.go_on.ensures.gives (c.step-first.ensures.keeps keeps))

@@ -9,16 +9,13 @@ pub returns-then-take_cell-clause-later : goal.returns-then-take_cell-clause-lat
 returns-then-take_cell-clause-later g c =
     let line = c.in-Waiting.line in
     let there = c.in-Waiting.ensures.allows.0 in
-    later-cell c.args.rows.now c.take_cell.new.rows c.args.core.now c.args.rx.now.items c.take_cell.new.rx.items
-    c.args.back.now line
-    (c.take_cell.ensures.took c.if-take_cell.true) (omega (arith, there, c.requires.lines, c.requires.rings))
-    c.take_cell.ensures.same
+    later-cell _ _ c.args.core.now _ _ c.args.back.now line (c.take_cell.ensures.took c.if-take_cell.true)
+    (omega (arith, there, c.requires.lines, c.requires.rings)) c.take_cell.ensures.same
 
 pub returns-then-take_cell-clause-keeps : goal.returns-then-take_cell-clause-keeps
 returns-then-take_cell-clause-keeps g c keeps =
-    keeps-cell c.args.rows.now c.take_cell.new.rows c.args.core.now c.args.rx.now.items c.take_cell.new.rx.items
-    c.args.back.now c.in-Waiting.line
-    (c.take_cell.ensures.took c.if-take_cell.true) c.take_cell.ensures.same keeps
+    keeps-cell c.args.rows.now c.take_cell.new.rows c.args.core.now c.args.rx.now.items _ c.args.back.now
+    c.in-Waiting.line (c.take_cell.ensures.took c.if-take_cell.true) c.take_cell.ensures.same keeps
 
 pub returns-then-take_cell-clause-does : goal.returns-then-take_cell-clause-does
 returns-then-take_cell-clause-does g c keeps =

@@ -6,19 +6,16 @@ use Rattle.command_parts.proofs.conversation.Listener.hear_end.Goals as goal
 
 pub returns-in-Ok-clause-whole : goal.returns-in-Ok-clause-whole
 returns-in-Ok-clause-whole g c first earlier heard stands =
-    ended_whole g.T.Talker.Hears g.K.ByteSink.written g.K.ByteSink.faults c.args.out.now c.finish.new.out
-    c.args.block.now c.finish.new.block heard (last_reply heard) (c.in-Ok.ensures.replied heard stands.listens.hears)
+    ended_whole g.T.Talker.Hears _ _ _ _ _ _ heard _ (c.in-Ok.ensures.replied heard stands.listens.hears)
 
 pub returns-in-Ok-clause-said : goal.returns-in-Ok-clause-said
 returns-in-Ok-clause-said g c first earlier heard stands =
-    ended_said g.T.Talker.Hears g.K.ByteSink.written g.K.ByteSink.faults first c.args.out.now c.finish.new.out earlier
-    c.args.block.now c.finish.new.block heard (last_reply heard) stands.said
-    (c.in-Ok.ensures.replied heard stands.listens.hears)
+    ended_said g.T.Talker.Hears _ _ first c.args.out.now c.finish.new.out earlier c.args.block.now
+    c.finish.new.block heard _ stands.said (c.in-Ok.ensures.replied heard stands.listens.hears)
 
 pub returns-in-Err-clause-stopped : goal.returns-in-Err-clause-stopped
 returns-in-Err-clause-stopped g c first earlier heard stands =
     ended_stops g.T.Talker.Hears g.K.ByteSink.written g.K.ByteSink.faults first c.finish.new.out earlier
     c.finish.new.block heard (last_reply heard) c.in-Err.stop
-    (stops_reply g.K.ByteSink.written g.K.ByteSink.faults first c.args.out.now c.finish.new.out earlier c.args.block.now
-    c.finish.new.block heard (last_reply heard) c.in-Err.stop stands.said
-    (c.in-Err.ensures.stopped heard stands.listens.hears))
+    (stops_reply _ _ first c.args.out.now c.finish.new.out earlier c.args.block.now c.finish.new.block heard
+    (last_reply heard) c.in-Err.stop stands.said (c.in-Err.ensures.stopped heard stands.listens.hears))

@@ -10,6 +10,5 @@ returns c =
     let low : c.args.n ≤ c.self.inside.len =
     omega (arith, c.requires, size, length-take c.self.inside.len c.self.inside.octets) in
     let within : c.self.inside.len ≤ length c.self.inside.octets = search rules in
-    moved_down c.self.inside.octets c.copy_within.new.self c.args.n c.self.inside.len low within
-    c.copy_within.ensures.after
+    moved_down c.self.inside.octets _ c.args.n c.self.inside.len low within c.copy_within.ensures.after
     ∙ ap (λ (t : List ℕ). drop c.args.n t) (sym is)

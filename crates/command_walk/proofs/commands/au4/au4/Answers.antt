@@ -1,11 +1,8 @@
 -- The input is read, and says a link or doesn't.
 use Rattle.std.proofs.Common.{refl, sym, ap, ◌∙◌}
-use Rattle.command_parts.specs.Common.{line_text}
 use Rattle.command_parts.specs.declared.stop_and_status.Refusal.TheVariants.{Line}
 use Rattle.command_parts.proofs.StopLaws.{refused-line}
 use Rattle.command_parts.proofs.GiveLaws.{text-written}
-use Rattle.text_lines.specs.Faults.{kind_of}
-use Rattle.member_au4.specs.au4_link.Helps.{help_of}
 use Rattle.member_au4.specs.au4_link.Text.{link_text}
 use Rattle.command_walk.specs.commands.Au4.{carried, au4_answer}
 use Rattle.command_walk.proofs.commands.au4.au4.Goals as goal
@@ -16,10 +13,8 @@ returns-in-Err g c = record { ran = tt; stopped = c.in-Err.ensures.stopped au4_a
 pub returns-in-Err-Line : goal.returns-in-Err-Line
 returns-in-Err-Line g c = record {
   ran = tt;
-  stopped = refused-line _ au4_answer c.in-Ok.text.items c.faulty_line.result Line
-      (line_text c.in-Err-Line.number (kind_of c.in-Err-Line.fault) (help_of c.in-Err-Line.fault)) c.in-Ok.ensures.read
-      c.faulty_line.ensures.why c.faulty_line.ensures.note
-      (ap au4_answer (sym c.as_slice.ensures.value)
+  stopped = refused-line _ au4_answer c.in-Ok.text.items c.faulty_line.result Line _ c.in-Ok.ensures.read
+      c.faulty_line.ensures.why c.faulty_line.ensures.note (ap au4_answer (sym c.as_slice.ensures.value)
       ∙ ap carried (rw c.in-Err-Line.field-0-is at c.in-Err-Line.ensures.fault));
   nothing = refl;
 }

@@ -22,7 +22,6 @@ write_capture-written-requires-clause-begun g c = c.in-Ok.ensures.begun.counts
 
 pub returns : goal.returns
 returns g c =
-    script-written _ _ _ _ capture_octets c.in-Ok.begun.walk.script c.in-Ok.ensures.script
-    c.write_capture-written.ensures.ok c.write_capture-written.ensures.err
-    (hands-script _ c.in-Ok.begun.walk.script c.write_capture-written.new.walk c.in-Ok.ensures.script
-    c.write_capture-written.ensures.script c.write_capture-written.ensures.counts)
+    script-written _ _ _ _ capture_octets _ c.in-Ok.ensures.script c.write_capture-written.ensures.ok
+    c.write_capture-written.ensures.err (hands-script _ _ c.write_capture-written.new.walk
+    c.in-Ok.ensures.script c.write_capture-written.ensures.script c.write_capture-written.ensures.counts)

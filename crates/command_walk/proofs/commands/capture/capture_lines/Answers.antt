@@ -42,8 +42,7 @@ loop-turn-preserved g c =
     record {
       script = c.capture_turn.ensures.script ∙ inv.script;
       left = gives.left c.capture_turn.new.walk.counts
-          (turn-made c.args.walk.now.script c.loop-turn.walk.script _ _ c.in-Some.turn inv.script
-          c.capture_turn.ensures.counts);
+          (turn-made c.args.walk.now.script _ _ _ c.in-Some.turn inv.script c.capture_turn.ensures.counts);
       taken = λ start has. c.capture_turn.ensures.taken start (inv.taken start has);
     }
 

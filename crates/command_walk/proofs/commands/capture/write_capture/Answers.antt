@@ -2,40 +2,29 @@
 use Rattle.std.proofs.Common.{rules, refl, sym, ◌∙◌, ap, subst}
 use Rattle.law_model.specs.Common.{Counts, Start}
 use Rattle.text_got.specs.Told.{start_at}
-use Rattle.law_headline.specs.Texts.{counts_in}
 use Rattle.text_captures.specs.capture_file.Out.{HasCapture, name_of}
 use Rattle.command_walk.specs.commands.Capture.{taken_frames}
 use Rattle.command_walk.proofs.TakenLaws.{begun-taken}
-use Rattle.command_walk.proofs.commands.capture.write_capture.Given as given
 use Rattle.command_walk.proofs.commands.capture.write_capture.Goals as goal
-use Rattle.command_walk.proofs.commands.capture.write_capture.Goals.{After-finish-back}
 
-told : (g : given.Over) (c : After-finish-back g) →
-    HasCapture g.K.ByteSink.written g.K.ByteSink.faults c.capture_lines.new.out
-    (start_at g.K.ByteSink.written g.K.ByteSink.faults c.args.out.now (name_of c.new-capture.result))
-    (taken_frames c.args.walk.now.script (counts_in c.args.walk.now.script).rows)
-told g c =
+pub returns : goal.returns
+returns g c =
     let start : Start = start_at g.K.ByteSink.written g.K.ByteSink.faults c.args.out.now
     (name_of c.new-capture.result) in
-    subst (HasCapture g.K.ByteSink.written g.K.ByteSink.faults c.capture_lines.new.out start)
+    let has = subst (HasCapture g.K.ByteSink.written g.K.ByteSink.faults c.capture_lines.new.out start)
     (ap (λ s. taken_frames s c.capture_lines.new.walk.counts.rows) c.capture_lines.ensures.script
     ∙ ap (λ (s : Counts). taken_frames c.args.walk.now.script s.rows) c.capture_lines.ensures.counts)
     (c.capture_lines.ensures.taken start
     (begun-taken g.K.ByteSink.written g.K.ByteSink.faults c.new-capture.result start c.args.walk.now
-    c.new-capture.ensures.fresh c.requires.begun))
-
-pub returns-clause-ok : goal.returns-clause-ok
-returns-clause-ok g c =
-    let has = told g (goal.at.returns-clause-ok g c).After-finish-back in
-    let end = c.finish-back.ensures.ok c.args.out.now _ (refl, has.1) in
-    let back = rw (sym c.take_back.ensures) at end in
+    c.new-capture.ensures.fresh c.requires.begun)) in
     let name = c.finish-back.ensures.name ∙ has.0 ∙ c.new-capture.ensures.name in
-    search (rules, back, name)
-
-pub returns-clause-err : goal.returns-clause-err
-returns-clause-err g c =
-    let has = told g (goal.at.returns-clause-err g c).After-finish-back in
-    let end = c.finish-back.ensures.err c.args.out.now _ (refl, has.1) in
-    let back = rw (sym c.take_back.ensures) at end in
-    let name = c.finish-back.ensures.name ∙ has.0 ∙ c.new-capture.ensures.name in
-    search (rules, back, name)
+    record {
+      script = search rules;
+      counts = search rules;
+      ok =
+          let end = rw (sym c.take_back.ensures) at c.finish-back.ensures.ok c.args.out.now _ (refl, has.1) in
+          search (rules, end, name);
+      err =
+          let end = rw (sym c.take_back.ensures) at c.finish-back.ensures.err c.args.out.now _ (refl, has.1) in
+          search (rules, end, name);
+    }

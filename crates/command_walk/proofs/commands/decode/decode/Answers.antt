@@ -1,12 +1,11 @@
 -- The input is read, and is lines of hexadecimal digits or isn't.
 use Rattle.std.proofs.Common.{rules, refl, sym, ap, ◌∙◌}
 use Rattle.law_model.specs.Common.{decoded_text}
-use Rattle.text_lines.specs.declared.text_faults.LineKind.TheVariants.{Hex}
-use Rattle.command_parts.specs.Common.{writes, line_text}
+use Rattle.command_parts.specs.Common.{writes}
 use Rattle.command_parts.specs.declared.stop_and_status.Refusal.TheVariants.{Line}
 use Rattle.command_parts.proofs.StopLaws.{refused-line}
 use Rattle.command_parts.proofs.GiveLaws.{text-written}
-use Rattle.command_walk.specs.commands.Decode.{decoded, decode_help, decode_answer}
+use Rattle.command_walk.specs.commands.Decode.{decoded, decode_answer}
 use Rattle.command_walk.proofs.commands.decode.decode.Goals as goal
 
 pub returns-in-Err : goal.returns-in-Err
@@ -15,10 +14,8 @@ returns-in-Err g c = record { ran = tt; stopped = c.in-Err.ensures.stopped decod
 pub returns-in-Err-Line : goal.returns-in-Err-Line
 returns-in-Err-Line g c = record {
   ran = tt;
-  stopped = refused-line _ decode_answer c.in-Ok.text.items c.line_fault.result Line
-      (line_text c.in-Err-Line.number Hex decode_help) c.in-Ok.ensures.read c.line_fault.ensures.why
-      c.line_fault.ensures.note
-      (ap decode_answer (sym c.as_slice.ensures.value)
+  stopped = refused-line _ decode_answer c.in-Ok.text.items c.line_fault.result Line _ c.in-Ok.ensures.read
+      c.line_fault.ensures.why c.line_fault.ensures.note (ap decode_answer (sym c.as_slice.ensures.value)
       ∙ ap decoded (c.read_octets.ensures.line c.in-Err-Line.number (search rules)));
   nothing = refl;
 }

@@ -52,16 +52,10 @@ returns-in-Err-clause-err g c =
 
 pub returns-clause-ok : goal.returns-clause-ok
 returns-clause-ok g c =
-    on_ok_weaker c.put_all.result
-    (all_decoded _ _ c.args.octets.now c.loop-h4.h4-index c.loop-h4.packets _ c.args.out.now _ _ c.loop-h4-test.false
-    c.loop-h4.invariant.lines
-    c.end_line-end.ensures.line)
-    c.put_all.ensures.ok
+    on_ok_weaker c.put_all.result (all_decoded _ _ c.args.octets.now c.loop-h4.h4-index _ _ c.args.out.now _ _
+    c.loop-h4-test.false c.loop-h4.invariant.lines c.end_line-end.ensures.line) c.put_all.ensures.ok
 
 pub returns-clause-err : goal.returns-clause-err
 returns-clause-err g c =
-    on_err_weaker c.put_all.result
-    (end_part _ _ c.args.octets.now c.loop-h4.h4-index c.loop-h4.packets _ c.args.out.now _ _ c.loop-h4-test.false
-    c.loop-h4.invariant.lines
-    c.end_line-end.ensures.line)
-    c.put_all.ensures.err
+    on_err_weaker c.put_all.result (end_part _ _ c.args.octets.now c.loop-h4.h4-index _ _ c.args.out.now _ _
+    c.loop-h4-test.false c.loop-h4.invariant.lines c.end_line-end.ensures.line) c.put_all.ensures.err

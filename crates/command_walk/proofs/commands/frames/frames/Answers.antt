@@ -1,7 +1,7 @@
 -- The input is read, and is a sound capture or isn't.
 use Rattle.std.proofs.Common.{refl, sym, ap, ◌∙◌, drop}
 use Rattle.text_captures.specs.capture_file.Reading.{frames_of}
-use Rattle.text_captures.specs.capture_file.Texts.{frame_texts, fault_text}
+use Rattle.text_captures.specs.capture_file.Texts.{frame_texts}
 use Rattle.command_parts.specs.Common.{writes}
 use Rattle.command_parts.specs.declared.stop_and_status.Refusal.TheVariants.{Line}
 use Rattle.command_parts.proofs.StopLaws.{refused-line}
@@ -15,9 +15,8 @@ returns-in-Err g c = record { ran = tt; stopped = c.in-Err.ensures.stopped frame
 pub returns-in-Err-read_capture : goal.returns-in-Err-read_capture
 returns-in-Err-read_capture g c = record {
   ran = tt;
-  stopped = refused-line _ frames_answer c.in-Ok.octets.items c.capture_fault.result Line
-      (fault_text c.in-Err-read_capture.fault) c.in-Ok.ensures.read c.capture_fault.ensures.why
-      c.capture_fault.ensures.note
+  stopped = refused-line _ frames_answer c.in-Ok.octets.items c.capture_fault.result Line _
+      c.in-Ok.ensures.read c.capture_fault.ensures.why c.capture_fault.ensures.note
       (ap frames_answer (sym c.as_slice.ensures.value) ∙ ap frames_said c.in-Err-read_capture.ensures.fault);
   nothing = refl;
 }

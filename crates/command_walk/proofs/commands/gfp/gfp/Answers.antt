@@ -18,8 +18,7 @@ returns-in-Err g c = record {
 
 pub returns : goal.returns
 returns g c =
-    script-written _ _ _ _ (λ (script : Script). sent_capture (leg_of script) (counts_in script)) c.in-Ok.watched.walk.script
+    script-written _ _ _ _ (λ (script : Script). sent_capture (leg_of script) (counts_in script)) _
     c.in-Ok.ensures.script (rw c.in-Ok.ensures.counts at c.write_gfp-written.ensures.ok)
     (rw c.in-Ok.ensures.counts at c.write_gfp-written.ensures.err)
-    (hands-script _ c.in-Ok.watched.walk.script c.in-Ok.watched.walk c.in-Ok.ensures.script refl
-    c.in-Ok.ensures.counts)
+    (hands-script _ _ c.in-Ok.watched.walk c.in-Ok.ensures.script refl c.in-Ok.ensures.counts)

@@ -25,8 +25,7 @@ small : (c : After-nibbles-nibbles) →
     slice_index c.nibbles-nibbles.result ((c.totals-frame.result.ticks - 1 - 8) % 16) < 16
 small c =
     subst (λ n. slice_index c.nibbles-nibbles.result ((n - 1 - 8) % 16) < 16) (sym (made c))
-    (nibble-small c.args.walk.now.script c.args.line c.args.walk.now.counts.ticks c.nibbles-nibbles.result (late c)
-    (nibbles c) c.requires.valid)
+    (nibble-small _ c.args.line c.args.walk.now.counts.ticks _ (late c) (nibbles c) c.requires.valid)
 
 pub overflow_mul-result : goal.overflow_mul-result
 overflow_mul-result c = let low = small c in omega (arith, low)
@@ -37,5 +36,4 @@ overflow_add-result c = let low = small (goal.at.overflow_add-result c).After-ni
 pub returns : goal.returns
 returns c =
     ap (λ n. 16 * slice_index c.nibbles-nibbles.result ((n - 1 - 8) % 16) + (n - 1) % 16) (made c)
-    ∙ last-later c.args.walk.now.script c.args.line c.args.walk.now.counts.ticks c.nibbles-nibbles.result (late c)
-    (nibbles c)
+    ∙ last-later c.args.walk.now.script c.args.line c.args.walk.now.counts.ticks _ (late c) (nibbles c)

@@ -19,10 +19,9 @@ returns g c =
     ∙ ap (λ (s : Script). begin (walk_plan (leg_of s))) (sym c.in-Ok-new.ensures.script) in
     let counts = counts-are c.args.number c.args.lines c.args.ticks c.in-Ok-new.walk c.drain_sums-sums.new.walk script
     begun c.drain_sums-sums.ensures.script c.drain_sums-sums.ensures.counts in
-    let lines = lines-are c.args.number c.args.lines c.args.ticks c.in-Ok-new.walk c.drain_sums-sums.new.walk script
-    begun c.drain_sums-sums.ensures.script c.drain_sums-sums.ensures.counts
-    c.drain_sums-sums.result.octets c.drain_sums-sums.result.total c.totals.result c.totals.ensures
-    c.drain_sums-sums.ensures.octets c.drain_sums-sums.ensures.total in
+    let lines = lines-are c.args.number c.args.lines c.args.ticks c.in-Ok-new.walk c.drain_sums-sums.new.walk
+    script begun c.drain_sums-sums.ensures.script c.drain_sums-sums.ensures.counts _ _ c.totals.result
+    c.totals.ensures c.drain_sums-sums.ensures.octets c.drain_sums-sums.ensures.total in
     record {
       ran = record {
         text = make_text c.args.number c.args.lines c.args.ticks;

@@ -9,33 +9,14 @@ use Rattle.command_walk.specs.commands.Make.{made_text}
 use Rattle.command_walk.proofs.MakeLaws.{room-behind}
 use Rattle.command_walk.proofs.commands.make.write_made.Goals as goal
 
-pub returns-clause-ok : goal.returns-clause-ok
-returns-clause-ok g c =
+pub returns : goal.returns
+returns g c =
     let P : List ℕ → Type 0 = λ text. Appends g.K.ByteSink.written g.K.ByteSink.faults c.args.out.now c.put_all.new.sink
     text in
-    on_ok_weaker c.put_all.result
-    (subst P
-    (front_added (c.made_line-first.result + c.total_line.result) c.sum_line.result
-    (256 - (c.made_line-first.result + c.total_line.result))
-    (put_mid c.made_line-first.result (256 - c.made_line-first.result) c.made_line-first.new.out c.total_line.new.out)
-    c.sum_line.new.out
-    (made_text c.args.lines c.args.ticks ++ total_text c.args.totals.now) _
-    (room-behind c.made_line-first.result c.total_line.result (256 - c.made_line-first.result) c.made_line-first.new.out
-    c.total_line.new.out (search rules) (search rules)) (search rules)
-    (sym (front_added c.made_line-first.result c.total_line.result
-    (256 - c.made_line-first.result) c.made_line-first.new.out c.total_line.new.out
-    (made_text c.args.lines c.args.ticks) _
-    (search rules) (search rules) (sym c.made_line-first.ensures.line) c.total_line.ensures.line))
-    c.sum_line.ensures.line))
-    c.put_all.ensures.ok
-
-pub returns-clause-err : goal.returns-clause-err
-returns-clause-err g c =
-    let P : List ℕ → Type 0 = λ text. AppendsPart g.K.ByteSink.written g.K.ByteSink.faults c.args.out.now
+    let Q : List ℕ → Type 0 = λ text. AppendsPart g.K.ByteSink.written g.K.ByteSink.faults c.args.out.now
     c.put_all.new.sink text in
-    on_err_weaker c.put_all.result
-    (subst P
-    (front_added (c.made_line-first.result + c.total_line.result) c.sum_line.result
+    let text =
+    front_added (c.made_line-first.result + c.total_line.result) c.sum_line.result
     (256 - (c.made_line-first.result + c.total_line.result))
     (put_mid c.made_line-first.result (256 - c.made_line-first.result) c.made_line-first.new.out c.total_line.new.out)
     c.sum_line.new.out
@@ -46,5 +27,8 @@ returns-clause-err g c =
     (256 - c.made_line-first.result) c.made_line-first.new.out c.total_line.new.out
     (made_text c.args.lines c.args.ticks) _
     (search rules) (search rules) (sym c.made_line-first.ensures.line) c.total_line.ensures.line))
-    c.sum_line.ensures.line))
-    c.put_all.ensures.err
+    c.sum_line.ensures.line in
+    record {
+      ok = on_ok_weaker c.put_all.result (subst P text) c.put_all.ensures.ok;
+      err = on_err_weaker c.put_all.result (subst Q text) c.put_all.ensures.err;
+    }

@@ -41,8 +41,7 @@ pub returns : goal.returns
 returns g c = record {
   ran = record {
     answer = both c.in-Ok-new.pair.there c.in-Ok-new.pair.back;
-    meets = meets-pair _ c.in-Ok.scripts c.in-Ok-new.pair.there c.in-Ok-new.pair.back c.in-Ok.ensures.pair
-        c.in-Ok-new.ensures.there c.in-Ok-new.ensures.back;
+    meets = meets-pair _ _ _ _ c.in-Ok.ensures.pair c.in-Ok-new.ensures.there c.in-Ok-new.ensures.back;
     all = c.write_pair-written.ensures.ok;
     part = c.write_pair-written.ensures.err;
     made = refl;

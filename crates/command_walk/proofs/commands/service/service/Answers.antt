@@ -22,8 +22,7 @@ returns-in-Err-survey_walk g c =
 
 pub returns : goal.returns
 returns g c =
-    script-written _ _ _ _ (λ (script : Script). service_text (leg_of script) (counts_in script) c.args.interval) c.in-Ok.watched.walk.script
-    c.in-Ok.ensures.script (rw c.in-Ok.ensures.counts at c.write_service-written.ensures.ok)
-    (rw c.in-Ok.ensures.counts at c.write_service-written.ensures.err)
-    (hands-script _ c.in-Ok.watched.walk.script c.in-Ok.watched.walk c.in-Ok.ensures.script refl
-    c.in-Ok.ensures.counts)
+    script-written _ _ _ _ (λ (script : Script). service_text (leg_of script) (counts_in script)
+    c.args.interval) _ c.in-Ok.ensures.script (rw c.in-Ok.ensures.counts at
+    c.write_service-written.ensures.ok) (rw c.in-Ok.ensures.counts at c.write_service-written.ensures.err)
+    (hands-script _ _ c.in-Ok.watched.walk c.in-Ok.ensures.script refl c.in-Ok.ensures.counts)

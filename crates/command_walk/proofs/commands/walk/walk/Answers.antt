@@ -22,7 +22,6 @@ write_walk-written-requires-clause-begun g c = c.in-Ok.ensures.begun.counts
 
 pub returns : goal.returns
 returns g c =
-    script-written _ _ _ _ walk_text c.in-Ok.begun.walk.script c.in-Ok.ensures.script c.write_walk-written.ensures.ok
-    c.write_walk-written.ensures.err
-    (hands-script _ c.in-Ok.begun.walk.script c.write_walk-written.new.walk c.in-Ok.ensures.script
-    c.write_walk-written.ensures.script c.write_walk-written.ensures.counts)
+    script-written _ _ _ _ walk_text _ c.in-Ok.ensures.script c.write_walk-written.ensures.ok
+    c.write_walk-written.ensures.err (hands-script _ c.in-Ok.begun.walk.script c.write_walk-written.new.walk
+    c.in-Ok.ensures.script c.write_walk-written.ensures.script c.write_walk-written.ensures.counts)

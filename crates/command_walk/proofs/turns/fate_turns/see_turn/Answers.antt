@@ -7,6 +7,5 @@ use Rattle.command_walk.proofs.turns.fate_turns.see_turn.Goals as goal
 
 pub see_since-requires-clause-walked : goal.see_since-requires-clause-walked
 see_since-requires-clause-walked c =
-    walked-on c.args.walk.now.script c.silent_turn.new.walk.script c.args.walk.now.counts c.silent_turn.new.walk.counts
-    (events_of (walk_plan (leg_of c.args.walk.now.script)) c.args.turn)
+    walked-on _ _ c.args.walk.now.counts _ (events_of (walk_plan (leg_of c.args.walk.now.script)) c.args.turn)
     c.requires.walked c.silent_turn.ensures.script c.silent_turn.ensures.counts

@@ -5,24 +5,16 @@ use Rattle.law_model.specs.Common.{Appends, AppendsPart}
 use Rattle.command_walk.proofs.TraceLaws.{last-line}
 use Rattle.command_walk.proofs.turns.trace_turns.tell_step.Goals as goal
 
-pub returns-clause-ok : goal.returns-clause-ok
-returns-clause-ok g c =
+pub returns : goal.returns
+returns g c =
+    let line = c.trace_line-end.ensures.line
+    ∙ last-line c.args.walk.now.script c.args.walk.now.counts.ticks c.args.lines c.in-Some.note
+    c.table.result.now.source.table c.requires.some c.in-Some.ensures c.table.ensures.table c.requires.lines in
     let P : List ℕ → Type 0 = λ text. Appends g.E.ByteSink.written g.E.ByteSink.faults c.args.notes.now
     c.put_all.new.sink text in
-    on_ok_weaker c.put_all.result
-    (subst P (c.trace_line-end.ensures.line
-    ∙ last-line c.args.walk.now.script c.args.walk.now.counts.ticks c.args.lines c.in-Some.note
-    c.table.result.now.source.table
-    c.requires.some c.in-Some.ensures c.table.ensures.table c.requires.lines))
-    c.put_all.ensures.ok
-
-pub returns-clause-err : goal.returns-clause-err
-returns-clause-err g c =
-    let P : List ℕ → Type 0 = λ text. AppendsPart g.E.ByteSink.written g.E.ByteSink.faults c.args.notes.now
+    let Q : List ℕ → Type 0 = λ text. AppendsPart g.E.ByteSink.written g.E.ByteSink.faults c.args.notes.now
     c.put_all.new.sink text in
-    on_err_weaker c.put_all.result
-    (subst P (c.trace_line-end.ensures.line
-    ∙ last-line c.args.walk.now.script c.args.walk.now.counts.ticks c.args.lines c.in-Some.note
-    c.table.result.now.source.table
-    c.requires.some c.in-Some.ensures c.table.ensures.table c.requires.lines))
-    c.put_all.ensures.err
+    record {
+      ok = on_ok_weaker c.put_all.result (subst P line) c.put_all.ensures.ok;
+      err = on_err_weaker c.put_all.result (subst Q line) c.put_all.ensures.err;
+    }

@@ -50,8 +50,7 @@ loop-turn-preserved g c =
     record {
       script = c.trace_turn-over.ensures.script ∙ inv.script;
       left = gives.left c.trace_turn-over.new.walk.counts
-          (turn-made c.args.walk.now.script c.loop-turn.walk.script _ _ c.in-Some.turn inv.script
-          c.trace_turn-over.ensures.counts);
+          (turn-made c.args.walk.now.script _ _ _ c.in-Some.turn inv.script c.trace_turn-over.ensures.counts);
       told = λ start first told. c.trace_turn-over.ensures.told start first (inv.told start first told);
     }
 

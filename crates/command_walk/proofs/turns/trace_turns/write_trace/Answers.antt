@@ -1,19 +1,17 @@
 -- The walk is traced to its end, or up to the first write that fails.
-use Rattle.std.proofs.Common.{◌≡◌, rules, inl, sym, ◌∙◌, OnErr}
+use Rattle.std.proofs.Common.{rules, inl, sym, ◌∙◌, OnErr}
 use Rattle.std.proofs.lemmas.Result.{on_err_weaker}
 use Rattle.pair_walk.proofs.EndLaws.{appends-all}
-use Rattle.law_model.specs.Common.{leg_of, Appends, Start}
+use Rattle.law_model.specs.Common.{leg_of, Start}
 use Rattle.text_report.specs.Report.{got_texts}
-use Rattle.text_got.specs.Told.{HasText, name_of, start_at}
+use Rattle.text_got.specs.Told.{name_of, start_at}
 use Rattle.law_walk.specs.Common.{delivered_of}
 use Rattle.command_walk.specs.Ended.{StopsBoth}
 use Rattle.law_headline.specs.Texts.{walk_text}
 use Rattle.command_walk.specs.commands.Trace.{trace_text}
 use Rattle.command_walk.proofs.TraceLaws.{on-ok}
 use Rattle.command_walk.proofs.EndLaws.{begun-told, part-told, whole-told, trace-told}
-use Rattle.command_walk.proofs.turns.trace_turns.write_trace.Given as given
 use Rattle.command_walk.proofs.turns.trace_turns.write_trace.Goals as goal
-use Rattle.command_walk.proofs.turns.trace_turns.write_trace.Goals.{After-write_rest}
 
 pub returns-then-trace_event_lines-clause-err : goal.returns-then-trace_event_lines-clause-err
 returns-then-trace_event_lines-clause-err g c =
@@ -31,56 +29,42 @@ returns-then-trace_event_lines-clause-err g c =
     search (rules, back, name)
 
 -- the text of the walk is written or waits, where it was begun, and the trace is written
-ends : (g : given.Over) (c : After-write_rest g) →
-    HasText g.K.ByteSink.written g.K.ByteSink.faults c.write_rest.new.got
-    (start_at g.K.ByteSink.written g.K.ByteSink.faults c.args.out.now (name_of c.write_rest.new.got))
-    (walk_text c.args.walk.now.script)
-    × (name_of c.write_rest.new.got ≡ name_of c.new-got.result)
-    × Appends g.E.ByteSink.written g.E.ByteSink.faults c.args.notes.now c.trace_event_lines.new.notes
-    (trace_text c.args.walk.now.script)
-ends g c =
+pub returns : goal.returns
+returns g c =
+    let script = c.args.walk.now.script in
     let start : Start = start_at g.K.ByteSink.written g.K.ByteSink.faults c.args.out.now (name_of c.new-got.result) in
     let fresh = begun-told g.K.ByteSink.written g.K.ByteSink.faults g.E.ByteSink.written g.E.ByteSink.faults
     c.args.out.now c.args.notes.now c.new-got.result c.args.walk.now c.new-got.ensures.whole
     c.new-got.ensures.fresh c.requires.begun in
-    let told = c.if-trace_event_lines.ensures.told start c.args.notes.now fresh in (
-      whole-told g.K.ByteSink.written g.K.ByteSink.faults g.E.ByteSink.written g.E.ByteSink.faults
-          c.args.out.now c.args.notes.now c.args.walk.now.script c.new-got.result c.trace_event_lines.new.out
-          c.trace_event_lines.new.notes c.trace_event_lines.new.walk c.trace_event_lines.ensures.script
-          c.trace_event_lines.ensures.counts c.write_rest.new.got told c.write_rest.ensures,
-      (c.write_rest.ensures start
-          (got_texts (delivered_of (leg_of c.trace_event_lines.new.walk.script)
-          c.trace_event_lines.new.walk.counts.rows)) told.gives).0,
-      trace-told g.K.ByteSink.written g.K.ByteSink.faults g.E.ByteSink.written g.E.ByteSink.faults
-          c.args.out.now c.args.notes.now c.args.walk.now.script c.new-got.result c.trace_event_lines.new.out
-          c.trace_event_lines.new.notes c.trace_event_lines.new.walk c.trace_event_lines.ensures.script
-          c.trace_event_lines.ensures.counts told,
-    )
-
-pub returns-clause-walked : goal.returns-clause-walked
-returns-clause-walked g c =
-    let all = ends g (goal.at.returns-clause-walked g c).After-write_rest in
-    let end = c.finish-back.ensures.ok c.args.out.now (walk_text c.args.walk.now.script) all.0 in
-    let back = rw (sym c.take_back-2.ensures) at end in
-    let name = c.finish-back.ensures.name ∙ all.1 ∙ c.new-got.ensures.name in
-    search (rules, back, name)
-
-pub returns-clause-traced : goal.returns-clause-traced
-returns-clause-traced g c =
-    on-ok c.finish-back.result.1 (ends g (goal.at.returns-clause-traced g c).After-write_rest).2
-
-pub returns-clause-err : goal.returns-clause-err
-returns-clause-err g c =
-    let script = c.args.walk.now.script in
-    let all = ends g (goal.at.returns-clause-err g c).After-write_rest in
-    let trace = appends-all g.E.ByteSink.written g.E.ByteSink.faults c.args.notes.now c.trace_event_lines.new.notes
-    (trace_text script) all.2 in
-    let end : OnErr c.finish-back.result.1
-    (StopsBoth g.K.ByteSink.written g.K.ByteSink.faults c.args.out.now c.finish-back.result.0.now
-    (walk_text script) g.E.ByteSink.written g.E.ByteSink.faults c.args.notes.now c.trace_event_lines.new.notes
-    (trace_text script)) =
-    on_err_weaker c.finish-back.result.1 (λ part. inl (part, trace))
-    (c.finish-back.ensures.err c.args.out.now (walk_text script) all.0) in
-    let back = rw (sym c.take_back-2.ensures) at end in
-    let name = c.finish-back.ensures.name ∙ all.1 ∙ c.new-got.ensures.name in
-    search (rules, back, name)
+    let told = c.if-trace_event_lines.ensures.told start c.args.notes.now fresh in
+    let has = whole-told g.K.ByteSink.written g.K.ByteSink.faults g.E.ByteSink.written g.E.ByteSink.faults
+    c.args.out.now c.args.notes.now script c.new-got.result c.trace_event_lines.new.out
+    c.trace_event_lines.new.notes c.trace_event_lines.new.walk c.trace_event_lines.ensures.script
+    c.trace_event_lines.ensures.counts c.write_rest.new.got told c.write_rest.ensures in
+    let named = (c.write_rest.ensures start
+    (got_texts (delivered_of (leg_of c.trace_event_lines.new.walk.script)
+    c.trace_event_lines.new.walk.counts.rows)) told.gives).0 in
+    let traced = trace-told g.K.ByteSink.written g.K.ByteSink.faults g.E.ByteSink.written g.E.ByteSink.faults
+    c.args.out.now c.args.notes.now script c.new-got.result c.trace_event_lines.new.out
+    c.trace_event_lines.new.notes c.trace_event_lines.new.walk c.trace_event_lines.ensures.script
+    c.trace_event_lines.ensures.counts told in
+    let name = c.finish-back.ensures.name ∙ named ∙ c.new-got.ensures.name in
+    record {
+      script = search rules;
+      counts = search rules;
+      walked =
+          let end = rw (sym c.take_back-2.ensures) at c.finish-back.ensures.ok c.args.out.now (walk_text script) has in
+          search (rules, end, name);
+      traced = on-ok c.finish-back.result.1 traced;
+      err =
+          let trace = appends-all g.E.ByteSink.written g.E.ByteSink.faults c.args.notes.now
+          c.trace_event_lines.new.notes (trace_text script) traced in
+          let end : OnErr c.finish-back.result.1
+          (StopsBoth g.K.ByteSink.written g.K.ByteSink.faults c.args.out.now c.finish-back.result.0.now
+          (walk_text script) g.E.ByteSink.written g.E.ByteSink.faults c.args.notes.now c.trace_event_lines.new.notes
+          (trace_text script)) =
+          on_err_weaker c.finish-back.result.1 (λ part. inl (part, trace))
+          (c.finish-back.ensures.err c.args.out.now (walk_text script) has) in
+          let back = rw (sym c.take_back-2.ensures) at end in
+          search (rules, back, name);
+    }

@@ -16,10 +16,9 @@ returns-clause-outcome c =
     subst (λ (was : Receiver). Brings was (take c.feed-taken.result.0 c.args.piece.now)
     (told_outcomes now c.step_of-step.result)) c.self.view_is
     (Brings-ends (record { progress = c.self.inside.receiver; holds = c.self.inside.holds })
-    (take c.feed-taken.result.0 c.args.piece.now)
-    (ends_told c.feed-taken.new.self.area c.feed-taken.result.1) (told_outcomes now c.step_of-step.result)
-    (told-ends c.feed-taken.new.self c.is_frame-self-inside.result c.feed-taken.result.1 c.step_of-step.result
-    c.area.result.now c.is_frame-self-inside.ensures c.area.ensures c.step_of-step.ensures.outcome
+    (take c.feed-taken.result.0 c.args.piece.now) (ends_told c.feed-taken.new.self.area c.feed-taken.result.1)
+    _ (told-ends c.feed-taken.new.self c.is_frame-self-inside.result c.feed-taken.result.1
+    c.step_of-step.result _ c.is_frame-self-inside.ensures c.area.ensures c.step_of-step.ensures.outcome
     c.step_of-step.ensures.frame c.feed-taken.ensures.least) c.feed-taken.ensures.outcome)
 
 pub returns-clause-short : goal.returns-clause-short

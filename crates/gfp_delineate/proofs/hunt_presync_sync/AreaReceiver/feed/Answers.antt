@@ -12,8 +12,7 @@ part_more : (old middle new : Progress) (piece : List ℕ) (at n : ℕ) (come : 
     Takes old middle (take at piece) [] → Takes middle new (take n (take (length piece - at) (drop at piece))) come →
     Takes old new (take (at + n) piece) come
 part_more old middle new piece at n come within one other =
-    subst (λ part. Takes old new part come) (taken_more at n piece within)
-    (Takes-then old middle new (take at piece) (take n (take (length piece - at) (drop at piece))) come one other)
+    subst (λ part. Takes old new part come) (taken_more at n piece within) (Takes-then _ _ _ _ _ _ one other)
 
 pub loop-at-preserved : goal.loop-at-preserved
 loop-at-preserved c = record {
@@ -24,13 +23,11 @@ loop-at-preserved c = record {
     length-drop c.loop-at.at c.args.piece.now,
   );
   takes =
-      told _ _ _ _ (part_more c.args.self.now c.loop-at.self c.step-taken.new.self
-      c.args.piece.now c.loop-at.at c.step-taken.result.0 [] c.step-taken.ensures.within
-      (tell _ _ _ _ c.loop-at.invariant.takes)
+      told _ _ _ _ (part_more _ c.loop-at.self c.step-taken.new.self c.args.piece.now c.loop-at.at
+      c.step-taken.result.0 [] c.step-taken.ensures.within (tell _ _ _ _ c.loop-at.invariant.takes)
       (subst (λ step. Takes c.loop-at.self c.step-taken.new.self
       (take c.step-taken.result.0 (take (length c.args.piece.now - c.loop-at.at)
-      (drop c.loop-at.at c.args.piece.now)))
-      (ends_told c.step-taken.new.self.area step)) c.in-Nothing.is
+      (drop c.loop-at.at c.args.piece.now))) (ends_told c.step-taken.new.self.area step)) c.in-Nothing.is
       (tell _ _ _ _ c.step-taken.ensures.takes)));
 }
 
@@ -48,18 +45,12 @@ returns-in_default-clause-all c = λ nothing. absurd (c.in_default.not-Nothing n
 
 pub returns-in_default-clause-stands : goal.returns-in_default-clause-stands
 returns-in_default-clause-stands c =
-    (part_more c.args.self.now c.loop-at.self c.step-taken.new.self
-    c.args.piece.now c.loop-at.at c.step-taken.result.0
-    (ends_told c.step-taken.new.self.area c.step-taken.result.1)
-    c.step-taken.ensures.within
+    (part_more _ _ _ c.args.piece.now c.loop-at.at c.step-taken.result.0 _ c.step-taken.ensures.within
     (tell _ _ _ _ c.loop-at.invariant.takes) (tell _ _ _ _ c.step-taken.ensures.takes)).stands
 
 pub returns-in_default-clause-outcome : goal.returns-in_default-clause-outcome
 returns-in_default-clause-outcome c =
-    (part_more c.args.self.now c.loop-at.self c.step-taken.new.self
-    c.args.piece.now c.loop-at.at c.step-taken.result.0
-    (ends_told c.step-taken.new.self.area c.step-taken.result.1)
-    c.step-taken.ensures.within
+    (part_more _ _ _ c.args.piece.now c.loop-at.at c.step-taken.result.0 _ c.step-taken.ensures.within
     (tell _ _ _ _ c.loop-at.invariant.takes) (tell _ _ _ _ c.step-taken.ensures.takes)).outcome
 
 pub returns-in_default-clause-first : goal.returns-in_default-clause-first
@@ -68,8 +59,7 @@ returns-in_default-clause-first c = λ other.
     let at : ℕ = c.loop-at.at in
     let n : ℕ = c.step-taken.result.0 - 1 in
     let place : at + n ≡ at + c.step-taken.result.0 - 1 = omega (arith, c.step-taken.ensures.some) in
-    subst (λ part. Adds c.args.self.now part [])
-    (taken_more at n piece (omega (arith, c.step-taken.ensures.within)) ∙ ap (λ n. take n piece) place)
-    (Adds-then c.args.self.now c.loop-at.self (take at piece)
-    (take n (take (length piece - at) (drop at piece))) [] (tell _ _ _ _ c.loop-at.invariant.takes)
-    (c.step-taken.ensures.first other))
+    subst (λ part. Adds c.args.self.now part []) (taken_more at n piece
+    (omega (arith, c.step-taken.ensures.within)) ∙ ap (λ n. take n piece) place)
+    (Adds-then c.args.self.now c.loop-at.self _ (take n (take (length piece - at) (drop at piece))) []
+    (tell _ _ _ _ c.loop-at.invariant.takes) (c.step-taken.ensures.first other))

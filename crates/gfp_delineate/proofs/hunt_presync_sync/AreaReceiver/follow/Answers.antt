@@ -16,9 +16,8 @@ pub returns-then-piece-ge4-clause-takes : goal.returns-then-piece-ge4-clause-tak
 returns-then-piece-ge4-clause-takes c =
     let piece : List ℕ = c.args.piece.now in
     let three : List ℕ = get_or piece 0 0 ∷ get_or piece 1 0 ∷ get_or piece 2 0 ∷ [] in
-    rw (take_four piece c.if-piece-ge4.true)
-    (told _ _ _ _ (Takes-then c.args.self.now c.take_three.new.self c.take_header-then-piece-ge4.new.self
-    three (get_or piece 3 0 ∷ []) []
+    rw (take_four piece c.if-piece-ge4.true) (told _ _ _ _
+    (Takes-then c.args.self.now c.take_three.new.self _ three (get_or piece 3 0 ∷ []) []
     (tell _ _ _ _ c.take_three.ensures.takes) (tell _ _ _ _ c.take_header-then-piece-ge4.ensures)))
 
 pub returns-clause-takes : goal.returns-clause-takes

@@ -62,10 +62,8 @@ returns-else-pli-self c =
     c.in-Some.is in
     let limit = ap (λ (old : Progress). old.longest) c.self.view_is in
     rw (c.clear.ensures.items, c.shifted-self-inside.ensures)
-    (seen c.args.self.now _ (λ old. followed old (drop 1 old.window ++ c.args.octet ∷ []) (SyncArea c.in-Some.pli)) _ _
-    c.self.view_is
-    (Takes-kept c.args.self.now c.args.octet c.args.corrects c.requires c.in-Some.pli found (omega
-    (arith, c.if-pli-eq0.false))
-    (omega (arith, limit, c.if-pli-self.false))
+    (seen _ _ (λ old. followed old (drop 1 old.window ++ c.args.octet ∷ []) (SyncArea c.in-Some.pli)) _ _
+    c.self.view_is (Takes-kept c.args.self.now c.args.octet c.args.corrects c.requires c.in-Some.pli found
+    (omega (arith, c.if-pli-eq0.false)) (omega (arith, limit, c.if-pli-self.false))
     (subst (λ (old : Progress). Knows true old.descrambling) c.self.view_is
     (subst (λ known. Knows known c.self.inside.descrambler) c.if-not-known.false c.known.ensures))))

@@ -8,6 +8,5 @@ use Rattle.gfp_delineate.proofs.hunt_presync_sync.AreaReceiver.take_three.Goals 
 pub returns-clause-takes : goal.returns-clause-takes
 returns-clause-takes c =
     rw (c.shifted-self-inside.ensures, c.shifted-2.ensures, c.shifted.ensures)
-    (seen c.args.self.now _ (λ old. shifted (shifted (shifted old c.args.a (SyncHeader 1)) c.args.b (SyncHeader 2))
-    c.args.c (SyncHeader 3)) _ _ c.self.view_is
-    (Takes-three c.args.self.now c.args.a c.args.b c.args.c c.requires))
+    (seen _ _ (λ old. shifted (shifted (shifted old c.args.a (SyncHeader 1)) c.args.b (SyncHeader 2)) c.args.c
+    (SyncHeader 3)) _ _ c.self.view_is (Takes-three c.args.self.now c.args.a c.args.b c.args.c c.requires))

@@ -13,16 +13,7 @@ pub returns-clause-stands : goal.returns-clause-stands
 returns-clause-stands c rows stands =
     let f = c.self.inside in
     let row = c.args.row.now in
-    let sink : Sink = record {
-      lines = f.lines;
-      options = f.options;
-      taken = f.taken;
-      ack = f.ack;
-      states = f.states;
-      watches = f.watches;
-      carriers = f.carriers;
-    } in
-    let before : SinkTableStands sink rows = subst (λ v. SinkTableStands v rows) (sym c.self.view_is) stands in
+    let before = subst (λ v. SinkTableStands v rows) (sym c.self.view_is) stands in
     let lines : length row ≡ f.lines = c.requires.lines ∙ sym (ap (λ (sink : Sink). sink.lines) c.self.view_is) in
     let watched = c.watch_packets.ensures rows (λ line low. before.watches line (omega arith))
     (changed-by rows row f.ack c.ack_after-ack.result before.ack c.ack_after-ack.ensures) in
@@ -43,16 +34,7 @@ returns-clause-packet c rows stands =
     let f = c.self.inside in
     let row = c.args.row.now in
     let watches = c.watch_packets.new.watches in
-    let sink : Sink = record {
-      lines = f.lines;
-      options = f.options;
-      taken = f.taken;
-      ack = f.ack;
-      states = f.states;
-      watches = f.watches;
-      carriers = f.carriers;
-    } in
-    let before : SinkTableStands sink rows = subst (λ v. SinkTableStands v rows) (sym c.self.view_is) stands in
+    let before = subst (λ v. SinkTableStands v rows) (sym c.self.view_is) stands in
     let lines : length row ≡ f.lines = c.requires.lines ∙ sym (ap (λ (sink : Sink). sink.lines) c.self.view_is) in
     let room : length row ≤ length watches = omega arith in
     let watched = c.watch_packets.ensures rows (λ line low. before.watches line (omega arith))

@@ -30,8 +30,7 @@ both marked None due stays = tt
 both marked (Some place) due stays = λ count. (
   λ longest first octets stands. (
     (stays count).0 longest first octets stands.0,
-    synced-stays marked.mark octets (idles_from place count)
-        (is_sync-IsAt marked.receiver.progress (receiver.area_limit longest) false first octets stands.0
+    synced-stays marked.mark octets (idles_from place count) (is_sync-IsAt _ _ false first octets stands.0
         ∙ due-synced marked.receiver.progress.phase marked.receiver.progress.window (take place (core_header 0)) due)
         stands.1,
   ),

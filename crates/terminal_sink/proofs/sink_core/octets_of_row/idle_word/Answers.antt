@@ -10,11 +10,8 @@ returns c i below =
     let x : ℕ = c.args.x in
     let octet : ℕ → ℕ = λ n. slice_index (core_header 0) (n % 4) in
     ap (λ l. slice_index l i) c.word_of.ensures
-    ∙ get-eight (λ i. octet (first + i * x))
-    c.idle_octet.result c.idle_octet-2.result c.idle_octet-3.result c.idle_octet-4.result c.idle_octet-5.result
-    c.idle_octet-6.result c.idle_octet-7.result c.idle_octet-8.result
-    (c.idle_octet.ensures ∙ (let e : first ≡ first + 0 * x = omega arith in ap octet e))
+    ∙ get-eight (λ i. octet (first + i * x)) c.idle_octet.result c.idle_octet-2.result c.idle_octet-3.result _
+    _ _ _ _ (c.idle_octet.ensures ∙ (let e : first ≡ first + 0 * x = omega arith in ap octet e))
     (c.idle_octet-2.ensures ∙ (let e : first + x ≡ first + 1 * x = omega arith in ap octet e))
-    c.idle_octet-3.ensures c.idle_octet-4.ensures c.idle_octet-5.ensures c.idle_octet-6.ensures c.idle_octet-7.ensures
-    c.idle_octet-8.ensures
-    i below
+    c.idle_octet-3.ensures c.idle_octet-4.ensures c.idle_octet-5.ensures c.idle_octet-6.ensures
+    c.idle_octet-7.ensures c.idle_octet-8.ensures i below

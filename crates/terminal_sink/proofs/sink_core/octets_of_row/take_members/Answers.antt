@@ -113,9 +113,8 @@ only containers active size octets some few long is =
 pub returns-in-len1-clause-grows : goal.returns-in-len1-clause-grows
 returns-in-len1-clause-grows g c =
     subst (Grows c.args.delineator.now c.take_piece.new.delineator)
-    (only (held c.args.containers.now) c.args.active.now c.args.size c.only_payload.result.now c.in-len1.len_at_least
-    c.in-len1.len_below c.only_payload.ensures.size c.only_payload.ensures.octets)
-    c.take_piece.ensures.grows
+    (only (held c.args.containers.now) c.args.active.now c.args.size _ c.in-len1.len_at_least
+    c.in-len1.len_below c.only_payload.ensures.size c.only_payload.ensures.octets) c.take_piece.ensures.grows
 
 pub returns-in-len1-clause-gives : goal.returns-in-len1-clause-gives
 returns-in-len1-clause-gives g c start =

@@ -84,8 +84,7 @@ invariant_of-self-in-None c =
     let frames = l.frames in
     let commands = l.commands in
     let due = c.requires.due in
-    let late = next-due g.source.landed
-    (is_client kind) c.args.number g.source.core.ticks c.requires.next g.keeps.ahead in
+    let late = next-due g.source.landed (is_client kind) c.args.number _ c.requires.next g.keeps.ahead in
     record {
       keeps = rested g.source c.land.new.self c.push.new.self g.tx.items g.back _ e.rest
           (keeps-accepted _ _ c.land.new.self.core c.land.new.self.landed c.push.new.self c.args.number kind g.keeps
@@ -111,25 +110,19 @@ invariant_of-self c =
     let kind = kind_of c.args.item in
     let at = parts g.source.core g.source.total g.source.landed g.journal g.source.inbox g.tx.items g.back in
     let due = c.requires.due in
-    let late = next-due g.source.landed
-    (is_client kind) c.args.number g.source.core.ticks c.requires.next g.keeps.ahead in
+    let late = next-due g.source.landed (is_client kind) c.args.number _ c.requires.next g.keeps.ahead in
     let is = refused-now (scenario_in at)
     (told_in_parts at) g.source.core.ticks g.source.landed g.journal.entries c.args.number kind c.in-Some.why
     c.requires.next (omega arith)
     (sym (sym c.in-Some.is ∙ c.land.ensures.met ∙ refused-is g kind)) in
     record {
       keeps = rested g.source c.land.new.self g.journal g.tx.items g.back _ e.rest
-          (subst (λ (core : Terminal). Keeps
-          (parts core g.source.total c.land.new.self.landed g.journal g.source.inbox g.tx.items g.back)
-          (length g.frame.items)) (sym (c.in-Some.ensures.unchanged refl))
-          (keeps-refused (parts g.source.core g.source.total g.source.landed g.journal g.source.inbox g.tx.items g.back)
-          _ c.land.new.self.landed g.keeps l.items (omega arith) (omega arith)
-          (landed-behind g (is_client kind) c.args.number _ _ c.requires.next due g.keeps.behind
-          l.frames l.commands)
-          (refused-put (scenario_in at)
-          (told_in_parts at) g.source.core.ticks g.source.landed.items g.journal.entries c.args.number c.in-Some.why
-          g.source.landed.refusals c.land.new.self.landed.refusals
-          (subst (λ (w : Option Refusal). IsPlaced c.args.number
+          (subst (λ (core : Terminal). Keeps (parts core g.source.total c.land.new.self.landed g.journal
+          g.source.inbox g.tx.items g.back) (length g.frame.items)) (sym (c.in-Some.ensures.unchanged refl))
+          (keeps-refused _ _ c.land.new.self.landed g.keeps l.items (omega arith) (omega arith)
+          (landed-behind g (is_client kind) c.args.number _ _ c.requires.next due g.keeps.behind l.frames
+          l.commands) (refused-put _ _ g.source.core.ticks _ _ c.args.number _ g.source.landed.refusals
+          c.land.new.self.landed.refusals (subst (λ (w : Option Refusal). IsPlaced c.args.number
           (refused_by c.args.number w) g.source.landed.refusals c.land.new.self.landed.refusals) c.in-Some.is
           e.placed) due is g.keeps.refused)));
     }

@@ -42,10 +42,8 @@ invariant_of-self c =
     let g = c.args.self.now in
     let e = c.make-taken.ensures in
     let (left, none) = early-none g.source c.requires.early in
-    let made = made-by _ _ c.make-taken.new.self.core c.make-taken.new.self.inbox c.push_frame.new.tx.items
-    c.make-taken.result (held c.make-taken.new.frame.items) _ g.keeps refl (cell-there _ _ c.requires.cell)
-    e.cell e.inbox e.made e.frame e.ticks
-    e.kind c.push_frame.ensures.pushed in
+    let made = made-by _ _ _ _ _ c.make-taken.result _ _ g.keeps refl (cell-there _ _ c.requires.cell) e.cell
+    e.inbox e.made e.frame e.ticks e.kind c.push_frame.ensures.pushed in
     let kept = keeps-made _ _ _ _ _ _ _ g.keeps made left none in
     record {
       keeps = subst (Keeps _) (sym (c.push_frame.ensures.places ∙ e.places))
@@ -57,10 +55,8 @@ returns c =
     let g = c.args.self.now in
     let e = c.make-taken.ensures in
     let k = g.keeps in
-    let made = made-by _ _ c.make-taken.new.self.core c.make-taken.new.self.inbox c.push_frame.new.tx.items
-    c.make-taken.result (held c.make-taken.new.frame.items) _ k refl (cell-there _ _ c.requires.cell)
-    e.cell e.inbox e.made e.frame e.ticks
-    e.kind c.push_frame.ensures.pushed in
+    let made = made-by _ _ _ _ _ c.make-taken.result _ _ k refl (cell-there _ _ c.requires.cell) e.cell
+    e.inbox e.made e.frame e.ticks e.kind c.push_frame.ensures.pushed in
     let places = e.places in
     let first = k.places in
     let rings = k.rings in

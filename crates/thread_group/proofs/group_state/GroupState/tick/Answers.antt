@@ -11,15 +11,12 @@ returns-in-Some c = ticks-early c.args.self.now c.come.new.self c.in-Some.cause 
 
 pub returns-in-Some-look : goal.returns-in-Some-look
 returns-in-Some-look c =
-    let free = free-early c.args.self.now c.come.new.self c.come.ensures (sym c.early_cause.ensures ∙ c.in_default.is)
-    in
-    ticks-full c.args.self.now c.come.new.self c.look.new.self c.in-Some-look.line c.come.ensures c.look.ensures.looks
-    free c.in-Some-look.ensures.full
+    let free = free-early c.args.self.now _ c.come.ensures (sym c.early_cause.ensures ∙ c.in_default.is) in
+    ticks-full c.args.self.now _ _ _ c.come.ensures c.look.ensures.looks free c.in-Some-look.ensures.full
 
 pub returns-in-Some-missing : goal.returns-in-Some-missing
 returns-in-Some-missing c =
-    let free = free-early c.args.self.now c.come.new.self c.come.ensures (sym c.early_cause.ensures ∙ c.in_default.is)
-    in
+    let free = free-early c.args.self.now _ c.come.ensures (sym c.early_cause.ensures ∙ c.in_default.is) in
     let (needs, none) = missing-some _ _ c.in-Some-missing.packet (sym c.missing.ensures ∙ c.in-Some-missing.is) in
     ticks-missing c.args.self.now c.come.new.self c.look.new.self c.in-Some-missing.packet c.come.ensures
     c.look.ensures.looks free c.in_default-look.ensures.full (sym needs) none
@@ -35,7 +32,5 @@ make_frame-requires-clause-free c = c.in_default-look.ensures.full
 
 pub returns : goal.returns
 returns c =
-    let free = free-early c.args.self.now c.come.new.self c.come.ensures (sym c.early_cause.ensures ∙ c.in_default.is)
-    in
-    ticks-ticked c.args.self.now c.come.new.self c.look.new.self c.make_frame.new.self c.come.ensures
-    c.look.ensures.looks c.make_frame.ensures free
+    let free = free-early c.args.self.now _ c.come.ensures (sym c.early_cause.ensures ∙ c.in_default.is) in
+    ticks-ticked c.args.self.now _ _ _ c.come.ensures c.look.ensures.looks c.make_frame.ensures free

@@ -1,5 +1,5 @@
 -- The entry is put behind the others.
-use Rattle.std.proofs.Common.{◌≡◌, ℕ, ◌+◌, ◌-◌, ◌<◌, ◌≤◌, if◌then◌else◌, List, [], ◌∷◌, ◌++◌, length, sym, ◌∙◌, ap}
+use Rattle.std.proofs.Common.{◌≡◌, ℕ, ◌+◌, ◌-◌, ◌<◌, ◌≤◌, List, [], ◌∷◌, ◌++◌, length, sym, ◌∙◌, ap}
 use Rattle.std.proofs.Common.{subst, arith, refl, vec_capacity}
 use Rattle.law_session.proofs.PlanLaws.{flag_most}
 use Rattle.law_model.specs.declared.script_types.ItemKind.{ItemKind}
@@ -45,17 +45,12 @@ invariant_of-self c =
     let bytes = subst (λ (j : Journal). size_of kind ≤ j.bytes) (sym c.self.view_is) c.requires.bytes in
     let same = size-octets kind in
     let octets = c.enter-what.ensures.octets in
-    let is = kept-push f.octets.items (octets_of kind) f.entries.items entry kind f.slots f.bytes
-    (vec_capacity f.entries) (vec_capacity f.octets) f.frames c.self.invariant (omega arith) (omega arith)
-    (subst (λ l. kind_in l entry.what ≡ kind) octets c.enter-what.ensures.kind)
-    (subst (λ l. IsThere (length l) entry.what) octets c.enter-what.ensures.there)
+    let is = kept-push f.octets.items (octets_of kind) f.entries.items entry kind f.slots f.bytes _ _ f.frames
+    c.self.invariant (omega arith) (omega arith) (subst (λ l. kind_in l entry.what ≡ kind) octets
+    c.enter-what.ensures.kind) (subst (λ l. IsThere (length l) entry.what) octets c.enter-what.ensures.there)
     (vec_capacity c.enter-what.new.kept) c.enter-what.ensures.room in
-    moved (f.octets.items ++ octets_of kind) c.enter-what.new.kept.items
-    (f.entries.items ++ entry ∷ []) c.push_reserved.new.self.items (f.slots - 1) (f.bytes - length (octets_of kind))
-    (f.bytes - c.len.result)
-    (vec_capacity f.entries) (vec_capacity c.push_reserved.new.self) (vec_capacity c.enter-what.new.kept)
-    (f.frames + (if is_client kind then 1 else 0)) (f.frames + c.frames.result)
-    octets c.push_reserved.ensures.items (ap (λ n. f.bytes - n) (c.len.ensures ∙ sym same))
+    moved _ c.enter-what.new.kept.items _ _ (f.slots - 1) _ (f.bytes - c.len.result) (vec_capacity f.entries)
+    _ _ _ _ octets c.push_reserved.ensures.items (ap (λ n. f.bytes - n) (c.len.ensures ∙ sym same))
     c.push_reserved.ensures.capacity (ap (λ n. f.frames + n) c.frames.ensures) is
 
 pub returns-clause-entries : goal.returns-clause-entries

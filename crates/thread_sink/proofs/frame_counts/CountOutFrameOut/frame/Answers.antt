@@ -4,5 +4,4 @@ use Rattle.thread_sink.proofs.frame_counts.CountOutFrameOut.frame.Goals as goal
 
 pub returns : goal.returns
 returns c start frames stands =
-    count-more frames c.args._frame.now c.args.self.now.count c.saturating_add-self.result stands
-    c.saturating_add-self.ensures
+    count-more frames c.args._frame.now c.args.self.now.count _ stands c.saturating_add-self.ensures

@@ -18,9 +18,7 @@ returns-clause-stands c stands =
     record {
       keeps = c.take_rows-first.ensures.keeps stands.keeps;
       counted = counts-then (given_frames was.core.options was.core.size (received was.rx) was.core.taken)
-          (added_frames now.core.options now.core.size (received now.rx) was.core.taken now.core.taken)
-          (given_frames now.core.options now.core.size (received now.rx) now.core.taken) old.got
-          c.take_rows-first.new.out.count c.saturating_add-self.result
-          (given-then was now stands.keeps c.take_rows-first.ensures.later) stands.counted counted
-          c.saturating_add-self.ensures;
+          (added_frames now.core.options now.core.size (received now.rx) was.core.taken now.core.taken) _
+          old.got _ c.saturating_add-self.result (given-then was now stands.keeps
+          c.take_rows-first.ensures.later) stands.counted counted c.saturating_add-self.ensures;
     }

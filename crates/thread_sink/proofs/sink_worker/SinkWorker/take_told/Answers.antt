@@ -23,11 +23,9 @@ returns-clause-stands g c stands =
     record {
       keeps = c.take_rows-first.ensures.keeps stands.keeps;
       counted = counts-then (given_frames was.core.options was.core.size (received was.rx) was.core.taken)
-          (added_frames now.core.options now.core.size (received now.rx) was.core.taken now.core.taken)
-          (given_frames now.core.options now.core.size (received now.rx) now.core.taken) old.got
-          c.take_rows-first.new.out.counted.count c.saturating_add-self.result
-          (given-then was now stands.keeps c.take_rows-first.ensures.later) stands.counted told.1
-          c.saturating_add-self.ensures;
+          (added_frames now.core.options now.core.size (received now.rx) was.core.taken now.core.taken) _
+          old.got _ c.saturating_add-self.result (given-then was now stands.keeps
+          c.take_rows-first.ensures.later) stands.counted told.1 c.saturating_add-self.ensures;
     }
 
 pub returns-clause-written : goal.returns-clause-written

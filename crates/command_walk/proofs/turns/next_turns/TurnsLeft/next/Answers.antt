@@ -26,9 +26,8 @@ loop-turn-preserved c =
     record {
       left = λ script s left taken.
           let own = inv.left script s left taken in
-          next-line script c.loop-turn.self c.of_line.new.self _ s (Client 0) own
-          (c.in_default.ensures.none script s own taken) c.in_default.ensures.kept c.in-len1-up.len_at_least refl refl
-          says.once says.fits;
+          next-line script _ _ _ s (Client 0) own (c.in_default.ensures.none script s own taken)
+          c.in_default.ensures.kept c.in-len1-up.len_at_least refl refl says.once says.fits;
       few = λ script s left taken.
           next-fewer script c.loop-turn.self c.of_line.new.self s (Client 0) c.pending_of-self.result _
           c.in_default.ensures.kept c.in-len1-up.len_at_least (inv.few script s left taken) says.turns;

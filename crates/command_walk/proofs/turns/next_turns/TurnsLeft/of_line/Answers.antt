@@ -5,8 +5,7 @@ use Rattle.command_walk.proofs.turns.next_turns.TurnsLeft.of_line.Goals as goal
 
 pub returns-then-count-eq0-clause-none : goal.returns-then-count-eq0-clause-none
 returns-then-count-eq0-clause-none c script s left taken =
-    no-try script c.args.self.now c.args.self.now s left c.in-Tries.turn c.in-Tries.count c.in-Tries.is
-    c.if-count-eq0.true
+    no-try script c.args.self.now c.args.self.now s left c.in-Tries.turn _ c.in-Tries.is c.if-count-eq0.true
 
 pub returns-else-count-eq0-clause-some : goal.returns-else-count-eq0-clause-some
 returns-else-count-eq0-clause-some c script s left taken =

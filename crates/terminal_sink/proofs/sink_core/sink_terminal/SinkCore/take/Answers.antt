@@ -4,7 +4,7 @@ use Rattle.law_model.specs.Common.{first_open, governing, deliver, longest_frame
 use Rattle.terminal_sink.specs.declared.sink_core.sink_terminal.TakeAnswer.TheVariants.{Taken}
 use Rattle.terminal_sink.specs.sink_core.Given.{received_rows, answer_at, added_frames}
 use Rattle.terminal_sink.specs.sink_core.Receives.{Receives}
-use Rattle.terminal_sink.specs.sink_core.Core.{Core, SinkStands}
+use Rattle.terminal_sink.specs.sink_core.Core.{SinkStands}
 use Rattle.terminal_sink.proofs.SinkCoreLaws.GivenLaws.{received-more, decided-none, decided-more, answer-taken}
 use Rattle.terminal_sink.proofs.SinkCoreLaws.GivenLaws.{carriers-next}
 use Rattle.terminal_sink.proofs.sink_core.sink_terminal.SinkCore.take.Goals as goal
@@ -12,17 +12,7 @@ use Rattle.terminal_sink.proofs.sink_core.sink_terminal.SinkCore.take.Goals as g
 pub returns-in-Row-clause-answer : goal.returns-in-Row-clause-answer
 returns-in-Row-clause-answer g c cells gathers stands =
     let inside = c.self.inside in
-    let options = inside.table.options in
-    let core : Core = record {
-      lines = inside.lines;
-      size = inside.size;
-      options = inside.table.options;
-      taken = inside.taken;
-      receiver =
-          inside.delineator;
-      table = inside.table;
-    } in
-    let before : SinkStands core cells = subst (λ v. SinkStands v cells) (sym c.self.view_is) stands in
+    let before = subst (λ v. SinkStands v cells) (sym c.self.view_is) stands in
     let same : c.args.rows.now.rows ≡ inside.taken = c.requires.rows ∙ sym (ap (λ v. v.taken) c.self.view_is) in
     let none : first_open cells inside.taken ≡ None = ap (first_open cells) (sym same)
     ∙ sym (c.in-Row.ensures.answer cells gathers) in
@@ -37,16 +27,7 @@ pub returns-in-Row-clause-stands : goal.returns-in-Row-clause-stands
 returns-in-Row-clause-stands g c cells gathers stands =
     let inside = c.self.inside in
     let options = inside.table.options in
-    let core : Core = record {
-      lines = inside.lines;
-      size = inside.size;
-      options = inside.table.options;
-      taken = inside.taken;
-      receiver =
-          inside.delineator;
-      table = inside.table;
-    } in
-    let before : SinkStands core cells = subst (λ v. SinkStands v cells) (sym c.self.view_is) stands in
+    let before = subst (λ v. SinkStands v cells) (sym c.self.view_is) stands in
     let same : c.args.rows.now.rows ≡ inside.taken = c.requires.rows ∙ sym (ap (λ v. v.taken) c.self.view_is) in
     let none : first_open cells inside.taken ≡ None = ap (first_open cells) (sym same)
     ∙ sym (c.in-Row.ensures.answer cells gathers) in
@@ -69,16 +50,7 @@ pub returns-in-Row-clause-gives : goal.returns-in-Row-clause-gives
 returns-in-Row-clause-gives g c cells gathers stands start frames given =
     let inside = c.self.inside in
     let options = inside.table.options in
-    let core : Core = record {
-      lines = inside.lines;
-      size = inside.size;
-      options = inside.table.options;
-      taken = inside.taken;
-      receiver =
-          inside.delineator;
-      table = inside.table;
-    } in
-    let before : SinkStands core cells = subst (λ v. SinkStands v cells) (sym c.self.view_is) stands in
+    let before = subst (λ v. SinkStands v cells) (sym c.self.view_is) stands in
     let carry = carriers-next options cells inside.taken _ (c.carriers.ensures.exact _ before.table) in
     let come = received_rows options inside.size cells inside.taken in
     let F = g.F.FrameOut.stands_for in
