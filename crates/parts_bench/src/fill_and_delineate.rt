@@ -3,7 +3,7 @@
 use crate::Done;
 use gfp_delineate::{Delineator, Step};
 use gfp_fill::{Filler, FrameQueue};
-use std::alloc::Global;
+use std::alloc::{AllocError, Global};
 
 /// The octets that go through at once.
 const ROW: usize = 2340;
@@ -18,9 +18,9 @@ const FRAME: [u8; 1518] = [0x5a; 1518];
 const WAITING: u64 = 256;
 
 /// Fills at least so many octets with a stream that has this number of new frames in each row. The answer is
-/// how many octets they were, and the sum of each row's last octet, or `None` where there is no memory.
-pub(crate) fn fill(alloc: Global, each: u64, octets: u64) -> Option<Done> {
-    let mut queue = FrameQueue::new(alloc).ok()?;
+/// how many octets they were, and the sum of each row's last octet, or want of memory.
+pub(crate) fn fill(alloc: Global, each: u64, octets: u64) -> Result<Done, AllocError> {
+    let mut queue = FrameQueue::new(alloc)?;
     let mut filler = Filler::new();
     let mut row = [0u8; ROW];
     let mut sum = 0u64;
@@ -30,8 +30,7 @@ pub(crate) fn fill(alloc: Global, each: u64, octets: u64) -> Option<Done> {
         filler.fill(&mut queue, &mut row);
         sum = sum.wrapping_add(u64::from(row[ROW - 1]));
     }
-    let octets = rows.wrapping_mul(ROW as u64);
-    Some(Done { octets, sum })
+    Ok(Done::of(rows, ROW as u64, sum))
 }
 
 /// Lets so many frames wait, or as many as can.
@@ -56,23 +55,22 @@ fn delineate_row(delineator: &mut Delineator, row: &[u8]) -> u64 {
 }
 
 /// Rows of a stream that has this number of new frames in each.
-fn stream(alloc: Global, each: u64) -> Option<Vec<u8>> {
-    let mut queue = FrameQueue::new(alloc).ok()?;
+fn stream(alloc: Global, each: u64) -> Result<Vec<u8>, AllocError> {
+    let mut queue = FrameQueue::new(alloc)?;
     let mut filler = Filler::new();
-    let mut stream = vec![in alloc; 0u8; ROW * ROWS].ok()?;
+    let mut stream = vec![in alloc; 0u8; ROW * ROWS]?;
     for row in stream.chunks_exact_mut(ROW) {
         offer(&mut queue, each);
         filler.fill(&mut queue, row);
     }
-    Some(stream)
+    Ok(stream)
 }
 
 /// Gives a receiver at least so many octets of a stream that has this number of new frames in each row. The
-/// answer is how many octets they were, and how many frames are delivered, or `None` where there is no
-/// memory.
-pub(crate) fn delineate(alloc: Global, each: u64, octets: u64) -> Option<Done> {
+/// answer is how many octets they were, and how many frames are delivered, or want of memory.
+pub(crate) fn delineate(alloc: Global, each: u64, octets: u64) -> Result<Done, AllocError> {
     let stream = stream(alloc, each)?;
-    let mut delineator = Delineator::new(alloc, 9600).ok()?;
+    let mut delineator = Delineator::new(alloc, 9600)?;
     let mut sum = 0u64;
     let rows = octets.div_ceil(ROW as u64);
     for n in 0..rows {
@@ -81,6 +79,5 @@ pub(crate) fn delineate(alloc: Global, each: u64, octets: u64) -> Option<Done> {
             sum = sum.wrapping_add(delineate_row(&mut delineator, row));
         }
     }
-    let octets = rows.wrapping_mul(ROW as u64);
-    Some(Done { octets, sum })
+    Ok(Done::of(rows, ROW as u64, sum))
 }

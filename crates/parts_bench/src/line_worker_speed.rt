@@ -45,19 +45,18 @@ fn drain(rx: &mut RingIn<Cell>, count: u16) -> u64 {
 }
 
 /// Sends at least so many octets through a worker with a delay of so many containers. The answer is how many
-/// they were, and the sum of the octets H4 that came out, or `None` where there is no memory.
-pub(crate) fn line(alloc: Global, delay: u16, octets: u64) -> Option<Done> {
+/// they were, and the sum of the octets H4 that came out, or want of memory.
+pub(crate) fn line(alloc: Global, delay: u16, octets: u64) -> Result<Done, AllocError> {
     let LineEnds {
         mut tx,
         tx_out,
         rx,
         mut rx_out,
-    } = match line_rings(alloc, SLOTS) {
-        Ok(ends) => ends,
-        Err(AllocError) => return None,
+    } = line_rings(alloc, SLOTS)?;
+    let Ok(windows) = Windows::new(alloc, &[]) else {
+        return Err(AllocError);
     };
-    let windows = Windows::new(alloc, &[]).ok()?;
-    let core = LineCore::new(alloc, delay, windows, u32::MAX).ok()?;
+    let core = LineCore::new(alloc, delay, windows, u32::MAX)?;
     let mut worker = LineWorker::new(0, tx_out, core, rx);
     let mut container = Container {
         h4: 0,
@@ -70,6 +69,5 @@ pub(crate) fn line(alloc: Global, delay: u16, octets: u64) -> Option<Done> {
         carry(&mut worker);
         sum = sum.wrapping_add(drain(&mut rx_out, SLOTS));
     }
-    let octets = rounds.wrapping_mul(ROUND);
-    Some(Done { octets, sum })
+    Ok(Done::of(rounds, ROUND, sum))
 }

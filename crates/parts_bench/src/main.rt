@@ -63,15 +63,16 @@ impl Way {
         let members = number.clamp(1, MEMBERS) as u8;
         let done = match self {
             Way::Texts => return script_reading::said(alloc, number, count),
-            Way::Fill => fill_and_delineate::fill(alloc, number, count)?,
-            Way::Delineate => fill_and_delineate::delineate(alloc, number, count)?,
-            Way::Spread => spread_and_gather::spread(alloc, members, count)?,
-            Way::Gather => spread_and_gather::gather(alloc, members, count)?,
-            Way::Source => source_speed::source(alloc, members, count)?,
-            Way::Line => line_worker_speed::line(alloc, number.min(65535) as u16, count)?,
-            Way::Sink => sink_worker_speed::sink(alloc, members, count)?,
-            Way::Copy => sink_feed::copy(alloc, members, count)?,
+            Way::Fill => fill_and_delineate::fill(alloc, number, count),
+            Way::Delineate => fill_and_delineate::delineate(alloc, number, count),
+            Way::Spread => spread_and_gather::interleave(alloc, false, members, count),
+            Way::Gather => spread_and_gather::interleave(alloc, true, members, count),
+            Way::Source => source_speed::source(alloc, members, count),
+            Way::Line => line_worker_speed::line(alloc, number.min(65535) as u16, count),
+            Way::Sink => sink_worker_speed::sink(alloc, members, count),
+            Way::Copy => sink_feed::copy(alloc, members, count),
         };
+        let done = done.ok()?;
         format!(in alloc; "octets {} sum {}", done.octets, done.sum).ok()
     }
 }
@@ -92,8 +93,16 @@ const ALL: [(Way, u64, u64); 9] = [
 /// How many octets went through, and a sum of some of what came out.
 #[derive(Clone, Copy)]
 pub(crate) struct Done {
-    pub(crate) octets: u64,
-    pub(crate) sum: u64,
+    octets: u64,
+    sum: u64,
+}
+
+impl Done {
+    /// So many octets in each of some rounds.
+    pub(crate) fn of(rounds: u64, each: u64, sum: u64) -> Done {
+        let octets = rounds.wrapping_mul(each);
+        Done { octets, sum }
+    }
 }
 
 /// The way of a word, its number, and how much is to go through.

@@ -137,13 +137,13 @@ impl Feed {
 }
 
 /// Copies at least so many octets: the containers that are held, as many at once as the sink of so many lines
-/// is given. The answer is how many they were, and a sum of some of them, or `None` where there is no memory.
-pub(crate) fn copy(alloc: Global, lines: u8, octets: u64) -> Option<Done>
+/// is given. The answer is how many they were, and a sum of some of them, or want of memory.
+pub(crate) fn copy(alloc: Global, lines: u8, octets: u64) -> Result<Done, AllocError>
     requires some { 0 < lines }
     requires most { lines ≤ 128 }
 {
-    let feed = Feed::new(alloc, lines).ok()?;
-    let mut to = vec![in alloc; blank(); ROWS * usize::from(lines)].ok()?;
+    let feed = Feed::new(alloc, lines)?;
+    let mut to = vec![in alloc; blank(); ROWS * usize::from(lines)]?;
     let mut sum = 0u64;
     let mut done = 0u64;
     let rounds = octets.div_ceil((PAYLOAD * HELD) as u64);
@@ -155,8 +155,7 @@ pub(crate) fn copy(alloc: Global, lines: u8, octets: u64) -> Option<Done>
             }
         }
     }
-    let octets = done.wrapping_mul(PAYLOAD as u64);
-    Some(Done { octets, sum })
+    Ok(Done::of(done, PAYLOAD as u64, sum))
 }
 
 /// Copies as many containers as there are, or as there are places. The answer is their number.

@@ -63,16 +63,16 @@ fn drain(worker: &mut SinkWorker, out: &mut Count, back: &mut RingIn<BackCell>) 
 }
 
 /// Gives at least so many octets to the sink of so many lines. The answer is how many they were, and the sum
-/// of the frames that were delivered and the octets that were written, or `None` where there is no memory.
-pub(crate) fn sink(alloc: Global, lines: u8, octets: u64) -> Option<Done>
+/// of the frames that were delivered and the octets that were written, or want of memory.
+pub(crate) fn sink(alloc: Global, lines: u8, octets: u64) -> Result<Done, AllocError>
     requires some { 0 < lines }
     requires most { lines ≤ 128 }
 {
-    let (mut tx, rx) = make_rings(alloc, lines).ok()?;
-    let (back, mut back_out) = back_ring(alloc).ok()?;
+    let (mut tx, rx) = make_rings(alloc, lines)?;
+    let (back, mut back_out) = back_ring(alloc)?;
     let options = Options::default();
-    let mut worker = SinkWorker::new(alloc, lines, u32::MAX, 2340, options, rx, back).ok()?;
-    let mut feed = Feed::new(alloc, lines).ok()?;
+    let mut worker = SinkWorker::new(alloc, lines, u32::MAX, 2340, options, rx, back)?;
+    let mut feed = Feed::new(alloc, lines)?;
     let mut out = Count { octets: 0 };
     let round = (PAYLOAD * ROWS * usize::from(lines)) as u64;
     let rounds = octets.div_ceil(round);
@@ -82,8 +82,6 @@ pub(crate) fn sink(alloc: Global, lines: u8, octets: u64) -> Option<Done>
         }
         drain(&mut worker, &mut out, &mut back_out);
     }
-    Some(Done {
-        octets: rounds.wrapping_mul(round),
-        sum: worker.got().wrapping_add(out.octets),
-    })
+    let sum = worker.got().wrapping_add(out.octets);
+    Ok(Done::of(rounds, round, sum))
 }

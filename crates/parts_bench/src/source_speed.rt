@@ -82,16 +82,8 @@ fn add_all(core: &mut SourceCore, out: &mut [Box<HeldContainer>])
 }
 
 /// Makes frames of all lines until these have carried the octets. The answer is how many they were, and a sum
-/// of some of them, or `None` where there is no memory.
-pub(crate) fn source(alloc: Global, members: u8, octets: u64) -> Option<Done>
-    requires some { 0 < members }
-    requires most { members ≤ 128 }
-{
-    made(alloc, members, octets).ok()
-}
-
-/// The same, or want of memory.
-fn made(alloc: Global, members: u8, octets: u64) -> Result<Done, AllocError>
+/// of some of them, or want of memory.
+pub(crate) fn source(alloc: Global, members: u8, octets: u64) -> Result<Done, AllocError>
     requires some { 0 < members }
     requires most { members ≤ 128 }
 {
@@ -109,6 +101,5 @@ fn made(alloc: Global, members: u8, octets: u64) -> Result<Done, AllocError>
             sum = sum.wrapping_add(u64::from(place.container().payload[0]));
         }
     }
-    let octets = rounds.wrapping_mul(a_frame);
-    Ok(Done { octets, sum })
+    Ok(Done::of(rounds, a_frame, sum))
 }

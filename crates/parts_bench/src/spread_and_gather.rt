@@ -3,18 +3,12 @@
 ghost use Rattle.std.specs.Prelude.{◌≡◌, ℕ, ◌*◌, ◌<◌, ◌≤◌, length, slice_index, IfOk};
 
 use crate::Done;
-use member_cells::{Container, HeldContainer, PAYLOAD};
+use member_cells::{HeldContainer, PAYLOAD, blank_boxes};
 use member_rows::vcat_interleave::{gather_places, spread_places};
 use std::alloc::{AllocError, Global};
 
 /// The octets that are done at once, or those of sixteen places where these are more.
 const PIECE: usize = 2048;
-
-/// What stands in a place at first.
-const FULL: Container = Container {
-    h4: 0,
-    payload: [0x5a; PAYLOAD],
-};
 
 /// The places of a piece.
 fn places_of(members: usize) -> usize
@@ -100,19 +94,6 @@ fn gather_rounds(
     sum
 }
 
-/// As many boxes as there are members.
-fn boxes(alloc: Global, members: usize) -> Result<Vec<Box<HeldContainer>>, AllocError>
-    ensures { IfOk result (λ boxes. length boxes.items ≡ members) }
-{
-    let mut boxes = Vec::with_capacity(alloc, members)?;
-    for _ in 0..members {
-        let mut place = HeldContainer::new();
-        place.put(&FULL);
-        boxes.push(Box::new(alloc, place)?)?;
-    }
-    Ok(boxes)
-}
-
 /// How many rounds of at least so many octets there are, and the octets of one.
 fn rounds_of(places: usize, members: usize, octets: u64) -> (u64, u64)
     requires some { 0 < places }
@@ -123,33 +104,26 @@ fn rounds_of(places: usize, members: usize, octets: u64) -> (u64, u64)
     (octets.div_ceil(a_round.max(1)), a_round)
 }
 
-/// Spreads at least so many octets over the members. The answer is how many octets they were, and the sum of
-/// the first one of each round, or `None` where there is no memory.
-pub(crate) fn spread(alloc: Global, members: u8, octets: u64) -> Option<Done>
+/// Spreads at least so many octets over the members, or gathers them. The answer is how many octets they were, and the
+/// sum of the first one of each round, or want of memory.
+pub(crate) fn interleave(
+    alloc: Global,
+    gathers: bool,
+    members: u8,
+    octets: u64,
+) -> Result<Done, AllocError>
     requires { members ≤ 128 }
 {
     let members = usize::from(members);
-    let active = lines(alloc, members).ok()?;
+    let active = lines(alloc, members)?;
     let places = places_of(members);
-    let mut row = vec![in alloc; 0x5au8; places * members].ok()?;
-    let mut containers = boxes(alloc, members).ok()?;
+    let mut row = vec![in alloc; 0x5au8; places * members]?;
+    let mut containers = blank_boxes(alloc, members)?;
     let (rounds, a_round) = rounds_of(places, members, octets);
-    let sum = spread_rounds(rounds, places, &active, &mut row, &mut containers);
-    let octets = rounds.wrapping_mul(a_round);
-    Some(Done { octets, sum })
-}
-
-/// Gathers at least so many octets from the members, with an answer as `spread` has it.
-pub(crate) fn gather(alloc: Global, members: u8, octets: u64) -> Option<Done>
-    requires { members ≤ 128 }
-{
-    let members = usize::from(members);
-    let active = lines(alloc, members).ok()?;
-    let places = places_of(members);
-    let mut row = vec![in alloc; 0x5au8; places * members].ok()?;
-    let mut containers = boxes(alloc, members).ok()?;
-    let (rounds, a_round) = rounds_of(places, members, octets);
-    let sum = gather_rounds(rounds, places, &active, &mut row, &mut containers);
-    let octets = rounds.wrapping_mul(a_round);
-    Some(Done { octets, sum })
+    let sum = if gathers {
+        gather_rounds(rounds, places, &active, &mut row, &mut containers)
+    } else {
+        spread_rounds(rounds, places, &active, &mut row, &mut containers)
+    };
+    Ok(Done::of(rounds, a_round, sum))
 }

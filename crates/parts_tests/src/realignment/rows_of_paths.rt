@@ -51,14 +51,15 @@ pub(crate) fn cells_of(row: &'static str) -> Cells {
     Cells { cells, told }
 }
 
-/// Sixty paths. The first line locks by the containers 144 and 145; the second one by 4,512 and 4,513, whose
-/// number is sent as 417; and in the third one sixteen containers lie between two windows, by which 2,047
-/// vanish.
+/// Sixty-one paths. The first line locks by the containers 144 and 145; the second one by 4,512 and 4,513, whose
+/// number is sent as 417; in the third one sixteen containers lie between two windows, by which 2,047 vanish; and in the
+/// fourth one a sign comes alone before the greatest slip.
 pub(crate) fn path_rows() -> &'static str {
     "\
     100 140 39;200;0 2 100 146;5 9\n\
     3500 4501 1000;5000;0 2 3500 4514;218 282\n\
     100 1505 1023 1521 2913 1024;3000;0 2 100 2930;5 183\n\
+    16 2064 2047;2100;0 2 16 2066;0 129\n\
     17 33 0;90;0 2 17 50;0 3\n\
     3 4 0 39 42 2;300;0 2 3 18 39 50;0 3\n\
     7 47 1;120;0 2 7 50;0 3\n\
