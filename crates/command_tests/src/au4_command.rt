@@ -3,7 +3,7 @@
 //! that no proof sees them.
 
 use crate::try_rows::Program::Walk;
-use crate::try_rows::{Turns, try_rows};
+use crate::try_rows::{Turns, wrong_of};
 
 /// Pointers that stay, move over both ends of their values, and begin anew, in the first frame too.
 fn carried_rows() -> &'static str {
@@ -94,12 +94,12 @@ fn untold_rows() -> &'static str {
 
 #[test]
 fn links(rt: HostRuntime) {
-    let alloc = rt.alloc();
-    let mut wrong = String::new(alloc);
-    try_rows(&rt, alloc, (Walk, Turns::Whole), carried_rows(), &mut wrong);
-    try_rows(&rt, alloc, (Walk, Turns::Whole), faulty_rows(), &mut wrong);
-    try_rows(&rt, alloc, (Walk, Turns::Takes), read_rows(), &mut wrong);
-    try_rows(&rt, alloc, (Walk, Turns::Puts), put_rows(), &mut wrong);
-    try_rows(&rt, alloc, (Walk, Turns::Tells), untold_rows(), &mut wrong);
-    assert_eq!(rt; wrong.as_str(), "");
+    let rows = [
+        (Turns::Whole, "", carried_rows()),
+        (Turns::Whole, "", faulty_rows()),
+        (Turns::Takes, "", read_rows()),
+        (Turns::Puts, "", put_rows()),
+        (Turns::Tells, "", untold_rows()),
+    ];
+    assert_eq!(rt; wrong_of(&rt, rt.alloc(), Walk, &rows).as_str(), "");
 }

@@ -3,7 +3,7 @@
 //! functions, so that no proof sees them.
 
 use crate::try_rows::Program::Walk;
-use crate::try_rows::{Turns, try_rows};
+use crate::try_rows::{Turns, wrong_of};
 
 /// Frames in turn, frames that are refused, streams that end early, and cuts in idles, headers and areas.
 fn shared_rows() -> &'static str {
@@ -23,12 +23,8 @@ fn shared_rows() -> &'static str {
         0;got 0 07*9600|refused 1 length 9601|channels frames 1 refused 1 got 1|;\n\
     channels;channels 3|octets 700|frame 2 22*64|frame 0 00*64|frame 2 23*65|frame 1 11*66|frame 0 01*64| => \
         0;got 0 00*64|got 1 11*66|got 2 22*64|got 0 01*64|got 2 23*65|channels frames 5 refused 0 got 5|;\n\
-    channels;channels 1|octets 2000|frame 0 01*64|frame 0 01*64|frame 0 01*64|frame 0 01*64|frame 0 01*64|\
-        frame 0 01*64|frame 0 01*64|frame 0 01*64|frame 0 01*64|frame 0 01*64|frame 0 01*64|frame 0 01*64|\
-        frame 0 01*64|frame 0 01*64|frame 0 01*64|frame 0 01*64|frame 0 02*64|frame 0 03*64| => \
-        0;got 0 01*64|got 0 01*64|got 0 01*64|got 0 01*64|got 0 01*64|got 0 01*64|got 0 01*64|got 0 01*64|got 0 01*64|\
-        got 0 01*64|got 0 01*64|got 0 01*64|got 0 01*64|got 0 01*64|got 0 01*64|got 0 01*64|refused 16 queue|\
-        refused 17 queue|channels frames 16 refused 2 got 16|;\n\
+    channels;channels 1|octets 2000|@16 frame 0 01*64|frame 0 02*64|frame 0 03*64| => 0;got 0 01*64|\
+        @15 got 0 01*64|refused 16 queue|refused 17 queue|channels frames 16 refused 2 got 16|;\n\
     channels;channels 2|octets 600|frame 0 00*64|frame 1 01*64|frame 0 02*64|frame 1 03*64|frame 0 04*64|cut 0 4| => \
         0;got 1 01*64|got 0 02*64|got 1 03*64|got 0 04*64|channels frames 5 refused 0 got 4|;\n\
     channels;channels 2|octets 600|frame 0 00*64|frame 1 01*64|frame 0 02*64|frame 1 03*64|frame 0 04*64|cut 100 101|\
@@ -114,12 +110,12 @@ fn untold_rows() -> &'static str {
 
 #[test]
 fn channels(rt: HostRuntime) {
-    let alloc = rt.alloc();
-    let mut wrong = String::new(alloc);
-    try_rows(&rt, alloc, (Walk, Turns::Whole), shared_rows(), &mut wrong);
-    try_rows(&rt, alloc, (Walk, Turns::Whole), faulty_rows(), &mut wrong);
-    try_rows(&rt, alloc, (Walk, Turns::Takes), read_rows(), &mut wrong);
-    try_rows(&rt, alloc, (Walk, Turns::Puts), put_rows(), &mut wrong);
-    try_rows(&rt, alloc, (Walk, Turns::Tells), untold_rows(), &mut wrong);
-    assert_eq!(rt; wrong.as_str(), "");
+    let rows = [
+        (Turns::Whole, "", shared_rows()),
+        (Turns::Whole, "", faulty_rows()),
+        (Turns::Takes, "", read_rows()),
+        (Turns::Puts, "", put_rows()),
+        (Turns::Tells, "", untold_rows()),
+    ];
+    assert_eq!(rt; wrong_of(&rt, rt.alloc(), Walk, &rows).as_str(), "");
 }

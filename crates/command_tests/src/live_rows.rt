@@ -3,8 +3,7 @@
 //! proof sees them.
 
 use crate::try_rows::Program::Walk;
-use crate::try_rows::{Turns, try_rows};
-use std::alloc::Global;
+use crate::try_rows::{Turns, wrong_of};
 
 /// Nothing is said; a frame comes out in the tick behind it; another waits in a group whose other line has more delay;
 /// at the least lag a round in each packet makes no tick. Then blanks, and a last line without its LF.
@@ -68,6 +67,8 @@ fn faulty_rows() -> &'static str {
         statuses, fail, lost, frame, add, remove, cut, mend, pass|\n\
     live;lines 1|delays 0|ring 1|lag 1|ticks 9|pass 4|fail 0 5 6 0| => 5;now 4|;fault: line 7: order|\
         help: fail and lost stands before live lines|\n\
+    live;lines 1|delays 0|ring 1|lag 1|ticks 9|add 0||sink stops| => 5;;fault: line 8: order|\
+        help: configuration stands before live lines|\n\
     live;lines 1|delays 0|ring 1|lag 1|ticks 9|pass 4|frame 4 00| => 5;now 4|;fault: line 7: word|\
         help: frame takes 1 words, and 2 follow|\n\
     live;lines 1|delays 0|ring 1|lag 1|ticks 9|frame 0a0| => 5;;fault: line 6: hex|\
@@ -81,6 +82,10 @@ fn faulty_rows() -> &'static str {
     live;lines 1|delays 0|ring 1|lag 1|ticks 9|cut 0|pass 1|cut 0| => 5;now 1|;fault: line 8: order|\
         help: line 0 is cut already|\n\
     live;lines 1|delays 0|ring 1|lag 1|ticks 9|pass 4|add 0|mend 0| => 5;now 4|;fault: line 8: order|\
+        help: line 0 isn't cut|\n\
+    live;lines 1|delays 0|ring 1|lag 1|ticks 9|fail 0 3 5 0|pass 4|cut 0| => 5;now 4|;fault: line 8: order|\
+        help: the failure before ends at 5|\n\
+    live;lines 1|delays 0|ring 1|lag 1|ticks 9|cut 0|mend 0|cut 0|mend 0|mend 0| => 5;;fault: line 10: order|\
         help: line 0 isn't cut|\n\
     live;lines 1|delays 0|ring 1|lag 1|ticks 9|fail 0 3 5 1|pass 4 4| => 6;;fault: spread 0 0 1 1|\
         help: delays from 0 to 0 and slips of 1 need a ring of at least 2|\n\
@@ -99,9 +104,13 @@ fn octet_row() -> &'static str {
         total ticks 41 taken 41 frames 1 commands 1 refused 0 got 1|;"
 }
 
-/// A line that is too long, also where its LF hasn't come.
+/// A line that is as long as it may be, and one that is too long, each also where its LF hasn't come.
 fn long_rows() -> &'static str {
     "\
+    live;lines 1|delays 0|ring 1|lag 1|ticks 9|pass 1|  *131072| => \
+        0;now 1|total ticks 1 taken 1 frames 0 commands 0 refused 0 got 0|;\n\
+    live;lines 1|delays 0|ring 1|lag 1|ticks 9|pass 1|  *131072 => \
+        0;now 1|total ticks 1 taken 1 frames 0 commands 0 refused 0 got 0|;\n\
     live;lines 1|delays 0|ring 1|lag 1|ticks 9|pass 1|   *131072| => 8;now 1|;fault: too long|\n\
     live;lines 1|delays 0|ring 1|lag 1|ticks 9|pass 1|   *131072 => 8;now 1|;fault: too long|"
 }
@@ -118,71 +127,34 @@ fn untold_row() -> &'static str {
     "live;x| => 5;;"
 }
 
-/// The parts of a row, each with how often it comes: more frames than may wait, of which the last is refused, and one
-/// more once some have gone.
-const QUEUE: [(u32, &str); 7] = [
-    (1, "live;lines 1|delays 0|ring 1|lag 1|ticks 1000|add 0|"),
-    (257, "frame 00*64|"),
-    (1, "pass 41|frame 00*64|pass 1| => 0;refused 257 queue|"),
-    (32, "got 41 00*64|"),
-    (1, "now 41|"),
-    (32, "got 42 00*64|"),
-    (
-        1,
-        "now 42|total ticks 42 taken 42 frames 257 commands 1 refused 1 got 64|;",
-    ),
-];
-
-/// That row, as far as there is memory.
-fn queue_row(alloc: Global) -> String {
-    let mut row = String::new(alloc);
-    for (count, text) in QUEUE {
-        for _ in 0..count {
-            let _ = row.push_str(text);
-        }
-    }
-    row
+/// More frames than may wait, of which the last is refused, and one more once some have gone.
+fn queue_row() -> &'static str {
+    "\
+    live;lines 1|delays 0|ring 1|lag 1|ticks 1000|add 0|@257 frame 00*64|pass 41|frame 00*64|\
+        pass 1| => 0;refused 257 queue|@32 got 41 00*64|now 41|@32 got 42 00*64|now 42|\
+        total ticks 42 taken 42 frames 257 commands 1 refused 1 got 64|;"
 }
 
 #[test]
 fn conversations(rt: HostRuntime) {
-    let alloc = rt.alloc();
-    let mut wrong = String::new(alloc);
-    try_rows(
-        &rt,
-        alloc,
-        (Walk, Turns::Pieces),
-        passing_rows(),
-        &mut wrong,
-    );
-    try_rows(&rt, alloc, (Walk, Turns::Pieces), cut_rows(), &mut wrong);
-    try_rows(
-        &rt,
-        alloc,
-        (Walk, Turns::Pieces),
-        refused_rows(),
-        &mut wrong,
-    );
-    try_rows(&rt, alloc, (Walk, Turns::Pieces), traced_rows(), &mut wrong);
-    try_rows(&rt, alloc, (Walk, Turns::Pieces), faulty_rows(), &mut wrong);
-    let queue = queue_row(alloc);
-    try_rows(
-        &rt,
-        alloc,
-        (Walk, Turns::Pieces),
-        queue.as_str(),
-        &mut wrong,
-    );
-    assert_eq!(rt; wrong.as_str(), "");
+    let rows = [
+        (Turns::Pieces, "", passing_rows()),
+        (Turns::Pieces, "", cut_rows()),
+        (Turns::Pieces, "", refused_rows()),
+        (Turns::Pieces, "", traced_rows()),
+        (Turns::Pieces, "", faulty_rows()),
+        (Turns::Pieces, "", queue_row()),
+    ];
+    assert_eq!(rt; wrong_of(&rt, rt.alloc(), Walk, &rows).as_str(), "");
 }
 
 #[test]
 fn conversations_that_are_cut_short(rt: HostRuntime) {
-    let alloc = rt.alloc();
-    let mut wrong = String::new(alloc);
-    try_rows(&rt, alloc, (Walk, Turns::Octets), octet_row(), &mut wrong);
-    try_rows(&rt, alloc, (Walk, Turns::Whole), long_rows(), &mut wrong);
-    try_rows(&rt, alloc, (Walk, Turns::Puts), put_row(), &mut wrong);
-    try_rows(&rt, alloc, (Walk, Turns::Tells), untold_row(), &mut wrong);
-    assert_eq!(rt; wrong.as_str(), "");
+    let rows = [
+        (Turns::Octets, "", octet_row()),
+        (Turns::Whole, "", long_rows()),
+        (Turns::Puts, "", put_row()),
+        (Turns::Tells, "", untold_row()),
+    ];
+    assert_eq!(rt; wrong_of(&rt, rt.alloc(), Walk, &rows).as_str(), "");
 }

@@ -3,7 +3,7 @@
 //! that no proof sees them.
 
 use crate::try_rows::Program::Walk;
-use crate::try_rows::{Turns, try_rows};
+use crate::try_rows::{Turns, wrong_of};
 
 /// Frames of 64 zeros with flips in idles, core headers and areas, and texts of flips alone or of nothing.
 fn noisy_rows() -> &'static str {
@@ -84,12 +84,12 @@ fn untold_rows() -> &'static str {
 
 #[test]
 fn noises(rt: HostRuntime) {
-    let alloc = rt.alloc();
-    let mut wrong = String::new(alloc);
-    try_rows(&rt, alloc, (Walk, Turns::Whole), noisy_rows(), &mut wrong);
-    try_rows(&rt, alloc, (Walk, Turns::Whole), faulty_rows(), &mut wrong);
-    try_rows(&rt, alloc, (Walk, Turns::Takes), read_rows(), &mut wrong);
-    try_rows(&rt, alloc, (Walk, Turns::Puts), put_rows(), &mut wrong);
-    try_rows(&rt, alloc, (Walk, Turns::Tells), untold_rows(), &mut wrong);
-    assert_eq!(rt; wrong.as_str(), "");
+    let rows = [
+        (Turns::Whole, "", noisy_rows()),
+        (Turns::Whole, "", faulty_rows()),
+        (Turns::Takes, "", read_rows()),
+        (Turns::Puts, "", put_rows()),
+        (Turns::Tells, "", untold_rows()),
+    ];
+    assert_eq!(rt; wrong_of(&rt, rt.alloc(), Walk, &rows).as_str(), "");
 }

@@ -2,7 +2,7 @@
 //! model of the definitions. Rows stand behind functions, so that no proof sees them.
 
 use crate::try_rows::Program::Walk;
-use crate::try_rows::{Turns, try_rows};
+use crate::try_rows::{Turns, wrong_of};
 
 /// One failure that makes two packets in turn unreadable: held or not, and back by how long line 1 waits. Then one from
 /// the start, after which the line has to be restored.
@@ -152,108 +152,82 @@ fn faulty_rows() -> &'static str {
 /// Two ways, each with each of four options: the way without frames got is the one whose own option says so.
 fn paired_rows() -> &'static str {
     "\
-    pair;lines 1|delays 0|ring 1|lag 1|ticks 400|fail 0 0 16 0|add 0 0|frame 0 00*64|frame 0 00*64|frame 0 00*64|\
-        frame 0 00*64|other|lines 1|delays 0|ring 1|lag 1|ticks 400|fail 0 0 16 0|add 0 0|frame 0 00*64|frame 0 00*64|\
-        frame 0 00*64|frame 0 00*64| => 0;got 00*64|got 00*64|got 00*64|\
-        total ticks 400 taken 400 frames 4 commands 1 refused 0 got 3|;got 00*64|got 00*64|got 00*64|\
+    pair;lines 1|delays 0|ring 1|lag 1|ticks 400|fail 0 0 16 0|add 0 0|@4 frame 0 00*64|other|lines 1|\
+        delays 0|ring 1|lag 1|ticks 400|fail 0 0 16 0|add 0 0|@4 frame 0 00*64| => 0;got 00*64|@2 got 00*64|\
+        total ticks 400 taken 400 frames 4 commands 1 refused 0 got 3|;got 00*64|@2 got 00*64|\
         total ticks 400 taken 400 frames 4 commands 1 refused 0 got 3|\n\
-    pair;lines 1|delays 0|ring 1|lag 1|ticks 400|fail 0 0 16 0|add 0 0|frame 0 00*64|frame 0 00*64|frame 0 00*64|\
-        frame 0 00*64|other|lines 1|delays 0|ring 1|lag 1|ticks 400|restore 15|fail 0 0 16 0|add 0 0|frame 0 00*64|\
-        frame 0 00*64|frame 0 00*64|frame 0 00*64| => 0;got 00*64|got 00*64|got 00*64|\
-        total ticks 400 taken 400 frames 4 commands 1 refused 0 got 3|;got 00*64|got 00*64|got 00*64|\
+    pair;lines 1|delays 0|ring 1|lag 1|ticks 400|fail 0 0 16 0|add 0 0|@4 frame 0 00*64|other|lines 1|\
+        delays 0|ring 1|lag 1|ticks 400|restore 15|fail 0 0 16 0|add 0 0|@4 frame 0 00*64| => 0;got 00*64|\
+        @2 got 00*64|total ticks 400 taken 400 frames 4 commands 1 refused 0 got 3|;got 00*64|@2 got 00*64|\
         total ticks 400 taken 400 frames 4 commands 1 refused 0 got 3|\n\
-    pair;lines 1|delays 0|ring 1|lag 1|ticks 400|fail 0 0 16 0|add 0 0|frame 0 00*64|frame 0 00*64|frame 0 00*64|\
-        frame 0 00*64|other|lines 1|delays 0|ring 1|lag 1|ticks 400|restore 16|fail 0 0 16 0|add 0 0|frame 0 00*64|\
-        frame 0 00*64|frame 0 00*64|frame 0 00*64| => 0;got 00*64|got 00*64|got 00*64|\
-        total ticks 400 taken 400 frames 4 commands 1 refused 0 got 3|\
+    pair;lines 1|delays 0|ring 1|lag 1|ticks 400|fail 0 0 16 0|add 0 0|@4 frame 0 00*64|other|lines 1|\
+        delays 0|ring 1|lag 1|ticks 400|restore 16|fail 0 0 16 0|add 0 0|@4 frame 0 00*64| => 0;got 00*64|\
+        @2 got 00*64|total ticks 400 taken 400 frames 4 commands 1 refused 0 got 3|\
         ;total ticks 400 taken 400 frames 4 commands 1 refused 0 got 0|\n\
-    pair;lines 1|delays 0|ring 1|lag 1|ticks 400|fail 0 0 16 0|add 0 0|frame 0 00*64|frame 0 00*64|frame 0 00*64|\
-        frame 0 00*64|other|lines 1|delays 0|ring 1|lag 1|ticks 400|statuses 32|fail 0 0 16 0|add 0 0|frame 0 00*64|\
-        frame 0 00*64|frame 0 00*64|frame 0 00*64| => 0;got 00*64|got 00*64|got 00*64|\
-        total ticks 400 taken 400 frames 4 commands 1 refused 0 got 3|\
+    pair;lines 1|delays 0|ring 1|lag 1|ticks 400|fail 0 0 16 0|add 0 0|@4 frame 0 00*64|other|lines 1|\
+        delays 0|ring 1|lag 1|ticks 400|statuses 32|fail 0 0 16 0|add 0 0|@4 frame 0 00*64| => 0;got 00*64|\
+        @2 got 00*64|total ticks 400 taken 400 frames 4 commands 1 refused 0 got 3|\
         ;total ticks 400 taken 400 frames 4 commands 1 refused 0 got 0|\n\
-    pair;lines 1|delays 0|ring 1|lag 1|ticks 400|restore 15|fail 0 0 16 0|add 0 0|frame 0 00*64|frame 0 00*64|\
-        frame 0 00*64|frame 0 00*64|other|lines 1|delays 0|ring 1|lag 1|ticks 400|fail 0 0 16 0|add 0 0|frame 0 00*64|\
-        frame 0 00*64|frame 0 00*64|frame 0 00*64| => 0;got 00*64|got 00*64|got 00*64|\
-        total ticks 400 taken 400 frames 4 commands 1 refused 0 got 3|;got 00*64|got 00*64|got 00*64|\
+    pair;lines 1|delays 0|ring 1|lag 1|ticks 400|restore 15|fail 0 0 16 0|add 0 0|@4 frame 0 00*64|other|\
+        lines 1|delays 0|ring 1|lag 1|ticks 400|fail 0 0 16 0|add 0 0|@4 frame 0 00*64| => 0;got 00*64|\
+        @2 got 00*64|total ticks 400 taken 400 frames 4 commands 1 refused 0 got 3|;got 00*64|@2 got 00*64|\
         total ticks 400 taken 400 frames 4 commands 1 refused 0 got 3|\n\
-    pair;lines 1|delays 0|ring 1|lag 1|ticks 400|restore 15|fail 0 0 16 0|add 0 0|frame 0 00*64|frame 0 00*64|\
-        frame 0 00*64|frame 0 00*64|other|lines 1|delays 0|ring 1|lag 1|ticks 400|restore 15|fail 0 0 16 0|add 0 0|\
-        frame 0 00*64|frame 0 00*64|frame 0 00*64|frame 0 00*64| => 0;got 00*64|got 00*64|got 00*64|\
-        total ticks 400 taken 400 frames 4 commands 1 refused 0 got 3|;got 00*64|got 00*64|got 00*64|\
-        total ticks 400 taken 400 frames 4 commands 1 refused 0 got 3|\n\
-    pair;lines 1|delays 0|ring 1|lag 1|ticks 400|restore 15|fail 0 0 16 0|add 0 0|frame 0 00*64|frame 0 00*64|\
-        frame 0 00*64|frame 0 00*64|other|lines 1|delays 0|ring 1|lag 1|ticks 400|restore 16|fail 0 0 16 0|add 0 0|\
-        frame 0 00*64|frame 0 00*64|frame 0 00*64|frame 0 00*64| => 0;got 00*64|got 00*64|got 00*64|\
-        total ticks 400 taken 400 frames 4 commands 1 refused 0 got 3|\
-        ;total ticks 400 taken 400 frames 4 commands 1 refused 0 got 0|\n\
-    pair;lines 1|delays 0|ring 1|lag 1|ticks 400|restore 15|fail 0 0 16 0|add 0 0|frame 0 00*64|frame 0 00*64|\
-        frame 0 00*64|frame 0 00*64|other|lines 1|delays 0|ring 1|lag 1|ticks 400|statuses 32|fail 0 0 16 0|add 0 0|\
-        frame 0 00*64|frame 0 00*64|frame 0 00*64|frame 0 00*64| => 0;got 00*64|got 00*64|got 00*64|\
-        total ticks 400 taken 400 frames 4 commands 1 refused 0 got 3|\
-        ;total ticks 400 taken 400 frames 4 commands 1 refused 0 got 0|\n\
+    pair;lines 1|delays 0|ring 1|lag 1|ticks 400|restore 15|fail 0 0 16 0|add 0 0|@4 frame 0 00*64|other|\
+        lines 1|delays 0|ring 1|lag 1|ticks 400|restore 15|fail 0 0 16 0|add 0 0|\
+        @4 frame 0 00*64| => 0;got 00*64|@2 got 00*64|total ticks 400 taken 400 frames 4 commands 1 refused \
+        0 got 3|;got 00*64|@2 got 00*64|total ticks 400 taken 400 frames 4 commands 1 refused 0 got 3|\n\
+    pair;lines 1|delays 0|ring 1|lag 1|ticks 400|restore 15|fail 0 0 16 0|add 0 0|@4 frame 0 00*64|other|\
+        lines 1|delays 0|ring 1|lag 1|ticks 400|restore 16|fail 0 0 16 0|add 0 0|\
+        @4 frame 0 00*64| => 0;got 00*64|@2 got 00*64|total ticks 400 taken 400 frames 4 commands 1 refused \
+        0 got 3|;total ticks 400 taken 400 frames 4 commands 1 refused 0 got 0|\n\
+    pair;lines 1|delays 0|ring 1|lag 1|ticks 400|restore 15|fail 0 0 16 0|add 0 0|@4 frame 0 00*64|other|\
+        lines 1|delays 0|ring 1|lag 1|ticks 400|statuses 32|fail 0 0 16 0|add 0 0|\
+        @4 frame 0 00*64| => 0;got 00*64|@2 got 00*64|total ticks 400 taken 400 frames 4 commands 1 refused \
+        0 got 3|;total ticks 400 taken 400 frames 4 commands 1 refused 0 got 0|\n\
     pair;lines 1|delays 0|ring 1|lag 1|ticks 400|restore 16|fail 0 0 16 0|add 0 0|frame 0 00*64|frame 0 00*64|\
         frame 0 00*64|frame 0 00*64|other|lines 1|delays 0|ring 1|lag 1|ticks 400|fail 0 0 16 0|add 0 0|frame 0 00*64|\
         frame 0 00*64|frame 0 00*64|frame 0 00*64| => 0;total ticks 400 taken 400 frames 4 commands 1 refused 0 got 0|\
         ;got 00*64|got 00*64|got 00*64|total ticks 400 taken 400 frames 4 commands 1 refused 0 got 3|\n\
-    pair;lines 1|delays 0|ring 1|lag 1|ticks 400|restore 16|fail 0 0 16 0|add 0 0|frame 0 00*64|frame 0 00*64|\
-        frame 0 00*64|frame 0 00*64|other|lines 1|delays 0|ring 1|lag 1|ticks 400|restore 15|fail 0 0 16 0|add 0 0|\
-        frame 0 00*64|frame 0 00*64|frame 0 00*64|\
-        frame 0 00*64| => 0;total ticks 400 taken 400 frames 4 commands 1 refused 0 got 0|;got 00*64|got 00*64|\
-        got 00*64|total ticks 400 taken 400 frames 4 commands 1 refused 0 got 3|\n\
-    pair;lines 1|delays 0|ring 1|lag 1|ticks 400|restore 16|fail 0 0 16 0|add 0 0|frame 0 00*64|frame 0 00*64|\
-        frame 0 00*64|frame 0 00*64|other|lines 1|delays 0|ring 1|lag 1|ticks 400|restore 16|fail 0 0 16 0|add 0 0|\
-        frame 0 00*64|frame 0 00*64|frame 0 00*64|\
-        frame 0 00*64| => 0;total ticks 400 taken 400 frames 4 commands 1 refused 0 got 0|\
+    pair;lines 1|delays 0|ring 1|lag 1|ticks 400|restore 16|fail 0 0 16 0|add 0 0|@4 frame 0 00*64|other|\
+        lines 1|delays 0|ring 1|lag 1|ticks 400|restore 15|fail 0 0 16 0|add 0 0|\
+        @4 frame 0 00*64| => 0;total ticks 400 taken 400 frames 4 commands 1 refused 0 got 0|;got 00*64|\
+        @2 got 00*64|total ticks 400 taken 400 frames 4 commands 1 refused 0 got 3|\n\
+    pair;lines 1|delays 0|ring 1|lag 1|ticks 400|restore 16|fail 0 0 16 0|add 0 0|@4 frame 0 00*64|other|\
+        lines 1|delays 0|ring 1|lag 1|ticks 400|restore 16|fail 0 0 16 0|add 0 0|\
+        @4 frame 0 00*64| => 0;total ticks 400 taken 400 frames 4 commands 1 refused 0 got 0|\
         ;total ticks 400 taken 400 frames 4 commands 1 refused 0 got 0|\n\
-    pair;lines 1|delays 0|ring 1|lag 1|ticks 400|restore 16|fail 0 0 16 0|add 0 0|frame 0 00*64|frame 0 00*64|\
-        frame 0 00*64|frame 0 00*64|other|lines 1|delays 0|ring 1|lag 1|ticks 400|statuses 32|fail 0 0 16 0|add 0 0|\
-        frame 0 00*64|frame 0 00*64|frame 0 00*64|\
-        frame 0 00*64| => 0;total ticks 400 taken 400 frames 4 commands 1 refused 0 got 0|\
+    pair;lines 1|delays 0|ring 1|lag 1|ticks 400|restore 16|fail 0 0 16 0|add 0 0|@4 frame 0 00*64|other|\
+        lines 1|delays 0|ring 1|lag 1|ticks 400|statuses 32|fail 0 0 16 0|add 0 0|\
+        @4 frame 0 00*64| => 0;total ticks 400 taken 400 frames 4 commands 1 refused 0 got 0|\
         ;total ticks 400 taken 400 frames 4 commands 1 refused 0 got 0|\n\
     pair;lines 1|delays 0|ring 1|lag 1|ticks 400|statuses 32|fail 0 0 16 0|add 0 0|frame 0 00*64|frame 0 00*64|\
         frame 0 00*64|frame 0 00*64|other|lines 1|delays 0|ring 1|lag 1|ticks 400|fail 0 0 16 0|add 0 0|frame 0 00*64|\
         frame 0 00*64|frame 0 00*64|frame 0 00*64| => 0;total ticks 400 taken 400 frames 4 commands 1 refused 0 got 0|\
         ;got 00*64|got 00*64|got 00*64|total ticks 400 taken 400 frames 4 commands 1 refused 0 got 3|\n\
-    pair;lines 1|delays 0|ring 1|lag 1|ticks 400|statuses 32|fail 0 0 16 0|add 0 0|frame 0 00*64|frame 0 00*64|\
-        frame 0 00*64|frame 0 00*64|other|lines 1|delays 0|ring 1|lag 1|ticks 400|restore 15|fail 0 0 16 0|add 0 0|\
-        frame 0 00*64|frame 0 00*64|frame 0 00*64|\
-        frame 0 00*64| => 0;total ticks 400 taken 400 frames 4 commands 1 refused 0 got 0|;got 00*64|got 00*64|\
-        got 00*64|total ticks 400 taken 400 frames 4 commands 1 refused 0 got 3|\n\
-    pair;lines 1|delays 0|ring 1|lag 1|ticks 400|statuses 32|fail 0 0 16 0|add 0 0|frame 0 00*64|frame 0 00*64|\
-        frame 0 00*64|frame 0 00*64|other|lines 1|delays 0|ring 1|lag 1|ticks 400|restore 16|fail 0 0 16 0|add 0 0|\
-        frame 0 00*64|frame 0 00*64|frame 0 00*64|\
-        frame 0 00*64| => 0;total ticks 400 taken 400 frames 4 commands 1 refused 0 got 0|\
+    pair;lines 1|delays 0|ring 1|lag 1|ticks 400|statuses 32|fail 0 0 16 0|add 0 0|@4 frame 0 00*64|other|\
+        lines 1|delays 0|ring 1|lag 1|ticks 400|restore 15|fail 0 0 16 0|add 0 0|\
+        @4 frame 0 00*64| => 0;total ticks 400 taken 400 frames 4 commands 1 refused 0 got 0|;got 00*64|\
+        @2 got 00*64|total ticks 400 taken 400 frames 4 commands 1 refused 0 got 3|\n\
+    pair;lines 1|delays 0|ring 1|lag 1|ticks 400|statuses 32|fail 0 0 16 0|add 0 0|@4 frame 0 00*64|other|\
+        lines 1|delays 0|ring 1|lag 1|ticks 400|restore 16|fail 0 0 16 0|add 0 0|\
+        @4 frame 0 00*64| => 0;total ticks 400 taken 400 frames 4 commands 1 refused 0 got 0|\
         ;total ticks 400 taken 400 frames 4 commands 1 refused 0 got 0|\n\
-    pair;lines 1|delays 0|ring 1|lag 1|ticks 400|statuses 32|fail 0 0 16 0|add 0 0|frame 0 00*64|frame 0 00*64|\
-        frame 0 00*64|frame 0 00*64|other|lines 1|delays 0|ring 1|lag 1|ticks 400|statuses 32|fail 0 0 16 0|add 0 0|\
-        frame 0 00*64|frame 0 00*64|frame 0 00*64|\
-        frame 0 00*64| => 0;total ticks 400 taken 400 frames 4 commands 1 refused 0 got 0|\
+    pair;lines 1|delays 0|ring 1|lag 1|ticks 400|statuses 32|fail 0 0 16 0|add 0 0|@4 frame 0 00*64|other|\
+        lines 1|delays 0|ring 1|lag 1|ticks 400|statuses 32|fail 0 0 16 0|add 0 0|\
+        @4 frame 0 00*64| => 0;total ticks 400 taken 400 frames 4 commands 1 refused 0 got 0|\
         ;total ticks 400 taken 400 frames 4 commands 1 refused 0 got 0|"
 }
 
 #[test]
 fn options(rt: HostRuntime) {
-    let alloc = rt.alloc();
-    let mut wrong = String::new(alloc);
-    try_rows(&rt, alloc, (Walk, Turns::Lines), timer_rows(), &mut wrong);
-    try_rows(
-        &rt,
-        alloc,
-        (Walk, Turns::Lines),
-        flapping_rows(),
-        &mut wrong,
-    );
-    try_rows(&rt, alloc, (Walk, Turns::Whole), cost_rows(), &mut wrong);
-    try_rows(&rt, alloc, (Walk, Turns::Lines), change_rows(), &mut wrong);
-    try_rows(
-        &rt,
-        alloc,
-        (Walk, Turns::Lines),
-        statuses_rows(),
-        &mut wrong,
-    );
-    try_rows(&rt, alloc, (Walk, Turns::Whole), faulty_rows(), &mut wrong);
-    try_rows(&rt, alloc, (Walk, Turns::Whole), paired_rows(), &mut wrong);
-    assert_eq!(rt; wrong.as_str(), "");
+    let rows = [
+        (Turns::Lines, "", timer_rows()),
+        (Turns::Lines, "", flapping_rows()),
+        (Turns::Whole, "", cost_rows()),
+        (Turns::Lines, "", change_rows()),
+        (Turns::Lines, "", statuses_rows()),
+        (Turns::Whole, "", faulty_rows()),
+        (Turns::Whole, "", paired_rows()),
+    ];
+    assert_eq!(rt; wrong_of(&rt, rt.alloc(), Walk, &rows).as_str(), "");
 }

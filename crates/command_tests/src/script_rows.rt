@@ -2,18 +2,14 @@
 //! behind functions, so that no proof sees them.
 
 use crate::try_rows::Program::Walk;
-use crate::try_rows::{Turns, try_rows_with};
+use crate::try_rows::{Turns, wrong_of};
 
 /// Texts, and the first fault that is told of each, where there is one.
 fn fault_rows() -> &'static str {
     "\
     |# x| => 5;;fault: line 3: missing|help: the line lines has to stand here|\n\
-    foo|lines 0 => 5;;fault: line 1: word|\
-        help: a line begins with one of container, lines, delays, ring, lag, ticks, sink, holdoff, restore, statuses, \
-        fail, lost, frame, add, remove, client, operator, tick, carry, back, take, round, drain|\n\
-    lines 1|foo => 5;;fault: line 2: word|\
-        help: a line begins with one of container, lines, delays, ring, lag, ticks, sink, holdoff, restore, statuses, \
-        fail, lost, frame, add, remove, client, operator, tick, carry, back, take, round, drain|\n\
+    foo|lines 0 => 5;;fault: line 1: word|help: ~|\n\
+    lines 1|foo => 5;;fault: line 2: word|help: ~|\n\
     lines 1|ring 1 => 5;;fault: line 2: missing|help: the line delays has to stand here|\n\
     lines 1|lines 1 => 5;;fault: line 2: missing|help: the line delays has to stand here|\n\
     lines 1|container vc3 => 5;;fault: line 2: missing|help: the line delays has to stand here|\n\
@@ -32,12 +28,8 @@ fn fault_rows() -> &'static str {
         help: fail and lost stands before event lines|\n\
     lines 1|delays 0|ring 1|lag 1|ticks 9|drain|add 0 0 => 5;;fault: line 7: order|\
         help: frame, add and remove stands before event lines|\n\
-    lines 1|delays 0|ring 1|lag 1|ticks 9|Add 0 0 => 5;;fault: line 6: word|\
-        help: a line begins with one of container, lines, delays, ring, lag, ticks, sink, holdoff, restore, statuses, \
-        fail, lost, frame, add, remove, client, operator, tick, carry, back, take, round, drain|\n\
-    lines 1|delays 0|ring 1|lag 1|ticks 9|ticks9 => 5;;fault: line 6: word|\
-        help: a line begins with one of container, lines, delays, ring, lag, ticks, sink, holdoff, restore, statuses, \
-        fail, lost, frame, add, remove, client, operator, tick, carry, back, take, round, drain|\n\
+    lines 1|delays 0|ring 1|lag 1|ticks 9|Add 0 0 => 5;;fault: line 6: word|help: ~|\n\
+    lines 1|delays 0|ring 1|lag 1|ticks 9|ticks9 => 5;;fault: line 6: word|help: ~|\n\
     lines => 5;;fault: line 1: word|help: lines takes 1 words, and 0 follow|\n\
     lines x y => 5;;fault: line 1: word|help: lines takes 1 words, and 2 follow|\n\
     lines 2|delays 0 => 5;;fault: line 2: word|help: delays takes 2 words, and 1 follow|\n\
@@ -108,12 +100,8 @@ fn fault_rows() -> &'static str {
         help: the frame before is due at 4|\n\
     lines 1\r\r| => 5;;fault: line 1: number|help: word 2 is a number of one to ten digits|\n\
     lines 1\r => 5;;fault: line 1: number|help: word 2 is a number of one to ten digits|\n\
-    #\r|\t| => 5;;fault: line 2: word|help: a line begins with one of container, lines, delays, ring, lag, ticks, \
-        sink, holdoff, restore, statuses, fail, lost, frame, add, remove, client, operator, tick, carry, back, take, \
-        round, drain|\n\
-    lines\t1 => 5;;fault: line 1: word|help: a line begins with one of container, lines, delays, ring, lag, ticks, \
-        sink, holdoff, restore, statuses, fail, lost, frame, add, remove, client, operator, tick, carry, back, take, \
-        round, drain|\n\
+    #\r|\t| => 5;;fault: line 2: word|help: ~|\n\
+    lines\t1 => 5;;fault: line 1: word|help: ~|\n\
     lines 1|delays 0|ring 1|lag 1|ticks 9|add 0 0# => 5;;fault: line 6: number|\
         help: word 3 is a number of one to ten digits|\n\
     lines 129|foo => 5;;fault: line 1: range|help: word 2 is from 1 to 128|\n\
@@ -145,6 +133,8 @@ fn fault_rows() -> &'static str {
         fail 0 120 130 4 => 0+;total ticks 200 taken 200 frames 0 commands 0 refused 0 got 0|;\n\
     lines 1|delays 3|ring 7|lag 2|ticks 200|fail 0 100 110 3|fail 0 120 130 4 => 6;;fault: spread 3 3 7 7|\
         help: delays from 3 to 3 and slips of 7 need a ring of at least 8|\n\
+    lines 1|delays 3|ring 7|lag 2|ticks 200|fail 0 100 110 3|fail 0 126 136 4 => 6;;fault: spread 3 3 7 7|\
+        help: delays from 3 to 3 and slips of 7 need a ring of at least 8|\n\
     lines 1|delays 3|ring 5|lag 2|ticks 200|fail 0 100 110 3|\
         fail 0 127 137 4 => 0+;total ticks 200 taken 200 frames 0 commands 0 refused 0 got 0|;\n\
     lines 1|delays 3|ring 4|lag 2|ticks 200|fail 0 100 110 3|fail 0 127 137 4 => 6;;fault: spread 3 3 4 4|\
@@ -153,9 +143,20 @@ fn fault_rows() -> &'static str {
         help: a delay of 14 and slips of 3 need a lag of at least 3|"
 }
 
-/// Frames of as many octets as a line of a script may have, and of one more; and one digit more.
+/// As many windows of a line or of the return path as there may be, and one more; and one that begins before the end
+/// of others. Frames of as many octets as a line of a script may have, and of one more; and one digit more.
 fn limit_rows() -> &'static str {
     "\
+    lines 1|delays 0|ring 1|lag 1|ticks 2600|@256 fail 0 %0 %1 0|@256 lost %0 %1| => 0+;\
+        total ticks 2600 taken 2600 frames 0 commands 0 refused 0 got 0|;\n\
+    lines 1|delays 0|ring 1|lag 1|ticks 2600|@257 fail 0 %0 %1 0| => 5;;fault: line 262: range|\
+        help: line 0 has 256 failures already|\n\
+    lines 1|delays 0|ring 1|lag 1|ticks 2600|@257 lost %0 %1| => 5;;fault: line 262: range|\
+        help: there are 256 lost lines already|\n\
+    lines 1|delays 0|ring 1|lag 1|ticks 2600|@255 fail 0 %0 %1 0|fail 0 0 1 0| => 5;;fault: line 261: order|\
+        help: the failure before ends at 2541|\n\
+    lines 1|delays 0|ring 1|lag 1|ticks 2600|@255 lost %0 %1|lost 0 1| => 5;;fault: line 261: order|\
+        help: the loss before ends at 2541|\n\
     lines 1|delays 0|ring 1|lag 1|ticks 9|frame 0 77*65535 => \
     0+;refused 0 length 65535|total ticks 9 taken 9 frames 0 commands 0 refused 1 got 0|;\n\
     lines 1|delays 0|ring 1|lag 1|ticks 9|frame 0 77*65536 => 5;;fault: line 6: range|\
@@ -213,31 +214,10 @@ fn walk_rows() -> &'static str {
 
 #[test]
 fn scripts_are_walked_or_refused(rt: HostRuntime) {
-    let alloc = rt.alloc();
-    let mut wrong = String::new(alloc);
-    try_rows_with(
-        &rt,
-        alloc,
-        (Walk, Turns::Whole),
-        "walk",
-        fault_rows(),
-        &mut wrong,
-    );
-    try_rows_with(
-        &rt,
-        alloc,
-        (Walk, Turns::Whole),
-        "walk",
-        limit_rows(),
-        &mut wrong,
-    );
-    try_rows_with(
-        &rt,
-        alloc,
-        (Walk, Turns::Whole),
-        "walk",
-        walk_rows(),
-        &mut wrong,
-    );
-    assert_eq!(rt; wrong.as_str(), "");
+    let rows = [
+        (Turns::Whole, "walk", fault_rows()),
+        (Turns::Whole, "walk", limit_rows()),
+        (Turns::Whole, "walk", walk_rows()),
+    ];
+    assert_eq!(rt; wrong_of(&rt, rt.alloc(), Walk, &rows).as_str(), "");
 }

@@ -3,7 +3,7 @@
 //! sees them.
 
 use crate::try_rows::Program::Walk;
-use crate::try_rows::{Turns, try_rows};
+use crate::try_rows::{Turns, wrong_of};
 
 /// One damaged container of one line, where the sink stops and where it goes on; the same of both lines, so that none
 /// is read; and a failure of 3 ms. Then a member that is out and silent, which keeps the sink from going on, and a line
@@ -108,21 +108,18 @@ fn faulty_rows() -> &'static str {
 /// Two ways, of each of which the sink goes on or doesn't: the way with frames got is the one whose own option says so.
 fn paired_rows() -> &'static str {
     "\
-    pair;lines 2|delays 0 0|ring 1|lag 1|ticks 1000|fail 1 900 901 0|add 0 0|add 0 1|frame 914 00*64|frame 914 00*64|\
-        frame 914 00*64|frame 914 00*64|other|lines 2|delays 0 0|ring 1|lag 1|ticks 1000|fail 1 900 901 0|add 0 0|\
-        add 0 1|frame 914 00*64|frame 914 00*64|frame 914 00*64|\
-        frame 914 00*64| => 0;total ticks 1000 taken 1000 frames 4 commands 2 refused 0 got 0|\
+    pair;lines 2|delays 0 0|ring 1|lag 1|ticks 1000|fail 1 900 901 0|add 0 0|add 0 1|@4 frame 914 00*64|\
+        other|lines 2|delays 0 0|ring 1|lag 1|ticks 1000|fail 1 900 901 0|add 0 0|add 0 1|\
+        @4 frame 914 00*64| => 0;total ticks 1000 taken 1000 frames 4 commands 2 refused 0 got 0|\
         ;total ticks 1000 taken 1000 frames 4 commands 2 refused 0 got 0|\n\
-    pair;lines 2|delays 0 0|ring 1|lag 1|ticks 1000|fail 1 900 901 0|add 0 0|add 0 1|frame 914 00*64|frame 914 00*64|\
-        frame 914 00*64|frame 914 00*64|other|lines 2|delays 0 0|ring 1|lag 1|ticks 1000|sink infers|fail 1 900 901 0|\
-        add 0 0|add 0 1|frame 914 00*64|frame 914 00*64|frame 914 00*64|\
-        frame 914 00*64| => 0;total ticks 1000 taken 1000 frames 4 commands 2 refused 0 got 0|;got 00*64|got 00*64|\
-        total ticks 1000 taken 1000 frames 4 commands 2 refused 0 got 2|\n\
-    pair;lines 2|delays 0 0|ring 1|lag 1|ticks 1000|sink infers|fail 1 900 901 0|add 0 0|add 0 1|frame 914 00*64|\
-        frame 914 00*64|frame 914 00*64|frame 914 00*64|other|lines 2|delays 0 0|ring 1|lag 1|ticks 1000|\
-        fail 1 900 901 0|add 0 0|add 0 1|frame 914 00*64|frame 914 00*64|frame 914 00*64|\
-        frame 914 00*64| => 0;got 00*64|got 00*64|total ticks 1000 taken 1000 frames 4 commands 2 refused 0 got 2|\
-        ;total ticks 1000 taken 1000 frames 4 commands 2 refused 0 got 0|\n\
+    pair;lines 2|delays 0 0|ring 1|lag 1|ticks 1000|fail 1 900 901 0|add 0 0|add 0 1|@4 frame 914 00*64|\
+        other|lines 2|delays 0 0|ring 1|lag 1|ticks 1000|sink infers|fail 1 900 901 0|add 0 0|add 0 1|\
+        @4 frame 914 00*64| => 0;total ticks 1000 taken 1000 frames 4 commands 2 refused 0 got 0|;got 00*64|\
+        got 00*64|total ticks 1000 taken 1000 frames 4 commands 2 refused 0 got 2|\n\
+    pair;lines 2|delays 0 0|ring 1|lag 1|ticks 1000|sink infers|fail 1 900 901 0|add 0 0|add 0 1|\
+        @4 frame 914 00*64|other|lines 2|delays 0 0|ring 1|lag 1|ticks 1000|fail 1 900 901 0|add 0 0|add 0 1|\
+        @4 frame 914 00*64| => 0;got 00*64|got 00*64|total ticks 1000 taken 1000 frames 4 commands 2 refused \
+        0 got 2|;total ticks 1000 taken 1000 frames 4 commands 2 refused 0 got 0|\n\
     pair;lines 2|delays 0 0|ring 1|lag 1|ticks 1000|sink infers|fail 1 900 901 0|add 0 0|add 0 1|frame 914 00*64|\
         frame 914 00*64|frame 914 00*64|frame 914 00*64|other|lines 2|delays 0 0|ring 1|lag 1|ticks 1000|sink infers|\
         fail 1 900 901 0|add 0 0|add 0 1|frame 914 00*64|frame 914 00*64|frame 914 00*64|\
@@ -132,23 +129,11 @@ fn paired_rows() -> &'static str {
 
 #[test]
 fn sinks(rt: HostRuntime) {
-    let alloc = rt.alloc();
-    let mut wrong = String::new(alloc);
-    try_rows(
-        &rt,
-        alloc,
-        (Walk, Turns::Whole),
-        inferred_rows(),
-        &mut wrong,
-    );
-    try_rows(
-        &rt,
-        alloc,
-        (Walk, Turns::Lines),
-        inferred_steps(),
-        &mut wrong,
-    );
-    try_rows(&rt, alloc, (Walk, Turns::Whole), faulty_rows(), &mut wrong);
-    try_rows(&rt, alloc, (Walk, Turns::Whole), paired_rows(), &mut wrong);
-    assert_eq!(rt; wrong.as_str(), "");
+    let rows = [
+        (Turns::Whole, "", inferred_rows()),
+        (Turns::Lines, "", inferred_steps()),
+        (Turns::Whole, "", faulty_rows()),
+        (Turns::Whole, "", paired_rows()),
+    ];
+    assert_eq!(rt; wrong_of(&rt, rt.alloc(), Walk, &rows).as_str(), "");
 }

@@ -2,9 +2,10 @@
 //!
 //! A row is `WORDS;INPUT => ANSWER THEN ANSWER` and so on, with one answer for each turn, and `N TIMES` before one
 //! that comes in N turns. An answer is `STATUS;OUT;NOTES`, where `+` follows the status if a walk or a session is
-//! handed back. `|` stands for LF, `07*9` at the end of a line for nine octets of 07, and `..` at the end of an
-//! answer for any rest. Nothing here stops at want of memory: a text that is cut by it is another than the wanted
-//! one.
+//! handed back. `|` stands for LF, `07*9` at the end of a line for nine octets of 07, `@9 ` at its beginning for nine
+//! such lines, in each of which `%` is its number from 0 on, `~` at its end for what is said of the first word of a
+//! script, and `..` at the end of an answer for any rest. Nothing here stops at want of memory: a text that is cut by
+//! it is another than the wanted one.
 
 use crate::gate_door::Door;
 use command_run::run_top;
@@ -70,13 +71,51 @@ fn say(text: &mut Vec<u8>, octets: &[u8]) {
     let _ = text.extend_from_slice(octets);
 }
 
-/// Appends a line, and the octets that `*` stands for.
+/// What is said of the first word of a line of a script.
+const FIRST: &str =
+    "a line begins with one of container, lines, delays, ring, lag, ticks, sink, holdoff, restore, \
+    statuses, fail, lost, frame, add, remove, client, operator, tick, carry, back, take, round, drain";
+
+/// Appends a line, with what `*` or `~` stands for.
 fn say_line(text: &mut Vec<u8>, line: &str) {
+    if let Some(front) = line.strip_suffix("~") {
+        say(text, front.as_bytes());
+        say(text, FIRST.as_bytes());
+        return;
+    }
     let (head, count) = line.split_once('*').unwrap_or((line, "1"));
     let head = head.as_bytes();
     say(text, head);
     for _ in 1..count.parse::<usize>().unwrap_or(1) {
         say(text, &head[head.len().saturating_sub(2)..]);
+    }
+}
+
+/// Appends a line that has this number in the place of each `%`.
+fn say_numbered(alloc: Global, text: &mut Vec<u8>, line: &str, number: u32) {
+    let Ok(number) = format!(in alloc; "{number}") else {
+        return;
+    };
+    let mut between = b"".as_slice();
+    for part in line.split('%') {
+        say(text, between);
+        say_line(text, part);
+        between = number.as_bytes();
+    }
+}
+
+/// Appends a line, or as many as `@` stands for.
+fn say_lines(alloc: Global, text: &mut Vec<u8>, line: &str) {
+    let Some(counted) = line.strip_prefix("@") else {
+        say_line(text, line);
+        return;
+    };
+    let (count, line) = counted.split_once(' ').unwrap_or(("1", counted));
+    for number in 0..count.parse::<u32>().unwrap_or(1) {
+        if number > 0 {
+            say(text, b"\n");
+        }
+        say_numbered(alloc, text, line, number);
     }
 }
 
@@ -86,7 +125,7 @@ fn unfolded(alloc: Global, folded: &str) -> Vec<u8> {
     let mut between = b"".as_slice();
     for line in folded.split('|') {
         say(&mut text, between);
-        say_line(&mut text, line);
+        say_lines(alloc, &mut text, line);
         between = b"\n".as_slice();
     }
     text
@@ -269,7 +308,7 @@ fn try_turn<R: Threads + Wait + Sync>(
     }
 }
 
-/// Tries a row without its words.
+/// Tries a row, with these words or, where there are none, with its own.
 fn try_row<R: Threads + Wait + Sync>(
     rt: &R,
     alloc: Global,
@@ -278,6 +317,10 @@ fn try_row<R: Threads + Wait + Sync>(
     row: &str,
     wrong: &mut String,
 ) {
+    let (words, row) = match words {
+        "" => row.split_once(';').unwrap_or(("", row)),
+        _ => (words, row),
+    };
     let (folded, wants) = row.split_once(" => ").unwrap_or((row, "an answer"));
     let input = unfolded(alloc, folded);
     let case = Case {
@@ -296,32 +339,21 @@ fn try_row<R: Threads + Wait + Sync>(
     }
 }
 
-/// Tries rows. The first answer that is not the wanted one is said, where nothing wrong is said yet.
-pub fn try_rows<R: Threads + Wait + Sync>(
+/// Tries rows: what is special in their turns, the words of all of them, which may be several with a comma between,
+/// or none where each row has its own, and the rows. The first answer that is not the wanted one is said.
+pub fn wrong_of<R: Threads + Wait + Sync>(
     rt: &R,
     alloc: Global,
-    how: (Program, Turns),
-    rows: &str,
-    wrong: &mut String,
-) {
-    for row in rows.lines() {
-        let (words, row) = row.split_once(';').unwrap_or(("", row));
-        try_row(rt, alloc, how, words, row, wrong);
-    }
-}
-
-/// The same of rows without words, each with all of these, between which there is a comma.
-pub fn try_rows_with<R: Threads + Wait + Sync>(
-    rt: &R,
-    alloc: Global,
-    how: (Program, Turns),
-    words: &str,
-    rows: &str,
-    wrong: &mut String,
-) {
-    for row in rows.lines() {
-        for words in words.split(',') {
-            try_row(rt, alloc, how, words, row, wrong);
+    program: Program,
+    all: &[(Turns, &str, &str)],
+) -> String {
+    let mut wrong = String::new(alloc);
+    for (turns, words, rows) in all {
+        for row in rows.lines() {
+            for words in words.split(',') {
+                try_row(rt, alloc, (program, *turns), words, row, &mut wrong);
+            }
         }
     }
+    wrong
 }

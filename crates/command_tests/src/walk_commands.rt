@@ -3,7 +3,7 @@
 
 use crate::beginnings_of_script::beginning_row;
 use crate::try_rows::Program::Walk;
-use crate::try_rows::{Turns, try_rows, try_rows_with};
+use crate::try_rows::{Turns, wrong_of};
 
 /// Walks and loads. At the end a line beyond the group of 64, and a frame for which there is no room behind 256 others.
 fn answer_rows() -> &'static str {
@@ -28,11 +28,10 @@ fn answer_rows() -> &'static str {
         frame 3 due 168 unsettled 168 168|frame 4 due 168 got 168 168|\
         fates ticks 200 taken 200 frames 4 got 2 lost 2 waits 0 refused 0 starts true|;\n\
     fates;lines 1|delays 0|ring 1|lag 1|ticks 200|fail 0 119 120 0|add 0 0|frame 118 5a*64|frame 119 5a*64|\
-        frame 151 5a*64|frame 152 5a*64|frame 152 5a*64| => \
-    0+;spoiled 119 120 container 0|spoiled 120 152 packet|segment 152 200 true 152|frame 1 due 118 got 118 118|\
-        frame 2 due 119 cut 119 119 119|frame 3 due 151 cut 151 151 151|frame 4 due 152 hunting 152 152|\
-        frame 5 due 152 unsettled 152 152|fates ticks 200 taken 200 frames 5 got 1 lost 4 waits 0 refused 0 starts \
-        true|;\n\
+        frame 151 5a*64|@2 frame 152 5a*64| => 0+;spoiled 119 120 container 0|spoiled 120 152 packet|\
+        segment 152 200 true 152|frame 1 due 118 got 118 118|frame 2 due 119 cut 119 119 119|\
+        frame 3 due 151 cut 151 151 151|frame 4 due 152 hunting 152 152|frame 5 due 152 unsettled 152 152|\
+        fates ticks 200 taken 200 frames 5 got 1 lost 4 waits 0 refused 0 starts true|;\n\
     fates;lines 1|delays 0|ring 1|lag 1|ticks 200|fail 0 111 112 0|add 0 0|frame 110 5a*64|frame 113 5a*64|\
         frame 114 5a*64|frame 119 5a*64|frame 120 5a*64|frame 136 5a*64| => \
     0+;spoiled 111 114 container 0|spoiled 120 136 packet|segment 114 120 true 114|segment 136 200 true 136|\
@@ -69,57 +68,8 @@ fn answer_rows() -> &'static str {
     walk;lines 64|delays 0 0 0 0 0 0 0 0 0 0 0 0 0 0 0 0 0 0 0 0 0 0 0 0 0 0 0 0 0 0 0 0 0 0 0 0 0 0 0 0 0 0 0 0 0 0 \
         0 0 0 0 0 0 0 0 0 0 0 0 0 0 0 0 0 0|ring 1|lag 1|ticks 1|add 0 64| => \
     0+;refused 0 unknown|total ticks 1 taken 1 frames 0 commands 0 refused 1 got 0|;\n\
-    walk;lines 1|delays 0|ring 1|lag 1|ticks 1|\
-    frame 0 5a*64|frame 0 5a*64|frame 0 5a*64|frame 0 5a*64|frame 0 5a*64|frame 0 5a*64|frame 0 5a*64|frame 0 5a*64|\
-        frame 0 5a*64|frame 0 5a*64|frame 0 5a*64|frame 0 5a*64|frame 0 5a*64|frame 0 5a*64|frame 0 5a*64|\
-        frame 0 5a*64|\
-    frame 0 5a*64|frame 0 5a*64|frame 0 5a*64|frame 0 5a*64|frame 0 5a*64|frame 0 5a*64|frame 0 5a*64|frame 0 5a*64|\
-        frame 0 5a*64|frame 0 5a*64|frame 0 5a*64|frame 0 5a*64|frame 0 5a*64|frame 0 5a*64|frame 0 5a*64|\
-        frame 0 5a*64|\
-    frame 0 5a*64|frame 0 5a*64|frame 0 5a*64|frame 0 5a*64|frame 0 5a*64|frame 0 5a*64|frame 0 5a*64|frame 0 5a*64|\
-        frame 0 5a*64|frame 0 5a*64|frame 0 5a*64|frame 0 5a*64|frame 0 5a*64|frame 0 5a*64|frame 0 5a*64|\
-        frame 0 5a*64|\
-    frame 0 5a*64|frame 0 5a*64|frame 0 5a*64|frame 0 5a*64|frame 0 5a*64|frame 0 5a*64|frame 0 5a*64|frame 0 5a*64|\
-        frame 0 5a*64|frame 0 5a*64|frame 0 5a*64|frame 0 5a*64|frame 0 5a*64|frame 0 5a*64|frame 0 5a*64|\
-        frame 0 5a*64|\
-    frame 0 5a*64|frame 0 5a*64|frame 0 5a*64|frame 0 5a*64|frame 0 5a*64|frame 0 5a*64|frame 0 5a*64|frame 0 5a*64|\
-        frame 0 5a*64|frame 0 5a*64|frame 0 5a*64|frame 0 5a*64|frame 0 5a*64|frame 0 5a*64|frame 0 5a*64|\
-        frame 0 5a*64|\
-    frame 0 5a*64|frame 0 5a*64|frame 0 5a*64|frame 0 5a*64|frame 0 5a*64|frame 0 5a*64|frame 0 5a*64|frame 0 5a*64|\
-        frame 0 5a*64|frame 0 5a*64|frame 0 5a*64|frame 0 5a*64|frame 0 5a*64|frame 0 5a*64|frame 0 5a*64|\
-        frame 0 5a*64|\
-    frame 0 5a*64|frame 0 5a*64|frame 0 5a*64|frame 0 5a*64|frame 0 5a*64|frame 0 5a*64|frame 0 5a*64|frame 0 5a*64|\
-        frame 0 5a*64|frame 0 5a*64|frame 0 5a*64|frame 0 5a*64|frame 0 5a*64|frame 0 5a*64|frame 0 5a*64|\
-        frame 0 5a*64|\
-    frame 0 5a*64|frame 0 5a*64|frame 0 5a*64|frame 0 5a*64|frame 0 5a*64|frame 0 5a*64|frame 0 5a*64|frame 0 5a*64|\
-        frame 0 5a*64|frame 0 5a*64|frame 0 5a*64|frame 0 5a*64|frame 0 5a*64|frame 0 5a*64|frame 0 5a*64|\
-        frame 0 5a*64|\
-    frame 0 5a*64|frame 0 5a*64|frame 0 5a*64|frame 0 5a*64|frame 0 5a*64|frame 0 5a*64|frame 0 5a*64|frame 0 5a*64|\
-        frame 0 5a*64|frame 0 5a*64|frame 0 5a*64|frame 0 5a*64|frame 0 5a*64|frame 0 5a*64|frame 0 5a*64|\
-        frame 0 5a*64|\
-    frame 0 5a*64|frame 0 5a*64|frame 0 5a*64|frame 0 5a*64|frame 0 5a*64|frame 0 5a*64|frame 0 5a*64|frame 0 5a*64|\
-        frame 0 5a*64|frame 0 5a*64|frame 0 5a*64|frame 0 5a*64|frame 0 5a*64|frame 0 5a*64|frame 0 5a*64|\
-        frame 0 5a*64|\
-    frame 0 5a*64|frame 0 5a*64|frame 0 5a*64|frame 0 5a*64|frame 0 5a*64|frame 0 5a*64|frame 0 5a*64|frame 0 5a*64|\
-        frame 0 5a*64|frame 0 5a*64|frame 0 5a*64|frame 0 5a*64|frame 0 5a*64|frame 0 5a*64|frame 0 5a*64|\
-        frame 0 5a*64|\
-    frame 0 5a*64|frame 0 5a*64|frame 0 5a*64|frame 0 5a*64|frame 0 5a*64|frame 0 5a*64|frame 0 5a*64|frame 0 5a*64|\
-        frame 0 5a*64|frame 0 5a*64|frame 0 5a*64|frame 0 5a*64|frame 0 5a*64|frame 0 5a*64|frame 0 5a*64|\
-        frame 0 5a*64|\
-    frame 0 5a*64|frame 0 5a*64|frame 0 5a*64|frame 0 5a*64|frame 0 5a*64|frame 0 5a*64|frame 0 5a*64|frame 0 5a*64|\
-        frame 0 5a*64|frame 0 5a*64|frame 0 5a*64|frame 0 5a*64|frame 0 5a*64|frame 0 5a*64|frame 0 5a*64|\
-        frame 0 5a*64|\
-    frame 0 5a*64|frame 0 5a*64|frame 0 5a*64|frame 0 5a*64|frame 0 5a*64|frame 0 5a*64|frame 0 5a*64|frame 0 5a*64|\
-        frame 0 5a*64|frame 0 5a*64|frame 0 5a*64|frame 0 5a*64|frame 0 5a*64|frame 0 5a*64|frame 0 5a*64|\
-        frame 0 5a*64|\
-    frame 0 5a*64|frame 0 5a*64|frame 0 5a*64|frame 0 5a*64|frame 0 5a*64|frame 0 5a*64|frame 0 5a*64|frame 0 5a*64|\
-        frame 0 5a*64|frame 0 5a*64|frame 0 5a*64|frame 0 5a*64|frame 0 5a*64|frame 0 5a*64|frame 0 5a*64|\
-        frame 0 5a*64|\
-    frame 0 5a*64|frame 0 5a*64|frame 0 5a*64|frame 0 5a*64|frame 0 5a*64|frame 0 5a*64|frame 0 5a*64|frame 0 5a*64|\
-        frame 0 5a*64|frame 0 5a*64|frame 0 5a*64|frame 0 5a*64|frame 0 5a*64|frame 0 5a*64|frame 0 5a*64|\
-        frame 0 5a*64|\
-    frame 0 5a*64| => \
-    0+;refused 256 queue|total ticks 1 taken 1 frames 256 commands 0 refused 1 got 0|;"
+    walk;lines 1|delays 0|ring 1|lag 1|ticks 1|@257 frame 0 5a*64| => 0+;refused 256 queue|\
+        total ticks 1 taken 1 frames 256 commands 0 refused 1 got 0|;"
 }
 
 /// Scripts that are faulty, or don't fit their rings.
@@ -204,11 +154,10 @@ fn trace_rows() -> &'static str {
 
 /// Four frames whose lines go out together, since they are much, and the lines of totals.
 fn frames_in_turn() -> &'static str {
-    "lines 1|delays 0|ring 1|lag 1|ticks 58|add 0 0|frame 0 5a*9600|frame 0 5a*9600|frame 0 5a*9600|\
-        frame 0 5a*9600| => \
-    4+;;fault: write failed| THEN \
-    4+;got 5a*9600|got 5a*9600|got 5a*9600|got 5a*9600|;fault: write failed| THEN \
-    0+;got 5a*9600|got 5a*9600|got 5a*9600|got 5a*9600|total ticks 58 taken 58 frames 4 commands 1 refused 0 got 4|;\n\
+    "\
+    lines 1|delays 0|ring 1|lag 1|ticks 58|add 0 0|@4 frame 0 5a*9600| => 4+;;fault: write failed| THEN \
+        4+;got 5a*9600|@3 got 5a*9600|;fault: write failed| THEN 0+;got 5a*9600|@3 got 5a*9600|\
+        total ticks 58 taken 58 frames 4 commands 1 refused 0 got 4|;\n\
     lines 3|delays 0 0 0|ring 1|lag 1|ticks 700|add 0 0|add 0 1|add 0 2|remove 600 1| => \
     4+;;fault: write failed| THEN \
     0+;total ticks 700 taken 700 frames 0 commands 4 refused 0 got 0|;"
@@ -263,18 +212,53 @@ fn packet_rows() -> &'static str {
     decode;\t| => 5;;fault: line 1: hex|help: a line is an even number of hexadecimal digits|"
 }
 
+/// What one octet that is another does to the packets of the first of these rows: the line locks at the second
+/// multiframe or at none; it is unlocked before the first packet, in it, at its last octet, and in the second one.
+/// Then packets with the greatest values: right, with a flipped bit, with a code that there is not, with both wrong,
+/// where the check is told, and with the ignored bits set.
+fn unlocked_rows() -> &'static str {
+    "\
+    decode;010102030405060708090a1b0c0d0e0f001112130405060708090a1b0c0d0e0f0021321304151647 => 0;\
+        at 24 eos sq 0 gid 1 act 1 chg 1 mst 00 ack 0|end octets 40 packets 1|;\n\
+    decode;000202030405060708090a1b0c0d0e0f001112130405060708090a1b0c0d0e0f0021321304151647 => 0;\
+        at 24 eos sq 0 gid 1 act 1 chg 1 mst 00 ack 0|end octets 40 packets 1|;\n\
+    decode;000102030405060708090a1b0c0d0e0f011112130405060708090a1b0c0d0e0f0021321304151647 => 0;\
+        end octets 40 packets 0|;\n\
+    decode;000102030405060808090a1b0c0d0e0f001112130405060708090a1b0c0d0e0f0021321304151647 => 0;\
+        at 24 eos sq 0 gid 1 act 1 chg 1 mst 00 ack 0|end octets 40 packets 1|;\n\
+    decode;000102030405060709090a1b0c0d0e0f001112130405060708090a1b0c0d0e0f0021321304151647 => 0;\
+        at 24 eos sq 0 gid 1 act 1 chg 1 mst 00 ack 0|end octets 40 packets 1|;\n\
+    decode;000102030405060708090a1b0d0d0e0f001112130405060708090a1b0c0d0e0f0021321304151647 => 0;\
+        at 24 eos sq 0 gid 1 act 1 chg 1 mst 00 ack 0|end octets 40 packets 1|;\n\
+    decode;000102030405060708090a1b0c0d0e0f001112130405060808090a1b0c0d0e0f0021321304151647 => 0;\
+        end octets 40 packets 0|;\n\
+    decode;000102030405060708090a1b0c0d0e0f001112130405060707090a1b0c0d0e0f0021321304151647 => 0;\
+        at 8 add sq 0 gid 1 act 0 chg 1 mst 00 ack 0|end octets 40 packets 1|;\n\
+    decode;000102030405060708090a1b0c0d0e0f001112130405060708090a1b0c0d0e0f0022321304151647 => 0;\
+        at 8 add sq 0 gid 1 act 0 chg 1 mst 00 ack 0|end octets 40 packets 1|;\n\
+    decode;000102030405060708090a1b0c0d0e0f001112130405060708090a1b0c0d0e0f0021321304151648 => 0;\
+        at 8 add sq 0 gid 1 act 0 chg 1 mst 00 ack 0|end octets 40 packets 1|;\n\
+    decode;0001020304050607a8591a0b0c0d3ecff021f20314759657 => 0;\
+        at 8 dnu sq 60 gid 0 act 23 chg 0 mst a5 ack 1|end octets 24 packets 1|;\n\
+    decode;0001020304050607a8591a0b0c0d3edff021f20314759657 => 0;\
+        at 8 crc said 95 found 83|end octets 24 packets 1|;\n\
+    decode;0001020304050607a8591a0b0c0d3ecff021e2031475c627 => 0;at 8 ctrl e|end octets 24 packets 1|;\n\
+    decode;0001020304050607a8591a0b0c0d3ecff021e20314759657 => 0;\
+        at 8 crc said 95 found c2|end octets 24 packets 1|;\n\
+    decode;0001020304050607a859faab3ccd3ecff021f28314754617 => 0;\
+        at 8 dnu sq 60 gid 0 act 23 chg 0 mst a5 ack 1|end octets 24 packets 1|;"
+}
+
 /// What is answered where the first call of `out` fails, the second, and so on, and last without a fault.
 /// Short lines go out together.
 fn put_rows() -> &'static str {
     "\
-    walk;lines 3|delays 0 0 0|ring 1|lag 1|ticks 700|add 0 0|add 0 1|add 0 2|remove 600 1|frame 0 5a*64|frame 0 5a*64|\
-        frame 0 5a*64| => \
-    4+;;fault: write failed| THEN \
-    0+;got 5a*64|got 5a*64|got 5a*64|total ticks 700 taken 700 frames 3 commands 4 refused 0 got 3|;\n\
-    walk;lines 3|delays 0 0 0|ring 1|lag 1|ticks 700|add 0 0|add 0 1|add 0 2|remove 600 1|frame 0 5a*9600|\
-        frame 0 5a*9600|frame 0 5a*9600| => \
-    4+;;fault: write failed| THEN \
-    0+;got 5a*9600|got 5a*9600|got 5a*9600|total ticks 700 taken 700 frames 3 commands 4 refused 0 got 3|;\n\
+    walk;lines 3|delays 0 0 0|ring 1|lag 1|ticks 700|add 0 0|add 0 1|add 0 2|remove 600 1|\
+        @3 frame 0 5a*64| => 4+;;fault: write failed| THEN 0+;got 5a*64|@2 got 5a*64|\
+        total ticks 700 taken 700 frames 3 commands 4 refused 0 got 3|;\n\
+    walk;lines 3|delays 0 0 0|ring 1|lag 1|ticks 700|add 0 0|add 0 1|add 0 2|remove 600 1|\
+        @3 frame 0 5a*9600| => 4+;;fault: write failed| THEN 0+;got 5a*9600|@2 got 5a*9600|\
+        total ticks 700 taken 700 frames 3 commands 4 refused 0 got 3|;\n\
     h4 0;lines 1|delays 0|ring 1|lag 1|ticks 9|add 0 0| => 4+;;fault: write failed| THEN 0+;000102030405060708|;\n\
     decode;0001 => 4;;fault: write failed| THEN 0;end octets 2 packets 0|;\n\
     make 7 2 400; => 4+;;fault: write failed| THEN 0+;made lines 2 ticks 400|\
@@ -306,9 +290,7 @@ fn read_rows() -> &'static str {
         at 24 eos sq 0 gid 1 act 1 chg 1 mst 00 ack 0|end octets 40 packets 2|;\n\
     decode;0001|0203| => 3 TIMES 3;;fault: read failed| THEN 0;end octets 4 packets 0|;\n\
     walk; => 3;;fault: read failed| THEN 5;;fault: line 1: missing|help: the line lines has to stand here|\n\
-    walk;x| => 2 TIMES 3;;fault: read failed| THEN 5;;fault: line 1: word|\
-        help: a line begins with one of container, lines, delays, ring, lag, ticks, sink, holdoff, restore, statuses, \
-        fail, lost, frame, add, remove, client, operator, tick, carry, back, take, round, drain|\n\
+    walk;x| => 2 TIMES 3;;fault: read failed| THEN 5;;fault: line 1: word|help: ~|\n\
     walk;lines 2|delays 0 63|ring 63|lag 5|ticks 1| => 7 TIMES 3;;fault: read failed| THEN 6;;fault: spread 63 0 0 63|\
         help: delays from 0 to 63 and slips of 0 need a ring of at least 64|\n\
     make 1 1 1; => 0+;made lines 1 ticks 1|total ticks 1 taken 1 frames 1 commands 1 refused 0 got 0|octets 0 sum 0|;\n\
@@ -319,54 +301,27 @@ fn read_rows() -> &'static str {
 
 #[test]
 fn answers(rt: HostRuntime) {
-    let alloc = rt.alloc();
-    let mut wrong = String::new(alloc);
-    try_rows(&rt, alloc, (Walk, Turns::Whole), answer_rows(), &mut wrong);
-    try_rows(&rt, alloc, (Walk, Turns::Whole), faulty_rows(), &mut wrong);
-    try_rows(&rt, alloc, (Walk, Turns::Whole), usage_rows(), &mut wrong);
-    try_rows(&rt, alloc, (Walk, Turns::Whole), frame_rows(), &mut wrong);
-    try_rows(&rt, alloc, (Walk, Turns::Whole), packet_rows(), &mut wrong);
-    try_rows_with(
-        &rt,
-        alloc,
-        (Walk, Turns::Lines),
-        "trace",
-        trace_rows(),
-        &mut wrong,
-    );
-    assert_eq!(rt; wrong.as_str(), "");
+    let rows = [
+        (Turns::Whole, "", answer_rows()),
+        (Turns::Whole, "", faulty_rows()),
+        (Turns::Whole, "", usage_rows()),
+        (Turns::Whole, "", frame_rows()),
+        (Turns::Whole, "", packet_rows()),
+        (Turns::Whole, "", unlocked_rows()),
+        (Turns::Lines, "trace", trace_rows()),
+    ];
+    assert_eq!(rt; wrong_of(&rt, rt.alloc(), Walk, &rows).as_str(), "");
 }
 
 #[test]
 fn calls_that_fail_and_scripts_that_are_cut(rt: HostRuntime) {
-    let alloc = rt.alloc();
-    let mut wrong = String::new(alloc);
-    try_rows(&rt, alloc, (Walk, Turns::Takes), read_rows(), &mut wrong);
-    try_rows(&rt, alloc, (Walk, Turns::Puts), put_rows(), &mut wrong);
-    try_rows_with(
-        &rt,
-        alloc,
-        (Walk, Turns::Puts),
-        "walk",
-        frames_in_turn(),
-        &mut wrong,
-    );
-    try_rows_with(
-        &rt,
-        alloc,
-        (Walk, Turns::TracedPuts),
-        "trace",
-        frames_in_turn(),
-        &mut wrong,
-    );
-    try_rows(&rt, alloc, (Walk, Turns::Tells), untold_rows(), &mut wrong);
-    try_rows_with(
-        &rt,
-        alloc,
-        (Walk, Turns::Beginnings),
-        "walk",
-        beginning_row(),
-        &mut wrong,
-    );
-    assert_eq!(rt; wrong.as_str(), "");
+    let rows = [
+        (Turns::Takes, "", read_rows()),
+        (Turns::Puts, "", put_rows()),
+        (Turns::Puts, "walk", frames_in_turn()),
+        (Turns::TracedPuts, "trace", frames_in_turn()),
+        (Turns::Tells, "", untold_rows()),
+        (Turns::Beginnings, "walk", beginning_row()),
+    ];
+    assert_eq!(rt; wrong_of(&rt, rt.alloc(), Walk, &rows).as_str(), "");
 }
