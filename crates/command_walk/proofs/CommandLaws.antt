@@ -8,7 +8,10 @@ use Rattle.std.proofs.lemmas.Bool.{cases_Bool, and_parts, leb-true, ltb-true}
 use Rattle.text_lines.specs.Words.{number_of}
 use Rattle.command_words.specs.Words.{is_number, number_in, are_plain}
 use Rattle.law_model.specs.Common.{IsWithin, longest_frame}
-use Rattle.command_parts.specs.Common.{none, IsCommand, Lent, Kept, IsTold, Ends}
+use Rattle.law_headline.specs.Texts.{walk_text}
+use Rattle.law_headline.specs.Headline.{IsWalkHeadline}
+use Rattle.command_parts.specs.Common.{none, IsCommand, Lent, Kept, IsTold, Ends, Takes}
+use Rattle.command_parts.specs.Task.{writes, writes_both}
 use Rattle.command_parts.specs.Common.{no_command, note_of, HasRunAt}
 use Rattle.command_parts.specs.declared.stop_and_status.Stop.TheVariants.{Memory}
 use Rattle.command_parts.proofs.StopLaws.{ends-no-memory}
@@ -16,7 +19,7 @@ use Rattle.command_walk.specs.declared.command_of_words.WalkCommand.{WalkCommand
 use Rattle.command_walk.specs.declared.command_of_words.WalkCommand.TheVariants.{Walk, Trace, Fates, Capture, Gfp, Frames, Decode, Noise, Au4, Channels, Pair, Make, Check, Service}
 use Rattle.command_walk.specs.declared.command_of_words.WalkCommand.TheVariants.{H4, Live, Stream}
 use Rattle.command_walk.specs.commands.Walk.{word_at, is_word, walk_words}
-use Rattle.command_walk.specs.commands.Trace.{trace_words}
+use Rattle.command_walk.specs.commands.Trace.{trace_words, trace_text}
 use Rattle.command_walk.specs.commands.Fates.{fates_words}
 use Rattle.command_walk.specs.commands.Check.{check_words}
 use Rattle.command_walk.specs.commands.H4.{line_of, h4_words}
@@ -33,7 +36,8 @@ use Rattle.command_walk.specs.commands.Live.{live_words}
 use Rattle.command_walk.specs.commands.Make.{load_of, make_words}
 use Rattle.command_walk.specs.commands.Stream.{ticks_of, rate_of, numbers_in, stream_words}
 use Rattle.command_walk.specs.WordsOfCommands.{command_of, command_in, task_for, task_of, usage}
-use Rattle.command_walk.specs.WordsOfCommands.{Fits}
+use Rattle.command_walk.specs.WordsOfCommands.{Fits, task_at, RunsScript}
+use Rattle.command_walk.proofs.RoomLaws.{tells-headline}
 
 -- ---- numbers
 number-fits : (least most : ℕ) (w : List ℕ) → IfSome (number_in least most w) (IsWithin least most)
@@ -239,3 +243,30 @@ module _ {S K E : Type 0} (source : Lent S) (out : Lent K) (notes : Lent E) (wor
       IsTold notes (note_of Memory) → Ends source out notes (task_of words) status
   ends-wanting some at kept nothing told =
       ends-no-memory source out notes (task_of words) status (is-command (command_in words) some) at kept nothing told
+
+-- ---- the headline of what they write
+module _ {S K E : Type 0} (source : Lent S) (out : Lent K) (notes : Lent E) (status : ℕ) where
+  -- of a command that runs a script and writes its report
+  pub headline-of : (command : WalkCommand) → RunsScript command → Ends source out notes (task_at command) status →
+      status ≡ 0 → IfSome (source.octets source.old) (λ text. (written : List ℕ) × Takes out written ×
+      IsWalkHeadline text written)
+  headline-of Walk runs ends at =
+      tells-headline source out notes (λ script. writes (walk_text script)) status (λ script all. all.0) ends at
+  headline-of Trace runs ends at =
+      tells-headline source out notes (λ script. writes_both (walk_text script) (trace_text script)) status
+      (λ script all. all.0) ends at
+  headline-of Fates runs ends at = absurd runs
+  headline-of Check runs ends at = absurd runs
+  headline-of (H4 line) runs ends at = absurd runs
+  headline-of (Service interval) runs ends at = absurd runs
+  headline-of Capture runs ends at = absurd runs
+  headline-of Gfp runs ends at = absurd runs
+  headline-of Frames runs ends at = absurd runs
+  headline-of Decode runs ends at = absurd runs
+  headline-of Noise runs ends at = absurd runs
+  headline-of Au4 runs ends at = absurd runs
+  headline-of Channels runs ends at = absurd runs
+  headline-of Pair runs ends at = absurd runs
+  headline-of (Live trace) runs ends at = absurd runs
+  headline-of (Make number lines ticks) runs ends at = absurd runs
+  headline-of (Stream rate) runs ends at = absurd runs

@@ -12,7 +12,6 @@ use Rattle.law_headline.proofs.HeadlineLaws.{walk_headline}
 use Rattle.walk_engine.specs.Common.{Walked}
 use Rattle.command_parts.specs.Common.{Answer, reads, talks, Lent, Takes, WritesAll, Ends, HasScript, answer_of}
 use Rattle.command_parts.specs.Common.{script_answer}
-use Rattle.command_parts.specs.Task.{writes, writes_both}
 use Rattle.command_parts.proofs.EndLaws.{as-talk, is-done, known-text}
 use Rattle.command_parts.proofs.TalkEndLaws.{all-said}
 use Rattle.pair_walk.specs.declared.pair_script.script_pair.PairFault.{PairFault}
@@ -26,11 +25,6 @@ use Rattle.walk_live.proofs.LiveLaws.HeadlineLaws.{live_headline}
 use Rattle.command_walk.specs.commands.Live.{live_talk}
 use Rattle.command_walk.specs.commands.Pair.{TellsPair}
 use Rattle.command_walk.specs.declared.command_of_words.WalkCommand.{WalkCommand}
-use Rattle.command_walk.specs.declared.command_of_words.WalkCommand.TheVariants.{Walk, Trace, Fates, Capture, Gfp, Frames}
-use Rattle.command_walk.specs.declared.command_of_words.WalkCommand.TheVariants.{Decode, Noise, Au4, Channels, Pair, Make}
-use Rattle.command_walk.specs.declared.command_of_words.WalkCommand.TheVariants.{Check, H4, Service, Live, Stream}
-use Rattle.command_walk.specs.commands.Trace.{trace_text}
-use Rattle.command_walk.specs.WordsOfCommands.{task_at, RunsScript}
 use Rattle.command_walk.specs.Ended.{HandsScript, StopsBoth}
 
 -- the walk of a script
@@ -79,32 +73,6 @@ module _ {S K E : Type 0} (source : Lent S) (out : Lent K) (notes : Lent E) (ans
       let text = it.meets.0 in
       known-text source IsTold text it.meets.1
       (told-by text (script_of text) refl it.meets.1.fits (subst (WritesAll out notes) (sym it.meets.2) it.written))
-
-module _ {S K E : Type 0} (source : Lent S) (out : Lent K) (notes : Lent E) (status : ℕ) where
-  -- of a command that runs a script and writes its report
-  pub headline-of : (command : WalkCommand) → RunsScript command → Ends source out notes (task_at command) status →
-      status ≡ 0 → IfSome (source.octets source.old) (λ text. (written : List ℕ) × Takes out written ×
-      IsWalkHeadline text written)
-  headline-of Walk runs ends at =
-      tells-headline source out notes (λ script. writes (walk_text script)) status (λ script all. all.0) ends at
-  headline-of Trace runs ends at =
-      tells-headline source out notes (λ script. writes_both (walk_text script) (trace_text script)) status
-      (λ script all. all.0) ends at
-  headline-of Fates runs ends at = absurd runs
-  headline-of Check runs ends at = absurd runs
-  headline-of (H4 line) runs ends at = absurd runs
-  headline-of (Service interval) runs ends at = absurd runs
-  headline-of Capture runs ends at = absurd runs
-  headline-of Gfp runs ends at = absurd runs
-  headline-of Frames runs ends at = absurd runs
-  headline-of Decode runs ends at = absurd runs
-  headline-of Noise runs ends at = absurd runs
-  headline-of Au4 runs ends at = absurd runs
-  headline-of Channels runs ends at = absurd runs
-  headline-of Pair runs ends at = absurd runs
-  headline-of (Live trace) runs ends at = absurd runs
-  headline-of (Make number lines ticks) runs ends at = absurd runs
-  headline-of (Stream rate) runs ends at = absurd runs
 
 -- ---- the headline of a pair
 module _ {S K E : Type 0} (source : Lent S) (out : Lent K) (notes : Lent E) (status : ℕ) where

@@ -1,11 +1,22 @@
-//! The commands of the program, a line for each.
+//! The commands of the program: their words, their rooms and the usage, a line for each.
+
+ghost use Rattle.std.specs.Prelude.{◌≡◌, None};
+ghost use Rattle.law_model.specs.Common.{Tells};
+ghost use Rattle.command_parts.specs.Ends.{lent};
+ghost use Rattle.command_walk.specs.Given.{GivesFor};
+ghost use Rattle.command_walk.specs.WordsOfCommands.{task_at, usage, Fits, HandsBack};
 
 use crate::commands::{
     au4, capture, channels, check, decode, fates, frames, gfp, h4, live, make, noise, pair,
     service, stream, trace, walk,
 };
+use crate::walk_end::WalkEnd;
+use command_parts::{Ran, Stop, tell_usage};
 use command_words::FromWords;
+use octet_io::{ByteSink, ByteSource};
+use std::alloc::Global;
 use text_scripts::rate_load::RateLoad;
+use walk_engine::walk_core::Walk;
 
 /// What the program is told to do.
 #[derive(Clone, Copy, Debug, PartialEq, Eq)]
@@ -71,4 +82,55 @@ impl FromWords for WalkCommand {
             .or(make::words(words))
             .or(stream::words(words))
     }
+}
+
+/// Runs a command. Where it stops before it has written anything, it is the caller who tells.
+pub(crate) fn run<S: ByteSource, K: ByteSink, E: ByteSink>(
+    alloc: Global,
+    command: WalkCommand,
+    script: &mut S,
+    out: &mut K,
+    notes: &mut E,
+) -> Result<Ran<Option<Walk>>, Stop>
+    requires { Fits command }
+    ensures { GivesFor (lent S.left S.faults script.old script.new)
+        (lent K.written K.faults out.old out.new) (lent E.written E.faults notes.old notes.new)
+        (task_at command)
+        (λ walk. HandsBack (lent S.left S.faults script.old script.new) walk command) result }
+{
+    match command {
+        WalkCommand::Walk => walk::walk(alloc, script, out),
+        WalkCommand::Trace => trace::trace(alloc, script, out, notes),
+        WalkCommand::Fates => fates::fates(alloc, script, out),
+        WalkCommand::Check => check::check(alloc, script, out),
+        WalkCommand::H4 { line } => h4::h4(alloc, line, script, out),
+        WalkCommand::Service { interval } => service::service(alloc, interval, script, out),
+        WalkCommand::Capture => capture::capture(alloc, script, out),
+        WalkCommand::Gfp => gfp::gfp(alloc, script, out),
+        WalkCommand::Frames => frames::frames(alloc, script, out),
+        WalkCommand::Decode => decode::decode(alloc, script, out),
+        WalkCommand::Noise => noise::noise(alloc, script, out),
+        WalkCommand::Au4 => au4::au4(alloc, script, out),
+        WalkCommand::Channels => channels::channels(alloc, script, out),
+        WalkCommand::Pair => pair::pair(alloc, script, out, notes),
+        WalkCommand::Live { trace } => live::live(alloc, trace, script, out),
+        WalkCommand::Make {
+            number,
+            lines,
+            ticks,
+        } => make::make(alloc, number, lines, ticks, out),
+        WalkCommand::Stream(load) => stream::stream(&load, out),
+    }
+}
+
+/// Says on `notes` which commands the program has.
+pub(crate) fn no_command<E: ByteSink>(notes: &mut E) -> WalkEnd
+    ensures status { result.status ≡ 2 }
+    ensures walk { result.walk ≡ None }
+    ensures told { Tells E.written E.faults notes.old notes.new usage }
+{
+    let text =
+        b"usage: vcat_walk walk, trace, fates, check, h4 LINE, service INTERVAL, capture, gfp, frames, decode, noise, au4, channels, pair, live, live trace, make NUMBER LINES TICKS, or stream OCTETS MBITS FIRST END NUMBER\n";
+    let status = tell_usage(text, notes);
+    WalkEnd { status, walk: None }
 }

@@ -2,7 +2,7 @@
 use Rattle.std.proofs.Common.{refl, subst}
 use Rattle.command_parts.proofs.GiveLaws.{alone, beside}
 use Rattle.command_walk.specs.WordsOfCommands.{Fits}
-use Rattle.command_walk.proofs.top_call.run.Goals as goal
+use Rattle.command_walk.proofs.command_of_words.run.Goals as goal
 
 -- ---- their numbers are within bounds
 pub service-requires : goal.service-requires
