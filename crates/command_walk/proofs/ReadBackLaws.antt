@@ -15,7 +15,7 @@ use Rattle.law_walk.specs.Common.{session_rows, delivered_of}
 use Rattle.law_walk.proofs.PlanLaws.{sound-walks}
 use Rattle.law_walk.proofs.EndLaws.{counts-within}
 use Rattle.law_headline.specs.Texts.{counts_in}
-use Rattle.walk_engine.specs.Common.{delivered_since}
+use Rattle.law_walk.specs.Delivered.{delivered_since}
 use Rattle.text_captures.specs.capture_file.Written.{RowFrame, AreRising, due_frames}
 use Rattle.text_captures.specs.capture_file.Reading.{capture_said}
 use Rattle.text_captures.specs.capture_file.Out.{at_row}

@@ -10,7 +10,8 @@ use Rattle.walk_engine.proofs.WalkCoreLaws.OpenLaws.{none-delivered}
 use Rattle.law_model.specs.Common.{Start, leg_of, Counts, begin}
 use Rattle.law_model.specs.declared.script_types.Script.{Script}
 use Rattle.law_walk.specs.Common.{walk_plan, delivered_of}
-use Rattle.walk_engine.specs.Common.{Walked, delivered_since, GivesRows}
+use Rattle.walk_engine.specs.Common.{Walked, GivesRows}
+use Rattle.law_walk.specs.Delivered.{delivered_since}
 use Rattle.walk_engine.proofs.WalkCoreLaws.RoundLaws.{since-none}
 use Rattle.text_captures.specs.capture_file.Written.{RowFrame}
 use Rattle.text_captures.specs.declared.capture_file.capture_out.CaptureOut.{CaptureOut}

@@ -28,7 +28,8 @@ use Rattle.law_walk.specs.Landed.{refusals_of, totals_of}
 use Rattle.law_walk.proofs.FrameLaws.{frames-grow}
 use Rattle.law_walk.proofs.PlanLaws.{has-paths, sound-walks}
 use Rattle.law_walk.proofs.WalkLaws.{begins-walked}
-use Rattle.walk_engine.specs.walk_core.Moved.{Walked, GivesRows, delivered_since}
+use Rattle.walk_engine.specs.walk_core.Moved.{Walked, GivesRows}
+use Rattle.law_walk.specs.Delivered.{delivered_since}
 use Rattle.walk_engine.specs.walk_core.Parts.{note_of}
 use Rattle.walk_engine.specs.declared.walk_core.step_answers.StepNote.{StepNote}
 use Rattle.text_captures.specs.packet_trace.StepText.{step_text}

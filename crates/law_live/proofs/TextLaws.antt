@@ -19,7 +19,8 @@ use Rattle.law_walk.specs.Common.{Numbered, delivered_of, is_client, landed_from
 use Rattle.law_walk.specs.Common.{refused_by, walk_plan}
 use Rattle.law_walk.proofs.FrameLaws.{frames-grow}
 use Rattle.law_live.specs.Common.{CanSayAll, HasLater, Live, Rises, Saying, after_rounds, answers_from, answers_to}
-use Rattle.law_live.specs.Common.{counts_from, counts_said, cuts, frames_between, frames_got, got_at}
+use Rattle.law_live.specs.Common.{counts_from, counts_said, cuts, frames_got, got_at}
+use Rattle.law_walk.specs.Delivered.{delivered_since}
 use Rattle.law_live.specs.Common.{item_answers, item_at, items_refused, lands, live_after, live_round, mends}
 use Rattle.law_live.specs.Common.{next_item, now_at, passes, step_made, live_from, refused_answer, round_answers}
 use Rattle.law_live.specs.Common.{rounds_answers, rounds_for, steps_between, steps_made, times_told}
@@ -77,7 +78,7 @@ times-frames ticks (frame ∷ frames) = (omega arith, times-frames ticks frames)
 
 -- ---- the frames
 grown : (leg : Leg) (was now : ℕ) → was ≤ now →
-    delivered_of leg was ++ frames_between leg was now ≡ delivered_of leg now
+    delivered_of leg was ++ delivered_since leg was now ≡ delivered_of leg now
 grown leg was now low =
     let e : was + (now - was) ≡ now = omega (arith, low) in
     sym (subst (λ n. delivered_of leg n
@@ -85,12 +86,12 @@ grown leg was now low =
     (frames-grow leg was (now - was)))
 
 got-round : (leg : Leg) (was now : Counts) →
-    frames_got (round_answers leg was now) ≡ frames_between leg was.rows now.rows
+    frames_got (round_answers leg was now) ≡ delivered_since leg was.rows now.rows
 got-round leg was now =
     flat_map-append got_of (steps_between was.ticks now.ticks)
-    (map (got_at now.ticks) (frames_between leg was.rows now.rows))
+    (map (got_at now.ticks) (delivered_since leg was.rows now.rows))
     ∙ ap₂ ◌++◌ (got-step (nat_lt (steps_in was.ticks) (steps_in now.ticks)) (steps_in was.ticks))
-    (got-frames now.ticks (frames_between leg was.rows now.rows))
+    (got-frames now.ticks (delivered_since leg was.rows now.rows))
 
 got-rounds : (n : ℕ) (leg : Leg) (s : Counts) →
     delivered_of leg s.rows ++ frames_got (rounds_answers n leg s)
@@ -103,7 +104,7 @@ got-rounds (suc n) leg s =
     ap (λ l. delivered_of leg s.rows ++ l)
     (flat_map-append got_of (round_answers leg s next) (rounds_answers n leg next)
     ∙ ap (λ l. l ++ frames_got (rounds_answers n leg next)) (got-round leg s next))
-    ∙ sym (append_assoc (delivered_of leg s.rows) (frames_between leg s.rows next.rows)
+    ∙ sym (append_assoc (delivered_of leg s.rows) (delivered_since leg s.rows next.rows)
     (frames_got (rounds_answers n leg next)))
     ∙ ap (λ l. l ++ frames_got (rounds_answers n leg next)) (grown leg s.rows next.rows up)
     ∙ got-rounds n leg next
@@ -156,7 +157,7 @@ unfolding rounds_answers
 refused-rounds zero leg s = refl
 refused-rounds (suc n) leg s =
     let next : Counts = live_round (walk_plan leg) s in
-    let frames : List (List ℕ) = frames_between leg s.rows next.rows in
+    let frames : List (List ℕ) = delivered_since leg s.rows next.rows in
     flat_map-append refusal_of (round_answers leg s next) (rounds_answers n leg next)
     ∙ ap₂ ◌++◌
     (flat_map-append refusal_of (steps_between s.ticks next.ticks) (map (got_at next.ticks) frames)
@@ -247,7 +248,7 @@ rises-append a b c (t ∷ xs) ys first second = (first.0, rises-append t b c xs 
 times-round : (leg : Leg) (was now : Counts) → was.ticks ≤ now.ticks →
     Rises was.ticks now.ticks (times_told (round_answers leg was now))
 times-round leg was now up =
-    let frames : List (List ℕ) = frames_between leg was.rows now.rows in
+    let frames : List (List ℕ) = delivered_since leg was.rows now.rows in
     subst (Rises was.ticks now.ticks)
     (sym (flat_map-append time_of (steps_between was.ticks now.ticks) (map (got_at now.ticks) frames)
     ∙ ap (λ l. l ++ times_told (map (got_at now.ticks) frames))
@@ -317,7 +318,7 @@ steps_to ticks = range_with_len 0 (steps_in ticks)
 steps-round : (leg : Leg) (was now : Counts) → was.ticks ≤ now.ticks → now.ticks ≤ was.ticks + 1 →
     steps_to was.ticks ++ steps_made (round_answers leg was now) ≡ steps_to now.ticks
 steps-round leg was now up most =
-    let frames : List (List ℕ) = frames_between leg was.rows now.rows in
+    let frames : List (List ℕ) = delivered_since leg was.rows now.rows in
     let j : ℕ = steps_in was.ticks in
     let k : ℕ = steps_in now.ticks in
     let made : steps_made (round_answers leg was now) ≡ steps_made (steps_between was.ticks now.ticks) =

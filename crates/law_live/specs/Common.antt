@@ -10,7 +10,7 @@ pub use Rattle.law_live.specs.LiveCounts.{rounds_of}
 unfoldable pub use Rattle.law_live.specs.LiveCounts.{after_rounds, rounds_until, counts_from, rounds_from}
 pub use Rattle.law_live.specs.LiveScript.{config_by, leg_by, leg_said, counted, events_by, script_by, script_said}
 pub use Rattle.law_live.specs.LiveAnswers.{Answer, refused_item, step_made, got_at, now_at, next_item, refused_answer}
-pub use Rattle.law_live.specs.LiveAnswers.{item_answers, steps_between, frames_between, round_answers, pass_answers}
+pub use Rattle.law_live.specs.LiveAnswers.{item_answers, steps_between, round_answers, pass_answers}
 pub use Rattle.law_live.specs.LiveAnswers.{answers_to, answers, frames_got, items_refused, steps_made, times_told}
 pub use Rattle.law_live.specs.LiveAnswers.{got_at_text, now_text, answer_text, answers_text, unasked}
 pub use Rattle.law_live.specs.LiveAnswers.{last_text, report_said}

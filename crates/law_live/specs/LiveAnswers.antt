@@ -9,6 +9,7 @@ use Rattle.law_model.specs.Common.{Leg, Counts, begin, steps_in}
 use Rattle.law_model.specs.declared.item_refusals.Refusal.{Refusal}
 use Rattle.law_model.specs.declared.script_types.ItemKind.{ItemKind}
 use Rattle.law_walk.specs.Common.{Numbered, delivered_of, refusal_at, totals_of, walk_plan}
+use Rattle.law_walk.specs.Delivered.{delivered_since}
 use Rattle.law_live.specs.Live.{Saying, lands, cuts, mends, passes, item_at}
 use Rattle.law_live.specs.LiveCounts.{live_round, rounds_for, counts_said, live_counts}
 
@@ -36,14 +37,10 @@ item_answers leg s kind = refused_answer (s.frames + s.commands) (refusal_at leg
 abbrev pub steps_between : ℕ → ℕ → List Answer
 steps_between was now = if nat_lt (steps_in was) (steps_in now) then step_made (steps_in was) ∷ [] else []
 
--- the frames that are delivered of more rows, and not of some
-abbrev pub frames_between : Leg → ℕ → ℕ → List (List ℕ)
-frames_between leg was now = drop (length (delivered_of leg was)) (delivered_of leg now)
-
 -- of a round, by the counts before and after it
 abbrev pub round_answers : Leg → Counts → Counts → List Answer
 round_answers leg was now =
-    steps_between was.ticks now.ticks ++ map (got_at now.ticks) (frames_between leg was.rows now.rows)
+    steps_between was.ticks now.ticks ++ map (got_at now.ticks) (delivered_since leg was.rows now.rows)
 
 unfoldable pub rounds_answers : ℕ → Leg → Counts → List Answer
 rounds_answers zero leg s = []

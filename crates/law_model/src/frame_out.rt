@@ -15,3 +15,13 @@ pub trait FrameOut {
         ensures { (start : Start) (frames : List (List ℕ)) → stands_for self.old start frames →
             stands_for self.new start (frames ++ frame.now ∷ []) };
 }
+
+/// Takes frames, and does nothing with them.
+#[derive(Drop)]
+pub struct Silent;
+
+impl FrameOut for Silent {
+    ghost stands_for = { λ silent start frames. Unit {0} };
+
+    fn frame(&mut self, _frame: &[u8]) {}
+}

@@ -18,7 +18,7 @@ mod window_types;
 pub use control_packet::{Packet, PacketFault};
 pub use frame_faults::{TypeFault, Why};
 pub use frame_limits::{LONGEST_FRAME, MOST_LINES};
-pub use frame_out::FrameOut;
+pub use frame_out::{FrameOut, Silent};
 pub use item_refusals::{AcceptFault, CommandFault, Refusal};
 pub use lcas_states::{Command, Member, SinkState, SourceState, Standing};
 pub use script_types::{

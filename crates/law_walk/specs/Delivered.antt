@@ -1,5 +1,5 @@
 -- The frames that the rows of a leg's session give.
-use Rattle.std.specs.Prelude.{◌≡◌, ℕ, false, List, Option, Some, None}
+use Rattle.std.specs.Prelude.{◌≡◌, ℕ, false, List, Option, Some, None, drop, length}
 use Rattle.law_model.specs.Common.{Leg, scenario_by, StreamRow, deliver, rows_of, longest_frame}
 use Rattle.law_loss.specs.Added.{whole_row}
 use Rattle.law_walk.specs.Walk.{session_of}
@@ -17,3 +17,7 @@ delivered_of leg rows = deliver longest_frame (session_rows leg rows)
 pub record IsReceived (receive : Option (List ℕ) → StreamRow) : Type 0 where
   pub whole : (octets : List ℕ) → receive (Some octets) ≡ whole_row octets
   pub lost : (receive None).whole ≡ false
+
+-- the frames that some rows give beside those of fewer rows
+abbrev pub delivered_since : Leg → ℕ → ℕ → List (List ℕ)
+delivered_since leg before rows = drop (length (delivered_of leg before)) (delivered_of leg rows)

@@ -25,7 +25,8 @@ use Rattle.law_walk.proofs.ReturnLaws as return_laws
 use Rattle.law_pair.specs.Common.{way_of, take_said, take_one}
 use Rattle.law_pair.proofs.LinkLaws.{reads-told}
 use Rattle.law_pair.proofs.OneWayLaws.{take-leads}
-use Rattle.walk_engine.specs.Common.{answer_by, delivered_since, GivesRows, Parts, counts_of, line_counts, take_cause}
+use Rattle.walk_engine.specs.Common.{answer_by, GivesRows, Parts, counts_of, line_counts, take_cause}
+use Rattle.law_walk.specs.Delivered.{delivered_since}
 use Rattle.walk_engine.specs.Common.{HasLanded, HasWindows, take_moved, said_at, take_by, Takes, windows_in}
 use Rattle.walk_engine.specs.walk_core.Parts.{WayStands}
 use Rattle.walk_engine.proofs.WalkCoreLaws.EventLaws.{landing-stays, stands-back}

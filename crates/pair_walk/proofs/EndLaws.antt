@@ -11,7 +11,8 @@ use Rattle.text_report.specs.Report.{got_text, got_texts, refused_texts, total_t
 use Rattle.law_walk.specs.Common.{delivered_of, refusals_among, refusals_of, totals_among, totals_of, numbered}
 use Rattle.law_walk.specs.Common.{report_of, final_report}
 use Rattle.law_walk.proofs.FrameLaws.{frames-grow}
-use Rattle.walk_engine.specs.Common.{delivered_since, GivesRows}
+use Rattle.walk_engine.specs.Common.{GivesRows}
+use Rattle.law_walk.specs.Delivered.{delivered_since}
 use Rattle.text_got.specs.declared.got_text.GotLines.{GotLines}
 use Rattle.text_got.specs.Told.{AppendsSome, GivesUp, HasText, has_failed, name_of, start_at}
 use Rattle.law_pair.specs.Common.{IsPair, PairCounts, counts_on, pair_begin, pair_drained, IsPairWalked}

@@ -12,20 +12,10 @@ ghost use Rattle.pair_walk.specs.Rounds.{FailsOne, FewRows};
 ghost use Rattle.pair_walk.specs.Text.{way_text};
 
 use command_parts::write_rest;
-use law_model::FrameOut;
+use law_model::Silent;
 use octet_io::{ByteSink, Failed, take_back};
 use pair_engine::{Pair, PairEvent, Way};
 use text_got::{GotLines, MayFail};
-
-/// Takes frames, and does nothing with them.
-#[derive(Drop)]
-struct Silent;
-
-impl FrameOut for Silent {
-    ghost stands_for = { λ silent start frames. Unit {0} };
-
-    fn frame(&mut self, _frame: &[u8]) {}
-}
 
 /// Makes a round, and writes what it delivers. Answers whether a write has failed; it is the last one. A row of one way
 /// gives the other no frames, so the place of the other is left out.

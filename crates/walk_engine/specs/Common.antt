@@ -2,7 +2,8 @@
 pub use Rattle.walk_engine.specs.walk_core.Carry.{CanCarry, IsCarriedAt, IsKnownOn, IsSentOn, carry_cause}
 pub use Rattle.walk_engine.specs.walk_core.Counted.{counting, passing}
 pub use Rattle.walk_engine.specs.walk_core.Landing.{early_cause, landing_of, stall_by}
-pub use Rattle.walk_engine.specs.walk_core.Moved.{GivesRows, Walked, answer_by, counts_after, delivered_since, moved_of}
+pub use Rattle.walk_engine.specs.walk_core.Moved.{GivesRows, Walked, answer_by, counts_after, moved_of}
+pub use Rattle.law_walk.specs.Delivered.{delivered_since}
 pub use Rattle.walk_engine.specs.walk_core.Moved.{refusal_in_event, refusal_of_item}
 pub use Rattle.walk_engine.specs.walk_core.Opened.{AreOpened, AreRings, HasWindows, IsAlike, IsNew, IsNewGather}
 pub use Rattle.walk_engine.specs.walk_core.Opened.{IsNewSink, IsOpened}

@@ -8,13 +8,15 @@ use Rattle.law_model.specs.declared.script_types.Config.{Config}
 use Rattle.law_progress.specs.Progress.{made}
 use Rattle.law_walk.specs.Common.{walk_plan}
 use Rattle.text_got.specs.Told.{Holds}
-use Rattle.law_live.specs.Common.{IsWellSaid, Saying, after_rounds, answer_text, answers_text, frames_between, got_at}
+use Rattle.law_live.specs.Common.{IsWellSaid, Saying, after_rounds, answer_text, answers_text, got_at}
+use Rattle.law_walk.specs.Delivered.{delivered_since}
 use Rattle.law_live.specs.Common.{counts_said, live_counts, live_of, live_round, now_at, now_text, pass_answers, passes}
 use Rattle.law_live.specs.Common.{round_answers, rounds_answers, rounds_for, rounds_until, steps_between}
 use Rattle.law_live.proofs.PassLaws.{rounds-over}
 use Rattle.law_live.proofs.TheoremLaws.{pass-free, pass-less, pass-turn}
 use Rattle.walk_engine.specs.walk_core.Live.{Walking, LiveRounds, LiveStands, walking_counts}
-use Rattle.walk_engine.specs.walk_core.Moved.{counts_after, delivered_since}
+use Rattle.walk_engine.specs.walk_core.Moved.{counts_after}
+use Rattle.law_walk.specs.Delivered.{delivered_since}
 use Rattle.walk_engine.specs.walk_core.Way.{IsNoneHeld}
 use Rattle.walk_engine.proofs.WalkCoreLaws.RoundLaws.{tick-kept}
 use Rattle.walk_live.specs.Answered.{IsLegOf}
@@ -206,12 +208,12 @@ frames-text step ticks (frame ∷ frames) =
 
 pub round-parts-text : (steps : Bool) (leg : Leg) (was now : Counts) →
     answers_text (step_line steps leg) (round_answers leg was now)
-    ≡ steps_text steps leg was.ticks now.ticks ++ timed_texts now.ticks (frames_between leg was.rows now.rows)
+    ≡ steps_text steps leg was.ticks now.ticks ++ timed_texts now.ticks (delivered_since leg was.rows now.rows)
 round-parts-text steps leg was now =
     flat_map-append (answer_text (step_line steps leg)) (steps_between was.ticks now.ticks)
-    (map (got_at now.ticks) (frames_between leg was.rows now.rows))
+    (map (got_at now.ticks) (delivered_since leg was.rows now.rows))
     ∙ ap (λ l. steps_text steps leg was.ticks now.ticks ++ l)
-    (frames-text (step_line steps leg) now.ticks (frames_between leg was.rows now.rows))
+    (frames-text (step_line steps leg) now.ticks (delivered_since leg was.rows now.rows))
 
 -- by its parts: what was told after the tick, and then the frames
 pub round-told : (steps : Bool) (leg : Leg) (was mid now : Counts) (before : ℕ) → before ≡ was.ticks →

@@ -10,7 +10,7 @@ ghost use Rattle.law_live.specs.Common.{IsWellSaid, Saying, cuts, lands, live_co
 ghost use Rattle.terminal_group.specs.Item.{kind_of};
 ghost use Rattle.walk_engine.specs.walk_core.Live.{IsLive, LiveFinishes, LiveRounds, LiveStands};
 ghost use Rattle.walk_engine.specs.walk_core.Live.{walking_counts};
-ghost use Rattle.walk_engine.specs.walk_core.Moved.{delivered_since};
+ghost use Rattle.law_walk.specs.Delivered.{delivered_since};
 ghost use Rattle.walk_engine.specs.walk_core.Parts.{windows_in};
 ghost use Rattle.walk_live.specs.Answered.{Answers, AnswersPart, IsAnswered, IsLegOf, WalksAs};
 ghost use Rattle.walk_live.specs.Passing.{CanPass, CanRound, IsOtherwise, round_text, rounds_text, steps_text};

@@ -4,7 +4,8 @@ use Rattle.std.specs.List.{flat_map, range_with_len}
 use Rattle.law_model.specs.Common.{Start, leg_of}
 use Rattle.law_model.specs.declared.script_types.Script.{Script}
 use Rattle.law_headline.specs.Texts.{counts_in}
-use Rattle.walk_engine.specs.Common.{Walked, delivered_since}
+use Rattle.walk_engine.specs.Common.{Walked}
+use Rattle.law_walk.specs.Delivered.{delivered_since}
 use Rattle.text_captures.specs.capture_file.Written.{RowFrame, ethernet_capture}
 use Rattle.text_captures.specs.declared.capture_file.capture_out.CaptureOut.{CaptureOut}
 use Rattle.text_captures.specs.capture_file.Out.{HasCapture, at_row}

@@ -20,21 +20,11 @@ ghost use Rattle.command_walk.specs.Told.{events_of, IsTurn, IsTold};
 
 use crate::turns::next_turns::TurnsLeft;
 use crate::turns::ready_walk::LinesAndTicks;
-use law_model::{Event, EventLine, FrameOut};
+use law_model::{Event, EventLine, FrameOut, Silent};
 use octet_io::{ByteSink, Failed, put_all, take_back};
 use text_captures::packet_trace::{TRACE_ROOM, trace_line};
 use text_got::{GotLines, MayFail};
 use walk_engine::walk_core::{Walk, is_step};
-
-/// Takes frames, and does nothing with them.
-#[derive(Drop)]
-struct Silent;
-
-impl FrameOut for Silent {
-    ghost stands_for = { λ silent start frames. Unit {0} };
-
-    fn frame(&mut self, _frame: &[u8]) {}
-}
 
 /// What is done with a walk at once: one tick comes of it at most.
 #[derive(Clone, Copy)]

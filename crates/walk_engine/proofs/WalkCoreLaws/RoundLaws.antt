@@ -24,7 +24,8 @@ use Rattle.law_progress.proofs.ReachLaws.{run-append}
 use Rattle.law_walk.specs.Common.{walk_plan, IsWalked, delivered_of}
 use Rattle.law_walk.proofs.PlanLaws.{has-plan, sound-walks}
 use Rattle.law_walk.proofs.FrameLaws.{frames-grow}
-use Rattle.walk_engine.specs.Common.{delivered_since, answer_by, moved_of, counts_after, refusal_in_event, GivesRows}
+use Rattle.walk_engine.specs.Common.{answer_by, moved_of, counts_after, refusal_in_event, GivesRows}
+use Rattle.law_walk.specs.Delivered.{delivered_since}
 use Rattle.walk_engine.specs.Common.{landing_of, Walked}
 use Rattle.walk_engine.specs.declared.walk_core.step_answers.Moved.{Moved}
 use Rattle.walk_engine.specs.declared.walk_core.step_answers.Moved.TheVariants.{Yes, Stalled, Refused}

@@ -34,7 +34,8 @@ use Rattle.law_walk.proofs.WalkLaws.{line-fits}
 use Rattle.law_walk.proofs.WaitLaws.{take-waits}
 use Rattle.law_walk.proofs.ReturnLaws.{packet-said, packets-next, ring-says}
 use Rattle.law_walk.proofs.FrameLaws.{frames-received, frames-grow}
-use Rattle.walk_engine.specs.Common.{listed, Ringed, answer_by, moved_of, counts_after, delivered_since, GivesRows}
+use Rattle.walk_engine.specs.Common.{listed, Ringed, answer_by, moved_of, counts_after, GivesRows}
+use Rattle.law_walk.specs.Delivered.{delivered_since}
 use Rattle.walk_engine.specs.Common.{AgreesAt, Parts, HasSent, counts_of, line_counts, said_at, take_by, Takes, windows_in}
 use Rattle.walk_engine.specs.Common.{Walking, LiveStands, walking_counts, walking_of, take_cause, CanPop, HasPopped, CanTake, HasRow}
 use Rattle.walk_engine.specs.declared.walk_core.step_answers.StepNote.{StepNote}

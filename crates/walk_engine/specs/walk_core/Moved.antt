@@ -8,6 +8,7 @@ use Rattle.law_model.specs.declared.walk_events.Event.TheVariants.{Accept, Tick,
 use Rattle.law_model.specs.declared.walk_events.StallCause.{StallCause}
 use Rattle.law_model.specs.declared.item_refusals.Refusal.{Refusal}
 use Rattle.law_walk.specs.Common.{walk_plan, refusal_at, delivered_of}
+use Rattle.law_walk.specs.Delivered.{delivered_since}
 use Rattle.terminal_group.specs.Place.{is_frame, is_command, place_of}
 use Rattle.walk_engine.specs.declared.walk_core.step_answers.Moved.{Moved}
 use Rattle.walk_engine.specs.declared.walk_core.step_answers.Moved.TheVariants.{Yes, Stalled, Refused}
@@ -47,10 +48,6 @@ moved_of leg s event = answer_by (step (walk_plan leg) s event).cause (refusal_i
 -- the counts after an event
 abbrev pub counts_after : Leg → Counts → Event → Counts
 counts_after leg s event = (step (walk_plan leg) s event).counts
-
--- the frames that some rows give beside those of fewer rows
-abbrev pub delivered_since : Leg → ℕ → ℕ → List (List ℕ)
-delivered_since leg before rows = drop (length (delivered_of leg before)) (delivered_of leg rows)
 
 -- a place of frames is given those of more rows: behind each start it stands for what it stood for, followed by them
 abbrev pub GivesRows : {Out : Type 0} → (Out → Start → List (List ℕ) → Type 0) → Out → Out → Leg → ℕ → ℕ → Type 0

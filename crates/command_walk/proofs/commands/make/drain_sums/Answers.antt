@@ -3,7 +3,7 @@ use Rattle.std.proofs.Common.{[], sym, ◌∙◌, ap, subst, arith, rules}
 use Rattle.pair_walk.proofs.EndLaws.{since-begin}
 use Rattle.law_model.specs.Common.{leg_of, Counts}
 use Rattle.law_walk.specs.Common.{delivered_of}
-use Rattle.walk_engine.specs.Common.{delivered_since}
+use Rattle.law_walk.specs.Delivered.{delivered_since}
 use Rattle.command_walk.specs.commands.Make.{octet_count, octet_sum, HasSummed}
 use Rattle.command_walk.proofs.MakeLaws.{summed-none, count-exact, sum-exact}
 use Rattle.command_walk.proofs.commands.make.drain_sums.Goals as goal

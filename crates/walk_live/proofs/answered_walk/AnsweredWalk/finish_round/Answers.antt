@@ -3,7 +3,7 @@ use Rattle.std.proofs.Common.{ℕ, List, [], ◌∷◌, ◌++◌, ◌∙◌, OnE
 use Rattle.law_model.specs.Common.{AppendsPart, Start}
 use Rattle.text_got.specs.Told.{Holds}
 use Rattle.walk_engine.specs.walk_core.Live.{walking_counts}
-use Rattle.walk_engine.specs.walk_core.Moved.{delivered_since}
+use Rattle.law_walk.specs.Delivered.{delivered_since}
 use Rattle.walk_live.specs.Timed.{block_of, out_of, timed_start, timed_texts}
 use Rattle.walk_live.proofs.answered_walk.AnsweredWalk.finish_round.Goals as goal
 

@@ -6,7 +6,7 @@ use Rattle.law_walk.specs.Common.{walk_plan}
 use Rattle.law_live.specs.Common.{live_round}
 use Rattle.text_got.specs.Told.{Holds}
 use Rattle.walk_engine.specs.walk_core.Live.{walking_counts}
-use Rattle.walk_engine.specs.walk_core.Moved.{delivered_since}
+use Rattle.law_walk.specs.Delivered.{delivered_since}
 use Rattle.walk_live.specs.Timed.{timed_texts}
 use Rattle.walk_live.proofs.PassLaws.{round-told}
 use Rattle.law_live.proofs.RoundLaws.{goes-tick}
