@@ -22,7 +22,7 @@ pub fn ethernet_fcs(octets: &[u8]) -> [u8; 4]
     inverted(after_all(&LEAST_FIRST, octets))
 }
 
-// The check that a register makes.
+/// The check that a register makes.
 #[inline]
 fn inverted(register: u32) -> [u8; 4]
     ensures { (order : BitOrder) (octets : List ℕ) → RegisterStands order octets register →
@@ -31,7 +31,7 @@ fn inverted(register: u32) -> [u8; 4]
     (register ^ u32::MAX).to_le_bytes()
 }
 
-// The register after octets.
+/// The register after octets.
 fn after_all(tables: &[[u32; 256]; 8], octets: &[u8]) -> u32
     ensures { (order : BitOrder) → IsTables order tables.now → RegisterStands order octets.now result }
 {
@@ -46,7 +46,7 @@ fn after_all(tables: &[[u32; 256]; 8], octets: &[u8]) -> u32
     register
 }
 
-// The word that the eight octets at a place are, the first one least significant.
+/// The word that the eight octets at a place are, the first one least significant.
 #[inline]
 fn word_at(octets: &[u8], at: usize) -> u64
     requires { at + 8 ≤ length octets.now }
@@ -64,7 +64,7 @@ fn word_at(octets: &[u8], at: usize) -> u64
     ])
 }
 
-// The register after eight more octets, each of which leaves its own with those after it being zeros.
+/// The register after eight more octets, each of which leaves its own with those after it being zeros.
 #[inline]
 fn after_word(tables: &[[u32; 256]; 8], register: u32, word: u64) -> u32
     ensures { (order : BitOrder) (octets : List ℕ) → IsTables order tables.now →
@@ -81,7 +81,7 @@ fn after_word(tables: &[[u32; 256]; 8], register: u32, word: u64) -> u32
         ^ tables[0][h as usize]
 }
 
-// The register after one more octet.
+/// The register after one more octet.
 #[inline]
 fn after_octet(tables: &[[u32; 256]; 8], register: u32, octet: u8) -> u32
     ensures { (order : BitOrder) (octets : List ℕ) → IsTables order tables.now →

@@ -16,7 +16,7 @@ pub fn hec(word: u16) -> u16
     with_octet(with_octet(0, upper), lower)
 }
 
-// What an octet leaves of the generator.
+/// What an octet leaves of the generator.
 #[inline]
 fn left_of_octet(o: u8) -> u16
     ensures { bits 16 result ≡ remainder crc16 (bits 8 o) }
@@ -25,7 +25,7 @@ fn left_of_octet(o: u8) -> u16
     (folded % 16 * 4096) ^ (folded * 32) ^ folded
 }
 
-// The remainder of bits with an octet after them, from that of the bits, which is `register`.
+/// The remainder of bits with an octet after them, from that of the bits, which is `register`.
 #[inline]
 fn with_octet(register: u16, o: u8) -> u16
     ensures { (before : List Bool) → bits 16 register ≡ remainder crc16 before →

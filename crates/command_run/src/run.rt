@@ -71,7 +71,7 @@ fn write_end<K: ByteSink>(ended: &Ended, out: &mut K) -> Result<(), Failed>
 }
 
 /// Writes the end of a report, unless a write of its got lines has failed.
-pub fn end_report<K: ByteSink>(ended: &Ended, out: &mut K) -> Result<(), Failed>
+pub(crate) fn end_report<K: ByteSink>(ended: &Ended, out: &mut K) -> Result<(), Failed>
     ensures ok { (script : Script) (first : K) → HasEnded script ended.now →
         HasGot K.written K.faults first out.old script ended.now → OnOk result
         (Appends K.written K.faults first out.new (final_report (leg_of script))) }

@@ -24,7 +24,7 @@ pub struct Found {
 }
 
 /// The line of a line that carried payload in no row.
-pub fn unused_line(member: u8, out: &mut [u8]) -> usize
+pub(crate) fn unused_line(member: u8, out: &mut [u8]) -> usize
     requires room { 128 ≤ length out.old }
     ensures within { result ≤ 128 }
     ensures line { take result out.new ≡ unused_text member }
@@ -37,7 +37,7 @@ pub fn unused_line(member: u8, out: &mut [u8]) -> usize
 }
 
 /// The line of a failure that spoiled no row.
-pub fn idle_line(member: u8, window: Window, out: &mut [u8]) -> usize
+pub(crate) fn idle_line(member: u8, window: Window, out: &mut [u8]) -> usize
     requires room { 128 ≤ length out.old }
     ensures within { result ≤ 128 }
     ensures line { take result out.new ≡ idle_text member window }
@@ -66,7 +66,7 @@ fn add_row(line: &mut TextCursor, row: Option<u32>)
 }
 
 /// The line of frames that were accepted before any line carried payload, and of the first row in which one did.
-pub fn early_line(frames: u32, row: Option<u32>, out: &mut [u8]) -> usize
+pub(crate) fn early_line(frames: u32, row: Option<u32>, out: &mut [u8]) -> usize
     requires room { 128 ≤ length out.old }
     ensures within { result ≤ 128 }
     ensures line { take result out.new ≡ early_text frames row }
@@ -96,7 +96,7 @@ pub fn refused_line(item: u32, why: Refusal, out: &mut [u8]) -> usize
 }
 
 /// The last line.
-pub fn check_line(found: Found, out: &mut [u8]) -> usize
+pub(crate) fn check_line(found: Found, out: &mut [u8]) -> usize
     requires room { 128 ≤ length out.old }
     ensures within { result ≤ 128 }
     ensures line { take result out.new ≡ last_text found }

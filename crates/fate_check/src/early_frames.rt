@@ -27,7 +27,7 @@ fn is_early(frame: &LandedFrame, row: Option<u32>) -> bool
 }
 
 /// How many frames were accepted that are due before a row.
-pub fn count_early(walk: &Walk, row: Option<u32>) -> u32
+pub(crate) fn count_early(walk: &Walk, row: Option<u32>) -> u32
     requires sound { IsSound (leg_of walk.now.script) }
     requires walked { IsWalked (leg_of walk.now.script) walk.now.counts }
     ensures { result ≡ length (filter (is_early (leg_of walk.now.script) row)

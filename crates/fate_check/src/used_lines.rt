@@ -14,7 +14,7 @@ const FIRST: u32 = 24;
 const ROWS: u32 = 16;
 
 /// The lines that carry payload in a row.
-pub fn used_lines(packets: &Packets, row: u32) -> &[u8]
+pub(crate) fn used_lines(packets: &Packets, row: u32) -> &[u8]
     requires { row < 16 * length packets.now.active + 24 }
     ensures { (scenario : Scenario) (cells : List (Option Told)) →
         ArePackets scenario cells packets.now → result.now ≡ used_lines scenario cells row }
@@ -26,7 +26,7 @@ pub fn used_lines(packets: &Packets, row: u32) -> &[u8]
 }
 
 /// The first row after a row that isn't governed by the same packet.
-pub fn next_governed(row: u32) -> u32
+pub(crate) fn next_governed(row: u32) -> u32
     requires { row ≤ 1000000 }
     ensures later { row < result }
     ensures alike { (t : ℕ) → row ≤ t → t < result → AreAlike t row }
@@ -39,7 +39,7 @@ pub fn next_governed(row: u32) -> u32
 }
 
 /// Whether a line carries payload in none of the first rows.
-pub fn is_unused(packets: &Packets, rows: u32, line: u8) -> bool
+pub(crate) fn is_unused(packets: &Packets, rows: u32, line: u8) -> bool
     requires few { rows ≤ 1000000 }
     requires governed { rows ≤ 16 * length packets.now.active + 24 }
     ensures { (scenario : Scenario) (cells : List (Option Told)) →
@@ -56,7 +56,7 @@ pub fn is_unused(packets: &Packets, rows: u32, line: u8) -> bool
 }
 
 /// The first of the first rows in which a line carries payload.
-pub fn first_payload(packets: &Packets, rows: u32) -> Option<u32>
+pub(crate) fn first_payload(packets: &Packets, rows: u32) -> Option<u32>
     requires few { rows ≤ 1000000 }
     requires governed { rows ≤ 16 * length packets.now.active + 24 }
     ensures { (scenario : Scenario) (cells : List (Option Told)) →

@@ -60,7 +60,7 @@ fn least_delay(carried: &[CarriedFrame], frames: u64, greatest: u32) -> u32
 }
 
 /// The delays of the frames that were got.
-pub fn find_delays(carried: &[CarriedFrame]) -> Delays
+pub(crate) fn find_delays(carried: &[CarriedFrame]) -> Delays
     requires { length carried.now < 4294967296 }
     ensures { result ≡ delays_of carried.now }
 {

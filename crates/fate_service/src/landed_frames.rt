@@ -81,7 +81,7 @@ impl Tally {
     }
 
     /// Counts one more frame, where it is one of those that are counted.
-    pub fn add_if(&mut self, counts: bool, octets: u16)
+    pub(crate) fn add_if(&mut self, counts: bool, octets: u16)
         requires frames { self.old.frames < 4294967295 }
         requires octets { self.old.octets < 2 ^ 63 }
         ensures { self.new ≡ with_frame_if counts self.old octets }
@@ -195,7 +195,7 @@ fn take_frame(
 }
 
 /// The frames of a walk that have landed.
-pub fn land_frames(alloc: Global, walk: &Walk, seen: &SeenWalk) -> Result<LandedFrames, AllocError>
+pub(crate) fn land_frames(alloc: Global, walk: &Walk, seen: &SeenWalk) -> Result<LandedFrames, AllocError>
     requires { SeesWalk (leg_of walk.now.script) walk.now.counts seen.now }
     ensures landed { IfOk result (AreLanded (ended_of (leg_of walk.now.script) walk.now.counts)) }
     ensures few { IfOk result (λ landed. length landed.offered.items ≤ 67108864) }

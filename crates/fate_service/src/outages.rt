@@ -77,7 +77,7 @@ fn add_state(outages: &mut Vec<Outage>, row: u32, state: RowState) -> Result<(),
 }
 
 /// The outages among rows.
-pub fn find_outages(alloc: Global, states: &[RowState]) -> Result<Vec<Outage>, AllocError>
+pub(crate) fn find_outages(alloc: Global, states: &[RowState]) -> Result<Vec<Outage>, AllocError>
     requires { length states.now < 4294967296 }
     ensures { IfOk result (λ outages. outages.items ≡ outages_of states.now) }
 {

@@ -54,7 +54,7 @@ fn row_state(seen: &SeenWalk, row: u32) -> RowState
 }
 
 /// What each of the taken rows is.
-pub fn row_states(alloc: Global, seen: &SeenWalk) -> Result<Vec<RowState>, AllocError>
+pub(crate) fn row_states(alloc: Global, seen: &SeenWalk) -> Result<Vec<RowState>, AllocError>
     ensures { (leg : Leg) (s : Counts) → SeesWalk leg s seen.now →
         IfOk result (λ states. states.items ≡ states_of (session_rows leg s.rows)) }
 {
@@ -76,7 +76,7 @@ fn is_dark(state: RowState) -> bool
 }
 
 /// How many of some rows are of no use.
-pub fn count_dark(states: &[RowState]) -> u32
+pub(crate) fn count_dark(states: &[RowState]) -> u32
     requires { length states.now < 4294967296 }
     ensures { result ≡ dark_among states.now }
 {

@@ -34,7 +34,7 @@ pub struct Ends {
 }
 
 /// The line of rows in which as many members carry payload, each with so many octets in a row.
-pub fn members_line(run: WidthRun, size: u16, out: &mut [u8]) -> usize
+pub(crate) fn members_line(run: WidthRun, size: u16, out: &mut [u8]) -> usize
     requires few { run.members ≤ 128 }
     requires room { 448 ≤ length out.old }
     ensures within { result ≤ 448 }
@@ -76,7 +76,7 @@ fn add_first_cause(line: &mut TextCursor, cause: Option<Cause>)
 }
 
 /// The line of an outage.
-pub fn outage_line(outage: Outage, lost: Tally, cause: Option<Cause>, out: &mut [u8]) -> usize
+pub(crate) fn outage_line(outage: Outage, lost: Tally, cause: Option<Cause>, out: &mut [u8]) -> usize
     requires room { 448 ≤ length out.old }
     ensures within { result ≤ 448 }
     ensures line { take result out.new ≡ outage_text outage lost cause }
@@ -153,7 +153,7 @@ fn add_stretch(line: &mut TextCursor, first: u32, end: u32, stretch: Stretch)
 }
 
 /// The line of a stretch.
-pub fn stretch_line(first: u32, end: u32, stretch: Stretch, out: &mut [u8]) -> usize
+pub(crate) fn stretch_line(first: u32, end: u32, stretch: Stretch, out: &mut [u8]) -> usize
     requires room { 448 ≤ length out.old }
     ensures within { result ≤ 448 }
     ensures line { take result out.new ≡ stretch_text first end stretch }
@@ -166,7 +166,7 @@ pub fn stretch_line(first: u32, end: u32, stretch: Stretch, out: &mut [u8]) -> u
 }
 
 /// The line of delays.
-pub fn delays_line(delays: Delays, out: &mut [u8]) -> usize
+pub(crate) fn delays_line(delays: Delays, out: &mut [u8]) -> usize
     requires room { 448 ≤ length out.old }
     ensures within { result ≤ 448 }
     ensures line { take result out.new ≡ delays_text delays }
@@ -212,7 +212,7 @@ fn add_ends(line: &mut TextCursor, ends: Ends)
 }
 
 /// The last line.
-pub fn service_line(end: u32, stretch: Stretch, ends: Ends, out: &mut [u8]) -> usize
+pub(crate) fn service_line(end: u32, stretch: Stretch, ends: Ends, out: &mut [u8]) -> usize
     requires room { 448 ≤ length out.old }
     ensures within { result ≤ 448 }
     ensures line { take result out.new ≡ last_text end stretch ends }

@@ -123,7 +123,7 @@ impl Ended {
 }
 
 /// Counts frames that were carried.
-pub fn count_ended(frames: &[CarriedFrame]) -> Ended
+pub(crate) fn count_ended(frames: &[CarriedFrame]) -> Ended
     requires { length frames.now < 4294967296 }
     ensures { result ≡ ended_of frames.now }
 {
@@ -228,7 +228,7 @@ fn dark_in(states: &[RowState], first: u32, end: u32) -> u32
 }
 
 /// What came from one tick on to below another.
-pub fn count_stretch(
+pub(crate) fn count_stretch(
     landed: &LandedFrames,
     states: &[RowState],
     walk: &Walk,

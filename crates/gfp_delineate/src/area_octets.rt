@@ -42,7 +42,7 @@ pub fn keep(area: &mut Vec<u8>, descrambler: &mut Descrambler, piece: &[u8])
 
 /// Passes over octets of an area that is dropped. Of many, the descrambler needs the last ones alone.
 #[inline]
-pub fn pass_over(descrambler: &mut Descrambler, piece: &[u8])
+pub(crate) fn pass_over(descrambler: &mut Descrambler, piece: &[u8])
     ensures { Continues descrambler.old descrambler.new piece.now }
 {
     if piece.len() <= SETTLING {

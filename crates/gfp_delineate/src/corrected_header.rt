@@ -7,7 +7,7 @@ ghost use Rattle.gfp_model.specs.fcs_model.Near.{near};
 use gfp_headers::read_core;
 
 /// The PLI of the core header that four octets are, or else from which they differ in one bit.
-pub fn read_near(octets: &[u8; 4]) -> Option<u16>
+pub(crate) fn read_near(octets: &[u8; 4]) -> Option<u16>
     ensures value { result ≡ near octets.now }
     ensures some { IfSome result (λ pli. (pli ≡ 0) ⊎ (4 ≤ pli)) }
 {

@@ -13,7 +13,7 @@ const TWO_IDLES: u64 = 0xe031_abb6_e031_abb6;
 
 /// The number of idle headers that a piece begins with.
 #[inline]
-pub fn idle_run(piece: &[u8]) -> usize
+pub(crate) fn idle_run(piece: &[u8]) -> usize
     ensures within { 4 * result ≤ length piece.now }
     ensures run { take (4 * result) piece.now ≡ flat_map with_header (replicate result []) }
 {
@@ -127,7 +127,7 @@ fn is_idle(piece: &[u8], at: usize) -> bool
 }
 
 /// Whether the last octets of a header are the first ones of an idle frame's.
-pub fn begins_idle(window: &[u8; 4], have: u8) -> bool
+pub(crate) fn begins_idle(window: &[u8; 4], have: u8) -> bool
     requires { have < 4 }
     ensures begun { result ≡ true →
         drop (4 - have) window.now ≡ take have (0xb6 ∷ 0xab ∷ 0x31 ∷ 0xe0 ∷ []) }

@@ -114,7 +114,7 @@ impl AreaSender {
 
     /// Scrambles the next octets of the area where they lie: with this they are written.
     #[inline]
-    pub fn send_octets(&mut self, octets: &mut [u8])
+    pub(crate) fn send_octets(&mut self, octets: &mut [u8])
         requires { head_of self.old ≡ [] }
         ensures { (rest : List ℕ) (areas : List (List ℕ)) (place : ℕ) →
             StandsIn self.old (octets.old ++ rest) areas place →
@@ -159,7 +159,7 @@ impl AreaSender {
     }
 }
 
-// Writes as many whole idle frames as there is room for, and says how many octets they have.
+/// Writes as many whole idle frames as there is room for, and says how many octets they have.
 fn put_idles(out: &mut [u8]) -> usize
     ensures count { result ≡ 4 * (length out.old / 4) }
     ensures idles { take result out.new ≡ flat_map with_header (replicate (length out.old / 4) []) }

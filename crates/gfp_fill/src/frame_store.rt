@@ -152,7 +152,7 @@ impl BegunFrame {
         n
     }
 
-    // Begins with another frame, and gives the buffer of this one.
+    /// Begins with another frame, and gives the buffer of this one.
     #[inline]
     fn replace(&mut self, frame: Vec<u8>) -> Vec<u8>
         requires { HasFrameRoom frame }
@@ -164,7 +164,7 @@ impl BegunFrame {
     }
 }
 
-// Puts a frame into a buffer with room for it.
+/// Puts a frame into a buffer with room for it.
 fn refilled(mut buffer: Vec<u8>, frame: &[u8]) -> Vec<u8>
     requires { length frame.now ≤ vec_capacity buffer }
     ensures items { result.items ≡ frame.now }
@@ -178,7 +178,7 @@ fn refilled(mut buffer: Vec<u8>, frame: &[u8]) -> Vec<u8>
     }
 }
 
-// Puts a frame after those that wait, where there is room.
+/// Puts a frame after those that wait, where there is room.
 fn append(waiting: &mut VecDeque<Vec<u8>>, frame: Vec<u8>)
     requires { deque_len waiting.old < deque_capacity waiting.old }
     ensures items { waiting.new.items ≡ waiting.old.items ++ frame ∷ [] }
@@ -191,7 +191,7 @@ fn append(waiting: &mut VecDeque<Vec<u8>>, frame: Vec<u8>)
     }
 }
 
-// Puts a buffer among the spare ones, where there is room.
+/// Puts a buffer among the spare ones, where there is room.
 fn put_back(spare: &mut Vec<Vec<u8>>, buffer: Vec<u8>)
     requires { vec_len spare.old < vec_capacity spare.old }
     ensures items { spare.new.items ≡ spare.old.items ++ buffer ∷ [] }

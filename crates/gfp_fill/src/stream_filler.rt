@@ -58,7 +58,7 @@ impl Filler {
         *self = local;
     }
 
-    // Writes at least one octet, and none after the end of the piece, or of the idles, that it sends.
+    /// Writes at least one octet, and none after the end of the piece, or of the idles, that it sends.
     fn fill_some(&mut self, waiting: &mut FrameQueue, out: &mut [u8]) -> usize
         requires { 0 < length out.old }
         ensures some { 0 < result }

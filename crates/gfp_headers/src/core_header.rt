@@ -34,7 +34,7 @@ pub fn read_core(octets: &[u8; 4]) -> Option<u16>
     }
 }
 
-// Whether a header may have this PLI, and this is its check.
+/// Whether a header may have this PLI, and this is its check.
 #[inline]
 fn is_core(pli: u16, check: u16) -> bool
     ensures { IsTrue result ↔ (IsPli pli × (check ≡ hec_of pli)) }

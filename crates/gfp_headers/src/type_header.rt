@@ -75,8 +75,8 @@ pub fn read_type_linear(octets: &[u8; 4]) -> Result<(), TypeFault>
     read_with(octets, 0, 1)
 }
 
-// Whether these octets are the type header of an Ethernet frame with this PFI and this EXI, and what is wrong with them
-// where they are not.
+/// Whether these octets are the type header of an Ethernet frame with this PFI and this EXI, and what is wrong with them
+/// where they are not.
 #[inline]
 fn read_with(octets: &[u8; 4], pfi: u16, extension: u8) -> Result<(), TypeFault>
     requires pfi { pfi ≤ 1 }
@@ -109,8 +109,8 @@ pub(crate) fn word(upper: u8, lower: u8) -> u16
     u16::from_be_bytes([upper, lower])
 }
 
-// The first field of a type field (PTI, PFI, EXI, UPI) that is not that of an Ethernet frame with this PFI and
-// this EXI.
+/// The first field of a type field (PTI, PFI, EXI, UPI) that is not that of an Ethernet frame with this PFI and
+/// this EXI.
 #[inline]
 fn fault_of_field(field: u16, pfi: u16, extension: u8) -> Option<TypeFault>
     ensures { result ≡ field_fault_with pfi extension field }

@@ -69,7 +69,7 @@ impl BareItem {
     }
 
     /// Whether it is a command.
-    pub fn is_command(&self) -> bool
+    pub(crate) fn is_command(&self) -> bool
         ensures { result ≡ is_command self.now.kind }
     {
         match self.kind {

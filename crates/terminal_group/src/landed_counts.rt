@@ -36,7 +36,7 @@ impl LandedCounts {
     }
 
     /// The counts after one more, a frame or a command, refused or not.
-    pub fn and_one(self, client: bool, refused: bool) -> LandedCounts
+    pub(crate) fn and_one(self, client: bool, refused: bool) -> LandedCounts
         ensures { result ≡ with_landed self client refused }
     {
         LandedCounts {

@@ -67,7 +67,7 @@ fn push_lines(sq: u8, packets: &[Option<Packet>], active: &mut LineList)
 
 /// The lines that carry payload, in the order of their sequence numbers. Once all are found, no further
 /// number is tried.
-pub fn find_active(packets: &[Option<Packet>]) -> LineList
+pub(crate) fn find_active(packets: &[Option<Packet>]) -> LineList
     requires few { length packets.now ≤ 128 }
     ensures active { result ≡ active_of packets.now }
     ensures lines { AreLines (length packets.now) result }
@@ -84,7 +84,7 @@ pub fn find_active(packets: &[Option<Packet>]) -> LineList
 }
 
 /// The number of active members that the leader of a row of packets says.
-pub fn leading_act(packets: &[Option<Packet>]) -> Option<u8>
+pub(crate) fn leading_act(packets: &[Option<Packet>]) -> Option<u8>
     ensures { result ≡ act_of (leader packets.now) }
 {
     for packet in packets {

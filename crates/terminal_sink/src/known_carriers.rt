@@ -110,7 +110,7 @@ fn inferred(
 
 /// The lines that carry payload by a row, where that is known: those that its packets say, where they number the
 /// ACT of the leader, else those that can be inferred. The states and the watches are those after the row.
-pub fn known_carriers(
+pub(crate) fn known_carriers(
     row: &[Option<Packet>],
     states: &[SinkState],
     watches: &[MemberWatch],

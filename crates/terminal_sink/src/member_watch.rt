@@ -127,7 +127,7 @@ fn said_by(packet: &Packet) -> Option<u8>
 }
 
 /// Whether the control word is that of a member.
-pub fn is_member(ctrl: Ctrl) -> bool
+pub(crate) fn is_member(ctrl: Ctrl) -> bool
     ensures { result ≡ is_member ctrl }
 {
     !matches!(ctrl, Ctrl::Idle)

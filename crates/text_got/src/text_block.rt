@@ -49,7 +49,7 @@ impl TextBlock {
     }
 
     /// Adds the line of a delivered frame, and puts what waits where it is much.
-    pub fn add_got<K: ByteSink>(&mut self, frame: &[u8], out: &mut K) -> Result<(), Failed>
+    pub(crate) fn add_got<K: ByteSink>(&mut self, frame: &[u8], out: &mut K) -> Result<(), Failed>
         requires { length frame.now ≤ longest_frame }
         ensures ok { let text = self.old ++ got_text frame.now in
             OnOk result (Holds K.written K.faults out.old out.new self.new text) }

@@ -41,8 +41,8 @@ pub fn decode_into(text: &[u8], octets: &mut Vec<u8>) -> Result<(), NotHex>
     }
 }
 
-// Writes the octets that pairs of digits say, and says whether all were digits. It goes on to the last pair
-// in any case, so that no jump stands between the pairs.
+/// Writes the octets that pairs of digits say, and says whether all were digits. It goes on to the last pair
+/// in any case, so that no jump stands between the pairs.
 fn decode(text: &[u8], octets: &mut [u8]) -> bool
     requires { length text.now ≡ 2 * length octets.old }
     ensures yes { result ≡ true → decode_of text.now ≡ Ok octets.new }
@@ -63,7 +63,7 @@ fn decode(text: &[u8], octets: &mut [u8]) -> bool
     right
 }
 
-// Writes the octets that sixteen pairs of digits say, and says whether all were digits.
+/// Writes the octets that sixteen pairs of digits say, and says whether all were digits.
 #[inline]
 fn decode_sixteen(text: &[u8], at: usize, octets: &mut [u8]) -> bool
     requires pairs { at + 32 ≤ length text.now }
@@ -82,7 +82,7 @@ fn decode_sixteen(text: &[u8], at: usize, octets: &mut [u8]) -> bool
     are_digits(upper, lower)
 }
 
-// The first digits of sixteen pairs, and the second ones.
+/// The first digits of sixteen pairs, and the second ones.
 #[inline]
 fn columns(text: &[u8], at: usize) -> (u8x16, u8x16)
     requires { at + 32 ≤ length text.now }
@@ -96,7 +96,7 @@ fn columns(text: &[u8], at: usize) -> (u8x16, u8x16)
     front.deinterleave(back)
 }
 
-// The octets of values of two digits each.
+/// The octets of values of two digits each.
 #[inline]
 fn joined(upper: u8x16, lower: u8x16) -> u8x16
     requires uppers { length upper ≡ 16 }

@@ -23,7 +23,7 @@ pub fn encode(octets: &[u8], text: &mut [u8])
     encode_each(&octets[whole..], back);
 }
 
-// Writes octets one by one.
+/// Writes octets one by one.
 fn encode_each(octets: &[u8], text: &mut [u8])
     requires { length text.old ≡ 2 * length octets.now }
     ensures { text.new ≡ encode_lower octets.now }
@@ -34,7 +34,7 @@ fn encode_each(octets: &[u8], text: &mut [u8])
     }
 }
 
-// Writes octets sixteen by sixteen.
+/// Writes octets sixteen by sixteen.
 fn encode_sixteens(octets: &[u8], text: &mut [u8])
     requires sixteens { length octets.now % 16 ≡ 0 }
     requires room { length text.old ≡ 2 * length octets.now }
@@ -48,7 +48,7 @@ fn encode_sixteens(octets: &[u8], text: &mut [u8])
     }
 }
 
-// Writes sixteen octets.
+/// Writes sixteen octets.
 #[inline]
 fn encode_sixteen(octets: &[u8], text: &mut [u8])
     requires sixteen { length octets.now ≡ 16 }
@@ -62,7 +62,7 @@ fn encode_sixteen(octets: &[u8], text: &mut [u8])
     back.copy_to_slice(second);
 }
 
-// The upper halves of octets.
+/// The upper halves of octets.
 #[inline]
 fn uppers(all: u8x16) -> u8x16
     ensures { (i : ℕ) → i < 16 → slice_index result i ≡ slice_index all i / 16 }
@@ -70,7 +70,7 @@ fn uppers(all: u8x16) -> u8x16
     all / u8x16::splat(16)
 }
 
-// The lower halves of octets.
+/// The lower halves of octets.
 #[inline]
 fn lowers(all: u8x16) -> u8x16
     ensures { (i : ℕ) → i < 16 → slice_index result i ≡ slice_index all i % 16 }
@@ -78,7 +78,7 @@ fn lowers(all: u8x16) -> u8x16
     all % u8x16::splat(16)
 }
 
-// The digits of values, by a table.
+/// The digits of values, by a table.
 #[inline]
 fn digits(values: u8x16) -> u8x16
     requires { (i : ℕ) → i < 16 → slice_index values i < 16 }

@@ -8,7 +8,7 @@ use crate::text_faults::{FieldFault, FieldStop};
 use std::alloc::Global;
 use text_hex::decode_into;
 
-// The value of one to ten decimal digits.
+/// The value of one to ten decimal digits.
 fn read_number(word: &[u8]) -> Option<u64>
     ensures some { IfSome result (λ n. (is_number word.now ≡ true) × (n ≡ number_of word.now)) }
     ensures none { IfNone result (is_number word.now ≡ false) }

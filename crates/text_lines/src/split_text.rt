@@ -18,7 +18,7 @@ pub(crate) fn cut(text: &[u8], octet: u8) -> Option<(&[u8], &[u8])>
     Some((&text[..end], &text[end + 1..]))
 }
 
-// A line without the CR at its end.
+/// A line without the CR at its end.
 fn without_return(line: &[u8]) -> &[u8]
     ensures { result.now ≡ strip_carriage_return line.now }
 {

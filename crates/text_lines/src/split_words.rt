@@ -4,7 +4,7 @@ ghost use Rattle.text_lines.specs.Words.{words, is_skipped};
 
 use crate::split_text::cut;
 
-// A text without the spaces at its front.
+/// A text without the spaces at its front.
 fn trim_start(mut text: &[u8]) -> &[u8]
     ensures words { words result.now ≡ words text.now }
     ensures first { (c : ℕ) (rest : List ℕ) → result.now ≡ c ∷ rest → c ≢ 32 }

@@ -39,7 +39,7 @@ pub(crate) enum FirstWord {
     Other,
 }
 
-// The part of options and windows that a first word is of.
+/// The part of options and windows that a first word is of.
 fn option_part(word: &[u8]) -> Option<EarlierPart>
     ensures { result ≡ option_part word.now }
 {
@@ -60,7 +60,7 @@ fn option_part(word: &[u8]) -> Option<EarlierPart>
     }
 }
 
-// The part of a script that a first word is of.
+/// The part of a script that a first word is of.
 fn earlier_part(word: &[u8]) -> Option<EarlierPart>
     ensures { result ≡ earlier_part word.now }
 {
@@ -82,7 +82,7 @@ fn earlier_part(word: &[u8]) -> Option<EarlierPart>
 }
 
 impl LiveKeyword {
-    // The keyword that a word is.
+    /// The keyword that a word is.
     fn of(word: &[u8]) -> Option<LiveKeyword>
         ensures { result ≡ live_keyword word.now }
     {

@@ -11,7 +11,7 @@ use text_lines::FieldFault;
 /// The octets of the longest frame that a text may say.
 pub(crate) const MOST_OCTETS: usize = 65_535;
 
-// Whether a text is pairs of hexadecimal digits.
+/// Whether a text is pairs of hexadecimal digits.
 fn is_hex(text: &[u8]) -> bool
     ensures yes { result ≡ true → (bytes : List ℕ) × (decode_of text.now ≡ Ok bytes) }
     ensures no { result ≡ false → (bytes : List ℕ) → decode_of text.now ≢ Ok bytes }
@@ -27,7 +27,7 @@ fn is_hex(text: &[u8]) -> bool
     true
 }
 
-// What is wrong with digits that say more octets than a frame may have.
+/// What is wrong with digits that say more octets than a frame may have.
 fn long_fault(digits: &[u8]) -> FieldFault
     requires { 65536 ≤ length digits.now / 2 }
     ensures { octets_fault 2 1 65535 (decode_of digits.now) ≡ Some result }

@@ -39,7 +39,7 @@ pub struct LiveReader {
     fault: Option<LiveFault>,
 }
 
-// The lines of a script with one more.
+/// The lines of a script with one more.
 fn next_script(alloc: Global, reader: ScriptReader, line: &[u8]) -> Result<ScriptReader, LiveFault>
     requires reader { IsReader reader }
     requires room { HasNumbersLeft reader 1 }
@@ -57,7 +57,7 @@ fn next_script(alloc: Global, reader: ScriptReader, line: &[u8]) -> Result<Scrip
     }
 }
 
-// The configuration that lines of a script say, where it is whole and fits.
+/// The configuration that lines of a script say, where it is whole and fits.
 fn opened(reader: ScriptReader) -> Result<Config, LiveFault>
     requires reader { IsReader reader }
     requires room { HasNumbersLeft reader 0 }
@@ -122,7 +122,7 @@ impl LiveReader {
         self.config.take()
     }
 
-    // Reads no more, for this fault of the line that is read.
+    /// Reads no more, for this fault of the line that is read.
     fn stop(&mut self, fault: LiveLineFault) -> LiveFault
         requires { IsLiveReader self.old }
         ensures fault { result ≡ LiveFault.Line (line_at self.old) fault }
@@ -137,7 +137,7 @@ impl LiveReader {
         stop
     }
 
-    // Reads a line that says nothing.
+    /// Reads a line that says nothing.
     fn read_blank(&mut self, line: &[u8]) -> Result<LiveLine, LiveFault>
         requires reader { IsLiveReader self.old }
         requires room { HasLinesLeft self.old }
@@ -167,7 +167,7 @@ impl LiveReader {
         }
     }
 
-    // Reads a line that scripts have.
+    /// Reads a line that scripts have.
     fn read_setting(&mut self, part: EarlierPart, line: &[u8]) -> Result<LiveLine, LiveFault>
         requires reader { IsLiveReader self.old }
         requires room { HasLinesLeft self.old }
@@ -196,7 +196,7 @@ impl LiveReader {
         }
     }
 
-    // Begins with live lines, where none has come.
+    /// Begins with live lines, where none has come.
     fn open(&mut self) -> Result<(), LiveFault>
         requires reader { IsLiveReader self.old }
         requires goes_on { failure self.old ≡ None }
@@ -229,7 +229,7 @@ impl LiveReader {
         }
     }
 
-    // Reads a live line by its keyword and the words behind it.
+    /// Reads a live line by its keyword and the words behind it.
     fn read_live(&mut self, keyword: LiveKeyword, rest: &[u8]) -> Result<LiveLine, LiveFault>
         requires reader { IsLiveReader self.old }
         requires room { HasLinesLeft self.old }

@@ -40,7 +40,7 @@ pub(crate) struct LiveState {
     pub lines: Vec<LineState>,
 }
 
-// The fault of a line that has not one word behind its first.
+/// The fault of a line that has not one word behind its first.
 fn count_fault(keyword: LiveKeyword, rest: &[u8]) -> LiveLineFault
     ensures { result ≡ LiveLineFault.Count keyword (length (words rest.now)) }
 {
@@ -50,7 +50,7 @@ fn count_fault(keyword: LiveKeyword, rest: &[u8]) -> LiveLineFault
     }
 }
 
-// What is kept of a line before it is cut.
+/// What is kept of a line before it is cut.
 fn before_cut(list: &WindowList) -> LineState
     requires { length list.now ≤ 256 }
     ensures { result ≡ state_of (uncut list.now) }
@@ -66,7 +66,7 @@ fn before_cut(list: &WindowList) -> LineState
     }
 }
 
-// The one word of a line, which is a number from `least` to `most`.
+/// The one word of a line, which is a number from `least` to `most`.
 fn one_number(
     keyword: LiveKeyword,
     rest: &[u8],
@@ -86,7 +86,7 @@ fn one_number(
 }
 
 impl LineState {
-    // What is wrong with a failure of line `member` that begins now.
+    /// What is wrong with a failure of line `member` that begins now.
     fn cut_fault(self, ticks: u32, passed: u32, member: u8) -> Option<LiveLineFault>
         requires { HasFew self }
         ensures { result ≡ cut_fault_by ticks passed member self.failures self.end self.cut }
@@ -106,7 +106,7 @@ impl LineState {
         None
     }
 
-    // What is wrong with the end of one.
+    /// What is wrong with the end of one.
     fn mend_fault(self, ticks: u32, passed: u32, member: u8) -> Option<LiveLineFault>
         ensures { result ≡ mend_fault_by ticks passed member self.cut }
     {
@@ -119,7 +119,7 @@ impl LineState {
         None
     }
 
-    // What is kept of the line once its failure has ended. One that damaged no container is none.
+    /// What is kept of the line once its failure has ended. One that damaged no container is none.
     fn mended(self, passed: u32) -> LineState
         requires { HasFew self }
         ensures state { result ≡ mended_state passed self }
@@ -162,7 +162,7 @@ impl LiveState {
         }
     }
 
-    // Reads that a command is given, and the line that it names.
+    /// Reads that a command is given, and the line that it names.
     fn read_command(&self, keyword: LiveKeyword, rest: &[u8]) -> Result<u8, LiveLineFault>
         ensures fine { OnOk result
             (command_fault self.now.ticks self.now.passed keyword (words rest.now) ≡ None) }
@@ -180,7 +180,7 @@ impl LiveState {
         Ok(line)
     }
 
-    // Reads that a frame is sent.
+    /// Reads that a frame is sent.
     fn read_frame(&self, rest: &[u8], octets: &mut Vec<u8>) -> Result<(), LiveLineFault>
         requires { 65535 ≤ vec_capacity octets.old }
         ensures room { 65535 ≤ vec_capacity octets.new }
@@ -203,7 +203,7 @@ impl LiveState {
         Ok(())
     }
 
-    // Reads that a line is cut.
+    /// Reads that a line is cut.
     fn cut(&mut self, rest: &[u8]) -> Result<u8, LiveLineFault>
         requires { IsKept self.old }
         ensures kept { IsKept self.new }
@@ -225,7 +225,7 @@ impl LiveState {
         Ok(member)
     }
 
-    // Reads that it is mended.
+    /// Reads that it is mended.
     fn mend(&mut self, rest: &[u8]) -> Result<u8, LiveLineFault>
         requires { IsKept self.old }
         ensures kept { IsKept self.new }
@@ -247,7 +247,7 @@ impl LiveState {
         Ok(member)
     }
 
-    // Reads that ticks pass.
+    /// Reads that ticks pass.
     fn pass(&mut self, rest: &[u8]) -> Result<u32, LiveLineFault>
         requires { IsKept self.old }
         ensures kept { IsKept self.new }

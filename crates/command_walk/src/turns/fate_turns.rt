@@ -100,7 +100,7 @@ fn see_walk(
 }
 
 /// Reads a script, makes its walk and sees it.
-pub fn see_script<S: ByteSource>(alloc: Global, source: &mut S) -> Result<WatchedWalk, Stop>
+pub(crate) fn see_script<S: ByteSource>(alloc: Global, source: &mut S) -> Result<WatchedWalk, Stop>
     ensures script { IfOk result (λ watched.
         HasScript (lent S.left S.faults source.old source.new) watched.walk.script) }
     ensures counts { IfOk result (λ watched.

@@ -46,7 +46,7 @@ fn begin_script(alloc: Global, script: Script) -> Result<ReadyWalk, AllocError>
 }
 
 /// Reads a script, and takes the memory for its walk.
-pub fn read_walk<S: ByteSource>(alloc: Global, source: &mut S) -> Result<ReadyWalk, Stop>
+pub(crate) fn read_walk<S: ByteSource>(alloc: Global, source: &mut S) -> Result<ReadyWalk, Stop>
     ensures script { IfOk result (λ begun.
         HasScript (lent S.left S.faults source.old source.new) begun.walk.script) }
     ensures begun { IfOk result (λ begun. IsBegun begun.walk.script begun) }

@@ -105,7 +105,7 @@ fn tell_turn<F: MayFail, E: ByteSink>(
 }
 
 /// Makes a turn.
-pub fn make_turn<F: FrameOut>(walk: &mut Walk, turn: Turn, out: &mut F)
+pub(crate) fn make_turn<F: FrameOut>(walk: &mut Walk, turn: Turn, out: &mut F)
     requires { IsTurn (walk_plan (leg_of walk.old.script)) turn }
     ensures script { walk.new.script ≡ walk.old.script }
     ensures counts { let plan = walk_plan (leg_of walk.old.script) in
@@ -126,7 +126,7 @@ pub fn make_turn<F: FrameOut>(walk: &mut Walk, turn: Turn, out: &mut F)
 }
 
 /// Makes a turn, of which nothing is told.
-pub fn silent_turn(walk: &mut Walk, turn: Turn)
+pub(crate) fn silent_turn(walk: &mut Walk, turn: Turn)
     requires { IsTurn (walk_plan (leg_of walk.old.script)) turn }
     ensures script { walk.new.script ≡ walk.old.script }
     ensures counts { let plan = walk_plan (leg_of walk.old.script) in
@@ -211,7 +211,7 @@ fn write_rest<K: ByteSink>(walk: &Walk, got: &mut GotLines<K>)
 }
 
 /// Makes a walk, and writes what comes of it and its trace.
-pub fn write_trace<K: ByteSink, E: ByteSink>(
+pub(crate) fn write_trace<K: ByteSink, E: ByteSink>(
     walk: &mut Walk,
     lines: &[EventLine],
     size: LinesAndTicks,

@@ -56,7 +56,7 @@ impl LinearFiller {
         *self = local;
     }
 
-    // Writes at least one octet, and none after the end of the piece, or of the idles, that it sends.
+    /// Writes at least one octet, and none after the end of the piece, or of the idles, that it sends.
     fn fill_some(&mut self, waiting: &mut LinearQueue, out: &mut [u8]) -> usize
         requires { 0 < length out.old }
         ensures some { 0 < result }
@@ -79,7 +79,7 @@ impl LinearFiller {
     }
 }
 
-// The two headers in the area of a frame of a channel, as they are before scrambling.
+/// The two headers in the area of a frame of a channel, as they are before scrambling.
 fn area_headers(cid: u8) -> [u8; 8]
     ensures { result ≡ linear_header ++ extension_header cid }
 {

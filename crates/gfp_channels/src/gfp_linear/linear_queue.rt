@@ -121,7 +121,7 @@ impl LinearQueue {
         Some((cid, n))
     }
 
-    // The place, among the channels with a frame, of the one whose turn it is.
+    /// The place, among the channels with a frame, of the one whose turn it is.
     fn turn(&self) -> Option<usize>
         ensures none { IfNone result (turn self.now.channels ≡ None) }
         ensures some { IfSome result (λ at. (cid : ℕ) →

@@ -127,7 +127,7 @@ impl Windows {
     }
 }
 
-// What comes of a container: the first window that ends above it damages it, or none does.
+/// What comes of a container: the first window that ends above it damages it, or none does.
 fn carried_at(list: &[Window], n: u32) -> Carried
     requires { AreWindows 0 list.now }
     ensures { result ≡ carried list.now n }
@@ -136,7 +136,7 @@ fn carried_at(list: &[Window], n: u32) -> Carried
     carried_by_first(&list[passed..], n)
 }
 
-// What comes of a container that the first window, if any, or none at all damages.
+/// What comes of a container that the first window, if any, or none at all damages.
 fn carried_by_first(list: &[Window], n: u32) -> Carried
     requires { IsFirstAbove n list.now }
     ensures { result ≡ carried list.now n }
@@ -170,7 +170,7 @@ pub fn greatest_slip(list: &[Window]) -> u32
     most
 }
 
-// What comes of a container of a window.
+/// What comes of a container of a window.
 fn carried_in_window(window: &Window, n: u32) -> Carried
     requires { n < window.now.end }
     ensures { result ≡ carried_in window.now n }
@@ -182,7 +182,7 @@ fn carried_in_window(window: &Window, n: u32) -> Carried
     }
 }
 
-// A list of one's own, with room for each window that a line may have.
+/// A list of one's own, with room for each window that a line may have.
 fn copied(alloc: Global, list: &[Window]) -> Result<Vec<Window>, AllocError>
     ensures items { IfOk result (λ copy. copy.items ≡ list.now) }
     ensures room { IfOk result (λ copy. 256 ≤ vec_capacity copy) }
@@ -192,7 +192,7 @@ fn copied(alloc: Global, list: &[Window]) -> Result<Vec<Window>, AllocError>
     Ok(copy)
 }
 
-// The sum of slips of the run that a window ends, after a run of this sum up to this end.
+/// The sum of slips of the run that a window ends, after a run of this sum up to this end.
 fn run_with(run: u32, end: u32, window: &Window) -> u32
     requires sum { run ≤ end }
     requires apart { end ≤ window.now.first }

@@ -22,7 +22,7 @@ pub enum WindowFault {
     Memory,
 }
 
-// The fault of window `i`, where the window before it ends at `end`.
+/// The fault of window `i`, where the window before it ends at `end`.
 fn fault_of_window(i: u16, end: u32, window: &Window) -> Option<WindowFault>
     ensures { result ≡ fault_of i end window.now }
 {

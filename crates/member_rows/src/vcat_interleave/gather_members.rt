@@ -48,7 +48,7 @@ pub fn gather_places(
     gather_each(containers, active, place + done, places - done, back);
 }
 
-// Writes a row of at least sixteen members at a number of places that sixteen divides.
+/// Writes a row of at least sixteen members at a number of places that sixteen divides.
 fn gather_squares(
     containers: &[Box<HeldContainer>],
     active: &[u8],
@@ -71,7 +71,7 @@ fn gather_squares(
     }
 }
 
-// Writes a row of at least sixteen members at sixteen places. The last square begins where sixteen ranks are left.
+/// Writes a row of at least sixteen members at sixteen places. The last square begins where sixteen ranks are left.
 fn gather_sixteen(containers: &[Box<HeldContainer>], active: &[u8], place: usize, out: &mut [u8])
     requires lines { AreLines (length containers.now) active.now }
     requires least { 16 ≤ length active.now }
@@ -91,7 +91,7 @@ fn gather_sixteen(containers: &[Box<HeldContainer>], active: &[u8], place: usize
     }
 }
 
-// Sixteen places of the members of up to sixteen ranks.
+/// Sixteen places of the members of up to sixteen ranks.
 #[inline]
 fn rows_of(
     containers: &[Box<HeldContainer>],
@@ -114,7 +114,7 @@ fn rows_of(
     rows
 }
 
-// What the member of a rank carries.
+/// What the member of a rank carries.
 #[inline]
 fn payload<'a>(
     containers: &'a [Box<HeldContainer>],
@@ -128,7 +128,7 @@ fn payload<'a>(
     &containers[usize::from(active[rank])].container().payload
 }
 
-// Puts sixteen octets of each of sixteen places.
+/// Puts sixteen octets of each of sixteen places.
 #[inline]
 fn put_rows(rows: &[u8x16; 16], rank: usize, x: usize, out: &mut [u8])
     requires rank { rank + 16 ≤ x }
@@ -143,7 +143,7 @@ fn put_rows(rows: &[u8x16; 16], rank: usize, x: usize, out: &mut [u8])
     }
 }
 
-// What the member of a rank carries at `places` places from `place` on.
+/// What the member of a rank carries at `places` places from `place` on.
 #[inline]
 fn piece<'a>(
     containers: &'a [Box<HeldContainer>],
@@ -162,7 +162,7 @@ fn piece<'a>(
     &payload(containers, active, rank)[place..place + places]
 }
 
-// Writes a row of one member, of two or of more.
+/// Writes a row of one member, of two or of more.
 fn gather_each(
     containers: &[Box<HeldContainer>],
     active: &[u8],
@@ -186,7 +186,7 @@ fn gather_each(
     }
 }
 
-// Writes a row of some members: by squares as far as these reach, and then member by member.
+/// Writes a row of some members: by squares as far as these reach, and then member by member.
 fn gather_some(
     containers: &[Box<HeldContainer>],
     active: &[u8],
@@ -207,8 +207,8 @@ fn gather_some(
     gather_ranks(containers, active, place + done, places - done, back);
 }
 
-// How many squares of places are gathered where fewer ranks than a square has are there: none that reaches
-// behind the end of the row.
+/// How many squares of places are gathered where fewer ranks than a square has are there: none that reaches
+/// behind the end of the row.
 fn squares_below(x: usize, len: usize) -> usize
     ensures within { (places : ℕ) → len ≡ places * x → result * 16 ≤ places }
     ensures few { 0 < result → x ≤ 16 }
@@ -217,7 +217,7 @@ fn squares_below(x: usize, len: usize) -> usize
     if x > SIDE { 0 } else { squares_over(x, len) }
 }
 
-// Writes a row of up to sixteen members at a number of places that sixteen divides. The octets behind it change.
+/// Writes a row of up to sixteen members at a number of places that sixteen divides. The octets behind it change.
 fn gather_few(
     containers: &[Box<HeldContainer>],
     active: &[u8],
@@ -241,7 +241,7 @@ fn gather_few(
     }
 }
 
-// Writes a row of up to sixteen members at sixteen places. The octets behind it change.
+/// Writes a row of up to sixteen members at sixteen places. The octets behind it change.
 fn gather_square(containers: &[Box<HeldContainer>], active: &[u8], place: usize, out: &mut [u8])
     requires lines { AreLines (length containers.now) active.now }
     requires few { length active.now ≤ 16 }
@@ -254,8 +254,8 @@ fn gather_square(containers: &[Box<HeldContainer>], active: &[u8], place: usize,
     put_places(&turned(rows_of(containers, active, 0, x, place)), x, out);
 }
 
-// Puts the octets of up to sixteen members at sixteen places, one place after another: what is put behind a
-// place is put over.
+/// Puts the octets of up to sixteen members at sixteen places, one place after another: what is put behind a
+/// place is put over.
 #[inline]
 fn put_places(rows: &[u8x16; 16], x: usize, out: &mut [u8])
     requires few { x ≤ 16 }
@@ -268,7 +268,7 @@ fn put_places(rows: &[u8x16; 16], x: usize, out: &mut [u8])
     }
 }
 
-// Writes a row member by member.
+/// Writes a row member by member.
 fn gather_ranks(
     containers: &[Box<HeldContainer>],
     active: &[u8],

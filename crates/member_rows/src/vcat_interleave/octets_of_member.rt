@@ -49,7 +49,7 @@ pub(super) fn take_part(row: &[u8], rank: usize, x: usize, again: bool, octets: 
     }
 }
 
-// Takes the octets of one of two members.
+/// Takes the octets of one of two members.
 fn take_half(row: &[u8], rank: usize, octets: &mut [u8])
     requires rank { rank < 2 }
     requires row { length row.now ≡ length octets.old * 2 }
@@ -64,7 +64,7 @@ fn take_half(row: &[u8], rank: usize, octets: &mut [u8])
     }
 }
 
-// The octets of one of two members at sixteen places.
+/// The octets of one of two members at sixteen places.
 #[inline]
 fn half_of(row: &[u8], rank: usize, place: usize) -> u8x16
     requires rank { rank < 2 }
@@ -76,7 +76,7 @@ fn half_of(row: &[u8], rank: usize, place: usize) -> u8x16
     if rank == 0 { firsts } else { seconds }
 }
 
-// Of the octets of two vectors, one after the other, those that stand first and those that stand second.
+/// Of the octets of two vectors, one after the other, those that stand first and those that stand second.
 #[inline]
 fn by_turns(a: u8x16, b: u8x16) -> (u8x16, u8x16)
     ensures firsts { (i : ℕ) → i < 16 →
@@ -88,7 +88,7 @@ fn by_turns(a: u8x16, b: u8x16) -> (u8x16, u8x16)
     a.deinterleave(b)
 }
 
-// Takes the octets of a member where these come again and again in the row.
+/// Takes the octets of a member where these come again and again in the row.
 fn take_again(row: &[u8], rank: usize, x: usize, octets: &mut [u8])
     requires rank { rank < x }
     requires row { length row.now ≡ length octets.old * x }
@@ -106,7 +106,7 @@ fn take_again(row: &[u8], rank: usize, x: usize, octets: &mut [u8])
     }
 }
 
-// The octets of a member at sixteen places, where these come again and again in the row.
+/// The octets of a member at sixteen places, where these come again and again in the row.
 fn sixteen_of(row: &[u8], rank: usize, x: usize) -> u8x16
     requires rank { rank < x }
     requires some { 4 * x ≤ length row.now }

@@ -56,7 +56,7 @@ pub fn spread_places(
     }
 }
 
-// Spreads a row by squares as far as these reach, and then member by member.
+/// Spreads a row by squares as far as these reach, and then member by member.
 fn spread_by_squares(
     row: &[u8],
     active: &[u8],
@@ -79,8 +79,8 @@ fn spread_by_squares(
     spread_each(back, active, place + done, places - done, false, containers);
 }
 
-// Spreads a row at a number of places that sixteen divides. No more than sixteen payloads are written at
-// once: caches follow these.
+/// Spreads a row at a number of places that sixteen divides. No more than sixteen payloads are written at
+/// once: caches follow these.
 fn spread_squares(
     row: &[u8],
     active: &[u8],
@@ -103,7 +103,7 @@ fn spread_squares(
     spread_last(row, active, x / SIDE * SIDE, place, squares, containers);
 }
 
-// Spreads a row over the last members, fewer than sixteen, once those of all ranks before them have it.
+/// Spreads a row over the last members, fewer than sixteen, once those of all ranks before them have it.
 fn spread_last(
     row: &[u8],
     active: &[u8],
@@ -132,7 +132,7 @@ fn spread_last(
     }
 }
 
-// Spreads a row over the members of up to sixteen ranks.
+/// Spreads a row over the members of up to sixteen ranks.
 #[inline]
 fn spread_ranks(
     row: &[u8],
@@ -161,7 +161,7 @@ fn spread_ranks(
     }
 }
 
-// Spreads a row over the members of up to sixteen ranks at sixteen places.
+/// Spreads a row over the members of up to sixteen ranks at sixteen places.
 #[inline]
 fn spread_square(
     row: &[u8],
@@ -186,7 +186,7 @@ fn spread_square(
     }
 }
 
-// Sixteen octets from a rank on at each of sixteen places of a row.
+/// Sixteen octets from a rank on at each of sixteen places of a row.
 #[inline]
 fn rows_between(row: &[u8], rank: usize, x: usize) -> [u8x16; 16]
     requires room { 15 * x + (rank + 16) ≤ length row.now }
@@ -200,7 +200,7 @@ fn rows_between(row: &[u8], rank: usize, x: usize) -> [u8x16; 16]
     rows
 }
 
-// Puts sixteen octets at a place of a line's payload.
+/// Puts sixteen octets at a place of a line's payload.
 #[inline]
 fn put_member(octets: u8x16, place: usize, line: usize, containers: &mut [Box<HeldContainer>])
     requires line { line < length containers.old }
@@ -215,7 +215,7 @@ fn put_member(octets: u8x16, place: usize, line: usize, containers: &mut [Box<He
     put_octets(octets, place, &mut containers[line].container_mut().payload);
 }
 
-// Spreads a row member by member, whose octets come again and again where `again` says so.
+/// Spreads a row member by member, whose octets come again and again where `again` says so.
 fn spread_each(
     row: &[u8],
     active: &[u8],
@@ -239,7 +239,7 @@ fn spread_each(
     }
 }
 
-// Puts the part of a row that a rank carries at a place of a line's payload.
+/// Puts the part of a row that a rank carries at a place of a line's payload.
 fn put_part(
     row: &[u8],
     rank: usize,
@@ -265,7 +265,7 @@ fn put_part(
     put_piece(row, rank, x, place, places, again, payload);
 }
 
-// Puts the part of a row that a rank carries at a place of a payload.
+/// Puts the part of a row that a rank carries at a place of a payload.
 #[inline]
 fn put_piece(
     row: &[u8],

@@ -7,7 +7,7 @@ use std::simd::prelude::*;
 /// The rows and the columns of a square.
 pub(super) const SIDE: usize = 16;
 
-// The octets of both, one of each in turn.
+/// The octets of both, one of each in turn.
 #[inline]
 fn in_turn(a: u8x16, b: u8x16) -> (u8x16, u8x16)
     ensures front { (n : ℕ) → n < 8 →
@@ -20,7 +20,7 @@ fn in_turn(a: u8x16, b: u8x16) -> (u8x16, u8x16)
     a.interleave(b)
 }
 
-// The rows of the upper half and those of the lower half, in turn octet by octet.
+/// The rows of the upper half and those of the lower half, in turn octet by octet.
 #[inline]
 fn round(rows: [u8x16; 16]) -> [u8x16; 16]
     ensures { (r c : ℕ) → r < 16 → c < 16 →

@@ -7,7 +7,7 @@ use crate::pair_script::script_pair::{PairFault, ScriptPair};
 use law_model::Script;
 use text_scripts::script_read::limit_fault;
 
-// What keeps two scripts from going together.
+/// What keeps two scripts from going together.
 fn fit_fault(there: &Script, back: &Script) -> Option<PairFault>
     ensures { result ≡ fit_fault there.now back.now }
 {

@@ -29,7 +29,7 @@ pub struct PairReader {
     reader: ScriptReader,
 }
 
-// Whether a line has the one word that divides.
+/// Whether a line has the one word that divides.
 fn is_division(line: &[u8]) -> bool
     ensures { result ≡ is_division (words line.now) }
 {
@@ -39,7 +39,7 @@ fn is_division(line: &[u8]) -> bool
     }
 }
 
-// Ends the first script at the line that divides.
+/// Ends the first script at the line that divides.
 fn divide(alloc: Global, first: ScriptReader) -> Result<PairReader, PairFault>
     requires reader { IsReader first }
     requires room { HasNumbersLeft first 1 }
@@ -73,7 +73,7 @@ impl PairReader {
         }
     }
 
-    // Whether a line is the one that divides.
+    /// Whether a line is the one that divides.
     fn divides(&self, line: &[u8]) -> bool
         ensures { result ≡ divides (halves_of self.now) (words line.now) }
     {
@@ -83,7 +83,7 @@ impl PairReader {
         }
     }
 
-    // Reads one line, without its end.
+    /// Reads one line, without its end.
     fn read_next(self, alloc: Global, line: &[u8]) -> Result<PairReader, PairFault>
         requires reader { IsPairReader self }
         requires room { HasPairRoom self 1 }
@@ -106,7 +106,7 @@ impl PairReader {
         }
     }
 
-    // Reads the whole lines at the front of a piece, and says how many octets they have.
+    /// Reads the whole lines at the front of a piece, and says how many octets they have.
     fn read_lines(self, alloc: Global, piece: &[u8]) -> Result<(PairReader, usize), PairFault>
         requires reader { IsPairReader self }
         requires room { HasPairRoom self (length piece.now) }
@@ -150,7 +150,7 @@ impl PairReader {
         }
     }
 
-    // Reads what is left behind the whole lines of a text: nothing, or a line that lacks its end.
+    /// Reads what is left behind the whole lines of a text: nothing, or a line that lacks its end.
     fn read_tail(self, alloc: Global, last: &[u8]) -> Result<PairReader, PairFault>
         requires reader { IsPairReader self }
         requires room { HasPairRoom self (length last.now) }
@@ -167,7 +167,7 @@ impl PairReader {
         self.read_next(alloc, last)
     }
 
-    // Reads the rest of a text, whose last line may lack its end.
+    /// Reads the rest of a text, whose last line may lack its end.
     fn read_last(self, alloc: Global, rest: &[u8]) -> Result<PairReader, PairFault>
         requires reader { IsPairReader self }
         requires room { HasPairRoom self (length rest.now) }
@@ -183,7 +183,7 @@ impl PairReader {
         }
     }
 
-    // The scripts that its lines say after the last of them, of which neither is tested as a whole.
+    /// The scripts that its lines say after the last of them, of which neither is tested as a whole.
     fn end(self) -> Result<ScriptPair, PairFault>
         requires reader { IsPairReader self }
         requires room { HasPairRoom self 0 }

@@ -117,14 +117,14 @@ impl LineTable {
     }
 
     /// Whether the last change is acknowledged.
-    pub fn is_acknowledged(&self) -> bool
+    pub(crate) fn is_acknowledged(&self) -> bool
         ensures { result ≡ self.now.acknowledged }
     {
         self.acknowledged
     }
 
     /// The number of changes, modulo 2.
-    pub fn change_bit(&self) -> bool
+    pub(crate) fn change_bit(&self) -> bool
         ensures { result ≡ (self.now.count % 2 == 1) }
     {
         self.changes % 2 == 1
@@ -139,7 +139,7 @@ impl LineTable {
     }
 
     /// How many lines carry payload.
-    pub fn active_count(&self) -> u8
+    pub(crate) fn active_count(&self) -> u8
         ensures { result ≡ length (active self.now) }
     {
         active_count(&self.members)

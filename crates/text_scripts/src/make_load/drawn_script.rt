@@ -10,7 +10,7 @@ use law_model::{
 };
 use std::alloc::{AllocError, Global};
 
-// A frame: its length, and its octets.
+/// A frame: its length, and its octets.
 fn frame(alloc: Global, draws: &mut Draws) -> Result<Octets, AllocError>
     ensures octets { IfOk result (λ octets. octets ≡ frame_of draws.old.state) }
     ensures state { OnOk result (draws.new.state ≡ after_frame draws.old.state) }
@@ -19,7 +19,7 @@ fn frame(alloc: Global, draws: &mut Draws) -> Result<Octets, AllocError>
     draws.octets(alloc, count)
 }
 
-// The addition of each line.
+/// The addition of each line.
 #[tactic(auto, using(crate::proofs::MakeLoadLaws::LoadLaws::additions_next))]
 fn add_lines(alloc: Global, lines: u8) -> Result<Vec<Item>, AllocError>
     ensures { IfOk result (λ items. items.items ≡ additions lines) }
@@ -34,7 +34,7 @@ fn add_lines(alloc: Global, lines: u8) -> Result<Vec<Item>, AllocError>
     Ok(items)
 }
 
-// Appends a frame for each eight ticks that are begun.
+/// Appends a frame for each eight ticks that are begun.
 #[tactic(auto, using(crate::proofs::MakeLoadLaws::LoadLaws::frames_next, crate::proofs::MakeLoadLaws::LoadLaws::frames_end))]
 fn add_frames(
     alloc: Global,
@@ -56,7 +56,7 @@ fn add_frames(
     Ok(())
 }
 
-// No windows for a number of lines.
+/// No windows for a number of lines.
 fn no_windows(alloc: Global, lines: u8) -> Result<WindowLists, AllocError>
     ensures { IfOk result (λ lists. lists ≡ replicate lines []) }
 {
@@ -67,7 +67,7 @@ fn no_windows(alloc: Global, lines: u8) -> Result<WindowLists, AllocError>
     Ok(WindowLists(lists))
 }
 
-// The script that is drawn from a number.
+/// The script that is drawn from a number.
 fn draw(alloc: Global, number: u64, lines: u8, ticks: u32) -> Result<Script, AllocError>
     requires { ticks ≤ 1000000 }
     ensures { IfOk result (λ script. script ≡ load number lines ticks) }

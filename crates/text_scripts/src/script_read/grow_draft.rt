@@ -10,7 +10,7 @@ use law_model::{
 };
 use std::alloc::{AllocError, Global};
 
-// No windows for a number of lines.
+/// No windows for a number of lines.
 fn no_windows(alloc: Global, lines: u8) -> Result<WindowLists, AllocError>
     ensures { IfOk result (λ lists. lists ≡ replicate lines []) }
 {
@@ -21,7 +21,7 @@ fn no_windows(alloc: Global, lines: u8) -> Result<WindowLists, AllocError>
     Ok(WindowLists(lists))
 }
 
-// Appends a window to those of a line.
+/// Appends a window to those of a line.
 fn add_window(lists: &mut WindowLists, m: u8, window: Window) -> Result<(), AllocError>
     requires { m < length lists.old }
     ensures { OnOk result
@@ -60,7 +60,7 @@ pub(super) fn no_lines(alloc: Global) -> Draft
     }
 }
 
-// Adds an item.
+/// Adds an item.
 fn add_item(draft: &mut Draft, item: Item) -> Result<(), AllocError>
     ensures { OnOk result (draft.new ≡ after_item draft.old item item.kind) }
 {

@@ -14,8 +14,8 @@ use law_model::{EventLine, Item, ItemKind, Octets};
 use std::alloc::Global;
 use text_lines::{next_word, number_within, octets_within, two_words};
 
-// The word of when a frame is due, and its octets, where nothing but a space stands between the two and its digits
-// end the line. Digits have no space among them, so that they aren't searched for one.
+/// The word of when a frame is due, and its octets, where nothing but a space stands between the two and its digits
+/// end the line. Digits have no space among them, so that they aren't searched for one.
 fn plain_frame(alloc: Global, rest: &[u8]) -> Option<(&[u8], Vec<u8>)>
     ensures words { IfSome result (λ read. IsFrameOf read.0.now read.1.items (words rest.now)) }
     ensures size { IfSome result (λ read. IsWithin 1 65535 (length read.1.items)) }
@@ -30,7 +30,7 @@ fn plain_frame(alloc: Global, rest: &[u8]) -> Option<(&[u8], Vec<u8>)>
     }
 }
 
-// A frame of these octets, and when it is due by this word.
+/// A frame of these octets, and when it is due by this word.
 fn due_frame(draft: &Draft, due: &[u8], octets: Vec<u8>) -> Result<Item, LineStop>
     requires stands { 6 ≤ draft.now.next }
     requires config { IsDraft draft.now }
@@ -56,7 +56,7 @@ fn due_frame(draft: &Draft, due: &[u8], octets: Vec<u8>) -> Result<Item, LineSto
     })
 }
 
-// The same of a line with other spaces, or with a fault.
+/// The same of a line with other spaces, or with a fault.
 fn spaced_frame(alloc: Global, draft: &Draft, rest: &[u8]) -> Result<Item, LineStop>
     requires stands { 6 ≤ draft.now.next }
     requires config { IsDraft draft.now }

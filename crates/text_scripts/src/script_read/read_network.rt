@@ -62,7 +62,7 @@ pub(super) fn read_delays(alloc: Global, rest: &[u8], lines: u8) -> Result<Delay
     Ok(Delays(delays))
 }
 
-// The windows of a line.
+/// The windows of a line.
 fn windows_at(lists: &WindowLists, m: u8) -> &WindowList
     requires { m < length lists.now }
     ensures { result.now ≡ slice_index_or lists.now m [] }
@@ -70,7 +70,7 @@ fn windows_at(lists: &WindowLists, m: u8) -> &WindowList
     &lists.0[usize::from(m)]
 }
 
-// The end of the last of some windows.
+/// The end of the last of some windows.
 fn last_end_of(list: &WindowList) -> u32
     ensures { result ≡ last_end list.now }
 {
@@ -80,7 +80,7 @@ fn last_end_of(list: &WindowList) -> u32
     }
 }
 
-// The end of the last of some return windows.
+/// The end of the last of some return windows.
 fn last_lost_of(list: &LostList) -> u32
     ensures { result ≡ last_lost list.now }
 {

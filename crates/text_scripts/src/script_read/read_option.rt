@@ -11,7 +11,7 @@ use crate::script_read::script_keyword::Keyword;
 use crate::script_read::word_count_fault::count_fault;
 use text_lines::{FieldFault, Names, number_within, one_word};
 
-// Whether the sink goes on without some control packets, where no line says it already.
+/// Whether the sink goes on without some control packets, where no line says it already.
 fn read_sink(rest: &[u8], stands: bool) -> Result<bool, LineFault>
     ensures ok { IfOk result (λ infers. (sink_fault stands (words rest.now) ≡ None)
         × (infers_of (word_at 0 (words rest.now)) ≡ Some infers)) }
@@ -37,7 +37,7 @@ fn read_sink(rest: &[u8], stands: bool) -> Result<bool, LineFault>
     Ok(infers)
 }
 
-// The packets of a timer, up to `most`, where its option doesn't stand already.
+/// The packets of a timer, up to `most`, where its option doesn't stand already.
 fn read_timer(keyword: Keyword, rest: &[u8], most: u64, stands: bool) -> Result<u64, LineFault>
     ensures ok { IfOk result (λ n. (timer_fault keyword most stands (words rest.now) ≡ None)
         × (n ≡ number_at 0 (words rest.now))) }
@@ -56,7 +56,7 @@ fn read_timer(keyword: Keyword, rest: &[u8], most: u64, stands: bool) -> Result<
     Ok(packets)
 }
 
-// How many return packets tell all statuses, where no line says it already.
+/// How many return packets tell all statuses, where no line says it already.
 fn read_statuses(rest: &[u8], stands: bool) -> Result<u8, LineFault>
     ensures ok { IfOk result (λ n. (statuses_fault stands (words rest.now) ≡ None)
         × (statuses_of (word_at 0 (words rest.now)) ≡ Some n)) }

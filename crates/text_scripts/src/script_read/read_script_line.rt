@@ -18,7 +18,7 @@ use law_model::{EventLine, Item, ItemKind};
 use std::alloc::Global;
 use text_lines::{first_word, next_word, number_within, one_word};
 
-// The only word behind a keyword, a number from `least` to `most`.
+/// The only word behind a keyword, a number from `least` to `most`.
 fn one_number(keyword: Keyword, rest: &[u8], least: u64, most: u64) -> Result<u64, LineFault>
     ensures ok { IfOk result (λ n. (one_fault keyword least most (words rest.now) ≡ None)
         × (n ≡ number_at 0 (words rest.now))) }
@@ -35,7 +35,7 @@ fn one_number(keyword: Keyword, rest: &[u8], least: u64, most: u64) -> Result<u6
     }
 }
 
-// The count of an event line.
+/// The count of an event line.
 fn read_count(keyword: Keyword, rest: &[u8]) -> Result<u32, LineStop>
     ensures ok { IfOk result (λ n. (one_fault keyword 1 1000000 (words rest.now) ≡ None)
         × (n ≡ number_at 0 (words rest.now))) }
@@ -46,7 +46,7 @@ fn read_count(keyword: Keyword, rest: &[u8]) -> Result<u32, LineStop>
     Ok(one_number(keyword, rest, 1, 1_000_000)? as u32)
 }
 
-// What the words after the keyword of an event line say.
+/// What the words after the keyword of an event line say.
 fn read_event(draft: &Draft, keyword: Keyword, rest: &[u8]) -> Result<EventLine, LineStop>
     requires event { place keyword ≡ 9 }
     requires stands { IsPlaced draft.now.next (place keyword) }
@@ -76,7 +76,7 @@ fn read_event(draft: &Draft, keyword: Keyword, rest: &[u8]) -> Result<EventLine,
     }
 }
 
-// What the words after the keyword of an item say.
+/// What the words after the keyword of an item say.
 fn read_item(alloc: Global, draft: &Draft, keyword: Keyword, rest: &[u8]) -> Result<Item, LineStop>
     requires item { place keyword ≡ 8 }
     requires stands { IsPlaced draft.now.next (place keyword) }
@@ -107,7 +107,7 @@ fn read_item(alloc: Global, draft: &Draft, keyword: Keyword, rest: &[u8]) -> Res
     }
 }
 
-// What the words after the keyword of a line of the configuration, an option or a window say.
+/// What the words after the keyword of a line of the configuration, an option or a window say.
 fn read_setting(
     alloc: Global,
     draft: &Draft,
@@ -147,7 +147,7 @@ fn read_setting(
     }
 }
 
-// What the words after a keyword say that stands in its place.
+/// What the words after a keyword say that stands in its place.
 fn read_rest(
     alloc: Global,
     draft: &Draft,

@@ -9,7 +9,7 @@ use crate::script_read::script_fault::ScriptFault;
 use law_model::{Config, Delays, Script, WindowList, WindowLists};
 use member_path::failure_window::greatest_slip;
 
-// The first window of line `m` that slips too far.
+/// The first window of line `m` that slips too far.
 fn fault_of_windows(m: u8, list: &WindowList) -> Option<ScriptFault>
     requires { length list.now ≤ 256 }
     ensures { result ≡ windows_fault m 0 list.now }
@@ -28,7 +28,7 @@ fn fault_of_windows(m: u8, list: &WindowList) -> Option<ScriptFault>
     None
 }
 
-// The first window of all lines that slips too far.
+/// The first window of all lines that slips too far.
 fn fault_of_slips(lists: &WindowLists) -> Option<ScriptFault>
     requires few { length lists.now ≤ 128 }
     requires each { All (λ list. length list ≤ 256) lists.now }
@@ -44,7 +44,7 @@ fn fault_of_slips(lists: &WindowLists) -> Option<ScriptFault>
     None
 }
 
-// The greatest slip of a line.
+/// The greatest slip of a line.
 fn greatest_of_slips(lists: &WindowLists) -> u32
     requires { All (λ list. AreWindows 0 list) lists.now }
     ensures { result ≡ greatest_slip_of lists.now }
@@ -56,7 +56,7 @@ fn greatest_of_slips(lists: &WindowLists) -> u32
     most
 }
 
-// The greatest delay.
+/// The greatest delay.
 fn greatest_delay(delays: &Delays) -> u16
     ensures { result ≡ greatest delays.now }
 {
@@ -67,7 +67,7 @@ fn greatest_delay(delays: &Delays) -> u16
     most
 }
 
-// The least delay.
+/// The least delay.
 fn least_delay(delays: &Delays) -> u16
     ensures { result ≡ least delays.now }
 {

@@ -29,7 +29,7 @@ pub struct ScriptReader {
     number: u32,
 }
 
-// The fault of a line that wasn't read.
+/// The fault of a line that wasn't read.
 fn fault_of(number: u32, stop: LineStop) -> ScriptFault
     ensures { result ≡ fault_at number stop }
 {
@@ -39,7 +39,7 @@ fn fault_of(number: u32, stop: LineStop) -> ScriptFault
     }
 }
 
-// A text without so many octets at its front, in the memory that it has.
+/// A text without so many octets at its front, in the memory that it has.
 fn without_front(mut text: Vec<u8>, n: usize) -> Vec<u8>
     requires { n ≤ length text.items }
     ensures { result.items ≡ drop n text.items }
@@ -63,8 +63,8 @@ impl ScriptReader {
         }
     }
 
-    // Reads the whole lines at the front of a piece, and says how many octets they have. What is left has to
-    // stand at the front of the next piece.
+    /// Reads the whole lines at the front of a piece, and says how many octets they have. What is left has to
+    /// stand at the front of the next piece.
     fn read_lines(self, alloc: Global, piece: &[u8]) -> Result<(ScriptReader, usize), ScriptFault>
         requires reader { IsReader self }
         requires room { HasNumbersLeft self (length piece.now) }
@@ -114,7 +114,7 @@ impl ScriptReader {
         }
     }
 
-    // What the lines of the rest of a text say after those that were read.
+    /// What the lines of the rest of a text say after those that were read.
     fn read_draft(self, alloc: Global, text: &[u8]) -> Result<Draft, ScriptFault>
         requires reader { IsReader self }
         requires room { HasNumbersLeft self (length text.now) }
@@ -235,7 +235,7 @@ impl ScriptReader {
     }
 }
 
-// The script that a draft has become.
+/// The script that a draft has become.
 fn finished(draft: Draft) -> Script
     ensures { result ≡ script_in draft }
 {

@@ -73,7 +73,7 @@ impl<'a, R: Wait, K: ByteSink> SinkDuty<'a, R, K> {
     }
 
     /// The worker, what it has written to, and the log.
-    pub fn into_parts(self) -> (SinkWorker, &'a mut K, Option<AlarmLog>)
+    pub(crate) fn into_parts(self) -> (SinkWorker, &'a mut K, Option<AlarmLog>)
         ensures sink { result.0 ≡ self.entry.sink }
         ensures name { result.1.ghost_name ≡ self.entry.out.ghost_name }
         ensures now { result.1.now ≡ self.entry.out.now }

@@ -74,7 +74,7 @@ impl Flag {
     }
 
     /// What its thread has of it.
-    pub fn heed(&self) -> Heed<'_>
+    pub(crate) fn heed(&self) -> Heed<'_>
         ensures { heeded result ≡ flag_of self.now }
     {
         Heed { flag: self }
@@ -102,7 +102,7 @@ impl<'s> Heed<'s> {
     }
 
     /// The bell at which is rung for its thread.
-    pub fn bell(self) -> &'s Bell {
+    pub(crate) fn bell(self) -> &'s Bell {
         &self.flag.bell
     }
 

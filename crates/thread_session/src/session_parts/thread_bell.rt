@@ -51,7 +51,7 @@ impl Bell {
     }
 
     /// Rings, for one behind the owner: only where the owner waits for those.
-    pub fn ring_from_behind(&self) {
+    pub(crate) fn ring_from_behind(&self) {
         if self.behind.load(Ordering::SeqCst) {
             self.ring();
         }
@@ -74,7 +74,7 @@ impl Bell {
 
     /// Waits as `wait` does, also for those behind the owner. Where they weren't heard at its last look it
     /// returns at once, so that the owner looks again.
-    pub fn wait_for_behind<R: Wait>(&self, rt: &R) {
+    pub(crate) fn wait_for_behind<R: Wait>(&self, rt: &R) {
         if self.behind.load(Ordering::SeqCst) {
             self.sleep(rt);
         } else {

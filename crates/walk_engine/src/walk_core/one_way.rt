@@ -187,7 +187,7 @@ impl WayCore {
 
     /// The container at a place of the send ring of a line, from the oldest on, or `None` beyond the last one
     /// that waits there.
-    pub fn send_ring(&self, line: u8, place: u32) -> Option<&Container>
+    pub(crate) fn send_ring(&self, line: u8, place: u32) -> Option<&Container>
         requires line { line < length self.now.lines }
         requires stands { StandsForSome self.now }
         ensures { (leg : Leg) (backs : ℕ) → WayStands leg backs self.now → option_copied result
@@ -207,7 +207,7 @@ impl WayCore {
 
     /// The cell at a place of the receive ring of a line, from the oldest on, or `None` beyond the last one
     /// that waits there.
-    pub fn receive_ring(&self, line: u8, place: u32) -> Option<CellRef<'_>>
+    pub(crate) fn receive_ring(&self, line: u8, place: u32) -> Option<CellRef<'_>>
         requires { line < length self.now.lines }
         ensures { (leg : Leg) (backs : ℕ) → WayStands leg backs self.now → option_map cell_of result
             ≡ slice_get (receive_ring leg (counts_of self.now backs) line) place }

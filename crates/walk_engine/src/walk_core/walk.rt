@@ -181,7 +181,7 @@ impl Walk {
 
     /// The container at a place of the send ring of a line, from the oldest on, or `None` beyond the last one
     /// that waits there.
-    pub fn send_ring(&self, line: u8, place: u32) -> Option<&Container>
+    pub(crate) fn send_ring(&self, line: u8, place: u32) -> Option<&Container>
         requires { line < self.now.script.config.lines }
         ensures { option_copied result
             ≡ slice_get (send_ring (leg_of self.now.script) self.now.counts line) place }
@@ -191,7 +191,7 @@ impl Walk {
 
     /// The cell at a place of the receive ring of a line, from the oldest on, or `None` beyond the last one
     /// that waits there.
-    pub fn receive_ring(&self, line: u8, place: u32) -> Option<CellRef<'_>>
+    pub(crate) fn receive_ring(&self, line: u8, place: u32) -> Option<CellRef<'_>>
         requires { line < self.now.script.config.lines }
         ensures { option_map cell_of result
             ≡ slice_get (receive_ring (leg_of self.now.script) self.now.counts line) place }

@@ -215,7 +215,7 @@ impl WalkLine {
 
     /// Pops cells of line number `line` into `rows` until it decides the next row, or its ring is empty.
     /// Answers whether it does. What then lies in the places of the cells that were popped says nothing.
-    pub fn pop_into(&mut self, rows: &mut RowGather, line: u8) -> bool
+    pub(crate) fn pop_into(&mut self, rows: &mut RowGather, line: u8) -> bool
         ensures popped { (calls : Calls) (cells : List (List Cell)) →
             IsNext self.old calls rows.old cells line →
             self.new.popped ≡ popped_until (self.old.given - self.old.popped)
