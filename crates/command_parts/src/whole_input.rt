@@ -59,7 +59,11 @@ pub fn take_some<S: ByteSource>(
 }
 
 /// Reads an input to its end, at most so many octets, of which nothing is kept.
-pub(crate) fn skip_rest<S: ByteSource>(alloc: Global, source: &mut S, room: usize) -> Result<(), Stop>
+pub(crate) fn skip_rest<S: ByteSource>(
+    alloc: Global,
+    source: &mut S,
+    room: usize,
+) -> Result<(), Stop>
     ensures read { IfOk result (λ _. (text : List ℕ) × (length text ≤ room)
         × GivesAll S.left source.old source.new text
         × (S.faults source.new ≡ S.faults source.old)) }

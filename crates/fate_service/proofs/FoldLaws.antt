@@ -2,8 +2,8 @@
 use Rattle.std.proofs.Common.{◌≡◌, ℕ, suc, ◌+◌, ◌-◌, ◌*◌, ◌<◌, ◌≤◌, max, Bool, true, false, refl, sym, ap, subst, arith}
 use Rattle.fate_service.specs.declared.landed_frames.Tally.{Tally}
 use Rattle.fate_service.specs.declared.landed_frames.CarriedFrame.{CarriedFrame}
-use Rattle.fate_service.specs.declared.stretch_counts.Ended.{Ended}
-use Rattle.fate_service.specs.declared.stretch_counts.Peak.{Peak}
+use Rattle.fate_service.specs.declared.interval_counts.Ended.{Ended}
+use Rattle.fate_service.specs.declared.interval_counts.Peak.{Peak}
 use Rattle.fate_service.specs.Frames.{with_frame, with_frame_if}
 use Rattle.fate_service.specs.Stretches.{delay_of, with_carried, higher, peak_on}
 

@@ -10,10 +10,10 @@ use Rattle.fate_service.specs.declared.landed_frames.CarriedFrame.{CarriedFrame}
 use Rattle.fate_service.specs.declared.width_run.WidthRun.{WidthRun}
 use Rattle.fate_service.specs.declared.outages.Outage.{Outage}
 use Rattle.fate_service.specs.declared.service_text.Ends.{Ends}
-use Rattle.fate_service.specs.declared.stretch_counts.Came.{Came}
-use Rattle.fate_service.specs.declared.stretch_counts.Ended.{Ended}
-use Rattle.fate_service.specs.declared.stretch_counts.Peak.{Peak}
-use Rattle.fate_service.specs.declared.stretch_counts.Stretch.{Stretch}
+use Rattle.fate_service.specs.declared.interval_counts.Came.{Came}
+use Rattle.fate_service.specs.declared.interval_counts.Ended.{Ended}
+use Rattle.fate_service.specs.declared.interval_counts.Peak.{Peak}
+use Rattle.fate_service.specs.declared.interval_counts.Stretch.{Stretch}
 use Rattle.fate_service.specs.Members.{runs_on, runs_of}
 use Rattle.fate_service.specs.Outages.{losses, next_first}
 use Rattle.fate_service.specs.Stretches.{spans_on}

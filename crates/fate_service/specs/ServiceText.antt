@@ -10,10 +10,10 @@ use Rattle.fate_service.specs.declared.landed_frames.Tally.{Tally}
 use Rattle.fate_service.specs.declared.landed_frames.CarriedFrame.{CarriedFrame}
 use Rattle.fate_service.specs.declared.width_run.WidthRun.{WidthRun}
 use Rattle.fate_service.specs.declared.outages.Outage.{Outage}
-use Rattle.fate_service.specs.declared.stretch_counts.Came.{Came}
-use Rattle.fate_service.specs.declared.stretch_counts.Ended.{Ended}
-use Rattle.fate_service.specs.declared.stretch_counts.Peak.{Peak}
-use Rattle.fate_service.specs.declared.stretch_counts.Stretch.{Stretch}
+use Rattle.fate_service.specs.declared.interval_counts.Came.{Came}
+use Rattle.fate_service.specs.declared.interval_counts.Ended.{Ended}
+use Rattle.fate_service.specs.declared.interval_counts.Peak.{Peak}
+use Rattle.fate_service.specs.declared.interval_counts.Stretch.{Stretch}
 use Rattle.fate_service.specs.declared.frame_delays.Delays.{Delays}
 use Rattle.fate_service.specs.declared.service_text.Ends.{Ends}
 use Rattle.fate_service.specs.Frames.{offered_of, accepted_of, carried_of, waits_of}

@@ -195,7 +195,11 @@ fn take_frame(
 }
 
 /// The frames of a walk that have landed.
-pub(crate) fn land_frames(alloc: Global, walk: &Walk, seen: &SeenWalk) -> Result<LandedFrames, AllocError>
+pub(crate) fn land_frames(
+    alloc: Global,
+    walk: &Walk,
+    seen: &SeenWalk,
+) -> Result<LandedFrames, AllocError>
     requires { SeesWalk (leg_of walk.now.script) walk.now.counts seen.now }
     ensures landed { IfOk result (AreLanded (ended_of (leg_of walk.now.script) walk.now.counts)) }
     ensures few { IfOk result (λ landed. length landed.offered.items ≤ 67108864) }

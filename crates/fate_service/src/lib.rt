@@ -6,7 +6,7 @@
 //! - `landed_frames`: the client's frames that have landed, in the columns that the sums need.
 //! - `row_states`: what each taken row is: whole, whole and not yet of use, or not whole.
 //! - `outages`: the longest runs of rows that are of no use, and the frames that are lost in each.
-//! - `stretch_counts`: the counts from one tick to another.
+//! - `interval_counts`: the counts from one tick to another.
 //! - `frame_delays`: the delays that so many frames don't exceed.
 //! - `service_text`: the lines of the text.
 //! - `service_report`: what is found of a walk, and the text that is written of it.
@@ -14,13 +14,13 @@
 #![tactic(auto)]
 
 mod frame_delays;
+mod interval_counts;
 mod landed_frames;
 mod outages;
 mod row_states;
 pub mod service_law;
 mod service_report;
 mod service_text;
-mod stretch_counts;
 mod width_run;
 
 pub use service_report::{Survey, survey_walk, write_service};

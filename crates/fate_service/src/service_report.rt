@@ -19,13 +19,13 @@ ghost use Rattle.fate_service.specs.ServiceText.{members_text, outage_text, outa
 ghost use Rattle.fate_service.specs.ServiceText.{known_of, ends_of, last_text, service_text};
 
 use crate::frame_delays::find_delays;
+use crate::interval_counts::count_stretch;
 use crate::landed_frames::{LandedFrames, OfferedFrame, land_frames};
 use crate::outages::{Outage, find_outages, losses};
 use crate::row_states::{RowState, row_states};
 use crate::service_text::{
     Ends, ROOM, delays_line, members_line, outage_line, service_line, stretch_line,
 };
-use crate::stretch_counts::count_stretch;
 use crate::width_run::WidthRun;
 use fate_engine::fate_core::{Packets, row_cause, starts_true};
 use fate_walks::walk_fates::SeenWalk;

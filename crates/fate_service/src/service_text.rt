@@ -7,9 +7,9 @@ ghost use Rattle.fate_service.specs.ServiceText.{came_text, carried_text, room_t
 ghost use Rattle.fate_service.specs.ServiceText.{stretch_text, delays_text, ends_text, last_text};
 
 use crate::frame_delays::Delays;
+use crate::interval_counts::{Came, Ended, Peak, Stretch};
 use crate::landed_frames::Tally;
 use crate::outages::Outage;
-use crate::stretch_counts::{Came, Ended, Peak, Stretch};
 use crate::width_run::WidthRun;
 use fate_engine::fate_core::Cause;
 use fate_engine::fate_text::{add_cause, truth};
@@ -76,7 +76,12 @@ fn add_first_cause(line: &mut TextCursor, cause: Option<Cause>)
 }
 
 /// The line of an outage.
-pub(crate) fn outage_line(outage: Outage, lost: Tally, cause: Option<Cause>, out: &mut [u8]) -> usize
+pub(crate) fn outage_line(
+    outage: Outage,
+    lost: Tally,
+    cause: Option<Cause>,
+    out: &mut [u8],
+) -> usize
     requires room { 448 ≤ length out.old }
     ensures within { result ≤ 448 }
     ensures line { take result out.new ≡ outage_text outage lost cause }

@@ -1,3 +1,3 @@
 pub mod Single
-pub mod Flipped
+pub mod FlippedStream
 pub mod Places

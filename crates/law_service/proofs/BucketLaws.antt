@@ -20,7 +20,7 @@ use Rattle.law_walk.proofs.LandLaws.{offer-at}
 use Rattle.law_walk.proofs.SourceLaws.{offer-refusal}
 use Rattle.law_model.specs.declared.item_refusals.Refusal.TheVariants.{Frame as frame_fault}
 use Rattle.law_service.specs.Bucket.{arrivals, arrivals_in, stream_at, Bucket, KeepsTo, LiesIn}
-use Rattle.law_service.specs.Place.{filled, Placed, placed_by, placed_offers, placed_before, placed_frames}
+use Rattle.law_service.specs.FrameEnds.{filled, Placed, placed_by, placed_offers, placed_before, placed_frames}
 use Rattle.law_service.proofs.PlaceLaws.{kept-all, at-number, place-settled, place-begins, place-waits}
 
 -- ---- how far a stream is filled

@@ -16,7 +16,7 @@ use Rattle.law_session.proofs.ClientLaws.{stream_before-reaches}
 use Rattle.law_walk.specs.Common.{accepted_frames, session_extents, session_pieces, session_waiting, place_after}
 use Rattle.law_walk.specs.Common.{session_of}
 use Rattle.law_walk.proofs.AcceptedLaws.{frames-accepted}
-use Rattle.law_service.specs.Place.{filled, Placed, placed_by, placed_offers, placed_before, placed_frames}
+use Rattle.law_service.specs.FrameEnds.{filled, Placed, placed_by, placed_offers, placed_before, placed_frames}
 
 -- ---- the ends of pieces
 -- pieces in two parts

@@ -1,4 +1,4 @@
-pub mod Place
+pub mod FrameEnds
 pub mod Bucket
 pub mod Twins
 pub mod Worked

@@ -5,7 +5,7 @@ use Rattle.law_model.specs.declared.script_types.Item.{Item}
 use Rattle.law_model.specs.declared.script_types.ItemKind.TheVariants.{Frame, Add}
 use Rattle.law_walk.specs.Common.{place_after, session_of, item, plain}
 use Rattle.law_service.specs.Bucket.{Bucket, stream_at}
-use Rattle.law_service.specs.Place.{filled, Placed, placed_frames}
+use Rattle.law_service.specs.FrameEnds.{filled, Placed, placed_frames}
 
 -- one line, in use from frame 40 on; frames of 64 to 66 octets and a short one that is refused wait for that, a
 -- frame comes just before frame 40 is made, and one just behind it

@@ -5,7 +5,7 @@ ghost use Rattle.std.specs.Prelude.{◌≡◌, ℕ, ◌+◌, ◌*◌, ◌<◌, �
 ghost use Rattle.law_model.specs.Common.{Leg, DueFrame, scenario_by};
 ghost use Rattle.law_walk.specs.Common.{Numbered, IsOfferAt, refusal_at, place_after, session_of};
 ghost use Rattle.law_service.specs.Bucket.{Bucket, KeepsTo, LiesIn, stream_at};
-ghost use Rattle.law_service.specs.Place.{filled, Placed, placed_frames};
+ghost use Rattle.law_service.specs.FrameEnds.{filled, Placed, placed_frames};
 
 /// A client keeps to a bucket while some members at least carry payload: they carry its rate, and the queue has
 /// room for its burst. Then none of its frames is refused; what waits and what is left of what was begun are at

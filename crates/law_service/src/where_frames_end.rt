@@ -4,7 +4,7 @@
 ghost use Rattle.std.specs.Prelude.{◌≡◌, ℕ, ◌+◌, ◌<◌, ◌≤◌, List, map, length, slice_get, Some};
 ghost use Rattle.law_model.specs.Common.{Extent, client, size_of, Leg, IsSound, size};
 ghost use Rattle.law_walk.specs.Common.{accepted_frames, session_extents, session_pieces, place_after};
-ghost use Rattle.law_service.specs.Place.{Placed, placed_frames};
+ghost use Rattle.law_service.specs.FrameEnds.{Placed, placed_frames};
 
 /// Where an accepted frame ends is settled when it lands: behind all that was begun by then and the accepted
 /// frames that wait. So the frames on the stream have the places that were told as they landed, in item

@@ -4,10 +4,10 @@ use Rattle.text_lines.specs.declared.text_faults.LineKind.{LineKind}
 use Rattle.text_lines.specs.declared.text_faults.LineKind.TheVariants as kind
 use Rattle.text_lines.specs.Fields.{field_kind}
 use Rattle.text_help.specs.Helps.{field_text, count_text, order_text, first_text}
-use Rattle.text_live.specs.declared.first_word.EarlierPart.{EarlierPart}
-use Rattle.text_live.specs.declared.first_word.EarlierPart.TheVariants as part
-use Rattle.text_live.specs.declared.first_word.LiveKeyword.{LiveKeyword}
-use Rattle.text_live.specs.declared.first_word.LiveKeyword.TheVariants as word
+use Rattle.text_live.specs.declared.live_keyword.EarlierPart.{EarlierPart}
+use Rattle.text_live.specs.declared.live_keyword.EarlierPart.TheVariants as part
+use Rattle.text_live.specs.declared.live_keyword.LiveKeyword.{LiveKeyword}
+use Rattle.text_live.specs.declared.live_keyword.LiveKeyword.TheVariants as word
 use Rattle.text_live.specs.declared.live_fault.LiveLineFault.{LiveLineFault}
 use Rattle.text_live.specs.declared.live_fault.LiveLineFault.TheVariants as wrong
 

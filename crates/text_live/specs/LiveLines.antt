@@ -16,12 +16,12 @@ use Rattle.text_scripts.specs.declared.script_read.script_fault.ScriptFault.{Scr
 use Rattle.text_scripts.specs.script_read.Statements.{words_fault, words_said, after, at_first, last_end}
 use Rattle.text_scripts.specs.script_read.Script.{missing_line, config_fault}
 use Rattle.law_live.specs.Live.{Saying, lands, cuts, mends, passes, Course, Live, opened, course_at, live_after}
-use Rattle.text_live.specs.declared.first_word.EarlierPart.{EarlierPart}
-use Rattle.text_live.specs.declared.first_word.EarlierPart.TheVariants as part
-use Rattle.text_live.specs.declared.first_word.LiveKeyword.{LiveKeyword}
-use Rattle.text_live.specs.declared.first_word.LiveKeyword.TheVariants as word
-use Rattle.text_live.specs.declared.first_word.FirstWord.{FirstWord}
-use Rattle.text_live.specs.declared.first_word.FirstWord.TheVariants as first
+use Rattle.text_live.specs.declared.live_keyword.EarlierPart.{EarlierPart}
+use Rattle.text_live.specs.declared.live_keyword.EarlierPart.TheVariants as part
+use Rattle.text_live.specs.declared.live_keyword.LiveKeyword.{LiveKeyword}
+use Rattle.text_live.specs.declared.live_keyword.LiveKeyword.TheVariants as word
+use Rattle.text_live.specs.declared.live_keyword.FirstWord.{FirstWord}
+use Rattle.text_live.specs.declared.live_keyword.FirstWord.TheVariants as first
 use Rattle.text_live.specs.declared.live_fault.LiveLineFault.{LiveLineFault}
 use Rattle.text_live.specs.declared.live_fault.LiveLineFault.TheVariants as wrong
 

@@ -11,17 +11,17 @@ use Rattle.text_scripts.specs.declared.script_read.script_fault.ScriptFault.TheV
 use Rattle.text_scripts.specs.declared.script_read.script_reader.ScriptReader.{ScriptReader}
 use Rattle.text_scripts.specs.script_read.Statements.{last_end}
 use Rattle.text_scripts.specs.script_read.Pieces.{IsReader, next_number, drafted}
-use Rattle.text_live.specs.declared.first_word.EarlierPart.{EarlierPart}
-use Rattle.text_live.specs.declared.first_word.FirstWord.TheVariants as first
-use Rattle.text_live.specs.declared.first_word.LiveKeyword.{LiveKeyword}
-use Rattle.text_live.specs.declared.first_word.LiveKeyword.TheVariants as word
+use Rattle.text_live.specs.declared.live_keyword.EarlierPart.{EarlierPart}
+use Rattle.text_live.specs.declared.live_keyword.FirstWord.TheVariants as first
+use Rattle.text_live.specs.declared.live_keyword.LiveKeyword.{LiveKeyword}
+use Rattle.text_live.specs.declared.live_keyword.LiveKeyword.TheVariants as word
 use Rattle.text_live.specs.declared.live_fault.LiveLineFault.{LiveLineFault}
 use Rattle.text_live.specs.declared.live_fault.LiveFault.{LiveFault}
 use Rattle.text_live.specs.declared.live_fault.LiveFault.TheVariants as fault
 use Rattle.text_live.specs.declared.live_line.LiveLine.{LiveLine}
 use Rattle.text_live.specs.declared.live_line.LiveLine.TheVariants as line
-use Rattle.text_live.specs.declared.live_state.LineState.{LineState}
-use Rattle.text_live.specs.declared.live_state.LiveState.{LiveState}
+use Rattle.text_live.specs.declared.read_live_line.LineState.{LineState}
+use Rattle.text_live.specs.declared.read_live_line.LiveState.{LiveState}
 use Rattle.text_live.specs.declared.live_reader.LiveReader.{LiveReader}
 use Rattle.law_live.specs.Live.{Course, Live, cuts, lands, live_after, mends, passes}
 use Rattle.text_live.specs.LiveLines.{happens, Said, LineWrong, of_script, of_limits, of_live, Told, nothing, setting}

@@ -4,18 +4,18 @@
 //! nothing of a line is kept but what later lines are tested by. Begin with `LiveReader`.
 #![tactic(auto)]
 
-mod first_word;
 mod frame_digits;
 mod line_help;
 mod live_fault;
+mod live_keyword;
 mod live_laws;
 mod live_line;
 mod live_reader;
-mod live_state;
+mod read_live_line;
 
-pub use first_word::{EarlierPart, LiveKeyword};
 pub use line_help::live_help;
 pub use live_fault::{LiveFault, LiveLineFault};
+pub use live_keyword::{EarlierPart, LiveKeyword};
 pub use live_laws::{fault_law, said_law, valid_law, worked_law};
 pub use live_line::LiveLine;
 pub use live_reader::LiveReader;

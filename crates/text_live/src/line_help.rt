@@ -2,8 +2,8 @@
 ghost use Rattle.std.specs.Prelude.{◌≡◌, ◌++◌, ◌≤◌, length, take, codes, decimal};
 ghost use Rattle.text_live.specs.Helps.{keyword_text, part_text, live_help_text};
 
-use crate::first_word::{EarlierPart, LiveKeyword};
 use crate::live_fault::LiveLineFault;
+use crate::live_keyword::{EarlierPart, LiveKeyword};
 use text_help::{count_help, field_help, number_help, order_help};
 use text_report::TextCursor;
 

@@ -3,7 +3,7 @@ ghost use Rattle.std.specs.Prelude.{◌≡◌};
 ghost use Rattle.text_live.specs.declared.live_fault.LiveLineFault.TheVariants as wrong;
 ghost use Rattle.text_live.specs.Helps.{live_kind};
 
-use crate::first_word::{EarlierPart, LiveKeyword};
+use crate::live_keyword::{EarlierPart, LiveKeyword};
 use text_lines::{FieldFault, LineKind};
 use text_scripts::script_read::ScriptFault;
 

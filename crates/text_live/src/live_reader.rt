@@ -10,10 +10,10 @@ ghost use Rattle.text_live.specs.Reading.{IsLiveLine, IsEarlierLine, failure, li
 ghost use Rattle.text_live.specs.Reading.{opened_said, has_begun, no_memory};
 ghost use Rattle.text_scripts.specs.script_read.Statements.{words_fault, words_said, after};
 
-use crate::first_word::{EarlierPart, FirstWord, LiveKeyword};
 use crate::live_fault::{LiveFault, LiveLineFault};
+use crate::live_keyword::{EarlierPart, FirstWord, LiveKeyword};
 use crate::live_line::LiveLine;
-use crate::live_state::LiveState;
+use crate::read_live_line::LiveState;
 use law_model::Config;
 use std::alloc::{AllocError, Global};
 use text_lines::first_word;

@@ -7,8 +7,8 @@ use Rattle.text_scripts.specs.declared.script_read.script_draft.Draft.{Draft}
 use Rattle.text_scripts.specs.declared.script_read.script_fault.ScriptFault.{ScriptFault}
 use Rattle.text_scripts.specs.declared.script_read.script_fault.ScriptFault.TheVariants as script
 use Rattle.law_live.specs.Common.{Live}
-use Rattle.text_live.specs.declared.first_word.EarlierPart.{EarlierPart}
-use Rattle.text_live.specs.declared.first_word.LiveKeyword.{LiveKeyword}
+use Rattle.text_live.specs.declared.live_keyword.EarlierPart.{EarlierPart}
+use Rattle.text_live.specs.declared.live_keyword.LiveKeyword.{LiveKeyword}
 use Rattle.text_live.specs.declared.live_fault.LiveFault.{LiveFault}
 use Rattle.text_live.specs.LiveLines.{Said, LineWrong, of_script, of_limits, of_live, nothing, setting}
 use Rattle.text_live.specs.LiveLines.{now_live, opening_fault, rest_fault, earlier_fault, fault_by, line_fault, first_by}

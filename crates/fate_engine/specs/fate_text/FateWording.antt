@@ -3,8 +3,8 @@ use Rattle.std.specs.Prelude.{ℕ, ◌++◌, Bool, List, [], codes, decimal, Opt
 use Rattle.fate_engine.specs.declared.fate_law.RowSegment.{RowSegment}
 use Rattle.fate_engine.specs.fate_law.SessionFates.{End}
 use Rattle.fate_engine.specs.fate_law.FateText.{truth_text, ended_text}
-use Rattle.fate_engine.specs.declared.fate_text.fates_as_text.ToldMark.{ToldMark}
-use Rattle.fate_engine.specs.declared.fate_text.fates_as_text.Tally.{Tally}
+use Rattle.fate_engine.specs.declared.fate_text.fate_lines.ToldMark.{ToldMark}
+use Rattle.fate_engine.specs.declared.fate_text.fate_lines.Tally.{Tally}
 
 -- what is confirmed first in a segment
 abbrev pub told_text : Option ToldMark → List ℕ

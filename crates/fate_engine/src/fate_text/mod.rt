@@ -4,9 +4,9 @@
 //! Each line is put together at the front of a slice that the caller gives, and nothing is written to an
 //! output here. What a line says is found in `fate_core`. Begin with `fate_line`.
 
-mod fates_as_text;
+mod fate_lines;
 
-pub use fates_as_text::{
+pub use fate_lines::{
     ROOM, Tally, ToldMark, add_cause, add_refused, fate_line, fates_line, refused_line,
     segment_line, spoiled_line, truth,
 };

@@ -4,7 +4,7 @@ use Rattle.std.proofs.Common.{refl, sym, ap, ap₂, subst, arith, inl, inr}
 use Rattle.std.proofs.lemmas.Bool.{cases_lt, cases_order, lt-ltb, le-ltb}
 use Rattle.std.proofs.lemmas.List.Elements.{All-nil, All-cons}
 use Rattle.law_model.specs.Common.{Leg, Counts}
-use Rattle.fate_service.specs.declared.stretch_counts.Peak.{Peak}
+use Rattle.fate_service.specs.declared.interval_counts.Peak.{Peak}
 use Rattle.fate_service.specs.Stretches.{higher, peak_on, peak_in, queue_in, Known, spans_of}
 use Rattle.fate_service.specs.ServiceText.{known_of, told_of}
 use Rattle.fate_service.specs.service_law.Lines.{StretchLine, stretch_line, stretches_in, all_of}

@@ -15,8 +15,8 @@ use Rattle.fate_service.specs.declared.landed_frames.OfferedFrame.{OfferedFrame}
 use Rattle.fate_service.specs.declared.landed_frames.Tally.{Tally}
 use Rattle.fate_service.specs.declared.outages.Outage.{Outage}
 use Rattle.fate_service.specs.declared.row_states.RowState.{RowState}
-use Rattle.fate_service.specs.declared.stretch_counts.Came.{Came}
-use Rattle.fate_service.specs.declared.stretch_counts.Ended.{Ended}
+use Rattle.fate_service.specs.declared.interval_counts.Came.{Came}
+use Rattle.fate_service.specs.declared.interval_counts.Ended.{Ended}
 use Rattle.fate_service.specs.Frames.{no_frames, carried_of}
 use Rattle.fate_service.specs.RowStates.{states_of, is_dark, dark_on, dark_among}
 use Rattle.fate_service.specs.Outages.{outages_of, losses, next_first}

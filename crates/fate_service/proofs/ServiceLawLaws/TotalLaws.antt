@@ -10,8 +10,8 @@ use Rattle.fate_engine.specs.Common.{has_got, has_waited, count_of}
 use Rattle.fate_engine.proofs.FateLaws.FateLaws.{got-delivered}
 use Rattle.fate_service.specs.declared.landed_frames.OfferedFrame.{OfferedFrame}
 use Rattle.fate_service.specs.declared.landed_frames.Tally.{Tally}
-use Rattle.fate_service.specs.declared.stretch_counts.Came.{Came}
-use Rattle.fate_service.specs.declared.stretch_counts.Ended.{Ended as EndedCounts}
+use Rattle.fate_service.specs.declared.interval_counts.Came.{Came}
+use Rattle.fate_service.specs.declared.interval_counts.Ended.{Ended as EndedCounts}
 use Rattle.fate_service.specs.Frames.{offered_of, carried_of}
 use Rattle.fate_service.specs.Stretches.{came_of, ended_of as ended_by}
 use Rattle.fate_service.specs.ServiceText.{told_of, ends_of}

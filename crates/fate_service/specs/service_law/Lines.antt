@@ -10,7 +10,7 @@ use Rattle.fate_service.specs.declared.landed_frames.Tally.{Tally}
 use Rattle.fate_service.specs.declared.landed_frames.CarriedFrame.{CarriedFrame}
 use Rattle.fate_service.specs.declared.width_run.WidthRun.{WidthRun}
 use Rattle.fate_service.specs.declared.outages.Outage.{Outage}
-use Rattle.fate_service.specs.declared.stretch_counts.Stretch.{Stretch}
+use Rattle.fate_service.specs.declared.interval_counts.Stretch.{Stretch}
 use Rattle.fate_service.specs.declared.service_text.Ends.{Ends}
 use Rattle.fate_service.specs.Frames.{carried_of}
 use Rattle.fate_service.specs.RowStates.{states_of}

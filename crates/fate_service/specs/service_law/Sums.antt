@@ -3,8 +3,8 @@ use Rattle.std.specs.Prelude.{◌≡◌, ◌≢◌, ℕ, ◌+◌, ◌*◌, ◌<�
 use Rattle.std.specs.Prelude.{Some, slice_get}
 use Rattle.fate_service.specs.declared.landed_frames.Tally.{Tally}
 use Rattle.fate_service.specs.declared.width_run.WidthRun.{WidthRun}
-use Rattle.fate_service.specs.declared.stretch_counts.Peak.{Peak}
-use Rattle.fate_service.specs.declared.stretch_counts.Stretch.{Stretch}
+use Rattle.fate_service.specs.declared.interval_counts.Peak.{Peak}
+use Rattle.fate_service.specs.declared.interval_counts.Stretch.{Stretch}
 
 -- ---- one behind the other
 -- parts follow each other from one number to another, and none of them is empty

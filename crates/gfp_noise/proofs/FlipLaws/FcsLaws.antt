@@ -21,7 +21,7 @@ use Rattle.gfp_model.specs.declared.fcs_model.FcsWhy.TheVariants.{Header}
 use Rattle.gfp_model.specs.fcs_model.Fcs.{fcs_header, fcs_area, FcsOutcome, delivery, dropping, by_check, by_type, fcs_type_fault}
 use Rattle.gfp_model.specs.fcs_model.Fcs.{fcs_outcome, frame_in}
 use Rattle.gfp_noise.specs.flip_law.Single.{IsOneOrTwo, one, two}
-use Rattle.gfp_noise.specs.flip_law.Flipped.{IsFrame}
+use Rattle.gfp_noise.specs.flip_law.FlippedStream.{IsFrame}
 use Rattle.check_remainder.proofs.CountLaws.{count-zeros}
 use Rattle.gfp_noise.proofs.FlipLaws.FlippedLaws.{length-flipped, flipped_below, octet_bits-flipped, flipped-append}
 use Rattle.gfp_noise.proofs.FlipLaws.TypeLaws.{fcs_header_right, fcs_type_fault-right}

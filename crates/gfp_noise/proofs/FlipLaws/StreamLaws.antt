@@ -22,8 +22,8 @@ use Rattle.gfp_delineate.proofs.FrontLaws.{header_at-core}
 use Rattle.gfp_model.specs.fcs_model.Flips.{flipped}
 use Rattle.gfp_model.specs.fcs_model.Near.{near}
 use Rattle.gfp_model.specs.fcs_model.Fcs.{fcs_area, fcs_outcome, frame_in}
-use Rattle.gfp_noise.specs.flip_law.Flipped.{fcs_stream, IsFrame, fcs_delivered, area_size, area_flips, flips_after}
-use Rattle.gfp_noise.specs.flip_law.Flipped.{window, AreFew, clear}
+use Rattle.gfp_noise.specs.flip_law.FlippedStream.{fcs_stream, IsFrame, fcs_delivered, area_size, area_flips, flips_after}
+use Rattle.gfp_noise.specs.flip_law.FlippedStream.{window, AreFew, clear}
 use Rattle.check_remainder.proofs.CountLaws.{count-zeros, none_or_one}
 use Rattle.gfp_noise.proofs.FlipLaws.FlippedLaws.{length-flipped, octet_bits-flipped, flipped-none, flipped-append}
 use Rattle.gfp_noise.proofs.FlipLaws.PlaceLaws.{length-flips_of, turned-flipped}

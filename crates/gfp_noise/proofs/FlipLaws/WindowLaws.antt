@@ -8,7 +8,7 @@ use Rattle.gfp_noise.proofs.FlipLaws.PlaceLaws.{zeros_in_parts}
 use Rattle.law_model.specs.Common.{xors, descrambled, count}
 use Rattle.check_remainder.proofs.XorLaws.{xors-zeros, xors-zeros_right, xors-append}
 use Rattle.law_model.proofs.ScrambleLaws.{xors-longer, descramble-append, length-descrambled}
-use Rattle.gfp_noise.specs.flip_law.Flipped.{window}
+use Rattle.gfp_noise.specs.flip_law.FlippedStream.{window}
 use Rattle.gfp_noise.specs.flip_law.Single.{IsOneOrTwo, one, two}
 use Rattle.check_remainder.proofs.CountLaws.{OneAt, count_none, count_one}
 use Rattle.check_remainder.proofs.MedialLaws.{xors_medial}

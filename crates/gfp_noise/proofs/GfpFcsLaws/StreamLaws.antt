@@ -6,7 +6,7 @@ use Rattle.law_model.specs.Common.{core_header, joined, areas_stream, scrambled_
 use Rattle.law_model.proofs.StreamLaws.{areas_stream-push}
 use Rattle.law_model.proofs.ScrambledOctets.{length-scrambled_octets}
 use Rattle.gfp_model.specs.fcs_model.Fcs.{fcs_area}
-use Rattle.gfp_noise.specs.flip_law.Flipped.{fcs_stream}
+use Rattle.gfp_noise.specs.flip_law.FlippedStream.{fcs_stream}
 
 -- a piece of a scrambled list is as long as what it is of
 pub length-piece : (before more piece : List ℕ)

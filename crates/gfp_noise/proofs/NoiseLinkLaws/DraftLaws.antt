@@ -12,7 +12,7 @@ use Rattle.text_lines.proofs.FieldLaws.{where_none, number_ok, digits_ok, one_fi
 use Rattle.text_lines.proofs.TableLaws.{IsPlaced, IsSound, Keeps}
 use Rattle.gfp_model.specs.declared.fcs_model.Flip.{Flip}
 use Rattle.gfp_noise.specs.flip_law.Places.{at, LiesIn, IsRising}
-use Rattle.gfp_noise.specs.flip_law.Flipped.{fcs_stream, IsFrame}
+use Rattle.gfp_noise.specs.flip_law.FlippedStream.{fcs_stream, IsFrame}
 use Rattle.gfp_noise.proofs.FlipLaws.StreamLaws.{sizes, length-fcs_stream}
 use Rattle.gfp_noise.specs.declared.noise_link.noise_keyword.Keyword.{Keyword}
 use Rattle.gfp_noise.specs.declared.noise_link.noise_keyword.Keyword.TheVariants as word

@@ -1,7 +1,7 @@
 -- The stream of no frames.
 use Rattle.std.proofs.Common.{◌≡◌, ℕ, List, [], ◌++◌, ◌∙◌, ap, ap₂, append-nil}
 use Rattle.law_model.specs.Common.{core_header, cut}
-use Rattle.gfp_noise.specs.flip_law.Flipped.{fcs_stream}
+use Rattle.gfp_noise.specs.flip_law.FlippedStream.{fcs_stream}
 
 -- it is two idles
 pub idles : fcs_stream [] ≡ core_header 0 ++ core_header 0

@@ -3,7 +3,7 @@ use Rattle.std.specs.Prelude.{ℕ, List, length, All, Result}
 use Rattle.text_lines.specs.Table.{said_in, formed}
 use Rattle.text_lines.specs.declared.text_faults.LineFault.{LineFault}
 use Rattle.gfp_noise.specs.flip_law.Places.{LiesIn, IsRising}
-use Rattle.gfp_noise.specs.flip_law.Flipped.{fcs_stream, IsFrame}
+use Rattle.gfp_noise.specs.flip_law.FlippedStream.{fcs_stream, IsFrame}
 use Rattle.gfp_noise.specs.declared.noise_link.noise_keyword.Keyword.{Keyword}
 use Rattle.gfp_noise.specs.declared.noise_link.noise_text_fault.NotRising.{NotRising}
 use Rattle.gfp_noise.specs.declared.noise_link.noise_draft.Draft.{Draft}

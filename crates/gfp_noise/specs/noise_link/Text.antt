@@ -5,7 +5,7 @@ use Rattle.text_report.specs.Report.{got_texts}
 use Rattle.gfp_model.specs.declared.fcs_model.FcsWhy.{FcsWhy}
 use Rattle.gfp_model.specs.fcs_model.Fcs.{FcsOutcome, delivery, dropping, frame_in}
 use Rattle.gfp_noise.specs.flip_law.Places.{turned, flips_of}
-use Rattle.gfp_noise.specs.flip_law.Flipped.{fcs_stream, AreFew, clear}
+use Rattle.gfp_noise.specs.flip_law.FlippedStream.{fcs_stream, AreFew, clear}
 use Rattle.gfp_noise.specs.gfp_fcs.Delineator.{fcs_outcomes}
 use Rattle.gfp_noise.specs.declared.noise_link.noise_draft.Noise.{Noise}
 

@@ -2,7 +2,7 @@
 ghost use Rattle.std.specs.Prelude.{◌≡◌, ℕ, ◌+◌, ◌≤◌, List, [], ◌∷◌, ◌++◌, length, take};
 ghost use Rattle.law_model.specs.Common.{longest_frame};
 ghost use Rattle.gfp_model.specs.fcs_model.Fcs.{fcs_area};
-ghost use Rattle.gfp_noise.specs.flip_law.Flipped.{fcs_stream};
+ghost use Rattle.gfp_noise.specs.flip_law.FlippedStream.{fcs_stream};
 ghost use Rattle.gfp_noise.specs.gfp_fcs.Encoder.{EncoderStands};
 
 use gfp_headers::{core_bytes, type_bytes_fcs};

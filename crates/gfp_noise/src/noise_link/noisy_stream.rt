@@ -1,7 +1,7 @@
 //! The stream of frames, and its bits that are turned over.
 ghost use Rattle.std.specs.Prelude.{◌≡◌, ℕ, List, [], ◌∷◌, ◌++◌, length, All, IfOk, OnOk, fold};
 ghost use Rattle.gfp_noise.specs.flip_law.Places.{turned, LiesIn};
-ghost use Rattle.gfp_noise.specs.flip_law.Flipped.{fcs_stream, IsFrame};
+ghost use Rattle.gfp_noise.specs.flip_law.FlippedStream.{fcs_stream, IsFrame};
 ghost use Rattle.gfp_noise.specs.gfp_fcs.Encoder.{EncoderStands};
 
 use crate::gfp_fcs::FcsEncoder;

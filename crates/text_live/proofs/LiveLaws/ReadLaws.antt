@@ -4,14 +4,14 @@ use Rattle.std.proofs.Common.{Option, None, Some, option_map, is_none, if◌then
 use Rattle.std.specs.Option.{option_or}
 use Rattle.text_lines.specs.Words.{word_at, is_skipped}
 use Rattle.text_scripts.specs.declared.script_read.script_reader.ScriptReader.{ScriptReader}
-use Rattle.text_live.specs.declared.first_word.FirstWord.{FirstWord}
-use Rattle.text_live.specs.declared.first_word.FirstWord.TheVariants as first
-use Rattle.text_live.specs.declared.first_word.LiveKeyword.{LiveKeyword}
+use Rattle.text_live.specs.declared.live_keyword.FirstWord.{FirstWord}
+use Rattle.text_live.specs.declared.live_keyword.FirstWord.TheVariants as first
+use Rattle.text_live.specs.declared.live_keyword.LiveKeyword.{LiveKeyword}
 use Rattle.text_live.specs.declared.live_fault.LiveFault.{LiveFault}
 use Rattle.text_live.specs.declared.live_fault.LiveFault.TheVariants as fault
 use Rattle.text_live.specs.declared.live_fault.LiveLineFault.{LiveLineFault}
 use Rattle.text_live.specs.declared.live_line.LiveLine.{LiveLine}
-use Rattle.text_live.specs.declared.live_state.LiveState.{LiveState}
+use Rattle.text_live.specs.declared.read_live_line.LiveState.{LiveState}
 use Rattle.text_live.specs.declared.live_reader.LiveReader.{LiveReader}
 use Rattle.law_live.specs.Live.{Live, live_after}
 use Rattle.text_live.specs.LiveLines.{happens, Said, LineWrong, of_live, Told, nothing, now_live}

@@ -25,11 +25,11 @@ use Rattle.text_scripts.proofs.ScriptReadLaws.DraftLaws.{whole_config}
 use Rattle.text_scripts.proofs.ScriptReadLaws.FitLaws.{fits_words}
 use Rattle.text_scripts.proofs.ScriptReadLaws.GrowthLaws.{IsDraft-first, IsDraft-after}
 use Rattle.text_scripts.proofs.ScriptReadLaws.ValidLaws.{IsValid-draft}
-use Rattle.text_live.specs.declared.first_word.LiveKeyword.{LiveKeyword}
-use Rattle.text_live.specs.declared.first_word.LiveKeyword.TheVariants as word
-use Rattle.text_live.specs.declared.first_word.FirstWord.{FirstWord}
-use Rattle.text_live.specs.declared.first_word.FirstWord.TheVariants as first
-use Rattle.text_live.specs.declared.first_word.EarlierPart.{EarlierPart}
+use Rattle.text_live.specs.declared.live_keyword.LiveKeyword.{LiveKeyword}
+use Rattle.text_live.specs.declared.live_keyword.LiveKeyword.TheVariants as word
+use Rattle.text_live.specs.declared.live_keyword.FirstWord.{FirstWord}
+use Rattle.text_live.specs.declared.live_keyword.FirstWord.TheVariants as first
+use Rattle.text_live.specs.declared.live_keyword.EarlierPart.{EarlierPart}
 use Rattle.text_live.specs.declared.live_fault.LiveLineFault.TheVariants as wrong
 use Rattle.law_live.specs.Live.{Course, Live, course_at, cut_at, cuts, lands, live_after, mends, opened, passes, uncut, windows_by, with_course}
 use Rattle.law_live.specs.Common.{CanCut, CanSay, IsOfLine, Saying}

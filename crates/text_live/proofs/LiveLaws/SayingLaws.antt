@@ -20,9 +20,9 @@ use Rattle.law_live.specs.Live.{live_from}
 use Rattle.law_live.specs.WellSaid.{CanSayAll}
 use Rattle.law_live.specs.Common.{CanSay, IsWellSaid, Live, Saying, live_after, live_of, opened}
 use Rattle.law_live.proofs.GrowLaws.{live-more}
-use Rattle.text_live.specs.declared.first_word.EarlierPart.{EarlierPart}
-use Rattle.text_live.specs.declared.first_word.FirstWord.{FirstWord}
-use Rattle.text_live.specs.declared.first_word.FirstWord.TheVariants as first
+use Rattle.text_live.specs.declared.live_keyword.EarlierPart.{EarlierPart}
+use Rattle.text_live.specs.declared.live_keyword.FirstWord.{FirstWord}
+use Rattle.text_live.specs.declared.live_keyword.FirstWord.TheVariants as first
 use Rattle.text_live.specs.LiveLines.{Told, happens}
 use Rattle.text_live.specs.LiveLines.{Said, LineWrong, of_live, live_or, now_live, opening_fault, rest_fault}
 use Rattle.text_live.specs.LiveLines.{earlier_fault, fault_by, line_fault, first_of, live_told, told, told_by}

@@ -8,12 +8,12 @@ use Rattle.text_lines.specs.Words.{number_at}
 use Rattle.text_lines.specs.Fields.{within}
 use Rattle.law_model.specs.declared.window_types.Window.{Window}
 use Rattle.law_model.specs.declared.script_types.Config.{Config}
-use Rattle.text_live.specs.declared.first_word.LiveKeyword.{LiveKeyword}
-use Rattle.text_live.specs.declared.first_word.LiveKeyword.TheVariants as word
+use Rattle.text_live.specs.declared.live_keyword.LiveKeyword.{LiveKeyword}
+use Rattle.text_live.specs.declared.live_keyword.LiveKeyword.TheVariants as word
 use Rattle.text_live.specs.declared.live_fault.LiveLineFault.{LiveLineFault}
 use Rattle.text_live.specs.declared.live_line.LiveLine.TheVariants as line
-use Rattle.text_live.specs.declared.live_state.LineState.{LineState}
-use Rattle.text_live.specs.declared.live_state.LiveState.{LiveState}
+use Rattle.text_live.specs.declared.read_live_line.LineState.{LineState}
+use Rattle.text_live.specs.declared.read_live_line.LiveState.{LiveState}
 use Rattle.law_live.specs.Live.{Course, Live, closed, course_at, cut_at, cuts, live_after, mends, uncut, windows_by, with_course}
 use Rattle.text_live.specs.LiveLines.{happens, one_fault, own_fault}
 use Rattle.text_live.specs.LiveLines.{cut_fault, cut_fault_by, mend_fault, mend_fault_by}

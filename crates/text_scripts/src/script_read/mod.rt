@@ -6,10 +6,10 @@
 //! texts are scripts, and `valid_law` that such a text says a script that can be walked.
 
 mod grow_draft;
-mod read_item;
-mod read_network;
-mod read_option;
-mod read_script_line;
+mod item_words;
+mod network_words;
+mod option_words;
+mod read_statement;
 mod script_draft;
 mod script_fault;
 mod script_keyword;

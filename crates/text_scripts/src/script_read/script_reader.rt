@@ -11,7 +11,7 @@ ghost use Rattle.text_scripts.specs.script_read.Drafts.{IsDraft, fault_at};
 ghost use Rattle.law_model.specs.Common.{IsValid, HasFewLosses, longest_input};
 
 use crate::script_read::grow_draft::{add, no_lines};
-use crate::script_read::read_script_line::read_line;
+use crate::script_read::read_statement::read_line;
 use crate::script_read::script_draft::Draft;
 use crate::script_read::script_fault::{LineFault, LineStop, ScriptFault};
 use crate::script_read::script_keyword::awaited;

@@ -58,13 +58,16 @@ returns g c =
         answer = answer script;
         meets = meets-script _ answer script c.in-Ok.ensures.script;
         all = on_ok_weaker c.tell_alarms-written.result
-            (λ all. (report, subst (Appends g.E.ByteSink.written g.E.ByteSink.faults c.args.notes.now
-            c.tell_alarms-written.new.notes) alarms all)) c.tell_alarms-written.ensures.ok;
+            (λ all. (
+              report,
+              subst (Appends g.E.ByteSink.written g.E.ByteSink.faults c.args.notes.now
+                  c.tell_alarms-written.new.notes) alarms all,
+            )) c.tell_alarms-written.ensures.ok;
         part = on_err_weaker c.tell_alarms-written.result (λ part. inr (
           some-all _ _ c.args.out.now
               c.end_report.new.out (final_report (leg_of script)) report,
           subst (AppendsPart g.E.ByteSink.written g.E.ByteSink.faults c.args.notes.now
-          c.tell_alarms-written.new.notes) alarms part,
+              c.tell_alarms-written.new.notes) alarms part,
         ))
             c.tell_alarms-written.ensures.err;
         made = (script, c.in-Ok.ensures.script, ended);

@@ -3,7 +3,7 @@ use Rattle.std.proofs.Common.{refl}
 use Rattle.law_model.specs.Common.{extents, are_whole, said_before, cells_before, reaching, place_of, stream_before}
 use Rattle.law_model.specs.Common.{is_up, last_read, after, keep, none_kept, admit, turned, take_out, exchange}
 use Rattle.law_model.specs.members.Damage.{carried}
-use Rattle.law_service.specs.Place.{placed_before}
+use Rattle.law_service.specs.FrameEnds.{placed_before}
 use Rattle.law_service.proofs.legs_that_reach_bounds.worked_law.Goals as goal
 
 pub returns : goal.returns

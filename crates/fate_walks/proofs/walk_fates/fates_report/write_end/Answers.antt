@@ -5,7 +5,7 @@ use Rattle.law_model.specs.declared.session_totals.Totals.{Totals}
 use Rattle.text_got.specs.Told.{HasText}
 use Rattle.law_walk.specs.Common.{session_of, session_rows}
 use Rattle.fate_engine.specs.Common.{last_text}
-use Rattle.fate_engine.specs.declared.fate_text.fates_as_text.Tally.{Tally}
+use Rattle.fate_engine.specs.declared.fate_text.fate_lines.Tally.{Tally}
 use Rattle.fate_walks.proofs.WalkFatesLaws.LineLaws.{starts-are, end-text}
 use Rattle.fate_walks.proofs.walk_fates.fates_report.write_end.Goals as goal
 

@@ -1,6 +1,6 @@
 -- The stream has the frames so far.
 use Rattle.std.proofs.Common.{◌≡◌, take}
-use Rattle.gfp_noise.specs.flip_law.Flipped.{fcs_stream}
+use Rattle.gfp_noise.specs.flip_law.FlippedStream.{fcs_stream}
 use Rattle.gfp_noise.specs.gfp_fcs.Encoder.{EncoderStands}
 use Rattle.gfp_noise.proofs.noise_link.noisy_stream.stream_of.Given as goal
 

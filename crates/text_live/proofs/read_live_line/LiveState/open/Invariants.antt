@@ -1,0 +1,14 @@
+-- The lines so far are kept as before they are cut.
+use Rattle.std.proofs.Common.{◌≡◌, ◌≤◌, map, take}
+use Rattle.std.specs.Prelude.{vec_capacity}
+use Rattle.law_live.specs.Live.{uncut}
+use Rattle.text_live.specs.Reading.{state_of}
+use Rattle.text_live.proofs.read_live_line.LiveState.open.Given as goal
+
+abbrev pub invariant-loop-list : goal.invariant-loop-list
+invariant-loop-list l = record {
+  lines : l.self.lines.items ≡ map state_of (map uncut (take l.list-index l.fn.config.windows));
+  room : 128 ≤ vec_capacity l.self.lines;
+  ticks : l.self.ticks ≡ l.fn.config.ticks;
+  passed : l.self.passed ≡ 0;
+}

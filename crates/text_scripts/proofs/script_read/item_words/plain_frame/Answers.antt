@@ -1,0 +1,16 @@
+-- The digits are the last word.
+use Rattle.std.proofs.Common.{◌∷◌, ◌∙◌, List, ℕ, ap, arith}
+use Rattle.text_scripts.proofs.ScriptReadLaws.DigitLaws.{digits_only}
+use Rattle.text_scripts.proofs.script_read.item_words.plain_frame.Goals as goal
+
+pub returns-in-Ok-clause-words : goal.returns-in-Ok-clause-words
+returns-in-Ok-clause-words c =
+    let some = c.in-Ok.ensures.fits.0 in
+    record {
+      digits = c.in-Some.digits.now;
+      words = c.in-Some.ensures.some
+          ∙ ap (λ (ws : List (List ℕ)). c.in-Some.due.now ∷ ws)
+          (digits_only c.in-Some.digits.now c.in-Ok.octets.items c.in-Ok.ensures.ok.1 (omega (arith, some)));
+      sound = c.in-Ok.ensures.ok.0;
+      is = c.in-Ok.ensures.ok.1;
+    }
