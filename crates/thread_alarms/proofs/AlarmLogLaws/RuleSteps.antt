@@ -204,8 +204,7 @@ forks-log pass h fresh below items views holds at = elim holds [
                   subst (AreBelow (h.made + 1)) (sym fresh) tt,
                   mine.7,
                 )
-            | inr (other, is) ↦ others d.reader d.most d.posts d.seat seat' d.sent d.got d.got j u
-                (λ r. other (r ∙ sym mine.0))
+            | inr (other, is) ↦ others _ d.most _ d.seat seat' _ d.got d.got j u (λ r. other (r ∙ sym mine.0))
                 (λ n e. at_key-other h.made (some (length views)) d.seat n (apart j n e) ∙ e) (d.fits j u is)
           ]
           | inr (last, is) ↦ subst (λ (y : ℕ × View). Fits d.reader d.most d.posts seat' d.sent d.got y.0 y.1)

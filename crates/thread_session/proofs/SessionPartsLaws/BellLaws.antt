@@ -1,10 +1,10 @@
 -- No ring is lost: a bell that was rung for after its owner's note says so until the next note.
-use Rattle.std.proofs.Common.{◌≡◌, ℕ, List, [], ◌∷◌, ◌++◌, fold, All, Bool, true, false, refl, sym, ◌∙◌, ap, subst}
+use Rattle.std.proofs.Common.{◌≡◌, ℕ, List, [], ◌∷◌, ◌++◌, All, true, false, refl, sym, ◌∙◌, ap, subst}
 use Rattle.std.proofs.Common.{inl, inr}
 use Rattle.std.proofs.lemmas.Bool.{cases_Bool}
 use Rattle.std.proofs.lemmas.List.Elements.{All-head, All-tail, All-cons, All-nil}
 use Rattle.std.proofs.lemmas.List.Sums.{fold-append}
-use Rattle.thread_session.specs.session_parts.Bells.{BellWord, BellNow, BellStep, bell_by, bell_after, is_note, is_stop}
+use Rattle.thread_session.specs.session_parts.Bells.{BellNow, BellStep, bell_by, bell_after, is_note, is_stop}
 use Rattle.thread_session.specs.session_parts.Bells.{quiet, rung, asleep, notes, looks, hears, stops_hearing, sleeps}
 use Rattle.thread_session.specs.session_parts.Bells.{moves, rings, rings_from_behind, HaveNoNote, AreHeard, waiting}
 use Rattle.thread_session.specs.session_parts.Bells.{waiting_for_behind}

@@ -124,9 +124,7 @@ module _ (script : Script) (valid : IsValid script) (n : ℕ) (own : List (List 
       ≡ delivered_of (leg_of script) script.config.ticks
   frames-session decided =
       session-frames (scenario_of script) (session_cells (scenario_of script)) own script.config.ticks
-      (λ t low. course-rows (scenario_of script) script.config.ticks n own
-      (has-lines (leg_of script) can) lag course t low
-      (decided t low))
+      (λ t low. course-rows _ _ n own (has-lines (leg_of script) can) lag course t low (decided t low))
 
   packet-low : (ticks k : ℕ) → k < (ticks - 8) / 16 → 16 * k + 23 < ticks
   packet-low ticks k low = omega (arith, low)

@@ -183,18 +183,15 @@ module _ (script : Script) (valid : IsValid script) (group : GroupState) (worker
       let lag : 0 < script.config.lag = (let within = valid.sound.network.lag in omega (arith, within.0)) in
       let n : ℕ = used_in script.config.lag script.config.ticks in
       ap (take n) (told script valid group workers sink end
-      ∙ course-returns (scenario_of script) script.config.ticks n (cells_of sink) (has-lines (leg_of script) can) lag
-      (course script valid group workers sink end))
+      ∙ course-returns _ _ n _ (has-lines _ can) lag (course script valid group workers sink end))
       ∙ session-agree (scenario_of script) n n (most script valid group workers sink end) (omega arith)
 
   refusal-is : (item : Numbered) → item.item.due ≤ script.config.ticks →
       refusal_by (leg_of script) (taken_of group) item ≡ refusal_at (leg_of script) item
   refusal-is item low =
-      refusal-alike (scenario_of script) (taken_of group) (scenario_of script)
-      (session_cells (scenario_of script)) script.config.ticks item.item.due
-      (take item.number script.items) item.item.kind
-      (alike-cells (scenario_of script) (taken_of group) (session_cells (scenario_of script)) script.config.ticks agree)
-      low
+      refusal-alike _ (taken_of group) _ _ script.config.ticks item.item.due (take item.number script.items)
+      item.item.kind (alike-cells (scenario_of script) (taken_of group) (session_cells (scenario_of script))
+      script.config.ticks agree) low
 
   ahead : Ahead (dues_of script.items) script.config.ticks (frames_of group) (commands_of group)
   ahead =

@@ -67,6 +67,23 @@ stands-laid a b rows core got count cells back stands =
           ∙ sym (ap (λ (own : Core). count_of (given_frames own.options own.size (cells_of b) own.taken)) core);
     }
 
+-- all that is so of rings whose ends were laid beside each other
+pub record AreRingsLaid (tx tx' : List (OutEnd Container)) (workers workers' : List LineWorker)
+    (rx rx' : List (InEnd Cell)) : Type 0 where
+  pub count : length workers' ≡ length workers
+  pub lines : (m : ℕ) (old new : LineWorker) → slice_get workers m ≡ Some old → slice_get workers' m ≡ Some new →
+      HasLookedLine old new
+  pub sends : (m : ℕ) (out : OutEnd Container) (worker : LineWorker) → slice_get tx' m ≡ Some out →
+      slice_get workers' m ≡ Some worker →
+      in_passed worker.consumer ++ in_items worker.consumer ≡ out_passed out
+  pub receives : (m : ℕ) (worker : LineWorker) (into : InEnd Cell) → slice_get workers' m ≡ Some worker →
+      slice_get rx' m ≡ Some into →
+      in_passed into ++ in_items into ≡ out_passed worker.producer
+  pub send_ends : AreSendEnds tx' workers'
+  pub receive_ends : AreReceiveEnds workers' rx'
+  pub cells : received rx' ≡ received rx
+  pub still : AreStill tx tx'
+
 module _ (tx tx' : List (OutEnd Container)) (workers mid workers' : List LineWorker) (rx rx' : List (InEnd Cell))
     (sends : AreSendsLaid tx workers tx' mid) (receives : AreReceivesLaid mid rx workers' rx')
     (tx_count : length tx ≡ length workers) (rx_count : length rx ≡ length workers) where
@@ -118,45 +135,31 @@ module _ (tx tx' : List (OutEnd Container)) (workers mid workers' : List LineWor
 
   sends-laid : (m : ℕ) (out : OutEnd Container) (worker : LineWorker) → slice_get tx' m ≡ Some out →
       slice_get workers' m ≡ Some worker →
-      in_passed worker.consumer ++ in_items worker.consumer ≡ out_passed out
+      (in_passed worker.consumer ++ in_items worker.consumer ≡ out_passed out) × AreEnds out worker.consumer
   sends-laid m out worker at there =
       let inside = slice_get_within workers' m worker there in
       let (old, was) = old-at m (omega (arith, inside, laid-count)) in
       let (other, mid_there) = mid-at m (omega (arith, inside, laid-count)) in
       let (first, last, on, on', sent) = send-at m old other was mid_there in
       let (into, into', to, to', got) = receive-at m other worker mid_there there in
-      let same : last ≡ out = (let e : Some last ≡ Some out = sym on' ∙ at in cc) in
-      ap (λ (end : InEnd Container). in_passed end ++ in_items end) got.consumer ∙ sent.fifo
-      ∙ ap (out_passed {T = Container}) same
+      let same : last ≡ out = (let e : Some last ≡ Some out = sym on' ∙ at in cc) in (
+        ap (λ (end : InEnd Container). in_passed end ++ in_items end) got.consumer ∙ sent.fifo
+            ∙ ap (out_passed {T = Container}) same,
+        subst (λ (end : InEnd Container). AreEnds out end) (sym got.consumer)
+            (subst (λ (end : OutEnd Container). AreEnds end other.consumer) same sent.ends),
+      )
 
   receives-laid : (m : ℕ) (worker : LineWorker) (into : InEnd Cell) → slice_get workers' m ≡ Some worker →
       slice_get rx' m ≡ Some into →
-      in_passed into ++ in_items into ≡ out_passed worker.producer
+      (in_passed into ++ in_items into ≡ out_passed worker.producer) × AreEnds worker.producer into
   receives-laid m worker into there at =
       let inside = slice_get_within workers' m worker there in
       let (other, mid_there) = mid-at m (omega (arith, inside, laid-count)) in
       let (first, last, on, on', got) = receive-at m other worker mid_there there in
-      let same : into ≡ last = (let e : Some into ≡ Some last = sym at ∙ on' in cc) in
-      ap (λ (end : InEnd Cell). in_passed end ++ in_items end) same ∙ got.fifo
-
-  send-ends-laid : AreSendEnds tx' workers'
-  send-ends-laid m out worker at there =
-      let inside = slice_get_within workers' m worker there in
-      let (old, was) = old-at m (omega (arith, inside, laid-count)) in
-      let (other, mid_there) = mid-at m (omega (arith, inside, laid-count)) in
-      let (first, last, on, on', sent) = send-at m old other was mid_there in
-      let (into, into', to, to', got) = receive-at m other worker mid_there there in
-      let same : last ≡ out = (let e : Some last ≡ Some out = sym on' ∙ at in cc) in
-      subst (λ (end : InEnd Container). AreEnds out end) (sym got.consumer)
-      (subst (λ (end : OutEnd Container). AreEnds end other.consumer) same sent.ends)
-
-  receive-ends-laid : AreReceiveEnds workers' rx'
-  receive-ends-laid m worker into there at =
-      let inside = slice_get_within workers' m worker there in
-      let (other, mid_there) = mid-at m (omega (arith, inside, laid-count)) in
-      let (first, last, on, on', got) = receive-at m other worker mid_there there in
-      let same : into ≡ last = (let e : Some into ≡ Some last = sym at ∙ on' in cc) in
-      subst (λ (end : InEnd Cell). AreEnds worker.producer end) (sym same) got.ends
+      let same : into ≡ last = (let e : Some into ≡ Some last = sym at ∙ on' in cc) in (
+        ap (λ (end : InEnd Cell). in_passed end ++ in_items end) same ∙ got.fifo,
+        subst (λ (end : InEnd Cell). AreEnds worker.producer end) (sym same) got.ends,
+      )
 
   received-laid : received rx' ≡ received rx
   received-laid =
@@ -186,33 +189,14 @@ module _ (tx tx' : List (OutEnd Container)) (workers mid workers' : List LineWor
     passed = λ m old new was is. let (worker, other, laid) = laid-at m old new was is in laid.pushed;
   }
 
--- ---- all of that
-pub record AreRingsLaid (tx tx' : List (OutEnd Container)) (workers workers' : List LineWorker)
-    (rx rx' : List (InEnd Cell)) : Type 0 where
-  pub count : length workers' ≡ length workers
-  pub lines : (m : ℕ) (old new : LineWorker) → slice_get workers m ≡ Some old → slice_get workers' m ≡ Some new →
-      HasLookedLine old new
-  pub sends : (m : ℕ) (out : OutEnd Container) (worker : LineWorker) → slice_get tx' m ≡ Some out →
-      slice_get workers' m ≡ Some worker →
-      in_passed worker.consumer ++ in_items worker.consumer ≡ out_passed out
-  pub receives : (m : ℕ) (worker : LineWorker) (into : InEnd Cell) → slice_get workers' m ≡ Some worker →
-      slice_get rx' m ≡ Some into →
-      in_passed into ++ in_items into ≡ out_passed worker.producer
-  pub send_ends : AreSendEnds tx' workers'
-  pub receive_ends : AreReceiveEnds workers' rx'
-  pub cells : received rx' ≡ received rx
-  pub still : AreStill tx tx'
-
-pub rings-laid : (tx tx' : List (OutEnd Container)) (workers mid workers' : List LineWorker)
-    (rx rx' : List (InEnd Cell)) → AreSendsLaid tx workers tx' mid → AreReceivesLaid mid rx workers' rx' →
-    length tx ≡ length workers → length rx ≡ length workers → AreRingsLaid tx tx' workers workers' rx rx'
-rings-laid tx tx' workers mid workers' rx rx' sends receives tx_count rx_count = record {
-  count = laid-count tx tx' workers mid workers' rx rx' sends receives tx_count rx_count;
-  lines = looked-line tx tx' workers mid workers' rx rx' sends receives tx_count rx_count;
-  sends = sends-laid tx tx' workers mid workers' rx rx' sends receives tx_count rx_count;
-  receives = receives-laid tx tx' workers mid workers' rx rx' sends receives tx_count rx_count;
-  send_ends = send-ends-laid tx tx' workers mid workers' rx rx' sends receives tx_count rx_count;
-  receive_ends = receive-ends-laid tx tx' workers mid workers' rx rx' sends receives tx_count rx_count;
-  cells = received-laid tx tx' workers mid workers' rx rx' sends receives tx_count rx_count;
-  still = sends-still tx tx' workers mid workers' rx rx' sends receives tx_count rx_count;
-}
+  pub rings-laid : AreRingsLaid tx tx' workers workers' rx rx'
+  rings-laid = record {
+    count = laid-count;
+    lines = looked-line;
+    sends = λ m out worker at there. (sends-laid m out worker at there).0;
+    receives = λ m worker into there at. (receives-laid m worker into there at).0;
+    send_ends = λ m out worker at there. (sends-laid m out worker at there).1;
+    receive_ends = λ m worker into there at. (receives-laid m worker into there at).1;
+    cells = received-laid;
+    still = sends-still;
+  }

@@ -38,11 +38,7 @@ fn take_last(share: &mut Vec<ServedLine>, lines: &mut Vec<ServedLine>)
 }
 
 /// Brings the workers of so many lines back into the order of the lines.
-pub fn collect(
-    shares: Vec<Vec<ServedLine>>,
-    count: usize,
-    room: Vec<ServedLine>,
-) -> Vec<ServedLine>
+pub fn collect(shares: Vec<Vec<ServedLine>>, count: usize, room: Vec<ServedLine>) -> Vec<ServedLine>
     requires some { 0 < vec_len shares }
     requires room { (room.items ≡ []) × (count ≤ vec_capacity room) }
     ensures { (workers : List ServedLine) → length workers ≡ count → AreNumbered 0 workers →

@@ -19,13 +19,11 @@ loop-post-preserved c =
     record {
       own = (c.join_one.ensures.own.0, same ∙ before.own.1);
       is = (joined was (view c.join_one.new.pass) (known_by post ∷ []) before.is c.join_one.ensures.known).is;
-      queue = λ i other there. before.queue _ other (in-rest post
-          (into_iter_items c.loop-post.post-iterator) rest steps.0 i other there) ∙ sym same;
+      queue = λ i other there. before.queue _ other (in-rest post _ rest steps.0 i other there) ∙ sym same;
       room = omega (arith, before.room, steps.1, c.push_reserved.ensures.len, c.push_reserved.ensures.capacity);
       known = ap (λ u. with_known u (map known_by rest)) c.join_one.ensures.known
           ∙ with-then was (known_by post ∷ []) (map known_by rest)
           ∙ ap (λ l. with_known was (map known_by l)) (sym steps.0) ∙ before.known;
-      kept = moved-one items_of kept_by c.loop-post.all.items c.push_reserved.new.self.items c.join_one.result post _
-          rest c.args.posts.items
-          steps.0 c.push_reserved.ensures.items c.join_one.ensures.kept before.kept;
+      kept = moved-one items_of kept_by c.loop-post.all.items _ c.join_one.result post _ rest
+          c.args.posts.items steps.0 c.push_reserved.ensures.items c.join_one.ensures.kept before.kept;
     }

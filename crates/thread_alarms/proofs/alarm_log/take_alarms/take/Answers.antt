@@ -32,8 +32,7 @@ returns-in-Some-clause-listens g c =
     record {
       own = (c.in-Some.ensures.queue.0 ∙ c.requires.own.0, c.in-Some.ensures.queue.2 ∙ c.requires.own.1);
       is = more.is;
-      listed = listed-more v w x c.args.list.now.items c.push_reserved.new.self.items more.got c.requires.listed
-          c.push_reserved.ensures.items;
+      listed = listed-more v w x _ _ more.got c.requires.listed c.push_reserved.ensures.items;
       room = subst (λ n. n ≤ vec_capacity c.push_reserved.new.self) (sym room)
           (omega (arith, c.requires.room, c.push_reserved.ensures.capacity));
     }

@@ -26,10 +26,9 @@ new-requires c = λ own is.
     let before = c.loop-worker.invariant in
     let steps = c.in-Some.ensures.steps in
     let items = c.next-in-loop-worker.ensures.items in
-    (next-watch (into_iter_items c.loop-worker.worker-iterator) (into_iter_items c.loop-worker.left) c.in-Some.worker
-    own
-    (into_iter_items c.next.new.self) (into_iter_items c.next-in-loop-worker.new.self)
-    steps.0 (items ∙ ap (λ o. option_to_list o ++ into_iter_items c.next-in-loop-worker.new.self) is) before.watch).0
+    (next-watch _ (into_iter_items c.loop-worker.left) c.in-Some.worker own (into_iter_items c.next.new.self)
+    (into_iter_items c.next-in-loop-worker.new.self) steps.0
+    (items ∙ ap (λ o. option_to_list o ++ into_iter_items c.next-in-loop-worker.new.self) is) before.watch).0
 
 pub loop-worker-preserved : goal.loop-worker-preserved
 loop-worker-preserved c =
@@ -54,13 +53,8 @@ loop-worker-preserved c =
           ∙ ap (λ o. posts_of served ++ (option_to_list o ++ ps)) c.new.ensures.post
           ∙ ap (λ l. posts_of served ++ l) (sym e.items) ∙ before.posts;
       room = search rules;
-      few = few-left post (into_iter_len c.loop-worker.left) (into_iter_len c.next-in-loop-worker.new.self)
-          (length (into_iter_items c.loop-worker.left)) (length ps)
-          (length (into_iter_items c.loop-worker.worker-iterator)) (length ws) _ e.cases size size' e.len before.few
-          long;
-      watch = rest-watch post (into_iter_items c.loop-worker.worker-iterator)
-          (into_iter_items c.loop-worker.left) c.in-Some.worker ws ps
-          steps.0 e.items (λ none. nil_from_length ps
-          (size' ∙ none-left post (into_iter_len c.loop-worker.left) (into_iter_len c.next-in-loop-worker.new.self)
-          _ e.cases none)) before.watch;
+      few = few-left post _ _ _ (length ps) _ (length ws) _ e.cases size size' e.len before.few long;
+      watch = rest-watch post _ (into_iter_items c.loop-worker.left) c.in-Some.worker ws ps steps.0 e.items
+          (λ none. nil_from_length ps (size' ∙ none-left post (into_iter_len c.loop-worker.left)
+          (into_iter_len c.next-in-loop-worker.new.self) _ e.cases none)) before.watch;
     }

@@ -9,11 +9,10 @@ loop-m-init c = pairs-none IsReceiveLaid c.args.workers.now.items c.args.rx.now.
 
 pub loop-m-preserved : goal.loop-m-preserved
 loop-m-preserved c =
-    pairs-next IsReceiveLaid c.loop-m.m c.args.workers.now.items c.args.rx.now.items c.loop-m.workers.items
-    c.loop-m.rx.items c.index_mut.result.now c.index_mut-in-loop-m.result.now (sym c.requires.count)
-    (omega (arith, c.loop-m-test.true, c.len-m-end.ensures, c.args.workers.now.ok.0))
-    c.index_mut.ensures.value c.index_mut-in-loop-m.ensures.value c.loop-m.invariant
-    c.lay_receive.new.worker c.lay_receive.new.into c.lay_receive.ensures
+    pairs-next IsReceiveLaid c.loop-m.m _ c.args.rx.now.items c.loop-m.workers.items c.loop-m.rx.items _ _
+    (sym c.requires.count) (omega (arith, c.loop-m-test.true, c.len-m-end.ensures, c.args.workers.now.ok.0))
+    c.index_mut.ensures.value c.index_mut-in-loop-m.ensures.value c.loop-m.invariant c.lay_receive.new.worker
+    c.lay_receive.new.into c.lay_receive.ensures
 
 pub returns : goal.returns
 returns c =
@@ -26,8 +25,7 @@ pub lay_receive-requires : goal.lay_receive-requires
 lay_receive-requires c =
     let worker = c.index_mut.result.now in
     let into = c.index_mut-in-loop-m.result.now in
-    let left = pairs-left IsReceiveLaid c.loop-m.m c.args.workers.now.items c.args.rx.now.items c.loop-m.workers.items
-    c.loop-m.rx.items worker into (sym c.requires.count)
-    (omega (arith, c.loop-m-test.true, c.len-m-end.ensures, c.args.workers.now.ok.0))
+    let left = pairs-left IsReceiveLaid c.loop-m.m _ c.args.rx.now.items _ c.loop-m.rx.items worker into
+    (sym c.requires.count) (omega (arith, c.loop-m-test.true, c.len-m-end.ensures, c.args.workers.now.ok.0))
     c.index_mut.ensures.value c.index_mut-in-loop-m.ensures.value c.loop-m.invariant in
     c.requires.ends c.loop-m.m worker into left.0 left.1

@@ -52,8 +52,7 @@ loop-worker-preserved c =
     let place = c.loop-worker.line % c.len-count.result in
     let within : place < length c.loop-worker.shares.items =
     omega (arith, before.count.0, before.count.1, c.requires.some, c.loop-worker.shares.ok.0) in
-    let number = numbered-first c.loop-worker.line worker rest (into_iter_items c.loop-worker.worker-iterator) steps.0
-    before.numbers in
+    let number = numbered-first c.loop-worker.line worker rest _ steps.0 before.numbers in
     let own = c.index_mut.result.now in
     let now = c.push_reserved.new.self in
     record {

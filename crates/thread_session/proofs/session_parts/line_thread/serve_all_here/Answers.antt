@@ -31,10 +31,9 @@ loop-share-preserved g c = record {
       told-set flags c.loop-share.share-items c.loop-share.share-index c.share-item.result c.serve_here.new.held
       (omega (arith, c.loop-share-test.true, c.loop-share.auto.share-items)) c.serve_here.ensures.told
       (c.loop-share.invariant.told flags told);
-  tried = each-next IsTriedHere c.loop-share.share-index c.args.held.now.items c.loop-share.share-items
-      c.share-item.result c.serve_here.new.held
-      (omega (arith, c.loop-share-test.true, c.loop-share.auto.share-items)) c.serve_here.ensures.tried
-      c.loop-share.invariant.tried;
+  tried = each-next IsTriedHere c.loop-share.share-index c.args.held.now.items _ c.share-item.result
+      c.serve_here.new.held (omega (arith, c.loop-share-test.true, c.loop-share.auto.share-items))
+      c.serve_here.ensures.tried c.loop-share.invariant.tried;
 }
 
 pub returns : goal.returns

@@ -18,12 +18,10 @@ loop-line-preserved c =
     let stands = c.in_ok-core.ensures in
     let same : c.from-m.result ≡ c.loop-line.line = c.from-m.ensures in
     rw (c.in_ok-push.ensures.items, c.in_ok-push-2.ensures.items, c.in_ok-push-3.ensures.items)
-    (opened-more config c.loop-line.line c.loop-line.tx.items c.loop-line.workers.items c.loop-line.rx.items ends.tx
-    worker ends.rx_out c.loop-line.invariant
-    c.in_ok-ends.ensures.send.pushed c.in_ok-ends.ensures.receive.popped
+    (opened-more config c.loop-line.line c.loop-line.tx.items _ c.loop-line.rx.items ends.tx worker
+    ends.rx_out c.loop-line.invariant c.in_ok-ends.ensures.send.pushed c.in_ok-ends.ensures.receive.popped
     (c.in_ok-ends.ensures.receive.in_slots ∙ c.slots.ensures ∙ ap (slots_of config) same)
-    (ap out_passed c.new.ensures.ends.1 ∙ c.in_ok-ends.ensures.receive.pushed)
-    (record {
+    (ap out_passed c.new.ensures.ends.1 ∙ c.in_ok-ends.ensures.receive.pushed) (record {
       number = c.new.ensures.line;
       delay = c.new.ensures.delay ∙ stands.delay ∙ ap (λ (k : ℕ). slice_index_or config.delays k 0) same;
       windows = c.new.ensures.windows ∙ stands.windows ∙ ap (λ (k : ℕ). slice_index_or config.windows k []) same;

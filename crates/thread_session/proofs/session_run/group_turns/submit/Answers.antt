@@ -1,6 +1,6 @@
 -- What the group answers to the item is what it answers to its kind.
 use Rattle.std.proofs.Common.{sym, ◌∙◌, subst}
-use Rattle.law_model.specs.Common.{leg_of, refusal_in}
+use Rattle.law_model.specs.Common.{refusal_in}
 use Rattle.thread_group.specs.Calls.{Submits}
 use Rattle.thread_group.specs.Group.{HasCounted}
 use Rattle.thread_session.proofs.SessionRunLaws.LandLaws.{has-landed}
@@ -17,6 +17,5 @@ returns g c =
     record {
       counted = subst (HasCounted old.state new.state kind) (sym c.has_landed.ensures) call.landed;
       landed = λ yes.
-          has-landed (leg_of g.Y.Session.script) g.Y.Session.tx g.Y.Session.back old.state new.state c.args.number kind
-          answer old.bound call (sym c.has_landed.ensures ∙ yes);
+          has-landed _ _ _ old.state new.state _ kind answer old.bound call (sym c.has_landed.ensures ∙ yes);
     }

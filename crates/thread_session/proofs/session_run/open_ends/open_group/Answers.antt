@@ -10,8 +10,6 @@ pub returns-clause-bound : goal.returns-clause-bound
 returns-clause-bound c =
     let e = c.new.ensures in
     let items = c.items_of-items in
-    group-opened c.args.script.now c.requires.script (length items.result.now) c.all_octets.result c.args.tx c.args.back
-    c.new.result
-    (ap (length {A = Item}) items.ensures) (c.all_octets.ensures ∙ ap (λ l. octets_in (offers_of l)) items.ensures)
-    c.requires.sends
-    e.script e.ticks e.landed e.journal e.room e.refusals e.ends e.made
+    group-opened c.args.script.now c.requires.script _ c.all_octets.result c.args.tx c.args.back c.new.result
+    (ap (length {A = Item}) items.ensures) (c.all_octets.ensures ∙ ap (λ l. octets_in (offers_of l))
+    items.ensures) c.requires.sends e.script e.ticks e.landed e.journal e.room e.refusals e.ends e.made

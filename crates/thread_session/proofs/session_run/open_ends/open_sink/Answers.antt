@@ -5,5 +5,4 @@ use Rattle.thread_session.proofs.session_run.open_ends.open_sink.Goals as goal
 pub returns-clause-sink : goal.returns-clause-sink
 returns-clause-sink c =
     let e = c.new.ensures in
-    sink-opened c.args.script.now c.requires.script c.new.result e.lines e.size e.options e.ticks e.taken e.failed
-    e.stands
+    sink-opened _ c.requires.script c.new.result e.lines e.size e.options e.ticks e.taken e.failed e.stands

@@ -1,7 +1,6 @@
 -- A look at both ends of each ring.
-use Rattle.std.proofs.Common.{length, refl}
+use Rattle.std.proofs.Common.{refl}
 use Rattle.law_model.specs.Common.{leg_of}
-use Rattle.thread_group.specs.Group.{parts_of}
 use Rattle.thread_group.proofs.LayLaws.{keeps-laid, bound-laid}
 use Rattle.thread_session.proofs.SessionRunLaws.LayLaws.{mid-receives, stands-laid, rings-laid}
 use Rattle.thread_session.proofs.session_run.opened_session.lay_beside.Goals as goal
@@ -13,21 +12,16 @@ lay_receives-requires-clause-ends c =
 
 pub invariant_of-group : goal.invariant_of-group
 invariant_of-group c =
-    let laid = rings-laid c.args.group.tx.items c.lay_sends.new.tx.items c.args.lines.items
-    c.lay_sends.new.workers.items c.lay_receives.new.workers.items c.args.sink.rx.items
-    c.lay_receives.new.rx.items
-    c.lay_sends.ensures c.lay_receives.ensures c.requires.count.0 c.requires.count.1 in
+    let laid = rings-laid _ _ _ _ _ _ _ c.lay_sends.ensures c.lay_receives.ensures c.requires.count.0
+    c.requires.count.1 in
     record {
-      keeps = keeps-laid (parts_of c.args.group) (length c.args.group.frame.items) c.lay_sends.new.tx.items
-          c.beside.new.self c.args.group.keeps laid.still c.beside.ensures.popped;
+      keeps = keeps-laid _ _ _ c.beside.new.self c.args.group.keeps laid.still c.beside.ensures.popped;
     }
 
 pub returns : goal.returns
 returns c =
-    let laid = rings-laid c.args.group.tx.items c.lay_sends.new.tx.items c.args.lines.items
-    c.lay_sends.new.workers.items c.lay_receives.new.workers.items c.args.sink.rx.items
-    c.lay_receives.new.rx.items
-    c.lay_sends.ensures c.lay_receives.ensures c.requires.count.0 c.requires.count.1 in
+    let laid = rings-laid _ _ _ _ _ _ _ c.lay_sends.ensures c.lay_receives.ensures c.requires.count.0
+    c.requires.count.1 in
     record {
       landed = λ script tx back is. bound-laid
           (leg_of script) c.args.group c.lay_sends.new.tx c.beside.new.self _ laid.still

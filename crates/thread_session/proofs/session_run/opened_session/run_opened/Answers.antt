@@ -39,9 +39,8 @@ lines_beside-lines-requires-clause-room g c κs within =
 
 pub split_lines-lines-requires : goal.split_lines-lines-requires
 split_lines-lines-requires g c =
-    let grown = zip-then IsServedLater served-then c.serve_lines-lines.result.items
-    c.lines_beside-lines.result.0.items c.finish.new.lines.items c.lines_beside-lines.ensures.lines
-    c.finish.ensures.lines in
+    let grown = zip-then IsServedLater served-then c.serve_lines-lines.result.items _ c.finish.new.lines.items
+    c.lines_beside-lines.ensures.lines c.finish.ensures.lines in
     let few = served-few c.args.opened.lines c.serve_lines-lines.result c.finish.new.lines
     c.serve_lines-lines.ensures.workers grown in
     let workers = c.requires.places.workers in
@@ -56,8 +55,7 @@ module _ (g : given.Over) (c : After-into_state g) where
   -- the group is bound to the script and to the ends of the opening
   own : IsBound (leg_of c.args.script.now) c.args.opened.group.tx.items
       (c.args.opened.group.back ∷ []) c.into_state.result
-  own = bound-own _ _ _ c.args.script.now c.args.opened.group c.into_state.result c.requires.session
-      c.into_state.ensures.bound
+  own = bound-own _ _ _ c.args.script.now c.args.opened.group _ c.requires.session c.into_state.ensures.bound
 
   -- how the session began
   abbrev first : Begun
@@ -68,8 +66,7 @@ module _ (g : given.Over) (c : After-into_state g) where
   beside : StandsFor g.K.ByteSink.written g.K.ByteSink.faults first c.lines_beside-lines.result.1.out.ghost_name
       c.lines_beside-lines.result.1.sink c.lines_beside-lines.result.1.out.now c.lines_beside-lines.result.1.log
   beside =
-      let begins = run-begins c.args.script.now c.args.opened.sink first.first first.name first.log
-      c.requires.open.sink in
+      let begins = run-begins c.args.script.now _ first.first first.name first.log c.requires.open.sink in
       c.lines_beside-lines.ensures.duty first (
         refl,
         handed-on g.K.ByteSink.written g.K.ByteSink.faults first c.args.opened.sink c.new-duty.result.sink
@@ -79,15 +76,12 @@ module _ (g : given.Over) (c : After-into_state g) where
 
   -- the worker of the sink once nothing is left
   run : HasRunTo g.K.ByteSink.written g.K.ByteSink.faults first c.finish.new.sink c.finish.new.out
-  run = c.finish.ensures.run first
-      (handed-on g.K.ByteSink.written g.K.ByteSink.faults first c.lines_beside-lines.result.1.sink
-      c.into_parts-sink.result.0 c.lines_beside-lines.result.1.out.now c.into_parts-sink.result.1.now
-      c.into_parts-sink.ensures.sink c.into_parts-sink.ensures.now beside.1)
+  run = c.finish.ensures.run first (handed-on g.K.ByteSink.written g.K.ByteSink.faults first _
+      c.into_parts-sink.result.0 _ _ c.into_parts-sink.ensures.sink c.into_parts-sink.ensures.now beside.1)
 
   -- the lines, their workers and their posts are those of the opening, later
   grown : AreServedLater c.serve_lines-lines.result.items c.finish.new.lines.items
-  grown = zip-then IsServedLater served-then c.serve_lines-lines.result.items c.lines_beside-lines.result.0.items
-      c.finish.new.lines.items c.lines_beside-lines.ensures.lines c.finish.ensures.lines
+  grown = zip-then IsServedLater served-then _ _ _ c.lines_beside-lines.ensures.lines c.finish.ensures.lines
 
   later : AreLater c.args.opened.lines.items c.split_lines-lines.result.0.items
   later = workers-end c.args.opened.lines.items c.split_lines-lines.result.0.items c.serve_lines-lines.result.items
@@ -100,21 +94,18 @@ module _ (g : given.Over) (c : After-into_state g) where
 
 pub lay_beside-requires : goal.lay_beside-requires
 lay_beside-requires g c =
-    let ends = ends-later c.args.script.now c.args.opened.group c.args.opened.lines.items c.args.opened.sink
-    c.requires.open c.into_state.result c.split_lines-lines.result.0.items c.finish.new.sink (own g c) (later g c)
-    (run g c).later in
+    let ends = ends-later c.args.script.now c.args.opened.group _ c.args.opened.sink c.requires.open _
+    c.split_lines-lines.result.0.items c.finish.new.sink (own g c) (later g c) (run g c).later in
     record { sends = ends.sends; receives = ends.receives; returns = ends.returns; count = ends.count }
 
 pub returns-clause-end : goal.returns-clause-end
 returns-clause-end g c =
     let at = (goal.at.returns-clause-end g c).After-into_state in
-    come-to-end c.args.script.now c.args.opened.group c.args.opened.lines.items c.args.opened.sink c.requires.open
-    c.into_state.result c.split_lines-lines.result.0.items c.finish.new.sink (own g at) (later g at) (run g at).later
-    (subst (λ (group : GroupState). total_of group ≤ ticks_of group)
-    (sym c.into_state.ensures.same) c.finish.ensures.done.made)
-    (done-workers c.split_lines-lines.result.0.items c.finish.new.lines.items c.split_lines-lines.ensures.workers
-    c.finish.ensures.done.carried) c.finish.ensures.done.taken (run g at).stands
-    c.lay_beside.result.group c.lay_beside.result.lines.items c.lay_beside.result.sink c.lay_beside.ensures
+    come-to-end c.args.script.now _ _ _ c.requires.open _ _ _ (own g at) (later g at) (run g at).later
+    (subst (λ (group : GroupState). total_of group ≤ ticks_of group) (sym c.into_state.ensures.same)
+    c.finish.ensures.done.made) (done-workers _ c.finish.new.lines.items c.split_lines-lines.ensures.workers
+    c.finish.ensures.done.carried) c.finish.ensures.done.taken (run g at).stands c.lay_beside.result.group
+    c.lay_beside.result.lines.items c.lay_beside.result.sink c.lay_beside.ensures
 
 pub returns-clause-written : goal.returns-clause-written
 returns-clause-written g c =
@@ -125,11 +116,9 @@ returns-clause-written g c =
     (has_failed c.lay_beside.result.sink) c.args.out.now c.take_back.new.out
     (got_texts (given_frames (options_of c.lay_beside.result.sink) (size_of c.lay_beside.result.sink)
     (cells_of c.lay_beside.result.sink) (taken_of c.lay_beside.result.sink))) =
-    writes-laid g.K.ByteSink.written g.K.ByteSink.faults c.args.out.now c.take_back.new.out c.into_state.result
-    c.lay_beside.result.group c.split_lines-lines.result.0.items c.lay_beside.result.lines.items
-    c.finish.new.sink c.lay_beside.result.sink c.lay_beside.ensures
-    (run-writes g.K.ByteSink.written g.K.ByteSink.faults c.args.out.now c.take_back.new.out (first g at)
-    c.finish.new.sink refl ended) in
+    writes-laid _ g.K.ByteSink.faults c.args.out.now c.take_back.new.out c.into_state.result _ _ _
+    c.finish.new.sink _ c.lay_beside.ensures (run-writes g.K.ByteSink.written g.K.ByteSink.faults
+    c.args.out.now c.take_back.new.out (first g at) c.finish.new.sink refl ended) in
     let named = c.into_parts-sink.ensures.name ∙ (beside g at).0 ∙ c.new-duty.ensures.name in
     search (rules, whole, named)
 
@@ -146,7 +135,6 @@ returns-clause-told g c = λ size.
     let at = (goal.at.returns-clause-told g c).After-into_state in
     let own = c.split_lines-lines.result.0 in
     let through = c.split_lines-lines.result.1 in
-    told-laid c.into_state.result c.lay_beside.result.group own.items c.lay_beside.result.lines.items c.finish.new.sink
-    c.lay_beside.result.sink through.items c.lay_beside.ensures
-    (c.split_lines-lines.ensures.told
+    told-laid c.into_state.result _ own.items _ c.finish.new.sink c.lay_beside.result.sink through.items
+    c.lay_beside.ensures (c.split_lines-lines.ensures.told
     (still-as-many c.args.opened.lines own c.args.posts through (later g at) (posts g at) size))

@@ -13,84 +13,46 @@ use Rattle.thread_session.proofs.session_run.watched_session.run_watched.Goals a
 
 pub run_opened-left-requires-clause-watch : goal.run_opened-left-requires-clause-watch
 run_opened-left-requires-clause-watch g c κs within m worker post there here =
-    watchable c.args.script.config c.requires.script.sound.network _ c.in_ok-opened.opened.lines.items _
-    c.in_ok-opened.ensures.open.lines c.in_ok-log.log c.in_ok-log.posts.items _ c.in_ok-log.ensures
-    m worker post there here
+    watchable c.args.script.config c.requires.script.sound.network _ _ _ c.in_ok-opened.ensures.open.lines
+    c.in_ok-log.log c.in_ok-log.posts.items _ c.in_ok-log.ensures m worker post there here
 
-pub finish-requires-clause-one_log : goal.finish-requires-clause-one_log
-finish-requires-clause-one_log g c =
-    let same : SameLog c.in_ok-log.log c.in-Some.log =
-    subst (IsLogLater (Some c.in_ok-log.log)) c.in-Some.is c.run_opened-left.ensures.log in
-    still-posts c.in_ok-log.log c.in-Some.log c.in_ok-log.posts.items c.run_opened-left.result.posts.items _
-    c.in_ok-log.ensures same c.run_opened-left.ensures.posts
-
-pub finish-requires-clause-count : goal.finish-requires-clause-count
-finish-requires-clause-count g c =
-    let same : SameLog c.in_ok-log.log c.in-Some.log =
-    subst (IsLogLater (Some c.in_ok-log.log)) c.in-Some.is c.run_opened-left.ensures.log in
+pub finish-requires : goal.finish-requires
+finish-requires g c =
+    let log = c.in_ok-log.log in
+    let posts = c.in_ok-log.posts in
+    let left = c.run_opened-left.result.posts in
     let made = c.in_ok-log.ensures in
-    let long = zip-length SamePost c.in_ok-log.posts.items c.run_opened-left.result.posts.items
-    c.run_opened-left.ensures.posts in
-    omega (arith, long, made.count, made.posts, same.posts, c.in_ok-log.posts.ok.0, c.run_opened-left.result.posts.ok.0)
+    let same : SameLog log c.in-Some.log =
+    subst (IsLogLater (Some log)) c.in-Some.is c.run_opened-left.ensures.log in
+    let long = zip-length SamePost posts.items left.items c.run_opened-left.ensures.posts in
+    record {
+      one_log = still-posts log c.in-Some.log posts.items left.items _ made same c.run_opened-left.ensures.posts;
+      count = omega (arith, long, made.count, made.posts, same.posts, posts.ok.0, left.ok.0);
+    }
 
-pub returns-clause-rings : goal.returns-clause-rings
-returns-clause-rings g c =
-    let ended = c.run_opened-left.result.ended in
-    session-ended c.args.script c.requires.script ended.group ended.lines.items ended.sink c.run_opened-left.ensures.end
-
-pub returns-clause-group : goal.returns-clause-group
-returns-clause-group g c =
-    let ended = c.run_opened-left.result.ended in
-    group-ended c.args.script c.requires.script ended.group ended.lines.items ended.sink c.run_opened-left.ensures.end
-
-pub returns-clause-written : goal.returns-clause-written
-returns-clause-written g c =
-    let ended = c.run_opened-left.result.ended in
-    writes-whole g.K.ByteSink.written g.K.ByteSink.faults (has_failed ended.sink) c.args.out.now
-    c.run_opened-left.new.out _ _
-    (ap got_texts (frames-ended c.args.script c.requires.script ended.group ended.lines.items ended.sink
-    c.run_opened-left.ensures.end)) c.run_opened-left.ensures.written
-
-pub returns-clause-part : goal.returns-clause-part
-returns-clause-part g c =
-    let ended = c.run_opened-left.result.ended in
-    writes-part g.K.ByteSink.written g.K.ByteSink.faults (has_failed ended.sink) c.args.out.now
-    c.run_opened-left.new.out _ _
-    (ap got_texts (frames-ended c.args.script c.requires.script ended.group ended.lines.items ended.sink
-    c.run_opened-left.ensures.end)) c.run_opened-left.ensures.written
-
-pub returns-clause-alarms : goal.returns-clause-alarms
-returns-clause-alarms g c =
+pub returns : goal.returns
+returns g c =
     let left = c.run_opened-left.result in
     let lines = c.in_ok-opened.opened.lines in
     let posts = c.in_ok-log.posts in
     let made = c.in_ok-log.ensures in
     let opened = c.in_ok-opened.ensures.open.lines in
-    let ended = session-ended c.args.script c.requires.script left.ended.group left.ended.lines.items left.ended.sink
-    c.run_opened-left.ensures.end in
+    let end = c.run_opened-left.ensures.end in
+    let text = ap got_texts (frames-ended c.args.script c.requires.script _ _ _ end) in
+    let ended = session-ended c.args.script c.requires.script _ _ _ end in
     let long = zip-length SamePost posts.items left.posts.items c.run_opened-left.ensures.posts in
     let many : vec_len posts ≡ vec_len lines =
     omega (arith, made.count, opened.workers_count, posts.ok.0, lines.ok.0) in
     let count : length left.posts.items ≡ length left.ended.lines.items =
     omega (arith, long, made.count, ended.count) in
-    all-alarms c.args.script left.ended.group left.ended.lines.items left.ended.sink ended left.posts.items
-    (c.run_opened-left.ensures.told many) count
-    (alarms_in c.finish.result) c.finish.ensures.lines
-
-pub returns-clause-below : goal.returns-clause-below
-returns-clause-below g c =
-    let left = c.run_opened-left.result in
-    let lines = c.in_ok-opened.opened.lines in
-    let posts = c.in_ok-log.posts in
-    let made = c.in_ok-log.ensures in
-    let opened = c.in_ok-opened.ensures.open.lines in
-    let ended = session-ended c.args.script c.requires.script left.ended.group left.ended.lines.items left.ended.sink
-    c.run_opened-left.ensures.end in
-    let long = zip-length SamePost posts.items left.posts.items c.run_opened-left.ensures.posts in
-    let many : vec_len posts ≡ vec_len lines =
-    omega (arith, made.count, opened.workers_count, posts.ok.0, lines.ok.0) in
-    let count : length left.posts.items ≡ length left.ended.lines.items =
-    omega (arith, long, made.count, ended.count) in
-    all-below c.args.script left.ended.group left.ended.lines.items left.ended.sink ended left.posts.items
-    (c.run_opened-left.ensures.told many) count
-    (alarms_in c.finish.result) c.finish.ensures.whole
+    record {
+      rings = ended;
+      group = group-ended c.args.script c.requires.script _ _ _ end;
+      written = writes-whole _ _ _ _ _ _ _ text c.run_opened-left.ensures.written;
+      part = writes-part _ _ _ _ _ _ _ text c.run_opened-left.ensures.written;
+      alarms = all-alarms c.args.script left.ended.group left.ended.lines.items left.ended.sink ended left.posts.items
+          (c.run_opened-left.ensures.told many) count (alarms_in c.finish.result) c.finish.ensures.lines;
+      below = all-below c.args.script left.ended.group left.ended.lines.items left.ended.sink ended left.posts.items
+          (c.run_opened-left.ensures.told many) count (alarms_in c.finish.result) c.finish.ensures.whole;
+      nothing = tt;
+    }

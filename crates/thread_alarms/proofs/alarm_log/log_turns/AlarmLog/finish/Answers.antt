@@ -32,30 +32,21 @@ append_all-requires g c =
     omega (arith, fits', got, kept, room, same.1)
 
 pub returns : goal.returns
-returns g c = record {
-  lines = λ m i post there alone.
-      let log = c.args.self in
-      let posts = c.args.posts.items in
-      let u = view c.drain.new.pass in
-      let same = c.drain.ensures.same in
-      let all = knows-all (view log.pass) (view c.join_all-kept.new.pass) u posts log.listens.is log.open_
-      c.join_all-kept.ensures.known
-      c.drain.ensures.listens.is same.0.made same.0.known c.drain.ensures.heard
-      (omega (arith, c.args.posts.ok.0, c.requires.count)) in
-      ap (of_line m) (c.append_all.ensures ∙ ap₂ (λ a b. a ++ b) c.drain.ensures.listens.listed
-      (ap in_row c.join_all-kept.ensures.kept))
-      ∙ finished number_of put_by kept_by m posts (got_of u) i post there alone all.heard all.rest;
-  whole =
-      let log = c.args.self in
-      let posts = c.args.posts.items in
-      let u = view c.drain.new.pass in
-      let same = c.drain.ensures.same in
-      let all = knows-all (view log.pass) (view c.join_all-kept.new.pass) u posts log.listens.is log.open_
-      c.join_all-kept.ensures.known
-      c.drain.ensures.listens.is same.0.made same.0.known c.drain.ensures.heard
-      (omega (arith, c.args.posts.ok.0, c.requires.count)) in
-      subst (IsPermutation (in_row (map posted_by posts)))
-      (sym (c.append_all.ensures ∙ ap₂ (λ a b. a ++ b) c.drain.ensures.listens.listed
-      (ap in_row c.join_all-kept.ensures.kept)))
-      (whole number_of put_by kept_by posts (got_of u) all.heard all.apart all.rest);
-}
+returns g c =
+    let log = c.args.self in
+    let posts = c.args.posts.items in
+    let u = view c.drain.new.pass in
+    let same = c.drain.ensures.same in
+    let all = knows-all (view log.pass) (view c.join_all-kept.new.pass) u posts log.listens.is log.open_
+    c.join_all-kept.ensures.known
+    c.drain.ensures.listens.is same.0.made same.0.known c.drain.ensures.heard
+    (omega (arith, c.args.posts.ok.0, c.requires.count)) in
+    let list = c.append_all.ensures ∙ ap₂ (λ a b. a ++ b) c.drain.ensures.listens.listed
+    (ap in_row c.join_all-kept.ensures.kept) in
+    record {
+      lines = λ m i post there alone.
+          ap (of_line m) list
+          ∙ finished number_of put_by kept_by m posts (got_of u) i post there alone all.heard all.rest;
+      whole = subst (IsPermutation (in_row (map posted_by posts))) (sym list)
+          (whole number_of put_by kept_by posts (got_of u) all.heard all.apart all.rest);
+    }
