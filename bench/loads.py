@@ -7,7 +7,8 @@ processor time, the octets of all containers that it is in a second by the clock
     bench/loads.py --script KIND LINES TICKS OCTETS   the script of a load, printed
 
 A load is `full`, a group that is kept nearly full with frames of so many octets from the tick on in which all lines are in use; `idle`, a group without
-frames; or `queue`, 256 frames that wait from the start. The programs have to be built: rt ci does it."""
+frames; or `queue`, 256 frames that wait from the start. The programs have to be built: rt ci does it. As `./vcat` does, this script asks for
+huge pages, unless GLIBC_TUNABLES says something else."""
 import os
 import pathlib
 import random
@@ -18,6 +19,7 @@ import time
 
 TOP = pathlib.Path(__file__).resolve().parent.parent
 PAYLOAD = 2340                   # octets of a container
+HUGE = {"GLIBC_TUNABLES": "glibc.malloc.hugetlb=1", **os.environ}
 LAG = 4                          # in packets; a command is carried out each LAG packets
 MOST = 65_000_000                # octets of a script, below the limit
 WAIT = 250                       # frames that may come in a tick, below the limit of the queue
@@ -83,7 +85,7 @@ def once(command, path):
     """The seconds of a call on a script by the clock, those of processor time, and its greatest memory in MiB."""
     with open(path, "rb") as source:
         start = time.perf_counter()
-        child = subprocess.Popen(command, stdin=source, stdout=subprocess.DEVNULL)
+        child = subprocess.Popen(command, stdin=source, stdout=subprocess.DEVNULL, env=HUGE)
         _, status, used = os.wait4(child.pid, 0)
         taken = time.perf_counter() - start
     child.returncode = os.waitstatus_to_exitcode(status)
