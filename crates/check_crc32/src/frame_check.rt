@@ -33,7 +33,8 @@ fn inverted(register: u32) -> [u8; 4]
 
 /// The register after octets.
 fn after_all(tables: &[[u32; 256]; 8], octets: &[u8]) -> u32
-    ensures { (order : BitOrder) → IsTables order tables.now → RegisterStands order octets.now result }
+    ensures { (order : BitOrder) → IsTables order tables.now →
+        RegisterStands order octets.now result }
 {
     let words = octets.len() / 8;
     let mut register = u32::MAX;

@@ -1,8 +1,8 @@
 //! What an end says, fact by fact.
-ghost use Rattle.std.specs.Prelude.{◌≡◌, ◌≢◌, ◌⊎◌, ◌≤◌, ℕ, List, [], length, IfSome, Some, None, IsTrue, codes};
+ghost use Rattle.std.specs.Prelude.{◌≡◌, ◌≢◌, ◌⊎◌, ◌≤◌, ℕ, List, [], length, IfSome, None, IsTrue, codes};
 ghost use Rattle.std.specs.Io.KnownBytes.{IsAtEnd, prepend_known};
 ghost use Rattle.command_parts.specs.declared.stop_and_status.Refusal.{Refusal};
-ghost use Rattle.command_parts.specs.Talk.{Talk, TalkEnd, IsTalk, faulty, long};
+ghost use Rattle.command_parts.specs.Talk.{Talk, IsTalk, faulty, long};
 ghost use Rattle.command_parts.specs.Task.{Answer, Task, none, reads, makes, talks, refuses, exceeds, Reads, Talks};
 ghost use Rattle.command_parts.specs.Task.{HasInput, IsGood, IsQuietTask, refused_status};
 ghost use Rattle.command_parts.specs.Ends.{Lent, Kept, Quiet, FailedOnce, IsTold, IsLong, Meets, WritesAll, WritesPart};

@@ -1,5 +1,5 @@
-//! How a text that says no script is refused: for the line that is faulty, or, if the script is wrong as a whole, as beyond a
-//! limit.
+//! How a text that says no script is refused: for the line that is faulty, or, if the script is wrong as a
+//! whole, as beyond a limit.
 ghost use Rattle.std.specs.Prelude.{◌≡◌, ◌≢◌, ◌≤◌, length};
 ghost use Rattle.text_scripts.specs.declared.script_read.script_fault.ScriptFault.{ScriptFault};
 ghost use Rattle.command_parts.specs.Faults.{kind_of, fault_text, IsRefusedFor};

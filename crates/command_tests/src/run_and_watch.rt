@@ -91,8 +91,8 @@ fn read_rows() -> &'static str {
 }
 
 /// What is answered where the first call of `out` fails, the second, and so on; the last answer is that
-/// without a fault. Three lines, of which one leaves, and three frames further apart than a burst goes, whose lines each
-/// go out alone; and the first of two.
+/// without a fault. Three lines, of which one leaves, and three frames further apart than a burst goes, whose
+/// lines each go out alone; and the first of two.
 fn put_rows() -> &'static str {
     "\
     run 2;lines 3|delays 0 0 0|ring 1|lag 1|ticks 700|add 0 0|add 0 1|add 0 2|remove 600 1|frame 0 07*9600|\

@@ -10,7 +10,8 @@ ghost use Rattle.fate_walks.specs.walk_fates.MadeWalk.{SeesWalk};
 ghost use Rattle.fate_check.specs.UsedLines.{unused_among, unused_lines};
 ghost use Rattle.fate_check.specs.IdleWindows.{idle_among, idle_on, idle_windows};
 ghost use Rattle.fate_check.specs.EarlyFrames.{payload_row, early_frames};
-ghost use Rattle.fate_check.specs.CheckText.{unused_text, idle_texts, early_if_any, refused_items, last_text, check_text};
+ghost use Rattle.fate_check.specs.CheckText.{unused_text, idle_texts, early_if_any, refused_items, last_text};
+ghost use Rattle.fate_check.specs.CheckText.{check_text};
 
 use crate::check_lines::{
     Found, ROOM, check_line, early_line, idle_line, refused_line, unused_line,

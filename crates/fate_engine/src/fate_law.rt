@@ -16,7 +16,8 @@ ghost use Rattle.fate_engine.specs.fate_law.Marks.{is_piece_at, are_true_marks};
 ghost use Rattle.fate_engine.specs.fate_law.Ruler.{ruler_of, ruled};
 ghost use Rattle.law_loss.specs.Worked.{worked_pieces, worked_rows};
 ghost use Rattle.fate_engine.specs.fate_law.Spans.{later_segments, fate_by_rows};
-ghost use Rattle.fate_engine.specs.fate_law.Worked.{worked_fates, worked_segments, worked_causes, worked_runs, worked_ruler};
+ghost use Rattle.fate_engine.specs.fate_law.Worked.{worked_fates, worked_segments, worked_causes};
+ghost use Rattle.fate_engine.specs.fate_law.Worked.{worked_runs, worked_ruler};
 ghost use Rattle.fate_engine.specs.fate_law.SessionFates.{fate_at, ended_of, got_frames};
 ghost use Rattle.fate_engine.specs.fate_law.Spoiled.{row_cause, spoiled_runs};
 ghost use Rattle.law_walk.specs.Common.{IsWalked, session_rows, delivered_of, session_pieces, ConfirmsTrue};
@@ -114,7 +115,8 @@ pub fn marks_law()
 /// A frame of the stream is got exactly where the rows carry it and it isn't lost; and where all marks are
 /// true, the frames that are got are those that are delivered, in order and each once.
 pub fn got_law()
-    ensures each { (pieces : List Piece) (rows : List StreamRow) (frame : Extent) → frame.from < frame.to →
+    ensures each { (pieces : List Piece) (rows : List StreamRow) (frame : Extent) →
+        frame.from < frame.to →
         is_got (fate_of pieces rows frame)
         ≡ (is_carried (length (octets_of_rows rows)) frame
         && not (is_frame_lost (segments rows) (extents 0 pieces) frame)) }

@@ -10,7 +10,8 @@ ghost use Rattle.fate_service.specs.declared.landed_frames.OfferedFrame.{Offered
 ghost use Rattle.fate_service.specs.declared.landed_frames.CarriedFrame.{CarriedFrame as CarriedData};
 ghost use Rattle.fate_service.specs.Frames.{AreLanded};
 ghost use Rattle.fate_service.specs.RowStates.{states_of};
-ghost use Rattle.fate_service.specs.Stretches.{with_offered, came_of, came_in, delay_of, with_carried, ended_of, ended_in};
+ghost use Rattle.fate_service.specs.Stretches.{with_offered, came_of, came_in, delay_of, with_carried};
+ghost use Rattle.fate_service.specs.Stretches.{ended_of, ended_in};
 ghost use Rattle.fate_service.specs.Stretches.{queue_at, queue_in, higher, peak_in, capacity_in, dark_in, stretch_of};
 ghost use Rattle.fate_service.specs.ServiceText.{known_of};
 
@@ -193,7 +194,8 @@ fn peak_in(
     requires few { length accepted.now < 4294967296 }
     requires order { IsNonDecreasing accepted.now }
     requires reach { made ≤ 16 * length packets.now.active + 24 }
-    ensures { (scenario : Scenario) (cells : List (Option Told)) → ArePackets scenario cells packets.now →
+    ensures { (scenario : Scenario) (cells : List (Option Told)) →
+        ArePackets scenario cells packets.now →
         result ≡ peak_in (queue_in accepted.now ruler.now.sent (place_of scenario cells) made) first end }
 {
     let mut peak = Peak {
@@ -210,7 +212,8 @@ fn peak_in(
 /// The octets that rows had room for, from one row on to below another.
 fn capacity_in(packets: &Packets, rows: u32, first: u32, end: u32) -> u64
     requires { rows ≤ 16 * length packets.now.active + 24 }
-    ensures { (scenario : Scenario) (cells : List (Option Told)) → ArePackets scenario cells packets.now →
+    ensures { (scenario : Scenario) (cells : List (Option Told)) →
+        ArePackets scenario cells packets.now →
         result ≡ capacity_in (place_of scenario cells) rows first end }
 {
     packets

@@ -2,8 +2,9 @@
 //! what an outage is, and that delays change none of it. There is no code here. Begin at `stretch_law`, whose
 //! `written` says which lines the text has.
 
-ghost use Rattle.std.specs.Prelude.{◌≡◌, ◌↔◌, ◌⊎◌, ℕ, ◌+◌, ◌-◌, ◌*◌, ◌<◌, ◌≤◌, min, true, false, List, ◌++◌, map, length};
-ghost use Rattle.std.specs.Prelude.{Contains, IsSome, sum_by, slice_get, Some, None};
+ghost use Rattle.std.specs.Prelude.{◌≡◌, ◌⊎◌, ℕ, ◌+◌, ◌-◌, ◌*◌, ◌<◌, ◌≤◌, min, true, false, List, ◌++◌};
+ghost use Rattle.std.specs.Prelude.{map, length};
+ghost use Rattle.std.specs.Prelude.{Contains, IsSome, sum_by, slice_get, Some};
 ghost use Rattle.std.specs.List.{flat_map};
 ghost use Rattle.law_model.specs.frames.Piece.{Piece};
 ghost use Rattle.law_model.specs.frames.Segment.{StreamRow};
@@ -32,8 +33,10 @@ ghost use Rattle.fate_service.specs.Stretches.{peak_in, spans_of};
 ghost use Rattle.fate_service.specs.Delays.{delays_of};
 ghost use Rattle.fate_service.specs.ServiceText.{members_text, delays_text, last_text, told_of, ends_of, service_text};
 ghost use Rattle.fate_service.specs.service_law.Lines.{members_in, OutageLine, outages_in, outage_line_text};
-ghost use Rattle.fate_service.specs.service_law.Lines.{StretchLine, stretches_in, stretch_line_text, all_of, fates_line};
-ghost use Rattle.fate_service.specs.service_law.Sums.{FollowOn, AreRuns, total_of, tally_of, stream_octets, IsPeak, IsHighest};
+ghost use Rattle.fate_service.specs.service_law.Lines.{StretchLine, stretches_in, stretch_line_text, all_of};
+ghost use Rattle.fate_service.specs.service_law.Lines.{fates_line};
+ghost use Rattle.fate_service.specs.service_law.Sums.{FollowOn, AreRuns, total_of, tally_of, stream_octets};
+ghost use Rattle.fate_service.specs.service_law.Sums.{IsPeak, IsHighest};
 ghost use Rattle.fate_service.specs.service_law.Dark.{dark_row, row_outages, AreOutages, BelongsOnce, rows_of_fate};
 ghost use Rattle.fate_service.specs.service_law.Dark.{is_unsettled, LiesBetween};
 ghost use Rattle.fate_service.specs.service_law.Worked.{one_tick, one_made, one_text, late_leg, late_counts, late_text};
@@ -137,7 +140,8 @@ pub fn rows_law()
 pub fn outage_law()
     ensures runs { (rows : List StreamRow) →
         AreOutages (dark_row rows) 0 (row_outages rows) (length rows) }
-    ensures begins { (leg : Leg) (s : Counts) (line : OutageLine) → Contains (outages_in leg s) line →
+    ensures begins { (leg : Leg) (s : Counts) (line : OutageLine) →
+        Contains (outages_in leg s) line →
         IsSome (row_cause (scenario_by leg) (session_of leg) line.outage.first) }
     ensures got { (pieces : List Piece) (rows : List StreamRow) (i r q t : ℕ) →
         fate_at pieces rows i ≡ Got r q → r ≤ t → t ≤ q → dark_row rows t ≡ false }

@@ -15,7 +15,8 @@ ghost use Rattle.fate_service.specs.Stretches.{told_on, spans_of, stretch_of};
 ghost use Rattle.fate_service.specs.Members.{runs_of};
 ghost use Rattle.fate_service.specs.Delays.{delays_of};
 ghost use Rattle.fate_service.specs.Surveyed.{IsSurveyed, next_run, run_text};
-ghost use Rattle.fate_service.specs.ServiceText.{members_text, outage_text, outages_text, stretch_text, stretches_text, delays_text};
+ghost use Rattle.fate_service.specs.ServiceText.{members_text, outage_text, outages_text, stretch_text};
+ghost use Rattle.fate_service.specs.ServiceText.{stretches_text, delays_text};
 ghost use Rattle.fate_service.specs.ServiceText.{known_of, ends_of, last_text, service_text};
 
 use crate::frame_delays::find_delays;
@@ -100,7 +101,8 @@ fn add_row<K: ByteSink>(run: WidthRun, members: u32, size: u16, got: &mut GotLin
 /// Writes the lines of members, of so many rows.
 fn write_members<K: ByteSink>(packets: &Packets, rows: u32, size: u16, got: &mut GotLines<K>)
     requires { rows ≤ 16 * length packets.now.active + 24 }
-    ensures { (scenario : Scenario) (cells : List (Option Told)) → ArePackets scenario cells packets.now →
+    ensures { (scenario : Scenario) (cells : List (Option Told)) →
+        ArePackets scenario cells packets.now →
         (start : Start) (before : List ℕ) →
         HasText K.written K.faults got.old start before → HasText K.written K.faults got.new start
         (before ++ flat_map (members_text size)

@@ -12,7 +12,8 @@ ghost use Rattle.gfp_channels.specs.channel_law.Offers.{after_frames, accepted_f
 ghost use Rattle.gfp_model.specs.linear_model.Stream.{unsent, reached, frames_of, stream_to, cut_rows};
 ghost use Rattle.gfp_channels.specs.channel_law.Worked.{worked_channels, worked_pieces, worked_stream, worked_cuts};
 ghost use Rattle.gfp_channels.specs.channel_law.Worked.{worked_rows, zero_channels, first_octets};
-ghost use Rattle.gfp_channels.specs.channel_law.Kept.{AreSound, as_pieces, carried_of, kept_of, delivered_of, AreOrdered};
+ghost use Rattle.gfp_channels.specs.channel_law.Kept.{AreSound, as_pieces, carried_of, kept_of, delivered_of};
+ghost use Rattle.gfp_channels.specs.channel_law.Kept.{AreOrdered};
 
 /// What the answer to a frame depends on: the number of channels, and how many frames of that channel wait.
 pub fn answer_law()

@@ -1,5 +1,5 @@
 -- G.7041, frame delineation: what a receiver of Ethernet frames knows of the octets of a segment that have come.
-use Rattle.std.specs.Prelude.{◌≡◌, ℕ, ◌+◌, ◌^◌, ◌<◌, ◌≤◌, ◌&&◌, nat_le, Bool, true, false, List, [], ◌∷◌, ◌++◌, length}
+use Rattle.std.specs.Prelude.{◌≡◌, ℕ, ◌+◌, ◌^◌, ◌<◌, ◌≤◌, ◌&&◌, nat_le, Bool, false, List, [], ◌∷◌, ◌++◌, length}
 use Rattle.std.specs.Prelude.{map, take, drop, All, Option, Some, None, if◌then◌else◌, option_to_list}
 use Rattle.law_model.specs.Common.{type_fault, Outcome, delivery, dropping, outcome_by, outcomes}
 use Rattle.law_model.specs.declared.frame_faults.Why.{Why}

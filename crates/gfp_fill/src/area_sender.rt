@@ -123,7 +123,8 @@ impl AreaSender {
         self.scrambler.area(octets);
     }
 
-    /// Writes as many octets of the frame that is being sent as aren't written and `out` has room for, and says how many.
+    /// Writes as many octets of the frame that is being sent as aren't written and `out` has room for, and
+    /// says how many.
     #[inline]
     pub fn send_frame(&mut self, frame: &mut BegunFrame, out: &mut [u8]) -> usize
         requires { head_of self.old ≡ [] }

@@ -31,7 +31,8 @@ impl Model for Filler {
 impl Filler {
     /// A stream of which nothing is written.
     pub fn new() -> Filler
-        ensures { (waiting : List (List ℕ)) → FillerStands result (unbegun waiting) (unsent waiting) 0 }
+        ensures { (waiting : List (List ℕ)) →
+            FillerStands result (unbegun waiting) (unsent waiting) 0 }
     {
         Filler {
             sender: AreaSender::new(),
@@ -42,10 +43,12 @@ impl Filler {
     /// written. The queue is that of the calls before: with one that doesn't hold the frame that is being
     /// sent the filler stands nowhere.
     pub fn fill(&mut self, waiting: &mut FrameQueue, out: &mut [u8])
-        ensures stands { (stream : Stream) (place : ℕ) → FillerStands self.old waiting.old stream place →
+        ensures stands { (stream : Stream) (place : ℕ) →
+            FillerStands self.old waiting.old stream place →
             let further = place + length out.old in
             FillerStands self.new waiting.new (reached further stream) further }
-        ensures octets { (stream : Stream) (place : ℕ) → FillerStands self.old waiting.old stream place →
+        ensures octets { (stream : Stream) (place : ℕ) →
+            FillerStands self.old waiting.old stream place →
             let octets = stream_of (reached (place + length out.old) stream).pieces in
             out.new ≡ take (length out.old) (drop place octets) }
     {

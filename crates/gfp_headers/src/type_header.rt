@@ -75,8 +75,8 @@ pub fn read_type_linear(octets: &[u8; 4]) -> Result<(), TypeFault>
     read_with(octets, 0, 1)
 }
 
-/// Whether these octets are the type header of an Ethernet frame with this PFI and this EXI, and what is wrong with them
-/// where they are not.
+/// Whether these octets are the type header of an Ethernet frame with this PFI and this EXI, and what is
+/// wrong with them where they are not.
 #[inline]
 fn read_with(octets: &[u8; 4], pfi: u16, extension: u8) -> Result<(), TypeFault>
     requires pfi { pfi ≤ 1 }

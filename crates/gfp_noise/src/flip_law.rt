@@ -14,7 +14,8 @@ ghost use Rattle.gfp_model.specs.fcs_model.Near.{near, IsNear, check_of};
 ghost use Rattle.check_crc32.specs.Crc32.{fcs_of};
 ghost use Rattle.gfp_model.specs.fcs_model.Fcs.{fcs_header, fcs_type_fault, fcs_area, delivery, fcs_outcome, frame_in};
 ghost use Rattle.gfp_noise.specs.flip_law.Single.{IsOneOrTwo};
-ghost use Rattle.gfp_noise.specs.flip_law.FlippedStream.{worked_frames, one_flip, fcs_stream, IsFrame, fcs_delivered, window, AreFew};
+ghost use Rattle.gfp_noise.specs.flip_law.FlippedStream.{worked_frames, one_flip, fcs_stream, IsFrame};
+ghost use Rattle.gfp_noise.specs.flip_law.FlippedStream.{fcs_delivered, window, AreFew};
 ghost use Rattle.gfp_noise.specs.flip_law.FlippedStream.{clear};
 
 /// Four octets are read as a header exactly where they differ from it in at most one bit.

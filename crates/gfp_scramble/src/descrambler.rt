@@ -34,7 +34,10 @@ impl Model for Descrambler {
 
     ghost inverse = { λ descrambling. record { register = number descrambling.last; given = descrambling.given } };
 
-    ghost inverse_ok = { λ descrambler within. ap (λ register. record { register = register; given = descrambler.given }) (number-bits 43 descrambler.register ∙ mod-eq_of_lt within.0) };
+    ghost inverse_ok = { λ descrambler within. ap (λ register. record {
+      register = register;
+      given = descrambler.given;
+    }) (number-bits 43 descrambler.register ∙ mod-eq_of_lt within.0) };
 }
 
 impl Descrambler {

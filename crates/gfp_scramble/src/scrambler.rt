@@ -26,11 +26,13 @@ impl Model for Scrambler {
 
     ghost view = { λ scrambler. record { last = bits 43 (scrambler.last / 2 ^ 21) } };
 
-    ghost invariant = { λ scrambler. (scrambler.last / 2 ^ 21 < 2 ^ 43) × (scrambler.last / 2 ^ 21 * 2 ^ 21 ≡ scrambler.last) };
+    ghost invariant = { λ scrambler. (scrambler.last / 2 ^ 21 < 2 ^ 43)
+        × (scrambler.last / 2 ^ 21 * 2 ^ 21 ≡ scrambler.last) };
 
     ghost inverse = { λ scrambling. record { last = number scrambling.last * 2 ^ 21 } };
 
-    ghost inverse_ok = { λ scrambler within. ap (λ last. record { last = last }) (ap (λ r. r * 2 ^ 21) (number-bits 43 (scrambler.last / 2 ^ 21) ∙ mod-eq_of_lt within.0) ∙ within.1) };
+    ghost inverse_ok = { λ scrambler within. ap (λ last. record { last = last })
+        (ap (λ r. r * 2 ^ 21) (number-bits 43 (scrambler.last / 2 ^ 21) ∙ mod-eq_of_lt within.0) ∙ within.1) };
 }
 
 impl Scrambler {

@@ -1,7 +1,7 @@
 //! What was answered stands, whatever is said later.
 
 ghost use Rattle.std.specs.Prelude.{◌≡◌, ℕ, ◌+◌, List, ◌++◌};
-ghost use Rattle.law_model.specs.Common.{Counts, Leg, begin};
+ghost use Rattle.law_model.specs.Common.{Leg};
 ghost use Rattle.law_walk.specs.Common.{walk_plan};
 ghost use Rattle.law_live.specs.Common.{Saying, answers, answers_from, answers_text, counts_from, live_counts};
 ghost use Rattle.law_live.specs.Common.{rounds_from, rounds_of};

@@ -23,7 +23,8 @@ pub fn later_law()
         IsSound other → IsWellSaid config said → Agrees config (live_of config said) leg →
         Agrees config (live_of config said) other → j < steps_in (live_of config said).passed →
         cell_taken leg j ≡ cell_taken other j }
-    ensures tables { (config : Config) (said : List Saying) (j : ℕ) (leg other : Leg) → IsSound leg →
+    ensures tables { (config : Config) (said : List Saying) (j : ℕ) (leg other : Leg) →
+        IsSound leg →
         IsSound other → IsWellSaid config said → Agrees config (live_of config said) leg →
         Agrees config (live_of config said) other → j < steps_in (live_of config said).passed →
         table_in leg (16 * j + 9) ≡ table_in other (16 * j + 9) }

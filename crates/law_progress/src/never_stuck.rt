@@ -4,7 +4,6 @@ ghost use Rattle.std.specs.Prelude.{◌≡◌, ◌<◌, ◌≤◌, List, Some};
 ghost use Rattle.law_model.specs.Common.{Plan, Counts, in_inbox, step, drain, bound, walked};
 ghost use Rattle.law_model.specs.declared.script_types.EventLine.{EventLine};
 ghost use Rattle.law_model.specs.declared.walk_events.Event.{Event};
-ghost use Rattle.law_model.specs.declared.walk_events.Event.TheVariants.{Take};
 ghost use Rattle.law_model.specs.declared.walk_events.StallCause.{StallCause};
 ghost use Rattle.law_progress.specs.Progress.{IsPlan, Fits, IsReached, ChangesNothing, SomeProgress};
 

@@ -15,7 +15,8 @@ pub fn bucket_law()
     ensures accepted { (bucket : Bucket) (leg : Leg) (from members count : ℕ) (item : Numbered)
         (offer : DueFrame) → KeepsTo bucket leg from members → IsOfferAt leg.items count item offer →
         from ≤ offer.due → offer.due < leg.config.ticks → refusal_at leg item ≡ None }
-    ensures backlog { (bucket : Bucket) (leg : Leg) (from members t : ℕ) → KeepsTo bucket leg from members →
+    ensures backlog { (bucket : Bucket) (leg : Leg) (from members t : ℕ) →
+        KeepsTo bucket leg from members →
         from ≤ t → t < leg.config.ticks → filled (stream_at (scenario_by leg) (session_of leg) t)
         ≤ place_after leg t + (bucket.burst + 8) }
     ensures delay { (bucket : Bucket) (leg : Leg) (from members n rows : ℕ) (placed : Placed) →

@@ -3,7 +3,7 @@
 //! in numbers alone. `settled_law` says when no change is made, `met_law` shows a leg that meets what is asked,
 //! and `worked_law` that the bounds are reached.
 
-ghost use Rattle.std.specs.Prelude.{◌≡◌, ◌↔◌, ℕ, ◌+◌, ◌-◌, ◌*◌, ◌/◌, ◌<◌, ◌≤◌, min, true, false, Some, slice_get};
+ghost use Rattle.std.specs.Prelude.{◌≡◌, ◌↔◌, ℕ, ◌+◌, ◌-◌, ◌*◌, ◌<◌, ◌≤◌, min, true, false, Some, slice_get};
 ghost use Rattle.std.specs.Prelude.{[], ◌∷◌};
 ghost use Rattle.law_model.specs.Common.{Leg, IsSound, scenario_by, is_line_up, member_of, table_of, is_whole_row};
 ghost use Rattle.law_model.specs.declared.window_types.Window.{Window};
@@ -42,7 +42,8 @@ pub fn cost_law()
         HasSq (table_at leg from) line →
         window.end + 23 + round_rows leg leg.config.options.restore ≤ t → t < horizon →
         IsInUse (governing_table leg t) line }
-    ensures others { (leg : Leg) (from horizon line t : ℕ) → IsSound leg → FailsOnce leg from horizon →
+    ensures others { (leg : Leg) (from horizon line t : ℕ) → IsSound leg →
+        FailsOnce leg from horizon →
         StaysClear (windows_of leg line) from horizon →
         HasSq (table_at leg from) line →
         from + round_rows leg leg.config.options.restore ≤ t → t < horizon →
@@ -89,7 +90,8 @@ pub fn closed_law()
     ensures only { (leg : Leg) (from horizon t : ℕ) → IsSound leg → FailsOnce leg from horizon →
         24 ≤ t → from ≤ t → t < horizon →
         is_whole_row (scenario_by leg) (session_of leg) t ≡ false → IsHit leg from horizon t }
-    ensures rows { (leg : Leg) (from horizon t : ℕ) → IsSound leg → leg.config.options.infers ≡ false →
+    ensures rows { (leg : Leg) (from horizon t : ℕ) → IsSound leg →
+        leg.config.options.infers ≡ false →
         FailsOnce leg from horizon → WereUsed leg from horizon → 24 ≤ t → from ≤ t → t < horizon →
         (is_whole_row (scenario_by leg) (session_of leg) t ≡ false) ↔ IsHit leg from horizon t }
     ensures first { (leg : Leg) (begins ends horizon line t sooner : ℕ) (window : Window) →

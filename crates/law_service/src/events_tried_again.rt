@@ -12,12 +12,15 @@ ghost use Rattle.law_service.specs.Turns.{TriesEach, in_turn, walked_plan, backw
 /// so as many turns as the bound are enough, from whatever the events so far have led to. It is told by the
 /// lines, ticks, delays and items of a script.
 pub fn turns_law()
-    ensures rises { (plan : Plan) (s : Counts) (turn : List Event) → IsPlan plan → IsReached plan s →
+    ensures rises { (plan : Plan) (s : Counts) (turn : List Event) → IsPlan plan →
+        IsReached plan s →
         s.rows < plan.ticks → TriesEach plan turn → made s < made (run plan s turn) }
-    ensures enough { (plan : Plan) (s : Counts) (turns : List (List Event)) → IsPlan plan → IsReached plan s →
+    ensures enough { (plan : Plan) (s : Counts) (turns : List (List Event)) → IsPlan plan →
+        IsReached plan s →
         All (TriesEach plan) turns → bound plan ≤ made s + length turns →
         (run plan s (in_turn turns)).rows ≡ plan.ticks }
-    ensures legs { (leg : Leg) (s : Counts) (turns : List (List Event)) → IsSound leg → IsWalked leg s →
+    ensures legs { (leg : Leg) (s : Counts) (turns : List (List Event)) → IsSound leg →
+        IsWalked leg s →
         All (TriesEach (walk_plan leg)) turns → bound (walk_plan leg) ≤ length turns →
         (run (walk_plan leg) s (in_turn turns)).rows ≡ leg.config.ticks }
     ensures told { (leg : Leg) → IsSound leg → bound (walk_plan leg)

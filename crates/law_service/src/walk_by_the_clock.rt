@@ -19,7 +19,8 @@ pub fn clock_law()
     ensures frames { (slow fast count : ℕ) (plan : Plan) → KeepsTime slow fast plan → (i due : ℕ) →
         slice_get (frame_dues plan.items) i ≡ Some due →
         (i < (after_rounds count plan).frames) ↔ (due < min count (plan.ticks + 1)) }
-    ensures commands { (slow fast count : ℕ) (plan : Plan) → KeepsTime slow fast plan → (i due : ℕ) →
+    ensures commands { (slow fast count : ℕ) (plan : Plan) → KeepsTime slow fast plan →
+        (i due : ℕ) →
         slice_get (command_dues plan.items) i ≡ Some due →
         (i < (after_rounds count plan).commands) ↔ (due < min count (plan.ticks + 1)) }
     ensures rows { (slow fast count : ℕ) (plan : Plan) → KeepsTime slow fast plan →
@@ -28,7 +29,8 @@ pub fn clock_law()
         ((after_rounds (t + slow) plan).rows ≡ t) × ((after_rounds (t + slow + 1) plan).rows ≡ t + 1) }
     ensures ends { (slow fast : ℕ) (plan : Plan) → KeepsTime slow fast plan → 0 < plan.ticks →
         drain (bound plan) plan (begin plan) ≡ after_rounds (plan.ticks + slow) plan }
-    ensures goes_on { (slow fast count : ℕ) (plan : Plan) → KeepsTime slow fast plan → 0 < plan.ticks →
+    ensures goes_on { (slow fast count : ℕ) (plan : Plan) → KeepsTime slow fast plan →
+        0 < plan.ticks →
         count < plan.ticks + slow → (after_rounds count plan).rows < plan.ticks }
     ensures legs { (leg : Leg) → IsSound leg → HasNoSlip leg → LagsEnough leg →
         KeepsTime (greatest leg.config.delays) (least leg.config.delays) (walk_plan leg) }

@@ -20,6 +20,7 @@ pub fn place_law()
     ensures begins { (leg : Leg) (n : ℕ) (placed : Placed) (extent : Extent) →
         slice_get (placed_frames leg) n ≡ Some placed → slice_get (session_extents leg) n ≡ Some extent →
         place_after leg placed.due ≤ extent.from }
-    ensures waits { (leg : Leg) (n : ℕ) (placed : Placed) → slice_get (placed_frames leg) n ≡ Some placed →
+    ensures waits { (leg : Leg) (n : ℕ) (placed : Placed) →
+        slice_get (placed_frames leg) n ≡ Some placed →
         length (session_extents leg) ≤ n → size (session_pieces leg) < placed.to }
 {}

@@ -38,15 +38,6 @@ any-at test from (suc count) n low high is =
           [ true ↦ refl | false ↦ rest ]
     ]
 
-pub any-none : (test : ℕ → Bool) (from count : ℕ) → ((n : ℕ) → test n ≡ true → ⊥) →
-    list_any test (range_with_len from count) ≡ false
-any-none test from count none =
-    elim (list_any test (range_with_len from count))
-    as (λ b. list_any test (range_with_len from count) ≡ b → b ≡ false) [
-      | true ↦ λ e. let found = any-find test from count e in absurd (none found.0 found.3)
-      | false ↦ λ e. refl
-    ] refl
-
 -- ---- the last packet that was read
 pub last-read : (read : ℕ → Bool) (k last : ℕ) → last_read read k ≡ Some last → (last ≤ k) × (read last ≡ true)
 unfolding last_read

@@ -1,7 +1,7 @@
 //! The client's stream of octets.
 
 ghost use Rattle.std.specs.Prelude.{◌≡◌, ◌≤◌, ◌++◌, ◌-◌, ◌*◌, ◌/◌, ℕ, List, Option, suc, length};
-ghost use Rattle.law_model.specs.Common.{Scenario, Told, after, size, width, place_of, stream_before, frames_in};
+ghost use Rattle.law_model.specs.Common.{Scenario, Told, size, width, place_of, stream_before, frames_in};
 ghost use Rattle.law_model.specs.Common.{IsFewest, payload_of, frames_before};
 ghost use Rattle.law_session.specs.Session.{AgreeBefore};
 

@@ -1,7 +1,7 @@
 //! The return cells of a session.
 
 ghost use Rattle.std.specs.Prelude.{◌≡◌, ◌<◌, ◌+◌, ◌-◌, ℕ, List, Option, take};
-ghost use Rattle.law_model.specs.Common.{Scenario, Told, after, table_of, cells_before};
+ghost use Rattle.law_model.specs.Common.{Scenario, Told, table_of, cells_before};
 ghost use Rattle.law_session.specs.Session.{IsReturned, AgreeBefore};
 
 /// The return cells of a session. Each is made from the tables that the cells before it lead to; more cells

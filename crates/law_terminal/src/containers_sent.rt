@@ -1,6 +1,6 @@
 //! The containers that the source makes.
 
-ghost use Rattle.std.specs.Prelude.{◌≡◌, ℕ, ◌+◌, ◌-◌, ◌*◌, ◌/◌, ◌<◌, ◌≤◌, All, List, length, take, Option};
+ghost use Rattle.std.specs.Prelude.{◌≡◌, ℕ, ◌+◌, ◌-◌, ◌*◌, ◌/◌, ◌<◌, ◌≤◌, All, List, length, Option};
 ghost use Rattle.law_model.specs.Common.{Scenario, packets, Told, IsPacket, packet_nibbles, sent_packet, AreSent};
 ghost use Rattle.law_model.specs.Common.{sent_nibbles, container_of, containers_of, vc4_size};
 ghost use Rattle.law_session.specs.Session.{AgreeBefore};

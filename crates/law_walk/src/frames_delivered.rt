@@ -2,8 +2,8 @@
 
 ghost use Rattle.std.specs.Prelude.{◌≡◌, ℕ, ◌+◌, ◌≤◌, List, ◌++◌, map, length, take, drop, Option};
 ghost use Rattle.std.specs.List.{range_with_len};
-ghost use Rattle.law_model.specs.Common.{Leg, cells, IsSound, after, frames_by, StreamRow, deliver, row_at, Counts};
-ghost use Rattle.law_model.specs.Common.{drain, walked, longest_frame};
+ghost use Rattle.law_model.specs.Common.{Leg, IsSound, frames_by, StreamRow, deliver, row_at, Counts};
+ghost use Rattle.law_model.specs.Common.{walked, longest_frame};
 ghost use Rattle.law_model.specs.members.Damage.{carried};
 ghost use Rattle.law_walk.specs.Walk.{CanWalk, IsWalked, popped_cells};
 ghost use Rattle.law_walk.specs.Delivered.{delivered_of, IsReceived};

@@ -2,7 +2,7 @@
 
 ghost use Rattle.std.specs.Prelude.{◌≡◌, ℕ, ◌+◌, ◌*◌, ◌<◌, ◌≤◌, List, map, fold, length, take, slice_get, Some};
 ghost use Rattle.std.specs.Prelude.{option_map};
-ghost use Rattle.law_model.specs.Common.{Leg, cells, DueCommand, DueFrame, orders_of, offers_of, scenario_by};
+ghost use Rattle.law_model.specs.Common.{Leg, DueCommand, DueFrame, orders_of, offers_of, scenario_by};
 ghost use Rattle.law_model.specs.Common.{steps_in, orders_at, frames_at, refusal, after, source_at, frame_refusal};
 ghost use Rattle.law_model.specs.Common.{offered, stream_before, frame_of, dues_of, frame_dues, command_dues};
 ghost use Rattle.law_model.specs.Common.{Counts};

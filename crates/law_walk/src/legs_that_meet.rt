@@ -1,7 +1,7 @@
 //! Legs that meet what the laws ask, and worked walks.
 
 ghost use Rattle.std.specs.Prelude.{◌≡◌, true, false};
-ghost use Rattle.law_model.specs.Common.{IsSound, scenario_by, after};
+ghost use Rattle.law_model.specs.Common.{IsSound, scenario_by};
 ghost use Rattle.law_session.specs.Use.{AddsUndamaged, AddsAmongSilent};
 ghost use Rattle.law_walk.specs.Delivered.{delivered_of};
 ghost use Rattle.law_walk.specs.Report.{report_of};

@@ -1,8 +1,7 @@
 //! How soon a line that is added carries payload, and what a return packet answers.
 
 ghost use Rattle.std.specs.Prelude.{◌≡◌, ◌↔◌, ℕ, Bool, Some};
-ghost use Rattle.law_model.specs.Common.{Leg, scenario_by, told_at, Told, kept_of, step};
-ghost use Rattle.law_model.specs.members.Damage.{carried};
+ghost use Rattle.law_model.specs.Common.{Leg, scenario_by, told_at, Told, kept_of};
 ghost use Rattle.law_session.specs.Feedback.{Takes, Acknowledges, TellsOf, SameLines, WasSaid};
 ghost use Rattle.law_session.specs.Use.{AddsUndamaged, AddsAmongSilent, known_by};
 ghost use Rattle.law_walk.specs.Walk.{session_of, CanWalk};

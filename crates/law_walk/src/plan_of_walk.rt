@@ -1,7 +1,7 @@
 //! A leg's walk in numbers: its plan, and each of its lines beside its cells.
 
 ghost use Rattle.std.specs.Prelude.{◌≡◌, ℕ, ◌+◌, ◌<◌, ◌≤◌, nat_le, List, length, take, slice_get, Some, is_none};
-ghost use Rattle.law_model.specs.Common.{Leg, cells, verdict, IsSound, scenario_by, LineCounts};
+ghost use Rattle.law_model.specs.Common.{Leg, verdict, IsSound, scenario_by, LineCounts};
 ghost use Rattle.law_progress.specs.Progress.{IsPlan};
 ghost use Rattle.law_terminal.specs.SessionLines.{HasLines};
 ghost use Rattle.law_walk.specs.Walk.{walk_plan, CanWalk, counts_at, popped_on, path_on};

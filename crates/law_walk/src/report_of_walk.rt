@@ -1,7 +1,7 @@
 //! The report of a walk, and that it is one and the same once all rows are taken.
 
 ghost use Rattle.std.specs.Prelude.{◌≡◌, ◌+◌, ◌<◌, ◌≤◌, length};
-ghost use Rattle.law_model.specs.Common.{Leg, cells, IsSound, DueCommand, DueFrame, Counts, in_inbox};
+ghost use Rattle.law_model.specs.Common.{Leg, IsSound, DueCommand, DueFrame, Counts, in_inbox};
 ghost use Rattle.law_progress.specs.Progress.{SomeProgress};
 ghost use Rattle.law_walk.specs.Walk.{walk_plan, CanWalk, IsWalked};
 ghost use Rattle.law_walk.specs.Rings.{inbox};

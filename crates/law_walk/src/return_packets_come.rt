@@ -3,8 +3,8 @@
 ghost use Rattle.std.specs.Prelude.{◌≡◌, ℕ, ◌+◌, ◌*◌, ◌/◌, ◌%◌, ◌<◌, ◌≤◌, ◌==◌, ◌&&◌, nat_le, nat_lt, List, [], ◌∷◌};
 ghost use Rattle.std.specs.Prelude.{if◌then◌else◌};
 ghost use Rattle.std.specs.Prelude.{◌++◌};
-ghost use Rattle.law_model.specs.Common.{Leg, cells, scenario_by, return_cell, told_in, return_at, LineCounts};
-ghost use Rattle.law_model.specs.Common.{Counts, used_in, step};
+ghost use Rattle.law_model.specs.Common.{Leg, scenario_by, return_cell, told_in, return_at, LineCounts};
+ghost use Rattle.law_model.specs.Common.{Counts, used_in};
 ghost use Rattle.law_model.specs.session.Scenario.{packets_in};
 ghost use Rattle.law_line.specs.StableRows.{IsLonger, AreDecidedAt};
 ghost use Rattle.law_terminal.specs.Course.{packet_by};

@@ -2,7 +2,7 @@
 
 ghost use Rattle.std.specs.Prelude.{◌≡◌, ◌↔◌, ℕ, ◌+◌, ◌-◌, ◌<◌, ◌≤◌, min, List, [], ◌∷◌, ◌++◌, length, take, Some};
 ghost use Rattle.std.specs.Prelude.{None};
-ghost use Rattle.law_model.specs.Common.{Cell, Leg, cells, scenario_by, carried_by, after, first_open, LineCounts};
+ghost use Rattle.law_model.specs.Common.{Cell, Leg, cells, scenario_by, carried_by, first_open, LineCounts};
 ghost use Rattle.law_model.specs.Common.{Counts, pop_lines};
 ghost use Rattle.law_progress.specs.Progress.{LineFits};
 ghost use Rattle.law_walk.specs.Walk.{walk_plan, CanWalk, IsWalked, counts_at, popped_cells, path_on};

@@ -2,7 +2,7 @@
 
 ghost use Rattle.std.specs.Prelude.{◌≡◌, ℕ, ◌+◌, ◌-◌, ◌*◌, ◌/◌, ◌%◌, ◌<◌, ◌≤◌, ◌==◌, List, Some, None};
 ghost use Rattle.std.specs.Prelude.{if◌then◌else◌};
-ghost use Rattle.law_model.specs.Common.{Leg, cells, scenario_by, steps_in, after, source_at, stream_before};
+ghost use Rattle.law_model.specs.Common.{Leg, scenario_by, steps_in, after, source_at, stream_before};
 ghost use Rattle.law_model.specs.Common.{payload_of, row_at, is_whole_row, frame_of, Counts, used_in, step, begin};
 ghost use Rattle.law_model.specs.Common.{drain, walked, carriers_at, known_lines};
 ghost use Rattle.law_model.specs.declared.script_types.EventLine.{EventLine};

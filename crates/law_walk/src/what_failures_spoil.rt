@@ -2,7 +2,7 @@
 
 ghost use Rattle.std.specs.Prelude.{◌≡◌, ◌↔◌, ℕ, suc, true, false, ◌+◌, ◌<◌, ◌≤◌, List, [], ◌++◌, map, length};
 ghost use Rattle.std.specs.Prelude.{slice_index_or, All};
-ghost use Rattle.law_model.specs.Common.{Leg, IsSound, DueFrame, offers_of, scenario_by, after, frames_by, segments};
+ghost use Rattle.law_model.specs.Common.{Leg, IsSound, DueFrame, offers_of, scenario_by, frames_by, segments};
 ghost use Rattle.law_model.specs.Common.{Extent, Lost, is_frame_lost, IsPlaceOfPiece, frames_kept, is_whole_row};
 ghost use Rattle.law_model.specs.Common.{Counts, lock_of, walked};
 ghost use Rattle.law_model.specs.declared.window_types.Window.{Window};
@@ -35,10 +35,12 @@ pub fn clear_law()
 /// and no change was made since a packet of the line could be read, the row is whole. So a failure that stands
 /// alone spoils no row from 17 after its end on.
 pub fn near_law()
-    ensures near { (leg : Leg) (line t : ℕ) → IsSound leg → leg.config.options.infers ≡ true → 24 ≤ t →
+    ensures near { (leg : Leg) (line t : ℕ) → IsSound leg → leg.config.options.infers ≡ true →
+        24 ≤ t →
         FailsAlone leg line t → IsClear (slice_index_or leg.config.windows line []) (lock_of t) (t + 1) →
         is_whole_row (scenario_by leg) (session_of leg) t ≡ true }
-    ensures behind { (leg : Leg) (line end t : ℕ) → IsSound leg → leg.config.options.infers ≡ true → 24 ≤ t →
+    ensures behind { (leg : Leg) (line end t : ℕ) → IsSound leg →
+        leg.config.options.infers ≡ true → 24 ≤ t →
         FailsAlone leg line t → IsClear (slice_index_or leg.config.windows line []) end (t + 1) → end + 17 ≤ t →
         is_whole_row (scenario_by leg) (session_of leg) t ≡ true }
 {}

@@ -1,7 +1,8 @@
 //! The multiframe of virtual concatenation (G.707): the H4 octet of a frame, and the lock of a line on the
-//! octets that come, which is this project's own. Begin with `h4` and `MfiLock`. Numbers are known modulo 4,096 here; which frame of all a
-//! cell has is not said, nor what a packet says. `place_law`: a cell is one of Locks, At and Unknown, whatever
-//! comes after it. The lock is this project's own: it takes two octets, and one that doesn't fit loses it.
+//! octets that come, which is this project's own. Begin with `h4` and `MfiLock`. Numbers are known modulo
+//! 4,096 here; which frame of all a cell has is not said, nor what a packet says. `place_law`: a cell is one
+//! of Locks, At and Unknown, whatever comes after it. The lock is this project's own: it takes two octets,
+//! and one that doesn't fit loses it.
 
 ghost use Rattle.std.specs.Prelude.{◌≡◌, ℕ, ◌+◌, ◌*◌, ◌%◌, ◌<◌, List, [], ◌∷◌, ◌++◌, length, Option, Some, None};
 ghost use Rattle.member_path.specs.declared.h4_multiframe.Place.{Place as PlaceData};

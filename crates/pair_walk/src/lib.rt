@@ -22,6 +22,7 @@ pub use pair_report::write_pair;
 /// lines, in item order and each once; then the lines of its refused items; and then its line of totals. The report of
 /// the way back has the same of the second script. `IsHeadline` says it in full, with the one premise of each way.
 pub fn headline_law()
-    ensures { (text : List ℕ) (pair : ScriptPair) → length text ≤ longest_input → pair_of text ≡ Ok pair →
+    ensures { (text : List ℕ) (pair : ScriptPair) → length text ≤ longest_input →
+        pair_of text ≡ Ok pair →
         IsPairHeadline text (way_text pair.there pair.back) (way_text pair.back pair.there) }
 {}

@@ -1,9 +1,8 @@
 //! Worked rows of bursts, with all ends on one thread, and how often the worker passes a gate and says there that it
 //! moved.
 
-ghost use Rattle.std.specs.Prelude.{◌≡◌, ◌≤◌, [], length, replicate, IfSome};
+ghost use Rattle.std.specs.Prelude.{◌≡◌, []};
 ghost use Rattle.thread_rings.specs.Ends.{in_passed};
-ghost use Rattle.thread_sink.specs.Received.{received};
 
 use law_model::Options;
 use member_cells::{Cell, Container, PAYLOAD};
@@ -65,8 +64,9 @@ fn container(n: u8) -> Container {
     }
 }
 
-/// The slots of both rings of a line, its delay, windows and containers; letters, and the answers to them; and how often
-/// its worker passes and moves. The letter `b` is a burst, `n` pops the next cell, and a digit pushes its container.
+/// The slots of both rings of a line, its delay, windows and containers; letters, and the answers to them;
+/// and how often its worker passes and moves. The letter `b` is a burst, `n` pops the next cell, and a digit
+/// pushes its container.
 type Row = (
     u16,
     u16,

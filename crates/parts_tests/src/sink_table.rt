@@ -7,11 +7,11 @@ use member_cells::Ctrl;
 use std::alloc::Global;
 use terminal_sink::lcas_sink::{SinkState, SinkTable};
 
-/// Rows: the ACT of the packets, and the packet of each of three lines, which is `-` for none, and else a letter for its
-/// control word, its sequence number, and its change bit; then the member statuses and the acknowledgement that are told
-/// of them, the states of the first two lines after it, which are `i` for Idle, `f` for Fine and `x` for Failed, and the
-/// lines that carry payload after it, or `?` where they aren't known. `*` stands for anything. The status of a line is
-/// told in every sixteenth packet.
+/// Rows: the ACT of the packets, and the packet of each of three lines, which is `-` for none, and else a
+/// letter for its control word, its sequence number, and its change bit; then the member statuses and the
+/// acknowledgement that are told of them, the states of the first two lines after it, which are `i` for Idle,
+/// `f` for Fine and `x` for Failed, and the lines that carry payload after it, or `?` where they aren't
+/// known. `*` stands for anything. The status of a line is told in every sixteenth packet.
 const LISTED: &str = "\
     0 - - - => ff - ii *\n\
     0 - d9- - => bf - if *\n\

@@ -37,9 +37,23 @@ impl Model for Landing {
 
     ghost Value = { Landed };
 
-    ghost view = { λ l. record { items = l.items.items; frames = l.frames; commands = l.commands; refused_frames = l.refused_frames; refused_commands = l.refused_commands; refusals = l.refusals.items } };
+    ghost view = { λ l. record {
+      items = l.items.items;
+      frames = l.frames;
+      commands = l.commands;
+      refused_frames = l.refused_frames;
+      refused_commands = l.refused_commands;
+      refusals = l.refusals.items;
+    } };
 
-    ghost invariant = { λ l. IsLanded (record { items = l.items.items; frames = l.frames; commands = l.commands; refused_frames = l.refused_frames; refused_commands = l.refused_commands; refusals = l.refusals.items }) l.frame l.command (vec_capacity l.refusals) };
+    ghost invariant = { λ l. IsLanded (record {
+      items = l.items.items;
+      frames = l.frames;
+      commands = l.commands;
+      refused_frames = l.refused_frames;
+      refused_commands = l.refused_commands;
+      refusals = l.refusals.items;
+    }) l.frame l.command (vec_capacity l.refusals) };
 }
 
 impl Landing {

@@ -4,7 +4,8 @@
 //! RS-Ack as an echo of the change bit, that timers count packets, and when the sink goes on without a packet, is
 //! this project's own.
 
-ghost use Rattle.std.specs.Prelude.{◌≡◌, ℕ, ◌+◌, ◌*◌, ◌<◌, ◌≤◌, [], ◌∷◌, ◌++◌, List, length, not, if◌then◌else◌, IfSome};
+ghost use Rattle.std.specs.Prelude.{◌≡◌, ℕ, ◌+◌, ◌*◌, ◌<◌, ◌≤◌, [], ◌∷◌, ◌++◌, List, length, not};
+ghost use Rattle.std.specs.Prelude.{if◌then◌else◌, IfSome};
 ghost use Rattle.std.specs.Option.{option_copied};
 ghost use Rattle.law_model.specs.Common.{IsOptions, Row, leader, ack_by, return_of, state_next, sink_state};
 ghost use Rattle.law_model.specs.declared.script_types.Options.{Options};
@@ -142,7 +143,8 @@ impl SinkTable {
     /// The state of a line: idle at first and after a packet that says IDLE; fine after another packet;
     /// failed where its packet could not be read, unless it is idle.
     pub fn state(&self, line: u8) -> SinkState
-        ensures { (rows : List Row) → SinkTableStands self.now rows → result ≡ sink_state rows line }
+        ensures { (rows : List Row) → SinkTableStands self.now rows →
+            result ≡ sink_state rows line }
     {
         if usize::from(line) < MOST_LINES {
             self.states[usize::from(line)]

@@ -10,7 +10,8 @@ ghost use Rattle.std.specs.Prelude.{length, take, Option, Some, None, IfOk, IfSo
 ghost use Rattle.law_model.specs.Common.{core_header, Confirmed, hunt, is_sync};
 ghost use Rattle.gfp_delineate.specs.Receiver.{most};
 ghost use Rattle.gfp_delineate.specs.Repeated.{idles_from};
-ghost use Rattle.terminal_sink.specs.marked_delineator.Marks.{first_place, next_mark, is_hunting, StandsIn, Advances, Brings, frame_of};
+ghost use Rattle.terminal_sink.specs.marked_delineator.Marks.{first_place, next_mark, is_hunting, StandsIn};
+ghost use Rattle.terminal_sink.specs.marked_delineator.Marks.{Advances, Brings, frame_of};
 ghost use Rattle.terminal_sink.specs.marked_delineator.Marks.{told_outcomes, header_begun};
 
 use gfp_delineate::{Delineator, Step};

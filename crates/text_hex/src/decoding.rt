@@ -87,7 +87,8 @@ fn decode_sixteen(text: &[u8], at: usize, octets: &mut [u8]) -> bool
 fn columns(text: &[u8], at: usize) -> (u8x16, u8x16)
     requires { at + 32 ≤ length text.now }
     ensures upper { (n : ℕ) → n < 16 → slice_index result.0 n ≡ slice_index text.now (at + 2 * n) }
-    ensures lower { (n : ℕ) → n < 16 → slice_index result.1 n ≡ slice_index text.now (at + 2 * n + 1) }
+    ensures lower { (n : ℕ) → n < 16 →
+        slice_index result.1 n ≡ slice_index text.now (at + 2 * n + 1) }
     ensures uppers { length result.0 ≡ 16 }
     ensures lowers { length result.1 ≡ 16 }
 {

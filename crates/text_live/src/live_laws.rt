@@ -24,7 +24,8 @@ pub fn fault_law()
 /// The script of live lines without a fault can be walked, whatever number of rounds it says: its numbers are in their
 /// ranges, its failures and items in order, and its rings and lag fit.
 pub fn valid_law()
-    ensures valid { (rounds : ℕ) (ls : List (List ℕ)) (script : Script) → length ls ≤ longest_input →
+    ensures valid { (rounds : ℕ) (ls : List (List ℕ)) (script : Script) →
+        length ls ≤ longest_input →
         script_of_live rounds ls ≡ Ok script → IsValid script }
     ensures few_lost { (rounds : ℕ) (ls : List (List ℕ)) (script : Script) →
         script_of_live rounds ls ≡ Ok script → HasFewLosses script }

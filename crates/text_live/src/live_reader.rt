@@ -1,5 +1,5 @@
 //! A live text, line by line.
-ghost use Rattle.std.specs.Prelude.{◌≡◌, ◌⊎◌, ◌↔◌, ℕ, ◌+◌, List, true, option_map, Some, None, Err};
+ghost use Rattle.std.specs.Prelude.{◌≡◌, ◌⊎◌, ℕ, ◌+◌, List, true, option_map, Some, None, Err};
 ghost use Rattle.std.specs.Prelude.{IfOk, IfErr, OnOk, IfSome};
 ghost use Rattle.text_lines.specs.Words.{words, is_skipped};
 ghost use Rattle.law_model.specs.Common.{IsNetwork};
@@ -92,13 +92,6 @@ impl LiveReader {
             octets: Vec::with_capacity(alloc, 65_535)?,
             fault: None,
         })
-    }
-
-    /// Whether it may read one more line: a text has at most 67,108,864.
-    pub fn has_lines_left(&self) -> bool
-        ensures { (result ≡ true) ↔ HasLinesLeft self.now }
-    {
-        self.number <= 67_108_864
     }
 
     /// The octets of the frame, where the last line that was read sends one.
@@ -208,7 +201,8 @@ impl LiveReader {
             OnOk result (opening_fault s.live s.settings ≡ None) }
         ensures at { (n : ℕ) (s : Said) → IsAt self.old n s →
             OnOk result (IsAt self.new n (opened_said s)) }
-        ensures config { (n : ℕ) (s : Said) → IsAt self.old n s → OnOk result (HandsOut self.new s) }
+        ensures config { (n : ℕ) (s : Said) → IsAt self.old n s →
+            OnOk result (HandsOut self.new s) }
         ensures fault { (n : ℕ) (s : Said) → IsAt self.old n s →
             IfErr result (λ fault. IsToldAt n (opening_fault s.live s.settings) fault) }
         ensures failed { IfErr result (λ fault. failure self.new ≡ Some fault) }
@@ -265,7 +259,8 @@ impl LiveReader {
             IfOk result (λ said. ReadsLine self.new n s (words line.now) said) }
         ensures stops { (n : ℕ) (s : Said) → IsAt self.old n s →
             IfErr result (λ fault. Stops n s (words line.now) fault) }
-        ensures fails_on { (fault : LiveFault) → failure self.old ≡ Some fault → result ≡ Err fault }
+        ensures fails_on { (fault : LiveFault) → failure self.old ≡ Some fault →
+            result ≡ Err fault }
         ensures failed { IfErr result (λ fault. failure self.new ≡ Some fault) }
     {
         if let Some(fault) = self.fault {
@@ -290,10 +285,12 @@ impl LiveReader {
             OnOk result (opening_fault s.live s.settings ≡ None) }
         ensures at { (n : ℕ) (s : Said) → IsAt self.old n s →
             OnOk result (IsAt self.new n (opened_said s)) }
-        ensures config { (n : ℕ) (s : Said) → IsAt self.old n s → OnOk result (HandsOut self.new s) }
+        ensures config { (n : ℕ) (s : Said) → IsAt self.old n s →
+            OnOk result (HandsOut self.new s) }
         ensures fault { (n : ℕ) (s : Said) → IsAt self.old n s →
             IfErr result (λ fault. IsToldAt n (opening_fault s.live s.settings) fault) }
-        ensures fails_on { (fault : LiveFault) → failure self.old ≡ Some fault → result ≡ Err fault }
+        ensures fails_on { (fault : LiveFault) → failure self.old ≡ Some fault →
+            result ≡ Err fault }
         ensures failed { IfErr result (λ fault. failure self.new ≡ Some fault) }
     {
         if let Some(fault) = self.fault {

@@ -207,7 +207,8 @@ impl LiveState {
     fn cut(&mut self, rest: &[u8]) -> Result<u8, LiveLineFault>
         requires { IsKept self.old }
         ensures kept { IsKept self.new }
-        ensures ok { (octets : List ℕ) (c : Config) (live : Live) → Keeps self.old c live → IfOk result
+        ensures ok { (octets : List ℕ) (c : Config) (live : Live) → Keeps self.old c live →
+            IfOk result
             (λ n. Reads self.new octets c live LiveKeyword.Cut (words rest.now) (LiveLine.Cut n)) }
         ensures err { (c : Config) (live : Live) → Keeps self.old c live →
             IfErr result (λ fault. rest_fault c live LiveKeyword.Cut (words rest.now) ≡ Some fault) }
@@ -229,7 +230,8 @@ impl LiveState {
     fn mend(&mut self, rest: &[u8]) -> Result<u8, LiveLineFault>
         requires { IsKept self.old }
         ensures kept { IsKept self.new }
-        ensures ok { (octets : List ℕ) (c : Config) (live : Live) → Keeps self.old c live → IfOk result
+        ensures ok { (octets : List ℕ) (c : Config) (live : Live) → Keeps self.old c live →
+            IfOk result
             (λ n. Reads self.new octets c live LiveKeyword.Mend (words rest.now) (LiveLine.Mend n)) }
         ensures err { (c : Config) (live : Live) → Keeps self.old c live →
             IfErr result (λ fault. rest_fault c live LiveKeyword.Mend (words rest.now) ≡ Some fault) }
@@ -251,7 +253,8 @@ impl LiveState {
     fn pass(&mut self, rest: &[u8]) -> Result<u32, LiveLineFault>
         requires { IsKept self.old }
         ensures kept { IsKept self.new }
-        ensures ok { (octets : List ℕ) (c : Config) (live : Live) → Keeps self.old c live → IfOk result
+        ensures ok { (octets : List ℕ) (c : Config) (live : Live) → Keeps self.old c live →
+            IfOk result
             (λ n. Reads self.new octets c live LiveKeyword.Pass (words rest.now) (LiveLine.Pass n)) }
         ensures err { (c : Config) (live : Live) → Keeps self.old c live →
             IfErr result (λ fault. rest_fault c live LiveKeyword.Pass (words rest.now) ≡ Some fault) }

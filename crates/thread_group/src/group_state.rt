@@ -45,7 +45,8 @@ impl GroupState {
     ghost use Rattle.thread_group.specs.Journal.{fits};
     ghost use Rattle.terminal_group.specs.Landed.{due_at};
     ghost use Rattle.thread_group.specs.Rings.{AreUnused, AreFree, IsFirstFull};
-    ghost use Rattle.thread_group.specs.Group.{parts_of, side_of, lines_of, lag_of, size_of, statuses_of, IsOf, ticks_of};
+    ghost use Rattle.thread_group.specs.Group.{parts_of, side_of, lines_of, lag_of, size_of, statuses_of};
+    ghost use Rattle.thread_group.specs.Group.{IsOf, ticks_of};
     ghost use Rattle.thread_group.specs.Group.{items_of, frames_of, commands_of, journal_of, slots_of, bytes_of};
     ghost use Rattle.thread_group.specs.Group.{refusals_of, inbox_of, source_of, totals_of, next_of, refusal_of};
     ghost use Rattle.thread_group.specs.Group.{next_brought};

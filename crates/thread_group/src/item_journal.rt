@@ -47,9 +47,14 @@ impl Model for Journal {
 
     ghost Value = { Journal };
 
-    ghost view = { λ j. record { entries = entries_in j.octets.items j.entries.items; slots = j.slots; bytes = j.bytes } };
+    ghost view = { λ j. record {
+      entries = entries_in j.octets.items j.entries.items;
+      slots = j.slots;
+      bytes = j.bytes;
+    } };
 
-    ghost invariant = { λ j. AreEntries j.octets.items j.entries.items j.slots j.bytes (vec_capacity j.entries) (vec_capacity j.octets) j.frames };
+    ghost invariant = { λ j. AreEntries j.octets.items j.entries.items j.slots j.bytes
+        (vec_capacity j.entries) (vec_capacity j.octets) j.frames };
 }
 
 impl Journal {

@@ -21,7 +21,8 @@ fn pass_cell(end: &mut RingIn<Cell>, place: &mut CellPlace, rows: &mut RowGather
     requires line { line < line_count rows.old }
     requires open { IsOpenAt rows.old line }
     ensures took { IsTrue result → PoppedCell end.old end.new rows.old rows.new line }
-    ensures stays { IsFalse result → (in_passed end.new ≡ in_passed end.old) × (rows.new ≡ rows.old) }
+    ensures stays { IsFalse result → (in_passed end.new ≡ in_passed end.old)
+        × (rows.new ≡ rows.old) }
     ensures missed { IsFalse result → (in_items end.old ≡ [])
         × (in_misses end.new ≡ one_more (in_misses end.old)) }
     ensures same { SameIn end.old end.new }

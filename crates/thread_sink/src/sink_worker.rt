@@ -108,7 +108,8 @@ impl SinkWorker {
             (taken_of self.old) (taken_of self.new))) }
         ensures done { (result ≡ SinkBurst.Done) ↔ (taken_of self.old ≡ ticks_of self.old) }
         ensures still { result ≡ SinkBurst.Done → (self.new ≡ self.old) × (out.new ≡ out.old) }
-        ensures does { SinkWorkerStands self.old → Does (parts_of self.old) (parts_of self.new) result }
+        ensures does { SinkWorkerStands self.old →
+            Does (parts_of self.old) (parts_of self.new) result }
         ensures most { taken_of self.new ≤ taken_of self.old + 16 }
         ensures later { IsLater self.old self.new }
     {
@@ -133,7 +134,8 @@ impl SinkWorker {
         ensures stands { SinkWorkerStands self.old → SinkWorkerStands self.new }
         ensures failed { has_failed self.new ≡ has_failed self.old }
         ensures never { result ≢ SinkBurst.Done }
-        ensures does { SinkWorkerStands self.old → Does (parts_of self.old) (parts_of self.new) result }
+        ensures does { SinkWorkerStands self.old →
+            Does (parts_of self.old) (parts_of self.new) result }
         ensures most { taken_of self.new ≤ taken_of self.old + 16 }
         ensures later { IsLater self.old self.new }
     {
@@ -160,7 +162,8 @@ impl SinkWorker {
             (got_texts (added_frames (options_of self.new) (size_of self.new) (cells_of self.new)
             (taken_of self.old) (taken_of self.new))) }
         ensures never { result ≢ SinkBurst.Done }
-        ensures does { SinkWorkerStands self.old → Does (parts_of self.old) (parts_of self.new) result }
+        ensures does { SinkWorkerStands self.old →
+            Does (parts_of self.old) (parts_of self.new) result }
         ensures most { taken_of self.new ≤ taken_of self.old + 16 }
         ensures later { IsLater self.old self.new }
     {

@@ -182,10 +182,12 @@ impl AnsweredWalk {
         ensures windows { windows_in self.new.walk.way.lines ≡ windows_in self.old.walk.way.lines }
         ensures rounds { (leg : Leg) → CanRound leg self.old.walk →
             OnOk result (LiveRounds leg self.old.walk self.new.walk) }
-        ensures told { (leg : Leg) → CanRound leg self.old.walk → self.old.lines ≡ leg.config.lines →
+        ensures told { (leg : Leg) → CanRound leg self.old.walk →
+            self.old.lines ≡ leg.config.lines →
             OnOk result (Holds K.written K.faults out.old out.new block.new
             (block.old ++ round_text self.old.steps leg (walking_counts self.old.walk))) }
-        ensures part { (leg : Leg) → CanRound leg self.old.walk → self.old.lines ≡ leg.config.lines →
+        ensures part { (leg : Leg) → CanRound leg self.old.walk →
+            self.old.lines ≡ leg.config.lines →
             OnErr result (AppendsPart K.written K.faults out.old out.new
             (block.old ++ round_text self.old.steps leg (walking_counts self.old.walk))) }
     {
@@ -207,10 +209,12 @@ impl AnsweredWalk {
         requires few { self.now.lines ≤ 128 }
         requires least { before ≤ (walking_counts self.now.walk).ticks }
         requires most { (walking_counts self.now.walk).ticks ≤ before + 1 }
-        ensures told { (leg : Leg) → LiveStands leg self.now.walk → self.now.lines ≡ leg.config.lines →
+        ensures told { (leg : Leg) → LiveStands leg self.now.walk →
+            self.now.lines ≡ leg.config.lines →
             OnOk result (Holds K.written K.faults out.old out.new block.new
             (block.old ++ steps_text self.now.steps leg before (walking_counts self.now.walk).ticks)) }
-        ensures part { (leg : Leg) → LiveStands leg self.now.walk → self.now.lines ≡ leg.config.lines →
+        ensures part { (leg : Leg) → LiveStands leg self.now.walk →
+            self.now.lines ≡ leg.config.lines →
             OnErr result (AppendsPart K.written K.faults out.old out.new
             (block.old ++ steps_text self.now.steps leg before (walking_counts self.now.walk).ticks)) }
     {

@@ -1,5 +1,4 @@
 //! A live text is read, and answered as it comes.
-ghost use Rattle.std.specs.Prelude.{◌≡◌};
 ghost use Rattle.command_parts.specs.Ends.{lent};
 ghost use Rattle.command_parts.specs.Gives.{GivesTalk};
 ghost use Rattle.command_parts.specs.Dialogue.{talk_of};

@@ -12,7 +12,8 @@ const HELP_ROOM: usize = 192;
 
 /// Why a fault stops a conversation.
 pub(crate) fn stop_of_live(fault: LiveFault) -> Stop
-    ensures refused { fault ≢ no_memory → IsRefusedAs (live_why fault) (live_fault_text fault) result }
+    ensures refused { fault ≢ no_memory →
+        IsRefusedAs (live_why fault) (live_fault_text fault) result }
     ensures short { fault ≡ no_memory → result ≡ Stop.Memory }
 {
     match fault {

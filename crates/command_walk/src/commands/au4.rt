@@ -3,7 +3,6 @@ ghost use Rattle.std.specs.Prelude.{◌≡◌, ℕ, List, Ok, None, map, string_
 ghost use Rattle.command_parts.specs.Task.{reads, writes};
 ghost use Rattle.command_parts.specs.Ends.{lent};
 ghost use Rattle.command_parts.specs.Gives.{GivesAlone};
-ghost use Rattle.command_parts.specs.Faults.{line_text};
 ghost use Rattle.member_au4.specs.declared.au4_link.au4_draft.Link.{Link};
 ghost use Rattle.member_au4.specs.au4_link.Link.{link_of};
 ghost use Rattle.member_au4.specs.au4_link.Carried.{carried_text};

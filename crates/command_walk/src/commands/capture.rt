@@ -1,5 +1,5 @@
 //! `capture`: a script's walk is made, and the frames that it delivers are written as a capture.
-ghost use Rattle.std.specs.Prelude.{◌≡◌, ℕ, List, Ok, OnOk, OnErr, map, string_bytes};
+ghost use Rattle.std.specs.Prelude.{◌≡◌, ℕ, Ok, OnOk, OnErr, map, string_bytes};
 ghost use Rattle.octet_io.specs.Start.{Start};
 ghost use Rattle.octet_io.specs.Transfer.{Appends, AppendsPart};
 ghost use Rattle.law_model.specs.declared.script_types.Script.{Script};
@@ -14,7 +14,8 @@ ghost use Rattle.text_captures.specs.capture_file.Reading.{capture_said};
 ghost use Rattle.command_parts.specs.Task.{reads};
 ghost use Rattle.command_parts.specs.Ends.{lent};
 ghost use Rattle.command_parts.specs.Gives.{GivesAlone};
-ghost use Rattle.command_walk.specs.commands.Capture.{HasTaken, taken_frames, capture_octets, capture_words, capture_answer};
+ghost use Rattle.command_walk.specs.commands.Capture.{HasTaken, taken_frames, capture_octets, capture_words};
+ghost use Rattle.command_walk.specs.commands.Capture.{capture_answer};
 ghost use Rattle.command_walk.specs.Told.{events_of, IsTurn};
 ghost use Rattle.command_walk.specs.Ended.{HandsScript};
 

@@ -4,7 +4,6 @@ ghost use Rattle.std.specs.Prelude.{◌≡◌, ℕ, List, Ok, None, map, string_
 ghost use Rattle.command_parts.specs.Task.{reads};
 ghost use Rattle.command_parts.specs.Ends.{lent};
 ghost use Rattle.command_parts.specs.Gives.{GivesAlone};
-ghost use Rattle.command_parts.specs.Faults.{line_text};
 ghost use Rattle.gfp_channels.specs.declared.channel_link.channel_draft.ChannelPlan.{ChannelPlan};
 ghost use Rattle.gfp_channels.specs.channel_link.Plan.{plan_of};
 ghost use Rattle.command_walk.specs.commands.Channels.{channels_words, channels_answer, TellsPlan};

@@ -12,7 +12,8 @@ ghost use Rattle.command_parts.specs.Task.{makes};
 ghost use Rattle.command_parts.specs.Ends.{lent, no_source};
 ghost use Rattle.command_parts.specs.Gives.{GivesAlone};
 ghost use Rattle.command_walk.specs.Ended.{IsWalkOf};
-ghost use Rattle.command_walk.specs.commands.Make.{octet_count, octet_sum, made_text, sum_text, lines_text, load_of, make_words};
+ghost use Rattle.command_walk.specs.commands.Make.{octet_count, octet_sum, made_text, sum_text, lines_text};
+ghost use Rattle.command_walk.specs.commands.Make.{load_of, make_words};
 ghost use Rattle.command_walk.specs.commands.Make.{make_answer};
 ghost use Rattle.command_words.specs.Words.{number_in};
 

@@ -4,7 +4,6 @@ ghost use Rattle.std.specs.Prelude.{◌≡◌, ℕ, List, Ok, None, map, string_
 ghost use Rattle.command_parts.specs.Task.{reads, writes};
 ghost use Rattle.command_parts.specs.Ends.{lent};
 ghost use Rattle.command_parts.specs.Gives.{GivesAlone};
-ghost use Rattle.command_parts.specs.Faults.{line_text};
 ghost use Rattle.gfp_noise.specs.declared.noise_link.noise_draft.Noise.{Noise};
 ghost use Rattle.gfp_noise.specs.noise_link.Noise.{noise_of};
 ghost use Rattle.gfp_noise.specs.noise_link.Text.{AreSingle, untouched_text};

@@ -64,7 +64,13 @@ impl Model for Segments {
 
     ghost Value = { SegmentList };
 
-    ghost view = { λ s. record { rows = s.rows; first = s.first; ended = s.ended.items; last = s.last; base = s.base } };
+    ghost view = { λ s. record {
+      rows = s.rows;
+      first = s.first;
+      ended = s.ended.items;
+      last = s.last;
+      base = s.base;
+    } };
 
     ghost invariant = { λ s. AreSegments
         (record { rows = s.rows; first = s.first; ended = s.ended.items; last = s.last; base = s.base }) };

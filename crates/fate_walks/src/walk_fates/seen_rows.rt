@@ -3,7 +3,7 @@
 //! is confirmed after it.
 ghost use Rattle.std.specs.Prelude.{◌≡◌, ◌+◌, ◌≤◌, length, OnOk, OnErr};
 ghost use Rattle.std.specs.Bool.{OnTrue, OnFalse};
-ghost use Rattle.law_model.specs.Common.{Leg, leg_of, steps_in, IsValid};
+ghost use Rattle.law_model.specs.Common.{Leg, leg_of, IsValid};
 ghost use Rattle.law_model.specs.session.Scenario.{packets_in};
 ghost use Rattle.law_walk.specs.Common.{IsWalked};
 ghost use Rattle.fate_walks.specs.walk_fates.Places.{Governs};

@@ -15,7 +15,8 @@ pub use landed_cursor::{FrameCursor, LandedFrame};
 /// The stream of a leg, frame by frame and tick by tick, and its ruler.
 pub fn stream_law()
     ensures start { (leg : Leg) → ruler_of (stream_in leg 0 0) ≡ new_ruler }
-    ensures tick { (leg : Leg) (frames from t to : ℕ) → Between leg frames from to → from ≤ t → t < to →
+    ensures tick { (leg : Leg) (frames from t to : ℕ) → Between leg frames from to → from ≤ t →
+        t < to →
         reached (place_in leg (t + 1)) (stream_in leg t frames) ≡ stream_in leg (t + 1) frames }
     ensures refused { (stream : Stream) (octets : List ℕ) (why : AcceptFault) →
         frame_refusal octets stream ≡ Some why → offered stream octets ≡ stream }

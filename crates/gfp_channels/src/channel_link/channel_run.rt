@@ -79,7 +79,8 @@ fn carry<K: ByteSink>(
 )
     requires few { octets ≤ 100000000 }
     requires fresh { queue.old ≡ unbegun queue.old.channels }
-    requires stands { (start : Start) × Received K.written K.faults reception.old start cuts.now [] }
+    requires stands { (start : Start)
+        × Received K.written K.faults reception.old start cuts.now [] }
     requires order { AreCuts 0 octets cuts.now }
     ensures { (start : Start) → Received K.written K.faults reception.old start cuts.now [] →
         Received K.written K.faults reception.new start cuts.now

@@ -1,8 +1,8 @@
 //! Clients that share a stream by channel numbers: what a text says of channels, frames and cuts, and the lines
 //! of the frames that get through. The language is a table, `plan_table`, and what a text says computes from it,
-//! `plan_of`; the reader gives just that, in one pass. How frames are queued, sent and received is in `gfp_linear`. Begin with `read_plan` and
-//! `ChannelRun`; `plan_law` says what of each channel is carried and delivered, and `text_law` what is then
-//! written of a text.
+//! `plan_of`; the reader gives just that, in one pass. How frames are queued, sent and received is in
+//! `gfp_linear`. Begin with `read_plan` and `ChannelRun`; `plan_law` says what of each channel is carried and
+//! delivered, and `text_law` what is then written of a text.
 
 ghost use Rattle.std.specs.Prelude.{◌≡◌, ◌↔◌, ℕ, List, [], length, take, Ok, Err};
 ghost use Rattle.std.specs.Str.Lines.{lines};
@@ -14,7 +14,8 @@ ghost use Rattle.gfp_channels.specs.channel_link.ChannelTextLines.{plan_lines};
 ghost use Rattle.gfp_channels.specs.declared.channel_link.channel_draft.ChannelPlan.{ChannelPlan};
 ghost use Rattle.gfp_channels.specs.channel_link.Plan.{plan_of, IsPlan};
 ghost use Rattle.gfp_channels.specs.channel_link.Text.{plan_text};
-ghost use Rattle.gfp_channels.specs.channel_link.Delivered.{HasTrueStarts, accepted_by, carried_by, kept_by, delivered_by};
+ghost use Rattle.gfp_channels.specs.channel_link.Delivered.{HasTrueStarts, accepted_by, carried_by, kept_by};
+ghost use Rattle.gfp_channels.specs.channel_link.Delivered.{delivered_by};
 ghost use Rattle.gfp_channels.specs.channel_link.Delivered.{IsPlanReport};
 
 mod channel_draft;

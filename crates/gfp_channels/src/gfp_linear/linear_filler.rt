@@ -33,7 +33,8 @@ impl Model for LinearFiller {
 impl LinearFiller {
     /// A stream of which nothing is written.
     pub fn new() -> LinearFiller
-        ensures { (channels : Channels) → LinearFillerStands result (unbegun channels) (unsent channels) 0 }
+        ensures { (channels : Channels) →
+            LinearFillerStands result (unbegun channels) (unsent channels) 0 }
     {
         LinearFiller {
             sender: AreaSender::new(),

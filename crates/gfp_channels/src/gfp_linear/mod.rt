@@ -4,7 +4,7 @@
 //! `specs/linear_model`. Begin with `LinearQueue`, `LinearFiller` and `LinearDelineator`. Whether an offered
 //! frame is refused depends on its channel alone; `turns_law`: turns lose and reorder no frame of a channel.
 
-ghost use Rattle.std.specs.Prelude.{◌≡◌, ◌<◌, ◌≤◌, ℕ, List, [], ◌∷◌, ◌++◌, length, replicate, true, false, Some, None};
+ghost use Rattle.std.specs.Prelude.{◌≡◌, ◌<◌, ◌≤◌, ℕ, List, ◌∷◌, ◌++◌, length, replicate, true, false, Some, None};
 ghost use Rattle.law_model.specs.Limits.{shortest_frame, longest_frame};
 ghost use Rattle.gfp_model.specs.linear_model.Channels.{Channels, waiting_of, channel_refusal};
 ghost use Rattle.gfp_model.specs.linear_model.Linear.{linear_header, linear_outcome, dropping};
@@ -21,9 +21,9 @@ pub use linear_delineator::{LinearDelineator, LinearStep};
 pub use linear_filler::LinearFiller;
 pub use linear_queue::LinearQueue;
 
-/// The pieces of a stream that reaches a place are the fewest, and each is the oldest frame of the channel whose turn it
-/// is, or an idle where none waits. Turns lose no frame of a channel and change their order nowhere: those that are
-/// begun, followed by those that wait, stay the same however far the stream is made.
+/// The pieces of a stream that reaches a place are the fewest, and each is the oldest frame of the channel
+/// whose turn it is, or an idle where none waits. Turns lose no frame of a channel and change their order
+/// nowhere: those that are begun, followed by those that wait, stay the same however far the stream is made.
 pub fn turns_law()
     ensures fewest { (place : ℕ) (shared : Shared) →
         IsFewest shared.pieces place (reached place shared).pieces }

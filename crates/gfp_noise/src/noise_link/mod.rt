@@ -1,12 +1,14 @@
 //! Frames with an FCS in a stream with bit errors: what a text says of frames and errors, and the lines of the
 //! frames that get through. The language is a table, `noise_table`, and what a text says computes from it,
-//! `noise_of`; the reader gives just that, in one pass. How frames are sent and received is in `gfp_fcs`. Begin with `read_noise` and `NoiseRun`; `noise_law`
-//! says which frames are delivered if errors are single, and `text_law` what is then written of a text.
+//! `noise_of`; the reader gives just that, in one pass. How frames are sent and received is in `gfp_fcs`.
+//! Begin with `read_noise` and `NoiseRun`; `noise_law` says which frames are delivered if errors are single,
+//! and `text_law` what is then written of a text.
 
 ghost use Rattle.std.specs.Prelude.{◌≡◌, ◌↔◌, ℕ, List, Ok, Err};
 ghost use Rattle.gfp_noise.specs.declared.noise_link.noise_draft.Noise.{Noise};
 ghost use Rattle.gfp_noise.specs.gfp_fcs.Delineator.{fcs_outcomes};
-ghost use Rattle.gfp_noise.specs.noise_link.Text.{received, delivered, untouched, AreSingle, noise_text, untouched_text};
+ghost use Rattle.gfp_noise.specs.noise_link.Text.{received, delivered, untouched, AreSingle, noise_text};
+ghost use Rattle.gfp_noise.specs.noise_link.Text.{untouched_text};
 ghost use Rattle.std.specs.Str.Lines.{lines};
 ghost use Rattle.text_lines.specs.FirstFault.{IsFirstFault};
 ghost use Rattle.text_lines.specs.declared.text_faults.LineFault.{LineFault};

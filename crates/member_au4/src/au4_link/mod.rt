@@ -1,7 +1,8 @@
 //! A link of AU-4 frames: what a text says that its pointers do, and the lines of what comes of numbered
 //! VC-4s on it. The language is a table, `link_table`, and what a text says computes from it, `link_of`; the
-//! reader gives just that, in one pass, and no action of what it gives is refused. The text of a link is `link_text`. How frames are sent and
-//! taken is in `au4_pointer`. Begin with `read_link` and `write_link`; `text_law` says which VC-4s are written.
+//! reader gives just that, in one pass, and no action of what it gives is refused. The text of a link is
+//! `link_text`. How frames are sent and taken is in `au4_pointer`. Begin with `read_link` and `write_link`;
+//! `text_law` says which VC-4s are written.
 
 ghost use Rattle.std.specs.Prelude.{◌≡◌, ◌↔◌, ℕ, List, length, Ok, Err};
 ghost use Rattle.std.specs.Str.Lines.{lines};

@@ -5,7 +5,8 @@ ghost use Rattle.std.specs.Prelude.{OnErr};
 ghost use Rattle.std.specs.Result.{result_err};
 ghost use Rattle.law_model.specs.Common.{Start};
 ghost use Rattle.member_au4.specs.au4_pointer.Word.{reading, moving, beginning};
-ghost use Rattle.member_au4.specs.au4_pointer.Sink.{PointerSinkStands, Gives, due, data_of, value_behind, word_fault, added};
+ghost use Rattle.member_au4.specs.au4_pointer.Sink.{PointerSinkStands, Gives, due, data_of, value_behind};
+ghost use Rattle.member_au4.specs.au4_pointer.Sink.{word_fault, added};
 
 use crate::au4_pointer::part_octets::copy_some;
 use crate::au4_pointer::pointer_source::next_value;

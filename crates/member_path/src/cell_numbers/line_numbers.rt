@@ -35,9 +35,21 @@ impl Model for LineNumbers {
 
     ghost invariant = { λ numbers. numbers.next < 4096 };
 
-    ghost view = { λ numbers. record { lock = numbers.lock; next = numbers.next; bad = numbers.bad; whole = numbers.whole; ended = numbers.ended } };
+    ghost view = { λ numbers. record {
+      lock = numbers.lock;
+      next = numbers.next;
+      bad = numbers.bad;
+      whole = numbers.whole;
+      ended = numbers.ended;
+    } };
 
-    ghost inverse = { λ numbers. record { lock = numbers.lock; next = numbers.next; bad = numbers.bad; whole = numbers.whole; ended = numbers.ended } };
+    ghost inverse = { λ numbers. record {
+      lock = numbers.lock;
+      next = numbers.next;
+      bad = numbers.bad;
+      whole = numbers.whole;
+      ended = numbers.ended;
+    } };
 }
 
 impl Default for LineNumbers {
@@ -73,7 +85,8 @@ impl LineNumbers {
         place: &mut Box<HeldContainer>,
     )
         requires open { IsOpen self.old }
-        ensures stands { (cells : List Cell) (t : ℕ) → NumbersStand self.old place.old.value cells t →
+        ensures stands { (cells : List Cell) (t : ℕ) →
+            NumbersStand self.old place.old.value cells t →
             NumbersStand self.new place.new.value (cells ++ cell_with sign container.old.value ∷ []) t }
     {
         match sign {

@@ -1,6 +1,6 @@
 //! A list of windows without a fault, which may grow.
-ghost use Rattle.std.specs.Prelude.{◌≡◌, ◌+◌, ◌<◌, ◌≤◌, ◌↔◌, nat_lt, if◌then◌else◌, List, length, IfOk, IfSome};
-ghost use Rattle.std.specs.Prelude.{IfNone, IsTrue, IsOkUnless, vec_capacity};
+ghost use Rattle.std.specs.Prelude.{◌≡◌, ◌+◌, ◌<◌, ◌≤◌, nat_lt, if◌then◌else◌, List, length, IfOk, IfSome};
+ghost use Rattle.std.specs.Prelude.{IfNone, IsOkUnless, vec_capacity};
 ghost use Rattle.law_model.specs.Common.{carried_in, AreWindows, slip_of};
 ghost use Rattle.law_model.specs.declared.window_types.Window.{Window};
 ghost use Rattle.law_model.specs.members.Damage.{carried};
@@ -82,16 +82,6 @@ impl Windows {
         match self.list.last() {
             Some(window) => window.end,
             None => 0,
-        }
-    }
-
-    /// Whether the last window may be closed at container `n`.
-    pub fn can_close(&self, n: u32) -> bool
-        ensures { IsTrue result ↔ CanClose self.now n }
-    {
-        match self.list.last() {
-            Some(window) => window.first <= n && n < window.end && window.slip == 0,
-            None => false,
         }
     }
 

@@ -4,7 +4,8 @@ ghost use Rattle.std.specs.Prelude.{Contains, length};
 ghost use Rattle.law_model.specs.members.Damage.{carried};
 ghost use Rattle.member_path.specs.failure_window.Open.{CanClose, closed_at, last_end, opened_at};
 ghost use Rattle.member_path.specs.path_delay.Carry.{carry_cells};
-ghost use Rattle.member_path.specs.path_delay.Line.{Line, IsLine, Calls, opened, and_push, and_flush, path_cells, DelayStands, Counts};
+ghost use Rattle.member_path.specs.path_delay.Line.{Line, IsLine, Calls, opened, and_push, and_flush};
+ghost use Rattle.member_path.specs.path_delay.Line.{path_cells, DelayStands, Counts};
 ghost use Rattle.member_path.specs.path_delay.Line.{IsEnded, and_cut, and_mend};
 
 use crate::cell_numbers::CellSign;
@@ -63,9 +64,9 @@ impl LineCore {
         })
     }
 
-    /// Carries a container on, and gives the sign of the cell that comes out, or `None`. It takes the container's box, and leaves another one in
-    /// `container`. Where the cell is good, the box of its container lies in `out` afterwards; else the container
-    /// there stays as it was.
+    /// Carries a container on, and gives the sign of the cell that comes out, or `None`. It takes the
+    /// container's box, and leaves another one in `container`. Where the cell is good, the box of its
+    /// container lies in `out` afterwards; else the container there stays as it was.
     pub fn push(
         &mut self,
         container: &mut Box<HeldContainer>,
@@ -91,9 +92,9 @@ impl LineCore {
         }
     }
 
-    /// Makes a carry once all containers were pushed, and gives the sign of the cell that comes out, or `None`. After the cell of the last
-    /// container one carry gives the end. Where the cell is good, the box of its container lies in `out`
-    /// afterwards; else the container there stays as it was.
+    /// Makes a carry once all containers were pushed, and gives the sign of the cell that comes out, or
+    /// `None`. After the cell of the last container one carry gives the end. Where the cell is good, the box
+    /// of its container lies in `out` afterwards; else the container there stays as it was.
     pub fn flush(&mut self, out: &mut Box<HeldContainer>) -> Option<CellSign>
         requires pushed { self.old.pushed ≡ self.old.total }
         requires runs { self.old.flushed ≤ self.old.delay }

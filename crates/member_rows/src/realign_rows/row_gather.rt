@@ -7,7 +7,8 @@ ghost use Rattle.member_cells.specs.Held.{held};
 ghost use Rattle.member_path.specs.cell_numbers.Told.{cell_with, told_by};
 ghost use Rattle.member_path.specs.cell_numbers.Numbers.{IsOpen};
 ghost use Rattle.member_rows.specs.realign_rows.Line.{Line};
-ghost use Rattle.member_rows.specs.realign_rows.Gather.{GatherStands, line_count, IsOpenAt, AreDecided, decided_lines, open_line};
+ghost use Rattle.member_rows.specs.realign_rows.Gather.{GatherStands, line_count, IsOpenAt, AreDecided};
+ghost use Rattle.member_rows.specs.realign_rows.Gather.{decided_lines, open_line};
 ghost use Rattle.member_rows.specs.realign_rows.Gather.{waiting_of, Allows, with_cell};
 ghost use Rattle.member_rows.specs.realign_rows.Loops.{AreNew, ArePassed, AreRead};
 
@@ -39,11 +40,17 @@ impl Model for RowGather {
 
     ghost Value = { Gather };
 
-    ghost invariant = { λ gather. (length gather.lines.items ≤ 128) × (length gather.places.items ≡ length gather.lines.items)
+    ghost invariant = { λ gather. (length gather.lines.items ≤ 128)
+        × (length gather.places.items ≡ length gather.lines.items)
         × (length gather.packets.items ≡ length gather.lines.items)
         × (gather.decided ≡ decided_lines gather.lines.items) };
 
-    ghost view = { λ gather. record { lines = gather.lines.items; places = held gather.places.items; packets = gather.packets.items; rows = gather.rows } };
+    ghost view = { λ gather. record {
+      lines = gather.lines.items;
+      places = held gather.places.items;
+      packets = gather.packets.items;
+      rows = gather.rows;
+    } };
 }
 
 impl RowGather {

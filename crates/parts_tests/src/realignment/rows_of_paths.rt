@@ -52,8 +52,8 @@ pub(crate) fn cells_of(row: &'static str) -> Cells {
 }
 
 /// Sixty-one paths. The first line locks by the containers 144 and 145; the second one by 4,512 and 4,513, whose
-/// number is sent as 417; in the third one sixteen containers lie between two windows, by which 2,047 vanish; and in the
-/// fourth one a sign comes alone before the greatest slip.
+/// number is sent as 417; in the third one sixteen containers lie between two windows, by which 2,047 vanish;
+/// and in the fourth one a sign comes alone before the greatest slip.
 pub(crate) fn path_rows() -> &'static str {
     "\
     100 140 39;200;0 2 100 146;5 9\n\

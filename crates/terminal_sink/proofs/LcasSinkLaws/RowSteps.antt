@@ -1,6 +1,6 @@
 -- A row is taken packet by packet, and what is told of it.
 use Rattle.std.proofs.Common.{◌≡◌, ℕ, suc, ◌+◌, ◌-◌, ◌*◌, ◌^◌, ◌%◌, ◌<◌, ◌≤◌, ◌==◌, ◌&&◌, ◌||◌, nat_lt, not, Bool, true}
-use Rattle.std.proofs.Common.{false, if◌then◌else◌, List, [], ◌∷◌, ◌++◌, map, take, length, Option, Some, None}
+use Rattle.std.proofs.Common.{false, if◌then◌else◌, List, [], ◌∷◌, ◌++◌, map, take, length, Some, None}
 use Rattle.std.proofs.Common.{slice_get, slice_index_or, slice_set, refl, sym, ◌∙◌, ap, ap₂, subst, pow-suc, arith}
 use Rattle.std.proofs.Common.{zero, take_all, length-append, length-take-le, get_or-set_same, get_or-set_other, lt-ltb, le-ltb, eq-eqb}
 use Rattle.std.specs.List.{list_any, range_with_len}

@@ -258,7 +258,8 @@ pub(super) fn take_members<F: FrameOut>(
 
 /// Tells a receiver of a break of the stream.
 pub(super) fn take_break(delineator: &mut MarkedDelineator)
-    ensures { (first : Bool) (octets : List ℕ) → StandsIn delineator.old longest_frame first octets →
+    ensures { (first : Bool) (octets : List ℕ) →
+        StandsIn delineator.old longest_frame first octets →
         StandsIn delineator.new longest_frame false [] }
 {
     delineator.broken();

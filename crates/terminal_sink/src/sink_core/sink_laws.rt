@@ -15,7 +15,8 @@ ghost use Rattle.terminal_sink.specs.sink_core.Session.{AreSessionRows, TellRows
 pub fn sink_law()
     ensures stands { (core : Core) (cells longer : List (List Cell)) → IsLonger cells longer →
         SinkStands core cells → SinkStands core longer }
-    ensures frames { (options : Options) (size taken : ℕ) (cells longer : List (List Cell)) → IsLonger cells longer →
+    ensures frames { (options : Options) (size taken : ℕ) (cells longer : List (List Cell)) →
+        IsLonger cells longer →
         ((t : ℕ) → t < taken → AreDecidedAt cells t) →
         given_frames options size longer taken ≡ given_frames options size cells taken }
     ensures back { (options : Options) (t : ℕ) (cells longer : List (List Cell)) →

@@ -70,7 +70,8 @@ impl Model for SinkCore {
       table = core.table;
     } };
 
-    ghost invariant = { λ core. IsKnown core.delineator × (core.lines ≤ 128) × (core.size ≤ vc4_size) × (core.table.lines ≡ core.lines)
+    ghost invariant = { λ core. IsKnown core.delineator × (core.lines ≤ 128) × (core.size ≤ vc4_size)
+        × (core.table.lines ≡ core.lines)
         × (core.table.taken ≡ packet_rows core.taken) × (length core.block.items ≡ 4096) };
 }
 
@@ -110,7 +111,8 @@ impl SinkCore {
         requires lines { line_count rows.old ≡ self.old.lines }
         requires rows { rows.old.rows ≡ self.old.taken }
         requires few { self.old.taken < 4294967295 }
-        ensures answer { (cells : List (List Cell)) → Gathers rows.old cells → SinkStands self.old cells →
+        ensures answer { (cells : List (List Cell)) → Gathers rows.old cells →
+            SinkStands self.old cells →
             result ≡ answer_at self.old.options cells self.old.taken }
         ensures taken { self.new.taken ≡ self.old.taken + rows_taken result }
         ensures rows { rows.new.rows ≡ self.new.taken }
@@ -118,10 +120,13 @@ impl SinkCore {
         ensures own_lines { self.new.lines ≡ self.old.lines }
         ensures size { self.new.size ≡ self.old.size }
         ensures options { self.new.options ≡ self.old.options }
-        ensures gathers { (cells : List (List Cell)) → Gathers rows.old cells → Gathers rows.new cells }
-        ensures stands { (cells : List (List Cell)) → Gathers rows.old cells → SinkStands self.old cells →
+        ensures gathers { (cells : List (List Cell)) → Gathers rows.old cells →
+            Gathers rows.new cells }
+        ensures stands { (cells : List (List Cell)) → Gathers rows.old cells →
+            SinkStands self.old cells →
             SinkStands self.new cells }
-        ensures gives { (cells : List (List Cell)) → Gathers rows.old cells → SinkStands self.old cells →
+        ensures gives { (cells : List (List Cell)) → Gathers rows.old cells →
+            SinkStands self.old cells →
             (start : Start) (frames : List (List ℕ)) → F.stands_for out.old start frames →
             F.stands_for out.new start
             (frames ++ added_frames self.old.options self.old.size cells self.old.taken self.new.taken) }

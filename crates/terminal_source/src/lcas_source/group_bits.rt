@@ -26,7 +26,8 @@ impl Model for GroupBits {
 
     ghost inverse = { λ group. record { register = number group } };
 
-    ghost inverse_ok = { λ group within. ap (λ register. record { register = register }) (number-bits 15 group.register ∙ mod-eq_of_lt within) };
+    ghost inverse_ok = { λ group within. ap (λ register. record { register = register })
+        (number-bits 15 group.register ∙ mod-eq_of_lt within) };
 }
 
 impl GroupBits {

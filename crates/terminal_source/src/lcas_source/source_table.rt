@@ -52,7 +52,8 @@ impl Model for SourceTable {
 
     ghost view = { λ s. course_in s.lines s.statuses s.table s.planned s.pending s.taken s.steps };
 
-    ghost invariant = { λ s. IsTable (course_in s.lines s.statuses s.table s.planned s.pending s.taken s.steps) s.bits };
+    ghost invariant = { λ s. IsTable
+        (course_in s.lines s.statuses s.table s.planned s.pending s.taken s.steps) s.bits };
 }
 
 impl SourceTable {

@@ -100,10 +100,12 @@ pub(super) fn fill_all(
     requires members { AreMembers (length out.old) active.now }
     requires size { size ≤ vc4_size }
     requires room { size * length active.now ≤ length row.old }
-    ensures stands { (stream : Stream) (place : ℕ) → FillerStands filler.old queue.old stream place →
+    ensures stands { (stream : Stream) (place : ℕ) →
+        FillerStands filler.old queue.old stream place →
         let further = place + size * length active.now in
         FillerStands filler.new queue.new (reached further stream) further }
-    ensures spreads { (stream : Stream) (place : ℕ) → FillerStands filler.old queue.old stream place →
+    ensures spreads { (stream : Stream) (place : ℕ) →
+        FillerStands filler.old queue.old stream place →
         let len = size * length active.now in
         let octets = take len (drop place (stream_of (reached (place + len) stream).pieces)) in
         Spreads 0 size octets active.now (held out.old) (held out.new) }
@@ -125,9 +127,11 @@ pub(super) fn fill_all(
 /// Writes the next octets of the stream to the front of a payload.
 fn fill_one(filler: &mut Filler, queue: &mut FrameQueue, size: usize, container: &mut Container)
     requires { size ≤ vc4_size }
-    ensures stands { (stream : Stream) (place : ℕ) → FillerStands filler.old queue.old stream place →
+    ensures stands { (stream : Stream) (place : ℕ) →
+        FillerStands filler.old queue.old stream place →
         FillerStands filler.new queue.new (reached (place + size) stream) (place + size) }
-    ensures octets { (stream : Stream) (place : ℕ) → FillerStands filler.old queue.old stream place →
+    ensures octets { (stream : Stream) (place : ℕ) →
+        FillerStands filler.old queue.old stream place →
         container.new ≡ with_octets 0
         (take size (drop place (stream_of (reached (place + size) stream).pieces))) container.old }
 {

@@ -6,7 +6,8 @@ ghost use Rattle.law_model.specs.Common.{Scenario, steps_in, Told, told_by, refu
 ghost use Rattle.law_model.specs.Common.{frame_of, vc4_size, IsStatuses};
 ghost use Rattle.member_cells.specs.Held.{held};
 ghost use Rattle.terminal_source.specs.source_core.Terminal.{needed, SameKind};
-ghost use Rattle.terminal_source.specs.source_core.Given.{with_frame, with_command, with_cell, with_told, IsFresh, SourceStands};
+ghost use Rattle.terminal_source.specs.source_core.Given.{with_frame, with_command, with_cell, with_told};
+ghost use Rattle.terminal_source.specs.source_core.Given.{IsFresh, SourceStands};
 
 use crate::lcas_source::{CommandFault, SourceTable};
 use crate::source_core::container_frame::{begin_all, fill_all};

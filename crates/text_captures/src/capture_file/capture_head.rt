@@ -1,6 +1,7 @@
 //! The head of a capture.
 ghost use Rattle.std.specs.Prelude.{◌≡◌, ◌≤◌, ◌+◌, length};
-ghost use Rattle.text_captures.specs.capture_file.Form.{short_at, number_at, kind_of, is_version, fcs_length, form_with, form_by};
+ghost use Rattle.text_captures.specs.capture_file.Form.{short_at, number_at, kind_of, is_version, fcs_length};
+ghost use Rattle.text_captures.specs.capture_file.Form.{form_with, form_by};
 ghost use Rattle.text_captures.specs.capture_file.Form.{form_of};
 
 use crate::capture_file::capture_form::{ByteOrder, Form, HeadFault, TimeUnit};

@@ -26,11 +26,22 @@ impl Model for H4Decoder {
 
     ghost Value = { Decoding };
 
-    ghost view = { λ decoder. record { given = decoder.given; lock = decoder.lock; nibbles = decoder.nibbles; begun = decoder.begun } };
+    ghost view = { λ decoder. record {
+      given = decoder.given;
+      lock = decoder.lock;
+      nibbles = decoder.nibbles;
+      begun = decoder.begun;
+    } };
 
-    ghost inverse = { λ decoding. record { given = decoding.given; lock = decoding.lock; nibbles = decoding.nibbles; begun = decoding.begun } };
+    ghost inverse = { λ decoding. record {
+      given = decoding.given;
+      lock = decoding.lock;
+      nibbles = decoding.nibbles;
+      begun = decoding.begun;
+    } };
 
-    ghost invariant = { λ decoder. (decoder.begun < 16) × (decoder.begun ≤ decoder.given) × All (λ nibble. nibble < 16) decoder.nibbles };
+    ghost invariant = { λ decoder. (decoder.begun < 16) × (decoder.begun ≤ decoder.given)
+        × All (λ nibble. nibble < 16) decoder.nibbles };
 }
 
 impl Default for H4Decoder {

@@ -1,7 +1,8 @@
 //! A frame of the client and its line.
 ghost use Rattle.std.specs.Prelude.{◌≡◌, ◌≤◌, ◌+◌, ◌-◌, ◌*◌, length, take};
 ghost use Rattle.text_scripts.specs.make_load.Draws.{after_draws};
-ghost use Rattle.text_scripts.specs.rate_load.RateTexts.{IsRateLoad, due_of, count_of, frame_of, start_of, line_of, most_frames};
+ghost use Rattle.text_scripts.specs.rate_load.RateTexts.{IsRateLoad, due_of, count_of, frame_of, start_of};
+ghost use Rattle.text_scripts.specs.rate_load.RateTexts.{line_of, most_frames};
 
 use crate::make_load::Draws;
 use check_crc32::ethernet_fcs;

@@ -1,6 +1,7 @@
 //! The words that may begin a line, and the place of each in the order of a script.
 ghost use Rattle.std.specs.Prelude.{◌≡◌, IfErr, OnOk, None, Some};
-ghost use Rattle.text_scripts.specs.script_read.Statements.{keyword_of, option_keyword, item_keyword, event_keyword, place};
+ghost use Rattle.text_scripts.specs.script_read.Statements.{keyword_of, option_keyword, item_keyword};
+ghost use Rattle.text_scripts.specs.script_read.Statements.{event_keyword, place};
 ghost use Rattle.text_scripts.specs.script_read.Statements.{awaited, part_of, begun_at, place_fault};
 ghost use Rattle.text_scripts.specs.script_read.Drafts.{IsPlaced};
 

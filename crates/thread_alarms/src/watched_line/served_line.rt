@@ -19,7 +19,8 @@ pub struct ServedLine {
     ghost told: { (own : Through) → post ≡ Some own → posted_by own ≡ raised_by worker },
     ghost small: { (own : Through) → post ≡ Some own → total_of worker < 4294967296 },
     ghost few: { (own : Through) → post ≡ Some own → (containers : List Container) (i : ℕ) →
-        length (alarms_of_line (number_of worker) (cells (carried (windows_of worker)) (delay_of worker) (total_of worker) containers i))
+        length (alarms_of_line (number_of worker) (cells (carried (windows_of worker))
+        (delay_of worker) (total_of worker) containers i))
         ≤ most_by own },
 }
 
@@ -51,7 +52,8 @@ impl ServedLine {
         ServedLine { worker, post }
     }
 
-    /// Passes the gate and makes a burst of the worker, and posts the alarms that it raised. The answer is the worker's.
+    /// Passes the gate and makes a burst of the worker, and posts the alarms that it raised. The answer is
+    /// the worker's.
     pub fn burst<R: Wait, G: Gate>(&mut self, rt: &R, gate: &G) -> Burst
         ensures later { IsServedLater self.old self.new }
         ensures moved { (result ≡ Burst.Moved)

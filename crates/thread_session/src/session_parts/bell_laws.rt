@@ -1,8 +1,9 @@
 //! That no ring is lost, of a model of bells. There is no code here.
-ghost use Rattle.std.specs.Prelude.{◌≡◌, ℕ, List, [], ◌∷◌, ◌++◌};
+ghost use Rattle.std.specs.Prelude.{◌≡◌, ℕ, List, ◌∷◌, ◌++◌};
 ghost use Rattle.thread_session.specs.session_parts.Bells.{BellNow, BellStep, bell_after, waiting, waiting_for_behind};
 ghost use Rattle.thread_session.specs.session_parts.Bells.{asleep, rung, moves, rings, rings_from_behind};
-ghost use Rattle.thread_session.specs.session_parts.Bells.{HaveNoNote, AreHeard, at_rest, late_move, late_note, late_hearing};
+ghost use Rattle.thread_session.specs.session_parts.Bells.{HaveNoNote, AreHeard, at_rest, late_move};
+ghost use Rattle.thread_session.specs.session_parts.Bells.{late_note, late_hearing};
 
 /// No ring is lost, of steps at a bell in whatever order. An owner takes note, then looks whether it can go on, and
 /// then waits. If it sleeps, nobody has rung since its note; so whoever moved what it waits for after its look has

@@ -2,7 +2,8 @@
 ghost use Rattle.std.specs.Prelude.{◌≡◌, ◌↔◌, length, IsTrue, Contains};
 ghost use Rattle.thread_rings.specs.Ends.{AreEnds, out_passed};
 ghost use Rattle.thread_alarms.specs.watched_line.Served.{worker_of, IsServedLater, AreServedLater};
-ghost use Rattle.thread_session.specs.session_parts.Laid.{AreServedDone, AreSendEnds, AreReceiveEnds, IsSendLaid, IsReceiveLaid};
+ghost use Rattle.thread_session.specs.session_parts.Laid.{AreServedDone, AreSendEnds, AreReceiveEnds};
+ghost use Rattle.thread_session.specs.session_parts.Laid.{IsSendLaid, IsReceiveLaid};
 ghost use Rattle.thread_session.specs.session_parts.Laid.{AreSendsLaid, AreReceivesLaid};
 
 use member_cells::{Cell, Container};

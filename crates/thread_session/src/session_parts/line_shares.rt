@@ -27,7 +27,8 @@ pub fn deal(lines: Vec<ServedLine>, shares: Vec<Vec<ServedLine>>) -> Vec<Vec<Ser
 /// Moves the last worker of a share to the end of the lines, if there is one.
 fn take_last(share: &mut Vec<ServedLine>, lines: &mut Vec<ServedLine>)
     requires { vec_len lines.old < vec_capacity lines.old }
-    ensures moved { (rest : List ServedLine) (last : ServedLine) → share.old.items ≡ rest ++ last ∷ [] →
+    ensures moved { (rest : List ServedLine) (last : ServedLine) →
+        share.old.items ≡ rest ++ last ∷ [] →
         (share.new.items ≡ rest) × (lines.new.items ≡ lines.old.items ++ last ∷ []) }
     ensures most { vec_len lines.new ≤ vec_len lines.old + 1 }
     ensures capacity { vec_capacity lines.new ≡ vec_capacity lines.old }

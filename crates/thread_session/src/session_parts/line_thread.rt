@@ -275,7 +275,8 @@ pub fn serve_all_here<R: Wait, G: Gate>(rt: &R, held: &mut Vec<Held>, gate: &G)
 /// The workers of a share, once its thread has ended. It is waited for with the evidence that its flag is stored.
 fn take_back<R: Threads>(rt: &R, held: Held, stored: &OnceToken<'_, ()>) -> Vec<ServedLine>
     requires { IsToldBy stored.now.of held }
-    ensures { (workers : List ServedLine) → IsHeldOf workers held → AreServedLater workers result.items }
+    ensures { (workers : List ServedLine) → IsHeldOf workers held →
+        AreServedLater workers result.items }
 {
     match held {
         Held::There(child) => {

@@ -1,5 +1,5 @@
 -- What an event of a walk answers, and which frames it gives.
-use Rattle.std.specs.Prelude.{ℕ, List, ◌++◌, length, drop, slice_get, Option, Some, None}
+use Rattle.std.specs.Prelude.{ℕ, List, ◌++◌, slice_get, Option, Some, None}
 use Rattle.law_model.specs.Common.{Leg, Counts, step, Start}
 use Rattle.law_model.specs.declared.script_types.Item.{Item}
 use Rattle.law_model.specs.declared.script_types.Script.{Script}
@@ -7,7 +7,7 @@ use Rattle.law_model.specs.declared.walk_events.Event.{Event}
 use Rattle.law_model.specs.declared.walk_events.Event.TheVariants.{Accept, Tick, Carry, Back, Take, Command}
 use Rattle.law_model.specs.declared.walk_events.StallCause.{StallCause}
 use Rattle.law_model.specs.declared.item_refusals.Refusal.{Refusal}
-use Rattle.law_walk.specs.Common.{walk_plan, refusal_at, delivered_of}
+use Rattle.law_walk.specs.Common.{walk_plan, refusal_at}
 use Rattle.law_walk.specs.Delivered.{delivered_since}
 use Rattle.terminal_group.specs.Place.{is_frame, is_command, place_of}
 use Rattle.walk_engine.specs.declared.walk_core.step_answers.Moved.{Moved}

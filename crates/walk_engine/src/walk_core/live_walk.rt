@@ -278,7 +278,8 @@ impl LiveWalk {
     /// to `out`; by then no more ticks are made than before.
     pub fn finish_round<F: FrameOut>(&mut self, out: &mut F)
         requires { IsLive self.old }
-        ensures finishes { (leg : Leg) → LiveStands leg self.old → LiveFinishes leg self.old self.new }
+        ensures finishes { (leg : Leg) → LiveStands leg self.old →
+            LiveFinishes leg self.old self.new }
         ensures landed { self.new.way.source.landed ≡ self.old.way.source.landed }
         ensures windows { windows_in self.new.way.lines ≡ windows_in self.old.way.lines }
         ensures gives { (leg : Leg) → LiveStands leg self.old →

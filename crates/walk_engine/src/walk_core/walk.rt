@@ -1,6 +1,6 @@
 //! A walk of a script, event by event.
 
-ghost use Rattle.std.specs.Prelude.{◌≡◌, ℕ, ◌-◌, ◌/◌, ◌<◌, ◌≤◌, suc, false, if◌then◌else◌};
+ghost use Rattle.std.specs.Prelude.{◌≡◌, ℕ, ◌-◌, ◌/◌, ◌<◌, ◌≤◌, suc, false};
 ghost use Rattle.std.specs.Prelude.{length, replicate, slice_get, Some, None, IfOk};
 ghost use Rattle.std.specs.Prelude.{option_map, option_copied};
 ghost use Rattle.law_model.specs.declared.walk_events.Event.TheVariants.{Command, Accept, Tick, Carry, Back, Take};

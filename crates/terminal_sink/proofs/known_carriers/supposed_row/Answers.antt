@@ -1,5 +1,5 @@
 -- One line more has its packet.
-use Rattle.std.proofs.Common.{◌+◌, ◌<◌, ◌∷◌, ◌++◌, [], length, sym, ◌∙◌, ap, ap₂, arith}
+use Rattle.std.proofs.Common.{◌+◌, ◌<◌, ◌∷◌, ◌++◌, [], length, sym, ◌∙◌, ap₂, arith}
 use Rattle.std.proofs.lemmas.List.{length-set, take_more_set}
 use Rattle.std.proofs.lemmas.List.FromFn.{map-range_with_len_more}
 use Rattle.terminal_sink.specs.known_carriers.Supposed.{supposed_at}

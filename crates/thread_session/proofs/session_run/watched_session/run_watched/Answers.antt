@@ -3,7 +3,6 @@ use Rattle.std.proofs.Common.{◌≡◌, length, vec_len, Some, ap, subst, arith
 use Rattle.thread_alarms.specs.alarm_log.Logs.{SameLog, alarms_in}
 use Rattle.thread_alarms.specs.alarm_log.Posts.{SamePost}
 use Rattle.text_report.specs.Report.{got_texts}
-use Rattle.thread_sink.specs.Worker.{has_failed}
 use Rattle.thread_session.specs.session_parts.Duty.{IsLogLater}
 use Rattle.thread_session.proofs.SessionPartsLaws.ZipLaws.{zip-length}
 use Rattle.thread_session.proofs.SessionRunLaws.EndLaws.{frames-ended, session-ended, group-ended}
