@@ -5,7 +5,7 @@ use Rattle.std.proofs.Common.{Option, None, Some, Ok, Err}
 use Rattle.std.proofs.lemmas.Bool.{ne_eqb, or_parts}
 use Rattle.std.specs.Str.Lines.{lines, lines_of_parts, strip_carriage_return}
 use Rattle.command_parts.specs.Talk.{Said, TalkEnd}
-use Rattle.command_parts.specs.Dialogue.{Course, Dialogue, Heard, Reply, closed, closed_at, closed_by, comes_to, goes_on}
+use Rattle.command_parts.specs.Dialogue.{TalkCourse, Dialogue, Heard, Reply, closed, closed_at, closed_by, comes_to, goes_on}
 use Rattle.command_parts.specs.Dialogue.{heard_more, is_long, last_line, last_reply, longest_line, most_lines}
 use Rattle.command_parts.specs.Dialogue.{nothing_heard, parting, parting_with, parts_of, reply_to, talk_of, waits_at}
 use Rattle.command_parts.specs.Dialogue.{waits_by, course_of, IsParting}
@@ -28,7 +28,7 @@ one_line (octet ∷ line) =
     ap (λ (b : Bool). if b then [] else (octet ∷ line) ∷ []) (sym some)
 
 -- a course over lines behind what was heard
-pub record IsCourse (P : Heard → Type 0) (heard : Heard) (ls : List (List ℕ)) (course : Course) : Type 0 where
+pub record IsCourse (P : Heard → Type 0) (heard : Heard) (ls : List (List ℕ)) (course : TalkCourse) : Type 0 where
   pub stands : P course.heard
   pub first : (rest : List (List ℕ)) × (heard.lines ++ ls ≡ course.heard.lines ++ rest)
   pub all : course.end ≡ None → heard.lines ++ ls ≡ course.heard.lines ++ last_line course.line
@@ -67,7 +67,7 @@ ended_course P heard line ls end stands = record {
   left = λ none some. absurd cc;
 }
 
-more_course : (P : Heard → Type 0) (heard : Heard) (line text : List ℕ) (ls : List (List ℕ)) (course : Course) →
+more_course : (P : Heard → Type 0) (heard : Heard) (line text : List ℕ) (ls : List (List ℕ)) (course : TalkCourse) →
     IsCourse P (heard_more heard line text) ls course → IsCourse P heard (line ∷ ls) course
 more_course P heard line text ls course is =
     let same = append_assoc heard.lines (line ∷ []) ls in
@@ -79,7 +79,7 @@ more_course P heard line text ls course is =
     }
 
 goes_course : (P : Heard → Type 0) (more : StandsByLines P) (heard : Heard) (line : List ℕ) (ls : List (List ℕ))
-    (reply : Reply) (next : Heard → Course) → reply_to heard line ≡ reply → length heard.lines < most_lines → P heard →
+    (reply : Reply) (next : Heard → TalkCourse) → reply_to heard line ≡ reply → length heard.lines < most_lines → P heard →
     ((now : Heard) → P now → IsCourse P now ls (next now)) → IsCourse P heard (line ∷ ls) (goes_on heard line reply next)
 goes_course P more heard line ls (Ok text) next is left stands rest =
     more_course P heard line text ls (next (heard_more heard line text))
@@ -88,7 +88,7 @@ goes_course P more heard line ls (Err told) next is left stands rest =
     ended_course P heard line (line ∷ ls) _ stands
 
 comes_course : (P : Heard → Type 0) (more : StandsByLines P) (heard : Heard) (line : List ℕ) (ls : List (List ℕ))
-    (b : Bool) (next : Heard → Course) → is_long heard line ≡ b → P heard →
+    (b : Bool) (next : Heard → TalkCourse) → is_long heard line ≡ b → P heard →
     ((now : Heard) → P now → IsCourse P now ls (next now)) →
     IsCourse P heard (strip_carriage_return line ∷ ls) (comes_to heard line b next)
 comes_course P more heard line ls true next is stands rest =
@@ -148,7 +148,7 @@ pub course_parted : (P : Heard → Type 0) (more : StandsByLines P) (octets : Li
     (closed_by (course_of octets heard)).end ≡ None →
     IsParted P (heard.lines ++ lines octets) (closed_by (course_of octets heard))
 course_parted P more octets heard stands none =
-    let c : Course = course_of octets heard in
+    let c : TalkCourse = course_of octets heard in
     parted_at P more heard (lines octets) c.heard c.line c.end (course_heard_all P more octets heard stands) none
 
 -- ---- of a dialogue

@@ -6,7 +6,7 @@ use Rattle.std.specs.Str.Lines.{strip_carriage_return}
 use Rattle.std.proofs.lemmas.List.Splits.{slice_split_at, slice_split_none, length-slice_split}
 use Rattle.std.proofs.lemmas.Bool.{ne_eqb}
 use Rattle.text_lines.specs.Cut.{Lacks}
-use Rattle.command_parts.specs.Dialogue.{Heard, heard_more, Reply, reply_to, is_long, Course, waits_at, waits_by}
+use Rattle.command_parts.specs.Dialogue.{Heard, heard_more, Reply, reply_to, is_long, TalkCourse, waits_at, waits_by}
 use Rattle.command_parts.specs.Dialogue.{goes_on, comes_to, course, course_of, parts_of}
 
 none_in : (text : List ℕ) → Lacks 10 text → All (λ c. (c == 10) ≡ false) text
@@ -47,7 +47,7 @@ course_heard line more text heard lacks short is =
     ∙ ap (λ (r : Reply). goes_on heard (strip_carriage_return line) r (course (parts_of more))) is
 
 -- ---- what was said stands first
-abbrev pub Grows : Heard → Course → Type 0
+abbrev pub Grows : Heard → TalkCourse → Type 0
 Grows heard course = (rest : List ℕ) × (course.heard.said ≡ heard.said ++ rest)
 
 stays : (heard : Heard) (line : List ℕ) (b : Bool) → Grows heard (waits_by heard line b)
@@ -58,14 +58,14 @@ waits_grows : (heard : Heard) (line : List ℕ) → Grows heard (waits_at heard 
 waits_grows heard [] = ([], sym (append-nil heard.said))
 waits_grows heard (octet ∷ line) = stays heard (octet ∷ line) (is_long heard (octet ∷ line))
 
-goes_grows : (heard : Heard) (line : List ℕ) (reply : Reply) (next : Heard → Course) →
+goes_grows : (heard : Heard) (line : List ℕ) (reply : Reply) (next : Heard → TalkCourse) →
     ((now : Heard) → Grows now (next now)) → Grows heard (goes_on heard line reply next)
 goes_grows heard line (Ok text) next grows =
     let (rest, is) = grows (heard_more heard line text) in
     (text ++ rest, is ∙ append_assoc heard.said text rest)
 goes_grows heard line (Err told) next grows = ([], sym (append-nil heard.said))
 
-comes_grows : (heard : Heard) (line : List ℕ) (b : Bool) (next : Heard → Course) →
+comes_grows : (heard : Heard) (line : List ℕ) (b : Bool) (next : Heard → TalkCourse) →
     ((now : Heard) → Grows now (next now)) → Grows heard (comes_to heard line b next)
 comes_grows heard line true next grows = ([], sym (append-nil heard.said))
 comes_grows heard line false next grows =

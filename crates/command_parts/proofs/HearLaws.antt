@@ -13,7 +13,7 @@ use Rattle.command_parts.specs.declared.conversation.Listener.{Listener}
 use Rattle.command_parts.specs.declared.stop_and_status.Stop.{Stop}
 use Rattle.command_parts.specs.declared.stop_and_status.Stop.TheVariants.{Read, TooLong, Refused, Write, Memory}
 use Rattle.command_parts.specs.Talk.{Said}
-use Rattle.command_parts.specs.Dialogue.{Heard, heard_more, Reply, reply_to, last_reply, is_long, course_of, Course, said_by}
+use Rattle.command_parts.specs.Dialogue.{Heard, heard_more, Reply, reply_to, last_reply, is_long, course_of, TalkCourse, said_by}
 use Rattle.command_parts.specs.Dialogue.{parting, parting_with, closed, told_end}
 use Rattle.command_parts.specs.Replies.{CanReply, HasReplied}
 use Rattle.command_parts.specs.Conversation.{IsSaid, IsCutShort, Listens, Stands, HasHeard}
@@ -201,7 +201,7 @@ module _ {T K : Type 0} (Hears : T → Heard → Type 0) (written : K → Option
           StopsHearing written faults first earlier new waits so_far.now (reply_to so_far.now stripped) stop →
           StopsSaying written faults first earlier new waits (said_by (course_of octets heard)) stop
       line_stops new waits line later stripped stop cut lacks short same stops =
-          let P : Course → Type 0 = λ (c : Course). StopsSaying written faults first earlier new waits (said_by c) stop in
+          let P : TalkCourse → Type 0 = λ (c : TalkCourse). StopsSaying written faults first earlier new waits (said_by c) stop in
           let Q : List ℕ → Type 0 =
           λ (t : List ℕ). StopsHearing written faults first earlier new waits so_far.now (reply_to so_far.now t) stop in
           subst P (sym (at_rest ∙ ap (λ (t : List ℕ). course_of t so_far.now) cut))
@@ -210,15 +210,15 @@ module _ {T K : Type 0} (Hears : T → Heard → Type 0) (written : K → Option
       pub line_long : (line later : List ℕ) → rest ≡ line ++ 10 ∷ later → Lacks 10 line → is_long so_far.now line ≡ true →
           StopsSaying written faults first earlier old waited (said_by (course_of octets heard)) TooLong
       line_long line later cut lacks over =
-          let P : Course → Type 0 =
-          λ (c : Course). StopsSaying written faults first earlier old waited (said_by c) TooLong in
+          let P : TalkCourse → Type 0 =
+          λ (c : TalkCourse). StopsSaying written faults first earlier old waited (said_by c) TooLong in
           subst P (sym (at_rest ∙ ap (λ (t : List ℕ). course_of t so_far.now) cut))
           (stops_long written faults first old earlier waited line later so_far.now lacks over so_far.stands.said)
 
       pub rest_long : 0 < length rest → Lacks 10 rest → is_long so_far.now rest ≡ true →
           StopsSaying written faults first earlier old waited (said_by (course_of octets heard)) TooLong
       rest_long some lacks over =
-          subst (λ (c : Course). StopsSaying written faults first earlier old waited (said_by c) TooLong)
+          subst (λ (c : TalkCourse). StopsSaying written faults first earlier old waited (said_by c) TooLong)
           (sym (at_rest ∙ course_rest rest so_far.now lacks ∙ waits_long so_far.now rest some over))
           (refl, so_far.stands.said)
 

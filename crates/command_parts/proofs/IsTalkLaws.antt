@@ -8,7 +8,7 @@ use Rattle.std.proofs.lemmas.List.Splits.{length-slice_split}
 use Rattle.std.proofs.lemmas.Bool.Decides.{nat_tests}
 use Rattle.command_parts.specs.Talk.{TalkEnd, IsTalk, said}
 use Rattle.command_parts.specs.Dialogue.{Dialogue, Heard, nothing_heard, heard_more, Reply, reply_to, last_reply, is_long}
-use Rattle.command_parts.specs.Dialogue.{Course, waits_at, waits_by, goes_on, comes_to, course, course_of}
+use Rattle.command_parts.specs.Dialogue.{TalkCourse, waits_at, waits_by, goes_on, comes_to, course, course_of}
 use Rattle.command_parts.specs.Dialogue.{parts_of, said_by, parting, parting_with, closed, closed_at, talk_of}
 use Rattle.command_parts.proofs.DialogueLaws.{course_more, course_one, parts_grow}
 
@@ -63,14 +63,14 @@ parts_glued (c ∷ octets) more =
     ∙ glue_octet (c == 10) c (parts_of octets) (parts_of more) (some_part octets) (some_part more)
 
 -- ---- a course, and one over more octets
-record Follows (c later : Course) : Type 0 where
+record Follows (c later : TalkCourse) : Type 0 where
   pub grows : (rest : List ℕ) × (later.heard.said ≡ c.heard.said ++ rest)
   pub stays : (end : TalkEnd) → c.end ≡ Some end → said_by later ≡ said_by c
 
 longer : (heard : Heard) (x y : List ℕ) → is_long heard x ≡ true → is_long heard (x ++ y) ≡ true
 longer heard x y over = let size = length-append x y in grind (arith, nat_tests)
 
-comes_long : (heard : Heard) (line : List ℕ) (b : Bool) (next : Heard → Course) → b ≡ true →
+comes_long : (heard : Heard) (line : List ℕ) (b : Bool) (next : Heard → TalkCourse) → b ≡ true →
     comes_to heard line b next ≡ waits_by heard line true
 comes_long heard line true next is = refl
 comes_long heard line false next is = absurd cc
@@ -117,14 +117,14 @@ one_follows heard x y ys = record {
   stays = stays_at heard x y ys;
 }
 
-goes_follows : (heard : Heard) (line : List ℕ) (reply : Reply) (next later : Heard → Course) →
+goes_follows : (heard : Heard) (line : List ℕ) (reply : Reply) (next later : Heard → TalkCourse) →
     ((now : Heard) → Follows (next now) (later now)) →
     Follows (goes_on heard line reply next) (goes_on heard line reply later)
 goes_follows heard line (Ok text) next later follows = follows (heard_more heard line text)
 goes_follows heard line (Err told) next later follows =
     record { grows = ([], sym (append-nil heard.said)); stays = λ end ended. refl }
 
-comes_follows : (heard : Heard) (line : List ℕ) (b : Bool) (next later : Heard → Course) →
+comes_follows : (heard : Heard) (line : List ℕ) (b : Bool) (next later : Heard → TalkCourse) →
     ((now : Heard) → Follows (next now) (later now)) →
     Follows (comes_to heard line b next) (comes_to heard line b later)
 comes_follows heard line true next later follows =
@@ -137,14 +137,14 @@ glued_follows : (xs : List (List ℕ)) (y : List ℕ) (ys : List (List ℕ)) (he
 glued_follows [] y ys heard some = absurd (omega arith)
 glued_follows (x ∷ []) y ys heard some =
     let Q : List (List ℕ) → Type 0 = λ (parts : List (List ℕ)). Follows (waits_at heard x) (course parts heard) in
-    let R : Course → Type 0 = λ (c : Course). Follows c (course (glue (x ∷ []) (y ∷ ys)) heard) in
+    let R : TalkCourse → Type 0 = λ (c : TalkCourse). Follows c (course (glue (x ∷ []) (y ∷ ys)) heard) in
     subst R (sym (course_one x heard)) (subst Q (sym (glue_last x y ys)) (one_follows heard x y ys))
 glued_follows (x ∷ z ∷ xs) y ys heard some =
     let Q : List (List ℕ) → Type 0 =
     λ (parts : List (List ℕ)). Follows (course (x ∷ z ∷ xs) heard) (course parts heard) in
-    let R : Course → Type 0 = λ (c : Course). Follows c (course (x ∷ glue (z ∷ xs) (y ∷ ys)) heard) in
-    let U : Course → Type 0 =
-    λ (c : Course). Follows (comes_to heard x (is_long heard x) (course (z ∷ xs))) c in
+    let R : TalkCourse → Type 0 = λ (c : TalkCourse). Follows c (course (x ∷ glue (z ∷ xs) (y ∷ ys)) heard) in
+    let U : TalkCourse → Type 0 =
+    λ (c : TalkCourse). Follows (comes_to heard x (is_long heard x) (course (z ∷ xs))) c in
     let here : 0 < length (z ∷ xs) = omega arith in
     subst Q (sym (glue_front x (z ∷ xs) (y ∷ ys) here))
     (subst R (sym (course_more x (z ∷ xs) heard here))

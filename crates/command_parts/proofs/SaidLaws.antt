@@ -11,7 +11,7 @@ use Rattle.command_parts.specs.declared.stop_and_status.Stop.{Stop}
 use Rattle.command_parts.specs.declared.stop_and_status.Stop.TheVariants.{Read, TooLong, Refused, Write, Memory}
 use Rattle.command_parts.specs.Talk.{Said}
 use Rattle.command_parts.specs.Dialogue.{Heard, heard_more, Reply, reply_to, is_long, comes_to, goes_on, course, course_of}
-use Rattle.command_parts.specs.Dialogue.{Course, said_by, parts_of, told_end}
+use Rattle.command_parts.specs.Dialogue.{TalkCourse, said_by, parts_of, told_end}
 use Rattle.command_parts.specs.Replies.{StopsReply}
 use Rattle.command_parts.specs.Conversation.{IsSaid, IsWritten, IsCutShort, StopsHearing, StopsSaying, StopsSaid}
 use Rattle.command_parts.proofs.DialogueLaws.{course_line, course_grows}
@@ -149,7 +149,7 @@ module _ {K : Type 0} (written : K → Option (List ℕ)) (faults : K → ℕ) w
       Lacks 10 line → is_long heard line ≡ true → IsSaid written faults first earlier now waiting heard.said →
       StopsSaying written faults first earlier now waiting (said_by (course_of (line ++ 10 ∷ more) heard)) TooLong
   stops_long first now earlier waiting line more heard lacks over before =
-      let P : Course → Type 0 = λ (c : Course). StopsSaying written faults first earlier now waiting (said_by c) TooLong in
+      let P : TalkCourse → Type 0 = λ (c : TalkCourse). StopsSaying written faults first earlier now waiting (said_by c) TooLong in
       subst P (sym (course_line line more heard lacks
       ∙ ap (λ (b : Bool). comes_to heard line b (course (parts_of more))) over)) (refl, before)
 
@@ -159,7 +159,7 @@ module _ {K : Type 0} (written : K → Option (List ℕ)) (faults : K → ℕ) w
       StopsHearing written faults first earlier now waiting heard (reply_to heard (strip_carriage_return line)) stop →
       StopsSaying written faults first earlier now waiting (said_by (course_of (line ++ 10 ∷ more) heard)) stop
   stops_line first now earlier waiting line more heard stop lacks short stops =
-      let P : Course → Type 0 = λ (c : Course). StopsSaying written faults first earlier now waiting (said_by c) stop in
+      let P : TalkCourse → Type 0 = λ (c : TalkCourse). StopsSaying written faults first earlier now waiting (said_by c) stop in
       subst P (sym (course_line line more heard lacks
       ∙ ap (λ (b : Bool). comes_to heard line b (course (parts_of more))) short))
       (by stop (reply_to heard (strip_carriage_return line)) stops)

@@ -15,7 +15,7 @@ use Rattle.command_parts.specs.declared.stop_and_status.Stop.TheVariants.{Read, 
 use Rattle.command_parts.specs.declared.conversation.Listener.{Listener}
 use Rattle.command_parts.specs.Talk.{Said, Talk, TalkEnd, faulty, long, said}
 use Rattle.command_parts.specs.Dialogue.{Dialogue, Heard, nothing_heard, is_long, waits_at, waits_by, stands_at, course_of}
-use Rattle.command_parts.specs.Dialogue.{Course, said_by, closed, closed_by, talk_of}
+use Rattle.command_parts.specs.Dialogue.{TalkCourse, said_by, closed, closed_by, talk_of}
 use Rattle.command_parts.specs.Ends.{Lent, lent, by_piece, at_end, HasTalked, IsTalkDone, IsTalkUnread}
 use Rattle.command_parts.specs.Ends.{IsTalkCut, IsTalkEnded}
 use Rattle.command_parts.specs.Gives.{StopsTalk, GivesTalk}
@@ -104,9 +104,9 @@ module _ {S K T : Type 0} (left : S → Option (List ℕ)) (faults : S → ℕ) 
       taken = all;
       given = going.given ∙ ap (prepend_known all) (sym same);
       failed = counted ∙ ap one_more going.quiet;
-      went_on = ap (λ (c : Course). c.end) now;
+      went_on = ap (λ (c : TalkCourse). c.end) now;
       written = (let P : List ℕ → Type 0 = λ (t : List ℕ). Appends written breaks o0 o t in
-          subst P (sym (ap (λ (c : Course). c.heard.said) now)) going.writes);
+          subst P (sym (ap (λ (c : TalkCourse). c.heard.said) now)) going.writes);
     }
 
     -- a piece came, or nothing more
@@ -115,8 +115,8 @@ module _ {S K T : Type 0} (left : S → Option (List ℕ)) (faults : S → ℕ) 
         HasTalked (lent left faults s0 new) own heard.said (said_by (course_of (rest ++ piece) heard))
     talked_piece new piece given quiet few = record {
       before = all;
-      went_on = ap (λ (c : Course). c.end) now;
-      is_earlier = ap (λ (c : Course). c.heard.said) now;
+      went_on = ap (λ (c : TalkCourse). c.end) now;
+      is_earlier = ap (λ (c : TalkCourse). c.heard.said) now;
       comes = by_piece piece few
           (record {
             given = going.given ∙ ap (prepend_known all) given ∙ prepended all piece (left new);
@@ -130,8 +130,8 @@ module _ {S K T : Type 0} (left : S → Option (List ℕ)) (faults : S → ℕ) 
         HasTalked (lent left faults s0 new) own heard.said (closed heard rest)
     talked_end new piece none given end quiet = record {
       before = all;
-      went_on = ap (λ (c : Course). c.end) now;
-      is_earlier = ap (λ (c : Course). c.heard.said) now;
+      went_on = ap (λ (c : TalkCourse). c.end) now;
+      is_earlier = ap (λ (c : TalkCourse). c.heard.said) now;
       comes = at_end
           (record {
             given = going.given ∙ ap (prepend_known all)
@@ -153,10 +153,10 @@ module _ {S K T : Type 0} (left : S → Option (List ℕ)) (faults : S → ℕ) 
         end = end;
       };
       read_quiet = quiet ∙ going.quiet;
-      went_on = ap (λ (c : Course). c.end) now;
-      whole = ap (λ (c : Course). (closed_by c).end) now ∙ whole;
+      went_on = ap (λ (c : TalkCourse). c.end) now;
+      whole = ap (λ (c : TalkCourse). (closed_by c).end) now ∙ whole;
       written = (let P : List ℕ → Type 0 = λ (t : List ℕ). Appends written breaks o0 last t in
-          subst P (sym (ap (λ (c : Course). (closed_by c).text) now ∙ writes.is))
+          subst P (sym (ap (λ (c : TalkCourse). (closed_by c).text) now ∙ writes.is))
           (Appends-then written breaks o0 o last heard.said writes.later going.writes writes.appends));
     }
 
@@ -299,7 +299,7 @@ module _ {S K T : Type 0} (left : S → Option (List ℕ)) (faults : S → ℕ) 
           let P : List ℕ → Type 0 = λ (t : List ℕ). IsCutShort written breaks o heard.said last t in
           talk_cut_now (lent left faults s0 new) last _ (talked_piece new piece given quiet fits)
           (subst P (sym (ap (λ (t : List ℕ). (course_of t heard).heard.said) (sym is)
-          ∙ ap (λ (c : Course). c.heard.said) at_)) cut)
+          ∙ ap (λ (c : TalkCourse). c.heard.said) at_)) cut)
 
       -- and it goes on
       pub goes_on_now : later ≡ drop n octets → IsWritten written breaks o heard.said last heard_to.now.said →

@@ -50,39 +50,39 @@ is_long heard line = nat_lt longest_line (length line) || nat_le most_lines (len
 
 -- ---- the course of a conversation
 -- how far it came, the line at which it stands, and why it ended there, where it did
-pub record Course : Type 0 where
+pub record TalkCourse : Type 0 where
   pub heard : Heard
   pub line : List ℕ
   pub end : Option TalkEnd
 
-abbrev pub stands_at : Heard → List ℕ → Option TalkEnd → Course
+abbrev pub stands_at : Heard → List ℕ → Option TalkEnd → TalkCourse
 stands_at heard line end = record { heard = heard; line = line; end = end }
 
 abbrev pub told_end : Refusal × List ℕ → TalkEnd
 told_end told = faulty told.0 told.1
 
 -- at a line whose LF hasn't come
-abbrev pub waits_by : Heard → List ℕ → Bool → Course
+abbrev pub waits_by : Heard → List ℕ → Bool → TalkCourse
 waits_by heard line true = stands_at heard line (Some long)
 waits_by heard line false = stands_at heard line None
 
-abbrev pub waits_at : Heard → List ℕ → Course
+abbrev pub waits_at : Heard → List ℕ → TalkCourse
 waits_at heard [] = stands_at heard [] None
 waits_at heard (octet ∷ line) = waits_by heard (octet ∷ line) (is_long heard (octet ∷ line))
 
 -- at a line that is replied to, and from then on
-abbrev pub goes_on : Heard → List ℕ → Reply → (Heard → Course) → Course
+abbrev pub goes_on : Heard → List ℕ → Reply → (Heard → TalkCourse) → TalkCourse
 goes_on heard line (Ok text) next = next (heard_more heard line text)
 goes_on heard line (Err told) next = stands_at heard line (Some (told_end told))
 
 -- at a line that has come; a CR before its LF is none of its octets
-abbrev pub comes_to : Heard → List ℕ → Bool → (Heard → Course) → Course
+abbrev pub comes_to : Heard → List ℕ → Bool → (Heard → TalkCourse) → TalkCourse
 comes_to heard line true next = stands_at heard line (Some long)
 comes_to heard line false next =
     goes_on heard (strip_carriage_return line) (reply_to heard (strip_carriage_return line)) next
 
 -- over the parts of octets between LFs, of which the last waits for its LF
-unfoldable pub course : List (List ℕ) → Heard → Course
+unfoldable pub course : List (List ℕ) → Heard → TalkCourse
 course [] heard = waits_at heard []
 course (part ∷ []) heard = waits_at heard part
 course (part ∷ next ∷ parts) heard = comes_to heard part (is_long heard part) (course (next ∷ parts))
@@ -90,11 +90,11 @@ course (part ∷ next ∷ parts) heard = comes_to heard part (is_long heard part
 abbrev pub parts_of : List ℕ → List (List ℕ)
 parts_of octets = slice_split (λ octet. octet == 10) octets
 
-abbrev pub course_of : List ℕ → Heard → Course
+abbrev pub course_of : List ℕ → Heard → TalkCourse
 course_of octets heard = course (parts_of octets) heard
 
 -- ---- what is said
-abbrev pub said_by : Course → Said
+abbrev pub said_by : TalkCourse → Said
 said_by course = said course.heard.said course.end
 
 -- at the end of the input
@@ -116,7 +116,7 @@ abbrev pub closed_at : Heard → List ℕ → Option TalkEnd → Said
 closed_at heard line None = closed heard line
 closed_at heard line (Some end) = said heard.said (Some end)
 
-abbrev pub closed_by : Course → Said
+abbrev pub closed_by : TalkCourse → Said
 closed_by course = closed_at course.heard course.line course.end
 
 -- ---- the lines of octets

@@ -9,7 +9,7 @@ use Rattle.law_model.specs.declared.script_types.Config.{Config}
 use Rattle.law_model.specs.declared.script_types.Item.{Item}
 use Rattle.law_model.specs.declared.window_types.Window.{Window}
 use Rattle.law_model.specs.members.Damage.{carried}
-use Rattle.law_live.specs.Common.{Agrees, CanSay, CanSayAll, Course, Live, Saying, closed, course_at, cut_at, cuts}
+use Rattle.law_live.specs.Common.{Agrees, CanSay, CanSayAll, LineCourse, Live, Saying, closed, course_at, cut_at, cuts}
 use Rattle.law_live.specs.Common.{lands, leg_by, live_after, live_from, mended_at, mends, passes, uncut, windows_by}
 use Rattle.law_live.specs.Common.{with_course}
 use Rattle.law_live.proofs.StandLaws.{later-less}
@@ -35,12 +35,12 @@ agrees-own config live = record {
 cut-now : (passed : ℕ) (windows : List Window) → closed passed windows (Some passed) ≡ windows
 cut-now passed windows = let e : nat_lt passed passed ≡ false = grind arith in rw e refl
 
-cut-same : (passed : ℕ) (course : Course) → course.cut ≡ None →
+cut-same : (passed : ℕ) (course : LineCourse) → course.cut ≡ None →
     windows_by passed (cut_at passed course) ≡ windows_by passed course
 cut-same passed course none =
     cut-now passed course.windows ∙ sym (ap (closed passed course.windows) none)
 
-with-same : (live : Live) (m line : ℕ) (course : Course) → m < length live.courses →
+with-same : (live : Live) (m line : ℕ) (course : LineCourse) → m < length live.courses →
     windows_by live.passed course ≡ windows_by live.passed (course_at live m) →
     windows_by live.passed (course_at (with_course live m course) line) ≡ windows_by live.passed (course_at live line)
 with-same live m line course inside same = elim (cases_Bool (line == m)) [
@@ -53,7 +53,7 @@ with-same live m line course inside same = elim (cases_Bool (line == m)) [
       ap (windows_by live.passed) (get_or-set_other live.courses m line course (uncut []) (eqb-false line m e))
 ]
 
-agrees-with : (config : Config) (live : Live) (leg : Leg) (m : ℕ) (course : Course) → m < length live.courses →
+agrees-with : (config : Config) (live : Live) (leg : Leg) (m : ℕ) (course : LineCourse) → m < length live.courses →
     windows_by live.passed course ≡ windows_by live.passed (course_at live m) →
     Agrees config (with_course live m course) leg → Agrees config live leg
 agrees-with config live leg m course inside same agrees =

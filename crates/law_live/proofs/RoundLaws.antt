@@ -129,7 +129,7 @@ goes-tick plan s =
     ]
 
 -- ---- a round
-goes-carries : (plan : Plan) (m : ℕ) (paths : List LinePath) (s : Counts) →
+pub goes-carries : (plan : Plan) (m : ℕ) (paths : List LinePath) (s : Counts) →
     Goes 0 s (run plan s (carries_from m paths))
 unfolding run carries_from
 goes-carries plan m [] s =

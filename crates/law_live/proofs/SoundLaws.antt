@@ -19,7 +19,7 @@ use Rattle.law_model.specs.declared.script_types.Item.{Item}
 use Rattle.law_model.specs.declared.script_types.ItemKind.{ItemKind}
 use Rattle.law_model.specs.declared.script_types.ItemKind.TheVariants.{Frame, Add, Remove}
 use Rattle.law_model.specs.declared.window_types.Window.{Window}
-use Rattle.law_live.specs.Common.{CanSay, CanSayAll, Course, IsWellSaid, Live, Saying, commands_in, config_by, counted}
+use Rattle.law_live.specs.Common.{CanSay, CanSayAll, LineCourse, IsWellSaid, Live, Saying, commands_in, config_by, counted}
 use Rattle.law_live.specs.Common.{course_at, cut_at, cuts, events_by, frames_in, item_at, lands, leg_said}
 use Rattle.law_live.specs.Common.{live_after, live_from, live_of, mended_at, mends, opened, passes, rounds_of}
 use Rattle.law_live.specs.Common.{script_said, uncut, windows_by}
@@ -28,20 +28,20 @@ use Rattle.law_live.proofs.WindowLaws.{IsOpen, failures-closed, slip-closed, sli
 
 -- ---- how it stands
 -- a line whose windows scripts may have, and on which a failure may last
-pub record IsRight (ticks passed : ℕ) (course : Course) : Type 0 where
+pub record IsRight (ticks passed : ℕ) (course : LineCourse) : Type 0 where
   pub has : HasFailures ticks course.windows
   pub open_ : IsOpen passed course.windows course.cut
 
 pub record AreRight (config : Config) (live : Live) : Type 0 where
   pub passed : live.passed ≤ config.ticks
   pub lines : length live.courses ≡ config.lines
-  pub slips : map (λ (course : Course). slip_of course.windows) live.courses ≡ map slip_of config.windows
+  pub slips : map (λ (course : LineCourse). slip_of course.windows) live.courses ≡ map slip_of config.windows
   pub each : All (IsRight config.ticks live.passed) live.courses
   pub items : AreItems config.ticks live.items
   pub due : All (λ (item : Item). item.due ≤ live.passed) live.items
 
 slips-opened : (lists : List (List Window)) →
-    map (λ (course : Course). slip_of course.windows) (map uncut lists) ≡ map slip_of lists
+    map (λ (course : LineCourse). slip_of course.windows) (map uncut lists) ≡ map slip_of lists
 slips-opened [] = refl
 slips-opened (windows ∷ lists) = ap (λ l. slip_of windows ∷ l) (slips-opened lists)
 
@@ -96,13 +96,13 @@ right-landed config live kind right left is = record {
         (commands-each (λ due. due ≤ live.passed) live.items right.due)
 
 -- ---- a line
-right-with : (config : Config) (live : Live) (m : ℕ) (course : Course) → AreRight config live →
+right-with : (config : Config) (live : Live) (m : ℕ) (course : LineCourse) → AreRight config live →
     IsRight config.ticks live.passed course → slip_of course.windows ≡ slip_of (course_at live m).windows →
     AreRight config (record live { courses = slice_set live.courses m course })
 right-with config live m course right is slip = record {
   passed = right.passed;
   lines = length-set live.courses m course ∙ right.lines;
-  slips = map-set_same (λ (course : Course). slip_of course.windows) live.courses m course (uncut []) slip
+  slips = map-set_same (λ (course : LineCourse). slip_of course.windows) live.courses m course (uncut []) slip
       ∙ right.slips;
   each = All-set (IsRight config.ticks live.passed) live.courses m course is right.each;
   items = right.items;
@@ -126,12 +126,12 @@ right-after config live (lands kind) can right = record {
       (omega arith);
 }
 right-after config live (cuts m) can right =
-    let course : Course = course_at live m in
+    let course : LineCourse = course_at live m in
     let is : IsRight config.ticks live.passed course = right.each m (uncut []) can.0.line in
     right-with config live m (cut_at live.passed course) right
     (record { has = is.has; open_ = (omega arith, can.1.over, can.1.few) }) refl
 right-after config live (mends m) can right =
-    let course : Course = course_at live m in
+    let course : LineCourse = course_at live m in
     let is : IsRight config.ticks live.passed course = right.each m (uncut []) can.0.line in
     right-with config live m (mended_at live.passed course) right
     (record {

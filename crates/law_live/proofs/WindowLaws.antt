@@ -9,7 +9,7 @@ use Rattle.std.proofs.Common.{◌-◌, slice_index_or, subst, suc}
 use Rattle.law_model.specs.Common.{AreWindows, HasFailures, slip_after, slip_of}
 use Rattle.law_model.specs.declared.window_types.Window.{Window}
 use Rattle.law_model.specs.members.Damage.{carried}
-use Rattle.law_live.specs.Common.{Course, IsSameBelow, closed, windows_by}
+use Rattle.law_live.specs.Common.{LineCourse, IsSameBelow, closed, windows_by}
 
 -- ---- order
 apart-push : (from : ℕ) (windows : List Window) (last : Window) → AreWindows from windows →
@@ -72,8 +72,8 @@ slip-closed passed windows (Some start) = elim (cases_Bool (nat_lt start passed)
   | inr e ↦ rw e refl
 ]
 
-pub slips-closed : (passed : ℕ) (courses : List Course) →
-    map slip_of (map (windows_by passed) courses) ≡ map (λ (course : Course). slip_of course.windows) courses
+pub slips-closed : (passed : ℕ) (courses : List LineCourse) →
+    map slip_of (map (windows_by passed) courses) ≡ map (λ (course : LineCourse). slip_of course.windows) courses
 slips-closed passed [] = refl
 slips-closed passed (course ∷ courses) =
     ap₂ ◌∷◌ (slip-closed passed course.windows course.cut) (slips-closed passed courses)

@@ -1,5 +1,5 @@
 -- The words that most definitions and proofs cite, passed on from one place. Declares nothing.
-pub use Rattle.law_live.specs.Live.{Saying, lands, cuts, mends, passes, Course, Live, uncut, opened, closed, windows_by}
+pub use Rattle.law_live.specs.Live.{Saying, lands, cuts, mends, passes, LineCourse, Live, uncut, opened, closed, windows_by}
 pub use Rattle.law_live.specs.Live.{course_at, cut_at, mended_at, with_course, item_at, live_after, live_of, frames_in}
 pub use Rattle.law_live.specs.Live.{commands_in}
 unfoldable pub use Rattle.law_live.specs.Live.{live_from}

@@ -17,17 +17,17 @@ pub data Saying : Type 0 where
 
 -- ---- how it stands
 -- a line: its failures that are over or known, and the first container of one whose end isn't
-pub record Course : Type 0 where
+pub record LineCourse : Type 0 where
   pub windows : List Window
   pub cut : Option ℕ
 
 -- how many ticks have passed, how it stands with each line, and the items in their order
 pub record Live : Type 0 where
   pub passed : ℕ
-  pub courses : List Course
+  pub courses : List LineCourse
   pub items : List Item
 
-abbrev pub uncut : List Window → Course
+abbrev pub uncut : List Window → LineCourse
 uncut windows = record { windows = windows; cut = None }
 
 -- before anything is said each line has the failures that are known beforehand
@@ -43,21 +43,21 @@ closed passed windows (Some start) =
     if nat_lt start passed then windows ++ record { first = start; end = passed; slip = 0 } ∷ [] else windows
 
 -- a failure that isn't over ends now
-abbrev pub windows_by : ℕ → Course → List Window
+abbrev pub windows_by : ℕ → LineCourse → List Window
 windows_by passed course = closed passed course.windows course.cut
 
 -- a line that there isn't has no failure
-abbrev pub course_at : Live → ℕ → Course
+abbrev pub course_at : Live → ℕ → LineCourse
 course_at live m = slice_index_or live.courses m (uncut [])
 
 -- ---- what is said, one after another
-abbrev pub cut_at : ℕ → Course → Course
+abbrev pub cut_at : ℕ → LineCourse → LineCourse
 cut_at passed course = record { windows = course.windows; cut = Some passed }
 
-abbrev pub mended_at : ℕ → Course → Course
+abbrev pub mended_at : ℕ → LineCourse → LineCourse
 mended_at passed course = uncut (windows_by passed course)
 
-abbrev pub with_course : Live → ℕ → Course → Live
+abbrev pub with_course : Live → ℕ → LineCourse → Live
 with_course live m course = record live { courses = slice_set live.courses m course }
 
 -- an item is due now

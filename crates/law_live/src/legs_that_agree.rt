@@ -3,7 +3,7 @@
 ghost use Rattle.std.specs.Prelude.{ℕ, ◌≤◌, List, ◌++◌};
 ghost use Rattle.law_model.specs.Common.{Leg};
 ghost use Rattle.law_model.specs.declared.script_types.Config.{Config};
-ghost use Rattle.law_live.specs.Common.{Agrees, CanSayAll, Course, IsSameBelow, Saying, leg_said, live_of};
+ghost use Rattle.law_live.specs.Common.{Agrees, CanSayAll, LineCourse, IsSameBelow, Saying, leg_said, live_of};
 ghost use Rattle.law_live.specs.Common.{opened, windows_by};
 
 /// The leg of what was said agrees with it; and a leg that agrees with more agrees with less. So the leg of a
@@ -19,6 +19,6 @@ pub fn agree_law()
     ensures begins { (config : Config) (said more : List Saying) →
         CanSayAll config.ticks (opened config) (said ++ more) →
         Agrees config (live_of config said) (leg_said config (said ++ more)) }
-    ensures open { (passed more : ℕ) (course : Course) → passed ≤ more →
+    ensures open { (passed more : ℕ) (course : LineCourse) → passed ≤ more →
         IsSameBelow passed (windows_by more course) (windows_by passed course) }
 {}

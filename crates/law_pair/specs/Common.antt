@@ -6,8 +6,8 @@ pub use Rattle.law_pair.specs.PairCounts.{on_way, or_else, pair_begin, pair_boun
 pub use Rattle.law_pair.specs.PairCounts.{sooner, take_one, take_said, tick_by, tick_cause, tick_of, ticked}
 pub use Rattle.law_pair.specs.PairCounts.{with_counts}
 unfoldable pub use Rattle.law_pair.specs.PairCounts.{carries_on, first_due, left_after, pair_drain, pair_run}
-pub use Rattle.law_pair.specs.PairProgress.{HasWayLine, IsOpen, IsPairPlan, IsPairProgress, IsPairReached, IsStill}
-pub use Rattle.law_pair.specs.PairProgress.{SomePairProgress, with_lag, with_lines}
+pub use Rattle.law_pair.specs.PairNeverStuck.{HasWayLine, IsOpen, IsPairPlan, IsPairProgress, IsPairReached, IsStill}
+pub use Rattle.law_pair.specs.PairNeverStuck.{SomePairProgress, with_lag, with_lines}
 pub use Rattle.law_pair.specs.PairWalk.{IsPairWalked, pair_drained, pair_plan}
 pub use Rattle.law_pair.specs.Telling.{telling_of}
 pub use Rattle.law_pair.specs.Worked.{failing_back, worked_back, worked_script, worked_there}

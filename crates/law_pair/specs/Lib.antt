@@ -1,7 +1,7 @@
 pub mod Pair
 pub mod Telling
 pub mod PairCounts
-pub mod PairProgress
+pub mod PairNeverStuck
 pub mod PairWalk
 pub mod Worked
 pub mod WorkedCounts

@@ -3,7 +3,7 @@ use Rattle.law_model.specs.declared.script_types.Script.{Script}
 use Rattle.law_walk.specs.Common.{walk_plan}
 use Rattle.law_pair.specs.Pair.{way_of}
 use Rattle.law_pair.specs.PairCounts.{PairPlan, PairCounts, pair_drain, pair_bound}
-use Rattle.law_pair.specs.PairProgress.{IsPairReached}
+use Rattle.law_pair.specs.PairNeverStuck.{IsPairReached}
 
 -- each way walks as its leg says, which has twice the lag
 abbrev pub pair_plan : Script → Script → PairPlan

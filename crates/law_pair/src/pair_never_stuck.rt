@@ -12,7 +12,7 @@ ghost use Rattle.law_pair.specs.declared.pair_events.PairEvent.TheVariants.{Tick
 ghost use Rattle.law_pair.specs.WorkedCounts.{there_taken};
 ghost use Rattle.law_pair.specs.PairCounts.{PairPlan, PairCounts, plan_on, counts_on, pair_step, pair_drain};
 ghost use Rattle.law_pair.specs.PairCounts.{pair_bound, pair_begin, pair_run, pair_round, is_over};
-ghost use Rattle.law_pair.specs.PairProgress.{IsPairPlan, IsPairReached, SomePairProgress, IsOpen, IsStill};
+ghost use Rattle.law_pair.specs.PairNeverStuck.{IsPairPlan, IsPairReached, SomePairProgress, IsOpen, IsStill};
 ghost use Rattle.law_walk.specs.Common.{IsWalked, delivered_of, report_of, final_report};
 ghost use Rattle.law_pair.specs.PairWalk.{pair_plan, pair_drained, IsPairWalked};
 ghost use Rattle.law_pair.specs.Pair.{IsPair, way_telling, way_of};

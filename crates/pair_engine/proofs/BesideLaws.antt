@@ -3,7 +3,7 @@ use Rattle.std.proofs.Common.{◌≡◌, ℕ, ◌≤◌, [], slice_index_or, sym
 use Rattle.law_model.specs.Common.{used_in}
 use Rattle.law_model.specs.declared.script_types.Script.{Script}
 use Rattle.law_model.specs.session.Scenario.{packets_in}
-use Rattle.terminal_group.specs.Inbox.{Inbox}
+use Rattle.terminal_group.specs.ReturnInbox.{Inbox}
 use Rattle.law_pair.specs.Common.{way_of, PairPlan, PairCounts, with_lag, pair_plan}
 use Rattle.law_pair.proofs.GoingLaws.{goes-near}
 use Rattle.law_pair.proofs.PairMoveLaws.{IsNear, is-near, walks-fits}

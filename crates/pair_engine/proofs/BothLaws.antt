@@ -7,7 +7,7 @@ use Rattle.law_model.specs.declared.walk_events.StallCause.{StallCause}
 use Rattle.law_model.specs.session.Scenario.{packets_in}
 use Rattle.terminal_source.specs.source_core.Terminal.{needed}
 use Rattle.law_walk.specs.Common.{walk_plan}
-use Rattle.terminal_group.specs.Inbox.{cell_for, rest_for}
+use Rattle.terminal_group.specs.ReturnInbox.{cell_for, rest_for}
 use Rattle.terminal_group.specs.Counted.{missing_from}
 use Rattle.law_pair.specs.Common.{way_of, tick_cause, tick_by, ticked, pair_plan, IsPairWalked}
 use Rattle.law_pair.specs.declared.pair_events.Way.{Way}

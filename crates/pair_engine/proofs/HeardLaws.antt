@@ -13,7 +13,7 @@ use Rattle.terminal_source.specs.source_core.Terminal.{needed_at}
 use Rattle.terminal_source.specs.source_core.Given.{with_cell}
 use Rattle.law_walk.specs.Common.{CanWalk, said_packet, back_cell, told_before}
 use Rattle.law_walk.proofs.ReturnLaws as return_laws
-use Rattle.terminal_group.specs.Inbox.{cell_for, rest_for}
+use Rattle.terminal_group.specs.ReturnInbox.{cell_for, rest_for}
 use Rattle.terminal_group.specs.Source.{missing_by}
 use Rattle.pair_engine.specs.Said.{Said, untold_packets, tells_next, told_now, left_untold, heard_in, heard_cells}
 

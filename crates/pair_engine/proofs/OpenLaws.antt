@@ -4,7 +4,7 @@ use Rattle.std.specs.List.{range_with_len}
 use Rattle.law_model.specs.Common.{Counts, begin, used_in, told_in}
 use Rattle.law_model.specs.declared.script_types.Script.{Script}
 use Rattle.law_model.specs.session.Scenario.{packets_in}
-use Rattle.terminal_group.specs.Inbox.{empty_inbox}
+use Rattle.terminal_group.specs.ReturnInbox.{empty_inbox}
 use Rattle.law_walk.specs.Common.{said_packet, back_cell, walk_plan}
 use Rattle.law_pair.specs.Common.{IsWay, IsPair, way_of, pair_begin, pair_plan, IsPairWalked}
 use Rattle.law_pair.proofs.PairEndLaws.{pair-begins}

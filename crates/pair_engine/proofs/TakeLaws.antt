@@ -17,7 +17,7 @@ use Rattle.terminal_sink.specs.declared.sink_core.sink_terminal.TakeAnswer.{Take
 use Rattle.terminal_sink.specs.declared.sink_core.sink_terminal.TakeAnswer.TheVariants.{Taken, Waiting}
 use Rattle.terminal_sink.specs.sink_core.Given.{rows_taken}
 use Rattle.terminal_group.specs.declared.landed_counts.LandedCounts.{LandedCounts}
-use Rattle.terminal_group.specs.Inbox.{Inbox, with_come}
+use Rattle.terminal_group.specs.ReturnInbox.{Inbox, with_come}
 use Rattle.law_walk.specs.Common.{walk_plan, IsWalked, popped_cells, said_packet, back_cell, delivered_of}
 use Rattle.law_walk.proofs.EndLaws.{counts-within}
 use Rattle.law_walk.proofs.PlanLaws.{sound-walks}

@@ -14,7 +14,7 @@ use Rattle.law_walk.specs.Common.{told_before, walk_plan, CanWalk, said_packet}
 use Rattle.law_walk.proofs.EndLaws.{counts-within}
 use Rattle.law_walk.proofs.PlanLaws.{sound-walks}
 use Rattle.law_walk.proofs.ReturnLaws as return_laws
-use Rattle.terminal_group.specs.Inbox.{Inbox, cell_for, rest_for}
+use Rattle.terminal_group.specs.ReturnInbox.{Inbox, cell_for, rest_for}
 use Rattle.terminal_group.specs.Counted.{missing_from}
 use Rattle.terminal_group.specs.declared.landed_counts.LandedCounts.{LandedCounts}
 use Rattle.terminal_group.specs.Source.{missing_by}

@@ -6,7 +6,7 @@ use Rattle.law_model.specs.Common.{BackCell, Leg, told_in, used_in}
 use Rattle.law_model.specs.declared.control_packet.Packet.{Packet}
 use Rattle.law_model.specs.session.Scenario.{packets_in}
 use Rattle.law_walk.specs.Common.{said_packet, back_cell}
-use Rattle.terminal_group.specs.Inbox.{Inbox}
+use Rattle.terminal_group.specs.ReturnInbox.{Inbox}
 
 -- ---- what is told
 -- the return packets of a way that wait to be told in the other one, and how many there is room for

@@ -4,7 +4,7 @@ use Rattle.law_model.specs.Common.{Leg, Counts, begin, used_in}
 use Rattle.law_model.specs.declared.script_types.Script.{Script}
 use Rattle.law_model.specs.session.Scenario.{packets_in}
 use Rattle.law_walk.specs.Common.{walk_plan}
-use Rattle.terminal_group.specs.Inbox.{Inbox, empty_inbox}
+use Rattle.terminal_group.specs.ReturnInbox.{Inbox, empty_inbox}
 use Rattle.terminal_group.specs.Item.{bare_items}
 use Rattle.terminal_group.specs.Landed.{none_landed}
 use Rattle.law_pair.specs.Common.{IsPair, way_of, PairCounts, IsPairWalked}

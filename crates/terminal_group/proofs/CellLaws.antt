@@ -10,8 +10,8 @@ use Rattle.terminal_source.specs.source_core.Terminal.{needed_at}
 use Rattle.law_model.proofs.ListLaws.{slice_get-drop, take-next, slice_get-inside}
 use Rattle.law_walk.proofs.ReturnLaws.{used-next}
 use Rattle.terminal_group.specs.Source.{missing_by}
-use Rattle.terminal_group.specs.Inbox.{is_lost_in, Inbox, come_by, come_from, told_from, told_taken, with_come}
-use Rattle.terminal_group.specs.Inbox.{cell_for, rest_for, HasCome, Takes}
+use Rattle.terminal_group.specs.ReturnInbox.{is_lost_in, Inbox, come_by, come_from, told_from, told_taken, with_come}
+use Rattle.terminal_group.specs.ReturnInbox.{cell_for, rest_for, HasCome, Takes}
 
 pub come-append : (lost : List (ℕ × ℕ)) (k : ℕ) (xs ys : List BackCell) →
     come_from lost k (xs ++ ys) ≡ come_from lost k xs ++ come_from lost (k + length xs) ys

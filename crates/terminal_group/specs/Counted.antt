@@ -3,7 +3,7 @@ use Rattle.std.specs.Prelude.{◌≡◌, ℕ, ◌+◌, ◌&&◌, not, min, Bool,
 use Rattle.law_model.specs.declared.script_types.Config.{Config}
 use Rattle.terminal_source.specs.source_core.Terminal.{Terminal, needed}
 use Rattle.terminal_group.specs.declared.landed_counts.LandedCounts.{LandedCounts}
-use Rattle.terminal_group.specs.Inbox.{Inbox, empty_inbox}
+use Rattle.terminal_group.specs.ReturnInbox.{Inbox, empty_inbox}
 use Rattle.terminal_group.specs.Source.{IsUnusedCore, missing_by}
 
 -- the terminal; how many ticks there are; how much has landed; the inbox

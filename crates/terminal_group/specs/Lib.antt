@@ -3,6 +3,6 @@ pub mod Bare
 pub mod Place
 pub mod Lands
 pub mod Landed
-pub mod Inbox
+pub mod ReturnInbox
 pub mod Source
 pub mod Counted

@@ -8,7 +8,7 @@ use Rattle.terminal_group.specs.declared.group_source.EarlyCause.{EarlyCause}
 use Rattle.terminal_group.specs.declared.group_source.EarlyCause.TheVariants.{Done, Held}
 use Rattle.terminal_group.specs.Item.{bare_items}
 use Rattle.terminal_group.specs.Landed.{Landed, none_landed}
-use Rattle.terminal_group.specs.Inbox.{Inbox, empty_inbox}
+use Rattle.terminal_group.specs.ReturnInbox.{Inbox, empty_inbox}
 
 -- the terminal; how many ticks there are; what has landed; the inbox
 pub record Source : Type 0 where

@@ -8,7 +8,7 @@ ghost use Rattle.terminal_source.specs.source_core.Given.{with_cell, with_told, 
 ghost use Rattle.law_walk.specs.Common.{is_client};
 ghost use Rattle.terminal_group.specs.Item.{kind_of};
 ghost use Rattle.terminal_group.specs.Lands.{met_by, with_kind};
-ghost use Rattle.terminal_group.specs.Inbox.{with_come, cell_for, rest_for};
+ghost use Rattle.terminal_group.specs.ReturnInbox.{with_come, cell_for, rest_for};
 ghost use Rattle.terminal_group.specs.Counted.{IsUnusedOn, SameNetwork, SameCounts, with_landed, missing_from};
 
 use crate::item_ref::ItemRef;

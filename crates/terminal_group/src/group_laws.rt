@@ -5,7 +5,7 @@ ghost use Rattle.law_model.specs.Common.{BackCell, used_in};
 ghost use Rattle.law_model.specs.declared.item_refusals.Refusal.{Refusal};
 ghost use Rattle.terminal_source.specs.source_core.Terminal.{needed_at};
 ghost use Rattle.law_walk.specs.Common.{IsPlaced};
-ghost use Rattle.terminal_group.specs.Inbox.{Inbox, told_taken, with_come, cell_for, rest_for, HasCome, Takes};
+ghost use Rattle.terminal_group.specs.ReturnInbox.{Inbox, told_taken, with_come, cell_for, rest_for, HasCome, Takes};
 ghost use Rattle.terminal_group.specs.Source.{missing_by};
 
 /// The refusal of an item has one place among those of others. The inbox holds what has come, in its order: a

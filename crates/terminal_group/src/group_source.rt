@@ -10,7 +10,7 @@ ghost use Rattle.law_walk.specs.Common.{is_client, IsPlaced, refused_by};
 ghost use Rattle.terminal_group.specs.Item.{kind_of};
 ghost use Rattle.terminal_group.specs.Lands.{met_by, with_kind};
 ghost use Rattle.terminal_group.specs.Landed.{next_number, HasPassed};
-ghost use Rattle.terminal_group.specs.Inbox.{with_come, cell_for, rest_for};
+ghost use Rattle.terminal_group.specs.ReturnInbox.{with_come, cell_for, rest_for};
 ghost use Rattle.terminal_group.specs.Source.{IsUnused, SameRest, SameScript, early_in, missing_in};
 
 use crate::counted_source::CountedSource;

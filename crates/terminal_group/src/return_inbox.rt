@@ -1,7 +1,7 @@
 //! The return cells that have come to a group and that no decision step has taken.
 
 ghost use Rattle.std.specs.Prelude.{◌≡◌, ◌<◌, ◌≤◌, ◌+◌, ◌↔◌, [], length, drop, slice_get, IfOk, IsTrue};
-ghost use Rattle.terminal_group.specs.Inbox.{is_lost_in, empty_inbox, with_come};
+ghost use Rattle.terminal_group.specs.ReturnInbox.{is_lost_in, empty_inbox, with_come};
 
 use circular_buffer::HeapCircularBuffer;
 use member_cells::BackCell;
@@ -20,7 +20,7 @@ pub struct Inbox {
 
 impl Model for Inbox {
     ghost use Rattle.std.specs.Prelude.{◌≤◌, length};
-    ghost use Rattle.terminal_group.specs.Inbox.{Inbox};
+    ghost use Rattle.terminal_group.specs.ReturnInbox.{Inbox};
 
     ghost Value = { Inbox };
 

@@ -15,7 +15,7 @@ use Rattle.text_scripts.specs.declared.script_read.script_fault.LineFault.{LineF
 use Rattle.text_scripts.specs.declared.script_read.script_fault.ScriptFault.{ScriptFault}
 use Rattle.text_scripts.specs.script_read.Statements.{words_fault, words_said, after, at_first, last_end}
 use Rattle.text_scripts.specs.script_read.Script.{missing_line, config_fault}
-use Rattle.law_live.specs.Live.{Saying, lands, cuts, mends, passes, Course, Live, opened, course_at, live_after}
+use Rattle.law_live.specs.Live.{Saying, lands, cuts, mends, passes, LineCourse, Live, opened, course_at, live_after}
 use Rattle.text_live.specs.declared.live_keyword.EarlierPart.{EarlierPart}
 use Rattle.text_live.specs.declared.live_keyword.EarlierPart.TheVariants as part
 use Rattle.text_live.specs.declared.live_keyword.LiveKeyword.{LiveKeyword}
@@ -128,11 +128,11 @@ abbrev pub mend_fault_by : (ticks passed m : ℕ) → Option ℕ → Option Live
 mend_fault_by ticks passed m cut =
     option_or (ended_fault ticks passed) (where_true (is_none cut) (wrong.NotCut m))
 
-abbrev pub cut_fault : ℕ → ℕ → ℕ → Course → Option LiveLineFault
+abbrev pub cut_fault : ℕ → ℕ → ℕ → LineCourse → Option LiveLineFault
 cut_fault ticks passed m course =
     cut_fault_by ticks passed m (length course.windows) (last_end course.windows) course.cut
 
-abbrev pub mend_fault : ℕ → ℕ → ℕ → Course → Option LiveLineFault
+abbrev pub mend_fault : ℕ → ℕ → ℕ → LineCourse → Option LiveLineFault
 mend_fault ticks passed m course = mend_fault_by ticks passed m course.cut
 
 abbrev pub own_fault : ℕ → Live → LiveKeyword → ℕ → Option LiveLineFault

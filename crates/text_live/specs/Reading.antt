@@ -23,7 +23,7 @@ use Rattle.text_live.specs.declared.live_line.LiveLine.TheVariants as line
 use Rattle.text_live.specs.declared.read_live_line.LineState.{LineState}
 use Rattle.text_live.specs.declared.read_live_line.LiveState.{LiveState}
 use Rattle.text_live.specs.declared.live_reader.LiveReader.{LiveReader}
-use Rattle.law_live.specs.Live.{Course, Live, cuts, lands, live_after, mends, passes}
+use Rattle.law_live.specs.Live.{LineCourse, Live, cuts, lands, live_after, mends, passes}
 use Rattle.text_live.specs.LiveLines.{happens, Said, LineWrong, of_script, of_limits, of_live, Told, nothing, setting}
 use Rattle.text_live.specs.LiveLines.{count_by, one_fault, ended_fault, rest_fault}
 use Rattle.text_live.specs.LiveLines.{live_told, told, now_live, line_fault, line_after, first_of}
@@ -59,7 +59,7 @@ told_line octets (line.Pass n) = happens (passes n)
 -- ---- what is kept of live lines
 -- of a line: how many failures it has whose end is known, where the last of them ends, and the first container of one whose
 -- end isn't
-abbrev pub state_of : Course → LineState
+abbrev pub state_of : LineCourse → LineState
 state_of course =
     record { failures = length course.windows; end = last_end course.windows; cut = course.cut }
 

@@ -27,7 +27,7 @@ use Rattle.thread_group.specs.declared.group_answers.TickAnswer.{TickAnswer}
 use Rattle.thread_group.specs.declared.group_answers.TickAnswer.TheVariants.{Ticked, Held, TxFull, BackMissing, Done}
 use Rattle.thread_group.specs.declared.group_state.GroupState.{GroupState}
 use Rattle.thread_group.specs.Journal.{of_client, of_operator}
-use Rattle.terminal_group.specs.Inbox.{told_from}
+use Rattle.terminal_group.specs.ReturnInbox.{told_from}
 use Rattle.thread_group.specs.Rings.{SameOuts, SameIns}
 use Rattle.thread_group.specs.Parts.{AreSent, ArePast}
 use Rattle.thread_group.specs.Group.{IsOf, SameScript, is_ticked, lines_of, lag_of, lost_of, items_of, ticks_of}

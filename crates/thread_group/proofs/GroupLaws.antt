@@ -18,7 +18,7 @@ use Rattle.thread_group.specs.declared.group_state.GroupState.{GroupState}
 use Rattle.terminal_group.specs.Item.{size_of as octet_count}
 use Rattle.thread_group.specs.Answer.{fault_of, has_landed, refusal_told}
 use Rattle.thread_group.specs.Journal.{entry_of, fits}
-use Rattle.terminal_group.specs.Inbox.{Inbox}
+use Rattle.terminal_group.specs.ReturnInbox.{Inbox}
 use Rattle.terminal_group.specs.Landed.{due_at, HasPassed}
 use Rattle.terminal_group.specs.Source.{SameRest}
 use Rattle.terminal_group.specs.Lands.{met_by, with_kind}

@@ -19,8 +19,8 @@ use Rattle.law_walk.proofs.LandLaws.{ahead-next}
 use Rattle.thread_group.specs.Journal.{Journal, Setting, journal_scenario, items_in, entry_of, IsLegal}
 use Rattle.terminal_group.specs.Landed.{Landed, due_at, AreAhead, AreBehind}
 use Rattle.terminal_group.specs.Lands.{with_kind}
-use Rattle.terminal_group.specs.Inbox.{Inbox, empty_inbox, come_from, told_from, told_taken, HasCome, cell_for}
-use Rattle.terminal_group.specs.Inbox.{rest_for, Takes}
+use Rattle.terminal_group.specs.ReturnInbox.{Inbox, empty_inbox, come_from, told_from, told_taken, HasCome, cell_for}
+use Rattle.terminal_group.specs.ReturnInbox.{rest_for, Takes}
 use Rattle.thread_group.specs.Rings.{AreUnused, SameOuts, HaveLooked, ArePushed, HasMoved}
 use Rattle.thread_group.specs.Parts.{Parts, setting_in, scenario_in, told_in_parts, AreSent, AreDue, ArePast}
 use Rattle.thread_group.specs.Parts.{AreRefused, Keeps}

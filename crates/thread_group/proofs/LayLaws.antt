@@ -8,7 +8,7 @@ use Rattle.thread_rings.specs.Ends.{OutEnd, InEnd, out_passed, in_passed, SameIn
 use Rattle.terminal_source.specs.source_core.Given.{SourceStands as HasMade}
 use Rattle.law_walk.specs.Common.{landed_items, landed_scenario}
 use Rattle.thread_group.specs.declared.group_state.GroupState.{GroupState}
-use Rattle.terminal_group.specs.Inbox.{told_taken, HasCome}
+use Rattle.terminal_group.specs.ReturnInbox.{told_taken, HasCome}
 use Rattle.thread_group.specs.Journal.{IsLegal}
 use Rattle.thread_group.specs.Parts.{Parts, parts, scenario_in, told_in_parts, AreRefused, Keeps}
 use Rattle.thread_group.specs.Group.{ticks_of, lag_of, lost_of, source_of, taken_of}

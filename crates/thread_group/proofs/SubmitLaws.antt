@@ -34,7 +34,7 @@ use Rattle.thread_group.specs.Journal.{entry_of, fits}
 use Rattle.std.specs.Global.{Vec}
 use Rattle.law_model.proofs.ListLaws.{All-front, All-after}
 use Rattle.thread_rings.specs.Ends.{OutEnd, InEnd, in_passed}
-use Rattle.terminal_group.specs.Inbox.{told_taken}
+use Rattle.terminal_group.specs.ReturnInbox.{told_taken}
 use Rattle.thread_group.specs.Rings.{SameOuts, SameIns}
 use Rattle.thread_group.specs.Parts.{AreSent, ArePast}
 use Rattle.thread_group.specs.Calls.{Submits}

@@ -18,7 +18,7 @@ use Rattle.thread_group.specs.declared.group_state.GroupState.{GroupState}
 use Rattle.thread_group.specs.Journal.{journal_scenario}
 use Rattle.terminal_group.specs.declared.group_source.EarlyCause.{EarlyCause}
 use Rattle.terminal_group.specs.declared.group_source.EarlyCause.TheVariants.{Done as Early_done, Held as Early_held}
-use Rattle.terminal_group.specs.Inbox.{told_taken}
+use Rattle.terminal_group.specs.ReturnInbox.{told_taken}
 use Rattle.terminal_group.specs.Source.{early_in}
 use Rattle.terminal_group.proofs.SourceLaws.{early-none, early-done, early-held}
 use Rattle.thread_group.specs.Answer.{stop_of}

@@ -10,7 +10,7 @@ use Rattle.terminal_source.specs.source_core.Given.{SourceStands as HasMade}
 use Rattle.law_walk.specs.Common.{Numbered, is_client, kind_refusal}
 use Rattle.thread_group.specs.Journal.{Journal, Setting, journal_scenario, items_in, IsLegal}
 use Rattle.terminal_group.specs.Landed.{Landed, due_at, AreAhead, AreBehind}
-use Rattle.terminal_group.specs.Inbox.{Inbox, told_taken, HasCome}
+use Rattle.terminal_group.specs.ReturnInbox.{Inbox, told_taken, HasCome}
 
 -- the source; how many ticks there are; what has landed; the journal; the inbox; the send rings and the return ring
 pub record Parts : Type 0 where

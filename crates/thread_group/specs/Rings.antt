@@ -4,7 +4,7 @@ use mathlib.Core.List.{IsPrefix}
 use Rattle.law_model.specs.Common.{one_more, Container, BackCell}
 use Rattle.thread_rings.specs.Ends.{OutEnd, InEnd, out_passed, out_free, out_misses, in_passed, in_items, in_misses}
 use Rattle.thread_rings.specs.Ends.{SameOut, SameIn}
-use Rattle.terminal_group.specs.Inbox.{Inbox, HasCome}
+use Rattle.terminal_group.specs.ReturnInbox.{Inbox, HasCome}
 
 -- ---- lists of ends, by place
 -- the same ends of the same rings, at another moment

@@ -15,8 +15,8 @@ pub use Rattle.walk_engine.specs.walk_core.Parts.{AgreesAt, calls_of, windows_in
 pub use Rattle.walk_engine.specs.walk_core.Parts.{note_of, sent_frames, told_leg, told_scenario}
 pub use Rattle.walk_engine.specs.walk_core.Take.{CanPop, CanTake, HasPopped, HasRow, take_cause}
 pub use Rattle.walk_engine.specs.walk_core.Waiting.{receive_ring, send_ring}
-pub use Rattle.walk_engine.specs.walk_core.Way.{CanTick, IsDue, IsNoneHeld, IsTold, Makes, Takes, next_in}
-pub use Rattle.walk_engine.specs.walk_core.Way.{said_at, take_by, take_moved, with_passed}
+pub use Rattle.walk_engine.specs.walk_core.EventAnswers.{CanTick, IsDue, IsNoneHeld, IsTold, Makes, Takes, next_in}
+pub use Rattle.walk_engine.specs.walk_core.EventAnswers.{said_at, take_by, take_moved, with_passed}
 pub use Rattle.walk_engine.specs.walk_parts.Return.{Return, and_moved, come, listed, moved_by, packet_cell, path_of}
 pub use Rattle.walk_engine.specs.walk_parts.Ringed.{Has, IsNext, IsPopped, Ringed, cell_at, cell_in, count_of, is_at}
 pub use Rattle.walk_engine.specs.walk_parts.Ringed.{leaves_open, popped_cells, ring_of, with_sign}

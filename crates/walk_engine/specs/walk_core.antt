@@ -6,5 +6,5 @@ pub mod Opened
 pub mod Landing
 pub mod Take
 pub mod Waiting
-pub mod Way
+pub mod EventAnswers
 pub mod Live

@@ -6,14 +6,14 @@ use Rattle.std.proofs.lemmas.Bool.{cases_Bool, eqb-false, eqb-true}
 use Rattle.std.proofs.lemmas.List.{get_or-set_other, get_or-set_same}
 use Rattle.std.proofs.lemmas.List.Elements.{All-head, All-tail}
 use Rattle.law_model.specs.declared.window_types.Window.{Window}
-use Rattle.law_live.specs.Common.{Course, closed, cut_at, uncut, windows_by}
+use Rattle.law_live.specs.Common.{LineCourse, closed, cut_at, uncut, windows_by}
 use Rattle.law_live.proofs.WindowLaws.{IsOpen}
 use Rattle.member_path.specs.failure_window.Open.{CanClose, closed_at, failure, last_end, opened_at}
 use Rattle.member_path.proofs.FailureWindowLaws.OpenLaws.{closed-append}
 
 -- ---- one line has others
-pub set-windows : (ticks lines m : ℕ) (lists : List (List Window)) (courses : List Course) (windows : List Window)
-    (course : Course) → m < length lists → m < length courses → windows ≡ windows_by ticks course →
+pub set-windows : (ticks lines m : ℕ) (lists : List (List Window)) (courses : List LineCourse) (windows : List Window)
+    (course : LineCourse) → m < length lists → m < length courses → windows ≡ windows_by ticks course →
     ((n : ℕ) → n < lines → slice_index_or lists n [] ≡ windows_by ticks (slice_index_or courses n (uncut []))) →
     (n : ℕ) → n < lines →
     slice_index_or (slice_set lists m windows) n []
@@ -43,10 +43,10 @@ pub over-end : (n : ℕ) (windows : List Window) → All (λ (window : Window). 
     last_end windows ≤ n
 over-end n windows over = last-low n 0 windows (omega arith) over
 
-pub uncut-windows : (ticks : ℕ) (course : Course) → course.cut ≡ None → windows_by ticks course ≡ course.windows
+pub uncut-windows : (ticks : ℕ) (course : LineCourse) → course.cut ≡ None → windows_by ticks course ≡ course.windows
 uncut-windows ticks course none = ap (closed ticks course.windows) none
 
-pub cut-windows : (ticks passed : ℕ) (course : Course) (windows : List Window) → course.cut ≡ None → passed < ticks →
+pub cut-windows : (ticks passed : ℕ) (course : LineCourse) (windows : List Window) → course.cut ≡ None → passed < ticks →
     windows ≡ windows_by ticks course →
     opened_at windows passed ticks ≡ windows_by ticks (cut_at passed course)
 cut-windows ticks passed course windows none left is =

@@ -11,7 +11,7 @@ use Rattle.terminal_group.specs.Place.{is_command, is_frame, place_of}
 use Rattle.law_live.specs.Common.{answers_text, counts_said, item_answers, item_at, lands, next_item, refused_answer}
 use Rattle.walk_engine.specs.walk_core.Landing.{landing_of}
 use Rattle.walk_engine.specs.walk_core.Moved.{counts_after, refusal_in_event, refusal_of_item}
-use Rattle.walk_engine.specs.walk_core.Way.{IsDue, next_in}
+use Rattle.walk_engine.specs.walk_core.EventAnswers.{IsDue, next_in}
 use Rattle.walk_live.specs.Replies.{step_line}
 use Rattle.walk_live.proofs.PlaceLaws.{place-command, place-frame}
 

@@ -17,7 +17,7 @@ use Rattle.law_live.proofs.TheoremLaws.{pass-free, pass-less, pass-turn}
 use Rattle.walk_engine.specs.walk_core.Live.{Walking, LiveRounds, LiveStands, walking_counts}
 use Rattle.walk_engine.specs.walk_core.Moved.{counts_after}
 use Rattle.law_walk.specs.Delivered.{delivered_since}
-use Rattle.walk_engine.specs.walk_core.Way.{IsNoneHeld}
+use Rattle.walk_engine.specs.walk_core.EventAnswers.{IsNoneHeld}
 use Rattle.walk_engine.proofs.WalkCoreLaws.RoundLaws.{tick-kept}
 use Rattle.walk_live.specs.Answered.{IsLegOf}
 use Rattle.walk_live.specs.Passing.{round_text, steps_text}

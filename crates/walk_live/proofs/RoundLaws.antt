@@ -1,39 +1,16 @@
 -- What the events of a round do to the ticks: those after its tick make none.
-use Rattle.std.proofs.Common.{◌≡◌, ℕ, zero, suc, nat_le, inl, inr, List, [], ◌∷◌, Option, Some, None, refl, ◌∙◌}
-use Rattle.std.proofs.Common.{arith, slice_get}
-use Rattle.std.proofs.lemmas.Bool.{cases_Bool}
-use Rattle.law_model.specs.Common.{Counts, LineCounts, LinePath, Plan, carries_from, is_back_full, pop_lines, run, step}
-use Rattle.law_model.specs.Common.{take_popped, take_row}
-use Rattle.law_model.specs.declared.walk_events.Event.TheVariants.{Back, Carry, Tick}
+use Rattle.std.proofs.Common.{◌≡◌, ℕ, zero, suc, List, refl, arith}
+use Rattle.law_model.specs.Common.{Counts, LinePath, Plan, carries_from, run, step}
+use Rattle.law_model.specs.declared.walk_events.Event.TheVariants.{Tick}
 use Rattle.law_live.specs.Common.{after_rounds, live_round}
-use Rattle.law_live.proofs.RoundLaws.{Goes, goes-back, goes-carry}
+use Rattle.law_live.proofs.RoundLaws.{Goes, goes-carries}
 
 same-ticks : (was now : Counts) → Goes 0 was now → now.ticks ≡ was.ticks
 same-ticks was now goes = let least = goes.ticks in let most = goes.most in omega (arith, least, most)
 
-popped-ticks : (s : Counts) (lines : List LineCounts) (waiting : Option ℕ) →
-    (take_popped s lines waiting).counts.ticks ≡ s.ticks
-popped-ticks s lines (Some line) = refl
-popped-ticks s lines None = refl
-
-take-ticks : (plan : Plan) (s : Counts) → (take_row plan s).counts.ticks ≡ s.ticks
-take-ticks plan s = elim (cases_Bool (nat_le plan.ticks s.rows)) [
-  | inl e ↦ rw e refl
-  | inr e ↦ rw e (elim (cases_Bool (is_back_full s)) [
-    | inl f ↦ rw f refl
-    | inr f ↦ rw f (popped-ticks s (pop_lines s.rows 0 plan.paths s.lines).lines
-        (pop_lines s.rows 0 plan.paths s.lines).waiting)
-  ])
-]
-
 pub carries-ticks : (plan : Plan) (m : ℕ) (paths : List LinePath) (s : Counts) →
     (run plan s (carries_from m paths)).ticks ≡ s.ticks
-unfolding run carries_from
-carries-ticks plan m [] s =
-    take-ticks plan (step plan s Back).counts ∙ same-ticks s (step plan s Back).counts (goes-back plan s)
-carries-ticks plan m (path ∷ paths) s =
-    carries-ticks plan (suc m) paths (step plan s (Carry m)).counts
-    ∙ same-ticks s (step plan s (Carry m)).counts (goes-carry plan s m (slice_get plan.paths m) (slice_get s.lines m))
+carries-ticks plan m paths s = same-ticks s (run plan s (carries_from m paths)) (goes-carries plan m paths s)
 
 -- ---- a round
 pub round-parts : (plan : Plan) (s : Counts) →

@@ -9,7 +9,7 @@ use Rattle.law_model.specs.declared.script_types.ItemKind.{ItemKind}
 use Rattle.law_model.specs.declared.window_types.Window.{Window}
 use Rattle.law_walk.specs.Common.{is_client, refusal_at, walk_plan}
 use Rattle.text_report.specs.Report.{refused_text}
-use Rattle.law_live.specs.Common.{Course, IsWellSaid, Live, Saying, answers_text, counts_said, course_at, cut_at, cuts}
+use Rattle.law_live.specs.Common.{LineCourse, IsWellSaid, Live, Saying, answers_text, counts_said, course_at, cut_at, cuts}
 use Rattle.law_live.specs.Common.{item_at, lands, leg_said, live_after, live_counts, live_of, mended_at, mends, next_item, now_text}
 use Rattle.law_live.specs.Common.{opened, passes, uncut, windows_by}
 use Rattle.law_live.proofs.SoundLaws.{right-all, right-opened, said-lines, said-sound}
@@ -21,7 +21,7 @@ use Rattle.walk_engine.specs.walk_core.Landing.{landing_of}
 use Rattle.walk_engine.specs.walk_core.Live.{IsLive, LiveMakes, LiveStands, Walking, walking_counts}
 use Rattle.walk_engine.specs.walk_core.Moved.{counts_after, refusal_in_event}
 use Rattle.walk_engine.specs.walk_core.Parts.{windows_in, windows_of}
-use Rattle.walk_engine.specs.walk_core.Way.{IsDue}
+use Rattle.walk_engine.specs.walk_core.EventAnswers.{IsDue}
 use Rattle.walk_live.specs.declared.answered_walk.AnsweredWalk.{AnsweredWalk}
 use Rattle.walk_live.specs.Answered.{IsAnswered, IsLegOf, WalksAs}
 use Rattle.walk_live.specs.Passing.{CanPass, CanRound, IsOtherwise, rounds_text}
@@ -66,7 +66,7 @@ module _ (walk : AnsweredWalk) (steps : Bool) (config : Config) (said : List Say
     now-windows m inside = is.walks.windows m (now-low m inside)
 
     -- a line has other windows, and it is another course
-    module _ (saying : Saying) (well : IsWellSaid config (said ++ saying ∷ [])) (m : ℕ) (course : Course)
+    module _ (saying : Saying) (well : IsWellSaid config (said ++ saying ∷ [])) (m : ℕ) (course : LineCourse)
         (windows : List Window) (now : Walking)
       where
         line-answered : m < length (live_of config said).courses →
@@ -109,7 +109,7 @@ module _ (walk : AnsweredWalk) (steps : Bool) (config : Config) (said : List Say
       pub cut-few : length (slice_index_or (windows_in walk.walk.way.lines) m []) < 256
       cut-few =
           let can = can-one config said (cuts m) well in
-          let course : Course = course_at (live_of config said) m in
+          let course : LineCourse = course_at (live_of config said) m in
           subst (λ l. length l < 256)
           (sym (now-windows m can.0.line ∙ uncut-windows config.ticks course can.1.uncut)) can.1.few
 
@@ -117,7 +117,7 @@ module _ (walk : AnsweredWalk) (steps : Bool) (config : Config) (said : List Say
       cut-after =
           let can = can-one config said (cuts m) well in
           let live : Live = live_of config said in
-          let course : Course = course_at live m in
+          let course : LineCourse = course_at live m in
           let low : last_end (slice_index_or (windows_in walk.walk.way.lines) m []) ≤ live.passed =
           subst (λ l. last_end l ≤ live.passed)
           (sym (now-windows m can.0.line ∙ uncut-windows config.ticks course can.1.uncut))
@@ -164,7 +164,7 @@ module _ (walk : AnsweredWalk) (steps : Bool) (config : Config) (said : List Say
       mend-cut =
           let can = can-one config said (mends m) well in
           let live : Live = live_of config said in
-          let course : Course = course_at live m in
+          let course : LineCourse = course_at live m in
           let own = slice_index_or (windows_in walk.walk.way.lines) m [] in
           subst (CanClose own) (sym now-ticks)
           (can-mend config.ticks live.passed course.windows course.cut own can.1 mend-open can.0.left
@@ -178,7 +178,7 @@ module _ (walk : AnsweredWalk) (steps : Bool) (config : Config) (said : List Say
       mend-answered now stands counts set =
           let can = can-one config said (mends m) well in
           let live : Live = live_of config said in
-          let course : Course = course_at live m in
+          let course : LineCourse = course_at live m in
           let own = slice_index_or (windows_in walk.walk.way.lines) m [] in
           line-answered (mends m) well m (mended_at live.passed course) (closed_at own (walking_counts walk.walk).ticks) now
           can.0.line (λ leg. refl) refl

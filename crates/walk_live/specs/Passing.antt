@@ -6,7 +6,7 @@ use Rattle.law_walk.specs.Common.{walk_plan}
 use Rattle.law_live.specs.Common.{IsWellSaid, Saying, answers_text, leg_said, live_counts, live_of, live_round, passes}
 use Rattle.law_live.specs.Common.{round_answers, rounds_answers, rounds_for, steps_between}
 use Rattle.walk_engine.specs.walk_core.Live.{AgreesNow, Walking, LiveStands, walking_counts}
-use Rattle.walk_engine.specs.walk_core.Way.{IsNoneHeld}
+use Rattle.walk_engine.specs.walk_core.EventAnswers.{IsNoneHeld}
 use Rattle.walk_live.specs.declared.answered_walk.AnsweredWalk.{AnsweredWalk}
 use Rattle.walk_live.specs.Answered.{IsAnswered}
 use Rattle.walk_live.specs.Replies.{step_line}

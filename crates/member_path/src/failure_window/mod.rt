@@ -4,11 +4,11 @@
 //! `Windows`; `fault_law`, `damage_law` and `slip_law` say it in full, and `open_law` and `close_law` what comes of
 //! windows that are opened and closed one by one.
 
-mod line_windows;
 mod window_fault;
 mod window_laws;
+mod window_list;
 
 pub use law_model::{Carried, Window};
-pub use line_windows::{Windows, greatest_slip};
 pub use window_fault::WindowFault;
 pub use window_laws::{close_law, damage_law, fault_law, open_law, slip_law};
+pub use window_list::{Windows, greatest_slip};

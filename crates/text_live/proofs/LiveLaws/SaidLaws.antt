@@ -31,7 +31,7 @@ use Rattle.text_live.specs.declared.live_keyword.FirstWord.{FirstWord}
 use Rattle.text_live.specs.declared.live_keyword.FirstWord.TheVariants as first
 use Rattle.text_live.specs.declared.live_keyword.EarlierPart.{EarlierPart}
 use Rattle.text_live.specs.declared.live_fault.LiveLineFault.TheVariants as wrong
-use Rattle.law_live.specs.Live.{Course, Live, course_at, cut_at, cuts, lands, live_after, mends, opened, passes, uncut, windows_by, with_course}
+use Rattle.law_live.specs.Live.{LineCourse, Live, course_at, cut_at, cuts, lands, live_after, mends, opened, passes, uncut, windows_by, with_course}
 use Rattle.law_live.specs.Common.{CanCut, CanSay, IsOfLine, Saying}
 use Rattle.law_live.proofs.WindowLaws.{ends-last}
 use Rattle.text_live.specs.LiveLines.{Said, LineWrong, of_script, of_limits, of_live, live_or}
@@ -43,7 +43,7 @@ use Rattle.text_live.proofs.LiveLaws.CourseLaws.{HasCourse, later-course, cut-co
 use Rattle.text_live.proofs.LiveLaws.ItemLaws.{HasItems, no_items, later_items, due_now, one_item}
 
 -- ---- live lines
-abbrev pub course_slip : Course → ℕ
+abbrev pub course_slip : LineCourse → ℕ
 course_slip course = slip_of course.windows
 
 pub record HasLive (k : ℕ) (c : Config) (live : Live) : Type 0 where
@@ -150,7 +150,7 @@ can_cut : (k : ℕ) (c : Config) (live : Live) (m : ℕ) → HasLive k c live �
     cut_fault c.ticks live.passed m (course_at live m) ≡ None →
     IsOfLine c.ticks live m × CanCut live.passed (course_at live m)
 can_cut k c live m has low none =
-    let course : Course = course_at live m in
+    let course : LineCourse = course_at live m in
     let passed : ℕ = live.passed in
     let count : ℕ = count_by (length course.windows) course.cut in
     let end : ℕ = last_end course.windows in
@@ -175,7 +175,7 @@ can_mend : (k : ℕ) (c : Config) (live : Live) (m : ℕ) → HasLive k c live �
     mend_fault c.ticks live.passed m (course_at live m) ≡ None →
     IsOfLine c.ticks live m × IsSome (course_at live m).cut
 can_mend k c live m has low none =
-    let course : Course = course_at live m in
+    let course : LineCourse = course_at live m in
     let parts = or_none (ended_fault c.ticks live.passed) (where_true (is_none course.cut) (wrong.NotCut m)) none in (
       record { left = goes_on c.ticks live.passed has.passed parts.0; line = low },
       is_cut course.cut (where_none (is_none course.cut) (wrong.NotCut m) parts.1),
@@ -213,7 +213,7 @@ can_say k c live w ws has none =
     )
 
 -- ---- what is said with it
-same_slips : (courses : List Course) (m : ℕ) (course : Course) →
+same_slips : (courses : List LineCourse) (m : ℕ) (course : LineCourse) →
     course_slip course ≡ course_slip (slice_index_or courses m (uncut [])) →
     map course_slip (slice_set courses m course) ≡ map course_slip courses
 same_slips [] m course same = refl
@@ -221,7 +221,7 @@ same_slips (c ∷ courses) zero course same = ap (λ (n : ℕ). n ∷ map course
 same_slips (c ∷ courses) (suc m) course same =
     ap (λ (ns : List ℕ). course_slip c ∷ ns) (same_slips courses m course same)
 
-has_course : (k : ℕ) (c : Config) (live : Live) (m : ℕ) (course : Course) → HasLive k c live →
+has_course : (k : ℕ) (c : Config) (live : Live) (m : ℕ) (course : LineCourse) → HasLive k c live →
     HasCourse c.ticks live.passed course → course_slip course ≡ course_slip (course_at live m) →
     HasLive (k + 1) c (with_course live m course)
 has_course k c live m course has is same = record {
@@ -254,13 +254,13 @@ has_after k c live (lands kind) has can = record {
   few = omega (arith, has.few, length-append live.items (due_now live.passed kind ∷ []));
 }
 has_after k c live (cuts m) has can =
-    let course : Course = course_at live m in
+    let course : LineCourse = course_at live m in
     has_course k c live m (cut_at live.passed course) has
     (cut-course c.ticks live.passed course (course_of k c live m has can.0.line) can.0.left
     (last-over live.passed course.windows can.1.over) can.1.few)
     refl
 has_after k c live (mends m) has can =
-    let course : Course = course_at live m in
+    let course : LineCourse = course_at live m in
     has_course k c live m (uncut (windows_by live.passed course)) has
     (mended-course c.ticks live.passed course has.passed (course_of k c live m has can.0.line))
     (slip-by live.passed course)

@@ -14,7 +14,7 @@ use Rattle.law_model.specs.declared.script_types.Script.{Script}
 use Rattle.law_model.specs.declared.script_types.EventLine.{EventLine}
 use Rattle.law_model.specs.declared.script_types.EventLine.TheVariants.{Client, Operator, Round}
 use Rattle.text_scripts.proofs.ScriptReadLaws.RowLaws.{All-none}
-use Rattle.law_live.specs.Live.{Course, Live, commands_in, frames_in, windows_by}
+use Rattle.law_live.specs.Live.{LineCourse, Live, commands_in, frames_in, windows_by}
 use Rattle.law_live.specs.LiveScript.{config_by, counted, events_by}
 use Rattle.text_live.specs.LiveLines.{Said, LineWrong, now_live, nothing_said, live_lines}
 use Rattle.text_live.specs.LiveScript.{script_in, script_of_live}
@@ -22,7 +22,7 @@ use Rattle.text_live.proofs.LiveLaws.CourseLaws.{failures-by, slip-by}
 use Rattle.text_live.proofs.LiveLaws.SaidLaws.{HasLive, HasWhole, course_slip, begins, all_lines}
 
 -- ---- the configuration
-same_slips : (passed : ℕ) (courses : List Course) →
+same_slips : (passed : ℕ) (courses : List LineCourse) →
     map slip_of (map (windows_by passed) courses) ≡ map course_slip courses
 same_slips passed [] = refl
 same_slips passed (course ∷ courses) =

@@ -14,7 +14,7 @@ use Rattle.text_live.specs.declared.live_fault.LiveLineFault.{LiveLineFault}
 use Rattle.text_live.specs.declared.live_line.LiveLine.TheVariants as line
 use Rattle.text_live.specs.declared.read_live_line.LineState.{LineState}
 use Rattle.text_live.specs.declared.read_live_line.LiveState.{LiveState}
-use Rattle.law_live.specs.Live.{Course, Live, closed, course_at, cut_at, cuts, live_after, mends, uncut, windows_by, with_course}
+use Rattle.law_live.specs.Live.{LineCourse, Live, closed, course_at, cut_at, cuts, live_after, mends, uncut, windows_by, with_course}
 use Rattle.text_live.specs.LiveLines.{happens, one_fault, own_fault}
 use Rattle.text_live.specs.LiveLines.{cut_fault, cut_fault_by, mend_fault, mend_fault_by}
 use Rattle.text_live.specs.Reading.{Keeps, IsKept, HasFew, Reads, mended_by, mended_state, state_of}
@@ -38,7 +38,7 @@ mended-by passed windows (Some start) =
       | inr least ↦ rw (le-ltb start passed least) refl
     ]
 
-mended : (passed : ℕ) (course : Course) →
+mended : (passed : ℕ) (course : LineCourse) →
     mended_state passed (state_of course) ≡ state_of (uncut (windows_by passed course))
 mended passed course = mended-by passed course.windows course.cut
 
@@ -53,7 +53,7 @@ line_kept old c live m l keeps low is =
     ∙ get_or-map state_of live.courses m (uncut []) l
     (omega (arith, low, lines_count old c live keeps, keeps.count))
 
-keeps_line : (old now : LiveState) (c : Config) (live : Live) (m : ℕ) (new : LineState) (course : Course) →
+keeps_line : (old now : LiveState) (c : Config) (live : Live) (m : ℕ) (new : LineState) (course : LineCourse) →
     Keeps old c live → now.ticks ≡ old.ticks → now.passed ≡ old.passed →
     now.lines.items ≡ slice_set old.lines.items m new → new ≡ state_of course →
     Keeps now c (with_course live m course)
@@ -154,7 +154,7 @@ opened_kept state c lists network all lines ticks passed =
       lines = omega (arith, size, network.lines.1);
       few = subst (All HasFew) (sym same)
           (All-map HasFew state_of (map uncut c.windows)
-          (All-map (λ (course : Course). HasFew (state_of course)) uncut c.windows
+          (All-map (λ (course : LineCourse). HasFew (state_of course)) uncut c.windows
           (λ i d low. let few = (network.windows i d low).few in omega (arith, few))));
       ticks = omega (arith, ticks, network.ticks.1);
       passed = omega (arith, passed);

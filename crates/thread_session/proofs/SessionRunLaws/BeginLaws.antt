@@ -17,7 +17,7 @@ use Rattle.thread_rings.specs.Ends.{OutEnd, InEnd, in_passed, SameOut, SameIn}
 use Rattle.terminal_source.specs.source_core.Given.{IsFresh, SourceStands as HasMade}
 use Rattle.law_walk.specs.Common.{Numbered, is_client, landed_from, landed_items, landed_scenario}
 use Rattle.thread_group.specs.declared.group_state.GroupState.{GroupState}
-use Rattle.terminal_group.specs.Inbox.{told_from}
+use Rattle.terminal_group.specs.ReturnInbox.{told_from}
 use Rattle.thread_group.specs.Journal.{of_client, of_operator}
 use Rattle.thread_group.specs.Rings.{SameOuts, SameIns, AreUnused}
 use Rattle.thread_group.specs.Parts.{ArePast}

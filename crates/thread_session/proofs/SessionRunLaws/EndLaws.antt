@@ -35,7 +35,7 @@ use Rattle.thread_rings.specs.declared.line_worker.LineWorker.{LineWorker}
 use Rattle.thread_group.specs.declared.group_state.GroupState.{GroupState}
 use Rattle.thread_group.specs.Group.{ticks_of, items_of, lag_of, frames_of, commands_of, journal_of, refusals_of}
 use Rattle.thread_group.specs.Group.{taken_of, totals_of}
-use Rattle.terminal_group.specs.Inbox.{told_taken}
+use Rattle.terminal_group.specs.ReturnInbox.{told_taken}
 use Rattle.thread_group.specs.Journal.{items_in, of_client, of_operator}
 use Rattle.thread_group.specs.Session.{counts_of, refusal_by, refusals_by, accepted_frames_by, accepted_commands_by}
 use Rattle.terminal_group.proofs.BareLaws.{bare-dues}

@@ -9,7 +9,7 @@ use Rattle.law_model.specs.declared.script_types.Options.{Options}
 use Rattle.member_cells.specs.declared.containers_and_cells.BackCell.TheVariants.{Packet as Nibbles}
 use Rattle.law_terminal.specs.Course.{back_of, told_of}
 use Rattle.law_terminal.proofs.ListLaws.{same-range}
-use Rattle.terminal_group.specs.Inbox.{come_by, come_from, told_taken}
+use Rattle.terminal_group.specs.ReturnInbox.{come_by, come_from, told_taken}
 use Rattle.terminal_group.proofs.CellLaws.{taken-more}
 
 -- return cells that are given by their numbers, and what comes of them

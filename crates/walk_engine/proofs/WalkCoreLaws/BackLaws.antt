@@ -20,7 +20,7 @@ use Rattle.walk_engine.specs.Common.{Return, path_of, packet_cell, come, and_mov
 use Rattle.walk_engine.specs.Common.{counts_after, Parts, counts_of, HasBack, LiveStands, walking_of}
 use Rattle.walk_engine.specs.declared.walk_core.step_answers.StepNote.{StepNote}
 use Rattle.walk_engine.specs.declared.walk_core.step_answers.Moved.TheVariants.{Yes, Stalled}
-use Rattle.terminal_group.specs.Inbox.{Inbox, with_come, is_lost_in}
+use Rattle.terminal_group.specs.ReturnInbox.{Inbox, with_come, is_lost_in}
 use Rattle.walk_engine.proofs.WalkCoreLaws.EventLaws.{walk-fits, walked-next, stands-back}
 
 pub ring-size : (leg : Leg) (s : Counts) → length (return_ring leg s) ≡ in_return s

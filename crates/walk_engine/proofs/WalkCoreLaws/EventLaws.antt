@@ -20,7 +20,7 @@ use Rattle.terminal_group.specs.declared.landed_counts.LandedCounts.{LandedCount
 use Rattle.terminal_source.specs.source_core.Terminal.{Terminal}
 use Rattle.walk_engine.specs.Common.{answer_by, counts_after, Parts, counts_of, HasSource, HasCounted, HasLanded}
 use Rattle.walk_engine.specs.declared.walk_core.step_answers.Moved.TheVariants.{Stalled}
-use Rattle.terminal_group.specs.Inbox.{Inbox}
+use Rattle.terminal_group.specs.ReturnInbox.{Inbox}
 use Rattle.walk_engine.specs.walk_core.Parts.{HasSink, WayStands}
 
 pub walked-next : (leg : Leg) (s next : Counts) (event : Event) → IsWalked leg s →

@@ -30,7 +30,7 @@ use Rattle.law_walk.proofs.SourceLaws.{meets-stream, meets-source}
 use Rattle.law_walk.proofs.ReportLaws.{frame-placed, command-placed, frame-totals, command-totals}
 use Rattle.terminal_group.specs.Counted.{Counted, SameNetwork, and_one, with_landed}
 use Rattle.terminal_group.specs.declared.landed_counts.LandedCounts.{LandedCounts}
-use Rattle.terminal_group.specs.Inbox.{Inbox}
+use Rattle.terminal_group.specs.ReturnInbox.{Inbox}
 use Rattle.terminal_group.specs.Landed.{Landed, none_landed, next_number, next_place, there_at, due_at, HasPassed}
 use Rattle.terminal_group.specs.Lands.{met_by, with_kind}
 use Rattle.terminal_group.specs.Place.{is_frame, is_command, place_of}

@@ -26,7 +26,7 @@ use Rattle.law_walk.specs.Common.{refusal_at, is_accepted_frame, is_accepted_com
 use Rattle.law_walk.proofs.PlanLaws.{has-paths, sound-walks}
 use Rattle.law_walk.proofs.WalkLaws.{begins-walked}
 use Rattle.terminal_group.specs.Item.{bare_items}
-use Rattle.terminal_group.specs.Inbox.{Inbox, empty_inbox}
+use Rattle.terminal_group.specs.ReturnInbox.{Inbox, empty_inbox}
 use Rattle.terminal_group.specs.Landed.{Landed, none_landed}
 use Rattle.terminal_group.specs.Counted.{none_counted}
 use Rattle.terminal_group.specs.declared.landed_counts.LandedCounts.{LandedCounts}

@@ -30,7 +30,7 @@ use Rattle.law_walk.proofs.SourceLaws.{told-frames}
 use Rattle.law_walk.proofs.StepLaws.{last-next, used-now, said-ends, table-now}
 use Rattle.law_walk.proofs.ReturnLaws as return_laws
 use Rattle.law_model.proofs.ListLaws.{drop-next}
-use Rattle.terminal_group.specs.Inbox.{Inbox, cell_for, rest_for}
+use Rattle.terminal_group.specs.ReturnInbox.{Inbox, cell_for, rest_for}
 use Rattle.terminal_group.specs.Counted.{Counted, SameCounts, missing_from}
 use Rattle.terminal_group.specs.declared.landed_counts.LandedCounts.{LandedCounts}
 use Rattle.terminal_group.specs.Source.{missing_by}

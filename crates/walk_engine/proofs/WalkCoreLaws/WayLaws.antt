@@ -4,7 +4,7 @@ use Rattle.law_model.specs.Common.{Leg}
 use Rattle.law_model.specs.declared.walk_events.Event.{Event}
 use Rattle.terminal_sink.specs.declared.sink_core.sink_terminal.TakeAnswer.{TakeAnswer}
 use Rattle.terminal_source.specs.source_core.Terminal.{SameKind, needed, needed_at}
-use Rattle.terminal_group.specs.Inbox.{Inbox, cell_for, rest_for}
+use Rattle.terminal_group.specs.ReturnInbox.{Inbox, cell_for, rest_for}
 use Rattle.terminal_group.specs.Counted.{Counted, missing_from}
 use Rattle.terminal_group.specs.Source.{missing_by}
 use Rattle.terminal_group.specs.Landed.{Landed}

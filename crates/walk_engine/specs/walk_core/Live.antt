@@ -13,7 +13,7 @@ use Rattle.walk_engine.specs.declared.walk_core.step_answers.StepNote.{StepNote}
 use Rattle.walk_engine.specs.walk_core.Moved.{counts_after, moved_of}
 use Rattle.walk_engine.specs.walk_core.Parts.{Parts, WayStands, HasBack, HasLanded, counts_of, note_of}
 use Rattle.walk_engine.specs.walk_core.Parts.{AgreesAt, windows_in}
-use Rattle.walk_engine.specs.walk_core.Way.{IsNoneHeld}
+use Rattle.walk_engine.specs.walk_core.EventAnswers.{IsNoneHeld}
 
 -- its direction; the return packets that were said and haven't come; the last decision step
 pub record Walking : Type 0 where

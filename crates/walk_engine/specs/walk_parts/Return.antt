@@ -3,7 +3,7 @@ use Rattle.std.specs.Prelude.{ℕ, ◌+◌, Bool, List, [], ◌∷◌, ◌++◌,
 use Rattle.law_model.specs.Common.{BackCell, packet_nibbles}
 use Rattle.law_model.specs.declared.control_packet.Packet.{Packet}
 use Rattle.member_cells.specs.declared.containers_and_cells.BackCell.TheVariants.{Packet as Nibbles}
-use Rattle.terminal_group.specs.Inbox.{Inbox, is_lost_in, come_by}
+use Rattle.terminal_group.specs.ReturnInbox.{Inbox, is_lost_in, come_by}
 
 -- the return packets that haven't come, oldest first; the return windows; the return cells that have come and weren't
 -- taken, for which

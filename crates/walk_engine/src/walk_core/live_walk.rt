@@ -16,7 +16,7 @@ ghost use Rattle.walk_engine.specs.walk_core.Moved.{answer_by, refusal_in_event,
 ghost use Rattle.walk_engine.specs.walk_core.Opened.{HasWindows};
 ghost use Rattle.walk_engine.specs.walk_core.Parts.{note_of, windows_in};
 ghost use Rattle.walk_engine.specs.walk_core.Take.{take_cause};
-ghost use Rattle.walk_engine.specs.walk_core.Way.{IsDue, IsNoneHeld};
+ghost use Rattle.walk_engine.specs.walk_core.EventAnswers.{IsDue, IsNoneHeld};
 
 use crate::walk_core::one_way::WayCore;
 use crate::walk_core::step_answers::{Moved, StepNote};

@@ -14,7 +14,7 @@ ghost use Rattle.member_path.specs.failure_window.Open.{CanClose, closed_at, las
 ghost use Rattle.terminal_sink.specs.marked_delineator.Marks.{first_place};
 ghost use Rattle.law_walk.specs.Common.{session_of, session_rows, is_client, totals_of, walk_plan};
 ghost use Rattle.law_walk.specs.Common.{popped_cells};
-ghost use Rattle.terminal_group.specs.Inbox.{empty_inbox, with_come, cell_for, rest_for};
+ghost use Rattle.terminal_group.specs.ReturnInbox.{empty_inbox, with_come, cell_for, rest_for};
 ghost use Rattle.terminal_group.specs.Item.{kind_of};
 ghost use Rattle.terminal_group.specs.Counted.{missing_from};
 ghost use Rattle.walk_engine.specs.walk_core.Landing.{landing_of};
@@ -24,7 +24,7 @@ ghost use Rattle.walk_engine.specs.walk_core.Opened.{HasWindows, IsNew, IsAlike}
 ghost use Rattle.walk_engine.specs.walk_core.Parts.{counts_of, line_counts, windows_in, WayStands, StandsForSome};
 ghost use Rattle.walk_engine.specs.walk_core.Take.{take_cause};
 ghost use Rattle.walk_engine.specs.walk_core.Waiting.{send_ring, receive_ring};
-ghost use Rattle.walk_engine.specs.walk_core.Way.{Makes, IsDue, with_passed, CanTick, Takes};
+ghost use Rattle.walk_engine.specs.walk_core.EventAnswers.{Makes, IsDue, with_passed, CanTick, Takes};
 
 use crate::walk_core::open_way::{Ends, Opened, Paths, SENDS, open};
 use crate::walk_core::send_rings::{carry_on, carry_stall, first_full, frame_at, next_place};

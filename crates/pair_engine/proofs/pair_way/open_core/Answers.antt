@@ -1,6 +1,6 @@
 -- The script's direction, with twice the lag.
 use Rattle.std.proofs.Common.{◌*◌, ◌∙◌, ap}
-use Rattle.terminal_group.specs.Inbox.{empty_inbox}
+use Rattle.terminal_group.specs.ReturnInbox.{empty_inbox}
 use Rattle.law_pair.specs.Common.{way_of}
 use Rattle.pair_engine.proofs.OpenLaws.{way-alike}
 use Rattle.pair_engine.proofs.pair_way.open_core.Goals as goal

@@ -1,6 +1,6 @@
 -- None of the windows so far holds the packet.
 use Rattle.std.proofs.Common.{◌≡◌, drop}
-use Rattle.terminal_group.specs.Inbox.{is_lost_in}
+use Rattle.terminal_group.specs.ReturnInbox.{is_lost_in}
 use Rattle.terminal_group.proofs.return_inbox.is_lost.Given as goal
 
 abbrev pub invariant-loop-window : goal.invariant-loop-window

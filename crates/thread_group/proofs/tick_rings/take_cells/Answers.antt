@@ -5,7 +5,7 @@ use Rattle.std.proofs.lemmas.List.{length_push}
 use Rattle.law_model.specs.Common.{one_more, BackCell}
 use Rattle.thread_rings.specs.Ends.{InEnd, in_passed, SameIn}
 use Rattle.thread_rings.proofs.EndLaws.{in-then}
-use Rattle.terminal_group.specs.Inbox.{is_lost_in, Inbox, come_by, with_come, HasCome}
+use Rattle.terminal_group.specs.ReturnInbox.{is_lost_in, Inbox, come_by, with_come, HasCome}
 use Rattle.terminal_group.specs.Source.{Source}
 use Rattle.thread_group.specs.Rings.{HasMoved}
 use Rattle.terminal_group.proofs.CellLaws.{come-put}

@@ -1,7 +1,7 @@
 -- A frame was made of the cell that it needs.
 use Rattle.std.proofs.Common.{◌≡◌, ◌<◌, None, sym, ◌∙◌, ap, subst, arith, is_some}
 use Rattle.terminal_source.specs.source_core.Terminal.{needed}
-use Rattle.terminal_group.specs.Inbox.{cell_for}
+use Rattle.terminal_group.specs.ReturnInbox.{cell_for}
 use Rattle.terminal_group.specs.Source.{missing_by}
 use Rattle.terminal_group.specs.Counted.{Counted, missing_from}
 use Rattle.terminal_group.proofs.CellLaws.{cell-for}

@@ -1,6 +1,6 @@
 -- Nothing has come yet.
 use Rattle.std.proofs.Common.{refl, ◌∙◌, ap}
-use Rattle.terminal_group.specs.Inbox.{empty_inbox}
+use Rattle.terminal_group.specs.ReturnInbox.{empty_inbox}
 use Rattle.terminal_group.proofs.counted_source.CountedSource.new.Goals as goal
 
 pub invariant_of-result : goal.invariant_of-result

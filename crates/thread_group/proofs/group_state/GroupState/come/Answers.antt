@@ -2,7 +2,7 @@
 use Rattle.std.proofs.Common.{length, inl, inr, refl, sym, ◌∙◌, ap, subst}
 use Rattle.terminal_source.specs.source_core.Terminal.{Terminal}
 use Rattle.thread_rings.specs.Ends.{in_passed}
-use Rattle.terminal_group.specs.Inbox.{told_taken}
+use Rattle.terminal_group.specs.ReturnInbox.{told_taken}
 use Rattle.terminal_group.specs.Landed.{Landed}
 use Rattle.terminal_group.specs.Source.{Source}
 use Rattle.thread_group.specs.Parts.{parts, Keeps}

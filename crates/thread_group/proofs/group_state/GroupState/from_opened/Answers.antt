@@ -1,6 +1,6 @@
 -- Nothing has come of the group yet.
 use Rattle.std.proofs.Common.{◌≡◌, length, sym, ◌∙◌, ap, arith}
-use Rattle.terminal_group.specs.Inbox.{Inbox, empty_inbox}
+use Rattle.terminal_group.specs.ReturnInbox.{Inbox, empty_inbox}
 use Rattle.terminal_group.specs.Landed.{Landed}
 use Rattle.thread_group.specs.Parts.{Parts, parts}
 use Rattle.thread_group.proofs.KeepLaws.{keeps-begin}

@@ -7,7 +7,7 @@ use Rattle.terminal_source.specs.source_core.Terminal.{Terminal}
 use Rattle.law_walk.specs.Common.{is_client, IsPlaced, refused_by}
 use Rattle.terminal_group.specs.Item.{kind_of}
 use Rattle.thread_rings.specs.Ends.{OutEnd, InEnd}
-use Rattle.terminal_group.specs.Inbox.{Inbox}
+use Rattle.terminal_group.specs.ReturnInbox.{Inbox}
 use Rattle.terminal_group.specs.Source.{Source, SameRest}
 use Rattle.thread_group.specs.Journal.{Journal, entry_of}
 use Rattle.thread_group.specs.Parts.{parts, scenario_in, told_in_parts, Keeps}

@@ -1,7 +1,7 @@
 -- The item is landed by the direction.
 use Rattle.std.proofs.Common.{sym, ◌∙◌, ap, subst}
 use Rattle.law_walk.specs.Common.{is_client}
-use Rattle.terminal_group.specs.Inbox.{Inbox}
+use Rattle.terminal_group.specs.ReturnInbox.{Inbox}
 use Rattle.terminal_group.specs.Item.{kind_of}
 use Rattle.walk_engine.specs.Common.{IsDue, Walking, LiveStands, Parts, counts_of, landing_of, walking_counts, walking_of}
 use Rattle.walk_engine.specs.Common.{refusal_in_event, windows_in}

@@ -4,7 +4,7 @@ use Rattle.law_model.specs.Common.{step}
 use Rattle.law_model.specs.declared.walk_events.Event.TheVariants.{Tick}
 use Rattle.law_walk.specs.Common.{walk_plan}
 use Rattle.terminal_group.specs.Counted.{missing_from}
-use Rattle.terminal_group.specs.Inbox.{Inbox}
+use Rattle.terminal_group.specs.ReturnInbox.{Inbox}
 use Rattle.walk_engine.specs.Common.{AgreesNow, Walking, LiveStands, Parts, counts_of, walking_counts, windows_in}
 use Rattle.walk_engine.proofs.WalkCoreLaws.TickLaws.{tick-stays, can-tick, tick-live}
 use Rattle.walk_engine.proofs.WalkCoreLaws.WayLaws.{is-live, way-stands, live-from}

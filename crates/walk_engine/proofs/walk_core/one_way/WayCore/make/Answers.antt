@@ -5,7 +5,7 @@ use Rattle.member_cells.specs.Held.{held}
 use Rattle.law_model.specs.Common.{steps_in, frame_of}
 use Rattle.terminal_source.specs.source_core.Terminal.{SameKind, needed}
 use Rattle.terminal_source.specs.source_core.Given.{with_cell}
-use Rattle.terminal_group.specs.Inbox.{cell_for, rest_for}
+use Rattle.terminal_group.specs.ReturnInbox.{cell_for, rest_for}
 use Rattle.terminal_group.specs.Counted.{Counted, SameCounts, missing_from}
 use Rattle.walk_engine.specs.walk_core.Parts.{WayStands}
 use Rattle.walk_engine.specs.Common.{Parts, sent_frames, CanTick, with_passed}

@@ -1,7 +1,7 @@
 -- The first window that ends above a container names it, or none does.
 use Rattle.std.proofs.Common.{◌∙◌, sym}
 use Rattle.member_path.proofs.FailureWindowLaws.WindowLaws.{first-ends, first-in, first-before, first-none}
-use Rattle.member_path.proofs.failure_window.line_windows.carried_by_first.Goals as goal
+use Rattle.member_path.proofs.failure_window.window_list.carried_by_first.Goals as goal
 
 pub carried_in_window-requires : goal.carried_in_window-requires
 carried_in_window-requires c = first-ends c.args.list.now c.args.n c.in-Some.window.now c.requires

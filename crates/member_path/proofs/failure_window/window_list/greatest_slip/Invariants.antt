@@ -1,7 +1,7 @@
 -- The sums so far, and those of the windows that are left.
 use Rattle.std.proofs.Common.{◌≡◌, ◌≤◌, max, drop}
 use Rattle.law_model.specs.Common.{AreWindows, slip_after, slip_of}
-use Rattle.member_path.proofs.failure_window.line_windows.greatest_slip.Given as goal
+use Rattle.member_path.proofs.failure_window.window_list.greatest_slip.Given as goal
 
 abbrev pub invariant-loop-window : goal.invariant-loop-window
 invariant-loop-window l = record {

@@ -1,7 +1,7 @@
 -- A list without a fault has its windows in order and apart.
 use Rattle.std.proofs.Common.{◌∙◌, sym}
 use Rattle.member_path.proofs.FailureWindowLaws.FaultLaws.{none-are}
-use Rattle.member_path.proofs.failure_window.line_windows.Windows.new.Goals as goal
+use Rattle.member_path.proofs.failure_window.window_list.Windows.new.Goals as goal
 
 pub invariant_of-result : goal.invariant_of-result
 invariant_of-result c = record {

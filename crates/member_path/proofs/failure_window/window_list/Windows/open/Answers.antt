@@ -3,7 +3,7 @@ use Rattle.std.proofs.Common.{◌≤◌, arith}
 use Rattle.law_model.specs.declared.window_types.Window.{Window}
 use Rattle.member_path.specs.failure_window.Open.{last_end}
 use Rattle.member_path.proofs.FailureWindowLaws.OpenLaws.{are-append}
-use Rattle.member_path.proofs.failure_window.line_windows.Windows.open.Goals as goal
+use Rattle.member_path.proofs.failure_window.window_list.Windows.open.Goals as goal
 
 pub invariant_of-self : goal.invariant_of-self
 invariant_of-self c =
