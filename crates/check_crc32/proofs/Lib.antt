@@ -1,6 +1,6 @@
-pub mod CheckLaws
-pub mod SplitLaws
-pub mod OrderLaws
-pub mod RegisterLaws
-pub mod StandsLaws
-pub mod TableLaws
+pub mod CheckBitsLaws
+pub mod DivisionInPartsLaws
+pub mod BitOrderLaws
+pub mod RegisterBitsLaws
+pub mod RegisterStandsLaws
+pub mod OctetTablesLaws

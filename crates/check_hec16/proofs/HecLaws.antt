@@ -1,7 +1,7 @@
 -- The check as bits and as a number.
 use Rattle.std.proofs.Common.{◌≡◌, ℕ, ◌^◌, ◌<◌, length, sym, ◌∙◌, ap, mod-eq_of_lt}
 use Rattle.check_remainder.specs.Bits.{bits, number}
-use Rattle.check_remainder.proofs.BitLaws.{length-bits, bits-number, number-bits}
+use Rattle.check_remainder.proofs.NumberBitsLaws.{length-bits, bits-number, number-bits}
 use Rattle.check_remainder.proofs.RemainderLaws.{length-remainder}
 use Rattle.check_hec16.specs.Hec.{crc16, hec_bits, hec_of}
 

@@ -1,2 +1,2 @@
-pub mod CheckLaws
-pub mod LockLaws
+pub mod NibbleCheckLaws
+pub mod CellsInStepLaws

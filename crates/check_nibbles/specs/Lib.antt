@@ -1,2 +1,2 @@
-pub mod Check
-pub mod Lock
+pub mod NibbleCheck
+pub mod MultiframeLock

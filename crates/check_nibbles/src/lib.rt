@@ -6,8 +6,8 @@
 ghost use Rattle.std.specs.Prelude.{◌≡◌, ◌+◌, ◌*◌, ◌/◌, ◌%◌, ◌<◌, Bool, List, All};
 ghost use Rattle.check_remainder.specs.Bits.{bits};
 ghost use Rattle.check_remainder.specs.Remainder.{IsRemainder};
-ghost use Rattle.check_remainder.specs.Table.{nibble_bits};
-ghost use Rattle.check_nibbles.specs.Check.{crc8_lower, crc8_of};
+ghost use Rattle.check_remainder.specs.DivisionTable.{nibble_bits};
+ghost use Rattle.check_nibbles.specs.NibbleCheck.{crc8_lower, crc8_of};
 
 use check_remainder::remainder_of_nibbles;
 

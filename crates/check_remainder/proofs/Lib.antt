@@ -1,8 +1,8 @@
 pub mod XorLaws
-pub mod DivisionLaws
+pub mod LongDivisionLaws
 pub mod RemainderLaws
-pub mod BitLaws
-pub mod OctetLaws
-pub mod TableLaws
-pub mod CountLaws
-pub mod MedialLaws
+pub mod NumberBitsLaws
+pub mod OctetBitsLaws
+pub mod NibbleTableLaws
+pub mod BitCountLaws
+pub mod FourListsXorLaws

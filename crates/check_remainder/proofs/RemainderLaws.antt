@@ -7,8 +7,8 @@ use Rattle.check_remainder.specs.Bits.{xors}
 use Rattle.check_remainder.specs.Remainder.{IsRemainder, times, divide, remainder}
 use Rattle.check_remainder.proofs.XorLaws.{length_xors, xors_comm, xors_twice, xors-append, xors-zeros, xors-zeros_right}
 use Rattle.check_remainder.proofs.XorLaws.{xors_zero}
-use Rattle.check_remainder.proofs.DivisionLaws.{divide-xors, divide-zeros, divide-add, divide-append, length-divide}
-use Rattle.check_remainder.proofs.DivisionLaws.{length-times, divide-times, divided}
+use Rattle.check_remainder.proofs.LongDivisionLaws.{divide-xors, divide-zeros, divide-add, divide-append, length-divide}
+use Rattle.check_remainder.proofs.LongDivisionLaws.{length-times, divide-times, divided}
 
 pub length-remainder : (lower word : List Bool) → length (remainder lower word) ≡ length lower
 length-remainder lower word =

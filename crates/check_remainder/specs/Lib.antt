@@ -1,4 +1,4 @@
 pub mod Bits
 pub mod Remainder
-pub mod Table
-pub mod Count
+pub mod DivisionTable
+pub mod BitCount

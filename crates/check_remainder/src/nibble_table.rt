@@ -3,7 +3,7 @@ ghost use Rattle.std.specs.Prelude.{◌≡◌, ◌^◌, ◌<◌, ◌≤◌, nat_
 ghost use Rattle.std.specs.List.{list_all};
 ghost use Rattle.check_remainder.specs.Bits.{bits};
 ghost use Rattle.check_remainder.specs.Remainder.{remainder};
-ghost use Rattle.check_remainder.specs.Table.{IsTable, nibble_bits};
+ghost use Rattle.check_remainder.specs.DivisionTable.{IsTable, nibble_bits};
 
 /// The remainder of a word with a nibble behind it, from that of the word, which is `register`. `table` has the
 /// remainders of the nibbles by the generator, whose degree is `DEGREE`.

@@ -2,7 +2,7 @@
 -- `first` is the sink then, and `earlier` what had been said.
 use Rattle.std.specs.Prelude.{◌≡◌, ℕ, List, [], ◌++◌, length, Option, Some, Ok, Err}
 use Rattle.law_model.specs.Common.{Appends, AppendsPart}
-use Rattle.text_got.specs.Told.{Holds}
+use Rattle.text_got.specs.TextSoFar.{Holds}
 use Rattle.command_parts.specs.declared.conversation.Listener.{Listener}
 use Rattle.command_parts.specs.declared.stop_and_status.Stop.{Stop}
 use Rattle.command_parts.specs.declared.stop_and_status.Stop.TheVariants.{Read, TooLong, Refused, Write, Memory}

@@ -2,7 +2,7 @@
 use Rattle.std.specs.Prelude.{◌≡◌, ◌⊎◌, ℕ, ◌<◌, ◌≤◌, List, [], ◌++◌, length, Option, Some, None, IfSome, codes}
 use Rattle.std.specs.Io.KnownBytes.{prepend_known}
 use Rattle.law_model.specs.Common.{one_more, GivesAll, Appends, AppendsPart, Tells, longest_input}
-use Rattle.text_got.specs.Told.{AppendsSome}
+use Rattle.text_got.specs.TextSoFar.{AppendsSome}
 use Rattle.command_parts.specs.declared.stop_and_status.Refusal.{Refusal}
 use Rattle.command_parts.specs.Talk.{Said, Talk, TalkEnd, faulty, long, said}
 use Rattle.command_parts.specs.Task.{Answer, Task, writes, writes_both, refuses, exceeds, none, reads, makes, talks}

@@ -3,11 +3,11 @@ pub mod Task
 pub mod Ends
 pub mod Stops
 pub mod Gives
-pub mod Helps
-pub mod Faults
+pub mod ScriptHelpTexts
+pub mod FaultTexts
 pub mod Scripts
 pub mod Status
-pub mod Pieces
+pub mod TextInPieces
 pub mod Dialogue
 pub mod Replies
 pub mod Conversation

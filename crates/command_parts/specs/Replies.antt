@@ -1,7 +1,7 @@
 -- What one who talks does with a line that it hears, as its clauses say it.
 use Rattle.std.specs.Prelude.{◌≡◌, ℕ, ◌<◌, ◌≤◌, List, [], ◌++◌, length, Option, Ok, Err}
 use Rattle.law_model.specs.Common.{AppendsPart}
-use Rattle.text_got.specs.Told.{Holds}
+use Rattle.text_got.specs.TextSoFar.{Holds}
 use Rattle.text_lines.specs.Cut.{Lacks}
 use Rattle.command_parts.specs.declared.stop_and_status.Stop.{Stop}
 use Rattle.command_parts.specs.declared.stop_and_status.Stop.TheVariants.{Read, TooLong, Refused, Write, Memory}

@@ -5,13 +5,13 @@ use Rattle.law_model.specs.Common.{longest_input}
 use Rattle.law_model.specs.declared.script_types.Script.{Script}
 use Rattle.text_scripts.specs.declared.script_read.script_fault.ScriptFault.{ScriptFault}
 use Rattle.text_scripts.specs.declared.script_read.script_reader.ScriptReader.{ScriptReader}
-use Rattle.text_scripts.specs.script_read.Pieces.{IsReader, ReaderStands}
+use Rattle.text_scripts.specs.script_read.ScriptInPieces.{IsReader, ReaderStands}
 use Rattle.text_scripts.specs.script_read.Script.{script_of}
 use Rattle.command_parts.specs.declared.stop_and_status.Refusal.{Refusal}
 use Rattle.command_parts.specs.Task.{Answer}
 use Rattle.command_parts.specs.Ends.{Lent, HasRead}
-use Rattle.command_parts.specs.Faults.{fault_text, why_of}
-use Rattle.command_parts.specs.Pieces.{answer_told}
+use Rattle.command_parts.specs.FaultTexts.{fault_text, why_of}
+use Rattle.command_parts.specs.TextInPieces.{answer_told}
 
 -- a script, or why a text is none, and the note on that; no text wants for memory
 abbrev pub told_of : Result Script ScriptFault → Result Script (Refusal × List ℕ)

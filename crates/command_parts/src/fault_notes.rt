@@ -1,7 +1,7 @@
 //! The notes on what is wrong with an input. Each is put together in a slice with room for one.
 ghost use Rattle.std.specs.Prelude.{◌≡◌, ◌≤◌, length, take};
 ghost use Rattle.text_scripts.specs.declared.script_read.script_fault.ScriptFault.{ScriptFault};
-ghost use Rattle.command_parts.specs.Faults.{kind_text, line_text, fault_text};
+ghost use Rattle.command_parts.specs.FaultTexts.{kind_text, line_text, fault_text};
 
 use crate::script_helps::{lag_help, slip_help, spread_help};
 use text_lines::LineKind;

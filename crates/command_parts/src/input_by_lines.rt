@@ -4,7 +4,7 @@ ghost use Rattle.command_parts.specs.Task.{Answer};
 ghost use Rattle.command_parts.specs.Ends.{lent, HasRead};
 ghost use Rattle.command_parts.specs.Stops.{StopsReading, StopsFor};
 ghost use Rattle.command_parts.specs.Scripts.{IsTaken};
-ghost use Rattle.command_parts.specs.Pieces.{answer_told, StopsAt, Follows, HasNumbersLeft};
+ghost use Rattle.command_parts.specs.TextInPieces.{answer_told, StopsAt, Follows, HasNumbersLeft};
 
 use crate::stop_and_status::Stop;
 use crate::whole_input::{MOST, skip_rest, take_some};
@@ -22,7 +22,7 @@ pub trait PieceReader: Drop {
 
     ghost use Rattle.std.specs.Prelude.{◌≡◌, ⊤, ℕ, List, [], ◌++◌, Result, Ok, IfOk, IfErr};
     ghost use Rattle.command_parts.specs.declared.stop_and_status.Refusal.{Refusal};
-    ghost use Rattle.command_parts.specs.Pieces.{StopsAt, Follows, HasNumbersLeft};
+    ghost use Rattle.command_parts.specs.TextInPieces.{StopsAt, Follows, HasNumbersLeft};
 
     /// What a text says, or why it isn't what a command takes, and the note on that.
     ghost says: { List ℕ → Result Self.Said (Refusal × List ℕ) };

@@ -1,7 +1,7 @@
 //! The octets of an input that have come and weren't heard yet, and the one call that takes more.
 ghost use Rattle.std.specs.Prelude.{◌≡◌, ◌≤◌, ℕ, List, [], ◌++◌, length, drop, IfOk, OnOk, OnErr};
 ghost use Rattle.std.specs.Io.KnownBytes.{prepend_known, IsAtEnd};
-ghost use Rattle.octet_io.specs.Faults.{one_more};
+ghost use Rattle.octet_io.specs.FaultCounts.{one_more};
 ghost use Rattle.text_lines.specs.Cut.{Lacks};
 
 use octet_io::{ByteSource, Failed};

@@ -1,8 +1,8 @@
 //! How an input is refused for a line that is faulty, in any language of lines that is a table.
 ghost use Rattle.std.specs.Prelude.{◌≡◌, ◌≤◌, length};
-ghost use Rattle.text_lines.specs.Faults.{kind_of};
-ghost use Rattle.text_help.specs.Helps.{fault_text};
-ghost use Rattle.command_parts.specs.Faults.{line_text};
+ghost use Rattle.text_lines.specs.LineFaults.{kind_of};
+ghost use Rattle.text_help.specs.LineHelpTexts.{fault_text};
+ghost use Rattle.command_parts.specs.FaultTexts.{line_text};
 
 use crate::fault_notes::{NOTE_ROOM, line_note};
 use crate::stop_and_status::{Fault, Refusal};

@@ -2,7 +2,7 @@
 //! whole, as beyond a limit.
 ghost use Rattle.std.specs.Prelude.{◌≡◌, ◌≢◌, ◌≤◌, length};
 ghost use Rattle.text_scripts.specs.declared.script_read.script_fault.ScriptFault.{ScriptFault};
-ghost use Rattle.command_parts.specs.Faults.{kind_of, fault_text, IsRefusedFor};
+ghost use Rattle.command_parts.specs.FaultTexts.{kind_of, fault_text, IsRefusedFor};
 
 use crate::fault_notes::{NOTE_ROOM, lag_note, slip_note, spread_note};
 use crate::refusal_of_line::line_fault;

@@ -1,8 +1,8 @@
 //! The end of a report, behind the lines of delivered frames.
 ghost use Rattle.std.specs.Prelude.{ℕ, List, ◌++◌};
-ghost use Rattle.text_report.specs.Report.{refused_texts, total_text};
+ghost use Rattle.text_report.specs.ReportLines.{refused_texts, total_text};
 ghost use Rattle.law_model.specs.Common.{Start};
-ghost use Rattle.text_got.specs.Told.{HasText};
+ghost use Rattle.text_got.specs.TextSoFar.{HasText};
 
 use law_model::{Refusal, Totals};
 use octet_io::ByteSink;

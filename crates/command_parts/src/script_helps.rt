@@ -1,7 +1,8 @@
 //! What is said of how to write what a script has wrong. Each text is put together in a slice with room for it.
 ghost use Rattle.std.specs.Prelude.{◌≡◌, ◌≤◌, length, take};
-ghost use Rattle.command_parts.specs.Helps.{keyword_text, part_text, line_help_text, slip_help_text, spread_help_text};
-ghost use Rattle.command_parts.specs.Helps.{lag_help_text};
+ghost use Rattle.command_parts.specs.ScriptHelpTexts.{keyword_text, part_text, line_help_text};
+ghost use Rattle.command_parts.specs.ScriptHelpTexts.{slip_help_text, spread_help_text};
+ghost use Rattle.command_parts.specs.ScriptHelpTexts.{lag_help_text};
 ghost use Rattle.text_scripts.specs.declared.script_read.script_fault.LineFault.{LineFault};
 
 use text_help::{count_help, field_help, missing_help, number_help, order_help};

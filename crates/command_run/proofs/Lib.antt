@@ -1,2 +1,2 @@
-pub mod EndLaws
-pub mod WatchLaws
+pub mod EndedSessionWritesLaws
+pub mod WatchAlarmTextLaws

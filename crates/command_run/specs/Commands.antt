@@ -2,7 +2,7 @@
 use Rattle.std.specs.Prelude.{ℕ, List, Option, Some, None, String, map, string_bytes, codes}
 use Rattle.std.specs.Option.{option_or}
 use Rattle.std.specs.declared.alloc.Global.{Global}
-use Rattle.command_words.specs.Words.{taken_as}
+use Rattle.command_words.specs.CommandLineWords.{taken_as}
 use Rattle.command_parts.specs.Common.{Task, none, reads}
 use Rattle.command_run.specs.declared.command_of_words.RunCommand.{RunCommand}
 use Rattle.command_run.specs.declared.command_of_words.RunCommand.TheVariants.{Run, Watch}

@@ -1,4 +1,4 @@
 pub mod Run
 pub mod Watch
 pub mod Commands
-pub mod Ended
+pub mod HandedSession

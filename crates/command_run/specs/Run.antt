@@ -3,7 +3,7 @@ use Rattle.std.specs.Prelude.{ℕ, ◌==◌, ◌&&◌, List, [], length, bytes_e
 use Rattle.std.specs.Prelude.{if◌then◌else◌}
 use Rattle.law_model.specs.Common.{leg_of}
 use Rattle.law_walk.specs.Common.{final_report}
-use Rattle.command_words.specs.Words.{number_in}
+use Rattle.command_words.specs.CommandLineWords.{number_in}
 use Rattle.command_parts.specs.Common.{Answer, writes, script_answer}
 use Rattle.command_run.specs.declared.command_of_words.RunCommand.{RunCommand}
 use Rattle.command_run.specs.declared.command_of_words.RunCommand.TheVariants.{Run}

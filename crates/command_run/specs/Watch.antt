@@ -4,10 +4,10 @@ use Rattle.std.specs.Prelude.{if◌then◌else◌}
 use Rattle.std.specs.List.{flat_map, range_with_len}
 use Rattle.law_model.specs.Common.{leg_of}
 use Rattle.law_model.specs.declared.script_types.Script.{Script}
-use Rattle.thread_rings.specs.Alarms.{alarms_of_line}
-use Rattle.thread_alarms.specs.alarm_text.Text.{alarm_texts}
+use Rattle.thread_rings.specs.LineAlarms.{alarms_of_line}
+use Rattle.thread_alarms.specs.alarm_text.AlarmTextLines.{alarm_texts}
 use Rattle.law_walk.specs.Common.{line_cells, final_report}
-use Rattle.command_words.specs.Words.{number_in}
+use Rattle.command_words.specs.CommandLineWords.{number_in}
 use Rattle.command_parts.specs.Common.{Answer, writes_both, script_answer}
 use Rattle.command_run.specs.declared.command_of_words.RunCommand.{RunCommand}
 use Rattle.command_run.specs.declared.command_of_words.RunCommand.TheVariants.{Watch}

@@ -3,15 +3,15 @@ ghost use Rattle.std.specs.Prelude.{◌≡◌, ◌≤◌, Some, OnOk, OnErr, map
 ghost use Rattle.octet_io.specs.Transfer.{Appends, AppendsPart};
 ghost use Rattle.law_model.specs.declared.script_types.Script.{Script};
 ghost use Rattle.law_model.specs.session.Leg.{leg_of};
-ghost use Rattle.law_walk.specs.Landed.{totals_among};
+ghost use Rattle.law_walk.specs.LandedOfLeg.{totals_among};
 ghost use Rattle.law_walk.specs.Promise.{numbered};
-ghost use Rattle.law_walk.specs.Report.{final_report};
-ghost use Rattle.command_words.specs.Words.{number_in};
+ghost use Rattle.law_walk.specs.WalkReport.{final_report};
+ghost use Rattle.command_words.specs.CommandLineWords.{number_in};
 ghost use Rattle.command_parts.specs.Task.{reads};
 ghost use Rattle.command_parts.specs.Ends.{lent};
 ghost use Rattle.command_parts.specs.Gives.{GivesAlone};
 ghost use Rattle.command_run.specs.Run.{run_of, run_words, run_answer};
-ghost use Rattle.command_run.specs.Ended.{HasEnded, HasGot, HandsSession, end_text};
+ghost use Rattle.command_run.specs.HandedSession.{HasEnded, HasGot, HandsSession, end_text};
 
 use crate::command_of_words::RunCommand;
 use command_parts::{Ran, Stop, read_whole_script, write_rest};

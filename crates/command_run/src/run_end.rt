@@ -2,7 +2,7 @@
 ghost use Rattle.std.specs.Prelude.{◌≡◌, ◌≢◌, None};
 ghost use Rattle.command_parts.specs.Ends.{lent};
 ghost use Rattle.command_parts.specs.Gives.{IsEnd};
-ghost use Rattle.command_run.specs.Ended.{ended_of};
+ghost use Rattle.command_run.specs.HandedSession.{ended_of};
 
 use command_parts::{Ran, Stop, tell};
 use octet_io::{ByteSink, Failed};

@@ -4,7 +4,7 @@ ghost use Rattle.law_model.specs.Common.{Appends, Tells};
 ghost use Rattle.law_headline.specs.Headline.{IsRunHeadline};
 ghost use Rattle.command_parts.specs.Common.{HasRunAt, Ends, lent};
 ghost use Rattle.command_run.specs.Commands.{task_of, usage};
-ghost use Rattle.command_run.specs.Ended.{HandsSession};
+ghost use Rattle.command_run.specs.HandedSession.{HandsSession};
 
 use crate::command_of_words::RunCommand;
 use crate::run::run;

@@ -1,14 +1,14 @@
 //! `watch`: a script's session is run, and what came of it is written, with the alarms of its lines on `notes`.
 ghost use Rattle.std.specs.Prelude.{◌≡◌, ◌≤◌, ◌<◌, Some, OnOk, OnErr, map, string_bytes};
 ghost use Rattle.octet_io.specs.Transfer.{Appends, AppendsPart};
-ghost use Rattle.command_words.specs.Words.{number_in};
+ghost use Rattle.command_words.specs.CommandLineWords.{number_in};
 ghost use Rattle.thread_alarms.specs.alarm_log.Logs.{alarms_in};
-ghost use Rattle.thread_alarms.specs.alarm_text.Text.{lines_text};
+ghost use Rattle.thread_alarms.specs.alarm_text.AlarmTextLines.{lines_text};
 ghost use Rattle.command_parts.specs.Task.{reads};
 ghost use Rattle.command_parts.specs.Ends.{lent};
 ghost use Rattle.command_parts.specs.Gives.{Gives};
 ghost use Rattle.command_run.specs.Watch.{watch_of, watch_words, watch_answer};
-ghost use Rattle.command_run.specs.Ended.{HandsSession};
+ghost use Rattle.command_run.specs.HandedSession.{HandsSession};
 
 use crate::command_of_words::RunCommand;
 use crate::run::end_report;

@@ -2,7 +2,7 @@
 use Rattle.std.proofs.Common.{◌≡◌, ℕ, ◌+◌, List, [], ◌∷◌, ◌++◌, ap, sym, ◌∙◌, refl}
 use Rattle.std.specs.Prelude.{Option, None, Some, Ok, Err, is_none, unwrap_or}
 use Rattle.text_lines.specs.declared.text_faults.LineKind.TheVariants.{Hex}
-use Rattle.text_lines.specs.Words.{words}
+use Rattle.text_lines.specs.WordsOfLine.{words}
 use Rattle.text_lines.specs.Fields.{where_true}
 use Rattle.text_lines.specs.Language.{said_from, said_by}
 use Rattle.text_lines.proofs.LanguageLaws.{line_faulty, line_sound, end_sound}

@@ -4,15 +4,15 @@ use Rattle.command_parts.specs.Common.{writes}
 use Rattle.member_au4.specs.declared.au4_link.au4_draft.Link.{Link}
 use Rattle.member_au4.specs.au4_link.Link.{link_of}
 use Rattle.member_au4.specs.au4_link.Carried.{carried_text}
-use Rattle.member_au4.proofs.Au4LinkLaws.SaidLaws.{link-written}
+use Rattle.member_au4.proofs.Au4LinkLaws.SaidLinkLaws.{link-written}
 use Rattle.gfp_noise.specs.declared.noise_link.noise_draft.Noise.{Noise}
 use Rattle.gfp_noise.specs.noise_link.Noise.{noise_of}
-use Rattle.gfp_noise.specs.noise_link.Text.{AreSingle, untouched_text}
-use Rattle.gfp_noise.proofs.NoiseLinkLaws.SaidLaws.{single_written}
+use Rattle.gfp_noise.specs.noise_link.NoiseReportText.{AreSingle, untouched_text}
+use Rattle.gfp_noise.proofs.NoiseLinkLaws.SaidNoiseLaws.{single_written}
 use Rattle.gfp_channels.specs.declared.channel_link.channel_draft.ChannelPlan.{ChannelPlan}
 use Rattle.gfp_channels.specs.channel_link.Plan.{plan_of}
-use Rattle.gfp_channels.specs.channel_link.Text.{plan_text}
-use Rattle.gfp_channels.proofs.ChannelLinkLaws.SaidLaws.{plan_report}
+use Rattle.gfp_channels.specs.channel_link.ChannelReportText.{plan_text}
+use Rattle.gfp_channels.proofs.ChannelLinkLaws.SaidPlanLaws.{plan_report}
 use Rattle.command_walk.specs.commands.Au4.{carried, au4_answer}
 use Rattle.command_walk.specs.commands.Noise.{got_through, noise_answer}
 use Rattle.command_walk.specs.commands.Channels.{shared, TellsPlan}

@@ -1,8 +1,8 @@
 pub mod WordsOfCommands
-pub mod Ended
-pub mod Given
-pub mod Written
-pub mod Told
+pub mod HandedWalk
+pub mod GivesByTask
+pub mod DecodingSoFar
+pub mod TracedWalk
 pub mod TurnsLeft
 pub mod ReadyWalk
 pub mod commands

@@ -6,16 +6,16 @@ use Rattle.law_model.specs.declared.script_types.EventLine.{EventLine}
 use Rattle.law_model.specs.declared.script_types.EventLine.TheVariants as line
 use Rattle.law_model.specs.declared.walk_events.Event.{Event}
 use Rattle.law_model.specs.session.Leg.{leg_of}
-use Rattle.law_model.specs.session.Valid.{IsValid, IsEvent}
+use Rattle.law_model.specs.session.ValidScript.{IsValid, IsEvent}
 use Rattle.law_model.specs.session.Counts.{Plan, Counts, run, run_lines, drain, bound}
 use Rattle.law_progress.specs.Progress.{made}
 use Rattle.law_walk.specs.Walk.{walk_plan, IsWalked}
-use Rattle.law_headline.specs.Texts.{counts_in}
+use Rattle.law_headline.specs.WalkTexts.{counts_in}
 use Rattle.command_walk.specs.declared.turns.trace_turns.Turn.{Turn}
 use Rattle.command_walk.specs.declared.turns.next_turns.Pending.{Pending}
 use Rattle.command_walk.specs.declared.turns.next_turns.Pending.TheVariants.{Tries, Rounds}
 use Rattle.command_walk.specs.declared.turns.next_turns.TurnsLeft.{TurnsLeft}
-use Rattle.command_walk.specs.Told.{events_of, IsTurn}
+use Rattle.command_walk.specs.TracedWalk.{events_of, IsTurn}
 
 -- the counts once what is left of a line is made
 abbrev pub once : Plan → Pending → Counts → Counts

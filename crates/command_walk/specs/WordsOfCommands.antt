@@ -2,10 +2,10 @@
 use Rattle.std.specs.Prelude.{◌≡◌, ◌≤◌, ℕ, List, Option, Some, None, String, map, string_bytes, codes}
 use Rattle.std.specs.Option.{option_or}
 use Rattle.std.specs.declared.alloc.Global.{Global}
-use Rattle.law_model.specs.session.Valid.{IsWithin}
+use Rattle.law_model.specs.session.ValidScript.{IsWithin}
 use Rattle.text_scripts.specs.make_load.Load.{load}
 use Rattle.text_scripts.specs.rate_load.RateTexts.{IsRateLoad}
-use Rattle.command_words.specs.Words.{taken_as}
+use Rattle.command_words.specs.CommandLineWords.{taken_as}
 use Rattle.command_parts.specs.Common.{Task, none, reads, makes, talks, Lent}
 use Rattle.walk_engine.specs.Common.{Walked}
 use Rattle.command_walk.specs.declared.command_of_words.WalkCommand.{WalkCommand}
@@ -26,11 +26,11 @@ use Rattle.command_walk.specs.commands.Noise.{noise_words, noise_answer}
 use Rattle.command_walk.specs.commands.Au4.{au4_words, au4_answer}
 use Rattle.command_walk.specs.commands.Channels.{channels_words, channels_answer}
 use Rattle.command_walk.specs.commands.Pair.{pair_words}
-use Rattle.pair_walk.specs.Text.{pair_reply}
+use Rattle.pair_walk.specs.ReportsOfWays.{pair_reply}
 use Rattle.command_walk.specs.commands.Live.{live_words, live_talk}
 use Rattle.command_walk.specs.commands.Make.{make_words, make_answer}
 use Rattle.command_walk.specs.commands.Stream.{stream_words, stream_answer}
-use Rattle.command_walk.specs.Ended.{IsWalkOf, HandsScript}
+use Rattle.command_walk.specs.HandedWalk.{IsWalkOf, HandsScript}
 
 abbrev pub usage : List ℕ
 usage = codes "usage: vcat_walk walk, trace, fates, check, h4 LINE, service INTERVAL, capture, gfp, frames, decode, noise, au4, channels, pair, live, live trace, make NUMBER LINES TICKS, or stream OCTETS MBITS FIRST END NUMBER\n"

@@ -3,7 +3,7 @@
 ghost use Rattle.std.specs.Prelude.{◌≡◌, None};
 ghost use Rattle.law_model.specs.Common.{Tells};
 ghost use Rattle.command_parts.specs.Ends.{lent};
-ghost use Rattle.command_walk.specs.Given.{GivesFor};
+ghost use Rattle.command_walk.specs.GivesByTask.{GivesFor};
 ghost use Rattle.command_walk.specs.WordsOfCommands.{task_at, usage, Fits, HandsBack};
 
 use crate::commands::{

@@ -1,7 +1,7 @@
 //! The octets that lines of hexadecimal digits say.
 ghost use Rattle.std.specs.Prelude.{◌≡◌, ℕ, ◌≤◌, ◌+◌, ◌*◌, ◌/◌, ◌++◌, List, length, vec_len, Ok, Err, Some, None, IfOk};
 ghost use Rattle.std.specs.Prelude.{OnOk, OnErr, vec_capacity};
-ghost use Rattle.text_lines.specs.Words.{words};
+ghost use Rattle.text_lines.specs.WordsOfLine.{words};
 ghost use Rattle.command_walk.specs.commands.HexText.{hex_text_of, line_octets};
 ghost use Rattle.law_model.specs.Common.{longest_input};
 

@@ -1,2 +1,2 @@
-pub mod NumberLaws
-pub mod ParserLaws
+pub mod NumberTooLargeLaws
+pub mod WordParserLaws

@@ -1,7 +1,7 @@
 //! Words as `clap` reads them.
 ghost use Rattle.std.specs.Prelude.{◌≡◌, IfOk, IfErr, true, map, string_bytes};
 ghost use Rattle.clap.specs.Words.{app_of, kind_of, rows_of, found_of};
-ghost use Rattle.command_words.specs.Words.{are_plain};
+ghost use Rattle.command_words.specs.CommandLineWords.{are_plain};
 ghost use Rattle.command_words.specs.Parser.{words_app, words_in};
 
 use clap::error::ErrorKind;

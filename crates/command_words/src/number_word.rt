@@ -1,6 +1,6 @@
 //! Numbers on the command line.
 ghost use Rattle.std.specs.Prelude.{◌≡◌, ◌≤◌, IfSome};
-ghost use Rattle.command_words.specs.Words.{number_in};
+ghost use Rattle.command_words.specs.CommandLineWords.{number_in};
 
 /// The value of decimal digits, where it is within two bounds. Leading zeros may stand.
 pub fn number_within(word: &[u8], least: u64, most: u64) -> Option<u64>

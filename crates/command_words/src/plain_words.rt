@@ -1,7 +1,7 @@
 //! Whether words may be a command, which is asked before `clap` sees them: it knows options, help and signs,
 //! which no command has.
 ghost use Rattle.std.specs.Prelude.{◌≡◌, map, string_bytes};
-ghost use Rattle.command_words.specs.Words.{is_plain, are_plain};
+ghost use Rattle.command_words.specs.CommandLineWords.{is_plain, are_plain};
 
 /// The most words that a command has.
 const MOST: usize = 6;

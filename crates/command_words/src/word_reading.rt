@@ -1,7 +1,7 @@
 //! The command that words are.
 ghost use Rattle.std.specs.Prelude.{◌≡◌, ◌↔◌, IfOk, IsErrOf, IsNone, Some, map, option_map, string_bytes, codes};
 ghost use Rattle.clap.specs.Words.{all_of, found_of, rows_of};
-ghost use Rattle.command_words.specs.Words.{taken_as};
+ghost use Rattle.command_words.specs.CommandLineWords.{taken_as};
 ghost use Rattle.command_words.specs.Parser.{words_in};
 
 use crate::clap_parser::{parse, words_parser};

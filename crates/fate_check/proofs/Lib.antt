@@ -1,6 +1,6 @@
-pub mod RangeLaws
-pub mod UsedLaws
-pub mod IdleLaws
-pub mod WithoutLaws
-pub mod EarlyLaws
-pub mod TextLaws
+pub mod RangeTestLaws
+pub mod UsedLineLaws
+pub mod SparedRowLaws
+pub mod WithoutIdleFailureLaws
+pub mod EarlyFrameLaws
+pub mod CheckTextLaws

@@ -7,8 +7,8 @@ use Rattle.law_model.specs.declared.item_refusals.Refusal.{Refusal}
 use Rattle.law_model.specs.declared.window_types.Window.{Window}
 use Rattle.law_model.specs.session.Leg.{Leg}
 use Rattle.law_model.specs.session.Counts.{Counts}
-use Rattle.text_report.specs.Report.{refusal_text}
-use Rattle.law_walk.specs.Landed.{refusals_of}
+use Rattle.text_report.specs.ReportLines.{refusal_text}
+use Rattle.law_walk.specs.LandedOfLeg.{refusals_of}
 use Rattle.fate_check.specs.declared.check_lines.Found.{Found}
 use Rattle.fate_check.specs.UsedLines.{unused_lines}
 use Rattle.fate_check.specs.IdleWindows.{idle_windows}

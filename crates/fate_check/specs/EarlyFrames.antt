@@ -4,7 +4,7 @@ use Rattle.law_model.specs.session.Leg.{Leg}
 use Rattle.law_model.specs.session.Scenario.{scenario_by}
 use Rattle.law_model.specs.session.Counts.{Counts}
 use Rattle.law_walk.specs.Walk.{session_of}
-use Rattle.law_walk.specs.Landed.{Numbered, landed_items, is_accepted_frame}
+use Rattle.law_walk.specs.LandedOfLeg.{Numbered, landed_items, is_accepted_frame}
 use Rattle.fate_check.specs.UsedLines.{first_payload}
 
 -- due before a row; if there is no such row, every tick is

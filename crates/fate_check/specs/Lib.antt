@@ -2,5 +2,5 @@ pub mod UsedLines
 pub mod IdleWindows
 pub mod EarlyFrames
 pub mod CheckText
-pub mod Without
+pub mod OtherFailures
 pub mod Worked

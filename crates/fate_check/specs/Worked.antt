@@ -3,7 +3,7 @@ use Rattle.std.specs.Prelude.{[], ◌∷◌}
 use Rattle.law_model.specs.declared.window_types.Window.{Window}
 use Rattle.law_model.specs.declared.script_types.ItemKind.TheVariants.{Add}
 use Rattle.law_model.specs.session.Leg.{Leg}
-use Rattle.law_walk.specs.Worked.{item, plain}
+use Rattle.law_walk.specs.WorkedLegs.{item, plain}
 
 abbrev pub used_window : Window
 used_window = record { first = 90; «end» = 92; slip = 0 }

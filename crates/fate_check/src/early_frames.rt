@@ -1,9 +1,9 @@
 //! How many frames were accepted before any line carried payload.
 ghost use Rattle.std.specs.Prelude.{◌≡◌, ◌&&◌, is_none, length, filter};
 ghost use Rattle.law_model.specs.session.Leg.{leg_of};
-ghost use Rattle.law_model.specs.session.Valid.{IsSound};
+ghost use Rattle.law_model.specs.session.ValidScript.{IsSound};
 ghost use Rattle.law_walk.specs.Walk.{IsWalked};
-ghost use Rattle.law_walk.specs.Landed.{landed_items};
+ghost use Rattle.law_walk.specs.LandedOfLeg.{landed_items};
 ghost use Rattle.fate_check.specs.EarlyFrames.{is_before, is_early};
 
 use fate_walks::walk_frames::{FrameCursor, LandedFrame};

@@ -13,7 +13,7 @@ ghost use Rattle.law_model.specs.source.Source.{table_of};
 ghost use Rattle.law_walk.specs.Walk.{session_of};
 ghost use Rattle.fate_check.specs.UsedLines.{unused_lines, first_payload};
 ghost use Rattle.fate_check.specs.IdleWindows.{is_idle, idle_windows};
-ghost use Rattle.fate_check.specs.Without.{with_windows};
+ghost use Rattle.fate_check.specs.OtherFailures.{with_windows};
 ghost use Rattle.fate_check.specs.Worked.{unused_window, worked_leg, lone_leg};
 
 mod check_lines;

@@ -3,9 +3,9 @@ ghost use Rattle.std.specs.Prelude.{◌≡◌, ℕ, ◌+◌, ◌*◌, ◌<◌, �
 ghost use Rattle.std.specs.List.{flat_map};
 ghost use Rattle.octet_io.specs.Start.{Start};
 ghost use Rattle.octet_io.specs.Transfer.{Appends, AppendsPart};
-ghost use Rattle.text_got.specs.Told.{HasText};
+ghost use Rattle.text_got.specs.TextSoFar.{HasText};
 ghost use Rattle.law_model.specs.session.Leg.{leg_of};
-ghost use Rattle.law_walk.specs.Landed.{refusals_of};
+ghost use Rattle.law_walk.specs.LandedOfLeg.{refusals_of};
 ghost use Rattle.fate_walks.specs.walk_fates.MadeWalk.{SeesWalk};
 ghost use Rattle.fate_check.specs.UsedLines.{unused_among, unused_lines};
 ghost use Rattle.fate_check.specs.IdleWindows.{idle_among, idle_on, idle_windows};

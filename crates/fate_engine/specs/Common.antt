@@ -1,15 +1,15 @@
 -- The words that most definitions and proofs cite, passed on from one place. Declares nothing.
-pub use Rattle.fate_engine.specs.fate_core.Around.{begins_from, fate_around, fate_by_mark, is_true_of, settles}
+pub use Rattle.fate_engine.specs.fate_core.FateBySegment.{begins_from, fate_around, fate_by_mark, is_true_of, settles}
 pub use Rattle.fate_engine.specs.fate_core.Packets.{ArePackets, IsPacketList, PacketList, active_in, packets_in}
 pub use Rattle.fate_engine.specs.fate_core.Packets.{start_by}
 pub use Rattle.fate_engine.specs.fate_core.Runs.{AreRuns, RunList}
 unfoldable pub use Rattle.fate_engine.specs.fate_core.Runs.{with_row}
 pub use Rattle.fate_engine.specs.fate_core.Segments.{AreSegments, IsAround, SegmentList, Tells, broken_off}
 pub use Rattle.fate_engine.specs.fate_core.Segments.{ended_segments, gone_on, is_told, last_segment}
-pub use Rattle.fate_engine.specs.fate_core.Sides.{IsBegun, IsRuler, begun_before, is_fourth, ruler_in, side_of}
-pub use Rattle.fate_engine.specs.fate_core.Sides.{with_begun}
+pub use Rattle.fate_engine.specs.fate_core.FrameSides.{IsBegun, IsRuler, begun_before, is_fourth, ruler_in, side_of}
+pub use Rattle.fate_engine.specs.fate_core.FrameSides.{with_begun}
 pub use Rattle.fate_engine.specs.fate_core.Totals.{counted}
-pub use Rattle.fate_engine.specs.fate_core.Whole.{whole_in, whole_on}
+pub use Rattle.fate_engine.specs.fate_core.WholeContainers.{whole_in, whole_on}
 pub use Rattle.fate_engine.specs.fate_law.FateText.{cause_text, ended_text, fates_end, fates_text, mark_text}
 pub use Rattle.fate_engine.specs.fate_law.FateText.{segment_text, spoiled_text, truth_text}
 pub use Rattle.fate_engine.specs.fate_law.Fates.{HasPlace, carried_fate, fate_after, fate_in, fate_of, frames_got}
@@ -26,7 +26,7 @@ unfoldable pub use Rattle.fate_engine.specs.fate_law.SessionFates.{ended_on}
 pub use Rattle.fate_engine.specs.fate_law.Spans.{Span, Spans, fate_by_rows, has_row, later_segments, no_spans}
 pub use Rattle.fate_engine.specs.fate_law.Spans.{row_segment, row_segments, span_by, spans}
 unfoldable pub use Rattle.fate_engine.specs.fate_law.Spans.{mark_of_row, row_segments_with, spans_on}
-pub use Rattle.fate_engine.specs.fate_law.Spoiled.{cause_under, container_cause, lesser, packet_cause}
-pub use Rattle.fate_engine.specs.fate_law.Spoiled.{row_cause, same_cause, spoiled_of, spoiled_then}
-unfoldable pub use Rattle.fate_engine.specs.fate_law.Spoiled.{least_failing, spoiled_runs}
-pub use Rattle.fate_engine.specs.fate_text.FateWording.{item_text, last_text, told_text}
+pub use Rattle.fate_engine.specs.fate_law.RowCauses.{cause_under, container_cause, lesser, packet_cause}
+pub use Rattle.fate_engine.specs.fate_law.RowCauses.{row_cause, same_cause, spoiled_of, spoiled_then}
+unfoldable pub use Rattle.fate_engine.specs.fate_law.RowCauses.{least_failing, spoiled_runs}
+pub use Rattle.fate_engine.specs.fate_text.FateLineText.{item_text, last_text, told_text}

@@ -1,7 +1,7 @@
-pub mod Sides
+pub mod FrameSides
 pub mod Packets
 pub mod Segments
 pub mod Runs
 pub mod Totals
-pub mod Whole
-pub mod Around
+pub mod WholeContainers
+pub mod FateBySegment

@@ -1,1 +1,1 @@
-pub mod FateWording
+pub mod FateLineText

@@ -10,16 +10,16 @@ ghost use Rattle.law_model.specs.Common.{Piece, idle, stream_of, StreamRow, segm
 ghost use Rattle.law_model.specs.Common.{extents, is_carried, lies_in, is_frame_lost, TrueStarts, frames_kept, Stream};
 ghost use Rattle.law_model.specs.Common.{reached, stream_before, rows_of, Leg, Counts, Scenario, is_whole_row, Told};
 ghost use Rattle.law_model.specs.Common.{IsSound};
-ghost use Rattle.law_loss.specs.Carried.{CarriesStream, IsSentPiece};
+ghost use Rattle.law_loss.specs.CarriedStream.{CarriesStream, IsSentPiece};
 ghost use Rattle.fate_engine.specs.fate_law.Fates.{HasPlace, row_at, spoiled_after, fate_of, is_got, frames_got};
 ghost use Rattle.fate_engine.specs.fate_law.Marks.{is_piece_at, are_true_marks};
 ghost use Rattle.fate_engine.specs.fate_law.Ruler.{ruler_of, ruled};
-ghost use Rattle.law_loss.specs.Worked.{worked_pieces, worked_rows};
+ghost use Rattle.law_loss.specs.WorkedLosses.{worked_pieces, worked_rows};
 ghost use Rattle.fate_engine.specs.fate_law.Spans.{later_segments, fate_by_rows};
 ghost use Rattle.fate_engine.specs.fate_law.Worked.{worked_fates, worked_segments, worked_causes};
 ghost use Rattle.fate_engine.specs.fate_law.Worked.{worked_runs, worked_ruler};
 ghost use Rattle.fate_engine.specs.fate_law.SessionFates.{fate_at, ended_of, got_frames};
-ghost use Rattle.fate_engine.specs.fate_law.Spoiled.{row_cause, spoiled_runs};
+ghost use Rattle.fate_engine.specs.fate_law.RowCauses.{row_cause, spoiled_runs};
 ghost use Rattle.law_walk.specs.Common.{IsWalked, session_rows, delivered_of, session_pieces, ConfirmsTrue};
 
 /// What became of an accepted frame, by the rows in which its piece begins and ends.

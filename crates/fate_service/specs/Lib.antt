@@ -1,9 +1,9 @@
-pub mod Frames
+pub mod FrameColumns
 pub mod RowStates
 pub mod Outages
 pub mod Stretches
 pub mod Delays
-pub mod Members
+pub mod MemberRuns
 pub mod ServiceText
 pub mod Surveyed
 pub mod service_law

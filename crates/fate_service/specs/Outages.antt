@@ -5,7 +5,7 @@ use Rattle.fate_service.specs.declared.landed_frames.CarriedFrame.{CarriedFrame}
 use Rattle.fate_service.specs.declared.outages.Outage.{Outage}
 use Rattle.fate_service.specs.declared.row_states.RowState.{RowState}
 use Rattle.fate_service.specs.declared.row_states.RowState.TheVariants.{Clear, Hunting, Spoiled}
-use Rattle.fate_service.specs.Frames.{no_frames, with_frame_if}
+use Rattle.fate_service.specs.FrameColumns.{no_frames, with_frame_if}
 
 -- ---- dark rows
 -- an outage with one more row at its end, of which none or one isn't whole

@@ -10,18 +10,18 @@ use Rattle.fate_service.specs.declared.landed_frames.Tally.{Tally}
 use Rattle.fate_service.specs.declared.landed_frames.CarriedFrame.{CarriedFrame}
 use Rattle.fate_service.specs.declared.width_run.WidthRun.{WidthRun}
 use Rattle.fate_service.specs.declared.outages.Outage.{Outage}
-use Rattle.fate_service.specs.declared.interval_counts.Came.{Came}
-use Rattle.fate_service.specs.declared.interval_counts.Ended.{Ended}
-use Rattle.fate_service.specs.declared.interval_counts.Peak.{Peak}
-use Rattle.fate_service.specs.declared.interval_counts.Stretch.{Stretch}
+use Rattle.fate_service.specs.declared.stretch_counts.Came.{Came}
+use Rattle.fate_service.specs.declared.stretch_counts.Ended.{Ended}
+use Rattle.fate_service.specs.declared.stretch_counts.Peak.{Peak}
+use Rattle.fate_service.specs.declared.stretch_counts.Stretch.{Stretch}
 use Rattle.fate_service.specs.declared.frame_delays.Delays.{Delays}
 use Rattle.fate_service.specs.declared.service_text.Ends.{Ends}
-use Rattle.fate_service.specs.Frames.{offered_of, accepted_of, carried_of, waits_of}
+use Rattle.fate_service.specs.FrameColumns.{offered_of, accepted_of, carried_of, waits_of}
 use Rattle.fate_service.specs.RowStates.{states_of}
 use Rattle.fate_service.specs.Outages.{outages_of, losses, next_first}
 use Rattle.fate_service.specs.Stretches.{Known, stretch_of, spans_of, told_on}
 use Rattle.fate_service.specs.Delays.{delays_of}
-use Rattle.fate_service.specs.Members.{runs_of}
+use Rattle.fate_service.specs.MemberRuns.{runs_of}
 
 -- ---- lines
 abbrev pub tally_text : Tally → List ℕ

@@ -6,11 +6,11 @@ use Rattle.fate_engine.specs.Common.{begun_before}
 use Rattle.fate_service.specs.declared.landed_frames.OfferedFrame.{OfferedFrame}
 use Rattle.fate_service.specs.declared.landed_frames.CarriedFrame.{CarriedFrame}
 use Rattle.fate_service.specs.declared.row_states.RowState.{RowState}
-use Rattle.fate_service.specs.declared.interval_counts.Came.{Came}
-use Rattle.fate_service.specs.declared.interval_counts.Ended.{Ended}
-use Rattle.fate_service.specs.declared.interval_counts.Peak.{Peak}
-use Rattle.fate_service.specs.declared.interval_counts.Stretch.{Stretch}
-use Rattle.fate_service.specs.Frames.{no_frames, with_frame, with_frame_if}
+use Rattle.fate_service.specs.declared.stretch_counts.Came.{Came}
+use Rattle.fate_service.specs.declared.stretch_counts.Ended.{Ended}
+use Rattle.fate_service.specs.declared.stretch_counts.Peak.{Peak}
+use Rattle.fate_service.specs.declared.stretch_counts.Stretch.{Stretch}
+use Rattle.fate_service.specs.FrameColumns.{no_frames, with_frame, with_frame_if}
 use Rattle.fate_service.specs.RowStates.{dark_among}
 
 -- a number from one on and below another

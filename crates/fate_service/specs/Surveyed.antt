@@ -5,7 +5,7 @@ use Rattle.law_walk.specs.Common.{session_rows}
 use Rattle.fate_engine.specs.Common.{ended_of}
 use Rattle.fate_service.specs.declared.width_run.WidthRun.{WidthRun}
 use Rattle.fate_service.specs.declared.service_report.Survey.{Survey}
-use Rattle.fate_service.specs.Frames.{AreLanded}
+use Rattle.fate_service.specs.FrameColumns.{AreLanded}
 use Rattle.fate_service.specs.Outages.{outages_of}
 use Rattle.fate_service.specs.RowStates.{states_of}
 use Rattle.fate_service.specs.ServiceText.{members_text}

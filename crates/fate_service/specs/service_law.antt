@@ -1,4 +1,4 @@
-pub mod Lines
-pub mod Sums
-pub mod Dark
+pub mod LinesAsNumbers
+pub mod LineSums
+pub mod OutageRuns
 pub mod Worked

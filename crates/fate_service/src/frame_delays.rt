@@ -4,8 +4,8 @@ ghost use Rattle.std.specs.Prelude.{◌≡◌, ◌<◌, ◌&&◌, nat_le, length
 ghost use Rattle.fate_service.specs.Stretches.{delay_of};
 ghost use Rattle.fate_service.specs.Delays.{count_within, least_delay, delays_of};
 
-use crate::interval_counts::{count_ended, delay_of};
 use crate::landed_frames::CarriedFrame;
+use crate::stretch_counts::{count_ended, delay_of};
 
 /// Delays in ticks, 0 where no frame was got.
 #[derive(Clone, Copy, Debug, PartialEq, Eq)]

@@ -3,8 +3,8 @@ ghost use Rattle.std.specs.Prelude.{◌≡◌, ◌+◌, ◌^◌, ◌<◌, ◌≤
 ghost use Rattle.law_model.specs.Common.{leg_of};
 ghost use Rattle.fate_engine.specs.Common.{accepted, does_wait, ended_of};
 ghost use Rattle.fate_walks.specs.walk_fates.MadeWalk.{SeesWalk, fates_in, end_by};
-ghost use Rattle.fate_service.specs.Frames.{no_frames, with_frame, with_frame_if, carried_by, carried_if};
-ghost use Rattle.fate_service.specs.Frames.{listed, is_none, AreLanded, TakesFrame};
+ghost use Rattle.fate_service.specs.FrameColumns.{no_frames, with_frame, with_frame_if, carried_by, carried_if};
+ghost use Rattle.fate_service.specs.FrameColumns.{listed, is_none, AreLanded, TakesFrame};
 
 use fate_engine::fate_core::Fate;
 use fate_walks::walk_fates::{SeenWalk, accepted_fate};

@@ -14,13 +14,13 @@
 #![tactic(auto)]
 
 mod frame_delays;
-mod interval_counts;
 mod landed_frames;
 mod outages;
 mod row_states;
 pub mod service_law;
 mod service_report;
 mod service_text;
+mod stretch_counts;
 mod width_run;
 
 pub use service_report::{Survey, survey_walk, write_service};

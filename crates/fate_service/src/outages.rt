@@ -2,7 +2,7 @@
 ghost use Rattle.std.specs.Prelude.{◌≡◌, ◌<◌, ◌≤◌, ◌==◌, length, All, IfOk, OnOk};
 ghost use Rattle.std.specs.List.Sorted.{IsNonDecreasingBy};
 ghost use Rattle.fate_service.specs.declared.landed_frames.CarriedFrame.{CarriedFrame as CarriedData};
-ghost use Rattle.fate_service.specs.Frames.{no_frames};
+ghost use Rattle.fate_service.specs.FrameColumns.{no_frames};
 ghost use Rattle.fate_service.specs.Outages.{grown, with_dark, with_state, outages_of, lost_on, losses, HasFewSpoiled};
 
 use crate::landed_frames::{CarriedFrame, Tally};

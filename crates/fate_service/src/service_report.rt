@@ -4,15 +4,15 @@ ghost use Rattle.std.specs.Prelude.{All, IfOk, OnOk, OnErr};
 ghost use Rattle.std.specs.List.{flat_map, range_with_len};
 ghost use Rattle.law_model.specs.Common.{Start, Appends, AppendsPart, leg_of, Scenario, scenario_by, IsWithin, Told};
 ghost use Rattle.law_model.specs.Common.{width};
-ghost use Rattle.text_got.specs.Told.{HasText};
+ghost use Rattle.text_got.specs.TextSoFar.{HasText};
 ghost use Rattle.law_walk.specs.Common.{session_of};
 ghost use Rattle.fate_engine.specs.Common.{ArePackets, row_cause as cause_of, ended_of};
 ghost use Rattle.fate_walks.specs.walk_fates.MadeWalk.{SeesWalk};
 ghost use Rattle.fate_service.specs.declared.landed_frames.OfferedFrame.{OfferedFrame as OfferedData};
-ghost use Rattle.fate_service.specs.Frames.{carried_of};
+ghost use Rattle.fate_service.specs.FrameColumns.{carried_of};
 ghost use Rattle.fate_service.specs.Outages.{losses as losses_of, next_first};
 ghost use Rattle.fate_service.specs.Stretches.{told_on, spans_of, stretch_of};
-ghost use Rattle.fate_service.specs.Members.{runs_of};
+ghost use Rattle.fate_service.specs.MemberRuns.{runs_of};
 ghost use Rattle.fate_service.specs.Delays.{delays_of};
 ghost use Rattle.fate_service.specs.Surveyed.{IsSurveyed, next_run, run_text};
 ghost use Rattle.fate_service.specs.ServiceText.{members_text, outage_text, outages_text, stretch_text};
@@ -20,13 +20,13 @@ ghost use Rattle.fate_service.specs.ServiceText.{stretches_text, delays_text};
 ghost use Rattle.fate_service.specs.ServiceText.{known_of, ends_of, last_text, service_text};
 
 use crate::frame_delays::find_delays;
-use crate::interval_counts::count_stretch;
 use crate::landed_frames::{LandedFrames, OfferedFrame, land_frames};
 use crate::outages::{Outage, find_outages, losses};
 use crate::row_states::{RowState, row_states};
 use crate::service_text::{
     Ends, ROOM, delays_line, members_line, outage_line, service_line, stretch_line,
 };
+use crate::stretch_counts::count_stretch;
 use crate::width_run::WidthRun;
 use fate_engine::fate_core::{Packets, row_cause, starts_true};
 use fate_walks::walk_fates::SeenWalk;

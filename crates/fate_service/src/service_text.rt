@@ -7,9 +7,9 @@ ghost use Rattle.fate_service.specs.ServiceText.{came_text, carried_text, room_t
 ghost use Rattle.fate_service.specs.ServiceText.{stretch_text, delays_text, ends_text, last_text};
 
 use crate::frame_delays::Delays;
-use crate::interval_counts::{Came, Ended, Peak, Stretch};
 use crate::landed_frames::Tally;
 use crate::outages::Outage;
+use crate::stretch_counts::{Came, Ended, Peak, Stretch};
 use crate::width_run::WidthRun;
 use fate_engine::fate_core::Cause;
 use fate_engine::fate_text::{add_cause, truth};

@@ -1,3 +1,3 @@
-pub mod SeenLaws
-pub mod PlaceLaws
-pub mod LineLaws
+pub mod SeenRowLaws
+pub mod WalkRulerLaws
+pub mod FateLineLaws

@@ -1,3 +1,3 @@
-pub mod StreamLaws
-pub mod LandedFrameLaws
-pub mod NextLaws
+pub mod StreamMetLaws
+pub mod ItemCursorLaws
+pub mod NextLandedFrameLaws

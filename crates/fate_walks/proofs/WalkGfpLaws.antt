@@ -1,3 +1,3 @@
-pub mod CarriedLaws
-pub mod HeaderLaws
-pub mod LandedLaws
+pub mod CarriedByFateLaws
+pub mod CarriedHeaderLaws
+pub mod AcceptedAmongLandedLaws

@@ -1,3 +1,3 @@
-pub mod Places
+pub mod PacketsAndRuler
 pub mod Seen
 pub mod MadeWalk

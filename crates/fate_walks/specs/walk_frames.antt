@@ -1,2 +1,2 @@
-pub mod Places
-pub mod Landed
+pub mod StreamInTicks
+pub mod ItemCursor

@@ -1,2 +1,2 @@
-pub mod Carried
-pub mod Records
+pub mod CarriedInRows
+pub mod LastRowOfFrame

@@ -1,5 +1,5 @@
-pub mod ContentLaws
-pub mod QueueLaws
-pub mod OfferLaws
-pub mod CutLaws
-pub mod ChannelLaws
+pub mod LinearContentLaws
+pub mod AcceptedMaySendLaws
+pub mod WaitingFrameLaws
+pub mod CutRowLaws
+pub mod ChannelDeliveryLaws

@@ -1,8 +1,8 @@
-pub mod CutLaws
-pub mod DraftLaws
-pub mod OfferLaws
-pub mod ReceptionSteps
-pub mod StreamLaws
-pub mod TextLaws
-pub mod PlanLaws
-pub mod SaidLaws
+pub mod CutSegmentLaws
+pub mod ChannelDraftLaws
+pub mod OfferRefusalLaws
+pub mod ChannelReceptionSteps
+pub mod SentUpToPlaceLaws
+pub mod ChannelReportLaws
+pub mod PlanDeliveryLaws
+pub mod SaidPlanLaws

@@ -1,5 +1,5 @@
-pub mod AreaLaws
-pub mod BusyLaws
-pub mod ReachLaws
-pub mod StreamSteps
-pub mod TurnLaws
+pub mod LinearOutcomeLaws
+pub mod BusyChannelLaws
+pub mod ReachedPlaceLaws
+pub mod LinearFillSteps
+pub mod ChannelTurnLaws

@@ -1,3 +1,3 @@
-pub mod Kept
+pub mod FramesOfChannel
 pub mod Worked
 pub mod Offers

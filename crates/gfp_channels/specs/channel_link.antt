@@ -1,6 +1,6 @@
 pub mod ChannelTextLines
 pub mod Helps
 pub mod Plan
-pub mod Text
+pub mod ChannelReportText
 pub mod Run
-pub mod Delivered
+pub mod FramesOfPlan

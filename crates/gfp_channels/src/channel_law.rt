@@ -6,14 +6,15 @@
 ghost use Rattle.std.specs.Prelude.{◌≡◌, ℕ, ◌<◌, ◌≤◌, ◌^◌, List, [], ◌∷◌, ◌++◌, length, take, drop, All};
 ghost use Rattle.law_model.specs.Common.{TrueStarts};
 ghost use Rattle.gfp_model.specs.declared.linear_model.Cut.{Cut};
-ghost use Rattle.gfp_model.specs.linear_model.Linear.{ChannelFrame};
+ghost use Rattle.gfp_model.specs.linear_model.ChannelArea.{ChannelFrame};
 ghost use Rattle.gfp_model.specs.linear_model.Channels.{Channels, silent, waiting_of, channel_refusal};
 ghost use Rattle.gfp_channels.specs.channel_law.Offers.{after_frames, accepted_frames};
-ghost use Rattle.gfp_model.specs.linear_model.Stream.{unsent, reached, frames_of, stream_to, cut_rows};
+ghost use Rattle.gfp_model.specs.linear_model.ChannelStream.{unsent, reached, frames_of, stream_to, cut_rows};
 ghost use Rattle.gfp_channels.specs.channel_law.Worked.{worked_channels, worked_pieces, worked_stream, worked_cuts};
 ghost use Rattle.gfp_channels.specs.channel_law.Worked.{worked_rows, zero_channels, first_octets};
-ghost use Rattle.gfp_channels.specs.channel_law.Kept.{AreSound, as_pieces, carried_of, kept_of, delivered_of};
-ghost use Rattle.gfp_channels.specs.channel_law.Kept.{AreOrdered};
+ghost use Rattle.gfp_channels.specs.channel_law.FramesOfChannel.{AreSound, as_pieces, carried_of, kept_of};
+ghost use Rattle.gfp_channels.specs.channel_law.FramesOfChannel.{delivered_of};
+ghost use Rattle.gfp_channels.specs.channel_law.FramesOfChannel.{AreOrdered};
 
 /// What the answer to a frame depends on: the number of channels, and how many frames of that channel wait.
 pub fn answer_law()

@@ -1,4 +1,4 @@
 pub mod LeftOpen
 pub mod Repeated
-pub mod Areas
+pub mod ReceivedAreas
 pub mod Receiver

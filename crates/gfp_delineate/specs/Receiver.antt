@@ -8,7 +8,7 @@ use Rattle.gfp_delineate.specs.declared.hunt_presync_sync.AreaWhy.{AreaWhy}
 use Rattle.gfp_delineate.specs.declared.hunt_presync_sync.AreaWhy.TheVariants.{Unsettled as NotSettled, TooLong as IsLong}
 use Rattle.gfp_delineate.specs.declared.delineator.Step.{Step}
 use Rattle.gfp_delineate.specs.declared.delineator.Step.TheVariants.{Nothing, Frame, Dropped}
-use Rattle.gfp_delineate.specs.Areas.{AreaEnd, keeping, passing, Progress, header_begun_in, IsAt}
+use Rattle.gfp_delineate.specs.ReceivedAreas.{AreaEnd, keeping, passing, Progress, header_begun_in, IsAt}
 
 -- the most octets that a frame may have beside its type header in an area, whose length is told in sixteen bits
 abbrev pub most : ℕ

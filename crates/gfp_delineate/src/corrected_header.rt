@@ -2,7 +2,7 @@
 
 ghost use Rattle.std.specs.Prelude.{◌≡◌, ◌-◌, ◌<◌, ◌⊎◌, ◌≤◌, ◌++◌, ◌∷◌, true, false, replicate, IfSome};
 ghost use Rattle.gfp_model.specs.fcs_model.Flips.{flipped};
-ghost use Rattle.gfp_model.specs.fcs_model.Near.{near};
+ghost use Rattle.gfp_model.specs.fcs_model.NearHeader.{near};
 
 use gfp_headers::read_core;
 

@@ -5,7 +5,7 @@ ghost use Rattle.law_model.specs.Common.{core_header, stream_of, frames_by, is_s
 ghost use Rattle.law_model.specs.frames.Piece.{opening};
 ghost use Rattle.gfp_delineate.specs.Repeated.{idles_from};
 ghost use Rattle.gfp_delineate.specs.Receiver.{most, StandsIn, Advances, Brings, frame_of, header_begun, told_outcomes};
-ghost use Rattle.gfp_delineate.specs.Areas.{ends_told};
+ghost use Rattle.gfp_delineate.specs.ReceivedAreas.{ends_told};
 ghost use Rattle.gfp_delineate.specs.Receiver.{IsClientFrame, outcomes_told, client_of};
 
 use crate::area_octets::first_four;

@@ -4,7 +4,7 @@ ghost use Rattle.std.specs.Prelude.{◌≡◌, ◌≢◌, ℕ, ◌-◌, ◌<◌,
 ghost use Rattle.std.specs.Prelude.{IfOk, IfSome, IfNone, Some};
 ghost use Rattle.law_model.specs.Common.{core_header};
 ghost use Rattle.gfp_delineate.specs.Repeated.{idles_from};
-ghost use Rattle.gfp_delineate.specs.Areas.{IsAt, Goes, Adds, ends_told, header_begun_in, is_sync_by};
+ghost use Rattle.gfp_delineate.specs.ReceivedAreas.{IsAt, Goes, Adds, ends_told, header_begun_in, is_sync_by};
 
 use crate::idle_runs::begins_idle;
 use gfp_scramble::Descrambler;
@@ -70,7 +70,7 @@ pub struct AreaReceiver {
 
 impl Model for AreaReceiver {
     ghost use Rattle.std.specs.Prelude.{vec_len, vec_capacity};
-    ghost use Rattle.gfp_delineate.specs.Areas.{Progress, IsSound};
+    ghost use Rattle.gfp_delineate.specs.ReceivedAreas.{Progress, IsSound};
 
     ghost Value = { Progress };
 

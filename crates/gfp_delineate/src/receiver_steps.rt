@@ -2,7 +2,7 @@
 
 ghost use Rattle.std.specs.Prelude.{◌≡◌, ◌≢◌, ◌+◌, ◌-◌, ◌<◌, ◌≤◌, ◌⊎◌, [], ◌∷◌, ◌++◌, length, take, drop};
 ghost use Rattle.std.specs.Prelude.{false, IfSome};
-ghost use Rattle.gfp_delineate.specs.Areas.{Goes, Adds, ends_told, reader};
+ghost use Rattle.gfp_delineate.specs.ReceivedAreas.{Goes, Adds, ends_told, reader};
 
 use crate::area_octets::{keep, pass_over};
 use crate::corrected_header::read_near;

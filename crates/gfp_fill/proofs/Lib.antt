@@ -1,4 +1,4 @@
-pub mod AreaSteps
-pub mod StreamLaws
-pub mod StreamSteps
-mod IdleLaws
+pub mod SentAreaSteps
+pub mod NextPieceLaws
+pub mod StreamFillSteps
+mod IdleFrameLaws

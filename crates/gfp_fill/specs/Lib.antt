@@ -1,4 +1,4 @@
-pub mod Areas
+pub mod SentAreas
 pub mod Queue
 pub mod Store
-pub mod Stream
+pub mod FilledStream

@@ -3,7 +3,7 @@
 ghost use Rattle.std.specs.Prelude.{◌≡◌, ℕ, ◌+◌, ◌*◌, ◌/◌, ◌^◌, ◌<◌, ◌≤◌, List, [], ◌∷◌, ◌++◌, length, min, take};
 ghost use Rattle.std.specs.Prelude.{replicate, flat_map};
 ghost use Rattle.law_model.specs.Common.{with_header};
-ghost use Rattle.gfp_fill.specs.Areas.{head_of, StandsIn, HasWrittenIn};
+ghost use Rattle.gfp_fill.specs.SentAreas.{head_of, StandsIn, HasWrittenIn};
 
 use crate::copy_octets::{copy_some, put};
 use crate::frame_store::BegunFrame;
@@ -45,7 +45,7 @@ pub struct AreaSender {
 
 impl Model for AreaSender {
     ghost use Rattle.std.specs.Prelude.{◌≤◌};
-    ghost use Rattle.gfp_fill.specs.Areas.{Sender};
+    ghost use Rattle.gfp_fill.specs.SentAreas.{Sender};
 
     ghost Value = { Sender };
 

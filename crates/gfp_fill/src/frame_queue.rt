@@ -5,8 +5,8 @@ ghost use Rattle.std.specs.Prelude.{OnOk, OnErr, IfSome, IfNone};
 ghost use Rattle.std.specs.Result.{result_err};
 ghost use Rattle.law_model.specs.Common.{Stream, refusal_while, offered, longest_frame, most_waiting};
 ghost use Rattle.gfp_fill.specs.Queue.{IsFrameLength, IsOtherLength, unbegun};
-ghost use Rattle.gfp_fill.specs.Areas.{Sender, head_of, StandsIn, HasWrittenIn};
-ghost use Rattle.gfp_fill.specs.Stream.{FillerStands};
+ghost use Rattle.gfp_fill.specs.SentAreas.{Sender, head_of, StandsIn, HasWrittenIn};
+ghost use Rattle.gfp_fill.specs.FilledStream.{FillerStands};
 
 use crate::area_sender::AreaSender;
 use crate::frame_store::{BegunFrame, FrameStore};

@@ -1,11 +1,11 @@
 //! The frames that wait, and the stream of GFP frames that is made of them. It knows nothing of rows, lines or
 //! time: the caller says how many octets come next, and offers frames between. Begin with `FrameQueue` and
-//! `Filler`; what is promised of the two together is `FillerStands` in `specs/Stream.antt`, over the streams of
+//! `Filler`; what is promised of the two together is `FillerStands` in `specs/FilledStream.antt`, over the streams of
 //! law_model's `specs/source/Client.antt`. `filling_law`: a filler at a place of a stream goes with one queue
 //! alone.
 //!
 //! Below it `AreaSender` writes payload areas, whatever is in them, and idle frames, by `StandsIn` of
-//! `specs/Areas.antt`, and `FrameStore` keeps frames in buffers that are taken once. Fillers with frames of other
+//! `specs/SentAreas.antt`, and `FrameStore` keeps frames in buffers that are taken once. Fillers with frames of other
 //! kinds stand on both too.
 #![tactic(auto)]
 
@@ -13,9 +13,9 @@ ghost use Rattle.std.specs.Prelude.{◌≡◌, ℕ, ◌+◌, ◌≤◌, List, []
 ghost use Rattle.law_model.specs.frames.Piece.{opening};
 ghost use Rattle.law_model.specs.Common.{Piece, stream_of, size, Stream, offered, reached, IsFewest};
 ghost use Rattle.law_model.specs.source.Client.{begun};
-ghost use Rattle.gfp_fill.specs.Areas.{Sender};
+ghost use Rattle.gfp_fill.specs.SentAreas.{Sender};
 ghost use Rattle.gfp_fill.specs.Queue.{Held};
-ghost use Rattle.gfp_fill.specs.Stream.{next_pieces, unsent, FillerStands};
+ghost use Rattle.gfp_fill.specs.FilledStream.{next_pieces, unsent, FillerStands};
 
 mod area_sender;
 mod copy_octets;

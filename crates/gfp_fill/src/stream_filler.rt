@@ -3,7 +3,7 @@
 ghost use Rattle.std.specs.Prelude.{◌≡◌, ℕ, ◌+◌, ◌<◌, ◌≤◌, List, length, take, drop};
 ghost use Rattle.law_model.specs.Common.{stream_of, Stream, reached};
 ghost use Rattle.gfp_fill.specs.Queue.{unbegun};
-ghost use Rattle.gfp_fill.specs.Stream.{unsent, FillerStands, Writes};
+ghost use Rattle.gfp_fill.specs.FilledStream.{unsent, FillerStands, Writes};
 
 use crate::area_sender::AreaSender;
 use crate::frame_queue::FrameQueue;
@@ -19,7 +19,7 @@ pub struct Filler {
 }
 
 impl Model for Filler {
-    ghost use Rattle.gfp_fill.specs.Areas.{Sender};
+    ghost use Rattle.gfp_fill.specs.SentAreas.{Sender};
 
     ghost Value = { Sender };
 

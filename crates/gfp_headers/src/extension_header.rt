@@ -2,7 +2,7 @@
 
 ghost use Rattle.std.specs.Prelude.{◌≡◌, ◌≢◌, ◌↔◌, MatchOption, IsErr, slice_index};
 ghost use Rattle.law_model.specs.Common.{hec_of};
-ghost use Rattle.gfp_model.specs.linear_model.Linear.{extension_header, cid_field, cid_check, cid_fault};
+ghost use Rattle.gfp_model.specs.linear_model.ChannelArea.{extension_header, cid_field, cid_check, cid_fault};
 
 use crate::type_header::word;
 use check_hec16::hec;

@@ -3,7 +3,7 @@
 ghost use Rattle.std.specs.Prelude.{◌≡◌, ◌≢◌, ◌↔◌, ◌≤◌, ℕ, ◌+◌, ◌*◌, MatchOption, IsOk};
 ghost use Rattle.law_model.specs.Common.{hec_of, type_header, type_field, type_check, type_fault};
 ghost use Rattle.gfp_model.specs.fcs_model.Fcs.{fcs_header, fcs_type_fault};
-ghost use Rattle.gfp_model.specs.linear_model.Linear.{linear_header, linear_type_fault};
+ghost use Rattle.gfp_model.specs.linear_model.ChannelArea.{linear_header, linear_type_fault};
 ghost use Rattle.gfp_headers.specs.TypeField.{header_with, field_fault_with, type_fault_with};
 
 use check_hec16::hec;

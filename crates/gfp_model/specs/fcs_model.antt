@@ -1,3 +1,3 @@
 pub mod Flips
-pub mod Near
+pub mod NearHeader
 pub mod Fcs

@@ -1,3 +1,3 @@
-pub mod Linear
+pub mod ChannelArea
 pub mod Channels
-pub mod Stream
+pub mod ChannelStream

@@ -1,7 +1,7 @@
 //! Definitions of two kinds of GFP frames (G.7041) that the stream of a session doesn't have: client frames
 //! with a frame check sequence after them, and client frames of channels that share a stream. The frames of a
 //! session are defined in `law_model`. Nothing is read or written here. Begin with `specs/fcs_model/Fcs.antt`
-//! and `specs/linear_model/Linear.antt`.
+//! and `specs/linear_model/ChannelArea.antt`.
 //!
 //! - `fcs_model`: client frames with a frame check sequence after them: their areas, what comes of one, bit
 //!   errors on the way, and core headers that are read in spite of one bit error.

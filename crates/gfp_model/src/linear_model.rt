@@ -1,6 +1,6 @@
 //! Definitions of client frames that share a stream by channel numbers: their areas with linear extension headers, what
 //! comes of one, the queues of the channels and whose turn it is, and the stream with its cuts. Nothing is read or
-//! written here. Begin with `specs/linear_model/Linear.antt`, and for the channels with
+//! written here. Begin with `specs/linear_model/ChannelArea.antt`, and for the channels with
 //! `specs/linear_model/Channels.antt`.
 
 use law_model::TypeFault;

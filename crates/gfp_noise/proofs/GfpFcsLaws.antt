@@ -1,2 +1,2 @@
-pub mod StreamLaws
-pub mod AreaLaws
+pub mod FcsStreamGrowsLaws
+pub mod FcsOutcomeLaws

@@ -1,4 +1,4 @@
-pub mod DraftLaws
-pub mod StreamLaws
-pub mod TextLaws
-pub mod SaidLaws
+pub mod NoiseDraftLaws
+pub mod EmptyStreamLaws
+pub mod NoiseReportLaws
+pub mod SaidNoiseLaws

@@ -1,3 +1,3 @@
-pub mod Single
+pub mod SingleFlip
 pub mod FlippedStream
-pub mod Places
+pub mod FlipPlaces

@@ -1,5 +1,5 @@
 pub mod NoiseTextLines
 pub mod Helps
 pub mod Noise
-pub mod Text
-pub mod Run
+pub mod NoiseReportText
+pub mod ReceivedSoFar

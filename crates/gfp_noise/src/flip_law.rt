@@ -9,11 +9,11 @@ ghost use Rattle.law_model.specs.Common.{core_header, IsPli, pli_of, count, IsFi
 ghost use Rattle.gfp_model.specs.fcs_model.Flips.{flipped};
 ghost use Rattle.std.specs.List.{fold, list_any};
 ghost use Rattle.gfp_model.specs.declared.fcs_model.Flip.{Flip};
-ghost use Rattle.gfp_noise.specs.flip_law.Places.{at, LiesIn, IsRising, turned, flips_of};
-ghost use Rattle.gfp_model.specs.fcs_model.Near.{near, IsNear, check_of};
+ghost use Rattle.gfp_noise.specs.flip_law.FlipPlaces.{at, LiesIn, IsRising, turned, flips_of};
+ghost use Rattle.gfp_model.specs.fcs_model.NearHeader.{near, IsNear, check_of};
 ghost use Rattle.check_crc32.specs.Crc32.{fcs_of};
 ghost use Rattle.gfp_model.specs.fcs_model.Fcs.{fcs_header, fcs_type_fault, fcs_area, delivery, fcs_outcome, frame_in};
-ghost use Rattle.gfp_noise.specs.flip_law.Single.{IsOneOrTwo};
+ghost use Rattle.gfp_noise.specs.flip_law.SingleFlip.{IsOneOrTwo};
 ghost use Rattle.gfp_noise.specs.flip_law.FlippedStream.{worked_frames, one_flip, fcs_stream, IsFrame};
 ghost use Rattle.gfp_noise.specs.flip_law.FlippedStream.{fcs_delivered, window, AreFew};
 ghost use Rattle.gfp_noise.specs.flip_law.FlippedStream.{clear};

@@ -1,2 +1,2 @@
-pub mod ReportLaws
-pub mod HeadlineLaws
+pub mod ReportedFramesLaws
+pub mod ScriptTextHeadlineLaws

@@ -2,12 +2,12 @@
 use Rattle.std.specs.Prelude.{◌≡◌, ◌↔◌, ◌⊎◌, ℕ, ◌≤◌, Bool, true, List, ◌++◌, map, filter, All, Ok}
 use Rattle.law_model.specs.Common.{Leg, leg_of, segments, Extent, Lost}
 use Rattle.law_model.specs.declared.script_types.Script.{Script}
-use Rattle.text_report.specs.Report.{got_texts, refused_texts, total_text}
+use Rattle.text_report.specs.ReportLines.{got_texts, refused_texts, total_text}
 use Rattle.text_scripts.specs.script_read.Script.{script_of}
 use Rattle.law_walk.specs.Common.{session_rows, Numbered, landed_items, refusals_among, totals_among, numbered}
 use Rattle.law_walk.specs.Common.{accepted_frames, session_extents, session_waiting, place_after, HasNoFailure}
 use Rattle.law_walk.specs.Common.{ConfirmsTrue}
-use Rattle.law_headline.specs.Texts.{counts_in}
+use Rattle.law_headline.specs.WalkTexts.{counts_in}
 
 -- ---- which frames
 -- the rows that were taken carry a frame whole, and it is lost in none of the four ways: no failure cuts it off, and

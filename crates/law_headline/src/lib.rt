@@ -7,7 +7,7 @@ ghost use Rattle.law_model.specs.Common.{longest_input, leg_of};
 ghost use Rattle.law_model.specs.declared.script_types.Script.{Script};
 ghost use Rattle.text_scripts.specs.script_read.Script.{script_of};
 ghost use Rattle.law_walk.specs.Common.{final_report};
-ghost use Rattle.law_headline.specs.Texts.{walk_text};
+ghost use Rattle.law_headline.specs.WalkTexts.{walk_text};
 ghost use Rattle.law_headline.specs.Headline.{IsWalkHeadline, IsRunHeadline};
 
 /// Of each text of at most 67,108,864 octets that is a script, `walk` writes the got lines of just those

@@ -1,6 +1,6 @@
 pub mod Numbering
 pub mod Wording
-pub mod Stable
-pub mod Worked
+pub mod StableVerdicts
+pub mod WorkedLines
 pub mod StableRows
-pub mod Sights
+pub mod SightsAsWorded

@@ -9,10 +9,10 @@
 ghost use Rattle.law_line.specs.Numbering.{AreNumbered, AreAt, AreInStep, AreExpected, ArePackets, AreReadable};
 ghost use Rattle.law_line.specs.Numbering.{AreRead};
 ghost use Rattle.law_line.specs.Wording.{IsWorded, IsOnlyCount, AreWhole, AreDecided, EndDecides};
-ghost use Rattle.law_line.specs.Sights.{AreAtSights, AreLockingSights, AreUnknownSights};
-ghost use Rattle.law_line.specs.Stable.{VerdictsStay, OctetsStay, CellsStay};
+ghost use Rattle.law_line.specs.SightsAsWorded.{AreAtSights, AreLockingSights, AreUnknownSights};
+ghost use Rattle.law_line.specs.StableVerdicts.{VerdictsStay, OctetsStay, CellsStay};
 ghost use Rattle.law_line.specs.StableRows.{PacketsStay, GoverningStay, CarriersStay, RowsStay, ReturnsStay};
-ghost use Rattle.law_line.specs.Worked.{IsMet, AreSummed, AreSeventeen};
+ghost use Rattle.law_line.specs.WorkedLines.{IsMet, AreSummed, AreSeventeen};
 
 /// The cells of a line with windows of failures, whose slip is below 4,096, have the numbers of its containers.
 pub fn numbering_law()

@@ -6,7 +6,7 @@ use Rattle.law_model.specs.declared.window_types.Window.{Window}
 use Rattle.law_model.specs.declared.script_types.Config.{Config}
 use Rattle.law_model.specs.declared.script_types.Item.{Item}
 use Rattle.law_model.specs.members.Damage.{carried}
-use Rattle.law_live.specs.Live.{Live, windows_by, course_at}
+use Rattle.law_live.specs.LiveSayings.{Live, windows_by, course_at}
 
 -- the same comes of each container below a number
 abbrev pub IsSameBelow : ℕ → List Window → List Window → Type 0

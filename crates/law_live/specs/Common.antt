@@ -1,14 +1,14 @@
 -- The words that most definitions and proofs cite, passed on from one place. Declares nothing.
-pub use Rattle.law_live.specs.Live.{Saying, lands, cuts, mends, passes, LineCourse, Live, uncut, opened, closed, windows_by}
-pub use Rattle.law_live.specs.Live.{course_at, cut_at, mended_at, with_course, item_at, live_after, live_of, frames_in}
-pub use Rattle.law_live.specs.Live.{commands_in}
-unfoldable pub use Rattle.law_live.specs.Live.{live_from}
+pub use Rattle.law_live.specs.LiveSayings.{Saying, lands, cuts, mends, passes, LineCourse, Live, uncut, opened, closed, windows_by}
+pub use Rattle.law_live.specs.LiveSayings.{course_at, cut_at, mended_at, with_course, item_at, live_after, live_of, frames_in}
+pub use Rattle.law_live.specs.LiveSayings.{commands_in}
+unfoldable pub use Rattle.law_live.specs.LiveSayings.{live_from}
 pub use Rattle.law_live.specs.WellSaid.{CanCut, IsOfLine, IsPass, CanSay, IsWellSaid}
 unfoldable pub use Rattle.law_live.specs.WellSaid.{CanSayAll}
 pub use Rattle.law_live.specs.LiveCounts.{live_round, rounds_for, landing_of, rounds_said, counts_said, live_counts}
 pub use Rattle.law_live.specs.LiveCounts.{rounds_of}
 unfoldable pub use Rattle.law_live.specs.LiveCounts.{after_rounds, rounds_until, counts_from, rounds_from}
-pub use Rattle.law_live.specs.LiveScript.{config_by, leg_by, leg_said, counted, events_by, script_by, script_said}
+pub use Rattle.law_live.specs.ScriptOfSayings.{config_by, leg_by, leg_said, counted, events_by, script_by, script_said}
 pub use Rattle.law_live.specs.LiveAnswers.{Answer, refused_item, step_made, got_at, now_at, next_item, refused_answer}
 pub use Rattle.law_live.specs.LiveAnswers.{item_answers, steps_between, round_answers, pass_answers}
 pub use Rattle.law_live.specs.LiveAnswers.{answers_to, answers, frames_got, items_refused, steps_made, times_told}

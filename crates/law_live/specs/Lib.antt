@@ -1,8 +1,8 @@
-pub mod Live
+pub mod LiveSayings
 pub mod WellSaid
 pub mod LiveCounts
-pub mod LiveScript
+pub mod ScriptOfSayings
 pub mod LiveAnswers
 pub mod Agrees
-pub mod Worked
+pub mod WorkedSayings
 pub mod Common

@@ -4,13 +4,13 @@
 use Rattle.std.specs.Prelude.{ℕ, zero, suc, ◌+◌, ◌≤◌, nat_lt, List, [], ◌∷◌, ◌++◌, map, flat_map, codes}
 use Rattle.std.specs.Prelude.{decimal, Option, Some, None, if◌then◌else◌}
 use Rattle.hex.specs.Hex.{encode_lower}
-use Rattle.text_report.specs.Report.{got_texts, refused_text, refused_texts, total_text}
+use Rattle.text_report.specs.ReportLines.{got_texts, refused_text, refused_texts, total_text}
 use Rattle.law_model.specs.Common.{Leg, Counts, begin, steps_in}
 use Rattle.law_model.specs.declared.item_refusals.Refusal.{Refusal}
 use Rattle.law_model.specs.declared.script_types.ItemKind.{ItemKind}
 use Rattle.law_walk.specs.Common.{Numbered, refusal_at, totals_of, walk_plan}
-use Rattle.law_walk.specs.Delivered.{delivered_since}
-use Rattle.law_live.specs.Live.{Saying, lands, cuts, mends, passes, item_at}
+use Rattle.law_walk.specs.DeliveredFrames.{delivered_since}
+use Rattle.law_live.specs.LiveSayings.{Saying, lands, cuts, mends, passes, item_at}
 use Rattle.law_live.specs.LiveCounts.{live_round, rounds_for, counts_said, live_counts}
 
 -- an item, by its number, is refused; a decision step is made; in a tick a frame comes out; so many ticks have passed

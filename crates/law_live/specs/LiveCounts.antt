@@ -6,7 +6,7 @@ use Rattle.law_model.specs.declared.walk_events.Event.{Event}
 use Rattle.law_model.specs.declared.walk_events.Event.TheVariants.{Accept, Command, Tick}
 use Rattle.law_model.specs.declared.script_types.ItemKind.{ItemKind}
 use Rattle.law_walk.specs.Common.{is_client, walk_plan}
-use Rattle.law_live.specs.Live.{Saying, lands, cuts, mends, passes}
+use Rattle.law_live.specs.LiveSayings.{Saying, lands, cuts, mends, passes}
 
 -- ---- rounds
 -- a tick, a carry of each line, a return packet and a row, each one try

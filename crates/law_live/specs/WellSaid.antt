@@ -3,7 +3,7 @@ use Rattle.std.specs.Prelude.{◌≡◌, ℕ, ◌+◌, ◌<◌, ◌≤◌, List,
 use Rattle.law_model.specs.declared.window_types.Window.{Window}
 use Rattle.law_model.specs.declared.script_types.Config.{Config}
 use Rattle.law_model.specs.Common.{IsKind, longest_input}
-use Rattle.law_live.specs.Live.{Saying, lands, cuts, mends, passes, LineCourse, Live, opened, course_at, live_after}
+use Rattle.law_live.specs.LiveSayings.{Saying, lands, cuts, mends, passes, LineCourse, Live, opened, course_at, live_after}
 
 -- no failure of a line lasts, and one more can be told
 pub record CanCut (passed : ℕ) (course : LineCourse) : Type 0 where

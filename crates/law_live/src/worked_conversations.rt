@@ -4,9 +4,9 @@ ghost use Rattle.std.specs.Prelude.{◌≡◌, [], ◌∷◌};
 ghost use Rattle.law_model.specs.Common.{begin};
 ghost use Rattle.law_model.specs.declared.script_types.EventLine.TheVariants.{Client, Operator, Round};
 ghost use Rattle.law_live.specs.Common.{CanSayAll, counted, counts_from, events_by, live_from, rounds_from};
-ghost use Rattle.law_live.specs.Worked.{cut_and_mended, delayed_plan, delayed_talk, dues_after, idle_plan};
-ghost use Rattle.law_live.specs.Worked.{idle_talk, known_failures, least_plan, lines_with};
-ghost use Rattle.law_live.specs.Worked.{one_cut, short_talk, three_ticks, two_lines, window, windows_after};
+ghost use Rattle.law_live.specs.WorkedSayings.{cut_and_mended, delayed_plan, delayed_talk, dues_after, idle_plan};
+ghost use Rattle.law_live.specs.WorkedSayings.{idle_talk, known_failures, least_plan, lines_with};
+ghost use Rattle.law_live.specs.WorkedSayings.{one_cut, short_talk, three_ticks, two_lines, window, windows_after};
 
 /// Worked conversations, computed. A cut and a mend in one tick leave no window, and a failure that isn't over
 /// ends now; an item is due when it is said. At the least lag some rounds make no tick: 41 ticks take 43, and

@@ -4,8 +4,8 @@ use Rattle.std.proofs.Common.{inr, length-append}
 use Rattle.std.proofs.lemmas.List.{length-map}
 use Rattle.std.proofs.lemmas.List.Elements.{All-nil, All-append, All-map, All-weaker}
 use Rattle.law_model.specs.Common.{IsPli, type_header, Piece, idle, client, area_of, joined, stream_of}
-use Rattle.law_model.proofs.StreamLaws.{areas_behind, pieces_behind-append, length-areas_behind}
-use Rattle.law_loss.specs.Kind.{Kind, IsKind, area_in, stream_in, IsPieceIn}
+use Rattle.law_model.proofs.StreamOfAreasLaws.{areas_behind, pieces_behind-append, length-areas_behind}
+use Rattle.law_loss.specs.FrameKind.{Kind, IsKind, area_in, stream_in, IsPieceIn}
 
 pub idle_fits : IsPli 0
 idle_fits = (omega arith, inl refl)

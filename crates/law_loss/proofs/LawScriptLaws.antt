@@ -1,1 +1,1 @@
-pub mod ItemLaws
+pub mod ItemDueTicksLaws

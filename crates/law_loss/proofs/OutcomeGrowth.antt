@@ -7,11 +7,11 @@ use Rattle.std.proofs.lemmas.List.{drop-append-le, take-append-le}
 use Rattle.law_model.specs.Common.{Confirmed, header_with, header_at, confirm_by, confirm_with, hunt_by, hunt_within}
 use Rattle.law_model.specs.Common.{hunt, head, joined, Run, Followed, no_area, follow_with, areas, after_run, runs}
 use Rattle.law_model.specs.Common.{Outcome, client_outcome, outcomes_after, descrambled_areas, run_outcomes, outcomes}
-use Rattle.law_model.proofs.AreaLaws.{descrambled_behind, descrambled_areas-append}
+use Rattle.law_model.proofs.ScrambledAreasLaws.{descrambled_behind, descrambled_areas-append}
 use Rattle.gfp_delineate.proofs.HuntLaws.{no_header, viewed, search}
-use Rattle.gfp_delineate.proofs.RunLaws.{follow-few, follow-lost, follow-part, follow-whole}
-use Rattle.law_loss.proofs.FoundLaws.{runs_after, runs_of_search, runs-search}
-use Rattle.gfp_delineate.proofs.OutcomeLaws.{outcomes_after-append}
+use Rattle.gfp_delineate.proofs.RunOfAreasLaws.{follow-few, follow-lost, follow-part, follow-whole}
+use Rattle.law_loss.proofs.RefusedHeaderSearchLaws.{runs_after, runs_of_search, runs-search}
+use Rattle.gfp_delineate.proofs.AreaOutcomeLaws.{outcomes_after-append}
 
 -- a search in fewer octets finds nothing, or what the other one finds, with more octets after it
 abbrev pub FollowsIn : List ℕ → ℕ → Option Confirmed → Option Confirmed → Type 0

@@ -16,12 +16,12 @@ use Rattle.law_model.specs.declared.item_refusals.AcceptFault.TheVariants.{Lengt
 use Rattle.law_model.specs.declared.window_types.Window.{Window}
 use Rattle.law_model.specs.members.Damage.{carried}
 use Rattle.law_model.specs.rows.SessionStream.{row_of}
-use Rattle.law_session.proofs.ClientLaws.{stream_before-frames}
-use Rattle.law_loss.specs.Carried.{CarriesStream, IsSentFrame, IsSentPiece, AreOctets, IsUndamaged}
-use Rattle.law_loss.proofs.KeptLaws.{deliver-kept}
-use Rattle.law_loss.proofs.WholeLaws.{IsWhole, deliver-whole}
-use Rattle.law_loss.proofs.ExtentLaws.{frames_ended}
-use Rattle.law_loss.proofs.PrefixLaws.{all_frames, frames_to-first}
+use Rattle.law_session.proofs.ClientStreamLaws.{stream_before-frames}
+use Rattle.law_loss.specs.CarriedStream.{CarriesStream, IsSentFrame, IsSentPiece, AreOctets, IsUndamaged}
+use Rattle.law_loss.proofs.KeptFramesLaws.{deliver-kept}
+use Rattle.law_loss.proofs.OneSegmentIfWholeLaws.{IsWhole, deliver-whole}
+use Rattle.law_loss.proofs.FrameExtentsLaws.{frames_ended}
+use Rattle.law_loss.proofs.FirstFramesLaws.{all_frames, frames_to-first}
 use Rattle.law_loss.proofs.SessionStreamLaws.{pieces-open, rows-carry, rows-length, All-accepted}
 
 -- ---- accepted frames may be sent

@@ -7,10 +7,10 @@ use Rattle.law_model.proofs.ListLaws.{within-append}
 use Rattle.law_model.specs.Common.{Piece, idle, area_of, joined, stream_of, Scenario, Told, kept_by, accepted_of, width}
 use Rattle.law_model.specs.Common.{place_of, stream_before, octets_of_rows, payload_of, rows_of}
 use Rattle.law_model.specs.rows.SessionStream.{row_of}
-use Rattle.law_model.proofs.StreamLaws.{stream_of-append, stream_behind}
-use Rattle.law_session.proofs.ClientLaws.{stream-reaches, stream_before-fewest}
-use Rattle.law_loss.specs.Carried.{CarriesStream}
-use Rattle.law_loss.proofs.CarriedLaws.{octets-push}
+use Rattle.law_model.proofs.StreamOfAreasLaws.{stream_of-append, stream_behind}
+use Rattle.law_session.proofs.ClientStreamLaws.{stream-reaches, stream_before-fewest}
+use Rattle.law_loss.specs.CarriedStream.{CarriesStream}
+use Rattle.law_loss.proofs.OctetsOfRowsLaws.{octets-push}
 
 -- ---- the pieces of a later frame begin with those of an earlier one
 abbrev pub Begins : List Piece → List Piece → Type 0

@@ -1,4 +1,4 @@
-pub mod Carried
-pub mod Added
-pub mod Worked
-pub mod Kind
+pub mod CarriedStream
+pub mod AddedFrames
+pub mod WorkedLosses
+pub mod FrameKind

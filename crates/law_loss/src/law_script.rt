@@ -2,9 +2,9 @@
 //! octets. There is no code here. What a walk asks is in `law_walk`: its `plan_law`. Begin at `read_law`.
 
 ghost use Rattle.law_model.specs.Common.{Leg, IsSound, scenario_by, orders_of, offers_of};
-ghost use Rattle.law_session.specs.Landing.{AreOrdersInOrder, AreOffersInOrder};
-ghost use Rattle.law_session.specs.Use.{HasLimits};
-ghost use Rattle.law_loss.specs.Carried.{AreOctets};
+ghost use Rattle.law_session.specs.LandingByStep.{AreOrdersInOrder, AreOffersInOrder};
+ghost use Rattle.law_session.specs.LineInUse.{HasLimits};
+ghost use Rattle.law_loss.specs.CarriedStream.{AreOctets};
 
 /// A sound leg has a lag of at least one packet and at most 128 lines, and 16 or 32 return packets tell all
 /// statuses; its commands land in their order, and so do its frames; and these are octets.

@@ -1,7 +1,7 @@
 //! The laws of losses: which frames come through a stream that comes in rows, of which some aren't whole. There
 //! is no code here. Begin at `loss_law`, which is of any stream and rows; `ways_law` has the four ways in which
 //! a frame is lost, and `session_loss_law` and `hitless_law` say it of a session. The proofs of `loss_law` and
-//! `whole_law` are of any kind of frames (`specs/Kind.antt`), of which Ethernet frames are one.
+//! `whole_law` are of any kind of frames (`specs/FrameKind.antt`), of which Ethernet frames are one.
 //!
 //! - `law_script`: what the laws of a session and of delivery ask of a scenario, that of a sound leg has.
 #![tactic(auto)]
@@ -14,9 +14,10 @@ ghost use Rattle.law_model.specs.Common.{Confirmed, hunt, Piece, idle, frames_by
 ghost use Rattle.law_model.specs.Common.{stream_before, frames_before, is_whole_row, StreamRow, segments, deliver};
 ghost use Rattle.law_model.specs.Common.{octets_of_rows, Extent, extents, confirmed_in, Lost, is_frame_lost};
 ghost use Rattle.law_model.specs.Common.{IsPlaceOfPiece, TrueStarts, frames_kept, rows_of, longest_frame};
-ghost use Rattle.law_loss.specs.Carried.{CarriesStream, IsSentPiece, AreOctets, IsUndamaged};
-ghost use Rattle.law_loss.specs.Worked.{worked_pieces, worked_rows, kept_frame, places_of, ends_of, worked_places};
-ghost use Rattle.law_loss.specs.Worked.{worked_ends, worked_confirmed, worked_lost};
+ghost use Rattle.law_loss.specs.CarriedStream.{CarriesStream, IsSentPiece, AreOctets, IsUndamaged};
+ghost use Rattle.law_loss.specs.WorkedLosses.{worked_pieces, worked_rows, kept_frame, places_of, ends_of};
+ghost use Rattle.law_loss.specs.WorkedLosses.{worked_places};
+ghost use Rattle.law_loss.specs.WorkedLosses.{worked_ends, worked_confirmed, worked_lost};
 
 /// Where each place that is confirmed first after a break is that of a piece, the frames delivered are those
 /// that the rows carry and that aren't lost: nothing is altered or invented.

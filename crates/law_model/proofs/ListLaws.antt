@@ -13,7 +13,7 @@ use Rattle.std.proofs.lemmas.List.Elements.{All-nil, All-cons, All-head, All-tai
 use Rattle.std.proofs.lemmas.List.FromFn.{length-map-range_with_len, get_or-map-range_with_len, map-range_with_len_more}
 use Rattle.std.proofs.lemmas.Option.{slice_get-get_or}
 use Rattle.std.proofs.Math.Seq.{take-append-add}
-pub use Rattle.check_nibbles.proofs.LockLaws.{slice_get-append, slice_get-append_seam}
+pub use Rattle.check_nibbles.proofs.CellsInStepLaws.{slice_get-append, slice_get-append_seam}
 
 -- ---- an element that is there, or not
 pub slice_get-inside : {X : Type 0} (xs : List X) (k : ℕ) → k < length xs → (x : X) × (slice_get xs k ≡ Some x)

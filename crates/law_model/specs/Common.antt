@@ -33,11 +33,11 @@ pub use Rattle.law_model.specs.frames.TypeHeader.{type_check, type_field, type_h
 unfoldable pub use Rattle.law_model.specs.frames.TypeHeader.{type_fault}
 pub use Rattle.law_model.specs.members.Damage.{carried_in, is_damaged, is_good, is_readable, is_whole, lock_of, slip_of}
 unfoldable pub use Rattle.law_model.specs.members.Damage.{AreWindows, are_whole, slip_after}
-pub use Rattle.law_model.specs.members.Line.{AreSent, HasPlace, IsLine, expected, sent_nibbles}
-pub use Rattle.law_model.specs.members.Number.{LineLock, Reading, Sight, ahead, at, lock_after, locked, locks, over}
-pub use Rattle.law_model.specs.members.Number.{read_at, read_good, reading_of, sight_of, unknown, unlocked, verdict}
-pub use Rattle.law_model.specs.members.Number.{verdict_in, verdict_or, verdict_over, verdicts_by}
-unfoldable pub use Rattle.law_model.specs.members.Number.{read_on}
+pub use Rattle.law_model.specs.members.SentAndExpected.{AreSent, HasPlace, IsLine, expected, sent_nibbles}
+pub use Rattle.law_model.specs.members.CellVerdicts.{LineLock, Reading, Sight, ahead, at, lock_after, locked, locks, over}
+pub use Rattle.law_model.specs.members.CellVerdicts.{read_at, read_good, reading_of, sight_of, unknown, unlocked, verdict}
+pub use Rattle.law_model.specs.members.CellVerdicts.{verdict_in, verdict_or, verdict_over, verdicts_by}
+unfoldable pub use Rattle.law_model.specs.members.CellVerdicts.{read_on}
 pub use Rattle.law_model.specs.members.Path.{cells, cells_of, end_of}
 unfoldable pub use Rattle.law_model.specs.members.Path.{path}
 pub use Rattle.law_model.specs.members.Timers.{IsUp, IsUpSince, are_missed, is_restored}
@@ -64,18 +64,18 @@ pub use Rattle.law_model.specs.packets.PacketText.{bit_text, ctrl_text, nibble_t
 pub use Rattle.law_model.specs.packets.ReturnPacket.{Row, ack_by, ack_of, agree, has_packet, have_one_chg, is_member, is_same}
 pub use Rattle.law_model.specs.packets.ReturnPacket.{last_word, last_word_by, leader, mst_of, packet_on, packet_row}
 pub use Rattle.law_model.specs.packets.ReturnPacket.{return_of, says_at, sink_state, state_next, status_of}
-pub use Rattle.law_model.specs.packets.Telling.{mst_by, passed_on, sent_packet, telling, telling_at, untold}
-pub use Rattle.law_model.specs.packets.Told.{oks_in, packet_read, told_by, told_in}
+pub use Rattle.law_model.specs.packets.TellsOtherWay.{mst_by, passed_on, sent_packet, telling, telling_at, untold}
+pub use Rattle.law_model.specs.packets.ToldToSource.{oks_in, packet_read, told_by, told_in}
 pub use Rattle.law_model.specs.rows.Interleave.{octets_at, parts_of}
 unfoldable pub use Rattle.law_model.specs.rows.Interleave.{octets_from, part_of}
 pub use Rattle.law_model.specs.rows.Carriers.{active_of, are_worded, carriers_by, carriers_of, has, in_norm, inferred}
 pub use Rattle.law_model.specs.rows.Carriers.{is_carrying, is_silent, last_packet, lines_at, packet_of_last, says_member}
 pub use Rattle.law_model.specs.rows.Carriers.{supposed, supposed_row}
 unfoldable pub use Rattle.law_model.specs.rows.Carriers.{active_from}
-pub use Rattle.law_model.specs.rows.Rows.{carried_row, carriers_at, container_in, container_on, containers_at, first_open}
-pub use Rattle.law_model.specs.rows.Rows.{governing, read_packet, read_packets, return_at, row_at, with_first}
-pub use Rattle.law_model.specs.rows.Sent.{active_at, container_of, containers_of, frame_of, nibble_at, nibble_in}
-pub use Rattle.law_model.specs.rows.Sent.{payload_by, payload_on, rank_of}
+pub use Rattle.law_model.specs.rows.GroupRows.{carried_row, carriers_at, container_in, container_on, containers_at, first_open}
+pub use Rattle.law_model.specs.rows.GroupRows.{governing, read_packet, read_packets, return_at, row_at, with_first}
+pub use Rattle.law_model.specs.rows.SessionContainers.{active_at, container_of, containers_of, frame_of, nibble_at, nibble_in}
+pub use Rattle.law_model.specs.rows.SessionContainers.{payload_by, payload_on, rank_of}
 pub use Rattle.law_model.specs.rows.SessionRows.{are_inferred, are_known, is_inferred, is_known, is_silent_line}
 pub use Rattle.law_model.specs.rows.SessionRows.{is_whole_row, is_whole_under, known_lines, packet_if, packets_from}
 pub use Rattle.law_model.specs.rows.SessionRows.{packets_of, was_member}
@@ -95,13 +95,13 @@ pub use Rattle.law_model.specs.session.Plan.{greatest_slip, least, least_or, pat
 pub use Rattle.law_model.specs.session.Scenario.{DueCommand, DueFrame, Scenario, carried_by, comes_at, frames_at}
 pub use Rattle.law_model.specs.session.Scenario.{is_heard, is_lost, is_read, lands_at, offer_of, offers_of, order_of}
 pub use Rattle.law_model.specs.session.Scenario.{orders_at, orders_of, packets, scenario_by, scenario_of, steps_in}
-pub use Rattle.law_model.specs.session.Valid.{AreItems, HasFailures, HasFewLosses, HasLosses, IsCount, IsEvent, IsItem}
-pub use Rattle.law_model.specs.session.Valid.{IsKind, IsNetwork, IsSize, IsSound, IsValid, IsWithin}
-unfoldable pub use Rattle.law_model.specs.session.Valid.{AreApart}
+pub use Rattle.law_model.specs.session.ValidScript.{AreItems, HasFailures, HasFewLosses, HasLosses, IsCount, IsEvent, IsItem}
+pub use Rattle.law_model.specs.session.ValidScript.{IsKind, IsNetwork, IsSize, IsSound, IsValid, IsWithin}
+unfoldable pub use Rattle.law_model.specs.session.ValidScript.{AreApart}
 pub use Rattle.law_model.specs.source.Accepted.{accepted_of, kept_by, refusal_in}
-pub use Rattle.law_model.specs.source.Back.{group_of, is_line, is_line_up, return_cell, return_packet, said}
-pub use Rattle.law_model.specs.source.Back.{session_cells, stands_at, status, word, word_by}
-unfoldable pub use Rattle.law_model.specs.source.Back.{cells_before, said_before}
+pub use Rattle.law_model.specs.source.SessionReturns.{group_of, is_line, is_line_up, return_cell, return_packet, said}
+pub use Rattle.law_model.specs.source.SessionReturns.{session_cells, stands_at, status, word, word_by}
+unfoldable pub use Rattle.law_model.specs.source.SessionReturns.{cells_before, said_before}
 pub use Rattle.law_model.specs.source.Client.{IsFewest, Stream, frame_refusal, frames_in, next_by, offered, offered_by}
 pub use Rattle.law_model.specs.source.Client.{reached, refusal_while, size, width}
 unfoldable pub use Rattle.law_model.specs.source.Client.{place_of, reaching, stream_before}
@@ -118,24 +118,24 @@ pub use Rattle.law_model.specs.source.Table.{Table, Told, acknowledged_by, activ
 pub use Rattle.law_model.specs.source.Table.{first_table, heard, in_use, is_adding, is_fail, is_for, is_norm, is_normal}
 pub use Rattle.law_model.specs.source.Table.{is_ok, kept_in, kept_of, member_of, told_on, turn}
 unfoldable pub use Rattle.law_model.specs.source.Table.{admit, exchange, keep, none_kept, take_out, turned}
-pub use Rattle.member_cells.specs.Code.{code_of, ctrl_of}
-pub use Rattle.member_cells.specs.Held.{blank}
+pub use Rattle.member_cells.specs.ControlCode.{code_of, ctrl_of}
+pub use Rattle.member_cells.specs.HeldPlaces.{blank}
 pub use Rattle.member_cells.specs.declared.containers_and_cells.BackCell.{BackCell}
 pub use Rattle.member_cells.specs.declared.containers_and_cells.Cell.{Cell}
 pub use Rattle.member_cells.specs.declared.containers_and_cells.Cell.TheVariants.{End, Fail, Good}
 pub use Rattle.member_cells.specs.declared.containers_and_cells.Container.{Container}
 pub use Rattle.member_cells.specs.declared.control_word.Ctrl.{Ctrl}
 pub use Rattle.member_cells.specs.declared.control_word.Ctrl.TheVariants.{Eos}
-pub use Rattle.check_hec16.specs.Fixed.{IsFixed}
+pub use Rattle.check_hec16.specs.OneWrongBit.{IsFixed}
 pub use Rattle.check_hec16.specs.Hec.{hec_bits}
 unfoldable pub use Rattle.check_hec16.specs.Hec.{hec_of}
-pub use Rattle.octet_io.specs.Faults.{one_more}
+pub use Rattle.octet_io.specs.FaultCounts.{one_more}
 pub use Rattle.octet_io.specs.Start.{Start}
 pub use Rattle.octet_io.specs.Transfer.{Appends, AppendsPart, GivesAll, Tells}
-unfoldable pub use Rattle.check_nibbles.specs.Check.{crc8_of}
-pub use Rattle.check_nibbles.specs.Lock.{HasMfi1, HasMfi2, HasNumber, IsAt, IsFirstStep, IsInStep, IsOutOfStep, Locks}
+unfoldable pub use Rattle.check_nibbles.specs.NibbleCheck.{crc8_of}
+pub use Rattle.check_nibbles.specs.MultiframeLock.{HasMfi1, HasMfi2, HasNumber, IsAt, IsFirstStep, IsInStep, IsOutOfStep, Locks}
 pub use Rattle.check_remainder.specs.Bits.{number, octet_bits, xor}
 unfoldable pub use Rattle.check_remainder.specs.Bits.{bits, number_behind, octets_of, xors}
-unfoldable pub use Rattle.check_remainder.specs.Count.{count}
+unfoldable pub use Rattle.check_remainder.specs.BitCount.{count}
 pub use Rattle.check_remainder.specs.Remainder.{remainder}
 unfoldable pub use Rattle.check_remainder.specs.Remainder.{add_front, divide}

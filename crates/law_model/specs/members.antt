@@ -1,7 +1,7 @@
 pub mod Damage
 pub mod Path
-pub mod Number
-pub mod Line
+pub mod CellVerdicts
+pub mod SentAndExpected
 pub mod Sign
 pub mod Sight
 pub mod Timers

@@ -1,8 +1,8 @@
 pub mod Packet
-pub mod Told
+pub mod ToldToSource
 pub mod GroupBit
 pub mod Forward
-pub mod Telling
+pub mod TellsOtherWay
 pub mod ReturnPacket
 pub mod MemberPacket
 pub mod Decode

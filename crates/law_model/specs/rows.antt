@@ -1,6 +1,6 @@
 pub mod Carriers
-pub mod Rows
+pub mod GroupRows
 pub mod SessionRows
-pub mod Sent
+pub mod SessionContainers
 pub mod SessionStream
 pub mod Interleave

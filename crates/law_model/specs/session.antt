@@ -3,4 +3,4 @@ pub mod Leg
 pub mod Scenario
 pub mod Counts
 pub mod Plan
-pub mod Valid
+pub mod ValidScript

@@ -1,7 +1,7 @@
 pub mod Table
 pub mod Source
 pub mod Course
-pub mod Back
+pub mod SessionReturns
 pub mod Client
 pub mod Accepted
 pub mod Journal

@@ -1,13 +1,13 @@
-pub mod TellingLaws
-pub mod WayLaws
-pub mod HeardLaws
-pub mod ItemLaws
+pub mod TellingChangesNothingLaws
+pub mod WaysAreSoundLaws
+pub mod HeardInPacketsLaws
+pub mod NextItemOfWayLaws
 pub mod OneWayLaws
-pub mod TickLaws
-pub mod GoingLaws
+pub mod PairTickLaws
+pub mod PairGoesOnLaws
 pub mod PairMoveLaws
-pub mod PairEndLaws
+pub mod PairRoundsEndLaws
 pub mod PairStallLaws
 pub mod PairPlanLaws
-pub mod LinkLaws
-mod MetLaws
+pub mod WaysMeetLaws
+mod WorkedPairLaws

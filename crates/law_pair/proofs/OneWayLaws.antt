@@ -14,10 +14,10 @@ use Rattle.law_model.specs.declared.walk_events.StallCause.TheVariants.{NotDue, 
 use Rattle.law_model.specs.session.Scenario.{packets_in}
 use Rattle.law_model.specs.session.Counts.{back}
 use Rattle.law_progress.specs.Progress.{sum_lines, made}
-use Rattle.law_progress.proofs.MoveLaws.{Lands}
-use Rattle.law_progress.proofs.ReachLaws.{Leads, run-none}
+use Rattle.law_progress.proofs.SomeEventMovesLaws.{Lands}
+use Rattle.law_progress.proofs.ReachedByEventsLaws.{Leads, run-none}
 use Rattle.law_pair.specs.Common.{left_after, tick_of, first_due, landed, land_first, land_item, take_said, take_one}
-use Rattle.law_pair.proofs.ItemLaws.{frame-lands, command-lands, IsDueBy, frame-due, command-due}
+use Rattle.law_pair.proofs.NextItemOfWayLaws.{frame-lands, command-lands, IsDueBy, frame-due, command-due}
 
 -- what is counted of a way but its ticks and return packets
 abbrev pub way_made : Counts → ℕ

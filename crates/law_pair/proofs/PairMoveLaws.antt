@@ -6,11 +6,11 @@ use Rattle.law_model.specs.declared.walk_events.Event.{Event}
 use Rattle.law_model.specs.declared.walk_events.StallCause.{StallCause}
 use Rattle.law_model.specs.declared.walk_events.Event.TheVariants as walk
 use Rattle.law_progress.specs.Progress.{IsPlan, IsReached, LineFits, Fits, made, HasLine, cells_popped, IsProgress}
-use Rattle.law_progress.proofs.EachLaws.{each-map}
-use Rattle.law_progress.proofs.StepLaws.{carry-kept}
-use Rattle.law_progress.proofs.TakeLaws.{take-kept}
-use Rattle.law_progress.proofs.StallLaws.{is_progress}
-use Rattle.law_progress.proofs.MoveLaws.{rows-ticks, reached-fits, reached-moves}
+use Rattle.law_progress.proofs.LinesBesidePathsLaws.{each-map}
+use Rattle.law_progress.proofs.EventKeepsBoundsLaws.{carry-kept}
+use Rattle.law_progress.proofs.TakePopsCellsLaws.{take-kept}
+use Rattle.law_progress.proofs.StalledEventLaws.{is_progress}
+use Rattle.law_progress.proofs.SomeEventMovesLaws.{rows-ticks, reached-fits, reached-moves}
 use Rattle.law_pair.specs.Common.{PairPlan, PairCounts, plan_on, counts_on, with_counts, land_item, take_one}
 use Rattle.law_pair.specs.Common.{tick_cause, tick_by, pair_step, carries_on, pair_round, with_lag, IsPairPlan}
 use Rattle.law_pair.specs.Common.{HasWayLine, IsPairProgress, IsOpen}
@@ -20,8 +20,8 @@ use Rattle.law_pair.specs.declared.pair_events.PairEvent.{PairEvent}
 use Rattle.law_pair.specs.declared.pair_events.PairEvent.TheVariants.{Item, Tick, Carry, Take}
 use Rattle.law_pair.proofs.OneWayLaws.{way_made, HasSaid, OneWay, Grows, item-leads, item-grows, accept-moves}
 use Rattle.law_pair.proofs.OneWayLaws.{command-moves, carry-leads, carry-more, take-leads, take-as, back-none}
-use Rattle.law_pair.proofs.TickLaws.{IsFree, tick-free, free-both}
-use Rattle.law_pair.proofs.GoingLaws.{IsGoing}
+use Rattle.law_pair.proofs.PairTickLaws.{IsFree, tick-free, free-both}
+use Rattle.law_pair.proofs.PairGoesOnLaws.{IsGoing}
 
 -- ---- the measure: the ticks of both ways at once, and what is counted of each
 abbrev pub pair_made : PairCounts → ℕ

@@ -6,20 +6,20 @@ use Rattle.law_model.specs.declared.script_types.Config.{Config}
 use Rattle.law_model.specs.declared.script_types.Script.{Script}
 use Rattle.law_model.specs.session.Scenario.{packets_in}
 use Rattle.law_progress.specs.Progress.{IsPlan}
-use Rattle.law_progress.proofs.LineLaws.{can_run-plan}
-use Rattle.law_terminal.proofs.SentLaws.{containers-size}
-use Rattle.law_terminal.proofs.CellLaws.{is-line}
+use Rattle.law_progress.proofs.LineIsPathLaws.{can_run-plan}
+use Rattle.law_terminal.proofs.ContainersSentLaws.{containers-size}
+use Rattle.law_terminal.proofs.CellsThatComeLaws.{is-line}
 use Rattle.law_walk.specs.Common.{sent_on, sent_of, walk_plan, CanWalk, IsWalked, delivered_of, landed_items}
 use Rattle.law_walk.specs.Common.{report_among, report_of, final_report}
-use Rattle.law_walk.proofs.EndLaws.{ticks-made, items-landed}
-use Rattle.law_walk.proofs.PlanLaws.{has-lines, sound-walks, sent-by, own-at}
+use Rattle.law_walk.proofs.AllRowsTakenLaws.{ticks-made, items-landed}
+use Rattle.law_walk.proofs.WalkPlanLaws.{has-lines, sound-walks, sent-by, own-at}
 use Rattle.law_pair.specs.Common.{IsWay, IsPair, way_config, way_telling, way_tells, way_of, PairCounts, pair_bound}
 use Rattle.law_pair.specs.Common.{with_lag, IsPairPlan, pair_plan, pair_drained, IsPairWalked}
 use Rattle.law_pair.specs.declared.pair_events.Way.TheVariants.{There, Back}
-use Rattle.law_pair.proofs.TellingLaws.{telling-cells, telling-rows}
-use Rattle.law_pair.proofs.WayLaws.{way-sound}
-use Rattle.law_pair.proofs.GoingLaws.{pair-walks}
-use Rattle.law_pair.proofs.PairEndLaws.{pair-ends, pair-drains}
+use Rattle.law_pair.proofs.TellingChangesNothingLaws.{telling-cells, telling-rows}
+use Rattle.law_pair.proofs.WaysAreSoundLaws.{way-sound}
+use Rattle.law_pair.proofs.PairGoesOnLaws.{pair-walks}
+use Rattle.law_pair.proofs.PairRoundsEndLaws.{pair-ends, pair-drains}
 
 -- ---- what the lines of a way are sent
 abbrev near_config : Script → Script → Config

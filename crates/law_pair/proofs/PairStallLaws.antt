@@ -4,7 +4,7 @@ use Rattle.std.proofs.lemmas.Bool.{cases_Bool}
 use Rattle.law_model.specs.Common.{Due, LineCounts, Plan, Counts, Step, carry, pop_lines}
 use Rattle.law_model.specs.declared.walk_events.StallCause.{StallCause}
 use Rattle.law_model.specs.declared.walk_events.Event.TheVariants as walk
-use Rattle.law_progress.proofs.StallLaws.{stalled-same}
+use Rattle.law_progress.proofs.StalledEventLaws.{stalled-same}
 use Rattle.law_pair.specs.Common.{PairPlan, PairCounts, plan_on, counts_on, with_counts, left_after, tick_of, first_due}
 use Rattle.law_pair.specs.Common.{land_first, land_item, tick_cause, tick_by, take_said, take_one, pair_step}
 use Rattle.law_pair.specs.Common.{with_lines, IsStill}

@@ -9,5 +9,5 @@ unfoldable pub use Rattle.law_pair.specs.PairCounts.{carries_on, first_due, left
 pub use Rattle.law_pair.specs.PairNeverStuck.{HasWayLine, IsOpen, IsPairPlan, IsPairProgress, IsPairReached, IsStill}
 pub use Rattle.law_pair.specs.PairNeverStuck.{SomePairProgress, with_lag, with_lines}
 pub use Rattle.law_pair.specs.PairWalk.{IsPairWalked, pair_drained, pair_plan}
-pub use Rattle.law_pair.specs.Telling.{telling_of}
-pub use Rattle.law_pair.specs.Worked.{failing_back, worked_back, worked_script, worked_there}
+pub use Rattle.law_pair.specs.OtherTelling.{telling_of}
+pub use Rattle.law_pair.specs.WorkedPairScripts.{failing_back, worked_back, worked_script, worked_there}

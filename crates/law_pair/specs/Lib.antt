@@ -1,8 +1,8 @@
 pub mod Pair
-pub mod Telling
+pub mod OtherTelling
 pub mod PairCounts
 pub mod PairNeverStuck
 pub mod PairWalk
-pub mod Worked
-pub mod WorkedCounts
+pub mod WorkedPairScripts
+pub mod WorkedPairCounts
 pub mod Common

@@ -9,7 +9,7 @@ ghost use Rattle.law_progress.specs.Progress.{IsReached};
 ghost use Rattle.law_pair.specs.declared.pair_events.Way.{Way};
 ghost use Rattle.law_pair.specs.declared.pair_events.PairEvent.{PairEvent};
 ghost use Rattle.law_pair.specs.declared.pair_events.PairEvent.TheVariants.{Tick};
-ghost use Rattle.law_pair.specs.WorkedCounts.{there_taken};
+ghost use Rattle.law_pair.specs.WorkedPairCounts.{there_taken};
 ghost use Rattle.law_pair.specs.PairCounts.{PairPlan, PairCounts, plan_on, counts_on, pair_step, pair_drain};
 ghost use Rattle.law_pair.specs.PairCounts.{pair_bound, pair_begin, pair_run, pair_round, is_over};
 ghost use Rattle.law_pair.specs.PairNeverStuck.{IsPairPlan, IsPairReached, SomePairProgress, IsOpen, IsStill};

@@ -6,7 +6,7 @@ ghost use Rattle.law_model.specs.Common.{cells_before, payload_of, rows_of, IsSo
 ghost use Rattle.law_model.specs.declared.script_types.Script.{Script};
 ghost use Rattle.law_model.specs.session.Scenario.{packets_in};
 ghost use Rattle.law_pair.specs.Pair.{IsPair, is_unheard, way_of};
-ghost use Rattle.law_pair.specs.Telling.{telling_of};
+ghost use Rattle.law_pair.specs.OtherTelling.{telling_of};
 
 /// A session doesn't depend on what its packets tell: its return cells, its tables, the octets of the
 /// stream that its frames and its containers carry, and which rows are whole are the same.

@@ -4,11 +4,11 @@ ghost use Rattle.std.specs.Prelude.{◌≡◌, Some, [], ◌∷◌, take};
 ghost use Rattle.law_model.specs.declared.walk_events.StallCause.TheVariants.{NotDue, Held, BackMissing};
 ghost use Rattle.law_pair.specs.declared.pair_events.PairEvent.TheVariants.{Item, Tick};
 ghost use Rattle.law_pair.specs.declared.pair_events.Way.TheVariants.{There, Back};
-ghost use Rattle.law_progress.specs.Worked.{two_items};
-ghost use Rattle.law_pair.specs.WorkedCounts.{two_ways, pair_cause, all_ticked, there_taken, drained_from};
-ghost use Rattle.law_pair.specs.WorkedCounts.{both_done};
+ghost use Rattle.law_progress.specs.WorkedPlans.{two_items};
+ghost use Rattle.law_pair.specs.WorkedPairCounts.{two_ways, pair_cause, all_ticked, there_taken, drained_from};
+ghost use Rattle.law_pair.specs.WorkedPairCounts.{both_done};
 ghost use Rattle.law_walk.specs.Common.{delivered_of};
-ghost use Rattle.law_pair.specs.Worked.{worked_there, worked_back, failing_back, first_tells, one_frame};
+ghost use Rattle.law_pair.specs.WorkedPairScripts.{worked_there, worked_back, failing_back, first_tells, one_frame};
 ghost use Rattle.law_pair.specs.Pair.{IsPair, way_config, way_tells, way_of};
 
 /// Worked pairs, computed: a return packet of the way there is lost where no line of the way back has the

@@ -1,8 +1,8 @@
-pub mod EachLaws
-pub mod StepLaws
-pub mod TakeLaws
-pub mod MoveLaws
-pub mod StallLaws
-pub mod ReachLaws
-pub mod MeasureLaws
-pub mod LineLaws
+pub mod LinesBesidePathsLaws
+pub mod EventKeepsBoundsLaws
+pub mod TakePopsCellsLaws
+pub mod SomeEventMovesLaws
+pub mod StalledEventLaws
+pub mod ReachedByEventsLaws
+pub mod DrainLoopLaws
+pub mod LineIsPathLaws

@@ -1,3 +1,3 @@
 pub mod Progress
-pub mod Worked
+pub mod WorkedPlans
 pub mod AskedOfLines

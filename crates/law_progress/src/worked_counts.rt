@@ -6,7 +6,7 @@ ghost use Rattle.law_model.specs.declared.walk_events.Event.TheVariants.{Accept,
 ghost use Rattle.law_model.specs.declared.walk_events.StallCause.TheVariants.{NotDue, Held, TxFull, BackMissing};
 ghost use Rattle.law_model.specs.declared.walk_events.StallCause.TheVariants.{RxFull, BackEmpty, Waiting};
 ghost use Rattle.law_progress.specs.Progress.{IsPlan};
-ghost use Rattle.law_progress.specs.Worked.{one_line, two_items, cause_after, one_carried, all_done};
+ghost use Rattle.law_progress.specs.WorkedPlans.{one_line, two_items, cause_after, one_carried, all_done};
 
 /// Worked walks, computed: one line, its stalls, and a walk that drains.
 pub fn worked_law()

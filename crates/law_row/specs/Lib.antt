@@ -1,2 +1,2 @@
 pub mod Received
-pub mod Worked
+pub mod ComputedRows

@@ -7,7 +7,7 @@ ghost use Rattle.law_model.specs.Common.{Cell, Container, Scenario, Told, active
 ghost use Rattle.law_model.specs.Common.{carried_row, packets_from, is_whole_row, payload_of, carriers_at};
 ghost use Rattle.law_model.specs.Common.{known_lines, cells_before, session_cells};
 ghost use Rattle.law_row.specs.Received.{HasPackets, TellsRow, row_octets, stopping, AreDealt, IsDealtRow};
-ghost use Rattle.law_row.specs.Worked.{sent};
+ghost use Rattle.law_row.specs.ComputedRows.{sent};
 
 /// The sink is never misled by going on with what silent lines said last. In a session it knows which lines
 /// carry payload exactly where the definition of a session says that this is known, and they are then those of

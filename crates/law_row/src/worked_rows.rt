@@ -3,7 +3,7 @@
 ghost use Rattle.std.specs.Prelude.{◌≡◌, true, false, [], ◌∷◌, Some, None};
 ghost use Rattle.law_model.specs.Common.{Eos, active};
 ghost use Rattle.member_cells.specs.declared.control_word.Ctrl.TheVariants.{Add, Norm, Idle, Dnu};
-ghost use Rattle.law_row.specs.Worked.{sent, active_read, all_but, carriers_after, idle, unused_third};
+ghost use Rattle.law_row.specs.ComputedRows.{sent, active_read, all_but, carriers_after, idle, unused_third};
 
 /// Worked rows, computed: the last line in NORM sends EOS, and the lines that carry payload come in the order of SQ.
 /// A sink that goes on takes silent lines for lines that carry payload where as many do as the packets that it reads

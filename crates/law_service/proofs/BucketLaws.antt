@@ -14,14 +14,14 @@ use Rattle.law_model.specs.Common.{Piece, idle, client, size_of, Extent, shortes
 use Rattle.law_model.specs.Common.{Leg, DueFrame, Scenario, scenario_by, comes_at, frames_at, IsWithin, size, Stream}
 use Rattle.law_model.specs.Common.{frame_refusal, offered_by, offered, next_by, reaching, place_of, stream_before, Told}
 use Rattle.law_model.specs.declared.item_refusals.AcceptFault.{AcceptFault}
-use Rattle.law_session.proofs.ClientLaws.{stream_before-reaches, offered_all-pieces}
+use Rattle.law_session.proofs.ClientStreamLaws.{stream_before-reaches, offered_all-pieces}
 use Rattle.law_walk.specs.Common.{session_extents, place_after, Numbered, IsOfferAt, stream_met, refusal_at, session_of}
-use Rattle.law_walk.proofs.LandLaws.{offer-at}
-use Rattle.law_walk.proofs.SourceLaws.{offer-refusal}
+use Rattle.law_walk.proofs.ItemsThatLandedLaws.{offer-at}
+use Rattle.law_walk.proofs.SourceWasToldLaws.{offer-refusal}
 use Rattle.law_model.specs.declared.item_refusals.Refusal.TheVariants.{Frame as frame_fault}
 use Rattle.law_service.specs.Bucket.{arrivals, arrivals_in, stream_at, Bucket, KeepsTo, LiesIn}
 use Rattle.law_service.specs.FrameEnds.{filled, Placed, placed_by, placed_offers, placed_before, placed_frames}
-use Rattle.law_service.proofs.PlaceLaws.{kept-all, at-number, place-settled, place-begins, place-waits}
+use Rattle.law_service.proofs.WhereFramesEndLaws.{kept-all, at-number, place-settled, place-begins, place-waits}
 
 -- ---- how far a stream is filled
 next_by-filled : (waiting : List (List ℕ)) (pieces : List Piece) →

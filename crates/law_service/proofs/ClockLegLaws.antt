@@ -8,14 +8,14 @@ use Rattle.law_model.specs.Common.{IsSound, session_cells}
 use Rattle.law_model.specs.declared.window_types.Window.{Window}
 use Rattle.law_model.specs.members.Damage.{carried}
 use Rattle.law_progress.specs.Progress.{IsPath, AllPaths, IsSound as IsSoundPath, IsPlanOf}
-use Rattle.law_progress.proofs.LineLaws.{is_path, least-first}
-use Rattle.law_terminal.proofs.CellLaws.{is-line}
-use Rattle.law_terminal.proofs.SentLaws.{containers-size}
+use Rattle.law_progress.proofs.LineIsPathLaws.{is_path, least-first}
+use Rattle.law_terminal.proofs.CellsThatComeLaws.{is-line}
+use Rattle.law_terminal.proofs.ContainersSentLaws.{containers-size}
 use Rattle.law_walk.specs.Common.{sent_on, walk_plan, CanWalk}
-use Rattle.law_walk.proofs.PlanLaws.{has-lines, has-plan, has-paths, line-path, sound-walks}
-use Rattle.law_service.specs.Clock.{after_rounds, HasDelay, KeepsTime, HasNoSlip, LagsEnough}
+use Rattle.law_walk.proofs.WalkPlanLaws.{has-lines, has-plan, has-paths, line-path, sound-walks}
+use Rattle.law_service.specs.ClockedWalk.{after_rounds, HasDelay, KeepsTime, HasNoSlip, LagsEnough}
 use Rattle.law_service.specs.Twins.{whole_walk}
-use Rattle.law_service.proofs.ClockLaws.{drain-clock}
+use Rattle.law_service.proofs.ClockRoundsLaws.{drain-clock}
 
 -- ---- the greatest and the least of some numbers
 at-most : (ns : List ℕ) (m d : ℕ) → m < length ns → slice_index_or ns m d ≤ greatest ns

@@ -1,13 +1,13 @@
-pub mod PlaceLaws
+pub mod WhereFramesEndLaws
 pub mod BucketLaws
-pub mod TwinLaws
-mod MetLaws
-pub mod TurnLaws
-mod HuntLaws
-mod KeptLaws
-mod MoreLaws
-mod LandedLaws
-mod CarriedLaws
-mod ClockLaws
+pub mod TwinLegsLaws
+mod LegsReachBoundsLaws
+pub mod TurnsTakeAllRowsLaws
+mod HuntFindsBehindLaws
+mod FrameFatesKeptLaws
+mod WalkKeepsFatesLaws
+mod LandedByTheClockLaws
+mod LinesByTheClockLaws
+mod ClockRoundsLaws
 mod ClockLegLaws
 pub mod CostOfFailuresLaws

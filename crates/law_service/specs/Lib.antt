@@ -1,8 +1,8 @@
 pub mod FrameEnds
 pub mod Bucket
 pub mod Twins
-pub mod Worked
-pub mod Turns
-pub mod Kept
-pub mod Clock
+pub mod WorkedServiceLegs
+pub mod RepeatedTurns
+pub mod KeptFates
+pub mod ClockedWalk
 pub mod cost_of_failures

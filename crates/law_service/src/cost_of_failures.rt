@@ -9,16 +9,16 @@ ghost use Rattle.law_model.specs.Common.{Leg, IsSound, scenario_by, is_line_up, 
 ghost use Rattle.law_model.specs.declared.window_types.Window.{Window};
 ghost use Rattle.law_model.specs.declared.lcas_states.Standing.TheVariants.{Add, Norm};
 ghost use Rattle.law_session.specs.Feedback.{lines_of};
-ghost use Rattle.law_session.specs.Use.{IsInUse, known_by};
+ghost use Rattle.law_session.specs.LineInUse.{IsInUse, known_by};
 ghost use Rattle.law_walk.specs.Common.{session_of, whole_rows};
 ghost use Rattle.law_service.specs.cost_of_failures.Cost.{windows_of, StaysClear, FailsBy, FailsOnce, IsSpared};
 ghost use Rattle.law_service.specs.cost_of_failures.Cost.{IsSparedFor, SaysOf, round_rows, cost_end};
 ghost use Rattle.law_service.specs.cost_of_failures.Cost.{FailTogether, first_hit};
 ghost use Rattle.law_service.specs.cost_of_failures.Cost.{governing_table, table_at, HasSq, Spoils, IsSpoiled};
 ghost use Rattle.law_service.specs.cost_of_failures.Cost.{spoiled_rows};
-ghost use Rattle.law_service.specs.cost_of_failures.Closed.{WereUsed, IsHit};
+ghost use Rattle.law_service.specs.cost_of_failures.CostInNumbers.{WereUsed, IsHit};
 ghost use Rattle.law_service.specs.cost_of_failures.Settled.{IsSettled, MakesNoChange};
-ghost use Rattle.law_service.specs.cost_of_failures.Worked.{costly_leg, dearest_leg, used_in_rows};
+ghost use Rattle.law_service.specs.cost_of_failures.WorkedCosts.{costly_leg, dearest_leg, used_in_rows};
 
 /// Which rows failures cost, if each line fails once at most and one line doesn't fail: however long a line
 /// fails, none but those of a round of statuses, of the lag and of the hold-off from its begin on; and if it

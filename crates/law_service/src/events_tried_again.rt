@@ -5,7 +5,7 @@ ghost use Rattle.law_model.specs.Common.{Plan, Counts, run, bound, Leg, IsSound}
 ghost use Rattle.law_model.specs.declared.walk_events.Event.{Event};
 ghost use Rattle.law_progress.specs.Progress.{IsPlan, IsReached, made};
 ghost use Rattle.law_walk.specs.Common.{IsWalked, walk_plan};
-ghost use Rattle.law_service.specs.Turns.{TriesEach, in_turn, walked_plan, backwards, without_back, rows_after};
+ghost use Rattle.law_service.specs.RepeatedTurns.{TriesEach, in_turn, walked_plan, backwards, without_back, rows_after};
 
 /// Whoever tries each event of a walk again and again takes all rows, in whatever order and with whatever more
 /// is tried. While rows are left, each turn that tries every event adds to the counts, whose sum has a bound:

@@ -5,9 +5,9 @@ ghost use Rattle.law_model.specs.Common.{IsSound};
 ghost use Rattle.law_walk.specs.Common.{session_extents, place_after, failing_leg};
 ghost use Rattle.fate_engine.specs.Common.{sides};
 ghost use Rattle.law_service.specs.Bucket.{KeepsTo};
-ghost use Rattle.law_service.specs.Clock.{HasNoSlip, LagsEnough, timed_leg};
+ghost use Rattle.law_service.specs.ClockedWalk.{HasNoSlip, LagsEnough, timed_leg};
 ghost use Rattle.law_service.specs.Twins.{with_delays};
-ghost use Rattle.law_service.specs.Worked.{queued_leg, told_ends, full_bucket, full_leg, fills};
+ghost use Rattle.law_service.specs.WorkedServiceLegs.{queued_leg, told_ends, full_bucket, full_leg, fills};
 
 /// Legs that meet what these laws ask for.
 pub fn met_law()

@@ -5,7 +5,7 @@ ghost use Rattle.law_model.specs.Common.{Extent, Piece, StreamRow, Counts, run, 
 ghost use Rattle.law_model.specs.declared.walk_events.Event.{Event};
 ghost use Rattle.law_walk.specs.Common.{session_rows, session_pieces, walk_plan};
 ghost use Rattle.fate_engine.specs.Common.{fate_of, fate_at};
-ghost use Rattle.law_service.specs.Kept.{Keeps, fates_after, first_fates, next_fates, last_fates};
+ghost use Rattle.law_service.specs.KeptFates.{Keeps, fates_after, first_fates, next_fates, last_fates};
 
 /// More rows take nothing back: a frame that is got, cut, sought through or unsettled by some rows is the same by
 /// more of them, and has the same rows; and one in whose segment nothing was confirmed stays so, or begins before

@@ -3,9 +3,9 @@
 ghost use Rattle.std.specs.Prelude.{◌≡◌, ◌↔◌, ℕ, ◌+◌, ◌-◌, ◌<◌, min, [], ◌∷◌, slice_get, Some};
 ghost use Rattle.law_model.specs.Common.{Plan, frame_dues, command_dues, begin, drain, bound, Leg, greatest};
 ghost use Rattle.law_model.specs.Common.{least, IsSound};
-ghost use Rattle.law_progress.specs.Worked.{one_line};
+ghost use Rattle.law_progress.specs.WorkedPlans.{one_line};
 ghost use Rattle.law_walk.specs.Common.{walk_plan};
-ghost use Rattle.law_service.specs.Clock.{after_rounds, KeepsTime, HasNoSlip, LagsEnough, two_lines, told_after};
+ghost use Rattle.law_service.specs.ClockedWalk.{after_rounds, KeepsTime, HasNoSlip, LagsEnough, two_lines, told_after};
 ghost use Rattle.law_service.specs.Twins.{whole_walk};
 
 /// A walk that keeps time goes by the clock, from its start: each round makes one tick while any is left, and with

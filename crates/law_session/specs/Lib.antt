@@ -1,8 +1,8 @@
-pub mod Session
+pub mod ReturnedCells
 pub mod Feedback
-pub mod Use
-pub mod Landing
-pub mod Worked
+pub mod LineInUse
+pub mod LandingByStep
+pub mod ComputedSessions
 pub mod WorkedTimers
-pub mod Timed
-pub mod WorkedTimed
+pub mod TimedMembers
+pub mod WorkedFlaps

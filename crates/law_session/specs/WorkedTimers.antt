@@ -3,7 +3,7 @@ use Rattle.std.specs.Prelude.{ℕ, ◌+◌, false, List, [], ◌∷◌, None}
 use Rattle.law_model.specs.Common.{Scenario, member_of}
 use Rattle.law_model.specs.declared.lcas_states.Command.TheVariants.{Add as add}
 use Rattle.law_model.specs.declared.lcas_states.Standing.TheVariants.{Add as adding, Norm as normal, Dnu as unused}
-use Rattle.law_session.specs.Worked.{Shown, order, damaged, scenario_for, failing_line}
+use Rattle.law_session.specs.ComputedSessions.{Shown, order, damaged, scenario_for, failing_line}
 
 abbrev pub with_timers : ℕ → ℕ → Scenario → Scenario
 with_timers holdoff restore scenario =

@@ -3,7 +3,7 @@
 ghost use Rattle.std.specs.Prelude.{◌≡◌, ◌≤◌, ℕ, List, Option, filter};
 ghost use Rattle.law_model.specs.Common.{Scenario, DueCommand, DueFrame, steps_in, lands_at, comes_at, Told, after};
 ghost use Rattle.law_model.specs.Common.{stream_before, orders_before, offers_before, replayed};
-ghost use Rattle.law_session.specs.Landing.{AreOrdersInOrder, AreOffersInOrder, landed, is_landed, is_come};
+ghost use Rattle.law_session.specs.LandingByStep.{AreOrdersInOrder, AreOffersInOrder, landed, is_landed, is_come};
 
 /// What was refused changes nothing: the session of what was accepted alone goes as the session, and accepts
 /// all of it again. Items land in the order of the script.

@@ -3,7 +3,7 @@
 ghost use Rattle.std.specs.Prelude.{◌≡◌, ◌≤◌, ◌++◌, ◌-◌, ◌*◌, ◌/◌, ℕ, List, Option, suc, length};
 ghost use Rattle.law_model.specs.Common.{Scenario, Told, size, width, place_of, stream_before, frames_in};
 ghost use Rattle.law_model.specs.Common.{IsFewest, payload_of, frames_before};
-ghost use Rattle.law_session.specs.Session.{AgreeBefore};
+ghost use Rattle.law_session.specs.ReturnedCells.{AgreeBefore};
 
 /// The client's stream. Each accepted frame is begun or waits, in order; the pieces are the fewest that reach
 /// the place at which the next frame begins, so that each frame has all octets that it carries; and more

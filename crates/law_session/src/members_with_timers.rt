@@ -7,14 +7,15 @@ ghost use Rattle.law_model.specs.declared.script_types.Options.{Options};
 ghost use Rattle.law_model.specs.Common.{is_up, IsUp, last_read, Scenario, is_line_up, cells_before, session_cells};
 ghost use Rattle.law_model.specs.Common.{table_of, carried_by, steps_in, is_read, word, Told};
 ghost use Rattle.law_session.specs.Feedback.{table_before};
-ghost use Rattle.law_session.specs.Session.{AreWhole};
-ghost use Rattle.law_session.specs.Use.{IsInUse, IsAdded, known_by, round_end};
-ghost use Rattle.law_session.specs.Timed.{IsLastRead, IsOut, GoesOut, ComesBack, IsToldFailed, IsToldFine, IsHeld};
-ghost use Rattle.law_session.specs.Timed.{IsRound, IsUpWithWord, Carries, HasFailed, IsNotRestored, restored_by};
-ghost use Rattle.law_session.specs.Timed.{IsNotRemoved, IsWholeBut, AreDamaged, MissesFew, IsDamagedOften};
-ghost use Rattle.law_session.specs.Timed.{goes_out, times_out};
-ghost use Rattle.law_session.specs.WorkedTimed.{dearest, carried_in_rows, held_line, ten_fail};
-ghost use Rattle.law_session.specs.WorkedTimed.{flapping};
+ghost use Rattle.law_session.specs.ReturnedCells.{AreWhole};
+ghost use Rattle.law_session.specs.LineInUse.{IsInUse, IsAdded, known_by, round_end};
+ghost use Rattle.law_session.specs.TimedMembers.{IsLastRead, IsOut, GoesOut, ComesBack, IsToldFailed};
+ghost use Rattle.law_session.specs.TimedMembers.{IsToldFine, IsHeld};
+ghost use Rattle.law_session.specs.TimedMembers.{IsRound, IsUpWithWord, Carries, HasFailed, IsNotRestored, restored_by};
+ghost use Rattle.law_session.specs.TimedMembers.{IsNotRemoved, IsWholeBut, AreDamaged, MissesFew, IsDamagedOften};
+ghost use Rattle.law_session.specs.TimedMembers.{goes_out, times_out};
+ghost use Rattle.law_session.specs.WorkedFlaps.{dearest, carried_in_rows, held_line, ten_fail};
+ghost use Rattle.law_session.specs.WorkedFlaps.{flapping};
 
 /// Which packets of a line count. It is up by the test exactly where it was read for the restore and wasn't
 /// missed for the hold-off since; with neither it is up exactly where its packet is read. It hangs on the

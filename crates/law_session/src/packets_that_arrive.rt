@@ -3,7 +3,7 @@
 ghost use Rattle.std.specs.Prelude.{◌≡◌, ◌↔◌, ◌<◌, ◌≤◌, ◌+◌, ◌-◌, ◌*◌, ◌/◌, ℕ, true, length};
 ghost use Rattle.law_model.specs.Common.{is_good, is_readable, Scenario, is_read, is_heard};
 ghost use Rattle.law_model.specs.declared.window_types.Carried.{Carried};
-ghost use Rattle.law_session.specs.Session.{AreWhole};
+ghost use Rattle.law_session.specs.ReturnedCells.{AreWhole};
 
 /// What of a line arrives whole. A container is good, and a packet can be read, exactly where each container
 /// on the way to it is whole; a packet is heard where some line has it.

@@ -2,7 +2,7 @@
 
 ghost use Rattle.std.specs.Prelude.{◌≡◌, ◌<◌, ◌+◌, ◌-◌, ℕ, List, Option, take};
 ghost use Rattle.law_model.specs.Common.{Scenario, Told, table_of, cells_before};
-ghost use Rattle.law_session.specs.Session.{IsReturned, AgreeBefore};
+ghost use Rattle.law_session.specs.ReturnedCells.{IsReturned, AgreeBefore};
 
 /// The return cells of a session. Each is made from the tables that the cells before it lead to; more cells
 /// after a list change no table that was made before.

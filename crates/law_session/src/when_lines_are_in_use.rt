@@ -2,7 +2,7 @@
 
 ghost use Rattle.std.specs.Prelude.{ℕ};
 ghost use Rattle.law_model.specs.Common.{Scenario};
-ghost use Rattle.law_session.specs.Use.{IsUsedBy, AddsUndamaged, AddsAmongSilent, known_by};
+ghost use Rattle.law_session.specs.LineInUse.{IsUsedBy, AddsUndamaged, AddsAmongSilent, known_by};
 
 /// A line that is added is in use one packet less than tell all statuses, and the lag, later where each line in
 /// ADD is up and can be read and no return packet is lost meanwhile, no further command is carried out before,

@@ -1,8 +1,9 @@
 //! Worked sessions, computed.
 
 ghost use Rattle.std.specs.Prelude.{◌≡◌};
-ghost use Rattle.law_session.specs.Worked.{shown_in, three_lines, three_lines_shown, other_line, other_line_shown};
-ghost use Rattle.law_session.specs.Worked.{failing_line, failing_line_shown, silent_line, silent_line_shown};
+ghost use Rattle.law_session.specs.ComputedSessions.{shown_in, three_lines, three_lines_shown, other_line};
+ghost use Rattle.law_session.specs.ComputedSessions.{other_line_shown};
+ghost use Rattle.law_session.specs.ComputedSessions.{failing_line, failing_line_shown, silent_line, silent_line_shown};
 ghost use Rattle.law_session.specs.WorkedTimers.{short_holdoff, short_holdoff_shown, long_holdoff};
 ghost use Rattle.law_session.specs.WorkedTimers.{long_holdoff_shown, long_restore, long_restore_shown};
 ghost use Rattle.law_session.specs.WorkedTimers.{held_over_change, held_over_change_shown, slow_statuses};

@@ -1,3 +1,3 @@
 pub mod SessionLines
 pub mod Course
-pub mod Worked
+pub mod WorkedSession

@@ -3,9 +3,9 @@
 ghost use Rattle.std.specs.Prelude.{◌≡◌, ℕ, ◌+◌, ◌-◌, ◌*◌, ◌/◌, ◌<◌, ◌≤◌, All, List, length, Option};
 ghost use Rattle.law_model.specs.Common.{Scenario, packets, Told, IsPacket, packet_nibbles, sent_packet, AreSent};
 ghost use Rattle.law_model.specs.Common.{sent_nibbles, container_of, containers_of, vc4_size};
-ghost use Rattle.law_session.specs.Session.{AgreeBefore};
+ghost use Rattle.law_session.specs.ReturnedCells.{AgreeBefore};
 ghost use Rattle.law_row.specs.Received.{IsDealtRow};
-ghost use Rattle.law_terminal.specs.Worked.{dealt};
+ghost use Rattle.law_terminal.specs.WorkedSession.{dealt};
 
 /// The containers that the source makes, whatever it was told. Their H4 octets say their numbers, and the
 /// nibbles of each packet stand in them in their order; their payload is that of a VC-4 in length, in octets,

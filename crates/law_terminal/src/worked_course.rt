@@ -4,8 +4,9 @@ ghost use Rattle.std.specs.Prelude.{◌≡◌, [], ◌∷◌, take};
 ghost use Rattle.law_model.specs.Common.{session_cells};
 ghost use Rattle.law_terminal.specs.SessionLines.{HasLines};
 ghost use Rattle.law_terminal.specs.Course.{told_of};
-ghost use Rattle.law_terminal.specs.Worked.{two_lines, h4_from, no_packet, first_added, first_in_use, second_added};
-ghost use Rattle.law_terminal.specs.Worked.{first_told, first_cells, dealt};
+ghost use Rattle.law_terminal.specs.WorkedSession.{two_lines, h4_from, no_packet, first_added, first_in_use};
+ghost use Rattle.law_terminal.specs.WorkedSession.{second_added};
+ghost use Rattle.law_terminal.specs.WorkedSession.{first_told, first_cells, dealt};
 
 /// A worked session that meets what is asked, computed: H4 octets, what the sink tells of the first cells,
 /// and a row that is dealt.

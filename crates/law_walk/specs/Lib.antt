@@ -1,9 +1,9 @@
 pub mod Walk
-pub mod Rings
-pub mod Landed
-pub mod Delivered
-pub mod Step
+pub mod WalkRings
+pub mod LandedOfLeg
+pub mod DeliveredFrames
+pub mod LastDecisionStep
 pub mod Promise
-pub mod Report
-pub mod Worked
+pub mod WalkReport
+pub mod WorkedLegs
 pub mod Common

@@ -8,11 +8,11 @@ use Rattle.law_model.specs.declared.script_types.Item.{Item}
 use Rattle.law_model.specs.declared.script_types.ItemKind.{ItemKind}
 use Rattle.law_model.specs.declared.item_refusals.Refusal.{Refusal}
 use Rattle.law_model.specs.declared.script_types.ItemKind.TheVariants.{Frame, Add, Remove}
-use Rattle.law_session.specs.Use.{IsInUse}
+use Rattle.law_session.specs.LineInUse.{IsInUse}
 use Rattle.law_walk.specs.Walk.{session_of, walk_plan}
-use Rattle.law_walk.specs.Delivered.{session_rows}
-use Rattle.law_walk.specs.Landed.{Numbered, refusal_at}
-use Rattle.law_walk.specs.Step.{table_in}
+use Rattle.law_walk.specs.DeliveredFrames.{session_rows}
+use Rattle.law_walk.specs.LandedOfLeg.{Numbered, refusal_at}
+use Rattle.law_walk.specs.LastDecisionStep.{table_in}
 
 -- ---- the frames that are accepted
 -- items with their numbers, from a number on

@@ -6,7 +6,7 @@ ghost use Rattle.law_model.specs.Common.{Leg, IsSound, frames_by, StreamRow, del
 ghost use Rattle.law_model.specs.Common.{walked, longest_frame};
 ghost use Rattle.law_model.specs.members.Damage.{carried};
 ghost use Rattle.law_walk.specs.Walk.{CanWalk, IsWalked, popped_cells};
-ghost use Rattle.law_walk.specs.Delivered.{delivered_of, IsReceived};
+ghost use Rattle.law_walk.specs.DeliveredFrames.{delivered_of, IsReceived};
 ghost use Rattle.law_walk.specs.Promise.{accepted_frames, session_pieces, place_after, HasNoFailure, drained};
 
 /// The frames of the rows that were taken: what a sink makes of them by the cells that were popped is what

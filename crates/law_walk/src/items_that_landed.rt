@@ -10,7 +10,7 @@ ghost use Rattle.law_model.specs.declared.script_types.Item.{Item};
 ghost use Rattle.law_model.specs.declared.item_refusals.Refusal.TheVariants.{Frame as frame_fault};
 ghost use Rattle.law_model.specs.declared.item_refusals.Refusal.TheVariants.{Command as command_fault};
 ghost use Rattle.law_walk.specs.Walk.{session_of, CanWalk, IsWalked};
-ghost use Rattle.law_walk.specs.Landed.{Numbered, landed_scenario, told_before, IsOfferAt, IsOrderAt, refusal_at};
+ghost use Rattle.law_walk.specs.LandedOfLeg.{Numbered, landed_scenario, told_before, IsOfferAt, IsOrderAt, refusal_at};
 
 /// What has landed. No item waits whose due tick is past, since a tick is held by one; so up to the ticks
 /// made the session of the items that have landed is the leg's own. An item that lands is put in its place

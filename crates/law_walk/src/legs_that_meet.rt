@@ -2,15 +2,15 @@
 
 ghost use Rattle.std.specs.Prelude.{◌≡◌, true, false};
 ghost use Rattle.law_model.specs.Common.{IsSound, scenario_by};
-ghost use Rattle.law_session.specs.Use.{AddsUndamaged, AddsAmongSilent};
-ghost use Rattle.law_walk.specs.Delivered.{delivered_of};
-ghost use Rattle.law_walk.specs.Report.{report_of};
-ghost use Rattle.law_walk.specs.Worked.{worked_leg, three_landed, at_the_end, first_refusals, all_refusals};
-ghost use Rattle.law_walk.specs.Worked.{first_totals, all_totals, two_frames, worked_report, delivering_leg};
-ghost use Rattle.law_walk.specs.Worked.{one_frame, failing_leg, seen_rows, seen_whole, whole_rows, silent_leg};
-ghost use Rattle.law_walk.specs.Worked.{near_leg, near_rows, near_whole};
+ghost use Rattle.law_session.specs.LineInUse.{AddsUndamaged, AddsAmongSilent};
+ghost use Rattle.law_walk.specs.DeliveredFrames.{delivered_of};
+ghost use Rattle.law_walk.specs.WalkReport.{report_of};
+ghost use Rattle.law_walk.specs.WorkedLegs.{worked_leg, three_landed, at_the_end, first_refusals, all_refusals};
+ghost use Rattle.law_walk.specs.WorkedLegs.{first_totals, all_totals, two_frames, worked_report, delivering_leg};
+ghost use Rattle.law_walk.specs.WorkedLegs.{one_frame, failing_leg, seen_rows, seen_whole, whole_rows, silent_leg};
+ghost use Rattle.law_walk.specs.WorkedLegs.{near_leg, near_rows, near_whole};
 ghost use Rattle.law_walk.specs.Promise.{accepted_frames, ConfirmsTrue, FailsAlone};
-ghost use Rattle.law_walk.specs.Landed.{refusals_of, totals_of};
+ghost use Rattle.law_walk.specs.LandedOfLeg.{refusals_of, totals_of};
 
 /// Legs that meet what is asked above. In one, whose only line fails, what is confirmed after each break
 /// is the place of a piece, and the line was added undamaged before that; in another a line is added beside

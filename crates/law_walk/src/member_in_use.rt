@@ -3,7 +3,7 @@
 ghost use Rattle.std.specs.Prelude.{◌≡◌, ◌↔◌, ℕ, Bool, Some};
 ghost use Rattle.law_model.specs.Common.{Leg, scenario_by, told_at, Told, kept_of};
 ghost use Rattle.law_session.specs.Feedback.{Takes, Acknowledges, TellsOf, SameLines, WasSaid};
-ghost use Rattle.law_session.specs.Use.{AddsUndamaged, AddsAmongSilent, known_by};
+ghost use Rattle.law_session.specs.LineInUse.{AddsUndamaged, AddsAmongSilent, known_by};
 ghost use Rattle.law_walk.specs.Walk.{session_of, CanWalk};
 ghost use Rattle.law_walk.specs.Promise.{InUseBy};
 

@@ -5,7 +5,7 @@ ghost use Rattle.law_model.specs.Common.{Leg, verdict, IsSound, scenario_by, Lin
 ghost use Rattle.law_progress.specs.Progress.{IsPlan};
 ghost use Rattle.law_terminal.specs.SessionLines.{HasLines};
 ghost use Rattle.law_walk.specs.Walk.{walk_plan, CanWalk, counts_at, popped_on, path_on};
-ghost use Rattle.law_walk.specs.Rings.{line_cells, cells_by};
+ghost use Rattle.law_walk.specs.WalkRings.{line_cells, cells_by};
 
 /// A leg whose rings fit has a plan of its walk, whose lines are what the session sends on them.
 pub fn plan_law()

@@ -4,11 +4,11 @@ ghost use Rattle.std.specs.Prelude.{◌≡◌, ◌+◌, ◌<◌, ◌≤◌, leng
 ghost use Rattle.law_model.specs.Common.{Leg, IsSound, DueCommand, DueFrame, Counts, in_inbox};
 ghost use Rattle.law_progress.specs.Progress.{SomeProgress};
 ghost use Rattle.law_walk.specs.Walk.{walk_plan, CanWalk, IsWalked};
-ghost use Rattle.law_walk.specs.Rings.{inbox};
-ghost use Rattle.law_walk.specs.Report.{report_of, final_report};
+ghost use Rattle.law_walk.specs.WalkRings.{inbox};
+ghost use Rattle.law_walk.specs.WalkReport.{report_of, final_report};
 ghost use Rattle.law_walk.specs.Promise.{numbered, accepted_frames, drained};
-ghost use Rattle.law_walk.specs.Landed.{Numbered, landed_items, IsOfferAt, IsOrderAt, refusal_at, refused_by};
-ghost use Rattle.law_walk.specs.Landed.{refusals_of, IsPlaced, totals_of, with_frame_told, with_command_told};
+ghost use Rattle.law_walk.specs.LandedOfLeg.{Numbered, landed_items, IsOfferAt, IsOrderAt, refusal_at, refused_by};
+ghost use Rattle.law_walk.specs.LandedOfLeg.{refusals_of, IsPlaced, totals_of, with_frame_told, with_command_told};
 
 /// What an item that lands adds to the refusals and the totals.
 pub fn report_law()

@@ -9,7 +9,7 @@ ghost use Rattle.law_model.specs.session.Scenario.{packets_in};
 ghost use Rattle.law_line.specs.StableRows.{IsLonger, AreDecidedAt};
 ghost use Rattle.law_terminal.specs.Course.{packet_by};
 ghost use Rattle.law_walk.specs.Walk.{session_of, told_first, CanWalk, IsWalked, popped_cells};
-ghost use Rattle.law_walk.specs.Rings.{all_lines, said_packet, back_cell, return_ring, inbox};
+ghost use Rattle.law_walk.specs.WalkRings.{all_lines, said_packet, back_cell, return_ring, inbox};
 
 /// The return path. What the sink says by the cells that were popped is what it says by all cells, and tells
 /// the source the return cells of the session; and one row, one return packet or one decision step changes

@@ -6,8 +6,9 @@ ghost use Rattle.law_model.specs.Common.{Cell, Leg, cells, scenario_by, carried_
 ghost use Rattle.law_model.specs.Common.{Counts, pop_lines};
 ghost use Rattle.law_progress.specs.Progress.{LineFits};
 ghost use Rattle.law_walk.specs.Walk.{walk_plan, CanWalk, IsWalked, counts_at, popped_cells, path_on};
-ghost use Rattle.law_walk.specs.Rings.{delay_on, line_cells, AreDecidedBefore, sent_at, taken_by, cells_by, send_by};
-ghost use Rattle.law_walk.specs.Rings.{receive_by};
+ghost use Rattle.law_walk.specs.WalkRings.{delay_on, line_cells, AreDecidedBefore, sent_at, taken_by};
+ghost use Rattle.law_walk.specs.WalkRings.{cells_by, send_by};
+ghost use Rattle.law_walk.specs.WalkRings.{receive_by};
 
 /// The rings of a line by its numbers: after any list of events these are within their bounds; and one tick,
 /// one carry or one cell that is popped changes the rings by just that.

@@ -12,8 +12,8 @@ ghost use Rattle.law_line.specs.StableRows.{AreDecidedAt};
 ghost use Rattle.law_terminal.specs.SessionLines.{ComeOfLines};
 ghost use Rattle.law_terminal.specs.Course.{told_of, IsCourse};
 ghost use Rattle.law_walk.specs.Walk.{session_of, told_first, walk_plan, CanWalk, IsWalked, popped_cells};
-ghost use Rattle.law_walk.specs.Step.{last_packet, table_in};
-ghost use Rattle.law_walk.specs.Landed.{landed_scenario, told_before};
+ghost use Rattle.law_walk.specs.LastDecisionStep.{last_packet, table_in};
+ghost use Rattle.law_walk.specs.LandedOfLeg.{landed_scenario, told_before};
 
 /// Each event leads from a walk to a walk, and so do a drain and any event lines. After any list
 /// of events: the frames made by the return cells that have come are the session's, and so are the source's

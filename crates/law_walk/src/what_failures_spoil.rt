@@ -7,9 +7,9 @@ ghost use Rattle.law_model.specs.Common.{Extent, Lost, is_frame_lost, IsPlaceOfP
 ghost use Rattle.law_model.specs.Common.{Counts, lock_of, walked};
 ghost use Rattle.law_model.specs.declared.window_types.Window.{Window};
 ghost use Rattle.law_model.specs.members.Damage.{carried};
-ghost use Rattle.law_session.specs.Session.{AreWhole};
+ghost use Rattle.law_session.specs.ReturnedCells.{AreWhole};
 ghost use Rattle.law_walk.specs.Walk.{session_of, IsWalked};
-ghost use Rattle.law_walk.specs.Delivered.{session_rows, delivered_of};
+ghost use Rattle.law_walk.specs.DeliveredFrames.{session_rows, delivered_of};
 ghost use Rattle.law_walk.specs.Promise.{accepted_frames, session_pieces, session_extents, session_waiting};
 ghost use Rattle.law_walk.specs.Promise.{place_after, IsClear, FailsAlone, row_from, AreWholeBefore};
 ghost use Rattle.law_walk.specs.Promise.{ConfirmsTrue};

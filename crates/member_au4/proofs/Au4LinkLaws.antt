@@ -1,6 +1,6 @@
-pub mod VcLaws
-pub mod AcceptLaws
-pub mod DraftLaws
-pub mod CutLaws
-pub mod CarrySteps
-pub mod SaidLaws
+pub mod NumberedVcLaws
+pub mod AcceptedActionLaws
+pub mod LinkDraftLaws
+pub mod CutVcLaws
+pub mod CarriedVcSteps
+pub mod SaidLinkLaws

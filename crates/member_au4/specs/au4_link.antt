@@ -3,5 +3,5 @@ pub mod Helps
 pub mod Link
 pub mod Vcs
 pub mod VcText
-pub mod Text
+pub mod LinkReportText
 pub mod Carried

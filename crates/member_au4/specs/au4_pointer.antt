@@ -1,7 +1,7 @@
-pub mod Word
-pub mod Part
+pub mod PointerWord
+pub mod StreamPart
 pub mod Source
 pub mod Sink
-pub mod Sent
-pub mod Link
+pub mod SentFrames
+pub mod SourceToSink
 pub mod Worked

@@ -1,3 +1,3 @@
-pub mod Code
-pub mod Held
+pub mod ControlCode
+pub mod HeldPlaces
 pub mod Lending

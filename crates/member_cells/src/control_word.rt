@@ -1,6 +1,6 @@
 //! The control words of LCAS and their codes (G.7042).
 ghost use Rattle.std.specs.Prelude.{◌≡◌, ◌≢◌, IfSome, IfNone};
-ghost use Rattle.member_cells.specs.Code.{code_of, ctrl_of};
+ghost use Rattle.member_cells.specs.ControlCode.{code_of, ctrl_of};
 
 /// The control word of a member (G.7042, CTRL).
 #[derive(Clone, Copy, Debug, PartialEq, Eq)]

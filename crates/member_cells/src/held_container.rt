@@ -1,7 +1,7 @@
 //! A container that is held in one place and used again and again.
 ghost use Rattle.std.specs.Prelude.{◌≡◌};
 ghost use Rattle.std.specs.Borrow.{sem};
-ghost use Rattle.member_cells.specs.Held.{blank};
+ghost use Rattle.member_cells.specs.HeldPlaces.{blank};
 ghost use Rattle.member_cells.specs.Lending.{LendsContainer};
 
 use crate::{Container, PAYLOAD};

@@ -1,2 +1,2 @@
-pub mod LockWording
-pub mod NumberLaws
+pub mod LockVerdictLaws
+pub mod LineNumbersLaws

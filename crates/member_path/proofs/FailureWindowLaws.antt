@@ -1,5 +1,5 @@
-pub mod WindowLaws
-pub mod DamageLaws
-pub mod FaultLaws
-pub mod SlipLaws
-pub mod OpenLaws
+pub mod FrontWindowLaws
+pub mod WindowDamageLaws
+pub mod WindowListFaultLaws
+pub mod SlipRunLaws
+pub mod OpenWindowLaws

@@ -1,4 +1,4 @@
-pub mod PathLaws
-pub mod StandsLaws
-pub mod EndLaws
-pub mod AgreeLaws
+pub mod CarryAddsCellsLaws
+pub mod PushAndFlushLaws
+pub mod EndCellLaws
+pub mod AgreeingWindowLaws

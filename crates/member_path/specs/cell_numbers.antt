@@ -1,2 +1,2 @@
-pub mod Told
+pub mod SignsAsCells
 pub mod Numbers

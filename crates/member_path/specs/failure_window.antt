@@ -1,5 +1,5 @@
-pub mod Fault
-pub mod Near
-pub mod Above
-pub mod Open
-pub mod Agree
+pub mod FaultOfList
+pub mod NearWindows
+pub mod WindowsAbove
+pub mod OpenWindows
+pub mod AgreeingWindows

@@ -1,2 +1,2 @@
-pub mod Place
+pub mod MultiframePlace
 pub mod LockState

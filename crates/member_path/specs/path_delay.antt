@@ -1,2 +1,2 @@
 pub mod Carry
-pub mod Line
+pub mod CallsOnDelayedLine

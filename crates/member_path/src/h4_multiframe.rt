@@ -6,7 +6,7 @@
 
 ghost use Rattle.std.specs.Prelude.{◌≡◌, ℕ, ◌+◌, ◌*◌, ◌%◌, ◌<◌, List, [], ◌∷◌, ◌++◌, length, Option, Some, None};
 ghost use Rattle.member_path.specs.declared.h4_multiframe.Place.{Place as PlaceData};
-ghost use Rattle.member_path.specs.h4_multiframe.Place.{IsPlace};
+ghost use Rattle.member_path.specs.h4_multiframe.MultiframePlace.{IsPlace};
 ghost use Rattle.member_path.specs.h4_multiframe.LockState.{LockStands};
 
 use check_nibbles::{join_nibbles, nibble_hi, nibble_lo};

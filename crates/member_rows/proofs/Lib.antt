@@ -1,3 +1,2 @@
-pub mod LcasPacketLaws
 pub mod RealignRowsLaws
 pub mod VcatInterleaveLaws

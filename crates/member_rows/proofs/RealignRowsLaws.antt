@@ -1,5 +1,5 @@
-pub mod NibbleLaws
-pub mod LineLaws
-pub mod DecidedLaws
-pub mod PacketLaws
-pub mod GatherLaws
+pub mod BegunNibbleLaws
+pub mod NibblesStayLaws
+pub mod DecidedLineLaws
+pub mod GoverningPacketLaws
+pub mod RowGatherLaws

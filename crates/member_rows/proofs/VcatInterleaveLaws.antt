@@ -1,6 +1,6 @@
-pub mod RowLaws
-pub mod LaneLaws
-pub mod PlaceLaws
-pub mod MemberLaws
-pub mod SpreadLaws
-pub mod AgainLaws
+pub mod RowPartLaws
+pub mod VectorLaneLaws
+pub mod PutAtPlaceLaws
+pub mod MemberPayloadLaws
+pub mod RowSpreadLaws
+pub mod RepeatedRowLaws

@@ -1,4 +1,4 @@
-pub mod Begun
+pub mod BegunNibbles
 pub mod Line
 pub mod Gather
-pub mod Loops
+pub mod LineByLine

@@ -1,5 +1,5 @@
 pub mod Square
-pub mod Gathered
-pub mod Members
+pub mod GatheredRow
+pub mod MemberPayloads
 pub mod Spread
-pub mod Again
+pub mod RepeatedRow

@@ -1,4 +1,4 @@
 pub mod Start
-pub mod Faults
+pub mod FaultCounts
 pub mod Transfer
 pub mod Memory

@@ -3,7 +3,7 @@
 -- tells of its octets, where it tells them, and its count of faults.
 use Rattle.std.specs.Prelude.{◌≡◌, ℕ, ◌⊎◌, ◌<◌, List, ◌++◌, length, Option}
 use Rattle.std.specs.Io.KnownBytes.{append_known, prepend_known, IsAtEnd}
-use Rattle.octet_io.specs.Faults.{one_more}
+use Rattle.octet_io.specs.FaultCounts.{one_more}
 
 -- the source gave this text, and has come to its end
 pub record GivesAll {S : Type 0} (left : S → Option (List ℕ)) (old new : S) (text : List ℕ) : Type 0 where

@@ -1,7 +1,7 @@
 //! A source and a sink in memory, which tell all, and whose calls fail on demand.
 ghost use Rattle.std.specs.Prelude.{◌≡◌, ◌<◌, ◌≤◌, ◌↔◌, ◌-◌, [], ◌++◌, length, take, drop, min, Some, None};
 ghost use Rattle.std.specs.Prelude.{IfSome, Contains, IsTrue, IsErr, IfOk, OnErr};
-ghost use Rattle.octet_io.specs.Faults.{one_more};
+ghost use Rattle.octet_io.specs.FaultCounts.{one_more};
 ghost use Rattle.octet_io.specs.Memory.{given_at_once, IsFailingTake, IsFailingPut};
 
 use crate::source_and_sink::{ByteSink, ByteSource, Failed};

@@ -1,6 +1,6 @@
 //! The loops over a source and a sink: read all of it, put all of it.
 ghost use Rattle.std.specs.Prelude.{◌≡◌, ◌<◌, ◌≤◌, length, vec_len, IsErrOf, IfOk, IfSome, OnOk, OnErr};
-ghost use Rattle.octet_io.specs.Faults.{one_more};
+ghost use Rattle.octet_io.specs.FaultCounts.{one_more};
 ghost use Rattle.octet_io.specs.Transfer.{GivesAll, Appends, AppendsPart};
 
 use crate::source_and_sink::{ByteSink, ByteSource, Failed};

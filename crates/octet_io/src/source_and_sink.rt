@@ -1,7 +1,7 @@
 //! What is known of a source and of a sink: the octets that they tell, and their count of failed calls.
 ghost use Rattle.std.specs.Prelude.{◌≡◌, ℕ, ◌<◌, ◌≤◌, List, length, take, Option, None, IfOk, OnOk, OnErr};
 ghost use Rattle.std.specs.Io.KnownBytes.{append_known, prepend_known, IsAtEnd};
-ghost use Rattle.octet_io.specs.Faults.{one_more};
+ghost use Rattle.octet_io.specs.FaultCounts.{one_more};
 
 /// A call that failed: the outside world gave or took nothing in it.
 #[derive(Clone, Copy, Debug, PartialEq, Eq)]

@@ -1,6 +1,6 @@
 //! A source over a reader and a sink over a writer of the standard library, which count faults and tell no content.
 ghost use Rattle.std.specs.Prelude.{◌≡◌, ◌⊎◌, ◌<◌, ◌≤◌, ◌↔◌, length, IsTrue, IfOk, OnOk, OnErr};
-ghost use Rattle.octet_io.specs.Faults.{one_more};
+ghost use Rattle.octet_io.specs.FaultCounts.{one_more};
 
 use crate::source_and_sink::{ByteSink, ByteSource, Failed};
 use std::io::{Read, Write};

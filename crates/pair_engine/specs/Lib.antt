@@ -1,4 +1,4 @@
-pub mod Moved
-pub mod Said
+pub mod PairAfterEvent
+pub mod ToldAndHeard
 pub mod Ways
-pub mod Steps
+pub mod WayCalls

@@ -8,10 +8,10 @@ use Rattle.terminal_group.specs.ReturnInbox.{Inbox, empty_inbox}
 use Rattle.terminal_group.specs.Item.{bare_items}
 use Rattle.terminal_group.specs.Landed.{none_landed}
 use Rattle.law_pair.specs.Common.{IsPair, way_of, PairCounts, IsPairWalked}
-use Rattle.walk_engine.specs.walk_core.Parts.{WayStands}
+use Rattle.walk_engine.specs.walk_core.WayParts.{WayStands}
 use Rattle.walk_engine.specs.Common.{HasLanded, HasWindows, Parts, counts_of}
 use Rattle.pair_engine.specs.declared.pair_way.PairWay.{PairWay}
-use Rattle.pair_engine.specs.Said.{Said, untold_packets, HasHeard}
+use Rattle.pair_engine.specs.ToldAndHeard.{Said, untold_packets, HasHeard}
 
 -- the leg of a way, beside the other one
 abbrev pub leg_beside : PairWay → PairWay → Leg

@@ -6,8 +6,8 @@ ghost use Rattle.law_pair.specs.Common.{IsPair, carries_on, counts_on, is_over, 
 ghost use Rattle.law_pair.specs.Common.{pair_run, HasWayLine, pair_plan, pair_drained, IsPairWalked};
 ghost use Rattle.law_pair.specs.declared.pair_events.Way.TheVariants.{There as THERE, Back as BACK};
 ghost use Rattle.law_pair.specs.declared.pair_events.PairEvent.TheVariants.{Item, Tick, Carry, Take};
-ghost use Rattle.pair_engine.specs.Moved.{after, leg_on, moved_of, plan_of, script_on, with_counts, GivesWay};
-ghost use Rattle.pair_engine.specs.Moved.{SameRows, MoreRows};
+ghost use Rattle.pair_engine.specs.PairAfterEvent.{after, leg_on, moved_of, plan_of, script_on, with_counts, GivesWay};
+ghost use Rattle.pair_engine.specs.PairAfterEvent.{SameRows, MoreRows};
 ghost use Rattle.pair_engine.specs.Ways.{IsNewWay};
 
 use crate::pair_answers::{PairMoved, moved_on};
@@ -32,7 +32,7 @@ impl Drop for Pair {
 }
 
 impl Model for Pair {
-    ghost use Rattle.pair_engine.specs.Moved.{Paired};
+    ghost use Rattle.pair_engine.specs.PairAfterEvent.{Paired};
     ghost use Rattle.pair_engine.specs.Ways.{pair_counts, IsPairWalk};
 
     ghost Value = { Paired };

@@ -8,7 +8,7 @@ ghost use Rattle.law_pair.specs.Common.{left_after, first_due};
 ghost use Rattle.terminal_group.specs.Item.{kind_of};
 ghost use Rattle.terminal_group.specs.Landed.{next_number, due_at};
 ghost use Rattle.walk_engine.specs.Common.{answer_by};
-ghost use Rattle.pair_engine.specs.Steps.{due_of_next, found_by, next_in, AreInOrder};
+ghost use Rattle.pair_engine.specs.WayCalls.{due_of_next, found_by, next_in, AreInOrder};
 
 use law_model::{Refusal, Script};
 use terminal_group::{ItemRef, Landing, handed};

@@ -1,7 +1,7 @@
 //! What a step of a pair answers.
 
 ghost use Rattle.std.specs.Prelude.{◌≡◌};
-ghost use Rattle.pair_engine.specs.Moved.{moved_on};
+ghost use Rattle.pair_engine.specs.PairAfterEvent.{moved_on};
 
 use law_model::{Refusal, StallCause};
 use law_pair::Way;

@@ -6,9 +6,9 @@ ghost use Rattle.law_model.specs.declared.script_types.Script.{Script};
 ghost use Rattle.law_pair.specs.Common.{IsWay, way_of, land_item, done_at, held_at, full_at, missing_at};
 ghost use Rattle.law_walk.specs.Common.{walk_plan};
 ghost use Rattle.walk_engine.specs.Common.{answer_by, StandsForSome};
-ghost use Rattle.pair_engine.specs.Moved.{next_refusal};
-ghost use Rattle.pair_engine.specs.Said.{tells_next, told_now, left_untold};
-ghost use Rattle.pair_engine.specs.Steps.{Goes, IsQuiet};
+ghost use Rattle.pair_engine.specs.PairAfterEvent.{next_refusal};
+ghost use Rattle.pair_engine.specs.ToldAndHeard.{tells_next, told_now, left_untold};
+ghost use Rattle.pair_engine.specs.WayCalls.{Goes, IsQuiet};
 ghost use Rattle.pair_engine.specs.Ways.{StandsAs, LandedAs, way_counts, IsNewCore, IsNewWay};
 
 use crate::next_items::{item_at, landed, next_item};

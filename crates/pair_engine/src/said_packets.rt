@@ -16,7 +16,7 @@ pub(crate) struct SaidRing {
 
 impl Model for SaidRing {
     ghost use Rattle.std.specs.Prelude.{◌≤◌, length};
-    ghost use Rattle.pair_engine.specs.Said.{Said};
+    ghost use Rattle.pair_engine.specs.ToldAndHeard.{Said};
 
     ghost Value = { Said };
 

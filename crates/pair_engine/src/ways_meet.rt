@@ -5,7 +5,7 @@ ghost use Rattle.law_model.specs.Common.{leader, told_by, told_in};
 ghost use Rattle.walk_engine.specs.Common.{GivesRows};
 ghost use Rattle.law_pair.specs.Common.{first_way, tick_by, tick_cause, pair_plan};
 ghost use Rattle.pair_engine.specs.declared.pair_way.PairWay.{PairWay};
-ghost use Rattle.pair_engine.specs.Steps.{TakesRow, EndsPacket, Hears};
+ghost use Rattle.pair_engine.specs.WayCalls.{TakesRow, EndsPacket, Hears};
 ghost use Rattle.pair_engine.specs.Ways.{AreBeside, IsPairWalk, leg_beside, pair_counts};
 
 use crate::pair_way::PairWay;

@@ -1,4 +1,4 @@
-pub mod RoundLaws
-pub mod EndLaws
-pub mod HeadlineLaws
+pub mod RowsOfRoundLaws
+pub mod PairReportEndLaws
+pub mod PairHeadlineLaws
 pub mod PairScriptLaws

@@ -1,6 +1,6 @@
-pub mod HalfLaws
-pub mod PieceLaws
-pub mod LimitLaws
-pub mod InputLaws
-pub mod FirstFaultLaws
-pub mod SaidLaws
+pub mod LinesOfHalvesLaws
+pub mod PairPieceLineLaws
+pub mod PairLimitLaws
+pub mod PairInputLaws
+pub mod FirstPairFaultLaws
+pub mod ValidPairLaws

@@ -1,4 +1,4 @@
-pub mod Text
+pub mod ReportsOfWays
 pub mod Rounds
 pub mod Headline
 pub mod pair_script

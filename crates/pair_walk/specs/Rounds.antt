@@ -1,6 +1,6 @@
 -- What rounds of a pair leave where a write may fail, as private clauses say it.
 use Rattle.std.specs.Prelude.{◌≡◌, ◌≤◌, Bool, true, false, not}
-use Rattle.pair_engine.specs.Moved.{Paired}
+use Rattle.pair_engine.specs.PairAfterEvent.{Paired}
 
 -- neither way has more rows than ticks
 pub record FewRows (pair : Paired) : Type 0 where

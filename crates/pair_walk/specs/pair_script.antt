@@ -1,5 +1,5 @@
 pub mod PairTextLines
-pub mod Pair
+pub mod PairOfText
 pub mod Faults
 pub mod Pieces
 pub mod Inputs

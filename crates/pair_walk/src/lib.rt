@@ -11,8 +11,8 @@ pub mod pair_script;
 ghost use Rattle.std.specs.Prelude.{◌≡◌, ℕ, ◌≤◌, List, length, Ok};
 ghost use Rattle.law_model.specs.Common.{longest_input};
 ghost use Rattle.pair_walk.specs.declared.pair_script.script_pair.ScriptPair.{ScriptPair};
-ghost use Rattle.pair_walk.specs.pair_script.Pair.{pair_of};
-ghost use Rattle.pair_walk.specs.Text.{way_text};
+ghost use Rattle.pair_walk.specs.pair_script.PairOfText.{pair_of};
+ghost use Rattle.pair_walk.specs.ReportsOfWays.{way_text};
 ghost use Rattle.pair_walk.specs.Headline.{IsPairHeadline};
 
 pub use pair_report::write_pair;

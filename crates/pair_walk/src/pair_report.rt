@@ -1,15 +1,15 @@
 //! A pair drains, and the report of each way is written.
 ghost use Rattle.std.specs.Prelude.{◌≡◌, false, OnOk, OnErr};
 ghost use Rattle.law_model.specs.Common.{Appends, AppendsPart};
-ghost use Rattle.text_report.specs.Report.{got_texts};
+ghost use Rattle.text_report.specs.ReportLines.{got_texts};
 ghost use Rattle.law_walk.specs.Common.{delivered_of, report_of};
-ghost use Rattle.text_got.specs.Told.{HasText, name_of, start_at};
+ghost use Rattle.text_got.specs.TextSoFar.{HasText, name_of, start_at};
 ghost use Rattle.command_parts.specs.Common.{lent, WritesAll, WritesPart, writes_both};
 ghost use Rattle.law_pair.specs.Common.{IsPair, counts_on, pair_begin, pair_round, pair_run, pair_drained};
 ghost use Rattle.law_pair.specs.declared.pair_events.Way.TheVariants.{There as THERE, Back as BACK};
-ghost use Rattle.pair_engine.specs.Moved.{leg_on, plan_of, with_counts, GivesWay, MoreRows};
+ghost use Rattle.pair_engine.specs.PairAfterEvent.{leg_on, plan_of, with_counts, GivesWay, MoreRows};
 ghost use Rattle.pair_walk.specs.Rounds.{FailsOne, FewRows};
-ghost use Rattle.pair_walk.specs.Text.{way_text};
+ghost use Rattle.pair_walk.specs.ReportsOfWays.{way_text};
 
 use command_parts::write_rest;
 use law_model::Silent;

@@ -1,1 +1,1 @@
-pub mod FreshLaws
+pub mod FreshRingEndsLaws

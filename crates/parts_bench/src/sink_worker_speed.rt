@@ -1,6 +1,6 @@
 //! Times the worker of the sink over the rings of its lines.
 ghost use Rattle.std.specs.Prelude.{◌≡◌, ◌<◌, ◌≤◌, [], length, replicate, IfOk};
-ghost use Rattle.thread_sink.specs.Received.{received};
+ghost use Rattle.thread_sink.specs.ReceivedByRings.{received};
 
 use crate::Done;
 use crate::sink_feed::{Feed, ROWS};
@@ -27,7 +27,7 @@ impl ByteSink for Count {
 }
 
 /// The ends of the rings of so many lines, of as many cells as rows are sent at once.
-#[tactic(auto, using(crate::proofs::FreshLaws::one_more))]
+#[tactic(auto, using(crate::proofs::FreshRingEndsLaws::one_more))]
 fn make_rings(
     alloc: Global,
     lines: u8,

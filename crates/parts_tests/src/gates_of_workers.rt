@@ -2,7 +2,7 @@
 //! moved.
 
 ghost use Rattle.std.specs.Prelude.{◌≡◌, []};
-ghost use Rattle.thread_rings.specs.Ends.{in_passed};
+ghost use Rattle.thread_rings.specs.EndsOfRing.{in_passed};
 
 use law_model::Options;
 use member_cells::{Cell, Container, PAYLOAD};

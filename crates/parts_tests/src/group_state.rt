@@ -1,7 +1,7 @@
 //! A small script by hand, over real rings.
 ghost use Rattle.std.specs.Prelude.{◌≡◌, length, IfOk};
 ghost use Rattle.law_model.specs.Common.{IsValid};
-ghost use Rattle.thread_group.specs.Rings.{AreUnused};
+ghost use Rattle.thread_group.specs.GroupRings.{AreUnused};
 
 use law_model::Script;
 use member_cells::{BackCell, Container};

@@ -1,7 +1,7 @@
-pub mod ItemLaws
-pub mod PlaceLaws
-pub mod BareLaws
-pub mod LandingLaws
-pub mod CellLaws
-pub mod SourceLaws
-pub mod LandsLaws
+pub mod HeldItemLaws
+pub mod ItemPlaceLaws
+pub mod BareItemLaws
+pub mod LandedAndRefusedLaws
+pub mod ReturnCellLaws
+pub mod EarlyOrMissingLaws
+pub mod ItemOfLegLaws

@@ -6,7 +6,7 @@ use Rattle.law_model.specs.Common.{Due, dues_of, frame_dues, command_dues, longe
 use Rattle.law_model.specs.declared.script_types.Item.{Item}
 use Rattle.law_model.specs.declared.item_refusals.Refusal.{Refusal}
 use Rattle.law_walk.specs.Common.{is_client}
-use Rattle.terminal_group.specs.Place.{is_frame, is_command, place_of}
+use Rattle.terminal_group.specs.ItemPlaces.{is_frame, is_command, place_of}
 
 -- the items, without the octets of frames; how many frames and commands have landed, and how many of each were refused;
 -- the items that were refused, in their order,

@@ -1,8 +1,8 @@
 pub mod Item
-pub mod Bare
-pub mod Place
-pub mod Lands
+pub mod KeptItem
+pub mod ItemPlaces
+pub mod GivenItem
 pub mod Landed
 pub mod ReturnInbox
 pub mod Source
-pub mod Counted
+pub mod SourceByCounts

@@ -5,7 +5,7 @@ use Rattle.std.specs.List.{list_any}
 use Rattle.law_model.specs.Common.{BackCell, Told, told_in, used_in}
 use Rattle.member_cells.specs.declared.containers_and_cells.BackCell.TheVariants.{Lost}
 use Rattle.terminal_source.specs.source_core.Terminal.{needed_at}
-use Rattle.terminal_source.specs.source_core.Given.{with_cell}
+use Rattle.terminal_source.specs.source_core.GivenScenario.{with_cell}
 
 -- the return windows; the return cells that no decision step has taken, oldest first, and how many there is room for;
 -- how many have come

@@ -3,7 +3,7 @@ use Rattle.std.specs.Prelude.{◌≡◌, ℕ, nat_le, if◌then◌else◌, List,
 use Rattle.law_model.specs.Common.{BackCell, Leg, Scenario, dues_of, held}
 use Rattle.law_model.specs.declared.script_types.Config.{Config}
 use Rattle.terminal_source.specs.source_core.Terminal.{Terminal, needed}
-use Rattle.terminal_source.specs.source_core.Given.{IsFresh, SourceStands as HasMade}
+use Rattle.terminal_source.specs.source_core.GivenScenario.{IsFresh, SourceStands as HasMade}
 use Rattle.terminal_group.specs.declared.group_source.EarlyCause.{EarlyCause}
 use Rattle.terminal_group.specs.declared.group_source.EarlyCause.TheVariants.{Done, Held}
 use Rattle.terminal_group.specs.Item.{bare_items}

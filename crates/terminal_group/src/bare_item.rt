@@ -2,7 +2,7 @@
 
 ghost use Rattle.std.specs.Prelude.{◌≡◌};
 ghost use Rattle.terminal_group.specs.Item.{bare};
-ghost use Rattle.terminal_group.specs.Place.{is_frame, is_command};
+ghost use Rattle.terminal_group.specs.ItemPlaces.{is_frame, is_command};
 
 use law_model::{Item, ItemKind};
 use std::marker::Model;
@@ -28,7 +28,7 @@ pub struct BareItem {
 
 impl Model for BareItem {
     ghost use Rattle.law_model.specs.declared.script_types.Item.{Item};
-    ghost use Rattle.terminal_group.specs.Bare.{kind_in};
+    ghost use Rattle.terminal_group.specs.KeptItem.{kind_in};
 
     ghost Value = { Item };
 

@@ -1,15 +1,15 @@
 //! The source side of a group that keeps no items: its terminal, how much has landed, and the inbox.
 
 ghost use Rattle.std.specs.Prelude.{◌≡◌, ◌+◌, ◌<◌, List, Option, None, length, IsSome, IfOk, is_some};
-ghost use Rattle.member_cells.specs.Held.{held};
+ghost use Rattle.member_cells.specs.HeldPlaces.{held};
 ghost use Rattle.law_model.specs.Common.{IsNetwork, Scenario, steps_in, Told, told_by, frame_of};
 ghost use Rattle.terminal_source.specs.source_core.Terminal.{SameKind, needed};
-ghost use Rattle.terminal_source.specs.source_core.Given.{with_cell, with_told, SourceStands as HasMade};
+ghost use Rattle.terminal_source.specs.source_core.GivenScenario.{with_cell, with_told, SourceStands as HasMade};
 ghost use Rattle.law_walk.specs.Common.{is_client};
 ghost use Rattle.terminal_group.specs.Item.{kind_of};
-ghost use Rattle.terminal_group.specs.Lands.{met_by, with_kind};
+ghost use Rattle.terminal_group.specs.GivenItem.{met_by, with_kind};
 ghost use Rattle.terminal_group.specs.ReturnInbox.{with_come, cell_for, rest_for};
-ghost use Rattle.terminal_group.specs.Counted.{IsUnusedOn, SameNetwork, SameCounts, with_landed, missing_from};
+ghost use Rattle.terminal_group.specs.SourceByCounts.{IsUnusedOn, SameNetwork, SameCounts, with_landed, missing_from};
 
 use crate::item_ref::ItemRef;
 use crate::landed_counts::LandedCounts;
@@ -35,7 +35,7 @@ pub struct CountedSource {
 
 impl Model for CountedSource {
     ghost use Rattle.std.specs.Prelude.{◌≤◌};
-    ghost use Rattle.terminal_group.specs.Counted.{Counted};
+    ghost use Rattle.terminal_group.specs.SourceByCounts.{Counted};
 
     ghost Value = { Counted };
 

@@ -2,13 +2,13 @@
 
 ghost use Rattle.std.specs.Prelude.{◌≡◌, ◌+◌, ◌<◌, List, Option, None, Some, length, IsSome, IfOk};
 ghost use Rattle.std.specs.Prelude.{is_some};
-ghost use Rattle.member_cells.specs.Held.{held};
+ghost use Rattle.member_cells.specs.HeldPlaces.{held};
 ghost use Rattle.law_model.specs.Common.{leg_of, Scenario, steps_in, Told, told_by, frame_of, IsValid};
 ghost use Rattle.terminal_source.specs.source_core.Terminal.{SameKind, needed};
-ghost use Rattle.terminal_source.specs.source_core.Given.{with_cell, with_told, SourceStands as HasMade};
+ghost use Rattle.terminal_source.specs.source_core.GivenScenario.{with_cell, with_told, SourceStands as HasMade};
 ghost use Rattle.law_walk.specs.Common.{is_client, IsPlaced, refused_by};
 ghost use Rattle.terminal_group.specs.Item.{kind_of};
-ghost use Rattle.terminal_group.specs.Lands.{met_by, with_kind};
+ghost use Rattle.terminal_group.specs.GivenItem.{met_by, with_kind};
 ghost use Rattle.terminal_group.specs.Landed.{next_number, HasPassed};
 ghost use Rattle.terminal_group.specs.ReturnInbox.{with_come, cell_for, rest_for};
 ghost use Rattle.terminal_group.specs.Source.{IsUnused, SameRest, SameScript, early_in, missing_in};

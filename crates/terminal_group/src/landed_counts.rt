@@ -1,7 +1,7 @@
 //! How many items have landed, where nobody keeps which.
 
 ghost use Rattle.std.specs.Prelude.{◌≡◌, ◌+◌, ◌-◌, min};
-ghost use Rattle.terminal_group.specs.Counted.{and_one, with_landed, landed_in, refused_in};
+ghost use Rattle.terminal_group.specs.SourceByCounts.{and_one, with_landed, landed_in, refused_in};
 
 /// How many frames and commands have landed, and how many of each were refused. A count that has reached the
 /// greatest number of its type stays there.

@@ -3,7 +3,7 @@
 ghost use Rattle.std.specs.Prelude.{◌≡◌, ℕ, ◌+◌, ◌<◌, ◌≤◌, true, length, drop, slice_get};
 ghost use Rattle.std.specs.List.Sorted.{IsNonDecreasing};
 ghost use Rattle.law_model.specs.Common.{dues_of, frame_dues, command_dues, held, longest_input};
-ghost use Rattle.terminal_group.specs.Place.{is_frame, is_command, place_of, due_by, least_held};
+ghost use Rattle.terminal_group.specs.ItemPlaces.{is_frame, is_command, place_of, due_by, least_held};
 
 use crate::bare_item::BareItem;
 

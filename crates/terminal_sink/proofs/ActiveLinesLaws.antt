@@ -1,1 +1,1 @@
-pub mod ActiveLaws
+pub mod ActiveByNumberLaws

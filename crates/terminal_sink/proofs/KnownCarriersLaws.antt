@@ -1,2 +1,2 @@
-pub mod SilentLaws
-pub mod SupposedLaws
+pub mod SilentWhereFailedLaws
+pub mod SupposedCarrierLaws

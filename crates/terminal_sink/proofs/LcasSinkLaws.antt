@@ -1,1 +1,1 @@
-pub mod RowSteps
+pub mod PacketRowSteps

@@ -1,2 +1,2 @@
-pub mod TimerSteps
-pub mod WordSteps
+pub mod UpByTimersSteps
+pub mod LineLastSaidSteps

@@ -1,7 +1,7 @@
-pub mod GivingLaws
-pub mod IdleLaws
-pub mod WholeLaws
-pub mod ReceivedLaws
-pub mod GivenLaws
-pub mod LaterLaws
-pub mod SessionLaws
+pub mod OctetsGiveFramesLaws
+pub mod DealtIdleLaws
+pub mod WholeRowContainerLaws
+pub mod WholeOrLostRowLaws
+pub mod RowMoreForSinkLaws
+pub mod LaterCellLaws
+pub mod SessionFrameLaws

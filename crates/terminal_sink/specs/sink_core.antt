@@ -1,4 +1,4 @@
-pub mod Given
-pub mod Receives
+pub mod TakenAndGiven
+pub mod RowsInReceiver
 pub mod Core
-pub mod Session
+pub mod SessionTells

@@ -2,8 +2,8 @@
 
 ghost use Rattle.std.specs.Prelude.{◌≡◌, ◌+◌, ◌≤◌, ◌++◌, length};
 ghost use Rattle.law_model.specs.Common.{leader, is_carrying, has, lines_at, active_of};
-ghost use Rattle.member_rows.specs.vcat_interleave.Members.{AreLines};
-ghost use Rattle.terminal_sink.specs.active_lines.Active.{carries, carrying, act_of};
+ghost use Rattle.member_rows.specs.vcat_interleave.MemberPayloads.{AreLines};
+ghost use Rattle.terminal_sink.specs.active_lines.CarryingLines.{carries, carrying, act_of};
 
 use crate::line_list::LineList;
 use law_model::Packet;

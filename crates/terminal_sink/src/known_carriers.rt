@@ -3,7 +3,7 @@
 
 ghost use Rattle.std.specs.Prelude.{◌≡◌, ℕ, ◌≤◌, List, [], ◌∷◌, ◌++◌, length, take, IfSome};
 ghost use Rattle.law_model.specs.Common.{Row, carriers_of, sink_state};
-ghost use Rattle.member_rows.specs.vcat_interleave.Members.{AreLines};
+ghost use Rattle.member_rows.specs.vcat_interleave.MemberPayloads.{AreLines};
 ghost use Rattle.terminal_sink.specs.member_watch.Watches.{AreWatched};
 ghost use Rattle.terminal_sink.specs.known_carriers.Supposed.{norm_at, supposed_by, supposed_packets, is_worded};
 ghost use Rattle.terminal_sink.specs.known_carriers.Supposed.{are_all_worded};

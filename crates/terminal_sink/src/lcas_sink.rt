@@ -10,7 +10,7 @@ ghost use Rattle.std.specs.Option.{option_copied};
 ghost use Rattle.law_model.specs.Common.{IsOptions, Row, leader, ack_by, return_of, state_next, sink_state};
 ghost use Rattle.law_model.specs.declared.script_types.Options.{Options};
 ghost use Rattle.terminal_sink.specs.member_watch.Watches.{AreWatched, is_changed, is_told, mst_by};
-ghost use Rattle.member_rows.specs.vcat_interleave.Members.{AreLines};
+ghost use Rattle.member_rows.specs.vcat_interleave.MemberPayloads.{AreLines};
 ghost use Rattle.terminal_sink.specs.lcas_sink.SinkStates.{SinkTableStands, state_at, state_after, last_carriers};
 
 use crate::known_carriers::known_carriers;
@@ -39,7 +39,7 @@ pub struct SinkTable {
 impl Model for SinkTable {
     ghost use Rattle.std.specs.Prelude.{◌≡◌, ◌≤◌, ℕ, IfSome};
     ghost use Rattle.law_model.specs.Common.{IsOptions};
-    ghost use Rattle.member_rows.specs.vcat_interleave.Members.{AreLines};
+    ghost use Rattle.member_rows.specs.vcat_interleave.MemberPayloads.{AreLines};
     ghost use Rattle.law_model.specs.declared.lcas_states.SinkState.TheVariants.{Idle};
     ghost use Rattle.terminal_sink.specs.lcas_sink.SinkStates.{Sink, state_at};
 

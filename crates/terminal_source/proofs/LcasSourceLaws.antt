@@ -1,9 +1,9 @@
-pub mod FrontLaws
-pub mod OrderSteps
-pub mod KeepLaws
+pub mod RewrittenFrontLaws
+pub mod FirstOfOrderSteps
+pub mod EightStatusesLaws
 pub mod ExchangeLaws
 pub mod FirstAddingLaws
 pub mod GroupBitLaws
-pub mod ForwardSteps
-pub mod CourseSteps
-pub mod SessionLaws
+pub mod LineInOrderSteps
+pub mod TableCourseSteps
+pub mod SessionCourseLaws

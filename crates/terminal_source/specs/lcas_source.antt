@@ -1,2 +1,2 @@
 pub mod Exchange
-pub mod Fields
+pub mod TableFields

@@ -1,5 +1,5 @@
 pub mod Terminal
-pub mod Given
-pub mod Frame
-pub mod Step
+pub mod GivenScenario
+pub mod FrameContainers
+pub mod StepOfTerminal
 pub mod Dealt

@@ -1,7 +1,7 @@
-pub mod RecordLaws
-pub mod ReadingLaws
-pub mod CheckedLaws
-pub mod LineLaws
-pub mod OutLaws
-pub mod GfpLaws
-pub mod WrittenLaws
+pub mod CutIntoRecordsLaws
+pub mod RecordDuesAndFaultsLaws
+pub mod CheckedRecordsLaws
+pub mod WrittenFrameLinesLaws
+pub mod CaptureGrowsByRowLaws
+pub mod GfpCaptureLaws
+pub mod WrittenCaptureReadLaws

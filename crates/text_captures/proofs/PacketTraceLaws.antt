@@ -1,5 +1,5 @@
-pub mod DecoderLaws
-pub mod StepLaws
-pub mod WordingLaws
-pub mod WorkedLaws
-pub mod StepTextLaws
+pub mod PacketsOneOctetMoreLaws
+pub mod DecoderNextOctetLaws
+pub mod PacketWordingLaws
+pub mod WorkedDecodingLaws
+pub mod DecisionStepTextLaws

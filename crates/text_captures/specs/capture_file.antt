@@ -1,7 +1,7 @@
 pub mod Form
-pub mod Written
-pub mod Gfp
+pub mod WrittenCapture
+pub mod GfpInCapture
 pub mod Reading
 pub mod Texts
 pub mod Clock
-pub mod Out
+pub mod CaptureSoFar

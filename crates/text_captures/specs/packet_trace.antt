@@ -1,4 +1,4 @@
 pub mod Decoder
-pub mod Wording
-pub mod Worked
+pub mod PacketWording
+pub mod WorkedDecoding
 pub mod StepText

@@ -1,2 +1,2 @@
-pub mod BlockLaws
-pub mod ToldLaws
+pub mod TextWaitsInBlockLaws
+pub mod ToldTextGrowsLaws

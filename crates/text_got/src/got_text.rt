@@ -1,7 +1,7 @@
 //! Frames are written as lines of text.
 ghost use Rattle.std.specs.Prelude.{◌≡◌, ◌≤◌, ℕ, Bool, List, [], ◌++◌, length, false, OnOk, OnErr};
 ghost use Rattle.law_model.specs.Common.{Appends, AppendsPart, Start, longest_got_line};
-ghost use Rattle.text_got.specs.Told.{HasText, GivesUp, name_of, has_failed, start_at};
+ghost use Rattle.text_got.specs.TextSoFar.{HasText, GivesUp, name_of, has_failed, start_at};
 
 use crate::text_block::TextBlock;
 use law_model::FrameOut;
@@ -93,8 +93,8 @@ impl<'a, K: ByteSink> GotLines<'a, K> {
 }
 
 impl<'a, K: ByteSink> FrameOut for GotLines<'a, K> {
-    ghost use Rattle.text_report.specs.Report.{got_texts};
-    ghost use Rattle.text_got.specs.Told.{HasText};
+    ghost use Rattle.text_report.specs.ReportLines.{got_texts};
+    ghost use Rattle.text_got.specs.TextSoFar.{HasText};
 
     ghost stands_for = { λ got start frames.
         HasText K.written K.faults got start (got_texts frames) };

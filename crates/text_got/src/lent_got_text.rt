@@ -1,8 +1,8 @@
 //! Frames are written as lines of text, which wait in a block that is lent.
 ghost use Rattle.std.specs.Prelude.{◌≡◌, ℕ, List, [], OnOk, OnErr};
 ghost use Rattle.law_model.specs.Common.{Appends, AppendsPart};
-ghost use Rattle.text_got.specs.Told.{start_at};
-ghost use Rattle.text_got.specs.Over.{HasText, name_of};
+ghost use Rattle.text_got.specs.TextSoFar.{start_at};
+ghost use Rattle.text_got.specs.LentText.{HasText, name_of};
 
 use crate::text_block::TextBlock;
 use law_model::FrameOut;
@@ -50,8 +50,8 @@ impl<'a, K: ByteSink> LentGotLines<'a, K> {
 }
 
 impl<'a, K: ByteSink> FrameOut for LentGotLines<'a, K> {
-    ghost use Rattle.text_report.specs.Report.{got_texts};
-    ghost use Rattle.text_got.specs.Over.{HasText};
+    ghost use Rattle.text_report.specs.ReportLines.{got_texts};
+    ghost use Rattle.text_got.specs.LentText.{HasText};
 
     ghost stands_for = { λ got start frames.
         HasText K.written K.faults got start (got_texts frames) };

@@ -1,8 +1,8 @@
 //! Lines of text that wait in a block, so that many of them go out in one call.
 ghost use Rattle.std.specs.Prelude.{◌≡◌, ◌≤◌, [], ◌++◌, length, OnOk, OnErr};
 ghost use Rattle.law_model.specs.Common.{Appends, AppendsPart, longest_frame, longest_got_line};
-ghost use Rattle.text_report.specs.Report.{got_text};
-ghost use Rattle.text_got.specs.Told.{Holds};
+ghost use Rattle.text_report.specs.ReportLines.{got_text};
+ghost use Rattle.text_got.specs.TextSoFar.{Holds};
 
 use octet_io::{ByteSink, Failed, put_all};
 use std::marker::Model;

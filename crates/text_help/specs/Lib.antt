@@ -1,1 +1,1 @@
-pub mod Helps
+pub mod LineHelpTexts

@@ -1,8 +1,9 @@
 //! The texts. Each is put together in a slice with room for it, and its length is the answer.
 ghost use Rattle.std.specs.Prelude.{◌≡◌, ◌++◌, ◌≤◌, length, take, codes, decimal};
 ghost use Rattle.text_lines.specs.declared.text_faults.FieldFault.{FieldFault};
-ghost use Rattle.text_help.specs.Helps.{word_text, bounds_text, field_text, count_text, missing_text, order_text};
-ghost use Rattle.text_help.specs.Helps.{first_text, fault_text};
+ghost use Rattle.text_help.specs.LineHelpTexts.{word_text, bounds_text, field_text, count_text, missing_text};
+ghost use Rattle.text_help.specs.LineHelpTexts.{order_text};
+ghost use Rattle.text_help.specs.LineHelpTexts.{first_text, fault_text};
 
 use text_lines::{FieldFault, LineFault, Names};
 use text_report::TextCursor;

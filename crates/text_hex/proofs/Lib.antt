@@ -1,4 +1,4 @@
-mod DigitLaws
-mod TextSteps
-mod SixteenLaws
-mod LaneLaws
+mod HexDigitLaws
+mod DigitPairSteps
+mod SixteenOctetsLaws
+mod DigitLanesLaws

@@ -1,6 +1,6 @@
 -- What lines say, one line on and at the end.
 use Rattle.std.proofs.Common.{◌≡◌, ℕ, ◌+◌, List, [], ◌∷◌, ap, sym, ◌∙◌, Option, None, Some, Ok, Err}
-use Rattle.text_lines.specs.Words.{words}
+use Rattle.text_lines.specs.WordsOfLine.{words}
 use Rattle.text_lines.specs.Language.{Language, said_from, unless_fault}
 
 -- a line that has a fault

@@ -1,5 +1,5 @@
-pub mod TextLaws
+pub mod LinesAndWordsLaws
 pub mod LanguageLaws
-pub mod FirstFaultLaws
-pub mod FieldLaws
-pub mod TableLaws
+pub mod FirstFaultyLineLaws
+pub mod WordFieldsLaws
+pub mod LanguageTableLaws

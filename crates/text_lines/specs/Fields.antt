@@ -13,7 +13,7 @@ use Rattle.text_lines.specs.declared.text_faults.Names.{Names}
 use Rattle.text_lines.specs.declared.text_faults.Names.TheVariants.{Containers, Sinks, Statuses}
 use Rattle.text_lines.specs.declared.text_faults.FieldStop.{FieldStop}
 use Rattle.text_lines.specs.declared.text_faults.FieldStop.TheVariants as stop
-use Rattle.text_lines.specs.Words.{is_number, number_of}
+use Rattle.text_lines.specs.WordsOfLine.{is_number, number_of}
 
 -- a fault where a test finds one
 abbrev pub where_true : {K : Type 0} → Bool → K → Option K

@@ -1,6 +1,6 @@
 -- Which line of a text is the first that has a fault, as a relation.
 use Rattle.std.specs.Prelude.{◌≡◌, ◌⊎◌, ℕ, ◌+◌, List, [], ◌∷◌, ◌++◌, length, Some, None}
-use Rattle.text_lines.specs.Words.{words}
+use Rattle.text_lines.specs.WordsOfLine.{words}
 use Rattle.text_lines.specs.Language.{Language}
 
 -- lines without a fault after what others say, and what is said with them

@@ -1,7 +1,7 @@
 -- What the lines of a text say one after another, or the first of them that has a fault.
 use Rattle.std.specs.Prelude.{ℕ, ◌+◌, List, [], ◌∷◌, Option, Some, None, Result, Ok, Err}
 use Rattle.std.specs.Str.Lines.{lines}
-use Rattle.text_lines.specs.Words.{words}
+use Rattle.text_lines.specs.WordsOfLine.{words}
 
 -- a language of lines, by their words. D is what lines say, K what can be wrong with one
 pub record Language (D K : Type 0) : Type 0 where

@@ -1,7 +1,7 @@
 pub mod Cut
-pub mod Words
+pub mod WordsOfLine
 pub mod Fields
-pub mod Faults
+pub mod LineFaults
 pub mod Language
 pub mod FirstFault
-pub mod Table
+pub mod LanguageTable

@@ -7,16 +7,16 @@
 //! with `next_line`, and with `number_within` and `octets_within` for what a word says.
 #![tactic(auto)]
 
+mod read_by_table;
 mod read_fields;
 mod split_text;
 mod split_words;
-mod table;
 mod text_faults;
 
+pub use read_by_table::{LineTable, count_fault, one_number, read_text};
 pub use read_fields::{number_within, octets_within};
 pub use split_text::{next_line, next_whole_line};
 pub use split_words::{
     count_words, first_word, four_words, next_word, one_word, three_words, two_words,
 };
-pub use table::{LineTable, count_fault, one_number, read_text};
 pub use text_faults::{FieldFault, FieldStop, LineFault, LineKind, LineStop, Names, TextFault};

@@ -1,7 +1,7 @@
 //! What words of a line say: numbers, and the octets of hexadecimal digits.
 ghost use Rattle.std.specs.Prelude.{◌≡◌, ◌≤◌, ◌<◌, length, All, IfSome, IfNone, IfOk, IfErr, true, false, None, Some};
 ghost use Rattle.hex.specs.Hex.{decode_of};
-ghost use Rattle.text_lines.specs.Words.{is_number, number_of, octets_of};
+ghost use Rattle.text_lines.specs.WordsOfLine.{is_number, number_of, octets_of};
 ghost use Rattle.text_lines.specs.Fields.{number_fault, octets_fault, IsFieldStop};
 
 use crate::text_faults::{FieldFault, FieldStop};

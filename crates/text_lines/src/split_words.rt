@@ -1,6 +1,6 @@
 //! The words of a line. Nothing is copied.
 ghost use Rattle.std.specs.Prelude.{◌≡◌, ℕ, ◌≤◌, ◌<◌, ◌+◌, ◌∷◌, [], List, length, IfSome, IfNone, true, false, ◌≢◌};
-ghost use Rattle.text_lines.specs.Words.{words, is_skipped};
+ghost use Rattle.text_lines.specs.WordsOfLine.{words, is_skipped};
 
 use crate::split_text::cut;
 

@@ -4,7 +4,7 @@ ghost use Rattle.std.specs.Prelude.{◌≡◌};
 ghost use Rattle.text_lines.specs.declared.text_faults.FieldStop.TheVariants as stop;
 ghost use Rattle.text_lines.specs.declared.text_faults.LineFault.TheVariants as wrong;
 ghost use Rattle.text_lines.specs.declared.text_faults.LineStop.TheVariants as line;
-ghost use Rattle.text_lines.specs.Faults.{kind_of, lifted, stopped};
+ghost use Rattle.text_lines.specs.LineFaults.{kind_of, lifted, stopped};
 ghost use Rattle.text_lines.specs.Fields.{field_kind};
 
 use std::alloc::{AllocError, AllocFailed};

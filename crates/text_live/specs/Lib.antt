@@ -1,6 +1,6 @@
 pub mod LiveLines
 pub mod LiveScript
 pub mod Sayings
-pub mod Reading
-pub mod Helps
-pub mod Worked
+pub mod LiveReaderStands
+pub mod LiveHelpTexts
+pub mod WorkedLiveTexts

@@ -5,7 +5,7 @@ use Rattle.std.specs.Prelude.{ℕ, ◌+◌, ◌-◌, ◌==◌, nat_le, nat_lt, n
 use Rattle.std.specs.Prelude.{Option, Some, None, option_map, is_some, is_none, codes, bytes_eq}
 use Rattle.std.specs.Prelude.{if◌then◌else◌}
 use Rattle.std.specs.Option.{option_or}
-use Rattle.text_lines.specs.Words.{word_at, is_skipped, number_at, octets_of}
+use Rattle.text_lines.specs.WordsOfLine.{word_at, is_skipped, number_at, octets_of}
 use Rattle.text_lines.specs.Fields.{Field, within, digits, where_true, field_fault}
 use Rattle.text_lines.specs.Language.{Language}
 use Rattle.law_model.specs.declared.script_types.Config.{Config}
@@ -15,7 +15,7 @@ use Rattle.text_scripts.specs.declared.script_read.script_fault.LineFault.{LineF
 use Rattle.text_scripts.specs.declared.script_read.script_fault.ScriptFault.{ScriptFault}
 use Rattle.text_scripts.specs.script_read.Statements.{words_fault, words_said, after, at_first, last_end}
 use Rattle.text_scripts.specs.script_read.Script.{missing_line, config_fault}
-use Rattle.law_live.specs.Live.{Saying, lands, cuts, mends, passes, LineCourse, Live, opened, course_at, live_after}
+use Rattle.law_live.specs.LiveSayings.{Saying, lands, cuts, mends, passes, LineCourse, Live, opened, course_at, live_after}
 use Rattle.text_live.specs.declared.live_keyword.EarlierPart.{EarlierPart}
 use Rattle.text_live.specs.declared.live_keyword.EarlierPart.TheVariants as part
 use Rattle.text_live.specs.declared.live_keyword.LiveKeyword.{LiveKeyword}

@@ -1,9 +1,9 @@
 -- The script of what was said live.
 use Rattle.std.specs.Prelude.{ℕ, List, Result}
-use Rattle.text_lines.specs.Table.{formed}
+use Rattle.text_lines.specs.LanguageTable.{formed}
 use Rattle.text_lines.specs.Language.{said_from}
 use Rattle.law_model.specs.declared.script_types.Script.{Script}
-use Rattle.law_live.specs.LiveScript.{script_by}
+use Rattle.law_live.specs.ScriptOfSayings.{script_by}
 use Rattle.text_live.specs.LiveLines.{Said, LineWrong, now_live, nothing_said, live_lines}
 
 -- the script of what lines say, where the ticks that have passed took so many rounds

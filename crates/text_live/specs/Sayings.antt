@@ -1,6 +1,6 @@
 -- What lines of a live text say that happens, one after another, and the leg of a session of which they say all.
 use Rattle.std.specs.Prelude.{◌≡◌, ℕ, List, [], ◌∷◌, fold, flat_map, Option, Some, None}
-use Rattle.text_lines.specs.Words.{words}
+use Rattle.text_lines.specs.WordsOfLine.{words}
 use Rattle.text_lines.specs.FirstFault.{AreSound}
 use Rattle.law_model.specs.Common.{IsNetwork, Leg}
 use Rattle.law_live.specs.Common.{IsWellSaid, Live, Saying, leg_by, live_of}

@@ -2,7 +2,7 @@
 ghost use Rattle.std.specs.Prelude.{◌≡◌, ◌≢◌, ℕ, ◌≤◌, ◌/◌, List, length, true, false, None, Some, Ok};
 ghost use Rattle.std.specs.Prelude.{OnOk, IfErr, vec_capacity};
 ghost use Rattle.hex.specs.Hex.{decode_of};
-ghost use Rattle.text_lines.specs.Words.{octets_of};
+ghost use Rattle.text_lines.specs.WordsOfLine.{octets_of};
 ghost use Rattle.text_lines.specs.Fields.{octets_fault};
 
 use text_hex::decode_into;

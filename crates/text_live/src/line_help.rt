@@ -1,6 +1,6 @@
 //! What is said of how to write a live line that is faulty, put together in a slice with room for it.
 ghost use Rattle.std.specs.Prelude.{◌≡◌, ◌++◌, ◌≤◌, length, take, codes, decimal};
-ghost use Rattle.text_live.specs.Helps.{keyword_text, part_text, live_help_text};
+ghost use Rattle.text_live.specs.LiveHelpTexts.{keyword_text, part_text, live_help_text};
 
 use crate::live_fault::LiveLineFault;
 use crate::live_keyword::{EarlierPart, LiveKeyword};

@@ -1,7 +1,7 @@
 //! What can be wrong with a live text.
 ghost use Rattle.std.specs.Prelude.{◌≡◌};
 ghost use Rattle.text_live.specs.declared.live_fault.LiveLineFault.TheVariants as wrong;
-ghost use Rattle.text_live.specs.Helps.{live_kind};
+ghost use Rattle.text_live.specs.LiveHelpTexts.{live_kind};
 
 use crate::live_keyword::{EarlierPart, LiveKeyword};
 use text_lines::{FieldFault, LineKind};

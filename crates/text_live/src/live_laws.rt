@@ -4,14 +4,14 @@ ghost use Rattle.std.specs.Str.Lines.{lines};
 ghost use Rattle.text_lines.specs.Language.{said_by};
 ghost use Rattle.text_lines.specs.FirstFault.{IsFirstFault};
 ghost use Rattle.law_model.specs.Common.{IsValid, HasFewLosses, leg_of, longest_input};
-ghost use Rattle.text_lines.specs.Words.{words};
+ghost use Rattle.text_lines.specs.WordsOfLine.{words};
 ghost use Rattle.law_model.specs.declared.script_types.Script.{Script};
 ghost use Rattle.text_live.specs.LiveLines.{LineWrong, nothing_said, live_lines, line_fault, opening_fault};
 ghost use Rattle.text_live.specs.LiveScript.{script_of_live, script_in};
 ghost use Rattle.text_live.specs.Sayings.{AgreesWith, AreFine, leg_in, line_saying, said_in, said_with_line, sayings};
 ghost use Rattle.law_live.specs.Common.{answers};
-ghost use Rattle.text_live.specs.Worked.{frame_lines, frame_script, cut_lines, cut_script};
-ghost use Rattle.text_live.specs.Worked.{refused_answers, refused_lines};
+ghost use Rattle.text_live.specs.WorkedLiveTexts.{frame_lines, frame_script, cut_lines, cut_script};
+ghost use Rattle.text_live.specs.WorkedLiveTexts.{refused_answers, refused_lines};
 
 /// A text has the fault of a line exactly where that line is faulty after lines none of which is, or where no line is
 /// faulty and the configuration isn't whole, or doesn't fit, at the end.

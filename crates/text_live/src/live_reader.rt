@@ -1,13 +1,15 @@
 //! A live text, line by line.
 ghost use Rattle.std.specs.Prelude.{◌≡◌, ◌⊎◌, ℕ, ◌+◌, List, true, option_map, Some, None, Err};
 ghost use Rattle.std.specs.Prelude.{IfOk, IfErr, OnOk, IfSome};
-ghost use Rattle.text_lines.specs.Words.{words, is_skipped};
+ghost use Rattle.text_lines.specs.WordsOfLine.{words, is_skipped};
 ghost use Rattle.law_model.specs.Common.{IsNetwork};
-ghost use Rattle.text_scripts.specs.script_read.Pieces.{IsReader, HasNumbersLeft, next_number, drafted};
+ghost use Rattle.text_scripts.specs.script_read.ScriptInPieces.{IsReader, HasNumbersLeft, next_number, drafted};
 ghost use Rattle.text_live.specs.LiveLines.{Said, of_script, nothing_said, opening_fault, line_fault};
-ghost use Rattle.text_live.specs.Reading.{IsLiveReader, IsAt, IsToldAt, HasLinesLeft, ReadsLine, Stops, HandsOut};
-ghost use Rattle.text_live.specs.Reading.{IsLiveLine, IsEarlierLine, failure, line_at, waiting_config, frame_of};
-ghost use Rattle.text_live.specs.Reading.{opened_said, has_begun, no_memory};
+ghost use Rattle.text_live.specs.LiveReaderStands.{IsLiveReader, IsAt, IsToldAt, HasLinesLeft, ReadsLine};
+ghost use Rattle.text_live.specs.LiveReaderStands.{Stops, HandsOut};
+ghost use Rattle.text_live.specs.LiveReaderStands.{IsLiveLine, IsEarlierLine, failure, line_at};
+ghost use Rattle.text_live.specs.LiveReaderStands.{waiting_config, frame_of};
+ghost use Rattle.text_live.specs.LiveReaderStands.{opened_said, has_begun, no_memory};
 ghost use Rattle.text_scripts.specs.script_read.Statements.{words_fault, words_said, after};
 
 use crate::live_fault::{LiveFault, LiveLineFault};

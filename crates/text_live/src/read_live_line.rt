@@ -2,13 +2,13 @@
 ghost use Rattle.std.specs.Prelude.{◌≡◌, ℕ, ◌≤◌, List, length, IfOk, IfErr, OnOk, None, Some};
 ghost use Rattle.std.specs.Prelude.{vec_capacity};
 ghost use Rattle.law_model.specs.declared.script_types.Config.{Config};
-ghost use Rattle.text_lines.specs.Words.{words, word_at, number_at, octets_of};
+ghost use Rattle.text_lines.specs.WordsOfLine.{words, word_at, number_at, octets_of};
 ghost use Rattle.text_lines.specs.Fields.{within};
 ghost use Rattle.law_model.specs.Common.{IsNetwork};
-ghost use Rattle.law_live.specs.Live.{Live, opened, uncut};
+ghost use Rattle.law_live.specs.LiveSayings.{Live, opened, uncut};
 ghost use Rattle.text_live.specs.LiveLines.{cut_fault_by, mend_fault_by, one_fault, rest_fault};
-ghost use Rattle.text_live.specs.Reading.{Keeps, IsKept, IsRoom, HasFew, Reads, mended_state, state_of};
-ghost use Rattle.text_live.specs.Reading.{command_fault, frame_fault};
+ghost use Rattle.text_live.specs.LiveReaderStands.{Keeps, IsKept, IsRoom, HasFew, Reads, mended_state, state_of};
+ghost use Rattle.text_live.specs.LiveReaderStands.{command_fault, frame_fault};
 
 use crate::frame_digits::read_octets;
 use crate::live_fault::LiveLineFault;

@@ -1,2 +1,2 @@
 pub mod TextCursor
-pub mod Report
+pub mod ReportLines

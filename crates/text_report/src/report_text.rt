@@ -1,7 +1,8 @@
 //! The lines of a report. Each is put together in a slice with room for it, and its length is the answer.
 ghost use Rattle.std.specs.Prelude.{◌≡◌, ◌+◌, ◌*◌, ◌≤◌, length, take};
 ghost use Rattle.text_report.specs.TextCursor.{Extends, HasTextRoom};
-ghost use Rattle.text_report.specs.Report.{got_text, accept_fault_text, command_fault_text, refused_text, total_text};
+ghost use Rattle.text_report.specs.ReportLines.{got_text, accept_fault_text, command_fault_text};
+ghost use Rattle.text_report.specs.ReportLines.{refused_text, total_text};
 
 use crate::text_cursor::TextCursor;
 use law_model::{AcceptFault, CommandFault, LONGEST_FRAME, Refusal, Totals};

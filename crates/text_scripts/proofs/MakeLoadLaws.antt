@@ -1,2 +1,2 @@
-pub mod DrawLaws
-pub mod LoadLaws
+pub mod DrawnNumbersLaws
+pub mod LoadItemsLaws

@@ -1,1 +1,1 @@
-pub mod LineLaws
+pub mod RateLinesLaws

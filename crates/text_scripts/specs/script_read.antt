@@ -1,5 +1,5 @@
 pub mod Statements
 pub mod Script
-pub mod Pieces
+pub mod ScriptInPieces
 pub mod Drafts
 pub mod Lifted

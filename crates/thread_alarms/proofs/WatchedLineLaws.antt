@@ -1,1 +1,1 @@
-pub mod ServedLaws
+pub mod ServedLinesLaterLaws

@@ -7,22 +7,22 @@ use Rattle.law_model.specs.declared.script_types.Item.{Item}
 use Rattle.law_model.specs.declared.script_types.ItemKind.{ItemKind}
 use Rattle.law_model.specs.declared.item_refusals.Refusal.{Refusal}
 use Rattle.law_model.specs.declared.session_totals.Totals.{Totals}
-use Rattle.thread_rings.specs.Ends.{OutEnd, out_passed, in_passed, in_misses}
+use Rattle.thread_rings.specs.EndsOfRing.{OutEnd, out_passed, in_passed, in_misses}
 use Rattle.terminal_source.specs.source_core.Terminal.{Terminal, needed}
-use Rattle.terminal_source.specs.source_core.Given.{SourceStands as HasMade}
+use Rattle.terminal_source.specs.source_core.GivenScenario.{SourceStands as HasMade}
 use Rattle.law_walk.specs.Common.{Numbered, is_client, kind_refusal}
 use Rattle.thread_group.specs.declared.group_answers.SubmitFault.{SubmitFault}
 use Rattle.thread_group.specs.declared.group_answers.SubmitFault.TheVariants.{NotNext, Early, JournalFull}
 use Rattle.thread_group.specs.declared.group_answers.TickAnswer.{TickAnswer}
 use Rattle.thread_group.specs.declared.group_answers.TickAnswer.TheVariants.{Ticked, Held, TxFull, BackMissing, Done}
 use Rattle.terminal_group.specs.Item.{size_of as octet_count, bare_items}
-use Rattle.terminal_group.specs.Lands.{with_kind}
+use Rattle.terminal_group.specs.GivenItem.{with_kind}
 use Rattle.terminal_group.specs.Source.{Source}
-use Rattle.thread_group.specs.Answer.{fault_of}
+use Rattle.thread_group.specs.FaultsAndStops.{fault_of}
 use Rattle.thread_group.specs.Journal.{entry_of, items_in, fits, IsLegal}
 use Rattle.terminal_group.specs.Landed.{next_number, due_at, AreAhead, AreBehind}
-use Rattle.thread_group.specs.Rings.{IsDrained, AreFree}
-use Rattle.thread_group.specs.Parts.{Parts, parts, scenario_in, told_in_parts, AreSent, AreDue, AreRefused}
+use Rattle.thread_group.specs.GroupRings.{IsDrained, AreFree}
+use Rattle.thread_group.specs.GroupParts.{Parts, parts, scenario_in, told_in_parts, AreSent, AreDue, AreRefused}
 use Rattle.thread_group.specs.declared.group_state.GroupState.{GroupState}
 
 abbrev pub parts_of : GroupState → Parts

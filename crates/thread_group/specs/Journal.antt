@@ -6,7 +6,7 @@ use Rattle.law_model.specs.declared.script_types.Item.{Item}
 use Rattle.law_model.specs.declared.script_types.ItemKind.{ItemKind}
 use Rattle.law_walk.specs.Common.{Numbered, kind_refusal}
 use Rattle.std.specs.Prelude.{not, filter}
-use Rattle.law_walk.specs.Landed.{is_client}
+use Rattle.law_walk.specs.LandedOfLeg.{is_client}
 use Rattle.terminal_group.specs.Item.{size_of}
 
 -- an accepted item, with the number of ticks made when it landed

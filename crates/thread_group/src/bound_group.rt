@@ -2,7 +2,7 @@
 
 ghost use Rattle.std.specs.Prelude.{◌≡◌};
 ghost use Rattle.law_model.specs.Common.{leg_of};
-ghost use Rattle.thread_group.specs.Session.{IsBound};
+ghost use Rattle.thread_group.specs.GroupOfLeg.{IsBound};
 
 use crate::group_answers::{SubmitFault, TickAnswer};
 use crate::group_state::GroupState;
@@ -15,8 +15,8 @@ pub trait Session: Send + Sync {
     ghost use Rattle.std.specs.Prelude.{List};
     ghost use Rattle.law_model.specs.Common.{Container, BackCell};
     ghost use Rattle.law_model.specs.declared.script_types.Script.{Script};
-    ghost use Rattle.thread_rings.specs.Ends.{OutEnd};
-    ghost use Rattle.thread_rings.specs.Ends.{InEnd};
+    ghost use Rattle.thread_rings.specs.EndsOfRing.{OutEnd};
+    ghost use Rattle.thread_rings.specs.EndsOfRing.{InEnd};
 
     ghost script: { Script };
 
@@ -70,11 +70,11 @@ impl<Y: Session> BoundGroup<Y> {
     ghost use Rattle.std.specs.Prelude.{◌≡◌, nat_lt, not, false};
     ghost use Rattle.law_model.specs.Common.{refusal_in};
     ghost use Rattle.terminal_group.specs.Item.{kind_of};
-    ghost use Rattle.thread_group.specs.Answer.{is_full};
-    ghost use Rattle.thread_group.specs.Calls.{Submits, Ticks};
+    ghost use Rattle.thread_group.specs.FaultsAndStops.{is_full};
+    ghost use Rattle.thread_group.specs.GroupCalls.{Submits, Ticks};
     ghost use Rattle.thread_group.specs.Group.{next_brought};
-    ghost use Rattle.thread_group.specs.Handed.{handed_below};
-    ghost use Rattle.thread_group.specs.Session.{IsItemOf};
+    ghost use Rattle.thread_group.specs.HandedAhead.{handed_below};
+    ghost use Rattle.thread_group.specs.GroupOfLeg.{IsItemOf};
 
     /// Binds a group to its session. Nothing is handed in.
     pub fn new(state: GroupState) -> BoundGroup<Y>

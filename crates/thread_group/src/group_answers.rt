@@ -1,7 +1,7 @@
 //! What the calls of a group answer.
 
 ghost use Rattle.std.specs.Prelude.{◌≡◌};
-ghost use Rattle.thread_group.specs.Answer.{fault_of, stop_of};
+ghost use Rattle.thread_group.specs.FaultsAndStops.{fault_of, stop_of};
 
 use law_model::Refusal;
 use terminal_group::EarlyCause;

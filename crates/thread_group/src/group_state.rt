@@ -2,10 +2,10 @@
 
 ghost use Rattle.std.specs.Prelude.{◌≡◌, ◌<◌, Option, None, length, IfOk};
 ghost use Rattle.law_model.specs.Common.{leg_of, Scenario};
-ghost use Rattle.terminal_source.specs.source_core.Given.{SourceStands as HasMade};
+ghost use Rattle.terminal_source.specs.source_core.GivenScenario.{SourceStands as HasMade};
 ghost use Rattle.terminal_group.specs.Item.{kind_of};
 ghost use Rattle.terminal_group.specs.Source.{early_in, missing_in};
-ghost use Rattle.thread_group.specs.Parts.{parts, Keeps};
+ghost use Rattle.thread_group.specs.GroupParts.{parts, Keeps};
 
 use crate::group_answers::{SubmitFault, TickAnswer, refused, stopped};
 use crate::item_journal::Journal;
@@ -40,18 +40,18 @@ impl GroupState {
     ghost use Rattle.std.specs.Prelude.{MatchOption};
     ghost use Rattle.std.specs.Option.{is_some};
     ghost use Rattle.law_model.specs.Common.{IsValid, refusal_in};
-    ghost use Rattle.thread_rings.specs.Ends.{in_passed};
-    ghost use Rattle.terminal_source.specs.source_core.Given.{IsFresh};
+    ghost use Rattle.thread_rings.specs.EndsOfRing.{in_passed};
+    ghost use Rattle.terminal_source.specs.source_core.GivenScenario.{IsFresh};
     ghost use Rattle.thread_group.specs.Journal.{fits};
     ghost use Rattle.terminal_group.specs.Landed.{due_at};
-    ghost use Rattle.thread_group.specs.Rings.{AreUnused, AreFree, IsFirstFull};
+    ghost use Rattle.thread_group.specs.GroupRings.{AreUnused, AreFree, IsFirstFull};
     ghost use Rattle.thread_group.specs.Group.{parts_of, side_of, lines_of, lag_of, size_of, statuses_of};
     ghost use Rattle.thread_group.specs.Group.{IsOf, ticks_of};
     ghost use Rattle.thread_group.specs.Group.{items_of, frames_of, commands_of, journal_of, slots_of, bytes_of};
     ghost use Rattle.thread_group.specs.Group.{refusals_of, inbox_of, source_of, totals_of, next_of, refusal_of};
     ghost use Rattle.thread_group.specs.Group.{next_brought};
-    ghost use Rattle.thread_group.specs.Opened.{IsOpened, IsBegun};
-    ghost use Rattle.thread_group.specs.Calls.{Submits, Ticks, Comes, Looks, Makes};
+    ghost use Rattle.thread_group.specs.OpenedGroup.{IsOpened, IsBegun};
+    ghost use Rattle.thread_group.specs.GroupCalls.{Submits, Ticks, Comes, Looks, Makes};
 
     /// A group of a script, over a fresh send ring for each line and a fresh return ring, with room for so
     /// many entries of the journal and so many octets of frames.

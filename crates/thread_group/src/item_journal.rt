@@ -4,7 +4,7 @@ ghost use Rattle.std.specs.Prelude.{◌≡◌, ◌+◌, ◌≤◌, ◌<◌, [], 
 ghost use Rattle.law_model.specs.Common.{offers_of, orders_of};
 ghost use Rattle.terminal_group.specs.Item.{kind_of, size_of, octets_of};
 ghost use Rattle.thread_group.specs.Journal.{items_in, entry_of, fits};
-ghost use Rattle.thread_group.specs.Entries.{kind_in, IsThere};
+ghost use Rattle.thread_group.specs.JournalEntries.{kind_in, IsThere};
 
 use std::alloc::{AllocError, Global};
 use std::marker::Model;
@@ -43,7 +43,7 @@ impl Model for Journal {
     ghost use Rattle.std.specs.Prelude.{length};
     ghost use Rattle.std.specs.Vec.{vec_capacity};
     ghost use Rattle.thread_group.specs.Journal.{Journal};
-    ghost use Rattle.thread_group.specs.Entries.{entries_in, AreEntries};
+    ghost use Rattle.thread_group.specs.JournalEntries.{entries_in, AreEntries};
 
     ghost Value = { Journal };
 

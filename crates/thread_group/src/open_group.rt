@@ -2,7 +2,7 @@
 
 ghost use Rattle.std.specs.Prelude.{◌≡◌, IfOk};
 ghost use Rattle.law_model.specs.Common.{leg_of, IsValid};
-ghost use Rattle.thread_group.specs.Opened.{IsOpened};
+ghost use Rattle.thread_group.specs.OpenedGroup.{IsOpened};
 
 use crate::item_journal::Journal;
 use law_model::Script;

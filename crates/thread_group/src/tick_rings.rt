@@ -2,8 +2,8 @@
 
 ghost use Rattle.std.specs.Prelude.{◌≡◌, ◌⊎◌, ◌<◌, ◌≤◌, ◌+◌, length, MatchOption};
 ghost use Rattle.law_model.specs.Common.{Container};
-ghost use Rattle.member_cells.specs.Held.{held};
-ghost use Rattle.thread_group.specs.Rings.{AreFree, IsFirstFull, HaveLooked, ArePushed, IsDrained, HasMoved};
+ghost use Rattle.member_cells.specs.HeldPlaces.{held};
+ghost use Rattle.thread_group.specs.GroupRings.{AreFree, IsFirstFull, HaveLooked, ArePushed, IsDrained, HasMoved};
 
 use member_cells::{BackCell, Container, HeldContainer};
 use terminal_group::GroupSource;

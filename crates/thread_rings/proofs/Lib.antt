@@ -1,6 +1,6 @@
-pub mod EndLaws
-pub mod LaterLaws
-pub mod CallLaws
-pub mod AlarmLaws
-pub mod NotedLaws
-pub mod KnownLaws
+pub mod SameRingEndsLaws
+pub mod LaterWorkerLaws
+pub mod WorkerLineCallsLaws
+pub mod AlarmsByCellLaws
+pub mod WorkerNotesSentLaws
+pub mod KnownItemPlacesLaws

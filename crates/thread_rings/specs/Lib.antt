@@ -1,4 +1,4 @@
-pub mod Ends
-pub mod Calls
-pub mod Alarms
-pub mod Worker
+pub mod EndsOfRing
+pub mod WorkerLineCalls
+pub mod LineAlarms
+pub mod WorkerOfLine

@@ -1,11 +1,11 @@
 //! A worker that carries the containers of a line from ring to ring.
 ghost use Rattle.std.specs.Prelude.{◌≡◌, ◌≢◌, ◌+◌, ◌<◌, ◌≤◌, ◌++◌, [], length, min, false};
 ghost use Rattle.law_model.specs.Common.{Container};
-ghost use Rattle.member_path.specs.path_delay.Line.{DelayStands, path_cells};
-ghost use Rattle.thread_rings.specs.Ends.{out_passed, out_free, out_misses, out_hand, in_passed};
-ghost use Rattle.thread_rings.specs.Ends.{in_hand, SameOut};
-ghost use Rattle.thread_rings.specs.Calls.{calls_on, hand_cells, IsPushed, IsFlushed};
-ghost use Rattle.thread_rings.specs.Alarms.{failed_after};
+ghost use Rattle.member_path.specs.path_delay.CallsOnDelayedLine.{DelayStands, path_cells};
+ghost use Rattle.thread_rings.specs.EndsOfRing.{out_passed, out_free, out_misses, out_hand, in_passed};
+ghost use Rattle.thread_rings.specs.EndsOfRing.{in_hand, SameOut};
+ghost use Rattle.thread_rings.specs.WorkerLineCalls.{calls_on, hand_cells, IsPushed, IsFlushed};
+ghost use Rattle.thread_rings.specs.LineAlarms.{failed_after};
 
 use crate::alarm_kinds::Alarm;
 use crate::burst_gate::{Gate, Who};
@@ -65,11 +65,12 @@ impl LineWorker {
     ghost use Rattle.std.specs.Prelude.{◌≡◌, ◌≢◌, ◌+◌, ◌<◌, ◌≤◌, ◌↔◌, ◌++◌, [], length, Contains};
     ghost use Rattle.law_model.specs.Common.{Cell, cells};
     ghost use Rattle.law_model.specs.members.Damage.{carried};
-    ghost use Rattle.thread_rings.specs.Ends.{out_passed, in_passed};
-    ghost use Rattle.thread_rings.specs.Calls.{IsOpened};
-    ghost use Rattle.thread_rings.specs.Worker.{number_of, delay_of, windows_of, total_of, flushes_of, carries_of};
-    ghost use Rattle.thread_rings.specs.Worker.{IsLater, WasEmpty, WasFull};
-    ghost use Rattle.thread_rings.specs.Worker.{raised_by, last_raised, HasNoted};
+    ghost use Rattle.thread_rings.specs.EndsOfRing.{out_passed, in_passed};
+    ghost use Rattle.thread_rings.specs.WorkerLineCalls.{IsOpened};
+    ghost use Rattle.thread_rings.specs.WorkerOfLine.{number_of, delay_of, windows_of, total_of, flushes_of};
+    ghost use Rattle.thread_rings.specs.WorkerOfLine.{carries_of};
+    ghost use Rattle.thread_rings.specs.WorkerOfLine.{IsLater, WasEmpty, WasFull};
+    ghost use Rattle.thread_rings.specs.WorkerOfLine.{raised_by, last_raised, HasNoted};
 
     /// The worker of line number `line`, over fresh rings and a line into which nothing was pushed.
     pub fn new(

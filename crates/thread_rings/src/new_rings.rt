@@ -1,6 +1,6 @@
 //! The rings of a group.
 ghost use Rattle.std.specs.Prelude.{IfOk};
-ghost use Rattle.thread_rings.specs.Ends.{AreFresh};
+ghost use Rattle.thread_rings.specs.EndsOfRing.{AreFresh};
 
 use crate::ring_ends::{RingIn, RingOut, make_ring};
 use member_cells::{BackCell, Cell, Container};

@@ -2,7 +2,7 @@
 ghost use Rattle.std.specs.Prelude.{◌≡◌, ℕ, ◌+◌, ◌<◌, ◌≤◌, ◌++◌, [], length, min};
 ghost use Rattle.law_model.specs.Common.{Container};
 ghost use Rattle.member_path.specs.path_delay.Carry.{carry_cells};
-ghost use Rattle.thread_rings.specs.Alarms.{alarms_from, alarm_if, failed_after};
+ghost use Rattle.thread_rings.specs.LineAlarms.{alarms_from, alarm_if, failed_after};
 
 use crate::alarm_kinds::{Alarm, AlarmKind};
 use arrayvec::ArrayVec;
@@ -59,7 +59,7 @@ impl Raised {
     ghost use Rattle.std.specs.Prelude.{◌≡◌, ◌+◌, ◌<◌, ◌≤◌, ◌++◌, [], length, min, false};
     ghost use Rattle.law_model.specs.Common.{Container};
     ghost use Rattle.member_path.specs.path_delay.Carry.{carry_cells};
-    ghost use Rattle.thread_rings.specs.Alarms.{alarms_from, failed_after};
+    ghost use Rattle.thread_rings.specs.LineAlarms.{alarms_from, failed_after};
 
     /// Nothing was sent.
     pub(crate) fn new() -> Raised

@@ -2,8 +2,9 @@
 ghost use Rattle.std.specs.Prelude.{◌≡◌, ◌+◌, ◌<◌, ◌≤◌, ◌↔◌, [], ◌∷◌, ◌++◌, length, IsTrue, IsFalse, IfOk};
 ghost use mathlib.Core.List.{IsPrefix};
 ghost use Rattle.law_model.specs.Common.{one_more};
-ghost use Rattle.thread_rings.specs.Ends.{out_passed, out_free, out_misses, out_hand, in_passed, in_items, in_misses};
-ghost use Rattle.thread_rings.specs.Ends.{in_hand, AreEnds, SameOut, SameIn, AreFresh, AreSpare};
+ghost use Rattle.thread_rings.specs.EndsOfRing.{out_passed, out_free, out_misses, out_hand, in_passed};
+ghost use Rattle.thread_rings.specs.EndsOfRing.{in_items, in_misses};
+ghost use Rattle.thread_rings.specs.EndsOfRing.{in_hand, AreEnds, SameOut, SameIn, AreFresh, AreSpare};
 
 use crate::ring_places::Placed;
 use rtrb::{Consumer, Producer, RingBuffer};
@@ -26,7 +27,7 @@ pub struct RingOut<T: Placed> {
 impl<T: Placed> Model for RingOut<T> {
     ghost use Rattle.std.specs.Prelude.{◌≡◌, map, min, length};
     ghost use Rattle.rtrb.specs.Ring.{sent, received, known_free, known_items, producer_capacity};
-    ghost use Rattle.thread_rings.specs.Ends.{OutEnd, strand_out, strand_in};
+    ghost use Rattle.thread_rings.specs.EndsOfRing.{OutEnd, strand_out, strand_in};
 
     ghost Value = { OutEnd T };
 
@@ -58,7 +59,7 @@ pub struct RingIn<T: Placed> {
 impl<T: Placed> Model for RingIn<T> {
     ghost use Rattle.std.specs.Prelude.{◌≡◌, ◌+◌, map, take, length};
     ghost use Rattle.rtrb.specs.Ring.{sent, received, known_free, known_items, producer_capacity, consumer_capacity};
-    ghost use Rattle.thread_rings.specs.Ends.{InEnd, strand_out, strand_in};
+    ghost use Rattle.thread_rings.specs.EndsOfRing.{InEnd, strand_out, strand_in};
 
     ghost Value = { InEnd T };
 

@@ -55,7 +55,7 @@ pub struct CellPlace {
 }
 
 impl Placed for Cell {
-    ghost use Rattle.member_path.specs.cell_numbers.Told.{cell_with};
+    ghost use Rattle.member_path.specs.cell_numbers.SignsAsCells.{cell_with};
     ghost use Rattle.thread_rings.specs.declared.ring_places.CellPlace.{CellPlace};
 
     type Place = CellPlace;

@@ -1,9 +1,9 @@
 pub mod ServedLines
 pub mod Flags
-pub mod Held
+pub mod HeldShares
 pub mod Duty
-pub mod Laid
+pub mod LineRingsLaid
 pub mod Bursts
-pub mod Opened
-pub mod Session
+pub mod LinesOpened
+pub mod EndedSession
 pub mod Bells

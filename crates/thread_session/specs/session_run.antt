@@ -1,4 +1,4 @@
-pub mod Room
+pub mod RoomForThreads
 pub mod Turns
-pub mod Beside
-pub mod Session
+pub mod SessionRingsLaid
+pub mod SessionOfScript

@@ -1,3 +1,3 @@
-pub mod ToldLaws
-pub mod RingLaws
-pub mod PartsLaws
+pub mod FramesCountedLaws
+pub mod OneRingTouchedLaws
+pub mod SinkPartsLaws

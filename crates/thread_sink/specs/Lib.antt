@@ -1,5 +1,5 @@
 pub mod Told
-pub mod Received
-pub mod Parts
+pub mod ReceivedByRings
+pub mod SinkParts
 pub mod Step
-pub mod Worker
+pub mod WorkerOfSink

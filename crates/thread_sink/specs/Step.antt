@@ -3,10 +3,10 @@ use Rattle.std.specs.Prelude.{◌≡◌, ℕ, List, [], ◌∷◌, ◌++◌, Opt
 use Rattle.law_model.specs.Common.{Cell}
 use Rattle.law_model.specs.declared.control_packet.Packet.{Packet}
 use Rattle.member_rows.specs.realign_rows.Gather.{Gather, line_count, with_cell, GatherStands as Gathers}
-use Rattle.thread_rings.specs.Ends.{InEnd, in_passed}
+use Rattle.thread_rings.specs.EndsOfRing.{InEnd, in_passed}
 use Rattle.terminal_sink.specs.declared.sink_core.sink_terminal.TakeAnswer.{TakeAnswer}
 use Rattle.terminal_sink.specs.declared.sink_core.sink_terminal.TakeAnswer.TheVariants.{Taken, Waiting}
-use Rattle.thread_sink.specs.Received.{received}
+use Rattle.thread_sink.specs.ReceivedByRings.{received}
 
 -- the rows have got a cell of a line
 pub record Grew (was now : Gather) (line : ℕ) (cell : Cell) : Type 0 where

@@ -1,7 +1,7 @@
 //! The steps of a burst.
 ghost use Rattle.std.specs.Prelude.{◌≡◌, ◌≢◌, ◌+◌, ◌<◌, ◌≤◌, length};
 ghost use Rattle.member_rows.specs.realign_rows.Gather.{line_count};
-ghost use Rattle.thread_sink.specs.Parts.{parts, Keeps, Later, Does, Gives};
+ghost use Rattle.thread_sink.specs.SinkParts.{parts, Keeps, Later, Does, Gives};
 
 use crate::burst_answers::SinkBurst;
 use crate::sink_step::step;

@@ -29,8 +29,8 @@ pub(crate) struct ToldOut<'a, K> {
 
 impl<'a, K: ByteSink> FrameOut for ToldOut<'a, K> {
     ghost use Rattle.std.specs.Prelude.{◌≡◌};
-    ghost use Rattle.text_report.specs.Report.{got_texts};
-    ghost use Rattle.text_got.specs.Over.{HasText};
+    ghost use Rattle.text_report.specs.ReportLines.{got_texts};
+    ghost use Rattle.text_got.specs.LentText.{HasText};
     ghost use Rattle.thread_sink.specs.Told.{count_of};
 
     ghost stands_for = { λ told start frames.

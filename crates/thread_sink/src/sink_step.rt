@@ -2,9 +2,9 @@
 ghost use Rattle.std.specs.Prelude.{◌≡◌, ◌+◌, ◌%◌, ◌<◌, ◌≤◌, ◌≢◌, ◌++◌, [], length, Some, None, IsTrue, IsFalse};
 ghost use Rattle.law_model.specs.Common.{first_open, one_more};
 ghost use Rattle.member_rows.specs.realign_rows.Gather.{line_count, IsOpenAt};
-ghost use Rattle.thread_rings.specs.Ends.{out_passed, out_free, in_passed, in_items, in_misses, SameIn, SameOut};
-ghost use Rattle.thread_sink.specs.Received.{received, back_cells, AreSameIns, Missed};
-ghost use Rattle.thread_sink.specs.Parts.{parts, Keeps, Later, IsFull, Does, Gives};
+ghost use Rattle.thread_rings.specs.EndsOfRing.{out_passed, out_free, in_passed, in_items, in_misses, SameIn, SameOut};
+ghost use Rattle.thread_sink.specs.ReceivedByRings.{received, back_cells, AreSameIns, Missed};
+ghost use Rattle.thread_sink.specs.SinkParts.{parts, Keeps, Later, IsFull, Does, Gives};
 ghost use Rattle.thread_sink.specs.Step.{PoppedCell, TookCell, packet_in};
 
 use crate::burst_answers::{SinkBurst, SinkIdle};

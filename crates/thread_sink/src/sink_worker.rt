@@ -39,14 +39,15 @@ pub struct SinkWorker {
 impl SinkWorker {
     ghost use Rattle.std.specs.Prelude.{◌≡◌, ◌≢◌, ◌+◌, ◌<◌, ◌≤◌, ◌↔◌, [], replicate, length, false, IfOk};
     ghost use Rattle.law_model.specs.Common.{IsOptions, IsSize};
-    ghost use Rattle.thread_rings.specs.Ends.{out_passed};
-    ghost use Rattle.text_report.specs.Report.{got_texts};
-    ghost use Rattle.terminal_sink.specs.sink_core.Given.{given_frames, added_frames};
+    ghost use Rattle.thread_rings.specs.EndsOfRing.{out_passed};
+    ghost use Rattle.text_report.specs.ReportLines.{got_texts};
+    ghost use Rattle.terminal_sink.specs.sink_core.TakenAndGiven.{given_frames, added_frames};
     ghost use Rattle.thread_sink.specs.Told.{Writes, count_of};
-    ghost use Rattle.thread_sink.specs.Received.{received, backs};
-    ghost use Rattle.thread_sink.specs.Parts.{Does};
-    ghost use Rattle.thread_sink.specs.Worker.{cells_of, parts_of, lines_of, size_of, options_of, ticks_of, taken_of};
-    ghost use Rattle.thread_sink.specs.Worker.{got_of, has_failed, IsLater, SinkWorkerStands};
+    ghost use Rattle.thread_sink.specs.ReceivedByRings.{received, backs};
+    ghost use Rattle.thread_sink.specs.SinkParts.{Does};
+    ghost use Rattle.thread_sink.specs.WorkerOfSink.{cells_of, parts_of, lines_of, size_of, options_of};
+    ghost use Rattle.thread_sink.specs.WorkerOfSink.{ticks_of, taken_of};
+    ghost use Rattle.thread_sink.specs.WorkerOfSink.{got_of, has_failed, IsLater, SinkWorkerStands};
 
     /// The worker of the sink of a group of `lines` lines, whose containers have `size` payload octets, for
     /// `ticks` rows, over fresh rings, one for each line, and a fresh return ring. By `options` lines go down and

@@ -1,2 +1,2 @@
-pub mod RingLaws
-pub mod PopLaws
+pub mod ReceiveRingLaws
+pub mod PopUntilDecidedLaws

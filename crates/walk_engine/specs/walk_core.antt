@@ -1,10 +1,10 @@
-pub mod Counted
-pub mod Moved
-pub mod Parts
+pub mod FramesCounted
+pub mod WalkAfterEvent
+pub mod WayParts
 pub mod Carry
-pub mod Opened
+pub mod OpenedWay
 pub mod Landing
 pub mod Take
-pub mod Waiting
+pub mod WaitingInRings
 pub mod EventAnswers
-pub mod Live
+pub mod LiveWalking

@@ -1,5 +1,5 @@
-pub mod AnswerLaws
-pub mod LineLaws
-pub mod CourseLaws
-pub mod ScriptLaws
-pub mod HeadlineLaws
+pub mod AnswersStayLaws
+pub mod AnsweredLinesGrowLaws
+pub mod ConversationCourseLaws
+pub mod ScriptOfLinesLaws
+pub mod LiveHeadlineLaws

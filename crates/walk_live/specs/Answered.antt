@@ -3,11 +3,11 @@ use Rattle.std.specs.Prelude.{◌≡◌, ℕ, ◌<◌, Bool, List, [], ◌∷◌
 use Rattle.law_model.specs.Common.{AppendsPart, IsNetwork, IsSound, Leg}
 use Rattle.law_model.specs.declared.script_types.Config.{Config}
 use Rattle.law_live.specs.Common.{Agrees, IsWellSaid, Saying, course_at, live_counts, live_of, windows_by}
-use Rattle.text_got.specs.Told.{Holds}
-use Rattle.walk_engine.specs.walk_core.Live.{Walking, LiveStands, walking_counts}
-use Rattle.walk_engine.specs.walk_core.Parts.{windows_in}
+use Rattle.text_got.specs.TextSoFar.{Holds}
+use Rattle.walk_engine.specs.walk_core.LiveWalking.{Walking, LiveStands, walking_counts}
+use Rattle.walk_engine.specs.walk_core.WayParts.{windows_in}
 use Rattle.walk_live.specs.declared.answered_walk.AnsweredWalk.{AnsweredWalk}
-use Rattle.walk_live.specs.Replies.{answer_to}
+use Rattle.walk_live.specs.LiveReplies.{answer_to}
 
 -- a leg of a session in which this was said so far, whatever comes later in it
 pub record IsLegOf (config : Config) (said : List Saying) (leg : Leg) : Type 0 where

@@ -3,14 +3,14 @@ use Rattle.std.specs.Prelude.{◌≡◌, ℕ, Bool, List, ◌++◌, Ok}
 use Rattle.std.specs.Str.Lines.{lines}
 use Rattle.law_model.specs.Common.{IsValid, leg_of}
 use Rattle.law_model.specs.declared.script_types.Script.{Script}
-use Rattle.text_report.specs.Report.{got_texts, refused_texts}
+use Rattle.text_report.specs.ReportLines.{got_texts, refused_texts}
 use Rattle.law_walk.specs.Common.{landed_items}
-use Rattle.law_headline.specs.Texts.{counts_in, walk_text}
+use Rattle.law_headline.specs.WalkTexts.{counts_in, walk_text}
 use Rattle.law_headline.specs.Headline.{IsHeadline}
 use Rattle.law_live.specs.Common.{answers, frames_got, items_refused, last_text, rounds_of}
 use Rattle.text_live.specs.LiveScript.{script_of_live}
 use Rattle.text_live.specs.Sayings.{leg_in, sayings}
-use Rattle.walk_live.specs.Replies.{answered}
+use Rattle.walk_live.specs.LiveReplies.{answered}
 
 -- the script of lines, of which none is faulty
 abbrev pub IsScriptOf : List (List ℕ) → Script → Type 0

@@ -1,7 +1,7 @@
-pub mod Replies
+pub mod LiveReplies
 pub mod Notes
 pub mod Answered
-pub mod Timed
-pub mod Passing
+pub mod TimedWriting
+pub mod PassingRounds
 pub mod Talking
 pub mod Headline

@@ -5,7 +5,7 @@ use Rattle.command_parts.specs.declared.stop_and_status.Refusal.{Refusal}
 use Rattle.command_parts.specs.declared.stop_and_status.Refusal.TheVariants as why
 use Rattle.text_live.specs.declared.live_fault.LiveFault.{LiveFault}
 use Rattle.text_live.specs.declared.live_fault.LiveFault.TheVariants.{Script, Line}
-use Rattle.text_live.specs.Helps.{live_help_text, live_kind}
+use Rattle.text_live.specs.LiveHelpTexts.{live_help_text, live_kind}
 
 abbrev pub live_fault_text : LiveFault → List ℕ
 live_fault_text (Script fault) = fault_text fault

@@ -1,13 +1,13 @@
 -- Where a conversation with a walk stands, as private clauses say it.
 use Rattle.std.specs.Prelude.{◌≡◌, ℕ, ◌+◌, ◌≤◌, Bool, List, [], ◌∷◌, ◌++◌, length, Option, Some, None, Err}
-use Rattle.text_lines.specs.Words.{words}
+use Rattle.text_lines.specs.WordsOfLine.{words}
 use Rattle.law_model.specs.Common.{longest_input}
 use Rattle.law_model.specs.declared.script_types.Config.{Config}
-use Rattle.text_got.specs.Told.{Holds}
+use Rattle.text_got.specs.TextSoFar.{Holds}
 use Rattle.law_live.specs.Common.{Live, Saying, leg_said}
 use Rattle.text_live.specs.LiveLines.{line_fault, nothing_said, told}
 use Rattle.text_live.specs.declared.live_line.LiveLine.{LiveLine}
-use Rattle.text_live.specs.Reading.{IsAt, IsLiveReader, frame_of, told_line}
+use Rattle.text_live.specs.LiveReaderStands.{IsAt, IsLiveReader, frame_of, told_line}
 use Rattle.text_live.specs.Sayings.{AreFine, said_in, sayings}
 use Rattle.command_parts.specs.declared.stop_and_status.Stop.{Stop}
 use Rattle.command_parts.specs.declared.stop_and_status.Stop.TheVariants as stop
@@ -15,7 +15,7 @@ use Rattle.command_parts.specs.Dialogue.{Heard, Reply}
 use Rattle.walk_live.specs.declared.answered_walk.AnsweredWalk.{AnsweredWalk}
 use Rattle.walk_live.specs.declared.live_talker.LiveTalker.{LiveTalker}
 use Rattle.walk_live.specs.Answered.{IsAnswered}
-use Rattle.walk_live.specs.Replies.{answered_since, live_dialogue}
+use Rattle.walk_live.specs.LiveReplies.{answered_since, live_dialogue}
 
 -- ---- its walk
 -- there is one, and it has answered what was said

@@ -3,18 +3,18 @@ ghost use Rattle.std.specs.Prelude.{◌≡◌, ◌<◌, ◌≤◌, ◌∷◌, �
 ghost use Rattle.std.specs.Prelude.{length, take};
 ghost use Rattle.law_model.specs.Common.{AppendsPart, IsNetwork, Leg};
 ghost use Rattle.law_model.specs.declared.script_types.Config.{Config};
-ghost use Rattle.text_report.specs.Report.{refused_text};
-ghost use Rattle.text_got.specs.Told.{Holds};
+ghost use Rattle.text_report.specs.ReportLines.{refused_text};
+ghost use Rattle.text_got.specs.TextSoFar.{Holds};
 ghost use Rattle.law_walk.specs.Common.{totals_of};
 ghost use Rattle.law_live.specs.Common.{IsWellSaid, Saying, cuts, lands, live_counts, mends, now_text, passes};
 ghost use Rattle.terminal_group.specs.Item.{kind_of};
-ghost use Rattle.walk_engine.specs.walk_core.Live.{IsLive, LiveFinishes, LiveRounds, LiveStands};
-ghost use Rattle.walk_engine.specs.walk_core.Live.{walking_counts};
-ghost use Rattle.law_walk.specs.Delivered.{delivered_since};
-ghost use Rattle.walk_engine.specs.walk_core.Parts.{windows_in};
+ghost use Rattle.walk_engine.specs.walk_core.LiveWalking.{IsLive, LiveFinishes, LiveRounds, LiveStands};
+ghost use Rattle.walk_engine.specs.walk_core.LiveWalking.{walking_counts};
+ghost use Rattle.law_walk.specs.DeliveredFrames.{delivered_since};
+ghost use Rattle.walk_engine.specs.walk_core.WayParts.{windows_in};
 ghost use Rattle.walk_live.specs.Answered.{Answers, AnswersPart, IsAnswered, IsLegOf, WalksAs};
-ghost use Rattle.walk_live.specs.Passing.{CanPass, CanRound, IsOtherwise, round_text, rounds_text, steps_text};
-ghost use Rattle.walk_live.specs.Timed.{timed_texts};
+ghost use Rattle.walk_live.specs.PassingRounds.{CanPass, CanRound, IsOtherwise, round_text, rounds_text, steps_text};
+ghost use Rattle.walk_live.specs.TimedWriting.{timed_texts};
 
 use crate::timed_lines::TimedLines;
 use law_model::{Config, Refusal, Totals};

@@ -2,7 +2,7 @@
 ghost use Rattle.command_parts.specs.Ends.{lent};
 ghost use Rattle.command_parts.specs.Gives.{GivesTalk};
 ghost use Rattle.command_parts.specs.Dialogue.{talk_of};
-ghost use Rattle.walk_live.specs.Replies.{live_dialogue};
+ghost use Rattle.walk_live.specs.LiveReplies.{live_dialogue};
 
 use crate::live_talker::LiveTalker;
 use command_parts::{Ran, Stop, talk};

@@ -5,7 +5,7 @@ ghost use Rattle.law_model.specs.declared.script_types.Script.{Script};
 ghost use Rattle.text_live.specs.LiveLines.{nothing_said, opening_fault};
 ghost use Rattle.text_live.specs.Sayings.{AreFine, leg_in, said_in, sayings};
 ghost use Rattle.command_parts.specs.Dialogue.{course_of, nothing_heard, talk_of};
-ghost use Rattle.walk_live.specs.Replies.{answered, live_dialogue};
+ghost use Rattle.walk_live.specs.LiveReplies.{answered, live_dialogue};
 ghost use Rattle.walk_live.specs.Headline.{IsLiveHeadline, IsWalkOf};
 
 /// What is said to octets are the answers to the lines that were heard, of the session of which these say all. None of

@@ -1,7 +1,7 @@
 //! The notes on what is wrong with a live text.
 ghost use Rattle.std.specs.Prelude.{◌≡◌, ◌≢◌};
 ghost use Rattle.command_parts.specs.Common.{IsRefusedAs};
-ghost use Rattle.text_live.specs.Reading.{no_memory};
+ghost use Rattle.text_live.specs.LiveReaderStands.{no_memory};
 ghost use Rattle.walk_live.specs.Notes.{live_fault_text, live_why};
 
 use command_parts::{Stop, line_fault, stop_of};

@@ -3,15 +3,15 @@ ghost use Rattle.std.specs.Prelude.{◌≡◌, Bool, List, ◌++◌, Ok, None, �
 ghost use Rattle.std.specs.Prelude.{IfOk, IfErr, IfSome, OnOk, OnErr};
 ghost use Rattle.law_model.specs.Common.{AppendsPart, IsNetwork};
 ghost use Rattle.law_model.specs.declared.script_types.Config.{Config};
-ghost use Rattle.text_got.specs.Told.{Holds};
-ghost use Rattle.text_report.specs.Report.{total_text};
+ghost use Rattle.text_got.specs.TextSoFar.{Holds};
+ghost use Rattle.text_report.specs.ReportLines.{total_text};
 ghost use Rattle.law_live.specs.Common.{IsWellSaid, Saying, leg_said};
-ghost use Rattle.text_live.specs.Reading.{HasLinesLeft, IsLiveReader, told_line};
+ghost use Rattle.text_live.specs.LiveReaderStands.{HasLinesLeft, IsLiveReader, told_line};
 ghost use Rattle.text_live.specs.Sayings.{saying_of};
 ghost use Rattle.command_parts.specs.Dialogue.{Heard, heard_more, last_reply, nothing_heard, reply_to};
 ghost use Rattle.command_parts.specs.Replies.{HasReplied};
 ghost use Rattle.walk_live.specs.Answered.{IsAnswered};
-ghost use Rattle.walk_live.specs.Replies.{answered_since, live_dialogue};
+ghost use Rattle.walk_live.specs.LiveReplies.{answered_since, live_dialogue};
 ghost use Rattle.walk_live.specs.Talking.{AnswersMore, CanAnswer, HasAnswered, HasReadLine, IsTalking};
 ghost use Rattle.walk_live.specs.Talking.{StopsBefore};
 
@@ -206,7 +206,7 @@ impl LiveTalker {
 }
 
 impl Talker for LiveTalker {
-    ghost use Rattle.walk_live.specs.Replies.{live_dialogue};
+    ghost use Rattle.walk_live.specs.LiveReplies.{live_dialogue};
     ghost use Rattle.walk_live.specs.Talking.{IsTalking};
 
     ghost dialogue = { λ talker. live_dialogue talker.steps };

@@ -4,8 +4,8 @@ ghost use Rattle.std.specs.Prelude.{codes, decimal, length, take};
 ghost use Rattle.hex.specs.Hex.{encode_lower};
 ghost use Rattle.law_model.specs.Common.{AppendsPart, longest_frame};
 ghost use Rattle.law_live.specs.Common.{got_at_text};
-ghost use Rattle.text_got.specs.Told.{Holds};
-ghost use Rattle.walk_live.specs.Timed.{HasTimed, block_of, out_of, timed_start, timed_texts};
+ghost use Rattle.text_got.specs.TextSoFar.{Holds};
+ghost use Rattle.walk_live.specs.TimedWriting.{HasTimed, block_of, out_of, timed_start, timed_texts};
 
 use law_model::FrameOut;
 use octet_io::{ByteSink, Failed};
@@ -59,7 +59,7 @@ impl<'a, K: ByteSink> TimedLines<'a, K> {
 }
 
 impl<'a, K: ByteSink> FrameOut for TimedLines<'a, K> {
-    ghost use Rattle.walk_live.specs.Timed.{HasTimed};
+    ghost use Rattle.walk_live.specs.TimedWriting.{HasTimed};
 
     ghost stands_for = { λ lines start frames. HasTimed K.written K.faults lines start frames };
 

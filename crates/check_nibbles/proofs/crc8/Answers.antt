@@ -1,10 +1,10 @@
 -- The table is that of the generator, so the register ends with the remainder's bits.
 use Rattle.std.proofs.Common.{sym, ◌∙◌, subst}
 use Rattle.check_remainder.specs.Remainder.{IsRemainder}
-use Rattle.check_remainder.specs.Table.{nibble_bits}
+use Rattle.check_remainder.specs.DivisionTable.{nibble_bits}
 use Rattle.check_remainder.proofs.RemainderLaws.{IsRemainder-remainder, only_remainder}
-use Rattle.check_nibbles.specs.Check.{crc8_lower}
-use Rattle.check_nibbles.proofs.CheckLaws.{length-crc8_lower, crc8_entries_are, crc8_of_from_bits}
+use Rattle.check_nibbles.specs.NibbleCheck.{crc8_lower}
+use Rattle.check_nibbles.proofs.NibbleCheckLaws.{length-crc8_lower, crc8_entries_are, crc8_of_from_bits}
 use Rattle.check_nibbles.proofs.crc8.Goals as goal
 
 pub returns-clause-remainder : goal.returns-clause-remainder

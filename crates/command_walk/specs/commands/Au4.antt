@@ -1,13 +1,13 @@
 -- `au4`: numbered VC-4s over a link of AU-4 frames.
 use Rattle.std.specs.Prelude.{ℕ, List, codes, Option, Some, None, Result, Ok, Err, if◌then◌else◌}
 use Rattle.text_lines.specs.declared.text_faults.LineFault.{LineFault}
-use Rattle.text_lines.specs.Faults.{kind_of}
+use Rattle.text_lines.specs.LineFaults.{kind_of}
 use Rattle.member_au4.specs.declared.au4_link.au4_keyword.Keyword.{Keyword}
 use Rattle.member_au4.specs.declared.au4_link.au4_text_fault.Early.{Early}
 use Rattle.member_au4.specs.au4_link.Helps.{help_of}
 use Rattle.member_au4.specs.declared.au4_link.au4_draft.Link.{Link}
 use Rattle.member_au4.specs.au4_link.Link.{link_of}
-use Rattle.member_au4.specs.au4_link.Text.{link_text}
+use Rattle.member_au4.specs.au4_link.LinkReportText.{link_text}
 use Rattle.command_parts.specs.Common.{Answer, writes, refuses, line_text}
 use Rattle.command_parts.specs.declared.stop_and_status.Refusal.TheVariants.{Line}
 use Rattle.command_walk.specs.declared.command_of_words.WalkCommand.{WalkCommand}

@@ -3,12 +3,12 @@ use Rattle.std.specs.Prelude.{ℕ, ◌+◌, List, codes, Option, Some, None, if�
 use Rattle.std.specs.List.{flat_map, range_with_len}
 use Rattle.law_model.specs.Common.{Start, leg_of}
 use Rattle.law_model.specs.declared.script_types.Script.{Script}
-use Rattle.law_headline.specs.Texts.{counts_in}
+use Rattle.law_headline.specs.WalkTexts.{counts_in}
 use Rattle.walk_engine.specs.Common.{Walked}
-use Rattle.law_walk.specs.Delivered.{delivered_since}
-use Rattle.text_captures.specs.capture_file.Written.{RowFrame, ethernet_capture}
+use Rattle.law_walk.specs.DeliveredFrames.{delivered_since}
+use Rattle.text_captures.specs.capture_file.WrittenCapture.{RowFrame, ethernet_capture}
 use Rattle.text_captures.specs.declared.capture_file.capture_out.CaptureOut.{CaptureOut}
-use Rattle.text_captures.specs.capture_file.Out.{HasCapture, at_row}
+use Rattle.text_captures.specs.capture_file.CaptureSoFar.{HasCapture, at_row}
 use Rattle.command_parts.specs.Common.{Answer, writes, script_answer}
 use Rattle.command_walk.specs.declared.command_of_words.WalkCommand.{WalkCommand}
 use Rattle.command_walk.specs.declared.command_of_words.WalkCommand.TheVariants.{Capture}

@@ -1,14 +1,14 @@
 -- `channels`: frames of clients in a stream that they share by channel numbers, and of which octets don't arrive.
 use Rattle.std.specs.Prelude.{◌≡◌, ℕ, List, codes, Option, Some, None, Result, Ok, Err, if◌then◌else◌}
 use Rattle.text_lines.specs.declared.text_faults.LineFault.{LineFault}
-use Rattle.text_lines.specs.Faults.{kind_of}
+use Rattle.text_lines.specs.LineFaults.{kind_of}
 use Rattle.gfp_channels.specs.declared.channel_link.channel_keyword.Keyword.{Keyword}
 use Rattle.gfp_channels.specs.declared.channel_link.channel_text_fault.Overlap.{Overlap}
 use Rattle.gfp_channels.specs.channel_link.Helps.{help_of}
 use Rattle.gfp_channels.specs.declared.channel_link.channel_draft.ChannelPlan.{ChannelPlan}
 use Rattle.gfp_channels.specs.channel_link.Plan.{plan_of}
-use Rattle.gfp_channels.specs.channel_link.Text.{plan_text}
-use Rattle.gfp_channels.specs.channel_link.Delivered.{IsPlanReport}
+use Rattle.gfp_channels.specs.channel_link.ChannelReportText.{plan_text}
+use Rattle.gfp_channels.specs.channel_link.FramesOfPlan.{IsPlanReport}
 use Rattle.command_parts.specs.Common.{Answer, writes, refuses, line_text}
 use Rattle.command_parts.specs.declared.stop_and_status.Refusal.TheVariants.{Line}
 use Rattle.command_walk.specs.declared.command_of_words.WalkCommand.{WalkCommand}

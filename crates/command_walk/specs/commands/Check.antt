@@ -1,7 +1,7 @@
 -- `check`: a script's walk, and what in the script has no effect or was refused.
 use Rattle.std.specs.Prelude.{ℕ, List, codes, Option, Some, None, if◌then◌else◌}
 use Rattle.law_model.specs.session.Leg.{leg_of}
-use Rattle.law_headline.specs.Texts.{counts_in}
+use Rattle.law_headline.specs.WalkTexts.{counts_in}
 use Rattle.fate_check.specs.CheckText.{check_text}
 use Rattle.command_parts.specs.Task.{Answer, writes}
 use Rattle.command_parts.specs.Scripts.{script_answer}

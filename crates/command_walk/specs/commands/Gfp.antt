@@ -1,8 +1,8 @@
 -- `gfp`: a script's walk, and the capture of the GFP frames that its source sent and the taken rows carry.
 use Rattle.std.specs.Prelude.{ℕ, List, codes, Option, Some, None, if◌then◌else◌}
 use Rattle.law_model.specs.Common.{leg_of}
-use Rattle.law_headline.specs.Texts.{counts_in}
-use Rattle.fate_walks.specs.walk_gfp.Carried.{sent_capture}
+use Rattle.law_headline.specs.WalkTexts.{counts_in}
+use Rattle.fate_walks.specs.walk_gfp.CarriedInRows.{sent_capture}
 use Rattle.command_parts.specs.Common.{Answer, writes, script_answer}
 use Rattle.command_walk.specs.declared.command_of_words.WalkCommand.{WalkCommand}
 use Rattle.command_walk.specs.declared.command_of_words.WalkCommand.TheVariants.{Gfp}

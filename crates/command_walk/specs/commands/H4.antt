@@ -6,8 +6,8 @@ use Rattle.hex.specs.Hex.{encode_lower}
 use Rattle.law_model.specs.Common.{leg_of, Found, forward_packet}
 use Rattle.law_model.specs.declared.script_types.Script.{Script}
 use Rattle.law_walk.specs.Common.{sent_at, table_in}
-use Rattle.law_headline.specs.Texts.{counts_in}
-use Rattle.command_words.specs.Words.{number_in}
+use Rattle.law_headline.specs.WalkTexts.{counts_in}
+use Rattle.command_words.specs.CommandLineWords.{number_in}
 use Rattle.command_parts.specs.Common.{Answer, writes, refuses, script_answer}
 use Rattle.command_parts.specs.declared.stop_and_status.Refusal.TheVariants.{Limit}
 use Rattle.command_walk.specs.declared.command_of_words.WalkCommand.{WalkCommand}

@@ -5,7 +5,7 @@ use Rattle.std.specs.Result.{result_ok}
 use Rattle.hex.specs.Hex.{decode_of}
 use Rattle.text_lines.specs.declared.text_faults.LineKind.{LineKind}
 use Rattle.text_lines.specs.declared.text_faults.LineKind.TheVariants.{Hex}
-use Rattle.text_lines.specs.Words.{is_skipped}
+use Rattle.text_lines.specs.WordsOfLine.{is_skipped}
 use Rattle.text_lines.specs.Fields.{where_true}
 use Rattle.text_lines.specs.Language.{Language, said_by}
 

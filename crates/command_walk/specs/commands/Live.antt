@@ -3,7 +3,7 @@ use Rattle.std.specs.Prelude.{ℕ, ◌==◌, ◌&&◌, Bool, true, false, List, 
 use Rattle.std.specs.Prelude.{if◌then◌else◌}
 use Rattle.command_parts.specs.Common.{Talk}
 use Rattle.command_parts.specs.Dialogue.{talk_of}
-use Rattle.walk_live.specs.Replies.{live_dialogue}
+use Rattle.walk_live.specs.LiveReplies.{live_dialogue}
 use Rattle.command_walk.specs.declared.command_of_words.WalkCommand.{WalkCommand}
 use Rattle.command_walk.specs.declared.command_of_words.WalkCommand.TheVariants.{Live}
 use Rattle.command_walk.specs.commands.Walk.{word_at, is_word}

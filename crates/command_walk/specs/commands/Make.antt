@@ -4,15 +4,15 @@ use Rattle.std.specs.Prelude.{Option, Some, None, if◌then◌else◌, sum_by}
 use Rattle.law_model.specs.Common.{leg_of, Counts, longest_frame}
 use Rattle.law_model.specs.declared.script_types.Script.{Script}
 use Rattle.law_model.specs.declared.session_totals.Totals.{Totals}
-use Rattle.text_report.specs.Report.{total_text}
+use Rattle.text_report.specs.ReportLines.{total_text}
 use Rattle.text_scripts.specs.make_load.Load.{load}
-use Rattle.command_words.specs.Words.{number_in}
+use Rattle.command_words.specs.CommandLineWords.{number_in}
 use Rattle.command_parts.specs.Common.{Answer, writes}
 use Rattle.command_walk.specs.declared.command_of_words.WalkCommand.{WalkCommand}
 use Rattle.command_walk.specs.declared.command_of_words.WalkCommand.TheVariants.{Make}
 use Rattle.command_walk.specs.commands.Walk.{word_at}
 use Rattle.law_walk.specs.Common.{delivered_of, totals_of}
-use Rattle.law_headline.specs.Texts.{counts_in}
+use Rattle.law_headline.specs.WalkTexts.{counts_in}
 
 -- the load of three numbers: below 2^64, 1 to 64, and 1 to 1,000,000
 abbrev pub load_of : Option ℕ → Option ℕ → Option ℕ → Option WalkCommand

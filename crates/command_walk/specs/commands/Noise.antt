@@ -1,13 +1,13 @@
 -- `noise`: frames with an FCS in a stream of which bits are turned over.
 use Rattle.std.specs.Prelude.{ℕ, List, codes, Option, Some, None, Result, Ok, Err, if◌then◌else◌}
 use Rattle.text_lines.specs.declared.text_faults.LineFault.{LineFault}
-use Rattle.text_lines.specs.Faults.{kind_of}
+use Rattle.text_lines.specs.LineFaults.{kind_of}
 use Rattle.gfp_noise.specs.declared.noise_link.noise_keyword.Keyword.{Keyword}
 use Rattle.gfp_noise.specs.declared.noise_link.noise_text_fault.NotRising.{NotRising}
 use Rattle.gfp_noise.specs.noise_link.Helps.{help_of}
 use Rattle.gfp_noise.specs.declared.noise_link.noise_draft.Noise.{Noise as Noises}
 use Rattle.gfp_noise.specs.noise_link.Noise.{noise_of}
-use Rattle.gfp_noise.specs.noise_link.Text.{noise_text}
+use Rattle.gfp_noise.specs.noise_link.NoiseReportText.{noise_text}
 use Rattle.command_parts.specs.Common.{Answer, writes, refuses, line_text}
 use Rattle.command_parts.specs.declared.stop_and_status.Refusal.TheVariants.{Line}
 use Rattle.command_walk.specs.declared.command_of_words.WalkCommand.{WalkCommand}

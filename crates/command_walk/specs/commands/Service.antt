@@ -1,9 +1,9 @@
 -- `service`: a script's walk, and what it was worth to its client, by stretches of ticks.
 use Rattle.std.specs.Prelude.{ℕ, ◌==◌, ◌&&◌, List, length, codes, bytes_eq, Option, Some, None, if◌then◌else◌}
 use Rattle.law_model.specs.Common.{leg_of}
-use Rattle.law_headline.specs.Texts.{counts_in}
+use Rattle.law_headline.specs.WalkTexts.{counts_in}
 use Rattle.fate_service.specs.ServiceText.{service_text}
-use Rattle.command_words.specs.Words.{number_in}
+use Rattle.command_words.specs.CommandLineWords.{number_in}
 use Rattle.command_parts.specs.Common.{Answer, writes, script_answer}
 use Rattle.command_walk.specs.declared.command_of_words.WalkCommand.{WalkCommand}
 use Rattle.command_walk.specs.declared.command_of_words.WalkCommand.TheVariants.{Service}

@@ -4,7 +4,7 @@ use Rattle.std.specs.Prelude.{if◌then◌else◌}
 use Rattle.law_model.specs.Common.{longest_input, longest_frame}
 use Rattle.text_scripts.specs.declared.rate_load.rate_frames.RateLoad.{RateLoad}
 use Rattle.text_scripts.specs.rate_load.RateTexts.{rate_text}
-use Rattle.command_words.specs.Words.{number_in}
+use Rattle.command_words.specs.CommandLineWords.{number_in}
 use Rattle.command_parts.specs.Common.{Answer, writes, exceeds}
 use Rattle.command_walk.specs.declared.command_of_words.WalkCommand.{WalkCommand}
 use Rattle.command_walk.specs.declared.command_of_words.WalkCommand.TheVariants.{Stream}

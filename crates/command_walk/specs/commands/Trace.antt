@@ -4,7 +4,7 @@ use Rattle.std.specs.List.{flat_map, range_with_len}
 use Rattle.law_model.specs.Common.{leg_of, steps_in}
 use Rattle.law_model.specs.declared.script_types.Script.{Script}
 use Rattle.law_walk.specs.Common.{cell_taken, table_in}
-use Rattle.law_headline.specs.Texts.{counts_in, walk_text}
+use Rattle.law_headline.specs.WalkTexts.{counts_in, walk_text}
 use Rattle.text_captures.specs.packet_trace.StepText.{step_text}
 use Rattle.command_parts.specs.Common.{Answer, writes_both, script_answer}
 use Rattle.command_walk.specs.declared.command_of_words.WalkCommand.{WalkCommand}

@@ -1,7 +1,7 @@
 -- `walk`: a script's walk, and its report.
 use Rattle.std.specs.Prelude.{ℕ, ◌==◌, ◌&&◌, List, length, bytes_eq, slice_index_or, [], codes, Bool, Option, Some}
 use Rattle.std.specs.Prelude.{None, if◌then◌else◌}
-use Rattle.law_headline.specs.Texts.{walk_text}
+use Rattle.law_headline.specs.WalkTexts.{walk_text}
 use Rattle.command_parts.specs.Common.{Answer, writes, script_answer}
 use Rattle.command_walk.specs.declared.command_of_words.WalkCommand.{WalkCommand}
 use Rattle.command_walk.specs.declared.command_of_words.WalkCommand.TheVariants.{Walk}

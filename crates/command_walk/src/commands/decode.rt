@@ -7,7 +7,7 @@ ghost use Rattle.command_parts.specs.Task.{reads};
 ghost use Rattle.command_parts.specs.Ends.{lent};
 ghost use Rattle.command_parts.specs.Gives.{GivesAlone};
 ghost use Rattle.command_walk.specs.commands.Decode.{decode_words, decode_answer};
-ghost use Rattle.command_walk.specs.Written.{HasLines, HasLinesPart};
+ghost use Rattle.command_walk.specs.DecodingSoFar.{HasLines, HasLinesPart};
 
 use crate::command_of_words::WalkCommand;
 use crate::hex_text::{HexTextFault, read_octets};

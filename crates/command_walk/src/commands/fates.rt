@@ -11,7 +11,7 @@ ghost use Rattle.command_parts.specs.Task.{reads, writes};
 ghost use Rattle.command_parts.specs.Ends.{lent};
 ghost use Rattle.command_parts.specs.Gives.{GivesAlone};
 ghost use Rattle.command_walk.specs.commands.Fates.{fates_words, fates_answer, EndsTrue, WalksTrue};
-ghost use Rattle.command_walk.specs.Ended.{HandsScript};
+ghost use Rattle.command_walk.specs.HandedWalk.{HandsScript};
 
 use crate::command_of_words::WalkCommand;
 use crate::turns::fate_turns::see_script;

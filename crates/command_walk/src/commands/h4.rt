@@ -6,17 +6,17 @@ ghost use Rattle.law_model.specs.Common.{Appends, AppendsPart, Start, leg_of, be
 ghost use Rattle.law_model.specs.packets.Decode.{packets_in};
 ghost use Rattle.law_model.specs.declared.script_types.Script.{Script};
 ghost use Rattle.law_walk.specs.Common.{walk_plan, sent_at};
-ghost use Rattle.law_headline.specs.Texts.{counts_in};
-ghost use Rattle.text_got.specs.Told.{HasText};
-ghost use Rattle.command_words.specs.Words.{number_in};
+ghost use Rattle.law_headline.specs.WalkTexts.{counts_in};
+ghost use Rattle.text_got.specs.TextSoFar.{HasText};
+ghost use Rattle.command_words.specs.CommandLineWords.{number_in};
 ghost use Rattle.command_parts.specs.Task.{reads, writes};
 ghost use Rattle.command_parts.specs.Ends.{lent};
 ghost use Rattle.command_parts.specs.Gives.{GivesAlone};
 ghost use Rattle.command_walk.specs.commands.H4.{line_of, h4_words, h4_octets, multiframe_text, h4_text, no_line_text};
 ghost use Rattle.command_walk.specs.commands.H4.{h4_answer, sent_packets};
 ghost use Rattle.command_walk.specs.commands.Decode.{decode_answer};
-ghost use Rattle.command_walk.specs.Told.{events_of, IsTurn};
-ghost use Rattle.command_walk.specs.Ended.{HandsScript};
+ghost use Rattle.command_walk.specs.TracedWalk.{events_of, IsTurn};
+ghost use Rattle.command_walk.specs.HandedWalk.{HandsScript};
 
 use crate::command_of_words::WalkCommand;
 use crate::turns::next_turns::TurnsLeft;

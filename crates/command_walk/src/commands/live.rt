@@ -3,7 +3,7 @@ ghost use Rattle.std.specs.Prelude.{◌≡◌, None, map, string_bytes};
 ghost use Rattle.command_parts.specs.Dialogue.{talk_of};
 ghost use Rattle.command_parts.specs.Ends.{lent};
 ghost use Rattle.command_parts.specs.Gives.{GivesTalk};
-ghost use Rattle.walk_live.specs.Replies.{live_dialogue};
+ghost use Rattle.walk_live.specs.LiveReplies.{live_dialogue};
 ghost use Rattle.command_walk.specs.commands.Live.{live_words};
 
 use crate::command_of_words::WalkCommand;

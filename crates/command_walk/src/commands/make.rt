@@ -3,19 +3,19 @@ ghost use Rattle.std.specs.Prelude.{◌≡◌, ◌≤◌, ◌*◌, length, take,
 ghost use Rattle.law_model.specs.Limits.{longest_frame};
 ghost use Rattle.law_model.specs.session.Leg.{leg_of};
 ghost use Rattle.octet_io.specs.Transfer.{Appends, AppendsPart};
-ghost use Rattle.law_model.specs.session.Valid.{IsValid, IsWithin};
+ghost use Rattle.law_model.specs.session.ValidScript.{IsValid, IsWithin};
 ghost use Rattle.law_model.specs.session.Counts.{begin, drain, bound};
 ghost use Rattle.text_scripts.specs.make_load.Load.{load};
 ghost use Rattle.law_walk.specs.Walk.{walk_plan};
-ghost use Rattle.law_walk.specs.Delivered.{delivered_of};
+ghost use Rattle.law_walk.specs.DeliveredFrames.{delivered_of};
 ghost use Rattle.command_parts.specs.Task.{makes};
 ghost use Rattle.command_parts.specs.Ends.{lent, no_source};
 ghost use Rattle.command_parts.specs.Gives.{GivesAlone};
-ghost use Rattle.command_walk.specs.Ended.{IsWalkOf};
+ghost use Rattle.command_walk.specs.HandedWalk.{IsWalkOf};
 ghost use Rattle.command_walk.specs.commands.Make.{octet_count, octet_sum, made_text, sum_text, lines_text};
 ghost use Rattle.command_walk.specs.commands.Make.{load_of, make_words};
 ghost use Rattle.command_walk.specs.commands.Make.{make_answer};
-ghost use Rattle.command_words.specs.Words.{number_in};
+ghost use Rattle.command_words.specs.CommandLineWords.{number_in};
 
 use crate::command_of_words::WalkCommand;
 use command_parts::{Ran, Stop};

@@ -6,7 +6,7 @@ ghost use Rattle.command_parts.specs.Ends.{lent};
 ghost use Rattle.command_parts.specs.Gives.{GivesAlone};
 ghost use Rattle.gfp_noise.specs.declared.noise_link.noise_draft.Noise.{Noise};
 ghost use Rattle.gfp_noise.specs.noise_link.Noise.{noise_of};
-ghost use Rattle.gfp_noise.specs.noise_link.Text.{AreSingle, untouched_text};
+ghost use Rattle.gfp_noise.specs.noise_link.NoiseReportText.{AreSingle, untouched_text};
 ghost use Rattle.command_walk.specs.commands.Noise.{noise_words, noise_answer};
 
 use crate::command_of_words::WalkCommand;

@@ -4,7 +4,7 @@ ghost use Rattle.std.specs.Prelude.{◌≡◌, None, map, string_bytes};
 ghost use Rattle.command_parts.specs.Task.{reads};
 ghost use Rattle.command_parts.specs.Ends.{lent};
 ghost use Rattle.command_parts.specs.Gives.{Gives};
-ghost use Rattle.pair_walk.specs.Text.{pair_reply};
+ghost use Rattle.pair_walk.specs.ReportsOfWays.{pair_reply};
 ghost use Rattle.command_walk.specs.commands.Pair.{pair_words};
 
 use crate::command_of_words::WalkCommand;

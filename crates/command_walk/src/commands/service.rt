@@ -1,13 +1,13 @@
 //! `service`: a script's walk is made, and what it was worth to its client is written: the members that carried
 //! payload, the outages with what they cost, and throughput, capacity, queue and delay by stretches of ticks.
 ghost use Rattle.std.specs.Prelude.{◌≡◌, map, string_bytes};
-ghost use Rattle.law_model.specs.session.Valid.{IsWithin};
-ghost use Rattle.command_words.specs.Words.{number_in};
+ghost use Rattle.law_model.specs.session.ValidScript.{IsWithin};
+ghost use Rattle.command_words.specs.CommandLineWords.{number_in};
 ghost use Rattle.command_parts.specs.Task.{reads};
 ghost use Rattle.command_parts.specs.Ends.{lent};
 ghost use Rattle.command_parts.specs.Gives.{GivesAlone};
 ghost use Rattle.command_walk.specs.commands.Service.{interval_of, service_words, service_answer};
-ghost use Rattle.command_walk.specs.Ended.{HandsScript};
+ghost use Rattle.command_walk.specs.HandedWalk.{HandsScript};
 
 use crate::command_of_words::WalkCommand;
 use crate::turns::fate_turns::see_script;

@@ -1,7 +1,7 @@
 //! `stream`: the script lines of a client that sends at a rate are written.
 ghost use Rattle.std.specs.Prelude.{◌≡◌, None, map, string_bytes};
 ghost use Rattle.text_scripts.specs.rate_load.RateTexts.{IsRateLoad};
-ghost use Rattle.command_words.specs.Words.{number_in};
+ghost use Rattle.command_words.specs.CommandLineWords.{number_in};
 ghost use Rattle.command_parts.specs.Task.{makes};
 ghost use Rattle.command_parts.specs.Ends.{lent, no_source};
 ghost use Rattle.command_parts.specs.Gives.{GivesAlone};

@@ -2,15 +2,15 @@
 ghost use Rattle.std.specs.Prelude.{◌≡◌, OnOk, OnErr, map, string_bytes};
 ghost use Rattle.law_model.specs.session.Leg.{leg_of};
 ghost use Rattle.octet_io.specs.Transfer.{Appends, AppendsPart};
-ghost use Rattle.law_model.specs.session.Valid.{IsValid};
+ghost use Rattle.law_model.specs.session.ValidScript.{IsValid};
 ghost use Rattle.law_model.specs.session.Counts.{begin};
 ghost use Rattle.law_walk.specs.Walk.{walk_plan};
-ghost use Rattle.law_headline.specs.Texts.{counts_in, walk_text};
+ghost use Rattle.law_headline.specs.WalkTexts.{counts_in, walk_text};
 ghost use Rattle.command_parts.specs.Task.{reads};
 ghost use Rattle.command_parts.specs.Ends.{lent};
 ghost use Rattle.command_parts.specs.Gives.{GivesAlone};
 ghost use Rattle.command_walk.specs.commands.Walk.{walk_words, walk_answer};
-ghost use Rattle.command_walk.specs.Ended.{HandsScript};
+ghost use Rattle.command_walk.specs.HandedWalk.{HandsScript};
 
 use crate::command_of_words::WalkCommand;
 use crate::turns::ready_walk::{LinesAndTicks, read_walk};

@@ -4,15 +4,15 @@
 ghost use Rattle.std.specs.Prelude.{◌≡◌, IfOk, IfErr, OnOk};
 ghost use Rattle.law_model.specs.declared.script_types.Script.{Script};
 ghost use Rattle.law_model.specs.session.Leg.{leg_of};
-ghost use Rattle.law_model.specs.session.Valid.{IsValid};
+ghost use Rattle.law_model.specs.session.ValidScript.{IsValid};
 ghost use Rattle.law_model.specs.session.Counts.{begin, run};
 ghost use Rattle.law_walk.specs.Walk.{walk_plan, IsWalked};
-ghost use Rattle.law_headline.specs.Texts.{counts_in};
+ghost use Rattle.law_headline.specs.WalkTexts.{counts_in};
 ghost use Rattle.command_parts.specs.Task.{Answer};
 ghost use Rattle.command_parts.specs.Ends.{lent};
 ghost use Rattle.command_parts.specs.Scripts.{HasScript, script_answer};
 ghost use Rattle.command_parts.specs.Stops.{StopsReading};
-ghost use Rattle.command_walk.specs.Told.{events_of, IsTurn};
+ghost use Rattle.command_walk.specs.TracedWalk.{events_of, IsTurn};
 ghost use Rattle.fate_walks.specs.walk_fates.Seen.{Sees};
 ghost use Rattle.fate_walks.specs.walk_fates.MadeWalk.{SeesWalk};
 

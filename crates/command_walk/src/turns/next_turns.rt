@@ -2,10 +2,10 @@
 ghost use Rattle.std.specs.Prelude.{◌≡◌, ◌≤◌, ℕ, length, IfSome, IfNone};
 ghost use Rattle.law_model.specs.declared.script_types.Script.{Script};
 ghost use Rattle.law_model.specs.session.Leg.{leg_of};
-ghost use Rattle.law_model.specs.session.Valid.{IsValid, IsEvent};
+ghost use Rattle.law_model.specs.session.ValidScript.{IsValid, IsEvent};
 ghost use Rattle.law_model.specs.session.Counts.{Plan, Counts, begin, run_line};
 ghost use Rattle.law_walk.specs.Walk.{walk_plan};
-ghost use Rattle.law_headline.specs.Texts.{counts_in};
+ghost use Rattle.law_headline.specs.WalkTexts.{counts_in};
 ghost use Rattle.command_walk.specs.TurnsLeft.{once, turns_once, line_turns, IsPending, AreLeft, GivesTurn};
 
 use crate::turns::trace_turns::Turn;

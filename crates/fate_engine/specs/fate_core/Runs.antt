@@ -2,7 +2,7 @@
 use Rattle.std.specs.Prelude.{◌≡◌, ℕ, suc, ◌==◌, ◌&&◌, if◌then◌else◌, List, [], ◌∷◌, length, Option}
 use Rattle.fate_engine.specs.declared.fate_law.Cause.{Cause}
 use Rattle.fate_engine.specs.declared.fate_law.SpoiledRun.{SpoiledRun}
-use Rattle.fate_engine.specs.fate_law.Spoiled.{same_cause, spoiled_runs}
+use Rattle.fate_engine.specs.fate_law.RowCauses.{same_cause, spoiled_runs}
 
 -- how many rows there are, and the runs among them
 pub record RunList : Type 0 where

@@ -4,7 +4,7 @@
 use Rattle.std.specs.Prelude.{ℕ, ◌-◌, ◌+◌, Bool, true, false, List, ◌++◌, length, Option, Some, None, codes, decimal}
 use Rattle.std.specs.List.{flat_map}
 use Rattle.law_model.specs.Common.{Leg, Piece, scenario_by, StreamRow, Counts}
-use Rattle.text_report.specs.Report.{refusal_text}
+use Rattle.text_report.specs.ReportLines.{refusal_text}
 use Rattle.law_walk.specs.Common.{session_of, session_rows, session_pieces}
 use Rattle.fate_engine.specs.declared.fate_law.Cause.{Cause}
 use Rattle.fate_engine.specs.declared.fate_law.Cause.TheVariants.{Packet, PacketOf, Container}
@@ -14,7 +14,7 @@ use Rattle.fate_engine.specs.fate_law.Fates.{row_at}
 use Rattle.fate_engine.specs.fate_law.Marks.{is_piece_at, are_true_marks}
 use Rattle.fate_engine.specs.declared.fate_law.SpoiledRun.{SpoiledRun}
 use Rattle.fate_engine.specs.declared.fate_law.RowSegment.{RowSegment}
-use Rattle.fate_engine.specs.fate_law.Spoiled.{spoiled_of}
+use Rattle.fate_engine.specs.fate_law.RowCauses.{spoiled_of}
 use Rattle.fate_engine.specs.fate_law.Spans.{later_segments}
 use Rattle.fate_engine.specs.fate_law.SessionFates.{End, refused, accepted, Ended, ended_of, is_refused, has_got, has_waited}
 use Rattle.fate_engine.specs.fate_law.SessionFates.{count_of}

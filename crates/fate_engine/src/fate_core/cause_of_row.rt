@@ -2,9 +2,9 @@
 ghost use Rattle.std.specs.Prelude.{◌≡◌, ◌+◌, ◌-◌, ◌*◌, ◌^◌, ◌<◌, ◌≤◌, length, List, All, Option};
 ghost use Rattle.std.specs.List.{list_any};
 ghost use Rattle.law_model.specs.Common.{AreWindows, Scenario, Told, lock_of};
-ghost use Rattle.fate_engine.specs.fate_law.Spoiled.{row_cause as cause_of, lesser as lesser_of, least_failing};
-ghost use Rattle.fate_engine.specs.fate_law.Spoiled.{packet_cause, container_cause};
-ghost use Rattle.fate_engine.specs.fate_core.Whole.{whole_in, whole_on};
+ghost use Rattle.fate_engine.specs.fate_law.RowCauses.{row_cause as cause_of, lesser as lesser_of, least_failing};
+ghost use Rattle.fate_engine.specs.fate_law.RowCauses.{packet_cause, container_cause};
+ghost use Rattle.fate_engine.specs.fate_core.WholeContainers.{whole_in, whole_on};
 ghost use Rattle.fate_engine.specs.fate_core.Packets.{ArePackets};
 
 use crate::fate_core::packet_rows::{FIRST, Packets};

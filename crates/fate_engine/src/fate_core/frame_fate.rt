@@ -6,7 +6,7 @@ ghost use Rattle.fate_engine.specs.fate_law.Marks.{are_true_marks};
 ghost use Rattle.fate_engine.specs.fate_law.SessionFates.{fate_at};
 ghost use Rattle.fate_engine.specs.fate_core.Packets.{ArePackets};
 ghost use Rattle.fate_engine.specs.fate_core.Segments.{SegmentsStand};
-ghost use Rattle.fate_engine.specs.fate_core.Around.{settles, fate_around, is_true_of};
+ghost use Rattle.fate_engine.specs.fate_core.FateBySegment.{settles, fate_around, is_true_of};
 
 use crate::fate_core::frame_ruler::Ruler;
 use crate::fate_core::packet_rows::Packets;

@@ -3,7 +3,7 @@ ghost use Rattle.std.specs.Prelude.{◌≡◌, ◌+◌, ◌^◌, ◌==◌, ◌||
 ghost use Rattle.law_model.specs.Common.{Stream};
 ghost use Rattle.fate_engine.specs.fate_law.Ruler.{new_ruler, ruler_of, ruled, with_waiting};
 ghost use Rattle.fate_engine.specs.fate_law.Marks.{is_piece_at};
-ghost use Rattle.fate_engine.specs.fate_core.Sides.{with_begun, is_fourth, IsBegun, begun_before};
+ghost use Rattle.fate_engine.specs.fate_core.FrameSides.{with_begun, is_fourth, IsBegun, begun_before};
 
 use std::alloc::{AllocError, Global};
 use std::marker::Model;
@@ -37,7 +37,7 @@ pub struct Ruler {
 
 impl Model for Ruler {
     ghost use Rattle.fate_engine.specs.fate_law.Ruler.{Ruler};
-    ghost use Rattle.fate_engine.specs.fate_core.Sides.{ruler_in, IsRuler};
+    ghost use Rattle.fate_engine.specs.fate_core.FrameSides.{ruler_in, IsRuler};
 
     ghost Value = { Ruler };
 

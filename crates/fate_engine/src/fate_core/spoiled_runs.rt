@@ -1,7 +1,7 @@
 //! The runs of rows that aren't whole for one cause.
 ghost use Rattle.std.specs.Prelude.{◌≡◌, ◌+◌, ◌<◌, ◌==◌, ◌&&◌, [], ◌∷◌, ◌++◌, List, OnOk, OnErr, Option};
 ghost use Rattle.fate_engine.specs.declared.fate_law.Cause.{Cause as CauseData};
-ghost use Rattle.fate_engine.specs.fate_law.Spoiled.{same_cause, spoiled_runs};
+ghost use Rattle.fate_engine.specs.fate_law.RowCauses.{same_cause, spoiled_runs};
 ghost use Rattle.fate_engine.specs.fate_core.Runs.{AreRuns, with_row};
 
 use crate::fate_law::{Cause, SpoiledRun};

@@ -1,10 +1,10 @@
 //! The lines, each put together in a slice with room for it. The length of a line is the answer.
 ghost use Rattle.std.specs.Prelude.{◌≡◌, ◌+◌, ◌≤◌, ◌++◌, codes, decimal, length, take};
 ghost use Rattle.text_report.specs.TextCursor.{Extends, HasTextRoom};
-ghost use Rattle.text_report.specs.Report.{refusal_text};
+ghost use Rattle.text_report.specs.ReportLines.{refusal_text};
 ghost use Rattle.fate_engine.specs.fate_law.SessionFates.{refused, accepted};
 ghost use Rattle.fate_engine.specs.fate_law.FateText.{cause_text, spoiled_text, truth_text, rows_text, fate_text};
-ghost use Rattle.fate_engine.specs.fate_text.FateWording.{told_text, told_segment, item_text, last_text};
+ghost use Rattle.fate_engine.specs.fate_text.FateLineText.{told_text, told_segment, item_text, last_text};
 
 use crate::fate_law::{Cause, Fate, RowSegment, SpoiledRun};
 use law_model::{AcceptFault, CommandFault, Refusal};

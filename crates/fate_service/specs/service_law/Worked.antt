@@ -6,13 +6,13 @@ use Rattle.law_model.specs.declared.script_types.ItemKind.TheVariants.{Frame, Ad
 use Rattle.law_model.specs.session.Counts.{Counts}
 use Rattle.law_model.specs.session.Leg.{Leg}
 use Rattle.law_model.specs.frames.Loss.{Extent, extents}
-use Rattle.law_loss.specs.Worked.{worked_pieces, worked_rows}
-use Rattle.law_walk.specs.Worked.{item, plain}
+use Rattle.law_loss.specs.WorkedLosses.{worked_pieces, worked_rows}
+use Rattle.law_walk.specs.WorkedLegs.{item, plain}
 use Rattle.fate_engine.specs.fate_law.Fates.{fate_of}
 use Rattle.fate_service.specs.declared.landed_frames.CarriedFrame.{CarriedFrame}
-use Rattle.fate_service.specs.Frames.{carried_if, listed}
-use Rattle.fate_service.specs.service_law.Lines.{OutageLine, outage_lines}
-use Rattle.fate_service.specs.service_law.Dark.{row_outages}
+use Rattle.fate_service.specs.FrameColumns.{carried_if, listed}
+use Rattle.fate_service.specs.service_law.LinesAsNumbers.{OutageLine, outage_lines}
+use Rattle.fate_service.specs.service_law.OutageRuns.{row_outages}
 
 -- ---- a walk of one tick
 abbrev pub one_tick : Leg

@@ -7,7 +7,7 @@ use Rattle.fate_engine.specs.Common.{End, refused, accepted, Ended, fate_at, is_
 use Rattle.fate_engine.specs.Common.{segment_text, counted}
 use Rattle.fate_engine.specs.declared.fate_law.RowSegment.{RowSegment}
 use Rattle.fate_engine.specs.declared.fate_law.Fate.{Fate}
-use Rattle.fate_walks.specs.walk_fates.Places.{Rules}
+use Rattle.fate_walks.specs.walk_fates.PacketsAndRuler.{Rules}
 use Rattle.fate_walks.specs.walk_fates.Seen.{Sees}
 use Rattle.fate_walks.specs.declared.walk_fates.seen_rows.SeenWalk.{SeenWalk}
 use Rattle.fate_walks.specs.declared.walk_fates.fates_report.EndedCount.{EndedCount}

@@ -6,7 +6,7 @@ use Rattle.law_model.specs.session.Scenario.{packets_in}
 use Rattle.law_walk.specs.Common.{session_of, session_rows}
 use Rattle.fate_engine.specs.Common.{row_cause, AreRuns}
 use Rattle.fate_engine.specs.fate_core.Segments.{SegmentsStand}
-use Rattle.fate_walks.specs.walk_fates.Places.{Governs}
+use Rattle.fate_walks.specs.walk_fates.PacketsAndRuler.{Governs}
 use Rattle.fate_walks.specs.declared.walk_fates.seen_rows.SeenRows.{SeenRows}
 
 -- the packets whose decision steps some ticks made, and the first rows of a leg's session; of each packet whose rows

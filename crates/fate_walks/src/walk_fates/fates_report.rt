@@ -2,7 +2,7 @@
 //! that landed, and one of totals.
 ghost use Rattle.std.specs.Prelude.{◌≡◌, ℕ, ◌+◌, ◌<◌, ◌++◌, List, Contains, slice_get, OnOk, OnErr, flat_map};
 ghost use Rattle.law_model.specs.Common.{leg_of, Start, Appends, AppendsPart};
-ghost use Rattle.text_got.specs.Told.{HasText};
+ghost use Rattle.text_got.specs.TextSoFar.{HasText};
 ghost use Rattle.fate_engine.specs.Common.{are_true_marks, Ended, ended_of, refused, accepted, later_segments};
 ghost use Rattle.fate_engine.specs.Common.{spoiled_text, mark_text, ended_text, fates_end, fates_text, told_text};
 ghost use Rattle.fate_engine.specs.Common.{item_text};

@@ -4,9 +4,9 @@ ghost use Rattle.std.specs.Prelude.{◌≡◌, ℕ, ◌+◌, ◌^◌, ◌≤◌,
 ghost use Rattle.law_model.specs.Common.{leg_of, IsValid};
 ghost use Rattle.law_walk.specs.Common.{IsWalked};
 ghost use Rattle.fate_engine.specs.Common.{ruler_of};
-ghost use Rattle.fate_walks.specs.walk_frames.Landed.{IsAt, IsNext, frames_before_item};
-ghost use Rattle.fate_walks.specs.walk_frames.Places.{stream_in, place_in, Between, IsLate};
-ghost use Rattle.fate_walks.specs.walk_fates.Places.{Governs, Rules};
+ghost use Rattle.fate_walks.specs.walk_frames.ItemCursor.{IsAt, IsNext, frames_before_item};
+ghost use Rattle.fate_walks.specs.walk_frames.StreamInTicks.{stream_in, place_in, Between, IsLate};
+ghost use Rattle.fate_walks.specs.walk_fates.PacketsAndRuler.{Governs, Rules};
 
 use crate::walk_frames::{FrameCursor, LandedFrame};
 use fate_engine::fate_core::{Packets, Ruler};

@@ -6,7 +6,7 @@ ghost use Rattle.std.specs.Bool.{OnTrue, OnFalse};
 ghost use Rattle.law_model.specs.Common.{Leg, leg_of, IsValid};
 ghost use Rattle.law_model.specs.session.Scenario.{packets_in};
 ghost use Rattle.law_walk.specs.Common.{IsWalked};
-ghost use Rattle.fate_walks.specs.walk_fates.Places.{Governs};
+ghost use Rattle.fate_walks.specs.walk_fates.PacketsAndRuler.{Governs};
 ghost use Rattle.fate_walks.specs.walk_fates.Seen.{Sees};
 
 use fate_engine::fate_core::{Packets, Ruler, Segments, SpoiledRuns, row_cause};

@@ -4,7 +4,7 @@ ghost use Rattle.std.specs.Prelude.{◌≡◌, ℕ, ◌+◌, ◌<◌, List, ◌+
 ghost use Rattle.law_model.specs.Common.{leg_of, IsSound};
 ghost use Rattle.law_model.specs.declared.item_refusals.Refusal.{Refusal as RefusalData};
 ghost use Rattle.law_walk.specs.Common.{IsWalked, refused_by};
-ghost use Rattle.fate_walks.specs.walk_frames.Landed.{IsAt, IsNext, IsPast, IsSkipped};
+ghost use Rattle.fate_walks.specs.walk_frames.ItemCursor.{IsAt, IsNext, IsPast, IsSkipped};
 
 use law_model::{Item, ItemKind, Refusal};
 use std::marker::Model;
@@ -35,7 +35,7 @@ pub struct FrameCursor {
 }
 
 impl Model for FrameCursor {
-    ghost use Rattle.fate_walks.specs.walk_frames.Landed.{Cursor};
+    ghost use Rattle.fate_walks.specs.walk_frames.ItemCursor.{Cursor};
 
     ghost Value = { Cursor };
 

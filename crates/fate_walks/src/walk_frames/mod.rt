@@ -6,7 +6,7 @@ ghost use Rattle.std.specs.Prelude.{◌≡◌, ℕ, ◌+◌, ◌<◌, ◌≤◌,
 ghost use Rattle.law_model.specs.Common.{Leg, Stream, frame_refusal, offered, reached};
 ghost use Rattle.law_model.specs.declared.item_refusals.AcceptFault.{AcceptFault};
 ghost use Rattle.fate_engine.specs.Common.{new_ruler, ruler_of, with_waiting};
-ghost use Rattle.fate_walks.specs.walk_frames.Places.{place_in, stream_in, Between};
+ghost use Rattle.fate_walks.specs.walk_frames.StreamInTicks.{place_in, stream_in, Between};
 
 mod landed_cursor;
 

@@ -4,11 +4,11 @@ ghost use Rattle.law_model.specs.Common.{Start, Appends, AppendsPart, leg_of, lo
 ghost use Rattle.law_model.specs.declared.script_types.Item.{Item as ItemData};
 ghost use Rattle.law_model.specs.declared.script_types.ItemKind.TheVariants.{Frame};
 ghost use Rattle.law_walk.specs.Common.{session_rows, session_pieces};
-ghost use Rattle.text_captures.specs.capture_file.Written.{RowFrame};
-ghost use Rattle.text_captures.specs.capture_file.Out.{HasGfp};
+ghost use Rattle.text_captures.specs.capture_file.WrittenCapture.{RowFrame};
+ghost use Rattle.text_captures.specs.capture_file.CaptureSoFar.{HasGfp};
 ghost use Rattle.fate_walks.specs.walk_fates.MadeWalk.{SeesWalk, fates_in};
-ghost use Rattle.fate_walks.specs.walk_gfp.Carried.{carried_frames, sent_capture};
-ghost use Rattle.fate_walks.specs.walk_gfp.Records.{last_row, frame_if};
+ghost use Rattle.fate_walks.specs.walk_gfp.CarriedInRows.{carried_frames, sent_capture};
+ghost use Rattle.fate_walks.specs.walk_gfp.LastRowOfFrame.{last_row, frame_if};
 
 use crate::walk_fates::{SeenWalk, accepted_fate};
 use crate::walk_frames::FrameCursor;

@@ -5,9 +5,9 @@
 
 ghost use Rattle.std.specs.Prelude.{◌≡◌, List, map, length, take, drop, Contains};
 ghost use Rattle.law_model.specs.Common.{Piece, frames_by, stream_of, StreamRow, octets_of_rows, Extent, extents};
-ghost use Rattle.text_captures.specs.capture_file.Written.{RowFrame};
-ghost use Rattle.text_captures.specs.capture_file.Gfp.{with_pattern, gfp_octets};
-ghost use Rattle.fate_walks.specs.walk_gfp.Carried.{carried_frames};
+ghost use Rattle.text_captures.specs.capture_file.WrittenCapture.{RowFrame};
+ghost use Rattle.text_captures.specs.capture_file.GfpInCapture.{with_pattern, gfp_octets};
+ghost use Rattle.fate_walks.specs.walk_gfp.CarriedInRows.{carried_frames};
 
 mod gfp_records;
 

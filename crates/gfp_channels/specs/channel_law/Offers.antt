@@ -1,7 +1,7 @@
 -- Frames that are offered one after the other, and those of a channel that are accepted.
 use Rattle.std.specs.Prelude.{ℕ, ◌==◌, if◌then◌else◌, List, [], ◌∷◌, ◌++◌, Option, Some, None}
 use Rattle.gfp_model.specs.declared.linear_model.ChannelFault.{ChannelFault}
-use Rattle.gfp_model.specs.linear_model.Linear.{ChannelFrame}
+use Rattle.gfp_model.specs.linear_model.ChannelArea.{ChannelFrame}
 use Rattle.gfp_model.specs.linear_model.Channels.{Channels, channel_refusal, pushed}
 
 -- the channels after all of them

@@ -3,7 +3,7 @@ use Rattle.std.specs.Prelude.{ℕ, List, [], ◌∷◌, replicate}
 use Rattle.law_model.specs.Common.{StreamRow}
 use Rattle.gfp_model.specs.declared.linear_model.Cut.{Cut}
 use Rattle.gfp_model.specs.linear_model.Channels.{Channels}
-use Rattle.gfp_model.specs.linear_model.Stream.{LinearPiece, idle, client, stream_to, cut_rows}
+use Rattle.gfp_model.specs.linear_model.ChannelStream.{LinearPiece, idle, client, stream_to, cut_rows}
 
 -- two frames of two octets wait of each channel; with their headers they take 14
 abbrev pub worked_channels : Channels

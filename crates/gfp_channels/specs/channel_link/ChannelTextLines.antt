@@ -1,9 +1,9 @@
 -- The lines of a text of channels, as a table. This language is this project's own.
 use Rattle.std.specs.Prelude.{ℕ, ◌==◌, nat_lt, List, [], ◌∷◌, ◌++◌, Option, Some, None, codes, bytes_eq, if◌then◌else◌}
-use Rattle.text_lines.specs.Words.{word_at, number_at, octets_of}
+use Rattle.text_lines.specs.WordsOfLine.{word_at, number_at, octets_of}
 use Rattle.text_lines.specs.Fields.{Field, within, any, above, digits, where_true}
 use Rattle.text_lines.specs.Language.{Language}
-use Rattle.text_lines.specs.Table.{Table, Told, language_of}
+use Rattle.text_lines.specs.LanguageTable.{Table, Told, language_of}
 use Rattle.text_lines.specs.declared.text_faults.LineFault.{LineFault}
 use Rattle.gfp_model.specs.declared.linear_model.Cut.{Cut}
 use Rattle.gfp_channels.specs.declared.channel_link.channel_keyword.Keyword.{Keyword}

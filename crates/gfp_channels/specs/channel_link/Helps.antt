@@ -1,7 +1,7 @@
 -- What is said of how to write a faulty line of a text of channels.
 use Rattle.std.specs.Prelude.{List, ℕ, ◌++◌, codes, decimal}
 use Rattle.text_lines.specs.declared.text_faults.LineFault.{LineFault}
-use Rattle.text_help.specs.Helps.{fault_text}
+use Rattle.text_help.specs.LineHelpTexts.{fault_text}
 use Rattle.gfp_channels.specs.declared.channel_link.channel_keyword.Keyword.{Keyword}
 use Rattle.gfp_channels.specs.declared.channel_link.channel_keyword.Keyword.TheVariants as word
 use Rattle.gfp_channels.specs.declared.channel_link.channel_text_fault.Overlap.{Overlap}

@@ -1,6 +1,6 @@
 -- The plan that a text says, or its first fault.
 use Rattle.std.specs.Prelude.{⊤, ◌≤◌, ◌<◌, ◌^◌, ℕ, List, [], ◌∷◌, All, Result}
-use Rattle.text_lines.specs.Table.{said_in, formed}
+use Rattle.text_lines.specs.LanguageTable.{said_in, formed}
 use Rattle.text_lines.specs.declared.text_faults.LineFault.{LineFault}
 use Rattle.gfp_model.specs.declared.linear_model.Cut.{Cut}
 use Rattle.gfp_channels.specs.declared.channel_link.channel_keyword.Keyword.{Keyword}

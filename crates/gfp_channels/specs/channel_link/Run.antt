@@ -2,16 +2,16 @@
 use Rattle.std.specs.Prelude.{◌≡◌, ℕ, ◌+◌, ◌-◌, nat_le, Bool, true, false, List, [], ◌∷◌, ◌++◌, length, take, drop}
 use Rattle.std.specs.Prelude.{Option, if◌then◌else◌, flat_map}
 use Rattle.law_model.specs.Common.{Start, Segment}
-use Rattle.text_got.specs.Told.{HasText}
+use Rattle.text_got.specs.TextSoFar.{HasText}
 use Rattle.gfp_model.specs.declared.linear_model.Cut.{Cut}
-use Rattle.gfp_model.specs.linear_model.Linear.{LinearOutcome, frame_in, linear_outcomes}
+use Rattle.gfp_model.specs.linear_model.ChannelArea.{LinearOutcome, frame_in, linear_outcomes}
 use Rattle.gfp_model.specs.linear_model.Channels.{silent}
 use Rattle.gfp_channels.specs.gfp_linear.Queue.{Queued, unbegun}
 use Rattle.gfp_channels.specs.gfp_linear.Delineator.{LinearReceiver, StandsIn}
 use Rattle.gfp_channels.specs.declared.channel_link.channel_draft.ChannelPlan.{ChannelPlan}
 use Rattle.gfp_channels.specs.declared.channel_link.channel_run.Refusal.{Refusal}
 use Rattle.gfp_channels.specs.declared.channel_link.channel_reception.Reception.{Reception}
-use Rattle.gfp_channels.specs.channel_link.Text.{after_offers, got_text, refused}
+use Rattle.gfp_channels.specs.channel_link.ChannelReportText.{after_offers, got_text, refused}
 
 -- ---- before the stream begins
 -- the channels with their frames, those that were refused, and the receiver

@@ -3,10 +3,10 @@ use Rattle.std.specs.Prelude.{ℕ, ⊤, ◌&&◌, nat_le, Bool, false, List, [],
 use Rattle.std.specs.Prelude.{None, if◌then◌else◌, option_to_list}
 use Rattle.gfp_model.specs.declared.linear_model.LinearWhy.{LinearWhy}
 use Rattle.gfp_model.specs.declared.linear_model.LinearWhy.TheVariants.{Unsettled, TooLong}
-use Rattle.gfp_model.specs.linear_model.Linear.{LinearOutcome, delivery, dropping, by_type, linear_type_fault}
+use Rattle.gfp_model.specs.linear_model.ChannelArea.{LinearOutcome, delivery, dropping, by_type, linear_type_fault}
 use Rattle.gfp_delineate.specs.declared.hunt_presync_sync.AreaWhy.{AreaWhy}
 use Rattle.gfp_delineate.specs.declared.hunt_presync_sync.AreaWhy.TheVariants.{Unsettled as NotSettled, TooLong as IsLong}
-use Rattle.gfp_delineate.specs.Areas.{AreaEnd, keeping, passing, Progress, IsAt}
+use Rattle.gfp_delineate.specs.ReceivedAreas.{AreaEnd, keeping, passing, Progress, IsAt}
 use Rattle.gfp_channels.specs.declared.gfp_linear.linear_delineator.LinearStep.{LinearStep}
 use Rattle.gfp_channels.specs.declared.gfp_linear.linear_delineator.LinearStep.TheVariants.{Nothing, Frame, Dropped}
 use Rattle.law_model.specs.Common.{longest_extended_area}

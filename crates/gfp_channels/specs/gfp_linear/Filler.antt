@@ -1,7 +1,7 @@
 -- G.7041, frame multiplexing: which octets of the stream of channels a filler and its queue have written.
 use Rattle.std.specs.Prelude.{◌≡◌, ℕ, ◌+◌, List, length, map, take, drop}
-use Rattle.gfp_model.specs.linear_model.Stream.{area_of, linear_stream, Shared, reached}
-use Rattle.gfp_fill.specs.Areas.{Sender, StandsIn}
+use Rattle.gfp_model.specs.linear_model.ChannelStream.{area_of, linear_stream, Shared, reached}
+use Rattle.gfp_fill.specs.SentAreas.{Sender, StandsIn}
 use Rattle.gfp_channels.specs.gfp_linear.Queue.{Queued}
 
 -- of a stream, the octets before a place are written: what is left of its pieces are octets of headers, and then those

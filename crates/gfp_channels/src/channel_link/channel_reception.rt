@@ -1,10 +1,10 @@
 //! The receiver of a stream with its cuts, and the lines of the frames that it delivers.
 ghost use Rattle.std.specs.Prelude.{◌≡◌, ℕ, ◌+◌, ◌<◌, ◌≤◌, List, [], ◌∷◌, ◌++◌, length};
 ghost use Rattle.law_model.specs.Common.{Start, longest_frame, Segment};
-ghost use Rattle.text_got.specs.Told.{HasText};
-ghost use Rattle.gfp_model.specs.linear_model.Linear.{LinearOutcome};
+ghost use Rattle.text_got.specs.TextSoFar.{HasText};
+ghost use Rattle.gfp_model.specs.linear_model.ChannelArea.{LinearOutcome};
 ghost use Rattle.gfp_channels.specs.channel_link.Plan.{AreCuts};
-ghost use Rattle.gfp_channels.specs.channel_link.Text.{got_text};
+ghost use Rattle.gfp_channels.specs.channel_link.ChannelReportText.{got_text};
 ghost use Rattle.gfp_channels.specs.channel_link.Run.{Received, ReceivedIn, longer_by};
 
 use crate::channel_link::channel_report::{FRAME_ROOM, LINE_ROOM, got_head, got_tail};

@@ -1,7 +1,7 @@
 //! The lines of what came of a plan.
 ghost use Rattle.std.specs.Prelude.{◌≡◌, ◌+◌, ◌*◌, ◌≤◌, length, take};
 ghost use Rattle.law_model.specs.Common.{longest_frame};
-ghost use Rattle.gfp_channels.specs.channel_link.Text.{got_front, frame_end, refused_text, counts_text};
+ghost use Rattle.gfp_channels.specs.channel_link.ChannelReportText.{got_front, frame_end, refused_text, counts_text};
 
 use gfp_model::linear_model::ChannelFault;
 use law_model::LONGEST_FRAME;

@@ -1,11 +1,11 @@
 //! The frames of a plan are offered, their stream is made and received with its cuts, and what comes of it is written.
 ghost use Rattle.std.specs.Prelude.{◌≡◌, ◌≤◌, ℕ, List, [], ◌++◌, IfOk, OnOk, OnErr, flat_map};
 ghost use Rattle.law_model.specs.Common.{Start, Appends, AppendsPart};
-ghost use Rattle.text_got.specs.Told.{HasText};
-ghost use Rattle.gfp_model.specs.linear_model.Stream.{stream_to};
+ghost use Rattle.text_got.specs.TextSoFar.{HasText};
+ghost use Rattle.gfp_model.specs.linear_model.ChannelStream.{stream_to};
 ghost use Rattle.gfp_channels.specs.gfp_linear.Queue.{unbegun};
 ghost use Rattle.gfp_channels.specs.channel_link.Plan.{AreCuts, IsPlan};
-ghost use Rattle.gfp_channels.specs.channel_link.Text.{after_offers, plan_text, refusal_text, refusals};
+ghost use Rattle.gfp_channels.specs.channel_link.ChannelReportText.{after_offers, plan_text, refusal_text, refusals};
 ghost use Rattle.gfp_channels.specs.channel_link.Run.{IsReady, Received};
 
 use crate::channel_link::channel_draft::{ChannelPlan, Offer};

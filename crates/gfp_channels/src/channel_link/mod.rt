@@ -13,10 +13,10 @@ ghost use Rattle.gfp_channels.specs.declared.channel_link.channel_text_fault.Ove
 ghost use Rattle.gfp_channels.specs.channel_link.ChannelTextLines.{plan_lines};
 ghost use Rattle.gfp_channels.specs.declared.channel_link.channel_draft.ChannelPlan.{ChannelPlan};
 ghost use Rattle.gfp_channels.specs.channel_link.Plan.{plan_of, IsPlan};
-ghost use Rattle.gfp_channels.specs.channel_link.Text.{plan_text};
-ghost use Rattle.gfp_channels.specs.channel_link.Delivered.{HasTrueStarts, accepted_by, carried_by, kept_by};
-ghost use Rattle.gfp_channels.specs.channel_link.Delivered.{delivered_by};
-ghost use Rattle.gfp_channels.specs.channel_link.Delivered.{IsPlanReport};
+ghost use Rattle.gfp_channels.specs.channel_link.ChannelReportText.{plan_text};
+ghost use Rattle.gfp_channels.specs.channel_link.FramesOfPlan.{HasTrueStarts, accepted_by, carried_by, kept_by};
+ghost use Rattle.gfp_channels.specs.channel_link.FramesOfPlan.{delivered_by};
+ghost use Rattle.gfp_channels.specs.channel_link.FramesOfPlan.{IsPlanReport};
 
 mod channel_draft;
 mod channel_keyword;

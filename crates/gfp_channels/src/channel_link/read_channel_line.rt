@@ -1,8 +1,8 @@
 //! What a line of a text of channels says behind its keyword.
 ghost use Rattle.std.specs.Prelude.{◌≡◌, IfOk, IfErr, None, Some};
-ghost use Rattle.text_lines.specs.Words.{words};
-ghost use Rattle.text_lines.specs.Faults.{IsLineStop};
-ghost use Rattle.text_lines.specs.Table.{rest_fault};
+ghost use Rattle.text_lines.specs.WordsOfLine.{words};
+ghost use Rattle.text_lines.specs.LineFaults.{IsLineStop};
+ghost use Rattle.text_lines.specs.LanguageTable.{rest_fault};
 ghost use Rattle.gfp_channels.specs.channel_link.ChannelTextLines.{plan_table, cut_said, offer_said};
 
 use crate::channel_link::channel_draft::{Draft, Offer};

@@ -1,6 +1,6 @@
 //! The reader of a whole text.
 ghost use Rattle.std.specs.Prelude.{◌≡◌, ◌≤◌, length, IfOk, IfErr, Ok};
-ghost use Rattle.text_lines.specs.Faults.{IsTextFault};
+ghost use Rattle.text_lines.specs.LineFaults.{IsTextFault};
 ghost use Rattle.law_model.specs.Limits.{longest_input};
 ghost use Rattle.gfp_channels.specs.channel_link.Plan.{plan_of, IsPlan};
 

@@ -3,8 +3,8 @@
 ghost use Rattle.std.specs.Prelude.{◌≡◌, ℕ, ◌≤◌, ◌↔◌, Bool, true, false, List, [], ◌∷◌, ◌++◌, length, map, take};
 ghost use Rattle.std.specs.Prelude.{drop, IfOk, IfSome, IsSome, IsTrue, Some};
 ghost use Rattle.law_model.specs.Common.{longest_frame};
-ghost use Rattle.gfp_delineate.specs.Areas.{ends_told};
-ghost use Rattle.gfp_model.specs.linear_model.Linear.{linear_type_fault, by_size, by_type, linear_outcomes};
+ghost use Rattle.gfp_delineate.specs.ReceivedAreas.{ends_told};
+ghost use Rattle.gfp_model.specs.linear_model.ChannelArea.{linear_type_fault, by_size, by_type, linear_outcomes};
 ghost use Rattle.gfp_channels.specs.gfp_linear.Delineator.{IsFrame, StandsIn, frame_of, outcomes_told, told_linear};
 ghost use Rattle.gfp_channels.specs.gfp_linear.Delineator.{linear_of_end};
 

@@ -1,9 +1,9 @@
 //! The stream of channels, octet by octet.
 
 ghost use Rattle.std.specs.Prelude.{◌≡◌, ◌<◌, ◌≤◌, ◌++◌, length, take};
-ghost use Rattle.gfp_model.specs.linear_model.Linear.{linear_header, extension_header};
+ghost use Rattle.gfp_model.specs.linear_model.ChannelArea.{linear_header, extension_header};
 ghost use Rattle.gfp_model.specs.linear_model.Channels.{Channels};
-ghost use Rattle.gfp_model.specs.linear_model.Stream.{unsent};
+ghost use Rattle.gfp_model.specs.linear_model.ChannelStream.{unsent};
 ghost use Rattle.gfp_channels.specs.gfp_linear.Queue.{unbegun};
 ghost use Rattle.gfp_channels.specs.gfp_linear.Filler.{LinearFillerStands, StandsFurther, FillsNext, Writes};
 
@@ -21,7 +21,7 @@ pub struct LinearFiller {
 }
 
 impl Model for LinearFiller {
-    ghost use Rattle.gfp_fill.specs.Areas.{Sender};
+    ghost use Rattle.gfp_fill.specs.SentAreas.{Sender};
 
     ghost Value = { Sender };
 

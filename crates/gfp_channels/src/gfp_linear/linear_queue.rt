@@ -5,9 +5,9 @@ ghost use Rattle.std.specs.Prelude.{IfSome, IfNone, Some, None, slice_index_or};
 ghost use Rattle.std.specs.Result.{result_err};
 ghost use Rattle.law_model.specs.Common.{longest_frame};
 ghost use Rattle.gfp_model.specs.linear_model.Channels.{silent, turn, served, oldest, pushed, channel_refusal};
-ghost use Rattle.gfp_model.specs.linear_model.Stream.{Shared, offered};
+ghost use Rattle.gfp_model.specs.linear_model.ChannelStream.{Shared, offered};
 ghost use Rattle.gfp_channels.specs.gfp_linear.Queue.{unbegun, busy_from};
-ghost use Rattle.gfp_fill.specs.Areas.{Sender, head_of, StandsIn, HasWrittenIn};
+ghost use Rattle.gfp_fill.specs.SentAreas.{Sender, head_of, StandsIn, HasWrittenIn};
 ghost use Rattle.gfp_channels.specs.gfp_linear.Filler.{LinearFillerStands};
 
 use crate::gfp_linear::busy_channels::{add, count_below};

@@ -7,8 +7,8 @@
 ghost use Rattle.std.specs.Prelude.{◌≡◌, ◌<◌, ◌≤◌, ℕ, List, ◌∷◌, ◌++◌, length, replicate, true, false, Some, None};
 ghost use Rattle.law_model.specs.Limits.{shortest_frame, longest_frame};
 ghost use Rattle.gfp_model.specs.linear_model.Channels.{Channels, waiting_of, channel_refusal};
-ghost use Rattle.gfp_model.specs.linear_model.Linear.{linear_header, linear_outcome, dropping};
-ghost use Rattle.gfp_model.specs.linear_model.Stream.{Shared, size, one_more, reached, IsFewest, accepted_of};
+ghost use Rattle.gfp_model.specs.linear_model.ChannelArea.{linear_header, linear_outcome, dropping};
+ghost use Rattle.gfp_model.specs.linear_model.ChannelStream.{Shared, size, one_more, reached, IsFewest, accepted_of};
 
 mod busy_channels;
 mod linear_delineator;

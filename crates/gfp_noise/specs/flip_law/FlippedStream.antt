@@ -2,7 +2,7 @@
 use Rattle.std.specs.Prelude.{ℕ, ◌+◌, ◌-◌, ◌*◌, ◌<◌, ◌≤◌, ◌==◌, if◌then◌else◌, Bool, true, false, List, [], ◌∷◌, ◌++◌}
 use Rattle.std.specs.Prelude.{length, map, take, drop, replicate, All, flat_map}
 use Rattle.law_model.specs.Common.{head, areas_stream, outcomes_with, count, longest_frame}
-use Rattle.gfp_model.specs.fcs_model.Near.{near}
+use Rattle.gfp_model.specs.fcs_model.NearHeader.{near}
 use Rattle.gfp_model.specs.fcs_model.Fcs.{fcs_area, fcs_outcome, frame_in}
 
 -- two idles, and then the frames

@@ -4,11 +4,11 @@ use Rattle.std.specs.Prelude.{None, if◌then◌else◌, option_to_list}
 use Rattle.law_model.specs.Common.{head, outcomes_with, longest_extended_area}
 use Rattle.gfp_model.specs.declared.fcs_model.FcsWhy.{FcsWhy}
 use Rattle.gfp_model.specs.declared.fcs_model.FcsWhy.TheVariants.{Unsettled, TooLong}
-use Rattle.gfp_model.specs.fcs_model.Near.{near}
+use Rattle.gfp_model.specs.fcs_model.NearHeader.{near}
 use Rattle.gfp_model.specs.fcs_model.Fcs.{FcsOutcome, delivery, dropping, by_type, fcs_type_fault, fcs_outcome}
 use Rattle.gfp_delineate.specs.declared.hunt_presync_sync.AreaWhy.{AreaWhy}
 use Rattle.gfp_delineate.specs.declared.hunt_presync_sync.AreaWhy.TheVariants.{Unsettled as NotSettled, TooLong as IsLong}
-use Rattle.gfp_delineate.specs.Areas.{AreaEnd, keeping, passing, Progress, IsAt}
+use Rattle.gfp_delineate.specs.ReceivedAreas.{AreaEnd, keeping, passing, Progress, IsAt}
 use Rattle.gfp_noise.specs.declared.gfp_fcs.fcs_delineator.FcsStep.{FcsStep}
 use Rattle.gfp_noise.specs.declared.gfp_fcs.fcs_delineator.FcsStep.TheVariants.{Nothing, Frame, Dropped}
 

@@ -1,7 +1,7 @@
 -- What is said of how to write a faulty line of a noise's text.
 use Rattle.std.specs.Prelude.{List, ℕ, ◌++◌, codes, decimal}
 use Rattle.text_lines.specs.declared.text_faults.LineFault.{LineFault}
-use Rattle.text_help.specs.Helps.{fault_text}
+use Rattle.text_help.specs.LineHelpTexts.{fault_text}
 use Rattle.gfp_noise.specs.declared.noise_link.noise_keyword.Keyword.{Keyword}
 use Rattle.gfp_noise.specs.declared.noise_link.noise_keyword.Keyword.TheVariants as word
 use Rattle.gfp_noise.specs.declared.noise_link.noise_text_fault.NotRising.{NotRising}

@@ -1,8 +1,8 @@
 -- The frames and flips that a text says, or its first fault.
 use Rattle.std.specs.Prelude.{ℕ, List, length, All, Result}
-use Rattle.text_lines.specs.Table.{said_in, formed}
+use Rattle.text_lines.specs.LanguageTable.{said_in, formed}
 use Rattle.text_lines.specs.declared.text_faults.LineFault.{LineFault}
-use Rattle.gfp_noise.specs.flip_law.Places.{LiesIn, IsRising}
+use Rattle.gfp_noise.specs.flip_law.FlipPlaces.{LiesIn, IsRising}
 use Rattle.gfp_noise.specs.flip_law.FlippedStream.{fcs_stream, IsFrame}
 use Rattle.gfp_noise.specs.declared.noise_link.noise_keyword.Keyword.{Keyword}
 use Rattle.gfp_noise.specs.declared.noise_link.noise_text_fault.NotRising.{NotRising}

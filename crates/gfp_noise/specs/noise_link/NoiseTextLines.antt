@@ -1,13 +1,13 @@
 -- The lines of a noise's text, as a table. This language is this project's own.
 use Rattle.std.specs.Prelude.{ℕ, ◌+◌, ◌-◌, ◌*◌, ◌/◌, ◌%◌, nat_lt, List, [], ◌∷◌, ◌++◌, length, Option, Some, None}
 use Rattle.std.specs.Prelude.{codes, bytes_eq, if◌then◌else◌}
-use Rattle.text_lines.specs.Words.{word_at, number_at, octets_of}
+use Rattle.text_lines.specs.WordsOfLine.{word_at, number_at, octets_of}
 use Rattle.text_lines.specs.Fields.{Field, within, digits, where_true}
 use Rattle.text_lines.specs.Language.{Language}
-use Rattle.text_lines.specs.Table.{Table, Told, language_of}
+use Rattle.text_lines.specs.LanguageTable.{Table, Told, language_of}
 use Rattle.text_lines.specs.declared.text_faults.LineFault.{LineFault}
 use Rattle.gfp_model.specs.declared.fcs_model.Flip.{Flip}
-use Rattle.gfp_noise.specs.flip_law.Places.{at}
+use Rattle.gfp_noise.specs.flip_law.FlipPlaces.{at}
 use Rattle.gfp_noise.specs.declared.noise_link.noise_keyword.Keyword.{Keyword}
 use Rattle.gfp_noise.specs.declared.noise_link.noise_keyword.Keyword.TheVariants as word
 use Rattle.gfp_noise.specs.declared.noise_link.noise_text_fault.NotRising.{NotRising}

@@ -4,7 +4,7 @@ ghost use Rattle.std.specs.Prelude.{◌≡◌, ℕ, ◌<◌, ◌≤◌, ◌↔�
 ghost use Rattle.std.specs.Prelude.{IfOk, IfSome, IsSome, IsTrue, Some};
 ghost use Rattle.std.specs.Int.{to_be_bytes, w32};
 ghost use Rattle.law_model.specs.Common.{longest_frame};
-ghost use Rattle.gfp_delineate.specs.Areas.{ends_told};
+ghost use Rattle.gfp_delineate.specs.ReceivedAreas.{ends_told};
 ghost use Rattle.gfp_model.specs.fcs_model.Fcs.{fcs_type_fault, by_size, by_type};
 ghost use Rattle.gfp_noise.specs.gfp_fcs.Delineator.{FcsReceiverStands, fcs_outcomes, frame_of, info_of};
 ghost use Rattle.gfp_noise.specs.gfp_fcs.Delineator.{outcomes_told, told_fcs};

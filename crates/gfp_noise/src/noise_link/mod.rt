@@ -7,8 +7,8 @@
 ghost use Rattle.std.specs.Prelude.{◌≡◌, ◌↔◌, ℕ, List, Ok, Err};
 ghost use Rattle.gfp_noise.specs.declared.noise_link.noise_draft.Noise.{Noise};
 ghost use Rattle.gfp_noise.specs.gfp_fcs.Delineator.{fcs_outcomes};
-ghost use Rattle.gfp_noise.specs.noise_link.Text.{received, delivered, untouched, AreSingle, noise_text};
-ghost use Rattle.gfp_noise.specs.noise_link.Text.{untouched_text};
+ghost use Rattle.gfp_noise.specs.noise_link.NoiseReportText.{received, delivered, untouched, AreSingle, noise_text};
+ghost use Rattle.gfp_noise.specs.noise_link.NoiseReportText.{untouched_text};
 ghost use Rattle.std.specs.Str.Lines.{lines};
 ghost use Rattle.text_lines.specs.FirstFault.{IsFirstFault};
 ghost use Rattle.text_lines.specs.declared.text_faults.LineFault.{LineFault};

@@ -1,6 +1,6 @@
 //! The last line of a noise's text.
 ghost use Rattle.std.specs.Prelude.{◌≡◌, ◌≤◌, length, take};
-ghost use Rattle.gfp_noise.specs.noise_link.Text.{counts_text};
+ghost use Rattle.gfp_noise.specs.noise_link.NoiseReportText.{counts_text};
 
 use text_report::TextCursor;
 

@@ -1,7 +1,7 @@
 //! The receiver of a stream, and the lines of the frames that it delivers.
 ghost use Rattle.std.specs.Prelude.{◌≡◌, ℕ, ◌+◌, ◌<◌, ◌≤◌, List, [], ◌∷◌, ◌++◌};
 ghost use Rattle.law_model.specs.Common.{Start};
-ghost use Rattle.gfp_noise.specs.noise_link.Run.{Received};
+ghost use Rattle.gfp_noise.specs.noise_link.ReceivedSoFar.{Received};
 
 use crate::gfp_fcs::{FcsDelineator, FcsStep};
 use law_model::FrameOut;

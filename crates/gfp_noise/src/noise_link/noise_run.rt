@@ -2,7 +2,7 @@
 ghost use Rattle.std.specs.Prelude.{◌≡◌, IfOk, OnOk, OnErr};
 ghost use Rattle.law_model.specs.Common.{Appends, AppendsPart};
 ghost use Rattle.gfp_noise.specs.noise_link.Noise.{IsNoise};
-ghost use Rattle.gfp_noise.specs.noise_link.Text.{received, noise_text};
+ghost use Rattle.gfp_noise.specs.noise_link.NoiseReportText.{received, noise_text};
 
 use crate::gfp_fcs::FcsDelineator;
 use crate::noise_link::noise_draft::Noise;
@@ -34,7 +34,7 @@ impl Model for NoiseRun {
 
 impl NoiseRun {
     /// Makes the stream of the frames, turns its bits over, and makes a receiver.
-    #[tactic(auto, unfolding(crate::specs::noise_link::Text::received))]
+    #[tactic(auto, unfolding(crate::specs::noise_link::NoiseReportText::received))]
     pub fn new(alloc: Global, noise: &Noise) -> Result<NoiseRun, AllocError>
         requires { IsNoise noise.now }
         ensures { IfOk result (λ run. run ≡ received noise.now) }

@@ -1,6 +1,6 @@
 //! The stream of frames, and its bits that are turned over.
 ghost use Rattle.std.specs.Prelude.{◌≡◌, ℕ, List, [], ◌∷◌, ◌++◌, length, All, IfOk, OnOk, fold};
-ghost use Rattle.gfp_noise.specs.flip_law.Places.{turned, LiesIn};
+ghost use Rattle.gfp_noise.specs.flip_law.FlipPlaces.{turned, LiesIn};
 ghost use Rattle.gfp_noise.specs.flip_law.FlippedStream.{fcs_stream, IsFrame};
 ghost use Rattle.gfp_noise.specs.gfp_fcs.Encoder.{EncoderStands};
 
@@ -14,7 +14,7 @@ use std::alloc::{AllocError, Global};
 const PIECE_ROOM: usize = 9_612;
 
 /// Begins a stream with two idles.
-#[tactic(auto, using(crate::proofs::NoiseLinkLaws::StreamLaws::idles))]
+#[tactic(auto, using(crate::proofs::NoiseLinkLaws::EmptyStreamLaws::idles))]
 fn put_idles(stream: &mut Vec<u8>) -> Result<(), AllocError>
     requires { stream.old.items ≡ [] }
     ensures { OnOk result (stream.new.items ≡ fcs_stream []) }

@@ -1,8 +1,8 @@
 //! What a line of a noise's text says behind its keyword.
 ghost use Rattle.std.specs.Prelude.{◌≡◌, ◌≤◌, ◌<◌, IfOk, IfErr, None, Some};
-ghost use Rattle.text_lines.specs.Words.{words};
-ghost use Rattle.text_lines.specs.Faults.{IsLineStop};
-ghost use Rattle.text_lines.specs.Table.{rest_fault};
+ghost use Rattle.text_lines.specs.WordsOfLine.{words};
+ghost use Rattle.text_lines.specs.LineFaults.{IsLineStop};
+ghost use Rattle.text_lines.specs.LanguageTable.{rest_fault};
 ghost use Rattle.gfp_noise.specs.noise_link.NoiseTextLines.{noise_table, flip_said, frame_said};
 
 use crate::noise_link::noise_draft::Draft;

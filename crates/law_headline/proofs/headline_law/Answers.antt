@@ -1,5 +1,5 @@
 -- By the script that the text says.
-use Rattle.law_headline.proofs.HeadlineLaws.{walk_headline, run_headline, walk-same}
+use Rattle.law_headline.proofs.ScriptTextHeadlineLaws.{walk_headline, run_headline, walk-same}
 use Rattle.law_headline.proofs.headline_law.Goals as goal
 
 pub returns-clause-walk : goal.returns-clause-walk

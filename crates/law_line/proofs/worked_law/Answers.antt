@@ -1,5 +1,5 @@
 -- They compute.
-use Rattle.law_line.proofs.WorkedLaws.{is_met, are_summed, are_seventeen}
+use Rattle.law_line.proofs.WorkedLinesLaws.{is_met, are_summed, are_seventeen}
 use Rattle.law_line.proofs.worked_law.Goals as goal
 
 pub returns-clause-met : goal.returns-clause-met

@@ -5,7 +5,7 @@ use Rattle.law_model.specs.Common.{hec_of, bits, number_behind, octets_of, xors,
 use Rattle.law_model.specs.Common.{head, header_with, hunt_within, scramble_on, type_fault, idle, client, cut}
 use Rattle.law_model.specs.Common.{follow_within, delineate_within, outcomes_after_with, Segment, segments_on, segments}
 use Rattle.law_model.specs.Common.{extents, confirmed_in, IsPlaceOfPiece, StartsTrue}
-use Rattle.law_loss.specs.Worked.{worked_pieces, worked_stream, worked_rows, kept_frame}
+use Rattle.law_loss.specs.WorkedLosses.{worked_pieces, worked_stream, worked_rows, kept_frame}
 use Rattle.law_loss.proofs.worked_law.Goals as goal
 
 pub returns-clause-places : goal.returns-clause-places

@@ -1,7 +1,7 @@
 -- What each cell of a line is to the lock on the multiframe (G.707), computed over the whole list of their H4 octets.
 -- An entry is the H4 octet of a good cell, or none for a cell that is not good. The lock is this project's own.
 use Rattle.std.specs.Prelude.{ℕ, List, [], ◌∷◌, Option, Some, None}
-use Rattle.law_model.specs.members.Number.{LineLock, unlocked, Sight, unknown, sight_of, lock_after}
+use Rattle.law_model.specs.members.CellVerdicts.{LineLock, unlocked, Sight, unknown, sight_of, lock_after}
 
 -- what a cell is
 abbrev pub sight_by : LineLock → Option ℕ → Sight

@@ -6,7 +6,7 @@ use Rattle.std.specs.Prelude.{◌++◌, length, map, take, slice_index, Option, 
 use Rattle.std.specs.List.{list_all}
 use Rattle.law_model.specs.declared.control_packet.Packet.{Packet}
 use Rattle.law_model.specs.declared.control_packet.PacketFault.{PacketFault}
-use Rattle.law_model.specs.members.Number.{LineLock, unlocked, Sight, unknown, locks, at}
+use Rattle.law_model.specs.members.CellVerdicts.{LineLock, unlocked, Sight, unknown, locks, at}
 use Rattle.law_model.specs.members.Sight.{lock_by, sights_on}
 use Rattle.law_model.specs.packets.Packet.{read_of}
 

@@ -3,7 +3,7 @@
 use Rattle.std.specs.Prelude.{ℕ, zero, suc, ◌+◌, ◌*◌, ◌/◌, List, [], ◌∷◌, ◌++◌, Option, Some, None}
 use Rattle.member_cells.specs.declared.containers_and_cells.Container.{Container}
 use Rattle.member_cells.specs.declared.containers_and_cells.Cell.{Cell}
-use Rattle.law_model.specs.members.Number.{verdict}
+use Rattle.law_model.specs.members.CellVerdicts.{verdict}
 
 -- the upper half of the H4 octet of a number, where it is whole
 abbrev pub upper_of : Option (Option Container) → Option ℕ

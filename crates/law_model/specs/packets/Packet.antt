@@ -6,9 +6,9 @@
 use Rattle.std.specs.Prelude.{ℕ, ◌+◌, ◌*◌, ◌/◌, ◌%◌, ◌<◌, ◌==◌, nat_lt, ◌&&◌, Bool, if◌then◌else◌, List, [], ◌∷◌, ◌++◌}
 use Rattle.std.specs.Prelude.{length, take, slice_index, Option, Some, None, Result, Ok, Err}
 use Rattle.std.specs.List.{list_all}
-use Rattle.check_nibbles.specs.Check.{crc8_of}
+use Rattle.check_nibbles.specs.NibbleCheck.{crc8_of}
 use Rattle.member_cells.specs.declared.control_word.Ctrl.{Ctrl}
-use Rattle.member_cells.specs.Code.{code_of, ctrl_of}
+use Rattle.member_cells.specs.ControlCode.{code_of, ctrl_of}
 use Rattle.law_model.specs.declared.control_packet.Packet.{Packet}
 use Rattle.law_model.specs.declared.control_packet.PacketFault.{PacketFault}
 use Rattle.law_model.specs.declared.control_packet.PacketFault.TheVariants.{Crc, Ctrl as CtrlFault}

@@ -10,9 +10,9 @@ use Rattle.law_model.specs.members.Timers.{last_read}
 use Rattle.law_model.specs.session.Scenario.{Scenario, carried_by, is_read, is_heard}
 use Rattle.law_model.specs.source.Table.{Table, Told, active}
 use Rattle.law_model.specs.source.Source.{table_of}
-use Rattle.law_model.specs.source.Back.{is_line, word}
+use Rattle.law_model.specs.source.SessionReturns.{is_line, word}
 use Rattle.law_model.specs.packets.Forward.{forward_packet}
-use Rattle.law_model.specs.packets.Telling.{telling, telling_at}
+use Rattle.law_model.specs.packets.TellsOtherWay.{telling, telling_at}
 use Rattle.law_model.specs.packets.ReturnPacket.{Row}
 
 -- packet k of a number of lines, by line, of those that can be read: each tells the same

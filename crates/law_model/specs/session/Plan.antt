@@ -8,7 +8,7 @@ use Rattle.law_model.specs.declared.script_types.Config.{Config}
 use Rattle.law_model.specs.declared.script_types.Item.{Item}
 use Rattle.law_model.specs.members.Damage.{carried, slip_of}
 use Rattle.law_model.specs.members.Path.{cells}
-use Rattle.law_model.specs.members.Number.{LineLock, unlocked, begun, locked, over, Reading, reading_of}
+use Rattle.law_model.specs.members.CellVerdicts.{LineLock, unlocked, begun, locked, over, Reading, reading_of}
 use Rattle.law_model.specs.session.Counts.{LinePath, dues_of, Plan}
 
 -- how many numbers are decided, of a total, where so far a count of them has a verdict: End decides all

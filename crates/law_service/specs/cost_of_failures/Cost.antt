@@ -6,7 +6,7 @@ use Rattle.law_model.specs.Common.{Leg, scenario_by, is_lost, Table, table_of, i
 use Rattle.law_model.specs.declared.window_types.Window.{Window}
 use Rattle.law_model.specs.session.Scenario.{packets_in}
 use Rattle.law_session.specs.Feedback.{lines_of, table_before}
-use Rattle.law_session.specs.Use.{IsInUse}
+use Rattle.law_session.specs.LineInUse.{IsInUse}
 use Rattle.law_walk.specs.Common.{session_of, IsClear}
 
 -- the windows of a line. A line that isn't configured has none

@@ -2,7 +2,7 @@
 use Rattle.std.specs.Prelude.{◌≡◌, ◌⊎◌, ℕ, ◌+◌, ◌*◌, ◌≤◌, [], All, None}
 use Rattle.law_model.specs.Common.{Leg, DueCommand, scenario_by, orders_of, kept_of, exchange, after, told_at}
 use Rattle.law_model.specs.source.Source.{carried}
-use Rattle.law_session.specs.Use.{IsAdded}
+use Rattle.law_session.specs.LineInUse.{IsAdded}
 use Rattle.law_walk.specs.Common.{session_of}
 use Rattle.law_service.specs.cost_of_failures.Cost.{first_hit, table_at}
 

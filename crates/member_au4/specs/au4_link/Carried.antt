@@ -1,12 +1,12 @@
 -- What comes of numbered VC-4s over a link, by the frames that are sent and taken.
 use Rattle.std.specs.Prelude.{ℕ, List, ◌++◌, length}
 use Rattle.member_au4.specs.declared.au4_pointer.au_frame.AuFrame.{AuFrame}
-use Rattle.member_au4.specs.au4_pointer.Part.{begun, part_after}
+use Rattle.member_au4.specs.au4_pointer.StreamPart.{begun, part_after}
 use Rattle.member_au4.specs.au4_pointer.Sink.{given}
-use Rattle.member_au4.specs.au4_pointer.Sent.{sent}
+use Rattle.member_au4.specs.au4_pointer.SentFrames.{sent}
 use Rattle.member_au4.specs.declared.au4_link.au4_draft.Link.{Link}
 use Rattle.member_au4.specs.au4_link.Vcs.{first_vcs}
-use Rattle.member_au4.specs.au4_link.Text.{vc_texts, end_text, cuts}
+use Rattle.member_au4.specs.au4_link.LinkReportText.{vc_texts, end_text, cuts}
 
 -- the numbered VC-4s that begin on a link
 abbrev pub link_vcs : Link → List (List ℕ)

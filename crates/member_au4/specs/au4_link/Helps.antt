@@ -1,7 +1,7 @@
 -- What is said of how to write a faulty line of a link's text.
 use Rattle.std.specs.Prelude.{ℕ, ◌+◌, List, ◌++◌, codes, decimal}
 use Rattle.text_lines.specs.declared.text_faults.LineFault.{LineFault}
-use Rattle.text_help.specs.Helps.{fault_text}
+use Rattle.text_help.specs.LineHelpTexts.{fault_text}
 use Rattle.member_au4.specs.declared.au4_link.au4_keyword.Keyword.{Keyword}
 use Rattle.member_au4.specs.declared.au4_link.au4_keyword.Keyword.TheVariants as word
 use Rattle.member_au4.specs.declared.au4_link.au4_text_fault.Early.{Early}

@@ -1,9 +1,9 @@
 -- The link that a text says, or its first fault.
 use Rattle.std.specs.Prelude.{◌≤◌, ℕ, ◌-◌, List, ◌++◌, length, replicate, Result}
-use Rattle.text_lines.specs.Table.{said_in, formed}
+use Rattle.text_lines.specs.LanguageTable.{said_in, formed}
 use Rattle.text_lines.specs.declared.text_faults.LineFault.{LineFault}
 use Rattle.member_au4.specs.declared.au4_pointer.au_frame.Action.TheVariants.{Keep}
-use Rattle.member_au4.specs.au4_pointer.Sent.{AreAccepted}
+use Rattle.member_au4.specs.au4_pointer.SentFrames.{AreAccepted}
 use Rattle.member_au4.specs.declared.au4_link.au4_keyword.Keyword.{Keyword}
 use Rattle.member_au4.specs.declared.au4_link.au4_text_fault.Early.{Early}
 use Rattle.member_au4.specs.declared.au4_link.au4_draft.Draft.{Draft}

@@ -2,10 +2,10 @@
 use Rattle.std.specs.Prelude.{ℕ, ◌+◌, ◌-◌, ◌==◌, nat_lt, List, [], ◌∷◌, ◌++◌, length, replicate, Option, Some, None}
 use Rattle.std.specs.Prelude.{option_map, codes, bytes_eq, if◌then◌else◌}
 use Rattle.std.specs.Option.{option_or}
-use Rattle.text_lines.specs.Words.{number_at}
+use Rattle.text_lines.specs.WordsOfLine.{number_at}
 use Rattle.text_lines.specs.Fields.{Field, within, where_true, fields_fault}
 use Rattle.text_lines.specs.Language.{Language}
-use Rattle.text_lines.specs.Table.{Table, Told, language_of, count_fault}
+use Rattle.text_lines.specs.LanguageTable.{Table, Told, language_of, count_fault}
 use Rattle.text_lines.specs.declared.text_faults.LineFault.{LineFault}
 use Rattle.text_lines.specs.declared.text_faults.LineFault.TheVariants as wrong
 use Rattle.member_au4.specs.declared.au4_pointer.au_frame.Action.{Action}

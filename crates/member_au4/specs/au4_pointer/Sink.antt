@@ -4,8 +4,8 @@ use Rattle.std.specs.Prelude.{Some, None, Result, Ok, Err}
 use Rattle.std.specs.Result.{result_err}
 use Rattle.std.specs.List.{concat, fold}
 use Rattle.law_model.specs.Common.{Start}
-use Rattle.member_au4.specs.au4_pointer.Word.{next_value, reading}
-use Rattle.member_au4.specs.au4_pointer.Part.{AreVcs}
+use Rattle.member_au4.specs.au4_pointer.PointerWord.{next_value, reading}
+use Rattle.member_au4.specs.au4_pointer.StreamPart.{AreVcs}
 use Rattle.member_au4.specs.declared.au4_pointer.au_frame.Action.{Action}
 use Rattle.member_au4.specs.declared.au4_pointer.au_frame.Action.TheVariants.{Keep, Up, Down, New}
 use Rattle.member_au4.specs.declared.au4_pointer.au_frame.AuFrame.{AuFrame}

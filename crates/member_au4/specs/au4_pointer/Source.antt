@@ -3,8 +3,8 @@ use Rattle.std.specs.Prelude.{◌≡◌, ℕ, ◌-◌, ◌*◌, ◌<◌, ◌≤�
 use Rattle.std.specs.Prelude.{replicate}
 use Rattle.std.specs.List.{concat}
 use Rattle.law_model.specs.Common.{Start}
-use Rattle.member_au4.specs.au4_pointer.Word.{value_after, new_wait, word_of}
-use Rattle.member_au4.specs.au4_pointer.Part.{Part, AreVcs, octets_of, begun, next_part, part_after, flow}
+use Rattle.member_au4.specs.au4_pointer.PointerWord.{value_after, new_wait, word_of}
+use Rattle.member_au4.specs.au4_pointer.StreamPart.{Part, AreVcs, octets_of, begun, next_part, part_after, flow}
 use Rattle.member_au4.specs.declared.au4_pointer.au_frame.Action.{Action}
 use Rattle.member_au4.specs.declared.au4_pointer.au_frame.Action.TheVariants.{Keep, Up, Down, New}
 use Rattle.member_au4.specs.declared.au4_pointer.au_frame.AuFrame.{AuFrame}

@@ -1,6 +1,6 @@
 //! What comes of a link, as lines.
 ghost use Rattle.std.specs.Prelude.{◌≡◌, ◌≤◌, length, take};
-ghost use Rattle.member_au4.specs.au4_link.Text.{end_text};
+ghost use Rattle.member_au4.specs.au4_link.LinkReportText.{end_text};
 
 use crate::au4_link::text_of_vc::vc_line;
 use crate::au4_pointer::VcOut;
@@ -34,7 +34,7 @@ pub(super) struct VcTexts<'a, K> {
 }
 
 impl<'a, K: ByteSink> VcOut for VcTexts<'a, K> {
-    ghost use Rattle.member_au4.specs.au4_link.Text.{HasVcs};
+    ghost use Rattle.member_au4.specs.au4_link.LinkReportText.{HasVcs};
 
     ghost stands_for = { λ out start vcs.
         HasVcs K.written K.faults out.lines out.back start vcs };

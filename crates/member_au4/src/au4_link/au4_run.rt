@@ -2,8 +2,9 @@
 ghost use Rattle.std.specs.Prelude.{◌≡◌, ◌≤◌, [], length, OnOk, OnErr};
 ghost use Rattle.law_model.specs.Common.{Start, Appends, AppendsPart};
 ghost use Rattle.member_au4.specs.au4_link.Link.{IsLink};
-ghost use Rattle.member_au4.specs.au4_pointer.Sent.{AreAccepted};
-ghost use Rattle.member_au4.specs.au4_link.Text.{back_of, cut_after, end_text, counts_text, text_of, link_text, HasVcs};
+ghost use Rattle.member_au4.specs.au4_pointer.SentFrames.{AreAccepted};
+ghost use Rattle.member_au4.specs.au4_link.LinkReportText.{back_of, cut_after, end_text, counts_text};
+ghost use Rattle.member_au4.specs.au4_link.LinkReportText.{text_of, link_text, HasVcs};
 
 use crate::au4_link::au4_draft::Link;
 use crate::au4_link::au4_report::{Counts, END_ROOM, VcTexts, end_line};

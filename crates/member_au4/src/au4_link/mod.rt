@@ -11,12 +11,12 @@ ghost use Rattle.member_au4.specs.declared.au4_link.au4_keyword.Keyword.{Keyword
 ghost use Rattle.member_au4.specs.declared.au4_link.au4_text_fault.Early.{Early};
 ghost use Rattle.text_lines.specs.FirstFault.{IsFirstFault};
 ghost use Rattle.member_au4.specs.au4_link.LinkTextLines.{link_lines};
-ghost use Rattle.member_au4.specs.au4_pointer.Part.{AreVcs, whole};
+ghost use Rattle.member_au4.specs.au4_pointer.StreamPart.{AreVcs, whole};
 ghost use Rattle.member_au4.specs.au4_pointer.Sink.{given};
-ghost use Rattle.member_au4.specs.au4_pointer.Sent.{AreTaken};
+ghost use Rattle.member_au4.specs.au4_pointer.SentFrames.{AreTaken};
 ghost use Rattle.member_au4.specs.declared.au4_link.au4_draft.Link.{Link};
 ghost use Rattle.member_au4.specs.au4_link.Vcs.{first_vcs};
-ghost use Rattle.member_au4.specs.au4_link.Text.{link_text};
+ghost use Rattle.member_au4.specs.au4_link.LinkReportText.{link_text};
 ghost use Rattle.member_au4.specs.au4_link.Carried.{link_vcs, link_frames, carried_text};
 ghost use Rattle.member_au4.specs.au4_link.Link.{link_of, IsLink};
 

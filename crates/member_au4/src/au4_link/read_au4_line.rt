@@ -1,8 +1,8 @@
 //! What a line of a link's text says behind its keyword.
 ghost use Rattle.std.specs.Prelude.{◌≡◌, ◌≤◌, length, IfOk, IfErr, None, Some};
-ghost use Rattle.text_lines.specs.Words.{words, number_at};
-ghost use Rattle.text_lines.specs.Faults.{IsLineStop};
-ghost use Rattle.text_lines.specs.Table.{rest_fault};
+ghost use Rattle.text_lines.specs.WordsOfLine.{words, number_at};
+ghost use Rattle.text_lines.specs.LineFaults.{IsLineStop};
+ghost use Rattle.text_lines.specs.LanguageTable.{rest_fault};
 ghost use Rattle.text_lines.specs.declared.text_faults.LineFault.TheVariants as wrong;
 ghost use Rattle.member_au4.specs.au4_link.LinkTextLines.{link_table, least_next, last_named, move_fault};
 

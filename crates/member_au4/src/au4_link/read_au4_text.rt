@@ -1,6 +1,6 @@
 //! The reader of a whole text.
 ghost use Rattle.std.specs.Prelude.{◌≡◌, ◌≤◌, ◌-◌, ◌++◌, ◌∷◌, [], length, vec_len, replicate, IfOk, IfErr, OnOk, Ok};
-ghost use Rattle.text_lines.specs.Faults.{IsTextFault};
+ghost use Rattle.text_lines.specs.LineFaults.{IsTextFault};
 ghost use Rattle.law_model.specs.Limits.{longest_input};
 ghost use Rattle.member_au4.specs.declared.au4_pointer.au_frame.Action.TheVariants.{Keep};
 ghost use Rattle.member_au4.specs.au4_link.Link.{link_in, link_of, IsLink};

@@ -5,7 +5,7 @@
 //! memory. Groups of lines and text are not here.
 
 mod au_frame;
-mod part_octets;
+mod copy_and_zero;
 mod pointer_laws;
 mod pointer_relay;
 mod pointer_sink;

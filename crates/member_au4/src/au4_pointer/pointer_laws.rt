@@ -1,11 +1,11 @@
 //! What is proved of pointers from end to end.
 ghost use Rattle.std.specs.Prelude.{◌≡◌, ◌≢◌, ℕ, ◌+◌, ◌-◌, ◌*◌, ◌%◌, ◌<◌, ◌≤◌, ◌↔◌, List, [], ◌∷◌, ◌++◌, length};
 ghost use Rattle.std.specs.Prelude.{replicate, Some, None, Err};
-ghost use Rattle.member_au4.specs.au4_pointer.Word.{word_of, next_value, value_after, new_wait, reading};
-ghost use Rattle.member_au4.specs.au4_pointer.Part.{Part, AreVcs, begins, ends, begun, part_after, whole};
+ghost use Rattle.member_au4.specs.au4_pointer.PointerWord.{word_of, next_value, value_after, new_wait, reading};
+ghost use Rattle.member_au4.specs.au4_pointer.StreamPart.{Part, AreVcs, begins, ends, begun, part_after, whole};
 ghost use Rattle.member_au4.specs.au4_pointer.Sink.{given, added};
 ghost use Rattle.member_au4.specs.au4_pointer.Source.{frame_after};
-ghost use Rattle.member_au4.specs.au4_pointer.Sent.{sent, datas_from, datas, AreAccepted, AreTaken};
+ghost use Rattle.member_au4.specs.au4_pointer.SentFrames.{sent, datas_from, datas, AreAccepted, AreTaken};
 ghost use Rattle.member_au4.specs.au4_pointer.Worked.{worked_actions, worked_vcs};
 
 use crate::au4_pointer::au_frame::{Action, AuFrame};

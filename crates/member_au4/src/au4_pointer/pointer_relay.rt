@@ -3,8 +3,8 @@
 ghost use Rattle.std.specs.Prelude.{◌≡◌, ℕ, List, [], ◌∷◌, ◌++◌, OnOk, OnErr};
 ghost use Rattle.std.specs.Result.{result_err};
 ghost use Rattle.law_model.specs.Common.{Start};
-ghost use Rattle.member_au4.specs.au4_pointer.Word.{fault_after};
-ghost use Rattle.member_au4.specs.au4_pointer.Link.{Carries, IsLinked};
+ghost use Rattle.member_au4.specs.au4_pointer.PointerWord.{fault_after};
+ghost use Rattle.member_au4.specs.au4_pointer.SourceToSink.{Carries, IsLinked};
 
 use crate::au4_pointer::{
     Action, AuFrame, PointerFault, PointerSink, PointerSource, VcFeed, VcOut,

@@ -4,11 +4,11 @@ ghost use Rattle.std.specs.Prelude.{◌≡◌, ℕ, ◌+◌, ◌-◌, ◌<◌, �
 ghost use Rattle.std.specs.Prelude.{OnErr};
 ghost use Rattle.std.specs.Result.{result_err};
 ghost use Rattle.law_model.specs.Common.{Start};
-ghost use Rattle.member_au4.specs.au4_pointer.Word.{reading, moving, beginning};
+ghost use Rattle.member_au4.specs.au4_pointer.PointerWord.{reading, moving, beginning};
 ghost use Rattle.member_au4.specs.au4_pointer.Sink.{PointerSinkStands, Gives, due, data_of, value_behind};
 ghost use Rattle.member_au4.specs.au4_pointer.Sink.{word_fault, added};
 
-use crate::au4_pointer::part_octets::copy_some;
+use crate::au4_pointer::copy_and_zero::copy_some;
 use crate::au4_pointer::pointer_source::next_value;
 use crate::au4_pointer::{Action, AuFrame, VC};
 use std::marker::Model;
@@ -179,7 +179,7 @@ impl PointerSink {
 }
 
 /// The octets of data in the body of an Up frame.
-#[tactic(auto, using(crate::proofs::Au4PointerLaws::ArrayLaws::behind_three))]
+#[tactic(auto, using(crate::proofs::Au4PointerLaws::ArrayPartLaws::behind_three))]
 fn behind_zeros(body: &[u8; VC]) -> &[u8]
     ensures { result.now ≡ drop 3 body.now }
 {

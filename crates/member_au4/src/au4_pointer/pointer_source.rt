@@ -4,10 +4,11 @@ ghost use Rattle.std.specs.Prelude.{◌≡◌, ℕ, ◌+◌, ◌-◌, ◌*◌, �
 ghost use Rattle.std.specs.Prelude.{replicate, OnOk, OnErr, IfNone};
 ghost use Rattle.std.specs.Result.{result_err};
 ghost use Rattle.law_model.specs.Common.{Start};
-ghost use Rattle.member_au4.specs.au4_pointer.Word.{word_of, next_value, next_wait, move_wait, too_soon, fault_after};
+ghost use Rattle.member_au4.specs.au4_pointer.PointerWord.{word_of, next_value, next_wait, move_wait};
+ghost use Rattle.member_au4.specs.au4_pointer.PointerWord.{too_soon, fault_after};
 ghost use Rattle.member_au4.specs.au4_pointer.Source.{PointerSourceStands, Asks, Refills, Writes, Sends, IsValid};
 
-use crate::au4_pointer::part_octets::{copy_some, zero_some};
+use crate::au4_pointer::copy_and_zero::{copy_some, zero_some};
 use crate::au4_pointer::{Action, AuFrame, VC};
 use std::marker::Model;
 
@@ -172,7 +173,7 @@ impl PointerSource {
     }
 
     /// Begins a part.
-    #[tactic(auto, using(crate::proofs::Au4PointerLaws::ArrayLaws::none_left))]
+    #[tactic(auto, using(crate::proofs::Au4PointerLaws::ArrayPartLaws::none_left))]
     fn begin(&mut self, p: u16)
         requires { p ≤ 782 }
         ensures value { self.new.value ≡ self.old.value }

@@ -5,7 +5,7 @@ use Rattle.law_model.specs.declared.window_types.Carried.{Carried}
 use Rattle.law_model.specs.declared.window_types.Carried.TheVariants.{Whole, Fails, Vanishes}
 use Rattle.member_path.specs.declared.cell_numbers.signs_and_verdicts.CellSign.{CellSign}
 use Rattle.member_path.specs.declared.cell_numbers.signs_and_verdicts.CellSign.TheVariants.{Good, Fail}
-use Rattle.member_path.specs.cell_numbers.Told.{cell_with}
+use Rattle.member_path.specs.cell_numbers.SignsAsCells.{cell_with}
 
 -- where the container of a good cell lies in this place
 abbrev pub carry_cells : Option CellSign → Container → List Cell

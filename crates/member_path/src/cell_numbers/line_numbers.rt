@@ -3,7 +3,7 @@
 ghost use Rattle.std.specs.Prelude.{◌≡◌, ℕ, ◌+◌, ◌<◌, List, [], ◌∷◌, ◌++◌, Option, IfSome, IfNone, IsTrue, IsFalse};
 ghost use Rattle.std.specs.Prelude.{◌↔◌, option_map};
 ghost use Rattle.law_model.specs.Common.{Container, Cell, ahead, verdict};
-ghost use Rattle.member_path.specs.cell_numbers.Told.{cell_with, told_by};
+ghost use Rattle.member_path.specs.cell_numbers.SignsAsCells.{cell_with, told_by};
 ghost use Rattle.member_path.specs.cell_numbers.Numbers.{IsOpen, is_open, NumbersStand};
 
 use crate::cell_numbers::{CellSign, Verdict};

@@ -1,6 +1,6 @@
 //! What can be wrong with a list of windows, and the test that finds it.
 ghost use Rattle.std.specs.Prelude.{◌≡◌, ◌≤◌, length};
-ghost use Rattle.member_path.specs.failure_window.Fault.{fault_of, window_fault};
+ghost use Rattle.member_path.specs.failure_window.FaultOfList.{fault_of, window_fault};
 
 use law_model::Window;
 use thiserror::Error;

@@ -3,9 +3,9 @@ ghost use Rattle.std.specs.Prelude.{◌≡◌, ◌↔◌, ℕ, ◌-◌, ◌<◌,
 ghost use Rattle.law_model.specs.Common.{is_damaged, AreWindows, slip_of};
 ghost use Rattle.law_model.specs.declared.window_types.Window.{Window};
 ghost use Rattle.law_model.specs.members.Damage.{carried};
-ghost use Rattle.member_path.specs.failure_window.Fault.{window_fault};
-ghost use Rattle.member_path.specs.failure_window.Near.{IsRun};
-ghost use Rattle.member_path.specs.failure_window.Open.{CanClose, closed_at, failure, last_end, opened_at};
+ghost use Rattle.member_path.specs.failure_window.FaultOfList.{window_fault};
+ghost use Rattle.member_path.specs.failure_window.NearWindows.{IsRun};
+ghost use Rattle.member_path.specs.failure_window.OpenWindows.{CanClose, closed_at, failure, last_end, opened_at};
 
 use law_model::Carried;
 

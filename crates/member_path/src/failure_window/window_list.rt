@@ -4,9 +4,9 @@ ghost use Rattle.std.specs.Prelude.{IfNone, IsOkUnless, vec_capacity};
 ghost use Rattle.law_model.specs.Common.{carried_in, AreWindows, slip_of};
 ghost use Rattle.law_model.specs.declared.window_types.Window.{Window};
 ghost use Rattle.law_model.specs.members.Damage.{carried};
-ghost use Rattle.member_path.specs.failure_window.Above.{IsFirstAbove};
-ghost use Rattle.member_path.specs.failure_window.Fault.{window_fault};
-ghost use Rattle.member_path.specs.failure_window.Open.{AreKept, CanClose, closed_at, last_end, opened_at};
+ghost use Rattle.member_path.specs.failure_window.WindowsAbove.{IsFirstAbove};
+ghost use Rattle.member_path.specs.failure_window.FaultOfList.{window_fault};
+ghost use Rattle.member_path.specs.failure_window.OpenWindows.{AreKept, CanClose, closed_at, last_end, opened_at};
 
 use crate::failure_window::window_fault::{WindowFault, first_fault};
 use law_model::{Carried, Window};

@@ -4,8 +4,8 @@ ghost use Rattle.law_model.specs.Common.{Container, cells_of, cells};
 ghost use Rattle.law_model.specs.declared.window_types.Carried.{Carried};
 ghost use Rattle.law_model.specs.declared.window_types.Window.{Window};
 ghost use Rattle.law_model.specs.members.Damage.{carried};
-ghost use Rattle.member_path.specs.failure_window.Agree.{AgreeBelow};
-ghost use Rattle.member_path.specs.path_delay.Line.{Calls, path_cells, with_windows};
+ghost use Rattle.member_path.specs.failure_window.AgreeingWindows.{AgreeBelow};
+ghost use Rattle.member_path.specs.path_delay.CallsOnDelayedLine.{Calls, path_cells, with_windows};
 
 use member_cells::Cell;
 

@@ -3,7 +3,7 @@ ghost use Rattle.std.specs.Prelude.{◌≡◌, ◌≢◌, ◌+◌, ◌-◌, ◌<
 ghost use Rattle.std.specs.Prelude.{Some, IfOk};
 ghost use Rattle.law_model.specs.Common.{Container, cells_of};
 ghost use Rattle.member_path.specs.path_delay.Carry.{carry_cells, carry_for};
-ghost use Rattle.member_path.specs.path_delay.Line.{stored};
+ghost use Rattle.member_path.specs.path_delay.CallsOnDelayedLine.{stored};
 
 use crate::cell_numbers::CellSign;
 use circular_buffer::HeapCircularBuffer;
@@ -24,7 +24,7 @@ pub(super) struct Store {
 
 impl Model for Store {
     ghost use Rattle.std.specs.Prelude.{map, length};
-    ghost use Rattle.member_path.specs.path_delay.Line.{Stored};
+    ghost use Rattle.member_path.specs.path_delay.CallsOnDelayedLine.{Stored};
 
     ghost Value = { Stored };
 

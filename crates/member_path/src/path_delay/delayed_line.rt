@@ -2,11 +2,11 @@
 ghost use Rattle.std.specs.Prelude.{◌≡◌, ◌≢◌, ◌-◌, ◌<◌, ◌≤◌, ◌↔◌, ◌++◌, IfOk, Some, IfSome, IfNone, IsTrue};
 ghost use Rattle.std.specs.Prelude.{Contains, length};
 ghost use Rattle.law_model.specs.members.Damage.{carried};
-ghost use Rattle.member_path.specs.failure_window.Open.{CanClose, closed_at, last_end, opened_at};
+ghost use Rattle.member_path.specs.failure_window.OpenWindows.{CanClose, closed_at, last_end, opened_at};
 ghost use Rattle.member_path.specs.path_delay.Carry.{carry_cells};
-ghost use Rattle.member_path.specs.path_delay.Line.{Line, IsLine, Calls, opened, and_push, and_flush};
-ghost use Rattle.member_path.specs.path_delay.Line.{path_cells, DelayStands, Counts};
-ghost use Rattle.member_path.specs.path_delay.Line.{IsEnded, and_cut, and_mend};
+ghost use Rattle.member_path.specs.path_delay.CallsOnDelayedLine.{Line, IsLine, Calls, opened, and_push, and_flush};
+ghost use Rattle.member_path.specs.path_delay.CallsOnDelayedLine.{path_cells, DelayStands, Counts};
+ghost use Rattle.member_path.specs.path_delay.CallsOnDelayedLine.{IsEnded, and_cut, and_mend};
 
 use crate::cell_numbers::CellSign;
 use crate::failure_window::Windows;

@@ -2,7 +2,7 @@
 use Rattle.std.specs.Prelude.{ℕ, List}
 use Rattle.law_model.specs.Common.{Container, Cell}
 use Rattle.member_path.specs.cell_numbers.Numbers.{Numbers, NumbersStand}
-use Rattle.member_rows.specs.realign_rows.Begun.{Begun, HasNibbles}
+use Rattle.member_rows.specs.realign_rows.BegunNibbles.{Begun, HasNibbles}
 
 pub record Line : Type 0 where
   pub numbers : Numbers

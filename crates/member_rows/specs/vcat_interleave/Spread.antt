@@ -1,7 +1,7 @@
 -- What spreading a row over the members of a group leaves.
 use Rattle.std.specs.Prelude.{◌≡◌, ◌≢◌, ℕ, ◌<◌, ◌≤◌, List, length, slice_index, slice_index_or}
 use Rattle.law_model.specs.Common.{Container, part_of}
-use Rattle.member_rows.specs.vcat_interleave.Members.{with_octets}
+use Rattle.member_rows.specs.vcat_interleave.MemberPayloads.{with_octets}
 
 -- a row is spread over the members of the ranks from one on and below another: each of them has its part at these
 -- places, and nothing

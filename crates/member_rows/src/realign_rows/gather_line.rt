@@ -2,9 +2,9 @@
 
 ghost use Rattle.std.specs.Prelude.{◌≡◌, ℕ, ◌+◌, ◌%◌, ◌<◌, List, [], ◌∷◌, ◌++◌, Some, IfSome};
 ghost use Rattle.law_model.specs.Common.{Container, Cell, verdict, upper_of};
-ghost use Rattle.member_path.specs.cell_numbers.Told.{cell_with, told_by};
+ghost use Rattle.member_path.specs.cell_numbers.SignsAsCells.{cell_with, told_by};
 ghost use Rattle.member_path.specs.cell_numbers.Numbers.{IsOpen, is_open};
-ghost use Rattle.member_rows.specs.realign_rows.Begun.{packet_at};
+ghost use Rattle.member_rows.specs.realign_rows.BegunNibbles.{packet_at};
 ghost use Rattle.member_rows.specs.realign_rows.Line.{LineStands};
 
 use crate::lcas_packet::Packet;

@@ -2,7 +2,7 @@
 
 ghost use Rattle.std.specs.Prelude.{◌≡◌, ◌==◌, ◌||◌, ℕ, ◌+◌, ◌%◌, ◌<◌, List, IfSome};
 ghost use Rattle.law_model.specs.Common.{Cell, verdict, upper_of};
-ghost use Rattle.member_rows.specs.realign_rows.Begun.{HasNibbles, packet_at};
+ghost use Rattle.member_rows.specs.realign_rows.BegunNibbles.{HasNibbles, packet_at};
 
 use crate::lcas_packet::{Packet, read};
 use std::marker::Model;
@@ -20,7 +20,7 @@ pub(super) struct PacketNibbles {
 
 impl Model for PacketNibbles {
     ghost use Rattle.std.specs.Prelude.{◌≡◌, ◌<◌, All};
-    ghost use Rattle.member_rows.specs.realign_rows.Begun.{Begun};
+    ghost use Rattle.member_rows.specs.realign_rows.BegunNibbles.{Begun};
 
     ghost Value = { Begun };
 

@@ -3,14 +3,14 @@
 ghost use Rattle.std.specs.Prelude.{◌≡◌, ℕ, ◌+◌, ◌%◌, ◌<◌, ◌≤◌, List, [], length, replicate, slice_get, slice_set};
 ghost use Rattle.std.specs.Prelude.{Some, None, IfOk};
 ghost use Rattle.law_model.specs.Common.{Container, Cell, verdict, governing, first_open};
-ghost use Rattle.member_cells.specs.Held.{held};
-ghost use Rattle.member_path.specs.cell_numbers.Told.{cell_with, told_by};
+ghost use Rattle.member_cells.specs.HeldPlaces.{held};
+ghost use Rattle.member_path.specs.cell_numbers.SignsAsCells.{cell_with, told_by};
 ghost use Rattle.member_path.specs.cell_numbers.Numbers.{IsOpen};
 ghost use Rattle.member_rows.specs.realign_rows.Line.{Line};
 ghost use Rattle.member_rows.specs.realign_rows.Gather.{GatherStands, line_count, IsOpenAt, AreDecided};
 ghost use Rattle.member_rows.specs.realign_rows.Gather.{decided_lines, open_line};
 ghost use Rattle.member_rows.specs.realign_rows.Gather.{waiting_of, Allows, with_cell};
-ghost use Rattle.member_rows.specs.realign_rows.Loops.{AreNew, ArePassed, AreRead};
+ghost use Rattle.member_rows.specs.realign_rows.LineByLine.{AreNew, ArePassed, AreRead};
 
 use crate::lcas_packet::Packet;
 use crate::realign_rows::RowAnswer;
@@ -35,7 +35,7 @@ pub struct RowGather {
 
 impl Model for RowGather {
     ghost use Rattle.std.specs.Prelude.{◌≡◌, ◌≤◌, length};
-    ghost use Rattle.member_cells.specs.Held.{held};
+    ghost use Rattle.member_cells.specs.HeldPlaces.{held};
     ghost use Rattle.member_rows.specs.realign_rows.Gather.{Gather, decided_lines};
 
     ghost Value = { Gather };

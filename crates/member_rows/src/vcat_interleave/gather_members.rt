@@ -1,10 +1,10 @@
 //! The members of a group are gathered into a row.
 ghost use Rattle.std.specs.Prelude.{◌≡◌, ◌≢◌, ℕ, [], ◌+◌, ◌*◌, ◌%◌, ◌<◌, ◌≤◌, ◌⊎◌, length, take, slice_index};
 ghost use Rattle.std.specs.Prelude.{slice_index_or};
-ghost use Rattle.member_cells.specs.Held.{held};
+ghost use Rattle.member_cells.specs.HeldPlaces.{held};
 ghost use Rattle.law_model.specs.Common.{octets_from, vc4_size};
 ghost use Rattle.member_rows.specs.vcat_interleave.Square.{octet_at};
-ghost use Rattle.member_rows.specs.vcat_interleave.Members.{payloads_of, AreLines};
+ghost use Rattle.member_rows.specs.vcat_interleave.MemberPayloads.{payloads_of, AreLines};
 
 use crate::vcat_interleave::octets_of_member::{put_pairs, put_rank};
 use crate::vcat_interleave::transpose_square::{

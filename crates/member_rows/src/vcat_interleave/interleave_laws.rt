@@ -3,7 +3,7 @@ ghost use Rattle.std.specs.Prelude.{◌≡◌, ℕ, ◌+◌, ◌*◌, ◌/◌, �
 ghost use Rattle.std.specs.Prelude.{slice_index_or, Contains, All};
 ghost use Rattle.law_model.specs.rows.Interleave.{row_of};
 ghost use Rattle.law_model.specs.Common.{part_of, parts_of, octets_from};
-ghost use Rattle.member_rows.specs.vcat_interleave.Gathered.{GathersAll};
+ghost use Rattle.member_rows.specs.vcat_interleave.GatheredRow.{GathersAll};
 
 /// Octet `i` of a row goes to the member of rank `i mod x`, place `i div x`. The row of the parts of a row is
 /// that row, and the parts of the row of some members are what these carry. A row goes on where a piece of it

@@ -1,7 +1,7 @@
 //! The octets of one member in a row.
 ghost use Rattle.std.specs.Prelude.{◌≡◌, ◌≢◌, ℕ, ◌+◌, ◌*◌, ◌%◌, ◌<◌, ◌≤◌, true, ◌++◌, length, slice_index};
 ghost use Rattle.law_model.specs.Common.{part_of};
-ghost use Rattle.member_rows.specs.vcat_interleave.Again.{ComesAgain};
+ghost use Rattle.member_rows.specs.vcat_interleave.RepeatedRow.{ComesAgain};
 
 use crate::vcat_interleave::transpose_square::{SIDE, octets_of, put_octets};
 use std::simd::prelude::*;

@@ -2,10 +2,10 @@
 ghost use Rattle.std.specs.Prelude.{◌≡◌, ◌≢◌, ℕ, ◌+◌, ◌-◌, ◌*◌, ◌/◌, ◌<◌, ◌≤◌, ◌++◌, length, take, drop};
 ghost use Rattle.std.specs.Prelude.{true, replicate, slice_index, slice_index_or, slice_set};
 ghost use Rattle.law_model.specs.Common.{Container, part_of, vc4_size};
-ghost use Rattle.member_rows.specs.vcat_interleave.Again.{ComesAgain};
+ghost use Rattle.member_rows.specs.vcat_interleave.RepeatedRow.{ComesAgain};
 ghost use Rattle.member_rows.specs.vcat_interleave.Square.{octet_at, overhang};
-ghost use Rattle.member_cells.specs.Held.{held};
-ghost use Rattle.member_rows.specs.vcat_interleave.Members.{AreLines, with_octets};
+ghost use Rattle.member_cells.specs.HeldPlaces.{held};
+ghost use Rattle.member_rows.specs.vcat_interleave.MemberPayloads.{AreLines, with_octets};
 ghost use Rattle.member_rows.specs.vcat_interleave.Spread.{SpreadsOver, Spreads, AreDistinct};
 
 use crate::vcat_interleave::octets_of_member::{comes_again, take_part, take_rank};

@@ -6,7 +6,7 @@ use Rattle.command_parts.specs.declared.stop_and_status.Stop.{Stop}
 use Rattle.pair_walk.specs.declared.pair_script.script_pair.ScriptPair.{ScriptPair}
 use Rattle.pair_walk.specs.declared.pair_script.script_pair.PairFault.{PairFault}
 use Rattle.pair_walk.specs.declared.pair_script.pair_reader.PairReader.{PairReader}
-use Rattle.pair_walk.specs.pair_script.Pair.{pair_of}
+use Rattle.pair_walk.specs.pair_script.PairOfText.{pair_of}
 use Rattle.pair_walk.specs.pair_script.Pieces.{IsPairReader, StandsAt}
 use Rattle.pair_walk.specs.pair_script.Faults.{pair_fault_text, pair_why}
 

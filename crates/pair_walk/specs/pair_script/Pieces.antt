@@ -3,13 +3,13 @@ use Rattle.std.specs.Prelude.{◌≡◌, ℕ, ◌+◌, ◌≤◌, List, ◌++◌
 use Rattle.std.specs.Str.Lines.{lines}
 use Rattle.text_lines.specs.Language.{said_from, said_by}
 use Rattle.text_scripts.specs.declared.script_read.script_fault.ScriptFault.TheVariants.{Memory}
-use Rattle.text_scripts.specs.script_read.Pieces.{IsReader, IsUntested, next_number, drafted}
+use Rattle.text_scripts.specs.script_read.ScriptInPieces.{IsReader, IsUntested, next_number, drafted}
 use Rattle.law_model.specs.Common.{longest_input}
 use Rattle.pair_walk.specs.declared.pair_script.script_pair.PairFault.{PairFault}
 use Rattle.pair_walk.specs.declared.pair_script.script_pair.PairFault.TheVariants.{Script}
 use Rattle.pair_walk.specs.declared.pair_script.pair_reader.PairReader.{PairReader}
 use Rattle.pair_walk.specs.pair_script.PairTextLines.{Halves, HalfFault, pair_lines}
-use Rattle.pair_walk.specs.pair_script.Pair.{fault_at}
+use Rattle.pair_walk.specs.pair_script.PairOfText.{fault_at}
 
 -- memory was short
 abbrev pub no_memory : PairFault

@@ -1,7 +1,7 @@
 //! The tests of two scripts all of whose lines are right: of each by itself, and of both together.
 ghost use Rattle.std.specs.Prelude.{◌≡◌};
-ghost use Rattle.text_scripts.specs.script_read.Pieces.{IsUntested};
-ghost use Rattle.pair_walk.specs.pair_script.Pair.{fit_fault, limits_fault};
+ghost use Rattle.text_scripts.specs.script_read.ScriptInPieces.{IsUntested};
+ghost use Rattle.pair_walk.specs.pair_script.PairOfText.{fit_fault, limits_fault};
 
 use crate::pair_script::script_pair::{PairFault, ScriptPair};
 use law_model::Script;

@@ -2,15 +2,16 @@
 ghost use Rattle.std.specs.Prelude.{◌≡◌, ◌⊎◌, ℕ, ◌+◌, ◌≤◌, List, [], ◌++◌, length, take, drop, IfOk, IfErr};
 ghost use Rattle.std.specs.Prelude.{None, Ok, Err, option_map};
 ghost use Rattle.text_lines.specs.Cut.{Lacks};
-ghost use Rattle.text_lines.specs.Words.{words};
+ghost use Rattle.text_lines.specs.WordsOfLine.{words};
 ghost use Rattle.text_scripts.specs.script_read.Script.{missing_line};
-ghost use Rattle.text_scripts.specs.script_read.Pieces.{IsReader, IsUntested, HasNumbersLeft, next_number, drafted};
+ghost use Rattle.text_scripts.specs.script_read.ScriptInPieces.{IsReader, IsUntested, HasNumbersLeft};
+ghost use Rattle.text_scripts.specs.script_read.ScriptInPieces.{next_number, drafted};
 ghost use Rattle.law_model.specs.Common.{longest_input};
 ghost use Rattle.law_pair.specs.Common.{IsPair};
 ghost use Rattle.pair_walk.specs.pair_script.PairTextLines.{of_script, is_division, divides, divided};
 ghost use Rattle.pair_walk.specs.pair_script.PairTextLines.{half_fault, half_after};
 ghost use Rattle.pair_walk.specs.pair_script.PairTextLines.{half_missing};
-ghost use Rattle.pair_walk.specs.pair_script.Pair.{pair_in, pair_of, pair_of_halves};
+ghost use Rattle.pair_walk.specs.pair_script.PairOfText.{pair_in, pair_of, pair_of_halves};
 ghost use Rattle.pair_walk.specs.pair_script.Pieces.{no_memory, line_at, halves_of, said_after, IsPairAt, IsPairToldAt};
 ghost use Rattle.pair_walk.specs.pair_script.Pieces.{IsPairReader, StandsAt, HasPairRoom, FollowsIn};
 

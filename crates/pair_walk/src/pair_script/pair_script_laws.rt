@@ -9,7 +9,7 @@ ghost use Rattle.law_pair.specs.Common.{IsPair};
 ghost use Rattle.pair_walk.specs.declared.pair_script.script_pair.PairFault.{PairFault};
 ghost use Rattle.pair_walk.specs.declared.pair_script.script_pair.ScriptPair.{ScriptPair};
 ghost use Rattle.pair_walk.specs.pair_script.PairTextLines.{of_script, no_division, nothing_said, pair_lines};
-ghost use Rattle.pair_walk.specs.pair_script.Pair.{pair_of};
+ghost use Rattle.pair_walk.specs.pair_script.PairOfText.{pair_of};
 
 /// A text has the fault of a line exactly where that line is faulty after lines none of which is, or where no line is
 /// faulty and one is missing at the end: a line of the configuration of either script, or the one that divides.

@@ -14,7 +14,7 @@ use std::alloc::Global;
 
 impl PieceReader for PairReader {
     ghost use Rattle.law_pair.specs.Common.{IsPair};
-    ghost use Rattle.pair_walk.specs.pair_script.Pair.{pair_of};
+    ghost use Rattle.pair_walk.specs.pair_script.PairOfText.{pair_of};
     ghost use Rattle.pair_walk.specs.pair_script.Inputs.{pair_told, ReadsPair};
 
     type Said = ScriptPair;

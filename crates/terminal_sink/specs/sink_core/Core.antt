@@ -6,8 +6,8 @@ use Rattle.law_line.specs.StableRows.{AreDecidedAt}
 use Rattle.terminal_sink.specs.marked_delineator.Marks.{Marked as Receiver}
 use Rattle.terminal_sink.specs.lcas_sink.SinkStates.{Sink}
 use Rattle.terminal_sink.specs.lcas_sink.SinkStates as sink_table
-use Rattle.terminal_sink.specs.sink_core.Given.{received_rows, read_rows, packet_rows}
-use Rattle.terminal_sink.specs.sink_core.Receives.{Receives}
+use Rattle.terminal_sink.specs.sink_core.TakenAndGiven.{received_rows, read_rows, packet_rows}
+use Rattle.terminal_sink.specs.sink_core.RowsInReceiver.{Receives}
 
 -- how many lines there are, how many payload octets a container has, the options, how many rows were taken, its
 -- receiver, and its table

@@ -3,12 +3,12 @@
 ghost use Rattle.std.specs.Prelude.{◌≡◌, ℕ, ◌+◌, ◌*◌, ◌/◌, ◌%◌, ◌<◌, ◌≤◌, Bool, true, false, List, [], ◌++◌, length};
 ghost use Rattle.std.specs.Prelude.{take, drop, slice_index, IfSome, IsSome, option_to_list};
 ghost use Rattle.std.specs.Int.{to_le_bytes, w64};
-ghost use Rattle.member_cells.specs.Held.{held};
+ghost use Rattle.member_cells.specs.HeldPlaces.{held};
 ghost use Rattle.terminal_sink.specs.marked_delineator.Marks.{frame_of, StandsIn};
 ghost use Rattle.gfp_delineate.specs.Repeated.{idles_from};
 ghost use Rattle.law_model.specs.Common.{core_header, octets_from, Start, longest_frame, vc4_size};
-ghost use Rattle.member_rows.specs.vcat_interleave.Members.{payload_at, payloads_of, AreLines};
-ghost use Rattle.terminal_sink.specs.sink_core.Receives.{IsKnown, Grows, Gives, IsIdle};
+ghost use Rattle.member_rows.specs.vcat_interleave.MemberPayloads.{payload_at, payloads_of, AreLines};
+ghost use Rattle.terminal_sink.specs.sink_core.RowsInReceiver.{IsKnown, Grows, Gives, IsIdle};
 
 use crate::marked_delineator::MarkedDelineator;
 use gfp_delineate::{Step, word_run};

@@ -6,9 +6,9 @@ ghost use Rattle.law_model.specs.Common.{longest_frame};
 ghost use Rattle.law_model.specs.declared.script_types.Options.{Options};
 ghost use Rattle.law_line.specs.StableRows.{IsLonger, AreDecidedAt};
 ghost use Rattle.member_rows.specs.realign_rows.Gather.{with_cell};
-ghost use Rattle.terminal_sink.specs.sink_core.Given.{received_rows, given_frames, added_frames, back_at};
+ghost use Rattle.terminal_sink.specs.sink_core.TakenAndGiven.{received_rows, given_frames, added_frames, back_at};
 ghost use Rattle.terminal_sink.specs.sink_core.Core.{Core, SinkStands};
-ghost use Rattle.terminal_sink.specs.sink_core.Session.{AreSessionRows, TellRows};
+ghost use Rattle.terminal_sink.specs.sink_core.SessionTells.{AreSessionRows, TellRows};
 
 /// What was taken stays taken where more cells come, and more rows give more frames and change none of those
 /// before. Return packet k is made at row 16 k + 23.

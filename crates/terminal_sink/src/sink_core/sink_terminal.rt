@@ -5,10 +5,12 @@ ghost use Rattle.std.specs.Prelude.{IfOk, IsSome, IsTrue};
 ghost use Rattle.law_model.specs.Common.{Cell, IsOptions, Start, governing, IsSize, segments_of};
 ghost use Rattle.member_rows.specs.realign_rows.Gather.{GatherStands as Gathers, line_count, open_line};
 ghost use Rattle.terminal_sink.specs.lcas_sink.SinkStates.{SinkTableStands as HasTold};
-ghost use Rattle.terminal_sink.specs.sink_core.Given.{answer_at, added_frames, back_at, received_rows, read_rows};
-ghost use Rattle.terminal_sink.specs.sink_core.Given.{packet_rows};
-ghost use Rattle.terminal_sink.specs.sink_core.Given.{rows_taken, waiting_for, back_of, IsPacketEnd, IsWaiting, Allows};
-ghost use Rattle.terminal_sink.specs.sink_core.Given.{knows_at};
+ghost use Rattle.terminal_sink.specs.sink_core.TakenAndGiven.{answer_at, added_frames, back_at};
+ghost use Rattle.terminal_sink.specs.sink_core.TakenAndGiven.{received_rows, read_rows};
+ghost use Rattle.terminal_sink.specs.sink_core.TakenAndGiven.{packet_rows};
+ghost use Rattle.terminal_sink.specs.sink_core.TakenAndGiven.{rows_taken, waiting_for, back_of, IsPacketEnd};
+ghost use Rattle.terminal_sink.specs.sink_core.TakenAndGiven.{IsWaiting, Allows};
+ghost use Rattle.terminal_sink.specs.sink_core.TakenAndGiven.{knows_at};
 ghost use Rattle.terminal_sink.specs.sink_core.Core.{SinkStands};
 ghost use Rattle.terminal_sink.specs.marked_delineator.Marks.{first_place};
 
@@ -55,8 +57,8 @@ pub struct SinkCore {
 impl Model for SinkCore {
     ghost use Rattle.std.specs.Prelude.{◌≡◌, ◌≤◌, length};
     ghost use Rattle.law_model.specs.Common.{vc4_size};
-    ghost use Rattle.terminal_sink.specs.sink_core.Receives.{IsKnown};
-    ghost use Rattle.terminal_sink.specs.sink_core.Given.{packet_rows};
+    ghost use Rattle.terminal_sink.specs.sink_core.RowsInReceiver.{IsKnown};
+    ghost use Rattle.terminal_sink.specs.sink_core.TakenAndGiven.{packet_rows};
     ghost use Rattle.terminal_sink.specs.sink_core.Core.{Core};
 
     ghost Value = { Core };

@@ -5,11 +5,11 @@ ghost use Rattle.std.specs.Option.{option_copied};
 ghost use Rattle.law_model.specs.Common.{Cell, containers_at, row_at};
 ghost use Rattle.law_model.specs.Common.{StreamRow, Start, longest_frame, vc4_size};
 ghost use Rattle.law_model.specs.declared.script_types.Options.{Options};
-ghost use Rattle.law_loss.specs.Added.{added};
-ghost use Rattle.member_rows.specs.vcat_interleave.Members.{AreLines};
+ghost use Rattle.law_loss.specs.AddedFrames.{added};
+ghost use Rattle.member_rows.specs.vcat_interleave.MemberPayloads.{AreLines};
 ghost use Rattle.member_rows.specs.realign_rows.Gather.{GatherStands, line_count, AreDecided};
-ghost use Rattle.terminal_sink.specs.sink_core.Given.{AreCarriers, row_in};
-ghost use Rattle.terminal_sink.specs.sink_core.Receives.{IsKnown, Receives};
+ghost use Rattle.terminal_sink.specs.sink_core.TakenAndGiven.{AreCarriers, row_in};
+ghost use Rattle.terminal_sink.specs.sink_core.RowsInReceiver.{IsKnown, Receives};
 
 use crate::marked_delineator::MarkedDelineator;
 use crate::sink_core::octets_of_row::{take_break, take_members};

@@ -8,7 +8,7 @@ use Rattle.std.proofs.Math.Seq.{get_or-append_seam}
 use Rattle.std.proofs.lemmas.List.{length-append, get_or_append_left}
 use Rattle.std.proofs.lemmas.List.FromFn.{map-range_with_len_more}
 use Rattle.law_model.specs.Common.{bits, xor, next_bit, group_bits, group_bit, bits_from}
-use Rattle.check_remainder.proofs.BitLaws.{bits-add, bits-mod}
+use Rattle.check_remainder.proofs.NumberBitsLaws.{bits-add, bits-mod}
 
 -- ---- the register
 bits-first : (k n : ℕ) → bits (1 + k) n ≡ (n / 2 ^ k % 2 == 1) ∷ bits k n

@@ -2,7 +2,7 @@
 use Rattle.std.specs.Prelude.{◌≡◌, ℕ, ◌-◌, ◌/◌, ◌%◌, ◌==◌, ◌&&◌, nat_le, if◌then◌else◌, List, Option, Some, None}
 use Rattle.law_model.specs.Common.{Told, Course}
 use Rattle.gfp_fill.specs.Queue.{Held}
-use Rattle.gfp_fill.specs.Areas.{Sender}
+use Rattle.gfp_fill.specs.SentAreas.{Sender}
 
 -- how many lines there are; the lag in packets; the payload octets of a container; how many return packets tell all
 -- statuses; how many frames were made; the client's frames that aren't sent, and the stream that is made of them; the

@@ -9,9 +9,9 @@ ghost use Rattle.law_model.specs.Common.{asks, decides, called, course_of, said_
 ghost use Rattle.law_model.specs.Common.{refusal_in, IsStatuses};
 ghost use Rattle.law_model.specs.declared.lcas_states.Command.{Command as CommandData};
 ghost use Rattle.law_model.specs.declared.lcas_states.Command.TheVariants.{Add as add, Remove as remove};
-ghost use Rattle.law_model.specs.packets.Told.{packet_in};
+ghost use Rattle.law_model.specs.packets.ToldToSource.{packet_in};
 ghost use Rattle.law_model.specs.source.Source.{is_add};
-ghost use Rattle.terminal_source.specs.lcas_source.Fields.{none_planned, changed_by};
+ghost use Rattle.terminal_source.specs.lcas_source.TableFields.{none_planned, changed_by};
 
 use crate::lcas_source::group_bits::GroupBits;
 use crate::lcas_source::member_table::LineTable;
@@ -46,7 +46,7 @@ pub struct SourceTable {
 
 impl Model for SourceTable {
     ghost use Rattle.law_model.specs.Common.{Course};
-    ghost use Rattle.terminal_source.specs.lcas_source.Fields.{course_in, IsTable};
+    ghost use Rattle.terminal_source.specs.lcas_source.TableFields.{course_in, IsTable};
 
     ghost Value = { Course };
 

@@ -3,12 +3,12 @@
 ghost use Rattle.std.specs.Prelude.{◌≡◌, ℕ, ◌+◌, ◌-◌, ◌*◌, ◌<◌, ◌≤◌, if◌then◌else◌, All, false, length, take};
 ghost use Rattle.std.specs.Prelude.{drop, replicate, slice_index_or};
 ghost use Rattle.law_model.specs.Common.{stream_of, Stream, reached, vc4_size};
-ghost use Rattle.gfp_fill.specs.Stream.{FillerStands};
-ghost use Rattle.member_cells.specs.Held.{held};
-ghost use Rattle.member_rows.specs.vcat_interleave.Members.{AreLines, with_octets};
+ghost use Rattle.gfp_fill.specs.FilledStream.{FillerStands};
+ghost use Rattle.member_cells.specs.HeldPlaces.{held};
+ghost use Rattle.member_rows.specs.vcat_interleave.MemberPayloads.{AreLines, with_octets};
 ghost use Rattle.member_rows.specs.vcat_interleave.Spread.{Spreads};
-ghost use Rattle.terminal_source.specs.source_core.Frame.{h4_by, carries, IsBegun, AreBegun};
-ghost use Rattle.terminal_source.specs.source_core.Step.{AreMembers, AreNibbles};
+ghost use Rattle.terminal_source.specs.source_core.FrameContainers.{h4_by, carries, IsBegun, AreBegun};
+ghost use Rattle.terminal_source.specs.source_core.StepOfTerminal.{AreMembers, AreNibbles};
 
 use crate::source_core::packets_of_step::NIBBLES;
 use gfp_fill::{Filler, FrameQueue};

@@ -2,8 +2,8 @@
 
 ghost use Rattle.std.specs.Prelude.{◌≡◌, ◌<◌, ◌≤◌, All, IfOk, length, replicate};
 ghost use Rattle.law_model.specs.Common.{packet_nibbles, telling, passed_on};
-ghost use Rattle.terminal_source.specs.source_core.Step.{is_step, table_by, active_by, nibbles_of};
-ghost use Rattle.terminal_source.specs.source_core.Step.{nibbles_by, left_by, AreNibbles};
+ghost use Rattle.terminal_source.specs.source_core.StepOfTerminal.{is_step, table_by, active_by, nibbles_of};
+ghost use Rattle.terminal_source.specs.source_core.StepOfTerminal.{nibbles_by, left_by, AreNibbles};
 
 use crate::lcas_source::SourceTable;
 use arrayvec::ArrayVec;

@@ -4,10 +4,10 @@ ghost use Rattle.std.specs.Prelude.{◌≡◌, ◌↔◌, ◌<◌, ◌≤◌, �
 ghost use Rattle.std.specs.Prelude.{length, replicate};
 ghost use Rattle.law_model.specs.Common.{Scenario, steps_in, Told, active, after, table_of, stream_before, payload_of};
 ghost use Rattle.law_model.specs.Common.{replayed, rank_of, active_at, container_of, frame_of, vc4_size};
-ghost use Rattle.law_session.specs.Session.{AgreeBefore};
+ghost use Rattle.law_session.specs.ReturnedCells.{AgreeBefore};
 ghost use Rattle.member_rows.specs.vcat_interleave.Spread.{AreDistinct};
 ghost use Rattle.terminal_source.specs.source_core.Terminal.{needed_at};
-ghost use Rattle.terminal_source.specs.source_core.Given.{ComesAlike, first_items};
+ghost use Rattle.terminal_source.specs.source_core.GivenScenario.{ComesAlike, first_items};
 ghost use Rattle.terminal_source.specs.source_core.Dealt.{IsDealt};
 
 /// What lands later, and return cells that come later, change nothing of what was sent before: so what a

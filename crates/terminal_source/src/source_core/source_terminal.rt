@@ -4,10 +4,10 @@ ghost use Rattle.std.specs.Prelude.{◌≡◌, ◌+◌, ◌<◌, ◌≤◌, ◌�
 ghost use Rattle.law_model.specs.declared.lcas_states.Command.TheVariants.{Add as add, Remove as remove};
 ghost use Rattle.law_model.specs.Common.{Scenario, steps_in, Told, told_by, refusal, refusal_while, refusal_in};
 ghost use Rattle.law_model.specs.Common.{frame_of, vc4_size, IsStatuses};
-ghost use Rattle.member_cells.specs.Held.{held};
+ghost use Rattle.member_cells.specs.HeldPlaces.{held};
 ghost use Rattle.terminal_source.specs.source_core.Terminal.{needed, SameKind};
-ghost use Rattle.terminal_source.specs.source_core.Given.{with_frame, with_command, with_cell, with_told};
-ghost use Rattle.terminal_source.specs.source_core.Given.{IsFresh, SourceStands};
+ghost use Rattle.terminal_source.specs.source_core.GivenScenario.{with_frame, with_command, with_cell, with_told};
+ghost use Rattle.terminal_source.specs.source_core.GivenScenario.{IsFresh, SourceStands};
 
 use crate::lcas_source::{CommandFault, SourceTable};
 use crate::source_core::container_frame::{begin_all, fill_all};
@@ -49,7 +49,7 @@ impl Model for SourceCore {
     ghost use Rattle.std.specs.Prelude.{length};
     ghost use Rattle.law_model.specs.Common.{passed_on};
     ghost use Rattle.terminal_source.specs.source_core.Terminal.{Terminal};
-    ghost use Rattle.terminal_source.specs.source_core.Step.{terminal_of, IsTerminal};
+    ghost use Rattle.terminal_source.specs.source_core.StepOfTerminal.{terminal_of, IsTerminal};
 
     ghost Value = { Terminal };
 

@@ -2,9 +2,9 @@
 ghost use Rattle.std.specs.Prelude.{◌≡◌, ◌<◌, ◌+◌, ◌*◌, ◌/◌, ◌%◌, ℕ, List, [], ◌++◌, OnOk, OnErr};
 ghost use Rattle.std.specs.Int.{to_le_bytes};
 ghost use Rattle.law_model.specs.Common.{Start, Appends, AppendsPart};
-ghost use Rattle.text_got.specs.Told.{HasText, start_at};
-ghost use Rattle.text_captures.specs.capture_file.Written.{RowFrame, record_head, ethernet_capture};
-ghost use Rattle.text_captures.specs.capture_file.Out.{HasCapture, name_of, row_at};
+ghost use Rattle.text_got.specs.TextSoFar.{HasText, start_at};
+ghost use Rattle.text_captures.specs.capture_file.WrittenCapture.{RowFrame, record_head, ethernet_capture};
+ghost use Rattle.text_captures.specs.capture_file.CaptureSoFar.{HasCapture, name_of, row_at};
 
 use law_model::FrameOut;
 use octet_io::{ByteSink, Failed};
@@ -77,7 +77,7 @@ impl<'a, K: ByteSink> CaptureOut<'a, K> {
 }
 
 impl<'a, K: ByteSink> FrameOut for CaptureOut<'a, K> {
-    ghost use Rattle.text_captures.specs.capture_file.Out.{AddsRow};
+    ghost use Rattle.text_captures.specs.capture_file.CaptureSoFar.{AddsRow};
 
     ghost stands_for = { λ out start frames. AddsRow K.written K.faults out start frames };
 

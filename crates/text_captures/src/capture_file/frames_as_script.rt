@@ -2,7 +2,7 @@
 ghost use Rattle.std.specs.Prelude.{◌≡◌, ◌≤◌, ◌+◌, ◌*◌, ℕ, List, ◌++◌, length, take, drop, replicate, Ok, OnOk, OnErr};
 ghost use Rattle.hex.specs.Hex.{encode_lower};
 ghost use Rattle.law_model.specs.Common.{Start, Appends, AppendsPart};
-ghost use Rattle.text_got.specs.Told.{HasText};
+ghost use Rattle.text_got.specs.TextSoFar.{HasText};
 ghost use Rattle.text_captures.specs.capture_file.Form.{form_of};
 ghost use Rattle.text_captures.specs.capture_file.Reading.{filled_up, client_frame, with_fcs, frames_of};
 ghost use Rattle.text_captures.specs.capture_file.Texts.{line_start, frame_text, frame_texts};

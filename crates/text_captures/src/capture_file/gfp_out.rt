@@ -1,10 +1,10 @@
 //! GFP frames that hold client frames are written as the records of a capture.
 ghost use Rattle.std.specs.Prelude.{◌≡◌, ◌≤◌, ◌+◌, ℕ, List, [], ◌∷◌, ◌++◌, length, OnOk, OnErr};
 ghost use Rattle.law_model.specs.Common.{Start, Appends, AppendsPart, longest_frame, type_header};
-ghost use Rattle.text_got.specs.Told.{HasText, start_at};
-ghost use Rattle.text_captures.specs.capture_file.Written.{RowFrame};
-ghost use Rattle.text_captures.specs.capture_file.Gfp.{plain_header, gfp_capture};
-ghost use Rattle.text_captures.specs.capture_file.Out.{HasGfp, gfp_name_of};
+ghost use Rattle.text_got.specs.TextSoFar.{HasText, start_at};
+ghost use Rattle.text_captures.specs.capture_file.WrittenCapture.{RowFrame};
+ghost use Rattle.text_captures.specs.capture_file.GfpInCapture.{plain_header, gfp_capture};
+ghost use Rattle.text_captures.specs.capture_file.CaptureSoFar.{HasGfp, gfp_name_of};
 
 use crate::capture_file::capture_out::add_head;
 use check_hec16::hec;

@@ -10,9 +10,9 @@ ghost use Rattle.law_model.specs.Common.{core_header, client, area_of};
 ghost use Rattle.text_captures.specs.declared.capture_file.capture_form.CaptureFault.{CaptureFault};
 ghost use Rattle.text_captures.specs.declared.capture_file.capture_form.RecordFault.{RecordFault};
 ghost use Rattle.text_captures.specs.capture_file.Reading.{capture_said};
-ghost use Rattle.text_captures.specs.capture_file.Written.{RowFrame, ethernet_capture, AreRising, due_frames};
-ghost use Rattle.text_captures.specs.capture_file.Written.{two_frames};
-ghost use Rattle.text_captures.specs.capture_file.Gfp.{plain_header, with_pattern, gfp_octets};
+ghost use Rattle.text_captures.specs.capture_file.WrittenCapture.{RowFrame, ethernet_capture, AreRising, due_frames};
+ghost use Rattle.text_captures.specs.capture_file.WrittenCapture.{two_frames};
+ghost use Rattle.text_captures.specs.capture_file.GfpInCapture.{plain_header, with_pattern, gfp_octets};
 
 mod capture_fault_note;
 mod capture_form;

@@ -2,8 +2,8 @@
 ghost use Rattle.std.specs.Prelude.{◌≡◌, ℕ, ◌+◌, ◌<◌, List, [], ◌∷◌, ◌++◌, option_to_list};
 ghost use Rattle.law_model.specs.packets.Decode.{packets_in};
 ghost use Rattle.text_captures.specs.packet_trace.Decoder.{DecoderStands};
-ghost use Rattle.text_captures.specs.packet_trace.Wording.{AreWorded, AreOnly, PacketsStay};
-ghost use Rattle.text_captures.specs.packet_trace.Worked.{AreRead, IsRefused};
+ghost use Rattle.text_captures.specs.packet_trace.PacketWording.{AreWorded, AreOnly, PacketsStay};
+ghost use Rattle.text_captures.specs.packet_trace.WorkedDecoding.{AreRead, IsRefused};
 
 use check_nibbles::{nibble_hi, nibble_lo};
 use member_path::h4_multiframe::{MfiLock, Place};

@@ -21,7 +21,7 @@ use Rattle.text_scripts.specs.declared.script_read.script_draft.Statement.TheVar
 use Rattle.text_scripts.specs.declared.script_read.script_draft.Draft.{Draft}
 use Rattle.text_lines.specs.declared.text_faults.Names.TheVariants as names
 use Rattle.hex.specs.Hex.{decode_of}
-use Rattle.text_lines.specs.Words.{word_at, number_at, octets_of}
+use Rattle.text_lines.specs.WordsOfLine.{word_at, number_at, octets_of}
 use Rattle.text_lines.specs.Fields.{where_true, within, number_fault, octets_fault, name_fault, fields_fault}
 use Rattle.text_scripts.specs.script_read.Statements.{windows_of, last_end, last_lost}
 

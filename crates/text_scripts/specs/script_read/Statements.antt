@@ -6,7 +6,7 @@ use Rattle.std.specs.Option.{option_or}
 use Rattle.text_scripts.specs.declared.script_read.script_fault.LineFault.{LineFault}
 use Rattle.text_scripts.specs.declared.script_read.script_fault.LineFault.TheVariants as wrong
 use Rattle.text_lines.specs.declared.text_faults.Names.TheVariants as names
-use Rattle.text_lines.specs.Words.{word_at, is_skipped, number_of, number_at, octets_of}
+use Rattle.text_lines.specs.WordsOfLine.{word_at, is_skipped, number_of, number_at, octets_of}
 use Rattle.text_lines.specs.Fields.{Field, within, any, above, digits, one_of, where_true, fields_fault}
 use Rattle.law_model.specs.Common.{vc3_size, vc4_size, default_options}
 use Rattle.law_model.specs.declared.window_types.Window.{Window}

@@ -1,6 +1,6 @@
 //! The words of items and of event lines that name a line.
 ghost use Rattle.std.specs.Prelude.{◌≡◌, ◌≤◌, ◌<◌, ℕ, List, length, All, IfSome, IfOk, IfErr, None, Some};
-ghost use Rattle.text_lines.specs.Words.{words, number_at};
+ghost use Rattle.text_lines.specs.WordsOfLine.{words, number_at};
 ghost use Rattle.text_scripts.specs.script_read.Lifted.{IsStop};
 ghost use Rattle.text_scripts.specs.script_read.Statements.{rest_fault, said};
 ghost use Rattle.law_model.specs.Common.{IsWithin, IsItem};

@@ -1,6 +1,6 @@
 //! The words of the lines that say what the network is: delays, the container, windows of lines and of the return path.
 ghost use Rattle.std.specs.Prelude.{◌≡◌, ◌≤◌, ◌<◌, length, IfOk, IfErr, None, Some, slice_index_or, [], map, All};
-ghost use Rattle.text_lines.specs.Words.{words, word_at, number_of};
+ghost use Rattle.text_lines.specs.WordsOfLine.{words, word_at, number_of};
 ghost use Rattle.text_scripts.specs.script_read.Lifted.{IsStop};
 ghost use Rattle.text_scripts.specs.script_read.Statements.{rest_fault, said, last_end, last_lost, size_of};
 ghost use Rattle.law_model.specs.Common.{IsSize};

@@ -1,6 +1,6 @@
 //! The words of options: what the sink does, the two timers, and how many return packets tell all statuses.
 ghost use Rattle.std.specs.Prelude.{◌≡◌, ◌≤◌, false, IfOk, IfErr, OnOk, None, Some};
-ghost use Rattle.text_lines.specs.Words.{words, word_at, number_at};
+ghost use Rattle.text_lines.specs.WordsOfLine.{words, word_at, number_at};
 ghost use Rattle.text_scripts.specs.script_read.Statements.{place, rest_fault, said, infers_of, statuses_of};
 ghost use Rattle.text_scripts.specs.script_read.Drafts.{IsPlaced, Fits, sink_fault, timer_fault, statuses_fault};
 ghost use Rattle.law_model.specs.Common.{IsStatuses};

@@ -1,6 +1,6 @@
 //! A line of a script: which one it is, and what it says.
 ghost use Rattle.std.specs.Prelude.{◌≡◌, ◌≤◌, IfOk, IfErr, None, Some};
-ghost use Rattle.text_lines.specs.Words.{words, number_at};
+ghost use Rattle.text_lines.specs.WordsOfLine.{words, number_at};
 ghost use Rattle.text_scripts.specs.script_read.Lifted.{IsStop};
 ghost use Rattle.text_scripts.specs.script_read.Statements.{place, rest_fault, words_fault, words_said, said};
 ghost use Rattle.text_scripts.specs.declared.script_read.script_draft.Statement.TheVariants as says;

@@ -3,7 +3,7 @@ ghost use Rattle.std.specs.Prelude.{◌≡◌, ◌≤◌, length, All, max, None
 ghost use Rattle.law_model.specs.Common.{AreWindows, greatest, least, greatest_slip as greatest_slip_of};
 ghost use Rattle.text_scripts.specs.script_read.Script.{windows_fault, slip_fault, config_fault};
 ghost use Rattle.text_scripts.specs.script_read.Drafts.{AreFailures};
-ghost use Rattle.text_scripts.specs.script_read.Pieces.{IsUntested};
+ghost use Rattle.text_scripts.specs.script_read.ScriptInPieces.{IsUntested};
 
 use crate::script_read::script_fault::ScriptFault;
 use law_model::{Config, Delays, Script, WindowList, WindowLists};

@@ -3,13 +3,13 @@ ghost use Rattle.std.specs.Prelude.{◌≡◌, ◌⊎◌, ℕ, ◌+◌, ◌≤�
 ghost use Rattle.std.specs.Prelude.{Ok, Err, None};
 ghost use Rattle.std.specs.Str.Lines.{lines};
 ghost use Rattle.text_lines.specs.Language.{said_from};
-ghost use Rattle.text_lines.specs.Words.{words};
+ghost use Rattle.text_lines.specs.WordsOfLine.{words};
 ghost use Rattle.text_scripts.specs.script_read.Statements.{words_fault, words_said, after, at_first};
 ghost use Rattle.text_scripts.specs.script_read.Script.{script_of, script_of_draft, script_in, script_lines};
 ghost use Rattle.text_scripts.specs.script_read.Script.{missing_line};
-ghost use Rattle.text_scripts.specs.script_read.Pieces.{ReaderStands, HasNumbersLeft, IsReader, Follows};
-ghost use Rattle.text_scripts.specs.script_read.Pieces.{next_number, drafted, IsAt, IsToldAt};
-ghost use Rattle.text_scripts.specs.script_read.Pieces.{IsUntested};
+ghost use Rattle.text_scripts.specs.script_read.ScriptInPieces.{ReaderStands, HasNumbersLeft, IsReader, Follows};
+ghost use Rattle.text_scripts.specs.script_read.ScriptInPieces.{next_number, drafted, IsAt, IsToldAt};
+ghost use Rattle.text_scripts.specs.script_read.ScriptInPieces.{IsUntested};
 ghost use Rattle.text_scripts.specs.script_read.Drafts.{IsDraft, fault_at};
 ghost use Rattle.law_model.specs.Common.{IsValid, HasFewLosses, longest_input};
 

@@ -1,6 +1,6 @@
 //! The number of words behind a keyword.
 ghost use Rattle.std.specs.Prelude.{◌≡◌, length};
-ghost use Rattle.text_lines.specs.Words.{words};
+ghost use Rattle.text_lines.specs.WordsOfLine.{words};
 
 use crate::script_read::script_fault::LineFault;
 use crate::script_read::script_keyword::Keyword;

@@ -1,7 +1,7 @@
 //! The log, which one thread turns, and its list.
 ghost use Rattle.std.specs.Prelude.{◌≡◌, ◌≤◌, [], vec_len, vec_capacity};
 ghost use Rattle.std.specs.Arc.{arc_value};
-ghost use Rattle.octet_io.specs.Faults.{one_more};
+ghost use Rattle.octet_io.specs.FaultCounts.{one_more};
 ghost use Rattle.crossbeam_queue.specs.Passes.{view};
 ghost use Rattle.thread_alarms.specs.alarm_log.Views.{made_of, known_of};
 ghost use Rattle.thread_alarms.specs.alarm_log.Listens.{Listens};

@@ -1,9 +1,9 @@
 //! The lines of alarms are written, those of the first line of the group first.
 ghost use Rattle.std.specs.Prelude.{ℕ, List, [], ◌∷◌, ◌++◌};
 ghost use Rattle.law_model.specs.Common.{Start};
-ghost use Rattle.text_got.specs.Told.{HasText};
+ghost use Rattle.text_got.specs.TextSoFar.{HasText};
 ghost use Rattle.thread_alarms.specs.alarm_log.Alarms.{of_line};
-ghost use Rattle.thread_alarms.specs.alarm_text.Text.{alarm_texts, lines_text};
+ghost use Rattle.thread_alarms.specs.alarm_text.AlarmTextLines.{alarm_texts, lines_text};
 
 use crate::alarm_text::text_of_alarm::{ALARM_ROOM, alarm_line};
 use octet_io::ByteSink;
@@ -11,7 +11,7 @@ use text_got::GotLines;
 use thread_rings::Alarm;
 
 /// Writes an alarm, where it is of this line of the group.
-#[tactic(auto, using(crate::proofs::AlarmTextLaws::TextLaws::own_text, crate::proofs::AlarmTextLaws::TextLaws::other_text))]
+#[tactic(auto, using(crate::proofs::AlarmTextLaws::AlarmTextNextLaws::own_text, crate::proofs::AlarmTextLaws::AlarmTextNextLaws::other_text))]
 fn write_one<K: ByteSink>(line: u8, alarm: &Alarm, got: &mut GotLines<K>)
     ensures { (start : Start) (before : List ℕ) →
         HasText K.written K.faults got.old start before →

@@ -1,6 +1,6 @@
 //! The line of an alarm.
 ghost use Rattle.std.specs.Prelude.{◌≡◌, ◌≤◌, length, take};
-ghost use Rattle.thread_alarms.specs.alarm_text.Text.{kind_text, alarm_text};
+ghost use Rattle.thread_alarms.specs.alarm_text.AlarmTextLines.{kind_text, alarm_text};
 
 use text_report::TextCursor;
 use thread_rings::{Alarm, AlarmKind};

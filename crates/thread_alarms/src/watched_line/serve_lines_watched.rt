@@ -1,6 +1,6 @@
 //! The lines of a session, with their posts, and both apart again.
 ghost use Rattle.std.specs.Prelude.{◌≡◌, ◌≤◌, [], map, vec_len, vec_capacity};
-ghost use Rattle.thread_alarms.specs.watched_line.Served.{worker_of, posts_of, AreWatchable, AreTold};
+ghost use Rattle.thread_alarms.specs.watched_line.ServedWithPosts.{worker_of, posts_of, AreWatchable, AreTold};
 
 use crate::alarm_log::AlarmPost;
 use crate::watched_line::served_line::ServedLine;

@@ -2,8 +2,8 @@
 ghost use Rattle.std.specs.Prelude.{◌≡◌, ℕ, ◌+◌, ◌<◌, ◌≤◌, ◌++◌, List, length, Some};
 ghost use Rattle.law_model.specs.Common.{Container, cells};
 ghost use Rattle.law_model.specs.members.Damage.{carried};
-ghost use Rattle.thread_rings.specs.Alarms.{alarms_of_line};
-ghost use Rattle.thread_rings.specs.Worker.{number_of, delay_of, windows_of, total_of, raised_by};
+ghost use Rattle.thread_rings.specs.LineAlarms.{alarms_of_line};
+ghost use Rattle.thread_rings.specs.WorkerOfLine.{number_of, delay_of, windows_of, total_of, raised_by};
 ghost use Rattle.thread_alarms.specs.declared.alarm_log.alarm_post.AlarmPost.{AlarmPost as Through};
 ghost use Rattle.thread_alarms.specs.alarm_log.Posts.{posted_by, most_by, SamePost};
 
@@ -39,9 +39,9 @@ impl ServedLine {
     ghost use Rattle.std.specs.Prelude.{◌≡◌, ◌<◌, ◌↔◌, Some, Contains};
     ghost use Rattle.law_model.specs.Common.{Cell};
     ghost use Rattle.thread_alarms.specs.declared.alarm_log.alarm_post.AlarmPost.{AlarmPost as Through};
-    ghost use Rattle.thread_rings.specs.Ends.{out_passed};
-    ghost use Rattle.thread_rings.specs.Worker.{carries_of, WasEmpty, WasFull};
-    ghost use Rattle.thread_alarms.specs.watched_line.Served.{worker_of, post_of, MayWatch, IsServedLater};
+    ghost use Rattle.thread_rings.specs.EndsOfRing.{out_passed};
+    ghost use Rattle.thread_rings.specs.WorkerOfLine.{carries_of, WasEmpty, WasFull};
+    ghost use Rattle.thread_alarms.specs.watched_line.ServedWithPosts.{worker_of, post_of, MayWatch, IsServedLater};
 
     /// A line with its worker, and with a post where it is watched.
     pub fn new(worker: LineWorker, post: Option<AlarmPost>) -> ServedLine

@@ -1,11 +1,11 @@
 -- Bursts of lines that no thread serves.
 use Rattle.std.specs.Prelude.{◌≡◌, ℕ, ◌<◌, List, slice_get, Some}
 use Rattle.thread_alarms.specs.declared.watched_line.served_line.ServedLine.{ServedLine}
-use Rattle.thread_alarms.specs.watched_line.Served.{worker_of}
-use Rattle.thread_rings.specs.Worker.{carries_of, WasEmpty, WasFull}
+use Rattle.thread_alarms.specs.watched_line.ServedWithPosts.{worker_of}
+use Rattle.thread_rings.specs.WorkerOfLine.{carries_of, WasEmpty, WasFull}
 use Rattle.thread_session.specs.declared.session_parts.line_thread.Held.{Held}
 use Rattle.thread_session.specs.declared.session_parts.line_thread.Held.TheVariants.{There, Here}
-use Rattle.thread_session.specs.session_parts.Laid.{IsServedDone}
+use Rattle.thread_session.specs.session_parts.LineRingsLaid.{IsServedDone}
 
 -- a burst was made of a line: it carried, or a look at one of its rings missed, or the end had been pushed before
 pub data HasTried (was now : ServedLine) : Type 0 where

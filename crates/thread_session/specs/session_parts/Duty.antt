@@ -1,13 +1,13 @@
 -- What a sink has written since its session began.
 use Rattle.std.specs.Prelude.{ℕ, false, Option, Some, None}
-use Rattle.text_report.specs.Report.{got_texts}
-use Rattle.terminal_sink.specs.sink_core.Given.{given_frames}
-use Rattle.text_got.specs.Told.{Seen, known_of, faults_of}
+use Rattle.text_report.specs.ReportLines.{got_texts}
+use Rattle.terminal_sink.specs.sink_core.TakenAndGiven.{given_frames}
+use Rattle.text_got.specs.TextSoFar.{Seen, known_of, faults_of}
 use Rattle.thread_sink.specs.Told.{Writes}
 use Rattle.thread_sink.specs.declared.sink_worker.SinkWorker.{SinkWorker}
 use Rattle.thread_alarms.specs.declared.alarm_log.log_turns.AlarmLog.{AlarmLog}
 use Rattle.thread_alarms.specs.alarm_log.Logs.{SameLog}
-use Rattle.thread_sink.specs.Worker.{SinkWorkerStands, IsLater, cells_of, options_of, size_of, taken_of, has_failed}
+use Rattle.thread_sink.specs.WorkerOfSink.{SinkWorkerStands, IsLater, cells_of, options_of, size_of, taken_of, has_failed}
 
 -- how a session began: what the sink had written and how many writes had failed; the name of the reference by which is
 -- written; its worker;

@@ -4,8 +4,8 @@ use Rattle.std.specs.Global.{Vec}
 use Rattle.std.specs.List.{AllZip}
 use Rattle.thread_alarms.specs.declared.watched_line.served_line.ServedLine.{ServedLine}
 use Rattle.thread_rings.specs.declared.line_worker.LineWorker.{LineWorker}
-use Rattle.thread_rings.specs.Worker.{IsLater}
-use Rattle.thread_alarms.specs.watched_line.Served.{line_of, AreServedLater}
+use Rattle.thread_rings.specs.WorkerOfLine.{IsLater}
+use Rattle.thread_alarms.specs.watched_line.ServedWithPosts.{line_of, AreServedLater}
 
 -- the same workers, each later
 abbrev pub AreLater : List LineWorker → List LineWorker → Type 0

@@ -5,10 +5,10 @@ use Rattle.law_model.specs.declared.script_types.ItemKind.{ItemKind}
 use Rattle.law_model.specs.declared.script_types.ItemKind.TheVariants.{Frame, Add, Remove}
 use Rattle.thread_rings.specs.declared.burst_gate.Who.{Who}
 use Rattle.thread_rings.specs.declared.burst_gate.Who.TheVariants.{Client, Operator}
-use Rattle.thread_rings.specs.Ends.{OutEnd, InEnd}
+use Rattle.thread_rings.specs.EndsOfRing.{OutEnd, InEnd}
 use Rattle.thread_group.specs.declared.group_state.GroupState.{GroupState}
 use Rattle.thread_group.specs.Group.{HasCounted, next_of}
-use Rattle.thread_group.specs.Session.{IsBound}
+use Rattle.thread_group.specs.GroupOfLeg.{IsBound}
 
 -- who brings an item of this kind
 abbrev pub bringer : ItemKind → Who

@@ -1,10 +1,10 @@
 //! The last bursts of lines, and the ends of their rings beside each other.
 ghost use Rattle.std.specs.Prelude.{◌≡◌, ◌↔◌, length, IsTrue, Contains};
-ghost use Rattle.thread_rings.specs.Ends.{AreEnds, out_passed};
-ghost use Rattle.thread_alarms.specs.watched_line.Served.{worker_of, IsServedLater, AreServedLater};
-ghost use Rattle.thread_session.specs.session_parts.Laid.{AreServedDone, AreSendEnds, AreReceiveEnds};
-ghost use Rattle.thread_session.specs.session_parts.Laid.{IsSendLaid, IsReceiveLaid};
-ghost use Rattle.thread_session.specs.session_parts.Laid.{AreSendsLaid, AreReceivesLaid};
+ghost use Rattle.thread_rings.specs.EndsOfRing.{AreEnds, out_passed};
+ghost use Rattle.thread_alarms.specs.watched_line.ServedWithPosts.{worker_of, IsServedLater, AreServedLater};
+ghost use Rattle.thread_session.specs.session_parts.LineRingsLaid.{AreServedDone, AreSendEnds, AreReceiveEnds};
+ghost use Rattle.thread_session.specs.session_parts.LineRingsLaid.{IsSendLaid, IsReceiveLaid};
+ghost use Rattle.thread_session.specs.session_parts.LineRingsLaid.{AreSendsLaid, AreReceivesLaid};
 
 use member_cells::{Cell, Container};
 use std::sync::Wait;

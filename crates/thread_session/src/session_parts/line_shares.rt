@@ -2,7 +2,7 @@
 ghost use Rattle.std.specs.Prelude.{◌≡◌, ◌+◌, ◌<◌, ◌≤◌, List, [], ◌∷◌, ◌++◌, length, vec_len, vec_capacity};
 ghost use Rattle.thread_alarms.specs.declared.watched_line.served_line.ServedLine.{ServedLine};
 ghost use Rattle.thread_session.specs.session_parts.ServedLines.{AreNumbered, AreDealt, AreBack, HaveRoom};
-ghost use Rattle.thread_alarms.specs.watched_line.Served.{AreServedLater};
+ghost use Rattle.thread_alarms.specs.watched_line.ServedWithPosts.{AreServedLater};
 
 use thread_alarms::watched_line::ServedLine;
 

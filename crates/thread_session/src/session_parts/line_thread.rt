@@ -2,13 +2,13 @@
 ghost use Rattle.std.specs.Prelude.{◌≡◌, ℕ, ◌≤◌, List, [], length, vec_len, vec_capacity, IfNone};
 ghost use Rattle.std.specs.Global.{Vec};
 ghost use Rattle.thread_alarms.specs.declared.watched_line.served_line.ServedLine.{ServedLine};
-ghost use Rattle.thread_alarms.specs.watched_line.Served.{AreServedLater, IsServedLater};
-ghost use Rattle.thread_session.specs.session_parts.Laid.{IsServedDone, AreServedDone};
+ghost use Rattle.thread_alarms.specs.watched_line.ServedWithPosts.{AreServedLater, IsServedLater};
+ghost use Rattle.thread_session.specs.session_parts.LineRingsLaid.{IsServedDone, AreServedDone};
 ghost use Rattle.thread_session.specs.session_parts.Bursts.{HasTried, AreTried, IsTriedHere, AreTriedHere};
 ghost use Rattle.thread_session.specs.session_parts.ServedLines.{SharesLater};
 ghost use Rattle.thread_session.specs.declared.session_parts.stop_flag.Flag.{Flag as OwnFlag};
 ghost use Rattle.thread_session.specs.session_parts.Flags.{flag_of, heeded, stored_flag};
-ghost use Rattle.thread_session.specs.session_parts.Held.{IsHeldOf, AreHeldOf, IsToldBy, AreToldBy};
+ghost use Rattle.thread_session.specs.session_parts.HeldShares.{IsHeldOf, AreHeldOf, IsToldBy, AreToldBy};
 
 use crate::session_parts::stop_flag::{Flag, Heed, Stored};
 use crate::session_parts::thread_bell::Bell;
@@ -28,7 +28,7 @@ pub struct Kept(Snapshot<Vec<ServedLine>>, Snapshot<Flag>);
 
 impl Promise<Back> for Kept {
     ghost use Rattle.std.specs.Prelude.{◌≡◌};
-    ghost use Rattle.thread_alarms.specs.watched_line.Served.{AreServedLater};
+    ghost use Rattle.thread_alarms.specs.watched_line.ServedWithPosts.{AreServedLater};
     ghost use Rattle.thread_session.specs.session_parts.Flags.{flag_of, stored_flag};
 
     ghost kept_by = { λ kept back. AreServedLater kept.0.value.items back.0.items

@@ -1,8 +1,8 @@
 //! The lines of a session are opened.
 ghost use Rattle.std.specs.Prelude.{◌≡◌, ◌<◌, [], slice_index_or, All, length, IfOk};
-ghost use Rattle.member_path.specs.path_delay.Line.{DelayStands, opened};
+ghost use Rattle.member_path.specs.path_delay.CallsOnDelayedLine.{DelayStands, opened};
 ghost use Rattle.law_model.specs.Common.{IsNetwork, AreWindows, greatest, greatest_slip as greatest_slip_of};
-ghost use Rattle.thread_session.specs.session_parts.Opened.{AreOpened, slots_of};
+ghost use Rattle.thread_session.specs.session_parts.LinesOpened.{AreOpened, slots_of};
 
 use law_model::{Config, Delays, WindowLists};
 use member_cells::{Cell, Container};

@@ -6,11 +6,11 @@ ghost use Rattle.law_line.specs.StableRows.{AreDecidedAt};
 ghost use Rattle.law_terminal.specs.SessionLines.{given, ComeOfLines};
 ghost use Rattle.law_terminal.specs.Course.{told_of, IsCourse};
 ghost use Rattle.law_walk.specs.Common.{sent_on, delay_on, delivered_of};
-ghost use Rattle.terminal_sink.specs.sink_core.Given.{given_frames};
-ghost use Rattle.thread_sink.specs.Received.{received, backs};
-ghost use Rattle.thread_rings.specs.Ends.{OutEnd, InEnd, out_passed, in_passed};
+ghost use Rattle.terminal_sink.specs.sink_core.TakenAndGiven.{given_frames};
+ghost use Rattle.thread_sink.specs.ReceivedByRings.{received, backs};
+ghost use Rattle.thread_rings.specs.EndsOfRing.{OutEnd, InEnd, out_passed, in_passed};
 ghost use Rattle.thread_rings.specs.declared.line_worker.LineWorker.{LineWorker};
-ghost use Rattle.thread_session.specs.session_parts.Session.{IsGathered, session_backs};
+ghost use Rattle.thread_session.specs.session_parts.EndedSession.{IsGathered, session_backs};
 
 /// Each line that has come to its end received all that was made for it and sent the cells of its path, and
 /// what the sink popped has come of it, whatever the source was told.

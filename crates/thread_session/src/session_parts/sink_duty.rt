@@ -86,8 +86,8 @@ impl<'a, R: Wait, K: ByteSink> SinkDuty<'a, R, K> {
 
 impl<'a, R: Wait, K: ByteSink> Duty for SinkDuty<'a, R, K> {
     ghost use Rattle.std.specs.Prelude.{◌≡◌};
-    ghost use Rattle.text_got.specs.Told.{seen};
-    ghost use Rattle.thread_sink.specs.Worker.{taken_of, ticks_of};
+    ghost use Rattle.text_got.specs.TextSoFar.{seen};
+    ghost use Rattle.thread_sink.specs.WorkerOfSink.{taken_of, ticks_of};
     ghost use Rattle.thread_session.specs.session_parts.Duty.{HasRun, IsLogLater};
 
     ghost stands_for = { λ duty begun. (duty.out.ghost_name ≡ begun.name)

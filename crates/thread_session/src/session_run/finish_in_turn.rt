@@ -1,10 +1,10 @@
 //! What the calling thread goes on with once all others have ended: whatever isn't done, in turn.
 ghost use Rattle.std.specs.Prelude.{◌≡◌, ◌≤◌, ◌↔◌, true};
-ghost use Rattle.text_got.specs.Told.{seen};
+ghost use Rattle.text_got.specs.TextSoFar.{seen};
 ghost use Rattle.thread_group.specs.Group.{ticks_of, total_of};
 ghost use Rattle.thread_session.specs.session_parts.Duty.{Begun, HasRun};
-ghost use Rattle.thread_alarms.specs.watched_line.Served.{AreServedLater};
-ghost use Rattle.thread_session.specs.session_run.Session.{IsAllDone};
+ghost use Rattle.thread_alarms.specs.watched_line.ServedWithPosts.{AreServedLater};
+ghost use Rattle.thread_session.specs.session_run.SessionOfScript.{IsAllDone};
 
 use crate::session_parts::carry_all;
 use crate::session_run::group_turns::{submit, who_brings};

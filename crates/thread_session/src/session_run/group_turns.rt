@@ -3,10 +3,10 @@
 ghost use Rattle.std.specs.Prelude.{◌≡◌, ◌≤◌, ◌<◌, true};
 ghost use Rattle.law_model.specs.Common.{leg_of, refusal_in};
 ghost use Rattle.law_walk.specs.Common.{is_client};
-ghost use Rattle.thread_group.specs.Answer.{has_landed};
+ghost use Rattle.thread_group.specs.FaultsAndStops.{has_landed};
 ghost use Rattle.thread_group.specs.Group.{HasCounted};
-ghost use Rattle.thread_group.specs.Handed.{handed_below};
-ghost use Rattle.thread_group.specs.Session.{IsItemOf};
+ghost use Rattle.thread_group.specs.HandedAhead.{handed_below};
+ghost use Rattle.thread_group.specs.GroupOfLeg.{IsItemOf};
 ghost use Rattle.thread_session.specs.session_parts.Flags.{heeded};
 ghost use Rattle.thread_session.specs.session_run.Turns.{bringer, HasLanded};
 

@@ -2,12 +2,12 @@
 ghost use Rattle.std.specs.Prelude.{◌≡◌, ◌<◌, ◌≤◌, IfOk, All, [], ◌∷◌, length, replicate, vec_len};
 ghost use Rattle.law_model.specs.Common.{offers_of, leg_of, IsValid, IsKind, longest_input};
 ghost use Rattle.law_model.specs.declared.script_types.Item.{Item};
-ghost use Rattle.thread_rings.specs.Ends.{AreEnds, out_passed, in_passed};
-ghost use Rattle.thread_sink.specs.Received.{received};
-ghost use Rattle.thread_group.specs.Rings.{AreUnused};
-ghost use Rattle.thread_group.specs.Session.{octets_in, IsBound};
-ghost use Rattle.thread_session.specs.session_run.Room.{HasRoomFor, HasPlacesFor};
-ghost use Rattle.thread_session.specs.session_run.Session.{IsOpen, IsSinkOf};
+ghost use Rattle.thread_rings.specs.EndsOfRing.{AreEnds, out_passed, in_passed};
+ghost use Rattle.thread_sink.specs.ReceivedByRings.{received};
+ghost use Rattle.thread_group.specs.GroupRings.{AreUnused};
+ghost use Rattle.thread_group.specs.GroupOfLeg.{octets_in, IsBound};
+ghost use Rattle.thread_session.specs.session_run.RoomForThreads.{HasRoomFor, HasPlacesFor};
+ghost use Rattle.thread_session.specs.session_run.SessionOfScript.{IsOpen, IsSinkOf};
 
 use crate::session_parts::open_lines;
 use crate::session_run::room_and_flags::{Flags, Places, Room};

@@ -1,19 +1,19 @@
 //! A session from its opening to its end.
 ghost use Rattle.std.specs.Prelude.{◌≡◌, ◌≤◌, length, false, vec_len};
 ghost use Rattle.law_model.specs.declared.script_types.Script.{Script};
-ghost use Rattle.thread_rings.specs.Ends.{AreEnds};
-ghost use Rattle.text_report.specs.Report.{got_texts};
-ghost use Rattle.terminal_sink.specs.sink_core.Given.{given_frames};
+ghost use Rattle.thread_rings.specs.EndsOfRing.{AreEnds};
+ghost use Rattle.text_report.specs.ReportLines.{got_texts};
+ghost use Rattle.terminal_sink.specs.sink_core.TakenAndGiven.{given_frames};
 ghost use Rattle.thread_sink.specs.Told.{Writes};
-ghost use Rattle.thread_sink.specs.Worker.{cells_of, options_of, size_of, taken_of, has_failed};
+ghost use Rattle.thread_sink.specs.WorkerOfSink.{cells_of, options_of, size_of, taken_of, has_failed};
 ghost use Rattle.std.specs.List.{AllZip};
 ghost use Rattle.thread_alarms.specs.alarm_log.Posts.{SamePost};
-ghost use Rattle.thread_alarms.specs.watched_line.Served.{AreWatchable, AreTold};
+ghost use Rattle.thread_alarms.specs.watched_line.ServedWithPosts.{AreWatchable, AreTold};
 ghost use Rattle.thread_session.specs.session_parts.Duty.{IsLogLater};
-ghost use Rattle.thread_session.specs.session_parts.Laid.{AreSendEnds, AreReceiveEnds};
-ghost use Rattle.thread_session.specs.session_run.Room.{HasRoomFor, HasPlacesFor};
-ghost use Rattle.thread_session.specs.session_run.Session.{IsOpen, HasComeToEnd};
-ghost use Rattle.thread_session.specs.session_run.Beside.{AreLaid, IsSessionOf};
+ghost use Rattle.thread_session.specs.session_parts.LineRingsLaid.{AreSendEnds, AreReceiveEnds};
+ghost use Rattle.thread_session.specs.session_run.RoomForThreads.{HasRoomFor, HasPlacesFor};
+ghost use Rattle.thread_session.specs.session_run.SessionOfScript.{IsOpen, HasComeToEnd};
+ghost use Rattle.thread_session.specs.session_run.SessionRingsLaid.{AreLaid, IsSessionOf};
 
 use crate::session_parts::{SinkDuty, lay_receives, lay_sends};
 use crate::session_run::finish_in_turn::finish;

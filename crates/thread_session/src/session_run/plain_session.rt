@@ -1,11 +1,11 @@
 //! The call that runs a session.
 ghost use Rattle.std.specs.Prelude.{◌≡◌, ◌≤◌, true, false, IfOk, IfErr};
 ghost use Rattle.law_model.specs.Common.{leg_of, Appends, AppendsPart, IsValid};
-ghost use Rattle.text_report.specs.Report.{got_texts};
-ghost use Rattle.thread_sink.specs.Worker.{has_failed};
+ghost use Rattle.text_report.specs.ReportLines.{got_texts};
+ghost use Rattle.thread_sink.specs.WorkerOfSink.{has_failed};
 ghost use Rattle.law_walk.specs.Common.{delivered_of};
-ghost use Rattle.thread_session.specs.session_parts.Session.{IsEnded};
-ghost use Rattle.thread_session.specs.session_run.Session.{IsGroupEnded};
+ghost use Rattle.thread_session.specs.session_parts.EndedSession.{IsEnded};
+ghost use Rattle.thread_session.specs.session_run.SessionOfScript.{IsGroupEnded};
 
 use crate::session_run::open_ends::open;
 use crate::session_run::opened_session::{Ended, run_opened};

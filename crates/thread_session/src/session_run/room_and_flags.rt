@@ -1,7 +1,7 @@
 //! Room for the threads of a session, which is taken before any of them starts, and their flags and bells.
 ghost use Rattle.std.specs.Prelude.{◌≡◌, ◌<◌, IfOk, vec_len};
 ghost use Rattle.thread_session.specs.session_parts.ServedLines.{HaveRoom};
-ghost use Rattle.thread_session.specs.session_run.Room.{HasRoomFor};
+ghost use Rattle.thread_session.specs.session_run.RoomForThreads.{HasRoomFor};
 
 use crate::session_parts::{Bell, Flag, Held};
 use std::alloc::{AllocError, Global};
@@ -84,7 +84,7 @@ pub(super) struct Room {
 
 impl Room {
     ghost use Rattle.std.specs.Prelude.{◌<◌, IfOk};
-    ghost use Rattle.thread_session.specs.session_run.Room.{HasRoomFor};
+    ghost use Rattle.thread_session.specs.session_run.RoomForThreads.{HasRoomFor};
 
     /// Room for so many lines and for so many threads.
     pub(super) fn new(alloc: Global, lines: u8, workers: u8) -> Result<Room, AllocError>
@@ -112,7 +112,7 @@ pub(super) struct Places {
 
 impl Places {
     ghost use Rattle.std.specs.Prelude.{IfOk};
-    ghost use Rattle.thread_session.specs.session_run.Room.{HasPlacesFor};
+    ghost use Rattle.thread_session.specs.session_run.RoomForThreads.{HasPlacesFor};
 
     /// Places for so many lines.
     pub(super) fn new(alloc: Global, lines: u8) -> Result<Places, AllocError>

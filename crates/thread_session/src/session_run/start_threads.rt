@@ -5,11 +5,11 @@ ghost use Rattle.thread_alarms.specs.declared.watched_line.served_line.ServedLin
 ghost use Rattle.thread_session.specs.session_parts.Duty.{Begun};
 ghost use Rattle.thread_session.specs.declared.session_parts.stop_flag.Flag.{Flag as OwnFlag};
 ghost use Rattle.thread_session.specs.session_parts.Flags.{flag_of, heeded, comes_by};
-ghost use Rattle.thread_session.specs.session_parts.Held.{AreHeldOf, AreToldBy};
+ghost use Rattle.thread_session.specs.session_parts.HeldShares.{AreHeldOf, AreToldBy};
 ghost use Rattle.thread_session.specs.session_parts.Bursts.{AreTriedHere};
 ghost use Rattle.thread_session.specs.session_parts.ServedLines.{SharesLater, AreNumbered};
-ghost use Rattle.thread_alarms.specs.watched_line.Served.{AreServedLater};
-ghost use Rattle.thread_session.specs.session_run.Room.{HasRoomFor};
+ghost use Rattle.thread_alarms.specs.watched_line.ServedWithPosts.{AreServedLater};
+ghost use Rattle.thread_session.specs.session_run.RoomForThreads.{HasRoomFor};
 
 use crate::session_parts::{
     Bell, Comes, Duty, Flag, Held, Turned, collect, deal, serve_all_here, start_shares,

@@ -1,15 +1,15 @@
 //! The call that runs a session of which each line is watched.
 ghost use Rattle.std.specs.Prelude.{◌≡◌, ℕ, ◌<◌, ◌≤◌, true, false, All, IfOk, IfErr};
 ghost use Rattle.law_model.specs.Common.{leg_of, Appends, AppendsPart, IsValid};
-ghost use Rattle.text_report.specs.Report.{got_texts};
+ghost use Rattle.text_report.specs.ReportLines.{got_texts};
 ghost use Rattle.thread_rings.specs.declared.alarm_kinds.Alarm.{Alarm};
-ghost use Rattle.thread_rings.specs.Alarms.{alarms_of_line};
+ghost use Rattle.thread_rings.specs.LineAlarms.{alarms_of_line};
 ghost use Rattle.thread_alarms.specs.alarm_log.Alarms.{of_line};
 ghost use Rattle.thread_alarms.specs.alarm_log.Logs.{alarms_in};
-ghost use Rattle.thread_sink.specs.Worker.{has_failed};
+ghost use Rattle.thread_sink.specs.WorkerOfSink.{has_failed};
 ghost use Rattle.law_walk.specs.Common.{delivered_of, line_cells};
-ghost use Rattle.thread_session.specs.session_parts.Session.{IsEnded};
-ghost use Rattle.thread_session.specs.session_run.Session.{IsGroupEnded};
+ghost use Rattle.thread_session.specs.session_parts.EndedSession.{IsEnded};
+ghost use Rattle.thread_session.specs.session_run.SessionOfScript.{IsGroupEnded};
 
 use crate::session_run::open_ends::open;
 use crate::session_run::opened_session::{Ended, Left, run_opened};

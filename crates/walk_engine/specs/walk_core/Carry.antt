@@ -5,11 +5,11 @@ use Rattle.std.specs.Global.{Vec, Box}
 use Rattle.law_model.specs.Common.{Container, Leg, LinePath, LineCounts, in_send, in_receive}
 use Rattle.law_model.specs.declared.walk_events.StallCause.{StallCause}
 use Rattle.law_model.specs.declared.walk_events.StallCause.TheVariants.{Done, Empty, RxFull}
-use Rattle.member_cells.specs.Held.{held}
+use Rattle.member_cells.specs.HeldPlaces.{held}
 use Rattle.law_walk.specs.Common.{sent_at, path_on}
 use Rattle.law_model.specs.members.Damage.{carried as come_of}
 use Rattle.walk_engine.specs.walk_parts.Ringed.{Ringed, ring_of}
-use Rattle.walk_engine.specs.walk_core.Parts.{windows_on}
+use Rattle.walk_engine.specs.walk_core.WayParts.{windows_on}
 
 -- the first cause, where there is one: of line m, whose ring holds so many cells, where the ticks are made
 abbrev pub carry_cause : ℕ → ℕ → ℕ → ℕ → LinePath → LineCounts → Option StallCause

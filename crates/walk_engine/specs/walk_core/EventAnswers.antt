@@ -9,16 +9,16 @@ use Rattle.law_model.specs.declared.walk_events.Event.{Event}
 use Rattle.law_model.specs.declared.walk_events.Event.TheVariants.{Tick, Take}
 use Rattle.law_model.specs.declared.walk_events.StallCause.TheVariants.{Waiting as Stall_waiting}
 use Rattle.law_model.specs.session.Scenario.{packets_in}
-use Rattle.terminal_source.specs.source_core.Given.{with_cell, with_told}
+use Rattle.terminal_source.specs.source_core.GivenScenario.{with_cell, with_told}
 use Rattle.terminal_sink.specs.declared.sink_core.sink_terminal.TakeAnswer.{TakeAnswer}
 use Rattle.terminal_sink.specs.declared.sink_core.sink_terminal.TakeAnswer.TheVariants.{Taken, Waiting}
-use Rattle.terminal_sink.specs.sink_core.Given.{rows_taken}
+use Rattle.terminal_sink.specs.sink_core.TakenAndGiven.{rows_taken}
 use Rattle.law_walk.specs.Common.{walk_plan, said_packet, told_before, is_client}
-use Rattle.terminal_group.specs.Place.{is_frame, is_command, place_of}
+use Rattle.terminal_group.specs.ItemPlaces.{is_frame, is_command, place_of}
 use Rattle.walk_engine.specs.declared.walk_core.step_answers.Moved.{Moved}
 use Rattle.walk_engine.specs.declared.walk_core.step_answers.Moved.TheVariants.{Yes, Stalled}
-use Rattle.walk_engine.specs.walk_core.Moved.{moved_of, counts_after}
-use Rattle.walk_engine.specs.walk_core.Parts.{Parts, counts_of, line_counts, WayStands, AgreesAt, windows_in}
+use Rattle.walk_engine.specs.walk_core.WalkAfterEvent.{moved_of, counts_after}
+use Rattle.walk_engine.specs.walk_core.WayParts.{Parts, counts_of, line_counts, WayStands, AgreesAt, windows_in}
 
 -- an event in a leg answers as its counts say, and leaves what they give
 pub record Makes (leg : Leg) (backs : ℕ) (event : Event) (was now : Parts) (answer : Moved) : Type 0 where

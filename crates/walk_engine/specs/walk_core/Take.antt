@@ -6,11 +6,11 @@ use Rattle.law_model.specs.declared.control_packet.Packet.{Packet}
 use Rattle.law_model.specs.declared.walk_events.StallCause.{StallCause}
 use Rattle.law_model.specs.declared.walk_events.StallCause.TheVariants.{Done, BackFull}
 use Rattle.member_rows.specs.realign_rows.Gather.{Gather, GatherStands as Gathers, line_count}
-use Rattle.terminal_sink.specs.sink_core.Given.{back_at}
+use Rattle.terminal_sink.specs.sink_core.TakenAndGiven.{back_at}
 use Rattle.terminal_sink.specs.sink_core.Core.{Core, SinkStands as HasTaken}
 use Rattle.law_walk.specs.Common.{walk_plan, CanWalk, popped_cells, delay_on}
 use Rattle.walk_engine.specs.walk_parts.Ringed.{Ringed}
-use Rattle.walk_engine.specs.walk_core.Parts.{line_counts, HasLines}
+use Rattle.walk_engine.specs.walk_core.WayParts.{line_counts, HasLines}
 
 -- why no cell is popped, where none is: of a total of rows
 abbrev pub take_cause : ℕ → Counts → Option StallCause

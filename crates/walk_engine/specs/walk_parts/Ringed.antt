@@ -3,8 +3,8 @@ use Rattle.std.specs.Prelude.{◌≡◌, ℕ, zero, suc, ◌+◌, ◌%◌, ◌<�
 use Rattle.std.specs.Prelude.{length, take, slice_get, slice_set, Option, Some, None, is_none, IsSome}
 use Rattle.law_model.specs.Common.{Container, Cell, verdict}
 use Rattle.member_path.specs.declared.cell_numbers.signs_and_verdicts.CellSign.{CellSign}
-use Rattle.member_path.specs.cell_numbers.Told.{cell_with}
-use Rattle.member_path.specs.path_delay.Line.{Line, Calls, carries_of, path_cells, DelayStands}
+use Rattle.member_path.specs.cell_numbers.SignsAsCells.{cell_with}
+use Rattle.member_path.specs.path_delay.CallsOnDelayedLine.{Line, Calls, carries_of, path_cells, DelayStands}
 use Rattle.member_rows.specs.realign_rows.Gather.{Gather, GatherStands as Gathers}
 
 -- the line itself; the places of its ring, of each the sign of its cell and its container; how many carries were made, and

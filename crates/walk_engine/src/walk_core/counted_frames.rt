@@ -26,7 +26,7 @@ impl<'a, F: FrameOut> CountedOut<'a, F> {
 
 impl<'a, F: FrameOut> FrameOut for CountedOut<'a, F> {
     ghost use Rattle.std.specs.Prelude.{◌≡◌};
-    ghost use Rattle.walk_engine.specs.walk_core.Counted.{IsCounted};
+    ghost use Rattle.walk_engine.specs.walk_core.FramesCounted.{IsCounted};
 
     ghost stands_for = { λ counted start frames. (counted.out.ghost_name ≡ start.name)
         × IsCounted (F.stands_for counted.out.now) counted.got start.octets start.faults frames };

@@ -6,15 +6,16 @@ ghost use Rattle.law_model.specs.Common.{IsNetwork, Leg, begin, step, steps_in, 
 ghost use Rattle.law_model.specs.declared.walk_events.Event.TheVariants.{Tick, Carry, Back, Take};
 ghost use Rattle.law_walk.specs.Common.{is_client, landed_scenario, last_packet, table_in, told_before, totals_of};
 ghost use Rattle.law_walk.specs.Common.{walk_plan};
-ghost use Rattle.member_path.specs.failure_window.Open.{CanClose, closed_at, last_end, opened_at};
+ghost use Rattle.member_path.specs.failure_window.OpenWindows.{CanClose, closed_at, last_end, opened_at};
 ghost use Rattle.terminal_group.specs.Item.{kind_of};
-ghost use Rattle.terminal_group.specs.Counted.{missing_from};
+ghost use Rattle.terminal_group.specs.SourceByCounts.{missing_from};
 ghost use Rattle.walk_engine.specs.walk_core.Landing.{landing_of};
-ghost use Rattle.walk_engine.specs.walk_core.Live.{AgreesNow, IsLegOver, IsLive, IsReady, LiveMakes, LiveFinishes};
-ghost use Rattle.walk_engine.specs.walk_core.Live.{LiveRounds, LiveStands, walking_counts};
-ghost use Rattle.walk_engine.specs.walk_core.Moved.{answer_by, refusal_in_event, GivesRows};
-ghost use Rattle.walk_engine.specs.walk_core.Opened.{HasWindows};
-ghost use Rattle.walk_engine.specs.walk_core.Parts.{note_of, windows_in};
+ghost use Rattle.walk_engine.specs.walk_core.LiveWalking.{AgreesNow, IsLegOver, IsLive, IsReady, LiveMakes};
+ghost use Rattle.walk_engine.specs.walk_core.LiveWalking.{LiveFinishes};
+ghost use Rattle.walk_engine.specs.walk_core.LiveWalking.{LiveRounds, LiveStands, walking_counts};
+ghost use Rattle.walk_engine.specs.walk_core.WalkAfterEvent.{answer_by, refusal_in_event, GivesRows};
+ghost use Rattle.walk_engine.specs.walk_core.OpenedWay.{HasWindows};
+ghost use Rattle.walk_engine.specs.walk_core.WayParts.{note_of, windows_in};
 ghost use Rattle.walk_engine.specs.walk_core.Take.{take_cause};
 ghost use Rattle.walk_engine.specs.walk_core.EventAnswers.{IsDue, IsNoneHeld};
 
@@ -53,7 +54,7 @@ impl Drop for LiveWalk {
 }
 
 impl Model for LiveWalk {
-    ghost use Rattle.walk_engine.specs.walk_core.Live.{Walking};
+    ghost use Rattle.walk_engine.specs.walk_core.LiveWalking.{Walking};
 
     ghost Value = { Walking };
 

@@ -7,23 +7,23 @@ ghost use Rattle.law_model.specs.Common.{Container, begin, full, Leg, governing,
 ghost use Rattle.law_model.specs.Common.{segments_of, Told, IsNetwork, scenario_by, is_known};
 ghost use Rattle.law_model.specs.declared.script_types.Config.{Config};
 ghost use Rattle.law_model.specs.declared.walk_events.Event.TheVariants.{Tick, Carry};
-ghost use Rattle.terminal_source.specs.source_core.Given.{SourceStands as HasMade};
+ghost use Rattle.terminal_source.specs.source_core.GivenScenario.{SourceStands as HasMade};
 ghost use Rattle.terminal_source.specs.source_core.Terminal.{needed, SameKind};
-ghost use Rattle.member_path.specs.cell_numbers.Told.{cell_of};
-ghost use Rattle.member_path.specs.failure_window.Open.{CanClose, closed_at, last_end, opened_at};
+ghost use Rattle.member_path.specs.cell_numbers.SignsAsCells.{cell_of};
+ghost use Rattle.member_path.specs.failure_window.OpenWindows.{CanClose, closed_at, last_end, opened_at};
 ghost use Rattle.terminal_sink.specs.marked_delineator.Marks.{first_place};
 ghost use Rattle.law_walk.specs.Common.{session_of, session_rows, is_client, totals_of, walk_plan};
 ghost use Rattle.law_walk.specs.Common.{popped_cells};
 ghost use Rattle.terminal_group.specs.ReturnInbox.{empty_inbox, with_come, cell_for, rest_for};
 ghost use Rattle.terminal_group.specs.Item.{kind_of};
-ghost use Rattle.terminal_group.specs.Counted.{missing_from};
+ghost use Rattle.terminal_group.specs.SourceByCounts.{missing_from};
 ghost use Rattle.walk_engine.specs.walk_core.Landing.{landing_of};
-ghost use Rattle.walk_engine.specs.walk_core.Moved.{answer_by, refusal_in_event, GivesRows};
+ghost use Rattle.walk_engine.specs.walk_core.WalkAfterEvent.{answer_by, refusal_in_event, GivesRows};
 ghost use Rattle.walk_engine.specs.declared.walk_core.step_answers.Moved.TheVariants.{Yes};
-ghost use Rattle.walk_engine.specs.walk_core.Opened.{HasWindows, IsNew, IsAlike};
-ghost use Rattle.walk_engine.specs.walk_core.Parts.{counts_of, line_counts, windows_in, WayStands, StandsForSome};
+ghost use Rattle.walk_engine.specs.walk_core.OpenedWay.{HasWindows, IsNew, IsAlike};
+ghost use Rattle.walk_engine.specs.walk_core.WayParts.{counts_of, line_counts, windows_in, WayStands, StandsForSome};
 ghost use Rattle.walk_engine.specs.walk_core.Take.{take_cause};
-ghost use Rattle.walk_engine.specs.walk_core.Waiting.{send_ring, receive_ring};
+ghost use Rattle.walk_engine.specs.walk_core.WaitingInRings.{send_ring, receive_ring};
 ghost use Rattle.walk_engine.specs.walk_core.EventAnswers.{Makes, IsDue, with_passed, CanTick, Takes};
 
 use crate::walk_core::open_way::{Ends, Opened, Paths, SENDS, open};
@@ -73,7 +73,7 @@ impl Drop for WayCore {
 }
 
 impl Model for WayCore {
-    ghost use Rattle.walk_engine.specs.walk_core.Parts.{Parts, sent_frames};
+    ghost use Rattle.walk_engine.specs.walk_core.WayParts.{Parts, sent_frames};
 
     ghost Value = { Parts };
 

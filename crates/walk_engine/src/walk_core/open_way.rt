@@ -3,8 +3,8 @@
 ghost use Rattle.std.specs.Prelude.{◌≡◌, length, All, IfOk};
 ghost use Rattle.std.specs.Global.{Vec, Box};
 ghost use Rattle.law_model.specs.Common.{Container, IsNetwork};
-ghost use Rattle.terminal_group.specs.Counted.{IsUnusedOn};
-ghost use Rattle.walk_engine.specs.walk_core.Opened.{AreOpened, AreRings, IsNewSink, IsNew};
+ghost use Rattle.terminal_group.specs.SourceByCounts.{IsUnusedOn};
+ghost use Rattle.walk_engine.specs.walk_core.OpenedWay.{AreOpened, AreRings, IsNewSink, IsNew};
 
 use crate::walk_parts::WalkLine;
 use law_model::Config;

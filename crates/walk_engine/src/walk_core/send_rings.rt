@@ -8,7 +8,7 @@ ghost use Rattle.law_walk.specs.Common.{path_on};
 ghost use Rattle.walk_engine.specs.walk_parts.Ringed.{Ringed, ring_of};
 ghost use Rattle.walk_engine.specs.walk_core.Carry.{carry_cause, CanCarry, HasReceiveRoom, IsCarriedAt, IsKnownOn};
 ghost use Rattle.walk_engine.specs.walk_core.Carry.{IsSentOn};
-ghost use Rattle.walk_engine.specs.walk_core.Parts.{line_counts, sent_frames, HasSent, HasLine as HasLineOn};
+ghost use Rattle.walk_engine.specs.walk_core.WayParts.{line_counts, sent_frames, HasSent, HasLine as HasLineOn};
 
 use crate::walk_core::open_way::SENDS;
 use crate::walk_parts::WalkLine;

@@ -3,8 +3,8 @@
 ghost use Rattle.std.specs.Prelude.{◌≡◌, ℕ, ◌+◌, ◌<◌, ◌≤◌, ◌++◌, List, length, min};
 ghost use Rattle.law_model.specs.Common.{Leg, Start, Cell};
 ghost use Rattle.walk_engine.specs.walk_core.Take.{CanPop, HasPopped, CanTake, HasRow};
-ghost use Rattle.walk_engine.specs.walk_core.Parts.{windows_in};
-ghost use Rattle.terminal_sink.specs.sink_core.Given.{added_frames};
+ghost use Rattle.walk_engine.specs.walk_core.WayParts.{windows_in};
+ghost use Rattle.terminal_sink.specs.sink_core.TakenAndGiven.{added_frames};
 ghost use Rattle.member_rows.specs.realign_rows.Gather.{line_count};
 
 use crate::walk_core::counted_frames::CountedOut;

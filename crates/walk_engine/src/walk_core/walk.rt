@@ -10,14 +10,14 @@ ghost use Rattle.law_model.specs.declared.script_types.Item.{Item};
 ghost use Rattle.law_progress.specs.Progress.{HasLine};
 ghost use Rattle.law_walk.specs.Common.{landed_scenario, told_before, refusals_of, totals_of, last_packet, table_in};
 ghost use Rattle.law_walk.specs.Common.{walk_plan, IsWalked, session_of, session_rows};
-ghost use Rattle.walk_engine.specs.walk_core.Moved.{answer_by, counts_after, moved_of, GivesRows};
-ghost use Rattle.walk_engine.specs.walk_core.Waiting.{send_ring, receive_ring};
-ghost use Rattle.member_path.specs.cell_numbers.Told.{cell_of};
+ghost use Rattle.walk_engine.specs.walk_core.WalkAfterEvent.{answer_by, counts_after, moved_of, GivesRows};
+ghost use Rattle.walk_engine.specs.walk_core.WaitingInRings.{send_ring, receive_ring};
+ghost use Rattle.member_path.specs.cell_numbers.SignsAsCells.{cell_of};
 ghost use Rattle.terminal_group.specs.Item.{bare_items, kind_of};
 ghost use Rattle.terminal_group.specs.Landed.{none_landed};
 ghost use Rattle.walk_engine.specs.walk_core.Landing.{landing_of, early_cause};
-ghost use Rattle.walk_engine.specs.walk_core.Live.{LiveStands, walking_counts};
-ghost use Rattle.walk_engine.specs.walk_core.Parts.{note_of, windows_in, AgreesAt};
+ghost use Rattle.walk_engine.specs.walk_core.LiveWalking.{LiveStands, walking_counts};
+ghost use Rattle.walk_engine.specs.walk_core.WayParts.{note_of, windows_in, AgreesAt};
 ghost use Rattle.terminal_sink.specs.marked_delineator.Marks.{first_place};
 
 use crate::walk_core::live_walk::LiveWalk;
@@ -51,8 +51,8 @@ impl Drop for Walk {
 
 impl Model for Walk {
     ghost use Rattle.law_model.specs.Common.{leg_of, IsValid};
-    ghost use Rattle.walk_engine.specs.walk_core.Moved.{Walked};
-    ghost use Rattle.walk_engine.specs.walk_core.Live.{IsWalk, walking_counts};
+    ghost use Rattle.walk_engine.specs.walk_core.WalkAfterEvent.{Walked};
+    ghost use Rattle.walk_engine.specs.walk_core.LiveWalking.{IsWalk, walking_counts};
 
     ghost Value = { Walked };
 

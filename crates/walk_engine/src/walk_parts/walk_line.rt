@@ -3,10 +3,11 @@
 ghost use Rattle.std.specs.Prelude.{◌≡◌, ◌≢◌, ℕ, ◌+◌, ◌-◌, ◌<◌, ◌≤◌, ◌↔◌, true, List, length, drop, slice_get};
 ghost use Rattle.std.specs.Prelude.{slice_set, IfOk, IsTrue, is_some, option_map};
 ghost use Rattle.law_model.specs.Common.{Container, Cell, AreWindows, verdict, first_open};
-ghost use Rattle.member_path.specs.failure_window.Open.{CanClose, last_end};
-ghost use Rattle.member_path.specs.path_delay.Line.{Calls, opened, and_push, and_flush, path_cells, IsEnded};
-ghost use Rattle.member_path.specs.path_delay.Line.{and_cut, and_mend};
-ghost use Rattle.member_path.specs.cell_numbers.Told.{cell_with, cell_of};
+ghost use Rattle.member_path.specs.failure_window.OpenWindows.{CanClose, last_end};
+ghost use Rattle.member_path.specs.path_delay.CallsOnDelayedLine.{Calls, opened, and_push, and_flush};
+ghost use Rattle.member_path.specs.path_delay.CallsOnDelayedLine.{path_cells, IsEnded};
+ghost use Rattle.member_path.specs.path_delay.CallsOnDelayedLine.{and_cut, and_mend};
+ghost use Rattle.member_path.specs.cell_numbers.SignsAsCells.{cell_with, cell_of};
 ghost use Rattle.member_rows.specs.realign_rows.Gather.{GatherStands as Gathers, line_count, IsOpenAt};
 ghost use Rattle.walk_engine.specs.walk_parts.Ringed.{Ringed, ring_of, Has, popped_cells, IsNext, IsPopped};
 ghost use Rattle.walk_engine.specs.walk_parts.Ringed.{popped_until};
@@ -38,7 +39,7 @@ pub struct WalkLine {
 }
 
 impl Model for WalkLine {
-    ghost use Rattle.member_cells.specs.Held.{held};
+    ghost use Rattle.member_cells.specs.HeldPlaces.{held};
     ghost use Rattle.walk_engine.specs.walk_parts.Ringed.{Ringed, IsRinged};
 
     ghost Value = { Ringed };

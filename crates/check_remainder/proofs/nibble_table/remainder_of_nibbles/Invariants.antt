@@ -2,7 +2,7 @@
 use Rattle.std.proofs.Common.{◌≡◌, ◌^◌, ◌<◌, Bool, List, length, take}
 use Rattle.check_remainder.specs.Bits.{bits}
 use Rattle.check_remainder.specs.Remainder.{remainder}
-use Rattle.check_remainder.specs.Table.{IsTable, nibble_bits}
+use Rattle.check_remainder.specs.DivisionTable.{IsTable, nibble_bits}
 use Rattle.check_remainder.proofs.nibble_table.remainder_of_nibbles.Given as goal
 
 abbrev pub invariant-loop-nibble : goal.invariant-loop-nibble

@@ -1,8 +1,8 @@
 -- The lines of the refusals so far are written.
 use Rattle.std.proofs.Common.{ℕ, List, ◌++◌, take}
 use Rattle.law_model.specs.Common.{Start}
-use Rattle.text_report.specs.Report.{refused_texts}
-use Rattle.text_got.specs.Told.{HasText}
+use Rattle.text_report.specs.ReportLines.{refused_texts}
+use Rattle.text_got.specs.TextSoFar.{HasText}
 use Rattle.command_parts.proofs.report_end.write_refusals.Given as goal
 
 abbrev pub invariant-loop-item : goal.invariant-loop-item

@@ -3,11 +3,11 @@ use Rattle.std.proofs.Common.{◌≡◌, Option, Some, Err, refl, sym, ap, subst
 use Rattle.command_parts.specs.Ends.{Ends, lent}
 use Rattle.command_walk.specs.declared.command_of_words.WalkCommand.{WalkCommand}
 use Rattle.command_walk.specs.declared.command_of_words.WalkCommand.TheVariants.{Live, Pair}
-use Rattle.command_walk.specs.Ended.{walk_of}
+use Rattle.command_walk.specs.HandedWalk.{walk_of}
 use Rattle.command_walk.specs.WordsOfCommands.{command_in, task_at, task_for, HandsBack}
-use Rattle.command_walk.proofs.CommandLaws.{fits, not-run, any-command, no-such-command, ends-usage, ends-wanting, headline-of}
-use Rattle.command_walk.proofs.GivenLaws.{ends-for, run-for}
-use Rattle.command_walk.proofs.RoomLaws.{some-command, tells-pair, tells-live}
+use Rattle.command_walk.proofs.CommandWordsFitLaws.{fits, not-run, any-command, no-such-command, ends-usage, ends-wanting, headline-of}
+use Rattle.command_walk.proofs.GivesByTaskLaws.{ends-for, run-for}
+use Rattle.command_walk.proofs.RoomsAndHeadlinesLaws.{some-command, tells-pair, tells-live}
 use Rattle.command_walk.proofs.top_call.walk_top.Goals as goal
 
 -- ---- a command was run

@@ -3,7 +3,7 @@ use Rattle.std.proofs.Common.{◌∙◌, ap, map, string_bytes}
 use Rattle.std.proofs.lemmas.Result.{IfErr-weaker, IfOk-weaker}
 use Rattle.clap.specs.Words.{App, is_simple, matches_of, takes}
 use Rattle.command_words.specs.Parser.{words_in}
-use Rattle.command_words.proofs.ParserLaws.{is_parser, reads}
+use Rattle.command_words.proofs.WordParserLaws.{is_parser, reads}
 use Rattle.command_words.proofs.clap_parser.parse.Goals as goal
 
 pub returns : goal.returns

@@ -1,6 +1,6 @@
 -- A value beyond the bound stays there.
 use Rattle.std.proofs.Common.{◌+◌, ◌-◌, ◌*◌, slice_index_or, rules}
-use Rattle.command_words.proofs.NumberLaws.{too_large}
+use Rattle.command_words.proofs.NumberTooLargeLaws.{too_large}
 use Rattle.command_words.proofs.number_word.number_within.Goals as goal
 
 pub returns-then-next-from-clause-value : goal.returns-then-next-from-clause-value

@@ -2,14 +2,14 @@
 use Rattle.std.proofs.Common.{rules, ℕ, [], ◌++◌, length, sym, ◌∙◌, ap, subst, OnOk, OnErr}
 use Rattle.std.specs.List.{flat_map}
 use Rattle.law_model.specs.Common.{Start, Appends, AppendsPart, leg_of}
-use Rattle.text_got.specs.Told.{HasText, name_of, start_at}
+use Rattle.text_got.specs.TextSoFar.{HasText, name_of, start_at}
 use Rattle.law_walk.specs.Common.{refusals_of}
 use Rattle.fate_check.specs.UsedLines.{unused_lines}
 use Rattle.fate_check.specs.IdleWindows.{idle_windows}
 use Rattle.fate_check.specs.EarlyFrames.{payload_row, early_frames}
 use Rattle.fate_check.specs.declared.check_lines.Found.{Found}
 use Rattle.fate_check.specs.CheckText.{unused_text, idle_texts, early_if_any, refused_items, last_text, check_text}
-use Rattle.fate_check.proofs.TextLaws.{same-found}
+use Rattle.fate_check.proofs.CheckTextLaws.{same-found}
 use Rattle.fate_check.proofs.write_check_lines.write_check.Goals as goal
 
 pub returns : goal.returns

@@ -2,11 +2,11 @@
 use Rattle.std.proofs.Common.{◌≡◌, ℕ, ◌<◌, ◌++◌, Option, length, filter, sym, ◌∙◌, ap, ap₂, subst, arith, append-nil}
 use Rattle.law_model.specs.Common.{leg_of, scenario_by}
 use Rattle.law_walk.specs.Common.{session_of, landed_items}
-use Rattle.text_got.specs.Told.{HasText}
+use Rattle.text_got.specs.TextSoFar.{HasText}
 use Rattle.fate_check.specs.UsedLines.{first_payload}
 use Rattle.fate_check.specs.EarlyFrames.{is_early, payload_row, early_frames}
 use Rattle.fate_check.specs.CheckText.{early_if_any}
-use Rattle.fate_check.proofs.TextLaws.{early-none, early-some}
+use Rattle.fate_check.proofs.CheckTextLaws.{early-none, early-some}
 use Rattle.fate_check.proofs.write_check_lines.write_early.Goals as goal
 
 pub returns-then-early-eq0 : goal.returns-then-early-eq0

@@ -1,9 +1,9 @@
 -- The failures of the lines so far are told and counted.
 use Rattle.std.proofs.Common.{◌≡◌, ◌≤◌, ◌*◌, ℕ, List, ◌++◌, length}
 use Rattle.law_model.specs.Common.{Start, leg_of}
-use Rattle.text_got.specs.Told.{HasText}
+use Rattle.text_got.specs.TextSoFar.{HasText}
 use Rattle.fate_check.specs.CheckText.{idle_texts}
-use Rattle.fate_check.proofs.TextLaws.{idle_before}
+use Rattle.fate_check.proofs.CheckTextLaws.{idle_before}
 use Rattle.fate_check.proofs.write_check_lines.write_idle.Given as goal
 
 abbrev pub invariant-loop-member : goal.invariant-loop-member

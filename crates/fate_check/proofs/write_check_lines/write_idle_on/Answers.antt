@@ -6,11 +6,11 @@ use Rattle.std.proofs.lemmas.List.Elements.{All-get_or}
 use Rattle.law_model.specs.declared.script_types.Script.{Script}
 use Rattle.law_model.specs.declared.window_types.Window.{Window}
 use Rattle.law_model.specs.session.Leg.{leg_of}
-use Rattle.law_model.specs.session.Valid.{HasFailures}
-use Rattle.text_got.specs.Told.{HasText}
+use Rattle.law_model.specs.session.ValidScript.{HasFailures}
+use Rattle.text_got.specs.TextSoFar.{HasText}
 use Rattle.fate_check.specs.IdleWindows.{idle_among}
 use Rattle.fate_check.specs.CheckText.{idle_texts}
-use Rattle.fate_check.proofs.TextLaws.{text_of, grown, window-more, one-idle-at-most}
+use Rattle.fate_check.proofs.CheckTextLaws.{text_of, grown, window-more, one-idle-at-most}
 use Rattle.fate_check.proofs.write_check_lines.write_idle_on.Goals as goal
 
 pub windows_of-windows-requires : goal.windows_of-windows-requires

@@ -1,7 +1,7 @@
 -- The failures so far are told and counted.
 use Rattle.std.proofs.Common.{◌≡◌, ◌≤◌, ℕ, List, ◌++◌, length, take}
 use Rattle.law_model.specs.Common.{Start, leg_of}
-use Rattle.text_got.specs.Told.{HasText}
+use Rattle.text_got.specs.TextSoFar.{HasText}
 use Rattle.fate_check.specs.IdleWindows.{idle_among}
 use Rattle.fate_check.specs.CheckText.{idle_texts}
 use Rattle.fate_check.proofs.write_check_lines.write_idle_on.Given as goal

@@ -2,10 +2,10 @@
 use Rattle.std.proofs.Common.{◌≡◌, false, true, [], ◌∷◌, length, take, sym, ◌∙◌, ap, subst}
 use Rattle.law_model.specs.Common.{leg_of, scenario_by}
 use Rattle.law_walk.specs.Common.{session_of}
-use Rattle.text_got.specs.Told.{HasText}
+use Rattle.text_got.specs.TextSoFar.{HasText}
 use Rattle.fate_check.specs.UsedLines.{is_unused, unused_among}
 use Rattle.fate_check.specs.CheckText.{unused_text}
-use Rattle.fate_check.proofs.TextLaws.{filter-one, text-none, text-one}
+use Rattle.fate_check.proofs.CheckTextLaws.{filter-one, text-none, text-one}
 use Rattle.fate_check.proofs.write_check_lines.write_if_unused.Goals as goal
 
 pub returns-then-not-is_unused : goal.returns-then-not-is_unused

@@ -1,7 +1,7 @@
 -- The items so far are told.
 use Rattle.std.proofs.Common.{ℕ, List, ◌++◌, take}
 use Rattle.octet_io.specs.Start.{Start}
-use Rattle.text_got.specs.Told.{HasText}
+use Rattle.text_got.specs.TextSoFar.{HasText}
 use Rattle.fate_check.specs.CheckText.{refused_items}
 use Rattle.fate_check.proofs.write_check_lines.write_refused.Given as goal
 

@@ -2,7 +2,7 @@
 use Rattle.std.proofs.Common.{◌≡◌, ◌≤◌, ℕ, List, ◌++◌, length}
 use Rattle.std.specs.List.{flat_map, range_with_len}
 use Rattle.law_model.specs.Common.{Start, leg_of}
-use Rattle.text_got.specs.Told.{HasText}
+use Rattle.text_got.specs.TextSoFar.{HasText}
 use Rattle.fate_check.specs.UsedLines.{unused_among}
 use Rattle.fate_check.specs.CheckText.{unused_text}
 use Rattle.fate_check.proofs.write_check_lines.write_unused.Given as goal

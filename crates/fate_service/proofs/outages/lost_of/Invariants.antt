@@ -1,6 +1,6 @@
 -- The lost frames so far.
 use Rattle.std.proofs.Common.{◌≡◌, ◌≤◌, ◌*◌, drop}
-use Rattle.fate_service.specs.Frames.{no_frames}
+use Rattle.fate_service.specs.FrameColumns.{no_frames}
 use Rattle.fate_service.specs.Outages.{lost_on}
 use Rattle.fate_service.proofs.outages.lost_of.Given as goal
 

@@ -1,12 +1,12 @@
 -- What lines of rows add up to.
-use Rattle.fate_service.proofs.ServiceLawLaws.RunLaws.{members-are, members-rows, members-room}
-use Rattle.fate_service.proofs.ServiceLawLaws.DarkLaws.{lines-count}
-use Rattle.fate_service.proofs.ServiceLawLaws.LostLaws.{outages-lost, outages-dark, outages-broken}
+use Rattle.fate_service.proofs.ServiceLawLaws.MemberRunLaws.{members-are, members-rows, members-room}
+use Rattle.fate_service.proofs.ServiceLawLaws.OutageRunLaws.{lines-count}
+use Rattle.fate_service.proofs.ServiceLawLaws.LostFrameOutageLaws.{outages-lost, outages-dark, outages-broken}
 use Rattle.fate_service.specs.Outages.{outages_of}
 use Rattle.fate_service.specs.RowStates.{states_of}
-use Rattle.fate_service.specs.Frames.{carried_of}
+use Rattle.fate_service.specs.FrameColumns.{carried_of}
 use Rattle.fate_engine.specs.fate_law.SessionFates.{ended_of}
-use Rattle.law_walk.specs.Delivered.{session_rows}
+use Rattle.law_walk.specs.DeliveredFrames.{session_rows}
 use Rattle.fate_service.proofs.service_law.rows_law.Goals as goal
 
 pub returns : goal.returns

@@ -7,18 +7,18 @@ use Rattle.law_model.specs.Common.{scramble_on, segments_on, are_whole, is_up, l
 use Rattle.law_model.specs.Common.{said_before, cells_before, reaching, place_of, stream_before, after, keep}
 use Rattle.law_model.specs.Common.{none_kept, admit, turned, take_out, exchange}
 use Rattle.law_model.specs.members.Damage.{carried}
-use Rattle.law_loss.specs.Worked.{worked_stream, worked_rows}
+use Rattle.law_loss.specs.WorkedLosses.{worked_stream, worked_rows}
 use Rattle.law_walk.specs.Common.{landed_from}
 use Rattle.fate_engine.specs.Common.{row_from, spoiled_from, fate_among, ended_on, spans_on}
 use Rattle.fate_engine.specs.Common.{row_segments_with, mark_of_row}
 use Rattle.fate_service.specs.Delays.{within_on, least_from}
-use Rattle.fate_service.specs.Frames.{waits_on}
-use Rattle.fate_service.specs.Members.{runs_on}
+use Rattle.fate_service.specs.FrameColumns.{waits_on}
+use Rattle.fate_service.specs.MemberRuns.{runs_on}
 use Rattle.fate_service.specs.Outages.{with_dark, outages_on, lost_on}
 use Rattle.fate_service.specs.RowStates.{dark_on}
 use Rattle.fate_service.specs.ServiceText.{outages_text}
 use Rattle.fate_service.specs.Stretches.{came_on, ended_on as counts_on, peak_on, spans_on as stretches_on, told_on}
-use Rattle.fate_service.specs.service_law.Lines.{outage_lines}
+use Rattle.fate_service.specs.service_law.LinesAsNumbers.{outage_lines}
 use Rattle.fate_service.proofs.service_law.worked_law.Goals as goal
 
 pub returns : goal.returns

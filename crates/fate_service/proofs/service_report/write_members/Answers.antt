@@ -2,13 +2,13 @@
 use Rattle.std.proofs.Common.{◌≡◌, ℕ, zero, suc, ◌+◌, ◌-◌, ◌<◌, ◌≤◌, ◌++◌, List, [], map, refl, sym, ◌∙◌, ap, subst, arith}
 use Rattle.std.proofs.Common.{append-nil, append_assoc}
 use Rattle.std.specs.List.{flat_map, range_with_len}
-use Rattle.text_got.specs.Told.{HasText}
+use Rattle.text_got.specs.TextSoFar.{HasText}
 use Rattle.law_model.specs.Common.{width}
 use Rattle.fate_service.specs.declared.width_run.WidthRun.{WidthRun}
-use Rattle.fate_service.specs.Members.{runs_on, runs_of}
+use Rattle.fate_service.specs.MemberRuns.{runs_on, runs_of}
 use Rattle.fate_service.specs.Surveyed.{next_run, run_text}
 use Rattle.fate_service.specs.ServiceText.{members_text}
-use Rattle.fate_service.proofs.TextLaws.{members-begin, members-next, members-end, run-few, run-grows, text-more, text-whole}
+use Rattle.fate_service.proofs.ServiceTextLaws.{members-begin, members-next, members-end, run-few, run-grows, text-more, text-whole}
 use Rattle.fate_service.proofs.service_report.write_members.Goals as goal
 
 some-rows : (n : ℕ) → (n ≡ 0 → ⊥) → 0 < n

@@ -2,9 +2,9 @@
 use Rattle.std.proofs.Common.{◌≡◌, ℕ, ◌-◌, ◌≤◌, List, ◌++◌, map, Option}
 use Rattle.std.specs.List.{flat_map, range_with_len}
 use Rattle.law_model.specs.Common.{Start, Scenario, Told, width}
-use Rattle.text_got.specs.Told.{HasText}
+use Rattle.text_got.specs.TextSoFar.{HasText}
 use Rattle.fate_engine.specs.Common.{ArePackets}
-use Rattle.fate_service.specs.Members.{runs_on, runs_of}
+use Rattle.fate_service.specs.MemberRuns.{runs_on, runs_of}
 use Rattle.fate_service.specs.ServiceText.{members_text}
 use Rattle.fate_service.proofs.service_report.write_members.Given as goal
 

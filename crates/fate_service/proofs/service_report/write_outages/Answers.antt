@@ -2,18 +2,18 @@
 use Rattle.std.proofs.Common.{◌≡◌, ℕ, ◌+◌, ◌<◌, ◌≤◌, ◌++◌, List, [], All, Option, length, drop, refl, sym, ◌∙◌, ap, subst}
 use Rattle.std.proofs.Common.{arith, append-nil, append_assoc}
 use Rattle.std.proofs.lemmas.List.{at_drop_all, take_rest}
-use Rattle.text_got.specs.Told.{HasText}
+use Rattle.text_got.specs.TextSoFar.{HasText}
 use Rattle.law_model.specs.Common.{leg_of, scenario_by}
 use Rattle.law_model.specs.declared.session_totals.Totals.{Totals}
 use Rattle.law_walk.specs.Common.{session_of}
 use Rattle.fate_engine.specs.Common.{row_cause, ended_of}
 use Rattle.fate_engine.specs.declared.fate_law.Cause.{Cause}
 use Rattle.fate_service.specs.declared.landed_frames.CarriedFrame.{CarriedFrame}
-use Rattle.fate_service.specs.Frames.{carried_of}
+use Rattle.fate_service.specs.FrameColumns.{carried_of}
 use Rattle.fate_service.specs.Outages.{losses, next_first}
 use Rattle.fate_service.specs.ServiceText.{outage_text, outages_text}
-use Rattle.fate_service.proofs.OutageLaws.{Begins, survey-begins}
-use Rattle.fate_service.proofs.TextLaws.{outage-next, text-more, text-whole}
+use Rattle.fate_service.proofs.OutageGrowsLaws.{Begins, survey-begins}
+use Rattle.fate_service.proofs.ServiceTextLaws.{outage-next, text-more, text-whole}
 use Rattle.fate_service.proofs.service_report.write_outages.Goals as goal
 
 pub loop-i-init : goal.loop-i-init

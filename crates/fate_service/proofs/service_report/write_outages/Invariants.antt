@@ -1,10 +1,10 @@
 -- The outages so far are written.
 use Rattle.std.proofs.Common.{◌≡◌, ℕ, List, ◌++◌, drop}
 use Rattle.law_model.specs.Common.{Start, leg_of, scenario_by}
-use Rattle.text_got.specs.Told.{HasText}
+use Rattle.text_got.specs.TextSoFar.{HasText}
 use Rattle.law_walk.specs.Common.{session_of}
 use Rattle.fate_engine.specs.Common.{row_cause, ended_of}
-use Rattle.fate_service.specs.Frames.{carried_of}
+use Rattle.fate_service.specs.FrameColumns.{carried_of}
 use Rattle.fate_service.specs.ServiceText.{outages_text}
 use Rattle.fate_service.proofs.service_report.write_outages.Given as goal
 

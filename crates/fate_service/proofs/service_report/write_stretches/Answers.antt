@@ -1,10 +1,10 @@
 -- A stretch more; and all of them.
 use Rattle.std.proofs.Common.{ℕ, ◌+◌, ◌++◌, min, List, [], refl, sym, ◌∙◌, ap, subst, arith, append-nil, append_assoc}
-use Rattle.text_got.specs.Told.{HasText}
+use Rattle.text_got.specs.TextSoFar.{HasText}
 use Rattle.law_model.specs.Common.{leg_of}
 use Rattle.fate_service.specs.Stretches.{Known, stretch_of, spans_on, spans_of}
 use Rattle.fate_service.specs.ServiceText.{known_of, stretch_text, stretches_text}
-use Rattle.fate_service.proofs.TextLaws.{span-next, span-end, text-more, text-whole}
+use Rattle.fate_service.proofs.ServiceTextLaws.{span-next, span-end, text-more, text-whole}
 use Rattle.fate_service.proofs.service_report.write_stretches.Goals as goal
 
 pub loop-first-init : goal.loop-first-init

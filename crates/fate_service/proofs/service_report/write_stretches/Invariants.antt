@@ -1,7 +1,7 @@
 -- The stretches so far are written.
 use Rattle.std.proofs.Common.{◌≡◌, ◌≤◌, ◌+◌, ◌-◌, ℕ, List, ◌++◌}
 use Rattle.law_model.specs.Common.{Start, leg_of}
-use Rattle.text_got.specs.Told.{HasText}
+use Rattle.text_got.specs.TextSoFar.{HasText}
 use Rattle.fate_service.specs.Stretches.{spans_on, spans_of}
 use Rattle.fate_service.specs.ServiceText.{known_of, stretches_text}
 use Rattle.fate_service.proofs.service_report.write_stretches.Given as goal

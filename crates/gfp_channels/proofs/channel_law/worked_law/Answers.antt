@@ -5,10 +5,10 @@ use Rattle.law_model.specs.Common.{hec_of, bits, number_behind, octets_of, xors,
 use Rattle.law_model.specs.Common.{head, header_with, hunt_within, scramble_on, cut, follow_within, delineate_within}
 use Rattle.law_model.specs.Common.{outcomes_after_with, Segment, segments_on, segments, extents, confirmed_in}
 use Rattle.law_model.specs.Common.{IsPlaceOfPiece, StartsTrue}
-use Rattle.gfp_model.specs.linear_model.Linear.{linear_type_fault, cid_fault}
+use Rattle.gfp_model.specs.linear_model.ChannelArea.{linear_type_fault, cid_fault}
 use Rattle.gfp_model.specs.linear_model.Channels.{first_busy, with_queue}
-use Rattle.gfp_model.specs.linear_model.Stream.{idle, client, reaching, cut_rows}
-use Rattle.gfp_channels.specs.channel_law.Kept.{as_pieces}
+use Rattle.gfp_model.specs.linear_model.ChannelStream.{idle, client, reaching, cut_rows}
+use Rattle.gfp_channels.specs.channel_law.FramesOfChannel.{as_pieces}
 use Rattle.gfp_channels.specs.channel_law.Worked.{worked_pieces, worked_stream, worked_rows}
 use Rattle.gfp_channels.proofs.channel_law.worked_law.Goals as goal
 

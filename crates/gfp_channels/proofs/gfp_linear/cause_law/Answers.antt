@@ -1,7 +1,7 @@
 -- What each cause tells is computed.
 use Rattle.std.proofs.Common.{◌≡◌, true, length, refl, nat_lt, lt-ltb}
 use Rattle.law_model.specs.Common.{hec_of, number_behind, bits, divide, add_front}
-use Rattle.gfp_model.specs.linear_model.Linear.{linear_type_fault, cid_fault}
+use Rattle.gfp_model.specs.linear_model.ChannelArea.{linear_type_fault, cid_fault}
 use Rattle.gfp_channels.proofs.gfp_linear.cause_law.Goals as goal
 
 pub returns-clause-too_long : goal.returns-clause-too_long

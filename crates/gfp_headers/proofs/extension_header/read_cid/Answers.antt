@@ -1,6 +1,6 @@
 -- The two words are those that the octets say.
 use Rattle.std.proofs.Common.{refl}
-use Rattle.gfp_headers.proofs.CidLaws.{cid_fault-none, cid_fault-some}
+use Rattle.gfp_headers.proofs.ExtensionHeaderLaws.{cid_fault-none, cid_fault-some}
 use Rattle.gfp_headers.proofs.extension_header.read_cid.Goals as goal
 
 pub returns-then-said-found-clause-value : goal.returns-then-said-found-clause-value

@@ -1,6 +1,6 @@
 -- A type header with these two fields.
 use Rattle.std.proofs.Common.{sym}
-use Rattle.gfp_headers.proofs.TypeLaws.{header-linear, type_fault-linear}
+use Rattle.gfp_headers.proofs.TypeHeaderLaws.{header-linear, type_fault-linear}
 use Rattle.gfp_headers.proofs.type_header.read_type_linear.Goals as goal
 
 pub returns-clause-value : goal.returns-clause-value

@@ -1,8 +1,8 @@
 -- The two words are those that the octets say.
 use Rattle.std.proofs.Common.{◌≡◌, Some, None, refl, sym, ◌∙◌, ap}
 use Rattle.gfp_headers.specs.TypeField.{field_fault_with}
-use Rattle.gfp_headers.proofs.TypeLaws.{type_fault-check, type_fault-field, field_with-none}
-use Rattle.gfp_headers.proofs.TypeLaws.{header_with-only, header_with-field, header_with-checked}
+use Rattle.gfp_headers.proofs.TypeHeaderLaws.{type_fault-check, type_fault-field, field_with-none}
+use Rattle.gfp_headers.proofs.TypeHeaderLaws.{header_with-only, header_with-field, header_with-checked}
 use Rattle.gfp_headers.proofs.type_header.read_with.Goals as goal
 
 pub returns-then-said-found-clause-value : goal.returns-then-said-found-clause-value

@@ -6,7 +6,7 @@ use Rattle.law_model.specs.Common.{cells_before, is_up, last_read, hec_of, bits,
 use Rattle.law_model.specs.Common.{add_front, divide, core_header, pli_of, head, scramble_on, type_fault, cut}
 use Rattle.law_model.specs.Common.{outcomes_after_with, reaching, place_of, stream_before, header_with, hunt_within}
 use Rattle.law_model.specs.Common.{follow_within, delineate_within, segments_on, rows_of}
-use Rattle.law_pair.proofs.MetLaws.{worked-pair, failing-pair}
+use Rattle.law_pair.proofs.WorkedPairLaws.{worked-pair, failing-pair}
 use Rattle.law_pair.proofs.worked_pairs.worked_law.Goals as goal
 
 pub returns : goal.returns

@@ -4,7 +4,7 @@ use Rattle.std.proofs.lemmas.List.Sorted.{IsNonDecreasingBy-short}
 use Rattle.law_model.specs.Common.{frame_dues, command_dues, held, full, pop, pop_lines, run, carries_from, drain}
 use Rattle.law_model.specs.Common.{sum_delays}
 use Rattle.law_progress.specs.Progress.{IsPath, AllPaths, IsPlanOf}
-use Rattle.law_progress.specs.Worked.{fine, one_line, two_items}
+use Rattle.law_progress.specs.WorkedPlans.{fine, one_line, two_items}
 use Rattle.law_progress.proofs.worked_counts.worked_law.Goals as goal
 
 fine-path : (total delay : ℕ) → IsPath total 0 (fine total delay)

@@ -2,7 +2,7 @@
 use Rattle.std.proofs.Common.{refl}
 use Rattle.law_model.specs.Common.{hec_of, bits, number_behind, octets_of, xors, add_front, divide, core_header, pli_of}
 use Rattle.law_model.specs.Common.{head, header_with, hunt_within, scramble_on, cut, segments_on, extents}
-use Rattle.law_loss.specs.Worked.{worked_stream, worked_rows}
+use Rattle.law_loss.specs.WorkedLosses.{worked_stream, worked_rows}
 use Rattle.fate_engine.specs.Common.{row_from, spoiled_from, fate_among}
 use Rattle.law_service.proofs.more_rows_keep_fates.worked_kept_law.Goals as goal
 

@@ -1,5 +1,5 @@
 -- A walk goes by the clock.
-use Rattle.law_service.proofs.ClockLaws.{clock, row-clock, rows-left, drain-clock}
+use Rattle.law_service.proofs.ClockRoundsLaws.{clock, row-clock, rows-left, drain-clock}
 use Rattle.law_service.proofs.ClockLegLaws.{leg-keeps, leg-clock}
 use Rattle.law_service.proofs.walk_by_the_clock.clock_law.Goals as goal
 

@@ -3,8 +3,8 @@ use Rattle.std.proofs.Common.{ℕ, [], ◌∷◌, refl, arith}
 use Rattle.std.proofs.lemmas.List.Sorted.{IsNonDecreasingBy-short, IsNonDecreasingBy-push}
 use Rattle.law_model.specs.Common.{frame_dues, command_dues, held, full, pop, pop_lines, run, carries_from}
 use Rattle.law_progress.specs.Progress.{IsPath, AllPaths, IsPlanOf}
-use Rattle.law_progress.specs.Worked.{fine}
-use Rattle.law_service.specs.Clock.{after_rounds, two_lines}
+use Rattle.law_progress.specs.WorkedPlans.{fine}
+use Rattle.law_service.specs.ClockedWalk.{after_rounds, two_lines}
 use Rattle.law_service.proofs.walk_by_the_clock.worked_clock_law.Goals as goal
 
 fine-path : (total delay : ℕ) → IsPath total 0 (fine total delay)

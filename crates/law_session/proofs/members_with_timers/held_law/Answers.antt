@@ -1,9 +1,9 @@
 -- A member that is held.
 use Rattle.law_model.specs.Common.{cells_before}
-use Rattle.law_session.proofs.SessionLaws.{session-law}
-use Rattle.law_session.proofs.WordLaws.{word-here}
-use Rattle.law_session.proofs.TimerTurns.{out-why, back-why}
-use Rattle.law_session.proofs.TimerHeld.{held-used}
+use Rattle.law_session.proofs.ReturnCellsAgreeLaws.{session-law}
+use Rattle.law_session.proofs.WordAndStatusLaws.{word-here}
+use Rattle.law_session.proofs.GoesOutComesBackLaws.{out-why, back-why}
+use Rattle.law_session.proofs.HeldLineInUseLaws.{held-used}
 use Rattle.law_session.proofs.members_with_timers.held_law.Goals as goal
 
 pub returns-clause-word : goal.returns-clause-word

@@ -5,9 +5,9 @@ use Rattle.std.proofs.lemmas.Bool.{cases_lt}
 use Rattle.law_model.specs.members.Damage.{carried}
 use Rattle.law_model.specs.Common.{are_whole, keep, none_kept, admit, turned, take_out, exchange, after, said_before}
 use Rattle.law_model.specs.Common.{cells_before, is_read, is_up, last_read}
-use Rattle.law_session.specs.Timed.{MissesFew}
-use Rattle.law_session.specs.WorkedTimed.{held_line}
-use Rattle.law_session.proofs.TimerUp.{range-each}
+use Rattle.law_session.specs.TimedMembers.{MissesFew}
+use Rattle.law_session.specs.WorkedFlaps.{held_line}
+use Rattle.law_session.proofs.UpByPacketsReadLaws.{range-each}
 use Rattle.law_session.proofs.members_with_timers.worked_held_law.Goals as goal
 
 all-read : list_all (is_read (held_line 2) 1) (range_with_len 65 16) ≡ true

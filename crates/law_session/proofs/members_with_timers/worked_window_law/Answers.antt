@@ -6,7 +6,7 @@ use Rattle.law_model.specs.declared.window_types.Window.{Window}
 use Rattle.law_model.specs.declared.window_types.Carried.TheVariants.{Whole, Fails, Vanishes}
 use Rattle.law_model.specs.members.Damage.{carried}
 use Rattle.law_model.specs.Common.{are_whole, carried_by, carried_in}
-use Rattle.law_session.specs.WorkedTimed.{flapping}
+use Rattle.law_session.specs.WorkedFlaps.{flapping}
 use Rattle.law_session.proofs.members_with_timers.worked_window_law.Goals as goal
 
 pub returns-clause-alone : goal.returns-clause-alone

@@ -1,9 +1,9 @@
 -- In each state one MFI1 at most is in step.
 use Rattle.std.proofs.Common.{◌≡◌, ◌+◌, ◌*◌, ◌/◌, ◌%◌, [], ◌∷◌, ◌++◌, length, Some, subst, arith}
 use Rattle.member_path.specs.declared.h4_multiframe.Place.TheVariants.{Locks, At}
-use Rattle.member_path.specs.h4_multiframe.Place.{IsPlace}
+use Rattle.member_path.specs.h4_multiframe.MultiframePlace.{IsPlace}
 use Rattle.member_path.specs.h4_multiframe.LockState.{LockStands}
-use Rattle.member_path.proofs.H4MultiframeLaws.PlaceLaws.{locks_place, at_place, unlocked_unknown, begun_unknown, locked_unknown}
+use Rattle.member_path.proofs.H4MultiframeLaws.LockPlaceLaws.{locks_place, at_place, unlocked_unknown, begun_unknown, locked_unknown}
 use Rattle.member_path.proofs.h4_multiframe.place_of.Goals as goal
 
 pub returns-in-Unlocked : goal.returns-in-Unlocked

@@ -1,6 +1,6 @@
 -- The laws of what is read stand with its definition.
-use Rattle.law_model.proofs.PacketLaws.{read_of-packet_nibbles, read_of-accepted, are_nibbles-true}
-use Rattle.law_model.proofs.PacketLaws.{accepted_cleared, accepted_IsPacket}
+use Rattle.law_model.proofs.PacketNibblesLaws.{read_of-packet_nibbles, read_of-accepted, are_nibbles-true}
+use Rattle.law_model.proofs.PacketNibblesLaws.{accepted_cleared, accepted_IsPacket}
 use Rattle.member_rows.proofs.lcas_packet.packet_law.Goals as goal
 
 pub returns-clause-back : goal.returns-clause-back

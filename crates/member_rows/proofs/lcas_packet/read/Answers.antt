@@ -1,8 +1,8 @@
 -- The nibbles are sixteen, so what is read is decided by their check and then by their code.
 use Rattle.std.proofs.Common.{◌≡◌, ◌≢◌, Ok, sym, ◌∙◌, ap, arith}
 use Rattle.law_model.specs.Common.{said_check, found_check, read_by}
-use Rattle.law_model.proofs.PacketLaws.{are_nibbles-from, read_of-crc, read_of-checked, read_of-accepted}
-use Rattle.law_model.proofs.PacketLaws.{accepted_cleared}
+use Rattle.law_model.proofs.PacketNibblesLaws.{are_nibbles-from, read_of-crc, read_of-checked, read_of-accepted}
+use Rattle.law_model.proofs.PacketNibblesLaws.{accepted_cleared}
 use Rattle.member_rows.proofs.lcas_packet.read.Goals as goal
 
 pub returns-then-said-found-clause-value : goal.returns-then-said-found-clause-value

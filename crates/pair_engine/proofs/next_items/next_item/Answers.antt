@@ -1,8 +1,8 @@
 -- Of the next of each kind the one that lands first.
 use Rattle.std.proofs.Common.{Some, sym, ◌∙◌, ap, ap₂}
 use Rattle.pair_engine.specs.declared.next_items.NextItem.{NextItem}
-use Rattle.pair_engine.specs.Steps.{due_of_next, found_by}
-use Rattle.pair_engine.proofs.ItemLaws.{pick, first-found, pick-both, pick-frame, pick-command}
+use Rattle.pair_engine.specs.WayCalls.{due_of_next, found_by}
+use Rattle.pair_engine.proofs.FirstDueItemLaws.{pick, first-found, pick-both, pick-frame, pick-command}
 use Rattle.pair_engine.proofs.next_items.next_item.Goals as goal
 
 pub returns-in-Some-Some-clause-first : goal.returns-in-Some-Some-clause-first

@@ -2,15 +2,15 @@
 use Rattle.std.proofs.Common.{rules, refl, sym, ◌∙◌, subst, inl, inr, false, not, OnOk, OnErr}
 use Rattle.std.proofs.lemmas.Result.{on_ok_weaker, on_err_weaker}
 use Rattle.law_model.specs.Common.{Appends, AppendsPart}
-use Rattle.text_got.specs.Told.{AppendsSome, GivesUp, has_failed}
+use Rattle.text_got.specs.TextSoFar.{AppendsSome, GivesUp, has_failed}
 use Rattle.law_walk.specs.Common.{report_of}
 use Rattle.command_parts.specs.Common.{lent, WritesAll, WritesPart, writes_both}
 use Rattle.law_pair.specs.Common.{counts_on}
 use Rattle.law_pair.specs.declared.pair_events.Way.TheVariants.{There, Back}
-use Rattle.pair_engine.specs.Moved.{leg_on}
-use Rattle.pair_walk.specs.Text.{way_text}
-use Rattle.pair_walk.proofs.EndLaws.{appends-all, begun-few, ended-there, ended-back, same-name, way-lines}
-use Rattle.pair_walk.proofs.EndLaws.{way-given_up, on-ok, at-ok, at-err, stops-both}
+use Rattle.pair_engine.specs.PairAfterEvent.{leg_on}
+use Rattle.pair_walk.specs.ReportsOfWays.{way_text}
+use Rattle.pair_walk.proofs.PairReportEndLaws.{appends-all, begun-few, ended-there, ended-back, same-name, way-lines}
+use Rattle.pair_walk.proofs.PairReportEndLaws.{way-given_up, on-ok, at-ok, at-err, stops-both}
 use Rattle.pair_walk.proofs.pair_report.write_pair.Goals as goal
 
 pub returns-then-write_rounds-clause-err : goal.returns-then-write_rounds-clause-err

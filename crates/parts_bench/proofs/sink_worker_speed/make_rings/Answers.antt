@@ -1,7 +1,7 @@
 -- The ends up to here are fresh.
 use Rattle.std.proofs.Common.{◌≡◌, [], replicate, subst, arith}
-use Rattle.thread_sink.specs.Received.{received}
-use Rattle.parts_bench.proofs.FreshLaws.{so_many}
+use Rattle.thread_sink.specs.ReceivedByRings.{received}
+use Rattle.parts_bench.proofs.FreshRingEndsLaws.{so_many}
 use Rattle.parts_bench.proofs.sink_worker_speed.make_rings.Goals as goal
 
 pub returns-clause-count : goal.returns-clause-count

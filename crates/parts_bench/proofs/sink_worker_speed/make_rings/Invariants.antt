@@ -1,6 +1,6 @@
 -- The ends up to here are fresh.
 use Rattle.std.proofs.Common.{◌≡◌, [], replicate}
-use Rattle.thread_sink.specs.Received.{received}
+use Rattle.thread_sink.specs.ReceivedByRings.{received}
 use Rattle.parts_bench.proofs.sink_worker_speed.make_rings.Given as goal
 
 abbrev pub invariant-loop-line : goal.invariant-loop-line

@@ -1,8 +1,8 @@
 -- One more end through which nothing has passed.
 use Rattle.std.proofs.Common.{rules, ◌≡◌, zero, suc, ◌+◌, List, [], ◌∷◌, ◌++◌, length, sym, subst, arith, length-append}
 use Rattle.std.proofs.lemmas.Option.{same_Some}
-use Rattle.thread_rings.specs.Ends.{OutEnd, out_passed}
-use Rattle.thread_group.specs.Rings.{AreUnused}
+use Rattle.thread_rings.specs.EndsOfRing.{OutEnd, out_passed}
+use Rattle.thread_group.specs.GroupRings.{AreUnused}
 use Rattle.parts_tests.proofs.group_state.send_rings.Goals as goal
 
 unused-more : {T : Type 0} (ends : List (OutEnd T)) (end : OutEnd T) → AreUnused ends → out_passed end ≡ [] →

@@ -1,6 +1,6 @@
 -- So many rings are made, and nothing has passed through them.
 use Rattle.std.proofs.Common.{◌≡◌, length}
-use Rattle.thread_group.specs.Rings.{AreUnused}
+use Rattle.thread_group.specs.GroupRings.{AreUnused}
 use Rattle.parts_tests.proofs.group_state.send_rings.Given as goal
 
 abbrev pub invariant-loop : goal.invariant-loop

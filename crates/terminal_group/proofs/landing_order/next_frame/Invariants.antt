@@ -1,6 +1,6 @@
 -- The items passed are of the other kind.
 use Rattle.std.proofs.Common.{◌≡◌, ◌+◌, drop}
-use Rattle.terminal_group.specs.Place.{is_frame, place_of}
+use Rattle.terminal_group.specs.ItemPlaces.{is_frame, place_of}
 use Rattle.terminal_group.proofs.landing_order.next_frame.Given as goal
 
 abbrev pub invariant-loop-i : goal.invariant-loop-i

@@ -1,10 +1,10 @@
 -- The lines of one number more, until all are found.
 use Rattle.std.proofs.Common.{◌≡◌, ◌+◌, ◌≤◌, ◌++◌, length, sym, ◌∙◌, ap, arith, length-append}
 use Rattle.law_model.specs.Common.{lines_at, active_from}
-use Rattle.terminal_sink.specs.active_lines.Active.{carrying}
-use Rattle.terminal_sink.proofs.ActiveLinesLaws.ActiveLaws.{active_from-none, active_from-more, active_from-fits}
-use Rattle.terminal_sink.proofs.ActiveLinesLaws.ActiveLaws.{carrying-fits}
-use Rattle.terminal_sink.proofs.ActiveLinesLaws.ActiveLaws.{active_of-found, found-lines}
+use Rattle.terminal_sink.specs.active_lines.CarryingLines.{carrying}
+use Rattle.terminal_sink.proofs.ActiveLinesLaws.ActiveByNumberLaws.{active_from-none, active_from-more, active_from-fits}
+use Rattle.terminal_sink.proofs.ActiveLinesLaws.ActiveByNumberLaws.{carrying-fits}
+use Rattle.terminal_sink.proofs.ActiveLinesLaws.ActiveByNumberLaws.{active_of-found, found-lines}
 use Rattle.terminal_sink.proofs.active_lines.find_active.Goals as goal
 
 pub loop-sq-init : goal.loop-sq-init

@@ -1,7 +1,7 @@
 -- The digits read so far, and their value.
 use Rattle.std.proofs.Common.{◌≡◌, ◌<◌, ◌^◌, take, drop, true}
 use Rattle.std.specs.List.{list_all}
-use Rattle.text_lines.specs.Words.{number_after, number_of, is_digit}
+use Rattle.text_lines.specs.WordsOfLine.{number_after, number_of, is_digit}
 use Rattle.text_lines.proofs.read_fields.read_number.Given as goal
 
 abbrev pub invariant-loop-c : goal.invariant-loop-c

@@ -1,6 +1,6 @@
 -- The words counted so far and those that are left.
 use Rattle.std.proofs.Common.{◌≡◌, ◌≤◌, ◌+◌, length}
-use Rattle.text_lines.specs.Words.{words}
+use Rattle.text_lines.specs.WordsOfLine.{words}
 use Rattle.text_lines.proofs.split_words.count_words.Given as goal
 
 abbrev pub invariant-loop-further : goal.invariant-loop-further

@@ -1,6 +1,6 @@
 -- Spaces in front change no word.
 use Rattle.std.proofs.Common.{◌≡◌, ◌≤◌, length}
-use Rattle.text_lines.specs.Words.{words}
+use Rattle.text_lines.specs.WordsOfLine.{words}
 use Rattle.text_lines.proofs.split_words.trim_start.Given as goal
 
 abbrev pub invariant-loop-text : goal.invariant-loop-text

@@ -1,8 +1,8 @@
 -- A slot of each line so far is free, and the others are as they were.
 use Rattle.std.proofs.Common.{◌≡◌, ℕ, ◌<◌, ◌≤◌, slice_get, Some}
 use Rattle.law_model.specs.Common.{Container}
-use Rattle.thread_rings.specs.Ends.{OutEnd, out_free}
-use Rattle.thread_group.specs.Rings.{HaveLooked}
+use Rattle.thread_rings.specs.EndsOfRing.{OutEnd, out_free}
+use Rattle.thread_group.specs.GroupRings.{HaveLooked}
 use Rattle.thread_group.proofs.tick_rings.first_full.Given as goal
 
 abbrev pub invariant-loop-m : goal.invariant-loop-m

@@ -1,9 +1,9 @@
 -- The lines so far were pushed their containers, and the others are as they were.
 use Rattle.std.proofs.Common.{◌≡◌, ℕ, ◌<◌, ◌≤◌, length, slice_get, Some}
 use Rattle.law_model.specs.Common.{Container}
-use Rattle.member_cells.specs.Held.{held}
-use Rattle.thread_rings.specs.Ends.{OutEnd}
-use Rattle.thread_group.specs.Rings.{IsPushed}
+use Rattle.member_cells.specs.HeldPlaces.{held}
+use Rattle.thread_rings.specs.EndsOfRing.{OutEnd}
+use Rattle.thread_group.specs.GroupRings.{IsPushed}
 use Rattle.thread_group.proofs.tick_rings.push_frame.Given as goal
 
 abbrev pub invariant-loop-m : goal.invariant-loop-m

@@ -3,13 +3,13 @@ use Rattle.std.proofs.Common.{◌≡◌, ◌+◌, ◌<◌, List, [], ◌∷◌, 
 use Rattle.std.proofs.Common.{append_assoc}
 use Rattle.std.proofs.lemmas.List.{length_push}
 use Rattle.law_model.specs.Common.{one_more, BackCell}
-use Rattle.thread_rings.specs.Ends.{InEnd, in_passed, SameIn}
-use Rattle.thread_rings.proofs.EndLaws.{in-then}
+use Rattle.thread_rings.specs.EndsOfRing.{InEnd, in_passed, SameIn}
+use Rattle.thread_rings.proofs.SameRingEndsLaws.{in-then}
 use Rattle.terminal_group.specs.ReturnInbox.{is_lost_in, Inbox, come_by, with_come, HasCome}
 use Rattle.terminal_group.specs.Source.{Source}
-use Rattle.thread_group.specs.Rings.{HasMoved}
-use Rattle.terminal_group.proofs.CellLaws.{come-put}
-use Rattle.thread_group.proofs.RingLaws.{less}
+use Rattle.thread_group.specs.GroupRings.{HasMoved}
+use Rattle.terminal_group.proofs.ReturnCellLaws.{come-put}
+use Rattle.thread_group.proofs.SendRingEndsLaws.{less}
 use Rattle.thread_group.proofs.tick_rings.take_cells.Goals as goal
 
 moved-one : (first was is : Inbox) (start old new : InEnd BackCell) (cell : BackCell) → HasMoved first was start old →

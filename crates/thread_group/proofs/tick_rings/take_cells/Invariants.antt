@@ -1,7 +1,7 @@
 -- What has been moved so far; no look has missed yet.
 use Rattle.std.proofs.Common.{◌≡◌, ◌+◌, ◌-◌, ◌≤◌, length}
-use Rattle.thread_rings.specs.Ends.{in_misses}
-use Rattle.thread_group.specs.Rings.{HasMoved}
+use Rattle.thread_rings.specs.EndsOfRing.{in_misses}
+use Rattle.thread_group.specs.GroupRings.{HasMoved}
 use Rattle.thread_group.proofs.tick_rings.take_cells.Given as goal
 
 abbrev pub invariant-loop-back : goal.invariant-loop-back

@@ -4,7 +4,7 @@ use Rattle.law_model.specs.Common.{Container}
 use Rattle.member_path.specs.path_delay.Carry.{carry_cells}
 use Rattle.member_path.specs.declared.cell_numbers.signs_and_verdicts.CellSign.{CellSign}
 use Rattle.member_path.specs.declared.cell_numbers.signs_and_verdicts.CellSign.TheVariants.{Good, Fail, End}
-use Rattle.thread_rings.specs.Alarms.{failed_after}
+use Rattle.thread_rings.specs.LineAlarms.{failed_after}
 use Rattle.thread_rings.proofs.raised_alarms.fails_after.Goals as goal
 
 of-carry : (failed : Bool) (container : Container) (carry known : Option CellSign) → carry ≡ known →

@@ -6,7 +6,7 @@ use Rattle.member_path.specs.path_delay.Carry.{carry_cells}
 use Rattle.member_path.specs.declared.cell_numbers.signs_and_verdicts.CellSign.{CellSign}
 use Rattle.member_path.specs.declared.cell_numbers.signs_and_verdicts.CellSign.TheVariants.{Good as GoodSign, Fail as FailSign, End as EndSign}
 use Rattle.thread_rings.specs.declared.alarm_kinds.AlarmKind.TheVariants.{Fails, Returns}
-use Rattle.thread_rings.specs.Alarms.{alarms_from, alarm_if}
+use Rattle.thread_rings.specs.LineAlarms.{alarms_from, alarm_if}
 use Rattle.thread_rings.proofs.raised_alarms.says.Goals as goal
 
 good-says : (m i : ℕ) (failed : Bool) (c : Container) →

@@ -1,7 +1,7 @@
 -- What was given so far.
 use Rattle.std.proofs.Common.{◌≡◌, ◌≤◌, length}
 use Rattle.member_rows.specs.realign_rows.Gather.{line_count}
-use Rattle.thread_sink.specs.Parts.{parts, Keeps, Later, Gives}
+use Rattle.thread_sink.specs.SinkParts.{parts, Keeps, Later, Gives}
 use Rattle.thread_sink.proofs.burst_steps.go_on.Given as goal
 
 abbrev pub invariant-loop : goal.invariant-loop

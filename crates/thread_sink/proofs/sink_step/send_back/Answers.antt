@@ -1,7 +1,7 @@
 -- The return cell of the packet is pushed.
 use Rattle.std.proofs.Common.{◌≡◌, [], ◌∷◌, ◌++◌, sym, ◌∙◌, ap, ap₂}
 use Rattle.member_cells.specs.declared.containers_and_cells.BackCell.TheVariants.{Packet as PacketCell}
-use Rattle.thread_sink.specs.Received.{back_cells}
+use Rattle.thread_sink.specs.ReceivedByRings.{back_cells}
 use Rattle.thread_sink.proofs.sink_step.send_back.Goals as goal
 
 pub returns-then-ready-clause-sent : goal.returns-then-ready-clause-sent

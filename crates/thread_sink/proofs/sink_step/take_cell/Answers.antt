@@ -1,9 +1,9 @@
 -- One line has one cell more.
 use Rattle.std.proofs.Common.{◌<◌, length, refl, sym, subst, arith, slice_set}
-use Rattle.thread_rings.specs.Ends.{in_passed, SameIn}
-use Rattle.thread_sink.specs.Received.{Missed}
+use Rattle.thread_rings.specs.EndsOfRing.{in_passed, SameIn}
+use Rattle.thread_sink.specs.ReceivedByRings.{Missed}
 use Rattle.thread_sink.specs.Step.{Grew, TookCell}
-use Rattle.thread_sink.proofs.RingLaws.{map-with_cell, map-still, set-there, set-was, set-length, set-each}
+use Rattle.thread_sink.proofs.OneRingTouchedLaws.{map-with_cell, map-still, set-there, set-was, set-length, set-each}
 use Rattle.thread_sink.proofs.sink_step.take_cell.Goals as goal
 
 pub returns : goal.returns

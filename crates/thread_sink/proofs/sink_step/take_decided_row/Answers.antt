@@ -1,11 +1,11 @@
 -- The row that is decided is taken, and its return packet sent.
 use Rattle.std.proofs.Common.{◌≡◌, ◌+◌, ◌%◌, ◌<◌, ◌≤◌, ◌++◌, length, true, sym, ◌∙◌, ap, ap₂, subst}
-use Rattle.thread_rings.specs.Ends.{out_free}
+use Rattle.thread_rings.specs.EndsOfRing.{out_free}
 use Rattle.terminal_sink.specs.declared.sink_core.sink_terminal.TakeAnswer.TheVariants.{Taken}
-use Rattle.terminal_sink.specs.sink_core.Given.{answer_by, back_at, rows_taken}
-use Rattle.thread_sink.specs.Received.{received, back_cells, backs}
+use Rattle.terminal_sink.specs.sink_core.TakenAndGiven.{answer_by, back_at, rows_taken}
+use Rattle.thread_sink.specs.ReceivedByRings.{received, back_cells, backs}
 use Rattle.thread_sink.specs.Step.{packet_in}
-use Rattle.thread_sink.proofs.PartsLaws.{back-room, backs-more}
+use Rattle.thread_sink.proofs.SinkPartsLaws.{back-room, backs-more}
 use Rattle.thread_sink.proofs.sink_step.take_decided_row.Goals as goal
 
 pub returns-clause-keeps : goal.returns-clause-keeps

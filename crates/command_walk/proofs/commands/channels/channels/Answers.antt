@@ -2,11 +2,11 @@
 use Rattle.std.proofs.Common.{refl, sym, ap, ◌∙◌}
 use Rattle.command_parts.specs.Common.{line_text}
 use Rattle.command_parts.specs.declared.stop_and_status.Refusal.TheVariants.{Line}
-use Rattle.command_parts.proofs.StopLaws.{refused-line}
-use Rattle.command_parts.proofs.GiveLaws.{text-written}
-use Rattle.text_lines.specs.Faults.{kind_of}
+use Rattle.command_parts.proofs.TextStopsCommandLaws.{refused-line}
+use Rattle.command_parts.proofs.CommandGivesLaws.{text-written}
+use Rattle.text_lines.specs.LineFaults.{kind_of}
 use Rattle.gfp_channels.specs.channel_link.Helps.{help_of}
-use Rattle.gfp_channels.specs.channel_link.Text.{plan_text}
+use Rattle.gfp_channels.specs.channel_link.ChannelReportText.{plan_text}
 use Rattle.command_walk.specs.commands.Channels.{shared, channels_answer}
 use Rattle.command_walk.proofs.commands.channels.channels.Goals as goal
 

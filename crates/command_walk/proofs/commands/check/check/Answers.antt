@@ -2,11 +2,11 @@
 use Rattle.std.proofs.Common.{refl}
 use Rattle.law_model.specs.declared.script_types.Script.{Script}
 use Rattle.law_model.specs.session.Leg.{leg_of}
-use Rattle.law_headline.specs.Texts.{counts_in}
+use Rattle.law_headline.specs.WalkTexts.{counts_in}
 use Rattle.fate_check.specs.CheckText.{check_text}
 use Rattle.command_parts.specs.Task.{writes}
-use Rattle.command_parts.proofs.GiveLaws.{script-written}
-use Rattle.command_walk.proofs.RoomLaws.{hands-script}
+use Rattle.command_parts.proofs.CommandGivesLaws.{script-written}
+use Rattle.command_walk.proofs.RoomsAndHeadlinesLaws.{hands-script}
 use Rattle.command_walk.proofs.commands.check.check.Goals as goal
 
 pub returns-in-Err : goal.returns-in-Err

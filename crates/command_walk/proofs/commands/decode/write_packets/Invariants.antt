@@ -1,7 +1,7 @@
 -- The lines of the octets so far are written.
 use Rattle.std.proofs.Common.{◌≡◌, ◌≤◌, take}
 use Rattle.text_captures.specs.packet_trace.Decoder.{DecoderStands}
-use Rattle.command_walk.specs.Written.{HasLines}
+use Rattle.command_walk.specs.DecodingSoFar.{HasLines}
 use Rattle.command_walk.proofs.commands.decode.write_packets.Given as goal
 
 abbrev pub invariant-loop-h4 : goal.invariant-loop-h4

@@ -3,12 +3,12 @@ use Rattle.std.proofs.Common.{◌≡◌, ◌<◌, ℕ, if◌then◌else◌, OnOk
 use Rattle.std.proofs.lemmas.Bool.{lt-ltb}
 use Rattle.law_model.specs.Common.{Appends, AppendsPart}
 use Rattle.law_model.specs.declared.script_types.Script.{Script}
-use Rattle.law_headline.specs.Texts.{counts_in}
+use Rattle.law_headline.specs.WalkTexts.{counts_in}
 use Rattle.command_parts.specs.Common.{writes, refuses, answer_of}
 use Rattle.command_parts.specs.declared.stop_and_status.Refusal.TheVariants.{Limit}
-use Rattle.command_parts.proofs.GiveLaws.{text-written}
+use Rattle.command_parts.proofs.CommandGivesLaws.{text-written}
 use Rattle.command_walk.specs.commands.H4.{h4_octets, h4_text, h4_of, h4_answer, no_line_text}
-use Rattle.command_walk.proofs.RoomLaws.{hands-script}
+use Rattle.command_walk.proofs.RoomsAndHeadlinesLaws.{hands-script}
 use Rattle.command_walk.proofs.commands.h4.h4.Goals as goal
 
 answers : (line : ℕ) (script : Script) → line < script.config.lines →

@@ -3,11 +3,11 @@ use Rattle.std.proofs.Common.{refl, sym, ◌∙◌, ap, subst}
 use Rattle.law_model.specs.declared.script_types.Script.{Script}
 use Rattle.law_model.specs.declared.session_totals.Totals.{Totals}
 use Rattle.law_model.specs.session.Leg.{leg_of}
-use Rattle.law_model.specs.session.Valid.{IsValid}
+use Rattle.law_model.specs.session.ValidScript.{IsValid}
 use Rattle.law_walk.specs.Walk.{walk_plan}
-use Rattle.command_walk.specs.Told.{IsTurn}
+use Rattle.command_walk.specs.TracedWalk.{IsTurn}
 use Rattle.command_walk.specs.TurnsLeft.{AreLeft}
-use Rattle.command_walk.proofs.TurnLaws.{turn-made}
+use Rattle.command_walk.proofs.TurnsLeftLaws.{turn-made}
 use Rattle.command_walk.proofs.commands.h4.send_event_lines.Goals as goal
 
 pub loop-turn-init : goal.loop-turn-init

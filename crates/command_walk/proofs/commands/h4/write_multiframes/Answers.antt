@@ -2,7 +2,7 @@
 use Rattle.std.proofs.Common.{◌≡◌, ◌+◌, ◌/◌, ◌%◌, ◌++◌, min, length, ap, subst, sym, ◌∙◌, arith, flat_map, append_assoc}
 use Rattle.std.specs.List.{range_with_len}
 use Rattle.law_model.proofs.ListLaws.{texts-more}
-use Rattle.text_got.specs.Told.{HasText}
+use Rattle.text_got.specs.TextSoFar.{HasText}
 use Rattle.command_walk.specs.commands.H4.{multiframe_text, h4_text}
 use Rattle.command_walk.proofs.commands.h4.write_multiframes.Goals as goal
 

@@ -2,7 +2,7 @@
 use Rattle.std.proofs.Common.{ℕ, List, ◌++◌, flat_map}
 use Rattle.std.specs.List.{range_with_len}
 use Rattle.law_model.specs.Common.{Start}
-use Rattle.text_got.specs.Told.{HasText}
+use Rattle.text_got.specs.TextSoFar.{HasText}
 use Rattle.command_walk.specs.commands.H4.{multiframe_text}
 use Rattle.command_walk.proofs.commands.h4.write_multiframes.Given as goal
 

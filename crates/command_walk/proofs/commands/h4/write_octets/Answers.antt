@@ -1,7 +1,7 @@
 -- The lines are written, or a part of them up to a write that failed.
 use Rattle.std.proofs.Common.{rules, [], sym, ◌∙◌, subst, OnOk, OnErr}
 use Rattle.law_model.specs.Common.{Start, Appends, AppendsPart}
-use Rattle.text_got.specs.Told.{HasText, name_of, start_at}
+use Rattle.text_got.specs.TextSoFar.{HasText, name_of, start_at}
 use Rattle.command_walk.specs.commands.H4.{h4_text}
 use Rattle.command_walk.proofs.commands.h4.write_octets.Goals as goal
 

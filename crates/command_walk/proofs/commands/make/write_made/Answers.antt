@@ -3,10 +3,10 @@ use Rattle.std.proofs.Common.{rules, ◌+◌, ◌-◌, ◌++◌, ℕ, List, sym,
 use Rattle.std.proofs.lemmas.Result.{on_ok_weaker, on_err_weaker}
 use borrow.Rule.Slice.PartMut.{put_mid}
 use Rattle.law_model.specs.Common.{Appends, AppendsPart}
-use Rattle.text_report.specs.Report.{total_text}
-use Rattle.text_got.proofs.BlockLaws.{front_added}
+use Rattle.text_report.specs.ReportLines.{total_text}
+use Rattle.text_got.proofs.TextWaitsInBlockLaws.{front_added}
 use Rattle.command_walk.specs.commands.Make.{made_text}
-use Rattle.command_walk.proofs.MakeLaws.{room-behind}
+use Rattle.command_walk.proofs.SummedFramesLaws.{room-behind}
 use Rattle.command_walk.proofs.commands.make.write_made.Goals as goal
 
 pub returns : goal.returns

@@ -2,11 +2,11 @@
 use Rattle.std.proofs.Common.{refl, sym, ap, ◌∙◌}
 use Rattle.command_parts.specs.Common.{line_text}
 use Rattle.command_parts.specs.declared.stop_and_status.Refusal.TheVariants.{Line}
-use Rattle.command_parts.proofs.StopLaws.{refused-line}
-use Rattle.command_parts.proofs.GiveLaws.{text-written}
-use Rattle.text_lines.specs.Faults.{kind_of}
+use Rattle.command_parts.proofs.TextStopsCommandLaws.{refused-line}
+use Rattle.command_parts.proofs.CommandGivesLaws.{text-written}
+use Rattle.text_lines.specs.LineFaults.{kind_of}
 use Rattle.gfp_noise.specs.noise_link.Helps.{help_of}
-use Rattle.gfp_noise.specs.noise_link.Text.{noise_text}
+use Rattle.gfp_noise.specs.noise_link.NoiseReportText.{noise_text}
 use Rattle.command_walk.specs.commands.Noise.{got_through, noise_answer}
 use Rattle.command_walk.proofs.commands.noise.noise.Goals as goal
 

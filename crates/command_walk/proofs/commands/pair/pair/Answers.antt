@@ -5,7 +5,7 @@ use Rattle.law_pair.specs.Common.{pair_begin, pair_plan}
 use Rattle.command_parts.specs.Common.{Answer, writes_both, reads, Lent, Meets}
 use Rattle.pair_walk.specs.declared.pair_script.script_pair.ScriptPair.{ScriptPair}
 use Rattle.pair_walk.specs.pair_script.Inputs.{HasPair, pair_answer_of}
-use Rattle.pair_walk.specs.Text.{way_text, pair_text, pair_reply}
+use Rattle.pair_walk.specs.ReportsOfWays.{way_text, pair_text, pair_reply}
 use Rattle.command_walk.proofs.commands.pair.pair.Goals as goal
 
 -- the reports of two scripts beside each other

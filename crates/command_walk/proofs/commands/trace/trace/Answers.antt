@@ -1,12 +1,12 @@
 -- A script is read, its walk is made, and its texts are written or a write fails.
 use Rattle.std.proofs.Common.{refl}
 use Rattle.law_model.specs.declared.script_types.Script.{Script}
-use Rattle.law_headline.specs.Texts.{walk_text}
+use Rattle.law_headline.specs.WalkTexts.{walk_text}
 use Rattle.command_walk.specs.commands.Trace.{trace_text}
 use Rattle.command_parts.specs.Common.{Answer, writes_both}
-use Rattle.command_parts.proofs.StopLaws.{meets-script}
-use Rattle.command_walk.proofs.RoomLaws.{hands-script}
-use Rattle.command_walk.proofs.RoomLaws.{both-ok}
+use Rattle.command_parts.proofs.TextStopsCommandLaws.{meets-script}
+use Rattle.command_walk.proofs.RoomsAndHeadlinesLaws.{hands-script}
+use Rattle.command_walk.proofs.RoomsAndHeadlinesLaws.{both-ok}
 use Rattle.command_walk.proofs.commands.trace.trace.Goals as goal
 
 abbrev answer : Script → Answer

@@ -1,10 +1,10 @@
 -- A script is read, its walk is made, and its report is written or a write fails.
 use Rattle.std.proofs.Common.{refl}
 use Rattle.law_model.specs.declared.script_types.Script.{Script}
-use Rattle.law_headline.specs.Texts.{walk_text}
+use Rattle.law_headline.specs.WalkTexts.{walk_text}
 use Rattle.command_parts.specs.Common.{writes}
-use Rattle.command_parts.proofs.GiveLaws.{script-written}
-use Rattle.command_walk.proofs.RoomLaws.{hands-script}
+use Rattle.command_parts.proofs.CommandGivesLaws.{script-written}
+use Rattle.command_walk.proofs.RoomsAndHeadlinesLaws.{hands-script}
 use Rattle.command_walk.proofs.commands.walk.walk.Goals as goal
 
 pub returns-in-Err : goal.returns-in-Err

@@ -1,8 +1,8 @@
 -- The walk goes on by a turn's events.
 use Rattle.law_model.specs.Common.{leg_of}
 use Rattle.law_walk.specs.Common.{walk_plan}
-use Rattle.command_walk.specs.Told.{events_of}
-use Rattle.command_walk.proofs.SeeLaws.{walked-on}
+use Rattle.command_walk.specs.TracedWalk.{events_of}
+use Rattle.command_walk.proofs.WalkAfterTurnLaws.{walked-on}
 use Rattle.command_walk.proofs.turns.fate_turns.see_turn.Goals as goal
 
 pub see_since-requires-clause-walked : goal.see_since-requires-clause-walked

@@ -1,7 +1,7 @@
 -- The turns so far are made, and the others are left.
 use Rattle.std.proofs.Common.{◌≡◌, false}
 use Rattle.octet_io.specs.Start.{Start}
-use Rattle.command_walk.specs.Told.{IsTold}
+use Rattle.command_walk.specs.TracedWalk.{IsTold}
 use Rattle.command_walk.specs.TurnsLeft.{turns_in, AreLeft}
 use Rattle.command_walk.proofs.turns.trace_turns.trace_event_lines.Given as goal
 

@@ -1,5 +1,5 @@
 -- Nothing has landed.
-use Rattle.fate_service.specs.Frames.{waits_on}
+use Rattle.fate_service.specs.FrameColumns.{waits_on}
 use Rattle.fate_service.proofs.landed_frames.LandedFrames.new.Goals as goal
 
 pub returns : goal.returns

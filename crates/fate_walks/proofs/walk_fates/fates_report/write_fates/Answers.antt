@@ -2,7 +2,7 @@
 use Rattle.std.proofs.Common.{rules, ℕ, List, [], map, sym, ◌∙◌, subst, OnOk, OnErr}
 use Rattle.std.specs.List.{flat_map, range_with_len}
 use Rattle.law_model.specs.Common.{leg_of, Start, Appends, AppendsPart, scenario_of}
-use Rattle.text_got.specs.Told.{HasText, name_of, start_at}
+use Rattle.text_got.specs.TextSoFar.{HasText, name_of, start_at}
 use Rattle.law_walk.specs.Common.{session_of}
 use Rattle.fate_engine.specs.Common.{row_cause, ended_of, spoiled_text, fates_text}
 use Rattle.fate_engine.specs.declared.fate_law.SpoiledRun.{SpoiledRun}

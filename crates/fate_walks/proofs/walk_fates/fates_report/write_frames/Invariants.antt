@@ -1,10 +1,10 @@
 -- The lines of the items so far are written, and they are counted.
 use Rattle.std.proofs.Common.{ℕ, List, ◌++◌, length, flat_map}
 use Rattle.law_model.specs.Common.{leg_of, Start}
-use Rattle.text_got.specs.Told.{HasText}
+use Rattle.text_got.specs.TextSoFar.{HasText}
 use Rattle.fate_engine.specs.Common.{Ended, ended_text}
-use Rattle.fate_walks.specs.walk_frames.Landed.{frames_left}
-use Rattle.fate_walks.proofs.WalkFatesLaws.LineLaws.{FramesDone}
+use Rattle.fate_walks.specs.walk_frames.ItemCursor.{frames_left}
+use Rattle.fate_walks.proofs.WalkFatesLaws.FateLineLaws.{FramesDone}
 use Rattle.fate_walks.proofs.walk_fates.fates_report.write_frames.Given as goal
 
 abbrev pub invariant-loop-frame : goal.invariant-loop-frame

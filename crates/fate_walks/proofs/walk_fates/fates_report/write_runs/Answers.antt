@@ -4,8 +4,8 @@ use Rattle.std.proofs.lemmas.Option.{slice_get-get_or}
 use Rattle.fate_engine.specs.declared.fate_law.Cause.TheVariants.{Packet}
 use Rattle.fate_engine.specs.Common.{spoiled_text}
 use Rattle.fate_engine.specs.declared.fate_law.SpoiledRun.{SpoiledRun}
-use Rattle.text_got.specs.Told.{HasText}
-use Rattle.fate_walks.proofs.WalkFatesLaws.LineLaws.{text-next}
+use Rattle.text_got.specs.TextSoFar.{HasText}
+use Rattle.fate_walks.proofs.WalkFatesLaws.FateLineLaws.{text-next}
 use Rattle.fate_walks.proofs.walk_fates.fates_report.write_runs.Goals as goal
 
 pub loop-run-preserved : goal.loop-run-preserved

@@ -1,7 +1,7 @@
 -- The lines of the runs so far are written.
 use Rattle.std.proofs.Common.{ℕ, List, ◌++◌, take, flat_map}
 use Rattle.law_model.specs.Common.{Start}
-use Rattle.text_got.specs.Told.{HasText}
+use Rattle.text_got.specs.TextSoFar.{HasText}
 use Rattle.fate_engine.specs.Common.{spoiled_text}
 use Rattle.fate_walks.proofs.walk_fates.fates_report.write_runs.Given as goal
 

@@ -1,7 +1,7 @@
 -- The line of the segment, where there is one.
 use Rattle.std.proofs.Common.{◌≡◌, ℕ, List, ◌++◌, ◌∙◌, Some, ap, subst, codes, decimal}
 use Rattle.law_model.specs.Common.{leg_of}
-use Rattle.text_got.specs.Told.{HasText}
+use Rattle.text_got.specs.TextSoFar.{HasText}
 use Rattle.law_walk.specs.Common.{session_rows}
 use Rattle.fate_walks.specs.walk_fates.MadeWalk.{segment_in}
 use Rattle.fate_walks.proofs.walk_fates.fates_report.write_segment.Goals as goal

@@ -1,7 +1,7 @@
 -- The lines of the segments so far are written.
 use Rattle.std.proofs.Common.{ℕ, List, ◌++◌, take, flat_map}
 use Rattle.law_model.specs.Common.{leg_of, Start}
-use Rattle.text_got.specs.Told.{HasText}
+use Rattle.text_got.specs.TextSoFar.{HasText}
 use Rattle.law_walk.specs.Common.{session_rows}
 use Rattle.fate_engine.specs.Common.{later_segments}
 use Rattle.fate_walks.specs.walk_fates.MadeWalk.{segment_in}

@@ -1,8 +1,8 @@
 -- The frames so far are ruled, and those after them aren't due before the last of them.
 use Rattle.std.proofs.Common.{◌-◌, length}
 use Rattle.law_model.specs.Common.{leg_of, offers_of}
-use Rattle.fate_walks.specs.walk_frames.Landed.{frames_before_item}
-use Rattle.fate_walks.proofs.WalkFatesLaws.PlaceLaws.{IsRuled}
+use Rattle.fate_walks.specs.walk_frames.ItemCursor.{frames_before_item}
+use Rattle.fate_walks.proofs.WalkFatesLaws.WalkRulerLaws.{IsRuled}
 use Rattle.fate_walks.proofs.walk_fates.frame_places.place_frames.Given as goal
 
 abbrev pub invariant-loop-frame : goal.invariant-loop-frame

@@ -2,7 +2,7 @@
 use Rattle.std.proofs.Common.{◌≡◌, ℕ}
 use Rattle.law_model.specs.Common.{leg_of}
 use Rattle.fate_engine.specs.Common.{ruler_of}
-use Rattle.fate_walks.specs.walk_frames.Places.{stream_in, Between}
+use Rattle.fate_walks.specs.walk_frames.StreamInTicks.{stream_in, Between}
 use Rattle.fate_walks.proofs.walk_fates.frame_places.reach_ticks.Given as goal
 
 abbrev pub invariant-loop-t : goal.invariant-loop-t

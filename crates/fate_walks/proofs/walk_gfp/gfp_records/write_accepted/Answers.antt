@@ -1,9 +1,9 @@
 -- A record more, in the row that the frame's fate tells.
 use Rattle.std.proofs.Common.{◌≡◌, ◌++◌, Some, sym, ◌∙◌, ap, subst}
 use Rattle.law_model.specs.Common.{leg_of}
-use Rattle.text_captures.specs.capture_file.Out.{HasGfp}
+use Rattle.text_captures.specs.capture_file.CaptureSoFar.{HasGfp}
 use Rattle.fate_walks.specs.walk_fates.MadeWalk.{fates_in}
-use Rattle.fate_walks.specs.walk_gfp.Records.{last_row, frame_if}
+use Rattle.fate_walks.specs.walk_gfp.LastRowOfFrame.{last_row, frame_if}
 use Rattle.fate_walks.proofs.walk_gfp.gfp_records.write_accepted.Goals as goal
 
 pub returns-in-Some : goal.returns-in-Some

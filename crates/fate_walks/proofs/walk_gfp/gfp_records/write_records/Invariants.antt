@@ -2,10 +2,10 @@
 use Rattle.std.proofs.Common.{[], length, take}
 use Rattle.law_model.specs.Common.{leg_of, Start}
 use Rattle.law_walk.specs.Common.{session_rows, session_extents}
-use Rattle.text_captures.specs.capture_file.Out.{HasGfp}
-use Rattle.fate_walks.specs.walk_frames.Landed.{frames_left}
-use Rattle.fate_walks.specs.walk_gfp.Carried.{carried_among}
-use Rattle.fate_walks.proofs.WalkGfpLaws.LandedLaws.{Accepted}
+use Rattle.text_captures.specs.capture_file.CaptureSoFar.{HasGfp}
+use Rattle.fate_walks.specs.walk_frames.ItemCursor.{frames_left}
+use Rattle.fate_walks.specs.walk_gfp.CarriedInRows.{carried_among}
+use Rattle.fate_walks.proofs.WalkGfpLaws.AcceptedAmongLandedLaws.{Accepted}
 use Rattle.fate_walks.proofs.walk_gfp.gfp_records.write_records.Given as goal
 
 abbrev pub invariant-loop-frame : goal.invariant-loop-frame

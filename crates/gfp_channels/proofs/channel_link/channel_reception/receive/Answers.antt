@@ -1,13 +1,13 @@
 -- A frame more, or none.
 use Rattle.std.proofs.Common.{◌≡◌, List, [], ◌∷◌, ◌++◌, sym, ◌∙◌, ap, subst, refl, flat_map}
 use Rattle.law_model.proofs.ListLaws.{length-more}
-use Rattle.text_got.specs.Told.{HasText}
-use Rattle.gfp_model.specs.linear_model.Linear.{ChannelFrame, LinearOutcome, delivery, frame_in, linear_outcomes}
+use Rattle.text_got.specs.TextSoFar.{HasText}
+use Rattle.gfp_model.specs.linear_model.ChannelArea.{ChannelFrame, LinearOutcome, delivery, frame_in, linear_outcomes}
 use Rattle.gfp_channels.specs.gfp_linear.Delineator.{frame_of, outcomes_told}
 use Rattle.gfp_channels.specs.declared.gfp_linear.linear_delineator.LinearStep.TheVariants.{Frame}
-use Rattle.gfp_channels.specs.channel_link.Text.{got_text}
-use Rattle.gfp_channels.proofs.ChannelLinkLaws.ReceptionSteps.{received-nothing}
-use Rattle.gfp_channels.proofs.ChannelLinkLaws.TextLaws.{frames-more, texts-more}
+use Rattle.gfp_channels.specs.channel_link.ChannelReportText.{got_text}
+use Rattle.gfp_channels.proofs.ChannelLinkLaws.ChannelReceptionSteps.{received-nothing}
+use Rattle.gfp_channels.proofs.ChannelLinkLaws.ChannelReportLaws.{frames-more, texts-more}
 use Rattle.gfp_channels.proofs.channel_link.channel_reception.receive.Goals as goal
 
 pub returns-in-Nothing-clause-received : goal.returns-in-Nothing-clause-received

@@ -2,12 +2,12 @@
 use Rattle.std.proofs.Common.{◌≡◌, ℕ, ◌+◌, ◌-◌, ◌≤◌, ◌++◌, length, take, drop, refl, sym, ◌∙◌, ap, subst, arith}
 use Rattle.std.proofs.Common.{length-append, length-drop, length-take-le, take_at}
 use Rattle.gfp_model.specs.linear_model.Channels.{Channels}
-use Rattle.gfp_model.specs.linear_model.Stream.{stream_to, unsent}
+use Rattle.gfp_model.specs.linear_model.ChannelStream.{stream_to, unsent}
 use Rattle.gfp_channels.specs.gfp_linear.Queue.{Queued}
 use Rattle.gfp_channels.specs.gfp_linear.Filler.{LinearFillerStands}
 use Rattle.gfp_channels.specs.channel_link.Run.{Received}
-use Rattle.gfp_channels.proofs.ChannelLinkLaws.StreamLaws.{HasSent, sent-none, sent-block}
-use Rattle.gfp_channels.proofs.ChannelLinkLaws.ReceptionSteps.{received-few}
+use Rattle.gfp_channels.proofs.ChannelLinkLaws.SentUpToPlaceLaws.{HasSent, sent-none, sent-block}
+use Rattle.gfp_channels.proofs.ChannelLinkLaws.ChannelReceptionSteps.{received-few}
 use Rattle.gfp_channels.proofs.channel_link.channel_run.carry.Goals as goal
 
 pub loop-left-init : goal.loop-left-init

@@ -1,9 +1,9 @@
 -- What was made of the stream was received.
 use Rattle.std.proofs.Common.{◌≡◌, ◌-◌, ◌≤◌, [], length}
 use Rattle.law_model.specs.Common.{Start}
-use Rattle.gfp_model.specs.linear_model.Stream.{stream_to}
+use Rattle.gfp_model.specs.linear_model.ChannelStream.{stream_to}
 use Rattle.gfp_channels.specs.channel_link.Run.{Received}
-use Rattle.gfp_channels.proofs.ChannelLinkLaws.StreamLaws.{HasSent}
+use Rattle.gfp_channels.proofs.ChannelLinkLaws.SentUpToPlaceLaws.{HasSent}
 use Rattle.gfp_channels.proofs.channel_link.channel_run.carry.Given as goal
 
 abbrev pub invariant-loop-left : goal.invariant-loop-left

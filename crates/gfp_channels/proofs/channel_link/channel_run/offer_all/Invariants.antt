@@ -1,7 +1,7 @@
 -- The frames so far were offered, and those that were refused are told.
 use Rattle.std.proofs.Common.{◌≡◌, ◌++◌, drop}
 use Rattle.gfp_channels.specs.gfp_linear.Queue.{unbegun}
-use Rattle.gfp_channels.specs.channel_link.Text.{after_offers, refusals}
+use Rattle.gfp_channels.specs.channel_link.ChannelReportText.{after_offers, refusals}
 use Rattle.gfp_channels.proofs.channel_link.channel_run.offer_all.Given as goal
 
 abbrev pub invariant-loop-offer : goal.invariant-loop-offer

@@ -1,8 +1,8 @@
 -- The lines so far were written.
 use Rattle.std.proofs.Common.{ℕ, List, ◌++◌, take, flat_map}
 use Rattle.law_model.specs.Common.{Start}
-use Rattle.text_got.specs.Told.{HasText}
-use Rattle.gfp_channels.specs.channel_link.Text.{refusal_text}
+use Rattle.text_got.specs.TextSoFar.{HasText}
+use Rattle.gfp_channels.specs.channel_link.ChannelReportText.{refusal_text}
 use Rattle.gfp_channels.proofs.channel_link.channel_run.write_refused.Given as goal
 
 abbrev pub invariant-loop-refusal : goal.invariant-loop-refusal

@@ -1,8 +1,8 @@
 -- One of the first three octets of the header that confirms.
 use Rattle.std.proofs.Common.{◌+◌}
 use Rattle.gfp_delineate.specs.declared.hunt_presync_sync.Phase.TheVariants.{PresyncHeader}
-use Rattle.gfp_delineate.proofs.Taking.{seen}
-use Rattle.gfp_delineate.proofs.SearchSteps.{shifted, Takes-confirm-part}
+use Rattle.gfp_delineate.proofs.ReceiverProgressLaws.{seen}
+use Rattle.gfp_delineate.proofs.HuntPresyncSteps.{shifted, Takes-confirm-part}
 use Rattle.gfp_delineate.proofs.hunt_presync_sync.AreaReceiver.confirm.Goals as goal
 
 pub returns-then-have-lt3 : goal.returns-then-have-lt3

@@ -1,9 +1,9 @@
 -- One part more, behind parts in which no area ended.
 use Rattle.std.proofs.Common.{◌≡◌, ◌+◌, ◌-◌, ◌≤◌, ℕ, List, [], length, take, drop, ◌∙◌, ap, subst, arith}
 use Rattle.std.proofs.Common.{length-take, length-drop}
-use Rattle.gfp_delineate.specs.Areas.{AreaEnd, ends_told, Progress, Adds}
-use Rattle.gfp_delineate.proofs.ListLaws.{taken_more}
-use Rattle.gfp_delineate.proofs.Taking.{Takes, tell, told, Takes-then, Adds-then}
+use Rattle.gfp_delineate.specs.ReceivedAreas.{AreaEnd, ends_told, Progress, Adds}
+use Rattle.gfp_delineate.proofs.WrittenThroughLaws.{taken_more}
+use Rattle.gfp_delineate.proofs.ReceiverProgressLaws.{Takes, tell, told, Takes-then, Adds-then}
 use Rattle.gfp_delineate.proofs.hunt_presync_sync.AreaReceiver.feed.Goals as goal
 
 -- what came before, and one part more

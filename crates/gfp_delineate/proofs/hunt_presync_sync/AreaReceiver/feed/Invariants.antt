@@ -1,6 +1,6 @@
 -- The octets so far are taken, and no area ended with them.
 use Rattle.std.proofs.Common.{◌-◌, ◌≤◌, [], length, take}
-use Rattle.gfp_delineate.specs.Areas.{Goes, Adds}
+use Rattle.gfp_delineate.specs.ReceivedAreas.{Goes, Adds}
 use Rattle.gfp_delineate.proofs.hunt_presync_sync.AreaReceiver.feed.Given as goal
 
 abbrev pub invariant-loop-at : goal.invariant-loop-at

@@ -3,10 +3,10 @@ use Rattle.std.proofs.Common.{◌≡◌, ℕ, ◌+◌, ◌-◌, ◌≤◌, List,
 use Rattle.std.proofs.Common.{append_assoc, length-append, length-take-le, length-drop}
 use Rattle.std.proofs.lemmas.List.{append-nil, take_at, drop_at, take_all, drop_all}
 use Rattle.law_model.specs.Common.{core_header}
-use Rattle.law_model.proofs.CoreLaws.{length-core_header}
+use Rattle.law_model.proofs.CoreHeaderLaws.{length-core_header}
 use Rattle.gfp_scramble.specs.Scrambler.{Continues, ScramblesTo}
-use Rattle.gfp_fill.specs.Areas.{Sender}
-use Rattle.gfp_fill.proofs.AreaSteps.{area_begun}
+use Rattle.gfp_fill.specs.SentAreas.{Sender}
+use Rattle.gfp_fill.proofs.SentAreaSteps.{area_begun}
 use Rattle.gfp_fill.proofs.area_sender.AreaSender.begin.Goals as goal
 
 -- octets are put at a place of an array, and others behind them to its end

@@ -1,7 +1,7 @@
 -- Octets of the frame are scrambled where they were copied to.
 use Rattle.std.proofs.Common.{◌≡◌, List, ℕ, ◌++◌, take, drop, length, sym, ◌∙◌, ap₂, subst, arith}
 use Rattle.std.proofs.lemmas.List.{take_at, take-append-drop, length-take-le}
-use Rattle.gfp_fill.specs.Areas.{StandsIn, HasWrittenIn}
+use Rattle.gfp_fill.specs.SentAreas.{StandsIn, HasWrittenIn}
 use Rattle.gfp_fill.proofs.area_sender.AreaSender.send_frame.Goals as goal
 
 pub returns-clause-writes : goal.returns-clause-writes

@@ -1,8 +1,8 @@
 -- Octets of the area are written.
 use Rattle.std.proofs.Common.{◌∙◌, ap, subst}
 use Rattle.gfp_scramble.specs.Scrambler.{Continues, ScramblesTo}
-use Rattle.gfp_fill.specs.Areas.{Sender, head_of}
-use Rattle.gfp_fill.proofs.AreaSteps.{octets_written}
+use Rattle.gfp_fill.specs.SentAreas.{Sender, head_of}
+use Rattle.gfp_fill.proofs.SentAreaSteps.{octets_written}
 use Rattle.gfp_fill.proofs.area_sender.AreaSender.send_octets.Goals as goal
 
 pub returns : goal.returns

@@ -1,6 +1,6 @@
 -- The octets that are filled are the next ones of the stream.
 use Rattle.std.proofs.Common.{◌-◌, ◌≤◌, length, take}
-use Rattle.gfp_fill.specs.Stream.{Writes}
+use Rattle.gfp_fill.specs.FilledStream.{Writes}
 use Rattle.gfp_fill.proofs.stream_filler.Filler.fill.Given as goal
 
 abbrev pub invariant-loop-filled : goal.invariant-loop-filled

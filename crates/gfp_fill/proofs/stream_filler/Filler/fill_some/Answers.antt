@@ -2,8 +2,8 @@
 use Rattle.std.proofs.Common.{◌≡◌, ℕ, ◌+◌, ◌/◌, List, [], ◌∷◌, ◌++◌, length, take, map, sym, ◌∙◌, ap, subst, arith}
 use Rattle.std.proofs.lemmas.List.{length-take-le, nil_from_length}
 use Rattle.law_model.specs.Common.{type_header, area_of}
-use Rattle.gfp_fill.specs.Areas.{Sender, head_of, StandsIn}
-use Rattle.gfp_fill.proofs.StreamSteps.{here_written, at_end, client_written, idles_next}
+use Rattle.gfp_fill.specs.SentAreas.{Sender, head_of, StandsIn}
+use Rattle.gfp_fill.proofs.StreamFillSteps.{here_written, at_end, client_written, idles_next}
 use Rattle.gfp_fill.proofs.stream_filler.Filler.fill_some.Goals as goal
 
 pub returns-then-left-gt0-clause-writes : goal.returns-then-left-gt0-clause-writes

@@ -1,7 +1,7 @@
 -- The octets so far were received.
 use Rattle.std.proofs.Common.{◌+◌, ◌≤◌, [], take}
 use Rattle.law_model.specs.Common.{Start}
-use Rattle.gfp_noise.specs.noise_link.Run.{Received}
+use Rattle.gfp_noise.specs.noise_link.ReceivedSoFar.{Received}
 use Rattle.gfp_noise.proofs.noise_link.noise_reception.receive_all.Given as goal
 
 abbrev pub invariant-loop-o : goal.invariant-loop-o

@@ -1,9 +1,9 @@
 -- Eight octets more are scrambled.
 use Rattle.std.proofs.Common.{◌++◌, ◌*◌, take, subst}
 use Rattle.law_model.specs.Common.{scrambled_octets}
-use Rattle.law_model.proofs.ScrambledOctets.{length-scrambled_octets}
+use Rattle.law_model.proofs.ScrambledOctetsLaws.{length-scrambled_octets}
 use Rattle.gfp_scramble.specs.Scrambler.{ScramblerStands}
-use Rattle.gfp_scramble.proofs.AreaSteps.{back_eight, given_eight, front_eight}
+use Rattle.gfp_scramble.proofs.InPlaceAreaSteps.{back_eight, given_eight, front_eight}
 use Rattle.gfp_scramble.proofs.scrambler.Scrambler.words.Goals as goal
 
 pub loop-i-preserved : goal.loop-i-preserved

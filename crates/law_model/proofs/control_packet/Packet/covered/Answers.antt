@@ -1,7 +1,7 @@
 -- The fields are octets, so each half of one is a nibble.
 use Rattle.std.proofs.Common.{rules, ◌≡◌, ◌<◌, ℕ, List, [], ◌∷◌, All, sym, subst, arith}
 use Rattle.law_model.specs.Common.{IsPacket, covered_nibbles}
-use Rattle.law_model.proofs.PacketLaws.{covered_nibbles_below}
+use Rattle.law_model.proofs.PacketNibblesLaws.{covered_nibbles_below}
 use Rattle.law_model.proofs.control_packet.Packet.covered.Goals as goal
 
 pub returns-clause-below : goal.returns-clause-below

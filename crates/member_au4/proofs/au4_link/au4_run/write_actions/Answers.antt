@@ -1,8 +1,8 @@
 -- The lines of all VC-4s, and then the counts.
 use Rattle.std.proofs.Common.{rules, ◌++◌, refl, sym, ◌∙◌, ap, subst}
 use Rattle.law_model.specs.Common.{Start}
-use Rattle.text_got.specs.Told.{HasText, name_of, start_at}
-use Rattle.member_au4.specs.au4_link.Text.{vc_texts, back_of, text_of}
+use Rattle.text_got.specs.TextSoFar.{HasText, name_of, start_at}
+use Rattle.member_au4.specs.au4_link.LinkReportText.{vc_texts, back_of, text_of}
 use Rattle.member_au4.proofs.au4_link.au4_run.write_actions.Given as given
 use Rattle.member_au4.proofs.au4_link.au4_run.write_actions.Goals as goal
 use Rattle.member_au4.proofs.au4_link.au4_run.write_actions.Goals.{After-finish-back}

@@ -3,9 +3,9 @@ use Rattle.std.proofs.Common.{◌<◌, length, Some, sym, ◌∙◌, ap, arith, 
 use Rattle.std.specs.Global.{Box}
 use Rattle.std.proofs.lemmas.Option.{slice_get-get_or, slice_get-map}
 use Rattle.law_model.specs.Common.{Container}
-use Rattle.member_cells.specs.Held.{held}
-use Rattle.member_rows.proofs.RealignRowsLaws.DecidedLaws.{decided-shut}
-use Rattle.member_rows.proofs.RealignRowsLaws.GatherLaws.{passed_more}
+use Rattle.member_cells.specs.HeldPlaces.{held}
+use Rattle.member_rows.proofs.RealignRowsLaws.DecidedLineLaws.{decided-shut}
+use Rattle.member_rows.proofs.RealignRowsLaws.RowGatherLaws.{passed_more}
 use Rattle.member_rows.proofs.realign_rows.row_gather.pass_all.Goals as goal
 
 pub pass-requires-clause-decided : goal.pass-requires-clause-decided

@@ -1,6 +1,6 @@
 -- The lines so far have passed a number, and the others are as they were.
-use Rattle.member_cells.specs.Held.{held}
-use Rattle.member_rows.specs.realign_rows.Loops.{ArePassed}
+use Rattle.member_cells.specs.HeldPlaces.{held}
+use Rattle.member_rows.specs.realign_rows.LineByLine.{ArePassed}
 use Rattle.member_rows.proofs.realign_rows.row_gather.pass_all.Given as goal
 
 abbrev pub invariant-loop-m : goal.invariant-loop-m

@@ -1,9 +1,9 @@
 -- The places done by squares, and those after them.
 use Rattle.std.proofs.Common.{◌*◌, length, ◌∙◌}
-use Rattle.member_cells.specs.Held.{held}
-use Rattle.member_rows.specs.vcat_interleave.Members.{payloads_of}
-use Rattle.member_rows.proofs.VcatInterleaveLaws.PlaceLaws.{rest-size}
-use Rattle.member_rows.proofs.VcatInterleaveLaws.MemberLaws.{rows-add}
+use Rattle.member_cells.specs.HeldPlaces.{held}
+use Rattle.member_rows.specs.vcat_interleave.MemberPayloads.{payloads_of}
+use Rattle.member_rows.proofs.VcatInterleaveLaws.PutAtPlaceLaws.{rest-size}
+use Rattle.member_rows.proofs.VcatInterleaveLaws.MemberPayloadLaws.{rows-add}
 use Rattle.member_rows.proofs.vcat_interleave.gather_members.gather_places.Goals as goal
 
 pub gather_each-requires-clause-out : goal.gather_each-requires-clause-out

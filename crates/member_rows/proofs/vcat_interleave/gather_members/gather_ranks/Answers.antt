@@ -1,11 +1,11 @@
 -- One more member is written at the places of its rank.
 use Rattle.std.proofs.Common.{◌+◌, ◌*◌, inl, inr, length, slice_index, sym, ap, ◌∙◌, arith}
 use Rattle.std.proofs.lemmas.Bool.{cases_eq}
-use Rattle.member_cells.specs.Held.{held}
+use Rattle.member_cells.specs.HeldPlaces.{held}
 use Rattle.member_rows.specs.vcat_interleave.Square.{octet_at}
-use Rattle.member_rows.specs.vcat_interleave.Members.{payloads_of}
-use Rattle.member_rows.proofs.VcatInterleaveLaws.RowLaws.{rank-place}
-use Rattle.member_rows.proofs.VcatInterleaveLaws.MemberLaws.{is-row}
+use Rattle.member_rows.specs.vcat_interleave.MemberPayloads.{payloads_of}
+use Rattle.member_rows.proofs.VcatInterleaveLaws.RowPartLaws.{rank-place}
+use Rattle.member_rows.proofs.VcatInterleaveLaws.MemberPayloadLaws.{is-row}
 use Rattle.member_rows.proofs.vcat_interleave.gather_members.gather_ranks.Goals as goal
 
 pub loop-rank-preserved : goal.loop-rank-preserved

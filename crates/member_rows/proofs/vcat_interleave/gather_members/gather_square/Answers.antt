@@ -1,10 +1,10 @@
 -- The octets of the square, as far as members are there.
 use Rattle.std.proofs.Common.{◌≡◌, ◌+◌, ◌*◌, take, length, ap, ◌∙◌, arith, get_or-take, length-take-le}
-use Rattle.member_cells.specs.Held.{held}
+use Rattle.member_cells.specs.HeldPlaces.{held}
 use Rattle.member_rows.specs.vcat_interleave.Square.{octet_at}
-use Rattle.member_rows.specs.vcat_interleave.Members.{payloads_of}
-use Rattle.member_rows.proofs.VcatInterleaveLaws.RowLaws.{within-row}
-use Rattle.member_rows.proofs.VcatInterleaveLaws.MemberLaws.{is-row}
+use Rattle.member_rows.specs.vcat_interleave.MemberPayloads.{payloads_of}
+use Rattle.member_rows.proofs.VcatInterleaveLaws.RowPartLaws.{within-row}
+use Rattle.member_rows.proofs.VcatInterleaveLaws.MemberPayloadLaws.{is-row}
 use Rattle.member_rows.proofs.vcat_interleave.gather_members.gather_square.Goals as goal
 
 pub returns : goal.returns

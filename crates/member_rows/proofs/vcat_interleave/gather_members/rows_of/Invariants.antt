@@ -1,8 +1,8 @@
 -- The rows up to here are those of their members.
 use Rattle.std.proofs.Common.{◌≡◌, ℕ, ◌+◌, ◌<◌, length}
-use Rattle.member_cells.specs.Held.{held}
+use Rattle.member_cells.specs.HeldPlaces.{held}
 use Rattle.member_rows.specs.vcat_interleave.Square.{octet_at}
-use Rattle.member_rows.specs.vcat_interleave.Members.{payloads_of}
+use Rattle.member_rows.specs.vcat_interleave.MemberPayloads.{payloads_of}
 use Rattle.member_rows.proofs.vcat_interleave.gather_members.rows_of.Given as goal
 
 abbrev pub invariant-loop-i : goal.invariant-loop-i

@@ -1,8 +1,8 @@
 -- One member more has its part.
 use Rattle.std.proofs.Common.{◌≡◌, ◌+◌, suc, length, subst, arith}
-use Rattle.member_cells.specs.Held.{held}
+use Rattle.member_cells.specs.HeldPlaces.{held}
 use Rattle.member_rows.specs.vcat_interleave.Spread.{SpreadsOver}
-use Rattle.member_rows.proofs.VcatInterleaveLaws.SpreadLaws.{spreads-none, spreads-next, lines-stay}
+use Rattle.member_rows.proofs.VcatInterleaveLaws.RowSpreadLaws.{spreads-none, spreads-next, lines-stay}
 use Rattle.member_rows.proofs.vcat_interleave.spread_members.spread_each.Goals as goal
 
 pub loop-rank-init : goal.loop-rank-init

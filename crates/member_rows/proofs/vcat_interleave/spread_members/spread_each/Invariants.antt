@@ -1,5 +1,5 @@
 -- The members of the ranks up to here have their parts.
-use Rattle.member_cells.specs.Held.{held}
+use Rattle.member_cells.specs.HeldPlaces.{held}
 use Rattle.member_rows.specs.vcat_interleave.Spread.{SpreadsOver}
 use Rattle.member_rows.proofs.vcat_interleave.spread_members.spread_each.Given as goal
 

@@ -1,6 +1,6 @@
 -- The row up to here is spread over these ranks.
 use Rattle.std.proofs.Common.{◌+◌, ◌*◌}
-use Rattle.member_cells.specs.Held.{held}
+use Rattle.member_cells.specs.HeldPlaces.{held}
 use Rattle.member_rows.specs.vcat_interleave.Spread.{SpreadsOver}
 use Rattle.member_rows.proofs.vcat_interleave.spread_members.spread_ranks.Given as goal
 

@@ -1,10 +1,10 @@
 -- One rank of the square more has its part: its column has the octets that it carries.
 use Rattle.std.proofs.Common.{◌≡◌, [], ◌+◌, ◌<◌, suc, length, slice_index_or, subst, ap, ◌∙◌, arith}
 use Rattle.law_model.specs.Common.{part_of}
-use Rattle.member_cells.specs.Held.{held}
+use Rattle.member_cells.specs.HeldPlaces.{held}
 use Rattle.member_rows.specs.vcat_interleave.Spread.{SpreadsOver}
-use Rattle.member_rows.proofs.VcatInterleaveLaws.RowLaws.{is-part_of}
-use Rattle.member_rows.proofs.VcatInterleaveLaws.SpreadLaws.{spreads-none, spreads-next, lines-stay}
+use Rattle.member_rows.proofs.VcatInterleaveLaws.RowPartLaws.{is-part_of}
+use Rattle.member_rows.proofs.VcatInterleaveLaws.RowSpreadLaws.{spreads-none, spreads-next, lines-stay}
 use Rattle.member_rows.proofs.vcat_interleave.spread_members.spread_square.Goals as goal
 
 pub loop-i-init : goal.loop-i-init

@@ -1,6 +1,6 @@
 -- The ranks of the square up to here have their parts.
 use Rattle.std.proofs.Common.{◌+◌}
-use Rattle.member_cells.specs.Held.{held}
+use Rattle.member_cells.specs.HeldPlaces.{held}
 use Rattle.member_rows.specs.vcat_interleave.Spread.{SpreadsOver}
 use Rattle.member_rows.proofs.vcat_interleave.spread_members.spread_square.Given as goal
 

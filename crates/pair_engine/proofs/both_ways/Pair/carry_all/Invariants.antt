@@ -1,7 +1,7 @@
 -- The carries that are left give what all of them give.
 use Rattle.std.proofs.Common.{◌≡◌, drop}
 use Rattle.law_pair.specs.Common.{plan_on, pair_run, carries_on}
-use Rattle.pair_engine.specs.Moved.{plan_of, with_counts, SameRows}
+use Rattle.pair_engine.specs.PairAfterEvent.{plan_of, with_counts, SameRows}
 use Rattle.pair_engine.proofs.both_ways.Pair.carry_all.Given as goal
 
 abbrev pub invariant-loop-line : goal.invariant-loop-line

@@ -2,10 +2,10 @@
 use Rattle.std.proofs.Common.{refl, sym, ◌∙◌, ap, arith}
 use Rattle.law_pair.specs.Common.{PairPlan, is_over, pair_bound}
 use Rattle.law_pair.specs.declared.pair_events.Way.TheVariants.{There, Back}
-use Rattle.law_pair.proofs.PairEndLaws.{pair-stops}
-use Rattle.pair_engine.specs.Moved.{leg_on, plan_of, with_counts}
-use Rattle.pair_engine.proofs.RoundLaws.{keeps, same-plan, round-more, gives-more, over-rows}
-use Rattle.pair_engine.proofs.TakeLaws.{gives-none}
+use Rattle.law_pair.proofs.PairRoundsEndLaws.{pair-stops}
+use Rattle.pair_engine.specs.PairAfterEvent.{leg_on, plan_of, with_counts}
+use Rattle.pair_engine.proofs.PairRoundLaws.{keeps, same-plan, round-more, gives-more, over-rows}
+use Rattle.pair_engine.proofs.RowTakenAndHeardLaws.{gives-none}
 use Rattle.pair_engine.proofs.both_ways.Pair.drain.Goals as goal
 
 pub loop-self-init : goal.loop-self-init

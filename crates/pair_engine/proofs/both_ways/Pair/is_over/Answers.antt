@@ -1,7 +1,7 @@
 -- Some list of events led here.
 use Rattle.std.proofs.Common.{subst}
 use Rattle.law_pair.specs.Common.{IsPairWalked}
-use Rattle.pair_engine.specs.Moved.{Paired}
+use Rattle.pair_engine.specs.PairAfterEvent.{Paired}
 use Rattle.pair_engine.proofs.both_ways.Pair.is_over.Goals as goal
 
 pub returns-then-taken-self-clause-walked : goal.returns-then-taken-self-clause-walked

@@ -3,7 +3,7 @@ use Rattle.std.proofs.Common.{sym, ◌∙◌, ap}
 use Rattle.law_walk.specs.Common.{refusals_of}
 use Rattle.law_pair.specs.Common.{counts_on}
 use Rattle.law_pair.specs.declared.pair_events.Way.TheVariants.{There, Back}
-use Rattle.pair_engine.specs.Moved.{Paired, leg_on}
+use Rattle.pair_engine.specs.PairAfterEvent.{Paired, leg_on}
 use Rattle.pair_engine.proofs.both_ways.Pair.refusals.Goals as goal
 
 pub returns-in-There : goal.returns-in-There

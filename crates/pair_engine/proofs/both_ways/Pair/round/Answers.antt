@@ -4,8 +4,8 @@ use Rattle.law_pair.specs.Common.{PairPlan, PairCounts, counts_on, pair_step}
 use Rattle.law_pair.specs.declared.pair_events.Way.{Way}
 use Rattle.law_pair.specs.declared.pair_events.Way.TheVariants.{There, Back}
 use Rattle.law_pair.specs.declared.pair_events.PairEvent.TheVariants.{Take}
-use Rattle.pair_engine.specs.Moved.{Paired, plan_of, with_counts}
-use Rattle.pair_engine.proofs.RoundLaws.{keeps, same-plan, take-rise, round-rows, gives-both}
+use Rattle.pair_engine.specs.PairAfterEvent.{Paired, plan_of, with_counts}
+use Rattle.pair_engine.proofs.PairRoundLaws.{keeps, same-plan, take-rise, round-rows, gives-both}
 use Rattle.pair_engine.proofs.both_ways.Pair.round.Goals as goal
 
 pub returns : goal.returns

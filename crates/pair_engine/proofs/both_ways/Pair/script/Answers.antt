@@ -1,7 +1,7 @@
 -- Some list of events led here.
 use Rattle.std.proofs.Common.{subst}
 use Rattle.law_pair.specs.Common.{IsPairWalked}
-use Rattle.pair_engine.specs.Moved.{Paired}
+use Rattle.pair_engine.specs.PairAfterEvent.{Paired}
 use Rattle.pair_engine.proofs.both_ways.Pair.script.Goals as goal
 
 pub returns-in-There-clause-walked : goal.returns-in-There-clause-walked

@@ -4,7 +4,7 @@ use Rattle.law_model.specs.session.Scenario.{packets_in}
 use Rattle.law_walk.specs.Common.{totals_of}
 use Rattle.law_pair.specs.Common.{counts_on}
 use Rattle.law_pair.specs.declared.pair_events.Way.TheVariants.{There, Back}
-use Rattle.pair_engine.specs.Moved.{Paired, leg_on}
+use Rattle.pair_engine.specs.PairAfterEvent.{Paired, leg_on}
 use Rattle.pair_engine.specs.Ways.{leg_beside}
 use Rattle.pair_engine.proofs.both_ways.Pair.totals.Goals as goal
 

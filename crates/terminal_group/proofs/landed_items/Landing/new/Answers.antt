@@ -5,10 +5,10 @@ use Rattle.std.proofs.lemmas.List.{length-map}
 use Rattle.law_model.specs.Common.{dues_of, frame_dues, command_dues}
 use Rattle.law_model.specs.declared.item_refusals.Refusal.{Refusal}
 use Rattle.terminal_group.specs.Item.{bare}
-use Rattle.terminal_group.specs.Place.{is_frame, is_command, place_of}
+use Rattle.terminal_group.specs.ItemPlaces.{is_frame, is_command, place_of}
 use Rattle.terminal_group.specs.Landed.{IsLanded}
-use Rattle.terminal_group.proofs.BareLaws.{bare-dues}
-use Rattle.terminal_group.proofs.LandingLaws.{none-yet}
+use Rattle.terminal_group.proofs.BareItemLaws.{bare-dues}
+use Rattle.terminal_group.proofs.LandedAndRefusedLaws.{none-yet}
 use Rattle.terminal_group.proofs.landed_items.Landing.new.Goals as goal
 
 pub invariant_of-result : goal.invariant_of-result

@@ -4,12 +4,12 @@ use Rattle.law_model.specs.Common.{core_header}
 use Rattle.gfp_delineate.specs.declared.hunt_presync_sync.Phase.{Phase}
 use Rattle.gfp_delineate.specs.declared.hunt_presync_sync.Phase.TheVariants.{Hunt, PresyncArea, PresyncHeader, SyncHeader, SyncArea}
 use Rattle.gfp_delineate.specs.declared.hunt_presync_sync.Phase.TheVariants.{SyncPassing}
-use Rattle.gfp_delineate.specs.Areas.{header_begun_in}
+use Rattle.gfp_delineate.specs.ReceivedAreas.{header_begun_in}
 use Rattle.gfp_delineate.specs.Receiver as receiver
 use Rattle.gfp_delineate.specs.Repeated.{idles_from}
-use Rattle.gfp_delineate.proofs.Known.{in_sync, is_sync-IsAt}
+use Rattle.gfp_delineate.proofs.KnownByPhaseLaws.{in_sync, is_sync-IsAt}
 use Rattle.terminal_sink.specs.marked_delineator.Marks.{Marked, header_begun, Advances, Brings}
-use Rattle.terminal_sink.proofs.MarkedDelineatorLaws.MarkSteps.{synced-stays}
+use Rattle.terminal_sink.proofs.MarkedDelineatorLaws.SegmentMarkSteps.{synced-stays}
 use Rattle.terminal_sink.proofs.marked_delineator.MarkedDelineator.idle_place.Goals as goal
 
 due-synced : (phase : Phase) (window begun : List ℕ) → header_begun_in phase window ≡ Some begun → in_sync phase ≡ true

@@ -2,9 +2,9 @@
 use Rattle.std.proofs.Common.{◌≡◌, ℕ, List, ◌+◌, ◌*◌, ◌%◌, length, slice_index, sym, ◌∙◌, subst, arith, inl, inr}
 use Rattle.std.proofs.lemmas.Bool.{cases_lt}
 use Rattle.law_model.specs.Common.{core_header, Container}
-use Rattle.member_cells.specs.Held.{held}
-use Rattle.member_rows.specs.vcat_interleave.Members.{payload_at}
-use Rattle.terminal_sink.proofs.SinkCoreLaws.IdleLaws.{idles-dealt}
+use Rattle.member_cells.specs.HeldPlaces.{held}
+use Rattle.member_rows.specs.vcat_interleave.MemberPayloads.{payload_at}
+use Rattle.terminal_sink.proofs.SinkCoreLaws.DealtIdleLaws.{idles-dealt}
 use Rattle.terminal_sink.proofs.sink_core.octets_of_row.are_idle.Goals as goal
 
 pub loop-rank-preserved : goal.loop-rank-preserved

@@ -1,9 +1,9 @@
 -- The octets of the places so far are taken, and the frames that they complete are given.
 use Rattle.std.proofs.Common.{◌≤◌, ◌-◌}
-use Rattle.member_cells.specs.Held.{held}
+use Rattle.member_cells.specs.HeldPlaces.{held}
 use Rattle.law_model.specs.Common.{octets_from, Start}
-use Rattle.member_rows.specs.vcat_interleave.Members.{payloads_of}
-use Rattle.terminal_sink.specs.sink_core.Receives.{IsKnown, Grows, Gives}
+use Rattle.member_rows.specs.vcat_interleave.MemberPayloads.{payloads_of}
+use Rattle.terminal_sink.specs.sink_core.RowsInReceiver.{IsKnown, Grows, Gives}
 use Rattle.terminal_sink.proofs.sink_core.octets_of_row.take_members.Given as goal
 
 abbrev pub invariant-loop-place : goal.invariant-loop-place

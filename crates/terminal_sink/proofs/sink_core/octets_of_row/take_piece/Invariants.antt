@@ -1,7 +1,7 @@
 -- The octets so far are taken, and the frames that they complete are given.
 use Rattle.std.proofs.Common.{◌≤◌, ◌-◌, length, take}
 use Rattle.law_model.specs.Common.{Start}
-use Rattle.terminal_sink.specs.sink_core.Receives.{IsKnown, Grows, Gives}
+use Rattle.terminal_sink.specs.sink_core.RowsInReceiver.{IsKnown, Grows, Gives}
 use Rattle.terminal_sink.proofs.sink_core.octets_of_row.take_piece.Given as goal
 
 abbrev pub invariant-loop-at : goal.invariant-loop-at

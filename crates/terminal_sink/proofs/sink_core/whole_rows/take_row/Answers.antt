@@ -3,18 +3,18 @@ use Rattle.std.proofs.Common.{◌≡◌, ℕ, ◌≤◌, Bool, true, false, List
 use Rattle.std.proofs.Common.{sym, ◌∙◌, ap, subst, arith, rules}
 use Rattle.std.specs.Option.{option_copied}
 use Rattle.law_model.specs.Common.{row_at, containers_at, octets_from, segments_of, Cell, Container, longest_frame}
-use Rattle.law_model.specs.rows.Rows.{row_by}
+use Rattle.law_model.specs.rows.GroupRows.{row_by}
 use Rattle.law_model.specs.declared.script_types.Options.{Options}
-use Rattle.member_rows.specs.vcat_interleave.Members.{payloads_of}
-use Rattle.law_loss.specs.Added.{added}
-use Rattle.terminal_sink.specs.sink_core.Given.{row_in, AreCarriers}
-use Rattle.terminal_sink.specs.sink_core.Receives.{Receives}
-use Rattle.member_cells.specs.Held.{held}
+use Rattle.member_rows.specs.vcat_interleave.MemberPayloads.{payloads_of}
+use Rattle.law_loss.specs.AddedFrames.{added}
+use Rattle.terminal_sink.specs.sink_core.TakenAndGiven.{row_in, AreCarriers}
+use Rattle.terminal_sink.specs.sink_core.RowsInReceiver.{Receives}
+use Rattle.member_cells.specs.HeldPlaces.{held}
 use Rattle.member_rows.specs.realign_rows.Gather.{GatherStands}
-use Rattle.terminal_sink.proofs.SinkCoreLaws.WholeLaws.{Hold, octets_if, hold-some, row-known}
-use Rattle.terminal_sink.proofs.SinkCoreLaws.GivingLaws.{grows-none, gives-none}
-use Rattle.terminal_sink.proofs.SinkCoreLaws.ReceivedLaws.{receives-whole, receives-lost, gives-whole, gives-lost}
-use Rattle.terminal_sink.proofs.SinkCoreLaws.ReceivedLaws.{row-early, row-late}
+use Rattle.terminal_sink.proofs.SinkCoreLaws.WholeRowContainerLaws.{Hold, octets_if, hold-some, row-known}
+use Rattle.terminal_sink.proofs.SinkCoreLaws.OctetsGiveFramesLaws.{grows-none, gives-none}
+use Rattle.terminal_sink.proofs.SinkCoreLaws.WholeOrLostRowLaws.{receives-whole, receives-lost, gives-whole, gives-lost}
+use Rattle.terminal_sink.proofs.SinkCoreLaws.WholeOrLostRowLaws.{row-early, row-late}
 use Rattle.terminal_sink.proofs.sink_core.whole_rows.take_row.Goals as goal
 use Rattle.terminal_sink.proofs.sink_core.whole_rows.take_row.Goals.{in_default-via-in-Some+else-are_whole}
 use Rattle.terminal_sink.proofs.sink_core.whole_rows.take_row.Goals.{in_default-via-in_default}

@@ -1,7 +1,7 @@
 -- A container of which nothing is filled is blank.
 use Rattle.std.proofs.Common.{refl, sym, subst}
 use Rattle.law_model.specs.Common.{blank}
-use Rattle.terminal_source.specs.source_core.Frame.{IsBegun}
+use Rattle.terminal_source.specs.source_core.FrameContainers.{IsBegun}
 use Rattle.terminal_source.proofs.source_core.container_frame.begin.Goals as goal
 
 pub returns-then-filled-eq0 : goal.returns-then-filled-eq0

@@ -4,11 +4,11 @@ use Rattle.std.proofs.Common.{slice_set, sym, ◌∙◌, ap, subst, arith, lengt
 use Rattle.std.proofs.lemmas.List.{length-map}
 use Rattle.law_model.specs.Common.{stream_of, reached, part_of}
 use Rattle.std.specs.Box.{with_value}
-use Rattle.member_cells.specs.Held.{held}
-use Rattle.member_rows.specs.vcat_interleave.Members.{with_octets}
+use Rattle.member_cells.specs.HeldPlaces.{held}
+use Rattle.member_rows.specs.vcat_interleave.MemberPayloads.{with_octets}
 use Rattle.member_rows.specs.vcat_interleave.Spread.{Spreads}
-use Rattle.member_rows.proofs.VcatInterleaveLaws.SpreadLaws.{held-at, held-set, lines-stay}
-use Rattle.terminal_source.proofs.SourceCoreLaws.FrameLaws.{spreads-one, next-size}
+use Rattle.member_rows.proofs.VcatInterleaveLaws.RowSpreadLaws.{held-at, held-set, lines-stay}
+use Rattle.terminal_source.proofs.SourceCoreLaws.FrameContainerLaws.{spreads-one, next-size}
 use Rattle.terminal_source.proofs.source_core.container_frame.fill_all.Goals as goal
 
 pub returns-in-len1-clause-spreads : goal.returns-in-len1-clause-spreads

@@ -2,7 +2,7 @@
 use Rattle.std.proofs.Common.{◌≤◌, ◌-◌, ℕ, List, ◌++◌, length, take}
 use Rattle.hex.specs.Hex.{encode_lower}
 use Rattle.law_model.specs.Common.{Start}
-use Rattle.text_got.specs.Told.{HasText}
+use Rattle.text_got.specs.TextSoFar.{HasText}
 use Rattle.text_captures.proofs.capture_file.frames_as_script.add_hex.Given as goal
 
 abbrev pub invariant-loop-at : goal.invariant-loop-at

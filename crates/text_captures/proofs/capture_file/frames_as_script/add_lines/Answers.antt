@@ -1,11 +1,11 @@
 -- A line more; and all of them.
 use Rattle.std.proofs.Common.{[], ◌∷◌, ◌++◌, ◌∙◌, sym, ap, subst, arith, append_assoc, append-nil}
-use Rattle.text_got.specs.Told.{HasText}
+use Rattle.text_got.specs.TextSoFar.{HasText}
 use Rattle.text_captures.specs.capture_file.Reading.{client_frame, frames_behind}
 use Rattle.text_captures.specs.capture_file.Texts.{frame_text, frame_texts}
-use Rattle.text_captures.proofs.CaptureFileLaws.RecordLaws.{has-ended}
-use Rattle.text_captures.proofs.CaptureFileLaws.CheckedLaws.{read-begun, read-more, due-is}
-use Rattle.text_captures.proofs.CaptureFileLaws.LineLaws.{texts-none, texts-more}
+use Rattle.text_captures.proofs.CaptureFileLaws.CutIntoRecordsLaws.{has-ended}
+use Rattle.text_captures.proofs.CaptureFileLaws.CheckedRecordsLaws.{read-begun, read-more, due-is}
+use Rattle.text_captures.proofs.CaptureFileLaws.WrittenFrameLinesLaws.{texts-none, texts-more}
 use Rattle.text_captures.proofs.capture_file.frames_as_script.add_lines.Goals as goal
 
 pub loop-record-init : goal.loop-record-init

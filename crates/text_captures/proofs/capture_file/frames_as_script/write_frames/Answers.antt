@@ -2,7 +2,7 @@
 use Rattle.std.proofs.Common.{rules, [], refl, sym, ◌∙◌, subst, drop}
 use Rattle.std.proofs.lemmas.List.{take_rest}
 use Rattle.law_model.specs.Common.{Start}
-use Rattle.text_got.specs.Told.{HasText, name_of, start_at}
+use Rattle.text_got.specs.TextSoFar.{HasText, name_of, start_at}
 use Rattle.text_captures.specs.capture_file.Reading.{frames_of}
 use Rattle.text_captures.specs.capture_file.Texts.{frame_texts}
 use Rattle.text_captures.proofs.capture_file.frames_as_script.write_frames.Given as given

@@ -1,8 +1,8 @@
 -- The line of a frame is written or waits.
 use Rattle.std.proofs.Common.{subst}
-use Rattle.text_report.specs.Report.{got_text, got_texts}
-use Rattle.text_got.specs.Told.{WritesOrWaits, seen, told_of}
-use Rattle.text_got.proofs.ToldLaws.{texts-more, told-stopped, told-more}
+use Rattle.text_report.specs.ReportLines.{got_text, got_texts}
+use Rattle.text_got.specs.TextSoFar.{WritesOrWaits, seen, told_of}
+use Rattle.text_got.proofs.ToldTextGrowsLaws.{texts-more, told-stopped, told-more}
 use Rattle.text_got.proofs.got_text.GotLinesFrameOut.frame.Goals as goal
 
 pub returns-then-self : goal.returns-then-self

@@ -1,8 +1,8 @@
 -- A live line.
 use Rattle.std.proofs.Common.{◌≡◌, ◌∙◌, ◌∷◌, List, ℕ, ap, sym, drop}
-use Rattle.text_lines.specs.Words.{words, word_at}
+use Rattle.text_lines.specs.WordsOfLine.{words, word_at}
 use Rattle.text_live.specs.LiveLines.{first_of}
-use Rattle.text_live.proofs.LiveLaws.ReadLaws.{live_stops}
+use Rattle.text_live.proofs.LiveLaws.LiveLineReadLaws.{live_stops}
 use Rattle.text_live.proofs.live_reader.LiveReader.line.Goals as goal
 
 pub returns-in-Live-clause-stops : goal.returns-in-Live-clause-stops

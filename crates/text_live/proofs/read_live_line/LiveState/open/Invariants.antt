@@ -1,8 +1,8 @@
 -- The lines so far are kept as before they are cut.
 use Rattle.std.proofs.Common.{◌≡◌, ◌≤◌, map, take}
 use Rattle.std.specs.Prelude.{vec_capacity}
-use Rattle.law_live.specs.Live.{uncut}
-use Rattle.text_live.specs.Reading.{state_of}
+use Rattle.law_live.specs.LiveSayings.{uncut}
+use Rattle.text_live.specs.LiveReaderStands.{state_of}
 use Rattle.text_live.proofs.read_live_line.LiveState.open.Given as goal
 
 abbrev pub invariant-loop-list : goal.invariant-loop-list

@@ -1,9 +1,9 @@
 -- What each of the lines says.
 use Rattle.std.proofs.Common.{sym, subst}
-use Rattle.text_lines.specs.Words.{words}
+use Rattle.text_lines.specs.WordsOfLine.{words}
 use Rattle.text_live.specs.declared.live_keyword.LiveKeyword.{LiveKeyword}
 use Rattle.text_live.specs.declared.live_line.LiveLine.TheVariants as line
-use Rattle.text_live.specs.Reading.{Reads}
+use Rattle.text_live.specs.LiveReaderStands.{Reads}
 use Rattle.text_live.proofs.read_live_line.LiveState.read.Goals as goal
 
 pub returns-in_ok-cut-in-Cut-clause-ok : goal.returns-in_ok-cut-in-Cut-clause-ok

@@ -1,9 +1,9 @@
 -- One line of the group more.
 use Rattle.std.proofs.Common.{◌++◌, sym, ◌∙◌, ap, subst, append_assoc}
 use Rattle.law_model.proofs.ListLaws.{texts-more}
-use Rattle.text_got.specs.Told.{HasText}
+use Rattle.text_got.specs.TextSoFar.{HasText}
 use Rattle.thread_alarms.specs.alarm_log.Alarms.{of_line}
-use Rattle.thread_alarms.specs.alarm_text.Text.{alarm_texts, lines_text}
+use Rattle.thread_alarms.specs.alarm_text.AlarmTextLines.{alarm_texts, lines_text}
 use Rattle.thread_alarms.proofs.alarm_text.alarms_report.write_alarms.Goals as goal
 
 pub loop-line-preserved : goal.loop-line-preserved

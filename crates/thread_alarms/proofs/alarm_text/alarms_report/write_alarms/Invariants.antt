@@ -1,8 +1,8 @@
 -- The alarms of the lines so far are written.
 use Rattle.std.proofs.Common.{ℕ, List, ◌++◌}
 use Rattle.law_model.specs.Common.{Start}
-use Rattle.text_got.specs.Told.{HasText}
-use Rattle.thread_alarms.specs.alarm_text.Text.{lines_text}
+use Rattle.text_got.specs.TextSoFar.{HasText}
+use Rattle.thread_alarms.specs.alarm_text.AlarmTextLines.{lines_text}
 use Rattle.thread_alarms.proofs.alarm_text.alarms_report.write_alarms.Given as goal
 
 abbrev pub invariant-loop-line : goal.invariant-loop-line

@@ -1,9 +1,9 @@
 -- One alarm more.
 use Rattle.std.proofs.Common.{◌++◌, take, sym, ◌∙◌, ap, subst, append_assoc}
-use Rattle.text_got.specs.Told.{HasText}
+use Rattle.text_got.specs.TextSoFar.{HasText}
 use Rattle.thread_alarms.specs.alarm_log.Alarms.{of_line}
-use Rattle.thread_alarms.specs.alarm_text.Text.{alarm_texts}
-use Rattle.thread_alarms.proofs.AlarmTextLaws.TextLaws.{text_next}
+use Rattle.thread_alarms.specs.alarm_text.AlarmTextLines.{alarm_texts}
+use Rattle.thread_alarms.proofs.AlarmTextLaws.AlarmTextNextLaws.{text_next}
 use Rattle.thread_alarms.proofs.alarm_text.alarms_report.write_line.Goals as goal
 
 pub loop-alarm-preserved : goal.loop-alarm-preserved

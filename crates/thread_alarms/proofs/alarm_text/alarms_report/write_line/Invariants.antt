@@ -1,9 +1,9 @@
 -- The alarms of the line so far are written.
 use Rattle.std.proofs.Common.{ℕ, List, ◌++◌, take}
 use Rattle.law_model.specs.Common.{Start}
-use Rattle.text_got.specs.Told.{HasText}
+use Rattle.text_got.specs.TextSoFar.{HasText}
 use Rattle.thread_alarms.specs.alarm_log.Alarms.{of_line}
-use Rattle.thread_alarms.specs.alarm_text.Text.{alarm_texts}
+use Rattle.thread_alarms.specs.alarm_text.AlarmTextLines.{alarm_texts}
 use Rattle.thread_alarms.proofs.alarm_text.alarms_report.write_line.Given as goal
 
 abbrev pub invariant-loop-alarm : goal.invariant-loop-alarm

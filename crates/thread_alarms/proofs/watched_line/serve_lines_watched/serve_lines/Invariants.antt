@@ -1,7 +1,7 @@
 -- What was put together, and the workers and posts that are left.
 use Rattle.std.proofs.Common.{◌≡◌, ◌+◌, ◌≤◌, ◌++◌, length, map, vec_len, vec_capacity}
 use Rattle.std.specs.Vec.Iter.{into_iter_items, into_iter_len}
-use Rattle.thread_alarms.specs.watched_line.Served.{worker_of, posts_of, AreWatchable}
+use Rattle.thread_alarms.specs.watched_line.ServedWithPosts.{worker_of, posts_of, AreWatchable}
 use Rattle.thread_alarms.proofs.watched_line.serve_lines_watched.serve_lines.Given as goal
 
 abbrev pub invariant-loop-worker : goal.invariant-loop-worker

@@ -1,12 +1,12 @@
 -- Return cells were moved into the inbox.
 use Rattle.std.proofs.Common.{length, inl, inr, refl, sym, ◌∙◌, ap, subst}
 use Rattle.terminal_source.specs.source_core.Terminal.{Terminal}
-use Rattle.thread_rings.specs.Ends.{in_passed}
+use Rattle.thread_rings.specs.EndsOfRing.{in_passed}
 use Rattle.terminal_group.specs.ReturnInbox.{told_taken}
 use Rattle.terminal_group.specs.Landed.{Landed}
 use Rattle.terminal_group.specs.Source.{Source}
-use Rattle.thread_group.specs.Parts.{parts, Keeps}
-use Rattle.thread_group.proofs.KeepLaws.{keeps-moved, told-moved, full-come, few-come}
+use Rattle.thread_group.specs.GroupParts.{parts, Keeps}
+use Rattle.thread_group.proofs.GroupPartsKeptLaws.{keeps-moved, told-moved, full-come, few-come}
 use Rattle.thread_group.proofs.group_state.GroupState.come.Goals as goal
 
 pub take_cells-requires-clause-room : goal.take_cells-requires-clause-room

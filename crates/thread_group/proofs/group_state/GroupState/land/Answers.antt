@@ -6,17 +6,17 @@ use Rattle.law_model.specs.declared.item_refusals.Refusal.{Refusal}
 use Rattle.terminal_source.specs.source_core.Terminal.{Terminal}
 use Rattle.law_walk.specs.Common.{is_client, IsPlaced, refused_by}
 use Rattle.terminal_group.specs.Item.{kind_of}
-use Rattle.thread_rings.specs.Ends.{OutEnd, InEnd}
+use Rattle.thread_rings.specs.EndsOfRing.{OutEnd, InEnd}
 use Rattle.terminal_group.specs.ReturnInbox.{Inbox}
 use Rattle.terminal_group.specs.Source.{Source, SameRest}
 use Rattle.thread_group.specs.Journal.{Journal, entry_of}
-use Rattle.thread_group.specs.Parts.{parts, scenario_in, told_in_parts, Keeps}
+use Rattle.thread_group.specs.GroupParts.{parts, scenario_in, told_in_parts, Keeps}
 use Rattle.thread_group.specs.declared.group_state.GroupState.{GroupState}
 use Rattle.terminal_group.specs.Landed.{next_number, due_at, AreBehind}
-use Rattle.terminal_group.proofs.LandingLaws.{next-due, behind-next}
-use Rattle.thread_group.proofs.RefusedLaws.{refused-put, refused-now}
-use Rattle.thread_group.proofs.KeepLaws.{keeps-accepted, keeps-refused}
-use Rattle.thread_group.proofs.GroupLaws.{refused-is, lands-in, submits-accepted, submits-refused, room-there}
+use Rattle.terminal_group.proofs.LandedAndRefusedLaws.{next-due, behind-next}
+use Rattle.thread_group.proofs.RefusedItemsLaws.{refused-put, refused-now}
+use Rattle.thread_group.proofs.GroupPartsKeptLaws.{keeps-accepted, keeps-refused}
+use Rattle.thread_group.proofs.GroupByPartsLaws.{refused-is, lands-in, submits-accepted, submits-refused, room-there}
 use Rattle.thread_group.proofs.group_state.GroupState.land.Goals as goal
 
 pub push-requires-clause-slots : goal.push-requires-clause-slots

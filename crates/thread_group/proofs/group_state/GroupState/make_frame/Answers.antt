@@ -3,16 +3,16 @@ use Rattle.std.proofs.Common.{◌∙◌, ℕ, List, ap, sym, refl, subst, arith}
 use Rattle.std.specs.Global.{Box}
 use Rattle.std.proofs.lemmas.List.{length-map}
 use Rattle.law_model.specs.Common.{Container, BackCell}
-use Rattle.member_cells.specs.Held.{held}
-use Rattle.thread_rings.specs.Ends.{OutEnd, InEnd}
-use Rattle.terminal_source.specs.source_core.Given.{SourceStands as HasMade}
+use Rattle.member_cells.specs.HeldPlaces.{held}
+use Rattle.thread_rings.specs.EndsOfRing.{OutEnd, InEnd}
+use Rattle.terminal_source.specs.source_core.GivenScenario.{SourceStands as HasMade}
 use Rattle.terminal_group.specs.Landed.{Landed}
 use Rattle.terminal_group.specs.Source.{Source, SameScript}
-use Rattle.terminal_group.proofs.CellLaws.{cell-there}
-use Rattle.terminal_group.proofs.SourceLaws.{early-none}
+use Rattle.terminal_group.proofs.ReturnCellLaws.{cell-there}
+use Rattle.terminal_group.proofs.EarlyOrMissingLaws.{early-none}
 use Rattle.thread_group.specs.Journal.{Journal}
-use Rattle.thread_group.specs.Parts.{parts, Keeps}
-use Rattle.thread_group.proofs.KeepLaws.{made-by, keeps-made, pushed-made, own-pushed, same-ends, told-made}
+use Rattle.thread_group.specs.GroupParts.{parts, Keeps}
+use Rattle.thread_group.proofs.GroupPartsKeptLaws.{made-by, keeps-made, pushed-made, own-pushed, same-ends, told-made}
 use Rattle.thread_group.proofs.group_state.GroupState.make_frame.Goals as goal
 
 pub make-taken-requires-clause-places : goal.make-taken-requires-clause-places

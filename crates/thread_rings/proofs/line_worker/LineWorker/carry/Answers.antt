@@ -1,8 +1,8 @@
 -- The end was pushed exactly where the line has given it.
 use Rattle.std.proofs.Common.{refl, sym, subst, Contains, IsTrue, ◌↔◌}
 use Rattle.law_model.specs.Common.{End}
-use Rattle.thread_rings.specs.Ends.{in_passed, out_passed}
-use Rattle.thread_rings.specs.Calls.{calls_on}
+use Rattle.thread_rings.specs.EndsOfRing.{in_passed, out_passed}
+use Rattle.thread_rings.specs.WorkerLineCalls.{calls_on}
 use Rattle.thread_rings.proofs.line_worker.LineWorker.carry.Goals as goal
 
 pub returns-then-ended-clause-done : goal.returns-then-ended-clause-done

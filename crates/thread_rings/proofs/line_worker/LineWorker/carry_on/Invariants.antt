@@ -1,6 +1,6 @@
 -- Each turn makes at most one carry.
 use Rattle.std.proofs.Common.{◌+◌, ◌≤◌, length}
-use Rattle.thread_rings.specs.Worker.{carries_of, IsLater, last_raised, HasNoted}
+use Rattle.thread_rings.specs.WorkerOfLine.{carries_of, IsLater, last_raised, HasNoted}
 use Rattle.thread_rings.proofs.line_worker.LineWorker.carry_on.Given as goal
 
 abbrev pub invariant-loop : goal.invariant-loop

@@ -1,14 +1,14 @@
 -- A carry after the last container.
 use Rattle.std.proofs.Common.{◌≡◌, [], ◌++◌, length, min, false, refl, sym, ◌∙◌, ap, ap₂, subst, arith, append-nil}
-use Rattle.member_path.specs.path_delay.Line.{DelayStands, and_flush, path_cells}
+use Rattle.member_path.specs.path_delay.CallsOnDelayedLine.{DelayStands, and_flush, path_cells}
 use Rattle.member_path.specs.path_delay.Carry.{carry_cells}
-use Rattle.thread_rings.specs.Ends.{in_passed, out_passed, out_hand}
-use Rattle.thread_rings.specs.Calls.{calls_on}
-use Rattle.thread_rings.proofs.CallLaws.{calls-flushed}
-use Rattle.thread_rings.proofs.EndLaws.{out-then, out-hand}
-use Rattle.thread_rings.specs.Alarms.{failed_after}
-use Rattle.thread_rings.proofs.AlarmLaws.{failed-more, place-more}
-use Rattle.thread_rings.proofs.NotedLaws.{noted-sent}
+use Rattle.thread_rings.specs.EndsOfRing.{in_passed, out_passed, out_hand}
+use Rattle.thread_rings.specs.WorkerLineCalls.{calls_on}
+use Rattle.thread_rings.proofs.WorkerLineCallsLaws.{calls-flushed}
+use Rattle.thread_rings.proofs.SameRingEndsLaws.{out-then, out-hand}
+use Rattle.thread_rings.specs.LineAlarms.{failed_after}
+use Rattle.thread_rings.proofs.AlarmsByCellLaws.{failed-more, place-more}
+use Rattle.thread_rings.proofs.WorkerNotesSentLaws.{noted-sent}
 use Rattle.thread_rings.proofs.line_worker.LineWorker.flush.Goals as goal
 
 pub invariant_of-self-2 : goal.invariant_of-self-2

@@ -1,10 +1,10 @@
 -- Nothing was received, and the path has no cell yet.
 use Rattle.std.proofs.Common.{◌≡◌, length, false, sym, ◌∙◌, ap, subst, arith}
-use Rattle.member_path.specs.path_delay.Line.{DelayStands, opened, path_cells}
-use Rattle.thread_rings.specs.Ends.{in_passed}
-use Rattle.thread_rings.specs.Calls.{calls_on}
-use Rattle.thread_rings.specs.Alarms.{failed_after}
-use Rattle.thread_rings.proofs.CallLaws.{calls-opened, opened-path}
+use Rattle.member_path.specs.path_delay.CallsOnDelayedLine.{DelayStands, opened, path_cells}
+use Rattle.thread_rings.specs.EndsOfRing.{in_passed}
+use Rattle.thread_rings.specs.WorkerLineCalls.{calls_on}
+use Rattle.thread_rings.specs.LineAlarms.{failed_after}
+use Rattle.thread_rings.proofs.WorkerLineCallsLaws.{calls-opened, opened-path}
 use Rattle.thread_rings.proofs.line_worker.LineWorker.new.Goals as goal
 
 pub invariant_of-result : goal.invariant_of-result

@@ -1,15 +1,15 @@
 -- A container is carried from ring to ring.
 use Rattle.std.proofs.Common.{◌≡◌, [], ◌∷◌, ◌++◌, length, min, false, refl, sym, ◌∙◌, ap, ap₂, subst, arith}
 use Rattle.std.proofs.Common.{length-append}
-use Rattle.member_path.specs.path_delay.Line.{DelayStands, and_push, path_cells}
+use Rattle.member_path.specs.path_delay.CallsOnDelayedLine.{DelayStands, and_push, path_cells}
 use Rattle.member_path.specs.path_delay.Carry.{carry_cells}
-use Rattle.thread_rings.specs.Ends.{in_passed, in_hand, out_passed, out_hand}
-use Rattle.thread_rings.specs.Calls.{calls_on}
-use Rattle.thread_rings.proofs.CallLaws.{calls-pushed}
-use Rattle.thread_rings.proofs.EndLaws.{in-then, out-then, in-hand, out-hand}
-use Rattle.thread_rings.specs.Alarms.{failed_after}
-use Rattle.thread_rings.proofs.AlarmLaws.{failed-more, place-more}
-use Rattle.thread_rings.proofs.NotedLaws.{noted-sent}
+use Rattle.thread_rings.specs.EndsOfRing.{in_passed, in_hand, out_passed, out_hand}
+use Rattle.thread_rings.specs.WorkerLineCalls.{calls_on}
+use Rattle.thread_rings.proofs.WorkerLineCallsLaws.{calls-pushed}
+use Rattle.thread_rings.proofs.SameRingEndsLaws.{in-then, out-then, in-hand, out-hand}
+use Rattle.thread_rings.specs.LineAlarms.{failed_after}
+use Rattle.thread_rings.proofs.AlarmsByCellLaws.{failed-more, place-more}
+use Rattle.thread_rings.proofs.WorkerNotesSentLaws.{noted-sent}
 use Rattle.thread_rings.proofs.line_worker.LineWorker.pass.Goals as goal
 
 pub invariant_of-self-2 : goal.invariant_of-self-2

@@ -6,13 +6,13 @@ use Rattle.std.proofs.lemmas.List.{with_items_is}
 use Rattle.std.proofs.lemmas.Option.{slice_get_within, slice_get-get_or}
 use Rattle.law_model.specs.Common.{End}
 use Rattle.thread_alarms.specs.declared.watched_line.served_line.ServedLine.{ServedLine}
-use Rattle.thread_rings.specs.Ends.{out_passed}
-use Rattle.thread_alarms.specs.watched_line.Served.{worker_of, AreServedLater, IsServedLater}
-use Rattle.thread_alarms.proofs.WatchedLineLaws.ServedLaws.{served-refl, served-then}
-use Rattle.thread_session.specs.session_parts.Laid.{AreServedDone}
-use Rattle.thread_session.proofs.SessionPartsLaws.ZipLaws.{zip-refl, zip-set}
-use Rattle.thread_session.proofs.SessionPartsLaws.DealLaws.{set-found, set-same}
-use Rattle.thread_session.proofs.SessionPartsLaws.PairLaws.{below-it}
+use Rattle.thread_rings.specs.EndsOfRing.{out_passed}
+use Rattle.thread_alarms.specs.watched_line.ServedWithPosts.{worker_of, AreServedLater, IsServedLater}
+use Rattle.thread_alarms.proofs.WatchedLineLaws.ServedLinesLaterLaws.{served-refl, served-then}
+use Rattle.thread_session.specs.session_parts.LineRingsLaid.{AreServedDone}
+use Rattle.thread_session.proofs.SessionPartsLaws.ListsBesideLaws.{zip-refl, zip-set}
+use Rattle.thread_session.proofs.SessionPartsLaws.DealToSharesLaws.{set-found, set-same}
+use Rattle.thread_session.proofs.SessionPartsLaws.OnePairLaidLaws.{below-it}
 use Rattle.thread_session.proofs.session_parts.lay_ring_ends.carry_all.Goals as goal
 use Rattle.thread_session.proofs.session_parts.lay_ring_ends.carry_all.Goals.{then-not-carry_one, else-not-carry_one}
 

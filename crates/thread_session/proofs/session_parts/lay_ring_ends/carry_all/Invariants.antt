@@ -4,9 +4,9 @@
 use Rattle.std.proofs.Common.{◌≡◌, ℕ, ◌<◌, ◌≤◌, true, false, slice_get, Some, Contains}
 use Rattle.law_model.specs.Common.{End}
 use Rattle.thread_alarms.specs.declared.watched_line.served_line.ServedLine.{ServedLine}
-use Rattle.thread_rings.specs.Ends.{out_passed}
-use Rattle.thread_alarms.specs.watched_line.Served.{worker_of, AreServedLater}
-use Rattle.thread_session.specs.session_parts.Laid.{AreServedDone}
+use Rattle.thread_rings.specs.EndsOfRing.{out_passed}
+use Rattle.thread_alarms.specs.watched_line.ServedWithPosts.{worker_of, AreServedLater}
+use Rattle.thread_session.specs.session_parts.LineRingsLaid.{AreServedDone}
 use Rattle.thread_session.proofs.session_parts.lay_ring_ends.carry_all.Given as goal
 
 abbrev pub invariant-loop-worker : goal.invariant-loop-worker

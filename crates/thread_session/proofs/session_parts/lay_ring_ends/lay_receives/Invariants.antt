@@ -1,5 +1,5 @@
 -- The first pairs are laid beside each other.
-use Rattle.thread_session.specs.session_parts.Laid.{PairsBelow, IsReceiveLaid}
+use Rattle.thread_session.specs.session_parts.LineRingsLaid.{PairsBelow, IsReceiveLaid}
 use Rattle.thread_session.proofs.session_parts.lay_ring_ends.lay_receives.Given as goal
 
 abbrev pub invariant-loop-m : goal.invariant-loop-m

@@ -2,8 +2,8 @@
 use Rattle.std.proofs.Common.{◌≡◌, ℕ, suc, ◌-◌, ◌%◌, ◌<◌, length, vec_len, take, drop, sym, ◌∙◌, ap, subst, arith}
 use Rattle.std.specs.Prelude.{reverse}
 use Rattle.thread_session.specs.session_parts.ServedLines.{AreBack}
-use Rattle.thread_alarms.specs.watched_line.Served.{AreServedLater}
-use Rattle.thread_session.proofs.SessionPartsLaws.CollectLaws.{taken-back}
+use Rattle.thread_alarms.specs.watched_line.ServedWithPosts.{AreServedLater}
+use Rattle.thread_session.proofs.SessionPartsLaws.LastWorkerOfShareLaws.{taken-back}
 use Rattle.thread_session.proofs.session_parts.line_shares.collect.Goals as goal
 
 pub loop-line-preserved : goal.loop-line-preserved

@@ -2,7 +2,7 @@
 use Rattle.std.proofs.Common.{◌≡◌, ◌+◌, ◌≤◌, List, length, vec_len, take, drop, reverse, vec_capacity}
 use Rattle.thread_alarms.specs.declared.watched_line.served_line.ServedLine.{ServedLine}
 use Rattle.thread_session.specs.session_parts.ServedLines.{AreNumbered, AreBack}
-use Rattle.thread_alarms.specs.watched_line.Served.{AreServedLater}
+use Rattle.thread_alarms.specs.watched_line.ServedWithPosts.{AreServedLater}
 use Rattle.thread_session.proofs.session_parts.line_shares.collect.Given as goal
 
 abbrev pub invariant-loop-line : goal.invariant-loop-line

@@ -7,9 +7,9 @@ use Rattle.std.proofs.lemmas.Option.{slice_get_read}
 use Rattle.std.specs.Global.{Vec}
 use Rattle.std.specs.Vec.Iter.{into_iter_items}
 use Rattle.thread_alarms.specs.declared.watched_line.served_line.ServedLine.{ServedLine}
-use Rattle.thread_alarms.specs.watched_line.Served.{line_of}
+use Rattle.thread_alarms.specs.watched_line.ServedWithPosts.{line_of}
 use Rattle.thread_session.specs.session_parts.ServedLines.{AreNumbered, share_of}
-use Rattle.thread_session.proofs.SessionPartsLaws.DealLaws.{dealt-step, set-found}
+use Rattle.thread_session.proofs.SessionPartsLaws.DealToSharesLaws.{dealt-step, set-found}
 use Rattle.thread_session.proofs.session_parts.line_shares.deal.Goals as goal
 
 numbered-rest : (from next : ℕ) (first : ServedLine) (rest all : List ServedLine) → all ≡ first ∷ rest →

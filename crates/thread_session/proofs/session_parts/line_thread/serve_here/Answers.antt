@@ -1,9 +1,9 @@
 -- Workers that are here are later.
 use Rattle.std.proofs.Common.{subst}
-use Rattle.thread_alarms.specs.watched_line.Served.{IsServedLater}
-use Rattle.thread_alarms.proofs.WatchedLineLaws.ServedLaws.{served-then}
-use Rattle.thread_session.proofs.SessionPartsLaws.ZipLaws.{zip-then}
-use Rattle.thread_session.specs.session_parts.Held.{IsHeldOf}
+use Rattle.thread_alarms.specs.watched_line.ServedWithPosts.{IsServedLater}
+use Rattle.thread_alarms.proofs.WatchedLineLaws.ServedLinesLaterLaws.{served-then}
+use Rattle.thread_session.proofs.SessionPartsLaws.ListsBesideLaws.{zip-then}
+use Rattle.thread_session.specs.session_parts.HeldShares.{IsHeldOf}
 use Rattle.thread_session.proofs.session_parts.line_thread.serve_here.Goals as goal
 
 pub returns-in-Here-clause-held : goal.returns-in-Here-clause-held

@@ -2,11 +2,11 @@
 -- A burst was made of those before the next, where no flag stops it.
 use Rattle.std.proofs.Common.{◌≡◌, ℕ, ◌<◌, slice_get, Some, IfNone}
 use Rattle.thread_alarms.specs.declared.watched_line.served_line.ServedLine.{ServedLine}
-use Rattle.thread_alarms.specs.watched_line.Served.{AreServedLater}
-use Rattle.thread_session.specs.session_parts.Laid.{IsServedDone}
+use Rattle.thread_alarms.specs.watched_line.ServedWithPosts.{AreServedLater}
+use Rattle.thread_session.specs.session_parts.LineRingsLaid.{IsServedDone}
 use Rattle.thread_session.specs.declared.session_parts.line_thread.Served.TheVariants.{Done}
 use Rattle.thread_session.specs.session_parts.Bursts.{HasTried}
-use Rattle.thread_session.proofs.SessionPartsLaws.EachLaws.{EachBelow}
+use Rattle.thread_session.proofs.SessionPartsLaws.EachBelowLaws.{EachBelow}
 use Rattle.thread_session.proofs.session_parts.line_thread.serve_once.Given as goal
 
 abbrev pub invariant-loop-worker : goal.invariant-loop-worker

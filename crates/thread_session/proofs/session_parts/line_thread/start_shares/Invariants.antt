@@ -2,7 +2,7 @@
 use Rattle.std.proofs.Common.{◌≡◌, ◌+◌, List, ◌++◌, vec_len, vec_capacity}
 use Rattle.std.specs.Vec.Iter.{into_iter_items, into_iter_len}
 use Rattle.thread_session.specs.declared.session_parts.line_thread.Held.{Held}
-use Rattle.thread_session.specs.session_parts.Held.{AreHeldOf, AreToldBy}
+use Rattle.thread_session.specs.session_parts.HeldShares.{AreHeldOf, AreToldBy}
 use Rattle.thread_session.proofs.session_parts.line_thread.start_shares.Given as goal
 
 abbrev pub invariant-loop-workers : goal.invariant-loop-workers

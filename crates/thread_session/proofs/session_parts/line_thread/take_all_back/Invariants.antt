@@ -7,7 +7,7 @@ use Rattle.thread_session.specs.session_parts.ServedLines.{SharesLater}
 use Rattle.thread_session.specs.declared.session_parts.stop_flag.Flag.{Flag}
 use Rattle.thread_session.specs.declared.session_parts.line_thread.Held.{Held}
 use Rattle.thread_session.specs.session_parts.Flags.{flag_of}
-use Rattle.thread_session.specs.session_parts.Held.{AreHeldOf, IsToldBy}
+use Rattle.thread_session.specs.session_parts.HeldShares.{AreHeldOf, IsToldBy}
 use Rattle.thread_session.proofs.session_parts.line_thread.take_all_back.Given as goal
 
 abbrev pub invariant-loop-share : goal.invariant-loop-share

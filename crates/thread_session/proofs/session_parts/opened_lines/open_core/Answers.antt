@@ -4,7 +4,7 @@ use Rattle.std.proofs.Common.{arith, IfOk}
 use Rattle.std.proofs.lemmas.List.{get_or_read}
 use Rattle.law_model.specs.declared.window_types.Window.{Window}
 use Rattle.law_model.specs.declared.script_types.Config.{Config}
-use Rattle.member_path.specs.path_delay.Line.{Line, opened, DelayStands}
+use Rattle.member_path.specs.path_delay.CallsOnDelayedLine.{Line, opened, DelayStands}
 use Rattle.thread_session.proofs.session_parts.opened_lines.open_core.Goals as goal
 
 if-ok : {X E : Type 0} {P Q : X → Type 0} (r : Result X E) → IfOk r P → ((x : X) → P x → Q x) → IfOk r Q

@@ -1,5 +1,5 @@
 -- The first lines are opened.
-use Rattle.thread_session.specs.session_parts.Opened.{AreOpened}
+use Rattle.thread_session.specs.session_parts.LinesOpened.{AreOpened}
 use Rattle.thread_session.proofs.session_parts.opened_lines.open_lines.Given as goal
 
 abbrev pub invariant-loop-line : goal.invariant-loop-line

@@ -1,7 +1,7 @@
 -- The workers of the lines are later, and the sink has run on.
-use Rattle.text_got.specs.Told.{seen}
+use Rattle.text_got.specs.TextSoFar.{seen}
 use Rattle.thread_session.specs.session_parts.Duty.{Begun, HasRun}
-use Rattle.thread_alarms.specs.watched_line.Served.{AreServedLater}
+use Rattle.thread_alarms.specs.watched_line.ServedWithPosts.{AreServedLater}
 use Rattle.thread_session.proofs.session_run.finish_in_turn.finish.Given as goal
 
 abbrev pub invariant-loop : goal.invariant-loop

@@ -1,9 +1,9 @@
 -- What the group answers to the item is what it answers to its kind.
 use Rattle.std.proofs.Common.{sym, ◌∙◌, subst}
 use Rattle.law_model.specs.Common.{refusal_in}
-use Rattle.thread_group.specs.Calls.{Submits}
+use Rattle.thread_group.specs.GroupCalls.{Submits}
 use Rattle.thread_group.specs.Group.{HasCounted}
-use Rattle.thread_session.proofs.SessionRunLaws.LandLaws.{has-landed}
+use Rattle.thread_session.proofs.SessionRunLaws.NextItemLandedLaws.{has-landed}
 use Rattle.thread_session.proofs.session_run.group_turns.submit.Goals as goal
 
 pub returns : goal.returns

@@ -2,26 +2,26 @@
 use Rattle.std.proofs.Common.{rules, ℕ, ◌≤◌, false, ◌∷◌, [], vec_len, refl, sym, ◌∙◌, subst, arith}
 use Rattle.std.specs.List.{AllZip}
 use Rattle.law_model.specs.Common.{leg_of}
-use Rattle.text_report.specs.Report.{got_texts}
+use Rattle.text_report.specs.ReportLines.{got_texts}
 use Rattle.thread_alarms.specs.alarm_log.Posts.{SamePost}
-use Rattle.thread_alarms.specs.watched_line.Served.{posts_of, AreServedLater, IsServedLater}
-use Rattle.thread_alarms.proofs.WatchedLineLaws.ServedLaws.{served-then, posts-later}
-use Rattle.terminal_sink.specs.sink_core.Given.{given_frames}
+use Rattle.thread_alarms.specs.watched_line.ServedWithPosts.{posts_of, AreServedLater, IsServedLater}
+use Rattle.thread_alarms.proofs.WatchedLineLaws.ServedLinesLaterLaws.{served-then, posts-later}
+use Rattle.terminal_sink.specs.sink_core.TakenAndGiven.{given_frames}
 use Rattle.thread_sink.specs.Told.{Writes}
-use Rattle.thread_sink.specs.Worker.{cells_of, options_of, size_of, taken_of, has_failed}
+use Rattle.thread_sink.specs.WorkerOfSink.{cells_of, options_of, size_of, taken_of, has_failed}
 use Rattle.thread_group.specs.declared.group_state.GroupState.{GroupState}
 use Rattle.thread_group.specs.Group.{ticks_of, total_of}
-use Rattle.thread_group.specs.Session.{IsBound}
+use Rattle.thread_group.specs.GroupOfLeg.{IsBound}
 use Rattle.thread_session.specs.session_parts.Duty.{Begun, IsLogLater}
 use Rattle.thread_session.specs.session_parts.ServedLines.{AreLater}
-use Rattle.thread_session.proofs.SessionPartsLaws.LogLaws.{log-handed}
-use Rattle.thread_session.proofs.SessionPartsLaws.ZipLaws.{zip-then}
-use Rattle.thread_session.proofs.SessionPartsLaws.RunLaws.{HasRunTo, StandsFor, run-writes}
-use Rattle.thread_session.proofs.SessionRunLaws.RunLaws.{bound-own, run-begins, begun_of, handed-on}
-use Rattle.thread_session.proofs.SessionRunLaws.RunLaws.{ends-later, come-to-end, writes-laid}
-use Rattle.thread_session.specs.session_run.Room.{HasRoomFor}
-use Rattle.thread_session.proofs.SessionRunLaws.WatchLaws.{served-count, served-numbers, served-few, workers-end, done-workers, told-laid}
-use Rattle.thread_session.proofs.SessionRunLaws.WatchLaws.{still-as-many}
+use Rattle.thread_session.proofs.SessionPartsLaws.LaterLogLaws.{log-handed}
+use Rattle.thread_session.proofs.SessionPartsLaws.ListsBesideLaws.{zip-then}
+use Rattle.thread_session.proofs.SessionPartsLaws.SinkRunsOnLaws.{HasRunTo, StandsFor, run-writes}
+use Rattle.thread_session.proofs.SessionRunLaws.OpenedSessionRunLaws.{bound-own, run-begins, begun_of, handed-on}
+use Rattle.thread_session.proofs.SessionRunLaws.OpenedSessionRunLaws.{ends-later, come-to-end, writes-laid}
+use Rattle.thread_session.specs.session_run.RoomForThreads.{HasRoomFor}
+use Rattle.thread_session.proofs.SessionRunLaws.LinesWithPostsLaws.{served-count, served-numbers, served-few, workers-end, done-workers, told-laid}
+use Rattle.thread_session.proofs.SessionRunLaws.LinesWithPostsLaws.{still-as-many}
 use Rattle.thread_session.proofs.session_run.opened_session.run_opened.Given as given
 use Rattle.thread_session.proofs.session_run.opened_session.run_opened.Goals as goal
 use Rattle.thread_session.proofs.session_run.opened_session.run_opened.Goals.{After-into_state}

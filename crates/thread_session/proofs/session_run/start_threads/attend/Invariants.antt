@@ -4,7 +4,7 @@ use Rattle.std.specs.Global.{Vec}
 use Rattle.thread_alarms.specs.declared.watched_line.served_line.ServedLine.{ServedLine}
 use Rattle.thread_session.specs.session_parts.Duty.{Begun}
 use Rattle.thread_session.specs.declared.session_parts.stop_flag.Flag.{Flag}
-use Rattle.thread_session.specs.session_parts.Held.{AreHeldOf, AreToldBy}
+use Rattle.thread_session.specs.session_parts.HeldShares.{AreHeldOf, AreToldBy}
 use Rattle.thread_session.proofs.session_run.start_threads.attend.Given as goal
 
 abbrev pub invariant-loop : goal.invariant-loop

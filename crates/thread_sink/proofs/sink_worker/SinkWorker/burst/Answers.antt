@@ -1,11 +1,11 @@
 -- All rows were taken before.
 use Rattle.std.proofs.Common.{sym, subst}
 use Rattle.std.proofs.Math.Seq.{drop-length}
-use Rattle.text_report.specs.Report.{got_texts}
-use Rattle.terminal_sink.specs.sink_core.Given.{given_frames}
+use Rattle.text_report.specs.ReportLines.{got_texts}
+use Rattle.terminal_sink.specs.sink_core.TakenAndGiven.{given_frames}
 use Rattle.thread_sink.specs.Told.{Writes}
-use Rattle.thread_sink.specs.Worker.{cells_of, options_of, size_of, taken_of, has_failed}
-use Rattle.thread_sink.proofs.ToldLaws.{writes-none}
+use Rattle.thread_sink.specs.WorkerOfSink.{cells_of, options_of, size_of, taken_of, has_failed}
+use Rattle.thread_sink.proofs.FramesCountedLaws.{writes-none}
 use Rattle.thread_sink.proofs.sink_worker.SinkWorker.burst.Goals as goal
 
 pub returns-then-taken-self-clause-written : goal.returns-then-taken-self-clause-written

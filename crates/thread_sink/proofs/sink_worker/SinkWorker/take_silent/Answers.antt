@@ -1,11 +1,11 @@
 -- The frames are counted.
 use Rattle.std.proofs.Common.{[], refl}
-use Rattle.terminal_sink.specs.sink_core.Given.{given_frames, added_frames}
-use Rattle.thread_sink.specs.Received.{received}
-use Rattle.thread_sink.specs.Parts.{parts}
-use Rattle.thread_sink.specs.Worker.{parts_of}
-use Rattle.thread_sink.proofs.ToldLaws.{counts-then}
-use Rattle.thread_sink.proofs.PartsLaws.{given-then}
+use Rattle.terminal_sink.specs.sink_core.TakenAndGiven.{given_frames, added_frames}
+use Rattle.thread_sink.specs.ReceivedByRings.{received}
+use Rattle.thread_sink.specs.SinkParts.{parts}
+use Rattle.thread_sink.specs.WorkerOfSink.{parts_of}
+use Rattle.thread_sink.proofs.FramesCountedLaws.{counts-then}
+use Rattle.thread_sink.proofs.SinkPartsLaws.{given-then}
 use Rattle.thread_sink.proofs.sink_worker.SinkWorker.take_silent.Goals as goal
 
 pub returns-clause-stands : goal.returns-clause-stands

@@ -1,15 +1,15 @@
 -- The frames are counted, and their lines told.
 use Rattle.std.proofs.Common.{rules, [], refl, sym, ◌∙◌, subst, false, is_err}
-use Rattle.text_report.specs.Report.{got_texts}
-use Rattle.terminal_sink.specs.sink_core.Given.{given_frames, added_frames}
-use Rattle.text_got.specs.Told.{start_at}
-use Rattle.text_got.specs.Over.{HasText, name_of}
+use Rattle.text_report.specs.ReportLines.{got_texts}
+use Rattle.terminal_sink.specs.sink_core.TakenAndGiven.{given_frames, added_frames}
+use Rattle.text_got.specs.TextSoFar.{start_at}
+use Rattle.text_got.specs.LentText.{HasText, name_of}
 use Rattle.thread_sink.specs.Told.{Writes}
-use Rattle.thread_sink.specs.Received.{received}
-use Rattle.thread_sink.specs.Parts.{parts}
-use Rattle.thread_sink.specs.Worker.{parts_of}
-use Rattle.thread_sink.proofs.ToldLaws.{counts-then, told-end}
-use Rattle.thread_sink.proofs.PartsLaws.{given-then}
+use Rattle.thread_sink.specs.ReceivedByRings.{received}
+use Rattle.thread_sink.specs.SinkParts.{parts}
+use Rattle.thread_sink.specs.WorkerOfSink.{parts_of}
+use Rattle.thread_sink.proofs.FramesCountedLaws.{counts-then, told-end}
+use Rattle.thread_sink.proofs.SinkPartsLaws.{given-then}
 use Rattle.thread_sink.proofs.sink_worker.SinkWorker.take_told.Goals as goal
 
 pub returns-clause-stands : goal.returns-clause-stands

@@ -1,6 +1,6 @@
 -- Frames are counted and given on.
 use Rattle.std.proofs.Common.{rules, ◌≡◌, ◌+◌, ◌++◌, [], min, refl, sym, ◌∙◌, subst, arith}
-use Rattle.terminal_sink.specs.sink_core.Given.{added_frames}
+use Rattle.terminal_sink.specs.sink_core.TakenAndGiven.{added_frames}
 use Rattle.walk_engine.specs.Common.{counting, passing}
 use Rattle.walk_engine.proofs.walk_core.take_rows.take_counted_row.Goals as goal
 

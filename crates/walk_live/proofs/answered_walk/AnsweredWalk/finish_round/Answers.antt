@@ -1,10 +1,10 @@
 -- The frames that come out are told behind what waited.
 use Rattle.std.proofs.Common.{ℕ, List, [], ◌∷◌, ◌++◌, ◌∙◌, OnErr, OnOk, rules, subst}
 use Rattle.law_model.specs.Common.{AppendsPart, Start}
-use Rattle.text_got.specs.Told.{Holds}
-use Rattle.walk_engine.specs.walk_core.Live.{walking_counts}
-use Rattle.law_walk.specs.Delivered.{delivered_since}
-use Rattle.walk_live.specs.Timed.{block_of, out_of, timed_start, timed_texts}
+use Rattle.text_got.specs.TextSoFar.{Holds}
+use Rattle.walk_engine.specs.walk_core.LiveWalking.{walking_counts}
+use Rattle.law_walk.specs.DeliveredFrames.{delivered_since}
+use Rattle.walk_live.specs.TimedWriting.{block_of, out_of, timed_start, timed_texts}
 use Rattle.walk_live.proofs.answered_walk.AnsweredWalk.finish_round.Goals as goal
 
 pub returns-clause-told : goal.returns-clause-told

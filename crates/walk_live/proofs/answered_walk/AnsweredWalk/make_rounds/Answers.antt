@@ -1,13 +1,13 @@
 -- One round more of those that are left.
 use Rattle.std.proofs.Common.{rules, ◌<◌, ◌++◌, [], ◌∷◌, refl, sym, ◌∙◌, subst, arith}
 use Rattle.law_model.specs.Common.{AppendsPart, Leg}
-use Rattle.text_got.specs.Told.{Holds}
+use Rattle.text_got.specs.TextSoFar.{Holds}
 use Rattle.law_live.specs.Common.{leg_said, live_counts, passes}
-use Rattle.walk_engine.specs.walk_core.Live.{walking_counts}
-use Rattle.walk_live.specs.Passing.{round_text}
-use Rattle.walk_live.proofs.PassLaws.{passes-begin, passes-less, passes-on, tells-all, tells-begin, tells-on, tells-part}
-use Rattle.walk_live.proofs.SaidLaws.{can-round, other-then, pass-own, pass-rest, pass-total, pass-walks}
-use Rattle.walk_live.proofs.WalksLaws.{leg-less, leg-lines}
+use Rattle.walk_engine.specs.walk_core.LiveWalking.{walking_counts}
+use Rattle.walk_live.specs.PassingRounds.{round_text}
+use Rattle.walk_live.proofs.RoundsOfPassLaws.{passes-begin, passes-less, passes-on, tells-all, tells-begin, tells-on, tells-part}
+use Rattle.walk_live.proofs.OneSayingMoreLaws.{can-round, other-then, pass-own, pass-rest, pass-total, pass-walks}
+use Rattle.walk_live.proofs.WalkInAgreeingLegLaws.{leg-less, leg-lines}
 use Rattle.walk_live.proofs.answered_walk.AnsweredWalk.make_rounds.Goals as goal
 
 pub loop-self-init : goal.loop-self-init

@@ -4,11 +4,11 @@ use Rattle.law_model.specs.Common.{Leg}
 use Rattle.law_model.specs.declared.script_types.Config.{Config}
 use Rattle.law_progress.specs.Progress.{made}
 use Rattle.law_live.specs.Common.{Saying, live_counts, passes}
-use Rattle.walk_engine.specs.walk_core.Live.{walking_counts}
-use Rattle.walk_engine.specs.walk_core.Parts.{windows_in}
+use Rattle.walk_engine.specs.walk_core.LiveWalking.{walking_counts}
+use Rattle.walk_engine.specs.walk_core.WayParts.{windows_in}
 use Rattle.walk_live.specs.Answered.{IsLegOf}
-use Rattle.walk_live.specs.Passing.{CanPass, IsOtherwise}
-use Rattle.walk_live.proofs.PassLaws.{PassesIn, TellsIn}
+use Rattle.walk_live.specs.PassingRounds.{CanPass, IsOtherwise}
+use Rattle.walk_live.proofs.RoundsOfPassLaws.{PassesIn, TellsIn}
 use Rattle.walk_live.proofs.answered_walk.AnsweredWalk.make_rounds.Given as goal
 
 abbrev pub invariant-loop-self : goal.invariant-loop-self

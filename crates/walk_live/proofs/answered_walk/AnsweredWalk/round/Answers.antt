@@ -4,14 +4,14 @@ use Rattle.std.proofs.lemmas.Result.{on_err_weaker, on_ok_weaker}
 use Rattle.law_model.specs.Common.{AppendsPart, Counts, carries_from, run}
 use Rattle.law_walk.specs.Common.{walk_plan}
 use Rattle.law_live.specs.Common.{live_round}
-use Rattle.text_got.specs.Told.{Holds}
-use Rattle.walk_engine.specs.walk_core.Live.{walking_counts}
-use Rattle.law_walk.specs.Delivered.{delivered_since}
-use Rattle.walk_live.specs.Timed.{timed_texts}
-use Rattle.walk_live.proofs.PassLaws.{round-told}
-use Rattle.law_live.proofs.RoundLaws.{goes-tick}
-use Rattle.walk_live.proofs.RoundLaws.{round-parts}
-use Rattle.walk_live.proofs.ToldLaws.{holds-more, on-ok, part-longer, part-more}
+use Rattle.text_got.specs.TextSoFar.{Holds}
+use Rattle.walk_engine.specs.walk_core.LiveWalking.{walking_counts}
+use Rattle.law_walk.specs.DeliveredFrames.{delivered_since}
+use Rattle.walk_live.specs.TimedWriting.{timed_texts}
+use Rattle.walk_live.proofs.RoundsOfPassLaws.{round-told}
+use Rattle.law_live.proofs.LiveRoundLaws.{goes-tick}
+use Rattle.walk_live.proofs.RoundTicksLaws.{round-parts}
+use Rattle.walk_live.proofs.WrittenOrWaitsLaws.{holds-more, on-ok, part-longer, part-more}
 use Rattle.walk_live.proofs.answered_walk.AnsweredWalk.round.Goals as goal
 
 pub tell_step-requires : goal.tell_step-requires

@@ -2,11 +2,11 @@
 use Rattle.std.proofs.Common.{◌≡◌, ℕ, ◌+◌, List, [], ◌++◌, sym, ◌∙◌, subst}
 use Rattle.std.proofs.lemmas.Result.{on_err_weaker, on_ok_weaker}
 use Rattle.law_model.specs.Common.{AppendsPart, steps_in}
-use Rattle.text_got.specs.Told.{Holds}
-use Rattle.walk_engine.specs.walk_core.Live.{walking_counts}
-use Rattle.walk_live.specs.Passing.{steps_text}
-use Rattle.walk_live.proofs.StepLaws.{last-line, steps-one, steps-same, steps-untold}
-use Rattle.walk_live.proofs.ToldLaws.{holds-none}
+use Rattle.text_got.specs.TextSoFar.{Holds}
+use Rattle.walk_engine.specs.walk_core.LiveWalking.{walking_counts}
+use Rattle.walk_live.specs.PassingRounds.{steps_text}
+use Rattle.walk_live.proofs.DecisionStepLineLaws.{last-line, steps-one, steps-same, steps-untold}
+use Rattle.walk_live.proofs.WrittenOrWaitsLaws.{holds-none}
 use Rattle.walk_live.proofs.answered_walk.AnsweredWalk.tell_step.Goals as goal
 use Rattle.walk_live.proofs.answered_walk.AnsweredWalk.tell_step.Goals.{then-not-self-via-then-not-self, then-not-self-via-else-not-self+then-not-is_step}
 

@@ -1,9 +1,9 @@
 -- What the walk answers is the reply, and where there is none the line says nothing.
 use Rattle.std.proofs.Common.{List, ℕ, ◌∷◌, ◌++◌, [], sym}
 use Rattle.text_live.specs.Sayings.{said_in, saying_of, sayings}
-use Rattle.text_live.specs.Reading.{told_line}
-use Rattle.walk_live.proofs.SayLaws.{well_as}
-use Rattle.walk_live.proofs.TalkerLaws.{answering, replied_none, talks_still, walk_part, walk_replied, walk_talks}
+use Rattle.text_live.specs.LiveReaderStands.{told_line}
+use Rattle.walk_live.proofs.LineOfSayingsLaws.{well_as}
+use Rattle.walk_live.proofs.LiveTalkerLaws.{answering, replied_none, talks_still, walk_part, walk_replied, walk_talks}
 use Rattle.walk_live.proofs.live_talker.LiveTalker.answer.Goals as goal
 use Rattle.std.proofs.Common.{ap}
 

@@ -1,8 +1,8 @@
 -- What was read, and why it stops.
 use Rattle.std.proofs.Common.{◌+◌, length}
-use Rattle.text_live.specs.Reading.{frame_of}
+use Rattle.text_live.specs.LiveReaderStands.{frame_of}
 use Rattle.text_live.specs.Sayings.{said_in, sayings}
-use Rattle.walk_live.proofs.TalkerLaws.{blank_read, happens_in, line_can, line_stops, live_read}
+use Rattle.walk_live.proofs.LiveTalkerLaws.{blank_read, happens_in, line_can, line_stops, live_read}
 use Rattle.walk_live.proofs.live_talker.LiveTalker.read.Goals as goal
 
 pub returns-in-Err-clause-stops : goal.returns-in-Err-clause-stops

@@ -1,7 +1,7 @@
 -- A turn of the line that was begun, a line more, or the end.
 use Rattle.std.proofs.Common.{refl, arith}
 use Rattle.law_model.specs.declared.script_types.EventLine.TheVariants.{Client}
-use Rattle.command_walk.proofs.TurnLaws.{next-line, next-fewer, last-line-made, later}
+use Rattle.command_walk.proofs.TurnsLeftLaws.{next-line, next-fewer, last-line-made, later}
 use Rattle.command_walk.proofs.turns.next_turns.TurnsLeft.next.Goals as goal
 
 pub loop-turn-init : goal.loop-turn-init

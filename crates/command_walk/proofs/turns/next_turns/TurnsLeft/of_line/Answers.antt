@@ -1,6 +1,6 @@
 -- A try less, a round, or none.
 use Rattle.std.proofs.Common.{refl, arith}
-use Rattle.command_walk.proofs.TurnLaws.{gives-try, gives-round, no-try, no-round}
+use Rattle.command_walk.proofs.TurnsLeftLaws.{gives-try, gives-round, no-try, no-round}
 use Rattle.command_walk.proofs.turns.next_turns.TurnsLeft.of_line.Goals as goal
 
 pub returns-then-count-eq0-clause-none : goal.returns-then-count-eq0-clause-none

@@ -3,7 +3,7 @@ use Rattle.std.proofs.Common.{◌≡◌, ◌^◌, ◌<◌, [], List, All, sym, s
 use Rattle.std.proofs.lemmas.List.Elements.{All-nil}
 use Rattle.fate_engine.specs.Common.{IsRuler}
 use Rattle.fate_engine.specs.declared.fate_core.frame_ruler.Piece.{Piece}
-use Rattle.fate_engine.specs.fate_core.Sides.{AreInOrder}
+use Rattle.fate_engine.specs.fate_core.FrameSides.{AreInOrder}
 use Rattle.fate_engine.proofs.fate_core.frame_ruler.Ruler.new.Goals as goal
 
 none : (frames : List Piece) → frames ≡ [] → IsRuler frames 0 8

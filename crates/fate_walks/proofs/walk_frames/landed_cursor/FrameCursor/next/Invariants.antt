@@ -1,7 +1,7 @@
 -- Only items were passed that are no frames which have landed.
 use Rattle.std.proofs.Common.{◌-◌, length}
 use Rattle.law_model.specs.Common.{leg_of}
-use Rattle.fate_walks.specs.walk_frames.Landed.{IsAt, IsSkipped}
+use Rattle.fate_walks.specs.walk_frames.ItemCursor.{IsAt, IsSkipped}
 use Rattle.fate_walks.proofs.walk_frames.landed_cursor.FrameCursor.next.Given as goal
 
 abbrev pub invariant-loop-self : goal.invariant-loop-self

@@ -2,20 +2,20 @@
 use Rattle.std.proofs.Common.{rules, ◌≡◌, ◌++◌, ◌-◌, [], true, List, ℕ, length, refl, sym, ◌∙◌, ap, ap₂, subst, arith}
 use Rattle.std.proofs.Common.{vec_len, flat_map}
 use Rattle.law_model.specs.Common.{Start}
-use Rattle.text_got.specs.Told.{HasText, name_of, start_at}
-use Rattle.gfp_model.specs.linear_model.Linear.{frame_in}
+use Rattle.text_got.specs.TextSoFar.{HasText, name_of, start_at}
+use Rattle.gfp_model.specs.linear_model.ChannelArea.{frame_in}
 use Rattle.gfp_model.specs.linear_model.Channels.{silent}
-use Rattle.gfp_model.specs.linear_model.Stream.{stream_to, cut_outcomes}
+use Rattle.gfp_model.specs.linear_model.ChannelStream.{stream_to, cut_outcomes}
 use Rattle.gfp_channels.specs.gfp_linear.Queue.{Queued}
 use Rattle.gfp_channels.specs.gfp_linear.Delineator.{StandsIn}
 use Rattle.gfp_channels.specs.declared.channel_link.channel_draft.ChannelPlan.{ChannelPlan}
 use Rattle.gfp_channels.specs.declared.channel_link.channel_run.Refusal.{Refusal}
 use Rattle.gfp_channels.specs.channel_link.Plan.{AreCuts}
 use Rattle.gfp_channels.specs.channel_link.Run.{Prepared, Received}
-use Rattle.gfp_channels.specs.channel_link.Text.{after_offers, delivered, refused, got_text, refusal_text, plan_text}
-use Rattle.gfp_channels.proofs.ChannelLinkLaws.OfferLaws.{refusals-few}
-use Rattle.gfp_channels.proofs.ChannelLinkLaws.ReceptionSteps.{received-none, received-text, received-got}
-use Rattle.gfp_channels.proofs.ChannelLinkLaws.TextLaws.{text-is}
+use Rattle.gfp_channels.specs.channel_link.ChannelReportText.{after_offers, delivered, refused, got_text, refusal_text, plan_text}
+use Rattle.gfp_channels.proofs.ChannelLinkLaws.OfferRefusalLaws.{refusals-few}
+use Rattle.gfp_channels.proofs.ChannelLinkLaws.ChannelReceptionSteps.{received-none, received-text, received-got}
+use Rattle.gfp_channels.proofs.ChannelLinkLaws.ChannelReportLaws.{text-is}
 use Rattle.gfp_channels.proofs.channel_link.channel_run.ChannelRun.write.Given as given
 use Rattle.gfp_channels.proofs.channel_link.channel_run.ChannelRun.write.Goals as goal
 use Rattle.gfp_channels.proofs.channel_link.channel_run.ChannelRun.write.Goals.{After-as_slice, After-count, After-finish-back}

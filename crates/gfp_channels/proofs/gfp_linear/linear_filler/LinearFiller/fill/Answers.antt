@@ -1,8 +1,8 @@
 -- What is written first, and then what is written in the loop's next turn, are the next octets.
 use Rattle.std.proofs.Common.{take, arith, length, ◌+◌}
 use Rattle.law_model.proofs.ListLaws.{take-written}
-use Rattle.gfp_channels.proofs.GfpLinearLaws.StreamSteps.{written-none, written-both}
-use Rattle.gfp_model.specs.linear_model.Stream.{reached}
+use Rattle.gfp_channels.proofs.GfpLinearLaws.LinearFillSteps.{written-none, written-both}
+use Rattle.gfp_model.specs.linear_model.ChannelStream.{reached}
 use Rattle.gfp_channels.proofs.gfp_linear.linear_filler.LinearFiller.fill.Goals as goal
 
 pub loop-filled-init : goal.loop-filled-init

@@ -1,10 +1,10 @@
 -- Each way in which octets are written is one step of the stream.
 use Rattle.std.proofs.Common.{◌≡◌, ℕ, ◌+◌, ◌/◌, List, [], ◌∷◌, ◌++◌, length, take, map, sym, ◌∙◌, ap, subst, arith}
 use Rattle.std.proofs.lemmas.List.{length-take-le, nil_from_length}
-use Rattle.gfp_model.specs.linear_model.Linear.{linear_header, extension_header}
-use Rattle.gfp_model.specs.linear_model.Stream.{area_of}
-use Rattle.gfp_fill.specs.Areas.{Sender, head_of, StandsIn}
-use Rattle.gfp_channels.proofs.GfpLinearLaws.StreamSteps.{here_written, at_end, client_written, idles_next}
+use Rattle.gfp_model.specs.linear_model.ChannelArea.{linear_header, extension_header}
+use Rattle.gfp_model.specs.linear_model.ChannelStream.{area_of}
+use Rattle.gfp_fill.specs.SentAreas.{Sender, head_of, StandsIn}
+use Rattle.gfp_channels.proofs.GfpLinearLaws.LinearFillSteps.{here_written, at_end, client_written, idles_next}
 use Rattle.gfp_channels.proofs.gfp_linear.linear_filler.LinearFiller.fill_some.Goals as goal
 
 pub returns-then-left-gt0-clause-writes : goal.returns-then-left-gt0-clause-writes

@@ -1,12 +1,12 @@
 -- The lines of all frames that are delivered, and then the counts.
 use Rattle.std.proofs.Common.{rules, [], ◌≡◌, length, refl, sym, ◌∙◌, ap, subst}
 use Rattle.law_model.specs.Common.{Start}
-use Rattle.text_got.specs.Told.{HasText, name_of, start_at}
-use Rattle.text_report.specs.Report.{got_texts}
+use Rattle.text_got.specs.TextSoFar.{HasText, name_of, start_at}
+use Rattle.text_report.specs.ReportLines.{got_texts}
 use Rattle.gfp_noise.specs.gfp_fcs.Delineator.{fcs_outcomes}
-use Rattle.gfp_noise.specs.noise_link.Run.{Received}
-use Rattle.gfp_noise.specs.noise_link.Text.{received, delivered, causes, noise_text}
-use Rattle.gfp_noise.proofs.NoiseLinkLaws.TextLaws.{none-come, text-is}
+use Rattle.gfp_noise.specs.noise_link.ReceivedSoFar.{Received}
+use Rattle.gfp_noise.specs.noise_link.NoiseReportText.{received, delivered, causes, noise_text}
+use Rattle.gfp_noise.proofs.NoiseLinkLaws.NoiseReportLaws.{none-come, text-is}
 use Rattle.gfp_noise.proofs.noise_link.noise_run.NoiseRun.write.Given as given
 use Rattle.gfp_noise.proofs.noise_link.noise_run.NoiseRun.write.Goals as goal
 use Rattle.gfp_noise.proofs.noise_link.noise_run.NoiseRun.write.Goals.{After-as_slice, After-finish-back}

@@ -4,10 +4,10 @@ use Rattle.std.specs.Vec.{with_items}
 use Rattle.std.specs.Global.{Box}
 use Rattle.std.proofs.lemmas.List.{with_items_is, length-map}
 use Rattle.law_model.specs.Common.{Container}
-use Rattle.member_cells.specs.Held.{held}
+use Rattle.member_cells.specs.HeldPlaces.{held}
 use Rattle.member_rows.specs.realign_rows.Gather.{GatherStands}
-use Rattle.member_rows.specs.realign_rows.Loops.{ArePassed, AreRead}
-use Rattle.member_rows.proofs.RealignRowsLaws.GatherLaws.{passed_stands, read_stands}
+use Rattle.member_rows.specs.realign_rows.LineByLine.{ArePassed, AreRead}
+use Rattle.member_rows.proofs.RealignRowsLaws.RowGatherLaws.{passed_stands, read_stands}
 use Rattle.member_rows.proofs.realign_rows.row_gather.RowGather.advance.Goals as goal
 use Rattle.member_rows.proofs.realign_rows.row_gather.RowGather.advance.Goals.{then-j, else-j}
 

@@ -3,9 +3,9 @@ use Rattle.std.proofs.Common.{◌≡◌, slice_get, Some, sym, ◌∙◌, ap, su
 use Rattle.std.specs.Global.{Box}
 use Rattle.std.proofs.lemmas.List.{length-map}
 use Rattle.law_model.specs.Common.{Container, verdict}
-use Rattle.member_cells.specs.Held.{held}
+use Rattle.member_cells.specs.HeldPlaces.{held}
 use Rattle.member_rows.specs.realign_rows.Gather.{Gather, GatherStands}
-use Rattle.member_rows.proofs.RealignRowsLaws.GatherLaws.{whole_container}
+use Rattle.member_rows.proofs.RealignRowsLaws.RowGatherLaws.{whole_container}
 use Rattle.member_rows.proofs.realign_rows.row_gather.RowGather.containers.Goals as goal
 
 pub returns-clause-whole : goal.returns-clause-whole

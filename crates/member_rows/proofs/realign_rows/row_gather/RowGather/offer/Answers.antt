@@ -1,10 +1,10 @@
 -- One line has taken the cell, and where it was the first that waits, another one may be.
 use Rattle.std.proofs.Common.{◌<◌, length, slice_set, Some, sym, ◌∙◌, ap, subst, arith, length-set}
 use Rattle.std.proofs.lemmas.Option.{slice_get-get_or}
-use Rattle.member_cells.specs.Held.{held}
-use Rattle.member_path.specs.cell_numbers.Told.{cell_with}
+use Rattle.member_cells.specs.HeldPlaces.{held}
+use Rattle.member_path.specs.cell_numbers.SignsAsCells.{cell_with}
 use Rattle.member_rows.specs.realign_rows.Gather.{Gather, GatherStands, IsOpenAt, decided_lines, with_cell}
-use Rattle.member_rows.proofs.RealignRowsLaws.GatherLaws.{offered_held}
+use Rattle.member_rows.proofs.RealignRowsLaws.RowGatherLaws.{offered_held}
 use Rattle.member_rows.proofs.realign_rows.row_gather.RowGather.offer.Goals as goal
 
 pub invariant_of-self : goal.invariant_of-self

@@ -3,10 +3,10 @@ use Rattle.std.proofs.Common.{◌≡◌, ◌<◌, length, slice_get, Some, sym, 
 use Rattle.std.specs.Global.{Box}
 use Rattle.std.proofs.lemmas.Option.{slice_get-get_or, slice_get-map}
 use Rattle.law_model.specs.Common.{Container, verdict}
-use Rattle.member_cells.specs.Held.{held}
-use Rattle.member_path.specs.cell_numbers.Told.{told_by}
+use Rattle.member_cells.specs.HeldPlaces.{held}
+use Rattle.member_path.specs.cell_numbers.SignsAsCells.{told_by}
 use Rattle.member_rows.specs.realign_rows.Gather.{Gather, GatherStands, AreDecided, decided_lines}
-use Rattle.member_rows.proofs.RealignRowsLaws.DecidedLaws.{decided-shut}
+use Rattle.member_rows.proofs.RealignRowsLaws.DecidedLineLaws.{decided-shut}
 use Rattle.member_rows.proofs.realign_rows.row_gather.RowGather.verdict.Goals as goal
 
 pub verdict-requires : goal.verdict-requires

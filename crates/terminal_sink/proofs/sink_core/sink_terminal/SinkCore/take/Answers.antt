@@ -2,11 +2,11 @@
 use Rattle.std.proofs.Common.{◌≡◌, ◌+◌, ◌++◌, length, drop, None, sym, ◌∙◌, ap, subst}
 use Rattle.law_model.specs.Common.{first_open, governing, deliver, longest_frame}
 use Rattle.terminal_sink.specs.declared.sink_core.sink_terminal.TakeAnswer.TheVariants.{Taken}
-use Rattle.terminal_sink.specs.sink_core.Given.{received_rows, answer_at, added_frames}
-use Rattle.terminal_sink.specs.sink_core.Receives.{Receives}
+use Rattle.terminal_sink.specs.sink_core.TakenAndGiven.{received_rows, answer_at, added_frames}
+use Rattle.terminal_sink.specs.sink_core.RowsInReceiver.{Receives}
 use Rattle.terminal_sink.specs.sink_core.Core.{SinkStands}
-use Rattle.terminal_sink.proofs.SinkCoreLaws.GivenLaws.{received-more, decided-none, decided-more, answer-taken}
-use Rattle.terminal_sink.proofs.SinkCoreLaws.GivenLaws.{carriers-next}
+use Rattle.terminal_sink.proofs.SinkCoreLaws.RowMoreForSinkLaws.{received-more, decided-none, decided-more, answer-taken}
+use Rattle.terminal_sink.proofs.SinkCoreLaws.RowMoreForSinkLaws.{carriers-next}
 use Rattle.terminal_sink.proofs.sink_core.sink_terminal.SinkCore.take.Goals as goal
 
 pub returns-in-Row-clause-answer : goal.returns-in-Row-clause-answer

@@ -2,10 +2,10 @@
 use Rattle.std.proofs.Common.{length, sym, subst}
 use Rattle.law_model.specs.declared.lcas_states.Command.TheVariants.{Add as add}
 use Rattle.law_model.specs.Common.{passed_on}
-use Rattle.terminal_source.specs.source_core.Step.{terminal_of}
-use Rattle.terminal_source.specs.source_core.Given.{with_command, SourceStands}
-use Rattle.terminal_source.proofs.SourceCoreLaws.FieldSteps.{IsTerminal-asked}
-use Rattle.terminal_source.proofs.SourceCoreLaws.GivenSteps.{Stands-with_command}
+use Rattle.terminal_source.specs.source_core.StepOfTerminal.{terminal_of}
+use Rattle.terminal_source.specs.source_core.GivenScenario.{with_command, SourceStands}
+use Rattle.terminal_source.proofs.SourceCoreLaws.TerminalFieldSteps.{IsTerminal-asked}
+use Rattle.terminal_source.proofs.SourceCoreLaws.GivenToTerminalSteps.{Stands-with_command}
 use Rattle.terminal_source.proofs.source_core.source_terminal.SourceCore.add.Goals as goal
 
 pub invariant_of-self : goal.invariant_of-self

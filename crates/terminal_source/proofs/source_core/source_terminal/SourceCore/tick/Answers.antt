@@ -5,16 +5,16 @@ use Rattle.std.specs.Vec.{with_items}
 use Rattle.std.specs.Global.{Box}
 use Rattle.std.proofs.lemmas.List.{with_items_is, length-map}
 use Rattle.law_model.specs.Common.{Container, stream_of, reached, place_of, payload_of, frame_of, passed_on}
-use Rattle.gfp_fill.specs.Stream.{FillerStands as HasWritten}
-use Rattle.member_cells.specs.Held.{held}
+use Rattle.gfp_fill.specs.FilledStream.{FillerStands as HasWritten}
+use Rattle.member_cells.specs.HeldPlaces.{held}
 use Rattle.member_rows.specs.vcat_interleave.Spread.{Spreads}
-use Rattle.terminal_source.specs.source_core.Frame.{AreBegun}
-use Rattle.terminal_source.specs.source_core.Step.{is_step, nibbles_by, AreMembers}
+use Rattle.terminal_source.specs.source_core.FrameContainers.{AreBegun}
+use Rattle.terminal_source.specs.source_core.StepOfTerminal.{is_step, nibbles_by, AreMembers}
 use Rattle.terminal_source.specs.source_core.Terminal.{Terminal, needed}
-use Rattle.terminal_source.specs.source_core.Given.{with_cell, stream_now, SourceStands}
-use Rattle.terminal_source.proofs.SourceCoreLaws.FieldSteps.{next-members, nibbles_by-length, IsTerminal-ticked, frame-fits}
-use Rattle.terminal_source.proofs.SourceCoreLaws.FrameLaws.{sent-frame}
-use Rattle.terminal_source.proofs.SourceCoreLaws.TickSteps.{is-due, next-fields, Stands-ticked, row-ticked, frame-ticked}
+use Rattle.terminal_source.specs.source_core.GivenScenario.{with_cell, stream_now, SourceStands}
+use Rattle.terminal_source.proofs.SourceCoreLaws.TerminalFieldSteps.{next-members, nibbles_by-length, IsTerminal-ticked, frame-fits}
+use Rattle.terminal_source.proofs.SourceCoreLaws.FrameContainerLaws.{sent-frame}
+use Rattle.terminal_source.proofs.SourceCoreLaws.TerminalTickSteps.{is-due, next-fields, Stands-ticked, row-ticked, frame-ticked}
 use Rattle.terminal_source.proofs.source_core.source_terminal.SourceCore.tick.Goals as goal
 
 pub begin_all-requires-clause-members : goal.begin_all-requires-clause-members

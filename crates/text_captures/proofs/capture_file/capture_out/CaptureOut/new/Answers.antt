@@ -1,8 +1,8 @@
 -- The head stands behind what was written before.
 use Rattle.std.proofs.Common.{ℕ, [], ◌∙◌, sym, subst}
 use Rattle.law_model.specs.Common.{Start}
-use Rattle.text_got.specs.Told.{HasText, name_of, start_at}
-use Rattle.text_captures.specs.capture_file.Written.{ethernet_head}
+use Rattle.text_got.specs.TextSoFar.{HasText, name_of, start_at}
+use Rattle.text_captures.specs.capture_file.WrittenCapture.{ethernet_head}
 use Rattle.text_captures.proofs.capture_file.capture_out.CaptureOut.new.Goals as goal
 
 pub returns-clause-name : goal.returns-clause-name

@@ -1,8 +1,8 @@
 -- A record more of the row.
 use Rattle.std.proofs.Common.{subst}
-use Rattle.text_got.specs.Told.{HasText}
-use Rattle.text_captures.specs.capture_file.Out.{first_in, before_in}
-use Rattle.text_captures.proofs.CaptureFileLaws.OutLaws.{row-behind}
+use Rattle.text_got.specs.TextSoFar.{HasText}
+use Rattle.text_captures.specs.capture_file.CaptureSoFar.{first_in, before_in}
+use Rattle.text_captures.proofs.CaptureFileLaws.CaptureGrowsByRowLaws.{row-behind}
 use Rattle.text_captures.proofs.capture_file.capture_out.CaptureOutFrameOut.frame.Goals as goal
 
 pub returns : goal.returns

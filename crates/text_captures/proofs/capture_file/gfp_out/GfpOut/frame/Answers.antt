@@ -1,8 +1,8 @@
 -- A record more.
 use Rattle.std.proofs.Common.{◌+◌, length, subst, arith}
-use Rattle.text_got.specs.Told.{HasText}
-use Rattle.text_captures.specs.capture_file.Gfp.{gfp_capture}
-use Rattle.text_captures.proofs.CaptureFileLaws.GfpLaws.{gfp-more}
+use Rattle.text_got.specs.TextSoFar.{HasText}
+use Rattle.text_captures.specs.capture_file.GfpInCapture.{gfp_capture}
+use Rattle.text_captures.proofs.CaptureFileLaws.GfpCaptureLaws.{gfp-more}
 use Rattle.text_captures.proofs.capture_file.gfp_out.GfpOut.frame.Goals as goal
 
 pub returns : goal.returns

@@ -2,8 +2,8 @@
 use Rattle.std.proofs.Common.{◌≡◌, ◌⊎◌, ◌++◌, List, ℕ, take, Err, subst}
 use Rattle.text_scripts.specs.declared.script_read.script_fault.ScriptFault.TheVariants.{Memory}
 use Rattle.text_scripts.specs.script_read.Script.{script_of}
-use Rattle.text_scripts.specs.script_read.Pieces.{ReaderStands}
-use Rattle.text_scripts.proofs.ScriptReadLaws.PieceLaws.{follows_on, fails_on}
+use Rattle.text_scripts.specs.script_read.ScriptInPieces.{ReaderStands}
+use Rattle.text_scripts.proofs.ScriptReadLaws.ScriptPieceReadLaws.{follows_on, fails_on}
 use Rattle.text_scripts.proofs.script_read.script_reader.ScriptReader.read_on.Goals as goal
 
 pub returns-in-Ok-clause-follows : goal.returns-in-Ok-clause-follows

@@ -2,10 +2,10 @@
 use Rattle.std.proofs.Common.{◌≡◌, ◌≢◌, ◌<◌, ◌++◌, length, refl, sym, ◌∙◌, ap, ap₂, arith, rules, length-append}
 use Rattle.law_model.specs.members.Damage.{carried}
 use Rattle.law_model.specs.Common.{cells}
-use Rattle.thread_rings.specs.Ends.{in_passed}
+use Rattle.thread_rings.specs.EndsOfRing.{in_passed}
 use Rattle.thread_rings.specs.declared.line_worker.Burst.TheVariants.{Done}
-use Rattle.thread_rings.specs.Alarms.{alarms_of_line}
-use Rattle.thread_rings.specs.Worker.{number_of, delay_of, windows_of, total_of, carries_of, raised_by}
+use Rattle.thread_rings.specs.LineAlarms.{alarms_of_line}
+use Rattle.thread_rings.specs.WorkerOfLine.{number_of, delay_of, windows_of, total_of, carries_of, raised_by}
 use Rattle.thread_alarms.specs.alarm_log.Posts.{posted_by}
 use Rattle.thread_alarms.proofs.watched_line.served_line.ServedLine.burst.Goals as goal
 

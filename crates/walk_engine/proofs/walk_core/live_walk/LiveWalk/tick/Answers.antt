@@ -3,11 +3,11 @@ use Rattle.std.proofs.Common.{◌/◌, ◌%◌, ◌==◌, ◌<◌, if◌then◌e
 use Rattle.law_model.specs.Common.{step}
 use Rattle.law_model.specs.declared.walk_events.Event.TheVariants.{Tick}
 use Rattle.law_walk.specs.Common.{walk_plan}
-use Rattle.terminal_group.specs.Counted.{missing_from}
+use Rattle.terminal_group.specs.SourceByCounts.{missing_from}
 use Rattle.terminal_group.specs.ReturnInbox.{Inbox}
 use Rattle.walk_engine.specs.Common.{AgreesNow, Walking, LiveStands, Parts, counts_of, walking_counts, windows_in}
-use Rattle.walk_engine.proofs.WalkCoreLaws.TickLaws.{tick-stays, can-tick, tick-live}
-use Rattle.walk_engine.proofs.WalkCoreLaws.WayLaws.{is-live, way-stands, live-from}
+use Rattle.walk_engine.proofs.WalkCoreLaws.TickAndFullRingLaws.{tick-stays, can-tick, tick-live}
+use Rattle.walk_engine.proofs.WalkCoreLaws.WayAsReadLaws.{is-live, way-stands, live-from}
 use Rattle.walk_engine.proofs.walk_core.live_walk.LiveWalk.tick.Goals as goal
 
 pub returns-in-Some-clause-makes : goal.returns-in-Some-clause-makes

@@ -1,9 +1,9 @@
 -- A line carries.
 use Rattle.std.proofs.Common.{rules, ℕ, refl, arith}
 use Rattle.law_model.specs.Common.{Leg}
-use Rattle.walk_engine.specs.walk_core.Parts.{WayStands}
-use Rattle.walk_engine.proofs.WalkCoreLaws.CarryLaws.{frame-size, sent-places}
-use Rattle.walk_engine.proofs.WalkCoreLaws.CarrySteps.{line-read, line-stays, line-free, line-carried}
+use Rattle.walk_engine.specs.walk_core.WayParts.{WayStands}
+use Rattle.walk_engine.proofs.WalkCoreLaws.CarryByNumbersLaws.{frame-size, sent-places}
+use Rattle.walk_engine.proofs.WalkCoreLaws.LineCarrySteps.{line-read, line-stays, line-free, line-carried}
 use Rattle.walk_engine.proofs.walk_core.one_way.WayCore.carry.Goals as goal
 
 pub returns-in-Some-clause-makes : goal.returns-in-Some-clause-makes

@@ -1,17 +1,17 @@
 -- A frame is made, and goes to its place in the send rings.
 use Rattle.std.proofs.Common.{rules, ◌+◌, ◌%◌, ◌<◌, length, refl, sym, ◌∙◌, ap, subst, arith, is_some}
 use Rattle.law_model.proofs.ListLaws.{at-index}
-use Rattle.member_cells.specs.Held.{held}
+use Rattle.member_cells.specs.HeldPlaces.{held}
 use Rattle.law_model.specs.Common.{steps_in, frame_of}
 use Rattle.terminal_source.specs.source_core.Terminal.{SameKind, needed}
-use Rattle.terminal_source.specs.source_core.Given.{with_cell}
+use Rattle.terminal_source.specs.source_core.GivenScenario.{with_cell}
 use Rattle.terminal_group.specs.ReturnInbox.{cell_for, rest_for}
-use Rattle.terminal_group.specs.Counted.{Counted, SameCounts, missing_from}
-use Rattle.walk_engine.specs.walk_core.Parts.{WayStands}
+use Rattle.terminal_group.specs.SourceByCounts.{Counted, SameCounts, missing_from}
+use Rattle.walk_engine.specs.walk_core.WayParts.{WayStands}
 use Rattle.walk_engine.specs.Common.{Parts, sent_frames, CanTick, with_passed}
-use Rattle.walk_engine.proofs.WalkCoreLaws.CarryLaws.{frame-size, sent-places}
-use Rattle.walk_engine.proofs.WalkCoreLaws.TickLaws.{tick-makes_at, sent-read}
-use Rattle.walk_engine.proofs.WalkCoreLaws.WayLaws.{makes-from, same-left, same-missing, same-cell, same-rest}
+use Rattle.walk_engine.proofs.WalkCoreLaws.CarryByNumbersLaws.{frame-size, sent-places}
+use Rattle.walk_engine.proofs.WalkCoreLaws.TickAndFullRingLaws.{tick-makes_at, sent-read}
+use Rattle.walk_engine.proofs.WalkCoreLaws.WayAsReadLaws.{makes-from, same-left, same-missing, same-cell, same-rest}
 use Rattle.walk_engine.proofs.walk_core.one_way.WayCore.make.Goals as goal
 
 pub next_place-place-requires : goal.next_place-place-requires

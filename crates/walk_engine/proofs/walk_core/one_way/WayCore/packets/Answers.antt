@@ -2,7 +2,7 @@
 use Rattle.std.proofs.Common.{map, sym, ◌∙◌, ap, subst}
 use Rattle.law_model.specs.Common.{governing}
 use Rattle.law_walk.specs.Common.{popped_cells}
-use Rattle.walk_engine.specs.walk_core.Parts.{WayStands}
+use Rattle.walk_engine.specs.walk_core.WayParts.{WayStands}
 use Rattle.walk_engine.specs.Common.{Parts, line_counts}
 use Rattle.walk_engine.proofs.walk_core.one_way.WayCore.packets.Goals as goal
 

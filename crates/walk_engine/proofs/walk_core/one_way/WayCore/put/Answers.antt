@@ -1,7 +1,7 @@
 -- The source side takes the return cell.
 use Rattle.std.proofs.Common.{◌<◌, length, sym, ◌∙◌, ap, subst}
 use Rattle.terminal_group.specs.ReturnInbox.{with_come}
-use Rattle.terminal_group.specs.Counted.{Counted}
+use Rattle.terminal_group.specs.SourceByCounts.{Counted}
 use Rattle.walk_engine.specs.Common.{Parts, sent_frames}
 use Rattle.walk_engine.proofs.walk_core.one_way.WayCore.put.Goals as goal
 

@@ -1,11 +1,11 @@
 -- A row is taken, or the cells that were popped wait for more.
 use Rattle.std.proofs.Common.{sym, ◌∙◌, ap, subst}
 use Rattle.walk_engine.specs.Common.{GivesRows, Parts, counts_of, take_cause, windows_in}
-use Rattle.walk_engine.specs.walk_core.Parts.{WayStands}
-use Rattle.walk_engine.proofs.WalkCoreLaws.RoundLaws.{gives-none}
-use Rattle.walk_engine.proofs.WalkCoreLaws.TakenLaws.{rows-few, can-pop, waits-kept, can-take, taken-kept, taken-gives}
-use Rattle.walk_engine.proofs.WalkCoreLaws.TickLaws.{lines-few}
-use Rattle.walk_engine.proofs.WalkCoreLaws.WayLaws.{takes-from}
+use Rattle.walk_engine.specs.walk_core.WayParts.{WayStands}
+use Rattle.walk_engine.proofs.WalkCoreLaws.WalkRoundLaws.{gives-none}
+use Rattle.walk_engine.proofs.WalkCoreLaws.RowTakenOrWaitsLaws.{rows-few, can-pop, waits-kept, can-take, taken-kept, taken-gives}
+use Rattle.walk_engine.proofs.WalkCoreLaws.TickAndFullRingLaws.{lines-few}
+use Rattle.walk_engine.proofs.WalkCoreLaws.WayAsReadLaws.{takes-from}
 use Rattle.walk_engine.proofs.walk_core.one_way.WayCore.take.Goals as goal
 
 pub pop_lines-requires : goal.pop_lines-requires

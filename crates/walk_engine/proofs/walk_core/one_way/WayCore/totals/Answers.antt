@@ -2,9 +2,9 @@
 use Rattle.std.proofs.Common.{◌+◌, ◌-◌, min, sym, ◌∙◌, ap, subst}
 use Rattle.law_walk.specs.Common.{totals_of}
 use Rattle.terminal_group.specs.declared.landed_counts.LandedCounts.{LandedCounts}
-use Rattle.walk_engine.specs.walk_core.Parts.{WayStands}
+use Rattle.walk_engine.specs.walk_core.WayParts.{WayStands}
 use Rattle.walk_engine.specs.Common.{Parts, counts_of}
-use Rattle.walk_engine.proofs.WalkCoreLaws.TotalLaws.{totals-are}
+use Rattle.walk_engine.proofs.WalkCoreLaws.WayTotalsLaws.{totals-are}
 use Rattle.walk_engine.proofs.walk_core.one_way.WayCore.totals.Goals as goal
 
 pub returns : goal.returns

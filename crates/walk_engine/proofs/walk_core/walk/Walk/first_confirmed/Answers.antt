@@ -4,7 +4,7 @@ use Rattle.law_model.specs.Common.{segments_of, leg_of}
 use Rattle.law_walk.specs.Common.{session_rows}
 use Rattle.terminal_sink.specs.marked_delineator.Marks.{first_place}
 use Rattle.walk_engine.specs.Common.{Parts, Walked}
-use Rattle.walk_engine.specs.walk_core.Parts.{WayStands}
+use Rattle.walk_engine.specs.walk_core.WayParts.{WayStands}
 use Rattle.walk_engine.proofs.walk_core.walk.Walk.first_confirmed.Goals as goal
 
 pub returns : goal.returns

@@ -3,7 +3,7 @@ use Rattle.std.proofs.Common.{◌≡◌, ◌-◌, ◌/◌, ◌<◌, ◌≤◌, f
 use Rattle.law_model.specs.Common.{leg_of, scenario_by, is_known}
 use Rattle.law_walk.specs.Common.{session_of}
 use Rattle.walk_engine.specs.Common.{Parts, Walked}
-use Rattle.walk_engine.specs.walk_core.Parts.{WayStands}
+use Rattle.walk_engine.specs.walk_core.WayParts.{WayStands}
 use Rattle.walk_engine.proofs.walk_core.walk.Walk.knows.Goals as goal
 
 pub returns : goal.returns

@@ -2,7 +2,7 @@
 use Rattle.std.proofs.Common.{length, slice_get, sym, ◌∙◌, ap, subst, arith}
 use Rattle.law_model.specs.Common.{leg_of}
 use Rattle.walk_engine.specs.Common.{Parts, Walked, counts_of, receive_ring}
-use Rattle.walk_engine.specs.walk_core.Parts.{WayStands}
+use Rattle.walk_engine.specs.walk_core.WayParts.{WayStands}
 use Rattle.walk_engine.proofs.walk_core.walk.Walk.receive_ring.Goals as goal
 
 pub receive_ring-requires : goal.receive_ring-requires

@@ -2,7 +2,7 @@
 use Rattle.std.proofs.Common.{length, slice_get, sym, ◌∙◌, ap, subst, arith}
 use Rattle.law_model.specs.Common.{leg_of}
 use Rattle.walk_engine.specs.Common.{Parts, Walked, counts_of, send_ring}
-use Rattle.walk_engine.specs.walk_core.Parts.{WayStands}
+use Rattle.walk_engine.specs.walk_core.WayParts.{WayStands}
 use Rattle.walk_engine.proofs.walk_core.walk.Walk.send_ring.Goals as goal
 
 pub send_ring-requires-clause-line : goal.send_ring-requires-clause-line

@@ -1,8 +1,8 @@
 -- The line gave the same cells, and the ring holds those that weren't popped.
 use Rattle.std.proofs.Common.{subst, sym, refl}
-use Rattle.member_path.specs.path_delay.Line.{and_cut}
+use Rattle.member_path.specs.path_delay.CallsOnDelayedLine.{and_cut}
 use Rattle.walk_engine.specs.Common.{Has}
-use Rattle.walk_engine.proofs.WalkPartsLaws.RingLaws.{has-same, ringed-same}
+use Rattle.walk_engine.proofs.WalkPartsLaws.ReceiveRingLaws.{has-same, ringed-same}
 use Rattle.walk_engine.proofs.walk_parts.walk_line.WalkLine.cut.Goals as goal
 
 pub invariant_of-self : goal.invariant_of-self

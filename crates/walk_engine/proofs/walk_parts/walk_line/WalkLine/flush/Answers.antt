@@ -3,10 +3,10 @@ use Rattle.std.proofs.Common.{rules, ◌≡◌, ◌%◌, ◌∙◌, length, slic
 use Rattle.std.specs.Global.{Box}
 use Rattle.std.proofs.lemmas.List.{map-set}
 use Rattle.law_model.specs.Common.{Container}
-use Rattle.member_cells.specs.Held.{held}
-use Rattle.member_path.specs.path_delay.Line.{and_flush}
+use Rattle.member_cells.specs.HeldPlaces.{held}
+use Rattle.member_path.specs.path_delay.CallsOnDelayedLine.{and_flush}
 use Rattle.walk_engine.specs.Common.{Ringed, Has, with_sign}
-use Rattle.walk_engine.proofs.WalkPartsLaws.RingLaws.{has-more}
+use Rattle.walk_engine.proofs.WalkPartsLaws.ReceiveRingLaws.{has-more}
 use Rattle.walk_engine.proofs.walk_parts.walk_line.WalkLine.flush.Goals as goal
 
 pub returns-clause-has : goal.returns-clause-has

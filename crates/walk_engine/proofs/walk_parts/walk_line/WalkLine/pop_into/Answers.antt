@@ -7,14 +7,14 @@ use Rattle.law_model.specs.Common.{Container, Cell, verdict}
 use Rattle.std.proofs.lemmas.Option.{slice_get_within}
 use Rattle.law_model.proofs.ListLaws.{take-one}
 use Rattle.circular_buffer.proofs.Places.{slice_get-some}
-use Rattle.member_cells.specs.Held.{held}
-use Rattle.member_path.specs.path_delay.Line.{path_cells}
-use Rattle.member_path.specs.cell_numbers.Told.{cell_with}
+use Rattle.member_cells.specs.HeldPlaces.{held}
+use Rattle.member_path.specs.path_delay.CallsOnDelayedLine.{path_cells}
+use Rattle.member_path.specs.cell_numbers.SignsAsCells.{cell_with}
 use Rattle.member_rows.specs.realign_rows.Gather.{GatherStands as Gathers, with_cell}
 use Rattle.walk_engine.specs.Common.{Ringed, Has, popped_until, leaves_open}
-use Rattle.walk_engine.proofs.WalkPartsLaws.RingLaws.{cell-read, has-popped}
-use Rattle.walk_engine.proofs.WalkPartsLaws.PopLaws.{waits-is, with-set, set-same, until-shut, until-none, until-next}
-use Rattle.walk_engine.proofs.WalkPartsLaws.PopLaws.{none-some}
+use Rattle.walk_engine.proofs.WalkPartsLaws.ReceiveRingLaws.{cell-read, has-popped}
+use Rattle.walk_engine.proofs.WalkPartsLaws.PopUntilDecidedLaws.{waits-is, with-set, set-same, until-shut, until-none, until-next}
+use Rattle.walk_engine.proofs.WalkPartsLaws.PopUntilDecidedLaws.{none-some}
 use Rattle.walk_engine.proofs.walk_parts.walk_line.WalkLine.pop_into.Goals as goal
 
 pub loop-self-init : goal.loop-self-init

@@ -1,8 +1,8 @@
 -- So many cells have gone into the rows, and each of them left the line open.
 use Rattle.std.proofs.Common.{◌≡◌, ◌-◌, ◌≤◌, List, length, take, slice_set}
 use Rattle.law_model.specs.Common.{Cell}
-use Rattle.member_cells.specs.Held.{held}
-use Rattle.member_path.specs.path_delay.Line.{Calls, path_cells}
+use Rattle.member_cells.specs.HeldPlaces.{held}
+use Rattle.member_path.specs.path_delay.CallsOnDelayedLine.{Calls, path_cells}
 use Rattle.member_rows.specs.realign_rows.Gather.{GatherStands as Gathers, line_count}
 use Rattle.walk_engine.specs.Common.{Has, IsNext, popped_until, leaves_open}
 use Rattle.walk_engine.proofs.walk_parts.walk_line.WalkLine.pop_into.Given as goal

@@ -5,10 +5,10 @@ use Rattle.std.specs.Global.{Box}
 use Rattle.std.proofs.lemmas.List.{map-set, length-map}
 use Rattle.std.proofs.lemmas.Option.{slice_get-map}
 use Rattle.law_model.specs.Common.{Container}
-use Rattle.member_cells.specs.Held.{held}
-use Rattle.member_path.specs.path_delay.Line.{and_push}
+use Rattle.member_cells.specs.HeldPlaces.{held}
+use Rattle.member_path.specs.path_delay.CallsOnDelayedLine.{and_push}
 use Rattle.walk_engine.specs.Common.{Ringed, Has, with_sign}
-use Rattle.walk_engine.proofs.WalkPartsLaws.RingLaws.{has-more, has-changed}
+use Rattle.walk_engine.proofs.WalkPartsLaws.ReceiveRingLaws.{has-more, has-changed}
 use Rattle.walk_engine.proofs.walk_parts.walk_line.WalkLine.push.Goals as goal
 
 pub returns-clause-has : goal.returns-clause-has

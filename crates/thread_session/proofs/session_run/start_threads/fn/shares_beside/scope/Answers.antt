@@ -3,8 +3,8 @@ use Rattle.std.proofs.Common.{arith}
 use Rattle.std.specs.Global.{Vec}
 use Rattle.thread_alarms.specs.declared.watched_line.served_line.ServedLine.{ServedLine}
 use Rattle.thread_session.specs.declared.session_parts.line_thread.Held.{Held}
-use Rattle.thread_session.specs.session_parts.Held.{IsHeldOf, AreHeldOf}
-use Rattle.thread_session.proofs.SessionPartsLaws.ZipLaws.{zip-length}
+use Rattle.thread_session.specs.session_parts.HeldShares.{IsHeldOf, AreHeldOf}
+use Rattle.thread_session.proofs.SessionPartsLaws.ListsBesideLaws.{zip-length}
 use Rattle.thread_session.proofs.session_run.start_threads.fn.shares_beside.scope.Goals as goal
 
 pub take_all_back-back-requires : goal.take_all_back-back-requires

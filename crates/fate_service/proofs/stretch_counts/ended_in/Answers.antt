@@ -1,0 +1,24 @@
+-- They lie between the two points.
+use Rattle.std.proofs.Common.{rules, ℕ, nat_lt, ltb, sym, ◌∙◌, ap}
+use Rattle.std.proofs.lemmas.List.Sorted.{IsPartitionPoint-from_clause, IsPartitionedBy-ltb}
+use Rattle.fate_service.specs.declared.landed_frames.CarriedFrame.{CarriedFrame}
+use Rattle.fate_service.specs.Stretches.{ended_of}
+use Rattle.fate_service.proofs.PartitionPointLaws.{Point, within-part, part-at}
+use Rattle.fate_service.proofs.stretch_counts.ended_in.Goals as goal
+
+pub returns : goal.returns
+returns c =
+    let frames = c.args.carried.now in
+    let first = c.args.first in
+    let end = c.args.end in
+    let from = c.partition_point-from.result in
+    let to = c.partition_point-to.result in
+    let key : CarriedFrame → ℕ = λ (f : CarriedFrame). f.last in
+    let one : Point (λ (f : CarriedFrame). nat_lt f.last first) frames from =
+    IsPartitionPoint-from_clause (λ (f : CarriedFrame). ltb f.last first) _ _ c.partition_point-from.ensures.partitioned
+    (IsPartitionedBy-ltb key frames first c.requires.order) (λ a r q k. search rules) in
+    let two : Point (λ (f : CarriedFrame). nat_lt f.last end) frames to =
+    IsPartitionPoint-from_clause (λ (f : CarriedFrame). ltb f.last end) _ _ c.partition_point-to.ensures.partitioned
+    (IsPartitionedBy-ltb key frames end c.requires.order) (λ a r q k. search rules) in
+    c.count_ended.ensures
+    ∙ ap ended_of (part-at frames from to c.min.result c.min.ensures ∙ sym (within-part key first end frames from to one two))

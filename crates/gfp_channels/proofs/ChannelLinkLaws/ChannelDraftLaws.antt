@@ -1,0 +1,121 @@
+-- What a draft meets, the draft after one more line meets as well.
+use Rattle.std.proofs.Common.{◌≡◌, ℕ, ◌+◌, ◌<◌, ◌≤◌, nat_lt, List, [], ◌∷◌, ◌++◌, All, refl, sym, subst, arith}
+use Rattle.std.specs.List.{fold}
+use Rattle.std.proofs.lemmas.Bool.{ltb-false}
+use Rattle.std.proofs.lemmas.List.Sums.{fold-append}
+use Rattle.std.proofs.lemmas.List.Elements.{All-nil, All-cons, All-append}
+use Rattle.text_lines.specs.WordsOfLine.{word_at, number_at}
+use Rattle.text_lines.specs.Fields.{within, any, above, digits}
+use Rattle.text_lines.specs.LanguageTable.{next_by}
+use Rattle.text_lines.proofs.WordFieldsLaws.{where_none, number_ok, digits_ok, one_field, two_fields}
+use Rattle.text_lines.proofs.LanguageTableLaws.{IsPlaced, IsSound, Keeps}
+use Rattle.gfp_model.specs.declared.linear_model.Cut.{Cut}
+use Rattle.gfp_channels.specs.declared.channel_link.channel_keyword.Keyword.{Keyword}
+use Rattle.gfp_channels.specs.declared.channel_link.channel_keyword.Keyword.TheVariants as word
+use Rattle.gfp_channels.specs.declared.channel_link.channel_draft.Draft.{Draft}
+use Rattle.gfp_channels.specs.channel_link.ChannelTextLines.{place, overlap, offer_said, cut_said, with_cut, after}
+use Rattle.gfp_channels.specs.channel_link.ChannelTextLines.{at_first, plan_table}
+use Rattle.gfp_channels.specs.channel_link.Plan.{AreCuts, IsOfOctets}
+
+-- where the last cut ends, from a place on
+abbrev end_behind : ℕ → List Cut → ℕ
+end_behind place cuts = fold (λ n cut. cut.end) place cuts
+
+-- what is said where the next line may stand from a place on
+pub record IsDraft (next : ℕ) (d : Draft) : Type 0 where
+  pub channels : 1 ≤ next → (1 ≤ d.channels) × (d.channels ≤ 256)
+  pub octets : 2 ≤ next → 1 ≤ d.octets
+  pub few : d.octets ≤ 100000000
+  pub frames : All IsOfOctets d.offers
+  pub none : next ≤ 2 → d.cuts ≡ []
+  pub cuts : AreCuts 0 d.octets d.cuts
+  pub end : d.end ≡ end_behind 0 d.cuts
+
+-- ---- a cut more
+cuts-more : (place most : ℕ) (cuts : List Cut) (cut : Cut) → AreCuts place most cuts → end_behind place cuts ≤ cut.first
+    → cut.first < cut.end → cut.end ≤ most → AreCuts place most (cuts ++ cut ∷ [])
+unfolding AreCuts
+cuts-more place most [] cut are behind some inside = (behind, some, inside, tt)
+cuts-more place most (first ∷ cuts) cut are behind some inside =
+    (are.0, are.1, are.2, cuts-more first.end most cuts cut are.3 behind some inside)
+
+cut-more : (next : ℕ) (d : Draft) (cut : Cut) → IsDraft next d → 2 ≤ next → d.end ≤ cut.first → cut.first < cut.end
+    → cut.end ≤ d.octets → IsDraft 3 (with_cut d cut)
+cut-more next d cut is late behind some inside = record {
+  channels = λ at. is.channels (omega (arith, late));
+  octets = λ at. is.octets late;
+  few = is.few;
+  frames = is.frames;
+  none = λ low. absurd (omega (arith, low));
+  cuts = cuts-more 0 d.octets d.cuts cut is.cuts (subst (λ n. n ≤ cut.first) is.end behind) some inside;
+  end = sym (fold-append (λ n cut. cut.end) 0 d.cuts (cut ∷ []));
+}
+
+no-cuts : (most : ℕ) (cuts : List Cut) → cuts ≡ [] → AreCuts 0 most cuts
+unfolding AreCuts
+no-cuts most cuts none = subst (AreCuts 0 most) (sym none) tt
+
+-- ---- a line more
+draft-first : IsDraft 0 at_first
+unfolding AreCuts
+draft-first = record {
+  channels = λ at. absurd (omega (arith, at));
+  octets = λ at. absurd (omega (arith, at));
+  few = omega arith;
+  frames = All-nil IsOfOctets;
+  none = λ low. refl;
+  cuts = tt;
+  end = refl;
+}
+
+draft-after : (next : ℕ) (d : Draft) (k : Keyword) (ws : List (List ℕ)) → IsDraft next d → IsPlaced 2 next (place k)
+    → IsSound plan_table d k ws → IsDraft (next_by plan_table k) (after d k ws)
+draft-after next d word.Channels ws is at fine =
+    let count = number_ok 2 1 256 (word_at 0 ws) (one_field (within 1 256) 2 ws fine.count fine.each) in
+    let first : next ≡ 0 = at.early (omega arith) in
+    record {
+      channels = λ late. count;
+      octets = λ late. absurd (omega (arith, late));
+      few = is.few;
+      frames = is.frames;
+      none = λ low. is.none (omega (arith, first));
+      cuts = is.cuts;
+      end = is.end;
+    }
+draft-after next d word.Octets ws is at fine =
+    let count = number_ok 2 1 100000000 (word_at 0 ws) (one_field (within 1 100000000) 2 ws fine.count fine.each) in
+    let second : next ≡ 1 = at.early (omega arith) in
+    let none = is.none (omega (arith, second)) in
+    record {
+      channels = λ late. is.channels (omega (arith, second));
+      octets = λ late. count.0;
+      few = count.1;
+      frames = is.frames;
+      none = λ low. none;
+      cuts = no-cuts (number_at 0 ws) d.cuts none;
+      end = is.end;
+    }
+draft-after next d word.Frame ws is at fine =
+    let two = two_fields (within 0 255) (digits 1 65535) 2 0 ws fine.count fine.each in
+    let late = at.late (omega arith) in
+    let fits = at.fits in
+    record {
+      channels = λ most. is.channels (omega (arith, late));
+      octets = λ most. is.octets late;
+      few = is.few;
+      frames =
+          All-append IsOfOctets d.offers (offer_said ws ∷ []) is.frames
+          (All-cons IsOfOctets (offer_said ws) [] (digits_ok 3 1 65535 (word_at 1 ws) two.1).each (All-nil IsOfOctets));
+      none = λ low. is.none fits;
+      cuts = is.cuts;
+      end = is.end;
+    }
+draft-after next d word.Cut ws is at fine =
+    let two = two_fields any (above d.octets) 2 0 ws fine.count fine.each in
+    let end = number_ok 3 (number_at 0 ws + 1) d.octets (word_at 1 ws) two.1 in
+    cut-more next d (cut_said ws) is (at.late (omega arith))
+    (ltb-false (number_at 0 ws) d.end (where_none (nat_lt (number_at 0 ws) d.end) (overlap d) fine.own))
+    (let some : number_at 0 ws < number_at 1 ws = omega (arith, end.0) in some) end.1
+
+pub plan-keeps : Keeps plan_table IsDraft
+plan-keeps = record { first = draft-first; after = draft-after }

@@ -1,0 +1,447 @@
+-- An item that lands leaves a group bound to its session.
+use Rattle.std.proofs.Common.{◌≡◌, ℕ, ◌+◌, ◌-◌, ◌<◌, ◌≤◌, nat_lt, nat_le, not, ◌&&◌, Bool, true, false, if◌then◌else◌}
+use Rattle.std.proofs.Common.{List, [], ◌∷◌, ◌++◌, drop, length, slice_get, get_or, All, Option, Some, None}
+use Rattle.std.proofs.Common.{option_map, inl, inr, refl, sym, ◌∙◌, ap, subst, arith, ltb-false}
+use Rattle.std.proofs.Common.{eqb-true, length-drop, append-nil}
+use Rattle.std.proofs.Common.{take}
+use Rattle.std.proofs.Math.Logic.{∥∥₁_map, ∥∥₁_elim}
+use Rattle.std.proofs.Props.{props}
+use Rattle.std.proofs.lemmas.Bool.{cases_Bool}
+use Rattle.std.proofs.lemmas.Bool.Decides.{nat_tests}
+use Rattle.std.proofs.lemmas.List.Elements.{All-cons, All-append}
+use Rattle.std.proofs.lemmas.Option.{slice_get_within, slice_get-get_or, get_or_from_slice_get}
+use Rattle.law_model.specs.Common.{Leg, Told, Scenario, DueCommand, DueFrame, order_of, orders_of, offers_of}
+use Rattle.law_model.specs.Common.{scenario_by, Counts, Container, BackCell}
+use Rattle.law_model.specs.declared.item_refusals.Refusal.{Refusal}
+use Rattle.law_model.specs.declared.script_types.ItemKind.{ItemKind}
+use Rattle.law_walk.specs.Common.{Numbered, is_client, refused_by, IsPlaced, landed_items, landed_scenario, IsOfferAt}
+use Rattle.law_walk.specs.Common.{IsOrderAt}
+use Rattle.thread_group.specs.declared.group_answers.SubmitFault.{SubmitFault}
+use Rattle.thread_group.specs.declared.group_answers.SubmitFault.TheVariants.{Frame as Frame_fault, Command as Command_fault}
+use Rattle.thread_group.specs.FaultsAndStops.{fault_of, has_landed, is_full, refusal_told}
+use Rattle.thread_group.specs.GroupOfLeg.{refusal_by, refusals_by, accepted_frames_by, accepted_commands_by, AreItemsOf}
+use Rattle.thread_group.specs.GroupOfLeg.{IsBound, counts_of, IsItemOf, octets_in, HasJournalRoom, HasLandedOf}
+use Rattle.law_walk.proofs.RefusalsAndTotalsLaws.{IsInserted, placed}
+use Rattle.std.proofs.lemmas.List.Sums.{sum_by-drop_more}
+use Rattle.law_model.specs.declared.script_types.ItemKind.TheVariants.{Frame, Add, Remove}
+use Rattle.law_model.specs.declared.lcas_states.Command.TheVariants.{Add as add, Remove as remove}
+use Rattle.law_model.specs.declared.item_refusals.Refusal.TheVariants.{Frame as frame_refused, Command as command_refused}
+use Rattle.terminal_source.specs.source_core.GivenScenario.{SourceStands as HasMade}
+use Rattle.law_walk.proofs.ItemsThatLandedLaws.{offer-at, order-at}
+use Rattle.thread_group.specs.declared.group_state.GroupState.{GroupState}
+use Rattle.terminal_group.specs.Item.{size_of as octet_count}
+use Rattle.thread_group.specs.Journal.{entry_of, fits}
+use Rattle.std.specs.Global.{Vec}
+use Rattle.law_model.proofs.ListLaws.{All-front, All-after}
+use Rattle.thread_rings.specs.EndsOfRing.{OutEnd, InEnd, in_passed}
+use Rattle.terminal_group.specs.ReturnInbox.{told_taken}
+use Rattle.thread_group.specs.GroupRings.{SameOuts, SameIns}
+use Rattle.thread_group.specs.GroupParts.{AreSent, ArePast}
+use Rattle.thread_group.specs.GroupCalls.{Submits}
+use Rattle.thread_group.proofs.LongerJournalAlikeLaws.{push-cases}
+use Rattle.thread_group.proofs.TickKeepsBoundLaws.{of-then}
+use Rattle.thread_group.proofs.MostLandedLaws.{most-next}
+use Rattle.thread_group.proofs.JournalOrderLaws.{frames-next, commands-next, landed-in-order}
+use Rattle.terminal_group.specs.Landed.{next_number, due_at}
+use Rattle.terminal_group.specs.GivenItem.{with_kind}
+use Rattle.thread_group.specs.Group.{IsOf, HasCounted, counted_by, parts_of, items_of, ticks_of, frames_of, commands_of}
+use Rattle.thread_group.specs.Group.{taken_of, source_of, next_of, refusal_of, is_number, fault_met, fault_in, slots_of}
+use Rattle.thread_group.specs.Group.{bytes_of, journal_of, refusals_of, lag_of, lost_of, entries_by, with_landed}
+use Rattle.thread_group.specs.Group.{room_for}
+use Rattle.terminal_group.proofs.LandedAndRefusedLaws.{placed-same}
+use Rattle.terminal_group.proofs.ItemOfLegLaws.{due-now, next-there, next-counts, offer-here, order-here, met-item, leaves}
+use Rattle.thread_group.proofs.GroupByPartsLaws.{refused-is, fault_by, met_in}
+
+-- ---- what holds of each of them, and of one more
+pub inserted-all : (P : Numbered → Type 0) (item : Numbered) (was now : List Numbered) → IsInserted item was now →
+    All P was → P item → All P now
+inserted-all P item was now put all here =
+    let parts : All P (put.front ++ put.back) = subst (All P) put.was_so all in
+    subst (All P) (sym put.is_so)
+    (All-append P put.front (item ∷ put.back) (All-front P put.front put.back parts)
+    (All-cons P item put.back here (All-after P put.front put.back parts)))
+
+-- ---- the item that lands
+-- it is the leg's, and is due
+pub item-here : (leg : Leg) (g : GroupState) (number : ℕ) (kind : ItemKind) → IsOf leg g →
+    next_of g kind ≡ Some number → due_at (items_of g) number ≤ ticks_of g → IsItemOf leg number kind →
+    slice_get leg.items number ≡ Some (record { due = ticks_of g; kind = kind })
+item-here leg g number kind of_script next due is_item =
+    due-now leg.items g.source.landed of_script.items (is_client kind) number (ticks_of g) kind next due
+    g.keeps.ahead is_item
+
+pub offer-next : (leg : Leg) (g : GroupState) (number : ℕ) (octets : List ℕ) → IsOf leg g →
+    next_number g.source.landed true ≡ Some number →
+    slice_get leg.items number ≡ Some (record { due = ticks_of g; kind = Frame octets }) →
+    IsOfferAt leg.items (frames_of g) (entry_of number (ticks_of g) (Frame octets))
+    (record { due = ticks_of g; frame = octets })
+offer-next leg g number octets of_script next here =
+    offer-here leg.items (frames_of g) number (ticks_of g) octets
+    (next-there leg.items g.source.landed of_script.items true number next).0 here
+
+pub order-next : (leg : Leg) (g : GroupState) (number : ℕ) (kind : ItemKind) (order : DueCommand) →
+    IsOf leg g → next_number g.source.landed false ≡ Some number →
+    order_of (ticks_of g) kind ≡ order ∷ [] → slice_get leg.items number ≡ Some
+    (record { due = ticks_of g; kind = kind }) →
+    IsOrderAt leg.items (commands_of g) (entry_of number (ticks_of g) kind) order
+order-next leg g number kind order of_script next is here =
+    order-here leg.items (commands_of g) number (ticks_of g) kind order
+    (next-there leg.items g.source.landed of_script.items false number next).0 is here
+
+-- as many of its kind are before it as have landed
+offers-before : (leg : Leg) (g : GroupState) (number : ℕ) (kind : ItemKind) → IsOf leg g →
+    next_of g kind ≡ Some number → slice_get leg.items number ≡ Some (record { due = ticks_of g; kind = kind }) →
+    is_client kind ≡ true → length (offers_of (take number leg.items)) ≡ frames_of g
+offers-before leg g number (Frame octets) of_script next here client =
+    (offer-next leg g number octets of_script next here).before
+offers-before leg g number (Add line) of_script next here client = absurd cc
+offers-before leg g number (Remove line) of_script next here client = absurd cc
+
+orders-before : (leg : Leg) (g : GroupState) (number : ℕ) (kind : ItemKind) → IsOf leg g →
+    next_of g kind ≡ Some number → slice_get leg.items number ≡ Some (record { due = ticks_of g; kind = kind }) →
+    is_client kind ≡ false → length (orders_of (take number leg.items)) ≡ commands_of g
+orders-before leg g number (Frame octets) of_script next here operator = absurd cc
+orders-before leg g number (Add line) of_script next here operator =
+    (order-next leg g number (Add line) (record { due = ticks_of g; command = add line }) of_script next refl
+    here).before
+orders-before leg g number (Remove line) of_script next here operator =
+    (order-next leg g number (Remove line) (record { due = ticks_of g; command = remove line }) of_script next refl
+    here).before
+
+-- ---- why it is refused
+pub refusal-item : (leg : Leg) (g : GroupState) (number : ℕ) (kind : ItemKind) → IsOf leg g →
+    HasLandedOf leg g → next_of g kind ≡ Some number →
+    slice_get leg.items number ≡ Some (record { due = ticks_of g; kind = kind }) →
+    refusal_of g kind ≡ refusal_by leg (taken_of g) (entry_of number (ticks_of g) kind)
+refusal-item leg g number kind of_script has next here =
+    sym (refused-is g kind) ∙ ∥∥₁_elim has.made (hlevel props)
+    (λ made. met-item leg (counts_of g) g.source.landed (source_of g) (taken_of g) number kind of_script.items
+    g.keeps.ahead made next here)
+
+-- ---- what has landed with it, and what is left
+pub record Next (leg : Leg) (a b : GroupState) (number : ℕ) (kind : ItemKind) : Type 0 where
+  pub inserted : IsInserted (entry_of number (ticks_of a) kind) (landed_items leg (counts_of a))
+      (landed_items leg (counts_of b))
+  pub scenario : with_kind (landed_scenario leg (counts_of a)) (ticks_of a) kind ≡ landed_scenario leg
+      (counts_of b)
+  pub octets : octets_in (drop (frames_of a) (offers_of leg.items)) ≡ octet_count kind + octets_in
+      (drop (frames_of b) (offers_of leg.items))
+  pub entries : length (drop (frames_of a) (offers_of leg.items)) + length
+      (drop (commands_of a) (orders_of leg.items))
+      ≡ length (drop (frames_of b) (offers_of leg.items)) + length
+      (drop (commands_of b) (orders_of leg.items)) + 1
+
+less-by : (n m size : ℕ) → n < size → m ≡ n + 1 → size - n ≡ size - m + 1
+less-by n m size low e = omega arith
+
+-- the octets and the items that are left
+abbrev Left : Leg → GroupState → GroupState → ItemKind → Type 0
+Left leg a b kind =
+    (octets_in (drop (frames_of a) (offers_of leg.items)) ≡ octet_count kind + octets_in
+    (drop (frames_of b) (offers_of leg.items)))
+    × (length (drop (frames_of a) (offers_of leg.items)) + length (drop (commands_of a) (orders_of leg.items))
+    ≡ length (drop (frames_of b) (offers_of leg.items)) + length
+    (drop (commands_of b) (orders_of leg.items)) + 1)
+
+left-frame : (leg : Leg) (a b : GroupState) (octets : List ℕ) →
+    slice_get (offers_of leg.items) (frames_of a) ≡ Some (record { due = ticks_of a; frame = octets }) →
+    frames_of b ≡ frames_of a + 1 → commands_of b ≡ commands_of a → Left leg a b (Frame octets)
+left-frame leg a b octets there frames commands =
+    let offer : DueFrame = record { due = ticks_of a; frame = octets } in
+    let inside = slice_get_within (offers_of leg.items) (frames_of a) offer there in
+    let one = length-drop (frames_of a) (offers_of leg.items) in
+    let two = length-drop (frames_of b) (offers_of leg.items) in
+    let step = less-by (frames_of a) (frames_of b) (length (offers_of leg.items)) inside frames in
+    let same : length (drop (commands_of a) (orders_of leg.items)) ≡ length
+    (drop (commands_of b) (orders_of leg.items)) = ap (λ n. length (drop n (orders_of leg.items)))
+    (sym commands) in (
+      sum_by-drop_more (λ (o : DueFrame). length o.frame) (offers_of leg.items) (frames_of a) offer inside
+          ∙ ap (λ (o : DueFrame). length o.frame + octets_in (drop (frames_of a + 1) (offers_of leg.items)))
+          (get_or_from_slice_get (offers_of leg.items) (frames_of a) offer offer there)
+          ∙ ap (λ n. length octets + octets_in (drop n (offers_of leg.items))) (sym frames),
+      omega arith,
+    )
+
+left-command : (leg : Leg) (a b : GroupState) (kind : ItemKind) (order : DueCommand) →
+    slice_get (orders_of leg.items) (commands_of a) ≡ Some order → octet_count kind ≡ 0 →
+    frames_of b ≡ frames_of a → commands_of b ≡ commands_of a + 1 → Left leg a b kind
+left-command leg a b kind order there none frames commands =
+    let inside = slice_get_within (orders_of leg.items) (commands_of a) order there in
+    let one = length-drop (commands_of a) (orders_of leg.items) in
+    let two = length-drop (commands_of b) (orders_of leg.items) in
+    let step = less-by (commands_of a) (commands_of b) (length (orders_of leg.items)) inside commands in
+    let same : length (drop (frames_of a) (offers_of leg.items)) ≡ length
+    (drop (frames_of b) (offers_of leg.items)) = ap (λ n. length (drop n (offers_of leg.items))) (sym frames) in
+    let octets : octets_in (drop (frames_of a) (offers_of leg.items)) ≡ octets_in
+    (drop (frames_of b) (offers_of leg.items)) = ap (λ n. octets_in (drop n (offers_of leg.items)))
+    (sym frames) in
+    (let h = octets in omega arith, omega arith)
+
+left-next : (leg : Leg) (a b : GroupState) (number : ℕ) (kind : ItemKind) → IsOf leg a →
+    next_of a kind ≡ Some number → slice_get leg.items number ≡ Some (record { due = ticks_of a; kind = kind }) →
+    HasCounted a b kind true → Left leg a b kind
+left-next leg a b number (Frame octets) of_script next here counted =
+    left-frame leg a b octets (offer-at _ _ _ _ (offer-next leg a number octets of_script next here)).0
+    counted.frames (counted.commands ∙ (let e : commands_of a + 0 ≡ commands_of a = omega arith in e))
+left-next leg a b number (Add line) of_script next here counted =
+    let order : DueCommand = record { due = ticks_of a; command = add line } in
+    left-command leg a b (Add line) order (order-at leg.items (commands_of a) _ order
+    (order-next leg a number (Add line) order of_script next refl here)).0 refl
+    (counted.frames ∙ (let e : frames_of a + 0 ≡ frames_of a = omega arith in e)) counted.commands
+left-next leg a b number (Remove line) of_script next here counted =
+    let order : DueCommand = record { due = ticks_of a; command = remove line } in
+    left-command leg a b (Remove line) order (order-at leg.items (commands_of a) _ order
+    (order-next leg a number (Remove line) order of_script next refl here)).0 refl
+    (counted.frames ∙ (let e : frames_of a + 0 ≡ frames_of a = omega arith in e)) counted.commands
+
+counted-one : (client : Bool) → counted_by client true ≡ (if client then 1 else 0)
+counted-one true = refl
+counted-one false = refl
+
+counted-other : (client : Bool) → counted_by (not client) true ≡ (if client then 0 else 1)
+counted-other true = refl
+counted-other false = refl
+
+pub next-of : (leg : Leg) (a b : GroupState) (number : ℕ) (kind : ItemKind) → IsOf leg a →
+    next_of a kind ≡ Some number → slice_get leg.items number ≡ Some (record { due = ticks_of a; kind = kind }) →
+    HasCounted a b kind true → Next leg a b number kind
+next-of leg a b number kind of_script next here counted =
+    let at = (next-there leg.items a.source.landed of_script.items (is_client kind) number next).0 in
+    let with_it = leaves leg (counts_of a) a.source.landed number (ticks_of a) kind at here in
+    let same = next-counts (is_client kind) (counts_of a) a.source.landed (frames_of b) (commands_of b)
+    (counted.frames ∙ ap (λ n. frames_of a + n) (counted-one (is_client kind)))
+    (counted.commands ∙ ap (λ n. commands_of a + n) (counted-other (is_client kind))) in
+    let less = left-next leg a b number kind of_script next here counted in
+    record {
+      inserted = subst (λ (c : Counts). IsInserted (entry_of number (ticks_of a) kind)
+          (landed_items leg (counts_of a)) (landed_items leg c)) same with_it.inserted;
+      scenario = with_it.scenario ∙ ap (landed_scenario leg) same;
+      octets = less.0;
+      entries = less.1;
+    }
+
+-- ---- what an answer tells
+number-is : (next : Option ℕ) (number : ℕ) → is_number next number ≡ true → next ≡ Some number
+number-is None number e = absurd cc
+number-is (Some n) number e = ap Some (eqb-true n number e)
+
+asks-by : (next : Option ℕ) (number ticks due : ℕ) (rest : Option SubmitFault) →
+    has_landed (fault_by next number ticks due rest) ≡ true →
+    (next ≡ Some number) × (due ≤ ticks) × (fault_by next number ticks due rest ≡ rest)
+asks-by next number ticks due rest h =
+    elim (cases_Bool (is_number next number)) [
+      | inr other ↦ absurd (let f : false ≡ true = rw other at h in cc)
+      | inl same ↦ elim (cases_Bool (nat_lt ticks due)) [
+        | inl early ↦ absurd (let f : false ≡ true = rw (same, early) at h in cc)
+        | inr late ↦ (number-is next number same, ltb-false ticks due late, rw (same, late) refl)
+      ]
+    ]
+
+landed-met : (why : Option Refusal) (fits : Bool) (slots bytes : ℕ) → has_landed (fault_met why fits slots bytes)
+    ≡ true → fault_met why fits slots bytes ≡ option_map fault_of why
+landed-met (Some why) fits slots bytes h = refl
+landed-met None true slots bytes h = refl
+landed-met None false slots bytes h = absurd cc
+
+full-by : (next : Option ℕ) (number ticks due : ℕ) (rest : Option SubmitFault) →
+    is_full (fault_by next number ticks due rest) ≡ true → (next ≡ Some number) × (due ≤ ticks) × (is_full rest ≡ true)
+full-by next number ticks due rest h =
+    elim (cases_Bool (is_number next number)) [
+      | inr other ↦ absurd (let f : false ≡ true = rw other at h in cc)
+      | inl same ↦ elim (cases_Bool (nat_lt ticks due)) [
+        | inl early ↦ absurd (let f : false ≡ true = rw (same, early) at h in cc)
+        | inr late ↦ (number-is next number same, ltb-false ticks due late, rw (same, late) at h)
+      ]
+    ]
+
+full-met : (why : Option Refusal) (fits : Bool) (slots bytes : ℕ) → is_full (fault_met why fits slots bytes) ≡ true →
+    fits ≡ false
+full-met (Some (frame_refused fault)) fits slots bytes h = absurd cc
+full-met (Some (command_refused fault)) fits slots bytes h = absurd cc
+full-met None true slots bytes h = absurd cc
+full-met None false slots bytes h = refl
+
+told-rest : (why : Option Refusal) → refusal_told (option_map fault_of why) ≡ why
+told-rest None = refl
+told-rest (Some (frame_refused fault)) = refl
+told-rest (Some (command_refused fault)) = refl
+
+-- ---- the journal has room
+room-first : (leg : Leg) (g : GroupState) (number : ℕ) (kind : ItemKind) → IsOf leg g →
+    next_of g kind ≡ Some number → slice_get leg.items number ≡ Some (record { due = ticks_of g; kind = kind }) →
+    HasJournalRoom leg g →
+    (0 < slots_of g) × (octet_count kind ≤ bytes_of g)
+room-first leg g number (Frame octets) of_script next here room =
+    let offer : DueFrame = record { due = ticks_of g; frame = octets } in
+    let there = (offer-at leg.items _ _ offer (offer-next leg g number octets of_script next here)).0 in
+    let inside = slice_get_within (offers_of leg.items) (frames_of g) offer there in
+    let long = length-drop (frames_of g) (offers_of leg.items) in
+    let entries = room.entries in
+    let bytes = room.octets in
+    let first = sum_by-drop_more (λ (o : DueFrame). length o.frame) (offers_of leg.items) (frames_of g) offer inside
+    ∙ ap (λ (o : DueFrame). length o.frame + octets_in (drop (frames_of g + 1) (offers_of leg.items)))
+    (get_or_from_slice_get (offers_of leg.items) (frames_of g) offer offer there) in
+    (omega arith, omega arith)
+room-first leg g number (Add line) of_script next here room =
+    let order : DueCommand = record { due = ticks_of g; command = add line } in
+    let there = (order-at _ _ _ _ (order-next leg g number (Add line) order of_script next refl here)).0 in
+    let inside = slice_get_within (orders_of leg.items) (commands_of g) order there in
+    let long = length-drop (commands_of g) (orders_of leg.items) in
+    let entries = room.entries in
+    (omega arith, omega arith)
+room-first leg g number (Remove line) of_script next here room =
+    let order : DueCommand = record { due = ticks_of g; command = remove line } in
+    let there = (order-at _ _ _ _ (order-next leg g number (Remove line) order of_script next refl here)).0 in
+    let inside = slice_get_within (orders_of leg.items) (commands_of g) order there in
+    let long = length-drop (commands_of g) (orders_of leg.items) in
+    let entries = room.entries in
+    (omega arith, omega arith)
+
+pub not-full : (leg : Leg) (g : GroupState) (number : ℕ) (kind : ItemKind) (answer : Option SubmitFault) →
+    IsOf leg g → HasJournalRoom leg g → IsItemOf leg number kind → answer ≡ fault_in g number kind →
+    is_full answer ≡ false
+not-full leg g number kind answer of_script room is_item is =
+    elim (cases_Bool (is_full answer)) [
+      | inr none ↦ none
+      | inl full ↦
+          let (next, due, none) = full-by (next_of g kind) number (ticks_of g) (due_at (items_of g) number)
+          (met_in g kind) (sym (ap is_full is) ∙ full) in
+          let few = full-met (refusal_of g kind) (fits (parts_of g).journal kind) (slots_of g) (bytes_of g) none in
+          let here = item-here leg g number kind of_script next due is_item in
+          let (slots, bytes) = room-first leg g number kind of_script next here room in
+          absurd (let f = fits-room (slots_of g) (bytes_of g) (octet_count kind) slots bytes in
+          let e : true ≡ false = sym f ∙ few in cc)
+    ]
+  where
+    fits-room : (slots bytes size : ℕ) → 0 < slots → size ≤ bytes → (nat_lt 0 slots && nat_le size bytes) ≡ true
+    fits-room slots bytes size low high = grind (arith, nat_tests, low, high)
+
+-- ---- what is bound after it
+entries-next : (answer : Option SubmitFault) (leg : Leg) (was now : List Numbered) (number ticks : ℕ)
+    (kind : ItemKind) → now ≡ was ++ entries_by answer number ticks kind → AreItemsOf leg was →
+    slice_get leg.items number ≡ Some (record { due = ticks; kind = kind }) → AreItemsOf leg now
+entries-next None leg was now number ticks kind same each here =
+    subst (AreItemsOf leg) (sym same)
+    (push-cases (λ i (entry : Numbered). slice_get leg.items entry.number ≡ Some entry.item) was
+    (entry_of number ticks kind) each here)
+entries-next (Some fault) leg was now number ticks kind same each here =
+    subst (AreItemsOf leg) (sym (same ∙ append-nil was)) each
+
+past-all : (ticks : ℕ) (items : List Numbered) → ArePast ticks items →
+    All (λ (item : Numbered). item.item.due ≤ ticks) items
+past-all ticks items past k d inside = past k (get_or items k d) (slice_get-get_or items k d inside)
+
+all-past : (ticks : ℕ) (items : List Numbered) → All (λ (item : Numbered). item.item.due ≤ ticks) items →
+    ArePast ticks items
+all-past ticks items all i item there =
+    subst (λ (one : Numbered). one.item.due ≤ ticks) (get_or_from_slice_get items i item item there)
+    (all i item (slice_get_within items i item there))
+
+module _ (leg : Leg) (a b : GroupState) (number : ℕ) (kind : ItemKind) (answer : Option SubmitFault)
+    (of_script : IsOf leg a) (has : HasLandedOf leg a)
+    (call : Submits a b number kind answer) (landed : has_landed answer ≡ true)
+    (is_item : IsItemOf leg number kind) where
+  abbrev entry : Numbered
+  entry = entry_of number (ticks_of a) kind
+
+  asks : (next_of a kind ≡ Some number) × (due_at (items_of a) number ≤ ticks_of a)
+      × (answer ≡ option_map fault_of (refusal_of a kind))
+  asks =
+      let (next, due, same) = asks-by (next_of a kind) number (ticks_of a) (due_at (items_of a) number) (met_in a kind)
+      (sym (ap has_landed call.fault) ∙ landed) in
+      let met : answer ≡ met_in a kind = call.fault ∙ same in (
+        next,
+        due,
+        met ∙ landed-met (refusal_of a kind) (fits (parts_of a).journal kind) (slots_of a) (bytes_of a)
+            (sym (ap has_landed met) ∙ landed),
+      )
+
+  here : slice_get leg.items number ≡ Some (record { due = ticks_of a; kind = kind })
+  here = item-here leg a number kind of_script asks.0 asks.1 is_item
+
+  told : refusal_told answer ≡ refusal_by leg (taken_of a) (entry_of number (ticks_of a) kind)
+  told = ap refusal_told asks.2 ∙ told-rest (refusal_of a kind)
+      ∙ refusal-item leg a number kind of_script has asks.0 here
+
+  pub next-is : Next leg a b number kind
+  next-is = next-of leg a b number kind of_script asks.0 here (subst (HasCounted a b kind) landed call.landed)
+
+  taken : taken_of b ≡ taken_of a
+  taken =
+      ap (λ l. told_taken l (lag_of b) (ticks_of b) (in_passed b.back)) call.script.lost
+      ∙ ap (λ n. told_taken (lost_of a) n (ticks_of b) (in_passed b.back)) call.script.lag
+      ∙ ap (λ n. told_taken (lost_of a) (lag_of a) n (in_passed b.back)) call.rings.ticks
+      ∙ ap (λ (end_ : InEnd BackCell). told_taken (lost_of a) (lag_of a) (ticks_of a) (in_passed end_)) call.rings.back
+
+  pub landed-submits : HasLandedOf leg b
+  landed-submits =
+      let put = next-is.inserted in
+      let counted = subst (HasCounted a b kind) landed call.landed in
+      let most = most-next leg a b kind has counted next-is.entries in
+      let cells : List (Option Told) = taken_of a in
+      record {
+        entries = entries-next answer leg (journal_of a) (journal_of b) number
+            (ticks_of a) kind call.journal has.entries here;
+        past = subst (λ n. ArePast n (landed_items leg (counts_of b))) (sym call.rings.ticks)
+            (all-past (ticks_of a) (landed_items leg (counts_of b))
+            (inserted-all (λ (item : Numbered). item.item.due ≤ ticks_of a) entry _ _ put
+            (past-all (ticks_of a) (landed_items leg (counts_of a)) has.past) (omega arith)));
+        most_frames = most.0;
+        most_commands = most.1;
+        refusals = placed-same number (refused_by number (refusal_told answer)) (refusals_of a)
+            (refusals_of b) (refusals_by leg cells (landed_items leg (counts_of b))) (call.refusals landed)
+            (subst (λ (l : List (ℕ × Refusal)). IsPlaced number (refused_by number (refusal_told answer)) l
+            (refusals_by leg cells (landed_items leg (counts_of b)))) (sym has.refusals)
+            (subst (λ (w : Option Refusal). IsPlaced number (refused_by number w)
+            (refusals_by leg cells (landed_items leg (counts_of a)))
+            (refusals_by leg cells (landed_items leg (counts_of b)))) (sym told)
+            (placed (refusal_by leg cells) entry (landed_items leg (counts_of a)) _ put)))
+            ∙ sym (ap (λ c. refusals_by leg c (landed_items leg (counts_of b))) taken);
+        frames = frames-next leg cells answer (journal_of a) (journal_of b) number (ticks_of a) kind landed call.journal
+            told here (frames_of a) (commands_of a) (frames_of b) (commands_of b)
+            (offers-before leg a number kind of_script asks.0 here) counted.frames has.frames
+            ∙ sym (ap (λ c. accepted_frames_by leg c (landed_items leg (counts_of b))) taken);
+        commands = commands-next leg cells answer (journal_of a) (journal_of b) number (ticks_of a) kind landed
+            call.journal told here (frames_of a) (commands_of a) (frames_of b) (commands_of b)
+            (orders-before leg a number kind of_script asks.0 here) counted.commands has.commands
+            ∙ sym (ap (λ c. accepted_commands_by leg c (landed_items leg (counts_of b))) taken);
+        order = landed-in-order answer (journal_of a) (journal_of b) number (ticks_of a) kind call.journal a.keeps.past
+            has.order;
+        sent = subst (λ (v : Vec (OutEnd Container)). AreSent (scenario_by leg) (taken_of b) (ticks_of b) v.items)
+            (sym call.rings.tx)
+            (subst (λ n. AreSent (scenario_by leg) (taken_of b) n a.tx.items) (sym call.rings.ticks)
+            (subst (λ c. AreSent (scenario_by leg) c (ticks_of a) a.tx.items) (sym taken) has.sent));
+        made = ∥∥₁_map has.made
+            (λ made. subst (HasMade (source_of b) (landed_scenario leg (counts_of b))) (sym taken)
+            (subst (λ (s : Scenario). HasMade (source_of b) s cells)
+            (ap (λ b_. with_landed (landed_scenario leg (counts_of a)) (ticks_of a) kind b_) landed
+            ∙ next-is.scenario)
+            (call.made (landed_scenario leg (counts_of a)) cells made)));
+      }
+
+room-taken : (answer : Option SubmitFault) (n m size : ℕ) → m + room_for answer size ≡ n → n ≤ m + size
+room-taken None n m size e = omega arith
+room-taken (Some fault) n m size e = omega arith
+
+pub bound-submits : (leg : Leg) (tx : List (OutEnd Container)) (back : List (InEnd BackCell)) (a b : GroupState)
+    (number : ℕ) (kind : ItemKind) (answer : Option SubmitFault) →
+    IsBound leg tx back a → Submits a b number kind answer → IsItemOf leg number kind → IsBound leg tx back b
+bound-submits leg tx back a b number kind answer is call is_item =
+    elim (cases_Bool (has_landed answer)) [
+      | inr none ↦ subst (IsBound leg tx back) (sym (call.unchanged none)) is
+      | inl landed ↦
+          let next = next-is leg a b number kind answer is.of_script is.landed call landed is_item in
+          let slots = room-taken answer (slots_of a) (slots_of b) 1 call.room.slots in
+          let bytes = room-taken answer (bytes_of a) (bytes_of b) (octet_count kind) call.room.bytes in
+          let entries = is.room.entries in
+          let octets = is.room.octets in
+          let less = next.entries in
+          let fewer = next.octets in
+          record {
+            of_script = of-then leg a b is.of_script call.script;
+            sends = subst (λ (v : Vec (OutEnd Container)). SameOuts tx v.items) (sym call.rings.tx) is.sends;
+            returns = subst (λ (end_ : InEnd BackCell). SameIns back (end_ ∷ [])) (sym call.rings.back) is.returns;
+            room = record { entries = omega arith; octets = omega arith };
+            landed = landed-submits leg a b number kind answer is.of_script is.landed call landed is_item;
+          }
+    ]
