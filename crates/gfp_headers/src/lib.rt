@@ -4,7 +4,7 @@
 //! written and read here too. Nothing here corrects a header, and nothing scrambles. Begin with `core_bytes`
 //! and `read_core`, which are inverse; what a header is stands in law_model's `specs/frames`, that of a frame
 //! with an FCS in gfp_model's `specs/fcs_model/Fcs.antt`, and the two of a frame of a channel in its
-//! `specs/linear_model/Linear.antt`.
+//! `specs/linear_model/ChannelArea.antt`.
 #![tactic(auto)]
 
 mod core_header;
