@@ -1,5 +1,5 @@
 pub mod LinearOutcomeLaws
 pub mod BusyChannelLaws
+pub mod ChannelTurnSteps
 pub mod ReachedPlaceLaws
-pub mod LinearFillSteps
 pub mod ChannelTurnLaws

@@ -1,10 +1,8 @@
--- What one step of a sender does to what stands over areas, and how steps follow one another on a stream.
-use Rattle.std.proofs.Common.{◌≡◌, ℕ, zero, suc, ◌+◌, ◌≤◌, List, [], ◌∷◌, ◌++◌, length, map, take, drop, refl}
+-- What one step of a sender does to what stands over areas.
+use Rattle.std.proofs.Common.{◌≡◌, ℕ, zero, suc, ◌+◌, ◌≤◌, List, [], ◌∷◌, ◌++◌, length, take, drop, refl}
 use Rattle.std.proofs.Common.{replicate, sym, ap, ap₂, subst, ◌∙◌, arith, append_assoc, length-append, length-take-le}
-use Rattle.std.proofs.Common.{length-drop, take-add, append-nil, take_at, drop_at, take_all, take-append-drop}
-use Rattle.std.proofs.Common.{drop-drop}
+use Rattle.std.proofs.Common.{length-drop, append-nil, take_at, drop_at, take_all, take-append-drop, drop-drop}
 use Rattle.std.proofs.lemmas.List.{drop_all, take-append-le, drop-append-le}
-use Rattle.law_model.proofs.ListLaws.{within-append}
 use Rattle.law_model.specs.Common.{scrambled_octets, core_header, cut, joined, with_header, areas_stream}
 use Rattle.law_model.proofs.CoreHeaderLaws.{length-core_header}
 use Rattle.law_model.proofs.CutAndJoinedLaws.{joined-append, joined-push}
@@ -154,12 +152,6 @@ idle_begun s t areas place stands head core scrambler =
     (subst (λ scrambling. HasScrambled scrambling octets) (sym scrambler) was))
 
 -- ---- whole idles
--- as many pieces of one kind have as many areas
-pub map-replicate : {Kind : Type 0} (area_in : Kind → List ℕ) (n : ℕ) (piece : Kind) →
-    map area_in (replicate n piece) ≡ replicate n (area_in piece)
-map-replicate area_in zero piece = refl
-map-replicate area_in (suc n) piece = ap (λ l. area_in piece ∷ l) (map-replicate area_in n piece)
-
 joined-idles : (n : ℕ) → joined (replicate n []) ≡ []
 joined-idles zero = refl
 joined-idles (suc n) = joined-idles n
@@ -192,44 +184,3 @@ idles_written n s areas place stands head =
           ∙ drop_all size (idles n) (omega arith) ∙ sym (drop_all place (areas_stream areas) (omega (arith, end)))
           ∙ stands.rest;
     })
-
--- ---- steps, one after another
--- on a stream of which more is begun as a place is reached: in parts or at once, behind what was begun before
-module _ {Stream : Type 0} (octets_of : Stream → List ℕ) (reached : ℕ → Stream → Stream)
-    (join : (sooner later : ℕ) (stream : Stream) → sooner ≤ later →
-    reached later (reached sooner stream) ≡ reached later stream)
-    (reach : (place : ℕ) (stream : Stream) → place ≤ length (octets_of (reached place stream)))
-    (follow : (place : ℕ) (stream : Stream) →
-    (more : List ℕ) × (octets_of (reached place stream) ≡ octets_of stream ++ more)) where
-  -- octets that are written stand in the stream of a later place
-  still_next : (stream : Stream) (place n later : ℕ) → place + n ≤ later
-      → take n (drop place (octets_of (reached later stream)))
-      ≡ take n (drop place (octets_of (reached (place + n) stream)))
-  still_next stream place n later more =
-      let sooner = reached (place + n) stream in
-      let rest = follow later sooner in
-      ap (λ s. take n (drop place (octets_of s))) (sym (join (place + n) later stream more))
-      ∙ ap (λ l. take n (drop place l)) rest.1
-      ∙ within-append place n (octets_of sooner) rest.0 (reach (place + n) stream)
-
-  -- octets that are the next ones, and then those that are the next ones after them
-  pub next-both : (stream : Stream) (place : ℕ) (first more : List ℕ)
-      → first ≡ take (length first) (drop place (octets_of (reached (place + length first) stream)))
-      → more ≡ take (length more) (drop (place + length first)
-      (octets_of (reached (place + length first + length more) (reached (place + length first) stream))))
-      → first ++ more ≡ take (length (first ++ more))
-      (drop place (octets_of (reached (place + length (first ++ more)) stream)))
-  next-both stream place first more one other =
-      let a = length first in
-      let b = length more in
-      let size : length (first ++ more) ≡ a + b = length-append first more in
-      let count : place + length (first ++ more) ≡ place + a + b = omega (arith, size) in
-      let octets : List ℕ = octets_of (reached (place + a + b) stream) in
-      let front : first ≡ take a (drop place octets) =
-      one ∙ sym (still_next stream place a (place + a + b) (omega arith)) in
-      let back : more ≡ take b (drop (place + a) octets) =
-      other
-      ∙ ap (λ s. take b (drop (place + a) (octets_of s))) (join (place + a) (place + a + b) stream (omega arith)) in
-      let cut : take (a + b) (drop place octets) ≡ take a (drop place octets) ++ take b (drop (place + a) octets) =
-      take-add a b (drop place octets) ∙ ap (λ l. take a (drop place octets) ++ take b l) (drop-drop a place octets) in
-      rw (count, size) (ap₂ ◌++◌ front back ∙ sym cut)

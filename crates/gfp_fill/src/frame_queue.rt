@@ -1,15 +1,16 @@
 //! The frames that are accepted, and how many wait.
 
-ghost use Rattle.std.specs.Prelude.{◌≡◌, ℕ, ◌<◌, ◌≤◌, ◌↔◌, List, [], ◌∷◌, ◌++◌, length, min, take, IsOk, IfOk};
-ghost use Rattle.std.specs.Prelude.{OnOk, OnErr, IfSome, IfNone};
+ghost use Rattle.std.specs.Prelude.{◌≡◌, ℕ, ◌<◌, ◌≤◌, ◌↔◌, [], ◌∷◌, ◌++◌, length, IsOk, IfOk, OnOk, OnErr};
 ghost use Rattle.std.specs.Result.{result_err};
-ghost use Rattle.law_model.specs.Common.{Stream, refusal_while, offered, longest_frame, most_waiting};
+ghost use Rattle.law_model.specs.Common.{Stream, refusal_while, offered, most_waiting};
 ghost use Rattle.gfp_fill.specs.Queue.{IsFrameLength, IsOtherLength, unbegun};
-ghost use Rattle.gfp_fill.specs.SentAreas.{Sender, head_of, StandsIn, HasWrittenIn};
+ghost use Rattle.gfp_fill.specs.SentAreas.{Sender};
 ghost use Rattle.gfp_fill.specs.FilledStream.{FillerStands};
 
 use crate::area_sender::AreaSender;
 use crate::frame_store::{BegunFrame, FrameStore};
+use crate::waiting_frames::WaitingFrames;
+use gfp_headers::type_bytes;
 use law_model::{AcceptFault, LONGEST_FRAME};
 use std::alloc::{AllocError, Global};
 use std::marker::Model;
@@ -95,38 +96,34 @@ impl FrameQueue {
     {
         self.store.len() as u16
     }
+}
 
-    // Begins to send the oldest frame, and says how many octets it has.
-    #[inline]
-    pub(crate) fn begin(&mut self) -> Option<usize>
-        ensures none { IfNone result (self.old.waiting ≡ []) }
-        ensures stays { IfNone result (self.new ≡ self.old) }
-        ensures frame { IfSome result (λ n. self.old.waiting ≡ self.new.begun ∷ self.new.waiting) }
-        ensures long { IfSome result (λ n. n ≡ length self.new.begun) }
-        ensures within { IfSome result (λ n. n ≤ longest_frame) }
-    {
-        self.store.begin(&mut self.begun)
-    }
+impl WaitingFrames for FrameQueue {
+    ghost use Rattle.gfp_fill.specs.FilledStream.{oldest_first};
 
-    // How many octets of the frame that is being sent aren't written.
+    ghost Stream = { Stream };
+
+    ghost order = { oldest_first };
+
     #[inline]
-    pub(crate) fn left(&self) -> usize
-        ensures { result ≡ length self.now.begun }
-    {
+    fn order_law() {}
+
+    #[inline]
+    fn left(&self) -> usize {
         self.begun.left()
     }
 
-    // Writes as many octets of the frame that is being sent as aren't written and `out` has room for, and
-    // says how many.
     #[inline]
-    pub(crate) fn send(&mut self, sender: &mut AreaSender, out: &mut [u8]) -> usize
-        requires { head_of sender.old ≡ [] }
-        ensures count { result ≡ min (length self.old.begun) (length out.old) }
-        ensures writes { (areas : List (List ℕ)) (place : ℕ) →
-            StandsIn sender.old self.old.begun areas place →
-            HasWrittenIn sender.new self.new.begun areas place (take result out.new) }
-        ensures waits { self.new.waiting ≡ self.old.waiting }
-    {
+    fn send(&mut self, sender: &mut AreaSender, out: &mut [u8]) -> usize {
         sender.send_frame(&mut self.begun, out)
+    }
+
+    #[inline]
+    fn begin_next(&mut self, sender: &mut AreaSender) -> bool {
+        let Some(n) = self.store.begin(&mut self.begun) else {
+            return false;
+        };
+        sender.begin(&type_bytes(), n);
+        true
     }
 }

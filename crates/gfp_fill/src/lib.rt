@@ -5,8 +5,8 @@
 //! alone.
 //!
 //! Below it `AreaSender` writes payload areas, whatever is in them, and idle frames, by `StandsIn` of
-//! `specs/SentAreas.antt`, and `FrameStore` keeps frames in buffers that are taken once. Fillers with frames of other
-//! kinds stand on both too.
+//! `specs/SentAreas.antt`, and `FrameStore` keeps frames in buffers that are taken once. A queue of frames of
+//! another kind stands on both too, and a `Filler` takes it as `WaitingFrames`.
 #![tactic(auto)]
 
 ghost use Rattle.std.specs.Prelude.{◌≡◌, ℕ, ◌+◌, ◌≤◌, List, [], ◌++◌, length, take, drop};
@@ -22,6 +22,7 @@ mod copy_octets;
 mod frame_queue;
 mod frame_store;
 mod stream_filler;
+mod waiting_frames;
 
 pub use area_sender::AreaSender;
 pub use copy_octets::copy_some;
@@ -29,6 +30,7 @@ pub use frame_queue::{FrameQueue, MAX_WAITING, MIN_FRAME};
 pub use frame_store::{BegunFrame, FrameStore};
 pub use law_model::AcceptFault;
 pub use stream_filler::Filler;
+pub use waiting_frames::WaitingFrames;
 
 /// The pieces of a stream that reaches a place are the fewest, a place can be reached in parts, and octets
 /// that are written stand in each longer stream. Where all frames wait from the start, the pieces are those

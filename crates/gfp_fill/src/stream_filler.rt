@@ -1,18 +1,16 @@
 //! The stream of GFP frames, octet by octet.
 
-ghost use Rattle.std.specs.Prelude.{◌≡◌, ℕ, ◌+◌, ◌<◌, ◌≤◌, List, length, take, drop};
-ghost use Rattle.law_model.specs.Common.{stream_of, Stream, reached};
-ghost use Rattle.gfp_fill.specs.Queue.{unbegun};
-ghost use Rattle.gfp_fill.specs.FilledStream.{unsent, FillerStands, Writes};
+ghost use Rattle.std.specs.Prelude.{◌≡◌, ℕ, ◌+◌, ◌<◌, ◌≤◌, [], ◌∷◌, length, take, drop};
+ghost use Rattle.gfp_fill.specs.SentAreas.{StandsIn};
+ghost use Rattle.gfp_fill.specs.Multiplex.{octets_of, IsMultiplex, Stands, Writes};
 
 use crate::area_sender::AreaSender;
-use crate::frame_queue::FrameQueue;
-use gfp_headers::type_bytes;
+use crate::waiting_frames::WaitingFrames;
 use std::marker::Model;
 
 /// Writes the stream of GFP frames: two idle frames, and then each frame that waits, or an idle frame where
 /// none does. The payload areas are scrambled as one list, and the core headers are not. A frame is sent from
-/// the buffer in which it waited, so a `Filler` belongs to one `FrameQueue`.
+/// the buffer in which it waited, so a `Filler` belongs to one queue.
 #[derive(Clone, Copy)]
 pub struct Filler {
     sender: AreaSender,
@@ -29,10 +27,9 @@ impl Model for Filler {
 }
 
 impl Filler {
-    /// A stream of which nothing is written.
+    /// A stream of which nothing is written. Two idle frames are begun.
     pub fn new() -> Filler
-        ensures { (waiting : List (List ℕ)) →
-            FillerStands result (unbegun waiting) (unsent waiting) 0 }
+        ensures { StandsIn result [] ([] ∷ [] ∷ []) 0 }
     {
         Filler {
             sender: AreaSender::new(),
@@ -42,16 +39,17 @@ impl Filler {
     /// Writes the next `out.len()` octets of the stream. A frame stops waiting when its first octet is
     /// written. The queue is that of the calls before: with one that doesn't hold the frame that is being
     /// sent the filler stands nowhere.
-    pub fn fill(&mut self, waiting: &mut FrameQueue, out: &mut [u8])
-        ensures stands { (stream : Stream) (place : ℕ) →
-            FillerStands self.old waiting.old stream place →
+    pub fn fill<Q: WaitingFrames>(&mut self, waiting: &mut Q, out: &mut [u8])
+        ensures stands { (stream : Q.Stream) (place : ℕ) →
+            Stands Q.order self.old waiting.old stream place →
             let further = place + length out.old in
-            FillerStands self.new waiting.new (reached further stream) further }
-        ensures octets { (stream : Stream) (place : ℕ) →
-            FillerStands self.old waiting.old stream place →
-            let octets = stream_of (reached (place + length out.old) stream).pieces in
+            Stands Q.order self.new waiting.new (Q.order.reached further stream) further }
+        ensures octets { (stream : Q.Stream) (place : ℕ) →
+            Stands Q.order self.old waiting.old stream place →
+            let octets = octets_of Q.order (Q.order.reached (place + length out.old) stream) in
             out.new ≡ take (length out.old) (drop place octets) }
     {
+        Q::order_law();
         // A copy of its own is kept in registers.
         let mut local = *self;
         let mut filled = 0;
@@ -62,11 +60,13 @@ impl Filler {
     }
 
     /// Writes at least one octet, and none after the end of the piece, or of the idles, that it sends.
-    fn fill_some(&mut self, waiting: &mut FrameQueue, out: &mut [u8]) -> usize
-        requires { 0 < length out.old }
+    fn fill_some<Q: WaitingFrames>(&mut self, waiting: &mut Q, out: &mut [u8]) -> usize
+        requires order { IsMultiplex Q.order }
+        requires room { 0 < length out.old }
         ensures some { 0 < result }
         ensures within { result ≤ length out.old }
-        ensures writes { Writes self.old waiting.old self.new waiting.new (take result out.new) }
+        ensures writes { Writes Q.order self.old waiting.old self.new waiting.new
+            (take result out.new) }
     {
         if self.sender.left() > 0 {
             return self.sender.send_headers(out);
@@ -74,12 +74,9 @@ impl Filler {
         if waiting.left() > 0 {
             return waiting.send(&mut self.sender, out);
         }
-        match waiting.begin() {
-            Some(n) => {
-                self.sender.begin(&type_bytes(), n);
-                self.sender.send_headers(out)
-            }
-            None => self.sender.send_idles(out),
+        if waiting.begin_next(&mut self.sender) {
+            return self.sender.send_headers(out);
         }
+        self.sender.send_idles(out)
     }
 }

@@ -10,7 +10,7 @@ use Rattle.gfp_model.specs.linear_model.Channels.{Channels, waiting_of}
 use Rattle.gfp_model.specs.linear_model.ChannelStream.{LinearPiece, idle, client, linear_stream, Shared, unsent, reached}
 use Rattle.gfp_model.specs.linear_model.ChannelStream.{frames_of, stream_to, cut_rows, segment_outcomes}
 use Rattle.gfp_channels.proofs.GfpLinearLaws.ReachedPlaceLaws.{reached-fewest}
-use Rattle.gfp_channels.proofs.GfpLinearLaws.LinearFillSteps.{long}
+use Rattle.gfp_channels.proofs.GfpLinearLaws.ChannelTurnSteps.{long}
 use Rattle.gfp_channels.proofs.GfpLinearLaws.ChannelTurnLaws.{reached-keeps}
 use Rattle.law_loss.proofs.FrameExtentsLaws.{frames_to}
 use Rattle.law_loss.proofs.FirstFramesLaws.{all_frames, frames_to-first}

@@ -5,9 +5,11 @@ use Rattle.gfp_model.specs.linear_model.Channels.{Channels}
 use Rattle.gfp_model.specs.linear_model.ChannelStream.{Shared, linear_stream, reached, unsent, stream_to}
 use Rattle.gfp_channels.specs.gfp_linear.Queue.{Queued}
 use Rattle.gfp_fill.specs.SentAreas.{Sender}
-use Rattle.gfp_channels.specs.gfp_linear.Filler.{LinearFillerStands, HasWritten}
+use Rattle.gfp_fill.specs.Multiplex.{HasWritten}
+use Rattle.gfp_fill.proofs.StreamFillSteps.{written-both, written-none}
+use Rattle.gfp_channels.specs.gfp_linear.Filler.{in_turns, LinearFillerStands}
 use Rattle.gfp_channels.proofs.GfpLinearLaws.ReachedPlaceLaws.{reached-fewest}
-use Rattle.gfp_channels.proofs.GfpLinearLaws.LinearFillSteps.{long, written-both, written-none}
+use Rattle.gfp_channels.proofs.GfpLinearLaws.ChannelTurnSteps.{long, in_turns_laws}
 
 pub stream-long : (place : ℕ) (channels : Channels) → length (stream_to place channels) ≡ place
 stream-long place channels =
@@ -17,12 +19,13 @@ stream-long place channels =
 
 -- so many octets were written
 abbrev pub HasSent : Sender → Queued → Channels → ℕ → Type 0
-HasSent sender queue channels place = HasWritten sender queue (unsent channels) 0 (stream_to place channels)
+HasSent sender queue channels place = HasWritten in_turns sender queue (unsent channels) 0 (stream_to place channels)
 
 -- none
 pub sent-none : (sender : Sender) (queue : Queued) (channels : Channels) → LinearFillerStands sender queue (unsent channels) 0
     → HasSent sender queue channels 0
-sent-none sender queue channels stands = written-none sender queue (unsent channels) 0 stands
+sent-none sender queue channels stands =
+    written-none in_turns in_turns_laws sender queue (unsent channels) 0 stands
 
 -- and more
 pub sent-more : (s t : Sender) (queue rest : Queued) (channels : Channels) (place n : ℕ) (octets : List ℕ)
@@ -33,16 +36,16 @@ pub sent-more : (s t : Sender) (queue rest : Queued) (channels : Channels) (plac
 sent-more s t queue rest channels place n octets was count stands next =
     let first : List ℕ = stream_to place channels in
     let size : 0 + length first ≡ place = omega (arith, stream-long place channels) in
-    let written : HasWritten t rest (reached place (unsent channels)) place octets = record {
+    let written : HasWritten in_turns t rest (reached place (unsent channels)) place octets = record {
       stands = subst (λ k. LinearFillerStands t rest (reached (place + k) (reached place (unsent channels))) (place + k))
           (sym count) stands;
       next = subst (λ k. octets ≡ take k
           (drop place (linear_stream (reached (place + k) (reached place (unsent channels))).pieces)))
           (sym count) next;
     } in
-    let both : HasWritten t rest (unsent channels) 0 (first ++ octets) =
-    written-both s t queue rest (unsent channels) 0 first octets was
-    (subst (λ k. HasWritten t rest (reached k (unsent channels)) k octets) (sym size) written) in
+    let both : HasWritten in_turns t rest (unsent channels) 0 (first ++ octets) =
+    written-both in_turns in_turns_laws s t queue rest (unsent channels) 0 first octets was
+    (subst (λ k. HasWritten in_turns t rest (reached k (unsent channels)) k octets) (sym size) written) in
     let all : 0 + length (first ++ octets) ≡ place + n =
     omega (arith, length-append first octets, size, count) in
     let same : first ++ octets ≡ stream_to (place + n) channels =
@@ -50,7 +53,7 @@ sent-more s t queue rest channels place n octets was count stands next =
     ∙ ap (λ k. take (length (first ++ octets)) (linear_stream (reached k (unsent channels)).pieces)) all
     ∙ ap (λ k. take k (linear_stream (reached (place + n) (unsent channels)).pieces))
     (let long : length (first ++ octets) ≡ place + n = omega (arith, all) in long) in
-    (subst (HasWritten t rest (unsent channels) 0) same both, same)
+    (subst (HasWritten in_turns t rest (unsent channels) 0) same both, same)
 
 -- where they stand
 pub sent-stands : (s : Sender) (queue : Queued) (channels : Channels) (place : ℕ) → HasSent s queue channels place

@@ -11,7 +11,8 @@ ghost use Rattle.gfp_channels.specs.channel_link.Run.{IsReady, Received};
 use crate::channel_link::channel_draft::{ChannelPlan, Offer};
 use crate::channel_link::channel_reception::{Reception, send_all};
 use crate::channel_link::channel_report::{Counts, LINE_ROOM, end_line, refused_line};
-use crate::gfp_linear::{LinearDelineator, LinearFiller, LinearQueue};
+use crate::gfp_linear::{LinearDelineator, LinearQueue};
+use gfp_fill::Filler;
 use gfp_model::linear_model::{ChannelFault, Cut};
 use octet_io::{ByteSink, Failed, take_back};
 use std::alloc::{AllocError, Global};
@@ -86,7 +87,7 @@ fn carry<K: ByteSink>(
         Received K.written K.faults reception.new start cuts.now
         (stream_to octets queue.old.channels) }
 {
-    let mut filler = LinearFiller::new();
+    let mut filler = Filler::new();
     let mut block = [0u8; BLOCK];
     let mut left = octets as usize;
     while left > 0 {

@@ -1,17 +1,19 @@
 //! The frames that wait, channel by channel, and the one that is being sent.
 
-ghost use Rattle.std.specs.Prelude.{◌≡◌, ℕ, ◌<◌, ◌≤◌, List, [], length, min, take, IfOk, OnErr};
+ghost use Rattle.std.specs.Prelude.{◌≡◌, ℕ, ◌<◌, ◌≤◌, ◌++◌, length, IfOk, OnErr};
 ghost use Rattle.std.specs.Prelude.{IfSome, IfNone, Some, None, slice_index_or};
 ghost use Rattle.std.specs.Result.{result_err};
 ghost use Rattle.law_model.specs.Common.{longest_frame};
 ghost use Rattle.gfp_model.specs.linear_model.Channels.{silent, turn, served, oldest, pushed, channel_refusal};
+ghost use Rattle.gfp_model.specs.linear_model.ChannelArea.{linear_header, extension_header};
 ghost use Rattle.gfp_model.specs.linear_model.ChannelStream.{Shared, offered};
 ghost use Rattle.gfp_channels.specs.gfp_linear.Queue.{unbegun, busy_from};
-ghost use Rattle.gfp_fill.specs.SentAreas.{Sender, head_of, StandsIn, HasWrittenIn};
+ghost use Rattle.gfp_fill.specs.SentAreas.{Sender};
 ghost use Rattle.gfp_channels.specs.gfp_linear.Filler.{LinearFillerStands};
 
 use crate::gfp_linear::busy_channels::{add, count_below};
-use gfp_fill::{AreaSender, BegunFrame, FrameStore, MIN_FRAME};
+use gfp_fill::{AreaSender, BegunFrame, FrameStore, MIN_FRAME, WaitingFrames};
+use gfp_headers::{extension_bytes, type_bytes_linear};
 use gfp_model::linear_model::ChannelFault;
 use law_model::LONGEST_FRAME;
 use std::alloc::{AllocError, Global};
@@ -99,7 +101,7 @@ impl LinearQueue {
 
     /// Begins to send the oldest frame of the channel whose turn it is, and says which channel that is and how many
     /// octets the frame has.
-    pub(super) fn begin(&mut self) -> Option<(u8, usize)>
+    fn begin(&mut self) -> Option<(u8, usize)>
         ensures none { IfNone result (turn self.old.channels ≡ None) }
         ensures stays { IfNone result (self.new ≡ self.old) }
         ensures turn { IfSome result (λ told. turn self.old.channels ≡ Some told.0) }
@@ -135,26 +137,42 @@ impl LinearQueue {
         let at = count_below(busy, self.next);
         if at < busy.len() { Some(at) } else { Some(0) }
     }
+}
 
-    /// How many octets of the frame that is being sent aren't written.
+impl WaitingFrames for LinearQueue {
+    ghost use Rattle.gfp_channels.specs.gfp_linear.Filler.{in_turns};
+
+    ghost Stream = { Shared };
+
+    ghost order = { in_turns };
+
     #[inline]
-    pub(super) fn left(&self) -> usize
-        ensures { result ≡ length self.now.begun }
-    {
+    fn order_law() {}
+
+    #[inline]
+    fn left(&self) -> usize {
         self.begun.left()
     }
 
-    /// Writes as many octets of the frame that is being sent as aren't written and `out` has room for, and
-    /// says how many.
     #[inline]
-    pub(super) fn send(&mut self, sender: &mut AreaSender, out: &mut [u8]) -> usize
-        requires { head_of sender.old ≡ [] }
-        ensures count { result ≡ min (length self.old.begun) (length out.old) }
-        ensures writes { (areas : List (List ℕ)) (place : ℕ) →
-            StandsIn sender.old self.old.begun areas place →
-            HasWrittenIn sender.new self.new.begun areas place (take result out.new) }
-        ensures waits { self.new.channels ≡ self.old.channels }
-    {
+    fn send(&mut self, sender: &mut AreaSender, out: &mut [u8]) -> usize {
         sender.send_frame(&mut self.begun, out)
     }
+
+    fn begin_next(&mut self, sender: &mut AreaSender) -> bool {
+        let Some((cid, n)) = self.begin() else {
+            return false;
+        };
+        sender.begin(&area_headers(cid), n);
+        true
+    }
+}
+
+/// The two headers in the area of a frame of a channel, as they are before scrambling.
+fn area_headers(cid: u8) -> [u8; 8]
+    ensures { result ≡ linear_header ++ extension_header cid }
+{
+    let [a, b, c, d] = type_bytes_linear();
+    let [e, f, g, h] = extension_bytes(cid);
+    [a, b, c, d, e, f, g, h]
 }

@@ -1,7 +1,7 @@
 //! Client frames of channels that share a stream by linear extension headers (G.7041): the queues of the
-//! channels, the filler that writes their stream in turns, and the receiver that tells the channel of each
-//! frame. What a frame is on the stream, what comes of one, and whose turn it is stands in gfp_model's
-//! `specs/linear_model`. Begin with `LinearQueue`, `LinearFiller` and `LinearDelineator`. Whether an offered
+//! channels, from which a `Filler` of gfp_fill writes their stream in turns that go round them, and the receiver
+//! that tells the channel of each frame. What a frame is on the stream, what comes of one, and whose turn it is
+//! stands in gfp_model's `specs/linear_model`. Begin with `LinearQueue` and `LinearDelineator`. Whether an offered
 //! frame is refused depends on its channel alone; `turns_law`: turns lose and reorder no frame of a channel.
 
 ghost use Rattle.std.specs.Prelude.{◌≡◌, ◌<◌, ◌≤◌, ℕ, List, ◌∷◌, ◌++◌, length, replicate, true, false, Some, None};
@@ -12,13 +12,11 @@ ghost use Rattle.gfp_model.specs.linear_model.ChannelStream.{Shared, size, one_m
 
 mod busy_channels;
 mod linear_delineator;
-mod linear_filler;
 mod linear_queue;
 
 pub use gfp_model::linear_model::{ChannelFault, CidFault, LinearWhy};
 pub use law_model::TypeFault;
 pub use linear_delineator::{LinearDelineator, LinearStep};
-pub use linear_filler::LinearFiller;
 pub use linear_queue::LinearQueue;
 
 /// The pieces of a stream that reaches a place are the fewest, and each is the oldest frame of the channel

@@ -20,7 +20,7 @@ loop-left-init g c =
       sent = subst (HasSent c.new-filler.result c.args.queue.now channels) none
           (sent-none c.new-filler.result c.args.queue.now channels
           (subst (λ (q : Queued). LinearFillerStands c.new-filler.result q (unsent channels) 0) (sym c.requires.fresh)
-          (c.new-filler.ensures channels)));
+          (record { waits = refl; octets = c.new-filler.ensures })));
       received = λ start r. subst (Received g.K.ByteSink.written g.K.ByteSink.faults c.args.reception.now start
           c.args.cuts.now) (ap (λ n. stream_to n channels) none) r;
       place = was.place ∙ none;

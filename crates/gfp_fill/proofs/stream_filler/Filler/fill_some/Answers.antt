@@ -1,67 +1,67 @@
 -- Each way in which octets are written is one step of the stream.
-use Rattle.std.proofs.Common.{◌≡◌, ℕ, ◌+◌, ◌/◌, List, [], ◌∷◌, ◌++◌, length, take, map, sym, ◌∙◌, ap, subst, arith}
+use Rattle.std.proofs.Common.{◌≡◌, ◌+◌, ◌/◌, [], length, take, sym, subst, arith}
 use Rattle.std.proofs.lemmas.List.{length-take-le, nil_from_length}
-use Rattle.law_model.specs.Common.{type_header, area_of}
 use Rattle.gfp_fill.specs.SentAreas.{Sender, head_of, StandsIn}
-use Rattle.gfp_fill.proofs.StreamFillSteps.{here_written, at_end, client_written, idles_next}
+use Rattle.gfp_fill.specs.Multiplex.{Stands}
+use Rattle.gfp_fill.proofs.SentAreaSteps.{all_written}
+use Rattle.gfp_fill.proofs.StreamFillSteps.{here_written, next_written, idles_next}
 use Rattle.gfp_fill.proofs.stream_filler.Filler.fill_some.Goals as goal
 
 pub returns-then-left-gt0-clause-writes : goal.returns-then-left-gt0-clause-writes
-returns-then-left-gt0-clause-writes c stream place stands =
-    let begun : List ℕ = c.args.waiting.now.begun in
-    let areas : List (List ℕ) = map area_of stream.pieces in
-    here_written c.send_headers.new.self c.args.waiting.now stream place _ stands.waits
-    (c.send_headers.ensures.writes begun areas place
-    (subst (λ (s : Sender). StandsIn s begun areas place) (sym c.self.view_is) stands.octets))
+returns-then-left-gt0-clause-writes g c stream place stands =
+    let order = g.Q.WaitingFrames.order in
+    let queue = c.args.waiting.now in
+    let was = subst (λ (s : Sender). Stands order s queue stream place) (sym c.self.view_is) stands in
+    here_written order c.requires.order c.send_headers.new.self queue stream place _ was.waits
+    (c.send_headers.ensures.writes (order.begun queue) (order.areas stream) place was.octets)
 
 pub returns-then-left-gt0-2-clause-writes : goal.returns-then-left-gt0-2-clause-writes
-returns-then-left-gt0-2-clause-writes c stream place stands =
-    let begun : List ℕ = c.args.waiting.now.begun in
-    let areas : List (List ℕ) = map area_of stream.pieces in
-    here_written c.send.new.sender c.send.new.self stream place _ (c.send.ensures.waits ∙ stands.waits)
-    (c.send.ensures.writes areas place
-    (subst (λ (s : Sender). StandsIn s begun areas place) (sym c.self.view_is) stands.octets))
+returns-then-left-gt0-2-clause-writes g c stream place stands =
+    let order = g.Q.WaitingFrames.order in
+    let was = subst (λ (s : Sender). Stands order s c.args.waiting.now stream place) (sym c.self.view_is) stands in
+    here_written order c.requires.order c.send.new.sender c.send.new.self stream place _
+    (c.send.ensures.waits stream was.waits) (c.send.ensures.writes (order.areas stream) place was.octets)
 
-pub returns-in-Some-clause-writes : goal.returns-in-Some-clause-writes
-returns-in-Some-clause-writes c stream place stands =
-    let s : Sender = c.args.self.now in
+pub returns-then-begin_next-clause-writes : goal.returns-then-begin_next-clause-writes
+returns-then-begin_next-clause-writes g c stream place stands =
+    let order = g.Q.WaitingFrames.order in
     let queue = c.args.waiting.now in
-    let rest = c.begin.new.self in
-    let areas : List (List ℕ) = map area_of stream.pieces in
-    let sent = c.send_headers-in-Some.ensures in
-    let none : head_of s ≡ [] =
-    ap head_of (sym c.self.view_is) ∙ nil_from_length (head_of c.self.inside.sender) (omega (arith, c.left.ensures)) in
-    let gone : queue.begun ≡ [] = nil_from_length queue.begun (omega (arith, c.left-2.ensures)) in
-    let begun : StandsIn c.begin-in-Some.new.self rest.begun (areas ++ (type_header ++ rest.begun) ∷ []) place =
-    subst (λ front. StandsIn c.begin-in-Some.new.self rest.begun (areas ++ (front ++ rest.begun) ∷ []) place)
-    c.type_bytes.ensures
-    (c.begin-in-Some.ensures.begins rest.begun areas place (sym c.in-Some.ensures.long)
-    (subst (λ (t : Sender). StandsIn t [] areas place) (sym c.self.view_is) (at_end s queue stream place stands gone))) in
-    client_written s c.send_headers-in-Some.new.self queue rest stream place _ stands none gone c.in-Some.ensures.frame
+    let s : Sender = c.self.inside.sender in
+    let rest = c.begin_next.new.self in
+    let sent = c.send_headers-then-begin_next in
+    let was = subst (λ (s : Sender). Stands order s queue stream place) (sym c.self.view_is) stands in
+    let head : head_of s ≡ [] = nil_from_length (head_of s) (omega (arith, c.left.ensures)) in
+    let gone : order.begun queue ≡ [] = nil_from_length (order.begun queue) (omega (arith, c.left-2.ensures)) in
+    let here = subst (λ left. StandsIn s left (order.areas stream) place) gone was.octets in
+    let end = all_written s (order.areas stream) place here head in
+    let begun = c.if-begin_next.ensures.begins stream place was.waits here in
+    next_written order c.requires.order sent.new.self rest stream place _
     (omega (
       arith,
-      length-take-le c.send_headers-in-Some.result c.send_headers-in-Some.new.out
-          (omega (arith, sent.count, c.send_headers-in-Some.auto.out)),
-      sent.count,
-      c.begin-in-Some.ensures.some,
-      c.requires,
+      end,
+      length-take-le sent.result sent.new.out (omega (arith, sent.ensures.count, sent.auto.out)),
+      sent.ensures.count,
+      c.if-begin_next.ensures.some,
+      c.requires.room,
     ))
-    (sent.writes rest.begun (areas ++ (type_header ++ rest.begun) ∷ []) place begun)
+    (here_written order c.requires.order sent.new.self rest (order.next stream) place _ begun.waits
+    (sent.ensures.writes (order.begun rest) (order.areas (order.next stream)) place begun.octets))
 
-pub returns-in-None-clause-writes : goal.returns-in-None-clause-writes
-returns-in-None-clause-writes c stream place stands =
-    let s : Sender = c.args.self.now in
+pub returns-clause-writes : goal.returns-clause-writes
+returns-clause-writes g c stream place stands =
+    let order = g.Q.WaitingFrames.order in
     let queue = c.args.waiting.now in
-    let areas : List (List ℕ) = map area_of stream.pieces in
-    let sent = c.send_idles.ensures in
-    let n = c.send_idles.result in
-    let none : head_of s ≡ [] =
-    ap head_of (sym c.self.view_is) ∙ nil_from_length (head_of c.self.inside.sender) (omega (arith, c.left.ensures)) in
-    let gone : queue.begun ≡ [] = nil_from_length queue.begun (omega (arith, c.left-2.ensures)) in
-    let size : length (take n c.send_idles.new.out) ≡ n =
-    length-take-le n c.send_idles.new.out (omega (arith, sent.within, c.send_idles.auto.out)) in
-    rw c.in-None.ensures.stays
-    (idles_next s c.send_idles.new.self queue stream place ((n + 3) / 4) _ stands none gone c.in-None.ensures.none
-    (omega (arith, size)) (omega (arith, size))
-    (sent.writes areas place
-    (subst (λ (t : Sender). StandsIn t [] areas place) (sym c.self.view_is) (at_end s queue stream place stands gone))))
+    let s : Sender = c.self.inside.sender in
+    let sent = c.send_idles in
+    let n = sent.result in
+    let was = subst (λ (s : Sender). Stands order s queue stream place) (sym c.self.view_is) stands in
+    let head : head_of s ≡ [] = nil_from_length (head_of s) (omega (arith, c.left.ensures)) in
+    let gone : order.begun queue ≡ [] = nil_from_length (order.begun queue) (omega (arith, c.left-2.ensures)) in
+    let here = subst (λ left. StandsIn s left (order.areas stream) place) gone was.octets in
+    let end = all_written s (order.areas stream) place here head in
+    let size : length (take n sent.new.out) ≡ n =
+    length-take-le n sent.new.out (omega (arith, sent.ensures.within, sent.auto.out)) in
+    rw c.if-begin_next.ensures.stays
+    (idles_next order c.requires.order ((n + 3) / 4) sent.new.self queue stream place _ c.if-begin_next.ensures.none
+    was.waits (omega (arith, size, end)) (omega (arith, size, end)) (rw gone (sent.ensures.writes (order.areas stream) place
+    (rw c.if-begin_next.ensures.same here))))

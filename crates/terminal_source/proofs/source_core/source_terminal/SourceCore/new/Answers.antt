@@ -1,5 +1,5 @@
 -- Nothing was given to the terminal.
-use Rattle.std.proofs.Common.{◌≡◌, ◌*◌, [], length, refl, ◌∙◌, ap, arith}
+use Rattle.std.proofs.Common.{◌≡◌, ◌*◌, length, refl, ◌∙◌, ap, arith}
 use Rattle.law_model.specs.Common.{untold}
 use Rattle.terminal_source.proofs.SourceCoreLaws.NewTerminalSteps.{IsTerminal-new, Stands-new}
 use Rattle.terminal_source.proofs.source_core.source_terminal.SourceCore.new.Goals as goal
@@ -17,4 +17,4 @@ pub returns-clause-stands : goal.returns-clause-stands
 returns-clause-stands c scenario fresh =
     Stands-new c.args.lag c.args.size c.args.lines c.args.statuses c.in_ok-new.field-0 c.new-2.result c.new-3.result
     c.new-4.result.items c.in_ok-no_packets.field-0.items untold scenario
-    c.in_ok-new.ensures (c.new-2.ensures []) c.new-3.ensures c.new-4.ensures c.in_ok-no_packets.ensures refl fresh
+    c.in_ok-new.ensures (record { waits = refl; octets = c.new-2.ensures }) c.new-3.ensures c.new-4.ensures c.in_ok-no_packets.ensures refl fresh
