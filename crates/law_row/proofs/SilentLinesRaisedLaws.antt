@@ -208,15 +208,6 @@ raised-all silent test (member ∷ order) each all =
     ] refl (sym (ap (list_all test) (carrying-first member order)) ∙ all)
 
 -- ---- which silent lines carry payload
-among-times : (lines : List ℕ) (line : ℕ) → among lines line ≡ true → 1 ≤ times lines line
-among-times [] line is = absurd cc
-among-times (first ∷ lines) line is =
-    elim (first == line) as (λ b. (first == line) ≡ b → (b || among lines line) ≡ true →
-    1 ≤ (if b then 1 else 0) + times lines line) [
-      | true ↦ λ e is. omega arith
-      | false ↦ λ e is. let rest = among-times lines line is in omega arith
-    ] refl is
-
 -- those that carry payload are members
 among-lines : (order : List Member) (line : ℕ) → among (carrying order) line ≡ true → 1 ≤ times (lines_of order) line
 among-lines [] line is = absurd cc

@@ -1,12 +1,12 @@
 -- How often a line can come down: between two times lie as many packets as both timers take.
-use Rattle.std.proofs.Common.{◌≡◌, ◌⊎◌, ℕ, zero, suc, ◌+◌, ◌*◌, ◌/◌, ◌<◌, ◌≤◌, ◌&&◌, ◌||◌, not, Bool, true, false}
-use Rattle.std.proofs.Common.{if◌then◌else◌, inl, inr, refl, subst, arith}
-use Rattle.std.proofs.lemmas.Bool.{cases_lt, cases_Bool, both_ways, not_from_false, and_from, or_left}
+use Rattle.std.proofs.Common.{◌≡◌, ◌⊎◌, ℕ, zero, suc, ◌+◌, ◌*◌, ◌/◌, ◌≤◌, ◌&&◌, ◌||◌, not, Bool, true, false}
+use Rattle.std.proofs.Common.{if◌then◌else◌, inl, inr, refl, arith}
+use Rattle.std.proofs.lemmas.Bool.{cases_Bool, both_ways, not_from_false, and_from}
 use Rattle.std.proofs.lemmas.Bool.{or_right, or_cases, and_parts}
 use Rattle.std.proofs.lemmas.Nat.{le-div}
 use Rattle.law_model.specs.declared.script_types.Options.{Options}
 use Rattle.law_model.specs.Common.{is_up, is_restored, are_missed}
-use Rattle.law_session.proofs.UpByPacketsReadLaws.{each-restored, restored-each, missed-each}
+use Rattle.law_session.proofs.UpByPacketsReadLaws.{restored-each, missed-each}
 
 -- ---- packets in turn up to one
 -- that were read: those before packet 0 count as read
@@ -18,26 +18,6 @@ read_in_turn restore read (suc k) = if read (suc k) then read_in_turn restore re
 pub missed_in_turn : (ℕ → Bool) → ℕ → ℕ
 missed_in_turn read zero = if read zero then 0 else 1
 missed_in_turn read (suc k) = if read (suc k) then 0 else missed_in_turn read k + 1
-
-pub turn-each : (restore : ℕ) (read : ℕ → Bool) (k : ℕ) → (j : ℕ) → j ≤ k → k < j + read_in_turn restore read k →
-    read j ≡ true
-unfolding read_in_turn
-turn-each restore read zero j low high =
-    let same : zero ≡ j = omega arith in
-    elim (cases_Bool (read zero)) [
-      | inl here ↦ subst (λ x. read x ≡ true) same here
-      | inr gone ↦ absurd (let none : zero < j + 0 = rw gone at high in omega arith)
-    ]
-turn-each restore read (suc k) j low high =
-    elim (cases_Bool (read (suc k))) [
-      | inl here ↦
-          let more : suc k < j + (read_in_turn restore read k + 1) = rw here at high in
-          elim (cases_lt k j) [
-            | inl now ↦ let same : suc k ≡ j = omega arith in subst (λ x. read x ≡ true) same here
-            | inr sooner ↦ turn-each restore read k j sooner (omega arith)
-          ]
-      | inr gone ↦ absurd (let none : suc k < j + 0 = rw gone at high in omega arith)
-    ]
 
 pub each-turn : (restore : ℕ) (read : ℕ → Bool) (k r : ℕ) → r ≤ restore →
     ((j : ℕ) → k ≤ j + r → j ≤ k → read j ≡ true) → r + 1 ≤ read_in_turn restore read k
@@ -64,26 +44,6 @@ each-missed_turn read (suc k) (suc h) few each =
     rw gone (omega arith)
 
 -- ---- up, by both
-restored-up : (options : Options) (read : ℕ → Bool) (k : ℕ) → is_restored options.restore read k ≡ true →
-    is_up options read k ≡ true
-unfolding is_up
-restored-up options read zero restored =
-    restored-each options.restore read zero restored zero (omega arith) (omega arith)
-restored-up options read (suc k) restored =
-    or_left (is_restored options.restore read (suc k))
-    (not (are_missed options.holdoff read (suc k)) && is_up options read k) restored
-
--- a line that isn't up was read for a shorter time
-pub down-few : (options : Options) (read : ℕ → Bool) (k : ℕ) → is_up options read k ≡ false →
-    read_in_turn options.restore read k ≤ options.restore
-down-few options read k down =
-    elim (cases_lt options.restore (read_in_turn options.restore read k)) [
-      | inr few ↦ few
-      | inl many ↦ absurd (both_ways (is_up options read k) down (restored-up options read k
-          (each-restored options.restore read k
-          (λ j low high. turn-each options.restore read k j high (omega arith)))))
-    ]
-
 -- one that comes down was missed for the hold-off, and one that comes up read for the restore
 pub falls-missed : (options : Options) (read : ℕ → Bool) (k : ℕ) → is_up options read k ≡ true →
     is_up options read (suc k) ≡ false → options.holdoff + 1 ≤ missed_in_turn read (suc k)

@@ -2,14 +2,12 @@
 use Rattle.std.proofs.Common.{◌≡◌, ℕ, suc, ◌+◌, ◌≤◌, List, [], ◌∷◌, length, Option, Some}
 use Rattle.std.proofs.Common.{◌∙◌, ap, arith, length-append}
 use Rattle.std.proofs.lemmas.Option.{slice_get_within}
-use Rattle.law_model.proofs.ListLaws.{slice_get-append_seam}
 use Rattle.law_model.specs.declared.lcas_states.Command.TheVariants.{Add as add}
-use Rattle.law_model.specs.Common.{Scenario, packets, member_of, Told, carried_out, told_at, table_of}
+use Rattle.law_model.specs.Common.{Scenario, packets, member_of, Told, told_at, table_of}
 use Rattle.law_model.specs.Common.{session_cells}
 use Rattle.law_model.specs.declared.lcas_states.Standing.TheVariants.{Add as adding}
 use Rattle.law_model.specs.source.Source.{carried}
 use Rattle.law_session.specs.LineInUse.{IsUsedBy, AddsUndamaged, AddsAmongSilent, known_by}
-use Rattle.law_session.proofs.TurnAdmitExchangeLaws.{Has}
 use Rattle.law_session.proofs.NoLineTwiceLaws.{order-length}
 use Rattle.law_session.proofs.AddCarriedOutLaws.{table_of-carried, added}
 use Rattle.law_session.proofs.AddingLineWaitsLaws.{sixteen}
@@ -24,15 +22,6 @@ added-length scenario cells first line e =
     ∙ length-append table.order (member_of line adding ∷ []) in
     let most = order-length scenario cells (suc first) in
     omega arith
-
--- where a line is added, the order then has it
-is_added : (scenario : Scenario) (cells : List (Option Told)) (first line : ℕ) →
-    carried scenario cells first ≡ Some (add line) →
-    Has (table_of scenario cells first).order (length (told_at scenario cells first).order) line adding
-is_added scenario cells first line e =
-    let after : table_of scenario cells first ≡ carried_out (add line) (told_at scenario cells first) =
-    table_of-carried scenario cells first (add line) e in
-    rw after (slice_get-append_seam (told_at scenario cells first).order (member_of line adding) [])
 
 pub undamaged : (scenario : Scenario) (first line : ℕ) → AddsUndamaged scenario first line →
     IsUsedBy scenario line first (known_by scenario first)

@@ -17,7 +17,6 @@ use Rattle.law_model.specs.declared.script_types.ItemKind.{ItemKind}
 use Rattle.law_walk.specs.Common.{Numbered, is_client, refused_by, IsPlaced, landed_items, landed_scenario, IsOfferAt}
 use Rattle.law_walk.specs.Common.{IsOrderAt}
 use Rattle.thread_group.specs.declared.group_answers.SubmitFault.{SubmitFault}
-use Rattle.thread_group.specs.declared.group_answers.SubmitFault.TheVariants.{Frame as Frame_fault, Command as Command_fault}
 use Rattle.thread_group.specs.FaultsAndStops.{fault_of, has_landed, is_full, refusal_told}
 use Rattle.thread_group.specs.GroupOfLeg.{refusal_by, refusals_by, accepted_frames_by, accepted_commands_by, AreItemsOf}
 use Rattle.thread_group.specs.GroupOfLeg.{IsBound, counts_of, IsItemOf, octets_in, HasJournalRoom, HasLandedOf}
