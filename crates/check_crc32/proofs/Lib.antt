@@ -1,6 +1,2 @@
-pub mod CheckBitsLaws
-pub mod DivisionInPartsLaws
-pub mod BitOrderLaws
-pub mod RegisterBitsLaws
-pub mod RegisterStandsLaws
-pub mod OctetTablesLaws
+pub mod CheckBitsRemainderLaws
+pub mod RegisterOrderTablesLaws

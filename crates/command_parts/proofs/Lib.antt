@@ -1,12 +1,5 @@
-pub mod TalkEndLaws
-pub mod TaskEndLaws
-pub mod TextStopsCommandLaws
-pub mod SourceTextPiecesLaws
-pub mod ScriptReaderInPiecesLaws
-pub mod CommandGivesLaws
-pub mod CourseByLineLaws
-pub mod LinesHeardLaws
-pub mod SaidWrittenOrWaitsLaws
-pub mod TalkOverSourceLaws
-pub mod DialogueIsTalkLaws
-pub mod ListenerOctetsLaws
+pub mod ListenerOctetsSaidLaws
+pub mod SourceReadingStopsLaws
+pub mod TalkCourseHeardLaws
+pub mod TalkEndsOverSourceLaws
+pub mod TaskGivesAndEndsLaws

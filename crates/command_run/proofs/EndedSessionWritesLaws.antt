@@ -15,7 +15,7 @@ use Rattle.text_scripts.specs.declared.script_read.script_fault.ScriptFault.{Scr
 use Rattle.law_headline.specs.Headline.{IsRunHeadline}
 use Rattle.law_headline.proofs.ScriptTextHeadlineLaws.{run_headline}
 use Rattle.command_parts.specs.Common.{Answer, reads, Lent, Takes, WritesAll, Ends, answer_of, script_answer}
-use Rattle.command_parts.proofs.TaskEndLaws.{is-done, known-text}
+use Rattle.command_parts.proofs.TaskGivesAndEndsLaws.{is-done, known-text}
 use Rattle.command_run.specs.HandedSession.{end_text}
 
 -- what follows the got lines, of the session's own numbers

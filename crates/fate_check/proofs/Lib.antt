@@ -1,6 +1,3 @@
-pub mod RangeTestLaws
-pub mod UsedLineLaws
-pub mod SparedRowLaws
+pub mod CheckTextAndEarlyFrameLaws
+pub mod UsedLineAndSparedRowLaws
 pub mod WithoutIdleFailureLaws
-pub mod EarlyFrameLaws
-pub mod CheckTextLaws

@@ -1,11 +1,11 @@
--- Without a failure that is idle the same rows are whole, by the same return cells.
+-- Without a failure that is idle (is_idle) the same rows are whole, by the same return cells.
 use Rattle.std.proofs.Common.{◌≡◌, ◌⊎◌, ℕ, suc, ◌+◌, ◌-◌, ◌*◌, ◌/◌, ◌<◌, ◌≤◌, ◌==◌, ◌&&◌, nat_le, nat_lt, Bool, true}
-use Rattle.std.proofs.Common.{false, not, List, [], ◌∷◌, ◌++◌, map, filter, length, slice_get, slice_index_or, Option, Some}
-use Rattle.std.proofs.Common.{refl, sym, ◌∙◌, ap, subst, arith, inl, inr}
+use Rattle.std.proofs.Common.{false, not, List, [], ◌∷◌, ◌++◌, map, filter, length, slice_get, slice_index_or, Option}
+use Rattle.std.proofs.Common.{Some, refl, sym, ◌∙◌, ap, subst, arith, inl, inr}
 use Rattle.std.specs.Prelude.{◌||◌, if◌then◌else◌}
 use Rattle.std.specs.List.{list_all, list_any, range_with_len}
-use Rattle.std.proofs.lemmas.Bool.{cases_Bool, cases_lt, cases_eq, and_parts, and_from, and_left, and_right, and_cases, or_parts}
-use Rattle.std.proofs.lemmas.Bool.{eqb-false, lt-ltb, le-ltb, lt-leb, leb-false, not-true}
+use Rattle.std.proofs.lemmas.Bool.{cases_Bool, cases_lt, cases_eq, and_parts, and_from, and_left, and_right, and_cases}
+use Rattle.std.proofs.lemmas.Bool.{or_parts, eqb-false, lt-ltb, le-ltb, lt-leb, leb-false, not-true}
 use Rattle.std.proofs.lemmas.Option.{slice_get_within, get_or_from_slice_get}
 use Rattle.std.proofs.lemmas.List.{length-set, get_or-set_same, get_or-set_other}
 use Rattle.law_model.specs.declared.window_types.Window.{Window}
@@ -17,16 +17,17 @@ use Rattle.law_model.specs.rows.SessionRows.{are_inferred, is_whole_under, is_wh
 use Rattle.law_model.specs.source.Table.{Told, active, is_normal}
 use Rattle.law_model.specs.source.Source.{after, table_of}
 use Rattle.law_session.specs.Feedback.{lines_of}
-use Rattle.law_session.proofs.SessionsAlikeLaws.{Alike, alike-after}
-use Rattle.law_session.proofs.WholeAndHeardLaws.{readable-whole, good-whole, heard-line}
-use Rattle.law_session.proofs.NoLineTwiceLaws.{IsBelow, times}
+use Rattle.law_session.proofs.LandedAcceptedStreamAlikeLaws.{Alike, alike-after}
+use Rattle.law_session.proofs.UpReadableHeardLaws.{readable-whole, good-whole, heard-line}
+use Rattle.law_session.proofs.SourceFitsLinesLaws.{IsBelow, times}
 use Rattle.law_row.proofs.ActivePacketsLaws.{inside, below-after}
-use Rattle.law_row.proofs.ReadAlikeLaws.{same_tests}
+use Rattle.law_row.proofs.LastWordReturnLaws.{same_tests}
 use Rattle.fate_check.specs.UsedLines.{is_used, has_payload}
 use Rattle.fate_check.specs.IdleWindows.{is_near, is_spared, is_idle}
 use Rattle.fate_check.specs.OtherFailures.{with_windows}
-use Rattle.fate_check.proofs.RangeTestLaws.{picked-passes}
+use Rattle.fate_check.proofs.UsedLineAndSparedRowLaws.{picked-passes}
 
+-- Without a failure that is idle the same rows are whole, by the same return cells.
 -- ---- tables: failures lead to them by the return cells alone
 pub same-table : (scenario : Scenario) (cells : List (Option Told)) (line k : ℕ) (windows : List Window) →
     table_of (with_windows scenario line windows) cells k ≡ table_of scenario cells k

@@ -1,6 +1,9 @@
--- How the text goes on: an outage more, a stretch more, a row more.
-use Rattle.std.proofs.Common.{◌≡◌, ℕ, zero, suc, ◌+◌, ◌-◌, ◌<◌, ◌≤◌, ◌==◌, min, Bool, List, [], ◌∷◌, ◌++◌, length}
-use Rattle.std.proofs.Common.{map, drop, get_or, Option, refl, sym, ◌∙◌, ap, ap₂, arith, append-nil, append_assoc, inl, inr}
+-- The service text: how it goes on line by line, and that it depends on neither delays nor rings.
+use Rattle.std.proofs.Common.{ℕ, List, ◌++◌, ◌∙◌, ap, arith, append_assoc, length-append, ◌≡◌, zero, suc, ◌+◌, ◌-◌, ◌<◌}
+use Rattle.std.proofs.Common.{◌≤◌, ◌==◌, min, Bool, [], ◌∷◌, length, map, drop, get_or, Option, refl, sym, ap₂}
+use Rattle.std.proofs.Common.{append-nil, inl, inr}
+use Rattle.text_report.specs.declared.text_cursor.TextCursor.{TextCursor}
+use Rattle.text_report.specs.TextCursor.{text_of, Extends}
 use Rattle.std.specs.List.{flat_map, range_with_len}
 use Rattle.std.proofs.lemmas.Bool.{cases_Bool, lt-ltb, le-ltb}
 use Rattle.std.proofs.lemmas.List.{at_drop_more}
@@ -15,11 +18,34 @@ use Rattle.fate_service.specs.declared.stretch_counts.Ended.{Ended}
 use Rattle.fate_service.specs.declared.stretch_counts.Peak.{Peak}
 use Rattle.fate_service.specs.declared.stretch_counts.Stretch.{Stretch}
 use Rattle.fate_service.specs.MemberRuns.{runs_on, runs_of}
-use Rattle.fate_service.specs.Outages.{losses, next_first}
-use Rattle.fate_service.specs.Stretches.{spans_on}
+use Rattle.fate_service.specs.Outages.{losses, next_first, outages_of}
+use Rattle.fate_service.specs.Stretches.{spans_on, Known, stretch_of, spans_of, told_on}
 use Rattle.fate_service.specs.Surveyed.{next_run, run_text}
-use Rattle.fate_service.specs.ServiceText.{members_text, outage_text, outages_text}
+use Rattle.fate_service.specs.ServiceText.{members_text, outage_text, outages_text, stretches_text, delays_text}
+use Rattle.fate_service.specs.ServiceText.{last_text, widths_of, service_text}
+use Rattle.law_model.specs.Common.{Counts, begin, Leg, scenario_by, IsSound, place_of, stream_before}
+use Rattle.law_walk.specs.Common.{session_rows, landed_items, numbered, session_pieces, session_of, walk_plan}
+use Rattle.law_walk.proofs.AcceptedFramesDrainedLaws.{drained-ticks, drained-landed, drain-ends}
+use Rattle.law_walk.proofs.WalkPlanSessionLaws.{sound-walks, begins-walked}
+use Rattle.law_service.specs.Twins.{with_delays, whole_walk}
+use Rattle.law_service.proofs.WholeWalkTurnsDelaysLaws.{ended-same}
+use Rattle.fate_engine.specs.Common.{are_true_marks, ruler_of, Ended as EndedItem, ended_of, ended_among}
+use Rattle.fate_engine.specs.Common.{fate_at, row_cause}
+use Rattle.fate_service.specs.FrameColumns.{offered_of, accepted_of, carried_of, waits_of}
+use Rattle.fate_service.specs.RowStates.{states_of}
+use Rattle.fate_service.specs.Delays.{delays_of}
 
+-- ---- A line that has grown by one text and then by another.
+pub extends-then : {old middle new : TextCursor} {x y : List ℕ} → Extends old middle x → Extends middle new y →
+    Extends old new (x ++ y)
+extends-then {old} {middle} {new} {x} {y} one two = record {
+  text = two.text ∙ ap (λ l. l ++ y) one.text ∙ append_assoc (text_of old) x y;
+  end = (let a = one.end in let b = two.end in let all = length-append x y in omega (arith, a, b, all));
+  size = two.size ∙ one.size;
+  slice = two.slice ∙ one.slice;
+}
+
+-- ---- How the text goes on: an outage more, a stretch more, a row more.
 -- ---- outages
 pub outage-next : (cause : ℕ → Option Cause) (carried : List CarriedFrame) (rows : ℕ) (items : List Outage) (i : ℕ)
     (outage : Outage) (end : ℕ) → i < length items → outage ≡ get_or items i outage →
@@ -136,3 +162,63 @@ pub same-stretch : (came came2 : Came) (ended ended2 : Ended) (capacity capacity
 same-stretch came came2 ended ended2 capacity capacity2 peak peak2 dark dark2 a b c d e =
     ap₂ (λ m n. stretch_by m n capacity peak dark) a b ∙ ap₂ (λ m n. stretch_by came2 ended2 m n dark) c d
     ∙ ap (λ m. stretch_by came2 ended2 capacity2 peak2 m) e
+
+-- ---- The text depends on neither delays nor rings.
+-- ---- the text by how many ticks were made and rows taken, and by what became of the items that have landed
+abbrev known_among : Leg → ℕ → ℕ → List EndedItem → Known
+known_among leg ticks rows all = record {
+  place = place_of (scenario_by leg) (session_of leg);
+  ticks = ticks;
+  rows = rows;
+  states = states_of (session_rows leg rows);
+  offered = offered_of all;
+  accepted = accepted_of all;
+  carried = carried_of all;
+  sent = (ruler_of (stream_before (scenario_by leg) (session_of leg) ticks)).sent;
+}
+
+abbrev ends_among : Leg → ℕ → ℕ → List EndedItem → Ends
+ends_among leg ticks rows all = record {
+  outages = length (outages_of (states_of (session_rows leg rows)));
+  waits = waits_of all;
+  ticks = ticks;
+  taken = rows;
+  starts = are_true_marks (session_pieces leg) (session_rows leg rows);
+}
+
+abbrev told_among : ℕ → List EndedItem → ℕ
+told_among ticks all = told_on ticks (offered_of all)
+
+abbrev service_among : Leg → ℕ → ℕ → ℕ → List EndedItem → List ℕ
+service_among leg interval ticks rows all =
+    flat_map (members_text leg.config.size) (runs_of (widths_of leg rows))
+    ++ outages_text (row_cause (scenario_by leg) (session_of leg)) (carried_of all) rows
+    (outages_of (states_of (session_rows leg rows)))
+    ++ stretches_text (known_among leg ticks rows all) (spans_of interval (told_among ticks all))
+    ++ delays_text (delays_of (carried_of all))
+    ++ last_text (told_among ticks all) (stretch_of (known_among leg ticks rows all) 0 (told_among ticks all))
+    (ends_among leg ticks rows all)
+
+whole-service : (leg : Leg) (interval : ℕ) → IsSound leg → service_text leg (whole_walk leg) interval
+    ≡ service_among leg interval leg.config.ticks leg.config.ticks
+    (ended_among leg leg.config.ticks (numbered 0 leg.items))
+whole-service leg interval sound =
+    let start : Counts = begin (walk_plan leg) in
+    let s : Counts = whole_walk leg in
+    let n : ℕ = leg.config.ticks in
+    let walked = begins-walked leg in
+    ap (λ ticks. service_among leg interval ticks s.rows (ended_of leg s)) (drained-ticks leg start sound walked)
+    ∙ ap (λ rows. service_among leg interval n rows (ended_among leg rows (landed_items leg s)))
+    (drain-ends leg start (sound-walks leg sound) walked)
+    ∙ ap (λ items. service_among leg interval n n (ended_among leg n items)) (drained-landed leg start sound walked)
+
+pub same-service : (leg : Leg) (delays : List ℕ) (ring interval : ℕ) → IsSound leg →
+    IsSound (with_delays leg delays ring) →
+    service_text (with_delays leg delays ring) (whole_walk (with_delays leg delays ring)) interval
+    ≡ service_text leg (whole_walk leg) interval
+same-service leg delays ring interval sound other =
+    let n : ℕ = leg.config.ticks in
+    whole-service (with_delays leg delays ring) interval other
+    ∙ ap (service_among leg interval n n)
+    (ended-same leg delays ring (fate_at (session_pieces leg) (session_rows leg n)) (numbered 0 leg.items) 0)
+    ∙ sym (whole-service leg interval sound)

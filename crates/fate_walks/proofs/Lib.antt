@@ -1,3 +1,3 @@
-pub mod WalkFramesLaws
-pub mod WalkFatesLaws
-pub mod WalkGfpLaws
+pub mod AcceptedAndCarriedFrameLaws
+pub mod CursorAndRulerLaws
+pub mod FatesAndSeenRowsLaws

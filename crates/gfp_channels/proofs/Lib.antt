@@ -1,3 +1,7 @@
-pub mod GfpLinearLaws
-pub mod ChannelLaws
-pub mod ChannelLinkLaws
+pub mod BusyChannelTurnLaws
+pub mod ChannelDeliveryLaws
+pub mod ChannelPlanDraftLaws
+pub mod CutSegmentReceptionLaws
+pub mod LinearExtensionLaws
+pub mod OfferRefusalWaitingLaws
+pub mod ReachedPlaceFillerLaws

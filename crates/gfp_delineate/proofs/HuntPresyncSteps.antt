@@ -1,4 +1,4 @@
--- More octets in HUNT or in PRESYNC, where no run begins.
+-- What more octets do in HUNT or in PRESYNC, where no run begins.
 use Rattle.std.proofs.Common.{◌≡◌, ℕ, ◌+◌, ◌-◌, ◌<◌, ◌≤◌, Bool, List, [], ◌∷◌, ◌++◌, length, drop, Some, None, sym, ◌∙◌}
 use Rattle.std.proofs.Common.{refl, ap, subst, arith, append_assoc, length-append, length-drop, append-nil}
 use Rattle.law_model.specs.Common.{head, Run}
@@ -8,10 +8,10 @@ use Rattle.gfp_delineate.specs.LeftOpen.{searching, Leaves}
 use Rattle.gfp_delineate.specs.ReceivedAreas.{ends, reader, Progress, Searches, Headed, IsIn, InHunt, InPresyncArea}
 use Rattle.gfp_delineate.specs.ReceivedAreas.{InPresyncHeader}
 use Rattle.gfp_delineate.proofs.LeftOpenLaws.{Becomes-on, Leaves-longer, Leaves-goes_on}
-use Rattle.gfp_delineate.proofs.KnownByPhaseLaws.{ends_of, ends-hunt, ends-presync, nothing, length-shifted, window-more}
-use Rattle.gfp_delineate.proofs.KnownByPhaseLaws.{window-whole, window-none}
-use Rattle.gfp_delineate.proofs.ReceiverProgressLaws.{Takes, Taken, Takes-in}
+use Rattle.gfp_delineate.proofs.ProgressWindowEndsLaws.{ends_of, ends-hunt, ends-presync, nothing, length-shifted}
+use Rattle.gfp_delineate.proofs.ProgressWindowEndsLaws.{window-more, window-whole, window-none, Takes, Taken, Takes-in}
 
+-- More octets in HUNT or in PRESYNC, where no run begins.
 -- in another phase, and with one more octet in the window
 abbrev pub in_phase : Progress → Phase → Progress
 in_phase old phase = record old { phase = phase }

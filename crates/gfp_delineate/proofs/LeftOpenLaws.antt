@@ -1,4 +1,4 @@
--- What becomes of what is open with more octets, with any readers of headers.
+-- What octets of a segment leave open (Leaves, LeftOpen), and what becomes of it with more octets.
 use Rattle.std.proofs.Common.{◌≡◌, ℕ, ◌+◌, ◌<◌, ◌≤◌, Bool, true, false, not, List, [], ◌∷◌, ◌++◌, length, take, drop}
 use Rattle.std.proofs.Common.{Option, Some, None, refl, sym, ◌∙◌, ap, ap₂, arith, append_assoc, length-append}
 use Rattle.std.proofs.lemmas.List.{take_at, drop_at, append-nil, drop-append-le}
@@ -6,11 +6,11 @@ use Rattle.law_model.proofs.ListLaws.{not-not}
 use Rattle.law_model.specs.Common.{header_with, Followed, area_then, no_area, follow_with, Run, Delineated, run_then}
 use Rattle.law_model.specs.Common.{runs_then, delineate_with}
 use Rattle.gfp_delineate.specs.LeftOpen.{LeftOpen, searching, running, found_with, Leaves}
-use Rattle.gfp_delineate.proofs.HuntLaws.{header-window, search, search-on, search-few, search-short, search-refused}
-use Rattle.gfp_delineate.proofs.HuntLaws.{search-confirmed}
-use Rattle.gfp_delineate.proofs.RunOfAreasLaws.{follow-few, follow-lost, follow-part, follow-whole, delineate_from}
-use Rattle.gfp_delineate.proofs.RunOfAreasLaws.{delineate-open, sync-same}
+use Rattle.gfp_delineate.proofs.HuntAndFollowLaws.{header-window, search, search-on, search-few, search-short}
+use Rattle.gfp_delineate.proofs.HuntAndFollowLaws.{search-refused, search-confirmed, follow-few, follow-lost}
+use Rattle.gfp_delineate.proofs.HuntAndFollowLaws.{follow-part, follow-whole, delineate_from, delineate-open, sync-same}
 
+-- What becomes of what is open with more octets, with any readers of headers.
 -- ---- what is found after runs
 runs_then-twice : (runs more : List Run) (found : Delineated) →
     runs_then runs (runs_then more found) ≡ runs_then (runs ++ more) found

@@ -1,5 +1,2 @@
-pub mod SentAreaSteps
-pub mod OldestFirstSteps
-pub mod NextPieceLaws
-pub mod StreamFillSteps
-mod IdleFrameLaws
+pub mod IdlesAndNextPiecesLaws
+pub mod SenderFillerStandsLaws

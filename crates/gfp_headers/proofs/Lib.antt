@@ -1,9 +1,9 @@
-pub use Rattle.law_model.proofs.ScrambledBitsLaws
-pub use Rattle.law_model.proofs.ScrambledOctetsLaws
-pub use Rattle.law_model.proofs.CutAndJoinedLaws
+pub use Rattle.law_model.proofs.ScrambledCutJoinedLaws
+pub use Rattle.law_model.proofs.ScrambledCutJoinedLaws
+pub use Rattle.law_model.proofs.ScrambledCutJoinedLaws
 pub use Rattle.law_model.proofs.CoreHeaderLaws
-pub use Rattle.law_model.proofs.ScrambledAreasLaws
-pub use Rattle.law_model.proofs.StreamOfAreasLaws
-pub use Rattle.law_model.proofs.HeaderAsWordLaws
+pub use Rattle.law_model.proofs.ScrambledCutJoinedLaws
+pub use Rattle.law_model.proofs.StreamOfPiecesLaws
+pub use Rattle.law_model.proofs.CoreHeaderLaws
 pub mod TypeHeaderLaws
 pub mod ExtensionHeaderLaws

@@ -1,3 +1,7 @@
-pub mod FlipLaws
-pub mod GfpFcsLaws
-pub mod NoiseLinkLaws
+pub mod FcsOutcomeLaws
+pub mod FlippedFcsAreaLaws
+pub mod FlippedFcsStreamLaws
+pub mod FlippedOctetPlaceLaws
+pub mod NearHeaderLaws
+pub mod NoiseDraftLaws
+pub mod OneOrTwoFlipsLeftLaws

@@ -1,13 +1,14 @@
--- More octets of an area that is scrambled or descrambled in place. `f` are the octets that come of a list, as many
--- as it has, and nothing is said of the first `u`.
+-- More octets of an area that is scrambled or descrambled in place.
 use Rattle.std.proofs.Common.{take-add, ◌≡◌, ℕ, ◌+◌, ◌-◌, ◌*◌, ◌/◌, ◌<◌, ◌≤◌, List, [], ◌∷◌, ◌++◌, length, take, drop}
 use Rattle.std.proofs.Common.{set, get_or, sym, ap, ◌∙◌, arith, append_assoc, length-append, take_all, drop-set-lt}
 use Rattle.std.proofs.Common.{drop-drop, length-take, length-drop}
 use Rattle.std.proofs.lemmas.Slice.{take-put_mid, drop-put_mid}
 use borrow.Rule.Slice.PartMut.{put_mid}
-use Rattle.gfp_scramble.proofs.ForgetfulDescramblerLaws.{drop_alike}
+use Rattle.gfp_scramble.proofs.ScramblerDescramblerStandsLaws.{drop_alike}
 use Rattle.std.proofs.lemmas.List.{take_more, take_more_set, drop_more}
 
+-- More octets of an area that is scrambled or descrambled in place. `f` are the octets that come of a list, as many
+-- as it has, and nothing is said of the first `u`.
 -- octets behind two lists that agree
 front_longer : (n u : ℕ) (f : List ℕ → List ℕ) → ((l : List ℕ) → length (f l) ≡ length l) →
     (octets was area more : List ℕ) → length area ≡ length was →

@@ -24,7 +24,7 @@ impl Model for Descrambler {
     ghost use Rattle.law_model.specs.Common.{bits, number};
     ghost use Rattle.gfp_scramble.specs.Descrambler.{Descrambling};
     ghost use Rattle.std.proofs.Common.{◌∙◌, ap, mod-eq_of_lt};
-    ghost use Rattle.check_remainder.proofs.NumberBitsLaws.{number-bits};
+    ghost use Rattle.check_remainder.proofs.NumberAndOctetBitsLaws.{number-bits};
 
     ghost Value = { Descrambling };
 

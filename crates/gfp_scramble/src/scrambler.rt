@@ -20,7 +20,7 @@ impl Model for Scrambler {
     ghost use Rattle.gfp_scramble.specs.Scrambler.{Scrambling};
     ghost use Rattle.std.specs.Prelude.{◌≡◌, ◌*◌, ◌/◌};
     ghost use Rattle.std.proofs.Common.{◌∙◌, ap, mod-eq_of_lt};
-    ghost use Rattle.check_remainder.proofs.NumberBitsLaws.{number-bits};
+    ghost use Rattle.check_remainder.proofs.NumberAndOctetBitsLaws.{number-bits};
 
     ghost Value = { Scrambling };
 

@@ -3,13 +3,13 @@ use Rattle.std.proofs.Common.{◌≡◌, ℕ, ◌≤◌, List, [], length, ap, �
 use Rattle.law_model.specs.Common.{begin, walked, IsValid, leg_of}
 use Rattle.law_model.specs.declared.script_types.Script.{Script}
 use Rattle.text_scripts.specs.script_read.Script.{script_of}
-use Rattle.text_scripts.proofs.ScriptReadLaws.ReadTextIsDraftLaws.{valid_text}
-use Rattle.law_progress.proofs.ReachedByEventsLaws.{walked-reached}
+use Rattle.text_scripts.proofs.ScriptLinesSaidLaws.{valid_text}
+use Rattle.law_progress.proofs.MovesRoundDrainLaws.{walked-reached}
 use Rattle.law_walk.specs.Common.{walk_plan, landed_items, numbered, ConfirmsTrue, report_of, final_report}
-use Rattle.law_walk.proofs.WalkPlanLaws.{sound-walks}
-use Rattle.law_walk.proofs.WalkAsSessionLaws.{begins-walked}
-use Rattle.law_walk.proofs.LegPromiseLaws.{drain-ends}
-use Rattle.law_walk.proofs.AllRowsTakenLaws.{counts-within, drained-report}
+use Rattle.law_walk.proofs.WalkPlanSessionLaws.{sound-walks}
+use Rattle.law_walk.proofs.WalkPlanSessionLaws.{begins-walked}
+use Rattle.law_walk.proofs.AcceptedFramesDrainedLaws.{drain-ends}
+use Rattle.law_walk.proofs.AcceptedFramesDrainedLaws.{counts-within, drained-report}
 use Rattle.law_headline.specs.WalkTexts.{counts_in, walk_text}
 use Rattle.law_headline.specs.Headline.{IsWalkHeadline, IsWalkReport, IsRunHeadline, IsRunReport}
 use Rattle.law_headline.proofs.ReportedFramesLaws.{is_headline}

@@ -1,12 +1,5 @@
-pub mod LockedAndGoodLaws
-pub mod ReadingByContainersLaws
-pub mod LostInWindowsLaws
-pub mod CellsReadToEndLaws
-pub mod LockStandsLaws
-pub mod VerdictsStayLaws
-pub mod DecidedCountLaws
+pub mod DecidedPacketsRowsLaws
+pub mod HasReadVerdictLaws
+pub mod LockStandsSightLaws
+pub mod LockedGoodLostLaws
 pub mod WorkedLinesLaws
-pub mod PacketOctetsLaws
-pub mod EndDecidesLaws
-pub mod DecidedRowsStayLaws
-pub mod SightsAsWordedLaws

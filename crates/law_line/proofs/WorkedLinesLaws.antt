@@ -1,4 +1,4 @@
--- The worked lines.
+-- The worked lines: their containers, and what is read of them.
 use Rattle.std.proofs.Common.{◌≡◌, ℕ, zero, suc, ◌+◌, ◌%◌, inl, inr, slice_get, Some, refl, ◌∙◌, ap, arith}
 use Rattle.std.proofs.lemmas.Bool.{cases_eq, eq-eqb, ne_eqb}
 use Rattle.law_model.specs.Common.{Container, slip_after, AreWindows, path, read_on, HasPlace, AreSent}
@@ -6,6 +6,7 @@ use Rattle.law_model.specs.members.Damage.{carried}
 use Rattle.law_line.specs.WorkedLines.{container, containers, window, two_windows, three_windows, IsMet, AreSummed}
 use Rattle.law_line.specs.WorkedLines.{AreSeventeen}
 
+-- The worked lines.
 container_place : (n : ℕ) → HasPlace n (container n).h4
 unfolding container
 container_place n =

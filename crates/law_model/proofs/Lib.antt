@@ -1,12 +1,6 @@
-pub mod ListLaws
-pub mod ScrambledBitsLaws
-pub mod ScrambledOctetsLaws
-pub mod CutAndJoinedLaws
-pub mod PacketNibblesLaws
 pub mod CoreHeaderLaws
-pub mod ScrambledAreasLaws
-pub mod StreamOfAreasLaws
-pub mod HeaderAsWordLaws
-pub mod PiecesReachPlaceLaws
+pub mod ListLaws
+pub mod PacketNibblesLaws
+pub mod ScrambledCutJoinedLaws
+pub mod StreamOfPiecesLaws
 pub mod WindowAndPathLaws
-pub mod IdleHeadersLaws

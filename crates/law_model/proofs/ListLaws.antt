@@ -15,6 +15,7 @@ use Rattle.std.proofs.lemmas.Option.{slice_get-get_or}
 use Rattle.std.proofs.Math.Seq.{take-append-add}
 pub use Rattle.check_nibbles.proofs.CellsInStepLaws.{slice_get-append, slice_get-append_seam}
 
+-- Facts on lists and numbers that the standard library lacks, and of which several crates make use.
 -- ---- an element that is there, or not
 pub slice_get-inside : {X : Type 0} (xs : List X) (k : ℕ) → k < length xs → (x : X) × (slice_get xs k ≡ Some x)
 slice_get-inside [] k h = absurd (omega arith)

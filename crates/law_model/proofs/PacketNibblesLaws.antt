@@ -1,5 +1,4 @@
--- What is read of a list: sixteen nibbles whose check is right and whose code is that of a control word, and nothing
--- else.
+-- The sixteen nibbles of a packet, and what is read of them.
 use Rattle.std.proofs.Common.{◌≡◌, ◌≢◌, ℕ, zero, suc, ◌+◌, ◌*◌, ◌/◌, ◌%◌, ◌<◌, ◌==◌, nat_lt, Bool, true, false, inl}
 use Rattle.std.proofs.Common.{inr, List, [], ◌∷◌, ◌++◌, length, slice_index, All, Option, Some, None, Ok, Err, refl}
 use Rattle.std.proofs.Common.{sym, ◌∙◌, ap, subst, arith, lit<, eqb-true, eq-eqb, ne_eqb, ltb-true, lt-ltb}
@@ -14,6 +13,8 @@ use Rattle.law_model.specs.declared.control_packet.PacketFault.TheVariants.{Crc}
 use Rattle.check_nibbles.proofs.NibbleCheckLaws.{crc8_of_below}
 use Rattle.member_cells.proofs.ControlCodeLaws.{code_of_below, ctrl_of-code_of, ctrl_of-some}
 
+-- What is read of a list: sixteen nibbles whose check is right and whose code is that of a control word, and nothing
+-- else.
 abbrev pub AreNibbles : List ℕ → Type 0
 AreNibbles nibbles = All (λ nibble. nibble < 16) nibbles
 

@@ -6,6 +6,7 @@ use Rattle.law_model.specs.declared.window_types.Window.{Window}
 use Rattle.law_model.specs.declared.window_types.Carried.{Carried}
 use Rattle.law_model.specs.members.Damage.{carried}
 
+-- What a window at the front of a list does to a container, and the cells of a path that goes on.
 pub carried-in : (window : Window) (windows : List Window) (n : ℕ) → window.first ≤ n → n < window.end →
     carried (window ∷ windows) n ≡ carried_in window n
 unfolding carried

@@ -1,13 +1,5 @@
-pub mod TellingChangesNothingLaws
-pub mod WaysAreSoundLaws
-pub mod HeardInPacketsLaws
-pub mod NextItemOfWayLaws
-pub mod OneWayLaws
-pub mod PairTickLaws
-pub mod PairGoesOnLaws
-pub mod PairMoveLaws
-pub mod PairRoundsEndLaws
-pub mod PairStallLaws
-pub mod PairPlanLaws
-pub mod WaysMeetLaws
+pub mod OneWayLandsLaws
+pub mod PairGoingTickLaws
+pub mod PairMadeRoundsLaws
+pub mod WayOfScriptsLaws
 mod WorkedPairLaws

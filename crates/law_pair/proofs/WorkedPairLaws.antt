@@ -1,4 +1,4 @@
--- Two scripts that make a pair.
+-- Two worked scripts that make a pair.
 use Rattle.std.proofs.Common.{◌≡◌, ℕ, ◌<◌, ◌≤◌, List, [], ◌∷◌, length, replicate, inl, refl, arith}
 use Rattle.std.proofs.lemmas.List.Elements.{All-nil, All-cons, All-replicate}
 use Rattle.std.proofs.lemmas.List.Sorted.{IsNonDecreasingBy-short}
@@ -10,6 +10,7 @@ use Rattle.law_model.specs.declared.script_types.ItemKind.TheVariants.{Frame, Ad
 use Rattle.law_walk.specs.Common.{item, plain}
 use Rattle.law_pair.specs.Common.{IsWay, IsPair, worked_script, worked_there, worked_back, failing_back}
 
+-- Two scripts that make a pair.
 abbrev one : Window
 one = record { first = 16; «end» = 17; slip = 0 }
 

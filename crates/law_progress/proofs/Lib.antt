@@ -1,8 +1,4 @@
-pub mod LinesBesidePathsLaws
-pub mod EventKeepsBoundsLaws
-pub mod TakePopsCellsLaws
-pub mod SomeEventMovesLaws
-pub mod StalledEventLaws
-pub mod ReachedByEventsLaws
-pub mod DrainLoopLaws
+pub mod KeptEachFitsLaws
 pub mod LineIsPathLaws
+pub mod MovesRoundDrainLaws
+pub mod StalledStaysLaws

@@ -1,7 +1,7 @@
 -- A line with failures is a path in numbers, and a script that passes the tests of the rings is a plan.
-use Rattle.std.proofs.Common.{◌≡◌, ℕ, zero, suc, ◌+◌, ◌-◌, ◌<◌, ◌≤◌, min, inl, inr, List, [], ◌∷◌, ◌++◌}
-use Rattle.std.proofs.Common.{length, take, slice_get, Option, Some, None, refl, sym, ◌∙◌, ap, subst, arith}
-use Rattle.std.proofs.Common.{length-append, length-take}
+use Rattle.std.proofs.Common.{◌≡◌, ℕ, zero, suc, ◌+◌, ◌-◌, ◌<◌, ◌≤◌, min, inl, inr, List, [], ◌∷◌, ◌++◌, length, take}
+use Rattle.std.proofs.Common.{slice_get, Option, Some, None, refl, sym, ◌∙◌, ap, subst, arith, length-append}
+use Rattle.std.proofs.Common.{length-take}
 use Rattle.std.proofs.lemmas.Bool.{cases_lt, le-ltb, lt-ltb}
 use Rattle.std.proofs.lemmas.List.{append-nil, take-append-le, take_all, take-take}
 use Rattle.std.proofs.Math.Seq.{take-length}
@@ -18,16 +18,15 @@ use Rattle.law_model.specs.declared.script_types.Item.{Item}
 use Rattle.law_model.specs.members.Damage.{carried}
 use Rattle.law_model.specs.members.CellVerdicts.{begun}
 use Rattle.law_model.proofs.ListLaws.{slice_get-inside, take-part, is-some}
-use Rattle.law_line.proofs.ReadingByContainersLaws.{length-upto}
-use Rattle.law_line.proofs.ReadingByContainersLaws as invariant
-use Rattle.law_line.proofs.LostInWindowsLaws.{lost-slip_of}
-use Rattle.law_line.proofs.CellsReadToEndLaws.{line_read}
-use Rattle.law_line.proofs.EndDecidesLaws.{end-reading}
-use Rattle.law_line.proofs.VerdictsStayLaws.{verdict-stays, cells-part}
+use Rattle.law_line.proofs.HasReadVerdictLaws.{length-upto, line_read, verdict-stays, cells-part}
+use Rattle.law_line.proofs.LockedGoodLostLaws.{lost-slip_of}
+use Rattle.law_line.proofs.DecidedPacketsRowsLaws.{end-reading}
 use Rattle.law_model.proofs.WindowAndPathLaws.{path-append}
 use Rattle.law_progress.specs.Progress.{IsPath, IsSound, IsPlan, AllPaths}
 use Rattle.law_progress.specs.AskedOfLines.{IsDecided, AreSentBy, CanRun}
+use Rattle.law_line.proofs.HasReadVerdictLaws as invariant
 
+-- A line with failures is a path in numbers, and a script that passes the tests of the rings is a plan.
 -- ---- a cell each, at most
 fate-few : (fate : Carried) (container : Container) → length (cells_of fate container) ≤ 1
 fate-few Whole container = omega arith

@@ -1,4 +1,4 @@
--- The sink counts the active packets that it reads: so it finds the lines that carry payload by the source's table.
+-- The active packets that a sink reads: so it finds the lines that carry payload, in the order of SQ.
 use Rattle.std.proofs.Common.{◌≡◌, ℕ, zero, suc, ◌+◌, ◌%◌, ◌<◌, ◌≤◌, ◌==◌, ◌&&◌, ◌||◌, Bool, true, false, inl}
 use Rattle.std.proofs.Common.{if◌then◌else◌, inr, List, [], ◌∷◌, ◌++◌, map, filter, length, Option, Some}
 use Rattle.std.proofs.Common.{slice_index_or, refl, sym, ◌∙◌, ap, arith}
@@ -16,8 +16,9 @@ use Rattle.law_model.specs.declared.lcas_states.Member.{Member}
 use Rattle.member_cells.specs.declared.control_word.Ctrl.TheVariants.{Idle}
 use Rattle.law_model.specs.declared.lcas_states.Standing.TheVariants.{Add as adding, Norm as normal, Dnu as unused}
 use Rattle.law_session.specs.Feedback.{lines_of}
-use Rattle.law_session.proofs.NoLineTwiceLaws.{one, times, IsBelow, one-self, IsPlan-once, Fits-after, order-length}
+use Rattle.law_session.proofs.SourceFitsLinesLaws.{one, times, IsBelow, one-self, IsPlan-once, Fits-after, order-length}
 
+-- The sink counts the active packets that it reads: so it finds the lines that carry payload by the source's table.
 -- ---- a packet by what it says of its line, and by what all packets of one number say
 abbrev pub place_of : Ctrl → ℕ → LineFields
 place_of ctrl sq = record { ctrl = ctrl; sq = sq }

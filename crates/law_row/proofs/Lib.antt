@@ -1,9 +1,4 @@
 pub mod ActivePacketsLaws
-pub mod ReadAlikeLaws
-pub mod LastWordByRowsLaws
-pub mod SilentLinesRaisedLaws
-pub mod CarriersByTableLaws
-pub mod WholeRowsLaws
-pub mod DealtOctetsLaws
-pub mod ReturnPacketLaws
-pub mod StoppingSinkLaws
+pub mod LastWordReturnLaws
+pub mod RaisedSilentCarriersLaws
+pub mod WholeRowStoppingLaws

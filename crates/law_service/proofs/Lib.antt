@@ -1,13 +1,8 @@
-pub mod WhereFramesEndLaws
-pub mod BucketLaws
-pub mod TwinLegsLaws
-mod LegsReachBoundsLaws
-pub mod TurnsTakeAllRowsLaws
-mod HuntFindsBehindLaws
-mod FrameFatesKeptLaws
-mod WalkKeepsFatesLaws
-mod LandedByTheClockLaws
-mod LinesByTheClockLaws
-mod ClockRoundsLaws
-mod ClockLegLaws
-pub mod CostOfFailuresLaws
+mod AtRoundCarriedLandedLaws
+pub mod BucketPlacedFramesLaws
+pub mod FailsOnceCostLaws
+mod FateKeepsHuntBehindLaws
+pub mod FullTimedCostlyLegsLaws
+pub mod QuietNoChangeStatusLaws
+pub mod SpoilsUpStaysNormalLaws
+pub mod WholeWalkTurnsDelaysLaws

@@ -1,4 +1,4 @@
--- What becomes of an ADD line in a decision step: how long it stays one, and when it is in use.
+-- What turn, admit and exchange make of a member of the order: which ADD line stays one, or comes into use.
 use Rattle.std.proofs.Common.{◌≡◌, ◌⊎◌, ℕ, zero, suc, ◌+◌, ◌<◌, ◌≤◌, ◌&&◌, not, Bool, true, false, if◌then◌else◌, inl}
 use Rattle.std.proofs.Common.{inr, List, [], ◌∷◌, Option, Some, None, slice_get, option_map, refl, sym, ◌∙◌, ap, subst}
 use Rattle.std.proofs.Common.{arith}
@@ -12,6 +12,7 @@ use Rattle.law_model.specs.declared.lcas_states.Member.{Member}
 use Rattle.law_model.specs.declared.lcas_states.Standing.TheVariants.{Add as adding, Norm as normal, Dnu as unused}
 use Rattle.law_model.specs.source.Table.{is_add}
 
+-- What becomes of an ADD line in a decision step: how long it stays one, and when it is in use.
 -- ---- the members of an order
 abbrev pub Has : List Member → ℕ → ℕ → Standing → Type 0
 Has order sq line standing = slice_get order sq ≡ Some (member_of line standing)

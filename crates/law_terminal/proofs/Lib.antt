@@ -1,9 +1,3 @@
-pub mod NumberRangesLaws
-pub mod ContainersSentLaws
-pub mod DealtPayloadLaws
-pub mod PayloadOctetsLaws
-pub mod CellsThatComeLaws
-pub mod RowsAndReturnsLaws
-pub mod CourseReturnCellsLaws
-pub mod EventKeepsCourseLaws
-pub mod CourseBySessionCellsLaws
+pub mod ComeOfLinesLaws
+pub mod ContainerPayloadLaws
+pub mod IsCourseAgreeLaws

@@ -1,2 +1,7 @@
-pub mod Au4PointerLaws
-pub mod Au4LinkLaws
+pub mod LinkDraftActionLaws
+pub mod NumberedVcCountsLaws
+pub mod PointerWordLaws
+pub mod SinkFollowsSourceLaws
+pub mod SinkTakeGivesSteps
+pub mod SourceSendSteps
+pub mod VcsInPartLaws

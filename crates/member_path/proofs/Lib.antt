@@ -1,4 +1,3 @@
-pub mod FailureWindowLaws
-pub mod PathDelayLaws
-pub mod H4MultiframeLaws
-pub mod CellNumbersLaws
+pub mod DelayPathCellsLaws
+pub mod FailureWindowListLaws
+pub mod LineNumbersLockLaws

@@ -1,2 +1,4 @@
-pub mod RealignRowsLaws
-pub mod VcatInterleaveLaws
+pub mod BegunNibbleLaws
+pub mod RowGatherLinesLaws
+pub mod RowPartLaneLaws
+pub mod RowSpreadPutLaws

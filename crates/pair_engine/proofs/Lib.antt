@@ -1,11 +1,4 @@
-pub mod WayBesideOtherLaws
-pub mod ToldAndHeardLaws
-pub mod NewWayLaws
-pub mod TickOfOneWayLaws
-pub mod RowTakenAndHeardLaws
-pub mod PairAnswerLaws
-pub mod PairRoundLaws
 pub mod FirstDueItemLaws
-pub mod PairEventLaws
-pub mod TickOfBothWaysLaws
-pub mod ItemLandsOrStallsLaws
+pub mod PairEventAndRoundLaws
+pub mod PairTickAndToldLaws
+pub mod RowTakenAndHeardLaws

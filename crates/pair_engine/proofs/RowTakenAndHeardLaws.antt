@@ -1,7 +1,7 @@
--- A row of one way, and what the other one hears.
+-- A row of one way that is taken or waits (TakesRow), and what the other way hears of it (Hears, Meets).
 use Rattle.std.proofs.Common.{◌≡◌, ℕ, ◌+◌, ◌-◌, ◌*◌, ◌/◌, ◌%◌, ◌==◌, ◌&&◌, ◌<◌, ◌≤◌, nat_le, nat_lt, true, false, Bool}
-use Rattle.std.proofs.Common.{List, [], ◌∷◌, ◌++◌, length, map, Option, Some, None, option_map}
-use Rattle.std.proofs.Common.{slice_index_or, refl, sym, ◌∙◌, ap, subst, arith, inl, inr}
+use Rattle.std.proofs.Common.{List, [], ◌∷◌, ◌++◌, length, map, Option, Some, None, option_map, slice_index_or, refl}
+use Rattle.std.proofs.Common.{sym, ◌∙◌, ap, subst, arith, inl, inr}
 use Rattle.std.specs.List.{range_with_len}
 use Rattle.std.proofs.lemmas.Bool.{cases_Bool, and_parts, eqb-true, ltb-true, le-leb, le-ltb}
 use Rattle.std.proofs.lemmas.List.{append-nil, map-append, drop_all}
@@ -12,31 +12,32 @@ use Rattle.law_model.specs.declared.control_packet.Packet.{Packet}
 use Rattle.law_model.specs.declared.script_types.Script.{Script}
 use Rattle.law_model.specs.declared.walk_events.StallCause.TheVariants.{Done, Waiting as Stall_waiting}
 use Rattle.law_model.specs.session.Scenario.{packets_in}
-use Rattle.law_progress.proofs.ReachedByEventsLaws.{Leads-then}
+use Rattle.law_progress.proofs.MovesRoundDrainLaws.{Leads-then}
 use Rattle.terminal_sink.specs.declared.sink_core.sink_terminal.TakeAnswer.{TakeAnswer}
 use Rattle.terminal_sink.specs.declared.sink_core.sink_terminal.TakeAnswer.TheVariants.{Taken, Waiting}
 use Rattle.terminal_sink.specs.sink_core.TakenAndGiven.{rows_taken}
 use Rattle.terminal_group.specs.declared.landed_counts.LandedCounts.{LandedCounts}
 use Rattle.terminal_group.specs.ReturnInbox.{Inbox, with_come}
 use Rattle.law_walk.specs.Common.{walk_plan, IsWalked, popped_cells, said_packet, back_cell, delivered_of}
-use Rattle.law_walk.proofs.AllRowsTakenLaws.{counts-within}
-use Rattle.law_walk.proofs.WalkPlanLaws.{sound-walks}
-use Rattle.law_walk.proofs.ReturnPathLaws as return_laws
+use Rattle.law_walk.proofs.AcceptedFramesDrainedLaws.{counts-within}
+use Rattle.law_walk.proofs.WalkPlanSessionLaws.{sound-walks}
 use Rattle.law_pair.specs.Common.{way_of, take_said, take_one}
-use Rattle.law_pair.proofs.WaysMeetLaws.{reads-told}
-use Rattle.law_pair.proofs.OneWayLaws.{take-leads}
-use Rattle.walk_engine.specs.Common.{answer_by, GivesRows, Parts, counts_of, line_counts, take_cause}
+use Rattle.law_pair.proofs.WayOfScriptsLaws.{reads-told}
+use Rattle.law_pair.proofs.OneWayLandsLaws.{take-leads}
+use Rattle.walk_engine.specs.Common.{answer_by, GivesRows, Parts, counts_of, line_counts, take_cause, HasLanded}
+use Rattle.walk_engine.specs.Common.{HasWindows, take_moved, said_at, take_by, Takes, windows_in}
 use Rattle.law_walk.specs.DeliveredFrames.{delivered_since}
-use Rattle.walk_engine.specs.Common.{HasLanded, HasWindows, take_moved, said_at, take_by, Takes, windows_in}
 use Rattle.walk_engine.specs.walk_core.WayParts.{WayStands}
-use Rattle.walk_engine.proofs.WalkCoreLaws.CountsAfterEventLaws.{landing-stays, stands-back}
+use Rattle.walk_engine.proofs.WayStandsAndToldLaws.{landing-stays, stands-back}
 use Rattle.pair_engine.specs.declared.pair_way.PairWay.{PairWay}
 use Rattle.pair_engine.specs.ToldAndHeard.{Said, untold_packets, heard_cells}
 use Rattle.pair_engine.specs.WayCalls.{TakesRow, EndsPacket, Hears}
 use Rattle.pair_engine.specs.Ways.{way_counts, StandsAs, LandedAs, Meets, IsWayBeside, AreBeside}
-use Rattle.pair_engine.proofs.WayBesideOtherLaws.{meets-same, seen-other}
-use Rattle.pair_engine.proofs.ToldAndHeardLaws.{counts_with, said-size, heard-size}
+use Rattle.pair_engine.proofs.PairEventAndRoundLaws.{meets-same, seen-other}
+use Rattle.pair_engine.proofs.PairTickAndToldLaws.{counts_with, said-size, heard-size}
+use Rattle.law_walk.proofs.RingsInboxFirstOpenLaws as return_laws
 
+-- A row of one way, and what the other one hears.
 -- ---- frames
 pub gives-none : {Out : Type 0} (stands_for : Out → Start → List (List ℕ) → Type 0) (out : Out) (leg : Leg)
     (rows : ℕ) → GivesRows stands_for out out leg rows rows

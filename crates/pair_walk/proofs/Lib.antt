@@ -1,4 +1,2 @@
-pub mod RowsOfRoundLaws
-pub mod PairReportEndLaws
-pub mod PairHeadlineLaws
-pub mod PairScriptLaws
+pub mod PairReaderHalvesLaws
+pub mod PairReportRowsLaws

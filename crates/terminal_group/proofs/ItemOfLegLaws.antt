@@ -1,7 +1,7 @@
--- An item that lands: which item of its leg it is, why it is refused, and what has landed with it.
-use Rattle.std.proofs.Common.{◌≡◌, ℕ, suc, ◌+◌, ◌<◌, ◌≤◌, Bool, true, false, if◌then◌else◌, List, [], ◌∷◌}
-use Rattle.std.proofs.Common.{map, filter, fold, take, drop, length, slice_get, get_or, All, Option, Some, option_map}
-use Rattle.std.proofs.Common.{refl, sym, ◌∙◌, ap, subst, arith}
+-- An item that lands as one of its leg: its number, why it is refused, and the counts that it leaves.
+use Rattle.std.proofs.Common.{◌≡◌, ℕ, suc, ◌+◌, ◌<◌, ◌≤◌, Bool, true, false, if◌then◌else◌, List, [], ◌∷◌, map, filter}
+use Rattle.std.proofs.Common.{fold, take, drop, length, slice_get, get_or, All, Option, Some, option_map, refl, sym}
+use Rattle.std.proofs.Common.{◌∙◌, ap, subst, arith}
 use Rattle.std.proofs.lemmas.List.{length-map, length-drop, get_or-drop}
 use Rattle.std.proofs.lemmas.Option.{slice_get-map, slice_get-get_or}
 use Rattle.law_model.proofs.ListLaws.{take-next, slice_get-inside}
@@ -15,23 +15,25 @@ use Rattle.law_model.specs.declared.lcas_states.Command.{Command}
 use Rattle.law_model.specs.declared.item_refusals.Refusal.{Refusal}
 use Rattle.law_model.specs.declared.script_types.ItemKind.TheVariants.{Frame, Add, Remove}
 use Rattle.law_model.specs.declared.lcas_states.Command.TheVariants.{Add as add, Remove as remove}
-use Rattle.law_session.proofs.SessionsAlikeLaws.{Alike, alike-after, alike-stream}
-use Rattle.law_model.specs.declared.item_refusals.Refusal.TheVariants.{Frame as frame_refused, Command as command_refused}
+use Rattle.law_session.proofs.LandedAcceptedStreamAlikeLaws.{Alike, alike-after, alike-stream}
+use Rattle.law_model.specs.declared.item_refusals.Refusal.TheVariants.{Frame as frame_refused}
+use Rattle.law_model.specs.declared.item_refusals.Refusal.TheVariants.{Command as command_refused}
 use Rattle.terminal_source.specs.source_core.Terminal.{Terminal}
 use Rattle.terminal_source.specs.source_core.GivenScenario.{with_command, SourceStands as HasMade}
-use Rattle.terminal_source.proofs.SourceCoreLaws.LandedLaterLaws.{alike-landed, first-alike}
+use Rattle.terminal_source.proofs.TerminalGivenToldAlikeLaws.{alike-landed, first-alike}
 use Rattle.law_walk.specs.Common.{Numbered, landed_items, landed_scenario, is_client, kind_refusal, source_met}
 use Rattle.law_walk.specs.Common.{IsOfferAt, IsOrderAt}
-use Rattle.law_walk.proofs.ItemsThatLandedLaws.{frame-dues, command-dues, offer-at, order-at}
-use Rattle.law_walk.proofs.RefusalsAndTotalsLaws.{IsInserted, landed-frame, landed-command}
+use Rattle.law_walk.proofs.LandedAheadInsertedRefusalsLaws.{frame-dues, command-dues, offer-at, order-at, IsInserted}
+use Rattle.law_walk.proofs.LandedAheadInsertedRefusalsLaws.{landed-frame, landed-command}
 use Rattle.terminal_group.specs.Item.{bare, bare_items}
 use Rattle.terminal_group.specs.ItemPlaces.{is_frame, is_command, place_of}
 use Rattle.terminal_group.specs.Landed.{Landed, next_place, next_number, landed_of, due_in, due_at, AreAhead}
 use Rattle.terminal_group.specs.GivenItem.{met_by, with_kind}
-use Rattle.terminal_group.proofs.ItemPlaceLaws.{count_of, place-found, offers-size, orders-size}
-use Rattle.terminal_group.proofs.LandedAndRefusedLaws.{number-there, next-due}
-use Rattle.terminal_group.proofs.BareItemLaws.{bare-dues, bare-place, frame-blind, command-blind}
+use Rattle.terminal_group.proofs.ItemPlaceHeldLaws.{count_of, place-found, offers-size, orders-size, bare-dues}
+use Rattle.terminal_group.proofs.ItemPlaceHeldLaws.{bare-place, frame-blind, command-blind}
+use Rattle.terminal_group.proofs.LandedRefusalsLaws.{number-there, next-due}
 
+-- An item that lands: which item of its leg it is, why it is refused, and what has landed with it.
 -- which items a frame, or a command, is among; the place of the next one
 abbrev pub kind_by : Bool → ItemKind → Bool
 kind_by true = is_frame

@@ -1,7 +1,4 @@
-pub mod HeldItemLaws
-pub mod ItemPlaceLaws
-pub mod BareItemLaws
-pub mod LandedAndRefusedLaws
-pub mod ReturnCellLaws
-pub mod EarlyOrMissingLaws
 pub mod ItemOfLegLaws
+pub mod ItemPlaceHeldLaws
+pub mod LandedRefusalsLaws
+pub mod ReturnCellEarlyMissingLaws

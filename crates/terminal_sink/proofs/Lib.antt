@@ -1,6 +1,7 @@
-pub mod ActiveLinesLaws
-pub mod MemberWatchLaws
-pub mod KnownCarriersLaws
-pub mod LcasSinkLaws
-pub mod MarkedDelineatorLaws
-pub mod SinkCoreLaws
+pub mod ActiveSilentSupposedCarrierLaws
+pub mod ConfirmedMarkLaws
+pub mod IdleOctetsGrowsLaws
+pub mod LastWordWatchTimersLaws
+pub mod MemberStatusReturnLaws
+pub mod ReceivedRowsGivenFramesLaws
+pub mod WholeRowContainersLaws

@@ -1,2 +1,6 @@
-pub mod LcasSourceLaws
-pub mod SourceCoreLaws
+pub mod FrameMemberContainerLaws
+pub mod GroupBitsAndOksLaws
+pub mod MemberOrderExchangeLaws
+pub mod TableCourseLaws
+pub mod TerminalGivenToldAlikeLaws
+pub mod TerminalTickSteps

@@ -1,2 +1,3 @@
-pub mod CaptureFileLaws
-pub mod PacketTraceLaws
+pub mod CaptureRecordsReadLaws
+pub mod CaptureRowFramesLaws
+pub mod PacketsInOctetsLaws

@@ -1,4 +1,1 @@
-mod HexDigitLaws
-mod DigitPairSteps
-mod SixteenOctetsLaws
-mod DigitLanesLaws
+mod HexDigitLanesLaws

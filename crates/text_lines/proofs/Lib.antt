@@ -1,5 +1,2 @@
-pub mod LinesAndWordsLaws
 pub mod LanguageLaws
-pub mod FirstFaultyLineLaws
-pub mod WordFieldsLaws
-pub mod LanguageTableLaws
+pub mod LinesWordsFieldsLaws

@@ -1,1 +1,3 @@
-pub mod LiveLaws
+pub mod HasLiveCourseLaws
+pub mod LiveReaderKeepsLaws
+pub mod LiveScriptSayingsLaws

@@ -1,3 +1,4 @@
-pub mod ScriptReadLaws
-pub mod MakeLoadLaws
-pub mod RateLoadLaws
+pub mod DraftConfigItemsLaws
+pub mod DrawnLoadLaws
+pub mod ScriptLinesSaidLaws
+pub mod WordsFitDraftLaws

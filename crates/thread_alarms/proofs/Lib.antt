@@ -1,4 +1,4 @@
-pub mod AlarmLaws
-pub mod AlarmLogLaws
-pub mod WatchedLineLaws
-pub mod AlarmTextLaws
+pub mod AlarmCountLaws
+pub mod AlarmsThroughOfLineLaws
+pub mod QueueRuleViewSteps
+pub mod ServedLinesLaterLaws

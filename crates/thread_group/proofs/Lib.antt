@@ -1,12 +1,5 @@
-pub mod LongerJournalAlikeLaws
-pub mod SendRingEndsLaws
-pub mod RefusedItemsLaws
-pub mod JournalEntryLaws
-pub mod GroupPartsKeptLaws
-pub mod GroupByPartsLaws
-pub mod TickAnswerLaws
-pub mod TickKeepsBoundLaws
-pub mod MostLandedLaws
-pub mod JournalOrderLaws
-pub mod SubmitKeepsBoundLaws
-pub mod LaidGroupKeptLaws
+pub mod GroupBoundToLegLaws
+pub mod JournalEntriesAlikeLaws
+pub mod KeepsPartsRefusedLaws
+pub mod LaidAndLookedEndsLaws
+pub mod SubmitAndTickAnswerLaws

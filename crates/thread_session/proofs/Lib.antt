@@ -1,2 +1,6 @@
-pub mod SessionPartsLaws
-pub mod SessionRunLaws
+pub mod BellRungLaws
+pub mod LinesWithPostsLaws
+pub mod OpenedLinesBeginBoundLaws
+pub mod RingsLaidSinkRunLaws
+pub mod SessionEndGatheredLaws
+pub mod ShareAndPairListsLaws

@@ -1,3 +1,1 @@
-pub mod FramesCountedLaws
-pub mod OneRingTouchedLaws
-pub mod SinkPartsLaws
+pub mod SinkPartsFramesLaws

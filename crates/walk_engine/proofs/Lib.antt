@@ -1,2 +1,9 @@
-pub mod WalkPartsLaws
-pub mod WalkCoreLaws
+pub mod DamagedWindowsSteps
+pub mod LandedItemSteps
+pub mod LineCarryAndSendRingLaws
+pub mod OpenedWayLaws
+pub mod ReceiveRingAndPopLaws
+pub mod TakeRowAndBackSteps
+pub mod TickAndFullRingLaws
+pub mod WalkRoundAndTotalsLaws
+pub mod WayStandsAndToldLaws

@@ -1,8 +1,8 @@
 -- By the laws of checks.
 use Rattle.check_remainder.specs.Bits.{octet_bits}
-use Rattle.check_remainder.proofs.OctetBitsLaws.{octets_of_below}
+use Rattle.check_remainder.proofs.NumberAndOctetBitsLaws.{octets_of_below}
 use Rattle.check_crc32.specs.Crc32.{check_bits}
-use Rattle.check_crc32.proofs.CheckBitsLaws.{length-fcs_of, check_bits-inverted, check_bits-xors}
+use Rattle.check_crc32.proofs.CheckBitsRemainderLaws.{length-fcs_of, check_bits-inverted, check_bits-xors}
 use Rattle.check_crc32.proofs.check_law.Goals as goal
 
 pub returns-clause-size : goal.returns-clause-size

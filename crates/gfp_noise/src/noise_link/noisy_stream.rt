@@ -14,7 +14,7 @@ use std::alloc::{AllocError, Global};
 const PIECE_ROOM: usize = 9_612;
 
 /// Begins a stream with two idles.
-#[tactic(auto, using(crate::proofs::NoiseLinkLaws::EmptyStreamLaws::idles))]
+#[tactic(auto, using(crate::proofs::FlippedFcsStreamLaws::idles))]
 fn put_idles(stream: &mut Vec<u8>) -> Result<(), AllocError>
     requires { stream.old.items ≡ [] }
     ensures { OnOk result (stream.new.items ≡ fcs_stream []) }

@@ -1,9 +1,9 @@
 -- The cells of a line, read to their end.
-use Rattle.law_line.proofs.CellsReadToEndLaws.{are_numbered, are_in_step, are_expected}
-use Rattle.law_line.proofs.LockedAndGoodLaws.{readable-good, good-readable}
-use Rattle.law_line.proofs.PacketOctetsLaws.{are_readable}
-use Rattle.law_line.proofs.DecidedCountLaws.{are_at}
-use Rattle.law_line.proofs.DecidedRowsStayLaws.{are_read}
+use Rattle.law_line.proofs.HasReadVerdictLaws.{are_numbered, are_in_step, are_expected}
+use Rattle.law_line.proofs.LockedGoodLostLaws.{readable-good, good-readable}
+use Rattle.law_line.proofs.DecidedPacketsRowsLaws.{are_readable}
+use Rattle.law_line.proofs.LockStandsSightLaws.{are_at}
+use Rattle.law_line.proofs.DecidedPacketsRowsLaws.{are_read}
 use Rattle.law_line.proofs.numbering_law.Goals as goal
 
 pub returns-clause-numbered : goal.returns-clause-numbered

@@ -1,5 +1,5 @@
 -- A session without failures.
-use Rattle.law_loss.proofs.SessionLossLaws.{undamaged-whole, session-hitless, session-prefix}
+use Rattle.law_loss.proofs.SessionStreamLossLaws.{undamaged-whole, session-hitless, session-prefix}
 use Rattle.law_loss.proofs.hitless_law.Goals as goal
 
 pub returns-clause-whole : goal.returns-clause-whole

@@ -1,10 +1,10 @@
 -- Losses in a session.
 use Rattle.std.proofs.Common.{◌++◌, ◌∙◌, ap, arith}
 use Rattle.law_model.specs.Common.{stream_before}
-use Rattle.law_session.proofs.ClientStreamLaws.{stream_before-frames}
-use Rattle.law_loss.proofs.SessionStreamLaws.{rows-carry, rows-length}
-use Rattle.law_loss.proofs.SessionLossLaws.{frames-extents, session-kept}
-use Rattle.law_loss.proofs.AlignedSegmentLaws.{aligned-starts}
+use Rattle.law_session.proofs.LandedAcceptedStreamAlikeLaws.{stream_before-frames}
+use Rattle.law_loss.proofs.SessionStreamLossLaws.{rows-carry, rows-length}
+use Rattle.law_loss.proofs.SessionStreamLossLaws.{frames-extents, session-kept}
+use Rattle.law_loss.proofs.SessionStreamLossLaws.{aligned-starts}
 use Rattle.law_loss.proofs.session_loss_law.Goals as goal
 
 pub returns-clause-accepted : goal.returns-clause-accepted

@@ -16,7 +16,7 @@ impl Model for GroupBits {
     ghost use Rattle.std.specs.Prelude.{List, Bool, ◌<◌, ◌^◌};
     ghost use Rattle.law_model.specs.Common.{bits, number};
     ghost use Rattle.std.proofs.Common.{◌∙◌, ap, mod-eq_of_lt};
-    ghost use Rattle.check_remainder.proofs.NumberBitsLaws.{number-bits};
+    ghost use Rattle.check_remainder.proofs.NumberAndOctetBitsLaws.{number-bits};
 
     ghost Value = { List Bool };
 

@@ -20,7 +20,7 @@ fn frame(alloc: Global, draws: &mut Draws) -> Result<Octets, AllocError>
 }
 
 /// The addition of each line.
-#[tactic(auto, using(crate::proofs::MakeLoadLaws::LoadItemsLaws::additions_next))]
+#[tactic(auto, using(crate::proofs::DrawnLoadLaws::additions_next))]
 fn add_lines(alloc: Global, lines: u8) -> Result<Vec<Item>, AllocError>
     ensures { IfOk result (λ items. items.items ≡ additions lines) }
 {
@@ -35,7 +35,7 @@ fn add_lines(alloc: Global, lines: u8) -> Result<Vec<Item>, AllocError>
 }
 
 /// Appends a frame for each eight ticks that are begun.
-#[tactic(auto, using(crate::proofs::MakeLoadLaws::LoadItemsLaws::frames_next, crate::proofs::MakeLoadLaws::LoadItemsLaws::frames_end))]
+#[tactic(auto, using(crate::proofs::DrawnLoadLaws::frames_next, crate::proofs::DrawnLoadLaws::frames_end))]
 fn add_frames(
     alloc: Global,
     items: &mut Vec<Item>,
@@ -97,7 +97,7 @@ fn draw(alloc: Global, number: u64, lines: u8, ticks: u32) -> Result<Script, All
 /// The script that is drawn from a number, for 1 to 64 lines and 1 to 1,000,000 ticks: VC-4, rings of 64
 /// cells, a lag of 4 packets, no failures and no event lines. Each line has a delay of up to 40 frames and is
 /// added at once. A frame of 64 to 1,518 octets is due at each eighth tick from 0 on.
-#[tactic(auto, using(crate::proofs::MakeLoadLaws::LoadItemsLaws::is_valid))]
+#[tactic(auto, using(crate::proofs::DrawnLoadLaws::is_valid))]
 pub fn make(alloc: Global, number: u64, lines: u8, ticks: u32) -> Result<Script, AllocError>
     requires lines { IsWithin 1 64 lines }
     requires ticks { IsWithin 1 1000000 ticks }

@@ -33,7 +33,7 @@ impl Draws {
     }
 
     /// A number of octets.
-    #[tactic(auto, using(crate::proofs::MakeLoadLaws::DrawnNumbersLaws::draws_next, crate::proofs::MakeLoadLaws::DrawnNumbersLaws::after_next, crate::proofs::MakeLoadLaws::DrawnNumbersLaws::draws_end, crate::proofs::MakeLoadLaws::DrawnNumbersLaws::after_end))]
+    #[tactic(auto, using(crate::proofs::DrawnLoadLaws::draws_next, crate::proofs::DrawnLoadLaws::after_next, crate::proofs::DrawnLoadLaws::draws_end, crate::proofs::DrawnLoadLaws::after_end))]
     pub(super) fn octets(&mut self, alloc: Global, count: usize) -> Result<Octets, AllocError>
         ensures octets { IfOk result (λ octets. octets ≡ draws count 256 self.old.state) }
         ensures state { OnOk result (self.new.state ≡ after_draws count self.old.state) }
@@ -56,7 +56,7 @@ impl Draws {
     }
 
     /// The delays of a number of lines, in frames, up to 40.
-    #[tactic(auto, using(crate::proofs::MakeLoadLaws::DrawnNumbersLaws::draws_next, crate::proofs::MakeLoadLaws::DrawnNumbersLaws::after_next, crate::proofs::MakeLoadLaws::DrawnNumbersLaws::draws_end, crate::proofs::MakeLoadLaws::DrawnNumbersLaws::after_end))]
+    #[tactic(auto, using(crate::proofs::DrawnLoadLaws::draws_next, crate::proofs::DrawnLoadLaws::after_next, crate::proofs::DrawnLoadLaws::draws_end, crate::proofs::DrawnLoadLaws::after_end))]
     pub(super) fn delays(&mut self, alloc: Global, lines: u8) -> Result<Delays, AllocError>
         ensures delays { IfOk result (λ delays. delays ≡ draws lines 41 self.old.state) }
         ensures state { OnOk result (self.new.state ≡ after_draws lines self.old.state) }

@@ -2,8 +2,8 @@
 use Rattle.std.proofs.Common.{bit_xor, subst, sym, ap, ◌∙◌, w64, ◌++◌}
 use Rattle.std.specs.Int.{to_le_bytes}
 use Rattle.check_crc32.specs.Register.{RegisterStands}
-use Rattle.check_crc32.proofs.RegisterBitsLaws.{entries_of}
-use Rattle.check_crc32.proofs.RegisterStandsLaws.{stands_word}
+use Rattle.check_crc32.proofs.RegisterOrderTablesLaws.{entries_of}
+use Rattle.check_crc32.proofs.RegisterOrderTablesLaws.{stands_word}
 use Rattle.check_crc32.proofs.frame_check.after_word.Goals as goal
 
 pub returns : goal.returns

@@ -2,10 +2,10 @@
 use Rattle.std.proofs.Common.{◌≡◌, [], slice_index, subst, sym, ◌∙◌, ap}
 use Rattle.check_remainder.specs.Bits.{bits}
 use Rattle.check_remainder.specs.Remainder.{IsRemainder, remainder}
-use Rattle.check_remainder.proofs.RemainderLaws.{IsRemainder-remainder, only_remainder}
+use Rattle.check_remainder.proofs.DivisionRemainderTableLaws.{IsRemainder-remainder, only_remainder}
 use Rattle.check_hec16.specs.Hec.{crc16}
-use Rattle.check_hec16.proofs.HecLaws.{hec_of-from_bits}
-use Rattle.check_hec16.proofs.OctetByShiftsLaws.{remainder_of_none, octets_of_word}
+use Rattle.check_hec16.proofs.HecOneWrongBitLaws.{hec_of-from_bits}
+use Rattle.check_hec16.proofs.HecOneWrongBitLaws.{remainder_of_none, octets_of_word}
 use Rattle.check_hec16.proofs.header_check.hec.Goals as goal
 use Rattle.check_hec16.proofs.header_check.hec.Goals.{After-with_octet-2}
 

@@ -4,7 +4,7 @@ use Rattle.law_model.specs.session.Leg.{leg_of}
 use Rattle.law_walk.specs.WalkReport.{final_report}
 use Rattle.command_parts.specs.Task.{Task, writes, writes_both}
 use Rattle.command_parts.specs.Ends.{Ends, lent}
-use Rattle.command_parts.proofs.CommandGivesLaws.{alone, ends-given, when-run}
+use Rattle.command_parts.proofs.TaskGivesAndEndsLaws.{alone, ends-given, when-run}
 use Rattle.command_run.specs.declared.command_of_words.RunCommand.TheVariants.{Run, Watch}
 use Rattle.command_run.specs.Watch.{alarms_text}
 use Rattle.command_run.specs.Commands.{command_in, task_at, task_for}

@@ -1,7 +1,7 @@
 -- One line on, a faulty one, and after the last.
 use Rattle.std.proofs.Common.{◌≡◌, ◌∙◌, ℕ, Err, subst, arith}
 use Rattle.command_walk.specs.commands.HexText.{hex_text_of}
-use Rattle.command_walk.proofs.HexTextLaws.{one_part, one_fault, all_parts}
+use Rattle.command_walk.proofs.H4TextAndPacketsLaws.{one_part, one_fault, all_parts}
 use Rattle.command_walk.proofs.hex_text.read_octets.Goals as goal
 
 pub loop-line-preserved : goal.loop-line-preserved

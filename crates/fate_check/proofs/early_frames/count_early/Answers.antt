@@ -1,7 +1,7 @@
 -- A frame more; and all of them.
 use Rattle.std.proofs.Common.{false, sym, ◌∙◌, arith}
 use Rattle.law_model.specs.session.Leg.{leg_of}
-use Rattle.fate_check.proofs.EarlyFrameLaws.{early-begun, early-next, early-past, early-few}
+use Rattle.fate_check.proofs.CheckTextAndEarlyFrameLaws.{early-begun, early-next, early-past, early-few}
 use Rattle.fate_check.proofs.early_frames.count_early.Goals as goal
 
 pub loop-frame-init : goal.loop-frame-init

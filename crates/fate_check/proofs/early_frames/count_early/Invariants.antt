@@ -2,7 +2,7 @@
 use Rattle.std.proofs.Common.{length}
 use Rattle.law_model.specs.session.Leg.{leg_of}
 use Rattle.fate_walks.specs.walk_frames.ItemCursor.{frames_left}
-use Rattle.fate_check.proofs.EarlyFrameLaws.{EarlyCounted}
+use Rattle.fate_check.proofs.CheckTextAndEarlyFrameLaws.{EarlyCounted}
 use Rattle.fate_check.proofs.early_frames.count_early.Given as goal
 
 abbrev pub invariant-loop-frame : goal.invariant-loop-frame

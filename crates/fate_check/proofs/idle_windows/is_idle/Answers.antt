@@ -5,8 +5,8 @@ use Rattle.law_model.specs.session.Scenario.{Scenario}
 use Rattle.std.specs.List.{list_all, range_with_len}
 use Rattle.std.proofs.lemmas.Bool.{cases_lt, and_parts, and_from, le-leb, leb-true}
 use Rattle.fate_check.specs.IdleWindows.{is_near, is_spared}
-use Rattle.fate_check.proofs.RangeTestLaws.{all-picked, fails-picked}
-use Rattle.fate_check.proofs.SparedRowLaws.{alike-spared}
+use Rattle.fate_check.proofs.UsedLineAndSparedRowLaws.{all-picked, fails-picked}
+use Rattle.fate_check.proofs.UsedLineAndSparedRowLaws.{alike-spared}
 use Rattle.fate_check.proofs.idle_windows.is_idle.Goals as goal
 
 -- the sink doesn't go on

@@ -2,8 +2,8 @@
 use Rattle.std.proofs.Common.{◌≡◌, ◌==◌, false, true, not, sym, ◌∙◌, ap}
 use Rattle.std.specs.List.{list_any}
 use Rattle.fate_check.specs.UsedLines.{has_payload}
-use Rattle.fate_check.proofs.UsedLineLaws.{some-by-length, none-by-length}
-use Rattle.fate_check.proofs.SparedRowLaws.{spared-bare, spared-used, whole-by-cause}
+use Rattle.fate_check.proofs.UsedLineAndSparedRowLaws.{some-by-length, none-by-length}
+use Rattle.fate_check.proofs.UsedLineAndSparedRowLaws.{spared-bare, spared-used, whole-by-cause}
 use Rattle.fate_check.proofs.idle_windows.is_spared.Goals as goal
 
 pub returns-then-is_empty : goal.returns-then-is_empty

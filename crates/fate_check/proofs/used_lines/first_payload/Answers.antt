@@ -2,8 +2,8 @@
 use Rattle.std.proofs.Common.{◌≡◌, false, true, inl, inr, sym, ◌∙◌, arith}
 use Rattle.std.proofs.lemmas.Bool.{cases_lt}
 use Rattle.fate_check.specs.UsedLines.{has_payload}
-use Rattle.fate_check.proofs.RangeTestLaws.{finds-none, finds-first}
-use Rattle.fate_check.proofs.UsedLineLaws.{alike-payload, some-by-length, none-by-length}
+use Rattle.fate_check.proofs.UsedLineAndSparedRowLaws.{finds-none, finds-first}
+use Rattle.fate_check.proofs.UsedLineAndSparedRowLaws.{alike-payload, some-by-length, none-by-length}
 use Rattle.fate_check.proofs.used_lines.first_payload.Goals as goal
 
 pub loop-row-preserved : goal.loop-row-preserved

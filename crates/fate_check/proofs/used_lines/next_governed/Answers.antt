@@ -1,6 +1,6 @@
 -- The rows before the first one that a packet governs, or those of a packet.
 use Rattle.std.proofs.Common.{arith}
-use Rattle.fate_check.proofs.UsedLineLaws.{alike-early, alike-late}
+use Rattle.fate_check.proofs.UsedLineAndSparedRowLaws.{alike-early, alike-late}
 use Rattle.fate_check.proofs.used_lines.next_governed.Goals as goal
 
 pub returns-then-row-lt-FIRST-clause-alike : goal.returns-then-row-lt-FIRST-clause-alike

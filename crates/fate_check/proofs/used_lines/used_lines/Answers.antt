@@ -1,6 +1,6 @@
 -- By the packet that governs the row, if one does.
 use Rattle.std.proofs.Common.{sym, ◌∙◌}
-use Rattle.fate_check.proofs.UsedLineLaws.{early-lines, late-lines}
+use Rattle.fate_check.proofs.UsedLineAndSparedRowLaws.{early-lines, late-lines}
 use Rattle.fate_check.proofs.used_lines.used_lines.Goals as goal
 
 pub returns-then-row-lt-FIRST : goal.returns-then-row-lt-FIRST

@@ -2,8 +2,8 @@
 use Rattle.std.proofs.Common.{ap, arith}
 use Rattle.law_model.specs.declared.session_totals.Totals.{Totals}
 use Rattle.law_model.specs.session.Leg.{leg_of}
-use Rattle.fate_walks.proofs.WalkFatesLaws.SeenRowLaws.{few-rows}
-use Rattle.fate_walks.proofs.WalkFatesLaws.FateLineLaws.{reach}
+use Rattle.fate_walks.proofs.FatesAndSeenRowsLaws.{few-rows}
+use Rattle.fate_walks.proofs.FatesAndSeenRowsLaws.{reach}
 use Rattle.fate_check.proofs.write_check_lines.rows_taken.Goals as goal
 
 pub returns : goal.returns

@@ -9,7 +9,7 @@ use Rattle.fate_check.specs.IdleWindows.{idle_windows}
 use Rattle.fate_check.specs.EarlyFrames.{payload_row, early_frames}
 use Rattle.fate_check.specs.declared.check_lines.Found.{Found}
 use Rattle.fate_check.specs.CheckText.{unused_text, idle_texts, early_if_any, refused_items, last_text, check_text}
-use Rattle.fate_check.proofs.CheckTextLaws.{same-found}
+use Rattle.fate_check.proofs.CheckTextAndEarlyFrameLaws.{same-found}
 use Rattle.fate_check.proofs.write_check_lines.write_check.Goals as goal
 
 pub returns : goal.returns

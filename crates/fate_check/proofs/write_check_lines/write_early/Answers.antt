@@ -6,7 +6,7 @@ use Rattle.text_got.specs.TextSoFar.{HasText}
 use Rattle.fate_check.specs.UsedLines.{first_payload}
 use Rattle.fate_check.specs.EarlyFrames.{is_early, payload_row, early_frames}
 use Rattle.fate_check.specs.CheckText.{early_if_any}
-use Rattle.fate_check.proofs.CheckTextLaws.{early-none, early-some}
+use Rattle.fate_check.proofs.CheckTextAndEarlyFrameLaws.{early-none, early-some}
 use Rattle.fate_check.proofs.write_check_lines.write_early.Goals as goal
 
 pub returns-then-early-eq0 : goal.returns-then-early-eq0

@@ -5,7 +5,7 @@ use Rattle.law_model.specs.session.Leg.{leg_of}
 use Rattle.text_got.specs.TextSoFar.{HasText}
 use Rattle.fate_check.specs.IdleWindows.{idle_on}
 use Rattle.fate_check.specs.CheckText.{idle_texts}
-use Rattle.fate_check.proofs.CheckTextLaws.{text_of, idle_before, grown, lines-more}
+use Rattle.fate_check.proofs.CheckTextAndEarlyFrameLaws.{text_of, idle_before, grown, lines-more}
 use Rattle.fate_check.proofs.write_check_lines.write_idle.Goals as goal
 
 pub loop-member-preserved : goal.loop-member-preserved

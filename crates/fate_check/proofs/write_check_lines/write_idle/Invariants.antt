@@ -3,7 +3,7 @@ use Rattle.std.proofs.Common.{◌≡◌, ◌≤◌, ◌*◌, ℕ, List, ◌++◌
 use Rattle.law_model.specs.Common.{Start, leg_of}
 use Rattle.text_got.specs.TextSoFar.{HasText}
 use Rattle.fate_check.specs.CheckText.{idle_texts}
-use Rattle.fate_check.proofs.CheckTextLaws.{idle_before}
+use Rattle.fate_check.proofs.CheckTextAndEarlyFrameLaws.{idle_before}
 use Rattle.fate_check.proofs.write_check_lines.write_idle.Given as goal
 
 abbrev pub invariant-loop-member : goal.invariant-loop-member

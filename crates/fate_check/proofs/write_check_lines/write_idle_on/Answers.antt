@@ -10,7 +10,7 @@ use Rattle.law_model.specs.session.ValidScript.{HasFailures}
 use Rattle.text_got.specs.TextSoFar.{HasText}
 use Rattle.fate_check.specs.IdleWindows.{idle_among}
 use Rattle.fate_check.specs.CheckText.{idle_texts}
-use Rattle.fate_check.proofs.CheckTextLaws.{text_of, grown, window-more, one-idle-at-most}
+use Rattle.fate_check.proofs.CheckTextAndEarlyFrameLaws.{text_of, grown, window-more, one-idle-at-most}
 use Rattle.fate_check.proofs.write_check_lines.write_idle_on.Goals as goal
 
 pub windows_of-windows-requires : goal.windows_of-windows-requires

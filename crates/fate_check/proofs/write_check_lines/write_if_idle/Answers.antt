@@ -5,7 +5,7 @@ use Rattle.law_model.specs.Common.{AreWindows, leg_of, scenario_by}
 use Rattle.law_walk.specs.Common.{session_of}
 use Rattle.text_got.specs.TextSoFar.{HasText}
 use Rattle.fate_check.specs.IdleWindows.{is_idle, idle_among}
-use Rattle.fate_check.proofs.CheckTextLaws.{text_of, idle-one, text-none, text-one}
+use Rattle.fate_check.proofs.CheckTextAndEarlyFrameLaws.{text_of, idle-one, text-none, text-one}
 use Rattle.fate_check.proofs.write_check_lines.write_if_idle.Goals as goal
 
 pub is_idle-requires-clause-apart : goal.is_idle-requires-clause-apart

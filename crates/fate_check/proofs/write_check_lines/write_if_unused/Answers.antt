@@ -5,7 +5,7 @@ use Rattle.law_walk.specs.Common.{session_of}
 use Rattle.text_got.specs.TextSoFar.{HasText}
 use Rattle.fate_check.specs.UsedLines.{is_unused, unused_among}
 use Rattle.fate_check.specs.CheckText.{unused_text}
-use Rattle.fate_check.proofs.CheckTextLaws.{filter-one, text-none, text-one}
+use Rattle.fate_check.proofs.CheckTextAndEarlyFrameLaws.{filter-one, text-none, text-one}
 use Rattle.fate_check.proofs.write_check_lines.write_if_unused.Goals as goal
 
 pub returns-then-not-is_unused : goal.returns-then-not-is_unused

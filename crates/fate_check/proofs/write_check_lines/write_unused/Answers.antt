@@ -8,7 +8,7 @@ use Rattle.law_walk.specs.Common.{session_of}
 use Rattle.text_got.specs.TextSoFar.{HasText}
 use Rattle.fate_check.specs.UsedLines.{is_unused, unused_among}
 use Rattle.fate_check.specs.CheckText.{unused_text}
-use Rattle.fate_check.proofs.CheckTextLaws.{grown, unused-more}
+use Rattle.fate_check.proofs.CheckTextAndEarlyFrameLaws.{grown, unused-more}
 use Rattle.fate_check.proofs.write_check_lines.write_unused.Goals as goal
 
 pub loop-member-preserved : goal.loop-member-preserved

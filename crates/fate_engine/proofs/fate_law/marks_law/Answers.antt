@@ -1,5 +1,5 @@
 -- Whether all marks are true is decided.
-use Rattle.fate_engine.proofs.FateLaws.TrueMarkLaws.{marks-starts, starts-marks}
+use Rattle.fate_engine.proofs.TrueMarksLaws.{marks-starts, starts-marks}
 use Rattle.fate_engine.proofs.fate_law.marks_law.Goals as goal
 
 pub returns : goal.returns

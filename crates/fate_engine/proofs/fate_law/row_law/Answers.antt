@@ -1,6 +1,6 @@
 -- Rows and places.
-use Rattle.fate_engine.proofs.FateLaws.FrameLiesInSegmentLaws.{row-of_place, lies-rows, cut-row}
-use Rattle.fate_engine.proofs.FateLaws.FateByRowSpansLaws.{fate-rows}
+use Rattle.fate_engine.proofs.LiesInRowAtLaws.{row-of_place, lies-rows, cut-row}
+use Rattle.fate_engine.proofs.LiesInRowAtLaws.{fate-rows}
 use Rattle.fate_engine.proofs.fate_law.row_law.Goals as goal
 
 pub returns : goal.returns

@@ -4,9 +4,9 @@ use Rattle.std.proofs.lemmas.List.{length-map}
 use Rattle.law_model.specs.Common.{leg_of}
 use Rattle.fate_engine.specs.Common.{Ended}
 use Rattle.fate_walks.specs.walk_fates.MadeWalk.{fates_in}
-use Rattle.fate_walks.proofs.WalkFatesLaws.FateLineLaws.{ended_frame}
+use Rattle.fate_walks.proofs.FatesAndSeenRowsLaws.{ended_frame}
 use Rattle.fate_service.specs.FrameColumns.{offered_frame, AreLanded}
-use Rattle.fate_service.proofs.FrameColumnLaws.{taken-begun, taken-next, taken-few, landed-accepted-few, taken-past}
+use Rattle.fate_service.proofs.LandedTallyTotalsLaws.{taken-begun, taken-next, taken-few, landed-accepted-few, taken-past}
 use Rattle.fate_service.proofs.landed_frames.land_frames.Goals as goal
 
 pub loop-frame-init : goal.loop-frame-init

@@ -1,8 +1,8 @@
 -- What the stretches add up to.
-use Rattle.fate_service.proofs.ServiceLawLaws.SumOfPartsLaws.{span-each}
-use Rattle.fate_service.proofs.ServiceLawLaws.StretchSumLaws.{text-lines, lines-follow, offered-sum, refused-sum, got-sum, lost-sum, capacity-sum}
-use Rattle.fate_service.proofs.ServiceLawLaws.StretchSumLaws.{darkness-sum, delay-most}
-use Rattle.fate_service.proofs.ServiceLawLaws.QueuePeakLaws.{peak-is, queue-highest}
+use Rattle.fate_service.proofs.SumStretchSpansPeakLaws.{span-each}
+use Rattle.fate_service.proofs.SumStretchSpansPeakLaws.{text-lines, lines-follow, offered-sum, refused-sum, got-sum, lost-sum, capacity-sum}
+use Rattle.fate_service.proofs.SumStretchSpansPeakLaws.{darkness-sum, delay-most}
+use Rattle.fate_service.proofs.SumStretchSpansPeakLaws.{peak-is, queue-highest}
 use Rattle.fate_service.proofs.service_law.stretch_law.Goals as goal
 
 pub returns : goal.returns

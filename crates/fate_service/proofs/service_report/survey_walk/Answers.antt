@@ -1,9 +1,9 @@
 -- What is found is that of the walk.
 use Rattle.std.proofs.Common.{length, ◌∙◌, ap, arith}
 use Rattle.law_model.specs.Common.{leg_of}
-use Rattle.fate_walks.proofs.WalkFatesLaws.FateLineLaws.{within}
+use Rattle.fate_walks.proofs.FatesAndSeenRowsLaws.{within}
 use Rattle.fate_service.specs.Outages.{outages_of}
-use Rattle.fate_service.proofs.OutageGrowsLaws.{states-count}
+use Rattle.fate_service.proofs.AreOutagesDarkLaws.{states-count}
 use Rattle.fate_service.proofs.service_report.survey_walk.Goals as goal
 
 pub find_outages-requires : goal.find_outages-requires

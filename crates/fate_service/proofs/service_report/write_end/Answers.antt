@@ -4,7 +4,7 @@ use Rattle.text_got.specs.TextSoFar.{HasText}
 use Rattle.law_model.specs.Common.{leg_of, scenario_by, stream_before}
 use Rattle.law_model.specs.declared.session_totals.Totals.{Totals}
 use Rattle.law_walk.specs.Common.{session_of, session_rows}
-use Rattle.fate_walks.proofs.WalkFatesLaws.FateLineLaws.{starts-are}
+use Rattle.fate_walks.proofs.FatesAndSeenRowsLaws.{starts-are}
 use Rattle.fate_service.specs.ServiceText.{ends_of, last_text}
 use Rattle.fate_service.proofs.ServiceTextLaws.{same-ends}
 use Rattle.fate_service.proofs.service_report.write_end.Goals as goal

@@ -12,7 +12,7 @@ use Rattle.fate_service.specs.declared.landed_frames.CarriedFrame.{CarriedFrame}
 use Rattle.fate_service.specs.FrameColumns.{carried_of}
 use Rattle.fate_service.specs.Outages.{losses, next_first}
 use Rattle.fate_service.specs.ServiceText.{outage_text, outages_text}
-use Rattle.fate_service.proofs.OutageGrowsLaws.{Begins, survey-begins}
+use Rattle.fate_service.proofs.AreOutagesDarkLaws.{Begins, survey-begins}
 use Rattle.fate_service.proofs.ServiceTextLaws.{outage-next, text-more, text-whole}
 use Rattle.fate_service.proofs.service_report.write_outages.Goals as goal
 

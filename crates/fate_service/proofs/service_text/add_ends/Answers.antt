@@ -1,7 +1,7 @@
 -- Text by text.
 use Rattle.std.proofs.Common.{subst}
 use Rattle.text_report.specs.TextCursor.{Extends}
-use Rattle.fate_service.proofs.TextExtendsLaws.{extends-then}
+use Rattle.fate_service.proofs.ServiceTextLaws.{extends-then}
 use Rattle.fate_service.proofs.service_text.add_ends.Goals as goal
 
 pub returns-clause-text : goal.returns-clause-text

@@ -1,5 +1,5 @@
 -- Text by text.
-use Rattle.fate_service.proofs.TextExtendsLaws.{extends-then}
+use Rattle.fate_service.proofs.ServiceTextLaws.{extends-then}
 use Rattle.fate_service.proofs.service_text.add_stretch.Goals as goal
 
 pub returns-clause-text : goal.returns-clause-text

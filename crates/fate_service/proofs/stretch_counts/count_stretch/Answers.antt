@@ -5,14 +5,14 @@ use Rattle.law_model.specs.Common.{leg_of, scenario_by, place_of}
 use Rattle.law_model.specs.declared.session_totals.Totals.{Totals}
 use Rattle.law_walk.specs.Common.{session_of}
 use Rattle.fate_engine.specs.Common.{Ruler}
-use Rattle.fate_walks.proofs.WalkFatesLaws.FateLineLaws.{within, reach}
+use Rattle.fate_walks.proofs.FatesAndSeenRowsLaws.{within, reach}
 use Rattle.fate_service.specs.declared.landed_frames.OfferedFrame.{OfferedFrame}
 use Rattle.fate_service.specs.declared.landed_frames.CarriedFrame.{CarriedFrame}
 use Rattle.fate_service.specs.Stretches.{came_in, ended_in, capacity_in, queue_in, peak_in, dark_in}
 use Rattle.fate_service.specs.ServiceText.{known_of}
-use Rattle.fate_service.proofs.FramesAtMostLaws.{offered-count, accepted-count, carried-count}
-use Rattle.fate_service.proofs.FramesInOrderLaws.{offered-ordered, accepted-ordered, last-ordered}
-use Rattle.fate_service.proofs.OutageGrowsLaws.{states-count}
+use Rattle.fate_service.proofs.LandedTallyTotalsLaws.{offered-count, accepted-count, carried-count}
+use Rattle.fate_service.proofs.RisesChainsPointLaws.{offered-ordered, accepted-ordered, last-ordered}
+use Rattle.fate_service.proofs.AreOutagesDarkLaws.{states-count}
 use Rattle.fate_service.proofs.ServiceTextLaws.{same-stretch}
 use Rattle.fate_service.proofs.stretch_counts.count_stretch.Goals as goal
 

@@ -1,5 +1,5 @@
 -- By the laws of the frames and of the headers.
-use Rattle.fate_walks.proofs.WalkGfpLaws.CarriedHeaderLaws.{frames-carried, header-sent}
+use Rattle.fate_walks.proofs.AcceptedAndCarriedFrameLaws.{frames-carried, header-sent}
 use Rattle.fate_walks.proofs.walk_gfp.carried_law.Goals as goal
 
 pub returns : goal.returns

@@ -1,5 +1,5 @@
 -- What of each channel is begun, carried and delivered.
-use Rattle.gfp_channels.proofs.ChannelLaws.ChannelDeliveryLaws.{begun-first, carried-take, delivered-all, delivered-take, delivered-kept}
+use Rattle.gfp_channels.proofs.ChannelDeliveryLaws.{begun-first, carried-take, delivered-all, delivered-take, delivered-kept}
 use Rattle.gfp_channels.proofs.channel_law.channel_law.Goals as goal
 
 pub returns-clause-begun : goal.returns-clause-begun

@@ -1,5 +1,5 @@
 -- What is delivered of each channel.
-use Rattle.gfp_channels.proofs.ChannelLinkLaws.PlanDeliveryLaws.{plan-carried, plan-uncut, plan-kept}
+use Rattle.gfp_channels.proofs.ChannelPlanDraftLaws.{plan-carried, plan-uncut, plan-kept}
 use Rattle.gfp_channels.proofs.channel_link.plan_law.Goals as goal
 
 pub returns-clause-carried : goal.returns-clause-carried

@@ -1,5 +1,5 @@
 -- By the lines of the text, and what is delivered of each channel.
-use Rattle.gfp_channels.proofs.ChannelLinkLaws.SaidPlanLaws.{valid_plan, plan_report}
+use Rattle.gfp_channels.proofs.ChannelPlanDraftLaws.{valid_plan, plan_report}
 use Rattle.gfp_channels.proofs.channel_link.text_law.Goals as goal
 
 pub returns-clause-valid : goal.returns-clause-valid

@@ -3,7 +3,7 @@ use Rattle.std.proofs.Common.{length, refl, arith, le-leb, le-ltb}
 use Rattle.std.proofs.lemmas.Bool.{lt-leb, lt-ltb}
 use Rattle.law_model.specs.Limits.{shortest_frame, longest_frame}
 use Rattle.gfp_model.specs.linear_model.Channels.{waiting_of}
-use Rattle.gfp_channels.proofs.GfpLinearLaws.BusyChannelLaws.{accepted}
+use Rattle.gfp_channels.proofs.BusyChannelTurnLaws.{accepted}
 use Rattle.gfp_channels.proofs.gfp_linear.refusal_law.Goals as goal
 
 pub returns-clause-unknown : goal.returns-clause-unknown

@@ -2,7 +2,7 @@
 use Rattle.std.proofs.Common.{◌≡◌, ◌-◌, ◌<◌, ℕ, List, length, take, drop, sym, ◌∙◌, ap, arith, length-drop, length-take}
 use Rattle.std.proofs.lemmas.List.{take_all}
 use Rattle.std.proofs.lemmas.Slice.Eq.{bytes_eq-Decides}
-use Rattle.law_model.proofs.IdleHeadersLaws.{idle_header}
+use Rattle.law_model.proofs.CoreHeaderLaws.{idle_header}
 use Rattle.gfp_delineate.proofs.idle_runs.begins_idle.Goals as goal
 
 -- what came is compared with as many octets of a header

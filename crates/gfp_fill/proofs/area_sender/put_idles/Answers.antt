@@ -1,7 +1,7 @@
 -- Sixteen more idles, and at last those that are left.
 use Rattle.std.proofs.Common.{◌≡◌, ℕ, ◌+◌, ◌*◌, ◌/◌, ◌%◌, take, length, ap, ◌∙◌, subst, arith, length-take-le}
-use Rattle.law_model.proofs.IdleHeadersLaws.{idles}
-use Rattle.gfp_fill.proofs.IdleFrameLaws.{repeated, idles-sixteen, idles-rest}
+use Rattle.law_model.proofs.CoreHeaderLaws.{idles}
+use Rattle.gfp_fill.proofs.IdlesAndNextPiecesLaws.{repeated, idles-sixteen, idles-rest}
 use Rattle.gfp_fill.proofs.area_sender.put_idles.Goals as goal
 
 pub loop-i-preserved : goal.loop-i-preserved

@@ -1,7 +1,7 @@
 -- The word has the PLI above its check, under the mask.
 use Rattle.std.proofs.Common.{rules, ◌≡◌, ◌+◌, ◌*◌, ◌^◌, bit_xor, w32, ap₂, ◌∙◌}
 use Rattle.std.specs.Int.{to_be_bytes}
-use Rattle.law_model.proofs.HeaderAsWordLaws.{written}
+use Rattle.law_model.proofs.CoreHeaderLaws.{written}
 use Rattle.gfp_headers.proofs.core_header.core_bytes.Goals as goal
 
 pub returns : goal.returns

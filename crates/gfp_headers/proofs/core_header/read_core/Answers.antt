@@ -3,7 +3,7 @@ use Rattle.std.proofs.Common.{sym, ap, ◌∙◌}
 use Rattle.std.proofs.lemmas.Nat.{be_bytes_4}
 use Rattle.law_model.specs.Common.{head}
 use Rattle.law_model.proofs.CoreHeaderLaws.{head-core_header}
-use Rattle.law_model.proofs.HeaderAsWordLaws.{header_read, no_other, no_head}
+use Rattle.law_model.proofs.CoreHeaderLaws.{header_read, no_other, no_head}
 use Rattle.gfp_headers.proofs.core_header.read_core.Goals as goal
 
 pub returns-then-is_core-clause-some : goal.returns-then-is_core-clause-some

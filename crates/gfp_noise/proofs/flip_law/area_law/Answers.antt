@@ -1,8 +1,8 @@
 -- The one type header without a fault, an area as it is sent, and one that flips have changed.
 use Rattle.std.proofs.Common.{ap, ◌∙◌}
 use Rattle.gfp_model.specs.fcs_model.Fcs.{fcs_type_fault}
-use Rattle.gfp_noise.proofs.FlipLaws.FcsTypeHeaderLaws.{fcs_header_right, fcs_type_fault-right}
-use Rattle.gfp_noise.proofs.FlipLaws.FlippedAreaLaws.{fcs_area-delivered, fcs_area-dropped}
+use Rattle.gfp_noise.proofs.FlippedFcsAreaLaws.{fcs_header_right, fcs_type_fault-right}
+use Rattle.gfp_noise.proofs.FlippedFcsAreaLaws.{fcs_area-delivered, fcs_area-dropped}
 use Rattle.gfp_noise.proofs.flip_law.area_law.Goals as goal
 
 pub returns-clause-header : goal.returns-clause-header

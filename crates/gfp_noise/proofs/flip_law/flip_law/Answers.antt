@@ -1,5 +1,5 @@
 -- The frames that are delivered are those whose window is clear.
-use Rattle.gfp_noise.proofs.FlipLaws.FlippedStreamLaws.{delivered-clear}
+use Rattle.gfp_noise.proofs.FlippedFcsStreamLaws.{delivered-clear}
 use Rattle.gfp_noise.proofs.flip_law.flip_law.Goals as goal
 
 pub returns : goal.returns

@@ -7,7 +7,7 @@ use Rattle.std.proofs.lemmas.Bool.{and_parts}
 use Rattle.law_model.specs.Common.{count}
 use Rattle.gfp_noise.specs.flip_law.FlippedStream.{fcs_stream, IsFrame, area_flips, flips_after, window, AreFew, clear}
 use Rattle.gfp_noise.specs.flip_law.FlippedStream.{worked_frames, one_flip}
-use Rattle.gfp_noise.proofs.FlipLaws.FlippedStreamLaws.{sizes, length-fcs_stream, delivered-clear}
+use Rattle.gfp_noise.proofs.FlippedFcsStreamLaws.{sizes, length-fcs_stream, delivered-clear}
 use Rattle.gfp_noise.proofs.flip_law.worked_law.Goals as goal
 
 -- the premise on flips, as a test

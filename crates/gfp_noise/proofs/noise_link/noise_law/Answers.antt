@@ -1,6 +1,6 @@
 -- The law of flips by places.
 use Rattle.std.proofs.Common.{refl}
-use Rattle.gfp_noise.proofs.FlipLaws.FlippedStreamLaws.{delivered-places}
+use Rattle.gfp_noise.proofs.FlippedFcsStreamLaws.{delivered-places}
 use Rattle.gfp_noise.specs.noise_link.NoiseReportText.{flip_bits}
 use Rattle.gfp_noise.proofs.noise_link.noise_law.Goals as goal
 

@@ -1,5 +1,5 @@
 -- By the lines of the text, and the law of flips by places.
-use Rattle.gfp_noise.proofs.NoiseLinkLaws.SaidNoiseLaws.{valid_noise, single_written}
+use Rattle.gfp_noise.proofs.NoiseDraftLaws.{valid_noise, single_written}
 use Rattle.gfp_noise.proofs.noise_link.text_law.Goals as goal
 
 pub returns-clause-valid : goal.returns-clause-valid

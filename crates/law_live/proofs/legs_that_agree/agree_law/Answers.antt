@@ -1,8 +1,8 @@
 -- By each saying alone.
 use Rattle.law_live.specs.Common.{live_of}
-use Rattle.law_live.proofs.ConversationInLegLaws.{agrees-begin, agrees-before}
-use Rattle.law_live.proofs.AgreeingLegsLaws.{agrees-own}
-use Rattle.law_live.proofs.ClosedWindowsLaws.{closed-below}
+use Rattle.law_live.proofs.AgreesLiveCountsLaws.{agrees-begin, agrees-before}
+use Rattle.law_live.proofs.AgreesLiveCountsLaws.{agrees-own}
+use Rattle.law_live.proofs.WellSaidRightWindowsLaws.{closed-below}
 use Rattle.law_live.proofs.legs_that_agree.agree_law.Goals as goal
 
 pub returns-clause-own : goal.returns-clause-own

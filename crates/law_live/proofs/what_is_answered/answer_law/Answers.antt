@@ -1,5 +1,5 @@
 -- By rounds, and by sayings.
-use Rattle.law_live.proofs.ConversationInLegLaws.{agrees-refused, agrees-times, answers-got, answers-steps, answers-times}
+use Rattle.law_live.proofs.AgreesLiveCountsLaws.{agrees-refused, agrees-times, answers-got, answers-steps, answers-times}
 use Rattle.law_live.proofs.what_is_answered.answer_law.Goals as goal
 
 pub returns-clause-got : goal.returns-clause-got

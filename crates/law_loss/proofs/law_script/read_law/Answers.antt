@@ -1,6 +1,6 @@
 -- Each fact of what a sound leg meets.
 use Rattle.std.proofs.Common.{arith}
-use Rattle.law_loss.proofs.LawScriptLaws.ItemDueTicksLaws.{orders_rise, offers_rise, are_octets}
+use Rattle.law_loss.proofs.ItemDueTicksLaws.{orders_rise, offers_rise, are_octets}
 use Rattle.law_loss.proofs.law_script.read_law.Goals as goal
 
 pub returns-clause-limits : goal.returns-clause-limits

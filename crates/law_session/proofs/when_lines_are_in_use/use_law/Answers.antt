@@ -1,5 +1,5 @@
 -- How soon a line that is added is in use.
-use Rattle.law_session.proofs.HowSoonInUseLaws.{undamaged, among_silent}
+use Rattle.law_session.proofs.LineBroughtForwardLaws.{undamaged, among_silent}
 use Rattle.law_session.proofs.when_lines_are_in_use.use_law.Goals as goal
 
 pub returns-clause-undamaged : goal.returns-clause-undamaged

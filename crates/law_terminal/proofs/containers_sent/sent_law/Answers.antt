@@ -1,7 +1,7 @@
 -- The containers of a session.
-use Rattle.law_terminal.proofs.ContainersSentLaws.{sent-packet, are-sent, packet-nibbles}
-use Rattle.law_terminal.proofs.DealtPayloadLaws.{payload-size, dealt-row, container-same}
-use Rattle.law_terminal.proofs.PayloadOctetsLaws.{payload-octets}
+use Rattle.law_terminal.proofs.ContainerPayloadLaws.{sent-packet, are-sent, packet-nibbles}
+use Rattle.law_terminal.proofs.ContainerPayloadLaws.{payload-size, dealt-row, container-same}
+use Rattle.law_terminal.proofs.ContainerPayloadLaws.{payload-octets}
 use Rattle.law_terminal.proofs.containers_sent.sent_law.Goals as goal
 
 pub returns : goal.returns

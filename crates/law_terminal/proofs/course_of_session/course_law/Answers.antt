@@ -1,7 +1,7 @@
 -- A course is the session's.
-use Rattle.law_terminal.proofs.CourseReturnCellsLaws.{course-returns}
-use Rattle.law_terminal.proofs.CourseBySessionCellsLaws.{course-containers, course-come, course-rows, course-carriers, course-cell}
-use Rattle.law_terminal.proofs.CourseBySessionCellsLaws.{course-packet}
+use Rattle.law_terminal.proofs.IsCourseAgreeLaws.{course-returns}
+use Rattle.law_terminal.proofs.IsCourseAgreeLaws.{course-containers, course-come, course-rows, course-carriers, course-cell}
+use Rattle.law_terminal.proofs.IsCourseAgreeLaws.{course-packet}
 use Rattle.law_terminal.proofs.course_of_session.course_law.Goals as goal
 
 pub returns : goal.returns

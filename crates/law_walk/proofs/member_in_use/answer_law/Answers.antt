@@ -1,9 +1,9 @@
 -- What a return packet answers.
 use Rattle.std.proofs.Common.{◌<◌, arith}
 use Rattle.law_model.specs.Common.{Scenario, scenario_by, packets, session_cells}
-use Rattle.law_session.proofs.ReturnCellsAgreeLaws.{session-law, session-kept}
-use Rattle.law_session.proofs.FeedbackOfCountsLaws.{feedback, same_lines}
-use Rattle.law_session.proofs.StatusActedOnLaws.{acts_on}
+use Rattle.law_session.proofs.CellsSaidStatusKeptLaws.{session-law, session-kept}
+use Rattle.law_session.proofs.CellsSaidStatusKeptLaws.{feedback, same_lines}
+use Rattle.law_session.proofs.FreshStatusGoesOutLaws.{acts_on}
 use Rattle.law_walk.proofs.member_in_use.answer_law.Goals as goal
 
 pub returns-clause-whole_count : goal.returns-clause-whole_count

@@ -2,7 +2,7 @@
 use Rattle.std.proofs.Common.{◌*◌, ◌∙◌, ap}
 use Rattle.terminal_group.specs.ReturnInbox.{empty_inbox}
 use Rattle.law_pair.specs.Common.{way_of}
-use Rattle.pair_engine.proofs.NewWayLaws.{way-alike}
+use Rattle.pair_engine.proofs.PairEventAndRoundLaws.{way-alike}
 use Rattle.pair_engine.proofs.pair_way.open_core.Goals as goal
 
 pub returns-clause-core : goal.returns-clause-core

@@ -3,7 +3,7 @@ use Rattle.std.proofs.Common.{sym, ◌∙◌, ap, ap₂}
 use Rattle.law_pair.specs.Common.{first_way, missing_at}
 use Rattle.pair_engine.specs.declared.pair_way.PairWay.{PairWay}
 use Rattle.pair_engine.specs.Ways.{way_counts}
-use Rattle.pair_engine.proofs.PairAnswerLaws.{cause-here, cause-later}
+use Rattle.pair_engine.proofs.PairEventAndRoundLaws.{cause-here, cause-later}
 use Rattle.pair_engine.proofs.ways_meet.tick_stall.Goals as goal
 
 pub returns-in-Some : goal.returns-in-Some

@@ -3,7 +3,7 @@ use Rattle.std.proofs.Common.{◌∙◌}
 use Rattle.law_walk.specs.Common.{report_of}
 use Rattle.law_pair.specs.Common.{counts_on}
 use Rattle.pair_engine.specs.PairAfterEvent.{leg_on}
-use Rattle.pair_walk.proofs.PairReportEndLaws.{rest-lines}
+use Rattle.pair_walk.proofs.PairReportRowsLaws.{rest-lines}
 use Rattle.pair_walk.proofs.pair_report.end_way.Goals as goal
 
 pub returns : goal.returns

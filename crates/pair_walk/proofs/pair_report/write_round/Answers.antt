@@ -4,9 +4,9 @@ use Rattle.law_pair.specs.Common.{PairPlan, pair_step}
 use Rattle.law_pair.specs.declared.pair_events.Way.TheVariants.{There, Back}
 use Rattle.law_pair.specs.declared.pair_events.PairEvent.TheVariants.{Take}
 use Rattle.pair_engine.specs.PairAfterEvent.{Paired, plan_of, with_counts}
-use Rattle.pair_engine.proofs.PairRoundLaws.{keeps, same-plan, round-rows}
-use Rattle.pair_walk.proofs.RowsOfRoundLaws.{few-same, few-take, more-take, same-more, more-then}
-use Rattle.pair_walk.proofs.RowsOfRoundLaws.{gives-still, gives-row}
+use Rattle.pair_engine.proofs.PairEventAndRoundLaws.{keeps, same-plan, round-rows}
+use Rattle.pair_walk.proofs.PairReportRowsLaws.{few-same, few-take, more-take, same-more, more-then}
+use Rattle.pair_walk.proofs.PairReportRowsLaws.{gives-still, gives-row}
 use Rattle.pair_walk.proofs.pair_report.write_round.Goals as goal
 
 -- ---- a write of the way there has failed

@@ -1,5 +1,5 @@
 -- The lanes of two vectors, taken apart.
-use Rattle.text_hex.proofs.DigitPairSteps.{first_column, second_column}
+use Rattle.text_hex.proofs.HexDigitLanesLaws.{first_column, second_column}
 use Rattle.text_hex.proofs.decoding.columns.Goals as goal
 
 pub returns-clause-upper : goal.returns-clause-upper

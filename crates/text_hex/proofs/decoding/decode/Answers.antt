@@ -1,7 +1,7 @@
 -- One pair more is read, or sixteen.
 use Rattle.std.proofs.Common.{◌≡◌, ℕ, ◌+◌, ◌-◌, ◌*◌, ◌%◌, List, length, drop, length-take, length-drop, ◌∙◌, arith}
 use Rattle.hex.proofs.HexLemmas.{decode_of-even}
-use Rattle.text_hex.proofs.DigitPairSteps.{pair_read, sixteen_read, all_read, other_refused}
+use Rattle.text_hex.proofs.HexDigitLanesLaws.{pair_read, sixteen_read, all_read, other_refused}
 use Rattle.text_hex.proofs.decoding.decode.Goals as goal
 
 pub returns-clause-yes : goal.returns-clause-yes

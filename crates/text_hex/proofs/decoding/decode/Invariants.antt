@@ -1,6 +1,6 @@
 -- The octets of the pairs so far are written, if all were digits; else one wasn't.
 use Rattle.std.proofs.Common.{◌≤◌, ◌-◌, length}
-use Rattle.text_hex.proofs.DigitPairSteps.{AreRead}
+use Rattle.text_hex.proofs.HexDigitLanesLaws.{AreRead}
 use Rattle.text_hex.proofs.decoding.decode.Given as goal
 
 abbrev pub invariant-loop-done : goal.invariant-loop-done

@@ -1,6 +1,6 @@
 -- The octets that were decoded stand after those before.
 use Rattle.std.proofs.Common.{◌≡◌, ◌+◌, ◌-◌, ◌/◌, ◌++◌, length, take, replicate, sym, ap, ◌∙◌, arith, take_all}
-use Rattle.text_hex.proofs.DigitPairSteps.{written_after}
+use Rattle.text_hex.proofs.HexDigitLanesLaws.{written_after}
 use Rattle.text_hex.proofs.decoding.decode_into.Goals as goal
 
 pub returns-then-decode-clause-ok : goal.returns-then-decode-clause-ok

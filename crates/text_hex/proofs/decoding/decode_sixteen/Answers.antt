@@ -2,7 +2,7 @@
 use Rattle.std.proofs.Common.{◌≡◌, inl, inr, ℕ, ◌+◌, ◌*◌, ◌/◌, ◌%◌, ◌<◌, List, slice_index, Some, sym, ap, ◌∙◌, arith}
 use Rattle.std.proofs.lemmas.Simd.{put_chunk_whole}
 use Rattle.hex.specs.Hex.{hex_digit_value, is_hex_digit}
-use Rattle.text_hex.proofs.DigitLanesLaws.{digit_from, other_from}
+use Rattle.text_hex.proofs.HexDigitLanesLaws.{digit_from, other_from}
 use Rattle.text_hex.proofs.decoding.decode_sixteen.Goals as goal
 use lib.Lanes.{put_chunk}
 

@@ -1,6 +1,6 @@
 -- Each lane of two values.
 use Rattle.std.proofs.Common.{◌≡◌, ◌+◌, ◌*◌, ◌%◌, slice_index, ◌∙◌, arith}
-use Rattle.text_hex.proofs.DigitLanesLaws.{two_lane, two_long}
+use Rattle.text_hex.proofs.HexDigitLanesLaws.{two_lane, two_long}
 use Rattle.text_hex.proofs.decoding.joined.Goals as goal
 
 pub returns-clause-octets : goal.returns-clause-octets

@@ -1,5 +1,5 @@
 -- Whether a lane is above fifteen.
-use Rattle.text_hex.proofs.DigitLanesLaws.{both_small, one_large}
+use Rattle.text_hex.proofs.HexDigitLanesLaws.{both_small, one_large}
 use Rattle.text_hex.proofs.digits.are_digits.Goals as goal
 
 pub returns-clause-upper : goal.returns-clause-upper

@@ -1,5 +1,5 @@
 -- The tests agree, for each of the 256 characters.
-use Rattle.text_hex.proofs.HexDigitLaws.{digit_between}
+use Rattle.text_hex.proofs.HexDigitLanesLaws.{digit_between}
 use Rattle.text_hex.proofs.digits.is_digit.Goals as goal
 
 pub returns : goal.returns

@@ -1,7 +1,7 @@
 -- Each lane by the same steps, which are tried on all characters.
 use Rattle.std.proofs.Common.{ℕ, List, refl}
 use Rattle.std.proofs.lemmas.Simd.{zip2_splat, splat_is_map, zip2_of_maps}
-use Rattle.text_hex.proofs.DigitLanesLaws.{chosen, all_values}
+use Rattle.text_hex.proofs.HexDigitLanesLaws.{chosen, all_values}
 use Rattle.text_hex.proofs.digits.values.Goals as goal
 
 pub returns : goal.returns

@@ -2,7 +2,7 @@
 use Rattle.std.proofs.Common.{◌≡◌, ℕ, ◌-◌, ◌*◌, ◌/◌, List, ◌++◌, length, take, drop, sym, ◌∙◌, ap, ap₂, arith}
 use Rattle.std.proofs.Common.{length-drop, take_all, take-append-drop}
 use Rattle.hex.specs.Hex.{encode_lower, lower_digits}
-use Rattle.text_hex.proofs.SixteenOctetsLaws.{encode-append}
+use Rattle.text_hex.proofs.HexDigitLanesLaws.{encode-append}
 use Rattle.text_hex.proofs.encoding.encode.Goals as goal
 
 pub returns : goal.returns

@@ -2,7 +2,7 @@
 use Rattle.std.proofs.Common.{◌≡◌, ℕ, ◌+◌, ◌/◌, ◌%◌, ◌<◌, ◌++◌, List, take, drop, slice_index, ◌∙◌, ap, ap₂, arith}
 use Rattle.std.proofs.lemmas.Simd.{put_chunk_whole, get_or-chunk}
 use Rattle.hex.specs.Hex.{lower_digits}
-use Rattle.text_hex.proofs.SixteenOctetsLaws.{front_lanes, back_lanes, is-text}
+use Rattle.text_hex.proofs.HexDigitLanesLaws.{front_lanes, back_lanes, is-text}
 use Rattle.text_hex.proofs.encoding.encode_sixteen.Goals as goal
 
 lane : (octets : List ℕ) (k : ℕ) → k < 16 → slice_index (take 16 (drop 0 octets)) k ≡ slice_index octets k

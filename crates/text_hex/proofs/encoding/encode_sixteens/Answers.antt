@@ -3,7 +3,7 @@ use Rattle.std.proofs.Common.{◌≡◌, ℕ, ◌+◌, ◌-◌, ◌*◌, List, �
 use Rattle.std.proofs.Common.{length-take, length-drop, take-add, take_all}
 use Rattle.std.proofs.lemmas.Slice.{take-put_mid}
 use Rattle.hex.specs.Hex.{encode_with, encode_lower, lower_digits}
-use Rattle.text_hex.proofs.SixteenOctetsLaws.{encode-append}
+use Rattle.text_hex.proofs.HexDigitLanesLaws.{encode-append}
 use Rattle.text_hex.proofs.encoding.encode_sixteens.Goals as goal
 
 pub loop-i-init : goal.loop-i-init

@@ -1,6 +1,6 @@
 -- By what is kept of the lines one after another.
-use Rattle.text_live.proofs.LiveLaws.SayingsCanHappenLaws.{less_fine, leg_live, lines_agree, more_fine, said_next, sayings_next}
-use Rattle.text_live.proofs.LiveLaws.SayingsCanHappenLaws.{script_live}
+use Rattle.text_live.proofs.LiveScriptSayingsLaws.{less_fine, leg_live, lines_agree, more_fine, said_next, sayings_next}
+use Rattle.text_live.proofs.LiveScriptSayingsLaws.{script_live}
 use Rattle.text_live.proofs.live_laws.said_law.Goals as goal
 
 pub returns-clause-agrees : goal.returns-clause-agrees

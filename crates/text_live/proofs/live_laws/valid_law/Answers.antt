@@ -1,5 +1,5 @@
 -- By the lines one after another.
-use Rattle.text_live.proofs.LiveLaws.LiveScriptValidLaws.{valid_live, few_lost_live}
+use Rattle.text_live.proofs.LiveScriptSayingsLaws.{valid_live, few_lost_live}
 use Rattle.text_live.proofs.live_laws.valid_law.Goals as goal
 
 pub returns-clause-valid : goal.returns-clause-valid

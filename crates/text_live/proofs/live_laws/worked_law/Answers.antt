@@ -1,5 +1,5 @@
 -- By computation.
-use Rattle.text_live.proofs.LiveLaws.WorkedLiveTextLaws.{cut_worked, frame_worked, refused_worked}
+use Rattle.text_live.proofs.LiveScriptSayingsLaws.{cut_worked, frame_worked, refused_worked}
 use Rattle.text_live.proofs.live_laws.worked_law.Goals as goal
 
 pub returns-clause-frame : goal.returns-clause-frame

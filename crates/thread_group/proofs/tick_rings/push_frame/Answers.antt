@@ -6,7 +6,7 @@ use Rattle.std.proofs.lemmas.Option.{slice_get_read, slice_get_within, slice_get
 use Rattle.std.specs.Global.{Box}
 use Rattle.law_model.specs.Common.{Container}
 use Rattle.member_cells.specs.HeldPlaces.{held}
-use Rattle.member_rows.proofs.RealignRowsLaws.RowGatherLaws.{set-here, set-other}
+use Rattle.member_rows.proofs.RowGatherLinesLaws.{set-here, set-other}
 use Rattle.thread_rings.specs.EndsOfRing.{OutEnd, out_passed}
 use Rattle.thread_group.specs.GroupRings.{IsPushed}
 use Rattle.thread_group.proofs.tick_rings.push_frame.Goals as goal

@@ -1,8 +1,8 @@
 -- By the course of a conversation, line by line.
-use Rattle.walk_live.proofs.LiveLaws.ConversationCourseLaws.{course_spoken}
-use Rattle.walk_live.proofs.LiveLaws.LiveHeadlineLaws.{live_headline}
-use Rattle.walk_live.proofs.LiveLaws.AnsweredLinesGrowLaws.{answered_grows}
-use Rattle.walk_live.proofs.LiveLaws.ScriptOfLinesLaws.{walk_of}
+use Rattle.walk_live.proofs.AnsweredLinesHeadlineLaws.{course_spoken}
+use Rattle.walk_live.proofs.AnsweredLinesHeadlineLaws.{live_headline}
+use Rattle.walk_live.proofs.AnsweredLinesHeadlineLaws.{answered_grows}
+use Rattle.walk_live.proofs.AnsweredLinesHeadlineLaws.{walk_of}
 use Rattle.walk_live.proofs.live_laws.live_law.Goals as goal
 
 pub returns : goal.returns

@@ -1,5 +1,5 @@
 -- An octet that ends a packet writes its line, and every other one writes nothing.
-use Rattle.command_walk.proofs.DecodedPacketLinesLaws.{none_more, one_more, one_part}
+use Rattle.command_walk.proofs.H4TextAndPacketsLaws.{none_more, one_more, one_part_decoded as one_part}
 use Rattle.command_walk.proofs.commands.decode.take_h4.Goals as goal
 
 pub returns-in_default-clause-ok : goal.returns-in_default-clause-ok

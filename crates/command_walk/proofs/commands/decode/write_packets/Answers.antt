@@ -3,7 +3,7 @@ use Rattle.std.proofs.Common.{arith, List, ℕ, ◌+◌, take, subst}
 use Rattle.std.proofs.lemmas.Result.{on_ok_weaker, on_err_weaker}
 use Rattle.text_captures.specs.packet_trace.Decoder.{DecoderStands}
 use Rattle.command_walk.specs.DecodingSoFar.{HasLines}
-use Rattle.command_walk.proofs.DecodedPacketLinesLaws.{no_lines, one_h4, all_decoded, end_part, stopped_at}
+use Rattle.command_walk.proofs.H4TextAndPacketsLaws.{no_lines, one_h4, all_decoded, end_part, stopped_at}
 use Rattle.command_walk.proofs.commands.decode.write_packets.Goals as goal
 
 pub loop-h4-init : goal.loop-h4-init

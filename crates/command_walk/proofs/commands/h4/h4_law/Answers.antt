@@ -2,9 +2,9 @@
 use Rattle.std.proofs.Common.{ap}
 use Rattle.command_walk.specs.commands.Decode.{decoded}
 use Rattle.command_walk.specs.commands.H4.{h4_octets}
-use Rattle.command_walk.proofs.H4OctetsSentLaws.{octet, packet, lower-half, packet-read, octets-small}
-use Rattle.command_walk.proofs.H4PacketsDecodedLaws.{packets-all}
-use Rattle.command_walk.proofs.H4TextReadBackLaws.{text-read}
+use Rattle.command_walk.proofs.H4TextAndPacketsLaws.{octet, packet, lower-half, packet-read, octets-small}
+use Rattle.command_walk.proofs.H4TextAndPacketsLaws.{packets-all}
+use Rattle.command_walk.proofs.H4TextAndPacketsLaws.{text-read}
 use Rattle.command_walk.proofs.commands.h4.h4_law.Goals as goal
 
 pub returns-clause-reads : goal.returns-clause-reads

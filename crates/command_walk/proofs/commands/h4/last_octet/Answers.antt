@@ -3,7 +3,7 @@ use Rattle.std.proofs.Common.{◌≡◌, ◌-◌, ◌*◌, ◌+◌, ◌%◌, ◌
 use Rattle.law_model.specs.Common.{leg_of, Table, forward_packet, packet_nibbles, steps_in}
 use Rattle.law_model.specs.declared.session_totals.Totals.{Totals}
 use Rattle.law_walk.specs.Common.{table_in}
-use Rattle.command_walk.proofs.H4OctetsSentLaws.{last-later, nibble-small}
+use Rattle.command_walk.proofs.H4TextAndPacketsLaws.{last-later, nibble-small}
 use Rattle.command_walk.proofs.commands.h4.last_octet.Goals as goal
 use Rattle.command_walk.proofs.commands.h4.last_octet.Goals.{After-nibbles-nibbles}
 

@@ -3,7 +3,7 @@ use Rattle.std.proofs.Common.{◌≡◌, ◌+◌, ◌++◌, [], ◌∷◌, sym, 
 use Rattle.law_model.specs.declared.script_types.Script.{Script}
 use Rattle.law_model.specs.declared.session_totals.Totals.{Totals}
 use Rattle.command_walk.specs.commands.H4.{h4_octets}
-use Rattle.command_walk.proofs.H4OctetsSentLaws.{octets-more}
+use Rattle.command_walk.proofs.H4TextAndPacketsLaws.{octets-more}
 use Rattle.command_walk.proofs.commands.h4.send_turn.Goals as goal
 
 pub returns-in_ok-push-clause-octets : goal.returns-in_ok-push-clause-octets

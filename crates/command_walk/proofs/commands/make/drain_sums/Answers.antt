@@ -1,11 +1,11 @@
 -- All rows are summed up.
 use Rattle.std.proofs.Common.{[], sym, ◌∙◌, ap, subst, arith, rules}
-use Rattle.pair_walk.proofs.PairReportEndLaws.{since-begin}
+use Rattle.pair_walk.proofs.PairReportRowsLaws.{since-begin}
 use Rattle.law_model.specs.Common.{leg_of, Counts}
 use Rattle.law_walk.specs.Common.{delivered_of}
 use Rattle.law_walk.specs.DeliveredFrames.{delivered_since}
 use Rattle.command_walk.specs.commands.Make.{octet_count, octet_sum, HasSummed}
-use Rattle.command_walk.proofs.SummedFramesLaws.{summed-none, count-exact, sum-exact}
+use Rattle.command_walk.proofs.TakenAndSummedFramesLaws.{summed-none, count-exact, sum-exact}
 use Rattle.command_walk.proofs.commands.make.drain_sums.Goals as goal
 
 pub returns : goal.returns

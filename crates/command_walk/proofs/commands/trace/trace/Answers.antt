@@ -4,9 +4,9 @@ use Rattle.law_model.specs.declared.script_types.Script.{Script}
 use Rattle.law_headline.specs.WalkTexts.{walk_text}
 use Rattle.command_walk.specs.commands.Trace.{trace_text}
 use Rattle.command_parts.specs.Common.{Answer, writes_both}
-use Rattle.command_parts.proofs.TextStopsCommandLaws.{meets-script}
-use Rattle.command_walk.proofs.RoomsAndHeadlinesLaws.{hands-script}
-use Rattle.command_walk.proofs.RoomsAndHeadlinesLaws.{both-ok}
+use Rattle.command_parts.proofs.SourceReadingStopsLaws.{meets-script}
+use Rattle.command_walk.proofs.CommandAnswersAndEndsLaws.{hands-script}
+use Rattle.command_walk.proofs.CommandAnswersAndEndsLaws.{both-ok}
 use Rattle.command_walk.proofs.commands.trace.trace.Goals as goal
 
 abbrev answer : Script → Answer

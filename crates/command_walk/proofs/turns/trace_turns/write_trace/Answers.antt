@@ -1,7 +1,7 @@
 -- The walk is traced to its end, or up to the first write that fails.
 use Rattle.std.proofs.Common.{rules, inl, sym, ◌∙◌, OnErr}
 use Rattle.std.proofs.lemmas.Result.{on_err_weaker}
-use Rattle.pair_walk.proofs.PairReportEndLaws.{appends-all}
+use Rattle.pair_walk.proofs.PairReportRowsLaws.{appends-all}
 use Rattle.law_model.specs.Common.{leg_of, Start}
 use Rattle.text_report.specs.ReportLines.{got_texts}
 use Rattle.text_got.specs.TextSoFar.{name_of, start_at}
@@ -9,8 +9,8 @@ use Rattle.law_walk.specs.Common.{delivered_of}
 use Rattle.command_walk.specs.HandedWalk.{StopsBoth}
 use Rattle.law_headline.specs.WalkTexts.{walk_text}
 use Rattle.command_walk.specs.commands.Trace.{trace_text}
-use Rattle.command_walk.proofs.TracedWalkToldLaws.{on-ok}
-use Rattle.command_walk.proofs.TracedWalkEndLaws.{begun-told, part-told, whole-told, trace-told}
+use Rattle.command_walk.proofs.TracedWalkCountsLaws.{on-ok}
+use Rattle.command_walk.proofs.TracedWalkCountsLaws.{begun-told, part-told, whole-told, trace-told}
 use Rattle.command_walk.proofs.turns.trace_turns.write_trace.Goals as goal
 
 pub returns-then-trace_event_lines-clause-err : goal.returns-then-trace_event_lines-clause-err

@@ -3,7 +3,7 @@ use Rattle.std.proofs.Common.{◌≡◌, ◌+◌, ◌≤◌, ◌&&◌, true, fal
 use Rattle.std.specs.List.{list_all}
 use Rattle.std.proofs.lemmas.List.{drop_all}
 use Rattle.fate_engine.specs.Common.{later_segments, is_true_of}
-use Rattle.fate_engine.proofs.FateCoreLaws.LaterMarkLaws.{test, marks-later, test-at}
+use Rattle.fate_engine.proofs.TrueMarksLaws.{test, marks-later, test-at}
 use Rattle.fate_engine.proofs.fate_core.frame_fate.starts_true.Goals as goal
 
 pub loop-i-init : goal.loop-i-init

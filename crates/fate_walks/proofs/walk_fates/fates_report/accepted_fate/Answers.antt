@@ -1,7 +1,7 @@
 -- The pieces of the ticks made tell it.
 use Rattle.law_model.specs.Common.{leg_of, scenario_of, stream_before}
 use Rattle.law_walk.specs.Common.{session_of}
-use Rattle.fate_walks.proofs.WalkFatesLaws.FateLineLaws.{kept-rows, fate-is}
+use Rattle.fate_walks.proofs.FatesAndSeenRowsLaws.{kept-rows, fate-is}
 use Rattle.fate_walks.proofs.walk_fates.fates_report.accepted_fate.Goals as goal
 
 pub fate-requires : goal.fate-requires

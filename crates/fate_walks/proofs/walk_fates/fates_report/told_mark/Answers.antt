@@ -3,7 +3,7 @@ use Rattle.std.proofs.Common.{sym, ap, ◌∙◌, Some}
 use Rattle.law_model.specs.Common.{leg_of, stream_before, scenario_of}
 use Rattle.law_walk.specs.Common.{session_of, session_rows, session_pieces}
 use Rattle.fate_engine.specs.Common.{is_piece_at, mark_text, told_text}
-use Rattle.fate_walks.proofs.WalkFatesLaws.FateLineLaws.{not-beyond, mark-piece, mark-row}
+use Rattle.fate_walks.proofs.FatesAndSeenRowsLaws.{not-beyond, mark-piece, mark-row}
 use Rattle.fate_walks.proofs.walk_fates.fates_report.told_mark.Goals as goal
 
 pub returns-in_err-row : goal.returns-in_err-row

@@ -6,7 +6,7 @@ use Rattle.text_got.specs.TextSoFar.{HasText}
 use Rattle.law_walk.specs.Common.{session_of, session_rows}
 use Rattle.fate_engine.specs.Common.{last_text}
 use Rattle.fate_engine.specs.declared.fate_text.fate_lines.Tally.{Tally}
-use Rattle.fate_walks.proofs.WalkFatesLaws.FateLineLaws.{starts-are, end-text}
+use Rattle.fate_walks.proofs.FatesAndSeenRowsLaws.{starts-are, end-text}
 use Rattle.fate_walks.proofs.walk_fates.fates_report.write_end.Goals as goal
 
 pub returns : goal.returns

@@ -5,7 +5,7 @@ use Rattle.law_model.specs.Common.{leg_of}
 use Rattle.text_got.specs.TextSoFar.{HasText}
 use Rattle.fate_engine.specs.Common.{Ended, ended_text}
 use Rattle.fate_walks.specs.walk_fates.MadeWalk.{Counted, fates_in}
-use Rattle.fate_walks.proofs.WalkFatesLaws.FateLineLaws.{ended_frame, frames-begun, frames-next, frames-few, frames-past, texts-next}
+use Rattle.fate_walks.proofs.FatesAndSeenRowsLaws.{ended_frame, frames-begun, frames-next, frames-few, frames-past, texts-next}
 use Rattle.fate_walks.proofs.walk_fates.fates_report.write_frames.Goals as goal
 
 pub loop-frame-init : goal.loop-frame-init

@@ -4,7 +4,7 @@ use Rattle.law_model.specs.Common.{leg_of, Start}
 use Rattle.text_got.specs.TextSoFar.{HasText}
 use Rattle.fate_engine.specs.Common.{Ended, ended_text}
 use Rattle.fate_walks.specs.walk_frames.ItemCursor.{frames_left}
-use Rattle.fate_walks.proofs.WalkFatesLaws.FateLineLaws.{FramesDone}
+use Rattle.fate_walks.proofs.FatesAndSeenRowsLaws.{FramesDone}
 use Rattle.fate_walks.proofs.walk_fates.fates_report.write_frames.Given as goal
 
 abbrev pub invariant-loop-frame : goal.invariant-loop-frame

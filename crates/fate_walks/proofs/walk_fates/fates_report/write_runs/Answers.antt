@@ -5,7 +5,7 @@ use Rattle.fate_engine.specs.declared.fate_law.Cause.TheVariants.{Packet}
 use Rattle.fate_engine.specs.Common.{spoiled_text}
 use Rattle.fate_engine.specs.declared.fate_law.SpoiledRun.{SpoiledRun}
 use Rattle.text_got.specs.TextSoFar.{HasText}
-use Rattle.fate_walks.proofs.WalkFatesLaws.FateLineLaws.{text-next}
+use Rattle.fate_walks.proofs.FatesAndSeenRowsLaws.{text-next}
 use Rattle.fate_walks.proofs.walk_fates.fates_report.write_runs.Goals as goal
 
 pub loop-run-preserved : goal.loop-run-preserved

@@ -6,7 +6,7 @@ use Rattle.text_got.specs.TextSoFar.{HasText}
 use Rattle.law_walk.specs.Common.{session_rows}
 use Rattle.fate_engine.specs.Common.{later_segments}
 use Rattle.fate_walks.specs.walk_fates.MadeWalk.{segment_in}
-use Rattle.fate_walks.proofs.WalkFatesLaws.FateLineLaws.{text-next}
+use Rattle.fate_walks.proofs.FatesAndSeenRowsLaws.{text-next}
 use Rattle.fate_walks.proofs.walk_fates.fates_report.write_segments.Goals as goal
 
 pub loop-i-preserved : goal.loop-i-preserved

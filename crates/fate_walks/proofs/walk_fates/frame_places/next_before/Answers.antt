@@ -1,7 +1,7 @@
 -- Where the next frame waits, those after it wait too.
 use Rattle.std.proofs.Common.{arith}
 use Rattle.law_model.specs.Common.{leg_of}
-use Rattle.fate_walks.proofs.WalkFatesLaws.WalkRulerLaws.{next-waits}
+use Rattle.fate_walks.proofs.CursorAndRulerLaws.{next-waits}
 use Rattle.fate_walks.proofs.walk_fates.frame_places.next_before.Goals as goal
 
 pub returns-in_default-clause-none : goal.returns-in_default-clause-none

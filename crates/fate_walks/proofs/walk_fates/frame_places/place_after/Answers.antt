@@ -2,7 +2,7 @@
 use Rattle.std.proofs.Common.{◌+◌, arith}
 use Rattle.law_model.specs.Common.{leg_of, scenario_of}
 use Rattle.law_walk.specs.Common.{session_of}
-use Rattle.fate_walks.proofs.WalkFatesLaws.WalkRulerLaws.{few-ticks, place-few}
+use Rattle.fate_walks.proofs.CursorAndRulerLaws.{few-ticks, place-few}
 use Rattle.fate_walks.proofs.walk_fates.frame_places.place_after.Goals as goal
 
 pub overflow_add-row : goal.overflow_add-row

@@ -4,8 +4,8 @@ use Rattle.law_model.specs.Common.{leg_of}
 use Rattle.law_model.specs.declared.session_totals.Totals.{Totals}
 use Rattle.fate_engine.specs.Common.{ruler_of}
 use Rattle.fate_walks.specs.walk_frames.StreamInTicks.{Between, stream_in}
-use Rattle.fate_walks.proofs.WalkFatesLaws.WalkRulerLaws.{none-of, some-of, ruled-first, next-due, next-fewer, ruled-refused}
-use Rattle.fate_walks.proofs.WalkFatesLaws.WalkRulerLaws.{ruled-accepted, ruled-end}
+use Rattle.fate_walks.proofs.CursorAndRulerLaws.{none-of, some-of, ruled-first, next-due, next-fewer, ruled-refused}
+use Rattle.fate_walks.proofs.CursorAndRulerLaws.{ruled-accepted, ruled-end}
 use Rattle.fate_walks.proofs.walk_fates.frame_places.place_frames.Goals as goal
 
 pub loop-frame-init : goal.loop-frame-init

@@ -2,7 +2,7 @@
 use Rattle.std.proofs.Common.{◌-◌, length}
 use Rattle.law_model.specs.Common.{leg_of, offers_of}
 use Rattle.fate_walks.specs.walk_frames.ItemCursor.{frames_before_item}
-use Rattle.fate_walks.proofs.WalkFatesLaws.WalkRulerLaws.{IsRuled}
+use Rattle.fate_walks.proofs.CursorAndRulerLaws.{IsRuled}
 use Rattle.fate_walks.proofs.walk_fates.frame_places.place_frames.Given as goal
 
 abbrev pub invariant-loop-frame : goal.invariant-loop-frame

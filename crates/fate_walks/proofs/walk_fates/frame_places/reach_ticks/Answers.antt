@@ -3,7 +3,7 @@ use Rattle.std.proofs.Common.{◌≡◌, ◌≤◌, ap, ◌∙◌, arith}
 use Rattle.law_model.specs.Common.{leg_of}
 use Rattle.fate_engine.specs.Common.{ruler_of}
 use Rattle.fate_walks.specs.walk_frames.StreamInTicks.{stream_in}
-use Rattle.fate_walks.proofs.WalkFatesLaws.WalkRulerLaws.{reach-tick}
+use Rattle.fate_walks.proofs.CursorAndRulerLaws.{reach-tick}
 use Rattle.fate_walks.proofs.walk_fates.frame_places.reach_ticks.Goals as goal
 
 pub loop-t-preserved : goal.loop-t-preserved

@@ -1,5 +1,5 @@
 -- No packet and no row.
-use Rattle.fate_walks.proofs.WalkFatesLaws.SeenRowLaws.{sees-nothing}
+use Rattle.fate_walks.proofs.FatesAndSeenRowsLaws.{sees-nothing}
 use Rattle.fate_walks.proofs.walk_fates.seen_rows.nothing_seen.Goals as goal
 
 pub returns : goal.returns

@@ -8,8 +8,8 @@ use Rattle.fate_engine.specs.Common.{row_cause, Tells, AreRuns}
 use Rattle.fate_engine.specs.declared.fate_law.Cause.{Cause}
 use Rattle.std.specs.List.{range_with_len}
 use Rattle.law_walk.specs.Common.{session_of, session_rows}
-use Rattle.fate_walks.proofs.WalkFatesLaws.SeenRowLaws.{few-rows, causes-size, rows-size, rows-next, row-tells}
-use Rattle.fate_walks.proofs.WalkFatesLaws.SeenRowLaws.{whole-cause, none-is, place-low, mark-low, one-row}
+use Rattle.fate_walks.proofs.FatesAndSeenRowsLaws.{few-rows, causes-size, rows-size, rows-next, row-tells}
+use Rattle.fate_walks.proofs.FatesAndSeenRowsLaws.{whole-cause, none-is, place-low, mark-low-seen as mark-low, one-row}
 use Rattle.fate_walks.proofs.walk_fates.seen_rows.see_row.Goals as goal
 
 pub row_cause-cause-requires-clause-governed : goal.row_cause-cause-requires-clause-governed

@@ -5,7 +5,7 @@ use Rattle.law_model.specs.declared.session_totals.Totals.{Totals}
 use Rattle.std.proofs.lemmas.Result.{on_err_weaker}
 use Rattle.fate_walks.specs.declared.walk_fates.seen_rows.SeenRows.{SeenRows}
 use Rattle.fate_walks.specs.walk_fates.Seen.{Sees}
-use Rattle.fate_walks.proofs.WalkFatesLaws.SeenRowLaws.{few-rows, sees-step, sees-same}
+use Rattle.fate_walks.proofs.FatesAndSeenRowsLaws.{few-rows, sees-step, sees-same}
 use Rattle.fate_walks.proofs.walk_fates.seen_rows.see_since.Goals as goal
 use Rattle.fate_walks.proofs.walk_fates.seen_rows.see_since.Goals.{then-is_step+in_ok-push, else-is_step}
 

@@ -3,11 +3,11 @@ use Rattle.std.proofs.Common.{◌+◌, ◌≤◌, ℕ, List, length, take, not, 
 use Rattle.law_model.specs.Common.{leg_of, longest_frame}
 use Rattle.law_walk.specs.Common.{session_rows, session_pieces, session_extents}
 use Rattle.text_captures.specs.capture_file.CaptureSoFar.{HasGfp}
-use Rattle.fate_walks.proofs.WalkFatesLaws.WalkRulerLaws.{none-of, some-of}
+use Rattle.fate_walks.proofs.CursorAndRulerLaws.{none-of, some-of}
 use Rattle.fate_walks.specs.walk_gfp.CarriedInRows.{carried_among}
-use Rattle.fate_walks.proofs.WalkGfpLaws.CarriedByFateLaws.{carried-more, carried-all}
-use Rattle.fate_walks.proofs.WalkGfpLaws.AcceptedAmongLandedLaws.{none-behind, accepted-none, accepted-few, next-less, accepted-not, accepted-more}
-use Rattle.fate_walks.proofs.WalkGfpLaws.AcceptedAmongLandedLaws.{accepted-frame, accepted-low, accepted-all, landed_accepted}
+use Rattle.fate_walks.proofs.AcceptedAndCarriedFrameLaws.{carried-more, carried-all}
+use Rattle.fate_walks.proofs.AcceptedAndCarriedFrameLaws.{none-behind, accepted-none, accepted-few, next-less, accepted-not, accepted-more}
+use Rattle.fate_walks.proofs.AcceptedAndCarriedFrameLaws.{accepted-frame, accepted-low, accepted-all, landed_accepted}
 use Rattle.fate_walks.proofs.walk_gfp.gfp_records.write_records.Goals as goal
 
 pub loop-frame-init : goal.loop-frame-init

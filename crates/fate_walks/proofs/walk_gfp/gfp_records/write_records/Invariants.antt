@@ -5,7 +5,7 @@ use Rattle.law_walk.specs.Common.{session_rows, session_extents}
 use Rattle.text_captures.specs.capture_file.CaptureSoFar.{HasGfp}
 use Rattle.fate_walks.specs.walk_frames.ItemCursor.{frames_left}
 use Rattle.fate_walks.specs.walk_gfp.CarriedInRows.{carried_among}
-use Rattle.fate_walks.proofs.WalkGfpLaws.AcceptedAmongLandedLaws.{Accepted}
+use Rattle.fate_walks.proofs.AcceptedAndCarriedFrameLaws.{Accepted}
 use Rattle.fate_walks.proofs.walk_gfp.gfp_records.write_records.Given as goal
 
 abbrev pub invariant-loop-frame : goal.invariant-loop-frame

@@ -6,8 +6,8 @@ use Rattle.gfp_model.specs.linear_model.ChannelArea.{ChannelFrame, LinearOutcome
 use Rattle.gfp_channels.specs.gfp_linear.Delineator.{frame_of, outcomes_told}
 use Rattle.gfp_channels.specs.declared.gfp_linear.linear_delineator.LinearStep.TheVariants.{Frame}
 use Rattle.gfp_channels.specs.channel_link.ChannelReportText.{got_text}
-use Rattle.gfp_channels.proofs.ChannelLinkLaws.ChannelReceptionSteps.{received-nothing}
-use Rattle.gfp_channels.proofs.ChannelLinkLaws.ChannelReportLaws.{frames-more, texts-more}
+use Rattle.gfp_channels.proofs.CutSegmentReceptionLaws.{received-nothing}
+use Rattle.gfp_channels.proofs.CutSegmentReceptionLaws.{frames-more, texts-more}
 use Rattle.gfp_channels.proofs.channel_link.channel_reception.receive.Goals as goal
 
 pub returns-in-Nothing-clause-received : goal.returns-in-Nothing-clause-received

@@ -5,8 +5,8 @@ use Rattle.gfp_model.specs.declared.linear_model.Cut.{Cut}
 use Rattle.gfp_channels.specs.gfp_linear.Delineator.{StandsIn}
 use Rattle.gfp_channels.specs.declared.channel_link.channel_reception.Reception.{Reception}
 use Rattle.gfp_channels.specs.channel_link.Run.{ended_by, ended_outcomes, open_segment}
-use Rattle.gfp_channels.proofs.ChannelLinkLaws.CutSegmentLaws.{skips}
-use Rattle.gfp_channels.proofs.ChannelLinkLaws.ChannelReceptionSteps.{received-cut, received-next}
+use Rattle.gfp_channels.proofs.CutSegmentReceptionLaws.{skips}
+use Rattle.gfp_channels.proofs.CutSegmentReceptionLaws.{received-cut, received-next}
 use Rattle.gfp_channels.proofs.channel_link.channel_reception.send.Goals.{then-place-cut, else-place-cut}
 use Rattle.gfp_channels.proofs.channel_link.channel_reception.send.Goals.{then-place-cut-2, else-place-cut-2}
 use Rattle.gfp_channels.proofs.channel_link.channel_reception.send.Goals.{else-reception-cuts-via-then-reception-cuts+else-place-cuts}

@@ -1,10 +1,10 @@
 -- What is made of what the lines say.
 use Rattle.std.proofs.Common.{ap}
 use Rattle.text_lines.specs.LanguageTable.{said_in, formed}
-use Rattle.text_lines.proofs.LanguageTableLaws.{fault_formed}
+use Rattle.text_lines.proofs.LanguageLaws.{fault_formed}
 use Rattle.gfp_channels.specs.channel_link.ChannelTextLines.{plan_table}
 use Rattle.gfp_channels.specs.channel_link.Plan.{plan_in}
-use Rattle.gfp_channels.proofs.ChannelLinkLaws.SaidPlanLaws.{valid_plan}
+use Rattle.gfp_channels.proofs.ChannelPlanDraftLaws.{valid_plan}
 use Rattle.gfp_channels.proofs.channel_link.read_channel_text.read_plan.Goals as goal
 
 pub returns-in-Ok-clause-valid : goal.returns-in-Ok-clause-valid

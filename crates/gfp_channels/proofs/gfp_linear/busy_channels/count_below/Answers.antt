@@ -1,7 +1,7 @@
 -- The one in the middle tells of half of them.
 use Rattle.std.proofs.Common.{◌≡◌, ℕ, suc, ◌+◌, ◌-◌, ◌/◌, ◌<◌, ◌≤◌, List, All, length, take, subst, arith}
 use Rattle.std.proofs.Common.{slice_index_or}
-use Rattle.gfp_channels.proofs.GfpLinearLaws.BusyChannelLaws.{rising-below, rising-from}
+use Rattle.gfp_channels.proofs.BusyChannelTurnLaws.{rising-below, rising-from}
 use Rattle.gfp_channels.proofs.gfp_linear.busy_channels.count_below.Goals as goal
 
 pub loop-low-preserved-then-from-least : goal.loop-low-preserved-then-from-least

@@ -1,7 +1,7 @@
 -- What comes of the area is what its extension header says.
 use Rattle.std.proofs.Common.{[], ◌∷◌, drop, sym, ◌∙◌, ap}
 use Rattle.gfp_model.specs.linear_model.ChannelArea.{cid_fault}
-use Rattle.gfp_channels.proofs.GfpLinearLaws.LinearOutcomeLaws.{sized, cid_right, cid_wrong}
+use Rattle.gfp_channels.proofs.LinearExtensionLaws.{sized, cid_right, cid_wrong}
 use Rattle.gfp_channels.proofs.gfp_linear.linear_delineator.sized_step.Goals as goal
 
 pub returns-in-Ok-clause-outcome : goal.returns-in-Ok-clause-outcome

@@ -2,7 +2,7 @@
 use Rattle.std.proofs.Common.{◌-◌, [], take, false, refl, sym, subst}
 use Rattle.gfp_delineate.specs.ReceivedAreas.{ends_told}
 use Rattle.gfp_delineate.specs.Receiver.{Receiver, area_limit, StandsIn, told_outcomes, Brings}
-use Rattle.gfp_delineate.proofs.ClientFrameLaws.{Brings-ends, told-ends, short-ends}
+use Rattle.gfp_delineate.proofs.AreaOutcomeLaws.{Brings-ends, told-ends, short-ends}
 use Rattle.gfp_delineate.proofs.delineator.Delineator.feed.Goals as goal
 
 pub returns-clause-stands_in : goal.returns-clause-stands_in

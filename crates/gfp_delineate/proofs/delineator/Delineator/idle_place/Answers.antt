@@ -3,7 +3,7 @@ use Rattle.std.proofs.Common.{ℕ, [], false, Option, Some, None, refl, subst, I
 use Rattle.gfp_delineate.specs.Repeated.{idles_from}
 use Rattle.gfp_delineate.specs.ReceivedAreas.{Goes, Adds}
 use Rattle.gfp_delineate.specs.Receiver.{Receiver, area_limit, Advances, Brings}
-use Rattle.gfp_delineate.proofs.ClientFrameLaws.{Brings-ends}
+use Rattle.gfp_delineate.proofs.AreaOutcomeLaws.{Brings-ends}
 use Rattle.gfp_delineate.proofs.delineator.Delineator.idle_place.Goals as goal
 
 stays : (receiver : Receiver) (place : Option ℕ) →

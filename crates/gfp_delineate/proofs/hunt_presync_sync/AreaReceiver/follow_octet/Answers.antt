@@ -1,9 +1,9 @@
 -- One of the first three octets of a header in SYNC.
 use Rattle.std.proofs.Common.{◌+◌}
 use Rattle.gfp_delineate.specs.declared.hunt_presync_sync.Phase.TheVariants.{SyncHeader}
-use Rattle.gfp_delineate.proofs.ReceiverProgressLaws.{seen}
+use Rattle.gfp_delineate.proofs.ProgressWindowEndsLaws.{seen}
 use Rattle.gfp_delineate.proofs.HuntPresyncSteps.{shifted}
-use Rattle.gfp_delineate.proofs.SyncRunSteps.{Takes-follow-part}
+use Rattle.gfp_delineate.proofs.SyncHeaderAreaSteps.{Takes-follow-part}
 use Rattle.gfp_delineate.proofs.hunt_presync_sync.AreaReceiver.follow_octet.Goals as goal
 
 pub returns-then-have-lt3 : goal.returns-then-have-lt3

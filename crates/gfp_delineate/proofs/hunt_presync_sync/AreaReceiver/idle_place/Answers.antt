@@ -2,10 +2,10 @@
 use Rattle.std.proofs.Common.{true, false, Some, ◌≡◌, ◌-◌, ◌<◌, ℕ, take, drop, sym, ◌∙◌, ap, subst, arith, vec_len}
 use Rattle.gfp_delineate.specs.declared.hunt_presync_sync.Phase.TheVariants.{SyncHeader}
 use Rattle.gfp_delineate.specs.ReceivedAreas.{Progress, IsWithin, header_begun_in}
-use Rattle.law_model.proofs.IdleHeadersLaws.{idle_header, core_header-idle}
+use Rattle.law_model.proofs.CoreHeaderLaws.{idle_header, core_header-idle}
 use Rattle.law_model.specs.Common.{core_header}
-use Rattle.gfp_delineate.proofs.ReceiverProgressLaws.{told}
-use Rattle.gfp_delineate.proofs.IdleRunSteps.{Takes-idles_from}
+use Rattle.gfp_delineate.proofs.ProgressWindowEndsLaws.{told}
+use Rattle.gfp_delineate.proofs.RepeatedIdlePieceLaws.{Takes-idles_from}
 use Rattle.gfp_delineate.proofs.hunt_presync_sync.AreaReceiver.idle_place.Goals as goal
 
 pub returns-in-SyncHeader : goal.returns-in-SyncHeader

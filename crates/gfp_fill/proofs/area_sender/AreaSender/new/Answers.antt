@@ -1,6 +1,6 @@
 -- Two idles are begun, and no octet of an area.
 use Rattle.std.proofs.Common.{[], refl, arith}
-use Rattle.gfp_fill.proofs.IdleFrameLaws.{two_idles}
+use Rattle.gfp_fill.proofs.IdlesAndNextPiecesLaws.{two_idles}
 use Rattle.gfp_fill.proofs.area_sender.AreaSender.new.Goals as goal
 
 pub returns : goal.returns

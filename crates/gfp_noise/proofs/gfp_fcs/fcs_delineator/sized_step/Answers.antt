@@ -1,7 +1,7 @@
 -- The last four octets are the FCS of the frame, or they say another one.
 use Rattle.std.proofs.Common.{[], ◌∷◌, sym, ◌∙◌, ap}
 use Rattle.check_crc32.specs.Crc32.{fcs_of}
-use Rattle.gfp_noise.proofs.GfpFcsLaws.FcsOutcomeLaws.{last-four, sized-right, sized-wrong}
+use Rattle.gfp_noise.proofs.FcsOutcomeLaws.{last-four, sized-right, sized-wrong}
 use Rattle.gfp_noise.proofs.gfp_fcs.fcs_delineator.sized_step.Goals as goal
 
 pub returns-then-said-found-clause-outcome : goal.returns-then-said-found-clause-outcome

@@ -7,7 +7,7 @@ use Rattle.gfp_model.specs.fcs_model.Fcs.{delivery, dropping}
 use Rattle.gfp_noise.specs.gfp_fcs.Delineator.{fcs_outcomes, outcomes_told}
 use Rattle.gfp_noise.specs.declared.gfp_fcs.fcs_delineator.FcsStep.TheVariants.{Frame}
 use Rattle.gfp_noise.specs.noise_link.NoiseReportText.{delivered, causes}
-use Rattle.gfp_noise.proofs.NoiseLinkLaws.NoiseReportLaws.{delivered-frame, causes-frame, delivered-drop, causes-drop}
+use Rattle.gfp_noise.proofs.FcsOutcomeLaws.{delivered-frame, causes-frame, delivered-drop, causes-drop}
 use Rattle.gfp_noise.proofs.noise_link.noise_reception.receive.Goals as goal
 
 pub returns-in-Frame-clause-received : goal.returns-in-Frame-clause-received

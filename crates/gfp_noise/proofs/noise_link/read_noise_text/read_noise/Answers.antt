@@ -1,10 +1,10 @@
 -- What is made of what the lines say.
 use Rattle.std.proofs.Common.{ap}
 use Rattle.text_lines.specs.LanguageTable.{said_in, formed}
-use Rattle.text_lines.proofs.LanguageTableLaws.{fault_formed}
+use Rattle.text_lines.proofs.LanguageLaws.{fault_formed}
 use Rattle.gfp_noise.specs.noise_link.NoiseTextLines.{noise_table}
 use Rattle.gfp_noise.specs.noise_link.Noise.{noise_in}
-use Rattle.gfp_noise.proofs.NoiseLinkLaws.SaidNoiseLaws.{valid_noise}
+use Rattle.gfp_noise.proofs.NoiseDraftLaws.{valid_noise}
 use Rattle.gfp_noise.proofs.noise_link.read_noise_text.read_noise.Goals as goal
 
 pub returns-in-Ok-clause-valid : goal.returns-in-Ok-clause-valid

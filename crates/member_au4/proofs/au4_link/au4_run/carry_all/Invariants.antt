@@ -4,7 +4,7 @@ use Rattle.law_model.specs.Common.{Start}
 use Rattle.member_au4.specs.au4_pointer.SourceToSink.{Carries}
 use Rattle.member_au4.specs.au4_link.Vcs.{first_vcs}
 use Rattle.member_au4.specs.au4_link.LinkReportText.{cuts, HasVcs}
-use Rattle.member_au4.proofs.Au4LinkLaws.CarriedVcSteps.{feeds, gives}
+use Rattle.member_au4.proofs.NumberedVcCountsLaws.{feeds, gives}
 use Rattle.member_au4.proofs.au4_link.au4_run.carry_all.Given as goal
 
 abbrev pub invariant-loop-a : goal.invariant-loop-a

@@ -2,7 +2,7 @@
 use Rattle.std.proofs.Common.{◌<◌, ◌≤◌, ◌∙◌, ◌+◌, ◌-◌, ◌%◌, ◌++◌, length, take, ap, sym, arith}
 use Rattle.std.proofs.lemmas.List.{take_more_set, take_all}
 use Rattle.member_au4.specs.au4_link.Vcs.{rising}
-use Rattle.member_au4.proofs.Au4LinkLaws.NumberedVcLaws.{rising_next, rising_end}
+use Rattle.member_au4.proofs.NumberedVcCountsLaws.{rising_next, rising_end}
 use Rattle.member_au4.proofs.au4_link.numbered_vcs.fill_rising.Goals as goal
 
 pub loop-i-preserved : goal.loop-i-preserved

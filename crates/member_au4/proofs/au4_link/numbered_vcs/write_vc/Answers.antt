@@ -1,7 +1,7 @@
 -- The number, and behind it octets that rise.
 use Rattle.std.proofs.Common.{rules, ◌≡◌, ◌++◌, ◌∙◌, ap₂, arith}
 use Rattle.std.specs.Int.{w64, to_be_bytes}
-use Rattle.member_au4.proofs.Au4LinkLaws.NumberedVcLaws.{vc_is}
+use Rattle.member_au4.proofs.NumberedVcCountsLaws.{vc_is}
 use Rattle.member_au4.proofs.au4_link.numbered_vcs.write_vc.Goals as goal
 
 pub returns : goal.returns

@@ -1,5 +1,5 @@
 -- They are counted by division.
-use Rattle.member_au4.proofs.Au4PointerLaws.PartDataLaws.{begins-when, ends-when}
+use Rattle.member_au4.proofs.NumberedVcCountsLaws.{begins-when, ends-when}
 use Rattle.member_au4.proofs.au4_pointer.pointer_laws.count_law.Goals as goal
 
 pub returns-clause-begins : goal.returns-clause-begins

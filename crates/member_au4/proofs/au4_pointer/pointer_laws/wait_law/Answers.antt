@@ -1,5 +1,5 @@
 -- The frames since are counted.
-use Rattle.member_au4.proofs.Au4PointerLaws.SentActionLaws.{wait-behind, wait-none}
+use Rattle.member_au4.proofs.SourceSendSteps.{wait-behind, wait-none}
 use Rattle.member_au4.proofs.au4_pointer.pointer_laws.wait_law.Goals as goal
 
 pub returns-clause-behind : goal.returns-clause-behind

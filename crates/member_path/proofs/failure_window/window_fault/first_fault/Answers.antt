@@ -1,6 +1,6 @@
 -- The windows that were passed have no fault.
 use Rattle.std.proofs.Common.{sym, ◌∙◌}
-use Rattle.member_path.proofs.FailureWindowLaws.WindowListFaultLaws.{fault-more, fault-here, fault-end}
+use Rattle.member_path.proofs.FailureWindowListLaws.{fault-more, fault-here, fault-end}
 use Rattle.member_path.proofs.failure_window.window_fault.first_fault.Goals as goal
 
 pub loop-i-preserved : goal.loop-i-preserved

@@ -1,6 +1,6 @@
 -- Of the last window what lies below the container is left.
-use Rattle.member_path.proofs.FailureWindowLaws.OpenWindowLaws.{closed-before, closed-whole, closed-are, closed-slip, closed-last}
-use Rattle.member_path.proofs.FailureWindowLaws.OpenWindowLaws.{closed-count, closed-append}
+use Rattle.member_path.proofs.FailureWindowListLaws.{closed-before, closed-whole, closed-are, closed-slip, closed-last}
+use Rattle.member_path.proofs.FailureWindowListLaws.{closed-count, closed-append}
 use Rattle.member_path.proofs.failure_window.window_laws.close_law.Goals as goal
 
 pub returns-clause-before : goal.returns-clause-before

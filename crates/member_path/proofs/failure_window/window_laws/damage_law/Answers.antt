@@ -1,5 +1,5 @@
 -- Each clause is a law of lists of windows.
-use Rattle.member_path.proofs.FailureWindowLaws.WindowDamageLaws.{whole-undamaged, undamaged-whole, contained-fails, contained-vanishes}
+use Rattle.member_path.proofs.FailureWindowListLaws.{whole-undamaged, undamaged-whole, contained-fails, contained-vanishes}
 use Rattle.member_path.proofs.failure_window.window_laws.damage_law.Goals as goal
 
 pub returns-clause-whole : goal.returns-clause-whole

@@ -1,5 +1,5 @@
 -- Both ways by induction on the windows.
-use Rattle.member_path.proofs.FailureWindowLaws.WindowListFaultLaws.{none-are, are-none}
+use Rattle.member_path.proofs.FailureWindowListLaws.{none-are, are-none}
 use Rattle.member_path.proofs.failure_window.window_laws.fault_law.Goals as goal
 
 pub returns : goal.returns

@@ -1,8 +1,8 @@
 -- A window at the end of a list says what comes of its own containers, and of no others.
 use Rattle.law_model.specs.declared.window_types.Window.{Window}
 use Rattle.std.proofs.Common.{refl, ◌∙◌, arith}
-use Rattle.member_path.proofs.FailureWindowLaws.OpenWindowLaws.{opened-as, opened-before, opened-slip, one-after, one-fails}
-use Rattle.member_path.proofs.FailureWindowLaws.OpenWindowLaws.{are-append, carried-past}
+use Rattle.member_path.proofs.FailureWindowListLaws.{opened-as, opened-before, opened-slip, one-after, one-fails}
+use Rattle.member_path.proofs.FailureWindowListLaws.{are-append, carried-past}
 use Rattle.member_path.proofs.failure_window.window_laws.open_law.Goals as goal
 
 pub returns-clause-before : goal.returns-clause-before

@@ -1,5 +1,5 @@
 -- Each clause is a law of lists of windows.
-use Rattle.member_path.proofs.FailureWindowLaws.SlipRunLaws.{slip-most, slip-reached}
+use Rattle.member_path.proofs.FailureWindowListLaws.{slip-most, slip-reached}
 use Rattle.member_path.proofs.failure_window.window_laws.slip_law.Goals as goal
 
 pub returns-clause-most : goal.returns-clause-most

@@ -8,7 +8,7 @@ use Rattle.law_model.specs.Common.{AreWindows}
 use Rattle.law_model.specs.declared.window_types.Window.{Window}
 use Rattle.member_path.specs.failure_window.WindowsAbove.{IsFirstAbove}
 use Rattle.law_model.specs.members.Damage.{carried}
-use Rattle.member_path.proofs.FailureWindowLaws.FrontWindowLaws.{carried-drop, ends-rise, first-above}
+use Rattle.member_path.proofs.FailureWindowListLaws.{carried-drop, ends-rise, first-above}
 use Rattle.member_path.proofs.failure_window.window_list.carried_at.Goals as goal
 
 parted : (list : List Window) (n : ℕ) → AreWindows 0 list → IsPartitionedBy (λ window. nat_le window.end n) list

@@ -1,6 +1,6 @@
 -- The first window that ends above a container names it, or none does.
 use Rattle.std.proofs.Common.{◌∙◌, sym}
-use Rattle.member_path.proofs.FailureWindowLaws.FrontWindowLaws.{first-ends, first-in, first-before, first-none}
+use Rattle.member_path.proofs.FailureWindowListLaws.{first-ends, first-in, first-before, first-none}
 use Rattle.member_path.proofs.failure_window.window_list.carried_by_first.Goals as goal
 
 pub carried_in_window-requires : goal.carried_in_window-requires

@@ -1,6 +1,6 @@
 -- One window on, the greatest sum so far and that of the windows left stay the slip of the list.
 use Rattle.std.proofs.Common.{arith, sym, ◌∙◌}
-use Rattle.member_path.proofs.FailureWindowLaws.SlipRunLaws.{slip-step, slip-end, are-more}
+use Rattle.member_path.proofs.FailureWindowListLaws.{slip-step, slip-end, are-more}
 use Rattle.member_path.proofs.failure_window.window_list.greatest_slip.Goals as goal
 
 pub run_with-run-requires : goal.run_with-run-requires

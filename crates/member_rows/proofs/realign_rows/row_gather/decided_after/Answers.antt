@@ -2,7 +2,7 @@
 use Rattle.std.proofs.Common.{◌+◌, drop, sym, ◌∙◌, ap, ap₂, arith, length-drop}
 use Rattle.std.proofs.lemmas.List.{take_rest}
 use Rattle.member_rows.specs.realign_rows.Gather.{decided_lines}
-use Rattle.member_rows.proofs.RealignRowsLaws.DecidedLineLaws.{decided-most, decided-again, decided-kept}
+use Rattle.member_rows.proofs.RowGatherLinesLaws.{decided-most, decided-again, decided-kept}
 use Rattle.member_rows.proofs.realign_rows.row_gather.decided_after.Goals as goal
 
 pub overflow_add-result : goal.overflow_add-result

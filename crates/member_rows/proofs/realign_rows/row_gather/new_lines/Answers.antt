@@ -1,5 +1,5 @@
 -- One more line is new.
-use Rattle.member_rows.proofs.RealignRowsLaws.RowGatherLaws.{new_more}
+use Rattle.member_rows.proofs.RowGatherLinesLaws.{new_more}
 use Rattle.member_rows.proofs.realign_rows.row_gather.new_lines.Goals as goal
 
 pub loop-preserved : goal.loop-preserved

@@ -4,8 +4,8 @@ use Rattle.std.specs.Global.{Box}
 use Rattle.std.proofs.lemmas.Option.{slice_get-get_or, slice_get-map}
 use Rattle.law_model.specs.Common.{Container}
 use Rattle.member_cells.specs.HeldPlaces.{held}
-use Rattle.member_rows.proofs.RealignRowsLaws.DecidedLineLaws.{decided-shut}
-use Rattle.member_rows.proofs.RealignRowsLaws.RowGatherLaws.{passed_more}
+use Rattle.member_rows.proofs.RowGatherLinesLaws.{decided-shut}
+use Rattle.member_rows.proofs.RowGatherLinesLaws.{passed_more}
 use Rattle.member_rows.proofs.realign_rows.row_gather.pass_all.Goals as goal
 
 pub pass-requires-clause-decided : goal.pass-requires-clause-decided

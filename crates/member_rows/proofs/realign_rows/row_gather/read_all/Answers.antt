@@ -1,7 +1,7 @@
 -- One more packet was read.
 use Rattle.std.proofs.Common.{Some, sym, ◌∙◌, ap, arith}
 use Rattle.std.proofs.lemmas.Option.{slice_get-get_or}
-use Rattle.member_rows.proofs.RealignRowsLaws.RowGatherLaws.{read_more}
+use Rattle.member_rows.proofs.RowGatherLinesLaws.{read_more}
 use Rattle.member_rows.proofs.realign_rows.row_gather.read_all.Goals as goal
 
 pub loop-m-preserved : goal.loop-m-preserved

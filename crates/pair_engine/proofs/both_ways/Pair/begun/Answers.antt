@@ -1,5 +1,5 @@
 -- Nothing has moved.
-use Rattle.pair_engine.proofs.NewWayLaws.{new-pair, new-pair-counts}
+use Rattle.pair_engine.proofs.PairEventAndRoundLaws.{new-pair, new-pair-counts}
 use Rattle.pair_engine.proofs.both_ways.Pair.begun.Goals as goal
 
 pub invariant_of-result : goal.invariant_of-result

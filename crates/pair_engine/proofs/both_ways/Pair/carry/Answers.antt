@@ -9,7 +9,7 @@ use Rattle.law_pair.specs.declared.pair_events.PairEvent.TheVariants.{Carry}
 use Rattle.law_pair.specs.declared.pair_events.Way.{Way}
 use Rattle.law_pair.specs.declared.pair_events.Way.TheVariants.{There, Back}
 use Rattle.pair_engine.specs.PairAfterEvent.{Paired, plan_of}
-use Rattle.pair_engine.proofs.PairEventLaws.{paired, line-in, quiet-follows, seen-follows}
+use Rattle.pair_engine.proofs.PairEventAndRoundLaws.{paired, line-in, quiet-follows, seen-follows}
 use Rattle.pair_engine.proofs.both_ways.Pair.carry.Goals as goal
 
 abbrev carrying : ℕ → Leg → Counts → Step

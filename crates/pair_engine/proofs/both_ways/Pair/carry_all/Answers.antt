@@ -3,7 +3,7 @@ use Rattle.std.proofs.Common.{◌+◌, ◌<◌, length, drop, refl, sym, ◌∙�
 use Rattle.law_pair.specs.Common.{PairPlan, PairCounts, plan_on, pair_step, pair_run, carries_on}
 use Rattle.law_pair.specs.declared.pair_events.PairEvent.TheVariants.{Carry}
 use Rattle.pair_engine.specs.PairAfterEvent.{Paired, plan_of, with_counts}
-use Rattle.pair_engine.proofs.PairRoundLaws.{carry-next, carry-last, keeps, same-plan}
+use Rattle.pair_engine.proofs.PairEventAndRoundLaws.{carry-next, carry-last, keeps, same-plan}
 use Rattle.pair_engine.proofs.both_ways.Pair.carry_all.Goals as goal
 
 pub loop-line-init : goal.loop-line-init

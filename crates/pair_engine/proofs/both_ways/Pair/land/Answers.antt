@@ -6,7 +6,7 @@ use Rattle.law_pair.specs.declared.pair_events.PairEvent.TheVariants.{Item}
 use Rattle.law_pair.specs.declared.pair_events.Way.TheVariants.{There, Back}
 use Rattle.law_walk.specs.Common.{walk_plan}
 use Rattle.pair_engine.specs.PairAfterEvent.{Paired, next_refusal}
-use Rattle.pair_engine.proofs.PairEventLaws.{quiet-follows, seen-follows}
+use Rattle.pair_engine.proofs.PairEventAndRoundLaws.{quiet-follows, seen-follows}
 use Rattle.pair_engine.proofs.both_ways.Pair.land.Goals as goal
 
 abbrev landing : Leg → Counts → Step

@@ -1,7 +1,7 @@
 -- Items land until one stalls.
 use Rattle.std.proofs.Common.{refl, sym, ◌∙◌}
 use Rattle.pair_engine.specs.PairAfterEvent.{plan_of}
-use Rattle.pair_engine.proofs.PairRoundLaws.{landed-none, still, item-turn, item-end, moved-none, stalled-some}
+use Rattle.pair_engine.proofs.PairEventAndRoundLaws.{landed-none, still, item-turn, item-end, moved-none, stalled-some}
 use Rattle.pair_engine.proofs.both_ways.Pair.land_all.Goals as goal
 
 pub loop-init : goal.loop-init

@@ -1,7 +1,7 @@
 -- Items have landed, each of the last events one.
 use Rattle.std.proofs.Common.{◌≡◌, ◌-◌}
 use Rattle.pair_engine.specs.PairAfterEvent.{plan_of, with_counts, SameRows}
-use Rattle.pair_engine.proofs.PairRoundLaws.{Landed, landed_on, items_on}
+use Rattle.pair_engine.proofs.PairEventAndRoundLaws.{Landed, landed_on, items_on}
 use Rattle.pair_engine.proofs.both_ways.Pair.land_all.Given as goal
 
 abbrev pub invariant-loop : goal.invariant-loop

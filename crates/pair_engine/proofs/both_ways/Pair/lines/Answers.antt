@@ -3,7 +3,7 @@ use Rattle.std.proofs.Common.{length, sym, ◌∙◌, ap}
 use Rattle.law_pair.specs.Common.{plan_on}
 use Rattle.law_pair.specs.declared.pair_events.Way.TheVariants.{There, Back}
 use Rattle.pair_engine.specs.PairAfterEvent.{Paired, plan_of}
-use Rattle.pair_engine.proofs.PairEventLaws.{paths-size}
+use Rattle.pair_engine.proofs.PairEventAndRoundLaws.{paths-size}
 use Rattle.pair_engine.proofs.both_ways.Pair.lines.Goals as goal
 
 pub returns-in-There-clause-paths : goal.returns-in-There-clause-paths

@@ -4,7 +4,7 @@ use Rattle.law_pair.specs.Common.{PairPlan, pair_step, pair_run, carries_on}
 use Rattle.law_pair.specs.declared.pair_events.Way.TheVariants.{There, Back}
 use Rattle.law_pair.specs.declared.pair_events.PairEvent.TheVariants.{Item, Tick}
 use Rattle.pair_engine.specs.PairAfterEvent.{Paired, plan_of}
-use Rattle.pair_engine.proofs.PairRoundLaws.{round-run, keeps, same-plan}
+use Rattle.pair_engine.proofs.PairEventAndRoundLaws.{round-run, keeps, same-plan}
 use Rattle.pair_engine.proofs.both_ways.Pair.prepare.Goals as goal
 
 pub returns : goal.returns

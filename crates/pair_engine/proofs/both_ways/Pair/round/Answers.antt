@@ -5,7 +5,7 @@ use Rattle.law_pair.specs.declared.pair_events.Way.{Way}
 use Rattle.law_pair.specs.declared.pair_events.Way.TheVariants.{There, Back}
 use Rattle.law_pair.specs.declared.pair_events.PairEvent.TheVariants.{Take}
 use Rattle.pair_engine.specs.PairAfterEvent.{Paired, plan_of, with_counts}
-use Rattle.pair_engine.proofs.PairRoundLaws.{keeps, same-plan, take-rise, round-rows, gives-both}
+use Rattle.pair_engine.proofs.PairEventAndRoundLaws.{keeps, same-plan, take-rise, round-rows, gives-both}
 use Rattle.pair_engine.proofs.both_ways.Pair.round.Goals as goal
 
 pub returns : goal.returns

@@ -5,8 +5,8 @@ use Rattle.law_pair.specs.declared.pair_events.PairEvent.TheVariants.{Take}
 use Rattle.law_pair.specs.declared.pair_events.Way.TheVariants.{There, Back}
 use Rattle.walk_engine.specs.Common.{GivesRows}
 use Rattle.pair_engine.specs.PairAfterEvent.{Paired, leg_on}
-use Rattle.pair_engine.proofs.WayBesideOtherLaws.{there-beside, back-beside}
-use Rattle.pair_engine.proofs.PairEventLaws.{take-follows, seen-follows}
+use Rattle.pair_engine.proofs.PairEventAndRoundLaws.{there-beside, back-beside}
+use Rattle.pair_engine.proofs.PairEventAndRoundLaws.{take-follows, seen-follows}
 use Rattle.pair_engine.proofs.both_ways.Pair.take.Goals as goal
 
 pub take_way_row-requires : goal.take_way_row-requires

@@ -5,9 +5,9 @@ use Rattle.terminal_group.specs.Item.{kind_of}
 use Rattle.terminal_group.specs.Landed.{HasPassed, next_number}
 use Rattle.law_pair.specs.Common.{way_of}
 use Rattle.walk_engine.specs.Common.{HasLanded, Makes, Parts, answer_by, counts_after, counts_of, landing_of}
-use Rattle.walk_engine.proofs.WalkCoreLaws.LandedItemSteps.{number-in, land-kind, land-due, due-in, land-known}
+use Rattle.walk_engine.proofs.LandedItemSteps.{number-in, land-kind, land-due, due-in, land-known}
 use Rattle.pair_engine.specs.Ways.{way_counts}
-use Rattle.pair_engine.proofs.ItemLandsOrStallsLaws.{goes-none, goes-early, goes-landed}
+use Rattle.pair_engine.proofs.FirstDueItemLaws.{goes-none, goes-early, goes-landed}
 use Rattle.pair_engine.proofs.pair_way.PairWay.land.Goals as goal
 
 pub returns-in_default-clause-goes : goal.returns-in_default-clause-goes

@@ -4,7 +4,7 @@ use Rattle.std.proofs.Common.{arith}
 use Rattle.std.proofs.lemmas.List.{drop_more}
 use Rattle.law_model.specs.Common.{container_on, containers_at}
 use Rattle.member_path.specs.cell_numbers.SignsAsCells.{told_by}
-use Rattle.terminal_sink.proofs.SinkCoreLaws.WholeRowContainerLaws.{container_on-told, whole-step, bad-step}
+use Rattle.terminal_sink.proofs.WholeRowContainersLaws.{container_on-told, whole-step, bad-step}
 use Rattle.terminal_sink.proofs.sink_core.whole_rows.are_whole.Goals as goal
 
 pub returns-in-Bad : goal.returns-in-Bad

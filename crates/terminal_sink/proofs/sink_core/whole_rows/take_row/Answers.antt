@@ -11,10 +11,10 @@ use Rattle.terminal_sink.specs.sink_core.TakenAndGiven.{row_in, AreCarriers}
 use Rattle.terminal_sink.specs.sink_core.RowsInReceiver.{Receives}
 use Rattle.member_cells.specs.HeldPlaces.{held}
 use Rattle.member_rows.specs.realign_rows.Gather.{GatherStands}
-use Rattle.terminal_sink.proofs.SinkCoreLaws.WholeRowContainerLaws.{Hold, octets_if, hold-some, row-known}
-use Rattle.terminal_sink.proofs.SinkCoreLaws.OctetsGiveFramesLaws.{grows-none, gives-none}
-use Rattle.terminal_sink.proofs.SinkCoreLaws.WholeOrLostRowLaws.{receives-whole, receives-lost, gives-whole, gives-lost}
-use Rattle.terminal_sink.proofs.SinkCoreLaws.WholeOrLostRowLaws.{row-early, row-late}
+use Rattle.terminal_sink.proofs.WholeRowContainersLaws.{Hold, octets_if, hold-some, row-known}
+use Rattle.terminal_sink.proofs.IdleOctetsGrowsLaws.{grows-none, gives-none}
+use Rattle.terminal_sink.proofs.WholeRowContainersLaws.{receives-whole, receives-lost, gives-whole, gives-lost}
+use Rattle.terminal_sink.proofs.WholeRowContainersLaws.{row-early, row-late}
 use Rattle.terminal_sink.proofs.sink_core.whole_rows.take_row.Goals as goal
 use Rattle.terminal_sink.proofs.sink_core.whole_rows.take_row.Goals.{in_default-via-in-Some+else-are_whole}
 use Rattle.terminal_sink.proofs.sink_core.whole_rows.take_row.Goals.{in_default-via-in_default}

@@ -2,8 +2,8 @@
 use Rattle.std.proofs.Common.{◌<◌, length, sym, ◌∙◌, ap, arith, drop-cons}
 use Rattle.std.proofs.lemmas.List.{set-get_or}
 use Rattle.law_model.specs.Common.{admit, kept_in}
-use Rattle.terminal_source.proofs.LcasSourceLaws.RewrittenFrontLaws.{front-written, front-stops, front-ends}
-use Rattle.terminal_source.proofs.LcasSourceLaws.FirstOfOrderSteps.{admit-other, admit-confirmed, admit-open, admit-none}
+use Rattle.terminal_source.proofs.MemberOrderExchangeLaws.{front-written, front-stops, front-ends}
+use Rattle.terminal_source.proofs.MemberOrderExchangeLaws.{admit-other, admit-confirmed, admit-open, admit-none}
 use Rattle.terminal_source.proofs.lcas_source.member_table.admit.Goals as goal
 use Rattle.terminal_source.proofs.lcas_source.member_table.admit.Goals.{then-is_adding+else-not-is_ok, else-is_adding}
 

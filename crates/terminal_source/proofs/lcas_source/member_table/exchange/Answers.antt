@@ -2,7 +2,7 @@
 use Rattle.std.proofs.Common.{position, Some, None, sym, ◌∙◌, ap, arith, insert, remove}
 use Rattle.law_model.specs.declared.lcas_states.Standing.TheVariants.{Add as adding}
 use Rattle.law_model.specs.Common.{is_adding, kept_in}
-use Rattle.terminal_source.proofs.LcasSourceLaws.FirstAddingLaws.{finds, finds-no_fail, finds-no_later, finds-later}
+use Rattle.terminal_source.proofs.MemberOrderExchangeLaws.{finds, finds-no_fail, finds-no_later, finds-later}
 use Rattle.terminal_source.proofs.lcas_source.member_table.exchange.Goals as goal
 
 pub returns-in_default-clause-none : goal.returns-in_default-clause-none

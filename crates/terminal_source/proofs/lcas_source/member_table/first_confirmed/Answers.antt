@@ -1,7 +1,7 @@
 -- One line more is passed, or it is in ADD and has OK.
 use Rattle.std.proofs.Common.{sym, ◌∙◌, arith}
 use Rattle.law_model.specs.Common.{kept_in}
-use Rattle.terminal_source.proofs.LcasSourceLaws.ExchangeLaws.{passed-none, passed-more, passed-found, passed-all}
+use Rattle.terminal_source.proofs.MemberOrderExchangeLaws.{passed-none, passed-more, passed-found, passed-all}
 use Rattle.terminal_source.proofs.lcas_source.member_table.first_confirmed.Goals as goal
 
 pub loop-sq-init : goal.loop-sq-init

@@ -1,6 +1,6 @@
 -- The lines so far are passed, and what is taken out stands behind them.
 use Rattle.law_model.specs.Common.{kept_in}
-use Rattle.terminal_source.proofs.LcasSourceLaws.ExchangeLaws.{IsPassed}
+use Rattle.terminal_source.proofs.MemberOrderExchangeLaws.{IsPassed}
 use Rattle.terminal_source.proofs.lcas_source.member_table.first_confirmed.Given as goal
 
 abbrev pub invariant-loop-sq : goal.invariant-loop-sq

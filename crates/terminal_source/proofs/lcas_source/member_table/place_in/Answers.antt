@@ -4,7 +4,7 @@ use Rattle.std.specs.List.{list_any}
 use Rattle.std.proofs.lemmas.List.{take_rest}
 use Rattle.law_model.specs.declared.lcas_states.Standing.TheVariants.{Add as adding}
 use Rattle.law_model.specs.Common.{is_normal, ctrl_by}
-use Rattle.terminal_source.proofs.LcasSourceLaws.LineInOrderSteps.{place-found, place-next, place-none}
+use Rattle.terminal_source.proofs.MemberOrderExchangeLaws.{place-found, place-next, place-none}
 use Rattle.terminal_source.proofs.lcas_source.member_table.place_in.Goals as goal
 
 pub returns-then-member-line : goal.returns-then-member-line

@@ -1,6 +1,6 @@
 -- The line is found here, or is looked for behind this place, or has no sequence number.
 use Rattle.std.proofs.Common.{sym, ◌∙◌, arith}
-use Rattle.terminal_source.proofs.LcasSourceLaws.LineInOrderSteps.{state-found, state-next, state-none}
+use Rattle.terminal_source.proofs.MemberOrderExchangeLaws.{state-found, state-next, state-none}
 use Rattle.terminal_source.proofs.lcas_source.member_table.state_in.Goals as goal
 
 pub returns-then-member-line : goal.returns-then-member-line

@@ -1,8 +1,8 @@
 -- One standing more is turned, and at the end all are.
 use Rattle.std.proofs.Common.{◌<◌, length, arith}
 use Rattle.law_model.specs.Common.{turned, kept_in}
-use Rattle.terminal_source.proofs.LcasSourceLaws.RewrittenFrontLaws.{front-written, front-ends}
-use Rattle.terminal_source.proofs.LcasSourceLaws.FirstOfOrderSteps.{turned-first, turned-none}
+use Rattle.terminal_source.proofs.MemberOrderExchangeLaws.{front-written, front-ends}
+use Rattle.terminal_source.proofs.MemberOrderExchangeLaws.{turned-first, turned-none}
 use Rattle.terminal_source.proofs.lcas_source.member_table.turn.Goals as goal
 
 pub loop-sq-preserved : goal.loop-sq-preserved

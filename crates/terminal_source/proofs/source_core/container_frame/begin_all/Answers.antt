@@ -7,9 +7,9 @@ use Rattle.std.specs.Global.{Box}
 use Rattle.std.proofs.lemmas.List.{length-map}
 use Rattle.law_model.specs.Common.{Container}
 use Rattle.member_cells.specs.HeldPlaces.{held}
-use Rattle.member_rows.proofs.VcatInterleaveLaws.RowSpreadLaws.{held-set}
+use Rattle.member_rows.proofs.RowSpreadPutLaws.{held-set}
 use Rattle.terminal_source.specs.source_core.FrameContainers.{h4_by, carries, IsBegun}
-use Rattle.terminal_source.proofs.SourceCoreLaws.FrameContainerLaws.{IsBegun-as}
+use Rattle.terminal_source.proofs.FrameMemberContainerLaws.{IsBegun-as}
 use Rattle.terminal_source.proofs.source_core.container_frame.begin_all.Goals as goal
 
 pub loop-line-preserved : goal.loop-line-preserved

@@ -3,7 +3,7 @@ use Rattle.std.proofs.Common.{◌≡◌, ◌≤◌, ℕ, ◌+◌, ◌-◌, ◌*�
 use Rattle.std.proofs.Common.{Some, None, refl, ◌∙◌, ap, arith, eq-eqb, le-leb}
 use Rattle.std.proofs.lemmas.Option.{none-some}
 use Rattle.terminal_source.specs.source_core.Terminal.{needed_at}
-use Rattle.terminal_source.proofs.SourceCoreLaws.TerminalTickSteps.{test-both}
+use Rattle.terminal_source.proofs.TerminalTickSteps.{test-both}
 use Rattle.terminal_source.proofs.source_core.source_laws.needed_law.Goals as goal
 
 from-some : (lag t k : ℕ) → needed_at lag t ≡ Some k → t ≡ 16 * (k + lag) + 8

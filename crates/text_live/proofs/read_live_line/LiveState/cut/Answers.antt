@@ -5,7 +5,7 @@ use Rattle.text_lines.specs.Fields.{within}
 use Rattle.text_live.specs.declared.live_keyword.LiveKeyword.TheVariants as word
 use Rattle.text_live.specs.declared.read_live_line.LineState.{LineState}
 use Rattle.text_live.specs.LiveLines.{one_fault}
-use Rattle.text_live.proofs.LiveLaws.LineStatesKeptLaws.{cut_new, reads_cut}
+use Rattle.text_live.proofs.LiveReaderKeepsLaws.{cut_new, reads_cut}
 use Rattle.text_live.proofs.read_live_line.LiveState.cut.Goals as goal
 
 pub returns-clause-ok : goal.returns-clause-ok

@@ -3,7 +3,7 @@ use Rattle.std.proofs.Common.{◌≡◌, ◌≤◌, ◌<◌, ◌∙◌, ◌+◌,
 use Rattle.law_model.specs.declared.script_types.Item.{Item}
 use Rattle.law_model.specs.declared.script_types.ItemKind.TheVariants.{Frame}
 use Rattle.text_scripts.specs.make_load.Load.{frames, frame_count}
-use Rattle.text_scripts.proofs.MakeLoadLaws.LoadItemsLaws.{frames_next, frames_end}
+use Rattle.text_scripts.proofs.DrawnLoadLaws.{frames_next, frames_end}
 use Rattle.text_scripts.proofs.make_load.drawn_script.add_frames.Goals as goal
 
 pub loop-k-preserved : goal.loop-k-preserved

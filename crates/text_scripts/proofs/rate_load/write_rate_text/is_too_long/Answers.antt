@@ -1,7 +1,7 @@
 -- A line more; and a first part that is too long.
 use Rattle.std.proofs.Common.{◌≡◌, ◌≤◌, ◌+◌, ◌*◌, length, ap, sym, arith, refl}
 use Rattle.text_scripts.specs.rate_load.RateTexts.{count_of, lines_of}
-use Rattle.text_scripts.proofs.RateLoadLaws.RateLinesLaws.{lines_of-none, total-more, length-lines_of}
+use Rattle.text_scripts.proofs.DrawnLoadLaws.{lines_of-none, total-more, length-lines_of}
 use Rattle.text_scripts.proofs.rate_load.write_rate_text.is_too_long.Goals as goal
 use Rattle.text_scripts.proofs.rate_load.write_rate_text.is_too_long.Goals.{After-from}
 

@@ -1,6 +1,6 @@
 -- The draws of a frame bring those of the next.
 use Rattle.std.proofs.Common.{length}
-use Rattle.text_scripts.proofs.RateLoadLaws.RateLinesLaws.{next_state}
+use Rattle.text_scripts.proofs.DrawnLoadLaws.{next_state}
 use Rattle.text_scripts.proofs.rate_load.write_rate_text.write_line.Goals as goal
 
 pub returns-clause-state : goal.returns-clause-state

@@ -5,7 +5,7 @@ use Rattle.crossbeam_queue.specs.Passes.{view}
 use Rattle.thread_alarms.specs.alarm_log.Alarms.{items_of}
 use Rattle.thread_alarms.specs.alarm_log.Views.{with_known}
 use Rattle.thread_alarms.specs.alarm_log.Posts.{known_by, kept_by}
-use Rattle.thread_alarms.proofs.AlarmLogLaws.PostsJoinedSteps.{with-then, joined, moved-one, in-rest}
+use Rattle.thread_alarms.proofs.QueueRuleViewSteps.{with-then, joined, moved-one, in-rest}
 use Rattle.thread_alarms.proofs.alarm_log.join_posts.join_all.Goals as goal
 
 pub loop-post-preserved : goal.loop-post-preserved

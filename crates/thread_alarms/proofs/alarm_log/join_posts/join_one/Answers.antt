@@ -2,7 +2,7 @@
 use Rattle.std.proofs.Common.{ap, ◌∙◌}
 use Rattle.crossbeam_queue.specs.Passes.{view}
 use Rattle.thread_alarms.specs.alarm_log.Views.{heard_of, put_of, posts_in, and_known}
-use Rattle.thread_alarms.proofs.AlarmLogLaws.QueueRuleSteps.{merges}
+use Rattle.thread_alarms.proofs.QueueRuleViewSteps.{merges}
 use Rattle.thread_alarms.proofs.alarm_log.join_posts.join_one.Goals as goal
 
 pub absorb-requires-clause-rule : goal.absorb-requires-clause-rule

@@ -1,6 +1,6 @@
 -- The limit goes in and comes out.
 use Rattle.std.proofs.Common.{rules}
-use Rattle.thread_alarms.proofs.AlarmLogLaws.QueueRuleSteps.{begins, limits, listens}
+use Rattle.thread_alarms.proofs.QueueRuleViewSteps.{begins, limits, listens}
 use Rattle.thread_alarms.proofs.alarm_log.open_log.limited.Goals as goal
 
 pub ruled-requires-clause-rule : goal.ruled-requires-clause-rule

@@ -4,7 +4,7 @@ use Rattle.std.specs.Arc.{arc_value}
 use Rattle.crossbeam_queue.specs.Passes.{ruled_capacity}
 use Rattle.thread_alarms.specs.declared.alarm_log.alarm_post.AlarmPost.{AlarmPost}
 use Rattle.thread_alarms.specs.alarm_log.Posts.{IsFresh}
-use Rattle.thread_alarms.proofs.AlarmLogLaws.PostsJoinedSteps.{at-end}
+use Rattle.thread_alarms.proofs.QueueRuleViewSteps.{at-end}
 use Rattle.thread_alarms.proofs.alarm_log.open_log.open_posts.Goals as goal
 
 pub loop-number-preserved : goal.loop-number-preserved

@@ -2,8 +2,8 @@
 use Rattle.std.proofs.Common.{ap₂, ◌∙◌, sym, subst, arith, ◌*◌, ◌≤◌, vec_capacity}
 use Rattle.thread_alarms.specs.alarm_log.Views.{heard_of}
 use Rattle.crossbeam_queue.specs.Passes.{view}
-use Rattle.thread_alarms.proofs.AlarmLogLaws.QueueRuleSteps.{takes, heard}
-use Rattle.thread_alarms.proofs.AlarmLogLaws.OneMoreAlarmSteps.{got-more, room-more, listed-more}
+use Rattle.thread_alarms.proofs.QueueRuleViewSteps.{takes, heard}
+use Rattle.thread_alarms.proofs.QueueRuleViewSteps.{got-more, room-more, listed-more}
 use Rattle.thread_alarms.proofs.alarm_log.take_alarms.take.Goals as goal
 
 pub pop_as-requires-clause-rule : goal.pop_as-requires-clause-rule

@@ -1,5 +1,5 @@
 -- An item that lands leaves the group bound, and the journal has room for it.
-use Rattle.thread_group.proofs.SubmitKeepsBoundLaws.{bound-submits, not-full}
+use Rattle.thread_group.proofs.GroupBoundToLegLaws.{bound-submits, not-full}
 use Rattle.thread_group.proofs.bound_group.BoundGroup.submit.Goals as goal
 
 pub invariant_of-self : goal.invariant_of-self

@@ -1,5 +1,5 @@
 -- A tick leaves the group bound.
-use Rattle.thread_group.proofs.TickKeepsBoundLaws.{bound-ticks}
+use Rattle.thread_group.proofs.GroupBoundToLegLaws.{bound-ticks}
 use Rattle.thread_group.proofs.bound_group.BoundGroup.tick.Goals as goal
 
 pub invariant_of-self : goal.invariant_of-self

@@ -2,7 +2,7 @@
 use Rattle.std.proofs.Common.{◌||◌, sym, ◌∙◌, ap, is_some}
 use Rattle.terminal_group.specs.Item.{kind_of}
 use Rattle.thread_group.specs.Journal.{fits}
-use Rattle.thread_group.proofs.GroupByPartsLaws.{refused-is}
+use Rattle.thread_group.proofs.SubmitAndTickAnswerLaws.{refused-is}
 use Rattle.thread_group.proofs.group_state.GroupState.finds_room.Goals as goal
 
 pub returns-then-is_some : goal.returns-then-is_some

@@ -5,7 +5,7 @@ use Rattle.std.specs.Option.{option_eq}
 use Rattle.thread_group.specs.declared.group_answers.SubmitFault.TheVariants.{NotNext, Early, JournalFull}
 use Rattle.terminal_group.specs.Item.{kind_of}
 use Rattle.terminal_group.specs.Landed.{Landed, next_number, due_at}
-use Rattle.thread_group.proofs.GroupByPartsLaws.{submits-none, asked-next, asked-early, asked-full, room-found}
+use Rattle.thread_group.proofs.SubmitAndTickAnswerLaws.{submits-none, asked-next, asked-early, asked-full, room-found}
 use Rattle.thread_group.proofs.group_state.GroupState.submit.Goals as goal
 
 not-true : (b : Bool) → true ≡ not b → b ≡ false

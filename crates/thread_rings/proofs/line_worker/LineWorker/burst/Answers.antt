@@ -4,8 +4,8 @@ use Rattle.law_model.specs.Common.{End}
 use Rattle.thread_rings.specs.EndsOfRing.{in_passed, out_passed}
 use Rattle.thread_rings.specs.WorkerLineCalls.{calls_on}
 use Rattle.thread_rings.specs.WorkerOfLine.{raised_by, last_raised}
-use Rattle.thread_rings.proofs.LaterWorkerLaws.{later-then}
-use Rattle.thread_rings.proofs.WorkerNotesSentLaws.{noted-then, sent-few}
+use Rattle.thread_rings.proofs.LineWorkerAlarmsLaws.{later-then}
+use Rattle.thread_rings.proofs.LineWorkerAlarmsLaws.{noted-then, sent-few}
 use Rattle.thread_rings.proofs.line_worker.LineWorker.burst.Goals as goal
 
 pub returns-then-ended-clause-cells : goal.returns-then-ended-clause-cells

@@ -1,8 +1,8 @@
 -- One carry more.
 use Rattle.std.proofs.Common.{◌≡◌, ◌+◌, arith, rules}
 use Rattle.thread_rings.specs.WorkerOfLine.{carries_of}
-use Rattle.thread_rings.proofs.LaterWorkerLaws.{later-refl, later-then}
-use Rattle.thread_rings.proofs.WorkerNotesSentLaws.{noted-refl, noted-then}
+use Rattle.thread_rings.proofs.LineWorkerAlarmsLaws.{later-refl, later-then}
+use Rattle.thread_rings.proofs.LineWorkerAlarmsLaws.{noted-refl, noted-then}
 use Rattle.thread_rings.proofs.line_worker.LineWorker.carry_on.Goals as goal
 
 pub loop-init : goal.loop-init

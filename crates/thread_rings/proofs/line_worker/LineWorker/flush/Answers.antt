@@ -4,11 +4,11 @@ use Rattle.member_path.specs.path_delay.CallsOnDelayedLine.{DelayStands, and_flu
 use Rattle.member_path.specs.path_delay.Carry.{carry_cells}
 use Rattle.thread_rings.specs.EndsOfRing.{in_passed, out_passed, out_hand}
 use Rattle.thread_rings.specs.WorkerLineCalls.{calls_on}
-use Rattle.thread_rings.proofs.WorkerLineCallsLaws.{calls-flushed}
+use Rattle.thread_rings.proofs.LineWorkerAlarmsLaws.{calls-flushed}
 use Rattle.thread_rings.proofs.SameRingEndsLaws.{out-then, out-hand}
 use Rattle.thread_rings.specs.LineAlarms.{failed_after}
-use Rattle.thread_rings.proofs.AlarmsByCellLaws.{failed-more, place-more}
-use Rattle.thread_rings.proofs.WorkerNotesSentLaws.{noted-sent}
+use Rattle.thread_rings.proofs.LineWorkerAlarmsLaws.{failed-more, place-more}
+use Rattle.thread_rings.proofs.LineWorkerAlarmsLaws.{noted-sent}
 use Rattle.thread_rings.proofs.line_worker.LineWorker.flush.Goals as goal
 
 pub invariant_of-self-2 : goal.invariant_of-self-2

@@ -4,7 +4,7 @@ use Rattle.member_path.specs.path_delay.CallsOnDelayedLine.{DelayStands, opened,
 use Rattle.thread_rings.specs.EndsOfRing.{in_passed}
 use Rattle.thread_rings.specs.WorkerLineCalls.{calls_on}
 use Rattle.thread_rings.specs.LineAlarms.{failed_after}
-use Rattle.thread_rings.proofs.WorkerLineCallsLaws.{calls-opened, opened-path}
+use Rattle.thread_rings.proofs.LineWorkerAlarmsLaws.{calls-opened, opened-path}
 use Rattle.thread_rings.proofs.line_worker.LineWorker.new.Goals as goal
 
 pub invariant_of-result : goal.invariant_of-result

@@ -1,7 +1,7 @@
 -- What was known stays known, and more may be.
 use Rattle.std.proofs.Common.{ap}
 use Rattle.thread_rings.specs.EndsOfRing.{InEnd}
-use Rattle.thread_rings.proofs.KnownItemPlacesLaws.{known-kept}
+use Rattle.thread_rings.proofs.SameRingEndsLaws.{known-kept}
 use Rattle.thread_rings.proofs.ring_ends.RingIn.beside.Goals as goal
 
 pub returns-clause-items : goal.returns-clause-items

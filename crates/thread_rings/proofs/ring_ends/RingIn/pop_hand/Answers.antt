@@ -1,7 +1,7 @@
 -- The first of the items that are known is popped.
 use Rattle.std.proofs.Common.{ap}
 use Rattle.thread_rings.specs.EndsOfRing.{InEnd}
-use Rattle.thread_rings.proofs.KnownItemPlacesLaws.{known-popped}
+use Rattle.thread_rings.proofs.SameRingEndsLaws.{known-popped}
 use Rattle.thread_rings.proofs.ring_ends.RingIn.pop_hand.Goals as goal
 
 pub returns-clause-item : goal.returns-clause-item

@@ -4,13 +4,13 @@ use Rattle.std.proofs.lemmas.List.{with_items_is}
 use Rattle.std.proofs.lemmas.Option.{slice_get_within}
 use Rattle.thread_alarms.specs.declared.watched_line.served_line.ServedLine.{ServedLine}
 use Rattle.thread_alarms.specs.watched_line.ServedWithPosts.{AreServedLater, IsServedLater}
-use Rattle.thread_alarms.proofs.WatchedLineLaws.ServedLinesLaterLaws.{served-refl, served-then}
+use Rattle.thread_alarms.proofs.ServedLinesLaterLaws.{served-refl, served-then}
 use Rattle.thread_session.specs.session_parts.LineRingsLaid.{IsServedDone, AreServedDone}
 use Rattle.thread_session.specs.session_parts.Bursts.{HasTried, AreTried}
-use Rattle.thread_session.proofs.SessionPartsLaws.ListsBesideLaws.{zip-refl, zip-set}
-use Rattle.thread_session.proofs.SessionPartsLaws.DealToSharesLaws.{set-found}
-use Rattle.thread_session.proofs.SessionPartsLaws.OnePairLaidLaws.{below-it}
-use Rattle.thread_session.proofs.SessionPartsLaws.EachBelowLaws.{EachBelow, each-none, each-next}
+use Rattle.thread_session.proofs.ShareAndPairListsLaws.{zip-refl, zip-set}
+use Rattle.thread_session.proofs.ShareAndPairListsLaws.{set-found}
+use Rattle.thread_session.proofs.ShareAndPairListsLaws.{below-it}
+use Rattle.thread_session.proofs.ShareAndPairListsLaws.{EachBelow, each-none, each-next}
 use Rattle.thread_session.proofs.session_parts.line_thread.serve_once.Goals as goal
 
 pub loop-worker-init : goal.loop-worker-init

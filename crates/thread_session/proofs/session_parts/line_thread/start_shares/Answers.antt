@@ -5,7 +5,7 @@ use Rattle.std.proofs.lemmas.List.{append-nil, nil_from_length}
 use Rattle.std.proofs.lemmas.Option.{slice_get_read}
 use Rattle.std.specs.Vec.Iter.{into_iter_items}
 use Rattle.thread_session.specs.session_parts.HeldShares.{AreHeldOf, AreToldBy}
-use Rattle.thread_session.proofs.SessionPartsLaws.FlagOfShareLaws.{told-push}
+use Rattle.thread_session.proofs.ShareAndPairListsLaws.{told-push}
 use Rattle.thread_session.proofs.session_parts.line_thread.start_shares.Goals as goal
 
 pub loop-workers-preserved : goal.loop-workers-preserved

@@ -9,7 +9,7 @@ use Rattle.thread_alarms.specs.declared.watched_line.served_line.ServedLine.{Ser
 use Rattle.thread_session.specs.declared.session_parts.line_thread.Held.{Held}
 use Rattle.thread_session.specs.session_parts.ServedLines.{SharesLater}
 use Rattle.thread_session.specs.session_parts.HeldShares.{IsHeldOf, IsToldBy, AreHeldOf}
-use Rattle.thread_session.proofs.SessionPartsLaws.ListsBesideLaws.{zip-first, zip-none}
+use Rattle.thread_session.proofs.ShareAndPairListsLaws.{zip-first, zip-none}
 use Rattle.thread_session.proofs.session_parts.line_thread.take_all_back.Goals as goal
 
 pub take_back-requires : goal.take_back-requires

@@ -3,7 +3,7 @@ use Rattle.std.proofs.Common.{◌<◌, [], length, refl, sym, ◌∙◌, ap, sub
 use Rattle.std.proofs.lemmas.List.{get_or_read}
 use Rattle.law_model.specs.declared.script_types.Config.{Config}
 use Rattle.walk_engine.specs.Common.{IsOpened}
-use Rattle.walk_engine.proofs.WalkCoreLaws.OpenedWayLaws.{opened-more, opened-at}
+use Rattle.walk_engine.proofs.OpenedWayLaws.{opened-more, opened-at}
 use Rattle.walk_engine.proofs.walk_core.open_way.new_lines.Goals as goal
 
 pub loop-m-preserved : goal.loop-m-preserved

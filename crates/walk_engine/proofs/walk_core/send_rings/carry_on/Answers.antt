@@ -10,9 +10,9 @@ use Rattle.law_model.specs.members.Damage.{carried}
 use Rattle.std.proofs.lemmas.List.{length_push}
 use Rattle.member_path.specs.path_delay.CallsOnDelayedLine.{and_push, with_windows}
 use Rattle.law_walk.specs.Common.{sent_at}
-use Rattle.walk_engine.proofs.WalkCoreLaws.CarryByNumbersLaws.{map-get, below, calls-push, calls-flush, all-carried, not-carried}
-use Rattle.walk_engine.proofs.WalkCoreLaws.CarryByNumbersLaws.{agree-more, numbers}
-use Rattle.walk_engine.proofs.WalkCoreLaws.SendRingLaws.{unchanged-at, changed-at}
+use Rattle.walk_engine.proofs.LineCarryAndSendRingLaws.{map-get, below, calls-push, calls-flush, all-carried, not-carried}
+use Rattle.walk_engine.proofs.LineCarryAndSendRingLaws.{agree-more, numbers}
+use Rattle.walk_engine.proofs.LineCarryAndSendRingLaws.{unchanged-at, changed-at}
 use Rattle.walk_engine.proofs.walk_core.send_rings.carry_on.Goals as goal
 
 pub returns-then-all_pushed-clause-has : goal.returns-then-all_pushed-clause-has

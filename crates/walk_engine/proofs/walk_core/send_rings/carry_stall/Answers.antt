@@ -2,7 +2,7 @@
 use Rattle.std.proofs.Common.{rules, ◌≡◌, ◌+◌, arith}
 use Rattle.member_path.specs.path_delay.CallsOnDelayedLine.{IsEnded}
 use Rattle.walk_engine.specs.Common.{ring_of}
-use Rattle.walk_engine.proofs.WalkCoreLaws.CarryByNumbersLaws.{cause-full, cause-none}
+use Rattle.walk_engine.proofs.LineCarryAndSendRingLaws.{cause-full, cause-none}
 use Rattle.walk_engine.proofs.walk_core.send_rings.carry_stall.Goals as goal
 
 pub returns-then-is_full-clause-cause : goal.returns-then-is_full-clause-cause

@@ -1,7 +1,7 @@
 -- The first line whose ring is full, or none.
 use Rattle.std.proofs.Common.{sym, ◌∙◌, arith}
 use Rattle.law_model.proofs.ListLaws.{at-index}
-use Rattle.walk_engine.proofs.WalkCoreLaws.TickAndFullRingLaws.{full-here, full-next, full-none}
+use Rattle.walk_engine.proofs.TickAndFullRingLaws.{full-here, full-next, full-none}
 use Rattle.walk_engine.proofs.walk_core.send_rings.first_full.Goals as goal
 
 pub returns-then-ticks-min-ge-SENDS : goal.returns-then-ticks-min-ge-SENDS

@@ -1,7 +1,7 @@
 -- No frame waits for a line where each line has carried all.
 use Rattle.std.proofs.Common.{map, subst, sym, arith}
 use Rattle.walk_engine.specs.Common.{line_counts, frame_in, HasSent}
-use Rattle.walk_engine.proofs.WalkCoreLaws.SendRingLaws.{sent-swapped}
+use Rattle.walk_engine.proofs.LineCarryAndSendRingLaws.{sent-swapped}
 use Rattle.walk_engine.proofs.walk_core.send_rings.next_place.Goals as goal
 
 pub returns-then-are_carried-clause-has : goal.returns-then-are_carried-clause-has

@@ -1,10 +1,10 @@
 -- A line pops until it decides the next row, or is the first that doesn't.
 use Rattle.std.proofs.Common.{rules, refl, sym, ◌∙◌, ap, arith, length-set}
 use Rattle.member_path.specs.path_delay.CallsOnDelayedLine.{Line}
-use Rattle.walk_engine.proofs.WalkCoreLaws.CarryByNumbersLaws.{windows-set}
+use Rattle.walk_engine.proofs.LineCarryAndSendRingLaws.{windows-set}
 use Rattle.law_model.proofs.ListLaws.{at-index}
 use Rattle.walk_engine.specs.Common.{calls_of}
-use Rattle.walk_engine.proofs.WalkCoreLaws.PoppedByTakeLaws.{popping-none, popping-all, is-next, popping-next, popping-waits}
+use Rattle.walk_engine.proofs.ReceiveRingAndPopLaws.{popping-none, popping-all, is-next, popping-next, popping-waits}
 use Rattle.walk_engine.proofs.walk_core.take_rows.pop_lines.Goals as goal
 
 pub loop-m-init : goal.loop-m-init

@@ -3,7 +3,7 @@ use Rattle.std.proofs.Common.{◌≡◌, length}
 use Rattle.law_model.specs.Common.{Leg}
 use Rattle.member_rows.specs.realign_rows.Gather.{line_count}
 use Rattle.walk_engine.specs.Common.{CanPop, windows_in}
-use Rattle.walk_engine.proofs.WalkCoreLaws.PoppedByTakeLaws.{Popping}
+use Rattle.walk_engine.proofs.ReceiveRingAndPopLaws.{Popping}
 use Rattle.walk_engine.proofs.walk_core.take_rows.pop_lines.Given as goal
 
 abbrev pub invariant-loop-m : goal.invariant-loop-m

@@ -8,7 +8,7 @@ use Rattle.walk_engine.specs.walk_core.LiveWalking.{walking_counts}
 use Rattle.walk_engine.specs.walk_core.WayParts.{windows_in}
 use Rattle.walk_live.specs.Answered.{IsLegOf}
 use Rattle.walk_live.specs.PassingRounds.{CanPass, IsOtherwise}
-use Rattle.walk_live.proofs.RoundsOfPassLaws.{PassesIn, TellsIn}
+use Rattle.walk_live.proofs.PassRoundsLaws.{PassesIn, TellsIn}
 use Rattle.walk_live.proofs.answered_walk.AnsweredWalk.make_rounds.Given as goal
 
 abbrev pub invariant-loop-self : goal.invariant-loop-self

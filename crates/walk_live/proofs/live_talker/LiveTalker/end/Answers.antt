@@ -1,7 +1,7 @@
 -- What came of all that was said, and why it stops.
 use Rattle.std.proofs.Common.{◌∙◌, ◌+◌, length}
 use Rattle.text_live.specs.Sayings.{leg_in, said_in, sayings}
-use Rattle.walk_live.proofs.LiveTalkerLaws.{end_can, end_stops, leg_of_all, totals_told, walk_missing, walk_there}
+use Rattle.walk_live.proofs.LiveTalkerReplyLaws.{end_can, end_stops, leg_of_all, totals_told, walk_missing, walk_there}
 use Rattle.walk_live.proofs.live_talker.LiveTalker.end.Goals as goal
 
 pub returns-in-Err-clause-stops : goal.returns-in-Err-clause-stops

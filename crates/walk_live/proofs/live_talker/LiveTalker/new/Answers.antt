@@ -1,6 +1,6 @@
 -- Nothing was said.
 use Rattle.std.proofs.Common.{refl}
-use Rattle.text_live.proofs.LiveLaws.SayingsCanHappenLaws.{nothing_fine}
+use Rattle.text_live.proofs.LiveScriptSayingsLaws.{nothing_fine}
 use Rattle.walk_live.proofs.live_talker.LiveTalker.new.Goals as goal
 
 pub returns-clause-talking : goal.returns-clause-talking

@@ -2,7 +2,7 @@
 use Rattle.std.proofs.Common.{◌+◌, length}
 use Rattle.text_live.specs.LiveReaderStands.{frame_of}
 use Rattle.text_live.specs.Sayings.{said_in, sayings}
-use Rattle.walk_live.proofs.LiveTalkerLaws.{blank_read, happens_in, line_can, line_stops, live_read}
+use Rattle.walk_live.proofs.LiveTalkerReplyLaws.{blank_read, happens_in, line_can, line_stops, live_read}
 use Rattle.walk_live.proofs.live_talker.LiveTalker.read.Goals as goal
 
 pub returns-in-Err-clause-stops : goal.returns-in-Err-clause-stops

@@ -3,7 +3,7 @@ use Rattle.std.proofs.Common.{◌≡◌, ℕ, zero, suc, ◌-◌, ◌<◌, ◌�
 use Rattle.std.proofs.Common.{sym, ◌∙◌, ap, subst, arith}
 use Rattle.fate_engine.specs.fate_core.FrameSides.{AreInOrder}
 use Rattle.fate_engine.specs.Common.{side_of}
-use Rattle.fate_engine.proofs.FateCoreLaws.PiecesBySidesLaws.{piece_in, piece-by, piece-late, piece-none, piece-found}
+use Rattle.fate_engine.proofs.RulerSidesPiecesLaws.{piece_in, piece-by, piece-late, piece-none, piece-found}
 use Rattle.fate_engine.proofs.fate_core.frame_ruler.Ruler.is_piece.Goals as goal
 
 pub returns-then-place-self : goal.returns-then-place-self

@@ -4,7 +4,7 @@ use Rattle.std.specs.List.Sorted.{IsPartitionedBy, IsPartitionPoint}
 use Rattle.std.proofs.lemmas.Fn.{always_returns_same}
 use Rattle.fate_engine.specs.Common.{start_by, active_in}
 use Rattle.fate_engine.specs.declared.fate_core.packet_rows.Packet.{Packet}
-use Rattle.fate_engine.proofs.FateCoreLaws.PacketRowPlaceLaws.{actives-length, Begun, begun-parted, begun-some, begun-low, begun-high}
+use Rattle.fate_engine.proofs.PacketRowPlaceLaws.{actives-length, Begun, begun-parted, begun-some, begun-low, begun-high}
 use Rattle.fate_engine.proofs.fate_core.packet_rows.Packets.packet_at.Goals as goal
 
 point : (c : goal.After-partition_point-begun) →

@@ -3,7 +3,7 @@ use Rattle.std.proofs.Common.{◌≡◌, ◌+◌, ◌-◌, ◌*◌, ◌/◌, ◌
 use Rattle.law_model.proofs.ListLaws.{at-index}
 use Rattle.law_model.specs.Common.{place_of}
 use Rattle.fate_engine.specs.Common.{ArePackets}
-use Rattle.fate_engine.proofs.FateCoreLaws.PacketRowPlaceLaws.{place-none, actives-length, row-low, row-place, end-place}
+use Rattle.fate_engine.proofs.PacketRowPlaceLaws.{place-none, actives-length, row-low, row-place, end-place}
 use Rattle.fate_engine.proofs.fate_core.packet_rows.Packets.place.Goals as goal
 
 there : (c : goal.After-width) →

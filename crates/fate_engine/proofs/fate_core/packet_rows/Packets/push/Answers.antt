@@ -3,7 +3,7 @@ use Rattle.std.proofs.Common.{◌≡◌, ℕ, ◌+◌, ◌*◌, ◌^◌, ◌<◌
 use Rattle.std.proofs.Math.Nat.{mul-le-mul_left, mul-le-mul_right}
 use Rattle.fate_engine.specs.Common.{IsPacketList}
 use Rattle.fate_engine.specs.declared.fate_core.packet_rows.Packet.{Packet}
-use Rattle.fate_engine.proofs.FateCoreLaws.PacketRowPlaceLaws.{actives-length, start-low, pushed}
+use Rattle.fate_engine.proofs.PacketRowPlaceLaws.{actives-length, start-low, pushed}
 use Rattle.fate_engine.proofs.fate_core.packet_rows.Packets.push.Goals as goal
 
 rows-few : (size lines : ℕ) → size < 2 ^ 16 → lines ≤ 128 → size * lines * 16 ≤ 134217728

@@ -3,7 +3,7 @@ use Rattle.std.proofs.Common.{◌≡◌, ℕ, suc, ◌+◌, ◌-◌, ◌*◌, �
 use Rattle.std.proofs.Common.{arith, rules}
 use Rattle.law_model.specs.Common.{Scenario, Told, place_of}
 use Rattle.fate_engine.specs.Common.{ArePackets, start_by, active_in}
-use Rattle.fate_engine.proofs.FateCoreLaws.PacketRowPlaceLaws.{actives-length, row-place, end-place, Found, found, some-width, few-rows}
+use Rattle.fate_engine.proofs.PacketRowPlaceLaws.{actives-length, row-place, end-place, Found, found, some-width, few-rows}
 use Rattle.fate_engine.proofs.fate_core.packet_rows.Packets.row_of.Goals as goal
 
 pub returns-then-place-self-clause-beyond : goal.returns-then-place-self-clause-beyond

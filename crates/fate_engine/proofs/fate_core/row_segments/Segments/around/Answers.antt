@@ -8,7 +8,7 @@ use Rattle.std.proofs.lemmas.Bool.{le-leb, lt-leb}
 use Rattle.std.proofs.lemmas.Fn.{always_returns_same}
 use Rattle.fate_engine.specs.Common.{IsAround, AreSegments}
 use Rattle.fate_engine.specs.declared.fate_law.RowSegment.{RowSegment}
-use Rattle.fate_engine.proofs.FateCoreLaws.RowAmongSegmentsLaws.{in_segment, in_none, parted, Passed, in-first, in-last, in-ended, in-no}
+use Rattle.fate_engine.proofs.RowSegmentsLookLaws.{in_segment, in_none, parted, Passed, in-first, in-last, in-ended, in-no}
 use Rattle.fate_engine.proofs.fate_core.row_segments.Segments.around.Goals as goal
 use Rattle.fate_engine.proofs.fate_core.row_segments.Segments.around.Goals.{After-partition_point-passed, After-deref-2}
 

@@ -2,7 +2,7 @@
 use Rattle.std.proofs.Common.{inl, inr, arith, ap, length}
 use Rattle.law_model.specs.Common.{leg_of}
 use Rattle.fate_walks.specs.walk_frames.ItemCursor.{Cursor}
-use Rattle.fate_walks.proofs.WalkFramesLaws.ItemCursorLaws.{past-end, past-before}
+use Rattle.fate_walks.proofs.CursorAndRulerLaws.{past-end, past-before}
 use Rattle.fate_walks.proofs.walk_frames.landed_cursor.FrameCursor.next.Goals as goal
 
 pub returns-else-self-items_of-clause-none : goal.returns-else-self-items_of-clause-none

@@ -2,7 +2,7 @@
 use Rattle.std.proofs.Common.{◌+◌, ◌-◌, length, ap, ap₂, ◌∙◌, rules}
 use Rattle.law_model.specs.Common.{leg_of}
 use Rattle.fate_walks.specs.walk_frames.ItemCursor.{Cursor}
-use Rattle.fate_walks.proofs.WalkFramesLaws.ItemCursorLaws.{no-frame, passed, skipped}
+use Rattle.fate_walks.proofs.CursorAndRulerLaws.{no-frame, passed, skipped}
 use Rattle.fate_walks.proofs.walk_frames.landed_cursor.FrameCursor.pass.Goals as goal
 
 pub returns-in-Frame : goal.returns-in-Frame

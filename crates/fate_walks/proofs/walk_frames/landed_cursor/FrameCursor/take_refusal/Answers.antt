@@ -1,7 +1,7 @@
 -- The next refusal is the item's, where its number is.
 use Rattle.std.proofs.Common.{drop, ap, ◌∙◌}
 use Rattle.fate_walks.specs.walk_frames.ItemCursor.{Cursor}
-use Rattle.fate_walks.proofs.WalkFramesLaws.ItemCursorLaws.{get-refusal, found-refusal}
+use Rattle.fate_walks.proofs.CursorAndRulerLaws.{get-refusal, found-refusal}
 use Rattle.fate_walks.proofs.walk_frames.landed_cursor.FrameCursor.take_refusal.Goals as goal
 
 pub returns-in-Some-clause-finds : goal.returns-in-Some-clause-finds

@@ -13,9 +13,9 @@ use Rattle.gfp_channels.specs.declared.channel_link.channel_run.Refusal.{Refusal
 use Rattle.gfp_channels.specs.channel_link.Plan.{AreCuts}
 use Rattle.gfp_channels.specs.channel_link.Run.{Prepared, Received}
 use Rattle.gfp_channels.specs.channel_link.ChannelReportText.{after_offers, delivered, refused, got_text, refusal_text, plan_text}
-use Rattle.gfp_channels.proofs.ChannelLinkLaws.OfferRefusalLaws.{refusals-few}
-use Rattle.gfp_channels.proofs.ChannelLinkLaws.ChannelReceptionSteps.{received-none, received-text, received-got}
-use Rattle.gfp_channels.proofs.ChannelLinkLaws.ChannelReportLaws.{text-is}
+use Rattle.gfp_channels.proofs.OfferRefusalWaitingLaws.{refusals-few}
+use Rattle.gfp_channels.proofs.CutSegmentReceptionLaws.{received-none, received-text, received-got}
+use Rattle.gfp_channels.proofs.CutSegmentReceptionLaws.{text-is}
 use Rattle.gfp_channels.proofs.channel_link.channel_run.ChannelRun.write.Given as given
 use Rattle.gfp_channels.proofs.channel_link.channel_run.ChannelRun.write.Goals as goal
 use Rattle.gfp_channels.proofs.channel_link.channel_run.ChannelRun.write.Goals.{After-as_slice, After-count, After-finish-back}

@@ -2,7 +2,7 @@
 use Rattle.std.proofs.Common.{◌∷◌, [], false, sym, subst}
 use Rattle.gfp_delineate.specs.ReceivedAreas.{ends_told}
 use Rattle.gfp_channels.specs.gfp_linear.Delineator.{LinearReceiver, StandsIn, told_linear}
-use Rattle.gfp_channels.proofs.GfpLinearLaws.LinearOutcomeLaws.{outcomes-ends, told-ends, short-ends}
+use Rattle.gfp_channels.proofs.LinearExtensionLaws.{outcomes-ends, told-ends, short-ends}
 use Rattle.gfp_channels.proofs.gfp_linear.linear_delineator.LinearDelineator.byte.Goals as goal
 use Rattle.law_model.specs.Common.{longest_extended_area}
 

@@ -4,8 +4,8 @@ use Rattle.std.proofs.Common.{◌≡◌, ◌≢◌, ℕ, ◌+◌, ◌<◌, List,
 use Rattle.std.proofs.Common.{slice_index_or, slice_set, remove, length-set, get_or-set_same}
 use Rattle.gfp_model.specs.linear_model.Channels.{with_queue, oldest, served}
 use Rattle.gfp_channels.specs.gfp_linear.Queue.{Queued, busy_from}
-use Rattle.gfp_channels.proofs.GfpLinearLaws.BusyChannelLaws.{channels_of, queue-at, set-with, served-is, busy-removed}
-use Rattle.gfp_channels.proofs.GfpLinearLaws.BusyChannelLaws.{busy-less, silent-told, IsNext, is-next, none-next}
+use Rattle.gfp_channels.proofs.BusyChannelTurnLaws.{channels_of, queue-at, set-with, served-is, busy-removed}
+use Rattle.gfp_channels.proofs.BusyChannelTurnLaws.{busy-less, silent-told, IsNext, is-next, none-next}
 use Rattle.gfp_channels.proofs.gfp_linear.linear_queue.LinearQueue.begin.Goals as goal
 use Rattle.gfp_channels.proofs.gfp_linear.linear_queue.LinearQueue.begin.Goals.{After-from-channel, After-begin, After-index}
 

@@ -2,7 +2,7 @@
 use Rattle.std.proofs.Common.{◌≡◌, ℕ, [], length, replicate, sym, ◌∙◌, ap, arith}
 use Rattle.std.proofs.lemmas.List.{length-replicate}
 use Rattle.gfp_channels.specs.gfp_linear.Queue.{busy_from}
-use Rattle.gfp_channels.proofs.GfpLinearLaws.BusyChannelLaws.{none-busy}
+use Rattle.gfp_channels.proofs.BusyChannelTurnLaws.{none-busy}
 use Rattle.gfp_channels.proofs.gfp_linear.linear_queue.LinearQueue.new.Goals as goal
 
 pub invariant_of-result : goal.invariant_of-result

@@ -3,9 +3,9 @@ use Rattle.std.proofs.Common.{◌≡◌, ℕ, ◌<◌, ◌≤◌, take, drop, Li
 use Rattle.std.proofs.Common.{subst, arith, refl, slice_index_or, slice_set, length-set}
 use Rattle.gfp_model.specs.linear_model.Channels.{with_queue, pushed}
 use Rattle.gfp_channels.specs.gfp_linear.Queue.{Queued, busy_from, IsRising}
-use Rattle.gfp_channels.proofs.GfpLinearLaws.BusyChannelLaws.{busy-rising, busy-room, busy-added, busy-pushed, queue-at}
-use Rattle.gfp_channels.proofs.GfpLinearLaws.BusyChannelLaws.{set-with, pushed-is, silent-told, channels_of}
-use Rattle.gfp_channels.proofs.GfpLinearLaws.ChannelTurnSteps.{offered_stands}
+use Rattle.gfp_channels.proofs.BusyChannelTurnLaws.{busy-rising, busy-room, busy-added, busy-pushed, queue-at}
+use Rattle.gfp_channels.proofs.BusyChannelTurnLaws.{set-with, pushed-is, silent-told, channels_of}
+use Rattle.gfp_channels.proofs.ReachedPlaceFillerLaws.{offered_stands}
 use Rattle.gfp_channels.proofs.gfp_linear.linear_queue.LinearQueue.push.Goals as goal
 use Rattle.gfp_channels.proofs.gfp_linear.linear_queue.LinearQueue.push.Goals.{Else-not-push}
 

@@ -3,7 +3,7 @@ use Rattle.std.proofs.Common.{◌≡◌, ℕ, ◌<◌, All, List, take, Some, No
 use Rattle.std.proofs.lemmas.List.{take_all}
 use Rattle.gfp_model.specs.linear_model.Channels.{Channels, turn}
 use Rattle.gfp_channels.specs.gfp_linear.Queue.{Queued, busy_from, turn_among, IsRising}
-use Rattle.gfp_channels.proofs.GfpLinearLaws.BusyChannelLaws.{busy-rising, turn-among, turn-at, turn-first, turn-none}
+use Rattle.gfp_channels.proofs.BusyChannelTurnLaws.{busy-rising, turn-among, turn-at, turn-first, turn-none}
 use Rattle.gfp_channels.proofs.gfp_linear.linear_queue.LinearQueue.turn.Goals as goal
 
 pub count_below-at-requires : goal.count_below-at-requires

@@ -2,7 +2,7 @@
 use Rattle.std.proofs.Common.{◌∷◌, [], true, sym, subst}
 use Rattle.gfp_delineate.specs.ReceivedAreas.{ends_told}
 use Rattle.gfp_noise.specs.gfp_fcs.Delineator.{FcsReceiver, FcsReceiverStands, told_fcs}
-use Rattle.gfp_noise.proofs.GfpFcsLaws.FcsOutcomeLaws.{outcomes-ends, told-ends, short-ends}
+use Rattle.gfp_noise.proofs.FcsOutcomeLaws.{outcomes-ends, told-ends, short-ends}
 use Rattle.gfp_noise.proofs.gfp_fcs.fcs_delineator.FcsDelineator.byte.Goals as goal
 use Rattle.law_model.specs.Common.{longest_extended_area}
 

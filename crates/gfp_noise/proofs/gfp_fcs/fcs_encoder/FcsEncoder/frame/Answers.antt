@@ -5,8 +5,8 @@ use Rattle.law_model.proofs.CoreHeaderLaws.{length-core_header}
 use Rattle.gfp_scramble.specs.Scrambler as scrambler
 use Rattle.gfp_model.specs.fcs_model.Fcs.{fcs_area}
 use Rattle.gfp_noise.specs.flip_law.FlippedStream.{fcs_stream}
-use Rattle.gfp_noise.proofs.FlipLaws.FlippedAreaLaws.{length-fcs_area}
-use Rattle.gfp_noise.proofs.GfpFcsLaws.FcsStreamGrowsLaws.{length-piece, stream-more, taken}
+use Rattle.gfp_noise.proofs.FlippedFcsAreaLaws.{length-fcs_area}
+use Rattle.gfp_noise.proofs.FlippedFcsStreamLaws.{length-piece, stream-more, taken}
 use Rattle.gfp_noise.proofs.gfp_fcs.fcs_encoder.FcsEncoder.frame.Goals as goal
 
 pub returns-clause-octets : goal.returns-clause-octets

@@ -6,7 +6,7 @@ use Rattle.text_report.specs.ReportLines.{got_texts}
 use Rattle.gfp_noise.specs.gfp_fcs.Delineator.{fcs_outcomes}
 use Rattle.gfp_noise.specs.noise_link.ReceivedSoFar.{Received}
 use Rattle.gfp_noise.specs.noise_link.NoiseReportText.{received, delivered, causes, noise_text}
-use Rattle.gfp_noise.proofs.NoiseLinkLaws.NoiseReportLaws.{none-come, text-is}
+use Rattle.gfp_noise.proofs.FcsOutcomeLaws.{none-come, text-is}
 use Rattle.gfp_noise.proofs.noise_link.noise_run.NoiseRun.write.Given as given
 use Rattle.gfp_noise.proofs.noise_link.noise_run.NoiseRun.write.Goals as goal
 use Rattle.gfp_noise.proofs.noise_link.noise_run.NoiseRun.write.Goals.{After-as_slice, After-finish-back}

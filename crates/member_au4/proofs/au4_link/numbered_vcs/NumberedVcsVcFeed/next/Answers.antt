@@ -1,6 +1,6 @@
 -- One more was fed.
 use Rattle.std.proofs.Common.{refl}
-use Rattle.member_au4.proofs.Au4LinkLaws.NumberedVcLaws.{fed_more}
+use Rattle.member_au4.proofs.NumberedVcCountsLaws.{fed_more}
 use Rattle.member_au4.proofs.au4_link.numbered_vcs.NumberedVcsVcFeed.next.Goals as goal
 
 pub returns : goal.returns

@@ -2,7 +2,7 @@
 use Rattle.std.proofs.Common.{◌-◌, length, take, drop, refl, sym, ◌∙◌, subst, arith, take_all}
 use Rattle.law_model.proofs.ListLaws.{take-further}
 use Rattle.member_au4.specs.au4_pointer.Sink.{Gives}
-use Rattle.member_au4.proofs.Au4PointerLaws.SinkGivesLaws.{gives-none, gives-more}
+use Rattle.member_au4.proofs.SinkTakeGivesSteps.{gives-none, gives-more}
 use Rattle.member_au4.proofs.au4_pointer.pointer_sink.PointerSink.pass.Goals as goal
 
 pub loop-at-init : goal.loop-at-init

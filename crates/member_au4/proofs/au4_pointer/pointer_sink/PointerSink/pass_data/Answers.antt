@@ -1,7 +1,7 @@
 -- The octets that are the data of a frame.
 use Rattle.std.proofs.Common.{sym, subst}
 use Rattle.member_au4.specs.au4_pointer.Sink.{Gives, due, data_of}
-use Rattle.member_au4.proofs.Au4PointerLaws.SinkGivesLaws.{gives-more}
+use Rattle.member_au4.proofs.SinkTakeGivesSteps.{gives-more}
 use Rattle.member_au4.proofs.au4_pointer.pointer_sink.PointerSink.pass_data.Goals as goal
 
 pub returns-in-Down-clause-gives : goal.returns-in-Down-clause-gives

@@ -4,7 +4,7 @@ use Rattle.std.proofs.lemmas.List.{length-take-le}
 use Rattle.member_au4.specs.declared.au4_pointer.au_frame.AuFrame.{AuFrame}
 use Rattle.member_au4.specs.au4_pointer.PointerWord.{reading}
 use Rattle.member_au4.specs.au4_pointer.Sink.{value_behind, PointerSinkStands, Sink}
-use Rattle.member_au4.proofs.Au4PointerLaws.SinkTakeSteps.{Takes, takes}
+use Rattle.member_au4.proofs.SinkTakeGivesSteps.{Takes, takes}
 use Rattle.member_au4.proofs.au4_pointer.pointer_sink.PointerSink.take.Goals as goal
 use Rattle.member_au4.proofs.au4_pointer.pointer_sink.PointerSink.take.Given as given
 

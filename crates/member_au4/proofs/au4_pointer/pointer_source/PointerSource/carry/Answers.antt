@@ -2,7 +2,7 @@
 use Rattle.std.proofs.Common.{◌≡◌, ◌++◌, replicate, drop, sym, ◌∙◌, ap, subst}
 use Rattle.member_au4.specs.au4_pointer.PointerWord.{word_of, next_value, next_wait}
 use Rattle.member_au4.specs.au4_pointer.Source.{Writes}
-use Rattle.member_au4.proofs.Au4PointerLaws.SourceSendSteps.{sends}
+use Rattle.member_au4.proofs.SourceSendSteps.{sends}
 use Rattle.member_au4.proofs.au4_pointer.pointer_source.PointerSource.carry.Goals as goal
 
 pub returns : goal.returns

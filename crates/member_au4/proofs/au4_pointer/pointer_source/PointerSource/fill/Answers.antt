@@ -2,7 +2,7 @@
 use Rattle.std.proofs.Common.{take, refl, ◌∙◌, subst, arith, take_all}
 use Rattle.law_model.proofs.ListLaws.{take-written}
 use Rattle.member_au4.specs.au4_pointer.Source.{Asks}
-use Rattle.member_au4.proofs.Au4PointerLaws.AskedOfFeedLaws.{asks-none, asks-more}
+use Rattle.member_au4.proofs.SourceSendSteps.{asks-none, asks-more}
 use Rattle.member_au4.proofs.au4_pointer.pointer_source.PointerSource.fill.Goals as goal
 
 pub loop-filled-init : goal.loop-filled-init

@@ -1,6 +1,6 @@
 -- What is sent of what is there.
 use Rattle.std.proofs.Common.{take, arith, length-take-le}
-use Rattle.member_au4.proofs.Au4PointerLaws.AskedOfFeedLaws.{asks-sent}
+use Rattle.member_au4.proofs.SourceSendSteps.{asks-sent}
 use Rattle.member_au4.proofs.au4_pointer.pointer_source.PointerSource.fill_some.Goals as goal
 
 pub returns-clause-asks : goal.returns-clause-asks

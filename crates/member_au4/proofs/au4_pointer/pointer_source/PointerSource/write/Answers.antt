@@ -1,7 +1,7 @@
 -- The data of a Down frame is in H3 and behind it.
 use Rattle.std.proofs.Common.{◌≡◌, ◌++◌, length, sym, subst, arith, length-append, take_at, drop_at}
 use Rattle.member_au4.specs.au4_pointer.Source.{Writes}
-use Rattle.member_au4.proofs.Au4PointerLaws.AskedOfFeedLaws.{asks-more}
+use Rattle.member_au4.proofs.SourceSendSteps.{asks-more}
 use Rattle.member_au4.proofs.au4_pointer.pointer_source.PointerSource.write.Goals as goal
 
 pub returns-in-Down-clause-writes : goal.returns-in-Down-clause-writes

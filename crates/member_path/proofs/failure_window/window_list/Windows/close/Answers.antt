@@ -3,7 +3,7 @@ use Rattle.std.proofs.Common.{ap, subst, arith, ◌∙◌}
 use Rattle.law_model.specs.Common.{AreWindows}
 use Rattle.law_model.specs.declared.window_types.Window.{Window}
 use Rattle.member_path.specs.failure_window.OpenWindows.{closed_at}
-use Rattle.member_path.proofs.FailureWindowLaws.OpenWindowLaws.{are-append, are-front, closed-none, closed-some}
+use Rattle.member_path.proofs.FailureWindowListLaws.{are-append, are-front, closed-none, closed-some}
 use Rattle.member_path.proofs.failure_window.window_list.Windows.close.Goals as goal
 
 pub invariant_of-self : goal.invariant_of-self

@@ -1,6 +1,6 @@
 -- A list without a fault has its windows in order and apart.
 use Rattle.std.proofs.Common.{◌∙◌, sym}
-use Rattle.member_path.proofs.FailureWindowLaws.WindowListFaultLaws.{none-are}
+use Rattle.member_path.proofs.FailureWindowListLaws.{none-are}
 use Rattle.member_path.proofs.failure_window.window_list.Windows.new.Goals as goal
 
 pub invariant_of-result : goal.invariant_of-result

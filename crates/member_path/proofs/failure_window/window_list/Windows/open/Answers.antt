@@ -2,7 +2,7 @@
 use Rattle.std.proofs.Common.{◌≤◌, arith}
 use Rattle.law_model.specs.declared.window_types.Window.{Window}
 use Rattle.member_path.specs.failure_window.OpenWindows.{last_end}
-use Rattle.member_path.proofs.FailureWindowLaws.OpenWindowLaws.{are-append}
+use Rattle.member_path.proofs.FailureWindowListLaws.{are-append}
 use Rattle.member_path.proofs.failure_window.window_list.Windows.open.Goals as goal
 
 pub invariant_of-self : goal.invariant_of-self

@@ -7,7 +7,7 @@ use Rattle.law_model.specs.Common.{Container}
 use Rattle.member_cells.specs.HeldPlaces.{held}
 use Rattle.member_rows.specs.realign_rows.Gather.{GatherStands}
 use Rattle.member_rows.specs.realign_rows.LineByLine.{ArePassed, AreRead}
-use Rattle.member_rows.proofs.RealignRowsLaws.RowGatherLaws.{passed_stands, read_stands}
+use Rattle.member_rows.proofs.RowGatherLinesLaws.{passed_stands, read_stands}
 use Rattle.member_rows.proofs.realign_rows.row_gather.RowGather.advance.Goals as goal
 use Rattle.member_rows.proofs.realign_rows.row_gather.RowGather.advance.Goals.{then-j, else-j}
 

@@ -5,7 +5,7 @@ use Rattle.std.proofs.lemmas.List.{length-map}
 use Rattle.law_model.specs.Common.{Container, verdict}
 use Rattle.member_cells.specs.HeldPlaces.{held}
 use Rattle.member_rows.specs.realign_rows.Gather.{Gather, GatherStands}
-use Rattle.member_rows.proofs.RealignRowsLaws.RowGatherLaws.{whole_container}
+use Rattle.member_rows.proofs.RowGatherLinesLaws.{whole_container}
 use Rattle.member_rows.proofs.realign_rows.row_gather.RowGather.containers.Goals as goal
 
 pub returns-clause-whole : goal.returns-clause-whole

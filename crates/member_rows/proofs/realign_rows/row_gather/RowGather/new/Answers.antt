@@ -2,7 +2,7 @@
 use Rattle.std.proofs.Common.{length, None, ◌∙◌, ap, arith}
 use Rattle.std.proofs.lemmas.List.{length-replicate}
 use Rattle.member_cells.specs.HeldPlaces.{held}
-use Rattle.member_rows.proofs.RealignRowsLaws.RowGatherLaws.{new_stands, decided-new}
+use Rattle.member_rows.proofs.RowGatherLinesLaws.{new_stands, decided-new}
 use Rattle.member_rows.proofs.realign_rows.row_gather.RowGather.new.Goals as goal
 
 pub invariant_of-result : goal.invariant_of-result

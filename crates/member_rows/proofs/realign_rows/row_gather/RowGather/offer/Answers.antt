@@ -4,7 +4,7 @@ use Rattle.std.proofs.lemmas.Option.{slice_get-get_or}
 use Rattle.member_cells.specs.HeldPlaces.{held}
 use Rattle.member_path.specs.cell_numbers.SignsAsCells.{cell_with}
 use Rattle.member_rows.specs.realign_rows.Gather.{Gather, GatherStands, IsOpenAt, decided_lines, with_cell}
-use Rattle.member_rows.proofs.RealignRowsLaws.RowGatherLaws.{offered_held}
+use Rattle.member_rows.proofs.RowGatherLinesLaws.{offered_held}
 use Rattle.member_rows.proofs.realign_rows.row_gather.RowGather.offer.Goals as goal
 
 pub invariant_of-self : goal.invariant_of-self

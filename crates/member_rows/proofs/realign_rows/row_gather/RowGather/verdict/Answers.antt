@@ -6,7 +6,7 @@ use Rattle.law_model.specs.Common.{Container, verdict}
 use Rattle.member_cells.specs.HeldPlaces.{held}
 use Rattle.member_path.specs.cell_numbers.SignsAsCells.{told_by}
 use Rattle.member_rows.specs.realign_rows.Gather.{Gather, GatherStands, AreDecided, decided_lines}
-use Rattle.member_rows.proofs.RealignRowsLaws.DecidedLineLaws.{decided-shut}
+use Rattle.member_rows.proofs.RowGatherLinesLaws.{decided-shut}
 use Rattle.member_rows.proofs.realign_rows.row_gather.RowGather.verdict.Goals as goal
 
 pub verdict-requires : goal.verdict-requires

@@ -3,7 +3,7 @@ use Rattle.std.proofs.Common.{◌≡◌, ◌⊎◌, ◌≤◌, ◌++◌, ◌∙�
 use Rattle.std.proofs.lemmas.List.{take_all}
 use Rattle.pair_walk.specs.pair_script.PairOfText.{pair_of_halves}
 use Rattle.pair_walk.specs.pair_script.Pieces.{no_memory, said_after}
-use Rattle.pair_walk.proofs.PairScriptLaws.PairPieceLineLaws.{follows_on, fails_on}
+use Rattle.pair_walk.proofs.PairReaderHalvesLaws.{follows_on, fails_on}
 use Rattle.pair_walk.proofs.pair_script.pair_reader.PairReader.read_on.Goals as goal
 
 pub returns-in-Ok-from_slice-clause-follows : goal.returns-in-Ok-from_slice-clause-follows

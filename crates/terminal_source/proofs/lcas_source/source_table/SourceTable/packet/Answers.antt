@@ -1,7 +1,7 @@
 -- The fields of the packet are what the table and the bits of the group tell of the line.
 use Rattle.std.proofs.Common.{◌<◌, ◌-◌, sym, ◌∙◌, ap, subst}
 use Rattle.law_model.specs.Common.{Course, forward_packet}
-use Rattle.terminal_source.proofs.LcasSourceLaws.LineInOrderSteps.{packet-fields}
+use Rattle.terminal_source.proofs.MemberOrderExchangeLaws.{packet-fields}
 use Rattle.terminal_source.proofs.lcas_source.source_table.SourceTable.packet.Goals as goal
 
 pub returns : goal.returns

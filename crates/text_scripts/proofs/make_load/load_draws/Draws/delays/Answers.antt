@@ -1,7 +1,7 @@
 -- One draw on, and after the last one.
 use Rattle.std.proofs.Common.{◌≡◌, ◌∙◌, ◌+◌, ◌-◌, ℕ, List, [], ◌∷◌, ◌++◌, ap, sym, rules}
 use Rattle.text_scripts.specs.make_load.Draws.{draws}
-use Rattle.text_scripts.proofs.MakeLoadLaws.DrawnNumbersLaws.{draws_next, after_next, draws_end, after_end}
+use Rattle.text_scripts.proofs.DrawnLoadLaws.{draws_next, after_next, draws_end, after_end}
 use Rattle.text_scripts.proofs.make_load.load_draws.Draws.delays.Goals as goal
 
 pub loop-preserved : goal.loop-preserved

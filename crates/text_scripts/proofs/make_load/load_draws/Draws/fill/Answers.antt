@@ -2,7 +2,7 @@
 use Rattle.std.proofs.Common.{◌<◌, ◌≤◌, ◌∙◌, ◌+◌, ◌-◌, ℕ, List, ◌++◌, length, take, ap, sym, arith}
 use Rattle.std.proofs.lemmas.List.{take_more_set, take_all}
 use Rattle.text_scripts.specs.make_load.Draws.{draws}
-use Rattle.text_scripts.proofs.MakeLoadLaws.DrawnNumbersLaws.{draws_next, after_next, draws_end, after_end}
+use Rattle.text_scripts.proofs.DrawnLoadLaws.{draws_next, after_next, draws_end, after_end}
 use Rattle.text_scripts.proofs.make_load.load_draws.Draws.fill.Goals as goal
 
 pub loop-i-preserved : goal.loop-i-preserved

@@ -2,7 +2,7 @@
 use Rattle.std.proofs.Common.{refl, arith, length-append}
 use Rattle.crossbeam_queue.specs.Passes.{view}
 use Rattle.thread_alarms.specs.alarm_log.Views.{put_of, posts_in}
-use Rattle.thread_alarms.proofs.AlarmLogLaws.QueueRuleSteps.{puts, held}
+use Rattle.thread_alarms.proofs.QueueRuleViewSteps.{puts, held}
 use Rattle.thread_alarms.proofs.alarm_log.alarm_post.AlarmPost.post.Goals as goal
 
 pub push_as-requires-clause-rule : goal.push_as-requires-clause-rule

@@ -1,7 +1,7 @@
 -- The post has room for all alarms of the line.
 use Rattle.std.proofs.Common.{arith}
 use Rattle.thread_rings.specs.WorkerOfLine.{number_of, delay_of, windows_of, total_of}
-use Rattle.thread_alarms.proofs.AlarmLaws.AlarmCountLaws.{are_few}
+use Rattle.thread_alarms.proofs.AlarmCountLaws.{are_few}
 use Rattle.thread_alarms.proofs.watched_line.served_line.ServedLine.new.Goals as goal
 
 pub invariant_of-result : goal.invariant_of-result

@@ -2,9 +2,9 @@
 use Rattle.std.proofs.Common.{length, ◌∙◌, ap, subst, arith}
 use Rattle.law_model.specs.Common.{Counts}
 use Rattle.walk_engine.specs.Common.{GivesRows, Walking, walking_counts}
-use Rattle.walk_engine.proofs.WalkCoreLaws.WalkRoundLaws.{back-kept, carry-end, carry-rows, carry-turn, finish-parts}
-use Rattle.walk_engine.proofs.WalkCoreLaws.LineCarrySteps.{paths-size}
-use Rattle.walk_engine.proofs.WalkCoreLaws.WayAsReadLaws.{is-live, way-stands}
+use Rattle.walk_engine.proofs.WalkRoundAndTotalsLaws.{back-kept, carry-end, carry-rows, carry-turn, finish-parts}
+use Rattle.walk_engine.proofs.LineCarryAndSendRingLaws.{paths-size}
+use Rattle.walk_engine.proofs.WayStandsAndToldLaws.{is-live, way-stands}
 use Rattle.walk_engine.proofs.walk_core.live_walk.LiveWalk.finish_round.Goals as goal
 
 pub lines-line-end-requires : goal.lines-line-end-requires

@@ -4,7 +4,7 @@ use Rattle.law_model.specs.Common.{Leg}
 use Rattle.law_model.specs.declared.script_types.Config.{Config}
 use Rattle.terminal_group.specs.ReturnInbox.{empty_inbox}
 use Rattle.walk_engine.specs.Common.{IsAlike, IsLegOver}
-use Rattle.walk_engine.proofs.WalkCoreLaws.OpenedWayLaws.{new-live, new-live-counts}
+use Rattle.walk_engine.proofs.OpenedWayLaws.{new-live, new-live-counts}
 use Rattle.walk_engine.proofs.walk_core.live_walk.LiveWalk.new.Goals as goal
 
 alike : (config : Config) (leg : Leg) → IsLegOver config leg → IsAlike leg config

@@ -1,7 +1,7 @@
 -- A tick, and what comes after it.
 use Rattle.std.proofs.Common.{◌∙◌, subst}
 use Rattle.walk_engine.specs.Common.{GivesRows, walking_counts}
-use Rattle.walk_engine.proofs.WalkCoreLaws.WalkRoundLaws.{tick-kept, tick-parts}
+use Rattle.walk_engine.proofs.WalkRoundAndTotalsLaws.{tick-kept, tick-parts}
 use Rattle.walk_engine.proofs.walk_core.live_walk.LiveWalk.round.Goals as goal
 
 pub tick-requires-clause-stands : goal.tick-requires-clause-stands

@@ -5,8 +5,8 @@ use Rattle.terminal_group.specs.ReturnInbox.{Inbox}
 use Rattle.terminal_group.specs.Item.{kind_of}
 use Rattle.walk_engine.specs.Common.{IsDue, Walking, LiveStands, Parts, counts_of, landing_of, walking_counts, walking_of}
 use Rattle.walk_engine.specs.Common.{refusal_in_event, windows_in}
-use Rattle.walk_engine.proofs.WalkCoreLaws.LandedItemSteps.{landed-live}
-use Rattle.walk_engine.proofs.WalkCoreLaws.WayAsReadLaws.{live-from}
+use Rattle.walk_engine.proofs.LandedItemSteps.{landed-live}
+use Rattle.walk_engine.proofs.WayStandsAndToldLaws.{live-from}
 use Rattle.walk_engine.proofs.walk_core.live_walk.LiveWalk.say.Goals as goal
 
 pub returns : goal.returns

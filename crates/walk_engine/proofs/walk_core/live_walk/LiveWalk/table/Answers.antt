@@ -3,7 +3,7 @@ use Rattle.std.proofs.Common.{◌≡◌, sym, ◌∙◌, ap, subst}
 use Rattle.law_model.specs.Common.{Course, steps_in, source_at}
 use Rattle.law_walk.specs.Common.{landed_scenario, told_before, table_in}
 use Rattle.walk_engine.specs.Common.{Walking, LiveStands, walking_counts}
-use Rattle.walk_engine.proofs.WalkCoreLaws.TickAndFullRingLaws.{source-after, table-after}
+use Rattle.walk_engine.proofs.TickAndFullRingLaws.{source-after, table-after}
 use Rattle.walk_engine.proofs.walk_core.live_walk.LiveWalk.table.Goals as goal
 
 pub returns-clause-source : goal.returns-clause-source

@@ -1,8 +1,8 @@
 -- A row is taken, or stalls.
 use Rattle.std.proofs.Common.{refl, sym, ◌∙◌, ap}
 use Rattle.walk_engine.specs.Common.{walking_counts, take_cause}
-use Rattle.walk_engine.proofs.WalkCoreLaws.WalkRoundLaws.{gives-none}
-use Rattle.walk_engine.proofs.WalkCoreLaws.RowTakenOrWaitsLaws.{take-stays}
+use Rattle.walk_engine.proofs.WalkRoundAndTotalsLaws.{gives-none}
+use Rattle.walk_engine.proofs.TakeRowAndBackSteps.{take-stays}
 use Rattle.walk_engine.proofs.walk_core.live_walk.LiveWalk.take.Goals as goal
 
 pub returns-in-Some-clause-makes : goal.returns-in-Some-clause-makes

@@ -2,8 +2,8 @@
 use Rattle.std.proofs.Common.{rules, ℕ, refl, arith}
 use Rattle.law_model.specs.Common.{Leg}
 use Rattle.walk_engine.specs.walk_core.WayParts.{WayStands}
-use Rattle.walk_engine.proofs.WalkCoreLaws.CarryByNumbersLaws.{frame-size, sent-places}
-use Rattle.walk_engine.proofs.WalkCoreLaws.LineCarrySteps.{line-read, line-stays, line-free, line-carried}
+use Rattle.walk_engine.proofs.LineCarryAndSendRingLaws.{frame-size, sent-places}
+use Rattle.walk_engine.proofs.LineCarryAndSendRingLaws.{line-read, line-stays, line-free, line-carried}
 use Rattle.walk_engine.proofs.walk_core.one_way.WayCore.carry.Goals as goal
 
 pub returns-in-Some-clause-makes : goal.returns-in-Some-clause-makes

@@ -3,10 +3,10 @@ use Rattle.std.proofs.Common.{rules, ℕ, ◌<◌, ◌≤◌, List, length, ◌�
 use Rattle.law_model.specs.Common.{Leg}
 use Rattle.law_model.specs.declared.window_types.Window.{Window}
 use Rattle.member_path.specs.failure_window.OpenWindows.{last_end, opened_at}
-use Rattle.member_path.proofs.FailureWindowLaws.OpenWindowLaws.{opened-before}
+use Rattle.member_path.proofs.FailureWindowListLaws.{opened-before}
 use Rattle.walk_engine.specs.Common.{Parts, calls_of}
 use Rattle.walk_engine.specs.walk_core.WayParts.{WayStands}
-use Rattle.walk_engine.proofs.WalkCoreLaws.OtherWindowsSteps.{line-damaged, line-was}
+use Rattle.walk_engine.proofs.DamagedWindowsSteps.{line-damaged, line-was}
 use Rattle.walk_engine.proofs.walk_core.one_way.WayCore.cut.Goals as goal
 
 pub cut-requires : goal.cut-requires

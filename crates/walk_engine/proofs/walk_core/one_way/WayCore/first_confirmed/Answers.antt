@@ -5,7 +5,7 @@ use Rattle.law_walk.specs.Common.{session_rows}
 use Rattle.terminal_sink.specs.marked_delineator.Marks.{first_place}
 use Rattle.walk_engine.specs.walk_core.WayParts.{WayStands}
 use Rattle.walk_engine.specs.Common.{Parts}
-use Rattle.walk_engine.proofs.WalkCoreLaws.LastSegmentMarkLaws.{mark-is}
+use Rattle.walk_engine.proofs.WalkRoundAndTotalsLaws.{mark-is}
 use Rattle.walk_engine.proofs.walk_core.one_way.WayCore.first_confirmed.Goals as goal
 
 pub returns : goal.returns

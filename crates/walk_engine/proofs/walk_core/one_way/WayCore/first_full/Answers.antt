@@ -3,7 +3,7 @@ use Rattle.std.proofs.Common.{map, length, sym, ◌∙◌, ap, subst, arith}
 use Rattle.law_model.specs.Common.{full}
 use Rattle.walk_engine.specs.walk_core.WayParts.{WayStands}
 use Rattle.walk_engine.specs.Common.{Parts, line_counts}
-use Rattle.walk_engine.proofs.WalkCoreLaws.TickAndFullRingLaws.{lines-made, lines-few}
+use Rattle.walk_engine.proofs.TickAndFullRingLaws.{lines-made, lines-few}
 use Rattle.walk_engine.proofs.walk_core.one_way.WayCore.first_full.Goals as goal
 
 pub first_full-requires-clause-few : goal.first_full-requires-clause-few

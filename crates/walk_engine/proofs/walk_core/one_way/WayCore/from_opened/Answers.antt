@@ -1,5 +1,5 @@
 -- Nothing has landed, was sent, or was taken.
-use Rattle.walk_engine.proofs.WalkCoreLaws.OpenedWayLaws.{new-counts, new-stands, new-windows}
+use Rattle.walk_engine.proofs.OpenedWayLaws.{new-counts, new-stands, new-windows}
 use Rattle.walk_engine.proofs.walk_core.one_way.WayCore.from_opened.Goals as goal
 
 pub returns-clause-stands : goal.returns-clause-stands

@@ -4,7 +4,7 @@ use Rattle.law_model.specs.Common.{scenario_by, is_known}
 use Rattle.law_walk.specs.Common.{session_of}
 use Rattle.walk_engine.specs.walk_core.WayParts.{WayStands}
 use Rattle.walk_engine.specs.Common.{Parts}
-use Rattle.walk_engine.proofs.WalkCoreLaws.SinkKnowsLinesLaws.{known-is, known-early}
+use Rattle.walk_engine.proofs.WalkRoundAndTotalsLaws.{known-is, known-early}
 use Rattle.walk_engine.proofs.walk_core.one_way.WayCore.knows.Goals as goal
 
 pub returns-clause-known : goal.returns-clause-known

@@ -9,9 +9,9 @@ use Rattle.terminal_group.specs.ReturnInbox.{cell_for, rest_for}
 use Rattle.terminal_group.specs.SourceByCounts.{Counted, SameCounts, missing_from}
 use Rattle.walk_engine.specs.walk_core.WayParts.{WayStands}
 use Rattle.walk_engine.specs.Common.{Parts, sent_frames, CanTick, with_passed}
-use Rattle.walk_engine.proofs.WalkCoreLaws.CarryByNumbersLaws.{frame-size, sent-places}
-use Rattle.walk_engine.proofs.WalkCoreLaws.TickAndFullRingLaws.{tick-makes_at, sent-read}
-use Rattle.walk_engine.proofs.WalkCoreLaws.WayAsReadLaws.{makes-from, same-left, same-missing, same-cell, same-rest}
+use Rattle.walk_engine.proofs.LineCarryAndSendRingLaws.{frame-size, sent-places}
+use Rattle.walk_engine.proofs.TickAndFullRingLaws.{tick-makes_at, sent-read}
+use Rattle.walk_engine.proofs.WayStandsAndToldLaws.{makes-from, same-left, same-missing, same-cell, same-rest}
 use Rattle.walk_engine.proofs.walk_core.one_way.WayCore.make.Goals as goal
 
 pub next_place-place-requires : goal.next_place-place-requires

@@ -3,10 +3,10 @@ use Rattle.std.proofs.Common.{rules, ℕ, List, ◌∙◌, ap, subst, sym, arith
 use Rattle.law_model.specs.Common.{Leg}
 use Rattle.law_model.specs.declared.window_types.Window.{Window}
 use Rattle.member_path.specs.failure_window.OpenWindows.{CanClose, closed_at}
-use Rattle.member_path.proofs.FailureWindowLaws.OpenWindowLaws.{closed-before}
+use Rattle.member_path.proofs.FailureWindowListLaws.{closed-before}
 use Rattle.walk_engine.specs.Common.{Parts, calls_of}
 use Rattle.walk_engine.specs.walk_core.WayParts.{WayStands}
-use Rattle.walk_engine.proofs.WalkCoreLaws.OtherWindowsSteps.{line-damaged, line-was}
+use Rattle.walk_engine.proofs.DamagedWindowsSteps.{line-damaged, line-was}
 use Rattle.walk_engine.proofs.walk_core.one_way.WayCore.mend.Goals as goal
 use Rattle.walk_engine.proofs.walk_core.one_way.WayCore.mend.Goals.{After-index_mut}
 

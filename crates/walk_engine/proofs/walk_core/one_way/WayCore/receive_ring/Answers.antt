@@ -1,8 +1,8 @@
 -- What waits in a receive ring.
 use Rattle.std.proofs.Common.{slice_get, ◌∙◌, ap}
 use Rattle.walk_engine.specs.Common.{Parts, counts_of, calls_of, receive_ring}
-use Rattle.walk_engine.proofs.WalkCoreLaws.CarryByNumbersLaws.{line-has, receives-are}
-use Rattle.walk_engine.proofs.WalkCoreLaws.LineCarrySteps.{line-read}
+use Rattle.walk_engine.proofs.LineCarryAndSendRingLaws.{line-has, receives-are}
+use Rattle.walk_engine.proofs.LineCarryAndSendRingLaws.{line-read}
 use Rattle.walk_engine.proofs.walk_core.one_way.WayCore.receive_ring.Goals as goal
 
 pub returns : goal.returns

@@ -4,8 +4,8 @@ use Rattle.std.proofs.Common.{ap, subst, arith}
 use Rattle.law_model.proofs.ListLaws.{at-index}
 use Rattle.law_model.specs.Common.{in_send}
 use Rattle.walk_engine.specs.Common.{Parts, counts_of, line_counts, send_ring}
-use Rattle.walk_engine.proofs.WalkCoreLaws.CarryByNumbersLaws.{frame-size, sent-places, sends-made, sends-none, sends-some}
-use Rattle.walk_engine.proofs.WalkCoreLaws.LineCarrySteps.{line-read}
+use Rattle.walk_engine.proofs.LineCarryAndSendRingLaws.{frame-size, sent-places, sends-made, sends-none, sends-some}
+use Rattle.walk_engine.proofs.LineCarryAndSendRingLaws.{line-read}
 use Rattle.walk_engine.proofs.walk_core.one_way.WayCore.send_ring.Goals as goal
 
 pub frame_at-requires : goal.frame_at-requires

@@ -2,10 +2,10 @@
 use Rattle.std.proofs.Common.{sym, ◌∙◌, ap, subst}
 use Rattle.walk_engine.specs.Common.{GivesRows, Parts, counts_of, take_cause, windows_in}
 use Rattle.walk_engine.specs.walk_core.WayParts.{WayStands}
-use Rattle.walk_engine.proofs.WalkCoreLaws.WalkRoundLaws.{gives-none}
-use Rattle.walk_engine.proofs.WalkCoreLaws.RowTakenOrWaitsLaws.{rows-few, can-pop, waits-kept, can-take, taken-kept, taken-gives}
-use Rattle.walk_engine.proofs.WalkCoreLaws.TickAndFullRingLaws.{lines-few}
-use Rattle.walk_engine.proofs.WalkCoreLaws.WayAsReadLaws.{takes-from}
+use Rattle.walk_engine.proofs.WalkRoundAndTotalsLaws.{gives-none}
+use Rattle.walk_engine.proofs.TakeRowAndBackSteps.{rows-few, can-pop, waits-kept, can-take, taken-kept, taken-gives}
+use Rattle.walk_engine.proofs.TickAndFullRingLaws.{lines-few}
+use Rattle.walk_engine.proofs.WayStandsAndToldLaws.{takes-from}
 use Rattle.walk_engine.proofs.walk_core.one_way.WayCore.take.Goals as goal
 
 pub pop_lines-requires : goal.pop_lines-requires

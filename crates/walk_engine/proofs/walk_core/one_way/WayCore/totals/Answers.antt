@@ -4,7 +4,7 @@ use Rattle.law_walk.specs.Common.{totals_of}
 use Rattle.terminal_group.specs.declared.landed_counts.LandedCounts.{LandedCounts}
 use Rattle.walk_engine.specs.walk_core.WayParts.{WayStands}
 use Rattle.walk_engine.specs.Common.{Parts, counts_of}
-use Rattle.walk_engine.proofs.WalkCoreLaws.WayTotalsLaws.{totals-are}
+use Rattle.walk_engine.proofs.WalkRoundAndTotalsLaws.{totals-are}
 use Rattle.walk_engine.proofs.walk_core.one_way.WayCore.totals.Goals as goal
 
 pub returns : goal.returns

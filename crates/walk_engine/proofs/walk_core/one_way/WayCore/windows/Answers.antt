@@ -2,7 +2,7 @@
 use Rattle.std.proofs.Common.{◌<◌, [], length, slice_index_or, sym, ◌∙◌, ap, subst}
 use Rattle.law_model.proofs.ListLaws.{at-index}
 use Rattle.walk_engine.specs.Common.{Parts, windows_in}
-use Rattle.walk_engine.proofs.WalkCoreLaws.CarryByNumbersLaws.{windows-at}
+use Rattle.walk_engine.proofs.LineCarryAndSendRingLaws.{windows-at}
 use Rattle.walk_engine.proofs.walk_core.one_way.WayCore.windows.Goals as goal
 
 pub returns : goal.returns

@@ -2,7 +2,7 @@
 use Rattle.std.proofs.Common.{sym, subst}
 use Rattle.law_model.specs.Common.{leg_of}
 use Rattle.walk_engine.specs.Common.{HasLanded}
-use Rattle.walk_engine.proofs.WalkCoreLaws.OpenedWayLaws.{none-known}
+use Rattle.walk_engine.proofs.OpenedWayLaws.{none-known}
 use Rattle.walk_engine.proofs.walk_core.walk.Walk.begun.Goals as goal
 
 pub invariant_of-result : goal.invariant_of-result

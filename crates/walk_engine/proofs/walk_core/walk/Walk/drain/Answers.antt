@@ -3,7 +3,7 @@ use Rattle.std.proofs.Common.{refl, ◌∙◌, subst, arith}
 use Rattle.law_model.specs.Common.{Counts, leg_of}
 use Rattle.law_model.specs.declared.script_types.Script.{Script}
 use Rattle.walk_engine.specs.Common.{GivesRows}
-use Rattle.walk_engine.proofs.WalkCoreLaws.WalkRoundLaws.{script-turn, script-end, gives-none, gives-then}
+use Rattle.walk_engine.proofs.WalkRoundAndTotalsLaws.{script-turn, script-end, gives-none, gives-then}
 use Rattle.walk_engine.proofs.walk_core.walk.Walk.drain.Goals as goal
 
 pub loop-self-init : goal.loop-self-init

@@ -4,8 +4,8 @@ use Rattle.law_model.specs.Common.{leg_of}
 use Rattle.law_model.specs.declared.walk_events.StallCause.TheVariants.{Done, Held}
 use Rattle.law_walk.specs.Common.{walk_plan}
 use Rattle.walk_engine.specs.Common.{Walked, early_cause, walking_counts}
-use Rattle.walk_engine.proofs.WalkCoreLaws.LandedItemSteps.{held-known}
-use Rattle.walk_engine.proofs.WalkCoreLaws.TickAndFullRingLaws.{early-done, early-held}
+use Rattle.walk_engine.proofs.LandedItemSteps.{held-known}
+use Rattle.walk_engine.proofs.TickAndFullRingLaws.{early-done, early-held}
 use Rattle.walk_engine.proofs.walk_core.walk.Walk.early_stall.Goals as goal
 
 pub returns-then-ticks-self : goal.returns-then-ticks-self

@@ -8,8 +8,8 @@ use Rattle.terminal_group.specs.Landed.{HasPassed, next_number}
 use Rattle.walk_engine.specs.Common.{HasLanded, IsDue, LiveMakes, Walked, answer_by, counts_after, landing_of}
 use Rattle.walk_engine.specs.Common.{AgreesAt, walking_counts, moved_of}
 use Rattle.walk_engine.specs.declared.walk_core.step_answers.Moved.TheVariants.{Stalled}
-use Rattle.walk_engine.proofs.WalkCoreLaws.LandedItemSteps.{land-none, land-early, land-stays, land-kind, due-in}
-use Rattle.walk_engine.proofs.WalkCoreLaws.LandedItemSteps.{land-known}
+use Rattle.walk_engine.proofs.LandedItemSteps.{land-none, land-early, land-stays-landed as land-stays, land-kind, due-in}
+use Rattle.walk_engine.proofs.LandedItemSteps.{land-known}
 use Rattle.walk_engine.proofs.walk_core.walk.Walk.land.Goals as goal
 use Rattle.walk_engine.proofs.walk_core.walk.Walk.land.Goals.{After-say-why}
 

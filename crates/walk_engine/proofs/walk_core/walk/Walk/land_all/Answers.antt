@@ -4,7 +4,7 @@ use Rattle.law_model.specs.Common.{Counts, leg_of}
 use Rattle.law_model.specs.declared.script_types.Script.{Script}
 use Rattle.walk_engine.specs.Common.{landing_of, counts_after, moved_of}
 use Rattle.law_walk.specs.Common.{walk_plan}
-use Rattle.walk_engine.proofs.WalkCoreLaws.WalkRoundLaws.{landed_of, landed-none, land-turn, land-end, landed-rows}
+use Rattle.walk_engine.proofs.WalkRoundAndTotalsLaws.{landed_of, landed-none, land-turn, land-end, landed-rows}
 use Rattle.walk_engine.proofs.walk_core.walk.Walk.land_all.Goals as goal
 
 pub loop-init : goal.loop-init

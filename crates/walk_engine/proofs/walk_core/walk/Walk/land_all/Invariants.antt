@@ -3,7 +3,7 @@ use Rattle.std.proofs.Common.{◌≡◌, ◌-◌, length}
 use Rattle.walk_engine.specs.Common.{landing_of}
 use Rattle.law_model.specs.Common.{leg_of}
 use Rattle.law_walk.specs.Common.{walk_plan}
-use Rattle.walk_engine.proofs.WalkCoreLaws.WalkRoundLaws.{Landed, landed_of}
+use Rattle.walk_engine.proofs.WalkRoundAndTotalsLaws.{Landed, landed_of}
 use Rattle.walk_engine.proofs.walk_core.walk.Walk.land_all.Given as goal
 
 abbrev pub invariant-loop : goal.invariant-loop

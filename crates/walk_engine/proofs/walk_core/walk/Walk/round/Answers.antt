@@ -5,7 +5,7 @@ use Rattle.law_model.specs.declared.script_types.Script.{Script}
 use Rattle.law_model.specs.declared.walk_events.Event.TheVariants.{Tick, Command}
 use Rattle.law_walk.specs.Common.{walk_plan}
 use Rattle.walk_engine.specs.Common.{counts_after, GivesRows}
-use Rattle.walk_engine.proofs.WalkCoreLaws.WalkRoundLaws.{round-parts, tick-kept}
+use Rattle.walk_engine.proofs.WalkRoundAndTotalsLaws.{round-parts, tick-kept}
 use Rattle.walk_engine.proofs.walk_core.walk.Walk.round.Goals as goal
 
 pub returns : goal.returns

@@ -6,7 +6,7 @@ use Rattle.law_model.specs.Common.{Container}
 use Rattle.member_cells.specs.HeldPlaces.{held}
 use Rattle.member_path.specs.path_delay.CallsOnDelayedLine.{and_flush}
 use Rattle.walk_engine.specs.Common.{Ringed, Has, with_sign}
-use Rattle.walk_engine.proofs.WalkPartsLaws.ReceiveRingLaws.{has-more}
+use Rattle.walk_engine.proofs.ReceiveRingAndPopLaws.{has-more}
 use Rattle.walk_engine.proofs.walk_parts.walk_line.WalkLine.flush.Goals as goal
 
 pub returns-clause-has : goal.returns-clause-has

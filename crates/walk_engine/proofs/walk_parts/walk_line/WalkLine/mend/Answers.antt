@@ -2,7 +2,7 @@
 use Rattle.std.proofs.Common.{subst, sym, refl}
 use Rattle.member_path.specs.path_delay.CallsOnDelayedLine.{and_mend}
 use Rattle.walk_engine.specs.Common.{Has}
-use Rattle.walk_engine.proofs.WalkPartsLaws.ReceiveRingLaws.{has-same, ringed-same}
+use Rattle.walk_engine.proofs.ReceiveRingAndPopLaws.{has-same, ringed-same}
 use Rattle.walk_engine.proofs.walk_parts.walk_line.WalkLine.mend.Goals as goal
 
 pub invariant_of-self : goal.invariant_of-self

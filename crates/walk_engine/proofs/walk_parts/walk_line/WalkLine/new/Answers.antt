@@ -1,7 +1,7 @@
 -- No carry was made.
 use Rattle.std.proofs.Common.{subst}
 use Rattle.member_path.specs.path_delay.CallsOnDelayedLine.{DelayStands, opened}
-use Rattle.walk_engine.proofs.WalkPartsLaws.ReceiveRingLaws.{has-none}
+use Rattle.walk_engine.proofs.ReceiveRingAndPopLaws.{has-none}
 use Rattle.walk_engine.proofs.walk_parts.walk_line.WalkLine.new.Goals as goal
 
 pub returns-clause-has : goal.returns-clause-has

@@ -12,9 +12,9 @@ use Rattle.member_path.specs.path_delay.CallsOnDelayedLine.{path_cells}
 use Rattle.member_path.specs.cell_numbers.SignsAsCells.{cell_with}
 use Rattle.member_rows.specs.realign_rows.Gather.{GatherStands as Gathers, with_cell}
 use Rattle.walk_engine.specs.Common.{Ringed, Has, popped_until, leaves_open}
-use Rattle.walk_engine.proofs.WalkPartsLaws.ReceiveRingLaws.{cell-read, has-popped}
-use Rattle.walk_engine.proofs.WalkPartsLaws.PopUntilDecidedLaws.{waits-is, with-set, set-same, until-shut, until-none, until-next}
-use Rattle.walk_engine.proofs.WalkPartsLaws.PopUntilDecidedLaws.{none-some}
+use Rattle.walk_engine.proofs.ReceiveRingAndPopLaws.{cell-read, has-popped}
+use Rattle.walk_engine.proofs.ReceiveRingAndPopLaws.{waits-is, with-set, set-same, until-shut, until-none, until-next}
+use Rattle.walk_engine.proofs.ReceiveRingAndPopLaws.{none-some}
 use Rattle.walk_engine.proofs.walk_parts.walk_line.WalkLine.pop_into.Goals as goal
 
 pub loop-self-init : goal.loop-self-init

@@ -8,7 +8,7 @@ use Rattle.law_model.specs.Common.{Container}
 use Rattle.member_cells.specs.HeldPlaces.{held}
 use Rattle.member_path.specs.path_delay.CallsOnDelayedLine.{and_push}
 use Rattle.walk_engine.specs.Common.{Ringed, Has, with_sign}
-use Rattle.walk_engine.proofs.WalkPartsLaws.ReceiveRingLaws.{has-more, has-changed}
+use Rattle.walk_engine.proofs.ReceiveRingAndPopLaws.{has-more, has-changed}
 use Rattle.walk_engine.proofs.walk_parts.walk_line.WalkLine.push.Goals as goal
 
 pub returns-clause-has : goal.returns-clause-has

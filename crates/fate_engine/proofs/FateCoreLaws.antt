@@ -1,9 +1,0 @@
-pub mod WholeByWindowLaws
-pub mod PacketRowPlaceLaws
-pub mod SpoiledRunLaws
-pub mod RowSegmentLaws
-pub mod RowAmongSegmentsLaws
-pub mod PiecesBySidesLaws
-pub mod FrameRulerSteps
-pub mod FrameFateSteps
-pub mod LaterMarkLaws

@@ -1,3 +1,0 @@
-pub mod SeenRowLaws
-pub mod WalkRulerLaws
-pub mod FateLineLaws

@@ -1,3 +1,0 @@
-pub mod StreamMetLaws
-pub mod ItemCursorLaws
-pub mod NextLandedFrameLaws

@@ -1,3 +1,0 @@
-pub mod CarriedByFateLaws
-pub mod CarriedHeaderLaws
-pub mod AcceptedAmongLandedLaws

@@ -1,5 +1,0 @@
-pub mod LinearContentLaws
-pub mod AcceptedMaySendLaws
-pub mod WaitingFrameLaws
-pub mod CutRowLaws
-pub mod ChannelDeliveryLaws

@@ -1,5 +1,0 @@
-pub mod LinearOutcomeLaws
-pub mod BusyChannelLaws
-pub mod ChannelTurnSteps
-pub mod ReachedPlaceLaws
-pub mod ChannelTurnLaws

@@ -1,2 +1,0 @@
-pub mod FcsStreamGrowsLaws
-pub mod FcsOutcomeLaws

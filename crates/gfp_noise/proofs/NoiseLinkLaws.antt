@@ -1,4 +1,0 @@
-pub mod NoiseDraftLaws
-pub mod EmptyStreamLaws
-pub mod NoiseReportLaws
-pub mod SaidNoiseLaws

@@ -1,2 +1,0 @@
-pub mod LockVerdictLaws
-pub mod LineNumbersLaws

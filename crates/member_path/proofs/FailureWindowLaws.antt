@@ -1,5 +1,0 @@
-pub mod FrontWindowLaws
-pub mod WindowDamageLaws
-pub mod WindowListFaultLaws
-pub mod SlipRunLaws
-pub mod OpenWindowLaws

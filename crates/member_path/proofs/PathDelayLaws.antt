@@ -1,4 +1,0 @@
-pub mod CarryAddsCellsLaws
-pub mod PushAndFlushLaws
-pub mod EndCellLaws
-pub mod AgreeingWindowLaws

@@ -1,2 +1,0 @@
-pub mod SilentWhereFailedLaws
-pub mod SupposedCarrierLaws

@@ -1,2 +1,0 @@
-pub mod UpByTimersSteps
-pub mod LineLastSaidSteps

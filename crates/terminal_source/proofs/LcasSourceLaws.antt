@@ -1,9 +1,0 @@
-pub mod RewrittenFrontLaws
-pub mod FirstOfOrderSteps
-pub mod EightStatusesLaws
-pub mod ExchangeLaws
-pub mod FirstAddingLaws
-pub mod GroupBitLaws
-pub mod LineInOrderSteps
-pub mod TableCourseSteps
-pub mod SessionCourseLaws

@@ -1,2 +1,0 @@
-pub mod DrawnNumbersLaws
-pub mod LoadItemsLaws

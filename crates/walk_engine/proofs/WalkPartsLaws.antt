@@ -1,2 +1,0 @@
-pub mod ReceiveRingLaws
-pub mod PopUntilDecidedLaws
