@@ -1,2 +1,2 @@
-pub mod CheckBitsRemainderLaws
-pub mod RegisterOrderTablesLaws
+pub mod CheckBitsAndRemainderLaws
+pub mod CheckRegisterAndTableLaws

@@ -4,8 +4,7 @@ use Rattle.check_remainder.specs.Bits.{bits, number}
 use Rattle.check_remainder.specs.Remainder.{add_front, divide, remainder}
 use Rattle.check_remainder.specs.DivisionTable.{IsTable, nibble_bits}
 use Rattle.check_remainder.proofs.NumberAndOctetBitsLaws.{length-bits, number-bits, number_below}
-use Rattle.check_remainder.proofs.DivisionRemainderTableLaws.{length-remainder}
-use Rattle.check_remainder.proofs.DivisionRemainderTableLaws.{IsTable-from_entries}
+use Rattle.check_remainder.proofs.LongDivisionRemainderLaws.{length-remainder, IsTable-from_entries}
 use Rattle.check_nibbles.specs.NibbleCheck.{crc8_lower, crc8_of}
 
 -- the remainders of the nibbles by the generator

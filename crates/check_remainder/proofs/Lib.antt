@@ -1,3 +1,3 @@
-pub mod DivisionRemainderTableLaws
+pub mod LongDivisionRemainderLaws
 pub mod NumberAndOctetBitsLaws
-pub mod XorsAndCountLaws
+pub mod XorAndBitCountLaws

@@ -1,13 +1,13 @@
 -- Numbers and octets, and their bits.
 use Rattle.std.proofs.Common.{◌≡◌, ℕ, zero, suc, ◌+◌, ◌*◌, ◌/◌, ◌%◌, ◌^◌, ◌<◌, ◌==◌, Bool, true, false, if◌then◌else◌}
 use Rattle.std.proofs.Common.{List, [], ◌∷◌, ◌++◌, length, replicate, bit_xor, refl, sym, ◌∙◌, ap, ap₂, arith}
-use Rattle.std.proofs.Common.{append_assoc, append-nil, add-suc, add-zero, add-one, div-one, pow-suc, mod-eq_of_lt, ◌≤◌}
-use Rattle.std.proofs.Common.{take, drop, All, suc-add, zero-add, pow_mono, lt_of_lt_of_le, length-take, length-drop}
-use Rattle.std.proofs.Common.{take_at, drop_at, take-append-drop, pow-add}
+use Rattle.std.proofs.Common.{append_assoc, append-nil, add-suc, add-zero, add-one, div-one, pow-suc, mod-eq_of_lt}
+use Rattle.std.proofs.Common.{◌≤◌, take, drop, All, suc-add, zero-add, pow_mono, lt_of_lt_of_le, length-take}
+use Rattle.std.proofs.Common.{length-drop, take_at, drop_at, take-append-drop, pow-add}
 use Rattle.std.proofs.lemmas.List.{length-append, replicate_more, take-append-le, drop-append-le}
 use Rattle.std.proofs.lemmas.Nat.{shr-shr, shr_split, mod-pow-add, xor_shr, xor_mod, shr_high}
 use Rattle.check_remainder.specs.Bits.{bits, number_behind, number, xor, xors, octet_bits, octets_of}
-use Rattle.check_remainder.proofs.XorsAndCountLaws.{xors-append}
+use Rattle.check_remainder.proofs.XorAndBitCountLaws.{xors-append}
 use Rattle.std.specs.Int.{byte_at, bytes_high_first}
 use Rattle.std.proofs.lemmas.List.Elements.{All-nil, All-cons, All-head, All-tail}
 use Rattle.std.proofs.lemmas.List.Concat.{flat_map-append}

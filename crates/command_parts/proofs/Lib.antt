@@ -1,5 +1,5 @@
-pub mod ListenerOctetsSaidLaws
-pub mod SourceReadingStopsLaws
-pub mod TalkCourseHeardLaws
-pub mod TalkEndsOverSourceLaws
-pub mod TaskGivesAndEndsLaws
+pub mod ListenerLineAndSaidTextLaws
+pub mod SourceTextAndStopLaws
+pub mod TalkCourseOverOctetsLaws
+pub mod TalkOverSourceAndEndLaws
+pub mod TaskEndAndStatusLaws

@@ -1,2 +1,2 @@
-pub mod EndedSessionWritesLaws
+pub mod EndedSessionReportLaws
 pub mod WatchAlarmTextLaws

@@ -5,7 +5,7 @@ use Rattle.std.specs.List.{range_with_len}
 use Rattle.law_model.proofs.ListLaws.{texts-more}
 use Rattle.law_model.specs.Common.{Appends, leg_of}
 use Rattle.law_model.specs.declared.script_types.Script.{Script}
-use Rattle.octet_io.proofs.AppendedPartsLaws.{Appends-none}
+use Rattle.octet_io.proofs.AppendedTextAndPrefixLaws.{Appends-none}
 use Rattle.text_got.specs.TextSoFar.{AppendsSome}
 use Rattle.thread_rings.specs.declared.alarm_kinds.Alarm.{Alarm}
 use Rattle.thread_rings.specs.LineAlarms.{alarms_of_line}

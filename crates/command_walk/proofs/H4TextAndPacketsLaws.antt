@@ -9,7 +9,7 @@ use Rattle.text_lines.specs.declared.text_faults.LineKind.TheVariants.{Hex}
 use Rattle.text_lines.specs.WordsOfLine.{words}
 use Rattle.text_lines.specs.Fields.{where_true}
 use Rattle.text_lines.specs.Language.{said_from, said_by}
-use Rattle.text_lines.proofs.LanguageLaws.{line_faulty, line_sound, end_sound}
+use Rattle.text_lines.proofs.LineLanguageAndTableLaws.{line_faulty, line_sound, end_sound}
 use Rattle.command_walk.specs.commands.HexText.{line_octets, hex_lines, hex_text, hex_text_of}
 use Rattle.std.specs.Result.{result_ok}
 use Rattle.law_model.proofs.ListLaws.{replicate-at}
@@ -17,13 +17,13 @@ use Rattle.std.specs.List.{range_with_len, list_all}
 use Rattle.std.specs.Str.Lines.{lines, strip_carriage_return}
 use Rattle.std.proofs.lemmas.Bool.{leb-true, lt-ltb, cases_lt}
 use Rattle.std.proofs.lemmas.Bool.Decides.{nat_tests}
-use Rattle.std.proofs.lemmas.List.FromFn.{get_or-map-range_with_len, map-range_with_len_more, length-map-range_with_len}
-use Rattle.std.proofs.lemmas.List.FromFn.{fill_by_all, take-map-range_with_len}
+use Rattle.std.proofs.lemmas.List.FromFn.{get_or-map-range_with_len, map-range_with_len_more}
+use Rattle.std.proofs.lemmas.List.FromFn.{length-map-range_with_len, fill_by_all, take-map-range_with_len}
 use Rattle.std.proofs.lemmas.List.Elements.{All-nil, All-cons, All-weaker}
 use Rattle.hex.specs.Hex.{encode_with, encode_lower, lower_digits, IsBytes}
 use Rattle.hex.proofs.HexLemmas.{length-encode_with, decode_of-encode_lower}
 use Rattle.text_lines.specs.Cut.{Lacks}
-use Rattle.text_lines.proofs.LinesWordsFieldsLaws.{lines_cut, words_only}
+use Rattle.text_lines.proofs.TextLineAndWordLaws.{lines_cut, words_only}
 use Rattle.command_walk.specs.commands.H4.{multiframe_text, h4_text, h4_octets}
 use Rattle.std.proofs.lemmas.List.{get_or_past, take_more}
 use Rattle.law_model.specs.Common.{leg_of, IsValid, Told, Table, telling, untold, sent_packet, forward_packet}
@@ -41,8 +41,8 @@ use Rattle.law_model.specs.members.CellVerdicts.{begun}
 use Rattle.law_model.specs.packets.Decode.{packets_in}
 use Rattle.std.proofs.lemmas.List.Concat.{flat_map-append}
 use Rattle.law_model.specs.declared.control_packet.PacketFault.{PacketFault}
-use Rattle.octet_io.proofs.AppendedPartsLaws.{Appends-none, Appends-then, AppendsPart-then, AppendsPart-longer}
-use Rattle.text_captures.proofs.PacketsInOctetsLaws.{packets_stay}
+use Rattle.octet_io.proofs.AppendedTextAndPrefixLaws.{Appends-none, Appends-then, AppendsPart-then, AppendsPart-longer}
+use Rattle.text_captures.proofs.H4PacketDecodingLaws.{packets_stay}
 use Rattle.command_walk.specs.DecodingSoFar.{HasLines, HasLinesPart}
 
 -- ---- Lines of hexadecimal digits, one on and at the end.

@@ -1,5 +1,5 @@
-pub mod CommandAnswersAndEndsLaws
 pub mod H4TextAndPacketsLaws
-pub mod TakenAndSummedFramesLaws
-pub mod TracedWalkCountsLaws
 pub mod TurnsLeftLaws
+pub mod WalkCaptureAndFrameSumLaws
+pub mod WalkCommandAndHeadlineLaws
+pub mod WalkTraceAndEventCountLaws

@@ -11,9 +11,9 @@ use Rattle.law_model.specs.session.Leg.{leg_of}
 use Rattle.law_model.specs.session.ValidScript.{IsValid, IsEvent}
 use Rattle.law_model.specs.session.Counts.{Plan, Counts, begin, run, run_line, run_lines, round, bound}
 use Rattle.law_progress.specs.Progress.{made}
-use Rattle.law_progress.proofs.MovesRoundDrainLaws.{run-append}
+use Rattle.law_progress.proofs.RoundProgressAndDrainLaws.{run-append}
 use Rattle.law_walk.specs.Walk.{walk_plan}
-use Rattle.law_walk.proofs.WalkPlanSessionLaws.{begins-walked}
+use Rattle.law_walk.proofs.WalkPlanAndPoppedCellLaws.{begins-walked}
 use Rattle.law_headline.specs.WalkTexts.{counts_in}
 use Rattle.walk_engine.proofs.WalkRoundAndTotalsLaws.{round-turn, drained-end}
 use Rattle.command_walk.specs.declared.turns.trace_turns.Turn.{Turn}
@@ -24,7 +24,7 @@ use Rattle.command_walk.specs.declared.turns.next_turns.TurnsLeft.{TurnsLeft}
 use Rattle.command_walk.specs.TracedWalk.{events_of}
 use Rattle.command_walk.specs.TurnsLeft.{once, turns_once, line_turns, lines_turns, turns_in, IsPending, AreLeft}
 use Rattle.command_walk.specs.TurnsLeft.{GivesTurn}
-use Rattle.command_walk.proofs.TracedWalkCountsLaws.{lines-some, lines-no, turn-walked, turns-none, paths-many}
+use Rattle.command_walk.proofs.WalkTraceAndEventCountLaws.{lines-some, lines-no, turn-walked, turns-none, paths-many}
 
 -- The turns that are left of a walk: one of them, or none of a line.
 -- the first of some tries

@@ -1,3 +1,3 @@
 pub mod CheckTextAndEarlyFrameLaws
+pub mod IdleFailureRemovalLaws
 pub mod UsedLineAndSparedRowLaws
-pub mod WithoutIdleFailureLaws

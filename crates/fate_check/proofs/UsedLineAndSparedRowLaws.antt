@@ -10,11 +10,11 @@ use Rattle.law_model.specs.Common.{are_inferred, is_whole_under, is_whole_row}
 use Rattle.fate_check.specs.UsedLines.{used_lines, is_used, has_payload, AreAlike}
 use Rattle.fate_engine.specs.declared.fate_law.Cause.{Cause}
 use Rattle.fate_engine.specs.Common.{row_cause}
-use Rattle.fate_engine.proofs.CauseWholeSpoiledRunsLaws.{cause-whole}
+use Rattle.fate_engine.proofs.SpoiledRunAndWholeContainerLaws.{cause-whole}
 use Rattle.fate_check.specs.IdleWindows.{is_spared}
 use Rattle.std.proofs.lemmas.List.Folds.{list_all_at}
 use Rattle.std.proofs.lemmas.List.FromFn.{length-range_with_len, get_or-range_with_len}
-use Rattle.law_row.proofs.LastWordReturnLaws.{all-at, all-from}
+use Rattle.law_row.proofs.LastWordAndReturnPacketLaws.{all-at, all-from}
 
 -- ---- Rows that are governed by the same packet have the same lines that carry payload.
 -- before the first row that a packet governs

@@ -1,8 +1,8 @@
-pub mod CauseWholeSpoiledRunsLaws
-pub mod FateAtPiecesLaws
-pub mod GotFramesLaws
-pub mod LiesInRowAtLaws
+pub mod FrameFateAndPieceLaws
+pub mod FrameRowAndSegmentLaws
+pub mod GotFateAndLandedFrameLaws
 pub mod PacketRowPlaceLaws
-pub mod RowSegmentsLookLaws
-pub mod RulerSidesPiecesLaws
+pub mod RowSegmentLookupLaws
+pub mod RulerAndFrameSideLaws
+pub mod SpoiledRunAndWholeContainerLaws
 pub mod TrueMarksLaws

@@ -5,20 +5,20 @@ use Rattle.std.proofs.Common.{option_map, eqb-true, eq-eqb, append-nil, zero, su
 use Rattle.std.specs.List.{list_any, list_all}
 use Rattle.std.proofs.lemmas.Bool.{cases_Bool, and_parts, lt-ltb}
 use Rattle.std.proofs.lemmas.List.Elements.{All-nil, All-cons, All-head, All-tail}
-use Rattle.law_loss.proofs.FrameExtentsFilterLaws.{no_octets, or_true}
+use Rattle.law_loss.proofs.ClientFrameExtentLaws.{no_octets, or_true}
 use Rattle.law_model.specs.Common.{Piece, size_of, stream_of, Confirmed, hunt, StreamRow, Segment, segments}
 use Rattle.law_model.specs.Common.{octets_of_rows, confirmed_in, IsPlaceOfPiece, StartsTrue, TrueStarts, hunt_within}
 use Rattle.law_model.proofs.StreamOfPiecesLaws.{length-stream_of-cons}
 use Rattle.law_loss.specs.CarriedStream.{CarriesStream}
-use Rattle.law_loss.proofs.HuntSearchRunsLaws.{confirmed-within}
-use Rattle.law_loss.proofs.SegmentsOfRowsAddedLaws.{IsPart}
-use Rattle.law_loss.proofs.GivenLostKeptLaws.{parts-of}
+use Rattle.law_loss.proofs.SegmentHuntAndRunLaws.{confirmed-within}
+use Rattle.law_loss.proofs.SegmentsOfAddedRowsLaws.{IsPart}
+use Rattle.law_loss.proofs.GivenAndLostFrameLaws.{parts-of}
 use Rattle.fate_engine.specs.Common.{places, is_piece_at, is_true_mark, has_true_mark, are_true_marks, Span}
 use Rattle.fate_engine.specs.Common.{row_segment, row_segments_with, has_row, later_segments, is_true_of}
 use Rattle.std.proofs.lemmas.List.{drop_all}
 use Rattle.fate_engine.specs.declared.fate_law.RowSegment.{RowSegment}
-use Rattle.fate_engine.proofs.LiesInRowAtLaws.{with_row, next_segment, tail, segments-tail, span_tail}
-use Rattle.fate_engine.proofs.RowSegmentsLookLaws.{from_here, from-start, start, no_span}
+use Rattle.fate_engine.proofs.FrameRowAndSegmentLaws.{with_row, next_segment, tail, segments-tail, span_tail}
+use Rattle.fate_engine.proofs.RowSegmentLookupLaws.{from_here, from-start, start, no_span}
 
 -- ---- That all marks are true is decided.
 -- ---- places of pieces

@@ -1,9 +1,9 @@
-pub mod AreOutagesDarkLaws
-pub mod FateTellsLiesBetweenLaws
-pub mod LandedTallyTotalsLaws
-pub mod LostBelongsToOutageLaws
-pub mod MembersRoomOctetsFitLaws
-pub mod RisesChainsPointLaws
+pub mod FrameFateBetweenOutagesLaws
+pub mod FrameTickAndRowOrderLaws
+pub mod LandedFrameTallyLaws
+pub mod MemberRunAndCarriedOctetLaws
+pub mod OutageAndDarkRowLaws
+pub mod OutageAndLostFrameLaws
 pub mod ServiceTextLaws
-pub mod SpoiledAfterStateLaws
-pub mod SumStretchSpansPeakLaws
+pub mod SpoiledRowStateLaws
+pub mod StretchSumAndQueuePeakLaws

@@ -1,6 +1,6 @@
 -- The service text: how it goes on line by line, and that it depends on neither delays nor rings.
-use Rattle.std.proofs.Common.{ℕ, List, ◌++◌, ◌∙◌, ap, arith, append_assoc, length-append, ◌≡◌, zero, suc, ◌+◌, ◌-◌, ◌<◌}
-use Rattle.std.proofs.Common.{◌≤◌, ◌==◌, min, Bool, [], ◌∷◌, length, map, drop, get_or, Option, refl, sym, ap₂}
+use Rattle.std.proofs.Common.{ℕ, List, ◌++◌, ◌∙◌, ap, arith, append_assoc, length-append, ◌≡◌, zero, suc, ◌+◌, ◌-◌}
+use Rattle.std.proofs.Common.{◌<◌, ◌≤◌, ◌==◌, min, Bool, [], ◌∷◌, length, map, drop, get_or, Option, refl, sym, ap₂}
 use Rattle.std.proofs.Common.{append-nil, inl, inr}
 use Rattle.text_report.specs.declared.text_cursor.TextCursor.{TextCursor}
 use Rattle.text_report.specs.TextCursor.{text_of, Extends}
@@ -25,10 +25,10 @@ use Rattle.fate_service.specs.ServiceText.{members_text, outage_text, outages_te
 use Rattle.fate_service.specs.ServiceText.{last_text, widths_of, service_text}
 use Rattle.law_model.specs.Common.{Counts, begin, Leg, scenario_by, IsSound, place_of, stream_before}
 use Rattle.law_walk.specs.Common.{session_rows, landed_items, numbered, session_pieces, session_of, walk_plan}
-use Rattle.law_walk.proofs.AcceptedFramesDrainedLaws.{drained-ticks, drained-landed, drain-ends}
-use Rattle.law_walk.proofs.WalkPlanSessionLaws.{sound-walks, begins-walked}
+use Rattle.law_walk.proofs.AcceptedFrameAndDrainedWalkLaws.{drained-ticks, drained-landed, drain-ends}
+use Rattle.law_walk.proofs.WalkPlanAndPoppedCellLaws.{sound-walks, begins-walked}
 use Rattle.law_service.specs.Twins.{with_delays, whole_walk}
-use Rattle.law_service.proofs.WholeWalkTurnsDelaysLaws.{ended-same}
+use Rattle.law_service.proofs.RepeatedTurnAndDelayLaws.{ended-same}
 use Rattle.fate_engine.specs.Common.{are_true_marks, ruler_of, Ended as EndedItem, ended_of, ended_among}
 use Rattle.fate_engine.specs.Common.{fate_at, row_cause}
 use Rattle.fate_service.specs.FrameColumns.{offered_of, accepted_of, carried_of, waits_of}

@@ -6,7 +6,7 @@
 //! - `landed_frames`: the client's frames that have landed, in the columns that the sums need.
 //! - `row_states`: what each taken row is: whole, whole and not yet of use, or not whole.
 //! - `outages`: the longest runs of rows that are of no use, and the frames that are lost in each.
-//! - `interval_counts`: the counts from one tick to another.
+//! - `stretch_counts`: the counts of a stretch, from one tick to another.
 //! - `frame_delays`: the delays that so many frames don't exceed.
 //! - `service_text`: the lines of the text.
 //! - `service_report`: what is found of a walk, and the text that is written of it.

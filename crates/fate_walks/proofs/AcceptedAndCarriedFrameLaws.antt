@@ -17,16 +17,16 @@ use Rattle.law_model.specs.declared.script_types.ItemKind.{ItemKind}
 use Rattle.law_model.specs.declared.item_refusals.AcceptFault.TheVariants.{Length, QueueFull}
 use Rattle.law_model.specs.declared.item_refusals.Refusal.{Refusal}
 use Rattle.law_model.specs.declared.script_types.ItemKind.TheVariants.{Frame, Add, Remove}
-use Rattle.law_session.proofs.LandedAcceptedStreamAlikeLaws.{stream-reaches, stream_before-frames}
-use Rattle.law_loss.proofs.FrameExtentsFilterLaws.{filter-none, IsBetween, extents-between, extents-append}
-use Rattle.law_loss.proofs.FrameExtentsFilterLaws.{frames_ended, no_octets}
+use Rattle.law_session.proofs.ClientStreamAndReplayLaws.{stream-reaches, stream_before-frames}
+use Rattle.law_loss.proofs.ClientFrameExtentLaws.{filter-none, IsBetween, extents-between, extents-append}
+use Rattle.law_loss.proofs.ClientFrameExtentLaws.{frames_ended, no_octets}
 use Rattle.law_loss.proofs.SessionStreamLossLaws.{frames-extents, pieces-begin, rows-length}
 use Rattle.law_model.specs.declared.item_refusals.Refusal.TheVariants.{Frame as frame_fault}
 use Rattle.law_walk.specs.Common.{session_of, IsWalked, session_rows, Numbered, is_client, with_if, landed_from}
 use Rattle.law_walk.specs.Common.{landed_items, refusal_at, frame_by, session_extents, session_waiting}
-use Rattle.law_walk.proofs.WalkPlanSessionLaws.{sound-walks}
-use Rattle.law_walk.proofs.AcceptedFramesDrainedLaws.{counts-within, frames-known}
-use Rattle.fate_engine.proofs.GotFramesLaws.{accepts, landed-first, before-few}
+use Rattle.law_walk.proofs.WalkPlanAndPoppedCellLaws.{sound-walks}
+use Rattle.law_walk.proofs.AcceptedFrameAndDrainedWalkLaws.{counts-within, frames-known}
+use Rattle.fate_engine.proofs.GotFateAndLandedFrameLaws.{accepts, landed-first, before-few}
 use Rattle.fate_walks.specs.declared.walk_frames.landed_cursor.LandedFrame.{LandedFrame}
 use Rattle.fate_walks.specs.walk_frames.ItemCursor.{Cursor, frames_before_item, frames_left, IsAt, IsNext, IsPast}
 use Rattle.fate_walks.specs.walk_frames.StreamInTicks.{stream_in}
@@ -41,11 +41,11 @@ use Rattle.fate_walks.specs.walk_gfp.CarriedInRows.{with_last_row, carried_among
 use Rattle.fate_walks.specs.walk_gfp.LastRowOfFrame.{last_row, frame_if}
 use Rattle.std.proofs.Math.Seq.{take-append_seam, drop-append_seam}
 use Rattle.law_model.proofs.CoreHeaderLaws.{length-core_header}
-use Rattle.law_model.proofs.ScrambledCutJoinedLaws.{scrambled_behind, map-length-scrambled_behind}
+use Rattle.law_model.proofs.ScrambledBitAndAreaLaws.{scrambled_behind, map-length-scrambled_behind}
 use Rattle.law_model.proofs.StreamOfPiecesLaws.{stream_behind, stream_of-append, length-stream_of-cons}
 use Rattle.text_captures.specs.capture_file.WrittenCapture.{RowFrame}
 use Rattle.text_captures.specs.capture_file.GfpInCapture.{with_pattern, gfp_octets}
-use Rattle.text_captures.proofs.CaptureRowFramesLaws.{pattern-on}
+use Rattle.text_captures.proofs.WrittenCaptureFrameLaws.{pattern-on}
 
 -- ---- The accepted frames among the items that have landed, one after another, and how many of them rows can carry.
 -- the accepted frames of the items that have landed

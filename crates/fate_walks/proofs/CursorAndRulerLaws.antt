@@ -1,7 +1,7 @@
 -- A Cursor passes the items that have landed, and the stream and its ruler go on frame by frame, tick by tick.
-use Rattle.std.proofs.Common.{◌≡◌, ℕ, zero, suc, ◌+◌, ◌-◌, ◌<◌, ◌≤◌, nat_lt, if◌then◌else◌, Bool, true, false, List, []}
-use Rattle.std.proofs.Common.{◌∷◌, ◌++◌, take, drop, length, All, Option, Some, None, slice_get, get_or, ◌⊎◌, refl, sym}
-use Rattle.std.proofs.Common.{◌∙◌, ap, ap₂, subst, arith, inl, inr, append-nil, length-append, map, filter, fold}
+use Rattle.std.proofs.Common.{◌≡◌, ℕ, zero, suc, ◌+◌, ◌-◌, ◌<◌, ◌≤◌, nat_lt, if◌then◌else◌, Bool, true, false, List}
+use Rattle.std.proofs.Common.{[], ◌∷◌, ◌++◌, take, drop, length, All, Option, Some, None, slice_get, get_or, ◌⊎◌, refl}
+use Rattle.std.proofs.Common.{sym, ◌∙◌, ap, ap₂, subst, arith, inl, inr, append-nil, length-append, map, filter, fold}
 use Rattle.std.proofs.Common.{option_map, ◌^◌, is_some}
 use Rattle.std.proofs.lemmas.Bool.{lt-ltb}
 use Rattle.std.proofs.lemmas.List.{take_all, drop_all, map-append}
@@ -17,7 +17,7 @@ use Rattle.law_model.specs.declared.script_types.Item.{Item}
 use Rattle.law_model.specs.declared.script_types.ItemKind.{ItemKind}
 use Rattle.law_model.specs.declared.item_refusals.Refusal.{Refusal}
 use Rattle.law_model.specs.declared.script_types.ItemKind.TheVariants.{Frame, Add, Remove}
-use Rattle.law_walk.proofs.LandedAheadInsertedRefusalsLaws.{frame-waits, filter-first, offer-at}
+use Rattle.law_walk.proofs.LandedItemRefusalAndTotalLaws.{frame-waits, filter-first, offer-at}
 use Rattle.law_walk.specs.Common.{Numbered, is_client, with_if, landed_from, refused_by, refusal_at, refusals_among}
 use Rattle.law_walk.specs.Common.{refusals_of, session_of, stream_met, kind_refusal, IsWalked}
 use Rattle.fate_walks.specs.walk_frames.ItemCursor.{Cursor, frames_before_item, frames_left, IsAt, IsNext, IsSkipped}
@@ -30,10 +30,10 @@ use Rattle.fate_walks.specs.walk_frames.StreamInTicks.{place_in, stream_in, Betw
 use Rattle.law_loss.proofs.ItemDueTicksLaws.{offers_rise}
 use Rattle.law_model.specs.declared.item_refusals.Refusal.TheVariants.{Frame as frame_fault}
 use Rattle.fate_walks.specs.declared.walk_frames.landed_cursor.LandedFrame.{LandedFrame}
-use Rattle.law_walk.proofs.WalkPlanSessionLaws.{sound-walks}
-use Rattle.law_walk.proofs.AcceptedFramesDrainedLaws.{counts-within}
-use Rattle.law_walk.proofs.DeliveredFramesShorterLaws.{place-most}
-use Rattle.fate_engine.proofs.RulerSidesPiecesLaws.{reached-ruled}
+use Rattle.law_walk.proofs.WalkPlanAndPoppedCellLaws.{sound-walks}
+use Rattle.law_walk.proofs.AcceptedFrameAndDrainedWalkLaws.{counts-within}
+use Rattle.law_walk.proofs.DeliveredFrameCountLaws.{place-most}
+use Rattle.fate_engine.proofs.RulerAndFrameSideLaws.{reached-ruled}
 use Rattle.fate_walks.specs.walk_fates.PacketsAndRuler.{Rules}
 
 -- ---- The items of a leg are passed one after another: frames that have landed, and others.

@@ -1,9 +1,9 @@
 -- What is seen of a walk row by row (Sees), the fates and marks that follow, and the text of their lines.
 use Rattle.std.proofs.Common.{◌≡◌, ℕ, suc, ◌+◌, ◌-◌, ◌*◌, ◌<◌, ◌≤◌, ◌&&◌, ◌||◌, nat_lt, Bool, true, false, List, []}
-use Rattle.std.proofs.Common.{◌∷◌, ◌++◌, length, filter, take, drop, All, Option, Some, None, slice_get, refl, sym, ◌∙◌}
-use Rattle.std.proofs.Common.{ap, ap₂, subst, arith, inl, inr, append-nil, append_assoc, length-append, length-take}
-use Rattle.std.proofs.Common.{if◌then◌else◌, flat_map, Contains, option_map, zero, ◌^◌, map, is_none, is_some, not}
-use Rattle.std.proofs.Common.{slice_index_or}
+use Rattle.std.proofs.Common.{◌∷◌, ◌++◌, length, filter, take, drop, All, Option, Some, None, slice_get, refl, sym}
+use Rattle.std.proofs.Common.{◌∙◌, ap, ap₂, subst, arith, inl, inr, append-nil, append_assoc, length-append}
+use Rattle.std.proofs.Common.{length-take, if◌then◌else◌, flat_map, Contains, option_map, zero, ◌^◌, map, is_none}
+use Rattle.std.proofs.Common.{is_some, not, slice_index_or}
 use Rattle.std.specs.List.{list_all, range_with_len}
 use Rattle.std.proofs.lemmas.Bool.{cases_Bool, cases_lt}
 use Rattle.std.proofs.lemmas.List.Concat.{flat_map-append}
@@ -16,24 +16,24 @@ use Rattle.law_model.specs.declared.script_types.Item.{Item}
 use Rattle.law_model.specs.declared.script_types.ItemKind.{ItemKind}
 use Rattle.law_model.specs.declared.item_refusals.Refusal.{Refusal}
 use Rattle.law_model.specs.declared.script_types.ItemKind.TheVariants.{Frame, Add, Remove}
-use Rattle.law_loss.proofs.SegmentsOfRowsAddedLaws.{IsPart, Stands-all}
-use Rattle.law_loss.proofs.HuntSearchRunsLaws.{confirmed-within}
+use Rattle.law_loss.proofs.SegmentsOfAddedRowsLaws.{IsPart, Stands-all}
+use Rattle.law_loss.proofs.SegmentHuntAndRunLaws.{confirmed-within}
 use Rattle.law_loss.proofs.SessionStreamLossLaws.{pieces-begin, rows-octets, rows-length}
 use Rattle.law_walk.specs.Common.{session_of, session_rows, session_pieces, Numbered, is_client, with_if, landed_from}
 use Rattle.law_walk.specs.Common.{refusal_at, IsWalked, table_in}
-use Rattle.law_walk.proofs.WalkPlanSessionLaws.{sound-walks}
-use Rattle.law_walk.proofs.AcceptedFramesDrainedLaws.{counts-within}
+use Rattle.law_walk.proofs.WalkPlanAndPoppedCellLaws.{sound-walks}
+use Rattle.law_walk.proofs.AcceptedFrameAndDrainedWalkLaws.{counts-within}
 use Rattle.fate_engine.specs.Common.{row_at, is_piece_at, is_true_mark, has_true_mark, are_true_marks, Span, spans}
-use Rattle.fate_engine.specs.Common.{row_segment, row_segments_with, row_segments, has_row, later_segments, mark_of_row}
-use Rattle.fate_engine.specs.Common.{End, refused, accepted, Ended, ended_by, ended_then, ended_on, ended_of, fate_at}
-use Rattle.fate_engine.specs.Common.{is_refused, has_got, has_waited, count_of, ended_text, fates_end, last_text}
-use Rattle.fate_engine.specs.Common.{row_cause, PacketList, Tells, AreRuns}
+use Rattle.fate_engine.specs.Common.{row_segment, row_segments_with, row_segments, has_row, later_segments}
+use Rattle.fate_engine.specs.Common.{mark_of_row, End, refused, accepted, Ended, ended_by, ended_then, ended_on}
+use Rattle.fate_engine.specs.Common.{ended_of, fate_at, is_refused, has_got, has_waited, count_of, ended_text}
+use Rattle.fate_engine.specs.Common.{fates_end, last_text, row_cause, PacketList, Tells, AreRuns}
 use Rattle.fate_engine.specs.declared.fate_law.Fate.{Fate}
 use Rattle.fate_engine.specs.declared.fate_law.Fate.TheVariants.{Waits, Cut, Unconfirmed, Hunting, Unsettled, Got}
 use Rattle.fate_engine.specs.declared.fate_law.RowSegment.{RowSegment}
-use Rattle.fate_engine.proofs.FateAtPiecesLaws.{session-made, rows-count, place-up, row-is}
-use Rattle.law_loss.proofs.GivenLostKeptLaws.{parts-of}
-use Rattle.fate_engine.proofs.RulerSidesPiecesLaws.{piece-front}
+use Rattle.fate_engine.proofs.FrameFateAndPieceLaws.{session-made, rows-count, place-up, row-is}
+use Rattle.law_loss.proofs.GivenAndLostFrameLaws.{parts-of}
+use Rattle.fate_engine.proofs.RulerAndFrameSideLaws.{piece-front}
 use Rattle.fate_walks.specs.declared.walk_frames.landed_cursor.LandedFrame.{LandedFrame}
 use Rattle.fate_walks.specs.walk_frames.ItemCursor.{Cursor, frames_before_item, frames_left, IsAt, IsNext, IsPast}
 use Rattle.fate_walks.proofs.CursorAndRulerLaws.{next-count}
@@ -44,10 +44,10 @@ use Rattle.std.specs.Option.{ForSome}
 use Rattle.std.proofs.lemmas.List.FromFn.{map-range_with_len_more, length-map-range_with_len}
 use Rattle.law_model.specs.session.Scenario.{packets_in}
 use Rattle.law_model.specs.rows.SessionStream.{row_of}
-use Rattle.law_walk.proofs.DeliveredFramesShorterLaws.{place-most}
+use Rattle.law_walk.proofs.DeliveredFrameCountLaws.{place-most}
 use Rattle.terminal_sink.specs.marked_delineator.Marks.{first_place}
 use Rattle.fate_engine.specs.declared.fate_law.Cause.{Cause}
-use Rattle.fate_engine.proofs.CauseWholeSpoiledRunsLaws.{cause-whole}
+use Rattle.fate_engine.proofs.SpoiledRunAndWholeContainerLaws.{cause-whole}
 use Rattle.fate_engine.specs.fate_core.Segments.{SegmentsStand}
 use Rattle.fate_walks.specs.walk_fates.PacketsAndRuler.{Governs}
 use Rattle.fate_walks.specs.walk_fates.Seen.{Sees}

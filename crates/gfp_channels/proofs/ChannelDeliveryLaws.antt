@@ -9,17 +9,17 @@ use Rattle.gfp_model.specs.linear_model.ChannelArea.{extension_header, ChannelFr
 use Rattle.gfp_model.specs.linear_model.Channels.{Channels, waiting_of}
 use Rattle.gfp_model.specs.linear_model.ChannelStream.{LinearPiece, idle, client, linear_stream, Shared, unsent}
 use Rattle.gfp_model.specs.linear_model.ChannelStream.{reached, frames_of, stream_to, cut_rows, segment_outcomes}
-use Rattle.gfp_channels.proofs.ReachedPlaceFillerLaws.{reached-fewest, long}
+use Rattle.gfp_channels.proofs.LinearStreamPlaceLaws.{reached-fewest, long}
 use Rattle.gfp_channels.proofs.BusyChannelTurnLaws.{reached-keeps}
-use Rattle.law_loss.proofs.FrameExtentsFilterLaws.{frames_to, all_frames, frames_to-first}
+use Rattle.law_loss.proofs.ClientFrameExtentLaws.{frames_to, all_frames, frames_to-first}
 use Rattle.law_loss.specs.FrameKind.{stream_in, IsPieceIn, segment_told, Carries}
 use Rattle.gfp_channels.specs.channel_law.FramesOfChannel.{AreSound, linear_kind, as_pieces, read_content, frame_with}
 use Rattle.gfp_channels.specs.channel_law.FramesOfChannel.{frames_told, content_frames, carried_of, kept_of}
 use Rattle.gfp_channels.specs.channel_law.FramesOfChannel.{delivered_of, AreOrdered}
 use Rattle.gfp_channels.proofs.LinearExtensionLaws.{linear-sound, stream-pieces, IsSent, pieces_sent}
-use Rattle.gfp_channels.proofs.OfferRefusalWaitingLaws.{reached_sent, unsent_may}
+use Rattle.gfp_channels.proofs.OfferedChannelFrameLaws.{reached_sent, unsent_may}
 use Rattle.gfp_channels.proofs.CutSegmentReceptionLaws.{none-ordered, cut-octets, all-whole}
-use Rattle.law_loss.proofs.GivenLostKeptLaws.{told-kept, told-all}
+use Rattle.law_loss.proofs.GivenAndLostFrameLaws.{told-kept, told-all}
 
 -- What is delivered of each channel, with cuts and without.
 -- ---- frames of one channel

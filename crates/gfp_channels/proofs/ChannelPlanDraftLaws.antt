@@ -8,8 +8,8 @@ use Rattle.std.proofs.lemmas.List.Elements.{All-nil, All-cons, All-append, All-m
 use Rattle.text_lines.specs.WordsOfLine.{word_at, number_at}
 use Rattle.text_lines.specs.Fields.{within, any, above, digits}
 use Rattle.text_lines.specs.LanguageTable.{next_by}
-use Rattle.text_lines.proofs.LinesWordsFieldsLaws.{where_none, number_ok, digits_ok, one_field, two_fields}
-use Rattle.text_lines.proofs.LanguageLaws.{IsPlaced, IsSound, Keeps, said_valid}
+use Rattle.text_lines.proofs.TextLineAndWordLaws.{where_none, number_ok, digits_ok, one_field, two_fields}
+use Rattle.text_lines.proofs.LineLanguageAndTableLaws.{IsPlaced, IsSound, Keeps, said_valid}
 use Rattle.gfp_model.specs.declared.linear_model.Cut.{Cut}
 use Rattle.gfp_channels.specs.declared.channel_link.channel_keyword.Keyword.{Keyword}
 use Rattle.gfp_channels.specs.declared.channel_link.channel_draft.Draft.{Draft}
@@ -20,7 +20,7 @@ use Rattle.gfp_model.specs.linear_model.Channels.{Channels, silent, waiting_of, 
 use Rattle.gfp_model.specs.linear_model.ChannelStream.{stream_to}
 use Rattle.gfp_channels.specs.channel_law.FramesOfChannel.{AreSound, AreOrdered, delivered_of}
 use Rattle.gfp_channels.specs.channel_law.Offers.{after_frames}
-use Rattle.gfp_channels.proofs.OfferRefusalWaitingLaws.{silent_sound, AreOctets, waiting-all, after_sound}
+use Rattle.gfp_channels.proofs.OfferedChannelFrameLaws.{silent_sound, AreOctets, waiting-all, after_sound}
 use Rattle.gfp_channels.proofs.ChannelDeliveryLaws.{carried-take, delivered-all, delivered-kept}
 use Rattle.gfp_channels.specs.declared.channel_link.channel_draft.Offer.{Offer}
 use Rattle.gfp_channels.specs.declared.channel_link.channel_draft.ChannelPlan.{ChannelPlan}

@@ -3,5 +3,5 @@ pub mod ChannelDeliveryLaws
 pub mod ChannelPlanDraftLaws
 pub mod CutSegmentReceptionLaws
 pub mod LinearExtensionLaws
-pub mod OfferRefusalWaitingLaws
-pub mod ReachedPlaceFillerLaws
+pub mod LinearStreamPlaceLaws
+pub mod OfferedChannelFrameLaws

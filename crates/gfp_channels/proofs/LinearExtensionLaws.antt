@@ -24,7 +24,7 @@ use Rattle.gfp_channels.specs.gfp_linear.Delineator.{LinearReceiver, frame_of, I
 use Rattle.gfp_channels.specs.gfp_linear.Delineator.{linear_of_end, StandsIn}
 use Rattle.std.proofs.lemmas.List.Elements.{All-nil, All-cons, All-append, All-map, All-weaker}
 use Rattle.check_remainder.proofs.NumberAndOctetBitsLaws.{number_below}
-use Rattle.check_hec16.proofs.HecOneWrongBitLaws.{length-hec_bits}
+use Rattle.check_hec16.proofs.HecWithOneWrongBitLaws.{length-hec_bits}
 use Rattle.gfp_model.specs.linear_model.ChannelStream.{LinearPiece, idle, client, area_of, linear_stream}
 use Rattle.law_loss.specs.FrameKind.{IsKind, area_in, stream_in, IsContent, IsPieceIn}
 use Rattle.gfp_channels.specs.channel_law.FramesOfChannel.{IsChannelFrame, read_content, linear_kind, as_piece}

@@ -1,15 +1,15 @@
 -- Outcomes: those of the areas of a run and of one more, and those that an answer of a delineator tells.
 use Rattle.std.proofs.Common.{◌≡◌, ℕ, ◌+◌, Bool, List, [], ◌∷◌, ◌++◌, length, map, drop, sum, refl, sym, ◌∙◌, ap, ap₂}
-use Rattle.std.proofs.Common.{arith, append_assoc, Option, flat_map, append-nil, ◌≤◌, true, false, inl, inr, Some, None}
-use Rattle.std.proofs.Common.{length-drop, ◌↔◌, IfSome, IsTrue, option_to_list, le-leb, take, subst, nat_lt}
+use Rattle.std.proofs.Common.{arith, append_assoc, Option, flat_map, append-nil, ◌≤◌, true, false, inl, inr, Some}
+use Rattle.std.proofs.Common.{None, length-drop, ◌↔◌, IfSome, IsTrue, option_to_list, le-leb, take, subst, nat_lt}
 use Rattle.std.proofs.Common.{if◌then◌else◌}
 use Rattle.std.proofs.lemmas.List.{map-append}
 use Rattle.std.proofs.lemmas.List.Concat.{flat_map-append}
 use Rattle.law_model.specs.Common.{descrambled_octets, cut, joined, Run, runs_with, area_outcomes, is_settled}
 use Rattle.law_model.specs.Common.{outcomes_after_with, descrambled_areas, run_outcomes_with, outcomes_with, delivery}
 use Rattle.law_model.specs.Common.{head, type_fault, Outcome, dropping, outcome_by, client_outcome, outcomes}
-use Rattle.law_model.proofs.ScrambledCutJoinedLaws.{sum-cons, length-joined, map-length-descrambled_areas}
-use Rattle.law_model.proofs.ScrambledCutJoinedLaws.{descrambled_areas-push}
+use Rattle.law_model.proofs.ScrambledBitAndAreaLaws.{sum-cons, length-joined, map-length-descrambled_areas}
+use Rattle.law_model.proofs.ScrambledBitAndAreaLaws.{descrambled_areas-push}
 use Rattle.std.proofs.lemmas.Bool.{lt-leb, cases_lt}
 use Rattle.law_model.specs.frames.Delivery.{frame_in}
 use Rattle.gfp_delineate.specs.declared.delineator.Step.{Step}

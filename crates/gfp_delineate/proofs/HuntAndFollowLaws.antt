@@ -1,11 +1,11 @@
--- What hunt_with and follow_with find of octets, and what delineate_with makes of both, with any readers.
+-- The search for a header and the runs that follow it, with any readers of headers, and what both find of a segment.
 use Rattle.std.proofs.Common.{◌≡◌, ℕ, zero, suc, ◌+◌, ◌-◌, ◌<◌, ◌≤◌, Bool, true, List, [], ◌∷◌, ◌++◌, length, drop}
 use Rattle.std.proofs.Common.{Option, Some, None, refl, sym, ◌∙◌, ap, inl, inr, arith, length-append, length-drop}
 use Rattle.std.proofs.Common.{zero-add, take_at, le-leb, false, not, take}
 use Rattle.std.proofs.lemmas.Bool.{lt-leb, cases_lt}
 use Rattle.law_model.specs.Common.{Confirmed, header_with, confirm_by, confirm_with, hunt_by, hunt_within, hunt_with}
-use Rattle.law_model.specs.Common.{Followed, area_then, no_area, follow_by, follow_within, follow_with, Run, Delineated}
-use Rattle.law_model.specs.Common.{no_run, run_then, delineate_by, delineate_within, delineate_with}
+use Rattle.law_model.specs.Common.{Followed, area_then, no_area, follow_by, follow_within, follow_with, Run}
+use Rattle.law_model.specs.Common.{Delineated, no_run, run_then, delineate_by, delineate_within, delineate_with}
 use Rattle.std.specs.Prelude.{IfSome}
 
 -- ---- The laws of the search, with any reader of headers: what is found depends neither on the number of its first place

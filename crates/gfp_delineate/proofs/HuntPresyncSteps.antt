@@ -1,15 +1,15 @@
 -- What more octets do in HUNT or in PRESYNC, where no run begins.
-use Rattle.std.proofs.Common.{◌≡◌, ℕ, ◌+◌, ◌-◌, ◌<◌, ◌≤◌, Bool, List, [], ◌∷◌, ◌++◌, length, drop, Some, None, sym, ◌∙◌}
-use Rattle.std.proofs.Common.{refl, ap, subst, arith, append_assoc, length-append, length-drop, append-nil}
+use Rattle.std.proofs.Common.{◌≡◌, ℕ, ◌+◌, ◌-◌, ◌<◌, ◌≤◌, Bool, List, [], ◌∷◌, ◌++◌, length, drop, Some, None, sym}
+use Rattle.std.proofs.Common.{◌∙◌, refl, ap, subst, arith, append_assoc, length-append, length-drop, append-nil}
 use Rattle.law_model.specs.Common.{head, Run}
 use Rattle.gfp_delineate.specs.declared.hunt_presync_sync.Phase.{Phase}
 use Rattle.gfp_delineate.specs.declared.hunt_presync_sync.Phase.TheVariants.{Hunt, PresyncArea, PresyncHeader}
 use Rattle.gfp_delineate.specs.LeftOpen.{searching, Leaves}
 use Rattle.gfp_delineate.specs.ReceivedAreas.{ends, reader, Progress, Searches, Headed, IsIn, InHunt, InPresyncArea}
 use Rattle.gfp_delineate.specs.ReceivedAreas.{InPresyncHeader}
-use Rattle.gfp_delineate.proofs.LeftOpenLaws.{Becomes-on, Leaves-longer, Leaves-goes_on}
-use Rattle.gfp_delineate.proofs.ProgressWindowEndsLaws.{ends_of, ends-hunt, ends-presync, nothing, length-shifted}
-use Rattle.gfp_delineate.proofs.ProgressWindowEndsLaws.{window-more, window-whole, window-none, Takes, Taken, Takes-in}
+use Rattle.gfp_delineate.proofs.LeftOpenSegmentLaws.{Becomes-on, Leaves-longer, Leaves-goes_on}
+use Rattle.gfp_delineate.proofs.ReceiverProgressLaws.{ends_of, ends-hunt, ends-presync, nothing, length-shifted}
+use Rattle.gfp_delineate.proofs.ReceiverProgressLaws.{window-more, window-whole, window-none, Takes, Taken, Takes-in}
 
 -- More octets in HUNT or in PRESYNC, where no run begins.
 -- in another phase, and with one more octet in the window

@@ -1,9 +1,9 @@
 pub mod AreaOutcomeLaws
+pub mod CorrectedHeaderBitLaws
 pub mod HuntAndFollowLaws
 pub mod HuntPresyncSteps
-pub mod LeftOpenLaws
-pub mod NearTurnedBitLaws
-pub mod ProgressWindowEndsLaws
-pub mod RepeatedIdlePieceLaws
+pub mod LeftOpenSegmentLaws
+pub mod OctetPieceAndIdleRunLaws
+pub mod ReceiverProgressLaws
 pub mod SyncHeaderAreaSteps
-pub mod WholeAreasDeliveredLaws
+pub mod WholeAreaDeliveryLaws

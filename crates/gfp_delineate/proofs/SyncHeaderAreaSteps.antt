@@ -1,13 +1,13 @@
 -- What more octets do in SYNC: of a header, of an area that is kept or dropped, and where a run begins.
 use Rattle.std.proofs.Common.{◌≡◌, ℕ, ◌+◌, ◌-◌, ◌<◌, ◌≤◌, Bool, true, false, List, [], ◌∷◌, ◌++◌, length, drop, inl}
-use Rattle.std.proofs.Common.{inr, Some, refl, sym, ◌∙◌, ap, subst, arith, append_assoc, zero, suc, None, length-append}
-use Rattle.std.proofs.Common.{length-drop, Option}
+use Rattle.std.proofs.Common.{inr, Some, refl, sym, ◌∙◌, ap, subst, arith, append_assoc, zero, suc, None}
+use Rattle.std.proofs.Common.{length-append, length-drop, Option}
 use Rattle.std.specs.Prelude.{◌⊎◌, ◌↔◌, IsTrue}
 use Rattle.std.proofs.lemmas.List.{append-nil, drop_all, drop-append-le, drop-drop}
 use Rattle.std.proofs.lemmas.Bool.{cases_lt, lt-ltb, le-ltb, le-leb, lt-leb}
 use Rattle.gfp_scramble.specs.Descrambler.{Descrambling, IsKnown, unknown, Continues, DescramblesTo}
 use Rattle.law_model.specs.Common.{head, descrambled_octets, joined, Run, is_settled}
-use Rattle.law_model.proofs.ScrambledCutJoinedLaws.{length-descrambled_octets, joined-push, length-descrambled_single}
+use Rattle.law_model.proofs.ScrambledBitAndAreaLaws.{length-descrambled_octets, joined-push, length-descrambled_single}
 use Rattle.gfp_delineate.specs.declared.hunt_presync_sync.AreaWhy.{AreaWhy}
 use Rattle.gfp_delineate.specs.declared.hunt_presync_sync.AreaWhy.TheVariants.{Unsettled, TooLong}
 use Rattle.gfp_delineate.specs.declared.hunt_presync_sync.Phase.{Phase}
@@ -17,15 +17,15 @@ use Rattle.gfp_delineate.specs.LeftOpen.{running, Leaves, searching}
 use Rattle.gfp_delineate.specs.ReceivedAreas.{AreaEnd, keeping, passing, end_of, reader, ends, area_ends, run_ends}
 use Rattle.gfp_delineate.specs.ReceivedAreas.{Progress, Follows, Headed, InSyncHeader, InPresyncHeader, InSyncArea}
 use Rattle.gfp_delineate.specs.ReceivedAreas.{InSyncPassing, Adds}
-use Rattle.gfp_delineate.proofs.LeftOpenLaws.{Becomes-area, Leaves-longer, Leaves-goes_on, Becomes-refused}
-use Rattle.gfp_delineate.proofs.LeftOpenLaws.{Becomes-confirmed, Becomes-lost, Leaves-becomes}
+use Rattle.gfp_delineate.proofs.LeftOpenSegmentLaws.{Becomes-area, Leaves-longer, Leaves-goes_on, Becomes-refused}
+use Rattle.gfp_delineate.proofs.LeftOpenSegmentLaws.{Becomes-confirmed, Becomes-lost, Leaves-becomes}
 use Rattle.gfp_delineate.proofs.AreaOutcomeLaws.{run_outcomes-push, run_outcomes-none, outcomes_of-push}
-use Rattle.gfp_delineate.proofs.ProgressWindowEndsLaws.{ends_of, ends_with, ends-header, ends-area, length-shifted}
-use Rattle.gfp_delineate.proofs.ProgressWindowEndsLaws.{window-few, window-more, window-none, Takes, Taken, Takes-in}
-use Rattle.gfp_delineate.proofs.ProgressWindowEndsLaws.{ends-presync, Takes-none, Takes-then, nothing, Adds-in}
+use Rattle.gfp_delineate.proofs.ReceiverProgressLaws.{ends_of, ends_with, ends-header, ends-area, length-shifted}
+use Rattle.gfp_delineate.proofs.ReceiverProgressLaws.{window-few, window-more, window-none, Takes, Taken, Takes-in}
+use Rattle.gfp_delineate.proofs.ReceiverProgressLaws.{ends-presync, Takes-none, Takes-then, nothing, Adds-in}
 use Rattle.gfp_delineate.proofs.HuntPresyncSteps.{in_phase, shifted, to-hunt}
 use Rattle.law_model.proofs.CoreHeaderLaws.{head-core_header, idle_header, idles, core_header-idle, idles-suc}
-use Rattle.gfp_delineate.proofs.NearTurnedBitLaws.{reader-head}
+use Rattle.gfp_delineate.proofs.CorrectedHeaderBitLaws.{reader-head}
 use Rattle.gfp_scramble.specs.Descrambler as descrambler
 
 -- ---- More octets in SYNC, or the one by which a run begins.

@@ -1,2 +1,2 @@
 pub mod IdlesAndNextPiecesLaws
-pub mod SenderFillerStandsLaws
+pub mod SenderAndFillerStepLaws

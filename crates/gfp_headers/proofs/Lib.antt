@@ -1,8 +1,8 @@
-pub use Rattle.law_model.proofs.ScrambledCutJoinedLaws
-pub use Rattle.law_model.proofs.ScrambledCutJoinedLaws
-pub use Rattle.law_model.proofs.ScrambledCutJoinedLaws
+pub use Rattle.law_model.proofs.ScrambledBitAndAreaLaws
+pub use Rattle.law_model.proofs.ScrambledBitAndAreaLaws
+pub use Rattle.law_model.proofs.ScrambledBitAndAreaLaws
 pub use Rattle.law_model.proofs.CoreHeaderLaws
-pub use Rattle.law_model.proofs.ScrambledCutJoinedLaws
+pub use Rattle.law_model.proofs.ScrambledBitAndAreaLaws
 pub use Rattle.law_model.proofs.StreamOfPiecesLaws
 pub use Rattle.law_model.proofs.CoreHeaderLaws
 pub mod TypeHeaderLaws

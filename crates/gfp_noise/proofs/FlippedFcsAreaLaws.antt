@@ -1,6 +1,7 @@
 -- The area of a frame with FCS and its type header: delivered without flips, dropped with one or two.
 use Rattle.std.proofs.Common.{◌≡◌, ℕ, ◌+◌, ◌*◌, ◌/◌, ◌%◌, ◌^◌, ◌<◌, ◌==◌, Bool, true, false, if◌then◌else◌, List, []}
-use Rattle.std.proofs.Common.{◌∷◌, length, All, Option, Some, None, refl, ◌∙◌, ap, ap₂, arith, eqb-true, ◌≢◌, zero, suc}
+use Rattle.std.proofs.Common.{◌∷◌, length, All, Option, Some, None, refl, ◌∙◌, ap, ap₂, arith, eqb-true, ◌≢◌, zero}
+use Rattle.std.proofs.Common.{suc}
 use Rattle.std.proofs.Common.{◌-◌, ◌≤◌, ◌⊎◌, ◌++◌, take, drop, replicate, sym, subst, inl, inr, append_assoc, le_of_eq}
 use Rattle.std.proofs.lemmas.List.Elements.{All-head, All-tail, All-nil, All-cons, All-append}
 use Rattle.law_model.specs.Common.{bits, number_behind, add_front, divide, hec_of, octet_bits, xors, remainder, count}
@@ -13,18 +14,18 @@ use Rattle.std.proofs.lemmas.List.{length-append, length-replicate, length-take,
 use Rattle.std.proofs.lemmas.List.{take-append-drop, replicate-append-replicate}
 use Rattle.std.proofs.lemmas.Bool.{le-ltb, cases_lt}
 use Rattle.std.proofs.lemmas.Slice.Eq.{bytes_eq-Decides}
-use Rattle.check_remainder.proofs.XorsAndCountLaws.{xors-self, xors_twice, count-zeros}
-use Rattle.check_remainder.proofs.DivisionRemainderTableLaws.{length-remainder, divide_behind}
+use Rattle.check_remainder.proofs.XorAndBitCountLaws.{xors-self, xors_twice, count-zeros}
+use Rattle.check_remainder.proofs.LongDivisionRemainderLaws.{length-remainder, divide_behind}
 use Rattle.check_remainder.proofs.NumberAndOctetBitsLaws.{length-octet_bits, octets_of_below}
 use Rattle.gfp_model.specs.fcs_model.Flips.{flipped}
 use Rattle.check_crc32.specs.Crc32.{crc32, check_bits, fcs_of}
-use Rattle.check_crc32.proofs.CheckBitsRemainderLaws.{length-crc32, length-check_bits, check_bits-xors}
-use Rattle.check_crc32.proofs.CheckBitsRemainderLaws.{octet_bits-fcs_of, length-fcs_of}
+use Rattle.check_crc32.proofs.CheckBitsAndRemainderLaws.{length-crc32, length-check_bits, check_bits-xors}
+use Rattle.check_crc32.proofs.CheckBitsAndRemainderLaws.{octet_bits-fcs_of, length-fcs_of}
 use Rattle.gfp_model.specs.declared.fcs_model.FcsWhy.TheVariants.{Header}
 use Rattle.gfp_noise.specs.flip_law.SingleFlip.{IsOneOrTwo, one, two}
 use Rattle.gfp_noise.specs.flip_law.FlippedStream.{IsFrame}
-use Rattle.gfp_noise.proofs.FlippedOctetPlaceLaws.{length-flipped, flipped_below, octet_bits-flipped, flipped-append}
-use Rattle.gfp_noise.proofs.OneOrTwoFlipsLeftLaws.{something_left}
+use Rattle.gfp_noise.proofs.FlipPlaceAndBitLaws.{length-flipped, flipped_below, octet_bits-flipped, flipped-append}
+use Rattle.gfp_noise.proofs.FlipRemainderAndDescramblingLaws.{something_left}
 
 -- ---- The type header of a frame with FCS: four octets have no fault exactly where they are it.
 pub fcs_header_right : fcs_type_fault fcs_header ≡ None

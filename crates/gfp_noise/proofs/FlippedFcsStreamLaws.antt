@@ -1,37 +1,38 @@
 -- The stream of frames with FCS, flipped: each frame is delivered exactly where its window is clear.
 use Rattle.std.proofs.Common.{◌≡◌, ℕ, List, [], ◌++◌, ◌∙◌, ap, ap₂, append-nil, ◌+◌, ◌∷◌, length, map, take, drop, sym}
-use Rattle.std.proofs.Common.{arith, append_assoc, length-append, ◌*◌, ◌<◌, ◌≤◌, ◌==◌, Bool, true, false, if◌then◌else◌}
-use Rattle.std.proofs.Common.{replicate, All, Some, None, refl, subst, inl, inr, flat_map, length-take, length-drop}
-use Rattle.std.proofs.Common.{take-append-drop, fold}
+use Rattle.std.proofs.Common.{arith, append_assoc, length-append, ◌*◌, ◌<◌, ◌≤◌, ◌==◌, Bool, true, false}
+use Rattle.std.proofs.Common.{if◌then◌else◌, replicate, All, Some, None, refl, subst, inl, inr, flat_map, length-take}
+use Rattle.std.proofs.Common.{length-drop, take-append-drop, fold}
 use Rattle.law_model.specs.Common.{core_header, cut, joined, areas_stream, scrambled_octets, octet_bits, octets_of}
-use Rattle.law_model.specs.Common.{xors, descrambled, descrambled_octets, IsPli, head, with_header, header_at, Followed}
-use Rattle.law_model.specs.Common.{area_then, follow_with, run_then, delineate_with, runs_with, area_outcomes}
-use Rattle.law_model.specs.Common.{outcomes_after_with, descrambled_areas, run_outcomes_with, count}
+use Rattle.law_model.specs.Common.{xors, descrambled, descrambled_octets, IsPli, head, with_header, header_at}
+use Rattle.law_model.specs.Common.{Followed, area_then, follow_with, run_then, delineate_with, runs_with}
+use Rattle.law_model.specs.Common.{area_outcomes, outcomes_after_with, descrambled_areas, run_outcomes_with, count}
 use Rattle.gfp_noise.specs.flip_law.FlippedStream.{fcs_stream, IsFrame, fcs_delivered, area_size, area_flips}
 use Rattle.gfp_noise.specs.flip_law.FlippedStream.{flips_after, window, AreFew, clear}
 use Rattle.std.proofs.lemmas.List.{map-append, take_at, drop_at, length-replicate}
 use Rattle.law_model.proofs.StreamOfPiecesLaws.{areas_stream-push}
-use Rattle.law_model.proofs.ScrambledCutJoinedLaws.{length-scrambled_octets, descrambled-scrambled, length-descrambled}
-use Rattle.law_model.proofs.ScrambledCutJoinedLaws.{descrambled-append, octet_bits-scrambled_octets}
-use Rattle.law_model.proofs.ScrambledCutJoinedLaws.{scrambled_octets-append, scrambled_octets_below, scrambled_behind}
-use Rattle.law_model.proofs.ScrambledCutJoinedLaws.{descrambled_behind, scrambled_behind-append}
-use Rattle.law_model.proofs.ScrambledCutJoinedLaws.{length-scrambled_single, scrambled_behind-single}
-use Rattle.law_model.proofs.ScrambledCutJoinedLaws.{descrambled_behind-append, descrambled_behind-single}
+use Rattle.law_model.proofs.ScrambledBitAndAreaLaws.{length-scrambled_octets, descrambled-scrambled}
+use Rattle.law_model.proofs.ScrambledBitAndAreaLaws.{length-descrambled}
+use Rattle.law_model.proofs.ScrambledBitAndAreaLaws.{descrambled-append, octet_bits-scrambled_octets}
+use Rattle.law_model.proofs.ScrambledBitAndAreaLaws.{scrambled_octets-append, scrambled_octets_below, scrambled_behind}
+use Rattle.law_model.proofs.ScrambledBitAndAreaLaws.{descrambled_behind, scrambled_behind-append}
+use Rattle.law_model.proofs.ScrambledBitAndAreaLaws.{length-scrambled_single, scrambled_behind-single}
+use Rattle.law_model.proofs.ScrambledBitAndAreaLaws.{descrambled_behind-append, descrambled_behind-single}
 use Rattle.gfp_model.specs.fcs_model.Fcs.{fcs_area, fcs_outcome, frame_in}
 use Rattle.std.proofs.lemmas.List.Elements.{All-append, All-drop, All-head, All-nil, All-tail}
 use Rattle.law_model.proofs.CoreHeaderLaws.{length-core_header, core_header_below}
 use Rattle.gfp_delineate.proofs.HuntAndFollowLaws.{header-window, search-confirmed, follow-few, follow-whole}
 use Rattle.gfp_delineate.proofs.HuntAndFollowLaws.{delineate_from, delineate-open}
-use Rattle.gfp_delineate.proofs.WholeAreasDeliveredLaws.{header_at-core}
+use Rattle.gfp_delineate.proofs.WholeAreaDeliveryLaws.{header_at-core}
 use Rattle.gfp_model.specs.fcs_model.Flips.{flipped}
 use Rattle.gfp_model.specs.fcs_model.NearHeader.{near}
-use Rattle.check_remainder.proofs.XorsAndCountLaws.{count-zeros, none_or_one}
-use Rattle.gfp_noise.proofs.FlippedOctetPlaceLaws.{length-flipped, octet_bits-flipped, flipped-none, flipped-append}
-use Rattle.gfp_noise.proofs.FlippedOctetPlaceLaws.{length-flips_of, turned-flipped}
+use Rattle.check_remainder.proofs.XorAndBitCountLaws.{count-zeros, none_or_one}
+use Rattle.gfp_noise.proofs.FlipPlaceAndBitLaws.{length-flipped, octet_bits-flipped, flipped-none, flipped-append}
+use Rattle.gfp_noise.proofs.FlipPlaceAndBitLaws.{length-flips_of, turned-flipped}
 use Rattle.gfp_model.specs.declared.fcs_model.Flip.{Flip}
 use Rattle.gfp_noise.specs.flip_law.FlipPlaces.{LiesIn, turned, flips_of}
 use Rattle.gfp_noise.proofs.NearHeaderLaws.{near-flipped}
-use Rattle.gfp_noise.proofs.OneOrTwoFlipsLeftLaws.{descrambled-xors, left_in-area_none, left_in-area_one}
+use Rattle.gfp_noise.proofs.FlipRemainderAndDescramblingLaws.{descrambled-xors, left_in-area_none, left_in-area_one}
 use Rattle.gfp_noise.proofs.FlippedFcsAreaLaws.{fcs_area_below, length-fcs_area, fcs_area-delivered, fcs_area-dropped}
 
 -- ---- The stream of no frames.

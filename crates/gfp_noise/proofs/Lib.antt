@@ -1,7 +1,7 @@
 pub mod FcsOutcomeLaws
+pub mod FlipPlaceAndBitLaws
+pub mod FlipRemainderAndDescramblingLaws
 pub mod FlippedFcsAreaLaws
 pub mod FlippedFcsStreamLaws
-pub mod FlippedOctetPlaceLaws
 pub mod NearHeaderLaws
 pub mod NoiseDraftLaws
-pub mod OneOrTwoFlipsLeftLaws

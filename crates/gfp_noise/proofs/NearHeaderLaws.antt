@@ -6,8 +6,8 @@ use Rattle.std.proofs.lemmas.List.{length-replicate, length-take, length-drop, t
 use Rattle.std.specs.Prelude.{◌↔◌}
 use Rattle.law_model.specs.Common.{bits, number, octet_bits, octets_of, xors, core_header, IsPli, pli_of, head, count}
 use Rattle.law_model.specs.Common.{IsFixed}
-use Rattle.check_remainder.proofs.XorsAndCountLaws.{length_xors, xors_assoc, xors-self, xors-zeros, xors_twice}
-use Rattle.check_remainder.proofs.XorsAndCountLaws.{xors-append, count-zeros}
+use Rattle.check_remainder.proofs.XorAndBitCountLaws.{length_xors, xors_assoc, xors-self, xors-zeros, xors_twice}
+use Rattle.check_remainder.proofs.XorAndBitCountLaws.{xors-append, count-zeros}
 use Rattle.check_remainder.proofs.NumberAndOctetBitsLaws.{length-bits, bits-add, bits_low, bits-number}
 use Rattle.check_remainder.proofs.NumberAndOctetBitsLaws.{octet_bits-append, length-octet_bits, octets_of-octet_bits}
 use Rattle.check_remainder.proofs.NumberAndOctetBitsLaws.{octet_bits-octets_of}
@@ -16,9 +16,10 @@ use Rattle.law_model.proofs.CoreHeaderLaws.{IsPli-head}
 use Rattle.gfp_model.specs.fcs_model.Flips.{flipped}
 use Rattle.gfp_model.specs.fcs_model.NearHeader.{or_else, turned_below, near, IsNear, check_of}
 use Rattle.check_hec16.specs.OneWrongBit.{bit_at}
-use Rattle.check_hec16.proofs.HecOneWrongBitLaws.{at_most_one, length-bit_at, count-bit_at, with_check}
-use Rattle.check_hec16.proofs.HecOneWrongBitLaws.{length-with_check, none_differ, one_differs, two_differ, length-both}
-use Rattle.gfp_noise.proofs.FlippedOctetPlaceLaws.{octet_bits-flipped, flipped-none, flipped_twice}
+use Rattle.check_hec16.proofs.HecWithOneWrongBitLaws.{at_most_one, length-bit_at, count-bit_at, with_check}
+use Rattle.check_hec16.proofs.HecWithOneWrongBitLaws.{length-with_check, none_differ, one_differs, two_differ}
+use Rattle.check_hec16.proofs.HecWithOneWrongBitLaws.{length-both}
+use Rattle.gfp_noise.proofs.FlipPlaceAndBitLaws.{octet_bits-flipped, flipped-none, flipped_twice}
 
 -- Four octets that differ from a core header in at most one bit give that header: the 32 single errors leave
 -- remainders that differ from each other and from 0.

@@ -1,6 +1,6 @@
 -- The draft of frames and flips line by line, and what a text of noise says.
-use Rattle.std.proofs.Common.{◌≡◌, ℕ, ◌+◌, ◌-◌, ◌*◌, ◌<◌, ◌≤◌, nat_lt, List, [], ◌∷◌, ◌++◌, length, All, refl, sym, ◌∙◌}
-use Rattle.std.proofs.Common.{ap, subst, arith}
+use Rattle.std.proofs.Common.{◌≡◌, ℕ, ◌+◌, ◌-◌, ◌*◌, ◌<◌, ◌≤◌, nat_lt, List, [], ◌∷◌, ◌++◌, length, All, refl, sym}
+use Rattle.std.proofs.Common.{◌∙◌, ap, subst, arith}
 use Rattle.std.specs.List.{fold}
 use Rattle.std.proofs.lemmas.Bool.{ltb-false}
 use Rattle.std.proofs.lemmas.List.Sums.{fold-append}
@@ -8,8 +8,8 @@ use Rattle.std.proofs.lemmas.List.Elements.{All-append, All-cons, All-nil}
 use Rattle.text_lines.specs.WordsOfLine.{word_at, number_at}
 use Rattle.text_lines.specs.Fields.{within, digits}
 use Rattle.text_lines.specs.LanguageTable.{next_by}
-use Rattle.text_lines.proofs.LinesWordsFieldsLaws.{where_none, number_ok, digits_ok, one_field, two_fields}
-use Rattle.text_lines.proofs.LanguageLaws.{IsPlaced, IsSound, Keeps, said_valid}
+use Rattle.text_lines.proofs.TextLineAndWordLaws.{where_none, number_ok, digits_ok, one_field, two_fields}
+use Rattle.text_lines.proofs.LineLanguageAndTableLaws.{IsPlaced, IsSound, Keeps, said_valid}
 use Rattle.gfp_model.specs.declared.fcs_model.Flip.{Flip}
 use Rattle.gfp_noise.specs.flip_law.FlipPlaces.{at, LiesIn, IsRising}
 use Rattle.gfp_noise.specs.flip_law.FlippedStream.{fcs_stream, IsFrame}

@@ -4,7 +4,7 @@ use Rattle.std.proofs.Common.{set, get_or, sym, ap, ◌∙◌, arith, append_ass
 use Rattle.std.proofs.Common.{drop-drop, length-take, length-drop}
 use Rattle.std.proofs.lemmas.Slice.{take-put_mid, drop-put_mid}
 use borrow.Rule.Slice.PartMut.{put_mid}
-use Rattle.gfp_scramble.proofs.ScramblerDescramblerStandsLaws.{drop_alike}
+use Rattle.gfp_scramble.proofs.ScramblerAndDescramblerLaws.{drop_alike}
 use Rattle.std.proofs.lemmas.List.{take_more, take_more_set, drop_more}
 
 -- More octets of an area that is scrambled or descrambled in place. `f` are the octets that come of a list, as many

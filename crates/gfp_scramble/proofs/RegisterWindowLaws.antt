@@ -9,8 +9,8 @@ use Rattle.law_model.specs.Common.{bits, octets_of, xors, scramble_on}
 use Rattle.check_remainder.proofs.NumberAndOctetBitsLaws.{length-bits, bits-add, bits_low, bits-mod, bits-xor}
 use Rattle.check_remainder.proofs.NumberAndOctetBitsLaws.{octets_of-append, octets_of-octet_bits}
 use Rattle.check_remainder.proofs.NumberAndOctetBitsLaws.{bytes_high_first_below, octet_bits-bytes_high_first}
-use Rattle.law_model.proofs.ScrambledCutJoinedLaws.{xors-longer, scramble_on-append, scramble_on-short, descramble}
-use Rattle.law_model.proofs.ScrambledCutJoinedLaws.{descramble-append}
+use Rattle.law_model.proofs.ScrambledBitAndAreaLaws.{xors-longer, scramble_on-append, scramble_on-short, descramble}
+use Rattle.law_model.proofs.ScrambledBitAndAreaLaws.{descramble-append}
 use Rattle.std.specs.Int.{bytes_high_first}
 use Rattle.std.specs.Int.Bits.{xor_zero_r}
 

@@ -6,17 +6,18 @@ use Rattle.law_model.specs.Common.{Leg, Scenario, scenario_by, session_cells, St
 use Rattle.law_model.specs.Common.{octets_of_rows, rows_of, Extent, is_carried, lies_in, is_frame_lost, IsSound}
 use Rattle.text_report.specs.ReportLines.{got_texts, refused_texts, total_text}
 use Rattle.law_loss.specs.CarriedStream.{IsUndamaged}
-use Rattle.law_loss.proofs.SegmentsOfRowsAddedLaws.{Stands-all}
-use Rattle.law_loss.proofs.GivenLostKeptLaws.{way_of, lost_of}
-use Rattle.law_loss.proofs.FrameExtentsFilterLaws.{extents-between}
+use Rattle.law_loss.proofs.SegmentsOfAddedRowsLaws.{Stands-all}
+use Rattle.law_loss.proofs.GivenAndLostFrameLaws.{way_of, lost_of}
+use Rattle.law_loss.proofs.ClientFrameExtentLaws.{extents-between}
 use Rattle.law_loss.proofs.SessionStreamLossLaws.{rows-length}
-use Rattle.law_loss.proofs.GivenLostKeptLaws.{IsWhole, only_segment}
+use Rattle.law_loss.proofs.GivenAndLostFrameLaws.{IsWhole, only_segment}
 use Rattle.law_loss.proofs.SessionStreamLossLaws.{undamaged-whole, rows-whole}
-use Rattle.law_walk.specs.Common.{session_rows, Numbered, refusals_among, totals_among, session_pieces, session_extents}
+use Rattle.law_walk.specs.Common.{session_rows, Numbered, refusals_among, totals_among, session_pieces}
+use Rattle.law_walk.specs.Common.{session_extents}
 use Rattle.law_walk.specs.Common.{place_after, HasNoFailure, AreWholeBefore, ConfirmsTrue, report_among}
-use Rattle.law_walk.proofs.WalkPlanSessionLaws.{sound-walks}
-use Rattle.law_walk.proofs.AcceptedFramesDrainedLaws.{frames-kept, frames-known}
-use Rattle.law_walk.proofs.ClearWholeConfirmsLaws.{whole-starts}
+use Rattle.law_walk.proofs.WalkPlanAndPoppedCellLaws.{sound-walks}
+use Rattle.law_walk.proofs.AcceptedFrameAndDrainedWalkLaws.{frames-kept, frames-known}
+use Rattle.law_walk.proofs.WholeRowDespiteFailureLaws.{whole-starts}
 use Rattle.law_headline.specs.Headline.{ComesThrough, ArePicked, Reports, IsHeadline}
 
 -- ---- which frames come through

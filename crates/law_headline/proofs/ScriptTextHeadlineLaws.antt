@@ -1,15 +1,13 @@
--- The headline of a script's text. What walks and runs write of it is here to be cited by the commands.
+-- The headline of a script's text, with what walks and runs write of it, for the commands to cite.
 use Rattle.std.proofs.Common.{◌≡◌, ℕ, ◌≤◌, List, [], length, ap, ◌∙◌, subst, arith, inr, Ok}
 use Rattle.law_model.specs.Common.{begin, walked, IsValid, leg_of}
 use Rattle.law_model.specs.declared.script_types.Script.{Script}
 use Rattle.text_scripts.specs.script_read.Script.{script_of}
-use Rattle.text_scripts.proofs.ScriptLinesSaidLaws.{valid_text}
-use Rattle.law_progress.proofs.MovesRoundDrainLaws.{walked-reached}
+use Rattle.text_scripts.proofs.ScriptLineAndFirstFaultLaws.{valid_text}
+use Rattle.law_progress.proofs.RoundProgressAndDrainLaws.{walked-reached}
 use Rattle.law_walk.specs.Common.{walk_plan, landed_items, numbered, ConfirmsTrue, report_of, final_report}
-use Rattle.law_walk.proofs.WalkPlanSessionLaws.{sound-walks}
-use Rattle.law_walk.proofs.WalkPlanSessionLaws.{begins-walked}
-use Rattle.law_walk.proofs.AcceptedFramesDrainedLaws.{drain-ends}
-use Rattle.law_walk.proofs.AcceptedFramesDrainedLaws.{counts-within, drained-report}
+use Rattle.law_walk.proofs.WalkPlanAndPoppedCellLaws.{sound-walks, begins-walked}
+use Rattle.law_walk.proofs.AcceptedFrameAndDrainedWalkLaws.{drain-ends, counts-within, drained-report}
 use Rattle.law_headline.specs.WalkTexts.{counts_in, walk_text}
 use Rattle.law_headline.specs.Headline.{IsWalkHeadline, IsWalkReport, IsRunHeadline, IsRunReport}
 use Rattle.law_headline.proofs.ReportedFramesLaws.{is_headline}

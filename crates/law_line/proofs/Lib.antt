@@ -1,5 +1,5 @@
-pub mod DecidedPacketsRowsLaws
-pub mod HasReadVerdictLaws
-pub mod LockStandsSightLaws
-pub mod LockedGoodLostLaws
+pub mod CellSightAndLockLaws
+pub mod ContainerLockAndSlipLaws
+pub mod DecidedPacketAndRowLaws
+pub mod ReadingVerdictLaws
 pub mod WorkedLinesLaws

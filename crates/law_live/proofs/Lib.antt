@@ -1,7 +1,7 @@
-pub mod AgreesLiveCountsLaws
-pub mod AnswersGotRefusedRisesLaws
-pub mod RoundsAnswersSameLaws
-pub mod SameBelowPathsAlikeLaws
-pub mod SettledLiveRoundLaws
-pub mod StandsBesideScriptLaws
-pub mod WellSaidRightWindowsLaws
+pub mod AgreeingLegConversationLaws
+pub mod AnsweredFrameAndRefusalLaws
+pub mod ConversationCountAndScriptLaws
+pub mod LiveRoundAndLandingLaws
+pub mod SamePastRoundAndAnswerLaws
+pub mod SamePastTableAndCellLaws
+pub mod WellSaidLegAndWindowLaws

@@ -1,7 +1,7 @@
-pub mod FrameExtentsFilterLaws
-pub mod GivenLostKeptLaws
-pub mod HuntSearchRunsLaws
+pub mod ClientFrameExtentLaws
+pub mod FrameKindStreamAndRunLaws
+pub mod GivenAndLostFrameLaws
 pub mod ItemDueTicksLaws
-pub mod KindStreamToldLaws
-pub mod SegmentsOfRowsAddedLaws
+pub mod SegmentHuntAndRunLaws
+pub mod SegmentsOfAddedRowsLaws
 pub mod SessionStreamLossLaws

@@ -7,10 +7,10 @@ use Rattle.std.proofs.Common.{option_map, flat_map, drop_at}
 use Rattle.std.proofs.lemmas.List.Elements.{All-nil, All-cons, All-head, All-tail, All-append, All-filter, All-map}
 use Rattle.std.proofs.lemmas.List.Elements.{All-weaker}
 use Rattle.law_model.proofs.ListLaws.{within-append, All-front, drop-part, All-after}
-use Rattle.law_model.specs.Common.{Piece, idle, area_of, joined, stream_of, Scenario, Told, kept_by, accepted_of, width}
-use Rattle.law_model.specs.Common.{place_of, stream_before, octets_of_rows, payload_of, rows_of, client, size_of}
-use Rattle.law_model.specs.Common.{frames_by, are_whole, is_good, is_readable, DueFrame, comes_at, carried_by, is_read}
-use Rattle.law_model.specs.Common.{is_heard, active, table_of, Stream, frame_refusal, offered, frames_in}
+use Rattle.law_model.specs.Common.{Piece, idle, area_of, joined, stream_of, Scenario, Told, kept_by, accepted_of}
+use Rattle.law_model.specs.Common.{width, place_of, stream_before, octets_of_rows, payload_of, rows_of, client}
+use Rattle.law_model.specs.Common.{size_of, frames_by, are_whole, is_good, is_readable, DueFrame, comes_at, carried_by}
+use Rattle.law_model.specs.Common.{is_read, is_heard, active, table_of, Stream, frame_refusal, offered, frames_in}
 use Rattle.law_model.specs.Common.{accepted_offers, offers_before, frames_before, is_whole_row, deliver, extents}
 use Rattle.law_model.specs.Common.{TrueStarts, frames_kept, longest_frame, head, core_header, IsPli, with_header}
 use Rattle.law_model.specs.Common.{Confirmed, header_at, confirm_with, hunt_within, hunt, Segment, Segments}
@@ -18,23 +18,23 @@ use Rattle.law_model.specs.Common.{segments_on, segments_of, segments, confirmed
 use Rattle.law_model.specs.rows.SessionStream.{row_of}
 use Rattle.law_model.proofs.StreamOfPiecesLaws.{stream_of-append, stream_behind, length-with_header}
 use Rattle.law_model.proofs.StreamOfPiecesLaws.{length-stream_behind}
-use Rattle.law_session.proofs.LandedAcceptedStreamAlikeLaws.{stream-reaches, stream_before-fewest, stream_before-frames}
+use Rattle.law_session.proofs.ClientStreamAndReplayLaws.{stream-reaches, stream_before-fewest, stream_before-frames}
 use Rattle.law_loss.specs.CarriedStream.{CarriesStream, IsSentFrame, IsSentPiece, AreOctets, IsUndamaged}
-use Rattle.law_loss.proofs.SegmentsOfRowsAddedLaws.{octets-push, IsPart, Stands-all, segments_of-push}
+use Rattle.law_loss.proofs.SegmentsOfAddedRowsLaws.{octets-push, IsPart, Stands-all, segments_of-push}
 use Rattle.std.specs.List.{list_any, list_all}
 use Rattle.std.proofs.lemmas.Bool.{cases_Bool, or_parts, ltb-false, le-leb, lt-leb, cases_lt}
 use Rattle.law_model.specs.declared.item_refusals.AcceptFault.TheVariants.{Length}
 use Rattle.law_model.specs.declared.window_types.Window.{Window}
 use Rattle.law_model.specs.members.Damage.{carried}
-use Rattle.law_loss.proofs.GivenLostKeptLaws.{deliver-kept, IsWhole, deliver-whole, sendable_of}
-use Rattle.law_loss.proofs.FrameExtentsFilterLaws.{frames_ended, all_frames, frames_to-first}
+use Rattle.law_loss.proofs.GivenAndLostFrameLaws.{deliver-kept, IsWhole, deliver-whole, sendable_of}
+use Rattle.law_loss.proofs.ClientFrameExtentLaws.{frames_ended, all_frames, frames_to-first}
 use Rattle.law_model.specs.frames.Segment.{row_by}
 use Rattle.law_model.proofs.CoreHeaderLaws.{length-core_header}
-use Rattle.law_model.proofs.ScrambledCutJoinedLaws.{scrambled_behind, map-length-scrambled_behind}
-use Rattle.gfp_delineate.proofs.WholeAreasDeliveredLaws.{take-append, header_at-core}
+use Rattle.law_model.proofs.ScrambledBitAndAreaLaws.{scrambled_behind, map-length-scrambled_behind}
+use Rattle.gfp_delineate.proofs.WholeAreaDeliveryLaws.{take-append, header_at-core}
 use Rattle.gfp_delineate.proofs.HuntAndFollowLaws.{no_header}
-use Rattle.gfp_delineate.proofs.WholeAreasDeliveredLaws.{IsSendable, IsPli-area_of, fits-scrambled}
-use Rattle.law_loss.proofs.HuntSearchRunsLaws.{hunt_within-few}
+use Rattle.gfp_delineate.proofs.WholeAreaDeliveryLaws.{IsSendable, IsPli-area_of, fits-scrambled}
+use Rattle.law_loss.proofs.SegmentHuntAndRunLaws.{hunt_within-few}
 
 -- ---- The rows of a session carry the first octets of its stream, whose client frames are accepted ones.
 -- ---- the pieces of a later frame begin with those of an earlier one

@@ -7,17 +7,16 @@ use Rattle.std.proofs.lemmas.Bool.Decides.{nat_tests}
 use Rattle.std.proofs.lemmas.Slice.Eq.{bytes_eq-Decides}
 use Rattle.law_model.specs.Common.{bits, number, octet_bits, octets_of, xors, hec_bits, core_header, IsPli, is_pli}
 use Rattle.law_model.specs.Common.{pli_of, head, hec_of, number_behind, add_front, divide, with_header}
-use Rattle.check_remainder.proofs.XorsAndCountLaws.{length-xors, length_xors, xors-append, xors_twice, xors_comm}
-use Rattle.check_remainder.proofs.NumberAndOctetBitsLaws.{length-bits, bits-add, bits_low, number-bits, number_below, bits-xor}
-use Rattle.check_remainder.proofs.NumberAndOctetBitsLaws.{same_from_bits}
-use Rattle.check_remainder.proofs.NumberAndOctetBitsLaws.{length-octets_of, octets_of_below, octet_bits-octets_of}
-use Rattle.check_remainder.proofs.NumberAndOctetBitsLaws.{octets_of-append, octets_of-octet_bits, octet_bits-bytes_high_first}
-use Rattle.check_remainder.proofs.NumberAndOctetBitsLaws.{bytes_high_first_below}
+use Rattle.check_remainder.proofs.XorAndBitCountLaws.{length-xors, length_xors, xors-append, xors_twice, xors_comm}
+use Rattle.check_remainder.proofs.NumberAndOctetBitsLaws.{length-bits, bits-add, bits_low, number-bits, number_below}
+use Rattle.check_remainder.proofs.NumberAndOctetBitsLaws.{bits-xor, same_from_bits, length-octets_of, octets_of_below}
+use Rattle.check_remainder.proofs.NumberAndOctetBitsLaws.{octet_bits-octets_of, octets_of-append, octets_of-octet_bits}
+use Rattle.check_remainder.proofs.NumberAndOctetBitsLaws.{octet_bits-bytes_high_first, bytes_high_first_below}
 use Rattle.std.specs.Int.{to_be_bytes}
 use Rattle.std.specs.Int.Bits.{xor_assoc, xor_self, xor_zero_r}
 use Rattle.std.proofs.lemmas.List.{length-append, drop_at}
 use Rattle.std.proofs.lemmas.Nat.{shr_high, shr_split, xor_lt}
-use Rattle.check_hec16.proofs.HecOneWrongBitLaws.{length-hec_bits, bits-hec_of, hec_of-from_bits}
+use Rattle.check_hec16.proofs.HecWithOneWrongBitLaws.{length-hec_bits, bits-hec_of, hec_of-from_bits}
 
 -- ---- A core header and its PLI determine each other.
 pub length-core_header : (pli : ℕ) → length (core_header pli) ≡ 4

@@ -1,6 +1,6 @@
 pub mod CoreHeaderLaws
 pub mod ListLaws
 pub mod PacketNibblesLaws
-pub mod ScrambledCutJoinedLaws
+pub mod ScrambledBitAndAreaLaws
 pub mod StreamOfPiecesLaws
 pub mod WindowAndPathLaws

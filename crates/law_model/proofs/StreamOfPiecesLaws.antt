@@ -9,10 +9,10 @@ use Rattle.law_model.specs.Common.{scrambled_octets, core_header, Piece, area_of
 use Rattle.law_model.specs.Common.{areas_stream, stream_of, size_of, idle, client, size, Stream, next_by, reaching}
 use Rattle.law_model.specs.Common.{reached, IsFewest}
 use Rattle.law_model.proofs.CoreHeaderLaws.{length-core_header, core_header_below}
-use Rattle.law_model.proofs.ScrambledCutJoinedLaws.{scrambled_octets_below, sum-cons, scrambled_behind}
-use Rattle.law_model.proofs.ScrambledCutJoinedLaws.{map-length-scrambled_behind, length-scrambled_behind}
-use Rattle.law_model.proofs.ScrambledCutJoinedLaws.{scrambled_behind-append, length-scrambled_single}
-use Rattle.law_model.proofs.ScrambledCutJoinedLaws.{scrambled_behind-single}
+use Rattle.law_model.proofs.ScrambledBitAndAreaLaws.{scrambled_octets_below, sum-cons, scrambled_behind}
+use Rattle.law_model.proofs.ScrambledBitAndAreaLaws.{map-length-scrambled_behind, length-scrambled_behind}
+use Rattle.law_model.proofs.ScrambledBitAndAreaLaws.{scrambled_behind-append, length-scrambled_single}
+use Rattle.law_model.proofs.ScrambledBitAndAreaLaws.{scrambled_behind-single}
 use Rattle.std.proofs.lemmas.List.Sums.{sum_by-append}
 use Rattle.std.proofs.lemmas.Bool.{leb-true, leb-false}
 use Rattle.law_model.specs.source.Client.{begun}

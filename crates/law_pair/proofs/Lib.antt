@@ -1,5 +1,5 @@
-pub mod OneWayLandsLaws
-pub mod PairGoingTickLaws
-pub mod PairMadeRoundsLaws
-pub mod WayOfScriptsLaws
+pub mod NextItemAndOneWayEventLaws
+pub mod PairMeasureAndDrainLaws
+pub mod PairWayAndPacketLaws
+pub mod ReachedPairAndStallLaws
 mod WorkedPairLaws

@@ -1,4 +1,4 @@
-pub mod KeptEachFitsLaws
-pub mod LineIsPathLaws
-pub mod MovesRoundDrainLaws
-pub mod StalledStaysLaws
+pub mod EventBoundAndStallCauseLaws
+pub mod LinePathInNumbersLaws
+pub mod RoundProgressAndDrainLaws
+pub mod StalledEventLaws

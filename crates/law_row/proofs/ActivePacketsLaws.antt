@@ -16,7 +16,8 @@ use Rattle.law_model.specs.declared.lcas_states.Member.{Member}
 use Rattle.member_cells.specs.declared.control_word.Ctrl.TheVariants.{Idle}
 use Rattle.law_model.specs.declared.lcas_states.Standing.TheVariants.{Add as adding, Norm as normal, Dnu as unused}
 use Rattle.law_session.specs.Feedback.{lines_of}
-use Rattle.law_session.proofs.SourceFitsLinesLaws.{one, times, IsBelow, one-self, IsPlan-once, Fits-after, order-length}
+use Rattle.law_session.proofs.SourceOrderAndPlanLaws.{one, times, IsBelow, one-self, IsPlan-once, Fits-after}
+use Rattle.law_session.proofs.SourceOrderAndPlanLaws.{order-length}
 
 -- The sink counts the active packets that it reads: so it finds the lines that carry payload by the source's table.
 -- ---- a packet by what it says of its line, and by what all packets of one number say

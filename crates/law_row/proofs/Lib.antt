@@ -1,4 +1,4 @@
 pub mod ActivePacketsLaws
-pub mod LastWordReturnLaws
-pub mod RaisedSilentCarriersLaws
-pub mod WholeRowStoppingLaws
+pub mod LastWordAndReturnPacketLaws
+pub mod SilentLineAndKnownCarrierLaws
+pub mod WholeRowAndStoppedSinkLaws

@@ -1,8 +1,8 @@
-mod AtRoundCarriedLandedLaws
-pub mod BucketPlacedFramesLaws
-pub mod FailsOnceCostLaws
-mod FateKeepsHuntBehindLaws
-pub mod FullTimedCostlyLegsLaws
-pub mod QuietNoChangeStatusLaws
-pub mod SpoilsUpStaysNormalLaws
-pub mod WholeWalkTurnsDelaysLaws
+mod ClockedWalkRoundLaws
+pub mod FailingLineArrivalAndUseLaws
+pub mod FailureCostInRowsLaws
+pub mod FrameEndAndBucketLaws
+mod FrameFateUnderMoreRowsLaws
+pub mod QuietStepAndKeptStatusLaws
+pub mod RepeatedTurnAndDelayLaws
+pub mod WorkedServiceLegLaws

@@ -7,7 +7,8 @@ use Rattle.std.proofs.Math.Nat.{eq-or-lt_of_le}
 use Rattle.std.proofs.lemmas.List.{length-map, length-append}
 use Rattle.std.proofs.lemmas.Bool.{eqb-true, eqb-false}
 use Rattle.law_model.specs.Common.{IsStatuses, Scenario, is_read, is_line_up, kept_of, member_of, Table, Told, is_ok}
-use Rattle.law_model.specs.Common.{is_fail, admit, told_on, carried_out, exchange, exchanged, Source, change_by, change}
+use Rattle.law_model.specs.Common.{is_fail, admit, told_on, carried_out, exchange, exchanged, Source, change_by}
+use Rattle.law_model.specs.Common.{change}
 use Rattle.law_model.specs.Common.{source_at, told_at, first_of, table_of, cells_before, packets, session_cells}
 use Rattle.law_model.specs.declared.lcas_states.Command.{Command}
 use Rattle.law_model.specs.declared.lcas_states.Member.{Member}
@@ -17,17 +18,17 @@ use Rattle.law_model.specs.source.Source.{carried}
 use Rattle.law_session.specs.LineInUse.{IsInUse, IsUsedBefore, AddsAlone, AllCome, IsSeen, AllSeen, NoneRead, known_by}
 use Rattle.law_session.specs.LineInUse.{IsUsedBy, AddsUndamaged, AddsAmongSilent}
 use Rattle.law_session.specs.Feedback.{lines_of, table_before}
-use Rattle.law_session.proofs.GoesBecomesFollowsLaws.{told_on-lines}
-use Rattle.law_session.proofs.CellsSaidStatusKeptLaws.{session-law, none_kept-at}
-use Rattle.law_session.proofs.TurnAdmitExchangeLaws.{Has, IsThere, Only, Leads, LeadsIn, Known, Has-line}
-use Rattle.law_session.proofs.TurnAdmitExchangeLaws.{exchange-leads, exchange-there_plain, turned-adding}
-use Rattle.law_session.proofs.AddingLineWaitsLaws.{MaySay, IsFair, Waits, waiting, moving, using, Exchanges, Alone}
-use Rattle.law_session.proofs.AddingLineWaitsLaws.{lines-stay, heard_at, Hears-step, next-table, next-carried, not_fail}
-use Rattle.law_session.proofs.AddingLineWaitsLaws.{told_on-adds, used_at, Waits-next, step-on, known-last, used-longer}
-use Rattle.law_session.proofs.AddingLineWaitsLaws.{used-now, used_by, sixteen, cell-comes, Waits-added}
-use Rattle.law_session.proofs.AddingLineWaitsLaws.{table_of-carried, told_at-count, added}
-use Rattle.law_session.proofs.UpReadableHeardLaws.{some_heard}
-use Rattle.law_session.proofs.SourceFitsLinesLaws.{line-inside, order-length}
+use Rattle.law_session.proofs.DecisionStepMemberLaws.{told_on-lines}
+use Rattle.law_session.proofs.ReturnCellAndLineWordLaws.{session-law, none_kept-at}
+use Rattle.law_session.proofs.AdmittedAndExchangedLineLaws.{Has, IsThere, Only, Leads, LeadsIn, Known, Has-line}
+use Rattle.law_session.proofs.AdmittedAndExchangedLineLaws.{exchange-leads, exchange-there_plain, turned-adding}
+use Rattle.law_session.proofs.AddedLineWaitLaws.{MaySay, IsFair, Waits, waiting, moving, using, Exchanges, Alone}
+use Rattle.law_session.proofs.AddedLineWaitLaws.{lines-stay, heard_at, Hears-step, next-table, next-carried, not_fail}
+use Rattle.law_session.proofs.AddedLineWaitLaws.{told_on-adds, used_at, Waits-next, step-on, known-last, used-longer}
+use Rattle.law_session.proofs.AddedLineWaitLaws.{used-now, used_by, sixteen, cell-comes, Waits-added}
+use Rattle.law_session.proofs.AddedLineWaitLaws.{table_of-carried, told_at-count, added}
+use Rattle.law_session.proofs.UpLineAndReadablePacketLaws.{some_heard}
+use Rattle.law_session.proofs.SourceOrderAndPlanLaws.{line-inside, order-length}
 
 -- ---- How soon an added line is in use where the ADD lines before it can't be read: it is brought before them.
 -- the line alone is good

@@ -18,12 +18,12 @@ use Rattle.law_model.specs.Common.{stream_before, part_of, payload_of, stream_of
 use Rattle.law_model.specs.Common.{rank_of, payload_by, payload_on}
 use Rattle.law_model.specs.declared.lcas_states.Member.{Member}
 use Rattle.law_model.proofs.PacketNibblesLaws.{length-packet_nibbles, packet_nibbles_below, halves}
-use Rattle.law_session.proofs.SourceFitsLinesLaws.{order-length, one, times, one-self}
-use Rattle.member_rows.proofs.RowPartLaneLaws.{length-part_of, get-part_of}
+use Rattle.law_session.proofs.SourceOrderAndPlanLaws.{order-length, one, times, one-self}
+use Rattle.member_rows.proofs.RowPartAndLaneLaws.{length-part_of, get-part_of}
 use Rattle.law_session.specs.Feedback.{lines_of}
 use Rattle.law_session.specs.ReturnedCells.{AgreeBefore}
-use Rattle.law_session.proofs.CellsSaidStatusKeptLaws.{Agree, Agree-sooner, Agree-first, after-agree}
-use Rattle.law_session.proofs.LandedAcceptedStreamAlikeLaws.{SameTables, width-same, place_of-same, stream_before-agree}
+use Rattle.law_session.proofs.ReturnCellAndLineWordLaws.{Agree, Agree-sooner, Agree-first, after-agree}
+use Rattle.law_session.proofs.ClientStreamAndReplayLaws.{SameTables, width-same, place_of-same, stream_before-agree}
 use Rattle.law_row.specs.Received.{IsDealtRow}
 use Rattle.law_row.proofs.ActivePacketsLaws.{carrying, once-after}
 use Rattle.std.proofs.lemmas.List.Elements.{All-nil, All-cons, All-append, All-take, All-drop, All-replicate}

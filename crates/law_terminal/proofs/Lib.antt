@@ -1,3 +1,3 @@
-pub mod ComeOfLinesLaws
+pub mod ArrivedCellAndRowLaws
 pub mod ContainerPayloadLaws
-pub mod IsCourseAgreeLaws
+pub mod SessionCourseLaws

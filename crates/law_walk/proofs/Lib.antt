@@ -1,7 +1,7 @@
-pub mod AcceptedFramesDrainedLaws
-pub mod ClearWholeConfirmsLaws
-pub mod DeliveredFramesShorterLaws
-pub mod FailingSilentNearLegsLaws
-pub mod LandedAheadInsertedRefusalsLaws
-pub mod RingsInboxFirstOpenLaws
-pub mod WalkPlanSessionLaws
+pub mod AcceptedFrameAndDrainedWalkLaws
+pub mod DeliveredFrameCountLaws
+pub mod LandedItemRefusalAndTotalLaws
+pub mod WalkPlanAndPoppedCellLaws
+pub mod WalkRingAndWaitingTakeLaws
+pub mod WholeRowDespiteFailureLaws
+pub mod WorkedFailureLegLaws

@@ -1,7 +1,7 @@
-pub mod LinkDraftActionLaws
+pub mod LinkDraftAndActionLaws
 pub mod NumberedVcCountsLaws
+pub mod PointerSourceAndSinkLaws
 pub mod PointerWordLaws
-pub mod SinkFollowsSourceLaws
 pub mod SinkTakeGivesSteps
 pub mod SourceSendSteps
-pub mod VcsInPartLaws
+pub mod VcsOfStreamPartLaws

@@ -9,13 +9,13 @@ use Rattle.member_au4.specs.au4_pointer.StreamPart.{Part, begins, ends, next_par
 use Rattle.member_au4.specs.au4_pointer.StreamPart.{part_after, ending, whole}
 use Rattle.member_au4.specs.au4_pointer.Source.{last_octets}
 use Rattle.member_au4.specs.au4_pointer.SentFrames.{sent_from, sent, datas_from, datas}
-use Rattle.member_au4.proofs.SinkFollowsSourceLaws.{longer, data-of-framed}
+use Rattle.member_au4.proofs.PointerSourceAndSinkLaws.{longer, data-of-framed}
 use Rattle.std.specs.Int.{w64, to_be_bytes}
 use Rattle.std.proofs.lemmas.List.FromFn.{map-range_with_len_more}
 use Rattle.member_au4.specs.au4_link.Vcs.{rising, vc_of, first_vcs, IsFed}
-use Rattle.member_au4.proofs.VcsInPartLaws.{begun-after}
-use Rattle.member_au4.specs.au4_link.LinkReportText.{in_progress, cut_by, cuts_from, cuts, cut_after, back_of, end_text}
-use Rattle.member_au4.specs.au4_link.LinkReportText.{counts_text, HasVcs}
+use Rattle.member_au4.proofs.VcsOfStreamPartLaws.{begun-after}
+use Rattle.member_au4.specs.au4_link.LinkReportText.{in_progress, cut_by, cuts_from, cuts, cut_after, back_of}
+use Rattle.member_au4.specs.au4_link.LinkReportText.{end_text, counts_text, HasVcs}
 use Rattle.law_model.specs.Common.{Start}
 use Rattle.member_au4.specs.au4_pointer.SourceToSink.{Carries}
 use Rattle.member_au4.specs.declared.au4_link.numbered_vcs.NumberedVcs.{NumberedVcs}

@@ -14,7 +14,7 @@ use Rattle.member_au4.specs.au4_pointer.PointerWord.{reading}
 use Rattle.member_au4.specs.au4_pointer.Sink.{vcs_in, Reception, given_by, value_behind, told, receive, nothing}
 use Rattle.member_au4.specs.au4_pointer.Sink.{reception, given, added, data_of, Sink, Holds, PointerSinkStands, Gives}
 use Rattle.member_au4.specs.au4_pointer.Sink.{due, pieces}
-use Rattle.member_au4.proofs.VcsInPartLaws.{drop-both, are-vcs, vcs-split, whole-pieces, few-left, all-pieces}
+use Rattle.member_au4.proofs.VcsOfStreamPartLaws.{drop-both, are-vcs, vcs-split, whole-pieces, few-left, all-pieces}
 use Rattle.member_au4.specs.declared.au4_pointer.pointer_sink.PointerWordFault.{PointerWordFault}
 
 -- ---- What one frame does to what a sink has taken.

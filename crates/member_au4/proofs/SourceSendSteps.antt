@@ -11,9 +11,10 @@ use Rattle.member_au4.specs.au4_pointer.PointerWord.{next_value, next_wait, valu
 use Rattle.member_au4.specs.au4_pointer.StreamPart.{AreVcs, Part, octets_of, begun, next_part, first_part, part_after}
 use Rattle.member_au4.specs.au4_pointer.StreamPart.{flow}
 use Rattle.member_au4.specs.au4_pointer.Source.{framed, frame_in, frame_after, Source, was_sent, PointerSourceStands}
-use Rattle.member_au4.specs.au4_pointer.Source.{Sends, Writes, due, IsValid, h3_of, body_of, last_octets, Asks, Refills}
+use Rattle.member_au4.specs.au4_pointer.Source.{Sends, Writes, due, IsValid, h3_of, body_of, last_octets, Asks}
+use Rattle.member_au4.specs.au4_pointer.Source.{Refills}
 use Rattle.member_au4.specs.au4_pointer.SentFrames.{sent_from, sent}
-use Rattle.member_au4.proofs.VcsInPartLaws.{length-flow, flow-more, begun-after, Further, further}
+use Rattle.member_au4.proofs.VcsOfStreamPartLaws.{length-flow, flow-more, begun-after, Further, further}
 use Rattle.std.proofs.lemmas.List.Elements.{All-append, All-nil}
 use Rattle.law_model.specs.Common.{Start}
 use Rattle.std.proofs.lemmas.List.Folds.{concat-append}

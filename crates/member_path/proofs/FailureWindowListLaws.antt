@@ -1,7 +1,7 @@
 -- Lists of failure windows: what is carried, open and closed windows, faults of lists, and sums of slips.
 use Rattle.std.proofs.Common.{◌≡◌, ℕ, ◌+◌, ◌<◌, ◌≤◌, ◌&&◌, nat_le, nat_lt, true, false, if◌then◌else◌, fold, inl, inr}
-use Rattle.std.proofs.Common.{List, [], ◌∷◌, ◌++◌, length, refl, sym, ◌∙◌, ap, subst, arith, append-nil, max, zero, suc}
-use Rattle.std.proofs.Common.{drop, slice_get, slice_index_or, Some, None, ◌-◌, Bool, Option, ◌⊎◌, sum_by}
+use Rattle.std.proofs.Common.{List, [], ◌∷◌, ◌++◌, length, refl, sym, ◌∙◌, ap, subst, arith, append-nil, max, zero}
+use Rattle.std.proofs.Common.{suc, drop, slice_get, slice_index_or, Some, None, ◌-◌, Bool, Option, ◌⊎◌, sum_by}
 use Rattle.std.proofs.lemmas.Bool.{cases_Bool, cases_lt}
 use Rattle.law_model.specs.Common.{carried_in, AreWindows, slip_after, slip_of, is_damaged}
 use Rattle.law_model.specs.declared.window_types.Window.{Window}
@@ -9,7 +9,7 @@ use Rattle.law_model.specs.declared.window_types.Carried.TheVariants.{Whole, Fai
 use Rattle.law_model.specs.members.Damage.{carried}
 use Rattle.law_model.proofs.WindowAndPathLaws.{carried-in, carried-after, carried-before}
 use Rattle.member_path.specs.failure_window.OpenWindows.{CanClose, closed_at, failure, last_end, opened_at}
-use Rattle.law_line.proofs.LockedGoodLostLaws.{carried-early, run-most}
+use Rattle.law_line.proofs.ContainerLockAndSlipLaws.{carried-early, run-most}
 use Rattle.member_path.specs.failure_window.WindowsAbove.{IsFirstAbove}
 use Rattle.std.specs.Prelude.{Contains}
 use Rattle.std.proofs.lemmas.List.{at_drop_more, at_drop_all}

@@ -1,3 +1,3 @@
-pub mod DelayPathCellsLaws
+pub mod DelayedPathCellLaws
 pub mod FailureWindowListLaws
-pub mod LineNumbersLockLaws
+pub mod LineNumbersAfterCellLaws

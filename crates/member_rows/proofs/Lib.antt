@@ -1,4 +1,4 @@
-pub mod BegunNibbleLaws
+pub mod BegunPacketNibbleLaws
+pub mod PutOctetAndRowSpreadLaws
 pub mod RowGatherLinesLaws
-pub mod RowPartLaneLaws
-pub mod RowSpreadPutLaws
+pub mod RowPartAndLaneLaws

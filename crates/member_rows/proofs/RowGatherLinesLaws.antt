@@ -8,11 +8,11 @@ use Rattle.std.proofs.lemmas.Bool.{cases_Bool, cases_lt, false≢true, cases_eq}
 use Rattle.std.proofs.lemmas.Option.{slice_get_within, slice_get-map}
 use Rattle.law_model.specs.Common.{Container, Cell, verdict, read_packet, read_packets, governing, first_open}
 use Rattle.member_path.specs.cell_numbers.Numbers.{IsOpen, is_open}
-use Rattle.member_path.proofs.LineNumbersLockLaws.{open-test, open-verdict, passed-decided, whole-place}
+use Rattle.member_path.proofs.LineNumbersAfterCellLaws.{open-test, open-verdict, passed-decided, whole-place}
 use Rattle.member_rows.specs.realign_rows.Line.{Line, LineStands}
 use Rattle.member_rows.specs.realign_rows.Gather.{decided_lines, with_cell, Gather, GatherStands}
 use Rattle.law_model.specs.declared.control_packet.Packet.{Packet}
-use Rattle.law_line.proofs.DecidedPacketsRowsLaws.{packets_stay}
+use Rattle.law_line.proofs.DecidedPacketAndRowLaws.{packets_stay}
 use Rattle.member_rows.specs.realign_rows.BegunNibbles.{packet_at}
 use Rattle.member_rows.specs.realign_rows.LineByLine.{AreRead, AreNew, ArePassed}
 use Rattle.check_nibbles.proofs.CellsInStepLaws.{slice_get-append}

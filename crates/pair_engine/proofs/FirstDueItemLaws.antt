@@ -23,7 +23,7 @@ use Rattle.law_model.specs.declared.item_refusals.Refusal.{Refusal}
 use Rattle.law_model.specs.session.Scenario.{packets_in}
 use Rattle.walk_engine.proofs.LandedItemSteps.{land-moves}
 use Rattle.law_walk.specs.Common.{walk_plan}
-use Rattle.terminal_group.proofs.ItemPlaceHeldLaws.{bare-dues}
+use Rattle.terminal_group.proofs.ItemPlaceAndHeldItemLaws.{bare-dues}
 use Rattle.walk_engine.specs.Common.{landing_of, answer_by, refusal_in_event, Parts, counts_of, Makes}
 use Rattle.walk_engine.specs.declared.walk_core.step_answers.Moved.{Moved}
 use Rattle.walk_engine.specs.declared.walk_core.step_answers.Moved.TheVariants.{Stalled}

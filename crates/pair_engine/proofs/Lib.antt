@@ -1,4 +1,4 @@
 pub mod FirstDueItemLaws
 pub mod PairEventAndRoundLaws
-pub mod PairTickAndToldLaws
-pub mod RowTakenAndHeardLaws
+pub mod PairTickAndToldPacketLaws
+pub mod TakenRowAndHeardPacketLaws

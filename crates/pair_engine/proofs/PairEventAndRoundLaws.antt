@@ -19,16 +19,16 @@ use Rattle.law_pair.specs.declared.pair_events.Way.{Way}
 use Rattle.law_pair.specs.declared.pair_events.Way.TheVariants.{There, Back}
 use Rattle.law_pair.specs.declared.pair_events.PairEvent.{PairEvent}
 use Rattle.law_pair.specs.declared.pair_events.PairEvent.TheVariants.{Item, Tick, Carry, Take}
-use Rattle.law_pair.proofs.WayOfScriptsLaws.{has-pair-plan, there-taken, back-taken, pair-turned, way-sound}
+use Rattle.law_pair.proofs.PairWayAndPacketLaws.{has-pair-plan, there-taken, back-taken, pair-turned, way-sound}
 use Rattle.pair_engine.specs.declared.pair_answers.PairMoved.{PairMoved}
 use Rattle.pair_engine.specs.declared.pair_answers.PairMoved.TheVariants.{Stalled}
 use Rattle.pair_engine.specs.PairAfterEvent.{Paired, plan_of, leg_on, step_of, with_counts, after, answer_by, GivesWay}
 use Rattle.pair_engine.specs.PairAfterEvent.{moved_on, script_on, moved_of, refusal_in}
 use Rattle.walk_engine.specs.Common.{GivesRows, HasWindows, answer_by as way_answer, HasLanded, IsAlike, counts_of}
 use Rattle.walk_engine.proofs.WalkRoundAndTotalsLaws.{gives-then, drop-next, replicate-add}
-use Rattle.law_pair.proofs.PairGoingTickLaws.{goes-near}
-use Rattle.law_pair.proofs.PairMadeRoundsLaws.{pair_made, is-near, walks-fits, pair-round-less, pair-turns, pair-stops}
-use Rattle.law_pair.proofs.PairMadeRoundsLaws.{run-append, kinds, IsNear, pair-steps, pair-begins}
+use Rattle.law_pair.proofs.ReachedPairAndStallLaws.{goes-near}
+use Rattle.law_pair.proofs.PairMeasureAndDrainLaws.{pair_made, is-near, walks-fits, pair-round-less, pair-turns}
+use Rattle.law_pair.proofs.PairMeasureAndDrainLaws.{pair-stops, run-append, kinds, IsNear, pair-steps, pair-begins}
 use Rattle.law_model.specs.session.Scenario.{packets_in}
 use Rattle.terminal_group.specs.ReturnInbox.{Inbox, empty_inbox}
 use Rattle.pair_engine.specs.declared.pair_way.PairWay.{PairWay}
@@ -38,7 +38,7 @@ use Rattle.pair_engine.specs.Ways.{leg_beside, pair_counts, StandsAs, LandedAs, 
 use Rattle.pair_engine.specs.Ways.{AreBeside, way_counts, IsNewWay}
 use Rattle.law_walk.specs.Common.{walk_plan, said_packet, back_cell}
 use Rattle.walk_engine.specs.declared.walk_core.step_answers.Moved.{Moved}
-use Rattle.law_walk.proofs.WalkPlanSessionLaws.{has-paths, sound-walks}
+use Rattle.law_walk.proofs.WalkPlanAndPoppedCellLaws.{has-paths, sound-walks}
 use Rattle.std.specs.List.{range_with_len}
 use Rattle.walk_engine.specs.walk_core.WayParts.{WayStands}
 use Rattle.walk_engine.proofs.OpenedWayLaws.{none-known}

@@ -1,2 +1,2 @@
-pub mod PairReaderHalvesLaws
 pub mod PairReportRowsLaws
+pub mod PairScriptReaderLaws

@@ -12,29 +12,29 @@ use Rattle.law_pair.specs.declared.pair_events.PairEvent.TheVariants.{Take}
 use Rattle.walk_engine.specs.Common.{GivesRows}
 use Rattle.pair_engine.specs.PairAfterEvent.{Paired, after, leg_on, plan_of, with_counts, GivesWay, SameRows, MoreRows}
 use Rattle.pair_engine.proofs.PairEventAndRoundLaws.{take-rise}
-use Rattle.pair_engine.proofs.RowTakenAndHeardLaws.{gives-none}
+use Rattle.pair_engine.proofs.TakenRowAndHeardPacketLaws.{gives-none}
 use Rattle.pair_walk.specs.Rounds.{FewRows}
 use Rattle.std.proofs.lemmas.Grind.{flat_map-append}
 use Rattle.walk_engine.proofs.OpenedWayLaws.{none-delivered, drop-none}
 use Rattle.law_model.specs.declared.item_refusals.Refusal.{Refusal}
 use Rattle.law_model.specs.declared.session_totals.Totals.{Totals}
-use Rattle.octet_io.proofs.AppendedPartsLaws.{AppendsPart-longer}
+use Rattle.octet_io.proofs.AppendedTextAndPrefixLaws.{AppendsPart-longer}
 use Rattle.text_report.specs.ReportLines.{got_text, got_texts, refused_texts, total_text}
 use Rattle.law_walk.specs.Common.{delivered_of, refusals_among, refusals_of, totals_among, totals_of, numbered}
 use Rattle.law_walk.specs.Common.{report_of, final_report}
-use Rattle.law_walk.proofs.DeliveredFramesShorterLaws.{frames-grow}
+use Rattle.law_walk.proofs.DeliveredFrameCountLaws.{frames-grow}
 use Rattle.law_walk.specs.DeliveredFrames.{delivered_since}
 use Rattle.text_got.specs.declared.got_text.GotLines.{GotLines}
 use Rattle.text_got.specs.TextSoFar.{AppendsSome, GivesUp, HasText, has_failed, name_of, start_at}
-use Rattle.law_pair.proofs.PairMadeRoundsLaws.{pair-begins}
-use Rattle.law_pair.proofs.WayOfScriptsLaws.{there-report, back-report, way-sound}
+use Rattle.law_pair.proofs.PairMeasureAndDrainLaws.{pair-begins}
+use Rattle.law_pair.proofs.PairWayAndPacketLaws.{there-report, back-report, way-sound}
 use Rattle.pair_walk.specs.ReportsOfWays.{way_text}
 use Rattle.command_parts.specs.Common.{Lent, WritesPart, writes_both}
 use Rattle.law_model.specs.declared.script_types.Script.{Script}
 use Rattle.law_headline.proofs.ReportedFramesLaws.{is_headline}
 use Rattle.pair_walk.specs.declared.pair_script.script_pair.ScriptPair.{ScriptPair}
 use Rattle.pair_walk.specs.pair_script.PairOfText.{pair_of}
-use Rattle.pair_walk.proofs.PairReaderHalvesLaws.{valid_pair}
+use Rattle.pair_walk.proofs.PairScriptReaderLaws.{valid_pair}
 use Rattle.pair_walk.specs.Headline.{IsWayHeadline, IsPairHeadline}
 
 -- ---- What a round of a pair leaves, row by row.

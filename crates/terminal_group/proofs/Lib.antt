@@ -1,4 +1,4 @@
-pub mod ItemOfLegLaws
-pub mod ItemPlaceHeldLaws
-pub mod LandedRefusalsLaws
-pub mod ReturnCellEarlyMissingLaws
+pub mod InboxReturnCellLaws
+pub mod ItemPlaceAndHeldItemLaws
+pub mod LandingLegItemLaws
+pub mod RefusalOrderAndNextItemLaws

@@ -1,7 +1,7 @@
-pub mod ActiveSilentSupposedCarrierLaws
-pub mod ConfirmedMarkLaws
-pub mod IdleOctetsGrowsLaws
-pub mod LastWordWatchTimersLaws
-pub mod MemberStatusReturnLaws
-pub mod ReceivedRowsGivenFramesLaws
+pub mod ActiveLineAndSupposedCarrierLaws
+pub mod ConfirmedPlaceAndMarkLaws
+pub mod ReceivedOctetAndDealtIdleLaws
+pub mod ReceivedRowAndGivenFrameLaws
+pub mod SinkStateAndMemberStatusLaws
+pub mod WatchTimerAndLastWordLaws
 pub mod WholeRowContainersLaws

@@ -1,7 +1,7 @@
 -- Rows that are whole or lost, by their packets and the containers of their lines.
 use Rattle.std.proofs.Common.{◌≡◌, ℕ, ◌-◌, ◌/◌, ◌<◌, ◌≤◌, nat_lt, true, false, List, [], ◌∷◌, ◌++◌, Option, Some, refl}
-use Rattle.std.proofs.Common.{sym, ◌∙◌, ap, subst, arith, if◌then◌else◌, append-nil, Bool, map, length, slice_get, None}
-use Rattle.std.proofs.Common.{ap₂, is_some, option_map}
+use Rattle.std.proofs.Common.{sym, ◌∙◌, ap, subst, arith, if◌then◌else◌, append-nil, Bool, map, length, slice_get}
+use Rattle.std.proofs.Common.{None, ap₂, is_some, option_map}
 use Rattle.std.proofs.lemmas.Bool.Decides.{nat_tests}
 use Rattle.law_model.specs.Common.{Cell, row_at, carriers_at, StreamRow, Segments, segments_of, longest_frame}
 use Rattle.law_model.specs.Common.{Container, verdict, octets_from, container_in, container_on, with_first}
@@ -10,7 +10,7 @@ use Rattle.law_model.specs.rows.GroupRows.{row_by}
 use Rattle.law_model.specs.declared.script_types.Options.{Options}
 use Rattle.terminal_sink.specs.marked_delineator.Marks.{Marked as Receiver, StandsIn}
 use Rattle.law_loss.specs.AddedFrames.{added, whole_row, lost_row}
-use Rattle.law_loss.proofs.SegmentsOfRowsAddedLaws.{segments_of-push, added-whole, added-lost}
+use Rattle.law_loss.proofs.SegmentsOfAddedRowsLaws.{segments_of-push, added-whole, added-lost}
 use Rattle.terminal_sink.specs.sink_core.TakenAndGiven.{AreCarriers}
 use Rattle.terminal_sink.specs.sink_core.RowsInReceiver.{Receives, Grows, Gives}
 use Rattle.std.proofs.lemmas.Option.{slice_get-map}

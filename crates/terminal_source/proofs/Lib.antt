@@ -1,6 +1,6 @@
-pub mod FrameMemberContainerLaws
-pub mod GroupBitsAndOksLaws
+pub mod DealtFrameContainerLaws
+pub mod GroupBitAndReturnStatusLaws
 pub mod MemberOrderExchangeLaws
-pub mod TableCourseLaws
-pub mod TerminalGivenToldAlikeLaws
+pub mod SourceTableCourseLaws
+pub mod SourceTerminalScenarioLaws
 pub mod TerminalTickSteps

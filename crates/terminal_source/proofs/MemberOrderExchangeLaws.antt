@@ -1,8 +1,8 @@
--- Orders of members: exchange, take_out, admit and turned, and a line's place_in and state_in of an order.
-use Rattle.std.proofs.Common.{◌≡◌, ℕ, suc, ◌+◌, ◌-◌, ◌<◌, ◌≤◌, ◌&&◌, Bool, true, false, List, [], ◌∷◌, ◌++◌, take, drop}
-use Rattle.std.proofs.Common.{length, Option, Some, None, option_map, slice_index_or, refl, sym, ◌∙◌, ap, append_assoc}
-use Rattle.std.proofs.Common.{add-one, arith, drop-cons, take-suc, length-drop, get_or-drop, not, cond, nat_lt, min}
-use Rattle.std.proofs.Common.{position, subst, slice_set, drop-set-lt, ◌%◌, ◌==◌, eq-eqb, ne_eqb}
+-- Orders of members: an exchange and what comes of it, an order that is rewritten, and the place of a line in one.
+use Rattle.std.proofs.Common.{◌≡◌, ℕ, suc, ◌+◌, ◌-◌, ◌<◌, ◌≤◌, ◌&&◌, Bool, true, false, List, [], ◌∷◌, ◌++◌, take}
+use Rattle.std.proofs.Common.{drop, length, Option, Some, None, option_map, slice_index_or, refl, sym, ◌∙◌, ap}
+use Rattle.std.proofs.Common.{append_assoc, add-one, arith, drop-cons, take-suc, length-drop, get_or-drop, not, cond}
+use Rattle.std.proofs.Common.{nat_lt, min, position, subst, slice_set, drop-set-lt, ◌%◌, ◌==◌, eq-eqb, ne_eqb}
 use Rattle.std.proofs.lemmas.List.{drop_all, get_or_default, length-take, take-append-le, take-append-drop, drop-take}
 use Rattle.std.proofs.lemmas.List.{drop_more, take_more_set}
 use Rattle.law_model.specs.Common.{is_adding, is_ok, take_out, is_fail, exchange, in_use, admit, turn, turned, Ctrl}
@@ -17,7 +17,7 @@ use Rattle.std.proofs.lemmas.List.Sums.{prefix_len_stops}
 use Rattle.std.proofs.lemmas.Bool.{not-true, not-false, ltb-true, ltb-false}
 use Rattle.law_model.specs.declared.control_packet.Packet.{Packet}
 use Rattle.member_cells.specs.declared.control_word.Ctrl.TheVariants.{Idle}
-use Rattle.terminal_source.proofs.GroupBitsAndOksLaws.{bits_from-first}
+use Rattle.terminal_source.proofs.GroupBitAndReturnStatusLaws.{bits_from-first}
 
 -- ---- An exchange as it is made: the first line in ADD is looked for, and then the first later one that has OK.
 -- what is taken out, with a front that it stands behind

@@ -5,20 +5,21 @@ use Rattle.std.proofs.Common.{length, take, drop, All, slice_index, slice_index_
 use Rattle.std.proofs.Common.{refl, sym, ◌∙◌, ap, subst, arith}
 use Rattle.std.specs.Option.{is_some}
 use Rattle.std.specs.List.{range_with_len}
-use Rattle.std.proofs.lemmas.Bool.{cases_lt, eqb-true, eqb-false, eq-eqb, leb-true, le-leb, lt-ltb, ltb-true, ltb-false}
+use Rattle.std.proofs.lemmas.Bool.{cases_lt, eqb-true, eqb-false, eq-eqb, leb-true, le-leb, lt-ltb, ltb-true}
+use Rattle.std.proofs.lemmas.Bool.{ltb-false}
 use Rattle.std.proofs.lemmas.Bool.Decides.{nat_tests}
 use Rattle.std.proofs.lemmas.List.{get_or_at, get_or_past, get_or-replicate, length-append}
 use Rattle.std.proofs.lemmas.List.Elements.{All-head, All-tail}
 use Rattle.std.proofs.lemmas.List.FromFn.{length-map-range_with_len, get_or-map-range_with_len, fill_by_all}
-use Rattle.law_session.proofs.LandedAcceptedStreamAlikeLaws.{stream_before-next, Alike, alike-after, alike-place}
-use Rattle.law_session.proofs.LandedAcceptedStreamAlikeLaws.{alike-stream, map-same}
+use Rattle.law_session.proofs.ClientStreamAndReplayLaws.{stream_before-next, Alike, alike-after, alike-place}
+use Rattle.law_session.proofs.ClientStreamAndReplayLaws.{alike-stream, map-same}
 use Rattle.law_model.specs.Common.{BackCell, Container, Scenario, DueCommand, DueFrame, orders_at, frames_at, lands_at}
 use Rattle.law_model.specs.Common.{comes_at, steps_in, packet_nibbles, stream_of, Told, active, told_in, Source}
 use Rattle.law_model.specs.Common.{asked_all, decide, cell_at, after, source_at, table_of, Course, called, decides}
 use Rattle.law_model.specs.Common.{said_by, count_of, forward_packet, untold, telling_at, telling, Stream, offered}
 use Rattle.law_model.specs.Common.{reached, width, stream_before, place_of, payload_of, active_at, payload_on}
 use Rattle.law_model.specs.Common.{nibble_in, nibble_at, container_of, frame_of}
-use Rattle.law_session.proofs.CellsSaidStatusKeptLaws.{asked_all-table, Agree, Agree-append}
+use Rattle.law_session.proofs.ReturnCellAndLineWordLaws.{asked_all-table, Agree, Agree-append}
 use Rattle.gfp_fill.specs.Queue.{Held}
 use Rattle.gfp_fill.specs.SentAreas.{Sender}
 use Rattle.gfp_fill.specs.FilledStream.{FillerStands as HasWritten}

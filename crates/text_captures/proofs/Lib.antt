@@ -1,3 +1,3 @@
-pub mod CaptureRecordsReadLaws
-pub mod CaptureRowFramesLaws
-pub mod PacketsInOctetsLaws
+pub mod CaptureRecordReadingLaws
+pub mod H4PacketDecodingLaws
+pub mod WrittenCaptureFrameLaws

@@ -1,2 +1,2 @@
-pub mod TextWaitsInBlockLaws
-pub mod ToldTextGrowsLaws
+pub mod ToldTextGrowthLaws
+pub mod WaitingTextInBlockLaws

@@ -1,2 +1,2 @@
-pub mod LanguageLaws
-pub mod LinesWordsFieldsLaws
+pub mod LineLanguageAndTableLaws
+pub mod TextLineAndWordLaws

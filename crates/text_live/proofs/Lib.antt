@@ -1,3 +1,3 @@
-pub mod HasLiveCourseLaws
-pub mod LiveReaderKeepsLaws
+pub mod LiveCourseAndItemLaws
+pub mod LiveReaderStateLaws
 pub mod LiveScriptSayingsLaws

@@ -10,7 +10,7 @@ use Rattle.text_lines.specs.WordsOfLine.{words, word_at, is_skipped}
 use Rattle.text_lines.specs.Language.{said_from, unless_fault}
 use Rattle.text_lines.specs.FirstFault.{AreSound}
 use Rattle.text_lines.specs.LanguageTable.{formed}
-use Rattle.text_lines.proofs.LinesWordsFieldsLaws.{or_none, map_none}
+use Rattle.text_lines.proofs.TextLineAndWordLaws.{or_none, map_none}
 use Rattle.law_model.specs.Common.{IsNetwork, leg_of, longest_input, IsValid, HasFewLosses, HasFailures, IsEvent}
 use Rattle.law_model.specs.Common.{IsCount, greatest, greatest_slip, slip_of, after as after_event, frame_dues}
 use Rattle.law_model.specs.Common.{command_dues, slip_after}
@@ -21,7 +21,7 @@ use Rattle.text_scripts.specs.script_read.Statements.{words_said, after}
 use Rattle.law_live.specs.LiveSayings.{live_from, LineCourse, commands_in, frames_in, windows_by}
 use Rattle.law_live.specs.WellSaid.{CanSayAll}
 use Rattle.law_live.specs.Common.{CanSay, IsWellSaid, Live, Saying, live_after, live_of, opened}
-use Rattle.law_live.proofs.AgreesLiveCountsLaws.{live-more}
+use Rattle.law_live.proofs.AgreeingLegConversationLaws.{live-more}
 use Rattle.text_live.specs.declared.live_keyword.EarlierPart.{EarlierPart}
 use Rattle.text_live.specs.declared.live_keyword.FirstWord.{FirstWord}
 use Rattle.text_live.specs.LiveLines.{Told, happens, Said, LineWrong, of_live, live_or, now_live, opening_fault}
@@ -30,13 +30,13 @@ use Rattle.text_live.specs.LiveLines.{told_by, said_with, line_after, nothing_sa
 use Rattle.text_live.specs.LiveScript.{script_in, script_of_live}
 use Rattle.text_live.specs.Sayings.{AgreesWith, AreFine, leg_in, line_saying, said_in, said_with_line, saying_of}
 use Rattle.text_live.specs.Sayings.{sayings}
-use Rattle.text_live.proofs.HasLiveCourseLaws.{HasLive, HasLiveIf, HasSaid, begins, can_say, one_line, opening}
-use Rattle.text_live.proofs.HasLiveCourseLaws.{failures-by, slip-by, HasWhole, course_slip, all_lines}
+use Rattle.text_live.proofs.LiveCourseAndItemLaws.{HasLive, HasLiveIf, HasSaid, begins, can_say, one_line, opening}
+use Rattle.text_live.proofs.LiveCourseAndItemLaws.{failures-by, slip-by, HasWhole, course_slip, all_lines}
 use Rattle.std.proofs.lemmas.Bool.Decides.{nat_tests}
 use Rattle.std.proofs.lemmas.List.Elements.{All-append, All-replicate, All-map, All-cons}
 use Rattle.law_model.specs.declared.script_types.EventLine.{EventLine}
 use Rattle.law_model.specs.declared.script_types.EventLine.TheVariants.{Client, Operator, Round}
-use Rattle.text_scripts.proofs.DraftConfigItemsLaws.{All-none}
+use Rattle.text_scripts.proofs.ScriptDraftGrowthLaws.{All-none}
 use Rattle.law_live.specs.ScriptOfSayings.{config_by, counted, events_by}
 use Rattle.hex.specs.Hex.{decode_pairs}
 use Rattle.law_live.specs.LiveAnswers.{answers, answers_from}

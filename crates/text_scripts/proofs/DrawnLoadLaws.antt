@@ -8,13 +8,14 @@ use Rattle.text_scripts.specs.make_load.Draws.{next, drawn, draws, after_draws}
 use Rattle.std.specs.List.{range_with_len, flat_map}
 use Rattle.std.specs.List.Sorted.{IsNonDecreasing}
 use Rattle.std.proofs.lemmas.List.{length-append, length-replicate, map-append, length-map, length-take}
-use Rattle.std.proofs.lemmas.List.FromFn.{length-map-range_with_len, get_or-map-range_with_len, map-range_with_len_more}
+use Rattle.std.proofs.lemmas.List.FromFn.{length-map-range_with_len, get_or-map-range_with_len}
+use Rattle.std.proofs.lemmas.List.FromFn.{map-range_with_len_more}
 use Rattle.law_model.specs.Common.{due_of, dues_of, frame_dues, command_dues, slip_after, AreWindows, greatest}
 use Rattle.law_model.specs.Common.{greatest_slip, IsItem, HasFailures, AreItems, IsValid}
 use Rattle.law_model.specs.declared.script_types.Item.{Item}
 use Rattle.law_model.specs.declared.script_types.Script.{Script}
 use Rattle.law_model.specs.declared.script_types.ItemKind.TheVariants.{Frame, Add}
-use Rattle.text_scripts.proofs.DraftConfigItemsLaws.{All-none, no_losses, rising-none, frames-append, commands-append}
+use Rattle.text_scripts.proofs.ScriptDraftGrowthLaws.{All-none, no_losses, rising-none, frames-append, commands-append}
 use Rattle.text_scripts.specs.make_load.Load.{length_of, frame_of, after_frame, addition, additions, frames}
 use Rattle.text_scripts.specs.make_load.Load.{frame_count, load}
 use Rattle.std.specs.Prelude.{codes}
@@ -24,11 +25,10 @@ use Rattle.std.proofs.lemmas.Grind.{div_ceil_times}
 use Rattle.hex.specs.Hex.{encode_lower, lower_digits}
 use Rattle.hex.proofs.HexLemmas.{length-encode_with}
 use Rattle.check_crc32.specs.Crc32.{least_first, ordered, fcs_of, fcs_in}
-use Rattle.check_crc32.proofs.CheckBitsRemainderLaws.{length-fcs_of}
+use Rattle.check_crc32.proofs.CheckBitsAndRemainderLaws.{length-fcs_of}
 use Rattle.text_scripts.specs.declared.rate_load.rate_frames.RateLoad.{RateLoad}
 use Rattle.text_scripts.specs.rate_load.RateTexts.{IsRateLoad, due_of as rate_due, count_of, head, content_of}
-use Rattle.text_scripts.specs.rate_load.RateTexts.{frame_of as rate_frame, state_of, start_of, line_at}
-use Rattle.text_scripts.specs.rate_load.RateTexts.{lines_of}
+use Rattle.text_scripts.specs.rate_load.RateTexts.{frame_of as rate_frame, state_of, start_of, line_at, lines_of}
 
 -- ---- Draws one on, and their bounds.
 draws_more : (more fewer bound state : ℕ) → more ≡ suc fewer →

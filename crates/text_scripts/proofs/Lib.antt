@@ -1,4 +1,4 @@
-pub mod DraftConfigItemsLaws
 pub mod DrawnLoadLaws
-pub mod ScriptLinesSaidLaws
-pub mod WordsFitDraftLaws
+pub mod ScriptDraftGrowthLaws
+pub mod ScriptLineAndFirstFaultLaws
+pub mod StatementAndWordFaultLaws

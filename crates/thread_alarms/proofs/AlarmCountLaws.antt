@@ -2,7 +2,7 @@
 use Rattle.std.proofs.Common.{◌≡◌, ℕ, suc, ◌+◌, ◌*◌, ◌<◌, ◌≤◌, ◌-◌, nat_lt, Bool, true, false, if◌then◌else◌, List, []}
 use Rattle.std.proofs.Common.{◌∷◌, ◌++◌, length, take, refl, sym, ap, ◌∙◌, arith, append_assoc, length-append}
 use Rattle.std.proofs.lemmas.List.{append-nil}
-use Rattle.law_line.proofs.LockedGoodLostLaws.{carried-early}
+use Rattle.law_line.proofs.ContainerLockAndSlipLaws.{carried-early}
 use native.Mathlib.Decide.{dec_le}
 use Rattle.law_model.specs.Common.{Container, Cell, Good, Fail, End, carried_in, AreWindows, cells_of, path, end_of}
 use Rattle.law_model.specs.declared.window_types.Window.{Window}

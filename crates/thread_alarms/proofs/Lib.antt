@@ -1,4 +1,4 @@
 pub mod AlarmCountLaws
-pub mod AlarmsThroughOfLineLaws
+pub mod AlarmsByPostAndLineLaws
+pub mod LaterServedLineLaws
 pub mod QueueRuleViewSteps
-pub mod ServedLinesLaterLaws

@@ -19,9 +19,9 @@ use Rattle.thread_alarms.specs.alarm_log.Views.{nothing_heard, listening, and_ma
 use Rattle.thread_alarms.specs.alarm_log.Views.{and_known, got_of, made_of, most_of, IsNew, AreApart, AreBelow}
 use Rattle.thread_alarms.specs.alarm_log.Views.{AreHeard, IsHeard, IsHeld, heard_of, known_of, with_known}
 use Rattle.thread_alarms.specs.alarm_log.Rule.{AreKnown, Fits, Delivers, Sets, Holds}
-use Rattle.thread_alarms.proofs.AlarmsThroughOfLineLaws.{at_key, at_key-same, at_key-other, through-own, through-other}
-use Rattle.thread_alarms.proofs.AlarmsThroughOfLineLaws.{through-append, room-through, room-less, alarms-append}
-use Rattle.thread_alarms.proofs.AlarmsThroughOfLineLaws.{alarms-length, NotAmong, all-there}
+use Rattle.thread_alarms.proofs.AlarmsByPostAndLineLaws.{at_key, at_key-same, at_key-other, through-own, through-other}
+use Rattle.thread_alarms.proofs.AlarmsByPostAndLineLaws.{through-append, room-through, room-less, alarms-append}
+use Rattle.thread_alarms.proofs.AlarmsByPostAndLineLaws.{alarms-length, NotAmong, all-there}
 use Rattle.thread_alarms.specs.declared.alarm_log.alarm_post.AlarmPost.{AlarmPost}
 use Rattle.thread_alarms.specs.alarm_log.Posts.{number_of, put_by, kept_by, known_by}
 

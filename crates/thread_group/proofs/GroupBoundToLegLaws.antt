@@ -15,15 +15,15 @@ use Rattle.law_model.specs.Common.{command_dues, used_in, Told, order_of, Counts
 use Rattle.law_model.specs.declared.script_types.Item.{Item}
 use Rattle.law_model.specs.declared.item_refusals.Refusal.{Refusal}
 use Rattle.law_session.specs.ReturnedCells.{AgreeBefore}
-use Rattle.law_session.proofs.LandedAcceptedStreamAlikeLaws.{Alike}
+use Rattle.law_session.proofs.ClientStreamAndReplayLaws.{Alike}
 use Rattle.thread_rings.specs.EndsOfRing.{OutEnd, InEnd, out_passed, in_passed, SameIn}
 use Rattle.thread_rings.proofs.SameRingEndsLaws.{out-then, in-then}
 use Rattle.terminal_source.specs.source_core.GivenScenario.{ComesAlike, SourceStands as HasMade}
-use Rattle.terminal_source.proofs.TerminalGivenToldAlikeLaws.{alike-landed, first-alike}
-use Rattle.law_walk.specs.Common.{Numbered, is_client, landed_from, landed_items, landed_scenario, refused_by, IsPlaced}
-use Rattle.law_walk.specs.Common.{IsOfferAt, IsOrderAt}
-use Rattle.law_walk.proofs.LandedAheadInsertedRefusalsLaws.{frame-dues, command-dues, IsInserted, placed, offer-at}
-use Rattle.law_walk.proofs.LandedAheadInsertedRefusalsLaws.{order-at}
+use Rattle.terminal_source.proofs.SourceTerminalScenarioLaws.{alike-landed, first-alike}
+use Rattle.law_walk.specs.Common.{Numbered, is_client, landed_from, landed_items, landed_scenario, refused_by}
+use Rattle.law_walk.specs.Common.{IsPlaced, IsOfferAt, IsOrderAt}
+use Rattle.law_walk.proofs.LandedItemRefusalAndTotalLaws.{frame-dues, command-dues, IsInserted, placed, offer-at}
+use Rattle.law_walk.proofs.LandedItemRefusalAndTotalLaws.{order-at}
 use Rattle.thread_group.specs.declared.group_answers.TickAnswer.{TickAnswer}
 use Rattle.thread_group.specs.declared.group_answers.TickAnswer.TheVariants.{Ticked, Held, TxFull, BackMissing, Done}
 use Rattle.thread_group.specs.declared.group_state.GroupState.{GroupState}
@@ -38,11 +38,11 @@ use Rattle.thread_group.specs.Group.{journal_of, refusals_of, entries_by, with_l
 use Rattle.thread_group.specs.GroupCalls.{Ticks, Submits}
 use Rattle.thread_group.specs.GroupOfLeg.{counts_of, refusal_by, refusals_by, accepted_frames_by, accepted_commands_by}
 use Rattle.thread_group.specs.GroupOfLeg.{octets_in, AreItemsOf, HasLandedOf, IsBound, IsItemOf, HasJournalRoom}
-use Rattle.terminal_group.proofs.ItemPlaceHeldLaws.{bare-dues}
-use Rattle.terminal_group.proofs.ReturnCellEarlyMissingLaws.{taken-more}
-use Rattle.thread_group.proofs.JournalEntriesAlikeLaws.{alike-cells, refusal-alike, container-alike, sent-alike}
-use Rattle.thread_group.proofs.JournalEntriesAlikeLaws.{sent-next, push-cases, frames-next, commands-next}
-use Rattle.thread_group.proofs.JournalEntriesAlikeLaws.{landed-in-order}
+use Rattle.terminal_group.proofs.ItemPlaceAndHeldItemLaws.{bare-dues}
+use Rattle.terminal_group.proofs.InboxReturnCellLaws.{taken-more}
+use Rattle.thread_group.proofs.JournalEntryAndScenarioLaws.{alike-cells, refusal-alike, container-alike, sent-alike}
+use Rattle.thread_group.proofs.JournalEntryAndScenarioLaws.{sent-next, push-cases, frames-next, commands-next}
+use Rattle.thread_group.proofs.JournalEntryAndScenarioLaws.{landed-in-order}
 use Rattle.law_model.specs.declared.script_types.ItemKind.{ItemKind}
 use Rattle.std.proofs.lemmas.Bool.Decides.{nat_tests}
 use Rattle.std.proofs.lemmas.List.Elements.{All-cons, All-append}
@@ -57,9 +57,9 @@ use Rattle.terminal_group.specs.Item.{size_of as octet_count}
 use Rattle.std.specs.Global.{Vec}
 use Rattle.terminal_group.specs.Landed.{next_number, due_at}
 use Rattle.terminal_group.specs.GivenItem.{with_kind}
-use Rattle.terminal_group.proofs.LandedRefusalsLaws.{placed-same}
-use Rattle.terminal_group.proofs.ItemOfLegLaws.{due-now, next-there, next-counts, offer-here, order-here, met-item}
-use Rattle.terminal_group.proofs.ItemOfLegLaws.{leaves}
+use Rattle.terminal_group.proofs.RefusalOrderAndNextItemLaws.{placed-same}
+use Rattle.terminal_group.proofs.LandingLegItemLaws.{due-now, next-there, next-counts, offer-here, order-here}
+use Rattle.terminal_group.proofs.LandingLegItemLaws.{met-item, leaves}
 use Rattle.thread_group.proofs.SubmitAndTickAnswerLaws.{refused-is, fault_by, met_in}
 
 -- ---- A tick leaves a group bound to its session.

@@ -1,5 +1,5 @@
 pub mod GroupBoundToLegLaws
-pub mod JournalEntriesAlikeLaws
-pub mod KeepsPartsRefusedLaws
-pub mod LaidAndLookedEndsLaws
+pub mod GroupPartsAfterStepLaws
+pub mod GroupRingEndLookLaws
+pub mod JournalEntryAndScenarioLaws
 pub mod SubmitAndTickAnswerLaws

@@ -1,4 +1,4 @@
--- Answers to a submit or a tick: the faults in their order, and Submits and Ticks by them.
+-- What a group answers to a submit or a tick: the faults in their order, and what has come of it by the answer.
 use Rattle.std.proofs.Common.{◌≡◌, ℕ, ◌+◌, ◌<◌, ◌≤◌, nat_lt, nat_le, not, ◌&&◌, ◌||◌, Bool, true, false, if◌then◌else◌}
 use Rattle.std.proofs.Common.{List, [], ◌∷◌, ◌++◌, Option, Some, None, option_map, refl, sym, ◌∙◌, ap, subst, arith}
 use Rattle.std.proofs.Common.{is_some, append-nil, le-ltb, lt-ltb, ◌≢◌, ◌⊎◌, ◌↔◌, length, inl, inr}
@@ -31,8 +31,8 @@ use Rattle.thread_group.specs.Group.{with_landed, side_of, lost_of, lines_of, la
 use Rattle.thread_group.specs.Group.{total_of, inbox_of, held_of, replay_of, is_ticked, IsFreeToTick, AreMoved}
 use Rattle.thread_group.specs.Group.{IsMissing, ArePushedOf}
 use Rattle.thread_group.specs.GroupCalls.{Submits, Ticks, Comes, Looks, Makes}
-use Rattle.thread_group.proofs.JournalEntriesAlikeLaws.{met-journal}
-use Rattle.terminal_group.proofs.LandedRefusalsLaws.{next-due}
+use Rattle.thread_group.proofs.JournalEntryAndScenarioLaws.{met-journal}
+use Rattle.terminal_group.proofs.RefusalOrderAndNextItemLaws.{next-due}
 use mathlib.Core.List.{IsPrefix}
 use Rattle.law_model.specs.declared.script_types.Item.{Item}
 use Rattle.std.specs.Global.{Vec}
@@ -44,9 +44,9 @@ use Rattle.thread_group.specs.declared.group_answers.TickAnswer.{TickAnswer}
 use Rattle.thread_group.specs.declared.group_answers.TickAnswer.TheVariants.{Ticked, Held, TxFull, BackMissing, Done}
 use Rattle.terminal_group.specs.declared.group_source.EarlyCause.{EarlyCause}
 use Rattle.terminal_group.specs.declared.group_source.EarlyCause.TheVariants.{Done as Early_done, Held as Early_held}
-use Rattle.terminal_group.proofs.ReturnCellEarlyMissingLaws.{early-none, early-done, early-held}
+use Rattle.terminal_group.proofs.InboxReturnCellLaws.{early-none, early-done, early-held}
 use Rattle.thread_group.specs.GroupRings.{SameOuts, HasLooked, HaveLooked, AreFree, IsFirstFull, IsDrained}
-use Rattle.thread_group.proofs.KeepsPartsRefusedLaws.{empty-come}
+use Rattle.thread_group.proofs.GroupPartsAfterStepLaws.{empty-come}
 
 -- ---- What contracts say of a group, by its parts.
 pub stands-of : (g : GroupState) → GroupStands g

@@ -1,6 +1,6 @@
-pub mod BellRungLaws
 pub mod LinesWithPostsLaws
-pub mod OpenedLinesBeginBoundLaws
-pub mod RingsLaidSinkRunLaws
-pub mod SessionEndGatheredLaws
-pub mod ShareAndPairListsLaws
+pub mod OpenedLineAndGroupLaws
+pub mod RungBellLaws
+pub mod SessionEndByScriptLaws
+pub mod SessionRingEndsAndSinkRunLaws
+pub mod WorkerShareAndPairListLaws

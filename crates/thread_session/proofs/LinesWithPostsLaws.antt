@@ -1,7 +1,7 @@
 -- Lines that are served with their posts, from the opening of a session to its end.
-use Rattle.std.proofs.Common.{◌≡◌, ℕ, zero, suc, ◌<◌, ◌≤◌, Bool, true, false, List, [], ◌∷◌, ◌++◌, map, length, vec_len}
-use Rattle.std.proofs.Common.{slice_get, Some, refl, sym, ◌∙◌, ap, ap₂, subst, arith, Contains, All, IsPermutation}
-use Rattle.std.proofs.Common.{eq-eqb, ne_eqb}
+use Rattle.std.proofs.Common.{◌≡◌, ℕ, zero, suc, ◌<◌, ◌≤◌, Bool, true, false, List, [], ◌∷◌, ◌++◌, map, length}
+use Rattle.std.proofs.Common.{vec_len, slice_get, Some, refl, sym, ◌∙◌, ap, ap₂, subst, arith, Contains, All}
+use Rattle.std.proofs.Common.{IsPermutation, eq-eqb, ne_eqb}
 use Rattle.std.specs.List.{AllZip}
 use Rattle.std.specs.Global.{Vec}
 use Rattle.std.proofs.lemmas.List.Elements.{All-nil, All-cons, All-append}
@@ -29,13 +29,13 @@ use Rattle.thread_alarms.specs.alarm_log.Posts.{posted_by, SamePost}
 use Rattle.thread_alarms.specs.declared.watched_line.served_line.ServedLine.{ServedLine}
 use Rattle.thread_alarms.specs.watched_line.ServedWithPosts.{worker_of, IsServedLater, AreServedLater, AreWatchable}
 use Rattle.thread_alarms.specs.watched_line.ServedWithPosts.{AreTold}
-use Rattle.thread_alarms.proofs.ServedLinesLaterLaws.{workers-later}
+use Rattle.thread_alarms.proofs.LaterServedLineLaws.{workers-later}
 use Rattle.thread_session.specs.session_parts.ServedLines.{AreLater, AreNumbered}
 use Rattle.thread_session.specs.session_parts.LineRingsLaid.{AreDone, AreServedDone}
 use Rattle.thread_session.specs.session_parts.LinesOpened.{AreOpened}
 use Rattle.thread_session.specs.session_parts.EndedSession.{IsEnded}
 use Rattle.law_walk.specs.Common.{line_cells}
-use Rattle.thread_session.proofs.ShareAndPairListsLaws.{some-is, zip-at, zip-length}
+use Rattle.thread_session.proofs.WorkerShareAndPairListLaws.{some-is, zip-at, zip-length}
 use Rattle.thread_session.specs.session_run.SessionRingsLaid.{AreLaid}
 
 -- Lines that are served with their posts, from the opening of a session to its end.

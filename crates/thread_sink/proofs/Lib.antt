@@ -1,1 +1,1 @@
-pub mod SinkPartsFramesLaws
+pub mod SinkStepAndFrameLaws

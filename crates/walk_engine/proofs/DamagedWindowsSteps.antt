@@ -9,12 +9,12 @@ use Rattle.law_model.specs.declared.window_types.Window.{Window}
 use Rattle.law_model.specs.members.Damage.{carried}
 use Rattle.member_path.specs.path_delay.CallsOnDelayedLine.{with_windows}
 use Rattle.law_walk.specs.Common.{IsWalked}
-use Rattle.walk_engine.specs.Common.{Has, HasCounted, HasLine, HasSent, HasSource, Walking, LiveStands, Parts, AgreesAt}
-use Rattle.walk_engine.specs.Common.{HasBack, Ringed, calls_of, calls_on, counts_of, line_counts, path_of, ring_of}
-use Rattle.walk_engine.specs.Common.{windows_in, windows_of}
+use Rattle.walk_engine.specs.Common.{Has, HasCounted, HasLine, HasSent, HasSource, Walking, LiveStands, Parts}
+use Rattle.walk_engine.specs.Common.{AgreesAt, HasBack, Ringed, calls_of, calls_on, counts_of, line_counts, path_of}
+use Rattle.walk_engine.specs.Common.{ring_of, windows_in, windows_of}
 use Rattle.walk_engine.specs.walk_core.WayParts.{HasSink, WayStands}
 use Rattle.walk_engine.proofs.LineCarryAndSendRingLaws.{line-read, line-has, numbers, sends-made, windows-at}
-use Rattle.walk_engine.proofs.WayStandsAndToldLaws.{set-each}
+use Rattle.walk_engine.proofs.WayEventAndToldSourceLaws.{set-each}
 
 -- What is left of one direction where a line gets other windows, which say the same of each container so far.
 agree-set : (all : List (List Window)) (m k t : ℕ) (windows : List Window) →

@@ -3,9 +3,9 @@ use Rattle.std.proofs.Common.{◌≡◌, ℕ, ◌+◌, nat_lt, slice_get, Option
 use Rattle.std.proofs.Common.{ap, ◌-◌, ◌<◌, ◌≤◌, ◌&&◌, not, min, Bool, true, false, List, [], ◌∷◌, length, map, subst}
 use Rattle.std.proofs.Common.{arith, is_some, ltb-false, lt-ltb, le-ltb}
 use Rattle.std.proofs.lemmas.Bool.{cases_Bool}
-use Rattle.law_model.specs.Common.{Leg, Counts, Step, land_due, step, BackCell, used_in, Scenario, DueCommand, DueFrame}
-use Rattle.law_model.specs.Common.{order_of, Source, refusal, Stream, refusal_while, frame_refusal, Course, Told}
-use Rattle.law_model.specs.Common.{longest_input, dues_of, held}
+use Rattle.law_model.specs.Common.{Leg, Counts, Step, land_due, step, BackCell, used_in, Scenario, DueCommand}
+use Rattle.law_model.specs.Common.{DueFrame, order_of, Source, refusal, Stream, refusal_while, frame_refusal, Course}
+use Rattle.law_model.specs.Common.{Told, longest_input, dues_of, held}
 use Rattle.law_model.specs.declared.script_types.Item.{Item}
 use Rattle.law_model.specs.declared.walk_events.Event.{Event}
 use Rattle.law_model.specs.declared.walk_events.Event.TheVariants.{Accept, Command}
@@ -16,15 +16,15 @@ use Rattle.law_walk.specs.Common.{walk_plan, refusal_at, back_cell, last_packet,
 use Rattle.law_walk.specs.Common.{is_client, refused_by, refusals_of, IsPlaced, totals_of, with_frame_told}
 use Rattle.law_walk.specs.Common.{with_command_told}
 use Rattle.terminal_group.specs.ItemPlaces.{is_frame, is_command, place_of}
-use Rattle.terminal_group.proofs.ItemPlaceHeldLaws.{due_found, frame-due, command-due, place-found}
+use Rattle.terminal_group.proofs.ItemPlaceAndHeldItemLaws.{due_found, frame-due, command-due, place-found}
 use Rattle.walk_engine.specs.Common.{stall_by, answer_by, refusal_of_item, refusal_in_event, moved_of, counts_after}
 use Rattle.walk_engine.specs.Common.{path_of, landing_of, Parts, counts_of, note_of, HasSent, HasBack, HasCounted}
 use Rattle.walk_engine.specs.Common.{HasLanded, line_counts, told_leg, next_in, told_scenario, Makes, IsDue, Walking}
 use Rattle.walk_engine.specs.Common.{LiveStands, walking_counts}
 use Rattle.walk_engine.specs.declared.walk_core.step_answers.Moved.{Moved}
 use Rattle.walk_engine.specs.declared.walk_core.step_answers.Moved.TheVariants.{Stalled}
-use Rattle.walk_engine.proofs.WayStandsAndToldLaws.{stalled-moved, walk-fits, walked-next, sink-stays, told-source}
-use Rattle.walk_engine.proofs.WayStandsAndToldLaws.{told-stream}
+use Rattle.walk_engine.proofs.WayEventAndToldSourceLaws.{stalled-moved, walk-fits, walked-next, sink-stays}
+use Rattle.walk_engine.proofs.WayEventAndToldSourceLaws.{told-source, told-stream}
 use Rattle.std.specs.List.{range_with_len}
 use Rattle.law_model.specs.declared.script_types.ItemKind.{ItemKind}
 use Rattle.law_model.specs.declared.lcas_states.Command.{Command as LcasCommand}
@@ -36,19 +36,19 @@ use Rattle.law_model.specs.declared.lcas_states.Command.TheVariants.{Add as add,
 use Rattle.law_model.specs.declared.item_refusals.Refusal.TheVariants.{Frame as frame_fault, Command as command_fault}
 use Rattle.terminal_source.specs.source_core.Terminal.{Terminal, SameKind}
 use Rattle.terminal_source.specs.source_core.GivenScenario.{SourceStands as HasMade}
-use Rattle.law_walk.proofs.WalkPlanSessionLaws.{sound-walks}
-use Rattle.law_walk.proofs.LandedAheadInsertedRefusalsLaws.{frame-waits, command-waits, offer-at, order-at}
-use Rattle.law_walk.proofs.LandedAheadInsertedRefusalsLaws.{meets-stream, meets-source, frame-placed, command-placed}
-use Rattle.law_walk.proofs.LandedAheadInsertedRefusalsLaws.{frame-totals, command-totals}
+use Rattle.law_walk.proofs.WalkPlanAndPoppedCellLaws.{sound-walks}
+use Rattle.law_walk.proofs.LandedItemRefusalAndTotalLaws.{frame-waits, command-waits, offer-at, order-at}
+use Rattle.law_walk.proofs.LandedItemRefusalAndTotalLaws.{meets-stream, meets-source, frame-placed, command-placed}
+use Rattle.law_walk.proofs.LandedItemRefusalAndTotalLaws.{frame-totals, command-totals}
 use Rattle.terminal_group.specs.SourceByCounts.{Counted, SameNetwork, and_one, with_landed}
 use Rattle.terminal_group.specs.declared.landed_counts.LandedCounts.{LandedCounts}
 use Rattle.terminal_group.specs.ReturnInbox.{Inbox}
 use Rattle.terminal_group.specs.Landed.{Landed, none_landed, next_number, next_place, there_at, due_at, HasPassed}
 use Rattle.terminal_group.specs.GivenItem.{met_by, with_kind}
-use Rattle.terminal_group.proofs.ItemPlaceHeldLaws.{bare-dues}
-use Rattle.terminal_group.proofs.LandedRefusalsLaws.{all-dues, client-frame, operator-command, placed-same}
-use Rattle.terminal_group.proofs.ItemOfLegLaws.{place_by, numbered, next_by, next-counts, next-place, bare-size}
-use Rattle.terminal_group.proofs.ItemOfLegLaws.{bare-due, next-there, offer-here, order-here, Leaves, leaves}
+use Rattle.terminal_group.proofs.ItemPlaceAndHeldItemLaws.{bare-dues}
+use Rattle.terminal_group.proofs.RefusalOrderAndNextItemLaws.{all-dues, client-frame, operator-command, placed-same}
+use Rattle.terminal_group.proofs.LandingLegItemLaws.{place_by, numbered, next_by, next-counts, next-place, bare-size}
+use Rattle.terminal_group.proofs.LandingLegItemLaws.{bare-due, next-there, offer-here, order-here, Leaves, leaves}
 use Rattle.walk_engine.specs.walk_core.WayParts.{WayStands}
 
 -- ---- An item lands.

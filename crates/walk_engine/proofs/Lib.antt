@@ -6,4 +6,4 @@ pub mod ReceiveRingAndPopLaws
 pub mod TakeRowAndBackSteps
 pub mod TickAndFullRingLaws
 pub mod WalkRoundAndTotalsLaws
-pub mod WayStandsAndToldLaws
+pub mod WayEventAndToldSourceLaws

@@ -1,7 +1,7 @@
 -- A line carries, by its numbers: why it stalls, what the send rings hold (HasSent), what a carry leaves.
 use Rattle.std.proofs.Common.{◌≡◌, ◌≢◌, ℕ, zero, suc, ◌+◌, ◌-◌, ◌%◌, min, take, None, ◌<◌, ◌≤◌, List, [], ◌∷◌, map}
-use Rattle.std.proofs.Common.{length, slice_get, slice_set, slice_index_or, Some, refl, sym, ◌∙◌, ap, subst, arith, inl}
-use Rattle.std.proofs.Common.{inr, swap, length-set, option_map, ◌&&◌, nat_le, nat_lt, true, false, drop, Option}
+use Rattle.std.proofs.Common.{length, slice_get, slice_set, slice_index_or, Some, refl, sym, ◌∙◌, ap, subst, arith}
+use Rattle.std.proofs.Common.{inl, inr, swap, length-set, option_map, ◌&&◌, nat_le, nat_lt, true, false, drop, Option}
 use Rattle.std.specs.Global.{Vec, Box}
 use Rattle.std.proofs.lemmas.Bool.{cases_eq, cases_lt, cases_Bool, lt-leb, lt-ltb, le-ltb}
 use Rattle.std.proofs.lemmas.List.{length-map, map-set, get_or-set_same, length-take}
@@ -15,12 +15,12 @@ use Rattle.law_model.specs.Common.{in_send, in_receive, IsSound}
 use Rattle.law_terminal.proofs.ContainerPayloadLaws.{container-at, containers-size, range-at}
 use Rattle.law_walk.specs.Common.{send_by, sent_at, sent_on, counts_at, walk_plan, CanWalk, cells_on, popped_on}
 use Rattle.law_walk.specs.Common.{popped_cells, delay_on, taken_by, cells_by, receive_by, path_on}
-use Rattle.law_walk.proofs.RingsInboxFirstOpenLaws.{send-size, taken-cells, taken-next, receive-size}
+use Rattle.law_walk.proofs.WalkRingAndWaitingTakeLaws.{send-size, taken-cells, taken-next, receive-size}
 use Rattle.circular_buffer.proofs.Places.{slice_get-some, slice_get-set_same, slice_get-set_other}
 use Rattle.walk_engine.specs.Common.{Ringed, line_counts, frame_in, HasSent, IsCarriedAt, ring_of, answer_by, moved_of}
-use Rattle.walk_engine.specs.Common.{counts_after, Parts, counts_of, calls_on, HasLine, carry_cause, CanCarry, IsSentOn}
-use Rattle.walk_engine.specs.Common.{AgreesAt, IsKnownOn, calls_of, send_ring, receive_ring, windows_in, windows_of}
-use Rattle.walk_engine.specs.Common.{Makes, Walking, LiveStands}
+use Rattle.walk_engine.specs.Common.{counts_after, Parts, counts_of, calls_on, HasLine, carry_cause, CanCarry}
+use Rattle.walk_engine.specs.Common.{IsSentOn, AgreesAt, IsKnownOn, calls_of, send_ring, receive_ring, windows_in}
+use Rattle.walk_engine.specs.Common.{windows_of, Makes, Walking, LiveStands}
 use Rattle.std.proofs.Math.Seq.{map-set_same}
 use Rattle.law_model.specs.declared.walk_events.StallCause.{StallCause}
 use Rattle.law_model.specs.declared.walk_events.StallCause.TheVariants.{Done, Empty, RxFull}
@@ -29,16 +29,16 @@ use Rattle.std.specs.List.{range_with_len}
 use Rattle.law_model.specs.declared.window_types.Window.{Window}
 use Rattle.law_model.specs.members.Damage.{carried}
 use Rattle.member_path.specs.failure_window.AgreeingWindows.{AgreeBelow}
-use Rattle.member_path.proofs.DelayPathCellsLaws.{calls-agree}
+use Rattle.member_path.proofs.DelayedPathCellLaws.{calls-agree}
 use Rattle.member_path.specs.path_delay.CallsOnDelayedLine.{and_push, and_flush, carries_of, path_cells, IsEnded}
-use Rattle.law_walk.proofs.WalkPlanSessionLaws.{line-path, sound-walks, line-fits, has-paths}
+use Rattle.law_walk.proofs.WalkPlanAndPoppedCellLaws.{line-path, sound-walks, line-fits, has-paths}
 use Rattle.law_progress.specs.Progress.{LineFits}
-use Rattle.law_session.proofs.LandedAcceptedStreamAlikeLaws.{map-same}
+use Rattle.law_session.proofs.ClientStreamAndReplayLaws.{map-same}
 use Rattle.walk_engine.specs.declared.walk_core.step_answers.Moved.TheVariants.{Yes, Stalled}
 use Rattle.walk_engine.specs.walk_core.WayParts.{WayStands}
 use Rattle.walk_engine.specs.walk_core.Carry.{HasReceiveRoom}
-use Rattle.walk_engine.proofs.WayStandsAndToldLaws.{walk-fits, walked-next, source-stays, counted-stays, sink-stays}
-use Rattle.walk_engine.proofs.WayStandsAndToldLaws.{set-each}
+use Rattle.walk_engine.proofs.WayEventAndToldSourceLaws.{walk-fits, walked-next, source-stays, counted-stays}
+use Rattle.walk_engine.proofs.WayEventAndToldSourceLaws.{sink-stays, set-each}
 
 -- ---- What the send rings hold while lines carry, and where the places of two frames change their containers.
 -- ---- what waits in the send ring of a line

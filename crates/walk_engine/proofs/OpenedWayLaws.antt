@@ -23,7 +23,7 @@ use Rattle.terminal_sink.specs.sink_core.Core.{Core}
 use Rattle.law_walk.specs.Common.{walk_plan, IsWalked, sent_on, counts_at, cells_on, popped_on, popped_cells, delay_on}
 use Rattle.law_walk.specs.Common.{back_cell, said_packet, Numbered, landed_from, is_client, told_before, refused_by}
 use Rattle.law_walk.specs.Common.{refusal_at, is_accepted_frame, is_accepted_command, delivered_of, last_packet}
-use Rattle.law_walk.proofs.WalkPlanSessionLaws.{has-paths, sound-walks, begins-walked}
+use Rattle.law_walk.proofs.WalkPlanAndPoppedCellLaws.{has-paths, sound-walks, begins-walked}
 use Rattle.terminal_group.specs.Item.{bare_items}
 use Rattle.terminal_group.specs.ReturnInbox.{Inbox, empty_inbox}
 use Rattle.terminal_group.specs.Landed.{Landed, none_landed}

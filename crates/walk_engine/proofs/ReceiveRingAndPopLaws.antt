@@ -29,12 +29,12 @@ use Rattle.std.specs.List.{position_from, range_with_len}
 use Rattle.member_rows.specs.realign_rows.Gather.{with_cell, Gather, GatherStands as Gathers}
 use Rattle.walk_engine.proofs.LineCarryAndSendRingLaws.{counts-here, carries, numbers, map-get, path-same}
 use Rattle.law_terminal.proofs.ContainerPayloadLaws.{range-at}
-use Rattle.law_walk.specs.Common.{walk_plan, CanWalk, counts_at, popped_on, popped_cells, path_on, delay_on, line_cells}
-use Rattle.law_walk.specs.Common.{AreDecidedBefore, taken_by, cells_by}
-use Rattle.law_walk.proofs.WalkPlanSessionLaws.{has-paths, line-path, line-first, open-or}
-use Rattle.law_walk.proofs.RingsInboxFirstOpenLaws.{taken-cells, popped-decides}
+use Rattle.law_walk.specs.Common.{walk_plan, CanWalk, counts_at, popped_on, popped_cells, path_on, delay_on}
+use Rattle.law_walk.specs.Common.{line_cells, AreDecidedBefore, taken_by, cells_by}
+use Rattle.law_walk.proofs.WalkPlanAndPoppedCellLaws.{has-paths, line-path, line-first, open-or}
+use Rattle.law_walk.proofs.WalkRingAndWaitingTakeLaws.{taken-cells, popped-decides}
 use Rattle.member_path.specs.failure_window.AgreeingWindows.{AgreeBelow}
-use Rattle.walk_engine.proofs.WayStandsAndToldLaws.{set-each}
+use Rattle.walk_engine.proofs.WayEventAndToldSourceLaws.{set-each}
 
 -- ---- What a receive ring holds after a carry.
 -- two numbers less than r apart differ modulo r

@@ -1,7 +1,7 @@
 -- A Take takes a row or waits, and a Back brings a return packet: of one direction, and of a walk.
-use Rattle.std.proofs.Common.{◌≡◌, ℕ, ◌+◌, ◌<◌, nat_le, true, false, Bool, List, [], ◌∷◌, ◌++◌, length, drop, slice_get}
-use Rattle.std.proofs.Common.{Option, Some, option_map, None, refl, sym, ◌∙◌, ap, ap₂, subst, arith, inl, inr}
-use Rattle.std.proofs.Common.{if◌then◌else◌, zero, suc, ◌-◌, ◌%◌, ◌==◌, ◌&&◌, ◌≤◌, min, nat_lt, take, map, ◌⊎◌}
+use Rattle.std.proofs.Common.{◌≡◌, ℕ, ◌+◌, ◌<◌, nat_le, true, false, Bool, List, [], ◌∷◌, ◌++◌, length, drop}
+use Rattle.std.proofs.Common.{slice_get, Option, Some, option_map, None, refl, sym, ◌∙◌, ap, ap₂, subst, arith, inl}
+use Rattle.std.proofs.Common.{inr, if◌then◌else◌, zero, suc, ◌-◌, ◌%◌, ◌==◌, ◌&&◌, ◌≤◌, min, nat_lt, take, map, ◌⊎◌}
 use Rattle.std.specs.List.{range_with_len}
 use Rattle.std.proofs.lemmas.List.{length-map, length-append, append-nil, take-append-drop, take-take}
 use Rattle.std.proofs.lemmas.List.FromFn.{length-range_with_len, length-map-range_with_len}
@@ -16,10 +16,10 @@ use Rattle.law_model.specs.declared.walk_events.StallCause.TheVariants.{Waiting 
 use Rattle.law_model.specs.declared.control_packet.Packet.{Packet}
 use Rattle.member_cells.specs.declared.containers_and_cells.BackCell.TheVariants.{Packet as Nibbles, Lost}
 use Rattle.law_model.specs.session.Scenario.{packets_in}
-use Rattle.law_progress.proofs.MovesRoundDrainLaws.{inbox-fits}
+use Rattle.law_progress.proofs.RoundProgressAndDrainLaws.{inbox-fits}
 use Rattle.law_walk.specs.Common.{walk_plan, IsWalked, said_packet, back_cell, return_ring, inbox, CanWalk, counts_at}
 use Rattle.law_walk.specs.Common.{popped_on, popped_cells, path_on, line_cells, delivered_of, IsReceived}
-use Rattle.law_walk.proofs.WalkPlanSessionLaws.{has-plan, sound-walks, line-fits}
+use Rattle.law_walk.proofs.WalkPlanAndPoppedCellLaws.{has-plan, sound-walks, line-fits}
 use Rattle.walk_engine.specs.Common.{Return, path_of, packet_cell, come, and_moved, moved_by, answer_by, moved_of}
 use Rattle.walk_engine.specs.Common.{counts_after, Parts, counts_of, HasBack, LiveStands, walking_of, listed, Ringed}
 use Rattle.walk_engine.specs.Common.{GivesRows, AgreesAt, HasSent, line_counts, said_at, take_by, Takes, windows_in}
@@ -27,7 +27,8 @@ use Rattle.walk_engine.specs.Common.{Walking, walking_counts, take_cause, CanPop
 use Rattle.walk_engine.specs.declared.walk_core.step_answers.StepNote.{StepNote}
 use Rattle.walk_engine.specs.declared.walk_core.step_answers.Moved.TheVariants.{Yes, Stalled}
 use Rattle.terminal_group.specs.ReturnInbox.{Inbox, with_come, is_lost_in}
-use Rattle.walk_engine.proofs.WayStandsAndToldLaws.{walk-fits, walked-next, stands-back, source-stays, counted-stays}
+use Rattle.walk_engine.proofs.WayEventAndToldSourceLaws.{walk-fits, walked-next, stands-back, source-stays}
+use Rattle.walk_engine.proofs.WayEventAndToldSourceLaws.{counted-stays}
 use Rattle.std.specs.Prelude.{IsTrue, ◌↔◌}
 use Rattle.std.proofs.lemmas.Option.{slice_get_within, same_Some}
 use Rattle.law_model.specs.declared.script_types.Options.{Options}
@@ -40,14 +41,13 @@ use Rattle.terminal_sink.specs.sink_core.TakenAndGiven.{row_in, added_frames, ba
 use Rattle.terminal_sink.specs.declared.sink_core.sink_terminal.TakeAnswer.{TakeAnswer}
 use Rattle.terminal_sink.specs.declared.sink_core.sink_terminal.TakeAnswer.TheVariants.{Taken, Waiting}
 use Rattle.terminal_sink.specs.sink_core.Core.{Core, SinkStands as HasTaken}
-use Rattle.terminal_sink.proofs.ReceivedRowsGivenFramesLaws.{packet-ends, packet-of}
-use Rattle.terminal_sink.proofs.ReceivedRowsGivenFramesLaws.{stands-longer}
-use Rattle.law_walk.proofs.RingsInboxFirstOpenLaws.{take-waits, packet-said, packets-next, ring-says}
-use Rattle.law_walk.proofs.DeliveredFramesShorterLaws.{frames-received, frames-grow}
+use Rattle.terminal_sink.proofs.ReceivedRowAndGivenFrameLaws.{packet-ends, packet-of, stands-longer}
+use Rattle.law_walk.proofs.WalkRingAndWaitingTakeLaws.{take-waits, packet-said, packets-next, ring-says}
+use Rattle.law_walk.proofs.DeliveredFrameCountLaws.{frames-received, frames-grow}
 use Rattle.law_walk.specs.DeliveredFrames.{delivered_since}
 use Rattle.walk_engine.specs.walk_core.WayParts.{WayStands}
 use Rattle.walk_engine.proofs.LineCarryAndSendRingLaws.{sent-later, counts-here, numbers, map-get}
-use Rattle.law_walk.proofs.RingsInboxFirstOpenLaws as return_laws
+use Rattle.law_walk.proofs.WalkRingAndWaitingTakeLaws as return_laws
 
 -- ---- A return packet comes to the source.
 pub ring-size : (leg : Leg) (s : Counts) → length (return_ring leg s) ≡ in_return s

@@ -1,8 +1,8 @@
 -- The first line whose send ring is full, why a tick stalls, and what it leaves of a direction and of a walk.
 use Rattle.std.proofs.Common.{◌≡◌, ℕ, suc, ◌+◌, ◌-◌, ◌*◌, ◌/◌, ◌%◌, ◌==◌, ◌&&◌, ◌<◌, ◌≤◌, min, nat_le, true, false}
 use Rattle.std.proofs.Common.{if◌then◌else◌, List, [], ◌∷◌, length, drop, map, slice_get, slice_set, slice_index_or}
-use Rattle.std.proofs.Common.{Option, Some, None, refl, sym, ◌∙◌, ap, subst, arith, inl, inr, Bool, option_map, is_some}
-use Rattle.std.proofs.Common.{eqb-true, leb-true, leb-false, length-set, eq-eqb, le-leb}
+use Rattle.std.proofs.Common.{Option, Some, None, refl, sym, ◌∙◌, ap, subst, arith, inl, inr, Bool, option_map}
+use Rattle.std.proofs.Common.{is_some, eqb-true, leb-true, leb-false, length-set, eq-eqb, le-leb}
 use Rattle.std.specs.List.{range_with_len}
 use Rattle.std.specs.Global.{Vec, Box}
 use Rattle.std.proofs.lemmas.Bool.{cases_Bool, cases_lt, eqb-false, lt-leb}
@@ -21,30 +21,30 @@ use Rattle.law_model.specs.declared.control_packet.Packet.{Packet}
 use Rattle.terminal_source.specs.source_core.Terminal.{needed, needed_at, SameKind}
 use Rattle.terminal_source.specs.source_core.GivenScenario.{with_cell, SourceStands as HasMade}
 use Rattle.law_progress.specs.Progress.{ChangesNothing}
-use Rattle.law_progress.proofs.StalledStaysLaws.{stalled-same}
+use Rattle.law_progress.proofs.StalledEventLaws.{stalled-same}
 use Rattle.law_walk.specs.Common.{walk_plan, CanWalk, IsWalked, counts_at, sent_at, back_cell, return_ring, inbox}
 use Rattle.law_walk.specs.Common.{landed_scenario, told_before, last_packet, cell_taken, table_in}
-use Rattle.law_walk.proofs.WalkPlanSessionLaws.{sound-walks, line-fits}
-use Rattle.law_walk.proofs.LandedAheadInsertedRefusalsLaws.{told-frames}
-use Rattle.law_walk.proofs.RingsInboxFirstOpenLaws.{last-next, used-now, said-ends, table-now}
+use Rattle.law_walk.proofs.WalkPlanAndPoppedCellLaws.{sound-walks, line-fits}
+use Rattle.law_walk.proofs.LandedItemRefusalAndTotalLaws.{told-frames}
+use Rattle.law_walk.proofs.WalkRingAndWaitingTakeLaws.{last-next, used-now, said-ends, table-now}
 use Rattle.law_model.proofs.ListLaws.{drop-next}
 use Rattle.terminal_group.specs.ReturnInbox.{Inbox, cell_for, rest_for}
 use Rattle.terminal_group.specs.SourceByCounts.{Counted, SameCounts, missing_from}
 use Rattle.terminal_group.specs.declared.landed_counts.LandedCounts.{LandedCounts}
 use Rattle.terminal_group.specs.Source.{missing_by}
 use Rattle.terminal_sink.specs.sink_core.Core.{Core}
-use Rattle.terminal_group.proofs.ReturnCellEarlyMissingLaws.{missing-some}
+use Rattle.terminal_group.proofs.InboxReturnCellLaws.{missing-some}
 use Rattle.walk_engine.specs.Common.{Return, path_of, early_cause, Ringed, answer_by, moved_of, counts_after, Parts}
-use Rattle.walk_engine.specs.Common.{frame_in, HasSource, HasSent, HasBack, HasCounted, counts_of, line_counts, note_of}
-use Rattle.walk_engine.specs.Common.{told_scenario, AgreesAt, LiveStands, walking_of, Makes, with_passed, CanTick}
-use Rattle.walk_engine.specs.Common.{windows_in}
+use Rattle.walk_engine.specs.Common.{frame_in, HasSource, HasSent, HasBack, HasCounted, counts_of, line_counts}
+use Rattle.walk_engine.specs.Common.{note_of, told_scenario, AgreesAt, LiveStands, walking_of, Makes, with_passed}
+use Rattle.walk_engine.specs.Common.{CanTick, windows_in}
 use Rattle.walk_engine.specs.declared.walk_core.step_answers.StepNote.{StepNote}
 use Rattle.walk_engine.specs.declared.walk_core.step_answers.Moved.TheVariants.{Yes, Stalled}
 use Rattle.walk_engine.specs.walk_core.WayParts.{WayStands}
-use Rattle.walk_engine.proofs.WayStandsAndToldLaws.{told-source, passed-made, passed-frame, walk-fits, walked-next}
-use Rattle.walk_engine.proofs.WayStandsAndToldLaws.{sink-stays, set-each}
+use Rattle.walk_engine.proofs.WayEventAndToldSourceLaws.{told-source, passed-made, passed-frame, walk-fits}
+use Rattle.walk_engine.proofs.WayEventAndToldSourceLaws.{walked-next, sink-stays, set-each}
 use Rattle.walk_engine.proofs.LineCarryAndSendRingLaws.{frame-at}
-use Rattle.law_walk.proofs.RingsInboxFirstOpenLaws as return_laws
+use Rattle.law_walk.proofs.WalkRingAndWaitingTakeLaws as return_laws
 
 -- The first line whose send ring is full, and a tick: of one direction, and of a walk.
 pub full-here : (total ticks : ℕ) (lines : List Ringed) (m : ℕ) (line : Ringed) → slice_get lines m ≡ Some line →

@@ -1,7 +1,8 @@
 -- Rounds of a walk until it is drained, the rows and frames they give, its totals, known lines and mark.
 use Rattle.std.proofs.Common.{◌≡◌, ℕ, Bool, true, false, zero, suc, ◌+◌, ◌-◌, ◌<◌, ◌≤◌, ◌&&◌, nat_le, nat_lt, inl, inr}
 use Rattle.std.proofs.Common.{List, [], ◌∷◌, ◌++◌, length, replicate, drop, slice_get, Option, Some, None, refl, sym}
-use Rattle.std.proofs.Common.{◌∙◌, ap, subst, arith, append_assoc, min, ◌*◌, ◌/◌, if◌then◌else◌, map, is_some, ◌^◌, ap₂}
+use Rattle.std.proofs.Common.{◌∙◌, ap, subst, arith, append_assoc, min, ◌*◌, ◌/◌, if◌then◌else◌, map, is_some, ◌^◌}
+use Rattle.std.proofs.Common.{ap₂}
 use Rattle.std.proofs.lemmas.Option.{slice_get_within}
 use Rattle.std.proofs.lemmas.Bool.{cases_Bool, lt-ltb, le-ltb}
 use Rattle.std.proofs.lemmas.List.{append-nil, drop_all, replicate-append-replicate}
@@ -20,27 +21,27 @@ use Rattle.law_model.specs.declared.walk_events.StallCause.TheVariants.{NotDue, 
 use Rattle.law_model.specs.declared.item_refusals.Refusal.{Refusal}
 use Rattle.law_model.specs.session.Counts.{back}
 use Rattle.law_progress.specs.Progress.{made}
-use Rattle.law_progress.proofs.MovesRoundDrainLaws.{round-less, drain-round, drain-stop, run-append}
+use Rattle.law_progress.proofs.RoundProgressAndDrainLaws.{round-less, drain-round, drain-stop, run-append}
 use Rattle.law_walk.specs.Common.{walk_plan, IsWalked, delivered_of, totals_of, refusals_of, session_of, popped_cells}
 use Rattle.law_walk.specs.Common.{session_rows}
-use Rattle.law_walk.proofs.WalkPlanSessionLaws.{has-plan, sound-walks, carriers-are, rows-are}
-use Rattle.law_walk.proofs.DeliveredFramesShorterLaws.{frames-grow, delivered-few, place-most}
-use Rattle.walk_engine.specs.Common.{answer_by, moved_of, counts_after, refusal_in_event, GivesRows, landing_of, Walked}
-use Rattle.walk_engine.specs.Common.{Parts, counts_of, line_counts}
+use Rattle.law_walk.proofs.WalkPlanAndPoppedCellLaws.{has-plan, sound-walks, carriers-are, rows-are}
+use Rattle.law_walk.proofs.DeliveredFrameCountLaws.{frames-grow, delivered-few, place-most}
+use Rattle.walk_engine.specs.Common.{answer_by, moved_of, counts_after, refusal_in_event, GivesRows, landing_of}
+use Rattle.walk_engine.specs.Common.{Walked, Parts, counts_of, line_counts}
 use Rattle.law_walk.specs.DeliveredFrames.{delivered_since}
 use Rattle.walk_engine.specs.declared.walk_core.step_answers.Moved.{Moved}
 use Rattle.walk_engine.specs.declared.walk_core.step_answers.Moved.TheVariants.{Yes, Stalled, Refused}
-use Rattle.walk_engine.proofs.WayStandsAndToldLaws.{walk-fits}
+use Rattle.walk_engine.proofs.WayEventAndToldSourceLaws.{walk-fits}
 use Rattle.law_model.specs.declared.session_totals.Totals.{Totals}
-use Rattle.terminal_group.proofs.LandedRefusalsLaws.{all-dues}
+use Rattle.terminal_group.proofs.RefusalOrderAndNextItemLaws.{all-dues}
 use Rattle.walk_engine.specs.walk_core.WayParts.{WayStands}
 use Rattle.law_model.specs.declared.script_types.Options.{Options}
 use Rattle.terminal_sink.specs.sink_core.Core.{SinkStands as HasTaken}
 use Rattle.terminal_sink.specs.sink_core.TakenAndGiven.{knows_at, received_rows}
-use Rattle.law_loss.proofs.SegmentsOfRowsAddedLaws.{Stands-all}
+use Rattle.law_loss.proofs.SegmentsOfAddedRowsLaws.{Stands-all}
 use Rattle.law_loss.proofs.SessionStreamLossLaws.{rows-length}
-use Rattle.law_walk.proofs.AcceptedFramesDrainedLaws.{counts-within}
-use Rattle.terminal_sink.proofs.ReceivedRowsGivenFramesLaws.{session-last}
+use Rattle.law_walk.proofs.AcceptedFrameAndDrainedWalkLaws.{counts-within}
+use Rattle.terminal_sink.proofs.ReceivedRowAndGivenFrameLaws.{session-last}
 use Rattle.terminal_sink.specs.marked_delineator.Marks.{first_place}
 
 -- ---- Rounds of a walk: items land until they stall, each line is tried once, and so for the rest.

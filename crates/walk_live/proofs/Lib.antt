@@ -1,6 +1,6 @@
-pub mod AnsweredLinesHeadlineLaws
-pub mod AnsweredWalkSayingLaws
-pub mod HoldsTimedTextLaws
+pub mod AnsweredWalkAndSayingLaws
+pub mod ConversationAnswerLaws
 pub mod LiveTalkerReplyLaws
 pub mod PassRoundsLaws
-pub mod SaidItemCutMendLaws
+pub mod SaidItemAndFailureLaws
+pub mod TimedLineWritingLaws

@@ -32,10 +32,10 @@ use Rattle.text_report.specs.ReportLines.{total_text}
 use Rattle.text_scripts.specs.script_read.Statements.{words_said, after}
 use Rattle.octet_io.specs.declared.source_and_sink.Failed.{Failed}
 use Rattle.text_got.specs.TextSoFar.{Holds}
-use Rattle.text_got.proofs.TextWaitsInBlockLaws.{Holds-waits}
+use Rattle.text_got.proofs.WaitingTextInBlockLaws.{Holds-waits}
 use Rattle.law_live.specs.LiveSayings.{live_from}
-use Rattle.law_live.proofs.AgreesLiveCountsLaws.{agrees-own}
-use Rattle.law_live.proofs.WellSaidRightWindowsLaws.{said-sound}
+use Rattle.law_live.proofs.AgreeingLegConversationLaws.{agrees-own}
+use Rattle.law_live.proofs.WellSaidLegAndWindowLaws.{said-sound}
 use Rattle.text_live.specs.declared.live_line.LiveLine.{LiveLine}
 use Rattle.text_live.specs.declared.live_reader.LiveReader.{LiveReader}
 use Rattle.text_live.specs.Sayings.{AgreesWith, AreFine, leg_in, line_saying, said_in, saying_of, sayings}
@@ -44,7 +44,7 @@ use Rattle.walk_live.specs.declared.answered_walk.AnsweredWalk.{AnsweredWalk}
 use Rattle.walk_live.specs.declared.live_talker.LiveTalker.{LiveTalker}
 use Rattle.walk_live.specs.Answered.{IsAnswered, IsLegOf}
 use Rattle.text_live.proofs.LiveScriptSayingsLaws.{lines_agree, more_fine, said_next, sayings_next}
-use Rattle.walk_live.proofs.AnsweredWalkSayingLaws.{none_answered}
+use Rattle.walk_live.proofs.AnsweredWalkAndSayingLaws.{none_answered}
 use Rattle.text_scripts.specs.declared.script_read.script_fault.ScriptFault.TheVariants as script
 use Rattle.command_parts.specs.declared.stop_and_status.Stop.TheVariants as stop
 use Rattle.text_live.specs.declared.live_line.LiveLine.TheVariants as spoken

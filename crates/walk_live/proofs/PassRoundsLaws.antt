@@ -1,6 +1,6 @@
 -- The rounds of a pass: how many are left, the ticks they make, their text, and a bound on what a walk makes.
-use Rattle.std.proofs.Common.{◌≡◌, ℕ, ◌+◌, ◌-◌, ◌*◌, ◌^◌, ◌<◌, ◌≤◌, List, [], ◌∷◌, length, arith, zero, suc, refl, Bool}
-use Rattle.std.proofs.Common.{◌++◌, map, Option, sym, ◌∙◌, ap, ap₂, subst, append-nil, append_assoc}
+use Rattle.std.proofs.Common.{◌≡◌, ℕ, ◌+◌, ◌-◌, ◌*◌, ◌^◌, ◌<◌, ◌≤◌, List, [], ◌∷◌, length, arith, zero, suc, refl}
+use Rattle.std.proofs.Common.{Bool, ◌++◌, map, Option, sym, ◌∙◌, ap, ap₂, subst, append-nil, append_assoc}
 use Rattle.std.proofs.lemmas.Nat.{mul-le}
 use Rattle.std.proofs.lemmas.List.{length-map}
 use Rattle.law_model.specs.Common.{Counts, IsSound, Leg, LinePath, bound, due_of, sum_delays, Plan, carries_from, run}
@@ -8,18 +8,18 @@ use Rattle.law_model.specs.Common.{step, AppendsPart}
 use Rattle.law_model.specs.declared.script_types.Item.{Item}
 use Rattle.law_progress.specs.Progress.{AllPaths, IsSound as IsSoundPath, made}
 use Rattle.law_walk.specs.Common.{walk_plan}
-use Rattle.law_walk.proofs.WalkPlanSessionLaws.{has-plan, sound-walks}
+use Rattle.law_walk.proofs.WalkPlanAndPoppedCellLaws.{has-plan, sound-walks}
 use Rattle.walk_engine.proofs.LineCarryAndSendRingLaws.{paths-size}
 use Rattle.law_model.specs.declared.walk_events.Event.TheVariants.{Tick}
 use Rattle.law_live.specs.Common.{after_rounds, live_round, IsWellSaid, Saying, answer_text, answers_text, got_at}
 use Rattle.law_live.specs.Common.{counts_said, live_counts, live_of, now_at, now_text, pass_answers, passes}
 use Rattle.law_live.specs.Common.{round_answers, rounds_answers, rounds_for, rounds_until, steps_between}
-use Rattle.law_live.proofs.SettledLiveRoundLaws.{Goes, goes-carries, rounds-over}
+use Rattle.law_live.proofs.LiveRoundAndLandingLaws.{Goes, goes-carries, rounds-over}
 use Rattle.std.proofs.lemmas.Grind.{flat_map-append}
 use Rattle.law_model.specs.declared.script_types.Config.{Config}
 use Rattle.text_got.specs.TextSoFar.{Holds}
 use Rattle.law_walk.specs.DeliveredFrames.{delivered_since}
-use Rattle.law_live.proofs.AgreesLiveCountsLaws.{pass-free, pass-less, pass-turn}
+use Rattle.law_live.proofs.AgreeingLegConversationLaws.{pass-free, pass-less, pass-turn}
 use Rattle.walk_engine.specs.walk_core.LiveWalking.{Walking, LiveRounds, LiveStands, walking_counts}
 use Rattle.walk_engine.specs.walk_core.WalkAfterEvent.{counts_after}
 use Rattle.walk_engine.specs.walk_core.EventAnswers.{IsNoneHeld}
@@ -28,7 +28,7 @@ use Rattle.walk_live.specs.Answered.{IsLegOf}
 use Rattle.walk_live.specs.PassingRounds.{round_text, steps_text}
 use Rattle.walk_live.specs.LiveReplies.{step_line}
 use Rattle.walk_live.specs.TimedWriting.{timed_texts}
-use Rattle.walk_live.proofs.HoldsTimedTextLaws.{holds-more, holds-none, part-longer, part-more}
+use Rattle.walk_live.proofs.TimedLineWritingLaws.{holds-more, holds-none, part-longer, part-more}
 
 -- ---- No walk of a sound leg makes more than a certain number of all.
 few-delays : (total slow fast slip : ℕ) (paths : List LinePath) → AllPaths (IsSoundPath total slow fast slip) paths →

@@ -2,7 +2,7 @@
 use Rattle.check_remainder.specs.Bits.{octet_bits}
 use Rattle.check_remainder.proofs.NumberAndOctetBitsLaws.{octets_of_below}
 use Rattle.check_crc32.specs.Crc32.{check_bits}
-use Rattle.check_crc32.proofs.CheckBitsRemainderLaws.{length-fcs_of, check_bits-inverted, check_bits-xors}
+use Rattle.check_crc32.proofs.CheckBitsAndRemainderLaws.{length-fcs_of, check_bits-inverted, check_bits-xors}
 use Rattle.check_crc32.proofs.check_law.Goals as goal
 
 pub returns-clause-size : goal.returns-clause-size

@@ -2,7 +2,7 @@
 use Rattle.std.proofs.Common.{sym, ◌∙◌, subst}
 use Rattle.check_remainder.specs.Remainder.{IsRemainder}
 use Rattle.check_remainder.specs.DivisionTable.{nibble_bits}
-use Rattle.check_remainder.proofs.DivisionRemainderTableLaws.{IsRemainder-remainder, only_remainder}
+use Rattle.check_remainder.proofs.LongDivisionRemainderLaws.{IsRemainder-remainder, only_remainder}
 use Rattle.check_nibbles.specs.NibbleCheck.{crc8_lower}
 use Rattle.check_nibbles.proofs.NibbleCheckLaws.{length-crc8_lower, crc8_entries_are, crc8_of_from_bits}
 use Rattle.check_nibbles.proofs.crc8.Goals as goal

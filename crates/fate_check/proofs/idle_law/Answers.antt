@@ -1,5 +1,5 @@
 -- The rows, and the tables that they stand on.
-use Rattle.fate_check.proofs.WithoutIdleFailureLaws.{same-rows, same-table}
+use Rattle.fate_check.proofs.IdleFailureRemovalLaws.{same-rows, same-table}
 use Rattle.fate_check.proofs.idle_law.Goals as goal
 
 pub returns : goal.returns

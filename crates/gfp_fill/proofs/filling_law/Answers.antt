@@ -1,7 +1,7 @@
 -- The laws of streams that users of a filler need.
 use Rattle.law_model.proofs.StreamOfPiecesLaws.{reached-fewest, reached-join, reached-begun}
 use Rattle.gfp_fill.proofs.IdlesAndNextPiecesLaws.{take-stream_of, begun-next_pieces, begun-opening}
-use Rattle.gfp_fill.proofs.SenderFillerStandsLaws.{long, one_queue}
+use Rattle.gfp_fill.proofs.SenderAndFillerStepLaws.{long, one_queue}
 use Rattle.gfp_fill.proofs.filling_law.Goals as goal
 use Rattle.std.proofs.Common.{arith}
 

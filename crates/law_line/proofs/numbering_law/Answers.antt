@@ -1,9 +1,9 @@
 -- The cells of a line, read to their end.
-use Rattle.law_line.proofs.HasReadVerdictLaws.{are_numbered, are_in_step, are_expected}
-use Rattle.law_line.proofs.LockedGoodLostLaws.{readable-good, good-readable}
-use Rattle.law_line.proofs.DecidedPacketsRowsLaws.{are_readable}
-use Rattle.law_line.proofs.LockStandsSightLaws.{are_at}
-use Rattle.law_line.proofs.DecidedPacketsRowsLaws.{are_read}
+use Rattle.law_line.proofs.ReadingVerdictLaws.{are_numbered, are_in_step, are_expected}
+use Rattle.law_line.proofs.ContainerLockAndSlipLaws.{readable-good, good-readable}
+use Rattle.law_line.proofs.DecidedPacketAndRowLaws.{are_readable}
+use Rattle.law_line.proofs.CellSightAndLockLaws.{are_at}
+use Rattle.law_line.proofs.DecidedPacketAndRowLaws.{are_read}
 use Rattle.law_line.proofs.numbering_law.Goals as goal
 
 pub returns-clause-numbered : goal.returns-clause-numbered

@@ -1,6 +1,6 @@
 -- The recursion meets the wording, and nothing else does.
-use Rattle.law_line.proofs.LockStandsSightLaws.{is_count, count_only}
-use Rattle.law_line.proofs.DecidedPacketsRowsLaws.{are_whole, are_decided, end_decides}
+use Rattle.law_line.proofs.CellSightAndLockLaws.{is_count, count_only}
+use Rattle.law_line.proofs.DecidedPacketAndRowLaws.{are_whole, are_decided, end_decides}
 use Rattle.law_line.proofs.reading_law.Goals as goal
 
 pub returns-clause-worded : goal.returns-clause-worded

@@ -1,5 +1,5 @@
 -- Each clause is a law over lists of cells.
-use Rattle.law_line.proofs.LockStandsSightLaws.{are_at_sights as are_at, are_locking, are_unknown}
+use Rattle.law_line.proofs.CellSightAndLockLaws.{are_at_sights as are_at, are_locking, are_unknown}
 use Rattle.law_line.proofs.sight_law.Goals as goal
 
 pub returns-clause-at : goal.returns-clause-at

@@ -1,7 +1,7 @@
 -- More cells change nothing of what is decided.
-use Rattle.law_line.proofs.HasReadVerdictLaws.{verdict-stays, cells-part}
-use Rattle.law_line.proofs.DecidedPacketsRowsLaws.{octets_stay}
-use Rattle.law_line.proofs.DecidedPacketsRowsLaws.{packets_stay, governing_stay, carriers_stay, rows_stay, returns_stay}
+use Rattle.law_line.proofs.ReadingVerdictLaws.{verdict-stays, cells-part}
+use Rattle.law_line.proofs.DecidedPacketAndRowLaws.{octets_stay, packets_stay, governing_stay, carriers_stay}
+use Rattle.law_line.proofs.DecidedPacketAndRowLaws.{rows_stay, returns_stay}
 use Rattle.law_line.proofs.stable_law.Goals as goal
 
 pub returns-clause-verdicts : goal.returns-clause-verdicts

@@ -1,5 +1,5 @@
 -- What is confirmed stays so.
-use Rattle.law_loss.proofs.HuntSearchRunsLaws.{confirmed-stays}
+use Rattle.law_loss.proofs.SegmentHuntAndRunLaws.{confirmed-stays}
 use Rattle.law_loss.proofs.confirmed_law.Goals as goal
 
 pub returns : goal.returns

@@ -1,5 +1,5 @@
 -- More rows add frames.
-use Rattle.law_loss.proofs.SegmentsOfRowsAddedLaws.{deliver-grows}
+use Rattle.law_loss.proofs.SegmentsOfAddedRowsLaws.{deliver-grows}
 use Rattle.law_loss.proofs.grow_law.Goals as goal
 
 pub returns : goal.returns

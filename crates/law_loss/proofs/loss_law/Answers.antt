@@ -1,5 +1,5 @@
 -- What is delivered is what is carried and not lost.
-use Rattle.law_loss.proofs.GivenLostKeptLaws.{deliver-kept}
+use Rattle.law_loss.proofs.GivenAndLostFrameLaws.{deliver-kept}
 use Rattle.law_loss.proofs.loss_law.Goals as goal
 
 pub returns : goal.returns

@@ -1,9 +1,8 @@
 -- Losses in a session.
 use Rattle.std.proofs.Common.{◌++◌, ◌∙◌, ap, arith}
 use Rattle.law_model.specs.Common.{stream_before}
-use Rattle.law_session.proofs.LandedAcceptedStreamAlikeLaws.{stream_before-frames}
-use Rattle.law_loss.proofs.SessionStreamLossLaws.{rows-carry, rows-length}
-use Rattle.law_loss.proofs.SessionStreamLossLaws.{frames-extents, session-kept}
+use Rattle.law_session.proofs.ClientStreamAndReplayLaws.{stream_before-frames}
+use Rattle.law_loss.proofs.SessionStreamLossLaws.{rows-carry, rows-length, frames-extents, session-kept}
 use Rattle.law_loss.proofs.SessionStreamLossLaws.{aligned-starts}
 use Rattle.law_loss.proofs.session_loss_law.Goals as goal
 

@@ -1,7 +1,7 @@
 -- The four ways in which a frame is lost.
 use Rattle.law_model.specs.Common.{segments}
-use Rattle.law_loss.proofs.SegmentsOfRowsAddedLaws.{Stands-all}
-use Rattle.law_loss.proofs.GivenLostKeptLaws.{way_of, lost_of}
+use Rattle.law_loss.proofs.SegmentsOfAddedRowsLaws.{Stands-all}
+use Rattle.law_loss.proofs.GivenAndLostFrameLaws.{way_of, lost_of}
 use Rattle.law_loss.proofs.ways_law.Goals as goal
 
 pub returns : goal.returns

@@ -179,7 +179,7 @@ impl PointerSink {
 }
 
 /// The octets of data in the body of an Up frame.
-#[tactic(auto, using(crate::proofs::VcsInPartLaws::behind_three))]
+#[tactic(auto, using(crate::proofs::VcsOfStreamPartLaws::behind_three))]
 fn behind_zeros(body: &[u8; VC]) -> &[u8]
     ensures { result.now ≡ drop 3 body.now }
 {

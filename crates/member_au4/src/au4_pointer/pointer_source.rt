@@ -173,7 +173,7 @@ impl PointerSource {
     }
 
     /// Begins a part.
-    #[tactic(auto, using(crate::proofs::VcsInPartLaws::none_left))]
+    #[tactic(auto, using(crate::proofs::VcsOfStreamPartLaws::none_left))]
     fn begin(&mut self, p: u16)
         requires { p ≤ 782 }
         ensures value { self.new.value ≡ self.old.value }

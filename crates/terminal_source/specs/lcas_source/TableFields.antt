@@ -3,7 +3,7 @@ use Rattle.std.specs.Prelude.{ℕ, Bool, false, List, take, replicate, ◌≡◌
 use Rattle.arrayvec.specs.ArrayVec.{ArrayVec}
 use Rattle.law_model.specs.Common.{IsStatuses, Table, Course, bits_from, Source, change}
 use Rattle.law_model.specs.declared.lcas_states.Command.{Command}
-use Rattle.law_session.proofs.SourceFitsLinesLaws.{Fits}
+use Rattle.law_session.proofs.SourceOrderAndPlanLaws.{Fits}
 
 abbrev pub course_in : ℕ → ℕ → Table → List Bool → ArrayVec Command → ℕ → ℕ → Course
 course_in lines statuses table planned pending taken steps = record {

@@ -4,7 +4,7 @@ use Rattle.std.specs.Prelude.{option_map}
 use Rattle.std.specs.List.{range_with_len}
 use Rattle.law_model.specs.Common.{BackCell, packet_nibbles, Told, active, told_in, steps_in, Course, called, decides}
 use Rattle.law_model.specs.Common.{forward_packet, untold, telling, vc4_size}
-use Rattle.law_session.proofs.SourceFitsLinesLaws.{Fits}
+use Rattle.law_session.proofs.SourceOrderAndPlanLaws.{Fits}
 use Rattle.gfp_fill.specs.Queue.{Held}
 use Rattle.gfp_fill.specs.SentAreas.{Sender}
 use Rattle.member_rows.specs.vcat_interleave.MemberPayloads.{AreLines}

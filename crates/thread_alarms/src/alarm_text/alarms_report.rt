@@ -11,7 +11,7 @@ use text_got::GotLines;
 use thread_rings::Alarm;
 
 /// Writes an alarm, where it is of this line of the group.
-#[tactic(auto, using(crate::proofs::AlarmsThroughOfLineLaws::own_text, crate::proofs::AlarmsThroughOfLineLaws::other_text))]
+#[tactic(auto, using(crate::proofs::AlarmsByPostAndLineLaws::own_text, crate::proofs::AlarmsByPostAndLineLaws::other_text))]
 fn write_one<K: ByteSink>(line: u8, alarm: &Alarm, got: &mut GotLines<K>)
     ensures { (start : Start) (before : List ℕ) →
         HasText K.written K.faults got.old start before →

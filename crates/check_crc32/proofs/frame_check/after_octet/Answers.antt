@@ -1,5 +1,5 @@
 -- The entry of the lowest octet, with the octet that comes added, is added to the others.
-use Rattle.check_crc32.proofs.RegisterOrderTablesLaws.{stands_octet}
+use Rattle.check_crc32.proofs.CheckRegisterAndTableLaws.{stands_octet}
 use Rattle.check_crc32.proofs.frame_check.after_octet.Goals as goal
 
 pub returns : goal.returns

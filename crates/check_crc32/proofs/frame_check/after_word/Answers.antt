@@ -2,8 +2,7 @@
 use Rattle.std.proofs.Common.{bit_xor, subst, sym, ap, ◌∙◌, w64, ◌++◌}
 use Rattle.std.specs.Int.{to_le_bytes}
 use Rattle.check_crc32.specs.Register.{RegisterStands}
-use Rattle.check_crc32.proofs.RegisterOrderTablesLaws.{entries_of}
-use Rattle.check_crc32.proofs.RegisterOrderTablesLaws.{stands_word}
+use Rattle.check_crc32.proofs.CheckRegisterAndTableLaws.{entries_of, stands_word}
 use Rattle.check_crc32.proofs.frame_check.after_word.Goals as goal
 
 pub returns : goal.returns

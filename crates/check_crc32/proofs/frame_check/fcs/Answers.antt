@@ -1,7 +1,7 @@
 -- The table of the most significant bit first is right, and in this order each octet is itself.
 use Rattle.std.proofs.Common.{◌∙◌, ap, map-id}
 use Rattle.check_crc32.specs.Crc32.{most_first, fcs_of}
-use Rattle.check_crc32.proofs.RegisterOrderTablesLaws.{most_first_is}
+use Rattle.check_crc32.proofs.CheckRegisterAndTableLaws.{most_first_is}
 use Rattle.check_crc32.proofs.frame_check.fcs.Goals as goal
 
 pub returns : goal.returns

@@ -2,10 +2,9 @@
 use Rattle.std.proofs.Common.{◌≡◌, [], slice_index, subst, sym, ◌∙◌, ap}
 use Rattle.check_remainder.specs.Bits.{bits}
 use Rattle.check_remainder.specs.Remainder.{IsRemainder, remainder}
-use Rattle.check_remainder.proofs.DivisionRemainderTableLaws.{IsRemainder-remainder, only_remainder}
+use Rattle.check_remainder.proofs.LongDivisionRemainderLaws.{IsRemainder-remainder, only_remainder}
 use Rattle.check_hec16.specs.Hec.{crc16}
-use Rattle.check_hec16.proofs.HecOneWrongBitLaws.{hec_of-from_bits}
-use Rattle.check_hec16.proofs.HecOneWrongBitLaws.{remainder_of_none, octets_of_word}
+use Rattle.check_hec16.proofs.HecWithOneWrongBitLaws.{hec_of-from_bits, remainder_of_none, octets_of_word}
 use Rattle.check_hec16.proofs.header_check.hec.Goals as goal
 use Rattle.check_hec16.proofs.header_check.hec.Goals.{After-with_octet-2}
 

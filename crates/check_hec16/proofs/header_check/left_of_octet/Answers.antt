@@ -1,7 +1,7 @@
 -- What is made by shifts is the remainder, for each of the 256 octets.
 use Rattle.std.proofs.Common.{◌%◌, ◌*◌, bit_xor, ap, ◌∙◌}
 use Rattle.check_remainder.specs.Bits.{bits}
-use Rattle.check_hec16.proofs.HecOneWrongBitLaws.{left_is}
+use Rattle.check_hec16.proofs.HecWithOneWrongBitLaws.{left_is}
 use Rattle.check_hec16.proofs.header_check.left_of_octet.Goals as goal
 
 pub returns : goal.returns

@@ -1,7 +1,7 @@
 -- The upper octet of the register is combined with the octet that comes, and what that leaves is added to the lower
 -- one.
 use Rattle.check_remainder.proofs.NumberAndOctetBitsLaws.{length-bits}
-use Rattle.check_remainder.proofs.DivisionRemainderTableLaws.{step}
+use Rattle.check_remainder.proofs.LongDivisionRemainderLaws.{step}
 use Rattle.check_hec16.specs.Hec.{crc16}
 use Rattle.check_hec16.proofs.header_check.with_octet.Goals as goal
 

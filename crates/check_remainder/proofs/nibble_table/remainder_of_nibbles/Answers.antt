@@ -1,7 +1,7 @@
 -- Nothing is left of no word.
 use Rattle.std.proofs.Common.{◌∙◌, ap, sym, false, replicate, pow_pos}
 use Rattle.check_remainder.proofs.NumberAndOctetBitsLaws.{bits-zero}
-use Rattle.check_remainder.proofs.DivisionRemainderTableLaws.{remainder-nil}
+use Rattle.check_remainder.proofs.LongDivisionRemainderLaws.{remainder-nil}
 use Rattle.check_remainder.proofs.nibble_table.remainder_of_nibbles.Goals as goal
 
 pub loop-nibble-init : goal.loop-nibble-init

@@ -1,7 +1,7 @@
 -- The register's upper four bits and the nibble choose the entry, and its lower bits move up.
 use Rattle.std.proofs.Common.{◌-◌, ◌/◌, ◌^◌, ◌<◌, bit_xor, sym, subst, ap, ◌∙◌}
 use Rattle.check_remainder.specs.Bits.{bits}
-use Rattle.check_remainder.proofs.DivisionRemainderTableLaws.{index_below, computed, result_below, nibble_step}
+use Rattle.check_remainder.proofs.LongDivisionRemainderLaws.{index_below, computed, result_below, nibble_step}
 use Rattle.check_remainder.proofs.nibble_table.with_nibble.Goals as goal
 
 pub bounds-table-upper : goal.bounds-table-upper

@@ -1,8 +1,7 @@
 -- All is said and put, or a part of it.
 use Rattle.std.proofs.lemmas.Result.{on_ok_weaker, on_err_weaker, IfOk-weaker}
 use Rattle.command_parts.specs.Dialogue.{closed}
-use Rattle.command_parts.proofs.ListenerOctetsSaidLaws.{not_ok, on_err}
-use Rattle.command_parts.proofs.ListenerOctetsSaidLaws.{said_put, said_put_part}
+use Rattle.command_parts.proofs.ListenerLineAndSaidTextLaws.{not_ok, on_err, said_put, said_put_part}
 use Rattle.command_parts.proofs.conversation.close.Goals as goal
 
 pub returns-in-Ok-clause-whole : goal.returns-in-Ok-clause-whole

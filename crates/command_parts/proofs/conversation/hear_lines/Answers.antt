@@ -1,7 +1,8 @@
 -- One line more, and why there is none.
 use Rattle.std.proofs.Common.{◌<◌, length, refl, sym, inr, arith, rules}
 use Rattle.command_parts.specs.Dialogue.{heard_more}
-use Rattle.command_parts.proofs.ListenerOctetsSaidLaws.{can_reply, heard_next, line_long, line_stops, rest_long, shorter, suffix_more}
+use Rattle.command_parts.proofs.ListenerLineAndSaidTextLaws.{can_reply, heard_next, line_long, line_stops, rest_long}
+use Rattle.command_parts.proofs.ListenerLineAndSaidTextLaws.{shorter, suffix_more}
 use Rattle.command_parts.proofs.conversation.hear_lines.Goals as goal
 
 pub returns-then-is_long-clause-stopped : goal.returns-then-is_long-clause-stopped

@@ -3,7 +3,7 @@ use Rattle.std.proofs.Common.{◌≡◌, ◌<◌, length, None, sym, subst, rule
 use Rattle.command_parts.specs.Talk.{Said}
 use Rattle.command_parts.specs.Dialogue.{heard_more}
 use Rattle.command_parts.specs.Conversation.{StopsSaying}
-use Rattle.command_parts.proofs.ListenerOctetsSaidLaws.{closed_none, closed_heard, closed_stops}
+use Rattle.command_parts.proofs.ListenerLineAndSaidTextLaws.{closed_none, closed_heard, closed_stops}
 use Rattle.command_parts.proofs.conversation.hear_rest.Goals as goal
 
 pub returns-then-is_empty-clause-whole : goal.returns-then-is_empty-clause-whole

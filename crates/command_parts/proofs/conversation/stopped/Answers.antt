@@ -1,6 +1,6 @@
 -- What was said before is written, or the put of it failed.
 use Rattle.std.proofs.Common.{refl}
-use Rattle.command_parts.proofs.ListenerOctetsSaidLaws.{stops_cut}
+use Rattle.command_parts.proofs.ListenerLineAndSaidTextLaws.{stops_cut}
 use Rattle.command_parts.proofs.conversation.stopped.Goals as goal
 
 pub returns-in-Err : goal.returns-in-Err

@@ -3,9 +3,9 @@ use Rattle.std.proofs.Common.{◌≡◌, ◌⊎◌, ℕ, ◌<◌, List, [], ◌+
 use Rattle.std.proofs.Common.{refl, sym, ◌∙◌, ap, subst, inl, inr, arith}
 use Rattle.text_lines.specs.Cut.{Lacks}
 use Rattle.command_parts.specs.Dialogue.{nothing_heard, course_of, said_by}
-use Rattle.command_parts.proofs.ListenerOctetsSaidLaws.{said_put, said_put_part}
-use Rattle.command_parts.proofs.TalkEndsOverSourceLaws.{going_none, stands_now, talk_unread_now, gives_closed, gives_stopped, gives_cut}
-use Rattle.command_parts.proofs.TalkEndsOverSourceLaws.{goes_on_now, nothing_more, nearer}
+use Rattle.command_parts.proofs.ListenerLineAndSaidTextLaws.{said_put, said_put_part}
+use Rattle.command_parts.proofs.TalkOverSourceAndEndLaws.{going_none, stands_now, talk_unread_now, gives_closed}
+use Rattle.command_parts.proofs.TalkOverSourceAndEndLaws.{gives_stopped, gives_cut, goes_on_now, nothing_more, nearer}
 use Rattle.command_parts.proofs.conversation.talk.Goals as goal
 
 pub loop-n-init : goal.loop-n-init

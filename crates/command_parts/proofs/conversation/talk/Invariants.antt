@@ -1,7 +1,7 @@
 -- What has come was heard but for a rest, what was said is written, and nothing waits.
 use Rattle.std.proofs.Common.{◌≡◌, ◌⊎◌, ℕ, ◌+◌, ◌*◌, ◌-◌, ◌<◌, ◌≤◌, List, [], length}
 use Rattle.command_parts.specs.Dialogue.{Heard}
-use Rattle.command_parts.proofs.TalkEndsOverSourceLaws.{IsGoing}
+use Rattle.command_parts.proofs.TalkOverSourceAndEndLaws.{IsGoing}
 use Rattle.command_parts.proofs.conversation.talk.Given as goal
 
 abbrev pub invariant-loop-n : goal.invariant-loop-n

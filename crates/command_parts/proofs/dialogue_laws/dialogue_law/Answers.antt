@@ -1,6 +1,5 @@
 -- A dialogue is a conversation, and what it has heard are lines.
-use Rattle.command_parts.proofs.TalkCourseHeardLaws.{dialogue_closed, dialogue_course}
-use Rattle.command_parts.proofs.TalkCourseHeardLaws.{dialogue_talks}
+use Rattle.command_parts.proofs.TalkCourseOverOctetsLaws.{dialogue_closed, dialogue_course, dialogue_talks}
 use Rattle.command_parts.proofs.dialogue_laws.dialogue_law.Goals as goal
 
 pub returns-clause-talk : goal.returns-clause-talk

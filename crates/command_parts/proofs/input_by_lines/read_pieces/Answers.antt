@@ -1,7 +1,8 @@
 -- A piece more was read, and the end.
 use Rattle.std.proofs.Common.{◌-◌, ◌++◌, ◌∙◌, arith, rules}
 use Rattle.std.proofs.lemmas.Result.{IfOk-weaker, IfErr-weaker}
-use Rattle.command_parts.proofs.SourceReadingStopsLaws.{reading_none, reading_more, reading_room, taken_all, stops_read, stops_told}
+use Rattle.command_parts.proofs.SourceTextAndStopLaws.{reading_none, reading_more, reading_room, taken_all, stops_read}
+use Rattle.command_parts.proofs.SourceTextAndStopLaws.{stops_told}
 use Rattle.command_parts.proofs.input_by_lines.read_pieces.Goals as goal
 
 pub loop-n-init : goal.loop-n-init

@@ -1,5 +1,5 @@
 -- What was taken of the input, and that all of it was read but the rest.
-use Rattle.command_parts.proofs.SourceReadingStopsLaws.{IsReading}
+use Rattle.command_parts.proofs.SourceTextAndStopLaws.{IsReading}
 use Rattle.command_parts.proofs.input_by_lines.read_pieces.Given as goal
 
 abbrev pub invariant-loop-n : goal.invariant-loop-n

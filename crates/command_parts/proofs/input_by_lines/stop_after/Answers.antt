@@ -1,6 +1,6 @@
 -- The rest of the input was read, and the cause stays.
 use Rattle.std.proofs.Common.{◌++◌, ◌-◌, length, refl, arith}
-use Rattle.command_parts.proofs.SourceReadingStopsLaws.{taken_more, taken_all, stops_read}
+use Rattle.command_parts.proofs.SourceTextAndStopLaws.{taken_more, taken_all, stops_read}
 use Rattle.command_parts.proofs.input_by_lines.stop_after.Goals as goal
 
 pub returns-in-Ok : goal.returns-in-Ok

@@ -1,7 +1,7 @@
 -- What the input says is a script.
 use Rattle.std.proofs.lemmas.Result.{IfOk-weaker}
 use Rattle.text_scripts.specs.script_read.Script.{script_of}
-use Rattle.command_parts.proofs.SourceReadingStopsLaws.{said-script}
+use Rattle.command_parts.proofs.SourceTextAndStopLaws.{said-script}
 use Rattle.command_parts.proofs.script_of_input.read_whole_script.Goals as goal
 
 pub returns-clause-script : goal.returns-clause-script

@@ -1,6 +1,6 @@
 -- The got lines are written, or a write of them has failed.
 use Rattle.std.proofs.lemmas.Result.{on_ok_weaker, on_err_weaker}
-use Rattle.command_run.proofs.EndedSessionWritesLaws.{run-all, run-got, run-cut}
+use Rattle.command_run.proofs.EndedSessionReportLaws.{run-all, run-got, run-cut}
 use Rattle.command_run.proofs.run.end_report.Goals as goal
 
 pub returns-then-failed-clause-err : goal.returns-then-failed-clause-err

@@ -4,7 +4,7 @@ use Rattle.law_model.specs.Common.{leg_of}
 use Rattle.law_model.specs.declared.script_types.Script.{Script}
 use Rattle.law_walk.specs.Common.{final_report}
 use Rattle.command_parts.specs.Common.{writes}
-use Rattle.command_parts.proofs.TaskGivesAndEndsLaws.{script-written}
+use Rattle.command_parts.proofs.TaskEndAndStatusLaws.{script-written}
 use Rattle.command_run.specs.HandedSession.{HasEnded, HasGot}
 use Rattle.command_run.proofs.run.run.Goals as goal
 

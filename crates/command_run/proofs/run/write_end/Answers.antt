@@ -3,7 +3,7 @@ use Rattle.std.proofs.Common.{rules, refl, sym, ◌∙◌}
 use Rattle.law_model.specs.declared.script_types.Script.{Script}
 use Rattle.text_got.specs.TextSoFar.{HasText, name_of, start_at}
 use Rattle.command_run.specs.HandedSession.{HasEnded, end_text}
-use Rattle.command_run.proofs.EndedSessionWritesLaws.{end-written}
+use Rattle.command_run.proofs.EndedSessionReportLaws.{end-written}
 use Rattle.command_run.proofs.run.write_end.Given as given
 use Rattle.command_run.proofs.run.write_end.Goals as goal
 use Rattle.command_run.proofs.run.write_end.Goals.{After-finish-back}

@@ -4,12 +4,12 @@ use Rattle.law_model.specs.session.Leg.{leg_of}
 use Rattle.law_walk.specs.WalkReport.{final_report}
 use Rattle.command_parts.specs.Task.{Task, writes, writes_both}
 use Rattle.command_parts.specs.Ends.{Ends, lent}
-use Rattle.command_parts.proofs.TaskGivesAndEndsLaws.{alone, ends-given, when-run}
+use Rattle.command_parts.proofs.TaskEndAndStatusLaws.{alone, ends-given, when-run}
 use Rattle.command_run.specs.declared.command_of_words.RunCommand.TheVariants.{Run, Watch}
 use Rattle.command_run.specs.Watch.{alarms_text}
 use Rattle.command_run.specs.Commands.{command_in, task_at, task_for}
 use Rattle.command_run.specs.HandedSession.{HandsSession, ended_of}
-use Rattle.command_run.proofs.EndedSessionWritesLaws.{tells-headline}
+use Rattle.command_run.proofs.EndedSessionReportLaws.{tells-headline}
 use Rattle.command_run.proofs.top_call.run_top.Goals as goal
 
 pub returns-in-Ok-Run : goal.returns-in-Ok-Run

@@ -6,7 +6,7 @@ use Rattle.law_model.specs.declared.script_types.Script.{Script}
 use Rattle.law_walk.specs.Common.{final_report}
 use Rattle.thread_alarms.specs.alarm_log.Logs.{alarms_in}
 use Rattle.command_parts.specs.Common.{Answer, writes_both}
-use Rattle.command_parts.proofs.SourceReadingStopsLaws.{meets-script}
+use Rattle.command_parts.proofs.SourceTextAndStopLaws.{meets-script}
 use Rattle.command_run.specs.Watch.{alarms_text}
 use Rattle.command_run.specs.HandedSession.{HasEnded, HasGot}
 use Rattle.command_run.proofs.WatchAlarmTextLaws.{told-text, some-none, some-all}

@@ -1,6 +1,6 @@
 -- What each command gives, beside notes or a source that it leaves as they are.
 use Rattle.std.proofs.Common.{refl, subst}
-use Rattle.command_parts.proofs.TaskGivesAndEndsLaws.{alone, beside}
+use Rattle.command_parts.proofs.TaskEndAndStatusLaws.{alone, beside}
 use Rattle.command_walk.specs.WordsOfCommands.{Fits}
 use Rattle.command_walk.proofs.command_of_words.run.Goals as goal
 

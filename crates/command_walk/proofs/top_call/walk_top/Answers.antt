@@ -5,9 +5,9 @@ use Rattle.command_walk.specs.declared.command_of_words.WalkCommand.{WalkCommand
 use Rattle.command_walk.specs.declared.command_of_words.WalkCommand.TheVariants.{Live, Pair}
 use Rattle.command_walk.specs.HandedWalk.{walk_of}
 use Rattle.command_walk.specs.WordsOfCommands.{command_in, task_at, task_for, HandsBack}
-use Rattle.command_walk.proofs.CommandAnswersAndEndsLaws.{fits, not-run, any-command, no-such-command, ends-usage, ends-wanting, headline-of}
-use Rattle.command_walk.proofs.CommandAnswersAndEndsLaws.{ends-for, run-for}
-use Rattle.command_walk.proofs.CommandAnswersAndEndsLaws.{some-command, tells-pair, tells-live}
+use Rattle.command_walk.proofs.WalkCommandAndHeadlineLaws.{fits, not-run, any-command, no-such-command, ends-usage}
+use Rattle.command_walk.proofs.WalkCommandAndHeadlineLaws.{ends-wanting, headline-of, ends-for, run-for, some-command}
+use Rattle.command_walk.proofs.WalkCommandAndHeadlineLaws.{tells-pair, tells-live}
 use Rattle.command_walk.proofs.top_call.walk_top.Goals as goal
 
 -- ---- a command was run

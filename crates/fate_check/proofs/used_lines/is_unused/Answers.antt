@@ -3,9 +3,8 @@ use Rattle.std.proofs.Common.{◌≡◌, ◌==◌, false, true, not, inl, inr, s
 use Rattle.std.specs.List.{list_any}
 use Rattle.std.proofs.lemmas.Bool.{cases_lt, not_from_true, not_from_false}
 use Rattle.fate_check.specs.UsedLines.{is_used}
-use Rattle.law_row.proofs.LastWordReturnLaws.{all-from}
-use Rattle.fate_check.proofs.UsedLineAndSparedRowLaws.{fails-range}
-use Rattle.fate_check.proofs.UsedLineAndSparedRowLaws.{alike-used}
+use Rattle.law_row.proofs.LastWordAndReturnPacketLaws.{all-from}
+use Rattle.fate_check.proofs.UsedLineAndSparedRowLaws.{fails-range, alike-used}
 use Rattle.fate_check.proofs.used_lines.is_unused.Goals as goal
 
 pub loop-row-preserved : goal.loop-row-preserved

@@ -1,8 +1,8 @@
 -- The frames that are got.
 use Rattle.std.proofs.Common.{◌∷◌, ◌∙◌, sym}
 use Rattle.law_model.specs.Common.{idle}
-use Rattle.law_loss.proofs.GivenLostKeptLaws.{deliver-kept}
-use Rattle.fate_engine.proofs.GotFramesLaws.{got-each, got-kept}
+use Rattle.law_loss.proofs.GivenAndLostFrameLaws.{deliver-kept}
+use Rattle.fate_engine.proofs.GotFateAndLandedFrameLaws.{got-each, got-kept}
 use Rattle.fate_engine.proofs.TrueMarksLaws.{marks-starts}
 use Rattle.fate_engine.proofs.fate_law.got_law.Goals as goal
 

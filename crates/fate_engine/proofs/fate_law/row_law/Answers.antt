@@ -1,6 +1,5 @@
 -- Rows and places.
-use Rattle.fate_engine.proofs.LiesInRowAtLaws.{row-of_place, lies-rows, cut-row}
-use Rattle.fate_engine.proofs.LiesInRowAtLaws.{fate-rows}
+use Rattle.fate_engine.proofs.FrameRowAndSegmentLaws.{row-of_place, lies-rows, cut-row, fate-rows}
 use Rattle.fate_engine.proofs.fate_law.row_law.Goals as goal
 
 pub returns : goal.returns

@@ -1,5 +1,5 @@
 -- The places of client frames.
-use Rattle.fate_engine.proofs.RulerSidesPiecesLaws.{reached-ruled, piece-front}
+use Rattle.fate_engine.proofs.RulerAndFrameSideLaws.{reached-ruled, piece-front}
 use Rattle.fate_engine.proofs.fate_law.ruler_law.Goals as goal
 
 pub returns : goal.returns

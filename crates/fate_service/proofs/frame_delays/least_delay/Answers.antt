@@ -2,7 +2,7 @@
 use Rattle.std.proofs.Common.{◌≡◌, ℕ, ◌+◌, ◌-◌, ◌/◌, ◌<◌, nat_le, sym, ◌∙◌, ap, arith}
 use Rattle.std.proofs.lemmas.Bool.{lt-leb}
 use Rattle.fate_service.specs.Delays.{count_within}
-use Rattle.fate_service.proofs.LandedTallyTotalsLaws.{within-rises, least-is}
+use Rattle.fate_service.proofs.LandedFrameTallyLaws.{within-rises, least-is}
 use Rattle.fate_service.proofs.frame_delays.least_delay.Goals as goal
 
 pub loop-low-preserved : goal.loop-low-preserved

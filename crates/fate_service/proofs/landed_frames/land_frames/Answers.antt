@@ -6,7 +6,8 @@ use Rattle.fate_engine.specs.Common.{Ended}
 use Rattle.fate_walks.specs.walk_fates.MadeWalk.{fates_in}
 use Rattle.fate_walks.proofs.FatesAndSeenRowsLaws.{ended_frame}
 use Rattle.fate_service.specs.FrameColumns.{offered_frame, AreLanded}
-use Rattle.fate_service.proofs.LandedTallyTotalsLaws.{taken-begun, taken-next, taken-few, landed-accepted-few, taken-past}
+use Rattle.fate_service.proofs.LandedFrameTallyLaws.{taken-begun, taken-next, taken-few, landed-accepted-few}
+use Rattle.fate_service.proofs.LandedFrameTallyLaws.{taken-past}
 use Rattle.fate_service.proofs.landed_frames.land_frames.Goals as goal
 
 pub loop-frame-init : goal.loop-frame-init

@@ -3,7 +3,7 @@ use Rattle.std.proofs.Common.{List, length}
 use Rattle.law_model.specs.Common.{leg_of}
 use Rattle.fate_engine.specs.Common.{Ended}
 use Rattle.fate_walks.specs.walk_frames.ItemCursor.{frames_left}
-use Rattle.fate_service.proofs.LandedTallyTotalsLaws.{FramesTaken}
+use Rattle.fate_service.proofs.LandedFrameTallyLaws.{FramesTaken}
 use Rattle.fate_service.proofs.landed_frames.land_frames.Given as goal
 
 abbrev pub invariant-loop-frame : goal.invariant-loop-frame

@@ -1,9 +1,10 @@
 -- The row goes on with the last outage, or begins one.
 use Rattle.std.proofs.Common.{◌≡◌, ◌-◌, slice_index_or, slice_set, All, sym, ◌∙◌, subst, arith}
 use Rattle.fate_service.specs.Outages.{HasFewSpoiled, with_dark}
-use Rattle.fate_service.proofs.AreOutagesDarkLaws.{dark-meets, dark-apart, dark-few}
+use Rattle.fate_service.proofs.OutageAndDarkRowLaws.{dark-meets, dark-apart, dark-few}
 use Rattle.fate_service.proofs.outages.add_row.Goals as goal
-use Rattle.fate_service.proofs.outages.add_row.Goals.{else-n-gt0-via-then-n-gt0+else-goes_on, else-n-gt0-via-else-n-gt0}
+use Rattle.fate_service.proofs.outages.add_row.Goals.{else-n-gt0-via-then-n-gt0+else-goes_on}
+use Rattle.fate_service.proofs.outages.add_row.Goals.{else-n-gt0-via-else-n-gt0}
 
 pub returns-then-goes_on : goal.returns-then-goes_on
 returns-then-goes_on c =

@@ -4,7 +4,7 @@ use Rattle.std.proofs.lemmas.List.Sorted.{IsPartitionPoint-from_clause, IsPartit
 use Rattle.fate_service.specs.declared.landed_frames.CarriedFrame.{CarriedFrame}
 use Rattle.fate_service.specs.FrameColumns.{no_frames}
 use Rattle.fate_service.specs.Outages.{lost_on}
-use Rattle.fate_service.proofs.RisesChainsPointLaws.{Point, within-part, part-at}
+use Rattle.fate_service.proofs.FrameTickAndRowOrderLaws.{Point, within-part, part-at}
 use Rattle.fate_service.proofs.outages.losses.Goals as goal
 
 pub returns : goal.returns

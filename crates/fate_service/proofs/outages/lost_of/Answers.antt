@@ -4,7 +4,7 @@ use Rattle.fate_service.specs.declared.landed_frames.CarriedFrame.{CarriedFrame}
 use Rattle.fate_service.specs.declared.landed_frames.Tally.{Tally}
 use Rattle.fate_service.specs.Outages.{lost_on}
 use Rattle.std.proofs.lemmas.List.{at_drop_more, at_drop_all}
-use Rattle.fate_service.proofs.LandedTallyTotalsLaws.{tally-few}
+use Rattle.fate_service.proofs.LandedFrameTallyLaws.{tally-few}
 use Rattle.fate_service.proofs.outages.lost_of.Goals as goal
 
 pub loop-frame-preserved : goal.loop-frame-preserved

@@ -3,9 +3,9 @@ use Rattle.std.proofs.Common.{◌<◌, length, sym, ◌∙◌, ap, subst, arith,
 use Rattle.law_model.specs.Common.{octets_of_rows, scenario_by}
 use Rattle.law_walk.specs.Common.{session_of, session_rows}
 use Rattle.fate_engine.specs.Common.{spoiled_after}
-use Rattle.fate_engine.proofs.FateAtPiecesLaws.{rows-count}
+use Rattle.fate_engine.proofs.FrameFateAndPieceLaws.{rows-count}
 use Rattle.fate_service.specs.RowStates.{state_by_mark}
-use Rattle.fate_service.proofs.SpoiledAfterStateLaws.{state-spoiled, state-first, state-later, mark-low-if}
+use Rattle.fate_service.proofs.SpoiledRowStateLaws.{state-spoiled, state-first, state-later, mark-low-if}
 use Rattle.fate_service.proofs.row_states.row_state.Goals as goal
 
 pub returns-then-row-around : goal.returns-then-row-around

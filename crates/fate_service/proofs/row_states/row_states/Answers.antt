@@ -3,9 +3,9 @@ use Rattle.std.proofs.Common.{◌≡◌, ◌<◌, ◌∷◌, ◌++◌, [], map, 
 use Rattle.std.specs.List.{range_with_len}
 use Rattle.law_model.specs.Common.{scenario_by}
 use Rattle.law_walk.specs.Common.{session_of, session_rows}
-use Rattle.fate_engine.proofs.FateAtPiecesLaws.{rows-count}
+use Rattle.fate_engine.proofs.FrameFateAndPieceLaws.{rows-count}
 use Rattle.fate_service.specs.RowStates.{state_of}
-use Rattle.fate_service.proofs.SpoiledAfterStateLaws.{range-push}
+use Rattle.fate_service.proofs.SpoiledRowStateLaws.{range-push}
 use Rattle.fate_service.proofs.row_states.row_states.Goals as goal
 
 pub loop-row-preserved : goal.loop-row-preserved

@@ -3,7 +3,7 @@ use Rattle.std.proofs.Common.{◌<◌, length, sym, ◌∙◌, ap, subst, arith,
 use Rattle.law_model.specs.Common.{octets_of_rows, scenario_by}
 use Rattle.law_walk.specs.Common.{session_of, session_rows}
 use Rattle.fate_service.specs.RowStates.{state_by_mark}
-use Rattle.fate_service.proofs.SpoiledAfterStateLaws.{place-reached, place-row, mark-clear, mark-hunting}
+use Rattle.fate_service.proofs.SpoiledRowStateLaws.{place-reached, place-row, mark-clear, mark-hunting}
 use Rattle.fate_service.proofs.row_states.state_by_mark.Goals as goal
 
 pub returns-in_default-row_of : goal.returns-in_default-row_of

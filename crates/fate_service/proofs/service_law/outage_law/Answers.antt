@@ -1,6 +1,6 @@
 -- What an outage is.
-use Rattle.fate_service.proofs.FateTellsLiesBetweenLaws.{rows-are, got-rows, before-all, between-all, one-only}
-use Rattle.fate_service.proofs.LostBelongsToOutageLaws.{lost-once, lines-caused}
+use Rattle.fate_service.proofs.FrameFateBetweenOutagesLaws.{rows-are, got-rows, before-all, between-all, one-only}
+use Rattle.fate_service.proofs.OutageAndLostFrameLaws.{lost-once, lines-caused}
 use Rattle.fate_service.proofs.service_law.outage_law.Goals as goal
 
 pub returns : goal.returns

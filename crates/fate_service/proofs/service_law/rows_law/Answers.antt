@@ -1,7 +1,7 @@
 -- What lines of rows add up to.
-use Rattle.fate_service.proofs.MembersRoomOctetsFitLaws.{members-are, members-rows, members-room}
-use Rattle.fate_service.proofs.AreOutagesDarkLaws.{lines-count}
-use Rattle.fate_service.proofs.LostBelongsToOutageLaws.{outages-lost, outages-dark, outages-broken}
+use Rattle.fate_service.proofs.MemberRunAndCarriedOctetLaws.{members-are, members-rows, members-room}
+use Rattle.fate_service.proofs.OutageAndDarkRowLaws.{lines-count}
+use Rattle.fate_service.proofs.OutageAndLostFrameLaws.{outages-lost, outages-dark, outages-broken}
 use Rattle.fate_service.specs.Outages.{outages_of}
 use Rattle.fate_service.specs.RowStates.{states_of}
 use Rattle.fate_service.specs.FrameColumns.{carried_of}

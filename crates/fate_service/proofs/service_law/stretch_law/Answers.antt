@@ -1,8 +1,7 @@
 -- What the stretches add up to.
-use Rattle.fate_service.proofs.SumStretchSpansPeakLaws.{span-each}
-use Rattle.fate_service.proofs.SumStretchSpansPeakLaws.{text-lines, lines-follow, offered-sum, refused-sum, got-sum, lost-sum, capacity-sum}
-use Rattle.fate_service.proofs.SumStretchSpansPeakLaws.{darkness-sum, delay-most}
-use Rattle.fate_service.proofs.SumStretchSpansPeakLaws.{peak-is, queue-highest}
+use Rattle.fate_service.proofs.StretchSumAndQueuePeakLaws.{span-each, text-lines, lines-follow, offered-sum}
+use Rattle.fate_service.proofs.StretchSumAndQueuePeakLaws.{refused-sum, got-sum, lost-sum, capacity-sum, darkness-sum}
+use Rattle.fate_service.proofs.StretchSumAndQueuePeakLaws.{delay-most, peak-is, queue-highest}
 use Rattle.fate_service.proofs.service_law.stretch_law.Goals as goal
 
 pub returns : goal.returns

@@ -3,7 +3,7 @@ use Rattle.std.proofs.Common.{length, ◌∙◌, ap, arith}
 use Rattle.law_model.specs.Common.{leg_of}
 use Rattle.fate_walks.proofs.FatesAndSeenRowsLaws.{within}
 use Rattle.fate_service.specs.Outages.{outages_of}
-use Rattle.fate_service.proofs.AreOutagesDarkLaws.{states-count}
+use Rattle.fate_service.proofs.OutageAndDarkRowLaws.{states-count}
 use Rattle.fate_service.proofs.service_report.survey_walk.Goals as goal
 
 pub find_outages-requires : goal.find_outages-requires

@@ -4,8 +4,8 @@ use Rattle.std.specs.List.Sorted.{IsNonDecreasingBy}
 use Rattle.law_model.specs.Common.{leg_of}
 use Rattle.fate_walks.proofs.FatesAndSeenRowsLaws.{reach}
 use Rattle.fate_service.specs.declared.landed_frames.CarriedFrame.{CarriedFrame}
-use Rattle.fate_service.proofs.LandedTallyTotalsLaws.{carried-count}
-use Rattle.fate_service.proofs.RisesChainsPointLaws.{at-ordered}
+use Rattle.fate_service.proofs.LandedFrameTallyLaws.{carried-count}
+use Rattle.fate_service.proofs.FrameTickAndRowOrderLaws.{at-ordered}
 use Rattle.fate_service.proofs.service_report.write_outage.Goals as goal
 
 pub losses-lost-requires : goal.losses-lost-requires

@@ -1,6 +1,6 @@
 -- An outage more; and all of them.
-use Rattle.std.proofs.Common.{◌≡◌, ℕ, ◌+◌, ◌<◌, ◌≤◌, ◌++◌, List, [], All, Option, length, drop, refl, sym, ◌∙◌, ap, subst}
-use Rattle.std.proofs.Common.{arith, append-nil, append_assoc}
+use Rattle.std.proofs.Common.{◌≡◌, ℕ, ◌+◌, ◌<◌, ◌≤◌, ◌++◌, List, [], All, Option, length, drop, refl, sym, ◌∙◌, ap}
+use Rattle.std.proofs.Common.{subst, arith, append-nil, append_assoc}
 use Rattle.std.proofs.lemmas.List.{at_drop_all, take_rest}
 use Rattle.text_got.specs.TextSoFar.{HasText}
 use Rattle.law_model.specs.Common.{leg_of, scenario_by}
@@ -12,7 +12,7 @@ use Rattle.fate_service.specs.declared.landed_frames.CarriedFrame.{CarriedFrame}
 use Rattle.fate_service.specs.FrameColumns.{carried_of}
 use Rattle.fate_service.specs.Outages.{losses, next_first}
 use Rattle.fate_service.specs.ServiceText.{outage_text, outages_text}
-use Rattle.fate_service.proofs.AreOutagesDarkLaws.{Begins, survey-begins}
+use Rattle.fate_service.proofs.OutageAndDarkRowLaws.{Begins, survey-begins}
 use Rattle.fate_service.proofs.ServiceTextLaws.{outage-next, text-more, text-whole}
 use Rattle.fate_service.proofs.service_report.write_outages.Goals as goal
 

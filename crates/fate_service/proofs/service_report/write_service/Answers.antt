@@ -12,9 +12,9 @@ use Rattle.fate_service.specs.Delays.{delays_of}
 use Rattle.fate_service.specs.FrameColumns.{carried_of}
 use Rattle.fate_service.specs.MemberRuns.{runs_of}
 use Rattle.fate_service.specs.Stretches.{Known, stretch_of, spans_of, told_on}
-use Rattle.fate_service.specs.ServiceText.{members_text, outages_text, stretches_text, delays_text, last_text, known_of, told_of, ends_of}
-use Rattle.fate_service.specs.ServiceText.{service_text}
-use Rattle.fate_service.proofs.LandedTallyTotalsLaws.{OfferedEarly, offered-soon, carried-count}
+use Rattle.fate_service.specs.ServiceText.{members_text, outages_text, stretches_text, delays_text, last_text}
+use Rattle.fate_service.specs.ServiceText.{known_of, told_of, ends_of, service_text}
+use Rattle.fate_service.proofs.LandedFrameTallyLaws.{OfferedEarly, offered-soon, carried-count}
 use Rattle.fate_service.proofs.ServiceTextLaws.{five-texts}
 use Rattle.fate_service.proofs.service_report.write_service.Goals as goal
 

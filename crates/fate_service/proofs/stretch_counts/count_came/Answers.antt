@@ -4,7 +4,7 @@ use Rattle.fate_service.specs.declared.landed_frames.OfferedFrame.{OfferedFrame}
 use Rattle.fate_service.specs.declared.stretch_counts.Came.{Came}
 use Rattle.fate_service.specs.Stretches.{came_on}
 use Rattle.std.proofs.lemmas.List.{at_drop_more, at_drop_all}
-use Rattle.fate_service.proofs.LandedTallyTotalsLaws.{came-few}
+use Rattle.fate_service.proofs.LandedFrameTallyLaws.{came-few}
 use Rattle.fate_service.proofs.stretch_counts.count_came.Goals as goal
 
 pub loop-frame-preserved : goal.loop-frame-preserved

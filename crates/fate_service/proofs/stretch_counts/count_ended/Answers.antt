@@ -3,7 +3,7 @@ use Rattle.std.proofs.Common.{◌+◌, ◌<◌, false, drop, slice_index_or, sym
 use Rattle.fate_service.specs.declared.landed_frames.CarriedFrame.{CarriedFrame}
 use Rattle.fate_service.specs.Stretches.{ended_on}
 use Rattle.std.proofs.lemmas.List.{at_drop_more, at_drop_all}
-use Rattle.fate_service.proofs.LandedTallyTotalsLaws.{IsFew, carried-more}
+use Rattle.fate_service.proofs.LandedFrameTallyLaws.{IsFew, carried-more}
 use Rattle.fate_service.proofs.stretch_counts.count_ended.Goals as goal
 
 pub loop-frame-preserved : goal.loop-frame-preserved

@@ -10,9 +10,9 @@ use Rattle.fate_service.specs.declared.landed_frames.OfferedFrame.{OfferedFrame}
 use Rattle.fate_service.specs.declared.landed_frames.CarriedFrame.{CarriedFrame}
 use Rattle.fate_service.specs.Stretches.{came_in, ended_in, capacity_in, queue_in, peak_in, dark_in}
 use Rattle.fate_service.specs.ServiceText.{known_of}
-use Rattle.fate_service.proofs.LandedTallyTotalsLaws.{offered-count, accepted-count, carried-count}
-use Rattle.fate_service.proofs.RisesChainsPointLaws.{offered-ordered, accepted-ordered, last-ordered}
-use Rattle.fate_service.proofs.AreOutagesDarkLaws.{states-count}
+use Rattle.fate_service.proofs.LandedFrameTallyLaws.{offered-count, accepted-count, carried-count}
+use Rattle.fate_service.proofs.FrameTickAndRowOrderLaws.{offered-ordered, accepted-ordered, last-ordered}
+use Rattle.fate_service.proofs.OutageAndDarkRowLaws.{states-count}
 use Rattle.fate_service.proofs.ServiceTextLaws.{same-stretch}
 use Rattle.fate_service.proofs.stretch_counts.count_stretch.Goals as goal
 

@@ -2,7 +2,7 @@
 use Rattle.std.proofs.Common.{◌≡◌, min, length, take, drop, ◌∙◌, ap, arith}
 use Rattle.std.proofs.lemmas.List.{take_min}
 use Rattle.fate_service.specs.RowStates.{dark_among}
-use Rattle.fate_service.proofs.RisesChainsPointLaws.{part-at}
+use Rattle.fate_service.proofs.FrameTickAndRowOrderLaws.{part-at}
 use Rattle.fate_service.proofs.stretch_counts.dark_in.Goals as goal
 
 pub returns : goal.returns

@@ -3,7 +3,7 @@ use Rattle.std.proofs.Common.{rules, ℕ, nat_lt, ltb, sym, ◌∙◌, ap}
 use Rattle.std.proofs.lemmas.List.Sorted.{IsPartitionPoint-from_clause, IsPartitionedBy-ltb}
 use Rattle.fate_service.specs.declared.landed_frames.CarriedFrame.{CarriedFrame}
 use Rattle.fate_service.specs.Stretches.{ended_of}
-use Rattle.fate_service.proofs.RisesChainsPointLaws.{Point, within-part, part-at}
+use Rattle.fate_service.proofs.FrameTickAndRowOrderLaws.{Point, within-part, part-at}
 use Rattle.fate_service.proofs.stretch_counts.ended_in.Goals as goal
 
 pub returns : goal.returns

@@ -2,7 +2,7 @@
 use Rattle.std.proofs.Common.{◌≡◌, ℕ, ◌+◌, ◌-◌, sym, ◌∙◌, ap}
 use Rattle.law_model.specs.Common.{place_of}
 use Rattle.fate_service.specs.Stretches.{queue_at, queue_in, higher, peak_on}
-use Rattle.fate_service.proofs.LandedTallyTotalsLaws.{peak-next, peak-end}
+use Rattle.fate_service.proofs.LandedFrameTallyLaws.{peak-next, peak-end}
 use Rattle.fate_service.proofs.stretch_counts.peak_in.Goals as goal
 
 pub loop-tick-preserved : goal.loop-tick-preserved

@@ -1,7 +1,7 @@
 -- The accepted ones that are due by then are the first ones.
 use Rattle.std.proofs.Common.{rules, ℕ, ◌-◌, nat_le, leb, ◌∙◌, ap₂, arith}
 use Rattle.std.proofs.lemmas.List.Sorted.{IsPartitionPoint-from_clause, IsPartitionedBy-leb}
-use Rattle.fate_service.proofs.RisesChainsPointLaws.{Point, point-count}
+use Rattle.fate_service.proofs.FrameTickAndRowOrderLaws.{Point, point-count}
 use Rattle.fate_service.proofs.stretch_counts.queue_at.Goals as goal
 
 pub returns : goal.returns

@@ -1,6 +1,5 @@
 -- Frames that are offered one after the other.
-use Rattle.gfp_channels.proofs.OfferRefusalWaitingLaws.{waiting-accepted, waiting-all, after_sound}
-use Rattle.gfp_channels.proofs.OfferRefusalWaitingLaws.{silent_sound}
+use Rattle.gfp_channels.proofs.OfferedChannelFrameLaws.{waiting-accepted, waiting-all, after_sound, silent_sound}
 use Rattle.gfp_channels.proofs.channel_law.offers_law.Goals as goal
 
 pub returns-clause-accepted : goal.returns-clause-accepted

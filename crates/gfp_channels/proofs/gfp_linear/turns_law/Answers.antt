@@ -1,6 +1,6 @@
 -- However far the stream is made, its pieces are the fewest, and what is begun of a channel and what waits are together
 -- the same.
-use Rattle.gfp_channels.proofs.ReachedPlaceFillerLaws.{reached-fewest, reached-next}
+use Rattle.gfp_channels.proofs.LinearStreamPlaceLaws.{reached-fewest, reached-next}
 use Rattle.gfp_channels.proofs.BusyChannelTurnLaws.{reached-keeps}
 use Rattle.gfp_channels.proofs.gfp_linear.turns_law.Goals as goal
 

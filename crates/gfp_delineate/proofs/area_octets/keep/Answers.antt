@@ -3,7 +3,7 @@ use Rattle.std.proofs.Common.{◌≡◌, ℕ, ◌+◌, ◌-◌, List, [], ◌∷
 use Rattle.std.proofs.Common.{arith, vec_len, length-append, length-drop, drop_at, take_all}
 use Rattle.law_model.specs.Common.{descrambled_octets}
 use Rattle.gfp_scramble.specs.Descrambler.{DescramblerStands, unknown}
-use Rattle.gfp_delineate.proofs.RepeatedIdlePieceLaws.{written_after, take_one}
+use Rattle.gfp_delineate.proofs.OctetPieceAndIdleRunLaws.{written_after, take_one}
 use Rattle.gfp_delineate.proofs.area_octets.keep.Goals as goal
 
 -- the part of a list behind its front

@@ -1,7 +1,7 @@
 -- Six octets settle a descrambler, so that the last six of a piece leave it as all of them do.
 use Rattle.std.proofs.Common.{◌-◌, ℕ, List, false, [], length, drop, subst, arith, length-drop, take_all}
 use Rattle.gfp_scramble.specs.Descrambler.{DescramblerStands}
-use Rattle.gfp_delineate.proofs.RepeatedIdlePieceLaws.{Continues-last}
+use Rattle.gfp_delineate.proofs.OctetPieceAndIdleRunLaws.{Continues-last}
 use Rattle.gfp_delineate.proofs.area_octets.pass_over.Goals as goal
 
 pub returns-else-piece-le-SETTLING : goal.returns-else-piece-le-SETTLING

@@ -1,7 +1,7 @@
 -- The octets are a header, or become one when a bit is turned over, or no bit makes them one.
 use Rattle.std.proofs.Common.{◌≡◌, ◌-◌, sym, ◌∙◌, ap, arith}
 use Rattle.gfp_model.specs.fcs_model.NearHeader.{turned_below}
-use Rattle.gfp_delineate.proofs.NearTurnedBitLaws.{near-head, near-turned, turned-none, turned-some, turned-end}
+use Rattle.gfp_delineate.proofs.CorrectedHeaderBitLaws.{near-head, near-turned, turned-none, turned-some, turned-end}
 use Rattle.gfp_delineate.proofs.corrected_header.read_near.Goals as goal
 
 pub returns-in-Some-clause-value : goal.returns-in-Some-clause-value

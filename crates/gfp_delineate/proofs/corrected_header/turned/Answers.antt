@@ -2,7 +2,7 @@
 use Rattle.std.proofs.Common.{rules, ◌≡◌, ◌^◌, bit_xor, w32, ◌∙◌}
 use Rattle.std.specs.Int.{to_be_bytes}
 use Rattle.std.proofs.lemmas.Nat.{be_bytes_4}
-use Rattle.gfp_delineate.proofs.NearTurnedBitLaws.{turned-word}
+use Rattle.gfp_delineate.proofs.CorrectedHeaderBitLaws.{turned-word}
 use Rattle.gfp_delineate.proofs.corrected_header.turned.Goals as goal
 
 pub returns : goal.returns

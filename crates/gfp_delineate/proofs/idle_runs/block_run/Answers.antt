@@ -2,7 +2,7 @@
 use Rattle.std.proofs.Common.{◌≡◌, ◌+◌, ◌*◌, ◌++◌, take, sym, ap, ◌∙◌, arith}
 use Rattle.std.specs.Int.{to_le_bytes, w64}
 use Rattle.gfp_delineate.specs.Repeated.{repeated}
-use Rattle.gfp_delineate.proofs.RepeatedIdlePieceLaws.{repeated-add}
+use Rattle.gfp_delineate.proofs.OctetPieceAndIdleRunLaws.{repeated-add}
 use Rattle.gfp_delineate.proofs.idle_runs.block_run.Goals as goal
 
 pub loop-i-preserved : goal.loop-i-preserved

@@ -4,7 +4,7 @@ use Rattle.std.specs.Int.{to_le_bytes, from_le_bytes, w64}
 use Rattle.std.proofs.lemmas.List.{drop-take, drop_at, length-take, length-drop}
 use Rattle.std.proofs.lemmas.Nat.{from_le_bytes-to_le_bytes_8}
 use Rattle.gfp_delineate.specs.Repeated.{repeated}
-use Rattle.gfp_delineate.proofs.RepeatedIdlePieceLaws.{repeated-add, repeated-once}
+use Rattle.gfp_delineate.proofs.OctetPieceAndIdleRunLaws.{repeated-add, repeated-once}
 use Rattle.gfp_delineate.proofs.idle_runs.few_words.Goals as goal
 
 pub loop-i-preserved : goal.loop-i-preserved

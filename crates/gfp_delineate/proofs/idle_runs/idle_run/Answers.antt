@@ -1,7 +1,7 @@
 -- Each word is two idle headers, and one more may stand behind them.
 use Rattle.std.proofs.Common.{◌≡◌, ◌+◌, ◌*◌, ◌++◌, take, sym, ap, ◌∙◌, arith}
 use Rattle.law_model.proofs.CoreHeaderLaws.{idle_header, idles-more}
-use Rattle.gfp_delineate.proofs.RepeatedIdlePieceLaws.{repeated-idles}
+use Rattle.gfp_delineate.proofs.OctetPieceAndIdleRunLaws.{repeated-idles}
 use Rattle.gfp_delineate.proofs.idle_runs.idle_run.Goals as goal
 
 pub returns-then-is_idle-clause-run : goal.returns-then-is_idle-clause-run

@@ -2,7 +2,7 @@
 use Rattle.std.proofs.Common.{◌≡◌, ℕ, List, ◌+◌, ◌-◌, ◌*◌, ◌++◌, length, take, drop, sym, ap, ap₂, ◌∙◌, arith}
 use Rattle.std.proofs.Common.{length-drop, w64, take-add, take_all}
 use Rattle.std.specs.Int.{to_le_bytes}
-use Rattle.gfp_delineate.proofs.RepeatedIdlePieceLaws.{repeated-add}
+use Rattle.gfp_delineate.proofs.OctetPieceAndIdleRunLaws.{repeated-add}
 use Rattle.gfp_delineate.proofs.idle_runs.word_run.Goals as goal
 
 pub returns-clause-run : goal.returns-clause-run

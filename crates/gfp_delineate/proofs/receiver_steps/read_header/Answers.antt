@@ -1,6 +1,6 @@
 -- What is a header is read as that one, whether headers are corrected or not.
 use Rattle.std.proofs.Common.{sym, ◌∙◌}
-use Rattle.gfp_delineate.proofs.NearTurnedBitLaws.{reader-head}
+use Rattle.gfp_delineate.proofs.CorrectedHeaderBitLaws.{reader-head}
 use Rattle.gfp_delineate.proofs.receiver_steps.read_header.Goals as goal
 
 pub returns-in-Some-clause-value : goal.returns-in-Some-clause-value

@@ -1,6 +1,6 @@
 -- What is near is read, what is read is near, and a word is fixed in one way alone.
 use Rattle.gfp_noise.proofs.NearHeaderLaws.{near-flipped, near-IsNear, near-IsFixed}
-use Rattle.check_hec16.proofs.HecOneWrongBitLaws.{fixed_once}
+use Rattle.check_hec16.proofs.HecWithOneWrongBitLaws.{fixed_once}
 use Rattle.gfp_noise.proofs.flip_law.near_law.Goals as goal
 
 pub returns-clause-flipped : goal.returns-clause-flipped

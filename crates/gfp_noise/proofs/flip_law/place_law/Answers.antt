@@ -1,5 +1,5 @@
 -- The same with flips that places tell, and which bits these turn over.
-use Rattle.gfp_noise.proofs.FlippedOctetPlaceLaws.{get_or-flips_of}
+use Rattle.gfp_noise.proofs.FlipPlaceAndBitLaws.{get_or-flips_of}
 use Rattle.gfp_noise.proofs.FlippedFcsStreamLaws.{delivered-places}
 use Rattle.gfp_noise.proofs.flip_law.place_law.Goals as goal
 

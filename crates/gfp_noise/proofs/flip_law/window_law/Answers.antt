@@ -1,5 +1,5 @@
 -- Flips are descrambled apart: a window with none leaves none in its area, and one with one leaves one or two.
-use Rattle.gfp_noise.proofs.OneOrTwoFlipsLeftLaws.{descrambled-xors, left_in-area_none, left_in-area_one}
+use Rattle.gfp_noise.proofs.FlipRemainderAndDescramblingLaws.{descrambled-xors, left_in-area_none, left_in-area_one}
 use Rattle.gfp_noise.proofs.flip_law.window_law.Goals as goal
 
 pub returns-clause-linear : goal.returns-clause-linear

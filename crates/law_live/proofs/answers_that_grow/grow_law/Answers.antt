@@ -1,7 +1,7 @@
 -- By the lists that are said one behind the other.
 use Rattle.law_model.specs.Common.{begin}
 use Rattle.law_walk.specs.Common.{walk_plan}
-use Rattle.law_live.proofs.AgreesLiveCountsLaws.{answers-more, counts-more, rounds-more, text-more}
+use Rattle.law_live.proofs.AgreeingLegConversationLaws.{answers-more, counts-more, rounds-more, text-more}
 use Rattle.law_live.proofs.answers_that_grow.grow_law.Goals as goal
 
 pub returns-clause-answers : goal.returns-clause-answers

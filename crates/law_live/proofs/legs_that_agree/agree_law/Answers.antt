@@ -1,8 +1,7 @@
 -- By each saying alone.
 use Rattle.law_live.specs.Common.{live_of}
-use Rattle.law_live.proofs.AgreesLiveCountsLaws.{agrees-begin, agrees-before}
-use Rattle.law_live.proofs.AgreesLiveCountsLaws.{agrees-own}
-use Rattle.law_live.proofs.WellSaidRightWindowsLaws.{closed-below}
+use Rattle.law_live.proofs.AgreeingLegConversationLaws.{agrees-begin, agrees-before, agrees-own}
+use Rattle.law_live.proofs.WellSaidLegAndWindowLaws.{closed-below}
 use Rattle.law_live.proofs.legs_that_agree.agree_law.Goals as goal
 
 pub returns-clause-own : goal.returns-clause-own

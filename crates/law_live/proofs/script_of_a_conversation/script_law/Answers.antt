@@ -1,5 +1,5 @@
 -- By the rounds of a script beside those of the conversation.
-use Rattle.law_live.proofs.AgreesLiveCountsLaws.{script-counts, script-landed, script-text}
+use Rattle.law_live.proofs.AgreeingLegConversationLaws.{script-counts, script-landed, script-text}
 use Rattle.law_live.proofs.script_of_a_conversation.script_law.Goals as goal
 
 pub returns-clause-counts : goal.returns-clause-counts

@@ -1,5 +1,6 @@
 -- By how the counts stand beside what was said.
-use Rattle.law_live.proofs.AgreesLiveCountsLaws.{agrees-offers, agrees-orders, agrees-stands, pass-free, pass-made, said-next, said-walked}
+use Rattle.law_live.proofs.AgreeingLegConversationLaws.{agrees-offers, agrees-orders, agrees-stands, pass-free}
+use Rattle.law_live.proofs.AgreeingLegConversationLaws.{pass-made, said-next, said-walked}
 use Rattle.law_live.proofs.ticks_that_pass.pass_law.Goals as goal
 
 pub returns-clause-walked : goal.returns-clause-walked

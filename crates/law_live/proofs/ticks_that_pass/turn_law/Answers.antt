@@ -1,6 +1,6 @@
 -- By the measure of a walk, which each round raises.
-use Rattle.law_live.proofs.SettledLiveRoundLaws.{rounds-over}
-use Rattle.law_live.proofs.AgreesLiveCountsLaws.{pass-left, pass-less, pass-turn}
+use Rattle.law_live.proofs.LiveRoundAndLandingLaws.{rounds-over}
+use Rattle.law_live.proofs.AgreeingLegConversationLaws.{pass-left, pass-less, pass-turn}
 use Rattle.law_live.proofs.ticks_that_pass.turn_law.Goals as goal
 
 pub returns-clause-left : goal.returns-clause-left

@@ -1,5 +1,5 @@
 -- By all that the two legs have in common so far.
-use Rattle.law_live.proofs.RoundsAnswersSameLaws.{later}
+use Rattle.law_live.proofs.SamePastRoundAndAnswerLaws.{later}
 use Rattle.law_live.proofs.what_comes_later.later_law.Goals as goal
 
 pub returns-clause-counts : goal.returns-clause-counts

@@ -1,5 +1,6 @@
 -- By rounds, and by sayings.
-use Rattle.law_live.proofs.AgreesLiveCountsLaws.{agrees-refused, agrees-times, answers-got, answers-steps, answers-times}
+use Rattle.law_live.proofs.AgreeingLegConversationLaws.{agrees-refused, agrees-times, answers-got, answers-steps}
+use Rattle.law_live.proofs.AgreeingLegConversationLaws.{answers-times}
 use Rattle.law_live.proofs.what_is_answered.answer_law.Goals as goal
 
 pub returns-clause-got : goal.returns-clause-got

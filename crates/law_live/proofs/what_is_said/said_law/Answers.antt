@@ -1,7 +1,7 @@
 -- By how it stands after each saying.
 use Rattle.std.proofs.Common.{refl}
-use Rattle.law_live.proofs.WellSaidRightWindowsLaws.{said-failures, said-lines, said-passed, said-sound, said-valid}
-use Rattle.law_live.proofs.WellSaidRightWindowsLaws.{ends-last}
+use Rattle.law_live.proofs.WellSaidLegAndWindowLaws.{said-failures, said-lines, said-passed, said-sound, said-valid}
+use Rattle.law_live.proofs.WellSaidLegAndWindowLaws.{ends-last}
 use Rattle.law_live.proofs.what_is_said.said_law.Goals as goal
 
 pub returns-clause-sound : goal.returns-clause-sound

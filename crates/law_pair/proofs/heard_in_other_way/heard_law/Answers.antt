@@ -1,5 +1,5 @@
 -- What is read in the packets of the other way.
-use Rattle.law_pair.proofs.WayOfScriptsLaws.{told-early, told-said, heard-told, silent-none, way-cells}
+use Rattle.law_pair.proofs.PairWayAndPacketLaws.{told-early, told-said, heard-told, silent-none, way-cells}
 use Rattle.law_pair.proofs.heard_in_other_way.heard_law.Goals as goal
 
 pub returns : goal.returns

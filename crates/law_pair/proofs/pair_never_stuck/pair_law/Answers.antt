@@ -1,8 +1,8 @@
 -- A pair in numbers.
-use Rattle.law_pair.proofs.PairGoingTickLaws.{pair-walks, pair-said, pair-together}
-use Rattle.law_pair.proofs.PairMadeRoundsLaws.{pair-moves, pair-ends, pair-drains, pair-begins, pair-steps, pair-waits}
-use Rattle.law_pair.proofs.PairMadeRoundsLaws.{pair-told, pair-turns, pair-stops}
-use Rattle.law_pair.proofs.PairGoingTickLaws.{pair-stalled}
+use Rattle.law_pair.proofs.ReachedPairAndStallLaws.{pair-walks, pair-said, pair-together}
+use Rattle.law_pair.proofs.PairMeasureAndDrainLaws.{pair-moves, pair-ends, pair-drains, pair-begins, pair-steps}
+use Rattle.law_pair.proofs.PairMeasureAndDrainLaws.{pair-waits, pair-told, pair-turns, pair-stops}
+use Rattle.law_pair.proofs.ReachedPairAndStallLaws.{pair-stalled}
 use Rattle.law_pair.proofs.pair_never_stuck.pair_law.Goals as goal
 
 pub returns : goal.returns

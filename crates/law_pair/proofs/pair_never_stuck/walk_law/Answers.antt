@@ -1,6 +1,6 @@
 -- The walk of a pair of scripts.
-use Rattle.law_pair.proofs.WayOfScriptsLaws.{has-pair-plan, there-walked, back-walked, there-taken, back-taken}
-use Rattle.law_pair.proofs.WayOfScriptsLaws.{there-report, back-report, delivered-same}
+use Rattle.law_pair.proofs.PairWayAndPacketLaws.{has-pair-plan, there-walked, back-walked, there-taken, back-taken}
+use Rattle.law_pair.proofs.PairWayAndPacketLaws.{there-report, back-report, delivered-same}
 use Rattle.law_pair.proofs.pair_never_stuck.walk_law.Goals as goal
 
 pub returns : goal.returns

@@ -1,6 +1,6 @@
 -- The ways of a pair.
 use Rattle.std.proofs.Common.{refl}
-use Rattle.law_pair.proofs.WayOfScriptsLaws.{way-sound, pair-turned, way-lost}
+use Rattle.law_pair.proofs.PairWayAndPacketLaws.{way-sound, pair-turned, way-lost}
 use Rattle.law_pair.proofs.ways_as_sessions.way_law.Goals as goal
 
 pub returns : goal.returns

@@ -1,5 +1,5 @@
 -- The lines of a script in numbers.
-use Rattle.law_progress.proofs.LineIsPathLaws.{is_decided, is_path, can_run-plan}
+use Rattle.law_progress.proofs.LinePathInNumbersLaws.{is_decided, is_path, can_run-plan}
 use Rattle.law_progress.proofs.line_in_numbers.line_law.Goals as goal
 
 pub returns : goal.returns

@@ -1,7 +1,7 @@
 -- A walk is never stuck.
-use Rattle.law_progress.proofs.MovesRoundDrainLaws.{reached-fits, inbox-fits, reached-ends}
-use Rattle.law_progress.proofs.StalledStaysLaws.{stalled-same}
-use Rattle.law_progress.proofs.MovesRoundDrainLaws.{walked-reached, reached-progress}
+use Rattle.law_progress.proofs.RoundProgressAndDrainLaws.{reached-fits, inbox-fits, reached-ends}
+use Rattle.law_progress.proofs.StalledEventLaws.{stalled-same}
+use Rattle.law_progress.proofs.RoundProgressAndDrainLaws.{walked-reached, reached-progress}
 use Rattle.law_progress.proofs.never_stuck.progress_law.Goals as goal
 
 pub returns : goal.returns

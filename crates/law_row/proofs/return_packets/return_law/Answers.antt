@@ -1,5 +1,5 @@
 -- The return packets of a session.
-use Rattle.law_row.proofs.LastWordReturnLaws.{told-said, is_packet, told_in-nibbles, said-nibbles}
+use Rattle.law_row.proofs.LastWordAndReturnPacketLaws.{told-said, is_packet, told_in-nibbles, said-nibbles}
 use Rattle.law_row.proofs.return_packets.return_law.Goals as goal
 
 pub returns-clause-told : goal.returns-clause-told

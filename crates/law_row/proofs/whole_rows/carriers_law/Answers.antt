@@ -1,6 +1,6 @@
 -- Which lines carry payload.
-use Rattle.law_row.proofs.RaisedSilentCarriersLaws.{carriers-known, carriers-stop}
-use Rattle.law_row.proofs.WholeRowStoppingLaws.{stopping-table, stopping-session, stopping-more}
+use Rattle.law_row.proofs.SilentLineAndKnownCarrierLaws.{carriers-known, carriers-stop}
+use Rattle.law_row.proofs.WholeRowAndStoppedSinkLaws.{stopping-table, stopping-session, stopping-more}
 use Rattle.law_row.proofs.whole_rows.carriers_law.Goals as goal
 
 pub returns-clause-carriers : goal.returns-clause-carriers

@@ -1,7 +1,6 @@
 -- The rows of a session.
 use Rattle.law_row.proofs.ActivePacketsLaws.{active_of-all}
-use Rattle.law_row.proofs.WholeRowStoppingLaws.{row-whole, row-stops}
-use Rattle.law_row.proofs.WholeRowStoppingLaws.{joined-dealt, row-payload}
+use Rattle.law_row.proofs.WholeRowAndStoppedSinkLaws.{row-whole, row-stops, joined-dealt, row-payload}
 use Rattle.law_row.proofs.whole_rows.row_law.Goals as goal
 
 pub returns-clause-active : goal.returns-clause-active

@@ -1,5 +1,5 @@
 -- A client that keeps to a bucket.
-use Rattle.law_service.proofs.BucketPlacedFramesLaws.{bucket-refused, bucket-backlog, bucket-delay}
+use Rattle.law_service.proofs.FrameEndAndBucketLaws.{bucket-refused, bucket-backlog, bucket-delay}
 use Rattle.law_service.proofs.client_within_a_bucket.bucket_law.Goals as goal
 
 pub returns : goal.returns

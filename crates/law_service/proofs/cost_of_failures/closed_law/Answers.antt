@@ -1,5 +1,5 @@
 -- The rows that failures spoil, in numbers.
-use Rattle.law_service.proofs.FailsOnceCostLaws.{cost-hit, cost-closed, cost-first}
+use Rattle.law_service.proofs.FailureCostInRowsLaws.{cost-hit, cost-closed, cost-first}
 use Rattle.law_service.proofs.cost_of_failures.closed_law.Goals as goal
 
 pub returns : goal.returns

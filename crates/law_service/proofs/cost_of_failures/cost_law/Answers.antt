@@ -1,5 +1,5 @@
 -- Which rows failures cost, and when lines are in use again.
-use Rattle.law_service.proofs.FailsOnceCostLaws.{cost-rows, cost-together, cost-bill, cost-back, cost-others}
+use Rattle.law_service.proofs.FailureCostInRowsLaws.{cost-rows, cost-together, cost-bill, cost-back, cost-others}
 use Rattle.law_service.proofs.cost_of_failures.cost_law.Goals as goal
 
 pub returns : goal.returns

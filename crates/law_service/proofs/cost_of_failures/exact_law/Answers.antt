@@ -1,6 +1,5 @@
 -- The rows and the lines in use, exactly.
-use Rattle.law_service.proofs.FailsOnceCostLaws.{cost-spoiled, cost-exact, cost-told, cost-stands}
-use Rattle.law_service.proofs.FailsOnceCostLaws.{cost-unnoticed}
+use Rattle.law_service.proofs.FailureCostInRowsLaws.{cost-spoiled, cost-exact, cost-told, cost-stands, cost-unnoticed}
 use Rattle.law_service.proofs.cost_of_failures.exact_law.Goals as goal
 
 pub returns : goal.returns

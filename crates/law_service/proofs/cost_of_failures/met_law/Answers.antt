@@ -1,6 +1,6 @@
 -- A leg that meets what is asked.
-use Rattle.law_service.proofs.FullTimedCostlyLegsLaws.{costly-sound, costly-settled, costly-together, costly-has}
-use Rattle.law_service.proofs.FullTimedCostlyLegsLaws.{costly-were}
+use Rattle.law_service.proofs.WorkedServiceLegLaws.{costly-sound, costly-settled, costly-together, costly-has}
+use Rattle.law_service.proofs.WorkedServiceLegLaws.{costly-were}
 use Rattle.law_service.proofs.cost_of_failures.met_law.Goals as goal
 
 pub returns : goal.returns

@@ -1,5 +1,5 @@
 -- When no change is made.
-use Rattle.law_service.proofs.QuietNoChangeStatusLaws.{settled-still, unchanged-still}
+use Rattle.law_service.proofs.QuietStepAndKeptStatusLaws.{settled-still, unchanged-still}
 use Rattle.law_service.proofs.cost_of_failures.settled_law.Goals as goal
 
 pub returns : goal.returns

@@ -1,5 +1,5 @@
 -- Delays and rings cost time and no frame.
-use Rattle.law_service.proofs.WholeWalkTurnsDelaysLaws.{twin-report, twin-fates}
+use Rattle.law_service.proofs.RepeatedTurnAndDelayLaws.{twin-report, twin-fates}
 use Rattle.law_service.proofs.delays_cost_no_frame.twins_law.Goals as goal
 
 pub returns : goal.returns

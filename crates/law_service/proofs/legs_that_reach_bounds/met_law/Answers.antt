@@ -1,6 +1,7 @@
 -- Legs that meet what is asked.
 use Rattle.std.proofs.Common.{arith}
-use Rattle.law_service.proofs.FullTimedCostlyLegsLaws.{queued-sound, full-sound, full-keeps, twin-sound, timed-sound, timed-even}
+use Rattle.law_service.proofs.WorkedServiceLegLaws.{queued-sound, full-sound, full-keeps, twin-sound, timed-sound}
+use Rattle.law_service.proofs.WorkedServiceLegLaws.{timed-even}
 use Rattle.law_service.proofs.legs_that_reach_bounds.met_law.Goals as goal
 
 pub returns : goal.returns

@@ -1,6 +1,5 @@
 -- More rows take nothing back.
-use Rattle.law_service.proofs.FateKeepsHuntBehindLaws.{frame-keeps, number-keeps}
-use Rattle.law_service.proofs.FateKeepsHuntBehindLaws.{session-keeps, walk-keeps}
+use Rattle.law_service.proofs.FrameFateUnderMoreRowsLaws.{frame-keeps, number-keeps, session-keeps, walk-keeps}
 use Rattle.law_service.proofs.more_rows_keep_fates.kept_law.Goals as goal
 
 pub returns : goal.returns

@@ -1,6 +1,6 @@
 -- A walk goes by the clock.
-use Rattle.law_service.proofs.AtRoundCarriedLandedLaws.{clock, row-clock, rows-left, drain-clock}
-use Rattle.law_service.proofs.WholeWalkTurnsDelaysLaws.{leg-keeps, leg-clock}
+use Rattle.law_service.proofs.ClockedWalkRoundLaws.{clock, row-clock, rows-left, drain-clock}
+use Rattle.law_service.proofs.RepeatedTurnAndDelayLaws.{leg-keeps, leg-clock}
 use Rattle.law_service.proofs.walk_by_the_clock.clock_law.Goals as goal
 
 pub returns : goal.returns

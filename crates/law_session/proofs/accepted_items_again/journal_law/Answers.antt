@@ -1,6 +1,6 @@
 -- What was accepted, by itself.
-use Rattle.law_session.proofs.LandedAcceptedStreamAlikeLaws.{orders_land, offers_land}
-use Rattle.law_session.proofs.LandedAcceptedStreamAlikeLaws.{after-replayed, stream-replayed, orders-again, offers-again}
+use Rattle.law_session.proofs.ClientStreamAndReplayLaws.{orders_land, offers_land}
+use Rattle.law_session.proofs.ClientStreamAndReplayLaws.{after-replayed, stream-replayed, orders-again, offers-again}
 use Rattle.law_session.proofs.accepted_items_again.journal_law.Goals as goal
 
 pub returns-clause-tables : goal.returns-clause-tables

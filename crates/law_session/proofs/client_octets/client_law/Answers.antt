@@ -1,7 +1,7 @@
 -- The client's stream.
-use Rattle.law_session.proofs.CellsSaidStatusKeptLaws.{Agree-first}
-use Rattle.law_session.proofs.LandedAcceptedStreamAlikeLaws.{stream_before-frames, stream_before-reaches, stream_before-fewest}
-use Rattle.law_session.proofs.LandedAcceptedStreamAlikeLaws.{stream_before-agree, payload-length}
+use Rattle.law_session.proofs.ReturnCellAndLineWordLaws.{Agree-first}
+use Rattle.law_session.proofs.ClientStreamAndReplayLaws.{stream_before-frames, stream_before-reaches}
+use Rattle.law_session.proofs.ClientStreamAndReplayLaws.{stream_before-fewest, stream_before-agree, payload-length}
 use Rattle.law_session.proofs.client_octets.client_law.Goals as goal
 
 pub returns-clause-frames : goal.returns-clause-frames

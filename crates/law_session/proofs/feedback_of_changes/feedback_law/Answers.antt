@@ -1,8 +1,7 @@
 -- What a return packet tells of.
 use Rattle.law_model.specs.Common.{cells_before}
-use Rattle.law_session.proofs.CellsSaidStatusKeptLaws.{session-law, session-kept}
-use Rattle.law_session.proofs.CellsSaidStatusKeptLaws.{feedback, same_lines, one_count}
-use Rattle.law_session.proofs.FreshStatusGoesOutLaws.{acts_on}
+use Rattle.law_session.proofs.ReturnCellAndLineWordLaws.{session-law, session-kept, feedback, same_lines, one_count}
+use Rattle.law_session.proofs.FreshStatusLaws.{acts_on}
 use Rattle.law_session.proofs.feedback_of_changes.feedback_law.Goals as goal
 
 pub returns-clause-whole_count : goal.returns-clause-whole_count

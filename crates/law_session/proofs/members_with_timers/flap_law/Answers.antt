@@ -1,5 +1,5 @@
 -- Out and back, in rows.
-use Rattle.law_session.proofs.FailedLineCarriesLaws.{rows-out, rows-back}
+use Rattle.law_session.proofs.FailedLinePayloadLaws.{rows-out, rows-back}
 use Rattle.law_session.proofs.members_with_timers.flap_law.Goals as goal
 
 pub returns-clause-out : goal.returns-clause-out

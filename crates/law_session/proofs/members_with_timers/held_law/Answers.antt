@@ -1,9 +1,8 @@
 -- A member that is held.
 use Rattle.law_model.specs.Common.{cells_before}
-use Rattle.law_session.proofs.CellsSaidStatusKeptLaws.{session-law}
-use Rattle.law_session.proofs.CellsSaidStatusKeptLaws.{word-here}
-use Rattle.law_session.proofs.FreshStatusGoesOutLaws.{out-why, back-why}
-use Rattle.law_session.proofs.HeldLineStatusRoundLaws.{held-used}
+use Rattle.law_session.proofs.ReturnCellAndLineWordLaws.{session-law, word-here}
+use Rattle.law_session.proofs.FreshStatusLaws.{out-why, back-why}
+use Rattle.law_session.proofs.HeldLineAndStatusRoundLaws.{held-used}
 use Rattle.law_session.proofs.members_with_timers.held_law.Goals as goal
 
 pub returns-clause-word : goal.returns-clause-word

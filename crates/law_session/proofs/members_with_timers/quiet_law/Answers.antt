@@ -1,8 +1,8 @@
 -- How often a member goes out of use.
 use Rattle.std.proofs.Common.{arith}
 use Rattle.law_model.specs.Common.{cells_before, packets, session_cells}
-use Rattle.law_session.proofs.CellsSaidStatusKeptLaws.{session-law}
-use Rattle.law_session.proofs.FallsTimesOutLaws.{goes-out, times-few, times-session}
+use Rattle.law_session.proofs.ReturnCellAndLineWordLaws.{session-law}
+use Rattle.law_session.proofs.LineFallCountLaws.{goes-out, times-few, times-session}
 use Rattle.law_session.proofs.members_with_timers.quiet_law.Goals as goal
 
 pub returns-clause-step : goal.returns-clause-step

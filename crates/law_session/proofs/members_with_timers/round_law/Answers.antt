@@ -1,7 +1,7 @@
 -- Out and back, in packets.
 use Rattle.law_model.specs.Common.{cells_before}
-use Rattle.law_session.proofs.CellsSaidStatusKeptLaws.{session-law}
-use Rattle.law_session.proofs.HeldLineStatusRoundLaws.{never-used, round-out, round-back, round-used}
+use Rattle.law_session.proofs.ReturnCellAndLineWordLaws.{session-law}
+use Rattle.law_session.proofs.HeldLineAndStatusRoundLaws.{never-used, round-out, round-back, round-used}
 use Rattle.law_session.proofs.members_with_timers.round_law.Goals as goal
 
 pub returns-clause-out : goal.returns-clause-out

@@ -1,5 +1,5 @@
 -- Which packets of a line count.
-use Rattle.law_session.proofs.UpReadableHeardLaws.{up-is, up-plain, up-prefix, last-read}
+use Rattle.law_session.proofs.UpLineAndReadablePacketLaws.{up-is, up-plain, up-prefix, last-read}
 use Rattle.law_session.proofs.members_with_timers.up_law.Goals as goal
 
 pub returns-clause-up : goal.returns-clause-up

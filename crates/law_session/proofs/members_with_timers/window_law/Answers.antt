@@ -1,5 +1,5 @@
 -- Failures in containers.
-use Rattle.law_session.proofs.FailedLineCarriesLaws.{gaps-down, short-held, window-packets, window-spoils}
+use Rattle.law_session.proofs.FailedLinePayloadLaws.{gaps-down, short-held, window-packets, window-spoils}
 use Rattle.law_session.proofs.members_with_timers.window_law.Goals as goal
 
 pub returns-clause-short : goal.returns-clause-short

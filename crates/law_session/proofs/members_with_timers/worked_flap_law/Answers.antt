@@ -11,7 +11,7 @@ use Rattle.law_model.specs.declared.lcas_states.Command.TheVariants.{Remove as r
 use Rattle.law_model.specs.source.Source.{carried as carried_out}
 use Rattle.law_session.specs.LineInUse.{HasLimits}
 use Rattle.law_session.specs.WorkedFlaps.{dearest}
-use Rattle.law_session.proofs.UpReadableHeardLaws.{range-each}
+use Rattle.law_session.proofs.UpLineAndReadablePacketLaws.{range-each}
 use Rattle.law_session.proofs.members_with_timers.worked_flap_law.Goals as goal
 
 -- a number of packets of the line from one on can't be read

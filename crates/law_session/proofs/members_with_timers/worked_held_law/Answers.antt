@@ -7,7 +7,7 @@ use Rattle.law_model.specs.Common.{are_whole, keep, none_kept, admit, turned, ta
 use Rattle.law_model.specs.Common.{cells_before, is_read, is_up, last_read}
 use Rattle.law_session.specs.TimedMembers.{MissesFew}
 use Rattle.law_session.specs.WorkedFlaps.{held_line}
-use Rattle.law_session.proofs.UpReadableHeardLaws.{range-each}
+use Rattle.law_session.proofs.UpLineAndReadablePacketLaws.{range-each}
 use Rattle.law_session.proofs.members_with_timers.worked_held_law.Goals as goal
 
 all-read : list_all (is_read (held_line 2) 1) (range_with_len 65 16) ≡ true

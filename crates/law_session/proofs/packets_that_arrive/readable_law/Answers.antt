@@ -1,5 +1,5 @@
 -- What arrives whole.
-use Rattle.law_session.proofs.UpReadableHeardLaws.{good-whole, readable-whole, heard-line}
+use Rattle.law_session.proofs.UpLineAndReadablePacketLaws.{good-whole, readable-whole, heard-line}
 use Rattle.law_session.proofs.packets_that_arrive.readable_law.Goals as goal
 
 pub returns-clause-good : goal.returns-clause-good

@@ -1,5 +1,5 @@
 -- The cells of a session.
-use Rattle.law_session.proofs.CellsSaidStatusKeptLaws.{session-cell, cells_before-prefix, table_of-take}
+use Rattle.law_session.proofs.ReturnCellAndLineWordLaws.{session-cell, cells_before-prefix, table_of-take}
 use Rattle.law_session.proofs.return_cells.session_law.Goals as goal
 
 pub returns-clause-cells : goal.returns-clause-cells

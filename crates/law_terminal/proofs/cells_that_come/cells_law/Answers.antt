@@ -1,6 +1,6 @@
 -- What has come of the lines.
-use Rattle.law_terminal.proofs.ComeOfLinesLaws.{given-whole, has-packets, tells-row}
-use Rattle.law_terminal.proofs.IsCourseAgreeLaws.{comes-first}
+use Rattle.law_terminal.proofs.ArrivedCellAndRowLaws.{given-whole, has-packets, tells-row}
+use Rattle.law_terminal.proofs.SessionCourseLaws.{comes-first}
 use Rattle.law_terminal.proofs.cells_that_come.cells_law.Goals as goal
 
 pub returns : goal.returns

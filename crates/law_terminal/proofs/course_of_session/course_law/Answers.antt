@@ -1,7 +1,6 @@
 -- A course is the session's.
-use Rattle.law_terminal.proofs.IsCourseAgreeLaws.{course-returns}
-use Rattle.law_terminal.proofs.IsCourseAgreeLaws.{course-containers, course-come, course-rows, course-carriers, course-cell}
-use Rattle.law_terminal.proofs.IsCourseAgreeLaws.{course-packet}
+use Rattle.law_terminal.proofs.SessionCourseLaws.{course-returns, course-containers, course-come, course-rows}
+use Rattle.law_terminal.proofs.SessionCourseLaws.{course-carriers, course-cell, course-packet}
 use Rattle.law_terminal.proofs.course_of_session.course_law.Goals as goal
 
 pub returns : goal.returns

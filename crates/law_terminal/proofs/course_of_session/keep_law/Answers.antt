@@ -1,5 +1,5 @@
 -- Each event keeps a course.
-use Rattle.law_terminal.proofs.IsCourseAgreeLaws.{course-opens, course-ticks, course-comes, course-backs}
+use Rattle.law_terminal.proofs.SessionCourseLaws.{course-opens, course-ticks, course-comes, course-backs}
 use Rattle.law_terminal.proofs.course_of_session.keep_law.Goals as goal
 
 pub returns : goal.returns

@@ -1,5 +1,5 @@
 -- A course by the session's own return cells.
-use Rattle.law_terminal.proofs.IsCourseAgreeLaws.{frame-same, source-same, stream-same, next-cell}
+use Rattle.law_terminal.proofs.SessionCourseLaws.{frame-same, source-same, stream-same, next-cell}
 use Rattle.law_terminal.proofs.course_of_session.loop_law.Goals as goal
 
 pub returns : goal.returns

@@ -1,5 +1,5 @@
 -- What the sink makes of what has come.
-use Rattle.law_terminal.proofs.ComeOfLinesLaws.{row-told, row-stopped, carriers-told, back-told, packet-told}
+use Rattle.law_terminal.proofs.ArrivedCellAndRowLaws.{row-told, row-stopped, carriers-told, back-told, packet-told}
 use Rattle.law_terminal.proofs.rows_and_returns.rows_law.Goals as goal
 
 pub returns : goal.returns

@@ -1,8 +1,7 @@
 -- Without a failure.
 use Rattle.std.proofs.Common.{arith}
-use Rattle.law_walk.proofs.WalkPlanSessionLaws.{sound-walks}
-use Rattle.law_walk.proofs.AcceptedFramesDrainedLaws.{counts-within}
-use Rattle.law_walk.proofs.AcceptedFramesDrainedLaws.{fine-carried, fine-first, fine-drained}
+use Rattle.law_walk.proofs.WalkPlanAndPoppedCellLaws.{sound-walks}
+use Rattle.law_walk.proofs.AcceptedFrameAndDrainedWalkLaws.{counts-within, fine-carried, fine-first, fine-drained}
 use Rattle.law_walk.proofs.frames_delivered.delivery_law.Goals as goal
 
 pub returns-clause-carried : goal.returns-clause-carried

@@ -1,6 +1,5 @@
 -- The frames of the rows that were taken.
-use Rattle.law_walk.proofs.DeliveredFramesShorterLaws.{delivered-few}
-use Rattle.law_walk.proofs.DeliveredFramesShorterLaws.{frames-received, frames-grow}
+use Rattle.law_walk.proofs.DeliveredFrameCountLaws.{delivered-few, frames-received, frames-grow}
 use Rattle.law_walk.proofs.frames_delivered.frames_law.Goals as goal
 
 pub returns-clause-received : goal.returns-clause-received

@@ -1,7 +1,7 @@
 -- What has landed.
 use Rattle.std.proofs.Common.{arith}
-use Rattle.law_walk.proofs.LandedAheadInsertedRefusalsLaws.{frame-dues, command-dues, frame-waits, command-waits, frames-landed, orders-landed}
-use Rattle.law_walk.proofs.LandedAheadInsertedRefusalsLaws.{offer-at, order-at}
+use Rattle.law_walk.proofs.LandedItemRefusalAndTotalLaws.{frame-dues, command-dues, frame-waits, command-waits}
+use Rattle.law_walk.proofs.LandedItemRefusalAndTotalLaws.{frames-landed, orders-landed, offer-at, order-at}
 use Rattle.law_walk.proofs.items_that_landed.landing_law.Goals as goal
 
 pub returns-clause-frame_dues : goal.returns-clause-frame_dues

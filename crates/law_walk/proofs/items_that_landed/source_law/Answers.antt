@@ -1,5 +1,6 @@
 -- What the source was told.
-use Rattle.law_walk.proofs.LandedAheadInsertedRefusalsLaws.{told-tables, told-streams, told-frames, meets-stream, meets-source}
+use Rattle.law_walk.proofs.LandedItemRefusalAndTotalLaws.{told-tables, told-streams, told-frames, meets-stream}
+use Rattle.law_walk.proofs.LandedItemRefusalAndTotalLaws.{meets-source}
 use Rattle.law_walk.proofs.items_that_landed.source_law.Goals as goal
 
 pub returns-clause-tables : goal.returns-clause-tables

@@ -1,6 +1,6 @@
 -- Legs that meet what is asked.
-use Rattle.law_walk.proofs.FailingSilentNearLegsLaws.{failing-sound, failing-starts, failing-adds, silent-sound, silent-adds}
-use Rattle.law_walk.proofs.FailingSilentNearLegsLaws.{near-sound, near-alone}
+use Rattle.law_walk.proofs.WorkedFailureLegLaws.{failing-sound, failing-starts, failing-adds, silent-sound}
+use Rattle.law_walk.proofs.WorkedFailureLegLaws.{silent-adds, near-sound, near-alone}
 use Rattle.law_walk.proofs.legs_that_meet.met_law.Goals as goal
 
 pub returns-clause-failing : goal.returns-clause-failing

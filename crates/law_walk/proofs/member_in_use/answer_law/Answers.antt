@@ -1,9 +1,8 @@
 -- What a return packet answers.
 use Rattle.std.proofs.Common.{◌<◌, arith}
 use Rattle.law_model.specs.Common.{Scenario, scenario_by, packets, session_cells}
-use Rattle.law_session.proofs.CellsSaidStatusKeptLaws.{session-law, session-kept}
-use Rattle.law_session.proofs.CellsSaidStatusKeptLaws.{feedback, same_lines}
-use Rattle.law_session.proofs.FreshStatusGoesOutLaws.{acts_on}
+use Rattle.law_session.proofs.ReturnCellAndLineWordLaws.{session-law, session-kept, feedback, same_lines}
+use Rattle.law_session.proofs.FreshStatusLaws.{acts_on}
 use Rattle.law_walk.proofs.member_in_use.answer_law.Goals as goal
 
 pub returns-clause-whole_count : goal.returns-clause-whole_count

@@ -1,5 +1,5 @@
 -- When a line is in use.
-use Rattle.law_walk.proofs.AcceptedFramesDrainedLaws.{used-undamaged, used-among_silent}
+use Rattle.law_walk.proofs.AcceptedFrameAndDrainedWalkLaws.{used-undamaged, used-among_silent}
 use Rattle.law_walk.proofs.member_in_use.member_law.Goals as goal
 
 pub returns-clause-undamaged : goal.returns-clause-undamaged

@@ -1,6 +1,5 @@
 -- A line of a walk in numbers.
-use Rattle.law_walk.proofs.WalkPlanSessionLaws.{line-path}
-use Rattle.law_walk.proofs.WalkPlanSessionLaws.{line-first, line-open}
+use Rattle.law_walk.proofs.WalkPlanAndPoppedCellLaws.{line-path, line-first, line-open}
 use Rattle.law_walk.proofs.plan_of_walk.line_law.Goals as goal
 
 pub returns-clause-path : goal.returns-clause-path

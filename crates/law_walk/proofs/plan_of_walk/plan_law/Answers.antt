@@ -1,5 +1,5 @@
 -- The plan of a leg's walk.
-use Rattle.law_walk.proofs.WalkPlanSessionLaws.{has-lines, has-plan, has-paths, sound-walks}
+use Rattle.law_walk.proofs.WalkPlanAndPoppedCellLaws.{has-lines, has-plan, has-paths, sound-walks}
 use Rattle.law_walk.proofs.plan_of_walk.plan_law.Goals as goal
 
 pub returns-clause-lines : goal.returns-clause-lines

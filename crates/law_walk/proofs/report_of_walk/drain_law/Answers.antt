@@ -1,10 +1,9 @@
 -- A walk is never stuck.
-use Rattle.law_progress.proofs.MovesRoundDrainLaws.{inbox-fits}
-use Rattle.law_progress.proofs.MovesRoundDrainLaws.{reached-progress}
+use Rattle.law_progress.proofs.RoundProgressAndDrainLaws.{inbox-fits, reached-progress}
 use Rattle.law_walk.specs.Common.{walk_plan}
-use Rattle.law_walk.proofs.WalkPlanSessionLaws.{has-plan}
-use Rattle.law_walk.proofs.AcceptedFramesDrainedLaws.{drain-ends}
-use Rattle.law_walk.proofs.AcceptedFramesDrainedLaws.{counts-within, drained-ticks, drained-landed, drained-accepted, drained-report}
+use Rattle.law_walk.proofs.WalkPlanAndPoppedCellLaws.{has-plan}
+use Rattle.law_walk.proofs.AcceptedFrameAndDrainedWalkLaws.{drain-ends, counts-within, drained-ticks, drained-landed}
+use Rattle.law_walk.proofs.AcceptedFrameAndDrainedWalkLaws.{drained-accepted, drained-report}
 use Rattle.law_walk.proofs.report_of_walk.drain_law.Goals as goal
 
 pub returns-clause-moves : goal.returns-clause-moves

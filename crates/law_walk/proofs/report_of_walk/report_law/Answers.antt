@@ -1,5 +1,5 @@
 -- What an item adds to the report.
-use Rattle.law_walk.proofs.LandedAheadInsertedRefusalsLaws.{frame-placed, command-placed, frame-totals, command-totals}
+use Rattle.law_walk.proofs.LandedItemRefusalAndTotalLaws.{frame-placed, command-placed, frame-totals, command-totals}
 use Rattle.law_walk.proofs.report_of_walk.report_law.Goals as goal
 
 pub returns-clause-frame : goal.returns-clause-frame

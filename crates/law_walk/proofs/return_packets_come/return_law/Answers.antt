@@ -1,6 +1,7 @@
 -- The return path.
-use Rattle.law_walk.proofs.RingsInboxFirstOpenLaws.{all-longer, all-decided, packet-said, packet-is, cell-told, cells-next}
-use Rattle.law_walk.proofs.RingsInboxFirstOpenLaws.{packets-next, used-next, ring-says, ring-goes, inbox-comes, inbox-taken}
+use Rattle.law_walk.proofs.WalkRingAndWaitingTakeLaws.{all-longer, all-decided, packet-said, packet-is, cell-told}
+use Rattle.law_walk.proofs.WalkRingAndWaitingTakeLaws.{cells-next, packets-next, used-next, ring-says, ring-goes}
+use Rattle.law_walk.proofs.WalkRingAndWaitingTakeLaws.{inbox-comes, inbox-taken}
 use Rattle.law_walk.proofs.return_packets_come.return_law.Goals as goal
 
 pub returns-clause-longer : goal.returns-clause-longer

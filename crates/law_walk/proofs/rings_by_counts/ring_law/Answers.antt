@@ -1,7 +1,8 @@
 -- The rings of a line.
-use Rattle.law_walk.proofs.WalkPlanSessionLaws.{line-fits}
-use Rattle.law_walk.proofs.RingsInboxFirstOpenLaws.{lines-size, taken-cells, send-size, send-made, send-next, taken-next, receive-size}
-use Rattle.law_walk.proofs.RingsInboxFirstOpenLaws.{receive-gives, receive-pops, popped-next}
+use Rattle.law_walk.proofs.WalkPlanAndPoppedCellLaws.{line-fits}
+use Rattle.law_walk.proofs.WalkRingAndWaitingTakeLaws.{lines-size, taken-cells, send-size, send-made, send-next}
+use Rattle.law_walk.proofs.WalkRingAndWaitingTakeLaws.{taken-next, receive-size}
+use Rattle.law_walk.proofs.WalkRingAndWaitingTakeLaws.{receive-gives, receive-pops, popped-next}
 use Rattle.law_walk.proofs.rings_by_counts.ring_law.Goals as goal
 
 pub returns-clause-lines : goal.returns-clause-lines

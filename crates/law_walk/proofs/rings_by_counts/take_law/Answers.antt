@@ -1,5 +1,5 @@
 -- What the popped cells decide.
-use Rattle.law_walk.proofs.RingsInboxFirstOpenLaws.{first-open, none-open, take-waits}
+use Rattle.law_walk.proofs.WalkRingAndWaitingTakeLaws.{first-open, none-open, take-waits}
 use Rattle.law_walk.proofs.rings_by_counts.take_law.Goals as goal
 
 pub returns-clause-waiting : goal.returns-clause-waiting

@@ -1,5 +1,5 @@
 -- The last decision step.
-use Rattle.law_walk.proofs.RingsInboxFirstOpenLaws.{last-next, used-now, packet-now, said-ends, table-now}
+use Rattle.law_walk.proofs.WalkRingAndWaitingTakeLaws.{last-next, used-now, packet-now, said-ends, table-now}
 use Rattle.law_walk.proofs.walks_as_session.step_law.Goals as goal
 
 pub returns-clause-last : goal.returns-clause-last

@@ -1,8 +1,9 @@
 -- A walk is a course of the session.
-use Rattle.law_progress.proofs.MovesRoundDrainLaws.{walked-reached}
+use Rattle.law_progress.proofs.RoundProgressAndDrainLaws.{walked-reached}
 use Rattle.law_walk.specs.Common.{walk_plan}
-use Rattle.law_walk.proofs.WalkPlanSessionLaws.{begins-walked, steps-walked, drains-walked, is-course, sources-are, streams-are}
-use Rattle.law_walk.proofs.WalkPlanSessionLaws.{frames-are, cells-come, cells-decide, rows-are, carriers-are, backs-are}
+use Rattle.law_walk.proofs.WalkPlanAndPoppedCellLaws.{begins-walked, steps-walked, drains-walked, is-course}
+use Rattle.law_walk.proofs.WalkPlanAndPoppedCellLaws.{sources-are, streams-are, frames-are, cells-come, cells-decide}
+use Rattle.law_walk.proofs.WalkPlanAndPoppedCellLaws.{rows-are, carriers-are, backs-are}
 use Rattle.law_walk.proofs.walks_as_session.walk_law.Goals as goal
 
 pub returns-clause-frames : goal.returns-clause-frames

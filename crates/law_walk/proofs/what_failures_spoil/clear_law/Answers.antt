@@ -1,5 +1,5 @@
 -- Rows that a failure leaves whole.
-use Rattle.law_walk.proofs.ClearWholeConfirmsLaws.{clear-whole, row-whole, delivered-before, whole-starts}
+use Rattle.law_walk.proofs.WholeRowDespiteFailureLaws.{clear-whole, row-whole, delivered-before, whole-starts}
 use Rattle.law_walk.proofs.what_failures_spoil.clear_law.Goals as goal
 
 pub returns-clause-clear : goal.returns-clause-clear

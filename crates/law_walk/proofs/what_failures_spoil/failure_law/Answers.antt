@@ -1,13 +1,12 @@
 -- With failures.
 use Rattle.std.proofs.Common.{slice_index_or, arith}
 use Rattle.law_model.specs.Common.{segments, Extent}
-use Rattle.law_loss.proofs.SegmentsOfRowsAddedLaws.{Stands-all}
-use Rattle.law_loss.proofs.GivenLostKeptLaws.{way_of, lost_of}
-use Rattle.law_loss.proofs.FrameExtentsFilterLaws.{extents-between}
+use Rattle.law_loss.proofs.SegmentsOfAddedRowsLaws.{Stands-all}
+use Rattle.law_loss.proofs.GivenAndLostFrameLaws.{way_of, lost_of}
+use Rattle.law_loss.proofs.ClientFrameExtentLaws.{extents-between}
 use Rattle.law_walk.specs.Common.{session_rows, session_pieces, session_extents}
-use Rattle.law_walk.proofs.WalkPlanSessionLaws.{sound-walks}
-use Rattle.law_walk.proofs.AcceptedFramesDrainedLaws.{counts-within}
-use Rattle.law_walk.proofs.AcceptedFramesDrainedLaws.{frames-kept, frames-known}
+use Rattle.law_walk.proofs.WalkPlanAndPoppedCellLaws.{sound-walks}
+use Rattle.law_walk.proofs.AcceptedFrameAndDrainedWalkLaws.{counts-within, frames-kept, frames-known}
 use Rattle.law_walk.proofs.what_failures_spoil.failure_law.Goals as goal
 
 pub returns-clause-kept : goal.returns-clause-kept

@@ -1,5 +1,5 @@
 -- Rows that a failure of one line alone leaves whole.
-use Rattle.law_walk.proofs.ClearWholeConfirmsLaws.{near-whole, behind-whole}
+use Rattle.law_walk.proofs.WholeRowDespiteFailureLaws.{near-whole, behind-whole}
 use Rattle.law_walk.proofs.what_failures_spoil.near_law.Goals as goal
 
 pub returns-clause-near : goal.returns-clause-near

@@ -1,5 +1,5 @@
 -- Where what is confirmed is true.
-use Rattle.law_walk.proofs.ClearWholeConfirmsLaws.{aligned-true, quiet-true}
+use Rattle.law_walk.proofs.WholeRowDespiteFailureLaws.{aligned-true, quiet-true}
 use Rattle.law_walk.proofs.what_failures_spoil.start_law.Goals as goal
 
 pub returns-clause-aligned : goal.returns-clause-aligned

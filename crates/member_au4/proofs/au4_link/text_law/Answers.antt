@@ -1,5 +1,5 @@
 -- By the lines of the text, and the law of pointers.
-use Rattle.member_au4.proofs.LinkDraftActionLaws.{valid_link, link-taken, link-given, link-written}
+use Rattle.member_au4.proofs.LinkDraftAndActionLaws.{valid_link, link-taken, link-given, link-written}
 use Rattle.member_au4.proofs.au4_link.text_law.Goals as goal
 
 pub returns-clause-valid : goal.returns-clause-valid

@@ -3,7 +3,8 @@ use Rattle.std.proofs.Common.{◌≡◌, ◌+◌, ◌*◌, ◌/◌, ◌%◌, [],
 use Rattle.member_path.specs.declared.h4_multiframe.Place.TheVariants.{Locks, At}
 use Rattle.member_path.specs.h4_multiframe.MultiframePlace.{IsPlace}
 use Rattle.member_path.specs.h4_multiframe.LockState.{LockStands}
-use Rattle.member_path.proofs.LineNumbersLockLaws.{locks_place, at_place, unlocked_unknown, begun_unknown, locked_unknown}
+use Rattle.member_path.proofs.LineNumbersAfterCellLaws.{locks_place, at_place, unlocked_unknown, begun_unknown}
+use Rattle.member_path.proofs.LineNumbersAfterCellLaws.{locked_unknown}
 use Rattle.member_path.proofs.h4_multiframe.place_of.Goals as goal
 
 pub returns-in-Unlocked : goal.returns-in-Unlocked

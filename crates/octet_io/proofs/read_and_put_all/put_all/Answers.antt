@@ -2,7 +2,7 @@
 use Rattle.std.proofs.Common.{arith}
 use Rattle.std.proofs.lemmas.Grind.{common_steps}
 use Rattle.std.proofs.lemmas.List.{take_rest}
-use Rattle.octet_io.proofs.AppendedPartsLaws.{Appends-more, AppendsPart-stop}
+use Rattle.octet_io.proofs.AppendedTextAndPrefixLaws.{Appends-more, AppendsPart-stop}
 use Rattle.octet_io.proofs.read_and_put_all.put_all.Goals as goal
 
 pub loop-at-preserved : goal.loop-at-preserved

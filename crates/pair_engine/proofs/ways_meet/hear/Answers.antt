@@ -2,7 +2,7 @@
 use Rattle.std.proofs.Common.{arith}
 use Rattle.law_model.specs.session.Scenario.{packets_in}
 use Rattle.law_pair.specs.Common.{way_of}
-use Rattle.pair_engine.proofs.RowTakenAndHeardLaws.{put-room, hears-late, hears-early}
+use Rattle.pair_engine.proofs.TakenRowAndHeardPacketLaws.{put-room, hears-late, hears-early}
 use Rattle.pair_engine.proofs.ways_meet.hear.Goals as goal
 
 pub put-requires-clause-room : goal.put-requires-clause-room

@@ -2,7 +2,8 @@
 use Rattle.std.proofs.Common.{arith}
 use Rattle.law_model.specs.session.Scenario.{packets_in}
 use Rattle.pair_engine.specs.Ways.{leg_beside}
-use Rattle.pair_engine.proofs.RowTakenAndHeardLaws.{done-row, tries, waits-row, quiet-row, say-room, said-ends, said-row}
+use Rattle.pair_engine.proofs.TakenRowAndHeardPacketLaws.{done-row, tries, waits-row, quiet-row, say-room, said-ends}
+use Rattle.pair_engine.proofs.TakenRowAndHeardPacketLaws.{said-row}
 use Rattle.pair_engine.proofs.ways_meet.take_way_row.Goals as goal
 
 pub returns-then-row-own-clause-takes : goal.returns-then-row-own-clause-takes

@@ -2,8 +2,8 @@
 use Rattle.std.proofs.Common.{sym, ◌∙◌, ap, subst}
 use Rattle.pair_engine.specs.declared.pair_way.PairWay.{PairWay}
 use Rattle.pair_engine.specs.Ways.{pair_counts, IsPairWalk}
-use Rattle.pair_engine.proofs.PairTickAndToldLaws.{left_own, stands-for, left-for, cell-for, has-ticked, there-free}
-use Rattle.pair_engine.proofs.PairTickAndToldLaws.{back-free, both-counts, both-walk}
+use Rattle.pair_engine.proofs.PairTickAndToldPacketLaws.{left_own, stands-for, left-for, cell-for, has-ticked}
+use Rattle.pair_engine.proofs.PairTickAndToldPacketLaws.{there-free, back-free, both-counts, both-walk}
 use Rattle.pair_engine.proofs.ways_meet.tick_both.Goals as goal
 
 pub make-requires : goal.make-requires

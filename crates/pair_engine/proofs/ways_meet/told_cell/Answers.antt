@@ -3,7 +3,7 @@ use Rattle.std.proofs.Common.{◌∙◌, ap, arith}
 use Rattle.member_cells.specs.declared.containers_and_cells.BackCell.TheVariants.{Packet as Nibbles}
 use Rattle.law_model.specs.Common.{IsPacket, told_in}
 use Rattle.law_model.specs.declared.control_packet.Packet.{Packet}
-use Rattle.law_row.proofs.LastWordReturnLaws.{told_in-nibbles}
+use Rattle.law_row.proofs.LastWordAndReturnPacketLaws.{told_in-nibbles}
 use Rattle.pair_engine.proofs.ways_meet.told_cell.Goals as goal
 
 pub returns : goal.returns

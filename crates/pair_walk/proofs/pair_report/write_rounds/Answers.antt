@@ -2,10 +2,10 @@
 use Rattle.std.proofs.Common.{◌≡◌, true, false, refl, sym, ◌∙◌, ap, subst, arith}
 use Rattle.law_pair.specs.Common.{IsPair, PairPlan, is_over, pair_bound}
 use Rattle.law_pair.specs.declared.pair_events.Way.TheVariants.{There, Back}
-use Rattle.law_pair.proofs.PairMadeRoundsLaws.{pair-stops}
+use Rattle.law_pair.proofs.PairMeasureAndDrainLaws.{pair-stops}
 use Rattle.pair_engine.specs.PairAfterEvent.{Paired, leg_on, plan_of, with_counts}
 use Rattle.pair_engine.proofs.PairEventAndRoundLaws.{keeps, same-plan, round-more, gives-more}
-use Rattle.pair_engine.proofs.RowTakenAndHeardLaws.{gives-none}
+use Rattle.pair_engine.proofs.TakenRowAndHeardPacketLaws.{gives-none}
 use Rattle.pair_walk.proofs.PairReportRowsLaws.{more-then}
 use Rattle.pair_walk.proofs.pair_report.write_rounds.Goals as goal
 

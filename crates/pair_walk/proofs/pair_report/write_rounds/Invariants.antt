@@ -2,7 +2,7 @@
 use Rattle.std.proofs.Common.{◌≡◌, ◌-◌, false}
 use Rattle.law_pair.specs.Common.{pair_bound, pair_drained}
 use Rattle.law_pair.specs.declared.pair_events.Way.TheVariants.{There, Back}
-use Rattle.law_pair.proofs.PairMadeRoundsLaws.{pair_made}
+use Rattle.law_pair.proofs.PairMeasureAndDrainLaws.{pair_made}
 use Rattle.pair_engine.specs.PairAfterEvent.{plan_of, with_counts, GivesWay, MoreRows}
 use Rattle.pair_walk.specs.Rounds.{FewRows}
 use Rattle.pair_walk.proofs.pair_report.write_rounds.Given as goal

@@ -1,6 +1,6 @@
 -- Each of them is a law of what lands or of what comes.
-use Rattle.terminal_group.proofs.LandedRefusalsLaws.{placed-same}
-use Rattle.terminal_group.proofs.ReturnCellEarlyMissingLaws.{come-put, cell-there, takes, taken-more}
+use Rattle.terminal_group.proofs.RefusalOrderAndNextItemLaws.{placed-same}
+use Rattle.terminal_group.proofs.InboxReturnCellLaws.{come-put, cell-there, takes, taken-more}
 use Rattle.terminal_group.proofs.group_laws.source_law.Goals as goal
 
 pub returns : goal.returns

@@ -1,7 +1,7 @@
 -- The loop ends where the refusal before the place is of an item before this one.
 use Rattle.std.proofs.Common.{◌≡◌, ℕ, suc, ◌-◌, ◌<◌, ◌≤◌, take, subst, arith}
 use Rattle.terminal_group.specs.Landed.{AreBefore}
-use Rattle.terminal_group.proofs.LandedRefusalsLaws.{before-place}
+use Rattle.terminal_group.proofs.RefusalOrderAndNextItemLaws.{before-place}
 use Rattle.terminal_group.proofs.landed_items.place_among.Goals as goal
 
 pub returns-else-item-refusals-clause-before : goal.returns-else-item-refusals-clause-before

@@ -1,7 +1,7 @@
 -- The least item that is held is the next frame or the next command.
 use Rattle.std.proofs.Common.{slice_get, ap, ◌∙◌}
 use Rattle.terminal_group.specs.ItemPlaces.{due_by, least_held}
-use Rattle.terminal_group.proofs.ItemPlaceHeldLaws.{held-told}
+use Rattle.terminal_group.proofs.ItemPlaceAndHeldItemLaws.{held-told}
 use Rattle.terminal_group.proofs.landing_order.held_item.Goals as goal
 
 pub returns : goal.returns

@@ -2,7 +2,7 @@
 use Rattle.std.proofs.Common.{◌≡◌, length, sym, ◌∙◌, arith}
 use Rattle.law_model.proofs.ListLaws.{at-index}
 use Rattle.terminal_group.specs.ItemPlaces.{is_frame}
-use Rattle.terminal_group.proofs.ItemPlaceHeldLaws.{place-here, place-passed, place-none}
+use Rattle.terminal_group.proofs.ItemPlaceAndHeldItemLaws.{place-here, place-passed, place-none}
 use Rattle.terminal_group.proofs.landing_order.next_frame.Goals as goal
 
 pub returns-then-is_frame : goal.returns-then-is_frame

@@ -2,9 +2,8 @@
 use Rattle.std.proofs.Common.{◌≡◌, ◌+◌, ◌≤◌, ◌++◌, length, sym, ◌∙◌, ap, arith, length-append}
 use Rattle.law_model.specs.Common.{lines_at, active_from}
 use Rattle.terminal_sink.specs.active_lines.CarryingLines.{carrying}
-use Rattle.terminal_sink.proofs.ActiveSilentSupposedCarrierLaws.{active_from-none, active_from-more, active_from-fits}
-use Rattle.terminal_sink.proofs.ActiveSilentSupposedCarrierLaws.{carrying-fits}
-use Rattle.terminal_sink.proofs.ActiveSilentSupposedCarrierLaws.{active_of-found, found-lines}
+use Rattle.terminal_sink.proofs.ActiveLineAndSupposedCarrierLaws.{active_from-none, active_from-more, active_from-fits}
+use Rattle.terminal_sink.proofs.ActiveLineAndSupposedCarrierLaws.{carrying-fits, active_of-found, found-lines}
 use Rattle.terminal_sink.proofs.active_lines.find_active.Goals as goal
 
 pub loop-sq-init : goal.loop-sq-init

@@ -1,7 +1,7 @@
 -- There is room for one more line.
 use Rattle.std.proofs.Common.{length, drop, sym, ◌∙◌, ap, arith, length-append}
 use Rattle.law_model.specs.Common.{lines_at}
-use Rattle.terminal_sink.proofs.ActiveSilentSupposedCarrierLaws.{lines_at-here}
+use Rattle.terminal_sink.proofs.ActiveLineAndSupposedCarrierLaws.{lines_at-here}
 use Rattle.terminal_sink.proofs.active_lines.push_lines.Goals as goal
 
 pub push-requires : goal.push-requires

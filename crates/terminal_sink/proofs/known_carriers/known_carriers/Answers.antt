@@ -3,7 +3,7 @@ use Rattle.std.proofs.Common.{◌≡◌, ◌==◌, false, if◌then◌else◌, l
 use Rattle.std.proofs.lemmas.Bool.Decides.{nat_tests}
 use Rattle.law_model.specs.Common.{active_of}
 use Rattle.terminal_sink.specs.known_carriers.Supposed.{inferred_by}
-use Rattle.terminal_sink.proofs.ActiveSilentSupposedCarrierLaws.{known_by, carriers-row}
+use Rattle.terminal_sink.proofs.ActiveLineAndSupposedCarrierLaws.{known_by, carriers-row}
 use Rattle.terminal_sink.proofs.known_carriers.known_carriers.Goals as goal
 
 pub returns-else-len-from-clause-known : goal.returns-else-len-from-clause-known

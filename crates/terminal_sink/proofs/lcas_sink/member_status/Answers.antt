@@ -1,7 +1,7 @@
 -- One status more behind the bits so far, and none is left after eight.
 use Rattle.std.proofs.Common.{◌∙◌, arith}
 use Rattle.terminal_sink.specs.member_watch.Watches.{is_told}
-use Rattle.terminal_sink.proofs.MemberStatusReturnLaws.{status-first, status-more, status-small, status-last}
+use Rattle.terminal_sink.proofs.SinkStateAndMemberStatusLaws.{status-first, status-more, status-small, status-last}
 use Rattle.terminal_sink.proofs.lcas_sink.member_status.Goals as goal
 
 pub loop-place-init : goal.loop-place-init

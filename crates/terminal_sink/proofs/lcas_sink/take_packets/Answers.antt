@@ -1,6 +1,6 @@
 -- One line more has its next state.
 use Rattle.std.proofs.Common.{◌<◌, length, refl, arith}
-use Rattle.terminal_sink.proofs.MemberStatusReturnLaws.{upto-more}
+use Rattle.terminal_sink.proofs.SinkStateAndMemberStatusLaws.{upto-more}
 use Rattle.terminal_sink.proofs.lcas_sink.take_packets.Goals as goal
 
 pub loop-line-preserved : goal.loop-line-preserved

@@ -1,5 +1,5 @@
 -- Where the state SYNC begins.
-use Rattle.terminal_sink.proofs.ConfirmedMarkLaws.{sync-none, stays-none, is-confirmed}
+use Rattle.terminal_sink.proofs.ConfirmedPlaceAndMarkLaws.{sync-none, stays-none, is-confirmed}
 use Rattle.terminal_sink.proofs.marked_delineator.confirm_law.Goals as goal
 
 pub returns-clause-not_yet : goal.returns-clause-not_yet

@@ -1,7 +1,7 @@
 -- The course of a scenario's calls, field by field.
 use Rattle.std.proofs.Common.{ap}
 use Rattle.law_model.specs.Common.{Course}
-use Rattle.terminal_source.proofs.TableCourseLaws.{course-of_scenario}
+use Rattle.terminal_source.proofs.SourceTableCourseLaws.{course-of_scenario}
 use Rattle.terminal_source.proofs.lcas_source.course_law.Goals as goal
 
 pub returns : goal.returns

@@ -1,7 +1,7 @@
 -- PLI and its check have four octets; the rest is computed.
 use Rattle.std.proofs.Common.{refl, length}
 use Rattle.law_model.specs.Common.{bits, number_behind, add_front, divide, hec_of, client, area_of}
-use Rattle.text_captures.proofs.CaptureRowFramesLaws.{pattern-on}
+use Rattle.text_captures.proofs.WrittenCaptureFrameLaws.{pattern-on}
 use Rattle.text_captures.proofs.capture_file.gfp_law.Goals as goal
 
 pub returns-clause-header : goal.returns-clause-header

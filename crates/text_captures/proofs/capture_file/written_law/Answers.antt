@@ -1,5 +1,5 @@
 -- By the law of what is read back.
-use Rattle.text_captures.proofs.CaptureRowFramesLaws.{read-back}
+use Rattle.text_captures.proofs.WrittenCaptureFrameLaws.{read-back}
 use Rattle.text_captures.proofs.capture_file.written_law.Goals as goal
 
 pub returns : goal.returns

@@ -5,8 +5,8 @@ use Rattle.std.specs.Str.Lines.{lines}
 use Rattle.text_lines.specs.LineFaults.{IsTextFault}
 use Rattle.text_lines.specs.Language.{said_from}
 use Rattle.text_lines.specs.LanguageTable.{told, language_of, said_in}
-use Rattle.text_lines.proofs.LanguageLaws.{line_sound}
-use Rattle.text_lines.proofs.LanguageLaws.{line_stopped, end_stopped, end_said, is_missing, none_missing}
+use Rattle.text_lines.proofs.LineLanguageAndTableLaws.{line_sound}
+use Rattle.text_lines.proofs.LineLanguageAndTableLaws.{line_stopped, end_stopped, end_said, is_missing, none_missing}
 use Rattle.text_lines.proofs.read_by_table.read_text.Goals as goal
 
 pub loop-line-init : goal.loop-line-init

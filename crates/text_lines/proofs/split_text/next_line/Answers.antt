@@ -1,6 +1,6 @@
 -- A line that an LF ends, and the last one.
 use Rattle.std.proofs.Common.{◌<◌, length, arith, rules}
-use Rattle.text_lines.proofs.LinesWordsFieldsLaws.{lines_cut, lines_last}
+use Rattle.text_lines.proofs.TextLineAndWordLaws.{lines_cut, lines_last}
 use Rattle.text_lines.proofs.split_text.next_line.Goals as goal
 
 pub returns-in-Some-clause-some : goal.returns-in-Some-clause-some

@@ -1,5 +1,5 @@
 -- A line that an LF ends.
-use Rattle.text_lines.proofs.LinesWordsFieldsLaws.{lines_whole, rest_of}
+use Rattle.text_lines.proofs.TextLineAndWordLaws.{lines_whole, rest_of}
 use Rattle.text_lines.proofs.split_text.next_whole_line.Goals as goal
 
 pub returns-in-Some-clause-some : goal.returns-in-Some-clause-some

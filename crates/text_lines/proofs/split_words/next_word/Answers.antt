@@ -1,6 +1,6 @@
 -- A word that a space ends, and the last one.
 use Rattle.std.proofs.Common.{◌<◌, ◌≡◌, length, arith, rules}
-use Rattle.text_lines.proofs.LinesWordsFieldsLaws.{words_cut, words_last, words_nothing}
+use Rattle.text_lines.proofs.TextLineAndWordLaws.{words_cut, words_last, words_nothing}
 use Rattle.text_lines.proofs.split_words.next_word.Goals as goal
 
 pub returns-then-is_empty-clause-none : goal.returns-then-is_empty-clause-none

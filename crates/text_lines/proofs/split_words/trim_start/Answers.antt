@@ -1,6 +1,6 @@
 -- One space on.
 use Rattle.std.proofs.Common.{arith, ◌∙◌}
-use Rattle.text_lines.proofs.LinesWordsFieldsLaws.{words_later}
+use Rattle.text_lines.proofs.TextLineAndWordLaws.{words_later}
 use Rattle.text_lines.proofs.split_words.trim_start.Goals as goal
 
 pub loop-text-preserved : goal.loop-text-preserved

@@ -1,7 +1,7 @@
 -- A character that is no digit, and the end.
 use Rattle.std.proofs.Common.{ℕ, List, arith}
 use Rattle.hex.proofs.HexLemmas.{decode_of-digits}
-use Rattle.text_live.proofs.LiveReaderKeepsLaws.{other_refused, digits_more, digits_all}
+use Rattle.text_live.proofs.LiveReaderStateLaws.{other_refused, digits_more, digits_all}
 use Rattle.text_live.proofs.frame_digits.is_hex.Goals as goal
 
 pub returns-then-not-is_ascii_hexdigit-clause-no : goal.returns-then-not-is_ascii_hexdigit-clause-no

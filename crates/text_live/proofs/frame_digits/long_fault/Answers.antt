@@ -1,5 +1,5 @@
 -- Digits alone, and too many.
-use Rattle.text_live.proofs.LiveReaderKeepsLaws.{long_size}
+use Rattle.text_live.proofs.LiveReaderStateLaws.{long_size}
 use Rattle.text_live.proofs.frame_digits.long_fault.Goals as goal
 
 pub returns-then-is_hex : goal.returns-then-is_hex

@@ -5,7 +5,7 @@ use Rattle.std.proofs.lemmas.Option.{slice_get_read, slice_get_within}
 use Rattle.law_model.specs.Common.{Container}
 use Rattle.member_rows.proofs.RowGatherLinesLaws.{set-here, set-other}
 use Rattle.thread_rings.specs.EndsOfRing.{OutEnd, out_free}
-use Rattle.thread_group.proofs.LaidAndLookedEndsLaws.{set-there, has-looked, looked-set}
+use Rattle.thread_group.proofs.GroupRingEndLookLaws.{set-there, has-looked, looked-set}
 use Rattle.thread_group.proofs.tick_rings.first_full.Goals as goal
 
 pub returns-then-not-ready : goal.returns-then-not-ready

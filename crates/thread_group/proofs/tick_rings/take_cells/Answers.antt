@@ -8,8 +8,8 @@ use Rattle.thread_rings.proofs.SameRingEndsLaws.{in-then}
 use Rattle.terminal_group.specs.ReturnInbox.{is_lost_in, Inbox, come_by, with_come, HasCome}
 use Rattle.terminal_group.specs.Source.{Source}
 use Rattle.thread_group.specs.GroupRings.{HasMoved}
-use Rattle.terminal_group.proofs.ReturnCellEarlyMissingLaws.{come-put}
-use Rattle.thread_group.proofs.LaidAndLookedEndsLaws.{less}
+use Rattle.terminal_group.proofs.InboxReturnCellLaws.{come-put}
+use Rattle.thread_group.proofs.GroupRingEndLookLaws.{less}
 use Rattle.thread_group.proofs.tick_rings.take_cells.Goals as goal
 
 moved-one : (first was is : Inbox) (start old new : InEnd BackCell) (cell : BackCell) → HasMoved first was start old →

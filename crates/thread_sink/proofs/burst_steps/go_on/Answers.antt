@@ -2,7 +2,7 @@
 use Rattle.std.proofs.Common.{inl, inr, arith}
 use Rattle.std.proofs.lemmas.Bool.{cases_lt}
 use Rattle.thread_sink.specs.SinkParts.{parts}
-use Rattle.thread_sink.proofs.SinkPartsFramesLaws.{later-then, gives-then}
+use Rattle.thread_sink.proofs.SinkStepAndFrameLaws.{later-then, gives-then}
 use Rattle.thread_sink.proofs.burst_steps.go_on.Goals as goal
 
 pub returns-then-ne-clause-later : goal.returns-then-ne-clause-later

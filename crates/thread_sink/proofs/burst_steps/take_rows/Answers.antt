@@ -1,5 +1,5 @@
 -- The first step, and those after it.
-use Rattle.thread_sink.proofs.SinkPartsFramesLaws.{later-then, gives-then}
+use Rattle.thread_sink.proofs.SinkStepAndFrameLaws.{later-then, gives-then}
 use Rattle.thread_sink.proofs.burst_steps.take_rows.Goals as goal
 
 pub returns-clause-later : goal.returns-clause-later

@@ -2,7 +2,7 @@
 use Rattle.std.proofs.Common.{inr, refl, sym, ◌∙◌, ap, arith}
 use Rattle.law_model.specs.Common.{first_open}
 use Rattle.thread_sink.specs.ReceivedByRings.{received}
-use Rattle.thread_sink.proofs.SinkPartsFramesLaws.{popped-more, later-cell, keeps-cell}
+use Rattle.thread_sink.proofs.SinkStepAndFrameLaws.{popped-more, later-cell, keeps-cell}
 use Rattle.thread_sink.proofs.sink_step.step.Goals as goal
 
 pub returns-then-take_cell-clause-later : goal.returns-then-take_cell-clause-later

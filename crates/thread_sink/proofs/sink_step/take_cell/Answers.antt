@@ -3,7 +3,7 @@ use Rattle.std.proofs.Common.{◌<◌, length, refl, sym, subst, arith, slice_se
 use Rattle.thread_rings.specs.EndsOfRing.{in_passed, SameIn}
 use Rattle.thread_sink.specs.ReceivedByRings.{Missed}
 use Rattle.thread_sink.specs.Step.{Grew, TookCell}
-use Rattle.thread_sink.proofs.SinkPartsFramesLaws.{map-with_cell, map-still, set-there, set-was, set-length, set-each}
+use Rattle.thread_sink.proofs.SinkStepAndFrameLaws.{map-with_cell, map-still, set-there, set-was, set-length, set-each}
 use Rattle.thread_sink.proofs.sink_step.take_cell.Goals as goal
 
 pub returns : goal.returns

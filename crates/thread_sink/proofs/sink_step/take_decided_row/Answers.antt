@@ -5,7 +5,7 @@ use Rattle.terminal_sink.specs.declared.sink_core.sink_terminal.TakeAnswer.TheVa
 use Rattle.terminal_sink.specs.sink_core.TakenAndGiven.{answer_by, back_at, rows_taken}
 use Rattle.thread_sink.specs.ReceivedByRings.{received, back_cells, backs}
 use Rattle.thread_sink.specs.Step.{packet_in}
-use Rattle.thread_sink.proofs.SinkPartsFramesLaws.{back-room, backs-more}
+use Rattle.thread_sink.proofs.SinkStepAndFrameLaws.{back-room, backs-more}
 use Rattle.thread_sink.proofs.sink_step.take_decided_row.Goals as goal
 
 pub returns-clause-keeps : goal.returns-clause-keeps

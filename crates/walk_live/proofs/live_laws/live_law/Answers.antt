@@ -1,8 +1,5 @@
 -- By the course of a conversation, line by line.
-use Rattle.walk_live.proofs.AnsweredLinesHeadlineLaws.{course_spoken}
-use Rattle.walk_live.proofs.AnsweredLinesHeadlineLaws.{live_headline}
-use Rattle.walk_live.proofs.AnsweredLinesHeadlineLaws.{answered_grows}
-use Rattle.walk_live.proofs.AnsweredLinesHeadlineLaws.{walk_of}
+use Rattle.walk_live.proofs.ConversationAnswerLaws.{course_spoken, live_headline, answered_grows, walk_of}
 use Rattle.walk_live.proofs.live_laws.live_law.Goals as goal
 
 pub returns : goal.returns

@@ -4,8 +4,8 @@ use Rattle.law_live.specs.Common.{Saying, cuts, leg_said, mends}
 use Rattle.text_live.specs.declared.live_line.LiveLine.{LiveLine}
 use Rattle.text_live.specs.LiveReaderStands.{told_line}
 use Rattle.text_live.specs.Sayings.{saying_of}
-use Rattle.walk_live.proofs.AnsweredWalkSayingLaws.{cut_answered, mend_answered, none_answered, one_more, one_part, quiet_more}
-use Rattle.walk_live.proofs.AnsweredWalkSayingLaws.{still_answered, well_as}
+use Rattle.walk_live.proofs.AnsweredWalkAndSayingLaws.{cut_answered, mend_answered, none_answered, one_more, one_part}
+use Rattle.walk_live.proofs.AnsweredWalkAndSayingLaws.{quiet_more, still_answered, well_as}
 use Rattle.walk_live.proofs.live_talker.say.Goals as goal
 
 abbrev said_by : List ℕ → LiveLine → List Saying

@@ -4,7 +4,7 @@ use Rattle.std.proofs.lemmas.Result.{on_err_weaker, on_ok_weaker}
 use Rattle.hex.specs.Hex.{encode_lower}
 use Rattle.law_model.specs.Common.{AppendsPart}
 use Rattle.text_got.specs.TextSoFar.{Holds}
-use Rattle.walk_live.proofs.HoldsTimedTextLaws.{got-parts, holds-more, part-longer, part-more}
+use Rattle.walk_live.proofs.TimedLineWritingLaws.{got-parts, holds-more, part-longer, part-more}
 use Rattle.walk_live.proofs.timed_lines.add_timed.Goals as goal
 
 pub returns-in-Err-clause-err : goal.returns-in-Err-clause-err

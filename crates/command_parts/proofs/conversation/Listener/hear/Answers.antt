@@ -1,7 +1,6 @@
 -- The line was replied to, or why not.
 use Rattle.std.proofs.Common.{refl}
-use Rattle.command_parts.proofs.ListenerOctetsSaidLaws.{heard_line}
-use Rattle.command_parts.proofs.ListenerOctetsSaidLaws.{stops_reply}
+use Rattle.command_parts.proofs.ListenerLineAndSaidTextLaws.{heard_line, stops_reply}
 use Rattle.command_parts.proofs.conversation.Listener.hear.Goals as goal
 
 pub returns-in-Ok-clause-heard : goal.returns-in-Ok-clause-heard

@@ -1,7 +1,6 @@
 -- The end was replied to, or why not.
 use Rattle.command_parts.specs.Dialogue.{last_reply}
-use Rattle.command_parts.proofs.ListenerOctetsSaidLaws.{ended_whole, ended_said, ended_stops}
-use Rattle.command_parts.proofs.ListenerOctetsSaidLaws.{stops_reply}
+use Rattle.command_parts.proofs.ListenerLineAndSaidTextLaws.{ended_whole, ended_said, ended_stops, stops_reply}
 use Rattle.command_parts.proofs.conversation.Listener.hear_end.Goals as goal
 
 pub returns-in-Ok-clause-whole : goal.returns-in-Ok-clause-whole

@@ -1,6 +1,6 @@
 -- The octets that are left stand at the front.
 use Rattle.std.proofs.Common.{◌≡◌, ℕ, ◌≤◌, List, length, take, drop, ap, sym, ◌∙◌, arith, rules, length-take}
-use Rattle.command_parts.proofs.ListenerOctetsSaidLaws.{moved_down}
+use Rattle.command_parts.proofs.ListenerLineAndSaidTextLaws.{moved_down}
 use Rattle.command_parts.proofs.intake.Intake.let_go.Goals as goal
 
 pub returns : goal.returns

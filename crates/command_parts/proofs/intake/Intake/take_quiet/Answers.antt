@@ -1,7 +1,7 @@
 -- What was taken stands behind what there was.
 use Rattle.std.proofs.Common.{◌-◌, ◌≤◌, length, take, refl, rules}
 use Rattle.std.proofs.lemmas.List.{length-take-le}
-use Rattle.text_got.proofs.TextWaitsInBlockLaws.{front_added}
+use Rattle.text_got.proofs.WaitingTextInBlockLaws.{front_added}
 use Rattle.command_parts.proofs.intake.Intake.take_quiet.Goals as goal
 
 pub returns-in-Ok-clause-took : goal.returns-in-Ok-clause-took

@@ -2,8 +2,7 @@
 use Rattle.std.proofs.Common.{◌∙◌, ap, inl, inr}
 use Rattle.text_scripts.specs.script_read.Script.{script_of}
 use Rattle.command_parts.specs.Common.{told_of}
-use Rattle.command_parts.proofs.SourceReadingStopsLaws.{room_for}
-use Rattle.command_parts.proofs.SourceReadingStopsLaws.{stops_script}
+use Rattle.command_parts.proofs.SourceTextAndStopLaws.{room_for, stops_script}
 use Rattle.command_parts.proofs.script_of_input.ScriptReaderPieceReader.read_end.Goals as goal
 
 pub finish-requires-clause-room : goal.finish-requires-clause-room

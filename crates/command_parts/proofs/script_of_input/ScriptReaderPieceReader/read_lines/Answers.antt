@@ -1,8 +1,7 @@
 -- What the reader of scripts says, in the words of any reader.
 use Rattle.std.proofs.Common.{◌++◌, inl, inr}
 use Rattle.text_scripts.specs.script_read.Script.{script_of}
-use Rattle.command_parts.proofs.SourceReadingStopsLaws.{as_script, room_for}
-use Rattle.command_parts.proofs.SourceReadingStopsLaws.{stops_script}
+use Rattle.command_parts.proofs.SourceTextAndStopLaws.{as_script, room_for, stops_script}
 use Rattle.command_parts.proofs.script_of_input.ScriptReaderPieceReader.read_lines.Goals as goal
 
 pub read_on-requires-clause-room : goal.read_on-requires-clause-room

@@ -1,8 +1,8 @@
 -- The input is read, and says a link or doesn't.
 use Rattle.std.proofs.Common.{refl, sym, ap, ◌∙◌}
 use Rattle.command_parts.specs.declared.stop_and_status.Refusal.TheVariants.{Line}
-use Rattle.command_parts.proofs.SourceReadingStopsLaws.{refused-line}
-use Rattle.command_parts.proofs.TaskGivesAndEndsLaws.{text-written}
+use Rattle.command_parts.proofs.SourceTextAndStopLaws.{refused-line}
+use Rattle.command_parts.proofs.TaskEndAndStatusLaws.{text-written}
 use Rattle.member_au4.specs.au4_link.LinkReportText.{link_text}
 use Rattle.command_walk.specs.commands.Au4.{carried, au4_answer}
 use Rattle.command_walk.proofs.commands.au4.au4.Goals as goal

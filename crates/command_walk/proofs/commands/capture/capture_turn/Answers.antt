@@ -1,7 +1,7 @@
 -- The frames of a row that is taken stand behind those before them.
 use Rattle.std.proofs.Common.{◌∙◌, ap}
 use Rattle.law_model.specs.declared.session_totals.Totals.{Totals}
-use Rattle.command_walk.proofs.TakenAndSummedFramesLaws.{turn-taken}
+use Rattle.command_walk.proofs.WalkCaptureAndFrameSumLaws.{turn-taken}
 use Rattle.command_walk.proofs.commands.capture.capture_turn.Goals as goal
 
 pub returns-clause-taken : goal.returns-clause-taken

@@ -4,7 +4,7 @@ use Rattle.law_model.specs.Common.{Counts, Start}
 use Rattle.text_got.specs.TextSoFar.{start_at}
 use Rattle.text_captures.specs.capture_file.CaptureSoFar.{HasCapture, name_of}
 use Rattle.command_walk.specs.commands.Capture.{taken_frames}
-use Rattle.command_walk.proofs.TakenAndSummedFramesLaws.{begun-taken}
+use Rattle.command_walk.proofs.WalkCaptureAndFrameSumLaws.{begun-taken}
 use Rattle.command_walk.proofs.commands.capture.write_capture.Goals as goal
 
 pub returns : goal.returns

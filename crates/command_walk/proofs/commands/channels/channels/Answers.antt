@@ -2,8 +2,8 @@
 use Rattle.std.proofs.Common.{refl, sym, ap, ◌∙◌}
 use Rattle.command_parts.specs.Common.{line_text}
 use Rattle.command_parts.specs.declared.stop_and_status.Refusal.TheVariants.{Line}
-use Rattle.command_parts.proofs.SourceReadingStopsLaws.{refused-line}
-use Rattle.command_parts.proofs.TaskGivesAndEndsLaws.{text-written}
+use Rattle.command_parts.proofs.SourceTextAndStopLaws.{refused-line}
+use Rattle.command_parts.proofs.TaskEndAndStatusLaws.{text-written}
 use Rattle.text_lines.specs.LineFaults.{kind_of}
 use Rattle.gfp_channels.specs.channel_link.Helps.{help_of}
 use Rattle.gfp_channels.specs.channel_link.ChannelReportText.{plan_text}

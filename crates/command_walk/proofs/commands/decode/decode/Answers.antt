@@ -3,8 +3,8 @@ use Rattle.std.proofs.Common.{rules, refl, sym, ap, ◌∙◌}
 use Rattle.law_model.specs.Common.{decoded_text}
 use Rattle.command_parts.specs.Common.{writes}
 use Rattle.command_parts.specs.declared.stop_and_status.Refusal.TheVariants.{Line}
-use Rattle.command_parts.proofs.SourceReadingStopsLaws.{refused-line}
-use Rattle.command_parts.proofs.TaskGivesAndEndsLaws.{text-written}
+use Rattle.command_parts.proofs.SourceTextAndStopLaws.{refused-line}
+use Rattle.command_parts.proofs.TaskEndAndStatusLaws.{text-written}
 use Rattle.command_walk.specs.commands.Decode.{decoded, decode_answer}
 use Rattle.command_walk.proofs.commands.decode.decode.Goals as goal
 

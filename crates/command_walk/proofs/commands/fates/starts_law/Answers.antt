@@ -1,5 +1,5 @@
 -- By the last words of the text of fates.
-use Rattle.command_walk.proofs.CommandAnswersAndEndsLaws.{walks-true, runs-true}
+use Rattle.command_walk.proofs.WalkCommandAndHeadlineLaws.{walks-true, runs-true}
 use Rattle.command_walk.proofs.commands.fates.starts_law.Goals as goal
 
 pub returns-clause-walk : goal.returns-clause-walk

@@ -4,8 +4,8 @@ use Rattle.text_captures.specs.capture_file.Reading.{frames_of}
 use Rattle.text_captures.specs.capture_file.Texts.{frame_texts}
 use Rattle.command_parts.specs.Common.{writes}
 use Rattle.command_parts.specs.declared.stop_and_status.Refusal.TheVariants.{Line}
-use Rattle.command_parts.proofs.SourceReadingStopsLaws.{refused-line}
-use Rattle.command_parts.proofs.TaskGivesAndEndsLaws.{text-written}
+use Rattle.command_parts.proofs.SourceTextAndStopLaws.{refused-line}
+use Rattle.command_parts.proofs.TaskEndAndStatusLaws.{text-written}
 use Rattle.command_walk.specs.commands.Frames.{frames_said, frames_answer}
 use Rattle.command_walk.proofs.commands.frames.frames.Goals as goal
 

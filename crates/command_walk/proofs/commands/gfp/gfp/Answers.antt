@@ -5,8 +5,8 @@ use Rattle.law_model.specs.declared.script_types.Script.{Script}
 use Rattle.law_headline.specs.WalkTexts.{counts_in}
 use Rattle.fate_walks.specs.walk_gfp.CarriedInRows.{sent_capture}
 use Rattle.command_parts.specs.Task.{writes}
-use Rattle.command_parts.proofs.TaskGivesAndEndsLaws.{script-written}
-use Rattle.command_walk.proofs.CommandAnswersAndEndsLaws.{hands-script}
+use Rattle.command_parts.proofs.TaskEndAndStatusLaws.{script-written}
+use Rattle.command_walk.proofs.WalkCommandAndHeadlineLaws.{hands-script}
 use Rattle.command_walk.proofs.commands.gfp.gfp.Goals as goal
 
 pub returns-in-Err : goal.returns-in-Err

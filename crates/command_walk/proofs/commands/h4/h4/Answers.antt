@@ -6,9 +6,9 @@ use Rattle.law_model.specs.declared.script_types.Script.{Script}
 use Rattle.law_headline.specs.WalkTexts.{counts_in}
 use Rattle.command_parts.specs.Common.{writes, refuses, answer_of}
 use Rattle.command_parts.specs.declared.stop_and_status.Refusal.TheVariants.{Limit}
-use Rattle.command_parts.proofs.TaskGivesAndEndsLaws.{text-written}
+use Rattle.command_parts.proofs.TaskEndAndStatusLaws.{text-written}
 use Rattle.command_walk.specs.commands.H4.{h4_octets, h4_text, h4_of, h4_answer, no_line_text}
-use Rattle.command_walk.proofs.CommandAnswersAndEndsLaws.{hands-script}
+use Rattle.command_walk.proofs.WalkCommandAndHeadlineLaws.{hands-script}
 use Rattle.command_walk.proofs.commands.h4.h4.Goals as goal
 
 answers : (line : ℕ) (script : Script) → line < script.config.lines →

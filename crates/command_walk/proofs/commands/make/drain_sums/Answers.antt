@@ -5,7 +5,7 @@ use Rattle.law_model.specs.Common.{leg_of, Counts}
 use Rattle.law_walk.specs.Common.{delivered_of}
 use Rattle.law_walk.specs.DeliveredFrames.{delivered_since}
 use Rattle.command_walk.specs.commands.Make.{octet_count, octet_sum, HasSummed}
-use Rattle.command_walk.proofs.TakenAndSummedFramesLaws.{summed-none, count-exact, sum-exact}
+use Rattle.command_walk.proofs.WalkCaptureAndFrameSumLaws.{summed-none, count-exact, sum-exact}
 use Rattle.command_walk.proofs.commands.make.drain_sums.Goals as goal
 
 pub returns : goal.returns

@@ -4,12 +4,12 @@ use Rattle.law_model.specs.Common.{leg_of, begin}
 use Rattle.law_model.specs.declared.script_types.Script.{Script}
 use Rattle.law_walk.specs.Common.{walk_plan}
 use Rattle.command_walk.specs.commands.Make.{make_text}
-use Rattle.command_walk.proofs.TakenAndSummedFramesLaws.{lines-are}
+use Rattle.command_walk.proofs.WalkCaptureAndFrameSumLaws.{lines-are}
 use Rattle.std.proofs.Common.{Some}
 use Rattle.text_scripts.specs.make_load.Load.{load}
 use Rattle.law_headline.specs.WalkTexts.{counts_in}
-use Rattle.command_walk.proofs.TakenAndSummedFramesLaws.{counts-are}
-use Rattle.command_walk.proofs.CommandAnswersAndEndsLaws.{walk-is}
+use Rattle.command_walk.proofs.WalkCaptureAndFrameSumLaws.{counts-are}
+use Rattle.command_walk.proofs.WalkCommandAndHeadlineLaws.{walk-is}
 use Rattle.command_walk.proofs.commands.make.make.Goals as goal
 
 pub returns : goal.returns

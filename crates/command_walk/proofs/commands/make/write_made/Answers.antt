@@ -4,9 +4,9 @@ use Rattle.std.proofs.lemmas.Result.{on_ok_weaker, on_err_weaker}
 use borrow.Rule.Slice.PartMut.{put_mid}
 use Rattle.law_model.specs.Common.{Appends, AppendsPart}
 use Rattle.text_report.specs.ReportLines.{total_text}
-use Rattle.text_got.proofs.TextWaitsInBlockLaws.{front_added}
+use Rattle.text_got.proofs.WaitingTextInBlockLaws.{front_added}
 use Rattle.command_walk.specs.commands.Make.{made_text}
-use Rattle.command_walk.proofs.TakenAndSummedFramesLaws.{room-behind}
+use Rattle.command_walk.proofs.WalkCaptureAndFrameSumLaws.{room-behind}
 use Rattle.command_walk.proofs.commands.make.write_made.Goals as goal
 
 pub returns : goal.returns

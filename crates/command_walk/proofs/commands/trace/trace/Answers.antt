@@ -4,9 +4,8 @@ use Rattle.law_model.specs.declared.script_types.Script.{Script}
 use Rattle.law_headline.specs.WalkTexts.{walk_text}
 use Rattle.command_walk.specs.commands.Trace.{trace_text}
 use Rattle.command_parts.specs.Common.{Answer, writes_both}
-use Rattle.command_parts.proofs.SourceReadingStopsLaws.{meets-script}
-use Rattle.command_walk.proofs.CommandAnswersAndEndsLaws.{hands-script}
-use Rattle.command_walk.proofs.CommandAnswersAndEndsLaws.{both-ok}
+use Rattle.command_parts.proofs.SourceTextAndStopLaws.{meets-script}
+use Rattle.command_walk.proofs.WalkCommandAndHeadlineLaws.{hands-script, both-ok}
 use Rattle.command_walk.proofs.commands.trace.trace.Goals as goal
 
 abbrev answer : Script → Answer

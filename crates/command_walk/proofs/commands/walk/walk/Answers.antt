@@ -3,8 +3,8 @@ use Rattle.std.proofs.Common.{refl}
 use Rattle.law_model.specs.declared.script_types.Script.{Script}
 use Rattle.law_headline.specs.WalkTexts.{walk_text}
 use Rattle.command_parts.specs.Common.{writes}
-use Rattle.command_parts.proofs.TaskGivesAndEndsLaws.{script-written}
-use Rattle.command_walk.proofs.CommandAnswersAndEndsLaws.{hands-script}
+use Rattle.command_parts.proofs.TaskEndAndStatusLaws.{script-written}
+use Rattle.command_walk.proofs.WalkCommandAndHeadlineLaws.{hands-script}
 use Rattle.command_walk.proofs.commands.walk.walk.Goals as goal
 
 pub returns-in-Err : goal.returns-in-Err

@@ -2,7 +2,7 @@
 use Rattle.std.proofs.lemmas.Result.{on_err_weaker}
 use Rattle.law_headline.specs.WalkTexts.{walk_text}
 use Rattle.command_walk.specs.commands.Trace.{trace_text}
-use Rattle.command_walk.proofs.CommandAnswersAndEndsLaws.{stops-out}
+use Rattle.command_walk.proofs.WalkCommandAndHeadlineLaws.{stops-out}
 use Rattle.command_walk.proofs.commands.walk.write_walk.Goals as goal
 
 pub returns-clause-err : goal.returns-clause-err

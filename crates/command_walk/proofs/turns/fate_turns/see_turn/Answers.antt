@@ -2,7 +2,7 @@
 use Rattle.law_model.specs.Common.{leg_of}
 use Rattle.law_walk.specs.Common.{walk_plan}
 use Rattle.command_walk.specs.TracedWalk.{events_of}
-use Rattle.command_walk.proofs.TracedWalkCountsLaws.{walked-on}
+use Rattle.command_walk.proofs.WalkTraceAndEventCountLaws.{walked-on}
 use Rattle.command_walk.proofs.turns.fate_turns.see_turn.Goals as goal
 
 pub see_since-requires-clause-walked : goal.see_since-requires-clause-walked

@@ -5,7 +5,7 @@ use Rattle.law_model.specs.declared.script_types.Script.{Script}
 use Rattle.law_headline.specs.WalkTexts.{counts_in}
 use Rattle.law_walk.specs.Common.{IsWalked}
 use Rattle.fate_walks.specs.walk_fates.Seen.{Sees}
-use Rattle.command_walk.proofs.TracedWalkCountsLaws.{counts-walked}
+use Rattle.command_walk.proofs.WalkTraceAndEventCountLaws.{counts-walked}
 use Rattle.command_walk.proofs.turns.fate_turns.see_walk.Goals as goal
 
 pub see_event_lines-requires-clause-seen : goal.see_event_lines-requires-clause-seen

@@ -3,7 +3,7 @@ use Rattle.std.proofs.Common.{sym, ◌∙◌, ap}
 use Rattle.law_model.specs.declared.script_types.EventLine.{EventLine}
 use Rattle.law_model.specs.declared.walk_events.Event.TheVariants.{Accept, Command, Tick, Carry, Back, Take}
 use Rattle.law_model.specs.session.Counts.{run, run_line}
-use Rattle.command_walk.proofs.TracedWalkCountsLaws.{tries-flat}
+use Rattle.command_walk.proofs.WalkTraceAndEventCountLaws.{tries-flat}
 use Rattle.command_walk.proofs.turns.next_turns.pending_of.Goals as goal
 
 pub returns-in-Client-clause-once : goal.returns-in-Client-clause-once

@@ -4,7 +4,7 @@ use Rattle.law_model.specs.Common.{leg_of, run}
 use Rattle.law_walk.specs.Common.{walk_plan}
 use Rattle.command_walk.specs.TracedWalk.{events_of}
 use Rattle.command_walk.specs.declared.turns.trace_turns.Turn.{Turn}
-use Rattle.command_walk.proofs.TracedWalkCountsLaws.{run-one, event-moves, all-moves}
+use Rattle.command_walk.proofs.WalkTraceAndEventCountLaws.{run-one, event-moves, all-moves}
 use Rattle.command_walk.proofs.turns.trace_turns.make_turn.Goals as goal
 
 pub returns-in-Try : goal.returns-in-Try

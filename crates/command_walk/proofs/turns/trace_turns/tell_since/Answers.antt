@@ -3,8 +3,8 @@ use Rattle.std.proofs.Common.{ℕ, List, sym, ◌∙◌, ap, subst, arith}
 use Rattle.std.proofs.lemmas.Result.{on_ok_weaker, on_err_weaker}
 use Rattle.law_model.specs.Common.{Appends, AppendsPart, steps_in}
 use Rattle.law_model.specs.declared.session_totals.Totals.{Totals}
-use Rattle.octet_io.proofs.AppendedPartsLaws.{Appends-then, AppendsPart-then}
-use Rattle.command_walk.proofs.TracedWalkCountsLaws.{lines-same, lines-next}
+use Rattle.octet_io.proofs.AppendedTextAndPrefixLaws.{Appends-then, AppendsPart-then}
+use Rattle.command_walk.proofs.WalkTraceAndEventCountLaws.{lines-same, lines-next}
 use Rattle.command_walk.proofs.turns.trace_turns.tell_since.Goals as goal
 
 pub is_step-requires : goal.is_step-requires

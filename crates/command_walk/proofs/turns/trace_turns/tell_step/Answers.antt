@@ -2,7 +2,7 @@
 use Rattle.std.proofs.Common.{ℕ, List, ◌∙◌, subst}
 use Rattle.std.proofs.lemmas.Result.{on_ok_weaker, on_err_weaker}
 use Rattle.law_model.specs.Common.{Appends, AppendsPart}
-use Rattle.command_walk.proofs.TracedWalkCountsLaws.{last-line}
+use Rattle.command_walk.proofs.WalkTraceAndEventCountLaws.{last-line}
 use Rattle.command_walk.proofs.turns.trace_turns.tell_step.Goals as goal
 
 pub returns : goal.returns

@@ -1,6 +1,6 @@
 -- A write has failed on `out`, on the notes, or on neither.
 use Rattle.std.proofs.Common.{sym}
-use Rattle.command_walk.proofs.TracedWalkCountsLaws.{told-out, told-notes}
+use Rattle.command_walk.proofs.WalkTraceAndEventCountLaws.{told-out, told-notes}
 use Rattle.command_walk.proofs.turns.trace_turns.tell_turn.Goals as goal
 
 pub returns-then-failed : goal.returns-then-failed

@@ -2,7 +2,7 @@
 use Rattle.std.proofs.Common.{sym, ◌∙◌, ap, arith}
 use Rattle.law_model.specs.declared.script_types.Script.{Script}
 use Rattle.law_model.specs.declared.session_totals.Totals.{Totals}
-use Rattle.command_walk.proofs.TracedWalkCountsLaws.{told-silent, turn-told}
+use Rattle.command_walk.proofs.WalkTraceAndEventCountLaws.{told-silent, turn-told}
 use Rattle.command_walk.proofs.turns.trace_turns.trace_turn.Goals as goal
 
 pub returns-then-over-clause-told : goal.returns-then-over-clause-told

@@ -9,8 +9,7 @@ use Rattle.law_walk.specs.Common.{delivered_of}
 use Rattle.command_walk.specs.HandedWalk.{StopsBoth}
 use Rattle.law_headline.specs.WalkTexts.{walk_text}
 use Rattle.command_walk.specs.commands.Trace.{trace_text}
-use Rattle.command_walk.proofs.TracedWalkCountsLaws.{on-ok}
-use Rattle.command_walk.proofs.TracedWalkCountsLaws.{begun-told, part-told, whole-told, trace-told}
+use Rattle.command_walk.proofs.WalkTraceAndEventCountLaws.{on-ok, begun-told, part-told, whole-told, trace-told}
 use Rattle.command_walk.proofs.turns.trace_turns.write_trace.Goals as goal
 
 pub returns-then-trace_event_lines-clause-err : goal.returns-then-trace_event_lines-clause-err

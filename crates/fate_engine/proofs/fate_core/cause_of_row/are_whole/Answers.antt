@@ -1,7 +1,7 @@
 -- The search ends at the first window that ends above the first container.
 use Rattle.std.proofs.Common.{rules, nat_le}
 use Rattle.std.proofs.lemmas.Fn.{always_returns_same}
-use Rattle.fate_engine.proofs.CauseWholeSpoiledRunsLaws.{parted, some-tells, nothing-tells}
+use Rattle.fate_engine.proofs.SpoiledRunAndWholeContainerLaws.{parted, some-tells, nothing-tells}
 use Rattle.fate_engine.proofs.fate_core.cause_of_row.are_whole.Goals as goal
 
 pub returns-in-Some : goal.returns-in-Some

@@ -2,7 +2,7 @@
 use Rattle.std.proofs.Common.{◌≤◌, [], length, refl, sym, ◌∙◌, ap, arith, le-leb}
 use Rattle.std.proofs.lemmas.List.{get_or_past}
 use Rattle.fate_engine.specs.Common.{whole_in}
-use Rattle.fate_engine.proofs.CauseWholeSpoiledRunsLaws.{none-tells}
+use Rattle.fate_engine.proofs.SpoiledRunAndWholeContainerLaws.{none-tells}
 use Rattle.fate_engine.proofs.fate_core.cause_of_row.are_whole_on.Goals as goal
 
 pub returns-then-line-len : goal.returns-then-line-len

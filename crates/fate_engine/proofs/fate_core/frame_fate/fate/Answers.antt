@@ -2,7 +2,7 @@
 use Rattle.std.proofs.Common.{◌≡◌, ◌+◌, ◌*◌, length, slice_get, ◌∙◌, ap, arith}
 use Rattle.law_model.specs.Common.{place_of, rows_of}
 use Rattle.fate_engine.specs.Common.{settles, fate_around}
-use Rattle.fate_engine.proofs.FateAtPiecesLaws.{rows-count, place-up, late-waits, carried-fate}
+use Rattle.fate_engine.proofs.FrameFateAndPieceLaws.{rows-count, place-up, late-waits, carried-fate}
 use Rattle.fate_engine.proofs.fate_core.frame_fate.fate.Goals as goal
 
 pub returns-then-place-to : goal.returns-then-place-to

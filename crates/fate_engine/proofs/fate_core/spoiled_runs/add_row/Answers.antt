@@ -1,8 +1,9 @@
 -- The row goes on with the last run, or begins one.
 use Rattle.std.proofs.Common.{◌≡◌, ◌-◌, slice_index_or, sym, ◌∙◌, subst, arith}
-use Rattle.fate_engine.proofs.CauseWholeSpoiledRunsLaws.{row-meets, row-apart}
+use Rattle.fate_engine.proofs.SpoiledRunAndWholeContainerLaws.{row-meets, row-apart}
 use Rattle.fate_engine.proofs.fate_core.spoiled_runs.add_row.Goals as goal
-use Rattle.fate_engine.proofs.fate_core.spoiled_runs.add_row.Goals.{else-n-gt0-via-then-n-gt0+else-goes_on, else-n-gt0-via-else-n-gt0}
+use Rattle.fate_engine.proofs.fate_core.spoiled_runs.add_row.Goals.{else-n-gt0-via-then-n-gt0+else-goes_on}
+use Rattle.fate_engine.proofs.fate_core.spoiled_runs.add_row.Goals.{else-n-gt0-via-else-n-gt0}
 
 pub returns-then-goes_on-clause-ok : goal.returns-then-goes_on-clause-ok
 returns-then-goes_on-clause-ok c =

@@ -6,7 +6,7 @@ use Rattle.gfp_model.specs.linear_model.ChannelStream.{stream_to, unsent}
 use Rattle.gfp_channels.specs.gfp_linear.Queue.{Queued}
 use Rattle.gfp_channels.specs.gfp_linear.Filler.{LinearFillerStands}
 use Rattle.gfp_channels.specs.channel_link.Run.{Received}
-use Rattle.gfp_channels.proofs.ReachedPlaceFillerLaws.{HasSent, sent-none, sent-block}
+use Rattle.gfp_channels.proofs.LinearStreamPlaceLaws.{HasSent, sent-none, sent-block}
 use Rattle.gfp_channels.proofs.CutSegmentReceptionLaws.{received-few}
 use Rattle.gfp_channels.proofs.channel_link.channel_run.carry.Goals as goal
 

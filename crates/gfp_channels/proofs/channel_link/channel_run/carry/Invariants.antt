@@ -3,7 +3,7 @@ use Rattle.std.proofs.Common.{◌≡◌, ◌-◌, ◌≤◌, [], length}
 use Rattle.law_model.specs.Common.{Start}
 use Rattle.gfp_model.specs.linear_model.ChannelStream.{stream_to}
 use Rattle.gfp_channels.specs.channel_link.Run.{Received}
-use Rattle.gfp_channels.proofs.ReachedPlaceFillerLaws.{HasSent}
+use Rattle.gfp_channels.proofs.LinearStreamPlaceLaws.{HasSent}
 use Rattle.gfp_channels.proofs.channel_link.channel_run.carry.Given as goal
 
 abbrev pub invariant-loop-left : goal.invariant-loop-left

@@ -8,7 +8,7 @@ use Rattle.gfp_channels.specs.gfp_linear.Queue.{unbegun}
 use Rattle.gfp_channels.specs.declared.channel_link.channel_draft.Offer.{Offer}
 use Rattle.gfp_channels.specs.declared.channel_link.channel_run.Refusal.{Refusal}
 use Rattle.gfp_channels.specs.channel_link.ChannelReportText.{refusal_where, refusals}
-use Rattle.gfp_channels.proofs.OfferRefusalWaitingLaws.{after-next, after-all, refusals-next, refusals-all}
+use Rattle.gfp_channels.proofs.OfferedChannelFrameLaws.{after-next, after-all, refusals-next, refusals-all}
 use Rattle.gfp_channels.proofs.channel_link.channel_run.offer_all.Goals.{in-Ok, in-Err+in_ok-push-in-Err}
 use Rattle.gfp_channels.proofs.channel_link.channel_run.offer_all.Goals as goal
 

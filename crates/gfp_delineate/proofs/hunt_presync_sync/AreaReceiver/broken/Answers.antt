@@ -1,7 +1,7 @@
 -- The descrambler forgot, and HUNT begins: no octet of the new segment has come.
 use Rattle.std.proofs.Common.{false, refl, ◌∙◌, ap}
 use Rattle.gfp_delineate.specs.ReceivedAreas.{Progress}
-use Rattle.gfp_delineate.proofs.ProgressWindowEndsLaws.{IsAt-start}
+use Rattle.gfp_delineate.proofs.ReceiverProgressLaws.{IsAt-start}
 use Rattle.gfp_delineate.proofs.hunt_presync_sync.AreaReceiver.broken.Goals as goal
 
 pub returns-clause-stands : goal.returns-clause-stands

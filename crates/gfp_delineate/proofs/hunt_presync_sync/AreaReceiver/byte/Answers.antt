@@ -1,7 +1,7 @@
 -- A step that takes some of one octet takes that octet.
 use Rattle.std.proofs.Common.{subst}
 use Rattle.gfp_delineate.specs.ReceivedAreas.{Goes, Adds, ends_told}
-use Rattle.gfp_delineate.proofs.RepeatedIdlePieceLaws.{part_of_one}
+use Rattle.gfp_delineate.proofs.OctetPieceAndIdleRunLaws.{part_of_one}
 use Rattle.gfp_delineate.proofs.hunt_presync_sync.AreaReceiver.byte.Goals as goal
 
 pub returns-clause-stands : goal.returns-clause-stands

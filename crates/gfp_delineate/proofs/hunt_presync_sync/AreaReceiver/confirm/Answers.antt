@@ -1,7 +1,7 @@
 -- One of the first three octets of the header that confirms.
 use Rattle.std.proofs.Common.{◌+◌}
 use Rattle.gfp_delineate.specs.declared.hunt_presync_sync.Phase.TheVariants.{PresyncHeader}
-use Rattle.gfp_delineate.proofs.ProgressWindowEndsLaws.{seen}
+use Rattle.gfp_delineate.proofs.ReceiverProgressLaws.{seen}
 use Rattle.gfp_delineate.proofs.HuntPresyncSteps.{shifted, Takes-confirm-part}
 use Rattle.gfp_delineate.proofs.hunt_presync_sync.AreaReceiver.confirm.Goals as goal
 

@@ -2,8 +2,8 @@
 use Rattle.std.proofs.Common.{◌≡◌, ◌+◌, ◌-◌, ◌≤◌, ℕ, List, [], length, take, drop, ◌∙◌, ap, subst, arith}
 use Rattle.std.proofs.Common.{length-take, length-drop}
 use Rattle.gfp_delineate.specs.ReceivedAreas.{AreaEnd, ends_told, Progress, Adds}
-use Rattle.gfp_delineate.proofs.RepeatedIdlePieceLaws.{taken_more}
-use Rattle.gfp_delineate.proofs.ProgressWindowEndsLaws.{Takes, tell, told, Takes-then, Adds-then}
+use Rattle.gfp_delineate.proofs.OctetPieceAndIdleRunLaws.{taken_more}
+use Rattle.gfp_delineate.proofs.ReceiverProgressLaws.{Takes, tell, told, Takes-then, Adds-then}
 use Rattle.gfp_delineate.proofs.hunt_presync_sync.AreaReceiver.feed.Goals as goal
 
 -- what came before, and one part more

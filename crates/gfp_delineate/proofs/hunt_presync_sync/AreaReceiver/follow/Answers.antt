@@ -1,8 +1,8 @@
 -- The headers of idles, a header as three octets and one more, or a single octet.
 use Rattle.std.proofs.Common.{ℕ, List, [], ◌∷◌, get_or, ◌∙◌, ap}
 use Rattle.gfp_delineate.specs.declared.hunt_presync_sync.Phase.TheVariants.{SyncHeader}
-use Rattle.gfp_delineate.proofs.RepeatedIdlePieceLaws.{take_one, take_four}
-use Rattle.gfp_delineate.proofs.ProgressWindowEndsLaws.{tell, told, Takes-then}
+use Rattle.gfp_delineate.proofs.OctetPieceAndIdleRunLaws.{take_one, take_four}
+use Rattle.gfp_delineate.proofs.ReceiverProgressLaws.{tell, told, Takes-then}
 use Rattle.gfp_delineate.proofs.SyncHeaderAreaSteps.{Takes-idles}
 use Rattle.gfp_delineate.proofs.hunt_presync_sync.AreaReceiver.follow.Goals as goal
 

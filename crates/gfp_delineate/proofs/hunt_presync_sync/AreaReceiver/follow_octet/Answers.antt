@@ -1,7 +1,7 @@
 -- One of the first three octets of a header in SYNC.
 use Rattle.std.proofs.Common.{◌+◌}
 use Rattle.gfp_delineate.specs.declared.hunt_presync_sync.Phase.TheVariants.{SyncHeader}
-use Rattle.gfp_delineate.proofs.ProgressWindowEndsLaws.{seen}
+use Rattle.gfp_delineate.proofs.ReceiverProgressLaws.{seen}
 use Rattle.gfp_delineate.proofs.HuntPresyncSteps.{shifted}
 use Rattle.gfp_delineate.proofs.SyncHeaderAreaSteps.{Takes-follow-part}
 use Rattle.gfp_delineate.proofs.hunt_presync_sync.AreaReceiver.follow_octet.Goals as goal

@@ -2,7 +2,7 @@
 use Rattle.std.proofs.Common.{◌+◌, ◌<◌, Some, ◌∙◌, ap, arith}
 use Rattle.law_model.specs.Common.{head}
 use Rattle.gfp_delineate.specs.declared.hunt_presync_sync.Phase.TheVariants.{Hunt, PresyncArea, PresyncHeader}
-use Rattle.gfp_delineate.proofs.ProgressWindowEndsLaws.{seen, read-window}
+use Rattle.gfp_delineate.proofs.ReceiverProgressLaws.{seen, read-window}
 use Rattle.gfp_delineate.proofs.HuntPresyncSteps.{shifted, Takes-hunt-part, Takes-hunt-none, Takes-hunt-idle}
 use Rattle.gfp_delineate.proofs.HuntPresyncSteps.{Takes-hunt-client}
 use Rattle.gfp_delineate.proofs.hunt_presync_sync.AreaReceiver.hunt.Goals as goal

@@ -4,8 +4,8 @@ use Rattle.gfp_delineate.specs.declared.hunt_presync_sync.Phase.TheVariants.{Syn
 use Rattle.gfp_delineate.specs.ReceivedAreas.{Progress, IsWithin, header_begun_in}
 use Rattle.law_model.proofs.CoreHeaderLaws.{idle_header, core_header-idle}
 use Rattle.law_model.specs.Common.{core_header}
-use Rattle.gfp_delineate.proofs.ProgressWindowEndsLaws.{told}
-use Rattle.gfp_delineate.proofs.RepeatedIdlePieceLaws.{Takes-idles_from}
+use Rattle.gfp_delineate.proofs.ReceiverProgressLaws.{told}
+use Rattle.gfp_delineate.proofs.OctetPieceAndIdleRunLaws.{Takes-idles_from}
 use Rattle.gfp_delineate.proofs.hunt_presync_sync.AreaReceiver.idle_place.Goals as goal
 
 pub returns-in-SyncHeader : goal.returns-in-SyncHeader

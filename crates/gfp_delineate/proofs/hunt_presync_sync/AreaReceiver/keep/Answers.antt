@@ -3,8 +3,9 @@ use Rattle.std.proofs.Common.{◌≡◌, ◌-◌, ◌<◌, ℕ, List, [], ◌∷
 use Rattle.std.proofs.Common.{arith, length-take, vec_len, take_all, take-append-drop, length-take-le}
 use Rattle.gfp_delineate.specs.declared.hunt_presync_sync.Phase.TheVariants.{SyncHeader, SyncArea}
 use Rattle.gfp_delineate.specs.ReceivedAreas.{keeping, Progress, IsWithin}
-use Rattle.gfp_delineate.proofs.ProgressWindowEndsLaws.{Takes, seen}
-use Rattle.gfp_delineate.proofs.SyncHeaderAreaSteps.{Descrambles, holding, Adds-area, Takes-keep-part, Takes-keep-whole}
+use Rattle.gfp_delineate.proofs.ReceiverProgressLaws.{Takes, seen}
+use Rattle.gfp_delineate.proofs.SyncHeaderAreaSteps.{Descrambles, holding, Adds-area, Takes-keep-part}
+use Rattle.gfp_delineate.proofs.SyncHeaderAreaSteps.{Takes-keep-whole}
 use Rattle.gfp_delineate.proofs.hunt_presync_sync.AreaReceiver.keep.Goals as goal
 
 pub returns-then-piece-rest-clause-takes : goal.returns-then-piece-rest-clause-takes

@@ -4,7 +4,7 @@ use Rattle.std.proofs.Common.{length-take-le}
 use Rattle.gfp_scramble.specs.Descrambler.{Continues}
 use Rattle.gfp_delineate.specs.declared.hunt_presync_sync.Phase.TheVariants.{SyncHeader, SyncPassing}
 use Rattle.gfp_delineate.specs.ReceivedAreas.{Progress, IsWithin}
-use Rattle.gfp_delineate.proofs.ProgressWindowEndsLaws.{seen}
+use Rattle.gfp_delineate.proofs.ReceiverProgressLaws.{seen}
 use Rattle.gfp_delineate.proofs.SyncHeaderAreaSteps.{holding, Adds-passing, Takes-pass-part, Takes-pass-whole}
 use Rattle.gfp_delineate.proofs.hunt_presync_sync.AreaReceiver.pass.Goals as goal
 

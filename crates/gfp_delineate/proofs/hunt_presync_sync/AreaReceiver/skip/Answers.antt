@@ -1,7 +1,7 @@
 -- Octets of the area after the header that was found, or all that are left of it.
 use Rattle.std.proofs.Common.{◌-◌, ℕ, List, length, take, ◌∙◌, arith, take_all, length-take-le}
 use Rattle.gfp_delineate.specs.declared.hunt_presync_sync.Phase.TheVariants.{PresyncArea, PresyncHeader}
-use Rattle.gfp_delineate.proofs.ProgressWindowEndsLaws.{seen}
+use Rattle.gfp_delineate.proofs.ReceiverProgressLaws.{seen}
 use Rattle.gfp_delineate.proofs.HuntPresyncSteps.{in_phase, Takes-skip-part, Takes-skip-last}
 use Rattle.gfp_delineate.proofs.hunt_presync_sync.AreaReceiver.skip.Goals as goal
 

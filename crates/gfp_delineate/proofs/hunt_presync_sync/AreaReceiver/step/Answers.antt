@@ -1,5 +1,5 @@
 -- In HUNT, and in the header that confirms, the first octet is taken alone.
-use Rattle.gfp_delineate.proofs.RepeatedIdlePieceLaws.{take_one}
+use Rattle.gfp_delineate.proofs.OctetPieceAndIdleRunLaws.{take_one}
 use Rattle.gfp_delineate.proofs.hunt_presync_sync.AreaReceiver.step.Goals as goal
 
 pub returns-in-Hunt-clause-takes : goal.returns-in-Hunt-clause-takes

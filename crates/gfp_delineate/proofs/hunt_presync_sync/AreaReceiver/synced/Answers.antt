@@ -1,7 +1,7 @@
 -- The octets lead to SYNC exactly where the phase is one of SYNC.
 use Rattle.std.proofs.Common.{◌≡◌, true, false, inl, inr, sym, ◌∙◌, ap}
 use Rattle.gfp_delineate.specs.ReceivedAreas.{Progress}
-use Rattle.gfp_delineate.proofs.ProgressWindowEndsLaws.{in_sync, is_sync-IsAt}
+use Rattle.gfp_delineate.proofs.ReceiverProgressLaws.{in_sync, is_sync-IsAt}
 use Rattle.gfp_delineate.proofs.hunt_presync_sync.AreaReceiver.synced.Goals as goal
 
 pub returns-in-Hunt : goal.returns-in-Hunt

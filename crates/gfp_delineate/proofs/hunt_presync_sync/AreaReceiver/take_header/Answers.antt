@@ -3,9 +3,9 @@ use Rattle.std.proofs.Common.{true, false, [], ◌∷◌, ◌++◌, drop, Some, 
 use Rattle.gfp_delineate.specs.declared.hunt_presync_sync.AreaWhy.TheVariants.{Unsettled, TooLong}
 use Rattle.gfp_delineate.specs.declared.hunt_presync_sync.Phase.TheVariants.{SyncHeader, SyncArea, SyncPassing}
 use Rattle.gfp_delineate.specs.ReceivedAreas.{reader, Progress}
-use Rattle.gfp_delineate.proofs.ProgressWindowEndsLaws.{seen, read-window}
-use Rattle.gfp_delineate.proofs.SyncHeaderAreaSteps.{followed, Knows}
-use Rattle.gfp_delineate.proofs.SyncHeaderAreaSteps.{lost, Takes-lost, Takes-idle, Takes-unknown, Takes-long, Takes-kept}
+use Rattle.gfp_delineate.proofs.ReceiverProgressLaws.{seen, read-window}
+use Rattle.gfp_delineate.proofs.SyncHeaderAreaSteps.{followed, Knows, lost, Takes-lost, Takes-idle, Takes-unknown}
+use Rattle.gfp_delineate.proofs.SyncHeaderAreaSteps.{Takes-long, Takes-kept}
 use Rattle.gfp_delineate.proofs.hunt_presync_sync.AreaReceiver.take_header.Goals as goal
 
 pub returns-in_default : goal.returns-in_default

@@ -1,6 +1,6 @@
 -- Three octets of a header, one after the other.
 use Rattle.gfp_delineate.specs.declared.hunt_presync_sync.Phase.TheVariants.{SyncHeader}
-use Rattle.gfp_delineate.proofs.ProgressWindowEndsLaws.{seen}
+use Rattle.gfp_delineate.proofs.ReceiverProgressLaws.{seen}
 use Rattle.gfp_delineate.proofs.HuntPresyncSteps.{shifted}
 use Rattle.gfp_delineate.proofs.SyncHeaderAreaSteps.{Takes-three}
 use Rattle.gfp_delineate.proofs.hunt_presync_sync.AreaReceiver.take_three.Goals as goal

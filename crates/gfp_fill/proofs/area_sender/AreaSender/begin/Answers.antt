@@ -6,7 +6,7 @@ use Rattle.law_model.specs.Common.{core_header}
 use Rattle.law_model.proofs.CoreHeaderLaws.{length-core_header}
 use Rattle.gfp_scramble.specs.Scrambler.{Continues, ScramblesTo}
 use Rattle.gfp_fill.specs.SentAreas.{Sender}
-use Rattle.gfp_fill.proofs.SenderFillerStandsLaws.{area_begun}
+use Rattle.gfp_fill.proofs.SenderAndFillerStepLaws.{area_begun}
 use Rattle.gfp_fill.proofs.area_sender.AreaSender.begin.Goals as goal
 
 -- octets are put at a place of an array, and others behind them to its end

@@ -1,7 +1,7 @@
 -- Octets of headers are written.
 use Rattle.std.proofs.Common.{◌≡◌, ◌-◌, length, take, drop, sym, ◌∙◌, ap, arith, length-drop, take_all, drop-drop}
 use Rattle.gfp_fill.specs.SentAreas.{Sender, head_of}
-use Rattle.gfp_fill.proofs.SenderFillerStandsLaws.{headers_written}
+use Rattle.gfp_fill.proofs.SenderAndFillerStepLaws.{headers_written}
 use Rattle.gfp_fill.proofs.area_sender.AreaSender.send_headers.Goals as goal
 
 pub returns-clause-writes : goal.returns-clause-writes

@@ -2,7 +2,7 @@
 use Rattle.std.proofs.Common.{◌≡◌, ◌+◌, ◌/◌, [], ◌∷◌, ◌++◌, length, sym, ap, arith}
 use Rattle.law_model.proofs.CoreHeaderLaws.{core_header-idle}
 use Rattle.gfp_fill.specs.SentAreas.{Sender}
-use Rattle.gfp_fill.proofs.SenderFillerStandsLaws.{idle_begun, idles_written}
+use Rattle.gfp_fill.proofs.SenderAndFillerStepLaws.{idle_begun, idles_written}
 use Rattle.gfp_fill.proofs.area_sender.AreaSender.send_idles.Goals as goal
 
 pub returns-then-n-gt0-clause-writes : goal.returns-then-n-gt0-clause-writes

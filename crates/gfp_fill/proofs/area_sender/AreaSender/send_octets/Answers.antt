@@ -2,7 +2,7 @@
 use Rattle.std.proofs.Common.{◌∙◌, ap, subst}
 use Rattle.gfp_scramble.specs.Scrambler.{Continues, ScramblesTo}
 use Rattle.gfp_fill.specs.SentAreas.{Sender, head_of}
-use Rattle.gfp_fill.proofs.SenderFillerStandsLaws.{octets_written}
+use Rattle.gfp_fill.proofs.SenderAndFillerStepLaws.{octets_written}
 use Rattle.gfp_fill.proofs.area_sender.AreaSender.send_octets.Goals as goal
 
 pub returns : goal.returns

@@ -3,7 +3,7 @@ use Rattle.std.proofs.Common.{List, ℕ, [], ◌∷◌, ◌++◌, map, sym, ◌�
 use Rattle.law_model.specs.Common.{area_of}
 use Rattle.gfp_fill.specs.SentAreas.{StandsIn}
 use Rattle.gfp_fill.specs.Queue.{Held}
-use Rattle.gfp_fill.proofs.SenderFillerStandsLaws.{oldest_begun}
+use Rattle.gfp_fill.proofs.SenderAndFillerStepLaws.{oldest_begun}
 use Rattle.gfp_fill.proofs.frame_queue.FrameQueueWaitingFrames.begin_next.Goals as goal
 
 pub returns-clause-begins : goal.returns-clause-begins

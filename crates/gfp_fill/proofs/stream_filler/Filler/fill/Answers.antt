@@ -1,7 +1,7 @@
 -- What is written first, and then what is written in the loop's next turn, are the next octets.
 use Rattle.std.proofs.Common.{take, arith, length, ◌+◌}
 use Rattle.law_model.proofs.ListLaws.{take-written}
-use Rattle.gfp_fill.proofs.SenderFillerStandsLaws.{written-none, written-both}
+use Rattle.gfp_fill.proofs.SenderAndFillerStepLaws.{written-none, written-both}
 use Rattle.gfp_fill.proofs.stream_filler.Filler.fill.Goals as goal
 
 pub loop-filled-init : goal.loop-filled-init

@@ -3,8 +3,7 @@ use Rattle.std.proofs.Common.{◌≡◌, ◌+◌, ◌/◌, [], length, take, sym
 use Rattle.std.proofs.lemmas.List.{length-take-le, nil_from_length}
 use Rattle.gfp_fill.specs.SentAreas.{Sender, head_of, StandsIn}
 use Rattle.gfp_fill.specs.Multiplex.{Stands}
-use Rattle.gfp_fill.proofs.SenderFillerStandsLaws.{all_written}
-use Rattle.gfp_fill.proofs.SenderFillerStandsLaws.{here_written, next_written, idles_next}
+use Rattle.gfp_fill.proofs.SenderAndFillerStepLaws.{all_written, here_written, next_written, idles_next}
 use Rattle.gfp_fill.proofs.stream_filler.Filler.fill_some.Goals as goal
 
 pub returns-then-left-gt0-clause-writes : goal.returns-then-left-gt0-clause-writes

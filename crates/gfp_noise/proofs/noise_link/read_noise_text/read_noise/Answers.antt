@@ -1,7 +1,7 @@
 -- What is made of what the lines say.
 use Rattle.std.proofs.Common.{ap}
 use Rattle.text_lines.specs.LanguageTable.{said_in, formed}
-use Rattle.text_lines.proofs.LanguageLaws.{fault_formed}
+use Rattle.text_lines.proofs.LineLanguageAndTableLaws.{fault_formed}
 use Rattle.gfp_noise.specs.noise_link.NoiseTextLines.{noise_table}
 use Rattle.gfp_noise.specs.noise_link.Noise.{noise_in}
 use Rattle.gfp_noise.proofs.NoiseDraftLaws.{valid_noise}

@@ -1,9 +1,9 @@
 -- The whole words come first, and then the octets that are left.
 use Rattle.std.proofs.Common.{◌++◌, drop, subst, ap, sym, ◌∙◌, arith, append_assoc, length-append}
 use Rattle.law_model.specs.Common.{descrambled_octets}
-use Rattle.law_model.proofs.ScrambledCutJoinedLaws.{length-descrambled_octets}
+use Rattle.law_model.proofs.ScrambledBitAndAreaLaws.{length-descrambled_octets}
 use Rattle.gfp_scramble.specs.Descrambler.{DescramblerStands, unknown}
-use Rattle.gfp_scramble.proofs.ScramblerDescramblerStandsLaws.{drop_alike}
+use Rattle.gfp_scramble.proofs.ScramblerAndDescramblerLaws.{drop_alike}
 use Rattle.gfp_scramble.proofs.descrambler.Descrambler.area.Goals as goal
 
 pub returns-clause-stands : goal.returns-clause-stands

@@ -1,7 +1,7 @@
 -- One octet more is descrambled.
 use Rattle.std.proofs.Common.{◌++◌, take, subst, arith}
 use Rattle.law_model.specs.Common.{descrambled_octets}
-use Rattle.law_model.proofs.ScrambledCutJoinedLaws.{length-descrambled_octets}
+use Rattle.law_model.proofs.ScrambledBitAndAreaLaws.{length-descrambled_octets}
 use Rattle.gfp_scramble.specs.Descrambler.{DescramblerStands, unknown}
 use Rattle.gfp_scramble.proofs.InPlaceAreaSteps.{back_more, given_more, front_more, front_all}
 use Rattle.gfp_scramble.proofs.descrambler.Descrambler.octets.Goals as goal

@@ -1,7 +1,7 @@
 -- Eight octets more are descrambled.
 use Rattle.std.proofs.Common.{◌++◌, ◌*◌, take, subst, arith}
 use Rattle.law_model.specs.Common.{descrambled_octets}
-use Rattle.law_model.proofs.ScrambledCutJoinedLaws.{length-descrambled_octets}
+use Rattle.law_model.proofs.ScrambledBitAndAreaLaws.{length-descrambled_octets}
 use Rattle.gfp_scramble.specs.Descrambler.{DescramblerStands, unknown}
 use Rattle.gfp_scramble.proofs.InPlaceAreaSteps.{back_eight, given_eight, front_eight, front_all}
 use Rattle.gfp_scramble.proofs.descrambler.Descrambler.words.Goals as goal

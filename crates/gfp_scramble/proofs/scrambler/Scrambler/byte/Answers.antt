@@ -1,7 +1,7 @@
 -- The register has the last 43 bits, so its upper eight are those that an octet is combined with.
 use Rattle.std.proofs.Common.{subst, sym}
 use Rattle.gfp_scramble.specs.Scrambler.{ScramblerStands}
-use Rattle.gfp_scramble.proofs.ScramblerDescramblerStandsLaws.{upper_octet-stands, upper_octet-answer}
+use Rattle.gfp_scramble.proofs.ScramblerAndDescramblerLaws.{upper_octet-stands, upper_octet-answer}
 use Rattle.gfp_scramble.proofs.scrambler.Scrambler.byte.Goals as goal
 
 pub returns-clause-stands : goal.returns-clause-stands

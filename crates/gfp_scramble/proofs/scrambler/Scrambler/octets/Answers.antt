@@ -1,7 +1,7 @@
 -- One octet more is scrambled.
 use Rattle.std.proofs.Common.{◌++◌, take, subst}
 use Rattle.law_model.specs.Common.{scrambled_octets}
-use Rattle.law_model.proofs.ScrambledCutJoinedLaws.{length-scrambled_octets}
+use Rattle.law_model.proofs.ScrambledBitAndAreaLaws.{length-scrambled_octets}
 use Rattle.gfp_scramble.specs.Scrambler.{ScramblerStands}
 use Rattle.gfp_scramble.proofs.InPlaceAreaSteps.{back_more, given_more, front_more}
 use Rattle.gfp_scramble.proofs.scrambler.Scrambler.octets.Goals as goal

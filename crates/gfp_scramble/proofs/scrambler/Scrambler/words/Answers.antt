@@ -1,7 +1,7 @@
 -- Eight octets more are scrambled.
 use Rattle.std.proofs.Common.{◌++◌, ◌*◌, take, subst}
 use Rattle.law_model.specs.Common.{scrambled_octets}
-use Rattle.law_model.proofs.ScrambledCutJoinedLaws.{length-scrambled_octets}
+use Rattle.law_model.proofs.ScrambledBitAndAreaLaws.{length-scrambled_octets}
 use Rattle.gfp_scramble.specs.Scrambler.{ScramblerStands}
 use Rattle.gfp_scramble.proofs.InPlaceAreaSteps.{back_eight, given_eight, front_eight}
 use Rattle.gfp_scramble.proofs.scrambler.Scrambler.words.Goals as goal

@@ -6,11 +6,10 @@ use Rattle.member_au4.specs.declared.au4_pointer.au_frame.Action.{Action}
 use Rattle.member_au4.specs.declared.au4_pointer.au_frame.Action.TheVariants.{Keep}
 use Rattle.member_au4.specs.au4_pointer.PointerWord.{fault_after}
 use Rattle.member_au4.specs.au4_pointer.SourceToSink.{Carries}
-use Rattle.member_au4.proofs.SinkFollowsSourceLaws.{first-carries}
+use Rattle.member_au4.proofs.PointerSourceAndSinkLaws.{first-carries}
 use Rattle.member_au4.specs.au4_link.Vcs.{first_vcs}
 use Rattle.member_au4.specs.au4_link.LinkReportText.{cuts, HasVcs}
-use Rattle.member_au4.proofs.NumberedVcCountsLaws.{cuts-more}
-use Rattle.member_au4.proofs.NumberedVcCountsLaws.{feeds, gives, counted-by, all-back, all-counts}
+use Rattle.member_au4.proofs.NumberedVcCountsLaws.{cuts-more, feeds, gives, counted-by, all-back, all-counts}
 use Rattle.member_au4.proofs.au4_link.au4_run.carry_all.Goals as goal
 
 pub loop-a-init : goal.loop-a-init

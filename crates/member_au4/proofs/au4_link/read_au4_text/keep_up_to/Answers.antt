@@ -1,6 +1,6 @@
 -- One more.
 use Rattle.std.proofs.Common.{◌-◌, vec_len, arith}
-use Rattle.member_au4.proofs.LinkDraftActionLaws.{keep_one}
+use Rattle.member_au4.proofs.LinkDraftAndActionLaws.{keep_one}
 use Rattle.member_au4.proofs.au4_link.read_au4_text.keep_up_to.Goals as goal
 
 pub loop-actions-preserved : goal.loop-actions-preserved

@@ -1,10 +1,10 @@
 -- What is made of what the lines say.
 use Rattle.std.proofs.Common.{ap, sym, subst}
 use Rattle.text_lines.specs.LanguageTable.{said_in, formed}
-use Rattle.text_lines.proofs.LanguageLaws.{fault_formed}
+use Rattle.text_lines.proofs.LineLanguageAndTableLaws.{fault_formed}
 use Rattle.member_au4.specs.au4_link.LinkTextLines.{link_table}
 use Rattle.member_au4.specs.au4_link.Link.{link_in, IsLink}
-use Rattle.member_au4.proofs.LinkDraftActionLaws.{valid_link, draft-inside}
+use Rattle.member_au4.proofs.LinkDraftAndActionLaws.{valid_link, draft-inside}
 use Rattle.member_au4.proofs.au4_link.read_au4_text.read_link.Goals as goal
 
 pub finished-requires : goal.finished-requires

@@ -2,7 +2,7 @@
 use Rattle.std.proofs.Common.{◌≡◌, None, Some, sym, ◌∙◌}
 use Rattle.member_au4.specs.au4_pointer.SentFrames.{sent}
 use Rattle.member_au4.specs.au4_pointer.Sink.{word_fault}
-use Rattle.member_au4.proofs.SinkFollowsSourceLaws.{never-refused, carried}
+use Rattle.member_au4.proofs.PointerSourceAndSinkLaws.{never-refused, carried}
 use Rattle.member_au4.proofs.au4_pointer.pointer_relay.relay.Goals as goal
 
 pub unreachable-requires : goal.unreachable-requires

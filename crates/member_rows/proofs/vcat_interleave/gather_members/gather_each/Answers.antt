@@ -1,7 +1,7 @@
 -- The row of one member, and that of two.
 use Rattle.std.proofs.Common.{◌*◌, length, ap, ◌∙◌, slice_index, arith}
 use Rattle.member_cells.specs.HeldPlaces.{held}
-use Rattle.member_rows.proofs.RowPartLaneLaws.{is-row-of_one, is-row-of_two}
+use Rattle.member_rows.proofs.RowPartAndLaneLaws.{is-row-of_one, is-row-of_two}
 use Rattle.member_rows.proofs.vcat_interleave.gather_members.gather_each.Goals as goal
 
 pub returns-in-1 : goal.returns-in-1

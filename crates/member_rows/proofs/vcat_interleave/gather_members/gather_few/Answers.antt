@@ -5,8 +5,8 @@ use Rattle.law_model.proofs.ListLaws.{take-written}
 use Rattle.member_cells.specs.HeldPlaces.{held}
 use Rattle.law_model.specs.Common.{octets_from}
 use Rattle.member_rows.specs.vcat_interleave.MemberPayloads.{payloads_of}
-use Rattle.member_rows.proofs.RowPartLaneLaws.{octets_from-add, octets_from-none}
-use Rattle.member_rows.proofs.RowSpreadPutLaws.{done-within}
+use Rattle.member_rows.proofs.RowPartAndLaneLaws.{octets_from-add, octets_from-none}
+use Rattle.member_rows.proofs.PutOctetAndRowSpreadLaws.{done-within}
 use Rattle.member_rows.proofs.vcat_interleave.gather_members.gather_few.Goals as goal
 
 pub loop-k-init : goal.loop-k-init

@@ -2,8 +2,8 @@
 use Rattle.std.proofs.Common.{◌*◌, length, ◌∙◌}
 use Rattle.member_cells.specs.HeldPlaces.{held}
 use Rattle.member_rows.specs.vcat_interleave.MemberPayloads.{payloads_of}
-use Rattle.member_rows.proofs.RowSpreadPutLaws.{rest-size}
-use Rattle.member_rows.proofs.RowPartLaneLaws.{rows-add}
+use Rattle.member_rows.proofs.PutOctetAndRowSpreadLaws.{rest-size}
+use Rattle.member_rows.proofs.RowPartAndLaneLaws.{rows-add}
 use Rattle.member_rows.proofs.vcat_interleave.gather_members.gather_places.Goals as goal
 
 pub gather_each-requires-clause-out : goal.gather_each-requires-clause-out

@@ -4,8 +4,7 @@ use Rattle.std.proofs.lemmas.Bool.{cases_eq}
 use Rattle.member_cells.specs.HeldPlaces.{held}
 use Rattle.member_rows.specs.vcat_interleave.Square.{octet_at}
 use Rattle.member_rows.specs.vcat_interleave.MemberPayloads.{payloads_of}
-use Rattle.member_rows.proofs.RowPartLaneLaws.{rank-place}
-use Rattle.member_rows.proofs.RowPartLaneLaws.{is-row}
+use Rattle.member_rows.proofs.RowPartAndLaneLaws.{rank-place, is-row}
 use Rattle.member_rows.proofs.vcat_interleave.gather_members.gather_ranks.Goals as goal
 
 pub loop-rank-preserved : goal.loop-rank-preserved

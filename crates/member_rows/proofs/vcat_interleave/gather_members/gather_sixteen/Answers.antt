@@ -5,7 +5,7 @@ use Rattle.std.proofs.lemmas.Grind.{div_ceil_times}
 use Rattle.member_cells.specs.HeldPlaces.{held}
 use Rattle.member_rows.specs.vcat_interleave.Square.{octet_at}
 use Rattle.member_rows.specs.vcat_interleave.MemberPayloads.{payloads_of}
-use Rattle.member_rows.proofs.RowPartLaneLaws.{is-row}
+use Rattle.member_rows.proofs.RowPartAndLaneLaws.{is-row}
 use Rattle.member_rows.proofs.vcat_interleave.gather_members.gather_sixteen.Goals as goal
 
 pub loop-k-preserved : goal.loop-k-preserved

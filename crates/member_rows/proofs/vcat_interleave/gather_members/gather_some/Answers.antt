@@ -4,8 +4,8 @@ use Rattle.std.proofs.lemmas.List.{take_rest, drop_all, append-nil}
 use Rattle.std.proofs.lemmas.Nat.{mul-le}
 use Rattle.member_cells.specs.HeldPlaces.{held}
 use Rattle.member_rows.specs.vcat_interleave.MemberPayloads.{payloads_of}
-use Rattle.member_rows.proofs.RowSpreadPutLaws.{rest-size}
-use Rattle.member_rows.proofs.RowPartLaneLaws.{rows-add}
+use Rattle.member_rows.proofs.PutOctetAndRowSpreadLaws.{rest-size}
+use Rattle.member_rows.proofs.RowPartAndLaneLaws.{rows-add}
 use Rattle.member_rows.proofs.vcat_interleave.gather_members.gather_some.Goals as goal
 
 pub gather_ranks-requires-clause-out : goal.gather_ranks-requires-clause-out

@@ -3,8 +3,7 @@ use Rattle.std.proofs.Common.{◌≡◌, ◌+◌, ◌*◌, take, length, ap, ◌
 use Rattle.member_cells.specs.HeldPlaces.{held}
 use Rattle.member_rows.specs.vcat_interleave.Square.{octet_at}
 use Rattle.member_rows.specs.vcat_interleave.MemberPayloads.{payloads_of}
-use Rattle.member_rows.proofs.RowPartLaneLaws.{within-row}
-use Rattle.member_rows.proofs.RowPartLaneLaws.{is-row}
+use Rattle.member_rows.proofs.RowPartAndLaneLaws.{within-row, is-row}
 use Rattle.member_rows.proofs.vcat_interleave.gather_members.gather_square.Goals as goal
 
 pub returns : goal.returns

@@ -4,9 +4,9 @@ use Rattle.std.proofs.lemmas.Slice.{take-put_mid}
 use Rattle.member_cells.specs.HeldPlaces.{held}
 use Rattle.law_model.specs.Common.{octets_from}
 use Rattle.member_rows.specs.vcat_interleave.MemberPayloads.{payloads_of}
-use Rattle.member_rows.proofs.RowPartLaneLaws.{octets_from-add, octets_from-none, length-octets_from}
-use Rattle.member_rows.proofs.RowSpreadPutLaws.{done-within}
-use Rattle.member_rows.proofs.RowPartLaneLaws.{length-payloads}
+use Rattle.member_rows.proofs.RowPartAndLaneLaws.{octets_from-add, octets_from-none, length-octets_from}
+use Rattle.member_rows.proofs.PutOctetAndRowSpreadLaws.{done-within}
+use Rattle.member_rows.proofs.RowPartAndLaneLaws.{length-payloads}
 use Rattle.member_rows.proofs.vcat_interleave.gather_members.gather_squares.Goals as goal
 
 pub loop-k-init : goal.loop-k-init

@@ -2,7 +2,7 @@
 use Rattle.std.proofs.Common.{◌+◌, ◌*◌, ◌<◌, inl, inr, slice_index, sym, ap, ◌∙◌, arith}
 use Rattle.std.proofs.lemmas.Bool.{cases_eq}
 use Rattle.member_rows.specs.vcat_interleave.Square.{octet_at}
-use Rattle.member_rows.proofs.RowSpreadPutLaws.{later}
+use Rattle.member_rows.proofs.PutOctetAndRowSpreadLaws.{later}
 use Rattle.member_rows.proofs.vcat_interleave.gather_members.put_places.Goals as goal
 
 pub loop-j-preserved : goal.loop-j-preserved

@@ -2,7 +2,7 @@
 use Rattle.std.proofs.Common.{◌≡◌, ◌+◌, ◌*◌, inl, inr, get_or, sym, ap, ◌∙◌, arith}
 use Rattle.std.proofs.lemmas.Bool.{cases_eq}
 use Rattle.member_rows.specs.vcat_interleave.Square.{octet_at}
-use Rattle.member_rows.proofs.RowSpreadPutLaws.{earlier, aside}
+use Rattle.member_rows.proofs.PutOctetAndRowSpreadLaws.{earlier, aside}
 use Rattle.member_rows.proofs.vcat_interleave.gather_members.put_rows.Goals as goal
 
 pub loop-j-preserved : goal.loop-j-preserved

@@ -1,5 +1,5 @@
 -- Each clause is a law of rows.
-use Rattle.member_rows.proofs.RowPartLaneLaws.{dealt, length-part_of, row_of-parts, part_of-row, octets_from-add}
+use Rattle.member_rows.proofs.RowPartAndLaneLaws.{dealt, length-part_of, row_of-parts, part_of-row, octets_from-add}
 use Rattle.member_rows.proofs.vcat_interleave.interleave_laws.interleave_law.Goals as goal
 
 pub returns-clause-dealt : goal.returns-clause-dealt

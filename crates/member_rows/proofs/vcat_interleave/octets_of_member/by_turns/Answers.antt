@@ -1,6 +1,6 @@
 -- Every second octet of two vectors.
 use Rattle.std.proofs.Common.{◌++◌}
-use Rattle.member_rows.proofs.RowPartLaneLaws.{firsts_are, seconds_are}
+use Rattle.member_rows.proofs.RowPartAndLaneLaws.{firsts_are, seconds_are}
 use Rattle.member_rows.proofs.vcat_interleave.octets_of_member.by_turns.Goals as goal
 
 pub returns-clause-firsts : goal.returns-clause-firsts

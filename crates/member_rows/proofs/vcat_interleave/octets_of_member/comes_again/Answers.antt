@@ -2,7 +2,7 @@
 use Rattle.std.proofs.Common.{◌-◌, ℕ, List, length, take, drop, sym, ◌∙◌}
 use Rattle.std.proofs.lemmas.List.{take_rest}
 use Rattle.std.proofs.lemmas.Slice.Eq.{bytes_eq-Decides}
-use Rattle.member_rows.proofs.RowPartLaneLaws.{is-again}
+use Rattle.member_rows.proofs.RowPartAndLaneLaws.{is-again}
 use Rattle.member_rows.proofs.vcat_interleave.octets_of_member.comes_again.Goals as goal
 
 pub returns-then-row-gt3 : goal.returns-then-row-gt3

@@ -1,7 +1,7 @@
 -- A place that is written is no other one of the rank, and none of another rank.
 use Rattle.std.proofs.Common.{◌≢◌, ◌+◌, ◌*◌, ◌%◌, ◌<◌, length, get_or-set_other, get_or-set_same, below_more, ◌∙◌, ap}
 use Rattle.std.proofs.Common.{arith}
-use Rattle.member_rows.proofs.RowPartLaneLaws.{rank-place, other-place, within-row}
+use Rattle.member_rows.proofs.RowPartAndLaneLaws.{rank-place, other-place, within-row}
 use Rattle.member_rows.proofs.vcat_interleave.octets_of_member.put_rank.Goals as goal
 
 pub loop-p-preserved : goal.loop-p-preserved

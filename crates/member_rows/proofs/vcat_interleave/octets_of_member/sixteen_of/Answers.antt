@@ -1,6 +1,6 @@
 -- The octets of a member come again too.
 use Rattle.std.proofs.Common.{◌%◌, ◌∙◌, arith}
-use Rattle.member_rows.proofs.RowPartLaneLaws.{again-part}
+use Rattle.member_rows.proofs.RowPartAndLaneLaws.{again-part}
 use Rattle.member_rows.proofs.vcat_interleave.octets_of_member.sixteen_of.Goals as goal
 
 pub returns : goal.returns

@@ -2,7 +2,7 @@
 use Rattle.std.proofs.Common.{◌≡◌, ◌+◌, ◌-◌, ◌*◌, ◌%◌, inl, inr, length, slice_index, ap, ◌∙◌, arith}
 use Rattle.std.proofs.lemmas.Bool.{cases_lt}
 use Rattle.law_model.specs.Common.{part_of}
-use Rattle.member_rows.proofs.RowPartLaneLaws.{is-part_of, within-row}
+use Rattle.member_rows.proofs.RowPartAndLaneLaws.{is-part_of, within-row}
 use Rattle.member_rows.proofs.vcat_interleave.octets_of_member.take_again.Goals as goal
 
 pub loop-k-preserved : goal.loop-k-preserved

@@ -1,7 +1,7 @@
 -- The octets stand at the places of the rank.
 use Rattle.std.proofs.Common.{◌∙◌, ap, arith}
 use Rattle.law_model.specs.Common.{part_of}
-use Rattle.member_rows.proofs.RowPartLaneLaws.{is-part_of}
+use Rattle.member_rows.proofs.RowPartAndLaneLaws.{is-part_of}
 use Rattle.member_rows.proofs.vcat_interleave.octets_of_member.take_rank.Goals as goal
 
 pub returns : goal.returns

@@ -1,6 +1,6 @@
 -- The octets stand in the container in the box of the line.
 use Rattle.std.proofs.Common.{◌∙◌, sym}
-use Rattle.member_rows.proofs.RowSpreadPutLaws.{put-in-box}
+use Rattle.member_rows.proofs.PutOctetAndRowSpreadLaws.{put-in-box}
 use Rattle.member_rows.proofs.vcat_interleave.spread_members.put_member.Goals as goal
 
 pub returns-clause-put : goal.returns-clause-put

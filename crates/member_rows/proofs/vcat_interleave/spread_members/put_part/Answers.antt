@@ -1,8 +1,8 @@
 -- The part stands in the container in the box of the line.
 use Rattle.std.proofs.Common.{◌∙◌, sym}
 use Rattle.law_model.specs.Common.{part_of}
-use Rattle.member_rows.proofs.RowPartLaneLaws.{length-part_of}
-use Rattle.member_rows.proofs.RowSpreadPutLaws.{put-in-box}
+use Rattle.member_rows.proofs.RowPartAndLaneLaws.{length-part_of}
+use Rattle.member_rows.proofs.PutOctetAndRowSpreadLaws.{put-in-box}
 use Rattle.member_rows.proofs.vcat_interleave.spread_members.put_part.Goals as goal
 
 pub returns-clause-put : goal.returns-clause-put

@@ -4,8 +4,7 @@ use Rattle.std.proofs.lemmas.List.{take_rest}
 use Rattle.std.proofs.lemmas.Nat.{mul-le}
 use Rattle.member_cells.specs.HeldPlaces.{held}
 use Rattle.member_rows.specs.vcat_interleave.Spread.{Spreads}
-use Rattle.member_rows.proofs.RowSpreadPutLaws.{rest-size}
-use Rattle.member_rows.proofs.RowSpreadPutLaws.{spreads-add}
+use Rattle.member_rows.proofs.PutOctetAndRowSpreadLaws.{rest-size, spreads-add}
 use Rattle.member_rows.proofs.vcat_interleave.spread_members.spread_by_squares.Goals as goal
 
 pub spread_each-requires-clause-row : goal.spread_each-requires-clause-row

@@ -2,7 +2,7 @@
 use Rattle.std.proofs.Common.{◌≡◌, ◌+◌, suc, length, subst, arith}
 use Rattle.member_cells.specs.HeldPlaces.{held}
 use Rattle.member_rows.specs.vcat_interleave.Spread.{SpreadsOver}
-use Rattle.member_rows.proofs.RowSpreadPutLaws.{spreads-none, spreads-next, lines-stay}
+use Rattle.member_rows.proofs.PutOctetAndRowSpreadLaws.{spreads-none, spreads-next, lines-stay}
 use Rattle.member_rows.proofs.vcat_interleave.spread_members.spread_each.Goals as goal
 
 pub loop-rank-init : goal.loop-rank-init

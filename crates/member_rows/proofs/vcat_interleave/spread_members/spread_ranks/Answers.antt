@@ -3,7 +3,7 @@ use Rattle.std.proofs.Common.{◌≡◌, ◌+◌, ◌*◌, length, subst, arith}
 use Rattle.std.proofs.lemmas.List.{take_rest}
 use Rattle.member_cells.specs.HeldPlaces.{held}
 use Rattle.member_rows.specs.vcat_interleave.Spread.{SpreadsOver}
-use Rattle.member_rows.proofs.RowSpreadPutLaws.{spreads-empty, spreads-add}
+use Rattle.member_rows.proofs.PutOctetAndRowSpreadLaws.{spreads-empty, spreads-add}
 use Rattle.member_rows.proofs.vcat_interleave.spread_members.spread_ranks.Goals as goal
 
 pub loop-k-init : goal.loop-k-init

@@ -3,8 +3,8 @@ use Rattle.std.proofs.Common.{◌≡◌, [], ◌+◌, ◌<◌, suc, length, slic
 use Rattle.law_model.specs.Common.{part_of}
 use Rattle.member_cells.specs.HeldPlaces.{held}
 use Rattle.member_rows.specs.vcat_interleave.Spread.{SpreadsOver}
-use Rattle.member_rows.proofs.RowPartLaneLaws.{is-part_of}
-use Rattle.member_rows.proofs.RowSpreadPutLaws.{spreads-none, spreads-next, lines-stay}
+use Rattle.member_rows.proofs.RowPartAndLaneLaws.{is-part_of}
+use Rattle.member_rows.proofs.PutOctetAndRowSpreadLaws.{spreads-none, spreads-next, lines-stay}
 use Rattle.member_rows.proofs.vcat_interleave.spread_members.spread_square.Goals as goal
 
 pub loop-i-init : goal.loop-i-init

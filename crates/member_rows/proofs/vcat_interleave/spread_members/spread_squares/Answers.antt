@@ -2,7 +2,7 @@
 use Rattle.std.proofs.Common.{◌≡◌, ◌+◌, ◌*◌, ◌/◌, ℕ, length, subst, arith}
 use Rattle.member_cells.specs.HeldPlaces.{held}
 use Rattle.member_rows.specs.vcat_interleave.Spread.{SpreadsOver}
-use Rattle.member_rows.proofs.RowSpreadPutLaws.{spreads-none, spreads-join}
+use Rattle.member_rows.proofs.PutOctetAndRowSpreadLaws.{spreads-none, spreads-join}
 use Rattle.member_rows.proofs.vcat_interleave.spread_members.spread_squares.Goals as goal
 
 pub loop-k-init : goal.loop-k-init

@@ -1,5 +1,5 @@
 -- The octets of two vectors of sixteen, in turn.
-use Rattle.member_rows.proofs.RowPartLaneLaws.{front_is, back_is}
+use Rattle.member_rows.proofs.RowPartAndLaneLaws.{front_is, back_is}
 use Rattle.member_rows.proofs.vcat_interleave.transpose_square.in_turn.Goals as goal
 
 pub returns-clause-front : goal.returns-clause-front

@@ -1,7 +1,7 @@
 -- Sixteen octets stand in the place of sixteen others.
 use Rattle.std.proofs.Common.{◌+◌, ◌++◌, inl, inr, take, drop, slice_index, ap, ap₂, ◌∙◌, sym, arith, drop-drop}
 use Rattle.std.proofs.lemmas.Simd.{put_chunk_whole}
-use Rattle.member_rows.proofs.RowSpreadPutLaws.{put-placed, put-before, put-after}
+use Rattle.member_rows.proofs.PutOctetAndRowSpreadLaws.{put-placed, put-before, put-after}
 use Rattle.member_rows.proofs.vcat_interleave.transpose_square.put_octets.Goals as goal
 
 pub returns-clause-octets : goal.returns-clause-octets

@@ -4,7 +4,7 @@ use Rattle.law_model.specs.session.Scenario.{packets_in}
 use Rattle.law_pair.specs.Common.{way_of}
 use Rattle.walk_engine.specs.walk_core.WayParts.{WayStands}
 use Rattle.walk_engine.specs.Common.{Parts, counts_of}
-use Rattle.walk_engine.proofs.WayStandsAndToldLaws.{landing-stays}
+use Rattle.walk_engine.proofs.WayEventAndToldSourceLaws.{landing-stays}
 use Rattle.pair_engine.specs.Ways.{way_counts}
 use Rattle.pair_engine.proofs.pair_way.PairWay.carry.Goals as goal
 

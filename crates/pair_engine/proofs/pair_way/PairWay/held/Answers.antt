@@ -3,7 +3,7 @@ use Rattle.std.proofs.Common.{◌≡◌, ℕ, Option, option_map, sym, ◌∙◌
 use Rattle.law_model.specs.Common.{dues_of, held}
 use Rattle.law_model.specs.declared.script_types.Script.{Script}
 use Rattle.law_model.specs.declared.walk_events.StallCause.TheVariants.{Held}
-use Rattle.terminal_group.proofs.ItemPlaceHeldLaws.{bare-dues}
+use Rattle.terminal_group.proofs.ItemPlaceAndHeldItemLaws.{bare-dues}
 use Rattle.law_pair.specs.Common.{way_of}
 use Rattle.pair_engine.specs.declared.pair_way.PairWay.{PairWay}
 use Rattle.pair_engine.specs.Ways.{LandedAs}

@@ -1,7 +1,7 @@
 -- The first script is whole, and the other one begins.
 use Rattle.std.proofs.Common.{arith}
 use Rattle.text_scripts.specs.script_read.ScriptInPieces.{drafted}
-use Rattle.pair_walk.proofs.PairReaderHalvesLaws.{divided_at, script_told}
+use Rattle.pair_walk.proofs.PairScriptReaderLaws.{divided_at, script_told}
 use Rattle.pair_walk.proofs.pair_script.pair_reader.divide.Goals as goal
 
 pub returns-in-Ok-clause-reader : goal.returns-in-Ok-clause-reader

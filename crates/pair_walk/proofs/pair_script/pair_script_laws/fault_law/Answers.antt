@@ -1,6 +1,6 @@
 -- Both directions of each law.
 use Rattle.pair_walk.specs.pair_script.PairTextLines.{of_script, no_division}
-use Rattle.pair_walk.proofs.PairReaderHalvesLaws.{told_line}
+use Rattle.pair_walk.proofs.PairScriptReaderLaws.{told_line}
 use Rattle.pair_walk.proofs.pair_script.pair_script_laws.fault_law.Goals as goal
 
 pub returns-clause-line : goal.returns-clause-line

@@ -1,7 +1,7 @@
 -- What the input says is two scripts.
 use Rattle.std.proofs.lemmas.Result.{IfOk-weaker}
 use Rattle.pair_walk.specs.pair_script.PairOfText.{pair_of}
-use Rattle.pair_walk.proofs.PairReaderHalvesLaws.{said-pair}
+use Rattle.pair_walk.proofs.PairScriptReaderLaws.{said-pair}
 use Rattle.pair_walk.proofs.pair_script.read_pair_pieces.read_pair.Goals as goal
 
 pub returns-clause-pair : goal.returns-clause-pair

@@ -4,7 +4,7 @@ use Rattle.terminal_source.specs.source_core.Terminal.{needed}
 use Rattle.terminal_group.specs.ReturnInbox.{cell_for}
 use Rattle.terminal_group.specs.Source.{missing_by}
 use Rattle.terminal_group.specs.SourceByCounts.{Counted, missing_from}
-use Rattle.terminal_group.proofs.ReturnCellEarlyMissingLaws.{cell-for}
+use Rattle.terminal_group.proofs.InboxReturnCellLaws.{cell-for}
 use Rattle.terminal_group.proofs.counted_source.CountedSource.make.Goals as goal
 
 pub tick-requires-clause-back : goal.tick-requires-clause-back

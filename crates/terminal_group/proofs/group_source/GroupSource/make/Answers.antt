@@ -1,7 +1,7 @@
 -- Ticks are left where nothing keeps a frame from being made.
 use Rattle.std.proofs.Common.{◌∙◌, ap}
 use Rattle.terminal_group.specs.Source.{Source, early_in, missing_in}
-use Rattle.terminal_group.proofs.ReturnCellEarlyMissingLaws.{early-none}
+use Rattle.terminal_group.proofs.InboxReturnCellLaws.{early-none}
 use Rattle.terminal_group.proofs.group_source.GroupSource.make.Goals as goal
 
 pub make-requires-clause-left : goal.make-requires-clause-left

@@ -5,8 +5,8 @@ use Rattle.law_model.specs.declared.script_types.Item.{Item}
 use Rattle.law_model.specs.declared.item_refusals.Refusal.{Refusal}
 use Rattle.law_walk.specs.Common.{is_client, IsPlaced, refused_by}
 use Rattle.terminal_group.specs.Landed.{Landed, next_place, landed_of, refused_of, HasPassed, AreOthers}
-use Rattle.terminal_group.proofs.LandedRefusalsLaws.{all-dues, one-low, fewer-room, number-there, next-kind, none-put}
-use Rattle.terminal_group.proofs.LandedRefusalsLaws.{refusal-landed, wider}
+use Rattle.terminal_group.proofs.RefusalOrderAndNextItemLaws.{all-dues, one-low, fewer-room, number-there, next-kind}
+use Rattle.terminal_group.proofs.RefusalOrderAndNextItemLaws.{none-put, refusal-landed, wider}
 use Rattle.terminal_group.proofs.landed_items.Landing.land.Goals as goal
 
 pub overflow_add-self : goal.overflow_add-self

@@ -7,8 +7,8 @@ use Rattle.law_model.specs.declared.item_refusals.Refusal.{Refusal}
 use Rattle.terminal_group.specs.Item.{bare}
 use Rattle.terminal_group.specs.ItemPlaces.{is_frame, is_command, place_of}
 use Rattle.terminal_group.specs.Landed.{IsLanded}
-use Rattle.terminal_group.proofs.ItemPlaceHeldLaws.{bare-dues}
-use Rattle.terminal_group.proofs.LandedRefusalsLaws.{none-yet}
+use Rattle.terminal_group.proofs.ItemPlaceAndHeldItemLaws.{bare-dues}
+use Rattle.terminal_group.proofs.RefusalOrderAndNextItemLaws.{none-yet}
 use Rattle.terminal_group.proofs.landed_items.Landing.new.Goals as goal
 
 pub invariant_of-result : goal.invariant_of-result

@@ -2,7 +2,8 @@
 use Rattle.std.proofs.Common.{◌+◌, ◌<◌, length, drop, true, false, sym, ◌∙◌, ap, subst, arith}
 use Rattle.terminal_group.specs.ItemPlaces.{is_frame, is_command, place_of}
 use Rattle.terminal_group.specs.Landed.{Landed, next_place}
-use Rattle.terminal_group.proofs.LandedRefusalsLaws.{all-dues, frame-landed, command-landed, fresh-next, next-later}
+use Rattle.terminal_group.proofs.RefusalOrderAndNextItemLaws.{all-dues, frame-landed, command-landed, fresh-next}
+use Rattle.terminal_group.proofs.RefusalOrderAndNextItemLaws.{next-later}
 use Rattle.terminal_group.proofs.landed_items.Landing.pass.Goals as goal
 
 pub overflow_add-self : goal.overflow_add-self

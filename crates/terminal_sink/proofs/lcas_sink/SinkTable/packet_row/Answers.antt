@@ -4,9 +4,9 @@ use Rattle.std.proofs.Common.{length-append}
 use Rattle.law_model.specs.Common.{leader, ack_by, return_of, status_of}
 use Rattle.terminal_sink.specs.member_watch.Watches.{is_told, mst_by}
 use Rattle.terminal_sink.specs.lcas_sink.SinkStates.{Sink, SinkTableStands}
-use Rattle.terminal_sink.proofs.LastWordWatchTimersLaws.{ack-more, changed-by}
-use Rattle.terminal_sink.proofs.MemberStatusReturnLaws.{states-more, told-rows, mst-same, return-fields}
-use Rattle.terminal_sink.proofs.ActiveSilentSupposedCarrierLaws.{carriers-last}
+use Rattle.terminal_sink.proofs.WatchTimerAndLastWordLaws.{ack-more, changed-by}
+use Rattle.terminal_sink.proofs.SinkStateAndMemberStatusLaws.{states-more, told-rows, mst-same, return-fields}
+use Rattle.terminal_sink.proofs.ActiveLineAndSupposedCarrierLaws.{carriers-last}
 use Rattle.terminal_sink.proofs.lcas_sink.SinkTable.packet_row.Goals as goal
 
 pub returns-clause-stands : goal.returns-clause-stands

@@ -2,7 +2,7 @@
 use Rattle.std.proofs.Common.{sym, subst}
 use Rattle.gfp_delineate.specs.Receiver as receiver
 use Rattle.terminal_sink.specs.marked_delineator.Marks.{Marked}
-use Rattle.terminal_sink.proofs.ConfirmedMarkLaws.{no-octets}
+use Rattle.terminal_sink.proofs.ConfirmedPlaceAndMarkLaws.{no-octets}
 use Rattle.terminal_sink.proofs.marked_delineator.MarkedDelineator.broken.Goals as goal
 
 pub returns-clause-stands_in : goal.returns-clause-stands_in

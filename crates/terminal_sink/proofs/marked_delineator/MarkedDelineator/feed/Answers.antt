@@ -1,9 +1,9 @@
 -- One octet while nothing is confirmed, and else octets that change no mark.
 use Rattle.std.proofs.Common.{sym, ◌∙◌, ap, subst, inl, inr, arith}
 use Rattle.gfp_delineate.specs.Receiver as receiver
-use Rattle.gfp_delineate.proofs.RepeatedIdlePieceLaws.{take_one}
+use Rattle.gfp_delineate.proofs.OctetPieceAndIdleRunLaws.{take_one}
 use Rattle.terminal_sink.specs.marked_delineator.Marks.{HasMark, Marked, is_hunting}
-use Rattle.terminal_sink.proofs.ConfirmedMarkLaws.{mark-kept}
+use Rattle.terminal_sink.proofs.ConfirmedPlaceAndMarkLaws.{mark-kept}
 use Rattle.terminal_sink.proofs.marked_delineator.MarkedDelineator.feed.Goals as goal
 
 pub returns-then-piece-gt0-clause-stands_in : goal.returns-then-piece-gt0-clause-stands_in

@@ -2,14 +2,14 @@
 use Rattle.std.proofs.Common.{◌≡◌, ℕ, true, false, refl, List, [], take, Option, Some, None, ◌∙◌, subst, IfSome}
 use Rattle.law_model.specs.Common.{core_header}
 use Rattle.gfp_delineate.specs.declared.hunt_presync_sync.Phase.{Phase}
-use Rattle.gfp_delineate.specs.declared.hunt_presync_sync.Phase.TheVariants.{Hunt, PresyncArea, PresyncHeader, SyncHeader, SyncArea}
-use Rattle.gfp_delineate.specs.declared.hunt_presync_sync.Phase.TheVariants.{SyncPassing}
+use Rattle.gfp_delineate.specs.declared.hunt_presync_sync.Phase.TheVariants.{Hunt, PresyncArea, PresyncHeader}
+use Rattle.gfp_delineate.specs.declared.hunt_presync_sync.Phase.TheVariants.{SyncHeader, SyncArea, SyncPassing}
 use Rattle.gfp_delineate.specs.ReceivedAreas.{header_begun_in}
 use Rattle.gfp_delineate.specs.Receiver as receiver
 use Rattle.gfp_delineate.specs.Repeated.{idles_from}
-use Rattle.gfp_delineate.proofs.ProgressWindowEndsLaws.{in_sync, is_sync-IsAt}
+use Rattle.gfp_delineate.proofs.ReceiverProgressLaws.{in_sync, is_sync-IsAt}
 use Rattle.terminal_sink.specs.marked_delineator.Marks.{Marked, header_begun, Advances, Brings}
-use Rattle.terminal_sink.proofs.ConfirmedMarkLaws.{synced-stays}
+use Rattle.terminal_sink.proofs.ConfirmedPlaceAndMarkLaws.{synced-stays}
 use Rattle.terminal_sink.proofs.marked_delineator.MarkedDelineator.idle_place.Goals as goal
 
 due-synced : (phase : Phase) (window begun : List ℕ) → header_begun_in phase window ≡ Some begun → in_sync phase ≡ true

@@ -1,6 +1,6 @@
 -- One packet more wasn't read.
 use Rattle.std.proofs.Common.{◌+◌, refl, ap}
-use Rattle.terminal_sink.proofs.LastWordWatchTimersLaws.{timers-missed, and-there, and-gone}
+use Rattle.terminal_sink.proofs.WatchTimerAndLastWordLaws.{timers-missed, and-there, and-gone}
 use Rattle.terminal_sink.proofs.member_watch.MemberTimers.missed.Goals as goal
 
 pub returns-then-self : goal.returns-then-self

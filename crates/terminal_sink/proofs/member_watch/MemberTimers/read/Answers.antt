@@ -1,6 +1,6 @@
 -- One packet more was read.
 use Rattle.std.proofs.Common.{◌+◌, refl, ap}
-use Rattle.terminal_sink.proofs.LastWordWatchTimersLaws.{timers-read, or-there, or-past}
+use Rattle.terminal_sink.proofs.WatchTimerAndLastWordLaws.{timers-read, or-there, or-past}
 use Rattle.terminal_sink.proofs.member_watch.MemberTimers.read.Goals as goal
 
 pub returns-then-self : goal.returns-then-self

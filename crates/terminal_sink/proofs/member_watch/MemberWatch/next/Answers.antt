@@ -2,8 +2,8 @@
 use Rattle.std.proofs.Common.{[], ◌∷◌, ◌++◌, length, None, is_some, if◌then◌else◌, sym, ◌∙◌, ap}
 use Rattle.law_model.specs.Common.{has_packet}
 use Rattle.terminal_sink.specs.member_watch.Watches.{sq_of, word_before}
-use Rattle.terminal_sink.proofs.LastWordWatchTimersLaws.{timers-same}
-use Rattle.terminal_sink.proofs.LastWordWatchTimersLaws.{has-before, has-last, word-read, word-missed, watch-step}
+use Rattle.terminal_sink.proofs.WatchTimerAndLastWordLaws.{timers-same}
+use Rattle.terminal_sink.proofs.WatchTimerAndLastWordLaws.{has-before, has-last, word-read, word-missed, watch-step}
 use Rattle.terminal_sink.proofs.member_watch.MemberWatch.next.Goals as goal
 
 pub returns-in-Some : goal.returns-in-Some

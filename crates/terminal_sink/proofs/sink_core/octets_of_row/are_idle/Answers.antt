@@ -4,7 +4,7 @@ use Rattle.std.proofs.lemmas.Bool.{cases_lt}
 use Rattle.law_model.specs.Common.{core_header, Container}
 use Rattle.member_cells.specs.HeldPlaces.{held}
 use Rattle.member_rows.specs.vcat_interleave.MemberPayloads.{payload_at}
-use Rattle.terminal_sink.proofs.IdleOctetsGrowsLaws.{idles-dealt}
+use Rattle.terminal_sink.proofs.ReceivedOctetAndDealtIdleLaws.{idles-dealt}
 use Rattle.terminal_sink.proofs.sink_core.octets_of_row.are_idle.Goals as goal
 
 pub loop-rank-preserved : goal.loop-rank-preserved

@@ -4,7 +4,7 @@ use Rattle.std.proofs.Common.{get_or-take, get_or-drop}
 use Rattle.std.specs.Int.{to_le_bytes}
 use Rattle.member_cells.specs.HeldPlaces.{held}
 use Rattle.member_rows.specs.vcat_interleave.MemberPayloads.{payload_at}
-use Rattle.terminal_sink.proofs.IdleOctetsGrowsLaws.{get-eights}
+use Rattle.terminal_sink.proofs.ReceivedOctetAndDealtIdleLaws.{get-eights}
 use Rattle.terminal_sink.proofs.sink_core.octets_of_row.carries_word.Goals as goal
 
 pub returns : goal.returns

@@ -3,10 +3,10 @@ use Rattle.std.proofs.Common.{ℕ, ◌-◌, ◌*◌, ◌/◌, length, sym, subst
 use Rattle.member_cells.specs.HeldPlaces.{held}
 use Rattle.law_model.specs.Common.{octets_from}
 use Rattle.member_rows.specs.vcat_interleave.MemberPayloads.{payloads_of}
-use Rattle.member_rows.proofs.RowPartLaneLaws.{octets_from-none}
+use Rattle.member_rows.proofs.RowPartAndLaneLaws.{octets_from-none}
 use Rattle.gfp_delineate.specs.Repeated.{idles_from}
 use Rattle.terminal_sink.specs.sink_core.RowsInReceiver.{IsIdle}
-use Rattle.terminal_sink.proofs.IdleOctetsGrowsLaws.{idle-none, idle-by}
+use Rattle.terminal_sink.proofs.ReceivedOctetAndDealtIdleLaws.{idle-none, idle-by}
 use Rattle.terminal_sink.proofs.sink_core.octets_of_row.idle_places.Goals as goal
 
 pub returns-in-Some-clause-idle : goal.returns-in-Some-clause-idle

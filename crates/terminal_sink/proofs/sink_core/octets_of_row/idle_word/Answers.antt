@@ -1,7 +1,7 @@
 -- Each of the eight octets of the word is the one of its place.
 use Rattle.std.proofs.Common.{◌≡◌, ℕ, ◌+◌, ◌*◌, ◌%◌, slice_index, ◌∙◌, ap, arith}
 use Rattle.law_model.specs.Common.{core_header}
-use Rattle.terminal_sink.proofs.IdleOctetsGrowsLaws.{get-eight}
+use Rattle.terminal_sink.proofs.ReceivedOctetAndDealtIdleLaws.{get-eight}
 use Rattle.terminal_sink.proofs.sink_core.octets_of_row.idle_word.Goals as goal
 
 pub returns : goal.returns

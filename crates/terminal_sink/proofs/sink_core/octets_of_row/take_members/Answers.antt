@@ -5,13 +5,14 @@ use Rattle.std.proofs.lemmas.Bool.Decides.{nat_tests}
 use Rattle.std.proofs.lemmas.List.{nil_from_length}
 use Rattle.law_model.specs.Common.{octets_from, Container}
 use Rattle.member_rows.specs.vcat_interleave.MemberPayloads.{payloads_of, payload_at}
-use Rattle.member_rows.proofs.RowPartLaneLaws.{length-octets_from, octets_from-add, octets_from-none}
-use Rattle.member_rows.proofs.RowPartLaneLaws.{length-payloads}
+use Rattle.member_rows.proofs.RowPartAndLaneLaws.{length-octets_from, octets_from-add, octets_from-none}
+use Rattle.member_rows.proofs.RowPartAndLaneLaws.{length-payloads}
 use Rattle.terminal_sink.specs.sink_core.RowsInReceiver.{Grows, Gives}
 use Rattle.member_cells.specs.HeldPlaces.{held}
-use Rattle.gfp_delineate.proofs.RepeatedIdlePieceLaws.{take_one}
-use Rattle.terminal_sink.proofs.IdleOctetsGrowsLaws.{octets_from-single, long-enough, known-grows, grows-none}
-use Rattle.terminal_sink.proofs.IdleOctetsGrowsLaws.{grows-more, gives-none, gives-more, idle-grows, idle-gives}
+use Rattle.gfp_delineate.proofs.OctetPieceAndIdleRunLaws.{take_one}
+use Rattle.terminal_sink.proofs.ReceivedOctetAndDealtIdleLaws.{octets_from-single, long-enough, known-grows}
+use Rattle.terminal_sink.proofs.ReceivedOctetAndDealtIdleLaws.{grows-none, grows-more, gives-none, gives-more}
+use Rattle.terminal_sink.proofs.ReceivedOctetAndDealtIdleLaws.{idle-grows, idle-gives}
 use Rattle.terminal_sink.proofs.sink_core.octets_of_row.take_members.Goals as goal
 
 pub returns-then-is_empty : goal.returns-then-is_empty

@@ -3,7 +3,7 @@ use Rattle.std.proofs.Common.{◌≡◌, ◌+◌, ◌-◌, ◌++◌, length, tak
 use Rattle.std.proofs.lemmas.List.{length-drop, take_all}
 use Rattle.law_model.proofs.ListLaws.{take-further}
 use Rattle.terminal_sink.specs.sink_core.RowsInReceiver.{Grows, Gives}
-use Rattle.terminal_sink.proofs.IdleOctetsGrowsLaws.{known-grows, grows-more, gives-more}
+use Rattle.terminal_sink.proofs.ReceivedOctetAndDealtIdleLaws.{known-grows, grows-more, gives-more}
 use Rattle.terminal_sink.proofs.sink_core.octets_of_row.take_piece.Goals as goal
 
 pub loop-at-preserved : goal.loop-at-preserved

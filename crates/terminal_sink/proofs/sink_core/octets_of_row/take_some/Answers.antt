@@ -1,7 +1,7 @@
 -- The frame that octets complete is given.
 use Rattle.std.proofs.Common.{◌≡◌, [], ◌++◌, take, sym, ◌∙◌, ap, subst, inl, inr, append-nil}
 use Rattle.gfp_delineate.proofs.AreaOutcomeLaws.{told}
-use Rattle.terminal_sink.proofs.IdleOctetsGrowsLaws.{next-told}
+use Rattle.terminal_sink.proofs.ReceivedOctetAndDealtIdleLaws.{next-told}
 use Rattle.terminal_sink.proofs.sink_core.octets_of_row.take_some.Goals as goal
 use Rattle.law_model.specs.Common.{longest_frame}
 

@@ -1,5 +1,5 @@
 -- The frames of a session.
-use Rattle.terminal_sink.proofs.ReceivedRowsGivenFramesLaws.{session-frames, session-last, session-rows}
+use Rattle.terminal_sink.proofs.ReceivedRowAndGivenFrameLaws.{session-frames, session-last, session-rows}
 use Rattle.terminal_sink.proofs.sink_core.sink_laws.session_sink_law.Goals as goal
 
 pub returns-clause-frames : goal.returns-clause-frames

@@ -1,6 +1,6 @@
 -- More cells, and more rows.
-use Rattle.terminal_sink.proofs.ReceivedRowsGivenFramesLaws.{stands-longer, frames-stay, back-stays, with_cell-longer, frames-grow}
-use Rattle.terminal_sink.proofs.ReceivedRowsGivenFramesLaws.{back-there, back-elsewhere}
+use Rattle.terminal_sink.proofs.ReceivedRowAndGivenFrameLaws.{stands-longer, frames-stay, back-stays, with_cell-longer}
+use Rattle.terminal_sink.proofs.ReceivedRowAndGivenFrameLaws.{frames-grow, back-there, back-elsewhere}
 use Rattle.terminal_sink.proofs.sink_core.sink_laws.sink_law.Goals as goal
 
 pub returns-clause-stands : goal.returns-clause-stands

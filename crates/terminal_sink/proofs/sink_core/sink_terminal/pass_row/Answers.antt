@@ -3,8 +3,8 @@ use Rattle.std.proofs.Common.{[], ◌∷◌, ◌++◌, Some, sym, ◌∙◌, ap,
 use Rattle.law_model.specs.Common.{return_of}
 use Rattle.terminal_sink.specs.lcas_sink.SinkStates.{SinkTableStands as HasTold}
 use Rattle.terminal_sink.specs.sink_core.TakenAndGiven.{read_rows, packet_rows}
-use Rattle.terminal_sink.proofs.ReceivedRowsGivenFramesLaws.{packet-ends, read-more, length-read, packet_rows-more}
-use Rattle.terminal_sink.proofs.ReceivedRowsGivenFramesLaws.{packet_rows-between, governing-back, back-here}
+use Rattle.terminal_sink.proofs.ReceivedRowAndGivenFrameLaws.{packet-ends, read-more, length-read, packet_rows-more}
+use Rattle.terminal_sink.proofs.ReceivedRowAndGivenFrameLaws.{packet_rows-between, governing-back, back-here}
 use Rattle.terminal_sink.proofs.sink_core.sink_terminal.pass_row.Goals as goal
 
 pub returns-then-ends_packet-clause-stands : goal.returns-then-ends_packet-clause-stands

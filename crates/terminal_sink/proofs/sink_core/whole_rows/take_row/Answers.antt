@@ -12,7 +12,7 @@ use Rattle.terminal_sink.specs.sink_core.RowsInReceiver.{Receives}
 use Rattle.member_cells.specs.HeldPlaces.{held}
 use Rattle.member_rows.specs.realign_rows.Gather.{GatherStands}
 use Rattle.terminal_sink.proofs.WholeRowContainersLaws.{Hold, octets_if, hold-some, row-known}
-use Rattle.terminal_sink.proofs.IdleOctetsGrowsLaws.{grows-none, gives-none}
+use Rattle.terminal_sink.proofs.ReceivedOctetAndDealtIdleLaws.{grows-none, gives-none}
 use Rattle.terminal_sink.proofs.WholeRowContainersLaws.{receives-whole, receives-lost, gives-whole, gives-lost}
 use Rattle.terminal_sink.proofs.WholeRowContainersLaws.{row-early, row-late}
 use Rattle.terminal_sink.proofs.sink_core.whole_rows.take_row.Goals as goal

@@ -1,7 +1,7 @@
 -- The eight statuses of the group are replaced where they stand; where there are none, the others stay.
 use Rattle.std.proofs.Common.{◌≡◌, ◌+◌, ◌*◌, ◌-◌, sym, ◌∙◌, arith}
 use Rattle.law_model.specs.Common.{oks_in}
-use Rattle.terminal_source.proofs.GroupBitsAndOksLaws.{keep-in_place, keep-below, oks_in-size}
+use Rattle.terminal_source.proofs.GroupBitAndReturnStatusLaws.{keep-in_place, keep-below, oks_in-size}
 use Rattle.terminal_source.proofs.lcas_source.member_table.keep.Goals as goal
 
 pub returns-then-group-lt-GROUPS : goal.returns-then-group-lt-GROUPS

@@ -1,6 +1,6 @@
 -- The eight statuses of an octet, bit by bit.
 use Rattle.std.proofs.Common.{ap, sym, map, Some}
-use Rattle.terminal_source.proofs.GroupBitsAndOksLaws.{oks_in-bits}
+use Rattle.terminal_source.proofs.GroupBitAndReturnStatusLaws.{oks_in-bits}
 use Rattle.terminal_source.proofs.lcas_source.member_table.statuses_in.Goals as goal
 
 pub returns : goal.returns

@@ -1,7 +1,7 @@
 -- The bits of a packet, moved on by one, are those of the next one.
 use Rattle.std.proofs.Common.{◌≡◌, ◌+◌, ◌-◌, ◌++◌, ◌∷◌, [], false, drop, slice_index_or, sym, ◌∙◌, ap, arith}
 use Rattle.law_model.specs.Common.{xor, bits_from}
-use Rattle.terminal_source.proofs.GroupBitsAndOksLaws.{bits_from-next}
+use Rattle.terminal_source.proofs.GroupBitAndReturnStatusLaws.{bits_from-next}
 use Rattle.terminal_source.proofs.lcas_source.source_table.go_on.Goals as goal
 
 pub returns-then-packets-gt0 : goal.returns-then-packets-gt0

@@ -1,6 +1,6 @@
 -- Numbers of which one has more than four bits are no packet.
 use Rattle.std.proofs.Common.{sym, ◌∙◌}
-use Rattle.terminal_source.proofs.TableCourseLaws.{packet_read-none}
+use Rattle.terminal_source.proofs.SourceTableCourseLaws.{packet_read-none}
 use Rattle.terminal_source.proofs.lcas_source.source_table.packet_read.Goals as goal
 
 pub returns-else-are_nibbles : goal.returns-else-are_nibbles

@@ -1,15 +1,15 @@
 -- One line more is begun.
-use Rattle.std.proofs.Common.{◌≡◌, if◌then◌else◌, [], slice_index_or, sym, ◌∙◌, ap, subst, arith, get_or-set_other, inl}
-use Rattle.std.proofs.Common.{inr}
+use Rattle.std.proofs.Common.{◌≡◌, if◌then◌else◌, [], slice_index_or, sym, ◌∙◌, ap, subst, arith, get_or-set_other}
+use Rattle.std.proofs.Common.{inl, inr}
 use Rattle.std.proofs.lemmas.Bool.{cases_lt}
 use Rattle.std.proofs.lemmas.Grind.{get_or-set_at}
 use Rattle.std.specs.Global.{Box}
 use Rattle.std.proofs.lemmas.List.{length-map}
 use Rattle.law_model.specs.Common.{Container}
 use Rattle.member_cells.specs.HeldPlaces.{held}
-use Rattle.member_rows.proofs.RowSpreadPutLaws.{held-set}
+use Rattle.member_rows.proofs.PutOctetAndRowSpreadLaws.{held-set}
 use Rattle.terminal_source.specs.source_core.FrameContainers.{h4_by, carries, IsBegun}
-use Rattle.terminal_source.proofs.FrameMemberContainerLaws.{IsBegun-as}
+use Rattle.terminal_source.proofs.DealtFrameContainerLaws.{IsBegun-as}
 use Rattle.terminal_source.proofs.source_core.container_frame.begin_all.Goals as goal
 
 pub loop-line-preserved : goal.loop-line-preserved

@@ -1,6 +1,6 @@
 -- No line is marked at first, and then one line more.
 use Rattle.std.proofs.Common.{refl, arith}
-use Rattle.terminal_source.proofs.FrameMemberContainerLaws.{marked-is, no-mark}
+use Rattle.terminal_source.proofs.DealtFrameContainerLaws.{marked-is, no-mark}
 use Rattle.terminal_source.proofs.source_core.container_frame.carriers.Goals as goal
 
 pub loop-rank-init : goal.loop-rank-init

@@ -7,8 +7,8 @@ use Rattle.std.specs.Box.{with_value}
 use Rattle.member_cells.specs.HeldPlaces.{held}
 use Rattle.member_rows.specs.vcat_interleave.MemberPayloads.{with_octets}
 use Rattle.member_rows.specs.vcat_interleave.Spread.{Spreads}
-use Rattle.member_rows.proofs.RowSpreadPutLaws.{held-at, held-set, lines-stay}
-use Rattle.terminal_source.proofs.FrameMemberContainerLaws.{spreads-one, next-size}
+use Rattle.member_rows.proofs.PutOctetAndRowSpreadLaws.{held-at, held-set, lines-stay}
+use Rattle.terminal_source.proofs.DealtFrameContainerLaws.{spreads-one, next-size}
 use Rattle.terminal_source.proofs.source_core.container_frame.fill_all.Goals as goal
 
 pub returns-in-len1-clause-spreads : goal.returns-in-len1-clause-spreads

@@ -2,7 +2,7 @@
 use Rattle.std.proofs.Common.{ℕ, Bool, Some, sym, ◌∙◌, ap, arith}
 use Rattle.law_model.specs.Common.{number_behind, telling, passed_on}
 use Rattle.law_model.specs.declared.control_packet.Packet.{Packet}
-use Rattle.terminal_source.proofs.TerminalGivenToldAlikeLaws.{mst-passed, rs_ack-passed}
+use Rattle.terminal_source.proofs.SourceTerminalScenarioLaws.{mst-passed, rs_ack-passed}
 use Rattle.terminal_source.proofs.source_core.packets_of_step.with_told.Goals as goal
 
 -- a packet with these two fields

@@ -1,5 +1,5 @@
 -- What was accepted leads to the same tables and streams.
-use Rattle.law_session.proofs.LandedAcceptedStreamAlikeLaws.{replayed-frame}
+use Rattle.law_session.proofs.ClientStreamAndReplayLaws.{replayed-frame}
 use Rattle.terminal_source.proofs.source_core.source_laws.accepted_law.Goals as goal
 
 pub returns : goal.returns

@@ -1,7 +1,7 @@
 -- What lands alike goes alike.
 use Rattle.std.proofs.Common.{◌≡◌, ◌+◌, suc, subst, arith}
-use Rattle.law_session.proofs.LandedAcceptedStreamAlikeLaws.{Alike, alike-after, alike-stream, alike-frame}
-use Rattle.terminal_source.proofs.TerminalGivenToldAlikeLaws.{alike-landed, first-alike}
+use Rattle.law_session.proofs.ClientStreamAndReplayLaws.{Alike, alike-after, alike-stream, alike-frame}
+use Rattle.terminal_source.proofs.SourceTerminalScenarioLaws.{alike-landed, first-alike}
 use Rattle.terminal_source.proofs.source_core.source_laws.landed_law.Goals as goal
 
 pub returns : goal.returns

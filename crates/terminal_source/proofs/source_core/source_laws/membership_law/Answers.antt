@@ -1,7 +1,7 @@
 -- Each octet of a frame is dealt to one line that carries payload.
 use Rattle.std.proofs.Common.{length, ap}
 use Rattle.law_model.specs.Common.{payload_of, active_at, payload_by}
-use Rattle.terminal_source.proofs.FrameMemberContainerLaws.{governed, none-before, members-at, size-at, is-dealt}
+use Rattle.terminal_source.proofs.DealtFrameContainerLaws.{governed, none-before, members-at, size-at, is-dealt}
 use Rattle.terminal_source.proofs.source_core.source_laws.membership_law.Goals as goal
 
 pub returns : goal.returns

@@ -3,7 +3,7 @@ use Rattle.std.proofs.Common.{◌*◌, ◌/◌, ◌%◌, ◌++◌, ◌∙◌, ap
 use Rattle.std.specs.Int.{w32, to_le_bytes}
 use Rattle.text_got.specs.TextSoFar.{HasText}
 use Rattle.text_captures.specs.capture_file.WrittenCapture.{record_head}
-use Rattle.text_captures.proofs.CaptureRowFramesLaws.{four-behind}
+use Rattle.text_captures.proofs.WrittenCaptureFrameLaws.{four-behind}
 use Rattle.text_captures.proofs.capture_file.capture_out.add_head.Goals as goal
 
 pub returns : goal.returns

@@ -1,7 +1,7 @@
 -- The record that stands at the front.
 use Rattle.std.proofs.Common.{◌≡◌, ◌+◌, ◌-◌, take, drop, ap, arith}
 use Rattle.std.proofs.lemmas.List.{take_rest}
-use Rattle.text_captures.proofs.CaptureRecordsReadLaws.{record-there}
+use Rattle.text_captures.proofs.CaptureRecordReadingLaws.{record-there}
 use Rattle.text_captures.proofs.capture_file.capture_record.next_record.Goals as goal
 
 pub returns-clause-some : goal.returns-clause-some

@@ -4,9 +4,9 @@ use Rattle.std.proofs.lemmas.Bool.{eqb-true, eqb-false}
 use Rattle.std.proofs.lemmas.List.{nil_from_length}
 use Rattle.text_captures.specs.capture_file.Form.{records_of}
 use Rattle.text_captures.specs.capture_file.Reading.{record_fault}
-use Rattle.text_captures.proofs.CaptureRecordsReadLaws.{has-next-then, has-ended, found-short}
-use Rattle.text_captures.proofs.CaptureRecordsReadLaws.{sound-begun, sound-more, said-fault, said-cut, said-sound}
-use Rattle.text_captures.proofs.CaptureRecordsReadLaws.{read-begun, read-more, due-is}
+use Rattle.text_captures.proofs.CaptureRecordReadingLaws.{has-next-then, has-ended, found-short}
+use Rattle.text_captures.proofs.CaptureRecordReadingLaws.{sound-begun, sound-more, said-fault, said-cut, said-sound}
+use Rattle.text_captures.proofs.CaptureRecordReadingLaws.{read-begun, read-more, due-is}
 use Rattle.text_captures.proofs.capture_file.check_capture.check_records.Goals as goal
 
 pub loop-record-init : goal.loop-record-init

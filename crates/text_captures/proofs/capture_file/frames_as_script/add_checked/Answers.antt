@@ -3,7 +3,7 @@ use Rattle.std.proofs.Common.{◌++◌, ◌∙◌, sym, ap, subst, append_assoc}
 use Rattle.hex.specs.Hex.{encode_lower}
 use Rattle.check_crc32.specs.Crc32.{least_first, fcs_in}
 use Rattle.text_got.specs.TextSoFar.{HasText}
-use Rattle.text_captures.proofs.CaptureRecordsReadLaws.{digits-append}
+use Rattle.text_captures.proofs.CaptureRecordReadingLaws.{digits-append}
 use Rattle.text_captures.proofs.capture_file.frames_as_script.add_checked.Goals as goal
 
 pub returns : goal.returns

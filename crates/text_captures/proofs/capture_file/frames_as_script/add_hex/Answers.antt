@@ -2,7 +2,7 @@
 use Rattle.std.proofs.Common.{◌≤◌, ◌-◌, ◌∙◌, ◌++◌, take, drop, sym, ap, subst, arith, append_assoc}
 use Rattle.hex.specs.Hex.{encode_lower}
 use Rattle.text_got.specs.TextSoFar.{HasText}
-use Rattle.text_captures.proofs.CaptureRecordsReadLaws.{digits-none, digits-then}
+use Rattle.text_captures.proofs.CaptureRecordReadingLaws.{digits-none, digits-then}
 use Rattle.text_captures.proofs.capture_file.frames_as_script.add_hex.Goals as goal
 
 pub loop-at-init : goal.loop-at-init

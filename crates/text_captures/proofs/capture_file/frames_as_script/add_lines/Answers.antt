@@ -3,9 +3,8 @@ use Rattle.std.proofs.Common.{[], ◌∷◌, ◌++◌, ◌∙◌, sym, ap, subst
 use Rattle.text_got.specs.TextSoFar.{HasText}
 use Rattle.text_captures.specs.capture_file.Reading.{client_frame, frames_behind}
 use Rattle.text_captures.specs.capture_file.Texts.{frame_text, frame_texts}
-use Rattle.text_captures.proofs.CaptureRecordsReadLaws.{has-ended}
-use Rattle.text_captures.proofs.CaptureRecordsReadLaws.{read-begun, read-more, due-is}
-use Rattle.text_captures.proofs.CaptureRecordsReadLaws.{texts-none, texts-more}
+use Rattle.text_captures.proofs.CaptureRecordReadingLaws.{has-ended, read-begun, read-more, due-is, texts-none}
+use Rattle.text_captures.proofs.CaptureRecordReadingLaws.{texts-more}
 use Rattle.text_captures.proofs.capture_file.frames_as_script.add_lines.Goals as goal
 
 pub loop-record-init : goal.loop-record-init

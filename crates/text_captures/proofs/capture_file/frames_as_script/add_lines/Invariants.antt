@@ -5,7 +5,7 @@ use Rattle.text_got.specs.TextSoFar.{HasText}
 use Rattle.text_captures.specs.capture_file.Form.{Record}
 use Rattle.text_captures.specs.capture_file.Reading.{frames_behind}
 use Rattle.text_captures.specs.capture_file.Texts.{frame_texts}
-use Rattle.text_captures.proofs.CaptureRecordsReadLaws.{HasRead}
+use Rattle.text_captures.proofs.CaptureRecordReadingLaws.{HasRead}
 use Rattle.text_captures.proofs.capture_file.frames_as_script.add_lines.Given as goal
 
 abbrev pub invariant-loop-record : goal.invariant-loop-record

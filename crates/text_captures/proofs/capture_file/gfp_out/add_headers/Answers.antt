@@ -3,7 +3,7 @@ use Rattle.std.proofs.Common.{◌+◌, ◌++◌, ◌∙◌, ap, subst}
 use Rattle.std.specs.Int.{w16, to_be_bytes}
 use Rattle.law_model.specs.Common.{hec_of, type_header}
 use Rattle.text_got.specs.TextSoFar.{HasText}
-use Rattle.text_captures.proofs.CaptureRowFramesLaws.{three-behind}
+use Rattle.text_captures.proofs.WrittenCaptureFrameLaws.{three-behind}
 use Rattle.text_captures.proofs.capture_file.gfp_out.add_headers.Goals as goal
 
 pub returns : goal.returns

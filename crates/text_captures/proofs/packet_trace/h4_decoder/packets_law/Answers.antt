@@ -1,5 +1,5 @@
 -- Each clause is a law over lists of octets.
-use Rattle.text_captures.proofs.PacketsInOctetsLaws.{are_worded, are_only, packets_stay}
+use Rattle.text_captures.proofs.H4PacketDecodingLaws.{are_worded, are_only, packets_stay}
 use Rattle.text_captures.proofs.packet_trace.h4_decoder.packets_law.Goals as goal
 
 pub returns-clause-worded : goal.returns-clause-worded

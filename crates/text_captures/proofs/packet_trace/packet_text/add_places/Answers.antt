@@ -1,6 +1,6 @@
 -- A line more is added.
 use Rattle.std.proofs.Common.{arith}
-use Rattle.text_captures.proofs.PacketsInOctetsLaws.{places-next}
+use Rattle.text_captures.proofs.H4PacketDecodingLaws.{places-next}
 use Rattle.text_captures.proofs.packet_trace.packet_text.add_places.Goals as goal
 
 pub loop-member-preserved : goal.loop-member-preserved

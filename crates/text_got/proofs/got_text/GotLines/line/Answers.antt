@@ -1,6 +1,6 @@
 -- A line is written or waits.
 use Rattle.text_got.specs.TextSoFar.{seen, told_of}
-use Rattle.text_got.proofs.ToldTextGrowsLaws.{told-more}
+use Rattle.text_got.proofs.ToldTextGrowthLaws.{told-more}
 use Rattle.text_got.proofs.got_text.GotLines.line.Goals as goal
 
 pub returns-in-Ok : goal.returns-in-Ok

@@ -2,7 +2,7 @@
 use Rattle.std.proofs.Common.{subst}
 use Rattle.text_report.specs.ReportLines.{got_text, got_texts}
 use Rattle.text_got.specs.TextSoFar.{WritesOrWaits, seen, told_of}
-use Rattle.text_got.proofs.ToldTextGrowsLaws.{texts-more, told-stopped, told-more}
+use Rattle.text_got.proofs.ToldTextGrowthLaws.{texts-more, told-stopped, told-more}
 use Rattle.text_got.proofs.got_text.GotLinesFrameOut.frame.Goals as goal
 
 pub returns-then-self : goal.returns-then-self

@@ -2,7 +2,7 @@
 use Rattle.std.proofs.Common.{rules, ◌-◌, ℕ, List, subst}
 use Rattle.std.proofs.lemmas.Result.{on_ok_weaker, on_err_weaker}
 use Rattle.law_model.specs.Common.{AppendsPart}
-use Rattle.text_got.proofs.TextWaitsInBlockLaws.{Holds-waits, Holds-all, front_added}
+use Rattle.text_got.proofs.WaitingTextInBlockLaws.{Holds-waits, Holds-all, front_added}
 use Rattle.text_got.proofs.text_block.TextBlock.add_got.Goals as goal
 
 pub returns-then-end-lt-MUCH-clause-ok : goal.returns-then-end-lt-MUCH-clause-ok

@@ -2,7 +2,7 @@
 use Rattle.std.proofs.Common.{◌≡◌, ◌∙◌, ◌∷◌, List, ℕ, ap, sym, drop}
 use Rattle.text_lines.specs.WordsOfLine.{words, word_at}
 use Rattle.text_live.specs.LiveLines.{first_of}
-use Rattle.text_live.proofs.LiveReaderKeepsLaws.{live_stops}
+use Rattle.text_live.proofs.LiveReaderStateLaws.{live_stops}
 use Rattle.text_live.proofs.live_reader.LiveReader.line.Goals as goal
 
 pub returns-in-Live-clause-stops : goal.returns-in-Live-clause-stops

@@ -4,7 +4,8 @@ use Rattle.text_lines.specs.WordsOfLine.{words}
 use Rattle.text_live.specs.declared.live_fault.LiveFault.TheVariants as fault
 use Rattle.text_live.specs.LiveLines.{now_live, line_fault}
 use Rattle.text_live.specs.LiveReaderStands.{IsToldAt}
-use Rattle.text_live.proofs.LiveReaderKeepsLaws.{opening_stops, rest_stops, reads_live, begun_says, reads_begun, kept_by}
+use Rattle.text_live.proofs.LiveReaderStateLaws.{opening_stops, rest_stops, reads_live, begun_says, reads_begun}
+use Rattle.text_live.proofs.LiveReaderStateLaws.{kept_by}
 use Rattle.text_live.proofs.live_reader.LiveReader.read_live.Goals as goal
 
 pub returns-in-Err-clause-stops : goal.returns-in-Err-clause-stops

@@ -1,11 +1,12 @@
 -- The line is kept with its failure.
-use Rattle.std.proofs.Common.{◌≡◌, ◌∙◌, ◌-◌, ℕ, List, length, None, ap, refl, sym, subst, arith, slice_index_or, slice_set}
+use Rattle.std.proofs.Common.{◌≡◌, ◌∙◌, ◌-◌, ℕ, List, length, None, ap, refl, sym, subst, arith, slice_index_or}
+use Rattle.std.proofs.Common.{slice_set}
 use Rattle.text_lines.specs.WordsOfLine.{words}
 use Rattle.text_lines.specs.Fields.{within}
 use Rattle.text_live.specs.declared.live_keyword.LiveKeyword.TheVariants as word
 use Rattle.text_live.specs.declared.read_live_line.LineState.{LineState}
 use Rattle.text_live.specs.LiveLines.{one_fault}
-use Rattle.text_live.proofs.LiveReaderKeepsLaws.{cut_new, reads_cut}
+use Rattle.text_live.proofs.LiveReaderStateLaws.{cut_new, reads_cut}
 use Rattle.text_live.proofs.read_live_line.LiveState.cut.Goals as goal
 
 pub returns-clause-ok : goal.returns-clause-ok

@@ -1,11 +1,12 @@
 -- The line is kept without its failure.
-use Rattle.std.proofs.Common.{◌≡◌, ◌∙◌, ◌-◌, ℕ, List, length, None, ap₂, refl, sym, subst, arith, slice_index_or, slice_set}
+use Rattle.std.proofs.Common.{◌≡◌, ◌∙◌, ◌-◌, ℕ, List, length, None, ap₂, refl, sym, subst, arith, slice_index_or}
+use Rattle.std.proofs.Common.{slice_set}
 use Rattle.text_lines.specs.WordsOfLine.{words}
 use Rattle.text_lines.specs.Fields.{within}
 use Rattle.text_live.specs.declared.live_keyword.LiveKeyword.TheVariants as word
 use Rattle.text_live.specs.declared.read_live_line.LineState.{LineState}
 use Rattle.text_live.specs.LiveLines.{one_fault}
-use Rattle.text_live.proofs.LiveReaderKeepsLaws.{reads_mend}
+use Rattle.text_live.proofs.LiveReaderStateLaws.{reads_mend}
 use Rattle.text_live.proofs.read_live_line.LiveState.mend.Goals as goal
 
 pub returns-clause-ok : goal.returns-clause-ok

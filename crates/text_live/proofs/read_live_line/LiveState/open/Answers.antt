@@ -4,7 +4,7 @@ use Rattle.std.proofs.lemmas.Grind.{common_steps}
 use Rattle.std.proofs.lemmas.List.{take_all}
 use Rattle.law_model.specs.declared.script_types.Config.{Config}
 use Rattle.law_model.specs.declared.window_types.Window.{Window}
-use Rattle.text_live.proofs.LiveReaderKeepsLaws.{opened_kept}
+use Rattle.text_live.proofs.LiveReaderStateLaws.{opened_kept}
 use Rattle.text_live.proofs.read_live_line.LiveState.open.Goals as goal
 
 pub returns-clause-kept : goal.returns-clause-kept

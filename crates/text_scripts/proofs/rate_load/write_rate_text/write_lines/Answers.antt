@@ -1,7 +1,7 @@
 -- A line more is written; or a part of it, which is a part of the whole.
 use Rattle.std.proofs.Common.{◌≤◌, ◌+◌, ◌++◌, ap, sym, ◌∙◌, subst, arith}
 use Rattle.law_model.specs.Common.{Appends, AppendsPart}
-use Rattle.octet_io.proofs.AppendedPartsLaws.{Appends-none, Appends-then, AppendsPart-then, AppendsPart-longer}
+use Rattle.octet_io.proofs.AppendedTextAndPrefixLaws.{Appends-none, Appends-then, AppendsPart-then, AppendsPart-longer}
 use Rattle.text_scripts.specs.rate_load.RateTexts.{count_of, line_at, lines_of}
 use Rattle.text_scripts.proofs.DrawnLoadLaws.{first_state, lines_of-none, lines_of-more, lines_of-rest}
 use Rattle.text_scripts.proofs.rate_load.write_rate_text.write_lines.Goals as goal

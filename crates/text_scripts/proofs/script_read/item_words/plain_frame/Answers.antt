@@ -1,6 +1,6 @@
 -- The digits are the last word.
 use Rattle.std.proofs.Common.{◌∷◌, ◌∙◌, List, ℕ, ap, arith}
-use Rattle.text_scripts.proofs.WordsFitDraftLaws.{digits_only}
+use Rattle.text_scripts.proofs.StatementAndWordFaultLaws.{digits_only}
 use Rattle.text_scripts.proofs.script_read.item_words.plain_frame.Goals as goal
 
 pub returns-in-Ok-clause-words : goal.returns-in-Ok-clause-words

@@ -1,7 +1,7 @@
 -- The first fault of the delays, and their values.
 use Rattle.std.proofs.Common.{◌≡◌, ◌∙◌, ◌+◌, ◌++◌, ℕ, List, [], length, map, ap, sym, rules, append-nil}
 use Rattle.text_lines.specs.WordsOfLine.{words, number_of}
-use Rattle.text_scripts.proofs.WordsFitDraftLaws.{delays_said, delay_fails, line_faults}
+use Rattle.text_scripts.proofs.StatementAndWordFaultLaws.{delays_said, delay_fails, line_faults}
 use Rattle.text_scripts.proofs.script_read.network_words.read_delays.Goals as goal
 
 pub returns-in-Err-clause-err : goal.returns-in-Err-clause-err

@@ -1,7 +1,7 @@
 -- The words read so far have no fault, and these values.
 use Rattle.std.proofs.Common.{◌≡◌, ◌+◌, ◌++◌, ◌≤◌, All, length, map}
 use Rattle.text_lines.specs.WordsOfLine.{words, number_of}
-use Rattle.text_scripts.proofs.WordsFitDraftLaws.{line_faults}
+use Rattle.text_scripts.proofs.StatementAndWordFaultLaws.{line_faults}
 use Rattle.text_scripts.proofs.script_read.network_words.read_delays.Given as goal
 
 abbrev pub invariant-loop-word : goal.invariant-loop-word

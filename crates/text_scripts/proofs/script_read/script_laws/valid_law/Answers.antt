@@ -1,5 +1,5 @@
 -- By the lines of the text.
-use Rattle.text_scripts.proofs.ScriptLinesSaidLaws.{valid_text, few_lost_text}
+use Rattle.text_scripts.proofs.ScriptLineAndFirstFaultLaws.{valid_text, few_lost_text}
 use Rattle.text_scripts.proofs.script_read.script_laws.valid_law.Goals as goal
 
 pub returns-clause-valid : goal.returns-clause-valid

@@ -1,6 +1,6 @@
 -- One delay on.
 use Rattle.std.proofs.Common.{◌∙◌}
-use Rattle.text_scripts.proofs.DraftConfigItemsLaws.{least_next}
+use Rattle.text_scripts.proofs.ScriptDraftGrowthLaws.{least_next}
 use Rattle.text_scripts.proofs.script_read.script_limits.least_delay.Goals as goal
 
 pub loop-delay-preserved : goal.loop-delay-preserved

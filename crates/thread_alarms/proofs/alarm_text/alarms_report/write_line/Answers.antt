@@ -3,7 +3,7 @@ use Rattle.std.proofs.Common.{◌++◌, take, sym, ◌∙◌, ap, subst, append_
 use Rattle.text_got.specs.TextSoFar.{HasText}
 use Rattle.thread_alarms.specs.alarm_log.Alarms.{of_line}
 use Rattle.thread_alarms.specs.alarm_text.AlarmTextLines.{alarm_texts}
-use Rattle.thread_alarms.proofs.AlarmsThroughOfLineLaws.{text_next}
+use Rattle.thread_alarms.proofs.AlarmsByPostAndLineLaws.{text_next}
 use Rattle.thread_alarms.proofs.alarm_text.alarms_report.write_line.Goals as goal
 
 pub loop-alarm-preserved : goal.loop-alarm-preserved

@@ -4,7 +4,7 @@ use Rattle.std.proofs.Common.{option_to_list}
 use Rattle.std.proofs.lemmas.List.{nil_from_length, map_push}
 use Rattle.std.specs.Vec.Iter.{into_iter_items, into_iter_len}
 use Rattle.thread_alarms.specs.watched_line.ServedWithPosts.{worker_of, posts_of, AreWatchable}
-use Rattle.thread_alarms.proofs.ServedLinesLaterLaws.{posts-more, next-watch, rest-watch, none-left, few-left}
+use Rattle.thread_alarms.proofs.LaterServedLineLaws.{posts-more, next-watch, rest-watch, none-left, few-left}
 use Rattle.thread_alarms.proofs.watched_line.serve_lines_watched.serve_lines.Goals as goal
 
 pub loop-worker-init : goal.loop-worker-init

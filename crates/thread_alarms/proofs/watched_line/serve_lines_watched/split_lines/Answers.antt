@@ -3,7 +3,7 @@ use Rattle.std.proofs.Common.{◌≡◌, ◌++◌, [], length, map, sym, ◌∙�
 use Rattle.std.proofs.lemmas.List.{append-nil, nil_from_length}
 use Rattle.std.specs.Vec.Iter.{into_iter_items}
 use Rattle.thread_alarms.specs.watched_line.ServedWithPosts.{worker_of, posts_of, AreTold}
-use Rattle.thread_alarms.proofs.ServedLinesLaterLaws.{are-told}
+use Rattle.thread_alarms.proofs.LaterServedLineLaws.{are-told}
 use Rattle.thread_alarms.proofs.watched_line.serve_lines_watched.split_lines.Goals as goal
 
 pub returns-clause-told : goal.returns-clause-told

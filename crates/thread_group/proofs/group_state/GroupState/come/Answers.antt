@@ -6,7 +6,7 @@ use Rattle.terminal_group.specs.ReturnInbox.{told_taken}
 use Rattle.terminal_group.specs.Landed.{Landed}
 use Rattle.terminal_group.specs.Source.{Source}
 use Rattle.thread_group.specs.GroupParts.{parts, Keeps}
-use Rattle.thread_group.proofs.KeepsPartsRefusedLaws.{keeps-moved, told-moved, full-come, few-come}
+use Rattle.thread_group.proofs.GroupPartsAfterStepLaws.{keeps-moved, told-moved, full-come, few-come}
 use Rattle.thread_group.proofs.group_state.GroupState.come.Goals as goal
 
 pub take_cells-requires-clause-room : goal.take_cells-requires-clause-room

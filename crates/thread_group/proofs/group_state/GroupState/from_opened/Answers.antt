@@ -3,7 +3,7 @@ use Rattle.std.proofs.Common.{◌≡◌, length, sym, ◌∙◌, ap, arith}
 use Rattle.terminal_group.specs.ReturnInbox.{Inbox, empty_inbox}
 use Rattle.terminal_group.specs.Landed.{Landed}
 use Rattle.thread_group.specs.GroupParts.{Parts, parts}
-use Rattle.thread_group.proofs.KeepsPartsRefusedLaws.{keeps-begin}
+use Rattle.thread_group.proofs.GroupPartsAfterStepLaws.{keeps-begin}
 use Rattle.thread_group.proofs.group_state.GroupState.from_opened.Goals as goal
 
 pub invariant_of-result : goal.invariant_of-result

@@ -13,10 +13,10 @@ use Rattle.thread_group.specs.Journal.{Journal, entry_of}
 use Rattle.thread_group.specs.GroupParts.{parts, scenario_in, told_in_parts, Keeps}
 use Rattle.thread_group.specs.declared.group_state.GroupState.{GroupState}
 use Rattle.terminal_group.specs.Landed.{next_number, due_at, AreBehind}
-use Rattle.terminal_group.proofs.LandedRefusalsLaws.{next-due, behind-next}
-use Rattle.thread_group.proofs.KeepsPartsRefusedLaws.{refused-put, refused-now}
-use Rattle.thread_group.proofs.KeepsPartsRefusedLaws.{keeps-accepted, keeps-refused}
-use Rattle.thread_group.proofs.SubmitAndTickAnswerLaws.{refused-is, lands-in, submits-accepted, submits-refused, room-there}
+use Rattle.terminal_group.proofs.RefusalOrderAndNextItemLaws.{next-due, behind-next}
+use Rattle.thread_group.proofs.GroupPartsAfterStepLaws.{refused-put, refused-now, keeps-accepted, keeps-refused}
+use Rattle.thread_group.proofs.SubmitAndTickAnswerLaws.{refused-is, lands-in, submits-accepted, submits-refused}
+use Rattle.thread_group.proofs.SubmitAndTickAnswerLaws.{room-there}
 use Rattle.thread_group.proofs.group_state.GroupState.land.Goals as goal
 
 pub push-requires-clause-slots : goal.push-requires-clause-slots

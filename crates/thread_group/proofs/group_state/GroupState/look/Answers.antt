@@ -1,6 +1,6 @@
 -- Send rings were looked at.
 use Rattle.std.proofs.Common.{refl, arith}
-use Rattle.thread_group.proofs.KeepsPartsRefusedLaws.{keeps-looked}
+use Rattle.thread_group.proofs.GroupPartsAfterStepLaws.{keeps-looked}
 use Rattle.thread_group.proofs.group_state.GroupState.look.Goals as goal
 
 pub first_full-requires : goal.first_full-requires

@@ -8,11 +8,11 @@ use Rattle.thread_rings.specs.EndsOfRing.{OutEnd, InEnd}
 use Rattle.terminal_source.specs.source_core.GivenScenario.{SourceStands as HasMade}
 use Rattle.terminal_group.specs.Landed.{Landed}
 use Rattle.terminal_group.specs.Source.{Source, SameScript}
-use Rattle.terminal_group.proofs.ReturnCellEarlyMissingLaws.{cell-there}
-use Rattle.terminal_group.proofs.ReturnCellEarlyMissingLaws.{early-none}
+use Rattle.terminal_group.proofs.InboxReturnCellLaws.{cell-there, early-none}
 use Rattle.thread_group.specs.Journal.{Journal}
 use Rattle.thread_group.specs.GroupParts.{parts, Keeps}
-use Rattle.thread_group.proofs.KeepsPartsRefusedLaws.{made-by, keeps-made, pushed-made, own-pushed, same-ends, told-made}
+use Rattle.thread_group.proofs.GroupPartsAfterStepLaws.{made-by, keeps-made, pushed-made, own-pushed, same-ends}
+use Rattle.thread_group.proofs.GroupPartsAfterStepLaws.{told-made}
 use Rattle.thread_group.proofs.group_state.GroupState.make_frame.Goals as goal
 
 pub make-taken-requires-clause-places : goal.make-taken-requires-clause-places

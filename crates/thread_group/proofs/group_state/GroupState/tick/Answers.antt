@@ -1,8 +1,9 @@
 -- The parts of a tick, by its answer.
 use Rattle.std.proofs.Common.{sym, ◌∙◌, ap}
 use Rattle.terminal_group.specs.Source.{early_in}
-use Rattle.terminal_group.proofs.ReturnCellEarlyMissingLaws.{missing-some}
-use Rattle.thread_group.proofs.SubmitAndTickAnswerLaws.{ticks-early, ticks-full, ticks-missing, ticks-ticked, free-early}
+use Rattle.terminal_group.proofs.InboxReturnCellLaws.{missing-some}
+use Rattle.thread_group.proofs.SubmitAndTickAnswerLaws.{ticks-early, ticks-full, ticks-missing, ticks-ticked}
+use Rattle.thread_group.proofs.SubmitAndTickAnswerLaws.{free-early}
 use Rattle.thread_group.proofs.group_state.GroupState.tick.Goals as goal
 
 pub returns-in-Some : goal.returns-in-Some

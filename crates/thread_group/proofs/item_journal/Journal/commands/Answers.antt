@@ -3,7 +3,7 @@ use Rattle.std.proofs.Common.{◌≡◌, ◌-◌, length, ◌∙◌, ap, arith}
 use Rattle.law_model.specs.Common.{orders_of}
 use Rattle.thread_group.specs.Journal.{Journal, items_in}
 use Rattle.thread_group.specs.JournalEntries.{entries_in}
-use Rattle.thread_group.proofs.JournalEntriesAlikeLaws.{entries-kinds}
+use Rattle.thread_group.proofs.JournalEntryAndScenarioLaws.{entries-kinds}
 use Rattle.thread_group.proofs.item_journal.Journal.commands.Goals as goal
 
 pub overflow_sub-result : goal.overflow_sub-result

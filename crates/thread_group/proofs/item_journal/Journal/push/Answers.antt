@@ -1,7 +1,7 @@
 -- The entry is put behind the others.
 use Rattle.std.proofs.Common.{◌≡◌, ℕ, ◌+◌, ◌-◌, ◌<◌, ◌≤◌, List, [], ◌∷◌, ◌++◌, length, sym, ◌∙◌, ap}
 use Rattle.std.proofs.Common.{subst, arith, refl, vec_capacity}
-use Rattle.law_session.proofs.SourceFitsLinesLaws.{flag_most}
+use Rattle.law_session.proofs.SourceOrderAndPlanLaws.{flag_most}
 use Rattle.law_model.specs.declared.script_types.ItemKind.{ItemKind}
 use Rattle.law_model.specs.declared.script_types.ItemKind.TheVariants.{Frame, Add, Remove}
 use Rattle.law_walk.specs.Common.{is_client}
@@ -9,7 +9,7 @@ use Rattle.thread_group.specs.declared.item_journal.Entry.{Entry}
 use Rattle.terminal_group.specs.Item.{kind_of, size_of, octets_of}
 use Rattle.thread_group.specs.Journal.{Journal, entry_of}
 use Rattle.thread_group.specs.JournalEntries.{entries_in, kind_in, IsThere, AreEntries}
-use Rattle.thread_group.proofs.JournalEntriesAlikeLaws.{entries-kinds, entries-push, kept-push}
+use Rattle.thread_group.proofs.JournalEntryAndScenarioLaws.{entries-kinds, entries-push, kept-push}
 use Rattle.thread_group.proofs.item_journal.Journal.push.Goals as goal
 
 size-octets : (kind : ItemKind) → length (octets_of kind) ≡ size_of kind

@@ -1,6 +1,6 @@
 -- No ring is lost.
 use Rattle.std.proofs.Common.{refl}
-use Rattle.thread_session.proofs.BellRungLaws.{none-lost, rung-since, behind-since}
+use Rattle.thread_session.proofs.RungBellLaws.{none-lost, rung-since, behind-since}
 use Rattle.thread_session.proofs.session_parts.bell_laws.bell_law.Goals as goal
 
 pub returns-clause-asleep : goal.returns-clause-asleep

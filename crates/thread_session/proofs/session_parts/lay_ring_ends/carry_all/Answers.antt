@@ -8,11 +8,9 @@ use Rattle.law_model.specs.Common.{End}
 use Rattle.thread_alarms.specs.declared.watched_line.served_line.ServedLine.{ServedLine}
 use Rattle.thread_rings.specs.EndsOfRing.{out_passed}
 use Rattle.thread_alarms.specs.watched_line.ServedWithPosts.{worker_of, AreServedLater, IsServedLater}
-use Rattle.thread_alarms.proofs.ServedLinesLaterLaws.{served-refl, served-then}
+use Rattle.thread_alarms.proofs.LaterServedLineLaws.{served-refl, served-then}
 use Rattle.thread_session.specs.session_parts.LineRingsLaid.{AreServedDone}
-use Rattle.thread_session.proofs.ShareAndPairListsLaws.{zip-refl, zip-set}
-use Rattle.thread_session.proofs.ShareAndPairListsLaws.{set-found, set-same}
-use Rattle.thread_session.proofs.ShareAndPairListsLaws.{below-it}
+use Rattle.thread_session.proofs.WorkerShareAndPairListLaws.{zip-refl, zip-set, set-found, set-same, below-it}
 use Rattle.thread_session.proofs.session_parts.lay_ring_ends.carry_all.Goals as goal
 use Rattle.thread_session.proofs.session_parts.lay_ring_ends.carry_all.Goals.{then-not-carry_one, else-not-carry_one}
 

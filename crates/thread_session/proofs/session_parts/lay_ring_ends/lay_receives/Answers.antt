@@ -1,7 +1,7 @@
 -- One pair more is laid beside each other.
 use Rattle.std.proofs.Common.{◌≡◌, ℕ, arith, length, sym, subst}
 use Rattle.thread_session.specs.session_parts.LineRingsLaid.{PairsBelow, IsReceiveLaid}
-use Rattle.thread_session.proofs.ShareAndPairListsLaws.{pairs-none, pairs-left, pairs-next}
+use Rattle.thread_session.proofs.WorkerShareAndPairListLaws.{pairs-none, pairs-left, pairs-next}
 use Rattle.thread_session.proofs.session_parts.lay_ring_ends.lay_receives.Goals as goal
 
 pub loop-m-init : goal.loop-m-init

@@ -3,7 +3,7 @@ use Rattle.std.proofs.Common.{◌≡◌, ℕ, suc, ◌-◌, ◌%◌, ◌<◌, le
 use Rattle.std.specs.Prelude.{reverse}
 use Rattle.thread_session.specs.session_parts.ServedLines.{AreBack}
 use Rattle.thread_alarms.specs.watched_line.ServedWithPosts.{AreServedLater}
-use Rattle.thread_session.proofs.ShareAndPairListsLaws.{taken-back}
+use Rattle.thread_session.proofs.WorkerShareAndPairListLaws.{taken-back}
 use Rattle.thread_session.proofs.session_parts.line_shares.collect.Goals as goal
 
 pub loop-line-preserved : goal.loop-line-preserved

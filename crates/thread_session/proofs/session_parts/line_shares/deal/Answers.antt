@@ -9,7 +9,7 @@ use Rattle.std.specs.Vec.Iter.{into_iter_items}
 use Rattle.thread_alarms.specs.declared.watched_line.served_line.ServedLine.{ServedLine}
 use Rattle.thread_alarms.specs.watched_line.ServedWithPosts.{line_of}
 use Rattle.thread_session.specs.session_parts.ServedLines.{AreNumbered, share_of}
-use Rattle.thread_session.proofs.ShareAndPairListsLaws.{dealt-step, set-found}
+use Rattle.thread_session.proofs.WorkerShareAndPairListLaws.{dealt-step, set-found}
 use Rattle.thread_session.proofs.session_parts.line_shares.deal.Goals as goal
 
 numbered-rest : (from next : ℕ) (first : ServedLine) (rest all : List ServedLine) → all ≡ first ∷ rest →

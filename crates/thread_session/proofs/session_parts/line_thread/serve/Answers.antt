@@ -1,7 +1,7 @@
 -- Bursts after bursts.
 use Rattle.thread_alarms.specs.watched_line.ServedWithPosts.{IsServedLater}
-use Rattle.thread_alarms.proofs.ServedLinesLaterLaws.{served-refl, served-then}
-use Rattle.thread_session.proofs.ShareAndPairListsLaws.{zip-refl, zip-then}
+use Rattle.thread_alarms.proofs.LaterServedLineLaws.{served-refl, served-then}
+use Rattle.thread_session.proofs.WorkerShareAndPairListLaws.{zip-refl, zip-then}
 use Rattle.thread_session.proofs.session_parts.line_thread.serve.Goals as goal
 
 pub loop-init : goal.loop-init

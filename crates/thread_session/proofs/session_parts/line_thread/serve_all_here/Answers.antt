@@ -7,9 +7,7 @@ use Rattle.thread_alarms.specs.declared.watched_line.served_line.ServedLine.{Ser
 use Rattle.thread_session.specs.declared.session_parts.line_thread.Held.{Held}
 use Rattle.thread_session.specs.session_parts.HeldShares.{IsHeldOf, AreHeldOf, AreToldBy}
 use Rattle.thread_session.specs.session_parts.Bursts.{IsTriedHere, AreTriedHere}
-use Rattle.thread_session.proofs.ShareAndPairListsLaws.{zip-set}
-use Rattle.thread_session.proofs.ShareAndPairListsLaws.{told-set}
-use Rattle.thread_session.proofs.ShareAndPairListsLaws.{EachBelow, each-none, each-next}
+use Rattle.thread_session.proofs.WorkerShareAndPairListLaws.{zip-set, told-set, EachBelow, each-none, each-next}
 use Rattle.thread_session.proofs.session_parts.line_thread.serve_all_here.Goals as goal
 
 pub loop-share-init : goal.loop-share-init

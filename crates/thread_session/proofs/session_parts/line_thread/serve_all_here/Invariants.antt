@@ -5,7 +5,7 @@ use Rattle.thread_alarms.specs.declared.watched_line.served_line.ServedLine.{Ser
 use Rattle.thread_session.specs.declared.session_parts.stop_flag.Flag.{Flag}
 use Rattle.thread_session.specs.session_parts.HeldShares.{AreHeldOf, AreToldBy}
 use Rattle.thread_session.specs.session_parts.Bursts.{IsTriedHere}
-use Rattle.thread_session.proofs.ShareAndPairListsLaws.{EachBelow}
+use Rattle.thread_session.proofs.WorkerShareAndPairListLaws.{EachBelow}
 use Rattle.thread_session.proofs.session_parts.line_thread.serve_all_here.Given as goal
 
 abbrev pub invariant-loop-share : goal.invariant-loop-share

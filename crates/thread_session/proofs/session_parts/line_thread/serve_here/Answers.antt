@@ -1,8 +1,8 @@
 -- Workers that are here are later.
 use Rattle.std.proofs.Common.{subst}
 use Rattle.thread_alarms.specs.watched_line.ServedWithPosts.{IsServedLater}
-use Rattle.thread_alarms.proofs.ServedLinesLaterLaws.{served-then}
-use Rattle.thread_session.proofs.ShareAndPairListsLaws.{zip-then}
+use Rattle.thread_alarms.proofs.LaterServedLineLaws.{served-then}
+use Rattle.thread_session.proofs.WorkerShareAndPairListLaws.{zip-then}
 use Rattle.thread_session.specs.session_parts.HeldShares.{IsHeldOf}
 use Rattle.thread_session.proofs.session_parts.line_thread.serve_here.Goals as goal
 

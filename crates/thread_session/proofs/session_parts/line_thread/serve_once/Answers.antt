@@ -1,16 +1,15 @@
 -- A burst leaves a worker later; and where it was done, so.
-use Rattle.std.proofs.Common.{◌≡◌, inl, inr, ℕ, ◌<◌, List, Option, Some, None, IfNone, sym, subst, ap, length, slice_get, arith}
+use Rattle.std.proofs.Common.{◌≡◌, inl, inr, ℕ, ◌<◌, List, Option, Some, None, IfNone, sym, subst, ap, length}
+use Rattle.std.proofs.Common.{slice_get, arith}
 use Rattle.std.proofs.lemmas.List.{with_items_is}
 use Rattle.std.proofs.lemmas.Option.{slice_get_within}
 use Rattle.thread_alarms.specs.declared.watched_line.served_line.ServedLine.{ServedLine}
 use Rattle.thread_alarms.specs.watched_line.ServedWithPosts.{AreServedLater, IsServedLater}
-use Rattle.thread_alarms.proofs.ServedLinesLaterLaws.{served-refl, served-then}
+use Rattle.thread_alarms.proofs.LaterServedLineLaws.{served-refl, served-then}
 use Rattle.thread_session.specs.session_parts.LineRingsLaid.{IsServedDone, AreServedDone}
 use Rattle.thread_session.specs.session_parts.Bursts.{HasTried, AreTried}
-use Rattle.thread_session.proofs.ShareAndPairListsLaws.{zip-refl, zip-set}
-use Rattle.thread_session.proofs.ShareAndPairListsLaws.{set-found}
-use Rattle.thread_session.proofs.ShareAndPairListsLaws.{below-it}
-use Rattle.thread_session.proofs.ShareAndPairListsLaws.{EachBelow, each-none, each-next}
+use Rattle.thread_session.proofs.WorkerShareAndPairListLaws.{zip-refl, zip-set, set-found, below-it, EachBelow}
+use Rattle.thread_session.proofs.WorkerShareAndPairListLaws.{each-none, each-next}
 use Rattle.thread_session.proofs.session_parts.line_thread.serve_once.Goals as goal
 
 pub loop-worker-init : goal.loop-worker-init

@@ -6,7 +6,7 @@ use Rattle.thread_alarms.specs.watched_line.ServedWithPosts.{AreServedLater}
 use Rattle.thread_session.specs.session_parts.LineRingsLaid.{IsServedDone}
 use Rattle.thread_session.specs.declared.session_parts.line_thread.Served.TheVariants.{Done}
 use Rattle.thread_session.specs.session_parts.Bursts.{HasTried}
-use Rattle.thread_session.proofs.ShareAndPairListsLaws.{EachBelow}
+use Rattle.thread_session.proofs.WorkerShareAndPairListLaws.{EachBelow}
 use Rattle.thread_session.proofs.session_parts.line_thread.serve_once.Given as goal
 
 abbrev pub invariant-loop-worker : goal.invariant-loop-worker

@@ -1,11 +1,11 @@
 -- One more share is started, by the flag of its place; and nothing is left to be held.
-use Rattle.std.proofs.Common.{◌≡◌, ◌<◌, [], ◌∷◌, ◌++◌, length, slice_get, Some, refl, sym, ◌∙◌, ap, subst, arith, rules}
-use Rattle.std.proofs.Common.{append_assoc}
+use Rattle.std.proofs.Common.{◌≡◌, ◌<◌, [], ◌∷◌, ◌++◌, length, slice_get, Some, refl, sym, ◌∙◌, ap, subst, arith}
+use Rattle.std.proofs.Common.{rules, append_assoc}
 use Rattle.std.proofs.lemmas.List.{append-nil, nil_from_length}
 use Rattle.std.proofs.lemmas.Option.{slice_get_read}
 use Rattle.std.specs.Vec.Iter.{into_iter_items}
 use Rattle.thread_session.specs.session_parts.HeldShares.{AreHeldOf, AreToldBy}
-use Rattle.thread_session.proofs.ShareAndPairListsLaws.{told-push}
+use Rattle.thread_session.proofs.WorkerShareAndPairListLaws.{told-push}
 use Rattle.thread_session.proofs.session_parts.line_thread.start_shares.Goals as goal
 
 pub loop-workers-preserved : goal.loop-workers-preserved

@@ -1,6 +1,6 @@
 -- The first of the shares that are still held is taken back.
-use Rattle.std.proofs.Common.{◌≡◌, ◌+◌, ◌<◌, suc, slice_get, List, [], ◌∷◌, ◌++◌, length, vec_len, Some, refl, sym, ◌∙◌}
-use Rattle.std.proofs.Common.{ap, subst, arith, rules, append_assoc}
+use Rattle.std.proofs.Common.{◌≡◌, ◌+◌, ◌<◌, suc, slice_get, List, [], ◌∷◌, ◌++◌, length, vec_len, Some, refl, sym}
+use Rattle.std.proofs.Common.{◌∙◌, ap, subst, arith, rules, append_assoc}
 use Rattle.std.proofs.lemmas.List.{append-nil, nil_from_length}
 use Rattle.std.proofs.lemmas.Option.{slice_get_read}
 use Rattle.std.specs.Global.{Vec}
@@ -9,7 +9,7 @@ use Rattle.thread_alarms.specs.declared.watched_line.served_line.ServedLine.{Ser
 use Rattle.thread_session.specs.declared.session_parts.line_thread.Held.{Held}
 use Rattle.thread_session.specs.session_parts.ServedLines.{SharesLater}
 use Rattle.thread_session.specs.session_parts.HeldShares.{IsHeldOf, IsToldBy, AreHeldOf}
-use Rattle.thread_session.proofs.ShareAndPairListsLaws.{zip-first, zip-none}
+use Rattle.thread_session.proofs.WorkerShareAndPairListLaws.{zip-first, zip-none}
 use Rattle.thread_session.proofs.session_parts.line_thread.take_all_back.Goals as goal
 
 pub take_back-requires : goal.take_back-requires

@@ -3,7 +3,7 @@ use Rattle.std.proofs.Common.{◌≡◌, [], ℕ, sym, ◌∙◌, ap, subst, sli
 use Rattle.thread_rings.specs.EndsOfRing.{OutEnd, out_passed, AreEnds}
 use Rattle.law_model.specs.Common.{Cell}
 use Rattle.thread_session.specs.session_parts.LinesOpened.{slots_of}
-use Rattle.thread_session.proofs.OpenedLinesBeginBoundLaws.{none-opened, opened-more, opened-own}
+use Rattle.thread_session.proofs.OpenedLineAndGroupLaws.{none-opened, opened-more, opened-own}
 use Rattle.thread_session.proofs.session_parts.opened_lines.open_lines.Goals as goal
 
 pub loop-line-init : goal.loop-line-init

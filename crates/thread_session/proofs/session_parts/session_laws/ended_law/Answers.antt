@@ -1,5 +1,5 @@
 -- A sink that has taken all rows.
-use Rattle.thread_session.proofs.SessionEndGatheredLaws.{made-session, frames-session, backs-session}
+use Rattle.thread_session.proofs.SessionEndByScriptLaws.{made-session, frames-session, backs-session}
 use Rattle.thread_session.proofs.session_parts.session_laws.ended_law.Goals as goal
 
 pub returns-clause-made : goal.returns-clause-made

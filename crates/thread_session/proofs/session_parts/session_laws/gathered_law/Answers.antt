@@ -1,5 +1,5 @@
 -- Lines that have come to their end.
-use Rattle.thread_session.proofs.SessionEndGatheredLaws.{line-ended, all-come}
+use Rattle.thread_session.proofs.SessionEndByScriptLaws.{line-ended, all-come}
 use Rattle.thread_session.proofs.session_parts.session_laws.gathered_law.Goals as goal
 
 pub returns-clause-lines : goal.returns-clause-lines

@@ -1,5 +1,5 @@
 -- The sink has run on.
-use Rattle.thread_session.proofs.RingsLaidSinkRunLaws.{run-then}
+use Rattle.thread_session.proofs.SessionRingEndsAndSinkRunLaws.{run-then}
 use Rattle.thread_session.proofs.session_run.finish_in_turn.round.Goals as goal
 
 pub returns-then-carried-clause-run : goal.returns-then-carried-clause-run

@@ -3,7 +3,7 @@ use Rattle.std.proofs.Common.{sym, ◌∙◌, subst}
 use Rattle.law_model.specs.Common.{refusal_in}
 use Rattle.thread_group.specs.GroupCalls.{Submits}
 use Rattle.thread_group.specs.Group.{HasCounted}
-use Rattle.thread_session.proofs.OpenedLinesBeginBoundLaws.{has-landed}
+use Rattle.thread_session.proofs.OpenedLineAndGroupLaws.{has-landed}
 use Rattle.thread_session.proofs.session_run.group_turns.submit.Goals as goal
 
 pub returns : goal.returns

@@ -2,7 +2,7 @@
 use Rattle.std.proofs.Common.{◌^◌, sym, ◌∙◌, rules}
 use Rattle.std.proofs.lemmas.Iterator.{YieldsList-from_map, YieldsList-from_slice}
 use Rattle.std.proofs.lemmas.Iterator.Consumers.{sum_by_from_yields_List, fits_by_from_yields_list}
-use Rattle.thread_session.proofs.OpenedLinesBeginBoundLaws.{own_octets, octets-sum, octets-few}
+use Rattle.thread_session.proofs.OpenedLineAndGroupLaws.{own_octets, octets-sum, octets-few}
 use Rattle.thread_session.proofs.session_run.open_ends.all_octets.Goals as goal
 
 pub sum-requires-clause-fits : goal.sum-requires-clause-fits

@@ -1,5 +1,5 @@
 -- What was opened is the script's, over rings through which nothing has passed.
-use Rattle.thread_session.proofs.ShareAndPairListsLaws.{none-received}
+use Rattle.thread_session.proofs.WorkerShareAndPairListLaws.{none-received}
 use Rattle.thread_session.proofs.session_run.open_ends.open.Goals as goal
 
 pub open_ends-requires-clause-fresh : goal.open_ends-requires-clause-fresh

@@ -3,7 +3,7 @@ use Rattle.std.proofs.Common.{length, ◌∙◌, ap}
 use Rattle.law_model.specs.Common.{offers_of}
 use Rattle.law_model.specs.declared.script_types.Item.{Item}
 use Rattle.thread_group.specs.GroupOfLeg.{octets_in}
-use Rattle.thread_session.proofs.OpenedLinesBeginBoundLaws.{group-opened}
+use Rattle.thread_session.proofs.OpenedLineAndGroupLaws.{group-opened}
 use Rattle.thread_session.proofs.session_run.open_ends.open_group.Goals as goal
 
 pub returns-clause-bound : goal.returns-clause-bound

@@ -1,5 +1,5 @@
 -- The worker is the script's.
-use Rattle.thread_session.proofs.OpenedLinesBeginBoundLaws.{sink-opened}
+use Rattle.thread_session.proofs.OpenedLineAndGroupLaws.{sink-opened}
 use Rattle.thread_session.proofs.session_run.open_ends.open_sink.Goals as goal
 
 pub returns-clause-sink : goal.returns-clause-sink

@@ -1,8 +1,8 @@
 -- A look at both ends of each ring.
 use Rattle.std.proofs.Common.{refl}
 use Rattle.law_model.specs.Common.{leg_of}
-use Rattle.thread_group.proofs.LaidAndLookedEndsLaws.{keeps-laid, bound-laid}
-use Rattle.thread_session.proofs.RingsLaidSinkRunLaws.{mid-receives, stands-laid, rings-laid}
+use Rattle.thread_group.proofs.GroupRingEndLookLaws.{keeps-laid, bound-laid}
+use Rattle.thread_session.proofs.SessionRingEndsAndSinkRunLaws.{mid-receives, stands-laid, rings-laid}
 use Rattle.thread_session.proofs.session_run.opened_session.lay_beside.Goals as goal
 
 pub lay_receives-requires-clause-ends : goal.lay_receives-requires-clause-ends

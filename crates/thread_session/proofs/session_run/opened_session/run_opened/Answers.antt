@@ -5,7 +5,7 @@ use Rattle.law_model.specs.Common.{leg_of}
 use Rattle.text_report.specs.ReportLines.{got_texts}
 use Rattle.thread_alarms.specs.alarm_log.Posts.{SamePost}
 use Rattle.thread_alarms.specs.watched_line.ServedWithPosts.{posts_of, AreServedLater, IsServedLater}
-use Rattle.thread_alarms.proofs.ServedLinesLaterLaws.{served-then, posts-later}
+use Rattle.thread_alarms.proofs.LaterServedLineLaws.{served-then, posts-later}
 use Rattle.terminal_sink.specs.sink_core.TakenAndGiven.{given_frames}
 use Rattle.thread_sink.specs.Told.{Writes}
 use Rattle.thread_sink.specs.WorkerOfSink.{cells_of, options_of, size_of, taken_of, has_failed}
@@ -14,14 +14,14 @@ use Rattle.thread_group.specs.Group.{ticks_of, total_of}
 use Rattle.thread_group.specs.GroupOfLeg.{IsBound}
 use Rattle.thread_session.specs.session_parts.Duty.{Begun, IsLogLater}
 use Rattle.thread_session.specs.session_parts.ServedLines.{AreLater}
-use Rattle.thread_session.proofs.RingsLaidSinkRunLaws.{log-handed}
-use Rattle.thread_session.proofs.ShareAndPairListsLaws.{zip-then}
-use Rattle.thread_session.proofs.RingsLaidSinkRunLaws.{HasRunTo, StandsFor, run-writes}
-use Rattle.thread_session.proofs.RingsLaidSinkRunLaws.{bound-own, run-begins, begun_of, handed-on}
-use Rattle.thread_session.proofs.RingsLaidSinkRunLaws.{ends-later, come-to-end, writes-laid}
+use Rattle.thread_session.proofs.SessionRingEndsAndSinkRunLaws.{log-handed}
+use Rattle.thread_session.proofs.WorkerShareAndPairListLaws.{zip-then}
+use Rattle.thread_session.proofs.SessionRingEndsAndSinkRunLaws.{HasRunTo, StandsFor, run-writes}
+use Rattle.thread_session.proofs.SessionRingEndsAndSinkRunLaws.{bound-own, run-begins, begun_of, handed-on}
+use Rattle.thread_session.proofs.SessionRingEndsAndSinkRunLaws.{ends-later, come-to-end, writes-laid}
 use Rattle.thread_session.specs.session_run.RoomForThreads.{HasRoomFor}
-use Rattle.thread_session.proofs.LinesWithPostsLaws.{served-count, served-numbers, served-few, workers-end, done-workers, told-laid}
-use Rattle.thread_session.proofs.LinesWithPostsLaws.{still-as-many}
+use Rattle.thread_session.proofs.LinesWithPostsLaws.{served-count, served-numbers, served-few, workers-end}
+use Rattle.thread_session.proofs.LinesWithPostsLaws.{done-workers, told-laid, still-as-many}
 use Rattle.thread_session.proofs.session_run.opened_session.run_opened.Given as given
 use Rattle.thread_session.proofs.session_run.opened_session.run_opened.Goals as goal
 use Rattle.thread_session.proofs.session_run.opened_session.run_opened.Goals.{After-into_state}

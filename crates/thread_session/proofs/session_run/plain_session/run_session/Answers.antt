@@ -1,8 +1,8 @@
 -- The session is that of the script.
 use Rattle.std.proofs.Common.{ap}
 use Rattle.text_report.specs.ReportLines.{got_texts}
-use Rattle.thread_session.proofs.SessionEndGatheredLaws.{frames-ended, session-ended, group-ended}
-use Rattle.thread_session.proofs.RingsLaidSinkRunLaws.{writes-whole, writes-part}
+use Rattle.thread_session.proofs.SessionEndByScriptLaws.{frames-ended, session-ended, group-ended}
+use Rattle.thread_session.proofs.SessionRingEndsAndSinkRunLaws.{writes-whole, writes-part}
 use Rattle.thread_session.proofs.session_run.plain_session.run_session.Goals as goal
 
 pub returns : goal.returns

@@ -1,7 +1,7 @@
 -- One share more is empty, and has room.
 use Rattle.std.proofs.Common.{subst, sym, rules}
 use Rattle.thread_session.specs.session_parts.ServedLines.{HaveRoom}
-use Rattle.thread_session.proofs.ShareAndPairListsLaws.{room-none, room-more}
+use Rattle.thread_session.proofs.WorkerShareAndPairListLaws.{room-none, room-more}
 use Rattle.thread_session.proofs.session_run.room_and_flags.empty_shares.Goals as goal
 
 pub loop-init : goal.loop-init

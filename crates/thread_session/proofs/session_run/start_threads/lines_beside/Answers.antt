@@ -4,8 +4,7 @@ use Rattle.std.specs.Global.{Vec}
 use Rattle.thread_alarms.specs.declared.watched_line.served_line.ServedLine.{ServedLine}
 use Rattle.thread_session.specs.session_parts.ServedLines.{AreBack}
 use Rattle.thread_alarms.specs.watched_line.ServedWithPosts.{AreServedLater}
-use Rattle.thread_session.proofs.ShareAndPairListsLaws.{zip-length}
-use Rattle.thread_session.proofs.ShareAndPairListsLaws.{back-dealt}
+use Rattle.thread_session.proofs.WorkerShareAndPairListLaws.{zip-length, back-dealt}
 use Rattle.thread_session.proofs.session_run.start_threads.lines_beside.Goals as goal
 
 pub returns-clause-lines : goal.returns-clause-lines

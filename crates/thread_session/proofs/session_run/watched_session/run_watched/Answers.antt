@@ -4,9 +4,9 @@ use Rattle.thread_alarms.specs.alarm_log.Logs.{SameLog, alarms_in}
 use Rattle.thread_alarms.specs.alarm_log.Posts.{SamePost}
 use Rattle.text_report.specs.ReportLines.{got_texts}
 use Rattle.thread_session.specs.session_parts.Duty.{IsLogLater}
-use Rattle.thread_session.proofs.ShareAndPairListsLaws.{zip-length}
-use Rattle.thread_session.proofs.SessionEndGatheredLaws.{frames-ended, session-ended, group-ended}
-use Rattle.thread_session.proofs.RingsLaidSinkRunLaws.{writes-whole, writes-part}
+use Rattle.thread_session.proofs.WorkerShareAndPairListLaws.{zip-length}
+use Rattle.thread_session.proofs.SessionEndByScriptLaws.{frames-ended, session-ended, group-ended}
+use Rattle.thread_session.proofs.SessionRingEndsAndSinkRunLaws.{writes-whole, writes-part}
 use Rattle.thread_session.proofs.LinesWithPostsLaws.{watchable, still-posts, all-alarms, all-below}
 use Rattle.thread_session.proofs.session_run.watched_session.run_watched.Goals as goal
 

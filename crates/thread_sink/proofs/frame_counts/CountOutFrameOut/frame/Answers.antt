@@ -1,5 +1,5 @@
 -- One frame more is counted.
-use Rattle.thread_sink.proofs.SinkPartsFramesLaws.{count-more}
+use Rattle.thread_sink.proofs.SinkStepAndFrameLaws.{count-more}
 use Rattle.thread_sink.proofs.frame_counts.CountOutFrameOut.frame.Goals as goal
 
 pub returns : goal.returns

@@ -5,7 +5,7 @@ use Rattle.text_report.specs.ReportLines.{got_texts}
 use Rattle.terminal_sink.specs.sink_core.TakenAndGiven.{given_frames}
 use Rattle.thread_sink.specs.Told.{Writes}
 use Rattle.thread_sink.specs.WorkerOfSink.{cells_of, options_of, size_of, taken_of, has_failed}
-use Rattle.thread_sink.proofs.SinkPartsFramesLaws.{writes-none}
+use Rattle.thread_sink.proofs.SinkStepAndFrameLaws.{writes-none}
 use Rattle.thread_sink.proofs.sink_worker.SinkWorker.burst.Goals as goal
 
 pub returns-then-taken-self-clause-written : goal.returns-then-taken-self-clause-written

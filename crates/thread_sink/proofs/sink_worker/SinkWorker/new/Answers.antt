@@ -4,7 +4,7 @@ use Rattle.std.proofs.lemmas.List.{length-map}
 use Rattle.member_rows.specs.realign_rows.Gather.{GatherStands as Gathers}
 use Rattle.thread_rings.specs.EndsOfRing.{in_passed}
 use Rattle.thread_sink.specs.ReceivedByRings.{received}
-use Rattle.thread_sink.proofs.SinkPartsFramesLaws.{backs-none, frames-none}
+use Rattle.thread_sink.proofs.SinkStepAndFrameLaws.{backs-none, frames-none}
 use Rattle.thread_sink.proofs.sink_worker.SinkWorker.new.Goals as goal
 
 pub returns-clause-stands : goal.returns-clause-stands

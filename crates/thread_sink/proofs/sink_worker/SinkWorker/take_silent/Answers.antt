@@ -4,8 +4,7 @@ use Rattle.terminal_sink.specs.sink_core.TakenAndGiven.{given_frames, added_fram
 use Rattle.thread_sink.specs.ReceivedByRings.{received}
 use Rattle.thread_sink.specs.SinkParts.{parts}
 use Rattle.thread_sink.specs.WorkerOfSink.{parts_of}
-use Rattle.thread_sink.proofs.SinkPartsFramesLaws.{counts-then}
-use Rattle.thread_sink.proofs.SinkPartsFramesLaws.{given-then}
+use Rattle.thread_sink.proofs.SinkStepAndFrameLaws.{counts-then, given-then}
 use Rattle.thread_sink.proofs.sink_worker.SinkWorker.take_silent.Goals as goal
 
 pub returns-clause-stands : goal.returns-clause-stands

@@ -8,8 +8,7 @@ use Rattle.thread_sink.specs.Told.{Writes}
 use Rattle.thread_sink.specs.ReceivedByRings.{received}
 use Rattle.thread_sink.specs.SinkParts.{parts}
 use Rattle.thread_sink.specs.WorkerOfSink.{parts_of}
-use Rattle.thread_sink.proofs.SinkPartsFramesLaws.{counts-then, told-end}
-use Rattle.thread_sink.proofs.SinkPartsFramesLaws.{given-then}
+use Rattle.thread_sink.proofs.SinkStepAndFrameLaws.{counts-then, told-end, given-then}
 use Rattle.thread_sink.proofs.sink_worker.SinkWorker.take_told.Goals as goal
 
 pub returns-clause-stands : goal.returns-clause-stands

@@ -1,5 +1,5 @@
 -- The line has a failure more, which lasts.
-use Rattle.walk_live.proofs.AnsweredWalkSayingLaws.{cut-after, cut-answered, cut-few, cut-left, cut-line, now-live}
+use Rattle.walk_live.proofs.AnsweredWalkAndSayingLaws.{cut-after, cut-answered, cut-few, cut-left, cut-line, now-live}
 use Rattle.walk_live.proofs.answered_walk.AnsweredWalk.cut.Goals as goal
 
 pub cut-requires : goal.cut-requires

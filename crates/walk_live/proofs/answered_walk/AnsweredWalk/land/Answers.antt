@@ -4,8 +4,8 @@ use Rattle.std.proofs.lemmas.Result.{on_err_weaker, on_ok_weaker}
 use Rattle.law_model.specs.Common.{AppendsPart}
 use Rattle.text_got.specs.TextSoFar.{Holds}
 use Rattle.terminal_group.specs.Item.{kind_of}
-use Rattle.walk_live.proofs.AnsweredWalkSayingLaws.{land-accepted, land-answered, land-few, land-refused}
-use Rattle.walk_live.proofs.HoldsTimedTextLaws.{holds-none}
+use Rattle.walk_live.proofs.AnsweredWalkAndSayingLaws.{land-accepted, land-answered, land-few, land-refused}
+use Rattle.walk_live.proofs.TimedLineWritingLaws.{holds-none}
 use Rattle.walk_live.proofs.answered_walk.AnsweredWalk.land.Goals as goal
 
 pub returns-in-Some-clause-answers : goal.returns-in-Some-clause-answers

@@ -5,9 +5,10 @@ use Rattle.text_got.specs.TextSoFar.{Holds}
 use Rattle.law_live.specs.Common.{leg_said, live_counts, passes}
 use Rattle.walk_engine.specs.walk_core.LiveWalking.{walking_counts}
 use Rattle.walk_live.specs.PassingRounds.{round_text}
-use Rattle.walk_live.proofs.PassRoundsLaws.{passes-begin, passes-less, passes-on, tells-all, tells-begin, tells-on, tells-part}
-use Rattle.walk_live.proofs.AnsweredWalkSayingLaws.{can-round, other-then, pass-own, pass-rest, pass-total, pass-walks}
-use Rattle.walk_live.proofs.AnsweredWalkSayingLaws.{leg-less, leg-lines}
+use Rattle.walk_live.proofs.PassRoundsLaws.{passes-begin, passes-less, passes-on, tells-all, tells-begin, tells-on}
+use Rattle.walk_live.proofs.PassRoundsLaws.{tells-part}
+use Rattle.walk_live.proofs.AnsweredWalkAndSayingLaws.{can-round, other-then, pass-own, pass-rest, pass-total}
+use Rattle.walk_live.proofs.AnsweredWalkAndSayingLaws.{pass-walks, leg-less, leg-lines}
 use Rattle.walk_live.proofs.answered_walk.AnsweredWalk.make_rounds.Goals as goal
 
 pub loop-self-init : goal.loop-self-init

@@ -1,5 +1,5 @@
 -- The last failure of the line is over.
-use Rattle.walk_live.proofs.AnsweredWalkSayingLaws.{mend-answered, mend-cut, mend-line, now-live}
+use Rattle.walk_live.proofs.AnsweredWalkAndSayingLaws.{mend-answered, mend-cut, mend-line, now-live}
 use Rattle.walk_live.proofs.answered_walk.AnsweredWalk.mend.Goals as goal
 
 pub mend-requires : goal.mend-requires

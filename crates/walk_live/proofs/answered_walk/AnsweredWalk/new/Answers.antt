@@ -1,6 +1,6 @@
 -- Nothing was said.
 use Rattle.std.proofs.Common.{refl}
-use Rattle.walk_live.proofs.AnsweredWalkSayingLaws.{nothing-items, nothing-walks, nothing-well}
+use Rattle.walk_live.proofs.AnsweredWalkAndSayingLaws.{nothing-items, nothing-walks, nothing-well}
 use Rattle.walk_live.proofs.answered_walk.AnsweredWalk.new.Goals as goal
 
 pub returns : goal.returns

@@ -4,8 +4,8 @@ use Rattle.std.proofs.lemmas.Result.{on_err_weaker, on_ok_weaker}
 use Rattle.law_model.specs.Common.{AppendsPart}
 use Rattle.law_live.specs.Common.{now_text}
 use Rattle.text_got.specs.TextSoFar.{Holds}
-use Rattle.walk_live.proofs.AnsweredWalkSayingLaws.{can-pass, now-ticks, pass-answer, pass-answered, pass-few}
-use Rattle.walk_live.proofs.HoldsTimedTextLaws.{holds-more, part-longer, part-more}
+use Rattle.walk_live.proofs.AnsweredWalkAndSayingLaws.{can-pass, now-ticks, pass-answer, pass-answered, pass-few}
+use Rattle.walk_live.proofs.TimedLineWritingLaws.{holds-more, part-longer, part-more}
 use Rattle.walk_live.proofs.answered_walk.AnsweredWalk.pass.Goals as goal
 
 pub overflow_add-until : goal.overflow_add-until

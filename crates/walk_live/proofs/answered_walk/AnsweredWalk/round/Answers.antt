@@ -9,9 +9,9 @@ use Rattle.walk_engine.specs.walk_core.LiveWalking.{walking_counts}
 use Rattle.law_walk.specs.DeliveredFrames.{delivered_since}
 use Rattle.walk_live.specs.TimedWriting.{timed_texts}
 use Rattle.walk_live.proofs.PassRoundsLaws.{round-told}
-use Rattle.law_live.proofs.SettledLiveRoundLaws.{goes-tick}
+use Rattle.law_live.proofs.LiveRoundAndLandingLaws.{goes-tick}
 use Rattle.walk_live.proofs.PassRoundsLaws.{round-parts}
-use Rattle.walk_live.proofs.HoldsTimedTextLaws.{holds-more, on-ok, part-longer, part-more}
+use Rattle.walk_live.proofs.TimedLineWritingLaws.{holds-more, on-ok, part-longer, part-more}
 use Rattle.walk_live.proofs.answered_walk.AnsweredWalk.round.Goals as goal
 
 pub tell_step-requires : goal.tell_step-requires

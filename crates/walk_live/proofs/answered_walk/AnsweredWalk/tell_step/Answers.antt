@@ -5,10 +5,10 @@ use Rattle.law_model.specs.Common.{AppendsPart, steps_in}
 use Rattle.text_got.specs.TextSoFar.{Holds}
 use Rattle.walk_engine.specs.walk_core.LiveWalking.{walking_counts}
 use Rattle.walk_live.specs.PassingRounds.{steps_text}
-use Rattle.walk_live.proofs.HoldsTimedTextLaws.{last-line, steps-one, steps-same, steps-untold}
-use Rattle.walk_live.proofs.HoldsTimedTextLaws.{holds-none}
+use Rattle.walk_live.proofs.TimedLineWritingLaws.{last-line, steps-one, steps-same, steps-untold, holds-none}
 use Rattle.walk_live.proofs.answered_walk.AnsweredWalk.tell_step.Goals as goal
-use Rattle.walk_live.proofs.answered_walk.AnsweredWalk.tell_step.Goals.{then-not-self-via-then-not-self, then-not-self-via-else-not-self+then-not-is_step}
+use Rattle.walk_live.proofs.answered_walk.AnsweredWalk.tell_step.Goals.{then-not-self-via-then-not-self}
+use Rattle.walk_live.proofs.answered_walk.AnsweredWalk.tell_step.Goals.{then-not-self-via-else-not-self+then-not-is_step}
 
 pub returns-then-not-self-clause-told : goal.returns-then-not-self-clause-told
 returns-then-not-self-clause-told g c leg stands lines =

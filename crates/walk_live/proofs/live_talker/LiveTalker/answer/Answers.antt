@@ -2,8 +2,9 @@
 use Rattle.std.proofs.Common.{List, ℕ, ◌∷◌, ◌++◌, [], sym}
 use Rattle.text_live.specs.Sayings.{said_in, saying_of, sayings}
 use Rattle.text_live.specs.LiveReaderStands.{told_line}
-use Rattle.walk_live.proofs.AnsweredWalkSayingLaws.{well_as}
-use Rattle.walk_live.proofs.LiveTalkerReplyLaws.{answering, replied_none, talks_still, walk_part, walk_replied, walk_talks}
+use Rattle.walk_live.proofs.AnsweredWalkAndSayingLaws.{well_as}
+use Rattle.walk_live.proofs.LiveTalkerReplyLaws.{answering, replied_none, talks_still, walk_part, walk_replied}
+use Rattle.walk_live.proofs.LiveTalkerReplyLaws.{walk_talks}
 use Rattle.walk_live.proofs.live_talker.LiveTalker.answer.Goals as goal
 use Rattle.std.proofs.Common.{ap}
 

@@ -1,7 +1,7 @@
 -- The line of a frame is written or waits.
 use Rattle.std.proofs.Common.{refl}
 use Rattle.law_live.specs.Common.{got_at_text}
-use Rattle.walk_live.proofs.HoldsTimedTextLaws.{has-more, more-failed, more-stopped, more-told}
+use Rattle.walk_live.proofs.TimedLineWritingLaws.{has-more, more-failed, more-stopped, more-told}
 use Rattle.walk_live.proofs.timed_lines.TimedLinesFrameOut.frame.Goals as goal
 
 pub returns-then-self : goal.returns-then-self

@@ -1,6 +1,6 @@
 -- One more frame is summed up.
 use Rattle.std.proofs.Common.{refl}
-use Rattle.command_walk.proofs.TakenAndSummedFramesLaws.{summed-next}
+use Rattle.command_walk.proofs.WalkCaptureAndFrameSumLaws.{summed-next}
 use Rattle.command_walk.proofs.commands.make.SumOutFrameOut.frame.Goals as goal
 
 pub returns : goal.returns

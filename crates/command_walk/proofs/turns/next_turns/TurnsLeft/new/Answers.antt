@@ -1,7 +1,7 @@
 -- All lines, or a drain.
 use Rattle.std.proofs.Common.{length, refl, sym}
 use Rattle.std.proofs.lemmas.Bool.{eqb-true}
-use Rattle.command_walk.proofs.TracedWalkCountsLaws.{some-lines}
+use Rattle.command_walk.proofs.WalkTraceAndEventCountLaws.{some-lines}
 use Rattle.command_walk.proofs.TurnsLeftLaws.{drains-first, lines-first}
 use Rattle.command_walk.proofs.turns.next_turns.TurnsLeft.new.Goals as goal
 

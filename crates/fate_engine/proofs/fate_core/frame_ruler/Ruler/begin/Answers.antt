@@ -2,7 +2,7 @@
 use Rattle.std.proofs.Common.{◌+◌, ◌^◌, ◌<◌, length, slice_set, refl, sym, subst}
 use Rattle.fate_engine.specs.Common.{IsRuler}
 use Rattle.fate_engine.specs.declared.fate_core.frame_ruler.Piece.{Piece}
-use Rattle.fate_engine.proofs.RulerSidesPiecesLaws.{waits-some, begins}
+use Rattle.fate_engine.proofs.RulerAndFrameSideLaws.{waits-some, begins}
 use Rattle.fate_engine.proofs.fate_core.frame_ruler.Ruler.begin.Goals as goal
 
 pub invariant_of-self : goal.invariant_of-self

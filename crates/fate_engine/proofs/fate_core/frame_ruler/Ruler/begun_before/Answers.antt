@@ -4,7 +4,7 @@ use Rattle.std.specs.List.Sorted.{IsPartitionedBy}
 use Rattle.std.proofs.lemmas.Fn.{always_returns_same}
 use Rattle.fate_engine.specs.Common.{begun_before}
 use Rattle.fate_engine.specs.declared.fate_core.frame_ruler.Piece.{Piece}
-use Rattle.fate_engine.proofs.RulerSidesPiecesLaws.{BegunBefore, parted-before, count-before}
+use Rattle.fate_engine.proofs.RulerAndFrameSideLaws.{BegunBefore, parted-before, count-before}
 use Rattle.fate_engine.proofs.fate_core.frame_ruler.Ruler.begun_before.Goals as goal
 
 pub returns : goal.returns

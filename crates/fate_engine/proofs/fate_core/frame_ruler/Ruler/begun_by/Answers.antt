@@ -4,7 +4,7 @@ use Rattle.std.specs.List.Sorted.{IsPartitionedBy}
 use Rattle.std.proofs.lemmas.Fn.{always_returns_same}
 use Rattle.fate_engine.specs.Common.{IsBegun}
 use Rattle.fate_engine.specs.declared.fate_core.frame_ruler.Piece.{Piece}
-use Rattle.fate_engine.proofs.RulerSidesPiecesLaws.{Begun, parted, is-begun}
+use Rattle.fate_engine.proofs.RulerAndFrameSideLaws.{Begun, parted, is-begun}
 use Rattle.fate_engine.proofs.fate_core.frame_ruler.Ruler.begun_by.Goals as goal
 
 pub returns : goal.returns

@@ -1,9 +1,9 @@
 -- By the last frame that begins at the place or before.
-use Rattle.std.proofs.Common.{◌≡◌, ℕ, zero, suc, ◌-◌, ◌<◌, ◌≤◌, List, [], ◌∷◌, length, map, take, Some, None, slice_get}
-use Rattle.std.proofs.Common.{sym, ◌∙◌, ap, subst, arith}
+use Rattle.std.proofs.Common.{◌≡◌, ℕ, zero, suc, ◌-◌, ◌<◌, ◌≤◌, List, [], ◌∷◌, length, map, take, Some, None}
+use Rattle.std.proofs.Common.{slice_get, sym, ◌∙◌, ap, subst, arith}
 use Rattle.fate_engine.specs.fate_core.FrameSides.{AreInOrder}
 use Rattle.fate_engine.specs.Common.{side_of}
-use Rattle.fate_engine.proofs.RulerSidesPiecesLaws.{piece_in, piece-by, piece-late, piece-none, piece-found}
+use Rattle.fate_engine.proofs.RulerAndFrameSideLaws.{piece_in, piece-by, piece-late, piece-none, piece-found}
 use Rattle.fate_engine.proofs.fate_core.frame_ruler.Ruler.is_piece.Goals as goal
 
 pub returns-then-place-self : goal.returns-then-place-self

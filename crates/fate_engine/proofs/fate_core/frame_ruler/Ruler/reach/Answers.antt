@@ -1,6 +1,6 @@
 -- Idles behind the frames.
 use Rattle.std.proofs.Common.{◌+◌, ◌-◌, ◌*◌, ◌/◌, ◌<◌, ◌≤◌, sym, ◌∙◌, ap, subst, arith}
-use Rattle.fate_engine.proofs.RulerSidesPiecesLaws.{ruled-there, ruled-idles, longer}
+use Rattle.fate_engine.proofs.RulerAndFrameSideLaws.{ruled-there, ruled-idles, longer}
 use Rattle.fate_engine.proofs.fate_core.frame_ruler.Ruler.reach.Goals as goal
 
 pub invariant_of-self : goal.invariant_of-self

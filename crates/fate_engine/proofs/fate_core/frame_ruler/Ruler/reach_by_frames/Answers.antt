@@ -1,7 +1,7 @@
 -- Frame by frame.
 use Rattle.std.proofs.Common.{◌<◌, length, sym, ◌∙◌, ap, subst, arith}
 use Rattle.fate_engine.specs.Common.{ruled}
-use Rattle.fate_engine.proofs.RulerSidesPiecesLaws.{some-waits, ruled-step, fewer}
+use Rattle.fate_engine.proofs.RulerAndFrameSideLaws.{some-waits, ruled-step, fewer}
 use Rattle.fate_engine.proofs.fate_core.frame_ruler.Ruler.reach_by_frames.Goals as goal
 
 pub loop-self-preserved : goal.loop-self-preserved

@@ -1,7 +1,7 @@
 -- The sides of a frame that is begun.
 use Rattle.std.proofs.Common.{◌+◌, map, take, Some, slice_get, sym, ◌∙◌, ap, arith}
 use Rattle.fate_engine.specs.Common.{side_of}
-use Rattle.fate_engine.proofs.RulerSidesPiecesLaws.{side-at, side-low}
+use Rattle.fate_engine.proofs.RulerAndFrameSideLaws.{side-at, side-low}
 use Rattle.fate_engine.proofs.fate_core.frame_ruler.Ruler.sides.Goals as goal
 
 pub overflow_add-result-2 : goal.overflow_add-result-2

@@ -8,9 +8,11 @@ use Rattle.std.proofs.lemmas.Bool.{le-leb, lt-leb}
 use Rattle.std.proofs.lemmas.Fn.{always_returns_same}
 use Rattle.fate_engine.specs.Common.{IsAround, AreSegments}
 use Rattle.fate_engine.specs.declared.fate_law.RowSegment.{RowSegment}
-use Rattle.fate_engine.proofs.RowSegmentsLookLaws.{in_segment, in_none, parted, Passed, in-first, in-last, in-ended, in-no}
+use Rattle.fate_engine.proofs.RowSegmentLookupLaws.{in_segment, in_none, parted, Passed, in-first, in-last, in-ended}
+use Rattle.fate_engine.proofs.RowSegmentLookupLaws.{in-no}
 use Rattle.fate_engine.proofs.fate_core.row_segments.Segments.around.Goals as goal
-use Rattle.fate_engine.proofs.fate_core.row_segments.Segments.around.Goals.{After-partition_point-passed, After-deref-2}
+use Rattle.fate_engine.proofs.fate_core.row_segments.Segments.around.Goals.{After-partition_point-passed}
+use Rattle.fate_engine.proofs.fate_core.row_segments.Segments.around.Goals.{After-deref-2}
 
 pub returns-then-row-self : goal.returns-then-row-self
 returns-then-row-self c = λ rows stands low.

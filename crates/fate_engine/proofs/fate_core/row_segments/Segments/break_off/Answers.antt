@@ -1,8 +1,8 @@
 -- The segments stay in order.
 use Rattle.std.proofs.Common.{◌≡◌, ◌+◌, ◌&&◌, true, nat_lt, [], ◌∷◌, ◌++◌, refl, sym, ◌∙◌, ap, subst, arith, ltb-true}
-use Rattle.law_loss.proofs.GivenLostKeptLaws.{and_right}
+use Rattle.law_loss.proofs.GivenAndLostFrameLaws.{and_right}
 use Rattle.fate_engine.specs.fate_core.Segments.{AreInOrder}
-use Rattle.fate_engine.proofs.RowSegmentsLookLaws.{order-push, order-more}
+use Rattle.fate_engine.proofs.RowSegmentLookupLaws.{order-push, order-more}
 use Rattle.fate_engine.proofs.fate_core.row_segments.Segments.break_off.Goals as goal
 use Rattle.fate_engine.proofs.fate_core.row_segments.Segments.break_off.Goals.{then-is_told+in_ok-push, else-is_told}
 

@@ -5,7 +5,7 @@ use Rattle.std.proofs.lemmas.Option.{slice_get_past}
 use Rattle.law_model.proofs.ListLaws.{at-index, slice_get-append}
 use Rattle.fate_engine.specs.Common.{is_told}
 use Rattle.fate_engine.specs.declared.fate_law.RowSegment.{RowSegment}
-use Rattle.fate_engine.proofs.RowSegmentsLookLaws.{later-kept}
+use Rattle.fate_engine.proofs.RowSegmentLookupLaws.{later-kept}
 use Rattle.fate_engine.proofs.fate_core.row_segments.Segments.later.Goals as goal
 use Rattle.fate_engine.proofs.fate_core.row_segments.Segments.later.Goals.{else-i-len-2-via-then-i-len-2+else-is_told}
 use Rattle.fate_engine.proofs.fate_core.row_segments.Segments.later.Goals.{else-i-len-2-via-else-i-len-2}

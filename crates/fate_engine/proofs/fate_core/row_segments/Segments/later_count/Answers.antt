@@ -2,7 +2,7 @@
 use Rattle.std.proofs.Common.{◌≡◌, true, false, [], ◌∷◌, ◌++◌, length, sym, ◌∙◌, ap, arith, length-append}
 use Rattle.std.specs.Prelude.{if◌then◌else◌}
 use Rattle.fate_engine.specs.Common.{is_told}
-use Rattle.fate_engine.proofs.RowSegmentsLookLaws.{later-kept}
+use Rattle.fate_engine.proofs.RowSegmentLookupLaws.{later-kept}
 use Rattle.fate_engine.proofs.fate_core.row_segments.Segments.later_count.Goals as goal
 
 pub returns-then-is_told : goal.returns-then-is_told

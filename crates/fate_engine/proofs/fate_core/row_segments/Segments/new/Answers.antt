@@ -2,7 +2,7 @@
 use Rattle.std.proofs.Common.{◌≡◌, [], refl, sym, subst, arith, List}
 use Rattle.fate_engine.specs.declared.fate_law.RowSegment.{RowSegment}
 use Rattle.fate_engine.specs.fate_core.Segments.{AreInOrder}
-use Rattle.fate_engine.proofs.RowSegmentsLookLaws.{none-kept}
+use Rattle.fate_engine.proofs.RowSegmentLookupLaws.{none-kept}
 use Rattle.fate_engine.proofs.fate_core.row_segments.Segments.new.Goals as goal
 
 none : (list : List RowSegment) → list ≡ [] → AreInOrder 0 list 0

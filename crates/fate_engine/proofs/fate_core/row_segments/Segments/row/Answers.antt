@@ -2,7 +2,7 @@
 use Rattle.std.proofs.Common.{[], ◌∷◌, ◌++◌, sym, ◌∙◌, subst}
 use Rattle.fate_engine.specs.fate_core.Segments.{SegmentsStand}
 use Rattle.fate_engine.specs.Common.{AreSegments}
-use Rattle.fate_engine.proofs.RowSegmentsLookLaws.{go-on, break-off}
+use Rattle.fate_engine.proofs.RowSegmentLookupLaws.{go-on, break-off}
 use Rattle.fate_engine.proofs.fate_core.row_segments.Segments.row.Goals as goal
 
 pub returns-then-whole-clause-ok : goal.returns-then-whole-clause-ok

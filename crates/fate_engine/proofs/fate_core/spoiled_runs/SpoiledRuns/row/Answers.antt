@@ -1,6 +1,6 @@
 -- One more row.
 use Rattle.std.proofs.Common.{◌+◌, Some, sym, ◌∙◌, ap}
-use Rattle.fate_engine.proofs.CauseWholeSpoiledRunsLaws.{with_row_of, runs-more}
+use Rattle.fate_engine.proofs.SpoiledRunAndWholeContainerLaws.{with_row_of, runs-more}
 use Rattle.fate_engine.proofs.fate_core.spoiled_runs.SpoiledRuns.row.Goals as goal
 use Rattle.fate_engine.proofs.fate_core.spoiled_runs.SpoiledRuns.row.Goals.{in-Some+in_ok-add_row, in_default}
 

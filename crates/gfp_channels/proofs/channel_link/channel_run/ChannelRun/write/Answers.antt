@@ -12,13 +12,14 @@ use Rattle.gfp_channels.specs.declared.channel_link.channel_draft.ChannelPlan.{C
 use Rattle.gfp_channels.specs.declared.channel_link.channel_run.Refusal.{Refusal}
 use Rattle.gfp_channels.specs.channel_link.Plan.{AreCuts}
 use Rattle.gfp_channels.specs.channel_link.Run.{Prepared, Received}
-use Rattle.gfp_channels.specs.channel_link.ChannelReportText.{after_offers, delivered, refused, got_text, refusal_text, plan_text}
-use Rattle.gfp_channels.proofs.OfferRefusalWaitingLaws.{refusals-few}
-use Rattle.gfp_channels.proofs.CutSegmentReceptionLaws.{received-none, received-text, received-got}
-use Rattle.gfp_channels.proofs.CutSegmentReceptionLaws.{text-is}
+use Rattle.gfp_channels.specs.channel_link.ChannelReportText.{after_offers, delivered, refused, got_text, refusal_text}
+use Rattle.gfp_channels.specs.channel_link.ChannelReportText.{plan_text}
+use Rattle.gfp_channels.proofs.OfferedChannelFrameLaws.{refusals-few}
+use Rattle.gfp_channels.proofs.CutSegmentReceptionLaws.{received-none, received-text, received-got, text-is}
 use Rattle.gfp_channels.proofs.channel_link.channel_run.ChannelRun.write.Given as given
 use Rattle.gfp_channels.proofs.channel_link.channel_run.ChannelRun.write.Goals as goal
-use Rattle.gfp_channels.proofs.channel_link.channel_run.ChannelRun.write.Goals.{After-as_slice, After-count, After-finish-back}
+use Rattle.gfp_channels.proofs.channel_link.channel_run.ChannelRun.write.Goals.{After-as_slice, After-count}
+use Rattle.gfp_channels.proofs.channel_link.channel_run.ChannelRun.write.Goals.{After-finish-back}
 
 -- nothing is received yet
 module _ (g : given.Over) (c : After-as_slice g) where

@@ -5,7 +5,7 @@ use Rattle.gfp_model.specs.linear_model.Channels.{with_queue, pushed}
 use Rattle.gfp_channels.specs.gfp_linear.Queue.{Queued, busy_from, IsRising}
 use Rattle.gfp_channels.proofs.BusyChannelTurnLaws.{busy-rising, busy-room, busy-added, busy-pushed, queue-at}
 use Rattle.gfp_channels.proofs.BusyChannelTurnLaws.{set-with, pushed-is, silent-told, channels_of}
-use Rattle.gfp_channels.proofs.ReachedPlaceFillerLaws.{offered_stands}
+use Rattle.gfp_channels.proofs.LinearStreamPlaceLaws.{offered_stands}
 use Rattle.gfp_channels.proofs.gfp_linear.linear_queue.LinearQueue.push.Goals as goal
 use Rattle.gfp_channels.proofs.gfp_linear.linear_queue.LinearQueue.push.Goals.{Else-not-push}
 

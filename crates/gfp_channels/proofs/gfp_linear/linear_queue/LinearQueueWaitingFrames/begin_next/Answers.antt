@@ -2,7 +2,7 @@
 use Rattle.std.proofs.Common.{List, ℕ, [], ◌∷◌, ◌++◌, map, sym, subst}
 use Rattle.gfp_model.specs.linear_model.ChannelStream.{area_of}
 use Rattle.gfp_fill.specs.SentAreas.{StandsIn}
-use Rattle.gfp_channels.proofs.ReachedPlaceFillerLaws.{turn_begun}
+use Rattle.gfp_channels.proofs.LinearStreamPlaceLaws.{turn_begun}
 use Rattle.gfp_channels.proofs.gfp_linear.linear_queue.LinearQueueWaitingFrames.begin_next.Goals as goal
 
 pub returns-clause-begins : goal.returns-clause-begins

@@ -4,7 +4,7 @@ use Rattle.std.proofs.lemmas.List.{append-nil, take_all}
 use Rattle.std.proofs.lemmas.List.Elements.{All-nil, All-cons}
 use borrow.Rule.Slice.PartMut.{put_mid}
 use Rattle.member_au4.specs.au4_pointer.Sink.{Gives}
-use Rattle.member_au4.proofs.VcsInPartLaws.{kept-more, length-kept}
+use Rattle.member_au4.proofs.VcsOfStreamPartLaws.{kept-more, length-kept}
 use Rattle.member_au4.proofs.au4_pointer.pointer_sink.PointerSink.keep_some.Given as given
 use Rattle.member_au4.proofs.au4_pointer.pointer_sink.PointerSink.keep_some.Goals as goal
 use Rattle.member_au4.proofs.au4_pointer.pointer_sink.PointerSink.keep_some.Goals.{After-copy_some-n}

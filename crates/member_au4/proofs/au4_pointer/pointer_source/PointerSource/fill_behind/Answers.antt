@@ -1,7 +1,7 @@
 -- Three zeros, and what is written behind them.
 use Rattle.std.proofs.Common.{◌≡◌, length, set, sym, subst, ◌∙◌, arith, length-set}
 use Rattle.member_au4.specs.au4_pointer.Source.{Asks}
-use Rattle.member_au4.proofs.VcsInPartLaws.{behind, three-zeros}
+use Rattle.member_au4.proofs.VcsOfStreamPartLaws.{behind, three-zeros}
 use Rattle.member_au4.proofs.au4_pointer.pointer_source.PointerSource.fill_behind.Goals as goal
 
 pub returns-clause-zeros : goal.returns-clause-zeros

@@ -1,7 +1,7 @@
 -- What is written and what is left is what was there.
 use Rattle.std.proofs.Common.{◌≡◌, ◌+◌, ◌-◌, ◌++◌, take, drop, replicate, sym, ◌∙◌, ap, ap₂, arith, append_assoc}
 use Rattle.std.proofs.lemmas.List.{replicate-append-replicate, take-append-drop, drop-drop}
-use Rattle.member_au4.proofs.VcsInPartLaws.{rest-of}
+use Rattle.member_au4.proofs.VcsOfStreamPartLaws.{rest-of}
 use Rattle.member_au4.proofs.au4_pointer.pointer_source.PointerSource.send_some.Goals as goal
 
 pub returns-then-self-gt0-clause-sent : goal.returns-then-self-gt0-clause-sent

@@ -1,5 +1,5 @@
 -- The end is kept.
-use Rattle.member_path.proofs.LineNumbersLockLaws.{Stands-end}
+use Rattle.member_path.proofs.LineNumbersAfterCellLaws.{Stands-end}
 use Rattle.member_path.proofs.cell_numbers.line_numbers.LineNumbers.end.Goals as goal
 
 pub returns : goal.returns

@@ -1,5 +1,5 @@
 -- One number more is bad.
-use Rattle.member_path.proofs.LineNumbersLockLaws.{Stands-fail}
+use Rattle.member_path.proofs.LineNumbersAfterCellLaws.{Stands-fail}
 use Rattle.member_path.proofs.cell_numbers.line_numbers.LineNumbers.fail.Goals as goal
 
 pub returns : goal.returns

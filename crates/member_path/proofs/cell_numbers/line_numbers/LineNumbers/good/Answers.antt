@@ -2,7 +2,7 @@
 use Rattle.std.proofs.Common.{◌≡◌, ◌+◌, ◌∷◌, ◌∙◌, true, false, None, sym, ap, subst}
 use Rattle.member_path.specs.declared.h4_multiframe.Place.TheVariants.{Unknown, Locks, At}
 use Rattle.member_path.specs.cell_numbers.Numbers.{IsOpen, last_of}
-use Rattle.member_path.proofs.LineNumbersLockLaws.{Stands-good, locks-left, at-left}
+use Rattle.member_path.proofs.LineNumbersAfterCellLaws.{Stands-good, locks-left, at-left}
 use Rattle.member_path.proofs.cell_numbers.line_numbers.LineNumbers.good.Goals as goal
 use Rattle.member_path.proofs.cell_numbers.line_numbers.LineNumbers.good.Goals.{in-Unknown, in-Locks, in-At}
 

@@ -1,5 +1,5 @@
 -- No cell came.
-use Rattle.member_path.proofs.LineNumbersLockLaws.{Stands-none}
+use Rattle.member_path.proofs.LineNumbersAfterCellLaws.{Stands-none}
 use Rattle.member_path.proofs.cell_numbers.line_numbers.LineNumbers.new.Goals as goal
 
 pub returns-clause-stands : goal.returns-clause-stands

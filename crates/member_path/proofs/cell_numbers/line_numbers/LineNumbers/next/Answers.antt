@@ -1,7 +1,7 @@
 -- The bad numbers are passed first, and then the whole one.
 use Rattle.std.proofs.Common.{◌+◌, ◌%◌, refl, sym, subst, arith}
 use Rattle.member_path.specs.cell_numbers.Numbers.{NumbersStand}
-use Rattle.member_path.proofs.LineNumbersLockLaws.{pass-bads}
+use Rattle.member_path.proofs.LineNumbersAfterCellLaws.{pass-bads}
 use Rattle.member_path.proofs.cell_numbers.line_numbers.LineNumbers.next.Goals as goal
 
 pub returns-then-self-gt0 : goal.returns-then-self-gt0

@@ -1,7 +1,7 @@
 -- Nothing is said of the next number where all was passed.
 use Rattle.std.proofs.Common.{sym, subst, arith}
 use Rattle.member_path.specs.cell_numbers.Numbers.{Numbers, IsOpen, NumbersStand}
-use Rattle.member_path.proofs.LineNumbersLockLaws.{says-nothing}
+use Rattle.member_path.proofs.LineNumbersAfterCellLaws.{says-nothing}
 use Rattle.member_path.proofs.cell_numbers.line_numbers.LineNumbers.verdict.Goals as goal
 
 pub returns-else-self-2-clause-told : goal.returns-else-self-2-clause-told

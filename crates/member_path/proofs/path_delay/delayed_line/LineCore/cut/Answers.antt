@@ -1,6 +1,6 @@
 -- None of the containers that are damaged was pushed.
 use Rattle.std.proofs.Common.{arith}
-use Rattle.member_path.proofs.DelayPathCellsLaws.{cut-cells}
+use Rattle.member_path.proofs.DelayedPathCellLaws.{cut-cells}
 use Rattle.member_path.proofs.path_delay.delayed_line.LineCore.cut.Goals as goal
 
 pub returns-clause-cells : goal.returns-clause-cells

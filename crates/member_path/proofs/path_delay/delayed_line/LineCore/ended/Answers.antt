@@ -3,7 +3,7 @@ use Rattle.std.proofs.Common.{inl, inr, subst, sym, arith}
 use Rattle.std.proofs.lemmas.Bool.{cases_lt, lt-ltb, ltb-true}
 use Rattle.law_model.specs.members.Damage.{carried}
 use Rattle.member_path.specs.path_delay.CallsOnDelayedLine.{DelayStands, carries_of}
-use Rattle.member_path.proofs.DelayPathCellsLaws.{end-given, end-open}
+use Rattle.member_path.proofs.DelayedPathCellLaws.{end-given, end-open}
 use Rattle.member_path.proofs.path_delay.delayed_line.LineCore.ended.Goals as goal
 
 pub returns-clause-given : goal.returns-clause-given

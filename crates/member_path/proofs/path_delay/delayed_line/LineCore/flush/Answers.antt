@@ -2,7 +2,7 @@
 use Rattle.std.proofs.Common.{◌≡◌, ◌+◌, ◌-◌, ◌∙◌, ap, subst, sym, arith}
 use Rattle.law_model.specs.members.Damage.{carried}
 use Rattle.member_path.specs.path_delay.CallsOnDelayedLine.{Line, DelayStands}
-use Rattle.member_path.proofs.DelayPathCellsLaws.{flush-stored, flush-cells}
+use Rattle.member_path.proofs.DelayedPathCellLaws.{flush-stored, flush-cells}
 use Rattle.member_path.proofs.path_delay.delayed_line.LineCore.flush.Goals as goal
 
 pub returns-else-left-eq0-clause-stands : goal.returns-else-left-eq0-clause-stands

@@ -1,7 +1,7 @@
 -- None of the containers that aren't damaged any longer was pushed.
 use Rattle.std.proofs.Common.{subst, arith}
 use Rattle.member_path.specs.failure_window.OpenWindows.{CanClose}
-use Rattle.member_path.proofs.DelayPathCellsLaws.{mend-cells}
+use Rattle.member_path.proofs.DelayedPathCellLaws.{mend-cells}
 use Rattle.member_path.proofs.path_delay.delayed_line.LineCore.mend.Goals as goal
 
 pub returns-clause-cells : goal.returns-clause-cells

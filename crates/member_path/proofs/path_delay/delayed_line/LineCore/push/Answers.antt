@@ -2,7 +2,7 @@
 use Rattle.std.proofs.Common.{◌-◌, [], ◌∷◌, ◌∙◌, ap, subst, sym, arith, length-append}
 use Rattle.law_model.specs.members.Damage.{carried}
 use Rattle.member_path.specs.path_delay.CallsOnDelayedLine.{Line, DelayStands}
-use Rattle.member_path.proofs.DelayPathCellsLaws.{push-stored, push-cells, none-flushed}
+use Rattle.member_path.proofs.DelayedPathCellLaws.{push-stored, push-cells, none-flushed}
 use Rattle.member_path.proofs.path_delay.delayed_line.LineCore.push.Goals as goal
 
 pub returns-in-Some-clause-stands : goal.returns-in-Some-clause-stands

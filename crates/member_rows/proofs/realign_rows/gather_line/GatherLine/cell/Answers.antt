@@ -2,7 +2,7 @@
 use Rattle.std.proofs.Common.{◌∷◌, [], sym, subst}
 use Rattle.member_path.specs.cell_numbers.SignsAsCells.{cell_with}
 use Rattle.member_rows.specs.realign_rows.Line.{LineStands}
-use Rattle.member_rows.proofs.BegunNibbleLaws.{nibbles-stay}
+use Rattle.member_rows.proofs.BegunPacketNibbleLaws.{nibbles-stay}
 use Rattle.member_rows.proofs.realign_rows.gather_line.GatherLine.cell.Goals as goal
 
 pub returns : goal.returns

@@ -2,7 +2,7 @@
 use Rattle.std.proofs.Common.{sym, ◌∙◌, ap, subst}
 use Rattle.std.specs.Result.{result_ok}
 use Rattle.member_rows.specs.realign_rows.BegunNibbles.{HasNibbles}
-use Rattle.member_rows.proofs.BegunNibbleLaws.{packet-some}
+use Rattle.member_rows.proofs.BegunPacketNibbleLaws.{packet-some}
 use Rattle.member_rows.proofs.realign_rows.packet_nibbles.PacketNibbles.packet.Goals as goal
 
 pub returns-then-self : goal.returns-then-self

@@ -1,7 +1,7 @@
 -- The nibbles, one number later.
 use Rattle.std.proofs.Common.{sym, ◌∙◌, subst}
 use Rattle.member_rows.specs.realign_rows.BegunNibbles.{HasNibbles}
-use Rattle.member_rows.proofs.BegunNibbleLaws.{takes-some, takes-none}
+use Rattle.member_rows.proofs.BegunPacketNibbleLaws.{takes-some, takes-none}
 use Rattle.member_rows.proofs.realign_rows.packet_nibbles.PacketNibbles.take.Goals as goal
 
 pub returns-in-Some : goal.returns-in-Some

@@ -4,10 +4,10 @@ use Rattle.std.specs.Global.{Box}
 use Rattle.std.proofs.lemmas.List.{length-map}
 use Rattle.law_model.specs.Common.{Container, first_open}
 use Rattle.member_cells.specs.HeldPlaces.{held}
-use Rattle.member_path.proofs.LineNumbersLockLaws.{test-open}
-use Rattle.member_rows.specs.realign_rows.Gather.{Gather, GatherStands, line_count, IsOpenAt, AreDecided, decided_lines}
-use Rattle.member_rows.proofs.RowGatherLinesLaws.{decided-most, decided-here}
-use Rattle.member_rows.proofs.RowGatherLinesLaws.{row_waiting, row_decided}
+use Rattle.member_path.proofs.LineNumbersAfterCellLaws.{test-open}
+use Rattle.member_rows.specs.realign_rows.Gather.{Gather, GatherStands, line_count, IsOpenAt, AreDecided}
+use Rattle.member_rows.specs.realign_rows.Gather.{decided_lines}
+use Rattle.member_rows.proofs.RowGatherLinesLaws.{decided-most, decided-here, row_waiting, row_decided}
 use Rattle.member_rows.proofs.realign_rows.row_gather.RowGather.row.Goals as goal
 
 pub returns-then-self-len-clause-answer : goal.returns-then-self-len-clause-answer

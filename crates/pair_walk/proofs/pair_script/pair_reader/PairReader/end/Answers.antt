@@ -3,7 +3,7 @@ use Rattle.std.proofs.Common.{subst, Option, IfSome}
 use Rattle.law_model.specs.declared.script_types.Script.{Script}
 use Rattle.text_scripts.specs.script_read.ScriptInPieces.{IsUntested}
 use Rattle.pair_walk.specs.pair_script.Pieces.{line_at, halves_of}
-use Rattle.pair_walk.proofs.PairReaderHalvesLaws.{missing_told, undivided_told, divided_whole, same_back}
+use Rattle.pair_walk.proofs.PairScriptReaderLaws.{missing_told, undivided_told, divided_whole, same_back}
 use Rattle.pair_walk.proofs.pair_script.pair_reader.PairReader.end.Goals as goal
 
 pub returns-in-Err-clause-fault : goal.returns-in-Err-clause-fault

@@ -1,8 +1,6 @@
 -- The lines of the text, and the tests of what they say.
 use Rattle.std.proofs.Common.{sym, inr}
-use Rattle.pair_walk.proofs.PairReaderHalvesLaws.{end_fails, end_said}
-use Rattle.pair_walk.proofs.PairReaderHalvesLaws.{pair_fits}
-use Rattle.pair_walk.proofs.PairReaderHalvesLaws.{text_said, text_fails}
+use Rattle.pair_walk.proofs.PairScriptReaderLaws.{end_fails, end_said, pair_fits, text_said, text_fails}
 use Rattle.pair_walk.proofs.pair_script.pair_reader.PairReader.finish.Goals as goal
 
 pub returns-in-Err-clause-fault : goal.returns-in-Err-clause-fault

@@ -1,6 +1,6 @@
 -- Nothing is said yet.
 use Rattle.std.proofs.Common.{arith}
-use Rattle.pair_walk.proofs.PairReaderHalvesLaws.{begins}
+use Rattle.pair_walk.proofs.PairScriptReaderLaws.{begins}
 use Rattle.pair_walk.proofs.pair_script.pair_reader.PairReader.new.Goals as goal
 
 pub returns : goal.returns

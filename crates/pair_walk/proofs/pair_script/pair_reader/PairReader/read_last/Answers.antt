@@ -1,8 +1,7 @@
 -- The whole lines, and what is left behind them.
 use Rattle.std.proofs.Common.{◌≡◌, ◌∙◌, ◌-◌, List, ℕ, sym, subst, take, drop, length, arith}
 use Rattle.text_lines.specs.Cut.{Lacks}
-use Rattle.pair_walk.proofs.PairReaderHalvesLaws.{if_ok, if_err}
-use Rattle.pair_walk.proofs.PairReaderHalvesLaws.{rest_said, tail_is, tail_fails, front_fails}
+use Rattle.pair_walk.proofs.PairScriptReaderLaws.{if_ok, if_err, rest_said, tail_is, tail_fails, front_fails}
 use Rattle.pair_walk.proofs.pair_script.pair_reader.PairReader.read_last.Goals as goal
 
 pub read_tail-requires-clause-lacks : goal.read_tail-requires-clause-lacks

@@ -1,7 +1,7 @@
 -- One line more, and the end of the whole lines.
 use Rattle.std.proofs.Common.{List, ℕ, subst, arith}
 use Rattle.text_lines.specs.Cut.{Lacks}
-use Rattle.pair_walk.proofs.PairReaderHalvesLaws.{rest_more, line_more, line_fails}
+use Rattle.pair_walk.proofs.PairScriptReaderLaws.{rest_more, line_more, line_fails}
 use Rattle.pair_walk.proofs.pair_script.pair_reader.PairReader.read_lines.Goals as goal
 
 pub loop-line-preserved : goal.loop-line-preserved

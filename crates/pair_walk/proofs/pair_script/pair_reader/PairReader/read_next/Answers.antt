@@ -3,8 +3,8 @@ use Rattle.std.proofs.Common.{◌∙◌, List, ℕ, Option, ap, subst, sym, inr,
 use Rattle.text_lines.specs.WordsOfLine.{words}
 use Rattle.pair_walk.specs.pair_script.PairTextLines.{Halves, HalfFault, of_script}
 use Rattle.pair_walk.specs.pair_script.Pieces.{line_at, halves_of, IsPairToldAt}
-use Rattle.pair_walk.proofs.PairReaderHalvesLaws.{divide_fault, divide_after, plain_fault, plain_at, plain_stopped}
-use Rattle.pair_walk.proofs.PairReaderHalvesLaws.{if_ok, if_err}
+use Rattle.pair_walk.proofs.PairScriptReaderLaws.{divide_fault, divide_after, plain_fault, plain_at, plain_stopped}
+use Rattle.pair_walk.proofs.PairScriptReaderLaws.{if_ok, if_err}
 use Rattle.pair_walk.proofs.pair_script.pair_reader.PairReader.read_next.Goals as goal
 
 pub returns-then-divides : goal.returns-then-divides

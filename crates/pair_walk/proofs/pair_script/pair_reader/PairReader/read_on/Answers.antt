@@ -1,9 +1,10 @@
 -- What was read moves from the rest to the text before it.
-use Rattle.std.proofs.Common.{◌≡◌, ◌⊎◌, ◌≤◌, ◌++◌, ◌∙◌, List, ℕ, take, drop, length, length-drop, Err, ap, subst, arith}
+use Rattle.std.proofs.Common.{◌≡◌, ◌⊎◌, ◌≤◌, ◌++◌, ◌∙◌, List, ℕ, take, drop, length, length-drop, Err, ap, subst}
+use Rattle.std.proofs.Common.{arith}
 use Rattle.std.proofs.lemmas.List.{take_all}
 use Rattle.pair_walk.specs.pair_script.PairOfText.{pair_of_halves}
 use Rattle.pair_walk.specs.pair_script.Pieces.{no_memory, said_after}
-use Rattle.pair_walk.proofs.PairReaderHalvesLaws.{follows_on, fails_on}
+use Rattle.pair_walk.proofs.PairScriptReaderLaws.{follows_on, fails_on}
 use Rattle.pair_walk.proofs.pair_script.pair_reader.PairReader.read_on.Goals as goal
 
 pub returns-in-Ok-from_slice-clause-follows : goal.returns-in-Ok-from_slice-clause-follows

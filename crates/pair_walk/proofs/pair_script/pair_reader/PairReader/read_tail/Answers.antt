@@ -3,8 +3,7 @@ use Rattle.std.proofs.Common.{◌≡◌, ◌<◌, [], length, ap, arith}
 use Rattle.std.proofs.lemmas.Bool.Decides.{nat_tests}
 use Rattle.std.proofs.lemmas.List.{nil_from_length}
 use Rattle.pair_walk.specs.pair_script.Pieces.{said_after}
-use Rattle.pair_walk.proofs.PairReaderHalvesLaws.{one_more, if_ok, if_both, if_err}
-use Rattle.pair_walk.proofs.PairReaderHalvesLaws.{last_line, last_fails}
+use Rattle.pair_walk.proofs.PairScriptReaderLaws.{one_more, if_ok, if_both, if_err, last_line, last_fails}
 use Rattle.pair_walk.proofs.pair_script.pair_reader.PairReader.read_tail.Goals as goal
 
 pub returns-then-is_empty-clause-said : goal.returns-then-is_empty-clause-said

@@ -2,7 +2,7 @@
 use Rattle.std.proofs.Common.{◌∙◌, ap, inl, inr}
 use Rattle.pair_walk.specs.pair_script.PairOfText.{pair_of}
 use Rattle.pair_walk.specs.pair_script.Inputs.{pair_told}
-use Rattle.pair_walk.proofs.PairReaderHalvesLaws.{room_for, stops_pair}
+use Rattle.pair_walk.proofs.PairScriptReaderLaws.{room_for, stops_pair}
 use Rattle.pair_walk.proofs.pair_script.read_pair_pieces.PairReaderPieceReader.read_end.Goals as goal
 
 pub finish-requires-clause-room : goal.finish-requires-clause-room

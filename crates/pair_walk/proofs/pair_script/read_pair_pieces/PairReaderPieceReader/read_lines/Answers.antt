@@ -1,7 +1,7 @@
 -- What the reader of two scripts says, in the words of any reader.
 use Rattle.std.proofs.Common.{◌++◌, inl, inr}
 use Rattle.pair_walk.specs.pair_script.PairOfText.{pair_of}
-use Rattle.pair_walk.proofs.PairReaderHalvesLaws.{as_pair, room_for, stops_pair}
+use Rattle.pair_walk.proofs.PairScriptReaderLaws.{as_pair, room_for, stops_pair}
 use Rattle.pair_walk.proofs.pair_script.read_pair_pieces.PairReaderPieceReader.read_lines.Goals as goal
 
 pub read_on-requires-clause-room : goal.read_on-requires-clause-room

@@ -5,8 +5,8 @@ use Rattle.terminal_sink.specs.declared.sink_core.sink_terminal.TakeAnswer.TheVa
 use Rattle.terminal_sink.specs.sink_core.TakenAndGiven.{received_rows, answer_at, added_frames}
 use Rattle.terminal_sink.specs.sink_core.RowsInReceiver.{Receives}
 use Rattle.terminal_sink.specs.sink_core.Core.{SinkStands}
-use Rattle.terminal_sink.proofs.ReceivedRowsGivenFramesLaws.{received-more, decided-none, decided-more, answer-taken}
-use Rattle.terminal_sink.proofs.ReceivedRowsGivenFramesLaws.{carriers-next}
+use Rattle.terminal_sink.proofs.ReceivedRowAndGivenFrameLaws.{received-more, decided-none, decided-more, answer-taken}
+use Rattle.terminal_sink.proofs.ReceivedRowAndGivenFrameLaws.{carriers-next}
 use Rattle.terminal_sink.proofs.sink_core.sink_terminal.SinkCore.take.Goals as goal
 
 pub returns-in-Row-clause-answer : goal.returns-in-Row-clause-answer

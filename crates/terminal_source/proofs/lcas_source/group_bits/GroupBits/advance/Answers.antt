@@ -1,7 +1,7 @@
 -- The first bit leaves the register, and the sum of the first two comes in behind the last one.
 use Rattle.std.proofs.Common.{◌∷◌, [], ◌++◌, false, drop, slice_index_or, ◌∙◌, ap}
 use Rattle.law_model.specs.Common.{xor}
-use Rattle.terminal_source.proofs.GroupBitsAndOksLaws.{bits-advanced}
+use Rattle.terminal_source.proofs.GroupBitAndReturnStatusLaws.{bits-advanced}
 use Rattle.terminal_source.proofs.lcas_source.group_bits.GroupBits.advance.Goals as goal
 
 pub returns : goal.returns

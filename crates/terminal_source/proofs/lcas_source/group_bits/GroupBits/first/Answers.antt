@@ -1,6 +1,6 @@
 -- The first of the fifteen bits is the most significant one of the register.
 use Rattle.std.proofs.Common.{◌≡◌, ◌/◌, ◌%◌, ◌==◌, false, slice_index_or, sym, ◌∙◌, ap, arith}
-use Rattle.terminal_source.proofs.GroupBitsAndOksLaws.{bit_0}
+use Rattle.terminal_source.proofs.GroupBitAndReturnStatusLaws.{bit_0}
 use Rattle.terminal_source.proofs.lcas_source.group_bits.GroupBits.first.Goals as goal
 
 pub returns : goal.returns

@@ -2,7 +2,7 @@
 use Rattle.std.proofs.Common.{sym, ◌∙◌, ap, refl}
 use Rattle.law_model.specs.Common.{refusal, Course, asks, called}
 use Rattle.terminal_source.specs.lcas_source.TableFields.{course_in}
-use Rattle.terminal_source.proofs.TableCourseLaws.{asked-fields, IsTable-asked}
+use Rattle.terminal_source.proofs.SourceTableCourseLaws.{asked-fields, IsTable-asked}
 use Rattle.terminal_source.proofs.lcas_source.source_table.SourceTable.ask.Goals as goal
 
 pub invariant_of-self : goal.invariant_of-self

@@ -2,7 +2,7 @@
 use Rattle.std.proofs.Common.{◌%◌, ◌∙◌, ap, option_map}
 use Rattle.law_model.specs.Common.{told_on, told_in, said_by}
 use Rattle.terminal_source.specs.lcas_source.TableFields.{course_in}
-use Rattle.terminal_source.proofs.TableCourseLaws.{settled-room, decided-fields, IsTable-decided}
+use Rattle.terminal_source.proofs.SourceTableCourseLaws.{settled-room, decided-fields, IsTable-decided}
 use Rattle.terminal_source.proofs.lcas_source.source_table.SourceTable.decide.Goals as goal
 
 pub change-requires-clause-room : goal.change-requires-clause-room

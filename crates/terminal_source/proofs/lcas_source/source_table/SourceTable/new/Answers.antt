@@ -1,5 +1,5 @@
 -- The fields are those of the course before the first call.
-use Rattle.terminal_source.proofs.TableCourseLaws.{begun-fields, IsTable-new}
+use Rattle.terminal_source.proofs.SourceTableCourseLaws.{begun-fields, IsTable-new}
 use Rattle.terminal_source.proofs.lcas_source.source_table.SourceTable.new.Goals as goal
 
 pub invariant_of-result : goal.invariant_of-result

@@ -3,7 +3,7 @@ use Rattle.std.proofs.Common.{sym, subst}
 use Rattle.law_model.specs.Common.{passed_on}
 use Rattle.terminal_source.specs.source_core.StepOfTerminal.{terminal_of}
 use Rattle.terminal_source.specs.source_core.GivenScenario.{with_frame, SourceStands}
-use Rattle.terminal_source.proofs.TerminalGivenToldAlikeLaws.{Stands-with_frame}
+use Rattle.terminal_source.proofs.SourceTerminalScenarioLaws.{Stands-with_frame}
 use Rattle.terminal_source.proofs.source_core.source_terminal.SourceCore.accept.Goals as goal
 
 pub returns-clause-stands : goal.returns-clause-stands

@@ -4,8 +4,7 @@ use Rattle.law_model.specs.declared.lcas_states.Command.TheVariants.{Add as add}
 use Rattle.law_model.specs.Common.{passed_on}
 use Rattle.terminal_source.specs.source_core.StepOfTerminal.{terminal_of}
 use Rattle.terminal_source.specs.source_core.GivenScenario.{with_command, SourceStands}
-use Rattle.terminal_source.proofs.TerminalGivenToldAlikeLaws.{IsTerminal-asked}
-use Rattle.terminal_source.proofs.TerminalGivenToldAlikeLaws.{Stands-with_command}
+use Rattle.terminal_source.proofs.SourceTerminalScenarioLaws.{IsTerminal-asked, Stands-with_command}
 use Rattle.terminal_source.proofs.source_core.source_terminal.SourceCore.add.Goals as goal
 
 pub invariant_of-self : goal.invariant_of-self

@@ -1,7 +1,7 @@
 -- Nothing was given to the terminal.
 use Rattle.std.proofs.Common.{◌≡◌, ◌*◌, length, refl, ◌∙◌, ap, arith}
 use Rattle.law_model.specs.Common.{untold}
-use Rattle.terminal_source.proofs.TerminalGivenToldAlikeLaws.{IsTerminal-new, Stands-new}
+use Rattle.terminal_source.proofs.SourceTerminalScenarioLaws.{IsTerminal-new, Stands-new}
 use Rattle.terminal_source.proofs.source_core.source_terminal.SourceCore.new.Goals as goal
 
 pub invariant_of-result : goal.invariant_of-result

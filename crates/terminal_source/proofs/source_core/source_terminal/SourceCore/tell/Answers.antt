@@ -3,7 +3,7 @@ use Rattle.std.proofs.Common.{sym, subst}
 use Rattle.law_model.specs.Common.{steps_in, told_by, passed_on}
 use Rattle.terminal_source.specs.source_core.StepOfTerminal.{terminal_of}
 use Rattle.terminal_source.specs.source_core.GivenScenario.{with_told, SourceStands}
-use Rattle.terminal_source.proofs.TerminalGivenToldAlikeLaws.{Stands-with_told}
+use Rattle.terminal_source.proofs.SourceTerminalScenarioLaws.{Stands-with_told}
 use Rattle.terminal_source.proofs.source_core.source_terminal.SourceCore.tell.Goals as goal
 
 pub returns-clause-stands : goal.returns-clause-stands

@@ -12,8 +12,9 @@ use Rattle.terminal_source.specs.source_core.FrameContainers.{AreBegun}
 use Rattle.terminal_source.specs.source_core.StepOfTerminal.{is_step, nibbles_by, AreMembers}
 use Rattle.terminal_source.specs.source_core.Terminal.{Terminal, needed}
 use Rattle.terminal_source.specs.source_core.GivenScenario.{with_cell, stream_now, SourceStands}
-use Rattle.terminal_source.proofs.TerminalGivenToldAlikeLaws.{next-members, nibbles_by-length, IsTerminal-ticked, frame-fits}
-use Rattle.terminal_source.proofs.FrameMemberContainerLaws.{sent-frame}
+use Rattle.terminal_source.proofs.SourceTerminalScenarioLaws.{next-members, nibbles_by-length, IsTerminal-ticked}
+use Rattle.terminal_source.proofs.SourceTerminalScenarioLaws.{frame-fits}
+use Rattle.terminal_source.proofs.DealtFrameContainerLaws.{sent-frame}
 use Rattle.terminal_source.proofs.TerminalTickSteps.{is-due, next-fields, Stands-ticked, row-ticked, frame-ticked}
 use Rattle.terminal_source.proofs.source_core.source_terminal.SourceCore.tick.Goals as goal
 

@@ -2,7 +2,7 @@
 use Rattle.std.proofs.Common.{subst}
 use Rattle.text_got.specs.TextSoFar.{HasText}
 use Rattle.text_captures.specs.capture_file.CaptureSoFar.{first_in, before_in}
-use Rattle.text_captures.proofs.CaptureRowFramesLaws.{row-behind}
+use Rattle.text_captures.proofs.WrittenCaptureFrameLaws.{row-behind}
 use Rattle.text_captures.proofs.capture_file.capture_out.CaptureOutFrameOut.frame.Goals as goal
 
 pub returns : goal.returns

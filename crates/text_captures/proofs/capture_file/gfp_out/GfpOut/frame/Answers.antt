@@ -2,7 +2,7 @@
 use Rattle.std.proofs.Common.{◌+◌, length, subst, arith}
 use Rattle.text_got.specs.TextSoFar.{HasText}
 use Rattle.text_captures.specs.capture_file.GfpInCapture.{gfp_capture}
-use Rattle.text_captures.proofs.CaptureRowFramesLaws.{gfp-more}
+use Rattle.text_captures.proofs.WrittenCaptureFrameLaws.{gfp-more}
 use Rattle.text_captures.proofs.capture_file.gfp_out.GfpOut.frame.Goals as goal
 
 pub returns : goal.returns

@@ -2,7 +2,7 @@
 use Rattle.std.proofs.Common.{◌≡◌, ℕ, ◌-◌, ◌/◌, ◌++◌, ◌∷◌, [], max, Some, sym, ◌∙◌, ap, subst, unwrap_or}
 use Rattle.text_captures.specs.capture_file.Reading.{time_of}
 use Rattle.text_captures.specs.capture_file.Clock.{ClockStands}
-use Rattle.text_captures.proofs.CaptureRecordsReadLaws.{stands-more}
+use Rattle.text_captures.proofs.CaptureRecordReadingLaws.{stands-more}
 use Rattle.text_captures.proofs.capture_file.record_clock.Clock.due.Goals as goal
 
 pub returns-clause-stands : goal.returns-clause-stands

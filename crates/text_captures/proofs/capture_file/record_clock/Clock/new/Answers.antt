@@ -1,5 +1,5 @@
 -- Before the first record.
-use Rattle.text_captures.proofs.CaptureRecordsReadLaws.{stands-begun}
+use Rattle.text_captures.proofs.CaptureRecordReadingLaws.{stands-begun}
 use Rattle.text_captures.proofs.capture_file.record_clock.Clock.new.Goals as goal
 
 pub returns-clause-stands : goal.returns-clause-stands

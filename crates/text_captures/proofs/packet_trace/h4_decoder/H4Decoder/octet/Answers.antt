@@ -3,7 +3,8 @@ use Rattle.std.proofs.Common.{◌≡◌, ℕ, ◌+◌, ◌%◌, ◌<◌, List, [
 use Rattle.std.proofs.Common.{arith}
 use Rattle.law_model.specs.Common.{read_of, good_cells}
 use Rattle.text_captures.specs.packet_trace.Decoder.{Decoding, DecoderStands}
-use Rattle.text_captures.proofs.PacketsInOctetsLaws.{goes-out, goes-on, goes-whole, grown-none, grown-take, length-grown, all-grown}
+use Rattle.text_captures.proofs.H4PacketDecodingLaws.{goes-out, goes-on, goes-whole, grown-none, grown-take}
+use Rattle.text_captures.proofs.H4PacketDecodingLaws.{length-grown, all-grown}
 use Rattle.text_captures.proofs.packet_trace.h4_decoder.H4Decoder.octet.Goals as goal
 use Rattle.text_captures.proofs.packet_trace.h4_decoder.H4Decoder.octet.Goals.{else-self-eq0-via-then-self-eq0+else-nibble_lo-ne8}
 use Rattle.text_captures.proofs.packet_trace.h4_decoder.H4Decoder.octet.Goals.{else-self-eq0-via-else-self-eq0}

@@ -1,8 +1,8 @@
 -- The configuration is whole, or it isn't.
 use Rattle.std.proofs.Common.{sym, subst, arith}
 use Rattle.text_scripts.specs.script_read.ScriptInPieces.{IsUntested}
-use Rattle.text_scripts.proofs.ScriptLinesSaidLaws.{missing_told, config_whole}
-use Rattle.text_scripts.proofs.DraftConfigItemsLaws.{IsUntested-draft}
+use Rattle.text_scripts.proofs.ScriptLineAndFirstFaultLaws.{missing_told, config_whole}
+use Rattle.text_scripts.proofs.ScriptDraftGrowthLaws.{IsUntested-draft}
 use Rattle.text_scripts.proofs.script_read.script_reader.ScriptReader.end.Goals as goal
 
 pub returns-then-self-lt6-clause-fault : goal.returns-then-self-lt6-clause-fault

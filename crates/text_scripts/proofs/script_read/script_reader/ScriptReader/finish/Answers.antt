@@ -3,7 +3,7 @@ use Rattle.std.proofs.Common.{sym, subst, ap, ◌∙◌, Option, Ok}
 use Rattle.text_scripts.specs.declared.script_read.script_fault.ScriptFault.{ScriptFault}
 use Rattle.text_scripts.specs.script_read.Script.{script_of_draft, script_unless, script_in}
 use Rattle.law_model.specs.Common.{IsValid, HasFewLosses}
-use Rattle.text_scripts.proofs.DraftConfigItemsLaws.{IsValid-draft}
+use Rattle.text_scripts.proofs.ScriptDraftGrowthLaws.{IsValid-draft}
 use Rattle.text_scripts.proofs.script_read.script_reader.ScriptReader.finish.Goals as goal
 
 pub returns-clause-valid : goal.returns-clause-valid

@@ -2,7 +2,7 @@
 use Rattle.std.proofs.Common.{length, ap, sym, subst, arith}
 use Rattle.text_scripts.specs.declared.script_read.script_draft.Draft.{Draft}
 use Rattle.text_scripts.specs.script_read.Drafts.{IsDraft}
-use Rattle.text_scripts.proofs.DraftConfigItemsLaws.{IsDraft-first}
+use Rattle.text_scripts.proofs.ScriptDraftGrowthLaws.{IsDraft-first}
 use Rattle.text_scripts.proofs.script_read.script_reader.ScriptReader.new.Goals as goal
 
 pub returns-clause-reader : goal.returns-clause-reader

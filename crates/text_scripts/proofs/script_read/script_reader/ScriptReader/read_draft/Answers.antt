@@ -4,12 +4,13 @@ use Rattle.text_scripts.specs.declared.script_read.script_fault.LineFault.TheVar
 use Rattle.text_scripts.specs.script_read.Statements.{awaited}
 use Rattle.text_scripts.specs.declared.script_read.script_keyword.Keyword.{Keyword}
 use Rattle.text_scripts.specs.declared.script_read.script_fault.ScriptFault.TheVariants as fault
-use Rattle.text_lines.proofs.LanguageLaws.{end_missing, end_sound}
+use Rattle.text_lines.proofs.LineLanguageAndTableLaws.{end_missing, end_sound}
 use Rattle.text_scripts.specs.declared.script_read.script_draft.Draft.{Draft}
 use Rattle.text_scripts.specs.script_read.Drafts.{IsDraft}
 use Rattle.text_scripts.specs.script_read.Script.{script_lines}
-use Rattle.text_scripts.proofs.ScriptLinesSaidLaws.{line_said, line_told, line_stops, config_missing, config_whole}
-use Rattle.text_scripts.proofs.DraftConfigItemsLaws.{IsDraft-after, items_after}
+use Rattle.text_scripts.proofs.ScriptLineAndFirstFaultLaws.{line_said, line_told, line_stops, config_missing}
+use Rattle.text_scripts.proofs.ScriptLineAndFirstFaultLaws.{config_whole}
+use Rattle.text_scripts.proofs.ScriptDraftGrowthLaws.{IsDraft-after, items_after}
 use Rattle.text_scripts.proofs.script_read.script_reader.ScriptReader.read_draft.Goals as goal
 
 pub returns-in-Err-clause-err : goal.returns-in-Err-clause-err

@@ -2,8 +2,8 @@
 use Rattle.std.proofs.Common.{ℕ, ◌-◌, List, length, take, ap, sym, subst, arith, length-take, length-append}
 use Rattle.text_scripts.specs.declared.script_read.script_draft.Draft.{Draft}
 use Rattle.text_scripts.specs.script_read.Drafts.{IsDraft}
-use Rattle.text_scripts.proofs.DraftConfigItemsLaws.{IsDraft-after, items_after}
-use Rattle.text_scripts.proofs.ScriptLinesSaidLaws.{rest_more, line_more, line_fails, piece_read}
+use Rattle.text_scripts.proofs.ScriptDraftGrowthLaws.{IsDraft-after, items_after}
+use Rattle.text_scripts.proofs.ScriptLineAndFirstFaultLaws.{rest_more, line_more, line_fails, piece_read}
 use Rattle.text_scripts.proofs.script_read.script_reader.ScriptReader.read_lines.Goals as goal
 
 pub loop-line-preserved : goal.loop-line-preserved

@@ -4,8 +4,8 @@ use Rattle.text_scripts.specs.declared.script_read.script_draft.Draft.{Draft}
 use Rattle.text_scripts.specs.declared.script_read.script_draft.Statement.{Statement}
 use Rattle.text_scripts.specs.script_read.Statements.{after}
 use Rattle.text_scripts.specs.script_read.Drafts.{IsDraft}
-use Rattle.text_scripts.proofs.DraftConfigItemsLaws.{IsDraft-after, items_after}
-use Rattle.text_scripts.proofs.ScriptLinesSaidLaws.{stop_told}
+use Rattle.text_scripts.proofs.ScriptDraftGrowthLaws.{IsDraft-after, items_after}
+use Rattle.text_scripts.proofs.ScriptLineAndFirstFaultLaws.{stop_told}
 use Rattle.text_scripts.proofs.script_read.script_reader.ScriptReader.read_next.Goals as goal
 
 pub returns-in-Err-clause-fault : goal.returns-in-Err-clause-fault

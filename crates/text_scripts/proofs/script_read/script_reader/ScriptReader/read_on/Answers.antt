@@ -3,7 +3,7 @@ use Rattle.std.proofs.Common.{◌≡◌, ◌⊎◌, ◌++◌, List, ℕ, take, E
 use Rattle.text_scripts.specs.declared.script_read.script_fault.ScriptFault.TheVariants.{Memory}
 use Rattle.text_scripts.specs.script_read.Script.{script_of}
 use Rattle.text_scripts.specs.script_read.ScriptInPieces.{ReaderStands}
-use Rattle.text_scripts.proofs.ScriptLinesSaidLaws.{follows_on, fails_on}
+use Rattle.text_scripts.proofs.ScriptLineAndFirstFaultLaws.{follows_on, fails_on}
 use Rattle.text_scripts.proofs.script_read.script_reader.ScriptReader.read_on.Goals as goal
 
 pub returns-in-Ok-clause-follows : goal.returns-in-Ok-clause-follows

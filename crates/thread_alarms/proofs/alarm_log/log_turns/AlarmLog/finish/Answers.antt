@@ -6,9 +6,7 @@ use Rattle.thread_alarms.specs.alarm_log.Alarms.{in_row, of_line}
 use Rattle.thread_alarms.specs.alarm_log.Views.{got_of}
 use Rattle.thread_alarms.specs.alarm_log.Posts.{number_of, put_by, kept_by, posted_by}
 use Rattle.thread_alarms.specs.alarm_log.Logs.{most_in, posts_of}
-use Rattle.thread_alarms.proofs.AlarmsThroughOfLineLaws.{alarms-length}
-use Rattle.thread_alarms.proofs.AlarmsThroughOfLineLaws.{finished, has-room}
-use Rattle.thread_alarms.proofs.AlarmsThroughOfLineLaws.{whole}
+use Rattle.thread_alarms.proofs.AlarmsByPostAndLineLaws.{alarms-length, finished, has-room, whole}
 use Rattle.thread_alarms.proofs.QueueRuleViewSteps.{knows-all, within-limit}
 use Rattle.thread_alarms.proofs.alarm_log.log_turns.AlarmLog.finish.Goals as goal
 

@@ -1,6 +1,6 @@
 -- One alarm more.
 use Rattle.std.proofs.Common.{refl, ◌∙◌, arith}
-use Rattle.thread_alarms.proofs.ServedLinesLaterLaws.{same-log, same-then, grown-none, grown-then}
+use Rattle.thread_alarms.proofs.LaterServedLineLaws.{same-log, same-then, grown-none, grown-then}
 use Rattle.thread_alarms.proofs.alarm_log.log_turns.AlarmLog.take_on.Goals as goal
 
 pub loop-init : goal.loop-init

@@ -1,7 +1,7 @@
 -- Each turn of the loop moves one alarm.
 use Rattle.std.proofs.Common.{◌≡◌, ◌≤◌, ◌+◌, length}
 use Rattle.thread_alarms.specs.alarm_log.Logs.{moved_by, misses_of, SameLog}
-use Rattle.thread_alarms.proofs.ServedLinesLaterLaws.{Grown}
+use Rattle.thread_alarms.proofs.LaterServedLineLaws.{Grown}
 use Rattle.thread_alarms.proofs.alarm_log.log_turns.AlarmLog.take_on.Given as goal
 
 abbrev pub invariant-loop : goal.invariant-loop

@@ -1,7 +1,6 @@
 -- A burst goes on where the sink was.
 use Rattle.thread_session.specs.session_parts.Duty.{Begun}
-use Rattle.thread_session.proofs.RingsLaidSinkRunLaws.{StandsFor, run-then}
-use Rattle.thread_session.proofs.RingsLaidSinkRunLaws.{log-then}
+use Rattle.thread_session.proofs.SessionRingEndsAndSinkRunLaws.{StandsFor, run-then, log-then}
 use Rattle.thread_session.proofs.session_parts.sink_duty.SinkDutyDuty.turn.Given as given
 use Rattle.thread_session.proofs.session_parts.sink_duty.SinkDutyDuty.turn.Goals as goal
 use Rattle.thread_session.proofs.session_parts.sink_duty.SinkDutyDuty.turn.Goals.{After-burst}

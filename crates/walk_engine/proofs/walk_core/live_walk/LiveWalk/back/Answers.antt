@@ -4,7 +4,7 @@ use Rattle.law_model.specs.declared.control_packet.Packet.{Packet}
 use Rattle.walk_engine.specs.Common.{Walking, LiveStands, Parts, counts_of, walking_of, path_of, windows_in}
 use Rattle.walk_engine.proofs.TakeRowAndBackSteps.{back-stays, back-yes, back-counts, back-kept, inbox-room, backs-few}
 use Rattle.walk_engine.proofs.TakeRowAndBackSteps.{no-packet}
-use Rattle.walk_engine.proofs.WayStandsAndToldLaws.{is-live, live-from}
+use Rattle.walk_engine.proofs.WayEventAndToldSourceLaws.{is-live, live-from}
 use Rattle.walk_engine.proofs.walk_core.live_walk.LiveWalk.back.Goals as goal
 
 pub put-requires : goal.put-requires

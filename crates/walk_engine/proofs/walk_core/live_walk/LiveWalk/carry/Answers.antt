@@ -2,7 +2,7 @@
 use Rattle.std.proofs.Common.{◌<◌, length, sym, ◌∙◌, ap, subst}
 use Rattle.walk_engine.specs.Common.{Walking, LiveStands, Parts, counts_of, walking_of, windows_in}
 use Rattle.walk_engine.proofs.LineCarryAndSendRingLaws.{carried-live}
-use Rattle.walk_engine.proofs.WayStandsAndToldLaws.{is-live, way-stands, live-from}
+use Rattle.walk_engine.proofs.WayEventAndToldSourceLaws.{is-live, way-stands, live-from}
 use Rattle.walk_engine.proofs.walk_core.live_walk.LiveWalk.carry.Goals as goal
 
 pub carry-requires-clause-line : goal.carry-requires-clause-line

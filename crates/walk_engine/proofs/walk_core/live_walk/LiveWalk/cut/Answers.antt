@@ -3,7 +3,7 @@ use Rattle.std.proofs.Common.{◌<◌, ◌≤◌, [], length, slice_index_or, sl
 use Rattle.member_path.specs.failure_window.OpenWindows.{last_end, opened_at}
 use Rattle.walk_engine.specs.Common.{Walking, LiveStands, Parts, counts_of, walking_counts, walking_of, windows_in}
 use Rattle.walk_engine.proofs.DamagedWindowsSteps.{damaged-live}
-use Rattle.walk_engine.proofs.WayStandsAndToldLaws.{is-live, way-stands}
+use Rattle.walk_engine.proofs.WayEventAndToldSourceLaws.{is-live, way-stands}
 use Rattle.walk_engine.proofs.walk_core.live_walk.LiveWalk.cut.Goals as goal
 
 pub cut-requires : goal.cut-requires

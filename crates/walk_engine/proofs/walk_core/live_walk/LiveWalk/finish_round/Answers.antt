@@ -4,7 +4,7 @@ use Rattle.law_model.specs.Common.{Counts}
 use Rattle.walk_engine.specs.Common.{GivesRows, Walking, walking_counts}
 use Rattle.walk_engine.proofs.WalkRoundAndTotalsLaws.{back-kept, carry-end, carry-rows, carry-turn, finish-parts}
 use Rattle.walk_engine.proofs.LineCarryAndSendRingLaws.{paths-size}
-use Rattle.walk_engine.proofs.WayStandsAndToldLaws.{is-live, way-stands}
+use Rattle.walk_engine.proofs.WayEventAndToldSourceLaws.{is-live, way-stands}
 use Rattle.walk_engine.proofs.walk_core.live_walk.LiveWalk.finish_round.Goals as goal
 
 pub lines-line-end-requires : goal.lines-line-end-requires

@@ -3,10 +3,10 @@ use Rattle.std.proofs.Common.{sym, ◌∙◌, ap, subst}
 use Rattle.law_walk.specs.Common.{is_client}
 use Rattle.terminal_group.specs.ReturnInbox.{Inbox}
 use Rattle.terminal_group.specs.Item.{kind_of}
-use Rattle.walk_engine.specs.Common.{IsDue, Walking, LiveStands, Parts, counts_of, landing_of, walking_counts, walking_of}
-use Rattle.walk_engine.specs.Common.{refusal_in_event, windows_in}
+use Rattle.walk_engine.specs.Common.{IsDue, Walking, LiveStands, Parts, counts_of, landing_of, walking_counts}
+use Rattle.walk_engine.specs.Common.{walking_of, refusal_in_event, windows_in}
 use Rattle.walk_engine.proofs.LandedItemSteps.{landed-live}
-use Rattle.walk_engine.proofs.WayStandsAndToldLaws.{live-from}
+use Rattle.walk_engine.proofs.WayEventAndToldSourceLaws.{live-from}
 use Rattle.walk_engine.proofs.walk_core.live_walk.LiveWalk.say.Goals as goal
 
 pub returns : goal.returns

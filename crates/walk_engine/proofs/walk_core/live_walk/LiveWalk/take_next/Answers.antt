@@ -1,8 +1,9 @@
 -- A row is taken, or the cells that were popped wait for more.
 use Rattle.std.proofs.Common.{◌+◌, ◌≤◌, length, sym, ◌∙◌, ap, subst}
-use Rattle.walk_engine.specs.Common.{GivesRows, Walking, LiveStands, Parts, listed, walking_counts, take_moved, windows_in}
+use Rattle.walk_engine.specs.Common.{GivesRows, Walking, LiveStands, Parts, listed, walking_counts, take_moved}
+use Rattle.walk_engine.specs.Common.{windows_in}
 use Rattle.walk_engine.proofs.TakeRowAndBackSteps.{take-counts, waits-walk, taken-walk, said-is, said-room, is-free}
-use Rattle.walk_engine.proofs.WayStandsAndToldLaws.{is-live, way-stands, live-from}
+use Rattle.walk_engine.proofs.WayEventAndToldSourceLaws.{is-live, way-stands, live-from}
 use Rattle.walk_engine.proofs.walk_core.live_walk.LiveWalk.take_next.Goals as goal
 
 pub take-requires : goal.take-requires

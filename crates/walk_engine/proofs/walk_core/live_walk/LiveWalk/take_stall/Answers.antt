@@ -3,7 +3,7 @@ use Rattle.std.proofs.Common.{◌≡◌, Some, None, sym, subst, inl, inr, arith
 use Rattle.law_model.specs.declared.walk_events.StallCause.TheVariants.{BackFull}
 use Rattle.walk_engine.specs.Common.{Walking, walking_counts, walking_of, take_cause}
 use Rattle.walk_engine.proofs.TakeRowAndBackSteps.{cause-full, cause-none}
-use Rattle.walk_engine.proofs.WayStandsAndToldLaws.{is-live}
+use Rattle.walk_engine.proofs.WayEventAndToldSourceLaws.{is-live}
 use Rattle.walk_engine.proofs.walk_core.live_walk.LiveWalk.take_stall.Goals as goal
 use Rattle.walk_engine.proofs.walk_core.live_walk.LiveWalk.take_stall.Goals.{else-ends_packet-via-then-ends_packet+else-is_full}
 use Rattle.walk_engine.proofs.walk_core.live_walk.LiveWalk.take_stall.Goals.{else-ends_packet-via-else-ends_packet}

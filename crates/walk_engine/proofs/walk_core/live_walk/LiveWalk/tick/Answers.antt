@@ -7,7 +7,7 @@ use Rattle.terminal_group.specs.SourceByCounts.{missing_from}
 use Rattle.terminal_group.specs.ReturnInbox.{Inbox}
 use Rattle.walk_engine.specs.Common.{AgreesNow, Walking, LiveStands, Parts, counts_of, walking_counts, windows_in}
 use Rattle.walk_engine.proofs.TickAndFullRingLaws.{tick-stays, can-tick, tick-live}
-use Rattle.walk_engine.proofs.WayStandsAndToldLaws.{is-live, way-stands, live-from}
+use Rattle.walk_engine.proofs.WayEventAndToldSourceLaws.{is-live, way-stands, live-from}
 use Rattle.walk_engine.proofs.walk_core.live_walk.LiveWalk.tick.Goals as goal
 
 pub returns-in-Some-clause-makes : goal.returns-in-Some-clause-makes

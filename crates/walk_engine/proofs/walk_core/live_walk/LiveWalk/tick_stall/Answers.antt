@@ -7,7 +7,7 @@ use Rattle.law_walk.specs.Common.{walk_plan}
 use Rattle.terminal_group.specs.SourceByCounts.{missing_from}
 use Rattle.walk_engine.specs.Common.{IsNoneHeld, Walking, LiveStands, counts_of, walking_counts}
 use Rattle.walk_engine.proofs.TickAndFullRingLaws.{full-cause, missing-stalls, none-missing, ticks-left}
-use Rattle.walk_engine.proofs.WayStandsAndToldLaws.{is-live, way-stands}
+use Rattle.walk_engine.proofs.WayEventAndToldSourceLaws.{is-live, way-stands}
 use Rattle.walk_engine.proofs.walk_core.live_walk.LiveWalk.tick_stall.Goals as goal
 
 pub first_full-requires : goal.first_full-requires

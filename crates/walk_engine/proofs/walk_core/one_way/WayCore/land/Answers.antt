@@ -5,7 +5,7 @@ use Rattle.terminal_group.specs.Item.{kind_of}
 use Rattle.walk_engine.specs.walk_core.WayParts.{WayStands}
 use Rattle.walk_engine.specs.Common.{Parts, IsDue, counts_of, landing_of, refusal_in_event}
 use Rattle.walk_engine.proofs.LandedItemSteps.{land-taken, land-why}
-use Rattle.walk_engine.proofs.WayStandsAndToldLaws.{makes-from}
+use Rattle.walk_engine.proofs.WayEventAndToldSourceLaws.{makes-from}
 use Rattle.walk_engine.proofs.walk_core.one_way.WayCore.land.Goals as goal
 
 pub returns : goal.returns

@@ -11,7 +11,7 @@ use Rattle.walk_engine.specs.walk_core.WayParts.{WayStands}
 use Rattle.walk_engine.specs.Common.{Parts, sent_frames, CanTick, with_passed}
 use Rattle.walk_engine.proofs.LineCarryAndSendRingLaws.{frame-size, sent-places}
 use Rattle.walk_engine.proofs.TickAndFullRingLaws.{tick-makes_at, sent-read}
-use Rattle.walk_engine.proofs.WayStandsAndToldLaws.{makes-from, same-left, same-missing, same-cell, same-rest}
+use Rattle.walk_engine.proofs.WayEventAndToldSourceLaws.{makes-from, same-left, same-missing, same-cell, same-rest}
 use Rattle.walk_engine.proofs.walk_core.one_way.WayCore.make.Goals as goal
 
 pub next_place-place-requires : goal.next_place-place-requires

@@ -5,7 +5,7 @@ use Rattle.walk_engine.specs.walk_core.WayParts.{WayStands}
 use Rattle.walk_engine.proofs.WalkRoundAndTotalsLaws.{gives-none}
 use Rattle.walk_engine.proofs.TakeRowAndBackSteps.{rows-few, can-pop, waits-kept, can-take, taken-kept, taken-gives}
 use Rattle.walk_engine.proofs.TickAndFullRingLaws.{lines-few}
-use Rattle.walk_engine.proofs.WayStandsAndToldLaws.{takes-from}
+use Rattle.walk_engine.proofs.WayEventAndToldSourceLaws.{takes-from}
 use Rattle.walk_engine.proofs.walk_core.one_way.WayCore.take.Goals as goal
 
 pub pop_lines-requires : goal.pop_lines-requires

@@ -3,7 +3,7 @@ use Rattle.std.proofs.Common.{◌∙◌, ap}
 use Rattle.law_model.specs.Common.{leg_of}
 use Rattle.law_model.specs.declared.walk_events.Event.TheVariants.{Back}
 use Rattle.walk_engine.specs.Common.{Walked, moved_of, counts_after}
-use Rattle.walk_engine.proofs.WayStandsAndToldLaws.{walk-moved}
+use Rattle.walk_engine.proofs.WayEventAndToldSourceLaws.{walk-moved}
 use Rattle.walk_engine.proofs.walk_core.walk.Walk.back.Goals as goal
 
 pub back-requires : goal.back-requires

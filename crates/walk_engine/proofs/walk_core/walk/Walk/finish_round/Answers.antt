@@ -3,7 +3,7 @@ use Rattle.std.proofs.Common.{◌∙◌, ap, subst}
 use Rattle.law_model.specs.Common.{carries_from, leg_of, run}
 use Rattle.law_walk.specs.Common.{walk_plan}
 use Rattle.walk_engine.specs.Common.{GivesRows, Walked, walking_counts}
-use Rattle.walk_engine.proofs.WayStandsAndToldLaws.{walk-moved}
+use Rattle.walk_engine.proofs.WayEventAndToldSourceLaws.{walk-moved}
 use Rattle.walk_engine.proofs.walk_core.walk.Walk.finish_round.Goals as goal
 
 pub finish_round-requires : goal.finish_round-requires

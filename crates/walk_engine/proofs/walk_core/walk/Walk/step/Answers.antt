@@ -3,7 +3,7 @@ use Rattle.std.proofs.Common.{◌<◌, true, false, length, ◌∙◌, ap, subst
 use Rattle.law_model.specs.Common.{Counts, IsValid, leg_of}
 use Rattle.law_progress.specs.Progress.{HasLine}
 use Rattle.law_walk.specs.Common.{walk_plan}
-use Rattle.law_walk.proofs.WalkPlanSessionLaws.{has-paths, sound-walks}
+use Rattle.law_walk.proofs.WalkPlanAndPoppedCellLaws.{has-paths, sound-walks}
 use Rattle.walk_engine.specs.Common.{Walked}
 use Rattle.walk_engine.proofs.WalkRoundAndTotalsLaws.{landed-rows, carry-rows, gives-none}
 use Rattle.walk_engine.proofs.walk_core.walk.Walk.step.Goals as goal

@@ -3,7 +3,7 @@ use Rattle.std.proofs.Common.{◌∙◌, ap, subst}
 use Rattle.law_model.specs.Common.{leg_of}
 use Rattle.law_model.specs.declared.walk_events.Event.TheVariants.{Take}
 use Rattle.walk_engine.specs.Common.{GivesRows, Walked, counts_after, walking_counts, moved_of}
-use Rattle.walk_engine.proofs.WayStandsAndToldLaws.{walk-moved}
+use Rattle.walk_engine.proofs.WayEventAndToldSourceLaws.{walk-moved}
 use Rattle.walk_engine.proofs.walk_core.walk.Walk.take.Goals as goal
 
 pub take-requires : goal.take-requires

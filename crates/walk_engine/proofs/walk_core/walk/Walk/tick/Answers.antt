@@ -5,7 +5,7 @@ use Rattle.law_model.specs.declared.walk_events.Event.TheVariants.{Tick}
 use Rattle.law_walk.specs.Common.{walk_plan}
 use Rattle.walk_engine.specs.Common.{Walked, counts_after, early_cause, walking_counts, moved_of}
 use Rattle.walk_engine.proofs.TickAndFullRingLaws.{early-free, early-stalls, tick-stays}
-use Rattle.walk_engine.proofs.WayStandsAndToldLaws.{walk-moved}
+use Rattle.walk_engine.proofs.WayEventAndToldSourceLaws.{walk-moved}
 use Rattle.walk_engine.proofs.walk_core.walk.Walk.tick.Goals as goal
 
 pub returns-in-Some : goal.returns-in-Some

@@ -4,7 +4,7 @@ use Rattle.std.specs.Global.{Vec}
 use Rattle.thread_alarms.specs.declared.watched_line.served_line.ServedLine.{ServedLine}
 use Rattle.thread_session.specs.declared.session_parts.line_thread.Held.{Held}
 use Rattle.thread_session.specs.session_parts.HeldShares.{IsHeldOf, AreHeldOf}
-use Rattle.thread_session.proofs.ShareAndPairListsLaws.{zip-length}
+use Rattle.thread_session.proofs.WorkerShareAndPairListLaws.{zip-length}
 use Rattle.thread_session.proofs.session_run.start_threads.fn.shares_beside.scope.Goals as goal
 
 pub take_all_back-back-requires : goal.take_all_back-back-requires
