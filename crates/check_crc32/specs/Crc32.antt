@@ -1,7 +1,7 @@
 -- The check of 32 bits over octets: what x^32 + x^26 + x^23 + x^22 + x^16 + x^12 + x^11 + x^10 + x^8 + x^7 + x^5 +
 -- x^4 + x^2 + x + 1 leaves of them with 32 zeros behind them, where the first 32 bits are inverted before and what is
--- left is inverted after. Ethernet (IEEE 802.3) takes the least significant bit of each octet first; the frames of
--- this project's own noise take the most significant one first.
+-- left is inverted after. Ethernet (IEEE 802.3) takes the least significant bit of each octet first; the payload FCS
+-- of GFP (G.7041) takes the most significant one first.
 use Rattle.std.specs.Prelude.{ℕ, Bool, true, false, List, ◌++◌, length, map, reverse, replicate}
 use Rattle.check_remainder.specs.Bits.{bits, number, octet_bits, octets_of, xors}
 use Rattle.check_remainder.specs.Remainder.{add_front, divide}

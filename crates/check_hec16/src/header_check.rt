@@ -4,7 +4,7 @@ ghost use Rattle.check_remainder.specs.Bits.{bits};
 ghost use Rattle.check_remainder.specs.Remainder.{IsRemainder, remainder};
 ghost use Rattle.check_hec16.specs.Hec.{crc16, hec_of};
 
-/// The header error control of a word: its remainder by `x^16 + x^12 + x^5 + 1` (G.7041, cHEC and tHEC).
+/// The header error control of a word: its remainder by `x^16 + x^12 + x^5 + 1` (G.7041; cHEC, tHEC and eHEC).
 #[inline]
 pub fn hec(word: u16) -> u16
     ensures value { result ≡ hec_of word }

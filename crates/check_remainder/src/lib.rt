@@ -9,7 +9,7 @@ ghost use Rattle.check_remainder.specs.Remainder.{IsRemainder, remainder};
 
 mod nibble_table;
 
-pub use nibble_table::{remainder_of_nibbles, with_nibble};
+pub use nibble_table::remainder_of_nibbles;
 
 /// The law of remainders: by each generator each word has exactly one.
 pub fn remainder_law()

@@ -8,7 +8,7 @@ ghost use Rattle.check_remainder.specs.DivisionTable.{IsTable, nibble_bits};
 /// The remainder of a word with a nibble behind it, from that of the word, which is `register`. `table` has the
 /// remainders of the nibbles by the generator, whose degree is `DEGREE`.
 #[inline]
-pub fn with_nibble<const DEGREE: u32>(table: &[u32; 16], register: u32, nibble: u8) -> u32
+fn with_nibble<const DEGREE: u32>(table: &[u32; 16], register: u32, nibble: u8) -> u32
     requires least { 4 ≤ DEGREE }
     requires most { DEGREE ≤ 32 }
     requires entries { IsTrue (list_all (λ entry. nat_lt entry (2 ^ DEGREE)) table.now) }

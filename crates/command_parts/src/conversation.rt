@@ -1,8 +1,7 @@
 //! An input that is answered line by line, as it comes.
 ghost use Rattle.std.specs.Prelude.{◌≡◌, ◌⊎◌, ℕ, ◌+◌, ◌<◌, ◌≤◌, List, ◌∷◌, ◌++◌, length, drop, IsErr};
-ghost use Rattle.std.specs.Prelude.{IfSome, IfNone, IfOk, IfErr, OnOk, OnErr, [], None, false};
+ghost use Rattle.std.specs.Prelude.{IfSome, IfNone, IfOk, IfErr, OnOk, OnErr, None, false};
 ghost use Rattle.std.specs.Str.Lines.{strip_carriage_return};
-ghost use Rattle.law_model.specs.Common.{Appends, AppendsPart};
 ghost use Rattle.text_lines.specs.Cut.{Lacks};
 ghost use Rattle.command_parts.specs.Talk.{Said};
 ghost use Rattle.command_parts.specs.Dialogue.{Heard, reply_to, last_reply, is_long, course_of, said_by, closed};
@@ -100,17 +99,6 @@ fn without_return(line: &[u8]) -> &[u8]
         [front @ .., b'\r'] => front,
         _ => line,
     }
-}
-
-/// Puts all that waits.
-fn put_waiting<K: ByteSink>(block: &mut TextBlock, out: &mut K) -> Result<(), Failed>
-    ensures ok { OnOk result (Appends K.written K.faults out.old out.new block.old) }
-    ensures err { OnErr result (AppendsPart K.written K.faults out.old out.new block.old) }
-    ensures empty { block.new ≡ [] }
-{
-    let end = block.put(out);
-    block.clear();
-    end
 }
 
 impl<T: Talker> Listener<T> {
@@ -273,7 +261,7 @@ fn stopped<K: ByteSink>(stop: Stop, block: &mut TextBlock, out: &mut K) -> Resul
             written: Err(Failed),
         }),
         Stop::Memory => Err(Stop::Memory),
-        stop => match put_waiting(block, out) {
+        stop => match block.put(out) {
             Ok(()) => Err(stop),
             Err(Failed) => Ok(Ran {
                 made: (),
@@ -310,7 +298,7 @@ fn close<T: Talker, K: ByteSink>(
     match hear_rest(listener, alloc, rest, block, out) {
         Ok(()) => Ok(Ran {
             made: (),
-            written: put_waiting(block, out),
+            written: block.put(out),
         }),
         Err(stop) => stopped(stop, block, out),
     }
@@ -345,7 +333,7 @@ pub fn talk<T: Talker, S: ByteSource, K: ByteSink>(
             Ok(heard) => intake.let_go(heard),
             Err(stop) => return stopped(stop, &mut block, out),
         }
-        match put_waiting(&mut block, out) {
+        match block.put(out) {
             Ok(()) => {}
             Err(Failed) => {
                 return Ok(Ran {

@@ -58,7 +58,7 @@ pub fn take_some<S: ByteSource>(
     }
 }
 
-/// Reads an input to its end, at most so many octets, of which nothing is kept.
+/// Reads an input to its end, at most so many octets. It keeps them until it has all, and hands back none.
 pub(crate) fn skip_rest<S: ByteSource>(
     alloc: Global,
     source: &mut S,

@@ -26,8 +26,8 @@ use thread_rings::Gate;
 /// where it fails, where it returns, and where it ends. That the call returns is not promised.
 ///
 /// The status is 2 where the words are no command, 3 where the input can't be read, 8 where it has more than
-/// 67,108,864 octets, 5 where one of its lines is faulty, 6 where its slips, spread or lag don't fit its
-/// rings, 4 where the output can't be written, 7 where memory is short, and else 0. For `watch` it's 4 too
+/// 67,108,864 octets, 5 where one of its lines is faulty, 6 where its slips, spread or lag don't fit, 4
+/// where the output can't be written, 7 where memory is short, and else 0. For `watch` it's 4 too
 /// where `notes` can't be written. Of those that hold the first in this order is told; want of memory may
 /// come in the place of any but 2, before anything is written. A note says on `notes` what went wrong. After
 /// a fault nothing more is written but that note.

@@ -27,7 +27,7 @@ pub enum WalkCommand {
     Trace,
     /// `fates`: make the walk of a script, and write what became of each frame.
     Fates,
-    /// `check`: make the walk of a script, and write what in it has no effect or was refused.
+    /// `check`: make the walk of a script, and write what in it is unused, idle, early or refused.
     Check,
     /// `h4`: make the walk of a script, and write the H4 octets that its source sends on a line, 0 to 127.
     H4 { line: u8 },

@@ -21,8 +21,8 @@ use std::alloc::Global;
 ///
 /// The status is 2 where the words are no command, 3 where the input can't be read, 8 where it or the text of
 /// `stream` has more than 67,108,864 octets, 5 where one of its lines is faulty, or of a capture its head or
-/// a record, 6 where a script's slips, spread or lag don't fit its rings, it has no line of the number that
-/// `h4` is told, or two scripts don't go together,
+/// a record, 6 where a script's slips, spread or lag don't fit, it has no line of the number that `h4` is
+/// told, or two scripts don't go together,
 /// 4 where an output can't be written, 7 where memory is short, and else 0. Of those that hold the first in
 /// this order is told; want of memory may come in the place of any but 2, before anything is written. A note
 /// says on `notes` what went wrong. After a fault nothing more is written but that note. At each status but 0

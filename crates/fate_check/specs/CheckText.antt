@@ -1,5 +1,6 @@
--- The text of what in a script has no effect or was refused: a line for each line that is unused, one for each failure
--- that is idle, one of frames that are early, if there are any, one for each item that was refused, and one of numbers.
+-- The text of what in a script is unused, idle, early or refused: a line for each line that is unused, one for each
+-- failure that is idle, one of frames that are early, if there are any, one for each item that was refused, and one of
+-- numbers.
 -- These texts are this project's own.
 use Rattle.std.specs.Prelude.{ℕ, nat_lt, if◌then◌else◌, List, [], ◌++◌, length, Option, Some, None, codes, decimal}
 use Rattle.std.specs.List.{flat_map}

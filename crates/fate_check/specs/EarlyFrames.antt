@@ -1,4 +1,4 @@
--- The frames that were accepted before any line carried payload.
+-- The accepted frames that are due before the first taken row in which a line carried payload.
 use Rattle.std.specs.Prelude.{ℕ, ◌&&◌, nat_lt, Bool, true, List, filter, Option, Some, None}
 use Rattle.law_model.specs.session.Leg.{Leg}
 use Rattle.law_model.specs.session.Scenario.{scenario_by}

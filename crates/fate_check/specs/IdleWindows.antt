@@ -1,4 +1,4 @@
--- The failures that spoil none of the rows that were taken.
+-- The failures that are told idle: for certain they spoil none of the rows that were taken.
 use Rattle.std.specs.Prelude.{ℕ, ◌+◌, ◌&&◌, nat_le, not, Bool, if◌then◌else◌, List, [], map, filter, slice_index_or, Option}
 use Rattle.std.specs.List.{flat_map, list_all, range_with_len}
 use Rattle.law_model.specs.declared.window_types.Window.{Window}

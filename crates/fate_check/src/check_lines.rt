@@ -8,16 +8,16 @@ use law_model::{Refusal, Window};
 use text_report::TextCursor;
 
 /// Room for a line, in octets.
-pub const ROOM: usize = 128;
+pub(crate) const ROOM: usize = 128;
 
 /// How much of each kind was found.
 #[derive(Clone, Copy, Debug, PartialEq, Eq)]
 pub struct Found {
     /// The lines that carried payload in no row.
     pub unused: u32,
-    /// The failures that spoiled no row.
+    /// The failures that are told idle.
     pub idle: u32,
-    /// The frames that were accepted before any line carried payload.
+    /// The accepted frames that are due before the first taken row in which a line carried payload.
     pub early: u32,
     /// The items that were refused.
     pub refused: usize,
@@ -36,7 +36,7 @@ pub(crate) fn unused_line(member: u8, out: &mut [u8]) -> usize
     line.end()
 }
 
-/// The line of a failure that spoiled no row.
+/// The line of a failure that is told idle.
 pub(crate) fn idle_line(member: u8, window: Window, out: &mut [u8]) -> usize
     requires room { 128 ≤ length out.old }
     ensures within { result ≤ 128 }
@@ -65,7 +65,8 @@ fn add_row(line: &mut TextCursor, row: Option<u32>)
     }
 }
 
-/// The line of frames that were accepted before any line carried payload, and of the first row in which one did.
+/// The line of accepted frames that are due before the first taken row in which a line carried payload, and of
+/// this row.
 pub(crate) fn early_line(frames: u32, row: Option<u32>, out: &mut [u8]) -> usize
     requires room { 128 ≤ length out.old }
     ensures within { result ≤ 128 }
@@ -81,7 +82,7 @@ pub(crate) fn early_line(frames: u32, row: Option<u32>, out: &mut [u8]) -> usize
 }
 
 /// The line of an item that was refused.
-pub fn refused_line(item: u32, why: Refusal, out: &mut [u8]) -> usize
+pub(crate) fn refused_line(item: u32, why: Refusal, out: &mut [u8]) -> usize
     requires room { 128 ≤ length out.old }
     ensures within { result ≤ 128 }
     ensures line { take result out.new ≡ refused_item item why }

@@ -1,4 +1,4 @@
-//! How many frames were accepted before any line carried payload.
+//! How many accepted frames are due before the first taken row in which a line carried payload.
 ghost use Rattle.std.specs.Prelude.{◌≡◌, ◌&&◌, is_none, length, filter};
 ghost use Rattle.law_model.specs.session.Leg.{leg_of};
 ghost use Rattle.law_model.specs.session.ValidScript.{IsSound};

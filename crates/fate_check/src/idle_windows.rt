@@ -1,4 +1,4 @@
-//! Which failures spoil none of the rows that were taken.
+//! Which failures are told idle: for certain they spoil none of the rows that were taken.
 ghost use Rattle.std.specs.Prelude.{◌≡◌, ◌+◌, ◌*◌, ◌<◌, ◌≤◌, List, [], length, slice_index_or, All, Option};
 ghost use Rattle.law_model.specs.members.Damage.{AreWindows};
 ghost use Rattle.law_model.specs.session.Scenario.{Scenario};
@@ -31,7 +31,7 @@ fn is_spared(windows: &WindowLists, packets: &Packets, row: u32, line: u8) -> bo
 }
 
 /// Whether a failure of a line spares all of the first rows that it can spoil, and the sink doesn't go on.
-pub fn is_idle(
+pub(crate) fn is_idle(
     options: Options,
     windows: &WindowLists,
     packets: &Packets,
@@ -63,7 +63,7 @@ pub fn is_idle(
 }
 
 /// The failures of a line, which is one of those that are configured.
-pub fn windows_of(windows: &WindowLists, line: u8) -> &[Window]
+pub(crate) fn windows_of(windows: &WindowLists, line: u8) -> &[Window]
     requires { line < length windows.now }
     ensures { result.now ≡ slice_index_or windows.now line [] }
 {

@@ -1,7 +1,7 @@
-//! What in a script has no effect or was refused: lines that carry payload in no row, failures that spoil none,
-//! frames that are due before any line carries payload, and refused items. No turn is made here: it is all
-//! worked out from a walk that was seen, and nothing of it is kept. Begin with `write_check`; `idle_law` says
-//! what an idle failure leaves as it is.
+//! What in a script is unused or idle or early or refused: lines that carry payload in no row, failures that for
+//! certain spoil none, accepted frames that are due before any line carries payload, and refused items. No turn
+//! is made here: it is all worked out from a walk that was seen, and nothing of it is kept. Begin with
+//! `write_check`; `idle_law` says what an idle failure leaves as it is.
 #![tactic(auto)]
 
 ghost use Rattle.std.specs.Prelude.{◌≡◌, ℕ, ◌<◌, true, List, [], ◌∷◌, ◌++◌, Option, Some, slice_get};

@@ -1,4 +1,4 @@
-//! The text that is written of a walk: what in its script has no effect or was refused.
+//! The text that is written of a walk: what in its script is unused, idle, early or refused.
 ghost use Rattle.std.specs.Prelude.{◌≡◌, ℕ, ◌+◌, ◌*◌, ◌<◌, ◌≤◌, [], ◌∷◌, ◌++◌, List, length, OnOk, OnErr};
 ghost use Rattle.std.specs.List.{flat_map};
 ghost use Rattle.octet_io.specs.Start.{Start};
@@ -77,7 +77,7 @@ fn write_unused<K: ByteSink>(walk: &Walk, seen: &SeenWalk, got: &mut GotLines<K>
     unused
 }
 
-/// Writes the line of a failure of a line, if it spoiled no row. Answers how many lines were written.
+/// Writes the line of a failure of a line, if it is told idle. Answers how many lines were written.
 fn write_if_idle<K: ByteSink>(
     member: u8,
     window: Window,
@@ -112,7 +112,7 @@ fn write_if_idle<K: ByteSink>(
     1
 }
 
-/// Writes the lines of the failures of a line that spoiled no row. Answers how many there are.
+/// Writes the lines of the failures of a line that are told idle. Answers how many there are.
 fn write_idle_on<K: ByteSink>(
     member: u8,
     walk: &Walk,
@@ -136,7 +136,7 @@ fn write_idle_on<K: ByteSink>(
     idle
 }
 
-/// Writes the lines of failures that spoiled no row. Answers how many there are.
+/// Writes the lines of failures that are told idle. Answers how many there are.
 fn write_idle<K: ByteSink>(walk: &Walk, seen: &SeenWalk, got: &mut GotLines<K>) -> u32
     requires { SeesWalk (leg_of walk.now.script) walk.now.counts seen.now }
     ensures text { (start : Start) (before : List ℕ) →
@@ -151,8 +151,8 @@ fn write_idle<K: ByteSink>(walk: &Walk, seen: &SeenWalk, got: &mut GotLines<K>) 
     idle
 }
 
-/// Writes the line of frames that were accepted before any line carried payload, if there are any. Answers how
-/// many there are.
+/// Writes the line of accepted frames that are due before the first taken row in which a line carried payload,
+/// if there are any. Answers how many there are.
 fn write_early<K: ByteSink>(walk: &Walk, seen: &SeenWalk, got: &mut GotLines<K>) -> u32
     requires { SeesWalk (leg_of walk.now.script) walk.now.counts seen.now }
     ensures text { (start : Start) (before : List ℕ) →
@@ -199,7 +199,7 @@ fn write_end<K: ByteSink>(found: Found, got: &mut GotLines<K>)
     got.line(&line[..end]);
 }
 
-/// Writes what in the script of a walk has no effect or was refused.
+/// Writes what in the script of a walk is unused, idle, early or refused.
 pub fn write_check<K: ByteSink>(walk: &Walk, seen: &SeenWalk, out: &mut K) -> Result<(), Failed>
     requires { SeesWalk (leg_of walk.now.script) walk.now.counts seen.now }
     ensures ok { OnOk result (Appends K.written K.faults out.old out.new

@@ -186,9 +186,11 @@ pub fn fate_law()
         got_frames (ended_of leg s) ≡ delivered_of leg s.rows }
 {}
 
-/// Worked streams, computed: what became of four frames of which the second row, which isn't whole, cuts one,
-/// the next is sought through, the third settles the descrambler and the last is got; the mark of the segment
-/// behind the row; and runs of rows that aren't whole.
+/// Worked streams, computed: what became of six frames in five rows, of which the second and the fourth aren't
+/// whole. These cut the first frame and the fifth; the second is sought through, the third settles the
+/// descrambler and the fourth is got; and behind the fourth row, where the last lies, nothing is confirmed. The
+/// two segments behind these rows, with their marks, and that all marks are true; runs of rows that aren't
+/// whole; and the places of client frames up to one that lies in a frame.
 pub fn worked_law()
     ensures fates { map (fate_of worked_pieces worked_rows) (extents 0 worked_pieces) ≡ worked_fates }
     ensures segments { later_segments worked_rows ≡ worked_segments }

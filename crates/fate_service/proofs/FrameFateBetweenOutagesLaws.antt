@@ -1,7 +1,7 @@
 -- What the fate of a frame tells of its rows, and what becomes of frames that lie between two outages.
 use Rattle.std.proofs.Common.{◌≡◌, ℕ, suc, ◌+◌, ◌-◌, ◌<◌, ◌≤◌, ◌⊎◌, Bool, false, List, [], ◌∷◌, ◌++◌, length, All}
 use Rattle.std.proofs.Common.{Option, Some, None, slice_get, refl, sym, ◌∙◌, ap, subst, arith, inl, inr, zero, ◌&&◌}
-use Rattle.std.proofs.Common.{true, drop, ap₂}
+use Rattle.std.proofs.Common.{true, drop, ap₂, option_to_list}
 use Rattle.std.specs.List.{list_any}
 use Rattle.std.proofs.lemmas.Bool.{cases_Bool, cases_lt, lt-ltb, le-ltb, le-leb, lt-leb, cases_order, or_left}
 use Rattle.std.proofs.lemmas.Bool.{or_right}
@@ -22,7 +22,7 @@ use Rattle.fate_engine.proofs.FrameFateAndPieceLaws.{rows-count}
 use Rattle.fate_engine.proofs.RulerAndFrameSideLaws.{order-of}
 use Rattle.fate_walks.specs.walk_fates.MadeWalk.{fates_in}
 use Rattle.fate_service.specs.declared.landed_frames.CarriedFrame.{CarriedFrame}
-use Rattle.fate_service.specs.FrameColumns.{carried_if, listed, carried_of}
+use Rattle.fate_service.specs.FrameColumns.{carried_if, carried_of}
 use Rattle.fate_service.proofs.FrameTickAndRowOrderLaws.{row-order, side-behind, sides-apart}
 use Rattle.std.proofs.lemmas.Option.{none-some, some_pair_parts}
 use Rattle.fate_walks.proofs.FatesAndSeenRowsLaws.{mark-of-low}
@@ -176,7 +176,7 @@ module _ (pieces : List Piece) (rows : List StreamRow) where
 module _ (leg : Leg) (fate : ℕ → Fate) (P : CarriedFrame → Type 0)
     (each : (i due octets : ℕ) (frame : CarriedFrame) → carried_if due octets (fate i) ≡ Some frame → P frame) where
   listed-each : (i due octets : ℕ) (o : Option CarriedFrame) (rest : List CarriedFrame) →
-      carried_if due octets (fate i) ≡ o → All P rest → All P (listed o ++ rest)
+      carried_if due octets (fate i) ≡ o → All P rest → All P (option_to_list o ++ rest)
   listed-each i due octets None rest is later = later
   listed-each i due octets (Some frame) rest is later = All-cons P frame rest (each i due octets frame is) later
 
@@ -338,8 +338,8 @@ module _ (pieces : List Piece) (rows : List StreamRow) where
         | inr told ↦ before-got told.extent (fate_at pieces rows i) r q told.tells has before
       ]
 
-  -- rows that lie between an outage and the next one, behind the row with which it ended: all are of use, and their
-  -- mark is that of this row
+  -- rows that lie between an outage and the next one, behind the first row after it: all are of use, and their mark is
+  -- that of this row
   record AreBehind (outage : Outage) (r q place : ℕ) : Type 0 where
     pub whole : q < spoiled_after rows outage.end
     pub low : row_at rows place ≤ outage.end

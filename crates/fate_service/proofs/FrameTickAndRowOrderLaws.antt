@@ -1,7 +1,7 @@
 -- The frames of a walk in the order of due ticks and of rows, and lists with a rising key, divided at a number.
 use Rattle.std.proofs.Common.{◌≡◌, ℕ, zero, suc, ◌+◌, ◌-◌, ◌≤◌, ◌&&◌, min, nat_le, nat_lt, Bool, true, false, List, []}
 use Rattle.std.proofs.Common.{◌∷◌, length, filter, take, drop, refl, sym, ◌∙◌, ap, ap₂, arith, inl, inr, length-take}
-use Rattle.std.proofs.Common.{◌<◌, ◌++◌, get_or, Option, Some, None, slice_get, subst, lt-ltb, le-ltb}
+use Rattle.std.proofs.Common.{◌<◌, ◌++◌, get_or, Option, Some, None, slice_get, subst, lt-ltb, le-ltb, option_to_list}
 use Rattle.std.proofs.lemmas.List.{drop-take, drop_all}
 use Rattle.std.specs.List.Sorted.{IsPartitionPoint, IsNonDecreasing, IsNonDecreasingBy}
 use Rattle.std.proofs.lemmas.Bool.{cases_lt, le-leb, lt-leb, ltb-true, ltb-false, cases_Bool}
@@ -28,7 +28,7 @@ use Rattle.fate_walks.specs.walk_fates.MadeWalk.{fates_in}
 use Rattle.fate_walks.proofs.FatesAndSeenRowsLaws.{with-skips, landed-client, landed-other}
 use Rattle.fate_service.specs.declared.landed_frames.OfferedFrame.{OfferedFrame}
 use Rattle.fate_service.specs.declared.landed_frames.CarriedFrame.{CarriedFrame}
-use Rattle.fate_service.specs.FrameColumns.{offered_of, due_if, accepted_of, carried_if, listed, carried_of}
+use Rattle.fate_service.specs.FrameColumns.{offered_of, due_if, accepted_of, carried_if, carried_of}
 
 -- ---- Lists in the order of a key, divided at numbers.
 abbrev pub Point : {X : Type 0} → (X → Bool) → List X → ℕ → Type 0
@@ -290,7 +290,7 @@ module _ (fate : ℕ → Fate) where
   module _ (leg : Leg) (steps : IsStep) where
     chain-one : (o : Option CarriedFrame) (due octets from n : ℕ) (rest : List CarriedFrame) →
         carried_if due octets (fate n) ≡ o → IsLater from n →
-        ((low : ℕ) → IsLater low (suc n) → Chains low rest) → Chains from (listed o ++ rest)
+        ((low : ℕ) → IsLater low (suc n) → Chains low rest) → Chains from (option_to_list o ++ rest)
     unfolding Chains
     chain-one None due octets from n rest is later others =
         others from (λ j due octets high. later j due octets (omega (arith, high)))

@@ -2,13 +2,13 @@
 use Rattle.std.proofs.Common.{◌≡◌, ℕ, suc, ◌+◌, ◌-◌, ◌*◌, ◌<◌, ◌≤◌, max, Bool, true, false, refl, sym, ap, subst}
 use Rattle.std.proofs.Common.{arith, List, [], ◌∷◌, ◌++◌, length, take, drop, Option, Some, None, ◌∙◌, append-nil}
 use Rattle.std.proofs.Common.{append_assoc, length-append, length-take, nat_lt, All, inl, inr, zero, ◌&&◌, nat_le}
-use Rattle.std.proofs.Common.{if◌then◌else◌, le-leb, filter, ap₂, sum_by, codes, decimal}
+use Rattle.std.proofs.Common.{if◌then◌else◌, le-leb, filter, ap₂, sum_by, codes, decimal, option_to_list}
 use Rattle.fate_service.specs.declared.landed_frames.Tally.{Tally}
 use Rattle.fate_service.specs.declared.landed_frames.CarriedFrame.{CarriedFrame}
 use Rattle.fate_service.specs.declared.stretch_counts.Ended.{Ended, Ended as EndedCounts}
 use Rattle.fate_service.specs.declared.stretch_counts.Peak.{Peak}
 use Rattle.fate_service.specs.FrameColumns.{with_frame, with_frame_if, no_frames, offered_frame, due_if, accepted_of}
-use Rattle.fate_service.specs.FrameColumns.{carried_end, listed, carried_of, waits_on, AreLanded, TakesFrame}
+use Rattle.fate_service.specs.FrameColumns.{carried_end, carried_of, waits_on, AreLanded, TakesFrame}
 use Rattle.fate_service.specs.FrameColumns.{offered_of, waits_of}
 use Rattle.fate_service.specs.Stretches.{delay_of, with_carried, higher, peak_on, is_in, told_on, came_of}
 use Rattle.fate_service.specs.Stretches.{ended_of as ended_in_stretch}
@@ -127,10 +127,11 @@ landed-more all old new e octets size are takes =
       accepted = same.accepted ∙ ap (λ l. l ++ due_if e.due e.end) are.accepted
           ∙ ap (λ l. accepted_of all ++ l) (sym (append-nil (due_if e.due e.end)))
           ∙ sym (flat_map-append (λ (ended : EndedItem). due_if ended.due ended.end) all (e ∷ []));
-      carried = same.carried ∙ ap (λ l. l ++ listed (carried_end e.due (length e.frame) e.end)) are.carried
-          ∙ ap (λ l. carried_of all ++ l) (sym (append-nil (listed (carried_end e.due (length e.frame) e.end))))
+      carried = same.carried ∙ ap (λ l. l ++ option_to_list (carried_end e.due (length e.frame) e.end)) are.carried
+          ∙ ap (λ l. carried_of all ++ l)
+          (sym (append-nil (option_to_list (carried_end e.due (length e.frame) e.end))))
           ∙ sym (flat_map-append
-          (λ (ended : EndedItem). listed (carried_end ended.due (length ended.frame) ended.end)) all (e ∷ []));
+          (λ (ended : EndedItem). option_to_list (carried_end ended.due (length ended.frame) ended.end)) all (e ∷ []));
       waits = same.waits ∙ ap (λ t. with_frame_if (has_waited e.end) t (length e.frame)) are.waits
           ∙ sym (waits-more no_frames all e);
     }
@@ -218,10 +219,10 @@ accepted-few (e ∷ all) =
 pub carried-few : (all : List EndedItem) → length (carried_of all) ≤ length all
 carried-few [] = omega arith
 carried-few (e ∷ all) =
-    let parts = length-append (listed (carried_end e.due (length e.frame) e.end)) (carried_of all) in
+    let parts = length-append (option_to_list (carried_end e.due (length e.frame) e.end)) (carried_of all) in
     omega (arith, parts, carried-few all, one (carried_end e.due (length e.frame) e.end))
   where
-    one : (o : Option CarriedFrame) → length (listed o) ≤ 1
+    one : (o : Option CarriedFrame) → length (option_to_list o) ≤ 1
     one None = omega arith
     one (Some frame) = omega arith
 
@@ -411,12 +412,12 @@ abbrev octets_if : Bool → ℕ → ℕ
 octets_if b octets = if b then octets else 0
 
 abbrev pub ended_listed : EndedItem → List CarriedFrame
-ended_listed ended = listed (carried_end ended.due (length ended.frame) ended.end)
+ended_listed ended = option_to_list (carried_end ended.due (length ended.frame) ended.end)
 
 -- one that is refused, got or waits is in no other column
 abbrev EndAdds : ℕ → ℕ → End → Type 0
 EndAdds due octets end =
-    let those = listed (carried_end due octets end) in
+    let those = option_to_list (carried_end due octets end) in
     (1 ≡ one_if (is_refused end) + sum_by got_one those + sum_by lost_one those + one_if (has_waited end))
     × (octets ≡ octets_if (is_refused end) octets + sum_by got_octets those + sum_by lost_octets those
     + octets_if (has_waited end) octets)

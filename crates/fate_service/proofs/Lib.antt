@@ -4,6 +4,7 @@ pub mod LandedFrameTallyLaws
 pub mod MemberRunAndCarriedOctetLaws
 pub mod OutageAndDarkRowLaws
 pub mod OutageAndLostFrameLaws
+pub mod OutageAndSpoiledRowLaws
 pub mod ServiceTextLaws
 pub mod SpoiledRowStateLaws
 pub mod StretchSumAndQueuePeakLaws

@@ -1,7 +1,7 @@
 -- Runs of rows with the same number of members, the room that they have, and that carried octets fit in it.
 use Rattle.std.proofs.Common.{◌≡◌, ℕ, zero, suc, ◌+◌, ◌-◌, ◌*◌, ◌<◌, ◌≤◌, ◌==◌, List, [], ◌∷◌, map, refl, ◌∙◌, ap}
 use Rattle.std.proofs.Common.{subst, arith, inl, inr, sum_by, suc-mul, mul_comm, min, ◌⊎◌, ◌++◌, length, drop, Option}
-use Rattle.std.proofs.Common.{Some, None, slice_get, sym, append-nil}
+use Rattle.std.proofs.Common.{Some, None, slice_get, sym, append-nil, option_to_list}
 use Rattle.std.specs.List.{range_with_len, flat_map}
 use Rattle.std.proofs.lemmas.Bool.{cases_Bool, cases_lt, eqb-true, eqb-false}
 use Rattle.std.proofs.lemmas.List.Sums.{sum_by-cons}
@@ -28,7 +28,7 @@ use Rattle.fate_engine.specs.Common.{fate_of, sides, Ended, ended_then, ended_on
 use Rattle.fate_engine.proofs.RulerAndFrameSideLaws.{order-of}
 use Rattle.fate_engine.proofs.GotFateAndLandedFrameLaws.{accepts, frames_of, landed-first}
 use Rattle.fate_service.specs.declared.landed_frames.CarriedFrame.{CarriedFrame}
-use Rattle.fate_service.specs.FrameColumns.{carried_if, listed, carried_of}
+use Rattle.fate_service.specs.FrameColumns.{carried_if, carried_of}
 use Rattle.fate_service.proofs.FrameTickAndRowOrderLaws.{HasRows, fate-has}
 use Rattle.fate_service.proofs.StretchSumAndQueuePeakLaws.{got_one, got_octets, lost_one, lost_octets}
 
@@ -247,7 +247,7 @@ module _ (leg : Leg) (pieces : List Piece) (rows : List StreamRow) where
   own-fits : (e : Extent) (due place : ℕ) (rest : List CarriedFrame) (octets : List ℕ) (o : Option CarriedFrame) →
       carried_if due (length octets) (fate_of pieces rows e) ≡ o → e.from < e.to → place ≤ e.from →
       e.to ≡ e.from + (8 + length octets) → sum_by taken rest ≤ room - e.to →
-      sum_by taken (listed o ++ rest) ≤ room - place
+      sum_by taken (option_to_list o ++ rest) ≤ room - place
   own-fits e due place rest octets None is some low ends fits = omega (arith, fits, low, some)
   own-fits e due place rest octets (Some frame) is some low ends fits =
       let has : HasRows pieces rows e (Some frame) =
@@ -282,8 +282,8 @@ module _ (leg : Leg) (pieces : List Piece) (rows : List StreamRow) where
             let agree : Agree (frames_of (drop (suc n) all)) (flat_map (accepts leg) items) =
             subst (λ l. Agree (frames_of l) (flat_map (accepts leg) items)) (sym past.next)
             (record { waiting = flat_map (accepts leg) items; later = []; same = sym (append-nil _) }) in
-            subst (λ o. sum_by taken (listed o ++ carried_of rest) ≤ room - place) (sym none)
-            (fits (suc n) place (behind.0, order, agree)))
+            subst (λ (o : Option CarriedFrame). sum_by taken (option_to_list o ++ carried_of rest) ≤ room - place)
+            (sym none) (fits (suc n) place (behind.0, order, agree)))
         | inr there ↦ (
             let e : Extent = there.extent in
             let order : AreInOrder place (sides (e ∷ drop (suc n) all)) behind.0 =
@@ -301,8 +301,8 @@ module _ (leg : Leg) (pieces : List Piece) (rows : List StreamRow) where
               record { waiting = agree.waiting; later = agree.later; same = (let same = agree.same in cc) },
             ) in
             let first = first-order e (drop (suc n) all) place behind.0 order in
-            subst (λ o. sum_by taken (listed o ++ carried_of rest) ≤ room - place) (sym is)
-            (own-fits e item.item.due place (carried_of rest) octets
+            subst (λ (o : Option CarriedFrame). sum_by taken (option_to_list o ++ carried_of rest) ≤ room - place)
+            (sym is) (own-fits e item.item.due place (carried_of rest) octets
             (carried_if item.item.due (length octets) (fate_of pieces rows e)) refl first.1 first.0
             (omega (arith, extent-size 0 pieces n e there.there, ap length frame)) later))
       ]

@@ -1,5 +1,6 @@
 -- The client's frames that have landed, in the columns that sums need. These sums are this project's own.
 use Rattle.std.specs.Prelude.{◌≡◌, ℕ, ◌+◌, Bool, true, false, List, [], ◌∷◌, ◌++◌, length, map, Option, Some, None}
+use Rattle.std.specs.Prelude.{option_to_list}
 use Rattle.std.specs.List.{flat_map}
 use Rattle.fate_engine.specs.Common.{End, refused, accepted, Ended, is_refused, has_waited}
 use Rattle.fate_engine.specs.declared.fate_law.Fate.{Fate}
@@ -54,16 +55,9 @@ abbrev pub carried_end : ℕ → ℕ → End → Option CarriedFrame
 carried_end due octets (refused why) = None
 carried_end due octets (accepted fate) = carried_if due octets fate
 
-abbrev pub listed : Option CarriedFrame → List CarriedFrame
-listed None = []
-listed (Some frame) = frame ∷ []
-
-abbrev pub is_none : Option CarriedFrame → Bool
-is_none None = true
-is_none (Some frame) = false
-
 abbrev pub carried_of : List Ended → List CarriedFrame
-carried_of all = flat_map (λ (ended : Ended). listed (carried_end ended.due (length ended.frame) ended.end)) all
+carried_of all =
+    flat_map (λ (ended : Ended). option_to_list (carried_end ended.due (length ended.frame) ended.end)) all
 
 -- ---- the accepted ones that they don't
 unfoldable pub waits_on : Tally → List Ended → Tally
@@ -85,5 +79,5 @@ pub record TakesFrame (old new : LandedFrames) (due octets : ℕ) (end : End) : 
   pub offered : new.offered.items
       ≡ old.offered.items ++ record { due = due; octets = octets; refused = is_refused end } ∷ []
   pub accepted : new.accepted.items ≡ old.accepted.items ++ due_if due end
-  pub carried : new.carried.items ≡ old.carried.items ++ listed (carried_end due octets end)
+  pub carried : new.carried.items ≡ old.carried.items ++ option_to_list (carried_end due octets end)
   pub waits : new.waits ≡ with_frame_if (has_waited end) old.waits octets

@@ -35,3 +35,9 @@ dark_on n (state ∷ states) = dark_on (if is_dark state then n + 1 else n) stat
 
 abbrev pub dark_among : List RowState → ℕ
 dark_among states = dark_on 0 states
+
+-- a row isn't whole
+abbrev pub is_spoiled : RowState → Bool
+is_spoiled Clear = false
+is_spoiled Hunting = false
+is_spoiled Spoiled = true

@@ -1,10 +1,11 @@
 //! The client's frames that have landed in a walk, in the columns that the sums need.
-ghost use Rattle.std.specs.Prelude.{◌≡◌, ◌+◌, ◌^◌, ◌<◌, ◌≤◌, [], ◌∷◌, ◌++◌, length, OnOk, IfOk};
+ghost use Rattle.std.specs.Prelude.{◌≡◌, ◌+◌, ◌^◌, ◌<◌, ◌≤◌, [], ◌∷◌, ◌++◌, length, OnOk, IfOk, is_none};
+ghost use Rattle.std.specs.Prelude.{option_to_list};
 ghost use Rattle.law_model.specs.Common.{leg_of};
 ghost use Rattle.fate_engine.specs.Common.{accepted, does_wait, ended_of};
 ghost use Rattle.fate_walks.specs.walk_fates.MadeWalk.{SeesWalk, fates_in, end_by};
 ghost use Rattle.fate_service.specs.FrameColumns.{no_frames, with_frame, with_frame_if, carried_by, carried_if};
-ghost use Rattle.fate_service.specs.FrameColumns.{listed, is_none, AreLanded, TakesFrame};
+ghost use Rattle.fate_service.specs.FrameColumns.{AreLanded, TakesFrame};
 
 use fate_engine::fate_core::Fate;
 use fate_walks::walk_fates::{SeenWalk, accepted_fate};
@@ -140,7 +141,7 @@ impl LandedFrames {
         ensures offered { self.new.offered.items ≡ self.old.offered.items }
         ensures accepted { OnOk result (self.new.accepted.items ≡ self.old.accepted.items ++ due ∷ []) }
         ensures carried { OnOk result (self.new.carried.items
-            ≡ self.old.carried.items ++ listed (carried_if due octets fate)) }
+            ≡ self.old.carried.items ++ option_to_list (carried_if due octets fate)) }
         ensures waits { OnOk result
             (self.new.waits ≡ with_frame_if (does_wait fate) self.old.waits octets) }
     {
@@ -155,7 +156,7 @@ impl LandedFrames {
         ensures offered { self.new.offered.items ≡ self.old.offered.items }
         ensures accepted { self.new.accepted.items ≡ self.old.accepted.items }
         ensures carried { OnOk result (self.new.carried.items
-            ≡ self.old.carried.items ++ listed carried) }
+            ≡ self.old.carried.items ++ option_to_list carried) }
         ensures waits { OnOk result
             (self.new.waits ≡ with_frame_if (is_none carried) self.old.waits octets) }
     {

@@ -89,7 +89,7 @@ pub(crate) fn find_outages(alloc: Global, states: &[RowState]) -> Result<Vec<Out
 }
 
 /// The frames that are lost, of those that are decided in a row from one on to below another.
-pub fn losses(carried: &[CarriedFrame], first: u32, end: u32) -> Tally
+pub(crate) fn losses(carried: &[CarriedFrame], first: u32, end: u32) -> Tally
     requires few { length carried.now < 4294967296 }
     requires order { IsNonDecreasingBy (λ (frame : CarriedData). frame.at) carried.now }
     ensures { result ≡ losses carried.now first end }

@@ -3,9 +3,9 @@
 //! `written` says which lines the text has.
 
 ghost use Rattle.std.specs.Prelude.{◌≡◌, ◌⊎◌, ℕ, ◌+◌, ◌-◌, ◌*◌, ◌<◌, ◌≤◌, min, true, false, List, ◌++◌};
-ghost use Rattle.std.specs.Prelude.{map, length};
+ghost use Rattle.std.specs.Prelude.{map, length, filter};
 ghost use Rattle.std.specs.Prelude.{Contains, IsSome, sum_by, slice_get, Some};
-ghost use Rattle.std.specs.List.{flat_map};
+ghost use Rattle.std.specs.List.{flat_map, range_with_len};
 ghost use Rattle.law_model.specs.frames.Piece.{Piece};
 ghost use Rattle.law_model.specs.frames.Segment.{StreamRow};
 ghost use Rattle.law_model.specs.session.Counts.{Counts};
@@ -26,6 +26,7 @@ ghost use Rattle.fate_engine.specs.fate_law.Marks.{are_true_marks};
 ghost use Rattle.fate_engine.specs.fate_law.SessionFates.{fate_at, ended_of};
 ghost use Rattle.fate_engine.specs.fate_law.RowCauses.{row_cause, spoiled_of};
 ghost use Rattle.fate_service.specs.declared.landed_frames.CarriedFrame.{CarriedFrame};
+ghost use Rattle.fate_service.specs.declared.outages.Outage.{Outage};
 ghost use Rattle.fate_service.specs.declared.width_run.WidthRun.{WidthRun};
 ghost use Rattle.fate_service.specs.FrameColumns.{carried_of};
 ghost use Rattle.fate_service.specs.Outages.{next_first};
@@ -37,8 +38,8 @@ ghost use Rattle.fate_service.specs.service_law.LinesAsNumbers.{StretchLine, str
 ghost use Rattle.fate_service.specs.service_law.LinesAsNumbers.{fates_line};
 ghost use Rattle.fate_service.specs.service_law.LineSums.{FollowOn, AreRuns, total_of, tally_of, stream_octets};
 ghost use Rattle.fate_service.specs.service_law.LineSums.{IsPeak, IsHighest};
-ghost use Rattle.fate_service.specs.service_law.OutageRuns.{dark_row, row_outages, AreOutages, BelongsOnce};
-ghost use Rattle.fate_service.specs.service_law.OutageRuns.{rows_of_fate};
+ghost use Rattle.fate_service.specs.service_law.OutageRuns.{dark_row, spoiled_row, row_outages, AreOutages};
+ghost use Rattle.fate_service.specs.service_law.OutageRuns.{BelongsOnce, rows_of_fate};
 ghost use Rattle.fate_service.specs.service_law.OutageRuns.{is_unsettled, LiesBetween};
 ghost use Rattle.fate_service.specs.service_law.Worked.{one_tick, one_made, one_text, late_leg, late_counts, late_text};
 ghost use Rattle.fate_service.specs.service_law.Worked.{worked_outages, told_outages};
@@ -135,12 +136,15 @@ pub fn rows_law()
 {}
 
 /// What an outage is: a longest run of dark rows, of which the first isn't whole, so that its line has a cause.
-/// No row of a frame that is got is dark; each lost frame belongs to just one outage. Before the first outage
-/// all frames are got; and behind the row with which one ends, and before the next one, all but at most one,
-/// which is unsettled.
+/// As many of its rows as it says aren't whole. No row of a frame that is got is dark; each lost frame belongs
+/// to just one outage. Before the first outage all frames are got; and behind the first row after one, and
+/// before the next one, all but at most one, which is unsettled.
 pub fn outage_law()
     ensures runs { (rows : List StreamRow) →
         AreOutages (dark_row rows) 0 (row_outages rows) (length rows) }
+    ensures spoiled { (rows : List StreamRow) (outage : Outage) → Contains (row_outages rows) outage →
+        outage.spoiled
+        ≡ length (filter (spoiled_row rows) (range_with_len outage.first (outage.end - outage.first))) }
     ensures begins { (leg : Leg) (s : Counts) (line : OutageLine) →
         Contains (outages_in leg s) line →
         IsSome (row_cause (scenario_by leg) (session_of leg) line.outage.first) }

@@ -98,7 +98,7 @@ fn count_came(frames: &[OfferedFrame]) -> Came
 }
 
 /// The ticks from a frame's due tick to the row of its last octet.
-pub fn delay_of(frame: &CarriedFrame) -> u32
+pub(crate) fn delay_of(frame: &CarriedFrame) -> u32
     ensures { result ≡ delay_of frame.now }
 {
     frame.last.saturating_sub(frame.due)

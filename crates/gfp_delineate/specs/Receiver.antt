@@ -14,13 +14,13 @@ use Rattle.gfp_delineate.specs.ReceivedAreas.{AreaEnd, keeping, passing, Progres
 abbrev pub most : ℕ
 most = 65531
 
--- what a receiver knows: how far it is, and whether the last octet that it was given completed the frame in the area
--- that it keeps
+-- what a receiver knows: how far it is, and whether the last `byte` or `feed` completed the frame in the area that it
+-- keeps
 pub record Receiver : Type 0 where
   pub progress : Progress
   pub holds : Bool
 
--- the frame that the last octet completed
+-- the frame that the last `byte` or `feed` completed
 abbrev pub frame_of : Receiver → Option (List ℕ)
 frame_of receiver =
     if receiver.holds && nat_le 4 (length receiver.progress.area) then Some (drop 4 receiver.progress.area) else None

@@ -20,7 +20,7 @@ pub fn first_four(octets: &[u8]) -> [u8; 4]
 
 /// Keeps more octets of an area, descrambled.
 #[inline]
-pub fn keep(area: &mut Vec<u8>, descrambler: &mut Descrambler, piece: &[u8])
+pub(crate) fn keep(area: &mut Vec<u8>, descrambler: &mut Descrambler, piece: &[u8])
     requires { vec_len area.old + length piece.now ≤ vec_capacity area.old }
     ensures front { take (vec_len area.old) area.new.items ≡ area.old.items }
     ensures len { vec_len area.new ≡ vec_len area.old + length piece.now }

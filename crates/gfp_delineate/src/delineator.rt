@@ -38,7 +38,7 @@ impl Step {
 #[derive(Drop)]
 pub struct Delineator {
     receiver: AreaReceiver,
-    /// Whether the last call completed the frame in the area that the receiver holds.
+    /// Whether the last `byte` or `feed` completed the frame in the area that the receiver holds.
     holds: bool,
 }
 
@@ -100,7 +100,7 @@ impl Delineator {
         (taken, step)
     }
 
-    /// The frame that the last octet completed.
+    /// The frame that the last `byte` or `feed` completed.
     pub fn frame(&self) -> &[u8]
         requires { IsSome (frame_of self.now) }
         ensures { frame_of self.now ≡ Some result.now }

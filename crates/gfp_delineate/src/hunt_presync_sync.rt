@@ -88,7 +88,7 @@ impl Model for AreaReceiver {
 
 impl AreaReceiver {
     /// A receiver of a stream of which nothing has come. It has room for one area of `longest` octets, the most that it
-    /// keeps. In SYNC it corrects headers with one wrong bit, or none.
+    /// keeps. In SYNC it corrects headers with one wrong bit if `corrects`, else it corrects none.
     pub fn new(alloc: Global, longest: u16, corrects: bool) -> Result<AreaReceiver, AllocError>
         ensures { IfOk result (λ receiver. IsAt receiver longest corrects true []) }
     {
@@ -140,7 +140,7 @@ impl AreaReceiver {
         (at, AreaStep::Nothing)
     }
 
-    /// The area that is held, where the last octet completed one.
+    /// The area that is held, where the last `byte` or `feed` completed one.
     #[inline]
     pub fn area(&self) -> &[u8]
         ensures { result.now ≡ self.now.area }

@@ -144,7 +144,7 @@ impl AreaReceiver {
     }
 
     /// The last octet of a header that confirms, or of one in SYNC, which may be corrected. Where it is no header, the
-    /// run or the search for one begins anew, one octet after its first.
+    /// receiver is in HUNT, one octet after its first; a run has ended.
     fn take_header(&mut self, octet: u8, corrects: bool)
         requires { ((self.old.phase ≡ Phase.PresyncHeader 3) × (corrects ≡ false))
             ⊎ ((self.old.phase ≡ Phase.SyncHeader 3) × (corrects ≡ self.old.corrects)) }
@@ -245,9 +245,9 @@ fn read_header(octets: &[u8; 4], corrects: bool) -> Option<u16>
     ensures value { result ≡ reader corrects octets.now }
     ensures some { IfSome result (λ pli. (pli ≡ 0) ⊎ (4 ≤ pli)) }
 {
-    match read_core(octets) {
-        Some(pli) => Some(pli),
-        None if corrects => read_near(octets),
-        None => None,
+    if corrects {
+        read_near(octets)
+    } else {
+        read_core(octets)
     }
 }

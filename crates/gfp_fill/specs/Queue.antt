@@ -1,4 +1,4 @@
--- Which frames are accepted, how many may wait, and what a queue holds. The limits are this project's own.
+-- Which lengths are accepted, and what a queue holds.
 use Rattle.std.specs.Prelude.{ℕ, ◌<◌, ◌≤◌, ◌⊎◌, List, []}
 use Rattle.law_model.specs.Common.{shortest_frame, longest_frame}
 

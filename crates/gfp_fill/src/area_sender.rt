@@ -1,7 +1,7 @@
 //! The stream of payload areas, octet by octet, and idle frames between them.
 
 ghost use Rattle.std.specs.Prelude.{◌≡◌, ℕ, ◌+◌, ◌*◌, ◌/◌, ◌^◌, ◌<◌, ◌≤◌, List, [], ◌∷◌, ◌++◌, length, min, take};
-ghost use Rattle.std.specs.Prelude.{replicate, flat_map};
+ghost use Rattle.std.specs.Prelude.{drop, replicate, flat_map};
 ghost use Rattle.law_model.specs.Common.{with_header};
 ghost use Rattle.gfp_fill.specs.SentAreas.{head_of, StandsIn, HasWrittenIn};
 
@@ -77,11 +77,13 @@ impl AreaSender {
         headers.len() - self.sent
     }
 
-    /// Begins an area with the headers in it, as they are before scrambling, and `n` octets behind them.
+    /// Begins an area with the headers in it, as they are before scrambling, and `n` octets behind them. It has at
+    /// least four octets: a core header with a PLI of 1 to 3 is that of no area.
     #[inline]
     pub fn begin(&mut self, front: &[u8], n: usize)
         requires done { head_of self.old ≡ [] }
         requires room { length front.now ≤ 8 }
+        requires least { 4 ≤ length front.now + n }
         requires fits { length front.now + n < 2 ^ 16 }
         ensures some { 4 ≤ length (head_of self.new) }
         ensures begins { (rest : List ℕ) (areas : List (List ℕ)) (place : ℕ) → length rest ≡ n →
@@ -103,6 +105,7 @@ impl AreaSender {
     #[inline]
     pub fn send_headers(&mut self, out: &mut [u8]) -> usize
         ensures count { result ≡ min (length (head_of self.old)) (length out.old) }
+        ensures behind { drop result out.new ≡ drop result out.old }
         ensures writes { (left : List ℕ) (areas : List (List ℕ)) (place : ℕ) →
             StandsIn self.old left areas place →
             HasWrittenIn self.new left areas place (take result out.new) }
@@ -129,6 +132,7 @@ impl AreaSender {
     pub fn send_frame(&mut self, frame: &mut BegunFrame, out: &mut [u8]) -> usize
         requires { head_of self.old ≡ [] }
         ensures count { result ≡ min (length frame.old) (length out.old) }
+        ensures behind { drop result out.new ≡ drop result out.old }
         ensures writes { (areas : List (List ℕ)) (place : ℕ) →
             StandsIn self.old frame.old areas place →
             HasWrittenIn self.new frame.new areas place (take result out.new) }
@@ -138,12 +142,15 @@ impl AreaSender {
         n
     }
 
-    /// Writes idle frames, or where `out` has no room for one, the octets of one for which it has, and says how many
-    /// octets. Where all areas are written, those frames are begun that have these octets.
+    /// Writes as many whole idle frames as `out` has room for, or where it has no room for one, the octets of one for
+    /// which it has, and says how many octets. Where all areas are written, those frames are begun that have these
+    /// octets.
     #[inline]
     pub fn send_idles(&mut self, out: &mut [u8]) -> usize
         requires room { 0 < length out.old }
         requires done { head_of self.old ≡ [] }
+        ensures whole { 4 ≤ length out.old → result ≡ 4 * (length out.old / 4) }
+        ensures part { length out.old < 4 → result ≡ length out.old }
         ensures some { 0 < result }
         ensures within { result ≤ length out.old }
         ensures writes { (areas : List (List ℕ)) (place : ℕ) → StandsIn self.old [] areas place →

@@ -14,9 +14,10 @@ pub(crate) fn put(out: &mut [u8], at: usize, octets: &[u8])
 
 /// Copies as many octets as `out` has room for, and says how many.
 #[inline]
-pub fn copy_some(octets: &[u8], out: &mut [u8]) -> usize
+pub(crate) fn copy_some(octets: &[u8], out: &mut [u8]) -> usize
     ensures count { result ≡ min (length octets.now) (length out.old) }
     ensures copied { take result out.new ≡ take result octets.now }
+    ensures behind { drop result out.new ≡ drop result out.old }
 {
     let n = octets.len().min(out.len());
     out[..n].copy_from_slice(&octets[..n]);

@@ -19,7 +19,7 @@ use std::marker::Model;
 pub const MIN_FRAME: usize = 64;
 
 /// How many frames may wait.
-pub const MAX_WAITING: usize = 256;
+const MAX_WAITING: usize = 256;
 
 /// The accepted frames that wait, oldest first, and the one that is being sent.
 #[derive(Drop)]
@@ -37,7 +37,7 @@ impl Model for FrameQueue {
 }
 
 impl FrameQueue {
-    /// An empty queue with room for `MAX_WAITING` frames of `LONGEST_FRAME` octets and for the one that is being sent.
+    /// An empty queue with room for 256 frames of `LONGEST_FRAME` octets and for the one that is being sent.
     pub fn new(alloc: Global) -> Result<FrameQueue, AllocError>
         ensures { IfOk result (λ queue. queue ≡ unbegun []) }
     {
@@ -71,7 +71,9 @@ impl FrameQueue {
         if self.store.push(frame) {
             return Ok(());
         }
-        Err(AcceptFault::QueueFull { waiting: 256 })
+        Err(AcceptFault::QueueFull {
+            waiting: MAX_WAITING as u16,
+        })
     }
 
     /// The first cause for which a frame would be refused now; none where it would be taken.
@@ -84,7 +86,9 @@ impl FrameQueue {
             });
         }
         if self.store.len() >= MAX_WAITING {
-            return Some(AcceptFault::QueueFull { waiting: 256 });
+            return Some(AcceptFault::QueueFull {
+                waiting: MAX_WAITING as u16,
+            });
         }
         None
     }

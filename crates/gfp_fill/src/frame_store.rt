@@ -33,7 +33,7 @@ impl<const MOST: usize> Model for FrameStore<MOST> {
 }
 
 impl<const MOST: usize> FrameStore<MOST> {
-    /// No frame, and room for all of `LONGEST_FRAME` octets.
+    /// No frame waits, and there is room for `MOST` frames of `LONGEST_FRAME` octets each.
     pub fn new(alloc: Global) -> Result<FrameStore<MOST>, AllocError>
         ensures { IfOk result (λ store. store ≡ []) }
     {
@@ -122,7 +122,7 @@ impl Model for BegunFrame {
 }
 
 impl BegunFrame {
-    /// None, and room for one of `LONGEST_FRAME` octets.
+    /// No frame, and room for a frame of `LONGEST_FRAME` octets.
     pub fn new(alloc: Global) -> Result<BegunFrame, AllocError>
         ensures { IfOk result (λ frame. frame ≡ []) }
     {
@@ -145,6 +145,7 @@ impl BegunFrame {
     pub fn send(&mut self, out: &mut [u8]) -> usize
         ensures count { result ≡ min (length self.old) (length out.old) }
         ensures octets { take result out.new ≡ take result self.old }
+        ensures behind { drop result out.new ≡ drop result out.old }
         ensures rest { self.new ≡ drop result self.old }
     {
         let n = copy_some(&self.buffer.as_slice()[self.sent..], out);

@@ -2,7 +2,7 @@
 //! time: the caller says how many octets come next, and offers frames between. Begin with `FrameQueue` and
 //! `Filler`; what is promised of the two together is `FillerStands` in `specs/FilledStream.antt`, over the streams of
 //! law_model's `specs/source/Client.antt`. `filling_law`: a filler at a place of a stream goes with one queue
-//! alone.
+//! at most.
 //!
 //! Below it `AreaSender` writes payload areas, whatever is in them, and idle frames, by `StandsIn` of
 //! `specs/SentAreas.antt`, and `FrameStore` keeps frames in buffers that are taken once. A queue of frames of
@@ -25,8 +25,7 @@ mod stream_filler;
 mod waiting_frames;
 
 pub use area_sender::AreaSender;
-pub use copy_octets::copy_some;
-pub use frame_queue::{FrameQueue, MAX_WAITING, MIN_FRAME};
+pub use frame_queue::{FrameQueue, MIN_FRAME};
 pub use frame_store::{BegunFrame, FrameStore};
 pub use law_model::AcceptFault;
 pub use stream_filler::Filler;
@@ -34,8 +33,8 @@ pub use waiting_frames::WaitingFrames;
 
 /// The pieces of a stream that reaches a place are the fewest, a place can be reached in parts, and octets
 /// that are written stand in each longer stream. Where all frames wait from the start, the pieces are those
-/// of the opening. For a filler and a place in a stream there is one queue with which it stands there: that
-/// which holds the frame that it is sending.
+/// of the opening. For a filler and a place in a stream there is at most one queue with which it stands there:
+/// one that holds the frame that it is sending.
 pub fn filling_law()
     ensures fewest { (place : ℕ) (stream : Stream) →
         IsFewest stream.pieces place (reached place stream).pieces }

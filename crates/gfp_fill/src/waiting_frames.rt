@@ -4,7 +4,7 @@ use crate::area_sender::AreaSender;
 
 /// The frames that wait for a filler, and the one that is being sent.
 pub trait WaitingFrames {
-    ghost use Rattle.std.specs.Prelude.{◌≡◌, ◌≤◌, ℕ, List, [], length, min, take};
+    ghost use Rattle.std.specs.Prelude.{◌≡◌, ◌≤◌, ℕ, List, [], length, min, take, drop};
     ghost use Rattle.std.specs.Bool.{OnTrue, OnFalse};
     ghost use Rattle.gfp_fill.specs.SentAreas.{head_of, StandsIn, HasWrittenIn};
     ghost use Rattle.gfp_fill.specs.Multiplex.{Multiplex, IsMultiplex, Stands, NoneWaits};
@@ -28,6 +28,7 @@ pub trait WaitingFrames {
     fn send(&mut self, sender: &mut AreaSender, out: &mut [u8]) -> usize
         requires { head_of sender.old ≡ [] }
         ensures count { result ≡ min (length (order.begun self.old)) (length out.old) }
+        ensures behind { drop result out.new ≡ drop result out.old }
         ensures writes { (areas : List (List ℕ)) (place : ℕ) →
             StandsIn sender.old (order.begun self.old) areas place →
             HasWrittenIn sender.new (order.begun self.new) areas place (take result out.new) }

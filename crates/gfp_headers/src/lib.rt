@@ -2,7 +2,8 @@
 //!
 //! The type header is here also as a frame with an FCS has it, and one with a linear extension header, which is
 //! written and read here too. Nothing here corrects a header, and nothing scrambles. Begin with `core_bytes`
-//! and `read_core`, which are inverse; what a header is stands in law_model's `specs/frames`, that of a frame
+//! and `read_core`, which are inverse for a PLI of 0 or of at least 4;
+//! what a header is stands in law_model's `specs/frames`, that of a frame
 //! with an FCS in gfp_model's `specs/fcs_model/Fcs.antt`, and the two of a frame of a channel in its
 //! `specs/linear_model/ChannelArea.antt`.
 #![tactic(auto)]
@@ -13,8 +14,6 @@ mod type_header;
 
 pub use core_header::{core_bytes, read_core};
 pub use extension_header::{extension_bytes, read_cid};
-pub use gfp_model::linear_model::CidFault;
-pub use law_model::TypeFault;
 pub use type_header::{
     read_type, read_type_fcs, read_type_linear, type_bytes, type_bytes_fcs, type_bytes_linear,
 };

@@ -19,7 +19,7 @@ pub enum FcsWhy {
     Header(TypeFault),
     /// The area has `pli` octets, fewer than 12.
     Short { pli: u16 },
-    /// The payload FCS (pFCS) says `said`, and that of the frame before it is `found`.
+    /// The payload FCS (pFCS) says `said`, and that of the frame that it ends is `found`.
     Fcs { said: u32, found: u32 },
 }
 

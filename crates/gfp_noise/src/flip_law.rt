@@ -33,7 +33,8 @@ pub fn near_law()
 {}
 
 /// Descrambling is linear. Where there is no flip in an area and in the 43 area bits before it, there is none in the
-/// descrambled area; where there is one, one bit of it is turned over, or two that are 43 places apart.
+/// descrambled area; where there is one, and the area has at least 43 bits, one bit of it is turned over, or two that
+/// are 43 places apart.
 pub fn window_law()
     ensures linear { (bits flips : List Bool) →
         descrambled (xors bits flips) ≡ xors (descrambled bits) (descrambled flips) }

@@ -119,7 +119,8 @@ impl Descrambler {
         }
     }
 
-    /// Whether the octets that come are those that were scrambled.
+    /// Whether the octets that come are those that were scrambled: it is settled, or six octets were given since it
+    /// forgot. That this is enough says `later` of `scrambling_law`.
     pub fn known(&self) -> bool
         ensures { (settled : Bool) (octets : List ℕ) → DescramblerStands self.now settled octets →
             IsTrue result ↔ IsKnown settled octets }
@@ -127,8 +128,8 @@ impl Descrambler {
         self.given == SETTLED
     }
 
-    /// Forgets the octets before, and is settled again once six octets were given: from the seventh on, in whatever
-    /// calls they come, they are those that were scrambled.
+    /// Forgets the octets before, and is settled again once six octets were given. From the seventh on, in whatever
+    /// calls they come, they are those that were scrambled, by `later` of `scrambling_law`.
     pub fn forget(&mut self)
         ensures { DescramblerStands self.new false [] }
     {

@@ -2,6 +2,7 @@
 use Rattle.std.proofs.Common.{◌≡◌, ◌⊎◌, ℕ, ◌+◌, ◌<◌, ◌≤◌, Bool, true, false, not, List, ◌++◌, length, filter}
 use Rattle.std.proofs.Common.{slice_index_or, All, refl, sym, ◌∙◌, ap, arith, inl, inr, ◌&&◌, ◌||◌, leb-true, le-leb}
 use Rattle.std.proofs.lemmas.Bool.{cases_Bool, and_parts, not-true}
+use Rattle.std.proofs.lemmas.List.{length-map}
 use Rattle.law_model.specs.Common.{Leg, Scenario, scenario_by, session_cells, StreamRow, Segment, segments}
 use Rattle.law_model.specs.Common.{octets_of_rows, rows_of, Extent, is_carried, lies_in, is_frame_lost, IsSound}
 use Rattle.text_report.specs.ReportLines.{got_texts, refused_texts, total_text}
@@ -81,6 +82,8 @@ module _ (leg : Leg) (rows : ℕ) (low : rows ≤ leg.config.ticks) where
         (λ frames. got_texts frames ++ refused_texts (refusals_among leg items)
         ++ total_text (totals_among leg ticks rows items))
         (frames-kept leg rows sound low starts);
+    counted = ap length (frames-kept leg rows sound low starts)
+        ∙ length-map (filter is_kept (session_extents leg)) (λ extent. extent.frame);
   }
 
 -- ---- where each row is whole, no frame is lost that they carry

@@ -1,5 +1,5 @@
 -- The headline: what the report of a session tells, in the words of whoever wrote its script.
-use Rattle.std.specs.Prelude.{◌≡◌, ◌↔◌, ◌⊎◌, ℕ, ◌≤◌, Bool, true, List, ◌++◌, map, filter, All, Ok}
+use Rattle.std.specs.Prelude.{◌≡◌, ◌↔◌, ◌⊎◌, ℕ, ◌≤◌, Bool, true, List, ◌++◌, map, filter, length, All, Ok}
 use Rattle.law_model.specs.Common.{Leg, leg_of, segments, Extent, Lost}
 use Rattle.law_model.specs.declared.script_types.Script.{Script}
 use Rattle.text_report.specs.ReportLines.{got_texts, refused_texts, total_text}
@@ -10,8 +10,8 @@ use Rattle.law_walk.specs.Common.{ConfirmsTrue}
 use Rattle.law_headline.specs.WalkTexts.{counts_in}
 
 -- ---- which frames
--- the rows that were taken carry a frame whole, and it is lost in none of the four ways: no failure cuts it off, and
--- none of it is needed to find the frames again after one
+-- the rows that were taken carry a frame whole, and it is lost in none of the four ways in which a failure costs a
+-- frame (`Lost`)
 pub record ComesThrough (leg : Leg) (rows : ℕ) (frame : Extent) : Type 0 where
   pub carried : frame.to ≤ place_after leg rows
   pub kept : ¬ Lost (segments (session_rows leg rows)) (session_extents leg) frame
@@ -37,12 +37,13 @@ pub record Reports (leg : Leg) (ticks rows : ℕ) (items : List Numbered) (text 
   pub lines : text
       ≡ got_texts (frames_of through) ++ refused_texts (refusals_among leg items)
       ++ total_text (totals_among leg ticks rows items)
+  -- as many as the line of totals says were got
+  pub counted : (totals_among leg ticks rows items).got ≡ length through
 
 -- THE HEADLINE. The frames that are written are, in order and each once, exactly those accepted frames that the taken
--- rows carry whole, except those that a declared failure costs, or finding the frames again after it in the one way
--- that
--- is stated. The premise is that what is confirmed first after each break is the place of a piece. Where no line has a
--- failure it isn't asked, and no frame is lost at all
+-- rows carry whole, except those that a declared failure costs, in the four ways of `Lost`; and the line of totals
+-- says how many they are. The premise is that what is confirmed first after each break is the place of a piece. Where
+-- no line has a failure it isn't asked, and no frame is lost at all
 pub record IsHeadline (leg : Leg) (ticks rows : ℕ) (items : List Numbered) (text : List ℕ) : Type 0 where
   pub tells : HasNoFailure leg ⊎ ConfirmsTrue leg rows → Reports leg ticks rows items text
   pub hitless : HasNoFailure leg →

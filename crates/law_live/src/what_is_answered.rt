@@ -8,7 +8,7 @@ ghost use Rattle.law_walk.specs.Common.{delivered_of, numbered, refusals_among};
 ghost use Rattle.law_live.specs.Common.{Agrees, IsWellSaid, Rises, Saying, answers, answers_from, frames_got};
 ghost use Rattle.law_live.specs.Common.{items_refused, live_counts, live_of, steps_made, times_told};
 
-/// Of any leg they tell the frames that its rows deliver, in order and each once, and each decision step once;
+/// Of any leg the answers tell the frames that its rows deliver, in order and each once, and each decision step once;
 /// and the ticks that are told with them lie between those made before and those made behind, and never fall. Of
 /// a leg that agrees with what was said these are the ticks that have passed, and the answers tell just those
 /// items that are refused, in order.

@@ -28,7 +28,7 @@ pub fn loss_law()
         deliver longest rows ≡ frames_kept (idle ∷ idle ∷ pieces) rows }
 {}
 
-/// Where each row is whole, they are all frames whose piece ends in the rows.
+/// Where each row is whole, the frames delivered are all those whose piece ends in the rows.
 pub fn whole_law()
     ensures { (longest : ℕ) (pieces : List Piece) (rows : List StreamRow) →
         longest ≤ 65531 → All (IsSentPiece longest) pieces → CarriesStream rows (idle ∷ idle ∷ pieces) →

@@ -6,7 +6,8 @@ ghost use Rattle.law_model.specs.packets.Packet.{covered_nibbles, packet_nibbles
 use check_nibbles::{crc8, nibble_hi, nibble_lo};
 use member_cells::Ctrl;
 
-/// A control packet, forward or return (G.7042). Its layout in nibbles is this project's own.
+/// A control packet, forward or return (G.7042). Its fields stand in the nibbles in which G.707 has them; ACT and CHG,
+/// in nibbles that it reserves, are this project's own.
 #[derive(Clone, Copy, Debug, PartialEq, Eq)]
 pub struct Packet {
     /// The statuses of eight members: a bit is 0 for OK and 1 for FAIL, and the most significant one is for

@@ -84,7 +84,8 @@ pub enum EventLine {
     Back(u32),
     /// The sink takes a row.
     Take(u32),
-    /// Each of them in turn.
+    /// All frames and commands that are due land; then a tick, a carry of each line, a return packet and a row are
+    /// tried once each.
     Round(u32),
     /// Rounds until all rows are taken.
     Drain,
@@ -104,7 +105,7 @@ impl Model for EventList {
 }
 
 /// Whether the sink goes on without some control packets, when a member goes out of use and comes back, and how many
-/// return packets tell all statuses: what the options of a script set. Timers are counted in packets of 16 frames, so
+/// return packets tell all statuses: what the options of a script set. Timers are counted in packets of 16 ticks, so
 /// in 2 ms.
 #[derive(Clone, Copy, Debug, PartialEq, Eq)]
 pub struct Options {
@@ -136,22 +137,22 @@ impl Default for Options {
     }
 }
 
-/// What a script configures: members are numbered from 0 as lines, and time is counted in frames of 125 microseconds.
+/// What a script configures: members are numbered from 0 as lines, and time is counted in ticks of 125 microseconds.
 #[derive(Drop)]
 pub struct Config {
     /// The number of lines, 1 to 128.
     pub lines: u8,
-    /// The delay of each line in frames, up to 2,047.
+    /// The delay of each line in ticks, up to 2,047.
     pub delays: Delays,
     /// The failures of each line.
     pub windows: WindowLists,
-    /// The return packets that are lost: from a number up to another.
+    /// The return packets that are lost: from a number on and before another.
     pub lost: LostList,
     /// The cells that a receive ring holds, 1 to 2,048.
     pub ring: u16,
     /// The packets between a return packet and the decision step that takes it, 1 to 512.
     pub lag: u16,
-    /// The frames of the session, 1 to 1,000,000.
+    /// The ticks of the session, 1 to 1,000,000.
     pub ticks: u32,
     /// The payload octets of a container: 2,340 of a VC-4, 756 of a VC-3.
     pub size: u16,

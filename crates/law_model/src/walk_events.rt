@@ -9,7 +9,8 @@ pub enum Event {
     Command,
     /// The source makes a container for each line.
     Tick,
-    /// A line, by number from 0, carries a container; after the last one it lets out what one more would.
+    /// A line, by number from 0, carries a container; after the last one it gives those still under way, one a carry,
+    /// and then the end.
     Carry(u8),
     /// A return packet comes to the source.
     Back,
@@ -20,7 +21,7 @@ pub enum Event {
 /// Why an event moved nothing.
 #[derive(Clone, Copy, Debug, PartialEq, Eq)]
 pub enum StallCause {
-    /// Nothing is left: no item of its kind, no tick, no cell of the line, no row.
+    /// Nothing is left: no item of its kind, no tick, no cell of the line, no row; or there is no such line.
     Done,
     /// The next item lands when `due` ticks are made.
     NotDue { due: u32 },

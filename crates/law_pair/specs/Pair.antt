@@ -10,7 +10,8 @@ use Rattle.law_model.specs.declared.script_types.Script.{Script}
 use Rattle.law_model.specs.session.Scenario.{packets_in}
 
 -- ---- what two scripts have to meet
--- no return packet of a script is lost by itself, and it says nothing of the order of events
+-- no return packet of a script is lost by itself, and it says nothing of the order of events. A way has twice its lag,
+-- and a lag is at most 512
 pub record IsWay (script : Script) : Type 0 where
   pub valid : IsValid script
   pub near : script.config.lag ≤ 256

@@ -16,8 +16,8 @@ pub enum PairEvent {
     Item(Way),
     /// The source of each way makes a container for each of its lines.
     Tick,
-    /// A line of a way, by number from 0, carries a container; after the last one it lets out what one
-    /// more would.
+    /// A line of a way, by number from 0, carries a container; after the last one it gives those still
+    /// under way, one a carry, and then the end.
     Carry(Way, u8),
     /// The sink of a way takes a row: it pops cells, line by line, until each line decides it.
     Take(Way),

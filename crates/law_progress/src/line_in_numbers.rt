@@ -11,7 +11,7 @@ ghost use Rattle.law_progress.specs.Progress.{IsPath, IsPlan};
 ghost use Rattle.law_progress.specs.AskedOfLines.{IsDecided, CanRun};
 
 /// The lines of a script in numbers. What their cells decide is what has a verdict; with the slip of its
-/// windows a line is a path of the law above; and delays, slips and a lag that pass the tests of a script are
+/// windows a line is a path of `progress_law`; and delays, slips and a lag that pass the tests of a script are
 /// all that its walk needs.
 pub fn line_law()
     ensures decided { (carries : ℕ → Carried) (containers : List Container) (delay y t : ℕ) →

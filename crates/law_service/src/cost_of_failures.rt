@@ -1,7 +1,7 @@
 //! The laws of what a failure costs: how many rows, whatever its length, and when the line is in use again.
 //! There is no code here. Begin at `cost_law`; `exact_law` is what it stands on, and `closed_law` has the rows
 //! in numbers alone. `settled_law` says when no change is made, `met_law` shows a leg that meets what is asked,
-//! and `worked_law` that the bounds are reached.
+//! and `worked_law` legs in which what failures cost ends as late as it can.
 
 ghost use Rattle.std.specs.Prelude.{◌≡◌, ◌↔◌, ℕ, ◌+◌, ◌-◌, ◌*◌, ◌<◌, ◌≤◌, min, true, false, Some, slice_get};
 ghost use Rattle.std.specs.Prelude.{[], ◌∷◌};
@@ -20,11 +20,12 @@ ghost use Rattle.law_service.specs.cost_of_failures.CostInNumbers.{WereUsed, IsH
 ghost use Rattle.law_service.specs.cost_of_failures.Settled.{IsSettled, MakesNoChange};
 ghost use Rattle.law_service.specs.cost_of_failures.WorkedCosts.{costly_leg, dearest_leg, used_in_rows};
 
-/// Which rows failures cost, if each line fails once at most and one line doesn't fail: however long a line
-/// fails, none but those of a round of statuses, of the lag and of the hold-off from its begin on; and if it
-/// fails shortly, none beyond 39 rows after its end. So much it costs if lines fail together. A line that has an
-/// SQ carries payload again 23 ticks, a round of statuses, the lag and the restore after its end, and each other
-/// line a round, the lag and the restore after the begin.
+/// Which rows before a horizon failures cost, if each line fails once at most, one line doesn't fail, and no
+/// return packet is lost and no change made meanwhile: however long a line fails, none but those of a round of
+/// statuses, of the lag and of the hold-off from its beginning on; and if it fails for a short time, none beyond
+/// 39 rows after its end. So much it costs if lines fail together. A line that has an SQ and fails carries payload
+/// again 23 ticks, a round of statuses, the lag and the restore after its end, and each other line that has one a
+/// round, the lag and the restore after the beginning.
 pub fn cost_law()
     ensures rows { (leg : Leg) (from horizon t : ℕ) → IsSound leg → FailsOnce leg from horizon →
         ((line : ℕ) (window : Window) → FailsBy (windows_of leg line) window from horizon →
@@ -115,7 +116,7 @@ pub fn settled_law()
         ≡ (table_at leg from).count }
 {}
 
-/// A leg that meets what is asked above: a line is down for 489 containers, and the other one isn't.
+/// A leg that meets what is asked above: a line fails for 489 containers, and the other one doesn't.
 pub fn met_law()
     ensures sound { IsSound costly_leg }
     ensures settled { IsSettled costly_leg 536 1400 }
@@ -124,9 +125,10 @@ pub fn met_law()
     ensures were { WereUsed costly_leg 536 1400 }
 {}
 
-/// That leg, computed: neither number can be less. Rows 536 to 823 aren't whole, and the line carries payload
-/// again from row 1336 on. And so with timers: rows 488 to 823 aren't whole, of which 48 are those of the
-/// hold-off, and the line carries payload again 391 rows after its end, of which 80 are those of the restore.
+/// That leg, computed: neither row can be sooner. Row 823 isn't whole, row 824 is, and the line doesn't carry
+/// payload in row 1335 and does in row 1336. And so with timers: rows 488 and 823 aren't whole, and row 824 is. Of
+/// the 336 from 488 to 823, 48 are those of the hold-off. The line carries payload again 391 rows after its end,
+/// of which 80 are those of the restore.
 pub fn worked_law()
     ensures rows { cost_end costly_leg 536 1025 ≡ 824 }
     ensures spoiled { whole_rows costly_leg (535 ∷ 536 ∷ 823 ∷ 824 ∷ [])

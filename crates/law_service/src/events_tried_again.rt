@@ -28,9 +28,8 @@ pub fn turns_law()
         + 2 * length leg.config.windows + length leg.items }
 {}
 
-/// Turns, computed: of one line, 41 ticks and two items. Tried in the order that is the least use, each turn but
-/// the first moves what the one before it left; and with no return packet tried, ticks end for good, after
-/// however many turns: with as many as the bound 24 rows are taken.
+/// Turns, computed: of one line, 41 ticks and two items. Tried in the order of least use, all rows are taken by
+/// turn 46, and not by turn 45; and with no return packet tried, after 209 turns, the bound, 24 rows are taken.
 pub fn worked_turns_law()
     ensures tries { TriesEach walked_plan backwards }
     ensures bound { bound walked_plan ≡ 209 }

@@ -7,7 +7,7 @@ ghost use Rattle.law_walk.specs.Common.{session_rows, session_pieces, walk_plan}
 ghost use Rattle.fate_engine.specs.Common.{fate_of, fate_at};
 ghost use Rattle.law_service.specs.KeptFates.{Keeps, fates_after, first_fates, next_fates, last_fates};
 
-/// More rows take nothing back: a frame that is got, cut, sought through or unsettled by some rows is the same by
+/// More rows take nothing back: a frame that is got, cut, hunting or unsettled by some rows is the same by
 /// more of them, and has the same rows; and one in whose segment nothing was confirmed stays so, or begins before
 /// what is confirmed there by then. That is so of any stream and rows, of the accepted frames of a session, and
 /// of those of a walk after more events.

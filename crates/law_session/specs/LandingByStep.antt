@@ -15,7 +15,7 @@ AreOrdersInOrder orders = IsNonDecreasingBy (λ (order : DueCommand). order.due)
 abbrev pub AreOffersInOrder : List DueFrame → Type 0
 AreOffersInOrder offers = IsNonDecreasingBy (λ (offer : DueFrame). offer.due) offers
 
--- an order lands before step j - 1, or between it and step j - 1, so that step j finds it
+-- an order lands before step j - 1, so that this step or one before it finds it
 abbrev pub is_landed : ℕ → DueCommand → Bool
 is_landed j order = nat_le (order.due + 8) (16 * j)
 

@@ -9,8 +9,8 @@ abbrev pub with_timers : ℕ → ℕ → Scenario → Scenario
 with_timers holdoff restore scenario =
     record scenario { options = record { infers = false; holdoff = holdoff; restore = restore; statuses = 16 } }
 
--- the failure of the second line spoils two packets: a hold-off of one packet is too short for it, and it goes out and
--- comes back as with none
+-- the failure of the second line spoils three packets, 63 to 65: a hold-off of one packet is too short for it, and it
+-- goes out and comes back as with none
 abbrev pub short_holdoff : Scenario
 short_holdoff = with_timers 1 0 failing_line
 
@@ -21,7 +21,7 @@ short_holdoff_shown =
     ∷ (80, member_of 0 normal ∷ member_of 1 unused ∷ [], None, 0)
     ∷ (81, member_of 0 normal ∷ member_of 1 normal ∷ [], None, 0) ∷ []
 
--- one of two packets holds it
+-- with one of two packets the line is down in packet 65 alone, in which nothing is said of it: so it stays in use
 abbrev pub long_holdoff : Scenario
 long_holdoff = with_timers 2 0 failing_line
 

@@ -6,7 +6,7 @@ ghost use Rattle.law_model.specs.Common.{IsFewest, payload_of, frames_before};
 ghost use Rattle.law_session.specs.ReturnedCells.{AgreeBefore};
 
 /// The client's stream. Each accepted frame is begun or waits, in order; the pieces are the fewest that reach
-/// the place at which the next frame begins, so that each frame has all octets that it carries; and more
+/// the place at which the next tick begins, so that each tick has all octets that it carries; and more
 /// return cells after a list change nothing of what was sent before.
 pub fn client_law()
     ensures frames { (scenario : Scenario) (cells : List (Option Told)) (t : ℕ) →

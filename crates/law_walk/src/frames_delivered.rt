@@ -11,7 +11,7 @@ ghost use Rattle.law_walk.specs.Promise.{accepted_frames, session_pieces, place_
 
 /// The frames of the rows that were taken: what a sink makes of them by the cells that were popped is what
 /// the rows of the session give, more rows add frames and change none of those before, and no sound leg
-/// gives more than its lines carry octets.
+/// gives more than 299,520,000,000 frames, the octets of 128 lines of VC-4 in 1,000,000 ticks.
 pub fn frames_law()
     ensures received { (leg : Leg) (s : Counts) (n : ℕ)
         (receive : Option (List ℕ) → StreamRow) → CanWalk leg → IsWalked leg s → IsReceived receive → n ≤ s.rows →

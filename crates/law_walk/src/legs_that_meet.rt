@@ -12,9 +12,9 @@ ghost use Rattle.law_walk.specs.WorkedLegs.{near_leg, near_rows, near_whole};
 ghost use Rattle.law_walk.specs.Promise.{accepted_frames, ConfirmsTrue, FailsAlone};
 ghost use Rattle.law_walk.specs.LandedOfLeg.{refusals_of, totals_of};
 
-/// Legs that meet what is asked above. In one, whose only line fails, what is confirmed after each break
-/// is the place of a piece, and the line was added undamaged before that; in another a line is added beside
-/// one of which nothing arrives; and in one a container of one of two lines fails alone.
+/// Legs that meet what `failure_law`, `member_law` and `near_law` ask. In one, whose only line fails, what is
+/// confirmed after each break is the place of a piece, and the line was added undamaged before that; in another a
+/// line is added beside one of which nothing arrives; and in one a container of one of two lines fails alone.
 pub fn met_law()
     ensures failing { IsSound failing_leg }
     ensures starts { ConfirmsTrue failing_leg failing_leg.config.ticks }

@@ -60,7 +60,8 @@ pub fn walk_law()
         ≡ told_first leg s.backs }
 {}
 
-/// The last decision step: which it is, which return cell it took, and the table after it.
+/// The last decision step: which it is, which return cell the next one needs, and the table after it. Which return
+/// packet a row ends; one that came was ended by a row that was taken.
 pub fn step_law()
     ensures last { (t : ℕ) →
         last_packet (t + 1) ≡ (if t % 16 == 8 then Some (t / 16) else last_packet t) }

@@ -31,9 +31,9 @@ pub fn clear_law()
 {}
 
 /// With `sink infers` a failure of one line alone costs little. Where the other lines have no failure from the
-/// packet on that governs a row, the line has none from the multiframe on in which the row's container comes,
-/// and no change was made since a packet of the line could be read, the row is whole. So a failure that stands
-/// alone spoils no row from 17 after its end on.
+/// packet on that governs row t, the line has none from the multiframe of container t - 2 on, and no change was
+/// made since a packet of the line could be read, the row is whole. So a failure that stands alone spoils no row
+/// from 17 after its end on.
 pub fn near_law()
     ensures near { (leg : Leg) (line t : ℕ) → IsSound leg → leg.config.options.infers ≡ true →
         24 ≤ t →

@@ -1,4 +1,4 @@
-//! Containers, and the cells in which they come (G.707).
+//! Containers (G.707), and the cells in which they come, which are this project's own.
 ghost use Rattle.std.specs.Prelude.{◌≡◌};
 
 /// The payload octets of a VC-4 of one frame.

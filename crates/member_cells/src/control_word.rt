@@ -13,7 +13,7 @@ pub enum Ctrl {
     Norm,
     /// The member carries payload, and has the highest sequence number of those that do.
     Eos,
-    /// The line is not a member of the group.
+    /// The line is not a member of the group, or is being removed from it.
     Idle,
     /// The member carries no payload, since the sink reports its failure.
     Dnu,

@@ -1,4 +1,5 @@
-//! What a line carries: containers and cells (G.707), and the control words of LCAS with their codes (G.7042).
+//! What a line carries: containers (G.707), cells, which are this project's own, and the control words of LCAS with
+//! their codes (G.7042).
 //! Begin with `Cell` and `Ctrl`; `HeldContainer` is a place for a container, which is written in that place.
 //! `payload_law`: a container has room for 2,340 octets. What containers hold, and what comes of them on a
 //! line, is not said here.

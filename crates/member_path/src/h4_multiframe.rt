@@ -1,7 +1,7 @@
 //! The multiframe of virtual concatenation (G.707): the H4 octet of a frame, and the lock of a line on the
 //! octets that come, which is this project's own. Begin with `h4` and `MfiLock`. Numbers are known modulo
-//! 4,096 here; which frame of all a cell has is not said, nor what a packet says. `place_law`: a cell is one
-//! of Locks, At and Unknown, whatever comes after it. The lock is this project's own: it takes two octets,
+//! 4,096 here; which frame of all a cell has is not said, nor what a packet says. `place_law`: a cell is at
+//! most one of Locks, At and Unknown, whatever comes after it. The lock is this project's own: it takes two octets,
 //! and one that doesn't fit loses it.
 
 ghost use Rattle.std.specs.Prelude.{◌≡◌, ℕ, ◌+◌, ◌*◌, ◌%◌, ◌<◌, List, [], ◌∷◌, ◌++◌, length, Option, Some, None};
@@ -31,7 +31,7 @@ pub enum Place {
     At(u16),
 }
 
-/// A cell is one of these, with one number; and more cells after it change nothing of what it is.
+/// A cell is at most one of these, with one number; and more cells after it change nothing of what it is.
 pub fn place_law()
     ensures only { (cells : List (Option ℕ)) (place : ℕ) (a b : PlaceData) →
         IsPlace cells place a → IsPlace cells place b → a ≡ b }

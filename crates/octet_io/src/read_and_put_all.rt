@@ -35,8 +35,9 @@ pub fn put_all<K: ByteSink>(sink: &mut K, piece: &[u8]) -> Result<(), Failed>
     Ok(())
 }
 
-/// Reads a source to its end, as long as it gives at most `limit` octets. It is `TooLong` once more came. The
-/// first call that fails is the last one that is made. After an error the octets that came are lost.
+/// Reads a source to its end, as long as it gives at most `limit` octets. It is `TooLong` as soon as more have come.
+/// The first call that fails is the last one that is made. After an error the octets that came are lost, and no clause
+/// says how many came.
 pub fn read_all<S: ByteSource>(
     alloc: Global,
     source: &mut S,

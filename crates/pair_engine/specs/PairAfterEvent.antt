@@ -95,7 +95,7 @@ pub record SameRows (before later : Paired) : Type 0 where
   pub there : later.counts.there.rows ≡ before.counts.there.rows
   pub back : later.counts.back.rows ≡ before.counts.back.rows
 
--- no rows were given back
+-- neither way has fewer rows taken than before
 pub record MoreRows (before later : Paired) : Type 0 where
   pub there : before.counts.there.rows ≤ later.counts.there.rows
   pub back : before.counts.back.rows ≤ later.counts.back.rows

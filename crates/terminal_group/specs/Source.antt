@@ -34,12 +34,12 @@ pub record IsUnused (leg : Leg) (source : Source) : Type 0 where
   pub landed : source.landed ≡ none_landed (bare_items leg.items)
   pub inbox : source.inbox ≡ empty_inbox leg.config.lost leg.config.lag
 
--- ---- why no frame is made
+-- ---- why no row is made
 -- the least item that is due now and hasn't landed
 abbrev pub held_in : Source → Option ℕ
 held_in source = held source.core.ticks source.landed.frames source.landed.commands 0 (dues_of source.landed.items)
 
--- before its rings are looked at: no tick is left, or an item is held
+-- apart from a return cell that is missing: no tick is left, or an item is held
 abbrev pub early_in : Source → Option EarlyCause
 early_in source = if nat_le source.total source.core.ticks then Some Done else option_map Held (held_in source)
 

@@ -20,7 +20,7 @@ enum BareKind {
 
 /// An item without the octets of its frame, in eight octets.
 #[derive(Drop)]
-pub struct BareItem {
+pub(crate) struct BareItem {
     /// The tick from which on it may land.
     due: u32,
     kind: BareKind,
@@ -37,7 +37,7 @@ impl Model for BareItem {
 
 impl BareItem {
     /// The item without the octets of its frame.
-    pub fn of(item: &Item) -> BareItem
+    pub(crate) fn of(item: &Item) -> BareItem
         ensures { result ≡ bare item.now }
     {
         let kind = match item.kind {
@@ -52,14 +52,14 @@ impl BareItem {
     }
 
     /// After how many ticks it lands.
-    pub fn due(&self) -> u32
+    pub(crate) fn due(&self) -> u32
         ensures { result ≡ self.now.due }
     {
         self.due
     }
 
     /// Whether it is a frame.
-    pub fn is_frame(&self) -> bool
+    pub(crate) fn is_frame(&self) -> bool
         ensures { result ≡ is_frame self.now.kind }
     {
         match self.kind {

@@ -22,7 +22,7 @@ use terminal_source::lcas_source::SourceTable;
 use terminal_source::source_core::{Command, Packet, SourceCore};
 
 /// The source side of a group of which nobody says beforehand what lands. It takes the client's frames and the
-/// operator's commands as they come, and makes a frame at each tick. Of what has landed it keeps counts alone.
+/// operator's commands as they come, and makes a row at each tick. Of what has landed it keeps counts alone.
 /// Only its making takes memory.
 #[derive(Drop)]
 pub struct CountedSource {
@@ -144,7 +144,7 @@ impl CountedSource {
         why
     }
 
-    /// The return cell that the next frame needs, where the inbox holds none.
+    /// The return cell that the next tick needs, where the inbox holds none.
     pub fn missing(&self) -> Option<u32>
         ensures { result ≡ missing_from self.now }
     {
@@ -155,8 +155,8 @@ impl CountedSource {
     }
 
     /// Has the packets of the next decision step pass on a return packet that is said of the other way of a
-    /// pair. Where the call isn't made between two steps they tell nothing, and where it is made again the last
-    /// one counts.
+    /// pair. Where the call isn't made between two steps they say MST 0, which reads as eight OKs, and RS-Ack 0;
+    /// where it is made again the last one counts.
     pub fn tell(&mut self, packet: Packet)
         ensures made { (scenario : Scenario) (cells : List (Option Told)) →
             HasMade self.old.core scenario cells →
@@ -169,7 +169,7 @@ impl CountedSource {
         self.core.tell(packet);
     }
 
-    /// Makes the next frame, a container for each line, and takes the return cell that it needs, where it needs one.
+    /// Makes the next row, a container for each line, and takes the return cell that it needs, where it needs one.
     pub fn make(&mut self, frame: &mut Vec<Box<HeldContainer>>) -> Option<BackCell>
         requires places { length frame.old.items ≡ self.old.core.lines }
         requires left { self.old.core.ticks < self.old.total }

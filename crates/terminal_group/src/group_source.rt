@@ -24,10 +24,10 @@ use std::marker::Model;
 use terminal_source::lcas_source::SourceTable;
 use terminal_source::source_core::Packet;
 
-/// Why a source makes no frame, before any ring is looked at.
+/// Why a source makes no row, apart from a return cell that is missing.
 #[derive(Clone, Copy, Debug, PartialEq, Eq)]
 pub enum EarlyCause {
-    /// All frames are made.
+    /// All ticks are made.
     Done,
     /// The least item that is due now and hasn't landed.
     Held {
@@ -37,7 +37,7 @@ pub enum EarlyCause {
 }
 
 /// The source side of a group. It takes the client's frames and the operator's commands in the order of its
-/// items, each kind by itself, and makes a frame at each tick; what is due at a tick lands before it. Only
+/// items, each kind by itself, and makes a row at each tick; what is due at a tick lands before it. Only
 /// its making takes memory.
 #[derive(Drop)]
 pub struct GroupSource {
@@ -159,7 +159,7 @@ impl GroupSource {
         }
     }
 
-    /// The return cell that the next frame needs, where the inbox holds none.
+    /// The return cell that the next tick needs, where the inbox holds none.
     pub fn missing(&self) -> Option<u32>
         ensures { result ≡ missing_in self.now }
     {
@@ -167,8 +167,8 @@ impl GroupSource {
     }
 
     /// Has the packets of the next decision step pass on a return packet that is said of the other way of a
-    /// pair. Where the call isn't made between two steps they tell nothing, and where it is made again the last
-    /// one counts.
+    /// pair. Where the call isn't made between two steps they say MST 0, which reads as eight OKs, and RS-Ack 0;
+    /// where it is made again the last one counts.
     pub fn tell(&mut self, packet: Packet)
         ensures made { (scenario : Scenario) (cells : List (Option Told)) →
             HasMade self.old.core scenario cells →
@@ -181,7 +181,7 @@ impl GroupSource {
         self.source.tell(packet);
     }
 
-    /// Makes the next frame, a container for each line, and takes the return cell that it needs, where it needs one.
+    /// Makes the next row, a container for each line, and takes the return cell that it needs, where it needs one.
     pub fn make(&mut self, frame: &mut Vec<Box<HeldContainer>>) -> Option<BackCell>
         requires places { length frame.old.items ≡ self.old.core.lines }
         requires early { early_in self.old ≡ None }

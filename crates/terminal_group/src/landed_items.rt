@@ -58,7 +58,7 @@ impl Model for Landing {
 
 impl Landing {
     /// Nothing of these items has landed.
-    pub fn new(alloc: Global, items: &[Item]) -> Result<Landing, AllocError>
+    fn new(alloc: Global, items: &[Item]) -> Result<Landing, AllocError>
         requires few { length items.now ≤ longest_input }
         requires frames { IsNonDecreasing (frame_dues (dues_of items.now)) }
         requires commands { IsNonDecreasing (command_dues (dues_of items.now)) }

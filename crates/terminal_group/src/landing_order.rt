@@ -8,7 +8,7 @@ ghost use Rattle.terminal_group.specs.ItemPlaces.{is_frame, is_command, place_of
 use crate::bare_item::BareItem;
 
 /// The place of the first frame from a place on, or the number of items where there is none.
-pub fn next_frame(items: &[BareItem], from: usize) -> usize
+pub(crate) fn next_frame(items: &[BareItem], from: usize) -> usize
     requires { from ≤ length items.now }
     ensures { result ≡ from + place_of is_frame 0 (drop from items.now) }
 {
@@ -21,7 +21,7 @@ pub fn next_frame(items: &[BareItem], from: usize) -> usize
 }
 
 /// The place of the first command from a place on, or the number of items where there is none.
-pub fn next_command(items: &[BareItem], from: usize) -> usize
+pub(crate) fn next_command(items: &[BareItem], from: usize) -> usize
     requires { from ≤ length items.now }
     ensures { result ≡ from + place_of is_command 0 (drop from items.now) }
 {
@@ -34,7 +34,7 @@ pub fn next_command(items: &[BareItem], from: usize) -> usize
 }
 
 /// The least item that is due now and hasn't landed, where the next frame and the next command stand at these places.
-pub fn held_item(items: &[BareItem], frame: usize, command: usize, ticks: u32) -> Option<u32>
+pub(crate) fn held_item(items: &[BareItem], frame: usize, command: usize, ticks: u32) -> Option<u32>
     requires { length items.now ≤ longest_input }
     ensures { (a b : ℕ) → IsNonDecreasing (frame_dues (dues_of items.now)) →
         IsNonDecreasing (command_dues (dues_of items.now)) →

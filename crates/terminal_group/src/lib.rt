@@ -15,12 +15,10 @@ mod landed_items;
 mod landing_order;
 mod return_inbox;
 
-pub use bare_item::BareItem;
 pub use counted_source::CountedSource;
 pub use group_laws::source_law;
 pub use group_source::{EarlyCause, GroupSource};
 pub use item_ref::{ItemRef, handed};
 pub use landed_counts::LandedCounts;
 pub use landed_items::Landing;
-pub use landing_order::{held_item, next_command, next_frame};
 pub use return_inbox::Inbox;

@@ -6,8 +6,7 @@ ghost use Rattle.law_model.specs.Common.{Row, carriers_of, sink_state};
 ghost use Rattle.member_rows.specs.vcat_interleave.MemberPayloads.{AreLines};
 ghost use Rattle.terminal_sink.specs.member_watch.Watches.{AreWatched};
 ghost use Rattle.terminal_sink.specs.known_carriers.Supposed.{norm_at, supposed_by, supposed_packets, is_worded};
-ghost use Rattle.terminal_sink.specs.known_carriers.Supposed.{are_all_worded};
-ghost use Rattle.terminal_sink.specs.known_carriers.Supposed.{is_worded, are_all_worded, inferred_by};
+ghost use Rattle.terminal_sink.specs.known_carriers.Supposed.{are_all_worded, inferred_by};
 ghost use Rattle.terminal_sink.specs.lcas_sink.SinkStates.{state_at};
 
 use crate::active_lines::{find_active, leading_act};

@@ -72,7 +72,7 @@ impl Model for SinkTable {
 
 impl SinkTable {
     /// The table of a group of `lines` lines, up to 128, of which no packet was read. By `options` a line goes down
-    /// and comes up, and all statuses are told.
+    /// and comes up, all statuses are told, and the sink goes on or stops where a packet is missing.
     pub fn new(lines: u8, options: Options) -> SinkTable
         requires lines { lines ≤ 128 }
         requires options { IsOptions options }

@@ -98,8 +98,8 @@ impl MarkedDelineator {
         step
     }
 
-    /// Takes octets as a `Delineator` does, at least one where there is one, and only one while nothing is
-    /// confirmed. The answer is their number, and what the last of them completed.
+    /// Takes octets as a `Delineator` does, at least one where there is one. The answer is their number, and what the
+    /// last of them completed.
     pub fn feed(&mut self, piece: &[u8]) -> (usize, Step)
         ensures within { result.0 ≤ length piece.now }
         ensures none { (result.0 ≡ 0) ↔ (length piece.now ≡ 0) }

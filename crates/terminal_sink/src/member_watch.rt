@@ -18,8 +18,8 @@ pub struct MemberTimers {
 }
 
 impl MemberTimers {
-    /// Those of a line of which no packet has come: it isn't up yet, and for the restore packets before packet 0
-    /// count as read.
+    /// Those of a line of which no packet has come: it isn't up yet, and for the wait to restore, packets
+    /// before packet 0 count as read.
     fn new(options: Options) -> MemberTimers
         requires { IsOptions options }
         ensures { (read : ℕ → Bool) → TimersStand options read 0 result }

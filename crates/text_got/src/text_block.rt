@@ -83,10 +83,11 @@ impl TextBlock {
         put_all(out, &self.octets[..end])
     }
 
-    /// Puts all that waits.
+    /// Puts all that waits. After it nothing waits, also where the put failed.
     pub fn put<K: ByteSink>(&mut self, out: &mut K) -> Result<(), Failed>
         ensures ok { OnOk result (Appends K.written K.faults out.old out.new self.old) }
         ensures err { OnErr result (AppendsPart K.written K.faults out.old out.new self.old) }
+        ensures empty { self.new ≡ [] }
     {
         let end = self.len;
         self.len = 0;

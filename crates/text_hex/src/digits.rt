@@ -1,4 +1,4 @@
-//! A digit's character and its value, without a table and without a branch, of one digit and of sixteen.
+//! A digit's character and its value, of one digit and of sixteen.
 
 ghost use Rattle.std.specs.Prelude.{◌≡◌, ◌⊎◌, ℕ, ◌<◌, ◌≤◌, length, nat_lt, Some, true, false, slice_index};
 ghost use Rattle.hex.specs.Hex.{lower_digits, hex_digit_value, is_hex_digit};

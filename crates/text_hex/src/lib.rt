@@ -1,5 +1,5 @@
-//! Octets to hexadecimal text and back, by loops that a compiler can make vectors of: for long lines, of which
-//! the crate `hex` takes several times as long. What a text says is as that crate has it, in either case of
+//! Octets to hexadecimal text and back, sixteen at a time, in vectors: for long lines, of which the crate `hex`
+//! takes several times as long. What a text says is as that crate has it, in either case of
 //! letters. It tells no wrong digit's place. Begin with `encode` and `decode_into`.
 #![tactic(auto)]
 

@@ -26,7 +26,7 @@ pub enum LineKind {
     /// A value is outside its range, or there are too many lines of a kind.
     #[error("range")]
     Range,
-    /// The line has to stand before one that comes before it.
+    /// The line has to stand before one that comes before it, or the lines before it leave no room for it.
     #[error("order")]
     Order,
     /// Another line has to stand here.

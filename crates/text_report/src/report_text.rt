@@ -2,7 +2,7 @@
 ghost use Rattle.std.specs.Prelude.{◌≡◌, ◌+◌, ◌*◌, ◌≤◌, length, take};
 ghost use Rattle.text_report.specs.TextCursor.{Extends, HasTextRoom};
 ghost use Rattle.text_report.specs.ReportLines.{got_text, accept_fault_text, command_fault_text};
-ghost use Rattle.text_report.specs.ReportLines.{refused_text, total_text};
+ghost use Rattle.text_report.specs.ReportLines.{refusal_text, refused_text, total_text};
 
 use crate::text_cursor::TextCursor;
 use law_model::{AcceptFault, CommandFault, LONGEST_FRAME, Refusal, Totals};
@@ -19,7 +19,7 @@ pub const TOTAL_ROOM: usize = 128;
 /// Writes the line of a delivered frame: `got`, a space, and two lower-case digits for each octet.
 pub fn got_line(frame: &[u8], out: &mut [u8]) -> usize
     requires room { 2 * length frame.now + 5 ≤ length out.old }
-    ensures within { result ≡ 2 * length frame.now + 5 }
+    ensures size { result ≡ 2 * length frame.now + 5 }
     ensures line { take result out.new ≡ got_text frame.now }
 {
     let mut line = TextCursor::new(out);
@@ -39,12 +39,21 @@ pub fn refused_line(item: u32, why: &Refusal, out: &mut [u8]) -> usize
     line.text(b"refused ");
     line.decimal(item);
     line.text(b" ");
-    match *why {
-        Refusal::Frame(fault) => add_accept_fault(&mut line, fault),
-        Refusal::Command(fault) => line.text(command_fault_words(fault)),
-    }
+    add_refusal(&mut line, *why);
     line.text(b"\n");
     line.end()
+}
+
+/// Adds why an item is refused.
+pub fn add_refusal(line: &mut TextCursor, why: Refusal)
+    requires { HasTextRoom line.old 27 }
+    ensures text { Extends line.old line.new (refusal_text why) }
+    ensures end { line.new.at ≤ line.old.at + 27 }
+{
+    match why {
+        Refusal::Frame(fault) => add_accept_fault(line, fault),
+        Refusal::Command(fault) => line.text(command_fault_words(fault)),
+    }
 }
 
 /// Adds why a frame is refused.

@@ -1,6 +1,6 @@
 //! Scripts: the reader of their text, and two that make scripts from a number, a load and a client at a rate.
 //! What comes of a script isn't said here. Begin with `script_read::ScriptReader`; the language is the
-//! definition `config_of` in `specs/script_read`.
+//! definition `script_of` in `specs/script_read`.
 //!
 //! - `script_read`: reads a script: the text that says what network, operator and client of a session do.
 //! - `make_load`: makes the script of a load from a number: lines whose delays are drawn, all added at once,

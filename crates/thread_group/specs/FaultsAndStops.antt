@@ -1,4 +1,4 @@
--- What it means that an item isn't accepted, and that no ring stops a tick.
+-- What it means that an item isn't accepted, and that something else than a ring stops a tick.
 use Rattle.std.specs.Prelude.{Bool, true, false, Option, Some, None}
 use Rattle.law_model.specs.declared.item_refusals.Refusal.{Refusal}
 use Rattle.law_model.specs.declared.item_refusals.Refusal.TheVariants.{Frame as frame_refused, Command as command_refused}
@@ -41,7 +41,7 @@ is_full (Some (Frame why)) = false
 is_full (Some (Command why)) = false
 is_full (Some (JournalFull entries bytes)) = true
 
--- the answer of a tick that no ring stops
+-- the answer of a tick that something else than a ring stops: the last one was made, or an item holds it
 abbrev pub stop_of : EarlyCause → TickAnswer
 stop_of Early_done = Done
 stop_of (Early_held item) = Held item

@@ -147,7 +147,7 @@ pub record GroupStands (g : GroupState) : Type 0 where
   pub ahead : AreAhead (dues_of (items_of g)) (ticks_of g) (frames_of g) (commands_of g)
   pub behind : AreBehind (dues_of (items_of g)) (ticks_of g) (frames_of g) (commands_of g)
 
--- ---- an item that is handed in
+-- ---- an item that is submitted
 abbrev pub is_number : Option ℕ → ℕ → Bool
 is_number None number = false
 is_number (Some next) number = next == number

@@ -18,7 +18,7 @@ use Rattle.thread_group.specs.Group.{taken_of, source_of, replay_of, GroupStands
 use Rattle.thread_group.specs.Group.{with_landed, SameRings, SameLanded, is_ticked, held_of, IsFreeToTick, AreMoved}
 use Rattle.thread_group.specs.Group.{IsMissing, ArePushedOf, NothingPushed}
 
--- an item was handed in, which isn't accepted for this fault, or is accepted. A fault by which it hasn't landed changes
+-- an item was submitted, which isn't accepted for this fault, or is accepted. A fault by which it hasn't landed changes
 -- nothing
 pub record Submits (a b : GroupState) (number : ℕ) (kind : ItemKind) (answer : Option SubmitFault) : Type 0 where
   pub fault : answer ≡ fault_in a number kind

@@ -52,7 +52,7 @@ abbrev pub octets_in : List DueFrame → ℕ
 octets_in offers = sum_by (λ (offer : DueFrame). length offer.frame) offers
 
 -- ---- the group
--- an item that is handed in is the one of its number in the leg, where there is one
+-- an item that is submitted is the one of its number in the leg, where there is one
 abbrev pub IsItemOf : Leg → ℕ → ItemKind → Type 0
 IsItemOf leg number kind = (item : Item) → slice_get leg.items number ≡ Some item → kind ≡ item.kind
 

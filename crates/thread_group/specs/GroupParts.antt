@@ -59,7 +59,7 @@ AreDue items entries = (i : ℕ) (entry : Numbered) → slice_get entries i ≡ 
 abbrev pub ArePast : ℕ → List Numbered → Type 0
 ArePast ticks entries = (i : ℕ) (entry : Numbered) → slice_get entries i ≡ Some entry → entry.item.due ≤ ticks
 
--- the source refuses an item for this cause when it is due, after so many of these entries: what was handed in is of
+-- the source refuses an item for this cause when it is due, after so many of these entries: what was submitted is of
 -- the item's kind
 pub record IsRefused (scenario : Scenario) (cells : List (Option Told)) (items : List Item) (entries : List Numbered)
     (number : ℕ) (why : Refusal) : Type 0 where

@@ -47,7 +47,7 @@ pub(crate) fn refused(why: Refusal) -> SubmitFault
     }
 }
 
-/// The answer of a tick that no ring stops.
+/// The answer of a tick that something else than a ring stops.
 pub(crate) fn stopped(cause: EarlyCause) -> TickAnswer
     ensures { result ≡ stop_of cause }
 {

@@ -17,7 +17,7 @@ pub enum Who {
 
 /// Where workers pass, so that something outside can hold them up or note that they moved. Both calls return.
 pub trait Gate: Sync {
-    /// Called before each burst of a worker, and before each call of the group.
+    /// Called before each burst of a worker, and before each turn at the group, which has one call of it or many.
     fn pass(&self, who: Who);
 
     /// Called after each of those that moved.

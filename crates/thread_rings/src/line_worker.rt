@@ -110,7 +110,6 @@ impl LineWorker {
         ensures most { carries_of self.new ≤ carries_of self.old + 16 }
         ensures done { (result ≡ Burst.Done) ↔ Contains (out_passed self.old.producer) Cell.End }
         ensures still { result ≡ Burst.Done → self.new ≡ self.old }
-        ensures kept { result ≡ Burst.Done → last_raised self.new ≡ last_raised self.old }
         ensures empty { result ≡ Burst.Idle IdleCause.Empty → WasEmpty self.old self.new }
         ensures full { result ≡ Burst.Idle IdleCause.Full → WasFull self.old self.new }
         ensures later { IsLater self.old self.new }

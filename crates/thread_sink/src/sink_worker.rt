@@ -95,9 +95,10 @@ impl SinkWorker {
         })
     }
 
-    /// Passes the gate, and then takes up to 16 rows as far as cells and slots are there. Of each frame that
-    /// comes through the line is written on `out`. After a write that failed nothing more is written, then or
-    /// later, and rows are taken as before.
+    /// Passes the gate, and then pops cells and takes rows as far as cells and slots are there: up to 16 rows, in
+    /// 4,096 steps at most. One cell is popped or one row taken where that can be, and no clause says that more
+    /// are. Of each frame that comes through the line is written on `out`. After a write that failed nothing
+    /// more is written, then or later, and rows are taken as before.
     pub fn burst<K: ByteSink, G: Gate>(&mut self, out: &mut K, gate: &G) -> SinkBurst
         ensures stands { SinkWorkerStands self.old → SinkWorkerStands self.new }
         ensures sent { SinkWorkerStands self.old →

@@ -1,25 +1,24 @@
 -- A line carries, by its numbers: why it stalls, what the send rings hold (HasSent), what a carry leaves.
 use Rattle.std.proofs.Common.{◌≡◌, ◌≢◌, ℕ, zero, suc, ◌+◌, ◌-◌, ◌%◌, min, take, None, ◌<◌, ◌≤◌, List, [], ◌∷◌, map}
 use Rattle.std.proofs.Common.{length, slice_get, slice_set, slice_index_or, Some, refl, sym, ◌∙◌, ap, subst, arith}
-use Rattle.std.proofs.Common.{inl, inr, swap, length-set, option_map, ◌&&◌, nat_le, nat_lt, true, false, drop, Option}
+use Rattle.std.proofs.Common.{inl, inr, swap, length-set, option_map, ◌&&◌, nat_le, nat_lt, true, false, Option}
 use Rattle.std.specs.Global.{Vec, Box}
 use Rattle.std.proofs.lemmas.Bool.{cases_eq, cases_lt, cases_Bool, lt-leb, lt-ltb, le-ltb}
 use Rattle.std.proofs.lemmas.List.{length-map, map-set, get_or-set_same, length-take}
-use Rattle.std.proofs.lemmas.Option.{get_or_from_slice_get, slice_get_within, slice_get_past, slice_get-map, same_Some}
-use Rattle.std.proofs.lemmas.List.FromFn.{take-map-range_with_len}
+use Rattle.std.proofs.lemmas.Option.{get_or_from_slice_get, slice_get_within, slice_get-map, same_Some}
 use Rattle.std.proofs.lemmas.List.Edits.{length-swap}
-use Rattle.law_model.proofs.ListLaws.{slice_get-drop, at-index}
-use Rattle.law_model.specs.Common.{Scenario, scenario_by, session_cells, container_of, Container, Leg, LineCounts}
+use Rattle.law_model.proofs.ListLaws.{at-index}
+use Rattle.law_model.specs.Common.{scenario_by, session_cells, container_of, Container, Leg, LineCounts}
 use Rattle.law_model.specs.Common.{frame_of, carried_by, cells, LinePath, Plan, Counts, Step, step, carry_at, carry_on}
 use Rattle.law_model.specs.Common.{in_send, in_receive, IsSound}
-use Rattle.law_terminal.proofs.ContainerPayloadLaws.{container-at, containers-size, range-at}
-use Rattle.law_walk.specs.Common.{send_by, sent_at, sent_on, counts_at, walk_plan, CanWalk, cells_on, popped_on}
-use Rattle.law_walk.specs.Common.{popped_cells, delay_on, taken_by, cells_by, receive_by, path_on}
-use Rattle.law_walk.proofs.WalkRingAndWaitingTakeLaws.{send-size, taken-cells, taken-next, receive-size}
+use Rattle.law_terminal.proofs.ContainerPayloadLaws.{containers-size, range-at}
+use Rattle.law_walk.specs.Common.{sent_at, sent_on, counts_at, walk_plan, CanWalk, cells_on, popped_on}
+use Rattle.law_walk.specs.Common.{popped_cells, delay_on, taken_by, cells_by, path_on}
+use Rattle.law_walk.proofs.WalkRingAndWaitingTakeLaws.{taken-cells, taken-next, receive-size}
 use Rattle.circular_buffer.proofs.Places.{slice_get-some, slice_get-set_same, slice_get-set_other}
 use Rattle.walk_engine.specs.Common.{Ringed, line_counts, frame_in, HasSent, IsCarriedAt, ring_of, answer_by, moved_of}
 use Rattle.walk_engine.specs.Common.{counts_after, Parts, counts_of, calls_on, HasLine, carry_cause, CanCarry}
-use Rattle.walk_engine.specs.Common.{IsSentOn, AgreesAt, IsKnownOn, calls_of, send_ring, receive_ring, windows_in}
+use Rattle.walk_engine.specs.Common.{IsSentOn, AgreesAt, IsKnownOn, calls_of, windows_in}
 use Rattle.walk_engine.specs.Common.{windows_of, Makes, Walking, LiveStands}
 use Rattle.std.proofs.Math.Seq.{map-set_same}
 use Rattle.law_model.specs.declared.walk_events.StallCause.{StallCause}
@@ -37,26 +36,10 @@ use Rattle.law_session.proofs.ClientStreamAndReplayLaws.{map-same}
 use Rattle.walk_engine.specs.declared.walk_core.step_answers.Moved.TheVariants.{Yes, Stalled}
 use Rattle.walk_engine.specs.walk_core.WayParts.{WayStands}
 use Rattle.walk_engine.specs.walk_core.Carry.{HasReceiveRoom}
-use Rattle.walk_engine.proofs.WayEventAndToldSourceLaws.{walk-fits, walked-next, source-stays, counted-stays}
+use Rattle.walk_engine.proofs.WayEventAndToldSourceLaws.{walked-next, source-stays, counted-stays}
 use Rattle.walk_engine.proofs.WayEventAndToldSourceLaws.{sink-stays, set-each}
 
 -- ---- What the send rings hold while lines carry, and where the places of two frames change their containers.
--- ---- what waits in the send ring of a line
-pub waits-none : (leg : Leg) (m n x k : ℕ) → n ≤ leg.config.ticks → n - min x leg.config.ticks ≤ k →
-    slice_get (send_by leg m n x) k ≡ None
-waits-none leg m n x k low past =
-    slice_get_past (send_by leg m n x) k (let size = send-size leg m n x low in omega (arith, size, past))
-
-pub waits-some : (leg : Leg) (m n x k t : ℕ) → n ≤ leg.config.ticks → k < n - min x leg.config.ticks →
-    t ≡ min x leg.config.ticks + k → slice_get (send_by leg m n x) k ≡ Some (sent_at leg m t)
-waits-some leg m n x k t low inside is =
-    let scenario : Scenario = scenario_by leg in
-    let made : List Container = take n (sent_on scenario m) in
-    slice_get-drop made (min x leg.config.ticks) k ∙ ap (slice_get made) (sym is)
-    ∙ ap (λ xs. slice_get xs t)
-    (take-map-range_with_len (container_of scenario (session_cells scenario) m) 0 leg.config.ticks n low)
-    ∙ container-at scenario (session_cells scenario) m n t (omega (arith, inside, is))
-
 -- ---- lines that have carried more
 pub sent-later : (leg : Leg) (ticks : ℕ) (counts more : List LineCounts) (sent : List (List Container)) →
     HasSent leg ticks counts sent →
@@ -595,52 +578,14 @@ module _ (leg : Leg) (backs : ℕ) (parts : Parts) (is : WayStands leg backs par
       let room = fits.receive in
       below line.given (line.popped + ring_of line) (omega (arith, a, b, room)) apart
 
-  -- ---- what waits in the rings of the line
+  -- the containers that it has carried were made
   pub sends-made : min line.carried leg.config.ticks ≤ parts.source.core.ticks
   sends-made = fits-line.sent
-
-  few-ticks : parts.source.core.ticks ≤ leg.config.ticks
-  few-ticks = (walk-fits leg (counts_of parts backs) is.sound is.walked).ticks
-
-  here-counts : counts_at (map line_counts parts.lines) m ≡ line_counts line
-  here-counts = counts-of parts.lines m line there
-
-  pub sends-none : (k : ℕ) → in_send leg.config.ticks parts.source.core.ticks (line_counts line) ≤ k →
-      None ≡ slice_get (send_ring leg (counts_of parts backs) m) k
-  sends-none k past =
-      sym (ap (λ (l : LineCounts). slice_get (send_by leg m parts.source.core.ticks l.carried) k) here-counts
-      ∙ waits-none leg m parts.source.core.ticks line.carried k few-ticks past)
-
-  pub sends-some : (k t : ℕ) → k < in_send leg.config.ticks parts.source.core.ticks (line_counts line) →
-      t ≡ min line.carried leg.config.ticks + k →
-      (sent : List (Vec (Box Container))) → map frame_in sent ≡ parts.sent →
-      (row : Vec (Box Container)) → slice_get sent (t % 32) ≡ Some row → (box : Box Container) →
-      slice_get row.items m ≡ Some box →
-      Some box.value ≡ slice_get (send_ring leg (counts_of parts backs) m) k
-  sends-some k t inside is_place sent same row at box own =
-      let few = few-ticks in
-      let send = fits-line.send in
-      let carried = ap (λ (l : LineCounts). l.carried) here-counts in
-      let held_all = subst (HasSent leg parts.source.core.ticks (map line_counts parts.lines)) (sym same) is.sent in
-      let waits = is-sent leg parts.source.core.ticks (map line_counts parts.lines) sent m t held_all low
-      (omega (arith, carried, inside, is_place, few)) (λ left. omega (arith, inside, is_place))
-      (λ left. omega (arith, send, is_place)) in
-      sym (map-get (λ (b : Box Container). b.value) row.items m box own)
-      ∙ waits (omega (arith, inside, is_place, few)) row at
-      ∙ sym (ap (λ (l : LineCounts). slice_get (send_by leg m parts.source.core.ticks l.carried) k) here-counts
-      ∙ waits-some leg m parts.source.core.ticks line.carried k t few-ticks inside is_place)
 
   pub known-on : CanCarry line parts.source.core.ticks → IsKnownOn leg m line
   known-on can left =
       is.agrees line.carried (can.wet left) m low
       ∙ ap (λ w. carried w line.carried) (windows-at parts.lines m line there)
-
-  pub receives-are : (k : ℕ) → slice_get (drop line.popped (path_cells (calls_of leg m line))) k
-      ≡ slice_get (receive_ring leg (counts_of parts backs) m) k
-  receives-are k =
-      ap (λ cells. slice_get (drop line.popped cells) k)
-      (path-same leg m line (is.lines.each m line there) ∙ cells-are leg m line.carried)
-      ∙ sym (ap (λ (l : LineCounts). slice_get (receive_by leg m l.carried l.popped) k) here-counts)
 
 -- ---- What a carry of a line leaves of one direction, where the line was read at its number.
 -- a line that has carried one container more, of the send rings as they were and as they are

@@ -5,6 +5,5 @@ pub mod Carry
 pub mod OpenedWay
 pub mod Landing
 pub mod Take
-pub mod WaitingInRings
 pub mod EventAnswers
 pub mod LiveWalking

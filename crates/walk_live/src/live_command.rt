@@ -10,8 +10,8 @@ use octet_io::{ByteSink, ByteSource};
 use std::alloc::{AllocError, Global};
 
 /// Answers a live text, with a line for each decision step where they are asked. A line is answered once its LF has
-/// come, and what is answered to the lines that have come is put on `out` before more is read. Memory is taken only
-/// before anything is written.
+/// come, and what is answered to the lines that have come is put on `out` before more is read. Want of memory is
+/// told only before anything is written.
 pub fn live<S: ByteSource, K: ByteSink>(
     alloc: Global,
     steps: bool,

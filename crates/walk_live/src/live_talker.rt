@@ -26,7 +26,7 @@ use text_got::TextBlock;
 use text_live::{LiveLine, LiveReader};
 use text_report::{TOTAL_ROOM, total_line};
 
-/// Reads a live text, and has a walk from its first live line on. Then it takes no more memory.
+/// Reads a live text, and has a walk from its first live line on.
 #[derive(Drop)]
 pub(crate) struct LiveTalker {
     /// Whether decision steps are told.

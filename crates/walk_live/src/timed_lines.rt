@@ -26,7 +26,7 @@ pub(crate) struct TimedLines<'a, K> {
 }
 
 impl<'a, K: ByteSink> TimedLines<'a, K> {
-    /// What waits is to be written first.
+    /// Writes lines with this number of ticks, behind what waits in `block`.
     pub(crate) fn new(ticks: u32, block: &'a mut TextBlock, out: &'a mut K) -> TimedLines<'a, K>
         ensures out { out_of result ≡ out.entry.ghost_name }
         ensures block { block_of result ≡ block.entry.ghost_name }

@@ -1,4 +1,4 @@
--- `check`: a script's walk, and what in the script has no effect or was refused.
+-- `check`: a script's walk, and what in the script is unused, idle, early or refused.
 use Rattle.std.specs.Prelude.{ℕ, List, codes, Option, Some, None, if◌then◌else◌}
 use Rattle.law_model.specs.session.Leg.{leg_of}
 use Rattle.law_headline.specs.WalkTexts.{counts_in}

@@ -1,4 +1,4 @@
-//! `check`: a script's walk is made, and what in the script has no effect or was refused is written.
+//! `check`: a script's walk is made, and what in the script is unused, idle, early or refused is written.
 ghost use Rattle.std.specs.Prelude.{◌≡◌, map, string_bytes};
 ghost use Rattle.command_parts.specs.Task.{reads};
 ghost use Rattle.command_parts.specs.Ends.{lent};
@@ -24,7 +24,7 @@ pub fn words(words: &[String]) -> Option<WalkCommand>
     }
 }
 
-/// Reads a script, makes its walk and writes what in the script has no effect or was refused. All memory is
+/// Reads a script, makes its walk and writes what in the script is unused, idle, early or refused. All memory is
 /// taken before the first octet is written.
 pub fn check<S: ByteSource, K: ByteSink>(
     alloc: Global,

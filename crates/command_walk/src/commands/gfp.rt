@@ -1,4 +1,5 @@
-//! `gfp`: a script's walk is made, and the GFP frames of its client are written as a capture, as the source sent them.
+//! `gfp`: a script's walk is made, and the GFP frames of its client that the taken rows carry are written as a capture,
+//! as they are before scrambling.
 ghost use Rattle.std.specs.Prelude.{◌≡◌, map, string_bytes};
 ghost use Rattle.command_parts.specs.Task.{reads};
 ghost use Rattle.command_parts.specs.Ends.{lent};

@@ -30,8 +30,8 @@ struct Packet {
 
 /// The packets of a group in their order: packet `k` governs rows `16 k + 24` to `16 k + 39`, and the rows
 /// before have no octets. A contract sees the octets of payload that a line has in a row, the active lines
-/// under each packet, and of the first packets whether the sink knows these lines: that is decided only when
-/// the packet's last row is taken.
+/// under each packet, and of the first packets whether the sink knows these lines: that is decided once row
+/// `16 k + 23` is taken, with which packet `k` ends.
 #[derive(Drop)]
 pub struct Packets {
     size: u16,

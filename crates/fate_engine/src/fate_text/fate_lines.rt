@@ -7,8 +7,8 @@ ghost use Rattle.fate_engine.specs.fate_law.FateText.{cause_text, spoiled_text, 
 ghost use Rattle.fate_engine.specs.fate_text.FateLineText.{told_text, told_segment, item_text, last_text};
 
 use crate::fate_law::{Cause, Fate, RowSegment, SpoiledRun};
-use law_model::{AcceptFault, CommandFault, Refusal};
-use text_report::TextCursor;
+use law_model::Refusal;
+use text_report::{TextCursor, add_refusal};
 
 /// Room for a line, in octets.
 pub const ROOM: usize = 192;
@@ -126,34 +126,6 @@ pub fn segment_line(segment: RowSegment, mark: Option<ToldMark>, out: &mut [u8])
     line.end()
 }
 
-/// Adds why a frame's length or the queue refuses it.
-fn add_accept_fault(line: &mut TextCursor, fault: AcceptFault)
-    requires { HasTextRoom line.old 27 }
-    ensures text { Extends line.old line.new (refusal_text (Refusal.Frame fault)) }
-    ensures end { line.new.at ≤ line.old.at + 27 }
-{
-    match fault {
-        AcceptFault::Length { n } => {
-            line.text(b"length ");
-            line.decimal(n);
-        }
-        AcceptFault::QueueFull { .. } => line.text(b"queue"),
-    }
-}
-
-/// The words of why a command is refused.
-fn command_words(fault: CommandFault) -> &'static [u8]
-    ensures words { result.now ≡ refusal_text (Refusal.Command fault) }
-    ensures short { length result.now ≤ 10 }
-{
-    match fault {
-        CommandFault::UnknownLine { .. } => b"unknown",
-        CommandFault::AlreadyIn => b"already in",
-        CommandFault::NotIn => b"not in",
-        CommandFault::TooManyPending { .. } => b"pending",
-    }
-}
-
 /// Adds that an item is refused, and why.
 pub fn add_refused(line: &mut TextCursor, why: Refusal)
     requires { HasTextRoom line.old 35 }
@@ -161,10 +133,7 @@ pub fn add_refused(line: &mut TextCursor, why: Refusal)
     ensures end { line.new.at ≤ line.old.at + 35 }
 {
     line.text(b"refused ");
-    match why {
-        Refusal::Frame(fault) => add_accept_fault(line, fault),
-        Refusal::Command(fault) => line.text(command_words(fault)),
-    }
+    add_refusal(line, why);
 }
 
 /// Adds what became of a frame.

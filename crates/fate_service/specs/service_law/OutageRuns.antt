@@ -8,13 +8,17 @@ use Rattle.fate_engine.specs.declared.fate_law.Fate.TheVariants.{Waits, Cut, Unc
 use Rattle.fate_engine.specs.fate_law.SessionFates.{fate_at}
 use Rattle.fate_service.specs.declared.landed_frames.CarriedFrame.{CarriedFrame}
 use Rattle.fate_service.specs.declared.outages.Outage.{Outage}
-use Rattle.fate_service.specs.RowStates.{state_of, states_of, is_dark}
+use Rattle.fate_service.specs.RowStates.{state_of, states_of, is_dark, is_spoiled}
 use Rattle.fate_service.specs.Outages.{outages_of, next_first}
 
 -- ---- rows
 -- a row of a stream is of no use
 abbrev pub dark_row : List StreamRow → ℕ → Bool
 dark_row rows t = is_dark (state_of rows t)
+
+-- it isn't whole
+abbrev pub spoiled_row : List StreamRow → ℕ → Bool
+spoiled_row rows t = is_spoiled (state_of rows t)
 
 abbrev pub row_outages : List StreamRow → List Outage
 row_outages rows = outages_of (states_of rows)
@@ -61,7 +65,7 @@ is_unsettled (Hunting r q) = false
 is_unsettled (Unsettled r q) = true
 is_unsettled (Got r q) = false
 
--- an accepted frame begins in a row behind the one with which an outage has ended, and ends before the next outage
+-- an accepted frame begins in a row behind the first one after an outage, and ends before the next outage
 pub record LiesBetween (pieces : List Piece) (rows : List StreamRow) (number i : ℕ) : Type 0 where
   pub outage : Outage
   pub there : slice_get (row_outages rows) number ≡ Some outage

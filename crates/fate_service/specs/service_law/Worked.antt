@@ -1,5 +1,5 @@
 -- Worked walks, and outages of worked rows.
-use Rattle.std.specs.Prelude.{ℕ, List, [], ◌∷◌, ◌++◌, length, replicate, codes}
+use Rattle.std.specs.Prelude.{ℕ, List, [], ◌∷◌, ◌++◌, length, replicate, codes, option_to_list}
 use Rattle.std.specs.List.{flat_map}
 use Rattle.law_model.specs.declared.script_types.Item.{Item}
 use Rattle.law_model.specs.declared.script_types.ItemKind.TheVariants.{Frame, Add}
@@ -10,7 +10,7 @@ use Rattle.law_loss.specs.WorkedLosses.{worked_pieces, worked_rows}
 use Rattle.law_walk.specs.WorkedLegs.{item, plain}
 use Rattle.fate_engine.specs.fate_law.Fates.{fate_of}
 use Rattle.fate_service.specs.declared.landed_frames.CarriedFrame.{CarriedFrame}
-use Rattle.fate_service.specs.FrameColumns.{carried_if, listed}
+use Rattle.fate_service.specs.FrameColumns.{carried_if}
 use Rattle.fate_service.specs.service_law.LinesAsNumbers.{OutageLine, outage_lines}
 use Rattle.fate_service.specs.service_law.OutageRuns.{row_outages}
 
@@ -73,7 +73,7 @@ late_text =
 -- ---- outages of the worked rows of losses, and what its frames are lost in
 abbrev pub worked_carried : List CarriedFrame
 worked_carried =
-    flat_map (λ (e : Extent). listed (carried_if 0 (length e.frame) (fate_of worked_pieces worked_rows e)))
+    flat_map (λ (e : Extent). option_to_list (carried_if 0 (length e.frame) (fate_of worked_pieces worked_rows e)))
     (extents 0 worked_pieces)
 
 abbrev pub worked_outages : List OutageLine

@@ -9,8 +9,8 @@ use Rattle.fate_engine.specs.fate_core.Segments.{SegmentsStand}
 use Rattle.fate_walks.specs.walk_fates.PacketsAndRuler.{Governs}
 use Rattle.fate_walks.specs.declared.walk_fates.seen_rows.SeenRows.{SeenRows}
 
--- the packets whose decision steps some ticks made, and the first rows of a leg's session; of each packet whose rows
--- were all taken, whether the sink knows which lines carry payload under it
+-- the packets whose decision steps some ticks made, and the first rows of a leg's session; of each packet that ends
+-- with one of these rows, whether the sink knows which lines carry payload under it
 pub record Sees (leg : Leg) (ticks rows : ℕ) (seen : SeenRows) : Type 0 where
   pub packets : Governs leg ticks seen.packets
   pub known : length seen.packets.known ≡ packets_in rows

@@ -2,7 +2,6 @@
 //! the sink knows them once it has that packet, whether the row that was taken is whole and why not, and what
 //! is confirmed after it.
 ghost use Rattle.std.specs.Prelude.{◌≡◌, ◌+◌, ◌≤◌, length, OnOk, OnErr};
-ghost use Rattle.std.specs.Bool.{OnTrue, OnFalse};
 ghost use Rattle.law_model.specs.Common.{Leg, leg_of, IsValid};
 ghost use Rattle.law_model.specs.session.Scenario.{packets_in};
 ghost use Rattle.law_walk.specs.Common.{IsWalked};
@@ -11,6 +10,7 @@ ghost use Rattle.fate_walks.specs.walk_fates.Seen.{Sees};
 
 use fate_engine::fate_core::{Packets, Ruler, Segments, SpoiledRuns, row_cause};
 use std::alloc::{AllocError, Global};
+use terminal_sink::sink_core::ends_packet;
 use walk_engine::walk_core::{Walk, is_step};
 
 /// What was seen of the packets and rows of a walk.
@@ -33,16 +33,8 @@ pub struct SeenWalk {
     pub ruler: Ruler,
 }
 
-/// Whether a row is the last one of a control packet.
-fn ends_packet(row: u32) -> bool
-    ensures yes { OnTrue result (packets_in (row + 1) ≡ packets_in row + 1) }
-    ensures no { OnFalse result (packets_in (row + 1) ≡ packets_in row) }
-{
-    row >= 23 && row % 16 == 7
-}
-
-/// Sees whether the sink knows which lines carry payload under a packet, if the row that was taken last is the
-/// packet's last one.
+/// Sees whether the sink knows which lines carry payload under a packet, if the packet ends with the row that
+/// was taken last.
 fn see_known(walk: &Walk, row: u32, packets: &mut Packets) -> Result<(), AllocError>
     requires last { row + 1 ≡ walk.now.counts.rows }
     requires packets { Governs (leg_of walk.now.script) walk.now.counts.ticks packets.old }

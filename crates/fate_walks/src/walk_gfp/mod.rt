@@ -1,7 +1,7 @@
-//! The GFP frames of a walk's client, as the source sent them, are written as a capture: each accepted frame
-//! that the taken rows carry, with the row of its last octet, or a prefix of that if a write fails. No turn is
-//! made here, and no frame is copied. Begin with `write_gfp`; `carried_law` says which frames these are, and
-//! that their headers are the stream's.
+//! The GFP frames of a walk's client, as they are before scrambling, are written as a capture: each accepted
+//! frame that the taken rows carry, with the row of its last octet, or a prefix of that if a write fails. No
+//! turn is made here, and no frame is copied. Begin with `write_gfp`; `carried_law` says which frames these
+//! are, and that their core headers are the stream's, but for B6 AB 31 E0.
 
 ghost use Rattle.std.specs.Prelude.{◌≡◌, List, map, length, take, drop, Contains};
 ghost use Rattle.law_model.specs.Common.{Piece, frames_by, stream_of, StreamRow, octets_of_rows, Extent, extents};

@@ -1,4 +1,4 @@
--- What a run has in hand, and what was received so far, as private clauses say it.
+-- What a run has in hand, as it is made and written, and what was received so far, as private clauses say it.
 use Rattle.std.specs.Prelude.{◌≡◌, ℕ, ◌+◌, ◌-◌, nat_le, Bool, true, false, List, [], ◌∷◌, ◌++◌, length, take, drop}
 use Rattle.std.specs.Prelude.{Option, if◌then◌else◌, flat_map}
 use Rattle.law_model.specs.Common.{Start, Segment}

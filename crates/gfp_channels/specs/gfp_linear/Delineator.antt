@@ -11,12 +11,12 @@ use Rattle.gfp_channels.specs.declared.gfp_linear.linear_delineator.LinearStep.{
 use Rattle.gfp_channels.specs.declared.gfp_linear.linear_delineator.LinearStep.TheVariants.{Nothing, Frame, Dropped}
 use Rattle.law_model.specs.Common.{longest_extended_area}
 
--- how far a receiver is, and whether the last octet that it was given completed the frame in the area that it keeps
+-- how far a receiver is, and whether the last `byte` or `feed` completed the frame in the area that it keeps
 pub record LinearReceiver : Type 0 where
   pub progress : Progress
   pub holds : Bool
 
--- the frame that the last octet completed
+-- the frame that the last `byte` or `feed` completed
 abbrev pub frame_of : LinearReceiver → Option (List ℕ)
 frame_of receiver =
     if receiver.holds && nat_le 8 (length receiver.progress.area) then Some (drop 8 receiver.progress.area) else None

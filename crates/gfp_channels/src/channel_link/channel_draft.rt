@@ -8,7 +8,7 @@ use std::marker::Model;
 /// A frame that a client offers.
 #[derive(Drop)]
 pub struct Offer {
-    /// The number of its channel, which there may not be.
+    /// The number of its channel, which may be one that there isn't.
     pub cid: u8,
     /// Its octets.
     pub frame: Octets,

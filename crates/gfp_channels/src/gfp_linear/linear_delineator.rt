@@ -44,7 +44,7 @@ impl LinearStep {
 #[derive(Drop)]
 pub struct LinearDelineator {
     receiver: AreaReceiver,
-    /// Whether the last call completed the frame in the area that the receiver holds.
+    /// Whether the last `byte` or `feed` completed the frame in the area that the receiver holds.
     holds: bool,
 }
 
@@ -84,7 +84,7 @@ impl LinearDelineator {
         step
     }
 
-    /// The frame that the last octet completed.
+    /// The frame that the last `byte` or `feed` completed.
     pub fn frame(&self) -> &[u8]
         requires { IsSome (frame_of self.now) }
         ensures { frame_of self.now ≡ Some result.now }

@@ -28,7 +28,7 @@ pub struct LinearQueue {
     queues: Vec<FrameStore<MAX_WAITING>>,
     // The channels with a frame, by rising number.
     busy: Vec<u8>,
-    // The channel with which the next round begins.
+    // The channel from which the next turn is looked for.
     next: u16,
     begun: BegunFrame,
 }
@@ -90,7 +90,9 @@ impl LinearQueue {
         let at = usize::from(cid);
         let was_silent = self.queues[at].is_empty();
         if !self.queues[at].push(frame) {
-            return Err(ChannelFault::QueueFull { waiting: 16 });
+            return Err(ChannelFault::QueueFull {
+                waiting: MAX_WAITING as u16,
+            });
         }
         if was_silent {
             let place = count_below(self.busy.as_slice(), u16::from(cid));

@@ -1,8 +1,9 @@
 //! Client frames of channels that share a stream by linear extension headers (G.7041): the queues of the
 //! channels, from which a `Filler` of gfp_fill writes their stream in turns that go round them, and the receiver
 //! that tells the channel of each frame. What a frame is on the stream, what comes of one, and whose turn it is
-//! stands in gfp_model's `specs/linear_model`. Begin with `LinearQueue` and `LinearDelineator`. Whether an offered
-//! frame is refused depends on its channel alone; `turns_law`: turns lose and reorder no frame of a channel.
+//! stands in gfp_model's `specs/linear_model`. Begin with `LinearQueue` and `LinearDelineator`. Whether an
+//! offered frame is refused depends on its length, on how many channels there are, and on what waits of its own
+//! channel; `turns_law`: turns lose and reorder no frame of a channel.
 
 ghost use Rattle.std.specs.Prelude.{◌≡◌, ◌<◌, ◌≤◌, ℕ, List, ◌∷◌, ◌++◌, length, replicate, true, false, Some, None};
 ghost use Rattle.law_model.specs.Limits.{shortest_frame, longest_frame};
@@ -14,7 +15,7 @@ mod busy_channels;
 mod linear_delineator;
 mod linear_queue;
 
-pub use gfp_model::linear_model::{ChannelFault, CidFault, LinearWhy};
+pub use gfp_model::linear_model::{ChannelFault, LinearWhy};
 pub use law_model::TypeFault;
 pub use linear_delineator::{LinearDelineator, LinearStep};
 pub use linear_queue::LinearQueue;

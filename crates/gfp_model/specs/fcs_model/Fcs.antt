@@ -1,5 +1,6 @@
--- A client frame with a frame check sequence (FCS) behind it, and what comes of its area. Where the FCS stands and
--- the order of its bits are this project's own.
+-- A client frame with a frame check sequence (FCS) behind it, and what comes of its area. In G.7041 the payload FCS is
+-- a CRC-32 over the payload information field, whose most significant bit is sent first. That a frame has at least
+-- four octets is this project's own.
 use Rattle.std.specs.Prelude.{ℕ, ◌-◌, ◌/◌, ◌%◌, ◌^◌, ◌==◌, nat_lt, if◌then◌else◌, Bool, true, false, List, [], ◌∷◌}
 use Rattle.std.specs.Prelude.{◌++◌, length, take, drop, Option, Some, None, bytes_eq}
 use Rattle.law_model.specs.Common.{number, octet_bits, hec_of, type_field, type_check, longest_extended_area}

@@ -10,8 +10,8 @@ use Rattle.gfp_model.specs.declared.linear_model.ChannelFault.TheVariants.{Unkno
 abbrev pub most_of_channel : ℕ
 most_of_channel = 16
 
--- the frames that wait, of each channel oldest first, by the number of the channel; and the channel with which the next
--- round begins
+-- the frames that wait, of each channel oldest first, by the number of the channel; and the channel from which the
+-- next turn is looked for
 pub record Channels : Type 0 where
   pub waiting : List (List (List ℕ))
   pub next : ℕ
@@ -35,7 +35,7 @@ abbrev pub or_else : Option ℕ → Option ℕ → Option ℕ
 or_else None other = other
 or_else (Some cid) other = Some cid
 
--- the first channel with a frame, counted round from the one with which the round begins
+-- the first channel with a frame, counted round from the one from which the turn is looked for
 abbrev pub turn : Channels → Option ℕ
 turn channels =
     or_else (first_busy channels.next (drop channels.next channels.waiting))

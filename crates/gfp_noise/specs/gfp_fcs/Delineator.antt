@@ -16,7 +16,7 @@ use Rattle.gfp_noise.specs.declared.gfp_fcs.fcs_delineator.FcsStep.TheVariants.{
 abbrev pub fcs_outcomes : List ℕ → List FcsOutcome
 fcs_outcomes octets = outcomes_with head near fcs_outcome true octets
 
--- how far a receiver is, and whether the last octet that it was given completed the frame in the area that it keeps
+-- how far a receiver is, and whether the last `byte` or `feed` completed the frame in the area that it keeps
 pub record FcsReceiver : Type 0 where
   pub progress : Progress
   pub holds : Bool
@@ -25,7 +25,7 @@ pub record FcsReceiver : Type 0 where
 abbrev pub info_of : List ℕ → List ℕ
 info_of area = take (length area - 8) (drop 4 area)
 
--- the frame that the last octet completed
+-- the frame that the last `byte` or `feed` completed
 abbrev pub frame_of : FcsReceiver → Option (List ℕ)
 frame_of receiver =
     if receiver.holds && nat_le 12 (length receiver.progress.area) then Some (info_of receiver.progress.area) else None

@@ -44,7 +44,7 @@ impl FcsStep {
 #[derive(Drop)]
 pub struct FcsDelineator {
     receiver: AreaReceiver,
-    /// Whether the last call completed the frame in the area that the receiver holds.
+    /// Whether the last `byte` or `feed` completed the frame in the area that the receiver holds.
     holds: bool,
 }
 
@@ -83,7 +83,7 @@ impl FcsDelineator {
         step
     }
 
-    /// The frame that the last octet completed.
+    /// The frame that the last `byte` or `feed` completed.
     pub fn frame(&self) -> &[u8]
         requires { IsSome (frame_of self.now) }
         ensures { frame_of self.now ≡ Some result.now }

@@ -15,7 +15,6 @@ pub use fcs_delineator::{FcsDelineator, FcsStep};
 pub use fcs_encoder::FcsEncoder;
 pub use gfp_model::fcs_model::FcsWhy;
 pub use law_model::TypeFault;
-pub use payload_fcs::fcs;
 
 /// Worked: what each cause tells of an area.
 pub fn cause_law()

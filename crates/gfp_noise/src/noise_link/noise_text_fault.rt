@@ -3,7 +3,7 @@
 use text_help::OwnFault;
 use text_report::TextCursor;
 
-/// A flip doesn't turn over a bit behind that of the flip before, which is this one.
+/// A flip doesn't turn over a bit behind that of the flip before. What is told is the flip before.
 #[derive(Clone, Copy, Debug, PartialEq, Eq)]
 pub struct NotRising {
     /// The place of its octet.

@@ -11,7 +11,7 @@ use crate::noise_link::read_noise_line::{read_flip, read_frame};
 use std::alloc::Global;
 use text_lines::{LineStop, LineTable, TextFault, read_text};
 
-/// No memory holds a stream of more octets.
+/// Never reached by a text of at most 67,108,864 octets; it bounds the sums below.
 const LONGEST_STREAM: u64 = 1_000_000_000_000;
 
 impl LineTable for Draft {

@@ -2,9 +2,8 @@
 -- confirmed. Where
 -- the search goes on after four octets that were refused is this project's own rule.
 --
--- A reader of headers says which PLI four octets have, where they are a header. The reader of the standard is `head`.
--- The words
--- that end in `with` take any reader, and those without it are the same at `head`.
+-- A reader of headers says which PLI four octets have, where they are a header. `head` reads one that is right in all
+-- bits. The words that end in `with` take any reader, and those without it are the same at `head`.
 use Rattle.std.specs.Prelude.{ℕ, zero, suc, ◌+◌, nat_le, Bool, true, List, length, take, drop, Option, Some, None}
 use Rattle.std.specs.Prelude.{if◌then◌else◌}
 use Rattle.law_model.specs.frames.Core.{head}

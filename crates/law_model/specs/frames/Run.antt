@@ -6,9 +6,9 @@
 -- first of
 -- them. A segment is gone through in this way, from search to run and from run to search, until its octets end.
 --
--- The words that end in `with` take the reader of headers in HUNT and PRESYNC and the one in SYNC, which may read more
--- than the
--- standard's. Those without it are the same where both are `head`.
+-- The words that end in `with` take the reader of headers in HUNT and PRESYNC and the one in SYNC. `head` reads a
+-- header that is right in all bits; in SYNC the standard also reads one with one wrong bit. The words without `with`
+-- are the same where both are `head`.
 use Rattle.std.specs.Prelude.{ℕ, zero, suc, ◌+◌, nat_le, not, Bool, true, false, List, [], ◌∷◌, ◌++◌, length, take}
 use Rattle.std.specs.Prelude.{drop, Option, Some, None, if◌then◌else◌}
 use Rattle.law_model.specs.frames.Core.{head}

@@ -1,8 +1,6 @@
--- The control packet (G.7042): sixteen nibbles, which go in the upper halves of sixteen H4 octets from MFI1 8 on. Which
--- nibble
--- says what, with the number of active members (ACT) and the change bit (CHG) in nibbles that the standard reserves,
--- and the
--- details of the check are this project's own.
+-- The control packet (G.7042): sixteen nibbles, which go in the upper halves of sixteen H4 octets from MFI1 8 on. The
+-- fields stand where G.707 has them. The number of active members (ACT) and the change bit (CHG), in nibbles that the
+-- standard reserves, and the details of the check are this project's own.
 use Rattle.std.specs.Prelude.{ℕ, ◌+◌, ◌*◌, ◌/◌, ◌%◌, ◌<◌, ◌==◌, nat_lt, ◌&&◌, Bool, if◌then◌else◌, List, [], ◌∷◌, ◌++◌}
 use Rattle.std.specs.Prelude.{length, take, slice_index, Option, Some, None, Result, Ok, Err}
 use Rattle.std.specs.List.{list_all}

@@ -29,11 +29,11 @@ pub record FailsBy (windows : List Window) (window : Window) (from horizon : ℕ
 abbrev pub first_hit : ℕ → ℕ
 first_hit from = packets_in from
 
--- the table that governs row t
+-- the table that governs row t, of row 24 or later
 abbrev pub governing_table : Leg → ℕ → Table
 governing_table leg t = table_of (scenario_by leg) (session_of leg) ((t - 24) / 16)
 
--- the table before the first step that is made when a failure can have begun
+-- the table before the step that makes the first packet that can be hit
 abbrev pub table_at : Leg → ℕ → Table
 table_at leg from = table_before (scenario_by leg) (session_of leg) (first_hit from)
 

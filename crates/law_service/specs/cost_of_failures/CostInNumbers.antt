@@ -17,8 +17,8 @@ next_of leg sq from =
 abbrev pub first_told : Leg → Window → ℕ → ℕ
 first_told leg window sq = next_of leg sq (first_hit window.first + leg.config.options.holdoff)
 
--- before the first step that is made when a failure can have begun a line is in NORM; and it is up and has a word in
--- the packets whose statuses are still on the way
+-- before the step that makes the first packet that can be hit a line is in NORM; and it is up and has a word in the
+-- packets whose statuses are still on the way
 pub record WasUsed (leg : Leg) (from sq line : ℕ) : Type 0 where
   pub stands : slice_get (table_at leg from).order sq ≡ Some (member_of line normal)
   pub up : (k : ℕ) → k < first_hit from → first_hit from ≤ k + leg.config.lag →

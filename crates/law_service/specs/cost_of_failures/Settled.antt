@@ -6,8 +6,8 @@ use Rattle.law_session.specs.LineInUse.{IsAdded}
 use Rattle.law_walk.specs.Common.{session_of}
 use Rattle.law_service.specs.cost_of_failures.Cost.{first_hit, table_at}
 
--- before the first step that is made when a failure can have begun no command waits and no line is in ADD; and no
--- command lands from then on up to a horizon
+-- before the step that makes the first packet that can be hit no command waits and no line is in ADD; and no command
+-- lands from then on up to a horizon
 pub record IsSettled (leg : Leg) (from horizon : ℕ) : Type 0 where
   pub waits : (after (scenario_by leg) (session_of leg) (first_hit from)).waiting ≡ []
   pub adds : (line : ℕ) → IsAdded (table_at leg from) line → ⊥

@@ -1,4 +1,4 @@
--- A worked leg whose costs are the greatest that there are.
+-- Worked legs in which what failures cost ends as late as it can.
 use Rattle.std.specs.Prelude.{ℕ, List, [], ◌∷◌, map}
 use Rattle.law_model.specs.Common.{Leg, active, default_options}
 use Rattle.law_model.specs.declared.window_types.Window.{Window}

@@ -22,7 +22,7 @@ cut_by part Up = 0
 cut_by part Down = 0
 cut_by part (New p) = in_progress part
 
--- how many frames cut, from a part on
+-- how many VC-4s the frames cut, from a part on
 abbrev pub cuts_from : Part → List Action → ℕ
 cuts_from part [] = 0
 cuts_from part (a ∷ more) = cut_by part a + cuts_from (next_part part a) more
@@ -45,11 +45,12 @@ end_text frames begun back cut =
     codes "au4 frames " ++ decimal frames ++ codes " begun " ++ decimal begun ++ codes " back " ++ decimal back
     ++ codes " cut " ++ decimal cut ++ codes "\n"
 
--- a line for each VC-4 that comes whole, and the counts
+-- the counts
 abbrev pub counts_text : ℕ → List Action → List ℕ
 counts_text start actions =
     end_text (length actions) (begun (part_after start actions)) (length (back_of start actions)) (cuts start actions)
 
+-- a line for each VC-4 that comes whole, and the counts
 abbrev pub text_of : ℕ → List Action → List ℕ
 text_of start actions = vc_texts (back_of start actions) ++ counts_text start actions
 

@@ -8,8 +8,8 @@ unfoldable pub rising : ℕ → ℕ → List ℕ
 rising zero n = []
 rising (suc count) n = n % 256 ∷ rising count (n + 1)
 
--- the VC-4 of a number: the number in eight octets, and behind them at each place the octet that is the number and the
--- place
+-- the VC-4 of a number: the number in eight octets, and behind them at each place the sum of the number and the place,
+-- modulo 256
 unfoldable pub vc_of : ℕ → List ℕ
 vc_of i = to_be_bytes w64 i ++ rising 2341 (i + 8)
 

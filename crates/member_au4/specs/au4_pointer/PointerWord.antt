@@ -56,7 +56,7 @@ fault_after actions Up = too_soon (move_wait actions)
 fault_after actions Down = too_soon (move_wait actions)
 fault_after actions (New p) = if nat_le p 782 then too_soon (new_wait actions) else Some (Range p)
 
--- ---- what is read
+-- ---- what is read: each word by itself and exactly, which is this project's own
 -- a word at which a part begins
 abbrev pub beginning : ℕ → Result Action PointerWordFault
 beginning word = if nat_le (word % 1024) 782 then Ok (New (word % 1024)) else Err (OutOfRange (word % 1024))

@@ -3,7 +3,7 @@
 use text_help::OwnFault;
 use text_report::TextCursor;
 
-/// Fewer than three frames lie between the frame that the line names and this one, the last that was named.
+/// The line names a frame below the fourth after this one, the last that was named.
 #[derive(Clone, Copy, Debug, PartialEq, Eq)]
 pub struct Early {
     /// The frame.

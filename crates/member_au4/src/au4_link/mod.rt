@@ -35,7 +35,6 @@ pub use au4_keyword::Keyword;
 pub use au4_run::write_link;
 pub use au4_text_fault::Early;
 pub use read_au4_text::read_link;
-pub use text_of_vc::vc_line;
 
 /// A text has the fault of a line exactly where that line is faulty after lines none of which is, or where no
 /// line is faulty and one that has to be there isn't.

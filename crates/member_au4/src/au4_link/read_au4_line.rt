@@ -20,8 +20,8 @@ fn least_next(actions: &ActionList) -> u64
     if count == 0 { 0 } else { count + 3 }
 }
 
-/// Why a line that names a frame too early wasn't read. No memory holds the actions of more frames than a number of 32
-/// bits counts.
+/// Why a line that names a frame too early wasn't read. It never is Memory, though no clause says so: a link has at
+/// most 100,000 frames, and no action is behind the last.
 fn early_stop(draft: &Draft) -> LineStop<Keyword, Early>
     ensures { IsLineStop result (Some (wrong.Own (last_named draft.now))) }
 {

@@ -21,7 +21,7 @@ fn sum_of(octets: &[u8]) -> u64
 }
 
 /// Writes the line of a VC-4: its first eight octets as a number, and the sum of all its octets.
-pub fn vc_line(vc: &[u8; 2349], out: &mut [u8]) -> usize
+pub(super) fn vc_line(vc: &[u8; 2349], out: &mut [u8]) -> usize
     requires { 64 ≤ length out.old }
     ensures within { result ≤ 64 }
     ensures line { take result out.new ≡ vc_text vc.now }

@@ -19,9 +19,9 @@ pub struct AuFrame {
 pub enum Action {
     /// The value stays.
     Keep,
-    /// The next value is greater by one.
+    /// The next value is greater by one, round 783 values.
     Up,
-    /// The next value is less by one.
+    /// The next value is less by one, round 783 values.
     Down,
     /// A part begins at this value.
     New(u16),

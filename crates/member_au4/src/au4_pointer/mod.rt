@@ -1,8 +1,9 @@
 //! AU-4 pointers (G.707): a stream of VC-4s in AU-4 frames, sent with pointers that stay, move or begin anew,
 //! and the sink that reads the pointers and gives the VC-4s that come whole. A frame is counted from pointer to
 //! pointer. Begin with `PointerSource` and `PointerSink`; `pointer_law` says what comes of all that a source
-//! sends, `place_law` and `wait_law` the rules of pointers, and `relay` is both in one call. No call takes
-//! memory. Groups of lines and text are not here.
+//! sends, `place_law` and `wait_law` the rules of pointers, and `relay` is both in one call. How words are
+//! read, each by itself and exactly, is this project's own. No call takes memory. Groups of lines and
+//! text are not here.
 
 mod au_frame;
 mod copy_and_zero;

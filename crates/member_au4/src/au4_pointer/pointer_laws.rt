@@ -54,8 +54,7 @@ pub fn count_law()
         (k < ends part) ↔ (3 * part.value + 2349 * (k + 1) ≤ part.size) }
 {}
 
-/// In each frame a VC-4 begins three times the value behind the octets of data of the part before the frame, round
-/// 2,349 octets.
+/// In the data of each frame a VC-4 begins at octet `3 · value`, modulo 2,349.
 pub fn place_law()
     ensures { (start : ℕ) (actions : List Action) →
         (3 * value_after start actions + (part_after start actions).size) % 2349

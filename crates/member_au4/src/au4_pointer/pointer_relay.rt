@@ -25,7 +25,7 @@ pub fn relay<V: VcFeed, O: VcOut>(
         behind to start actions asked →
         result_err result ≡ fault_after actions a }
     ensures unchanged { OnErr result ((source.new ≡ source.old) × (sink.new ≡ sink.old)
-        × (feed.new ≡ feed.old) × (out.new ≡ out.old)) }
+        × (feed.new ≡ feed.old) × (frame.new ≡ frame.old) × (out.new ≡ out.old)) }
     ensures carries { (behind to : Start) (start : ℕ) (actions : List Action) (asked : List (List ℕ)) →
         Carries (λ f. V.stands_for f) (λ o. O.stands_for o) source.old sink.old feed.old out.old
         behind to start actions asked →

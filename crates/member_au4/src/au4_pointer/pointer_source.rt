@@ -28,7 +28,8 @@ pub trait VcFeed {
 pub enum PointerFault {
     /// The new value is above 782.
     Range { p: u16 },
-    /// One of the three frames before wasn't Keep, or none was sent; `left` is the number of frames still to wait.
+    /// One of the three frames before wasn't Keep, or, of an Up or a Down, none was sent; `left` is the number of
+    /// frames still to wait.
     TooSoon { left: u8 },
 }
 
@@ -264,7 +265,7 @@ impl PointerSource {
 fn too_soon(left: u8) -> Option<PointerFault>
     ensures { result ≡ too_soon left }
 {
-    if left <= 0 {
+    if left == 0 {
         None
     } else {
         Some(PointerFault::TooSoon { left })

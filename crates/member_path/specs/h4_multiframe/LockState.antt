@@ -1,4 +1,4 @@
--- G.707, multiframe alignment: what the lock of a line knows after a list of cells.
+-- What the lock of a line knows after a list of cells. The lock, on two octets, is this project's own.
 use Rattle.std.specs.Prelude.{◌≡◌, ℕ, ◌+◌, ◌%◌, List, length, Option, Some, slice_get}
 use Rattle.law_model.specs.Common.{HasMfi1, IsOutOfStep, HasNumber}
 use Rattle.member_path.specs.declared.h4_multiframe.State.{State}

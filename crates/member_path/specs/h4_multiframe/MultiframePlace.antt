@@ -1,4 +1,4 @@
--- G.707, multiframe alignment: what a place of a list of H4 octets is.
+-- What a place of a list of H4 octets is to the lock of a line, which is this project's own.
 use Rattle.std.specs.Prelude.{ℕ, List, Option}
 use Rattle.law_model.specs.Common.{IsOutOfStep, Locks, IsAt, HasNumber}
 use Rattle.member_path.specs.declared.h4_multiframe.Place.{Place}

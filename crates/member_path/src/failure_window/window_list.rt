@@ -59,32 +59,6 @@ impl Windows {
         carried_at(&self.list, n)
     }
 
-    /// The slip of the line: the greatest number of containers that vanish over a run of windows each near
-    /// the one before.
-    pub fn slip(&self) -> u32
-        ensures slip { result ≡ slip_of self.now }
-        ensures apart { AreWindows 0 self.now }
-    {
-        greatest_slip(&self.list)
-    }
-
-    /// How many windows there are.
-    pub fn count(&self) -> usize
-        ensures { result ≡ length self.now }
-    {
-        self.list.len()
-    }
-
-    /// Where the last window ends: 0, if there is none.
-    pub fn last_end(&self) -> u32
-        ensures { result ≡ last_end self.now }
-    {
-        match self.list.last() {
-            Some(window) => window.end,
-            None => 0,
-        }
-    }
-
     /// Puts a window from container `first` on at the end of the list. Until it is closed it lasts as long as
     /// its line, which carries `total` containers in all, so that no limit on lines has to be known here.
     pub fn open(&mut self, first: u32, total: u32)

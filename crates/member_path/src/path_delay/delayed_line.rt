@@ -162,13 +162,6 @@ impl LineCore {
         self.windows.close(end);
     }
 
-    /// The windows so far, which say whether the line may be cut or mended.
-    pub fn windows(&self) -> &Windows
-        ensures { result.now ≡ self.now.windows }
-    {
-        &self.windows
-    }
-
     /// Whether all containers were pushed.
     pub fn all_pushed(&self) -> bool
         ensures all { IsTrue result ↔ (self.now.pushed ≡ self.now.total) }

@@ -14,7 +14,8 @@ use Rattle.pair_walk.specs.declared.pair_script.script_pair.PairFault.TheVariant
 use Rattle.pair_walk.specs.pair_script.PairTextLines.{Halves, HalfFault, of_script, no_division, pair_lines}
 
 -- ---- the tests of two scripts all of whose lines are right
--- of both together: neither loses return packets by itself or has event lines, and lags and ticks are the same
+-- of both together: neither loses return packets by itself or has event lines, their lags are the same and at most
+-- 256, and their ticks are the same
 abbrev pub fit_fault : Script → Script → Option PairFault
 fit_fault there back =
     option_or (where_true (nat_lt 0 (length there.config.lost) || nat_lt 0 (length back.config.lost)) fault.Lost)

@@ -24,7 +24,7 @@ use text_scripts::script_read::{ScriptFault, ScriptReader};
 
 /// Reads two scripts whose text comes in pieces, each line once it is whole.
 #[derive(Drop)]
-pub struct PairReader {
+pub(crate) struct PairReader {
     // The first script, where the line that divides has come.
     there: Option<Script>,
     // The lines so far of the script that goes on.
@@ -64,7 +64,7 @@ fn divide(alloc: Global, first: ScriptReader) -> Result<PairReader, PairFault>
 
 impl PairReader {
     /// A reader that has read nothing.
-    pub fn new(alloc: Global) -> PairReader
+    pub(crate) fn new(alloc: Global) -> PairReader
         ensures reader { IsPairReader result }
         ensures stands { StandsAt result [] }
         ensures room { HasPairRoom result longest_input }
@@ -134,7 +134,11 @@ impl PairReader {
     }
 
     /// Reads the whole lines at the front of the rest of a text, and gives what is left then.
-    pub fn read_on(self, alloc: Global, rest: Vec<u8>) -> Result<(PairReader, Vec<u8>), PairFault>
+    pub(crate) fn read_on(
+        self,
+        alloc: Global,
+        rest: Vec<u8>,
+    ) -> Result<(PairReader, Vec<u8>), PairFault>
         requires reader { IsPairReader self }
         requires room { HasPairRoom self (length rest.items) }
         ensures reader { IfOk result (λ read. IsPairReader read.0) }
@@ -208,7 +212,7 @@ impl PairReader {
     }
 
     /// The scripts of a text whose last piece this is.
-    pub fn finish(self, alloc: Global, piece: &[u8]) -> Result<ScriptPair, PairFault>
+    pub(crate) fn finish(self, alloc: Global, piece: &[u8]) -> Result<ScriptPair, PairFault>
         requires reader { IsPairReader self }
         requires room { HasPairRoom self (length piece.now) }
         ensures pair { (text : List ℕ) → StandsAt self text →

@@ -23,7 +23,7 @@ pub fn fault_law()
 {}
 
 /// A text of at most 67,108,864 octets that says two scripts says a pair: each of them can be walked, neither loses
-/// return packets by itself or has event lines, and their lags and their ticks are the same.
+/// return packets by itself or has event lines, their lags are the same and at most 256, and their ticks are the same.
 pub fn valid_law()
     ensures { (text : List ℕ) (pair : ScriptPair) → length text ≤ longest_input →
         pair_of text ≡ Ok pair → IsPair pair.there pair.back }

@@ -79,7 +79,7 @@ impl Model for SinkCore {
 
 impl SinkCore {
     /// The sink of a group of `lines` lines whose containers have `size` payload octets. By `options` lines go down
-    /// and come up, and statuses are told. No row was taken.
+    /// and come up, statuses are told, and the sink goes on or stops where a packet is missing. No row was taken.
     pub fn new(
         alloc: Global,
         lines: u8,

@@ -80,7 +80,7 @@ impl LineTable {
         ensures { self.new ≡ told_on self.old }
     {
         admit(&mut self.members, &self.statuses);
-        turn(&mut self.members, &self.statuses);
+        turned(&mut self.members, &self.statuses);
     }
 
     /// Adds a line.
@@ -101,7 +101,7 @@ impl LineTable {
         requires { self.old.count < 4294967295 }
         ensures { self.new ≡ carried_out (remove line) self.old }
     {
-        take_out(&mut self.members, line);
+        without_line(&mut self.members, line);
         self.leaving = Some(line);
         self.begin_change();
     }
@@ -267,7 +267,7 @@ fn is_normal(member: &Member) -> bool
 }
 
 /// Takes a line out of the order.
-fn take_out(members: &mut ArrayVec<Member, MOST_LINES>, line: u8)
+fn without_line(members: &mut ArrayVec<Member, MOST_LINES>, line: u8)
     ensures { members.new.items ≡ filter (λ member. not (member.line == line)) members.old.items }
 {
     members.retain(|member| member.line != line);
@@ -317,17 +317,17 @@ fn admit(members: &mut [Member], statuses: &Statuses)
 }
 
 /// Each line in NORM with FAIL becomes DNU, and each one in DNU with OK becomes NORM.
-fn turn(members: &mut [Member], statuses: &Statuses)
+fn turned(members: &mut [Member], statuses: &Statuses)
     requires { length members.old ≤ 128 }
     ensures { members.new ≡ turned (kept_in statuses.now) 0 members.old }
 {
     for (sq, member) in members.iter_mut().enumerate() {
-        member.standing = turned(member.standing, statuses[sq]);
+        member.standing = turn(member.standing, statuses[sq]);
     }
 }
 
 /// The standing that a status gives a line.
-fn turned(standing: Standing, status: Option<bool>) -> Standing
+fn turn(standing: Standing, status: Option<bool>) -> Standing
     ensures { result ≡ turn status standing }
 {
     match (standing, status) {
@@ -337,8 +337,8 @@ fn turned(standing: Standing, status: Option<bool>) -> Standing
     }
 }
 
-/// The eight statuses that a packet says take the place of those of their group. There are more groups than
-/// lines: of what says statuses of no line nothing is kept.
+/// The eight statuses that a packet says take the place of those of their group. There may be more
+/// groups than lines can have: of what says statuses of no line nothing is kept.
 fn keep(statuses: &mut Statuses, group: usize, mst: u8)
     ensures { statuses.new ≡ keep group (oks_in mst) 0 statuses.old }
 {

@@ -94,8 +94,8 @@ impl SourceTable {
         self.ask(Command::Remove(line))
     }
 
-    /// Makes a decision step, which takes a return cell, if one is due. The cell's number is that of the
-    /// cells that earlier steps took, lost ones included; one that holds no packet counts as lost.
+    /// Makes a decision step, which takes a return cell, if one is due. The cell's number is how many
+    /// cells earlier steps took, lost ones included; one that holds no packet counts as lost.
     pub fn decide(&mut self, back: Option<BackCell>)
         requires { self.old.steps < 4294967295 }
         ensures { self.new ≡ called self.old (decides (option_map told_in back)) }

@@ -33,7 +33,7 @@ pub struct SourceCore {
     lag: u16,
     /// The payload octets of a container.
     size: u16,
-    /// How many frames were made.
+    /// How many ticks were made.
     ticks: u32,
     /// The lines that carry payload.
     active: ArrayVec<u8, MOST_LINES>,
@@ -41,7 +41,7 @@ pub struct SourceCore {
     nibbles: Vec<[u8; NIBBLES]>,
     /// The return packet that the packets of the next decision step pass on.
     told: Option<Packet>,
-    /// The payload of one frame, over all lines.
+    /// The payload of one row, over all lines.
     row: Vec<u8>,
 }
 
@@ -179,7 +179,7 @@ impl SourceCore {
         self.told = Some(packet);
     }
 
-    /// Makes the next frame, the container of each line in its box. The return cell that `needs_back` names is there
+    /// Makes the next row, the container of each line in its box. The return cell that `needs_back` names is there
     /// exactly where it names one.
     pub fn tick(&mut self, back: Option<BackCell>, out: &mut [Box<HeldContainer>])
         requires places { length out.old ≡ self.old.lines }
@@ -215,7 +215,7 @@ impl SourceCore {
         self.ticks += 1;
     }
 
-    /// How many frames were made.
+    /// How many ticks were made.
     pub fn ticks(&self) -> u32
         ensures { result ≡ self.now.ticks }
     {

@@ -17,7 +17,7 @@ use thread_rings::Alarm;
 pub enum Posted {
     /// It is in the queue, or was taken from it.
     Queued,
-    /// The post keeps it: the queue was full, or the post kept an alarm already.
+    /// The post keeps it: the queue had no room, or the post kept an alarm already.
     Kept,
 }
 
@@ -43,7 +43,8 @@ impl AlarmPost {
     ghost use Rattle.std.specs.Prelude.{◌≡◌, ◌+◌, ◌*◌, ◌<◌, ◌≤◌, [], ◌∷◌, ◌++◌, length};
     ghost use Rattle.thread_alarms.specs.alarm_log.Posts.{posted_by, kept_by, most_by, posts_by, room_by, SamePost};
 
-    /// Posts an alarm. It waits for no room, and takes no memory.
+    /// Posts an alarm. It waits for no room, and takes no memory. Others post meanwhile, so no clause says what the
+    /// queue held: of the first alarm that a post keeps `full` says that all posts together could have filled it.
     pub fn post<R: Wait>(&mut self, rt: &R, a: Alarm) -> Posted
         requires { length (posted_by self.old) < most_by self.old }
         ensures posted { posted_by self.new ≡ posted_by self.old ++ a ∷ [] }

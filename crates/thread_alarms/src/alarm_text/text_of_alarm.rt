@@ -6,7 +6,7 @@ use text_report::TextCursor;
 use thread_rings::{Alarm, AlarmKind};
 
 /// Room for the line of an alarm.
-pub const ALARM_ROOM: usize = 64;
+pub(crate) const ALARM_ROOM: usize = 64;
 
 /// What an alarm says, as a word.
 fn kind_word(kind: AlarmKind) -> &'static [u8]
@@ -21,7 +21,7 @@ fn kind_word(kind: AlarmKind) -> &'static [u8]
 }
 
 /// Puts the line of an alarm together at the front of `out`. Answers how many octets it has.
-pub fn alarm_line(alarm: &Alarm, out: &mut [u8]) -> usize
+pub(crate) fn alarm_line(alarm: &Alarm, out: &mut [u8]) -> usize
     requires room { 64 ≤ length out.old }
     ensures within { result ≤ 64 }
     ensures line { take result out.new ≡ alarm_text alarm.now }

@@ -24,7 +24,6 @@ use crate::walk_core::step_answers::{Moved, StepNote};
 use crate::walk_parts::ReturnRing;
 use law_model::{Config, FrameOut, Refusal, StallCause, Totals};
 use member_cells::BackCell;
-use member_path::failure_window::Windows;
 use std::alloc::{AllocError, Global};
 use std::marker::Model;
 use terminal_group::ItemRef;
@@ -148,14 +147,6 @@ impl LiveWalk {
             (walking_counts self.old).ticks) }
     {
         self.way.mend(line);
-    }
-
-    /// The windows of a line so far, which say whether it may be cut or mended.
-    pub fn windows(&self, line: u8) -> &Windows
-        requires { line < length self.now.way.lines }
-        ensures { result.now ≡ slice_index_or (windows_in self.now.way.lines) line [] }
-    {
-        self.way.windows(line)
     }
 
     /// How many ticks were made.

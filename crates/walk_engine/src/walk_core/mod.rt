@@ -1,10 +1,11 @@
 //! A walk of a session on one thread: the source terminal, the lines with their rings, the sink terminal and
-//! the return path, moved by events in any order. A walk begins with a script. Each event answers whether it
+//! the return path, moved by events in any order. A `Walk` begins with a script. Each event answers whether it
 //! moved, what stalled it, or why the item that landed is refused, just as the script and the counts of the
 //! walk say; rounds of events drain a walk until all rows are taken. The frames that come through are given to
 //! a `FrameOut` on the way; refusals, totals and the source's table can be read at any time. No script is read
-//! here and no report is written. Begin with `Walk`; the laws of what a walk gives stand in `law_walk`. All of
-//! it but the return path is a `WayCore`, of which a pair of sessions has two.
+//! here and no report is written. Begin with `Walk`; the laws of what a walk gives stand in `law_walk`. In it
+//! is a `LiveWalk`, which begins without a script and is told what lands as it lands; and all of that but the
+//! return path is a `WayCore`, of which a pair of sessions has two.
 
 mod counted_frames;
 mod live_walk;

@@ -2,14 +2,13 @@
 
 ghost use Rattle.std.specs.Prelude.{◌≡◌, ℕ, ◌+◌, ◌-◌, ◌/◌, ◌<◌, ◌≤◌, false, List, [], length, map};
 ghost use Rattle.std.specs.Prelude.{slice_index_or, slice_set};
-ghost use Rattle.std.specs.Prelude.{slice_get, Option, Some, None, IfOk, option_map, option_copied, is_some};
-ghost use Rattle.law_model.specs.Common.{Container, begin, full, Leg, governing, Scenario, steps_in};
+ghost use Rattle.std.specs.Prelude.{Option, Some, None, IfOk, is_some};
+ghost use Rattle.law_model.specs.Common.{begin, full, Leg, governing, Scenario, steps_in};
 ghost use Rattle.law_model.specs.Common.{segments_of, Told, IsNetwork, scenario_by, is_known};
 ghost use Rattle.law_model.specs.declared.script_types.Config.{Config};
 ghost use Rattle.law_model.specs.declared.walk_events.Event.TheVariants.{Tick, Carry};
 ghost use Rattle.terminal_source.specs.source_core.GivenScenario.{SourceStands as HasMade};
 ghost use Rattle.terminal_source.specs.source_core.Terminal.{needed, SameKind};
-ghost use Rattle.member_path.specs.cell_numbers.SignsAsCells.{cell_of};
 ghost use Rattle.member_path.specs.failure_window.OpenWindows.{CanClose, closed_at, last_end, opened_at};
 ghost use Rattle.terminal_sink.specs.marked_delineator.Marks.{first_place};
 ghost use Rattle.law_walk.specs.Common.{session_of, session_rows, is_client, totals_of, walk_plan};
@@ -23,17 +22,14 @@ ghost use Rattle.walk_engine.specs.declared.walk_core.step_answers.Moved.TheVari
 ghost use Rattle.walk_engine.specs.walk_core.OpenedWay.{HasWindows, IsNew, IsAlike};
 ghost use Rattle.walk_engine.specs.walk_core.WayParts.{counts_of, line_counts, windows_in, WayStands, StandsForSome};
 ghost use Rattle.walk_engine.specs.walk_core.Take.{take_cause};
-ghost use Rattle.walk_engine.specs.walk_core.WaitingInRings.{send_ring, receive_ring};
 ghost use Rattle.walk_engine.specs.walk_core.EventAnswers.{Makes, IsDue, with_passed, CanTick, Takes};
 
-use crate::walk_core::open_way::{Ends, Opened, Paths, SENDS, open};
-use crate::walk_core::send_rings::{carry_on, carry_stall, first_full, frame_at, next_place};
+use crate::walk_core::open_way::{Ends, Opened, Paths, open};
+use crate::walk_core::send_rings::{carry_on, carry_stall, first_full, next_place};
 use crate::walk_core::take_rows::{pop_lines, take_counted_row};
 use crate::walk_parts::WalkLine;
 use law_model::{Config, FrameOut, Refusal, StallCause, Totals};
-use member_cells::{BackCell, Container, HeldContainer};
-use member_path::cell_numbers::CellRef;
-use member_path::failure_window::Windows;
+use member_cells::{BackCell, HeldContainer};
 use member_rows::lcas_packet::Packet;
 use member_rows::realign_rows::RowGather;
 use std::alloc::{AllocError, Global};
@@ -89,7 +85,7 @@ impl Model for WayCore {
 
 impl WayCore {
     /// Makes room for the direction of a network, before any event, whatever lands in it. It may also be one
-    /// whose return packets are lost in some other way, and whose packets tell something.
+    /// whose lines are damaged or whose return packets are lost in some other way, and whose packets tell something.
     pub fn new(alloc: Global, config: &Config) -> Result<WayCore, AllocError>
         requires { IsNetwork config.now }
         ensures stands { IfOk result (λ way. (leg : Leg) → IsAlike leg config.now →
@@ -185,36 +181,6 @@ impl WayCore {
         self.sink.knows()
     }
 
-    /// The container at a place of the send ring of a line, from the oldest on, or `None` beyond the last one
-    /// that waits there.
-    pub(crate) fn send_ring(&self, line: u8, place: u32) -> Option<&Container>
-        requires line { line < length self.now.lines }
-        requires stands { StandsForSome self.now }
-        ensures { (leg : Leg) (backs : ℕ) → WayStands leg backs self.now → option_copied result
-            ≡ slice_get (send_ring leg (counts_of self.now backs) line) place }
-    {
-        let m = usize::from(line);
-        match frame_at(
-            &self.lines[m],
-            self.source.total_ticks(),
-            self.source.ticks(),
-            place,
-        ) {
-            Some(t) => Some(self.sent[t as usize % SENDS][m].container()),
-            None => None,
-        }
-    }
-
-    /// The cell at a place of the receive ring of a line, from the oldest on, or `None` beyond the last one
-    /// that waits there.
-    pub(crate) fn receive_ring(&self, line: u8, place: u32) -> Option<CellRef<'_>>
-        requires { line < length self.now.lines }
-        ensures { (leg : Leg) (backs : ℕ) → WayStands leg backs self.now → option_map cell_of result
-            ≡ slice_get (receive_ring leg (counts_of self.now backs) line) place }
-    {
-        self.lines[usize::from(line)].waiting(place)
-    }
-
     /// Lands an item now. Answers why it is refused, where it is.
     pub fn land(&mut self, item: ItemRef) -> Option<Refusal>
         ensures makes { (leg : Leg) (backs : ℕ) → WayStands leg backs self.old →
@@ -260,8 +226,9 @@ impl WayCore {
         self.source.put(cell);
     }
 
-    /// Makes the next frame. Where it makes a decision step, its packets pass on `told`, a return packet of the
-    /// other way of a pair; without one they tell nothing. Answers the return cell that it took.
+    /// Makes the next frame, and answers the return cell that it took. Where it makes a decision step, its packets
+    /// pass on `told`, a return packet of the other way of a pair; without one they tell nothing. Between two steps
+    /// `makes` speaks only of calls without one.
     pub fn make(&mut self, told: Option<Packet>) -> Option<BackCell>
         requires stands { StandsForSome self.old }
         requires left { self.old.source.core.ticks < self.old.source.total }
@@ -304,7 +271,7 @@ impl WayCore {
     }
 
     /// Pops the cells of the next row, and takes it where the lines decide it. Frames that it delivers are
-    /// given to `out`.
+    /// given to `out`. `takes` and `gives` speak only of calls while a row is left and the return path has room.
     pub fn take<F: FrameOut>(&mut self, out: &mut F) -> TakeAnswer
         requires { StandsForSome self.old }
         ensures takes { (leg : Leg) (backs : ℕ) → WayStands leg backs self.old →
@@ -327,14 +294,6 @@ impl WayCore {
         let (back, got) = take_counted_row(&mut self.sink, &mut self.rows, self.got, out);
         self.got = got;
         TakeAnswer::Taken { back }
-    }
-
-    /// The windows of a line so far.
-    pub fn windows(&self, line: u8) -> &Windows
-        requires { line < length self.now.lines }
-        ensures { result.now ≡ slice_index_or (windows_in self.now.lines) line [] }
-    {
-        self.lines[usize::from(line)].windows()
     }
 
     /// Damages the containers of a line that are made from now on, until it is mended.

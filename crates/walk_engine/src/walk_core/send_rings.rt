@@ -1,9 +1,9 @@
 //! The send rings before the lines: where the next frame goes, which ring is full, and what a line carries.
 
 ghost use Rattle.std.specs.Prelude.{◌≡◌, ℕ, true, false, ◌+◌, ◌%◌, ◌<◌, ◌≤◌, length, map, min, All, slice_get};
-ghost use Rattle.std.specs.Prelude.{Some, None, IfSome, IfNone};
+ghost use Rattle.std.specs.Prelude.{Some, None};
 ghost use Rattle.std.specs.Global.{Vec, Box};
-ghost use Rattle.law_model.specs.Common.{Container, full, in_send, Leg};
+ghost use Rattle.law_model.specs.Common.{Container, full, Leg};
 ghost use Rattle.law_walk.specs.Common.{path_on};
 ghost use Rattle.walk_engine.specs.walk_parts.Ringed.{Ringed, ring_of};
 ghost use Rattle.walk_engine.specs.walk_core.Carry.{carry_cause, CanCarry, HasReceiveRoom, IsCarriedAt, IsKnownOn};
@@ -61,21 +61,6 @@ pub(super) fn first_full(lines: &[WalkLine], total: u32, ticks: u32) -> Option<u
         }
     }
     None
-}
-
-/// The frame whose container is at a place of a line's send ring, from the oldest on, where so many wait there.
-pub(super) fn frame_at(own: &WalkLine, total: u32, ticks: u32, place: u32) -> Option<u32>
-    requires { min own.now.carried total ≤ ticks }
-    ensures waits { IfSome result (λ t. (place < in_send total ticks (line_counts own.now))
-        × (t ≡ min own.now.carried total + place)) }
-    ensures none { IfNone result (in_send total ticks (line_counts own.now) ≤ place) }
-{
-    let first = own.carried().min(total);
-    if place < ticks - first {
-        Some(first + place)
-    } else {
-        None
-    }
 }
 
 /// Whether a line waits for a container.

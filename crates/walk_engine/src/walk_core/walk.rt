@@ -2,7 +2,6 @@
 
 ghost use Rattle.std.specs.Prelude.{◌≡◌, ℕ, ◌-◌, ◌/◌, ◌<◌, ◌≤◌, suc, false};
 ghost use Rattle.std.specs.Prelude.{length, replicate, slice_get, Some, None, IfOk};
-ghost use Rattle.std.specs.Prelude.{option_map, option_copied};
 ghost use Rattle.law_model.specs.declared.walk_events.Event.TheVariants.{Command, Accept, Tick, Carry, Back, Take};
 ghost use Rattle.law_model.specs.Common.{IsValid, begin, step, run, round, drain, bound, carries_from, steps_in};
 ghost use Rattle.law_model.specs.Common.{source_at, leg_of, scenario_by, segments_of, is_known};
@@ -11,8 +10,6 @@ ghost use Rattle.law_progress.specs.Progress.{HasLine};
 ghost use Rattle.law_walk.specs.Common.{landed_scenario, told_before, refusals_of, totals_of, last_packet, table_in};
 ghost use Rattle.law_walk.specs.Common.{walk_plan, IsWalked, session_of, session_rows};
 ghost use Rattle.walk_engine.specs.walk_core.WalkAfterEvent.{answer_by, counts_after, moved_of, GivesRows};
-ghost use Rattle.walk_engine.specs.walk_core.WaitingInRings.{send_ring, receive_ring};
-ghost use Rattle.member_path.specs.cell_numbers.SignsAsCells.{cell_of};
 ghost use Rattle.terminal_group.specs.Item.{bare_items, kind_of};
 ghost use Rattle.terminal_group.specs.Landed.{none_landed};
 ghost use Rattle.walk_engine.specs.walk_core.Landing.{landing_of, early_cause};
@@ -23,8 +20,6 @@ ghost use Rattle.terminal_sink.specs.marked_delineator.Marks.{first_place};
 use crate::walk_core::live_walk::LiveWalk;
 use crate::walk_core::step_answers::{Moved, StepNote};
 use law_model::{Event, FrameOut, Refusal, Script, StallCause, Totals};
-use member_cells::Container;
-use member_path::cell_numbers::CellRef;
 use std::alloc::{AllocError, Global};
 use std::marker::Model;
 use terminal_group::{ItemRef, Landing, handed};
@@ -177,26 +172,6 @@ impl Walk {
         ensures steps { result.now.steps ≡ steps_in self.now.counts.ticks }
     {
         self.live.table()
-    }
-
-    /// The container at a place of the send ring of a line, from the oldest on, or `None` beyond the last one
-    /// that waits there.
-    pub(crate) fn send_ring(&self, line: u8, place: u32) -> Option<&Container>
-        requires { line < self.now.script.config.lines }
-        ensures { option_copied result
-            ≡ slice_get (send_ring (leg_of self.now.script) self.now.counts line) place }
-    {
-        self.live.way().send_ring(line, place)
-    }
-
-    /// The cell at a place of the receive ring of a line, from the oldest on, or `None` beyond the last one
-    /// that waits there.
-    pub(crate) fn receive_ring(&self, line: u8, place: u32) -> Option<CellRef<'_>>
-        requires { line < self.now.script.config.lines }
-        ensures { option_map cell_of result
-            ≡ slice_get (receive_ring (leg_of self.now.script) self.now.counts line) place }
-    {
-        self.live.way().receive_ring(line, place)
     }
 
     /// The place that is confirmed first in the segment that goes on with the next row, counted from its first octet.

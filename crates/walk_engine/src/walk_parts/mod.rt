@@ -5,5 +5,5 @@
 mod return_ring;
 mod walk_line;
 
-pub use return_ring::ReturnRing;
-pub use walk_line::WalkLine;
+pub(crate) use return_ring::ReturnRing;
+pub(crate) use walk_line::WalkLine;

@@ -14,7 +14,7 @@ const RETURNS: usize = 4;
 
 /// The return packets that the sink has said and that haven't come, at most four. Only its making takes memory.
 #[derive(Drop)]
-pub struct ReturnRing {
+pub(crate) struct ReturnRing {
     packets: HeapCircularBuffer<Packet>,
 }
 
@@ -31,7 +31,7 @@ impl Model for ReturnRing {
 
 impl ReturnRing {
     /// A return ring in which nothing waits.
-    pub fn new(alloc: Global) -> Result<ReturnRing, AllocError>
+    pub(crate) fn new(alloc: Global) -> Result<ReturnRing, AllocError>
         ensures { IfOk result (λ ring. ring ≡ []) }
     {
         Ok(ReturnRing {
@@ -40,21 +40,14 @@ impl ReturnRing {
     }
 
     /// Whether it holds as many packets as it may.
-    pub fn is_full(&self) -> bool
+    pub(crate) fn is_full(&self) -> bool
         ensures { IsTrue result ↔ (length self.now ≡ 4) }
     {
         self.packets.len() == RETURNS
     }
 
-    /// Whether no packet is on its way.
-    pub fn is_empty(&self) -> bool
-        ensures { IsTrue result ↔ (self.now ≡ []) }
-    {
-        self.packets.is_empty()
-    }
-
     /// Takes the next return packet of the sink, where it said one.
-    pub fn say(&mut self, packet: Option<Packet>)
+    pub(crate) fn say(&mut self, packet: Option<Packet>)
         requires { length self.old + length (listed packet) ≤ 4 }
         ensures { self.new ≡ self.old ++ listed packet }
     {
@@ -64,7 +57,7 @@ impl ReturnRing {
     }
 
     /// Takes the first return packet from it, as the return cell that it comes as, where one is on its way.
-    pub fn pop(&mut self) -> Option<BackCell>
+    pub(crate) fn pop(&mut self) -> Option<BackCell>
         ensures cell { result ≡ option_map packet_cell (slice_get self.old 0) }
         ensures rest { self.new ≡ drop 1 self.old }
     {

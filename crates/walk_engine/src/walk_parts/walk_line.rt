@@ -1,20 +1,19 @@
 //! A line of a walk with its receive ring.
 
-ghost use Rattle.std.specs.Prelude.{◌≡◌, ◌≢◌, ℕ, ◌+◌, ◌-◌, ◌<◌, ◌≤◌, ◌↔◌, true, List, length, drop, slice_get};
-ghost use Rattle.std.specs.Prelude.{slice_set, IfOk, IsTrue, is_some, option_map};
-ghost use Rattle.law_model.specs.Common.{Container, Cell, AreWindows, verdict, first_open};
+ghost use Rattle.std.specs.Prelude.{◌≡◌, ◌≢◌, ℕ, ◌+◌, ◌-◌, ◌<◌, ◌≤◌, ◌↔◌, true, List, length, slice_get};
+ghost use Rattle.std.specs.Prelude.{slice_set, IfOk, IsTrue, is_some};
+ghost use Rattle.law_model.specs.Common.{Cell, AreWindows, verdict, first_open};
 ghost use Rattle.member_path.specs.failure_window.OpenWindows.{CanClose, last_end};
 ghost use Rattle.member_path.specs.path_delay.CallsOnDelayedLine.{Calls, opened, and_push, and_flush};
 ghost use Rattle.member_path.specs.path_delay.CallsOnDelayedLine.{path_cells, IsEnded};
 ghost use Rattle.member_path.specs.path_delay.CallsOnDelayedLine.{and_cut, and_mend};
-ghost use Rattle.member_path.specs.cell_numbers.SignsAsCells.{cell_with, cell_of};
 ghost use Rattle.member_rows.specs.realign_rows.Gather.{GatherStands as Gathers, line_count, IsOpenAt};
 ghost use Rattle.walk_engine.specs.walk_parts.Ringed.{Ringed, ring_of, Has, popped_cells, IsNext, IsPopped};
 ghost use Rattle.walk_engine.specs.walk_parts.Ringed.{popped_until};
 ghost use Rattle.walk_engine.specs.walk_parts.Ringed.{leaves_open, with_sign, count_of, is_at};
 
-use member_cells::{Container, HeldContainer, blank_boxes};
-use member_path::cell_numbers::{CellRef, CellSign};
+use member_cells::{HeldContainer, blank_boxes};
+use member_path::cell_numbers::CellSign;
 use member_path::failure_window::{Window, Windows};
 use member_path::path_delay::LineCore;
 use member_rows::realign_rows::{RowAnswer, RowGather};
@@ -24,7 +23,7 @@ use std::marker::Model;
 /// A line with its receive ring: the cells that it gave and that weren't popped. Only its making takes
 /// memory, and a container is copied nowhere on its way into the line, through it and out of the ring.
 #[derive(Drop)]
-pub struct WalkLine {
+pub(crate) struct WalkLine {
     core: LineCore,
     /// Which cells carries gave: cell `y` at place `y` modulo the size of the ring.
     signs: Vec<CellSign>,
@@ -66,7 +65,7 @@ impl Model for WalkLine {
 impl WalkLine {
     /// A line with a delay in containers, its windows, and the number of containers that it will carry, whose
     /// ring holds `ring` cells.
-    pub fn new(
+    pub(crate) fn new(
         alloc: Global,
         delay: u16,
         windows: &[Window],
@@ -96,14 +95,14 @@ impl WalkLine {
     }
 
     /// How many carries were made.
-    pub fn carried(&self) -> u32
+    pub(crate) fn carried(&self) -> u32
         ensures { result ≡ self.now.carried }
     {
         self.carried
     }
 
     /// Whether all containers were pushed.
-    pub fn all_pushed(&self) -> bool
+    pub(crate) fn all_pushed(&self) -> bool
         ensures all { IsTrue result ↔ (self.now.core.pushed ≡ self.now.core.total) }
         ensures within { self.now.core.pushed ≤ self.now.core.total }
     {
@@ -111,35 +110,23 @@ impl WalkLine {
     }
 
     /// Whether the end was given.
-    pub fn ended(&self) -> bool
+    pub(crate) fn ended(&self) -> bool
         ensures { IsTrue result ↔ IsEnded self.now.core }
     {
         self.core.ended()
     }
 
     /// Whether the receive ring holds as many cells as it may.
-    pub fn is_full(&self) -> bool
+    pub(crate) fn is_full(&self) -> bool
         ensures full { IsTrue result ↔ (self.now.given ≡ self.now.popped + ring_of self.now) }
         ensures within { self.now.given ≤ self.now.popped + ring_of self.now }
     {
         (self.given - self.popped) as usize == self.signs.len()
     }
 
-    /// The cell at a place of the receive ring, from the oldest on, or `None` beyond the last one that waits.
-    pub fn waiting(&self, place: u32) -> Option<CellRef<'_>>
-        ensures { (calls : Calls) → Has self.now calls → option_map cell_of result
-            ≡ slice_get (drop self.now.popped (path_cells calls)) place }
-    {
-        if place >= self.given - self.popped {
-            return None;
-        }
-        let slot = (self.popped + place) as usize % self.signs.len();
-        Some(cell_at(self.signs[slot], self.places[slot].container()))
-    }
-
     /// Carries a container on, and keeps the cell that comes out, if any. It takes the container's box, and
     /// leaves another one.
-    pub fn push(&mut self, container: &mut Box<HeldContainer>)
+    pub(crate) fn push(&mut self, container: &mut Box<HeldContainer>)
         requires left { self.old.core.pushed < self.old.core.total }
         requires room { self.old.given < self.old.popped + ring_of self.old }
         ensures has { (calls : Calls) → Has self.old calls →
@@ -161,7 +148,7 @@ impl WalkLine {
     }
 
     /// Makes a carry after the last container, and keeps the cell that comes out, if any.
-    pub fn flush(&mut self)
+    pub(crate) fn flush(&mut self)
         requires pushed { self.old.core.pushed ≡ self.old.core.total }
         requires runs { self.old.core.flushed ≤ self.old.core.delay }
         requires room { self.old.given < self.old.popped + ring_of self.old }
@@ -178,7 +165,7 @@ impl WalkLine {
 
     /// Damages the containers from number `first` on, of which none was pushed yet, until the line is mended. What
     /// is on its way, and what waits in the ring, stays as it is.
-    pub fn cut(&mut self, first: u32)
+    pub(crate) fn cut(&mut self, first: u32)
         requires few { length self.old.core.windows < 256 }
         requires after { last_end self.old.core.windows ≤ first }
         requires left { first < self.old.core.total }
@@ -194,7 +181,7 @@ impl WalkLine {
     }
 
     /// Damages the containers from number `end` on no longer, of which none was pushed yet.
-    pub fn mend(&mut self, end: u32)
+    pub(crate) fn mend(&mut self, end: u32)
         requires cut { CanClose self.old.core.windows end }
         requires pushed { self.old.core.pushed ≤ end }
         ensures has { (calls : Calls) → Has self.old calls → Has self.new (and_mend calls end) }
@@ -205,13 +192,6 @@ impl WalkLine {
         ensures popped { self.new.popped ≡ self.old.popped }
     {
         self.core.mend(end);
-    }
-
-    /// The windows of the line so far, which say whether it may be cut or mended.
-    pub fn windows(&self) -> &Windows
-        ensures { result.now ≡ self.now.core.windows }
-    {
-        self.core.windows()
     }
 
     /// Pops cells of line number `line` into `rows` until it decides the next row, or its ring is empty.
@@ -280,16 +260,5 @@ fn waits_for(rows: &RowGather, line: u8) -> bool
     match rows.row() {
         RowAnswer::Row => false,
         RowAnswer::Waiting { line: least } => least == line,
-    }
-}
-
-/// The cell of a sign, where its container lies in this place.
-fn cell_at(sign: CellSign, place: &Container) -> CellRef<'_>
-    ensures { cell_of result ≡ cell_with sign place.now }
-{
-    match sign {
-        CellSign::Good => CellRef::Good(place),
-        CellSign::Fail => CellRef::Fail,
-        CellSign::End => CellRef::End,
     }
 }

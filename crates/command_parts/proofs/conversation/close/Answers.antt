@@ -6,17 +6,17 @@ use Rattle.command_parts.proofs.conversation.close.Goals as goal
 
 pub returns-in-Ok-clause-whole : goal.returns-in-Ok-clause-whole
 returns-in-Ok-clause-whole g c first earlier heard stands =
-    on_ok_weaker c.put_waiting.result
+    on_ok_weaker c.put.result
     (λ puts. (
       c.in-Ok.ensures.whole first earlier heard stands,
       said_put _ _ first _ _ earlier _ _ (c.in-Ok.ensures.said first earlier heard stands) puts,
     ))
-    c.put_waiting.ensures.ok
+    c.put.ensures.ok
 
 pub returns-in-Ok-clause-cut : goal.returns-in-Ok-clause-cut
 returns-in-Ok-clause-cut g c first earlier heard stands =
-    on_err_weaker c.put_waiting.result (λ part. said_put_part _ _ first c.hear_rest.new.out _ earlier
-    c.hear_rest.new.block _ (c.in-Ok.ensures.said first earlier heard stands) part) c.put_waiting.ensures.err
+    on_err_weaker c.put.result (λ part. said_put_part _ _ first c.hear_rest.new.out _ earlier
+    c.hear_rest.new.block _ (c.in-Ok.ensures.said first earlier heard stands) part) c.put.ensures.err
 
 pub returns-in-Err-clause-whole : goal.returns-in-Err-clause-whole
 returns-in-Err-clause-whole g c first earlier heard stands =

@@ -7,7 +7,7 @@ pub returns-in-Err : goal.returns-in-Err
 returns-in-Err g c = record {
   cut = λ first earlier is stops. (
     refl,
-    stops_cut _ _ first c.args.out.now c.put_waiting.new.out earlier c.args.block.now is
+    stops_cut _ _ first c.args.out.now c.put.new.out earlier c.args.block.now is
         c.args.stop stops c.in_default.not-Write c.in_default.not-Memory c.in-Err.ensures.err,
   );
   stops = λ first earlier is stops. tt;

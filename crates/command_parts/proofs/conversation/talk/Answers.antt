@@ -128,9 +128,9 @@ loop-n-preserved g c =
             c.hear_lines.new.listener piece octets c.let_go.new.self _ at (c.octets-in-loop-n.ensures ∙ is)
             given c.in-Ok.ensures.unfailed has c.in-Ok-hear_lines.ensures.lacks
             c.in-Ok-hear_lines.ensures.short c.in-Ok-hear_lines.ensures.few_behind same
-            (said_put _ _ _ _ _ _ _ _ has.stands.said c.in-Ok-put_waiting.ensures.ok),
+            (said_put _ _ _ _ _ _ _ _ has.stands.said c.in-Ok-put.ensures.ok),
       );
-      quiet = c.put_waiting.ensures.empty;
+      quiet = c.put.ensures.empty;
       short = omega (arith, left, length-drop at octets, c.in-Ok-hear_lines.ensures.short);
       few = c.in-Ok-hear_lines.ensures.few c.loop-n.invariant.few;
       few_behind = elim c.in-Ok-hear_lines.ensures.few_behind [
@@ -139,8 +139,8 @@ loop-n-preserved g c =
       ];
     }
 
-pub returns-in-Err-put_waiting : goal.returns-in-Err-put_waiting
-returns-in-Err-put_waiting g c =
+pub returns-in-Err-put : goal.returns-in-Err-put
+returns-in-Err-put g c =
     let (all, heard, going) = c.loop-n.invariant.going in
     let (piece, size, few, is, given) = c.in-Ok.ensures.took in
     let stands = stands_now _ _ _ _ _ _ _ _ _ _ _ _ _ _ going c.loop-n.block c.loop-n.invariant.quiet in
@@ -154,7 +154,7 @@ returns-in-Err-put_waiting g c =
             c.hear_lines.new.listener piece octets c.let_go.new.self _ at (c.octets-in-loop-n.ensures ∙ is)
             given c.in-Ok.ensures.unfailed has c.in-Ok-hear_lines.ensures.lacks
             c.in-Ok-hear_lines.ensures.short c.in-Ok-hear_lines.ensures.few_behind few
-            (said_put_part _ _ _ _ _ _ _ _ has.stands.said c.in-Err-put_waiting.ensures.err);
+            (said_put_part _ _ _ _ _ _ _ _ has.stands.said c.in-Err-put.ensures.err);
         made = tt;
       };
       stopped = tt;

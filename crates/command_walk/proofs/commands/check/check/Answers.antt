@@ -1,4 +1,4 @@
--- A script is read, its walk is made and seen, and what has no effect or was refused is written or a write fails.
+-- A script is read, its walk is made and seen, and what is unused, idle, early or refused is written or a write fails.
 use Rattle.std.proofs.Common.{refl}
 use Rattle.law_model.specs.declared.script_types.Script.{Script}
 use Rattle.law_model.specs.session.Leg.{leg_of}

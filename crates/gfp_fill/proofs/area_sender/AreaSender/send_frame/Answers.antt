@@ -1,6 +1,6 @@
 -- Octets of the frame are scrambled where they were copied to.
 use Rattle.std.proofs.Common.{◌≡◌, List, ℕ, ◌++◌, take, drop, length, sym, ◌∙◌, ap₂, subst, arith}
-use Rattle.std.proofs.lemmas.List.{take_at, take-append-drop, length-take-le}
+use Rattle.std.proofs.lemmas.List.{take_at, drop_at, take-append-drop, length-take-le}
 use Rattle.gfp_fill.specs.SentAreas.{StandsIn, HasWrittenIn}
 use Rattle.gfp_fill.proofs.area_sender.AreaSender.send_frame.Goals as goal
 
@@ -23,3 +23,16 @@ returns-clause-writes c areas place stands =
     ) in
     subst (HasWrittenIn c.send_octets.new.self rest areas place) (sym (take_at octets (drop n out) n size))
     (c.send_octets.ensures rest areas place here)
+
+pub returns-clause-behind : goal.returns-clause-behind
+returns-clause-behind c =
+    let n = c.send-n.result in
+    let out = c.send-n.new.out in
+    let octets = c.send_octets.new.octets in
+    let size : length octets ≡ n =
+    omega (
+      arith,
+      c.send_octets.auto.octets,
+      length-take-le n out (omega (arith, c.send-n.auto.out, c.send-n.ensures.count)),
+    ) in
+    drop_at octets (drop n out) n size ∙ c.send-n.ensures.behind

@@ -3,7 +3,7 @@ use Rattle.std.proofs.Common.{◌++◌, sym, ◌∙◌, ap, subst, arith, append
 use Rattle.law_model.specs.Common.{End}
 use Rattle.thread_rings.specs.EndsOfRing.{in_passed, out_passed}
 use Rattle.thread_rings.specs.WorkerLineCalls.{calls_on}
-use Rattle.thread_rings.specs.WorkerOfLine.{raised_by, last_raised}
+use Rattle.thread_rings.specs.WorkerOfLine.{raised_by}
 use Rattle.thread_rings.proofs.LineWorkerAlarmsLaws.{later-then}
 use Rattle.thread_rings.proofs.LineWorkerAlarmsLaws.{noted-then, sent-few}
 use Rattle.thread_rings.proofs.line_worker.LineWorker.burst.Goals as goal
@@ -55,6 +55,3 @@ returns-else-eq-clause-still g c = λ done.
     subst (λ cells. IsTrue c.ended.result ↔ Contains cells End) (sym old.sent)
     (c.ended.ensures.given (calls_on old.core (in_passed old.consumer)) old.stands) in
     absurd (let ended = given.1 (c.carry-first.ensures.done.0 done) in let open_ = c.if-ended.false in cc)
-
-pub returns-else-eq-clause-kept : goal.returns-else-eq-clause-kept
-returns-else-eq-clause-kept g c = λ done. ap last_raised (returns-else-eq-clause-still g c done)

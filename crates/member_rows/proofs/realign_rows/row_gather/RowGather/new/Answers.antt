@@ -11,7 +11,7 @@ invariant_of-result c =
     let size = lines.size in
     let none = ap length c.in_ok-no_packets.ensures ∙ length-replicate c.args.lines None in (
       omega arith,
-      omega (arith, c.in_ok-blank_boxes.ensures, size),
+      omega (arith, c.in_ok-blank_boxes.ensures.count, size),
       omega (arith, none, size),
       decided-new c.args.lines c.in_ok-new_lines.field-0.items lines,
     )
