@@ -10,7 +10,7 @@ use Rattle.text_lines.specs.Cut.{Lacks}
 use Rattle.command_parts.specs.Dialogue.{Heard, heard_more, Reply, reply_to, is_long, TalkCourse, waits_at, waits_by}
 use Rattle.command_parts.specs.Dialogue.{goes_on, comes_to, course_of, parts_of, Dialogue, nothing_heard, last_reply}
 use Rattle.command_parts.specs.Dialogue.{said_by, parting, parting_with, closed, closed_at, talk_of, closed_by}
-use Rattle.command_parts.specs.Dialogue.{last_line, longest_line, most_lines, IsParting}
+use Rattle.command_parts.specs.Dialogue.{last_line, longest_line, most_input_lines, IsParting}
 use Rattle.std.proofs.lemmas.Bool.Decides.{nat_tests}
 use Rattle.command_parts.specs.Talk.{TalkEnd, IsTalk, said, Said}
 unfoldable use Rattle.command_parts.specs.Dialogue.{course}
@@ -279,13 +279,13 @@ dialogue_talks dialogue = record {
 -- ---- Which lines a conversation has heard, and what stands of it at each of them.
 -- what stands of whatever was heard, where it stands with each line that is replied to
 abbrev pub StandsByLines : (Heard → Type 0) → Type 0
-StandsByLines P = (heard : Heard) (line text : List ℕ) → P heard → length heard.lines < most_lines →
+StandsByLines P = (heard : Heard) (line text : List ℕ) → P heard → length heard.lines < most_input_lines →
     reply_to heard line ≡ Ok text → P (heard_more heard line text)
 
-room : (heard : Heard) (line : List ℕ) → is_long heard line ≡ false → length heard.lines < most_lines
+room : (heard : Heard) (line : List ℕ) → is_long heard line ≡ false → length heard.lines < most_input_lines
 room heard line short =
-    leb-false most_lines (length heard.lines)
-    (or_parts (nat_lt longest_line (length line)) (nat_le most_lines (length heard.lines)) short).1
+    leb-false most_input_lines (length heard.lines)
+    (or_parts (nat_lt longest_line (length line)) (nat_le most_input_lines (length heard.lines)) short).1
 
 one_line : (line : List ℕ) → last_line line ≡ lines_of_parts (line ∷ [])
 one_line [] = refl
@@ -298,7 +298,7 @@ pub record IsCourse (P : Heard → Type 0) (heard : Heard) (ls : List (List ℕ)
   pub stands : P course.heard
   pub first : (rest : List (List ℕ)) × (heard.lines ++ ls ≡ course.heard.lines ++ rest)
   pub all : course.end ≡ None → heard.lines ++ ls ≡ course.heard.lines ++ last_line course.line
-  pub left : course.end ≡ None → 0 < length course.line → length course.heard.lines < most_lines
+  pub left : course.end ≡ None → 0 < length course.line → length course.heard.lines < most_input_lines
 
 -- ---- at the line whose LF hasn't come
 waits_course : (P : Heard → Type 0) (heard : Heard) (octet : ℕ) (line : List ℕ) (b : Bool) →
@@ -345,7 +345,7 @@ more_course P heard line text ls course is =
     }
 
 goes_course : (P : Heard → Type 0) (more : StandsByLines P) (heard : Heard) (line : List ℕ) (ls : List (List ℕ))
-    (reply : Reply) (next : Heard → TalkCourse) → reply_to heard line ≡ reply → length heard.lines < most_lines → P heard →
+    (reply : Reply) (next : Heard → TalkCourse) → reply_to heard line ≡ reply → length heard.lines < most_input_lines → P heard →
     ((now : Heard) → P now → IsCourse P now ls (next now)) → IsCourse P heard (line ∷ ls) (goes_on heard line reply next)
 goes_course P more heard line ls (Ok text) next is left stands rest =
     more_course P heard line text ls (next (heard_more heard line text))
@@ -382,14 +382,14 @@ pub record IsParted (P : Heard → Type 0) (ls : List (List ℕ)) (is : Said) : 
   pub says : is ≡ parting now (last_reply now)
 
 parted_with : (P : Heard → Type 0) (more : StandsByLines P) (heard : Heard) (line : List ℕ) (reply : Reply) →
-    reply_to heard line ≡ reply → length heard.lines < most_lines → P heard →
+    reply_to heard line ≡ reply → length heard.lines < most_input_lines → P heard →
     (parting_with heard line reply).end ≡ None → IsParted P (heard.lines ++ line ∷ []) (parting_with heard line reply)
 parted_with P more heard line (Ok text) is left stands none =
     record { now = heard_more heard line text; stands = more heard line text stands left is; lines = refl; says = refl }
 parted_with P more heard line (Err told) is left stands none = absurd cc
 
 parted : (P : Heard → Type 0) (more : StandsByLines P) (heard : Heard) (line : List ℕ) → P heard →
-    (0 < length line → length heard.lines < most_lines) → (closed heard line).end ≡ None →
+    (0 < length line → length heard.lines < most_input_lines) → (closed heard line).end ≡ None →
     IsParted P (heard.lines ++ last_line line) (closed heard line)
 parted P more heard [] stands left none =
     record { now = heard; stands = stands; lines = sym (append-nil heard.lines); says = refl }

@@ -10,8 +10,8 @@ use Rattle.command_parts.specs.Talk.{Said, Talk, TalkEnd, faulty, long, said}
 abbrev pub longest_line : ℕ
 longest_line = 262144
 
-abbrev pub most_lines : ℕ
-most_lines = 67108864
+abbrev pub most_input_lines : ℕ
+most_input_lines = 67108864
 
 -- a text, or why there is none and the note on that
 abbrev pub Reply : Type 0
@@ -46,7 +46,7 @@ last_reply heard = heard.dialogue.last heard.lines
 
 -- the next line would have too many octets, or be one too many
 abbrev pub is_long : Heard → List ℕ → Bool
-is_long heard line = nat_lt longest_line (length line) || nat_le most_lines (length heard.lines)
+is_long heard line = nat_lt longest_line (length line) || nat_le most_input_lines (length heard.lines)
 
 -- ---- the course of a conversation
 -- how far it came, the line at which it stands, and why it ended there, where it did

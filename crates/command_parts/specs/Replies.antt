@@ -5,13 +5,13 @@ use Rattle.text_got.specs.TextSoFar.{Holds}
 use Rattle.text_lines.specs.Cut.{Lacks}
 use Rattle.command_parts.specs.declared.stop_and_status.Stop.{Stop}
 use Rattle.command_parts.specs.declared.stop_and_status.Stop.TheVariants.{Read, TooLong, Refused, Write, Memory}
-use Rattle.command_parts.specs.Dialogue.{Heard, Reply, longest_line, most_lines}
+use Rattle.command_parts.specs.Dialogue.{Heard, Reply, longest_line, most_input_lines}
 
 -- there may be a next line, and this is one
 pub record CanReply {T : Type 0} (Hears : T → Heard → Type 0) (talker : T) (line : List ℕ) : Type 0 where
   pub heard : Heard
   pub hears : Hears talker heard
-  pub few : length heard.lines < most_lines
+  pub few : length heard.lines < most_input_lines
   pub lacks : Lacks 10 line
   pub short : length line ≤ longest_line
 

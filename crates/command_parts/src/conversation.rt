@@ -22,8 +22,8 @@ use text_got::TextBlock;
 /// The most octets of a line without its LF.
 const LONGEST_LINE: usize = 262_144;
 
-/// The most lines.
-const MOST_LINES: u32 = 67_108_864;
+/// The most lines of an input.
+const MOST_INPUT_LINES: u32 = 67_108_864;
 
 /// Replies to the lines of an input, each once it is whole. Memory may be short only before anything was said.
 pub trait Talker: Drop {
@@ -109,7 +109,7 @@ impl<T: Talker> Listener<T> {
         ensures fits { result ≡ false →
             (length line.now ≤ 262144) × (self.now.lines < 67108864) }
     {
-        line.len() > LONGEST_LINE || self.lines >= MOST_LINES
+        line.len() > LONGEST_LINE || self.lines >= MOST_INPUT_LINES
     }
 
     /// Hears a line without its end.

@@ -31,7 +31,7 @@ use Rattle.law_model.specs.Common.{packet_nibbles, number_behind, scenario_of, s
 use Rattle.law_model.specs.Common.{nibble_at, IsPacket, read_of, upper_halves, LineLock, unlocked, locked, lock_by}
 use Rattle.law_model.specs.Common.{sights_on, is_at, is_front, begins_packet, good_cells, front_nibbles, packet_here}
 use Rattle.law_model.specs.Common.{packets_on, Found, Appends, AppendsPart, found_text, found_texts, end_text}
-use Rattle.law_model.specs.Common.{decoded_text}
+use Rattle.law_model.specs.Common.{decoded_text, most_lines}
 use Rattle.law_model.specs.declared.control_packet.Packet.{Packet}
 use Rattle.law_model.specs.declared.script_types.Script.{Script}
 use Rattle.law_model.proofs.PacketNibblesLaws.{packet_nibbles_below, length-packet_nibbles, read_of-packet_nibbles}
@@ -202,7 +202,7 @@ sent-forward script line k =
 pub is-packet : (script : Script) (line k : ℕ) → IsValid script →
     IsPacket (forward_packet (table_in (leg_of script) (16 * k + 9)) line k)
 is-packet script line k valid =
-    let few : length script.config.windows ≤ 128 =
+    let few : length script.config.windows ≤ most_lines =
     (let size = valid.sound.network.windows_each in
     let most = valid.sound.network.lines.1 in
     omega (arith, size, most)) in

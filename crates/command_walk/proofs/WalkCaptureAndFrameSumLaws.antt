@@ -12,7 +12,7 @@ use Rattle.walk_engine.proofs.OpenedWayLaws.{none-delivered}
 use Rattle.law_model.specs.Common.{Start, leg_of, Counts, begin, longest_frame, type_fault, head, Outcome, outcome_by}
 use Rattle.law_model.specs.Common.{client_outcome, is_settled, area_outcomes, outcomes_after, outcomes_after_with}
 use Rattle.law_model.specs.Common.{descrambled_areas, run_outcomes, Run, runs_with, Segment, segments, segment_frames}
-use Rattle.law_model.specs.Common.{IsValid, drain, bound}
+use Rattle.law_model.specs.Common.{IsValid, drain, bound, most_ticks}
 use Rattle.law_model.specs.declared.script_types.Script.{Script}
 use Rattle.law_walk.specs.Common.{walk_plan, delivered_of, session_rows, totals_of}
 use Rattle.walk_engine.specs.Common.{Walked, GivesRows}
@@ -228,7 +228,7 @@ none-rises : AreRising 0 []
 unfolding AreRising
 none-rises = tt
 
-taken-rises : (script : Script) (rows : ℕ) → rows ≤ 1000000 → AreRising 0 (taken_frames script rows)
+taken-rises : (script : Script) (rows : ℕ) → rows ≤ most_ticks → AreRising 0 (taken_frames script rows)
 taken-rises script zero high = subst (AreRising 0) (sym (taken-none script)) none-rises
 taken-rises script (suc rows) high =
     let e : rows + 1 ≡ suc rows = omega arith in

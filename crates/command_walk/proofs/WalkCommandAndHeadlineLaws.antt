@@ -83,6 +83,7 @@ use Rattle.fate_engine.specs.Common.{are_true_marks, spoiled_of, later_segments,
 use Rattle.fate_engine.specs.Common.{has_waited, count_of, spoiled_text, segment_text, ended_text, fates_end}
 use Rattle.fate_engine.specs.Common.{fates_text}
 use Rattle.fate_engine.proofs.GotFateAndLandedFrameLaws.{starts-decided}
+use Rattle.law_model.specs.Common.{most_drawn_ticks, most_ticks}
 
 -- ---- What the rooms of the commands make, and the headline of what they write.
 -- the walk of a script
@@ -199,7 +200,7 @@ either-fits : (test : Bool) (f g : Option WalkCommand) → IfSome f Fits → IfS
 either-fits true f g fits other = fits
 either-fits false f g fits other = other
 
-load-fits : (number lines ticks : Option ℕ) → IfSome lines (IsWithin 1 64) → IfSome ticks (IsWithin 1 1000000) →
+load-fits : (number lines ticks : Option ℕ) → IfSome lines (IsWithin 1 64) → IfSome ticks (IsWithin 1 most_drawn_ticks) →
     IfSome (load_of number lines ticks) Fits
 load-fits (Some number) (Some lines) (Some ticks) a b = (a, b)
 load-fits (Some number) (Some lines) None a b = tt
@@ -208,9 +209,9 @@ load-fits None lines ticks a b = tt
 
 -- the ticks from one to before another
 abbrev AreTicks : ℕ × ℕ → Type 0
-AreTicks ticks = (ticks.0 < ticks.1) × (ticks.1 ≤ 1000000)
+AreTicks ticks = (ticks.0 < ticks.1) × (ticks.1 ≤ most_ticks)
 
-ticks-fit : (first end : Option ℕ) → IfSome end (IsWithin 0 1000000) → IfSome (ticks_of first end) AreTicks
+ticks-fit : (first end : Option ℕ) → IfSome end (IsWithin 0 most_ticks) → IfSome (ticks_of first end) AreTicks
 ticks-fit (Some first) (Some end) a =
     elim (cases_Bool (nat_lt first end)) [
       | inl less ↦ rw less (ltb-true first end less, a.1)
@@ -239,15 +240,15 @@ h4-fits words =
     if-fits (length words == 2 && bytes_eq (word_at 0 words) (codes "h4")) (line_of (number_in 0 127 (word_at 1 words)))
     (line-fits (number_in 0 127 (word_at 1 words)) (number-fits 0 127 (word_at 1 words)))
 
-interval-fits : (interval : Option ℕ) → IfSome interval (IsWithin 1 1000000) → IfSome (interval_of interval) Fits
+interval-fits : (interval : Option ℕ) → IfSome interval (IsWithin 1 most_ticks) → IfSome (interval_of interval) Fits
 interval-fits (Some interval) within = within
 interval-fits None within = tt
 
 service-fits : (words : List (List ℕ)) → IfSome (service_words words) Fits
 service-fits words =
     if-fits (length words == 2 && bytes_eq (word_at 0 words) (codes "service"))
-    (interval_of (number_in 1 1000000 (word_at 1 words)))
-    (interval-fits (number_in 1 1000000 (word_at 1 words)) (number-fits 1 1000000 (word_at 1 words)))
+    (interval_of (number_in 1 most_ticks (word_at 1 words)))
+    (interval-fits (number_in 1 most_ticks (word_at 1 words)) (number-fits 1 most_ticks (word_at 1 words)))
 
 live-fits : (words : List (List ℕ)) → IfSome (live_words words) Fits
 live-fits words =
@@ -259,21 +260,21 @@ make-fits : (words : List (List ℕ)) → IfSome (make_words words) Fits
 make-fits words =
     let number = number_in 0 18446744073709551615 (word_at 1 words) in
     let lines = number_in 1 64 (word_at 2 words) in
-    let ticks = number_in 1 1000000 (word_at 3 words) in
+    let ticks = number_in 1 most_drawn_ticks (word_at 3 words) in
     if-fits (length words == 4 && bytes_eq (word_at 0 words) (codes "make")) (load_of number lines ticks)
-    (load-fits number lines ticks (number-fits 1 64 (word_at 2 words)) (number-fits 1 1000000 (word_at 3 words)))
+    (load-fits number lines ticks (number-fits 1 64 (word_at 2 words)) (number-fits 1 most_drawn_ticks (word_at 3 words)))
 
 numbers-fit : (ws : List (List ℕ)) → IfSome (numbers_in ws) Fits
 numbers-fit ws =
     let octets = number_in 64 longest_frame (word_at 0 ws) in
     let mbits = number_in 1 400000 (word_at 1 ws) in
-    let first = number_in 0 1000000 (word_at 2 ws) in
-    let end = number_in 0 1000000 (word_at 3 ws) in
+    let first = number_in 0 most_ticks (word_at 2 ws) in
+    let end = number_in 0 most_ticks (word_at 3 ws) in
     let number = number_in 0 18446744073709551615 (word_at 4 ws) in
     if-fits (length ws == 5) (rate_of octets mbits (ticks_of first end) number)
     (rate-fits octets mbits (ticks_of first end) number (number-fits 64 longest_frame (word_at 0 ws))
     (number-fits 1 400000 (word_at 1 ws))
-    (ticks-fit first end (number-fits 0 1000000 (word_at 3 ws))))
+    (ticks-fit first end (number-fits 0 most_ticks (word_at 3 ws))))
 
 stream-fits : (words : List (List ℕ)) → IfSome (stream_words words) Fits
 stream-fits words =

@@ -31,6 +31,7 @@ use Rattle.command_walk.specs.commands.Live.{live_words, live_talk}
 use Rattle.command_walk.specs.commands.Make.{make_words, make_answer}
 use Rattle.command_walk.specs.commands.Stream.{stream_words, stream_answer}
 use Rattle.command_walk.specs.HandedWalk.{IsWalkOf, HandsScript}
+use Rattle.law_model.specs.Common.{most_drawn_ticks, most_ticks}
 
 abbrev pub usage : List ℕ
 usage = codes "usage: vcat_walk walk, trace, fates, check, h4 LINE, service INTERVAL, capture, gfp, frames, decode, noise, au4, channels, pair, live, live trace, make NUMBER LINES TICKS, or stream OCTETS MBITS FIRST END NUMBER\n"
@@ -122,7 +123,7 @@ Fits Trace = Unit {0}
 Fits Fates = Unit {0}
 Fits Check = Unit {0}
 Fits (H4 line) = line ≤ 127
-Fits (Service interval) = IsWithin 1 1000000 interval
+Fits (Service interval) = IsWithin 1 most_ticks interval
 Fits Capture = Unit {0}
 Fits Gfp = Unit {0}
 Fits Frames = Unit {0}
@@ -132,7 +133,7 @@ Fits Au4 = Unit {0}
 Fits Channels = Unit {0}
 Fits Pair = Unit {0}
 Fits (Live trace) = Unit {0}
-Fits (Make number lines ticks) = IsWithin 1 64 lines × IsWithin 1 1000000 ticks
+Fits (Make number lines ticks) = IsWithin 1 64 lines × IsWithin 1 most_drawn_ticks ticks
 Fits (Stream load) = IsRateLoad load
 
 -- ---- of the words of a command line

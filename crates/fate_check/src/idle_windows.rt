@@ -5,6 +5,7 @@ ghost use Rattle.law_model.specs.session.Scenario.{Scenario};
 ghost use Rattle.law_model.specs.source.Table.{Told};
 ghost use Rattle.fate_engine.specs.fate_core.Packets.{ArePackets};
 ghost use Rattle.fate_check.specs.IdleWindows.{is_spared, is_idle};
+ghost use Rattle.law_model.specs.Common.{most_ticks};
 
 use crate::used_lines::{next_governed, used_lines};
 use fate_engine::fate_core::{Packets, row_cause};
@@ -40,10 +41,10 @@ pub(crate) fn is_idle(
     window: Window,
 ) -> bool
     requires apart { All (AreWindows 0) windows.now }
-    requires few { rows ≤ 1000000 }
+    requires few { rows ≤ most_ticks }
     requires governed { rows ≤ 16 * length packets.now.active + 24 }
     requires known { rows ≤ 16 * length packets.now.known + 24 }
-    requires end { window.end ≤ 1000000 }
+    requires end { window.end ≤ most_ticks }
     ensures { (scenario : Scenario) (cells : List (Option Told)) → scenario.options ≡ options →
         scenario.windows ≡ windows.now → ArePackets scenario cells packets.now →
         result ≡ is_idle scenario cells rows line window }

@@ -4,6 +4,7 @@ ghost use Rattle.law_model.specs.session.Scenario.{Scenario};
 ghost use Rattle.law_model.specs.source.Table.{Told};
 ghost use Rattle.fate_engine.specs.fate_core.Packets.{ArePackets};
 ghost use Rattle.fate_check.specs.UsedLines.{used_lines, is_unused, first_payload, AreAlike};
+ghost use Rattle.law_model.specs.Common.{most_ticks};
 
 use fate_engine::fate_core::Packets;
 
@@ -27,7 +28,7 @@ pub(crate) fn used_lines(packets: &Packets, row: u32) -> &[u8]
 
 /// The first row after a row that isn't governed by the same packet.
 pub(crate) fn next_governed(row: u32) -> u32
-    requires { row ≤ 1000000 }
+    requires { row ≤ most_ticks }
     ensures later { row < result }
     ensures alike { (t : ℕ) → row ≤ t → t < result → AreAlike t row }
 {
@@ -40,7 +41,7 @@ pub(crate) fn next_governed(row: u32) -> u32
 
 /// Whether a line carries payload in none of the first rows.
 pub(crate) fn is_unused(packets: &Packets, rows: u32, line: u8) -> bool
-    requires few { rows ≤ 1000000 }
+    requires few { rows ≤ most_ticks }
     requires governed { rows ≤ 16 * length packets.now.active + 24 }
     ensures { (scenario : Scenario) (cells : List (Option Told)) →
         ArePackets scenario cells packets.now → result ≡ is_unused scenario cells rows line }
@@ -57,7 +58,7 @@ pub(crate) fn is_unused(packets: &Packets, rows: u32, line: u8) -> bool
 
 /// The first of the first rows in which a line carries payload.
 pub(crate) fn first_payload(packets: &Packets, rows: u32) -> Option<u32>
-    requires few { rows ≤ 1000000 }
+    requires few { rows ≤ most_ticks }
     requires governed { rows ≤ 16 * length packets.now.active + 24 }
     ensures { (scenario : Scenario) (cells : List (Option Told)) →
         ArePackets scenario cells packets.now → result ≡ first_payload scenario cells rows }

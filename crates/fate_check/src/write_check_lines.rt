@@ -12,6 +12,7 @@ ghost use Rattle.fate_check.specs.IdleWindows.{idle_among, idle_on, idle_windows
 ghost use Rattle.fate_check.specs.EarlyFrames.{payload_row, early_frames};
 ghost use Rattle.fate_check.specs.CheckText.{unused_text, idle_texts, early_if_any, refused_items, last_text};
 ghost use Rattle.fate_check.specs.CheckText.{check_text};
+ghost use Rattle.law_model.specs.Common.{most_ticks};
 
 use crate::check_lines::{
     Found, ROOM, check_line, early_line, idle_line, refused_line, unused_line,
@@ -29,7 +30,7 @@ use walk_engine::walk_core::Walk;
 fn rows_taken(walk: &Walk, seen: &SeenWalk) -> u32
     requires { SeesWalk (leg_of walk.now.script) walk.now.counts seen.now }
     ensures rows { result ≡ walk.now.counts.rows }
-    ensures few { result ≤ 1000000 }
+    ensures few { result ≤ most_ticks }
     ensures governed { result ≤ 16 * length seen.now.rows.packets.active + 24 }
     ensures known { result ≤ 16 * length seen.now.rows.packets.known + 24 }
 {
@@ -86,7 +87,7 @@ fn write_if_idle<K: ByteSink>(
     got: &mut GotLines<K>,
 ) -> u32
     requires seen { SeesWalk (leg_of walk.now.script) walk.now.counts seen.now }
-    requires end { window.end ≤ 1000000 }
+    requires end { window.end ≤ most_ticks }
     ensures text { (start : Start) (before : List ℕ) →
         HasText K.written K.faults got.old start before → HasText K.written K.faults got.new start
         (before ++ idle_texts

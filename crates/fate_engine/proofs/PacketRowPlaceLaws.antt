@@ -9,7 +9,7 @@ use Rattle.std.proofs.lemmas.List.{length-map, map-append}
 use Rattle.std.proofs.lemmas.List.Elements.{All-nil, All-cons, All-append}
 use Rattle.std.proofs.lemmas.Bool.{cases_lt}
 use Rattle.law_model.proofs.ListLaws.{at-index, slice_get-append_seam}
-use Rattle.law_model.specs.Common.{Scenario, Told, width, place_of}
+use Rattle.law_model.specs.Common.{Scenario, Told, width, place_of, most_lines}
 use Rattle.fate_engine.specs.Common.{PacketList, ArePackets, active_in, packets_in, start_by, IsPacketList}
 use Rattle.fate_engine.specs.declared.fate_core.packet_rows.Packet.{Packet}
 
@@ -30,7 +30,7 @@ sum-next (x ∷ xs) (suc k) low =
     let own : slice_index_or (x ∷ xs) (suc k) [] ≡ slice_index_or xs k [] = refl in
     omega (arith, sum-next xs k (omega arith), more, less, ap length own)
 
-sum-few : (xs : List (List ℕ)) (k : ℕ) → All (λ (x : List ℕ). length x ≤ 128) xs → sum_by length (take k xs) ≤ 128 * k
+sum-few : (xs : List (List ℕ)) (k : ℕ) → All (λ (x : List ℕ). length x ≤ most_lines) xs → sum_by length (take k xs) ≤ most_lines * k
 sum-few xs zero few = omega arith
 sum-few [] (suc k) few = omega arith
 sum-few (x ∷ xs) (suc k) few =
@@ -51,12 +51,12 @@ start-next size xs k low =
     spread a b = omega arith
 
 pub start-few : (size : ℕ) (xs : List (List ℕ)) (k : ℕ) → size < 2 ^ 16 → k ≤ 65536 →
-    All (λ (x : List ℕ). length x ≤ 128) xs → start_by size xs k ≤ 8796093022208
+    All (λ (x : List ℕ). length x ≤ most_lines) xs → start_by size xs k ≤ 8796093022208
 start-few size xs k small low few =
     let sum = sum-few xs k few in
     omega (arith, mul-le-mul_left size (most sum), mul-le-mul_right 8388608 (size-most))
   where
-    most : sum_by length (take k xs) ≤ 128 * k → sum_by length (take k xs) ≤ 8388608
+    most : sum_by length (take k xs) ≤ most_lines * k → sum_by length (take k xs) ≤ 8388608
     most sum = omega (arith, sum)
 
     size-most : size ≤ 65536
@@ -136,8 +136,8 @@ lines-at [] (suc k) packet there = absurd cc
 lines-at (own ∷ packets) zero packet there = let same : own ≡ packet = cc in ap (λ (p : Packet). p.lines.items) same
 lines-at (own ∷ packets) (suc k) packet there = lines-at packets k packet there
 
-pub lines-few : (packets : List Packet) → All (λ (p : Packet). length p.lines.items ≤ 128) packets →
-    All (λ (x : List ℕ). length x ≤ 128) (map (λ (p : Packet). p.lines.items) packets)
+pub lines-few : (packets : List Packet) → All (λ (p : Packet). length p.lines.items ≤ most_lines) packets →
+    All (λ (x : List ℕ). length x ≤ most_lines) (map (λ (p : Packet). p.lines.items) packets)
 lines-few [] few i d inside = absurd (omega arith)
 lines-few (packet ∷ packets) few zero d inside = few zero packet (omega arith)
 lines-few (packet ∷ packets) few (suc i) d inside =
@@ -326,15 +326,15 @@ start-front size list packet k low =
     (let e = length-map list (λ (p : Packet). p.lines.items) in omega (arith, e, low)))
 
 pub pushed : (size : ℕ) (list : List Packet) (end : ℕ) (packet : Packet) (next : ℕ) → IsPacketList size list end →
-    length list < 65536 → length packet.lines.items ≤ 128 →
+    length list < 65536 → length packet.lines.items ≤ most_lines →
     packet.start ≡ end → next ≡ end + size * length packet.lines.items * 16 →
     IsPacketList size (list ++ packet ∷ []) next
 pushed size list end packet next is few own start ends = record {
   small = is.small;
   few = (let e = length-append list (packet ∷ []) in omega (arith, e, few));
-  lines = All-append (λ (p : Packet). length p.lines.items ≤ 128) list (packet ∷ []) is.lines
-      (All-cons (λ (p : Packet). length p.lines.items ≤ 128) packet [] own
-      (All-nil (λ (p : Packet). length p.lines.items ≤ 128)));
+  lines = All-append (λ (p : Packet). length p.lines.items ≤ most_lines) list (packet ∷ []) is.lines
+      (All-cons (λ (p : Packet). length p.lines.items ≤ most_lines) packet [] own
+      (All-nil (λ (p : Packet). length p.lines.items ≤ most_lines)));
   starts = starts;
   ends = last;
 }

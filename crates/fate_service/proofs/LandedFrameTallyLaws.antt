@@ -14,7 +14,7 @@ use Rattle.fate_service.specs.Stretches.{delay_of, with_carried, higher, peak_on
 use Rattle.fate_service.specs.Stretches.{ended_of as ended_in_stretch}
 use Rattle.std.proofs.lemmas.List.{map-append, length-map}
 use Rattle.std.proofs.lemmas.List.Concat.{flat_map-append}
-use Rattle.law_model.specs.Common.{Leg, Counts, IsItem, IsSound}
+use Rattle.law_model.specs.Common.{Leg, Counts, IsItem, IsSound, most_ticks}
 use Rattle.law_model.specs.declared.item_refusals.Refusal.{Refusal}
 use Rattle.fate_engine.specs.Common.{End, refused, accepted, Ended as EndedItem, ended_on, ended_of, has_waited}
 use Rattle.fate_engine.specs.Common.{ended_by, ended_then, truth_text, fates_end, are_true_marks}
@@ -356,12 +356,12 @@ items-early n most (item ∷ items) low each =
     (let own = (All-head (IsItem n) item items each).0 in omega (arith, own, low))
     (items-early n most items low (All-tail (IsItem n) item items each))
 
-pub offered-soon : (leg : Leg) (s : Counts) → IsSound leg → All (OfferedEarly 1000000) (offered_of (ended_of leg s))
+pub offered-soon : (leg : Leg) (s : Counts) → IsSound leg → All (OfferedEarly most_ticks) (offered_of (ended_of leg s))
 offered-soon leg s sound =
-    offered-early 1000000 (ended_of leg s)
-    (on-early 1000000 leg (fates_in leg s.rows) (landed_items leg s) 0
-    (landed-early 1000000 s.frames s.commands 0 leg.items
-    (items-early leg.config.ticks 1000000 leg.items (omega (arith, sound.network.ticks.1)) sound.items.each)))
+    offered-early most_ticks (ended_of leg s)
+    (on-early most_ticks leg (fates_in leg s.rows) (landed_items leg s) 0
+    (landed-early most_ticks s.frames s.commands 0 leg.items
+    (items-early leg.config.ticks most_ticks leg.items (omega (arith, sound.network.ticks.1)) sound.items.each)))
 
 -- ---- How many frames have a delay of at most so many ticks, and the least number that meets a test.
 one-more : (got : Bool) (delay d e n m : ℕ) → d ≤ e → n ≤ m →

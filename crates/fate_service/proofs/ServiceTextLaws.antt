@@ -23,7 +23,7 @@ use Rattle.fate_service.specs.Stretches.{spans_on, Known, stretch_of, spans_of, 
 use Rattle.fate_service.specs.Surveyed.{next_run, run_text}
 use Rattle.fate_service.specs.ServiceText.{members_text, outage_text, outages_text, stretches_text, delays_text}
 use Rattle.fate_service.specs.ServiceText.{last_text, widths_of, service_text}
-use Rattle.law_model.specs.Common.{Counts, begin, Leg, scenario_by, IsSound, place_of, stream_before}
+use Rattle.law_model.specs.Common.{Counts, begin, Leg, scenario_by, IsSound, place_of, stream_before, most_lines}
 use Rattle.law_walk.specs.Common.{session_rows, landed_items, numbered, session_pieces, session_of, walk_plan}
 use Rattle.law_walk.proofs.AcceptedFrameAndDrainedWalkLaws.{drained-ticks, drained-landed, drain-ends}
 use Rattle.law_walk.proofs.WalkPlanAndPoppedCellLaws.{sound-walks, begins-walked}
@@ -114,7 +114,7 @@ members-end size f run row rows high =
     (let e : rows - row ≡ 0 = omega (arith, high) in e)
     ∙ append-nil (members_text size run)
 
-pub run-few : (run : WidthRun) (members : ℕ) → run.members ≤ 128 → members ≤ 128 → (next_run run members).members ≤ 128
+pub run-few : (run : WidthRun) (members : ℕ) → run.members ≤ most_lines → members ≤ most_lines → (next_run run members).members ≤ most_lines
 run-few run members own few =
     elim (cases_Bool (members == run.members)) [
       | inl same ↦ rw same own

@@ -3,7 +3,7 @@ ghost use Rattle.std.specs.Prelude.{◌≡◌, ℕ, ◌+◌, ◌*◌, ◌<◌, �
 ghost use Rattle.std.specs.Prelude.{All, IfOk, OnOk, OnErr};
 ghost use Rattle.std.specs.List.{flat_map, range_with_len};
 ghost use Rattle.law_model.specs.Common.{Start, Appends, AppendsPart, leg_of, Scenario, scenario_by, IsWithin, Told};
-ghost use Rattle.law_model.specs.Common.{width};
+ghost use Rattle.law_model.specs.Common.{width, most_lines, most_ticks};
 ghost use Rattle.text_got.specs.TextSoFar.{HasText};
 ghost use Rattle.law_walk.specs.Common.{session_of};
 ghost use Rattle.fate_engine.specs.Common.{ArePackets, row_cause as cause_of, ended_of};
@@ -63,7 +63,7 @@ pub fn survey_walk(alloc: Global, walk: &Walk, seen: &SeenWalk) -> Result<Survey
 
 /// Writes the line of rows in which as many members carry payload.
 fn write_run<K: ByteSink>(run: WidthRun, size: u16, got: &mut GotLines<K>)
-    requires { run.members ≤ 128 }
+    requires { run.members ≤ most_lines }
     ensures { (start : Start) (before : List ℕ) →
         HasText K.written K.faults got.old start before →
         HasText K.written K.faults got.new start (before ++ members_text size run) }
@@ -76,7 +76,7 @@ fn write_run<K: ByteSink>(run: WidthRun, size: u16, got: &mut GotLines<K>)
 /// Goes on with a run by a row with its number of members; at another number its line is written, and the next
 /// run begins.
 fn add_row<K: ByteSink>(run: WidthRun, members: u32, size: u16, got: &mut GotLines<K>) -> WidthRun
-    requires few { run.members ≤ 128 }
+    requires few { run.members ≤ most_lines }
     requires end { run.end < 4294967295 }
     ensures run { result ≡ next_run run members }
     ensures text { (start : Start) (before : List ℕ) →
@@ -179,7 +179,7 @@ fn write_outages<K: ByteSink>(walk: &Walk, seen: &SeenWalk, survey: &Survey, got
 /// How many ticks are told: those that were made, and one more where a frame landed before it.
 fn told_ticks(ticks: u32, offered: &[OfferedFrame]) -> u32
     requires few { ticks ≤ 1000001 }
-    requires early { All (λ (frame : OfferedData). frame.due < 1000000) offered.now }
+    requires early { All (λ (frame : OfferedData). frame.due < most_ticks) offered.now }
     ensures told { result ≡ told_on ticks offered.now }
     ensures few { result ≤ 1000001 }
 {
@@ -223,7 +223,7 @@ fn write_stretches<K: ByteSink>(
 )
     requires seen { SeesWalk (leg_of walk.now.script) walk.now.counts seen.now }
     requires survey { IsSurveyed (leg_of walk.now.script) walk.now.counts survey.now }
-    requires interval { IsWithin 1 1000000 interval }
+    requires interval { IsWithin 1 most_ticks interval }
     requires told { told ≤ 1000001 }
     ensures { (start : Start) (before : List ℕ) →
         HasText K.written K.faults got.old start before → HasText K.written K.faults got.new start
@@ -289,7 +289,7 @@ pub fn write_service<K: ByteSink>(
 ) -> Result<(), Failed>
     requires seen { SeesWalk (leg_of walk.now.script) walk.now.counts seen.now }
     requires survey { IsSurveyed (leg_of walk.now.script) walk.now.counts survey.now }
-    requires interval { IsWithin 1 1000000 interval }
+    requires interval { IsWithin 1 most_ticks interval }
     ensures ok { OnOk result (Appends K.written K.faults out.old out.new
         (service_text (leg_of walk.now.script) walk.now.counts interval)) }
     ensures err { OnErr result (AppendsPart K.written K.faults out.old out.new

@@ -5,6 +5,7 @@ ghost use Rattle.text_report.specs.TextCursor.{Extends, HasTextRoom};
 ghost use Rattle.fate_service.specs.ServiceText.{tally_text, members_text, first_cause, outage_text};
 ghost use Rattle.fate_service.specs.ServiceText.{came_text, carried_text, room_text, counts_text, left_text};
 ghost use Rattle.fate_service.specs.ServiceText.{stretch_text, delays_text, ends_text, last_text};
+ghost use Rattle.law_model.specs.Common.{most_lines};
 
 use crate::frame_delays::Delays;
 use crate::landed_frames::Tally;
@@ -35,7 +36,7 @@ pub struct Ends {
 
 /// The line of rows in which as many members carry payload, each with so many octets in a row.
 pub(crate) fn members_line(run: WidthRun, size: u16, out: &mut [u8]) -> usize
-    requires few { run.members ≤ 128 }
+    requires few { run.members ≤ most_lines }
     requires room { 448 ≤ length out.old }
     ensures within { result ≤ 448 }
     ensures line { take result out.new ≡ members_text size run }

@@ -11,7 +11,7 @@ use Rattle.std.proofs.lemmas.Option.{slice_get-get_or, slice_get_within}
 use Rattle.walk_engine.proofs.OpenedWayLaws.{none-landed}
 use Rattle.law_model.proofs.ListLaws.{take-one, drop-next}
 use Rattle.law_model.specs.Common.{Leg, offer_of, offers_of, Counts, scenario_by, Scenario, DueFrame, comes_at, Told}
-use Rattle.law_model.specs.Common.{extents, Stream, frame_refusal, offered_by, offered, reached, place_of}
+use Rattle.law_model.specs.Common.{extents, Stream, frame_refusal, offered_by, offered, reached, place_of, most_ticks}
 use Rattle.law_model.specs.Common.{stream_before, IsSound}
 use Rattle.law_model.specs.declared.script_types.Item.{Item}
 use Rattle.law_model.specs.declared.script_types.ItemKind.{ItemKind}
@@ -535,7 +535,7 @@ module _ (leg : Leg) (was now : Cursor) (found : LandedFrame) (next : IsNext leg
 -- ---- The ruler of a walk, tick by tick and frame by frame.
 -- ---- bounds
 pub few-ticks : (leg : Leg) (s : Counts) → IsSound leg → IsWalked leg s → (s.ticks ≤ leg.config.ticks) ×
-    (s.ticks ≤ 1000000)
+    (s.ticks ≤ most_ticks)
 few-ticks leg s sound walked =
     let within = counts-within leg s (sound-walks leg sound) walked in
     (within.1, omega (arith, within.1, sound.network.ticks.1))

@@ -11,7 +11,7 @@ use Rattle.std.proofs.lemmas.List.Elements.{All-nil, All-cons, All-head, All-tai
 use Rattle.law_model.proofs.ListLaws.{take-one}
 use Rattle.law_model.specs.Common.{Leg, Piece, stream_of, Confirmed, hunt, scenario_by, offer_of, offers_of, StreamRow}
 use Rattle.law_model.specs.Common.{Segment, segments, octets_of_rows, place_of, stream_before, Counts, steps_in, Table}
-use Rattle.law_model.specs.Common.{active, after, table_of, segments_of, is_whole_row, rows_of, IsSound}
+use Rattle.law_model.specs.Common.{active, after, table_of, segments_of, is_whole_row, rows_of, IsSound, most_ticks}
 use Rattle.law_model.specs.declared.script_types.Item.{Item}
 use Rattle.law_model.specs.declared.script_types.ItemKind.{ItemKind}
 use Rattle.law_model.specs.declared.item_refusals.Refusal.{Refusal}
@@ -498,7 +498,7 @@ texts-next done own before =
 -- ---- What is seen of a walk: one packet more, and one row more.
 -- ---- bounds
 pub few-rows : (leg : Leg) (s : Counts) → IsSound leg → IsWalked leg s → (s.rows ≤ s.ticks) ×
-    (s.ticks ≤ leg.config.ticks) × (s.ticks ≤ 1000000)
+    (s.ticks ≤ leg.config.ticks) × (s.ticks ≤ most_ticks)
 few-rows leg s sound walked =
     let within = counts-within leg s (sound-walks leg sound) walked in
     (within.0, within.1, omega (arith, within.1, sound.network.ticks.1))

@@ -30,6 +30,7 @@ use Rattle.law_model.specs.declared.script_types.EventLine.TheVariants.{Client, 
 use Rattle.law_model.specs.declared.walk_events.Event.{Event}
 use Rattle.law_progress.proofs.RoundProgressAndDrainLaws.{run-append, run-none}
 use Rattle.law_walk.proofs.WalkPlanAndPoppedCellLaws.{has-plan, sound-walks}
+use Rattle.law_model.specs.Common.{most_count}
 
 -- ---- How the counts of a conversation stand beside what was said: so many ticks have passed, and each item has landed.
 -- ---- the due ticks of items
@@ -518,7 +519,7 @@ module _ (plan : Plan) (line : ℕ → EventLine) (tries : ℕ → Counts → Co
 
     pub counted-run : (n : ℕ) (s : Counts) (rest : List EventLine) →
         run_lines plan s (counted line n ++ rest) ≡ run_lines plan (tries n s) rest
-    counted-run n s rest = by (n / 1000000) 1000000 (n % 1000000) (omega arith)
+    counted-run n s rest = by (n / most_count) most_count (n % most_count) (omega arith)
       where
         by : (q size r : ℕ) → q * size + r ≡ n →
             run_lines plan s
@@ -576,7 +577,7 @@ many-lines zero r x y some = elim (cases_Bool (r == 0)) [
 
 counted-some : (line : ℕ → EventLine) (n : ℕ) → 1 ≤ n → 1 ≤ length (counted line n)
 counted-some line n some =
-    many-lines (n / 1000000) (n % 1000000) (line 1000000) (line (n % 1000000)) (omega (arith, some))
+    many-lines (n / most_count) (n % most_count) (line most_count) (line (n % most_count)) (omega (arith, some))
 
 pub events-some : (rounds : ℕ) (live : Live) → 1 ≤ length (events_by rounds live)
 events-some rounds live =

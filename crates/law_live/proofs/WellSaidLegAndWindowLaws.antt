@@ -9,7 +9,7 @@ use Rattle.std.proofs.lemmas.List.Elements.{All-cons, All-nil, All-head, All-pus
 use Rattle.std.proofs.lemmas.List.Elements.{All-replicate, All-set, All-weaker}
 use Rattle.law_model.specs.Common.{AreWindows, HasFailures, slip_after, slip_of, AreItems, IsCount, IsEvent, IsItem}
 use Rattle.law_model.specs.Common.{IsKind, IsNetwork, IsSound, IsValid, command_dues, dues_of, due_of, frame_dues}
-use Rattle.law_model.specs.Common.{greatest, greatest_slip, least}
+use Rattle.law_model.specs.Common.{greatest, greatest_slip, least, most_count, longest_slip}
 use Rattle.law_model.specs.declared.window_types.Window.{Window}
 use Rattle.law_model.specs.members.Damage.{carried}
 use Rattle.law_live.specs.Common.{LineCourse, IsSameBelow, closed, windows_by, CanSay, CanSayAll, IsWellSaid, Live}
@@ -65,7 +65,7 @@ failures-closed ticks passed windows (Some start) has open_ low = elim (cases_Bo
         few = omega (arith, few, sum);
         apart = apart-push 0 windows last has.apart open_.1 (omega arith) (omega (arith, begun));
         ends = All-push (λ (window : Window). window.end ≤ ticks) windows last has.ends low;
-        slips = All-push (λ (window : Window). window.slip ≤ 2047) windows last has.slips (omega arith);
+        slips = All-push (λ (window : Window). window.slip ≤ longest_slip) windows last has.slips (omega arith);
       })
 ]
 
@@ -359,9 +359,9 @@ each-counted P q r x y one last =
 counted-right : (lines : ℕ) (line : ℕ → EventLine) → ((n : ℕ) → IsCount n → IsEvent lines (line n)) → (n : ℕ) →
     All (IsEvent lines) (counted line n)
 counted-right lines line is n =
-    each-counted (IsEvent lines) (n / 1000000) (n % 1000000) (line 1000000) (line (n % 1000000))
-    (is 1000000 (omega arith, omega arith))
-    (λ some. is (n % 1000000) (grind (arith, some), omega arith))
+    each-counted (IsEvent lines) (n / most_count) (n % most_count) (line most_count) (line (n % most_count))
+    (is most_count (omega arith, omega arith))
+    (λ some. is (n % most_count) (grind (arith, some), omega arith))
 
 events-right : (lines rounds : ℕ) (live : Live) → All (IsEvent lines) (events_by rounds live)
 events-right lines rounds live =

@@ -1,7 +1,7 @@
 -- The script of what was said: the same configuration, each failure as a window, each item due in the tick in which it
 -- was said, and rounds for the ticks that have passed.
 use Rattle.std.specs.Prelude.{ℕ, ◌/◌, ◌%◌, ◌==◌, max, List, [], ◌∷◌, ◌++◌, map, replicate, if◌then◌else◌}
-use Rattle.law_model.specs.Common.{Leg}
+use Rattle.law_model.specs.Common.{Leg, most_count}
 use Rattle.law_model.specs.declared.script_types.EventLine.{EventLine}
 use Rattle.law_model.specs.declared.script_types.EventLine.TheVariants.{Client, Operator, Round}
 use Rattle.law_model.specs.declared.script_types.Config.{Config}
@@ -24,7 +24,7 @@ leg_said config said = leg_by config (live_of config said)
 -- event lines that try an event so many times, where one has a count of at most 1,000,000
 abbrev pub counted : (ℕ → EventLine) → ℕ → List EventLine
 counted line n =
-    replicate (n / 1000000) (line 1000000) ++ (if n % 1000000 == 0 then [] else line (n % 1000000) ∷ [])
+    replicate (n / most_count) (line most_count) ++ (if n % most_count == 0 then [] else line (n % most_count) ∷ [])
 
 -- rounds, and each item once
 abbrev pub events_by : ℕ → Live → List EventLine

@@ -1,6 +1,9 @@
 -- The words that most definitions and proofs cite, passed on from one place. Declares nothing.
-pub use Rattle.law_model.specs.Limits.{longest_extended_area, longest_frame, longest_got_line, longest_input}
-pub use Rattle.law_model.specs.Limits.{most_waiting, shortest_frame, vc3_size, vc4_size}
+pub use Rattle.law_model.specs.Limits.{largest_ring, longest_delay, longest_extended_area, longest_frame}
+pub use Rattle.law_model.specs.Limits.{longest_got_line, longest_holdoff, longest_input, longest_lag, longest_offer}
+pub use Rattle.law_model.specs.Limits.{longest_restore, longest_slip, most_count, most_drawn_ticks, most_items, most_lines}
+pub use Rattle.law_model.specs.Limits.{most_packets, most_pending, most_ticks, most_waiting, most_windows}
+pub use Rattle.law_model.specs.Limits.{shortest_frame, vc3_size, vc4_size}
 pub use Rattle.law_model.specs.frames.Core.{IsPli, is_pli}
 unfoldable pub use Rattle.law_model.specs.frames.Core.{core_header, head, pli_of}
 pub use Rattle.law_model.specs.frames.Delivery.{delivered}

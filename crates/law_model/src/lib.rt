@@ -6,10 +6,10 @@
 
 mod control_packet;
 mod frame_faults;
-mod frame_limits;
 mod frame_out;
 mod item_refusals;
 mod lcas_states;
+mod limits;
 mod script_types;
 mod session_totals;
 mod walk_events;
@@ -17,10 +17,14 @@ mod window_types;
 
 pub use control_packet::{Packet, PacketFault};
 pub use frame_faults::{TypeFault, Why};
-pub use frame_limits::{LONGEST_FRAME, MOST_LINES};
 pub use frame_out::{FrameOut, Silent};
 pub use item_refusals::{AcceptFault, CommandFault, Refusal};
 pub use lcas_states::{Command, Member, SinkState, SourceState, Standing};
+pub use limits::{
+    LARGEST_RING, LONGEST_DELAY, LONGEST_FRAME, LONGEST_HOLDOFF, LONGEST_LAG, LONGEST_OFFER,
+    LONGEST_RESTORE, LONGEST_SLIP, MOST_COUNT, MOST_DRAWN_TICKS, MOST_LINES, MOST_PACKETS,
+    MOST_TICKS, MOST_WINDOWS,
+};
 pub use script_types::{
     Config, Delays, EventLine, EventList, Item, ItemKind, ItemList, LostList, Octets, Options,
     Script, WindowList, WindowLists,

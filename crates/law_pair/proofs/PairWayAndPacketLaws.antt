@@ -14,7 +14,7 @@ use Rattle.law_model.specs.Common.{is_silent_line, is_inferred, are_inferred, is
 use Rattle.law_model.specs.Common.{AreApart, IsSound, greatest, greatest_slip, scenario_of, forward_packet, oks_in}
 use Rattle.law_model.specs.Common.{told_by, untold, telling_at, mst_by, telling, sent_packet, session_cells, leader}
 use Rattle.law_model.specs.Common.{packet_if, packets_of, Leg, read_packets, return_at, Counts, packets, IsLine}
-use Rattle.law_model.specs.Common.{deliver, longest_frame}
+use Rattle.law_model.specs.Common.{deliver, longest_frame, most_packets}
 use Rattle.law_session.proofs.ClientStreamAndReplayLaws.{SameTables, width-same, place_of-same, stream_before-same}
 use Rattle.law_pair.specs.Common.{telling_of, IsWay, IsPair, is_unheard, way_of, way_telling, said_of, way_tells}
 use Rattle.law_pair.specs.Common.{way_config, PairCounts, pair_bound, with_lag, IsPairPlan, pair_plan, pair_drained}
@@ -281,7 +281,7 @@ way-sound script other is =
         windows = network.windows;
         lost = record {
           apart = windows-apart (is_unheard other) 0 (packets_in script.config.ticks) 0 (omega arith);
-          ends = windows-end (is_unheard other) 62500 0 (packets_in script.config.ticks) (omega (arith, ticks));
+          ends = windows-end (is_unheard other) most_packets 0 (packets_in script.config.ticks) (omega (arith, ticks));
         };
         ring = network.ring;
         lag = (omega (arith, some), omega (arith, near));

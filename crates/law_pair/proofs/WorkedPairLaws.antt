@@ -3,7 +3,7 @@ use Rattle.std.proofs.Common.{◌≡◌, ℕ, ◌<◌, ◌≤◌, List, [], ◌�
 use Rattle.std.proofs.lemmas.List.Elements.{All-nil, All-cons, All-replicate}
 use Rattle.std.proofs.lemmas.List.Sorted.{IsNonDecreasingBy-short}
 use Rattle.law_model.specs.Common.{AreWindows, slip_after, AreApart, HasFailures, IsNetwork, IsItem, AreItems, IsEvent}
-use Rattle.law_model.specs.Common.{frame_dues, command_dues}
+use Rattle.law_model.specs.Common.{frame_dues, command_dues, longest_delay, longest_slip, most_packets}
 use Rattle.law_model.specs.declared.window_types.Window.{Window}
 use Rattle.law_model.specs.declared.script_types.Item.{Item}
 use Rattle.law_model.specs.declared.script_types.ItemKind.TheVariants.{Frame, Add}
@@ -21,8 +21,8 @@ fails-once = record {
   apart = (omega arith, omega arith, tt);
   ends = All-cons (λ (window : Window). window.end ≤ 100) one [] (omega arith)
       (All-nil (λ (window : Window). window.end ≤ 100));
-  slips = All-cons (λ (window : Window). window.slip ≤ 2047) one [] (omega arith)
-      (All-nil (λ (window : Window). window.slip ≤ 2047));
+  slips = All-cons (λ (window : Window). window.slip ≤ longest_slip) one [] (omega arith)
+      (All-nil (λ (window : Window). window.slip ≤ longest_slip));
 }
 
 fails-never : HasFailures 100 []
@@ -31,7 +31,7 @@ fails-never = record {
   few = omega arith;
   apart = tt;
   ends = All-nil (λ (window : Window). window.end ≤ 100);
-  slips = All-nil (λ (window : Window). window.slip ≤ 2047);
+  slips = All-nil (λ (window : Window). window.slip ≤ longest_slip);
 }
 
 one-network : (windows : List Window) → HasFailures 100 windows → slip_after 0 0 windows ≡ 0 →
@@ -40,10 +40,10 @@ unfolding AreApart
 one-network windows failures slip = record {
   lines = (omega arith, omega arith);
   delay_each = refl;
-  delays = All-replicate (λ delay. delay ≤ 2047) 1 0 (omega arith);
+  delays = All-replicate (λ delay. delay ≤ longest_delay) 1 0 (omega arith);
   windows_each = refl;
   windows = All-cons (HasFailures 100) windows [] failures (All-nil (HasFailures 100));
-  lost = record { apart = tt; ends = All-nil (λ (window : ℕ × ℕ). window.1 ≤ 62500) };
+  lost = record { apart = tt; ends = All-nil (λ (window : ℕ × ℕ). window.1 ≤ most_packets) };
   ring = (omega arith, omega arith);
   lag = (omega arith, omega arith);
   ticks = (omega arith, omega arith);

@@ -7,7 +7,7 @@ use Rattle.std.proofs.lemmas.Bool.{cases_lt, eq-eqb, eqb-true, eqb-false, ne_eqb
 use Rattle.law_model.proofs.ListLaws.{filter-few}
 use Rattle.law_model.specs.Common.{Ctrl, Told, is_norm, is_normal, Scenario, planned_of, after, table_of, group_bit}
 use Rattle.law_model.specs.Common.{LineFields, ctrl_by, place_in, mst_by, is_carrying, has, lines_at, active_from}
-use Rattle.law_model.specs.Common.{active_of, packet_if, packets_from, is_read, is_heard, is_readable}
+use Rattle.law_model.specs.Common.{active_of, packet_if, packets_from, is_read, is_heard, is_readable, most_lines}
 use Rattle.law_model.specs.members.Damage.{carried}
 use Rattle.law_model.specs.declared.window_types.Window.{Window}
 use Rattle.law_model.specs.declared.control_packet.Packet.{Packet}
@@ -309,7 +309,7 @@ pub below-after : (scenario : Scenario) (returns : List (Option Told)) (k : ℕ)
 below-after scenario returns k = (Fits-after scenario returns (suc k)).0.0
 
 pub active_of-filter : (scenario : Scenario) (returns : List (Option Told)) (k : ℕ) (told : Told)
-    (readable : ℕ → Bool) → length scenario.windows ≤ 128 →
+    (readable : ℕ → Bool) → length scenario.windows ≤ most_lines →
     active_of (packets_from (length scenario.windows) told (table_of scenario returns k) k readable) ≡ filter readable
     (carrying (table_of scenario returns k).order)
 active_of-filter scenario returns k told readable limit =
@@ -327,7 +327,7 @@ filter-all r (x ∷ xs) e =
     rw here (ap (λ rest. x ∷ rest) (filter-all r xs parts.1))
 
 pub active_of-all : (scenario : Scenario) (returns : List (Option Told)) (k : ℕ) (told : Told) (readable : ℕ → Bool) →
-    length scenario.windows ≤ 128 →
+    length scenario.windows ≤ most_lines →
     list_all readable (carrying (table_of scenario returns k).order) ≡ true →
     active_of (packets_from (length scenario.windows) told (table_of scenario returns k) k readable) ≡ carrying
     (table_of scenario returns k).order

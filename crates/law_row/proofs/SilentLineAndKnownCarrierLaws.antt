@@ -11,7 +11,7 @@ use Rattle.law_model.specs.Common.{last_read, word, word_by, Row, leader, is_mem
 use Rattle.law_model.specs.Common.{last_word, has, active_of, packet_if, packets_of, packet_of_last, says_member}
 use Rattle.law_model.specs.Common.{is_silent, are_worded, in_norm, supposed, supposed_row, inferred, carriers_by}
 use Rattle.law_model.specs.Common.{carriers_of, carriers_at, read_packets, was_member, is_silent_line, is_inferred}
-use Rattle.law_model.specs.Common.{are_inferred, known_lines, is_line}
+use Rattle.law_model.specs.Common.{are_inferred, known_lines, is_line, most_lines}
 use Rattle.law_model.specs.declared.lcas_states.Standing.{Standing}
 use Rattle.law_model.specs.declared.lcas_states.Member.{Member}
 use Rattle.law_model.specs.declared.lcas_states.Standing.TheVariants.{Norm as normal}
@@ -358,7 +358,7 @@ all-counted r xs other =
     [ true ↦ λ all. ap Some (filter-all r xs all) | false ↦ λ some. refl ] refl
 
 -- the rows up to packet k: known where all are read, and else where the sink can go on
-carriers-counted : (scenario : Scenario) (returns : List (Option Told)) (k : ℕ) → length scenario.windows ≤ 128 →
+carriers-counted : (scenario : Scenario) (returns : List (Option Told)) (k : ℕ) → length scenario.windows ≤ most_lines →
     carriers_of scenario.options (rows_to scenario returns k) k
     ≡ (if is_heard scenario k
     then (if list_all (λ line. is_read scenario line k) (active (table_of scenario returns k))
@@ -574,7 +574,7 @@ module _ (scenario : Scenario) (n k : ℕ) (lag : 0 < scenario.lag) where
     raised-size [] = refl
     raised-size (member ∷ members) = ap suc (raised-size members)
 
-    supposed-active : lines ≤ 128 → are_all_worded ≡ true →
+    supposed-active : lines ≤ most_lines → are_all_worded ≡ true →
         active_of (supposed_row rows k) ≡ carrying (raised silent order)
     supposed-active limit all =
         let size = order-length scenario returns (suc k) in
@@ -599,7 +599,7 @@ module _ (scenario : Scenario) (n k : ℕ) (lag : 0 < scenario.lag) where
           | false ↦ λ isnt. refl
         ] here)
 
-    inferred-by : lines ≤ 128 →
+    inferred-by : lines ≤ most_lines →
         (if are_worded rows k && length (active_of (supposed_row rows k)) == length act
         then Some (active_of (supposed_row rows k)) else None)
         ≡ (if are_inferred scenario returns k then Some act else None)
@@ -630,7 +630,7 @@ module _ (scenario : Scenario) (n k : ℕ) (lag : 0 < scenario.lag) where
               ap (λ b. if b then Some act else None) (sym less)
         ] refl
 
-    inferred-same : lines ≤ 128 → inferred scenario.options rows k (length act)
+    inferred-same : lines ≤ most_lines → inferred scenario.options rows k (length act)
         ≡ (if scenario.options.infers && are_inferred scenario returns k then Some act else None)
     inferred-same limit =
         let found = active_of (supposed_row rows k) in
@@ -648,7 +648,7 @@ has-rows scenario returns k cells has =
     ap (λ rows. carriers_of scenario.options rows k)
     (map-same_range (read_packets cells) (packets_of scenario returns) 0 (k + 1) (λ j low. has j (omega arith)))
 
-pub carriers-known : (scenario : Scenario) (n k : ℕ) (cells : List (List Cell)) → length scenario.windows ≤ 128 →
+pub carriers-known : (scenario : Scenario) (n k : ℕ) (cells : List (List Cell)) → length scenario.windows ≤ most_lines →
     0 < scenario.lag → HasPackets scenario (cells_before scenario n) cells k →
     carriers_at scenario.options cells k ≡ known_lines scenario (cells_before scenario n) k
 carriers-known scenario n k cells limit lag has =
@@ -669,7 +669,7 @@ carriers-known scenario n k cells limit lag has =
     ] refl
 
 pub carriers-stop : (scenario : Scenario) (returns : List (Option Told)) (k : ℕ) (cells : List (List Cell)) →
-    length scenario.windows ≤ 128 → scenario.options.infers ≡ false → HasPackets scenario returns cells k →
+    length scenario.windows ≤ most_lines → scenario.options.infers ≡ false → HasPackets scenario returns cells k →
     carriers_at scenario.options cells k ≡ known_lines scenario returns k
 carriers-stop scenario returns k cells limit stops has =
     let rows = rows_to scenario returns k in

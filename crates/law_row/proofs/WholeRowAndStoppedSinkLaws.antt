@@ -12,7 +12,7 @@ use Rattle.law_model.specs.Common.{container_on, with_first, containers_at, carr
 use Rattle.law_model.specs.Common.{is_whole_under, is_whole_row, orders_at, is_read, is_heard, is_lost, Table, Source}
 use Rattle.law_model.specs.Common.{asked_all, decide, cell_at, after, said_before, said, is_line, is_line_up}
 use Rattle.law_model.specs.Common.{last_read, is_up, is_restored, are_missed, word_by, word, stands_at, group_of}
-use Rattle.law_model.specs.Common.{status, return_cell, packets, session_cells, are_inferred}
+use Rattle.law_model.specs.Common.{status, return_cell, packets, session_cells, are_inferred, most_lines}
 use Rattle.law_session.proofs.ClientStreamAndReplayLaws.{payload-length}
 use Rattle.law_row.specs.Received.{AreDealt, IsDealtRow, row_octets, TellsRow, stopping}
 use Rattle.law_model.specs.declared.lcas_states.Member.{Member}
@@ -195,7 +195,7 @@ row-known scenario returns sent cells t knows tells =
     ]
 
 pub row-whole : (scenario : Scenario) (n : ℕ) (sent : ℕ → Container) (cells : List (List Cell)) (t : ℕ) →
-    length scenario.windows ≤ 128 → 0 < scenario.lag → TellsRow scenario (cells_before scenario n) sent cells t →
+    length scenario.windows ≤ most_lines → 0 < scenario.lag → TellsRow scenario (cells_before scenario n) sent cells t →
     row_at scenario.options scenario.size cells t
     ≡ (if is_whole_row scenario (cells_before scenario n) t
     then Some (row_octets scenario (cells_before scenario n) sent t) else None)
@@ -204,7 +204,7 @@ row-whole scenario n sent cells t limit lag tells =
     (λ late. carriers-known scenario n ((t - 24) / 16) cells limit lag (tells.packets late)) tells
 
 pub row-stops : (scenario : Scenario) (returns : List (Option Told)) (sent : ℕ → Container) (cells : List (List Cell))
-    (t : ℕ) → length scenario.windows ≤ 128 → scenario.options.infers ≡ false →
+    (t : ℕ) → length scenario.windows ≤ most_lines → scenario.options.infers ≡ false →
     TellsRow scenario returns sent cells t →
     row_at scenario.options scenario.size cells t
     ≡ (if is_whole_row scenario returns t then Some (row_octets scenario returns sent t) else None)

@@ -7,7 +7,7 @@ use Rattle.std.proofs.lemmas.Bool.{le-leb, lt-ltb, cases_lt, and_parts}
 use Rattle.law_model.specs.Common.{AreWindows, carried_in, lock_of, is_good, is_readable, IsStatuses, is_up, Scenario}
 use Rattle.law_model.specs.Common.{member_of, kept_of, Table, Told, is_adding, is_ok, is_fail, in_use, acknowledged_by}
 use Rattle.law_model.specs.Common.{heard, told_on, admit, exchange, exchanged, Source, change_by, change, after}
-use Rattle.law_model.specs.Common.{cell_at, group_of, source_at, told_at, table_of}
+use Rattle.law_model.specs.Common.{cell_at, group_of, source_at, told_at, table_of, most_lines}
 use Rattle.law_model.specs.declared.window_types.Window.{Window}
 use Rattle.law_model.specs.declared.window_types.Carried.TheVariants.{Whole, Fails, Vanishes}
 use Rattle.law_model.specs.members.Damage.{carried}
@@ -353,7 +353,7 @@ no-fail scenario cells (suc j) sq line has =
 module _ (scenario : Scenario) (cells : List (Option Told)) (session : IsSession scenario cells)
     (lag : 0 < scenario.lag) where
   -- it is OK if the line is up and has a word at each packet of its group that the step can take
-  heard-fine : (j sq line : ℕ) → sq < 128 → Has (table_before scenario cells j).order sq line normal →
+  heard-fine : (j sq line : ℕ) → sq < most_lines → Has (table_before scenario cells j).order sq line normal →
       ((k : ℕ) → k + scenario.lag ≡ j → sq / 8 ≡ group_of scenario k → IsUpWithWord scenario cells line k) →
       is_fail (kept_of (heard ((j - scenario.lag) % scenario.options.statuses) (cell_at scenario cells j)
       (table_before scenario cells j)) sq)
@@ -397,7 +397,7 @@ module _ (scenario : Scenario) (cells : List (Option Told)) (session : IsSession
       ] refl
 
   -- and so it stays in NORM for some steps that make no change
-  pub stays-normal : (first sq line d : ℕ) → sq < 128 → Has (table_before scenario cells first).order sq line normal →
+  pub stays-normal : (first sq line d : ℕ) → sq < most_lines → Has (table_before scenario cells first).order sq line normal →
       ((k : ℕ) → first ≤ k → k < d + first →
       (table_of scenario cells k).count ≡ (table_before scenario cells k).count) →
       ((k : ℕ) → first ≤ k + scenario.lag → k + scenario.lag < d + first → sq / 8 ≡ group_of scenario k →

@@ -8,7 +8,7 @@ use Rattle.std.proofs.lemmas.Option.{none-some, same_Some, slice_get_within}
 use Rattle.std.proofs.lemmas.List.{get_or_past, length-map}
 use Rattle.law_model.specs.Common.{Leg, lock_of, is_good, Scenario, scenario_by, carried_by, is_read, is_heard}
 use Rattle.law_model.specs.Common.{packets, is_line_up, member_of, word, Told, is_norm, is_normal, active, after}
-use Rattle.law_model.specs.Common.{table_of, are_known, is_whole_row, IsSound}
+use Rattle.law_model.specs.Common.{table_of, are_known, is_whole_row, IsSound, most_lines}
 use Rattle.law_model.specs.declared.window_types.Window.{Window}
 use Rattle.law_model.specs.declared.lcas_states.Standing.{Standing}
 use Rattle.law_model.specs.declared.lcas_states.Member.{Member}
@@ -174,7 +174,7 @@ module _ (leg : Leg) (sound : IsSound leg) (from horizon : ℕ) (once : FailsOnc
         words = λ sq line k low high has. has-word sq line k low (omega arith) has;
       }
 
-  few-lines : (j sq : ℕ) (member : Member) → slice_get (table_before scenario cells j).order sq ≡ Some member → sq < 128
+  few-lines : (j sq : ℕ) (member : Member) → slice_get (table_before scenario cells j).order sq ≡ Some member → sq < most_lines
   few-lines j sq member has =
       let inside = slice_get_within (table_before scenario cells j).order sq member has in
       let most = order-length scenario cells j in
@@ -343,7 +343,7 @@ module _ (leg : Leg) (sound : IsSound leg) (from horizon : ℕ) (once : FailsOnc
         ]
       ]
 
-  pub few-before : (j s l : ℕ) → slice_get (lines_of (table_before scenario cells j).order) s ≡ Some l → s < 128
+  pub few-before : (j s l : ℕ) → slice_get (lines_of (table_before scenario cells j).order) s ≡ Some l → s < most_lines
   few-before j s l has =
       let order = (table_before scenario cells j).order in
       let inside = slice_get_within (lines_of order) s l has in

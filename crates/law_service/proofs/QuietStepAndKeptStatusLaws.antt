@@ -8,7 +8,7 @@ use Rattle.law_model.specs.Common.{Scenario, member_of, kept_of, Table, Told, ad
 use Rattle.law_model.specs.Common.{exchanged, Source, change_by, change, source_at, told_at, table_of, is_heard}
 use Rattle.law_model.specs.Common.{is_for, is_ok, is_fail, acknowledged_by, heard, cell_at, status, return_packet}
 use Rattle.law_model.specs.Common.{IsStatuses, group_of, is_line_up, word, Leg, DueCommand, scenario_by, orders_of}
-use Rattle.law_model.specs.Common.{orders_at, lands_at, take_out, asked_all, after, first_of}
+use Rattle.law_model.specs.Common.{orders_at, lands_at, take_out, asked_all, after, first_of, most_lines}
 use Rattle.law_model.specs.declared.lcas_states.Standing.{Standing}
 use Rattle.law_model.specs.declared.lcas_states.Member.{Member}
 use Rattle.law_model.specs.declared.lcas_states.Command.{Command}
@@ -233,7 +233,7 @@ module _ (scenario : Scenario) (cells : List (Option Told)) (first last : ℕ)
       ∙ ap (λ told. told_on (heard (group_of scenario k) told table)) cell
       ∙ ap told_on (heard-for (group_of scenario k) (Some (return_packet scenario cells k)) table (is-for k low high))
 
-  kept-step : (k sq : ℕ) → first ≤ k → k + scenario.lag ≤ last → sq < 128 →
+  kept-step : (k sq : ℕ) → first ≤ k → k + scenario.lag ≤ last → sq < most_lines →
       kept_of (table_of scenario cells (k + scenario.lag)) sq
       ≡ (if sq / 8 == group_of scenario k then slice_get (return_packet scenario cells k).oks (sq % 8)
       else kept_of (table_before scenario cells (k + scenario.lag)) sq)
@@ -258,7 +258,7 @@ module _ (scenario : Scenario) (cells : List (Option Told)) (first last : ℕ)
         | inr down ↦ status-fails scenario cells (suc k) k sq line (omega arith) whole there down ∙ sym down
       ]
 
-  kept-first : (k sq line : ℕ) → first ≤ k → k + scenario.lag ≤ last → sq < 128 → sq / 8 ≡ group_of scenario k →
+  kept-first : (k sq line : ℕ) → first ≤ k → k + scenario.lag ≤ last → sq < most_lines → sq / 8 ≡ group_of scenario k →
       slice_get (lines_of (table_before scenario cells first).order) sq ≡ Some line →
       kept_of (table_of scenario cells (k + scenario.lag)) sq ≡ Some (is_line_up scenario line k)
   kept-first k sq line low high small group has =
@@ -267,7 +267,7 @@ module _ (scenario : Scenario) (cells : List (Option Told)) (first last : ℕ)
       kept-step k sq low high small ∙ rw (eq-eqb (sq / 8) (group_of scenario k) group) says
 
   -- and it is kept until the next packet that says one of this SQ
-  kept-on : (k sq line d : ℕ) → first ≤ k → d + k + scenario.lag ≤ last → d < scenario.options.statuses → sq < 128 →
+  kept-on : (k sq line d : ℕ) → first ≤ k → d + k + scenario.lag ≤ last → d < scenario.options.statuses → sq < most_lines →
       sq / 8 ≡ group_of scenario k →
       slice_get (lines_of (table_before scenario cells first).order) sq ≡ Some line →
       kept_of (table_of scenario cells (d + k + scenario.lag)) sq ≡ Some (is_line_up scenario line k)
@@ -306,7 +306,7 @@ module _ (scenario : Scenario) (cells : List (Option Told)) (first last : ℕ)
       ∙ ap (λ lines. slice_get lines sq) (lines-before (suc j) (omega arith) (omega arith)) ∙ lines)
 
   -- the last packet that says a status of an SQ and that step j or one before it has taken
-  pub last-said : (j sq : ℕ) → known_by scenario first ≤ j → sq < 128 →
+  pub last-said : (j sq : ℕ) → known_by scenario first ≤ j → sq < most_lines →
       (k : ℕ) × (first ≤ k) × (k + scenario.lag ≤ j) × (j < k + scenario.options.statuses + scenario.lag) ×
       (sq / 8 ≡ group_of scenario k)
   last-said j sq low small =
@@ -318,7 +318,7 @@ module _ (scenario : Scenario) (cells : List (Option Told)) (first last : ℕ)
       (found.0, found.1, omega arith, omega arith, found.4)
 
   kept-by : (j k sq line : ℕ) → first ≤ k → k + scenario.lag ≤ j → j < k + scenario.options.statuses + scenario.lag →
-      j ≤ last → sq < 128 →
+      j ≤ last → sq < most_lines →
       sq / 8 ≡ group_of scenario k → slice_get (lines_of (table_before scenario cells first).order) sq ≡ Some line →
       kept_of (table_of scenario cells j) sq ≡ Some (is_line_up scenario line k)
   kept-by j k sq line start taken near high small group lines =
@@ -342,7 +342,7 @@ module _ (scenario : Scenario) (cells : List (Option Told)) (first last : ℕ)
   -- a line in NORM was up at that packet
   pub norm-up : (j k sq line : ℕ) → first ≤ k → k + scenario.lag ≤ j →
       j < k + scenario.options.statuses + scenario.lag → j ≤ last →
-      sq < 128 → sq / 8 ≡ group_of scenario k → Has (table_of scenario cells j).order sq line normal →
+      sq < most_lines → sq / 8 ≡ group_of scenario k → Has (table_of scenario cells j).order sq line normal →
       is_line_up scenario line k ≡ true
   norm-up j k sq line start taken near high small group has =
       let lag = quiet.lag in
@@ -355,7 +355,7 @@ module _ (scenario : Scenario) (cells : List (Option Told)) (first last : ℕ)
   -- a line that was, and isn't in ADD, is in NORM
   up-norm : (j k sq line : ℕ) → first ≤ k → k + scenario.lag ≤ j → j < k + scenario.options.statuses + scenario.lag →
       j ≤ last →
-      sq < 128 → sq / 8 ≡ group_of scenario k →
+      sq < most_lines → sq / 8 ≡ group_of scenario k →
       slice_get (lines_of (table_before scenario cells first).order) sq ≡ Some line →
       is_line_up scenario line k ≡ true → (Has (table_of scenario cells j).order sq line adding → ⊥) →
       Has (table_of scenario cells j).order sq line normal
@@ -400,7 +400,7 @@ module _ (scenario : Scenario) (cells : List (Option Told)) (first last : ℕ)
       never-added sq line (suc j - first) (omega arith) there
 
   -- ---- a line in ADD that was up, once something is known of each line: it would have been exchanged
-  known-at : (n s l : ℕ) → round_end scenario first ≤ n → n + scenario.lag ≤ last → s < 128 →
+  known-at : (n s l : ℕ) → round_end scenario first ≤ n → n + scenario.lag ≤ last → s < most_lines →
       slice_get (lines_of (table_before scenario cells first).order) s ≡ Some l →
       (is_ok (kept_of (table_of scenario cells (n + scenario.lag)) s) ≡ true)
       ⊎ (is_fail (kept_of (table_of scenario cells (n + scenario.lag)) s) ≡ true)
@@ -412,7 +412,7 @@ module _ (scenario : Scenario) (cells : List (Option Told)) (first last : ℕ)
 
   not-added : (n k sq line : ℕ) → round_end scenario first ≤ n → n + scenario.lag ≤ last → first ≤ k → k ≤ n →
       n < k + scenario.options.statuses →
-      ((s l : ℕ) → slice_get (lines_of (table_before scenario cells first).order) s ≡ Some l → s < 128) →
+      ((s l : ℕ) → slice_get (lines_of (table_before scenario cells first).order) s ≡ Some l → s < most_lines) →
       sq / 8 ≡ group_of scenario k → slice_get (lines_of (table_before scenario cells first).order) sq ≡ Some line →
       is_line_up scenario line k ≡ true → Has (table_of scenario cells (n + scenario.lag)).order sq line adding → ⊥
   not-added n k sq line late high start taken near small group lines ok has =
@@ -450,7 +450,7 @@ module _ (scenario : Scenario) (cells : List (Option Told)) (first last : ℕ)
   -- something is known of each line
   pub up-stands : (j k sq line : ℕ) → first ≤ k → k + scenario.lag ≤ j →
       j < k + scenario.options.statuses + scenario.lag → j ≤ last →
-      ((s l : ℕ) → slice_get (lines_of (table_before scenario cells first).order) s ≡ Some l → s < 128) →
+      ((s l : ℕ) → slice_get (lines_of (table_before scenario cells first).order) s ≡ Some l → s < most_lines) →
       sq / 8 ≡ group_of scenario k → slice_get (lines_of (table_before scenario cells first).order) sq ≡ Some line →
       (Has (table_before scenario cells first).order sq line adding → known_by scenario first ≤ j) →
       is_line_up scenario line k ≡ true → Has (table_of scenario cells j).order sq line normal

@@ -10,7 +10,7 @@ use Rattle.law_model.specs.Common.{idle, are_whole, slip_of, slip_after, frame_d
 use Rattle.law_model.specs.Common.{FitsRing, FitsLag, scenario_by, frames_at, IsWithin, HasFailures, IsItem, IsNetwork}
 use Rattle.law_model.specs.Common.{IsSound, said_before, cells_before, size, Stream, reaching, place_of, stream_before}
 use Rattle.law_model.specs.Common.{width, is_up, last_read, after, keep, none_kept, admit, turned, take_out, exchange}
-use Rattle.law_model.specs.Common.{member_of, DueCommand, orders_of, is_read}
+use Rattle.law_model.specs.Common.{member_of, DueCommand, orders_of, is_read, most_ticks}
 use Rattle.law_model.specs.declared.script_types.Item.{Item}
 use Rattle.law_model.specs.declared.window_types.Window.{Window}
 use Rattle.law_model.specs.declared.script_types.ItemKind.TheVariants.{Frame, Add}
@@ -35,10 +35,11 @@ use Rattle.law_service.specs.cost_of_failures.Settled.{IsSettled}
 use Rattle.law_service.specs.cost_of_failures.CostInNumbers.{WasUsed, WereUsed}
 use Rattle.law_service.specs.cost_of_failures.WorkedCosts.{costly_window, costly_windows, costly_leg}
 use Rattle.law_service.proofs.QuietStepAndKeptStatusLaws.{settled-still}
+use Rattle.law_model.specs.Common.{largest_ring, longest_delay, longest_offer}
 
 -- ---- Legs that meet what is asked.
 -- one line without failures
-one-line : (ticks : ℕ) → IsWithin 1 1000000 ticks → IsNetwork (plain ([] ∷ []) 1 1 ticks)
+one-line : (ticks : ℕ) → IsWithin 1 most_ticks ticks → IsNetwork (plain ([] ∷ []) 1 1 ticks)
 unfolding slip_after
 one-line ticks some =
     plain_network ([] ∷ []) 1 1 ticks (omega arith, omega arith)
@@ -48,7 +49,7 @@ one-line ticks some =
 abbrev frame_item : ℕ → ℕ → ℕ → Item
 frame_item due n octet = item due (Frame (replicate n octet))
 
-frame-fits : (ticks due n octet : ℕ) → due < ticks → 1 ≤ n → n ≤ 65535 → octet < 256 →
+frame-fits : (ticks due n octet : ℕ) → due < ticks → 1 ≤ n → n ≤ longest_offer → octet < 256 →
     IsItem ticks (frame_item due n octet)
 frame-fits ticks due n octet early some few low =
     let long = length-replicate n octet in
@@ -192,7 +193,7 @@ full-keeps = record {
 
 -- ---- other delays, and a ring that they fit
 delayed : (leg : Leg) (delays : List ℕ) (ring : ℕ) → IsSound leg → length delays ≡ leg.config.lines →
-    All (λ (delay : ℕ). delay ≤ 2047) delays → IsWithin 1 2048 ring → FitsRing (with_delays leg delays ring).config →
+    All (λ (delay : ℕ). delay ≤ longest_delay) delays → IsWithin 1 largest_ring ring → FitsRing (with_delays leg delays ring).config →
     FitsLag (with_delays leg delays ring).config → IsSound (with_delays leg delays ring)
 delayed leg delays ring sound each few_ticks within fits_ring fits_lag =
     let network = sound.network in
@@ -220,7 +221,7 @@ delayed leg delays ring sound each few_ticks within fits_ring fits_lag =
 pub twin-sound : IsSound (with_delays failing_leg (15 ∷ []) 7)
 unfolding slip_after
 twin-sound =
-    delayed failing_leg (15 ∷ []) 7 failing-sound refl (All-replicate (λ delay. delay ≤ 2047) 1 15 (omega arith))
+    delayed failing_leg (15 ∷ []) 7 failing-sound refl (All-replicate (λ delay. delay ≤ longest_delay) 1 15 (omega arith))
     (omega arith, omega arith) (omega arith) (omega arith)
 
 -- ---- one line fails and doesn't slip, another has a delay
@@ -241,8 +242,8 @@ unfolding slip_after
 timed-sound =
     delayed (record { config = plain timed_windows 16 2 1100; items = failing_leg.items; tells = [] }) (0 ∷ 15 ∷ []) 16
     (record { network = timed-network; items = failing-sound.items; few = failing-sound.few }) refl
-    (All-cons (λ (delay : ℕ). delay ≤ 2047) 0 (15 ∷ []) (omega arith)
-    (All-replicate (λ delay. delay ≤ 2047) 1 15 (omega arith)))
+    (All-cons (λ (delay : ℕ). delay ≤ longest_delay) 0 (15 ∷ []) (omega arith)
+    (All-replicate (λ delay. delay ≤ longest_delay) 1 15 (omega arith)))
     (omega arith, omega arith) (omega arith) (omega arith)
 
 abbrev NoSlip : List Window → Type 0

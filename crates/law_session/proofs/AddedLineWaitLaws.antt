@@ -8,7 +8,7 @@ use Rattle.law_model.specs.Common.{Scenario, orders_at, is_read, is_heard, kept_
 use Rattle.law_model.specs.Common.{is_fail, is_for, acknowledged_by, heard, admit, told_on, changed, exchange}
 use Rattle.law_model.specs.Common.{exchanged, Source, change_by, change, after, cell_at, source_at, told_at, first_of}
 use Rattle.law_model.specs.Common.{IsStatuses, group_of, table_of, is_line_up, status, return_packet, carried_out}
-use Rattle.law_model.specs.Common.{cells_before}
+use Rattle.law_model.specs.Common.{cells_before, most_lines}
 use Rattle.law_model.specs.declared.lcas_states.Command.{Command}
 use Rattle.law_model.specs.declared.lcas_states.Member.{Member}
 use Rattle.law_model.specs.declared.lcas_states.Standing.TheVariants.{Add as adding, Norm as normal}
@@ -51,7 +51,7 @@ pub record IsFair (scenario : Scenario) (cells : List (Option Told)) (good : ℕ
       InRound scenario first k → is_read scenario line k ≡ good line
   pub ups : (s line k : ℕ) → s ≤ sq → Has (table_of scenario cells first).order s line adding → first ≤ k →
       InRound scenario first k → good line ≡ true → is_line_up scenario line k ≡ true
-  pub small : sq < 128
+  pub small : sq < most_lines
 
 -- an ADD line that waits to be used, in a table before step i
 pub record Waits (scenario : Scenario) (cells : List (Option Told)) (good : ℕ → Bool) (first sq line i : ℕ)
@@ -711,7 +711,7 @@ Waits-added scenario cells good first line lag e =
     }
 
 IsFair-session : (scenario : Scenario) (n first sq line : ℕ) → 0 < scenario.lag →
-    IsStatuses scenario.options.statuses → line < length scenario.windows → sq < 128 →
+    IsStatuses scenario.options.statuses → line < length scenario.windows → sq < most_lines →
     first + scenario.options.statuses ≤ n →
     (table_before scenario (cells_before scenario n) first).count <
     (table_of scenario (cells_before scenario n) first).count →
@@ -734,7 +734,7 @@ IsFair-session scenario n first sq line lag statuses known small whole rose come
 
 pub added : (scenario : Scenario) (n first line : ℕ) → 0 < scenario.lag → IsStatuses scenario.options.statuses →
     first + scenario.options.statuses ≤ n →
-    length (told_at scenario (cells_before scenario n) first).order < 128 →
+    length (told_at scenario (cells_before scenario n) first).order < most_lines →
     AddsAlone scenario (cells_before scenario n) line first (known_by scenario first) →
     AllCome scenario first scenario.options.statuses →
     ((other : ℕ) → IsAdded (table_of scenario (cells_before scenario n) first) other →

@@ -8,7 +8,7 @@ use Rattle.law_model.specs.declared.script_types.Options.{Options}
 use Rattle.law_model.specs.declared.lcas_states.Standing.{Standing}
 use Rattle.law_model.specs.declared.lcas_states.Standing.TheVariants.{Norm as normal, Add as adding, Dnu as unused}
 use Rattle.law_model.specs.Common.{Scenario, is_read, is_line_up, is_up, last_read, kept_of, member_of, said, Told}
-use Rattle.law_model.specs.Common.{told_on, table_of, word, word_by, status, Table, acknowledged_by, after}
+use Rattle.law_model.specs.Common.{told_on, table_of, word, word_by, status, Table, acknowledged_by, after, most_lines}
 use Rattle.law_model.specs.Common.{cells_before, group_of, return_packet}
 use Rattle.law_session.specs.Feedback.{table_before, lines_of}
 use Rattle.law_session.specs.LineInUse.{IsInUse, IsAdded, known_by, round_end}
@@ -297,7 +297,7 @@ never-used scenario cells session lag line e j down high used =
 -- ---- the step of a round that takes the status of the line
 kept-told : (scenario : Scenario) (cells : List (Option Told)) (j k s : ℕ) → j ≡ k + scenario.lag →
     slice_index_or cells k None ≡ Some (return_packet scenario cells k) →
-    said scenario cells k ≡ (table_before scenario cells j).count → s / 8 ≡ group_of scenario k → s < 128 →
+    said scenario cells k ≡ (table_before scenario cells j).count → s / 8 ≡ group_of scenario k → s < most_lines →
     (kept_of (heard_at scenario cells j)) s ≡ Some (status scenario cells k s)
 unfolding heard_at
 kept-told scenario cells j k s at cell whole group small =
@@ -324,8 +324,8 @@ record RoundStep (scenario : Scenario) (cells : List (Option Told)) (line d : �
   pub whole : said scenario cells packet ≡ (table_before scenario cells (packet + scenario.lag)).count
   pub kept : (kept_of (heard_at scenario cells (packet + scenario.lag))) sq ≡ Some (status scenario cells packet sq)
 
-small-sq : (scenario : Scenario) (cells : List (Option Told)) (j sq line : ℕ) → length scenario.windows ≤ 128 →
-    slice_get (lines_of (table_before scenario cells j).order) sq ≡ Some line → sq < 128
+small-sq : (scenario : Scenario) (cells : List (Option Told)) (j sq line : ℕ) → length scenario.windows ≤ most_lines →
+    slice_get (lines_of (table_before scenario cells j).order) sq ≡ Some line → sq < most_lines
 small-sq scenario cells j sq line lines has =
     let order = (table_before scenario cells j).order in
     let inside = slice_get_within (lines_of order) sq line has in

@@ -8,7 +8,7 @@ use Rattle.std.proofs.lemmas.List.{length-map, length-append}
 use Rattle.std.proofs.lemmas.Bool.{eqb-true, eqb-false}
 use Rattle.law_model.specs.Common.{IsStatuses, Scenario, is_read, is_line_up, kept_of, member_of, Table, Told, is_ok}
 use Rattle.law_model.specs.Common.{is_fail, admit, told_on, carried_out, exchange, exchanged, Source, change_by}
-use Rattle.law_model.specs.Common.{change}
+use Rattle.law_model.specs.Common.{change, most_lines}
 use Rattle.law_model.specs.Common.{source_at, told_at, first_of, table_of, cells_before, packets, session_cells}
 use Rattle.law_model.specs.declared.lcas_states.Command.{Command}
 use Rattle.law_model.specs.declared.lcas_states.Member.{Member}
@@ -280,7 +280,7 @@ rounds scenario = known_by scenario scenario.options.statuses
 
 after_start : (scenario : Scenario) (n first line start place : ℕ) → 0 < scenario.lag →
     IsStatuses scenario.options.statuses → line < length scenario.windows → first + rounds scenario ≤ n →
-    ((j s l : ℕ) → Has (table_of scenario (cells_before scenario n) j).order s l adding → s < 128) →
+    ((j s l : ℕ) → Has (table_of scenario (cells_before scenario n) j).order s l adding → s < most_lines) →
     Alone scenario (cells_before scenario n) line first (known_by scenario (known_by scenario first)) →
     AllCome scenario first (rounds scenario) → AllSeen scenario line first (rounds scenario) →
     first < start → start ≤ known_by scenario first → Starts scenario (cells_before scenario n) line start place →
@@ -310,7 +310,7 @@ after_start scenario n first line start place lag statuses known whole small alo
 
 pub brought : (scenario : Scenario) (n first line : ℕ) → 0 < scenario.lag →
     IsStatuses scenario.options.statuses → first + rounds scenario ≤ n →
-    ((j s l : ℕ) → Has (table_of scenario (cells_before scenario n) j).order s l adding → s < 128) →
+    ((j s l : ℕ) → Has (table_of scenario (cells_before scenario n) j).order s l adding → s < most_lines) →
     AddsAlone scenario (cells_before scenario n) line first (known_by scenario (known_by scenario first)) →
     AllCome scenario first (rounds scenario) → AllSeen scenario line first (rounds scenario) →
     ((s l : ℕ) → Has (table_of scenario (cells_before scenario n) first).order s l adding → (l ≡ line → ⊥) →

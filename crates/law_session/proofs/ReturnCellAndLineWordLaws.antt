@@ -8,7 +8,7 @@ use Rattle.law_model.specs.Common.{Scenario, orders_at, is_heard, Table, Told, S
 use Rattle.law_model.specs.Common.{refusal, after, cell_at, table_of, said_before, said, return_packet, is_read}
 use Rattle.law_model.specs.Common.{is_line, is_line_up, last_read, stands_at, status, word, word_by, kept_of, is_for}
 use Rattle.law_model.specs.Common.{keep, none_kept, acknowledged_by, heard, told_on, exchange, exchanged, change_by}
-use Rattle.law_model.specs.Common.{change, group_of, is_lost, decide, return_cell, cells_before}
+use Rattle.law_model.specs.Common.{change, group_of, is_lost, decide, return_cell, cells_before, most_lines}
 use Rattle.law_model.specs.declared.lcas_states.Command.{Command}
 use Rattle.law_model.specs.declared.item_refusals.CommandFault.{CommandFault}
 use Rattle.law_session.specs.Feedback.{HaveOneChg, lines_of, table_before}
@@ -445,14 +445,14 @@ status-none scenario cells k sq none =
 -- ---- The statuses that are kept, as a list by SQ: there are always 128 of them.
 pub none_kept-at : (sq : ℕ) → slice_index_or none_kept sq None ≡ None
 unfolding none_kept
-none_kept-at sq = replicate-at 128 None sq
+none_kept-at sq = replicate-at most_lines None sq
 
 pub none_kept-some : (sq : ℕ) (ok : Bool) → slice_index_or none_kept sq None ≡ Some ok → ⊥
 none_kept-some sq ok e = none-some ok (sym (none_kept-at sq) ∙ e)
 
-none_kept-size : length none_kept ≡ 128
+none_kept-size : length none_kept ≡ most_lines
 unfolding none_kept
-none_kept-size = length-replicate {A = Option Bool} 128 None
+none_kept-size = length-replicate {A = Option Bool} most_lines None
 
 pub keep-size : (group : ℕ) (oks : List Bool) (base : ℕ) (statuses : List (Option Bool)) →
     length (keep group oks base statuses) ≡ length statuses
@@ -484,7 +484,7 @@ inside-of_some (y ∷ xs) (suc k) x e = let h = inside-of_some xs k x e in omega
 
 -- ---- always 128
 abbrev pub IsFull : Table → Type 0
-IsFull table = length table.statuses ≡ 128
+IsFull table = length table.statuses ≡ most_lines
 
 full-heard : (group : ℕ) (told : Option Told) (table : Table) → IsFull table → IsFull (heard group told table)
 full-heard group told table full =

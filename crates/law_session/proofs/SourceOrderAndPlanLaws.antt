@@ -10,7 +10,7 @@ use Rattle.law_model.proofs.ListLaws.{replicate-at}
 use Rattle.law_model.specs.Common.{Scenario, orders_at, kept_of, member_of, Table, Told, is_adding, is_ok, is_fail}
 use Rattle.law_model.specs.Common.{heard, told_on, changed, carried_out, take_out, exchange, exchanged, Source}
 use Rattle.law_model.specs.Common.{planned_of, accepted, line_of, refusal, asked, asked_by, asked_all, change_by}
-use Rattle.law_model.specs.Common.{change, decide, cell_at, after}
+use Rattle.law_model.specs.Common.{change, decide, cell_at, after, most_pending}
 use Rattle.law_model.specs.declared.lcas_states.Command.{Command}
 use Rattle.law_model.specs.declared.item_refusals.CommandFault.{CommandFault}
 use Rattle.law_model.specs.declared.item_refusals.CommandFault.TheVariants.{UnknownLine, AlreadyIn, NotIn}
@@ -247,7 +247,7 @@ refusal_by lines unknown adds planned full =
     if unknown then Some (UnknownLine lines)
     else if adds && planned then Some AlreadyIn
     else if not adds && not planned then Some NotIn
-    else if full then Some (TooManyPending 64)
+    else if full then Some (TooManyPending most_pending)
     else None
 
 pub some_refusal : (fault : CommandFault) → Some fault ≡ None → ⊥
@@ -267,7 +267,7 @@ meets : (lines : ℕ) (command : Command) (source : Source) → refusal lines co
 unfolding refusal_by
 meets lines command source e =
     let flags = meets_flags lines (nat_le lines (line_of command)) (is_add command)
-    (planned_of source (line_of command)) (nat_le 64 (length source.waiting)) e in
+    (planned_of source (line_of command)) (nat_le most_pending (length source.waiting)) e in
     record { inside = leb-false lines (line_of command) flags.0; free = flags.1 }
 
 IsPlan-planned : (lines : ℕ) (f : ℕ → ℕ) (commands : List Command) (a b : ℕ → Bool) → ((l : ℕ) → a l ≡ b l) →

@@ -1,7 +1,7 @@
 -- G.7042: when a line that was added carries payload.
 use Rattle.std.specs.Prelude.{◌≡◌, ℕ, ◌+◌, ◌-◌, ◌*◌, ◌<◌, ◌≤◌, true, false, List, Option, Some, length, slice_get}
 use Rattle.law_model.specs.Common.{IsStatuses, Scenario, is_line_up, is_read, is_lost, member_of, Table, Told}
-use Rattle.law_model.specs.Common.{table_of, session_cells}
+use Rattle.law_model.specs.Common.{table_of, session_cells, most_lines}
 use Rattle.law_model.specs.declared.lcas_states.Command.{Command}
 use Rattle.law_model.specs.declared.lcas_states.Command.TheVariants.{Add as add}
 use Rattle.law_model.specs.declared.lcas_states.Standing.TheVariants.{Norm as normal, Add as adding}
@@ -50,7 +50,7 @@ NoneRead scenario line first count = (k : ℕ) → first ≤ k → k < first + c
 -- the limits of a session
 pub record HasLimits (scenario : Scenario) : Type 0 where
   pub lag : 0 < scenario.lag
-  pub lines : length scenario.windows ≤ 128
+  pub lines : length scenario.windows ≤ most_lines
   pub statuses : IsStatuses scenario.options.statuses
 
 -- packet k begins before the session ends

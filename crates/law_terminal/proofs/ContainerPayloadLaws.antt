@@ -15,7 +15,7 @@ use Rattle.law_model.specs.Common.{Container, IsPacket, packet_nibbles, Scenario
 use Rattle.law_model.specs.Common.{place_in, telling_at, mst_by, sent_packet, HasPlace, AreSent, sent_nibbles}
 use Rattle.law_model.specs.Common.{nibble_in, nibble_at, container_of, containers_of, is_norm, active, width, place_of}
 use Rattle.law_model.specs.Common.{stream_before, part_of, payload_of, stream_of, forward_packet, telling, active_at}
-use Rattle.law_model.specs.Common.{rank_of, payload_by, payload_on}
+use Rattle.law_model.specs.Common.{rank_of, payload_by, payload_on, most_lines}
 use Rattle.law_model.specs.declared.lcas_states.Member.{Member}
 use Rattle.law_model.proofs.PacketNibblesLaws.{length-packet_nibbles, packet_nibbles_below, halves}
 use Rattle.law_session.proofs.SourceOrderAndPlanLaws.{order-length, one, times, one-self}
@@ -80,7 +80,7 @@ place-sq (member ∷ order) sq line fits =
 mst-below : (oks : List Bool) → mst_by oks < 256
 mst-below oks = number_below (map (λ place. not (slice_index_or oks place true)) (range_with_len 0 8))
 
-pub sent-packet : (scenario : Scenario) (returns : List (Option Told)) (line k : ℕ) → length scenario.windows ≤ 128 →
+pub sent-packet : (scenario : Scenario) (returns : List (Option Told)) (line k : ℕ) → length scenario.windows ≤ most_lines →
     IsPacket (sent_packet scenario returns line k)
 sent-packet scenario returns line k limit =
     let order = (table_of scenario returns k).order in
@@ -95,7 +95,7 @@ sent-packet scenario returns line k limit =
     }
 
 -- ---- the place of a container
-module _ (scenario : Scenario) (returns : List (Option Told)) (limit : length scenario.windows ≤ 128) (line : ℕ) where
+module _ (scenario : Scenario) (returns : List (Option Told)) (limit : length scenario.windows ≤ most_lines) (line : ℕ) where
   nibble-small : (k place : ℕ) → place < 16 → nibble_in scenario returns line k place < 16
   nibble-small k place low =
       packet_nibbles_below (sent_packet scenario returns line k)
@@ -154,7 +154,7 @@ pub containers-size : (scenario : Scenario) (returns : List (Option Told)) (line
 containers-size scenario returns line frames = length-map (range_with_len 0 frames) (container_of scenario returns line)
     ∙ length-range_with_len 0 frames
 
-pub are-sent : (scenario : Scenario) (returns : List (Option Told)) (line frames : ℕ) → length scenario.windows ≤ 128 →
+pub are-sent : (scenario : Scenario) (returns : List (Option Told)) (line frames : ℕ) → length scenario.windows ≤ most_lines →
     AreSent (containers_of scenario returns line frames)
 are-sent scenario returns line frames limit n container here =
     let size = containers-size scenario returns line frames in
@@ -177,7 +177,7 @@ containers-part scenario returns line frames from count fits =
     ∙ take-map-range_with_len f from (frames - from) count (omega arith)
 
 pub packet-nibbles : (scenario : Scenario) (returns : List (Option Told)) (line frames k : ℕ) →
-    length scenario.windows ≤ 128 → 16 * k + 23 < frames →
+    length scenario.windows ≤ most_lines → 16 * k + 23 < frames →
     sent_nibbles (containers_of scenario returns line frames) k ≡ packet_nibbles
     (sent_packet scenario returns line k)
 packet-nibbles scenario returns line frames k limit inside =

@@ -1,10 +1,11 @@
 -- What is asked of the lines of a session, and what has come of them.
 use Rattle.std.specs.Prelude.{◌≡◌, ℕ, ◌<◌, ◌≤◌, min, List, ◌++◌, length, slice_get, Option, Some, All}
 use Rattle.law_model.specs.Common.{Cell, AreWindows, slip_of, cells, Scenario, carried_by, Told, containers_of}
+use Rattle.law_model.specs.Common.{most_lines}
 
 -- at most 128 lines, the windows of each in order and apart, with a slip below the numbers that are sent
 pub record HasLines (scenario : Scenario) : Type 0 where
-  pub few : length scenario.windows ≤ 128
+  pub few : length scenario.windows ≤ most_lines
   pub apart : All (AreWindows 0) scenario.windows
   pub slip : All (λ own. slip_of own < 4096) scenario.windows
 

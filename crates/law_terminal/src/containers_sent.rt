@@ -2,7 +2,7 @@
 
 ghost use Rattle.std.specs.Prelude.{◌≡◌, ℕ, ◌+◌, ◌-◌, ◌*◌, ◌/◌, ◌<◌, ◌≤◌, All, List, length, Option};
 ghost use Rattle.law_model.specs.Common.{Scenario, packets, Told, IsPacket, packet_nibbles, sent_packet, AreSent};
-ghost use Rattle.law_model.specs.Common.{sent_nibbles, container_of, containers_of, vc4_size};
+ghost use Rattle.law_model.specs.Common.{sent_nibbles, container_of, containers_of, vc4_size, most_lines};
 ghost use Rattle.law_session.specs.ReturnedCells.{AgreeBefore};
 ghost use Rattle.law_row.specs.Received.{IsDealtRow};
 ghost use Rattle.law_terminal.specs.WorkedSession.{dealt};
@@ -13,12 +13,12 @@ ghost use Rattle.law_terminal.specs.WorkedSession.{dealt};
 /// container of a frame before the decision steps that take them.
 pub fn sent_law()
     ensures places { (scenario : Scenario) (returns : List (Option Told)) (line frames : ℕ) →
-        length scenario.windows ≤ 128 → AreSent (containers_of scenario returns line frames) }
+        length scenario.windows ≤ most_lines → AreSent (containers_of scenario returns line frames) }
     ensures packets { (scenario : Scenario) (returns : List (Option Told)) (line k : ℕ) →
-        length scenario.windows ≤ 128 →
+        length scenario.windows ≤ most_lines →
         IsPacket (sent_packet scenario returns line k) }
     ensures nibbles { (scenario : Scenario) (returns : List (Option Told)) (line frames k : ℕ) →
-        length scenario.windows ≤ 128 → 16 * k + 23 < frames →
+        length scenario.windows ≤ most_lines → 16 * k + 23 < frames →
         sent_nibbles (containers_of scenario returns line frames) k
         ≡ packet_nibbles (sent_packet scenario returns line k) }
     ensures payload { (scenario : Scenario) (returns : List (Option Told)) (line t : ℕ) →

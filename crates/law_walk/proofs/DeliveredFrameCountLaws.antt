@@ -13,7 +13,7 @@ use Rattle.law_model.specs.Common.{Outcome, delivery, dropping, client_outcome, 
 use Rattle.law_model.specs.Common.{run_outcomes_with, outcomes, StreamRow, Segment, Segments, segments_on, segments_of}
 use Rattle.law_model.specs.Common.{segments, segment_frames, deliver, octets_of_rows, Scenario, scenario_by, Told}
 use Rattle.law_model.specs.Common.{is_normal, table_of, session_cells, width, place_of, rows_of, IsSound}
-use Rattle.law_model.specs.Common.{longest_frame, payload_of, row_at, is_whole_row, Counts}
+use Rattle.law_model.specs.Common.{longest_frame, payload_of, row_at, is_whole_row, Counts, most_lines, most_ticks}
 use Rattle.law_model.specs.frames.Delivery.{frame_in}
 use Rattle.law_model.specs.frames.Segment.{row_by}
 use Rattle.law_model.proofs.ScrambledBitAndAreaLaws.{length-cut}
@@ -241,14 +241,14 @@ place-few scenario cells (suc t) =
     let more : suc t * room ≡ t * room + room = grind arith in
     omega (arith, before, own, more)
 
-product-few : (t size lines : ℕ) → t ≤ 1000000 → size ≤ 2340 → lines ≤ 128 → t * (size * lines) ≤ 299520000000
+product-few : (t size lines : ℕ) → t ≤ most_ticks → size ≤ 2340 → lines ≤ most_lines → t * (size * lines) ≤ 299520000000
 product-few t size lines ticks octets few =
     let a = mul-le-mul_left size few in
-    let b = mul-le-mul_right 128 octets in
+    let b = mul-le-mul_right most_lines octets in
     let room : ℕ = size * lines in
     let c : room ≤ 299520 = omega (arith, a, b) in
     let d = mul-le-mul_right room ticks in
-    let e = mul-le-mul_left 1000000 c in
+    let e = mul-le-mul_left most_ticks c in
     omega (arith, d, e)
 
 -- the octets of a leg's session are counted in fewer than 64 bits

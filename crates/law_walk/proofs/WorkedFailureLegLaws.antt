@@ -13,7 +13,7 @@ use Rattle.law_model.specs.Common.{IsWithin, AreApart, HasFailures, IsNetwork, I
 use Rattle.law_model.specs.Common.{command_dues, FitsRing, FitsLag, are_whole, AreWindows, slip_after, member_of, keep}
 use Rattle.law_model.specs.Common.{none_kept, admit, turned, take_out, exchange, DueFrame, Scenario, scenario_by}
 use Rattle.law_model.specs.Common.{offers_of, carried_by, is_read, after, table_of, said_before, cells_before}
-use Rattle.law_model.specs.Common.{session_cells, default_options, is_up, last_read}
+use Rattle.law_model.specs.Common.{session_cells, default_options, is_up, last_read, most_lines, most_ticks}
 use Rattle.law_model.specs.declared.window_types.Window.{Window}
 use Rattle.law_model.specs.declared.window_types.Carried.TheVariants.{Whole, Fails}
 use Rattle.law_model.specs.declared.script_types.Item.{Item}
@@ -29,6 +29,7 @@ use Rattle.law_session.proofs.UpLineAndReadablePacketLaws.{readable-whole, up-pl
 use Rattle.law_walk.specs.Common.{IsClear, row_from, ConfirmsTrue, item, plain, failing_windows, failing_leg}
 use Rattle.law_walk.specs.Common.{silent_windows, silent_leg, near_windows, near_leg, FailsAlone}
 use Rattle.law_walk.proofs.WholeRowDespiteFailureLaws.{clear-whole, row-whole, quiet-true}
+use Rattle.law_model.specs.Common.{largest_ring, longest_delay, longest_lag, longest_slip, most_packets}
 
 -- Legs that meet what is asked of one.
 -- ---- lists
@@ -58,7 +59,7 @@ abbrev EndsBy : ℕ → Window → Type 0
 EndsBy ticks window = window.end ≤ ticks
 
 abbrev IsShort : Window → Type 0
-IsShort window = window.slip ≤ 2047
+IsShort window = window.slip ≤ longest_slip
 
 pub one_failure : (ticks : ℕ) (window : Window) → window.slip + window.first < window.end → EndsBy ticks window →
     IsShort window →
@@ -76,18 +77,18 @@ unfolding AreWindows
 no_failure ticks = record { few = omega arith; apart = tt; ends = All-nil (EndsBy ticks); slips = All-nil IsShort }
 
 -- ---- lines without delay
-pub plain_network : (windows : List (List Window)) (ring lag ticks : ℕ) → IsWithin 1 128 (length windows) →
-    All (HasFailures ticks) windows → IsWithin 1 2048 ring → IsWithin 1 512 lag → IsWithin 1 1000000 ticks →
+pub plain_network : (windows : List (List Window)) (ring lag ticks : ℕ) → IsWithin 1 most_lines (length windows) →
+    All (HasFailures ticks) windows → IsWithin 1 largest_ring ring → IsWithin 1 longest_lag lag → IsWithin 1 most_ticks ticks →
     FitsRing (plain windows ring lag ticks) → FitsLag (plain windows ring lag ticks) →
     IsNetwork (plain windows ring lag ticks)
 unfolding AreApart
 plain_network windows ring lag ticks lines failures some_ring some_lag some_ticks fits_ring fits_lag = record {
   lines = lines;
   delay_each = length-replicate (length windows) 0;
-  delays = All-replicate (λ delay. delay ≤ 2047) (length windows) 0 (omega arith);
+  delays = All-replicate (λ delay. delay ≤ longest_delay) (length windows) 0 (omega arith);
   windows_each = refl;
   windows = failures;
-  lost = record { apart = tt; ends = All-nil (λ (window : ℕ × ℕ). window.1 ≤ 62500) };
+  lost = record { apart = tt; ends = All-nil (λ (window : ℕ × ℕ). window.1 ≤ most_packets) };
   ring = some_ring;
   lag = some_lag;
   ticks = some_ticks;

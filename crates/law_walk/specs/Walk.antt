@@ -6,6 +6,7 @@ use Rattle.law_model.specs.Common.{Container, Cell, Leg, AreWindows, Scenario, s
 use Rattle.law_model.specs.Common.{cells_before, session_cells, containers_of, LinePath, Plan, LineCounts, Counts}
 use Rattle.law_model.specs.Common.{frame_dues, command_dues, dues_of, all_cells, path_of, plan_of, FitsRing, FitsLag}
 use Rattle.law_progress.specs.Progress.{IsReached}
+use Rattle.law_model.specs.Common.{most_lines, largest_ring}
 
 -- ---- the session of a leg
 -- its return cells, and the first of them
@@ -33,13 +34,13 @@ walk_plan leg = plan_of leg.config leg.items (sent_of (scenario_by leg))
 -- that never fall; and rings that fit. A sound leg has all that
 pub record CanWalk (leg : Leg) : Type 0 where
   pub some : 0 < length leg.config.windows
-  pub few : length leg.config.windows ≤ 128
+  pub few : length leg.config.windows ≤ most_lines
   pub delays : length leg.config.delays ≡ length leg.config.windows
   pub apart : All (AreWindows 0) leg.config.windows
   pub frames : IsNonDecreasing (frame_dues (dues_of leg.items))
   pub commands : IsNonDecreasing (command_dues (dues_of leg.items))
   pub some_room : 1 ≤ leg.config.ring
-  pub room : leg.config.ring ≤ 2048
+  pub room : leg.config.ring ≤ largest_ring
   pub ring : FitsRing leg.config
   pub lag : FitsLag leg.config
 

@@ -2,7 +2,7 @@
 use Rattle.std.specs.Prelude.{◌≡◌, ℕ, ◌+◌, ◌<◌, ◌≤◌, nat_lt, ◌&&◌, not, Bool, true, false, if◌then◌else◌, List, [], ◌∷◌}
 use Rattle.std.specs.Prelude.{length, slice_get, All, Option, Some, None}
 use Rattle.std.specs.List.Sorted.{IsNonDecreasing}
-use Rattle.law_model.specs.Common.{Due, dues_of, frame_dues, command_dues, longest_input}
+use Rattle.law_model.specs.Common.{Due, dues_of, frame_dues, command_dues, most_items}
 use Rattle.law_model.specs.declared.script_types.Item.{Item}
 use Rattle.law_model.specs.declared.item_refusals.Refusal.{Refusal}
 use Rattle.law_walk.specs.Common.{is_client}
@@ -104,7 +104,7 @@ AreOfLanded landed = All (λ (refused : ℕ × Refusal). (item : Item) → slice
 pub record IsLanded (landed : Landed) (next_frame next_command space : ℕ) : Type 0 where
   pub frame : next_frame ≡ next_place landed true
   pub command : next_command ≡ next_place landed false
-  pub few : length landed.items ≤ longest_input
+  pub few : length landed.items ≤ most_items
   pub frames : IsNonDecreasing (frame_dues (dues_of landed.items))
   pub commands : IsNonDecreasing (command_dues (dues_of landed.items))
   pub most_frames : landed.frames ≤ length (frame_dues (dues_of landed.items))

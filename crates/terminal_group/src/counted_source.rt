@@ -2,7 +2,7 @@
 
 ghost use Rattle.std.specs.Prelude.{◌≡◌, ◌+◌, ◌<◌, List, Option, None, length, IsSome, IfOk, is_some};
 ghost use Rattle.member_cells.specs.HeldPlaces.{held};
-ghost use Rattle.law_model.specs.Common.{IsNetwork, Scenario, steps_in, Told, told_by, frame_of};
+ghost use Rattle.law_model.specs.Common.{IsNetwork, Scenario, steps_in, Told, told_by, frame_of, most_ticks};
 ghost use Rattle.terminal_source.specs.source_core.Terminal.{SameKind, needed};
 ghost use Rattle.terminal_source.specs.source_core.GivenScenario.{with_cell, with_told, SourceStands as HasMade};
 ghost use Rattle.law_walk.specs.Common.{is_client};
@@ -41,7 +41,7 @@ impl Model for CountedSource {
 
     ghost view = { λ s. record { core = s.core; total = s.total; landed = s.landed; inbox = s.inbox } };
 
-    ghost invariant = { λ s. s.total ≤ 1000000 };
+    ghost invariant = { λ s. s.total ≤ most_ticks };
 }
 
 impl CountedSource {

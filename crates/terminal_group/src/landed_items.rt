@@ -3,7 +3,7 @@
 ghost use Rattle.std.specs.Prelude.{◌≡◌, ◌<◌, ◌≤◌, ◌+◌, if◌then◌else◌, [], ◌∷◌, length, take, drop, Some, IfOk};
 ghost use Rattle.std.specs.Prelude.{is_some, vec_capacity};
 ghost use Rattle.std.specs.List.Sorted.{IsNonDecreasing};
-ghost use Rattle.law_model.specs.Common.{IsValid, dues_of, frame_dues, command_dues, held, longest_input};
+ghost use Rattle.law_model.specs.Common.{IsValid, dues_of, frame_dues, command_dues, held, most_items};
 ghost use Rattle.terminal_group.specs.Item.{bare_items};
 ghost use Rattle.law_walk.specs.Common.{IsPlaced, refused_by};
 ghost use Rattle.terminal_group.specs.Landed.{none_landed, next_place, next_number, due_at, landed_of, refused_of};
@@ -59,7 +59,7 @@ impl Model for Landing {
 impl Landing {
     /// Nothing of these items has landed.
     fn new(alloc: Global, items: &[Item]) -> Result<Landing, AllocError>
-        requires few { length items.now ≤ longest_input }
+        requires few { length items.now ≤ most_items }
         requires frames { IsNonDecreasing (frame_dues (dues_of items.now)) }
         requires commands { IsNonDecreasing (command_dues (dues_of items.now)) }
         ensures { IfOk result (λ landing. landing ≡ none_landed (bare_items items.now)) }

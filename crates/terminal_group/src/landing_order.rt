@@ -2,7 +2,7 @@
 
 ghost use Rattle.std.specs.Prelude.{◌≡◌, ℕ, ◌+◌, ◌<◌, ◌≤◌, true, length, drop, slice_get};
 ghost use Rattle.std.specs.List.Sorted.{IsNonDecreasing};
-ghost use Rattle.law_model.specs.Common.{dues_of, frame_dues, command_dues, held, longest_input};
+ghost use Rattle.law_model.specs.Common.{dues_of, frame_dues, command_dues, held, most_items};
 ghost use Rattle.terminal_group.specs.ItemPlaces.{is_frame, is_command, place_of, due_by, least_held};
 
 use crate::bare_item::BareItem;
@@ -35,7 +35,7 @@ pub(crate) fn next_command(items: &[BareItem], from: usize) -> usize
 
 /// The least item that is due now and hasn't landed, where the next frame and the next command stand at these places.
 pub(crate) fn held_item(items: &[BareItem], frame: usize, command: usize, ticks: u32) -> Option<u32>
-    requires { length items.now ≤ longest_input }
+    requires { length items.now ≤ most_items }
     ensures { (a b : ℕ) → IsNonDecreasing (frame_dues (dues_of items.now)) →
         IsNonDecreasing (command_dues (dues_of items.now)) →
         frame ≡ place_of is_frame a items.now → command ≡ place_of is_command b items.now →
@@ -48,8 +48,8 @@ pub(crate) fn held_item(items: &[BareItem], frame: usize, command: usize, ticks:
 
 /// The least place of those whose item is due.
 fn least_of(frame: usize, command: usize, client: bool, operator: bool) -> Option<u32>
-    requires client { client ≡ true → frame < longest_input }
-    requires operator { operator ≡ true → command < longest_input }
+    requires client { client ≡ true → frame < most_items }
+    requires operator { operator ≡ true → command < most_items }
     ensures { result ≡ least_held 0 frame command client operator }
 {
     if client && (frame < command || !operator) {

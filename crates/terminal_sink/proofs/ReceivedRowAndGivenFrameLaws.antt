@@ -9,7 +9,7 @@ use Rattle.std.proofs.lemmas.Bool.Decides.{nat_tests}
 use Rattle.std.proofs.lemmas.List.FromFn.{map-range_with_len_more, length-map-range_with_len}
 use Rattle.law_model.specs.Common.{Cell, return_of, carriers_of, verdict, read_packets, governing, row_at, first_open}
 use Rattle.law_model.specs.Common.{return_at, StreamRow, deliver, longest_frame, Scenario, Told, cells_before}
-use Rattle.law_model.specs.Common.{is_whole_row, payload_of, Segments, segments_of, rows_of}
+use Rattle.law_model.specs.Common.{is_whole_row, payload_of, Segments, segments_of, rows_of, most_lines}
 use Rattle.law_model.specs.declared.control_packet.Packet.{Packet}
 use Rattle.law_model.specs.declared.script_types.Options.{Options}
 use Rattle.law_line.specs.StableRows.{AreDecidedAt, IsLonger}
@@ -346,7 +346,7 @@ pub session-last : (scenario : Scenario) (returns : List (Option Told)) (cells :
 session-last scenario returns cells n are = let agree = rows-agree scenario returns cells n are in agree.octets
 
 pub session-rows : (scenario : Scenario) (told : ℕ) (cells : List (List Cell)) (n : ℕ) →
-    length scenario.windows ≤ 128 → 0 < scenario.lag → TellRows scenario (cells_before scenario told) cells n →
+    length scenario.windows ≤ most_lines → 0 < scenario.lag → TellRows scenario (cells_before scenario told) cells n →
     AreSessionRows scenario (cells_before scenario told) cells n
 session-rows scenario told cells n few lag tell t low =
     let returns = cells_before scenario told in

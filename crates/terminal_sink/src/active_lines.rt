@@ -1,7 +1,7 @@
 //! The lines that carry payload, by the packets that are read.
 
 ghost use Rattle.std.specs.Prelude.{◌≡◌, ◌+◌, ◌≤◌, ◌++◌, length};
-ghost use Rattle.law_model.specs.Common.{leader, is_carrying, has, lines_at, active_of};
+ghost use Rattle.law_model.specs.Common.{leader, is_carrying, has, lines_at, active_of, most_lines};
 ghost use Rattle.member_rows.specs.vcat_interleave.MemberPayloads.{AreLines};
 ghost use Rattle.terminal_sink.specs.active_lines.CarryingLines.{carries, carrying, act_of};
 
@@ -54,8 +54,8 @@ fn carrying(packets: &[Option<Packet>]) -> usize
 
 /// Adds the lines that carry payload and have a sequence number.
 fn push_lines(sq: u8, packets: &[Option<Packet>], active: &mut LineList)
-    requires few { length packets.now ≤ 128 }
-    requires room { length active.old + length (lines_at sq 0 packets.now) ≤ 128 }
+    requires few { length packets.now ≤ most_lines }
+    requires room { length active.old + length (lines_at sq 0 packets.now) ≤ most_lines }
     ensures { active.new ≡ active.old ++ lines_at sq 0 packets.now }
 {
     for (line, packet) in packets.iter().enumerate() {
@@ -68,7 +68,7 @@ fn push_lines(sq: u8, packets: &[Option<Packet>], active: &mut LineList)
 /// The lines that carry payload, in the order of their sequence numbers. Once all are found, no further
 /// number is tried.
 pub(crate) fn find_active(packets: &[Option<Packet>]) -> LineList
-    requires few { length packets.now ≤ 128 }
+    requires few { length packets.now ≤ most_lines }
     ensures active { result ≡ active_of packets.now }
     ensures lines { AreLines (length packets.now) result }
 {

@@ -2,7 +2,7 @@
 //! without some, also by what silent lines said last.
 
 ghost use Rattle.std.specs.Prelude.{◌≡◌, ℕ, ◌≤◌, List, [], ◌∷◌, ◌++◌, length, take, IfSome};
-ghost use Rattle.law_model.specs.Common.{Row, carriers_of, sink_state};
+ghost use Rattle.law_model.specs.Common.{Row, carriers_of, sink_state, most_lines};
 ghost use Rattle.member_rows.specs.vcat_interleave.MemberPayloads.{AreLines};
 ghost use Rattle.terminal_sink.specs.member_watch.Watches.{AreWatched};
 ghost use Rattle.terminal_sink.specs.known_carriers.Supposed.{norm_at, supposed_by, supposed_packets, is_worded};
@@ -48,7 +48,7 @@ fn supposed_row(
     states: &[SinkState],
     watches: &[MemberWatch],
 ) -> [Option<Packet>; MOST_LINES]
-    requires lines { length row.now ≤ 128 }
+    requires lines { length row.now ≤ most_lines }
     requires states { length row.now ≤ length states.now }
     requires watches { length row.now ≤ length watches.now }
     ensures { take (length row.now) result ≡ supposed_packets states.now watches.now row.now }
@@ -90,7 +90,7 @@ fn inferred(
     options: Options,
     act: u8,
 ) -> Option<LineList>
-    requires lines { length row.now ≤ 128 }
+    requires lines { length row.now ≤ most_lines }
     requires states { length row.now ≤ length states.now }
     requires watches { length row.now ≤ length watches.now }
     ensures inferred { result ≡ inferred_by options states.now watches.now row.now act }
@@ -115,7 +115,7 @@ pub(crate) fn known_carriers(
     watches: &[MemberWatch],
     options: Options,
 ) -> Option<LineList>
-    requires lines { length row.now ≤ 128 }
+    requires lines { length row.now ≤ most_lines }
     requires states { length row.now ≤ length states.now }
     requires watches { length row.now ≤ length watches.now }
     ensures known { (rows : List Row) →

@@ -12,6 +12,7 @@ ghost use Rattle.law_model.specs.declared.script_types.Options.{Options};
 ghost use Rattle.terminal_sink.specs.member_watch.Watches.{AreWatched, is_changed, is_told, mst_by};
 ghost use Rattle.member_rows.specs.vcat_interleave.MemberPayloads.{AreLines};
 ghost use Rattle.terminal_sink.specs.lcas_sink.SinkStates.{SinkTableStands, state_at, state_after, last_carriers};
+ghost use Rattle.law_model.specs.Common.{most_lines};
 
 use crate::known_carriers::known_carriers;
 use crate::line_list::LineList;
@@ -55,7 +56,7 @@ impl Model for SinkTable {
       carriers = table.carriers;
     } };
 
-    ghost invariant = { λ table. (table.lines ≤ 128) × IsOptions table.options
+    ghost invariant = { λ table. (table.lines ≤ most_lines) × IsOptions table.options
         × ((line : ℕ) → table.lines ≤ line → state_at table.states line ≡ Idle)
         × IfSome table.carriers (AreLines table.lines) };
 
@@ -74,7 +75,7 @@ impl SinkTable {
     /// The table of a group of `lines` lines, up to 128, of which no packet was read. By `options` a line goes down
     /// and comes up, all statuses are told, and the sink goes on or stops where a packet is missing.
     pub fn new(lines: u8, options: Options) -> SinkTable
-        requires lines { lines ≤ 128 }
+        requires lines { lines ≤ most_lines }
         requires options { IsOptions options }
         ensures lines { result.lines ≡ lines }
         ensures options { result.options ≡ options }
@@ -132,7 +133,7 @@ impl SinkTable {
         ensures exact { (rows : List Row) → SinkTableStands self.now rows →
             option_copied result ≡ last_carriers self.now.options rows }
         ensures lines { IfSome result (λ carriers. AreLines self.now.lines carriers.now) }
-        ensures few { IfSome result (λ carriers. length carriers.now ≤ 128) }
+        ensures few { IfSome result (λ carriers. length carriers.now ≤ most_lines) }
     {
         match &self.carriers {
             Some(carriers) => Some(carriers.as_slice()),
@@ -170,7 +171,7 @@ fn all_idle() -> [SinkState; MOST_LINES]
 /// No packet of a line has come.
 fn all_unread(options: Options) -> [MemberWatch; MOST_LINES]
     requires { IsOptions options }
-    ensures { AreWatched options [] 128 result }
+    ensures { AreWatched options [] most_lines result }
 {
     [MemberWatch::new(options); MOST_LINES]
 }

@@ -1,6 +1,7 @@
 //! A list of lines that takes no memory of its own.
 
 ghost use Rattle.std.specs.Prelude.{◌≡◌, ◌<◌, ◌≤◌, [], ◌∷◌, ◌++◌, length};
+ghost use Rattle.law_model.specs.Common.{most_lines};
 
 use law_model::MOST_LINES;
 use std::marker::Model;
@@ -22,7 +23,7 @@ impl Model for LineList {
 
     ghost view = { λ list. take list.count list.lines };
 
-    ghost invariant = { λ list. (list.count ≤ 128)
+    ghost invariant = { λ list. (list.count ≤ most_lines)
         × (length (take list.count list.lines) ≡ list.count)
         × (padded (take list.count list.lines) ≡ list.lines) };
 
@@ -45,7 +46,7 @@ impl LineList {
 
     /// Adds a line behind the others.
     pub fn push(&mut self, line: u8)
-        requires { length self.old < 128 }
+        requires { length self.old < most_lines }
         ensures { self.new ≡ self.old ++ line ∷ [] }
     {
         self.lines[usize::from(self.count)] = line;
@@ -62,7 +63,7 @@ impl LineList {
     /// The lines.
     pub fn as_slice(&self) -> &[u8]
         ensures lines { result.now ≡ self.now }
-        ensures few { length result.now ≤ 128 }
+        ensures few { length result.now ≤ most_lines }
     {
         &self.lines[..usize::from(self.count)]
     }

@@ -22,14 +22,15 @@ use Rattle.law_session.proofs.SourceOrderAndPlanLaws.{Fits, opening-fits, Fits-a
 use Rattle.law_session.proofs.SourceOrderAndPlanLaws.{some_refusal}
 use Rattle.terminal_source.specs.lcas_source.TableFields.{none_planned, IsTable, changed_by}
 use Rattle.std.proofs.lemmas.List.Sums.{fold-append}
+use Rattle.law_model.specs.Common.{most_lines}
 
 -- ---- What commands and decision steps make of the fields of a source's table.
 -- ---- before the first call
-none-planned : (lines : ℕ) → lines ≤ 128 → take lines none_planned ≡ replicate lines false
+none-planned : (lines : ℕ) → lines ≤ most_lines → take lines none_planned ≡ replicate lines false
 unfolding none_planned
-none-planned lines h = take-replicate lines 128 false h
+none-planned lines h = take-replicate lines most_lines false h
 
-opening-fields : (lines : ℕ) (table : Table) (planned : List Bool) (waiting : List Command) → lines ≤ 128 →
+opening-fields : (lines : ℕ) (table : Table) (planned : List Bool) (waiting : List Command) → lines ≤ most_lines →
     table ≡ first_table → planned ≡ none_planned → waiting ≡ [] →
     record { table = table; planned = take lines planned; waiting = waiting } ≡ opening lines
 opening-fields lines table planned waiting few is_table is_planned is_waiting =
@@ -38,7 +39,7 @@ opening-fields lines table planned waiting few is_table is_planned is_waiting =
     ∙ ap (λ planned. record { table = first_table; planned = planned; waiting = waiting }) (none-planned lines few)
     ∙ ap (λ waiting. record { table = first_table; planned = replicate lines false; waiting = waiting }) is_waiting
 
-pub begun-fields : (lines statuses : ℕ) (table : Table) (planned : List Bool) (waiting : List Command) → lines ≤ 128 →
+pub begun-fields : (lines statuses : ℕ) (table : Table) (planned : List Bool) (waiting : List Command) → lines ≤ most_lines →
     table ≡ first_table → planned ≡ none_planned → waiting ≡ [] →
     record {
       lines = lines;
@@ -51,13 +52,13 @@ begun-fields lines statuses table planned waiting few is_table is_planned is_wai
     ap (λ source. record { lines = lines; statuses = statuses; source = source; taken = 0; steps = 0 })
     (opening-fields lines table planned waiting few is_table is_planned is_waiting)
 
-IsTable-begun : (lines statuses : ℕ) (group : List Bool) → lines ≤ 128 → IsStatuses statuses →
+IsTable-begun : (lines statuses : ℕ) (group : List Bool) → lines ≤ most_lines → IsStatuses statuses →
     group ≡ bits_from 0 → IsTable (begun lines statuses) group
 IsTable-begun lines statuses group few choice bits =
     record { lines = few; statuses = choice; fits = opening-fits lines; count = omega arith; taken = omega arith; bits = bits }
 
 pub IsTable-new : (course : Course) (lines statuses : ℕ) (group : List Bool) → course ≡ begun lines statuses →
-    lines ≤ 128 → IsStatuses statuses → group ≡ bits_from 0 → IsTable course group
+    lines ≤ most_lines → IsStatuses statuses → group ≡ bits_from 0 → IsTable course group
 IsTable-new course lines statuses group is few choice bits =
     subst (λ course. IsTable course group) (sym is) (IsTable-begun lines statuses group few choice bits)
 
@@ -144,8 +145,8 @@ settled-size group told table =
     ∙ length-map table.order line
 
 pub settled-room : (lines group : ℕ) (told : Option Told) (source : Source) (line : ℕ) (commands : List Command) →
-    lines ≤ 128 → Fits lines source →
-    source.waiting ≡ add line ∷ commands → length (told_on (heard group told source.table)).order < 128
+    lines ≤ most_lines → Fits lines source →
+    source.waiting ≡ add line ∷ commands → length (told_on (heard group told source.table)).order < most_lines
 settled-room lines group told source line commands most fits waits =
     let room = Fits-room lines source line commands fits waits in
     let same = settled-size group told source.table in

@@ -34,6 +34,7 @@ use Rattle.terminal_source.proofs.DealtFrameContainerLaws.{active-members}
 use Rattle.law_session.specs.ReturnedCells.{AgreeBefore}
 use Rattle.law_session.proofs.ReturnCellAndLineWordLaws.{Agree-first}
 use Rattle.terminal_source.proofs.TerminalTickSteps.{filter-none}
+use Rattle.law_model.specs.Common.{most_lines}
 
 -- ---- What a terminal holds of two sessions that are alike so far.
 pub alike-active : (one : Scenario) (a : List (Option Told)) (other : Scenario) (b : List (Option Told)) (t : ℕ) →
@@ -350,7 +351,7 @@ zeros-below lines =
 
 pub IsTerminal-new : (lag size lines statuses : ℕ) (queue : Held) (sender : Sender) (table : Course) (active : List ℕ)
     (nibbles : List (List ℕ)) (told : Told) (octets : ℕ) →
-    lines ≤ 128 → size ≤ 2340 → table ≡ begun lines statuses → active ≡ [] →
+    lines ≤ most_lines → size ≤ 2340 → table ≡ begun lines statuses → active ≡ [] →
     nibbles ≡ replicate lines (replicate 16 0) → octets ≡ size * lines →
     IsTerminal (terminal_of lag size 0 queue sender table active nibbles told) octets
 IsTerminal-new lag size lines statuses queue sender table active nibbles told octets few small is_table none zeros room =

@@ -43,6 +43,7 @@ use Rattle.law_model.specs.declared.script_types.ItemKind.TheVariants as kind
 use Rattle.text_live.specs.declared.live_keyword.LiveKeyword.TheVariants as word
 use Rattle.text_live.specs.declared.live_keyword.FirstWord.TheVariants as first
 use Rattle.text_live.specs.declared.live_fault.LiveLineFault.TheVariants as wrong
+use Rattle.law_model.specs.Common.{longest_offer, longest_slip, most_windows}
 
 -- ---- One more failure of a line, behind all those before it, of which no container vanishes.
 -- ---- its end
@@ -81,12 +82,12 @@ abbrev pub failure : ℕ → ℕ → Window
 failure start end = record { first = start; end = end; slip = 0 }
 
 pub failures-one : (ticks : ℕ) (ws : List Window) (start end : ℕ) → HasFailures ticks ws → last_end ws ≤ start →
-    start < end → end ≤ ticks → length ws < 256 → HasFailures ticks (ws ++ failure start end ∷ [])
+    start < end → end ≤ ticks → length ws < most_windows → HasFailures ticks (ws ++ failure start end ∷ [])
 failures-one ticks ws start end has later some ends few = record {
   few = omega (arith, few, length-append ws (failure start end ∷ []));
   apart = windows-more 0 ws (failure start end) has.apart (omega (arith, later, end-is ws)) (omega (arith, some));
   ends = All-push (λ (w : Window). w.end ≤ ticks) ws (failure start end) has.ends ends;
-  slips = All-push (λ (w : Window). w.slip ≤ 2047) ws (failure start end) has.slips (omega arith);
+  slips = All-push (λ (w : Window). w.slip ≤ longest_slip) ws (failure start end) has.slips (omega arith);
 }
 
 -- ---- its slip
@@ -110,7 +111,7 @@ slip-one ws start end = slip-more 0 0 ws start end
 abbrev pub IsCut : ℕ → ℕ → List Window → Option ℕ → Type 0
 IsCut ticks passed windows None = Unit {0}
 IsCut ticks passed windows (Some start) =
-    (start ≤ passed) × (start < ticks) × (last_end windows ≤ start) × (length windows < 256)
+    (start ≤ passed) × (start < ticks) × (last_end windows ≤ start) × (length windows < most_windows)
 
 pub record HasCourse (ticks passed : ℕ) (course : LineCourse) : Type 0 where
   pub failures : HasFailures ticks course.windows
@@ -156,7 +157,7 @@ later-course ticks passed more course has =
     record { failures = has.failures; cut = later-cut ticks passed more course.windows course.cut has.cut }
 
 pub cut-course : (ticks passed : ℕ) (course : LineCourse) → HasCourse ticks passed course → passed < ticks →
-    last_end course.windows ≤ passed → length course.windows < 256 → HasCourse ticks passed (cut_at passed course)
+    last_end course.windows ≤ passed → length course.windows < most_windows → HasCourse ticks passed (cut_at passed course)
 cut-course ticks passed course has less later few =
     record { failures = has.failures; cut = (omega arith, less, later, few) }
 
@@ -384,14 +385,14 @@ can_cut k c live m has low none =
     let passed : ℕ = live.passed in
     let count : ℕ = count_by (length course.windows) course.cut in
     let end : ℕ = last_end course.windows in
-    let full = where_true (nat_le 256 count) (wrong.FullLine m) in
+    let full = where_true (nat_le most_windows count) (wrong.FullLine m) in
     let ended = ended_fault c.ticks passed in
     let already = where_true (is_some course.cut) (wrong.CutAlready m) in
     let early = where_true (nat_lt passed end) (wrong.FailureBefore end) in
     let one = or_none full (option_or ended (option_or already early)) none in
     let two = or_none ended (option_or already early) one.1 in
     let three = or_none already early two.1 in
-    let few = leb-false 256 count (where_none (nat_le 256 count) (wrong.FullLine m) one.0) in
+    let few = leb-false most_windows count (where_none (nat_le most_windows count) (wrong.FullLine m) one.0) in
     let later = ltb-false passed end (where_none (nat_lt passed end) (wrong.FailureBefore end) three.1) in (
       record { left = goes_on c.ticks passed has.passed two.0; line = low },
       record {
@@ -415,8 +416,8 @@ can_mend k c live m has low none =
 pub can_say : (k : ℕ) (c : Config) (live : Live) (w : LiveKeyword) (ws : List (List ℕ)) → HasLive k c live →
     rest_fault c live w ws ≡ None → CanSay c.ticks live (live_told w ws)
 can_say k c live word.Frame ws has none =
-    let parts = or_none (one_fault word.Frame (digits 1 65535) ws) (ended_fault c.ticks live.passed) none in
-    let octets = digits_ok 2 1 65535 (word_at 0 ws) (one_word word.Frame (digits 1 65535) ws parts.0).each in
+    let parts = or_none (one_fault word.Frame (digits 1 longest_offer) ws) (ended_fault c.ticks live.passed) none in
+    let octets = digits_ok 2 1 longest_offer (word_at 0 ws) (one_word word.Frame (digits 1 longest_offer) ws parts.0).each in
     (goes_on c.ticks live.passed has.passed parts.1, (octets.size, octets.each))
 can_say k c live word.Cut ws has none =
     let parts = or_none (one_fault word.Cut (within 0 (c.lines - 1)) ws)

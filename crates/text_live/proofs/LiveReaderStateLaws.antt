@@ -23,7 +23,7 @@ use Rattle.text_live.specs.LiveLines.{said_with, line_after}
 use Rattle.text_live.specs.LiveReaderStands.{Keeps, IsKept, HasFew, Reads, mended_by, mended_state, state_of, IsToldAt}
 use Rattle.text_live.specs.LiveReaderStands.{IsAt, ReadsLine, Stops, Says, failure as reader_failure}
 use Rattle.text_live.specs.LiveReaderStands.{line_at, told_line, frame_of, HandsOut, opened_said, IsLiveLine}
-use Rattle.law_model.specs.Common.{IsNetwork}
+use Rattle.law_model.specs.Common.{IsNetwork, longest_offer}
 use Rattle.std.proofs.lemmas.List.Elements.{All-map, All-push}
 use Rattle.text_live.proofs.LiveCourseAndItemLaws.{failure, last_end-one}
 use Rattle.text_scripts.specs.declared.script_read.script_reader.ScriptReader.{ScriptReader}
@@ -306,14 +306,14 @@ pub digits_all : (text : List ℕ) (i : ℕ) → length text ≤ i → AllPass i
     AllPass is_hex_digit text
 digits_all text i most are = subst (AllPass is_hex_digit) (take_all i text most) are
 
-over : (n : ℕ) → 65536 ≤ n → where_true (not (nat_le 1 n && nat_le n 65535)) (Size 2 1 65535) ≡ Some (Size 2 1 65535)
+over : (n : ℕ) → 65536 ≤ n → where_true (not (nat_le 1 n && nat_le n longest_offer)) (Size 2 1 longest_offer) ≡ Some (Size 2 1 longest_offer)
 over n most =
     let low : nat_le 1 n ≡ true = grind (arith, nat_tests, most) in
-    let high : nat_le n 65535 ≡ false = grind (arith, nat_tests, most) in
+    let high : nat_le n longest_offer ≡ false = grind (arith, nat_tests, most) in
     rw (low, high) refl
 
 pub long_size : (digits bytes : List ℕ) → 65536 ≤ length digits / 2 → decode_of digits ≡ Ok bytes →
-    octets_fault 2 1 65535 (decode_of digits) ≡ Some (Size 2 1 65535)
+    octets_fault 2 1 longest_offer (decode_of digits) ≡ Some (Size 2 1 longest_offer)
 long_size digits bytes most ok =
     let size = (decode_of-ok digits bytes ok).2 in
-    ap (octets_fault 2 1 65535) ok ∙ over (length bytes) (omega (arith, most, size))
+    ap (octets_fault 2 1 longest_offer) ok ∙ over (length bytes) (omega (arith, most, size))

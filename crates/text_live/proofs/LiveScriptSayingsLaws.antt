@@ -13,7 +13,7 @@ use Rattle.text_lines.specs.LanguageTable.{formed}
 use Rattle.text_lines.proofs.TextLineAndWordLaws.{or_none, map_none}
 use Rattle.law_model.specs.Common.{IsNetwork, leg_of, longest_input, IsValid, HasFewLosses, HasFailures, IsEvent}
 use Rattle.law_model.specs.Common.{IsCount, greatest, greatest_slip, slip_of, after as after_event, frame_dues}
-use Rattle.law_model.specs.Common.{command_dues, slip_after}
+use Rattle.law_model.specs.Common.{command_dues, slip_after, most_count}
 use Rattle.law_model.specs.declared.script_types.Config.{Config}
 use Rattle.law_model.specs.declared.script_types.Script.{Script}
 use Rattle.text_scripts.specs.declared.script_read.script_draft.Draft.{Draft}
@@ -325,7 +325,7 @@ network_by k c live has =
     }
 
 -- ---- the events
-rest_counts : (lines : ℕ) (line : ℕ → EventLine) (n : ℕ) (whole : Bool) → (n == 0) ≡ whole → n < 1000000 →
+rest_counts : (lines : ℕ) (line : ℕ → EventLine) (n : ℕ) (whole : Bool) → (n == 0) ≡ whole → n < most_count →
     ((m : ℕ) → IsCount m → IsEvent lines (line m)) →
     All (IsEvent lines) (if whole then [] else line n ∷ [])
 rest_counts lines line n true is low each = All-none _
@@ -336,10 +336,10 @@ rest_counts lines line n false is low each =
 counts : (lines : ℕ) (line : ℕ → EventLine) (n : ℕ) → ((m : ℕ) → IsCount m → IsEvent lines (line m)) →
     All (IsEvent lines) (counted line n)
 counts lines line n each =
-    All-append (IsEvent lines) (replicate (n / 1000000) (line 1000000))
-    (if n % 1000000 == 0 then [] else line (n % 1000000) ∷ [])
-    (All-replicate (IsEvent lines) (n / 1000000) (line 1000000) (each 1000000 (omega arith, omega arith)))
-    (rest_counts lines line (n % 1000000) (n % 1000000 == 0) refl (omega arith) each)
+    All-append (IsEvent lines) (replicate (n / most_count) (line most_count))
+    (if n % most_count == 0 then [] else line (n % most_count) ∷ [])
+    (All-replicate (IsEvent lines) (n / most_count) (line most_count) (each most_count (omega arith, omega arith)))
+    (rest_counts lines line (n % most_count) (n % most_count == 0) refl (omega arith) each)
 
 events : (lines rounds : ℕ) (live : Live) → All (IsEvent lines) (events_by rounds live)
 events lines rounds live =

@@ -24,6 +24,7 @@ use Rattle.text_live.specs.declared.live_keyword.FirstWord.{FirstWord}
 use Rattle.text_live.specs.declared.live_keyword.FirstWord.TheVariants as first
 use Rattle.text_live.specs.declared.live_fault.LiveLineFault.{LiveLineFault}
 use Rattle.text_live.specs.declared.live_fault.LiveLineFault.TheVariants as wrong
+use Rattle.law_model.specs.Common.{longest_offer, most_windows}
 
 -- ---- what lines say
 -- what the lines of a script say, and the live ones, where one has come
@@ -100,7 +101,7 @@ opening_fault None d =
 -- ---- the other words of a live line
 -- what its one word has to be, once so many ticks have passed
 abbrev pub field : Config → ℕ → LiveKeyword → Field
-field c passed word.Frame = digits 1 65535
+field c passed word.Frame = digits 1 longest_offer
 field c passed word.Add = within 0 255
 field c passed word.Remove = within 0 255
 field c passed word.Cut = within 0 (c.lines - 1)
@@ -119,7 +120,7 @@ count_by failures cut = failures + (if is_some cut then 1 else 0)
 -- of a failure of line m that begins now, where the last of so many failures ends at `end`; and of one that ends now
 abbrev pub cut_fault_by : (ticks passed m failures end : ℕ) → Option ℕ → Option LiveLineFault
 cut_fault_by ticks passed m failures end cut =
-    option_or (where_true (nat_le 256 (count_by failures cut)) (wrong.FullLine m))
+    option_or (where_true (nat_le most_windows (count_by failures cut)) (wrong.FullLine m))
     (option_or (ended_fault ticks passed)
     (option_or (where_true (is_some cut) (wrong.CutAlready m))
     (where_true (nat_lt passed end) (wrong.FailureBefore end))))

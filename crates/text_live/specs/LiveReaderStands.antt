@@ -4,7 +4,7 @@ use Rattle.text_lines.specs.WordsOfLine.{word_at, is_skipped}
 use Rattle.std.specs.Option.{option_or}
 use Rattle.text_lines.specs.Fields.{within, digits}
 use Rattle.std.specs.Prelude.{◌≡◌, ℕ, ◌+◌, ◌≤◌, List, [], length, map, All, Option, Some, None, IfSome, vec_capacity}
-use Rattle.law_model.specs.Common.{IsNetwork, longest_input}
+use Rattle.law_model.specs.Common.{IsNetwork, longest_input, most_lines, most_ticks, longest_offer, most_windows}
 use Rattle.law_model.specs.declared.script_types.Config.{Config}
 use Rattle.law_model.specs.declared.script_types.ItemKind.TheVariants as item_kind
 use Rattle.text_scripts.specs.declared.script_read.script_fault.ScriptFault.TheVariants as script
@@ -72,14 +72,14 @@ pub record Keeps (state : LiveState) (c : Config) (live : Live) : Type 0 where
 
 -- a line has at most 256 failures
 abbrev pub HasFew : LineState → Type 0
-HasFew line = count_by line.failures line.cut ≤ 256
+HasFew line = count_by line.failures line.cut ≤ most_windows
 
 -- the fault of the words of a command, and of a frame
 abbrev pub command_fault : ℕ → ℕ → LiveKeyword → List (List ℕ) → Option LiveLineFault
 command_fault ticks passed k ws = option_or (one_fault k (within 0 255) ws) (ended_fault ticks passed)
 
 abbrev pub frame_fault : ℕ → ℕ → List (List ℕ) → Option LiveLineFault
-frame_fault ticks passed ws = option_or (one_fault word.Frame (digits 1 65535) ws) (ended_fault ticks passed)
+frame_fault ticks passed ws = option_or (one_fault word.Frame (digits 1 longest_offer) ws) (ended_fault ticks passed)
 
 -- what is kept of a line once its failure has ended
 abbrev pub mended_by : ℕ → LineState → Option ℕ → LineState
@@ -94,9 +94,9 @@ mended_state passed line = mended_by passed line line.cut
 -- it was made by its calls
 pub record IsKept (state : LiveState) : Type 0 where
   pub some : 1 ≤ length state.lines.items
-  pub lines : length state.lines.items ≤ 128
+  pub lines : length state.lines.items ≤ most_lines
   pub few : All HasFew state.lines.items
-  pub ticks : state.ticks ≤ 1000000
+  pub ticks : state.ticks ≤ most_ticks
   pub passed : state.passed ≤ state.ticks
 
 -- a line is read, and what is kept stands for what is said with it
@@ -110,7 +110,7 @@ pub record Reads (now : LiveState) (octets : List ℕ) (c : Config) (live : Live
 pub record IsRoom (state : LiveState) : Type 0 where
   pub passed : state.passed ≡ 0
   pub lines : state.lines.items ≡ []
-  pub room : 128 ≤ vec_capacity state.lines
+  pub room : most_lines ≤ vec_capacity state.lines
 
 -- ---- a reader
 -- why it doesn't read on, where it doesn't
@@ -152,7 +152,7 @@ has_begun reader = is_none reader.settings
 pub record IsLiveReader (reader : LiveReader) : Type 0 where
   pub stage : IsStage reader.settings reader.number reader.state reader.fault
   pub config : IfSome reader.config IsNetwork
-  pub room : 65535 ≤ vec_capacity reader.octets
+  pub room : longest_offer ≤ vec_capacity reader.octets
   pub count : line_at reader ≤ longest_input + 1
 
 -- the lines so far say this

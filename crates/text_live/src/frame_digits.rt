@@ -4,12 +4,11 @@ ghost use Rattle.std.specs.Prelude.{OnOk, IfErr, vec_capacity};
 ghost use Rattle.hex.specs.Hex.{decode_of};
 ghost use Rattle.text_lines.specs.WordsOfLine.{octets_of};
 ghost use Rattle.text_lines.specs.Fields.{octets_fault};
+ghost use Rattle.law_model.specs.Common.{longest_offer};
 
+use law_model::LONGEST_OFFER;
 use text_hex::decode_into;
 use text_lines::FieldFault;
-
-/// The octets of the longest frame that a text may say.
-pub(crate) const MOST_OCTETS: usize = 65_535;
 
 /// Whether a text is pairs of hexadecimal digits.
 fn is_hex(text: &[u8]) -> bool
@@ -30,13 +29,13 @@ fn is_hex(text: &[u8]) -> bool
 /// What is wrong with digits that say more octets than a frame may have.
 fn long_fault(digits: &[u8]) -> FieldFault
     requires { 65536 ≤ length digits.now / 2 }
-    ensures { octets_fault 2 1 65535 (decode_of digits.now) ≡ Some result }
+    ensures { octets_fault 2 1 longest_offer (decode_of digits.now) ≡ Some result }
 {
     if is_hex(digits) {
         FieldFault::Size {
             word: 2,
             least: 1,
-            most: 65_535,
+            most: LONGEST_OFFER,
         }
     } else {
         FieldFault::Hex { word: 2 }
@@ -45,14 +44,14 @@ fn long_fault(digits: &[u8]) -> FieldFault
 
 /// Reads the octets of a frame in the place of those before. Their digits are the second word of a line.
 pub(crate) fn read_octets(digits: &[u8], octets: &mut Vec<u8>) -> Result<(), FieldFault>
-    requires { 65535 ≤ vec_capacity octets.old }
-    ensures room { 65535 ≤ vec_capacity octets.new }
-    ensures fine { OnOk result (octets_fault 2 1 65535 (decode_of digits.now) ≡ None) }
+    requires { longest_offer ≤ vec_capacity octets.old }
+    ensures room { longest_offer ≤ vec_capacity octets.new }
+    ensures fine { OnOk result (octets_fault 2 1 longest_offer (decode_of digits.now) ≡ None) }
     ensures octets { OnOk result (octets.new.items ≡ octets_of digits.now) }
     ensures err { IfErr result (λ fault.
-        octets_fault 2 1 65535 (decode_of digits.now) ≡ Some fault) }
+        octets_fault 2 1 longest_offer (decode_of digits.now) ≡ Some fault) }
 {
-    if digits.len() / 2 > MOST_OCTETS {
+    if digits.len() / 2 > LONGEST_OFFER {
         return Err(long_fault(digits));
     }
     octets.clear();
@@ -63,7 +62,7 @@ pub(crate) fn read_octets(digits: &[u8], octets: &mut Vec<u8>) -> Result<(), Fie
         return Err(FieldFault::Size {
             word: 2,
             least: 1,
-            most: 65_535,
+            most: LONGEST_OFFER,
         });
     }
     Ok(())

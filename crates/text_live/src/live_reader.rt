@@ -16,7 +16,7 @@ use crate::live_fault::{LiveFault, LiveLineFault};
 use crate::live_keyword::{EarlierPart, FirstWord, LiveKeyword};
 use crate::live_line::LiveLine;
 use crate::read_live_line::LiveState;
-use law_model::Config;
+use law_model::{Config, LONGEST_OFFER};
 use std::alloc::{AllocError, Global};
 use text_lines::first_word;
 use text_scripts::script_read::{ScriptReader, limit_fault};
@@ -91,7 +91,7 @@ impl LiveReader {
             settings: Some(ScriptReader::from_line(alloc, 1)),
             config: None,
             state: LiveState::new(alloc)?,
-            octets: Vec::with_capacity(alloc, 65_535)?,
+            octets: Vec::with_capacity(alloc, LONGEST_OFFER)?,
             fault: None,
         })
     }

@@ -4,7 +4,7 @@ ghost use Rattle.std.specs.Prelude.{vec_capacity};
 ghost use Rattle.law_model.specs.declared.script_types.Config.{Config};
 ghost use Rattle.text_lines.specs.WordsOfLine.{words, word_at, number_at, octets_of};
 ghost use Rattle.text_lines.specs.Fields.{within};
-ghost use Rattle.law_model.specs.Common.{IsNetwork};
+ghost use Rattle.law_model.specs.Common.{IsNetwork, longest_offer, most_windows};
 ghost use Rattle.law_live.specs.LiveSayings.{Live, opened, uncut};
 ghost use Rattle.text_live.specs.LiveLines.{cut_fault_by, mend_fault_by, one_fault, rest_fault};
 ghost use Rattle.text_live.specs.LiveReaderStands.{Keeps, IsKept, IsRoom, HasFew, Reads, mended_state, state_of};
@@ -14,7 +14,7 @@ use crate::frame_digits::read_octets;
 use crate::live_fault::LiveLineFault;
 use crate::live_keyword::LiveKeyword;
 use crate::live_line::LiveLine;
-use law_model::{Config, WindowList};
+use law_model::{Config, MOST_LINES, MOST_WINDOWS, WindowList};
 use std::alloc::{AllocError, Global};
 use text_lines::{count_words, number_within, one_word};
 
@@ -52,7 +52,7 @@ fn count_fault(keyword: LiveKeyword, rest: &[u8]) -> LiveLineFault
 
 /// What is kept of a line before it is cut.
 fn before_cut(list: &WindowList) -> LineState
-    requires { length list.now ≤ 256 }
+    requires { length list.now ≤ most_windows }
     ensures { result ≡ state_of (uncut list.now) }
 {
     let end = match list.0.last() {
@@ -91,7 +91,7 @@ impl LineState {
         requires { HasFew self }
         ensures { result ≡ cut_fault_by ticks passed member self.failures self.end self.cut }
     {
-        if self.failures + u16::from(self.cut.is_some()) >= 256 {
+        if self.failures + u16::from(self.cut.is_some()) >= MOST_WINDOWS as u16 {
             return Some(LiveLineFault::FullLine { line: member });
         }
         if passed == ticks {
@@ -144,7 +144,7 @@ impl LiveState {
         Ok(LiveState {
             ticks: 0,
             passed: 0,
-            lines: Vec::with_capacity(alloc, 128)?,
+            lines: Vec::with_capacity(alloc, MOST_LINES)?,
         })
     }
 
@@ -182,8 +182,8 @@ impl LiveState {
 
     /// Reads that a frame is sent.
     fn read_frame(&self, rest: &[u8], octets: &mut Vec<u8>) -> Result<(), LiveLineFault>
-        requires { 65535 ≤ vec_capacity octets.old }
-        ensures room { 65535 ≤ vec_capacity octets.new }
+        requires { longest_offer ≤ vec_capacity octets.old }
+        ensures room { longest_offer ≤ vec_capacity octets.new }
         ensures fine { OnOk result
             (frame_fault self.now.ticks self.now.passed (words rest.now) ≡ None) }
         ensures octets { OnOk result (octets.new.items ≡ octets_of (word_at 0 (words rest.now))) }
@@ -276,9 +276,9 @@ impl LiveState {
         octets: &mut Vec<u8>,
     ) -> Result<LiveLine, LiveLineFault>
         requires kept { IsKept self.old }
-        requires room { 65535 ≤ vec_capacity octets.old }
+        requires room { longest_offer ≤ vec_capacity octets.old }
         ensures kept { IsKept self.new }
-        ensures room { 65535 ≤ vec_capacity octets.new }
+        ensures room { longest_offer ≤ vec_capacity octets.new }
         ensures ok { (c : Config) (live : Live) → Keeps self.old c live → IfOk result (λ said.
             Reads self.new octets.new.items c live keyword (words rest.now) said) }
         ensures err { (c : Config) (live : Live) → Keeps self.old c live →

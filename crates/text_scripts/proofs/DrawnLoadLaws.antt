@@ -11,7 +11,7 @@ use Rattle.std.proofs.lemmas.List.{length-append, length-replicate, map-append, 
 use Rattle.std.proofs.lemmas.List.FromFn.{length-map-range_with_len, get_or-map-range_with_len}
 use Rattle.std.proofs.lemmas.List.FromFn.{map-range_with_len_more}
 use Rattle.law_model.specs.Common.{due_of, dues_of, frame_dues, command_dues, slip_after, AreWindows, greatest}
-use Rattle.law_model.specs.Common.{greatest_slip, IsItem, HasFailures, AreItems, IsValid}
+use Rattle.law_model.specs.Common.{greatest_slip, IsItem, HasFailures, AreItems, IsValid, most_drawn_ticks}
 use Rattle.law_model.specs.declared.script_types.Item.{Item}
 use Rattle.law_model.specs.declared.script_types.Script.{Script}
 use Rattle.law_model.specs.declared.script_types.ItemKind.TheVariants.{Frame, Add}
@@ -29,6 +29,7 @@ use Rattle.check_crc32.proofs.CheckBitsAndRemainderLaws.{length-fcs_of}
 use Rattle.text_scripts.specs.declared.rate_load.rate_frames.RateLoad.{RateLoad}
 use Rattle.text_scripts.specs.rate_load.RateTexts.{IsRateLoad, due_of as rate_due, count_of, head, content_of}
 use Rattle.text_scripts.specs.rate_load.RateTexts.{frame_of as rate_frame, state_of, start_of, line_at, lines_of}
+use Rattle.law_model.specs.Common.{longest_delay}
 
 -- ---- Draws one on, and their bounds.
 draws_more : (more fewer bound state : ℕ) → more ≡ suc fewer →
@@ -252,7 +253,7 @@ no_windows ticks = record { few = omega arith; apart = tt; ends = All-none _; sl
 low : (ns : List ℕ) (most : ℕ) → All (λ n. n < 41) ns → 40 ≤ most → All (λ n. n ≤ most) ns
 low ns most are high i d within = let less = are i d within in omega (arith, less, high)
 
-valid_load : (number lines ticks : ℕ) → (1 ≤ lines) × (lines ≤ 64) → (1 ≤ ticks) × (ticks ≤ 1000000) →
+valid_load : (number lines ticks : ℕ) → (1 ≤ lines) × (lines ≤ 64) → (1 ≤ ticks) × (ticks ≤ most_drawn_ticks) →
     IsValid (load number lines ticks)
 unfolding items_of
 valid_load number lines ticks few time =
@@ -264,7 +265,7 @@ valid_load number lines ticks few time =
         network = record {
           lines = (few.0, omega (arith, few.1));
           delay_each = length-draws lines 41 number;
-          delays = low (draws lines 41 number) 2047 delays (omega arith);
+          delays = low (draws lines 41 number) longest_delay delays (omega arith);
           windows_each = length-replicate lines [];
           windows = All-replicate (HasFailures ticks) lines [] (no_windows ticks);
           lost = no_losses;
@@ -286,7 +287,7 @@ valid_load number lines ticks few time =
       events = All-none _;
     }
 
-pub is_valid : (script : Script) (number lines ticks : ℕ) → (1 ≤ lines) × (lines ≤ 64) → (1 ≤ ticks) × (ticks ≤ 1000000)
+pub is_valid : (script : Script) (number lines ticks : ℕ) → (1 ≤ lines) × (lines ≤ 64) → (1 ≤ ticks) × (ticks ≤ most_drawn_ticks)
     → script ≡ load number lines ticks → IsValid script
 is_valid script number lines ticks few time is = subst IsValid (sym is) (valid_load number lines ticks few time)
 

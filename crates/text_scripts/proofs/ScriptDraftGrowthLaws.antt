@@ -28,6 +28,7 @@ use Rattle.text_scripts.specs.script_read.ScriptInPieces.{IsUntested}
 use Rattle.law_model.specs.declared.script_types.ItemKind.TheVariants as item
 use Rattle.text_scripts.specs.declared.script_read.script_draft.Statement.TheVariants as says
 use Rattle.text_scripts.specs.declared.script_read.script_fault.ScriptFault.TheVariants as fault
+use Rattle.law_model.specs.Common.{longest_slip, most_packets, most_windows}
 
 -- ---- One more at the end of a list: of numbers that never fall, of items, of windows.
 pub All-none : {X : Type 0} (P : X → Type 0) → All P []
@@ -187,20 +188,20 @@ one_window d m window are next = record {
   few = (let room = next.room in omega (arith, room, length-append (windows_of d m) (window ∷ [])));
   order = order-one (windows_of d m) window are.order next.order next.some;
   ends = All-push (λ (w : Window). w.end ≤ d.config.ticks) (windows_of d m) window are.ends next.ends;
-  slips = All-push (λ (w : Window). w.slip ≤ 2047) (windows_of d m) window are.slips next.slips;
+  slips = All-push (λ (w : Window). w.slip ≤ longest_slip) (windows_of d m) window are.slips next.slips;
 }
 
 one_loss : (d : Draft) (first end : ℕ) → HasLosses d.config.lost → IsNextLost d first end
     → HasLosses (d.config.lost ++ (first, end) ∷ [])
 one_loss d first end has next = record {
   apart = apart-one d.config.lost (first, end) has.apart next.order next.some;
-  ends = All-push (λ (w : ℕ × ℕ). w.1 ≤ 62500) d.config.lost (first, end) has.ends next.ends;
+  ends = All-push (λ (w : ℕ × ℕ). w.1 ≤ most_packets) d.config.lost (first, end) has.ends next.ends;
 }
 
 -- the configuration stands after its last line, but for windows, return windows and options
 config_with : (next now : ℕ) (config : Config) (windows : List (List Window)) (lost : List (ℕ × ℕ)) (options : Options)
     → HasConfig next config → 6 ≤ next → 6 ≤ now → length windows ≡ length config.windows
-    → All (AreFailures config.ticks) windows → HasLosses lost → length lost ≤ 256 → IsOptions options
+    → All (AreFailures config.ticks) windows → HasLosses lost → length lost ≤ most_windows → IsOptions options
     → HasConfig now (record config { windows = windows; lost = lost; options = options })
 config_with next now config windows lost options has whole still size are apart few_lost sound = record {
   few = has.few;

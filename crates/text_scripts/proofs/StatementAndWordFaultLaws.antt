@@ -32,6 +32,8 @@ use Rattle.text_scripts.specs.script_read.Statements.{known_fault, words_fault, 
 use Rattle.text_lines.specs.declared.text_faults.Names.TheVariants as names
 use Rattle.text_scripts.specs.declared.script_read.script_fault.LineFault.TheVariants as wrong
 use Rattle.text_scripts.specs.declared.script_read.script_keyword.Keyword.TheVariants as word
+use Rattle.law_model.specs.Common.{most_count, most_lines, most_ticks}
+use Rattle.law_model.specs.Common.{largest_ring, longest_delay, longest_holdoff, longest_lag, longest_offer, longest_restore, longest_slip, most_packets, most_windows}
 
 -- ---- Hexadecimal digits have no space among them.
 no_space : (c : ℕ) → is_hex_digit c ≡ true → c ≢ 32
@@ -54,16 +56,16 @@ digits_only text octets is some =
 -- the first fault of delays, of which the first is the word at a place
 abbrev pub delay_faults : ℕ → List (List ℕ) → Option FieldFault
 delay_faults at [] = None
-delay_faults at (w ∷ ws) = option_or (number_fault at 0 2047 w) (delay_faults (at + 1) ws)
+delay_faults at (w ∷ ws) = option_or (number_fault at 0 longest_delay w) (delay_faults (at + 1) ws)
 
 abbrev pub line_faults : ℕ → List (List ℕ) → Option LineFault
 line_faults at ws = option_map Field (delay_faults at ws)
 
 pub delays_as_fields : (at before : ℕ) (ws : List (List ℕ)) →
-    fields_fault (replicate (length ws) (within 0 2047)) at before ws ≡ delay_faults at ws
+    fields_fault (replicate (length ws) (within 0 longest_delay)) at before ws ≡ delay_faults at ws
 delays_as_fields at before [] = refl
 delays_as_fields at before (w ∷ ws) =
-    ap (λ (f : Option FieldFault). option_or (number_fault at 0 2047 w) f) (delays_as_fields (at + 1) (number_of w) ws)
+    ap (λ (f : Option FieldFault). option_or (number_fault at 0 longest_delay w) f) (delays_as_fields (at + 1) (number_of w) ws)
 
 pub delays_said : (n : ℕ) (ws : List (List ℕ)) → length ws ≡ n → delays_fault n ws ≡ line_faults 2 ws
 delays_said n ws count =
@@ -72,7 +74,7 @@ delays_said n ws count =
     (ap (λ (f : Option FieldFault). option_map Field f) (delays_as_fields 2 0 ws)))
 
 pub delay_fails : (at place : ℕ) (ws more : List (List ℕ)) (w : List ℕ) (fault : FieldFault) → ws ≡ w ∷ more →
-    at ≡ place → number_fault at 0 2047 w ≡ Some fault
+    at ≡ place → number_fault at 0 longest_delay w ≡ Some fault
     → line_faults place ws ≡ Some (Field fault)
 delay_fails at place ws more w fault first same fails =
     ap (λ (n : ℕ). line_faults n ws) (let e : place ≡ at = omega (arith, same) in e)
@@ -97,16 +99,16 @@ statuses_ok w none =
     one_of_two (bytes_eq w (codes "16")) (bytes_eq w (codes "32")) 16 32 (Name 2 names.Statuses) none
 
 each_within : (n at before : ℕ) (ws : List (List ℕ)) → length ws ≡ n →
-    fields_fault (replicate n (within 0 2047)) at before ws ≡ None
-    → (length (map number_of ws) ≡ n) × All (λ delay. delay ≤ 2047) (map number_of ws)
-each_within n at before [] size none = (size, All-nil (λ delay. delay ≤ 2047))
+    fields_fault (replicate n (within 0 longest_delay)) at before ws ≡ None
+    → (length (map number_of ws) ≡ n) × All (λ delay. delay ≤ longest_delay) (map number_of ws)
+each_within n at before [] size none = (size, All-nil (λ delay. delay ≤ longest_delay))
 each_within zero at before (w ∷ ws) size none = absurd (omega (arith, size))
 each_within (suc n) at before (w ∷ ws) size none =
-    let is = or_none (number_fault at 0 2047 w) (fields_fault (replicate n (within 0 2047)) (at + 1) (number_of w) ws)
+    let is = or_none (number_fault at 0 longest_delay w) (fields_fault (replicate n (within 0 longest_delay)) (at + 1) (number_of w) ws)
     none in
     let rest = each_within n (at + 1) (number_of w) ws (omega (arith, size)) is.1 in (
       omega (arith, rest.0),
-      All-cons (λ delay. delay ≤ 2047) (number_of w) (map number_of ws) (number_ok at 0 2047 w is.0).1 rest.1,
+      All-cons (λ delay. delay ≤ longest_delay) (number_of w) (map number_of ws) (number_ok at 0 longest_delay w is.0).1 rest.1,
     )
 
 -- ---- the place of a line
@@ -195,7 +197,7 @@ next_window : (d : Draft) (ws : List (List ℕ)) → IsDraft d → 6 ≤ d.next 
     → IsNext d (number_at 0 ws) (record { first = number_at 1 ws; end = number_at 2 ws; slip = number_at 3 ws })
 next_window d ws is late fine =
     let four = four_fields (within 0 (d.config.lines - 1)) any (above d.config.ticks)
-    (within 0 2047) 2 ws fine.count fine.each in
+    (within 0 longest_slip) 2 ws fine.count fine.each in
     let some = some_lines d is (omega (arith, late)) in
     let line = number_ok 2 0 (d.config.lines - 1) (word_at 0 ws) four.first in
     let end = number_ok 4 (number_at 1 ws + 1) d.config.ticks (word_at 2 ws) four.third in
@@ -203,21 +205,21 @@ next_window d ws is late fine =
       line = omega (arith, some, line.1);
       some = omega (arith, end.0);
       ends = end.1;
-      slips = (number_ok 5 0 2047 (word_at 3 ws) four.fourth).1;
+      slips = (number_ok 5 0 longest_slip (word_at 3 ws) four.fourth).1;
       order = ltb-false (number_at 1 ws) (last_end (windows_of d (number_at 0 ws))) fine.order;
-      room = leb-false 256 (length (windows_of d (number_at 0 ws))) fine.room;
+      room = leb-false most_windows (length (windows_of d (number_at 0 ws))) fine.room;
     }
 
 next_lost : (d : Draft) (ws : List (List ℕ)) → HasNoFault d word.Lost ws →
     IsNextLost d (number_at 0 ws) (number_at 1 ws)
 next_lost d ws fine =
-    let two = two_fields any (above 62500) 2 0 ws fine.count fine.each in
-    let end = number_ok 3 (number_at 0 ws + 1) 62500 (word_at 1 ws) two.1 in
+    let two = two_fields any (above most_packets) 2 0 ws fine.count fine.each in
+    let end = number_ok 3 (number_at 0 ws + 1) most_packets (word_at 1 ws) two.1 in
     record {
       some = omega (arith, end.0);
       ends = end.1;
       order = ltb-false (number_at 0 ws) (last_lost d.config.lost) fine.order;
-      room = leb-false 256 (length d.config.lost) fine.room;
+      room = leb-false most_windows (length d.config.lost) fine.room;
     }
 
 record IsCommand (d : Draft) (ws : List (List ℕ)) : Type 0 where
@@ -241,22 +243,22 @@ fits_said d word.Container ws is at fine = (
   at_place d.next 0 (omega arith) (λ e. omega (arith, e)) at,
   size_ok (word_at 0 ws) (one_field (one_of names.Containers) 2 ws fine.count fine.each),
 )
-fits_said d word.Lines ws is at fine = (at_lines d.next at, one_number 1 128 ws fine.count fine.each)
+fits_said d word.Lines ws is at fine = (at_lines d.next at, one_number 1 most_lines ws fine.count fine.each)
 fits_said d word.Delays ws is at fine =
-    let size : length ws ≡ d.config.lines = fine.count ∙ length-replicate d.config.lines (within 0 2047) in
+    let size : length ws ≡ d.config.lines = fine.count ∙ length-replicate d.config.lines (within 0 longest_delay) in
     let are = each_within d.config.lines 2 0 ws size fine.each in
     (at_place d.next 2 (omega arith) (λ e. omega (arith, e)) at, are.0, are.1)
 fits_said d word.Ring ws is at fine =
-    (at_place d.next 3 (omega arith) (λ e. omega (arith, e)) at, one_number 1 2048 ws fine.count fine.each)
+    (at_place d.next 3 (omega arith) (λ e. omega (arith, e)) at, one_number 1 largest_ring ws fine.count fine.each)
 fits_said d word.Lag ws is at fine =
-    (at_place d.next 4 (omega arith) (λ e. omega (arith, e)) at, one_number 1 512 ws fine.count fine.each)
+    (at_place d.next 4 (omega arith) (λ e. omega (arith, e)) at, one_number 1 longest_lag ws fine.count fine.each)
 fits_said d word.Ticks ws is at fine =
-    (at_place d.next 5 (omega arith) (λ e. omega (arith, e)) at, one_number 1 1000000 ws fine.count fine.each)
+    (at_place d.next 5 (omega arith) (λ e. omega (arith, e)) at, one_number 1 most_ticks ws fine.count fine.each)
 fits_said d word.Sink ws is at fine = (at_options d.next at, fine.room)
 fits_said d word.Holdoff ws is at fine =
-    (at_options d.next at, (one_number 0 5000 ws fine.count fine.each).1, fine.room)
+    (at_options d.next at, (one_number 0 longest_holdoff ws fine.count fine.each).1, fine.room)
 fits_said d word.Restore ws is at fine =
-    (at_options d.next at, (one_number 0 62500 ws fine.count fine.each).1, fine.room)
+    (at_options d.next at, (one_number 0 longest_restore ws fine.count fine.each).1, fine.room)
 fits_said d word.Statuses ws is at fine = (
   at_options d.next at,
   statuses_ok (word_at 0 ws) (one_field (one_of names.Statuses) 2 ws fine.count fine.each),
@@ -267,10 +269,10 @@ fits_said d word.Fail ws is at fine = let late = at.1 (omega arith) in
 fits_said d word.Lost ws is at fine = let late = at.1 (omega arith) in (late.0, late.1, next_lost d ws fine)
 fits_said d word.Frame ws is at fine =
     let late = at.1 (omega arith) in
-    let two = two_fields (within 0 (d.config.ticks - 1)) (digits 1 65535) 2 0 ws fine.count fine.each in
+    let two = two_fields (within 0 (d.config.ticks - 1)) (digits 1 longest_offer) 2 0 ws fine.count fine.each in
     let some = some_ticks d is late.0 in
     let due = number_ok 2 0 (d.config.ticks - 1) (word_at 0 ws) two.0 in
-    let frame = digits_ok 3 1 65535 (word_at 1 ws) two.1 in (
+    let frame = digits_ok 3 1 longest_offer (word_at 1 ws) two.1 in (
       late.0,
       late.1,
       (
@@ -289,17 +291,17 @@ fits_said d word.Remove ws is at fine =
     (late.0, late.1, (command.due, command.line), ltb-false (number_at 0 ws) d.command_due fine.order)
 fits_said d word.Carry ws is at fine =
     let late = at.1 (omega arith) in
-    let two = two_fields (within 0 (d.config.lines - 1)) (within 1 1000000) 2 0 ws fine.count fine.each in
+    let two = two_fields (within 0 (d.config.lines - 1)) (within 1 most_count) 2 0 ws fine.count fine.each in
     let some = some_lines d is (let low = late.0 in omega (arith, low)) in
     let line = number_ok 2 0 (d.config.lines - 1) (word_at 0 ws) two.0 in (
       late.0,
       (
         (let e : number_at 0 ws < d.config.lines = omega (arith, some, line.1) in e),
-        number_ok 3 1 1000000 (word_at 1 ws) two.1,
+        number_ok 3 1 most_count (word_at 1 ws) two.1,
       ),
     )
 fits_said d word.Drain ws is at fine = let late = at.1 (omega arith) in (late.0, tt)
-fits_said d k ws is at fine = let late = at.1 (omega arith) in (late.0, one_number 1 1000000 ws fine.count fine.each)
+fits_said d k ws is at fine = let late = at.1 (omega arith) in (late.0, one_number 1 most_count ws fine.count fine.each)
 
 known_fits : (d : Draft) (ws : List (List ℕ)) (k : Option Keyword) → IsDraft d → known_fault d ws k ≡ None →
     Fits d (known_said ws k)

@@ -7,7 +7,7 @@ use Rattle.std.proofs.lemmas.List.{append-nil, take-append-le, take_all, length-
 use Rattle.std.proofs.lemmas.List.Elements.{All-cons, All-append}
 use Rattle.law_model.proofs.ListLaws.{All-front, All-after, slice_get-inside}
 use Rattle.law_model.specs.Common.{Scenario, Told, Container, BackCell, steps_in, told_in, container_of, containers_of}
-use Rattle.law_model.specs.Common.{frame_of, dues_of, frame_dues, command_dues, used_in, held}
+use Rattle.law_model.specs.Common.{frame_of, dues_of, frame_dues, command_dues, used_in, held, most_lines, most_ticks}
 use Rattle.law_model.specs.declared.script_types.Item.{Item}
 use Rattle.law_model.specs.declared.script_types.ItemKind.{ItemKind}
 use Rattle.law_model.specs.declared.item_refusals.Refusal.{Refusal}
@@ -32,6 +32,7 @@ use Rattle.terminal_group.specs.ReturnInbox.{Inbox, empty_inbox, come_from, told
 use Rattle.terminal_group.specs.ReturnInbox.{rest_for, Takes}
 use Rattle.thread_group.specs.GroupRings.{AreUnused, SameOuts, HaveLooked, ArePushed, HasMoved}
 use Rattle.terminal_group.proofs.InboxReturnCellLaws.{come-length, taken-more, takes}
+use Rattle.law_model.specs.Common.{longest_lag}
 
 -- ---- Items that were refused: what more of a journal, of return cells and of ticks leaves of them, and one more of them.
 -- sessions that are alike up to some ticks refuse the same, whatever is entered later
@@ -97,8 +98,8 @@ refused-now scenario cells ticks landed entries number kind why next due is = re
 
 -- ---- What each step leaves true of the parts of a group.
 -- ---- nothing has come of a group
-pub keeps-begin : (at : Parts) (size : ℕ) → at.total ≤ 1000000 → at.source.ticks ≡ 0 → at.source.lines ≤ 128 →
-    at.source.lag ≤ 512 → size ≡ at.source.lines → length at.tx ≡ at.source.lines →
+pub keeps-begin : (at : Parts) (size : ℕ) → at.total ≤ most_ticks → at.source.ticks ≡ 0 → at.source.lines ≤ most_lines →
+    at.source.lag ≤ longest_lag → size ≡ at.source.lines → length at.tx ≡ at.source.lines →
     AreUnused at.tx → in_passed at.back ≡ [] → at.landed.frames ≡ 0 → at.landed.commands ≡ 0 → at.landed.refusals ≡ [] →
     at.journal.entries ≡ [] → at.inbox ≡ empty_inbox at.inbox.lost at.source.lag →
     ((scenario : Scenario) → IsFresh scenario at.source.lines at.source.lag at.source.size at.source.statuses →

@@ -1,6 +1,6 @@
 -- The parts of a group, and what is true of them whenever the lock is free.
 use Rattle.std.specs.Prelude.{◌≡◌, ℕ, ◌+◌, ◌≤◌, List, length, take, slice_get, All, Option, Some}
-use Rattle.law_model.specs.Common.{Container, BackCell, Scenario, Told, containers_of, dues_of, used_in}
+use Rattle.law_model.specs.Common.{Container, BackCell, Scenario, Told, containers_of, dues_of, used_in, longest_lag}
 use Rattle.law_model.specs.declared.script_types.Item.{Item}
 use Rattle.law_model.specs.declared.script_types.ItemKind.{ItemKind}
 use Rattle.law_model.specs.declared.item_refusals.Refusal.{Refusal}
@@ -11,6 +11,7 @@ use Rattle.law_walk.specs.Common.{Numbered, is_client, kind_refusal}
 use Rattle.thread_group.specs.Journal.{Journal, Setting, journal_scenario, items_in, IsLegal}
 use Rattle.terminal_group.specs.Landed.{Landed, due_at, AreAhead, AreBehind}
 use Rattle.terminal_group.specs.ReturnInbox.{Inbox, told_taken, HasCome}
+use Rattle.law_model.specs.Common.{most_lines, most_ticks}
 
 -- the source; how many ticks there are; what has landed; the journal; the inbox; the send rings and the return ring
 pub record Parts : Type 0 where
@@ -79,10 +80,10 @@ AreRefused scenario cells ticks items entries refusals =
 -- is a place for a
 -- container of each line
 pub record Keeps (at : Parts) (size : ℕ) : Type 0 where
-  pub total : at.total ≤ 1000000
+  pub total : at.total ≤ most_ticks
   pub ticks : at.source.ticks ≤ at.total
-  pub lines : at.source.lines ≤ 128
-  pub lag : at.source.lag ≤ 512
+  pub lines : at.source.lines ≤ most_lines
+  pub lag : at.source.lag ≤ longest_lag
   pub places : size ≡ at.source.lines
   pub rings : length at.tx ≡ at.source.lines
   pub room : at.inbox.room ≡ at.source.lag + 1

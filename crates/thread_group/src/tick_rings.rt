@@ -1,7 +1,7 @@
 //! What a tick does to the ends of the rings of a group.
 
 ghost use Rattle.std.specs.Prelude.{◌≡◌, ◌⊎◌, ◌<◌, ◌≤◌, ◌+◌, length, MatchOption};
-ghost use Rattle.law_model.specs.Common.{Container};
+ghost use Rattle.law_model.specs.Common.{Container, most_lines};
 ghost use Rattle.member_cells.specs.HeldPlaces.{held};
 ghost use Rattle.thread_group.specs.GroupRings.{AreFree, IsFirstFull, HaveLooked, ArePushed, IsDrained, HasMoved};
 
@@ -28,7 +28,7 @@ pub(crate) fn take_cells(source: &mut GroupSource, back: &mut RingIn<BackCell>)
 
 /// The first line whose send ring has no free slot, as far as looks tell.
 pub(crate) fn first_full(tx: &mut Vec<RingOut<Container>>) -> Option<u8>
-    requires { length tx.old.items ≤ 128 }
+    requires { length tx.old.items ≤ most_lines }
     ensures looked { HaveLooked tx.old.items tx.new.items }
     ensures full { MatchOption result (AreFree tx.new.items)
         (λ line. IsFirstFull tx.old.items tx.new.items line) }

@@ -5,7 +5,7 @@ use Rattle.std.proofs.Common.{if◌then◌else◌, take, drop, ◌^◌, ◌<◌,
 use Rattle.std.proofs.Common.{Option}
 use Rattle.law_model.proofs.ListLaws.{get-last}
 use Rattle.law_model.specs.Common.{Container, Cell, IsValid, BackCell, leg_of, Scenario, scenario_of, offers_of}
-use Rattle.law_model.specs.Common.{orders_of, used_in, containers_of, DueFrame, offer_of, IsKind, Leg}
+use Rattle.law_model.specs.Common.{orders_of, used_in, containers_of, DueFrame, offer_of, IsKind, Leg, longest_offer}
 use Rattle.law_model.specs.declared.window_types.Window.{Window}
 use Rattle.law_model.specs.declared.script_types.Config.{Config}
 use Rattle.member_path.specs.path_delay.CallsOnDelayedLine.{Line, opened, DelayStands}
@@ -266,9 +266,9 @@ octets-sum (item ∷ items) =
     ∙ ap (λ n. n + octets_in (offers_of items)) (sym one) ∙ ap (λ n. own_octets item + n) (octets-sum items)
     ∙ sym (sum_by-cons own_octets item items)
 
-own-few : (item : Item) → IsKind item.kind → own_octets item ≤ 65535
+own-few : (item : Item) → IsKind item.kind → own_octets item ≤ longest_offer
 own-few item is = by_kind item.due item.kind is where
-  by_kind : (due : ℕ) (kind : ItemKind) → IsKind kind → octets_in (offer_of due kind ++ []) ≤ 65535
+  by_kind : (due : ℕ) (kind : ItemKind) → IsKind kind → octets_in (offer_of due kind ++ []) ≤ longest_offer
   by_kind due (Frame octets) is = let most = is.0.1 in omega arith
   by_kind due (Add line) is = omega arith
   by_kind due (Remove line) is = omega arith
@@ -276,7 +276,7 @@ own-few item is = by_kind item.due item.kind is where
 pub octets-few : (items : List Item) → length items ≤ 67108864 → All (λ (item : Item). IsKind item.kind) items →
     sum_by own_octets items < 2 ^ 64
 octets-few items few each =
-    let most = sum_by-le own_octets 65535 items (λ k d inside. own-few (slice_index_or items k d) (each k d inside)) in
+    let most = sum_by-le own_octets longest_offer items (λ k d inside. own-few (slice_index_or items k d) (each k d inside)) in
     omega arith
 
 -- ---- An item that a group took was the next one of its kind.

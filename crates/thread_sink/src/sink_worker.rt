@@ -1,6 +1,7 @@
 //! The worker of the sink.
 ghost use Rattle.std.specs.Prelude.{◌≡◌, ◌≤◌, length};
 ghost use Rattle.member_rows.specs.realign_rows.Gather.{line_count};
+ghost use Rattle.law_model.specs.Common.{most_lines};
 
 use crate::burst_answers::SinkBurst;
 use crate::burst_steps::take_rows;
@@ -62,7 +63,7 @@ impl SinkWorker {
         back: RingOut<BackCell>,
     ) -> Result<SinkWorker, AllocError>
         requires least { 1 ≤ lines }
-        requires most { lines ≤ 128 }
+        requires most { lines ≤ most_lines }
         requires size { IsSize size }
         requires options { IsOptions options }
         requires rings { length rx.items ≡ lines }

@@ -5,7 +5,7 @@ use Rattle.std.proofs.Common.{arith, is_some, ltb-false, lt-ltb, le-ltb}
 use Rattle.std.proofs.lemmas.Bool.{cases_Bool}
 use Rattle.law_model.specs.Common.{Leg, Counts, Step, land_due, step, BackCell, used_in, Scenario, DueCommand}
 use Rattle.law_model.specs.Common.{DueFrame, order_of, Source, refusal, Stream, refusal_while, frame_refusal, Course}
-use Rattle.law_model.specs.Common.{Told, longest_input, dues_of, held}
+use Rattle.law_model.specs.Common.{Told, most_items, dues_of, held}
 use Rattle.law_model.specs.declared.script_types.Item.{Item}
 use Rattle.law_model.specs.declared.walk_events.Event.{Event}
 use Rattle.law_model.specs.declared.walk_events.Event.TheVariants.{Accept, Command}
@@ -245,7 +245,7 @@ module _ (leg : Leg) (backs : ℕ) (parts : Parts) (is : WayStands leg backs par
   next-by false = command-next leg (counts_of parts backs) (next_in leg (counts_of parts backs) false) refl
 
   -- few items have landed
-  landed-few : parts.source.landed.frames + parts.source.landed.commands ≤ longest_input
+  landed-few : parts.source.landed.frames + parts.source.landed.commands ≤ most_items
   landed-few =
       let fits = walk-fits leg (counts_of parts backs) is.sound is.walked in
       let frames = fits.frames in
@@ -301,7 +301,7 @@ told-landed false (Some why) was now s a b told f g r low few =
     rw told (omega (arith, f), omega (arith, g, few), omega (arith, r, few))
 
 has-counted : (client : Bool) (leg : Leg) (was : Counts) (landed : LandedCounts) (why : Option Refusal) →
-    was.frames ≤ longest_input → was.commands ≤ longest_input → HasCounted leg was landed →
+    was.frames ≤ most_items → was.commands ≤ most_items → HasCounted leg was landed →
     totals_of leg (and_landed client was) ≡ tell_by client why (totals_of leg was) →
     HasCounted leg (and_landed client was) (with_landed landed client (is_some why))
 has-counted client leg was landed why low few has told =
@@ -313,7 +313,7 @@ has-counted client leg was landed why low few has told =
     record { frames = t.0; commands = t.1; refused = t.2 }
 
 counts-landed : (client refused : Bool) (s : Counts) (landed : LandedCounts) → s.frames ≡ landed.frames →
-    s.commands ≡ landed.commands → s.frames ≤ longest_input → s.commands ≤ longest_input →
+    s.commands ≡ landed.commands → s.frames ≤ most_items → s.commands ≤ most_items →
     record s {
       frames = (with_landed landed client refused).frames;
       commands = (with_landed landed client refused).commands;
@@ -388,8 +388,8 @@ module _ (leg : Leg) (backs : ℕ) (parts : Parts) (is : WayStands leg backs par
         let before : Counts = counts_of parts backs in
         let next : Counts = and_landed client before in
         let few = landed-few leg backs parts is in
-        let low : before.frames ≤ longest_input = omega (arith, few) in
-        let most : before.commands ≤ longest_input = omega (arith, few) in
+        let low : before.frames ≤ most_items = omega (arith, few) in
+        let most : before.commands ≤ most_items = omega (arith, few) in
         let same_why = sym (has.met ∙ lands.met) in
         let landed : HasCounted leg next now.landed =
         subst (HasCounted leg next) (sym has.landed)

@@ -10,7 +10,7 @@ use Rattle.std.proofs.lemmas.List.{length-map, map-set, drop_all, get_or-map}
 use Rattle.std.proofs.lemmas.List.FromFn.{length-range_with_len}
 use Rattle.circular_buffer.proofs.Places.{slice_get-set_other}
 use Rattle.member_rows.proofs.RowGatherLinesLaws.{set-here}
-use Rattle.law_model.specs.Common.{BackCell, Container, Leg, Scenario, scenario_by, steps_in, Told, untold}
+use Rattle.law_model.specs.Common.{BackCell, Container, Leg, Scenario, scenario_by, steps_in, Told, untold, most_lines}
 use Rattle.law_model.specs.Common.{Source as Session_source, source_at, session_cells, cells_before, container_of}
 use Rattle.law_model.specs.Common.{frame_of, LineCounts, Plan, Counts, Step, in_inbox, used_in, held, full, is_missing}
 use Rattle.law_model.specs.Common.{moved, tick, tick_held, tick_full, step, Course}
@@ -381,7 +381,7 @@ module _ (leg : Leg) (backs : ℕ) (parts : Parts) (is : WayStands leg backs par
       ∙ carried-at lines k d low in
       subst (λ n. min n leg.config.ticks ≤ parts.source.core.ticks) at sent
 
-  pub lines-few : length parts.lines ≤ 128
+  pub lines-few : length parts.lines ≤ most_lines
   lines-few =
       let size = is.lines.size in
       let windows = is.sound.network.windows_each in

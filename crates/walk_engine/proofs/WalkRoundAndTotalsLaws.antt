@@ -11,7 +11,7 @@ use Rattle.law_model.specs.Common.{Leg, Due, frame_due, command_due, LinePath, L
 use Rattle.law_model.specs.Common.{in_receive, in_return, held, full, is_missing, tick_full, tick_held, carry_at}
 use Rattle.law_model.specs.Common.{pop_lines, take_popped, is_back_full, tick, take_row, land_due, frame_dues}
 use Rattle.law_model.specs.Common.{command_dues, step, run, carries_from, round, drain, bound, IsSound, Start, leg_of}
-use Rattle.law_model.specs.Common.{longest_input, Cell, scenario_by, is_known, Scenario, Told, session_cells}
+use Rattle.law_model.specs.Common.{most_items, Cell, scenario_by, is_known, Scenario, Told, session_cells}
 use Rattle.law_model.specs.Common.{segments_of, rows_of}
 use Rattle.law_model.specs.declared.script_types.Script.{Script}
 use Rattle.law_model.specs.declared.walk_events.Event.{Event}
@@ -444,7 +444,7 @@ module _ (leg : Leg) (backs : ℕ) (parts : Parts) (is : WayStands leg backs par
       omega (arith, most, counted)
 
   -- no more items were refused than a count holds
-  refused-few : length (refusals_of leg (counts_of parts backs)) ≤ longest_input
+  refused-few : length (refusals_of leg (counts_of parts backs)) ≤ most_items
   refused-few =
       let s : Counts = counts_of parts backs in
       let fits = walk-fits leg s is.sound is.walked in

@@ -4,7 +4,7 @@ use Rattle.std.proofs.Common.{Bool, ◌++◌, map, Option, sym, ◌∙◌, ap, a
 use Rattle.std.proofs.lemmas.Nat.{mul-le}
 use Rattle.std.proofs.lemmas.List.{length-map}
 use Rattle.law_model.specs.Common.{Counts, IsSound, Leg, LinePath, bound, due_of, sum_delays, Plan, carries_from, run}
-use Rattle.law_model.specs.Common.{step, AppendsPart}
+use Rattle.law_model.specs.Common.{step, AppendsPart, most_lines, most_ticks}
 use Rattle.law_model.specs.declared.script_types.Item.{Item}
 use Rattle.law_progress.specs.Progress.{AllPaths, IsSound as IsSoundPath, made}
 use Rattle.law_walk.specs.Common.{walk_plan}
@@ -50,9 +50,9 @@ bound-small leg sound =
     let lag = sound.network.lag.1 in
     let fits = plan.is.lag in
     let few = few-delays (walk_plan leg).ticks plan.slow plan.fast plan.slip (walk_plan leg).paths plan.is.paths in
-    let delays = mul-le (length (walk_plan leg).paths) plan.slow 128 8192 (omega (arith, size, lines))
+    let delays = mul-le (length (walk_plan leg).paths) plan.slow most_lines 8192 (omega (arith, size, lines))
     (omega (arith, lag, fits)) in
-    let all = mul-le (2 * length (walk_plan leg).paths + 3) (walk_plan leg).ticks 259 1000000 (omega (arith, size, lines))
+    let all = mul-le (2 * length (walk_plan leg).paths + 3) (walk_plan leg).ticks 259 most_ticks (omega (arith, size, lines))
     ticks in
     let items = sound.few in
     let same = length-map leg.items (λ (item : Item). due_of item.due item.kind) in

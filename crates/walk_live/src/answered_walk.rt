@@ -1,7 +1,7 @@
 //! A walk that is told what happens, and answers.
 ghost use Rattle.std.specs.Prelude.{◌≡◌, ◌<◌, ◌≤◌, ◌∷◌, ◌++◌, ◌+◌, [], ℕ, Bool, List, OnOk, OnErr, IfOk};
 ghost use Rattle.std.specs.Prelude.{length, take};
-ghost use Rattle.law_model.specs.Common.{AppendsPart, IsNetwork, Leg};
+ghost use Rattle.law_model.specs.Common.{AppendsPart, IsNetwork, Leg, most_lines};
 ghost use Rattle.law_model.specs.declared.script_types.Config.{Config};
 ghost use Rattle.text_report.specs.ReportLines.{refused_text};
 ghost use Rattle.text_got.specs.TextSoFar.{Holds};
@@ -175,7 +175,7 @@ impl AnsweredWalk {
 
     /// Makes a round, and answers the decision step and the frames of it.
     fn round<K: ByteSink>(&mut self, block: &mut TextBlock, out: &mut K) -> Result<(), Failed>
-        requires few { self.old.lines ≤ 128 }
+        requires few { self.old.lines ≤ most_lines }
         requires ready { (leg : Leg) × CanRound leg self.old.walk }
         requires left { self.old.walk.way.source.core.ticks < self.old.walk.way.source.total }
         ensures same { IsOtherwise self.old self.new }
@@ -206,7 +206,7 @@ impl AnsweredWalk {
         block: &mut TextBlock,
         out: &mut K,
     ) -> Result<(), Failed>
-        requires few { self.now.lines ≤ 128 }
+        requires few { self.now.lines ≤ most_lines }
         requires least { before ≤ (walking_counts self.now.walk).ticks }
         requires most { (walking_counts self.now.walk).ticks ≤ before + 1 }
         ensures told { (leg : Leg) → LiveStands leg self.now.walk →

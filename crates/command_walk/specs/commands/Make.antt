@@ -1,7 +1,7 @@
 -- `make`: the walk of a load from a number, and what is written of it.
 use Rattle.std.specs.Prelude.{◌≡◌, ℕ, ◌*◌, ◌≤◌, ◌==◌, ◌&&◌, min, List, ◌++◌, sum, length, codes, decimal, bytes_eq}
 use Rattle.std.specs.Prelude.{Option, Some, None, if◌then◌else◌, sum_by}
-use Rattle.law_model.specs.Common.{leg_of, Counts, longest_frame}
+use Rattle.law_model.specs.Common.{leg_of, Counts, longest_frame, most_drawn_ticks}
 use Rattle.law_model.specs.declared.script_types.Script.{Script}
 use Rattle.law_model.specs.declared.session_totals.Totals.{Totals}
 use Rattle.text_report.specs.ReportLines.{total_text}
@@ -25,7 +25,7 @@ abbrev pub make_words : List (List ℕ) → Option WalkCommand
 make_words words =
     if length words == 4 && bytes_eq (word_at 0 words) (codes "make") then
     load_of (number_in 0 18446744073709551615 (word_at 1 words)) (number_in 1 64 (word_at 2 words))
-    (number_in 1 1000000 (word_at 3 words))
+    (number_in 1 most_drawn_ticks (word_at 3 words))
     else None
 
 -- how many octets some frames have, and the sum of these

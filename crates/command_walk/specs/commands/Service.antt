@@ -1,6 +1,6 @@
 -- `service`: a script's walk, and what it was worth to its client, by stretches of ticks.
 use Rattle.std.specs.Prelude.{ℕ, ◌==◌, ◌&&◌, List, length, codes, bytes_eq, Option, Some, None, if◌then◌else◌}
-use Rattle.law_model.specs.Common.{leg_of}
+use Rattle.law_model.specs.Common.{leg_of, most_ticks}
 use Rattle.law_headline.specs.WalkTexts.{counts_in}
 use Rattle.fate_service.specs.ServiceText.{service_text}
 use Rattle.command_words.specs.CommandLineWords.{number_in}
@@ -18,7 +18,7 @@ interval_of None = None
 abbrev pub service_words : List (List ℕ) → Option WalkCommand
 service_words words =
     if length words == 2 && bytes_eq (word_at 0 words) (codes "service")
-    then interval_of (number_in 1 1000000 (word_at 1 words)) else None
+    then interval_of (number_in 1 most_ticks (word_at 1 words)) else None
 
 abbrev pub service_answer : ℕ → List ℕ → Answer
 service_answer interval =

@@ -16,11 +16,12 @@ ghost use Rattle.command_walk.specs.commands.Make.{octet_count, octet_sum, made_
 ghost use Rattle.command_walk.specs.commands.Make.{load_of, make_words};
 ghost use Rattle.command_walk.specs.commands.Make.{make_answer};
 ghost use Rattle.command_words.specs.CommandLineWords.{number_in};
+ghost use Rattle.law_model.specs.Common.{most_drawn_ticks};
 
 use crate::command_of_words::WalkCommand;
 use command_parts::{Ran, Stop};
 use command_words::number_within;
-use law_model::{FrameOut, Totals};
+use law_model::{FrameOut, MOST_DRAWN_TICKS, Totals};
 use octet_io::{ByteSink, Failed, put_all};
 use std::alloc::Global;
 use text_report::{TextCursor, total_line};
@@ -29,11 +30,11 @@ use walk_engine::walk_core::Walk;
 /// The load of three numbers.
 fn load_of(number: &[u8], lines: &[u8], ticks: &[u8]) -> Option<WalkCommand>
     ensures { result ≡ load_of (number_in 0 18446744073709551615 number.now)
-        (number_in 1 64 lines.now) (number_in 1 1000000 ticks.now) }
+        (number_in 1 64 lines.now) (number_in 1 most_drawn_ticks ticks.now) }
 {
     let number = number_within(number, 0, u64::MAX)?;
     let lines = number_within(lines, 1, 64)? as u8;
-    let ticks = number_within(ticks, 1, 1_000_000)? as u32;
+    let ticks = number_within(ticks, 1, MOST_DRAWN_TICKS)? as u32;
     Some(WalkCommand::Make {
         number,
         lines,
@@ -166,7 +167,7 @@ pub fn make<K: ByteSink>(
     out: &mut K,
 ) -> Result<Ran<Option<Walk>>, Stop>
     requires lines { IsWithin 1 64 lines }
-    requires ticks { IsWithin 1 1000000 ticks }
+    requires ticks { IsWithin 1 most_drawn_ticks ticks }
     ensures { GivesAlone no_source
         (lent K.written K.faults out.old out.new)
         (makes (make_answer number lines ticks))

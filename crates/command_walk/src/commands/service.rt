@@ -8,21 +8,23 @@ ghost use Rattle.command_parts.specs.Ends.{lent};
 ghost use Rattle.command_parts.specs.Gives.{GivesAlone};
 ghost use Rattle.command_walk.specs.commands.Service.{interval_of, service_words, service_answer};
 ghost use Rattle.command_walk.specs.HandedWalk.{HandsScript};
+ghost use Rattle.law_model.specs.Common.{most_ticks};
 
 use crate::command_of_words::WalkCommand;
 use crate::turns::fate_turns::see_script;
 use command_parts::{Ran, Stop};
 use command_words::number_within;
 use fate_service::{survey_walk, write_service};
+use law_model::MOST_TICKS;
 use octet_io::{ByteSink, ByteSource};
 use std::alloc::{AllocError, Global};
 use walk_engine::walk_core::Walk;
 
 /// The command by the number of ticks of a stretch.
 fn interval_of(word: &[u8]) -> Option<WalkCommand>
-    ensures { result ≡ interval_of (number_in 1 1000000 word.now) }
+    ensures { result ≡ interval_of (number_in 1 most_ticks word.now) }
 {
-    let interval = number_within(word, 1, 1_000_000)? as u32;
+    let interval = number_within(word, 1, MOST_TICKS)? as u32;
     Some(WalkCommand::Service { interval })
 }
 
@@ -44,7 +46,7 @@ pub fn service<S: ByteSource, K: ByteSink>(
     script: &mut S,
     out: &mut K,
 ) -> Result<Ran<Option<Walk>>, Stop>
-    requires interval { IsWithin 1 1000000 interval }
+    requires interval { IsWithin 1 most_ticks interval }
     ensures { GivesAlone (lent S.left S.faults script.old script.new)
         (lent K.written K.faults out.old out.new)
         (reads (service_answer interval))

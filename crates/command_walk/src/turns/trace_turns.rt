@@ -17,6 +17,7 @@ ghost use Rattle.command_walk.specs.HandedWalk.{StopsBoth};
 ghost use Rattle.law_headline.specs.WalkTexts.{counts_in, walk_text};
 ghost use Rattle.command_walk.specs.commands.Trace.{decision_text, decisions_text, trace_text};
 ghost use Rattle.command_walk.specs.TracedWalk.{events_of, IsTurn, IsTold};
+ghost use Rattle.law_model.specs.Common.{most_lines};
 
 use crate::turns::next_turns::TurnsLeft;
 use crate::turns::ready_walk::LinesAndTicks;
@@ -37,7 +38,7 @@ pub enum Turn {
 
 /// Writes the line of the last decision step.
 fn tell_step<E: ByteSink>(walk: &Walk, lines: u8, notes: &mut E) -> Result<(), Failed>
-    requires few { lines ≤ 128 }
+    requires few { lines ≤ most_lines }
     requires lines { lines ≡ walk.now.script.config.lines }
     requires some { 0 < steps_in walk.now.counts.ticks }
     ensures ok { let step = steps_in walk.now.counts.ticks - 1 in
@@ -57,7 +58,7 @@ fn tell_step<E: ByteSink>(walk: &Walk, lines: u8, notes: &mut E) -> Result<(), F
 
 /// Writes the line of the decision step that was made since a number of ticks, where one was.
 fn tell_since<E: ByteSink>(walk: &Walk, ticks: u32, lines: u8, notes: &mut E) -> Result<(), Failed>
-    requires few { lines ≤ 128 }
+    requires few { lines ≤ most_lines }
     requires lines { lines ≡ walk.now.script.config.lines }
     requires least { ticks ≤ walk.now.counts.ticks }
     requires most { walk.now.counts.ticks ≤ ticks + 1 }
@@ -85,7 +86,7 @@ fn tell_turn<F: MayFail, E: ByteSink>(
     out: &F,
     notes: &mut E,
 ) -> bool
-    requires few { lines ≤ 128 }
+    requires few { lines ≤ most_lines }
     requires lines { lines ≡ walk.now.script.config.lines }
     requires least { ticks ≤ walk.now.counts.ticks }
     requires most { walk.now.counts.ticks ≤ ticks + 1 }
@@ -148,7 +149,7 @@ fn trace_turn<F: MayFail, E: ByteSink>(
     notes: &mut E,
     over: bool,
 ) -> bool
-    requires few { lines ≤ 128 }
+    requires few { lines ≤ most_lines }
     requires lines { lines ≡ walk.old.script.config.lines }
     requires turn { IsTurn (walk_plan (leg_of walk.old.script)) turn }
     ensures script { walk.new.script ≡ walk.old.script }

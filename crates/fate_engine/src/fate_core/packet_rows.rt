@@ -2,7 +2,7 @@
 //! and where in the stream they begin.
 ghost use Rattle.std.specs.Prelude.{◌≡◌, suc, ◌+◌, ◌-◌, ◌*◌, ◌/◌, ◌≤◌, ◌<◌, [], ◌∷◌, ◌++◌, length, List, OnOk};
 ghost use Rattle.std.specs.Prelude.{OnErr, IfSome, IfNone, Option};
-ghost use Rattle.law_model.specs.Common.{Scenario, Told, active, is_known, table_of, place_of, width};
+ghost use Rattle.law_model.specs.Common.{Scenario, Told, active, is_known, table_of, place_of, width, most_lines};
 ghost use Rattle.fate_engine.specs.fate_core.Packets.{ArePackets, start_by};
 
 use arrayvec::ArrayVec;
@@ -142,7 +142,7 @@ impl Packets {
     /// The active lines under a packet.
     pub fn active(&self, packet: usize) -> &[u8]
         requires { packet < length self.now.active }
-        ensures few { length result.now ≤ 128 }
+        ensures few { length result.now ≤ most_lines }
         ensures lines { (scenario : Scenario) (cells : List (Option Told)) →
             ArePackets scenario cells self.now →
             result.now ≡ active (table_of scenario cells packet) }
@@ -162,7 +162,7 @@ impl Packets {
     /// How many lines carry payload in a row.
     pub fn width_in(&self, row: u32) -> u32
         requires { row < 16 * length self.now.active + 24 }
-        ensures few { result ≤ 128 }
+        ensures few { result ≤ most_lines }
         ensures width { (scenario : Scenario) (cells : List (Option Told)) →
             ArePackets scenario cells self.now → result ≡ width scenario cells row }
     {

@@ -2,6 +2,7 @@
 -- and how statuses are told. Timers that are counted in packets are this project's own.
 use Rattle.std.specs.Prelude.{◌≡◌, ◌⊎◌, ℕ, ◌≤◌, false}
 use Rattle.law_model.specs.declared.script_types.Options.{Options}
+use Rattle.law_model.specs.Limits.{longest_holdoff, longest_restore}
 
 -- those of a script that says nothing of them: the sink stops, no timer runs, and 16 return packets tell all statuses
 abbrev pub default_options : Options
@@ -12,6 +13,6 @@ abbrev pub IsStatuses : ℕ → Type 0
 IsStatuses statuses = (statuses ≡ 16) ⊎ (statuses ≡ 32)
 
 pub record IsOptions (options : Options) : Type 0 where
-  pub holdoff : options.holdoff ≤ 5000
-  pub restore : options.restore ≤ 62500
+  pub holdoff : options.holdoff ≤ longest_holdoff
+  pub restore : options.restore ≤ longest_restore
   pub statuses : IsStatuses options.statuses

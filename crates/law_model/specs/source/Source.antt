@@ -9,6 +9,7 @@ use Rattle.law_model.specs.declared.lcas_states.Command.TheVariants.{Add as add,
 use Rattle.law_model.specs.session.Scenario.{Scenario, orders_at}
 use Rattle.law_model.specs.source.Table.{Table, Told, kept_of, first_table, heard, told_on, carried_out, exchange}
 use Rattle.law_model.specs.source.Table.{exchanged}
+use Rattle.law_model.specs.Limits.{most_pending}
 
 -- the planned set is the lines that accepted commands have added and not removed; the commands that wait were accepted
 -- and
@@ -43,7 +44,7 @@ refusal lines command source =
     if nat_le lines (line_of command) then Some (UnknownLine lines)
     else if is_add command && planned_of source (line_of command) then Some AlreadyIn
     else if not (is_add command) && not (planned_of source (line_of command)) then Some NotIn
-    else if nat_le 64 (length source.waiting) then Some (TooManyPending 64)
+    else if nat_le most_pending (length source.waiting) then Some (TooManyPending most_pending)
     else None
 
 abbrev pub accepted : Command → Source → Source

@@ -7,6 +7,7 @@ use Rattle.law_model.specs.declared.lcas_states.Standing.TheVariants.{Add as add
 use Rattle.law_model.specs.declared.lcas_states.Member.{Member}
 use Rattle.law_model.specs.declared.lcas_states.Command.{Command}
 use Rattle.law_model.specs.declared.lcas_states.Command.TheVariants.{Add as add, Remove as remove}
+use Rattle.law_model.specs.Limits.{most_lines}
 
 abbrev pub member_of : ℕ → Standing → Member
 member_of line standing = record { line = line; standing = standing }
@@ -62,7 +63,7 @@ kept_of table = kept_in table.statuses
 
 -- no status is kept for any SQ
 unfoldable pub none_kept : List (Option Bool)
-none_kept = replicate 128 None
+none_kept = replicate most_lines None
 
 -- before the first step
 abbrev pub first_table : Table

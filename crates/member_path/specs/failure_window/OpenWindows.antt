@@ -1,6 +1,6 @@
 -- Windows that are opened and closed one after another, in the order of their containers.
 use Rattle.std.specs.Prelude.{◌≡◌, ℕ, ◌<◌, ◌≤◌, nat_lt, fold, List, [], ◌∷◌, ◌++◌, if◌then◌else◌}
-use Rattle.law_model.specs.Common.{AreWindows}
+use Rattle.law_model.specs.Common.{AreWindows, most_windows}
 use Rattle.law_model.specs.declared.window_types.Window.{Window}
 
 -- where the last window ends
@@ -33,4 +33,4 @@ pub record CanClose (windows : List Window) (n : ℕ) : Type 0 where
 -- what is true of the windows that a line keeps: they stand in order, apart, and there is room for 256 of them
 pub record AreKept (windows : List Window) (capacity : ℕ) : Type 0 where
   pub apart : AreWindows 0 windows
-  pub room : 256 ≤ capacity
+  pub room : most_windows ≤ capacity

@@ -1,6 +1,7 @@
 //! What can be wrong with a list of windows, and the test that finds it.
 ghost use Rattle.std.specs.Prelude.{◌≡◌, ◌≤◌, length};
 ghost use Rattle.member_path.specs.failure_window.FaultOfList.{fault_of, window_fault};
+ghost use Rattle.law_model.specs.Common.{most_windows};
 
 use law_model::Window;
 use thiserror::Error;
@@ -39,7 +40,7 @@ fn fault_of_window(i: u16, end: u32, window: &Window) -> Option<WindowFault>
 
 // The first fault of a list.
 pub(super) fn first_fault(list: &[Window]) -> Option<WindowFault>
-    requires { length list.now ≤ 256 }
+    requires { length list.now ≤ most_windows }
     ensures { result ≡ window_fault list.now }
 {
     let mut end = 0;

@@ -1,7 +1,7 @@
 //! A list of windows without a fault, which may grow.
 ghost use Rattle.std.specs.Prelude.{◌≡◌, ◌+◌, ◌<◌, ◌≤◌, nat_lt, if◌then◌else◌, List, length, IfOk, IfSome};
 ghost use Rattle.std.specs.Prelude.{IfNone, IsOkUnless, vec_capacity};
-ghost use Rattle.law_model.specs.Common.{carried_in, AreWindows, slip_of};
+ghost use Rattle.law_model.specs.Common.{carried_in, AreWindows, slip_of, most_windows};
 ghost use Rattle.law_model.specs.declared.window_types.Window.{Window};
 ghost use Rattle.law_model.specs.members.Damage.{carried};
 ghost use Rattle.member_path.specs.failure_window.WindowsAbove.{IsFirstAbove};
@@ -9,7 +9,7 @@ ghost use Rattle.member_path.specs.failure_window.FaultOfList.{window_fault};
 ghost use Rattle.member_path.specs.failure_window.OpenWindows.{AreKept, CanClose, closed_at, last_end, opened_at};
 
 use crate::failure_window::window_fault::{WindowFault, first_fault};
-use law_model::{Carried, Window};
+use law_model::{Carried, MOST_WINDOWS, Window};
 use std::alloc::{AllocError, Global};
 use std::marker::Model;
 
@@ -17,7 +17,7 @@ use std::marker::Model;
 const NEAR: u32 = 17;
 
 // How many windows a line has room for.
-const ROOM: usize = 256;
+const ROOM: usize = MOST_WINDOWS;
 
 /// The failures of a line: its windows, in the order of their containers. A contract sees the list. Only its
 /// making takes memory.
@@ -38,7 +38,7 @@ impl Windows {
     /// The windows of a list, at most 256, or its first fault. They are tested in their order, each for
     /// Empty, then for Overlap, then for SlipTooLong; memory is asked for after that.
     pub fn new(alloc: Global, list: &[Window]) -> Result<Windows, WindowFault>
-        requires { length list.now ≤ 256 }
+        requires { length list.now ≤ most_windows }
         ensures fault { IfSome (window_fault list.now) (λ fault. result ≡ Err fault) }
         ensures no_fault { IfNone (window_fault list.now) (IsOkUnless result WindowFault.Memory) }
         ensures value { IfOk result (λ windows. windows ≡ list.now) }
@@ -62,7 +62,7 @@ impl Windows {
     /// Puts a window from container `first` on at the end of the list. Until it is closed it lasts as long as
     /// its line, which carries `total` containers in all, so that no limit on lines has to be known here.
     pub fn open(&mut self, first: u32, total: u32)
-        requires few { length self.old < 256 }
+        requires few { length self.old < most_windows }
         requires after { last_end self.old ≤ first }
         requires some { first < total }
         ensures { self.new ≡ opened_at self.old first total }
@@ -149,7 +149,7 @@ fn carried_in_window(window: &Window, n: u32) -> Carried
 /// A list of one's own, with room for each window that a line may have.
 fn copied(alloc: Global, list: &[Window]) -> Result<Vec<Window>, AllocError>
     ensures items { IfOk result (λ copy. copy.items ≡ list.now) }
-    ensures room { IfOk result (λ copy. 256 ≤ vec_capacity copy) }
+    ensures room { IfOk result (λ copy. most_windows ≤ vec_capacity copy) }
 {
     let mut copy = Vec::with_capacity(alloc, ROOM)?;
     copy.extend_from_slice(list)?;

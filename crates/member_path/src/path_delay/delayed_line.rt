@@ -7,6 +7,7 @@ ghost use Rattle.member_path.specs.path_delay.Carry.{carry_cells};
 ghost use Rattle.member_path.specs.path_delay.CallsOnDelayedLine.{Line, IsLine, Calls, opened, and_push, and_flush};
 ghost use Rattle.member_path.specs.path_delay.CallsOnDelayedLine.{path_cells, DelayStands, Counts};
 ghost use Rattle.member_path.specs.path_delay.CallsOnDelayedLine.{IsEnded, and_cut, and_mend};
+ghost use Rattle.law_model.specs.Common.{most_windows};
 
 use crate::cell_numbers::CellSign;
 use crate::failure_window::Windows;
@@ -134,7 +135,7 @@ impl LineCore {
     /// Damages the containers from number `first` on, of which none was pushed yet, until the line is mended. What
     /// is on its way comes out as it would have.
     pub fn cut(&mut self, first: u32)
-        requires few { length self.old.windows < 256 }
+        requires few { length self.old.windows < most_windows }
         requires after { last_end self.old.windows ≤ first }
         requires left { first < self.old.total }
         requires pushed { self.old.pushed ≤ first }

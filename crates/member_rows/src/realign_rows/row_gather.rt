@@ -2,7 +2,7 @@
 
 ghost use Rattle.std.specs.Prelude.{◌≡◌, ℕ, ◌+◌, ◌%◌, ◌<◌, ◌≤◌, List, [], length, replicate, slice_get, slice_set};
 ghost use Rattle.std.specs.Prelude.{Some, None, IfOk};
-ghost use Rattle.law_model.specs.Common.{Container, Cell, verdict, governing, first_open};
+ghost use Rattle.law_model.specs.Common.{Container, Cell, verdict, governing, first_open, most_lines};
 ghost use Rattle.member_cells.specs.HeldPlaces.{held};
 ghost use Rattle.member_path.specs.cell_numbers.SignsAsCells.{cell_with, told_by};
 ghost use Rattle.member_path.specs.cell_numbers.Numbers.{IsOpen};
@@ -40,7 +40,7 @@ impl Model for RowGather {
 
     ghost Value = { Gather };
 
-    ghost invariant = { λ gather. (length gather.lines.items ≤ 128)
+    ghost invariant = { λ gather. (length gather.lines.items ≤ most_lines)
         × (length gather.places.items ≡ length gather.lines.items)
         × (length gather.packets.items ≡ length gather.lines.items)
         × (gather.decided ≡ decided_lines gather.lines.items) };
@@ -57,7 +57,7 @@ impl RowGather {
     /// The rows of a group of `lines` lines, of which no cell has come.
     pub fn new(alloc: Global, lines: u8) -> Result<RowGather, AllocError>
         requires least { 1 ≤ lines }
-        requires most { lines ≤ 128 }
+        requires most { lines ≤ most_lines }
         ensures stands { IfOk result (λ gather. GatherStands gather (replicate lines [])) }
         ensures lines { IfOk result (λ gather. line_count gather ≡ lines) }
         ensures rows { IfOk result (λ gather. gather.rows ≡ 0) }
@@ -191,7 +191,7 @@ fn decided_lines(lines: &[GatherLine]) -> usize
 /// How many they are after line `m`, which was one on which it wasn't, has taken a cell, where they were `before`.
 fn decided_after(lines: &[GatherLine], m: usize, before: usize) -> usize
     requires line { m < length lines.now }
-    requires few { length lines.now ≤ 128 }
+    requires few { length lines.now ≤ most_lines }
     ensures { (old : List Line) (was now : Line) → lines.now ≡ slice_set old m now →
         before ≡ decided_lines old → slice_get old m ≡ Some was → IsOpen was.numbers →
         result ≡ decided_lines lines.now }

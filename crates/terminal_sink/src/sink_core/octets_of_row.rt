@@ -6,7 +6,7 @@ ghost use Rattle.std.specs.Int.{to_le_bytes, w64};
 ghost use Rattle.member_cells.specs.HeldPlaces.{held};
 ghost use Rattle.terminal_sink.specs.marked_delineator.Marks.{frame_of, StandsIn};
 ghost use Rattle.gfp_delineate.specs.Repeated.{idles_from};
-ghost use Rattle.law_model.specs.Common.{core_header, octets_from, Start, longest_frame, vc4_size};
+ghost use Rattle.law_model.specs.Common.{core_header, octets_from, Start, longest_frame, vc4_size, most_lines};
 ghost use Rattle.member_rows.specs.vcat_interleave.MemberPayloads.{payload_at, payloads_of, AreLines};
 ghost use Rattle.terminal_sink.specs.sink_core.RowsInReceiver.{IsKnown, Grows, Gives, IsIdle};
 
@@ -66,7 +66,7 @@ fn take_piece<F: FrameOut>(delineator: &mut MarkedDelineator, piece: &[u8], out:
 /// How many places of a number of members go into a block: the most that fit of those that gathering likes.
 fn places_of(x: usize) -> usize
     requires some { 0 < x }
-    requires few { x ≤ 128 }
+    requires few { x ≤ most_lines }
     ensures some { 0 < result }
     ensures fits { result * x ≤ 4096 }
     ensures sixteens { result % 16 ≡ 0 }
@@ -95,7 +95,7 @@ fn word_of(octets: &[u8; 8]) -> u64
 /// octet `first`.
 fn idle_word(first: usize, x: usize) -> u64
     requires first { first < 256 }
-    requires few { x ≤ 128 }
+    requires few { x ≤ most_lines }
     ensures { (i : ℕ) → i < 8 → slice_index (to_le_bytes w64 result) i
         ≡ slice_index (core_header 0) ((first + i * x) % 4) }
 {
@@ -159,7 +159,7 @@ fn are_idle(
     have: usize,
 ) -> bool
     requires lines { AreLines (length containers.now) active.now }
-    requires few { length active.now ≤ 128 }
+    requires few { length active.now ≤ most_lines }
     requires within { place + places ≤ vc4_size }
     requires eights { places % 8 ≡ 0 }
     requires have { have < 4 }
@@ -192,7 +192,7 @@ fn idle_places(
     size: usize,
 ) -> usize
     requires lines { AreLines (length containers.now) active.now }
-    requires few { length active.now ≤ 128 }
+    requires few { length active.now ≤ most_lines }
     requires place { place ≤ size }
     requires size { size ≤ vc4_size }
     ensures within { place + result ≤ size }
@@ -229,7 +229,7 @@ pub(super) fn take_members<F: FrameOut>(
 )
     requires known { IsKnown delineator.old }
     requires lines { AreLines (length containers.now) active.now }
-    requires few { length active.now ≤ 128 }
+    requires few { length active.now ≤ most_lines }
     requires size { size ≤ vc4_size }
     requires block { length block.old ≡ 4096 }
     ensures grows { Grows delineator.old delineator.new

@@ -2,7 +2,7 @@
 
 ghost use Rattle.std.specs.Prelude.{◌≡◌, ◌≢◌, ℕ, ◌+◌, ◌*◌, ◌<◌, ◌≤◌, List, ◌++◌, length, Option, Some, None};
 ghost use Rattle.law_model.specs.Common.{return_at, Cell, Scenario, Told, segments_of, cells_before, deliver, rows_of};
-ghost use Rattle.law_model.specs.Common.{longest_frame};
+ghost use Rattle.law_model.specs.Common.{longest_frame, most_lines};
 ghost use Rattle.law_model.specs.declared.script_types.Options.{Options};
 ghost use Rattle.law_line.specs.StableRows.{IsLonger, AreDecidedAt};
 ghost use Rattle.member_rows.specs.realign_rows.Gather.{with_cell};
@@ -46,7 +46,7 @@ pub fn session_sink_law()
         (segments_of (received_rows scenario.options scenario.size cells n)).last.octets
         ≡ (segments_of (rows_of scenario returns n)).last.octets }
     ensures rows { (scenario : Scenario) (told : ℕ) (cells : List (List Cell)) (n : ℕ) →
-        length scenario.windows ≤ 128 → 0 < scenario.lag →
+        length scenario.windows ≤ most_lines → 0 < scenario.lag →
         TellRows scenario (cells_before scenario told) cells n →
         AreSessionRows scenario (cells_before scenario told) cells n }
 {}

@@ -2,7 +2,7 @@
 
 ghost use Rattle.std.specs.Prelude.{◌≡◌, ℕ, ◌+◌, ◌^◌, ◌%◌, ◌<◌, ◌≤◌, ◌==◌, ◌&&◌, ◌↔◌, nat_lt, List, ◌++◌, length};
 ghost use Rattle.std.specs.Prelude.{IfOk, IsSome, IsTrue};
-ghost use Rattle.law_model.specs.Common.{Cell, IsOptions, Start, governing, IsSize, segments_of};
+ghost use Rattle.law_model.specs.Common.{Cell, IsOptions, Start, governing, IsSize, segments_of, most_lines};
 ghost use Rattle.member_rows.specs.realign_rows.Gather.{GatherStands as Gathers, line_count, open_line};
 ghost use Rattle.terminal_sink.specs.lcas_sink.SinkStates.{SinkTableStands as HasTold};
 ghost use Rattle.terminal_sink.specs.sink_core.TakenAndGiven.{answer_at, added_frames, back_at};
@@ -72,7 +72,7 @@ impl Model for SinkCore {
       table = core.table;
     } };
 
-    ghost invariant = { λ core. IsKnown core.delineator × (core.lines ≤ 128) × (core.size ≤ vc4_size)
+    ghost invariant = { λ core. IsKnown core.delineator × (core.lines ≤ most_lines) × (core.size ≤ vc4_size)
         × (core.table.lines ≡ core.lines)
         × (core.table.taken ≡ packet_rows core.taken) × (length core.block.items ≡ 4096) };
 }
@@ -87,7 +87,7 @@ impl SinkCore {
         options: Options,
     ) -> Result<SinkCore, AllocError>
         requires least { 1 ≤ lines }
-        requires most { lines ≤ 128 }
+        requires most { lines ≤ most_lines }
         requires size { IsSize size }
         requires options { IsOptions options }
         ensures lines { IfOk result (λ core. core.lines ≡ lines) }

@@ -2,7 +2,7 @@
 
 ghost use Rattle.std.specs.Prelude.{◌≡◌, ℕ, ◌≤◌, List, [], ◌∷◌, ◌++◌, length, IfSome, is_some};
 ghost use Rattle.std.specs.Option.{option_copied};
-ghost use Rattle.law_model.specs.Common.{Cell, containers_at, row_at};
+ghost use Rattle.law_model.specs.Common.{Cell, containers_at, row_at, most_lines};
 ghost use Rattle.law_model.specs.Common.{StreamRow, Start, longest_frame, vc4_size};
 ghost use Rattle.law_model.specs.declared.script_types.Options.{Options};
 ghost use Rattle.law_loss.specs.AddedFrames.{added};
@@ -48,7 +48,7 @@ pub(super) fn take_row<F: FrameOut>(
     out: &mut F,
 )
     requires known { IsKnown delineator.old }
-    requires few { IfSome carriers (λ lines. length lines.now ≤ 128) }
+    requires few { IfSome carriers (λ lines. length lines.now ≤ most_lines) }
     requires block { length block.old ≡ 4096 }
     requires size { size ≤ vc4_size }
     requires lines { IfSome carriers (λ lines. AreLines (line_count rows.now) lines.now) }

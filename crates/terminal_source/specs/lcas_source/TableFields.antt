@@ -1,7 +1,7 @@
 -- The fields of a source's table: the course that they hold, and what is true of them.
 use Rattle.std.specs.Prelude.{ℕ, Bool, false, List, take, replicate, ◌≡◌, ◌-◌, ◌≤◌, []}
 use Rattle.arrayvec.specs.ArrayVec.{ArrayVec}
-use Rattle.law_model.specs.Common.{IsStatuses, Table, Course, bits_from, Source, change}
+use Rattle.law_model.specs.Common.{IsStatuses, Table, Course, bits_from, Source, change, most_lines}
 use Rattle.law_model.specs.declared.lcas_states.Command.{Command}
 use Rattle.law_session.proofs.SourceOrderAndPlanLaws.{Fits}
 
@@ -16,13 +16,13 @@ course_in lines statuses table planned pending taken steps = record {
 
 -- no line is planned
 unfoldable pub none_planned : List Bool
-none_planned = replicate 128 false
+none_planned = replicate most_lines false
 
 -- what is true of the fields: the counts are no greater than the number of steps, no line stands twice in the order,
 -- and the bits
 -- are those from the packet of the last step on
 pub record IsTable (course : Course) (group : List Bool) : Type 0 where
-  pub lines : course.lines ≤ 128
+  pub lines : course.lines ≤ most_lines
   pub statuses : IsStatuses course.statuses
   pub fits : Fits course.lines course.source
   pub count : course.source.table.count ≤ course.steps

@@ -3,7 +3,7 @@ use Rattle.std.specs.Prelude.{◌≡◌, ◌<◌, ◌≤◌, ℕ, ◌-◌, ◌*�
 use Rattle.std.specs.Prelude.{option_map}
 use Rattle.std.specs.List.{range_with_len}
 use Rattle.law_model.specs.Common.{BackCell, packet_nibbles, Told, active, told_in, steps_in, Course, called, decides}
-use Rattle.law_model.specs.Common.{forward_packet, untold, telling, vc4_size}
+use Rattle.law_model.specs.Common.{forward_packet, untold, telling, vc4_size, most_lines}
 use Rattle.law_session.proofs.SourceOrderAndPlanLaws.{Fits}
 use Rattle.gfp_fill.specs.Queue.{Held}
 use Rattle.gfp_fill.specs.SentAreas.{Sender}
@@ -68,7 +68,7 @@ terminal_of lag size ticks queue sender table active nibbles told = record {
 
 -- what is true of the fields
 pub record IsTerminal (core : Terminal) (octets : ℕ) : Type 0 where
-  pub lines : core.lines ≤ 128
+  pub lines : core.lines ≤ most_lines
   pub size : core.size ≤ vc4_size
   pub room : octets ≡ core.size * core.lines
   pub fits : Fits core.lines core.table.source

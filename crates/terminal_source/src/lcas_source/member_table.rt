@@ -6,7 +6,7 @@ ghost use Rattle.std.specs.List.{list_any};
 ghost use Rattle.std.specs.Bool.{OnTrue, OnFalse};
 ghost use Rattle.law_model.specs.Common.{is_adding, is_normal, is_ok, is_fail, admit, turn, turned, take_out, exchange};
 ghost use Rattle.law_model.specs.Common.{kept_in, keep, none_kept, oks_in, place_in, ctrl_by, state_by, state_without};
-ghost use Rattle.law_model.specs.Common.{state_in};
+ghost use Rattle.law_model.specs.Common.{state_in, most_lines};
 ghost use Rattle.law_model.specs.declared.lcas_states.Member.{Member};
 ghost use Rattle.terminal_source.specs.lcas_source.Exchange.{taken_out};
 
@@ -85,7 +85,7 @@ impl LineTable {
 
     /// Adds a line.
     pub fn add(&mut self, line: u8)
-        requires room { length self.old.order < 128 }
+        requires room { length self.old.order < most_lines }
         requires count { self.old.count < 4294967295 }
         ensures { self.new ≡ carried_out (add line) self.old }
     {
@@ -172,7 +172,7 @@ impl LineTable {
 
 /// The control word and the sequence number that the packet of a line says.
 fn place_in(members: &[Member], line: u8) -> (Ctrl, u8)
-    requires { length members.now ≤ 128 }
+    requires { length members.now ≤ most_lines }
     ensures ctrl { result.0 ≡ (place_in members.now 0 line).ctrl }
     ensures sq { result.1 ≡ (place_in members.now 0 line).sq }
 {
@@ -239,7 +239,7 @@ fn any_normal(members: &[Member]) -> bool
 
 /// How many lines are in NORM.
 fn active_count(members: &[Member]) -> u8
-    requires { length members.now ≤ 128 }
+    requires { length members.now ≤ most_lines }
     ensures { result ≡ count_by is_normal members.now }
 {
     members.iter().filter(|member| is_normal(member)).count() as u8
@@ -247,7 +247,7 @@ fn active_count(members: &[Member]) -> u8
 
 /// The lines in NORM.
 fn active(members: &[Member]) -> ArrayVec<u8, MOST_LINES>
-    requires { length members.now ≤ 128 }
+    requires { length members.now ≤ most_lines }
     ensures { result.items ≡ map (λ member. member.line) (filter is_normal members.now) }
 {
     let mut lines = ArrayVec::new();
@@ -303,7 +303,7 @@ fn is_confirmed(member: &Member, status: Option<bool>) -> bool
 
 /// While the first line in ADD has OK, it becomes NORM.
 fn admit(members: &mut [Member], statuses: &Statuses)
-    requires { length members.old ≤ 128 }
+    requires { length members.old ≤ most_lines }
     ensures { members.new ≡ admit (kept_in statuses.now) 0 members.old }
 {
     for (sq, member) in members.iter_mut().enumerate() {
@@ -318,7 +318,7 @@ fn admit(members: &mut [Member], statuses: &Statuses)
 
 /// Each line in NORM with FAIL becomes DNU, and each one in DNU with OK becomes NORM.
 fn turned(members: &mut [Member], statuses: &Statuses)
-    requires { length members.old ≤ 128 }
+    requires { length members.old ≤ most_lines }
     ensures { members.new ≡ turned (kept_in statuses.now) 0 members.old }
 {
     for (sq, member) in members.iter_mut().enumerate() {
@@ -409,7 +409,7 @@ fn first_adding(members: &[Member]) -> Option<usize>
 
 /// The first line from a place on that is in ADD and has OK.
 fn first_confirmed(members: &[Member], from: usize, statuses: &Statuses) -> Option<usize>
-    requires { length members.now ≤ 128 }
+    requires { length members.now ≤ most_lines }
     ensures found { IfSome result (λ sq. (member : Member) →
         take_out (kept_in statuses.now) from (drop from members.now)
         ≡ taken_out members.now from sq member) }

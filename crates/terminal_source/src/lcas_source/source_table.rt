@@ -6,7 +6,7 @@ ghost use Rattle.std.specs.Bool.{OnTrue};
 ghost use Rattle.std.specs.List.{list_all};
 ghost use Rattle.law_model.specs.Common.{heard, active, packet_read, told_in, read_of, bits_from, refusal, line_of};
 ghost use Rattle.law_model.specs.Common.{asks, decides, called, course_of, said_by, count_of, forward_packet, state_of};
-ghost use Rattle.law_model.specs.Common.{refusal_in, IsStatuses};
+ghost use Rattle.law_model.specs.Common.{refusal_in, IsStatuses, most_lines};
 ghost use Rattle.law_model.specs.declared.lcas_states.Command.{Command as CommandData};
 ghost use Rattle.law_model.specs.declared.lcas_states.Command.TheVariants.{Add as add, Remove as remove};
 ghost use Rattle.law_model.specs.packets.ToldToSource.{packet_in};
@@ -60,7 +60,7 @@ impl SourceTable {
     /// The table of a group of `lines` lines, up to 128, of which none is a member. All statuses are told by
     /// `statuses` return packets, 16 or 32.
     pub fn new(lines: u8, statuses: u8) -> SourceTable
-        requires lines { lines ≤ 128 }
+        requires lines { lines ≤ most_lines }
         requires statuses { IsStatuses statuses }
         ensures { result ≡ course_of lines statuses [] }
     {
@@ -247,7 +247,7 @@ fn are_nibbles(nibbles: &[u8; 16]) -> bool
 fn change(table: &mut LineTable, pending: &mut ArrayVec<Command, PENDING>)
     requires room { (line : ℕ) (commands : List CommandData) →
         pending.old.items ≡ add line ∷ commands →
-        length table.old.order < 128 }
+        length table.old.order < most_lines }
     requires count { table.old.count < 4294967295 }
     ensures table { table.new ≡ (changed_by pending.old.items table.old).table }
     ensures waiting { pending.new.items ≡ (changed_by pending.old.items table.old).waiting }

@@ -2,7 +2,7 @@
 
 ghost use Rattle.std.specs.Prelude.{◌≡◌, ℕ, ◌+◌, ◌-◌, ◌*◌, ◌<◌, ◌≤◌, if◌then◌else◌, All, false, length, take};
 ghost use Rattle.std.specs.Prelude.{drop, replicate, slice_index_or};
-ghost use Rattle.law_model.specs.Common.{stream_of, Stream, reached, vc4_size};
+ghost use Rattle.law_model.specs.Common.{stream_of, Stream, reached, vc4_size, most_lines};
 ghost use Rattle.gfp_fill.specs.FilledStream.{FillerStands};
 ghost use Rattle.member_cells.specs.HeldPlaces.{held};
 ghost use Rattle.member_rows.specs.vcat_interleave.MemberPayloads.{AreLines, with_octets};
@@ -26,7 +26,7 @@ pub(super) fn begin_all(
     out: &mut [Box<HeldContainer>],
 )
     requires lines { length nibbles.now ≡ length out.old }
-    requires few { length out.old ≤ 128 }
+    requires few { length out.old ≤ most_lines }
     requires below { AreNibbles nibbles.now }
     requires members { AreMembers (length out.old) active.now }
     requires size { size ≤ vc4_size }
@@ -41,8 +41,8 @@ pub(super) fn begin_all(
 
 /// Which lines carry payload.
 fn carriers(active: &[u8]) -> [bool; MOST_LINES]
-    requires lines { AreLines 128 active.now }
-    ensures { (line : ℕ) → line < 128 → slice_index_or result line false ≡ carries active.now line }
+    requires lines { AreLines most_lines active.now }
+    ensures { (line : ℕ) → line < most_lines → slice_index_or result line false ≡ carries active.now line }
 {
     let mut carry = [false; MOST_LINES];
     for rank in 0..active.len() {

@@ -1,7 +1,7 @@
 //! A decision step, and what the lines send until the next one.
 
 ghost use Rattle.std.specs.Prelude.{◌≡◌, ◌<◌, ◌≤◌, All, IfOk, length, replicate};
-ghost use Rattle.law_model.specs.Common.{packet_nibbles, telling, passed_on};
+ghost use Rattle.law_model.specs.Common.{packet_nibbles, telling, passed_on, most_lines};
 ghost use Rattle.terminal_source.specs.source_core.StepOfTerminal.{is_step, table_by, active_by, nibbles_of};
 ghost use Rattle.terminal_source.specs.source_core.StepOfTerminal.{nibbles_by, left_by, AreNibbles};
 
@@ -27,7 +27,7 @@ pub(super) fn take_step(
     nibbles: &mut [[u8; NIBBLES]],
 )
     requires few { table.old.steps < 4294967295 }
-    requires lines { length nibbles.old ≤ 128 }
+    requires lines { length nibbles.old ≤ most_lines }
     requires below { AreNibbles nibbles.old }
     ensures table { table.new ≡ table_by (is_step ticks) back table.old }
     ensures active { active.new.items ≡ active_by (is_step ticks) table.old active.old.items }
@@ -46,7 +46,7 @@ pub(super) fn take_step(
 /// The nibbles of the packets of all lines since the last decision step.
 fn say_all(table: &SourceTable, told: Option<Packet>, nibbles: &mut [[u8; NIBBLES]])
     requires steps { 0 < table.now.steps }
-    requires lines { length nibbles.old ≤ 128 }
+    requires lines { length nibbles.old ≤ most_lines }
     ensures nibbles { nibbles.new ≡ nibbles_of table.now (passed_on told) (length nibbles.old) }
     ensures below { AreNibbles nibbles.new }
 {

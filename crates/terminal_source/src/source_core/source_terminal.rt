@@ -3,7 +3,7 @@
 ghost use Rattle.std.specs.Prelude.{◌≡◌, ◌+◌, ◌<◌, ◌≤◌, ◌↔◌, [], List, Option, IfOk, OnErr, IsSome, length};
 ghost use Rattle.law_model.specs.declared.lcas_states.Command.TheVariants.{Add as add, Remove as remove};
 ghost use Rattle.law_model.specs.Common.{Scenario, steps_in, Told, told_by, refusal, refusal_while, refusal_in};
-ghost use Rattle.law_model.specs.Common.{frame_of, vc4_size, IsStatuses};
+ghost use Rattle.law_model.specs.Common.{frame_of, vc4_size, IsStatuses, most_lines};
 ghost use Rattle.member_cells.specs.HeldPlaces.{held};
 ghost use Rattle.terminal_source.specs.source_core.Terminal.{needed, SameKind};
 ghost use Rattle.terminal_source.specs.source_core.GivenScenario.{with_frame, with_command, with_cell, with_told};
@@ -71,7 +71,7 @@ impl SourceCore {
         size: u16,
         statuses: u8,
     ) -> Result<SourceCore, AllocError>
-        requires lines { lines ≤ 128 }
+        requires lines { lines ≤ most_lines }
         requires size { size ≤ vc4_size }
         requires statuses { IsStatuses statuses }
         ensures stands { IfOk result (λ core. (scenario : Scenario) →

@@ -1,7 +1,7 @@
 //! The lines of a decoding and of a trace, each put together in a slice with room for it. Each answers its length.
 ghost use Rattle.std.specs.Prelude.{◌≡◌, ◌+◌, ◌*◌, ◌%◌, ◌==◌, ◌≤◌, ◌<◌, length, take, Ok, Err};
 ghost use Rattle.text_report.specs.TextCursor.{Extends, HasTextRoom};
-ghost use Rattle.law_model.specs.Common.{found_text, end_text, ctrl_text, bit_text, nibble_text, place_in};
+ghost use Rattle.law_model.specs.Common.{found_text, end_text, ctrl_text, bit_text, nibble_text, place_in, most_lines};
 ghost use Rattle.text_captures.specs.packet_trace.StepText.{back_text, place_text, place_texts, step_text};
 
 use member_cells::{BackCell, Ctrl};
@@ -184,7 +184,7 @@ pub fn trace_line(
     out: &mut [u8],
 ) -> usize
     requires room { 2048 ≤ length out.old }
-    requires lines { lines ≤ 128 }
+    requires lines { lines ≤ most_lines }
     requires steps { 0 < table.now.steps }
     ensures within { result ≤ 2048 }
     ensures line { take result out.new ≡ step_text packet back table.now.source.table lines }

@@ -3,7 +3,7 @@ use Rattle.std.specs.Prelude.{◌≡◌, ◌⊎◌, ⊤, ℕ, ◌-◌, ◌==◌,
 use Rattle.std.specs.Prelude.{length, replicate, Option, None, option_map, All}
 use Rattle.std.specs.Option.{option_or}
 use Rattle.law_model.specs.Common.{dues_of, frame_dues, command_dues, IsWithin, HasLosses, IsSize, IsItem, AreItems}
-use Rattle.law_model.specs.Common.{IsEvent, IsOptions, IsStatuses}
+use Rattle.law_model.specs.Common.{IsEvent, IsOptions, IsStatuses, most_lines, most_ticks}
 use Rattle.law_model.specs.declared.window_types.Window.{Window}
 use Rattle.law_model.specs.declared.script_types.Config.{Config}
 use Rattle.law_model.specs.declared.script_types.ItemKind.{ItemKind}
@@ -24,6 +24,7 @@ use Rattle.hex.specs.Hex.{decode_of}
 use Rattle.text_lines.specs.WordsOfLine.{word_at, number_at, octets_of}
 use Rattle.text_lines.specs.Fields.{where_true, within, number_fault, octets_fault, name_fault, fields_fault}
 use Rattle.text_scripts.specs.script_read.Statements.{windows_of, last_end, last_lost}
+use Rattle.law_model.specs.Common.{largest_ring, longest_delay, longest_holdoff, longest_lag, longest_offer, longest_restore, longest_slip, most_packets, most_windows}
 
 -- ---- faults
 -- the fault of line n, which wasn't read
@@ -44,7 +45,7 @@ container_fault ws =
 abbrev pub delays_fault : ℕ → List (List ℕ) → Option LineFault
 delays_fault n ws =
     option_or (count_fault word.Delays n ws)
-    (option_map wrong.Field (fields_fault (replicate n (within 0 2047)) 2 0 ws))
+    (option_map wrong.Field (fields_fault (replicate n (within 0 longest_delay)) 2 0 ws))
 
 abbrev pub one_fault : Keyword → ℕ → ℕ → List (List ℕ) → Option LineFault
 one_fault k least most ws =
@@ -85,26 +86,26 @@ AreInOrder from (window ∷ windows) = (from ≤ window.first) × (window.first 
 
 -- the windows of a line, before their slips are tested
 pub record AreFailures (ticks : ℕ) (windows : List Window) : Type 0 where
-  pub few : length windows ≤ 256
+  pub few : length windows ≤ most_windows
   pub order : AreInOrder 0 windows
   pub ends : All (λ (window : Window). window.end ≤ ticks) windows
-  pub slips : All (λ (window : Window). window.slip ≤ 2047) windows
+  pub slips : All (λ (window : Window). window.slip ≤ longest_slip) windows
 
 -- the configuration, line by line: each fact stands once the next place is beyond that line
 pub record HasConfig (next : ℕ) (config : Config) : Type 0 where
-  pub few : config.lines ≤ 128
+  pub few : config.lines ≤ most_lines
   pub lines : 2 ≤ next → (1 ≤ config.lines) × (length config.windows ≡ config.lines)
   pub delay_each : 3 ≤ next → length config.delays ≡ config.lines
-  pub delays : All (λ delay. delay ≤ 2047) config.delays
-  pub ring : 4 ≤ next → IsWithin 1 2048 config.ring
-  pub lag : 5 ≤ next → IsWithin 1 512 config.lag
-  pub ticks : 6 ≤ next → IsWithin 1 1000000 config.ticks
+  pub delays : All (λ delay. delay ≤ longest_delay) config.delays
+  pub ring : 4 ≤ next → IsWithin 1 largest_ring config.ring
+  pub lag : 5 ≤ next → IsWithin 1 longest_lag config.lag
+  pub ticks : 6 ≤ next → IsWithin 1 most_ticks config.ticks
   pub size : IsSize config.size
   pub options : IsOptions config.options
   pub none : next ≤ 5 → All (λ windows. windows ≡ []) config.windows
   pub windows : All (AreFailures config.ticks) config.windows
   pub lost : HasLosses config.lost
-  pub few_lost : length config.lost ≤ 256
+  pub few_lost : length config.lost ≤ most_windows
 
 pub record IsDraft (d : Draft) : Type 0 where
   pub config : HasConfig d.next d.config
@@ -126,7 +127,7 @@ last_due d (item.Remove line) = d.command_due
 pub record IsFrameOf (due octets : List ℕ) (ws : List (List ℕ)) : Type 0 where
   pub digits : List ℕ
   pub words : ws ≡ due ∷ digits ∷ []
-  pub sound : octets_fault 3 1 65535 (decode_of digits) ≡ None
+  pub sound : octets_fault 3 1 longest_offer (decode_of digits) ≡ None
   pub is : octets ≡ octets_of digits
 
 -- a window that line m may have next
@@ -134,28 +135,28 @@ pub record IsNext (d : Draft) (m : ℕ) (window : Window) : Type 0 where
   pub line : m < d.config.lines
   pub some : window.first < window.end
   pub ends : window.end ≤ d.config.ticks
-  pub slips : window.slip ≤ 2047
+  pub slips : window.slip ≤ longest_slip
   pub order : last_end (windows_of d m) ≤ window.first
-  pub room : length (windows_of d m) < 256
+  pub room : length (windows_of d m) < most_windows
 
 -- and a return window
 pub record IsNextLost (d : Draft) (first end : ℕ) : Type 0 where
   pub some : first < end
-  pub ends : end ≤ 62500
+  pub ends : end ≤ most_packets
   pub order : last_lost d.config.lost ≤ first
-  pub room : length d.config.lost < 256
+  pub room : length d.config.lost < most_windows
 
 abbrev pub Fits : Draft → Statement → Type 0
 Fits d says.Nothing = ⊤
 Fits d (says.Container n) = (d.next ≡ 0) × IsSize n
-Fits d (says.Lines n) = (d.next ≤ 1) × IsWithin 1 128 n
-Fits d (says.Delays ns) = (d.next ≡ 2) × (length ns ≡ d.config.lines) × All (λ n. n ≤ 2047) ns
-Fits d (says.Ring n) = (d.next ≡ 3) × IsWithin 1 2048 n
-Fits d (says.Lag n) = (d.next ≡ 4) × IsWithin 1 512 n
-Fits d (says.Ticks n) = (d.next ≡ 5) × IsWithin 1 1000000 n
+Fits d (says.Lines n) = (d.next ≤ 1) × IsWithin 1 most_lines n
+Fits d (says.Delays ns) = (d.next ≡ 2) × (length ns ≡ d.config.lines) × All (λ n. n ≤ longest_delay) ns
+Fits d (says.Ring n) = (d.next ≡ 3) × IsWithin 1 largest_ring n
+Fits d (says.Lag n) = (d.next ≡ 4) × IsWithin 1 longest_lag n
+Fits d (says.Ticks n) = (d.next ≡ 5) × IsWithin 1 most_ticks n
 Fits d (says.Sink infers) = (d.next ≡ 6) × (d.has_sink ≡ false)
-Fits d (says.Holdoff n) = (d.next ≡ 6) × (n ≤ 5000) × (d.has_holdoff ≡ false)
-Fits d (says.Restore n) = (d.next ≡ 6) × (n ≤ 62500) × (d.has_restore ≡ false)
+Fits d (says.Holdoff n) = (d.next ≡ 6) × (n ≤ longest_holdoff) × (d.has_holdoff ≡ false)
+Fits d (says.Restore n) = (d.next ≡ 6) × (n ≤ longest_restore) × (d.has_restore ≡ false)
 Fits d (says.Statuses n) = (d.next ≡ 6) × IsStatuses n × (d.has_statuses ≡ false)
 Fits d (says.Fail m window) = (6 ≤ d.next) × (d.next ≤ 7) × IsNext d m window
 Fits d (says.Lost first end) = (6 ≤ d.next) × (d.next ≤ 7) × IsNextLost d first end

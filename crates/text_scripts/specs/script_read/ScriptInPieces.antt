@@ -9,7 +9,7 @@ use Rattle.text_scripts.specs.declared.script_read.script_fault.ScriptFault.{Scr
 use Rattle.text_scripts.specs.declared.script_read.script_fault.ScriptFault.TheVariants as fault
 use Rattle.text_scripts.specs.script_read.Script.{script_lines, config_fault}
 use Rattle.text_scripts.specs.script_read.Drafts.{AreFailures, IsDraft}
-use Rattle.law_model.specs.Common.{longest_input, IsValid, HasFewLosses}
+use Rattle.law_model.specs.Common.{longest_input, IsValid, HasFewLosses, most_lines}
 use Rattle.law_model.specs.declared.script_types.Script.{Script}
 
 -- it has read this text, which ends where a line does: whatever follows is read from there
@@ -54,7 +54,7 @@ pub record IsToldAt (n : ℕ) (found : Option LineFault) (told : ScriptFault) : 
 
 -- a script whose lines have no fault: where its slips, spread and lag have none, it may be walked
 pub record IsUntested (script : Script) : Type 0 where
-  pub few : length script.config.windows ≤ 128
+  pub few : length script.config.windows ≤ most_lines
   pub windows : All (AreFailures script.config.ticks) script.config.windows
   pub few_lost : HasFewLosses script
   pub valid : config_fault script.config ≡ None → IsValid script

@@ -8,7 +8,7 @@ use Rattle.text_scripts.specs.declared.script_read.script_fault.LineFault.TheVar
 use Rattle.text_lines.specs.declared.text_faults.Names.TheVariants as names
 use Rattle.text_lines.specs.WordsOfLine.{word_at, is_skipped, number_of, number_at, octets_of}
 use Rattle.text_lines.specs.Fields.{Field, within, any, above, digits, one_of, where_true, fields_fault}
-use Rattle.law_model.specs.Common.{vc3_size, vc4_size, default_options}
+use Rattle.law_model.specs.Common.{vc3_size, vc4_size, default_options, most_count, most_lines, most_ticks}
 use Rattle.law_model.specs.declared.window_types.Window.{Window}
 use Rattle.law_model.specs.declared.script_types.Item.{Item}
 use Rattle.law_model.specs.declared.script_types.ItemKind.{ItemKind}
@@ -21,6 +21,7 @@ use Rattle.text_scripts.specs.declared.script_read.script_keyword.Part.TheVarian
 use Rattle.text_scripts.specs.declared.script_read.script_draft.Statement.{Statement}
 use Rattle.text_scripts.specs.declared.script_read.script_draft.Statement.TheVariants as says
 use Rattle.text_scripts.specs.declared.script_read.script_draft.Draft.{Draft}
+use Rattle.law_model.specs.Common.{largest_ring, longest_delay, longest_holdoff, longest_lag, longest_offer, longest_restore, longest_slip, most_packets, most_windows}
 
 -- ---- the first word
 -- the words that may begin an event line
@@ -128,27 +129,27 @@ place_fault next at =
 -- what a sink does are
 abbrev pub fields : Draft → Keyword → List Field
 fields d word.Container = one_of names.Containers ∷ []
-fields d word.Lines = within 1 128 ∷ []
-fields d word.Delays = replicate d.config.lines (within 0 2047)
-fields d word.Ring = within 1 2048 ∷ []
-fields d word.Lag = within 1 512 ∷ []
-fields d word.Ticks = within 1 1000000 ∷ []
+fields d word.Lines = within 1 most_lines ∷ []
+fields d word.Delays = replicate d.config.lines (within 0 longest_delay)
+fields d word.Ring = within 1 largest_ring ∷ []
+fields d word.Lag = within 1 longest_lag ∷ []
+fields d word.Ticks = within 1 most_ticks ∷ []
 fields d word.Sink = one_of names.Sinks ∷ []
-fields d word.Holdoff = within 0 5000 ∷ []
-fields d word.Restore = within 0 62500 ∷ []
+fields d word.Holdoff = within 0 longest_holdoff ∷ []
+fields d word.Restore = within 0 longest_restore ∷ []
 fields d word.Statuses = one_of names.Statuses ∷ []
-fields d word.Fail = within 0 (d.config.lines - 1) ∷ any ∷ above d.config.ticks ∷ within 0 2047 ∷ []
-fields d word.Lost = any ∷ above 62500 ∷ []
-fields d word.Frame = within 0 (d.config.ticks - 1) ∷ digits 1 65535 ∷ []
+fields d word.Fail = within 0 (d.config.lines - 1) ∷ any ∷ above d.config.ticks ∷ within 0 longest_slip ∷ []
+fields d word.Lost = any ∷ above most_packets ∷ []
+fields d word.Frame = within 0 (d.config.ticks - 1) ∷ digits 1 longest_offer ∷ []
 fields d word.Add = within 0 (d.config.ticks - 1) ∷ within 0 255 ∷ []
 fields d word.Remove = within 0 (d.config.ticks - 1) ∷ within 0 255 ∷ []
-fields d word.Client = within 1 1000000 ∷ []
-fields d word.Operator = within 1 1000000 ∷ []
-fields d word.Tick = within 1 1000000 ∷ []
-fields d word.Carry = within 0 (d.config.lines - 1) ∷ within 1 1000000 ∷ []
-fields d word.Back = within 1 1000000 ∷ []
-fields d word.Take = within 1 1000000 ∷ []
-fields d word.Round = within 1 1000000 ∷ []
+fields d word.Client = within 1 most_count ∷ []
+fields d word.Operator = within 1 most_count ∷ []
+fields d word.Tick = within 1 most_count ∷ []
+fields d word.Carry = within 0 (d.config.lines - 1) ∷ within 1 most_count ∷ []
+fields d word.Back = within 1 most_count ∷ []
+fields d word.Take = within 1 most_count ∷ []
+fields d word.Round = within 1 most_count ∷ []
 fields d word.Drain = []
 
 -- the payload octets of a container, by its name
@@ -181,8 +182,8 @@ is_full d word.Sink ws = d.has_sink
 is_full d word.Holdoff ws = d.has_holdoff
 is_full d word.Restore ws = d.has_restore
 is_full d word.Statuses ws = d.has_statuses
-is_full d word.Fail ws = nat_le 256 (length (windows_of d (number_at 0 ws)))
-is_full d word.Lost ws = nat_le 256 (length d.config.lost)
+is_full d word.Fail ws = nat_le most_windows (length (windows_of d (number_at 0 ws)))
+is_full d word.Lost ws = nat_le most_windows (length d.config.lost)
 is_full d k ws = false
 
 -- a window begins before the end of the one before it of its line, or of the return path; an item is due before the

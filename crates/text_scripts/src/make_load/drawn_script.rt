@@ -1,6 +1,6 @@
 //! The script of a load.
 ghost use Rattle.std.specs.Prelude.{◌≡◌, ◌≤◌, ◌++◌, [], IfOk, OnOk, replicate};
-ghost use Rattle.law_model.specs.Common.{IsValid, IsWithin};
+ghost use Rattle.law_model.specs.Common.{IsValid, IsWithin, most_drawn_ticks};
 ghost use Rattle.text_scripts.specs.make_load.Load.{frame_of, after_frame, additions, frames, frame_count, load};
 
 use crate::make_load::load_draws::Draws;
@@ -42,7 +42,7 @@ fn add_frames(
     ticks: u32,
     draws: &mut Draws,
 ) -> Result<(), AllocError>
-    requires { ticks ≤ 1000000 }
+    requires { ticks ≤ most_drawn_ticks }
     ensures { OnOk result
         (items.new.items ≡ items.old.items ++ frames (frame_count ticks) 0 draws.old.state) }
 {
@@ -69,7 +69,7 @@ fn no_windows(alloc: Global, lines: u8) -> Result<WindowLists, AllocError>
 
 /// The script that is drawn from a number.
 fn draw(alloc: Global, number: u64, lines: u8, ticks: u32) -> Result<Script, AllocError>
-    requires { ticks ≤ 1000000 }
+    requires { ticks ≤ most_drawn_ticks }
     ensures { IfOk result (λ script. script ≡ load number lines ticks) }
 {
     let mut draws = Draws::new(number);
@@ -100,7 +100,7 @@ fn draw(alloc: Global, number: u64, lines: u8, ticks: u32) -> Result<Script, All
 #[tactic(auto, using(crate::proofs::DrawnLoadLaws::is_valid))]
 pub fn make(alloc: Global, number: u64, lines: u8, ticks: u32) -> Result<Script, AllocError>
     requires lines { IsWithin 1 64 lines }
-    requires ticks { IsWithin 1 1000000 ticks }
+    requires ticks { IsWithin 1 most_drawn_ticks ticks }
     ensures load { IfOk result (λ script. script ≡ load number lines ticks) }
     ensures valid { IfOk result IsValid }
 {

@@ -3,14 +3,14 @@ ghost use Rattle.std.specs.Prelude.{◌≡◌, ◌≤◌, ◌<◌, ℕ, List, le
 ghost use Rattle.text_lines.specs.WordsOfLine.{words, number_at};
 ghost use Rattle.text_scripts.specs.script_read.Lifted.{IsStop};
 ghost use Rattle.text_scripts.specs.script_read.Statements.{rest_fault, said};
-ghost use Rattle.law_model.specs.Common.{IsWithin, IsItem};
+ghost use Rattle.law_model.specs.Common.{IsWithin, IsItem, most_count, longest_offer, most_windows};
 ghost use Rattle.text_scripts.specs.script_read.Drafts.{IsDraft, last_due, command_fault, IsFrameOf};
 
 use crate::script_read::script_draft::{Draft, Statement};
 use crate::script_read::script_fault::{LineFault, LineStop};
 use crate::script_read::script_keyword::Keyword;
 use crate::script_read::word_count_fault::count_fault;
-use law_model::{EventLine, Item, ItemKind, Octets};
+use law_model::{EventLine, Item, ItemKind, LONGEST_OFFER, MOST_COUNT, Octets};
 use std::alloc::Global;
 use text_lines::{next_word, number_within, octets_within, two_words};
 
@@ -18,13 +18,13 @@ use text_lines::{next_word, number_within, octets_within, two_words};
 /// end the line. Digits have no space among them, so that they aren't searched for one.
 fn plain_frame(alloc: Global, rest: &[u8]) -> Option<(&[u8], Vec<u8>)>
     ensures words { IfSome result (λ read. IsFrameOf read.0.now read.1.items (words rest.now)) }
-    ensures size { IfSome result (λ read. IsWithin 1 65535 (length read.1.items)) }
+    ensures size { IfSome result (λ read. IsWithin 1 longest_offer (length read.1.items)) }
     ensures octets { IfSome result (λ read. All (λ octet. octet < 256) read.1.items) }
 {
     let Some((due, digits)) = next_word(rest) else {
         return None;
     };
-    match octets_within(alloc, digits, 3, 1, 65_535) {
+    match octets_within(alloc, digits, 3, 1, LONGEST_OFFER) {
         Ok(octets) => Some((due, octets)),
         Err(_) => None,
     }
@@ -34,7 +34,7 @@ fn plain_frame(alloc: Global, rest: &[u8]) -> Option<(&[u8], Vec<u8>)>
 fn due_frame(draft: &Draft, due: &[u8], octets: Vec<u8>) -> Result<Item, LineStop>
     requires stands { 6 ≤ draft.now.next }
     requires config { IsDraft draft.now }
-    requires size { IsWithin 1 65535 (length octets.items) }
+    requires size { IsWithin 1 longest_offer (length octets.items) }
     requires octets { All (λ octet. octet < 256) octets.items }
     ensures ok { (ws : List (List ℕ)) → IsFrameOf due.now octets.items ws →
         IfOk result (λ item. (rest_fault draft.now Keyword.Frame ws ≡ None)
@@ -71,7 +71,7 @@ fn spaced_frame(alloc: Global, draft: &Draft, rest: &[u8]) -> Result<Item, LineS
         return Err(LineStop::Fault(count_fault(Keyword::Frame, 2, rest)));
     };
     let due = number_within(due, 2, 0, u64::from(draft.config.ticks) - 1)? as u32;
-    let octets = octets_within(alloc, digits, 3, 1, 65_535)?;
+    let octets = octets_within(alloc, digits, 3, 1, LONGEST_OFFER)?;
     if due < draft.frame_due {
         return Err(LineStop::Fault(LineFault::FrameBefore {
             due: draft.frame_due,
@@ -135,7 +135,7 @@ pub(super) fn read_carry(draft: &Draft, rest: &[u8]) -> Result<(u8, u32), LineFa
     ensures ok { IfOk result (λ read. (rest_fault draft.now Keyword.Carry (words rest.now) ≡ None)
         × (Statement.Event (EventLine.Carry read.0 read.1) ≡ said Keyword.Carry (words rest.now))) }
     ensures fits { IfOk result (λ read.
-        (read.0 < draft.now.config.lines) × IsWithin 1 1000000 read.1) }
+        (read.0 < draft.now.config.lines) × IsWithin 1 most_count read.1) }
     ensures err { IfErr result (λ fault.
         rest_fault draft.now Keyword.Carry (words rest.now) ≡ Some fault) }
 {
@@ -143,6 +143,6 @@ pub(super) fn read_carry(draft: &Draft, rest: &[u8]) -> Result<(u8, u32), LineFa
         return Err(count_fault(Keyword::Carry, 2, rest));
     };
     let m = number_within(line, 2, 0, u64::from(draft.config.lines) - 1)? as u8;
-    let count = number_within(count, 3, 1, 1_000_000)? as u32;
+    let count = number_within(count, 3, 1, MOST_COUNT)? as u32;
     Ok((m, count))
 }

@@ -3,14 +3,17 @@ ghost use Rattle.std.specs.Prelude.{◌≡◌, ◌≤◌, ◌<◌, length, IfOk,
 ghost use Rattle.text_lines.specs.WordsOfLine.{words, word_at, number_of};
 ghost use Rattle.text_scripts.specs.script_read.Lifted.{IsStop};
 ghost use Rattle.text_scripts.specs.script_read.Statements.{rest_fault, said, last_end, last_lost, size_of};
-ghost use Rattle.law_model.specs.Common.{IsSize};
+ghost use Rattle.law_model.specs.Common.{IsSize, longest_delay};
 ghost use Rattle.text_scripts.specs.script_read.Drafts.{IsDraft, IsNext, IsNextLost, container_fault, delays_fault};
 
 use crate::script_read::script_draft::{Draft, Statement};
 use crate::script_read::script_fault::{LineFault, LineStop};
 use crate::script_read::script_keyword::Keyword;
 use crate::script_read::word_count_fault::count_fault;
-use law_model::{Delays, LostList, Window, WindowList, WindowLists};
+use law_model::{
+    Delays, LONGEST_DELAY, LONGEST_SLIP, LostList, MOST_PACKETS, MOST_WINDOWS, Window, WindowList,
+    WindowLists,
+};
 use std::alloc::Global;
 use text_lines::{
     FieldFault, Names, count_words, four_words, next_word, number_within, one_word, two_words,
@@ -43,7 +46,7 @@ pub(super) fn read_delays(alloc: Global, rest: &[u8], lines: u8) -> Result<Delay
     ensures ok { IfOk result (λ delays. (delays_fault lines (words rest.now) ≡ None)
         × (delays ≡ map number_of (words rest.now))) }
     ensures fits { IfOk result (λ delays.
-        (length delays ≡ lines) × All (λ n. n ≤ 2047) delays) }
+        (length delays ≡ lines) × All (λ n. n ≤ longest_delay) delays) }
     ensures err { IfErr result (λ stop. IsStop stop (delays_fault lines (words rest.now))) }
 {
     if count_words(rest) != usize::from(lines) {
@@ -53,7 +56,7 @@ pub(super) fn read_delays(alloc: Global, rest: &[u8], lines: u8) -> Result<Delay
     let mut further = rest;
     while let Some((word, later)) = next_word(further) {
         further = later;
-        let delay = match number_within(word, delays.len() as u64 + 2, 0, 2047) {
+        let delay = match number_within(word, delays.len() as u64 + 2, 0, LONGEST_DELAY) {
             Ok(delay) => delay as u16,
             Err(fault) => return Err(LineStop::Fault(LineFault::Field(fault))),
         };
@@ -106,9 +109,9 @@ pub(super) fn read_fail(draft: &Draft, rest: &[u8]) -> Result<(u8, Window), Line
     let m = number_within(line, 2, 0, u64::from(draft.config.lines) - 1)? as u8;
     let first = number_within(first, 3, 0, 9_999_999_999)?;
     let end = number_within(end, 4, first + 1, u64::from(draft.config.ticks))?;
-    let slip = number_within(slip, 5, 0, 2047)?;
+    let slip = number_within(slip, 5, 0, LONGEST_SLIP)?;
     let windows = windows_at(&draft.config.windows, m);
-    if windows.0.len() >= 256 {
+    if windows.0.len() >= MOST_WINDOWS {
         return Err(LineFault::FullLine { line: m });
     }
     let end_before = last_end_of(windows);
@@ -137,9 +140,9 @@ pub(super) fn read_lost(draft: &Draft, rest: &[u8]) -> Result<(u32, u32), LineFa
         return Err(count_fault(Keyword::Lost, 2, rest));
     };
     let first = number_within(first, 2, 0, 9_999_999_999)?;
-    let end = number_within(end, 3, first + 1, 62_500)?;
+    let end = number_within(end, 3, first + 1, MOST_PACKETS)?;
     let lost = &draft.config.lost;
-    if lost.0.len() >= 256 {
+    if lost.0.len() >= MOST_WINDOWS {
         return Err(LineFault::FullPath);
     }
     let end_before = last_lost_of(lost);

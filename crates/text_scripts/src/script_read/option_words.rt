@@ -9,6 +9,7 @@ use crate::script_read::script_draft::{Draft, Statement};
 use crate::script_read::script_fault::LineFault;
 use crate::script_read::script_keyword::Keyword;
 use crate::script_read::word_count_fault::count_fault;
+use law_model::{LONGEST_HOLDOFF, LONGEST_RESTORE};
 use text_lines::{FieldFault, Names, number_within, one_word};
 
 /// Whether the sink goes on without some control packets, where no line says it already.
@@ -100,11 +101,11 @@ pub(super) fn read_option(
     match keyword {
         Keyword::Sink => Ok(Statement::Sink(read_sink(rest, draft.has_sink)?)),
         Keyword::Holdoff => {
-            let packets = read_timer(Keyword::Holdoff, rest, 5_000, draft.has_holdoff)?;
+            let packets = read_timer(Keyword::Holdoff, rest, LONGEST_HOLDOFF, draft.has_holdoff)?;
             Ok(Statement::Holdoff(packets as u16))
         }
         Keyword::Restore => {
-            let packets = read_timer(Keyword::Restore, rest, 62_500, draft.has_restore)?;
+            let packets = read_timer(Keyword::Restore, rest, LONGEST_RESTORE, draft.has_restore)?;
             Ok(Statement::Restore(packets as u16))
         }
         Keyword::Statuses => Ok(Statement::Statuses(read_statuses(rest, draft.has_statuses)?)),

@@ -5,7 +5,7 @@ ghost use Rattle.text_scripts.specs.script_read.Lifted.{IsStop};
 ghost use Rattle.text_scripts.specs.script_read.Statements.{place, rest_fault, words_fault, words_said, said};
 ghost use Rattle.text_scripts.specs.declared.script_read.script_draft.Statement.TheVariants as says;
 ghost use Rattle.text_scripts.specs.script_read.Drafts.{IsDraft, IsPlaced, Fits, one_fault};
-ghost use Rattle.law_model.specs.Common.{IsCount};
+ghost use Rattle.law_model.specs.Common.{IsCount, most_count};
 
 use crate::script_read::item_words::{read_carry, read_due_line, read_frame};
 use crate::script_read::network_words::{read_container, read_delays, read_fail, read_lost};
@@ -14,7 +14,9 @@ use crate::script_read::script_draft::{Draft, Statement};
 use crate::script_read::script_fault::{LineFault, LineStop};
 use crate::script_read::script_keyword::{Keyword, check_place};
 use crate::script_read::word_count_fault::count_fault;
-use law_model::{EventLine, Item, ItemKind};
+use law_model::{
+    EventLine, Item, ItemKind, LARGEST_RING, LONGEST_LAG, MOST_COUNT, MOST_LINES, MOST_TICKS,
+};
 use std::alloc::Global;
 use text_lines::{first_word, next_word, number_within, one_word};
 
@@ -37,13 +39,13 @@ fn one_number(keyword: Keyword, rest: &[u8], least: u64, most: u64) -> Result<u6
 
 /// The count of an event line.
 fn read_count(keyword: Keyword, rest: &[u8]) -> Result<u32, LineStop>
-    ensures ok { IfOk result (λ n. (one_fault keyword 1 1000000 (words rest.now) ≡ None)
+    ensures ok { IfOk result (λ n. (one_fault keyword 1 most_count (words rest.now) ≡ None)
         × (n ≡ number_at 0 (words rest.now))) }
     ensures fits { IfOk result IsCount }
     ensures err { IfErr result (λ stop.
-        IsStop stop (one_fault keyword 1 1000000 (words rest.now))) }
+        IsStop stop (one_fault keyword 1 most_count (words rest.now))) }
 {
-    Ok(one_number(keyword, rest, 1, 1_000_000)? as u32)
+    Ok(one_number(keyword, rest, 1, MOST_COUNT)? as u32)
 }
 
 /// What the words after the keyword of an event line say.
@@ -125,12 +127,16 @@ fn read_setting(
 {
     match keyword {
         Keyword::Container => Ok(Statement::Container(read_container(rest)?)),
-        Keyword::Lines => Ok(Statement::Lines(one_number(Keyword::Lines, rest, 1, 128)? as u8)),
+        Keyword::Lines => Ok(Statement::Lines(
+            one_number(Keyword::Lines, rest, 1, MOST_LINES as u64)? as u8,
+        )),
         Keyword::Delays => Ok(Statement::Delays(read_delays(alloc, rest, draft.config.lines)?)),
-        Keyword::Ring => Ok(Statement::Ring(one_number(Keyword::Ring, rest, 1, 2048)? as u16)),
-        Keyword::Lag => Ok(Statement::Lag(one_number(Keyword::Lag, rest, 1, 512)? as u16)),
+        Keyword::Ring => Ok(Statement::Ring(
+            one_number(Keyword::Ring, rest, 1, LARGEST_RING)? as u16,
+        )),
+        Keyword::Lag => Ok(Statement::Lag(one_number(Keyword::Lag, rest, 1, LONGEST_LAG)? as u16)),
         Keyword::Ticks => Ok(Statement::Ticks(
-            one_number(Keyword::Ticks, rest, 1, 1_000_000)? as u32,
+            one_number(Keyword::Ticks, rest, 1, MOST_TICKS)? as u32,
         )),
         Keyword::Sink | Keyword::Holdoff | Keyword::Restore | Keyword::Statuses => {
             Ok(read_option(draft, keyword, rest)?)

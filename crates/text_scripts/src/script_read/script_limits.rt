@@ -1,9 +1,10 @@
 //! The tests of a script all of whose lines are right: slips, the spread of the lines, and the lag.
 ghost use Rattle.std.specs.Prelude.{◌≡◌, ◌≤◌, length, All, max, None, Some};
-ghost use Rattle.law_model.specs.Common.{AreWindows, greatest, least, greatest_slip as greatest_slip_of};
+ghost use Rattle.law_model.specs.Common.{AreWindows, greatest, least, greatest_slip as greatest_slip_of, most_lines};
 ghost use Rattle.text_scripts.specs.script_read.Script.{windows_fault, slip_fault, config_fault};
 ghost use Rattle.text_scripts.specs.script_read.Drafts.{AreFailures};
 ghost use Rattle.text_scripts.specs.script_read.ScriptInPieces.{IsUntested};
+ghost use Rattle.law_model.specs.Common.{most_windows};
 
 use crate::script_read::script_fault::ScriptFault;
 use law_model::{Config, Delays, Script, WindowList, WindowLists};
@@ -11,7 +12,7 @@ use member_path::failure_window::greatest_slip;
 
 /// The first window of line `m` that slips too far.
 fn fault_of_windows(m: u8, list: &WindowList) -> Option<ScriptFault>
-    requires { length list.now ≤ 256 }
+    requires { length list.now ≤ most_windows }
     ensures { result ≡ windows_fault m 0 list.now }
 {
     let mut i = 0u16;
@@ -30,8 +31,8 @@ fn fault_of_windows(m: u8, list: &WindowList) -> Option<ScriptFault>
 
 /// The first window of all lines that slips too far.
 fn fault_of_slips(lists: &WindowLists) -> Option<ScriptFault>
-    requires few { length lists.now ≤ 128 }
-    requires each { All (λ list. length list ≤ 256) lists.now }
+    requires few { length lists.now ≤ most_lines }
+    requires each { All (λ list. length list ≤ most_windows) lists.now }
     ensures { result ≡ slip_fault 0 lists.now }
 {
     let mut m = 0u8;
@@ -83,7 +84,7 @@ fn least_delay(delays: &Delays) -> u16
 
 /// What is wrong with the slips, the spread or the lag of a network, in this order.
 pub(super) fn fault_of_config(config: &Config) -> Option<ScriptFault>
-    requires few { length config.now.windows ≤ 128 }
+    requires few { length config.now.windows ≤ most_lines }
     requires each { All (AreFailures config.now.ticks) config.now.windows }
     ensures { result ≡ config_fault config.now }
 {

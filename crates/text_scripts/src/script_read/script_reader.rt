@@ -124,7 +124,7 @@ impl ScriptReader {
         ensures ok { IfOk result (λ draft.
             said_from script_lines self.number self.draft (lines text.now) ≡ Ok draft) }
         ensures stands { IfOk result (λ draft. IsDraft draft × (6 ≤ draft.next)) }
-        ensures few { IfOk result (λ draft. length draft.items ≤ longest_input) }
+        ensures few { IfOk result (λ draft. length draft.items ≤ most_items) }
         ensures err { IfErr result (λ fault. (fault ≡ ScriptFault.Memory) ⊎ (script_of_draft
             (said_from script_lines self.number self.draft (lines text.now)) ≡ Err fault)) }
     {

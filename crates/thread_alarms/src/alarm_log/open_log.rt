@@ -7,6 +7,7 @@ ghost use Rattle.thread_alarms.specs.declared.alarm_log.queue_rule.View.TheVaria
 ghost use Rattle.thread_alarms.specs.alarm_log.Views.{made_first, nothing_heard};
 ghost use Rattle.thread_alarms.specs.alarm_log.Posts.{IsFresh};
 ghost use Rattle.thread_alarms.specs.alarm_log.Logs.{IsMade};
+ghost use Rattle.law_model.specs.Common.{most_lines};
 
 use crate::alarm_log::alarm_post::AlarmPost;
 use crate::alarm_log::log_turns::AlarmLog;
@@ -25,7 +26,7 @@ pub fn make_log(
     room: u32,
     most: u32,
 ) -> Result<(AlarmLog, Vec<AlarmPost>), AllocError>
-    requires posts { (0 < posts) × (posts ≤ 128) }
+    requires posts { (0 < posts) × (posts ≤ most_lines) }
     requires room { (0 < room) × (room ≤ 65536) }
     requires most { most ≤ 100000 }
     ensures { IfOk result (λ r. IsMade r.0 r.1.items posts room most) }

@@ -1,6 +1,6 @@
 //! The opening of a session: all of its memory is taken here.
 ghost use Rattle.std.specs.Prelude.{◌≡◌, ◌<◌, ◌≤◌, IfOk, All, [], ◌∷◌, length, replicate, vec_len};
-ghost use Rattle.law_model.specs.Common.{offers_of, leg_of, IsValid, IsKind, longest_input};
+ghost use Rattle.law_model.specs.Common.{offers_of, leg_of, IsValid, IsKind, most_items};
 ghost use Rattle.law_model.specs.declared.script_types.Item.{Item};
 ghost use Rattle.thread_rings.specs.EndsOfRing.{AreEnds, out_passed, in_passed};
 ghost use Rattle.thread_sink.specs.ReceivedByRings.{received};
@@ -41,7 +41,7 @@ fn octets(item: &Item) -> u64
 
 /// The octets of all frames of a script.
 fn all_octets(items: &[Item]) -> u64
-    requires few { length items.now ≤ longest_input }
+    requires few { length items.now ≤ most_items }
     requires each { All (λ (item : Item). IsKind item.kind) items.now }
     ensures { result ≡ octets_in (offers_of items.now) }
 {

@@ -1,7 +1,7 @@
 -- A line with its receive ring.
 use Rattle.std.specs.Prelude.{◌≡◌, ℕ, zero, suc, ◌+◌, ◌%◌, ◌<◌, ◌≤◌, Bool, false, ◌==◌, if◌then◌else◌, List, [], ◌∷◌}
 use Rattle.std.specs.Prelude.{length, take, slice_get, slice_set, Option, Some, None, is_none, IsSome}
-use Rattle.law_model.specs.Common.{Container, Cell, verdict}
+use Rattle.law_model.specs.Common.{Container, Cell, verdict, most_ticks, longest_delay}
 use Rattle.member_path.specs.declared.cell_numbers.signs_and_verdicts.CellSign.{CellSign}
 use Rattle.member_path.specs.cell_numbers.SignsAsCells.{cell_with}
 use Rattle.member_path.specs.path_delay.CallsOnDelayedLine.{Line, Calls, carries_of, path_cells, DelayStands}
@@ -93,5 +93,5 @@ pub record IsRinged (line : Ringed) : Type 0 where
   pub carries : line.carried ≡ line.core.pushed + line.core.flushed
   pub pushes : line.core.pushed ≤ line.core.total
   pub flushes : line.core.flushed ≤ line.core.delay + 1
-  pub total : line.core.total ≤ 1000000
-  pub delay : line.core.delay ≤ 2047
+  pub total : line.core.total ≤ most_ticks
+  pub delay : line.core.delay ≤ longest_delay

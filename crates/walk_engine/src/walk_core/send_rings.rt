@@ -3,7 +3,7 @@
 ghost use Rattle.std.specs.Prelude.{◌≡◌, ℕ, true, false, ◌+◌, ◌%◌, ◌<◌, ◌≤◌, length, map, min, All, slice_get};
 ghost use Rattle.std.specs.Prelude.{Some, None};
 ghost use Rattle.std.specs.Global.{Vec, Box};
-ghost use Rattle.law_model.specs.Common.{Container, full, Leg};
+ghost use Rattle.law_model.specs.Common.{Container, full, Leg, most_lines};
 ghost use Rattle.law_walk.specs.Common.{path_on};
 ghost use Rattle.walk_engine.specs.walk_parts.Ringed.{Ringed, ring_of};
 ghost use Rattle.walk_engine.specs.walk_core.Carry.{carry_cause, CanCarry, HasReceiveRoom, IsCarriedAt, IsKnownOn};
@@ -51,7 +51,7 @@ fn are_carried(lines: &[WalkLine], ticks: u32) -> bool
 
 /// The first line whose send ring holds as many containers as it may.
 pub(super) fn first_full(lines: &[WalkLine], total: u32, ticks: u32) -> Option<u8>
-    requires few { length lines.now ≤ 128 }
+    requires few { length lines.now ≤ most_lines }
     requires made { All (λ (line : Ringed). min line.carried total ≤ ticks) lines.now }
     ensures { result ≡ full total ticks 0 (map line_counts lines.now) }
 {

@@ -1,7 +1,7 @@
 //! The sink's side of a walk: cells are popped until the lines decide a row, and the row is taken.
 
 ghost use Rattle.std.specs.Prelude.{◌≡◌, ℕ, ◌+◌, ◌<◌, ◌≤◌, ◌++◌, List, length, min};
-ghost use Rattle.law_model.specs.Common.{Leg, Start, Cell};
+ghost use Rattle.law_model.specs.Common.{Leg, Start, Cell, most_lines};
 ghost use Rattle.walk_engine.specs.walk_core.Take.{CanPop, HasPopped, CanTake, HasRow};
 ghost use Rattle.walk_engine.specs.walk_core.WayParts.{windows_in};
 ghost use Rattle.terminal_sink.specs.sink_core.TakenAndGiven.{added_frames};
@@ -17,7 +17,7 @@ use terminal_sink::sink_core::{SinkCore, TakeAnswer};
 
 /// Pops cells line by line until each decides the next row, or up to the first line that doesn't.
 pub(super) fn pop_lines(lines: &mut Vec<WalkLine>, rows: &mut RowGather) -> Option<u8>
-    requires few { length lines.old.items ≤ 128 }
+    requires few { length lines.old.items ≤ most_lines }
     ensures pops { (leg : Leg) → CanPop leg lines.old.items rows.old →
         HasPopped leg lines.old.items lines.new.items rows.new result }
     ensures lines { line_count rows.new ≡ line_count rows.old }

@@ -2,7 +2,7 @@
 
 ghost use Rattle.std.specs.Prelude.{◌≡◌, ◌≢◌, ℕ, ◌+◌, ◌-◌, ◌<◌, ◌≤◌, ◌↔◌, true, List, length, slice_get};
 ghost use Rattle.std.specs.Prelude.{slice_set, IfOk, IsTrue, is_some};
-ghost use Rattle.law_model.specs.Common.{Cell, AreWindows, verdict, first_open};
+ghost use Rattle.law_model.specs.Common.{Cell, AreWindows, verdict, first_open, most_ticks};
 ghost use Rattle.member_path.specs.failure_window.OpenWindows.{CanClose, last_end};
 ghost use Rattle.member_path.specs.path_delay.CallsOnDelayedLine.{Calls, opened, and_push, and_flush};
 ghost use Rattle.member_path.specs.path_delay.CallsOnDelayedLine.{path_cells, IsEnded};
@@ -11,6 +11,7 @@ ghost use Rattle.member_rows.specs.realign_rows.Gather.{GatherStands as Gathers,
 ghost use Rattle.walk_engine.specs.walk_parts.Ringed.{Ringed, ring_of, Has, popped_cells, IsNext, IsPopped};
 ghost use Rattle.walk_engine.specs.walk_parts.Ringed.{popped_until};
 ghost use Rattle.walk_engine.specs.walk_parts.Ringed.{leaves_open, with_sign, count_of, is_at};
+ghost use Rattle.law_model.specs.Common.{longest_delay, most_windows};
 
 use member_cells::{HeldContainer, blank_boxes};
 use member_path::cell_numbers::CellSign;
@@ -72,10 +73,10 @@ impl WalkLine {
         total: u32,
         ring: u16,
     ) -> Result<WalkLine, AllocError>
-        requires delay { delay ≤ 2047 }
-        requires few { length windows.now ≤ 256 }
+        requires delay { delay ≤ longest_delay }
+        requires few { length windows.now ≤ most_windows }
         requires apart { AreWindows 0 windows.now }
-        requires total { total ≤ 1000000 }
+        requires total { total ≤ most_ticks }
         requires ring { 1 ≤ ring }
         ensures has { IfOk result (λ line. Has line (opened delay windows.now total)) }
         ensures ring { IfOk result (λ line. ring_of line ≡ ring) }
@@ -166,7 +167,7 @@ impl WalkLine {
     /// Damages the containers from number `first` on, of which none was pushed yet, until the line is mended. What
     /// is on its way, and what waits in the ring, stays as it is.
     pub(crate) fn cut(&mut self, first: u32)
-        requires few { length self.old.core.windows < 256 }
+        requires few { length self.old.core.windows < most_windows }
         requires after { last_end self.old.core.windows ≤ first }
         requires left { first < self.old.core.total }
         requires pushed { self.old.core.pushed ≤ first }

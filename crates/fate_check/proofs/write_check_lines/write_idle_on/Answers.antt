@@ -12,6 +12,7 @@ use Rattle.fate_check.specs.IdleWindows.{idle_among}
 use Rattle.fate_check.specs.CheckText.{idle_texts}
 use Rattle.fate_check.proofs.CheckTextAndEarlyFrameLaws.{text_of, grown, window-more, one-idle-at-most}
 use Rattle.fate_check.proofs.write_check_lines.write_idle_on.Goals as goal
+use Rattle.law_model.specs.Common.{most_ticks}
 
 pub windows_of-windows-requires : goal.windows_of-windows-requires
 windows_of-windows-requires g c =
@@ -20,7 +21,7 @@ windows_of-windows-requires g c =
 
 -- a failure ends within the ticks
 within : (ticks : ℕ) (windows : List Window) (i : ℕ) (d : Window) → i < length windows →
-    All (λ (window : Window). window.end ≤ ticks) windows → ticks ≤ 1000000 → (get_or windows i d).end ≤ 1000000
+    All (λ (window : Window). window.end ≤ ticks) windows → ticks ≤ most_ticks → (get_or windows i d).end ≤ most_ticks
 within ticks windows i d low ends few =
     let end : (get_or windows i d).end ≤ ticks = All-get_or (λ (window : Window). window.end ≤ ticks) windows i d low ends in
     omega (arith, end, few)

@@ -3,7 +3,7 @@ use Rattle.std.proofs.Common.{◌≡◌, ℕ, zero, suc, ◌+◌, ◌-◌, ◌<�
 use Rattle.std.proofs.Common.{append-nil, append_assoc}
 use Rattle.std.specs.List.{flat_map, range_with_len}
 use Rattle.text_got.specs.TextSoFar.{HasText}
-use Rattle.law_model.specs.Common.{width}
+use Rattle.law_model.specs.Common.{width, most_lines}
 use Rattle.fate_service.specs.declared.width_run.WidthRun.{WidthRun}
 use Rattle.fate_service.specs.MemberRuns.{runs_on, runs_of}
 use Rattle.fate_service.specs.Surveyed.{next_run, run_text}
@@ -36,7 +36,7 @@ loop-row-preserved g c =
     let size = c.args.size in
     let members = c.width_in-in-loop-row.result in
     let is = c.add_row-run.ensures.run in (
-      subst (λ (r : WidthRun). r.members ≤ 128) (sym is)
+      subst (λ (r : WidthRun). r.members ≤ most_lines) (sym is)
           (run-few run members c.loop-row.invariant.0 c.width_in-in-loop-row.ensures.few),
       ap (λ (r : WidthRun). r.end) is ∙ run-grows run members ∙ ap (λ n. n + 1) c.loop-row.invariant.1,
       λ scenario cells are.

@@ -1,7 +1,7 @@
 -- The lines are written, or a part of them up to a write that failed.
 use Rattle.std.proofs.Common.{rules, ◌≡◌, ℕ, List, [], All, map, sym, ◌∙◌, ap, ap₂, subst, OnOk, OnErr, arith}
 use Rattle.std.specs.List.{flat_map, range_with_len}
-use Rattle.law_model.specs.Common.{Start, Appends, AppendsPart, leg_of, scenario_by, width}
+use Rattle.law_model.specs.Common.{Start, Appends, AppendsPart, leg_of, scenario_by, width, most_ticks}
 use Rattle.law_model.specs.declared.script_types.Script.{Script}
 use Rattle.law_model.specs.declared.session_totals.Totals.{Totals}
 use Rattle.text_got.specs.TextSoFar.{HasText, name_of, start_at}
@@ -25,7 +25,7 @@ told_ticks-told-requires g c = record {
       let ticks = ap (λ (t : Totals). t.ticks) c.totals-totals.ensures in
       let bounds = within leg c.args.walk.now.counts c.args.seen.now c.requires.seen in
       omega (arith, ticks, bounds.1, c.requires.seen.sound.network.ticks);
-  early = subst (All (OfferedEarly 1000000)) (sym (c.deref.ensures.value ∙ c.requires.survey.landed.offered))
+  early = subst (All (OfferedEarly most_ticks)) (sym (c.deref.ensures.value ∙ c.requires.survey.landed.offered))
       (offered-soon (leg_of c.args.walk.now.script) c.args.walk.now.counts c.requires.seen.sound);
 }
 

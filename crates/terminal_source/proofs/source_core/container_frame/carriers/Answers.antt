@@ -2,12 +2,13 @@
 use Rattle.std.proofs.Common.{refl, arith}
 use Rattle.terminal_source.proofs.DealtFrameContainerLaws.{marked-is, no-mark}
 use Rattle.terminal_source.proofs.source_core.container_frame.carriers.Goals as goal
+use Rattle.law_model.specs.Common.{most_lines}
 
 pub loop-rank-init : goal.loop-rank-init
 loop-rank-init c = record {
   size = refl;
   all = λ rank low. absurd (omega arith);
-  only = λ line marked. absurd (no-mark 128 line marked);
+  only = λ line marked. absurd (no-mark most_lines line marked);
 }
 
 pub returns : goal.returns

@@ -5,10 +5,11 @@ use Rattle.fate_engine.specs.Common.{IsPacketList}
 use Rattle.fate_engine.specs.declared.fate_core.packet_rows.Packet.{Packet}
 use Rattle.fate_engine.proofs.PacketRowPlaceLaws.{actives-length, start-low, pushed}
 use Rattle.fate_engine.proofs.fate_core.packet_rows.Packets.push.Goals as goal
+use Rattle.law_model.specs.Common.{most_lines}
 
-rows-few : (size lines : ℕ) → size < 2 ^ 16 → lines ≤ 128 → size * lines * 16 ≤ 134217728
+rows-few : (size lines : ℕ) → size < 2 ^ 16 → lines ≤ most_lines → size * lines * 16 ≤ 134217728
 rows-few size lines small few =
-    let two = mul-le-mul_right 128 (let le : size ≤ 65536 = omega arith in le) in
+    let two = mul-le-mul_right most_lines (let le : size ≤ 65536 = omega arith in le) in
     omega (arith, mul-le-mul_left size few, two)
 
 pub overflow_add-self : goal.overflow_add-self
