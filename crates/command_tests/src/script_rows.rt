@@ -54,7 +54,7 @@ fn fault_rows() -> &'static str {
     lines 3|delays 0 x 2048 => 5;;fault: line 2: number|help: word 3 is a number of one to ten digits|\n\
     lines 1|delays 0|ring 2049 => 5;;fault: line 3: range|help: word 2 is from 1 to 2048|\n\
     lines 1|delays 0|ring 1|lag 513 => 5;;fault: line 4: range|help: word 2 is from 1 to 512|\n\
-    lines 1|delays 0|ring 1|lag 1|ticks 1000001 => 5;;fault: line 5: range|help: word 2 is from 1 to 1000000|\n\
+    lines 1|delays 0|ring 1|lag 1|ticks 100000001 => 5;;fault: line 5: range|help: word 2 is from 1 to 100000000|\n\
     lines 1|delays 0|ring 1|lag 1|ticks 9|fail 1 0 1 0 => 5;;fault: line 6: range|help: word 2 is from 0 to 0|\n\
     lines 1|delays 0|ring 1|lag 1|ticks 9|fail 0 9999999999 9 x => 5;;fault: line 6: range|help: word 4 is at most 9|\n\
     lines 1|delays 0|ring 1|lag 1|ticks 9|fail 0 99999999999 x 0 => 5;;fault: line 6: number|\
@@ -64,8 +64,8 @@ fn fault_rows() -> &'static str {
     lines 1|delays 0|ring 1|lag 1|ticks 9|fail 0 8 9 2048 => 5;;fault: line 6: range|help: word 5 is from 0 to 2047|\n\
     lines 1|delays 0|ring 1|lag 1|ticks 9|fail 0 0 x 2048 => 5;;fault: line 6: number|\
         help: word 4 is a number of one to ten digits|\n\
-    lines 1|delays 0|ring 1|lag 1|ticks 9|lost 5 5 => 5;;fault: line 6: range|help: word 3 is from 6 to 62500|\n\
-    lines 1|delays 0|ring 1|lag 1|ticks 9|lost 0 62501 => 5;;fault: line 6: range|help: word 3 is from 1 to 62500|\n\
+    lines 1|delays 0|ring 1|lag 1|ticks 9|lost 5 5 => 5;;fault: line 6: range|help: word 3 is from 6 to 6250000|\n\
+    lines 1|delays 0|ring 1|lag 1|ticks 9|lost 0 6250001 => 5;;fault: line 6: range|help: word 3 is from 1 to 6250000|\n\
     lines 1|delays 0|ring 1|lag 1|ticks 9|lost x 62501 => 5;;fault: line 6: number|\
         help: word 2 is a number of one to ten digits|\n\
     lines 1|delays 0|ring 1|lag 1|ticks 9|frame 9 abc => 5;;fault: line 6: range|help: word 2 is from 0 to 8|\n\

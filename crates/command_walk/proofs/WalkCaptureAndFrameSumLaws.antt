@@ -1,5 +1,5 @@
 -- Frames of the rows that a walk takes: captured and read back, counted and summed.
-use Rattle.std.proofs.Common.{◌≡◌, ℕ, zero, suc, ◌+◌, ◌-◌, ◌≤◌, List, [], ◌∷◌, ◌++◌, map, map-id, Option, refl, sym}
+use Rattle.std.proofs.Common.{◌≡◌, ℕ, zero, suc, ◌+◌, ◌-◌, ◌<◌, ◌≤◌, List, [], ◌∷◌, ◌++◌, map, map-id, Option, refl, sym}
 use Rattle.std.proofs.Common.{◌∙◌, ap, subst, arith, append-nil, Bool, true, false, length, take, drop, All, Some}
 use Rattle.std.proofs.Common.{None, Ok, inl, inr, length-drop, nat_lt, ltb-false, ◌*◌, min, sum, length-append}
 use Rattle.std.proofs.Common.{length-take-le}
@@ -183,7 +183,7 @@ delivered-short script rows =
     (λ (segment : Segment). runs-short (runs_with head head segment.first segment.octets))
 
 -- ---- rows don't fall
-row-rises : (least row : ℕ) (frames : List (List ℕ)) → least ≤ row → row ≤ 999999 → All Short frames →
+row-rises : (least row : ℕ) (frames : List (List ℕ)) → least ≤ row → row < most_ticks → All Short frames →
     AreRising least (at_row row frames)
 unfolding AreRising
 row-rises least row [] low high short = tt
@@ -197,7 +197,7 @@ row-rises least row (frame ∷ frames) low high short = (
 abbrev IsBy : ℕ → RowFrame → Type 0
 IsBy row own = own.row ≤ row
 
-more-rises : (least row : ℕ) (xs : List RowFrame) (frames : List (List ℕ)) → least ≤ row → row ≤ 999999 →
+more-rises : (least row : ℕ) (xs : List RowFrame) (frames : List (List ℕ)) → least ≤ row → row < most_ticks →
     All (IsBy row) xs → All Short frames → AreRising least xs → AreRising least (xs ++ at_row row frames)
 unfolding AreRising
 more-rises least row [] frames low high by short rising = row-rises least row frames low high short

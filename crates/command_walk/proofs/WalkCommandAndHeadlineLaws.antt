@@ -209,9 +209,9 @@ load-fits None lines ticks a b = tt
 
 -- the ticks from one to before another
 abbrev AreTicks : ℕ × ℕ → Type 0
-AreTicks ticks = (ticks.0 < ticks.1) × (ticks.1 ≤ most_ticks)
+AreTicks ticks = (ticks.0 < ticks.1) × (ticks.1 ≤ most_drawn_ticks)
 
-ticks-fit : (first end : Option ℕ) → IfSome end (IsWithin 0 most_ticks) → IfSome (ticks_of first end) AreTicks
+ticks-fit : (first end : Option ℕ) → IfSome end (IsWithin 0 most_drawn_ticks) → IfSome (ticks_of first end) AreTicks
 ticks-fit (Some first) (Some end) a =
     elim (cases_Bool (nat_lt first end)) [
       | inl less ↦ rw less (ltb-true first end less, a.1)
@@ -268,13 +268,13 @@ numbers-fit : (ws : List (List ℕ)) → IfSome (numbers_in ws) Fits
 numbers-fit ws =
     let octets = number_in 64 longest_frame (word_at 0 ws) in
     let mbits = number_in 1 400000 (word_at 1 ws) in
-    let first = number_in 0 most_ticks (word_at 2 ws) in
-    let end = number_in 0 most_ticks (word_at 3 ws) in
+    let first = number_in 0 most_drawn_ticks (word_at 2 ws) in
+    let end = number_in 0 most_drawn_ticks (word_at 3 ws) in
     let number = number_in 0 18446744073709551615 (word_at 4 ws) in
     if-fits (length ws == 5) (rate_of octets mbits (ticks_of first end) number)
     (rate-fits octets mbits (ticks_of first end) number (number-fits 64 longest_frame (word_at 0 ws))
     (number-fits 1 400000 (word_at 1 ws))
-    (ticks-fit first end (number-fits 0 most_ticks (word_at 3 ws))))
+    (ticks-fit first end (number-fits 0 most_drawn_ticks (word_at 3 ws))))
 
 stream-fits : (words : List (List ℕ)) → IfSome (stream_words words) Fits
 stream-fits words =

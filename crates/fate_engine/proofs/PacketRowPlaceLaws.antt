@@ -50,13 +50,13 @@ start-next size xs k low =
     spread : (a b : ℕ) → size * (a + b) * 16 ≡ size * a * 16 + 16 * (size * b)
     spread a b = omega arith
 
-pub start-few : (size : ℕ) (xs : List (List ℕ)) (k : ℕ) → size < 2 ^ 16 → k ≤ 65536 →
-    All (λ (x : List ℕ). length x ≤ most_lines) xs → start_by size xs k ≤ 8796093022208
+pub start-few : (size : ℕ) (xs : List (List ℕ)) (k : ℕ) → size < 2 ^ 16 → k ≤ most_packets →
+    All (λ (x : List ℕ). length x ≤ most_lines) xs → start_by size xs k ≤ 80000000000000000
 start-few size xs k small low few =
     let sum = sum-few xs k few in
-    omega (arith, mul-le-mul_left size (most sum), mul-le-mul_right 8388608 (size-most))
+    omega (arith, mul-le-mul_left size (most sum), mul-le-mul_right 800000000 (size-most))
   where
-    most : sum_by length (take k xs) ≤ most_lines * k → sum_by length (take k xs) ≤ 8388608
+    most : sum_by length (take k xs) ≤ most_lines * k → sum_by length (take k xs) ≤ 800000000
     most sum = omega (arith, sum)
 
     size-most : size ≤ 65536
@@ -164,13 +164,13 @@ module _ (size : ℕ) (list : List Packet) (end : ℕ) (is : IsPacketList size l
       let next = start-next size actives k (omega (arith, get-low list k packet there, actives-length)) in
       omega (arith, is.starts k packet there, next, lines)
 
-  pub start-low : (k : ℕ) → k ≤ length list → start_by size actives k ≤ 8796093022208
+  pub start-low : (k : ℕ) → k ≤ length list → start_by size actives k ≤ 80000000000000000
   start-low k low = let few = is.few in
       start-few size actives k is.small (omega (arith, few, low)) (lines-few list is.lines)
 
   -- a row under packet k lies low
   pub row-low : (k q : ℕ) (packet : Packet) → slice_get list k ≡ Some packet → q < 16 →
-      packet.start + q * (size * length packet.lines.items) ≤ 8796093022208
+      packet.start + q * (size * length packet.lines.items) ≤ 80000000000000000
   row-low k q packet there small =
       let w : ℕ = size * length packet.lines.items in
       let rows : q * w ≤ 16 * w = mul-le-mul_right w (let le : q ≤ 16 = omega arith in le) in
@@ -326,7 +326,7 @@ start-front size list packet k low =
     (let e = length-map list (λ (p : Packet). p.lines.items) in omega (arith, e, low)))
 
 pub pushed : (size : ℕ) (list : List Packet) (end : ℕ) (packet : Packet) (next : ℕ) → IsPacketList size list end →
-    length list < 65536 → length packet.lines.items ≤ most_lines →
+    length list < most_packets → length packet.lines.items ≤ most_lines →
     packet.start ≡ end → next ≡ end + size * length packet.lines.items * 16 →
     IsPacketList size (list ++ packet ∷ []) next
 pushed size list end packet next is few own start ends = record {

@@ -178,10 +178,10 @@ fn write_outages<K: ByteSink>(walk: &Walk, seen: &SeenWalk, survey: &Survey, got
 
 /// How many ticks are told: those that were made, and one more where a frame landed before it.
 fn told_ticks(ticks: u32, offered: &[OfferedFrame]) -> u32
-    requires few { ticks ≤ 1000001 }
+    requires few { ticks ≤ most_ticks + 1 }
     requires early { All (λ (frame : OfferedData). frame.due < most_ticks) offered.now }
     ensures told { result ≡ told_on ticks offered.now }
-    ensures few { result ≤ 1000001 }
+    ensures few { result ≤ most_ticks + 1 }
 {
     let mut told = ticks;
     for frame in offered {
@@ -224,7 +224,7 @@ fn write_stretches<K: ByteSink>(
     requires seen { SeesWalk (leg_of walk.now.script) walk.now.counts seen.now }
     requires survey { IsSurveyed (leg_of walk.now.script) walk.now.counts survey.now }
     requires interval { IsWithin 1 most_ticks interval }
-    requires told { told ≤ 1000001 }
+    requires told { told ≤ most_ticks + 1 }
     ensures { (start : Start) (before : List ℕ) →
         HasText K.written K.faults got.old start before → HasText K.written K.faults got.new start
         (before ++ stretches_text (known_of (leg_of walk.now.script) walk.now.counts)

@@ -9,9 +9,9 @@ most_lines = 128
 
 -- the ticks of a session
 abbrev pub most_ticks : ℕ
-most_ticks = 1000000
+most_ticks = 100000000
 
--- and of one that `make` draws
+-- and those of a load that is drawn
 abbrev pub most_drawn_ticks : ℕ
 most_drawn_ticks = 1000000
 
@@ -37,9 +37,9 @@ longest_lag = 512
 abbrev pub most_windows : ℕ
 most_windows = 256
 
--- the end of a loss, in packets
+-- the packets of a session, and so the end of a loss
 abbrev pub most_packets : ℕ
-most_packets = 62500
+most_packets = 6250000
 
 -- the timers of a member, in packets
 abbrev pub longest_holdoff : ℕ

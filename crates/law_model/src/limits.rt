@@ -4,9 +4,9 @@
 pub const MOST_LINES: usize = 128;
 
 /// The most ticks of a session.
-pub const MOST_TICKS: u64 = 1_000_000;
+pub const MOST_TICKS: u64 = 100_000_000;
 
-/// The most ticks of a session that is drawn.
+/// The most ticks of a load that is drawn.
 pub const MOST_DRAWN_TICKS: u64 = 1_000_000;
 
 /// The greatest number of an event line.
@@ -27,8 +27,8 @@ pub const LONGEST_LAG: u64 = 512;
 /// The most failures of a line, and losses of the return path.
 pub const MOST_WINDOWS: usize = 256;
 
-/// The greatest end of a loss, in packets.
-pub const MOST_PACKETS: u64 = 62_500;
+/// The most packets of a session, and so the greatest end of a loss.
+pub const MOST_PACKETS: u64 = 6_250_000;
 
 /// The longest hold-off of a sink, in packets.
 pub const LONGEST_HOLDOFF: u64 = 5_000;

@@ -241,7 +241,7 @@ place-few scenario cells (suc t) =
     let more : suc t * room ≡ t * room + room = grind arith in
     omega (arith, before, own, more)
 
-product-few : (t size lines : ℕ) → t ≤ most_ticks → size ≤ 2340 → lines ≤ most_lines → t * (size * lines) ≤ 299520000000
+product-few : (t size lines : ℕ) → t ≤ most_ticks → size ≤ 2340 → lines ≤ most_lines → t * (size * lines) ≤ 29952000000000
 product-few t size lines ticks octets few =
     let a = mul-le-mul_left size few in
     let b = mul-le-mul_right most_lines octets in
@@ -253,7 +253,7 @@ product-few t size lines ticks octets few =
 
 -- the octets of a leg's session are counted in fewer than 64 bits
 pub place-most : (leg : Leg) (rows : ℕ) → IsSound leg → rows ≤ leg.config.ticks →
-    place_of (scenario_by leg) (session_cells (scenario_by leg)) rows ≤ 299520000000
+    place_of (scenario_by leg) (session_cells (scenario_by leg)) rows ≤ 29952000000000
 place-most leg rows sound low =
     let network = sound.network in
     let ticks = network.ticks in
@@ -265,7 +265,7 @@ place-most leg rows sound low =
     omega (arith, place, most)
 
 pub delivered-few : (leg : Leg) (rows : ℕ) → IsSound leg → rows ≤ leg.config.ticks →
-    length (delivered_of leg rows) ≤ 299520000000
+    length (delivered_of leg rows) ≤ 29952000000000
 delivered-few leg rows sound low =
     let scenario : Scenario = scenario_by leg in
     let cells : List (Option Told) = session_cells scenario in

@@ -1,12 +1,12 @@
 -- How a capture that is written grows by the frames of a row, with or without GFP headers, and is read back.
 use Rattle.std.proofs.Common.{◌≡◌, ℕ, List, [], ◌∷◌, ◌++◌, length, drop, Option, refl, sym, ◌∙◌, ap, subst}
-use Rattle.std.proofs.Common.{append_assoc, append-nil, ap₂, ◌+◌, ◌-◌, ◌*◌, ◌/◌, ◌%◌, ◌≤◌, max, true, map, Some, None}
+use Rattle.std.proofs.Common.{append_assoc, append-nil, ap₂, ◌+◌, ◌-◌, ◌*◌, ◌/◌, ◌%◌, ◌<◌, ◌≤◌, max, true, map, Some, None}
 use Rattle.std.proofs.Common.{Ok, arith, length-append}
 use Rattle.std.proofs.Math.Seq.{take-append_seam, drop-append_seam}
 use Rattle.std.proofs.lemmas.Grind.{flat_map-append}
 use Rattle.std.proofs.lemmas.List.{map-append, drop-drop}
 use Rattle.law_model.specs.Common.{Start, bits, octet_bits, octets_of, xors, hec_of, hec_bits, core_header, client}
-use Rattle.law_model.specs.Common.{area_of, type_header}
+use Rattle.law_model.specs.Common.{area_of, most_ticks, type_header}
 use Rattle.text_got.specs.TextSoFar.{HasText}
 use Rattle.text_captures.specs.capture_file.WrittenCapture.{RowFrame, record_head, record_octets, records_octets}
 use Rattle.text_captures.specs.capture_file.WrittenCapture.{ethernet_head, ethernet_capture, AreRising, due_after}
@@ -19,7 +19,7 @@ use Rattle.check_remainder.proofs.NumberAndOctetBitsLaws.{octet_bits-bytes_high_
 use Rattle.check_hec16.proofs.HecWithOneWrongBitLaws.{bits-hec_of}
 use Rattle.text_captures.specs.capture_file.GfpInCapture.{plain_header, with_pattern, gfp_octets, gfp_record, gfp_head}
 use Rattle.text_captures.specs.capture_file.GfpInCapture.{gfp_capture}
-use Rattle.std.proofs.lemmas.Bool.{eq-eqb, le-ltb}
+use Rattle.std.proofs.lemmas.Bool.{eq-eqb, le-ltb, lt-leb}
 use Rattle.std.proofs.lemmas.Nat.{from_le_bytes-to_le_bytes_4}
 use Rattle.text_captures.specs.declared.capture_file.capture_form.ByteOrder.TheVariants.{LeastFirst}
 use Rattle.text_captures.specs.declared.capture_file.capture_form.TimeUnit.TheVariants.{Microseconds}
@@ -144,7 +144,7 @@ head_for own = record {
 abbrev record_for : RowFrame → Record
 record_for own = record { head = head_for own; octets = own.frame }
 
-head-is : (own : RowFrame) (rest : List ℕ) → own.row ≤ 999999 → length own.frame ≤ 65535 →
+head-is : (own : RowFrame) (rest : List ℕ) → own.row < most_ticks → length own.frame ≤ 65535 →
     head_for own ≡ head_of LeastFirst (record_octets own ++ rest)
 head-is own rest row few =
     let n = length own.frame in
@@ -157,7 +157,7 @@ head-is own rest row few =
     ∙ ap (λ f. H (125 * own.row / 1000000) f (from_le_bytes w32 (to_le_bytes w32 n))) fraction
     ∙ ap (H (125 * own.row / 1000000) (125 * own.row % 1000000)) size)
 
-record-said : (own : RowFrame) (rest : List ℕ) → own.row ≤ 999999 → length own.frame ≤ 65535
+record-said : (own : RowFrame) (rest : List ℕ) → own.row < most_ticks → length own.frame ≤ 65535
     → first_record LeastFirst (record_octets own ++ rest) ≡ Some (record_for own, rest)
 record-said own rest row few =
     let octets = record_octets own ++ rest in
@@ -190,11 +190,11 @@ due-more first r before =
     (time_of Microseconds r.head)) (first ∷ before) (r ∷ []))
     ∙ greatest-more (ticks_in Microseconds (first ∷ before)) ticks
 
-fault-none : (own : RowFrame) (due : ℕ) → length own.frame ≤ 65535 → due ≤ 999999 →
+fault-none : (own : RowFrame) (due : ℕ) → length own.frame ≤ 65535 → due < most_ticks →
     record_fault true (head_for own) due ≡ None
 fault-none own due few low =
     rw (eq-eqb (length own.frame) (length own.frame) refl)
-    (rw (le-ltb 65535 (length own.frame) few) (rw (le-ltb 999999 due low) refl))
+    (rw (le-ltb 65535 (length own.frame) few) (rw (lt-leb most_ticks due low) refl))
 
 -- those behind a first one
 following : (first : RowFrame) (before : List Record) (last : ℕ) (frames : List RowFrame) →

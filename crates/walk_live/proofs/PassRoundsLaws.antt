@@ -41,7 +41,7 @@ few-delays total slow fast slip (path ∷ paths) all =
     let e : length (path ∷ paths) * slow ≡ slow + length paths * slow = grind arith in
     omega (arith, one, rest, e)
 
-pub bound-small : (leg : Leg) → IsSound leg → bound (walk_plan leg) ≤ 2 ^ 32
+pub bound-small : (leg : Leg) → IsSound leg → bound (walk_plan leg) ≤ 2 ^ 40
 bound-small leg sound =
     let plan = has-plan leg (sound-walks leg sound) in
     let size = paths-size leg sound in
@@ -61,7 +61,7 @@ bound-small leg sound =
 -- so this falls wherever the bound less what was made does
 pub falls : (leg : Leg) (s next : Counts) → IsSound leg →
     bound (walk_plan leg) - made next < bound (walk_plan leg) - made s →
-    2 ^ 32 - made next < 2 ^ 32 - made s
+    2 ^ 40 - made next < 2 ^ 40 - made s
 falls leg s next sound less = let small = bound-small leg sound in omega (arith, less, small)
 
 -- ---- What the events of a round do to the ticks: those after its tick make none.
@@ -202,7 +202,7 @@ module _ (config : Config) (said : List Saying) (k : ℕ) (leg : Leg) (well : Is
         }
 
     pub passes-less : (was now : Walking) → PassesIn leg start until was → (walking_counts was).ticks < until →
-        LiveRounds leg was now → 2 ^ 32 - made (walking_counts now) < 2 ^ 32 - made (walking_counts was)
+        LiveRounds leg was now → 2 ^ 40 - made (walking_counts now) < 2 ^ 40 - made (walking_counts was)
     passes-less was now passing low makes =
         falls leg (walking_counts was) (walking_counts now) is.sound
         (subst (λ c. bound (walk_plan leg) - made c < bound (walk_plan leg) - made (walking_counts was)) (sym makes.counts)

@@ -1,7 +1,7 @@
 -- `stream`: the script lines of a client that sends at a rate.
 use Rattle.std.specs.Prelude.{ℕ, ◌==◌, ◌&&◌, nat_le, nat_lt, List, length, drop, codes, bytes_eq, Option, Some, None}
 use Rattle.std.specs.Prelude.{if◌then◌else◌}
-use Rattle.law_model.specs.Common.{longest_input, longest_frame, most_ticks}
+use Rattle.law_model.specs.Common.{longest_input, longest_frame, most_drawn_ticks}
 use Rattle.text_scripts.specs.declared.rate_load.rate_frames.RateLoad.{RateLoad}
 use Rattle.text_scripts.specs.rate_load.RateTexts.{rate_text}
 use Rattle.command_words.specs.CommandLineWords.{number_in}
@@ -31,7 +31,7 @@ abbrev pub numbers_in : List (List ℕ) → Option WalkCommand
 numbers_in ws =
     if length ws == 5 then
     rate_of (number_in 64 longest_frame (word_at 0 ws)) (number_in 1 400000 (word_at 1 ws))
-    (ticks_of (number_in 0 most_ticks (word_at 2 ws)) (number_in 0 most_ticks (word_at 3 ws)))
+    (ticks_of (number_in 0 most_drawn_ticks (word_at 2 ws)) (number_in 0 most_drawn_ticks (word_at 3 ws)))
     (number_in 0 18446744073709551615 (word_at 4 ws))
     else None
 

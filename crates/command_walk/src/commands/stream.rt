@@ -6,22 +6,22 @@ ghost use Rattle.command_parts.specs.Task.{makes};
 ghost use Rattle.command_parts.specs.Ends.{lent, no_source};
 ghost use Rattle.command_parts.specs.Gives.{GivesAlone};
 ghost use Rattle.command_walk.specs.commands.Stream.{ticks_of, rate_of, numbers_in, stream_words, stream_answer};
-ghost use Rattle.law_model.specs.Common.{longest_frame, most_ticks};
+ghost use Rattle.law_model.specs.Common.{longest_frame, most_drawn_ticks};
 
 use crate::command_of_words::WalkCommand;
 use command_parts::{Ran, Stop};
 use command_words::number_within;
-use law_model::{LONGEST_FRAME, MOST_TICKS};
+use law_model::{LONGEST_FRAME, MOST_DRAWN_TICKS};
 use octet_io::ByteSink;
 use text_scripts::rate_load::{RateLoad, is_too_long, write_lines};
 use walk_engine::walk_core::Walk;
 
 /// The ticks of two words, the first of them before the second.
 fn ticks_of(first: &[u8], end: &[u8]) -> Option<(u32, u32)>
-    ensures { result ≡ ticks_of (number_in 0 most_ticks first.now) (number_in 0 most_ticks end.now) }
+    ensures { result ≡ ticks_of (number_in 0 most_drawn_ticks first.now) (number_in 0 most_drawn_ticks end.now) }
 {
-    let first = number_within(first, 0, MOST_TICKS)? as u32;
-    let end = number_within(end, 0, MOST_TICKS)? as u32;
+    let first = number_within(first, 0, MOST_DRAWN_TICKS)? as u32;
+    let end = number_within(end, 0, MOST_DRAWN_TICKS)? as u32;
     if first < end {
         Some((first, end))
     } else {

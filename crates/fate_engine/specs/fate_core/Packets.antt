@@ -1,7 +1,7 @@
 -- What is kept of the packets of a group.
 use Rattle.std.specs.Prelude.{◌≡◌, ℕ, ◌*◌, ◌≤◌, ◌<◌, ◌^◌, Bool, false, List, [], map, length, take, sum_by, All}
 use Rattle.std.specs.Prelude.{Option, Some, slice_get, slice_index_or}
-use Rattle.law_model.specs.Common.{Scenario, Told, active, is_known, table_of, most_lines}
+use Rattle.law_model.specs.Common.{Scenario, Told, active, is_known, table_of, most_lines, most_packets}
 use Rattle.fate_engine.specs.declared.fate_core.packet_rows.Packet.{Packet}
 
 -- the octets of payload that a line has in a row; the active lines under each packet, in the order of the packets; and
@@ -32,7 +32,7 @@ start_by size active k = size * sum_by length (take k active) * 16
 -- what is true of the fields
 pub record IsPacketList (size : ℕ) (packets : List Packet) (end : ℕ) : Type 0 where
   pub small : size < 2 ^ 16
-  pub few : length packets ≤ 65536
+  pub few : length packets ≤ most_packets
   pub lines : All (λ (packet : Packet). length packet.lines.items ≤ most_lines) packets
   pub starts : (k : ℕ) (packet : Packet) → slice_get packets k ≡ Some packet →
       packet.start ≡ start_by size (active_in packets) k

@@ -1,7 +1,7 @@
 //! Why a row isn't whole.
 ghost use Rattle.std.specs.Prelude.{◌≡◌, ◌+◌, ◌-◌, ◌*◌, ◌^◌, ◌<◌, ◌≤◌, length, List, All, Option};
 ghost use Rattle.std.specs.List.{list_any};
-ghost use Rattle.law_model.specs.Common.{AreWindows, Scenario, Told, lock_of};
+ghost use Rattle.law_model.specs.Common.{AreWindows, Scenario, Told, lock_of, most_packets};
 ghost use Rattle.fate_engine.specs.fate_law.RowCauses.{row_cause as cause_of, lesser as lesser_of, least_failing};
 ghost use Rattle.fate_engine.specs.fate_law.RowCauses.{packet_cause, container_cause};
 ghost use Rattle.fate_engine.specs.fate_core.WholeContainers.{whole_in, whole_on};
@@ -39,7 +39,7 @@ fn are_whole_on(windows: &WindowLists, line: u8, from: u32, count: u32) -> bool
 /// Whether some line has a readable packet.
 fn is_heard(windows: &WindowLists, packet: u32) -> bool
     requires apart { All (AreWindows 0) windows.now }
-    requires fits { packet ≤ 65536 }
+    requires fits { packet ≤ most_packets }
     ensures { result ≡ list_any (λ list. whole_in list (16 * packet) 24) windows.now }
 {
     for list in &windows.0 {
@@ -81,7 +81,7 @@ fn least_cut(windows: &WindowLists, lines: &[u8], from: u32, count: u32) -> Opti
 /// packet.
 fn packet_cause(windows: &WindowLists, active: &[u8], packet: u32) -> Option<Cause>
     requires apart { All (AreWindows 0) windows.now }
-    requires fits { packet ≤ 65536 }
+    requires fits { packet ≤ most_packets }
     ensures { result ≡ packet_cause
         (least_failing (whole_on windows.now (16 * packet) 24) active.now) }
 {
@@ -95,7 +95,7 @@ fn packet_cause(windows: &WindowLists, active: &[u8], packet: u32) -> Option<Cau
 fn container_cause(windows: &WindowLists, active: &[u8], row: u32) -> Option<Cause>
     requires apart { All (AreWindows 0) windows.now }
     requires late { 24 ≤ row }
-    requires fits { row < 1048600 }
+    requires fits { row < 100000024 }
     ensures { result ≡ container_cause
         (least_failing (whole_on windows.now (lock_of row) (row + 1 - lock_of row)) active.now) }
 {

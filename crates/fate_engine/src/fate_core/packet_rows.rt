@@ -2,11 +2,11 @@
 //! and where in the stream they begin.
 ghost use Rattle.std.specs.Prelude.{◌≡◌, suc, ◌+◌, ◌-◌, ◌*◌, ◌/◌, ◌≤◌, ◌<◌, [], ◌∷◌, ◌++◌, length, List, OnOk};
 ghost use Rattle.std.specs.Prelude.{OnErr, IfSome, IfNone, Option};
-ghost use Rattle.law_model.specs.Common.{Scenario, Told, active, is_known, table_of, place_of, width, most_lines};
+ghost use Rattle.law_model.specs.Common.{Scenario, Told, active, is_known, table_of, place_of, width, most_lines, most_packets};
 ghost use Rattle.fate_engine.specs.fate_core.Packets.{ArePackets, start_by};
 
 use arrayvec::ArrayVec;
-use law_model::MOST_LINES;
+use law_model::{MOST_LINES, MOST_PACKETS};
 use std::alloc::{AllocError, Global};
 use std::marker::Model;
 
@@ -17,7 +17,7 @@ pub(super) const FIRST: u32 = 24;
 pub(super) const ROWS: u32 = 16;
 
 /// The most packets.
-const MOST: usize = 65536;
+const MOST: usize = MOST_PACKETS as usize;
 
 /// A control packet.
 #[derive(Drop)]
@@ -68,7 +68,7 @@ impl Packets {
     /// Takes the active lines under the next packet, as the decision step of that packet leaves them. Where
     /// memory is short nothing changes.
     pub fn push(&mut self, active: ArrayVec<u8, MOST_LINES>) -> Result<(), AllocError>
-        requires { length self.old.active < 65536 }
+        requires { length self.old.active < most_packets }
         ensures ok { OnOk result (self.new
             ≡ record self.old { active = self.old.active ++ active.items ∷ [] }) }
         ensures err { OnErr result (self.new ≡ self.old) }
@@ -189,7 +189,7 @@ impl Packets {
         requires late { 24 ≤ row }
         requires governed { row < 16 * length self.now.active + 24 }
         ensures packet { result ≡ (row - 24) / 16 }
-        ensures few { row < 1048600 }
+        ensures few { row < 100000024 }
     {
         let packets = self.packets.len();
         prove!(packets <= MOST);

@@ -1,5 +1,5 @@
 -- What a capture says: frames of a client, each with the tick in which it is due; or the first that is wrong.
-use Rattle.std.specs.Prelude.{ℕ, ◌+◌, ◌-◌, ◌*◌, ◌/◌, ◌==◌, Bool, true, false, not, nat_lt, max, List, [], ◌∷◌, ◌++◌}
+use Rattle.std.specs.Prelude.{ℕ, ◌+◌, ◌-◌, ◌*◌, ◌/◌, ◌==◌, Bool, true, false, not, nat_le, nat_lt, max, List, [], ◌∷◌, ◌++◌}
 use Rattle.std.specs.Prelude.{length, map, replicate, drop, Option, Some, None, Result, Ok, Err, if◌then◌else◌}
 use Rattle.check_crc32.specs.Crc32.{least_first, fcs_in}
 use Rattle.text_captures.specs.declared.capture_file.capture_form.TimeUnit.{TimeUnit}
@@ -11,6 +11,7 @@ use Rattle.text_captures.specs.declared.capture_file.capture_form.RecordFault.{R
 use Rattle.text_captures.specs.declared.capture_file.capture_form.RecordFault.TheVariants as wrong
 use Rattle.text_captures.specs.declared.capture_file.capture_form.CaptureFault.{CaptureFault}
 use Rattle.text_captures.specs.declared.capture_file.capture_form.CaptureFault.TheVariants as fault
+use Rattle.law_model.specs.Common.{most_ticks}
 use Rattle.text_captures.specs.capture_file.Form.{Record, form_of, records_of, rest_of}
 
 -- ---- when a record's frame is due
@@ -66,7 +67,7 @@ abbrev pub record_fault : Bool → RecordHead → ℕ → Option RecordFault
 record_fault has_fcs head due =
     if not (head.captured == head.original) then Some wrong.Snapped
     else if nat_lt (most_octets has_fcs) head.captured then Some (wrong.Length head.captured)
-    else if nat_lt 999999 due then Some wrong.Late
+    else if nat_le most_ticks due then Some wrong.Late
     else None
 
 -- ---- records one after another, behind others

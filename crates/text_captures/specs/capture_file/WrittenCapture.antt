@@ -1,6 +1,7 @@
 -- A capture that is written: its numbers have the least significant octet first, and its times are microseconds.
-use Rattle.std.specs.Prelude.{ℕ, ◌-◌, ◌*◌, ◌/◌, ◌%◌, ◌≤◌, List, [], ◌∷◌, ◌++◌, length, map, flat_map}
+use Rattle.std.specs.Prelude.{ℕ, ◌-◌, ◌*◌, ◌/◌, ◌%◌, ◌<◌, ◌≤◌, List, [], ◌∷◌, ◌++◌, length, map, flat_map}
 use Rattle.std.specs.Int.{w32, to_le_bytes}
+use Rattle.law_model.specs.Common.{most_ticks}
 use Rattle.text_captures.specs.capture_file.Reading.{DueFrame}
 
 -- a frame, and the row whose taking gave it
@@ -34,7 +35,7 @@ ethernet_capture frames = ethernet_head ++ records_octets frames
 -- the rows don't fall, from a least one on, and none is beyond 999,999; no frame has more than 65,535 octets
 unfoldable pub AreRising : ℕ → List RowFrame → Type 0
 AreRising least [] = Unit {0}
-AreRising least (own ∷ frames) = (least ≤ own.row) × (own.row ≤ 999999) × (length own.frame ≤ 65535) ×
+AreRising least (own ∷ frames) = (least ≤ own.row) × (own.row < most_ticks) × (length own.frame ≤ 65535) ×
     AreRising own.row frames
 
 -- each frame is due as many ticks after the first one as its row comes after the row of that

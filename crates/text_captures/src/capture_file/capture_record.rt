@@ -5,6 +5,7 @@ ghost use Rattle.text_captures.specs.capture_file.Reading.{most_octets, record_f
 
 use crate::capture_file::capture_form::{ByteOrder, RecordFault, RecordHead};
 use crate::capture_file::capture_head::number_at;
+use law_model::MOST_TICKS;
 
 /// A record that stands whole at the front of some octets.
 #[derive(Clone, Copy)]
@@ -75,7 +76,7 @@ pub(super) fn record_fault(has_fcs: bool, head: RecordHead, due: u64) -> Option<
             octets: head.captured,
         });
     }
-    if due > 999_999 {
+    if due >= MOST_TICKS {
         return Some(RecordFault::Late);
     }
     None

@@ -7,7 +7,7 @@ use Rattle.hex.specs.Hex.{encode_lower}
 use Rattle.check_crc32.specs.Crc32.{least_first, fcs_in}
 use Rattle.text_scripts.specs.make_load.Draws.{draws, after_draws}
 use Rattle.text_scripts.specs.declared.rate_load.rate_frames.RateLoad.{RateLoad}
-use Rattle.law_model.specs.Common.{longest_frame, most_ticks}
+use Rattle.law_model.specs.Common.{longest_frame, most_drawn_ticks}
 
 pub record IsRateLoad (load : RateLoad) : Type 0 where
   pub least : 64 ≤ load.octets
@@ -15,7 +15,7 @@ pub record IsRateLoad (load : RateLoad) : Type 0 where
   pub some : 1 ≤ load.mbits
   pub fast : load.mbits ≤ 400000
   pub before : load.first < load.end
-  pub end : load.end ≤ most_ticks
+  pub end : load.end ≤ most_drawn_ticks
 
 -- ---- a frame
 -- the octets that each begins with: two addresses and a type

@@ -26,4 +26,4 @@ invariant-loop-self g l = record {
 
 -- far more is never made
 abbrev pub decreases-loop-self : goal.decreases-loop-self
-decreases-loop-self g l = 2 ^ 32 - made (walking_counts l.self.walk)
+decreases-loop-self g l = 2 ^ 40 - made (walking_counts l.self.walk)

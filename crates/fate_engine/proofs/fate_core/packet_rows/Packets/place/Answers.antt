@@ -28,14 +28,14 @@ returns-then-k-len c = λ scenario cells are.
     let view = ap (λ p. length p.active) c.self.view_is in
     omega (arith, few, all, view, c.if-k-len.true, c.len.ensures, c.if-row-le-FIRST.false))
 
-low : (c : goal.After-width) → c.index-packet.result.now.start + c.from.result * c.width.result ≤ 8796093022208
+low : (c : goal.After-width) → c.index-packet.result.now.start + c.from.result * c.width.result ≤ 838860800000000
 low c =
     let all = row-low c.self.inside.size c.self.inside.packets.items c.self.inside.end c.self.invariant
     ((c.args.row - 24) / 16) c.from.result c.index-packet.result.now (there c)
     (let e = c.from.ensures in omega (arith, e)) in
     let w : c.width.result ≡ c.self.inside.size * length c.index-packet.result.now.lines.items = c.width.ensures
     ∙ ap (λ p. p.size * length c.index-packet.result.now.lines.items) (sym c.self.view_is) in
-    subst (λ w. c.index-packet.result.now.start + c.from.result * w ≤ 8796093022208) (sym w) all
+    subst (λ w. c.index-packet.result.now.start + c.from.result * w ≤ 838860800000000) (sym w) all
 
 pub overflow_mul-result : goal.overflow_mul-result
 overflow_mul-result c = let all = low c in omega (arith, all)

@@ -5,7 +5,7 @@ use Rattle.fate_engine.specs.Common.{IsPacketList}
 use Rattle.fate_engine.specs.declared.fate_core.packet_rows.Packet.{Packet}
 use Rattle.fate_engine.proofs.PacketRowPlaceLaws.{actives-length, start-low, pushed}
 use Rattle.fate_engine.proofs.fate_core.packet_rows.Packets.push.Goals as goal
-use Rattle.law_model.specs.Common.{most_lines}
+use Rattle.law_model.specs.Common.{most_lines, most_packets}
 
 rows-few : (size lines : ℕ) → size < 2 ^ 16 → lines ≤ most_lines → size * lines * 16 ≤ 134217728
 rows-few size lines small few =
@@ -26,7 +26,7 @@ overflow_add-self c =
 pub invariant_of-self : goal.invariant_of-self
 invariant_of-self c =
     let packet : Packet = record { lines = c.args.active; start = c.self.inside.end } in
-    let more : length c.self.inside.packets.items < 65536 =
+    let more : length c.self.inside.packets.items < most_packets =
     (let few = c.requires in
     let all = actives-length c.self.inside.size c.self.inside.packets.items c.self.inside.end c.self.invariant in
     omega (arith, few, ap (λ p. length p.active) c.self.view_is, all)) in
