@@ -1,5 +1,5 @@
-//! The laws of losses: which frames come through a stream that comes in rows, of which some aren't whole. There
-//! is no code here. Begin at `loss_law`, which is of any stream and rows; `ways_law` has the four ways in which
+//! Which frames come through a stream of rows of which some aren't whole, and why the others don't. There is no
+//! code here. Begin at `loss_law`, which is of any stream and rows; `ways_law` has the four ways in which
 //! a frame is lost, and `session_loss_law` and `hitless_law` say it of a session. The proofs of `loss_law` and
 //! `whole_law` are of any kind of frames (`specs/FrameKind.antt`), of which Ethernet frames are one.
 //!

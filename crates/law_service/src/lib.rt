@@ -1,8 +1,8 @@
-//! The laws of the service that a client gets: where its frames end on the stream, and that none is refused or
-//! waits long if it keeps to a bucket; that delays take none of them; how a walk goes by the clock, and that it
-//! ends whoever tries its events in whatever order; that more rows take nothing back; and what a failure costs.
-//! There is no code here. Begin at `place_law`, and for failures at `cost_law`; `met_law` shows legs that meet what
-//! is asked, and `worked_law` that bounds are reached.
+//! What a failure costs, how long frames wait, and that a client within a bucket is refused nothing. Here are also
+//! where frames end on the stream, that delays take none of them, how a walk goes by the clock, that it ends whoever
+//! tries its events in whatever order, and that more rows take nothing back. There is no code here. Begin at
+//! `place_law`, and for failures at `cost_law`; `met_law` shows legs that meet what is asked, and `worked_law` that
+//! bounds are reached.
 #![tactic(auto)]
 
 mod client_within_a_bucket;

@@ -1,5 +1,5 @@
-//! The laws of a session, over the definitions alone: what return packets tell the source, how soon a line that
-//! is added carries payload, what is accepted, and how the client's stream goes on. There is no code here.
+//! What return packets tell the source, how soon an added line is in use, what is accepted. These are the laws of a
+//! session over the definitions alone, with those of its timers and of the client's stream. There is no code here.
 //! Begin at `feedback_law`, by which one bit of a return packet stands for a whole count of changes; by
 //! `silent_law` a line that carries payload was last read as a member; `use_law`, `readable_law`, `journal_law`
 //! and `client_law` have the rest; and for timers at `held_law`.
