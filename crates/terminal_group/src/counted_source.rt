@@ -2,7 +2,7 @@
 
 ghost use Rattle.std.specs.Prelude.{◌≡◌, ◌+◌, ◌<◌, List, Option, None, length, IsSome, IfOk, is_some};
 ghost use Rattle.member_cells.specs.HeldPlaces.{held};
-ghost use Rattle.law_model.specs.Common.{IsNetwork, Scenario, steps_in, Told, told_by, frame_of, most_ticks};
+ghost use Rattle.law_model.specs.Common.{IsNetwork, Scenario, steps_in, Told, told_by, frame_of};
 ghost use Rattle.terminal_source.specs.source_core.Terminal.{SameKind, needed};
 ghost use Rattle.terminal_source.specs.source_core.GivenScenario.{with_cell, with_told, SourceStands as HasMade};
 ghost use Rattle.law_walk.specs.Common.{is_client};
@@ -36,6 +36,7 @@ pub struct CountedSource {
 impl Model for CountedSource {
     ghost use Rattle.std.specs.Prelude.{◌≤◌};
     ghost use Rattle.terminal_group.specs.SourceByCounts.{Counted};
+    ghost use Rattle.law_model.specs.Common.{most_ticks};
 
     ghost Value = { Counted };
 

@@ -39,7 +39,7 @@ pub struct SinkTable {
 
 impl Model for SinkTable {
     ghost use Rattle.std.specs.Prelude.{◌≡◌, ◌≤◌, ℕ, IfSome};
-    ghost use Rattle.law_model.specs.Common.{IsOptions};
+    ghost use Rattle.law_model.specs.Common.{IsOptions, most_lines};
     ghost use Rattle.member_rows.specs.vcat_interleave.MemberPayloads.{AreLines};
     ghost use Rattle.law_model.specs.declared.lcas_states.SinkState.TheVariants.{Idle};
     ghost use Rattle.terminal_sink.specs.lcas_sink.SinkStates.{Sink, state_at};

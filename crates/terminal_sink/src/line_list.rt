@@ -18,6 +18,7 @@ impl Model for LineList {
     ghost use Rattle.std.specs.Prelude.{◌≡◌, ◌≤◌, ℕ, List, length, take};
     ghost use Rattle.std.proofs.Common.{ap₂};
     ghost use Rattle.terminal_sink.specs.line_list.Padded.{padded};
+    ghost use Rattle.law_model.specs.Common.{most_lines};
 
     ghost Value = { List ℕ };
 

@@ -37,6 +37,7 @@ impl Model for RowGather {
     ghost use Rattle.std.specs.Prelude.{◌≡◌, ◌≤◌, length};
     ghost use Rattle.member_cells.specs.HeldPlaces.{held};
     ghost use Rattle.member_rows.specs.realign_rows.Gather.{Gather, decided_lines};
+    ghost use Rattle.law_model.specs.Common.{most_lines};
 
     ghost Value = { Gather };
 

@@ -56,7 +56,7 @@ pub struct SinkCore {
 
 impl Model for SinkCore {
     ghost use Rattle.std.specs.Prelude.{◌≡◌, ◌≤◌, length};
-    ghost use Rattle.law_model.specs.Common.{vc4_size};
+    ghost use Rattle.law_model.specs.Common.{vc4_size, most_lines};
     ghost use Rattle.terminal_sink.specs.sink_core.RowsInReceiver.{IsKnown};
     ghost use Rattle.terminal_sink.specs.sink_core.TakenAndGiven.{packet_rows};
     ghost use Rattle.terminal_sink.specs.sink_core.Core.{Core};
