@@ -271,7 +271,7 @@ valid_load number lines ticks few time =
           lost = no_losses;
           ring = (omega arith, omega arith);
           lag = (omega arith, omega arith);
-          ticks = time;
+          ticks = (time.0, omega (arith, time.1));
           size = inr refl;
           options = record { holdoff = omega arith; restore = omega arith; statuses = inl refl };
           fits_ring = omega (arith, most, slips);

@@ -11,7 +11,7 @@ ghost use Rattle.text_scripts.specs.script_read.ScriptInPieces.{ReaderStands, Ha
 ghost use Rattle.text_scripts.specs.script_read.ScriptInPieces.{next_number, drafted, IsAt, IsToldAt};
 ghost use Rattle.text_scripts.specs.script_read.ScriptInPieces.{IsUntested};
 ghost use Rattle.text_scripts.specs.script_read.Drafts.{IsDraft, fault_at};
-ghost use Rattle.law_model.specs.Common.{IsValid, HasFewLosses, longest_input};
+ghost use Rattle.law_model.specs.Common.{IsValid, HasFewLosses, longest_input, most_items};
 
 use crate::script_read::grow_draft::{add, no_lines};
 use crate::script_read::read_statement::read_line;
