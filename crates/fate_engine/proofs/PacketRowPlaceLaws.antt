@@ -9,7 +9,7 @@ use Rattle.std.proofs.lemmas.List.{length-map, map-append}
 use Rattle.std.proofs.lemmas.List.Elements.{All-nil, All-cons, All-append}
 use Rattle.std.proofs.lemmas.Bool.{cases_lt}
 use Rattle.law_model.proofs.ListLaws.{at-index, slice_get-append_seam}
-use Rattle.law_model.specs.Common.{Scenario, Told, width, place_of, most_lines}
+use Rattle.law_model.specs.Common.{Scenario, Told, width, place_of, most_lines, most_packets}
 use Rattle.fate_engine.specs.Common.{PacketList, ArePackets, active_in, packets_in, start_by, IsPacketList}
 use Rattle.fate_engine.specs.declared.fate_core.packet_rows.Packet.{Packet}
 

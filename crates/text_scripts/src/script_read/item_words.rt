@@ -3,7 +3,7 @@ ghost use Rattle.std.specs.Prelude.{◌≡◌, ◌≤◌, ◌<◌, ℕ, List, le
 ghost use Rattle.text_lines.specs.WordsOfLine.{words, number_at};
 ghost use Rattle.text_scripts.specs.script_read.Lifted.{IsStop};
 ghost use Rattle.text_scripts.specs.script_read.Statements.{rest_fault, said};
-ghost use Rattle.law_model.specs.Common.{IsWithin, IsItem, most_count, longest_offer, most_windows};
+ghost use Rattle.law_model.specs.Common.{IsWithin, IsItem, most_count, longest_offer};
 ghost use Rattle.text_scripts.specs.script_read.Drafts.{IsDraft, last_due, command_fault, IsFrameOf};
 
 use crate::script_read::script_draft::{Draft, Statement};
