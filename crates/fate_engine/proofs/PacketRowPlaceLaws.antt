@@ -51,7 +51,7 @@ start-next size xs k low =
     spread a b = omega arith
 
 pub start-few : (size : ℕ) (xs : List (List ℕ)) (k : ℕ) → size < 2 ^ 16 → k ≤ most_packets →
-    All (λ (x : List ℕ). length x ≤ most_lines) xs → start_by size xs k ≤ 80000000000000000
+    All (λ (x : List ℕ). length x ≤ most_lines) xs → start_by size xs k ≤ 838860800000000
 start-few size xs k small low few =
     let sum = sum-few xs k few in
     omega (arith, mul-le-mul_left size (most sum), mul-le-mul_right 800000000 (size-most))
@@ -164,13 +164,13 @@ module _ (size : ℕ) (list : List Packet) (end : ℕ) (is : IsPacketList size l
       let next = start-next size actives k (omega (arith, get-low list k packet there, actives-length)) in
       omega (arith, is.starts k packet there, next, lines)
 
-  pub start-low : (k : ℕ) → k ≤ length list → start_by size actives k ≤ 80000000000000000
+  pub start-low : (k : ℕ) → k ≤ length list → start_by size actives k ≤ 838860800000000
   start-low k low = let few = is.few in
       start-few size actives k is.small (omega (arith, few, low)) (lines-few list is.lines)
 
   -- a row under packet k lies low
   pub row-low : (k q : ℕ) (packet : Packet) → slice_get list k ≡ Some packet → q < 16 →
-      packet.start + q * (size * length packet.lines.items) ≤ 80000000000000000
+      packet.start + q * (size * length packet.lines.items) ≤ 838860800000000
   row-low k q packet there small =
       let w : ℕ = size * length packet.lines.items in
       let rows : q * w ≤ 16 * w = mul-le-mul_right w (let le : q ≤ 16 = omega arith in le) in
