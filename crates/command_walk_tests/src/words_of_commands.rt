@@ -1,12 +1,8 @@
-//! Words, one by one, and the commands that they are.
+//! Words, one by one, and the commands of the program of walks that they are.
 
-use crate::try_rows::words_of;
-use command_run::RunCommand;
+use command_rows::{first_wrong, is_told};
 use command_walk::WalkCommand;
-use command_words::read_words;
-use std::alloc::Global;
 
-// Words with one space between them, and the command of the program of walks that they are.
 const WALKS: &str = "\
     walk=> Walk\n\
     trace=> Trace\n\
@@ -118,79 +114,12 @@ const WALKS: &str = "\
     help walk=> usage\n\
     => usage";
 
-// And the command of the program of runs.
-const RUNS: &str = "\
-    run 1=> Run { workers: 1 }\n\
-    run 0064=> Run { workers: 64 }\n\
-    watch 3=> Watch { workers: 3 }\n\
-    watch 65=> usage\n\
-    watch=> usage\n\
-    run 0=> usage\n\
-    run 65=> usage\n\
-    run 257=> usage\n\
-    run=> usage\n\
-    run 1 1=> usage\n\
-    run -1=> usage\n\
-    run +1=> usage\n\
-    run -- 1=> usage\n\
-    run --workers=1=> usage\n\
-    help run=> usage\n\
-    Run 1=> usage\n\
-    walk=> usage\n\
-    --help=> usage\n\
-    => usage";
-
-/// Whether the program of walks is told this by words.
-fn is_walk(alloc: Global, words: &[String], want: &str) -> bool {
-    let told = match read_words::<WalkCommand>(alloc, words) {
-        Ok(command) => format!(in alloc; "{command:?}"),
-        Err(fault) => format!(in alloc; "{fault}"),
-    };
-    match told {
-        Ok(told) => told.as_str() == want,
-        Err(_) => false,
-    }
-}
-
-/// And the program of runs.
-fn is_run(alloc: Global, words: &[String], want: &str) -> bool {
-    let told = match read_words::<RunCommand>(alloc, words) {
-        Ok(command) => format!(in alloc; "{command:?}"),
-        Err(fault) => format!(in alloc; "{fault}"),
-    };
-    match told {
-        Ok(told) => told.as_str() == want,
-        Err(_) => false,
-    }
-}
-
-/// Whether one of both programs is told what a row says.
-fn is_told(alloc: Global, row: &str, of_walks: bool) -> bool {
-    let (text, want) = row.split_once("=> ").unwrap_or((row, "a row"));
-    let words = words_of(alloc, text);
-    if of_walks {
-        is_walk(alloc, words.as_slice(), want)
-    } else {
-        is_run(alloc, words.as_slice(), want)
-    }
-}
-
-/// The first row of which something else is told.
-fn first_wrong(alloc: Global, rows: &'static str, of_walks: bool) -> Option<&'static str> {
-    for row in rows.lines() {
-        if !is_told(alloc, row, of_walks) {
-            return Some(row);
-        }
-    }
-    None
-}
-
 #[test]
 fn words_are_commands(rt: HostRuntime) {
     let alloc = rt.alloc();
-    let wrong = [
-        first_wrong(alloc, WALKS, true),
-        first_wrong(alloc, RUNS, false),
-    ];
-    assert_eq!(rt; (wrong, is_walk(alloc, &[], "usage")), ([None; 2], true));
+    let wrong = first_wrong::<WalkCommand>(alloc, WALKS);
+    assert_eq!(rt;
+        (wrong, is_told::<WalkCommand>(alloc, &[], "usage")),
+        (None, true)
+    );
 }

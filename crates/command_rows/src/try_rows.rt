@@ -1,4 +1,4 @@
-//! Rows of words, an input and answers, and a runner that tries them on either program.
+//! Rows of words, an input and answers, and a runner that tries them on a program.
 //!
 //! A row is `WORDS;INPUT => ANSWER THEN ANSWER` and so on, with one answer for each turn, and `N TIMES` before one
 //! that comes in N turns. An answer is `STATUS;OUT;NOTES`, where `+` follows the status if a walk or a session is
@@ -7,21 +7,25 @@
 //! script, and `..` at the end of an answer for any rest. Nothing here stops at want of memory: a text that is cut by
 //! it is another than the wanted one.
 
-use crate::gate_door::Door;
-use command_run::run_top;
-use command_walk::walk_top;
 use octet_io::{MemSink, MemSource};
 use std::alloc::{AllocError, Global};
-use std::sync::Wait;
-use std::thread::Threads;
 
 /// The program that is called.
+pub trait Program {
+    /// Calls it with words and ends. If its workers meet, each waits at its first pass until all have come, and the sink
+    /// until all others have moved.
+    fn call(&self, alloc: Global, words: &[String], ends: &mut Ends, meets: bool) -> Called;
+}
+
+/// How a call ended.
 #[derive(Clone, Copy)]
-pub enum Program {
-    /// The one that makes walks on one thread, `walk_top`.
-    Walk,
-    /// The one that runs sessions on threads, `run_top`.
-    Run,
+pub struct Called {
+    /// The status.
+    pub status: u8,
+    /// Whether a walk or a session was handed back.
+    pub is_handed: bool,
+    /// Whether a worker waited in vain.
+    pub missed: bool,
 }
 
 /// What is special in a turn, of which the first has number 0.
@@ -29,7 +33,7 @@ pub enum Program {
 pub enum Turns {
     /// Nothing.
     Whole,
-    /// Each worker waits at its first pass until all have come, and the sink until all others have moved.
+    /// The workers meet.
     Meeting,
     /// The input comes seven octets at a time, and the call of the source fails that has the turn's number.
     Takes,
@@ -52,7 +56,6 @@ pub enum Turns {
 /// What is called, and how.
 #[derive(Clone, Copy)]
 struct Case<'a> {
-    program: Program,
     turns: Turns,
     words: &'a str,
     input: &'a [u8],
@@ -60,10 +63,13 @@ struct Case<'a> {
 
 /// An input and both outputs.
 #[derive(Drop)]
-struct Ends {
-    source: MemSource,
-    out: MemSink,
-    notes: MemSink,
+pub struct Ends {
+    /// The input.
+    pub source: MemSource,
+    /// Where answers go.
+    pub out: MemSink,
+    /// Where notes go.
+    pub notes: MemSink,
 }
 
 /// Appends octets, if memory is there.
@@ -183,66 +189,39 @@ fn ends_of(alloc: Global, case: Case<'_>, number: u32) -> Result<Ends, AllocErro
     })
 }
 
-/// Calls the program that walks. What comes is the status, and whether a walk is handed back.
-fn walk(alloc: Global, words: &[String], ends: &mut Ends) -> (u8, bool) {
-    let end = walk_top(
-        alloc,
-        words,
-        &mut ends.source,
-        &mut ends.out,
-        &mut ends.notes,
-    );
-    (end.status, end.walk.is_some())
-}
-
-/// Calls the program that runs threads. What comes is the status, and whether a session is handed back.
-fn run<R: Threads + Wait + Sync>(
-    rt: &R,
-    alloc: Global,
-    words: &[String],
-    ends: &mut Ends,
-    door: &Door,
-) -> (u8, bool) {
-    let Ends { source, out, notes } = ends;
-    let end = run_top(rt, alloc, words, source, out, notes, door);
-    (end.status, end.ended.is_some())
-}
-
 /// Appends what a turn is answered, with the ends that it has.
-fn say_answer<R: Threads + Wait + Sync>(
-    rt: &R,
+fn say_answer<P: Program>(
     alloc: Global,
+    program: &P,
     case: Case<'_>,
     words: &[String],
     ends: &mut Ends,
     answer: &mut Vec<u8>,
 ) {
-    let door = Door::new(matches!(case.turns, Turns::Meeting));
-    let (status, is_handed) = match case.program {
-        Program::Walk => walk(alloc, words, ends),
-        Program::Run => run(rt, alloc, words, ends, &door),
-    };
-    say(answer, &[b'0'.wrapping_add(status)]);
-    say(answer, if is_handed { b"+;" } else { b";" });
+    let called = program.call(alloc, words, ends, matches!(case.turns, Turns::Meeting));
+    say(answer, &[b'0'.wrapping_add(called.status)]);
+    say(answer, if called.is_handed { b"+;" } else { b";" });
     say(answer, ends.out.bytes());
     say(answer, b";");
     say(answer, ends.notes.bytes());
-    if door.missed() {
+    if called.missed {
         say(answer, b"missed");
     }
 }
 
 /// What a turn is answered.
-fn answer_of<R: Threads + Wait + Sync>(
-    rt: &R,
-    alloc: Global,
-    case: Case<'_>,
-    number: u32,
-) -> Vec<u8> {
+fn answer_of<P: Program>(alloc: Global, program: &P, case: Case<'_>, number: u32) -> Vec<u8> {
     let mut answer = Vec::new(alloc);
     let words = words_of(alloc, case.words);
     if let Ok(mut ends) = ends_of(alloc, case, number) {
-        say_answer(rt, alloc, case, words.as_slice(), &mut ends, &mut answer);
+        say_answer(
+            alloc,
+            program,
+            case,
+            words.as_slice(),
+            &mut ends,
+            &mut answer,
+        );
     }
     answer
 }
@@ -294,25 +273,25 @@ fn say_wrong(wrong: &mut String, want: &str, answer: &[u8]) {
 }
 
 /// Tries one turn.
-fn try_turn<R: Threads + Wait + Sync>(
-    rt: &R,
+fn try_turn<P: Program>(
     alloc: Global,
+    program: &P,
     case: Case<'_>,
     number: u32,
     want: &str,
     wrong: &mut String,
 ) {
-    let answer = answer_of(rt, alloc, case, number);
+    let answer = answer_of(alloc, program, case, number);
     if !is_right(alloc, case.turns, answer.as_slice(), want) {
         say_wrong(wrong, want, answer.as_slice());
     }
 }
 
 /// Tries a row, with these words or, where there are none, with its own.
-fn try_row<R: Threads + Wait + Sync>(
-    rt: &R,
+fn try_row<P: Program>(
     alloc: Global,
-    (program, turns): (Program, Turns),
+    program: &P,
+    turns: Turns,
     words: &str,
     row: &str,
     wrong: &mut String,
@@ -324,7 +303,6 @@ fn try_row<R: Threads + Wait + Sync>(
     let (folded, wants) = row.split_once(" => ").unwrap_or((row, "an answer"));
     let input = unfolded(alloc, folded);
     let case = Case {
-        program,
         turns,
         words,
         input: input.as_slice(),
@@ -333,7 +311,7 @@ fn try_row<R: Threads + Wait + Sync>(
     for part in wants.split(" THEN ") {
         let (times, want) = part.split_once(" TIMES ").unwrap_or(("1", part));
         for _ in 0..times.parse::<u32>().unwrap_or(1) {
-            try_turn(rt, alloc, case, number, want, wrong);
+            try_turn(alloc, program, case, number, want, wrong);
             number = number.wrapping_add(1);
         }
     }
@@ -341,17 +319,12 @@ fn try_row<R: Threads + Wait + Sync>(
 
 /// Tries rows: what is special in their turns, the words of all of them, which may be several with a comma between,
 /// or none where each row has its own, and the rows. The first answer that is not the wanted one is said.
-pub fn wrong_of<R: Threads + Wait + Sync>(
-    rt: &R,
-    alloc: Global,
-    program: Program,
-    all: &[(Turns, &str, &str)],
-) -> String {
+pub fn wrong_of<P: Program>(alloc: Global, program: &P, all: &[(Turns, &str, &str)]) -> String {
     let mut wrong = String::new(alloc);
     for (turns, words, rows) in all {
         for row in rows.lines() {
             for words in words.split(',') {
-                try_row(rt, alloc, (program, *turns), words, row, &mut wrong);
+                try_row(alloc, program, *turns, words, row, &mut wrong);
             }
         }
     }

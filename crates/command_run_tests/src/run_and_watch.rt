@@ -2,9 +2,8 @@
 //! a model of the definitions, or is counted by hand. Rows stand behind functions, so that no proof sees
 //! them.
 
-use crate::beginnings_of_script::beginning_row;
-use crate::try_rows::Program::Run;
-use crate::try_rows::{Turns, wrong_of};
+use crate::run_program::Run;
+use command_rows::{Turns, beginning_row, wrong_of};
 
 /// Words that are no command, and scripts that are faulty or don't fit their rings.
 fn refused_rows() -> &'static str {
@@ -131,7 +130,7 @@ fn answers(rt: HostRuntime) {
         (Turns::Whole, "", option_rows()),
         (Turns::Meeting, "", meeting_row()),
     ];
-    assert_eq!(rt; wrong_of(&rt, rt.alloc(), Run, &rows).as_str(), "");
+    assert_eq!(rt; wrong_of(rt.alloc(), &Run { rt: &rt }, &rows).as_str(), "");
 }
 
 #[test]
@@ -142,5 +141,5 @@ fn calls_that_fail_and_scripts_that_are_cut(rt: HostRuntime) {
         (Turns::Tells, "", untold_rows()),
         (Turns::Beginnings, "run 2", beginning_row()),
     ];
-    assert_eq!(rt; wrong_of(&rt, rt.alloc(), Run, &rows).as_str(), "");
+    assert_eq!(rt; wrong_of(rt.alloc(), &Run { rt: &rt }, &rows).as_str(), "");
 }
