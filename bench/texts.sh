@@ -1,17 +1,12 @@
 #!/bin/sh
-# Texts that are scripts, or nearly. A million that are made from numbers are read; and ten thousand scripts of examples/ in which one
-# octet is another are walked. It says how many are what; the status is 0 where each was answered with a status that there is, in time,
-# and with nothing written beside a fault. With the name of a file it keeps there what was changed and what came of it.
+# Ten thousand scripts of examples/ in which one octet is another are walked. It says how many are what; the status is 0 where each was answered with
+# a status that there is, in time, and with nothing written beside a fault. With the name of a file it keeps there what was changed and what came of it.
 cd "$(dirname "$0")/.." || exit 1
-reader=$PWD/crates/parts_bench/out/parts_bench
 program=$PWD/crates/vcat_walk/out/vcat_walk
-[ -x "$reader" ] && [ -x "$program" ] || { echo "texts: build the programs first: rt ci" >&2; exit 1; }
+[ -x "$program" ] || { echo "texts: build the programs first: rt ci" >&2; exit 1; }
 kept=${1:-/dev/null}
 work=$(mktemp -d) || exit 1
 trap 'rm -rf "$work"' EXIT
-
-counts=$("$reader" texts 1 1000000) || exit 1
-echo "a million texts: $counts"
 
 # The file, the place and the octet of each change, drawn from a number.
 ls examples/*.vcat | awk -v count=10000 '

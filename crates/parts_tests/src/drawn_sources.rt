@@ -1,5 +1,5 @@
 //! Drawn courses of a source: what the packets of its table say, and what the frames of its terminal hold, as digests
-//! that another program has found. Worked courses are among the rows of `command_tests`.
+//! that another program has found. Worked courses are among the rows of `command_walk_tests`.
 
 ghost use Rattle.std.specs.Prelude.{◌≡◌, ◌+◌, ◌%◌, ◌<◌, length, IfSome};
 ghost use Rattle.terminal_source.specs.source_core.Terminal.{SameKind};
