@@ -5,6 +5,7 @@
 - Each link leads to a file, and its # part to a heading.
 - What a page shows as antt stands so in the tree, but for comments.
 - Each path and each name in backticks is there. In `call` of `crate` the crate has the call, and in `call`: `clause` the call has the clause.
+- The gate's time and the number of edits are the same everywhere.
 - No page and no table cell is longer than it may be.
 """
 
@@ -208,6 +209,19 @@ def check_lengths(page, text):
     return words if page not in ("CHANGELOG.md", "bench/README.md") else 0
 
 
+def check_gate():
+    """README, CONTRIBUTING and vcat say of the gate's time what TESTED says in bold letters, and TESTED has what the last run of all edits counted."""
+    tested, whole = (TOP / "docs/TESTED.md").read_text(), TOP / "edits/whole-run.txt"
+    for page in ("README.md", "docs/CONTRIBUTING.md", "vcat"):
+        for time in re.findall(r"\*\*(\d+ minutes on .*?)\*\*", tested):
+            if time not in (TOP / page).read_text():
+                fault(page, f"it does not say that the gate takes {time}")
+    if whole.exists():
+        said = dict(line.split(" ", 1) for line in whole.read_text().splitlines())
+        if f"{said['edits'].split()[0]} edits" not in tested or said["commit"][:8] not in tested:
+            fault("docs/TESTED.md", "it does not have the counts or the commit of edits/whole-run.txt")
+
+
 def check_sections():
     found, uses = lists.sections()
     for section, _, names in found:
@@ -220,6 +234,7 @@ def check_sections():
 
 def main():
     check_sections()
+    check_gate()
     for page, made in lists.PAGES.items():
         if not (TOP / page).exists() or (TOP / page).read_text() != made():
             fault(page, "not what docs/lists.py writes: run python3 docs/lists.py")
