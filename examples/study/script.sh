@@ -16,11 +16,11 @@ vc4) rate=149760 ;;
 *) echo "script.sh: $1 is neither vc3 nor vc4" >&2; exit 2 ;;
 esac
 mbits=$((($3 * $2 * rate + 50000) / 100000))
-awk -v container="$1" -v lines="$2" -v load="$3" -v length_of="$4" -v begin="$5" -v mbits="$mbits" '
+awk -v container="$1" -v lines="$2" -v percent="$3" -v length_of="$4" -v begin="$5" -v mbits="$mbits" '
     BEGIN { for (n = 0; n < lines; n++) delays = delays (n ? " " : "") n }
     /^ADD$/ { for (n = 0; n < lines; n++) print "add 0 " n; next }
     {
-        gsub(/CONTAINER/, container); gsub(/LINES/, lines); gsub(/DELAYS/, delays); gsub(/MBITS/, mbits); gsub(/LOAD/, load)
+        gsub(/CONTAINER/, container); gsub(/LINES/, lines); gsub(/DELAYS/, delays); gsub(/MBITS/, mbits); gsub(/LOAD/, percent)
         gsub(/LENGTH/, length_of); gsub(/BEGIN/, begin); gsub(/END/, begin + length_of); gsub(/TICKS/, begin + 1300)
         print
     }' "$here/template.vcat" && exec "$program" stream 1518 "$mbits" $(($5 - 40)) $(($5 + 760)) "${6:-1}"
