@@ -188,6 +188,7 @@ Life.words = (() => {
   /* The sentence on what is held, which is a word with its numbers: frame.ITEM, command.ITEM, line.LINE.TICK, row.ROW,
      outage.FIRST, stretch.TICK, back.PACKET. */
   function held(m, hold) {
+    if (!/^[a-z]+(\.\d+)+$/.test(hold)) return "";
     const [kind, ...words] = hold.split("."), [a, b] = words.map(Number);
     switch (kind) {
       case "frame": return m.byItem.has(a) ? frame(m, m.byItem.get(a)) : "";

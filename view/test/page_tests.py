@@ -210,6 +210,9 @@ class Tests:
         b.key("Escape")
         b.settle()
         self.same("let go", b.js(HELD), False)
+        for hold in ("line.-1.5", "line.1.-5", "row.-1", "line.1", "frame.x"):
+            self.open("keys", texts, "#hold=" + hold)
+            self.same("a fragment of nothing, " + hold, (b.js("Life.page.hold"), b.js(FAULTS)), (None, ""))
         rows = b.js("[...document.querySelectorAll('tbody tr')].map(e => [0, 1, 4, 5].map(n => e.cells[n].textContent))")
         self.same("neighbours of one reason are one row", rows,
                   [["4\u20136", "1,024\u20131,060", "1,024\u20131,060", "cut, 3 frames"], ["7", "1,100", "1,100", "unsettled"]])
