@@ -24,7 +24,7 @@ Life.page = (() => {
     const m = page.model = Life.model.modelOf(texts);
     document.title = m.name + " \u2013 life of a group";
     byId("name").textContent = m.name;
-    byId("lede").textContent = m.script.comment;
+    byId("lede").textContent = m.script.comment.slice(0, 2000);
     showFaults(m);
     for (const id of ["bar", "over", "stack", "detail", "legend", "losses", "spoken"]) byId(id).hidden = !m.drawable;
     byId("chart").hidden = m.note !== null;

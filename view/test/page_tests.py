@@ -351,6 +351,8 @@ class Tests:
         self.same("no element comes of it", b.js("document.getElementById('bold')"), None)
         self.same("a name", b.js("document.getElementById('name').textContent"), "a <b> & \\x3c \\n")
         self.same("nothing is missing", b.js(FAULTS), "")
+        self.open("long", {**texts, "script": b"# " + b"word " * 1000 + b"\n" + texts["script"]})
+        self.same("of a long comment what can be read", b.js("document.getElementById('lede').textContent.length"), 2000)
 
     def told(self, what, texts, wanted, drawn=True, **statuses):
         """A page says what is missing, and draws a picture or none."""
