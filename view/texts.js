@@ -79,6 +79,8 @@ Life.texts = (() => {
     /* The comment at the head, up to the first line that says something: what the script is about. */
     script.comment = about.join(" ");
     return script;
+    /* Of other numbers than the program takes there is nothing to draw. */
+    if (!(Number.isInteger(script.lines) && script.lines >= 0 && script.lines <= 128)) script.lines = 0;
   }
 
   /* ---- The notes of trace: of each line its runs of equal CODE:SQ, over packets from `from` to below `end` ---- */

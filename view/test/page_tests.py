@@ -425,6 +425,9 @@ class Tests:
         self.same("a fault: view", (notes, status), ("%svcat: line %d is: Add 0 0\n" % (note.decode(), line), 5))
         self.same("a fault: the line is shown", "is \u201cAdd 0 0\u201d" in b.js(FAULTS), True)
         self.picture("fault-1280")
+        for number in ("x", "-1", "1.5", "30000000", "99999999999"):
+            self.told("lines " + number, {**texts, "script": b"lines %s\n" % number.encode(), "trace": b"fault: line 1: number\n"},
+                      "Line 1 is \u201clines %s\u201d." % number, False, trace_status=5)
         path, _, status = self.pages.make("long", {**texts, "trace": b"fault: too long\n"}, trace_status=8)
         self.same("no page", (os.path.getsize(path), status), (0, 8))
 
