@@ -3,7 +3,7 @@
    in the model's `faults`, and a note of the program in its `note`. */
 Life.model = (() => {
   const { count, stepsOf, rowOf } = Life.basics;
-  const { FATES, readScript, readTrace, noFates, readFates, noService, readService, readReport } = Life.texts;
+  const { FATES, readScript, readTrace, noFates, readFates, noService, readService, noReport, readReport } = Life.texts;
   const nothing = (text) => text == null || text.trim() === "";
 
   /* What the program says of a script that it refuses, and the line that it names. */
@@ -99,7 +99,7 @@ Life.model = (() => {
     model.trace = read(texts.trace, (t) => readTrace(t, script.lines, faults), readTrace("", script.lines, faults));
     model.fates = read(texts.fates, (t) => readFates(t, faults), noFates());
     model.service = read(texts.service, (t) => readService(t, faults), noService());
-    model.report = read(texts.report, (t) => readReport(t, faults), { refused: new Map(), totals: null });
+    model.report = read(texts.report, (t) => readReport(t, faults), noReport());
     /* Whether the fates are here, whole or cut off. */
     model.told = model.fates.totals !== null || model.fates.frames.length > 0 || model.fates.spoiled.length > 0;
     model.totals = model.fates.totals || model.report.totals;

@@ -32,6 +32,9 @@ Life.texts = (() => {
     return all;
   }
 
+  /* The lines of an answer, without what ./vcat says of a trial build. */
+  const answerOf = (text) => linesOf(text).filter((line) => !/^(vcat: |      VCAT_)/.test(line));
+
   /* ---- The script ---- */
 
   /* `frame DUE HEX`, or `frame DUE ..N` where the octets were left out and N is their number. */
@@ -76,23 +79,23 @@ Life.texts = (() => {
       begun = true;
       scriptLine(script, line, i + 1, faults);
     });
+    /* Of other numbers than the program takes there is nothing to draw. */
+    if (!(Number.isInteger(script.lines) && script.lines >= 0 && script.lines <= 128)) script.lines = 0;
     /* The comment at the head, up to the first line that says something: what the script is about. */
     script.comment = about.join(" ");
     return script;
-    /* Of other numbers than the program takes there is nothing to draw. */
-    if (!(Number.isInteger(script.lines) && script.lines >= 0 && script.lines <= 128)) script.lines = 0;
   }
 
   /* ---- The notes of trace: of each line its runs of equal CODE:SQ, over packets from `from` to below `end` ---- */
 
   function readTrace(text, lines, faults) {
     const trace = { packets: 0, chg: [], act: [], back: [], runs: Array.from({ length: lines }, () => []) };
-    const last = new Array(lines).fill("");
-    /* What ./vcat says of a trial build may stand there too. */
-    const all = linesOf(text).filter((line) => !/^(vcat: |      VCAT_)/.test(line));
+    const last = new Array(lines).fill(""), all = answerOf(text);
     for (let i = 0; i < all.length; i++) {
       const words = all[i].split(" "), cells = words.slice(8);
-      if (words[0] !== "packet" || +words[1] !== trace.packets || cells.length !== lines || !/^[a-z]+:\d+$/.test(cells[lines - 1])) {
+      const isCell = (cell, line) => cell === last[line] || /^[a-z]+:\d+$/.test(cell);
+      if (words[0] !== "packet" || +words[1] !== trace.packets || !/^(none|lost|[0-9a-f]{2}\/[01])$/.test(words[7]) ||
+          cells.length !== lines || !cells.every(isCell)) {
         faults.push("Line " + (i + 1) + " of trace isn't that of packet " + trace.packets + " with " + count(lines, "line") +
           ": the packets from " + trace.packets + " on are missing here.");
         break;
@@ -145,7 +148,7 @@ Life.texts = (() => {
 
   /* Reads a text line by line, up to the one with its totals, by the form that its first word has. */
   function readLines(name, text, read, forms, take, faults) {
-    const all = linesOf(text);
+    const all = answerOf(text);
     for (let i = 0; i < all.length; i++) {
       const line = all[i], kind = line.slice(0, Math.max(0, line.indexOf(" ")));
       const words = !read.totals && Object.hasOwn(forms, kind) ? forms[kind].exec(line) : null;
@@ -200,20 +203,19 @@ Life.texts = (() => {
 
   /* ---- The report: its refused lines and its totals; got lines are passed over ---- */
 
-  function readReport(text, faults) {
-    const report = { refused: new Map(), totals: null };
-    const total = /^total ticks (\d+) taken (\d+) frames (\d+) commands (\d+) refused (\d+) got (\d+)$/;
-    for (const line of linesOf(text)) {
-      if (line.startsWith("got ")) continue;
-      const refused = /^refused (\d+) (.*)$/.exec(line), w = total.exec(line);
-      if (refused) report.refused.set(+refused[1], refused[2]);
-      else if (w) report.totals = { ticks: +w[1], taken: +w[2], frames: +w[3], commands: +w[4], refused: +w[5], got: +w[6] };
-    }
-    if (!report.totals) {
-      faults.push("The last line of the report, with the totals, is missing: the text was cut off, and refused items may be missing too.");
-    }
-    return report;
+  const REPORT_LINES = {
+    got: /^got /,
+    refused: /^refused (\d+) (queue|length \d+|unknown|already in|not in|pending)$/,
+    total: /^total ticks (\d+) taken (\d+) frames (\d+) commands (\d+) refused (\d+) got (\d+)$/,
+  };
+
+  function reportLine(report, kind, w) {
+    if (kind === "refused") report.refused.set(+w[1], w[2]);
+    if (kind === "total") report.totals = { ticks: +w[1], taken: +w[2], frames: +w[3], commands: +w[4], refused: +w[5], got: +w[6] };
   }
 
-  return { KINDS, FATES, embedded, kindOf, readScript, readTrace, noFates, readFates, noService, readService, readReport };
+  const noReport = () => ({ refused: new Map(), totals: null });
+  const readReport = (text, faults) => readLines("the report", text, noReport(), REPORT_LINES, reportLine, faults);
+
+  return { KINDS, FATES, embedded, kindOf, readScript, readTrace, noFates, readFates, noService, readService, noReport, readReport };
 })();

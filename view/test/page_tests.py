@@ -431,22 +431,42 @@ class Tests:
         path, _, status = self.pages.make("long", {**texts, "trace": b"fault: too long\n"}, trace_status=8)
         self.same("no page", (os.path.getsize(path), status), (0, 8))
 
+    def drop(self, texts):
+        """Drops files on the page: their names with their texts."""
+        self.browser.js("""(() => { const data = new DataTransfer(); for (const [name, text] of %s) data.items.add(new File([text], name));
+            document.dispatchEvent(new DragEvent('drop', { dataTransfer: data, cancelable: true, bubbles: true })); })()"""
+                        % json.dumps([[name, text.decode()] for name, text in texts.items()]))
+        self.browser.settle()
+
     def dropped(self, texts):
         """view/life.html itself takes dropped texts, in any order."""
         b = self.browser
         b.open(os.path.join(TOP, "view/life.html"))
         self.same("a page without texts says so", b.js("!document.getElementById('empty').hidden && document.getElementById('stack').hidden"), True)
         names = {"fates": "a.txt", "script": "failed_member.vcat", "report": "b.txt", "trace": "c.txt", "service": "d.txt"}
-        drop = """(() => { const data = new DataTransfer(); for (const [name, text] of %s) data.items.add(new File([text], name));
-            document.dispatchEvent(new DragEvent('drop', { dataTransfer: data, cancelable: true, bubbles: true })); })()"""
-        b.js(drop % json.dumps([[names[kind], texts[kind].decode()] for kind in names]))
-        b.settle()
+        self.drop({names[kind]: texts[kind] for kind in names})
         drawn, wanted = json.loads(b.js("document.getElementById('plot').dataset.drawn")), expected(texts)
         self.same("dropped", [drawn["cells"], drawn["frames"], drawn["service"], b.js("document.getElementById('name').textContent"), b.js(FAULTS)],
                   [wanted["cells"], wanted["frames"], wanted["service"], "failed_member", ""])
-        b.js(drop % json.dumps([["note.txt", "nothing of a walk"]]))
-        b.settle()
+        self.drop({"note.txt": b"nothing of a walk"})
         self.same("an unknown text is told", "Not one of the texts: note.txt" in b.js(FAULTS), True)
+        self.drop({"many.vcat": b"lines 30000000\nticks 30000000\n"})
+        self.same("a number of lines that there can't be", b.js("!document.getElementById('empty').hidden"), True)
+
+    def markup(self, texts):
+        """No text that is dropped becomes elements: what the program doesn't write isn't read, and is told."""
+        b, image = self.browser, b"<img\tsrc=x\tonerror=document.title='run'>"
+        b.open(os.path.join(TOP, "view/life.html"))
+        total = texts["report"].splitlines()[-1]
+        for what, changed in (("a cell", {"trace": texts["trace"].replace(b" norm:0 ", b" %s:0 " % image)}),
+                              ("a return packet", {"trace": texts["trace"].replace(b" ff/0 ", b" 00/%s " % image)}),
+                              ("a refusal", {"fates": b"", "report": b"refused 2 %s\n%s\n" % (image, total)})):
+            self.drop({**texts, **changed})
+            b.js("document.getElementById('spoken').open = true")
+            b.js("['back.60', 'line.0.1000', 'frame.2'].forEach(Life.page.setHold)")
+            b.settle()
+            self.same(what + " with HTML", (b.js("document.images.length"), b.js("document.title")), (0, "script \u2013 life of a group"))
+            self.same(what + " with HTML is told", "Line " in b.js(FAULTS), True)
 
     # ---- How long it takes ----
 
@@ -495,7 +515,7 @@ def run(tests, program):
     for name in ("failed_member", "slip", "queue", "client"):
         tests.service(name, texts[name])
     for test in (tests.costs, tests.threads, tests.terms, tests.keys, tests.pointer, tests.fingers, tests.media, tests.spoken, tests.escaped,
-                 tests.without_fates, tests.without_service, tests.refused, tests.dropped):
+                 tests.without_fates, tests.without_service, tests.refused, tests.dropped, tests.markup):
         test(example)
     tests.options(texts["statuses"])
     tests.cut(example, texts["slip"])
