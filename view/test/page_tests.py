@@ -20,6 +20,7 @@ EXAMPLES = ("failed_member", "slip", "lost_return", "eight_lines", "queue", "ref
 TOP = os.path.dirname(os.path.dirname(os.path.dirname(os.path.abspath(__file__))))
 RANGE = "document.querySelector('#range b').textContent"
 HELD = "document.getElementById('detail').classList.contains('held')"
+LOADS = "fetch('data:,').then(() => true, () => false)"
 FAULTS = "document.getElementById('faults').hidden ? '' : document.getElementById('faults').textContent"
 
 
@@ -350,6 +351,7 @@ class Tests:
         self.same("a comment", b.js("document.getElementById('lede').textContent")[:len(wanted)], wanted)
         self.same("no element comes of it", b.js("document.getElementById('bold')"), None)
         self.same("a name", b.js("document.getElementById('name').textContent"), "a <b> & \\x3c \\n")
+        self.same("the page loads nothing", b.js(LOADS), False)
         self.same("nothing is missing", b.js(FAULTS), "")
         self.open("long", {**texts, "script": b"# " + b"word " * 1000 + b"\n" + texts["script"]})
         self.same("of a long comment what can be read", b.js("document.getElementById('lede').textContent.length"), 2000)
@@ -448,6 +450,7 @@ class Tests:
         drawn, wanted = json.loads(b.js("document.getElementById('plot').dataset.drawn")), expected(texts)
         self.same("dropped", [drawn["cells"], drawn["frames"], drawn["service"], b.js("document.getElementById('name').textContent"), b.js(FAULTS)],
                   [wanted["cells"], wanted["frames"], wanted["service"], "failed_member", ""])
+        self.same("nor does it load anything", b.js(LOADS), False)
         self.drop({"note.txt": b"nothing of a walk"})
         self.same("an unknown text is told", "Not one of the texts: note.txt" in b.js(FAULTS), True)
         self.drop({"many.vcat": b"lines 30000000\nticks 30000000\n"})
