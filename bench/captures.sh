@@ -13,6 +13,8 @@ for tool in tshark editcap text2pcap perl; do
 done
 work=$(mktemp -d) || exit 1
 trap 'rm -rf "$work"' EXIT
+trap 'exit 130' INT
+trap 'exit 143' TERM
 wrong=0
 complain() {
     echo "captures: $*" >&2

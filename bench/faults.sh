@@ -9,6 +9,8 @@ for name in vcat_walk vcat_run; do
 done
 work=$(mktemp -d) || exit 1
 trap 'rm -rf "$work"' EXIT
+trap 'exit 130' INT
+trap 'exit 143' TERM
 wrong=0
 : > "$work/empty"
 

@@ -9,6 +9,8 @@ done
 [ -x /usr/bin/time ] || { echo "limit: /usr/bin/time is missing" >&2; exit 1; }
 work=$(mktemp -d) || exit 1
 trap 'rm -rf "$work"' EXIT
+trap 'exit 130' INT
+trap 'exit 143' TERM
 wrong=0
 most=67108864
 head='lines 1

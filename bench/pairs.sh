@@ -8,6 +8,8 @@ turns=${1:-7}
 [ -x "$program" ] || { echo "bench: $program is missing: run rt ci first" >&2; exit 1; }
 work=$(mktemp -d) || exit 1
 trap 'rm -rf "$work"' EXIT
+trap 'exit 130' INT
+trap 'exit 143' TERM
 script() {
     awk -v lag="$1" -v first="$2" 'BEGIN {
         print "lines 64"

@@ -7,6 +7,8 @@ program=$PWD/crates/vcat_walk/out/vcat_walk
 kept=${1:-/dev/null}
 work=$(mktemp -d) || exit 1
 trap 'rm -rf "$work"' EXIT
+trap 'exit 130' INT
+trap 'exit 143' TERM
 
 # The file, the place and the octet of each change, drawn from a number.
 ls examples/*.vcat | awk -v count=10000 '

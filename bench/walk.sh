@@ -7,6 +7,8 @@ ticks=${1:-1000000}
 [ -x "$program" ] || { echo "bench: $program is missing: run rt ci first" >&2; exit 1; }
 work=$(mktemp -d) || exit 1
 trap 'rm -rf "$work"' EXIT
+trap 'exit 130' INT
+trap 'exit 143' TERM
 awk -v frames=256 -v octets=9600 -v ticks="$ticks" -f bench/frames.awk > "$work/script"
 start=$(date +%s%N)
 "$program" walk < "$work/script" > "$work/out" &
