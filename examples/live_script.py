@@ -10,7 +10,7 @@
 - Event lines make as many rounds as these ticks took, and land all items.
 
 Mostly a round makes a tick. At a lag that is hardly enough for the delays some don't; then PROGRAM WORDS, at first `./vcat walk`, is asked which
-is the least number of rounds that makes the ticks. A line that `live` refused has to be left out.
+is the least number of rounds that makes the ticks. A line that `live` refused has to be left out: it is told, with status 2.
 """
 import pathlib
 import subprocess
@@ -20,12 +20,17 @@ WALK = [str(pathlib.Path(__file__).resolve().parent.parent / "vcat"), "walk"]
 MOST = 1_000_000  # what an event line may say
 
 
+def refuse(why):
+    print(f"live_script: {why}", file=sys.stderr)
+    sys.exit(2)
+
+
 def lines_of(text):
-    """The words of each line that has some and is no comment."""
-    for line in text.split("\n"):
+    """The number and the words of each line that has some and is no comment."""
+    for number, line in enumerate(text.split("\n"), 1):
         words = [word for word in line.removesuffix("\r").split(" ") if word]
         if words and not words[0].startswith("#"):
-            yield words
+            yield number, words
 
 
 class Said:
@@ -33,11 +38,15 @@ class Said:
 
     def __init__(self, text):
         self.settings, self.failures, self.items = [], [], []
+        self.numbers, self.slips = {}, False
         self.passed, self.cut_at = 0, {}
         self.count = {"client": 0, "operator": 0}
         self.is_live = False
-        for words in lines_of(text):
-            self.line(*words)
+        for number, words in lines_of(text):
+            try:
+                self.line(*words)
+            except (ValueError, KeyError, IndexError):
+                refuse(f"line {number} isn't one that live takes: {' '.join(words)[:60]}")
         for line in list(self.cut_at):
             self.mend(line)
 
@@ -45,9 +54,12 @@ class Said:
         if word in ("pass", "cut", "mend", "frame", "add", "remove"):
             self.is_live = True
         elif self.is_live:
-            sys.exit(f"live_script: {word} stands behind a live line")
+            raise ValueError(word)
         if word == "pass":
             self.passed += int(rest[0])
+            ticks, _, _ = (self.numbers[word][0] for word in ("ticks", "delays", "lag"))
+            if int(rest[0]) < 1 or self.passed > ticks:
+                raise ValueError(self.passed)
         elif word == "cut":
             self.cut_at[int(rest[0])] = self.passed
         elif word == "mend":
@@ -57,6 +69,9 @@ class Said:
             self.count["client" if word == "frame" else "operator"] += 1
         else:
             self.settings.append(" ".join((word, *rest)))
+            if word not in ("container", "sink"):
+                self.numbers[word] = [int(part) for part in rest]
+                self.slips |= word == "fail" and self.numbers[word][3] > 0
 
     def mend(self, line):
         first = self.cut_at.pop(line)
@@ -71,12 +86,12 @@ class Said:
 
     def goes_by_the_clock(self):
         """Whether it is known that each round makes a tick: nothing slips, and the lag has a tick to spare."""
-        of = {line.split()[0]: line.split()[1:] for line in self.settings}
-        slips = [line for line in self.settings if line.split()[0] == "fail" and int(line.split()[4])]
-        return not slips and 16 * int(of["lag"][0]) >= 17 + max(map(int, of["delays"]))
+        return not self.slips and 16 * self.numbers["lag"][0] >= 17 + max(self.numbers["delays"])
 
     def ticks_of(self, rounds, walk):
-        done = subprocess.run(walk, input=self.script(rounds), stdout=subprocess.PIPE, text=True, check=True)
+        done = subprocess.run(walk, input=self.script(rounds), stdout=subprocess.PIPE, text=True)
+        if done.returncode:
+            refuse(f"{' '.join(walk)} refuses the script, with status {done.returncode}")
         return int(done.stdout.splitlines()[-1].split()[2])
 
     def rounds(self, walk):
