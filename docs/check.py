@@ -18,7 +18,7 @@ sys.path.insert(0, str(pathlib.Path(__file__).resolve().parent))
 import lists
 
 TOP = lists.TOP
-PAGES = ["README.md", "CHANGELOG.md", "bench/README.md"] + sorted(f"docs/{path.name}" for path in (TOP / "docs").glob("*.md"))
+PAGES = ["README.md", "CHANGELOG.md", "bench/README.md"] + sorted(f"docs/{path.name}" for path in (TOP / "docs").glob("[!.]*.md"))
 
 # The most words of a page, of README and docs together, and of a cell of a table.
 MOST = {"README.md": 1050, "docs/ARCHITECTURE.md": 1800, "docs/PROVED.md": 3400, "docs/DECISIONS.md": 3500, "docs/GLOSSARY.md": 1900, "docs/SCRIPT.md": 6000}
@@ -52,13 +52,13 @@ class Tree:
         self.calls, self.records, self.named, self.of_crate = {}, {}, {}, {}
         for path in TOP.rglob("*"):
             place = path.relative_to(TOP)
-            if place.parts[0] == ".git" or "out" in place.parts or path.is_dir():
+            if place.parts[0] == ".git" or "out" in place.parts or not path.is_file():
                 continue
             self.files.add(str(place))
             if path.suffix in (".rt", ".antt"):
-                self.read(place.parts[1], place.stem, path.read_text())
+                self.read(place.parts[1], place.stem, path.read_text("utf-8"))
             elif path.suffix not in (".png", ".pcap", ".md", ".svg"):
-                self.words.update(re.findall(r"[A-Za-z_]\w*", path.read_text(errors="replace")))
+                self.words.update(re.findall(r"[A-Za-z_]\w*", path.read_text("utf-8", "replace")))
         self.folders = {str(parent) for file in self.files for parent in pathlib.PurePath(file).parents}
         for place in self.files | self.folders:
             self.words.update(re.split(r"[./]", place))
@@ -124,7 +124,7 @@ def check_links(page, text):
         path = (TOP / page).parent / place if place else TOP / page
         if not path.exists():
             fault(page, f"the link {target} leads nowhere")
-        elif part and part not in anchors(path.read_text()):
+        elif part and part not in anchors(path.read_text("utf-8")):
             fault(page, f"the link {target} leads to no heading")
 
 
@@ -236,12 +236,12 @@ def main():
     check_sections()
     check_gate()
     for page, made in lists.PAGES.items():
-        if not (TOP / page).exists() or (TOP / page).read_text() != made():
+        if not (TOP / page).exists() or (TOP / page).read_text("utf-8") != made():
             fault(page, "not what docs/lists.py writes: run python3 docs/lists.py")
     tree = Tree()
     total = 0
     for page in PAGES:
-        text = (TOP / page).read_text()
+        text = (TOP / page).read_text("utf-8")
         check_links(page, text)
         check_shown(tree, page, text)
         check_spans(tree, page, prose(text))

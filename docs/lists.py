@@ -18,7 +18,7 @@ CUT = re.compile(r"(?:[:;]|,(?! (?:a|and|of|the|what|\w+ and) ))\s(?![^(]*\))")
 def head(path):
     """The lines of a file's head, without the mark of a comment."""
     lines = []
-    for line in path.read_text().splitlines():
+    for line in path.read_text("utf-8").splitlines():
         if not line.startswith("//!"):
             break
         lines.append(line[3:].strip())
@@ -42,7 +42,7 @@ def about(name):
 def sections():
     """The sections of crates.txt: a name, what it has, and its crates in order; and of each crate those that it uses."""
     found, uses = [], {}
-    for line in (TOP / "crates.txt").read_text().splitlines():
+    for line in (TOP / "crates.txt").read_text("utf-8").splitlines():
         title = re.match(r"# (\w+): (.*)", line)
         entry = re.match(r"(\w+):(.*)", line)
         if title:
@@ -74,4 +74,4 @@ PAGES = {"docs/CRATES.md": crates}
 
 if __name__ == "__main__":
     for page, made in PAGES.items():
-        (TOP / page).write_text(made())
+        (TOP / page).write_text(made(), "utf-8")
