@@ -7,6 +7,7 @@
 - Each path and each name in backticks is there. In `call` of `crate` the crate has the call, and in `call`: `clause` the call has the clause.
 - The gate's time and the number of edits are the same everywhere.
 - No page and no table cell is longer than it may be.
+- The page of view knows the first words of a script's lines that the program knows.
 """
 
 import pathlib
@@ -232,9 +233,19 @@ def check_sections():
         fault("crates.txt", f"{name} stands there alone, or in crates/ alone")
 
 
+def check_words():
+    """The page of view knows the words that may begin a line of a script, as the program does, and no others."""
+    program = (TOP / "crates/text_scripts/src/script_read/script_keyword.rt").read_text("utf-8")
+    page = (TOP / "view/texts.js").read_text("utf-8")
+    known = set(re.findall(r'word == b"(\w+)"', program))
+    for word in sorted(known ^ set(re.findall(r'"([a-z]+)"', page[page.index("const EVENTS"):page.index("function readScript")]))):
+        fault("view/texts.js", f"the word {word} stands there alone, or in the program alone")
+
+
 def main():
     check_sections()
     check_gate()
+    check_words()
     for page, made in lists.PAGES.items():
         if not (TOP / page).exists() or (TOP / page).read_text("utf-8") != made():
             fault(page, "not what docs/lists.py writes: run python3 docs/lists.py")
