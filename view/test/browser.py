@@ -98,8 +98,8 @@ class Browser:
 
     def errors(self):
         """What the page's script threw."""
-        return [e["params"]["exceptionDetails"]["exception"].get("description", "")[:300] for e in self.events
-                if e.get("method") == "Runtime.exceptionThrown"]
+        thrown = [e["params"]["exceptionDetails"] for e in self.events if e.get("method") == "Runtime.exceptionThrown"]
+        return [details.get("exception", {}).get("description", details["text"])[:300] for details in thrown]
 
     # ---- What is shown ----
 
