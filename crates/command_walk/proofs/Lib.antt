@@ -1,4 +1,5 @@
 pub mod H4TextAndPacketsLaws
+pub mod ServiceBesideFatesLaws
 pub mod TurnsLeftLaws
 pub mod WalkCaptureAndFrameSumLaws
 pub mod WalkCommandAndHeadlineLaws

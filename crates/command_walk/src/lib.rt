@@ -5,9 +5,10 @@
 //! answer a live text as it comes, and make loads. The program itself only makes its input and outputs and
 //! hands them over. Each command has a room: a module here for its words and its run, and one of specs/ for
 //! what it means. Begin with `walk_top`: it answers how the task ended that the words are, the headline, and
-//! the walk that was made. `starts_law` says when nothing is presumed of the headline, `capture_law` whose
-//! frames a capture has, `h4_law` which packets `decode` finds in what `h4` writes, and `noise_law`, `au4_law`
-//! and `channels_law` which frames and VC-4s are written. No clause here knows how a stream is scrambled.
+//! the walk that was made. `starts_law` says when nothing is presumed of the headline, `agree_law` that what
+//! `service` sums up are the numbers of `fates` and `walk`, `capture_law` whose frames a capture has, `h4_law`
+//! which packets `decode` finds in what `h4` writes, and `noise_law`, `au4_law` and `channels_law` which frames
+//! and VC-4s are written. No clause here knows how a stream is scrambled.
 #![tactic(auto)]
 
 mod command_of_words;
@@ -24,5 +25,6 @@ pub use commands::channels::channels_law;
 pub use commands::fates::starts_law;
 pub use commands::h4::h4_law;
 pub use commands::noise::noise_law;
+pub use commands::service::agree_law;
 pub use top_call::walk_top;
 pub use walk_end::WalkEnd;

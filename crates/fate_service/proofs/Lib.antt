@@ -1,10 +1,12 @@
 pub mod FrameFateBetweenOutagesLaws
 pub mod FrameTickAndRowOrderLaws
 pub mod LandedFrameTallyLaws
+pub mod LandedFrameTicksLaws
 pub mod MemberRunAndCarriedOctetLaws
 pub mod OutageAndDarkRowLaws
 pub mod OutageAndLostFrameLaws
 pub mod OutageAndSpoiledRowLaws
+pub mod QueueOfWaitingFramesLaws
 pub mod ServiceTextLaws
 pub mod SpoiledRowStateLaws
 pub mod StretchSumAndQueuePeakLaws

@@ -10,7 +10,7 @@
 //! - `frame_delays`: the delays that so many frames don't exceed.
 //! - `service_text`: the lines of the text.
 //! - `service_report`: what is found of a walk, and the text that is written of it.
-//! - `service_law`: the laws of the text: what adds up, and what an outage is.
+//! - `service_law`: the laws of the text: what adds up, what the queue counts, and what an outage is.
 #![tactic(auto)]
 
 mod frame_delays;

@@ -1,18 +1,19 @@
-//! The laws of the text that `service` writes: that its lines add up, that they agree with `fates` and `walk`,
-//! what an outage is, and that delays change none of it. There is no code here. Begin at `stretch_law`, whose
-//! `written` says which lines the text has.
+//! The laws of the text that `service` writes: that its lines add up, what the queue counts, that they agree with
+//! `fates` and `walk`, what an outage is, and that delays change none of it. There is no code here. Begin at
+//! `stretch_law`, whose `written` says which lines the text has.
 
 ghost use Rattle.std.specs.Prelude.{◌≡◌, ◌⊎◌, ℕ, ◌+◌, ◌-◌, ◌*◌, ◌<◌, ◌≤◌, min, true, false, List, ◌++◌};
 ghost use Rattle.std.specs.Prelude.{map, length, filter};
-ghost use Rattle.std.specs.Prelude.{Contains, IsSome, sum_by, slice_get, Some};
+ghost use Rattle.std.specs.Prelude.{All, Contains, IsSome, sum_by, slice_get, Some};
 ghost use Rattle.std.specs.List.{flat_map, range_with_len};
 ghost use Rattle.law_model.specs.frames.Piece.{Piece};
 ghost use Rattle.law_model.specs.frames.Segment.{StreamRow};
+ghost use Rattle.law_model.specs.Limits.{most_waiting};
 ghost use Rattle.law_model.specs.session.Counts.{Counts};
 ghost use Rattle.law_model.specs.session.Leg.{Leg};
 ghost use Rattle.law_model.specs.session.Plan.{greatest};
 ghost use Rattle.law_model.specs.session.Scenario.{scenario_by};
-ghost use Rattle.law_model.specs.session.ValidScript.{IsSound};
+ghost use Rattle.law_model.specs.session.ValidScript.{IsSound, IsWithin};
 ghost use Rattle.law_model.specs.source.Client.{width};
 ghost use Rattle.law_walk.specs.DeliveredFrames.{session_rows, delivered_of};
 ghost use Rattle.law_walk.specs.Promise.{session_pieces};
@@ -35,6 +36,7 @@ ghost use Rattle.fate_service.specs.Delays.{delays_of};
 ghost use Rattle.fate_service.specs.ServiceText.{members_text, delays_text, last_text, told_of, ends_of, service_text};
 ghost use Rattle.fate_service.specs.service_law.LinesAsNumbers.{members_in, OutageLine, outages_in, outage_line_text};
 ghost use Rattle.fate_service.specs.service_law.LinesAsNumbers.{StretchLine, stretches_in, stretch_line_text, all_of};
+ghost use Rattle.fate_service.specs.service_law.LinesAsNumbers.{queue_of, waiting_in};
 ghost use Rattle.fate_service.specs.service_law.LinesAsNumbers.{fates_line};
 ghost use Rattle.fate_service.specs.service_law.LineSums.{FollowOn, AreRuns, total_of, tally_of, stream_octets};
 ghost use Rattle.fate_service.specs.service_law.LineSums.{IsPeak, IsHighest};
@@ -85,6 +87,21 @@ pub fn stretch_law()
         (all_of leg s).peak }
     ensures peak { (queue : ℕ → ℕ) (first end : ℕ) → first < end →
         IsPeak queue first end (peak_in queue first end) }
+{}
+
+/// What the queue of a tick counts: the frames that wait once those have landed that land in it. It is these that
+/// are compared with 256 when the next one comes, so there are no more. A stretch has the greatest queue of its
+/// ticks; and the ticks that are told are those that were made, and one more if a frame has landed before that.
+pub fn queue_law()
+    ensures waits { (leg : Leg) (s : Counts) (t : ℕ) → IsSound leg → IsWalked leg s → t ≤ s.ticks →
+        queue_of leg s t ≡ length (waiting_in leg s t) }
+    ensures few { (leg : Leg) (s : Counts) (t : ℕ) → IsSound leg → IsWalked leg s → t ≤ s.ticks →
+        queue_of leg s t ≤ most_waiting }
+    ensures told { (leg : Leg) (s : Counts) → IsSound leg → IsWalked leg s →
+        IsWithin s.ticks (s.ticks + 1) (told_of leg s) }
+    ensures greatest { (leg : Leg) (s : Counts) (interval : ℕ) → 1 ≤ interval →
+        All (λ (line : StretchLine). IsPeak (queue_of leg s) line.first line.end line.counts.peak)
+        (stretches_in leg s interval) }
 {}
 
 /// The last line agrees with other texts of the script. That of `fates` is told by it; where `starts` is true,

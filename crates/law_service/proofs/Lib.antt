@@ -5,4 +5,5 @@ pub mod FrameEndAndBucketLaws
 mod FrameFateUnderMoreRowsLaws
 pub mod QuietStepAndKeptStatusLaws
 pub mod RepeatedTurnAndDelayLaws
+pub mod WorkedPartedLegLaws
 pub mod WorkedServiceLegLaws

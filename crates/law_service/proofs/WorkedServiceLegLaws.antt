@@ -321,6 +321,7 @@ costly-fails : FailsBy (windows_of costly_leg 1) costly_window 536 1400
 costly-fails = record {
   stands = (0, omega arith, refl);
   late = omega arith;
+  soon = omega arith;
   alone = All-cons IsAlone costly_window [] (inl refl) (All-nil IsAlone);
 }
 

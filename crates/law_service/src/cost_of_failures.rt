@@ -16,9 +16,9 @@ ghost use Rattle.law_service.specs.cost_of_failures.Cost.{IsSparedFor, SaysOf, r
 ghost use Rattle.law_service.specs.cost_of_failures.Cost.{FailTogether, first_hit};
 ghost use Rattle.law_service.specs.cost_of_failures.Cost.{governing_table, table_at, HasSq, Spoils, IsSpoiled};
 ghost use Rattle.law_service.specs.cost_of_failures.Cost.{spoiled_rows};
-ghost use Rattle.law_service.specs.cost_of_failures.CostInNumbers.{WereUsed, IsHit};
+ghost use Rattle.law_service.specs.cost_of_failures.CostInNumbers.{WereUsed, IsHit, AreTwoRuns};
 ghost use Rattle.law_service.specs.cost_of_failures.Settled.{IsSettled, MakesNoChange};
-ghost use Rattle.law_service.specs.cost_of_failures.WorkedCosts.{costly_leg, dearest_leg, used_in_rows};
+ghost use Rattle.law_service.specs.cost_of_failures.WorkedCosts.{costly_leg, dearest_leg, parted_leg, used_in_rows};
 
 /// Which rows before a horizon failures cost, if each line fails once at most, one line doesn't fail, and no
 /// return packet is lost and no change made meanwhile: however long a line fails, none but those of a round of
@@ -86,7 +86,7 @@ pub fn exact_law()
 /// The rows in numbers. A row isn't whole only if the failure of a line that has an SQ spoils it, and it is
 /// before the one row at which the source is told; and with `sink stops` just if so, if each line that has an
 /// SQ and fails was in use before, with nothing else said of it. Then lines that fail together spoil the first
-/// ones of the rows that they can spoil, which are two runs at most.
+/// ones of the rows that they can spoil, and so two runs of rows at most.
 pub fn closed_law()
     ensures only { (leg : Leg) (from horizon t : ℕ) → IsSound leg → FailsOnce leg from horizon →
         24 ≤ t → from ≤ t → t < horizon →
@@ -102,6 +102,9 @@ pub fn closed_law()
         FailsBy (windows_of leg line) window begins horizon → Spoils window sooner →
         24 ≤ sooner → begins ≤ sooner → sooner ≤ t →
         is_whole_row (scenario_by leg) (session_of leg) sooner ≡ false }
+    ensures runs { (leg : Leg) (begins ends horizon : ℕ) → IsSound leg →
+        leg.config.options.infers ≡ false → FailTogether leg begins ends horizon →
+        WereUsed leg begins horizon → AreTwoRuns leg begins horizon }
 {}
 
 /// No table counts a change as long as no command is carried out and no ADD lines are exchanged; and so it
@@ -116,13 +119,18 @@ pub fn settled_law()
         ≡ (table_at leg from).count }
 {}
 
-/// A leg that meets what is asked above: a line fails for 489 containers, and the other one doesn't.
+/// A leg that meets what is asked above: a line fails for 489 containers, and the other one doesn't. And one of which
+/// another line fails behind the horizon, which counts as a line that stays clear.
 pub fn met_law()
     ensures sound { IsSound costly_leg }
     ensures settled { IsSettled costly_leg 536 1400 }
     ensures together { FailTogether costly_leg 536 1025 1400 }
     ensures has { HasSq (table_at costly_leg 536) 1 }
     ensures were { WereUsed costly_leg 536 1400 }
+    ensures parted_sound { IsSound parted_leg }
+    ensures parted_settled { IsSettled parted_leg 1000 4000 }
+    ensures parted_together { FailTogether parted_leg 1000 1024 4000 }
+    ensures parted_were { WereUsed parted_leg 1000 4000 }
 {}
 
 /// That leg, computed: neither row can be sooner. Row 823 isn't whole, row 824 is, and the line doesn't carry

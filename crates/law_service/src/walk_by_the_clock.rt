@@ -39,8 +39,8 @@ pub fn clock_law()
 {}
 
 /// Worked walks by the clock, computed. Of two lines the slower one has a delay of two ticks: 41 ticks end with
-/// the 43rd round. With a lag that is the least that it may be, ticks stall once for each return packet that a
-/// decision step takes: 41 ticks of a line without delay take 43 rounds, and not 41.
+/// the 43rd round. Where 16 times the lag is just 16 more than the greatest delay, ticks stall once for each return
+/// packet that a decision step takes: 41 ticks of a line without delay, with a lag of 1, take 43 rounds, and not 41.
 pub fn worked_clock_law()
     ensures keeps { KeepsTime 2 0 two_lines }
     ensures rounds { told_after two_lines (2 ∷ 3 ∷ 5 ∷ 6 ∷ 8 ∷ 42 ∷ 43 ∷ [])

@@ -1,14 +1,15 @@
 //! `service`: a script's walk is made, and what it was worth to its client is written: the members that carried
 //! payload, the outages with what they cost, and throughput, capacity, queue and delay by stretches of ticks.
-ghost use Rattle.std.specs.Prelude.{◌≡◌, map, string_bytes};
+ghost use Rattle.std.specs.Prelude.{◌≡◌, ◌≤◌, ℕ, List, length, map, string_bytes};
 ghost use Rattle.law_model.specs.session.ValidScript.{IsWithin};
 ghost use Rattle.command_words.specs.CommandLineWords.{number_in};
-ghost use Rattle.command_parts.specs.Task.{reads};
+ghost use Rattle.command_parts.specs.Task.{reads, writes};
 ghost use Rattle.command_parts.specs.Ends.{lent};
 ghost use Rattle.command_parts.specs.Gives.{GivesAlone};
-ghost use Rattle.command_walk.specs.commands.Service.{interval_of, service_words, service_answer};
+ghost use Rattle.command_walk.specs.commands.Service.{interval_of, service_words, service_answer, Agrees};
 ghost use Rattle.command_walk.specs.HandedWalk.{HandsScript};
 ghost use Rattle.law_model.specs.Common.{most_ticks};
+ghost use Rattle.law_model.specs.Limits.{longest_input};
 
 use crate::command_of_words::WalkCommand;
 use crate::turns::fate_turns::see_script;
@@ -66,3 +67,11 @@ pub fn service<S: ByteSource, K: ByteSink>(
         written,
     })
 }
+
+/// Of each text of at most 67,108,864 octets: what `service` writes of it, whatever the interval, agrees with what
+/// `fates` and `walk` write. The numbers of its last line make the last line of `fates`; and if that ends in
+/// `starts true`, as many frames are got, with as many octets, as `walk` writes got lines of.
+pub fn agree_law()
+    ensures { (interval : ℕ) (text service : List ℕ) → length text ≤ longest_input →
+        service_answer interval text ≡ writes service → Agrees text service }
+{}

@@ -1,8 +1,12 @@
 -- The lines that `service` writes of a walk, as numbers.
-use Rattle.std.specs.Prelude.{ℕ, List, [], ◌∷◌, ◌++◌, map, codes, decimal, ◌-◌, Option}
+use Rattle.std.specs.Prelude.{ℕ, List, [], ◌∷◌, ◌++◌, map, fold, codes, decimal, ◌-◌, Option}
 use Rattle.law_model.specs.session.Leg.{Leg}
 use Rattle.law_model.specs.session.Counts.{Counts}
+use Rattle.law_model.specs.session.Scenario.{scenario_by, frames_at}
+use Rattle.law_model.specs.source.Client.{offered, stream_before}
 use Rattle.law_walk.specs.DeliveredFrames.{session_rows}
+use Rattle.law_walk.specs.LandedOfLeg.{landed_scenario}
+use Rattle.law_walk.specs.Walk.{session_of}
 use Rattle.fate_engine.specs.declared.fate_law.Cause.{Cause}
 use Rattle.fate_engine.specs.fate_law.SessionFates.{ended_of}
 use Rattle.fate_engine.specs.fate_law.FateText.{truth_text}
@@ -15,7 +19,7 @@ use Rattle.fate_service.specs.declared.service_text.Ends.{Ends}
 use Rattle.fate_service.specs.FrameColumns.{carried_of}
 use Rattle.fate_service.specs.RowStates.{states_of}
 use Rattle.fate_service.specs.Outages.{outages_of, losses, next_first}
-use Rattle.fate_service.specs.Stretches.{Known, stretch_of, spans_of}
+use Rattle.fate_service.specs.Stretches.{Known, queue_in, stretch_of, spans_of}
 use Rattle.fate_service.specs.MemberRuns.{runs_of}
 use Rattle.fate_service.specs.ServiceText.{outage_text, stretch_text, widths_of, known_of, told_of}
 
@@ -62,6 +66,16 @@ stretches_in leg s interval = map (stretch_line (known_of leg s)) (spans_of inte
 
 abbrev pub stretch_line_text : StretchLine → List ℕ
 stretch_line_text line = stretch_text line.first line.end line.counts
+
+-- ---- the queue in a tick
+abbrev pub queue_of : Leg → Counts → ℕ → ℕ
+queue_of leg s t =
+    let known = known_of leg s in queue_in known.accepted known.sent known.place known.ticks t
+
+-- the frames that wait once those have landed that land in it, of all that have: the next one finds these
+abbrev pub waiting_in : Leg → Counts → ℕ → List (List ℕ)
+waiting_in leg s t =
+    (fold offered (stream_before (scenario_by leg) (session_of leg) t) (frames_at (landed_scenario leg s) t)).waiting
 
 -- ---- all ticks, in the last line
 abbrev pub all_of : Leg → Counts → Stretch

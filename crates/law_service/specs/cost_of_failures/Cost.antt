@@ -18,10 +18,12 @@ windows_of leg line = slice_index_or leg.config.windows line []
 abbrev pub StaysClear : List Window → ℕ → ℕ → Type 0
 StaysClear windows from horizon = IsClear windows (from - 39) horizon
 
--- it fails once, by this window, whatever that slips: each other window is over before, or comes after
+-- it fails once, by this window, whatever that slips: it begins before the horizon, and each other window is over
+-- before, or comes after
 pub record FailsBy (windows : List Window) (window : Window) (from horizon : ℕ) : Type 0 where
   pub stands : Contains windows window
   pub late : from ≤ window.first
+  pub soon : window.first < horizon
   pub alone : All (λ (other : Window). (other ≡ window) ⊎ ((horizon ≤ other.first) ⊎ (other.end ≤ from - 39))) windows
 
 -- ---- all lines

@@ -1,6 +1,6 @@
 -- The rows that failures spoil, in numbers, if the lines that fail were in use before.
-use Rattle.std.specs.Prelude.{◌≡◌, ℕ, ◌+◌, ◌-◌, ◌*◌, ◌/◌, ◌%◌, ◌<◌, ◌≤◌, slice_get, Some}
-use Rattle.law_model.specs.Common.{Leg, scenario_by, member_of}
+use Rattle.std.specs.Prelude.{◌≡◌, ◌⊎◌, ◌↔◌, ℕ, ◌+◌, ◌-◌, ◌*◌, ◌/◌, ◌%◌, ◌<◌, ◌≤◌, false, slice_get, Some}
+use Rattle.law_model.specs.Common.{Leg, scenario_by, member_of, is_whole_row}
 use Rattle.law_model.specs.declared.window_types.Window.{Window}
 use Rattle.law_model.specs.declared.lcas_states.Standing.TheVariants.{Norm as normal}
 use Rattle.law_session.specs.Feedback.{lines_of}
@@ -38,3 +38,14 @@ pub record IsHit (leg : Leg) (from horizon t : ℕ) : Type 0 where
   pub fails : FailsBy (windows_of leg line) window from horizon
   pub spoils : Spoils window t
   pub untold : t < 16 * (first_told leg window sq + leg.config.lag) + 24
+
+-- a run of rows has row t: from its first number on to below the second one
+abbrev pub IsOf : ℕ × ℕ → ℕ → Type 0
+IsOf run t = (run.0 ≤ t) × (t < run.1)
+
+-- the rows from one on up to a horizon that aren't whole are those of two runs, of which any may have no row
+pub record AreTwoRuns (leg : Leg) (from horizon : ℕ) : Type 0 where
+  pub one : ℕ × ℕ
+  pub other : ℕ × ℕ
+  pub rows : (t : ℕ) → from ≤ t → t < horizon →
+      (is_whole_row (scenario_by leg) (session_of leg) t ≡ false) ↔ (IsOf one t ⊎ IsOf other t)

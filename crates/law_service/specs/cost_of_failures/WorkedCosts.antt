@@ -31,6 +31,24 @@ dearest_leg = record {
   tells = [];
 }
 
+-- of three lines, containers 1000 to 1023 of line 1 fail and, behind a horizon of 4,000, containers 5000 to 5023 of
+-- line 2
+abbrev pub sooner_window : Window
+sooner_window = record { first = 1000; «end» = 1024; slip = 0 }
+
+abbrev pub later_window : Window
+later_window = record { first = 5000; «end» = 5024; slip = 0 }
+
+abbrev pub parted_windows : List (List Window)
+parted_windows = [] ∷ (sooner_window ∷ []) ∷ (later_window ∷ []) ∷ []
+
+abbrev pub parted_leg : Leg
+parted_leg = record {
+  config = plain parted_windows 4 2 5100;
+  items = item 0 (Add 0) ∷ item 0 (Add 1) ∷ item 0 (Add 2) ∷ [];
+  tells = [];
+}
+
 -- the lines that carry payload in some rows
 abbrev pub used_in_rows : Leg → List ℕ → List (List ℕ)
 used_in_rows leg rows = map (λ t. active (governing_table leg t)) rows

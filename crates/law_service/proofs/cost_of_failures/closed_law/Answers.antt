@@ -1,5 +1,5 @@
 -- The rows that failures spoil, in numbers.
-use Rattle.law_service.proofs.FailureCostInRowsLaws.{cost-hit, cost-closed, cost-first}
+use Rattle.law_service.proofs.FailureCostInRowsLaws.{cost-hit, cost-closed, cost-first, cost-runs}
 use Rattle.law_service.proofs.cost_of_failures.closed_law.Goals as goal
 
 pub returns : goal.returns
@@ -8,4 +8,5 @@ returns c = record {
   rows = λ leg from horizon t sound stops once were late low high.
       cost-closed leg sound from horizon once t stops were late low high;
   first = cost-first;
+  runs = cost-runs;
 }
