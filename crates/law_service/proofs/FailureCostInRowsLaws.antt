@@ -1,5 +1,5 @@
 -- What a failure costs in rows: which rows are whole or spoiled by what its windows damage, and how many.
-use Rattle.std.proofs.Common.{◌≡◌, ◌↔◌, not, ℕ, zero, suc, ◌+◌, ◌-◌, ◌*◌, ◌/◌, ◌<◌, ◌≤◌, nat_lt, ◌&&◌, min, max, Bool, true}
+use Rattle.std.proofs.Common.{◌≡◌, ◌↔◌, not, ℕ, zero, suc, ◌+◌, ◌-◌, ◌*◌, ◌/◌, ◌<◌, ◌≤◌, nat_lt, ◌&&◌, min, Bool, true}
 use Rattle.std.proofs.Common.{false, if◌then◌else◌, inl, inr, List, [], ◌∷◌, map, filter, length, slice_get, Option}
 use Rattle.std.proofs.Common.{Some, refl, sym, ◌∙◌, ap, ap₂, subst, arith}
 use Rattle.std.specs.List.{list_all, range_with_len}
@@ -32,7 +32,7 @@ use Rattle.law_service.proofs.QuietStepAndKeptStatusLaws.{count-before}
 use Rattle.law_service.proofs.FailingLineArrivalAndUseLaws.{window-some, behind-clear, spoils-or, before-clear}
 use Rattle.law_service.proofs.FailingLineArrivalAndUseLaws.{spoils-arrives, spared-arrives, read-up, up-behind, latest}
 use Rattle.law_service.proofs.FailingLineArrivalAndUseLaws.{next_in, in-turn, stays-normal, soonest}
-use Rattle.law_service.specs.cost_of_failures.CostInNumbers.{first_told, WasUsed, WereUsed, IsHit, IsOf, AreTwoRuns}
+use Rattle.law_service.specs.cost_of_failures.CostInNumbers.{first_told, WasUsed, WereUsed, IsHit}
 
 -- ---- What a failure costs: which rows are whole, and how a line stands, by what its windows damage.
 -- ---- lists
@@ -577,6 +577,32 @@ module _ (leg : Leg) (sound : IsSound leg) (from horizon : ℕ) (once : FailsOnc
       let there : Has (table_before scenario-cost cells-cost (suc j - first-cost + first-cost)).order sq line normal = stays in
       rw place at there
 
+  -- one whose failure no status says is in use all the time
+  pub cost-used : (line sq t : ℕ) →
+      slice_get (lines_of (table_before scenario-cost cells-cost first-cost).order) sq ≡ Some line →
+      WasUsed leg from sq line →
+      ((k : ℕ) → first-cost ≤ k → 16 * (k + leg.config.lag) + 24 < horizon → SaysOf leg sq k →
+      is_line_up scenario-cost line k ≡ true) → 24 ≤ t → from ≤ t → t < horizon →
+      Has (table_of scenario-cost cells-cost ((t - 24) / 16)).order sq line normal
+  cost-used line sq t has used up late low high =
+      let j : ℕ = (t - 24) / 16 in
+      let lag = sound.network.lag.0 in
+      let small = few-before leg sound from horizon once first-cost sq line has in
+      let quiet = is-quiet leg sound from horizon once j (omega arith) in
+      let place : suc j - first-cost + first-cost ≡ suc j = omega arith in
+      let stays = stays-normal scenario-cost cells-cost (session-law scenario-cost (packets scenario-cost) (omega arith))
+      (omega arith) first-cost sq line (suc j - first-cost) small used.stands
+      (λ k start before. once.still k start (omega arith)
+      ∙ sym (count-before scenario-cost cells-cost first-cost j quiet k start (omega arith)))
+      (λ k start before group. elim (cases_lt k first-cost) [
+        | inl old ↦ used.up k old start
+        | inr new ↦
+            (up k new (omega arith) (sym group), has-word leg sound from horizon once sq line k new (omega arith) has)
+      ]) in
+      let there : Has (table_before scenario-cost cells-cost (suc j - first-cost + first-cost)).order sq line normal =
+      stays in
+      rw place at there
+
   pub cost-hit : (t : ℕ) → 24 ≤ t → from ≤ t → t < horizon → is_whole_row scenario-cost cells-cost t ≡ false →
       IsHit leg from horizon t
   cost-hit t late low high broken =
@@ -656,106 +682,3 @@ cost-first leg begins ends horizon line t sooner window sound stops together wer
       spoils = same-spoils window hit.window sooner (one.0 ∙ sym other.0) (one.1 ∙ sym other.1) spoils;
       untold = omega arith;
     })
-
--- ---- two runs at most
--- of some numbers in turn those that fail a test are the first ones
-record AreFirst (test : ℕ → Bool) (from end : ℕ) : Type 0 where
-  pub upto : ℕ
-  pub before : (t : ℕ) → from ≤ t → t < end → test t ≡ false → t < upto
-  pub fails : (t : ℕ) → from ≤ t → t < end → t < upto → test t ≡ false
-
--- if with each that fails the sooner ones do
-first-ones : (test : ℕ → Bool) (from n : ℕ) →
-    ((t sooner : ℕ) → t < from + n → from ≤ sooner → sooner ≤ t → test t ≡ false → test sooner ≡ false) →
-    AreFirst test from (from + n)
-first-ones test from zero sooner = record {
-  upto = from;
-  before = λ t low high e. absurd (omega arith);
-  fails = λ t low high e. absurd (omega arith);
-}
-first-ones test from (suc n) sooner =
-    elim (cases_Bool (test from)) [
-      | inl passes ↦ record {
-          upto = from;
-          before = λ t low high e.
-              absurd (let wrong = sooner t from (omega arith) (omega arith) low e in cc);
-          fails = λ t low high e. absurd (omega arith);
-        }
-      | inr broken ↦
-          let rest = first-ones test (from + 1) n
-          (λ t s high low before e. sooner t s (omega arith) (omega arith) before e) in
-          record {
-            upto = max (from + 1) rest.upto;
-            before = λ t low high e. elim (cases_lt t (from + 1)) [
-              | inl here ↦ omega arith
-              | inr later ↦ (let most = rest.before t later (omega arith) e in omega arith)
-            ];
-            fails = λ t low high until. elim (cases_lt t (from + 1)) [
-              | inl here ↦ subst (λ n. test n ≡ false) (let e : from ≡ t = omega arith in e) broken
-              | inr later ↦ rest.fails t later (omega arith) (omega arith)
-            ];
-          }
-    ]
-
-module _ (leg : Leg) (begins ends horizon : ℕ) (sound : IsSound leg) (stops : leg.config.options.infers ≡ false)
-    (together : FailTogether leg begins ends horizon) (were : WereUsed leg begins horizon) where
-  abbrev whole-at : ℕ → Bool
-  whole-at t = is_whole_row (scenario_by leg) (session_of leg) t
-
-  -- of rows that the failure can spoil it spoils the first ones
-  first-rows : (from end : ℕ) → 24 ≤ from → begins ≤ from → end ≤ horizon →
-      ((window : Window) → window.first ≡ begins → window.end ≡ ends → (t : ℕ) → from ≤ t → t < end →
-      Spoils window t) → AreFirst whole-at from (from + (end - from))
-  first-rows from end late low within can =
-      first-ones whole-at from (end - from)
-      (λ t sooner high start before broken.
-      let hit = cost-hit leg sound begins horizon together.fails t (omega arith) (omega arith) (omega arith) broken in
-      let same = together.same hit.line hit.window hit.fails in
-      cost-first leg begins ends horizon hit.line t sooner hit.window sound stops together were broken (omega arith)
-      hit.fails (can hit.window same.0 same.1 sooner start (omega arith)) (omega arith) (omega arith) before)
-
-  pub cost-runs : AreTwoRuns leg begins horizon
-  cost-runs =
-      let near : ℕ = max begins 24 in
-      let near_end : ℕ = min horizon (16 * end_packet ends + 2) in
-      let far : ℕ = 16 * first_hit begins + 24 in
-      let far_end : ℕ = min horizon (16 * end_packet ends + 24) in
-      let sooner = first-rows near near_end (omega arith) (omega arith) (omega arith)
-      (λ window first last t low high. inl (omega arith, omega arith)) in
-      let later = first-rows far far_end (omega arith) (omega arith) (omega arith)
-      (λ window first last t low high. inr (omega arith, omega arith)) in
-      record {
-        one = (near, min sooner.upto near_end);
-        other = (far, min later.upto far_end);
-        rows = λ t low high. (
-          λ broken. elim (cases_lt t 24) [
-              | inl early ↦ absurd (both_ways (whole-at t) broken (rw (lt-ltb t 24 early) refl))
-              | inr late ↦
-                  let hit = cost-hit leg sound begins horizon together.fails t late low high broken in
-                  let same = together.same hit.line hit.window hit.fails in
-                  let first = same.0 in
-                  let last = same.1 in
-                  elim hit.spoils [
-                    | inl by_container ↦
-                        let under = by_container.1 in
-                        let upto = sooner.before t (omega arith) (omega arith) broken in
-                        inl (omega arith, omega arith)
-                    | inr by_packet ↦
-                        let from = by_packet.0 in
-                        let under = by_packet.1 in
-                        let upto = later.before t (omega arith) (omega arith) broken in
-                        inr (omega arith, omega arith)
-                  ]
-            ],
-          λ either. elim either [
-              | inl of_one ↦
-                  let from = of_one.0 in
-                  let under = of_one.1 in
-                  sooner.fails t (omega arith) (omega arith) (omega arith)
-              | inr of_other ↦
-                  let from = of_other.0 in
-                  let under = of_other.1 in
-                  later.fails t (omega arith) (omega arith) (omega arith)
-            ],
-        );
-      }

@@ -5,5 +5,6 @@ pub mod FrameEndAndBucketLaws
 mod FrameFateUnderMoreRowsLaws
 pub mod QuietStepAndKeptStatusLaws
 pub mod RepeatedTurnAndDelayLaws
+pub mod SpoiledRunsOfRowsLaws
 pub mod WorkedPartedLegLaws
 pub mod WorkedServiceLegLaws

@@ -16,7 +16,7 @@ ghost use Rattle.law_service.specs.cost_of_failures.Cost.{IsSparedFor, SaysOf, r
 ghost use Rattle.law_service.specs.cost_of_failures.Cost.{FailTogether, first_hit};
 ghost use Rattle.law_service.specs.cost_of_failures.Cost.{governing_table, table_at, HasSq, Spoils, IsSpoiled};
 ghost use Rattle.law_service.specs.cost_of_failures.Cost.{spoiled_rows};
-ghost use Rattle.law_service.specs.cost_of_failures.CostInNumbers.{WereUsed, IsHit, AreTwoRuns};
+ghost use Rattle.law_service.specs.cost_of_failures.CostInNumbers.{WasUsed, WereUsed, IsHit, AreTwoRuns};
 ghost use Rattle.law_service.specs.cost_of_failures.Settled.{IsSettled, MakesNoChange};
 ghost use Rattle.law_service.specs.cost_of_failures.WorkedCosts.{costly_leg, dearest_leg, parted_leg, used_in_rows};
 
@@ -86,7 +86,8 @@ pub fn exact_law()
 /// The rows in numbers. A row isn't whole only if the failure of a line that has an SQ spoils it, and it is
 /// before the one row at which the source is told; and with `sink stops` just if so, if each line that has an
 /// SQ and fails was in use before, with nothing else said of it. Then lines that fail together spoil the first
-/// ones of the rows that they can spoil, and so two runs of rows at most.
+/// ones of the rows that they can spoil, and so two runs of rows at most. And a line that was in use before, and is up
+/// at each packet that says a status of its SQ, is in use all the time: nobody notices its failure.
 pub fn closed_law()
     ensures only { (leg : Leg) (from horizon t : ℕ) → IsSound leg → FailsOnce leg from horizon →
         24 ≤ t → from ≤ t → t < horizon →
@@ -105,6 +106,12 @@ pub fn closed_law()
     ensures runs { (leg : Leg) (begins ends horizon : ℕ) → IsSound leg →
         leg.config.options.infers ≡ false → FailTogether leg begins ends horizon →
         WereUsed leg begins horizon → AreTwoRuns leg begins horizon }
+    ensures used { (leg : Leg) (from horizon sq line t : ℕ) → IsSound leg →
+        FailsOnce leg from horizon → slice_get (lines_of (table_at leg from).order) sq ≡ Some line →
+        WasUsed leg from sq line →
+        ((k : ℕ) → first_hit from ≤ k → 16 * (k + leg.config.lag) + 24 < horizon → SaysOf leg sq k →
+        is_line_up (scenario_by leg) line k ≡ true) → 24 ≤ t → from ≤ t → t < horizon →
+        slice_get (governing_table leg t).order sq ≡ Some (member_of line Norm) }
 {}
 
 /// No table counts a change as long as no command is carried out and no ADD lines are exchanged; and so it
