@@ -1,9 +1,9 @@
 -- The rows in which a failed line carries no payload or carries it again; one that carries was read as a member.
 use Rattle.std.proofs.Common.{◌≡◌, ◌⊎◌, ℕ, zero, suc, ◌+◌, ◌-◌, ◌*◌, ◌/◌, ◌<◌, ◌≤◌, nat_lt, true, false, if◌then◌else◌}
 use Rattle.std.proofs.Common.{inl, inr, List, [], ◌∷◌, map, filter, Option, Some, None, slice_get, refl, sym, ◌∙◌, ap}
-use Rattle.std.proofs.Common.{subst, arith, ◌==◌, Bool, Contains, slice_index_or, ◌↔◌, max}
+use Rattle.std.proofs.Common.{subst, arith, ◌==◌, Bool, Contains, slice_index_or, ◌↔◌, max, min, length, not}
 use Rattle.std.proofs.lemmas.Bool.{both_ways, cases_lt, false_from_ne_true, ltb-false, le-ltb, eq-eqb, or_left}
-use Rattle.std.proofs.lemmas.Bool.{or_right}
+use Rattle.std.proofs.lemmas.Bool.{or_right, cases_Bool, not-true, not_from_false}
 use Rattle.std.proofs.lemmas.Option.{none-some, same_Some}
 use Rattle.law_model.specs.declared.lcas_states.Command.TheVariants.{Remove as remove}
 use Rattle.law_model.specs.declared.lcas_states.Member.{Member}
@@ -18,7 +18,7 @@ use Rattle.law_session.specs.ReturnedCells.{AreWhole}
 use Rattle.law_session.specs.LineInUse.{IsAdded, IsInUse, known_by}
 use Rattle.law_session.specs.TimedMembers.{Carries, HasFailed, IsNotRemoved, IsNotRestored, IsRound, IsToldFailed}
 use Rattle.law_session.specs.TimedMembers.{IsUpWithWord, restored_by, AreDamaged, IsDamagedOften, IsWholeBut}
-use Rattle.law_session.specs.TimedMembers.{MissesFew}
+use Rattle.law_session.specs.TimedMembers.{MissesFew, unread_behind}
 use Rattle.law_session.proofs.UpLineAndReadablePacketLaws.{readable-whole, up-is}
 use Rattle.law_session.proofs.ReturnCellAndLineWordLaws.{IsSession, session-law, word-here, rises, word-of}
 use Rattle.law_session.proofs.ReturnCellAndLineWordLaws.{session-kept}
@@ -29,7 +29,7 @@ use Rattle.law_session.proofs.FreshStatusLaws.{line-inside, acts_on, told_at-kep
 use Rattle.law_session.proofs.FreshStatusLaws.{told-then, told-was}
 use Rattle.law_session.proofs.HeldLineAndStatusRoundLaws.{not_failed, told-used, never-used, round-out, round-used}
 use Rattle.law_session.proofs.HeldLineAndStatusRoundLaws.{last-since}
-use Rattle.std.specs.List.{list_any}
+use Rattle.std.specs.List.{list_any, range_with_len}
 use Rattle.law_model.proofs.ListLaws.{contains-parts}
 
 -- ---- A failure in rows: from which one on its line carries nothing, and from which one on it carries payload again.
@@ -462,6 +462,43 @@ window-spoils scenario line first end r last k whole fails some later inside =
           fails (max first (16 * k)) (omega arith) (omega arith)
           ((readable-whole carries k).0 reads (max first (16 * k)) (omega arith) (omega arith))),
     )
+
+-- how many numbers in turn pass a test that just those from one on and before another pass
+count-between : (test : ℕ → Bool) (n a low high : ℕ) →
+    ((k : ℕ) → a ≤ k → k < a + n → (test k ≡ true) ↔ ((low ≤ k) × (k < high))) →
+    length (filter test (range_with_len a n)) ≡ min high (a + n) - max low a
+count-between test zero a low high is = omega arith
+count-between test (suc n) a low high is =
+    let rest = count-between test n (a + 1) low high (λ k from below. is k (omega arith) (omega arith)) in
+    elim (cases_Bool (test a)) [
+      | inl passes ↦
+          let here = (is a (omega arith) (omega arith)).0 passes in
+          rw passes (omega (arith, rest, here.0, here.1))
+      | inr fails ↦
+          rw fails (elim (cases_lt a low) [
+            | inl before ↦ omega (arith, rest)
+            | inr from ↦ elim (cases_lt a high) [
+              | inl below ↦ absurd (both_ways (test a) fails ((is a (omega arith) (omega arith)).1 (from, below)))
+              | inr behind ↦ omega (arith, rest)
+            ]
+          ])
+    ]
+
+pub window-count : (scenario : Scenario) (line first end r last : ℕ) → IsWholeBut scenario line r last first end →
+    AreDamaged scenario line first end → first < end → 16 * r + 24 ≤ first → end ≤ 16 * last + 16 →
+    unread_behind scenario line r last ≡ (end + 15) / 16 - (first - 8) / 16
+window-count scenario line first end r last whole fails some past before =
+    let spoils = window-spoils scenario line first end r last in
+    let counted = count-between (λ k. not (is_read scenario line k)) (last - r) (r + 1) ((first - 8) / 16)
+    ((end + 15) / 16) (λ k from below. (
+      λ missed.
+          let hit = (spoils k whole fails some (omega arith) (omega arith)).0 (not-true (is_read scenario line k) missed) in
+          (omega (arith, hit.0), omega (arith, hit.1)),
+      λ hit.
+          not_from_false (is_read scenario line k)
+          ((spoils k whole fails some (omega arith) (omega arith)).1 (omega (arith, hit.0), omega (arith, hit.1))),
+    )) in
+    omega (arith, counted)
 
 pub window-packets : (first count : ℕ) → 8 ≤ first → 0 < count →
     ((count + 23) / 16 ≤ (first + count + 15) / 16 - (first - 8) / 16)

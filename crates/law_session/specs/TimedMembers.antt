@@ -1,8 +1,7 @@
 -- What timers do to the members of a session: when a line goes out of use and comes back, by which of its packets were
 -- read.
-use Rattle.std.specs.Prelude.{◌≡◌, ◌⊎◌, ℕ, ◌+◌, ◌*◌, ◌/◌, ◌<◌, ◌≤◌, ◌==◌, ◌&&◌, Bool, true, false, List, filter}
-use Rattle.std.specs.Prelude.{length, Option}
-use Rattle.std.specs.Prelude.{Some, None, slice_get}
+use Rattle.std.specs.Prelude.{◌≡◌, ◌⊎◌, ℕ, ◌+◌, ◌-◌, ◌*◌, ◌/◌, ◌<◌, ◌≤◌, ◌==◌, ◌&&◌, not, Bool, true, false, List}
+use Rattle.std.specs.Prelude.{filter, length, Option, Some, None, slice_get}
 use Rattle.std.specs.List.{list_any, range_with_len}
 use Rattle.law_model.specs.Common.{Scenario, active_at, carried_by, is_norm, is_read, is_line_up, member_of, said}
 use Rattle.law_model.specs.Common.{Table, Told, table_of, word}
@@ -93,8 +92,9 @@ pub record IsRound (scenario : Scenario) (cells : List (Option Told)) (n line d 
 abbrev pub Carries : Scenario → List (Option Told) → ℕ → ℕ → Type 0
 Carries scenario cells line t = (rank : ℕ) × (slice_get (active_at scenario cells t) rank ≡ Some line)
 
--- so many packets of a line in turn up to packet d can't be read that the hold-off runs out with it, and container f is
--- the first that is damaged of them: the packet before them ends before it
+-- so many packets of a line in turn up to packet d can't be read that the hold-off runs out with it, and the packet
+-- before them ends before container f, which is meant as the first damaged one. That it is damaged isn't asked, so what
+-- holds of it holds of each later container too, and of any where no packet is before them
 pub record HasFailed (scenario : Scenario) (line f d : ℕ) : Type 0 where
   pub long : scenario.options.holdoff ≤ d
   pub missed : (j : ℕ) → d ≤ j + scenario.options.holdoff → j ≤ d → is_read scenario line j ≡ false
@@ -110,6 +110,11 @@ IsNotRestored scenario line d last = (j : ℕ) → d < j → j + scenario.option
 abbrev pub IsWholeBut : Scenario → ℕ → ℕ → ℕ → ℕ → ℕ → Type 0
 IsWholeBut scenario line r last first end = (c : ℕ) → 16 * (r + 1) ≤ c → c < 16 * last + 24 →
     (c < first) ⊎ (end ≤ c) → carried_by scenario line c ≡ Whole
+
+-- how many packets of a line behind packet r up to packet last can't be read
+abbrev pub unread_behind : Scenario → ℕ → ℕ → ℕ → ℕ
+unread_behind scenario line r last =
+    length (filter (λ k. not (is_read scenario line k)) (range_with_len (r + 1) (last - r)))
 
 -- each container from one on and before another is damaged
 abbrev pub AreDamaged : Scenario → ℕ → ℕ → ℕ → Type 0

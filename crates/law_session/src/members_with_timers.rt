@@ -13,7 +13,7 @@ ghost use Rattle.law_session.specs.TimedMembers.{IsLastRead, IsOut, GoesOut, Com
 ghost use Rattle.law_session.specs.TimedMembers.{IsToldFine, IsHeld};
 ghost use Rattle.law_session.specs.TimedMembers.{IsRound, IsUpWithWord, Carries, HasFailed, IsNotRestored, restored_by};
 ghost use Rattle.law_session.specs.TimedMembers.{IsNotRemoved, IsWholeBut, AreDamaged, MissesFew, IsDamagedOften};
-ghost use Rattle.law_session.specs.TimedMembers.{goes_out, times_out};
+ghost use Rattle.law_session.specs.TimedMembers.{goes_out, times_out, unread_behind};
 ghost use Rattle.law_session.specs.WorkedFlaps.{dearest, carried_in_rows, held_line, ten_fail};
 ghost use Rattle.law_session.specs.WorkedFlaps.{flapping};
 
@@ -97,14 +97,18 @@ pub fn flap_law()
         Carries scenario (cells_before scenario n) line t }
 {}
 
-/// In containers. A failure that stands alone spoils the packets that it reaches into: those k of `spoils`, of which
-/// the middle number in `packets` is the count. A hold-off of the most of them holds it. A line isn't restored by
-/// gaps between failures that are too short for one packet more than the restore.
+/// In containers. A failure that stands alone spoils the packets that it reaches into, those k of `spoils`. `count` says
+/// how many these are, and `packets` which numbers that can be. A hold-off of the most of them holds it. A line isn't
+/// restored by gaps between failures that are too short for one packet more than the restore.
 pub fn window_law()
     ensures spoils { (scenario : Scenario) (line first end r last k : ℕ) →
         IsWholeBut scenario line r last first end → AreDamaged scenario line first end →
         first < end → r < k → k ≤ last →
         (is_read scenario line k ≡ false) ↔ ((first < 16 * k + 24) × (16 * k < end)) }
+    ensures count { (scenario : Scenario) (line first end r last : ℕ) →
+        IsWholeBut scenario line r last first end → AreDamaged scenario line first end →
+        first < end → 16 * r + 24 ≤ first → end ≤ 16 * last + 16 →
+        unread_behind scenario line r last ≡ (end + 15) / 16 - (first - 8) / 16 }
     ensures packets { (first count : ℕ) → 8 ≤ first → 0 < count →
         ((count + 23) / 16 ≤ (first + count + 15) / 16 - (first - 8) / 16)
         × ((first + count + 15) / 16 - (first - 8) / 16 ≤ (count + 38) / 16) }
@@ -162,5 +166,6 @@ pub fn worked_window_law()
     ensures alone { IsWholeBut (held_line 3) 1 62 80 1024 1040 }
     ensures three { map (is_read ten_fail 1) (62 ∷ 63 ∷ 64 ∷ 65 ∷ 66 ∷ [])
         ≡ true ∷ false ∷ false ∷ false ∷ true ∷ [] }
+    ensures count { unread_behind ten_fail 1 62 66 ≡ 3 }
     ensures often { IsDamagedOften flapping 1 62 186 19 }
 {}

@@ -1,5 +1,6 @@
 -- Failures in containers.
-use Rattle.law_session.proofs.FailedLinePayloadLaws.{gaps-down, short-held, window-packets, window-spoils}
+use Rattle.law_session.proofs.FailedLinePayloadLaws.{gaps-down, short-held, window-count, window-packets}
+use Rattle.law_session.proofs.FailedLinePayloadLaws.{window-spoils}
 use Rattle.law_session.proofs.members_with_timers.window_law.Goals as goal
 
 pub returns-clause-short : goal.returns-clause-short
@@ -13,3 +14,6 @@ returns-clause-spoils c = window-spoils
 
 pub returns-clause-packets : goal.returns-clause-packets
 returns-clause-packets c = window-packets
+
+pub returns-clause-count : goal.returns-clause-count
+returns-clause-count c = window-count

@@ -24,6 +24,10 @@ pub returns-clause-three : goal.returns-clause-three
 unfolding carried are_whole
 returns-clause-three c = refl
 
+pub returns-clause-count : goal.returns-clause-count
+unfolding carried are_whole
+returns-clause-count c = refl
+
 -- a container of a window doesn't arrive whole
 window-fails : (window : Window) (n : ℕ) → carried_in window n ≡ Whole → ⊥
 window-fails window n e =
