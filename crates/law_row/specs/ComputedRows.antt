@@ -27,9 +27,9 @@ active_read readable = active_of (packets_from 5 untold five 0 readable)
 abbrev pub all_but : ℕ → ℕ → Bool
 all_but other line = not (line == other)
 
--- packets of one number, which say that two lines carry payload, by their change bit, control words and SQ
-abbrev pub packet_saying : Bool → Ctrl × ℕ → Packet
-packet_saying chg said = record {
+-- packets of one number, by the ACT and change bit that they say, and their control words and SQ
+abbrev pub packet_saying : ℕ → Bool → Ctrl × ℕ → Packet
+packet_saying act chg said = record {
   mst = 0;
   rs_ack = false;
   chg = chg;
@@ -37,22 +37,26 @@ packet_saying chg said = record {
   mfi2 = 0;
   ctrl = said.0;
   gid = false;
-  act = 2;
+  act = act;
 }
 
-abbrev pub row_saying : Bool → List (Option (Ctrl × ℕ)) → Row
-row_saying chg said = map (option_map (packet_saying chg)) said
+abbrev pub row_saying : ℕ → Bool → List (Option (Ctrl × ℕ)) → Row
+row_saying act chg said = map (option_map (packet_saying act chg)) said
 
--- the lines that carry payload by packets 1: by whether the sink goes on, by their change bit, and by what the third
--- line said last
-abbrev pub carriers_after : Bool → Bool → Ctrl × ℕ → Option (List ℕ)
-carriers_after infers chg third =
+-- the lines that carry payload by packets 1, of which the first line's alone is read: by whether the sink goes on, by the
+-- ACT and change bit that it says, and by what the other lines said last
+abbrev pub carriers_after : Bool → ℕ → Bool → List (Ctrl × ℕ) → Option (List ℕ)
+carriers_after infers act chg others =
     carriers_of (record default_options { infers = infers })
-    (row_saying false (Some (Norm, 0) ∷ Some (Eos, 1) ∷ Some third ∷ [])
-    ∷ row_saying chg (Some (Norm, 0) ∷ None ∷ None ∷ []) ∷ []) 1
+    (row_saying act false (Some (Norm, 0) ∷ map Some others)
+    ∷ row_saying act chg (Some (Norm, 0) ∷ map (λ said. None) others) ∷ []) 1
 
-abbrev pub idle : Ctrl × ℕ
-idle = (Idle, 255)
+-- the second line carries payload, and the third is idle, in DNU, or carries payload too
+abbrev pub beside_idle : List (Ctrl × ℕ)
+beside_idle = (Eos, 1) ∷ (Idle, 255) ∷ []
 
-abbrev pub unused_third : Ctrl × ℕ
-unused_third = (Dnu, 2)
+abbrev pub beside_unused : List (Ctrl × ℕ)
+beside_unused = (Eos, 1) ∷ (Dnu, 2) ∷ []
+
+abbrev pub both_carrying : List (Ctrl × ℕ)
+both_carrying = (Norm, 1) ∷ (Eos, 2) ∷ []

@@ -30,3 +30,11 @@ returns-clause-changed c = refl
 pub returns-clause-unused : goal.returns-clause-unused
 unfolding last_read active_from
 returns-clause-unused c = refl
+
+pub returns-clause-two : goal.returns-clause-two
+unfolding last_read active_from
+returns-clause-two c = refl
+
+pub returns-clause-fewer : goal.returns-clause-fewer
+unfolding last_read active_from
+returns-clause-fewer c = refl
