@@ -46,7 +46,7 @@ fn see_known(walk: &Walk, row: u32, packets: &mut Packets) -> Result<(), AllocEr
     if !ends_packet(row) {
         return Ok(());
     }
-    packets.push_known(walk.knows())
+    packets.push_known(walk.way().knows())
 }
 
 /// Sees a row, which was taken last.
@@ -64,7 +64,7 @@ fn see_row(walk: &Walk, row: u32, seen: &mut SeenRows) -> Result<(), AllocError>
     seen.runs.row(cause)?;
     let end = seen.packets.place(row + 1);
     seen.segments
-        .row(cause.is_none(), end, walk.first_confirmed())
+        .row(cause.is_none(), end, walk.way().first_confirmed())
 }
 
 /// Sees what came of a turn, after so many ticks and rows. Where memory is short the segments are as they

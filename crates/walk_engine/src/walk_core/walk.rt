@@ -1,23 +1,23 @@
 //! A walk of a script, event by event.
 
-ghost use Rattle.std.specs.Prelude.{◌≡◌, ℕ, ◌-◌, ◌/◌, ◌<◌, ◌≤◌, suc, false};
+ghost use Rattle.std.specs.Prelude.{◌≡◌, ℕ, ◌<◌, suc};
 ghost use Rattle.std.specs.Prelude.{length, replicate, slice_get, Some, None, IfOk};
 ghost use Rattle.law_model.specs.declared.walk_events.Event.TheVariants.{Command, Accept, Tick, Carry, Back, Take};
 ghost use Rattle.law_model.specs.Common.{IsValid, begin, step, run, round, drain, bound, carries_from, steps_in};
-ghost use Rattle.law_model.specs.Common.{source_at, leg_of, scenario_by, segments_of, is_known};
+ghost use Rattle.law_model.specs.Common.{source_at, leg_of};
 ghost use Rattle.law_model.specs.declared.script_types.Item.{Item};
 ghost use Rattle.law_progress.specs.Progress.{HasLine};
 ghost use Rattle.law_walk.specs.Common.{landed_scenario, told_before, refusals_of, totals_of, last_packet, table_in};
-ghost use Rattle.law_walk.specs.Common.{walk_plan, IsWalked, session_of, session_rows};
+ghost use Rattle.law_walk.specs.Common.{walk_plan, IsWalked};
 ghost use Rattle.walk_engine.specs.walk_core.WalkAfterEvent.{answer_by, counts_after, moved_of, GivesRows};
 ghost use Rattle.terminal_group.specs.Item.{bare_items, kind_of};
 ghost use Rattle.terminal_group.specs.Landed.{none_landed};
 ghost use Rattle.walk_engine.specs.walk_core.Landing.{landing_of, early_cause};
 ghost use Rattle.walk_engine.specs.walk_core.LiveWalking.{LiveStands, walking_counts};
-ghost use Rattle.walk_engine.specs.walk_core.WayParts.{note_of, windows_in, AgreesAt};
-ghost use Rattle.terminal_sink.specs.marked_delineator.Marks.{first_place};
+ghost use Rattle.walk_engine.specs.walk_core.WayParts.{note_of, windows_in, AgreesAt, WayStands, counts_of};
 
 use crate::walk_core::live_walk::LiveWalk;
+use crate::walk_core::one_way::WayCore;
 use crate::walk_core::step_answers::{Moved, StepNote};
 use law_model::{Event, FrameOut, Refusal, Script, StallCause, Totals};
 use std::alloc::{AllocError, Global};
@@ -174,23 +174,13 @@ impl Walk {
         self.live.table()
     }
 
-    /// The place that is confirmed first in the segment that goes on with the next row, counted from its first octet.
-    pub fn first_confirmed(&self) -> Option<u64>
-        ensures { result ≡ first_place
-            (segments_of (session_rows (leg_of self.now.script)
-            self.now.counts.rows)).last.octets }
+    /// Its direction: what waits in its rings, and what its lines and terminals keep, is what the session has there
+    /// after these counts.
+    pub fn way(&self) -> &WayCore
+        ensures stands { WayStands (leg_of self.now.script) self.now.counts.backs result.now }
+        ensures counts { counts_of result.now self.now.counts.backs ≡ self.now.counts }
     {
-        self.live.way().first_confirmed()
-    }
-
-    /// Whether it is known which lines carry payload in the next row. No packet says it of rows 0 to 23.
-    pub fn knows(&self) -> bool
-        ensures known { 24 ≤ self.now.counts.rows → result
-            ≡ is_known (scenario_by (leg_of self.now.script)) (session_of (leg_of self.now.script))
-            ((self.now.counts.rows - 24) / 16) }
-        ensures early { self.now.counts.rows < 24 → result ≡ false }
-    {
-        self.live.way().knows()
+        self.live.way()
     }
 
     /// A walk of a script before any event.

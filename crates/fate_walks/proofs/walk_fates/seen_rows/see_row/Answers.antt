@@ -1,16 +1,21 @@
 -- One row more.
-use Rattle.std.proofs.Common.{◌≡◌, ◌+◌, ◌≤◌, ◌∷◌, ◌++◌, [], Option, sym, ◌∙◌, ap, subst, arith, map}
+use Rattle.std.proofs.Common.{◌≡◌, ℕ, ◌+◌, ◌≤◌, ◌∷◌, ◌++◌, [], Option, sym, ◌∙◌, ap, subst, arith, map}
 use Rattle.std.proofs.lemmas.Result.{on_ok_weaker}
-use Rattle.law_model.specs.Common.{leg_of, scenario_of, place_of}
+use Rattle.law_model.specs.Common.{Leg, Counts, leg_of, scenario_of, place_of, segments_of}
 use Rattle.law_model.specs.declared.script_types.Script.{Script}
 use Rattle.law_model.specs.rows.SessionStream.{row_of}
 use Rattle.fate_engine.specs.Common.{row_cause, Tells, AreRuns}
 use Rattle.fate_engine.specs.declared.fate_law.Cause.{Cause}
 use Rattle.std.specs.List.{range_with_len}
 use Rattle.law_walk.specs.Common.{session_of, session_rows}
+use Rattle.terminal_sink.specs.marked_delineator.Marks.{first_place}
 use Rattle.fate_walks.proofs.FatesAndSeenRowsLaws.{few-rows, causes-size, rows-size, rows-next, row-tells}
 use Rattle.fate_walks.proofs.FatesAndSeenRowsLaws.{whole-cause, none-is, place-low, mark-low-seen as mark-low, one-row}
 use Rattle.fate_walks.proofs.walk_fates.seen_rows.see_row.Goals as goal
+
+-- the mark of the segment that goes on, after some counts
+abbrev mark_after : Leg → Counts → Option ℕ
+mark_after leg s = first_place (segments_of (session_rows leg s.rows)).last.octets
 
 pub row_cause-cause-requires-clause-governed : goal.row_cause-cause-requires-clause-governed
 row_cause-cause-requires-clause-governed c =
@@ -48,12 +53,14 @@ row-requires-2 c =
     let few = few-rows leg c.args.walk.now.counts sound c.requires.walked in
     let size = rows-size leg c.args.row in
     let low : rows ≤ leg.config.ticks = omega (arith, few.0, few.1) in
+    let told = c.first_confirmed.ensures leg c.args.walk.now.counts.backs c.way.ensures.stands
+    ∙ ap (mark_after leg) c.way.ensures.counts in
     let is = c.place-end.ensures (scenario_of c.args.walk.now.script) (session_of leg)
     c.in_ok-see_known.ensures.packets.are in
     record {
       rows = omega (arith, few.0, few.2, c.requires.last, size, c.requires.seen.segments.count);
       end = omega (arith, is, place-low leg (c.args.row + 1) sound (omega (arith, low, c.requires.last)));
-      confirmed = mark-low leg rows c.first_confirmed.result sound low c.first_confirmed.ensures;
+      confirmed = mark-low leg rows c.first_confirmed.result sound low told;
     }
 
 pub returns-clause-ok : goal.returns-clause-ok
@@ -75,7 +82,8 @@ returns-clause-ok c =
     let told : Tells (session_rows (leg_of script) (row + 1)) c.place-end.result c.first_confirmed.result =
     row-tells (leg_of script) c.args.walk.now.counts
     (row + 1) c.place-end.result c.first_confirmed.result c.requires.last ends
-    c.first_confirmed.ensures in
+    (c.first_confirmed.ensures (leg_of script) c.args.walk.now.counts.backs c.way.ensures.stands
+    ∙ ap (mark_after (leg_of script)) c.way.ensures.counts) in
     let whole = whole-cause (leg_of script) row c.row_cause-cause.result is
     ∙ none-is c.row_cause-cause.result c.is_none.result c.is_none.ensures in
     let stands =
