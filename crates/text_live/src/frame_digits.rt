@@ -35,7 +35,7 @@ fn long_fault(digits: &[u8]) -> FieldFault
         FieldFault::Size {
             word: 2,
             least: 1,
-            most: LONGEST_OFFER,
+            most: LONGEST_OFFER as u64,
         }
     } else {
         FieldFault::Hex { word: 2 }
@@ -62,7 +62,7 @@ pub(crate) fn read_octets(digits: &[u8], octets: &mut Vec<u8>) -> Result<(), Fie
         return Err(FieldFault::Size {
             word: 2,
             least: 1,
-            most: LONGEST_OFFER,
+            most: LONGEST_OFFER as u64,
         });
     }
     Ok(())

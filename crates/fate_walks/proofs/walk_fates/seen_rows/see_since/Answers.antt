@@ -18,7 +18,8 @@ pub push-requires : goal.push-requires
 push-requires c =
     let few =
     few-rows (leg_of c.args.walk.now.script) c.args.walk.now.counts c.requires.valid.sound c.requires.walked in
-    omega (arith, few.2, c.requires.least, c.requires.seen.packets.steps)
+    let e = ap (λ (t : Totals). t.ticks) c.totals-totals.ensures in
+    omega (arith, few.2, c.requires.least, c.requires.seen.packets.steps, c.if-is_step.ensures.yes, e)
 
 pub returns-then-totals-rows-clause-ok : goal.returns-then-totals-rows-clause-ok
 returns-then-totals-rows-clause-ok c =
