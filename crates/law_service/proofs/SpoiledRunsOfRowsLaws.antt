@@ -28,11 +28,11 @@ first-ones test from zero sooner = record {
 first-ones test from (suc n) sooner =
     elim (cases_Bool (test from)) [
       | inl passes ↦ record {
-          upto = from;
-          before = λ t low high e.
-              absurd (let wrong = sooner t from (omega arith) (omega arith) low e in cc);
-          fails = λ t low high e. absurd (omega arith);
-        }
+        upto = from;
+        before = λ t low high e.
+            absurd (let wrong = sooner t from (omega arith) (omega arith) low e in cc);
+        fails = λ t low high e. absurd (omega arith);
+      }
       | inr broken ↦
           let rest = first-ones test (from + 1) n
           (λ t s high low before e. sooner t s (omega arith) (omega arith) before e) in
@@ -81,33 +81,33 @@ module _ (leg : Leg) (begins ends horizon : ℕ) (sound : IsSound leg) (stops : 
         other = (far, min later.upto far_end);
         rows = λ t low high. (
           λ broken. elim (cases_lt t 24) [
-              | inl early ↦ absurd (both_ways (whole-at t) broken (rw (lt-ltb t 24 early) refl))
-              | inr late ↦
-                  let hit = cost-hit leg sound begins horizon together.fails t late low high broken in
-                  let same = together.same hit.line hit.window hit.fails in
-                  let first = same.0 in
-                  let last = same.1 in
-                  elim hit.spoils [
-                    | inl by_container ↦
-                        let under = by_container.1 in
-                        let upto = sooner.before t (omega arith) (omega arith) broken in
-                        inl (omega arith, omega arith)
-                    | inr by_packet ↦
-                        let from = by_packet.0 in
-                        let under = by_packet.1 in
-                        let upto = later.before t (omega arith) (omega arith) broken in
-                        inr (omega arith, omega arith)
-                  ]
-            ],
+            | inl early ↦ absurd (both_ways (whole-at t) broken (rw (lt-ltb t 24 early) refl))
+            | inr late ↦
+                let hit = cost-hit leg sound begins horizon together.fails t late low high broken in
+                let same = together.same hit.line hit.window hit.fails in
+                let first = same.0 in
+                let last = same.1 in
+                elim hit.spoils [
+                  | inl by_container ↦
+                      let under = by_container.1 in
+                      let upto = sooner.before t (omega arith) (omega arith) broken in
+                      inl (omega arith, omega arith)
+                  | inr by_packet ↦
+                      let from = by_packet.0 in
+                      let under = by_packet.1 in
+                      let upto = later.before t (omega arith) (omega arith) broken in
+                      inr (omega arith, omega arith)
+                ]
+          ],
           λ either. elim either [
-              | inl of_one ↦
-                  let from = of_one.0 in
-                  let under = of_one.1 in
-                  sooner.fails t (omega arith) (omega arith) (omega arith)
-              | inr of_other ↦
-                  let from = of_other.0 in
-                  let under = of_other.1 in
-                  later.fails t (omega arith) (omega arith) (omega arith)
-            ],
+            | inl of_one ↦
+                let from = of_one.0 in
+                let under = of_one.1 in
+                sooner.fails t (omega arith) (omega arith) (omega arith)
+            | inr of_other ↦
+                let from = of_other.0 in
+                let under = of_other.1 in
+                later.fails t (omega arith) (omega arith) (omega arith)
+          ],
         );
       }
