@@ -33,40 +33,40 @@ serves interval script = writes (service_text (leg_of script) (counts_in script)
 
 module _ (interval : ℕ) (text service : List ℕ) (script : Script) (short : length text ≤ longest_input)
     (said : script_of text ≡ Ok script) (same : service_text (leg_of script) (counts_in script) interval ≡ service)
-    where
-  abbrev leg : Leg
-  leg = leg_of script
+  where
+    abbrev leg : Leg
+    leg = leg_of script
 
-  abbrev s : Counts
-  s = counts_in script
+    abbrev s : Counts
+    s = counts_in script
 
-  agrees : Agrees text service
-  agrees =
-      let sound = (valid_text text script short said).sound in
-      let walked = walked-reached (walk_plan leg) script.events in
-      let lines : List ℕ = flat_map spoiled_text (spoiled_of (scenario_by leg) (session_of leg) s.rows)
-      ++ flat_map (segment_text (session_pieces leg) (session_rows leg s.rows))
-      (later_segments (session_rows leg s.rows))
-      ++ flat_map ended_text (ended_of leg s) in
-      record {
-        end = told_of leg s;
-        all = all_of leg s;
-        ends = ends_of leg s;
-        before = flat_map (members_text leg.config.size) (members_in leg s)
-            ++ flat_map (outage_line_text (row_cause (scenario_by leg) (session_of leg))) (outages_in leg s)
-            ++ flat_map stretch_line_text (stretches_in leg s interval)
-            ++ delays_text (delays_of (carried_of (ended_of leg s)));
-        last = sym same ∙ text-lines leg s interval;
-        lines = lines;
-        fates = ap (answer_of tells) said ∙ ap (λ (l : List ℕ). writes (lines ++ l)) (fates-told leg s sound walked);
-        walk = λ starts. record {
-          frames = delivered_of leg s.rows;
-          refusals = refusals_among leg (landed_items leg s);
-          totals = totals_of leg s;
-          report = ap (answer_of walks) said;
-          as_many = walk-got leg s sound walked starts;
-        };
-      }
+    agrees : Agrees text service
+    agrees =
+        let sound = (valid_text text script short said).sound in
+        let walked = walked-reached (walk_plan leg) script.events in
+        let lines : List ℕ = flat_map spoiled_text (spoiled_of (scenario_by leg) (session_of leg) s.rows)
+        ++ flat_map (segment_text (session_pieces leg) (session_rows leg s.rows))
+        (later_segments (session_rows leg s.rows))
+        ++ flat_map ended_text (ended_of leg s) in
+        record {
+          end = told_of leg s;
+          all = all_of leg s;
+          ends = ends_of leg s;
+          before = flat_map (members_text leg.config.size) (members_in leg s)
+              ++ flat_map (outage_line_text (row_cause (scenario_by leg) (session_of leg))) (outages_in leg s)
+              ++ flat_map stretch_line_text (stretches_in leg s interval)
+              ++ delays_text (delays_of (carried_of (ended_of leg s)));
+          last = sym same ∙ text-lines leg s interval;
+          lines = lines;
+          fates = ap (answer_of tells) said ∙ ap (λ (l : List ℕ). writes (lines ++ l)) (fates-told leg s sound walked);
+          walk = λ starts. record {
+            frames = delivered_of leg s.rows;
+            refusals = refusals_among leg (landed_items leg s);
+            totals = totals_of leg s;
+            report = ap (answer_of walks) said;
+            as_many = walk-got leg s sound walked starts;
+          };
+        }
 
 of-script : (interval : ℕ) (text service : List ℕ) (of : Result Script ScriptFault) → script_of text ≡ of →
     length text ≤ longest_input → answer_of (serves interval) of ≡ writes service → Agrees text service

@@ -165,6 +165,10 @@ module _ (leg : Leg) (fate : ℕ → Fate) (n : ℕ) where
   then-due item None (Remove line) i others own rest = rest i
   then-due item (Some why) (Remove line) i others own rest = rest i
 
+  abbrev AreDue : List Item → Type 0
+  AreDue items = (a b k i : ℕ) → All (HasDue n) (take a (offers_of items)) →
+      All (EndsDue n) (ended_on leg fate (landed_from a b k items) i)
+
   landed-due : (items : List Item) (a b k i : ℕ) → All (HasDue n) (take a (offers_of items)) →
       All (EndsDue n) (ended_on leg fate (landed_from a b k items) i)
   unfolding landed_from ended_on
@@ -172,7 +176,7 @@ module _ (leg : Leg) (fate : ℕ → Fate) (n : ℕ) where
   landed-due (item ∷ items) a b k i low =
       let own : Numbered = record { number = k; item = item } in
       elim (cases_Bool (is_client item.kind)) [
-        | inl client ↦ clients a low client
+        | inl own_kind ↦ clients a (landed-due items) low own_kind
         | inr other ↦
             subst (λ l. All (EndsDue n) (ended_on leg fate l i)) (sym (landed-other leg fate a b k item items other))
             (subst (All (EndsDue n))
@@ -181,21 +185,27 @@ module _ (leg : Leg) (fate : ℕ → Fate) (n : ℕ) where
             (subst (λ l. All (HasDue n) (take a (l ++ offers_of items))) (offers-none item other) low)))
       ]
     where
-      clients : (a : ℕ) → All (HasDue n) (take a (offers_by item ++ offers_of items)) → is_client item.kind ≡ true →
-          All (EndsDue n) (ended_on leg fate (landed_from a b k (item ∷ items)) i)
-      clients zero low client =
-          subst (λ l. All (EndsDue n) (ended_on leg fate l i)) (sym (landed-client leg fate 0 b k item items client))
-          (landed-due items (0 - 1) b (suc k) i (All-nil (HasDue n)))
-      clients (suc a) low client =
-          let (octets, is) = client-is item.kind client in
+      clients : (a : ℕ) → AreDue items → All (HasDue n) (take a (offers_by item ++ offers_of items)) →
+          is_client item.kind ≡ true → All (EndsDue n) (ended_on leg fate (landed_from a b k (item ∷ items)) i)
+      clients zero rest low own_kind =
+          subst (λ l. All (EndsDue n) (ended_on leg fate l i)) (sym (landed-client leg fate 0 b k item items own_kind))
+          (rest (0 - 1) b (suc k) i (All-nil (HasDue n)))
+      clients (suc a) rest low own_kind =
+          let (octets, is) = client-is item.kind own_kind in
           let offer : DueFrame = record { due = item.due; frame = octets } in
           let all : All (HasDue n) (offer ∷ take a (offers_of items)) =
           subst (λ l. All (HasDue n) (take (suc a) (l ++ offers_of items))) (ap (offer_of item.due) is) low in
           let own : Numbered = record { number = k; item = item } in
-          subst (λ l. All (EndsDue n) (ended_on leg fate l i)) (sym (landed-client leg fate (suc a) b k item items client))
+          let some : nat_lt 0 (suc a) ≡ true = lt-ltb 0 (suc a) (omega arith) in
+          let less : suc a - 1 ≡ a = omega arith in
+          let same : landed_from (suc a) b k (item ∷ items) ≡ own ∷ landed_from a b (suc k) items =
+          landed-client leg fate (suc a) b k item items own_kind
+          ∙ ap (λ there. with_if there own (landed_from (suc a - 1) b (suc k) items)) some
+          ∙ ap (λ c. own ∷ landed_from c b (suc k) items) less in
+          subst (λ l. All (EndsDue n) (ended_on leg fate l i)) (sym same)
           (then-due own (refusal_at leg own) item.kind i (ended_on leg fate (landed_from a b (suc k) items))
           (All-head (HasDue n) offer (take a (offers_of items)) all)
-          (λ m. landed-due items a b (suc k) m (All-tail (HasDue n) offer (take a (offers_of items)) all)))
+          (λ m. rest a b (suc k) m (All-tail (HasDue n) offer (take a (offers_of items)) all)))
 
 -- ---- the ticks that are told
 told-within : (n told : ℕ) (all : List Ended) → told ≤ n + 1 → All (EndsDue n) all →

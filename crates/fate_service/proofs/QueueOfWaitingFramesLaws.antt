@@ -298,7 +298,7 @@ module _ (leg : Leg) where
         ∙ landed-dues rest (front ++ item ∷ []) a b n longer
         ∙ ap (λ before. dues-kept before (take a (offers_of rest))) offers in
         elim (cases_Bool (is_client item.kind)) [
-          | inl client ↦ clients a first next client
+          | inl is ↦ clients a first next is
           | inr other ↦ ap (λ l. Landed l n) (landed-other leg fate a b (length front) item rest other)
               ∙ ap accepted_of
               (with-skips leg fate (nat_lt 0 b) own (landed_from a (b - 1) (suc (length front)) rest) n other)
@@ -313,20 +313,20 @@ module _ (leg : Leg) where
             ≡ dues-kept (offers_of front ++ offers_by item) (take a (offers_of rest))) → is_client item.kind ≡ true →
             Landed (landed_from a b (length front) (item ∷ rest)) n
             ≡ dues-kept (offers_of front) (take a (offers_by item ++ offers_of rest))
-        clients zero first next client =
+        clients zero first next own_kind =
             let less : 0 - 1 ≡ 0 = omega arith in
-            ap (λ l. Landed l n) (landed-client leg fate 0 b (length front) item rest client)
+            ap (λ l. Landed l n) (landed-client leg fate 0 b (length front) item rest own_kind)
             ∙ ap (λ a. Landed (landed_from a b (suc (length front)) rest) n) less ∙ next 0 b n
-        clients (suc a) first next client =
+        clients (suc a) first next own_kind =
             let less : suc a - 1 ≡ a = omega arith in
             let some : nat_lt 0 (suc a) ≡ true = lt-ltb 0 (suc a) (omega arith) in
             let own : Numbered = record { number = length front; item = item } in
-            let (octets, is) = client-is item.kind client in
+            let (octets, is) = client-is item.kind own_kind in
             let offer : DueFrame = record { due = item.due; frame = octets } in
             let one : offers_by item ≡ offer ∷ [] = ap (offer_of item.due) is in
             let kept : List ℕ = kept-due
             (frame_refusal octets (stream_met own-scenario own-cells item.due (offers_of front))) item.due in
-            ap (λ l. Landed l n) (landed-client leg fate (suc a) b (length front) item rest client)
+            ap (λ l. Landed l n) (landed-client leg fate (suc a) b (length front) item rest own_kind)
             ∙ ap (λ there. Landed (with_if there own (landed_from (suc a - 1) b (suc (length front)) rest)) n) some
             ∙ front-dues item front octets (landed_from (suc a - 1) b (suc (length front)) rest)
             (dues-kept (offers_of front ++ offers_by item) (take a (offers_of rest))) n is first
