@@ -12,6 +12,7 @@ use Rattle.law_model.proofs.ListLaws.{take-one}
 use Rattle.law_model.specs.Common.{Leg, Piece, stream_of, Confirmed, hunt, scenario_by, offer_of, offers_of, StreamRow}
 use Rattle.law_model.specs.Common.{Segment, segments, octets_of_rows, place_of, stream_before, Counts, steps_in, Table}
 use Rattle.law_model.specs.Common.{active, after, table_of, segments_of, is_whole_row, rows_of, IsSound, most_ticks}
+use Rattle.law_model.specs.Common.{is_known}
 use Rattle.law_model.specs.declared.script_types.Item.{Item}
 use Rattle.law_model.specs.declared.script_types.ItemKind.{ItemKind}
 use Rattle.law_model.specs.declared.item_refusals.Refusal.{Refusal}
@@ -504,23 +505,23 @@ few-rows leg s sound walked =
     (within.0, within.1, omega (arith, within.1, sound.network.ticks.1))
 
 -- ---- packets
-list-next : (f : ℕ → List ℕ) (all : List (List ℕ)) (last : List ℕ) (n : ℕ) → length all ≡ n →
-    ((k : ℕ) → k < n → slice_index_or all k [] ≡ f k) → last ≡ f n →
-    (k : ℕ) → k < n + 1 → slice_index_or (all ++ last ∷ []) k [] ≡ f k
-list-next f all last n size before is k low = elim (cases_lt k n) [
+list-next : {X : Type 0} (none : X) (f : ℕ → X) (all : List X) (last : X) (n : ℕ) → length all ≡ n →
+    ((k : ℕ) → k < n → slice_index_or all k none ≡ f k) → last ≡ f n →
+    (k : ℕ) → k < n + 1 → slice_index_or (all ++ last ∷ []) k none ≡ f k
+list-next {X} none f all last n size before is k low = elim (cases_lt k n) [
   | inl front ↦ front-of all k (omega (arith, size, front)) ∙ before k front
   | inr here ↦ (let e : k ≡ length all =
-      omega (arith, size, here, low) in ap (λ i. slice_index_or (all ++ last ∷ []) i []) e ∙ last-of all ∙ is
+      omega (arith, size, here, low) in ap (λ i. slice_index_or (all ++ last ∷ []) i none) e ∙ last-of all ∙ is
       ∙ ap f (let e : n ≡ k = omega (arith, here, low) in e))
 ]
   where
-    front-of : (all : List (List ℕ)) (k : ℕ) → k < length all →
-        slice_index_or (all ++ last ∷ []) k [] ≡ slice_index_or all k []
+    front-of : (all : List X) (k : ℕ) → k < length all →
+        slice_index_or (all ++ last ∷ []) k none ≡ slice_index_or all k none
     front-of [] k low = absurd (omega arith)
     front-of (x ∷ xs) zero low = refl
     front-of (x ∷ xs) (suc k) low = front-of xs k (omega arith)
 
-    last-of : (all : List (List ℕ)) → slice_index_or (all ++ last ∷ []) (length all) [] ≡ last
+    last-of : (all : List X) → slice_index_or (all ++ last ∷ []) (length all) none ≡ last
     last-of [] = refl
     last-of (x ∷ xs) = last-of xs
 
@@ -542,7 +543,7 @@ packets-next leg before ticks packets lines next governs step is made =
       are = record {
         size = are.size;
         lines =
-            λ k low. list-next table packets.active lines (length packets.active) refl are.lines here k
+            λ k low. list-next [] table packets.active lines (length packets.active) refl are.lines here k
             (omega (arith, low, count));
         known = are.known;
       };
@@ -551,6 +552,24 @@ packets-next leg before ticks packets lines next governs step is made =
   where
     table-after : ℕ → Table
     table-after n = (after (scenario_by leg) (session_of leg) n).table
+
+-- one more of which the sink has said whether it knows them
+pub packets-known : (leg : Leg) (ticks : ℕ) (packets : PacketList) (is : Bool) (next : PacketList) →
+    Governs leg ticks packets → is ≡ is_known (scenario_by leg) (session_of leg) (length packets.known) →
+    next ≡ record packets { known = packets.known ++ is ∷ [] } → Governs leg ticks next
+packets-known leg ticks packets is next governs here made =
+    let are = governs.are in
+    let count = length-append packets.known (is ∷ []) in
+    subst (Governs leg ticks) (sym made) (record {
+      are = record {
+        size = are.size;
+        lines = are.lines;
+        known =
+            λ k low. list-next false (is_known (scenario_by leg) (session_of leg)) packets.known is
+            (length packets.known) refl are.known here k (omega (arith, low, count));
+      };
+      steps = governs.steps;
+    })
 
 -- ---- rows
 pub causes-next : (leg : Leg) (n : ℕ) →

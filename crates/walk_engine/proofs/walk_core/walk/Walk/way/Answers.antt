@@ -11,10 +11,10 @@ returns-clause-stands c =
     let leg = leg_of f.script in
     let come = f.live.way.source.inbox.come in
     subst (λ (w : Walked). WayStands (leg_of w.script) w.counts.backs c.way.result.now) c.self.view_is
-        (subst (WayStands leg come) (sym c.way.ensures) c.self.invariant.1.stands.stands)
+    (subst (WayStands leg come) (sym c.way.ensures) c.self.invariant.1.stands.stands)
 
 pub returns-clause-counts : goal.returns-clause-counts
 returns-clause-counts c =
     let come = c.self.inside.live.way.source.inbox.come in
     subst (λ (w : Walked). counts_of c.way.result.now w.counts.backs ≡ w.counts) c.self.view_is
-        (ap (λ (p : Parts). counts_of p come) c.way.ensures)
+    (ap (λ (p : Parts). counts_of p come) c.way.ensures)
