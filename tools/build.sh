@@ -44,6 +44,7 @@ build_proved() {
 
 # Makes the folder $1 of links to the toolchain's kit, whose clang is tools/clang, and whose prover, which would look at names meanwhile, does nothing.
 link_kit() {
+    rm -rf "$1"
     mkdir -p "$1/bin" "$1/toolchain/bin" || return
     ln -s "$kit" "$1/kit"
     ln -s "$top/tools/clang" "$1/toolchain/bin/clang"
