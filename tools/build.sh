@@ -42,6 +42,12 @@ build_proved() {
     stop_signs
 }
 
+# The folder of the toolchain.
+kit_of() {
+    kit=$(readlink -f "$(command -v rt)")
+    echo "${kit%/bin/rt}"
+}
+
 # Makes the folder $1 of links to the toolchain's kit, whose clang is tools/clang, and whose prover, which would look at names meanwhile, does nothing.
 link_kit() {
     rm -rf "$1"
@@ -59,8 +65,7 @@ link_kit() {
 
 # Makes the trial $1 without the toolchain's checks. It is none if it doesn't answer a first script.
 make_trial() {
-    kit=$(readlink -f "$(command -v rt)")
-    kit=${kit%/bin/rt}
+    kit=$(kit_of)
     link_kit "$work/kit" 2> /dev/null && mkdir "$work/kit/program" || return
     toolchain env TMPDIR="$work" "$work/kit/bin/rt" try < /dev/null > /dev/null 2> "$work/log"
     object=$work/kit/program/object
@@ -163,15 +168,18 @@ try_once() {
     echo "vcat: the trial met a limit and gives no answer: $limit. The proved program has no such limit: VCAT_PROVED=1 ./vcat .." >&2
 }
 
-if ! command -v rt > /dev/null 2>&1; then
-    echo "vcat: the program is not built, and the toolchain's command rt is not there to build it." >&2
-    exit 127
-fi
-mkdir -p "$crate/out" 2> /dev/null
-make_work
-if [ "${VCAT_PROVED-}" = 1 ]; then
-    build_proved
-else
-    program=
-    build_trial
-fi
+# Builds what is wanted.
+build() {
+    if ! command -v rt > /dev/null 2>&1; then
+        echo "vcat: the program is not built, and the toolchain's command rt is not there to build it." >&2
+        exit 127
+    fi
+    mkdir -p "$crate/out" 2> /dev/null
+    make_work
+    if [ "${VCAT_PROVED-}" = 1 ]; then
+        build_proved
+    else
+        program=
+        build_trial
+    fi
+}

@@ -4,7 +4,7 @@
 # the greatest queue and its tick, the greatest delay, how many rows were dark, and the rest. The first script without it ends all, with status 1.
 here=$(dirname -- "$0")
 program=$here/vcat_walk
-[ -x "$program" ] || program=$here/../../crates/vcat_walk/out/vcat_walk
+[ -x "$program" ] || program=$("$here/../../vcat" --program walk)
 row() {
     "$here/script.sh" "$@" | "$program" service 1500 | sed -n "s/^service/$*/p" | grep .
 }

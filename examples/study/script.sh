@@ -5,7 +5,7 @@
 # 1,300 ticks after BEGIN. The program vcat_walk, which makes the frames, stands beside this script or, in the repository, where it was built.
 here=$(dirname -- "$0")
 program=$here/vcat_walk
-[ -x "$program" ] || program=$here/../../crates/vcat_walk/out/vcat_walk
+[ -x "$program" ] || program=$("$here/../../vcat" --program walk)
 case $# in
 5 | 6) ;;
 *) echo "usage: script.sh CONTAINER LINES LOAD LENGTH BEGIN [DRAW]" >&2; exit 2 ;;

@@ -57,16 +57,14 @@ END
 
 # Sees to it that both programs stand, and that they are proved, if that isn't said to be indifferent.
 programs() {
-    proof=proved
     for name in vcat_walk vcat_run; do
-        crate=$top/crates/$name
-        trial=$crate/out/trial
         if [ -z "$option" ] && [ "${VCAT_PROVED-}" != 1 ] && [ "$(standing "$name")" != "$(place_of "$name")" ]; then
             refuse "$name isn't proved and built: rt ci does that, $gate_time, or VCAT_PROVED=1 ./vcat $asked. ./vcat $asked --unproved takes a trial." 126
         fi
-        ready
-        if [ "$program" != "$(place_of "$name")" ]; then proof=unproved; fi
-        if [ -z "$program" ] || ! head -c 4 "$program" | grep -q ELF; then refuse "the trial of $name runs by the toolchain alone." 126; fi
+    done
+    ready_both
+    for name in vcat_walk vcat_run; do
+        if ! head -c 4 "$(standing "$name")" | grep -q ELF; then refuse "the trial of $name runs by the toolchain alone." 126; fi
     done
 }
 
@@ -75,7 +73,7 @@ pack() {
     mkdir -p "$1/bin" "$1/view" "$1/tools" || return
     for name in vcat_walk vcat_run; do cp "$(standing "$name")" "$1/bin/$name" || return; done
     cp "$top/vcat" "$top/README.md" "$top/CHANGELOG.md" "$top/LICENSE" "$1" &&
-        cp -R "$top/docs" "$top/examples" "$1" && cp "$top"/view/*.* "$1/view" && cp "$top/tools/dist.sh" "$1/tools" || return
+        cp -R "$top/docs" "$top/examples" "$1" && cp "$top"/view/*.* "$1/view" && cp "$top/tools/pack.sh" "$1/tools" || return
     rm -f "$1"/docs/*.py
     version > "$1/VERSION" && manual > "$1/vcat.1" && completion > "$1/vcat.bash"
 }
@@ -86,7 +84,7 @@ dist() {
     programs
     number=$(version | sed 's/^Soqaylle \([^ ,]*\).*/\1/')
     whole=soqaylle-$number-linux-x86_64
-    if [ "$proof" = unproved ]; then whole=soqaylle-$number-unproved-linux-x86_64; fi
+    if version | grep -q unproved; then whole=soqaylle-$number-unproved-linux-x86_64; fi
     make_work
     pack "$work/$whole" || exit 126
     time=$(git -C "$top" log -1 --format=%ct 2> /dev/null)

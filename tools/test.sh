@@ -1,0 +1,43 @@
+# shellcheck shell=sh disable=SC2154
+# ./vcat test: all that is tried by the programs that stand, and the tests as the toolchain tries them, without a proof. The script vcat reads this
+# file; it has the names.
+
+if [ ! -d "$top/crates" ]; then refuse "the tests are those of a clone of the repository." 126; fi
+ready_both
+make_work
+export VCAT_QUIET=1
+
+passed=0
+failed=0
+# Adds the numbers of those that passed and failed, or one that failed if there are none, and says them.
+add() {
+    set -- "$1" "${2:-0}" "${3:-1}"
+    echo "$1: $2 passed, $3 failed"
+    passed=$((passed + $2))
+    failed=$((failed + $3))
+}
+
+# Two numbers are two words.
+# shellcheck disable=SC2046
+add "examples, mistakes, and the commands of README, TUTORIAL and LIVE" $("$top/.ci/examples" test)
+
+# The tests of crates, without the toolchain's checks where that can be.
+if command -v rt > /dev/null 2>&1; then
+    # shellcheck source=/dev/null
+    . "$top/tools/build.sh"
+    kit=$(kit_of)
+    if link_kit "$work/kit" 2> /dev/null; then kit=$work/kit; fi
+    for name in parts_tests command_tests; do
+        crate=$top/crates/$name
+        toolchain env TMPDIR="$work" "$kit/bin/rt" try --test < /dev/null > "$work/log" 2>&1
+        grep -E '^test .* FAILED|^error' "$work/log" >&2
+        # shellcheck disable=SC2046
+        add "tests of $name" $(sed -n 's/^test result: .* \([0-9]*\) passed; \([0-9]*\) failed; .*/\1 \2/p' "$work/log")
+    done
+else
+    echo "vcat: there is no rt, so the tests of crates are left out." >&2
+fi
+
+echo "Nothing was proved here: rt ci does that, $gate_time."
+echo "$passed passed, $failed failed"
+[ "$failed" -eq 0 ]
