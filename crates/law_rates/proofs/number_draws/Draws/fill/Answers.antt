@@ -1,9 +1,9 @@
 -- One draw on, and after the last one.
 use Rattle.std.proofs.Common.{◌<◌, ◌≤◌, ◌∙◌, ◌+◌, ◌-◌, ℕ, List, ◌++◌, length, take, ap, sym, arith}
 use Rattle.std.proofs.lemmas.List.{take_more_set, take_all}
-use Rattle.text_scripts.specs.make_load.Draws.{draws}
-use Rattle.text_scripts.proofs.DrawnLoadLaws.{draws_next, after_next, draws_end, after_end}
-use Rattle.text_scripts.proofs.make_load.load_draws.Draws.fill.Goals as goal
+use Rattle.law_rates.specs.Draws.{draws}
+use Rattle.law_rates.proofs.DrawLaws.{draws_next, after_next, draws_end, after_end}
+use Rattle.law_rates.proofs.number_draws.Draws.fill.Goals as goal
 
 pub loop-i-preserved : goal.loop-i-preserved
 loop-i-preserved c =

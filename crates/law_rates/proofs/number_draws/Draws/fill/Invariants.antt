@@ -1,7 +1,7 @@
 -- What was drawn so far, and the draws that are left.
 use Rattle.std.proofs.Common.{◌≡◌, ◌-◌, ◌++◌, length, take}
-use Rattle.text_scripts.specs.make_load.Draws.{draws, after_draws}
-use Rattle.text_scripts.proofs.make_load.load_draws.Draws.fill.Given as goal
+use Rattle.law_rates.specs.Draws.{draws, after_draws}
+use Rattle.law_rates.proofs.number_draws.Draws.fill.Given as goal
 
 abbrev pub invariant-loop-i : goal.invariant-loop-i
 invariant-loop-i l = record {

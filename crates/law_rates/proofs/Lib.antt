@@ -1,0 +1,3 @@
+pub mod DrawLaws
+pub mod RateFrameLaws
+pub mod RateCountLaws
