@@ -1,7 +1,8 @@
 -- How many frames are due before the end, and the frames that are left.
 use Rattle.std.proofs.Common.{◌≡◌, ℕ, zero, suc, ◌+◌, ◌-◌, ◌*◌, ◌/◌, ◌%◌, ◌<◌, ◌≤◌, ◌⊎◌, ◌↔◌, List, [], ◌∷◌, length}
 use Rattle.std.proofs.Common.{ap, sym, ◌∙◌, arith, refl, All, map, inl, inr, subst, true, false, nat_le, ap₂}
-use Rattle.std.specs.Prelude.{take, slice_index_or}
+use Rattle.std.specs.Prelude.{take, drop, slice_index_or, ◌++◌}
+use Rattle.std.proofs.lemmas.List.{take-append-drop}
 use Rattle.std.specs.List.Sorted.{IsNonDecreasingBy}
 use Rattle.std.proofs.lemmas.Bool.{cases_order, cases_lt, le-leb, cases_Bool, leb-true}
 use Rattle.std.proofs.lemmas.Nat.{mod_below, le-div, mul-le}
@@ -215,6 +216,13 @@ frames_early rate is i d within =
 pub frames_prefix : (rate : Rate) (k : ℕ) → k ≤ count_of rate → first_frames rate k ≡ take k (frames rate)
 unfolding frames
 frames_prefix rate k within = sym (take-map-range_with_len (frame_at rate) 0 (count_of rate) k within)
+
+pub all_first : (rate : Rate) (k : ℕ) → k ≤ count_of rate →
+    (rest : List RateFrame) × (frames rate ≡ first_frames rate k ++ rest)
+all_first rate k within = (
+  drop k (frames rate),
+  sym (take-append-drop k (frames rate)) ∙ ap (λ front. front ++ drop k (frames rate)) (sym (frames_prefix rate k within)),
+)
 
 -- ---- the frames that are left
 pub from_first : (rate : Rate) (k : ℕ) → k ≡ 0 → frames_from rate k ≡ frames rate

@@ -20,7 +20,7 @@ mod rate_sizes;
 pub use number_draws::Draws;
 pub use rate_cursor::{RateCursor, RatePlace};
 pub use rate_frames::{LONGEST_FRAME, Rate, count};
-pub use rate_sizes::Sizes;
+pub use rate_sizes::{MOST_SIZES, Sizes};
 
 /// The frames that are counted are exactly those that are due before the end. There is one at least; the first is
 /// due at the first tick, and none before the one ahead of it.

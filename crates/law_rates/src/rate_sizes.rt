@@ -5,13 +5,13 @@ ghost use Rattle.law_rates.specs.Limits.{most_sizes};
 use std::marker::Model;
 
 /// The most sizes.
-const MOST: usize = 16;
+pub const MOST_SIZES: usize = 16;
 
 /// Sizes of frames in octets, up to 16 of them.
 #[derive(Clone, Copy, Debug, PartialEq, Eq)]
 pub struct Sizes {
     /// The sizes, with zeros behind them.
-    sizes: [u16; MOST],
+    sizes: [u16; MOST_SIZES],
     count: u8,
 }
 
@@ -41,7 +41,7 @@ impl Sizes {
         ensures { result ≡ [] }
     {
         Sizes {
-            sizes: [0; MOST],
+            sizes: [0; MOST_SIZES],
             count: 0,
         }
     }

@@ -5,8 +5,7 @@
 //! - `script_read`: reads a script: the text that says what network, operator and client of a session do.
 //! - `make_load`: makes the script of a load from a number: lines whose delays are drawn, all added at once,
 //!   and a frame for each eight ticks, whose length and octets are drawn.
-//! - `rate_load`: the lines of a script for a client that sends frames of one length at a rate, drawn from a
-//!   number: when each is due, and which octets it has.
+//! - `rate_load`: the lines of a script for a client that sends frames at a rate.
 #![tactic(auto)]
 
 pub mod make_load;

@@ -6,7 +6,7 @@ use Rattle.law_model.specs.declared.script_types.Config.{Config}
 use Rattle.law_model.specs.declared.script_types.Item.{Item}
 use Rattle.law_model.specs.declared.script_types.Script.{Script}
 use Rattle.law_model.specs.declared.script_types.ItemKind.TheVariants.{Frame, Add}
-use Rattle.text_scripts.specs.make_load.Draws.{next, drawn, draws, after_draws}
+use Rattle.law_rates.specs.Draws.{next, drawn, draws, after_draws}
 
 -- ---- a frame
 -- its length is drawn first, and then its octets

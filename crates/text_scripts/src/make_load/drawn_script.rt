@@ -3,11 +3,12 @@ ghost use Rattle.std.specs.Prelude.{◌≡◌, ◌≤◌, ◌++◌, [], IfOk, On
 ghost use Rattle.law_model.specs.Common.{IsValid, IsWithin, most_drawn_ticks};
 ghost use Rattle.text_scripts.specs.make_load.Load.{frame_of, after_frame, additions, frames, frame_count, load};
 
-use crate::make_load::load_draws::Draws;
+use crate::make_load::load_draws::{draw_delays, draw_octets};
 use law_model::{
     Config, EventList, Item, ItemKind, ItemList, LostList, Octets, Options, Script, WindowList,
     WindowLists,
 };
+use law_rates::Draws;
 use std::alloc::{AllocError, Global};
 
 /// A frame: its length, and its octets.
@@ -16,7 +17,7 @@ fn frame(alloc: Global, draws: &mut Draws) -> Result<Octets, AllocError>
     ensures state { OnOk result (draws.new.state ≡ after_frame draws.old.state) }
 {
     let count = 64 + draws.below(1455) as usize;
-    draws.octets(alloc, count)
+    draw_octets(alloc, draws, count)
 }
 
 /// The addition of each line.
@@ -73,7 +74,7 @@ fn draw(alloc: Global, number: u64, lines: u8, ticks: u32) -> Result<Script, All
     ensures { IfOk result (λ script. script ≡ load number lines ticks) }
 {
     let mut draws = Draws::new(number);
-    let delays = draws.delays(alloc, lines)?;
+    let delays = draw_delays(alloc, &mut draws, lines)?;
     let windows = no_windows(alloc, lines)?;
     let mut items = add_lines(alloc, lines)?;
     add_frames(alloc, &mut items, ticks, &mut draws)?;

@@ -6,4 +6,3 @@ mod drawn_script;
 mod load_draws;
 
 pub use drawn_script::make;
-pub use load_draws::Draws;
