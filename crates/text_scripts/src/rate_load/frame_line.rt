@@ -7,7 +7,8 @@ use text_report::TextCursor;
 /// Begins a line: all that stands before the octets.
 pub(super) fn line_start(due: u32, out: &mut [u8]) -> usize
     requires room { 64 ≤ length out.old }
-    ensures within { result ≤ 64 }
+    ensures short { result ≤ 64 }
+    ensures within { result ≤ length out.new }
     ensures start { take result out.new ≡ start_of due }
 {
     let mut line = TextCursor::new(out);
