@@ -13,13 +13,14 @@ use Rattle.circular_buffer.proofs.Places.{slice_get-set_same, slice_get-set_othe
 use Rattle.circular_buffer.proofs.Places.{slice_get-append_right}
 use Rattle.law_model.specs.Common.{Container, Cell, path, verdict, first_open, Leg, cells, scenario_by, carried_by}
 use Rattle.law_model.specs.Common.{LinePath, LineCounts, Popped, pop, popped_line, pop_lines, with_line, in_receive}
+use Rattle.law_model.specs.Common.{most_ticks, longest_delay}
 use Rattle.law_model.specs.declared.window_types.Window.{Window}
 use Rattle.member_cells.specs.HeldPlaces.{held}
 use Rattle.member_path.specs.declared.cell_numbers.signs_and_verdicts.CellSign.{CellSign}
 use Rattle.member_path.specs.path_delay.Carry.{carry_cells}
 use Rattle.member_path.specs.cell_numbers.SignsAsCells.{cell_with}
 use Rattle.member_path.specs.path_delay.CallsOnDelayedLine.{Line, Calls, opened, carries_of, path_cells, DelayStands}
-use Rattle.member_path.specs.path_delay.CallsOnDelayedLine.{with_windows}
+use Rattle.member_path.specs.path_delay.CallsOnDelayedLine.{with_windows, Counts as CarryCounts}
 use Rattle.walk_engine.specs.Common.{Ringed, cell_in, cell_at, with_sign, count_of, Has, popped_until, is_at, calls_on}
 use Rattle.walk_engine.specs.Common.{windows_on, IsNext, IsPopped, leaves_open, popped_cells as own_cells, calls_of}
 use Rattle.walk_engine.specs.Common.{line_counts, HasLine, CanPop, HasPopped}
@@ -187,6 +188,59 @@ ringed-same line core windows is same =
       total = is.total;
       delay = is.delay;
     })
+
+pub count-few : (carry : Option CellSign) → count_of carry ≤ 1
+count-few None = omega arith
+count-few (Some sign) = omega arith
+
+-- one carry more, which gave a cell or none
+pub ringed-more : (line : Ringed) (core : Line) (carry : Option CellSign) (slot pushes flushes count : ℕ)
+    (signs : List CellSign) (places : List Container) → IsRinged line → CarryCounts line.core core pushes flushes →
+    pushes + flushes ≡ 1 → core.pushed ≤ core.total → core.flushed ≤ core.delay + 1 →
+    line.given < line.popped + length line.signs → signs ≡ with_sign carry slot line.signs →
+    length places ≡ length line.places → count ≡ count_of carry →
+    IsRinged (record {
+      core = core;
+      signs = signs;
+      places = places;
+      carried = line.carried + 1;
+      given = line.given + count;
+      popped = line.popped;
+    })
+ringed-more line core carry slot pushes flushes count signs places is counts one pushed flushed room put size gave =
+    let same : length signs ≡ length line.signs = ap length put ∙ length-with_sign carry slot line.signs in
+    let few = count-few carry in
+    record {
+      some = omega (arith, same, is.some);
+      beside = size ∙ is.beside ∙ sym same;
+      pops = omega (arith, is.pops);
+      room = omega (arith, room, same, gave, few);
+      gives = omega (arith, is.gives, gave, few);
+      carries = omega (arith, is.carries, counts.pushed, counts.flushed, one);
+      pushes = pushed;
+      flushes = flushed;
+      total = omega (arith, counts.total, is.total);
+      delay = omega (arith, counts.delay, is.delay);
+    }
+
+-- more cells were popped
+pub ringed-popped : (line after : Ringed) → IsRinged line → IsPopped line after → line.popped ≤ after.popped →
+    after.popped ≤ line.given → IsRinged after
+ringed-popped line after is popped more pops =
+    let same = ap length popped.signs in
+    let core = sym popped.core in
+    record {
+      some = omega (arith, same, is.some);
+      beside = popped.size ∙ is.beside ∙ sym same;
+      pops = omega (arith, pops, popped.given);
+      room = omega (arith, is.room, more, popped.given, same);
+      gives = omega (arith, is.gives, popped.given, popped.carried);
+      carries = popped.carried ∙ is.carries ∙ ap (λ (core : Line). core.pushed + core.flushed) core;
+      pushes = subst (λ (core : Line). core.pushed ≤ core.total) core is.pushes;
+      flushes = subst (λ (core : Line). core.flushed ≤ core.delay + 1) core is.flushes;
+      total = subst (λ (core : Line). core.total ≤ most_ticks) core is.total;
+      delay = subst (λ (core : Line). core.delay ≤ longest_delay) core is.delay;
+    }
 
 -- the two places that change their boxes hold no cell
 pub has-changed : (line : Ringed) (calls : Calls) (places : List Container) → Has line calls → 0 < length line.signs →

@@ -1,5 +1,5 @@
 -- One call more brought the line where it is.
-use Rattle.std.proofs.Common.{rules, ◌≡◌, ◌+◌, ◌%◌, ◌≤◌, map, slice_index_or, slice_set, refl, sym, ◌∙◌, ap, subst, arith}
+use Rattle.std.proofs.Common.{rules, ◌≡◌, ◌+◌, ◌%◌, ◌<◌, ◌≤◌, length, map, slice_index_or, slice_set, refl, sym, ◌∙◌, ap, subst, arith}
 use Rattle.std.specs.Global.{Vec, Box}
 use Rattle.std.specs.Vec.{with_item}
 use Rattle.std.proofs.lemmas.Option.{same_Some}
@@ -14,6 +14,39 @@ use Rattle.walk_engine.proofs.LineCarryAndSendRingLaws.{map-get, below, calls-pu
 use Rattle.walk_engine.proofs.LineCarryAndSendRingLaws.{agree-more, numbers}
 use Rattle.walk_engine.proofs.LineCarryAndSendRingLaws.{unchanged-at, changed-at}
 use Rattle.walk_engine.proofs.walk_core.send_rings.carry_on.Goals as goal
+
+pub flush-requires : goal.flush-requires
+flush-requires c = record {
+  pushed = c.all_pushed.ensures.all.0 (search (rules, c.if-all_pushed.true));
+  runs = c.requires.runs;
+  room = c.requires.room;
+}
+
+pub index_mut-requires : goal.index_mut-requires
+index_mut-requires c =
+    let within : c.carried.result % 32 < length c.args.sent.now.items = omega (arith, c.requires.places) in
+    search (rules, within)
+
+pub index_mut-requires-else-all_pushed : goal.index_mut-requires-else-all_pushed
+index_mut-requires-else-all_pushed c =
+    let frames = c.args.sent.now.items in
+    let row : Vec (Box Container) = c.index_mut.result.now in
+    let frame = at-index frames (c.carried.result % 32) row (omega (arith, c.requires.places)) c.index_mut.ensures.value in
+    let within : c.args.m < length row.items = c.requires.lines (c.carried.result % 32) row frame in
+    search (rules, within)
+
+pub push-requires : goal.push-requires
+push-requires c = record {
+  left = below c.args.own.now.core.pushed c.args.own.now.core.total c.all_pushed.ensures.within
+      (search (rules, c.if-all_pushed.ensures));
+  room = c.requires.room;
+}
+
+pub returns-then-all_pushed-clause-carried : goal.returns-then-all_pushed-clause-carried
+returns-then-all_pushed-clause-carried c = c.flush.ensures.carried
+
+pub returns-then-all_pushed-clause-popped : goal.returns-then-all_pushed-clause-popped
+returns-then-all_pushed-clause-popped c = c.flush.ensures.popped
 
 pub returns-then-all_pushed-clause-has : goal.returns-then-all_pushed-clause-has
 returns-then-all_pushed-clause-has c leg has sent known =

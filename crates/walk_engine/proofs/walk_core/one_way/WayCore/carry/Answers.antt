@@ -1,10 +1,28 @@
 -- A line carries.
-use Rattle.std.proofs.Common.{rules, ℕ, refl, arith}
+use Rattle.std.proofs.Common.{rules, ℕ, ◌<◌, length, refl, sym, subst, arith}
 use Rattle.law_model.specs.Common.{Leg}
-use Rattle.walk_engine.specs.walk_core.WayParts.{WayStands}
+use Rattle.walk_engine.specs.walk_core.WayParts.{Parts, WayStands}
 use Rattle.walk_engine.proofs.LineCarryAndSendRingLaws.{frame-size, sent-places}
 use Rattle.walk_engine.proofs.LineCarryAndSendRingLaws.{line-read, line-stays, line-free, line-carried}
 use Rattle.walk_engine.proofs.walk_core.one_way.WayCore.carry.Goals as goal
+
+pub index-requires : goal.index-requires
+index-requires c =
+    let low = subst (λ (p : Parts). c.args.line < length p.lines) (sym c.self.view_is) c.requires.line in
+    let within : c.from-m.result < length c.self.inside.lines.items = omega (arith, low, c.from-m.ensures) in
+    search (rules, within)
+
+pub index_mut-requires : goal.index_mut-requires
+index_mut-requires c =
+    let low = subst (λ (p : Parts). c.args.line < length p.lines) (sym c.self.view_is) c.requires.line in
+    let within : c.from-m.result < length c.self.inside.lines.items = omega (arith, low, c.from-m.ensures) in
+    search (rules, within)
+
+pub returns-in-Some-clause-rest : goal.returns-in-Some-clause-rest
+returns-in-Some-clause-rest c = refl
+
+pub returns-in-Some-clause-windows : goal.returns-in-Some-clause-windows
+returns-in-Some-clause-windows c = refl
 
 pub returns-in-Some-clause-makes : goal.returns-in-Some-clause-makes
 returns-in-Some-clause-makes c leg backs stands =

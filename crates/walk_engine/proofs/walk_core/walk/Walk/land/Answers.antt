@@ -13,6 +13,12 @@ use Rattle.walk_engine.proofs.LandedItemSteps.{land-known}
 use Rattle.walk_engine.proofs.walk_core.walk.Walk.land.Goals as goal
 use Rattle.walk_engine.proofs.walk_core.walk.Walk.land.Goals.{After-say-why}
 
+pub due-due-requires : goal.due-due-requires
+due-due-requires c = sym c.next.ensures ∙ c.in-Some.is
+
+pub land-requires : goal.land-requires
+land-requires c = sym c.next.ensures ∙ c.in-Some.is
+
 pub returns-in_default : goal.returns-in_default
 returns-in_default c =
     let f = c.self.inside in

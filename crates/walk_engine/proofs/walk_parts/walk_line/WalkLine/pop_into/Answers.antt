@@ -1,5 +1,5 @@
 -- Each cell leaves the line open, up to the last one.
-use Rattle.std.proofs.Common.{rules, ◌≡◌, ◌+◌, ◌-◌, ◌%◌, true, false, List, [], ◌∷◌, length, take, slice_set, refl, sym, ◌∙◌, ap}
+use Rattle.std.proofs.Common.{rules, ◌≡◌, ◌+◌, ◌-◌, ◌%◌, ◌<◌, true, false, List, [], ◌∷◌, length, take, slice_set, refl, sym, ◌∙◌, ap}
 use Rattle.std.proofs.Common.{subst, arith, length-set}
 use Rattle.std.specs.Global.{Box}
 use Rattle.std.proofs.lemmas.List.{length-map, map-set}
@@ -12,7 +12,8 @@ use Rattle.member_path.specs.path_delay.CallsOnDelayedLine.{path_cells}
 use Rattle.member_path.specs.cell_numbers.SignsAsCells.{cell_with}
 use Rattle.member_rows.specs.realign_rows.Gather.{GatherStands as Gathers, with_cell}
 use Rattle.walk_engine.specs.Common.{Ringed, Has, popped_until, leaves_open}
-use Rattle.walk_engine.proofs.ReceiveRingAndPopLaws.{cell-read, has-popped}
+use Rattle.walk_engine.specs.walk_parts.Ringed.{IsRinged}
+use Rattle.walk_engine.proofs.ReceiveRingAndPopLaws.{cell-read, has-popped, ringed-popped}
 use Rattle.walk_engine.proofs.ReceiveRingAndPopLaws.{waits-is, with-set, set-same, until-shut, until-none, until-next}
 use Rattle.walk_engine.proofs.ReceiveRingAndPopLaws.{none-some}
 use Rattle.walk_engine.proofs.walk_parts.walk_line.WalkLine.pop_into.Goals as goal
@@ -152,3 +153,90 @@ returns-clause-decides c calls cells next =
     none-some (verdict own c.args.rows.now.rows) c.waits_for-2.result
     (waits-is cells c.args.line _ c.args.rows.now.rows c.waits_for-2.result _ own inv.rows
     (c.waits_for-2.ensures.waits _ (inv.gathers calls cells next)) next.own next.before)
+
+pub invariant_of-self : goal.invariant_of-self
+invariant_of-self c =
+    let inv = c.loop-self.invariant in
+    ringed-popped _ _ (subst IsRinged c.self.view_is c.self.invariant) (record {
+      core = inv.core;
+      signs = inv.signs;
+      size = length-map c.loop-self.self-inside.places.items (λ (b : Box Container). b.value) ∙ inv.size;
+      carried = inv.carried;
+      given = inv.given;
+    }) inv.more inv.pops
+
+pub invariant_of-self-then-not-waits_for : goal.invariant_of-self-then-not-waits_for
+invariant_of-self-then-not-waits_for c =
+    let inv = c.loop-self.invariant in
+    ringed-popped _ _ (subst IsRinged c.self.view_is c.self.invariant) (record {
+      core = inv.core;
+      signs = inv.signs;
+      size = length-map c.loop-self.self-inside.places.items (λ (b : Box Container). b.value) ∙ inv.size;
+      carried = inv.carried;
+      given = inv.given;
+    }) inv.more inv.pops
+
+pub nonzero_rem-slot : goal.nonzero_rem-slot
+nonzero_rem-slot c =
+    let count : c.len.result ≡ length c.loop-self.self-inside.signs.items = search (rules, c.len.ensures) in
+    let signs = ap length c.loop-self.invariant.signs
+    ∙ sym (ap (λ (line : Ringed). length line.signs) c.self.view_is) in
+    omega (arith, count, signs, c.self.invariant.some)
+
+pub index-requires : goal.index-requires
+index-requires c =
+    let count : c.len.result ≡ length c.loop-self.self-inside.signs.items = search (rules, c.len.ensures) in
+    let signs = ap length c.loop-self.invariant.signs
+    ∙ sym (ap (λ (line : Ringed). length line.signs) c.self.view_is) in
+    let within : c.loop-self.self-inside.popped % c.len.result < length c.loop-self.self-inside.signs.items =
+    omega (arith, count, signs, c.self.invariant.some) in
+    search (rules, within)
+
+pub index_mut-requires : goal.index_mut-requires
+index_mut-requires c =
+    let count : c.len.result ≡ length c.loop-self.self-inside.signs.items = search (rules, c.len.ensures) in
+    let signs = ap length c.loop-self.invariant.signs
+    ∙ sym (ap (λ (line : Ringed). length line.signs) c.self.view_is) in
+    let places = c.loop-self.invariant.size ∙ sym (ap (λ (line : Ringed). length line.places) c.self.view_is) in
+    let within : c.loop-self.self-inside.popped % c.len.result < length c.loop-self.self-inside.places.items =
+    omega (arith, count, signs, places, c.self.invariant.some, c.self.invariant.beside) in
+    search (rules, within)
+
+pub offer-requires : goal.offer-requires
+offer-requires c =
+    let allows = c.waits_for.ensures.allows (search (rules, c.if-not-waits_for.false)) in
+    record { line = allows.0; «open» = allows.1 }
+
+pub returns-then-not-waits_for-clause-has : goal.returns-then-not-waits_for-clause-has
+returns-then-not-waits_for-clause-has c = c.loop-self.invariant.has
+
+pub returns-then-not-waits_for-clause-gathers : goal.returns-then-not-waits_for-clause-gathers
+returns-then-not-waits_for-clause-gathers c = c.loop-self.invariant.gathers
+
+pub returns-then-not-waits_for-clause-others : goal.returns-then-not-waits_for-clause-others
+returns-then-not-waits_for-clause-others c =
+    let inv = c.loop-self.invariant in
+    record {
+      core = inv.core;
+      signs = inv.signs;
+      size = length-map c.loop-self.self-inside.places.items (λ (b : Box Container). b.value) ∙ inv.size;
+      carried = inv.carried;
+      given = inv.given;
+    }
+
+pub returns-clause-has : goal.returns-clause-has
+returns-clause-has c = c.loop-self.invariant.has
+
+pub returns-clause-gathers : goal.returns-clause-gathers
+returns-clause-gathers c = c.loop-self.invariant.gathers
+
+pub returns-clause-others : goal.returns-clause-others
+returns-clause-others c =
+    let inv = c.loop-self.invariant in
+    record {
+      core = inv.core;
+      signs = inv.signs;
+      size = length-map c.loop-self.self-inside.places.items (λ (b : Box Container). b.value) ∙ inv.size;
+      carried = inv.carried;
+      given = inv.given;
+    }
