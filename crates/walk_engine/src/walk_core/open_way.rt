@@ -58,10 +58,9 @@ fn open_ends(alloc: Global, config: &Config) -> Result<Ends, AllocError>
     ensures source { IfOk result (λ ends. IsUnusedOn config.now ends.source) }
     ensures sink { IfOk result (λ ends. IsNewSink config.now ends.sink) }
 {
-    Ok(Ends {
-        source: CountedSource::new(alloc, config)?,
-        sink: SinkCore::new(alloc, config.lines, config.size, config.options)?,
-    })
+    let sink = SinkCore::new(alloc, config.lines, config.size, config.options)?;
+    let source = CountedSource::new(alloc, config)?;
+    Ok(Ends { source, sink })
 }
 
 /// Opens the lines and their send rings.
