@@ -46,6 +46,11 @@ gives-none stands_for out leg rows start given stood =
     (omega arith) in
     subst (stands_for out start) (sym (ap (λ frames. given ++ frames) none ∙ append-nil given)) stood
 
+pub gives-same : {Out : Type 0} (stands_for : Out → Start → List (List ℕ) → Type 0) (out : Out) (leg : Leg)
+    (rows now : ℕ) → now ≡ rows → GivesRows stands_for out out leg rows now
+gives-same stands_for out leg rows now same =
+    subst (GivesRows stands_for out out leg rows) (sym same) (gives-none stands_for out leg rows)
+
 -- ---- numbers
 not-full : (s : Counts) → s.backs ≡ packets_in s.rows → is_back_full s ≡ false
 not-full s said =

@@ -15,7 +15,7 @@ use terminal_group::{ItemRef, Landing, handed};
 use walk_engine::walk_core::Moved;
 
 /// An item that lands next.
-#[derive(Clone, Copy, Debug, PartialEq, Eq)]
+#[derive(Clone, Copy)]
 pub(crate) struct NextItem {
     /// Whether it is a frame of the client.
     pub(crate) client: bool,

@@ -1,10 +1,12 @@
 //! One way of a pair: its direction with its script, and what was said of it.
 
-ghost use Rattle.std.specs.Prelude.{◌≡◌, ◌<◌, ◌≤◌, None, IfOk};
+ghost use Rattle.std.specs.Prelude.{◌≡◌, ◌<◌, ◌≤◌, [], None, IfOk};
 ghost use Rattle.law_model.specs.Common.{carry};
 ghost use Rattle.law_model.specs.declared.script_types.Script.{Script};
 ghost use Rattle.law_pair.specs.Common.{IsWay, way_of, land_item, done_at, held_at, full_at, missing_at};
 ghost use Rattle.law_walk.specs.Common.{walk_plan};
+ghost use Rattle.terminal_group.specs.Item.{bare_items};
+ghost use Rattle.terminal_group.specs.Landed.{none_landed};
 ghost use Rattle.walk_engine.specs.Common.{answer_by, StandsForSome};
 ghost use Rattle.pair_engine.specs.PairAfterEvent.{next_refusal};
 ghost use Rattle.pair_engine.specs.ToldAndHeard.{tells_next, told_now, left_untold};
@@ -20,7 +22,6 @@ use terminal_group::Landing;
 use walk_engine::walk_core::{Moved, WayCore};
 
 /// One way of a pair.
-#[derive(Drop)]
 pub(crate) struct PairWay {
     /// Its script. Its direction has twice the lag.
     pub(crate) script: Script,
@@ -32,15 +33,25 @@ pub(crate) struct PairWay {
     pub(crate) said: SaidRing,
 }
 
+/// A call of its own, so that a function which drops one doesn't go through its parts.
+impl Drop for PairWay {
+    fn drop(self) {
+        let PairWay {
+            script: _,
+            landing: _,
+            core: _,
+            said: _,
+        } = self;
+    }
+}
+
 impl PairWay {
     /// Makes room for a way of a script, before any event.
-    pub(crate) fn open(alloc: Global, script: Script) -> Result<PairWay, AllocError>
+    pub(crate) fn open(alloc: Global, mut script: Script) -> Result<PairWay, AllocError>
         requires { IsWay script }
         ensures { IfOk result (λ own. IsNewWay script own) }
     {
-        let said = SaidRing::new(alloc, script.config.lag)?;
-        let landing = Landing::of(alloc, &script)?;
-        let (script, core) = open_core(alloc, script)?;
+        let (landing, core, said) = open_parts(alloc, &mut script)?;
         Ok(PairWay {
             script,
             landing,
@@ -174,16 +185,24 @@ fn carried(cause: Option<StallCause>) -> Moved
     }
 }
 
-/// Makes room for the direction of a script, before any event. A return packet needs the lag twice: until it is in a
-/// packet of the other way, and until that has come.
-fn open_core(alloc: Global, mut script: Script) -> Result<(Script, WayCore), AllocError>
-    requires { IsWay script }
-    ensures script { IfOk result (λ opened. opened.0 ≡ script) }
-    ensures core { IfOk result (λ opened. IsNewCore script opened.1) }
+/// Makes room for what a way of a script has beside it, before any event. A return packet needs the lag twice: until
+/// it is in a packet of the other way, and until that has come. The script is lent, so that it is let go once.
+fn open_parts(
+    alloc: Global,
+    script: &mut Script,
+) -> Result<(Landing, WayCore, SaidRing), AllocError>
+    requires { IsWay script.old }
+    ensures script { IfOk result (λ parts. script.new ≡ script.old) }
+    ensures landing { IfOk result (λ parts. parts.0 ≡ none_landed (bare_items script.old.items)) }
+    ensures core { IfOk result (λ parts. IsNewCore script.old parts.1) }
+    ensures said { IfOk result (λ parts.
+        parts.2 ≡ record { packets = []; room = script.old.config.lag }) }
 {
     let lag = script.config.lag;
+    let said = SaidRing::new(alloc, lag)?;
+    let landing = Landing::of(alloc, script)?;
     script.config.lag = 2 * lag;
     let core = WayCore::new(alloc, &script.config)?;
     script.config.lag = lag;
-    Ok((script, core))
+    Ok((landing, core, said))
 }

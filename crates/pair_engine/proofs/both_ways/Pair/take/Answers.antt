@@ -1,12 +1,15 @@
 -- A row of a way is tried.
-use Rattle.std.proofs.Common.{refl, subst}
+use Rattle.std.proofs.Common.{ap, refl, subst}
+use Rattle.law_model.specs.Common.{Counts}
 use Rattle.law_pair.specs.Common.{counts_on}
 use Rattle.law_pair.specs.declared.pair_events.PairEvent.TheVariants.{Take}
 use Rattle.law_pair.specs.declared.pair_events.Way.TheVariants.{There, Back}
 use Rattle.walk_engine.specs.Common.{GivesRows}
 use Rattle.pair_engine.specs.PairAfterEvent.{Paired, leg_on}
+use Rattle.pair_engine.specs.Ways.{leg_beside}
 use Rattle.pair_engine.proofs.PairEventAndRoundLaws.{there-beside, back-beside}
 use Rattle.pair_engine.proofs.PairEventAndRoundLaws.{take-follows, seen-follows}
+use Rattle.pair_engine.proofs.TakenRowAndHeardPacketLaws.{gives-same}
 use Rattle.pair_engine.proofs.both_ways.Pair.take.Goals as goal
 
 pub take_way_row-requires : goal.take_way_row-requires
@@ -33,6 +36,13 @@ pub returns-in-There-clause-gives_there : goal.returns-in-There-clause-gives_the
 returns-in-There-clause-gives_there g c =
     subst (λ (p : Paired). GivesRows g.F.FrameOut.stands_for c.args.there.now c.take_way_row.new.out (leg_on p There)
     (counts_on p.counts There).rows c.take_way_row.new.own.core.sink.taken) c.self.view_is c.take_way_row.ensures.gives
+
+pub returns-in-There-clause-gives_back : goal.returns-in-There-clause-gives_back
+returns-in-There-clause-gives_back g c =
+    subst (λ (p : Paired). GivesRows g.G.FrameOut.stands_for c.args.back.now c.args.back.now (leg_on p Back)
+    (counts_on p.counts Back).rows c.take_way_row.new.other.core.sink.taken) c.self.view_is
+    (gives-same g.G.FrameOut.stands_for c.args.back.now (leg_beside c.self.inside.back c.self.inside.there) c.self.inside.back.core.sink.taken
+    c.take_way_row.new.other.core.sink.taken (ap (λ (s : Counts). s.rows) c.take_way_row.ensures.takes.other_counts))
 
 pub take_way_row-requires-in-Back : goal.take_way_row-requires-in-Back
 take_way_row-requires-in-Back g c = back-beside c.self.inside.there c.self.inside.back c.self.invariant
@@ -62,3 +72,11 @@ returns-in-Back-clause-gives_back g c =
     subst (λ (p : Paired). GivesRows g.G.FrameOut.stands_for c.args.back.now c.take_way_row-in-Back.new.out (leg_on p Back)
     (counts_on p.counts Back).rows c.take_way_row-in-Back.new.own.core.sink.taken) c.self.view_is
     c.take_way_row-in-Back.ensures.gives
+
+pub returns-in-Back-clause-gives_there : goal.returns-in-Back-clause-gives_there
+returns-in-Back-clause-gives_there g c =
+    subst (λ (p : Paired). GivesRows g.F.FrameOut.stands_for c.args.there.now c.args.there.now (leg_on p There)
+    (counts_on p.counts There).rows c.take_way_row-in-Back.new.other.core.sink.taken) c.self.view_is
+    (gives-same g.F.FrameOut.stands_for c.args.there.now (leg_beside c.self.inside.there c.self.inside.back) c.self.inside.there.core.sink.taken
+    c.take_way_row-in-Back.new.other.core.sink.taken
+    (ap (λ (s : Counts). s.rows) c.take_way_row-in-Back.ensures.takes.other_counts))
