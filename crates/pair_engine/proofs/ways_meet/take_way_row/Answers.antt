@@ -3,13 +3,18 @@ use Rattle.std.proofs.Common.{arith}
 use Rattle.law_model.specs.session.Scenario.{packets_in}
 use Rattle.pair_engine.specs.Ways.{leg_beside}
 use Rattle.pair_engine.proofs.TakenRowAndHeardPacketLaws.{done-row, tries, waits-row, quiet-row, say-room, said-ends}
-use Rattle.pair_engine.proofs.TakenRowAndHeardPacketLaws.{said-row}
+use Rattle.pair_engine.proofs.TakenRowAndHeardPacketLaws.{gives-none, said-row}
 use Rattle.pair_engine.proofs.ways_meet.take_way_row.Goals as goal
 
 pub returns-then-row-own-clause-takes : goal.returns-then-row-own-clause-takes
 returns-then-row-own-clause-takes g c =
     let past = c.if-row-own.true in
     done-row c.args.own.now c.args.other.now c.requires c.taken-row.result c.taken-row.ensures (omega (arith, past))
+
+pub returns-then-row-own-clause-gives : goal.returns-then-row-own-clause-gives
+returns-then-row-own-clause-gives g c =
+    gives-none g.F.FrameOut.stands_for c.args.out.now (leg_beside c.args.own.now c.args.other.now)
+    c.args.own.now.core.sink.taken
 
 pub returns-in-Waiting : goal.returns-in-Waiting
 returns-in-Waiting g c =

@@ -1,5 +1,5 @@
 -- Its direction.
-use Rattle.std.proofs.Common.{◌≡◌, sym, ◌∙◌, ap, subst}
+use Rattle.std.proofs.Common.{◌≡◌, sym, ap, subst}
 use Rattle.law_model.specs.Common.{leg_of}
 use Rattle.walk_engine.specs.Common.{Parts, Walked, counts_of}
 use Rattle.walk_engine.specs.walk_core.WayParts.{WayStands}
