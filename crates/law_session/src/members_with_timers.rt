@@ -97,9 +97,9 @@ pub fn flap_law()
         Carries scenario (cells_before scenario n) line t }
 {}
 
-/// In containers. A failure that stands alone spoils the packets that it reaches into, those k of `spoils`. `count` says
-/// how many these are, and `packets` which numbers that can be. A hold-off of the most of them holds it. A line isn't
-/// restored by gaps between failures that are too short for one packet more than the restore.
+/// In containers. A failure that stands alone spoils the packets that it reaches into, those k of `spoils`. `count`
+/// says how many these are, and `packets` which numbers that can be. A hold-off of the most of them holds it. A line
+/// isn't restored by gaps between failures that are too short for one packet more than the restore.
 pub fn window_law()
     ensures spoils { (scenario : Scenario) (line first end r last k : ℕ) →
         IsWholeBut scenario line r last first end → AreDamaged scenario line first end →
