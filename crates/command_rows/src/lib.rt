@@ -10,4 +10,4 @@ mod try_rows;
 
 pub use beginnings_of_script::beginning_row;
 pub use told_words::{first_wrong, is_told};
-pub use try_rows::{Called, Ends, Program, Turns, wrong_of};
+pub use try_rows::{Called, Ends, Turns, wrong_of};

@@ -10,14 +10,7 @@
 use octet_io::{MemSink, MemSource};
 use std::alloc::{AllocError, Global};
 
-/// The program that is called.
-pub trait Program {
-    /// Calls it with words and ends. If its workers meet, each waits at its first pass until all have come, and the sink
-    /// until all others have moved.
-    fn call(&self, alloc: Global, words: &[String], ends: &mut Ends, meets: bool) -> Called;
-}
-
-/// How a call ended.
+/// How a call of the program ended.
 #[derive(Clone, Copy)]
 pub struct Called {
     /// The status.
@@ -33,7 +26,7 @@ pub struct Called {
 pub enum Turns {
     /// Nothing.
     Whole,
-    /// The workers meet.
+    /// The workers meet: each waits at its first pass until all have come, and the sink until all others have moved.
     Meeting,
     /// The input comes seven octets at a time, and the call of the source fails that has the turn's number.
     Takes,
@@ -190,15 +183,17 @@ fn ends_of(alloc: Global, case: Case<'_>, number: u32) -> Result<Ends, AllocErro
 }
 
 /// Appends what a turn is answered, with the ends that it has.
-fn say_answer<P: Program>(
+fn say_answer<F: Fn(Global, &[String], &mut Ends, bool) -> Called>(
     alloc: Global,
-    program: &P,
+    call: &F,
     case: Case<'_>,
     words: &[String],
     ends: &mut Ends,
     answer: &mut Vec<u8>,
-) {
-    let called = program.call(alloc, words, ends, matches!(case.turns, Turns::Meeting));
+)
+    requires { F.IsAlwaysCallable call.now }
+{
+    let called = call(alloc, words, ends, matches!(case.turns, Turns::Meeting));
     say(answer, &[b'0'.wrapping_add(called.status)]);
     say(answer, if called.is_handed { b"+;" } else { b";" });
     say(answer, ends.out.bytes());
@@ -210,18 +205,18 @@ fn say_answer<P: Program>(
 }
 
 /// What a turn is answered.
-fn answer_of<P: Program>(alloc: Global, program: &P, case: Case<'_>, number: u32) -> Vec<u8> {
+fn answer_of<F: Fn(Global, &[String], &mut Ends, bool) -> Called>(
+    alloc: Global,
+    call: &F,
+    case: Case<'_>,
+    number: u32,
+) -> Vec<u8>
+    requires { F.IsAlwaysCallable call.now }
+{
     let mut answer = Vec::new(alloc);
     let words = words_of(alloc, case.words);
     if let Ok(mut ends) = ends_of(alloc, case, number) {
-        say_answer(
-            alloc,
-            program,
-            case,
-            words.as_slice(),
-            &mut ends,
-            &mut answer,
-        );
+        say_answer(alloc, call, case, words.as_slice(), &mut ends, &mut answer);
     }
     answer
 }
@@ -273,29 +268,33 @@ fn say_wrong(wrong: &mut String, want: &str, answer: &[u8]) {
 }
 
 /// Tries one turn.
-fn try_turn<P: Program>(
+fn try_turn<F: Fn(Global, &[String], &mut Ends, bool) -> Called>(
     alloc: Global,
-    program: &P,
+    call: &F,
     case: Case<'_>,
     number: u32,
     want: &str,
     wrong: &mut String,
-) {
-    let answer = answer_of(alloc, program, case, number);
+)
+    requires { F.IsAlwaysCallable call.now }
+{
+    let answer = answer_of(alloc, call, case, number);
     if !is_right(alloc, case.turns, answer.as_slice(), want) {
         say_wrong(wrong, want, answer.as_slice());
     }
 }
 
 /// Tries a row, with these words or, where there are none, with its own.
-fn try_row<P: Program>(
+fn try_row<F: Fn(Global, &[String], &mut Ends, bool) -> Called>(
     alloc: Global,
-    program: &P,
+    call: &F,
     turns: Turns,
     words: &str,
     row: &str,
     wrong: &mut String,
-) {
+)
+    requires { F.IsAlwaysCallable call.now }
+{
     let (words, row) = match words {
         "" => row.split_once(';').unwrap_or(("", row)),
         _ => (words, row),
@@ -311,20 +310,27 @@ fn try_row<P: Program>(
     for part in wants.split(" THEN ") {
         let (times, want) = part.split_once(" TIMES ").unwrap_or(("1", part));
         for _ in 0..times.parse::<u32>().unwrap_or(1) {
-            try_turn(alloc, program, case, number, want, wrong);
+            try_turn(alloc, call, case, number, want, wrong);
             number = number.wrapping_add(1);
         }
     }
 }
 
-/// Tries rows: what is special in their turns, the words of all of them, which may be several with a comma between,
-/// or none where each row has its own, and the rows. The first answer that is not the wanted one is said.
-pub fn wrong_of<P: Program>(alloc: Global, program: &P, all: &[(Turns, &str, &str)]) -> String {
+/// Tries rows on a call of the program, which is given words, ends, and whether the workers meet: what is special in
+/// the turns of rows, the words of all of them, which may be several with a comma between, or none where each row has
+/// its own, and the rows. The first answer that is not the wanted one is said.
+pub fn wrong_of<F: Fn(Global, &[String], &mut Ends, bool) -> Called>(
+    alloc: Global,
+    call: &F,
+    all: &[(Turns, &str, &str)],
+) -> String
+    requires { F.IsAlwaysCallable call.now }
+{
     let mut wrong = String::new(alloc);
     for (turns, words, rows) in all {
         for row in rows.lines() {
             for words in words.split(',') {
-                try_row(alloc, program, *turns, words, row, &mut wrong);
+                try_row(alloc, call, *turns, words, row, &mut wrong);
             }
         }
     }

@@ -2,8 +2,8 @@
 //! a model of the definitions, or is counted by hand. Rows stand behind functions, so that no proof sees
 //! them.
 
-use crate::run_program::Run;
-use command_rows::{Turns, beginning_row, wrong_of};
+use crate::run_program::wrong_run_of;
+use command_rows::{Turns, beginning_row};
 
 /// Words that are no command, and scripts that are faulty or don't fit their rings.
 fn refused_rows() -> &'static str {
@@ -130,7 +130,7 @@ fn answers(rt: HostRuntime) {
         (Turns::Whole, "", option_rows()),
         (Turns::Meeting, "", meeting_row()),
     ];
-    assert_eq!(rt; wrong_of(rt.alloc(), &Run { rt: &rt }, &rows).as_str(), "");
+    assert_eq!(rt; wrong_run_of(&rt, rt.alloc(), &rows).as_str(), "");
 }
 
 #[test]
@@ -141,5 +141,5 @@ fn calls_that_fail_and_scripts_that_are_cut(rt: HostRuntime) {
         (Turns::Tells, "", untold_rows()),
         (Turns::Beginnings, "run 2", beginning_row()),
     ];
-    assert_eq!(rt; wrong_of(rt.alloc(), &Run { rt: &rt }, &rows).as_str(), "");
+    assert_eq!(rt; wrong_run_of(&rt, rt.alloc(), &rows).as_str(), "");
 }

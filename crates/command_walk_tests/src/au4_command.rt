@@ -2,8 +2,8 @@
 //! outputs that fail. What is expected comes of a model of the definitions. Rows stand behind functions, so
 //! that no proof sees them.
 
-use crate::walk_program::Walk;
-use command_rows::{Turns, wrong_of};
+use crate::walk_program::wrong_walk_of;
+use command_rows::Turns;
 
 /// Pointers that stay, move over both ends of their values, and begin anew, in the first frame too.
 fn carried_rows() -> &'static str {
@@ -101,5 +101,5 @@ fn links(rt: HostRuntime) {
         (Turns::Puts, "", put_rows()),
         (Turns::Tells, "", untold_rows()),
     ];
-    assert_eq!(rt; wrong_of(rt.alloc(), &Walk, &rows).as_str(), "");
+    assert_eq!(rt; wrong_walk_of(rt.alloc(), &rows).as_str(), "");
 }

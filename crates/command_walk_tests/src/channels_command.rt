@@ -2,8 +2,8 @@
 //! and inputs and outputs that fail. What is expected comes of a model of the definitions. Rows stand behind
 //! functions, so that no proof sees them.
 
-use crate::walk_program::Walk;
-use command_rows::{Turns, wrong_of};
+use crate::walk_program::wrong_walk_of;
+use command_rows::Turns;
 
 /// Frames in turn, frames that are refused, streams that end early, and cuts in idles, headers and areas.
 fn shared_rows() -> &'static str {
@@ -117,5 +117,5 @@ fn channels(rt: HostRuntime) {
         (Turns::Puts, "", put_rows()),
         (Turns::Tells, "", untold_rows()),
     ];
-    assert_eq!(rt; wrong_of(rt.alloc(), &Walk, &rows).as_str(), "");
+    assert_eq!(rt; wrong_walk_of(rt.alloc(), &rows).as_str(), "");
 }

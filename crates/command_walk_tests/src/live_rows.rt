@@ -2,8 +2,8 @@
 //! with a live text. What is expected comes of a model of the definitions. Rows stand behind functions, so that no
 //! proof sees them.
 
-use crate::walk_program::Walk;
-use command_rows::{Turns, wrong_of};
+use crate::walk_program::wrong_walk_of;
+use command_rows::Turns;
 
 /// Nothing is said; a frame comes out in the tick behind it; another waits in a group whose other line has more delay;
 /// at the least lag a round in each packet makes no tick. Then blanks, and a last line without its LF.
@@ -145,7 +145,7 @@ fn conversations(rt: HostRuntime) {
         (Turns::Pieces, "", faulty_rows()),
         (Turns::Pieces, "", queue_row()),
     ];
-    assert_eq!(rt; wrong_of(rt.alloc(), &Walk, &rows).as_str(), "");
+    assert_eq!(rt; wrong_walk_of(rt.alloc(), &rows).as_str(), "");
 }
 
 #[test]
@@ -156,5 +156,5 @@ fn conversations_that_are_cut_short(rt: HostRuntime) {
         (Turns::Puts, "", put_row()),
         (Turns::Tells, "", untold_row()),
     ];
-    assert_eq!(rt; wrong_of(rt.alloc(), &Walk, &rows).as_str(), "");
+    assert_eq!(rt; wrong_walk_of(rt.alloc(), &rows).as_str(), "");
 }

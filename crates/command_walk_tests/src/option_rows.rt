@@ -1,8 +1,8 @@
 //! Options of scripts: hold-off, wait to restore, and all statuses in 32 return packets. What is expected comes of a
 //! model of the definitions. Rows stand behind functions, so that no proof sees them.
 
-use crate::walk_program::Walk;
-use command_rows::{Turns, wrong_of};
+use crate::walk_program::wrong_walk_of;
+use command_rows::Turns;
 
 /// One failure that makes two packets in turn unreadable: held or not, and back by how long line 1 waits. Then one from
 /// the start, after which the line has to be restored.
@@ -229,5 +229,5 @@ fn options(rt: HostRuntime) {
         (Turns::Whole, "", faulty_rows()),
         (Turns::Whole, "", paired_rows()),
     ];
-    assert_eq!(rt; wrong_of(rt.alloc(), &Walk, &rows).as_str(), "");
+    assert_eq!(rt; wrong_walk_of(rt.alloc(), &rows).as_str(), "");
 }

@@ -1,8 +1,8 @@
 //! Pairs: two scripts there and back, what is wrong with a text, and inputs and outputs that fail. What is
 //! expected comes of a model of the definitions. Rows stand behind functions, so that no proof sees them.
 
-use crate::walk_program::Walk;
-use command_rows::{Turns, wrong_of};
+use crate::walk_program::wrong_walk_of;
+use command_rows::Turns;
 
 /// Frames each way, packets of the way back that are lost by a failure, lags, delays, and items that are refused.
 fn paired_rows() -> &'static str {
@@ -117,5 +117,5 @@ fn pairs(rt: HostRuntime) {
         (Turns::Puts, "", put_rows()),
         (Turns::Tells, "", told_rows()),
     ];
-    assert_eq!(rt; wrong_of(rt.alloc(), &Walk, &rows).as_str(), "");
+    assert_eq!(rt; wrong_walk_of(rt.alloc(), &rows).as_str(), "");
 }

@@ -1,8 +1,8 @@
 //! Scripts, their first faults, and what comes of their walks by a model that was written apart. Rows stand
 //! behind functions, so that no proof sees them.
 
-use crate::walk_program::Walk;
-use command_rows::{Turns, wrong_of};
+use crate::walk_program::wrong_walk_of;
+use command_rows::Turns;
 
 /// Texts, and the first fault that is told of each, where there is one.
 fn fault_rows() -> &'static str {
@@ -219,5 +219,5 @@ fn scripts_are_walked_or_refused(rt: HostRuntime) {
         (Turns::Whole, "walk", limit_rows()),
         (Turns::Whole, "walk", walk_rows()),
     ];
-    assert_eq!(rt; wrong_of(rt.alloc(), &Walk, &rows).as_str(), "");
+    assert_eq!(rt; wrong_walk_of(rt.alloc(), &rows).as_str(), "");
 }

@@ -2,8 +2,8 @@
 //! and its faults. What is expected comes of a model of the definitions. Rows stand behind functions, so that no proof
 //! sees them.
 
-use crate::walk_program::Walk;
-use command_rows::{Turns, wrong_of};
+use crate::walk_program::wrong_walk_of;
+use command_rows::Turns;
 
 /// One damaged container of one line, where the sink stops and where it goes on; the same of both lines, so that none
 /// is read; and a failure of 3 ms. Then a member that is out and silent, which keeps the sink from going on, and a line
@@ -135,5 +135,5 @@ fn sinks(rt: HostRuntime) {
         (Turns::Whole, "", faulty_rows()),
         (Turns::Whole, "", paired_rows()),
     ];
-    assert_eq!(rt; wrong_of(rt.alloc(), &Walk, &rows).as_str(), "");
+    assert_eq!(rt; wrong_walk_of(rt.alloc(), &rows).as_str(), "");
 }

@@ -1,8 +1,8 @@
 //! The program that walks by words, inputs and faults. What is expected comes of a model of the definitions,
 //! or is counted by hand. Rows stand behind functions, so that no proof sees them.
 
-use crate::walk_program::Walk;
-use command_rows::{Turns, beginning_row, wrong_of};
+use crate::walk_program::wrong_walk_of;
+use command_rows::{Turns, beginning_row};
 
 /// Walks and loads. At the end a line beyond the group of 64, and a frame for which there is no room behind 256 others.
 fn answer_rows() -> &'static str {
@@ -309,7 +309,7 @@ fn answers(rt: HostRuntime) {
         (Turns::Whole, "", unlocked_rows()),
         (Turns::Lines, "trace", trace_rows()),
     ];
-    assert_eq!(rt; wrong_of(rt.alloc(), &Walk, &rows).as_str(), "");
+    assert_eq!(rt; wrong_walk_of(rt.alloc(), &rows).as_str(), "");
 }
 
 #[test]
@@ -322,5 +322,5 @@ fn calls_that_fail_and_scripts_that_are_cut(rt: HostRuntime) {
         (Turns::Tells, "", untold_rows()),
         (Turns::Beginnings, "walk", beginning_row()),
     ];
-    assert_eq!(rt; wrong_of(rt.alloc(), &Walk, &rows).as_str(), "");
+    assert_eq!(rt; wrong_walk_of(rt.alloc(), &rows).as_str(), "");
 }
