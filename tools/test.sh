@@ -17,26 +17,31 @@ add() {
     failed=$((failed + $3))
 }
 
-# Two numbers are two words.
-# shellcheck disable=SC2046
-add "examples, mistakes, and the commands of README, TUTORIAL and LIVE" $("$top/.ci/examples" test)
-
-# The tests of crates, without the toolchain's checks where that can be.
+# The tests of crates, beside all else, without the toolchain's checks where that can be.
+tests="parts_tests command_tests"
 if command -v rt > /dev/null 2>&1; then
     # shellcheck source=/dev/null
     . "$top/tools/build.sh"
     kit=$(kit_of)
     if link_kit "$work/kit" 2> /dev/null; then kit=$work/kit; fi
-    for name in parts_tests command_tests; do
-        crate=$top/crates/$name
-        toolchain env TMPDIR="$work" "$kit/bin/rt" try --test < /dev/null > "$work/log" 2>&1
-        grep -E '^test .* FAILED|^error' "$work/log" >&2
-        # shellcheck disable=SC2046
-        add "tests of $name" $(sed -n 's/^test result: .* \([0-9]*\) passed; \([0-9]*\) failed; .*/\1 \2/p' "$work/log")
-    done
+    # shellcheck disable=SC2016
+    begin env TMPDIR="$work" sh -c 'for name in $1; do cd "$2/crates/$name" && "$3/bin/rt" try --test > "$4/$name" 2>&1 & done; wait' \
+        sh "$tests" "$top" "$kit" "$work" < /dev/null
 else
     echo "vcat: there is no rt, so the tests of crates are left out." >&2
+    tests=
 fi
+
+# Two numbers are two words.
+# shellcheck disable=SC2046
+add "examples, mistakes, and the commands of README, TUTORIAL and LIVE" $("$top/.ci/examples" test)
+if [ -n "$builder" ]; then wait "$builder"; fi
+builder=
+for name in $tests; do
+    grep -E '^test .* FAILED|^error' "$work/$name" >&2
+    # shellcheck disable=SC2046
+    add "tests of $name" $(sed -n 's/^test result: .* \([0-9]*\) passed; \([0-9]*\) failed; .*/\1 \2/p' "$work/$name")
+done
 
 echo "Nothing was proved here: rt ci does that, $gate_time."
 echo "$passed passed, $failed failed"
