@@ -102,9 +102,9 @@ take_trial() {
             tr '\0' '\n' < "$process/cmdline" | made=$made awk '$0 == ENVIRON["made"] { exit } { print }' |
                 sed "s/'/'\\\\''/g; s/.*/'&'/" | tr '\n' ' '
             # shellcheck disable=SC2016
-            echo '"${0%/*}/trial.program" "$@"'
+            echo '"${0%/*}/program" "$@"'
         } > "$1"
-        chmod +x "$1" && cp "$made" "$1.program" && mv "$1.program" "$crate/out/trial.program"
+        chmod +x "$1" && cp "$made" "$1.program" && mv "$1.program" "${trial%/*}/program"
         return
     done
 }
@@ -140,7 +140,7 @@ build_trial() {
     start_signs "no proved program stands here: a trial, which proves nothing, is built once, in $trial_time$others. \
 rt ci builds the proved ones: $gate_time; VCAT_PROVED=1 ./vcat $asked .. this one alone: $proved_time"
     : > "$work/start"
-    if [ -w "$crate/out" ] && { make_trial "$work/made" || make_checked_trial "$work/made"; }; then
+    if [ -w "${trial%/*}" ] && { make_trial "$work/made" || make_checked_trial "$work/made"; }; then
         cp "$work/made" "$trial.$$" && touch -r "$work/start" "$trial.$$" && mv "$trial.$$" "$trial" && program=$trial
     fi
     stop_signs
@@ -174,7 +174,7 @@ build() {
         echo "vcat: the program is not built, and the toolchain's command rt is not there to build it." >&2
         exit 127
     fi
-    mkdir -p "$crate/out" 2> /dev/null
+    mkdir -p "${trial%/*}" 2> /dev/null
     make_work
     if [ "${VCAT_PROVED-}" = 1 ]; then
         build_proved
