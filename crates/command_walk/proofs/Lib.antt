@@ -1,5 +1,6 @@
 pub mod H4TextAndPacketsLaws
 pub mod ServiceBesideFatesLaws
+pub mod StreamSizeLaws
 pub mod TurnsLeftLaws
 pub mod WalkCaptureAndFrameSumLaws
 pub mod WalkCommandAndHeadlineLaws

@@ -3,7 +3,7 @@ use Rattle.std.proofs.Common.{◌≡◌, ◌≤◌, ℕ, Bool, List, length, Opt
 use Rattle.std.proofs.Common.{◌∙◌, ap, subst, inl, inr, arith, OnOk, ◌<◌, true, false, ◌&&◌, nat_le, [], ◌∷◌}
 use Rattle.std.proofs.Common.{if◌then◌else◌, map, ◌++◌, append_assoc, decimal, ◌-◌, ◌+◌, reverse, slice_index_or}
 use Rattle.std.proofs.Common.{flat_map}
-use Rattle.law_model.specs.Common.{AppendsPart, Counts, IsWithin, longest_frame, Leg, leg_of, scenario_by}
+use Rattle.law_model.specs.Common.{AppendsPart, Counts, IsWithin, Leg, leg_of, scenario_by}
 use Rattle.law_model.specs.declared.script_types.Script.{Script}
 use Rattle.text_scripts.specs.declared.script_read.script_fault.ScriptFault.{ScriptFault}
 use Rattle.text_scripts.specs.script_read.Script.{script_of}
@@ -32,8 +32,7 @@ use Rattle.std.specs.Prelude.{String, string_bytes, IsNone, nat_lt, drop, ◌==�
 use Rattle.std.specs.Option.{option_or}
 use Rattle.std.specs.declared.alloc.Global.{Global}
 use Rattle.std.proofs.lemmas.Bool.{cases_Bool, and_parts, leb-true, ltb-true}
-use Rattle.text_lines.specs.WordsOfLine.{number_of}
-use Rattle.command_words.specs.CommandLineWords.{is_number, number_in, are_plain}
+use Rattle.command_words.specs.CommandLineWords.{number_in, are_plain}
 use Rattle.command_parts.specs.Task.{writes, writes_both}
 use Rattle.command_parts.specs.declared.stop_and_status.Stop.TheVariants.{Memory, Read, Refused, TooLong, Write}
 use Rattle.command_parts.proofs.SourceTextAndStopLaws.{ends-no-memory}
@@ -55,7 +54,8 @@ use Rattle.command_walk.specs.commands.Noise.{noise_words, got_through, noise_an
 use Rattle.command_walk.specs.commands.Au4.{au4_words, carried, au4_answer}
 use Rattle.command_walk.specs.commands.Channels.{channels_words, shared, TellsPlan}
 use Rattle.command_walk.specs.commands.Make.{load_of, make_words}
-use Rattle.command_walk.specs.commands.Stream.{ticks_of, rate_of, numbers_in, stream_words}
+use Rattle.command_walk.specs.commands.Stream.{sizes_in, ticks_of, rate_of, numbers_in, stream_words}
+use Rattle.command_walk.proofs.StreamSizeLaws.{FitRate, number-fits, sizes-fit}
 use Rattle.command_walk.specs.WordsOfCommands.{command_of, command_in, task_for, task_of, usage, Fits, task_at}
 use Rattle.command_walk.specs.WordsOfCommands.{RunsScript}
 use Rattle.command_parts.specs.Gives.{IsEnd, StopsTalk}
@@ -177,16 +177,6 @@ some-command P o command is holds = let Q : Option WalkCommand → Type 0 = λ o
 
 -- ---- What is known of a command by the words that it was, and of its task.
 -- ---- numbers
-number-fits : (least most : ℕ) (w : List ℕ) → IfSome (number_in least most w) (IsWithin least most)
-number-fits least most w =
-    elim (cases_Bool (is_number w && (nat_le least (number_of w) && nat_le (number_of w) most))) [
-      | inl within ↦
-          let both = and_parts (nat_le least (number_of w)) (nat_le (number_of w) most)
-          (and_parts (is_number w) (nat_le least (number_of w) && nat_le (number_of w) most) within).1 in
-          rw within (leb-true least (number_of w) both.0, leb-true (number_of w) most both.1)
-      | inr outside ↦ rw outside tt
-    ]
-
 or-fits : (f g : Option WalkCommand) → IfSome f Fits → IfSome g Fits → IfSome (option_or f g) Fits
 or-fits None g a b = b
 or-fits (Some command) g a b = a
@@ -209,9 +199,9 @@ load-fits None lines ticks a b = tt
 
 -- the ticks from one to before another
 abbrev AreTicks : ℕ × ℕ → Type 0
-AreTicks ticks = (ticks.0 < ticks.1) × (ticks.1 ≤ most_drawn_ticks)
+AreTicks ticks = (ticks.0 < ticks.1) × (ticks.1 ≤ most_ticks)
 
-ticks-fit : (first end : Option ℕ) → IfSome end (IsWithin 0 most_drawn_ticks) → IfSome (ticks_of first end) AreTicks
+ticks-fit : (first end : Option ℕ) → IfSome end (IsWithin 0 most_ticks) → IfSome (ticks_of first end) AreTicks
 ticks-fit (Some first) (Some end) a =
     elim (cases_Bool (nat_lt first end)) [
       | inl less ↦ rw less (ltb-true first end less, a.1)
@@ -220,14 +210,14 @@ ticks-fit (Some first) (Some end) a =
 ticks-fit (Some first) None a = tt
 ticks-fit None end a = tt
 
-rate-fits : (octets mbits : Option ℕ) (ticks : Option (ℕ × ℕ)) (number : Option ℕ) → IfSome octets (IsWithin 64 longest_frame) →
-    IfSome mbits (IsWithin 1 400000)
-    → IfSome ticks AreTicks → IfSome (rate_of octets mbits ticks number) Fits
-rate-fits (Some octets) (Some mbits) (Some ticks) (Some number) a b c =
-    record { least = a.0; most = a.1; some = b.0; fast = b.1; before = c.0; end = c.1 }
-rate-fits (Some octets) (Some mbits) (Some ticks) None a b c = tt
-rate-fits (Some octets) (Some mbits) None number a b c = tt
-rate-fits (Some octets) None ticks number a b c = tt
+rate-fits : (sizes : Option (List ℕ)) (mbits : Option ℕ) (ticks : Option (ℕ × ℕ)) (number : Option ℕ) →
+    IfSome sizes FitRate → IfSome mbits (IsWithin 1 400000) → IfSome ticks AreTicks →
+    IfSome (rate_of sizes mbits ticks number) Fits
+rate-fits (Some sizes) (Some mbits) (Some ticks) (Some number) a b c =
+    record { some = a.0; few = a.1; sizes = a.2; moves = b.0; slow = b.1; before = c.0; end = c.1 }
+rate-fits (Some sizes) (Some mbits) (Some ticks) None a b c = tt
+rate-fits (Some sizes) (Some mbits) None number a b c = tt
+rate-fits (Some sizes) None ticks number a b c = tt
 rate-fits None mbits ticks number a b c = tt
 
 -- ---- words
@@ -266,15 +256,15 @@ make-fits words =
 
 numbers-fit : (ws : List (List ℕ)) → IfSome (numbers_in ws) Fits
 numbers-fit ws =
-    let octets = number_in 64 longest_frame (word_at 0 ws) in
+    let sizes = sizes_in (word_at 0 ws) in
     let mbits = number_in 1 400000 (word_at 1 ws) in
-    let first = number_in 0 most_drawn_ticks (word_at 2 ws) in
-    let end = number_in 0 most_drawn_ticks (word_at 3 ws) in
+    let first = number_in 0 most_ticks (word_at 2 ws) in
+    let end = number_in 0 most_ticks (word_at 3 ws) in
     let number = number_in 0 18446744073709551615 (word_at 4 ws) in
-    if-fits (length ws == 5) (rate_of octets mbits (ticks_of first end) number)
-    (rate-fits octets mbits (ticks_of first end) number (number-fits 64 longest_frame (word_at 0 ws))
+    if-fits (length ws == 5) (rate_of sizes mbits (ticks_of first end) number)
+    (rate-fits sizes mbits (ticks_of first end) number (sizes-fit (word_at 0 ws))
     (number-fits 1 400000 (word_at 1 ws))
-    (ticks-fit first end (number-fits 0 most_drawn_ticks (word_at 3 ws))))
+    (ticks-fit first end (number-fits 0 most_ticks (word_at 3 ws))))
 
 stream-fits : (words : List (List ℕ)) → IfSome (stream_words words) Fits
 stream-fits words =

@@ -4,7 +4,7 @@ use Rattle.std.specs.Option.{option_or}
 use Rattle.std.specs.declared.alloc.Global.{Global}
 use Rattle.law_model.specs.session.ValidScript.{IsWithin}
 use Rattle.text_scripts.specs.make_load.Load.{load}
-use Rattle.text_scripts.specs.rate_load.RateTexts.{IsRateLoad}
+use Rattle.law_rates.specs.Rates.{IsRate}
 use Rattle.command_words.specs.CommandLineWords.{taken_as}
 use Rattle.command_parts.specs.Common.{Task, none, reads, makes, talks, Lent}
 use Rattle.walk_engine.specs.Common.{Walked}
@@ -134,7 +134,7 @@ Fits Channels = Unit {0}
 Fits Pair = Unit {0}
 Fits (Live trace) = Unit {0}
 Fits (Make number lines ticks) = IsWithin 1 64 lines × IsWithin 1 most_drawn_ticks ticks
-Fits (Stream load) = IsRateLoad load
+Fits (Stream rate) = IsRate rate
 
 -- ---- of the words of a command line
 abbrev pub command_in : List (String Global) → Option WalkCommand

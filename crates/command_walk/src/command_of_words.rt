@@ -13,9 +13,9 @@ use crate::commands::{
 use crate::walk_end::WalkEnd;
 use command_parts::{Ran, Stop, tell_usage};
 use command_words::FromWords;
+use law_rates::Rate;
 use octet_io::{ByteSink, ByteSource};
 use std::alloc::Global;
-use text_scripts::rate_load::RateLoad;
 use walk_engine::walk_core::Walk;
 
 /// What the program is told to do.
@@ -55,7 +55,7 @@ pub enum WalkCommand {
     /// `make`: make the walk of the load of a number, of 1 to 64 lines and 1 to 1,000,000 ticks.
     Make { number: u64, lines: u8, ticks: u32 },
     /// `stream`: write the script lines of a client that sends at a rate.
-    Stream(RateLoad),
+    Stream(Rate),
 }
 
 impl FromWords for WalkCommand {
@@ -119,7 +119,7 @@ pub(crate) fn run<S: ByteSource, K: ByteSink, E: ByteSink>(
             lines,
             ticks,
         } => make::make(alloc, number, lines, ticks, out),
-        WalkCommand::Stream(load) => stream::stream(&load, out),
+        WalkCommand::Stream(rate) => stream::stream(&rate, out),
     }
 }
 

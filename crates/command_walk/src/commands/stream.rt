@@ -1,27 +1,71 @@
 //! `stream`: the script lines of a client that sends at a rate are written.
-ghost use Rattle.std.specs.Prelude.{◌≡◌, None, map, string_bytes};
-ghost use Rattle.text_scripts.specs.rate_load.RateTexts.{IsRateLoad};
+ghost use Rattle.std.specs.Prelude.{◌≡◌, ◌<◌, ◌∷◌, ◌++◌, length, None, IfSome, IfNone, map, string_bytes};
+ghost use Rattle.law_rates.specs.Rates.{IsRate};
 ghost use Rattle.command_words.specs.CommandLineWords.{number_in};
 ghost use Rattle.command_parts.specs.Task.{makes};
 ghost use Rattle.command_parts.specs.Ends.{lent, no_source};
 ghost use Rattle.command_parts.specs.Gives.{GivesAlone};
-ghost use Rattle.command_walk.specs.commands.Stream.{ticks_of, rate_of, numbers_in, stream_words, stream_answer};
-ghost use Rattle.law_model.specs.Common.{longest_frame, most_drawn_ticks};
+ghost use Rattle.command_walk.specs.commands.Stream.{LacksComma, sizes_in, with_size, ticks_of, rate_of, numbers_in};
+ghost use Rattle.command_walk.specs.commands.Stream.{stream_words, stream_answer};
+ghost use Rattle.law_model.specs.Common.{longest_frame, most_ticks};
 
 use crate::command_of_words::WalkCommand;
 use command_parts::{Ran, Stop};
 use command_words::number_within;
-use law_model::{LONGEST_FRAME, MOST_DRAWN_TICKS};
+use law_model::{LONGEST_FRAME, MOST_TICKS};
+use law_rates::{MOST_SIZES, Rate, Sizes};
+use memchr::memchr;
 use octet_io::ByteSink;
-use text_scripts::rate_load::{RateLoad, is_too_long, write_lines};
+use text_scripts::rate_load::{is_too_long, write_lines};
 use walk_engine::walk_core::Walk;
+
+/// What stands before and after the first comma of a word.
+fn cut(word: &[u8]) -> Option<(&[u8], &[u8])>
+    ensures before { IfSome result (λ parts. LacksComma parts.0.now) }
+    ensures some { IfSome result (λ parts. word.now ≡ parts.0.now ++ 44 ∷ parts.1.now) }
+    ensures none { IfNone result (LacksComma word.now) }
+    ensures moves { IfSome result (λ parts. length parts.1.now < length word.now) }
+{
+    let Some(end) = memchr(b',', word) else {
+        return None;
+    };
+    Some((&word[..end], &word[end + 1..]))
+}
+
+/// One size more, where a word is one and there is room for it.
+fn with_size(mut sizes: Sizes, word: &[u8]) -> Option<Sizes>
+    ensures { result ≡ with_size sizes (number_in 64 longest_frame word.now) }
+{
+    let size = number_within(word, 64, LONGEST_FRAME as u64)? as u16;
+    if sizes.len() == MOST_SIZES {
+        return None;
+    }
+    sizes.push(size);
+    Some(sizes)
+}
+
+/// The sizes of a word.
+fn sizes_of(word: &[u8]) -> Option<Sizes>
+    ensures { result ≡ sizes_in word.now }
+{
+    let mut sizes = Sizes::new();
+    let mut rest = word;
+    while let Some((part, later)) = cut(rest) {
+        let Some(more) = with_size(sizes, part) else {
+            return None;
+        };
+        sizes = more;
+        rest = later;
+    }
+    with_size(sizes, rest)
+}
 
 /// The ticks of two words, the first of them before the second.
 fn ticks_of(first: &[u8], end: &[u8]) -> Option<(u32, u32)>
-    ensures { result ≡ ticks_of (number_in 0 most_drawn_ticks first.now) (number_in 0 most_drawn_ticks end.now) }
+    ensures { result ≡ ticks_of (number_in 0 most_ticks first.now) (number_in 0 most_ticks end.now) }
 {
-    let first = number_within(first, 0, MOST_DRAWN_TICKS)? as u32;
-    let end = number_within(end, 0, MOST_DRAWN_TICKS)? as u32;
+    let first = number_within(first, 0, MOST_TICKS)? as u32;
+    let end = number_within(end, 0, MOST_TICKS)? as u32;
     if first < end {
         Some((first, end))
     } else {
@@ -29,22 +73,22 @@ fn ticks_of(first: &[u8], end: &[u8]) -> Option<(u32, u32)>
     }
 }
 
-/// The load of three words and two ticks.
+/// The rate of three words and two ticks.
 fn rate_of(
-    octets: &[u8],
+    sizes: &[u8],
     mbits: &[u8],
     ticks: Option<(u32, u32)>,
     number: &[u8],
 ) -> Option<WalkCommand>
-    ensures { result ≡ rate_of (number_in 64 longest_frame octets.now) (number_in 1 400000 mbits.now)
+    ensures { result ≡ rate_of (sizes_in sizes.now) (number_in 1 400000 mbits.now)
         ticks (number_in 0 18446744073709551615 number.now) }
 {
-    let octets = number_within(octets, 64, LONGEST_FRAME as u64)? as u16;
+    let sizes = sizes_of(sizes)?;
     let mbits = number_within(mbits, 1, 400_000)? as u32;
     let (first, end) = ticks?;
     let number = number_within(number, 0, u64::MAX)?;
-    Some(WalkCommand::Stream(RateLoad {
-        octets,
+    Some(WalkCommand::Stream(Rate {
+        sizes,
         mbits,
         first,
         end,
@@ -52,15 +96,15 @@ fn rate_of(
     }))
 }
 
-/// The load of five words.
+/// The rate of five words.
 fn numbers_in(words: &[String]) -> Option<WalkCommand>
     ensures { result ≡ numbers_in (map string_bytes words.now) }
 {
     match words {
-        [octets, mbits, first, end, number] => {
+        [sizes, mbits, first, end, number] => {
             let ticks = ticks_of(first.as_bytes(), end.as_bytes());
             rate_of(
-                octets.as_bytes(),
+                sizes.as_bytes(),
                 mbits.as_bytes(),
                 ticks,
                 number.as_bytes(),
@@ -70,7 +114,7 @@ fn numbers_in(words: &[String]) -> Option<WalkCommand>
     }
 }
 
-/// The words `stream OCTETS MBITS FIRST END NUMBER`.
+/// The words `stream OCTETS MBITS FIRST END NUMBER`, of which OCTETS is one size or some with commas between.
 pub fn words(words: &[String]) -> Option<WalkCommand>
     ensures { result ≡ stream_words (map string_bytes words.now) }
 {
@@ -80,17 +124,17 @@ pub fn words(words: &[String]) -> Option<WalkCommand>
     }
 }
 
-/// Writes the lines of a load, where they have at most 67,108,864 octets.
-pub fn stream<K: ByteSink>(load: &RateLoad, out: &mut K) -> Result<Ran<Option<Walk>>, Stop>
-    requires { IsRateLoad load.now }
+/// Writes the lines of a rate, where they have at most 67,108,864 octets.
+pub fn stream<K: ByteSink>(rate: &Rate, out: &mut K) -> Result<Ran<Option<Walk>>, Stop>
+    requires { IsRate rate.now }
     ensures { GivesAlone no_source
         (lent K.written K.faults out.old out.new)
-        (makes (stream_answer load.now)) (λ walk. walk ≡ None) result }
+        (makes (stream_answer rate.now)) (λ walk. walk ≡ None) result }
 {
-    if is_too_long(load) {
+    if is_too_long(rate) {
         return Err(Stop::TooLong);
     }
-    let written = write_lines(load, out);
+    let written = write_lines(rate, out);
     Ok(Ran {
         made: None,
         written,
