@@ -67,11 +67,12 @@ size_more all sizes next None others is more = absurd cc
 size_more all sizes next (Some n) others is more =
     elim (cases_lt (length sizes) 16) [
       | inl room ↦ (
-        let same : next ≡ sizes ++ n ∷ [] = (let e = more ∙ added sizes n room in cc) in
-        let long = length-append sizes (n ∷ []) in
-        let size = ap length same in
-        (is ∙ joined_next sizes n (all_of others) ∙ ap (λ front. joined front (all_of others)) (sym same),
-        omega (arith, size, long, room)))
+          let same : next ≡ sizes ++ n ∷ [] = (let e = more ∙ added sizes n room in cc) in
+          let long = length-append sizes (n ∷ []) in
+          let size = ap length same in (
+            is ∙ joined_next sizes n (all_of others) ∙ ap (λ front. joined front (all_of others)) (sym same),
+            omega (arith, size, long, room),
+          ))
       | inr many ↦ (let e = more ∙ full sizes n many in absurd cc)
     ]
 
@@ -98,9 +99,9 @@ size_last all sizes (Some n) is few =
     let long = length-append sizes (n ∷ []) in
     elim (cases_lt (length sizes) 16) [
       | inl room ↦ (
-        let fits : nat_le (length (sizes ++ n ∷ [])) 16 ≡ true =
-        le-leb (length (sizes ++ n ∷ [])) 16 (omega (arith, long, room)) in
-        added sizes n room ∙ sym (ap few_of is ∙ rw fits refl))
+          let fits : nat_le (length (sizes ++ n ∷ [])) 16 ≡ true =
+          le-leb (length (sizes ++ n ∷ [])) 16 (omega (arith, long, room)) in
+          added sizes n room ∙ sym (ap few_of is ∙ rw fits refl))
       | inr many ↦ full sizes n many ∙ sym (ap few_of is ∙ none_fit sizes n (Some []) many)
     ]
 

@@ -72,10 +72,27 @@ const WALKS: &str = "\
     make 1 1=> usage\n\
     make 1 1 1 1=> usage\n\
     make=> usage\n\
-    stream 64 1 0 30 1=> Stream(RateLoad { octets: 64, mbits: 1, first: 0, end: 30, number: 1 })\n\
-    stream 9600 400000 999999 1000000 18446744073709551615=> \
-        Stream(RateLoad { octets: 9600, mbits: 400000, first: 999999, end: 1000000, number: 18446744073709551615 })\n\
-    stream 0064 01 0000000000003 4 0=> Stream(RateLoad { octets: 64, mbits: 1, first: 3, end: 4, number: 0 })\n\
+    stream 64 1 0 30 1=> Stream(Rate { \
+        sizes: Sizes { sizes: [64, 0, 0, 0, 0, 0, 0, 0, 0, 0, 0, 0, 0, 0, 0, 0], count: 1 }, \
+        mbits: 1, first: 0, end: 30, number: 1 })\n\
+    stream 9600 400000 99999999 100000000 18446744073709551615=> \
+        Stream(Rate { \
+        sizes: Sizes { sizes: [9600, 0, 0, 0, 0, 0, 0, 0, 0, 0, 0, 0, 0, 0, 0, 0], count: 1 }, \
+        mbits: 400000, first: 99999999, end: 100000000, number: 18446744073709551615 })\n\
+    stream 0064,00000000000065 01 0000000000003 4 0=> Stream(Rate { \
+        sizes: Sizes { sizes: [64, 65, 0, 0, 0, 0, 0, 0, 0, 0, 0, 0, 0, 0, 0, 0], count: 2 }, \
+        mbits: 1, first: 3, end: 4, number: 0 })\n\
+    stream 64,65,66,67,68,69,70,71,72,73,74,75,76,77,78,9600 1 0 30 1=> Stream(Rate { \
+        sizes: Sizes { sizes: [64, 65, 66, 67, 68, 69, 70, 71, 72, 73, 74, 75, 76, 77, 78, 9600], count: 16 }, \
+        mbits: 1, first: 0, end: 30, number: 1 })\n\
+    stream 64,65,66,67,68,69,70,71,72,73,74,75,76,77,78,79,80 1 0 30 1=> usage\n\
+    stream 64,63 1 0 30 1=> usage\n\
+    stream 64,9601 1 0 30 1=> usage\n\
+    stream 64, 1 0 30 1=> usage\n\
+    stream ,64 1 0 30 1=> usage\n\
+    stream 64,,65 1 0 30 1=> usage\n\
+    stream , 1 0 30 1=> usage\n\
+    stream 64;65 1 0 30 1=> usage\n\
     stream 63 1 0 30 1=> usage\n\
     stream 9601 1 0 30 1=> usage\n\
     stream 65600 1 0 30 1=> usage\n\
@@ -83,8 +100,8 @@ const WALKS: &str = "\
     stream 64 400001 0 30 1=> usage\n\
     stream 64 1 30 30 1=> usage\n\
     stream 64 1 31 30 1=> usage\n\
-    stream 64 1 0 1000001 1=> usage\n\
-    stream 64 1 1000000 1000000 1=> usage\n\
+    stream 64 1 0 100000001 1=> usage\n\
+    stream 64 1 100000000 100000000 1=> usage\n\
     stream 64 1 0 4294967297 1=> usage\n\
     stream 64 1 0 30 18446744073709551616=> usage\n\
     stream 64 1 0 30=> usage\n\

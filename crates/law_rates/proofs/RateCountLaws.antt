@@ -62,24 +62,26 @@ begun_first sizes octets zero i within = absurd (omega (arith, within))
 begun_first sizes octets (suc k) i within =
     elim (cases_lt octets (octets_before sizes k)) [
       | inl high ↦ (
-        let step = begun_no sizes octets (suc k) k refl high in
-        let few = begun_few sizes octets k in
-        elim (cases_lt i k) [
-          | inl early ↦ (
-            let rest = begun_first sizes octets k i early in
-            (λ low. (let r = rest.0 low in omega (arith, r, step)),
-            λ begun. rest.1 (omega (arith, begun, step))))
-          | inr late ↦ (
-            let same : i ≡ k = omega (arith, late, within) in
-            let moved = ap (octets_before sizes) same in
-            (λ low. absurd (omega (arith, low, moved, high)),
-            λ begun. absurd (omega (arith, begun, step, few, late))))
-        ])
+          let step = begun_no sizes octets (suc k) k refl high in
+          let few = begun_few sizes octets k in
+          elim (cases_lt i k) [
+            | inl early ↦ (
+                let rest = begun_first sizes octets k i early in (
+                  λ low. (let r = rest.0 low in omega (arith, r, step)),
+                  λ begun. rest.1 (omega (arith, begun, step)),
+                ))
+            | inr late ↦ (
+                let same : i ≡ k = omega (arith, late, within) in
+                let moved = ap (octets_before sizes) same in (
+                  λ low. absurd (omega (arith, low, moved, high)),
+                  λ begun. absurd (omega (arith, begun, step, few, late)),
+                ))
+          ])
       | inr low ↦ (
-        let step = begun_yes sizes octets (suc k) k refl low in
-        let all = begun_all sizes octets k k (omega arith) low in
-        let rises = before_rises sizes i k (omega (arith, within)) in
-        (λ _. omega (arith, step, all, within), λ _. omega (arith, rises, low)))
+          let step = begun_yes sizes octets (suc k) k refl low in
+          let all = begun_all sizes octets k k (omega arith) low in
+          let rises = before_rises sizes i k (omega (arith, within)) in
+          (λ _. omega (arith, step, all, within), λ _. omega (arith, rises, low)))
     ]
 
 -- ---- by whole turns
@@ -106,22 +108,25 @@ counted sizes octets turn k some are is =
     let moved : q * octets_before sizes n ≡ q * turn = ap (λ m. q * m) (sym is) in
     elim (cases_order q whole) [
       | inl same ↦ (
-        let first = begun_first sizes rest n r r-less in
-        let e : q * turn ≡ whole * turn = ap (λ m. m * turn) same in
-        let f : q * n ≡ n * whole = (let g = ap (λ m. m * n) same in omega (arith, g)) in
-        (λ low. (let begun = first.0 (omega (arith, low, before, moved, e, split)) in omega (arith, begun, here, f)),
-        λ less. (let low = first.1 (omega (arith, less, here, f)) in omega (arith, low, before, moved, e, split))))
+          let first = begun_first sizes rest n r r-less in
+          let e : q * turn ≡ whole * turn = ap (λ m. m * turn) same in
+          let f : q * n ≡ n * whole = (let g = ap (λ m. m * n) same in omega (arith, g)) in (
+            λ low. (let begun = first.0 (omega (arith, low, before, moved, e, split)) in omega (arith, begun, here, f)),
+            λ less. (let low = first.1 (omega (arith, less, here, f)) in omega (arith, low, before, moved, e, split)),
+          ))
       | inr (inl less) ↦ (
-        let e : (q + 1) * turn ≤ whole * turn = mul-le-mul_right turn (omega (arith, less)) in
-        let f : (q + 1) * n ≤ whole * n = mul-le-mul_right n (omega (arith, less)) in
-        (λ _. omega (arith, f, here, r-less),
-        λ _. omega (arith, e, before, moved, own, bounds.0, inside, is, split)))
+          let e : (q + 1) * turn ≤ whole * turn = mul-le-mul_right turn (omega (arith, less)) in
+          let f : (q + 1) * n ≤ whole * n = mul-le-mul_right n (omega (arith, less)) in (
+            λ _. omega (arith, f, here, r-less),
+            λ _. omega (arith, e, before, moved, own, bounds.0, inside, is, split),
+          ))
       | inr (inr more) ↦ (
-        let e : (whole + 1) * turn ≤ q * turn = mul-le-mul_right turn (omega (arith, more)) in
-        let f : (whole + 1) * n ≤ q * n = mul-le-mul_right n (omega (arith, more)) in
-        let rest-less : rest < turn = mod_below octets turn some-turn in
-        (λ low. absurd (omega (arith, low, e, before, moved, split, rest-less)),
-        λ less. absurd (omega (arith, less, f, here, few))))
+          let e : (whole + 1) * turn ≤ q * turn = mul-le-mul_right turn (omega (arith, more)) in
+          let f : (whole + 1) * n ≤ q * n = mul-le-mul_right n (omega (arith, more)) in
+          let rest-less : rest < turn = mod_below octets turn some-turn in (
+            λ low. absurd (omega (arith, low, e, before, moved, split, rest-less)),
+            λ less. absurd (omega (arith, less, f, here, few)),
+          ))
     ]
 
 pub some_octets : (rate : Rate) → IsRate rate → 0 < octets_before rate.sizes (length rate.sizes)
@@ -140,11 +145,12 @@ due_before rate k is =
     (let least = mul-le-mul_right (125 * rate.mbits) (let e : 1 ≤ rate.end - rate.first = omega (arith, is.before) in e) in
     omega (arith, least, moves)) in
     let count = counted rate.sizes (last_octets rate) (octets_before rate.sizes (length rate.sizes)) k is.some is.sizes refl in
-    let product = div-lt_iff_lt-mul {x = 8 * octets_before rate.sizes k} {y = rate.end - rate.first} moves in
-    (λ h. (let low = count.1 h in
-      let early = product.1 (omega (arith, low, some)) in
-      omega (arith, early, is.before)),
-    λ due. count.0 (let below = product.0 (omega (arith, due, is.before)) in omega (arith, below, some)))
+    let product = div-lt_iff_lt-mul {x = 8 * octets_before rate.sizes k} {y = rate.end - rate.first} moves in (
+      λ h. (let low = count.1 h in
+          let early = product.1 (omega (arith, low, some)) in
+          omega (arith, early, is.before)),
+      λ due. count.0 (let below = product.0 (omega (arith, due, is.before)) in omega (arith, below, some)),
+    )
 
 pub due_first : (rate : Rate) → due_of rate 0 ≡ rate.first
 due_first rate =

@@ -130,10 +130,13 @@ next_turn k n turn some is =
       | inl last ↦ inl (
         last,
         ap (λ m. m % n) (let e : suc k ≡ (k / n + 1) * n + 0 = omega (arith, is, last, some) in e)
-        ∙ mul-add-mod_self_right (k / n + 1) n 0 ∙ zero-mod n,
+            ∙ mul-add-mod_self_right (k / n + 1) n 0 ∙ zero-mod n,
       )
       | inr other ↦ (
-        let within : turn + 1 < n = omega (arith, is, other, less) in
-        inr (within, ap (λ m. m % n) (let e : suc k ≡ k / n * n + (turn + 1) = omega (arith, is, some) in e)
-        ∙ mul-add-mod_self_right (k / n) n (turn + 1) ∙ mod-eq_of_lt within))
+          let within : turn + 1 < n = omega (arith, is, other, less) in
+          inr (
+            within,
+            ap (λ m. m % n) (let e : suc k ≡ k / n * n + (turn + 1) = omega (arith, is, some) in e)
+                ∙ mul-add-mod_self_right (k / n) n (turn + 1) ∙ mod-eq_of_lt within,
+          ))
     ]

@@ -103,12 +103,7 @@ fn numbers_in(words: &[String]) -> Option<WalkCommand>
     match words {
         [sizes, mbits, first, end, number] => {
             let ticks = ticks_of(first.as_bytes(), end.as_bytes());
-            rate_of(
-                sizes.as_bytes(),
-                mbits.as_bytes(),
-                ticks,
-                number.as_bytes(),
-            )
+            rate_of(sizes.as_bytes(), mbits.as_bytes(), ticks, number.as_bytes())
         }
         _ => None,
     }

@@ -25,11 +25,7 @@ pub(super) fn draw_octets(
 
 /// The delays of a number of lines, in frames, up to 40.
 #[tactic(auto, using(law_rates::proofs::DrawLaws::draws_next, law_rates::proofs::DrawLaws::after_next, law_rates::proofs::DrawLaws::draws_end, law_rates::proofs::DrawLaws::after_end))]
-pub(super) fn draw_delays(
-    alloc: Global,
-    from: &mut Draws,
-    lines: u8,
-) -> Result<Delays, AllocError>
+pub(super) fn draw_delays(alloc: Global, from: &mut Draws, lines: u8) -> Result<Delays, AllocError>
     ensures delays { IfOk result (λ delays. delays ≡ draws lines 41 from.old.state) }
     ensures state { OnOk result (from.new.state ≡ after_draws lines from.old.state) }
 {

@@ -35,13 +35,13 @@ loop-size-preserved c =
       few = omega (arith, size c, c.loop-size.invariant.few);
       begun = elim c.if-before-octets.branch [
         | then-before-octets w ↦ (
-          let more = begun_yes c.args.sizes.now c.args.octets (c.loop-size.size-index + 1) c.loop-size.size-index
-          (omega arith) (omega (arith, w.if-before-octets.true, c.loop-size.invariant.before)) in
-          omega (arith, more, w.begun-is, c.loop-size.invariant.begun))
+            let more = begun_yes c.args.sizes.now c.args.octets (c.loop-size.size-index + 1) c.loop-size.size-index
+            (omega arith) (omega (arith, w.if-before-octets.true, c.loop-size.invariant.before)) in
+            omega (arith, more, w.begun-is, c.loop-size.invariant.begun))
         | else-before-octets w ↦ (
-          let more = begun_no c.args.sizes.now c.args.octets (c.loop-size.size-index + 1) c.loop-size.size-index
-          (omega arith) (omega (arith, w.if-before-octets.false, c.loop-size.invariant.before)) in
-          omega (arith, more, w.begun-is, c.loop-size.invariant.begun))
+            let more = begun_no c.args.sizes.now c.args.octets (c.loop-size.size-index + 1) c.loop-size.size-index
+            (omega arith) (omega (arith, w.if-before-octets.false, c.loop-size.invariant.before)) in
+            omega (arith, more, w.begun-is, c.loop-size.invariant.begun))
       ];
     }
 

@@ -27,7 +27,7 @@ returns-else-due-from-clause-none c =
     c.from.ensures c.requires.place.octets c.from-2.ensures in
     elim (cases_lt c.args.self.now.number (count_of c.args.rate.now)) [
       | inl less ↦ (
-        let early = (due_before c.args.rate.now c.args.self.now.number c.requires.rate).0 less in
-        absurd (omega (arith, is, early, c.if-due-from.false, c.from-3.ensures)))
+          let early = (due_before c.args.rate.now c.args.self.now.number c.requires.rate).0 less in
+          absurd (omega (arith, is, early, c.if-due-from.false, c.from-3.ensures)))
       | inr most ↦ omega (arith, most, c.requires.place.within)
     ]

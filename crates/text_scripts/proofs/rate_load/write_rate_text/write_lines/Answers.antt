@@ -10,8 +10,7 @@ use Rattle.text_scripts.proofs.rate_load.write_rate_text.write_lines.Goals as go
 pub loop-due-preserved : goal.loop-due-preserved
 loop-due-preserved g c =
     let text = c.loop-due.invariant.0 in
-    let frame : RateFrame = record { due = c.in-Some.due; octets = take c.in-Some.size c.next.new.room } in
-    (
+    let frame : RateFrame = record { due = c.in-Some.due; octets = take c.in-Some.size c.next.new.room } in (
       text ++ line_of frame,
       line_more (rate_text c.args.rate.now) text c.loop-due.cursor c.next.new.self frame c.loop-due.invariant.1
           c.in-Some.ensures.frame,
