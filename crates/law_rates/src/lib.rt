@@ -30,7 +30,8 @@ pub fn count_law()
     ensures some { (rate : Rate) → IsRate rate → 1 ≤ count_of rate }
     ensures length { (rate : Rate) → length (frames rate) ≡ count_of rate }
     ensures first { (rate : Rate) → due_of rate 0 ≡ rate.first }
-    ensures rising { (rate : Rate) → IsRate rate → IsNonDecreasingBy (λ frame. frame.due) (frames rate) }
+    ensures rising { (rate : Rate) → IsRate rate →
+        IsNonDecreasingBy (λ frame. frame.due) (frames rate) }
     ensures last { (rate : Rate) → IsRate rate → All (λ frame. frame.due < rate.end) (frames rate) }
 {}
 
