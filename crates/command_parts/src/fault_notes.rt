@@ -1,5 +1,6 @@
 //! The notes on what is wrong with an input. Each is put together in a slice with room for one.
-ghost use Rattle.std.specs.Prelude.{◌≡◌, ◌≤◌, length, take};
+ghost use Rattle.std.specs.Prelude.{◌≡◌, ◌≤◌, ◌+◌, ◌++◌, length, take, codes};
+ghost use Rattle.text_report.specs.TextCursor.{Extends, HasTextRoom};
 ghost use Rattle.text_scripts.specs.declared.script_read.script_fault.ScriptFault.{ScriptFault};
 ghost use Rattle.command_parts.specs.FaultTexts.{kind_text, line_text, fault_text};
 
@@ -29,6 +30,16 @@ fn kind_word(kind: LineKind) -> &'static [u8]
     }
 }
 
+/// Adds what is said of how to write it, and ends the note.
+fn add_help(line: &mut TextCursor, help: &[u8])
+    requires { HasTextRoom line.old (length help.now + 8) }
+    ensures { Extends line.old line.new (codes "\nhelp: " ++ help.now ++ codes "\n") }
+{
+    line.text(b"\nhelp: ");
+    line.text(help);
+    line.text(b"\n");
+}
+
 /// Writes that a line of the input is faulty, and how to write it.
 pub(super) fn line_note(number: u64, kind: LineKind, help: &[u8], out: &mut [u8]) -> usize
     requires help { length help.now ≤ 192 }
@@ -37,13 +48,10 @@ pub(super) fn line_note(number: u64, kind: LineKind, help: &[u8], out: &mut [u8]
     ensures line { take result out.new ≡ line_text number kind help.now }
 {
     let mut line = TextCursor::new(out);
-    line.text(b"fault: line ");
-    line.decimal(number);
+    line.number(b"fault: line ", number);
     line.text(b": ");
     line.text(kind_word(kind));
-    line.text(b"\nhelp: ");
-    line.text(help);
-    line.text(b"\n");
+    add_help(&mut line, help);
     line.end()
 }
 
@@ -56,13 +64,9 @@ pub(super) fn slip_note(member: u8, window: u16, slip: u16, out: &mut [u8]) -> u
     let mut help = [0u8; HELP_ROOM];
     let help_end = slip_help(slip, &mut help);
     let mut line = TextCursor::new(out);
-    line.text(b"fault: slip line ");
-    line.decimal(member);
-    line.text(b" window ");
-    line.decimal(window);
-    line.text(b"\nhelp: ");
-    line.text(&help[..help_end]);
-    line.text(b"\n");
+    line.number(b"fault: slip line ", member);
+    line.number(b" window ", window);
+    add_help(&mut line, &help[..help_end]);
     line.end()
 }
 
@@ -75,17 +79,11 @@ pub(super) fn spread_note(slow: u16, fast: u16, slip: u32, ring: u16, out: &mut 
     let mut help = [0u8; HELP_ROOM];
     let help_end = spread_help(slow, fast, slip, &mut help);
     let mut line = TextCursor::new(out);
-    line.text(b"fault: spread ");
-    line.decimal(slow);
-    line.text(b" ");
-    line.decimal(fast);
-    line.text(b" ");
-    line.decimal(slip);
-    line.text(b" ");
-    line.decimal(ring);
-    line.text(b"\nhelp: ");
-    line.text(&help[..help_end]);
-    line.text(b"\n");
+    line.number(b"fault: spread ", slow);
+    line.number(b" ", fast);
+    line.number(b" ", slip);
+    line.number(b" ", ring);
+    add_help(&mut line, &help[..help_end]);
     line.end()
 }
 
@@ -98,12 +96,8 @@ pub(super) fn lag_note(lag: u16, least: u32, slow: u16, slip: u32, out: &mut [u8
     let mut help = [0u8; HELP_ROOM];
     let help_end = lag_help(slow, slip, least, &mut help);
     let mut line = TextCursor::new(out);
-    line.text(b"fault: lag ");
-    line.decimal(lag);
-    line.text(b" least ");
-    line.decimal(least);
-    line.text(b"\nhelp: ");
-    line.text(&help[..help_end]);
-    line.text(b"\n");
+    line.number(b"fault: lag ", lag);
+    line.number(b" least ", least);
+    add_help(&mut line, &help[..help_end]);
     line.end()
 }

@@ -90,8 +90,7 @@ fn full_help(member: u8, out: &mut [u8]) -> usize
     ensures text { take result out.new ≡ line_help_text (LineFault.FullLine member) }
 {
     let mut line = TextCursor::new(out);
-    line.text(b"line ");
-    line.decimal(member);
+    line.number(b"line ", member);
     line.text(b" has 256 failures already");
     line.end()
 }
@@ -137,10 +136,8 @@ pub(crate) fn slip_help(slip: u16, out: &mut [u8]) -> usize
     ensures text { take result out.new ≡ slip_help_text slip }
 {
     let mut line = TextCursor::new(out);
-    line.text(b"a slip of ");
-    line.decimal(slip);
-    line.text(b" needs a failure of at least ");
-    line.decimal(u32::from(slip) + 1);
+    line.number(b"a slip of ", slip);
+    line.number(b" needs a failure of at least ", u32::from(slip) + 1);
     line.text(b" frames");
     line.end()
 }
@@ -152,14 +149,10 @@ pub(crate) fn spread_help(slow: u16, fast: u16, slip: u32, out: &mut [u8]) -> us
     ensures text { take result out.new ≡ spread_help_text slow fast slip }
 {
     let mut line = TextCursor::new(out);
-    line.text(b"delays from ");
-    line.decimal(fast);
-    line.text(b" to ");
-    line.decimal(slow);
-    line.text(b" and slips of ");
-    line.decimal(slip);
-    line.text(b" need a ring of at least ");
-    line.decimal(u64::from(slow.saturating_sub(fast)) + u64::from(slip) + 1);
+    line.number(b"delays from ", fast);
+    line.number(b" to ", slow);
+    line.number(b" and slips of ", slip);
+    line.number(b" need a ring of at least ", u64::from(slow.saturating_sub(fast)) + u64::from(slip) + 1);
     line.end()
 }
 
@@ -170,11 +163,8 @@ pub(crate) fn lag_help(slow: u16, slip: u32, least: u32, out: &mut [u8]) -> usiz
     ensures text { take result out.new ≡ lag_help_text slow slip least }
 {
     let mut line = TextCursor::new(out);
-    line.text(b"a delay of ");
-    line.decimal(slow);
-    line.text(b" and slips of ");
-    line.decimal(slip);
-    line.text(b" need a lag of at least ");
-    line.decimal(least);
+    line.number(b"a delay of ", slow);
+    line.number(b" and slips of ", slip);
+    line.number(b" need a lag of at least ", least);
     line.end()
 }

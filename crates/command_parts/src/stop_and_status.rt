@@ -8,7 +8,7 @@ use arrayvec::ArrayVec;
 use octet_io::{ByteSink, Failed, put_all};
 
 /// What about an input isn't as a command takes it.
-#[derive(Clone, Copy, Debug, PartialEq, Eq)]
+#[derive(Clone, Copy)]
 pub enum Refusal {
     /// One of its lines.
     Line,

@@ -16,8 +16,7 @@ fn word_help(at: u64, rest: &[u8], out: &mut [u8]) -> usize
     ensures text { take result out.new ≡ word_text at rest.now }
 {
     let mut line = TextCursor::new(out);
-    line.text(b"word ");
-    line.decimal(at);
+    line.number(b"word ", at);
     line.text(rest);
     line.end()
 }
@@ -30,12 +29,9 @@ fn within_help(at: u64, least: u64, most: u64, out: &mut [u8]) -> usize
     ensures text { take result out.new ≡ word_text at (bounds_text least most) }
 {
     let mut line = TextCursor::new(out);
-    line.text(b"word ");
-    line.decimal(at);
-    line.text(b" is from ");
-    line.decimal(least);
-    line.text(b" to ");
-    line.decimal(most);
+    line.number(b"word ", at);
+    line.number(b" is from ", least);
+    line.number(b" to ", most);
     line.end()
 }
 
@@ -46,10 +42,8 @@ fn most_help(at: u64, most: u64, out: &mut [u8]) -> usize
     ensures text { take result out.new ≡ word_text at (codes " is at most " ++ decimal most) }
 {
     let mut line = TextCursor::new(out);
-    line.text(b"word ");
-    line.decimal(at);
-    line.text(b" is at most ");
-    line.decimal(most);
+    line.number(b"word ", at);
+    line.number(b" is at most ", most);
     line.end()
 }
 
@@ -73,12 +67,9 @@ fn size_help(at: u64, least: u64, most: u64, out: &mut [u8]) -> usize
     ensures text { take result out.new ≡ field_text (FieldFault.Size at least most) }
 {
     let mut line = TextCursor::new(out);
-    line.text(b"word ");
-    line.decimal(at);
-    line.text(b" has ");
-    line.decimal(least);
-    line.text(b" to ");
-    line.decimal(most);
+    line.number(b"word ", at);
+    line.number(b" has ", least);
+    line.number(b" to ", most);
     line.text(b" octets");
     line.end()
 }
@@ -113,10 +104,8 @@ pub fn count_help(first: &[u8], takes: u64, follow: u64, out: &mut [u8]) -> usiz
 {
     let mut line = TextCursor::new(out);
     line.text(first);
-    line.text(b" takes ");
-    line.decimal(takes);
-    line.text(b" words, and ");
-    line.decimal(follow);
+    line.number(b" takes ", takes);
+    line.number(b" words, and ", follow);
     line.text(b" follow");
     line.end()
 }

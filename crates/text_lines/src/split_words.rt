@@ -1,5 +1,6 @@
 //! The words of a line. Nothing is copied.
 ghost use Rattle.std.specs.Prelude.{◌≡◌, ℕ, ◌≤◌, ◌<◌, ◌+◌, ◌∷◌, [], List, length, IfSome, IfNone, true, false, ◌≢◌};
+ghost use Rattle.std.specs.Prelude.{bytes_eq};
 ghost use Rattle.text_lines.specs.WordsOfLine.{words, is_skipped};
 
 use crate::split_text::cut;
@@ -122,4 +123,11 @@ pub fn four_words(line: &[u8]) -> Option<(&[u8], &[u8], &[u8], &[u8])>
         Some((second, third, fourth)) => Some((first, second, third, fourth)),
         None => None,
     }
+}
+
+/// Whether a word is this text.
+pub fn spells(word: &[u8], text: &[u8]) -> bool
+    ensures { result ≡ bytes_eq word.now text.now }
+{
+    word == text
 }

@@ -8,34 +8,27 @@ ghost use Rattle.text_lines.specs.LineFaults.{kind_of, lifted, stopped};
 ghost use Rattle.text_lines.specs.Fields.{field_kind};
 
 use std::alloc::{AllocError, AllocFailed};
-use thiserror::Error;
 
 /// The kinds of what can be wrong with a line.
-#[derive(Clone, Copy, Debug, PartialEq, Eq, Error)]
+#[derive(Clone, Copy)]
 pub enum LineKind {
     /// The first word isn't one that may begin a line, the number of words is wrong, or a word isn't one of the names
     /// that it may be.
-    #[error("word")]
     Word,
     /// A number isn't one to ten decimal digits.
-    #[error("number")]
     Number,
     /// Hexadecimal digits are odd in number, or one of them is another character.
-    #[error("hex")]
     Hex,
     /// A value is outside its range, or there are too many lines of a kind.
-    #[error("range")]
     Range,
     /// The line has to stand before one that comes before it, or the lines before it leave no room for it.
-    #[error("order")]
     Order,
     /// Another line has to stand here.
-    #[error("missing")]
     Missing,
 }
 
 /// The names that a word chooses from, in any language of lines.
-#[derive(Clone, Copy, Debug, PartialEq, Eq)]
+#[derive(Clone, Copy, Debug)]
 pub enum Names {
     /// Those of containers.
     Containers,
@@ -46,22 +39,17 @@ pub enum Names {
 }
 
 /// What is wrong with a word of a line. The words of a line are counted from 1.
-#[derive(Clone, Copy, Debug, PartialEq, Eq, Error)]
+#[derive(Clone, Copy, Debug)]
 pub enum FieldFault {
     /// It isn't a number of one to ten decimal digits.
-    #[error("number")]
     Number { word: u64 },
     /// Its digits are odd in number, or one of them is no hexadecimal digit.
-    #[error("hex")]
     Hex { word: u64 },
     /// It is a number that isn't from `least` to `most`.
-    #[error("range")]
     Range { word: u64, least: u64, most: u64 },
     /// It doesn't say from `least` to `most` octets.
-    #[error("range")]
     Size { word: u64, least: u64, most: u64 },
     /// It is none of the names that it may be.
-    #[error("word")]
     Name { word: u64, names: Names },
 }
 
@@ -80,7 +68,7 @@ impl FieldFault {
 }
 
 /// Why a word wasn't read.
-#[derive(Clone, Copy, Debug, PartialEq, Eq)]
+#[derive(Clone, Copy)]
 pub enum FieldStop {
     /// It has a fault.
     Fault(FieldFault),
@@ -114,7 +102,6 @@ impl<T: Drop> From<AllocFailed<T>> for FieldStop {
 
 /// What is wrong with a line, with what can be said of how to write it. The words that may begin a line are `K`, and
 /// `O` is what can be wrong with one in its language alone.
-#[derive(Clone, Copy, Debug, PartialEq, Eq)]
 pub enum LineFault<K, O> {
     /// The first word is none that begins a line.
     First,
@@ -129,6 +116,14 @@ pub enum LineFault<K, O> {
     /// The lines before it leave no room for it.
     Own(O),
 }
+
+impl<K: Copy, O: Copy> Clone for LineFault<K, O> {
+    fn clone(&self) -> Result<LineFault<K, O>, AllocError> {
+        Ok(*self)
+    }
+}
+
+impl<K: Copy, O: Copy> Copy for LineFault<K, O> {}
 
 impl<K: Copy, O: Copy> LineFault<K, O> {
     /// Its kind.
@@ -153,13 +148,20 @@ impl<K, O> From<FieldFault> for LineFault<K, O> {
 }
 
 /// Why a line wasn't read.
-#[derive(Clone, Copy, Debug, PartialEq, Eq)]
 pub enum LineStop<K, O> {
     /// It has a fault.
     Fault(LineFault<K, O>),
     /// There was no memory.
     Memory,
 }
+
+impl<K: Copy, O: Copy> Clone for LineStop<K, O> {
+    fn clone(&self) -> Result<LineStop<K, O>, AllocError> {
+        Ok(*self)
+    }
+}
+
+impl<K: Copy, O: Copy> Copy for LineStop<K, O> {}
 
 impl<K, O> From<LineFault<K, O>> for LineStop<K, O> {
     ghost from_gives = { λ fault given. given ≡ line.Fault fault };
@@ -205,13 +207,20 @@ impl<K, O> From<FieldStop> for LineStop<K, O> {
 }
 
 /// Why a text isn't read.
-#[derive(Clone, Copy, Debug, PartialEq, Eq)]
 pub enum TextFault<K, O> {
     /// Line `number` is the first faulty one, counted from 1.
     Line { number: u64, fault: LineFault<K, O> },
     /// Memory is short.
     Memory,
 }
+
+impl<K: Copy, O: Copy> Clone for TextFault<K, O> {
+    fn clone(&self) -> Result<TextFault<K, O>, AllocError> {
+        Ok(*self)
+    }
+}
+
+impl<K: Copy, O: Copy> Copy for TextFault<K, O> {}
 
 impl<K: Copy, O: Copy> LineStop<K, O> {
     /// Why a text isn't read of which the line of this number wasn't.

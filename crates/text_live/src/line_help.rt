@@ -70,8 +70,7 @@ fn member_help(member: u8, what: &[u8], out: &mut [u8]) -> usize
     ensures text { take result out.new ≡ codes "line " ++ decimal member ++ what.now }
 {
     let mut line = TextCursor::new(out);
-    line.text(b"line ");
-    line.decimal(member);
+    line.number(b"line ", member);
     line.text(what);
     line.end()
 }

@@ -8,7 +8,7 @@ use text_lines::{FieldFault, LineKind};
 use text_scripts::script_read::ScriptFault;
 
 /// What is wrong with a line of a live text and with no line of a script.
-#[derive(Clone, Copy, Debug, PartialEq, Eq)]
+#[derive(Clone, Copy, Debug)]
 pub enum LiveLineFault {
     /// The first word is none that begins a line.
     First,
@@ -57,7 +57,7 @@ impl From<FieldFault> for LiveLineFault {
 }
 
 /// Why a live text isn't read on. Lines of the text are counted from 1.
-#[derive(Clone, Copy, Debug, PartialEq, Eq)]
+#[derive(Clone, Copy, Debug)]
 pub enum LiveFault {
     /// A line has a fault that lines of scripts have, the slips, the spread or the lag don't fit, or memory is short.
     Script(ScriptFault),

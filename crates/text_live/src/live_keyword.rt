@@ -2,8 +2,10 @@
 ghost use Rattle.std.specs.Prelude.{◌≡◌};
 ghost use Rattle.text_live.specs.LiveLines.{option_part, earlier_part, live_keyword, first_of};
 
+use text_lines::spells;
+
 /// The parts of a script that stand before the live lines.
-#[derive(Clone, Copy, Debug, PartialEq, Eq)]
+#[derive(Clone, Copy, Debug)]
 pub enum EarlierPart {
     /// The configuration, with the options.
     Configuration,
@@ -12,7 +14,7 @@ pub enum EarlierPart {
 }
 
 /// The words that begin a live line.
-#[derive(Clone, Copy, Debug, PartialEq, Eq)]
+#[derive(Clone, Copy, Debug)]
 pub enum LiveKeyword {
     /// The client sends a frame.
     Frame,
@@ -29,7 +31,7 @@ pub enum LiveKeyword {
 }
 
 /// What a line is by its first word.
-#[derive(Clone, Copy, Debug, PartialEq, Eq)]
+#[derive(Clone, Copy)]
 pub(crate) enum FirstWord {
     /// A line of a script that stands before the live lines.
     Earlier(EarlierPart),
@@ -43,17 +45,17 @@ pub(crate) enum FirstWord {
 fn option_part(word: &[u8]) -> Option<EarlierPart>
     ensures { result ≡ option_part word.now }
 {
-    if word == b"sink".as_slice() {
+    if spells(word, b"sink") {
         Some(EarlierPart::Configuration)
-    } else if word == b"holdoff".as_slice() {
+    } else if spells(word, b"holdoff") {
         Some(EarlierPart::Configuration)
-    } else if word == b"restore".as_slice() {
+    } else if spells(word, b"restore") {
         Some(EarlierPart::Configuration)
-    } else if word == b"statuses".as_slice() {
+    } else if spells(word, b"statuses") {
         Some(EarlierPart::Configuration)
-    } else if word == b"fail".as_slice() {
+    } else if spells(word, b"fail") {
         Some(EarlierPart::Windows)
-    } else if word == b"lost".as_slice() {
+    } else if spells(word, b"lost") {
         Some(EarlierPart::Windows)
     } else {
         None
@@ -64,17 +66,17 @@ fn option_part(word: &[u8]) -> Option<EarlierPart>
 fn earlier_part(word: &[u8]) -> Option<EarlierPart>
     ensures { result ≡ earlier_part word.now }
 {
-    if word == b"container".as_slice() {
+    if spells(word, b"container") {
         Some(EarlierPart::Configuration)
-    } else if word == b"lines".as_slice() {
+    } else if spells(word, b"lines") {
         Some(EarlierPart::Configuration)
-    } else if word == b"delays".as_slice() {
+    } else if spells(word, b"delays") {
         Some(EarlierPart::Configuration)
-    } else if word == b"ring".as_slice() {
+    } else if spells(word, b"ring") {
         Some(EarlierPart::Configuration)
-    } else if word == b"lag".as_slice() {
+    } else if spells(word, b"lag") {
         Some(EarlierPart::Configuration)
-    } else if word == b"ticks".as_slice() {
+    } else if spells(word, b"ticks") {
         Some(EarlierPart::Configuration)
     } else {
         option_part(word)
@@ -86,17 +88,17 @@ impl LiveKeyword {
     fn of(word: &[u8]) -> Option<LiveKeyword>
         ensures { result ≡ live_keyword word.now }
     {
-        if word == b"frame".as_slice() {
+        if spells(word, b"frame") {
             Some(LiveKeyword::Frame)
-        } else if word == b"add".as_slice() {
+        } else if spells(word, b"add") {
             Some(LiveKeyword::Add)
-        } else if word == b"remove".as_slice() {
+        } else if spells(word, b"remove") {
             Some(LiveKeyword::Remove)
-        } else if word == b"cut".as_slice() {
+        } else if spells(word, b"cut") {
             Some(LiveKeyword::Cut)
-        } else if word == b"mend".as_slice() {
+        } else if spells(word, b"mend") {
             Some(LiveKeyword::Mend)
-        } else if word == b"pass".as_slice() {
+        } else if spells(word, b"pass") {
             Some(LiveKeyword::Pass)
         } else {
             None

@@ -1,7 +1,7 @@
 //! What a line of a live text says.
 
 /// What a line says.
-#[derive(Clone, Copy, Debug, PartialEq, Eq)]
+#[derive(Clone, Copy, Debug)]
 pub enum LiveLine {
     /// Nothing: it has no words, or is a comment.
     Blank,

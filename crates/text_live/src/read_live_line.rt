@@ -19,7 +19,7 @@ use std::alloc::{AllocError, Global};
 use text_lines::{count_words, number_within, one_word};
 
 /// What is kept of a line of the group.
-#[derive(Clone, Copy, Debug, PartialEq, Eq)]
+#[derive(Clone, Copy)]
 pub(crate) struct LineState {
     /// How many failures it has whose end is known.
     pub failures: u16,

@@ -1,5 +1,5 @@
 //! A line of text is put together piece by piece at the front of a slice.
-ghost use Rattle.std.specs.Prelude.{◌≡◌, ◌+◌, ◌*◌, ◌≤◌, length};
+ghost use Rattle.std.specs.Prelude.{◌≡◌, ◌+◌, ◌*◌, ◌≤◌, ◌++◌, length};
 ghost use Rattle.hex.specs.Hex.{encode_lower};
 ghost use Rattle.text_report.specs.TextCursor.{Extends, HasTextRoom};
 
@@ -44,6 +44,16 @@ impl<'a> TextCursor<'a> {
     {
         let mut digits = itoa::Buffer::new();
         self.text(digits.format(n).as_bytes());
+    }
+
+    /// Adds octets as they are, and a number in decimal digits behind them.
+    pub fn number<I: Integer>(&mut self, before: &[u8], n: I)
+        requires { HasTextRoom self.old (length before.now + I.MAX_STR_LEN) }
+        ensures text { Extends self.old self.new (before.now ++ I.text n) }
+        ensures end { self.new.at ≤ self.old.at + length before.now + I.MAX_STR_LEN }
+    {
+        self.text(before);
+        self.decimal(n);
     }
 
     /// Adds octets in hexadecimal digits, two lower-case digits each.

@@ -11,10 +11,10 @@ use Rattle.text_lines.specs.WordsOfLine.{words}
 use Rattle.text_scripts.specs.script_read.Lifted.{IsStop}
 use Rattle.text_lines.specs.Language.{said_from, said_by}
 use Rattle.text_lines.proofs.LineLanguageAndTableLaws.{line_faulty, line_sound, first_fault, all_said}
+use Rattle.text_lines.proofs.LineLanguageAndTableLaws.{end_missing, end_sound}
 use Rattle.text_scripts.specs.declared.script_read.script_fault.ScriptFault.{ScriptFault}
 use Rattle.text_scripts.specs.declared.script_read.script_keyword.Keyword.{Keyword}
 use Rattle.text_scripts.specs.declared.script_read.script_draft.Draft.{Draft}
-use Rattle.text_scripts.specs.declared.script_read.script_draft.Statement.{Statement}
 use Rattle.text_scripts.specs.script_read.Statements.{awaited, words_fault, words_said, after, at_first}
 use Rattle.text_scripts.specs.script_read.Drafts.{fault_at, IsDraft}
 use Rattle.text_scripts.specs.script_read.ScriptInPieces.{IsToldAt, ReaderStands, Follows}
@@ -36,11 +36,12 @@ use Rattle.text_scripts.specs.declared.script_read.script_fault.ScriptFault.TheV
 
 -- ---- The lines of a script, one line on and at the end.
 -- a line without a fault
-pub line_said : (n : ℕ) (d new : Draft) (all : List (List ℕ)) (l : List ℕ) (ls : List (List ℕ)) (said : Statement)
-    → all ≡ l ∷ ls → words_fault d (words l) ≡ None → said ≡ words_said (words l) → new ≡ after d said
-    → said_from script_lines n d all ≡ said_from script_lines (n + 1) new ls
-line_said n d new all l ls said first none says is =
-    line_sound script_lines n d new all l ls first none (is ∙ ap (λ (r : Statement). after d r) says)
+pub line_said : (n next : ℕ) (d new : Draft) (all : List (List ℕ)) (l : List ℕ) (ls : List (List ℕ)) → all ≡ l ∷ ls
+    → words_fault d (words l) ≡ None → next ≡ n + 1 → new ≡ after d (words_said (words l))
+    → said_from script_lines n d all ≡ said_from script_lines next new ls
+line_said n next d new all l ls first none one is =
+    line_sound script_lines n d new all l ls first none is
+    ∙ ap (λ (m : ℕ). said_from script_lines m new ls) (sym one)
 
 -- what is said of a text whose line has this fault first
 pub line_told : (whole : Result Draft (ℕ × LineFault)) (n : ℕ) (kind : LineFault) → whole ≡ Err (n, kind)
@@ -49,23 +50,24 @@ line_told whole n kind is = ap script_of_draft is
 
 -- a line that was not read
 pub line_stops : (whole : Result Draft (ℕ × LineFault)) (n : ℕ) (d : Draft) (all : List (List ℕ)) (l : List ℕ)
-    (ls : List (List ℕ)) (why : LineStop) (f : ScriptFault)
-    → whole ≡ said_from script_lines n d all → f ≡ fault_at n why → all ≡ l ∷ ls → IsStop why (words_fault d (words l))
-    → (f ≡ fault.Memory) ⊎ (script_of_draft whole ≡ Err f)
-line_stops whole n d all l ls (stop.Fault kind) f same is first fails =
-    inr (line_told whole n kind (same ∙ line_faulty script_lines n d all l ls kind first fails) ∙ ap Err (sym is))
-line_stops whole n d all l ls stop.Memory f same is first fails = inl is
+    (ls : List (List ℕ)) (f : ScriptFault) → whole ≡ said_from script_lines n d all → all ≡ l ∷ ls
+    → (f ≡ fault.Memory) ⊎ IsToldAt n (words_fault d (words l)) f → (f ≡ fault.Memory) ⊎ (script_of_draft whole ≡ Err f)
+line_stops whole n d all l ls f same first (inl short) = inl short
+line_stops whole n d all l ls f same first (inr told) =
+    inr (line_told whole n told.wrong (same ∙ line_faulty script_lines n d all l ls told.wrong first told.fails)
+    ∙ ap Err (sym told.is))
 
 -- the same whatever follows
 pub lines_stop : (whole : List ℕ → Result Draft (ℕ × LineFault)) (n : ℕ) (d : Draft) (all : List ℕ → List (List ℕ))
-    (l : List ℕ) (ls : List ℕ → List (List ℕ)) (why : LineStop) (f : ScriptFault)
-    → ((more : List ℕ) → whole more ≡ said_from script_lines n d (all more)) → f ≡ fault_at n why
-    → ((more : List ℕ) → all more ≡ l ∷ ls more) → IsStop why (words_fault d (words l))
+    (l : List ℕ) (ls : List ℕ → List (List ℕ)) (f : ScriptFault)
+    → ((more : List ℕ) → whole more ≡ said_from script_lines n d (all more))
+    → ((more : List ℕ) → all more ≡ l ∷ ls more) → (f ≡ fault.Memory) ⊎ IsToldAt n (words_fault d (words l)) f
     → (f ≡ fault.Memory) ⊎ ((more : List ℕ) → script_of_draft (whole more) ≡ Err f)
-lines_stop whole n d all l ls (stop.Fault kind) f same is first fails =
-    inr (λ more. line_told (whole more) n kind
-    (same more ∙ line_faulty script_lines n d (all more) l (ls more) kind (first more) fails) ∙ ap Err (sym is))
-lines_stop whole n d all l ls stop.Memory f same is first fails = inl is
+lines_stop whole n d all l ls f same first (inl short) = inl short
+lines_stop whole n d all l ls f same first (inr told) =
+    inr (λ more. line_told (whole more) n told.wrong
+    (same more ∙ line_faulty script_lines n d (all more) l (ls more) told.wrong (first more) told.fails)
+    ∙ ap Err (sym told.is))
 
 -- ---- after the last line
 pub config_missing : (d : Draft) → d.next < 6 → missing_line d ≡ Some (Missing (awaited d.next))
@@ -80,6 +82,21 @@ whole_config d none =
       | inl less ↦ absurd (let bad : Some (Missing (awaited d.next)) ≡ None = sym (config_missing d less) ∙ none in cc)
       | inr least ↦ least
     ]
+
+-- ---- the whole text
+pub end_fails : (whole : Result Draft (ℕ × LineFault)) (n : ℕ) (d : Draft) (f : ScriptFault) →
+    whole ≡ said_from script_lines n d [] → IsToldAt n (missing_line d) f → script_of_draft whole ≡ Err f
+end_fails whole n d f same told =
+    line_told whole n told.wrong (same ∙ end_missing script_lines n d [] told.wrong refl told.fails)
+    ∙ ap Err (sym told.is)
+
+pub end_tested : (whole : Result Draft (ℕ × LineFault)) (n : ℕ) (d : Draft) (script : Script) (f : Option ScriptFault) →
+    whole ≡ said_from script_lines n d [] → missing_line d ≡ None → script ≡ script_in d
+    → config_fault script.config ≡ f → script_of_draft whole ≡ script_unless f script
+end_tested whole n d script f same none is tested =
+    ap script_of_draft (same ∙ end_sound script_lines n d [] refl none)
+    ∙ ap (λ (s : Script). script_unless (config_fault s.config) s) (sym is)
+    ∙ ap (λ (found : Option ScriptFault). script_unless found script) tested
 
 -- ---- a line by its number
 -- one that wasn't read
@@ -234,37 +251,37 @@ module _ (piece rest later : List ℕ) (within : length rest ≤ length piece) (
       ≡ said_from script_lines n d (lines more))
       (whole : (more : List ℕ) → lines (take (length rest - length later) rest ++ more) ≡ l ∷ lines more) where
     -- one line more was read
-    pub line_more : (new : Draft) (said : Statement) → words_fault d (words l) ≡ None → said ≡ words_said (words l) →
-        new ≡ after d said → (more : List ℕ) →
+    pub line_more : (next : ℕ) (new : Draft) → words_fault d (words l) ≡ None → next ≡ n + 1 →
+        new ≡ after d (words_said (words l)) → (more : List ℕ) →
         said_from script_lines n₀ d₀ (lines (take (length piece - length later) piece ++ more))
-        ≡ said_from script_lines (n + 1) new (lines more)
-    line_more new said none says grown more =
+        ≡ said_from script_lines next new (lines more)
+    line_more next new none one grown more =
         ap (λ (t : List ℕ). said_from script_lines n₀ d₀ (lines (t ++ more))) front_more
         ∙ ap (λ (t : List ℕ). said_from script_lines n₀ d₀ (lines t))
         (append_assoc (take (length piece - length rest) piece) (take (length rest - length later) rest) more)
         ∙ before (take (length rest - length later) rest ++ more)
-        ∙ line_said n d new (lines (take (length rest - length later) rest ++ more)) l (lines more) said (whole more)
-        none says grown
+        ∙ line_said n next d new (lines (take (length rest - length later) rest ++ more)) l (lines more) (whole more)
+        none one grown
 
     -- or the line has a fault, whatever follows
-    pub line_fails : (text : List ℕ) (why : LineStop) (f : ScriptFault) →
+    pub line_fails : (text : List ℕ) (f : ScriptFault) →
         ((more : List ℕ) → said_by script_lines (text ++ more) ≡ said_from script_lines n₀ d₀ (lines more)) →
-        later ≡ drop (length rest - length later) rest → f ≡ fault_at n why → IsStop why (words_fault d (words l)) →
+        later ≡ drop (length rest - length later) rest →
+        (f ≡ fault.Memory) ⊎ IsToldAt n (words_fault d (words l)) f →
         (f ≡ fault.Memory) ⊎ ((more : List ℕ) → script_of (text ++ (piece ++ more)) ≡ Err f)
-    line_fails text why f stands next told fails =
+    line_fails text f stands next told =
         lines_stop (λ more. said_by script_lines (text ++ (piece ++ more))) n d (λ more. lines (rest ++ more)) l
-        (λ more. lines (later ++ more)) why f
+        (λ more. lines (later ++ more)) f
         (λ more. stands (piece ++ more)
         ∙ ap (λ (t : List ℕ). said_from script_lines n₀ d₀ (lines (t ++ more)))
         (split piece rest (length piece - length rest) is)
         ∙ ap (λ (t : List ℕ). said_from script_lines n₀ d₀ (lines t))
         (append_assoc (take (length piece - length rest) piece) rest more)
         ∙ before (rest ++ more))
-        told
         (λ more. ap (λ (t : List ℕ). lines (t ++ more)) (split rest later (length rest - length later) next)
         ∙ ap lines (append_assoc (take (length rest - length later) rest) later more)
         ∙ whole (later ++ more))
-        fails
+        told
 
 -- the text that was read, and the whole lines of a piece
 pub piece_read : (text piece : List ℕ) (k n₀ n : ℕ) (d₀ d : Draft) →

@@ -16,7 +16,7 @@ use Rattle.text_lines.specs.Fields.{fields_fault, number_fault, within, any, abo
 use Rattle.text_lines.specs.Fields.{name_fault}
 use Rattle.text_scripts.specs.declared.script_read.script_fault.LineFault.{LineFault}
 use Rattle.text_scripts.specs.declared.script_read.script_fault.LineFault.TheVariants.{Field}
-use Rattle.text_scripts.specs.script_read.Drafts.{delays_fault, IsPlaced, IsDraft, IsNext, IsNextLost, Fits}
+use Rattle.text_scripts.specs.script_read.Drafts.{delays_fault, one_fault, says_number, most_of, IsPlaced, IsDraft, IsNext, IsNextLost, Fits}
 use Rattle.std.proofs.lemmas.List.{length-replicate}
 use Rattle.std.specs.Prelude.{bytes_eq, codes, unwrap_or}
 use Rattle.std.proofs.lemmas.Bool.{not-false, leb-false, ltb-false, eqb-true, and_parts, or_cases, cases_lt}
@@ -80,6 +80,35 @@ delay_fails at place ws more w fault first same fails =
     ap (λ (n : ℕ). line_faults n ws) (let e : place ≡ at = omega (arith, same) in e)
     ∙ ap (λ (x : List (List ℕ)). line_faults at x) first
     ∙ ap (λ (f : Option FieldFault). option_map Field (option_or f (delay_faults (at + 1) more))) fails
+
+-- ---- The faults of one number.
+same_fault : (f : Option FieldFault) →
+    option_or (option_map wrong.Field (option_or f None)) None ≡ option_map wrong.Field f
+same_fault None = refl
+same_fault (Some f) = refl
+
+one_word_fault : (k : Keyword) (least most : ℕ) (ws : List (List ℕ)) →
+    option_or (where_true (not (length ws == 1)) (wrong.Count k 1 (length ws)))
+    (option_or (option_map wrong.Field (fields_fault (within least most ∷ []) 2 0 ws)) None)
+    ≡ one_fault k least most ws
+one_word_fault k least most [] = refl
+one_word_fault k least most (w ∷ []) = same_fault (number_fault 2 least most w)
+one_word_fault k least most (w ∷ w₂ ∷ ws) =
+    (let e : (length (w ∷ w₂ ∷ ws) == 1) ≡ false = grind (arith, nat_tests) in rw e refl)
+
+pub number_rest : (d : Draft) (k : Keyword) (ws : List (List ℕ)) → says_number k ≡ true →
+    rest_fault d k ws ≡ one_fault k 1 (most_of k) ws
+number_rest d word.Lines ws is = one_word_fault word.Lines 1 most_lines ws
+number_rest d word.Ring ws is = one_word_fault word.Ring 1 largest_ring ws
+number_rest d word.Lag ws is = one_word_fault word.Lag 1 longest_lag ws
+number_rest d word.Ticks ws is = one_word_fault word.Ticks 1 most_ticks ws
+number_rest d word.Client ws is = one_word_fault word.Client 1 most_count ws
+number_rest d word.Operator ws is = one_word_fault word.Operator 1 most_count ws
+number_rest d word.Tick ws is = one_word_fault word.Tick 1 most_count ws
+number_rest d word.Back ws is = one_word_fault word.Back 1 most_count ws
+number_rest d word.Take ws is = one_word_fault word.Take 1 most_count ws
+number_rest d word.Round ws is = one_word_fault word.Round 1 most_count ws
+number_rest d k ws is = absurd cc
 
 -- ---- A line without a fault says what may come next.
 -- ---- words

@@ -11,3 +11,4 @@
 pub mod make_load;
 pub mod rate_load;
 pub mod script_read;
+mod window_lists;

@@ -3,6 +3,7 @@ ghost use Rattle.std.specs.Prelude.{◌≡◌};
 ghost use Rattle.gfp_channels.specs.channel_link.ChannelTextLines.{keyword_of};
 
 use text_help::LineWords;
+use text_lines::spells;
 
 /// The words that may begin a line, in the order of a text.
 #[derive(Clone, Copy, Debug, PartialEq, Eq)]
@@ -22,13 +23,13 @@ impl Keyword {
     pub(super) fn of(word: &[u8]) -> Option<Keyword>
         ensures { result ≡ keyword_of word.now }
     {
-        if word == b"channels".as_slice() {
+        if spells(word, b"channels") {
             Some(Keyword::Channels)
-        } else if word == b"octets".as_slice() {
+        } else if spells(word, b"octets") {
             Some(Keyword::Octets)
-        } else if word == b"frame".as_slice() {
+        } else if spells(word, b"frame") {
             Some(Keyword::Frame)
-        } else if word == b"cut".as_slice() {
+        } else if spells(word, b"cut") {
             Some(Keyword::Cut)
         } else {
             None

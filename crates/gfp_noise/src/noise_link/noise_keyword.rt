@@ -3,6 +3,7 @@ ghost use Rattle.std.specs.Prelude.{◌≡◌};
 ghost use Rattle.gfp_noise.specs.noise_link.NoiseTextLines.{keyword_of};
 
 use text_help::LineWords;
+use text_lines::spells;
 
 /// The words that may begin a line, in the order of a text.
 #[derive(Clone, Copy, Debug, PartialEq, Eq)]
@@ -18,9 +19,9 @@ impl Keyword {
     pub(super) fn of(word: &[u8]) -> Option<Keyword>
         ensures { result ≡ keyword_of word.now }
     {
-        if word == b"frame".as_slice() {
+        if spells(word, b"frame") {
             Some(Keyword::Frame)
-        } else if word == b"flip".as_slice() {
+        } else if spells(word, b"flip") {
             Some(Keyword::Flip)
         } else {
             None

@@ -3,6 +3,7 @@ ghost use Rattle.std.specs.Prelude.{◌≡◌};
 ghost use Rattle.member_au4.specs.au4_link.LinkTextLines.{keyword_of};
 
 use text_help::LineWords;
+use text_lines::spells;
 
 /// The words that may begin a line, in the order of a text.
 #[derive(Clone, Copy, Debug, PartialEq, Eq)]
@@ -24,15 +25,15 @@ impl Keyword {
     pub(super) fn of(word: &[u8]) -> Option<Keyword>
         ensures { result ≡ keyword_of word.now }
     {
-        if word == b"start".as_slice() {
+        if spells(word, b"start") {
             Some(Keyword::Start)
-        } else if word == b"frames".as_slice() {
+        } else if spells(word, b"frames") {
             Some(Keyword::Frames)
-        } else if word == b"up".as_slice() {
+        } else if spells(word, b"up") {
             Some(Keyword::Up)
-        } else if word == b"down".as_slice() {
+        } else if spells(word, b"down") {
             Some(Keyword::Down)
-        } else if word == b"new".as_slice() {
+        } else if spells(word, b"new") {
             Some(Keyword::New)
         } else {
             None

@@ -18,12 +18,10 @@ fn add_head_fault(line: &mut TextCursor, fault: HeadFault)
         HeadFault::Magic => line.text(b"magic"),
         HeadFault::Version => line.text(b"version"),
         HeadFault::Link { link } => {
-            line.text(b"link ");
-            line.decimal(link);
+            line.number(b"link ", link);
         }
         HeadFault::Fcs { octets } => {
-            line.text(b"fcs ");
-            line.decimal(octets);
+            line.number(b"fcs ", octets);
         }
     }
 }
@@ -38,8 +36,7 @@ fn add_record_fault(line: &mut TextCursor, fault: RecordFault)
         RecordFault::Cut => line.text(b"cut"),
         RecordFault::Snapped => line.text(b"snapped"),
         RecordFault::Length { octets } => {
-            line.text(b"length ");
-            line.decimal(octets);
+            line.number(b"length ", octets);
         }
         RecordFault::Late => line.text(b"late"),
     }
@@ -58,8 +55,7 @@ pub fn fault_note(fault: CaptureFault, out: &mut [u8]) -> usize
             add_head_fault(&mut line, fault);
         }
         CaptureFault::Record { number, fault } => {
-            line.text(b"fault: record ");
-            line.decimal(number);
+            line.number(b"fault: record ", number);
             line.text(b": ");
             add_record_fault(&mut line, fault);
         }

@@ -1,7 +1,7 @@
 //! What the head of a capture and the heads of its records say, and what can be wrong with them.
 
 /// In which order the octets of a number stand.
-#[derive(Clone, Copy, Debug, PartialEq, Eq)]
+#[derive(Clone, Copy)]
 pub enum ByteOrder {
     /// The least significant one first.
     LeastFirst,
@@ -10,7 +10,7 @@ pub enum ByteOrder {
 }
 
 /// What the parts of a second are counted in.
-#[derive(Clone, Copy, Debug, PartialEq, Eq)]
+#[derive(Clone, Copy)]
 pub enum TimeUnit {
     /// Microseconds.
     Microseconds,
@@ -19,7 +19,7 @@ pub enum TimeUnit {
 }
 
 /// What the head of a capture of Ethernet frames says.
-#[derive(Clone, Copy, Debug, PartialEq, Eq)]
+#[derive(Clone, Copy)]
 pub struct Form {
     /// The order of the octets of its numbers.
     pub order: ByteOrder,
@@ -30,7 +30,7 @@ pub struct Form {
 }
 
 /// What the head of a record says.
-#[derive(Clone, Copy, Debug, PartialEq, Eq)]
+#[derive(Clone, Copy)]
 pub struct RecordHead {
     /// The time in whole seconds.
     pub seconds: u32,
@@ -43,7 +43,7 @@ pub struct RecordHead {
 }
 
 /// What is wrong with the head of a capture.
-#[derive(Clone, Copy, Debug, PartialEq, Eq)]
+#[derive(Clone, Copy)]
 pub enum HeadFault {
     /// It has fewer than 24 octets.
     Cut,
@@ -60,7 +60,7 @@ pub enum HeadFault {
 }
 
 /// What is wrong with a record.
-#[derive(Clone, Copy, Debug, PartialEq, Eq)]
+#[derive(Clone, Copy)]
 pub enum RecordFault {
     /// Fewer octets are left than its head has, or than that says.
     Cut,
@@ -73,7 +73,7 @@ pub enum RecordFault {
 }
 
 /// What is wrong with a capture first.
-#[derive(Clone, Copy, Debug, PartialEq, Eq)]
+#[derive(Clone, Copy)]
 pub enum CaptureFault {
     /// Its head.
     Head(HeadFault),

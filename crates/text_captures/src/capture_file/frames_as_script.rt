@@ -32,8 +32,7 @@ fn start_line(due: u64, out: &mut [u8]) -> usize
     ensures line { take result out.new ≡ line_start due }
 {
     let mut line = TextCursor::new(out);
-    line.text(b"frame ");
-    line.decimal(due);
+    line.number(b"frame ", due);
     line.text(b" ");
     line.end()
 }

@@ -1,5 +1,5 @@
 //! The lines of a decoding and of a trace, each put together in a slice with room for it. Each answers its length.
-ghost use Rattle.std.specs.Prelude.{◌≡◌, ◌+◌, ◌*◌, ◌%◌, ◌==◌, ◌≤◌, ◌<◌, length, take, Ok, Err};
+ghost use Rattle.std.specs.Prelude.{◌≡◌, ◌+◌, ◌*◌, ◌%◌, ◌==◌, ◌≤◌, ◌<◌, ◌++◌, length, take, Ok, Err};
 ghost use Rattle.text_report.specs.TextCursor.{Extends, HasTextRoom};
 ghost use Rattle.law_model.specs.Common.{found_text, end_text, ctrl_text, bit_text, nibble_text, place_in, most_lines};
 ghost use Rattle.text_captures.specs.packet_trace.StepText.{back_text, place_text, place_texts, step_text};
@@ -38,6 +38,16 @@ fn bit_digit(bit: bool) -> &'static [u8]
     if bit { b"1" } else { b"0" }
 }
 
+/// Adds text, and the digit of a bit behind it.
+fn add_bit(line: &mut TextCursor, before: &[u8], bit: bool)
+    requires { HasTextRoom line.old (length before.now + 1) }
+    ensures text { Extends line.old line.new (before.now ++ bit_text bit) }
+    ensures end { line.new.at ≡ line.old.at + length before.now + 1 }
+{
+    line.text(before);
+    line.text(bit_digit(bit));
+}
+
 /// Adds the digit of a nibble.
 fn add_nibble(line: &mut TextCursor, nibble: u8)
     requires { HasTextRoom line.old 1 }
@@ -56,22 +66,16 @@ fn packet_line(place: u64, packet: &Packet, out: &mut [u8]) -> usize
     ensures line { take result out.new ≡ found_text place (Ok packet.now) }
 {
     let mut line = TextCursor::new(out);
-    line.text(b"at ");
-    line.decimal(place);
+    line.number(b"at ", place);
     line.text(b" ");
     line.text(ctrl_word(packet.ctrl));
-    line.text(b" sq ");
-    line.decimal(packet.sq);
-    line.text(b" gid ");
-    line.text(bit_digit(packet.gid));
-    line.text(b" act ");
-    line.decimal(packet.act);
-    line.text(b" chg ");
-    line.text(bit_digit(packet.chg));
+    line.number(b" sq ", packet.sq);
+    add_bit(&mut line, b" gid ", packet.gid);
+    line.number(b" act ", packet.act);
+    add_bit(&mut line, b" chg ", packet.chg);
     line.text(b" mst ");
     line.hex(&[packet.mst]);
-    line.text(b" ack ");
-    line.text(bit_digit(packet.rs_ack));
+    add_bit(&mut line, b" ack ", packet.rs_ack);
     line.text(b"\n");
     line.end()
 }
@@ -83,8 +87,7 @@ fn fault_line(place: u64, fault: PacketFault, out: &mut [u8]) -> usize
     ensures line { take result out.new ≡ found_text place (Err fault) }
 {
     let mut line = TextCursor::new(out);
-    line.text(b"at ");
-    line.decimal(place);
+    line.number(b"at ", place);
     match fault {
         PacketFault::Crc { said, found } => {
             line.text(b" crc said ");
@@ -120,10 +123,8 @@ pub fn end_line(octets: usize, packets: u64, out: &mut [u8]) -> usize
     ensures line { take result out.new ≡ end_text octets packets }
 {
     let mut line = TextCursor::new(out);
-    line.text(b"end octets ");
-    line.decimal(octets);
-    line.text(b" packets ");
-    line.decimal(packets);
+    line.number(b"end octets ", octets);
+    line.number(b" packets ", packets);
     line.text(b"\n");
     line.end()
 }
@@ -140,8 +141,7 @@ fn add_back(line: &mut TextCursor, back: Option<BackCell>)
         Some(BackCell::Packet(nibbles)) => {
             add_nibble(line, nibbles[0]);
             add_nibble(line, nibbles[1]);
-            line.text(b"/");
-            line.text(bit_digit(nibbles[2] % 2 == 1));
+            add_bit(line, b"/", nibbles[2] % 2 == 1);
         }
     }
 }
@@ -157,8 +157,7 @@ fn add_place(line: &mut TextCursor, table: &SourceTable, member: u8)
     let packet = table.packet(member);
     line.text(b" ");
     line.text(ctrl_word(packet.ctrl));
-    line.text(b":");
-    line.decimal(packet.sq);
+    line.number(b":", packet.sq);
 }
 
 /// Adds the code and the SQ of each line.
@@ -191,12 +190,9 @@ pub fn trace_line(
 {
     let group = table.packet(0);
     let mut line = TextCursor::new(out);
-    line.text(b"packet ");
-    line.decimal(packet);
-    line.text(b" chg ");
-    line.text(bit_digit(group.chg));
-    line.text(b" act ");
-    line.decimal(group.act);
+    line.number(b"packet ", packet);
+    add_bit(&mut line, b" chg ", group.chg);
+    line.number(b" act ", group.act);
     line.text(b" back ");
     add_back(&mut line, back);
     add_places(&mut line, table, lines);

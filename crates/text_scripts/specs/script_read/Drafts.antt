@@ -1,9 +1,9 @@
 -- What a draft meets, and what a line may say that stands after those of a draft.
-use Rattle.std.specs.Prelude.{◌≡◌, ◌⊎◌, ⊤, ℕ, ◌-◌, ◌==◌, ◌<◌, ◌≤◌, not, nat_lt, Bool, false, List, [], ◌∷◌}
+use Rattle.std.specs.Prelude.{◌≡◌, ◌⊎◌, ⊤, ℕ, ◌-◌, ◌==◌, ◌<◌, ◌≤◌, not, nat_lt, Bool, true, false, List, [], ◌∷◌}
 use Rattle.std.specs.Prelude.{length, replicate, Option, None, option_map, All}
 use Rattle.std.specs.Option.{option_or}
 use Rattle.law_model.specs.Common.{dues_of, frame_dues, command_dues, IsWithin, HasLosses, IsSize, IsItem, AreItems}
-use Rattle.law_model.specs.Common.{IsEvent, IsOptions, IsStatuses, most_lines, most_ticks}
+use Rattle.law_model.specs.Common.{IsEvent, IsOptions, IsStatuses, most_lines, most_ticks, most_count}
 use Rattle.law_model.specs.declared.window_types.Window.{Window}
 use Rattle.law_model.specs.declared.script_types.Config.{Config}
 use Rattle.law_model.specs.declared.script_types.ItemKind.{ItemKind}
@@ -50,6 +50,33 @@ delays_fault n ws =
 abbrev pub one_fault : Keyword → ℕ → ℕ → List (List ℕ) → Option LineFault
 one_fault k least most ws =
     option_or (count_fault k 1 ws) (option_map wrong.Field (number_fault 2 least most (word_at 0 ws)))
+
+-- a keyword behind which a number stands alone that is 1 or more, and the most that it may be
+abbrev pub says_number : Keyword → Bool
+says_number word.Lines = true
+says_number word.Ring = true
+says_number word.Lag = true
+says_number word.Ticks = true
+says_number word.Client = true
+says_number word.Operator = true
+says_number word.Tick = true
+says_number word.Back = true
+says_number word.Take = true
+says_number word.Round = true
+says_number k = false
+
+abbrev pub most_of : Keyword → ℕ
+most_of word.Lines = most_lines
+most_of word.Ring = largest_ring
+most_of word.Lag = longest_lag
+most_of word.Ticks = most_ticks
+most_of k = most_count
+
+-- and one behind which no list stands, of delays or of octets
+abbrev pub is_plain : Keyword → Bool
+is_plain word.Delays = false
+is_plain word.Frame = false
+is_plain k = true
 
 abbrev pub timer_fault : Keyword → ℕ → Bool → List (List ℕ) → Option LineFault
 timer_fault k most stands ws =

@@ -1,13 +1,11 @@
 //! The script of a load.
-ghost use Rattle.std.specs.Prelude.{◌≡◌, ◌≤◌, ◌++◌, [], IfOk, OnOk, replicate};
+ghost use Rattle.std.specs.Prelude.{◌≡◌, ◌≤◌, ◌++◌, IfOk, OnOk};
 ghost use Rattle.law_model.specs.Common.{IsValid, IsWithin, most_drawn_ticks};
 ghost use Rattle.text_scripts.specs.make_load.Load.{frame_of, after_frame, additions, frames, frame_count, load};
 
 use crate::make_load::load_draws::{draw_delays, draw_octets};
-use law_model::{
-    Config, EventList, Item, ItemKind, ItemList, LostList, Octets, Options, Script, WindowList,
-    WindowLists,
-};
+use crate::window_lists::no_windows;
+use law_model::{Config, EventList, Item, ItemKind, ItemList, LostList, Octets, Options, Script};
 use law_rates::Draws;
 use std::alloc::{AllocError, Global};
 
@@ -55,17 +53,6 @@ fn add_frames(
         })?;
     }
     Ok(())
-}
-
-/// No windows for a number of lines.
-fn no_windows(alloc: Global, lines: u8) -> Result<WindowLists, AllocError>
-    ensures { IfOk result (λ lists. lists ≡ replicate lines []) }
-{
-    let mut lists = Vec::with_capacity(alloc, usize::from(lines))?;
-    for _ in 0..lines {
-        lists.push(WindowList(Vec::new(alloc)))?;
-    }
-    Ok(WindowLists(lists))
 }
 
 /// The script that is drawn from a number.

@@ -1,25 +1,14 @@
 //! What a line adds to a draft.
-ghost use Rattle.std.specs.Prelude.{◌≡◌, ◌<◌, ◌∷◌, ◌++◌, [], length, IfOk, OnOk, slice_index_or, slice_set, replicate};
+ghost use Rattle.std.specs.Prelude.{◌≡◌, ◌<◌, ◌∷◌, ◌++◌, [], length, OnOk, slice_index_or, slice_set};
 ghost use Rattle.text_scripts.specs.script_read.Statements.{after, after_item, at_first};
 ghost use Rattle.text_scripts.specs.script_read.Drafts.{IsDraft, Fits};
 
 use crate::script_read::script_draft::{Draft, Statement};
+use crate::window_lists::no_windows;
 use law_model::{
-    Config, Delays, EventList, Item, ItemKind, ItemList, LostList, Options, Window, WindowList,
-    WindowLists,
+    Config, Delays, EventList, Item, ItemKind, ItemList, LostList, Options, Window, WindowLists,
 };
 use std::alloc::{AllocError, Global};
-
-/// No windows for a number of lines.
-fn no_windows(alloc: Global, lines: u8) -> Result<WindowLists, AllocError>
-    ensures { IfOk result (λ lists. lists ≡ replicate lines []) }
-{
-    let mut lists = Vec::with_capacity(alloc, usize::from(lines))?;
-    for _ in 0..lines {
-        lists.push(WindowList(Vec::new(alloc)))?;
-    }
-    Ok(WindowLists(lists))
-}
 
 /// Appends a window to those of a line.
 fn add_window(lists: &mut WindowLists, m: u8, window: Window) -> Result<(), AllocError>

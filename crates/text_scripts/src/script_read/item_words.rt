@@ -1,10 +1,9 @@
 //! The words of items and of event lines that name a line.
-ghost use Rattle.std.specs.Prelude.{◌≡◌, ◌≤◌, ◌<◌, ℕ, List, length, All, IfSome, IfOk, IfErr, None, Some};
+ghost use Rattle.std.specs.Prelude.{◌≡◌, ◌≤◌, ℕ, List, IfSome, IfOk, IfErr, None, Some};
 ghost use Rattle.text_lines.specs.WordsOfLine.{words, number_at};
 ghost use Rattle.text_scripts.specs.script_read.Lifted.{IsStop};
 ghost use Rattle.text_scripts.specs.script_read.Statements.{rest_fault, said};
-ghost use Rattle.law_model.specs.Common.{IsWithin, IsItem, most_count, longest_offer};
-ghost use Rattle.text_scripts.specs.script_read.Drafts.{IsDraft, last_due, command_fault, IsFrameOf};
+ghost use Rattle.text_scripts.specs.script_read.Drafts.{IsDraft, command_fault, IsFrameOf};
 
 use crate::script_read::script_draft::{Draft, Statement};
 use crate::script_read::script_fault::{LineFault, LineStop};
@@ -17,9 +16,7 @@ use text_lines::{next_word, number_within, octets_within, two_words};
 /// The word of when a frame is due, and its octets, where nothing but a space stands between the two and its digits
 /// end the line. Digits have no space among them, so that they aren't searched for one.
 fn plain_frame(alloc: Global, rest: &[u8]) -> Option<(&[u8], Vec<u8>)>
-    ensures words { IfSome result (λ read. IsFrameOf read.0.now read.1.items (words rest.now)) }
-    ensures size { IfSome result (λ read. IsWithin 1 longest_offer (length read.1.items)) }
-    ensures octets { IfSome result (λ read. All (λ octet. octet < 256) read.1.items) }
+    ensures { IfSome result (λ read. IsFrameOf read.0.now read.1.items (words rest.now)) }
 {
     let Some((due, digits)) = next_word(rest) else {
         return None;
@@ -31,66 +28,64 @@ fn plain_frame(alloc: Global, rest: &[u8]) -> Option<(&[u8], Vec<u8>)>
 }
 
 /// A frame of these octets, and when it is due by this word.
-fn due_frame(draft: &Draft, due: &[u8], octets: Vec<u8>) -> Result<Item, LineStop>
+fn due_frame(draft: &Draft, due: &[u8], octets: Vec<u8>) -> Result<Statement, LineStop>
     requires stands { 6 ≤ draft.now.next }
     requires config { IsDraft draft.now }
-    requires size { IsWithin 1 longest_offer (length octets.items) }
-    requires octets { All (λ octet. octet < 256) octets.items }
     ensures ok { (ws : List (List ℕ)) → IsFrameOf due.now octets.items ws →
-        IfOk result (λ item. (rest_fault draft.now Keyword.Frame ws ≡ None)
-        × (Statement.Item item ≡ said Keyword.Frame ws)) }
-    ensures fits { IfOk result (λ item. IsItem draft.now.config.ticks item) }
-    ensures order { IfOk result (λ item. last_due draft.now item.kind ≤ item.due) }
+        IfOk result (λ read. (rest_fault draft.now Keyword.Frame ws ≡ None)
+        × (read ≡ said Keyword.Frame ws)) }
     ensures err { (ws : List (List ℕ)) → IsFrameOf due.now octets.items ws →
         IfErr result (λ stop. IsStop stop (rest_fault draft.now Keyword.Frame ws)) }
 {
-    let due = number_within(due, 2, 0, u64::from(draft.config.ticks) - 1)? as u32;
+    let due = match number_within(due, 2, 0, u64::from(draft.config.ticks) - 1) {
+        Ok(due) => due as u32,
+        Err(fault) => return Err(LineStop::Fault(LineFault::Field(fault))),
+    };
     if due < draft.frame_due {
         return Err(LineStop::Fault(LineFault::FrameBefore {
             due: draft.frame_due,
         }));
     }
-    Ok(Item {
+    Ok(Statement::Item(Item {
         due,
         kind: ItemKind::Frame(Octets(octets)),
-    })
+    }))
 }
 
 /// The same of a line with other spaces, or with a fault.
-fn spaced_frame(alloc: Global, draft: &Draft, rest: &[u8]) -> Result<Item, LineStop>
+fn spaced_frame(alloc: Global, draft: &Draft, rest: &[u8]) -> Result<Statement, LineStop>
     requires stands { 6 ≤ draft.now.next }
     requires config { IsDraft draft.now }
-    ensures ok { IfOk result (λ item. (rest_fault draft.now Keyword.Frame (words rest.now) ≡ None)
-        × (Statement.Item item ≡ said Keyword.Frame (words rest.now))) }
-    ensures fits { IfOk result (λ item. IsItem draft.now.config.ticks item) }
-    ensures order { IfOk result (λ item. last_due draft.now item.kind ≤ item.due) }
+    ensures ok { IfOk result (λ read. (rest_fault draft.now Keyword.Frame (words rest.now) ≡ None)
+        × (read ≡ said Keyword.Frame (words rest.now))) }
     ensures err { IfErr result (λ stop.
         IsStop stop (rest_fault draft.now Keyword.Frame (words rest.now))) }
 {
     let Some((due, digits)) = two_words(rest) else {
         return Err(LineStop::Fault(count_fault(Keyword::Frame, 2, rest)));
     };
-    let due = number_within(due, 2, 0, u64::from(draft.config.ticks) - 1)? as u32;
+    let due = match number_within(due, 2, 0, u64::from(draft.config.ticks) - 1) {
+        Ok(due) => due as u32,
+        Err(fault) => return Err(LineStop::Fault(LineFault::Field(fault))),
+    };
     let octets = octets_within(alloc, digits, 3, 1, LONGEST_OFFER)?;
     if due < draft.frame_due {
         return Err(LineStop::Fault(LineFault::FrameBefore {
             due: draft.frame_due,
         }));
     }
-    Ok(Item {
+    Ok(Statement::Item(Item {
         due,
         kind: ItemKind::Frame(Octets(octets)),
-    })
+    }))
 }
 
 /// A frame, and when it is due.
-pub(super) fn read_frame(alloc: Global, draft: &Draft, rest: &[u8]) -> Result<Item, LineStop>
+pub(super) fn read_frame(alloc: Global, draft: &Draft, rest: &[u8]) -> Result<Statement, LineStop>
     requires stands { 6 ≤ draft.now.next }
     requires config { IsDraft draft.now }
-    ensures ok { IfOk result (λ item. (rest_fault draft.now Keyword.Frame (words rest.now) ≡ None)
-        × (Statement.Item item ≡ said Keyword.Frame (words rest.now))) }
-    ensures fits { IfOk result (λ item. IsItem draft.now.config.ticks item) }
-    ensures order { IfOk result (λ item. last_due draft.now item.kind ≤ item.due) }
+    ensures ok { IfOk result (λ read. (rest_fault draft.now Keyword.Frame (words rest.now) ≡ None)
+        × (read ≡ said Keyword.Frame (words rest.now))) }
     ensures err { IfErr result (λ stop.
         IsStop stop (rest_fault draft.now Keyword.Frame (words rest.now))) }
 {
@@ -110,16 +105,20 @@ pub(super) fn read_due_line(
     requires config { IsDraft draft.now }
     ensures ok { IfOk result (λ read. (command_fault draft.now keyword (words rest.now) ≡ None)
         × (read.0 ≡ number_at 0 (words rest.now)) × (read.1 ≡ number_at 1 (words rest.now))) }
-    ensures fits { IfOk result (λ read. (read.0 < draft.now.config.ticks) × (read.1 ≤ 255)) }
-    ensures order { IfOk result (λ read. draft.now.command_due ≤ read.0) }
     ensures err { IfErr result (λ fault.
         command_fault draft.now keyword (words rest.now) ≡ Some fault) }
 {
     let Some((due, line)) = two_words(rest) else {
         return Err(count_fault(keyword, 2, rest));
     };
-    let due = number_within(due, 2, 0, u64::from(draft.config.ticks) - 1)? as u32;
-    let line = number_within(line, 3, 0, 255)? as u8;
+    let due = match number_within(due, 2, 0, u64::from(draft.config.ticks) - 1) {
+        Ok(due) => due as u32,
+        Err(fault) => return Err(LineFault::Field(fault)),
+    };
+    let line = match number_within(line, 3, 0, 255) {
+        Ok(line) => line as u8,
+        Err(fault) => return Err(LineFault::Field(fault)),
+    };
     if due < draft.command_due {
         return Err(LineFault::CommandBefore {
             due: draft.command_due,
@@ -129,20 +128,24 @@ pub(super) fn read_due_line(
 }
 
 /// A line that carries, and how often it tries.
-pub(super) fn read_carry(draft: &Draft, rest: &[u8]) -> Result<(u8, u32), LineFault>
+pub(super) fn read_carry(draft: &Draft, rest: &[u8]) -> Result<Statement, LineFault>
     requires stands { 6 ≤ draft.now.next }
     requires config { IsDraft draft.now }
     ensures ok { IfOk result (λ read. (rest_fault draft.now Keyword.Carry (words rest.now) ≡ None)
-        × (Statement.Event (EventLine.Carry read.0 read.1) ≡ said Keyword.Carry (words rest.now))) }
-    ensures fits { IfOk result (λ read.
-        (read.0 < draft.now.config.lines) × IsWithin 1 most_count read.1) }
+        × (read ≡ said Keyword.Carry (words rest.now))) }
     ensures err { IfErr result (λ fault.
         rest_fault draft.now Keyword.Carry (words rest.now) ≡ Some fault) }
 {
     let Some((line, count)) = two_words(rest) else {
         return Err(count_fault(Keyword::Carry, 2, rest));
     };
-    let m = number_within(line, 2, 0, u64::from(draft.config.lines) - 1)? as u8;
-    let count = number_within(count, 3, 1, MOST_COUNT)? as u32;
-    Ok((m, count))
+    let m = match number_within(line, 2, 0, u64::from(draft.config.lines) - 1) {
+        Ok(m) => m as u8,
+        Err(fault) => return Err(LineFault::Field(fault)),
+    };
+    let count = match number_within(count, 3, 1, MOST_COUNT) {
+        Ok(count) => count as u32,
+        Err(fault) => return Err(LineFault::Field(fault)),
+    };
+    Ok(Statement::Event(EventLine::Carry(m, count)))
 }

@@ -1,10 +1,9 @@
 //! The words of the lines that say what the network is: delays, the container, windows of lines and of the return path.
-ghost use Rattle.std.specs.Prelude.{◌≡◌, ◌≤◌, ◌<◌, length, IfOk, IfErr, None, Some, slice_index_or, [], map, All};
-ghost use Rattle.text_lines.specs.WordsOfLine.{words, word_at, number_of};
+ghost use Rattle.std.specs.Prelude.{◌≡◌, ◌≤◌, ◌<◌, length, IfOk, IfErr, None, Some, slice_index_or, []};
+ghost use Rattle.text_lines.specs.WordsOfLine.{words};
 ghost use Rattle.text_scripts.specs.script_read.Lifted.{IsStop};
-ghost use Rattle.text_scripts.specs.script_read.Statements.{rest_fault, said, last_end, last_lost, size_of};
-ghost use Rattle.law_model.specs.Common.{IsSize, longest_delay};
-ghost use Rattle.text_scripts.specs.script_read.Drafts.{IsDraft, IsNext, IsNextLost, container_fault, delays_fault};
+ghost use Rattle.text_scripts.specs.script_read.Statements.{rest_fault, said, last_end, last_lost};
+ghost use Rattle.text_scripts.specs.script_read.Drafts.{IsDraft, container_fault, delays_fault};
 
 use crate::script_read::script_draft::{Draft, Statement};
 use crate::script_read::script_fault::{LineFault, LineStop};
@@ -16,23 +15,23 @@ use law_model::{
 };
 use std::alloc::Global;
 use text_lines::{
-    FieldFault, Names, count_words, four_words, next_word, number_within, one_word, two_words,
+    FieldFault, Names, count_words, four_words, next_word, number_within, one_word, spells,
+    two_words,
 };
 
-/// The payload octets of the container that a line names.
-pub(super) fn read_container(rest: &[u8]) -> Result<u16, LineFault>
-    ensures ok { IfOk result (λ size. (container_fault (words rest.now) ≡ None)
-        × (size_of (word_at 0 (words rest.now)) ≡ Some size)) }
-    ensures fits { IfOk result IsSize }
+/// The container that a line names.
+pub(super) fn read_container(rest: &[u8]) -> Result<Statement, LineFault>
+    ensures ok { IfOk result (λ read. (container_fault (words rest.now) ≡ None)
+        × (read ≡ said Keyword.Container (words rest.now))) }
     ensures err { IfErr result (λ fault. container_fault (words rest.now) ≡ Some fault) }
 {
     let Some(word) = one_word(rest) else {
         return Err(count_fault(Keyword::Container, 1, rest));
     };
-    if word == b"vc3".as_slice() {
-        Ok(756)
-    } else if word == b"vc4".as_slice() {
-        Ok(2340)
+    if spells(word, b"vc3") {
+        Ok(Statement::Container(756))
+    } else if spells(word, b"vc4") {
+        Ok(Statement::Container(2340))
     } else {
         Err(LineFault::Field(FieldFault::Name {
             word: 2,
@@ -42,11 +41,9 @@ pub(super) fn read_container(rest: &[u8]) -> Result<u16, LineFault>
 }
 
 /// The delays of a number of lines.
-pub(super) fn read_delays(alloc: Global, rest: &[u8], lines: u8) -> Result<Delays, LineStop>
-    ensures ok { IfOk result (λ delays. (delays_fault lines (words rest.now) ≡ None)
-        × (delays ≡ map number_of (words rest.now))) }
-    ensures fits { IfOk result (λ delays.
-        (length delays ≡ lines) × All (λ n. n ≤ longest_delay) delays) }
+pub(super) fn read_delays(alloc: Global, rest: &[u8], lines: u8) -> Result<Statement, LineStop>
+    ensures ok { IfOk result (λ read. (delays_fault lines (words rest.now) ≡ None)
+        × (read ≡ said Keyword.Delays (words rest.now))) }
     ensures err { IfErr result (λ stop. IsStop stop (delays_fault lines (words rest.now))) }
 {
     if count_words(rest) != usize::from(lines) {
@@ -62,7 +59,7 @@ pub(super) fn read_delays(alloc: Global, rest: &[u8], lines: u8) -> Result<Delay
         };
         delays.push(delay)?;
     }
-    Ok(Delays(delays))
+    Ok(Statement::Delays(Delays(delays)))
 }
 
 /// The windows of a line.
@@ -94,22 +91,33 @@ fn last_lost_of(list: &LostList) -> u32
 }
 
 /// A window, and the line that has it.
-pub(super) fn read_fail(draft: &Draft, rest: &[u8]) -> Result<(u8, Window), LineFault>
+pub(super) fn read_fail(draft: &Draft, rest: &[u8]) -> Result<Statement, LineFault>
     requires stands { 6 ≤ draft.now.next }
     requires config { IsDraft draft.now }
     ensures ok { IfOk result (λ read. (rest_fault draft.now Keyword.Fail (words rest.now) ≡ None)
-        × (Statement.Fail read.0 read.1 ≡ said Keyword.Fail (words rest.now))) }
-    ensures fits { IfOk result (λ read. IsNext draft.now read.0 read.1) }
+        × (read ≡ said Keyword.Fail (words rest.now))) }
     ensures err { IfErr result (λ fault.
         rest_fault draft.now Keyword.Fail (words rest.now) ≡ Some fault) }
 {
     let Some((line, first, end, slip)) = four_words(rest) else {
         return Err(count_fault(Keyword::Fail, 4, rest));
     };
-    let m = number_within(line, 2, 0, u64::from(draft.config.lines) - 1)? as u8;
-    let first = number_within(first, 3, 0, 9_999_999_999)?;
-    let end = number_within(end, 4, first + 1, u64::from(draft.config.ticks))?;
-    let slip = number_within(slip, 5, 0, LONGEST_SLIP)?;
+    let m = match number_within(line, 2, 0, u64::from(draft.config.lines) - 1) {
+        Ok(m) => m as u8,
+        Err(fault) => return Err(LineFault::Field(fault)),
+    };
+    let first = match number_within(first, 3, 0, 9_999_999_999) {
+        Ok(first) => first,
+        Err(fault) => return Err(LineFault::Field(fault)),
+    };
+    let end = match number_within(end, 4, first + 1, u64::from(draft.config.ticks)) {
+        Ok(end) => end,
+        Err(fault) => return Err(LineFault::Field(fault)),
+    };
+    let slip = match number_within(slip, 5, 0, LONGEST_SLIP) {
+        Ok(slip) => slip,
+        Err(fault) => return Err(LineFault::Field(fault)),
+    };
     let windows = windows_at(&draft.config.windows, m);
     if windows.0.len() >= MOST_WINDOWS {
         return Err(LineFault::FullLine { line: m });
@@ -118,7 +126,7 @@ pub(super) fn read_fail(draft: &Draft, rest: &[u8]) -> Result<(u8, Window), Line
     if first < u64::from(end_before) {
         return Err(LineFault::FailureBefore { end: end_before });
     }
-    Ok((
+    Ok(Statement::Fail(
         m,
         Window {
             first: first as u32,
@@ -129,18 +137,23 @@ pub(super) fn read_fail(draft: &Draft, rest: &[u8]) -> Result<(u8, Window), Line
 }
 
 /// A return window.
-pub(super) fn read_lost(draft: &Draft, rest: &[u8]) -> Result<(u32, u32), LineFault>
+pub(super) fn read_lost(draft: &Draft, rest: &[u8]) -> Result<Statement, LineFault>
     ensures ok { IfOk result (λ read. (rest_fault draft.now Keyword.Lost (words rest.now) ≡ None)
-        × (Statement.Lost read.0 read.1 ≡ said Keyword.Lost (words rest.now))) }
-    ensures fits { IfOk result (λ read. IsNextLost draft.now read.0 read.1) }
+        × (read ≡ said Keyword.Lost (words rest.now))) }
     ensures err { IfErr result (λ fault.
         rest_fault draft.now Keyword.Lost (words rest.now) ≡ Some fault) }
 {
     let Some((first, end)) = two_words(rest) else {
         return Err(count_fault(Keyword::Lost, 2, rest));
     };
-    let first = number_within(first, 2, 0, 9_999_999_999)?;
-    let end = number_within(end, 3, first + 1, MOST_PACKETS)?;
+    let first = match number_within(first, 2, 0, 9_999_999_999) {
+        Ok(first) => first,
+        Err(fault) => return Err(LineFault::Field(fault)),
+    };
+    let end = match number_within(end, 3, first + 1, MOST_PACKETS) {
+        Ok(end) => end,
+        Err(fault) => return Err(LineFault::Field(fault)),
+    };
     let lost = &draft.config.lost;
     if lost.0.len() >= MOST_WINDOWS {
         return Err(LineFault::FullPath);
@@ -149,5 +162,5 @@ pub(super) fn read_lost(draft: &Draft, rest: &[u8]) -> Result<(u32, u32), LineFa
     if first < u64::from(end_before) {
         return Err(LineFault::LossBefore { end: end_before });
     }
-    Ok((first as u32, end as u32))
+    Ok(Statement::Lost(first as u32, end as u32))
 }

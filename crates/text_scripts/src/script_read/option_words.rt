@@ -1,30 +1,28 @@
 //! The words of options: what the sink does, the two timers, and how many return packets tell all statuses.
-ghost use Rattle.std.specs.Prelude.{◌≡◌, ◌≤◌, false, IfOk, IfErr, OnOk, None, Some};
+ghost use Rattle.std.specs.Prelude.{◌≡◌, ◌≤◌, IfOk, IfErr, None, Some};
 ghost use Rattle.text_lines.specs.WordsOfLine.{words, word_at, number_at};
 ghost use Rattle.text_scripts.specs.script_read.Statements.{place, rest_fault, said, infers_of, statuses_of};
-ghost use Rattle.text_scripts.specs.script_read.Drafts.{IsPlaced, Fits, sink_fault, timer_fault, statuses_fault};
-ghost use Rattle.law_model.specs.Common.{IsStatuses};
+ghost use Rattle.text_scripts.specs.script_read.Drafts.{sink_fault, timer_fault, statuses_fault};
 
 use crate::script_read::script_draft::{Draft, Statement};
 use crate::script_read::script_fault::LineFault;
 use crate::script_read::script_keyword::Keyword;
 use crate::script_read::word_count_fault::count_fault;
 use law_model::{LONGEST_HOLDOFF, LONGEST_RESTORE};
-use text_lines::{FieldFault, Names, number_within, one_word};
+use text_lines::{FieldFault, Names, number_within, one_word, spells};
 
 /// Whether the sink goes on without some control packets, where no line says it already.
 fn read_sink(rest: &[u8], stands: bool) -> Result<bool, LineFault>
     ensures ok { IfOk result (λ infers. (sink_fault stands (words rest.now) ≡ None)
         × (infers_of (word_at 0 (words rest.now)) ≡ Some infers)) }
-    ensures first { OnOk result (stands ≡ false) }
     ensures err { IfErr result (λ fault. sink_fault stands (words rest.now) ≡ Some fault) }
 {
     let Some(word) = one_word(rest) else {
         return Err(count_fault(Keyword::Sink, 1, rest));
     };
-    let infers = if word == b"stops".as_slice() {
+    let infers = if spells(word, b"stops") {
         false
-    } else if word == b"infers".as_slice() {
+    } else if spells(word, b"infers") {
         true
     } else {
         return Err(LineFault::Field(FieldFault::Name {
@@ -43,14 +41,16 @@ fn read_timer(keyword: Keyword, rest: &[u8], most: u64, stands: bool) -> Result<
     ensures ok { IfOk result (λ n. (timer_fault keyword most stands (words rest.now) ≡ None)
         × (n ≡ number_at 0 (words rest.now))) }
     ensures fits { IfOk result (λ n. n ≤ most) }
-    ensures first { OnOk result (stands ≡ false) }
     ensures err { IfErr result (λ fault.
         timer_fault keyword most stands (words rest.now) ≡ Some fault) }
 {
     let Some(word) = one_word(rest) else {
         return Err(count_fault(keyword, 1, rest));
     };
-    let packets = number_within(word, 2, 0, most)?;
+    let packets = match number_within(word, 2, 0, most) {
+        Ok(packets) => packets,
+        Err(fault) => return Err(LineFault::Field(fault)),
+    };
     if stands {
         return Err(LineFault::Twice(keyword));
     }
@@ -61,16 +61,14 @@ fn read_timer(keyword: Keyword, rest: &[u8], most: u64, stands: bool) -> Result<
 fn read_statuses(rest: &[u8], stands: bool) -> Result<u8, LineFault>
     ensures ok { IfOk result (λ n. (statuses_fault stands (words rest.now) ≡ None)
         × (statuses_of (word_at 0 (words rest.now)) ≡ Some n)) }
-    ensures fits { IfOk result IsStatuses }
-    ensures first { OnOk result (stands ≡ false) }
     ensures err { IfErr result (λ fault. statuses_fault stands (words rest.now) ≡ Some fault) }
 {
     let Some(word) = one_word(rest) else {
         return Err(count_fault(Keyword::Statuses, 1, rest));
     };
-    let statuses = if word == b"16".as_slice() {
+    let statuses = if spells(word, b"16") {
         16
-    } else if word == b"32".as_slice() {
+    } else if spells(word, b"32") {
         32
     } else {
         return Err(LineFault::Field(FieldFault::Name {
@@ -90,25 +88,29 @@ pub(super) fn read_option(
     keyword: Keyword,
     rest: &[u8],
 ) -> Result<Statement, LineFault>
-    requires option { place keyword ≡ 6 }
-    requires stands { IsPlaced draft.now.next (place keyword) }
+    requires { place keyword ≡ 6 }
     ensures ok { IfOk result (λ read. (rest_fault draft.now keyword (words rest.now) ≡ None)
         × (read ≡ said keyword (words rest.now))) }
-    ensures fits { IfOk result (λ read. Fits draft.now read) }
     ensures err { IfErr result (λ fault.
         rest_fault draft.now keyword (words rest.now) ≡ Some fault) }
 {
     match keyword {
-        Keyword::Sink => Ok(Statement::Sink(read_sink(rest, draft.has_sink)?)),
-        Keyword::Holdoff => {
-            let packets = read_timer(Keyword::Holdoff, rest, LONGEST_HOLDOFF, draft.has_holdoff)?;
-            Ok(Statement::Holdoff(packets as u16))
-        }
-        Keyword::Restore => {
-            let packets = read_timer(Keyword::Restore, rest, LONGEST_RESTORE, draft.has_restore)?;
-            Ok(Statement::Restore(packets as u16))
-        }
-        Keyword::Statuses => Ok(Statement::Statuses(read_statuses(rest, draft.has_statuses)?)),
+        Keyword::Sink => match read_sink(rest, draft.has_sink) {
+            Ok(infers) => Ok(Statement::Sink(infers)),
+            Err(fault) => Err(fault),
+        },
+        Keyword::Holdoff => match read_timer(keyword, rest, LONGEST_HOLDOFF, draft.has_holdoff) {
+            Ok(packets) => Ok(Statement::Holdoff(packets as u16)),
+            Err(fault) => Err(fault),
+        },
+        Keyword::Restore => match read_timer(keyword, rest, LONGEST_RESTORE, draft.has_restore) {
+            Ok(packets) => Ok(Statement::Restore(packets as u16)),
+            Err(fault) => Err(fault),
+        },
+        Keyword::Statuses => match read_statuses(rest, draft.has_statuses) {
+            Ok(statuses) => Ok(Statement::Statuses(statuses)),
+            Err(fault) => Err(fault),
+        },
         _ => unreachable!(),
     }
 }

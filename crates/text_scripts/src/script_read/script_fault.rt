@@ -10,65 +10,53 @@ use text_lines::{FieldFault, FieldStop};
 use thiserror::Error;
 
 /// What is wrong with a line of a script, with what can be said of how to write it.
-#[derive(Clone, Copy, Debug, PartialEq, Eq, Error)]
+#[derive(Clone, Copy, Debug)]
 pub enum LineFault {
     /// The first word is none that begins a line.
-    #[error("word")]
     First,
     /// Behind `keyword`, which takes `takes` words, there are `follow` of them.
-    #[error("word")]
     Count {
         keyword: Keyword,
         takes: u64,
         follow: u64,
     },
     /// A word isn't what it has to be.
-    #[error("{0}")]
     Field(FieldFault),
     /// This line of the configuration has to stand here.
-    #[error("missing")]
     Missing(Keyword),
     /// The line is of the part `this`, which stands before `begun`, which has begun.
-    #[error("order")]
     Part {
         this: Part,
         begun: Part,
     },
     /// The option stands already.
-    #[error("range")]
     Twice(Keyword),
     /// Line `line` of the group has 256 failures already.
-    #[error("range")]
     FullLine {
         line: u8,
     },
     /// The return path has 256 losses already.
-    #[error("range")]
     FullPath,
     /// A failure begins before the one before it of its line has ended, in tick `end`.
-    #[error("order")]
     FailureBefore {
         end: u32,
     },
     /// A loss begins before the one before it has ended, in tick `end`.
-    #[error("order")]
     LossBefore {
         end: u32,
     },
     /// A frame is due before the frame before it, which is due in tick `due`.
-    #[error("order")]
     FrameBefore {
         due: u32,
     },
     /// A command is due before the command before it, which is due in tick `due`.
-    #[error("order")]
     CommandBefore {
         due: u32,
     },
 }
 
 /// Why a line wasn't read.
-#[derive(Clone, Copy, Debug, PartialEq, Eq)]
+#[derive(Clone, Copy)]
 pub(super) enum LineStop {
     /// It has a fault.
     Fault(LineFault),
@@ -128,16 +116,16 @@ impl<T: Drop> From<AllocFailed<T>> for LineStop {
 }
 
 /// Why a text gives no script. Lines of the text are counted from 1; lines of the group and their windows from 0.
-#[derive(Clone, Copy, Debug, PartialEq, Eq, Error)]
+#[derive(Clone, Copy, Debug, Error)]
 pub enum ScriptFault {
     /// Line `number` is the first faulty one.
-    #[error("fault: line {number}: {fault}")]
+    #[error("a line is faulty")]
     Line {
         number: u32,
         fault: LineFault,
     },
     /// Window `window` of line `line` lets `slip` containers vanish, which is as many as it damages, or more.
-    #[error("fault: slip line {line} window {window}")]
+    #[error("a window lets as many containers vanish as it damages")]
     Slip {
         line: u8,
         window: u16,
@@ -145,7 +133,7 @@ pub enum ScriptFault {
     },
     /// A ring of `ring` cells can't hold what lies between the delays `slow` and `fast`, in frames, and the
     /// greatest slip.
-    #[error("fault: spread {slow} {fast} {slip} {ring}")]
+    #[error("the ring is too small")]
     Spread {
         slow: u16,
         fast: u16,
@@ -153,7 +141,7 @@ pub enum ScriptFault {
         ring: u16,
     },
     /// The lag is below the least one that the delay `slow` and the greatest slip allow, in packets.
-    #[error("fault: lag {lag} least {least}")]
+    #[error("the lag is too small")]
     Lag {
         lag: u16,
         least: u32,
@@ -161,6 +149,6 @@ pub enum ScriptFault {
         slip: u32,
     },
     /// There was no memory.
-    #[error("fault: no memory")]
+    #[error("memory is short")]
     Memory,
 }

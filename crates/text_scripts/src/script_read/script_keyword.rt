@@ -6,9 +6,10 @@ ghost use Rattle.text_scripts.specs.script_read.Statements.{awaited, part_of, be
 ghost use Rattle.text_scripts.specs.script_read.Drafts.{IsPlaced};
 
 use crate::script_read::script_fault::LineFault;
+use text_lines::spells;
 
 /// The words that may begin a line, in the order of a script.
-#[derive(Clone, Copy, Debug, PartialEq, Eq)]
+#[derive(Clone, Copy, Debug)]
 pub enum Keyword {
     /// The container of the group.
     Container,
@@ -63,19 +64,19 @@ impl Keyword {
     pub(super) fn of(word: &[u8]) -> Option<Keyword>
         ensures { result ≡ keyword_of word.now }
     {
-        if word == b"frame".as_slice() {
+        if spells(word, b"frame") {
             Some(Keyword::Frame)
-        } else if word == b"container".as_slice() {
+        } else if spells(word, b"container") {
             Some(Keyword::Container)
-        } else if word == b"lines".as_slice() {
+        } else if spells(word, b"lines") {
             Some(Keyword::Lines)
-        } else if word == b"delays".as_slice() {
+        } else if spells(word, b"delays") {
             Some(Keyword::Delays)
-        } else if word == b"ring".as_slice() {
+        } else if spells(word, b"ring") {
             Some(Keyword::Ring)
-        } else if word == b"lag".as_slice() {
+        } else if spells(word, b"lag") {
             Some(Keyword::Lag)
-        } else if word == b"ticks".as_slice() {
+        } else if spells(word, b"ticks") {
             Some(Keyword::Ticks)
         } else {
             Keyword::of_option(word)
@@ -86,13 +87,13 @@ impl Keyword {
     fn of_option(word: &[u8]) -> Option<Keyword>
         ensures { result ≡ option_keyword word.now }
     {
-        if word == b"sink".as_slice() {
+        if spells(word, b"sink") {
             Some(Keyword::Sink)
-        } else if word == b"holdoff".as_slice() {
+        } else if spells(word, b"holdoff") {
             Some(Keyword::Holdoff)
-        } else if word == b"restore".as_slice() {
+        } else if spells(word, b"restore") {
             Some(Keyword::Restore)
-        } else if word == b"statuses".as_slice() {
+        } else if spells(word, b"statuses") {
             Some(Keyword::Statuses)
         } else {
             Keyword::of_item(word)
@@ -103,15 +104,15 @@ impl Keyword {
     fn of_item(word: &[u8]) -> Option<Keyword>
         ensures { result ≡ item_keyword word.now }
     {
-        if word == b"fail".as_slice() {
+        if spells(word, b"fail") {
             Some(Keyword::Fail)
-        } else if word == b"lost".as_slice() {
+        } else if spells(word, b"lost") {
             Some(Keyword::Lost)
-        } else if word == b"frame".as_slice() {
+        } else if spells(word, b"frame") {
             Some(Keyword::Frame)
-        } else if word == b"add".as_slice() {
+        } else if spells(word, b"add") {
             Some(Keyword::Add)
-        } else if word == b"remove".as_slice() {
+        } else if spells(word, b"remove") {
             Some(Keyword::Remove)
         } else {
             Keyword::of_event(word)
@@ -122,21 +123,21 @@ impl Keyword {
     fn of_event(word: &[u8]) -> Option<Keyword>
         ensures { result ≡ event_keyword word.now }
     {
-        if word == b"client".as_slice() {
+        if spells(word, b"client") {
             Some(Keyword::Client)
-        } else if word == b"operator".as_slice() {
+        } else if spells(word, b"operator") {
             Some(Keyword::Operator)
-        } else if word == b"tick".as_slice() {
+        } else if spells(word, b"tick") {
             Some(Keyword::Tick)
-        } else if word == b"carry".as_slice() {
+        } else if spells(word, b"carry") {
             Some(Keyword::Carry)
-        } else if word == b"back".as_slice() {
+        } else if spells(word, b"back") {
             Some(Keyword::Back)
-        } else if word == b"take".as_slice() {
+        } else if spells(word, b"take") {
             Some(Keyword::Take)
-        } else if word == b"round".as_slice() {
+        } else if spells(word, b"round") {
             Some(Keyword::Round)
-        } else if word == b"drain".as_slice() {
+        } else if spells(word, b"drain") {
             Some(Keyword::Drain)
         } else {
             None
@@ -171,7 +172,7 @@ impl Keyword {
 }
 
 /// The parts of a script, in their order.
-#[derive(Clone, Copy, Debug, PartialEq, Eq)]
+#[derive(Clone, Copy, Debug)]
 pub enum Part {
     /// The configuration, with the options.
     Configuration,

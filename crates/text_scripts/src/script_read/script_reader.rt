@@ -1,5 +1,5 @@
 //! A script whose text comes in pieces.
-ghost use Rattle.std.specs.Prelude.{◌≡◌, ◌⊎◌, ℕ, ◌+◌, ◌≤◌, List, [], ◌++◌, length, take, drop, IfOk, IfErr};
+ghost use Rattle.std.specs.Prelude.{◌≡◌, ◌⊎◌, ℕ, ◌+◌, ◌≤◌, List, [], ◌++◌, length, take, drop, IfOk, OnOk, IfErr};
 ghost use Rattle.std.specs.Prelude.{Ok, Err, None};
 ghost use Rattle.std.specs.Str.Lines.{lines};
 ghost use Rattle.text_lines.specs.Language.{said_from};
@@ -10,15 +10,15 @@ ghost use Rattle.text_scripts.specs.script_read.Script.{missing_line};
 ghost use Rattle.text_scripts.specs.script_read.ScriptInPieces.{ReaderStands, HasNumbersLeft, IsReader, Follows};
 ghost use Rattle.text_scripts.specs.script_read.ScriptInPieces.{next_number, drafted, IsAt, IsToldAt};
 ghost use Rattle.text_scripts.specs.script_read.ScriptInPieces.{IsUntested};
-ghost use Rattle.text_scripts.specs.script_read.Drafts.{IsDraft, fault_at};
-ghost use Rattle.law_model.specs.Common.{IsValid, HasFewLosses, longest_input, most_items};
+ghost use Rattle.text_scripts.specs.script_read.Drafts.{fault_at};
+ghost use Rattle.law_model.specs.Common.{IsValid, HasFewLosses, longest_input};
 
 use crate::script_read::grow_draft::{add, no_lines};
 use crate::script_read::read_statement::read_line;
 use crate::script_read::script_draft::Draft;
 use crate::script_read::script_fault::{LineFault, LineStop, ScriptFault};
 use crate::script_read::script_keyword::awaited;
-use crate::script_read::script_limits::fault_of_config;
+use crate::script_read::script_limits::limit_fault;
 use law_model::Script;
 use std::alloc::Global;
 use text_lines::{next_line, next_whole_line};
@@ -66,34 +66,52 @@ impl ScriptReader {
         }
     }
 
+    /// Reads one line, without its end.
+    fn take_line(&mut self, alloc: Global, line: &[u8]) -> Result<(), ScriptFault>
+        requires reader { IsReader self.old }
+        requires room { HasNumbersLeft self.old 1 }
+        ensures reader { OnOk result (IsReader self.new) }
+        ensures number { OnOk result (self.new.number ≡ self.old.number + 1) }
+        ensures sound { OnOk result (words_fault self.old.draft (words line.now) ≡ None) }
+        ensures adds { OnOk result
+            (self.new.draft ≡ after self.old.draft (words_said (words line.now))) }
+        ensures fault { IfErr result (λ fault. (fault ≡ ScriptFault.Memory) ⊎
+            IsToldAt self.old.number (words_fault self.old.draft (words line.now)) fault) }
+    {
+        let said = match read_line(alloc, &self.draft, line) {
+            Ok(said) => said,
+            Err(stop) => return Err(fault_of(self.number, stop)),
+        };
+        match add(alloc, &mut self.draft, said) {
+            Ok(()) => {
+                self.number += 1;
+                Ok(())
+            }
+            Err(_) => Err(ScriptFault::Memory),
+        }
+    }
+
     /// Reads the whole lines at the front of a piece, and says how many octets they have. What is left has to
     /// stand at the front of the next piece.
-    fn read_lines(self, alloc: Global, piece: &[u8]) -> Result<(ScriptReader, usize), ScriptFault>
-        requires reader { IsReader self }
-        requires room { HasNumbersLeft self (length piece.now) }
-        ensures reader { IfOk result (λ read. IsReader read.0) }
-        ensures within { IfOk result (λ read. read.1 ≤ length piece.now) }
-        ensures stands { (text : List ℕ) → ReaderStands self text →
-            IfOk result (λ read. ReaderStands read.0 (text ++ take read.1 piece.now)) }
-        ensures fault { (text : List ℕ) → ReaderStands self text → IfErr result (λ fault.
+    fn read_lines(&mut self, alloc: Global, piece: &[u8]) -> Result<usize, ScriptFault>
+        requires reader { IsReader self.old }
+        requires room { HasNumbersLeft self.old (length piece.now) }
+        ensures reader { IfOk result (λ _. IsReader self.new) }
+        ensures within { IfOk result (λ read. read ≤ length piece.now) }
+        ensures stands { (text : List ℕ) → ReaderStands self.old text →
+            IfOk result (λ read. ReaderStands self.new (text ++ take read piece.now)) }
+        ensures fault { (text : List ℕ) → ReaderStands self.old text → IfErr result (λ fault.
             (fault ≡ ScriptFault.Memory)
             ⊎ ((more : List ℕ) → script_of (text ++ (piece.now ++ more)) ≡ Err fault)) }
     {
-        let mut draft = self.draft;
-        let mut number = self.number;
         let mut rest = piece;
         while let Some((line, later)) = next_whole_line(rest) {
-            let said = match read_line(alloc, &draft, line) {
-                Ok(said) => said,
-                Err(stop) => return Err(fault_of(number, stop)),
-            };
-            match add(alloc, &mut draft, said) {
-                Ok(()) => number += 1,
-                Err(_) => return Err(ScriptFault::Memory),
+            match self.take_line(alloc, line) {
+                Ok(()) => rest = later,
+                Err(fault) => return Err(fault),
             }
-            rest = later;
         }
-        Ok((ScriptReader { draft, number }, piece.len() - rest.len()))
+        Ok(piece.len() - rest.len())
     }
 
     /// Reads the whole lines at the front of the rest of a text, and gives what is left then.
@@ -111,44 +129,33 @@ impl ScriptReader {
             (fault ≡ ScriptFault.Memory)
             ⊎ ((more : List ℕ) → script_of (all ++ more) ≡ Err fault)) }
     {
-        match self.read_lines(alloc, rest.as_slice()) {
-            Ok((reader, used)) => Ok((reader, without_front(rest, used))),
+        let mut reader = self;
+        match reader.read_lines(alloc, rest.as_slice()) {
+            Ok(used) => Ok((reader, without_front(rest, used))),
             Err(fault) => Err(fault),
         }
     }
 
-    /// What the lines of the rest of a text say after those that were read.
-    fn read_draft(self, alloc: Global, text: &[u8]) -> Result<Draft, ScriptFault>
-        requires reader { IsReader self }
-        requires room { HasNumbersLeft self (length text.now) }
-        ensures ok { IfOk result (λ draft.
-            said_from script_lines self.number self.draft (lines text.now) ≡ Ok draft) }
-        ensures stands { IfOk result (λ draft. IsDraft draft × (6 ≤ draft.next)) }
-        ensures few { IfOk result (λ draft. length draft.items ≤ most_items) }
-        ensures err { IfErr result (λ fault. (fault ≡ ScriptFault.Memory) ⊎ (script_of_draft
-            (said_from script_lines self.number self.draft (lines text.now)) ≡ Err fault)) }
+    /// Reads the rest of a text, line by line.
+    fn read_rest(&mut self, alloc: Global, text: &[u8]) -> Result<(), ScriptFault>
+        requires reader { IsReader self.old }
+        requires room { HasNumbersLeft self.old (length text.now) }
+        ensures reader { OnOk result (IsReader self.new) }
+        ensures small { OnOk result (HasNumbersLeft self.new 0) }
+        ensures said { OnOk result
+            (said_from script_lines self.old.number self.old.draft (lines text.now)
+            ≡ said_from script_lines self.new.number self.new.draft []) }
+        ensures fault { IfErr result (λ fault. (fault ≡ ScriptFault.Memory) ⊎ (script_of_draft
+            (said_from script_lines self.old.number self.old.draft (lines text.now)) ≡ Err fault)) }
     {
-        let mut draft = self.draft;
-        let mut number = self.number;
         let mut rest = text;
         while let Some((line, later)) = next_line(rest) {
-            rest = later;
-            let said = match read_line(alloc, &draft, line) {
-                Ok(said) => said,
-                Err(stop) => return Err(fault_of(number, stop)),
-            };
-            match add(alloc, &mut draft, said) {
-                Ok(()) => number += 1,
-                Err(_) => return Err(ScriptFault::Memory),
+            match self.take_line(alloc, line) {
+                Ok(()) => rest = later,
+                Err(fault) => return Err(fault),
             }
         }
-        if draft.next < 6 {
-            return Err(ScriptFault::Line {
-                number,
-                fault: LineFault::Missing(awaited(draft.next)),
-            });
-        }
-        Ok(draft)
+        Ok(())
     }
 
     /// The script of a text whose last piece this is.
@@ -162,14 +169,19 @@ impl ScriptReader {
         ensures fault { (text : List ℕ) → ReaderStands self text → IfErr result (λ fault.
             (fault ≡ ScriptFault.Memory) ⊎ (script_of (text ++ piece.now) ≡ Err fault)) }
     {
-        let draft = match self.read_draft(alloc, piece) {
-            Ok(draft) => draft,
+        let mut reader = self;
+        match reader.read_rest(alloc, piece) {
+            Ok(()) => {}
+            Err(fault) => return Err(fault),
+        }
+        let script = match reader.end() {
+            Ok(script) => script,
             Err(fault) => return Err(fault),
         };
-        if let Some(fault) = fault_of_config(&draft.config) {
-            return Err(fault);
+        match limit_fault(&script) {
+            Some(fault) => Err(fault),
+            None => Ok(script),
         }
-        Ok(finished(draft))
     }
 }
 
@@ -204,17 +216,10 @@ impl ScriptReader {
         ensures fault { IfErr result (λ fault. (fault ≡ ScriptFault.Memory) ⊎
             IsToldAt (next_number self) (words_fault (drafted self) (words line.now)) fault) }
     {
-        let mut draft = self.draft;
-        let said = match read_line(alloc, &draft, line) {
-            Ok(said) => said,
-            Err(stop) => return Err(fault_of(self.number, stop)),
-        };
-        match add(alloc, &mut draft, said) {
-            Ok(()) => Ok(ScriptReader {
-                draft,
-                number: self.number + 1,
-            }),
-            Err(_) => Err(ScriptFault::Memory),
+        let mut reader = self;
+        match reader.take_line(alloc, line) {
+            Ok(()) => Ok(reader),
+            Err(fault) => Err(fault),
         }
     }
 

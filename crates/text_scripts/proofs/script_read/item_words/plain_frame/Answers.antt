@@ -3,8 +3,8 @@ use Rattle.std.proofs.Common.{◌∷◌, ◌∙◌, List, ℕ, ap, arith}
 use Rattle.text_scripts.proofs.StatementAndWordFaultLaws.{digits_only}
 use Rattle.text_scripts.proofs.script_read.item_words.plain_frame.Goals as goal
 
-pub returns-in-Ok-clause-words : goal.returns-in-Ok-clause-words
-returns-in-Ok-clause-words c =
+pub returns-in-Ok : goal.returns-in-Ok
+returns-in-Ok c =
     let some = c.in-Ok.ensures.fits.0 in
     record {
       digits = c.in-Some.digits.now;

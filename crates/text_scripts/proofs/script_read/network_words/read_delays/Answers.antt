@@ -1,6 +1,7 @@
 -- The first fault of the delays, and their values.
 use Rattle.std.proofs.Common.{◌≡◌, ◌∙◌, ◌+◌, ◌++◌, ℕ, List, [], length, map, ap, sym, rules, append-nil}
 use Rattle.text_lines.specs.WordsOfLine.{words, number_of}
+use Rattle.text_scripts.specs.declared.script_read.script_draft.Statement.TheVariants as says
 use Rattle.text_scripts.proofs.StatementAndWordFaultLaws.{delays_said, delay_fails, line_faults}
 use Rattle.text_scripts.proofs.script_read.network_words.read_delays.Goals as goal
 
@@ -18,6 +19,7 @@ returns-clause-ok c =
     let none : words c.loop-word.further.now ≡ [] = c.in_default.ensures.none in (
       delays_said c.args.lines (words c.args.rest.now) count ∙ c.loop-word.invariant.faults
           ∙ ap (λ (ws : List (List ℕ)). line_faults (length c.loop-word.delays.items + 2) ws) none,
-      sym (c.loop-word.invariant.values ∙ ap (λ (ws : List (List ℕ)). c.loop-word.delays.items ++ map number_of ws) none
-          ∙ append-nil c.loop-word.delays.items),
+      ap says.Delays (sym (c.loop-word.invariant.values
+          ∙ ap (λ (ws : List (List ℕ)). c.loop-word.delays.items ++ map number_of ws) none
+          ∙ append-nil c.loop-word.delays.items)),
     )

@@ -1,22 +1,27 @@
 -- A draft that passes the tests is a script that meets all that is said of one.
-use Rattle.std.proofs.Common.{sym, subst, ap, ◌∙◌, Option, Ok}
-use Rattle.text_scripts.specs.declared.script_read.script_fault.ScriptFault.{ScriptFault}
-use Rattle.text_scripts.specs.script_read.Script.{script_of_draft, script_unless, script_in}
-use Rattle.law_model.specs.Common.{IsValid, HasFewLosses}
-use Rattle.text_scripts.proofs.ScriptDraftGrowthLaws.{IsValid-draft}
+use Rattle.std.proofs.Common.{sym, ◌∙◌, ◌++◌, inr}
+use Rattle.text_lines.specs.Language.{said_by}
+use Rattle.text_scripts.specs.script_read.Script.{script_lines}
+use Rattle.text_scripts.proofs.ScriptLineAndFirstFaultLaws.{end_fails, end_tested}
 use Rattle.text_scripts.proofs.script_read.script_reader.ScriptReader.finish.Goals as goal
 
-pub returns-clause-valid : goal.returns-clause-valid
-returns-clause-valid c =
-    subst IsValid (sym c.finished.ensures)
-    (IsValid-draft c.in-Ok.draft c.in-Ok.ensures.stands.0 c.in-Ok.ensures.stands.1 c.in-Ok.ensures.few
-    (sym c.in_default.ensures))
+pub returns-in-Err-end-clause-fault : goal.returns-in-Err-end-clause-fault
+returns-in-Err-end-clause-fault c text stands =
+    inr (end_fails (said_by script_lines (text ++ c.args.piece.now)) c.read_rest.new.self.number
+    c.read_rest.new.self.draft c.in-Err-end.fault (stands.said c.args.piece.now ∙ c.in-Ok.ensures.said)
+    c.in-Err-end.ensures.fault)
 
-pub returns-clause-few_lost : goal.returns-clause-few_lost
-returns-clause-few_lost c = subst HasFewLosses (sym c.finished.ensures) c.in-Ok.ensures.stands.0.config.few_lost
+pub returns-in-Some-clause-fault : goal.returns-in-Some-clause-fault
+returns-in-Some-clause-fault c text stands =
+    inr (end_tested (said_by script_lines (text ++ c.args.piece.now)) c.read_rest.new.self.number
+    c.read_rest.new.self.draft c.in-Ok-end.script _ (stands.said c.args.piece.now ∙ c.in-Ok.ensures.said)
+    c.in-Ok-end.ensures.whole c.in-Ok-end.ensures.script (sym c.limit_fault.ensures ∙ c.in-Some.is))
 
-pub returns-clause-script : goal.returns-clause-script
-returns-clause-script c text stands =
-    ap script_of_draft (stands.said c.args.piece.now ∙ c.in-Ok.ensures.ok)
-    ∙ ap (λ (f : Option ScriptFault). script_unless f (script_in c.in-Ok.draft)) (sym c.in_default.ensures)
-    ∙ ap Ok (sym c.finished.ensures)
+pub returns-in-None-clause-script : goal.returns-in-None-clause-script
+returns-in-None-clause-script c text stands =
+    end_tested (said_by script_lines (text ++ c.args.piece.now)) c.read_rest.new.self.number
+    c.read_rest.new.self.draft c.in-Ok-end.script _ (stands.said c.args.piece.now ∙ c.in-Ok.ensures.said)
+    c.in-Ok-end.ensures.whole c.in-Ok-end.ensures.script (sym c.limit_fault.ensures ∙ c.in-None.is)
+
+pub returns-in-None-clause-valid : goal.returns-in-None-clause-valid
+returns-in-None-clause-valid c = c.in-Ok-end.ensures.untested.valid (sym c.limit_fault.ensures ∙ c.in-None.is)

@@ -9,9 +9,9 @@ use Rattle.text_scripts.proofs.script_read.script_reader.ScriptReader.read_on.Go
 pub returns-in-Ok-clause-follows : goal.returns-in-Ok-clause-follows
 returns-in-Ok-clause-follows c all follows =
     let used : ℕ = c.in-Ok.used in
-    follows_on c.args.self c.in-Ok.reader c.args.rest.items c.without_front.result.items all used follows
+    follows_on c.args.self c.read_lines.new.self c.args.rest.items c.without_front.result.items all used follows
     c.without_front.ensures
-    (subst (λ (t : List ℕ). ReaderStands c.in-Ok.reader (follows.text ++ take used t)) c.as_slice.ensures.value
+    (subst (λ (t : List ℕ). ReaderStands c.read_lines.new.self (follows.text ++ take used t)) c.as_slice.ensures.value
     (c.in-Ok.ensures.stands follows.text follows.stands))
 
 pub returns-in-Err-clause-fault : goal.returns-in-Err-clause-fault
