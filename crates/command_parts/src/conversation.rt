@@ -1,7 +1,6 @@
 //! An input that is answered line by line, as it comes.
-ghost use Rattle.std.specs.Prelude.{◌≡◌, ◌⊎◌, ℕ, ◌+◌, ◌<◌, ◌≤◌, List, ◌∷◌, ◌++◌, length, drop, IsErr};
-ghost use Rattle.std.specs.Prelude.{IfSome, IfNone, IfOk, IfErr, OnOk, OnErr, None, false};
-ghost use Rattle.std.specs.Str.Lines.{strip_carriage_return};
+ghost use Rattle.std.specs.Prelude.{◌≡◌, ◌⊎◌, ℕ, ◌+◌, ◌<◌, ◌≤◌, List, length, drop, IsErr};
+ghost use Rattle.std.specs.Prelude.{IfOk, IfErr, OnOk, OnErr, None, false};
 ghost use Rattle.text_lines.specs.Cut.{Lacks};
 ghost use Rattle.command_parts.specs.Talk.{Said};
 ghost use Rattle.command_parts.specs.Dialogue.{Heard, reply_to, last_reply, is_long, course_of, said_by, closed};
@@ -14,10 +13,10 @@ ghost use Rattle.command_parts.specs.Gives.{GivesTalk};
 
 use crate::intake::Intake;
 use crate::stop_and_status::{Ran, Stop};
-use memchr::memchr;
 use octet_io::{ByteSink, ByteSource, Failed};
 use std::alloc::Global;
 use text_got::TextBlock;
+use text_lines::{cut, without_return};
 
 /// The most octets of a line without its LF.
 const LONGEST_LINE: usize = 262_144;
@@ -77,28 +76,6 @@ pub trait Talker: Drop {
 pub(crate) struct Listener<T> {
     talker: T,
     lines: u32,
-}
-
-/// The first line that an LF ends, without it, and the octets behind it.
-fn first_line(octets: &[u8]) -> Option<(&[u8], &[u8])>
-    ensures lacks { IfSome result (λ parts. Lacks 10 parts.0.now) }
-    ensures some { IfSome result (λ parts. octets.now ≡ parts.0.now ++ 10 ∷ parts.1.now) }
-    ensures none { IfNone result (Lacks 10 octets.now) }
-{
-    let Some(end) = memchr(b'\n', octets) else {
-        return None;
-    };
-    Some((&octets[..end], &octets[end + 1..]))
-}
-
-/// A line without the CR at its end.
-fn without_return(line: &[u8]) -> &[u8]
-    ensures { result.now ≡ strip_carriage_return line.now }
-{
-    match line {
-        [front @ .., b'\r'] => front,
-        _ => line,
-    }
 }
 
 impl<T: Talker> Listener<T> {
@@ -197,7 +174,7 @@ fn hear_lines<T: Talker, K: ByteSink>(
         (said_by (course_of octets.now heard))) }
 {
     let mut rest = octets;
-    while let Some((line, later)) = first_line(rest) {
+    while let Some((line, later)) = cut(rest, b'\n') {
         if listener.is_long(line) {
             return Err(Stop::TooLong);
         }

@@ -152,7 +152,10 @@ pub(crate) fn spread_help(slow: u16, fast: u16, slip: u32, out: &mut [u8]) -> us
     line.number(b"delays from ", fast);
     line.number(b" to ", slow);
     line.number(b" and slips of ", slip);
-    line.number(b" need a ring of at least ", u64::from(slow.saturating_sub(fast)) + u64::from(slip) + 1);
+    line.number(
+        b" need a ring of at least ",
+        u64::from(slow.saturating_sub(fast)) + u64::from(slip) + 1,
+    );
     line.end()
 }
 

@@ -15,7 +15,7 @@ mod text_faults;
 
 pub use read_by_table::{LineTable, count_fault, one_number, read_text};
 pub use read_fields::{number_within, octets_within};
-pub use split_text::{next_line, next_whole_line};
+pub use split_text::{cut, next_line, next_whole_line, without_return};
 pub use split_words::{
     count_words, first_word, four_words, next_word, one_word, spells, three_words, two_words,
 };

@@ -7,7 +7,7 @@ ghost use Rattle.text_lines.specs.Cut.{Lacks};
 use memchr::memchr;
 
 /// What stands before and after the first place of an octet.
-pub(crate) fn cut(text: &[u8], octet: u8) -> Option<(&[u8], &[u8])>
+pub fn cut(text: &[u8], octet: u8) -> Option<(&[u8], &[u8])>
     ensures before { IfSome result (λ parts. Lacks octet parts.0.now) }
     ensures some { IfSome result (λ parts. text.now ≡ parts.0.now ++ octet ∷ parts.1.now) }
     ensures none { IfNone result (Lacks octet text.now) }
@@ -19,7 +19,7 @@ pub(crate) fn cut(text: &[u8], octet: u8) -> Option<(&[u8], &[u8])>
 }
 
 /// A line without the CR at its end.
-fn without_return(line: &[u8]) -> &[u8]
+pub fn without_return(line: &[u8]) -> &[u8]
     ensures { result.now ≡ strip_carriage_return line.now }
 {
     match line {

@@ -9,13 +9,13 @@ pub returns-then-is_long-clause-stopped : goal.returns-then-is_long-clause-stopp
 returns-then-is_long-clause-stopped g c first earlier heard stands =
     let was = c.loop-line.invariant.heard first earlier heard stands in
     line_long _ _ _ _ _ _ _ _ _ _ _ was c.in-Some.line.now c.in-Some.later.now c.in-Some.ensures.some
-    c.in-Some.ensures.lacks (sym (c.if-is_long.ensures.long was.now was.stands.listens))
+    c.in-Some.ensures.before (sym (c.if-is_long.ensures.long was.now was.stands.listens))
 
 pub hear-requires-clause-can : goal.hear-requires-clause-can
 hear-requires-clause-can g c =
     let (first, earlier, heard, stands) = c.loop-line.invariant.somewhere in
     can_reply _ g.K.ByteSink.written g.K.ByteSink.faults c.loop-line.listener heard c.in-Some.line.now _
-    stands.listens c.in-Some.ensures.lacks (c.if-is_long.ensures.fits refl) c.without_return.ensures
+    stands.listens c.in-Some.ensures.before (c.if-is_long.ensures.fits refl) c.without_return.ensures
 
 pub loop-line-preserved : goal.loop-line-preserved
 loop-line-preserved g c =
@@ -35,7 +35,7 @@ loop-line-preserved g c =
           let was = c.loop-line.invariant.heard first earlier heard stands in
           heard_next _ _ _ _ _ _ _ _ _ _ _ was c.hear.new.out c.hear.new.block c.in-Some.line.now
           c.in-Some.later.now c.without_return.result.now c.hear.new.self c.in-Some.ensures.some
-          c.in-Some.ensures.lacks (sym (c.if-is_long.ensures.long was.now was.stands.listens))
+          c.in-Some.ensures.before (sym (c.if-is_long.ensures.long was.now was.stands.listens))
           c.without_return.ensures (c.in-Ok.ensures.heard first earlier was.now was.stands);
     }
 
@@ -44,7 +44,7 @@ returns-in-Err-clause-stopped g c first earlier heard stands =
     let was = c.loop-line.invariant.heard first earlier heard stands in
     line_stops _ _ _ _ _ _ _ _ _ _ _ was c.hear.new.out c.hear.new.block c.in-Some.line.now
     c.in-Some.later.now c.without_return.result.now c.in-Err.stop c.in-Some.ensures.some
-    c.in-Some.ensures.lacks (sym (c.if-is_long.ensures.long was.now was.stands.listens))
+    c.in-Some.ensures.before (sym (c.if-is_long.ensures.long was.now was.stands.listens))
     c.without_return.ensures (c.in-Err.ensures.stopped first earlier was.now was.stands)
 
 pub returns-then-is_long-2-clause-stopped : goal.returns-then-is_long-2-clause-stopped
