@@ -1,5 +1,7 @@
+pub mod CarriesHereLaws
 pub mod LinesWithPostsLaws
 pub mod OpenedLineAndGroupLaws
+pub mod ReceiveRingSlotLaws
 pub mod RungBellLaws
 pub mod SessionEndByScriptLaws
 pub mod SessionRingEndsAndSinkRunLaws

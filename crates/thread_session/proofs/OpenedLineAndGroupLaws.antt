@@ -2,7 +2,7 @@
 use Rattle.std.proofs.Common.{◌≡◌, inl, inr, ℕ, zero, suc, ◌+◌, List, [], ◌∷◌, ◌++◌, length, slice_get, Some, None}
 use Rattle.std.proofs.Common.{refl, sym, ◌∙◌, ap, subst, arith, length-append, IfOk, Result, Ok, Err, ◌≤◌, true, false}
 use Rattle.std.proofs.Common.{if◌then◌else◌, take, drop, ◌^◌, ◌<◌, slice_index_or, sum_by, All, append-nil, ◌==◌}
-use Rattle.std.proofs.Common.{Option}
+use Rattle.std.proofs.Common.{Option, Bool, not, ◌↔◌}
 use Rattle.law_model.proofs.ListLaws.{get-last}
 use Rattle.law_model.specs.Common.{Container, Cell, IsValid, BackCell, leg_of, Scenario, scenario_of, offers_of}
 use Rattle.law_model.specs.Common.{orders_of, used_in, containers_of, DueFrame, offer_of, IsKind, Leg, longest_offer}
@@ -12,7 +12,7 @@ use Rattle.member_path.specs.path_delay.CallsOnDelayedLine.{Line, opened, DelayS
 use Rattle.thread_rings.specs.EndsOfRing.{OutEnd, InEnd, out_passed, in_passed, in_size, AreEnds, SameOut, SameIn}
 use Rattle.thread_rings.specs.WorkerLineCalls.{IsOpened}
 use Rattle.thread_rings.specs.declared.line_worker.LineWorker.{LineWorker}
-use Rattle.thread_session.specs.session_parts.LinesOpened.{IsLineOf, AreOpened, slots_of}
+use Rattle.thread_session.specs.session_parts.LinesOpened.{IsLineOf, IsLineOpened, AreOpened, slots_of}
 use Rattle.std.specs.Global.{Vec}
 use Rattle.thread_sink.specs.declared.sink_worker.SinkWorker.{SinkWorker}
 use Rattle.thread_sink.specs.WorkerOfSink.{SinkWorkerStands as SinkStands, lines_of as sink_lines}
@@ -33,20 +33,22 @@ use Rattle.thread_group.specs.GroupParts.{ArePast}
 use Rattle.thread_group.specs.Group.{IsOf, lines_of, lag_of, size_of, statuses_of, lost_of, ticks_of, frames_of}
 use Rattle.thread_group.specs.Group.{commands_of, journal_of, slots_of as group_slots_of, bytes_of, refusals_of}
 use Rattle.thread_group.specs.Group.{taken_of, source_of, HasCounted, next_of, items_of, refusal_of, fault_met}
-use Rattle.thread_group.specs.Group.{parts_of}
+use Rattle.thread_group.specs.Group.{parts_of, is_number}
 use Rattle.thread_group.specs.GroupOfLeg.{counts_of, refusals_by, accepted_frames_by, accepted_commands_by, octets_in}
 use Rattle.thread_group.specs.GroupOfLeg.{AreItemsOf, HasJournalRoom, HasLandedOf, IsBound}
 use Rattle.thread_group.proofs.JournalEntryAndScenarioLaws.{all-kinds}
 use Rattle.std.proofs.lemmas.List.Sums.{sum_by-cons, sum_by-append, sum_by-le}
 use Rattle.law_model.specs.declared.script_types.ItemKind.{ItemKind}
 use Rattle.law_model.specs.declared.script_types.ItemKind.TheVariants.{Frame, Add, Remove}
-use Rattle.std.proofs.lemmas.Bool.{cases_Bool, eqb-true}
+use Rattle.std.proofs.lemmas.Bool.{cases_Bool, eqb-true, eq-eqb, le-ltb}
 use Rattle.terminal_group.specs.Landed.{due_at}
 use Rattle.thread_group.specs.declared.group_answers.SubmitFault.{SubmitFault}
-use Rattle.thread_group.specs.FaultsAndStops.{has_landed}
+use Rattle.law_model.specs.declared.item_refusals.Refusal.{Refusal}
+use Rattle.law_model.specs.declared.item_refusals.Refusal.TheVariants.{Frame as frame_refused, Command as command_refused}
+use Rattle.thread_group.specs.FaultsAndStops.{has_landed, is_full}
 use Rattle.thread_group.specs.GroupCalls.{Submits}
 use Rattle.thread_group.proofs.SubmitAndTickAnswerLaws.{fault_by}
-use Rattle.thread_session.specs.session_run.Turns.{HasLanded}
+use Rattle.thread_session.specs.session_run.Turns.{HasLanded, MayLand}
 
 -- ---- One line more is opened.
 beyond : {X : Type 0} (xs : List X) (m n : ℕ) (y : X) → slice_get xs m ≡ Some y → m ≡ n → length xs ≡ n → ⊥
@@ -79,33 +81,32 @@ none-opened config = record {
 pub opened-more : (config : Config) (n : ℕ) (tx : List (OutEnd Container)) (workers : List LineWorker)
     (rx : List (InEnd Cell))
     (out : OutEnd Container) (worker : LineWorker) (into : InEnd Cell) → AreOpened config n tx workers rx →
-    out_passed out ≡ [] → in_passed into ≡ [] → in_size into ≡ slots_of config n → out_passed worker.producer ≡ [] →
-    IsLineOf config n worker → AreEnds out worker.consumer → AreEnds worker.producer into →
+    IsLineOpened config n (slots_of config n) out worker into →
     AreOpened config (n + 1) (tx ++ out ∷ []) (workers ++ worker ∷ []) (rx ++ into ∷ [])
-opened-more config n tx workers rx out worker into are unused fresh slots quiet line send receive = record {
+opened-more config n tx workers rx out worker into are own = record {
   tx_count = length-append tx (out ∷ []) ∙ ap (λ (k : ℕ). k + 1) are.tx_count;
   workers_count = length-append workers (worker ∷ []) ∙ ap (λ (k : ℕ). k + 1) are.workers_count;
   rx_count = length-append rx (into ∷ []) ∙ ap (λ (k : ℕ). k + 1) are.rx_count;
   unused = λ m one there. elim (get-last tx out m one there) [
     | inl before ↦ are.unused m one before
-    | inr (at, is) ↦ ap out_passed is ∙ unused
+    | inr (at, is) ↦ ap out_passed is ∙ own.unused
   ];
   fresh = λ m one there. elim (get-last rx into m one there) [
     | inl before ↦ are.fresh m one before
-    | inr (at, is) ↦ ap in_passed is ∙ fresh
+    | inr (at, is) ↦ ap in_passed is ∙ own.fresh
   ];
   slots = λ m one there. elim (get-last rx into m one there) [
     | inl before ↦ are.slots m one before
-    | inr (at, is) ↦ ap in_size is ∙ slots ∙ ap (slots_of config) (sym (at ∙ are.rx_count))
+    | inr (at, is) ↦ ap in_size is ∙ own.slots ∙ ap (slots_of config) (sym (at ∙ are.rx_count))
   ];
   silent = λ m one there. elim (get-last workers worker m one there) [
     | inl before ↦ are.silent m one before
-    | inr (at, is) ↦ ap (λ (w : LineWorker). out_passed w.producer) is ∙ quiet
+    | inr (at, is) ↦ ap (λ (w : LineWorker). out_passed w.producer) is ∙ own.silent
   ];
   lines = λ m one there. elim (get-last workers worker m one there) [
     | inl before ↦ are.lines m one before
     | inr (at, is) ↦ subst (λ (k : ℕ). IsLineOf config k one) (sym (at ∙ are.workers_count))
-        (subst (IsLineOf config n) (sym is) line)
+        (subst (IsLineOf config n) (sym is) own.line)
   ];
   sends = λ m one other there here. elim (get-last tx out m one there) [
     | inl before ↦ elim (get-last workers worker m other here) [
@@ -115,7 +116,7 @@ opened-more config n tx workers rx out worker into are unused fresh slots quiet 
     | inr (at, is) ↦ elim (get-last workers worker m other here) [
       | inl before' ↦ absurd (beyond workers m n other before' (at ∙ are.tx_count) are.workers_count)
       | inr (at', is') ↦ subst (λ (a : OutEnd Container). AreEnds a other.consumer) (sym is)
-          (subst (λ (b : LineWorker). AreEnds out b.consumer) (sym is') send)
+          (subst (λ (b : LineWorker). AreEnds out b.consumer) (sym is') own.send)
     ]
   ];
   receives = λ m one other there here. elim (get-last workers worker m one there) [
@@ -126,7 +127,7 @@ opened-more config n tx workers rx out worker into are unused fresh slots quiet 
     | inr (at, is) ↦ elim (get-last rx into m other here) [
       | inl before' ↦ absurd (beyond rx m n other before' (at ∙ are.workers_count) are.rx_count)
       | inr (at', is') ↦ subst (λ (a : LineWorker). AreEnds a.producer other) (sym is)
-          (subst (λ (b : InEnd Cell). AreEnds worker.producer b) (sym is') receive)
+          (subst (λ (b : InEnd Cell). AreEnds worker.producer b) (sym is') own.receive)
     ]
   ];
 }
@@ -302,3 +303,36 @@ has-landed leg tx back was now number kind answer bound call landed = record {
       (sym (ap has_landed call.fault) ∙ landed);
   counted = subst (HasCounted was now kind) landed call.landed;
 }
+
+-- ---- An item lands exactly where it is the next one of its kind, and due.
+met-lands : (why : Option Refusal) (fits : Bool) (slots bytes : ℕ) → is_full (fault_met why fits slots bytes) ≡ false →
+    has_landed (fault_met why fits slots bytes) ≡ true
+met-lands (Some (frame_refused why)) fits slots bytes room = refl
+met-lands (Some (command_refused why)) fits slots bytes room = refl
+met-lands None true slots bytes room = refl
+met-lands None false slots bytes room = absurd cc
+
+fault-lands : (next : Option ℕ) (number ticks due : ℕ) (why : Option Refusal) (fits : Bool) (slots bytes : ℕ) →
+    next ≡ Some number → due ≤ ticks →
+    is_full (fault_by next number ticks due (fault_met why fits slots bytes)) ≡ false →
+    has_landed (fault_by next number ticks due (fault_met why fits slots bytes)) ≡ true
+fault-lands next number ticks due why fits slots bytes is low =
+    let first : not (is_number next number) ≡ false =
+    ap (λ (o : Option ℕ). not (is_number o number)) is ∙ ap not (eq-eqb number number refl) in
+    rw (first, le-ltb ticks due low) (met-lands why fits slots bytes)
+
+pub lands-where : (was now : GroupState) (number : ℕ) (kind : ItemKind) (answer : Option SubmitFault) →
+    Submits was now number kind answer → is_full answer ≡ false → (has_landed answer ≡ true) ↔ MayLand was number kind
+lands-where was now number kind answer call room = (
+  (λ landed. record {
+    next =
+        next-landed (next_of was kind) number (ticks_of was) (due_at (items_of was) number)
+        (fault_met (refusal_of was kind) (fits (parts_of was).journal kind) (group_slots_of was) (bytes_of was))
+        (sym (ap has_landed call.fault) ∙ landed);
+    due = let e = call.when landed in omega (arith, e);
+  }),
+  (λ may. ap has_landed call.fault
+      ∙ fault-lands (next_of was kind) number (ticks_of was) (due_at (items_of was) number) (refusal_of was kind)
+      (fits (parts_of was).journal kind) (group_slots_of was) (bytes_of was) may.next may.due
+      (sym (ap is_full call.fault) ∙ room)),
+)

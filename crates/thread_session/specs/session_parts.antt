@@ -5,5 +5,6 @@ pub mod Duty
 pub mod LineRingsLaid
 pub mod Bursts
 pub mod LinesOpened
+pub mod ShortRings
 pub mod EndedSession
 pub mod Bells

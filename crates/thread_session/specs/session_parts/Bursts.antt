@@ -1,5 +1,5 @@
 -- Bursts of lines that no thread serves.
-use Rattle.std.specs.Prelude.{◌≡◌, ℕ, ◌<◌, List, slice_get, Some}
+use Rattle.std.specs.Prelude.{◌≡◌, ℕ, ◌<◌, List, slice_get, Some, sum_by}
 use Rattle.thread_alarms.specs.declared.watched_line.served_line.ServedLine.{ServedLine}
 use Rattle.thread_alarms.specs.watched_line.ServedWithPosts.{worker_of}
 use Rattle.thread_rings.specs.WorkerOfLine.{carries_of, WasEmpty, WasFull}
@@ -29,3 +29,16 @@ IsTriedHere (Here lines) (Here later) = AreTried lines.items later.items
 abbrev pub AreTriedHere : List Held → List Held → Type 0
 AreTriedHere was now = (w : ℕ) (old new : Held) → slice_get was w ≡ Some old → slice_get now w ≡ Some new →
     IsTriedHere old new
+
+-- ---- how many carries were made
+abbrev pub carries_in : List ServedLine → ℕ
+carries_in lines = sum_by (λ (line : ServedLine). carries_of (worker_of line)) lines
+
+-- those of a share that no thread serves
+abbrev pub carries_here : Held → ℕ
+carries_here (There child) = 0
+carries_here (Here lines) = carries_in lines.items
+
+-- and of all such shares
+abbrev pub all_carries_here : List Held → ℕ
+all_carries_here held = sum_by carries_here held

@@ -2,7 +2,7 @@
 use Rattle.std.specs.Prelude.{◌≡◌, ℕ, ◌+◌, ◌-◌, min, List, [], length, slice_get, slice_index_or, Some}
 use Rattle.law_model.specs.Common.{Container, Cell, greatest, greatest_slip}
 use Rattle.law_model.specs.declared.script_types.Config.{Config}
-use Rattle.thread_rings.specs.EndsOfRing.{OutEnd, InEnd, out_passed, in_passed, in_size}
+use Rattle.thread_rings.specs.EndsOfRing.{OutEnd, InEnd, out_passed, in_passed, in_size, AreEnds}
 use Rattle.thread_rings.specs.declared.line_worker.LineWorker.{LineWorker}
 use Rattle.thread_rings.specs.WorkerOfLine.{number_of, delay_of, windows_of, total_of}
 use Rattle.thread_session.specs.session_parts.LineRingsLaid.{AreSendEnds, AreReceiveEnds}
@@ -19,6 +19,17 @@ pub record IsLineOf (config : Config) (m : ℕ) (worker : LineWorker) : Type 0 w
   pub delay : delay_of worker ≡ slice_index_or config.delays m 0
   pub windows : windows_of worker ≡ slice_index_or config.windows m []
   pub total : total_of worker ≡ config.ticks
+
+-- the worker of line m between a send ring and a receive ring, through which nothing has passed
+pub record IsLineOpened (config : Config) (m size : ℕ) (out : OutEnd Container) (worker : LineWorker)
+    (into : InEnd Cell) : Type 0 where
+  pub line : IsLineOf config m worker
+  pub unused : out_passed out ≡ []
+  pub fresh : in_passed into ≡ []
+  pub slots : in_size into ≡ size
+  pub silent : out_passed worker.producer ≡ []
+  pub send : AreEnds out worker.consumer
+  pub receive : AreEnds worker.producer into
 
 -- the workers of the first lines, between a send ring and a receive ring each, through which nothing has passed
 pub record AreOpened (config : Config) (n : ℕ) (tx : List (OutEnd Container)) (workers : List LineWorker)

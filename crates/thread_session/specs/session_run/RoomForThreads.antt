@@ -3,6 +3,7 @@ use Rattle.std.specs.Prelude.{◌≡◌, ℕ, ◌<◌, ◌≤◌, [], vec_len, v
 use Rattle.thread_session.specs.session_parts.ServedLines.{HaveRoom}
 use Rattle.thread_session.specs.declared.session_run.room_and_flags.Room.{Room}
 use Rattle.thread_session.specs.declared.session_run.room_and_flags.Places.{Places}
+use Rattle.thread_session.specs.declared.session_run.room_and_flags.Kit.{Kit}
 
 -- room for so many lines, in so many shares
 pub record HasRoomFor (lines workers : ℕ) (room : Room) : Type 0 where
@@ -18,3 +19,8 @@ pub record HasPlacesFor (lines : ℕ) (places : Places) : Type 0 where
   pub lines_place : (places.lines.items ≡ []) × (lines ≤ vec_capacity places.lines)
   pub workers : (places.workers.items ≡ []) × (lines ≤ vec_capacity places.workers)
   pub posts : (places.posts.items ≡ []) × (lines ≤ vec_capacity places.posts)
+
+-- both, in as many shares as there are flags
+pub record IsKitFor (lines : ℕ) (kit : Kit) : Type 0 where
+  pub room : HasRoomFor lines (vec_len kit.flags.lines) kit.room
+  pub places : HasPlacesFor lines kit.places

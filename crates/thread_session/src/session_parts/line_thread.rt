@@ -1,10 +1,13 @@
 //! Line threads: each serves the workers of a share burst by burst, until its flag tells it to give them back.
-ghost use Rattle.std.specs.Prelude.{◌≡◌, ℕ, ◌≤◌, List, [], length, vec_len, vec_capacity, IfNone};
+ghost use Rattle.std.specs.Prelude.{◌≡◌, ℕ, ◌<◌, ◌≤◌, ◌↔◌, true, List, [], length, vec_len, vec_capacity};
+ghost use Rattle.std.specs.Prelude.{IfNone};
 ghost use Rattle.std.specs.Global.{Vec};
 ghost use Rattle.thread_alarms.specs.declared.watched_line.served_line.ServedLine.{ServedLine};
-ghost use Rattle.thread_alarms.specs.watched_line.ServedWithPosts.{AreServedLater, IsServedLater};
+ghost use Rattle.thread_alarms.specs.watched_line.ServedWithPosts.{AreServedLater, IsServedLater, worker_of};
+ghost use Rattle.thread_rings.specs.WorkerOfLine.{carries_of};
 ghost use Rattle.thread_session.specs.session_parts.LineRingsLaid.{IsServedDone, AreServedDone};
 ghost use Rattle.thread_session.specs.session_parts.Bursts.{HasTried, AreTried, IsTriedHere, AreTriedHere};
+ghost use Rattle.thread_session.specs.session_parts.Bursts.{carries_in, carries_here, all_carries_here};
 ghost use Rattle.thread_session.specs.session_parts.ServedLines.{SharesLater};
 ghost use Rattle.thread_session.specs.declared.session_parts.stop_flag.Flag.{Flag as OwnFlag};
 ghost use Rattle.thread_session.specs.session_parts.Flags.{flag_of, heeded, stored_flag};
@@ -83,6 +86,8 @@ fn serve_one<R: Wait, G: Gate>(
 ) -> Served
     ensures later { IsServedLater worker.old worker.new }
     ensures done { result ≡ Served.Done → IsServedDone worker.new }
+    ensures moved { (result ≡ Served.Moved)
+        ↔ (carries_of (worker_of worker.old) < carries_of (worker_of worker.new)) }
     ensures tried { IfNone stop.entry (HasTried worker.old worker.new) }
 {
     if let Some(stop) = stop {
@@ -107,6 +112,9 @@ fn serve_once<R: Wait, G: Gate>(
 ) -> Served
     ensures later { AreServedLater workers.old.items workers.new.items }
     ensures done { result ≡ Served.Done → AreServedDone workers.new.items }
+    ensures moved { (result ≡ Served.Moved)
+        ↔ (carries_in workers.old.items < carries_in workers.new.items) }
+    ensures rises { carries_in workers.old.items ≤ carries_in workers.new.items }
     ensures tried { IfNone stop.entry (AreTried workers.old.items workers.new.items) }
 {
     let mut served = Served::Done;
@@ -247,29 +255,36 @@ pub fn start_shares<'s, 'e, R: Wait + Sync, G: Gate>(
     held
 }
 
-/// Makes a burst of each worker of a share that no thread serves.
-fn serve_here<R: Wait, G: Gate>(rt: &R, held: &mut Held, gate: &G)
+/// Makes a burst of each worker of a share that no thread serves. Says whether one carried.
+fn serve_here<R: Wait, G: Gate>(rt: &R, held: &mut Held, gate: &G) -> bool
     ensures held { (workers : List ServedLine) → IsHeldOf workers held.old →
         IsHeldOf workers held.new }
     ensures told { (flag : ℕ) → IsToldBy flag held.old → IsToldBy flag held.new }
     ensures tried { IsTriedHere held.old held.new }
+    ensures moved { result ≡ true ↔ (carries_here held.old < carries_here held.new) }
+    ensures rises { carries_here held.old ≤ carries_here held.new }
 {
-    if let Held::Here(workers) = held {
-        serve_once(rt, workers, gate, None);
+    match held {
+        Held::There(_) => false,
+        Held::Here(workers) => serve_once(rt, workers, gate, None) == Served::Moved,
     }
 }
 
-/// Makes a burst of each worker that no thread serves.
-pub fn serve_all_here<R: Wait, G: Gate>(rt: &R, held: &mut Vec<Held>, gate: &G)
+/// Makes a burst of each worker that no thread serves. Says whether one carried.
+pub fn serve_all_here<R: Wait, G: Gate>(rt: &R, held: &mut Vec<Held>, gate: &G) -> bool
     ensures held { (shares : List (Vec ServedLine)) → AreHeldOf shares held.old.items →
         AreHeldOf shares held.new.items }
     ensures told { (flags : List OwnFlag) → AreToldBy flags held.old.items →
         AreToldBy flags held.new.items }
     ensures tried { AreTriedHere held.old.items held.new.items }
+    ensures moved { result ≡ true
+        ↔ (all_carries_here held.old.items < all_carries_here held.new.items) }
 {
+    let mut moved = false;
     for share in held.iter_mut() {
-        serve_here(rt, share, gate);
+        moved |= serve_here(rt, share, gate);
     }
+    moved
 }
 
 /// The workers of a share, once its thread has ended. It is waited for with the evidence that its flag is stored.

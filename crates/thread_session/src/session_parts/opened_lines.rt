@@ -2,7 +2,7 @@
 ghost use Rattle.std.specs.Prelude.{◌≡◌, ◌<◌, [], slice_index_or, All, length, IfOk};
 ghost use Rattle.member_path.specs.path_delay.CallsOnDelayedLine.{DelayStands, opened};
 ghost use Rattle.law_model.specs.Common.{IsNetwork, AreWindows, greatest, greatest_slip as greatest_slip_of};
-ghost use Rattle.thread_session.specs.session_parts.LinesOpened.{AreOpened, slots_of};
+ghost use Rattle.thread_session.specs.session_parts.LinesOpened.{AreOpened, IsLineOpened, slots_of};
 
 use law_model::{Config, Delays, WindowLists};
 use member_cells::{Cell, Container};
@@ -74,6 +74,23 @@ fn slots(config: &Config, m: usize, slow: u16, slip: u32) -> u16
     needed.min(u32::from(config.ring)) as u16
 }
 
+/// Opens a line, over a send ring and a receive ring of so many slots.
+fn open_line(
+    alloc: Global,
+    config: &Config,
+    line: u8,
+    slots: u16,
+) -> Result<(RingOut<Container>, LineWorker, RingIn<Cell>), AllocError>
+    requires network { IsNetwork config.now }
+    requires line { line < config.now.lines }
+    ensures { IfOk result (λ l. IsLineOpened config.now line slots l.0 l.1 l.2) }
+{
+    let core = open_core(alloc, config, usize::from(line))?;
+    let ends = line_rings(alloc, slots)?;
+    let worker = LineWorker::new(line, ends.tx_out, core, ends.rx);
+    Ok((ends.tx, worker, ends.rx_out))
+}
+
 /// Opens the lines of a session, over fresh rings.
 pub fn open_lines(alloc: Global, config: &Config) -> Result<OpenedLines, AllocError>
     requires { IsNetwork config.now }
@@ -87,12 +104,11 @@ pub fn open_lines(alloc: Global, config: &Config) -> Result<OpenedLines, AllocEr
     let slow = greatest_delay(&config.delays);
     let slip = greatest_of_slips(&config.windows);
     for line in 0..config.lines {
-        let m = usize::from(line);
-        let ends = line_rings(alloc, slots(config, m, slow, slip))?;
-        let core = open_core(alloc, config, m)?;
-        tx.push(ends.tx)?;
-        workers.push(LineWorker::new(line, ends.tx_out, core, ends.rx))?;
-        rx.push(ends.rx_out)?;
+        let slots = slots(config, usize::from(line), slow, slip);
+        let (out, worker, into) = open_line(alloc, config, line, slots)?;
+        tx.push_reserved(out);
+        workers.push_reserved(worker);
+        rx.push_reserved(into);
     }
     Ok(OpenedLines { tx, workers, rx })
 }

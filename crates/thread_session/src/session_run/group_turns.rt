@@ -1,14 +1,14 @@
 //! The turns at the group, each under its lock. Client and operator hand in their items ahead, and the source lands
 //! each of them at its due tick, and makes the frames.
-ghost use Rattle.std.specs.Prelude.{◌≡◌, ◌≤◌, ◌<◌, true};
+ghost use Rattle.std.specs.Prelude.{◌≡◌, ℕ, ◌≤◌, ◌<◌, ◌↔◌, true, false, Some};
 ghost use Rattle.law_model.specs.Common.{leg_of, refusal_in};
 ghost use Rattle.law_walk.specs.Common.{is_client};
 ghost use Rattle.thread_group.specs.FaultsAndStops.{has_landed};
-ghost use Rattle.thread_group.specs.Group.{HasCounted};
+ghost use Rattle.thread_group.specs.Group.{HasCounted, next_brought};
 ghost use Rattle.thread_group.specs.HandedAhead.{handed_below};
 ghost use Rattle.thread_group.specs.GroupOfLeg.{IsItemOf};
 ghost use Rattle.thread_session.specs.session_parts.Flags.{heeded};
-ghost use Rattle.thread_session.specs.session_run.Turns.{bringer, HasLanded};
+ghost use Rattle.thread_session.specs.session_run.Turns.{bringer, brings_frames, HasLanded, MayLand};
 
 use crate::session_parts::{Bell, Heed};
 use crate::session_run::room_and_flags::Flags;
@@ -55,6 +55,8 @@ fn has_landed(answer: Result<(), SubmitFault>) -> bool
 pub(super) fn submit<Y: Session>(group: &mut BoundGroup<Y>, number: u32, kind: &ItemKind) -> bool
     requires { IsItemOf (leg_of Y.script) number kind.now }
     ensures counted { HasCounted group.old.state group.new.state kind.now result }
+    ensures when { result ≡ true ↔ MayLand group.old.state number kind.now }
+    ensures stays { result ≡ false → group.new.state ≡ group.old.state }
     ensures landed { result ≡ true → HasLanded (leg_of Y.script) Y.tx Y.back number kind.now }
 {
     has_landed(group.submit(number, handed(kind)))
@@ -63,7 +65,8 @@ pub(super) fn submit<Y: Session>(group: &mut BoundGroup<Y>, number: u32, kind: &
 /// The number of the item that this one brings behind the next so many, from a number on; where there is none, the
 /// greatest number.
 fn ahead_of(items: &[Item], from: u32, who: Who) -> u32
-    ensures { from ≤ result }
+    ensures least { from ≤ result }
+    ensures more { from < 4294967295 → from < result }
 {
     let mut left = AHEAD;
     for number in from..u32::MAX {
@@ -80,12 +83,25 @@ fn ahead_of(items: &[Item], from: u32, who: Who) -> u32
     u32::MAX
 }
 
-/// Hands in ahead what this one brings, where what lands next isn't handed in, and gives the number below which it did.
-/// Nothing lands by that.
-fn hand_in_ahead<Y: Session>(group: &mut BoundGroup<Y>, who: Who, items: &[Item]) -> Option<u32>
-    ensures { group.new.state ≡ group.old.state }
+/// Whether this one brings the frames of the client.
+fn is_client(who: Who) -> bool
+    ensures { result ≡ brings_frames who }
 {
-    let client = who == Who::Client;
+    match who {
+        Who::Client => true,
+        Who::Operator | Who::Source | Who::Line(_) | Who::Sink => false,
+    }
+}
+
+/// Hands in ahead what this one brings, where what lands next isn't handed in, and gives the number below which it did.
+/// Nothing lands by that, and then what lands next is handed in.
+fn hand_in_ahead<Y: Session>(group: &mut BoundGroup<Y>, who: Who, items: &[Item]) -> Option<u32>
+    ensures state { group.new.state ≡ group.old.state }
+    ensures next { (number : ℕ) → number < 4294967295 →
+        next_brought group.old.state (brings_frames who) ≡ Some number →
+        number < handed_below group.new.handed (brings_frames who) }
+{
+    let client = is_client(who);
     let next = group.next(client).unwrap_or(u32::MAX);
     if group.is_handed_in(client, next) {
         return None;
@@ -126,12 +142,15 @@ pub(super) fn hand_in_all<'s, Y: Session, R: Wait, G: Gate>(
     unreachable!()
 }
 
-/// Lands an item, where it is handed in and due. Says whether it has landed.
+/// Lands an item, where it is handed in, the next of its kind and due. Says whether it has landed; if not, nothing
+/// has changed.
 fn land<Y: Session>(group: &mut BoundGroup<Y>, number: u32, kind: &ItemKind) -> bool
     requires { IsItemOf (leg_of Y.script) number kind.now }
     ensures landed { result ≡ true → HasLanded (leg_of Y.script) Y.tx Y.back number kind.now }
-    ensures handed { result ≡ true →
-        number < handed_below group.old.handed (is_client kind.now) }
+    ensures handed { result ≡ true
+        ↔ (number < handed_below group.old.handed (is_client kind.now))
+        × MayLand group.old.state number kind.now }
+    ensures stays { result ≡ false → group.new.state ≡ group.old.state }
 {
     let client = who_brings(kind) == Who::Client;
     group.is_handed_in(client, number) && submit(group, number, kind)

@@ -6,11 +6,11 @@ ghost use Rattle.thread_rings.specs.EndsOfRing.{AreEnds, out_passed, in_passed};
 ghost use Rattle.thread_sink.specs.ReceivedByRings.{received};
 ghost use Rattle.thread_group.specs.GroupRings.{AreUnused};
 ghost use Rattle.thread_group.specs.GroupOfLeg.{octets_in, IsBound};
-ghost use Rattle.thread_session.specs.session_run.RoomForThreads.{HasRoomFor, HasPlacesFor};
+ghost use Rattle.thread_session.specs.session_run.RoomForThreads.{IsKitFor};
 ghost use Rattle.thread_session.specs.session_run.SessionOfScript.{IsOpen, IsSinkOf};
 
 use crate::session_parts::open_lines;
-use crate::session_run::room_and_flags::{Flags, Places, Room};
+use crate::session_run::room_and_flags::Kit;
 use law_model::{Item, ItemKind, Script};
 use member_cells::{BackCell, Cell, Container};
 use std::alloc::{AllocError, Global};
@@ -24,9 +24,7 @@ pub(super) struct Opened {
     pub(super) group: GroupState,
     pub(super) lines: Vec<LineWorker>,
     pub(super) sink: SinkWorker,
-    pub(super) flags: Flags,
-    pub(super) room: Room,
-    pub(super) places: Places,
+    pub(super) kit: Kit,
 }
 
 /// The octets of an item's frame.
@@ -126,31 +124,46 @@ fn open_ends(
 {
     let (back, back_in) = back_ring(alloc)?;
     let group = open_group(alloc, script, tx, back_in)?;
-    let sink = open_sink(alloc, script, rx, back)?;
-    Ok((group, sink))
+    match open_sink(alloc, script, rx, back) {
+        Ok(sink) => Ok((group, sink)),
+        Err(AllocError) => {
+            drop(group);
+            Err(AllocError)
+        }
+    }
 }
 
-/// Opens a session of a script for this number of line threads. What has the most parts is opened last, so
-/// that little is let go where memory is short.
+/// Opens a session of a script for this number of line threads.
 pub(super) fn open(alloc: Global, script: &Script, workers: u8) -> Result<Opened, AllocError>
     requires script { IsValid script.now }
     requires some { 0 < workers }
     ensures open { IfOk result (λ o. IsOpen script.now o.group o.lines.items o.sink) }
-    ensures room { IfOk result (λ o.
-        HasRoomFor (vec_len o.lines) (vec_len o.flags.lines) o.room) }
-    ensures places { IfOk result (λ o. HasPlacesFor (vec_len o.lines) o.places) }
+    ensures kit { IfOk result (λ o. IsKitFor (vec_len o.lines) o.kit) }
 {
-    let flags = Flags::new(alloc, workers)?;
-    let room = Room::new(alloc, script.config.lines, workers)?;
-    let places = Places::new(alloc, script.config.lines)?;
+    let kit = Kit::new(alloc, script.config.lines, workers)?;
+    match open_parts(alloc, script) {
+        Ok((group, lines, sink)) => Ok(Opened {
+            group,
+            lines,
+            sink,
+            kit,
+        }),
+        Err(AllocError) => {
+            drop(kit);
+            Err(AllocError)
+        }
+    }
+}
+
+/// Opens the parts of a session of a script.
+fn open_parts(
+    alloc: Global,
+    script: &Script,
+) -> Result<(GroupState, Vec<LineWorker>, SinkWorker), AllocError>
+    requires { IsValid script.now }
+    ensures { IfOk result (λ p. IsOpen script.now p.0 p.1.items p.2) }
+{
     let lines = open_lines(alloc, &script.config)?;
     let (group, sink) = open_ends(alloc, script, lines.tx, lines.rx)?;
-    Ok(Opened {
-        group,
-        lines: lines.workers,
-        sink,
-        flags,
-        room,
-        places,
-    })
+    Ok((group, lines.workers, sink))
 }

@@ -11,14 +11,14 @@ ghost use Rattle.thread_alarms.specs.alarm_log.Posts.{SamePost};
 ghost use Rattle.thread_alarms.specs.watched_line.ServedWithPosts.{AreWatchable, AreTold};
 ghost use Rattle.thread_session.specs.session_parts.Duty.{IsLogLater};
 ghost use Rattle.thread_session.specs.session_parts.LineRingsLaid.{AreSendEnds, AreReceiveEnds};
-ghost use Rattle.thread_session.specs.session_run.RoomForThreads.{HasRoomFor, HasPlacesFor};
+ghost use Rattle.thread_session.specs.session_run.RoomForThreads.{IsKitFor};
 ghost use Rattle.thread_session.specs.session_run.SessionOfScript.{IsOpen, HasComeToEnd};
 ghost use Rattle.thread_session.specs.session_run.SessionRingsLaid.{AreLaid, IsSessionOf};
 
 use crate::session_parts::{SinkDuty, lay_receives, lay_sends};
 use crate::session_run::finish_in_turn::finish;
 use crate::session_run::open_ends::{Opened, items_of};
-use crate::session_run::room_and_flags::Places;
+use crate::session_run::room_and_flags::{Kit, Places};
 use crate::session_run::start_threads::lines_beside;
 use law_model::Script;
 use octet_io::{ByteSink, take_back};
@@ -81,8 +81,7 @@ pub(super) fn run_opened<Y: Session, R: Threads + Wait + Sync, K: ByteSink, G: G
 ) -> Left
     requires session { IsSessionOf Y.script Y.tx Y.back script.now opened.group }
     requires open { IsOpen script.now opened.group opened.lines.items opened.sink }
-    requires room { HasRoomFor (vec_len opened.lines) (vec_len opened.flags.lines) opened.room }
-    requires places { HasPlacesFor (vec_len opened.lines) opened.places }
+    requires kit { IsKitFor (vec_len opened.lines) opened.kit }
     requires few { vec_len posts ≤ vec_len opened.lines }
     requires watch { AreWatchable opened.lines.items posts.items }
     ensures end { HasComeToEnd script.now result.ended.group result.ended.lines.items
@@ -100,10 +99,13 @@ pub(super) fn run_opened<Y: Session, R: Threads + Wait + Sync, K: ByteSink, G: G
         group,
         lines,
         sink,
+        kit,
+    } = opened;
+    let Kit {
         flags,
         room,
         places,
-    } = opened;
+    } = kit;
     let Places {
         lines: served,
         workers,

@@ -8,7 +8,7 @@ ghost use Rattle.thread_session.specs.session_parts.EndedSession.{IsEnded};
 ghost use Rattle.thread_session.specs.session_run.SessionOfScript.{IsGroupEnded};
 
 use crate::session_run::open_ends::open;
-use crate::session_run::opened_session::{Ended, run_opened};
+use crate::session_run::opened_session::{Ended, Left, run_opened};
 use law_model::Script;
 use octet_io::ByteSink;
 use std::alloc::{AllocError, Global};
@@ -47,5 +47,7 @@ pub fn run_session<R: Threads + Wait + Sync, K: ByteSink, G: Gate>(
     let opened = open(alloc, &script, workers)?;
     let posts = Vec::new(alloc);
     let left = run_opened::<Brand, R, K, G>(rt, gate, &script, opened, posts, None, out);
-    Ok(left.ended)
+    let Left { ended, posts, log } = left;
+    drop((posts, log));
+    Ok(ended)
 }

@@ -1,4 +1,5 @@
-//! Room for the threads of a session, which is taken before any of them starts, and their flags and bells.
+//! What a session has besides its parts: the flags and bells of its threads, and room that is taken before any of them
+//! starts.
 ghost use Rattle.std.specs.Prelude.{◌≡◌, ◌<◌, IfOk, vec_len};
 ghost use Rattle.thread_session.specs.session_parts.ServedLines.{HaveRoom};
 ghost use Rattle.thread_session.specs.session_run.RoomForThreads.{HasRoomFor};
@@ -30,7 +31,7 @@ impl Flags {
     {
         let mut lines = Vec::with_capacity(alloc, usize::from(workers))?;
         for _ in 0..workers {
-            lines.push(Flag::new())?;
+            lines.push_reserved(Flag::new());
         }
         Ok(Flags {
             client: Flag::new(),
@@ -127,6 +128,35 @@ impl Places {
     }
 }
 
+/// What a session has besides its parts.
+#[derive(Drop)]
+pub(super) struct Kit {
+    pub(super) flags: Flags,
+    pub(super) room: Room,
+    pub(super) places: Places,
+}
+
+impl Kit {
+    ghost use Rattle.std.specs.Prelude.{◌<◌, IfOk};
+    ghost use Rattle.thread_session.specs.session_run.RoomForThreads.{IsKitFor};
+
+    /// What so many lines need, and so many threads for them. What has the most parts is made last, so that
+    /// little is let go where memory is short.
+    pub(super) fn new(alloc: Global, lines: u8, workers: u8) -> Result<Kit, AllocError>
+        requires { 0 < workers }
+        ensures { IfOk result (IsKitFor lines) }
+    {
+        let places = Places::new(alloc, lines)?;
+        let room = Room::new(alloc, lines, workers)?;
+        let flags = Flags::new(alloc, workers)?;
+        Ok(Kit {
+            flags,
+            room,
+            places,
+        })
+    }
+}
+
 /// So many shares that are empty, each with room for so many lines.
 fn empty_shares(
     alloc: Global,
@@ -138,7 +168,7 @@ fn empty_shares(
 {
     let mut shares = Vec::with_capacity(alloc, usize::from(workers))?;
     for _ in 0..workers {
-        shares.push(Vec::with_capacity(alloc, lines)?)?;
+        shares.push_reserved(Vec::with_capacity(alloc, lines)?);
     }
     Ok(shares)
 }

@@ -6,7 +6,7 @@ ghost use Rattle.thread_session.specs.session_parts.Duty.{Begun};
 ghost use Rattle.thread_session.specs.declared.session_parts.stop_flag.Flag.{Flag as OwnFlag};
 ghost use Rattle.thread_session.specs.session_parts.Flags.{flag_of, heeded, comes_by};
 ghost use Rattle.thread_session.specs.session_parts.HeldShares.{AreHeldOf, AreToldBy};
-ghost use Rattle.thread_session.specs.session_parts.Bursts.{AreTriedHere};
+ghost use Rattle.thread_session.specs.session_parts.Bursts.{AreTriedHere, all_carries_here};
 ghost use Rattle.thread_session.specs.session_parts.ServedLines.{SharesLater, AreNumbered};
 ghost use Rattle.thread_alarms.specs.watched_line.ServedWithPosts.{AreServedLater};
 ghost use Rattle.thread_session.specs.session_run.RoomForThreads.{HasRoomFor};
@@ -78,7 +78,8 @@ fn join_started<'s, R: Threads>(rt: &R, child: Option<Child<'s>>, stored: &OnceT
     }
 }
 
-/// Makes a burst of each worker that no thread serves, and then a turn of the duty.
+/// Makes a burst of each worker that no thread serves, and then a turn of the duty. It has moved where one of
+/// these did.
 fn turn_here<R: Wait, G: Gate, D: Duty>(
     rt: &R,
     gate: &G,
@@ -92,15 +93,20 @@ fn turn_here<R: Wait, G: Gate, D: Duty>(
     ensures held { (shares : List (Vec ServedLine)) → AreHeldOf shares held.old.items →
         AreHeldOf shares held.new.items }
     ensures tried { AreTriedHere held.old.items held.new.items }
+    ensures waits { result ≡ Turned.Waits →
+        all_carries_here held.new.items ≤ all_carries_here held.old.items }
 {
-    serve_all_here(rt, held, gate);
+    let carried = serve_all_here(rt, held, gate);
     gate.pass(Who::Sink);
-    duty.turn()
+    match duty.turn() {
+        Turned::Waits if carried => Turned::Moved,
+        turned => turned,
+    }
 }
 
 /// Does a duty until nothing is left of it, and before each turn what has no thread. Not at all where this
-/// isn't wanted. A turn that finds nothing to do comes after all that has no thread has gone on, and so then
-/// others are waited for.
+/// isn't wanted. Others are waited for after a turn that found nothing to do, where no line that has no thread
+/// has carried before it.
 fn attend<R: Wait, G: Gate, D: Duty>(
     rt: &R,
     gate: &G,

@@ -57,8 +57,8 @@ pub fn run_watched<R: Threads + Wait + Sync, K: ByteSink, G: Gate>(
         All (λ (alarm : Alarm). alarm.line < script.config.lines) (alarms_in w.1)) }
     ensures nothing { IfErr result (λ _. out.new ≡ out.old) }
 {
-    let opened = open(alloc, &script, workers)?;
     let (log, posts) = make_log(alloc, script.config.lines, QUEUE, MOST)?;
+    let opened = open(alloc, &script, workers)?;
     let left = run_opened::<Brand, R, K, G>(rt, gate, &script, opened, posts, Some(log), out);
     let Left { ended, posts, log } = left;
     match log {

@@ -1,15 +1,18 @@
 -- A burst leaves a worker later; and where it was done, so.
 use Rattle.std.proofs.Common.{◌≡◌, inl, inr, ℕ, ◌<◌, List, Option, Some, None, IfNone, sym, subst, ap, length}
-use Rattle.std.proofs.Common.{slice_get, arith}
+use Rattle.std.proofs.Common.{slice_get, arith, ◌↔◌, ◌≤◌}
 use Rattle.std.proofs.lemmas.List.{with_items_is}
 use Rattle.std.proofs.lemmas.Option.{slice_get_within}
 use Rattle.thread_alarms.specs.declared.watched_line.served_line.ServedLine.{ServedLine}
-use Rattle.thread_alarms.specs.watched_line.ServedWithPosts.{AreServedLater, IsServedLater}
+use Rattle.thread_alarms.specs.watched_line.ServedWithPosts.{AreServedLater, IsServedLater, worker_of}
 use Rattle.thread_alarms.proofs.LaterServedLineLaws.{served-refl, served-then}
 use Rattle.thread_session.specs.session_parts.LineRingsLaid.{IsServedDone, AreServedDone}
-use Rattle.thread_session.specs.session_parts.Bursts.{HasTried, AreTried}
+use Rattle.thread_session.specs.session_parts.Bursts.{HasTried, AreTried, carries_in}
 use Rattle.thread_session.proofs.WorkerShareAndPairListLaws.{zip-refl, zip-set, set-found, below-it, EachBelow}
 use Rattle.thread_session.proofs.WorkerShareAndPairListLaws.{each-none, each-next}
+use Rattle.thread_session.proofs.CarriesHereLaws.{Rises, carries-rise, rises-next, none-rises}
+use Rattle.thread_rings.specs.WorkerOfLine.{carries_of}
+use Rattle.thread_session.specs.declared.session_parts.line_thread.Served.TheVariants.{Done, Moved}
 use Rattle.thread_session.proofs.session_parts.line_thread.serve_once.Goals as goal
 
 pub loop-worker-init : goal.loop-worker-init
@@ -19,6 +22,8 @@ loop-worker-init g c = record {
   done = λ yes m worker low there. absurd (omega (arith, low));
   tried = subst (EachBelow _ 0 c.args.workers.now.items) (sym c.deref_mut-worker-items.ensures.value)
       (each-none _ c.args.workers.now.items);
+  rises = subst (λ l. Rises (Done ≡ Moved) (carries_in c.args.workers.now.items) (carries_in l))
+      (sym c.deref_mut-worker-items.ensures.value) (none-rises (Done ≡ Moved) _ (λ same. cc));
 }
 
 pub loop-worker-preserved : goal.loop-worker-preserved
@@ -38,6 +43,9 @@ loop-worker-preserved g c =
           ];
       tried = each-next _ i c.args.workers.now.items items c.worker-item.result c.serve_one.new.worker within
           c.serve_one.ensures.tried before.tried;
+      rises = rises-next (λ line. carries_of (worker_of line)) (carries_in c.args.workers.now.items) items i
+          c.worker-item.result c.serve_one.new.worker within (carries-rise _ _ c.serve_one.ensures.later.worker)
+          before.rises c.serve_one.ensures.moved c.and-served.ensures.moved;
     }
 
 pub returns : goal.returns
@@ -57,6 +65,9 @@ returns g c =
           (all-tried c.args.stop v.items items (λ m old new was now. before.tried.each m old new
           (let inside = slice_get_within items m new now in
           omega (arith, inside, c.loop-worker-test.false, c.loop-worker.auto.worker-items)) was now));
+      moved = subst (λ l. (c.loop-worker.served ≡ Moved) ↔ (carries_in v.items < carries_in l)) (sym whole)
+          before.rises.moved;
+      rises = subst (λ l. carries_in v.items ≤ carries_in l) (sym whole) before.rises.low;
     }
   where
     all-tried : {S : Type 0} (stop : Option S) (was now : List ServedLine) →

@@ -33,9 +33,9 @@ lines_beside-lines-requires-clause-numbers g c κs within k line there =
 
 pub lines_beside-lines-requires-clause-room : goal.lines_beside-lines-requires-clause-room
 lines_beside-lines-requires-clause-room g c κs within =
-    subst (λ (n : ℕ). HasRoomFor n (vec_len c.args.opened.flags.lines) c.args.opened.room)
+    subst (λ (n : ℕ). HasRoomFor n (vec_len c.args.opened.kit.flags.lines) c.args.opened.kit.room)
     (sym (served-count c.args.opened.lines c.serve_lines-lines.result c.serve_lines-lines.ensures.workers))
-    c.requires.room
+    c.requires.kit.room
 
 pub split_lines-lines-requires : goal.split_lines-lines-requires
 split_lines-lines-requires g c =
@@ -43,8 +43,8 @@ split_lines-lines-requires g c =
     c.lines_beside-lines.ensures.lines c.finish.ensures.lines in
     let few = served-few c.args.opened.lines c.serve_lines-lines.result c.finish.new.lines
     c.serve_lines-lines.ensures.workers grown in
-    let workers = c.requires.places.workers in
-    let posts = c.requires.places.posts in
+    let workers = c.requires.kit.places.workers in
+    let posts = c.requires.kit.places.posts in
     record {
       workers = (workers.0, omega (arith, few, workers.1));
       posts = (posts.0, omega (arith, few, posts.1));
