@@ -3,7 +3,7 @@ use Rattle.std.proofs.Common.{◌≡◌, ℕ, suc, ◌+◌, ◌-◌, ◌*◌, �
 use Rattle.std.proofs.Common.{◌∷◌, ◌++◌, length, filter, take, drop, All, Option, Some, None, slice_get, refl, sym}
 use Rattle.std.proofs.Common.{◌∙◌, ap, ap₂, subst, arith, inl, inr, append-nil, append_assoc, length-append}
 use Rattle.std.proofs.Common.{length-take, if◌then◌else◌, flat_map, Contains, option_map, zero, ◌^◌, map, is_none}
-use Rattle.std.proofs.Common.{is_some, not, slice_index_or}
+use Rattle.std.proofs.Common.{is_some, not, slice_index_or, Result, Ok, Err, OnErr}
 use Rattle.std.specs.List.{list_all, range_with_len}
 use Rattle.std.proofs.lemmas.Bool.{cases_Bool, cases_lt}
 use Rattle.std.proofs.lemmas.List.Concat.{flat_map-append}
@@ -51,7 +51,7 @@ use Rattle.fate_engine.specs.declared.fate_law.Cause.{Cause}
 use Rattle.fate_engine.proofs.SpoiledRunAndWholeContainerLaws.{cause-whole}
 use Rattle.fate_engine.specs.fate_core.Segments.{SegmentsStand}
 use Rattle.fate_walks.specs.walk_fates.PacketsAndRuler.{Governs}
-use Rattle.fate_walks.specs.walk_fates.Seen.{Sees}
+use Rattle.fate_walks.specs.walk_fates.Seen.{Sees, SeesPart}
 use Rattle.fate_walks.specs.declared.walk_fates.seen_rows.SeenRows.{SeenRows}
 
 -- ---- How the lines of fates are put together, and what is known of the places that they tell of.
@@ -712,3 +712,48 @@ sees-same leg before ticks rows seen next sees step so = subst (Sees leg ticks r
   segments = sees.segments;
   runs = sees.runs;
 })
+
+-- ---- memory is short
+pub on-err : {X E P : Type 0} (r : Result X E) → P → OnErr r P
+on-err (Ok x) is = tt
+on-err (Err e) is = is
+
+-- before a row is seen, or once all but its segments is
+pub part-stays : (leg : Leg) (ticks rows : ℕ) (was is : SeenRows) → is.segments ≡ was.segments →
+    is.packets ≡ was.packets → is.runs ≡ was.runs → SeesPart leg ticks rows was is
+part-stays leg ticks rows was is segments packets runs = record {
+  segments = segments;
+  packets = inl packets;
+  known = inl (ap (λ (p : PacketList). p.known) packets);
+  runs = inl runs;
+}
+
+pub part-ahead : (leg : Leg) (ticks row rows : ℕ) (was is : SeenRows) → row + 1 ≡ rows → is.segments ≡ was.segments →
+    Governs leg ticks is.packets → length is.packets.known ≡ packets_in rows →
+    AreRuns is.runs (map (row_cause (scenario_by leg) (session_of leg)) (range_with_len 0 row) ++ row_cause
+    (scenario_by leg) (session_of leg) row ∷ []) → SeesPart leg ticks rows was is
+part-ahead leg ticks row rows was is next segments packets known runs = record {
+  segments = segments;
+  packets = inr packets;
+  known = inr known;
+  runs = inr (subst (λ n. AreRuns is.runs (map (row_cause (scenario_by leg) (session_of leg)) (range_with_len 0 n))) next
+      (subst (AreRuns is.runs) (sym (causes-next leg row)) runs));
+}
+
+-- the runs are as they were
+pub part-packets : (leg : Leg) (ticks rows : ℕ) (was is : SeenRows) → is.segments ≡ was.segments →
+    Governs leg ticks is.packets → length is.packets.known ≡ packets_in rows → is.runs ≡ was.runs →
+    SeesPart leg ticks rows was is
+part-packets leg ticks rows was is segments packets known runs =
+    record { segments = segments; packets = inr packets; known = inr known; runs = inl runs }
+
+-- behind a decision step that was seen
+pub part-after : (leg : Leg) (ticks rows : ℕ) (was mid is : SeenRows) → mid.segments ≡ was.segments →
+    Governs leg ticks mid.packets → mid.packets.known ≡ was.packets.known → mid.runs ≡ was.runs →
+    SeesPart leg ticks rows mid is → SeesPart leg ticks rows was is
+part-after leg ticks rows was mid is segments packets known runs part = record {
+  segments = part.segments ∙ segments;
+  packets = elim part.packets [ inl e ↦ inr (subst (Governs leg ticks) (sym e) packets) | inr own ↦ inr own ];
+  known = elim part.known [ inl e ↦ inl (e ∙ known) | inr own ↦ inr own ];
+  runs = elim part.runs [ inl e ↦ inl (e ∙ runs) | inr own ↦ inr own ];
+}

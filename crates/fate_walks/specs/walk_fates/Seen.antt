@@ -1,5 +1,5 @@
 -- What is seen of a walk turn by turn, as private clauses say it.
-use Rattle.std.specs.Prelude.{◌≡◌, ℕ, map, length}
+use Rattle.std.specs.Prelude.{◌≡◌, ◌⊎◌, ℕ, map, length}
 use Rattle.std.specs.List.{range_with_len}
 use Rattle.law_model.specs.Common.{Leg, scenario_by}
 use Rattle.law_model.specs.session.Scenario.{packets_in}
@@ -16,3 +16,12 @@ pub record Sees (leg : Leg) (ticks rows : ℕ) (seen : SeenRows) : Type 0 where
   pub known : length seen.packets.known ≡ packets_in rows
   pub segments : SegmentsStand seen.segments (session_rows leg rows)
   pub runs : AreRuns seen.runs (map (row_cause (scenario_by leg) (session_of leg)) (range_with_len 0 rows))
+
+-- so far and no further, where memory is short on the way to so many ticks and rows: the segments are as they were, and
+-- of the packets, of what the sink knows and of the runs each is as it was, or that of these ticks and rows
+pub record SeesPart (leg : Leg) (ticks rows : ℕ) (was is : SeenRows) : Type 0 where
+  pub segments : is.segments ≡ was.segments
+  pub packets : (is.packets ≡ was.packets) ⊎ Governs leg ticks is.packets
+  pub known : (is.packets.known ≡ was.packets.known) ⊎ (length is.packets.known ≡ packets_in rows)
+  pub runs : (is.runs ≡ was.runs)
+      ⊎ AreRuns is.runs (map (row_cause (scenario_by leg) (session_of leg)) (range_with_len 0 rows))

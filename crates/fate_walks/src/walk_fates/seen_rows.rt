@@ -6,7 +6,7 @@ ghost use Rattle.law_model.specs.Common.{Leg, leg_of, IsValid};
 ghost use Rattle.law_model.specs.session.Scenario.{packets_in};
 ghost use Rattle.law_walk.specs.Common.{IsWalked};
 ghost use Rattle.fate_walks.specs.walk_fates.PacketsAndRuler.{Governs};
-ghost use Rattle.fate_walks.specs.walk_fates.Seen.{Sees};
+ghost use Rattle.fate_walks.specs.walk_fates.Seen.{Sees, SeesPart};
 
 use fate_engine::fate_core::{Packets, Ruler, Segments, SpoiledRuns, row_cause};
 use std::alloc::{AllocError, Global};
@@ -42,6 +42,7 @@ fn see_known(walk: &Walk, row: u32, packets: &mut Packets) -> Result<(), AllocEr
     ensures packets { OnOk result
         (Governs (leg_of walk.now.script) walk.now.counts.ticks packets.new) }
     ensures known { OnOk result (length packets.new.known ≡ packets_in walk.now.counts.rows) }
+    ensures err { OnErr result (packets.new ≡ packets.old) }
 {
     if !ends_packet(row) {
         return Ok(());
@@ -57,7 +58,8 @@ fn see_row(walk: &Walk, row: u32, seen: &mut SeenRows) -> Result<(), AllocError>
     requires seen { Sees (leg_of walk.now.script) walk.now.counts.ticks row seen.old }
     ensures ok { OnOk result
         (Sees (leg_of walk.now.script) walk.now.counts.ticks walk.now.counts.rows seen.new) }
-    ensures err { OnErr result (seen.new.segments ≡ seen.old.segments) }
+    ensures err { OnErr result (SeesPart
+        (leg_of walk.now.script) walk.now.counts.ticks walk.now.counts.rows seen.old seen.new) }
 {
     let cause = row_cause(&walk.script().config.windows, &seen.packets, row);
     see_known(walk, row, &mut seen.packets)?;
@@ -68,7 +70,7 @@ fn see_row(walk: &Walk, row: u32, seen: &mut SeenRows) -> Result<(), AllocError>
 }
 
 /// Sees what came of a turn, after so many ticks and rows. Where memory is short the segments are as they
-/// were, while the packets and the runs may be ahead of them.
+/// were, while packets and runs are as they were or ahead of them by this turn.
 pub fn see_since(walk: &Walk, ticks: u32, rows: u32, seen: &mut SeenRows) -> Result<(), AllocError>
     requires valid { IsValid walk.now.script }
     requires walked { IsWalked (leg_of walk.now.script) walk.now.counts }
@@ -79,7 +81,8 @@ pub fn see_since(walk: &Walk, ticks: u32, rows: u32, seen: &mut SeenRows) -> Res
     requires seen { Sees (leg_of walk.now.script) ticks rows seen.old }
     ensures ok { OnOk result
         (Sees (leg_of walk.now.script) walk.now.counts.ticks walk.now.counts.rows seen.new) }
-    ensures err { OnErr result (seen.new.segments ≡ seen.old.segments) }
+    ensures err { OnErr result (SeesPart
+        (leg_of walk.now.script) walk.now.counts.ticks walk.now.counts.rows seen.old seen.new) }
 {
     let totals = walk.totals();
     if is_step(ticks, totals.ticks) {

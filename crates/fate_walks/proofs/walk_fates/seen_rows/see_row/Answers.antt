@@ -1,6 +1,6 @@
 -- One row more.
-use Rattle.std.proofs.Common.{◌≡◌, ℕ, ◌+◌, ◌≤◌, ◌∷◌, ◌++◌, [], Option, sym, ◌∙◌, ap, subst, arith, map}
-use Rattle.std.proofs.lemmas.Result.{on_ok_weaker}
+use Rattle.std.proofs.Common.{◌≡◌, ℕ, ◌+◌, ◌≤◌, ◌∷◌, ◌++◌, [], Option, refl, sym, ◌∙◌, ap, subst, arith, map}
+use Rattle.std.proofs.lemmas.Result.{on_ok_weaker, on_err_weaker}
 use Rattle.law_model.specs.Common.{Leg, Counts, leg_of, scenario_of, place_of, segments_of}
 use Rattle.law_model.specs.declared.script_types.Script.{Script}
 use Rattle.law_model.specs.rows.SessionStream.{row_of}
@@ -11,6 +11,7 @@ use Rattle.law_walk.specs.Common.{session_of, session_rows}
 use Rattle.terminal_sink.specs.marked_delineator.Marks.{first_place}
 use Rattle.fate_walks.proofs.FatesAndSeenRowsLaws.{few-rows, causes-size, rows-size, rows-next, row-tells}
 use Rattle.fate_walks.proofs.FatesAndSeenRowsLaws.{whole-cause, none-is, place-low, mark-low-seen as mark-low, one-row}
+use Rattle.fate_walks.proofs.FatesAndSeenRowsLaws.{on-err, part-stays, part-packets, part-ahead}
 use Rattle.fate_walks.proofs.walk_fates.seen_rows.see_row.Goals as goal
 
 -- the mark of the segment that goes on, after some counts
@@ -93,3 +94,34 @@ returns-clause-ok c =
     (λ segments. one-row (leg_of script) c.args.walk.now.counts.ticks row c.args.walk.now.counts.rows
     (record { packets = c.see_known.new.packets; segments = c.row-2.new.self; runs = c.row.new.self }) c.requires.last
     c.in_ok-see_known.ensures.packets c.in_ok-see_known.ensures.known segments runs) stands
+
+pub returns-in_err-see_known-clause-err : goal.returns-in_err-see_known-clause-err
+returns-in_err-see_known-clause-err c =
+    on-err c.from_residual.result
+    (part-stays (leg_of c.args.walk.now.script) c.args.walk.now.counts.ticks c.args.walk.now.counts.rows c.args.seen.now
+    (record c.args.seen.now { packets = c.see_known.new.packets }) refl c.in_err-see_known.ensures.err refl)
+
+pub returns-in_err-row-clause-err : goal.returns-in_err-row-clause-err
+returns-in_err-row-clause-err c =
+    on-err c.from_residual-in_err-row.result
+    (part-packets (leg_of c.args.walk.now.script) c.args.walk.now.counts.ticks c.args.walk.now.counts.rows
+    c.args.seen.now (record c.args.seen.now { packets = c.see_known.new.packets; runs = c.row.new.self }) refl
+    c.in_ok-see_known.ensures.packets c.in_ok-see_known.ensures.known c.in_err-row.ensures.err)
+
+pub returns-clause-err : goal.returns-clause-err
+returns-clause-err c =
+    let script : Script = c.args.walk.now.script in
+    let scenario = scenario_of script in
+    let cells = session_of (leg_of script) in
+    let row = c.args.row in
+    let causes = map (row_cause scenario cells) (range_with_len 0 row) in
+    let is : c.row_cause-cause.result ≡ row_cause scenario cells row =
+    c.row_cause-cause.ensures scenario cells
+    (ap (λ (s : Script). s.config.windows) (sym c.script.ensures.script)) c.requires.seen.packets.are in
+    let runs : AreRuns c.row.new.self (causes ++ row_cause scenario cells row ∷ []) =
+    subst (λ (cause : Option Cause). AreRuns c.row.new.self (causes ++ cause ∷ [])) is
+    (c.in_ok-row.ensures.ok causes c.requires.seen.runs) in
+    on_err_weaker c.row-2.result
+    (λ same. part-ahead (leg_of script) c.args.walk.now.counts.ticks row c.args.walk.now.counts.rows c.args.seen.now
+    (record { packets = c.see_known.new.packets; segments = c.row-2.new.self; runs = c.row.new.self })
+    c.requires.last same c.in_ok-see_known.ensures.packets c.in_ok-see_known.ensures.known runs) c.row-2.ensures.err
