@@ -22,7 +22,7 @@ use Rattle.command_parts.specs.Common.{IsRefusedAs}
 use Rattle.command_parts.specs.Dialogue.{Heard, Reply, Dialogue, heard_more, last_reply, reply_to}
 use Rattle.walk_live.specs.Notes.{live_fault_text, live_why}
 use Rattle.walk_live.specs.LiveReplies.{reply_by, answered_since, live_dialogue, live_last, live_reply}
-use Rattle.walk_live.specs.Talking.{StopsBefore, AnswersMore, CanAnswer, HasAnswered, HasReadLine, HasWalk, IsTalking}
+use Rattle.walk_live.specs.Talking.{StopsBefore, IsSilent, AnswersMore, CanAnswer, HasAnswered, HasReadLine, HasWalk, IsTalking}
 use Rattle.std.proofs.lemmas.Result.{on_err_weaker, on_ok_weaker}
 use Rattle.law_model.specs.Common.{AppendsPart, Leg, longest_input}
 use Rattle.law_model.specs.declared.script_types.Config.{Config}
@@ -112,7 +112,7 @@ refused_before heard why note (stop.Refused fault) is = cc
 refused_before heard why note stop.Write is = is
 refused_before heard why note stop.Memory is = absurd is
 
-short_before : (heard : Heard) (reply : Reply) (own : Stop) → own ≡ stop.Memory → heard.said ≡ [] →
+short_before : (heard : Heard) (reply : Reply) (own : Stop) → own ≡ stop.Memory → IsSilent heard →
     StopsBefore heard reply own
 short_before heard reply own is none = subst (StopsBefore heard reply) (sym is) none
 
@@ -127,7 +127,7 @@ refused_of heard fault own of other =
     refused_before heard (live_why fault) (live_fault_text fault) own (of.refused other)
 
 limits_before : (heard : Heard) (n : ℕ) (wrong : ScriptFault) (own : Stop) → StopsOf (fault_at n (of_limits wrong)) own →
-    heard.said ≡ [] → StopsBefore heard
+    IsSilent heard → StopsBefore heard
     (Err (live_why (fault_at n (of_limits wrong)), live_fault_text (fault_at n (of_limits wrong)))) own
 limits_before heard n (script.Line number fault) own of none =
     refused_of heard (fault_at n (of_limits (script.Line number fault))) own of (λ e. cc)
@@ -141,7 +141,7 @@ limits_before heard n script.Memory own of none =
     short_before heard (Err (live_why no_memory, live_fault_text no_memory)) own (of.short refl) none
 
 wrong_before : (heard : Heard) (n : ℕ) (wrong : LineWrong) (own : Stop) → StopsOf (fault_at n wrong) own →
-    ((limits : ScriptFault) → wrong ≡ of_limits limits → heard.said ≡ []) →
+    ((limits : ScriptFault) → wrong ≡ of_limits limits → IsSilent heard) →
     StopsBefore heard (Err (live_why (fault_at n wrong), live_fault_text (fault_at n wrong))) own
 wrong_before heard n (of_script fault) own of none = refused_of heard (fault_at n (of_script fault)) own of (λ e. cc)
 wrong_before heard n (of_limits fault) own of none = limits_before heard n fault own of (none fault refl)
@@ -150,7 +150,7 @@ wrong_before heard n (of_live fault) own of none = refused_of heard (fault_at n 
 -- at the fault that was found
 pub told_before : (heard : Heard) (reply : Reply) (n : ℕ) (found : Option LineWrong) (text : List ℕ) (fault : LiveFault)
     (own : Stop) → reply ≡ reply_by n found text → IsToldAt n found fault → StopsOf fault own →
-    ((limits : ScriptFault) → found ≡ Some (of_limits limits) → heard.said ≡ []) → StopsBefore heard reply own
+    ((limits : ScriptFault) → found ≡ Some (of_limits limits) → IsSilent heard) → StopsBefore heard reply own
 told_before heard reply n found text fault own is told of none =
     let P : Reply → Type 0 = λ (r : Reply). StopsBefore heard r own in
     subst P (sym (is ∙ ap (λ (f : Option LineWrong). reply_by n f text) told.fails))
@@ -159,7 +159,7 @@ told_before heard reply n found text fault own is told of none =
 
 -- for want of memory
 pub memory_before : (heard : Heard) (reply : Reply) (fault : LiveFault) (own : Stop) → fault ≡ no_memory →
-    StopsOf fault own → heard.said ≡ [] → StopsBefore heard reply own
+    StopsOf fault own → IsSilent heard → StopsBefore heard reply own
 memory_before heard reply fault own is of none = short_before heard reply own (of.short is) none
 
 -- ---- How it stands with a conversation, by what was read and what the walk has answered.
@@ -329,8 +329,10 @@ pub line_stops : (talker : LiveTalker) (heard : Heard) (line : List ℕ) (fault 
     StopsOf fault own → StopsBefore heard (reply_to heard line) own
 line_stops talker heard line fault own is stops of =
     let s : Said = said_in heard.lines in
-    let quiet : s.live ≡ None → heard.said ≡ [] =
-    nothing_answered talker.walk talker.steps s.settings.config (sayings heard.lines) heard.said s.live is.walk in
+    let quiet : s.live ≡ None → IsSilent heard = λ none. (
+      none,
+      nothing_answered talker.walk talker.steps s.settings.config (sayings heard.lines) heard.said s.live is.walk none,
+    ) in
     elim stops [
       | inl short ↦ memory_before heard (reply_to heard line) fault own short.0 of (quiet short.1)
       | inr told ↦ told_before heard (reply_to heard line) (length heard.lines + 1) (line_fault s (words line)) _ fault own
@@ -345,8 +347,10 @@ end_stops talker heard fault own is told of =
     let s : Said = said_in heard.lines in
     told_before heard (last_reply heard) (length heard.lines + 1) (opening_fault s.live s.settings) _ fault own
     (last_is heard talker.steps is.dialogue) told of
-    (λ limits found. nothing_answered talker.walk talker.steps s.settings.config (sayings heard.lines) heard.said s.live
-    is.walk (opening_none s.live s.settings (of_limits limits) found))
+    (λ limits found. let none = opening_none s.live s.settings (of_limits limits) found in (
+      none,
+      nothing_answered talker.walk talker.steps s.settings.config (sayings heard.lines) heard.said s.live is.walk none,
+    ))
 
 -- ---- what may be said to the walk
 pub record Answering (walk : AnsweredWalk) (steps : Bool) (s : Said) (said more : List Saying) : Type 0 where

@@ -63,10 +63,14 @@ pub record HasReadLine (talker : LiveTalker) (heard : Heard) (line : List ℕ) (
       (sayings heard.lines) heard.said (said_in (heard.lines ++ line ∷ [])).live
 
 -- ---- why it stops before it replies
--- for what is wrong; or for want of memory, where nothing was said
+-- no live line was heard, and nothing was said
+abbrev pub IsSilent : Heard → Type 0
+IsSilent heard = ((said_in heard.lines).live ≡ None) × (heard.said ≡ [])
+
+-- for what is wrong; or, before the first live line alone, for want of memory
 abbrev pub StopsBefore : Heard → Reply → Stop → Type 0
 StopsBefore heard reply stop.Read = ⊥
 StopsBefore heard reply stop.TooLong = ⊥
 StopsBefore heard reply (stop.Refused fault) = reply ≡ Err (fault.why, fault.note.items)
 StopsBefore heard reply stop.Write = ⊥
-StopsBefore heard reply stop.Memory = heard.said ≡ []
+StopsBefore heard reply stop.Memory = IsSilent heard
