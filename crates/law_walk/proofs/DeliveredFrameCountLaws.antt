@@ -81,8 +81,8 @@ if-left true octets = let e = length-drop 1 octets in omega arith
 if-left false octets = omega arith
 
 follow_by-few : (header : Option ℕ) (octets : List ℕ) (f : List ℕ → Followed) →
-    ((more : List ℕ) → length (f more).areas + left_of (f more).after ≤ length more) →
-    length (follow_by header octets f).areas + left_of (follow_by header octets f).after ≤ length octets
+    ((more : List ℕ) → 4 * length (f more).areas + left_of (f more).after ≤ length more) →
+    4 * length (follow_by header octets f).areas + left_of (follow_by header octets f).after ≤ length octets
 follow_by-few None octets f each = let left = if-left (nat_le 4 (length octets)) octets in omega arith
 follow_by-few (Some pli) octets f each =
     elim (cases_Bool (nat_le (4 + pli) (length octets))) [
@@ -95,7 +95,7 @@ follow_by-few (Some pli) octets f each =
     ]
 
 follow-few : (steps : ℕ) (octets : List ℕ) →
-    length (follow_within head steps octets).areas + left_of (follow_within head steps octets).after ≤ length octets
+    4 * length (follow_within head steps octets).areas + left_of (follow_within head steps octets).after ≤ length octets
 unfolding follow_within
 follow-few zero octets = omega arith
 follow-few (suc steps) octets =
@@ -106,8 +106,8 @@ abbrev areas_in : List Run → ℕ
 areas_in runs = sum_by (λ (run : Run). length run.areas) runs
 
 run_then-few : (run : Run) (after : Option (List ℕ)) (f : List ℕ → Delineated) →
-    ((more : List ℕ) → areas_in (f more).runs ≤ length more) →
-    areas_in (run_then run after f).runs ≤ length run.areas + left_of after
+    ((more : List ℕ) → 4 * areas_in (f more).runs ≤ length more) →
+    4 * areas_in (run_then run after f).runs ≤ 4 * length run.areas + left_of after
 run_then-few run None f each = let e = sum_by-cons (λ (run : Run). length run.areas) run [] in omega arith
 run_then-few run (Some octets) f each =
     let e = sum_by-cons (λ (run : Run). length run.areas) run (f octets).runs in
@@ -115,8 +115,8 @@ run_then-few run (Some octets) f each =
     omega arith
 
 delineate_by-few : (found : Option Confirmed) (octets : List ℕ) (f : List ℕ → Delineated) → Shorter octets found →
-    ((more : List ℕ) → areas_in (f more).runs ≤ length more) →
-    areas_in (delineate_by (follow_with head) found f).runs ≤ length octets
+    ((more : List ℕ) → 4 * areas_in (f more).runs ≤ length more) →
+    4 * areas_in (delineate_by (follow_with head) found f).runs ≤ length octets
 delineate_by-few None octets f shorter each = omega arith
 delineate_by-few (Some found) octets f shorter each =
     let followed : Followed = follow_with head found.octets in
@@ -125,7 +125,7 @@ delineate_by-few (Some found) octets f shorter each =
     omega arith
 
 delineate-few : (steps : ℕ) (refused : Bool) (octets : List ℕ) →
-    areas_in (delineate_within head head steps refused octets).runs ≤ length octets
+    4 * areas_in (delineate_within head head steps refused octets).runs ≤ length octets
 unfolding delineate_within
 delineate-few zero refused octets = omega arith
 delineate-few (suc steps) refused octets =
@@ -164,7 +164,7 @@ frames-few [] = omega arith
 frames-few (delivery frame ∷ found) = let rest = frames-few found in omega arith
 frames-few (dropping why ∷ found) = let rest = frames-few found in omega arith
 
-segment-few : (longest : ℕ) (segment : Segment) → length (segment_frames longest segment) ≤ length segment.octets
+segment-few : (longest : ℕ) (segment : Segment) → 4 * length (segment_frames longest segment) ≤ length segment.octets
 segment-few longest segment =
     let frames = frames-few (outcomes longest segment.first segment.octets) in
     let runs = runs-few longest (delineate segment.first segment.octets).runs in
@@ -175,7 +175,7 @@ segment-few longest segment =
 abbrev octets_in : List Segment → ℕ
 octets_in all = sum_by (λ (segment : Segment). length segment.octets) all
 
-all-few : (longest : ℕ) (all : List Segment) → length (flat_map (segment_frames longest) all) ≤ octets_in all
+all-few : (longest : ℕ) (all : List Segment) → 4 * length (flat_map (segment_frames longest) all) ≤ octets_in all
 all-few longest [] = omega arith
 all-few longest (segment ∷ all) =
     let own = segment-few longest segment in
@@ -205,7 +205,8 @@ rows-held (row ∷ rows) come =
     let sum = length-append row.octets (octets_of_rows rows) in
     omega arith
 
-pub deliver-few : (longest : ℕ) (rows : List StreamRow) → length (deliver longest rows) ≤ length (octets_of_rows rows)
+pub deliver-few : (longest : ℕ) (rows : List StreamRow) →
+    4 * length (deliver longest rows) ≤ length (octets_of_rows rows)
 deliver-few longest rows =
     let come : Segments = segments_of rows in
     let few = all-few longest (segments rows) in
@@ -265,7 +266,7 @@ place-most leg rows sound low =
     omega (arith, place, most)
 
 pub delivered-few : (leg : Leg) (rows : ℕ) → IsSound leg → rows ≤ leg.config.ticks →
-    length (delivered_of leg rows) ≤ 29952000000000
+    length (delivered_of leg rows) ≤ 7488000000000
 delivered-few leg rows sound low =
     let scenario : Scenario = scenario_by leg in
     let cells : List (Option Told) = session_cells scenario in

@@ -11,7 +11,7 @@ ghost use Rattle.law_walk.specs.Promise.{accepted_frames, session_pieces, place_
 
 /// The frames of the rows that were taken: what a sink makes of them by the cells that were popped is what
 /// the rows of the session give, more rows add frames and change none of those before, and no sound leg
-/// gives more than 29,952,000,000,000 frames, the octets of 128 lines of VC-4 in 100,000,000 ticks.
+/// gives more than 7,488,000,000,000 frames, one for four octets of 128 lines of VC-4 in 100,000,000 ticks.
 pub fn frames_law()
     ensures received { (leg : Leg) (s : Counts) (n : ℕ)
         (receive : Option (List ℕ) → StreamRow) → CanWalk leg → IsWalked leg s → IsReceived receive → n ≤ s.rows →
@@ -19,7 +19,7 @@ pub fn frames_law()
         (row_at leg.config.options leg.config.size (popped_cells leg s.lines) t)) (range_with_len 0 n))
         ≡ delivered_of leg n }
     ensures few { (leg : Leg) (rows : ℕ) → IsSound leg → rows ≤ leg.config.ticks →
-        length (delivered_of leg rows) ≤ 29952000000000 }
+        length (delivered_of leg rows) ≤ 7488000000000 }
     ensures grows { (leg : Leg) (n more : ℕ) → delivered_of leg (n + more)
         ≡ delivered_of leg n
         ++ drop (length (delivered_of leg n)) (delivered_of leg (n + more)) }
