@@ -8,7 +8,7 @@ use crate::landed_frames::CarriedFrame;
 use crate::stretch_counts::{count_ended, delay_of};
 
 /// Delays in ticks, 0 where no frame was got.
-#[derive(Clone, Copy, Debug, PartialEq, Eq)]
+#[derive(Clone, Copy)]
 pub struct Delays {
     /// The least.
     pub least: u32,

@@ -14,7 +14,7 @@ use std::alloc::{AllocError, Global};
 use walk_engine::walk_core::Walk;
 
 /// How many frames, and how many octets they have.
-#[derive(Clone, Copy, Debug, PartialEq, Eq)]
+#[derive(Clone, Copy)]
 pub struct Tally {
     /// The frames.
     pub frames: u32,
@@ -23,7 +23,7 @@ pub struct Tally {
 }
 
 /// A frame that has landed.
-#[derive(Clone, Copy, Debug, PartialEq, Eq)]
+#[derive(Clone, Copy)]
 pub struct OfferedFrame {
     /// The number of ticks after which it landed.
     pub due: u32,
@@ -34,7 +34,7 @@ pub struct OfferedFrame {
 }
 
 /// An accepted frame whose last octet lies in a taken row.
-#[derive(Clone, Copy, Debug, PartialEq, Eq)]
+#[derive(Clone, Copy)]
 pub struct CarriedFrame {
     /// The number of ticks after which it landed.
     pub due: u32,

@@ -10,7 +10,7 @@ use crate::row_states::RowState;
 use std::alloc::{AllocError, Global};
 
 /// Rows that are of no use: as many in turn as there are.
-#[derive(Clone, Copy, Debug, PartialEq, Eq)]
+#[derive(Clone, Copy)]
 pub struct Outage {
     /// The first of them, counted from 0.
     pub first: u32,

@@ -9,7 +9,7 @@ use fate_walks::walk_fates::SeenWalk;
 use std::alloc::{AllocError, Global};
 
 /// What a row is.
-#[derive(Clone, Copy, Debug, PartialEq, Eq)]
+#[derive(Clone, Copy)]
 pub enum RowState {
     /// It is whole, and what it carries can be got.
     Clear,

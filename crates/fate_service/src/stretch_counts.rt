@@ -22,7 +22,7 @@ use fate_walks::walk_fates::SeenWalk;
 use walk_engine::walk_core::Walk;
 
 /// The greatest number of frames that wait, and the first tick with so many.
-#[derive(Clone, Copy, Debug, PartialEq, Eq)]
+#[derive(Clone, Copy)]
 pub struct Peak {
     /// The frames.
     pub queue: u32,
@@ -31,7 +31,7 @@ pub struct Peak {
 }
 
 /// What came from one tick on to below another.
-#[derive(Clone, Copy, Debug, PartialEq, Eq)]
+#[derive(Clone, Copy)]
 pub struct Stretch {
     /// The frames that landed.
     pub came: Came,
@@ -46,7 +46,7 @@ pub struct Stretch {
 }
 
 /// Frames that landed.
-#[derive(Clone, Copy, Debug, PartialEq, Eq)]
+#[derive(Clone, Copy)]
 pub struct Came {
     /// All of them.
     pub offered: Tally,
@@ -55,7 +55,7 @@ pub struct Came {
 }
 
 /// Frames that were carried.
-#[derive(Clone, Copy, Debug, PartialEq, Eq)]
+#[derive(Clone, Copy)]
 pub struct Ended {
     /// Those that were got.
     pub got: Tally,
