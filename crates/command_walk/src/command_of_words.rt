@@ -32,7 +32,7 @@ pub enum WalkCommand {
     /// `h4`: make the walk of a script, and write the H4 octets that its source sends on a line, 0 to 127.
     H4 { line: u8 },
     /// `service`: make the walk of a script, and write what it was worth to its client, by stretches of 1 to
-    /// 1,000,000 ticks.
+    /// 100,000,000 ticks.
     Service { interval: u32 },
     /// `capture`: make the walk of a script, and write a capture of the frames that it delivers.
     Capture,

@@ -24,7 +24,7 @@ abbrev pub interval_of : Option ℕ → Option WalkCommand
 interval_of (Some interval) = Some (Service interval)
 interval_of None = None
 
--- 1 to 1,000,000 ticks
+-- 1 to 100,000,000 ticks
 abbrev pub service_words : List (List ℕ) → Option WalkCommand
 service_words words =
     if length words == 2 && bytes_eq (word_at 0 words) (codes "service")

@@ -39,8 +39,8 @@ pub fn words(words: &[String]) -> Option<WalkCommand>
     }
 }
 
-/// Reads a script, makes its walk and writes what it was worth to its client, by stretches of 1 to 1,000,000
-/// ticks. All memory is taken before the first octet is written.
+/// Reads a script, makes its walk and writes what it was worth to its client, by stretches of 1 to
+/// 100,000,000 ticks. All memory is taken before the first octet is written.
 pub fn service<S: ByteSource, K: ByteSink>(
     alloc: Global,
     interval: u32,
