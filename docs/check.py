@@ -237,7 +237,7 @@ def check_words():
     """The page of view knows the words that may begin a line of a script, as the program does, and no others."""
     program = (TOP / "crates/text_scripts/src/script_read/script_keyword.rt").read_text("utf-8")
     page = (TOP / "view/texts.js").read_text("utf-8")
-    known = set(re.findall(r'word == b"(\w+)"', program))
+    known = set(re.findall(r'spells\(word, b"(\w+)"', program))
     for word in sorted(known ^ set(re.findall(r'"([a-z]+)"', page[page.index("const EVENTS"):page.index("function readScript")]))):
         fault("view/texts.js", f"the word {word} stands there alone, or in the program alone")
 

@@ -55,7 +55,7 @@ def main():
             faults.append(f"words: docs/COMMANDS.md doesn't tell of {form}")
     for language, place in KEYWORDS.items():
         mine = {form.split()[0] for languages, form, _ in rows("forms") if language in languages.split()}
-        compare(f"the lines of {language} in vcat", mine, re.findall(r'word == b"(\w+)"', text(f"crates/{place}")))
+        compare(f"the lines of {language} in vcat", mine, re.findall(r'spells\(word, b"(\w+)"', text(f"crates/{place}")))
     for line in faults:
         print(line, file=sys.stderr)
     return 1 if faults else 0
