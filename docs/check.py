@@ -22,7 +22,7 @@ TOP = lists.TOP
 PAGES = ["README.md", "CHANGELOG.md", "bench/README.md"] + sorted(f"docs/{path.name}" for path in (TOP / "docs").glob("[!.]*.md"))
 
 # The most words of a page, of README and docs together, and of a cell of a table.
-MOST = {"README.md": 1050, "docs/ARCHITECTURE.md": 1800, "docs/PROVED.md": 3400, "docs/DECISIONS.md": 3500, "docs/GLOSSARY.md": 1900, "docs/SCRIPT.md": 6000}
+MOST = {"README.md": 1050, "docs/ARCHITECTURE.md": 1800, "docs/PROVED.md": 3500, "docs/DECISIONS.md": 3500, "docs/GLOSSARY.md": 1900, "docs/SCRIPT.md": 6000}
 MOST_IN_ALL = 37500
 MOST_IN_CELL = 40
 
