@@ -79,11 +79,17 @@ pub(super) fn spread_note(slow: u16, fast: u16, slip: u32, ring: u16, out: &mut 
     let mut help = [0u8; HELP_ROOM];
     let help_end = spread_help(slow, fast, slip, &mut help);
     let mut line = TextCursor::new(out);
-    line.number(b"fault: spread ", slow);
-    line.number(b" ", fast);
-    line.number(b" ", slip);
-    line.number(b" ", ring);
-    add_help(&mut line, &help[..help_end]);
+    line.text(b"fault: spread ");
+    line.decimal(slow);
+    line.text(b" ");
+    line.decimal(fast);
+    line.text(b" ");
+    line.decimal(slip);
+    line.text(b" ");
+    line.decimal(ring);
+    line.text(b"\nhelp: ");
+    line.text(&help[..help_end]);
+    line.text(b"\n");
     line.end()
 }
 

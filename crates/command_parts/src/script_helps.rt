@@ -136,8 +136,10 @@ pub(crate) fn slip_help(slip: u16, out: &mut [u8]) -> usize
     ensures text { take result out.new ≡ slip_help_text slip }
 {
     let mut line = TextCursor::new(out);
-    line.number(b"a slip of ", slip);
-    line.number(b" needs a failure of at least ", u32::from(slip) + 1);
+    line.text(b"a slip of ");
+    line.decimal(slip);
+    line.text(b" needs a failure of at least ");
+    line.decimal(u32::from(slip) + 1);
     line.text(b" frames");
     line.end()
 }

@@ -19,7 +19,7 @@ use crate::pair_script::pair_limits::limits_fault;
 use crate::pair_script::script_pair::{PairFault, ScriptPair};
 use law_model::Script;
 use std::alloc::Global;
-use text_lines::{next_whole_line, one_word, spells};
+use text_lines::{next_whole_line, one_word};
 use text_scripts::script_read::{ScriptFault, ScriptReader};
 
 /// Reads two scripts whose text comes in pieces, each line once it is whole.
@@ -36,7 +36,7 @@ fn is_division(line: &[u8]) -> bool
     ensures { result ≡ is_division (words line.now) }
 {
     match one_word(line) {
-        Some(word) => spells(word, b"other"),
+        Some(word) => word == b"other".as_slice(),
         None => false,
     }
 }
