@@ -13,7 +13,7 @@ pub struct ScriptPair {
 }
 
 /// Why a text doesn't say two scripts that fit together. Its lines are counted from 1, over both scripts.
-#[derive(Clone, Copy, Debug, PartialEq, Eq)]
+#[derive(Clone, Copy, Debug)]
 pub enum PairFault {
     /// One of the scripts has a fault, of a line or as a whole, or memory is short.
     Script(ScriptFault),
