@@ -113,7 +113,7 @@ take_trial() {
 # otherwise, it is none.
 make_checked_trial() {
     rm -f "$1"
-    printf 'lines 1\ndelays 0\nring 64\nlag 4\nticks 1000000\nadd 0 0\n' > "$work/long"
+    printf 'lines 1\ndelays 0\nring 64\nlag 4\nticks 100000000\nadd 0 0\n' > "$work/long"
     mkdir "$work/checked"
     # shellcheck disable=SC2086
     begin env TMPDIR="$work/checked" rt try --seconds "$trial_seconds" -- $first < "$work/long" > /dev/null 2> "$work/log"
