@@ -212,13 +212,13 @@ def check_lengths(page, text):
 
 def check_gate():
     """README, CONTRIBUTING and vcat say of the gate's time what TESTED says in bold letters, and TESTED has what the last run of all edits counted."""
-    tested, whole = (TOP / "docs/TESTED.md").read_text(), TOP / "edits/whole-run.txt"
+    tested, whole = (TOP / "docs/TESTED.md").read_text("utf-8"), TOP / "edits/whole-run.txt"
     for page in ("README.md", "docs/CONTRIBUTING.md", "vcat"):
         for time in re.findall(r"\*\*(\d+ minutes on .*?)\*\*", tested):
-            if time not in (TOP / page).read_text():
+            if time not in (TOP / page).read_text("utf-8"):
                 fault(page, f"it does not say that the gate takes {time}")
     if whole.exists():
-        said = dict(line.split(" ", 1) for line in whole.read_text().splitlines())
+        said = dict(line.split(" ", 1) for line in whole.read_text("utf-8").splitlines())
         if f"{said['edits'].split()[0]} edits" not in tested or said["commit"][:8] not in tested:
             fault("docs/TESTED.md", "it does not have the counts or the commit of edits/whole-run.txt")
 

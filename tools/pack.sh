@@ -88,13 +88,15 @@ dist() {
     make_work
     pack "$work/$whole" || exit 126
     time=$(git -C "$top" log -1 --format=%ct 2> /dev/null)
-    tar --sort=name --owner=0 --group=0 --numeric-owner --mode=go-w --mtime="@${time:-0}" -C "$work" -cf "$work/tar" "$whole" &&
+    tar --sort=name --owner=0 --group=0 --numeric-owner --mode=u=rwX,go=rX --mtime="@${time:-0}" -C "$work" -cf "$work/tar" "$whole" &&
         gzip -n -9 < "$work/tar" > "$whole.tar.gz" || exit 126
     echo "$whole.tar.gz"
 }
 
 # Puts it below the folder $1, as the targets of other programs do.
 install() {
+    if [ -z "$1" ]; then refuse "PREFIX is empty."; fi
+    umask 022
     into=$1/lib/soqaylle
     if [ -d "$top/crates" ]; then programs; fi
     make_work

@@ -30,7 +30,8 @@ def find():
         raise NoBrowser("no Chromium is installed, and there is no apt-get to install one")
     quiet = {"stdout": subprocess.DEVNULL, "stderr": subprocess.DEVNULL, "env": dict(os.environ, DEBIAN_FRONTEND="noninteractive")}
     for package in NAMES[:2]:
-        words = [apt, "install", "-y", "--no-install-recommends", package, "fonts-liberation"]
+        # (at its start a machine may be busy with apt itself)
+        words = [apt, "-o", "DPkg::Lock::Timeout=300", "install", "-y", "--no-install-recommends", package, "fonts-liberation"]
         if subprocess.run(words, **quiet).returncode == 0 or \
                 subprocess.run([apt, "update"], **quiet).returncode == 0 and subprocess.run(words, **quiet).returncode == 0:
             found = next(filter(None, map(shutil.which, NAMES)), None)
