@@ -56,9 +56,9 @@ longest_offer = 65535
 abbrev pub longest_input : ℕ
 longest_input = 67108864
 
--- the items of a script, which has no more of them than octets
+-- the items of a script, the frames of its traffic counted
 abbrev pub most_items : ℕ
-most_items = longest_input
+most_items = 268435456
 
 -- ---- frames and commands
 

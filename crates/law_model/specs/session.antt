@@ -4,3 +4,4 @@ pub mod Scenario
 pub mod Counts
 pub mod Plan
 pub mod ValidScript
+pub mod Items

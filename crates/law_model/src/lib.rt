@@ -10,6 +10,7 @@ mod frame_out;
 mod item_refusals;
 mod lcas_states;
 mod limits;
+mod script_items;
 mod script_types;
 mod session_totals;
 mod walk_events;
@@ -22,12 +23,13 @@ pub use item_refusals::{AcceptFault, CommandFault, Refusal};
 pub use lcas_states::{Command, Member, SinkState, SourceState, Standing};
 pub use limits::{
     LARGEST_RING, LONGEST_DELAY, LONGEST_FRAME, LONGEST_HOLDOFF, LONGEST_LAG, LONGEST_OFFER,
-    LONGEST_RESTORE, LONGEST_SLIP, MOST_COUNT, MOST_DRAWN_TICKS, MOST_LINES, MOST_PACKETS,
-    MOST_TICKS, MOST_WINDOWS,
+    LONGEST_RESTORE, LONGEST_SLIP, MOST_COUNT, MOST_DRAWN_TICKS, MOST_ITEMS, MOST_LINES,
+    MOST_PACKETS, MOST_TICKS, MOST_WINDOWS,
 };
+pub use script_items::{FrameRoom, ItemHead, ItemList, ItemSort, Lent, Refusals};
 pub use script_types::{
-    Config, Delays, EventLine, EventList, Item, ItemKind, ItemList, LostList, Octets, Options,
-    Script, WindowList, WindowLists,
+    Config, Delays, EventLine, EventList, Item, ItemKind, LostList, Octets, Options, Script,
+    WindowList, WindowLists,
 };
 pub use session_totals::Totals;
 pub use walk_events::{Event, StallCause};

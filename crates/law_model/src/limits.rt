@@ -36,6 +36,9 @@ pub const LONGEST_HOLDOFF: u64 = 5_000;
 /// The longest wait to restore, in packets.
 pub const LONGEST_RESTORE: u64 = 62_500;
 
+/// The most items of a script, the frames of its traffic counted.
+pub const MOST_ITEMS: u32 = 268_435_456;
+
 /// The octets of the longest frame that may be offered.
 pub const LONGEST_OFFER: usize = 65_535;
 

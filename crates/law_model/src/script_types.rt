@@ -4,6 +4,7 @@
 ghost use Rattle.std.specs.Prelude.{◌≡◌};
 ghost use Rattle.law_model.specs.session.Options.{default_options};
 
+use crate::script_items::ItemList;
 use crate::window_types::Window;
 use std::marker::Model;
 
@@ -152,7 +153,7 @@ pub struct Config {
     pub ring: u16,
     /// The packets between a return packet and the decision step that takes it, 1 to 512.
     pub lag: u16,
-    /// The ticks of the session, 1 to 1,000,000.
+    /// The ticks of the session, 1 to 100,000,000.
     pub ticks: u32,
     /// The payload octets of a container: 2,340 of a VC-4, 756 of a VC-3.
     pub size: u16,
@@ -178,19 +179,6 @@ pub struct Item {
     pub due: u32,
     /// What lands.
     pub kind: ItemKind,
-}
-
-/// The items of a script.
-#[derive(Drop)]
-pub struct ItemList(pub Vec<Item>);
-
-impl Model for ItemList {
-    ghost use Rattle.std.specs.Prelude.{List};
-    ghost use Rattle.law_model.specs.declared.script_types.Item.{Item};
-
-    ghost Value = { List Item };
-
-    ghost view = { λ items. items.0.items };
 }
 
 /// A script.
